@@ -1,0 +1,196 @@
+-- Where `treat` or `reduce` gives nothing, some pair is related to itself turned round.
+use Rattle.std.proofs.Common.{◌≡◌, ◌≢◌, ◌⊎◌, ◌∙◌, ◌+◌, ◌≤◌, ℕ, Bool, true, false, cond, List, [], ◌∷◌, ◌++◌, reverse, Option, Some, None, IsTrue, IsFalse, refl, sym, subst, inl, inr, arith, option_and_then}
+use Rattle.std.proofs.lemmas.Bool.{both_ways, false_from_ne_true}
+use Rattle.row_model.specs.declared.graph.Pair.{Pair}
+use Rattle.column_order.specs.Orders.{has, occurs}
+use Rattle.row_model.specs.Graph.{pair}
+use Rattle.column_order.proofs.Lists.{has_append_left, has_append_right, occurs-append, occurs_from_has, has_from_occurs, lacks_from_occurs}
+use Rattle.pq_tree.specs.Outline.{Outline, Forest, leaf, p_node, q_node, no_tree, tree_and, leaves, leaves_of}
+use Rattle.pq_tree.specs.Proper.{HasArities, HaveArities}
+use Rattle.tied_law.specs.Tied.{IsForward}
+use Rattle.tied_law.proofs.Bound.{IsClosed, AreClosed, IsBound, AreBound, IsPairEq}
+use Rattle.tied_law.proofs.Frontiers.{has_same}
+use Rattle.pq_plain.specs.Templates.{join, back, IsParted}
+use Rattle.pq_plain.specs.Treat.{Partial, Label, empty_trees, full_trees, partial_trees, partials, at_p, at_q, at_run, Run, run_of, all_filled, one_more, label_of, labels_of, first_some}
+use Rattle.pq_plain.proofs.Lines.{closed_right, parted_occurs, has_join_left, has_join_right}
+use Rattle.pq_plain.proofs.Treat.{IsOutside, Treated, outside_within}
+use Rattle.pq_plain.proofs.Queue.{forward_back}
+use Rattle.pq_plain.proofs.Refused.{two_partial, both_ends}
+use Rattle.pq_plain.proofs.Made.{made_void, made_filled, made_split, AreMade, none_made, more_made, AreHalves, no_half, a_half, rest, first_parted, second_parted, halves_made, some_leaf, treat_all_made, made_back, counts_back}
+
+-- a pair of distinct columns that is related to itself turned
+pub record Crossed (R : Pair → Pair → Type 0) : Type 0 where
+  pub a : ℕ
+  pub b : ℕ
+  pub differ : a ≢ b
+  pub turned : R (pair a b) (pair b a)
+
+pub and_then_none : {X Y : Type 0} (f : X → Option Y) (o : Option X) → option_and_then f o ≡ None → (o ≡ None) ⊎ ((x : X) × (o ≡ Some x) × (f x ≡ None))
+and_then_none f None e = inl refl
+and_then_none f (Some x) e = inr (x, refl, e)
+
+first_none : {X : Type 0} (o k : Option X) → first_some o k ≡ None → (o ≡ None) × (k ≡ None)
+first_none (Some x) k e = cc
+first_none None k e = (refl, e)
+
+pub cond_none : {X : Type 0} (b : Bool) (x : X) → cond b (Some x) None ≡ None → IsFalse b
+cond_none true x e = cc
+cond_none false x e = refl
+
+at_run_some : (r : Run) (hs : List Partial) (es fs : Forest) → at_q hs es fs ≡ None → ⊥
+at_run_some r [] no_tree fs e = cc
+at_run_some r [] (tree_and g es) no_tree e = cc
+at_run_some r [] (tree_and g es) (tree_and h fs) e = cc
+at_run_some r (h ∷ hs) es fs e = cc
+
+-- a pair that goes forward from a column of the row to one outside it
+pub record Falls (row : List ℕ) (ts : Forest) : Type 0 where
+  pub v : Pair
+  pub forward : IsForward ts v
+  pub from_full : IsTrue (has row v.a)
+  pub to_empty : IsFalse (has row v.b)
+
+pub in_left : (row : List ℕ) (u : Outline) (h : Partial) (t : Treated row u h.e h.f) → (a : ℕ) → IsTrue (has (leaves_of h.e) a) → IsTrue (has (leaves u) a)
+in_left row u h t a k = sym (has_same (leaves_of (join h.e h.f)) (leaves u) a (t.same a)) ∙ has_join_left h.e h.f a k
+
+pub in_right : (row : List ℕ) (u : Outline) (h : Partial) (t : Treated row u h.e h.f) → (a : ℕ) → IsTrue (has (leaves_of h.f) a) → IsTrue (has (leaves u) a)
+in_right row u h t a k = sym (has_same (leaves_of (join h.e h.f)) (leaves u) a (t.same a)) ∙ has_join_right h.e h.f a k
+
+-- a later tree that isn't full has an empty column
+not_filled : (row : List ℕ) (ts : Forest) (ps : List Label) → AreMade row ts ps → HaveArities ts → IsFalse (all_filled ps) → (d : ℕ) × IsTrue (has (leaves_of ts) d) × IsFalse (has row d)
+not_filled row ts ps none_made c e = absurd (both_ways true e refl)
+not_filled row ts ps (more_made {t = t} {ts = us} (made_void k) m) c e =
+    let w : (a : ℕ) × IsTrue (has (leaves t) a) = some_leaf t c.0 in (w.0, has_append_left (leaves t) (leaves_of us) w.0 w.1, k w.0 w.1)
+not_filled row ts ps (more_made {t = t} {ts = us} {ps = qs} (made_filled k) m) c e =
+    let w : (d : ℕ) × IsTrue (has (leaves_of us) d) × IsFalse (has row d) = not_filled row us qs m c.1 e in (w.0, has_append_right (leaves t) (leaves_of us) w.0 w.1, w.2)
+not_filled row ts ps (more_made {t = t} {ts = us} (made_split h k) m) c e =
+    (k.some_empty.0, has_append_left (leaves t) (leaves_of us) k.some_empty.0 (in_left row t h k k.some_empty.0 k.some_empty.1), k.empty k.some_empty.0 k.some_empty.1)
+
+run_falls : (row : List ℕ) (ts : Forest) (ps : List Label) → AreMade row ts ps → HaveArities ts → run_of ts ps ≡ None → Falls row ts
+run_falls row ts ps none_made c e = cc
+run_falls row ts ps (more_made {t = t} {ts = us} {ps = qs} (made_void k) m) c e =
+    elim (and_then_none (λ r. Some (one_more t r)) (run_of us qs) e) [
+      | inl n ↦ let w : Falls row us = run_falls row us qs m c.1 n in record { v = w.v; forward = inr w.forward; from_full = w.from_full; to_empty = w.to_empty }
+      | inr n ↦ none_some (one_more t n.0) n.2
+    ]
+  where
+    none_some : (r : Run) → Some r ≡ None → Falls row (tree_and t us)
+    none_some r e = cc
+run_falls row ts ps (more_made {t = t} {ts = us} {ps = qs} (made_filled k) m) c e =
+    let w : (d : ℕ) × IsTrue (has (leaves_of us) d) × IsFalse (has row d) = not_filled row us qs m c.1 (cond_none (all_filled qs) (record { before = no_tree; middle = []; behind = tree_and t us }) e) in
+    let l : (a : ℕ) × IsTrue (has (leaves t) a) = some_leaf t c.0 in
+    record { v = pair l.0 w.0; forward = inl (l.1, w.1); from_full = k l.0 l.1; to_empty = w.2 }
+run_falls row ts ps (more_made {t = t} {ts = us} {ps = qs} (made_split h k) m) c e =
+    let w : (d : ℕ) × IsTrue (has (leaves_of us) d) × IsFalse (has row d) = not_filled row us qs m c.1 (cond_none (all_filled qs) (record { before = no_tree; middle = h ∷ []; behind = us }) e) in
+    record { v = pair k.some_full.0 w.0; forward = inl (in_right row t h k k.some_full.0 k.some_full.1, w.1); from_full = k.full k.some_full.0 k.some_full.1; to_empty = w.2 }
+
+pub forward_first : (ts : Forest) (v : Pair) → IsForward ts v → IsTrue (has (leaves_of ts) v.a)
+forward_first no_tree v h = absurd h
+forward_first (tree_and t ts) v h =
+    elim h [ inl k ↦ has_append_left (leaves t) (leaves_of ts) v.a k.0 | inr k ↦ has_append_right (leaves t) (leaves_of ts) v.a (forward_first ts v k) ]
+
+pub forward_second : (ts : Forest) (v : Pair) → IsForward ts v → IsTrue (has (leaves_of ts) v.b)
+forward_second no_tree v h = absurd h
+forward_second (tree_and t ts) v h =
+    elim h [ inl k ↦ has_append_right (leaves t) (leaves_of ts) v.b k.1 | inr k ↦ has_append_right (leaves t) (leaves_of ts) v.b (forward_second ts v k) ]
+
+module _ (R : Pair → Pair → Type 0) (eq : IsPairEq R) (row : List ℕ) where
+  -- each tree has a column of the row outside it
+  abbrev pub AllOutside : Forest → Type 0
+  AllOutside no_tree = Unit {0}
+  AllOutside (tree_and t ts) = ((s : ℕ) × IsTrue (has row s) × IsFalse (has (leaves t) s) × IsOutside R row (leaves t) s) × IsClosed R (leaves t) row × AllOutside ts
+
+  -- two partial trees below the root
+  two_halves : (ts us : Forest) (hs : List Partial) (es fs : Forest) (s : ℕ) → AreHalves row us hs → AreClosed R (leaves_of ts) us → ((a : ℕ) → IsTrue (has (leaves_of us) a) → IsTrue (has (leaves_of ts) a)) →
+      ((a : ℕ) → occurs (leaves_of us) a ≤ 1) → IsClosed R (leaves_of ts) row → IsOutside R row (leaves_of ts) s → at_p hs es fs ≡ None → Crossed R
+  two_halves ts us hs no_tree fs s no_half c sub once cr o e = cc
+  two_halves ts us hs (tree_and g es) no_tree s no_half c sub once cr o e = cc
+  two_halves ts us hs (tree_and g es) (tree_and k fs) s no_half c sub once cr o e = cc
+  two_halves ts us hs es fs s (a_half part no_half) c sub once cr o e = cc
+  two_halves ts us hs es fs s (a_half {t = u} {h = h} part (a_half {t = w} {ts = vs} {h = k} part2 m)) c sub once cr o e =
+      let e1 : IsTrue (has (leaves u) part.some_empty.0) = in_left row u h part part.some_empty.0 part.some_empty.1 in
+      let f1 : IsTrue (has (leaves u) part.some_full.0) = in_right row u h part part.some_full.0 part.some_full.1 in
+      let e2 : IsTrue (has (leaves w) part2.some_empty.0) = in_left row w k part2 part2.some_empty.0 part2.some_empty.1 in
+      let f2 : IsTrue (has (leaves w) part2.some_full.0) = in_right row w k part2 part2.some_full.0 part2.some_full.1 in
+      let iu : (a : ℕ) → IsTrue (has (leaves u) a) → IsTrue (has (leaves_of ts) a) = λ a l. sub a (has_append_left (leaves u) (leaves w ++ leaves_of vs) a l) in
+      let iw : (a : ℕ) → IsTrue (has (leaves w) a) → IsTrue (has (leaves_of ts) a) =
+      λ a l. sub a (has_append_right (leaves u) (leaves w ++ leaves_of vs) a (has_append_left (leaves w) (leaves_of vs) a l)) in
+      let sum : (a : ℕ) → occurs (leaves u) a + occurs (leaves w) a ≤ 1 =
+      λ a. let o : occurs (leaves u ++ (leaves w ++ leaves_of vs)) a ≤ 1 = once a in
+      omega (arith, occurs-append (leaves u) (leaves w ++ leaves_of vs) a, occurs-append (leaves w) (leaves_of vs) a) in
+      let u2 : IsFalse (has (leaves u) part2.some_full.0) = lacks_from_occurs (leaves u) part2.some_full.0 (omega (arith, sum part2.some_full.0, occurs_from_has (leaves w) part2.some_full.0 f2)) in
+      let w1 : IsFalse (has (leaves w) part.some_full.0) = lacks_from_occurs (leaves w) part.some_full.0 (omega (arith, sum part.some_full.0, occurs_from_has (leaves u) part.some_full.0 f1)) in
+      record {
+        a = part2.some_full.0;
+        b = part.some_full.0;
+        differ = λ x. both_ways (has (leaves u) part.some_full.0) (subst (λ y. IsFalse (has (leaves u) y)) x u2) f1;
+        turned =
+            two_partial R eq row (leaves_of ts) (leaves u) (leaves w) s o cr c.0 c.1.0 part.some_empty.0 part.some_full.0 part2.some_empty.0 part2.some_full.0 e1 f1 e2 f2
+            (part.empty part.some_empty.0 part.some_empty.1) (part.full part.some_full.0 part.some_full.1) (part2.empty part2.some_empty.0 part2.some_empty.1) (part2.full part2.some_full.0 part2.some_full.1)
+            (iu part.some_empty.0 e1) (iu part.some_full.0 f1) (iw part2.some_empty.0 e2) (iw part2.some_full.0 f2) u2 w1;
+      }
+
+  all_outside : (l : List ℕ) (s : ℕ) → IsTrue (has row s) → IsFalse (has l s) → IsOutside R row l s → IsClosed R l row → (ts : Forest) → ((a : ℕ) → IsTrue (has (leaves_of ts) a) → IsTrue (has l a)) → AllOutside ts
+  all_outside l s rs ls o cr no_tree sub = tt
+  all_outside l s rs ls o cr (tree_and t ts) sub =
+      let it : (a : ℕ) → IsTrue (has (leaves t) a) → IsTrue (has l a) = λ a k. sub a (has_append_left (leaves t) (leaves_of ts) a k) in (
+        (s, rs, false_from_ne_true (has (leaves t) s) (λ k. both_ways (has l s) ls (it s k)), outside_within R row l (leaves t) s it o),
+        (λ a b d i j k n. cr a b d i j (it d k) n),
+        all_outside l s rs ls o cr ts (λ a k. sub a (has_append_right (leaves t) (leaves_of ts) a k)),
+      )
+
+  no_run : (o : Option Run) → option_and_then at_run o ≡ None → o ≡ None
+  no_run None e = refl
+  no_run (Some r) e = absurd (at_run_some r r.middle r.before r.behind e)
+
+  some_none : (ps : List Label) → Some ps ≡ None → Crossed R
+  some_none ps e = cc
+
+  mutual
+    -- Below the root: no template fits at some node.
+    pub treat_failed : (t : Outline) (s : ℕ) → IsTrue (has row s) → IsFalse (has (leaves t) s) → IsOutside R row (leaves t) s → IsClosed R (leaves t) row → IsBound R t → HasArities t →
+        ((a : ℕ) → occurs (leaves t) a ≤ 1) → label_of row t ≡ None → Crossed R
+    treat_failed (leaf a) s rs ls o cr b n once e = cc
+    treat_failed (p_node ts) s rs ls o cr b n once e =
+        elim (and_then_none (λ ps. at_p (partials ps) (empty_trees ts ps) (full_trees ts ps)) (labels_of row ts) e) [
+          | inl k ↦ treat_all_failed ts (all_outside (leaves_of ts) s rs ls o cr ts (λ a h. h)) b.1 n.1 once k
+          | inr k ↦
+              let m : AreMade row ts k.0 = treat_all_made row ts k.0 n.1 once k.1 in
+              let g : IsParted ts (empty_trees ts k.0) (rest ts k.0) = first_parted row ts k.0 m in
+              let h : IsParted (rest ts k.0) (full_trees ts k.0) (partial_trees ts k.0) = second_parted row ts k.0 m in
+              two_halves ts (partial_trees ts k.0) (partials k.0) (empty_trees ts k.0) (full_trees ts k.0) s (halves_made row ts k.0 m)
+              (closed_right R (leaves_of ts) h (closed_right R (leaves_of ts) g b.0))
+              (λ a l. has_from_occurs (leaves_of ts) a (omega (arith, parted_occurs g a, parted_occurs h a, occurs_from_has (leaves_of (partial_trees ts k.0)) a l)))
+              (λ a. omega (arith, once a, parted_occurs g a, parted_occurs h a)) cr o k.2
+        ]
+    treat_failed (q_node ts) s rs ls o cr b n once e =
+        elim (and_then_none (λ ps. first_some (option_and_then at_run (run_of ts ps)) (option_and_then at_run (run_of (back ts) (reverse ps)))) (labels_of row ts) e) [
+          | inl k ↦ treat_all_failed ts (all_outside (leaves_of ts) s rs ls o cr ts (λ a h. h)) b.1 n.1 once k
+          | inr k ↦
+              let m : AreMade row ts k.0 = treat_all_made row ts k.0 n.1 once k.1 in
+              let both : (option_and_then at_run (run_of ts k.0) ≡ None) × (option_and_then at_run (run_of (back ts) (reverse k.0)) ≡ None) =
+              first_none (option_and_then at_run (run_of ts k.0)) (option_and_then at_run (run_of (back ts) (reverse k.0))) k.2 in
+              let x : Falls row ts = run_falls row ts k.0 m n.1 (no_run (run_of ts k.0) both.0) in
+              let y : Falls row (back ts) = run_falls row (back ts) (reverse k.0) (made_back row ts k.0 m) (counts_back ts n.1) (no_run (run_of (back ts) (reverse k.0)) both.1) in
+              let yf : IsForward ts (pair y.v.b y.v.a) = forward_back ts y.v y.forward in
+              record {
+                a = y.v.b;
+                b = s;
+                differ = λ z. both_ways (has row s) (subst (λ j. IsFalse (has row j)) z y.to_empty) rs;
+                turned =
+                    both_ends R eq row ts s b.0 o y.v.b y.v.a x.v.a x.v.b yf x.forward y.to_empty y.from_full x.from_full x.to_empty
+                    (forward_first ts (pair y.v.b y.v.a) yf) (forward_second ts (pair y.v.b y.v.a) yf) (forward_first ts x.v x.forward) (forward_second ts x.v x.forward);
+              }
+        ]
+
+    pub treat_all_failed : (ts : Forest) → AllOutside ts → AreBound R ts → HaveArities ts → ((a : ℕ) → occurs (leaves_of ts) a ≤ 1) → labels_of row ts ≡ None → Crossed R
+    treat_all_failed no_tree o b n once e = cc
+    treat_all_failed (tree_and t ts) o b n once e =
+        let sum : (a : ℕ) → occurs (leaves t ++ leaves_of ts) a ≤ 1 = once in
+        elim (and_then_none (λ x. option_and_then (λ ps. Some (x ∷ ps)) (labels_of row ts)) (label_of row t) e) [
+          | inl k ↦ treat_failed t o.0.0 o.0.1 o.0.2 o.0.3 o.1 b.0 n.0 (λ a. omega (arith, sum a, occurs-append (leaves t) (leaves_of ts) a)) k
+          | inr k ↦ elim (and_then_none (λ ps. Some (k.0 ∷ ps)) (labels_of row ts) k.2) [
+            | inl j ↦ treat_all_failed ts o.2 b.1 n.1 (λ a. omega (arith, sum a, occurs-append (leaves t) (leaves_of ts) a)) j
+            | inr j ↦ some_none (k.0 ∷ j.0) j.2
+          ]
+        ]

@@ -1,0 +1,335 @@
+-- Where `reduce` gives nothing, some pair is related to itself turned round, so no order is left.
+use Rattle.std.proofs.Common.{◌≡◌, ◌⊎◌, ◌∙◌, ◌+◌, ◌≤◌, ℕ, Bool, true, false, not, cond, List, [], ◌∷◌, ◌++◌, Option, Some, None, IsTrue, IsFalse, refl, sym, ap, subst, inl, inr, arith, option_and_then}
+use Rattle.std.proofs.lemmas.Bool.{both_ways, cases_Bool, and_cases}
+use Rattle.std.specs.List.{list_all}
+use Rattle.row_model.specs.declared.graph.Pair.{Pair}
+use Rattle.column_order.specs.Orders.{has, occurs, place, IsOrder, IsValidOrder}
+use Rattle.row_model.specs.Graph.{pair, Joined}
+use Rattle.column_order.proofs.Lists.{has_head, has_tail, has_append_cases, has_append_left, has_append_right, occurs-append, occurs_from_has, has_from_occurs, lacks_from_occurs, place-inj}
+use Rattle.pq_tree.specs.Outline.{Outline, Forest, leaf, p_node, q_node, no_tree, tree_and, leaves, leaves_of}
+use Rattle.pq_tree.specs.Proper.{HasArities, HaveArities}
+use Rattle.tied_law.specs.Tied.{IsForward, Evenly, IsTied}
+use Rattle.tied_law.proofs.Bound.{IsClosed, AreClosed, IsBound, AreBound, IsPairEq, line_closed, bound_mono}
+use Rattle.tied_law.proofs.Bridge.{evenly_eq, last_row_closed, joined_more}
+use Rattle.tied_law.proofs.Exact.{order_once, tied_bound}
+use Rattle.row_model.proofs.Walks.{evenly-mono, evenly_one_side}
+use Rattle.row_model.proofs.Sides.{side, other_side}
+use Rattle.pq_plain.specs.Templates.{join, IsParted, none_parted, to_left, to_right}
+use Rattle.pq_plain.specs.Treat.{Partial, Label, empty_trees, full_trees, partial_trees, partials, labels_of}
+use Rattle.pq_plain.specs.Reduce.{holds, root_p, Tail, Span, all_void, full_more, before_more, begins, tail_of, span_of, root_q, at_span, inner_or, put, behind_of, reduce, inner}
+use Rattle.pq_plain.proofs.Lines.{closed_right, parted_occurs, has_parted_cases, has_join_cases}
+use Rattle.pq_plain.proofs.Treat.{AreEmpty, AreFull}
+use Rattle.pq_plain.proofs.Refused.{three_partial, hole}
+use Rattle.pq_plain.proofs.Made.{made_void, made_filled, made_split, AreMade, none_made, more_made, AreHalves, no_half, a_half, rest, first_parted, second_parted, voids_empty, fills_full, halves_made, some_leaf, treat_all_made, no_row}
+use Rattle.pq_plain.proofs.Reduced.{IsSpan, span_made, span_before, span_plain, span_half, tail_plain, tail_half, tail_behind, PlainLeft, LeftHalf, RightHalf, all_held}
+use Rattle.pq_plain.proofs.Failed.{Crossed, and_then_none, cond_none, AllOutside, treat_all_failed, in_left, in_right, forward_first}
+
+-- a column of the row outside the list
+abbrev pub Misses : List ℕ → List ℕ → Type 0
+Misses row l = (s : ℕ) × IsTrue (has row s) × IsFalse (has l s)
+
+abbrev pub AllMiss : List ℕ → Forest → Type 0
+AllMiss row no_tree = Unit {0}
+AllMiss row (tree_and t ts) = Misses row (leaves t) × AllMiss row ts
+
+not_all : (l xs : List ℕ) → IsFalse (list_all (λ a. has l a) xs) → Misses xs l
+not_all l [] e = absurd (both_ways true e refl)
+not_all l (x ∷ xs) e =
+    elim (and_cases (has l x) (list_all (λ a. has l a) xs) e) [
+      | inl k ↦ (x, has_head x xs, k)
+      | inr k ↦ let w : Misses xs l = not_all l xs k in (w.0, has_tail x w.0 xs w.1, w.2)
+    ]
+
+behind_none : (t : Outline) (o : Option (Option Forest)) → behind_of t o ≡ None → o ≡ None
+behind_none t None e = refl
+behind_none t (Some None) e = cc
+behind_none t (Some (Some us)) e = cc
+
+inner_none : (row : List ℕ) (ts : Forest) → inner row ts ≡ None → AllMiss row ts
+inner_none row no_tree e = tt
+inner_none row (tree_and t ts) e =
+    elim (cases_Bool (holds row t)) [
+      | inl k ↦ some_none (put ts (reduce row t)) (ap (λ b. cond b (Some (put ts (reduce row t))) (behind_of t (inner row ts))) (sym k) ∙ e)
+      | inr k ↦ (not_all (leaves t) row k, inner_none row ts (behind_none t (inner row ts) (ap (λ b. cond b (Some (put ts (reduce row t))) (behind_of t (inner row ts))) (sym k) ∙ e)))
+    ]
+  where
+    some_none : (o : Option Forest) → Some o ≡ None → AllMiss row (tree_and t ts)
+    some_none o x = cc
+
+miss_right : {ts us vs : Forest} (row : List ℕ) → IsParted ts us vs → AllMiss row ts → AllMiss row vs
+miss_right row none_parted h = tt
+miss_right row (to_left r) h = miss_right row r h.1
+miss_right row (to_right r) h = (h.0, miss_right row r h.1)
+
+miss_at : (row : List ℕ) (xs ys : Forest) (t : Outline) → AllMiss row (join xs (tree_and t ys)) → Misses row (leaves t)
+miss_at row no_tree ys t h = h.0
+miss_at row (tree_and x xs) ys t h = miss_at row xs ys t h.1
+
+not_void : (row : List ℕ) (ts : Forest) (ps : List Label) → AreMade row ts ps → HaveArities ts → IsFalse (all_void ps) → (g : ℕ) × IsTrue (has (leaves_of ts) g) × IsTrue (has row g)
+not_void row ts ps none_made c e = absurd (both_ways true e refl)
+not_void row ts ps (more_made {t = t} {ts = us} {ps = qs} (made_void k) m) c e =
+    let w : (g : ℕ) × IsTrue (has (leaves_of us) g) × IsTrue (has row g) = not_void row us qs m c.1 e in (w.0, has_append_right (leaves t) (leaves_of us) w.0 w.1, w.2)
+not_void row ts ps (more_made {t = t} {ts = us} (made_filled k) m) c e =
+    let w : (a : ℕ) × IsTrue (has (leaves t) a) = some_leaf t c.0 in (w.0, has_append_left (leaves t) (leaves_of us) w.0 w.1, k w.0 w.1)
+not_void row ts ps (more_made {t = t} {ts = us} (made_split h k) m) c e =
+    (k.some_full.0, has_append_left (leaves t) (leaves_of us) k.some_full.0 (in_right row t h k k.some_full.0 k.some_full.1), k.full k.some_full.0 k.some_full.1)
+
+-- a pair that goes forward from a column outside the row to one of it
+pub record Climbs (row : List ℕ) (ts : Forest) : Type 0 where
+  pub v : Pair
+  pub forward : IsForward ts v
+  pub from_empty : IsFalse (has row v.a)
+  pub to_full : IsTrue (has row v.b)
+
+tail_climbs : (row : List ℕ) (ts : Forest) (ps : List Label) → AreMade row ts ps → HaveArities ts → tail_of ts ps ≡ None → Climbs row ts
+tail_climbs row ts ps none_made c e = cc
+tail_climbs row ts ps (more_made {t = t} {ts = us} {ps = qs} (made_void k) m) c e =
+    let w : (g : ℕ) × IsTrue (has (leaves_of us) g) × IsTrue (has row g) = not_void row us qs m c.1 (cond_none (all_void qs) (record { middle = no_tree; right = []; behind = tree_and t us }) e) in
+    let l : (a : ℕ) × IsTrue (has (leaves t) a) = some_leaf t c.0 in
+    record { v = pair l.0 w.0; forward = inl (l.1, w.1); from_empty = k l.0 l.1; to_full = w.2 }
+tail_climbs row ts ps (more_made {t = t} {ts = us} {ps = qs} (made_filled k) m) c e =
+    elim (and_then_none (λ r. Some (full_more t r)) (tail_of us qs) e) [
+      | inl n ↦ let w : Climbs row us = tail_climbs row us qs m c.1 n in record { v = w.v; forward = inr w.forward; from_empty = w.from_empty; to_full = w.to_full }
+      | inr n ↦ some_none (full_more t n.0) n.2
+    ]
+  where
+    some_none : (r : Tail) → Some r ≡ None → Climbs row (tree_and t us)
+    some_none r x = cc
+tail_climbs row ts ps (more_made {t = t} {ts = us} {ps = qs} (made_split h k) m) c e =
+    let w : (g : ℕ) × IsTrue (has (leaves_of us) g) × IsTrue (has row g) = not_void row us qs m c.1 (cond_none (all_void qs) (record { middle = no_tree; right = h ∷ []; behind = us }) e) in
+    record { v = pair k.some_empty.0 w.0; forward = inl (in_left row t h k k.some_empty.0 k.some_empty.1, w.1); from_empty = k.empty k.some_empty.0 k.some_empty.1; to_full = w.2 }
+
+-- a full column, then an empty one, then a full one
+pub record HasHole (row : List ℕ) (ts : Forest) : Type 0 where
+  pub f : ℕ
+  pub up : Climbs row ts
+  pub before : IsForward ts (pair f up.v.a)
+  pub full : IsTrue (has row f)
+
+span_hole : (row : List ℕ) (ts : Forest) (ps : List Label) → AreMade row ts ps → HaveArities ts → span_of ts ps ≡ None → HasHole row ts
+span_hole row ts ps none_made c e = cc
+span_hole row ts ps (more_made {t = t} {ts = us} {ps = qs} (made_void k) m) c e =
+    elim (and_then_none (λ r. Some (before_more t r)) (span_of us qs) e) [
+      | inl n ↦
+          let w : HasHole row us = span_hole row us qs m c.1 n in
+          record { f = w.f; up = record { v = w.up.v; forward = inr w.up.forward; from_empty = w.up.from_empty; to_full = w.up.to_full }; before = inr w.before; full = w.full }
+      | inr n ↦ some_none (before_more t n.0) n.2
+    ]
+  where
+    some_none : (r : Span) → Some r ≡ None → HasHole row (tree_and t us)
+    some_none r x = cc
+span_hole row ts ps (more_made {t = t} {ts = us} {ps = qs} (made_filled k) m) c e =
+    elim (and_then_none (λ r. Some (begins [] (full_more t r))) (tail_of us qs) e) [
+      | inl n ↦
+          let w : Climbs row us = tail_climbs row us qs m c.1 n in
+          let l : (a : ℕ) × IsTrue (has (leaves t) a) = some_leaf t c.0 in
+          record { f = l.0; up = record { v = w.v; forward = inr w.forward; from_empty = w.from_empty; to_full = w.to_full }; before = inl (l.1, forward_first us w.v w.forward); full = k l.0 l.1 }
+      | inr n ↦ some_none (begins [] (full_more t n.0)) n.2
+    ]
+  where
+    some_none : (r : Span) → Some r ≡ None → HasHole row (tree_and t us)
+    some_none r x = cc
+span_hole row ts ps (more_made {t = t} {ts = us} {ps = qs} (made_split h k) m) c e =
+    elim (and_then_none (λ r. Some (begins (h ∷ []) r)) (tail_of us qs) e) [
+      | inl n ↦
+          let w : Climbs row us = tail_climbs row us qs m c.1 n in
+          record {
+            f = k.some_full.0;
+            up = record { v = w.v; forward = inr w.forward; from_empty = w.from_empty; to_full = w.to_full };
+            before = inl (in_right row t h k k.some_full.0 k.some_full.1, forward_first us w.v w.forward);
+            full = k.full k.some_full.0 k.some_full.1;
+          }
+      | inr n ↦ some_none (begins (h ∷ []) n.0) n.2
+    ]
+  where
+    some_none : (r : Span) → Some r ≡ None → HasHole row (tree_and t us)
+    some_none r x = cc
+
+inner_or_none : (o : Option (Option Forest)) (f : Forest → Outline) (k : Option Outline) → inner_or o f k ≡ None → (o ≡ Some None) ⊎ ((o ≡ None) × (k ≡ None))
+inner_or_none None f k e = inr (refl, e)
+inner_or_none (Some None) f k e = inl refl
+inner_or_none (Some (Some us)) f k e = cc
+
+some_none_plan : (R : Pair → Pair → Type 0) (x : Outline) → Some x ≡ None → Crossed R
+some_none_plan R x e = cc
+
+put_none : (ts : Forest) (o : Option Outline) → Some (put ts o) ≡ Some None → o ≡ None
+put_none ts None e = refl
+put_none ts (Some u) e = cc
+
+behind_failed : (t : Outline) (o : Option (Option Forest)) → behind_of t o ≡ Some None → o ≡ Some None
+behind_failed t None e = cc
+behind_failed t (Some None) e = refl
+behind_failed t (Some (Some us)) e = cc
+
+module _ (R : Pair → Pair → Type 0) (eq : IsPairEq R) (row : List ℕ) where
+  outsides : (l : List ℕ) (ts : Forest) → AreClosed R l ts → IsClosed R l row → ((a : ℕ) → IsTrue (has (leaves_of ts) a) → IsTrue (has l a)) → ((a : ℕ) → IsTrue (has row a) → IsTrue (has l a)) →
+      AllMiss row ts → AllOutside R eq row ts
+  outsides l no_tree c cr sub within m = tt
+  outsides l (tree_and t ts) c cr sub within m =
+      let it : (a : ℕ) → IsTrue (has (leaves t) a) → IsTrue (has l a) = λ a k. sub a (has_append_left (leaves t) (leaves_of ts) a k) in (
+        (
+          m.0.0,
+          m.0.1,
+          m.0.2,
+          record {
+            closed = λ a b ta tb. c.0 a b m.0.0 ta tb (within m.0.0 m.0.1) m.0.2;
+            rowed = λ e f te re tf rf. cr f m.0.0 e rf m.0.1 (it e te) re;
+          },
+        ),
+        (λ a b d i j k n. cr a b d i j (it d k) n),
+        outsides l ts c.1 cr (λ a k. sub a (has_append_right (leaves t) (leaves_of ts) a k)) within m.1,
+      )
+
+  root_p_failed : (ts es rs fs us : Forest) (hs : List Partial) → IsParted ts es rs → IsParted rs fs us → AreEmpty row es → AreFull row fs → AreHalves row us hs → AreClosed R (leaves_of ts) us → AllMiss row us →
+      IsClosed R (leaves_of ts) row → ((a : ℕ) → occurs (leaves_of ts) a ≤ 1) → ((a : ℕ) → IsTrue (has row a) → IsTrue (has (leaves_of ts) a)) → (c : ℕ) → IsTrue (has row c) → root_p hs es fs ts ≡ None → Crossed R
+  root_p_failed ts no_tree rs fs us hs f s ee ff no_half cs ms cr once within c hc e = cc
+  root_p_failed ts (tree_and t es) rs no_tree us hs f s ee ff no_half cs ms cr once within c hc e =
+      absurd (both_ways (has row c) (no_row row ts (tree_and t es) rs f s ee c (within c hc)) hc)
+  root_p_failed ts (tree_and t es) rs (tree_and g fs) us hs f s ee ff no_half cs ms cr once within c hc e = cc
+  root_p_failed ts es rs no_tree us hs f s ee ff (a_half {t = u} part no_half) cs ms cr once within c hc e =
+      absurd
+      (elim (has_parted_cases f ms.0.0 (within ms.0.0 ms.0.1)) [
+        | inl k ↦ both_ways (has row ms.0.0) (ee ms.0.0 k) ms.0.1
+        | inr k ↦ elim (has_parted_cases s ms.0.0 k) [
+          | inl j ↦ both_ways false refl j
+          | inr j ↦ elim (has_append_cases (leaves u) [] ms.0.0 j) [ inl i ↦ both_ways (has (leaves u) ms.0.0) ms.0.2 i | inr i ↦ both_ways false refl i ]
+        ]
+      ])
+  root_p_failed ts es rs (tree_and g fs) us hs f s ee ff (a_half part no_half) cs ms cr once within c hc e = cc
+  root_p_failed ts es rs fs us hs f s ee ff (a_half part (a_half part2 no_half)) cs ms cr once within c hc e = cc
+  root_p_failed ts es rs fs us hs f s ee ff (a_half {t = u} {h = h} part (a_half {t = w} {h = k} part2 (a_half {t = z} {ts = vs} {h = j} part3 m))) cs ms cr once within c hc e =
+      let e1 : IsTrue (has (leaves u) part.some_empty.0) = in_left row u h part part.some_empty.0 part.some_empty.1 in
+      let f1 : IsTrue (has (leaves u) part.some_full.0) = in_right row u h part part.some_full.0 part.some_full.1 in
+      let e2 : IsTrue (has (leaves w) part2.some_empty.0) = in_left row w k part2 part2.some_empty.0 part2.some_empty.1 in
+      let f2 : IsTrue (has (leaves w) part2.some_full.0) = in_right row w k part2 part2.some_full.0 part2.some_full.1 in
+      let e3 : IsTrue (has (leaves z) part3.some_empty.0) = in_left row z j part3 part3.some_empty.0 part3.some_empty.1 in
+      let f3 : IsTrue (has (leaves z) part3.some_full.0) = in_right row z j part3 part3.some_full.0 part3.some_full.1 in
+      let sum : (a : ℕ) → occurs (leaves u) a + (occurs (leaves w) a + occurs (leaves z) a) ≤ 1 =
+      λ a. omega (arith, once a, parted_occurs f a, parted_occurs s a, occurs-append (leaves u) (leaves w ++ (leaves z ++ leaves_of vs)) a, occurs-append (leaves w) (leaves z ++ leaves_of vs) a, occurs-append (leaves z) (leaves_of vs) a) in
+      let in_ts : (a : ℕ) → 1 ≤ occurs (leaves u) a + (occurs (leaves w) a + occurs (leaves z) a) → IsTrue (has (leaves_of ts) a) =
+      λ a l. has_from_occurs (leaves_of ts) a (omega (arith, l, parted_occurs f a, parted_occurs s a, occurs-append (leaves u) (leaves w ++ (leaves z ++ leaves_of vs)) a, occurs-append (leaves w) (leaves z ++ leaves_of vs) a, occurs-append (leaves z) (leaves_of vs) a)) in
+      let iu : (a : ℕ) → IsTrue (has (leaves u) a) → IsTrue (has (leaves_of ts) a) = λ a l. in_ts a (omega (arith, occurs_from_has (leaves u) a l)) in
+      let iw : (a : ℕ) → IsTrue (has (leaves w) a) → IsTrue (has (leaves_of ts) a) = λ a l. in_ts a (omega (arith, occurs_from_has (leaves w) a l)) in
+      let iz : (a : ℕ) → IsTrue (has (leaves z) a) → IsTrue (has (leaves_of ts) a) = λ a l. in_ts a (omega (arith, occurs_from_has (leaves z) a l)) in
+      let u2 : IsFalse (has (leaves u) part2.some_full.0) = lacks_from_occurs (leaves u) part2.some_full.0 (omega (arith, sum part2.some_full.0, occurs_from_has (leaves w) part2.some_full.0 f2)) in
+      let u3 : IsFalse (has (leaves u) part3.some_full.0) = lacks_from_occurs (leaves u) part3.some_full.0 (omega (arith, sum part3.some_full.0, occurs_from_has (leaves z) part3.some_full.0 f3)) in
+      let w1 : IsFalse (has (leaves w) part.some_full.0) = lacks_from_occurs (leaves w) part.some_full.0 (omega (arith, sum part.some_full.0, occurs_from_has (leaves u) part.some_full.0 f1)) in
+      let w3 : IsFalse (has (leaves w) part3.some_full.0) = lacks_from_occurs (leaves w) part3.some_full.0 (omega (arith, sum part3.some_full.0, occurs_from_has (leaves z) part3.some_full.0 f3)) in
+      let z1 : IsFalse (has (leaves z) part.some_full.0) = lacks_from_occurs (leaves z) part.some_full.0 (omega (arith, sum part.some_full.0, occurs_from_has (leaves u) part.some_full.0 f1)) in
+      let z2 : IsFalse (has (leaves z) part2.some_full.0) = lacks_from_occurs (leaves z) part2.some_full.0 (omega (arith, sum part2.some_full.0, occurs_from_has (leaves w) part2.some_full.0 f2)) in
+      record {
+        a = part2.some_full.0;
+        b = part.some_full.0;
+        differ = λ x. both_ways (has (leaves u) part.some_full.0) (subst (λ y. IsFalse (has (leaves u) y)) x u2) f1;
+        turned =
+            three_partial R eq row (leaves_of ts) (leaves u) (leaves w) (leaves z) cr cs.0 cs.1.0 cs.1.1.0
+            part.some_empty.0 part.some_full.0 part2.some_empty.0 part2.some_full.0 part3.some_empty.0 part3.some_full.0 e1 f1 e2 f2 e3 f3
+            (part.empty part.some_empty.0 part.some_empty.1) (part.full part.some_full.0 part.some_full.1) (part2.empty part2.some_empty.0 part2.some_empty.1) (part2.full part2.some_full.0 part2.some_full.1)
+            (part3.empty part3.some_empty.0 part3.some_empty.1) (part3.full part3.some_full.0 part3.some_full.1)
+            (iu part.some_empty.0 e1) (iu part.some_full.0 f1) (iw part2.some_empty.0 e2) (iw part2.some_full.0 f2) (iz part3.some_empty.0 e3) (iz part3.some_full.0 f3) u2 u3 w1 w3 z1 z2;
+      }
+
+  -- the root's only child that meets the row would hold it
+  lone : (es gs : Forest) (u : Outline) → AreEmpty row es → AreEmpty row gs → Misses row (leaves u) → ((a : ℕ) → IsTrue (has row a) → IsTrue (has (leaves_of (join es (tree_and u gs))) a)) → ⊥
+  lone es gs u ee gg m within =
+      elim (has_join_cases es (tree_and u gs) m.0 (within m.0 m.1)) [
+        | inl k ↦ both_ways (has row m.0) (ee m.0 k) m.1
+        | inr k ↦ elim (has_append_cases (leaves u) (leaves_of gs) m.0 k) [ inl i ↦ both_ways (has (leaves u) m.0) m.2 i | inr i ↦ both_ways (has row m.0) (gg m.0 i) m.1 ]
+      ]
+
+  root_q_failed : (ts : Forest) (r : Span) → IsSpan row ts r → AllMiss row ts → ((a : ℕ) → IsTrue (has row a) → IsTrue (has (leaves_of ts) a)) →
+      (hs ks : List Partial) (fs : Forest) → r.left ≡ hs → r.tail.right ≡ ks → r.tail.middle ≡ fs → root_q hs ks fs r.before r.tail.behind ts ≡ None → ⊥
+  root_q_failed ts r m ms within [] [] fs el er ef e = cc
+  root_q_failed ts r m ms within (h ∷ hs) [] no_tree el er ef e =
+      let w : LeftHalf row ts r h = span_half row ts r h hs m el in
+      let j : ts ≡ join r.before (tree_and w.u r.tail.behind) = w.is ∙ ap (λ y. join r.before (tree_and w.u y)) (tail_plain row w.later r.tail w.tail er ∙ ap (λ y. join y r.tail.behind) ef) in
+      lone r.before r.tail.behind w.u (span_before row ts r m) (tail_behind row w.later r.tail w.tail) (miss_at row r.before r.tail.behind w.u (subst (AllMiss row) j ms))
+      (λ a k. subst (λ y. IsTrue (has (leaves_of y) a)) j (within a k))
+  root_q_failed ts r m ms within (h ∷ hs) [] (tree_and f fs) el er ef e = cc
+  root_q_failed ts r m ms within [] (k ∷ ks) no_tree el er ef e =
+      let w : PlainLeft row ts r = span_plain row ts r m el in
+      let v : RightHalf row w.later r.tail k = tail_half row w.later r.tail k ks w.tail er in
+      let j : ts ≡ join r.before (tree_and v.w r.tail.behind) = w.is ∙ ap (join r.before) (v.is ∙ ap (λ y. join y (tree_and v.w r.tail.behind)) ef) in
+      lone r.before r.tail.behind v.w (span_before row ts r m) (tail_behind row w.later r.tail w.tail) (miss_at row r.before r.tail.behind v.w (subst (AllMiss row) j ms))
+      (λ a i. subst (λ y. IsTrue (has (leaves_of y) a)) j (within a i))
+  root_q_failed ts r m ms within [] (k ∷ ks) (tree_and f fs) el er ef e = cc
+  root_q_failed ts r m ms within (h ∷ hs) (k ∷ ks) fs el er ef e = cc
+
+  mutual
+    -- No template fits at some node: a pair is related to itself turned round.
+    pub reduce_failed : (t : Outline) → IsBound R t → IsClosed R (leaves t) row → HasArities t → ((a : ℕ) → occurs (leaves t) a ≤ 1) → ((a : ℕ) → IsTrue (has row a) → IsTrue (has (leaves t) a)) →
+        (c : ℕ) → IsTrue (has row c) → reduce row t ≡ None → Crossed R
+    reduce_failed (leaf a) b cr n once within c hc e = cc
+    reduce_failed (p_node ts) b cr n once within c hc e =
+        elim (inner_or_none (inner row ts) p_node (option_and_then (λ ps. root_p (partials ps) (empty_trees ts ps) (full_trees ts ps) ts) (labels_of row ts)) e) [
+          | inl k ↦ inner_failed ts b.1 (leaves_of ts) cr (λ a h. h) n.1 once c hc k
+          | inr k ↦
+              let ms : AllMiss row ts = inner_none row ts k.0 in
+              elim (and_then_none (λ ps. root_p (partials ps) (empty_trees ts ps) (full_trees ts ps) ts) (labels_of row ts) k.1) [
+                | inl j ↦ treat_all_failed R eq row ts (outsides (leaves_of ts) ts b.0 cr (λ a h. h) within ms) b.1 n.1 once j
+                | inr j ↦
+                    let m : AreMade row ts j.0 = treat_all_made row ts j.0 n.1 once j.1 in
+                    let g : IsParted ts (empty_trees ts j.0) (rest ts j.0) = first_parted row ts j.0 m in
+                    let h : IsParted (rest ts j.0) (full_trees ts j.0) (partial_trees ts j.0) = second_parted row ts j.0 m in
+                    root_p_failed ts (empty_trees ts j.0) (rest ts j.0) (full_trees ts j.0) (partial_trees ts j.0) (partials j.0) g h (voids_empty row ts j.0 m) (fills_full row ts j.0 m) (halves_made row ts j.0 m)
+                    (closed_right R (leaves_of ts) h (closed_right R (leaves_of ts) g b.0)) (miss_right row h (miss_right row g ms)) cr once within c hc j.2
+              ]
+        ]
+    reduce_failed (q_node ts) b cr n once within c hc e =
+        elim (inner_or_none (inner row ts) q_node (option_and_then (λ ps. option_and_then (at_span ts) (span_of ts ps)) (labels_of row ts)) e) [
+          | inl k ↦ inner_failed ts b.1 (leaves_of ts) cr (λ a h. h) n.1 once c hc k
+          | inr k ↦
+              let ms : AllMiss row ts = inner_none row ts k.0 in
+              elim (and_then_none (λ ps. option_and_then (at_span ts) (span_of ts ps)) (labels_of row ts) k.1) [
+                | inl j ↦ treat_all_failed R eq row ts (outsides (leaves_of ts) ts (line_closed R eq ts b.0) cr (λ a h. h) within ms) b.1 n.1 once j
+                | inr j ↦
+                    let m : AreMade row ts j.0 = treat_all_made row ts j.0 n.1 once j.1 in
+                    elim (and_then_none (at_span ts) (span_of ts j.0) j.2) [
+                      | inl i ↦
+                          let x : HasHole row ts = span_hole row ts j.0 m n.1 i in
+                          record {
+                            a = x.up.v.a;
+                            b = x.up.v.b;
+                            differ = λ z. both_ways (has row x.up.v.b) (subst (λ y. IsFalse (has row y)) z x.up.from_empty) x.up.to_full;
+                            turned =
+                                hole R eq row ts b.0 cr x.f x.up.v.a x.up.v.b x.before x.up.forward x.full x.up.to_full x.up.from_empty (forward_first ts x.up.v x.up.forward);
+                          }
+                      | inr i ↦ absurd (root_q_failed ts i.0 (span_made row ts j.0 i.0 m i.1) ms within i.0.left i.0.tail.right i.0.tail.middle refl refl refl i.2)
+                    ]
+              ]
+        ]
+
+    pub inner_failed : (ts : Forest) → AreBound R ts → (l : List ℕ) → IsClosed R l row → ((a : ℕ) → IsTrue (has (leaves_of ts) a) → IsTrue (has l a)) → HaveArities ts → ((a : ℕ) → occurs (leaves_of ts) a ≤ 1) →
+        (c : ℕ) → IsTrue (has row c) → inner row ts ≡ Some None → Crossed R
+    inner_failed no_tree b l cr sub n once c hc e = cc
+    inner_failed (tree_and t ts) b l cr sub n once c hc e =
+        let sum : (a : ℕ) → occurs (leaves t ++ leaves_of ts) a ≤ 1 = once in
+        elim (cases_Bool (holds row t)) [
+          | inl k ↦
+              reduce_failed t b.0 (λ a d x i j g v. cr a d x i j (sub x (has_append_left (leaves t) (leaves_of ts) x g)) v) n.0
+              (λ a. omega (arith, sum a, occurs-append (leaves t) (leaves_of ts) a)) (all_held (leaves t) row k) c hc
+              (put_none ts (reduce row t) (ap (λ b. cond b (Some (put ts (reduce row t))) (behind_of t (inner row ts))) (sym k) ∙ e))
+          | inr k ↦
+              inner_failed ts b.1 l cr (λ a h. sub a (has_append_right (leaves t) (leaves_of ts) a h)) n.1 (λ a. omega (arith, sum a, occurs-append (leaves t) (leaves_of ts) a)) c hc
+              (behind_failed t (inner row ts) (ap (λ b. cond b (Some (put ts (reduce row t))) (behind_of t (inner row ts))) (sym k) ∙ e))
+        ]
+
+never : (b : Bool) → b ≡ not b → ⊥
+never true e = cc
+never false e = cc
+
+-- A refused row leaves no valid order, and there is a pair to show it.
+pub refused_pair : (c : ℕ) (rows : List (List ℕ)) (row : List ℕ) (t : Outline) → HasArities t → IsOrder c (leaves t) → IsTied c rows t →
+    ((a : ℕ) → IsTrue (has row a) → IsTrue (has (leaves t) a)) → (d : ℕ) → IsTrue (has row d) → reduce row t ≡ None → Crossed (Evenly c (rows ++ row ∷ []))
+refused_pair c rows row t n whole tied within d hd e =
+    reduce_failed (Evenly c (rows ++ row ∷ [])) (evenly_eq c (rows ++ row ∷ [])) row t
+    (bound_mono (Evenly c rows) (Evenly c (rows ++ row ∷ [])) (λ v w h. evenly-mono (Joined c rows) (Joined c (rows ++ row ∷ [])) (joined_more c rows row) v w h) t (tied_bound c rows t tied))
+    (last_row_closed c rows row (leaves t) whole within) n (order_once c (leaves t) whole) within d hd e
+
+pub refused_none : (c : ℕ) (rows : List (List ℕ)) (row : List ℕ) (t : Outline) → HasArities t → IsOrder c (leaves t) → IsTied c rows t →
+    ((a : ℕ) → IsTrue (has row a) → IsTrue (has (leaves t) a)) → (d : ℕ) → IsTrue (has row d) → reduce row t ≡ None → (o : List ℕ) → IsValidOrder c (rows ++ row ∷ []) o → ⊥
+refused_none c rows row t n whole tied within d hd e o valid =
+    let x : Crossed (Evenly c (rows ++ row ∷ [])) = refused_pair c rows row t n whole tied within d hd e in
+    let one : side o (pair x.b x.a) ≡ side o (pair x.a x.b) = evenly_one_side c (rows ++ row ∷ []) o valid (pair x.a x.b) (pair x.b x.a) x.turned in
+    never (side o (pair x.a x.b)) (sym one ∙ other_side (place o x.a) (place o x.b) (λ z. x.differ (place-inj o x.a x.b z)))

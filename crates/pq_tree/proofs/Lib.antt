@@ -1,0 +1,4 @@
+pub mod Shown
+pub mod Universal
+pub mod Canonical
+pub mod Equivalent

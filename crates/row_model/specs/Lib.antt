@@ -1,0 +1,4 @@
+pub mod Graph
+pub mod Rows
+pub mod Pieces
+pub mod Bounds
