@@ -9,7 +9,8 @@ use Rattle.std.specs.declared.vec.Vec.{Vec}
 use Rattle.std.specs.declared.alloc.Global.{Global}
 use Rattle.pq_tree.specs.Outline.{Outline, q_node}
 use Rattle.pq_tree.specs.Proper.{outline_of, forest}
-use Rattle.pq_tree.specs.Equivalent.{IsEquivalent, AreEquivalent, least, least_of, IsCanonical, AreCanonical, AreRising, AtMostLeast, EndsRise, LastAtLeast}
+use Rattle.pq_tree.specs.Equivalent.{IsEquivalent, AreEquivalent}
+use Rattle.pq_tree.specs.Canonical.{least, least_of, IsCanonical, AreCanonical, AreRising, AtMostLeast, EndsRise, LastAtLeast}
 use Rattle.pq_tree.specs.declared.Tree.{Tree, P, Q}
 use Rattle.pq_tree.proofs.Shown.{outline_of-P, outline_of-Q}
 

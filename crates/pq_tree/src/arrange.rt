@@ -1,0 +1,62 @@
+//! The canonical form of a tree, in one walk.
+
+ghost use Rattle.std.specs.Prelude.{◌≡◌, ◌⊎◌, map, reverse, IfOk, IsPermutation};
+ghost use Rattle.pq_tree.specs.Proper.{outline_of, forest};
+ghost use Rattle.pq_tree.specs.Equivalent.{IsEquivalent, AreEquivalent};
+ghost use Rattle.pq_tree.specs.Canonical.{AreRising, EndsRise};
+ghost use Rattle.pq_tree.specs.Arranged.{outline_in};
+
+use crate::arranged::Arranged;
+use crate::{NoMemory, Tree};
+use std::alloc::Global;
+
+/// The tree in its canonical form. Each subtree's least column comes back with it, so each node is looked at once.
+#[cycle(arrange)]
+pub fn arranged_tree(alloc: Global, tree: &Tree) -> Result<Arranged, NoMemory>
+    ensures { IfOk result (λ a. IsEquivalent (outline_of tree.now) (outline_of a.tree)) }
+{
+    match tree {
+        Tree::Leaf(column) => Ok(Arranged::leaf(*column)),
+        Tree::P(children) => {
+            let mut children = arranged_trees(alloc, children)?;
+            sort_by_least(&mut children);
+            Arranged::p_node(alloc, children)
+        }
+        Tree::Q(children) => {
+            let mut children = arranged_trees(alloc, children)?;
+            turn_up(&mut children);
+            Arranged::q_node(alloc, children)
+        }
+    }
+}
+
+/// Each tree in its canonical form.
+#[cycle(arrange)]
+fn arranged_trees(alloc: Global, trees: &[Tree]) -> Result<Vec<Arranged>, NoMemory>
+    ensures { IfOk result (λ v. AreEquivalent (forest (map outline_of trees.now)) (map outline_in v.items)) }
+{
+    let mut all = Vec::with_capacity(alloc, trees.len())?;
+    for tree in trees {
+        all.push(arranged_tree(alloc, tree)?)?;
+    }
+    Ok(all)
+}
+
+/// Puts the trees in rising order of their least columns.
+fn sort_by_least(trees: &mut Vec<Arranged>)
+    ensures moved { IsPermutation trees.old.items trees.new.items }
+    ensures rising { AreRising (forest (map outline_in trees.new.items)) }
+{
+    trees.sort_unstable_by_key(|tree| tree.least_column);
+}
+
+/// Reverses the trees where the least column of the last is below that of the first.
+fn turn_up(trees: &mut Vec<Arranged>)
+    ensures turned { (trees.new.items ≡ trees.old.items) ⊎ (trees.new.items ≡ reverse trees.old.items) }
+    ensures rise { EndsRise (forest (map outline_in trees.new.items)) }
+{
+    let count = trees.len();
+    if count > 1 && trees[count - 1].least_column < trees[0].least_column {
+        trees.reverse();
+    }
+}
