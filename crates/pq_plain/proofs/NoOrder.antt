@@ -4,15 +4,15 @@ use Rattle.std.proofs.lemmas.Bool.{both_ways, cases_Bool, and_cases}
 use Rattle.std.specs.List.{list_all}
 use Rattle.row_model.specs.declared.graph.Pair.{Pair}
 use Rattle.column_order.specs.Orders.{has, occurs, place, IsOrder, IsValidOrder}
-use Rattle.row_model.specs.Graph.{pair, Joined}
+use Rattle.row_model.specs.Graph.{pair, Joined, Evenly, HasConflict}
 use Rattle.column_order.proofs.Lists.{has_head, has_tail, has_append_cases, has_append_left, has_append_right, occurs-append, occurs_from_has, has_from_occurs, lacks_from_occurs, place-inj}
 use Rattle.pq_tree.specs.Outline.{Outline, Forest, leaf, p_node, q_node, no_tree, tree_and, leaves, leaves_of}
 use Rattle.pq_tree.specs.Proper.{HasArities, HaveArities}
-use Rattle.tied_law.specs.Tied.{IsForward, Evenly, IsTied}
+use Rattle.tied_law.specs.Tied.{IsForward, IsTied}
 use Rattle.tied_law.proofs.Bound.{IsClosed, AreClosed, IsBound, AreBound, IsPairEq, line_closed, bound_mono}
-use Rattle.tied_law.proofs.Bridge.{evenly_eq, last_row_closed, joined_more}
+use Rattle.tied_law.proofs.Bridge.{evenly_eq, last_row_closed}
 use Rattle.tied_law.proofs.Exact.{order_once, tied_bound}
-use Rattle.row_model.proofs.Walks.{evenly-mono, evenly_one_side}
+use Rattle.row_model.proofs.Walks.{joined-append, conflict_from, evenly-mono, evenly_one_side}
 use Rattle.row_model.proofs.Sides.{side, other_side}
 use Rattle.pq_plain.specs.Templates.{join, IsParted, none_parted, to_left, to_right}
 use Rattle.pq_plain.specs.Treat.{Partial, Label, empty_trees, full_trees, partial_trees, partials, labels_of}
@@ -315,21 +315,12 @@ module _ (R : Pair → Pair → Type 0) (eq : IsPairEq R) (row : List ℕ) where
               (behind_failed t (inner row ts) (ap (λ b. cond b (Some (put ts (reduce row t))) (behind_of t (inner row ts))) (sym k) ∙ e))
         ]
 
-never : (b : Bool) → b ≡ not b → ⊥
-never true e = cc
-never false e = cc
-
--- A refused row leaves no valid order, and there is a pair to show it.
+-- A refused row gives a conflict in the rows with this one.
 pub refused_pair : (c : ℕ) (rows : List (List ℕ)) (row : List ℕ) (t : Outline) → HasArities t → IsOrder c (leaves t) → IsTied c rows t →
-    ((a : ℕ) → IsTrue (has row a) → IsTrue (has (leaves t) a)) → (d : ℕ) → IsTrue (has row d) → reduce row t ≡ None → Crossed (Evenly c (rows ++ row ∷ []))
+    ((a : ℕ) → IsTrue (has row a) → IsTrue (has (leaves t) a)) → (d : ℕ) → IsTrue (has row d) → reduce row t ≡ None → HasConflict c (rows ++ row ∷ [])
 refused_pair c rows row t n whole tied within d hd e =
+    let x : Crossed (Evenly c (rows ++ row ∷ [])) =
     reduce_failed (Evenly c (rows ++ row ∷ [])) (evenly_eq c (rows ++ row ∷ [])) row t
-    (bound_mono (Evenly c rows) (Evenly c (rows ++ row ∷ [])) (λ v w h. evenly-mono (Joined c rows) (Joined c (rows ++ row ∷ [])) (joined_more c rows row) v w h) t (tied_bound c rows t tied))
-    (last_row_closed c rows row (leaves t) whole within) n (order_once c (leaves t) whole) within d hd e
-
-pub refused_none : (c : ℕ) (rows : List (List ℕ)) (row : List ℕ) (t : Outline) → HasArities t → IsOrder c (leaves t) → IsTied c rows t →
-    ((a : ℕ) → IsTrue (has row a) → IsTrue (has (leaves t) a)) → (d : ℕ) → IsTrue (has row d) → reduce row t ≡ None → (o : List ℕ) → IsValidOrder c (rows ++ row ∷ []) o → ⊥
-refused_none c rows row t n whole tied within d hd e o valid =
-    let x : Crossed (Evenly c (rows ++ row ∷ [])) = refused_pair c rows row t n whole tied within d hd e in
-    let one : side o (pair x.b x.a) ≡ side o (pair x.a x.b) = evenly_one_side c (rows ++ row ∷ []) o valid (pair x.a x.b) (pair x.b x.a) x.turned in
-    never (side o (pair x.a x.b)) (sym one ∙ other_side (place o x.a) (place o x.b) (λ z. x.differ (place-inj o x.a x.b z)))
+    (bound_mono (Evenly c rows) (Evenly c (rows ++ row ∷ [])) (λ v w h. evenly-mono (Joined c rows) (Joined c (rows ++ row ∷ [])) (joined-append c rows (row ∷ [])) v w h) t (tied_bound c rows t tied))
+    (last_row_closed c rows row (leaves t) whole within) n (order_once c (leaves t) whole) within d hd e in
+    conflict_from c (rows ++ row ∷ []) x.a x.b x.differ x.turned
