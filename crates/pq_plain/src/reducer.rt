@@ -5,7 +5,7 @@ ghost use Rattle.pq_tree.specs.Outline.{Outline};
 ghost use Rattle.pq_tree.specs.Proper.{outline_of, IsProper};
 ghost use Rattle.pq_tree.specs.Equivalent.{IsEquivalent, IsCanonical};
 ghost use Rattle.tied_law.specs.Tied.{IsTied};
-ghost use Rattle.pq_plain.specs.Refusal.{TurnsRound};
+ghost use Rattle.row_model.specs.Graph.{HasConflict};
 
 use pq_tree::PqTree;
 use row_model::{Matrix, NoMemory};
@@ -49,7 +49,7 @@ pub trait Reducer {
         ensures taken { IfOk result (λ step. step ≡ Step.Taken → IsTied m.now.columns (take k m.now.rows) (outline self.new)) }
         ensures order { IfOk result (λ step. step ≡ Step.Taken → (o : List ℕ) × IsValidOrder m.now.columns (take k m.now.rows) o) }
         ensures refused { IfOk result (λ step. step ≡ Step.Refused → (o : List ℕ) → IsValidOrder m.now.columns (take k m.now.rows) o → ⊥) }
-        ensures pair { IfOk result (λ step. step ≡ Step.Refused → TurnsRound m.now.columns (take k m.now.rows)) }
+        ensures pair { IfOk result (λ step. step ≡ Step.Refused → HasConflict m.now.columns (take k m.now.rows)) }
         ensures unchanged { IfOk result (λ step. step ≡ Step.Refused → outline self.new ≡ outline self.old) }
         ensures err { OnErr result (outline self.new ≡ outline self.old) }
         ensures proper { IsProper m.now.columns (outline self.new) }
