@@ -1,5 +1,5 @@
 -- What a view shows of a tree.
-use Rattle.std.specs.Prelude.{◌≡◌, map}
+use Rattle.std.specs.Prelude.{◌≡◌}
 use Rattle.std.specs.declared.vec.Vec.{Vec}
 use Rattle.std.specs.declared.alloc.Global.{Global}
 use Rattle.pq_tree.specs.declared.Tree

@@ -1,9 +1,10 @@
 //! The canonical form of a tree, in one walk.
 
 ghost use Rattle.std.specs.Prelude.{◌≡◌, ◌⊎◌, map, reverse, IfOk, IsPermutation};
+ghost use Rattle.pq_tree.specs.Outline.{leaf, p_node, q_node};
 ghost use Rattle.pq_tree.specs.Proper.{outline_of, forest};
 ghost use Rattle.pq_tree.specs.Equivalent.{IsEquivalent, AreEquivalent};
-ghost use Rattle.pq_tree.specs.Canonical.{AreRising, EndsRise};
+ghost use Rattle.pq_tree.specs.Canonical.{AreRising, EndsRise, least_of};
 ghost use Rattle.pq_tree.specs.Arranged.{outline_in};
 
 use crate::arranged::Arranged;
@@ -16,16 +17,16 @@ pub fn arranged_tree(alloc: Global, tree: &Tree) -> Result<Arranged, NoMemory>
     ensures { IfOk result (λ a. IsEquivalent (outline_of tree.now) (outline_of a.tree)) }
 {
     match tree {
-        Tree::Leaf(column) => Ok(Arranged::leaf(*column)),
+        Tree::Leaf(column) => Ok(arranged_leaf(*column)),
         Tree::P(children) => {
             let mut children = arranged_trees(alloc, children)?;
             sort_by_least(&mut children);
-            Arranged::p_node(alloc, children)
+            arranged_p(alloc, children)
         }
         Tree::Q(children) => {
             let mut children = arranged_trees(alloc, children)?;
             turn_up(&mut children);
-            Arranged::q_node(alloc, children)
+            arranged_q(alloc, children)
         }
     }
 }
@@ -59,4 +60,59 @@ fn turn_up(trees: &mut Vec<Arranged>)
     if count > 1 && trees[count - 1].least_column < trees[0].least_column {
         trees.reverse();
     }
+}
+
+/// The leaf of a column.
+fn arranged_leaf(column: u32) -> Arranged
+    ensures { outline_in result ≡ leaf column }
+{
+    Arranged {
+        tree: Tree::Leaf(column),
+        least_column: column,
+    }
+}
+
+/// The P-node over trees that stand in rising order.
+fn arranged_p(alloc: Global, children: Vec<Arranged>) -> Result<Arranged, NoMemory>
+    requires { AreRising (forest (map outline_in children.items)) }
+    ensures { IfOk result (λ a. outline_in a ≡ p_node (forest (map outline_in children.items))) }
+{
+    let least_column = least_of_all(&children);
+    let tree = Tree::P(bare_trees(alloc, children)?);
+    Ok(Arranged { tree, least_column })
+}
+
+/// The Q-node over trees of which the first and the last rise.
+fn arranged_q(alloc: Global, children: Vec<Arranged>) -> Result<Arranged, NoMemory>
+    requires { EndsRise (forest (map outline_in children.items)) }
+    ensures { IfOk result (λ a. outline_in a ≡ q_node (forest (map outline_in children.items))) }
+{
+    let least_column = least_of_all(&children);
+    let tree = Tree::Q(bare_trees(alloc, children)?);
+    Ok(Arranged { tree, least_column })
+}
+
+/// The least column of these trees, 0 where there is none.
+fn least_of_all(all: &[Arranged]) -> u32
+    ensures { result ≡ least_of (forest (map outline_in all.now)) }
+{
+    let Some((first, others)) = all.split_first() else {
+        return 0;
+    };
+    let mut least = first.least_column;
+    for other in others {
+        least = least.min(other.least_column);
+    }
+    least
+}
+
+/// The trees alone.
+fn bare_trees(alloc: Global, all: Vec<Arranged>) -> Result<Vec<Tree>, NoMemory>
+    ensures { IfOk result (λ v. map outline_of v.items ≡ map outline_in all.items) }
+{
+    let mut trees = Vec::with_capacity(alloc, all.len())?;
+    for one in all {
+        trees.push(one.tree)?;
+    }
+    Ok(trees)
 }
