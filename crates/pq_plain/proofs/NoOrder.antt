@@ -15,8 +15,8 @@ use Rattle.tied_law.proofs.Exact.{order_once, tied_bound}
 use Rattle.row_model.proofs.Walks.{joined-append, conflict_from, evenly-mono, evenly_one_side}
 use Rattle.row_model.proofs.Sides.{side, other_side}
 use Rattle.pq_plain.specs.Templates.{join, IsParted, none_parted, to_left, to_right}
-use Rattle.pq_plain.specs.Treat.{Partial, Label, empty_trees, full_trees, partial_trees, partials, labels_of}
-use Rattle.pq_plain.specs.Reduce.{holds, root_p, Tail, Span, all_void, full_more, before_more, begins, tail_of, span_of, root_q, at_span, inner_or, put, behind_of, reduce, inner}
+use Rattle.pq_plain.specs.Labels.{Partial, Label, empty_trees, full_trees, partial_trees, partials, labels_of}
+use Rattle.pq_plain.specs.Reduce.{holds, root_p, Tail, Span, all_empty, full_more, before_more, begins, tail_of, span_of, root_q, at_span, inner_or, put, behind_of, reduce, inner}
 use Rattle.pq_plain.proofs.Lines.{closed_right, parted_occurs, has_parted_cases, has_join_cases}
 use Rattle.pq_plain.proofs.Treat.{AreEmpty, AreFull}
 use Rattle.pq_plain.proofs.Refused.{three_partial, hole}
@@ -65,7 +65,7 @@ miss_at : (row : List ℕ) (xs ys : Forest) (t : Outline) → AllMiss row (join 
 miss_at row no_tree ys t h = h.0
 miss_at row (tree_and x xs) ys t h = miss_at row xs ys t h.1
 
-not_void : (row : List ℕ) (ts : Forest) (ps : List Label) → AreMade row ts ps → HaveArities ts → IsFalse (all_void ps) → (g : ℕ) × IsTrue (has (leaves_of ts) g) × IsTrue (has row g)
+not_void : (row : List ℕ) (ts : Forest) (ps : List Label) → AreMade row ts ps → HaveArities ts → IsFalse (all_empty ps) → (g : ℕ) × IsTrue (has (leaves_of ts) g) × IsTrue (has row g)
 not_void row ts ps none_made c e = absurd (both_ways true e refl)
 not_void row ts ps (more_made {t = t} {ts = us} {ps = qs} (made_void k) m) c e =
     let w : (g : ℕ) × IsTrue (has (leaves_of us) g) × IsTrue (has row g) = not_void row us qs m c.1 e in (w.0, has_append_right (leaves t) (leaves_of us) w.0 w.1, w.2)
@@ -84,7 +84,7 @@ pub record Climbs (row : List ℕ) (ts : Forest) : Type 0 where
 tail_climbs : (row : List ℕ) (ts : Forest) (ps : List Label) → AreMade row ts ps → HaveArities ts → tail_of ts ps ≡ None → Climbs row ts
 tail_climbs row ts ps none_made c e = cc
 tail_climbs row ts ps (more_made {t = t} {ts = us} {ps = qs} (made_void k) m) c e =
-    let w : (g : ℕ) × IsTrue (has (leaves_of us) g) × IsTrue (has row g) = not_void row us qs m c.1 (cond_none (all_void qs) (record { middle = no_tree; right = []; behind = tree_and t us }) e) in
+    let w : (g : ℕ) × IsTrue (has (leaves_of us) g) × IsTrue (has row g) = not_void row us qs m c.1 (cond_none (all_empty qs) (record { middle = no_tree; right = []; behind = tree_and t us }) e) in
     let l : (a : ℕ) × IsTrue (has (leaves t) a) = some_leaf t c.0 in
     record { v = pair l.0 w.0; forward = inl (l.1, w.1); from_empty = k l.0 l.1; to_full = w.2 }
 tail_climbs row ts ps (more_made {t = t} {ts = us} {ps = qs} (made_filled k) m) c e =
@@ -96,7 +96,7 @@ tail_climbs row ts ps (more_made {t = t} {ts = us} {ps = qs} (made_filled k) m) 
     some_none : (r : Tail) → Some r ≡ None → Climbs row (tree_and t us)
     some_none r x = cc
 tail_climbs row ts ps (more_made {t = t} {ts = us} {ps = qs} (made_split h k) m) c e =
-    let w : (g : ℕ) × IsTrue (has (leaves_of us) g) × IsTrue (has row g) = not_void row us qs m c.1 (cond_none (all_void qs) (record { middle = no_tree; right = h ∷ []; behind = us }) e) in
+    let w : (g : ℕ) × IsTrue (has (leaves_of us) g) × IsTrue (has row g) = not_void row us qs m c.1 (cond_none (all_empty qs) (record { middle = no_tree; right = h ∷ []; behind = us }) e) in
     record { v = pair k.some_empty.0 w.0; forward = inl (in_left row t h k k.some_empty.0 k.some_empty.1, w.1); from_empty = k.empty k.some_empty.0 k.some_empty.1; to_full = w.2 }
 
 -- a full column, then an empty one, then a full one
