@@ -18,11 +18,11 @@ use Rattle.pq_plain.specs.Templates.{join, IsParted, none_parted, to_left, to_ri
 use Rattle.pq_plain.specs.Labels.{Partial, Label, empty_trees, full_trees, partial_trees, partials, labels_of}
 use Rattle.pq_plain.specs.Reduce.{holds, root_p, Tail, Span, all_empty, full_more, before_more, begins, tail_of, span_of, root_q, at_span, inner_or, put, behind_of, reduce, inner}
 use Rattle.pq_plain.proofs.Lines.{closed_right, parted_occurs, has_parted_cases, has_join_cases}
-use Rattle.pq_plain.proofs.Treat.{AreEmpty, AreFull}
-use Rattle.pq_plain.proofs.Refused.{three_partial, hole}
-use Rattle.pq_plain.proofs.Made.{made_void, made_filled, made_split, AreMade, none_made, more_made, AreHalves, no_half, a_half, rest, first_parted, second_parted, voids_empty, fills_full, halves_made, some_leaf, treat_all_made, no_row}
-use Rattle.pq_plain.proofs.Reduced.{IsSpan, span_made, span_before, span_plain, span_half, tail_plain, tail_half, tail_behind, PlainLeft, LeftHalf, RightHalf, all_held}
-use Rattle.pq_plain.proofs.Failed.{Crossed, and_then_none, cond_none, AllOutside, treat_all_failed, in_left, in_right, forward_first}
+use Rattle.pq_plain.proofs.Below.{AreEmpty, AreFull}
+use Rattle.pq_plain.proofs.Conflicts.{three_partial, hole}
+use Rattle.pq_plain.proofs.Labelled.{labelled_empty, labelled_full, labelled_partial, AreLabelled, none_labelled, more_labelled, ArePartial, no_partial, a_partial, rest, first_parted, second_parted, empty_trees_empty, full_trees_full, partial_trees_partial, some_leaf, labels_right, no_row}
+use Rattle.pq_plain.proofs.Reduced.{IsSpan, span_right, span_before, span_plain, span_left, tail_plain, tail_last, tail_behind, PlainLeft, LeftPartial, RightPartial, all_held}
+use Rattle.pq_plain.proofs.Failed.{Crossed, and_then_none, cond_none, AllOutside, labels_failed, in_left, in_right, forward_first}
 
 -- a column of the row outside the list
 abbrev pub Misses : List ℕ → List ℕ → Type 0
@@ -65,13 +65,13 @@ miss_at : (row : List ℕ) (xs ys : Forest) (t : Outline) → AllMiss row (join 
 miss_at row no_tree ys t h = h.0
 miss_at row (tree_and x xs) ys t h = miss_at row xs ys t h.1
 
-not_void : (row : List ℕ) (ts : Forest) (ps : List Label) → AreMade row ts ps → HaveArities ts → IsFalse (all_empty ps) → (g : ℕ) × IsTrue (has (leaves_of ts) g) × IsTrue (has row g)
-not_void row ts ps none_made c e = absurd (both_ways true e refl)
-not_void row ts ps (more_made {t = t} {ts = us} {ps = qs} (made_void k) m) c e =
-    let w : (g : ℕ) × IsTrue (has (leaves_of us) g) × IsTrue (has row g) = not_void row us qs m c.1 e in (w.0, has_append_right (leaves t) (leaves_of us) w.0 w.1, w.2)
-not_void row ts ps (more_made {t = t} {ts = us} (made_filled k) m) c e =
+some_full_column : (row : List ℕ) (ts : Forest) (ps : List Label) → AreLabelled row ts ps → HaveArities ts → IsFalse (all_empty ps) → (g : ℕ) × IsTrue (has (leaves_of ts) g) × IsTrue (has row g)
+some_full_column row ts ps none_labelled c e = absurd (both_ways true e refl)
+some_full_column row ts ps (more_labelled {t = t} {ts = us} {ps = qs} (labelled_empty k) m) c e =
+    let w : (g : ℕ) × IsTrue (has (leaves_of us) g) × IsTrue (has row g) = some_full_column row us qs m c.1 e in (w.0, has_append_right (leaves t) (leaves_of us) w.0 w.1, w.2)
+some_full_column row ts ps (more_labelled {t = t} {ts = us} (labelled_full k) m) c e =
     let w : (a : ℕ) × IsTrue (has (leaves t) a) = some_leaf t c.0 in (w.0, has_append_left (leaves t) (leaves_of us) w.0 w.1, k w.0 w.1)
-not_void row ts ps (more_made {t = t} {ts = us} (made_split h k) m) c e =
+some_full_column row ts ps (more_labelled {t = t} {ts = us} (labelled_partial h k) m) c e =
     (k.some_full.0, has_append_left (leaves t) (leaves_of us) k.some_full.0 (in_right row t h k k.some_full.0 k.some_full.1), k.full k.some_full.0 k.some_full.1)
 
 -- a pair that goes forward from a column outside the row to one of it
@@ -81,13 +81,13 @@ pub record Climbs (row : List ℕ) (ts : Forest) : Type 0 where
   pub from_empty : IsFalse (has row v.a)
   pub to_full : IsTrue (has row v.b)
 
-tail_climbs : (row : List ℕ) (ts : Forest) (ps : List Label) → AreMade row ts ps → HaveArities ts → tail_of ts ps ≡ None → Climbs row ts
-tail_climbs row ts ps none_made c e = cc
-tail_climbs row ts ps (more_made {t = t} {ts = us} {ps = qs} (made_void k) m) c e =
-    let w : (g : ℕ) × IsTrue (has (leaves_of us) g) × IsTrue (has row g) = not_void row us qs m c.1 (cond_none (all_empty qs) (record { middle = no_tree; right = []; behind = tree_and t us }) e) in
+tail_climbs : (row : List ℕ) (ts : Forest) (ps : List Label) → AreLabelled row ts ps → HaveArities ts → tail_of ts ps ≡ None → Climbs row ts
+tail_climbs row ts ps none_labelled c e = cc
+tail_climbs row ts ps (more_labelled {t = t} {ts = us} {ps = qs} (labelled_empty k) m) c e =
+    let w : (g : ℕ) × IsTrue (has (leaves_of us) g) × IsTrue (has row g) = some_full_column row us qs m c.1 (cond_none (all_empty qs) (record { middle = no_tree; right = []; behind = tree_and t us }) e) in
     let l : (a : ℕ) × IsTrue (has (leaves t) a) = some_leaf t c.0 in
     record { v = pair l.0 w.0; forward = inl (l.1, w.1); from_empty = k l.0 l.1; to_full = w.2 }
-tail_climbs row ts ps (more_made {t = t} {ts = us} {ps = qs} (made_filled k) m) c e =
+tail_climbs row ts ps (more_labelled {t = t} {ts = us} {ps = qs} (labelled_full k) m) c e =
     elim (and_then_none (λ r. Some (full_more t r)) (tail_of us qs) e) [
       | inl n ↦ let w : Climbs row us = tail_climbs row us qs m c.1 n in record { v = w.v; forward = inr w.forward; from_empty = w.from_empty; to_full = w.to_full }
       | inr n ↦ some_none (full_more t n.0) n.2
@@ -95,8 +95,8 @@ tail_climbs row ts ps (more_made {t = t} {ts = us} {ps = qs} (made_filled k) m) 
   where
     some_none : (r : Tail) → Some r ≡ None → Climbs row (tree_and t us)
     some_none r x = cc
-tail_climbs row ts ps (more_made {t = t} {ts = us} {ps = qs} (made_split h k) m) c e =
-    let w : (g : ℕ) × IsTrue (has (leaves_of us) g) × IsTrue (has row g) = not_void row us qs m c.1 (cond_none (all_empty qs) (record { middle = no_tree; right = h ∷ []; behind = us }) e) in
+tail_climbs row ts ps (more_labelled {t = t} {ts = us} {ps = qs} (labelled_partial h k) m) c e =
+    let w : (g : ℕ) × IsTrue (has (leaves_of us) g) × IsTrue (has row g) = some_full_column row us qs m c.1 (cond_none (all_empty qs) (record { middle = no_tree; right = h ∷ []; behind = us }) e) in
     record { v = pair k.some_empty.0 w.0; forward = inl (in_left row t h k k.some_empty.0 k.some_empty.1, w.1); from_empty = k.empty k.some_empty.0 k.some_empty.1; to_full = w.2 }
 
 -- a full column, then an empty one, then a full one
@@ -106,9 +106,9 @@ pub record HasHole (row : List ℕ) (ts : Forest) : Type 0 where
   pub before : IsForward ts (pair f up.v.a)
   pub full : IsTrue (has row f)
 
-span_hole : (row : List ℕ) (ts : Forest) (ps : List Label) → AreMade row ts ps → HaveArities ts → span_of ts ps ≡ None → HasHole row ts
-span_hole row ts ps none_made c e = cc
-span_hole row ts ps (more_made {t = t} {ts = us} {ps = qs} (made_void k) m) c e =
+span_hole : (row : List ℕ) (ts : Forest) (ps : List Label) → AreLabelled row ts ps → HaveArities ts → span_of ts ps ≡ None → HasHole row ts
+span_hole row ts ps none_labelled c e = cc
+span_hole row ts ps (more_labelled {t = t} {ts = us} {ps = qs} (labelled_empty k) m) c e =
     elim (and_then_none (λ r. Some (before_more t r)) (span_of us qs) e) [
       | inl n ↦
           let w : HasHole row us = span_hole row us qs m c.1 n in
@@ -118,7 +118,7 @@ span_hole row ts ps (more_made {t = t} {ts = us} {ps = qs} (made_void k) m) c e 
   where
     some_none : (r : Span) → Some r ≡ None → HasHole row (tree_and t us)
     some_none r x = cc
-span_hole row ts ps (more_made {t = t} {ts = us} {ps = qs} (made_filled k) m) c e =
+span_hole row ts ps (more_labelled {t = t} {ts = us} {ps = qs} (labelled_full k) m) c e =
     elim (and_then_none (λ r. Some (begins [] (full_more t r))) (tail_of us qs) e) [
       | inl n ↦
           let w : Climbs row us = tail_climbs row us qs m c.1 n in
@@ -129,7 +129,7 @@ span_hole row ts ps (more_made {t = t} {ts = us} {ps = qs} (made_filled k) m) c 
   where
     some_none : (r : Span) → Some r ≡ None → HasHole row (tree_and t us)
     some_none r x = cc
-span_hole row ts ps (more_made {t = t} {ts = us} {ps = qs} (made_split h k) m) c e =
+span_hole row ts ps (more_labelled {t = t} {ts = us} {ps = qs} (labelled_partial h k) m) c e =
     elim (and_then_none (λ r. Some (begins (h ∷ []) r)) (tail_of us qs) e) [
       | inl n ↦
           let w : Climbs row us = tail_climbs row us qs m c.1 n in
@@ -181,13 +181,13 @@ module _ (R : Pair → Pair → Type 0) (eq : IsPairEq R) (row : List ℕ) where
         outsides l ts c.1 cr (λ a k. sub a (has_append_right (leaves t) (leaves_of ts) a k)) within m.1,
       )
 
-  root_p_failed : (ts es rs fs us : Forest) (hs : List Partial) → IsParted ts es rs → IsParted rs fs us → AreEmpty row es → AreFull row fs → AreHalves row us hs → AreClosed R (leaves_of ts) us → AllMiss row us →
+  root_p_failed : (ts es rs fs us : Forest) (hs : List Partial) → IsParted ts es rs → IsParted rs fs us → AreEmpty row es → AreFull row fs → ArePartial row us hs → AreClosed R (leaves_of ts) us → AllMiss row us →
       IsClosed R (leaves_of ts) row → ((a : ℕ) → occurs (leaves_of ts) a ≤ 1) → ((a : ℕ) → IsTrue (has row a) → IsTrue (has (leaves_of ts) a)) → (c : ℕ) → IsTrue (has row c) → root_p hs es fs ts ≡ None → Crossed R
-  root_p_failed ts no_tree rs fs us hs f s ee ff no_half cs ms cr once within c hc e = cc
-  root_p_failed ts (tree_and t es) rs no_tree us hs f s ee ff no_half cs ms cr once within c hc e =
+  root_p_failed ts no_tree rs fs us hs f s ee ff no_partial cs ms cr once within c hc e = cc
+  root_p_failed ts (tree_and t es) rs no_tree us hs f s ee ff no_partial cs ms cr once within c hc e =
       absurd (both_ways (has row c) (no_row row ts (tree_and t es) rs f s ee c (within c hc)) hc)
-  root_p_failed ts (tree_and t es) rs (tree_and g fs) us hs f s ee ff no_half cs ms cr once within c hc e = cc
-  root_p_failed ts es rs no_tree us hs f s ee ff (a_half {t = u} part no_half) cs ms cr once within c hc e =
+  root_p_failed ts (tree_and t es) rs (tree_and g fs) us hs f s ee ff no_partial cs ms cr once within c hc e = cc
+  root_p_failed ts es rs no_tree us hs f s ee ff (a_partial {t = u} part no_partial) cs ms cr once within c hc e =
       absurd
       (elim (has_parted_cases f ms.0.0 (within ms.0.0 ms.0.1)) [
         | inl k ↦ both_ways (has row ms.0.0) (ee ms.0.0 k) ms.0.1
@@ -196,9 +196,9 @@ module _ (R : Pair → Pair → Type 0) (eq : IsPairEq R) (row : List ℕ) where
           | inr j ↦ elim (has_append_cases (leaves u) [] ms.0.0 j) [ inl i ↦ both_ways (has (leaves u) ms.0.0) ms.0.2 i | inr i ↦ both_ways false refl i ]
         ]
       ])
-  root_p_failed ts es rs (tree_and g fs) us hs f s ee ff (a_half part no_half) cs ms cr once within c hc e = cc
-  root_p_failed ts es rs fs us hs f s ee ff (a_half part (a_half part2 no_half)) cs ms cr once within c hc e = cc
-  root_p_failed ts es rs fs us hs f s ee ff (a_half {t = u} {h = h} part (a_half {t = w} {h = k} part2 (a_half {t = z} {ts = vs} {h = j} part3 m))) cs ms cr once within c hc e =
+  root_p_failed ts es rs (tree_and g fs) us hs f s ee ff (a_partial part no_partial) cs ms cr once within c hc e = cc
+  root_p_failed ts es rs fs us hs f s ee ff (a_partial part (a_partial part2 no_partial)) cs ms cr once within c hc e = cc
+  root_p_failed ts es rs fs us hs f s ee ff (a_partial {t = u} {h = h} part (a_partial {t = w} {h = k} part2 (a_partial {t = z} {ts = vs} {h = j} part3 m))) cs ms cr once within c hc e =
       let e1 : IsTrue (has (leaves u) part.some_empty.0) = in_left row u h part part.some_empty.0 part.some_empty.1 in
       let f1 : IsTrue (has (leaves u) part.some_full.0) = in_right row u h part part.some_full.0 part.some_full.1 in
       let e2 : IsTrue (has (leaves w) part2.some_empty.0) = in_left row w k part2 part2.some_empty.0 part2.some_empty.1 in
@@ -242,14 +242,14 @@ module _ (R : Pair → Pair → Type 0) (eq : IsPairEq R) (row : List ℕ) where
       (hs ks : List Partial) (fs : Forest) → r.left ≡ hs → r.tail.right ≡ ks → r.tail.middle ≡ fs → root_q hs ks fs r.before r.tail.behind ts ≡ None → ⊥
   root_q_failed ts r m ms within [] [] fs el er ef e = cc
   root_q_failed ts r m ms within (h ∷ hs) [] no_tree el er ef e =
-      let w : LeftHalf row ts r h = span_half row ts r h hs m el in
+      let w : LeftPartial row ts r h = span_left row ts r h hs m el in
       let j : ts ≡ join r.before (tree_and w.u r.tail.behind) = w.is ∙ ap (λ y. join r.before (tree_and w.u y)) (tail_plain row w.later r.tail w.tail er ∙ ap (λ y. join y r.tail.behind) ef) in
       lone r.before r.tail.behind w.u (span_before row ts r m) (tail_behind row w.later r.tail w.tail) (miss_at row r.before r.tail.behind w.u (subst (AllMiss row) j ms))
       (λ a k. subst (λ y. IsTrue (has (leaves_of y) a)) j (within a k))
   root_q_failed ts r m ms within (h ∷ hs) [] (tree_and f fs) el er ef e = cc
   root_q_failed ts r m ms within [] (k ∷ ks) no_tree el er ef e =
       let w : PlainLeft row ts r = span_plain row ts r m el in
-      let v : RightHalf row w.later r.tail k = tail_half row w.later r.tail k ks w.tail er in
+      let v : RightPartial row w.later r.tail k = tail_last row w.later r.tail k ks w.tail er in
       let j : ts ≡ join r.before (tree_and v.w r.tail.behind) = w.is ∙ ap (join r.before) (v.is ∙ ap (λ y. join y (tree_and v.w r.tail.behind)) ef) in
       lone r.before r.tail.behind v.w (span_before row ts r m) (tail_behind row w.later r.tail w.tail) (miss_at row r.before r.tail.behind v.w (subst (AllMiss row) j ms))
       (λ a i. subst (λ y. IsTrue (has (leaves_of y) a)) j (within a i))
@@ -267,12 +267,12 @@ module _ (R : Pair → Pair → Type 0) (eq : IsPairEq R) (row : List ℕ) where
           | inr k ↦
               let ms : AllMiss row ts = inner_none row ts k.0 in
               elim (and_then_none (λ ps. root_p (partials ps) (empty_trees ts ps) (full_trees ts ps) ts) (labels_of row ts) k.1) [
-                | inl j ↦ treat_all_failed R eq row ts (outsides (leaves_of ts) ts b.0 cr (λ a h. h) within ms) b.1 n.1 once j
+                | inl j ↦ labels_failed R eq row ts (outsides (leaves_of ts) ts b.0 cr (λ a h. h) within ms) b.1 n.1 once j
                 | inr j ↦
-                    let m : AreMade row ts j.0 = treat_all_made row ts j.0 n.1 once j.1 in
+                    let m : AreLabelled row ts j.0 = labels_right row ts j.0 n.1 once j.1 in
                     let g : IsParted ts (empty_trees ts j.0) (rest ts j.0) = first_parted row ts j.0 m in
                     let h : IsParted (rest ts j.0) (full_trees ts j.0) (partial_trees ts j.0) = second_parted row ts j.0 m in
-                    root_p_failed ts (empty_trees ts j.0) (rest ts j.0) (full_trees ts j.0) (partial_trees ts j.0) (partials j.0) g h (voids_empty row ts j.0 m) (fills_full row ts j.0 m) (halves_made row ts j.0 m)
+                    root_p_failed ts (empty_trees ts j.0) (rest ts j.0) (full_trees ts j.0) (partial_trees ts j.0) (partials j.0) g h (empty_trees_empty row ts j.0 m) (full_trees_full row ts j.0 m) (partial_trees_partial row ts j.0 m)
                     (closed_right R (leaves_of ts) h (closed_right R (leaves_of ts) g b.0)) (miss_right row h (miss_right row g ms)) cr once within c hc j.2
               ]
         ]
@@ -282,9 +282,9 @@ module _ (R : Pair → Pair → Type 0) (eq : IsPairEq R) (row : List ℕ) where
           | inr k ↦
               let ms : AllMiss row ts = inner_none row ts k.0 in
               elim (and_then_none (λ ps. option_and_then (at_span ts) (span_of ts ps)) (labels_of row ts) k.1) [
-                | inl j ↦ treat_all_failed R eq row ts (outsides (leaves_of ts) ts (line_closed R eq ts b.0) cr (λ a h. h) within ms) b.1 n.1 once j
+                | inl j ↦ labels_failed R eq row ts (outsides (leaves_of ts) ts (line_closed R eq ts b.0) cr (λ a h. h) within ms) b.1 n.1 once j
                 | inr j ↦
-                    let m : AreMade row ts j.0 = treat_all_made row ts j.0 n.1 once j.1 in
+                    let m : AreLabelled row ts j.0 = labels_right row ts j.0 n.1 once j.1 in
                     elim (and_then_none (at_span ts) (span_of ts j.0) j.2) [
                       | inl i ↦
                           let x : HasHole row ts = span_hole row ts j.0 m n.1 i in
@@ -295,7 +295,7 @@ module _ (R : Pair → Pair → Type 0) (eq : IsPairEq R) (row : List ℕ) where
                             turned =
                                 hole R eq row ts b.0 cr x.f x.up.v.a x.up.v.b x.before x.up.forward x.full x.up.to_full x.up.from_empty (forward_first ts x.up.v x.up.forward);
                           }
-                      | inr i ↦ absurd (root_q_failed ts i.0 (span_made row ts j.0 i.0 m i.1) ms within i.0.left i.0.tail.right i.0.tail.middle refl refl refl i.2)
+                      | inr i ↦ absurd (root_q_failed ts i.0 (span_right row ts j.0 i.0 m i.1) ms within i.0.left i.0.tail.right i.0.tail.middle refl refl refl i.2)
                     ]
               ]
         ]

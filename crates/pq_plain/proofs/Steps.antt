@@ -11,8 +11,8 @@ use Rattle.tied_law.specs.Tied.{IsTied}
 use Rattle.tied_law.proofs.Bridge.{tied_more}
 use Rattle.row_model.proofs.Sides.{order_has}
 use Rattle.pq_plain.specs.Reduce.{reduce}
-use Rattle.pq_plain.proofs.Made.{some_inj}
-use Rattle.pq_plain.proofs.Counts.{reduce_counts}
+use Rattle.pq_plain.proofs.Labelled.{some_inj}
+use Rattle.pq_plain.proofs.Arities.{reduce_arities}
 use Rattle.pq_plain.proofs.NoOrder.{refused_pair}
 use Rattle.pq_plain.proofs.Reduced.{reduce_order, reduce_tied}
 
@@ -39,7 +39,7 @@ taken c rows [] t u w k within e =
     subst (λ x. IsProper c x × IsTied c (rows ++ [] ∷ []) x) same (w, empty_tied c rows t w k)
 taken c rows (d ∷ row) t u w k within e =
     let inside : (a : ℕ) → IsTrue (has (d ∷ row) a) → IsTrue (has (leaves t) a) = row_in c (d ∷ row) t w within in (
-      (reduce_counts (d ∷ row) t u w.0 e, reduce_order c (d ∷ row) t u w.0 w.1 inside d (has_head d row) e),
+      (reduce_arities (d ∷ row) t u w.0 e, reduce_order c (d ∷ row) t u w.0 w.1 inside d (has_head d row) e),
       reduce_tied c rows (d ∷ row) t u w.0 w.1 k inside d (has_head d row) e,
     )
 

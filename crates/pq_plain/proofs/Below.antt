@@ -124,8 +124,8 @@ module _ (row : List ℕ) (ts es fs : Forest) (parted : IsParted ts es fs) (empt
       (star_bound R es (closed_within R (leaves_of ts) (leaves_of es) es in_ts_left (closed_left R (leaves_of ts) parted b.0)) (parted_bound_left R parted b.1))
       (star_bound R fs (closed_within R (leaves_of ts) (leaves_of fs) fs in_ts_right (closed_right R (leaves_of ts) parted b.0)) (parted_bound_right R parted b.1))
 
-  pub p3 : Treated row (p_node ts) (star es) (star fs)
-  p3 =
+  pub p3_kept : Treated row (p_node ts) (star es) (star fs)
+  p3_kept =
       record {
         same = λ a. ap (λ l. occurs l a) (leaves_of-join (star es) (star fs)) ∙
             occurs-append (leaves_of (star es)) (leaves_of (star fs)) a ∙
