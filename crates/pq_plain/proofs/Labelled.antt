@@ -2,19 +2,17 @@
 use Rattle.std.proofs.Common.{◌≡◌, ◌⊎◌, ◌∙◌, ◌+◌, ◌≤◌, ℕ, Bool, true, false, cond, List, [], ◌∷◌, ◌++◌, reverse, Option, Some, None, IsTrue, IsFalse, refl, sym, ap, subst, inl, inr, arith, option_and_then}
 use Rattle.std.proofs.lemmas.Bool.{both_ways, cases_Bool}
 use Rattle.column_order.specs.Orders.{has, occurs}
-use Rattle.row_model.specs.Graph.{pair}
-use Rattle.column_order.proofs.Lists.{has_cases, has_head, has_append_cases, has_append_left, has_append_right, occurs-append}
+use Rattle.column_order.proofs.Lists.{has_cases, has_append_cases, occurs-append}
 use Rattle.pq_tree.specs.Outline.{Outline, Forest, leaf, p_node, q_node, no_tree, tree_and, leaves, leaves_of}
 use Rattle.pq_tree.specs.Proper.{HasArities, HaveArities, count}
-use Rattle.pq_plain.specs.Templates.{join, star, back, IsParted, none_parted, to_left, to_right}
-use Rattle.pq_plain.specs.Labels.{Partial, Label, empty_label, full_label, partial_label, empty_trees, full_trees, partial_trees, partials, partial_of, at_p, at_q, at_run, Run, run_of, all_full, one_more, label_of, labels_of, first_some}
-use Rattle.pq_plain.proofs.Lines.{has_parted_cases, has_join_left, has_join_right, forward_across}
-use Rattle.pq_plain.proofs.Below.{AreEmpty, AreFull, Treated, p3_kept}
-use Rattle.pq_plain.proofs.OnePartial.{p5_kept}
-use Rattle.pq_plain.proofs.QSteps.{q2_none, q2_one, join_end}
+use Rattle.pq_plain.specs.Templates.{join, back, IsSorted, none_sorted, to_empty, to_full, to_partial, p3, p5, q2}
+use Rattle.pq_plain.specs.Labels.{Partial, Label, empty_label, full_label, partial_label, empty_trees, full_trees, partial_trees, partials, at_p, at_q, at_run, Run, run_of, all_full, one_more, label_of, labels_of, first_some}
+use Rattle.pq_plain.proofs.Below.{AreEmpty, AreFull, Treated}
+use Rattle.pq_plain.proofs.QSteps.{join_end}
 use Rattle.pq_plain.proofs.QLines.{treated_back, back_has}
+use Rattle.pq_plain.proofs.HaveColumns.{arities_empty, arities_full, some_leaf_of}
+use Rattle.pq_plain.proofs.Preserved.{p1_kept, p_empty, p3_kept, p5_kept, q1_kept, q2_kept, none, one}
 use Rattle.std.proofs.lemmas.List.{reverse-append}
-use Rattle.tied_law.proofs.Frontiers.{has_same}
 
 pub data IsLabelled (row : List ℕ) (t : Outline) : Label → Type 1 where
   labelled_empty : ((a : ℕ) → IsTrue (has (leaves t) a) → IsFalse (has row a)) → IsLabelled row t empty_label
@@ -30,27 +28,12 @@ pub data ArePartial (row : List ℕ) : Forest → List Partial → Type 1 where
   no_partial : ArePartial row no_tree []
   a_partial : {t : Outline} {ts : Forest} {h : Partial} {hs : List Partial} → Treated row t h.e h.f → ArePartial row ts hs → ArePartial row (tree_and t ts) (h ∷ hs)
 
--- the trees that are not empty
-unfoldable pub rest : Forest → List Label → Forest
-rest no_tree ps = no_tree
-rest (tree_and t ts) [] = no_tree
-rest (tree_and t ts) (empty_label ∷ ps) = rest ts ps
-rest (tree_and t ts) (full_label ∷ ps) = tree_and t (rest ts ps)
-rest (tree_and t ts) (partial_label h ∷ ps) = tree_and t (rest ts ps)
-
-pub first_parted : (row : List ℕ) (ts : Forest) (ps : List Label) → AreLabelled row ts ps → IsParted ts (empty_trees ts ps) (rest ts ps)
-unfolding rest
-first_parted row ts ps none_labelled = none_parted
-first_parted row ts ps (more_labelled (labelled_empty h) m) = to_left (first_parted row _ _ m)
-first_parted row ts ps (more_labelled (labelled_full h) m) = to_right (first_parted row _ _ m)
-first_parted row ts ps (more_labelled (labelled_partial h t) m) = to_right (first_parted row _ _ m)
-
-pub second_parted : (row : List ℕ) (ts : Forest) (ps : List Label) → AreLabelled row ts ps → IsParted (rest ts ps) (full_trees ts ps) (partial_trees ts ps)
-unfolding rest
-second_parted row ts ps none_labelled = none_parted
-second_parted row ts ps (more_labelled (labelled_empty h) m) = second_parted row _ _ m
-second_parted row ts ps (more_labelled (labelled_full h) m) = to_left (second_parted row _ _ m)
-second_parted row ts ps (more_labelled (labelled_partial h t) m) = to_right (second_parted row _ _ m)
+-- the labels sort the children
+pub sorted : (row : List ℕ) (ts : Forest) (ps : List Label) → AreLabelled row ts ps → IsSorted ts (empty_trees ts ps) (full_trees ts ps) (partial_trees ts ps)
+sorted row ts ps none_labelled = none_sorted
+sorted row ts ps (more_labelled (labelled_empty h) m) = to_empty (sorted row _ _ m)
+sorted row ts ps (more_labelled (labelled_full h) m) = to_full (sorted row _ _ m)
+sorted row ts ps (more_labelled (labelled_partial h t) m) = to_partial (sorted row _ _ m)
 
 pub empty_trees_empty : (row : List ℕ) (ts : Forest) (ps : List Label) → AreLabelled row ts ps → AreEmpty row (empty_trees ts ps)
 empty_trees_empty row ts ps none_labelled a h = absurd (both_ways false refl h)
@@ -72,64 +55,22 @@ partial_trees_partial row ts ps (more_labelled (labelled_empty k) m) = partial_t
 partial_trees_partial row ts ps (more_labelled (labelled_full k) m) = partial_trees_partial row _ _ m
 partial_trees_partial row ts ps (more_labelled (labelled_partial k t) m) = a_partial t (partial_trees_partial row _ _ m)
 
-pub parted_end : {ts us : Forest} → IsParted ts us no_tree → ts ≡ us
-parted_end none_parted = refl
-parted_end (to_left {t = t} r) = ap (tree_and t) (parted_end r)
-
-pub arities_left : {ts us vs : Forest} → IsParted ts us vs → HaveArities ts → HaveArities us
-arities_left none_parted h = tt
-arities_left (to_left r) h = (h.0, arities_left r h.1)
-arities_left (to_right r) h = arities_left r h.1
-
-pub arities_right : {ts us vs : Forest} → IsParted ts us vs → HaveArities ts → HaveArities vs
-arities_right none_parted h = tt
-arities_right (to_left r) h = arities_right r h.1
-arities_right (to_right r) h = (h.0, arities_right r h.1)
-
--- a tree with the counts has a column
-mutual
-  pub some_leaf : (t : Outline) → HasArities t → (a : ℕ) × IsTrue (has (leaves t) a)
-  some_leaf (leaf a) h = (a, has_head a [])
-  some_leaf (p_node ts) h = some_leaf_of ts (omega (arith, h.0)) h.1
-  some_leaf (q_node ts) h = some_leaf_of ts (omega (arith, h.0)) h.1
-
-  pub some_leaf_of : (ts : Forest) → 1 ≤ count ts → HaveArities ts → (a : ℕ) × IsTrue (has (leaves_of ts) a)
-  some_leaf_of no_tree n h = absurd (omega arith)
-  some_leaf_of (tree_and t ts) n h =
-      let k : (a : ℕ) × IsTrue (has (leaves t) a) = some_leaf t h.0 in
-      (k.0, has_append_left (leaves t) (leaves_of ts) k.0 k.1)
-
-pub all_row : (row : List ℕ) (ts rs fs : Forest) → IsParted ts no_tree rs → IsParted rs fs no_tree → AreFull row fs → (a : ℕ) → IsTrue (has (leaves_of ts) a) → IsTrue (has row a)
-all_row row ts rs fs f s ff a h =
-    elim (has_parted_cases f a h) [
-      | inl k ↦ absurd (both_ways false refl k)
-      | inr k ↦ ff a (subst (λ x. IsTrue (has (leaves_of x) a)) (parted_end s) k)
-    ]
-
-pub no_row : (row : List ℕ) (ts es rs : Forest) → IsParted ts es rs → IsParted rs no_tree no_tree → AreEmpty row es → (a : ℕ) → IsTrue (has (leaves_of ts) a) → IsFalse (has row a)
-no_row row ts es rs f s ee a h =
-    elim (has_parted_cases f a h) [
-      | inl k ↦ ee a k
-      | inr k ↦ absurd (both_ways false refl (subst (λ x. IsTrue (has (leaves_of x) a)) (parted_end s) k))
-    ]
-
-at_p_right : (row : List ℕ) (ts es rs fs us : Forest) (hs : List Partial) (x : Label) → IsParted ts es rs → IsParted rs fs us → AreEmpty row es → AreFull row fs → ArePartial row us hs →
+-- below the root: P1, an empty node, P3 and P5
+at_p_right : (row : List ℕ) (ts es fs us : Forest) (hs : List Partial) (x : Label) → IsSorted ts es fs us → AreEmpty row es → AreFull row fs → ArePartial row us hs →
     HaveArities ts → ((a : ℕ) → occurs (leaves_of ts) a ≤ 1) → at_p hs es fs ≡ Some x → IsLabelled row (p_node ts) x
-at_p_right row ts no_tree rs fs us hs x f s ee ff no_partial c once e =
-    let k : full_label ≡ x = cc in subst (IsLabelled row (p_node ts)) k (labelled_full (all_row row ts rs fs f s ff))
-at_p_right row ts (tree_and t es) rs no_tree us hs x f s ee ff no_partial c once e =
-    let k : empty_label ≡ x = cc in subst (IsLabelled row (p_node ts)) k (labelled_empty (no_row row ts (tree_and t es) rs f s ee))
-at_p_right row ts (tree_and t es) rs (tree_and g fs) us hs x f s ee ff no_partial c once e =
-    let k : partial_of (star (tree_and t es)) (star (tree_and g fs)) ≡ x = cc in
-    let g' : IsParted ts (tree_and t es) (tree_and g fs) = subst (IsParted ts (tree_and t es)) (parted_end s) f in
+at_p_right row ts no_tree fs us hs x s ee ff no_partial c once e =
+    let k : full_label ≡ x = cc in subst (IsLabelled row (p_node ts)) k (labelled_full (p1_kept row ts fs s ff))
+at_p_right row ts (tree_and t es) no_tree us hs x s ee ff no_partial c once e =
+    let k : empty_label ≡ x = cc in subst (IsLabelled row (p_node ts)) k (labelled_empty (p_empty row ts (tree_and t es) s ee))
+at_p_right row ts (tree_and t es) (tree_and g fs) us hs x s ee ff no_partial c once e =
+    let k : partial_label (p3 (tree_and t es) (tree_and g fs)) ≡ x = cc in
     subst (IsLabelled row (p_node ts)) k
-    (labelled_partial (record { e = star (tree_and t es); f = star (tree_and g fs) })
-    (p3_kept row ts (tree_and t es) (tree_and g fs) g' ee ff (some_leaf_of (tree_and t es) (omega arith) (arities_left f c)) (some_leaf_of (tree_and g fs) (omega arith) (arities_right g' c))))
-at_p_right row ts es rs fs us hs x f s ee ff (a_partial {t = u} {h = h} part no_partial) c once e =
-    let k : partial_of (join (star es) h.e) (join h.f (star fs)) ≡ x = cc in
-    subst (IsLabelled row (p_node ts)) k
-    (labelled_partial (record { e = join (star es) h.e; f = join h.f (star fs) }) (p5_kept row ts es rs fs u h.e h.f f s ee ff part once))
-at_p_right row ts es rs fs us hs x f s ee ff (a_partial part (a_partial part2 m)) c once e = cc
+    (labelled_partial (p3 (tree_and t es) (tree_and g fs))
+    (p3_kept row ts (tree_and t es) (tree_and g fs) s ee ff (some_leaf_of (tree_and t es) (omega arith) (arities_empty s c)) (some_leaf_of (tree_and g fs) (omega arith) (arities_full s c))))
+at_p_right row ts es fs us hs x s ee ff (a_partial {t = u} {h = h} part no_partial) c once e =
+    let k : partial_label (p5 es h fs) ≡ x = cc in
+    subst (IsLabelled row (p_node ts)) k (labelled_partial (p5 es h fs) (p5_kept row ts es fs u h s ee ff part once))
+at_p_right row ts es fs us hs x s ee ff (a_partial part (a_partial part2 m)) c once e = cc
 
 pub some_inj : {X : Type 0} {x y : X} → Some x ≡ Some y → x ≡ y
 some_inj e = cc
@@ -203,60 +144,32 @@ run_middle row ts r h hs (run_partial {t = t} g x k) e =
     let same : g ≡ h = cc in
     record { u = t; is = refl; part = subst (λ y. Treated row t y.e y.f) same x }
 
-arities_join_left : (xs ys : Forest) → HaveArities (join xs ys) → HaveArities xs
-arities_join_left no_tree ys h = tt
-arities_join_left (tree_and t ts) ys h = (h.0, arities_join_left ts ys h.1)
-
-arities_join_right : (xs ys : Forest) → HaveArities (join xs ys) → HaveArities ys
-arities_join_right no_tree ys h = h
-arities_join_right (tree_and t ts) ys h = arities_join_right ts ys h.1
-
--- a partial child among empty and full ones, of which there is one
-one_partial_right : (row : List ℕ) (es fs : Forest) (u : Outline) (h : Partial) → Treated row u h.e h.f → AreEmpty row es → AreFull row fs → 2 ≤ count (join es (tree_and u fs)) → HaveArities (join es (tree_and u fs)) →
-    Treated row (q_node (join es (tree_and u fs))) (join es h.e) (join h.f fs)
-one_partial_right row no_tree no_tree u h part ee ff n c = absurd (omega arith)
-one_partial_right row (tree_and t es) fs u h part ee ff n c =
-    let w : (a : ℕ) × IsTrue (has (leaves_of (tree_and t es)) a) = some_leaf_of (tree_and t es) (omega arith) (arities_join_left (tree_and t es) (tree_and u fs) c) in
-    let f0 : IsTrue (has (leaves u) part.some_full.0) = sym (has_same (leaves_of (join h.e h.f)) (leaves u) part.some_full.0 (part.same part.some_full.0)) ∙ has_join_right h.e h.f part.some_full.0 part.some_full.1 in
-    let uf : IsTrue (has (leaves_of (tree_and u fs)) part.some_full.0) = has_append_left (leaves u) (leaves_of fs) part.some_full.0 f0 in
-    q2_one row (tree_and t es) fs u h.e h.f part ee ff (pair w.0 part.some_full.0)
-    (forward_across (tree_and t es) (tree_and u fs) (pair w.0 part.some_full.0) w.1 uf)
-    (ee w.0 w.1) (part.full part.some_full.0 part.some_full.1)
-    (has_join_left (tree_and t es) (tree_and u fs) w.0 w.1) (has_join_right (tree_and t es) (tree_and u fs) part.some_full.0 uf)
-one_partial_right row no_tree (tree_and g fs) u h part ee ff n c =
-    let w : (a : ℕ) × IsTrue (has (leaves_of (tree_and g fs)) a) = some_leaf_of (tree_and g fs) (omega arith) c.1 in
-    let e0 : IsTrue (has (leaves u) part.some_empty.0) = sym (has_same (leaves_of (join h.e h.f)) (leaves u) part.some_empty.0 (part.same part.some_empty.0)) ∙ has_join_left h.e h.f part.some_empty.0 part.some_empty.1 in
-    q2_one row no_tree (tree_and g fs) u h.e h.f part ee ff (pair part.some_empty.0 w.0)
-    (inl (e0, w.1)) (part.empty part.some_empty.0 part.some_empty.1) (ff w.0 w.1)
-    (has_append_left (leaves u) (leaves_of (tree_and g fs)) part.some_empty.0 e0) (has_append_right (leaves u) (leaves_of (tree_and g fs)) w.0 w.1)
-
+-- below the root: Q1, an empty node and Q2
 at_q_right : (row : List ℕ) (ts : Forest) (r : Run) → IsRun row ts r → HaveArities ts → 2 ≤ count ts → (hs : List Partial) (es fs : Forest) → r.middle ≡ hs → r.before ≡ es → r.behind ≡ fs →
     (x : Label) → at_q hs es fs ≡ Some x → IsLabelled row (q_node ts) x
 at_q_right row ts r m c n [] no_tree fs em ee ef x e =
     let k : full_label ≡ x = cc in
     let j : ts ≡ fs = run_plain row ts r m em ∙ ap (λ y. join y r.behind) ee ∙ ef in
-    subst (IsLabelled row (q_node ts)) k (labelled_full (λ a h. run_behind row ts r m a (subst (λ y. IsTrue (has (leaves_of y) a)) (j ∙ sym ef) h)))
+    subst (IsLabelled row (q_node ts)) k (labelled_full (q1_kept row ts (λ a h. run_behind row ts r m a (subst (λ y. IsTrue (has (leaves_of y) a)) (j ∙ sym ef) h))))
 at_q_right row ts r m c n [] (tree_and t es) no_tree em ee ef x e =
     let k : empty_label ≡ x = cc in
     let j : ts ≡ r.before = run_plain row ts r m em ∙ ap (join r.before) ef ∙ join_end r.before in
     subst (IsLabelled row (q_node ts)) k (labelled_empty (λ a h. run_before row ts r m a (subst (λ y. IsTrue (has (leaves_of y) a)) j h)))
 at_q_right row ts r m c n [] (tree_and t es) (tree_and g fs) em ee ef x e =
-    let k : partial_of (tree_and t es) (tree_and g fs) ≡ x = cc in
+    let k : partial_label (q2 (tree_and t es) None (tree_and g fs)) ≡ x = cc in
     let j : join (tree_and t es) (tree_and g fs) ≡ ts = sym (run_plain row ts r m em ∙ ap (λ y. join y r.behind) ee ∙ ap (join (tree_and t es)) ef) in
-    let cj : HaveArities (join (tree_and t es) (tree_and g fs)) = subst HaveArities (sym j) c in
     subst (IsLabelled row (q_node ts)) k
-    (subst (λ y. IsLabelled row (q_node y) (partial_of (tree_and t es) (tree_and g fs))) j
-    (labelled_partial (record { e = tree_and t es; f = tree_and g fs })
-    (q2_none row (tree_and t es) (tree_and g fs) (subst (AreEmpty row) ee (run_before row ts r m)) (subst (AreFull row) ef (run_behind row ts r m))
-    (some_leaf_of (tree_and t es) (omega arith) (arities_join_left (tree_and t es) (tree_and g fs) cj)) (some_leaf_of (tree_and g fs) (omega arith) (arities_join_right (tree_and t es) (tree_and g fs) cj)))))
+    (subst (λ y. IsLabelled row (q_node y) (partial_label (q2 (tree_and t es) None (tree_and g fs)))) j
+    (labelled_partial (q2 (tree_and t es) None (tree_and g fs))
+    (q2_kept row (tree_and t es) no_tree (tree_and g fs) None none (subst (AreEmpty row) ee (run_before row ts r m)) (subst (AreFull row) ef (run_behind row ts r m)) (subst HaveArities (sym j) c) (subst (λ y. 2 ≤ count y) (sym j) n) tt)))
 at_q_right row ts r m c n (h ∷ hs) es fs em ee ef x e =
-    let k : partial_of (join es h.e) (join h.f fs) ≡ x = cc in
+    let k : partial_label (q2 es (Some h) fs) ≡ x = cc in
     let w : Middle row ts r h = run_middle row ts r h hs m em in
     let j : join es (tree_and w.u fs) ≡ ts = sym (w.is ∙ ap (λ y. join y (tree_and w.u r.behind)) ee ∙ ap (λ y. join es (tree_and w.u y)) ef) in
     subst (IsLabelled row (q_node ts)) k
-    (subst (λ y. IsLabelled row (q_node y) (partial_of (join es h.e) (join h.f fs))) j
-    (labelled_partial (record { e = join es h.e; f = join h.f fs })
-    (one_partial_right row es fs w.u h w.part (subst (AreEmpty row) ee (run_before row ts r m)) (subst (AreFull row) ef (run_behind row ts r m)) (rw j n) (subst HaveArities (sym j) c))))
+    (subst (λ y. IsLabelled row (q_node y) (partial_label (q2 es (Some h) fs))) j
+    (labelled_partial (q2 es (Some h) fs)
+    (q2_kept row es (tree_and w.u no_tree) fs (Some h) (one h w.part) (subst (AreEmpty row) ee (run_before row ts r m)) (subst (AreFull row) ef (run_behind row ts r m)) (subst HaveArities (sym j) c) (subst (λ y. 2 ≤ count y) (sym j) n) tt)))
 
 labelled_push : (row : List ℕ) (ts : Forest) (ps : List Label) (t : Outline) (x : Label) → AreLabelled row ts ps → IsLabelled row t x → AreLabelled row (join ts (tree_and t no_tree)) (ps ++ x ∷ [])
 labelled_push row ts ps t x none_labelled k = more_labelled k none_labelled
@@ -313,7 +226,7 @@ mutual
       let w : (ps : List Label) × (labels_of row ts ≡ Some ps) × (at_p (partials ps) (empty_trees ts ps) (full_trees ts ps) ≡ Some x) =
       and_then (λ ps. at_p (partials ps) (empty_trees ts ps) (full_trees ts ps)) (labels_of row ts) x e in
       let m : AreLabelled row ts w.0 = labels_right row ts w.0 c.1 once w.1 in
-      at_p_right row ts (empty_trees ts w.0) (rest ts w.0) (full_trees ts w.0) (partial_trees ts w.0) (partials w.0) x (first_parted row ts w.0 m) (second_parted row ts w.0 m)
+      at_p_right row ts (empty_trees ts w.0) (full_trees ts w.0) (partial_trees ts w.0) (partials w.0) x (sorted row ts w.0 m)
       (empty_trees_empty row ts w.0 m) (full_trees_full row ts w.0 m) (partial_trees_partial row ts w.0 m) c.1 once w.2
   label_right row (q_node ts) x c once e =
       let w : (ps : List Label) × (labels_of row ts ≡ Some ps) × (first_some (option_and_then at_run (run_of ts ps)) (option_and_then at_run (run_of (back ts) (reverse ps))) ≡ Some x) =

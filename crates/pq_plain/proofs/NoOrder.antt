@@ -1,28 +1,29 @@
 -- Where `reduce` gives nothing, some pair is related to itself turned round, so no order is left.
-use Rattle.std.proofs.Common.{◌≡◌, ◌⊎◌, ◌∙◌, ◌+◌, ◌≤◌, ℕ, Bool, true, false, not, cond, List, [], ◌∷◌, ◌++◌, Option, Some, None, IsTrue, IsFalse, refl, sym, ap, subst, inl, inr, arith, option_and_then}
+use Rattle.std.proofs.Common.{◌≡◌, ◌⊎◌, ◌∙◌, ◌+◌, ◌≤◌, ℕ, true, false, cond, List, [], ◌∷◌, ◌++◌, Option, Some, None, IsTrue, IsFalse, refl, sym, ap, subst, inl, inr, arith, option_and_then}
 use Rattle.std.proofs.lemmas.Bool.{both_ways, cases_Bool, and_cases}
 use Rattle.std.specs.List.{list_all}
 use Rattle.row_model.specs.declared.graph.Pair.{Pair}
-use Rattle.column_order.specs.Orders.{has, occurs, place, IsOrder, IsValidOrder}
+use Rattle.column_order.specs.Orders.{has, occurs, IsOrder}
 use Rattle.row_model.specs.Graph.{pair, Joined, Evenly, HasConflict}
-use Rattle.column_order.proofs.Lists.{has_head, has_tail, has_append_cases, has_append_left, has_append_right, occurs-append, occurs_from_has, has_from_occurs, lacks_from_occurs, place-inj}
+use Rattle.column_order.proofs.Lists.{has_head, has_tail, has_append_cases, has_append_left, has_append_right, occurs-append, occurs_from_has, has_from_occurs, lacks_from_occurs}
 use Rattle.pq_tree.specs.Outline.{Outline, Forest, leaf, p_node, q_node, no_tree, tree_and, leaves, leaves_of}
 use Rattle.pq_tree.specs.Proper.{HasArities, HaveArities}
 use Rattle.tied_law.specs.Tied.{IsForward, IsTied}
 use Rattle.tied_law.proofs.Bound.{IsClosed, AreClosed, IsBound, AreBound, IsPairEq, line_closed, bound_mono}
 use Rattle.tied_law.proofs.Bridge.{evenly_eq, last_row_closed}
 use Rattle.tied_law.proofs.Exact.{order_once, tied_bound}
-use Rattle.row_model.proofs.Walks.{joined-append, conflict_from, evenly-mono, evenly_one_side}
-use Rattle.row_model.proofs.Sides.{side, other_side}
-use Rattle.pq_plain.specs.Templates.{join, IsParted, none_parted, to_left, to_right}
+use Rattle.row_model.proofs.Walks.{joined-append, conflict_from, evenly-mono}
+use Rattle.pq_plain.specs.Templates.{join, IsSorted, none_sorted, to_empty, to_full, to_partial}
 use Rattle.pq_plain.specs.Labels.{Partial, Label, empty_trees, full_trees, partial_trees, partials, labels_of}
 use Rattle.pq_plain.specs.Reduce.{holds, root_p, Tail, Span, all_empty, full_more, before_more, begins, tail_of, span_of, root_q, at_span, inner_or, put, behind_of, reduce, inner}
-use Rattle.pq_plain.proofs.Lines.{closed_right, parted_occurs, has_parted_cases, has_join_cases}
+use Rattle.pq_plain.proofs.Lines.{has_join_cases, sorted_occurs, closed_partial, has_sorted_cases}
 use Rattle.pq_plain.proofs.Below.{AreEmpty, AreFull}
 use Rattle.pq_plain.proofs.Conflicts.{three_partial, hole}
-use Rattle.pq_plain.proofs.Labelled.{labelled_empty, labelled_full, labelled_partial, AreLabelled, none_labelled, more_labelled, ArePartial, no_partial, a_partial, rest, first_parted, second_parted, empty_trees_empty, full_trees_full, partial_trees_partial, some_leaf, labels_right, no_row}
+use Rattle.pq_plain.proofs.Labelled.{labelled_empty, labelled_full, labelled_partial, AreLabelled, none_labelled, more_labelled, ArePartial, no_partial, a_partial, sorted, empty_trees_empty, full_trees_full, partial_trees_partial, labels_right}
 use Rattle.pq_plain.proofs.Reduced.{IsSpan, span_right, span_before, span_plain, span_left, tail_plain, tail_last, tail_behind, PlainLeft, LeftPartial, RightPartial, all_held}
 use Rattle.pq_plain.proofs.Failed.{Crossed, and_then_none, cond_none, AllOutside, labels_failed, in_left, in_right, forward_first}
+use Rattle.pq_plain.proofs.HaveColumns.{some_leaf}
+use Rattle.pq_plain.proofs.Preserved.{p_empty}
 
 -- a column of the row outside the list
 abbrev pub Misses : List ℕ → List ℕ → Type 0
@@ -56,10 +57,11 @@ inner_none row (tree_and t ts) e =
     some_none : (o : Option Forest) → Some o ≡ None → AllMiss row (tree_and t ts)
     some_none o x = cc
 
-miss_right : {ts us vs : Forest} (row : List ℕ) → IsParted ts us vs → AllMiss row ts → AllMiss row vs
-miss_right row none_parted h = tt
-miss_right row (to_left r) h = miss_right row r h.1
-miss_right row (to_right r) h = (h.0, miss_right row r h.1)
+miss_partial : {ts es fs us : Forest} (row : List ℕ) → IsSorted ts es fs us → AllMiss row ts → AllMiss row us
+miss_partial row none_sorted h = tt
+miss_partial row (to_empty r) h = miss_partial row r h.1
+miss_partial row (to_full r) h = miss_partial row r h.1
+miss_partial row (to_partial r) h = (h.0, miss_partial row r h.1)
 
 miss_at : (row : List ℕ) (xs ys : Forest) (t : Outline) → AllMiss row (join xs (tree_and t ys)) → Misses row (leaves t)
 miss_at row no_tree ys t h = h.0
@@ -181,24 +183,24 @@ module _ (R : Pair → Pair → Type 0) (eq : IsPairEq R) (row : List ℕ) where
         outsides l ts c.1 cr (λ a k. sub a (has_append_right (leaves t) (leaves_of ts) a k)) within m.1,
       )
 
-  root_p_failed : (ts es rs fs us : Forest) (hs : List Partial) → IsParted ts es rs → IsParted rs fs us → AreEmpty row es → AreFull row fs → ArePartial row us hs → AreClosed R (leaves_of ts) us → AllMiss row us →
+  root_p_failed : (ts es fs us : Forest) (hs : List Partial) → IsSorted ts es fs us → AreEmpty row es → AreFull row fs → ArePartial row us hs → AreClosed R (leaves_of ts) us → AllMiss row us →
       IsClosed R (leaves_of ts) row → ((a : ℕ) → occurs (leaves_of ts) a ≤ 1) → ((a : ℕ) → IsTrue (has row a) → IsTrue (has (leaves_of ts) a)) → (c : ℕ) → IsTrue (has row c) → root_p hs es fs ts ≡ None → Crossed R
-  root_p_failed ts no_tree rs fs us hs f s ee ff no_partial cs ms cr once within c hc e = cc
-  root_p_failed ts (tree_and t es) rs no_tree us hs f s ee ff no_partial cs ms cr once within c hc e =
-      absurd (both_ways (has row c) (no_row row ts (tree_and t es) rs f s ee c (within c hc)) hc)
-  root_p_failed ts (tree_and t es) rs (tree_and g fs) us hs f s ee ff no_partial cs ms cr once within c hc e = cc
-  root_p_failed ts es rs no_tree us hs f s ee ff (a_partial {t = u} part no_partial) cs ms cr once within c hc e =
+  root_p_failed ts no_tree fs us hs s ee ff no_partial cs ms cr once within c hc e = cc
+  root_p_failed ts (tree_and t es) no_tree us hs s ee ff no_partial cs ms cr once within c hc e =
+      absurd (both_ways (has row c) (p_empty row ts (tree_and t es) s ee c (within c hc)) hc)
+  root_p_failed ts (tree_and t es) (tree_and g fs) us hs s ee ff no_partial cs ms cr once within c hc e = cc
+  root_p_failed ts es no_tree us hs s ee ff (a_partial {t = u} part no_partial) cs ms cr once within c hc e =
       absurd
-      (elim (has_parted_cases f ms.0.0 (within ms.0.0 ms.0.1)) [
+      (elim (has_sorted_cases s ms.0.0 (within ms.0.0 ms.0.1)) [
         | inl k ↦ both_ways (has row ms.0.0) (ee ms.0.0 k) ms.0.1
-        | inr k ↦ elim (has_parted_cases s ms.0.0 k) [
+        | inr k ↦ elim k [
           | inl j ↦ both_ways false refl j
           | inr j ↦ elim (has_append_cases (leaves u) [] ms.0.0 j) [ inl i ↦ both_ways (has (leaves u) ms.0.0) ms.0.2 i | inr i ↦ both_ways false refl i ]
         ]
       ])
-  root_p_failed ts es rs (tree_and g fs) us hs f s ee ff (a_partial part no_partial) cs ms cr once within c hc e = cc
-  root_p_failed ts es rs fs us hs f s ee ff (a_partial part (a_partial part2 no_partial)) cs ms cr once within c hc e = cc
-  root_p_failed ts es rs fs us hs f s ee ff (a_partial {t = u} {h = h} part (a_partial {t = w} {h = k} part2 (a_partial {t = z} {ts = vs} {h = j} part3 m))) cs ms cr once within c hc e =
+  root_p_failed ts es (tree_and g fs) us hs s ee ff (a_partial part no_partial) cs ms cr once within c hc e = cc
+  root_p_failed ts es fs us hs s ee ff (a_partial part (a_partial part2 no_partial)) cs ms cr once within c hc e = cc
+  root_p_failed ts es fs us hs s ee ff (a_partial {t = u} {h = h} part (a_partial {t = w} {h = k} part2 (a_partial {t = z} {ts = vs} {h = j} part3 m))) cs ms cr once within c hc e =
       let e1 : IsTrue (has (leaves u) part.some_empty.0) = in_left row u h part part.some_empty.0 part.some_empty.1 in
       let f1 : IsTrue (has (leaves u) part.some_full.0) = in_right row u h part part.some_full.0 part.some_full.1 in
       let e2 : IsTrue (has (leaves w) part2.some_empty.0) = in_left row w k part2 part2.some_empty.0 part2.some_empty.1 in
@@ -206,9 +208,9 @@ module _ (R : Pair → Pair → Type 0) (eq : IsPairEq R) (row : List ℕ) where
       let e3 : IsTrue (has (leaves z) part3.some_empty.0) = in_left row z j part3 part3.some_empty.0 part3.some_empty.1 in
       let f3 : IsTrue (has (leaves z) part3.some_full.0) = in_right row z j part3 part3.some_full.0 part3.some_full.1 in
       let sum : (a : ℕ) → occurs (leaves u) a + (occurs (leaves w) a + occurs (leaves z) a) ≤ 1 =
-      λ a. omega (arith, once a, parted_occurs f a, parted_occurs s a, occurs-append (leaves u) (leaves w ++ (leaves z ++ leaves_of vs)) a, occurs-append (leaves w) (leaves z ++ leaves_of vs) a, occurs-append (leaves z) (leaves_of vs) a) in
+      λ a. omega (arith, once a, sorted_occurs s a, occurs-append (leaves u) (leaves w ++ (leaves z ++ leaves_of vs)) a, occurs-append (leaves w) (leaves z ++ leaves_of vs) a, occurs-append (leaves z) (leaves_of vs) a) in
       let in_ts : (a : ℕ) → 1 ≤ occurs (leaves u) a + (occurs (leaves w) a + occurs (leaves z) a) → IsTrue (has (leaves_of ts) a) =
-      λ a l. has_from_occurs (leaves_of ts) a (omega (arith, l, parted_occurs f a, parted_occurs s a, occurs-append (leaves u) (leaves w ++ (leaves z ++ leaves_of vs)) a, occurs-append (leaves w) (leaves z ++ leaves_of vs) a, occurs-append (leaves z) (leaves_of vs) a)) in
+      λ a l. has_from_occurs (leaves_of ts) a (omega (arith, l, sorted_occurs s a, occurs-append (leaves u) (leaves w ++ (leaves z ++ leaves_of vs)) a, occurs-append (leaves w) (leaves z ++ leaves_of vs) a, occurs-append (leaves z) (leaves_of vs) a)) in
       let iu : (a : ℕ) → IsTrue (has (leaves u) a) → IsTrue (has (leaves_of ts) a) = λ a l. in_ts a (omega (arith, occurs_from_has (leaves u) a l)) in
       let iw : (a : ℕ) → IsTrue (has (leaves w) a) → IsTrue (has (leaves_of ts) a) = λ a l. in_ts a (omega (arith, occurs_from_has (leaves w) a l)) in
       let iz : (a : ℕ) → IsTrue (has (leaves z) a) → IsTrue (has (leaves_of ts) a) = λ a l. in_ts a (omega (arith, occurs_from_has (leaves z) a l)) in
@@ -270,10 +272,9 @@ module _ (R : Pair → Pair → Type 0) (eq : IsPairEq R) (row : List ℕ) where
                 | inl j ↦ labels_failed R eq row ts (outsides (leaves_of ts) ts b.0 cr (λ a h. h) within ms) b.1 n.1 once j
                 | inr j ↦
                     let m : AreLabelled row ts j.0 = labels_right row ts j.0 n.1 once j.1 in
-                    let g : IsParted ts (empty_trees ts j.0) (rest ts j.0) = first_parted row ts j.0 m in
-                    let h : IsParted (rest ts j.0) (full_trees ts j.0) (partial_trees ts j.0) = second_parted row ts j.0 m in
-                    root_p_failed ts (empty_trees ts j.0) (rest ts j.0) (full_trees ts j.0) (partial_trees ts j.0) (partials j.0) g h (empty_trees_empty row ts j.0 m) (full_trees_full row ts j.0 m) (partial_trees_partial row ts j.0 m)
-                    (closed_right R (leaves_of ts) h (closed_right R (leaves_of ts) g b.0)) (miss_right row h (miss_right row g ms)) cr once within c hc j.2
+                    let g : IsSorted ts (empty_trees ts j.0) (full_trees ts j.0) (partial_trees ts j.0) = sorted row ts j.0 m in
+                    root_p_failed ts (empty_trees ts j.0) (full_trees ts j.0) (partial_trees ts j.0) (partials j.0) g (empty_trees_empty row ts j.0 m) (full_trees_full row ts j.0 m) (partial_trees_partial row ts j.0 m)
+                    (closed_partial R (leaves_of ts) g b.0) (miss_partial row g ms) cr once within c hc j.2
               ]
         ]
     reduce_failed (q_node ts) b cr n once within c hc e =

@@ -7,45 +7,32 @@ use Rattle.column_order.proofs.Lists.{has_cases, has_append_cases, occurs-append
 use Rattle.pq_tree.specs.Outline.{Outline, Forest, leaf, p_node, q_node, no_tree, tree_and, leaves, leaves_of}
 use Rattle.pq_tree.specs.Proper.{HasArities, HaveArities}
 use Rattle.tied_law.specs.Tied.{IsTied}
-use Rattle.tied_law.proofs.Frontiers.{has_same}
-use Rattle.tied_law.proofs.Bridge.{tied_more}
 use Rattle.tied_law.proofs.Exact.{order_once}
-use Rattle.pq_plain.specs.Templates.{join, back, IsParted}
+use Rattle.pq_plain.specs.Templates.{join, IsSorted, l1, p1, q3}
 use Rattle.pq_plain.specs.Labels.{Partial, Label, empty_label, empty_trees, full_trees, partial_trees, partials, labels_of}
 use Rattle.pq_plain.specs.Reduce.{holds, root_p, Tail, Span, all_empty, full_more, before_more, begins, tail_of, span_of, root_q, at_span, inner_or, put, behind_of, reduce, inner}
-use Rattle.pq_plain.proofs.Lines.{join_assoc, has_join_right}
 use Rattle.pq_plain.proofs.Below.{AreEmpty, AreFull, Treated}
-use Rattle.pq_plain.proofs.AtRoot.{Rooted, p2_kept}
-use Rattle.pq_plain.proofs.OnePartial.{p4_kept}
-use Rattle.pq_plain.proofs.TwoPartials.{p6_kept}
-use Rattle.pq_plain.proofs.QAtRoot.{q3_none, q3_left, q3_both, join_empty, join_full, part_empty, part_full}
-use Rattle.pq_plain.proofs.QSteps.{Refined, refined_left, rooted_from, run_closed, back-join}
+use Rattle.pq_plain.proofs.AtRoot.{Rooted}
 use Rattle.pq_plain.proofs.Context.{rooted_p, rooted_q}
-use Rattle.pq_plain.proofs.Labelled.{labelled_empty, labelled_full, labelled_partial, AreLabelled, none_labelled, more_labelled, ArePartial, no_partial, a_partial, rest, first_parted, second_parted, empty_trees_empty, full_trees_full, partial_trees_partial, parted_end, arities_left, arities_right, some_leaf_of, all_row, some_inj, and_then, cond_some, labels_right}
+use Rattle.pq_plain.proofs.Labelled.{labelled_empty, labelled_full, labelled_partial, AreLabelled, none_labelled, more_labelled, ArePartial, no_partial, a_partial, empty_trees_empty, full_trees_full, partial_trees_partial, some_inj, and_then, cond_some, labels_right, sorted}
+use Rattle.pq_plain.proofs.HaveColumns.{arities_full, some_leaf_of}
+use Rattle.pq_plain.proofs.Preserved.{full_rooted, l1_kept, p1_kept, p2_kept, p4_kept, p6_kept, q3_kept, none, one, rooted_tied}
 
--- the row is closed where it has all columns of the tree
-whole_row : (row : List ℕ) (t : Outline) → ((a : ℕ) → IsTrue (has (leaves t) a) → IsTrue (has row a)) → Rooted row t t
-whole_row row t all =
-    record {
-      same = λ a. refl;
-      up = λ R eq b. (b, λ x y d rx ry ld rd. absurd (both_ways (has row d) rd (all d ld)));
-      down = λ R eq b c. b;
-    }
-
-root_p_right : (row : List ℕ) (ts es rs fs us : Forest) (hs : List Partial) (x : Outline) → IsParted ts es rs → IsParted rs fs us → AreEmpty row es → AreFull row fs → ArePartial row us hs →
+-- P1, P2, P4 and P6
+root_p_right : (row : List ℕ) (ts es fs us : Forest) (hs : List Partial) (x : Outline) → IsSorted ts es fs us → AreEmpty row es → AreFull row fs → ArePartial row us hs →
     HaveArities ts → ((a : ℕ) → occurs (leaves_of ts) a ≤ 1) → ((a : ℕ) → IsTrue (has row a) → IsTrue (has (leaves_of ts) a)) → root_p hs es fs ts ≡ Some x → Rooted row (p_node ts) x
-root_p_right row ts no_tree rs fs us hs x f s ee ff no_partial c once within e =
-    subst (Rooted row (p_node ts)) (some_inj e) (whole_row row (p_node ts) (all_row row ts rs fs f s ff))
-root_p_right row ts (tree_and t es) rs no_tree us hs x f s ee ff no_partial c once within e = cc
-root_p_right row ts (tree_and t es) rs (tree_and g fs) us hs x f s ee ff no_partial c once within e =
-    subst (Rooted row (p_node ts)) (some_inj e) (p2_kept row ts (tree_and t es) fs g (subst (IsParted ts (tree_and t es)) (parted_end s) f) ee ff within)
-root_p_right row ts es rs no_tree us hs x f s ee ff (a_partial part no_partial) c once within e = cc
-root_p_right row ts es rs (tree_and g fs) us hs x f s ee ff (a_partial {t = u} {h = h} part no_partial) c once within e =
+root_p_right row ts no_tree fs us hs x s ee ff no_partial c once within e =
+    subst (Rooted row (p_node ts)) (some_inj e) (full_rooted row (p1 ts) (p1_kept row ts fs s ff))
+root_p_right row ts (tree_and t es) no_tree us hs x s ee ff no_partial c once within e = cc
+root_p_right row ts (tree_and t es) (tree_and g fs) us hs x s ee ff no_partial c once within e =
+    subst (Rooted row (p_node ts)) (some_inj e) (p2_kept row ts (tree_and t es) fs g s ee ff within)
+root_p_right row ts es no_tree us hs x s ee ff (a_partial part no_partial) c once within e = cc
+root_p_right row ts es (tree_and g fs) us hs x s ee ff (a_partial {t = u} {h = h} part no_partial) c once within e =
     subst (Rooted row (p_node ts)) (some_inj e)
-    (p4_kept row ts es rs (tree_and g fs) u h.e h.f f s ee ff part once within (some_leaf_of (tree_and g fs) (omega arith) (arities_left s (arities_right f c))))
-root_p_right row ts es rs fs us hs x f s ee ff (a_partial {t = u} {h = h} part (a_partial {t = w} {h = k} part2 no_partial)) c once within e =
-    subst (Rooted row (p_node ts)) (some_inj e) (p6_kept row ts es rs fs u w h.e h.f k.e k.f f s ee ff part part2 once within)
-root_p_right row ts es rs fs us hs x f s ee ff (a_partial part (a_partial part2 (a_partial part3 m))) c once within e = cc
+    (p4_kept row ts es (tree_and g fs) u h s ee ff part once within (some_leaf_of (tree_and g fs) (omega arith) (arities_full s c)))
+root_p_right row ts es fs us hs x s ee ff (a_partial {t = u} {h = h} part (a_partial {t = w} {h = k} part2 no_partial)) c once within e =
+    subst (Rooted row (p_node ts)) (some_inj e) (p6_kept row ts es fs u w h k s ee ff part part2 once within)
+root_p_right row ts es fs us hs x s ee ff (a_partial part (a_partial part2 (a_partial part3 m))) c once within e = cc
 
 -- what the parse of a Q-node tells
 pub data IsTail (row : List ℕ) : Forest → Tail → Type 1 where
@@ -161,21 +148,6 @@ arities_front : (xs ys : Forest) → HaveArities (join xs ys) → HaveArities xs
 arities_front no_tree ys h = tt
 arities_front (tree_and t ts) ys h = (h.0, arities_front ts ys h.1)
 
--- one partial child, behind full ones
-q3_right : (row : List ℕ) (es fs gs : Forest) (w : Outline) (e f : Forest) → Treated row w e f → AreEmpty row es → AreFull row fs → AreEmpty row gs → (s : ℕ) → IsTrue (has (leaves_of fs) s) →
-    ((a : ℕ) → IsTrue (has row a) → IsTrue (has (leaves_of (join es (join fs (tree_and w gs)))) a)) →
-    Rooted row (q_node (join es (join fs (tree_and w gs)))) (q_node (join es (join (join fs (back f)) (join (back e) gs))))
-q3_right row es fs gs w e f part ee ff gg s hs within =
-    let old : join (join es fs) (tree_and w gs) ≡ join es (join fs (tree_and w gs)) = join_assoc es fs (tree_and w gs) in
-    let new : join (join es fs) (join (back (join e f)) gs) ≡ join es (join (join fs (back f)) (join (back e) gs)) = simp (back-join, join_assoc) in
-    let step : Refined row (q_node (join es (join fs (tree_and w gs)))) (q_node (join es (join (join fs (back f)) (join (back e) gs)))) =
-    subst (λ y. Refined row (q_node y) (q_node (join es (join (join fs (back f)) (join (back e) gs))))) old
-    (subst (λ y. Refined row (q_node (join (join es fs) (tree_and w gs))) (q_node y)) new
-    (refined_left row (join es fs) gs w e f part s (has_join_right es fs s hs) (ff s hs))) in
-    rooted_from row (q_node (join es (join fs (tree_and w gs)))) (q_node (join es (join (join fs (back f)) (join (back e) gs)))) step
-    (run_closed row es (join fs (back f)) (join (back e) gs) ee (join_full row fs (back f) ff (part_full row f part.full)) (join_empty row (back e) gs (part_empty row e part.empty) gg)
-    (λ a h. has_same (leaves_of (join es (join (join fs (back f)) (join (back e) gs)))) (leaves_of (join es (join fs (tree_and w gs)))) a (step.same a) ∙ within a h))
-
 root_q_right : (row : List ℕ) (ts : Forest) (r : Span) → IsSpan row ts r → HaveArities ts → ((a : ℕ) → IsTrue (has row a) → IsTrue (has (leaves_of ts) a)) →
     (hs ks : List Partial) (fs : Forest) → r.left ≡ hs → r.tail.right ≡ ks → r.tail.middle ≡ fs → (x : Outline) → root_q hs ks fs r.before r.tail.behind ts ≡ Some x → Rooted row (q_node ts) x
 root_q_right row ts r m c within [] [] fs el er ef x e =
@@ -183,7 +155,7 @@ root_q_right row ts r m c within [] [] fs el er ef x e =
     let j : join r.before (join r.tail.middle r.tail.behind) ≡ ts = sym (w.is ∙ ap (join r.before) (tail_plain row w.later r.tail w.tail er)) in
     subst (Rooted row (q_node ts)) (some_inj e)
     (subst (λ y. Rooted row (q_node y) (q_node y)) j
-    (q3_none row r.before r.tail.middle r.tail.behind (span_before row ts r m) (tail_middle row w.later r.tail w.tail) (tail_behind row w.later r.tail w.tail)
+    (q3_kept row r.before no_tree r.tail.middle no_tree r.tail.behind None None none none (span_before row ts r m) (tail_middle row w.later r.tail w.tail) (tail_behind row w.later r.tail w.tail) tt
     (λ a h. subst (λ y. IsTrue (has (leaves_of y) a)) (sym j) (within a h))))
 root_q_right row ts r m c within (h ∷ hs) [] no_tree el er ef x e = cc
 root_q_right row ts r m c within (h ∷ hs) [] (tree_and f fs) el er ef x e =
@@ -194,8 +166,8 @@ root_q_right row ts r m c within (h ∷ hs) [] (tree_and f fs) el er ef x e =
     let cf : HaveArities (tree_and f fs) = arities_front (tree_and f fs) r.tail.behind ((arities_after r.before (tree_and w.u (join (tree_and f fs) r.tail.behind)) cj).1) in
     let s : (a : ℕ) × IsTrue (has (leaves_of (tree_and f fs)) a) = some_leaf_of (tree_and f fs) (omega arith) cf in
     subst (Rooted row (q_node ts)) (some_inj e)
-    (subst (λ y. Rooted row (q_node y) (q_node (join (join r.before h.e) (join (join h.f (tree_and f fs)) r.tail.behind)))) j
-    (q3_left row r.before (tree_and f fs) r.tail.behind w.u h.e h.f w.part (span_before row ts r m) (subst (AreFull row) ef (tail_middle row w.later r.tail w.tail)) (tail_behind row w.later r.tail w.tail) s.0 s.1
+    (subst (λ y. Rooted row (q_node y) (q_node (q3 r.before (Some h) (tree_and f fs) None r.tail.behind))) j
+    (q3_kept row r.before (tree_and w.u no_tree) (tree_and f fs) no_tree r.tail.behind (Some h) None (one h w.part) none (span_before row ts r m) (subst (AreFull row) ef (tail_middle row w.later r.tail w.tail)) (tail_behind row w.later r.tail w.tail) s
     (λ a h. subst (λ y. IsTrue (has (leaves_of y) a)) (sym j) (within a h))))
 root_q_right row ts r m c within [] (k ∷ ks) no_tree el er ef x e = cc
 root_q_right row ts r m c within [] (k ∷ ks) (tree_and f fs) el er ef x e =
@@ -207,8 +179,8 @@ root_q_right row ts r m c within [] (k ∷ ks) (tree_and f fs) el er ef x e =
     let cf : HaveArities (tree_and f fs) = arities_front (tree_and f fs) (tree_and v.w r.tail.behind) (arities_after r.before (join (tree_and f fs) (tree_and v.w r.tail.behind)) cj) in
     let s : (a : ℕ) × IsTrue (has (leaves_of (tree_and f fs)) a) = some_leaf_of (tree_and f fs) (omega arith) cf in
     subst (Rooted row (q_node ts)) (some_inj e)
-    (subst (λ y. Rooted row (q_node y) (q_node (join r.before (join (join (tree_and f fs) (back k.f)) (join (back k.e) r.tail.behind))))) j
-    (q3_right row r.before (tree_and f fs) r.tail.behind v.w k.e k.f v.part (span_before row ts r m) (subst (AreFull row) ef (tail_middle row w.later r.tail w.tail)) (tail_behind row w.later r.tail w.tail) s.0 s.1
+    (subst (λ y. Rooted row (q_node y) (q_node (q3 r.before None (tree_and f fs) (Some k) r.tail.behind))) j
+    (q3_kept row r.before no_tree (tree_and f fs) (tree_and v.w no_tree) r.tail.behind None (Some k) none (one k v.part) (span_before row ts r m) (subst (AreFull row) ef (tail_middle row w.later r.tail w.tail)) (tail_behind row w.later r.tail w.tail) s
     (λ a h. subst (λ y. IsTrue (has (leaves_of y) a)) (sym j) (within a h))))
 root_q_right row ts r m c within (h ∷ hs) (k ∷ ks) fs el er ef x e =
     let w : LeftPartial row ts r h = span_left row ts r h hs m el in
@@ -216,8 +188,8 @@ root_q_right row ts r m c within (h ∷ hs) (k ∷ ks) fs el er ef x e =
     let j : join r.before (tree_and w.u (join fs (tree_and v.w r.tail.behind))) ≡ ts =
     sym (w.is ∙ ap (λ y. join r.before (tree_and w.u y)) (v.is ∙ ap (λ y. join y (tree_and v.w r.tail.behind)) ef)) in
     subst (Rooted row (q_node ts)) (some_inj e)
-    (subst (λ y. Rooted row (q_node y) (q_node (join (join r.before h.e) (join (join h.f (join fs (back k.f))) (join (back k.e) r.tail.behind))))) j
-    (q3_both row r.before fs r.tail.behind w.u v.w h.e h.f k.e k.f w.part v.part (span_before row ts r m) (subst (AreFull row) ef (tail_middle row w.later r.tail w.tail)) (tail_behind row w.later r.tail w.tail)
+    (subst (λ y. Rooted row (q_node y) (q_node (q3 r.before (Some h) fs (Some k) r.tail.behind))) j
+    (q3_kept row r.before (tree_and w.u no_tree) fs (tree_and v.w no_tree) r.tail.behind (Some h) (Some k) (one h w.part) (one k v.part) (span_before row ts r m) (subst (AreFull row) ef (tail_middle row w.later r.tail w.tail)) (tail_behind row w.later r.tail w.tail) tt
     (λ a h. subst (λ y. IsTrue (has (leaves_of y) a)) (sym j) (within a h))))
 
 -- the child that holds the row
@@ -258,7 +230,7 @@ mutual
   reduce_rooted row (leaf b) x n once within c hc e =
       let same : b ≡ c = elim (has_cases b c [] (within c hc)) [ inl k ↦ k | inr k ↦ absurd (both_ways false refl k) ] in
       subst (Rooted row (leaf b)) (some_inj e)
-      (whole_row row (leaf b) (λ a h. elim (has_cases b a [] h) [ inl k ↦ subst (λ y. IsTrue (has row y)) (sym same ∙ k) hc | inr k ↦ absurd (both_ways false refl k) ]))
+      (full_rooted row (l1 b) (l1_kept row b (subst (λ y. IsTrue (has row y)) (sym same) hc)))
   reduce_rooted row (p_node ts) x n once within c hc e =
       elim (inner_cases (inner row ts) p_node (option_and_then (λ ps. root_p (partials ps) (empty_trees ts ps) (full_trees ts ps) ts) (labels_of row ts)) x e) [
         | inl k ↦
@@ -269,7 +241,7 @@ mutual
             let w : (ps : List Label) × (labels_of row ts ≡ Some ps) × (root_p (partials ps) (empty_trees ts ps) (full_trees ts ps) ts ≡ Some x) =
             and_then (λ ps. root_p (partials ps) (empty_trees ts ps) (full_trees ts ps) ts) (labels_of row ts) x k in
             let m : AreLabelled row ts w.0 = labels_right row ts w.0 n.1 once w.1 in
-            root_p_right row ts (empty_trees ts w.0) (rest ts w.0) (full_trees ts w.0) (partial_trees ts w.0) (partials w.0) x (first_parted row ts w.0 m) (second_parted row ts w.0 m)
+            root_p_right row ts (empty_trees ts w.0) (full_trees ts w.0) (partial_trees ts w.0) (partials w.0) x (sorted row ts w.0 m)
             (empty_trees_empty row ts w.0 m) (full_trees_full row ts w.0 m) (partial_trees_partial row ts w.0 m) n.1 once within w.2
       ]
   reduce_rooted row (q_node ts) x n once within c hc e =
@@ -317,7 +289,7 @@ pub reduce_tied : (c : ℕ) (rows : List (List ℕ)) (row : List ℕ) (t x : Out
     ((a : ℕ) → IsTrue (has row a) → IsTrue (has (leaves t) a)) → (d : ℕ) → IsTrue (has row d) → reduce row t ≡ Some x → IsTied c (rows ++ row ∷ []) x
 reduce_tied c rows row t x n whole tied within d hd e =
     let r : Rooted row t x = reduce_rooted row t x n (order_once c (leaves t) whole) within d hd e in
-    tied_more c rows row t x whole tied within r.same r.down r.up
+    rooted_tied c rows row t x whole tied within r
 
 pub reduce_order : (c : ℕ) (row : List ℕ) (t x : Outline) → HasArities t → IsOrder c (leaves t) → ((a : ℕ) → IsTrue (has row a) → IsTrue (has (leaves t) a)) → (d : ℕ) → IsTrue (has row d) →
     reduce row t ≡ Some x → IsOrder c (leaves x)

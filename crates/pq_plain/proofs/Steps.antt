@@ -1,11 +1,11 @@
 -- One reduction, with any row over the columns.
-use Rattle.std.proofs.Common.{◌≡◌, ◌∙◌, ℕ, ◌≤◌, false, true, List, [], ◌∷◌, ◌++◌, Some, None, IsTrue, refl, sym, ap, subst, inl, inr, arith, leb, ◌&&◌}
-use Rattle.std.proofs.lemmas.Bool.{both_ways, and_from, le-leb, cond-true}
-use Rattle.column_order.specs.Orders.{has, occurs, IsOrder, IsWithin, HasValidOrder}
+use Rattle.std.proofs.Common.{◌≡◌, ◌∙◌, ℕ, false, List, [], ◌∷◌, ◌++◌, Some, None, IsTrue, refl, sym, subst}
+use Rattle.std.proofs.lemmas.Bool.{both_ways}
+use Rattle.column_order.specs.Orders.{has, IsWithin, HasValidOrder}
 use Rattle.row_model.specs.Graph.{HasConflict}
-use Rattle.column_order.proofs.Lists.{has_head, has_from_occurs}
+use Rattle.column_order.proofs.Lists.{has_head}
 use Rattle.row_model.proofs.Walks.{conflict_none}
-use Rattle.pq_tree.specs.Outline.{Outline, Forest, leaf, p_node, q_node, no_tree, tree_and, leaves}
+use Rattle.pq_tree.specs.Outline.{Outline, leaf, p_node, q_node, no_tree, tree_and, leaves}
 use Rattle.pq_tree.specs.Proper.{IsProper}
 use Rattle.tied_law.specs.Tied.{IsTied}
 use Rattle.tied_law.proofs.Bridge.{tied_more}

@@ -3,7 +3,7 @@ pub use Rattle.pq_plain.specs.Templates.{Partial}
 use Rattle.std.specs.Prelude.{ℕ, Bool, true, false, if◌then◌else◌, List, [], ◌∷◌, Option, Some, None, option_and_then, reverse}
 use Rattle.column_order.specs.Orders.{has}
 use Rattle.pq_tree.specs.Outline.{Outline, Forest, leaf, p_node, q_node, no_tree, tree_and}
-use Rattle.pq_plain.specs.Templates.{join, back, p3, p5, q2}
+use Rattle.pq_plain.specs.Templates.{back, p3, p5, q2}
 
 -- the label of a tree: it is empty, it is full, or the templates make it this partial
 pub data Label : Type 0 where

@@ -38,13 +38,8 @@ abbrev pub under : Forest → Outline → Outline
 under no_tree x = x
 under (tree_and e es) x = p_node (tree_and x (tree_and e es))
 
--- the first list is an interleaving of the two others
-pub data IsParted : Forest → Forest → Forest → Type 0 where
-  none_parted : IsParted no_tree no_tree no_tree
-  to_left : {t : Outline} {ts us vs : Forest} → IsParted ts us vs → IsParted (tree_and t ts) (tree_and t us) vs
-  to_right : {t : Outline} {ts us vs : Forest} → IsParted ts us vs → IsParted (tree_and t ts) us (tree_and t vs)
-
--- the first list is an interleaving of the three others: the children of a P-node, and the empty, the full and the partial ones
+-- The children of a P-node, in whatever order they stand: the empty, the full and the partial ones among them.
+-- The first list is an interleaving of the three others.
 pub data IsSorted : Forest → Forest → Forest → Forest → Type 0 where
   none_sorted : IsSorted no_tree no_tree no_tree no_tree
   to_empty : {t : Outline} {ts es fs us : Forest} → IsSorted ts es fs us → IsSorted (tree_and t ts) (tree_and t es) fs us
