@@ -1,7 +1,7 @@
 -- A valid order exists exactly where the graph has no closed walk of odd length.
-use Rattle.std.proofs.Common.{◌≡◌, ◌⊎◌, ◌↔◌, ◌∙◌, ℕ, zero, suc, ◌≤◌, false, List, [], ◌∷◌, ◌++◌, take, Option, Some, None, IsTrue, All, refl, sym, subst, inl, inr, arith, append_assoc, append-nil}
+use Rattle.std.proofs.Common.{◌≡◌, ◌⊎◌, ◌↔◌, ℕ, zero, suc, ◌≤◌, false, List, [], ◌∷◌, ◌++◌, take, Option, Some, None, IsTrue, All, refl, sym, subst, inl, inr, arith, append_assoc, append-nil}
 use Rattle.std.proofs.lemmas.Bool.{both_ways}
-use Rattle.std.proofs.lemmas.List.Elements.{All-from_recursion, recursion_from_All, All-take}
+use Rattle.std.proofs.lemmas.List.Elements.{recursion_from_All, All-take}
 use Rattle.std.specs.List.{AllByRecursion}
 use Rattle.column_order.specs.Orders.{has, HasValidOrder, IsWithin}
 use Rattle.column_order.proofs.Lists.{has_cases}

@@ -1,18 +1,18 @@
 -- One reduction, with any row over the columns.
-use Rattle.std.proofs.Common.{◌≡◌, ◌∙◌, ℕ, ◌≤◌, false, true, List, [], ◌∷◌, ◌++◌, Some, None, IsTrue, refl, sym, ap, subst, inl, inr, arith, leb, ◌&&◌}
-use Rattle.std.proofs.lemmas.Bool.{both_ways, and_from, le-leb, cond-true}
-use Rattle.column_order.specs.Orders.{has, occurs, IsOrder, IsWithin, HasValidOrder}
+use Rattle.std.proofs.Common.{◌≡◌, ◌∙◌, ℕ, false, List, [], ◌∷◌, ◌++◌, Some, None, IsTrue, refl, sym, subst}
+use Rattle.std.proofs.lemmas.Bool.{both_ways}
+use Rattle.column_order.specs.Orders.{has, IsWithin, HasValidOrder}
 use Rattle.row_model.specs.Graph.{HasConflict}
-use Rattle.column_order.proofs.Lists.{has_head, has_from_occurs}
+use Rattle.column_order.proofs.Lists.{has_head}
 use Rattle.row_model.proofs.Walks.{conflict_none}
-use Rattle.pq_tree.specs.Outline.{Outline, Forest, leaf, p_node, q_node, no_tree, tree_and, leaves}
+use Rattle.pq_tree.specs.Outline.{Outline, leaf, p_node, q_node, no_tree, tree_and, leaves}
 use Rattle.pq_tree.specs.Proper.{IsProper}
 use Rattle.tied_law.specs.Tied.{IsTied}
 use Rattle.tied_law.proofs.Bridge.{tied_more}
 use Rattle.row_model.proofs.Sides.{order_has}
 use Rattle.pq_plain.specs.Reduce.{reduce}
-use Rattle.pq_plain.proofs.Made.{some_inj}
-use Rattle.pq_plain.proofs.Counts.{reduce_counts}
+use Rattle.pq_plain.proofs.Labelled.{some_inj}
+use Rattle.pq_plain.proofs.Arities.{reduce_arities}
 use Rattle.pq_plain.proofs.NoOrder.{refused_pair}
 use Rattle.pq_plain.proofs.Reduced.{reduce_order, reduce_tied}
 
@@ -39,7 +39,7 @@ taken c rows [] t u w k within e =
     subst (λ x. IsProper c x × IsTied c (rows ++ [] ∷ []) x) same (w, empty_tied c rows t w k)
 taken c rows (d ∷ row) t u w k within e =
     let inside : (a : ℕ) → IsTrue (has (d ∷ row) a) → IsTrue (has (leaves t) a) = row_in c (d ∷ row) t w within in (
-      (reduce_counts (d ∷ row) t u w.0 e, reduce_order c (d ∷ row) t u w.0 w.1 inside d (has_head d row) e),
+      (reduce_arities (d ∷ row) t u w.0 e, reduce_order c (d ∷ row) t u w.0 w.1 inside d (has_head d row) e),
       reduce_tied c rows (d ∷ row) t u w.0 w.1 k inside d (has_head d row) e,
     )
 

@@ -7,10 +7,10 @@ use Rattle.tied_law.proofs.Bound.{IsClosed, IsBound}
 use Rattle.tied_law.proofs.Frontiers.{has_same}
 use Rattle.pq_plain.specs.Templates.{join, back}
 use Rattle.pq_plain.proofs.Lines.{join_assoc, has_join_cases, has_join_left, has_join_right}
-use Rattle.pq_plain.proofs.Treat.{AreEmpty, AreFull, Treated}
-use Rattle.pq_plain.proofs.Root.{Rooted}
-use Rattle.pq_plain.proofs.Queue.{back_has}
-use Rattle.pq_plain.proofs.QTemplates.{Refined, refined-refl, refined-trans, rooted_from, refined_right, refined_left, run_closed, back-join}
+use Rattle.pq_plain.proofs.Below.{AreEmpty, AreFull, Treated}
+use Rattle.pq_plain.proofs.AtRoot.{Rooted}
+use Rattle.pq_plain.proofs.QLines.{back_has}
+use Rattle.pq_plain.proofs.QSteps.{Refined, refined-refl, refined-trans, rooted_from, refined_right, refined_left, run_closed, back-join}
 
 pub refined_rooted : (row : List ℕ) (t u w : Outline) → Refined row t u → Rooted row u w → Rooted row t w
 refined_rooted row t u w g h =
@@ -55,6 +55,21 @@ q3_left row es fs gs u e f part ee ff gg s hs within =
     rooted_from row (q_node (join es (tree_and u (join fs gs)))) (q_node (join (join es e) (join (join f fs) gs))) step'
     (run_closed row (join es e) (join f fs) gs (join_empty row es e ee part.empty) (join_full row f fs part.full ff) gg
     (λ a h. has_same (leaves_of (join (join es e) (join (join f fs) gs))) (leaves_of (join es (tree_and u (join fs gs)))) a (step'.same a) ∙ within a h))
+
+-- one partial child, behind full ones
+pub q3_right : (row : List ℕ) (es fs gs : Forest) (w : Outline) (e f : Forest) → Treated row w e f → AreEmpty row es → AreFull row fs → AreEmpty row gs → (s : ℕ) → IsTrue (has (leaves_of fs) s) →
+    ((a : ℕ) → IsTrue (has row a) → IsTrue (has (leaves_of (join es (join fs (tree_and w gs)))) a)) →
+    Rooted row (q_node (join es (join fs (tree_and w gs)))) (q_node (join es (join (join fs (back f)) (join (back e) gs))))
+q3_right row es fs gs w e f part ee ff gg s hs within =
+    let old : join (join es fs) (tree_and w gs) ≡ join es (join fs (tree_and w gs)) = join_assoc es fs (tree_and w gs) in
+    let new : join (join es fs) (join (back (join e f)) gs) ≡ join es (join (join fs (back f)) (join (back e) gs)) = simp (back-join, join_assoc) in
+    let step : Refined row (q_node (join es (join fs (tree_and w gs)))) (q_node (join es (join (join fs (back f)) (join (back e) gs)))) =
+    subst (λ y. Refined row (q_node y) (q_node (join es (join (join fs (back f)) (join (back e) gs))))) old
+    (subst (λ y. Refined row (q_node (join (join es fs) (tree_and w gs))) (q_node y)) new
+    (refined_left row (join es fs) gs w e f part s (has_join_right es fs s hs) (ff s hs))) in
+    rooted_from row (q_node (join es (join fs (tree_and w gs)))) (q_node (join es (join (join fs (back f)) (join (back e) gs)))) step
+    (run_closed row es (join fs (back f)) (join (back e) gs) ee (join_full row fs (back f) ff (part_full row f part.full)) (join_empty row (back e) gs (part_empty row e part.empty) gg)
+    (λ a h. has_same (leaves_of (join es (join (join fs (back f)) (join (back e) gs)))) (leaves_of (join es (join fs (tree_and w gs)))) a (step.same a) ∙ within a h))
 
 -- a partial child at each end of the full ones
 pub q3_both : (row : List ℕ) (es fs gs : Forest) (u w : Outline) (e f e2 f2 : Forest) → Treated row u e f → Treated row w e2 f2 → AreEmpty row es → AreFull row fs → AreEmpty row gs →

@@ -8,15 +8,22 @@ use Rattle.column_order.proofs.Lists.{occurs-append, occurs_from_has, has_from_o
 use Rattle.pq_tree.specs.Outline.{Outline, Forest, p_node, leaves, leaves_of}
 use Rattle.tied_law.specs.Tied.{IsForward}
 use Rattle.tied_law.proofs.Bound.{IsClosed, IsInLine, IsBound, AreBound, IsPairEq, closed_through}
-use Rattle.pq_plain.specs.Templates.{join, star, IsParted}
-use Rattle.pq_plain.proofs.Lines.{join_assoc, leaves_of-join, leaves_of-star, has_join_left, has_join_right, to_star, from_star, forward_cases, forward_right, forward_across, star_forward, bound_join, bound_left, bound_right, star_bound, star_closed, star_each, closed_within, parted_closed, closed_left, closed_right, parted_bound, parted_bound_left, parted_bound_right, parted_occurs, has_parted_cases}
+use Rattle.pq_plain.specs.Templates.{join, star}
+use Rattle.pq_plain.proofs.Lines.{IsParted, join_assoc, leaves_of-join, leaves_of-star, has_join_left, has_join_right, to_star, from_star, forward_cases, forward_right, forward_across, star_forward, bound_join, bound_left, bound_right, star_bound, star_closed, star_each, closed_within, parted_closed, closed_left, closed_right, parted_bound, parted_bound_left, parted_bound_right, parted_occurs, has_parted_cases}
 
 -- s is a column of the row outside x, towards which x and the row are closed
 pub record IsOutside (R : Pair → Pair → Type 0) (row x : List ℕ) (s : ℕ) : Type 0 where
   pub closed : (a b : ℕ) → IsTrue (has x a) → IsTrue (has x b) → R (pair a s) (pair b s)
   pub rowed : (e f : ℕ) → IsTrue (has x e) → IsFalse (has row e) → IsTrue (has x f) → IsTrue (has row f) → R (pair f e) (pair s e)
 
--- no column of the trees is in the row; each is
+-- no column of the tree is in the row; each is
+abbrev pub IsEmpty : List ℕ → Outline → Type 0
+IsEmpty row t = (a : ℕ) → IsTrue (has (leaves t) a) → IsFalse (has row a)
+
+abbrev pub IsFull : List ℕ → Outline → Type 0
+IsFull row t = (a : ℕ) → IsTrue (has (leaves t) a) → IsTrue (has row a)
+
+-- so for each of the trees
 abbrev pub AreEmpty : List ℕ → Forest → Type 0
 AreEmpty row ts = (a : ℕ) → IsTrue (has (leaves_of ts) a) → IsFalse (has row a)
 
@@ -124,8 +131,8 @@ module _ (row : List ℕ) (ts es fs : Forest) (parted : IsParted ts es fs) (empt
       (star_bound R es (closed_within R (leaves_of ts) (leaves_of es) es in_ts_left (closed_left R (leaves_of ts) parted b.0)) (parted_bound_left R parted b.1))
       (star_bound R fs (closed_within R (leaves_of ts) (leaves_of fs) fs in_ts_right (closed_right R (leaves_of ts) parted b.0)) (parted_bound_right R parted b.1))
 
-  pub p3 : Treated row (p_node ts) (star es) (star fs)
-  p3 =
+  pub p3_parted : Treated row (p_node ts) (star es) (star fs)
+  p3_parted =
       record {
         same = λ a. ap (λ l. occurs l a) (leaves_of-join (star es) (star fs)) ∙
             occurs-append (leaves_of (star es)) (leaves_of (star fs)) a ∙

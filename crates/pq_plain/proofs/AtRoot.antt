@@ -7,9 +7,9 @@ use Rattle.column_order.proofs.Lists.{has_append_cases, has_append_left, has_app
 use Rattle.pq_tree.specs.Outline.{Outline, Forest, p_node, no_tree, tree_and, leaves, leaves_of}
 use Rattle.tied_law.proofs.Bound.{IsClosed, AreClosed, IsBound, AreBound, IsPairEq, closed_through}
 use Rattle.tied_law.proofs.Frontiers.{has_same}
-use Rattle.pq_plain.specs.Templates.{gather, under, IsParted}
-use Rattle.pq_plain.proofs.Lines.{closed_within, parted_closed, closed_left, closed_right, parted_bound, parted_bound_left, parted_bound_right, parted_occurs, has_parted_cases}
-use Rattle.pq_plain.proofs.Treat.{AreEmpty, AreFull, closed_alike}
+use Rattle.pq_plain.specs.Templates.{gather, under}
+use Rattle.pq_plain.proofs.Lines.{IsParted, closed_within, parted_closed, closed_left, closed_right, parted_bound, parted_bound_left, parted_bound_right, parted_occurs, has_parted_cases}
+use Rattle.pq_plain.proofs.Below.{AreEmpty, AreFull, closed_alike}
 
 pub record Rooted (row : List ℕ) (t u : Outline) : Type 1 where
   pub same : (a : ℕ) → occurs (leaves u) a ≡ occurs (leaves t) a
@@ -74,8 +74,8 @@ module _ (row : List ℕ) (ts es fs : Forest) (f : Outline) (parted : IsParted t
   row_fs : (a : ℕ) → IsTrue (has row a) → IsTrue (has (leaves_of (tree_and f fs)) a)
   row_fs a h = elim (has_parted_cases parted a (within a h)) [ inl k ↦ absurd (both_ways (has row a) (empty a k) h) | inr k ↦ k ]
 
-  pub p2 : Rooted row (p_node ts) (under es (gather f fs))
-  p2 =
+  pub p2_parted : Rooted row (p_node ts) (under es (gather f fs))
+  p2_parted =
       record {
         same = λ a. omega (arith, under_occurs es (gather f fs) a, gather_occurs f fs a, parted_occurs parted a);
         up = λ R eq b.

@@ -11,16 +11,16 @@ use Rattle.tied_law.proofs.Bound.{IsClosed, IsBound, AreBound, IsPairEq}
 use Rattle.tied_law.proofs.Frontiers.{has_same}
 use Rattle.pq_plain.specs.Templates.{join, back}
 use Rattle.pq_plain.proofs.Lines.{join_assoc, has_join_cases, has_join_left, has_join_right, forward_across, bound_join, bound_left, bound_right}
-use Rattle.pq_plain.proofs.Treat.{IsOutside, AreEmpty, AreFull, Treated, towards, middle_closed, outside_within}
-use Rattle.pq_plain.proofs.Root.{Rooted}
+use Rattle.pq_plain.proofs.Below.{IsOutside, AreEmpty, AreFull, Treated, towards, middle_closed, outside_within}
+use Rattle.pq_plain.proofs.AtRoot.{Rooted}
 use Rattle.pq_plain.proofs.Context.{the_bound}
-use Rattle.pq_plain.proofs.Queue.{back_occurs, back_has, parts_occur, from_parts, parts_up, parts_down, turned_bound, unturned_bound}
+use Rattle.pq_plain.proofs.QLines.{back_occurs, back_has, parts_occur, from_parts, parts_up, parts_down, turned_bound, unturned_bound}
 
 -- Q2 below the root without a partial child: [E F]
 module _ (row : List ℕ) (es fs : Forest) (empty : AreEmpty row es) (full : AreFull row fs)
     (some_e : (a : ℕ) × IsTrue (has (leaves_of es) a)) (some_f : (a : ℕ) × IsTrue (has (leaves_of fs) a)) where
-  pub q2_plain : Treated row (q_node (join es fs)) es fs
-  q2_plain =
+  pub q2_none : Treated row (q_node (join es fs)) es fs
+  q2_none =
       record {
         same = λ a. refl;
         empty = empty;
@@ -67,8 +67,8 @@ module _ (row : List ℕ) (es fs : Forest) (u : Outline) (e f : Forest) (part : 
       bound_join R es (join (join e f) fs) (bound_left R es (tree_and u fs) b.1)
       (bound_join R (join e f) fs (part.down_each R eq s (outside_within R row (leaves_of (join es (tree_and u fs))) (leaves u) s u_in o) (the_bound R u es fs b.1)) (bound_right R es (tree_and u fs) b.1).1)
 
-  pub q2_partial : Treated row (q_node (join es (tree_and u fs))) (join es e) (join f fs)
-  q2_partial =
+  pub q2_one : Treated row (q_node (join es (tree_and u fs))) (join es e) (join f fs)
+  q2_one =
       record {
         same = λ a. ap (λ ws. occurs (leaves_of ws) a) q2_group ∙ parts_occur row es fs u e f part a;
         empty = λ a h. elim (has_join_cases es e a h) [ inl k ↦ empty a k | inr k ↦ part.empty a k ];

@@ -9,11 +9,11 @@ use Rattle.pq_tree.specs.Outline.{Outline, Forest, p_node, q_node, no_tree, tree
 use Rattle.tied_law.specs.Tied.{IsForward}
 use Rattle.tied_law.proofs.Bound.{IsClosed, AreClosed, IsInLine, IsBound, AreBound, IsPairEq, closed_through}
 use Rattle.tied_law.proofs.Frontiers.{has_same}
-use Rattle.pq_plain.specs.Templates.{join, star, IsParted}
-use Rattle.pq_plain.proofs.Lines.{join_assoc, leaves_of-join, leaves_of-star, has_join_cases, has_join_left, has_join_right, to_star, from_star, forward_cases, forward_left, forward_right, star_forward, bound_join, bound_left, bound_right, star_bound, star_closed, star_each, closed_within, parted_closed, closed_left, closed_right, parted_bound, parted_bound_left, parted_bound_right, parted_occurs, has_parted_cases}
+use Rattle.pq_plain.specs.Templates.{join, star}
+use Rattle.pq_plain.proofs.Lines.{IsParted, join_assoc, leaves_of-join, leaves_of-star, has_join_cases, has_join_left, has_join_right, to_star, from_star, forward_cases, forward_left, forward_right, star_forward, bound_join, bound_left, bound_right, star_bound, star_closed, star_each, closed_within, parted_closed, closed_left, closed_right, parted_bound, parted_bound_left, parted_bound_right, parted_occurs, has_parted_cases}
 use Rattle.pq_plain.specs.Templates.{under}
-use Rattle.pq_plain.proofs.Treat.{IsOutside, AreEmpty, AreFull, Treated, towards, first_closed, last_closed, middle_closed, end_closed, closed_alike, outside_within}
-use Rattle.pq_plain.proofs.Root.{Rooted, under_occurs, set_through, under_up, under_down}
+use Rattle.pq_plain.proofs.Below.{IsOutside, AreEmpty, AreFull, Treated, towards, first_closed, last_closed, middle_closed, end_closed, closed_alike, outside_within}
+use Rattle.pq_plain.proofs.AtRoot.{Rooted, under_occurs, set_through, under_up, under_down}
 
 -- P with empty and full children and the partial u: [P*(E) e f P*(F)]
 module _ (row : List ℕ) (ts es rest fs : Forest) (u : Outline) (e f : Forest) (first : IsParted ts es rest) (second : IsParted rest fs (tree_and u no_tree))
@@ -155,8 +155,8 @@ module _ (row : List ℕ) (ts es rest fs : Forest) (u : Outline) (e f : Forest) 
       rw (leaves_of-join (star es) (join (join e f) (star fs)), leaves_of-join (join e f) (star fs), leaves_of-star es, leaves_of-star fs)
       (omega (arith, all_occur a, part.same a, occurs-append (leaves_of es) (leaves_of (join e f) ++ leaves_of fs) a, occurs-append (leaves_of (join e f)) (leaves_of fs) a))
 
-  pub p5 : Treated row (p_node ts) (join (star es) e) (join f (star fs))
-  p5 =
+  pub p5_parted : Treated row (p_node ts) (join (star es) e) (join f (star fs))
+  p5_parted =
       record {
         same = λ a. rw regroup (p5_same a);
         empty = λ a h. elim (has_join_cases (star es) e a h) [ inl k ↦ empty a (from_star es a k) | inr k ↦ part.empty a k ];
@@ -293,8 +293,8 @@ module _ (row : List ℕ) (ts es rest fs : Forest) (u : Outline) (e f : Forest) 
           cx : IsClosed R (leaves_of ts) (leaves_of (join (join e f) (star fs)))
           cx a g d xa xg td xd = eq.join (pair a d) (pair part.some_full.0 d) (pair g d) (hub a d xa td xd) (eq.turn (pair g d) (pair part.some_full.0 d) (hub g d xg td xd))
 
-    pub p4 : Rooted row (p_node ts) (under es (q_node (join (join e f) (star fs))))
-    p4 =
+    pub p4_parted : Rooted row (p_node ts) (under es (q_node (join (join e f) (star fs))))
+    p4_parted =
         record {
           same = λ a.
               rw (under_occurs es (q_node (join (join e f) (star fs))), leaves_of-join (join e f) (star fs), leaves_of-star fs)

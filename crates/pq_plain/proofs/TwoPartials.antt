@@ -9,13 +9,13 @@ use Rattle.pq_tree.specs.Outline.{Outline, Forest, p_node, q_node, no_tree, tree
 use Rattle.tied_law.specs.Tied.{IsForward}
 use Rattle.tied_law.proofs.Bound.{IsClosed, AreClosed, IsBound, AreBound, IsPairEq, closed_through, line_closed}
 use Rattle.tied_law.proofs.Frontiers.{has_same}
-use Rattle.pq_plain.specs.Templates.{join, star, back, under, IsParted}
-use Rattle.pq_plain.proofs.Lines.{leaves_of-join, leaves_of-star, has_join_cases, has_join_left, has_join_right, to_star, from_star, forward_cases, star_forward, bound_join, bound_left, bound_right, star_bound, star_closed, star_each, closed_within, parted_closed, closed_left, closed_right, parted_bound, parted_bound_left, parted_bound_right, parted_occurs, has_parted_cases}
-use Rattle.pq_plain.proofs.Treat.{AreEmpty, AreFull, Treated, middle_closed, end_closed}
-use Rattle.pq_plain.proofs.Root.{Rooted, set_through, under_occurs, under_up, under_down}
+use Rattle.pq_plain.specs.Templates.{join, star, back, under}
+use Rattle.pq_plain.proofs.Lines.{IsParted, leaves_of-join, leaves_of-star, has_join_cases, has_join_left, has_join_right, to_star, from_star, forward_cases, star_forward, bound_join, bound_left, bound_right, star_bound, star_closed, star_each, closed_within, parted_closed, closed_left, closed_right, parted_bound, parted_bound_left, parted_bound_right, parted_occurs, has_parted_cases}
+use Rattle.pq_plain.proofs.Below.{AreEmpty, AreFull, Treated, middle_closed, end_closed}
+use Rattle.pq_plain.proofs.AtRoot.{Rooted, set_through, under_occurs, under_up, under_down}
 use Rattle.pq_plain.proofs.Context.{rooted_p}
-use Rattle.pq_plain.proofs.QTemplates.{Refined}
-use Rattle.pq_plain.proofs.RootQ.{refined_rooted, q3_both}
+use Rattle.pq_plain.proofs.QSteps.{Refined}
+use Rattle.pq_plain.proofs.QAtRoot.{refined_rooted, q3_both}
 
 pub rooted_under : (row : List ℕ) (es : Forest) (x y : Outline) → Rooted row x y → ((a : ℕ) → IsTrue (has row a) → IsTrue (has (leaves x) a)) → Rooted row (under es x) (under es y)
 rooted_under row no_tree x y r within = r
@@ -229,9 +229,9 @@ module _ (row : List ℕ) (ts es rs fs : Forest) (u w : Outline) (e f e2 f2 : Fo
         down = λ R eq b c. pack_down R eq b c;
       }
 
-  pub p6 : ((a : ℕ) → IsTrue (has row a) → IsTrue (has (leaves_of ts) a)) →
+  pub p6_parted : ((a : ℕ) → IsTrue (has row a) → IsTrue (has (leaves_of ts) a)) →
       Rooted row (p_node ts) (under es (q_node (join e (join (join f (join (star fs) (back f2))) (join (back e2) no_tree)))))
-  p6 within =
+  p6_parted within =
       let inside : (a : ℕ) → IsTrue (has row a) → IsTrue (has (leaves_of (tree_and u (join (star fs) (tree_and w no_tree)))) a) =
       λ a h. elim (ts_cases a (within a h)) [ inl k ↦ k | inr k ↦ absurd (both_ways (has row a) (ee a k) h) ] in
       refined_rooted row (p_node ts) (under es (q_node (tree_and u (join (star fs) (tree_and w no_tree))))) (under es (q_node (join e (join (join f (join (star fs) (back f2))) (join (back e2) no_tree))))) pack
