@@ -2,3 +2,4 @@ pub mod Sides
 pub mod Walks
 pub mod PieceLemmas
 pub mod FirstRows
+pub mod Members
