@@ -2,11 +2,13 @@
 #![tactic(auto)]
 
 mod graph;
+mod lines;
 mod matrix;
 mod pieces;
 mod refusal;
 
-pub use graph::{Pair, Why};
+pub use graph::{Line, Pair, Why, joined_by};
+pub use lines::Lines;
 pub use matrix::Matrix;
 pub use refusal::{Read, Refusal};
 pub use std::alloc::AllocError as NoMemory;
