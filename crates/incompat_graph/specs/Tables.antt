@@ -1,10 +1,10 @@
 -- How the tables keep what contracts see of them.
-use Rattle.std.specs.Prelude.{◌≡◌, ℕ, ◌*◌, length, slice_index}
+use Rattle.std.specs.Prelude.{◌≡◌, ℕ, ◌*◌, length}
 use Rattle.incompat_graph.specs.declared.numbers.PairNumbers.TheInside.{Inside}
-use Rattle.incompat_graph.specs.Numbers.{Numbering, place_of}
+use Rattle.incompat_graph.specs.Numbers.{Numbering}
 
 abbrev pub numbering_within : Inside → Numbering
-numbering_within t = record { columns = t.columns; number = λ v. slice_index t.numbers.items (place_of t.columns v) }
+numbering_within t = record { columns = t.columns; entries = t.numbers.items }
 
 -- there is a place for each pair
 abbrev pub HasEachPair : Inside → Type 0

@@ -1,9 +1,9 @@
 // Odd cycles, and the odd cycle that a closed walk of odd length contains.
-ghost use Rattle.std.specs.Prelude.{◌≡◌, ◌<◌, [], ◌∷◌, ◌++◌, take, IfOk, OnOk};
+ghost use Rattle.std.specs.Prelude.{◌≡◌, ◌<◌, [], ◌∷◌, ◌++◌, take, length, IfOk, OnOk, ◌≤◌};
 ghost use Rattle.row_model.specs.declared.graph.Pair.{Pair};
 ghost use Rattle.row_model.specs.Graph.{IsPair};
 ghost use Rattle.row_model.specs.Cycles.{IsSimpleOdd, IsClosedWalk, IsOddCycle, pair_of};
-ghost use Rattle.incompat_graph.specs.Numbers.{IsIndexed};
+ghost use Rattle.incompat_graph.specs.Numbers.{IsIndexed, number_of};
 
 use crate::numbers::PairNumbers;
 use crate::walk::Walk;
@@ -73,7 +73,7 @@ fn extend(
 ) -> Result<(), AllocError>
     requires indexed { IsIndexed pair_of numbers.old path.old.items }
     requires pair { IsPair numbers.old.columns line.pair }
-    requires fresh { numbers.old.number line.pair ≡ 0 }
+    requires fresh { number_of numbers.old line.pair ≡ 0 }
     ensures { OnOk result (IsIndexed pair_of numbers.new path.new.items
         × (numbers.new.columns ≡ numbers.old.columns) × (path.new.items ≡ path.old.items ++ line ∷ [])) }
 {
@@ -82,17 +82,17 @@ fn extend(
     Ok(())
 }
 
-// Takes back the lines of the path after the first so many.
+// Keeps the first so many lines of the path, and takes the numbers of the others back.
 fn cut(numbers: &mut PairNumbers, path: &mut Vec<Line>, keep: usize)
-    requires { IsIndexed pair_of numbers.old path.old.items }
+    requires indexed { IsIndexed pair_of numbers.old path.old.items }
+    requires within { keep ≤ length path.old.items }
     ensures indexed { IsIndexed pair_of numbers.new path.new.items }
     ensures columns { numbers.new.columns ≡ numbers.old.columns }
     ensures path { path.new.items ≡ take keep path.old.items }
-    ensures cut { (v : Pair) → IsPair numbers.old.columns v → keep < numbers.old.number v → numbers.new.number v ≡ 0 }
+    ensures cut { (v : Pair) → IsPair numbers.old.columns v → keep < number_of numbers.old v → number_of numbers.new v ≡ 0 }
 {
-    while path.len() > keep {
-        if let Some(line) = path.pop() {
-            numbers.set(line.pair, 0);
-        }
+    for line in &path[keep..] {
+        numbers.set(line.pair, 0);
     }
+    path.truncate(keep);
 }

@@ -2,7 +2,7 @@
 ghost use Rattle.std.specs.Prelude.{◌≡◌, IfOk};
 ghost use Rattle.row_model.specs.declared.graph.Pair.{Pair};
 ghost use Rattle.row_model.specs.Graph.{IsPair};
-ghost use Rattle.incompat_graph.specs.Numbers.{Renumbers, place_of};
+ghost use Rattle.incompat_graph.specs.Numbers.{Renumbers, number_of, place_of};
 
 use row_model::Pair;
 use std::alloc::{AllocError, Global};
@@ -28,9 +28,10 @@ impl Model for PairNumbers {
 }
 
 impl PairNumbers {
+    #[tactic(auto, unfolding(crate::specs::Numbers::number_of))]
     /// The table with 0 for each pair.
     pub fn new(alloc: Global, columns: u32) -> Result<Self, AllocError>
-        ensures { IfOk result (λ t. (t.columns ≡ columns) × ((v : Pair) → t.number v ≡ 0)) }
+        ensures { IfOk result (λ t. (t.columns ≡ columns) × ((v : Pair) → number_of t v ≡ 0)) }
     {
         let size = columns as usize * columns as usize;
         Ok(PairNumbers {
@@ -39,14 +40,16 @@ impl PairNumbers {
         })
     }
 
+    #[tactic(auto, unfolding(crate::specs::Numbers::number_of))]
     /// The number of a pair.
     pub fn get(&self, v: Pair) -> usize
         requires { IsPair self.now.columns v }
-        ensures { result ≡ self.now.number v }
+        ensures { result ≡ number_of self.now v }
     {
         self.numbers[cell(self.columns, v)]
     }
 
+    #[tactic(auto, unfolding(crate::specs::Numbers::number_of))]
     /// Gives a pair another number.
     pub fn set(&mut self, v: Pair, number: usize)
         requires { IsPair self.old.columns v }
