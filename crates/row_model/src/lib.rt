@@ -1,6 +1,10 @@
-//! Matrices as lists of rows, and the incompatibility graph of their columns.
+//! Matrices of zeros and ones as lists of rows, the incompatibility graph of their columns, and what a reader of files answers.
+//!
+//! A matrix has columns 1 to c and rows from 1 on; each row is the set of the columns at which it has a one (Booth and Lueker, 1976).
 #![tactic(auto)]
 
+/// The codes of refusals.
+pub mod code;
 mod graph;
 mod lines;
 mod matrix;
@@ -18,3 +22,6 @@ pub const MAX_COLUMNS: u32 = 1_024;
 
 /// The greatest number of rows of an instance.
 pub const MAX_ROWS: u32 = 65_536;
+
+/// The greatest number of bytes of an instance's file.
+pub const MAX_FILE_BYTES: u64 = 16_777_216;
