@@ -3,3 +3,4 @@ pub mod Cycles
 pub mod Rows
 pub mod Pieces
 pub mod Bounds
+pub mod Laws
