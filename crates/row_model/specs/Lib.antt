@@ -1,4 +1,5 @@
 pub mod Graph
+pub mod Cycles
 pub mod Rows
 pub mod Pieces
 pub mod Bounds

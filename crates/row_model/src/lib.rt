@@ -7,12 +7,14 @@
 pub mod code;
 mod graph;
 mod laws;
+mod lines;
 mod matrix;
 mod pieces;
 mod refusal;
 
-pub use graph::{Pair, Why};
+pub use graph::{Line, Pair, Why, joined_by};
 pub use laws::walk_laws;
+pub use lines::Lines;
 pub use matrix::Matrix;
 pub use refusal::{Read, Refusal};
 pub use std::alloc::AllocError as NoMemory;
