@@ -1,0 +1,37 @@
+-- What the answer on a matrix says, and where it leaves the reducer.
+use Rattle.std.specs.Prelude.{◌≡◌, ◌-◌, ◌≤◌, ◌↔◌, ⊥, ℕ, List, length, take}
+use Rattle.column_order.specs.Orders.{IsValidOrder, HasValidOrder}
+use Rattle.row_model.specs.Rows.{RowList}
+use Rattle.row_model.specs.Cycles.{IsOddCycle}
+use Rattle.pq_tree.specs.Outline.{Outline, IsFrontier}
+use Rattle.pq_tree.specs.Proper.{outline_of}
+use Rattle.pq_tree.specs.Canonical.{IsCanonical}
+use Rattle.pq_tree.specs.declared.PqTree.{PqTree}
+use Rattle.tied_law.specs.Tied.{IsTied}
+use Rattle.c1p_solve.specs.declared.solver.Solved.{Solved}
+use Rattle.c1p_solve.specs.declared.solver.Solved.TheVariants.{Yes, No}
+
+-- the tree is canonical, and its frontiers are exactly the valid orders of the matrix
+pub record HasAllOrders (m : RowList) (t : PqTree) : Type 0 where
+  pub columns : t.columns ≡ m.columns
+  pub canonical : IsCanonical (outline_of t.tree)
+  pub orders : (o : List ℕ) → IsFrontier (outline_of t.tree) o ↔ IsValidOrder m.columns m.rows o
+
+-- yes with the tree of all valid orders, or no with an odd cycle, where there is no valid order
+abbrev pub IsAnswer : RowList → Solved → Type 0
+IsAnswer m (Yes t) = HasAllOrders m t × HasValidOrder m.columns m.rows
+IsAnswer m (No cycle) = IsOddCycle m.columns m.rows cycle × (HasValidOrder m.columns m.rows → ⊥)
+
+-- the tree is tied to the rows before the first row k for which the rows 1 to k have no valid order
+pub record StandsBefore (m : RowList) (t : Outline) : Type 0 where
+  pub k : ℕ
+  pub from : 1 ≤ k
+  pub to : k ≤ length m.rows
+  pub tied : IsTied m.columns (take (k - 1) m.rows) t
+  pub before : HasValidOrder m.columns (take (k - 1) m.rows)
+  pub refused : HasValidOrder m.columns (take k m.rows) → ⊥
+
+-- where an answer leaves the reducer's tree
+abbrev pub LeavesTree : RowList → Outline → Solved → Type 0
+LeavesTree m t (Yes _) = IsTied m.columns m.rows t
+LeavesTree m t (No _) = StandsBefore m t

@@ -1,0 +1,8 @@
+//! The consecutive-ones problem, solved: all valid orders of the columns of a matrix, as one tree, or an odd cycle of its
+//! incompatibility graph where there is none.
+#![tactic(auto)]
+
+mod solver;
+
+pub use row_model::NoMemory;
+pub use solver::{Solved, solve};

@@ -1,0 +1,77 @@
+// Rows reduced in turn, and the odd cycle after a refusal.
+ghost use Rattle.std.specs.Prelude.{◌≡◌, ◌-◌, ◌≤◌, ⊥, IfOk, length, take};
+ghost use Rattle.row_model.specs.Graph.{HasConflict};
+ghost use Rattle.row_model.specs.Cycles.{IsOddCycle};
+ghost use Rattle.pq_tree.specs.Proper.{universal};
+ghost use Rattle.c1p_solve.specs.Answers.{IsAnswer, LeavesTree, IsTaken};
+
+use incompat_graph::{Cycle, odd_walk, simple_cycle};
+use pq_plain::{Reducer, Step};
+use pq_tree::PqTree;
+use row_model::{Matrix, NoMemory};
+use std::alloc::Global;
+use step_count::{Ledger, Steps};
+
+/// The answer on a matrix.
+#[derive(Drop)]
+pub enum Solved {
+    /// There is a valid order. The tree is canonical, and its frontiers are exactly the valid orders.
+    Yes(PqTree),
+    /// There is none, as this odd cycle of the incompatibility graph shows.
+    No(Cycle),
+}
+
+/// Solves a matrix by a reducer whose tree is still universal over its columns.
+///
+/// After `Yes` the reducer's tree is tied to all rows of the matrix. After `No` it is tied to the rows before the first one
+/// up to which the rows have no valid order.
+///
+/// # Errors
+///
+/// `NoMemory`, and then nothing is said of the reducer's tree.
+pub fn solve<R: Reducer, L: Ledger>(
+    alloc: Global,
+    reducer: &mut R,
+    m: &Matrix,
+    steps: &mut Steps<L>,
+) -> Result<Solved, NoMemory>
+    requires columns { R.columns reducer.old ≡ m.now.columns }
+    requires universal { R.outline reducer.old ≡ universal m.now.columns }
+    ensures answer { IfOk result (IsAnswer m.now) }
+    ensures reducer { IfOk result (LeavesTree m.now (R.outline reducer.new)) }
+{
+    for taken in 0..m.rows() {
+        match reducer.reduce(m, taken + 1, steps) {
+            Err(error) => return Err(error),
+            Ok(Step::Taken) => {}
+            Ok(Step::Refused) => {
+                return match conflict(alloc, m, taken + 1, steps) {
+                    Err(error) => Err(error),
+                    Ok(cycle) => Ok(Solved::No(cycle)),
+                };
+            }
+        }
+    }
+    match reducer.tree(alloc) {
+        Err(error) => Err(error),
+        Ok(tree) => Ok(Solved::Yes(tree)),
+    }
+}
+
+/// An odd cycle of a matrix of which the first `rows` rows have no valid order.
+fn conflict<L: Ledger>(
+    alloc: Global,
+    m: &Matrix,
+    rows: u32,
+    steps: &mut Steps<L>,
+) -> Result<Cycle, NoMemory>
+    requires within { rows ≤ length m.now.rows }
+    requires conflict { HasConflict m.now.columns (take rows m.now.rows) }
+    ensures { IfOk result (IsOddCycle m.now.columns m.now.rows) }
+{
+    match odd_walk(alloc, m, rows, steps) {
+        Err(error) => Err(error),
+        Ok(Some(walk)) => simple_cycle(alloc, m, &walk),
+        Ok(None) => unreachable!(),
+    }
+}
