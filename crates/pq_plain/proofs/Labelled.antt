@@ -1,11 +1,11 @@
 -- The label that `label_of` gives a tree is the one that the templates give, and it is right.
-use Rattle.std.proofs.Common.{◌≡◌, ◌⊎◌, ◌∙◌, ◌≤◌, ℕ, Bool, true, false, cond, List, [], ◌∷◌, ◌++◌, reverse, length, Option, Some, None, IsTrue, IsFalse, refl, sym, ap, subst, inl, inr, arith, option_and_then}
+use Rattle.std.proofs.Common.{◌≡◌, ◌⊎◌, ◌↔◌, ◌∙◌, ◌≤◌, ℕ, Bool, true, false, cond, List, [], ◌∷◌, ◌++◌, reverse, length, Option, Some, None, IsTrue, IsFalse, refl, sym, ap, subst, inl, inr, arith, option_and_then}
 use Rattle.std.proofs.lemmas.Bool.{both_ways, cases_Bool}
 use Rattle.column_order.specs.Orders.{has, occurs}
 use Rattle.column_order.proofs.Lists.{has_cases, occurs-append}
 use Rattle.pq_tree.specs.Outline.{Outline, Forest, leaf, p_node, q_node, no_tree, tree_and, leaves, leaves_of}
 use Rattle.pq_tree.specs.Proper.{HasArities, HaveArities, count}
-use Rattle.pq_plain.specs.Templates.{Partial, Label, empty_label, full_label, partial_label, back, IsSorted, none_sorted, to_empty, to_full, to_partial, AreAllFull, AreAllEmpty, IsRun, run_full, run_partial, run_more, p3, p5, q2}
+use Rattle.pq_plain.specs.Templates.{Partial, Label, empty_label, full_label, partial_label, back, IsL1, IsSorted, none_sorted, to_empty, to_full, to_partial, AreAllFull, AreAllEmpty, IsRun, run_full, run_partial, run_more, p3, p5, q2}
 use Rattle.pq_plain.specs.Chosen.{IsLabelOfP, p_empty, by_p1, by_p3, by_p5, IsLabelOfQ, q_empty, by_q1, by_q2}
 use Rattle.pq_plain.specs.Labels.{empty_trees, full_trees, partials, at_p, at_q, at_run, Run, run_of, all_full, one_more, label_of, labels_of, first_some}
 use Rattle.pq_plain.proofs.Meaning.{IsLabelled, labelled_empty, labelled_full, labelled_partial, AreLabelled, none_labelled, more_labelled}
@@ -154,6 +154,13 @@ leaf_right row a x e =
           let f : empty_label ≡ x = some_inj (ap (λ b. Some (cond b full_label empty_label)) (sym k) ∙ e) in
           subst (IsLabelled row (leaf a)) f (labelled_empty (λ d h. elim (has_cases a d [] h) [ inl w ↦ subst (λ y. IsFalse (has row y)) w k | inr w ↦ absurd (both_ways false refl w) ]))
     ]
+
+pub label_of_leaf : (row : List ℕ) (a : ℕ) → label_of row (leaf a) ≡ Some full_label ↔ IsL1 row a
+label_of_leaf row a = (λ e. in_row (has row a) (some_inj e), λ h. ap (λ b. Some (cond b full_label empty_label)) h)
+  where
+    in_row : (b : Bool) → cond b full_label empty_label ≡ full_label → IsTrue b
+    in_row true e = refl
+    in_row false e = cc
 
 mutual
   -- The label that `label_of` gives is right for the tree.

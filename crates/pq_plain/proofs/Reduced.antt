@@ -78,6 +78,22 @@ root_q_is [] (k ∷ ks) (tree_and f fs) es gs ts ps u s e =
 root_q_is (h ∷ hs) (k ∷ ks) fs es gs ts ps u s e =
     record { es = es; h = Some h; fs = fs; k = Some k; gs = gs; pattern = s; becomes = sym (some_inj e) }
 
+pub root_of_p : (row : List ℕ) (ts : Forest) (ps : List Label) (u : Outline) → inner row ts ≡ None → labels_of row ts ≡ Some ps → reduce row (p_node ts) ≡ Some u → IsRootOfP ts ps u
+root_of_p row ts ps u n l e =
+    let f : option_and_then (λ qs. root_p (partials qs) (empty_trees ts qs) (full_trees ts qs) ts) (labels_of row ts) ≡ Some u =
+    subst (λ o. inner_or o p_node (option_and_then (λ qs. root_p (partials qs) (empty_trees ts qs) (full_trees ts qs) ts) (labels_of row ts)) ≡ Some u) n e in
+    let k : root_p (partials ps) (empty_trees ts ps) (full_trees ts ps) ts ≡ Some u =
+    subst (λ o. option_and_then (λ qs. root_p (partials qs) (empty_trees ts qs) (full_trees ts qs) ts) o ≡ Some u) l f in
+    root_p_is ts (empty_trees ts ps) (full_trees ts ps) ps (partials ps) u (labels_sorted row ts ps l) k
+
+pub root_of_q : (row : List ℕ) (ts : Forest) (ps : List Label) (u : Outline) → inner row ts ≡ None → labels_of row ts ≡ Some ps → reduce row (q_node ts) ≡ Some u → IsQ3 ts ps u
+root_of_q row ts ps u n l e =
+    let f : option_and_then (λ qs. option_and_then (at_span ts) (span_of ts qs)) (labels_of row ts) ≡ Some u =
+    subst (λ o. inner_or o q_node (option_and_then (λ qs. option_and_then (at_span ts) (span_of ts qs)) (labels_of row ts)) ≡ Some u) n e in
+    let k : option_and_then (at_span ts) (span_of ts ps) ≡ Some u = subst (λ o. option_and_then (λ qs. option_and_then (at_span ts) (span_of ts qs)) o ≡ Some u) l f in
+    let v : (r : Span) × (span_of ts ps ≡ Some r) × (at_span ts r ≡ Some u) = and_then (at_span ts) (span_of ts ps) u k in
+    root_q_is v.0.left v.0.tail.right v.0.tail.middle v.0.before v.0.tail.behind ts ps u (span_is ts ps v.0 (labels_sorted row ts ps l) v.1) v.2
+
 -- what the templates make of the root
 root_p_right : (row : List ℕ) (ts : Forest) (ps : List Label) (u : Outline) → AreLabelled row ts ps → ((a : ℕ) → occurs (leaves_of ts) a ≤ 1) → IsRoot row ts → IsRootOfP ts ps u → Rooted row (p_node ts) u
 root_p_right row ts ps u m once root (root_p1 s) = full_rooted row (p1 ts) (p1_kept row ts ps m s)

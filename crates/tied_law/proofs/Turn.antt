@@ -31,7 +31,7 @@ all_turned_closed R l (tree_and t ts) [] h k = absurd h
 all_turned_closed R l (tree_and t ts) (u ∷ us) h k =
     ((λ a b d i j m n. k.0 a b d (sym (turned_has t u a h.0) ∙ i) (sym (turned_has t u b h.0) ∙ j) m (sym (turned_has t u d h.0) ∙ n)), all_turned_closed R l ts us h.1 k.1)
 
-turned_forward : (ts : Forest) (us : List Outline) → AreEquivalent ts us → (v : Pair) → IsForward (forest us) v → IsForward ts v
+pub turned_forward : (ts : Forest) (us : List Outline) → AreEquivalent ts us → (v : Pair) → IsForward (forest us) v → IsForward ts v
 turned_forward no_tree [] h v k = k
 turned_forward no_tree (u ∷ us) h v k = absurd h
 turned_forward (tree_and t ts) [] h v k = absurd h
@@ -48,7 +48,7 @@ all_unturned_closed R l (tree_and t ts) [] h k = absurd h
 all_unturned_closed R l (tree_and t ts) (u ∷ us) h k =
     ((λ a b d i j m n. k.0 a b d (turned_has t u a h.0 ∙ i) (turned_has t u b h.0 ∙ j) m (turned_has t u d h.0 ∙ n)), all_unturned_closed R l ts us h.1 k.1)
 
-unturned_forward : (ts : Forest) (us : List Outline) → AreEquivalent ts us → (v : Pair) → IsForward ts v → IsForward (forest us) v
+pub unturned_forward : (ts : Forest) (us : List Outline) → AreEquivalent ts us → (v : Pair) → IsForward ts v → IsForward (forest us) v
 unturned_forward no_tree us h v k = absurd k
 unturned_forward (tree_and t ts) [] h v k = absurd h
 unturned_forward (tree_and t ts) (u ∷ us) h v k =
