@@ -1,4 +1,4 @@
--- Where `treat` or `reduce` gives nothing, some pair is related to itself turned round.
+-- Where no template fits at a node below the root, some pair is related to itself with its columns exchanged.
 use Rattle.std.proofs.Common.{◌≡◌, ◌≢◌, ◌⊎◌, ◌∙◌, ◌+◌, ◌≤◌, ℕ, Bool, true, false, cond, List, [], ◌∷◌, ◌++◌, reverse, Option, Some, None, IsTrue, IsFalse, refl, sym, subst, inl, inr, arith, option_and_then}
 use Rattle.std.proofs.lemmas.Bool.{both_ways, false_from_ne_true}
 use Rattle.row_model.specs.declared.graph.Pair.{Pair}
@@ -20,7 +20,7 @@ use Rattle.pq_plain.proofs.Labelled.{labels_right, labels_sorted}
 use Rattle.pq_plain.proofs.HaveColumns.{some_leaf, arities_back}
 use Rattle.pq_plain.proofs.Meaning.{labelled_empty, labelled_full, labelled_partial, AreLabelled, none_labelled, more_labelled, ArePartial, no_partial, a_partial, labelled_back, parts}
 
--- a pair of distinct columns that is related to itself turned
+-- a pair of distinct columns that is related to itself with its columns exchanged
 pub record Crossed (R : Pair → Pair → Type 0) : Type 0 where
   pub a : ℕ
   pub b : ℕ

@@ -1,4 +1,4 @@
--- The label that `label_of` gives a tree is the one that the templates give, and it is right.
+-- The label that `label_of` gives a tree is the one that the templates give, and it is right for the tree.
 use Rattle.std.proofs.Common.{◌≡◌, ◌⊎◌, ◌↔◌, ◌∙◌, ◌≤◌, ℕ, Bool, true, false, cond, List, [], ◌∷◌, ◌++◌, reverse, length, Option, Some, None, IsTrue, IsFalse, refl, sym, ap, subst, inl, inr, arith, option_and_then}
 use Rattle.std.proofs.lemmas.Bool.{both_ways, cases_Bool}
 use Rattle.column_order.specs.Orders.{has, occurs}

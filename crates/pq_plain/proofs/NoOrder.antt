@@ -1,4 +1,4 @@
--- Where `reduce` gives nothing, some pair is related to itself turned round, so no order is left.
+-- Where no template fits, some pair is related to itself with its columns exchanged, so no order is left.
 use Rattle.std.proofs.Common.{◌≡◌, ◌⊎◌, ◌∙◌, ◌+◌, ◌≤◌, ℕ, true, false, cond, List, [], ◌∷◌, ◌++◌, Option, Some, None, IsTrue, IsFalse, refl, sym, ap, subst, inl, inr, arith, option_and_then}
 use Rattle.std.proofs.lemmas.Bool.{both_ways, cases_Bool}
 use Rattle.row_model.specs.declared.graph.Pair.{Pair}
@@ -224,7 +224,7 @@ module _ (R : Pair → Pair → Type 0) (eq : IsPairEq R) (row : List ℕ) where
   root_q_failed (h ∷ hs) (k ∷ ks) fs es gs ts m root e = cc
 
   mutual
-    -- No template fits at some node: a pair is related to itself turned round.
+    -- Where no template fits at some node, a pair is related to itself with its columns exchanged.
     pub reduce_failed : (t : Outline) → IsBound R t → IsClosed R (leaves t) row → HasArities t → ((a : ℕ) → occurs (leaves t) a ≤ 1) → ((a : ℕ) → IsTrue (has row a) → IsTrue (has (leaves t) a)) →
         (c : ℕ) → IsTrue (has row c) → reduce row t ≡ None → Crossed R
     reduce_failed (leaf a) b cr n once within c hc e = cc

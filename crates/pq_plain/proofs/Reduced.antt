@@ -1,4 +1,4 @@
--- What `reduce` gives is tied to one row more.
+-- What `reduce` gives is what the templates give, and it is tied to one row more.
 use Rattle.std.proofs.Common.{◌≡◌, ◌⊎◌, ◌∙◌, ◌≤◌, ℕ, true, false, cond, List, [], ◌∷◌, ◌++◌, Option, Some, None, IsTrue, IsFalse, refl, sym, ap, subst, inl, inr, arith, option_and_then}
 use Rattle.std.proofs.lemmas.Bool.{both_ways, cases_Bool, and_parts, and_cases}
 use Rattle.std.specs.List.{list_all}
