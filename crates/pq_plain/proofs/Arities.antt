@@ -1,4 +1,4 @@
--- `reduce` keeps the counts: two children at P, three at Q.
+-- A reduced tree has two children or more at each P-node, and three or more at each Q-node.
 use Rattle.std.proofs.Common.{◌≡◌, ◌∙◌, ◌+◌, ◌≤◌, ℕ, Bool, true, false, cond, List, [], ◌∷◌, ◌++◌, reverse, Some, refl, sym, ap, subst, inl, inr, arith, option_and_then}
 use Rattle.std.proofs.lemmas.Bool.{cases_Bool}
 use Rattle.std.proofs.lemmas.List.{reverse-append}
@@ -8,7 +8,8 @@ use Rattle.pq_tree.specs.Proper.{HasArities, HaveArities, count}
 use Rattle.pq_plain.specs.Templates.{join, star, back, under, gather}
 use Rattle.pq_plain.specs.Labels.{Partial, Label, empty_label, full_label, partial_label, empty_trees, full_trees, partials, at_p, at_q, at_run, Run, run_of, all_full, one_more, label_of, labels_of, first_some}
 use Rattle.pq_plain.specs.Reduce.{holds, root_p, Tail, Span, all_empty, full_more, before_more, begins, tail_of, span_of, root_q, at_span, put, behind_of, reduce, inner}
-use Rattle.pq_plain.proofs.Labelled.{some_inj, and_then, cond_some, arities_back, count_back, first_cases}
+use Rattle.pq_plain.proofs.HaveColumns.{arities_back, count_back}
+use Rattle.pq_plain.proofs.Labelled.{some_inj, and_then, cond_some, first_cases}
 use Rattle.pq_plain.proofs.Reduced.{inner_cases, behind_cases, put_cases}
 
 abbrev pub IsGood : Partial → Type 0
@@ -266,7 +267,7 @@ mutual
         | inl k ↦ let w : HaveArities k.0 × (count k.0 ≡ count ts) = inner_arities row ts k.0 c.1 k.1 in subst HasArities k.2 (omega (arith, c.0, w.1), w.0)
         | inr k ↦
             let w : (ps : List Label) × (labels_of row ts ≡ Some ps) × (root_p (partials ps) (empty_trees ts ps) (full_trees ts ps) ts ≡ Some x) =
-            and_then (λ ps. root_p (partials ps) (empty_trees ts ps) (full_trees ts ps) ts) (labels_of row ts) x k in
+            and_then (λ ps. root_p (partials ps) (empty_trees ts ps) (full_trees ts ps) ts) (labels_of row ts) x k.1 in
             root_p_good (partials w.0) (empty_trees ts w.0) (full_trees ts w.0) ts x (partials_good w.0 (labels_arities row ts w.0 c.1 w.1)) (empty_trees_arities ts w.0 c.1) (full_trees_arities ts w.0 c.1) c w.2
       ]
   reduce_arities row (q_node ts) x c e =
@@ -274,7 +275,7 @@ mutual
         | inl k ↦ let w : HaveArities k.0 × (count k.0 ≡ count ts) = inner_arities row ts k.0 c.1 k.1 in subst HasArities k.2 (omega (arith, c.0, w.1), w.0)
         | inr k ↦
             let w : (ps : List Label) × (labels_of row ts ≡ Some ps) × (option_and_then (at_span ts) (span_of ts ps) ≡ Some x) =
-            and_then (λ ps. option_and_then (at_span ts) (span_of ts ps)) (labels_of row ts) x k in
+            and_then (λ ps. option_and_then (at_span ts) (span_of ts ps)) (labels_of row ts) x k.1 in
             let v : (r : Span) × (span_of ts w.0 ≡ Some r) × (at_span ts r ≡ Some x) = and_then (at_span ts) (span_of ts w.0) x w.2 in
             let s : GoodSpan v.0 = span_good ts w.0 v.0 c.1 (labels_arities row ts w.0 c.1 w.1) v.1 in
             root_q_good v.0.left v.0.tail.right v.0.tail.middle v.0.before v.0.tail.behind ts x s.1 s.2.1 s.2.0 s.0 s.2.2 c v.2

@@ -11,7 +11,8 @@ use Rattle.tied_law.proofs.Bound.{IsClosed, IsInLine, IsBound, AreBound, IsPairE
 use Rattle.pq_plain.specs.Templates.{join, star}
 use Rattle.pq_plain.proofs.Lines.{IsParted, join_assoc, leaves_of-join, leaves_of-star, has_join_left, has_join_right, to_star, from_star, forward_cases, forward_right, forward_across, star_forward, bound_join, bound_left, bound_right, star_bound, star_closed, star_each, closed_within, parted_closed, closed_left, closed_right, parted_bound, parted_bound_left, parted_bound_right, parted_occurs, has_parted_cases}
 
--- s is a column of the row outside x, towards which x and the row are closed
+-- For a column s of the row outside x: any two columns of x are related pairs with s, and s stands to an empty column of x
+-- as a full one does.
 pub record IsOutside (R : Pair → Pair → Type 0) (row x : List ℕ) (s : ℕ) : Type 0 where
   pub closed : (a b : ℕ) → IsTrue (has x a) → IsTrue (has x b) → R (pair a s) (pair b s)
   pub rowed : (e f : ℕ) → IsTrue (has x e) → IsFalse (has row e) → IsTrue (has x f) → IsTrue (has row f) → R (pair f e) (pair s e)
@@ -30,7 +31,10 @@ AreEmpty row ts = (a : ℕ) → IsTrue (has (leaves_of ts) a) → IsFalse (has r
 abbrev pub AreFull : List ℕ → Forest → Type 0
 AreFull row ts = (a : ℕ) → IsTrue (has (leaves_of ts) a) → IsTrue (has row a)
 
--- the node t may be replaced by the partial [es fs]
+-- The partial [es fs] may stand in the place of the node t, which isn't the root: it has the same columns, empty ones in es
+-- and full ones in fs, and some of each. For every equivalence R of pairs, t is bound where the partial stands in line and
+-- is bound; and where t is bound and s is a column of the row outside t, each pair that goes forward in the partial is
+-- related to the pair of any column of t with s, and each tree of the partial is bound.
 pub record Treated (row : List ℕ) (t : Outline) (es fs : Forest) : Type 1 where
   pub same : (a : ℕ) → occurs (leaves_of (join es fs)) a ≡ occurs (leaves t) a
   pub empty : AreEmpty row es
@@ -42,7 +46,7 @@ pub record Treated (row : List ℕ) (t : Outline) (es fs : Forest) : Type 1 wher
       (v : Pair) → IsForward (join es fs) v → (a : ℕ) → IsTrue (has (leaves t) a) → R v (pair a s)
   pub down_each : (R : Pair → Pair → Type 0) → IsPairEq R → (s : ℕ) → IsOutside R row (leaves t) s → IsBound R t → AreBound R (join es fs)
 
--- the one fact that carries the templates below the root
+-- an empty column with a full one is related to any column of the node with s
 pub towards : (R : Pair → Pair → Type 0) → IsPairEq R → (row x : List ℕ) (s : ℕ) → IsOutside R row x s → (e f a : ℕ) →
     IsTrue (has x e) → IsFalse (has row e) → IsTrue (has x f) → IsTrue (has row f) → IsTrue (has x a) → R (pair e f) (pair a s)
 towards R eq row x s o e f a xe re xf rf xa =

@@ -1,4 +1,4 @@
--- The four ways in which no template fits: each relates a pair to the pair turned.
+-- The four ways in which no template fits: each relates a pair to itself with its columns exchanged.
 use Rattle.std.proofs.Common.{ℕ, List, IsTrue, IsFalse}
 use Rattle.row_model.specs.declared.graph.Pair.{Pair}
 use Rattle.column_order.specs.Orders.{has}

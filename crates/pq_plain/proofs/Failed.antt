@@ -1,4 +1,4 @@
--- Where `treat` or `reduce` gives nothing, some pair is related to itself turned round.
+-- Where no template fits at a node below the root, some pair is related to itself with its columns exchanged.
 use Rattle.std.proofs.Common.{◌≡◌, ◌≢◌, ◌⊎◌, ◌∙◌, ◌+◌, ◌≤◌, ℕ, Bool, true, false, cond, List, [], ◌∷◌, ◌++◌, reverse, Option, Some, None, IsTrue, IsFalse, refl, sym, subst, inl, inr, arith, option_and_then}
 use Rattle.std.proofs.lemmas.Bool.{both_ways, false_from_ne_true}
 use Rattle.row_model.specs.declared.graph.Pair.{Pair}
@@ -10,16 +10,17 @@ use Rattle.pq_tree.specs.Proper.{HasArities, HaveArities}
 use Rattle.tied_law.specs.Tied.{IsForward}
 use Rattle.tied_law.proofs.Bound.{IsClosed, AreClosed, IsBound, AreBound, IsPairEq}
 use Rattle.tied_law.proofs.Frontiers.{has_same}
-use Rattle.pq_plain.specs.Templates.{join, back, IsSorted}
-use Rattle.pq_plain.specs.Labels.{Partial, Label, empty_trees, full_trees, partial_trees, partials, at_p, at_q, at_run, Run, run_of, all_full, one_more, label_of, labels_of, first_some}
-use Rattle.pq_plain.proofs.Lines.{has_join_left, has_join_right, sorted_occurs, closed_partial}
+use Rattle.pq_plain.specs.Templates.{join, back}
+use Rattle.pq_plain.specs.Labels.{Partial, Label, empty_trees, full_trees, partials, at_p, at_q, at_run, Run, run_of, all_full, one_more, label_of, labels_of, first_some}
+use Rattle.pq_plain.proofs.Lines.{has_join_left, has_join_right, parted_occurs, closed_right}
 use Rattle.pq_plain.proofs.Below.{IsOutside, Treated, outside_within}
 use Rattle.pq_plain.proofs.QLines.{forward_back}
 use Rattle.pq_plain.proofs.Conflicts.{two_partial, both_ends}
-use Rattle.pq_plain.proofs.Labelled.{labelled_empty, labelled_full, labelled_partial, AreLabelled, none_labelled, more_labelled, ArePartial, no_partial, a_partial, sorted, partial_trees_partial, labels_right, labelled_back, arities_back}
-use Rattle.pq_plain.proofs.HaveColumns.{some_leaf}
+use Rattle.pq_plain.proofs.Labelled.{labels_right, labels_sorted}
+use Rattle.pq_plain.proofs.HaveColumns.{some_leaf, arities_back}
+use Rattle.pq_plain.proofs.Meaning.{labelled_empty, labelled_full, labelled_partial, AreLabelled, none_labelled, more_labelled, ArePartial, no_partial, a_partial, labelled_back, parts}
 
--- a pair of distinct columns that is related to itself turned
+-- a pair of distinct columns that is related to itself with its columns exchanged
 pub record Crossed (R : Pair → Pair → Type 0) : Type 0 where
   pub a : ℕ
   pub b : ℕ
@@ -157,11 +158,11 @@ module _ (R : Pair → Pair → Type 0) (eq : IsPairEq R) (row : List ℕ) where
           | inl k ↦ labels_failed ts (all_outside (leaves_of ts) s rs ls o cr ts (λ a h. h)) b.1 n.1 once k
           | inr k ↦
               let m : AreLabelled row ts k.0 = labels_right row ts k.0 n.1 once k.1 in
-              let g : IsSorted ts (empty_trees ts k.0) (full_trees ts k.0) (partial_trees ts k.0) = sorted row ts k.0 m in
-              two_partials ts (partial_trees ts k.0) (partials k.0) (empty_trees ts k.0) (full_trees ts k.0) s (partial_trees_partial row ts k.0 m)
-              (closed_partial R (leaves_of ts) g b.0)
-              (λ a l. has_from_occurs (leaves_of ts) a (omega (arith, sorted_occurs g a, occurs_from_has (leaves_of (partial_trees ts k.0)) a l)))
-              (λ a. omega (arith, once a, sorted_occurs g a)) cr o k.2
+              let g = parts row (labels_sorted row ts k.0 k.1) m in
+              two_partials ts g.us (partials k.0) (empty_trees ts k.0) (full_trees ts k.0) s g.partial
+              (closed_right R (leaves_of ts) g.second (closed_right R (leaves_of ts) g.first b.0))
+              (λ a l. has_from_occurs (leaves_of ts) a (omega (arith, parted_occurs g.first a, parted_occurs g.second a, occurs_from_has (leaves_of g.us) a l)))
+              (λ a. omega (arith, once a, parted_occurs g.first a, parted_occurs g.second a)) cr o k.2
         ]
     label_failed (q_node ts) s rs ls o cr b n once e =
         elim (and_then_none (λ ps. first_some (option_and_then at_run (run_of ts ps)) (option_and_then at_run (run_of (back ts) (reverse ps)))) (labels_of row ts) e) [

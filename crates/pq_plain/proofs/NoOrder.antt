@@ -1,11 +1,10 @@
--- Where `reduce` gives nothing, some pair is related to itself turned round, so no order is left.
+-- Where no template fits, some pair is related to itself with its columns exchanged, so no order is left.
 use Rattle.std.proofs.Common.{◌≡◌, ◌⊎◌, ◌∙◌, ◌+◌, ◌≤◌, ℕ, true, false, cond, List, [], ◌∷◌, ◌++◌, Option, Some, None, IsTrue, IsFalse, refl, sym, ap, subst, inl, inr, arith, option_and_then}
-use Rattle.std.proofs.lemmas.Bool.{both_ways, cases_Bool, and_cases}
-use Rattle.std.specs.List.{list_all}
+use Rattle.std.proofs.lemmas.Bool.{both_ways, cases_Bool}
 use Rattle.row_model.specs.declared.graph.Pair.{Pair}
 use Rattle.column_order.specs.Orders.{has, occurs, IsOrder}
 use Rattle.row_model.specs.Graph.{pair, Joined, Evenly, HasConflict}
-use Rattle.column_order.proofs.Lists.{has_head, has_tail, has_append_cases, has_append_left, has_append_right, occurs-append, occurs_from_has, has_from_occurs, lacks_from_occurs}
+use Rattle.column_order.proofs.Lists.{has_append_cases, has_append_left, has_append_right, occurs-append, occurs_from_has, has_from_occurs, lacks_from_occurs}
 use Rattle.pq_tree.specs.Outline.{Outline, Forest, leaf, p_node, q_node, no_tree, tree_and, leaves, leaves_of}
 use Rattle.pq_tree.specs.Proper.{HasArities, HaveArities}
 use Rattle.tied_law.specs.Tied.{IsForward, IsTied}
@@ -13,59 +12,17 @@ use Rattle.tied_law.proofs.Bound.{IsClosed, AreClosed, IsBound, AreBound, IsPair
 use Rattle.tied_law.proofs.Bridge.{evenly_eq, last_row_closed}
 use Rattle.tied_law.proofs.Exact.{order_once, tied_bound}
 use Rattle.row_model.proofs.Walks.{joined-append, conflict_from, evenly-mono}
-use Rattle.pq_plain.specs.Templates.{join, IsSorted, none_sorted, to_empty, to_full, to_partial}
-use Rattle.pq_plain.specs.Labels.{Partial, Label, empty_trees, full_trees, partial_trees, partials, labels_of}
+use Rattle.pq_plain.specs.Templates.{join}
+use Rattle.pq_plain.specs.Labels.{Partial, Label, empty_trees, full_trees, partials, labels_of}
 use Rattle.pq_plain.specs.Reduce.{holds, root_p, Tail, Span, all_empty, full_more, before_more, begins, tail_of, span_of, root_q, at_span, inner_or, put, behind_of, reduce, inner}
-use Rattle.pq_plain.proofs.Lines.{has_join_cases, sorted_occurs, closed_partial, has_sorted_cases}
+use Rattle.pq_plain.proofs.Lines.{has_join_cases, IsParted, parted_occurs, has_parted_cases, closed_right}
 use Rattle.pq_plain.proofs.Below.{AreEmpty, AreFull}
 use Rattle.pq_plain.proofs.Conflicts.{three_partial, hole}
-use Rattle.pq_plain.proofs.Labelled.{labelled_empty, labelled_full, labelled_partial, AreLabelled, none_labelled, more_labelled, ArePartial, no_partial, a_partial, sorted, empty_trees_empty, full_trees_full, partial_trees_partial, labels_right}
-use Rattle.pq_plain.proofs.Reduced.{IsSpan, span_right, span_before, span_plain, span_left, tail_plain, tail_last, tail_behind, PlainLeft, LeftPartial, RightPartial, all_held}
+use Rattle.pq_plain.proofs.Labelled.{labels_right, at_most, labels_sorted}
+use Rattle.pq_plain.proofs.Reduced.{all_held, span_is, inner_none}
 use Rattle.pq_plain.proofs.Failed.{Crossed, and_then_none, cond_none, AllOutside, labels_failed, in_left, in_right, forward_first}
 use Rattle.pq_plain.proofs.HaveColumns.{some_leaf}
-use Rattle.pq_plain.proofs.Preserved.{p_empty}
-
--- a column of the row outside the list
-abbrev pub Misses : List ℕ → List ℕ → Type 0
-Misses row l = (s : ℕ) × IsTrue (has row s) × IsFalse (has l s)
-
-abbrev pub AllMiss : List ℕ → Forest → Type 0
-AllMiss row no_tree = Unit {0}
-AllMiss row (tree_and t ts) = Misses row (leaves t) × AllMiss row ts
-
-not_all : (l xs : List ℕ) → IsFalse (list_all (λ a. has l a) xs) → Misses xs l
-not_all l [] e = absurd (both_ways true e refl)
-not_all l (x ∷ xs) e =
-    elim (and_cases (has l x) (list_all (λ a. has l a) xs) e) [
-      | inl k ↦ (x, has_head x xs, k)
-      | inr k ↦ let w : Misses xs l = not_all l xs k in (w.0, has_tail x w.0 xs w.1, w.2)
-    ]
-
-behind_none : (t : Outline) (o : Option (Option Forest)) → behind_of t o ≡ None → o ≡ None
-behind_none t None e = refl
-behind_none t (Some None) e = cc
-behind_none t (Some (Some us)) e = cc
-
-inner_none : (row : List ℕ) (ts : Forest) → inner row ts ≡ None → AllMiss row ts
-inner_none row no_tree e = tt
-inner_none row (tree_and t ts) e =
-    elim (cases_Bool (holds row t)) [
-      | inl k ↦ some_none (put ts (reduce row t)) (ap (λ b. cond b (Some (put ts (reduce row t))) (behind_of t (inner row ts))) (sym k) ∙ e)
-      | inr k ↦ (not_all (leaves t) row k, inner_none row ts (behind_none t (inner row ts) (ap (λ b. cond b (Some (put ts (reduce row t))) (behind_of t (inner row ts))) (sym k) ∙ e)))
-    ]
-  where
-    some_none : (o : Option Forest) → Some o ≡ None → AllMiss row (tree_and t ts)
-    some_none o x = cc
-
-miss_partial : {ts es fs us : Forest} (row : List ℕ) → IsSorted ts es fs us → AllMiss row ts → AllMiss row us
-miss_partial row none_sorted h = tt
-miss_partial row (to_empty r) h = miss_partial row r h.1
-miss_partial row (to_full r) h = miss_partial row r h.1
-miss_partial row (to_partial r) h = (h.0, miss_partial row r h.1)
-
-miss_at : (row : List ℕ) (xs ys : Forest) (t : Outline) → AllMiss row (join xs (tree_and t ys)) → Misses row (leaves t)
-miss_at row no_tree ys t h = h.0
-miss_at row (tree_and x xs) ys t h = miss_at row xs ys t h.1
+use Rattle.pq_plain.proofs.Meaning.{labelled_empty, labelled_full, labelled_partial, AreLabelled, none_labelled, more_labelled, ArePartial, no_partial, a_partial, IsAtMostOne, no_such, one_such, Misses, AllMiss, IsRoot, miss_right, miss_after, SpanParts, span_parts, parts}
 
 some_full_column : (row : List ℕ) (ts : Forest) (ps : List Label) → AreLabelled row ts ps → HaveArities ts → IsFalse (all_empty ps) → (g : ℕ) × IsTrue (has (leaves_of ts) g) × IsTrue (has row g)
 some_full_column row ts ps none_labelled c e = absurd (both_ways true e refl)
@@ -183,24 +140,28 @@ module _ (R : Pair → Pair → Type 0) (eq : IsPairEq R) (row : List ℕ) where
         outsides l ts c.1 cr (λ a k. sub a (has_append_right (leaves t) (leaves_of ts) a k)) within m.1,
       )
 
-  root_p_failed : (ts es fs us : Forest) (hs : List Partial) → IsSorted ts es fs us → AreEmpty row es → AreFull row fs → ArePartial row us hs → AreClosed R (leaves_of ts) us → AllMiss row us →
+  root_p_failed : (ts es rs fs us : Forest) (hs : List Partial) → IsParted ts es rs → IsParted rs fs us → AreEmpty row es → AreFull row fs → ArePartial row us hs → AreClosed R (leaves_of ts) us → AllMiss row us →
       IsClosed R (leaves_of ts) row → ((a : ℕ) → occurs (leaves_of ts) a ≤ 1) → ((a : ℕ) → IsTrue (has row a) → IsTrue (has (leaves_of ts) a)) → (c : ℕ) → IsTrue (has row c) → root_p hs es fs ts ≡ None → Crossed R
-  root_p_failed ts no_tree fs us hs s ee ff no_partial cs ms cr once within c hc e = cc
-  root_p_failed ts (tree_and t es) no_tree us hs s ee ff no_partial cs ms cr once within c hc e =
-      absurd (both_ways (has row c) (p_empty row ts (tree_and t es) s ee c (within c hc)) hc)
-  root_p_failed ts (tree_and t es) (tree_and g fs) us hs s ee ff no_partial cs ms cr once within c hc e = cc
-  root_p_failed ts es no_tree us hs s ee ff (a_partial {t = u} part no_partial) cs ms cr once within c hc e =
+  root_p_failed ts no_tree rs fs us hs f s ee ff no_partial cs ms cr once within c hc e = cc
+  root_p_failed ts (tree_and t es) rs no_tree us hs f s ee ff no_partial cs ms cr once within c hc e =
       absurd
-      (elim (has_sorted_cases s ms.0.0 (within ms.0.0 ms.0.1)) [
+      (elim (has_parted_cases f c (within c hc)) [
+        | inl k ↦ both_ways (has row c) (ee c k) hc
+        | inr k ↦ elim (has_parted_cases s c k) [ inl j ↦ both_ways false refl j | inr j ↦ both_ways false refl j ]
+      ])
+  root_p_failed ts (tree_and t es) rs (tree_and g fs) us hs f s ee ff no_partial cs ms cr once within c hc e = cc
+  root_p_failed ts es rs no_tree us hs f s ee ff (a_partial {t = u} part no_partial) cs ms cr once within c hc e =
+      absurd
+      (elim (has_parted_cases f ms.0.0 (within ms.0.0 ms.0.1)) [
         | inl k ↦ both_ways (has row ms.0.0) (ee ms.0.0 k) ms.0.1
-        | inr k ↦ elim k [
+        | inr k ↦ elim (has_parted_cases s ms.0.0 k) [
           | inl j ↦ both_ways false refl j
           | inr j ↦ elim (has_append_cases (leaves u) [] ms.0.0 j) [ inl i ↦ both_ways (has (leaves u) ms.0.0) ms.0.2 i | inr i ↦ both_ways false refl i ]
         ]
       ])
-  root_p_failed ts es (tree_and g fs) us hs s ee ff (a_partial part no_partial) cs ms cr once within c hc e = cc
-  root_p_failed ts es fs us hs s ee ff (a_partial part (a_partial part2 no_partial)) cs ms cr once within c hc e = cc
-  root_p_failed ts es fs us hs s ee ff (a_partial {t = u} {h = h} part (a_partial {t = w} {h = k} part2 (a_partial {t = z} {ts = vs} {h = j} part3 m))) cs ms cr once within c hc e =
+  root_p_failed ts es rs (tree_and g fs) us hs f s ee ff (a_partial part no_partial) cs ms cr once within c hc e = cc
+  root_p_failed ts es rs fs us hs f s ee ff (a_partial part (a_partial part2 no_partial)) cs ms cr once within c hc e = cc
+  root_p_failed ts es rs fs us hs f s ee ff (a_partial {t = u} {h = h} part (a_partial {t = w} {h = k} part2 (a_partial {t = z} {ts = vs} {h = j} part3 m))) cs ms cr once within c hc e =
       let e1 : IsTrue (has (leaves u) part.some_empty.0) = in_left row u h part part.some_empty.0 part.some_empty.1 in
       let f1 : IsTrue (has (leaves u) part.some_full.0) = in_right row u h part part.some_full.0 part.some_full.1 in
       let e2 : IsTrue (has (leaves w) part2.some_empty.0) = in_left row w k part2 part2.some_empty.0 part2.some_empty.1 in
@@ -208,9 +169,9 @@ module _ (R : Pair → Pair → Type 0) (eq : IsPairEq R) (row : List ℕ) where
       let e3 : IsTrue (has (leaves z) part3.some_empty.0) = in_left row z j part3 part3.some_empty.0 part3.some_empty.1 in
       let f3 : IsTrue (has (leaves z) part3.some_full.0) = in_right row z j part3 part3.some_full.0 part3.some_full.1 in
       let sum : (a : ℕ) → occurs (leaves u) a + (occurs (leaves w) a + occurs (leaves z) a) ≤ 1 =
-      λ a. omega (arith, once a, sorted_occurs s a, occurs-append (leaves u) (leaves w ++ (leaves z ++ leaves_of vs)) a, occurs-append (leaves w) (leaves z ++ leaves_of vs) a, occurs-append (leaves z) (leaves_of vs) a) in
+      λ a. omega (arith, once a, parted_occurs f a, parted_occurs s a, occurs-append (leaves u) (leaves w ++ (leaves z ++ leaves_of vs)) a, occurs-append (leaves w) (leaves z ++ leaves_of vs) a, occurs-append (leaves z) (leaves_of vs) a) in
       let in_ts : (a : ℕ) → 1 ≤ occurs (leaves u) a + (occurs (leaves w) a + occurs (leaves z) a) → IsTrue (has (leaves_of ts) a) =
-      λ a l. has_from_occurs (leaves_of ts) a (omega (arith, l, sorted_occurs s a, occurs-append (leaves u) (leaves w ++ (leaves z ++ leaves_of vs)) a, occurs-append (leaves w) (leaves z ++ leaves_of vs) a, occurs-append (leaves z) (leaves_of vs) a)) in
+      λ a l. has_from_occurs (leaves_of ts) a (omega (arith, l, parted_occurs f a, parted_occurs s a, occurs-append (leaves u) (leaves w ++ (leaves z ++ leaves_of vs)) a, occurs-append (leaves w) (leaves z ++ leaves_of vs) a, occurs-append (leaves z) (leaves_of vs) a)) in
       let iu : (a : ℕ) → IsTrue (has (leaves u) a) → IsTrue (has (leaves_of ts) a) = λ a l. in_ts a (omega (arith, occurs_from_has (leaves u) a l)) in
       let iw : (a : ℕ) → IsTrue (has (leaves w) a) → IsTrue (has (leaves_of ts) a) = λ a l. in_ts a (omega (arith, occurs_from_has (leaves w) a l)) in
       let iz : (a : ℕ) → IsTrue (has (leaves z) a) → IsTrue (has (leaves_of ts) a) = λ a l. in_ts a (omega (arith, occurs_from_has (leaves z) a l)) in
@@ -240,26 +201,30 @@ module _ (R : Pair → Pair → Type 0) (eq : IsPairEq R) (row : List ℕ) where
         | inr k ↦ elim (has_append_cases (leaves u) (leaves_of gs) m.0 k) [ inl i ↦ both_ways (has (leaves u) m.0) m.2 i | inr i ↦ both_ways (has row m.0) (gg m.0 i) m.1 ]
       ]
 
-  root_q_failed : (ts : Forest) (r : Span) → IsSpan row ts r → AllMiss row ts → ((a : ℕ) → IsTrue (has row a) → IsTrue (has (leaves_of ts) a)) →
-      (hs ks : List Partial) (fs : Forest) → r.left ≡ hs → r.tail.right ≡ ks → r.tail.middle ≡ fs → root_q hs ks fs r.before r.tail.behind ts ≡ None → ⊥
-  root_q_failed ts r m ms within [] [] fs el er ef e = cc
-  root_q_failed ts r m ms within (h ∷ hs) [] no_tree el er ef e =
-      let w : LeftPartial row ts r h = span_left row ts r h hs m el in
-      let j : ts ≡ join r.before (tree_and w.u r.tail.behind) = w.is ∙ ap (λ y. join r.before (tree_and w.u y)) (tail_plain row w.later r.tail w.tail er ∙ ap (λ y. join y r.tail.behind) ef) in
-      lone r.before r.tail.behind w.u (span_before row ts r m) (tail_behind row w.later r.tail w.tail) (miss_at row r.before r.tail.behind w.u (subst (AllMiss row) j ms))
-      (λ a k. subst (λ y. IsTrue (has (leaves_of y) a)) j (within a k))
-  root_q_failed ts r m ms within (h ∷ hs) [] (tree_and f fs) el er ef e = cc
-  root_q_failed ts r m ms within [] (k ∷ ks) no_tree el er ef e =
-      let w : PlainLeft row ts r = span_plain row ts r m el in
-      let v : RightPartial row w.later r.tail k = tail_last row w.later r.tail k ks w.tail er in
-      let j : ts ≡ join r.before (tree_and v.w r.tail.behind) = w.is ∙ ap (join r.before) (v.is ∙ ap (λ y. join y (tree_and v.w r.tail.behind)) ef) in
-      lone r.before r.tail.behind v.w (span_before row ts r m) (tail_behind row w.later r.tail w.tail) (miss_at row r.before r.tail.behind v.w (subst (AllMiss row) j ms))
-      (λ a i. subst (λ y. IsTrue (has (leaves_of y) a)) j (within a i))
-  root_q_failed ts r m ms within [] (k ∷ ks) (tree_and f fs) el er ef e = cc
-  root_q_failed ts r m ms within (h ∷ hs) (k ∷ ks) fs el er ef e = cc
+  lone_left : (es us gs : Forest) (h : Partial) → IsAtMostOne row us (Some h) → AreEmpty row es → AreEmpty row gs → AllMiss row (join es (join us gs)) →
+      ((a : ℕ) → IsTrue (has row a) → IsTrue (has (leaves_of (join es (join us gs))) a)) → ⊥
+  lone_left es us gs h (one_such {t = u} k part) ee gg ms within = lone es gs u ee gg (miss_after row es (tree_and u gs) ms).0 within
+
+  none_left : (us : Forest) → IsAtMostOne row us None → us ≡ no_tree
+  none_left us no_such = refl
+
+  -- a single partial child with no full one isn't at the root
+  root_q_failed : (hs ks : List Partial) (fs es gs ts : Forest) → SpanParts row ts es (at_most hs) fs (at_most ks) gs → IsRoot row ts → root_q hs ks fs es gs ts ≡ None → ⊥
+  root_q_failed [] [] fs es gs ts m root e = cc
+  root_q_failed (h ∷ hs) [] no_tree es gs ts m root e =
+      let j : join es (join m.us gs) ≡ ts = sym (ap (λ ws. join es (join m.us (join ws gs))) (none_left m.ws m.right)) ∙ m.is in
+      let here : IsRoot row (join es (join m.us gs)) = subst (IsRoot row) (sym j) root in
+      lone_left es m.us gs h m.left m.before m.behind here.lowest here.within
+  root_q_failed (h ∷ hs) [] (tree_and f fs) es gs ts m root e = cc
+  root_q_failed [] (k ∷ ks) no_tree es gs ts m root e =
+      let j : join es (join m.ws gs) ≡ ts = sym (ap (λ us. join es (join us (join m.ws gs))) (none_left m.us m.left)) ∙ m.is in
+      let here : IsRoot row (join es (join m.ws gs)) = subst (IsRoot row) (sym j) root in
+      lone_left es m.ws gs k m.right m.before m.behind here.lowest here.within
+  root_q_failed [] (k ∷ ks) (tree_and f fs) es gs ts m root e = cc
+  root_q_failed (h ∷ hs) (k ∷ ks) fs es gs ts m root e = cc
 
   mutual
-    -- No template fits at some node: a pair is related to itself turned round.
+    -- Where no template fits at some node, a pair is related to itself with its columns exchanged.
     pub reduce_failed : (t : Outline) → IsBound R t → IsClosed R (leaves t) row → HasArities t → ((a : ℕ) → occurs (leaves t) a ≤ 1) → ((a : ℕ) → IsTrue (has row a) → IsTrue (has (leaves t) a)) →
         (c : ℕ) → IsTrue (has row c) → reduce row t ≡ None → Crossed R
     reduce_failed (leaf a) b cr n once within c hc e = cc
@@ -272,9 +237,9 @@ module _ (R : Pair → Pair → Type 0) (eq : IsPairEq R) (row : List ℕ) where
                 | inl j ↦ labels_failed R eq row ts (outsides (leaves_of ts) ts b.0 cr (λ a h. h) within ms) b.1 n.1 once j
                 | inr j ↦
                     let m : AreLabelled row ts j.0 = labels_right row ts j.0 n.1 once j.1 in
-                    let g : IsSorted ts (empty_trees ts j.0) (full_trees ts j.0) (partial_trees ts j.0) = sorted row ts j.0 m in
-                    root_p_failed ts (empty_trees ts j.0) (full_trees ts j.0) (partial_trees ts j.0) (partials j.0) g (empty_trees_empty row ts j.0 m) (full_trees_full row ts j.0 m) (partial_trees_partial row ts j.0 m)
-                    (closed_partial R (leaves_of ts) g b.0) (miss_partial row g ms) cr once within c hc j.2
+                    let g = parts row (labels_sorted row ts j.0 j.1) m in
+                    root_p_failed ts (empty_trees ts j.0) g.rest (full_trees ts j.0) g.us (partials j.0) g.first g.second g.empty g.full g.partial
+                    (closed_right R (leaves_of ts) g.second (closed_right R (leaves_of ts) g.first b.0)) (miss_right row g.second (miss_right row g.first ms)) cr once within c hc j.2
               ]
         ]
     reduce_failed (q_node ts) b cr n once within c hc e =
@@ -296,7 +261,10 @@ module _ (R : Pair → Pair → Type 0) (eq : IsPairEq R) (row : List ℕ) where
                             turned =
                                 hole R eq row ts b.0 cr x.f x.up.v.a x.up.v.b x.before x.up.forward x.full x.up.to_full x.up.from_empty (forward_first ts x.up.v x.up.forward);
                           }
-                      | inr i ↦ absurd (root_q_failed ts i.0 (span_right row ts j.0 i.0 m i.1) ms within i.0.left i.0.tail.right i.0.tail.middle refl refl refl i.2)
+                      | inr i ↦ absurd (
+                          root_q_failed i.0.left i.0.tail.right i.0.tail.middle i.0.before i.0.tail.behind ts
+                          (span_parts row (span_is ts j.0 i.0 (labels_sorted row ts j.0 j.1) i.1) m) (record { within = within; lowest = ms }) i.2
+                          )
                     ]
               ]
         ]

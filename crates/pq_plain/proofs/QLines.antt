@@ -1,4 +1,4 @@
--- Q-nodes: turned, and with the parts of a partial child in its place.
+-- Q-nodes: turned, and with the trees of a partial child in its place.
 use Rattle.std.proofs.Common.{◌≡◌, ◌⊎◌, ◌∙◌, ℕ, false, List, [], ◌++◌, IsTrue, refl, sym, inl, inr, arith}
 use Rattle.std.proofs.lemmas.Bool.{both_ways}
 use Rattle.row_model.specs.declared.graph.Pair.{Pair}
@@ -66,7 +66,7 @@ module _ (R : Pair → Pair → Type 0) (eq : IsPairEq R) where
   pub unturned_bound : (ts : Forest) → IsBound R (q_node (back ts)) → IsBound R (q_node ts)
   unturned_bound ts b = (line_unback ts b.0, bound_unback ts b.1)
 
--- what is treated or reduced turned is treated or reduced as it stands
+-- what holds of a Q-node read from the other end holds of it as it stands
 pub treated_back : (row : List ℕ) (ts es fs : Forest) → Treated row (q_node (back ts)) es fs → Treated row (q_node ts) es fs
 treated_back row ts es fs t =
     record {
@@ -90,7 +90,7 @@ rooted_back row ts u r =
       down = λ R eq b c. r.down R eq (turned_bound R eq ts b) (λ a e d i j l n. c a e d i j (sym (back_has ts d) ∙ l) n);
     }
 
--- the partial u between xs and ys, and its parts in its place
+-- the partial child u between xs and ys, and its trees in its place
 module _ (row : List ℕ) (xs ys : Forest) (u : Outline) (e f : Forest) (part : Treated row u e f) where
   u_like : (a : ℕ) → has (leaves_of (join e f)) a ≡ has (leaves u) a
   u_like a = has_same (leaves_of (join e f)) (leaves u) a (part.same a)
@@ -121,7 +121,7 @@ module _ (row : List ℕ) (xs ys : Forest) (u : Outline) (e f : Forest) (part : 
         ]
       ]
 
-  -- one of the new line is one within the parts or one of the old line
+  -- one of the new line is one of the partial or one of the old line
   pub from_parts : (v : Pair) → IsForward (join xs (join (join e f) ys)) v → IsForward (join e f) v ⊎ IsForward (join xs (tree_and u ys)) v
   from_parts v h =
       elim (forward_cases xs (join (join e f) ys) v h) [

@@ -1,4 +1,4 @@
--- Q2 below the root, and Q2 and Q3 at the root.
+-- Q2 below the root, and the steps of Q3.
 use Rattle.std.proofs.Common.{◌≡◌, ◌⊎◌, ◌∙◌, ℕ, List, IsTrue, IsFalse, refl, sym, ap, ap₂, subst, inl, inr}
 use Rattle.std.proofs.lemmas.Bool.{both_ways, false_from_ne_true}
 use Rattle.row_model.specs.declared.graph.Pair.{Pair}
@@ -133,7 +133,7 @@ pub back-back : (xs : Forest) → back (back xs) ≡ xs
 back-back no_tree = refl
 back-back (tree_and t ts) = back-join (back ts) (tree_and t no_tree) ∙ ap (tree_and t) (back-back ts)
 
--- a partial child with a column of the row before it: its parts come turned
+-- a partial child with a column of the row before it: its trees come turned
 pub refined_left : (row : List ℕ) (xs ys : Forest) (u : Outline) (e f : Forest) → Treated row u e f → (s : ℕ) → IsTrue (has (leaves_of xs) s) → IsTrue (has row s) →
     Refined row (q_node (join xs (tree_and u ys))) (q_node (join xs (join (back (join e f)) ys)))
 refined_left row xs ys u e f part s sx sr =

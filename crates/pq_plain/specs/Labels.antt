@@ -1,15 +1,9 @@
 -- What the templates make of a tree below the root of the row's subtree.
-pub use Rattle.pq_plain.specs.Templates.{Partial}
+pub use Rattle.pq_plain.specs.Templates.{Partial, Label, empty_label, full_label, partial_label}
 use Rattle.std.specs.Prelude.{ℕ, Bool, true, false, if◌then◌else◌, List, [], ◌∷◌, Option, Some, None, option_and_then, reverse}
 use Rattle.column_order.specs.Orders.{has}
 use Rattle.pq_tree.specs.Outline.{Outline, Forest, leaf, p_node, q_node, no_tree, tree_and}
 use Rattle.pq_plain.specs.Templates.{back, p3, p5, q2}
-
--- the label of a tree: it is empty, it is full, or the templates make it this partial
-pub data Label : Type 0 where
-  empty_label : Label
-  full_label : Label
-  partial_label : Partial → Label
 
 -- the empty ones of the trees, by their labels
 abbrev pub empty_trees : Forest → List Label → Forest

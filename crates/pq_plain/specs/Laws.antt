@@ -3,10 +3,13 @@ use Rattle.std.specs.Prelude.{◌≡◌, ◌⊎◌, ◌↔◌, ℕ, List, [], �
 use Rattle.column_order.specs.Orders.{HasValidOrder, IsWithin}
 use Rattle.row_model.specs.Graph.{HasOddWalk, HasConflict}
 use Rattle.row_model.specs.Rows.{RowList, IsRow}
-use Rattle.pq_tree.specs.Outline.{Outline}
+use Rattle.pq_tree.specs.Outline.{Outline, Forest, leaf, p_node, q_node}
 use Rattle.pq_tree.specs.Proper.{IsProper}
 use Rattle.tied_law.specs.Tied.{IsTied}
-use Rattle.pq_plain.specs.Reduce.{reduce}
+use Rattle.pq_plain.specs.Templates.{Label, full_label, IsL1, IsQ3}
+use Rattle.pq_plain.specs.Labels.{label_of, labels_of}
+use Rattle.pq_plain.specs.Chosen.{IsLabelOfP, IsLabelOfQ, IsRootOfP}
+use Rattle.pq_plain.specs.Reduce.{reduce, inner}
 
 -- a proper tree that is tied to the rows, reduced by a further row over 1 to c, is proper and tied to one row more
 abbrev pub TakenLaw : Type 0
@@ -28,6 +31,44 @@ RefusedLaw =
     IsWithin c row →
     reduce row t ≡ None →
     HasConflict c (rows ++ row ∷ []) × (HasValidOrder c (rows ++ row ∷ []) → ⊥)
+
+-- a leaf is full by L1
+abbrev pub LeafLaw : Type 0
+LeafLaw = (row : List ℕ) (a : ℕ) → label_of row (leaf a) ≡ Some full_label ↔ IsL1 row a
+
+-- a P-node that is not the root gets its label by P1, P3 or P5, or is empty
+abbrev pub LabelOfPLaw : Type 0
+LabelOfPLaw =
+    (row : List ℕ) (ts : Forest) (ps : List Label) (x : Label) →
+    labels_of row ts ≡ Some ps →
+    label_of row (p_node ts) ≡ Some x →
+    IsLabelOfP ts ps x
+
+-- a Q-node that is not the root gets its label by Q1 or Q2, or is empty
+abbrev pub LabelOfQLaw : Type 0
+LabelOfQLaw =
+    (row : List ℕ) (ts : Forest) (ps : List Label) (x : Label) →
+    labels_of row ts ≡ Some ps →
+    label_of row (q_node ts) ≡ Some x →
+    IsLabelOfQ ts ps x
+
+-- a P-node at the root, where no child holds the row, is reduced by P1, P2, P4 or P6
+abbrev pub RootOfPLaw : Type 0
+RootOfPLaw =
+    (row : List ℕ) (ts : Forest) (ps : List Label) (u : Outline) →
+    inner row ts ≡ None →
+    labels_of row ts ≡ Some ps →
+    reduce row (p_node ts) ≡ Some u →
+    IsRootOfP ts ps u
+
+-- a Q-node at the root is reduced by Q3, of which Q1 and Q2 at the root are cases
+abbrev pub RootOfQLaw : Type 0
+RootOfQLaw =
+    (row : List ℕ) (ts : Forest) (ps : List Label) (u : Outline) →
+    inner row ts ≡ None →
+    labels_of row ts ≡ Some ps →
+    reduce row (q_node ts) ≡ Some u →
+    IsQ3 ts ps u
 
 -- an empty row leaves every tree as it is
 abbrev pub EmptyRowLaw : Type 0

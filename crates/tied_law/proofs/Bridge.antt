@@ -16,7 +16,7 @@ use Rattle.tied_law.proofs.Frontiers.{frontier_occurs, frontier_has}
 use Rattle.tied_law.proofs.Exact.{tied_bound, order_rises, order_once}
 use Rattle.tied_law.proofs.Alike.{Alike, frontier_bound, bound_frontier}
 
--- the two instances
+-- two such equivalences: to stand alike in an order, and to be joined by a walk of even length
 pub alike_eq : (rank : ℕ → ℕ) → IsPairEq (Alike rank)
 alike_eq rank =
     record {

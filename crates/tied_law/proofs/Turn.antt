@@ -1,4 +1,4 @@
--- Turning a tree changes neither its frontiers nor the rows that it is tied to.
+-- An equivalent tree has the same frontiers, and is tied to the same rows.
 use Rattle.std.proofs.Common.{◌≡◌, ◌⊎◌, ◌∙◌, ◌≤◌, ℕ, ◌↔◌, false, List, [], ◌∷◌, ◌++◌, reverse, IsTrue, IsPermutation, sum_by, refl, sym, ap, subst, inl, inr, arith, append_assoc, append-nil}
 use Rattle.std.proofs.lemmas.Bool.{both_ways}
 use Rattle.std.proofs.lemmas.List.{reverse-append, reverse-reverse}
@@ -31,7 +31,7 @@ all_turned_closed R l (tree_and t ts) [] h k = absurd h
 all_turned_closed R l (tree_and t ts) (u ∷ us) h k =
     ((λ a b d i j m n. k.0 a b d (sym (turned_has t u a h.0) ∙ i) (sym (turned_has t u b h.0) ∙ j) m (sym (turned_has t u d h.0) ∙ n)), all_turned_closed R l ts us h.1 k.1)
 
-turned_forward : (ts : Forest) (us : List Outline) → AreEquivalent ts us → (v : Pair) → IsForward (forest us) v → IsForward ts v
+pub turned_forward : (ts : Forest) (us : List Outline) → AreEquivalent ts us → (v : Pair) → IsForward (forest us) v → IsForward ts v
 turned_forward no_tree [] h v k = k
 turned_forward no_tree (u ∷ us) h v k = absurd h
 turned_forward (tree_and t ts) [] h v k = absurd h
@@ -48,7 +48,7 @@ all_unturned_closed R l (tree_and t ts) [] h k = absurd h
 all_unturned_closed R l (tree_and t ts) (u ∷ us) h k =
     ((λ a b d i j m n. k.0 a b d (turned_has t u a h.0 ∙ i) (turned_has t u b h.0 ∙ j) m (turned_has t u d h.0 ∙ n)), all_unturned_closed R l ts us h.1 k.1)
 
-unturned_forward : (ts : Forest) (us : List Outline) → AreEquivalent ts us → (v : Pair) → IsForward ts v → IsForward (forest us) v
+pub unturned_forward : (ts : Forest) (us : List Outline) → AreEquivalent ts us → (v : Pair) → IsForward ts v → IsForward (forest us) v
 unturned_forward no_tree us h v k = absurd k
 unturned_forward (tree_and t ts) [] h v k = absurd h
 unturned_forward (tree_and t ts) (u ∷ us) h v k =
@@ -183,7 +183,7 @@ module _ (R : Pair → Pair → Type 0) (eq : IsPairEq R) where
     all_unturned_bound (tree_and t ts) [] h k = absurd h
     all_unturned_bound (tree_and t ts) (u ∷ us) h k = (unturned_bound t u h.0 k.0, all_unturned_bound ts us h.1 k.1)
 
--- A canonical tree, for one, has the frontiers of the tree that it was turned from, and is tied to the rows that it is tied to.
+-- so for frontiers
 pub turned_frontier : (t u : Outline) → ((a : ℕ) → occurs (leaves t) a ≤ 1) → IsEquivalent t u → (o : List ℕ) → IsFrontier t o → IsFrontier u o
 turned_frontier t u once h o f =
     let e : (a : ℕ) → occurs o a ≡ occurs (leaves t) a = λ a. frontier_occurs t o a f in
