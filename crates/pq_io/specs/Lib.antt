@@ -1,0 +1,11 @@
+pub mod Chosen
+pub mod Errors
+pub mod Faults
+pub mod MemFile
+pub mod MemShelf
+pub mod MemSink
+pub mod NamedFiles
+pub mod RealShelf
+pub mod Shelf
+pub mod Sink
+pub mod Whole

@@ -1,0 +1,112 @@
+// Standard output and standard error.
+ghost use Rattle.std.specs.Prelude.{◌≡◌, None};
+
+use crate::{Failed, Sink};
+use std::io::{Stderr, Stdout, Write};
+use std::marker::Model;
+
+/// Standard output or standard error, flushed in each write. It tells no bytes.
+///
+/// Contracts see it as the count of its faults.
+#[derive(Drop)]
+pub struct RealSink<W: Write> {
+    stream: W,
+    faults: u64,
+}
+
+impl<W: Write> Model for RealSink<W> {
+    ghost use Rattle.std.specs.Prelude.{ℕ};
+
+    ghost Value = { ℕ };
+
+    ghost view = { λ sink. sink.faults };
+}
+
+impl RealSink<Stdout> {
+    /// Standard output, with no faults so far.
+    pub fn output(stream: Stdout) -> Self
+        ensures { result ≡ 0 }
+    {
+        RealSink { stream, faults: 0 }
+    }
+}
+
+impl RealSink<Stderr> {
+    /// Standard error, with no faults so far.
+    pub fn error(stream: Stderr) -> Self
+        ensures { result ≡ 0 }
+    {
+        RealSink { stream, faults: 0 }
+    }
+}
+
+impl<W: Write> Sink for RealSink<W> {
+    ghost written = { λ _. None };
+
+    ghost faults = { λ sink. sink };
+
+    fn write(&mut self, piece: &[u8]) -> Result<usize, Failed> {
+        match self.stream.write(piece) {
+            Ok(n) if n > 0 && self.stream.flush().is_ok() => Ok(n),
+            _ => {
+                self.faults = self.faults.saturating_add(1);
+                Err(Failed)
+            }
+        }
+    }
+}
+
+#[cfg(test)]
+mod tests {
+    use super::*;
+    use std::fs;
+    use std::io;
+    use std::test::Fail;
+
+    // Takes at most so many bytes in a write, and then may not be flushed.
+    #[derive(Drop)]
+    struct FakeStream {
+        most: usize,
+        can_flush: bool,
+    }
+
+    impl Write for FakeStream {
+        fn write(&mut self, buf: &[u8]) -> io::Result<usize> {
+            Ok(buf.len().min(self.most))
+        }
+
+        fn flush(&mut self) -> io::Result<()> {
+            if self.can_flush {
+                Ok(())
+            } else {
+                Err(io::Error::from(io::ErrorKind::StorageFull))
+            }
+        }
+    }
+
+    #[test]
+    fn a_write_fails_where_nothing_is_taken_or_flushed(rt: HostRuntime) {
+        for (most, can_flush, outcome) in [
+            (9, true, Ok(3)),
+            (2, true, Ok(2)),
+            (0, true, Err(Failed)),
+            (9, false, Err(Failed)),
+        ] {
+            let mut sink = RealSink {
+                stream: FakeStream { most, can_flush },
+                faults: 0,
+            };
+            assert_eq!(rt; sink.write(b"abc"), outcome, "{most} {can_flush}");
+        }
+    }
+
+    #[test]
+    fn a_full_device_fails(rt: HostRuntime) -> Result<(), Fail> {
+        let mut sink = RealSink {
+            stream: fs::create(&rt, "/dev/full")?,
+            faults: 0,
+        };
+        assert_eq!(rt; sink.write(b"abc"), Err(Failed));
+        Ok(())
+    }
+}
