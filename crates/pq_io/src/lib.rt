@@ -15,10 +15,9 @@ mod real_shelf;
 mod real_sink;
 mod shelf;
 mod sink;
-mod writing;
-
 #[cfg(test)]
 mod tests;
+mod writing;
 
 pub use error::{ChooseError, Failed, ReadFail, WriteFault};
 pub use mem_shelf::MemShelf;

@@ -59,9 +59,8 @@ impl<W: Write> Sink for RealSink<W> {
 #[cfg(test)]
 mod tests {
     use super::*;
-    use std::fs;
-    use std::io;
     use std::test::Fail;
+    use std::{fs, io};
 
     // Takes at most so many bytes in a write, and then may not be flushed.
     #[derive(Drop)]

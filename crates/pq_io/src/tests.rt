@@ -125,7 +125,11 @@ fn a_failed_read_is_told_and_loses_nothing(rt: HostRuntime) -> Result<(), Fail> 
         };
         shelf.shelf.add("a", b"abcdefghij")?;
         shelf.choose(alloc, "a")?;
-        assert_eq!(rt; read_all(alloc, &mut shelf, 10), Err(ReadFail::Fault), "{reads_before}");
+        assert_eq!(rt;
+            read_all(alloc, &mut shelf, 10),
+            Err(ReadFail::Fault),
+            "{reads_before}"
+        );
         let rest = Whole::Bytes(rest.as_bytes().to_vec(alloc)?);
         assert_eq!(rt; read_all(alloc, &mut shelf, 10)?, rest, "{reads_before}");
     }
@@ -157,9 +161,17 @@ fn a_failed_write_is_told_and_adds_nothing(rt: HostRuntime) -> Result<(), Fail> 
             failed: 0,
         };
         sink.sink.reserve(100)?;
-        assert_eq!(rt; write_all(&mut sink, text), Err(WriteFault), "{writes_before}");
+        assert_eq!(rt;
+            write_all(&mut sink, text),
+            Err(WriteFault),
+            "{writes_before}"
+        );
         assert_eq!(rt; sink.sink.bytes(), &text[..written], "{writes_before}");
-        assert_eq!(rt; write_all(&mut sink, &text[written..]), Ok(()), "{writes_before}");
+        assert_eq!(rt;
+            write_all(&mut sink, &text[written..]),
+            Ok(()),
+            "{writes_before}"
+        );
         assert_eq!(rt; sink.sink.bytes(), text.as_slice(), "{writes_before}");
     }
     Ok(())
@@ -174,7 +186,11 @@ fn a_real_file_is_read_whole(rt: HostRuntime) -> Result<(), Fail> {
     shelf.choose(alloc, program)?;
     assert_eq!(rt; read_all(alloc, &mut shelf, 1 << 32)? == want, true);
     for missing in ["", "/proc/self/missing", "/proc/self/exe/below"] {
-        assert_eq!(rt; shelf.choose(alloc, missing), Err(ChooseError::Failed), "{missing}");
+        assert_eq!(rt;
+            shelf.choose(alloc, missing),
+            Err(ChooseError::Failed),
+            "{missing}"
+        );
     }
     // A directory opens, but it can't be read.
     shelf.choose(alloc, "/proc/self")?;
