@@ -15,6 +15,8 @@ mod real_shelf;
 mod real_sink;
 mod shelf;
 mod sink;
+#[cfg(test)]
+mod tests;
 mod writing;
 
 pub use error::{ChooseError, Failed, ReadFail, WriteFault};

@@ -1,5 +1,5 @@
 // A sink in memory.
-ghost use Rattle.std.specs.Prelude.{◌≡◌, ◌<◌, ◌≤◌, ◌+◌, ◌-◌, ◌==◌, ℕ, List, [], ◌++◌, Some, length, take, min, is_err, IfOk, OnOk, OnErr};
+ghost use Rattle.std.specs.Prelude.{◌≡◌, ◌<◌, ◌≤◌, ◌+◌, ◌-◌, ◌==◌, [], Some, length, min, is_err, IfOk, OnOk, OnErr};
 ghost use Rattle.std.specs.Io.KnownBytes.{WriteAppends};
 ghost use Rattle.pq_io.specs.Faults.{HasCause, count_after};
 ghost use Rattle.pq_io.specs.Sink.{TakesSome};
@@ -33,9 +33,7 @@ impl Model for MemSink {
 impl MemSink {
     /// A sink with no bytes, no room and no faults.
     pub fn new(alloc: Global) -> Self
-        ensures bytes { result.bytes ≡ [] }
-        ensures room { result.room ≡ 0 }
-        ensures faults { result.faults ≡ 0 }
+        ensures { result ≡ record { bytes = []; room = 0; faults = 0 } }
     {
         MemSink {
             bytes: Vec::new(alloc),

@@ -1,5 +1,5 @@
 // A text as a whole.
-ghost use Rattle.std.specs.Prelude.{◌≤◌, MatchResult};
+ghost use Rattle.std.specs.Prelude.{MatchResult};
 ghost use Rattle.std.specs.Io.KnownBytes.{Appends};
 ghost use Rattle.pq_io.specs.Faults.{HasCause};
 ghost use Rattle.pq_io.specs.Sink.{AppendsPrefix};

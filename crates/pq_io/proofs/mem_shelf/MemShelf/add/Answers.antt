@@ -1,4 +1,4 @@
-use Rattle.std.proofs.Common.{◌≡◌, List, ℕ, Option, Some, None, is_none, true, false, ap, sym, ◌∙◌, subst}
+use Rattle.std.proofs.Common.{sym, ◌∙◌}
 use Rattle.pq_io.proofs.Files.{content_of-added, content_of-added_other}
 use Rattle.pq_io.proofs.mem_shelf.MemShelf.add.Goals as goal
 

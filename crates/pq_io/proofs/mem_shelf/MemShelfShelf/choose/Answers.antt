@@ -1,4 +1,4 @@
-use Rattle.std.proofs.Common.{◌≡◌, Option, is_none, ap, sym}
+use Rattle.std.proofs.Common.{is_none, ap, sym}
 use Rattle.pq_io.proofs.Files.{content_of-last, content_of-others}
 use Rattle.pq_io.proofs.mem_shelf.MemShelfShelf.choose.Goals as goal
 
