@@ -1,3 +1,4 @@
 pub mod Items
 pub mod NumberLaws
 pub mod PathLaws
+pub mod CycleSteps
