@@ -2,3 +2,4 @@ pub mod Items
 pub mod NumberLaws
 pub mod PathLaws
 pub mod CycleSteps
+pub mod MarkLaws

@@ -3,6 +3,8 @@
 #![tactic(auto)]
 
 mod cycle;
+mod forest;
+mod marks;
 mod numbers;
 mod reason;
 mod walk;
