@@ -3,3 +3,4 @@ pub mod NumberLaws
 pub mod PathLaws
 pub mod CycleSteps
 pub mod MarkLaws
+pub mod ForestLaws

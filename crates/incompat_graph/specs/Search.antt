@@ -1,11 +1,14 @@
 -- The search for a closed walk of odd length: what is reached, and what that shows.
-use Rattle.std.specs.Prelude.{◌≡◌, ◌⊎◌, ℕ, ◌<◌, ◌≤◌, Bool, not, Option, Some, None, List, [], ◌∷◌, ◌++◌, length, take, slice_get}
+use Rattle.std.specs.Prelude.{◌≡◌, ◌⊎◌, ℕ, ◌<◌, ◌≤◌, Bool, true, not, IsTrue, IsFalse, Option, Some, None, List, [], ◌∷◌, ◌++◌, length, take, slice_get}
 use Rattle.row_model.specs.declared.graph.Pair.{Pair}
-use Rattle.row_model.specs.Graph.{JoinedBy, Joined}
+use Rattle.row_model.specs.Graph.{pair, turned, row_at, JoinedBy, Joined, IsPair}
+use Rattle.row_model.specs.Rows.{RowList}
+use Rattle.column_order.specs.Orders.{has}
 use Rattle.incompat_graph.specs.declared.forest.Node.{Node}
 use Rattle.incompat_graph.specs.declared.forest.Conflict.{Conflict}
 use Rattle.incompat_graph.specs.declared.forest.Forest.{Forest}
 use Rattle.incompat_graph.specs.Numbers.{IsIndexed}
+use Rattle.incompat_graph.specs.Marks.{Marking, is_marked}
 
 abbrev pub pair_of_node : Node → Pair
 pair_of_node node = node.pair
@@ -69,3 +72,47 @@ pub record IsConflict (c : ℕ) (rows : List (List ℕ)) (forest : Forest) (conf
   pub to_in : forest.root ≤ conflict.to
   pub joined : JoinedBy c rows from.pair to.pair conflict.why
   pub alike : from.odd ≡ to.odd
+
+-- the forest and the conflict in it
+pub record ShowsConflict (c : ℕ) (rows : List (List ℕ)) (forest : Forest) (conflict : Conflict) : Type 0 where
+  pub is_forest : IsForest c rows forest
+  pub is_conflict : IsConflict c rows forest conflict
+
+-- for each column d of the row (p,d) is reached, all of them an odd number of steps from a root or all an even number
+abbrev pub IsReachedAlong : List Node → ℕ → List ℕ → Type 0
+IsReachedAlong nodes p row = (odd : Bool) × ((d : ℕ) → IsTrue (has row d) → IsReached nodes (pair p d) odd)
+
+-- where a row is marked at a column that it lacks, the pairs of this column with those of the row are reached
+abbrev pub IsSpread : List (List ℕ) → Marking → List Node → Type 0
+IsSpread rows marks nodes =
+    (k p : ℕ) →
+    1 ≤ k →
+    k ≤ marks.rows →
+    1 ≤ p →
+    is_marked marks k p ≡ true →
+    IsFalse (has (row_at rows k) p) →
+    IsReachedAlong nodes p (row_at rows k)
+
+-- a search in the graph of the first rows, as many as the marks have
+pub record IsSearch (m : RowList) (marks : Marking) (forest : Forest) : Type 0 where
+  pub few : marks.rows ≤ length m.rows
+  pub columns : marks.columns ≡ m.columns
+  pub is_forest : IsForest m.columns (take marks.rows m.rows) forest
+  pub spread : IsSpread m.rows marks forest.nodes.items
+
+-- marks and nodes stay, and more come
+pub record Grows (marks marks' : Marking) (nodes nodes' : List Node) : Type 0 where
+  pub rows : marks'.rows ≡ marks.rows
+  pub columns : marks'.columns ≡ marks.columns
+  pub stay : (k p : ℕ) → is_marked marks k p ≡ true → is_marked marks' k p ≡ true
+  pub more : List Node
+  pub appended : nodes' ≡ nodes ++ more
+
+-- the pair of the node with its columns exchanged is reached, and each row with its first column is marked at its second
+pub record IsTaken (rows : List (List ℕ)) (marks : Marking) (nodes : List Node) (node : Node) : Type 0 where
+  pub turned : IsReached nodes (turned node.pair) (not node.odd)
+  pub marked : (k : ℕ) → 1 ≤ k → k ≤ marks.rows → IsTrue (has (row_at rows k) node.pair.a) → is_marked marks k node.pair.b ≡ true
+
+-- so are the first nodes
+abbrev pub AreTaken : List (List ℕ) → Marking → List Node → ℕ → Type 0
+AreTaken rows marks nodes n = (i : ℕ) (node : Node) → i < n → slice_get nodes i ≡ Some node → IsTaken rows marks nodes node
