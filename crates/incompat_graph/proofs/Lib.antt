@@ -4,3 +4,4 @@ pub mod PathLaws
 pub mod CycleSteps
 pub mod MarkLaws
 pub mod ForestLaws
+pub mod HolderLaws

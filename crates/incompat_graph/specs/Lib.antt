@@ -2,3 +2,4 @@ pub mod Numbers
 pub mod Marks
 pub mod Tables
 pub mod Search
+pub mod Holders

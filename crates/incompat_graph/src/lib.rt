@@ -4,6 +4,7 @@
 
 mod cycle;
 mod forest;
+mod holders;
 mod marks;
 mod numbers;
 mod reason;
