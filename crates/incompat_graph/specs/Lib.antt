@@ -1,2 +1,5 @@
 pub mod Numbers
+pub mod Marks
 pub mod Tables
+pub mod Search
+pub mod Holders

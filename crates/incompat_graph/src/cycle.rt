@@ -1,5 +1,5 @@
 // Odd cycles, and the odd cycle that a closed walk of odd length contains.
-ghost use Rattle.std.specs.Prelude.{◌≡◌, ◌<◌, [], ◌∷◌, ◌++◌, take, length, IfOk, OnOk, ◌≤◌};
+ghost use Rattle.std.specs.Prelude.{◌≡◌, ◌⊎◌, ◌+◌, ◌<◌, [], ◌∷◌, ◌++◌, take, length, IfOk, OnOk, ◌≤◌};
 ghost use Rattle.row_model.specs.declared.graph.Pair.{Pair};
 ghost use Rattle.row_model.specs.Graph.{IsPair};
 ghost use Rattle.row_model.specs.Cycles.{IsSimpleOdd, IsClosedWalk, IsOddCycle, pair_of};
@@ -7,7 +7,7 @@ ghost use Rattle.incompat_graph.specs.Numbers.{IsIndexed, number_of};
 
 use crate::numbers::PairNumbers;
 use crate::walk::Walk;
-use row_model::{Line, Matrix};
+use row_model::{Line, Matrix, Pair};
 use std::alloc::{AllocError, Global};
 use std::marker::Model;
 
@@ -52,17 +52,26 @@ pub fn simple_cycle(alloc: Global, m: &Matrix, walk: &Walk) -> Result<Cycle, All
     let mut numbers = PairNumbers::new(alloc, m.columns())?;
     let mut path = Vec::new(alloc);
     for line in walk.lines() {
-        let number = numbers.get(line.pair);
-        if number > 0 {
-            if (path.len() - (number - 1)) % 2 == 1 {
-                let lines = path[number - 1..].to_vec(alloc)?;
-                return Ok(Cycle { lines });
-            }
-            cut(&mut numbers, &mut path, number - 1);
+        let keep = place(&numbers, &path, line.pair);
+        if (path.len() - keep) % 2 == 1 {
+            let lines = path.split_off(keep)?;
+            return Ok(Cycle { lines });
         }
+        cut(&mut numbers, &mut path, keep);
         extend(&mut numbers, &mut path, *line)?;
     }
     Ok(Cycle { lines: path })
+}
+
+// The index of the line with this pair, or the length of the path where there is none.
+fn place(numbers: &PairNumbers, path: &[Line], v: Pair) -> usize
+    requires { IsPair numbers.now.columns v }
+    ensures { (number_of numbers.now v ≡ result + 1) ⊎ ((number_of numbers.now v ≡ 0) × (result ≡ length path.now)) }
+{
+    match numbers.get(v) {
+        0 => path.len(),
+        number => number - 1,
+    }
 }
 
 // Adds a line with a new pair to the path.
@@ -89,7 +98,8 @@ fn cut(numbers: &mut PairNumbers, path: &mut Vec<Line>, keep: usize)
     ensures indexed { IsIndexed pair_of numbers.new path.new.items }
     ensures columns { numbers.new.columns ≡ numbers.old.columns }
     ensures path { path.new.items ≡ take keep path.old.items }
-    ensures cut { (v : Pair) → IsPair numbers.old.columns v → keep < number_of numbers.old v → number_of numbers.new v ≡ 0 }
+    ensures kept { (v : Pair) → IsPair numbers.old.columns v → number_of numbers.old v ≤ keep → number_of numbers.new v ≡ number_of numbers.old v }
+    ensures lost { (v : Pair) → IsPair numbers.old.columns v → keep < number_of numbers.old v → number_of numbers.new v ≡ 0 }
 {
     for line in &path[keep..] {
         numbers.set(line.pair, 0);

@@ -3,6 +3,9 @@
 #![tactic(auto)]
 
 mod cycle;
+mod forest;
+mod holders;
+mod marks;
 mod numbers;
 mod reason;
 mod walk;

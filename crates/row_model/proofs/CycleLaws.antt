@@ -76,6 +76,12 @@ pub closed_leads : (c : ℕ) (rows : List (List ℕ)) (lines : List Line) (end :
 closed_leads c rows [] end h = tt
 closed_leads c rows (l ∷ lines) end h = h
 
+-- joining goes both ways, for the same reason
+pub joined_by_sym : (c : ℕ) (rows : List (List ℕ)) (v w : Pair) (why : Why) → JoinedBy c rows v w why → JoinedBy c rows w v why
+joined_by_sym c rows v w Flip j = record { from = j.to; to = j.from; fits = (sym j.fits.1, sym j.fits.0) }
+joined_by_sym c rows v w (Row k) j =
+    record { from = j.to; to = j.from; fits = (j.fits.0, j.fits.1, elim j.fits.2 [ inl x ↦ inr x | inr x ↦ inl x ]) }
+
 -- no pair is joined to itself
 pub never_itself : (c : ℕ) (rows : List (List ℕ)) (v : Pair) (why : Why) → JoinedBy c rows v v why → ⊥
 never_itself c rows v Flip j = j.from.distinct j.fits.0

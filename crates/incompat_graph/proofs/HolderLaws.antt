@@ -1,0 +1,103 @@
+-- The lists of the rows that have each column, as they grow.
+use Rattle.std.proofs.Common.{◌≡◌, ◌≢◌, ◌∙◌, ℕ, ◌+◌, ◌-◌, ◌<◌, ◌≤◌, Vec, Global, List, [], ◌∷◌, ◌++◌, length, map, set, replicate, get_or, slice_get, Some, IsTrue, refl, sym, ap, subst, inl, inr, arith, get_or-set_same, get_or-set_other}
+use Rattle.std.proofs.lemmas.Bool.{cases_eq, cases_lt}
+use Rattle.std.proofs.lemmas.List.{length-set, length-map, length-replicate, get_or-replicate, get_or_past}
+use Rattle.std.proofs.lemmas.Option.{none-some, same_Some, slice_get_within}
+use Rattle.column_order.specs.Orders.{has}
+use Rattle.row_model.specs.Graph.{row_at}
+use Rattle.row_model.specs.Rows.{RowList}
+use Rattle.incompat_graph.specs.Holders.{holders_of, AreHolders}
+use Rattle.incompat_graph.proofs.Items.{item_pushed, item_last, item_append, has_item, item_of}
+
+-- the lists within the vectors
+abbrev pub lists_of : List (Vec ℕ Global) → List (List ℕ)
+lists_of holders = map (λ list. list.items) holders
+
+-- so far the rows up to k stand in the lists, and the next row in those of its first columns
+pub record HoldersSoFar (m : RowList) (k : ℕ) (row : List ℕ) (done : ℕ) (lists : List (List ℕ)) : Type 0 where
+  pub columns : length lists ≡ m.columns
+  pub sound : (column i r : ℕ) → 1 ≤ column → slice_get (holders_of lists column) i ≡ Some r → (1 ≤ r) × (r ≤ k + 1) × IsTrue (has (row_at m.rows r) column)
+  pub whole : (column r : ℕ) → 1 ≤ column → column ≤ m.columns → 1 ≤ r → r ≤ k → IsTrue (has (row_at m.rows r) column) → (i : ℕ) × (slice_get (holders_of lists column) i ≡ Some r)
+  pub next : (j column : ℕ) → j < done → slice_get row j ≡ Some column → (i : ℕ) × (slice_get (holders_of lists column) i ≡ Some (k + 1))
+
+empty_at : (c n : ℕ) → get_or (replicate {A = List ℕ} c []) n [] ≡ []
+empty_at c n =
+    let none : List ℕ = [] in
+    elim (cases_lt n c) [
+      | inl l ↦ get_or-replicate c n none none l
+      | inr l ↦ get_or_past (replicate c none) n none (omega (arith, length-replicate c none))
+    ]
+
+pub holders_none : (m : RowList) (lists : List (List ℕ)) → lists ≡ replicate m.columns [] → AreHolders m 0 lists
+holders_none m lists e =
+    let none : List ℕ = [] in
+    let empty : (column : ℕ) → holders_of lists column ≡ [] = λ column. ap (λ ls. get_or ls (column - 1) []) e ∙ empty_at m.columns (column - 1) in
+    record {
+      columns = ap length e ∙ length-replicate m.columns none;
+      sound = λ column i r l h. absurd (none-some r (sym (ap (λ list. slice_get list i) (empty column)) ∙ h));
+      whole = λ column r a b d f. absurd (omega arith);
+    }
+
+pub holders_begin : (m : RowList) (k : ℕ) (row : List ℕ) (lists : List (List ℕ)) → AreHolders m k lists → HoldersSoFar m k row 0 lists
+holders_begin m k row lists h =
+    record {
+      columns = h.columns;
+      sound = λ column i r l e. (let s = h.sound column i r l e in (s.0, omega (arith, s.1), s.2));
+      whole = h.whole;
+      next = λ j column l e. absurd (omega arith);
+    }
+
+pub holders_end : (m : RowList) (k : ℕ) (row : List ℕ) (lists : List (List ℕ)) → row ≡ row_at m.rows (k + 1) → HoldersSoFar m k row (length row) lists → AreHolders m (k + 1) lists
+holders_end m k row lists is h =
+    record {
+      columns = h.columns;
+      sound = h.sound;
+      whole = λ column r a b d f t. elim (cases_eq r (k + 1)) [
+        | inl e ↦
+            let i = item_of row column (subst (λ ys. IsTrue (has ys column)) (ap (row_at m.rows) e ∙ sym is) t) in
+            let found = h.next i.0 column (slice_get_within row i.0 column i.1) i.1 in
+            (found.0, found.1 ∙ ap Some (sym e))
+        | inr n ↦ h.whole column r a b d (omega arith) t
+      ];
+    }
+
+module _ (m : RowList) (k : ℕ) (row : List ℕ) (done : ℕ) (lists lists' : List (List ℕ)) (column : ℕ) (is : row ≡ row_at m.rows (k + 1)) (h : HoldersSoFar m k row done lists) (at : slice_get row done ≡ Some column)
+    (from : 1 ≤ column) (to : column ≤ length lists) (e : lists' ≡ set lists (column - 1) (holders_of lists column ++ (k + 1) ∷ [])) (row_columns : (j q : ℕ) → slice_get row j ≡ Some q → (1 ≤ q) × (q ≤ m.columns)) where
+  here : holders_of lists' column ≡ holders_of lists column ++ (k + 1) ∷ []
+  here = ap (λ ls. get_or ls (column - 1) []) e ∙ get_or-set_same lists (column - 1) (holders_of lists column ++ (k + 1) ∷ []) [] (omega arith)
+
+  elsewhere : (q : ℕ) → 1 ≤ q → q ≢ column → holders_of lists' q ≡ holders_of lists q
+  elsewhere q l n = ap (λ ls. get_or ls (q - 1) []) e ∙ get_or-set_other lists (column - 1) (q - 1) (holders_of lists column ++ (k + 1) ∷ []) [] (omega arith)
+
+  stays : (q i r : ℕ) → 1 ≤ q → slice_get (holders_of lists q) i ≡ Some r → slice_get (holders_of lists' q) i ≡ Some r
+  stays q i r l f =
+      elim (cases_eq q column) [
+        | inl s ↦
+            let g : slice_get (holders_of lists column) i ≡ Some r = subst (λ c. slice_get (holders_of lists c) i ≡ Some r) s f in
+            subst (λ c. slice_get (holders_of lists' c) i ≡ Some r) (sym s) (ap (λ list. slice_get list i) here ∙ item_append (holders_of lists column) ((k + 1) ∷ []) i r g)
+        | inr n ↦ ap (λ list. slice_get list i) (elsewhere q l n) ∙ f
+      ]
+
+  pub holders_more : HoldersSoFar m k row (done + 1) lists'
+  holders_more =
+      record {
+        columns = ap length e ∙ length-set lists (column - 1) (holders_of lists column ++ (k + 1) ∷ []) ∙ h.columns;
+        sound = λ q i r l f. elim (cases_eq q column) [
+          | inl s ↦
+              let g : slice_get (holders_of lists column ++ (k + 1) ∷ []) i ≡ Some r = sym (ap (λ list. slice_get list i) here) ∙ subst (λ c. slice_get (holders_of lists' c) i ≡ Some r) s f in
+              subst (λ c. (1 ≤ r) × (r ≤ k + 1) × IsTrue (has (row_at m.rows r) c)) (sym s) (elim (item_pushed (holders_of lists column) (k + 1) i r g) [
+                | inl t ↦ h.sound column i r from t
+                | inr t ↦ subst (λ x. (1 ≤ x) × (x ≤ k + 1) × IsTrue (has (row_at m.rows x) column)) t.1 (omega arith, omega arith, subst (λ ys. IsTrue (has ys column)) is (has_item row done column at))
+              ])
+          | inr n ↦ h.sound q i r l (sym (ap (λ list. slice_get list i) (elsewhere q l n)) ∙ f)
+        ];
+        whole = λ q r a b d f t. (let found = h.whole q r a b d f t in (found.0, stays q found.0 r a found.1));
+        next = λ j q l f. elim (cases_eq j done) [
+          | inl s ↦
+              let same : q ≡ column = same_Some q column (sym f ∙ ap (slice_get row) s ∙ at) in
+              (length (holders_of lists column), subst (λ c. slice_get (holders_of lists' c) (length (holders_of lists column)) ≡ Some (k + 1)) (sym same) (ap (λ list. slice_get list (length (holders_of lists column))) here ∙ item_last (holders_of lists column) (k + 1)))
+          | inr n ↦
+              let found = h.next j q (omega arith) f in
+              (found.0, stays q found.0 (k + 1) (row_columns j q f).0 found.1)
+        ];
+      }

@@ -1,0 +1,16 @@
+use Rattle.std.proofs.Common.{◌≡◌, ◌+◌, ◌∷◌, [], ◌++◌, length, refl, arith}
+use Rattle.std.proofs.lemmas.Grind.{common_steps}
+use Rattle.incompat_graph.specs.Search.{pair_of_node}
+use Rattle.incompat_graph.proofs.NumberLaws.{indexed_push}
+use Rattle.incompat_graph.proofs.forest.Forest.add.Goals as goal
+
+pub returns : goal.returns
+returns c =
+    let items : c.push.new.self.items ≡ c.args.self.now.nodes.items ++ c.args.node ∷ [] = grind (arith, common_steps) in
+    let long : c.len.result ≡ length c.args.self.now.nodes.items + 1 = grind (arith, common_steps) in
+    record {
+      columns = c.set.ensures.columns;
+      indexed = rw items (indexed_push pair_of_node c.args.self.now.numbers c.set.new.self c.args.self.now.nodes.items c.args.node c.len.result c.requires.indexed c.requires.pair c.requires.fresh long c.set.ensures);
+      root = refl;
+      nodes = items;
+    }

@@ -1,0 +1,13 @@
+use Rattle.std.proofs.Common.{◌≡◌, ℕ, [], List, replicate}
+use Rattle.incompat_graph.specs.Holders.{AreHolders}
+use Rattle.incompat_graph.proofs.HolderLaws.{lists_of, HoldersSoFar}
+use Rattle.incompat_graph.proofs.holders.rows_by_column.Given as goal
+
+abbrev pub invariant-loop : goal.invariant-loop
+invariant-loop g l = lists_of l.holders.items ≡ replicate l.counter []
+
+abbrev pub invariant-loop-column : goal.invariant-loop-column
+invariant-loop-column g l = HoldersSoFar l.m l.k l.column-items l.column-index (lists_of l.holders.items)
+
+abbrev pub invariant-loop-k : goal.invariant-loop-k
+invariant-loop-k g l = AreHolders l.m l.k (lists_of l.holders.items)

@@ -1,0 +1,118 @@
+-- The search for a closed walk of odd length: what is reached, and what that shows.
+use Rattle.std.specs.Prelude.{◌≡◌, ◌⊎◌, ℕ, ◌<◌, ◌≤◌, Bool, true, not, IsTrue, IsFalse, Option, Some, None, List, [], ◌∷◌, ◌++◌, length, take, slice_get}
+use Rattle.row_model.specs.declared.graph.Pair.{Pair}
+use Rattle.row_model.specs.Graph.{pair, turned, row_at, JoinedBy, Joined, IsPair}
+use Rattle.row_model.specs.Rows.{RowList}
+use Rattle.column_order.specs.Orders.{has}
+use Rattle.incompat_graph.specs.declared.forest.Node.{Node}
+use Rattle.incompat_graph.specs.declared.forest.Conflict.{Conflict}
+use Rattle.incompat_graph.specs.declared.forest.Forest.{Forest}
+use Rattle.incompat_graph.specs.Numbers.{IsIndexed}
+use Rattle.incompat_graph.specs.Marks.{Marking, is_marked}
+
+abbrev pub pair_of_node : Node → Pair
+pair_of_node node = node.pair
+
+-- the pair is reached, an odd number of steps from a root or not
+pub record IsReached (nodes : List Node) (v : Pair) (odd : Bool) : Type 0 where
+  pub index : ℕ
+  pub node : Node
+  pub there : slice_get nodes index ≡ Some node
+  pub pair : node.pair ≡ v
+  pub parity : node.odd ≡ odd
+
+-- the forest has one more node
+pub record Adds (old new : Forest) (node : Node) : Type 0 where
+  pub columns : new.numbers.columns ≡ old.numbers.columns
+  pub indexed : IsIndexed pair_of_node new.numbers new.nodes.items
+  pub root : new.root ≡ old.root
+  pub nodes : new.nodes.items ≡ old.nodes.items ++ node ∷ []
+
+-- either the node was added or its pair was reached already, an odd number of steps from a root as the node would be or an even
+-- number as it would be; or the pair was reached the other way, by the node of the answer, and nothing has changed
+abbrev pub Reaches : Forest → Forest → Node → Option ℕ → Type 0
+Reaches old new node None = Adds old new node ⊎ ((new ≡ old) × IsReached old.nodes.items node.pair node.odd)
+Reaches old new node (Some to) = (new ≡ old) × (other : Node) × (slice_get old.nodes.items to ≡ Some other) × (other.pair ≡ node.pair) × (other.odd ≡ not node.odd)
+
+-- each node of the last tree but its root has a parent in this tree that was reached before it, and one of the two lies an odd
+-- number of steps from the root
+pub record IsTree (root : ℕ) (nodes : List Node) : Type 0 where
+  pub parents : (i : ℕ) (node : Node) → slice_get nodes i ≡ Some node → root < i → (root ≤ node.parent) × (node.parent < i)
+  pub parities : (i : ℕ) (node parent : Node) → slice_get nodes i ≡ Some node → root < i → slice_get nodes node.parent ≡ Some parent → node.odd ≡ not parent.odd
+
+-- the reason of each node of the last tree but its root joins its pair to its parent's
+abbrev pub AreJoined : ℕ → List (List ℕ) → ℕ → List Node → Type 0
+AreJoined c rows root nodes =
+    (i : ℕ) (node parent : Node) →
+    slice_get nodes i ≡ Some node →
+    root < i →
+    slice_get nodes node.parent ≡ Some parent →
+    JoinedBy c rows node.pair parent.pair node.why
+
+-- whatever is joined to a pair that is reached is reached too, and one of the two lies an odd number of steps from a root
+abbrev pub IsSettled : ℕ → List (List ℕ) → List Node → Type 0
+IsSettled c rows nodes = (v w : Pair) (odd : Bool) → IsReached nodes v odd → Joined c rows v w → IsReached nodes w (not odd)
+
+-- a search forest in the graph of these rows, whose trees before the last are settled
+pub record IsForest (c : ℕ) (rows : List (List ℕ)) (forest : Forest) : Type 0 where
+  pub columns : forest.numbers.columns ≡ c
+  pub indexed : IsIndexed pair_of_node forest.numbers forest.nodes.items
+  pub within : forest.root ≤ length forest.nodes.items
+  pub settled : IsSettled c rows (take forest.root forest.nodes.items)
+  pub tree : IsTree forest.root forest.nodes.items
+  pub joined : AreJoined c rows forest.root forest.nodes.items
+
+-- the two nodes of the last tree are joined, and both or neither lies an odd number of steps from the root
+pub record IsConflict (c : ℕ) (rows : List (List ℕ)) (forest : Forest) (conflict : Conflict) : Type 0 where
+  pub from : Node
+  pub to : Node
+  pub from_there : slice_get forest.nodes.items conflict.from ≡ Some from
+  pub to_there : slice_get forest.nodes.items conflict.to ≡ Some to
+  pub from_in : forest.root ≤ conflict.from
+  pub to_in : forest.root ≤ conflict.to
+  pub joined : JoinedBy c rows from.pair to.pair conflict.why
+  pub alike : from.odd ≡ to.odd
+
+-- the forest and the conflict in it
+pub record ShowsConflict (c : ℕ) (rows : List (List ℕ)) (forest : Forest) (conflict : Conflict) : Type 0 where
+  pub is_forest : IsForest c rows forest
+  pub is_conflict : IsConflict c rows forest conflict
+
+-- for each column d of the row (p,d) is reached, all of them an odd number of steps from a root or all an even number
+abbrev pub IsReachedAlong : List Node → ℕ → List ℕ → Type 0
+IsReachedAlong nodes p row = (odd : Bool) × ((d : ℕ) → IsTrue (has row d) → IsReached nodes (pair p d) odd)
+
+-- where a row is marked at a column that it lacks, the pairs of this column with those of the row are reached
+abbrev pub IsSpread : List (List ℕ) → Marking → List Node → Type 0
+IsSpread rows marks nodes =
+    (k p : ℕ) →
+    1 ≤ k →
+    k ≤ marks.rows →
+    1 ≤ p →
+    is_marked marks k p ≡ true →
+    IsFalse (has (row_at rows k) p) →
+    IsReachedAlong nodes p (row_at rows k)
+
+-- a search in the graph of the first rows, as many as the marks have
+pub record IsSearch (m : RowList) (marks : Marking) (forest : Forest) : Type 0 where
+  pub few : marks.rows ≤ length m.rows
+  pub columns : marks.columns ≡ m.columns
+  pub is_forest : IsForest m.columns (take marks.rows m.rows) forest
+  pub spread : IsSpread m.rows marks forest.nodes.items
+
+-- marks and nodes stay, and more come
+pub record Grows (marks marks' : Marking) (nodes nodes' : List Node) : Type 0 where
+  pub rows : marks'.rows ≡ marks.rows
+  pub columns : marks'.columns ≡ marks.columns
+  pub stay : (k p : ℕ) → is_marked marks k p ≡ true → is_marked marks' k p ≡ true
+  pub more : List Node
+  pub appended : nodes' ≡ nodes ++ more
+
+-- the pair of the node with its columns exchanged is reached, and each row with its first column is marked at its second
+pub record IsTaken (rows : List (List ℕ)) (marks : Marking) (nodes : List Node) (node : Node) : Type 0 where
+  pub turned : IsReached nodes (turned node.pair) (not node.odd)
+  pub marked : (k : ℕ) → 1 ≤ k → k ≤ marks.rows → IsTrue (has (row_at rows k) node.pair.a) → is_marked marks k node.pair.b ≡ true
+
+-- so are the first nodes
+abbrev pub AreTaken : List (List ℕ) → Marking → List Node → ℕ → Type 0
+AreTaken rows marks nodes n = (i : ℕ) (node : Node) → i < n → slice_get nodes i ≡ Some node → IsTaken rows marks nodes node

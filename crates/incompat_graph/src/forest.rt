@@ -1,0 +1,87 @@
+// The pairs that the search has reached, each with the way by which it was reached.
+ghost use Rattle.std.specs.Prelude.{◌≡◌, [], IfOk, OnOk};
+ghost use Rattle.row_model.specs.Graph.{IsPair};
+ghost use Rattle.incompat_graph.specs.Numbers.{IsIndexed, number_of};
+ghost use Rattle.incompat_graph.specs.Search.{pair_of_node, Adds, Reaches};
+
+use crate::numbers::PairNumbers;
+use row_model::{Pair, Why};
+use std::alloc::{AllocError, Global};
+
+/// A pair that the search has reached.
+#[derive(Clone, Copy, Debug, PartialEq, Eq)]
+pub struct Node {
+    /// The pair.
+    pub pair: Pair,
+    /// The index of the node from which it was reached; that of a root is its own.
+    pub parent: usize,
+    /// The reason that joins the pair to the parent's.
+    pub why: Why,
+    /// Whether an odd number of steps leads to it from the root.
+    pub odd: bool,
+}
+
+/// Two joined pairs of one tree that lie both an odd or both an even number of steps from its root.
+#[derive(Clone, Copy, Debug, PartialEq, Eq)]
+pub struct Conflict {
+    /// The index of the one.
+    pub from: usize,
+    /// The index of the other.
+    pub to: usize,
+    /// The reason that joins the two.
+    pub why: Why,
+}
+
+/// Search trees in the order in which their nodes were reached, with the place of each pair.
+#[derive(Drop)]
+pub struct Forest {
+    /// The index of each pair's node, counted from 1; 0 where the pair is not reached.
+    pub numbers: PairNumbers,
+    /// The nodes, tree after tree.
+    pub nodes: Vec<Node>,
+    /// The index of the root of the last tree.
+    pub root: usize,
+}
+
+impl Forest {
+    /// A forest with no tree.
+    pub fn new(alloc: Global, columns: u32) -> Result<Self, AllocError>
+        ensures { IfOk result (λ forest. (forest.numbers.columns ≡ columns) × (forest.nodes.items ≡ []) × (forest.root ≡ 0)
+            × IsIndexed pair_of_node forest.numbers forest.nodes.items) }
+    {
+        Ok(Forest {
+            numbers: PairNumbers::new(alloc, columns)?,
+            nodes: Vec::new(alloc),
+            root: 0,
+        })
+    }
+
+    /// Adds a node with a new pair.
+    pub fn add(&mut self, node: Node) -> Result<(), AllocError>
+        requires indexed { IsIndexed pair_of_node self.old.numbers self.old.nodes.items }
+        requires pair { IsPair self.old.numbers.columns node.pair }
+        requires fresh { number_of self.old.numbers node.pair ≡ 0 }
+        ensures { OnOk result (Adds self.old self.new node) }
+    {
+        self.nodes.push(node)?;
+        self.numbers.set(node.pair, self.nodes.len());
+        Ok(())
+    }
+
+    /// Adds a node, unless its pair is reached already. The answer is the index of the pair's node where that lies an
+    /// odd number of steps from the root and the new one would not, or the other way round.
+    pub fn reach(&mut self, node: Node) -> Result<Option<usize>, AllocError>
+        requires indexed { IsIndexed pair_of_node self.old.numbers self.old.nodes.items }
+        requires pair { IsPair self.old.numbers.columns node.pair }
+        ensures { IfOk result (Reaches self.old self.new node) }
+    {
+        match self.numbers.get(node.pair) {
+            0 => {
+                self.add(node)?;
+                Ok(None)
+            }
+            number if self.nodes[number - 1].odd == node.odd => Ok(None),
+            number => Ok(Some(number - 1)),
+        }
+    }
+}

@@ -1,0 +1,42 @@
+// The rows that have each column.
+ghost use Rattle.std.specs.Prelude.{◌≡◌, ◌-◌, ◌<◌, ◌≤◌, [], ◌∷◌, ◌++◌, length, map, set, slice_index_or, IfOk, OnOk};
+ghost use Rattle.incompat_graph.specs.Holders.{AreHolders};
+
+use row_model::Matrix;
+use std::alloc::{AllocError, Global};
+use step_count::{Ledger, Steps};
+
+/// For each column the list of those of the first rows that have it. It counts a step for each one in these rows.
+pub fn rows_by_column<L: Ledger>(
+    alloc: Global,
+    m: &Matrix,
+    rows: u32,
+    steps: &mut Steps<L>,
+) -> Result<Vec<Vec<u32>>, AllocError>
+    requires { rows ≤ length m.now.rows }
+    ensures { IfOk result (λ holders. AreHolders m.now rows (map (λ list. list.items) holders.items)) }
+{
+    let mut holders = Vec::new(alloc);
+    for _ in 0..m.columns() {
+        holders.push(Vec::new(alloc))?;
+    }
+    for k in 0..rows {
+        for column in m.row(k + 1) {
+            steps.tick();
+            add_holder(&mut holders, *column, k + 1)?;
+        }
+    }
+    Ok(holders)
+}
+
+// Adds a row to the list of a column.
+fn add_holder(holders: &mut Vec<Vec<u32>>, column: u32, row: u32) -> Result<(), AllocError>
+    requires { (1 ≤ column) × (column ≤ length holders.old.items) }
+    ensures { OnOk result (map (λ list. list.items) holders.new.items
+        ≡ set (map (λ list. list.items) holders.old.items) (column - 1)
+            (slice_index_or (map (λ list. list.items) holders.old.items) (column - 1) [] ++ row ∷ [])) }
+{
+    let list = &mut holders[column as usize - 1];
+    list.push(row)?;
+    Ok(())
+}
