@@ -6,8 +6,8 @@ use Rattle.column_order.specs.Orders.{has}
 use Rattle.pq_tree.specs.Outline.{Outline, Forest, leaf, p_node, q_node, no_tree, tree_and}
 use Rattle.pq_tree.specs.Proper.{HasArities, HaveArities, count}
 use Rattle.pq_plain.specs.Templates.{join, star, back, under, gather}
-use Rattle.pq_plain.specs.Treat.{Partial, Label, empty_label, full_label, partial_label, empty_trees, full_trees, partials, at_p, at_q, at_run, Run, run_of, all_filled, one_more, label_of, labels_of, first_some}
-use Rattle.pq_plain.specs.Reduce.{holds, root_p, Tail, Span, all_void, full_more, before_more, begins, tail_of, span_of, root_q, at_span, put, behind_of, reduce, inner}
+use Rattle.pq_plain.specs.Labels.{Partial, Label, empty_label, full_label, partial_label, empty_trees, full_trees, partials, at_p, at_q, at_run, Run, run_of, all_full, one_more, label_of, labels_of, first_some}
+use Rattle.pq_plain.specs.Reduce.{holds, root_p, Tail, Span, all_empty, full_more, before_more, begins, tail_of, span_of, root_q, at_span, put, behind_of, reduce, inner}
 use Rattle.pq_plain.proofs.Made.{some_inj, and_then, cond_some, counts_back, count_back, first_cases}
 use Rattle.pq_plain.proofs.Reduced.{inner_cases, behind_cases, put_cases}
 
@@ -114,9 +114,9 @@ run_good (tree_and t ts) (empty_label ∷ ps) r c g e =
     let k : GoodRun w.0 = run_good ts ps w.0 c.1 g.1 w.1 in
     subst GoodRun (some_inj w.2) ((c.0, k.0), k.1, k.2)
 run_good (tree_and t ts) (full_label ∷ ps) r c g e =
-    subst GoodRun (cond_some (all_filled ps) (record { before = no_tree; middle = []; behind = tree_and t ts }) r e).1 (tt, tt, c)
+    subst GoodRun (cond_some (all_full ps) (record { before = no_tree; middle = []; behind = tree_and t ts }) r e).1 (tt, tt, c)
 run_good (tree_and t ts) (partial_label h ∷ ps) r c g e =
-    subst GoodRun (cond_some (all_filled ps) (record { before = no_tree; middle = h ∷ []; behind = ts }) r e).1 (tt, (g.0, tt), c.1)
+    subst GoodRun (cond_some (all_full ps) (record { before = no_tree; middle = h ∷ []; behind = ts }) r e).1 (tt, (g.0, tt), c.1)
 
 run_part : (ts : Forest) (ps : List Label) (x : Label) → HaveArities ts → GoodParts ps → option_and_then at_run (run_of ts ps) ≡ Some x → GoodPart x
 run_part ts ps x c g e =
@@ -190,12 +190,12 @@ GoodTail r = HaveArities r.middle × AreGood r.right × HaveArities r.behind
 tail_good : (ts : Forest) (ps : List Label) (r : Tail) → HaveArities ts → GoodParts ps → tail_of ts ps ≡ Some r → GoodTail r
 tail_good no_tree ps r c g e = subst GoodTail (some_inj e) (tt, tt, tt)
 tail_good (tree_and t ts) [] r c g e = cc
-tail_good (tree_and t ts) (empty_label ∷ ps) r c g e = subst GoodTail (cond_some (all_void ps) (record { middle = no_tree; right = []; behind = tree_and t ts }) r e).1 (tt, tt, c)
+tail_good (tree_and t ts) (empty_label ∷ ps) r c g e = subst GoodTail (cond_some (all_empty ps) (record { middle = no_tree; right = []; behind = tree_and t ts }) r e).1 (tt, tt, c)
 tail_good (tree_and t ts) (full_label ∷ ps) r c g e =
     let w : (x : Tail) × (tail_of ts ps ≡ Some x) × (Some (full_more t x) ≡ Some r) = and_then (λ x. Some (full_more t x)) (tail_of ts ps) r e in
     let k : GoodTail w.0 = tail_good ts ps w.0 c.1 g.1 w.1 in
     subst GoodTail (some_inj w.2) ((c.0, k.0), k.1, k.2)
-tail_good (tree_and t ts) (partial_label h ∷ ps) r c g e = subst GoodTail (cond_some (all_void ps) (record { middle = no_tree; right = h ∷ []; behind = ts }) r e).1 (tt, (g.0, tt), c.1)
+tail_good (tree_and t ts) (partial_label h ∷ ps) r c g e = subst GoodTail (cond_some (all_empty ps) (record { middle = no_tree; right = h ∷ []; behind = ts }) r e).1 (tt, (g.0, tt), c.1)
 
 abbrev pub GoodSpan : Span → Type 0
 GoodSpan r = HaveArities r.before × AreGood r.left × GoodTail r.tail

@@ -11,7 +11,7 @@ use Rattle.tied_law.specs.Tied.{IsForward}
 use Rattle.tied_law.proofs.Bound.{IsClosed, AreClosed, IsBound, AreBound, IsPairEq}
 use Rattle.tied_law.proofs.Frontiers.{has_same}
 use Rattle.pq_plain.specs.Templates.{join, back, IsParted}
-use Rattle.pq_plain.specs.Treat.{Partial, Label, empty_trees, full_trees, partial_trees, partials, at_p, at_q, at_run, Run, run_of, all_filled, one_more, label_of, labels_of, first_some}
+use Rattle.pq_plain.specs.Labels.{Partial, Label, empty_trees, full_trees, partial_trees, partials, at_p, at_q, at_run, Run, run_of, all_full, one_more, label_of, labels_of, first_some}
 use Rattle.pq_plain.proofs.Lines.{closed_right, parted_occurs, has_join_left, has_join_right}
 use Rattle.pq_plain.proofs.Treat.{IsOutside, Treated, outside_within}
 use Rattle.pq_plain.proofs.Queue.{forward_back}
@@ -57,7 +57,7 @@ pub in_right : (row : List ℕ) (u : Outline) (h : Partial) (t : Treated row u h
 in_right row u h t a k = sym (has_same (leaves_of (join h.e h.f)) (leaves u) a (t.same a)) ∙ has_join_right h.e h.f a k
 
 -- a later tree that isn't full has an empty column
-not_filled : (row : List ℕ) (ts : Forest) (ps : List Label) → AreMade row ts ps → HaveArities ts → IsFalse (all_filled ps) → (d : ℕ) × IsTrue (has (leaves_of ts) d) × IsFalse (has row d)
+not_filled : (row : List ℕ) (ts : Forest) (ps : List Label) → AreMade row ts ps → HaveArities ts → IsFalse (all_full ps) → (d : ℕ) × IsTrue (has (leaves_of ts) d) × IsFalse (has row d)
 not_filled row ts ps none_made c e = absurd (both_ways true e refl)
 not_filled row ts ps (more_made {t = t} {ts = us} (made_void k) m) c e =
     let w : (a : ℕ) × IsTrue (has (leaves t) a) = some_leaf t c.0 in (w.0, has_append_left (leaves t) (leaves_of us) w.0 w.1, k w.0 w.1)
@@ -77,11 +77,11 @@ run_falls row ts ps (more_made {t = t} {ts = us} {ps = qs} (made_void k) m) c e 
     none_some : (r : Run) → Some r ≡ None → Falls row (tree_and t us)
     none_some r e = cc
 run_falls row ts ps (more_made {t = t} {ts = us} {ps = qs} (made_filled k) m) c e =
-    let w : (d : ℕ) × IsTrue (has (leaves_of us) d) × IsFalse (has row d) = not_filled row us qs m c.1 (cond_none (all_filled qs) (record { before = no_tree; middle = []; behind = tree_and t us }) e) in
+    let w : (d : ℕ) × IsTrue (has (leaves_of us) d) × IsFalse (has row d) = not_filled row us qs m c.1 (cond_none (all_full qs) (record { before = no_tree; middle = []; behind = tree_and t us }) e) in
     let l : (a : ℕ) × IsTrue (has (leaves t) a) = some_leaf t c.0 in
     record { v = pair l.0 w.0; forward = inl (l.1, w.1); from_full = k l.0 l.1; to_empty = w.2 }
 run_falls row ts ps (more_made {t = t} {ts = us} {ps = qs} (made_split h k) m) c e =
-    let w : (d : ℕ) × IsTrue (has (leaves_of us) d) × IsFalse (has row d) = not_filled row us qs m c.1 (cond_none (all_filled qs) (record { before = no_tree; middle = h ∷ []; behind = us }) e) in
+    let w : (d : ℕ) × IsTrue (has (leaves_of us) d) × IsFalse (has row d) = not_filled row us qs m c.1 (cond_none (all_full qs) (record { before = no_tree; middle = h ∷ []; behind = us }) e) in
     record { v = pair k.some_full.0 w.0; forward = inl (in_right row t h k k.some_full.0 k.some_full.1, w.1); from_full = k.full k.some_full.0 k.some_full.1; to_empty = w.2 }
 
 pub forward_first : (ts : Forest) (v : Pair) → IsForward ts v → IsTrue (has (leaves_of ts) v.a)

@@ -7,7 +7,7 @@ use Rattle.column_order.proofs.Lists.{has_cases, has_head, has_append_cases, has
 use Rattle.pq_tree.specs.Outline.{Outline, Forest, leaf, p_node, q_node, no_tree, tree_and, leaves, leaves_of}
 use Rattle.pq_tree.specs.Proper.{HasArities, HaveArities, count}
 use Rattle.pq_plain.specs.Templates.{join, star, back, IsParted, none_parted, to_left, to_right}
-use Rattle.pq_plain.specs.Treat.{Partial, Label, empty_label, full_label, partial_label, empty_trees, full_trees, partial_trees, partials, partial_of, at_p, at_q, at_run, Run, run_of, all_filled, one_more, label_of, labels_of, first_some}
+use Rattle.pq_plain.specs.Labels.{Partial, Label, empty_label, full_label, partial_label, empty_trees, full_trees, partial_trees, partials, partial_of, at_p, at_q, at_run, Run, run_of, all_full, one_more, label_of, labels_of, first_some}
 use Rattle.pq_plain.proofs.Lines.{has_parted_cases, has_join_left, has_join_right, forward_across}
 use Rattle.pq_plain.proofs.Treat.{AreEmpty, AreFull, Treated, p3}
 use Rattle.pq_plain.proofs.Halves.{p5}
@@ -141,7 +141,7 @@ pub data IsRun (row : List ℕ) : Forest → Run → Type 1 where
   run_full : {ts : Forest} → AreFull row ts → IsRun row ts (record { before = no_tree; middle = []; behind = ts })
   run_split : {t : Outline} {ts : Forest} → (h : Partial) → Treated row t h.e h.f → AreFull row ts → IsRun row (tree_and t ts) (record { before = no_tree; middle = h ∷ []; behind = ts })
 
-filled_full : (row : List ℕ) (ts : Forest) (ps : List Label) → AreMade row ts ps → IsTrue (all_filled ps) → AreFull row ts
+filled_full : (row : List ℕ) (ts : Forest) (ps : List Label) → AreMade row ts ps → IsTrue (all_full ps) → AreFull row ts
 filled_full row ts ps none_made e a h = absurd (both_ways false refl h)
 filled_full row ts ps (more_made (made_void k) m) e a h = absurd (both_ways false refl e)
 filled_full row ts ps (more_made {t = t} {ts = us} {ps = qs} (made_filled k) m) e a h =
@@ -163,10 +163,10 @@ run_made row ts ps r (more_made {t = t} {ts = us} {ps = qs} (made_void k) m) e =
     let f : one_more t w.0 ≡ r = let g : Some (one_more t w.0) ≡ Some r = w.2 in cc in
     subst (IsRun row (tree_and t us)) f (run_void k (run_made row us qs w.0 m w.1))
 run_made row ts ps r (more_made {t = t} {ts = us} {ps = qs} (made_filled k) m) e =
-    let w : IsTrue (all_filled qs) × (record { before = no_tree; middle = []; behind = tree_and t us } ≡ r) = cond_some (all_filled qs) (record { before = no_tree; middle = []; behind = tree_and t us }) r e in
+    let w : IsTrue (all_full qs) × (record { before = no_tree; middle = []; behind = tree_and t us } ≡ r) = cond_some (all_full qs) (record { before = no_tree; middle = []; behind = tree_and t us }) r e in
     subst (IsRun row (tree_and t us)) w.1 (run_full (filled_full row (tree_and t us) (full_label ∷ qs) (more_made (made_filled k) m) w.0))
 run_made row ts ps r (more_made {t = t} {ts = us} {ps = qs} (made_split h k) m) e =
-    let w : IsTrue (all_filled qs) × (record { before = no_tree; middle = h ∷ []; behind = us } ≡ r) = cond_some (all_filled qs) (record { before = no_tree; middle = h ∷ []; behind = us }) r e in
+    let w : IsTrue (all_full qs) × (record { before = no_tree; middle = h ∷ []; behind = us } ≡ r) = cond_some (all_full qs) (record { before = no_tree; middle = h ∷ []; behind = us }) r e in
     subst (IsRun row (tree_and t us)) w.1 (run_split h k (filled_full row us qs m w.0))
 
 run_empty : (row : List ℕ) (ts : Forest) (r : Run) → IsRun row ts r → AreEmpty row r.before

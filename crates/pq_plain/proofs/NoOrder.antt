@@ -4,19 +4,19 @@ use Rattle.std.proofs.lemmas.Bool.{both_ways, cases_Bool, and_cases}
 use Rattle.std.specs.List.{list_all}
 use Rattle.row_model.specs.declared.graph.Pair.{Pair}
 use Rattle.column_order.specs.Orders.{has, occurs, place, IsOrder, IsValidOrder}
-use Rattle.row_model.specs.Graph.{pair, Joined}
+use Rattle.row_model.specs.Graph.{pair, Joined, Evenly, HasConflict}
 use Rattle.column_order.proofs.Lists.{has_head, has_tail, has_append_cases, has_append_left, has_append_right, occurs-append, occurs_from_has, has_from_occurs, lacks_from_occurs, place-inj}
 use Rattle.pq_tree.specs.Outline.{Outline, Forest, leaf, p_node, q_node, no_tree, tree_and, leaves, leaves_of}
 use Rattle.pq_tree.specs.Proper.{HasArities, HaveArities}
-use Rattle.tied_law.specs.Tied.{IsForward, Evenly, IsTied}
+use Rattle.tied_law.specs.Tied.{IsForward, IsTied}
 use Rattle.tied_law.proofs.Bound.{IsClosed, AreClosed, IsBound, AreBound, IsPairEq, line_closed, bound_mono}
-use Rattle.tied_law.proofs.Bridge.{evenly_eq, last_row_closed, joined_more}
+use Rattle.tied_law.proofs.Bridge.{evenly_eq, last_row_closed}
 use Rattle.tied_law.proofs.Exact.{order_once, tied_bound}
-use Rattle.row_model.proofs.Walks.{evenly-mono, evenly_one_side}
+use Rattle.row_model.proofs.Walks.{joined-append, conflict_from, evenly-mono, evenly_one_side}
 use Rattle.row_model.proofs.Sides.{side, other_side}
 use Rattle.pq_plain.specs.Templates.{join, IsParted, none_parted, to_left, to_right}
-use Rattle.pq_plain.specs.Treat.{Partial, Label, empty_trees, full_trees, partial_trees, partials, labels_of}
-use Rattle.pq_plain.specs.Reduce.{holds, root_p, Tail, Span, all_void, full_more, before_more, begins, tail_of, span_of, root_q, at_span, inner_or, put, behind_of, reduce, inner}
+use Rattle.pq_plain.specs.Labels.{Partial, Label, empty_trees, full_trees, partial_trees, partials, labels_of}
+use Rattle.pq_plain.specs.Reduce.{holds, root_p, Tail, Span, all_empty, full_more, before_more, begins, tail_of, span_of, root_q, at_span, inner_or, put, behind_of, reduce, inner}
 use Rattle.pq_plain.proofs.Lines.{closed_right, parted_occurs, has_parted_cases, has_join_cases}
 use Rattle.pq_plain.proofs.Treat.{AreEmpty, AreFull}
 use Rattle.pq_plain.proofs.Refused.{three_partial, hole}
@@ -65,7 +65,7 @@ miss_at : (row : List ℕ) (xs ys : Forest) (t : Outline) → AllMiss row (join 
 miss_at row no_tree ys t h = h.0
 miss_at row (tree_and x xs) ys t h = miss_at row xs ys t h.1
 
-not_void : (row : List ℕ) (ts : Forest) (ps : List Label) → AreMade row ts ps → HaveArities ts → IsFalse (all_void ps) → (g : ℕ) × IsTrue (has (leaves_of ts) g) × IsTrue (has row g)
+not_void : (row : List ℕ) (ts : Forest) (ps : List Label) → AreMade row ts ps → HaveArities ts → IsFalse (all_empty ps) → (g : ℕ) × IsTrue (has (leaves_of ts) g) × IsTrue (has row g)
 not_void row ts ps none_made c e = absurd (both_ways true e refl)
 not_void row ts ps (more_made {t = t} {ts = us} {ps = qs} (made_void k) m) c e =
     let w : (g : ℕ) × IsTrue (has (leaves_of us) g) × IsTrue (has row g) = not_void row us qs m c.1 e in (w.0, has_append_right (leaves t) (leaves_of us) w.0 w.1, w.2)
@@ -84,7 +84,7 @@ pub record Climbs (row : List ℕ) (ts : Forest) : Type 0 where
 tail_climbs : (row : List ℕ) (ts : Forest) (ps : List Label) → AreMade row ts ps → HaveArities ts → tail_of ts ps ≡ None → Climbs row ts
 tail_climbs row ts ps none_made c e = cc
 tail_climbs row ts ps (more_made {t = t} {ts = us} {ps = qs} (made_void k) m) c e =
-    let w : (g : ℕ) × IsTrue (has (leaves_of us) g) × IsTrue (has row g) = not_void row us qs m c.1 (cond_none (all_void qs) (record { middle = no_tree; right = []; behind = tree_and t us }) e) in
+    let w : (g : ℕ) × IsTrue (has (leaves_of us) g) × IsTrue (has row g) = not_void row us qs m c.1 (cond_none (all_empty qs) (record { middle = no_tree; right = []; behind = tree_and t us }) e) in
     let l : (a : ℕ) × IsTrue (has (leaves t) a) = some_leaf t c.0 in
     record { v = pair l.0 w.0; forward = inl (l.1, w.1); from_empty = k l.0 l.1; to_full = w.2 }
 tail_climbs row ts ps (more_made {t = t} {ts = us} {ps = qs} (made_filled k) m) c e =
@@ -96,7 +96,7 @@ tail_climbs row ts ps (more_made {t = t} {ts = us} {ps = qs} (made_filled k) m) 
     some_none : (r : Tail) → Some r ≡ None → Climbs row (tree_and t us)
     some_none r x = cc
 tail_climbs row ts ps (more_made {t = t} {ts = us} {ps = qs} (made_split h k) m) c e =
-    let w : (g : ℕ) × IsTrue (has (leaves_of us) g) × IsTrue (has row g) = not_void row us qs m c.1 (cond_none (all_void qs) (record { middle = no_tree; right = h ∷ []; behind = us }) e) in
+    let w : (g : ℕ) × IsTrue (has (leaves_of us) g) × IsTrue (has row g) = not_void row us qs m c.1 (cond_none (all_empty qs) (record { middle = no_tree; right = h ∷ []; behind = us }) e) in
     record { v = pair k.some_empty.0 w.0; forward = inl (in_left row t h k k.some_empty.0 k.some_empty.1, w.1); from_empty = k.empty k.some_empty.0 k.some_empty.1; to_full = w.2 }
 
 -- a full column, then an empty one, then a full one
@@ -315,21 +315,12 @@ module _ (R : Pair → Pair → Type 0) (eq : IsPairEq R) (row : List ℕ) where
               (behind_failed t (inner row ts) (ap (λ b. cond b (Some (put ts (reduce row t))) (behind_of t (inner row ts))) (sym k) ∙ e))
         ]
 
-never : (b : Bool) → b ≡ not b → ⊥
-never true e = cc
-never false e = cc
-
--- A refused row leaves no valid order, and there is a pair to show it.
+-- A refused row gives a conflict in the rows with this one.
 pub refused_pair : (c : ℕ) (rows : List (List ℕ)) (row : List ℕ) (t : Outline) → HasArities t → IsOrder c (leaves t) → IsTied c rows t →
-    ((a : ℕ) → IsTrue (has row a) → IsTrue (has (leaves t) a)) → (d : ℕ) → IsTrue (has row d) → reduce row t ≡ None → Crossed (Evenly c (rows ++ row ∷ []))
+    ((a : ℕ) → IsTrue (has row a) → IsTrue (has (leaves t) a)) → (d : ℕ) → IsTrue (has row d) → reduce row t ≡ None → HasConflict c (rows ++ row ∷ [])
 refused_pair c rows row t n whole tied within d hd e =
+    let x : Crossed (Evenly c (rows ++ row ∷ [])) =
     reduce_failed (Evenly c (rows ++ row ∷ [])) (evenly_eq c (rows ++ row ∷ [])) row t
-    (bound_mono (Evenly c rows) (Evenly c (rows ++ row ∷ [])) (λ v w h. evenly-mono (Joined c rows) (Joined c (rows ++ row ∷ [])) (joined_more c rows row) v w h) t (tied_bound c rows t tied))
-    (last_row_closed c rows row (leaves t) whole within) n (order_once c (leaves t) whole) within d hd e
-
-pub refused_none : (c : ℕ) (rows : List (List ℕ)) (row : List ℕ) (t : Outline) → HasArities t → IsOrder c (leaves t) → IsTied c rows t →
-    ((a : ℕ) → IsTrue (has row a) → IsTrue (has (leaves t) a)) → (d : ℕ) → IsTrue (has row d) → reduce row t ≡ None → (o : List ℕ) → IsValidOrder c (rows ++ row ∷ []) o → ⊥
-refused_none c rows row t n whole tied within d hd e o valid =
-    let x : Crossed (Evenly c (rows ++ row ∷ [])) = refused_pair c rows row t n whole tied within d hd e in
-    let one : side o (pair x.b x.a) ≡ side o (pair x.a x.b) = evenly_one_side c (rows ++ row ∷ []) o valid (pair x.a x.b) (pair x.b x.a) x.turned in
-    never (side o (pair x.a x.b)) (sym one ∙ other_side (place o x.a) (place o x.b) (λ z. x.differ (place-inj o x.a x.b z)))
+    (bound_mono (Evenly c rows) (Evenly c (rows ++ row ∷ [])) (λ v w h. evenly-mono (Joined c rows) (Joined c (rows ++ row ∷ [])) (joined-append c rows (row ∷ [])) v w h) t (tied_bound c rows t tied))
+    (last_row_closed c rows row (leaves t) whole within) n (order_once c (leaves t) whole) within d hd e in
+    conflict_from c (rows ++ row ∷ []) x.a x.b x.differ x.turned

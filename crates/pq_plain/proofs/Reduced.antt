@@ -11,8 +11,8 @@ use Rattle.tied_law.proofs.Frontiers.{has_same}
 use Rattle.tied_law.proofs.Bridge.{tied_more}
 use Rattle.tied_law.proofs.Exact.{order_once}
 use Rattle.pq_plain.specs.Templates.{join, back, IsParted}
-use Rattle.pq_plain.specs.Treat.{Partial, Label, empty_label, empty_trees, full_trees, partial_trees, partials, labels_of}
-use Rattle.pq_plain.specs.Reduce.{holds, root_p, Tail, Span, all_void, full_more, before_more, begins, tail_of, span_of, root_q, at_span, inner_or, put, behind_of, reduce, inner}
+use Rattle.pq_plain.specs.Labels.{Partial, Label, empty_label, empty_trees, full_trees, partial_trees, partials, labels_of}
+use Rattle.pq_plain.specs.Reduce.{holds, root_p, Tail, Span, all_empty, full_more, before_more, begins, tail_of, span_of, root_q, at_span, inner_or, put, behind_of, reduce, inner}
 use Rattle.pq_plain.proofs.Lines.{join_assoc, has_join_right}
 use Rattle.pq_plain.proofs.Treat.{AreEmpty, AreFull, Treated}
 use Rattle.pq_plain.proofs.Root.{Rooted, p2}
@@ -59,7 +59,7 @@ pub data IsSpan (row : List ℕ) : Forest → Span → Type 1 where
   span_tail : {ts : Forest} {r : Tail} → IsTail row ts r → IsSpan row ts (begins [] r)
   span_split : {t : Outline} {ts : Forest} {r : Tail} → (h : Partial) → Treated row t h.e h.f → IsTail row ts r → IsSpan row (tree_and t ts) (begins (h ∷ []) r)
 
-void_empty : (row : List ℕ) (ts : Forest) (ps : List Label) → AreMade row ts ps → IsTrue (all_void ps) → AreEmpty row ts
+void_empty : (row : List ℕ) (ts : Forest) (ps : List Label) → AreMade row ts ps → IsTrue (all_empty ps) → AreEmpty row ts
 void_empty row ts ps none_made e a h = absurd (both_ways false refl h)
 void_empty row ts ps (more_made {t = t} {ts = us} {ps = qs} (made_void k) m) e a h =
     elim (has_append_cases (leaves t) (leaves_of us) a h) [ inl l ↦ k a l | inr l ↦ void_empty row us qs m e a l ]
@@ -69,13 +69,13 @@ void_empty row ts ps (more_made (made_split k t) m) e a h = absurd (both_ways fa
 tail_made : (row : List ℕ) (ts : Forest) (ps : List Label) (r : Tail) → AreMade row ts ps → tail_of ts ps ≡ Some r → IsTail row ts r
 tail_made row ts ps r none_made e = subst (IsTail row no_tree) (some_inj e) tail_end
 tail_made row ts ps r (more_made {t = t} {ts = us} {ps = qs} (made_void k) m) e =
-    let w : IsTrue (all_void qs) × (record { middle = no_tree; right = []; behind = tree_and t us } ≡ r) = cond_some (all_void qs) (record { middle = no_tree; right = []; behind = tree_and t us }) r e in
+    let w : IsTrue (all_empty qs) × (record { middle = no_tree; right = []; behind = tree_and t us } ≡ r) = cond_some (all_empty qs) (record { middle = no_tree; right = []; behind = tree_and t us }) r e in
     subst (IsTail row (tree_and t us)) w.1 (tail_void (void_empty row (tree_and t us) (empty_label ∷ qs) (more_made (made_void k) m) w.0))
 tail_made row ts ps r (more_made {t = t} {ts = us} {ps = qs} (made_filled k) m) e =
     let w : (x : Tail) × (tail_of us qs ≡ Some x) × (Some (full_more t x) ≡ Some r) = and_then (λ x. Some (full_more t x)) (tail_of us qs) r e in
     subst (IsTail row (tree_and t us)) (some_inj w.2) (tail_full k (tail_made row us qs w.0 m w.1))
 tail_made row ts ps r (more_made {t = t} {ts = us} {ps = qs} (made_split h k) m) e =
-    let w : IsTrue (all_void qs) × (record { middle = no_tree; right = h ∷ []; behind = us } ≡ r) = cond_some (all_void qs) (record { middle = no_tree; right = h ∷ []; behind = us }) r e in
+    let w : IsTrue (all_empty qs) × (record { middle = no_tree; right = h ∷ []; behind = us } ≡ r) = cond_some (all_empty qs) (record { middle = no_tree; right = h ∷ []; behind = us }) r e in
     subst (IsTail row (tree_and t us)) w.1 (tail_split h k (void_empty row us qs m w.0))
 
 pub span_made : (row : List ℕ) (ts : Forest) (ps : List Label) (r : Span) → AreMade row ts ps → span_of ts ps ≡ Some r → IsSpan row ts r
