@@ -1,10 +1,13 @@
-//! Numbers as text.
+//! Plain numbers and words in texts, both ways.
 #![tactic(auto)]
 
 ghost use Rattle.std.specs.Prelude.{◌≡◌, ◌++◌, OnOk, OnErr};
 ghost use Rattle.std.specs.Fmt.{decimal};
 
+mod read;
+
 use itoa::Buffer;
+pub use read::{after_word, number};
 pub use std::alloc::AllocError as NoMemory;
 
 /// Appends the plain number: decimal digits without leading zeros, 0 as a single `0`.

@@ -5,3 +5,7 @@ pub mod AllOrders
 pub mod Canonical
 pub mod Equivalent
 pub mod Texts
+pub mod Moves
+pub mod Runs
+pub mod Found
+pub mod Again

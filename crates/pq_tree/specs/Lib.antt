@@ -6,3 +6,5 @@ pub mod Text
 pub mod View
 pub mod PqTree
 pub mod Arranged
+pub mod Reading
+pub mod Seen

@@ -4,10 +4,10 @@
 //! P-node has two or more children, each Q-node three or more, and each of 1 to c stands at exactly one leaf.
 #![tactic(auto)]
 
-ghost use Rattle.std.specs.Prelude.{◌≡◌, ◌≤◌, ◌++◌, ◌↔◌, List, ℕ, IfOk, OnOk, OnErr};
+ghost use Rattle.std.specs.Prelude.{◌≡◌, ◌≤◌, ◌≢◌, ◌++◌, ◌↔◌, List, ℕ, IfOk, IfSome, IfNone, OnOk, OnErr};
 ghost use Rattle.column_order.specs.Orders.{IsOrder};
 ghost use Rattle.plain_text.specs.Pieces.{Extends};
-ghost use Rattle.pq_tree.specs.Outline.{leaves, IsFrontier};
+ghost use Rattle.pq_tree.specs.Outline.{Outline, leaves, IsFrontier};
 ghost use Rattle.pq_tree.specs.Proper.{outline_of, IsProper, IsProper-prop, universal};
 ghost use Rattle.pq_tree.specs.Equivalent.{IsEquivalent};
 ghost use Rattle.pq_tree.specs.Canonical.{IsCanonical};
@@ -15,6 +15,7 @@ ghost use Rattle.pq_tree.specs.Text.{tree_text};
 
 mod arrange;
 mod arranged;
+mod parse;
 mod write;
 
 pub use std::alloc::AllocError as NoMemory;
@@ -179,6 +180,21 @@ impl PqTree {
     {
         text.reserve(self.columns as usize * ROOM_PER_COLUMN)?;
         write::push_tree(&self.tree, text)
+    }
+
+    /// The tree over 1 to c of which the bytes are the text; none where they are the text of no tree over 1 to c.
+    ///
+    /// One pass over the bytes, with at most c open nodes.
+    pub fn parse(alloc: Global, bytes: &[u8], c: u32) -> Result<Option<PqTree>, NoMemory>
+        requires { (1 ≤ c) × (c ≤ 32768) }
+        ensures columns { IfOk result (λ o. IfSome o (λ t. column_count t ≡ c)) }
+        ensures found { IfOk result (λ o. IfSome o (λ t. bytes.now ≡ tree_text (outline t))) }
+        ensures none { IfOk result (λ o. IfNone o ((t : Outline) → IsProper c t → bytes.now ≢ tree_text t)) }
+    {
+        match parse::tree_of(alloc, bytes, c)? {
+            None => Ok(None),
+            Some(tree) => Ok(Some(PqTree { columns: c, tree })),
+        }
     }
 }
 

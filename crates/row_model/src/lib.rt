@@ -6,15 +6,19 @@
 /// The codes of refusals.
 pub mod code;
 mod graph;
+mod kind;
 mod laws;
 mod lines;
+mod lists;
 mod matrix;
 mod pieces;
 mod refusal;
 
 pub use graph::{Line, Pair, Why, joined_by};
+pub use kind::Kind;
 pub use laws::walk_laws;
 pub use lines::Lines;
+pub use lists::{Interval, Intervals, Place, Places, Span, Spans};
 pub use matrix::Matrix;
 pub use refusal::{Read, Refusal};
 pub use std::alloc::AllocError as NoMemory;

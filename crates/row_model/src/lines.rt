@@ -1,5 +1,5 @@
 // Lists of lines.
-ghost use Rattle.std.specs.Prelude.{◌≡◌, [], ◌∷◌, ◌++◌, OnOk, OnErr};
+ghost use Rattle.std.specs.Prelude.{◌≡◌, [], ◌∷◌, ◌++◌, IfOk, OnOk, OnErr};
 
 use crate::graph::Line;
 use std::alloc::{AllocError, Global};
@@ -28,6 +28,15 @@ impl Lines {
         Lines {
             items: Vec::new(alloc),
         }
+    }
+
+    /// The empty list, with room for `count` lines.
+    pub fn with_capacity(alloc: Global, count: usize) -> Result<Self, AllocError>
+        ensures { IfOk result (λ lines. lines ≡ []) }
+    {
+        Ok(Lines {
+            items: Vec::with_capacity(alloc, count)?,
+        })
     }
 
     /// Adds a last line. On an error the list is as before.

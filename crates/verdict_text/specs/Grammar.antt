@@ -1,0 +1,78 @@
+-- The verdicts that the grammar of the text has.
+use Rattle.std.specs.Prelude.{◌≡◌, ◌≤◌, ℕ, List, [], ◌∷◌, length}
+use Rattle.std.specs.List.{AllByRecursion}
+use Rattle.row_model.specs.declared.TheConstants.{MAX_COLUMNS}
+use Rattle.row_model.specs.declared.kind.Kind.{Kind}
+use Rattle.row_model.specs.declared.kind.Kind.TheVariants.{Doubly, Proper, Clones}
+use Rattle.row_model.specs.declared.graph.Line.{Line}
+use Rattle.row_model.specs.declared.graph.Why.{Why}
+use Rattle.row_model.specs.declared.graph.Why.TheVariants.{Flip, Row}
+use Rattle.row_model.specs.declared.lists.Interval.{Interval}
+use Rattle.row_model.specs.declared.lists.Place.{Place}
+use Rattle.row_model.specs.declared.lists.Place.TheVariants.{Nowhere, At}
+use Rattle.row_model.specs.declared.lists.Span.{Span}
+use Rattle.pq_tree.specs.Proper.{IsProper}
+use Rattle.verdict_text.specs.Verdict.{SideValue, YesValue, Claim, yes_claim, no_claim, VerdictValue}
+
+-- a count, a column, a row or a position: a number of 32 bits
+abbrev pub Fits32 : ℕ → Type 0
+Fits32 n = n ≤ 4294967295
+
+-- an end of an interval: a number of 64 bits
+abbrev pub Fits64 : ℕ → Type 0
+Fits64 n = n ≤ 18446744073709551615
+
+-- two sides for `doubly`, one for every other kind
+abbrev pub side_count : Kind → ℕ
+side_count Doubly = 2
+side_count kind = 1
+
+-- a number of columns
+abbrev pub IsColumnCount : ℕ → Type 0
+IsColumnCount c = (1 ≤ c) × (c ≤ MAX_COLUMNS)
+
+-- a tree over 1 to c, and one number or more
+abbrev pub IsSide : ℕ → SideValue → Type 0
+IsSide c side = IsProper c side.tree × (1 ≤ length side.order) × AllByRecursion Fits32 side.order
+
+-- one side for each number of columns
+abbrev pub AreSides : List ℕ → List SideValue → Type 0
+AreSides [] [] = Unit {0}
+AreSides [] (s ∷ sides) = ⊥
+AreSides (c ∷ columns) [] = ⊥
+AreSides (c ∷ columns) (s ∷ sides) = IsSide c s × AreSides columns sides
+
+abbrev pub IsInterval : Interval → Type 0
+IsInterval v = Fits64 v.left × Fits64 v.right
+
+abbrev pub IsPlace : Place → Type 0
+IsPlace Nowhere = Unit {0}
+IsPlace (At first last) = Fits32 first × Fits32 last
+
+abbrev pub IsSpan : Span → Type 0
+IsSpan span = Fits32 span.first × Fits32 span.last
+
+-- what a kind adds: an interval for each column, or places and contigs, or nothing
+abbrev pub HasAdded : Kind → List ℕ → YesValue → Type 0
+HasAdded Proper columns value = (length value.intervals ∷ [] ≡ columns) × AllByRecursion IsInterval value.intervals × (value.places ≡ []) × (value.contigs ≡ [])
+HasAdded Clones columns value = (value.intervals ≡ []) × Fits32 (length value.places) × AllByRecursion IsPlace value.places × Fits32 (length value.contigs) × AllByRecursion IsSpan value.contigs
+HasAdded kind columns value = (value.intervals ≡ []) × (value.places ≡ []) × (value.contigs ≡ [])
+
+abbrev pub IsReason : Why → Type 0
+IsReason Flip = Unit {0}
+IsReason (Row k) = Fits32 k
+
+-- a line of a cycle
+abbrev pub IsLine : Line → Type 0
+IsLine line = Fits32 line.pair.a × Fits32 line.pair.b × IsReason line.why
+
+-- a yes with the sides of the columns and what the kind adds, or a no with one of the kind's sides
+abbrev pub IsClaim : Kind → List ℕ → Claim → Type 0
+IsClaim kind columns (yes_claim value) = AreSides columns value.sides × HasAdded kind columns value
+IsClaim kind columns (no_claim side lines) = (1 ≤ side) × (side ≤ side_count kind) × Fits32 (length lines) × AllByRecursion IsLine lines
+
+-- a verdict that the grammar has
+pub record IsVerdict (v : VerdictValue) : Type 0 where
+  pub sides : length v.columns ≡ side_count v.kind
+  pub columns : AllByRecursion IsColumnCount v.columns
+  pub claim : IsClaim v.kind v.columns v.claim

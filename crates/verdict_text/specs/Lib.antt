@@ -1,0 +1,5 @@
+pub mod Verdict
+pub mod Numbered
+pub mod Text
+pub mod Grammar
+pub mod Value

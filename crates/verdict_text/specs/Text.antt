@@ -1,0 +1,104 @@
+-- The text of a verdict, line by line. Each line ends with a line feed (byte 10), and one space (byte 32) stands between its entries.
+use Rattle.std.specs.Prelude.{ℕ, List, [], ◌∷◌, ◌++◌, length, flat_map, codes}
+use Rattle.std.specs.Fmt.{decimal}
+use Rattle.row_model.specs.declared.kind.Kind.{Kind}
+use Rattle.row_model.specs.declared.kind.Kind.TheVariants.{Matrix, Rows, Table, Circular, Convex, Doubly, Proper, Robinson, Clones}
+use Rattle.row_model.specs.declared.graph.Line.{Line}
+use Rattle.row_model.specs.declared.graph.Why.{Why}
+use Rattle.row_model.specs.declared.graph.Why.TheVariants.{Flip, Row}
+use Rattle.row_model.specs.declared.lists.Interval.{Interval}
+use Rattle.row_model.specs.declared.lists.Place.{Place}
+use Rattle.row_model.specs.declared.lists.Place.TheVariants.{Nowhere, At}
+use Rattle.row_model.specs.declared.lists.Span.{Span}
+use Rattle.pq_tree.specs.Text.{tree_text}
+use Rattle.verdict_text.specs.Numbered.{numbered}
+use Rattle.verdict_text.specs.Verdict.{SideValue, YesValue, Claim, yes_claim, no_claim, VerdictValue}
+
+-- the word of a kind
+abbrev pub kind_word : Kind → List ℕ
+kind_word Matrix = codes "matrix"
+kind_word Rows = codes "rows"
+kind_word Table = codes "table"
+kind_word Circular = codes "circular"
+kind_word Convex = codes "convex"
+kind_word Doubly = codes "doubly"
+kind_word Proper = codes "proper"
+kind_word Robinson = codes "robinson"
+kind_word Clones = codes "clones"
+
+-- a number after a space
+abbrev pub number_word : ℕ → List ℕ
+number_word n = 32 ∷ decimal n
+
+-- `kind K`
+abbrev pub kind_line : Kind → List ℕ
+kind_line kind = codes "kind " ++ (kind_word kind ++ 10 ∷ [])
+
+-- `columns C`, or `columns C D` where there are two sides
+abbrev pub columns_line : List ℕ → List ℕ
+columns_line columns = codes "columns" ++ (flat_map number_word columns ++ 10 ∷ [])
+
+-- `tree T` and `order N1 N2` and so on
+abbrev pub side_text : SideValue → List ℕ
+side_text side = codes "tree " ++ (tree_text side.tree ++ (codes "\norder" ++ (flat_map number_word side.order ++ 10 ∷ [])))
+
+-- `interval I L R`
+abbrev pub interval_line : ℕ → Interval → List ℕ
+interval_line i v = codes "interval " ++ (decimal i ++ (number_word v.left ++ (number_word v.right ++ 10 ∷ [])))
+
+-- the two ends of a span, and the end of the line
+abbrev pub ends_text : ℕ → ℕ → List ℕ
+ends_text first last = number_word first ++ (number_word last ++ 10 ∷ [])
+
+-- the rest of a place's line
+abbrev pub place_text : Place → List ℕ
+place_text Nowhere = codes " none\n"
+place_text (At first last) = ends_text first last
+
+-- `place I F L` or `place I none`
+abbrev pub place_line : ℕ → Place → List ℕ
+place_line i place = codes "place " ++ (decimal i ++ place_text place)
+
+-- `contig F L`
+abbrev pub contig_line : Span → List ℕ
+contig_line contig = codes "contig" ++ ends_text contig.first contig.last
+
+-- `places M` and M lines
+abbrev pub places_text : List Place → List ℕ
+places_text places = codes "places " ++ (decimal (length places) ++ (10 ∷ numbered place_line 1 places))
+
+-- `contigs Q` and Q lines
+abbrev pub contigs_text : List Span → List ℕ
+contigs_text contigs = codes "contigs " ++ (decimal (length contigs) ++ (10 ∷ flat_map contig_line contigs))
+
+-- what a kind adds to a yes
+abbrev pub added_text : Kind → YesValue → List ℕ
+added_text Proper value = numbered interval_line 1 value.intervals
+added_text Clones value = places_text value.places ++ contigs_text value.contigs
+added_text kind value = []
+
+-- the reason for which the pair of a line is joined to the next
+abbrev pub why_text : Why → List ℕ
+why_text Flip = codes " flip\n"
+why_text (Row k) = codes " row " ++ (decimal k ++ 10 ∷ [])
+
+-- `A B flip` or `A B row N`
+abbrev pub cycle_line : Line → List ℕ
+cycle_line line = decimal line.pair.a ++ (number_word line.pair.b ++ why_text line.why)
+
+-- `side S`, `cycle L` and L lines
+abbrev pub cycle_text : ℕ → List Line → List ℕ
+cycle_text side lines = codes "side " ++ (decimal side ++ (codes "\ncycle " ++ (decimal (length lines) ++ (10 ∷ flat_map cycle_line lines))))
+
+-- `answer yes` or `answer no`, and what follows
+abbrev pub claim_text : Kind → Claim → List ℕ
+claim_text kind (yes_claim value) = codes "answer yes\n" ++ (flat_map side_text value.sides ++ added_text kind value)
+claim_text kind (no_claim side lines) = codes "answer no\n" ++ cycle_text side lines
+
+-- the first three lines
+abbrev pub head_text : Kind → List ℕ → List ℕ
+head_text kind columns = codes "pq-verdict 1\n" ++ (kind_line kind ++ columns_line columns)
+
+-- the whole text
+unfoldable pub verdict_text : VerdictValue → List ℕ
+verdict_text v = head_text v.kind v.columns ++ (claim_text v.kind v.claim ++ codes "end\n")

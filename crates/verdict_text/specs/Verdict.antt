@@ -1,0 +1,31 @@
+-- What a verdict says.
+use Rattle.std.specs.Prelude.{ℕ, List}
+use Rattle.row_model.specs.declared.kind.Kind.{Kind}
+use Rattle.row_model.specs.declared.graph.Line.{Line}
+use Rattle.row_model.specs.declared.lists.Interval.{Interval}
+use Rattle.row_model.specs.declared.lists.Place.{Place}
+use Rattle.row_model.specs.declared.lists.Span.{Span}
+use Rattle.pq_tree.specs.Outline.{Outline}
+
+-- one side of a yes: its tree, and one of its orders
+pub record SideValue : Type 0 where
+  pub tree : Outline
+  pub order : List ℕ
+
+-- a yes: its sides, and the intervals, places and contigs that some kinds add
+pub record YesValue : Type 0 where
+  pub sides : List SideValue
+  pub intervals : List Interval
+  pub places : List Place
+  pub contigs : List Span
+
+-- an answer of yes, or of no with the lines of a cycle of one side
+pub data Claim : Type 0 where
+  yes_claim : (value : YesValue) → Claim
+  no_claim : (side : ℕ) (lines : List Line) → Claim
+
+-- a claim about an instance of a kind, with the number of columns of each side
+pub record VerdictValue : Type 0 where
+  pub kind : Kind
+  pub columns : List ℕ
+  pub claim : Claim

@@ -1,0 +1,197 @@
+// A verdict, and its parts.
+ghost use Rattle.std.specs.Prelude.{◌≡◌, ◌≤◌, ◌-◌, [], ◌∷◌, Some, length, slice_get, IsSomeAnd};
+
+use pq_tree::PqTree;
+use row_model::{Interval, Intervals, Kind, Lines, Place, Places, Span, Spans};
+
+/// The answer to the question of an instance, with what shows that it is right.
+#[derive(Drop)]
+pub struct Verdict {
+    /// The kind of the instance.
+    pub kind: Kind,
+    /// Its numbers of columns.
+    pub columns: Columns,
+    /// The answer.
+    pub part: Part,
+}
+
+/// The number of columns of each side.
+#[derive(Clone, Copy, Debug, PartialEq, Eq)]
+pub enum Columns {
+    /// Of the only side.
+    One(u32),
+    /// Of side 1 and of side 2.
+    Two(u32, u32),
+}
+
+/// The answer.
+#[derive(Drop)]
+pub enum Part {
+    /// An order exists.
+    Yes(YesPart),
+    /// None exists.
+    No(NoPart),
+}
+
+/// A tree and an order for each side, and what some kinds add.
+#[derive(Drop)]
+pub struct YesPart {
+    pub(crate) sides: Sides,
+}
+
+/// A side that has no order, and a cycle that shows it.
+#[derive(Drop)]
+pub struct NoPart {
+    /// The side, 1 or 2.
+    pub side: u8,
+    /// The lines of the cycle. The reason of each line joins its pair to that of the next line, and that of the last to the first.
+    pub lines: Lines,
+}
+
+// One side with what its kind adds, or two sides.
+#[derive(Drop)]
+pub(crate) enum Sides {
+    One(Side, Added),
+    Two(Side, Side),
+}
+
+// The tree of a side, and one of its orders.
+#[derive(Drop)]
+pub(crate) struct Side {
+    pub tree: PqTree,
+    pub order: Vec<u32>,
+}
+
+// What some kinds add.
+#[derive(Drop)]
+pub(crate) struct Added {
+    pub intervals: Intervals,
+    pub places: Places,
+    pub contigs: Spans,
+}
+
+#[tactic(auto, unfolding(crate::specs::Value::side_value))]
+impl YesPart {
+    ghost use Rattle.pq_tree.specs.PqTree.{outline};
+    ghost use Rattle.verdict_text.specs.Value.{yes_value, side_value};
+
+    /// A yes with one side.
+    pub fn one(
+        tree: PqTree,
+        order: Vec<u32>,
+        intervals: Intervals,
+        places: Places,
+        contigs: Spans,
+    ) -> YesPart
+        ensures sides { (yes_value result).sides ≡ record { tree = outline tree; order = order.items } ∷ [] }
+        ensures intervals { (yes_value result).intervals ≡ intervals }
+        ensures places { (yes_value result).places ≡ places }
+        ensures contigs { (yes_value result).contigs ≡ contigs }
+    {
+        let added = Added {
+            intervals,
+            places,
+            contigs,
+        };
+        YesPart {
+            sides: Sides::One(Side { tree, order }, added),
+        }
+    }
+
+    /// A yes with two sides, whose kind adds nothing.
+    pub fn two(
+        tree1: PqTree,
+        order1: Vec<u32>,
+        tree2: PqTree,
+        order2: Vec<u32>,
+    ) -> YesPart
+        ensures sides { (yes_value result).sides ≡ record { tree = outline tree1; order = order1.items } ∷ record { tree = outline tree2; order = order2.items } ∷ [] }
+        ensures intervals { (yes_value result).intervals ≡ [] }
+        ensures places { (yes_value result).places ≡ [] }
+        ensures contigs { (yes_value result).contigs ≡ [] }
+    {
+        let first = Side {
+            tree: tree1,
+            order: order1,
+        };
+        let second = Side {
+            tree: tree2,
+            order: order2,
+        };
+        YesPart {
+            sides: Sides::Two(first, second),
+        }
+    }
+
+    /// The number of sides, 1 or 2.
+    pub fn sides(&self) -> u8
+        ensures { result ≡ length (yes_value self.now).sides }
+    {
+        match &self.sides {
+            Sides::One(_, _) => 1,
+            Sides::Two(_, _) => 2,
+        }
+    }
+
+    /// The tree of a side.
+    pub fn tree(&self, side: u8) -> &PqTree
+        requires { (1 ≤ side) × (side ≤ length (yes_value self.now).sides) }
+        ensures { IsSomeAnd (slice_get (yes_value self.now).sides (side - 1)) (λ s. s.tree ≡ outline result.now) }
+    {
+        &self.side(side).tree
+    }
+
+    /// The order of a side.
+    pub fn order(&self, side: u8) -> &[u32]
+        requires { (1 ≤ side) × (side ≤ length (yes_value self.now).sides) }
+        ensures { IsSomeAnd (slice_get (yes_value self.now).sides (side - 1)) (λ s. s.order ≡ result.now) }
+    {
+        &self.side(side).order
+    }
+
+    fn side(&self, side: u8) -> &Side
+        requires { (1 ≤ side) × (side ≤ length (yes_value self.now).sides) }
+        ensures { slice_get (yes_value self.now).sides (side - 1) ≡ Some (side_value result.now) }
+    {
+        match &self.sides {
+            Sides::One(only, _) => only,
+            Sides::Two(first, second) => {
+                if side == 1 {
+                    first
+                } else {
+                    second
+                }
+            }
+        }
+    }
+
+    /// The interval of each vertex, for `Kind::Proper`.
+    pub fn intervals(&self) -> &[Interval]
+        ensures { result.now ≡ (yes_value self.now).intervals }
+    {
+        match &self.sides {
+            Sides::One(_, added) => added.intervals.as_slice(),
+            Sides::Two(_, _) => &[],
+        }
+    }
+
+    /// The place of each clone, for `Kind::Clones`.
+    pub fn places(&self) -> &[Place]
+        ensures { result.now ≡ (yes_value self.now).places }
+    {
+        match &self.sides {
+            Sides::One(_, added) => added.places.as_slice(),
+            Sides::Two(_, _) => &[],
+        }
+    }
+
+    /// The contigs, for `Kind::Clones`.
+    pub fn contigs(&self) -> &[Span]
+        ensures { result.now ≡ (yes_value self.now).contigs }
+    {
+        match &self.sides {
+            Sides::One(_, added) => added.contigs.as_slice(),
+            Sides::Two(_, _) => &[],
+        }
+    }
+}
