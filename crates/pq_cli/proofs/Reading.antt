@@ -1,0 +1,9 @@
+-- Files past the limit of bytes.
+use Rattle.std.proofs.Common.{◌≡◌, ℕ, ◌<◌, List, length, Err, arith}
+use Rattle.std.proofs.lemmas.Grind.{common_steps}
+use Rattle.matrix_read.specs.Dense.{dense}
+
+-- a matrix of more bytes than the limit is refused
+pub dense_long : (bytes : List ℕ) → 16777216 < length bytes → dense bytes ≡ Err (record { code = 7; line = 0 })
+unfolding dense
+dense_long bytes h = grind (arith, common_steps)
