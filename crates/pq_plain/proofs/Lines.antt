@@ -1,5 +1,5 @@
 -- Joined lists of trees, and the pairs that go forward in them.
-use Rattle.std.proofs.Common.{◌≡◌, ◌⊎◌, ◌∙◌, ◌+◌, ℕ, false, List, [], ◌++◌, IsTrue, refl, sym, ap, inl, inr, arith, append_assoc, append-nil}
+use Rattle.std.proofs.Common.{◌≡◌, ◌⊎◌, ◌∙◌, ◌+◌, ℕ, false, List, [], ◌++◌, IsTrue, refl, sym, ap, subst, inl, inr, arith, append_assoc, append-nil}
 use Rattle.std.proofs.lemmas.Bool.{both_ways}
 use Rattle.row_model.specs.declared.graph.Pair.{Pair}
 use Rattle.column_order.specs.Orders.{has, occurs}
@@ -7,7 +7,28 @@ use Rattle.column_order.proofs.Lists.{has_append_cases, has_append_left, has_app
 use Rattle.pq_tree.specs.Outline.{Outline, Forest, p_node, no_tree, tree_and, leaves, leaves_of}
 use Rattle.tied_law.specs.Tied.{IsForward}
 use Rattle.tied_law.proofs.Bound.{AreClosed, AreBound}
-use Rattle.pq_plain.specs.Templates.{join, star, IsParted, none_parted, to_left, to_right}
+use Rattle.pq_plain.specs.Templates.{join, star, IsSorted, none_sorted, to_empty, to_full, to_partial}
+
+-- the first list is an interleaving of the two others
+pub data IsParted : Forest → Forest → Forest → Type 0 where
+  none_parted : IsParted no_tree no_tree no_tree
+  to_left : {t : Outline} {ts us vs : Forest} → IsParted ts us vs → IsParted (tree_and t ts) (tree_and t us) vs
+  to_right : {t : Outline} {ts us vs : Forest} → IsParted ts us vs → IsParted (tree_and t ts) us (tree_and t vs)
+
+-- an interleaving of three lists is one of the first list and of an interleaving of the two others
+pub sorted_parts : {ts es fs us : Forest} → IsSorted ts es fs us → (rest : Forest) × IsParted ts es rest × IsParted rest fs us
+sorted_parts none_sorted = (no_tree, none_parted, none_parted)
+sorted_parts (to_empty r) = let k = sorted_parts r in (k.0, to_left k.1, k.2)
+sorted_parts (to_full {t = t} r) = let k = sorted_parts r in (tree_and t k.0, to_right k.1, to_left k.2)
+sorted_parts (to_partial {t = t} r) = let k = sorted_parts r in (tree_and t k.0, to_right k.1, to_right k.2)
+
+pub parted_end : {ts us : Forest} → IsParted ts us no_tree → ts ≡ us
+parted_end none_parted = refl
+parted_end (to_left {t = t} r) = ap (tree_and t) (parted_end r)
+
+-- without partial ones
+pub sorted_two : {ts es fs : Forest} → IsSorted ts es fs no_tree → IsParted ts es fs
+sorted_two {ts = ts} {es = es} r = let k = sorted_parts r in subst (IsParted ts es) (parted_end k.2) k.1
 
 pub leaves_of-join : (xs ys : Forest) → leaves_of (join xs ys) ≡ leaves_of xs ++ leaves_of ys
 leaves_of-join no_tree ys = refl
@@ -164,3 +185,16 @@ has_parted_cases (to_right {t = t} {ts = ts} {vs = vs} r) a h =
       | inl k ↦ inr (has_append_left (leaves t) (leaves_of vs) a k)
       | inr k ↦ elim (has_parted_cases r a k) [ inl l ↦ inl l | inr l ↦ inr (has_append_right (leaves t) (leaves_of vs) a l) ]
     ]
+
+-- the children of a P-node by their parts
+pub sorted_occurs : {ts es fs us : Forest} → IsSorted ts es fs us → (a : ℕ) → occurs (leaves_of ts) a ≡ occurs (leaves_of es) a + (occurs (leaves_of fs) a + occurs (leaves_of us) a)
+sorted_occurs r a = let k = sorted_parts r in omega (arith, parted_occurs k.1 a, parted_occurs k.2 a)
+
+pub has_sorted_cases : {ts es fs us : Forest} → IsSorted ts es fs us → (a : ℕ) → IsTrue (has (leaves_of ts) a) →
+    IsTrue (has (leaves_of es) a) ⊎ (IsTrue (has (leaves_of fs) a) ⊎ IsTrue (has (leaves_of us) a))
+has_sorted_cases r a h =
+    let k = sorted_parts r in
+    elim (has_parted_cases k.1 a h) [ inl m ↦ inl m | inr m ↦ inr (has_parted_cases k.2 a m) ]
+
+pub closed_partial : (R : Pair → Pair → Type 0) (l : List ℕ) {ts es fs us : Forest} → IsSorted ts es fs us → AreClosed R l ts → AreClosed R l us
+closed_partial R l r h = let k = sorted_parts r in closed_right R l k.2 (closed_right R l k.1 h)

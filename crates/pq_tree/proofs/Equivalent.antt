@@ -16,7 +16,7 @@ leaves_sum [] a = refl
 leaves_sum (t ∷ ts) a =
     omega (arith, occurs-append (leaves t) (leaves_of (forest ts)) a, leaves_sum ts a, sum_by-cons (λ u. occurs (leaves u) a) t ts)
 
-moved_occurs : (us vs : List Outline) (a : ℕ) → IsPermutation us vs → occurs (leaves_of (forest vs)) a ≡ occurs (leaves_of (forest us)) a
+pub moved_occurs : (us vs : List Outline) (a : ℕ) → IsPermutation us vs → occurs (leaves_of (forest vs)) a ≡ occurs (leaves_of (forest us)) a
 moved_occurs us vs a h = leaves_sum vs a ∙ sum_by-IsPermutation (λ t. occurs (leaves t) a) us vs h ∙ sym (leaves_sum us a)
 
 mutual

@@ -37,7 +37,7 @@ same_one n a e = ap (λ b. cond {A = ℕ} b 1 0 + 0) (eq-eqb (suc n) a e)
 other_one : (n a : ℕ) → suc n ≢ a → occurs (suc n ∷ []) a ≡ 0
 other_one n a e = ap (λ b. cond {A = ℕ} b 1 0 + 0) (ne_eqb (suc n) a e)
 
-columns_order : (n : ℕ) → IsOrder n (columns n)
+pub columns_order : (n : ℕ) → IsOrder n (columns n)
 columns_order zero a =
     elim (cases_eq a 0) [ inl e ↦ sym (before 0 a e) | inr e ↦ sym (past 0 a (omega arith)) ]
 columns_order (suc n) a =

@@ -1,4 +1,6 @@
 pub mod Graph
+pub mod Cycles
 pub mod Rows
 pub mod Pieces
 pub mod Bounds
+pub mod Laws

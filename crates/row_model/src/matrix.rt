@@ -1,13 +1,15 @@
 // A matrix by its rows, one after another in one list.
-ghost use Rattle.std.specs.Prelude.{◌≡◌, ◌↔◌, ◌<◌, ◌≤◌, ◌+◌, ◌-◌, List, ℕ, [], ◌∷◌, ◌++◌, Some, length, IsTrue, IfOk, OnOk, OnErr, sum_by, slice_get, slice_index_or, Contains};
+ghost use Rattle.std.specs.Prelude.{◌≡◌, ◌<◌, ◌≤◌, ◌+◌, ◌-◌, List, ℕ, [], ◌∷◌, ◌++◌, Some, length, take, IfOk, OnOk, OnErr, sum_by, slice_get, slice_index_or};
+ghost use Rattle.column_order.specs.Orders.{has};
 ghost use Rattle.row_model.specs.Rows.{IsRow};
 
-use crate::pieces::{piece, push_piece, row_has};
+use crate::pieces::{piece, pop_piece, push_piece, row_has};
 use std::alloc::{AllocError, Global};
 use std::marker::Model;
-use step_count::{Ledger, Steps};
 
-/// A number of columns, and rows that each list some of them in ascending order.
+/// A number of columns, from 1 to 32,768, and at most 16,777,216 rows, each the strictly ascending list of the columns that it has.
+///
+/// The rows lie one after another in one list, so a matrix takes four bytes for each one and eight for each row.
 #[derive(Drop)]
 pub struct Matrix {
     column_count: u32,
@@ -28,7 +30,7 @@ impl Model for Matrix {
 }
 
 impl Matrix {
-    /// A matrix with no row.
+    /// A matrix of so many columns, with no row.
     pub fn new(alloc: Global, columns: u32) -> Result<Self, AllocError>
         requires { (1 ≤ columns) × (columns ≤ 32768) }
         ensures { IfOk result (λ m. m ≡ record { columns = columns; rows = [] }) }
@@ -42,7 +44,7 @@ impl Matrix {
         })
     }
 
-    /// Adds a row. On an error nothing is changed.
+    /// Adds a last row. On an error the matrix is as before.
     pub fn push_row(&mut self, row: &[u32]) -> Result<(), AllocError>
         requires row { IsRow self.old.columns row.now }
         requires room { length self.old.rows < 16777216 }
@@ -53,18 +55,36 @@ impl Matrix {
         Ok(())
     }
 
+    /// Removes the last row. The room that it took stays for later rows.
+    pub fn pop_row(&mut self)
+        requires { 0 < length self.old.rows }
+        ensures { self.new ≡ record self.old { rows = take (length self.old.rows - 1) self.old.rows } }
+    {
+        pop_piece(&mut self.members, &mut self.bounds);
+    }
+
+    /// The number of columns.
     pub fn columns(&self) -> u32
         ensures { result ≡ self.now.columns }
     {
         self.column_count
     }
 
+    /// The number of rows.
     pub fn rows(&self) -> u32
         ensures { result ≡ length self.now.rows }
     {
         (self.bounds.len() - 1) as u32
     }
 
+    /// The number of ones, which is the sum of the lengths of the rows.
+    pub fn ones(&self) -> u64
+        ensures { result ≡ sum_by length self.now.rows }
+    {
+        self.members.len() as u64
+    }
+
+    /// Row `k`, from 1: its columns, strictly ascending.
     pub fn row(&self, k: u32) -> &[u32]
         requires { (1 ≤ k) × (k ≤ length self.now.rows) }
         ensures row { slice_get self.now.rows (k - 1) ≡ Some result.now }
@@ -73,19 +93,34 @@ impl Matrix {
         piece(&self.members, &self.bounds, k as usize - 1)
     }
 
+    /// Whether row `k`, from 1, has the column. The search is binary.
     pub fn has(&self, k: u32, column: u32) -> bool
         requires { (1 ≤ k) × (k ≤ length self.now.rows) }
-        ensures { IsTrue result ↔ Contains (slice_index_or self.now.rows (k - 1) []) column }
+        ensures { result ≡ has (slice_index_or self.now.rows (k - 1) []) column }
     {
         row_has(self.row(k), column)
     }
+}
 
-    pub fn has_counted<L: Ledger>(&self, k: u32, column: u32, steps: &mut Steps<L>) -> bool
-        requires { (1 ≤ k) × (k ≤ length self.now.rows) }
-        ensures found { IsTrue result ↔ Contains (slice_index_or self.now.rows (k - 1) []) column }
-        ensures ticks { steps.new ≡ steps.old + 1 }
-    {
-        steps.tick();
-        self.has(k, column)
+#[cfg(test)]
+mod tests {
+    use super::*;
+    use std::test::Fail;
+
+    #[test]
+    fn two_rows_are_kept_and_the_last_goes(rt: HostRuntime) -> Result<(), Fail> {
+        let mut matrix = Matrix::new(rt.alloc(), 4)?;
+        matrix.push_row(&[2, 4])?;
+        matrix.push_row(&[1])?;
+        assert_eq!(rt; matrix.columns(), 4);
+        assert_eq!(rt; matrix.rows(), 2);
+        assert_eq!(rt; matrix.ones(), 3);
+        assert_eq!(rt; matrix.row(1), [2, 4].as_slice());
+        assert!(rt; matrix.has(1, 4));
+        assert!(rt; !matrix.has(2, 4));
+        matrix.pop_row();
+        assert_eq!(rt; matrix.rows(), 1);
+        assert_eq!(rt; matrix.ones(), 2);
+        Ok(())
     }
 }

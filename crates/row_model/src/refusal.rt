@@ -3,9 +3,9 @@
 /// The first thing in a file that its format does not allow.
 #[derive(Clone, Copy, Debug, PartialEq, Eq)]
 pub struct Refusal {
-    /// The cause, from 1 to 11, as the list of codes has it.
+    /// The cause, one of the numbers in [`code`](crate::code).
     pub code: u8,
-    /// The line, record or entry where it stands, from 1; 0 where no line is named.
+    /// The number of the line, record or entry where it stands, from 1; 0 where no line is named.
     pub line: u32,
 }
 

@@ -1,6 +1,6 @@
 -- A frontier has the columns of its tree, each as often.
 use Rattle.std.proofs.Common.{◌≡◌, ◌∙◌, ℕ, List, [], ◌∷◌, ◌++◌, reverse, ltb, IsPermutation, refl, sym, ap, inl, inr, arith, append_assoc}
-use Rattle.std.proofs.lemmas.List.Sorted.{IsPermutation-reverse, sum_by-IsPermutation}
+use Rattle.std.proofs.lemmas.List.Sorted.{IsPermutation-refl, IsPermutation-reverse, sum_by-IsPermutation}
 use Rattle.std.specs.List.{concat}
 use Rattle.column_order.specs.Orders.{has, occurs}
 use Rattle.column_order.proofs.Lists.{occurs-append, occurs-concat, has-occurs}
@@ -40,3 +40,26 @@ frontiers_have ts fs a h = has_same (concat fs) (leaves_of ts) a (frontiers_occu
 pub concat-append : (fs gs : List (List ℕ)) → concat (fs ++ gs) ≡ concat fs ++ concat gs
 concat-append [] gs = refl
 concat-append (f ∷ fs) gs = ap (λ x. f ++ x) (concat-append fs gs) ∙ sym (append_assoc f (concat fs) (concat gs))
+
+-- each tree's columns from left to right
+each_leaves : Forest → List (List ℕ)
+each_leaves no_tree = []
+each_leaves (tree_and t ts) = leaves t ∷ each_leaves ts
+
+each_leaves-concat : (ts : Forest) → leaves_of ts ≡ concat (each_leaves ts)
+unfolding each_leaves
+each_leaves-concat no_tree = refl
+each_leaves-concat (tree_and t ts) = ap (λ x. leaves t ++ x) (each_leaves-concat ts)
+
+mutual
+  unfolding each_leaves
+
+  -- the columns of a tree from left to right are one of its frontiers
+  pub leaves_frontier : (t : Outline) → IsFrontier t (leaves t)
+  leaves_frontier (leaf a) = refl
+  leaves_frontier (p_node ts) = (each_leaves ts, each_leaves ts, leaves_frontiers ts, IsPermutation-refl (each_leaves ts), each_leaves-concat ts)
+  leaves_frontier (q_node ts) = (each_leaves ts, leaves_frontiers ts, inl (each_leaves-concat ts))
+
+  leaves_frontiers : (ts : Forest) → AreFrontiers ts (each_leaves ts)
+  leaves_frontiers no_tree = tt
+  leaves_frontiers (tree_and t ts) = (leaves_frontier t, leaves_frontiers ts)

@@ -1,5 +1,5 @@
 -- Turning a tree changes neither its frontiers nor the rows that it is tied to.
-use Rattle.std.proofs.Common.{◌≡◌, ◌⊎◌, ◌∙◌, ◌≤◌, ℕ, false, List, [], ◌∷◌, ◌++◌, reverse, IsTrue, IsPermutation, sum_by, refl, sym, ap, subst, inl, inr, arith, append_assoc, append-nil}
+use Rattle.std.proofs.Common.{◌≡◌, ◌⊎◌, ◌∙◌, ◌≤◌, ℕ, ◌↔◌, false, List, [], ◌∷◌, ◌++◌, reverse, IsTrue, IsPermutation, sum_by, refl, sym, ap, subst, inl, inr, arith, append_assoc, append-nil}
 use Rattle.std.proofs.lemmas.Bool.{both_ways}
 use Rattle.std.proofs.lemmas.List.{reverse-append, reverse-reverse}
 use Rattle.std.proofs.lemmas.List.Elements.{All-from_recursion, recursion_from_All}
@@ -8,42 +8,18 @@ use Rattle.std.proofs.lemmas.List.Sums.{sum_by-cons}
 use Rattle.std.specs.List.{AllByRecursion}
 use Rattle.row_model.specs.declared.graph.Pair.{Pair}
 use Rattle.column_order.specs.Orders.{has, occurs, place, IsOrder}
-use Rattle.row_model.specs.Graph.{pair}
+use Rattle.row_model.specs.Graph.{pair, Evenly}
 use Rattle.column_order.proofs.Lists.{has_append_cases, has_append_left, has_append_right, occurs-append}
 use Rattle.pq_tree.specs.Outline.{Outline, Forest, leaf, p_node, q_node, no_tree, tree_and, leaves, leaves_of, IsFrontier}
-use Rattle.pq_tree.specs.Proper.{forest}
 use Rattle.pq_tree.specs.Equivalent.{IsEquivalent, AreEquivalent}
-use Rattle.tied_law.specs.Tied.{IsForward, Evenly, IsTied}
+use Rattle.pq_tree.specs.Proper.{forest, IsProper}
+use Rattle.pq_tree.proofs.Equivalent.{moved_occurs, turned_occurs, all_turned_occur, turned_whole}
+use Rattle.tied_law.specs.Tied.{IsForward, IsTied}
 use Rattle.tied_law.proofs.Bound.{IsClosed, AreClosed, IsBound, AreBound, IsPairEq}
 use Rattle.tied_law.proofs.Frontiers.{has_same, frontier_occurs}
 use Rattle.tied_law.proofs.Exact.{tied_bound, order_rises, order_once}
 use Rattle.tied_law.proofs.Alike.{Alike, frontier_bound, bound_frontier}
 use Rattle.tied_law.proofs.Bridge.{alike_eq, evenly_eq, bound_tied}
-
-leaves_sum : (ts : List Outline) (a : ℕ) → occurs (leaves_of (forest ts)) a ≡ sum_by (λ t. occurs (leaves t) a) ts
-leaves_sum [] a = refl
-leaves_sum (t ∷ ts) a =
-    omega (arith, occurs-append (leaves t) (leaves_of (forest ts)) a, leaves_sum ts a, sum_by-cons (λ u. occurs (leaves u) a) t ts)
-
-moved_occurs : (us vs : List Outline) (a : ℕ) → IsPermutation us vs → occurs (leaves_of (forest vs)) a ≡ occurs (leaves_of (forest us)) a
-moved_occurs us vs a h = leaves_sum vs a ∙ sum_by-IsPermutation (λ t. occurs (leaves t) a) us vs h ∙ sym (leaves_sum us a)
-
-mutual
-  pub turned_occurs : (t u : Outline) (a : ℕ) → IsEquivalent t u → occurs (leaves u) a ≡ occurs (leaves t) a
-  turned_occurs (leaf b) u a h = ap (λ x. occurs (leaves x) a) h
-  turned_occurs (p_node ts) u a h = ap (λ x. occurs (leaves x) a) h.4 ∙ moved_occurs h.0 h.1 a h.3 ∙ all_turned_occur ts h.0 a h.2
-  turned_occurs (q_node ts) u a h =
-      elim h.2 [
-        | inl e ↦ ap (λ x. occurs (leaves x) a) e ∙ all_turned_occur ts h.0 a h.1
-        | inr e ↦ ap (λ x. occurs (leaves x) a) e ∙ moved_occurs h.0 (reverse h.0) a (IsPermutation-reverse h.0) ∙ all_turned_occur ts h.0 a h.1
-      ]
-
-  pub all_turned_occur : (ts : Forest) (us : List Outline) (a : ℕ) → AreEquivalent ts us → occurs (leaves_of (forest us)) a ≡ occurs (leaves_of ts) a
-  all_turned_occur no_tree [] a h = refl
-  all_turned_occur no_tree (u ∷ us) a h = absurd h
-  all_turned_occur (tree_and t ts) [] a h = absurd h
-  all_turned_occur (tree_and t ts) (u ∷ us) a h =
-      omega (arith, occurs-append (leaves u) (leaves_of (forest us)) a, occurs-append (leaves t) (leaves_of ts) a, turned_occurs t u a h.0, all_turned_occur ts us a h.1)
 
 turned_has : (t u : Outline) (a : ℕ) → IsEquivalent t u → has (leaves u) a ≡ has (leaves t) a
 turned_has t u a h = has_same (leaves u) (leaves t) a (turned_occurs t u a h)
@@ -224,3 +200,9 @@ pub turned_tied : (c : ℕ) (rows : List (List ℕ)) (t u : Outline) → IsOrder
 turned_tied c rows t u whole h k =
     bound_tied c rows u (λ f g. k.kept f (unturned_frontier t u (order_once c (leaves t) whole) h f g))
     (turned_bound (Evenly c rows) (evenly_eq c rows) t u h (tied_bound c rows t k))
+
+pub same_frontiers : (t u : Outline) → ((a : ℕ) → occurs (leaves t) a ≤ 1) → IsEquivalent t u → (o : List ℕ) → IsFrontier t o ↔ IsFrontier u o
+same_frontiers t u once h o = (turned_frontier t u once h o, unturned_frontier t u once h o)
+
+pub turned_law : (c : ℕ) (rows : List (List ℕ)) (t u : Outline) → IsProper c t → IsEquivalent t u → IsTied c rows t → IsProper c u × IsTied c rows u
+turned_law c rows t u w h k = (turned_whole c t u h w, turned_tied c rows t u w.1 h k)

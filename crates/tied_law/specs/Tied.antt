@@ -1,8 +1,8 @@
 -- When a tree stands for exactly the valid orders of some rows.
-use Rattle.std.specs.Prelude.{◌≡◌, ◌≢◌, ◌⊎◌, ◌↔◌, ℕ, List, IsTrue, IsFalse, All}
+use Rattle.std.specs.Prelude.{◌≡◌, ◌≢◌, ◌⊎◌, ℕ, List, IsTrue, IsFalse, All}
 use Rattle.row_model.specs.declared.graph.Pair.{Pair}
-use Rattle.column_order.specs.Orders.{has, Keeps, IsOrder, IsValidOrder}
-use Rattle.row_model.specs.Graph.{pair, Joined, IsEvenly}
+use Rattle.column_order.specs.Orders.{has, Keeps}
+use Rattle.row_model.specs.Graph.{pair, Evenly}
 use Rattle.pq_tree.specs.Outline.{Outline, Forest, leaf, p_node, q_node, no_tree, tree_and, leaves, leaves_of, IsFrontier}
 
 -- x is a node of the tree
@@ -21,21 +21,8 @@ abbrev pub IsForward : Forest → Pair → Type 0
 IsForward no_tree v = ⊥
 IsForward (tree_and t ts) v = (IsTrue (has (leaves t) v.a) × IsTrue (has (leaves_of ts) v.b)) ⊎ IsForward ts v
 
--- the pairs are joined by a walk of even length in these rows
-abbrev pub Evenly : ℕ → List (List ℕ) → Pair → Pair → Type 0
-Evenly c rows = IsEvenly (Joined c rows)
-
 pub record IsTied (c : ℕ) (rows : List (List ℕ)) (t : Outline) : Type 0 where
   pub kept : (f : List ℕ) → IsFrontier t f → All (Keeps f) rows
   pub together : (x : Outline) → IsNode x t → (a b d : ℕ) → a ≢ b → IsTrue (has (leaves x) a) → IsTrue (has (leaves x) b) →
       IsTrue (has (leaves t) d) → IsFalse (has (leaves x) d) → Evenly c rows (pair a d) (pair b d)
   pub in_line : (ts : Forest) → IsNode (q_node ts) t → (v w : Pair) → IsForward ts v → IsForward ts w → Evenly c rows v w
-
--- the frontiers of a tied tree over 1 to c are exactly the valid orders
-abbrev pub TiedLaw : Type 0
-TiedLaw =
-    (c : ℕ) (rows : List (List ℕ)) (t : Outline) →
-    IsOrder c (leaves t) →
-    IsTied c rows t →
-    (o : List ℕ) →
-    IsFrontier t o ↔ IsValidOrder c rows o

@@ -1,0 +1,101 @@
+-- Numbers of pairs, and lists that are indexed by their pairs.
+use Rattle.std.proofs.Common.{◌≡◌, ◌≢◌, ◌⊎◌, ◌∙◌, ℕ, ◌+◌, ◌-◌, ◌*◌, ◌<◌, ◌≤◌, List, [], ◌∷◌, ◌++◌, length, take, drop, set, get_or, slice_get, Some, AllPairs, refl, sym, ap, subst, inl, inr, arith, get_or-set_same, get_or-set_other}
+use Rattle.std.proofs.lemmas.Bool.{cases_eq, cases_lt}
+use Rattle.std.proofs.lemmas.Nat.{same_from_place, mul-add-lt}
+use Rattle.std.proofs.lemmas.Option.{same_Some, slice_get_within, slice_get-get_or}
+use Rattle.row_model.specs.declared.graph.Pair.{Pair}
+use Rattle.row_model.specs.Graph.{pair, IsPair}
+use Rattle.incompat_graph.specs.Numbers.{Numbering, number_of, place_of, Renumbers, IsIndexed}
+use Rattle.incompat_graph.proofs.Items.{item_pushed, item_last, item_append, item_taken, item_take, item-drop}
+
+pub same_pair : (v w : Pair) → v.a ≡ w.a → v.b ≡ w.b → v ≡ w
+same_pair v w e f = ap (λ x. pair x v.b) e ∙ ap (λ y. pair w.a y) f
+
+pub cases_pair : (v w : Pair) → (v ≡ w) ⊎ (v ≢ w)
+cases_pair v w =
+    elim (cases_eq v.a w.a) [
+      | inl e ↦ elim (cases_eq v.b w.b) [ inl f ↦ inl (same_pair v w e f) | inr n ↦ inr (λ g. n (ap (λ (x : Pair). x.b) g)) ]
+      | inr n ↦ inr (λ g. n (ap (λ (x : Pair). x.a) g))
+    ]
+
+-- no two pairs have one place
+pub place_of-inj : (c : ℕ) (v w : Pair) → IsPair c v → IsPair c w → place_of c v ≡ place_of c w → v ≡ w
+place_of-inj c v w p q e =
+    let s : (v.a - 1 ≡ w.a - 1) × (v.b - 1 ≡ w.b - 1) = same_from_place (v.a - 1) (v.b - 1) (w.a - 1) (w.b - 1) c (omega arith) (omega arith) e in
+    same_pair v w (omega arith) (omega arith)
+
+pub place_of-lt : (c : ℕ) (v : Pair) → IsPair c v → place_of c v < c * c
+place_of-lt c v p = mul-add-lt (v.a - 1) c (v.b - 1) c (omega arith) (omega arith)
+
+-- a write at the place of a pair
+pub renumbered : (c : ℕ) (entries written : List ℕ) (v : Pair) (number : ℕ) → length entries ≡ c * c → IsPair c v → written ≡ set entries (place_of c v) number →
+    Renumbers (record { columns = c; entries = entries }) (record { columns = c; entries = written }) v number
+unfolding number_of
+renumbered c entries written v number long p e =
+    let within : place_of c v < length entries = omega (arith, place_of-lt c v p) in
+    record {
+      columns = refl;
+      changed = rw e (get_or-set_same entries (place_of c v) number 0 within);
+      others = λ w q n. rw e (get_or-set_other entries (place_of c v) (place_of c w) number 0 (λ f. n (place_of-inj c w v q p f)));
+    }
+
+module _ {A : Type 0} (pair_of : A → Pair) where
+  -- the number of an item's pair tells where it stands
+  pub indexed_same : (t : Numbering) (xs : List A) (i j : ℕ) (x y : A) → IsIndexed pair_of t xs → slice_get xs i ≡ Some x → slice_get xs j ≡ Some y → pair_of x ≡ pair_of y → i ≡ j
+  indexed_same t xs i j x y h e f g =
+      let k : number_of t (pair_of x) ≡ number_of t (pair_of y) = ap (number_of t) g in
+      omega (arith, (h.pairs i x e).1, (h.pairs j y f).1, k)
+
+  -- one more item, with a pair that had no number
+  pub indexed_push : (old new : Numbering) (xs : List A) (x : A) (n : ℕ) → IsIndexed pair_of old xs → IsPair old.columns (pair_of x) → number_of old (pair_of x) ≡ 0 →
+      n ≡ length xs + 1 → Renumbers old new (pair_of x) n → IsIndexed pair_of new (xs ++ x ∷ [])
+  indexed_push old new xs x n h p fresh long r =
+      record {
+        pairs = λ i y e. elim (item_pushed xs x i y e) [
+          | inl t ↦
+              let o = h.pairs i y t in
+              let other : pair_of y ≢ pair_of x = λ g. elim (cases_eq (number_of old (pair_of y)) 0) [ inl z ↦ omega (arith, o.1) | inr z ↦ z (ap (number_of old) g ∙ fresh) ] in
+              (subst (λ c. IsPair c (pair_of y)) (sym r.columns) o.0, r.others (pair_of y) o.0 other ∙ o.1)
+          | inr t ↦
+              (subst (λ (z : A). IsPair new.columns (pair_of z)) t.1 (subst (λ c. IsPair c (pair_of x)) (sym r.columns) p),
+               ap (λ (z : A). number_of new (pair_of z)) (sym t.1) ∙ r.changed ∙ omega (arith, t.0))
+        ];
+        found = λ v q l. elim (cases_pair v (pair_of x)) [
+          | inl g ↦
+              let k : number_of new v - 1 ≡ length xs = omega (arith, ap (number_of new) g, r.changed) in
+              (x, rw k (item_last xs x), sym g)
+          | inr g ↦
+              let q' : IsPair old.columns v = subst (λ c. IsPair c v) r.columns q in
+              let k : number_of new v ≡ number_of old v = r.others v q' g in
+              let o = h.found v q' (omega arith) in
+              (o.0, subst (λ m. slice_get (xs ++ x ∷ []) (m - 1) ≡ Some o.0) (sym k) (item_append xs (x ∷ []) (number_of old v - 1) o.0 o.1), o.2)
+        ];
+      }
+
+  -- the first items alone, where the pairs of the others have lost their numbers
+  pub indexed_take : (old new : Numbering) (xs : List A) (keep : ℕ) → IsIndexed pair_of old xs → new.columns ≡ old.columns →
+      ((v : Pair) → IsPair old.columns v → number_of old v ≤ keep → number_of new v ≡ number_of old v) →
+      ((v : Pair) → IsPair old.columns v → keep < number_of old v → number_of new v ≡ 0) → IsIndexed pair_of new (take keep xs)
+  indexed_take old new xs keep h columns kept lost =
+      record {
+        pairs = λ i y e.
+          let t = item_taken keep xs i y e in
+          let o = h.pairs i y t.1 in
+          (subst (λ c. IsPair c (pair_of y)) (sym columns) o.0, kept (pair_of y) o.0 (omega (arith, o.1, t.0)) ∙ o.1);
+        found = λ v q l.
+          let q' : IsPair old.columns v = subst (λ c. IsPair c v) columns q in
+          elim (cases_lt keep (number_of old v)) [
+            | inl m ↦ absurd (omega (arith, lost v q' m))
+            | inr m ↦
+                let k : number_of new v ≡ number_of old v = kept v q' m in
+                let o = h.found v q' (omega arith) in
+                (o.0, subst (λ m. slice_get (take keep xs) (m - 1) ≡ Some o.0) (sym k) (item_take keep xs (number_of old v - 1) o.0 (omega arith) o.1), o.2)
+          ];
+      }
+
+  -- no pair stands twice from any position on
+  pub indexed_distinct : (t : Numbering) (xs : List A) (n : ℕ) → IsIndexed pair_of t xs → AllPairs (λ (x : A) (y : A). pair_of x ≢ pair_of y) (drop n xs)
+  indexed_distinct t xs n h = λ i j d l m g.
+      let e : slice_get xs (n + i) ≡ Some (get_or (drop n xs) i d) = sym (item-drop n xs i) ∙ slice_get-get_or (drop n xs) i d (omega arith) in
+      let f : slice_get xs (n + j) ≡ Some (get_or (drop n xs) j d) = sym (item-drop n xs j) ∙ slice_get-get_or (drop n xs) j d m in
+      omega (arith, indexed_same t xs (n + i) (n + j) (get_or (drop n xs) i d) (get_or (drop n xs) j d) h e f g)

@@ -1,0 +1,11 @@
+use Rattle.std.proofs.Common.{◌≡◌, ◌∙◌, ◌+◌, ◌∷◌, [], ◌++◌, length, ap, arith}
+use Rattle.std.proofs.lemmas.Grind.{common_steps}
+use Rattle.row_model.specs.Cycles.{pair_of}
+use Rattle.incompat_graph.proofs.NumberLaws.{indexed_push}
+use Rattle.incompat_graph.proofs.cycle.extend.Goals as goal
+
+pub returns : goal.returns
+returns c =
+    let items : c.push.new.self.items ≡ c.args.path.now.items ++ c.args.line ∷ [] = grind (arith, common_steps) in
+    let long : c.len.result ≡ length c.args.path.now.items + 1 = grind (arith, common_steps) in
+    (rw items (indexed_push pair_of c.args.numbers.now c.set.new.self c.args.path.now.items c.args.line c.len.result c.requires.indexed c.requires.pair c.requires.fresh long c.set.ensures), c.set.ensures.columns, items)

@@ -1,0 +1,98 @@
+// Odd cycles, and the odd cycle that a closed walk of odd length contains.
+ghost use Rattle.std.specs.Prelude.{◌≡◌, ◌<◌, [], ◌∷◌, ◌++◌, take, length, IfOk, OnOk, ◌≤◌};
+ghost use Rattle.row_model.specs.declared.graph.Pair.{Pair};
+ghost use Rattle.row_model.specs.Graph.{IsPair};
+ghost use Rattle.row_model.specs.Cycles.{IsSimpleOdd, IsClosedWalk, IsOddCycle, pair_of};
+ghost use Rattle.incompat_graph.specs.Numbers.{IsIndexed, number_of};
+
+use crate::numbers::PairNumbers;
+use crate::walk::Walk;
+use row_model::{Line, Matrix};
+use std::alloc::{AllocError, Global};
+use std::marker::Model;
+
+/// The lines of an odd cycle in the incompatibility graph of a matrix: an odd number of lines, three or more, with no
+/// pair twice. The reason of each line joins its pair to the pair of the next line, and the reason of the last line to
+/// the pair of the first.
+#[derive(Drop)]
+pub struct Cycle {
+    lines: Vec<Line>,
+}
+
+impl Model for Cycle {
+    ghost use Rattle.std.specs.Prelude.{List};
+    ghost use Rattle.row_model.specs.declared.graph.Line.{Line};
+    ghost use Rattle.row_model.specs.Cycles.{IsSimpleOdd};
+
+    ghost Value = { List Line };
+
+    ghost view = { λ cycle. cycle.lines.items };
+
+    ghost invariant = { λ cycle. IsSimpleOdd cycle.lines.items };
+}
+
+impl Cycle {
+    /// The lines in their order.
+    pub fn lines(&self) -> &[Line]
+        ensures lines { result.now ≡ self.now }
+        ensures simple { IsSimpleOdd result.now }
+    {
+        &self.lines
+    }
+}
+
+/// An odd cycle among the lines of a closed walk of odd length.
+///
+/// A pair that comes twice cuts a closed walk into two closed walks, and one of the two is odd. So the walk is followed
+/// until a pair comes again: the lines since then are the cycle, if they are odd in number, and are left out if not.
+pub fn simple_cycle(alloc: Global, m: &Matrix, walk: &Walk) -> Result<Cycle, AllocError>
+    requires { IsClosedWalk m.now.columns m.now.rows walk.now }
+    ensures { IfOk result (IsOddCycle m.now.columns m.now.rows) }
+{
+    let mut numbers = PairNumbers::new(alloc, m.columns())?;
+    let mut path = Vec::new(alloc);
+    for line in walk.lines() {
+        let number = numbers.get(line.pair);
+        if number > 0 {
+            if (path.len() - (number - 1)) % 2 == 1 {
+                let lines = path[number - 1..].to_vec(alloc)?;
+                return Ok(Cycle { lines });
+            }
+            cut(&mut numbers, &mut path, number - 1);
+        }
+        extend(&mut numbers, &mut path, *line)?;
+    }
+    Ok(Cycle { lines: path })
+}
+
+// Adds a line with a new pair to the path.
+fn extend(
+    numbers: &mut PairNumbers,
+    path: &mut Vec<Line>,
+    line: Line,
+) -> Result<(), AllocError>
+    requires indexed { IsIndexed pair_of numbers.old path.old.items }
+    requires pair { IsPair numbers.old.columns line.pair }
+    requires fresh { number_of numbers.old line.pair ≡ 0 }
+    ensures { OnOk result (IsIndexed pair_of numbers.new path.new.items
+        × (numbers.new.columns ≡ numbers.old.columns) × (path.new.items ≡ path.old.items ++ line ∷ [])) }
+{
+    path.push(line)?;
+    numbers.set(line.pair, path.len());
+    Ok(())
+}
+
+// Keeps the first so many lines of the path, and takes the numbers of the others back.
+fn cut(numbers: &mut PairNumbers, path: &mut Vec<Line>, keep: usize)
+    requires indexed { IsIndexed pair_of numbers.old path.old.items }
+    requires within { keep ≤ length path.old.items }
+    ensures indexed { IsIndexed pair_of numbers.new path.new.items }
+    ensures columns { numbers.new.columns ≡ numbers.old.columns }
+    ensures path { path.new.items ≡ take keep path.old.items }
+    ensures cut { (v : Pair) → IsPair numbers.old.columns v → keep < number_of numbers.old v → number_of numbers.new v ≡ 0 }
+{
+    for line in &path[keep..] {
+        numbers.set(line.pair, 0);
+    }
+    path.truncate(keep);
+}

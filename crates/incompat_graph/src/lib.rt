@@ -1,0 +1,13 @@
+//! Odd cycles in the incompatibility graph of a matrix, the certificate that no order of its columns keeps every row
+//! (McConnell, 2004).
+#![tactic(auto)]
+
+mod cycle;
+mod numbers;
+mod reason;
+mod walk;
+
+pub use cycle::{Cycle, simple_cycle};
+pub use reason::joined;
+pub use std::alloc::AllocError as NoMemory;
+pub use walk::Walk;

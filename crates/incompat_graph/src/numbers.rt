@@ -1,0 +1,69 @@
+// A number for each ordered pair of columns, in one table.
+ghost use Rattle.std.specs.Prelude.{◌≡◌, IfOk};
+ghost use Rattle.row_model.specs.declared.graph.Pair.{Pair};
+ghost use Rattle.row_model.specs.Graph.{IsPair};
+ghost use Rattle.incompat_graph.specs.Numbers.{Renumbers, number_of, place_of};
+
+use row_model::Pair;
+use std::alloc::{AllocError, Global};
+use std::marker::Model;
+
+/// A table with a number for each ordered pair of columns.
+#[derive(Drop)]
+pub struct PairNumbers {
+    columns: u32,
+    numbers: Vec<usize>,
+}
+
+impl Model for PairNumbers {
+    ghost use Rattle.incompat_graph.specs.Numbers.{Numbering};
+
+    ghost Value = { Numbering };
+
+    ghost use Rattle.incompat_graph.specs.Tables.{numbering_within, HasEachPair};
+
+    ghost view = { numbering_within };
+
+    ghost invariant = { HasEachPair };
+}
+
+impl PairNumbers {
+    #[tactic(auto, unfolding(crate::specs::Numbers::number_of))]
+    /// The table with 0 for each pair.
+    pub fn new(alloc: Global, columns: u32) -> Result<Self, AllocError>
+        ensures { IfOk result (λ t. (t.columns ≡ columns) × ((v : Pair) → number_of t v ≡ 0)) }
+    {
+        let size = columns as usize * columns as usize;
+        Ok(PairNumbers {
+            columns,
+            numbers: vec![in alloc; 0; size]?,
+        })
+    }
+
+    #[tactic(auto, unfolding(crate::specs::Numbers::number_of))]
+    /// The number of a pair.
+    pub fn get(&self, v: Pair) -> usize
+        requires { IsPair self.now.columns v }
+        ensures { result ≡ number_of self.now v }
+    {
+        self.numbers[cell(self.columns, v)]
+    }
+
+    #[tactic(auto, unfolding(crate::specs::Numbers::number_of))]
+    /// Gives a pair another number.
+    pub fn set(&mut self, v: Pair, number: usize)
+        requires { IsPair self.old.columns v }
+        ensures { Renumbers self.old self.new v number }
+    {
+        let place = cell(self.columns, v);
+        self.numbers[place] = number;
+    }
+}
+
+// The place of a pair in a table of so many columns.
+fn cell(columns: u32, v: Pair) -> usize
+    requires { IsPair columns v }
+    ensures { result ≡ place_of columns v }
+{
+    (v.a as usize - 1) * columns as usize + (v.b as usize - 1)
+}

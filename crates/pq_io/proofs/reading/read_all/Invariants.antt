@@ -1,0 +1,17 @@
+use Rattle.std.proofs.Common.{◌≡◌, ◌-◌, ◌≤◌, ◌+◌, ◌^◌, ℕ, List, take, IsTrue, vec_len}
+use Rattle.std.specs.Io.KnownBytes.{Consumes}
+use Rattle.pq_io.proofs.reading.read_all.Given as goal
+
+abbrev pub invariant-loop-filled : goal.invariant-loop-filled
+invariant-loop-filled g l = record {
+  within : l.filled ≤ vec_len l.bytes;
+  small : l.limit ≤ 2 ^ 32;
+  so_far : Consumes (g.F.Shelf.left l.initial.shelf) (g.F.Shelf.left l.shelf) (take l.filled l.bytes.items);
+  later : g.F.Shelf.faults l.initial.shelf ≤ g.F.Shelf.faults l.shelf;
+  chosen : IsTrue (g.F.Shelf.has_chosen l.shelf);
+  asked : g.F.Shelf.asked l.shelf ≡ g.F.Shelf.asked l.initial.shelf;
+  content : (other : List ℕ) → g.F.Shelf.content l.shelf other ≡ g.F.Shelf.content l.initial.shelf other;
+}
+
+abbrev pub decreases-loop-filled : goal.decreases-loop-filled
+decreases-loop-filled g l = l.limit + 1 - l.filled

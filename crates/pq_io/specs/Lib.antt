@@ -1,0 +1,10 @@
+pub mod Chosen
+pub mod Faults
+pub mod MemFile
+pub mod MemShelf
+pub mod MemSink
+pub mod NamedFiles
+pub mod RealShelf
+pub mod Shelf
+pub mod Sink
+pub mod Whole

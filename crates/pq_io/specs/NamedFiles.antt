@@ -1,0 +1,20 @@
+-- Files by name, of which the last one of a name counts.
+use Rattle.std.specs.Prelude.{ℕ, List, Option, Some, None, fold, if◌then◌else◌}
+use Rattle.std.specs.Str.{bytes_eq}
+
+-- a file: its name and its bytes
+pub record NamedFile : Type 0 where
+  pub name : List ℕ
+  pub bytes : List ℕ
+
+-- the bytes of the last file with this name
+abbrev pub content_of : List NamedFile → List ℕ → Option (List ℕ)
+content_of files name = fold (λ found file. if bytes_eq file.name name then Some file.bytes else found) None files
+
+-- what a shelf in memory holds: its files in the order in which they were added, the bytes left of the chosen one, the
+-- names asked for, and how many calls have failed
+pub record Held : Type 0 where
+  pub files : List NamedFile
+  pub left : Option (List ℕ)
+  pub asked : List (List ℕ)
+  pub faults : ℕ

@@ -1,0 +1,28 @@
+-- What the reading of a whole file gives.
+use Rattle.std.specs.Prelude.{◌≡◌, ⊤, ℕ, ◌<◌, ◌≤◌, List, length, vec_len, Result, Ok, Err}
+use Rattle.pq_io.specs.Faults.{Rose}
+use Rattle.pq_io.specs.declared.reading.Whole.{Whole}
+use Rattle.pq_io.specs.declared.reading.Whole.TheVariants as whole
+use Rattle.pq_io.specs.declared.error.ReadFail.{ReadFail}
+use Rattle.pq_io.specs.declared.error.ReadFail.TheVariants as fail
+
+-- what was read of a file of these bytes: all of them, or that they are more than the limit
+abbrev pub IsWhole : ℕ → List ℕ → Whole → Type 0
+IsWhole limit bytes (whole.Bytes read) = (read.items ≡ bytes) × (length bytes ≤ limit)
+IsWhole limit bytes whole.TooLong = limit < length bytes
+
+-- no more bytes than the limit are given
+abbrev pub IsWithin : ℕ → Whole → Type 0
+IsWithin limit (whole.Bytes read) = vec_len read ≤ limit
+IsWithin limit whole.TooLong = ⊤
+
+-- `Fault` comes only where the count rose
+abbrev pub FaultsOnlyIfRose : {T : Type 0} → ℕ → ℕ → Result T ReadFail → Type 0
+FaultsOnlyIfRose before now (Ok _) = ⊤
+FaultsOnlyIfRose before now (Err fail.Fault) = Rose before now
+FaultsOnlyIfRose before now (Err fail.NoMemory) = ⊤
+
+-- the count never falls, and `Fault` comes only where it rose
+pub record HasReadCause {T : Type 0} (before now : ℕ) (result : Result T ReadFail) : Type 0 where
+  pub later : before ≤ now
+  pub failed : FaultsOnlyIfRose before now result

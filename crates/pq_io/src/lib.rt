@@ -1,0 +1,29 @@
+//! Where bytes come from, and where they go to.
+//!
+//! A [`Shelf`] holds files by name: one is chosen, and then it is read. A [`Sink`] takes bytes. Each counts its own failures,
+//! and may tell the bytes that it holds. [`read_all`] reads a file whole up to a limit, and [`write_all`] writes a text whole.
+//!
+//! [`MemShelf`] and [`MemSink`] lie in memory and tell their bytes. [`RealShelf`] and [`RealSink`] are the files and the
+//! streams of the system, of which no bytes can be told.
+#![tactic(auto)]
+
+mod error;
+mod mem_shelf;
+mod mem_sink;
+mod reading;
+mod real_shelf;
+mod real_sink;
+mod shelf;
+mod sink;
+mod writing;
+
+pub use error::{ChooseError, Failed, ReadFail, WriteFault};
+pub use mem_shelf::MemShelf;
+pub use mem_sink::MemSink;
+pub use reading::{Whole, read_all};
+pub use real_shelf::RealShelf;
+pub use real_sink::RealSink;
+pub use shelf::Shelf;
+pub use sink::Sink;
+pub use std::alloc::AllocError as NoMemory;
+pub use writing::write_all;

@@ -1,0 +1,67 @@
+// A file as a whole.
+ghost use Rattle.std.specs.Prelude.{◌≡◌, ◌<◌, ◌≤◌, ◌+◌, ◌^◌, ℕ, List, Option, length, take, drop, vec_len, IfOk, IfSome, IsTrue};
+ghost use Rattle.std.specs.Io.KnownBytes.{Consumes, IsAtEnd};
+ghost use Rattle.pq_io.specs.Whole.{IsWhole, IsWithin, HasReadCause};
+
+use crate::{ReadFail, Shelf};
+use std::alloc::Global;
+
+/// What a file held.
+#[derive(Debug, Drop)]
+pub enum Whole {
+    /// All its bytes.
+    Bytes(Vec<u8>),
+    /// More bytes than the limit came.
+    TooLong,
+}
+
+/// The room for one read, in bytes.
+const PIECE: usize = 64 * 1024;
+
+/// Reads what is left of the chosen file, unless it is more than `limit` bytes. The file stays chosen.
+///
+/// # Errors
+///
+/// `Fault` where a read failed, and `NoMemory`. Some bytes may have been read then.
+pub fn read_all<F: Shelf>(alloc: Global, shelf: &mut F, limit: u64) -> Result<Whole, ReadFail>
+    requires limit { limit ≤ 2 ^ 32 }
+    requires chosen { IsTrue (F.has_chosen shelf.old) }
+    ensures whole { IfOk result (λ whole. IfSome (F.left shelf.old) (λ bytes. IsWhole limit bytes whole)) }
+    ensures within { IfOk result (IsWithin limit) }
+    ensures cause { HasReadCause (F.faults shelf.old) (F.faults shelf.new) result }
+    ensures chosen { IsTrue (F.has_chosen shelf.new) }
+    ensures asked { F.asked shelf.new ≡ F.asked shelf.old }
+    ensures content { (other : List ℕ) → F.content shelf.new other ≡ F.content shelf.old other }
+{
+    let mut bytes = Vec::new(alloc);
+    let mut filled = 0;
+    while filled as u64 <= limit {
+        let n = read_on(shelf, &mut bytes, filled)?;
+        if n == 0 {
+            bytes.truncate(filled);
+            bytes.shrink_to_fit();
+            return Ok(Whole::Bytes(bytes));
+        }
+        filled += n;
+    }
+    Ok(Whole::TooLong)
+}
+
+// One read, to behind the filled front of `bytes`. Room is made by zeros, and what an earlier read left of it serves again.
+fn read_on<F: Shelf>(shelf: &mut F, bytes: &mut Vec<u8>, filled: usize) -> Result<usize, ReadFail>
+    requires filled { filled ≤ vec_len bytes.old }
+    requires small { filled ≤ 2 ^ 32 }
+    requires chosen { IsTrue (F.has_chosen shelf.old) }
+    ensures front { take filled bytes.new.items ≡ take filled bytes.old.items }
+    ensures room { IfOk result (λ n. filled + n ≤ vec_len bytes.new) }
+    ensures read { IfOk result (λ n. Consumes (F.left shelf.old) (F.left shelf.new) (take n (drop filled bytes.new.items))) }
+    ensures end { IfOk result (λ n. n ≡ 0 → IsAtEnd (F.left shelf.new)) }
+    ensures cause { HasReadCause (F.faults shelf.old) (F.faults shelf.new) result }
+    ensures chosen { IsTrue (F.has_chosen shelf.new) }
+    ensures asked { F.asked shelf.new ≡ F.asked shelf.old }
+    ensures content { (other : List ℕ) → F.content shelf.new other ≡ F.content shelf.old other }
+{
+    bytes.resize(filled + PIECE, 0)?;
+    let n = shelf.read(&mut bytes[filled..])?;
+    Ok(n)
+}

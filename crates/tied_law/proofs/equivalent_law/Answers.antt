@@ -1,0 +1,5 @@
+use Rattle.tied_law.proofs.Turn.{same_frontiers, turned_law}
+use Rattle.tied_law.proofs.equivalent_law.Goals as goal
+
+pub returns : goal.returns
+returns c = record { same_frontiers = same_frontiers; tied = turned_law }
