@@ -1,4 +1,5 @@
 pub mod Chosen
+pub mod Errors
 pub mod Faults
 pub mod MemFile
 pub mod MemShelf

@@ -1,5 +1,6 @@
 -- What the reading of a whole file gives.
-use Rattle.std.specs.Prelude.{◌≡◌, ⊤, ℕ, ◌<◌, ◌≤◌, List, length, vec_len, Result, Ok, Err}
+use Rattle.std.specs.Prelude.{◌≡◌, ⊤, ℕ, ◌<◌, ◌≤◌, List, length, vec_len, Option, Result, Ok, Err}
+use Rattle.std.specs.Io.KnownBytes.{IsAtEnd}
 use Rattle.pq_io.specs.Faults.{Rose}
 use Rattle.pq_io.specs.declared.reading.Whole.{Whole}
 use Rattle.pq_io.specs.declared.reading.Whole.TheVariants as whole
@@ -15,6 +16,11 @@ IsWhole limit bytes whole.TooLong = limit < length bytes
 abbrev pub IsWithin : ℕ → Whole → Type 0
 IsWithin limit (whole.Bytes read) = vec_len read ≤ limit
 IsWithin limit whole.TooLong = ⊤
+
+-- where all bytes are given, none is left
+abbrev pub LeavesNone : Option (List ℕ) → Whole → Type 0
+LeavesNone left (whole.Bytes read) = IsAtEnd left
+LeavesNone left whole.TooLong = ⊤
 
 -- `Fault` comes only where the count rose
 abbrev pub FaultsOnlyIfRose : {T : Type 0} → ℕ → ℕ → Result T ReadFail → Type 0

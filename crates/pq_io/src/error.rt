@@ -81,32 +81,50 @@ impl From<Failed> for WriteFault {
 }
 
 impl fmt::Display for Failed {
+    ghost use Rattle.std.specs.Prelude.{Some, codes};
+
+    ghost output = { λ _. Some (codes "a read or a write failed") };
+
     fn fmt<W: fmt::Write>(&self, f: &mut fmt::Formatter<W>) -> fmt::Result {
-        write!(f, "a read or a write failed")
+        f.write_str("a read or a write failed")
     }
 }
 
 impl fmt::Display for ChooseError {
+    ghost use Rattle.std.specs.Prelude.{Some, codes};
+    ghost use Rattle.pq_io.specs.Errors.{choose_text};
+
+    ghost output = { λ error. Some (choose_text error) };
+
     fn fmt<W: fmt::Write>(&self, f: &mut fmt::Formatter<W>) -> fmt::Result {
         match self {
-            ChooseError::Failed => write!(f, "the file could not be opened"),
-            ChooseError::NoMemory => write!(f, "out of memory"),
+            ChooseError::Failed => f.write_str("the file could not be opened"),
+            ChooseError::NoMemory => f.write_str("out of memory"),
         }
     }
 }
 
 impl fmt::Display for ReadFail {
+    ghost use Rattle.std.specs.Prelude.{Some, codes};
+    ghost use Rattle.pq_io.specs.Errors.{read_text};
+
+    ghost output = { λ error. Some (read_text error) };
+
     fn fmt<W: fmt::Write>(&self, f: &mut fmt::Formatter<W>) -> fmt::Result {
         match self {
-            ReadFail::Fault => write!(f, "the file could not be read"),
-            ReadFail::NoMemory => write!(f, "out of memory"),
+            ReadFail::Fault => f.write_str("the file could not be read"),
+            ReadFail::NoMemory => f.write_str("out of memory"),
         }
     }
 }
 
 impl fmt::Display for WriteFault {
+    ghost use Rattle.std.specs.Prelude.{Some, codes};
+
+    ghost output = { λ _. Some (codes "the text could not be written whole") };
+
     fn fmt<W: fmt::Write>(&self, f: &mut fmt::Formatter<W>) -> fmt::Result {
-        write!(f, "the text could not be written whole")
+        f.write_str("the text could not be written whole")
     }
 }
 

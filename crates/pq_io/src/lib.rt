@@ -17,6 +17,9 @@ mod shelf;
 mod sink;
 mod writing;
 
+#[cfg(test)]
+mod tests;
+
 pub use error::{ChooseError, Failed, ReadFail, WriteFault};
 pub use mem_shelf::MemShelf;
 pub use mem_sink::MemSink;

@@ -33,9 +33,7 @@ impl Model for MemSink {
 impl MemSink {
     /// A sink with no bytes, no room and no faults.
     pub fn new(alloc: Global) -> Self
-        ensures bytes { result.bytes ≡ [] }
-        ensures room { result.room ≡ 0 }
-        ensures faults { result.faults ≡ 0 }
+        ensures { result ≡ record { bytes = []; room = 0; faults = 0 } }
     {
         MemSink {
             bytes: Vec::new(alloc),

@@ -1,13 +1,13 @@
 // A file as a whole.
 ghost use Rattle.std.specs.Prelude.{◌≡◌, ◌<◌, ◌≤◌, ◌+◌, ◌^◌, ℕ, List, Option, length, take, drop, vec_len, IfOk, IfSome, IsTrue};
 ghost use Rattle.std.specs.Io.KnownBytes.{Consumes, IsAtEnd};
-ghost use Rattle.pq_io.specs.Whole.{IsWhole, IsWithin, HasReadCause};
+ghost use Rattle.pq_io.specs.Whole.{IsWhole, IsWithin, LeavesNone, HasReadCause};
 
 use crate::{ReadFail, Shelf};
 use std::alloc::Global;
 
 /// What a file held.
-#[derive(Debug, Drop)]
+#[derive(Debug, PartialEq, Eq, Drop)]
 pub enum Whole {
     /// All its bytes.
     Bytes(Vec<u8>),
@@ -28,6 +28,7 @@ pub fn read_all<F: Shelf>(alloc: Global, shelf: &mut F, limit: u64) -> Result<Wh
     requires chosen { IsTrue (F.has_chosen shelf.old) }
     ensures whole { IfOk result (λ whole. IfSome (F.left shelf.old) (λ bytes. IsWhole limit bytes whole)) }
     ensures within { IfOk result (IsWithin limit) }
+    ensures end { IfOk result (LeavesNone (F.left shelf.new)) }
     ensures cause { HasReadCause (F.faults shelf.old) (F.faults shelf.new) result }
     ensures chosen { IsTrue (F.has_chosen shelf.new) }
     ensures asked { F.asked shelf.new ≡ F.asked shelf.old }

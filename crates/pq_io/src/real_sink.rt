@@ -55,3 +55,58 @@ impl<W: Write> Sink for RealSink<W> {
         }
     }
 }
+
+#[cfg(test)]
+mod tests {
+    use super::*;
+    use std::fs;
+    use std::io;
+    use std::test::Fail;
+
+    // Takes at most so many bytes in a write, and then may not be flushed.
+    #[derive(Drop)]
+    struct FakeStream {
+        most: usize,
+        can_flush: bool,
+    }
+
+    impl Write for FakeStream {
+        fn write(&mut self, buf: &[u8]) -> io::Result<usize> {
+            Ok(buf.len().min(self.most))
+        }
+
+        fn flush(&mut self) -> io::Result<()> {
+            if self.can_flush {
+                Ok(())
+            } else {
+                Err(io::Error::from(io::ErrorKind::StorageFull))
+            }
+        }
+    }
+
+    #[test]
+    fn a_write_fails_where_nothing_is_taken_or_flushed(rt: HostRuntime) {
+        for (most, can_flush, outcome) in [
+            (9, true, Ok(3)),
+            (2, true, Ok(2)),
+            (0, true, Err(Failed)),
+            (9, false, Err(Failed)),
+        ] {
+            let mut sink = RealSink {
+                stream: FakeStream { most, can_flush },
+                faults: 0,
+            };
+            assert_eq!(rt; sink.write(b"abc"), outcome, "{most} {can_flush}");
+        }
+    }
+
+    #[test]
+    fn a_full_device_fails(rt: HostRuntime) -> Result<(), Fail> {
+        let mut sink = RealSink {
+            stream: fs::create(&rt, "/dev/full")?,
+            faults: 0,
+        };
+        assert_eq!(rt; sink.write(b"abc"), Err(Failed));
+        Ok(())
+    }
+}
