@@ -1,6 +1,8 @@
 -- What a command replies for the bytes of its files.
-use Rattle.std.specs.Prelude.{◌≡◌, ◌↔◌, ℕ, List, [], ◌∷◌, Option, Some, None, Result, Ok, Err}
+use Rattle.std.specs.Prelude.{◌≡◌, ◌↔◌, ℕ, List, [], ◌∷◌, Option, Some, None}
 use Rattle.row_model.specs.declared.refusal.Refusal.{Refusal}
+use Rattle.row_model.specs.declared.refusal.Read.{Read}
+use Rattle.row_model.specs.declared.refusal.Read.TheVariants as read
 use Rattle.row_model.specs.Rows.{RowList}
 use Rattle.column_order.specs.Orders.{IsValidOrder}
 use Rattle.pq_tree.specs.Outline.{IsFrontier, leaves}
@@ -11,9 +13,9 @@ use Rattle.pq_cli.specs.Words.{Command, Solve}
 use Rattle.pq_cli.specs.Verdict.{Claim, yes_claim, no_claim, VerdictValue, verdict_text}
 
 -- the refusal of the file of this number, if it is refused
-abbrev pub refused_at : {A : Type 0} → ℕ → Result A Refusal → Option (ℕ × Refusal)
-refused_at which (Ok _) = None
-refused_at which (Err refusal) = Some (which, refusal)
+abbrev pub refused_at : {T : Type 0} → ℕ → Read T → Option (ℕ × Refusal)
+refused_at which (read.Ok _) = None
+refused_at which (read.Refused refusal) = Some (which, refusal)
 
 -- which of a command's files is refused, counted from 1, and its first refusal, given the bytes of the first files
 abbrev pub refusal_of : Command → List (List ℕ) → Option (ℕ × Refusal)
@@ -46,5 +48,5 @@ pub record IsSolution (m : RowList) (status : ℕ) (text : List ℕ) : Type 0 wh
 
 -- A status and a text are a reply to a command over files of these bytes: no file is refused, and what the text says is true.
 unfoldable pub Replies : Command → List (List ℕ) → ℕ → List ℕ → Type 0
-Replies (Solve _) (bytes ∷ []) status text = (m : RowList) × (dense bytes ≡ Ok m) × IsSolution m status text
+Replies (Solve _) (bytes ∷ []) status text = (m : RowList) × (dense bytes ≡ read.Ok m) × IsSolution m status text
 Replies command files status text = ⊥

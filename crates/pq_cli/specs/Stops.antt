@@ -1,6 +1,7 @@
 -- How a command ends before it writes.
 use Rattle.std.specs.Prelude.{◌≡◌, ◌⊎◌, ⊤, ℕ, List, Option, Some, Result, Ok, Err, codes}
-use Rattle.row_model.specs.declared.refusal.Refusal.{Refusal}
+use Rattle.row_model.specs.declared.refusal.Read.{Read}
+use Rattle.row_model.specs.declared.refusal.Read.TheVariants as read
 use Rattle.pq_cli.specs.Words.{Command}
 use Rattle.pq_cli.specs.Replies.{refusal_of}
 use Rattle.pq_cli.specs.Runs.{WhereFirstTold, refused_line}
@@ -31,8 +32,8 @@ IsRefusalOf command told stop.ReadFault = ⊤
 IsRefusalOf command told stop.NoMemory = ⊤
 
 -- a refusal is the one of the file of this number, which is judged so
-abbrev pub Refuses : {A : Type 0} → ℕ → Result A Refusal → Stop → Type 0
-Refuses n judged (stop.Refused which refusal) = (which ≡ n) × (judged ≡ Err refusal)
+abbrev pub Refuses : {T : Type 0} → ℕ → Read T → Stop → Type 0
+Refuses n judged (stop.Refused which refusal) = (which ≡ n) × (judged ≡ read.Refused refusal)
 Refuses n judged stop.ReadFault = ⊤
 Refuses n judged stop.NoMemory = ⊤
 

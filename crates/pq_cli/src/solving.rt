@@ -1,7 +1,6 @@
 // The rows of a matrix, taken into the tree of a reducer one after another.
-ghost use Rattle.std.specs.Prelude.{◌≡◌, ◌<◌, ◌≤◌, [], IfOk};
-ghost use Rattle.pq_tree.specs.Proper.{IsProper};
-ghost use Rattle.tied_law.specs.Tied.{IsTied};
+ghost use Rattle.std.specs.Prelude.{◌≡◌, ◌<◌, ◌≤◌, IfOk};
+ghost use Rattle.pq_tree.specs.Proper.{universal};
 ghost use Rattle.pq_cli.specs.Solved.{Solves};
 
 use crate::NoMemory;
@@ -20,16 +19,16 @@ pub enum Solved {
     No,
 }
 
-/// Solves a matrix by a reducer whose tree is tied to no row.
+// Solves a matrix by a reducer whose tree is universal.
 fn solve_by<R: Reducer, L: Ledger>(
     alloc: Global,
     reducer: &mut R,
     m: &Matrix,
     steps: &mut Steps<L>,
 ) -> Result<Solved, NoMemory>
-    requires columns { R.columns_of reducer.old ≡ m.now.columns }
-    requires proper { IsProper m.now.columns (R.tree_of reducer.old) }
-    requires tied { IsTied m.now.columns [] (R.tree_of reducer.old) }
+    requires columns { R.columns reducer.old ≡ m.now.columns }
+    requires universal { R.outline reducer.old ≡ universal m.now.columns }
+    requires some { 1 ≤ m.now.columns }
     ensures { IfOk result (Solves m.now) }
 {
     for k in 0..m.rows() {
