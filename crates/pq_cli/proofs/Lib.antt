@@ -1,0 +1,5 @@
+pub mod Lines
+pub mod Numbers
+pub mod Reading
+pub mod Rows
+pub mod Turns

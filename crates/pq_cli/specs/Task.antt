@@ -1,0 +1,8 @@
+-- The command that the code reads from the words.
+use Rattle.pq_cli.specs.Words.{Command, Solve}
+use Rattle.pq_cli.specs.declared.words.Task.{Task}
+use Rattle.pq_cli.specs.declared.words.Task.TheVariants as task
+
+-- the command of a task
+abbrev pub command_seen : Task → Command
+command_seen (task.Solve file) = Solve file.now

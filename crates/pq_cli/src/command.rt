@@ -1,0 +1,98 @@
+// The commands: from what the words ask for to a reply.
+ghost use Rattle.std.specs.Prelude.{◌≡◌, ◌⊎◌, ◌≤◌, ℕ, IfOk, IfErr, IsSome};
+ghost use Rattle.pq_io.specs.Faults.{Rose};
+ghost use Rattle.pq_cli.specs.Words.{Solve};
+ghost use Rattle.pq_cli.specs.Task.{command_seen};
+ghost use Rattle.pq_cli.specs.Replies.{refusal_of, Replies, IsTrueOf, IsSolution};
+ghost use Rattle.pq_cli.specs.Said.{said};
+ghost use Rattle.pq_cli.specs.Runs.{WhereTold, AsksInTurn};
+ghost use Rattle.pq_cli.specs.Stops.{outcome_status, IsRefusalOf};
+
+use crate::NoMemory;
+use crate::files::{Stop, read_matrix};
+use crate::solving::{Solved, solve};
+use crate::verdict::{Answer, Verdict};
+use crate::words::Task;
+use pq_io::Shelf;
+use row_model::Matrix;
+use std::alloc::Global;
+
+/// What is to be written, and the status.
+#[derive(Drop)]
+pub struct Reply {
+    /// The exit status.
+    pub status: u8,
+    /// The text.
+    pub text: Vec<u8>,
+}
+
+/// Does what the words ask for, up to the reply.
+pub fn perform<F: Shelf>(alloc: Global, task: &Task<'_>, files: &mut F) -> Result<Reply, Stop>
+    ensures asked { (n : ℕ) × AsksInTurn (F.content files.old) (command_seen task.now) (F.asked files.old) (F.asked files.new) (outcome_status result) n }
+    ensures later { F.faults files.old ≤ F.faults files.new }
+    ensures fault { outcome_status result ≡ 4 → Rose (F.faults files.old) (F.faults files.new) }
+    ensures status { IfOk result (λ reply. (reply.status ≡ 0) ⊎ (reply.status ≡ 1)) }
+    ensures whole { outcome_status result ≡ 3 → WhereTold (F.content files.old) (command_seen task.now) (λ told. IsSome (refusal_of (command_seen task.now) told)) }
+    ensures refused { IfErr result (λ stop. IsRefusalOf (command_seen task.now) (F.content files.old) stop) }
+    ensures reply { IfOk result (λ reply. WhereTold (F.content files.old) (command_seen task.now) (λ told. Replies (command_seen task.now) told reply.status reply.text.items)) }
+{
+    match task {
+        Task::Solve { file } => solve_file(alloc, file, files),
+    }
+}
+
+// Solves the matrix of a file.
+#[tactic(auto, unfolding(crate::specs::Replies::Replies))]
+fn solve_file<F: Shelf>(alloc: Global, file: &str, files: &mut F) -> Result<Reply, Stop>
+    ensures asked { (n : ℕ) × AsksInTurn (F.content files.old) (Solve file.now) (F.asked files.old) (F.asked files.new) (outcome_status result) n }
+    ensures later { F.faults files.old ≤ F.faults files.new }
+    ensures fault { outcome_status result ≡ 4 → Rose (F.faults files.old) (F.faults files.new) }
+    ensures status { IfOk result (λ reply. (reply.status ≡ 0) ⊎ (reply.status ≡ 1)) }
+    ensures whole { outcome_status result ≡ 3 → WhereTold (F.content files.old) (Solve file.now) (λ told. IsSome (refusal_of (Solve file.now) told)) }
+    ensures refused { IfErr result (λ stop. IsRefusalOf (Solve file.now) (F.content files.old) stop) }
+    ensures reply { IfOk result (λ reply. WhereTold (F.content files.old) (Solve file.now) (λ told. Replies (Solve file.now) told reply.status reply.text.items)) }
+{
+    match read_matrix(alloc, 1, file, files) {
+        Err(stop) => Err(stop),
+        Ok(m) => match solution(alloc, &m) {
+            Err(_) => Err(Stop::NoMemory),
+            Ok(reply) => Ok(reply),
+        },
+    }
+}
+
+// The reply on a matrix.
+fn solution(alloc: Global, m: &Matrix) -> Result<Reply, NoMemory>
+    requires { (1 ≤ m.now.columns) × (m.now.columns ≤ 32768) }
+    ensures solution { IfOk result (λ reply. IsSolution m.now reply.status reply.text.items) }
+    ensures status { IfOk result (λ reply. (reply.status ≡ 0) ⊎ (reply.status ≡ 1)) }
+{
+    let verdict = verdict_on(alloc, m)?;
+    let text = verdict.text(alloc)?;
+    Ok(Reply {
+        status: verdict.status(),
+        text,
+    })
+}
+
+// The verdict on a matrix.
+fn verdict_on(alloc: Global, m: &Matrix) -> Result<Verdict, NoMemory>
+    requires { (1 ≤ m.now.columns) × (m.now.columns ≤ 32768) }
+    ensures { IfOk result (λ verdict. IsTrueOf m.now (said verdict)) }
+{
+    let columns = m.columns();
+    match solve(alloc, m) {
+        Err(error) => Err(error),
+        Ok(Solved::No) => Ok(Verdict {
+            columns,
+            answer: Answer::No,
+        }),
+        Ok(Solved::Yes(tree)) => match tree.frontier(alloc) {
+            Err(error) => Err(error),
+            Ok(order) => Ok(Verdict {
+                columns,
+                answer: Answer::Yes { tree, order },
+            }),
+        },
+    }
+}

@@ -1,0 +1,15 @@
+//! The top call of the program `pq`: one command, from its words to its status.
+//!
+//! A command reads its files from a `Shelf`, writes its answer to one `Sink` and tells of what stood in its way on another, so that what it
+//! does is a matter of values: `run` says which files were asked for, and that what was written is a reply to their bytes.
+#![tactic(auto)]
+
+mod command;
+mod files;
+mod solving;
+mod top;
+mod verdict;
+mod words;
+
+pub use std::alloc::AllocError as NoMemory;
+pub use top::run;

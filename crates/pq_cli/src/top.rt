@@ -1,0 +1,118 @@
+// The top call: one command, from the words to the status.
+ghost use Rattle.std.specs.Prelude.{◌≡◌, ◌⊎◌, ◌↔◌, ◌≤◌, IfOk, IfNone, IsNone, IsSome, List, ℕ, string_bytes};
+ghost use Rattle.pq_io.specs.Faults.{Rose};
+ghost use Rattle.pq_cli.specs.Words.{texts, command_of};
+ghost use Rattle.pq_cli.specs.Replies.{refusal_of};
+ghost use Rattle.pq_cli.specs.Runs.{WhereTold, ForCommand, AsksInTurn, WritesReply, WritesPart, Tells, IsLineOf, refused_line};
+ghost use Rattle.pq_cli.specs.Stops.{stop_status, IsStopLine};
+
+use crate::NoMemory;
+use crate::command::perform;
+use crate::files::Stop;
+use crate::words::task_of;
+use pq_io::{Shelf, Sink, write_all};
+use row_model::Refusal;
+use std::alloc::Global;
+
+// Offers a line to a sink, whose faults are passed over.
+fn tell<E: Sink>(err: &mut E, line: &[u8])
+    ensures { Tells (E.written err.old) (E.written err.new) (E.faults err.old) (E.faults err.new) line.now }
+{
+    let _ = write_all(err, line);
+}
+
+// The line that tells of a refusal.
+fn refusal_line(alloc: Global, which: u8, refusal: Refusal) -> Result<String, NoMemory>
+    ensures { IfOk result (λ line. string_bytes line ≡ refused_line which refusal) }
+{
+    let code = refusal.code;
+    let line = refusal.line;
+    format!(in alloc; "pq: refused {which} code {code} line {line}\n")
+}
+
+// Tells of what stood in the way, and gives its status.
+fn report<E: Sink>(alloc: Global, stop: Stop, err: &mut E) -> u8
+    ensures status { (result ≡ stop_status stop) ⊎ (result ≡ 6) }
+    ensures line { (line : List ℕ) × IsStopLine stop result line × Tells (E.written err.old) (E.written err.new) (E.faults err.old) (E.faults err.new) line }
+{
+    match stop {
+        Stop::Refused(which, refusal) => match refusal_line(alloc, which, refusal) {
+            Ok(line) => {
+                tell(err, line.as_bytes());
+                3
+            }
+            Err(_) => {
+                tell(err, b"pq: no memory\n");
+                6
+            }
+        },
+        Stop::ReadFault => {
+            tell(err, b"pq: read fault\n");
+            4
+        }
+        Stop::NoMemory => {
+            tell(err, b"pq: no memory\n");
+            6
+        }
+    }
+}
+
+/// Does what the words ask for, and answers the exit status.
+///
+/// The words are `solve matrix FILE`. The file is read from `files`, the reply is written to `out`, and on the statuses 2 to 6 one line is
+/// offered to `err`, whose faults change nothing.
+///
+/// | Status | Meaning |
+/// |---|---|
+/// | 0 | the matrix has a valid order |
+/// | 1 | it has none |
+/// | 2 | the words are outside the grammar; nothing is read or written |
+/// | 3 | the file is refused |
+/// | 4 | it can't be read |
+/// | 5 | the reply can't be written; some first bytes of it were |
+/// | 6 | memory is refused |
+pub fn run<F: Shelf, O: Sink, E: Sink>(
+    alloc: Global,
+    words: &[String],
+    files: &mut F,
+    out: &mut O,
+    err: &mut E,
+) -> u8
+    // The words are judged first.
+    ensures words { (result ≡ 2) ↔ IsNone (command_of (texts words.now)) }
+    ensures unread { IfNone (command_of (texts words.now)) (files.new ≡ files.old) }
+
+    // The files are read in turn, and no other name is asked for.
+    ensures asked { ForCommand (command_of (texts words.now)) (λ c. (n : ℕ) × AsksInTurn (F.content files.old) c (F.asked files.old) (F.asked files.new) result n) }
+    ensures read_fault { result ≡ 4 → Rose (F.faults files.old) (F.faults files.new) }
+    ensures refused { result ≡ 3 → ForCommand (command_of (texts words.now)) (λ c. WhereTold (F.content files.old) c (λ told. IsSome (refusal_of c told))) }
+
+    // What is written is a reply to the bytes of the files.
+    ensures answered { (result ≡ 0) ⊎ (result ≡ 1) → ForCommand (command_of (texts words.now)) (λ c. WhereTold (F.content files.old) c (λ told. WritesReply c told result (O.written out.old) (O.written out.new))) }
+    ensures cut_short { result ≡ 5 → ForCommand (command_of (texts words.now)) (λ c. WhereTold (F.content files.old) c (λ told. WritesPart c told (O.written out.old) (O.written out.new))) }
+    ensures write_fault { result ≡ 5 → Rose (O.faults out.old) (O.faults out.new) }
+    ensures unwritten { (result ≡ 2) ⊎ (result ≡ 3) ⊎ (result ≡ 4) ⊎ (result ≡ 6) → out.new ≡ out.old }
+
+    // No other status comes.
+    ensures status { result ≤ 6 }
+
+    // What stands in the way is told of.
+    ensures quiet { (result ≡ 0) ⊎ (result ≡ 1) → err.new ≡ err.old }
+    ensures line { 2 ≤ result → (line : List ℕ) × IsLineOf (command_of (texts words.now)) (F.content files.old) result line
+        × Tells (E.written err.old) (E.written err.new) (E.faults err.old) (E.faults err.new) line }
+{
+    let Some(task) = task_of(words) else {
+        tell(err, b"pq: words\n");
+        return 2;
+    };
+    match perform(alloc, &task, files) {
+        Err(stop) => report(alloc, stop, err),
+        Ok(reply) => match write_all(out, &reply.text) {
+            Ok(()) => reply.status,
+            Err(_) => {
+                tell(err, b"pq: write fault\n");
+                5
+            }
+        },
+    }
+}

@@ -1,0 +1,185 @@
+//! Runs of the top call over files and sinks in memory.
+#![tactic(auto)]
+
+#[cfg(test)]
+mod tests {
+    use pq_cli::run;
+    use pq_io::{MemShelf, MemSink, NoMemory};
+    use std::alloc::Global;
+    use std::process::Abort;
+    use std::test::Fail;
+
+    // A run: the words, the bytes of the file `matrix`, how many bytes the output has room for, and the status, the output and the line of
+    // errors that are wanted.
+    #[derive(Drop)]
+    struct Case {
+        words: &'static [&'static str],
+        file: &'static [u8],
+        room: usize,
+        status: u8,
+        out: &'static [u8],
+        err: &'static [u8],
+    }
+
+    // What a run left.
+    #[derive(Drop)]
+    struct Outcome {
+        status: u8,
+        out: MemSink,
+        err: MemSink,
+    }
+
+    // Runs a case, with ample memory and room for the line of errors.
+    fn outcome_of(alloc: Global, case: &Case) -> Result<Outcome, NoMemory> {
+        let mut words = Vec::new(alloc);
+        for word in case.words {
+            words.push(String::from_str(alloc, word)?)?;
+        }
+        let mut files = MemShelf::new(alloc);
+        files.add("matrix", case.file)?;
+        let mut out = MemSink::new(alloc);
+        out.reserve(case.room)?;
+        let mut err = MemSink::new(alloc);
+        err.reserve(100)?;
+        let status = run(alloc, &words, &mut files, &mut out, &mut err);
+        Ok(Outcome { status, out, err })
+    }
+
+    // Runs each case and compares what it left with what is wanted.
+    fn passes(rt: &impl Abort, alloc: Global, cases: &[Case]) -> Result<(), Fail> {
+        for case in cases {
+            let outcome = outcome_of(alloc, case)?;
+            assert_eq!(rt; outcome.status, case.status);
+            assert_eq!(rt; outcome.out.bytes(), case.out);
+            assert_eq!(rt; outcome.err.bytes(), case.err);
+        }
+        Ok(())
+    }
+
+    fn solved(file: &'static [u8], status: u8, out: &'static [u8]) -> Case {
+        Case {
+            words: &["solve", "matrix", "matrix"],
+            file,
+            room: 1000,
+            status,
+            out,
+            err: b"",
+        }
+    }
+
+    fn refused(file: &'static [u8], err: &'static [u8]) -> Case {
+        Case {
+            words: &["solve", "matrix", "matrix"],
+            file,
+            room: 1000,
+            status: 3,
+            out: b"",
+            err,
+        }
+    }
+
+    fn outside(words: &'static [&'static str]) -> Case {
+        Case {
+            words,
+            file: b"1\n",
+            room: 1000,
+            status: 2,
+            out: b"",
+            err: b"pq: words\n",
+        }
+    }
+
+    #[test]
+    fn a_matrix_with_a_valid_order(rt: HostRuntime) -> Result<(), Fail> {
+        let cases = [
+            solved(
+                b"110\n011\n",
+                0,
+                b"pq-verdict 1\nkind matrix\ncolumns 3\nanswer yes\ntree [1 2 3]\norder 1 2 3\nend\n",
+            ),
+            solved(
+                b"1\n",
+                0,
+                b"pq-verdict 1\nkind matrix\ncolumns 1\nanswer yes\ntree 1\norder 1\nend\n",
+            ),
+            solved(
+                b"00\n11\n",
+                0,
+                b"pq-verdict 1\nkind matrix\ncolumns 2\nanswer yes\ntree (1 2)\norder 1 2\nend\n",
+            ),
+            solved(
+                b"1100\n1110\n1100\n1110\n",
+                0,
+                b"pq-verdict 1\nkind matrix\ncolumns 4\nanswer yes\ntree (((1 2) 3) 4)\norder 1 2 3 4\nend\n",
+            ),
+            solved(
+                b"101\n110\n",
+                0,
+                b"pq-verdict 1\nkind matrix\ncolumns 3\nanswer yes\ntree [2 1 3]\norder 2 1 3\nend\n",
+            ),
+        ];
+        passes(&rt, rt.alloc(), &cases)
+    }
+
+    #[test]
+    fn a_matrix_without_a_valid_order(rt: HostRuntime) -> Result<(), Fail> {
+        let cases = [solved(
+            b"110\n011\n101\n",
+            1,
+            b"pq-verdict 1\nkind matrix\ncolumns 3\nanswer no\nend\n",
+        )];
+        passes(&rt, rt.alloc(), &cases)
+    }
+
+    #[test]
+    fn a_file_that_is_no_matrix(rt: HostRuntime) -> Result<(), Fail> {
+        let cases = [
+            refused(b"110\n01\n", b"pq: refused 1 code 3 line 2\n"),
+            refused(b"", b"pq: refused 1 code 1 line 0\n"),
+            refused(b"12\n", b"pq: refused 1 code 2 line 1\n"),
+        ];
+        passes(&rt, rt.alloc(), &cases)
+    }
+
+    #[test]
+    fn words_outside_the_grammar(rt: HostRuntime) -> Result<(), Fail> {
+        let cases = [
+            outside(&[]),
+            outside(&["solve", "matrix"]),
+            outside(&["solve", "matrix", "matrix", "matrix"]),
+            outside(&["solve", "matrices", "matrix"]),
+        ];
+        passes(&rt, rt.alloc(), &cases)
+    }
+
+    #[test]
+    fn a_file_or_an_output_that_fails(rt: HostRuntime) -> Result<(), Fail> {
+        let cases = [
+            Case {
+                words: &["solve", "matrix", "missing"],
+                file: b"1\n",
+                room: 1000,
+                status: 4,
+                out: b"",
+                err: b"pq: read fault\n",
+            },
+            Case {
+                words: &["solve", "matrix", "matrix"],
+                file: b"1100\n1110\n1100\n1110\n",
+                room: 0,
+                status: 5,
+                out: b"",
+                err: b"pq: write fault\n",
+            },
+            Case {
+                words: &["solve", "matrix", "matrix"],
+                file: b"1100\n1110\n1100\n1110\n",
+                room: 8,
+                status: 5,
+                out: b"pq-verdi",
+                err: b"pq: write fault\n",
+            },
+        ];
+        passes(&rt, rt.alloc(), &cases)
+    }
+}
