@@ -119,27 +119,28 @@ fn label_p(
     ensures { IfOk result (λ r. option_map label_seen r ≡ p_label (outlines children.now) (labels_seen labels)) }
 {
     let kinds = count_kinds(&labels);
-    if 1 < kinds.partial {
-        return Ok(None);
-    }
-    if kinds.partial == 0 && kinds.empty == 0 {
-        return Ok(Some(Label::Full));
-    }
-    if kinds.partial == 0 && kinds.full == 0 {
-        return Ok(Some(Label::Empty));
-    }
-    let empty = empty_children(alloc, children, &labels)?;
-    let full = full_children(alloc, children, &labels)?;
-    let mut partials = partial_children(alloc, labels)?;
-    match partials.pop() {
-        None => {
+    match (kinds.partial, kinds.empty, kinds.full) {
+        (0, 0, _) => Ok(Some(Label::Full)),
+        (0, _, 0) => Ok(Some(Label::Empty)),
+        (0, _, _) => {
+            let empty = empty_children(alloc, children, &labels)?;
+            let full = full_children(alloc, children, &labels)?;
             let halves = template_p3(alloc, empty, full)?;
             Ok(Some(Label::Partial(halves)))
         }
-        Some(partial) => {
-            let halves = template_p5(alloc, partial, empty, full)?;
-            Ok(Some(Label::Partial(halves)))
+        (1, _, _) => {
+            let empty = empty_children(alloc, children, &labels)?;
+            let full = full_children(alloc, children, &labels)?;
+            let mut partials = partial_children(alloc, labels)?;
+            match partials.pop() {
+                None => unreachable!(),
+                Some(partial) => {
+                    let halves = template_p5(alloc, partial, empty, full)?;
+                    Ok(Some(Label::Partial(halves)))
+                }
+            }
         }
+        _ => Ok(None),
     }
 }
 
