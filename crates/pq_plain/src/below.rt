@@ -1,11 +1,11 @@
 // The label of a tree below the row's root, and the templates there.
-ghost use Rattle.std.specs.Prelude.{◌≡◌, map, length, IfOk, option_map, Some};
+ghost use Rattle.std.specs.Prelude.{◌≡◌, ◌≤◌, map, length, reverse, IfOk, option_map, option_and_then, Some};
 ghost use Rattle.std.specs.List.Sorted.{IsNonDecreasing};
 ghost use Rattle.column_order.specs.Orders.{has};
 ghost use Rattle.pq_tree.specs.Outline.{leaf};
 ghost use Rattle.pq_tree.specs.Proper.{outline_of};
-ghost use Rattle.pq_plain.specs.Templates.{join, star};
-ghost use Rattle.pq_plain.specs.Treat.{label_of, labels_of, at_q, partials};
+ghost use Rattle.pq_plain.specs.Templates.{join, star, back};
+ghost use Rattle.pq_plain.specs.Treat.{label_of, labels_of, run_of, at_run, at_q, partials};
 ghost use Rattle.pq_plain.specs.Seen.{outlines, halves_seen, label_seen, labels_seen, p_label, q_label};
 
 use crate::children::{back_copied, empty_children, full_children, partial_children, star_of};
@@ -170,6 +170,7 @@ fn label_run(
     empty: Vec<Tree>,
     full: Vec<Tree>,
 ) -> Result<Label, NoMemory>
+    requires { length (partials (labels_seen labels)) ≤ 1 }
     ensures { IfOk result (λ l. at_q (partials (labels_seen labels)) (outlines empty.items) (outlines full.items) ≡ Some (label_seen l)) }
 {
     let mut partials = partial_children(alloc, labels)?;
@@ -184,28 +185,40 @@ fn label_run(
     }
 }
 
-/// Q1 and Q2 from either end, `None` where neither fits.
+/// Q1 and Q2, `None` where neither fits.
 fn label_q(
     alloc: Global,
     children: &[Tree],
-    mut labels: Vec<Label>,
+    labels: Vec<Label>,
 ) -> Result<Option<Label>, NoMemory>
     requires { length labels.items ≡ length children.now }
     ensures { IfOk result (λ r. option_map label_seen r ≡ q_label (outlines children.now) (labels_seen labels)) }
 {
     let kinds = count_kinds(&labels);
-    if kinds.partial == 0 && kinds.empty == 0 {
-        return Ok(Some(Label::Full));
+    match (kinds.partial, kinds.empty, kinds.full) {
+        (0, 0, _) => Ok(Some(Label::Full)),
+        (0, _, 0) => Ok(Some(Label::Empty)),
+        _ => match find_run(&labels) {
+            None => label_turned(alloc, children, labels),
+            Some(run) => {
+                let empty = all_copied(alloc, &children[..run.before])?;
+                let full = all_copied(alloc, &children[run.behind..])?;
+                let label = label_run(alloc, labels, empty, full)?;
+                Ok(Some(label))
+            }
+        },
     }
-    if kinds.partial == 0 && kinds.full == 0 {
-        return Ok(Some(Label::Empty));
-    }
-    if let Some(run) = find_run(&labels) {
-        let empty = all_copied(alloc, &children[..run.before])?;
-        let full = all_copied(alloc, &children[run.behind..])?;
-        let label = label_run(alloc, labels, empty, full)?;
-        return Ok(Some(label));
-    }
+}
+
+/// Q1 and Q2 for the children from the last to the first, `None` where neither fits.
+fn label_turned(
+    alloc: Global,
+    children: &[Tree],
+    mut labels: Vec<Label>,
+) -> Result<Option<Label>, NoMemory>
+    requires { length labels.items ≡ length children.now }
+    ensures { IfOk result (λ r. option_map label_seen r ≡ option_and_then at_run (run_of (back (outlines children.now)) (reverse (labels_seen labels)))) }
+{
     labels.reverse();
     match find_run(&labels) {
         None => Ok(None),
