@@ -1,0 +1,36 @@
+-- The pieces of the templates as the program makes them.
+use Rattle.std.proofs.Common.{◌≡◌, ◌∙◌, ◌<◌, ◌≤◌, List, [], ◌∷◌, ◌++◌, reverse, map, length, refl, sym, ap, ap₂, arith}
+use Rattle.std.specs.declared.vec.Vec.{Vec}
+use Rattle.std.specs.declared.alloc.Global.{Global}
+use Rattle.pq_tree.specs.Outline.{Forest, p_node, no_tree, tree_and}
+use Rattle.pq_tree.specs.Proper.{outline_of, forest}
+use Rattle.pq_tree.specs.declared.Tree.{Tree, P}
+use Rattle.pq_tree.proofs.Shown.{outline_of-P}
+use Rattle.pq_plain.specs.Templates.{join, star, back}
+use Rattle.pq_plain.specs.Treat.{Partial}
+use Rattle.pq_plain.specs.Seen.{outlines}
+use Rattle.pq_plain.proofs.Outlines.{outlines_append, outlines_reverse}
+
+pub star_few : (ts : List Tree) → length ts < 2 → outlines ts ≡ star (outlines ts)
+star_few [] h = refl
+star_few (t ∷ []) h = refl
+star_few (t ∷ u ∷ us) h = absurd (omega arith)
+
+star_all : (ts : List Tree) → 2 ≤ length ts → star (outlines ts) ≡ tree_and (p_node (outlines ts)) no_tree
+star_all [] h = absurd (omega arith)
+star_all (t ∷ []) h = absurd (omega arith)
+star_all (t ∷ u ∷ us) h = refl
+
+pub star_many : (v : Vec Tree Global) (none new : List Tree) → 2 ≤ length v.items → none ≡ [] → new ≡ none ++ P v ∷ [] → outlines new ≡ star (outlines v.items)
+star_many v none new h n e =
+    ap outlines (e ∙ ap (λ xs. xs ++ P v ∷ []) n) ∙ ap (λ t. tree_and t no_tree) (outline_of-P v) ∙ sym (star_all v.items h)
+
+-- the partial of two lists that were appended to
+pub halves_of : (es fs : List Tree) (a b : Forest) → outlines es ≡ a → outlines fs ≡ b → let h : Partial = record { e = outlines es; f = outlines fs } in h ≡ record { e = a; f = b }
+halves_of es fs a b p q = ap₂ (λ x y. record { e = x; f = y }) p q
+
+pub appended : (old more new : List Tree) (a b : Forest) → new ≡ old ++ more → outlines old ≡ a → outlines more ≡ b → outlines new ≡ join a b
+appended old more new a b e p q = ap outlines e ∙ outlines_append old more ∙ ap₂ join p q
+
+pub turned : (ts copies new : List Tree) → map outline_of copies ≡ map outline_of ts → new ≡ reverse copies → outlines new ≡ back (outlines ts)
+turned ts copies new e k = ap outlines k ∙ outlines_reverse copies ∙ ap (λ xs. back (forest xs)) e

@@ -1,0 +1,7 @@
+use Rattle.std.proofs.Common.{◌≡◌, map, take, Some}
+use Rattle.pq_plain.specs.Treat.{labels_of}
+use Rattle.pq_plain.specs.Seen.{outlines, label_seen}
+use Rattle.pq_plain.proofs.below.+label.Given as goal
+
+abbrev pub invariant-label_trees-loop-tree : goal.invariant-label_trees-loop-tree
+invariant-label_trees-loop-tree l = labels_of l.row (outlines (take l.tree-index l.trees)) ≡ Some (map label_seen l.labels.items)

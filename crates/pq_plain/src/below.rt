@@ -1,0 +1,233 @@
+// The label of a tree below the row's root, and the templates there.
+ghost use Rattle.std.specs.Prelude.{◌≡◌, ◌≤◌, map, length, reverse, IfOk, option_map, option_and_then, Some};
+ghost use Rattle.std.specs.List.Sorted.{IsNonDecreasing};
+ghost use Rattle.column_order.specs.Orders.{has};
+ghost use Rattle.pq_tree.specs.Outline.{leaf};
+ghost use Rattle.pq_tree.specs.Proper.{outline_of};
+ghost use Rattle.pq_plain.specs.Templates.{join, star, back};
+ghost use Rattle.pq_plain.specs.Treat.{label_of, labels_of, run_of, at_run, at_q, partials};
+ghost use Rattle.pq_plain.specs.Seen.{outlines, halves_seen, label_seen, labels_seen, p_label, q_label};
+
+use crate::children::{back_copied, empty_children, full_children, partial_children, star_of};
+use crate::copy::all_copied;
+use crate::label::{Halves, Label, count_kinds, find_run};
+use pq_tree::Tree;
+use row_model::NoMemory;
+use std::alloc::Global;
+
+/// The label of a tree below the row's root, `None` where at some node no template fits.
+#[cycle(label)]
+pub fn label_tree(
+    alloc: Global,
+    row: &[u32],
+    tree: &Tree,
+) -> Result<Option<Label>, NoMemory>
+    requires { IsNonDecreasing row.now }
+    ensures { IfOk result (λ r. option_map label_seen r ≡ label_of row.now (outline_of tree.now)) }
+{
+    match tree {
+        Tree::Leaf(column) => Ok(Some(label_leaf(row, *column))),
+        Tree::P(children) => match label_trees(alloc, row, children)? {
+            None => Ok(None),
+            Some(labels) => label_p(alloc, children, labels),
+        },
+        Tree::Q(children) => match label_trees(alloc, row, children)? {
+            None => Ok(None),
+            Some(labels) => label_q(alloc, children, labels),
+        },
+    }
+}
+
+/// The label of each tree, `None` where one has none.
+#[cycle(label)]
+pub fn label_trees(
+    alloc: Global,
+    row: &[u32],
+    trees: &[Tree],
+) -> Result<Option<Vec<Label>>, NoMemory>
+    requires { IsNonDecreasing row.now }
+    ensures { IfOk result (λ r. option_map labels_seen r ≡ labels_of row.now (outlines trees.now)) }
+{
+    let mut labels = Vec::new(alloc);
+    for tree in trees {
+        match label_tree(alloc, row, tree)? {
+            None => return Ok(None),
+            Some(label) => labels.push(label)?,
+        }
+    }
+    Ok(Some(labels))
+}
+
+/// Whether an ascending row has a column.
+pub fn row_has(row: &[u32], column: u32) -> bool
+    requires { IsNonDecreasing row.now }
+    ensures { result ≡ has row.now column }
+{
+    row.binary_search(&column).is_ok()
+}
+
+/// L1: a leaf in the row is full.
+fn label_leaf(row: &[u32], column: u32) -> Label
+    requires { IsNonDecreasing row.now }
+    ensures { label_of row.now (leaf column) ≡ Some (label_seen result) }
+{
+    if row_has(row, column) {
+        Label::Full
+    } else {
+        Label::Empty
+    }
+}
+
+/// P3: empty children E and full children F become the partial `[P*(E) P*(F)]`.
+fn template_p3(alloc: Global, empty: Vec<Tree>, full: Vec<Tree>) -> Result<Halves, NoMemory>
+    ensures { IfOk result (λ h. halves_seen h ≡ record { e = star (outlines empty.items); f = star (outlines full.items) }) }
+{
+    let empty = star_of(alloc, empty)?;
+    let full = star_of(alloc, full)?;
+    Ok(Halves { empty, full })
+}
+
+/// P5: empty children E, full children F and one partial `[e f]` become the partial `[P*(E) e f P*(F)]`.
+fn template_p5(
+    alloc: Global,
+    mut partial: Halves,
+    empty: Vec<Tree>,
+    full: Vec<Tree>,
+) -> Result<Halves, NoMemory>
+    ensures { IfOk result (λ h. halves_seen h ≡ record {
+        e = join (star (outlines empty.items)) (halves_seen partial).e;
+        f = join (halves_seen partial).f (star (outlines full.items));
+    }) }
+{
+    let mut all_empty = star_of(alloc, empty)?;
+    all_empty.append(&mut partial.empty)?;
+    let mut end = star_of(alloc, full)?;
+    partial.full.append(&mut end)?;
+    Ok(Halves {
+        empty: all_empty,
+        full: partial.full,
+    })
+}
+
+/// P1, P3 and P5, `None` where none fits.
+fn label_p(
+    alloc: Global,
+    children: &[Tree],
+    labels: Vec<Label>,
+) -> Result<Option<Label>, NoMemory>
+    requires { length labels.items ≡ length children.now }
+    ensures { IfOk result (λ r. option_map label_seen r ≡ p_label (outlines children.now) (labels_seen labels)) }
+{
+    let kinds = count_kinds(&labels);
+    match (kinds.partial, kinds.empty, kinds.full) {
+        (0, 0, _) => Ok(Some(Label::Full)),
+        (0, _, 0) => Ok(Some(Label::Empty)),
+        (0, _, _) => {
+            let empty = empty_children(alloc, children, &labels)?;
+            let full = full_children(alloc, children, &labels)?;
+            let halves = template_p3(alloc, empty, full)?;
+            Ok(Some(Label::Partial(halves)))
+        }
+        (1, _, _) => {
+            let empty = empty_children(alloc, children, &labels)?;
+            let full = full_children(alloc, children, &labels)?;
+            let mut partials = partial_children(alloc, labels)?;
+            match partials.pop() {
+                None => unreachable!(),
+                Some(partial) => {
+                    let halves = template_p5(alloc, partial, empty, full)?;
+                    Ok(Some(Label::Partial(halves)))
+                }
+            }
+        }
+        _ => Ok(None),
+    }
+}
+
+/// Q2: the partial `[e f]` between empty children and full ones becomes the partial `[E e f F]`.
+fn template_q2(
+    mut partial: Halves,
+    mut empty: Vec<Tree>,
+    mut full: Vec<Tree>,
+) -> Result<Halves, NoMemory>
+    ensures { IfOk result (λ h. halves_seen h ≡ record {
+        e = join (outlines empty.items) (halves_seen partial).e;
+        f = join (halves_seen partial).f (outlines full.items);
+    }) }
+{
+    empty.append(&mut partial.empty)?;
+    partial.full.append(&mut full)?;
+    Ok(Halves {
+        empty,
+        full: partial.full,
+    })
+}
+
+/// Q1 and Q2 for children that read empty, at most one partial, full.
+fn label_run(
+    alloc: Global,
+    labels: Vec<Label>,
+    empty: Vec<Tree>,
+    full: Vec<Tree>,
+) -> Result<Label, NoMemory>
+    requires { length (partials (labels_seen labels)) ≤ 1 }
+    ensures { IfOk result (λ l. at_q (partials (labels_seen labels)) (outlines empty.items) (outlines full.items) ≡ Some (label_seen l)) }
+{
+    let mut partials = partial_children(alloc, labels)?;
+    match partials.pop() {
+        None if empty.is_empty() => Ok(Label::Full),
+        None if full.is_empty() => Ok(Label::Empty),
+        None => Ok(Label::Partial(Halves { empty, full })),
+        Some(partial) => {
+            let halves = template_q2(partial, empty, full)?;
+            Ok(Label::Partial(halves))
+        }
+    }
+}
+
+/// Q1 and Q2, `None` where neither fits.
+fn label_q(
+    alloc: Global,
+    children: &[Tree],
+    labels: Vec<Label>,
+) -> Result<Option<Label>, NoMemory>
+    requires { length labels.items ≡ length children.now }
+    ensures { IfOk result (λ r. option_map label_seen r ≡ q_label (outlines children.now) (labels_seen labels)) }
+{
+    let kinds = count_kinds(&labels);
+    match (kinds.partial, kinds.empty, kinds.full) {
+        (0, 0, _) => Ok(Some(Label::Full)),
+        (0, _, 0) => Ok(Some(Label::Empty)),
+        _ => match find_run(&labels) {
+            None => label_turned(alloc, children, labels),
+            Some(run) => {
+                let empty = all_copied(alloc, &children[..run.before])?;
+                let full = all_copied(alloc, &children[run.behind..])?;
+                let label = label_run(alloc, labels, empty, full)?;
+                Ok(Some(label))
+            }
+        },
+    }
+}
+
+/// Q1 and Q2 for the children from the last to the first, `None` where neither fits.
+fn label_turned(
+    alloc: Global,
+    children: &[Tree],
+    mut labels: Vec<Label>,
+) -> Result<Option<Label>, NoMemory>
+    requires { length labels.items ≡ length children.now }
+    ensures { IfOk result (λ r. option_map label_seen r ≡ option_and_then at_run (run_of (back (outlines children.now)) (reverse (labels_seen labels)))) }
+{
+    labels.reverse();
+    match find_run(&labels) {
+        None => Ok(None),
+        Some(run) => {
+            let count = children.len();
+            let empty = back_copied(alloc, &children[count - run.before..])?;
+            let full = back_copied(alloc, &children[..count - run.behind])?;
+            let label = label_run(alloc, labels, empty, full)?;
+            Ok(Some(label))
+        }
+    }
+}

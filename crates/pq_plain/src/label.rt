@@ -1,0 +1,136 @@
+// Labels, and what they read as from left to right.
+ghost use Rattle.std.specs.Prelude.{◌≡◌, ◌≤◌, ◌<◌, ◌+◌, ◌-◌, ◌^◌, List, [], ◌∷◌, map, length, IfSome, option_map};
+ghost use Rattle.pq_tree.specs.Outline.{Outline};
+ghost use Rattle.pq_tree.specs.Proper.{forest};
+ghost use Rattle.pq_plain.specs.Treat.{run_of, partials};
+ghost use Rattle.pq_plain.specs.Seen.{label_seen, empties, fulls, empty_front, full_front, cut_front, run_seen};
+
+use pq_tree::Tree;
+
+/// The partial `[e f]`: a Q-shape whose run of empty trees is followed by its run of full trees.
+#[derive(Drop)]
+pub struct Halves {
+    /// The empty trees, none of whose columns is in the row.
+    pub empty: Vec<Tree>,
+    /// The full trees, all of whose columns are in the row.
+    pub full: Vec<Tree>,
+}
+
+/// What a row makes of a tree below the row's root.
+#[derive(Drop)]
+pub enum Label {
+    /// No column of the tree is in the row.
+    Empty,
+    /// All columns of the tree are in the row.
+    Full,
+    /// Some are and some are not, and the templates make this of the tree.
+    Partial(Halves),
+}
+
+/// How many labels there are of each kind.
+#[derive(Clone, Copy)]
+pub struct Kinds {
+    /// How many are `Empty`.
+    pub empty: usize,
+    /// How many are `Full`.
+    pub full: usize,
+    /// How many are `Partial`.
+    pub partial: usize,
+}
+
+impl Kinds {
+    /// Counts one label more.
+    fn add(&mut self, label: &Label)
+        requires empty { self.old.empty < 2 ^ 64 - 1 }
+        requires full { self.old.full < 2 ^ 64 - 1 }
+        requires partial { self.old.partial < 2 ^ 64 - 1 }
+        ensures empty { self.new.empty ≡ self.old.empty + empties (label_seen label.now ∷ []) }
+        ensures full { self.new.full ≡ self.old.full + fulls (label_seen label.now ∷ []) }
+        ensures partial { self.new.partial ≡ self.old.partial + length (partials (label_seen label.now ∷ [])) }
+    {
+        match label {
+            Label::Empty => self.empty += 1,
+            Label::Full => self.full += 1,
+            Label::Partial(_) => self.partial += 1,
+        }
+    }
+}
+
+/// Counts the labels of each kind.
+pub fn count_kinds(labels: &[Label]) -> Kinds
+    ensures empty { result.empty ≡ empties (map label_seen labels.now) }
+    ensures full { result.full ≡ fulls (map label_seen labels.now) }
+    ensures partial { result.partial ≡ length (partials (map label_seen labels.now)) }
+{
+    let mut kinds = Kinds {
+        empty: 0,
+        full: 0,
+        partial: 0,
+    };
+    for label in labels {
+        kinds.add(label);
+    }
+    kinds
+}
+
+/// The number of empty labels at the beginning.
+pub fn leading_empty(labels: &[Label]) -> usize
+    ensures count { result ≡ empty_front (map label_seen labels.now) }
+    ensures within { result ≤ length labels.now }
+{
+    for i in 0..labels.len() {
+        match labels[i] {
+            Label::Empty => {}
+            Label::Full | Label::Partial(_) => return i,
+        }
+    }
+    labels.len()
+}
+
+/// The number of full labels at the beginning.
+pub fn leading_full(labels: &[Label]) -> usize
+    ensures count { result ≡ full_front (map label_seen labels.now) }
+    ensures within { result ≤ length labels.now }
+{
+    for i in 0..labels.len() {
+        match labels[i] {
+            Label::Full => {}
+            Label::Empty | Label::Partial(_) => return i,
+        }
+    }
+    labels.len()
+}
+
+/// One if the first label is partial, else zero.
+pub fn leading_partial(labels: &[Label]) -> usize
+    ensures count { result ≡ cut_front (map label_seen labels.now) }
+    ensures within { result ≤ length labels.now }
+{
+    match labels {
+        [Label::Partial(_), ..] => 1,
+        _ => 0,
+    }
+}
+
+/// Where children that read empty, at most one partial, full are cut.
+#[derive(Clone, Copy)]
+pub struct Run {
+    /// How many empty children come first.
+    pub before: usize,
+    /// How many children stand before the full ones.
+    pub behind: usize,
+}
+
+/// Where the labels read empty, at most one partial, full, if they do.
+pub fn find_run(labels: &[Label]) -> Option<Run>
+    ensures cut { (ts : List Outline) → length ts ≡ length labels.now → run_of (forest ts) (map label_seen labels.now) ≡ option_map (run_seen ts (map label_seen labels.now)) result }
+    ensures within { IfSome result (λ run. (run.before ≤ run.behind) × (run.behind ≤ length labels.now)) }
+{
+    let before = leading_empty(labels);
+    let behind = before + leading_partial(&labels[before..]);
+    if behind + leading_full(&labels[behind..]) == labels.len() {
+        Some(Run { before, behind })
+    } else {
+        None
+    }
+}
