@@ -7,7 +7,7 @@ use Rattle.pq_tree.specs.Outline.{Outline, Forest, no_tree, tree_and}
 use Rattle.pq_tree.specs.Proper.{outline_of, forest}
 use Rattle.pq_tree.specs.declared.Tree.{Tree}
 use Rattle.pq_plain.specs.Templates.{join, back}
-use Rattle.pq_plain.specs.Treat.{Partial, Label, empty_label, full_label, partial_label, partials, Run, all_filled, one_more, run_of, at_q, at_run, first_some, empty_trees, full_trees}
+use Rattle.pq_plain.specs.Labels.{Partial, Label, empty_label, full_label, partial_label, partials, Run, all_filled, one_more, run_of, at_q, at_run, first_some, empty_trees, full_trees}
 use Rattle.pq_plain.specs.Seen.{outlines, halves_seen, label_seen, empties, fulls, run_seen, q_label}
 use Rattle.pq_plain.specs.declared.label.Halves.{Halves}
 use Rattle.pq_plain.specs.declared.label.Label.{Label as Marked}
