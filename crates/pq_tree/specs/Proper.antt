@@ -1,5 +1,5 @@
 -- Proper PQ-trees (Booth and Lueker, 1976) over the columns 1 to c.
-use Rattle.std.specs.Prelude.{ℕ, ◌≤◌, List, [], ◌∷◌, map, ◌+◌, ◌++◌, cond, leb}
+use Rattle.std.specs.Prelude.{ℕ, ◌≤◌, List, [], ◌∷◌, map, ◌+◌, ◌++◌, nat_le, if◌then◌else◌}
 use Rattle.std.proofs.Common.{zero, suc}
 use Rattle.std.specs.Coded.{×_prop, Unit-prop, le_prop}
 use mathlib.Core.HLevel.{Π_prop}
@@ -78,4 +78,4 @@ columns (suc n) = columns n ++ suc n ∷ []
 
 -- the universal tree: the leaf 1 for one column, else a P-node over all columns
 abbrev pub universal : ℕ → Outline
-universal c = cond (leb c 1) (leaf 1) (p_node (forest (map leaf (columns c))))
+universal c = (if nat_le c 1 then leaf 1 else p_node (forest (map leaf (columns c))))
