@@ -1,14 +1,15 @@
 -- A tree equivalent to a proper one is proper.
-use Rattle.std.proofs.Common.{◌≡◌, ◌∙◌, ℕ, List, [], ◌∷◌, reverse, length, IsPermutation, sum_by, refl, sym, ap, subst, inl, inr, arith}
+use Rattle.std.proofs.Common.{◌≡◌, ◌∙◌, ℕ, List, [], ◌∷◌, reverse, length, IsPermutation, sum_by, cond, leb, ◌&&◌, ◌≤◌, refl, sym, ap, subst, inl, inr, arith}
+use Rattle.std.proofs.lemmas.Bool.{cases_Bool}
 use Rattle.std.proofs.lemmas.List.{length-reverse}
 use Rattle.std.proofs.lemmas.List.Elements.{All-from_recursion, recursion_from_All}
 use Rattle.std.proofs.lemmas.List.Sorted.{All-permutation, IsPermutation-reverse, sum_by-IsPermutation, length_permutation}
 use Rattle.std.proofs.lemmas.List.Sums.{sum_by-cons}
 use Rattle.std.specs.List.{AllByRecursion}
-use Rattle.column_order.specs.Orders.{occurs}
+use Rattle.column_order.specs.Orders.{occurs, IsOrder}
 use Rattle.column_order.proofs.Lists.{occurs-append}
 use Rattle.pq_tree.specs.Outline.{Outline, Forest, leaf, p_node, q_node, no_tree, tree_and, leaves, leaves_of}
-use Rattle.pq_tree.specs.Proper.{forest, count, HasArities, HaveArities, IsProper}
+use Rattle.pq_tree.specs.Proper.{forest, count, HasArities, HaveArities, IsTree, IsProper}
 use Rattle.pq_tree.specs.Equivalent.{IsEquivalent, AreEquivalent}
 
 leaves_sum : (ts : List Outline) (a : ℕ) → occurs (leaves_of (forest ts)) a ≡ sum_by (λ t. occurs (leaves t) a) ts
@@ -79,3 +80,13 @@ mutual
 
 pub equivalent_proper : (c : ℕ) (t u : Outline) → IsEquivalent t u → IsProper c t → IsProper c u
 equivalent_proper c t u h w = (equivalent_arities t u h w.0, λ a. equivalent_occurs t u a h ∙ w.1 a)
+
+order_once : (c : ℕ) (o : List ℕ) → IsOrder c o → (a : ℕ) → occurs o a ≤ 1
+order_once c o h a =
+    elim (cases_Bool (leb 1 a && leb a c)) [
+      | inl k ↦ omega (arith, h a, ap (λ b. cond {A = ℕ} b 1 0) k)
+      | inr k ↦ omega (arith, h a, ap (λ b. cond {A = ℕ} b 1 0) k)
+    ]
+
+pub tree_from_proper : (c : ℕ) (t : Outline) → IsProper c t → IsTree t
+tree_from_proper c t h = (h.0, order_once c (leaves t) h.1)

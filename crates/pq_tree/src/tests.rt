@@ -43,8 +43,18 @@ fn universal_trees(rt: HostRuntime) -> Result<(), Fail> {
         canonical.print(&mut printed)?;
         assert_eq!(rt; printed.as_slice(), text);
         assert_eq!(rt; tree.columns(), c);
+        let is_leaf = matches!(tree.root().view(), View::Leaf(1));
+        assert_eq!(rt; is_leaf, c == 1);
         assert_eq!(rt; tree.frontier(alloc)?.len(), c as usize);
     }
+    Ok(())
+}
+
+#[test]
+fn a_tree_of_one_leaf(rt: HostRuntime) -> Result<(), Fail> {
+    let mut text = Vec::new(rt.alloc());
+    PqTree::from_tree(1, Tree::leaf(1)).print(&mut text)?;
+    assert_eq!(rt; text.as_slice(), b"1".as_slice());
     Ok(())
 }
 

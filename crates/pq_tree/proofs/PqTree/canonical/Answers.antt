@@ -1,5 +1,5 @@
 use Rattle.pq_tree.specs.Proper.{outline_of}
-use Rattle.pq_tree.proofs.Equivalent.{equivalent_proper}
+use Rattle.pq_tree.proofs.Equivalent.{equivalent_proper, tree_from_proper}
 use Rattle.pq_tree.proofs.Frontiers.{same_frontiers}
 use Rattle.pq_tree.proofs.PqTree.canonical.Goals as goal
 
@@ -9,3 +9,9 @@ invariant_of-result c =
 
 pub returns-clause-frontiers : goal.returns-clause-frontiers
 returns-clause-frontiers c = same_frontiers (outline_of c.args.self.now.tree) (outline_of c.in_ok-arranged.arranged.tree) c.in_ok-arranged.ensures
+
+pub returns-clause-canonical : goal.returns-clause-canonical
+returns-clause-canonical c =
+    let t = outline_of c.in_ok-arranged.arranged.tree in
+    let u = c.args.self.now in
+    c.in_ok-arranged.arranged.canonical (tree_from_proper u.columns t (equivalent_proper u.columns (outline_of u.tree) t c.in_ok-arranged.ensures u.proper))
