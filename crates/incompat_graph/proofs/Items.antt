@@ -66,3 +66,8 @@ ascends_item c low (x ∷ row) (suc i) d h e = (let r = ascends_item c x row i d
 
 pub row_item : (c : ℕ) (row : List ℕ) (i d : ℕ) → IsRow c row → slice_get row i ≡ Some d → (1 ≤ d) × (d ≤ c)
 row_item c row i d h e = (let r = ascends_item c 0 row i d h e in (omega (arith, r.0), r.1))
+
+-- what is no `Some` is `None`
+pub none_of : {A : Type 0} (o : Option A) → ((x : A) → o ≡ Some x → ⊥) → o ≡ None
+none_of None h = refl
+none_of (Some x) h = absurd (h x refl)

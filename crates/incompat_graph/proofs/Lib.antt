@@ -5,3 +5,5 @@ pub mod CycleSteps
 pub mod MarkLaws
 pub mod ForestLaws
 pub mod HolderLaws
+pub mod SearchLaws
+pub mod TakenLaws

@@ -116,3 +116,7 @@ pub record IsTaken (rows : List (List ℕ)) (marks : Marking) (nodes : List Node
 -- so are the first nodes
 abbrev pub AreTaken : List (List ℕ) → Marking → List Node → ℕ → Type 0
 AreTaken rows marks nodes n = (i : ℕ) (node : Node) → i < n → slice_get nodes i ≡ Some node → IsTaken rows marks nodes node
+
+-- each pair of the column with one of the first columns is reached
+abbrev pub AreReachedFrom : ℕ → List Node → ℕ → ℕ → Type 0
+AreReachedFrom c nodes a n = (b : ℕ) → b ≤ n → IsPair c (pair a b) → (odd : Bool) × IsReached nodes (pair a b) odd

@@ -8,6 +8,7 @@ mod holders;
 mod marks;
 mod numbers;
 mod reason;
+mod search;
 mod walk;
 
 pub use cycle::{Cycle, simple_cycle};

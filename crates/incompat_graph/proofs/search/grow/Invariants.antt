@@ -1,0 +1,9 @@
+use Rattle.std.proofs.Common.{◌*◌, ◌-◌}
+use Rattle.incompat_graph.proofs.TakenLaws.{IsGrowing}
+use Rattle.incompat_graph.proofs.search.grow.Given as goal
+
+abbrev pub invariant-loop-head : goal.invariant-loop-head
+invariant-loop-head g l = IsGrowing l.m l.fn.marks l.marks l.fn.forest l.forest l.head
+
+abbrev pub decreases-loop-head : goal.decreases-loop-head
+decreases-loop-head g l = l.m.columns * l.m.columns - l.head

@@ -1,0 +1,5 @@
+use Rattle.incompat_graph.proofs.TakenLaws.{IsGrownFrom}
+use Rattle.incompat_graph.proofs.search.grow_from_column.Given as goal
+
+abbrev pub invariant-loop-b : goal.invariant-loop-b
+invariant-loop-b g l = IsGrownFrom l.m l.fn.marks l.marks l.fn.forest l.forest l.a l.b

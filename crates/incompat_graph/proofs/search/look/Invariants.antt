@@ -1,0 +1,6 @@
+use Rattle.row_model.specs.Graph.{row_at}
+use Rattle.incompat_graph.proofs.SearchLaws.{IsSpreading}
+use Rattle.incompat_graph.proofs.search.look.Given as goal
+
+abbrev pub invariant-loop-column : goal.invariant-loop-column
+invariant-loop-column g l = IsSpreading l.m l.fn.marks.rows l.fn.forest l.forest l.node l.row l.column-index

@@ -1,0 +1,199 @@
+// The search for a closed walk of odd length.
+ghost use Rattle.std.specs.Prelude.{◌≡◌, ◌<◌, ◌≤◌, ℕ, Bool, true, not, Some, length, map, take, slice_get, IsTrue, IfOk, MatchOption};
+ghost use Rattle.row_model.specs.Graph.{row_at, turned, IsPair};
+ghost use Rattle.column_order.specs.Orders.{has};
+ghost use Rattle.incompat_graph.specs.declared.forest.Node.{Node};
+ghost use Rattle.incompat_graph.specs.Marks.{is_marked};
+ghost use Rattle.incompat_graph.specs.Search.{IsReached, IsSearch, Grows, ShowsConflict, IsTaken, AreTaken, AreReachedFrom};
+ghost use Rattle.incompat_graph.specs.Holders.{AreHolders};
+
+use crate::forest::{Conflict, Forest, Node};
+use crate::marks::Marks;
+use row_model::{Matrix, Pair, Why};
+use std::alloc::AllocError;
+use step_count::{Ledger, Steps};
+
+// Looks from a pair (a,b) at a row that has a. If the row lacks b, each pair (b,d) of b with a column d of the row is
+// joined to (a,b). The pairs (b,d) are the same for every a, so each row is looked at once for each b.
+fn look<L: Ledger>(
+    m: &Matrix,
+    row: u32,
+    marks: &mut Marks,
+    forest: &mut Forest,
+    from: usize,
+    steps: &mut Steps<L>,
+) -> Result<Option<Conflict>, AllocError>
+    requires search { IsSearch m.now marks.old forest.old }
+    requires from { (forest.old.root ≤ from) × (from < length forest.old.nodes.items) }
+    requires row { (1 ≤ row) × (row ≤ marks.old.rows) }
+    requires node { (node : Node) → slice_get forest.old.nodes.items from ≡ Some node
+        → IsTrue (has (row_at m.now.rows row) node.pair.a) × IsReached forest.old.nodes.items (turned node.pair) (not node.odd) }
+    ensures { IfOk result (λ found. MatchOption found
+        (IsSearch m.now marks.new forest.new × Grows marks.old marks.new forest.old.nodes.items forest.new.nodes.items × (forest.new.root ≡ forest.old.root)
+            × ((node : Node) → slice_get forest.old.nodes.items from ≡ Some node → is_marked marks.new row node.pair.b ≡ true))
+        (ShowsConflict m.now.columns (take marks.old.rows m.now.rows) forest.new)) }
+{
+    let node = forest.nodes[from];
+    if marks.mark(row, node.pair.b) {
+        return Ok(None);
+    }
+    steps.tick();
+    if m.has(row, node.pair.b) {
+        return Ok(None);
+    }
+    for column in m.row(row) {
+        steps.tick();
+        if *column == node.pair.a {
+            continue;
+        }
+        let next = Node {
+            pair: Pair {
+                a: node.pair.b,
+                b: *column,
+            },
+            parent: from,
+            why: Why::Row(row),
+            odd: !node.odd,
+        };
+        if let Some(to) = forest.reach(next)? {
+            return Ok(Some(Conflict {
+                from,
+                to,
+                why: Why::Row(row),
+            }));
+        }
+    }
+    Ok(None)
+}
+
+// Takes a node: reaches its pair with the columns exchanged, and looks at each row with its first column.
+fn expand<L: Ledger>(
+    m: &Matrix,
+    holders: &[Vec<u32>],
+    marks: &mut Marks,
+    forest: &mut Forest,
+    from: usize,
+    steps: &mut Steps<L>,
+) -> Result<Option<Conflict>, AllocError>
+    requires search { IsSearch m.now marks.old forest.old }
+    requires holders { AreHolders m.now marks.old.rows (map (λ list. list.items) holders.now) }
+    requires from { (forest.old.root ≤ from) × (from < length forest.old.nodes.items) }
+    ensures { IfOk result (λ found. MatchOption found
+        (IsSearch m.now marks.new forest.new × Grows marks.old marks.new forest.old.nodes.items forest.new.nodes.items × (forest.new.root ≡ forest.old.root)
+            × ((node : Node) → slice_get forest.old.nodes.items from ≡ Some node → IsTaken m.now.rows marks.new forest.new.nodes.items node))
+        (ShowsConflict m.now.columns (take marks.old.rows m.now.rows) forest.new)) }
+{
+    let node = forest.nodes[from];
+    let turned = Node {
+        pair: Pair {
+            a: node.pair.b,
+            b: node.pair.a,
+        },
+        parent: from,
+        why: Why::Flip,
+        odd: !node.odd,
+    };
+    if let Some(to) = forest.reach(turned)? {
+        return Ok(Some(Conflict {
+            from,
+            to,
+            why: Why::Flip,
+        }));
+    }
+    for row in &holders[node.pair.a as usize - 1] {
+        if let Some(conflict) = look(m, *row, marks, forest, from, steps)? {
+            return Ok(Some(conflict));
+        }
+    }
+    Ok(None)
+}
+
+// Takes each node of the last tree in turn, those that are reached meanwhile too.
+fn grow<L: Ledger>(
+    m: &Matrix,
+    holders: &[Vec<u32>],
+    marks: &mut Marks,
+    forest: &mut Forest,
+    steps: &mut Steps<L>,
+) -> Result<Option<Conflict>, AllocError>
+    requires search { IsSearch m.now marks.old forest.old }
+    requires holders { AreHolders m.now marks.old.rows (map (λ list. list.items) holders.now) }
+    requires taken { AreTaken m.now.rows marks.old forest.old.nodes.items forest.old.root }
+    ensures { IfOk result (λ found. MatchOption found
+        (IsSearch m.now marks.new forest.new × Grows marks.old marks.new forest.old.nodes.items forest.new.nodes.items
+            × AreTaken m.now.rows marks.new forest.new.nodes.items (length forest.new.nodes.items))
+        (ShowsConflict m.now.columns (take marks.old.rows m.now.rows) forest.new)) }
+{
+    let mut head = forest.root;
+    while head < forest.nodes.len() {
+        if let Some(conflict) = expand(m, holders, marks, forest, head, steps)? {
+            return Ok(Some(conflict));
+        }
+        head += 1;
+    }
+    Ok(None)
+}
+
+// Grows a tree from a pair, unless the pair is reached already.
+fn grow_from<L: Ledger>(
+    m: &Matrix,
+    holders: &[Vec<u32>],
+    marks: &mut Marks,
+    forest: &mut Forest,
+    pair: Pair,
+    steps: &mut Steps<L>,
+) -> Result<Option<Conflict>, AllocError>
+    requires search { IsSearch m.now marks.old forest.old }
+    requires holders { AreHolders m.now marks.old.rows (map (λ list. list.items) holders.now) }
+    requires taken { AreTaken m.now.rows marks.old forest.old.nodes.items (length forest.old.nodes.items) }
+    requires pair { IsPair m.now.columns pair }
+    ensures { IfOk result (λ found. MatchOption found
+        (IsSearch m.now marks.new forest.new × Grows marks.old marks.new forest.old.nodes.items forest.new.nodes.items
+            × AreTaken m.now.rows marks.new forest.new.nodes.items (length forest.new.nodes.items)
+            × ((odd : Bool) × IsReached forest.new.nodes.items pair odd))
+        (ShowsConflict m.now.columns (take marks.old.rows m.now.rows) forest.new)) }
+{
+    if forest.numbers.get(pair) > 0 {
+        return Ok(None);
+    }
+    let root = forest.nodes.len();
+    forest.root = root;
+    forest.add(Node {
+        pair,
+        parent: root,
+        why: Why::Flip,
+        odd: false,
+    })?;
+    grow(m, holders, marks, forest, steps)
+}
+
+// Grows trees until each pair with this first column is reached.
+fn grow_from_column<L: Ledger>(
+    m: &Matrix,
+    holders: &[Vec<u32>],
+    marks: &mut Marks,
+    forest: &mut Forest,
+    a: u32,
+    steps: &mut Steps<L>,
+) -> Result<Option<Conflict>, AllocError>
+    requires search { IsSearch m.now marks.old forest.old }
+    requires holders { AreHolders m.now marks.old.rows (map (λ list. list.items) holders.now) }
+    requires taken { AreTaken m.now.rows marks.old forest.old.nodes.items (length forest.old.nodes.items) }
+    requires column { (1 ≤ a) × (a ≤ m.now.columns) }
+    ensures { IfOk result (λ found. MatchOption found
+        (IsSearch m.now marks.new forest.new × Grows marks.old marks.new forest.old.nodes.items forest.new.nodes.items
+            × AreTaken m.now.rows marks.new forest.new.nodes.items (length forest.new.nodes.items)
+            × AreReachedFrom m.now.columns forest.new.nodes.items a m.now.columns)
+        (ShowsConflict m.now.columns (take marks.old.rows m.now.rows) forest.new)) }
+{
+    for b in 0..m.columns() {
+        if b + 1 == a {
+            continue;
+        }
+        let pair = Pair { a, b: b + 1 };
+        if let Some(conflict) = grow_from(m, holders, marks, forest, pair, steps)? {
+            return Ok(Some(conflict));
+        }
+    }
+    Ok(None)
+}
