@@ -1,5 +1,5 @@
 -- What the templates make of a row's root, as the program finds it.
-use Rattle.std.specs.Prelude.{ℕ, ◌-◌, List, [], ◌∷◌, take, drop, map, Option, Some, None, option_and_then}
+use Rattle.std.specs.Prelude.{◌≡◌, ℕ, ◌-◌, ◌≤◌, List, [], ◌∷◌, length, take, drop, map, Option, Some, None, option_and_then}
 use Rattle.pq_tree.specs.Outline.{Outline, Forest, leaf, p_node, q_node, no_tree}
 use Rattle.pq_tree.specs.Proper.{outline_of, forest}
 use Rattle.pq_plain.specs.Templates.{join, star, back, under}
@@ -63,3 +63,23 @@ span_seen ts ps s = record {
     behind = forest (drop s.behind ts);
   };
 }
+
+-- before the full children stand as many partials as places between the empty children and them, at most one; so behind them
+pub record PartialsAt (ps : List Label) (s : Places) : Type 0 where
+  pub left : length (partials (take s.full_from ps)) ≡ s.full_from - s.before
+  pub right : length (partials (drop s.full_from ps)) ≡ s.behind - s.full_to
+  pub few_left : s.full_from - s.before ≤ 1
+  pub few_right : s.behind - s.full_to ≤ 1
+
+-- the trees of the first partial, if there is one
+abbrev pub first_line : List Partial → Forest
+first_line [] = no_tree
+first_line (h ∷ hs) = line_of h
+
+abbrev pub first_turned : List Partial → Forest
+first_turned [] = no_tree
+first_turned (h ∷ hs) = turned_line_of h
+
+-- what a Q-node at the root becomes
+abbrev pub q_made : Span → Outline
+q_made s = q_node (join s.before (join (first_line s.left) (join s.tail.middle (join (first_turned s.tail.right) s.tail.behind))))

@@ -5,10 +5,10 @@ ghost use Rattle.std.specs.Option.{option_to_list};
 ghost use Rattle.pq_tree.specs.Outline.{Outline, p_node, q_node};
 ghost use Rattle.pq_tree.specs.Proper.{outline_of, forest};
 ghost use Rattle.pq_plain.specs.Templates.{join, star, under, back};
-ghost use Rattle.pq_plain.specs.Treat.{partials};
+ghost use Rattle.pq_plain.specs.Treat.{empty_trees, full_trees, partials};
 ghost use Rattle.pq_plain.specs.Reduce.{span_of};
 ghost use Rattle.pq_plain.specs.Seen.{outlines, halves_seen, label_seen, labels_seen};
-ghost use Rattle.pq_plain.specs.AtRoot.{root_of, outcome_seen, p_outcome, q_outcome, p_made, span_seen, line_of, turned_line_of, line_if, turned_line_if};
+ghost use Rattle.pq_plain.specs.AtRoot.{root_of, outcome_seen, p_outcome, q_outcome, p_made, q_made, PartialsAt, span_seen, line_of, turned_line_of, line_if, turned_line_if};
 
 use crate::below::label_trees;
 use crate::children::{empty_children, full_children, partial_children, star_of};
@@ -59,12 +59,18 @@ fn root_p(
     let kinds = count_kinds(&labels);
     match (kinds.partial, kinds.empty, kinds.full) {
         (0, 0, _) => Ok(Outcome::Unchanged),
-        (0 | 1, _, 0) => Ok(Outcome::NoTemplate),
-        (0 | 1 | 2, _, _) => {
-            let empty = empty_children(alloc, children, &labels)?;
-            let full = full_children(alloc, children, &labels)?;
-            let partials = partial_children(alloc, labels)?;
-            let tree = template_p(alloc, partials, empty, full)?;
+        (0, _, 0) => Ok(Outcome::NoTemplate),
+        (0, _, _) => {
+            let tree = replaced_p(alloc, children, labels)?;
+            Ok(Outcome::Replaced(tree))
+        }
+        (1, _, 0) => Ok(Outcome::NoTemplate),
+        (1, _, _) => {
+            let tree = replaced_p(alloc, children, labels)?;
+            Ok(Outcome::Replaced(tree))
+        }
+        (2, _, _) => {
+            let tree = replaced_p(alloc, children, labels)?;
             Ok(Outcome::Replaced(tree))
         }
         _ => Ok(Outcome::NoTemplate),
@@ -72,20 +78,32 @@ fn root_p(
 }
 
 /// P2, P4 or P6, by the number of partial children.
-fn template_p(
+fn replaced_p(
     alloc: Global,
-    mut partials: Vec<Halves>,
-    empty: Vec<Tree>,
-    full: Vec<Tree>,
+    children: &[Tree],
+    labels: Vec<Label>,
 ) -> Result<Tree, NoMemory>
-    requires { length partials.items ≤ 2 }
-    ensures { IfOk result (λ t. outline_of t ≡ p_made (map halves_seen partials.items) (outlines empty.items) (outlines full.items)) }
+    requires length { length labels.items ≡ length children.now }
+    requires few { length (partials (labels_seen labels)) ≤ 2 }
+    ensures { IfOk result (λ t. outline_of t ≡ p_made (partials (labels_seen labels)) (empty_trees (outlines children.now) (labels_seen labels)) (full_trees (outlines children.now) (labels_seen labels))) }
 {
+    let empty = empty_children(alloc, children, &labels)?;
+    let full = full_children(alloc, children, &labels)?;
+    let mut partials = partial_children(alloc, labels)?;
     match partials.pop() {
-        None => template_p2(alloc, empty, full),
+        None => {
+            let tree = template_p2(alloc, empty, full)?;
+            Ok(tree)
+        }
         Some(last) => match partials.pop() {
-            None => template_p4(alloc, last, empty, full),
-            Some(first) => template_p6(alloc, first, last, empty, full),
+            None => {
+                let tree = template_p4(alloc, last, empty, full)?;
+                Ok(tree)
+            }
+            Some(first) => {
+                let tree = template_p6(alloc, first, last, empty, full)?;
+                Ok(tree)
+            }
         },
     }
 }
@@ -116,7 +134,8 @@ fn template_p4(
     let mut line = in_line(partial)?;
     let mut end = star_of(alloc, full)?;
     line.append(&mut end)?;
-    under_p(alloc, empty, Tree::Q(line))
+    let tree = under_p(alloc, empty, Tree::Q(line))?;
+    Ok(tree)
 }
 
 /// P6: empty children E, full children F and two partials `[e f]` and `[e2 f2]` become P over `[e f P*(F) f2 e2]`, the
@@ -136,7 +155,8 @@ fn template_p6(
     let mut end = in_line(second)?;
     end.reverse();
     line.append(&mut end)?;
-    under_p(alloc, empty, Tree::Q(line))
+    let tree = under_p(alloc, empty, Tree::Q(line))?;
+    Ok(tree)
 }
 
 /// The trees of the partial `[e f]` from left to right.
@@ -181,6 +201,7 @@ struct Span {
 fn find_span(labels: &[Label]) -> Option<Span>
     ensures cut { (ts : List Outline) → length ts ≡ length labels.now → span_of (forest ts) (map label_seen labels.now) ≡ option_map (span_seen ts (map label_seen labels.now)) result }
     ensures within { IfSome result (λ s. (s.before ≤ s.full_from) × (s.full_from ≤ s.full_to) × (s.full_to ≤ s.behind) × (s.behind ≤ length labels.now)) }
+    ensures partials { IfSome result (PartialsAt (map label_seen labels.now)) }
 {
     let before = leading_empty(labels);
     let full_from = before + leading_partial(&labels[before..]);
@@ -215,15 +236,17 @@ fn root_q(
             match (left, right, span.full_to - span.full_from) {
                 (0, 0, _) => Ok(Outcome::Unchanged),
                 (0, _, 0) => Ok(Outcome::NoTemplate),
+                (0, _, _) => {
+                    let tree = replaced_q(alloc, children, labels, span)?;
+                    Ok(Outcome::Replaced(tree))
+                }
                 (_, 0, 0) => Ok(Outcome::NoTemplate),
+                (_, 0, _) => {
+                    let tree = replaced_q(alloc, children, labels, span)?;
+                    Ok(Outcome::Replaced(tree))
+                }
                 _ => {
-                    let before = all_copied(alloc, &children[..span.before])?;
-                    let full = all_copied(alloc, &children[span.full_from..span.full_to])?;
-                    let behind = all_copied(alloc, &children[span.behind..])?;
-                    let mut partials = partial_children(alloc, labels)?;
-                    let second = last_if(&mut partials, right);
-                    let first = last_if(&mut partials, left);
-                    let tree = template_q3(alloc, before, first, full, second, behind)?;
+                    let tree = replaced_q(alloc, children, labels, span)?;
                     Ok(Outcome::Replaced(tree))
                 }
             }
@@ -231,11 +254,32 @@ fn root_q(
     }
 }
 
+/// Q2 or Q3, by the partials on both sides of the full children.
+fn replaced_q(
+    alloc: Global,
+    children: &[Tree],
+    labels: Vec<Label>,
+    span: Span,
+) -> Result<Tree, NoMemory>
+    requires within { (span.before ≤ span.full_from) × (span.full_from ≤ span.full_to) × (span.full_to ≤ span.behind) × (span.behind ≤ length children.now) }
+    requires partials { PartialsAt (labels_seen labels) span }
+    ensures { IfOk result (λ t. outline_of t ≡ q_made (span_seen (map outline_of children.now) (labels_seen labels) span)) }
+{
+    let before = all_copied(alloc, &children[..span.before])?;
+    let full = all_copied(alloc, &children[span.full_from..span.full_to])?;
+    let behind = all_copied(alloc, &children[span.behind..])?;
+    let mut partials = partial_children(alloc, labels)?;
+    let second = last_if(&mut partials, span.behind - span.full_to);
+    let first = last_if(&mut partials, span.full_from - span.before);
+    let tree = template_q3(alloc, before, first, full, second, behind)?;
+    Ok(tree)
+}
+
 /// The last partial, if the count isn't zero.
 fn last_if(partials: &mut Vec<Halves>, count: usize) -> Option<Halves>
-    ensures none { count ≡ 0 → (result ≡ None) × (partials.new.items ≡ partials.old.items) }
-    ensures last { 0 < count → partials.old.items ≡ partials.new.items ++ option_to_list result }
-    ensures some { 0 < count → IsSome result ↔ (0 < length partials.old.items) }
+    requires { count ≤ length partials.old.items }
+    ensures items { partials.old.items ≡ partials.new.items ++ option_to_list result }
+    ensures some { IsSome result ↔ (0 < count) }
 {
     if count == 0 { None } else { partials.pop() }
 }
@@ -269,6 +313,9 @@ fn in_line_if(alloc: Global, partial: Option<Halves>) -> Result<Vec<Tree>, NoMem
 {
     match partial {
         None => Ok(Vec::new(alloc)),
-        Some(halves) => in_line(halves),
+        Some(halves) => {
+            let line = in_line(halves)?;
+            Ok(line)
+        }
     }
 }
