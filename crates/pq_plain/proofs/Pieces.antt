@@ -2,12 +2,19 @@
 use Rattle.std.proofs.Common.{◌≡◌, ◌∙◌, ◌<◌, ◌≤◌, List, [], ◌∷◌, ◌++◌, reverse, map, length, refl, sym, ap, ap₂, arith}
 use Rattle.std.specs.declared.vec.Vec.{Vec}
 use Rattle.std.specs.declared.alloc.Global.{Global}
-use Rattle.pq_tree.specs.Outline.{Forest, p_node, no_tree, tree_and}
+use Rattle.pq_tree.specs.Outline.{Forest, p_node, q_node, no_tree, tree_and}
 use Rattle.pq_tree.specs.Proper.{outline_of, forest}
+<<<<<<< HEAD
 use Rattle.pq_tree.specs.declared.Tree.{Tree, P}
 use Rattle.pq_tree.proofs.Shown.{outline_of-P}
 use Rattle.pq_plain.specs.Templates.{join, star, back}
 use Rattle.pq_plain.specs.Labels.{Partial}
+=======
+use Rattle.pq_tree.specs.declared.Tree.{Tree, P, Q}
+use Rattle.pq_tree.proofs.Shown.{outline_of-P, outline_of-Q}
+use Rattle.pq_plain.specs.Templates.{join, star, back, under}
+use Rattle.pq_plain.specs.Treat.{Partial}
+>>>>>>> 8cdbc2dca498afe82b1b8185adfa9b49e141c20b
 use Rattle.pq_plain.specs.Seen.{outlines}
 use Rattle.pq_plain.proofs.Outlines.{outlines_append, outlines_reverse}
 
@@ -34,3 +41,19 @@ appended old more new a b e p q = ap outlines e ∙ outlines_append old more ∙
 
 pub turned : (ts copies new : List Tree) → map outline_of copies ≡ map outline_of ts → new ≡ reverse copies → outlines new ≡ back (outlines ts)
 turned ts copies new e k = ap outlines k ∙ outlines_reverse copies ∙ ap (λ xs. back (forest xs)) e
+
+pub turned_line : (ts new : List Tree) (a : Forest) → new ≡ reverse ts → outlines ts ≡ a → outlines new ≡ back a
+turned_line ts new a k e = ap outlines k ∙ outlines_reverse ts ∙ ap back e
+
+-- a node over a list
+pub node_P : (v : Vec Tree Global) (ts : Forest) → outlines v.items ≡ ts → outline_of (P v) ≡ p_node ts
+node_P v ts e = outline_of-P v ∙ ap p_node e
+
+pub node_Q : (v : Vec Tree Global) (ts : Forest) → outlines v.items ≡ ts → outline_of (Q v) ≡ q_node ts
+node_Q v ts e = outline_of-Q v ∙ ap q_node e
+
+pub under_some : (v : Vec Tree Global) (none one others : List Tree) (t : Tree) → (length others ≡ 0 → ⊥) → none ≡ [] → one ≡ none ++ t ∷ [] → v.items ≡ one ++ others →
+    outline_of (P v) ≡ under (outlines others) (outline_of t)
+under_some v none one [] t h n e k = absurd (h refl)
+under_some v none one (u ∷ us) t h n e k =
+    outline_of-P v ∙ ap (λ xs. p_node (outlines xs)) (k ∙ ap (λ xs. xs ++ u ∷ us) (e ∙ ap (λ xs. xs ++ t ∷ []) n))

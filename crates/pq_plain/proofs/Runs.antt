@@ -10,20 +10,20 @@ use Rattle.pq_plain.specs.declared.label.Label.{Label as Marked}
 use Rattle.pq_plain.specs.declared.label.Run.{Run as Places}
 
 -- how many labels stand before the full ones
-run_end : List Label → ℕ
+unfoldable pub run_end : List Label → ℕ
 run_end [] = 0
 run_end (empty_label ∷ ps) = suc (run_end ps)
 run_end (full_label ∷ ps) = 0
 run_end (partial_label h ∷ ps) = 1
 
-run_end_is : (ps : List Label) → run_end ps ≡ empty_front ps + cut_front (drop (empty_front ps) ps)
+pub run_end_is : (ps : List Label) → run_end ps ≡ empty_front ps + cut_front (drop (empty_front ps) ps)
 unfolding run_end
 run_end_is [] = refl
 run_end_is (empty_label ∷ ps) = omega (arith, run_end_is ps)
 run_end_is (full_label ∷ ps) = refl
 run_end_is (partial_label h ∷ ps) = refl
 
-run_end_few : (ps : List Label) → run_end ps ≤ length ps
+pub run_end_few : (ps : List Label) → run_end ps ≤ length ps
 unfolding run_end
 run_end_few [] = omega arith
 run_end_few (empty_label ∷ ps) = omega (arith, run_end_few ps)
