@@ -4,17 +4,10 @@ use Rattle.std.specs.declared.vec.Vec.{Vec}
 use Rattle.std.specs.declared.alloc.Global.{Global}
 use Rattle.pq_tree.specs.Outline.{Forest, p_node, q_node, no_tree, tree_and}
 use Rattle.pq_tree.specs.Proper.{outline_of, forest}
-<<<<<<< HEAD
-use Rattle.pq_tree.specs.declared.Tree.{Tree, P}
-use Rattle.pq_tree.proofs.Shown.{outline_of-P}
-use Rattle.pq_plain.specs.Templates.{join, star, back}
-use Rattle.pq_plain.specs.Labels.{Partial}
-=======
 use Rattle.pq_tree.specs.declared.Tree.{Tree, P, Q}
 use Rattle.pq_tree.proofs.Shown.{outline_of-P, outline_of-Q}
 use Rattle.pq_plain.specs.Templates.{join, star, back, under}
-use Rattle.pq_plain.specs.Treat.{Partial}
->>>>>>> 8cdbc2dca498afe82b1b8185adfa9b49e141c20b
+use Rattle.pq_plain.specs.Labels.{Partial}
 use Rattle.pq_plain.specs.Seen.{outlines}
 use Rattle.pq_plain.proofs.Outlines.{outlines_append, outlines_reverse}
 

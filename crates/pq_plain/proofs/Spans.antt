@@ -4,7 +4,7 @@ use Rattle.std.proofs.lemmas.Bool.{cond-true, cond-false}
 use Rattle.std.proofs.lemmas.List.{drop-map, length-map, length-drop, drop-drop}
 use Rattle.pq_tree.specs.Outline.{Outline, Forest, no_tree, tree_and}
 use Rattle.pq_tree.specs.Proper.{forest}
-use Rattle.pq_plain.specs.Treat.{Partial, Label, empty_label, full_label, partial_label, partials}
+use Rattle.pq_plain.specs.Labels.{Partial, Label, empty_label, full_label, partial_label, partials}
 use Rattle.pq_plain.specs.Reduce.{Tail, Span, all_void, full_more, before_more, tail_of, begins, span_of}
 use Rattle.pq_plain.specs.Seen.{label_seen, empty_front, full_front, cut_front}
 use Rattle.pq_plain.specs.AtRoot.{span_seen, PartialsAt}
