@@ -1,0 +1,86 @@
+-- Words, and the numbers that they write.
+use Rattle.std.proofs.Common.{◌≡◌, ℕ, suc, ◌<◌, ◌≤◌, ◌+◌, ◌-◌, ◌*◌, ◌^◌, List, [], ◌∷◌, length, take, drop, slice_range, ap, sym, ◌∙◌, refl, arith, true, false, if◌then◌else◌, ◌&&◌, get_or, drop-cons}
+use Rattle.std.proofs.Math.ListN.{drop_of_length-le}
+use Rattle.std.proofs.lemmas.List.{drop-take, drop-drop, length-take-le, length-drop}
+use Rattle.std.proofs.lemmas.Bool.{lt-ltb, le-ltb}
+use Rattle.std.specs.List.{list_all}
+use Rattle.std.specs.Char.{is_ascii_digit}
+use Rattle.matrix_read.specs.Lines.{is_blank, is_blank_byte}
+use Rattle.matrix_read.specs.Words.{blank_len, word_len, number_after, numeral_of}
+use Rattle.matrix_read.specs.declared.words.Numeral.TheVariants.{Value, TooLarge}
+
+-- all bytes are blanks, or a word begins behind the blanks
+pub all_blank : (bytes : List ℕ) → blank_len bytes ≡ length bytes → is_blank bytes ≡ true
+all_blank [] h = refl
+all_blank (b ∷ bytes) h =
+    (elim (is_blank_byte b) as (λ v. (if v then suc (blank_len bytes) else 0) ≡ suc (length bytes) → (v && is_blank bytes) ≡ true) [
+      | true ↦ λ h. all_blank bytes (omega arith)
+      | false ↦ λ h. absurd (omega arith)
+    ]) h
+
+pub some_filled : (bytes : List ℕ) → blank_len bytes < length bytes → is_blank bytes ≡ false
+some_filled [] h = absurd (omega arith)
+some_filled (b ∷ bytes) h =
+    (elim (is_blank_byte b) as (λ v. (if v then suc (blank_len bytes) else 0) < suc (length bytes) → (v && is_blank bytes) ≡ false) [
+      | true ↦ λ h. some_filled bytes (omega arith)
+      | false ↦ λ h. refl
+    ]) h
+
+word_some : (bytes : List ℕ) → blank_len bytes < length bytes → 0 < word_len (drop (blank_len bytes) bytes)
+word_some [] h = absurd (omega arith)
+word_some (b ∷ bytes) h =
+    (elim (is_blank_byte b) as (λ v. (if v then suc (blank_len bytes) else 0) < suc (length bytes) → is_blank_byte b ≡ v → 0 < word_len (drop (if v then suc (blank_len bytes) else 0) (b ∷ bytes))) [
+      | true ↦ λ h e. word_some bytes (omega arith)
+      | false ↦ λ h e. rw e (omega arith)
+    ]) h refl
+
+pub length-slice_range : (bytes : List ℕ) (at end : ℕ) → at ≤ end → end ≤ length bytes → length (slice_range bytes at end) ≡ end - at
+length-slice_range bytes at end a b = length-take-le (end - at) (drop at bytes) (omega (arith, length-drop at bytes))
+
+pub drop-slice_range : (bytes : List ℕ) (at end k : ℕ) → at + k ≤ end → drop k (slice_range bytes at end) ≡ slice_range bytes (at + k) end
+drop-slice_range bytes at end k le =
+    let whole : end - at ≡ k + (end - (at + k)) = omega arith in
+    ap (λ n. drop k (take n (drop at bytes))) whole ∙ drop-take k (end - (at + k)) (drop at bytes) ∙ ap (take (end - (at + k))) (drop-drop k at bytes)
+
+-- the blanks between a place and an end
+module _ (bytes : List ℕ) (at end k : ℕ) (order : at ≤ end) (within : end ≤ length bytes) (is : k ≡ blank_len (slice_range bytes at end)) where
+  pub none_left : at + k ≡ end → is_blank (slice_range bytes at end) ≡ true
+  none_left h = all_blank (slice_range bytes at end) (omega (arith, length-slice_range bytes at end order within))
+
+  pub one_left : at + k < end → is_blank (slice_range bytes at end) ≡ false
+  one_left h = some_filled (slice_range bytes at end) (omega (arith, length-slice_range bytes at end order within))
+
+  pub word_here : at + k < end → 0 < word_len (slice_range bytes (at + k) end)
+  word_here h =
+      let le : at + k ≤ end = omega arith in
+      rw (← drop-slice_range bytes at end k le, is) (word_some (slice_range bytes at end) (omega (arith, length-slice_range bytes at end order within)))
+
+number_after-le : (n : ℕ) (digits : List ℕ) → n ≤ number_after n digits
+number_after-le n [] = omega arith
+number_after-le n (b ∷ digits) = omega (arith, number_after-le (n * 10 + (b - 48)) digits)
+
+-- a word of digits
+module _ (word : List ℕ) (some : 0 < length word) (digits : list_all is_ascii_digit word ≡ true) where
+  pub numeral_value : (v : ℕ) → v ≡ number_after 0 word → v < 2 ^ 64 → Value v ≡ numeral_of word
+  numeral_value v is small = value word some digits is
+    where
+      value : (w : List ℕ) → 0 < length w → list_all is_ascii_digit w ≡ true → v ≡ number_after 0 w → Value v ≡ numeral_of w
+      value [] h all e = absurd (omega arith)
+      value (b ∷ w) h all e = rw (all, ← e, lt-ltb v (2 ^ 64) small) refl
+
+  pub numeral_large : (v b : ℕ) (rest : List ℕ) → number_after v (b ∷ rest) ≡ number_after 0 word → 2 ^ 64 ≤ v * 10 + (b - 48) → TooLarge ≡ numeral_of word
+  numeral_large v b rest is large = value word some digits big
+    where
+      big : 2 ^ 64 ≤ number_after 0 word
+      big = omega (arith, number_after-le (v * 10 + (b - 48)) rest, is)
+
+      value : (w : List ℕ) → 0 < length w → list_all is_ascii_digit w ≡ true → 2 ^ 64 ≤ number_after 0 w → TooLarge ≡ numeral_of w
+      value [] h all e = absurd (omega arith)
+      value (c ∷ w) h all e = rw (all, le-ltb (number_after 0 (c ∷ w)) (2 ^ 64) e) refl
+
+-- the digits that are left
+pub none_after : (v i : ℕ) (word : List ℕ) → length word ≤ i → number_after v (drop i word) ≡ v
+none_after v i word h = rw (drop_of_length-le word h) refl
+
+pub digit_after : (v i : ℕ) (word : List ℕ) → i < length word → number_after v (get_or word i 0 ∷ drop (suc i) word) ≡ number_after v (drop i word)
+digit_after v i word h = ap (number_after v) (sym (drop-cons word i 0 h))

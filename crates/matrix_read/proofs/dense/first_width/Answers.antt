@@ -1,0 +1,25 @@
+use Rattle.std.proofs.Common.{◌≡◌, ◌≤◌, List, ℕ, slice_range, arith, refl, false}
+use Rattle.std.proofs.lemmas.Bool.{lt-ltb}
+use Rattle.std.specs.List.{list_any}
+use Rattle.row_model.specs.declared.TheConstants.{MAX_COLUMNS}
+use Rattle.matrix_read.specs.Lines.{lines_of}
+use Rattle.matrix_read.specs.Dense.{is_foreign, width_of}
+use Rattle.matrix_read.proofs.DenseLemmas.{first_line_refused, some_digit, filled_first, never_true}
+use Rattle.matrix_read.proofs.dense.first_width.Goals as goal
+
+pub returns-in-None-clause-refused : goal.returns-in-None-clause-refused
+returns-in-None-clause-refused c = first_line_refused _ _ _ _ c.in-Some.ensures.line (rw (c.in-None.ensures.foreign.0 refl) refl)
+
+pub returns-in-Some-scan-clause-refused : goal.returns-in-Some-scan-clause-refused
+returns-in-Some-scan-clause-refused c =
+    let line : List ℕ = slice_range c.args.text.now c.in-Some.first.span.start c.in-Some.first.span.end in
+    let clean : list_any is_foreign line ≡ false = never_true (list_any is_foreign line) c.in-Some-scan.ensures.foreign.1 in
+    let wide = lt-ltb MAX_COLUMNS (width_of line) (omega (arith, c.in-Some-scan.ensures.width, c.if-digits.true)) in
+    first_line_refused _ _ _ _ c.in-Some.ensures.line (rw (clean, wide) refl)
+
+pub returns-in-Some-2-clause-range : goal.returns-in-Some-2-clause-range
+returns-in-Some-2-clause-range c =
+    let line : List ℕ = slice_range c.args.text.now c.in-Some.first.span.start c.in-Some.first.span.end in
+    let clean : list_any is_foreign line ≡ false = never_true (list_any is_foreign line) c.in-Some-scan.ensures.foreign.1 in
+    let some : 1 ≤ width_of line = some_digit line (filled_first 1 (lines_of c.args.text.now) _ _ c.in-Some.ensures.line) clean in
+    (omega (arith, c.in-Some-scan.ensures.width, some), c.if-digits.false)

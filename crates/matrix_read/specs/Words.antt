@@ -1,0 +1,31 @@
+-- The words of a line, and the numbers that they write.
+use Rattle.std.specs.Prelude.{ℕ, suc, ◌+◌, ◌-◌, ◌*◌, ◌^◌, List, [], ◌∷◌, if◌then◌else◌, nat_lt}
+use Rattle.std.specs.Char.{is_ascii_digit}
+use Rattle.std.specs.List.{list_all}
+use Rattle.matrix_read.specs.Lines.{is_blank_byte}
+use Rattle.matrix_read.specs.declared.words.Numeral.{Numeral}
+use Rattle.matrix_read.specs.declared.words.Numeral.TheVariants.{Value, TooLarge, NotDigits}
+
+-- how many spaces and tabs stand at the front
+abbrev pub blank_len : List ℕ → ℕ
+blank_len [] = 0
+blank_len (b ∷ bytes) = if is_blank_byte b then suc (blank_len bytes) else 0
+
+-- how many bytes other than spaces and tabs stand at the front
+abbrev pub word_len : List ℕ → ℕ
+word_len [] = 0
+word_len (b ∷ bytes) = if is_blank_byte b then 0 else suc (word_len bytes)
+
+-- the number that digits write, where a number stands before them
+abbrev pub number_after : ℕ → List ℕ → ℕ
+number_after n [] = n
+number_after n (b ∷ digits) = number_after (n * 10 + (b - 48)) digits
+
+-- a number, if it fits 64 bits
+abbrev pub numeral : ℕ → Numeral
+numeral n = if nat_lt n (2 ^ 64) then Value n else TooLarge
+
+-- what a word is as a number: one or more digits write one
+abbrev pub numeral_of : List ℕ → Numeral
+numeral_of [] = NotDigits
+numeral_of (b ∷ word) = if list_all is_ascii_digit (b ∷ word) then numeral (number_after 0 (b ∷ word)) else NotDigits

@@ -1,0 +1,240 @@
+// A matrix as lines of digits.
+ghost use Rattle.std.specs.Prelude.{◌≡◌, ◌+◌, ◌-◌, ◌^◌, ◌<◌, ◌≤◌, ◌↔◌, ◌⊎◌, slice_set, [], length, take, Some, None, IsNone, IfOk, IfErr, IfSome, IsTrue};
+ghost use Rattle.std.specs.List.{list_any};
+ghost use Rattle.matrix_read.specs.Lines.{lines_of, filled_lines};
+ghost use Rattle.matrix_read.specs.Dense.{is_foreign, width_of, row_of, row_code, rows_or_refusal, read_lines, dense};
+ghost use Rattle.matrix_read.specs.Written.{DenseLaw};
+
+use crate::lines::{next_filled_line, without_mark};
+use row_model::{MAX_COLUMNS, MAX_FILE_BYTES, MAX_ROWS, Matrix, Read, Refusal, code};
+use std::alloc::{AllocError, Global};
+
+/// Reads the matrix of a file of lines of the digits 0 and 1, which spaces and tabs may stand between.
+///
+/// Each line that is not blank is a row, and its j-th digit is 1 where the row has column j. A byte order mark at the start is passed over. Where the file breaks a rule, the answer is its first refusal: first the length of the file is judged, and then line by line the number of rows, the bytes, and the number of digits. Only want of memory is an error.
+pub fn read_dense(alloc: Global, bytes: &[u8]) -> Result<Read<Matrix>, AllocError>
+    ensures { IfOk result (λ read. read ≡ dense bytes.now) }
+{
+    if bytes.len() as u64 > MAX_FILE_BYTES {
+        return Ok(Read::Refused(Refusal {
+            code: code::LIMIT,
+            line: 0,
+        }));
+    }
+    let text = without_mark(bytes);
+    match first_width(text) {
+        Err(refusal) => Ok(Read::Refused(refusal)),
+        Ok(width) => read_rows(alloc, text, width),
+    }
+}
+
+// The number of digits of the first row, or the first refusal.
+fn first_width(text: &[u8]) -> Result<u32, Refusal>
+    requires { length text.now ≤ MAX_FILE_BYTES }
+    ensures refused { IfErr result (λ refusal. read_lines (filled_lines 1 (lines_of text.now)) ≡ Read.Refused refusal) }
+    ensures width { IfOk result (λ width. read_lines (filled_lines 1 (lines_of text.now)) ≡ rows_or_refusal width (filled_lines 1 (lines_of text.now))) }
+    ensures range { IfOk result (λ width. (1 ≤ width) × (width ≤ MAX_COLUMNS)) }
+{
+    let Some(first) = next_filled_line(text, 0, 0) else {
+        return Err(Refusal {
+            code: code::EMPTY,
+            line: 0,
+        });
+    };
+    match scan(&text[first.span.start..first.span.end], &mut []) {
+        None => Err(Refusal {
+            code: code::GRAMMAR,
+            line: first.number,
+        }),
+        Some(digits) if digits.all > MAX_COLUMNS as usize => Err(Refusal {
+            code: code::LIMIT,
+            line: first.number,
+        }),
+        Some(digits) => Ok(digits.all as u32),
+    }
+}
+
+// The matrix of a text, the first row of which has so many digits.
+fn read_rows(alloc: Global, text: &[u8], width: u32) -> Result<Read<Matrix>, AllocError>
+    requires short { length text.now ≤ MAX_FILE_BYTES }
+    requires range { (1 ≤ width) × (width ≤ MAX_COLUMNS) }
+    ensures { IfOk result (λ read. read ≡ rows_or_refusal width (filled_lines 1 (lines_of text.now))) }
+{
+    let matrix = Matrix::new(alloc, width)?;
+    let mut columns = vec![in alloc; 0u32; width as usize]?;
+    push_rows(matrix, text, &mut columns)
+}
+
+// Fills a matrix with the rows of a text. Each row stands in `columns` until it is pushed.
+fn push_rows(
+    mut matrix: Matrix,
+    text: &[u8],
+    columns: &mut [u32],
+) -> Result<Read<Matrix>, AllocError>
+    requires empty { matrix.rows ≡ [] }
+    requires short { length text.now ≤ MAX_FILE_BYTES }
+    requires width { length columns.old ≡ matrix.columns }
+    requires small { matrix.columns ≤ MAX_COLUMNS }
+    ensures { IfOk result (λ read. read ≡ rows_or_refusal matrix.columns (filled_lines 1 (lines_of text.now))) }
+{
+    let mut passed = 0;
+    let mut at = 0;
+    while let Some(line) = next_filled_line(text, at, passed) {
+        passed = line.number;
+        at = line.span.next;
+        match row_in(
+            &text[line.span.start..line.span.end],
+            matrix.rows(),
+            columns,
+        ) {
+            Err(code) => return Ok(Read::Refused(Refusal { code, line: passed })),
+            Ok(ones) => matrix.push_row(&columns[..ones])?,
+        }
+    }
+    Ok(Read::Ok(matrix))
+}
+
+// How many ones the row of a line has, where their columns then stand at the front of `columns`; or the code of its refusal, where so many rows stand before it.
+fn row_in(line: &[u8], before: u32, columns: &mut [u32]) -> Result<usize, u8>
+    requires { length columns.old ≤ MAX_COLUMNS }
+    ensures refused { IfErr result (λ code. row_code (length columns.old) before line.now ≡ Some code) }
+    ensures row { IfOk result (λ ones. (row_code (length columns.old) before line.now ≡ None) × (take ones columns.new ≡ row_of line.now)) }
+    ensures within { IfOk result (λ ones. ones ≤ length columns.new) }
+{
+    if before >= MAX_ROWS {
+        return Err(code::LIMIT);
+    }
+    match scan(line, columns) {
+        None => Err(code::GRAMMAR),
+        Some(digits) if digits.all != columns.len() => Err(code::COUNT),
+        Some(digits) => Ok(digits.ones),
+    }
+}
+
+// How many digits a line has, and how many columns were written for them.
+#[derive(Clone, Copy)]
+struct Digits {
+    all: usize,
+    ones: usize,
+}
+
+// The digits of a line, if it has no other bytes but spaces and tabs. The columns of its ones stand at the front of `columns` then, if that has an entry for each digit.
+fn scan(line: &[u8], columns: &mut [u32]) -> Option<Digits>
+    requires { length columns.old < 2 ^ 32 }
+    ensures foreign { IsNone result ↔ IsTrue (list_any is_foreign line.now) }
+    ensures width { IfSome result (λ digits. digits.all ≡ width_of line.now) }
+    ensures row { IfSome result (λ digits. width_of line.now ≤ length columns.new → take digits.ones columns.new ≡ row_of line.now) }
+    ensures within { IfSome result (λ digits. digits.ones ≤ length columns.new) }
+{
+    let mut digits = Digits { all: 0, ones: 0 };
+    for byte in line {
+        let digit = byte.wrapping_sub(b'0');
+        if digit <= 1 {
+            digits = with_digit(digits, digit, columns);
+            continue;
+        }
+        if *byte != b' ' && *byte != b'\t' {
+            return None;
+        }
+    }
+    Some(digits)
+}
+
+// One digit more. Its column is written in either case, which costs less than a branch; only a 1 keeps the entry.
+#[inline(always)]
+fn with_digit(digits: Digits, digit: u8, columns: &mut [u32]) -> Digits
+    requires digit { digit ≤ 1 }
+    requires few { digits.ones ≤ digits.all }
+    requires fits { digits.all + 1 < 2 ^ 64 }
+    requires small { length columns.old < 2 ^ 32 }
+    ensures all { result.all ≡ digits.all + 1 }
+    ensures ones { result.ones ≤ digits.ones + 1 }
+    ensures within { digits.ones ≤ length columns.old → result.ones ≤ length columns.old }
+    ensures written { digits.all < length columns.old → (result.ones ≡ digits.ones + digit) × (columns.new ≡ slice_set columns.old digits.ones (digits.all + 1)) }
+{
+    let mut ones = digits.ones;
+    if digits.all < columns.len() {
+        columns[ones] = digits.all as u32 + 1;
+        ones += usize::from(digit);
+    }
+    Digits {
+        all: digits.all + 1,
+        ones,
+    }
+}
+
+/// The law of [`read_dense`]: a text that writes each row of a matrix as a line of digits is read as that matrix.
+pub fn dense_law()
+    ensures { DenseLaw }
+{}
+
+#[cfg(test)]
+mod tests {
+    use super::*;
+    use std::test::Fail;
+
+    #[test]
+    fn four_lines_are_four_rows(rt: HostRuntime) -> Result<(), Fail> {
+        let Read::Ok(matrix) = read_dense(rt.alloc(), b"1100\n1110\n1100\n1110\n")? else {
+            panic!(rt; "refused");
+        };
+        assert_eq!(rt; matrix.columns(), 4);
+        assert_eq!(rt; matrix.rows(), 4);
+        assert_eq!(rt; matrix.row(1), [1, 2].as_slice());
+        assert_eq!(rt; matrix.row(4), [1, 2, 3].as_slice());
+        Ok(())
+    }
+
+    #[test]
+    fn marks_blanks_and_returns_are_passed_over(rt: HostRuntime) -> Result<(), Fail> {
+        let Read::Ok(matrix) = read_dense(rt.alloc(), b"\xEF\xBB\xBF\r\n0 1\t1\r\n \n000\r")? else {
+            panic!(rt; "refused");
+        };
+        assert_eq!(rt; matrix.columns(), 3);
+        assert_eq!(rt; matrix.rows(), 2);
+        assert_eq!(rt; matrix.ones(), 2);
+        assert_eq!(rt; matrix.row(1), [2, 3].as_slice());
+        Ok(())
+    }
+
+    #[test]
+    fn the_first_refusal_counts(rt: HostRuntime) -> Result<(), Fail> {
+        let cases: [(&[u8], u8, u32); 7] = [
+            (b"", 1, 0),
+            (b"\n \t\n", 1, 0),
+            (b"12\n", 2, 1),
+            (b"110\n01\n", 3, 2),
+            (b"\n1 0\n\n1x\n1\n", 2, 4),
+            (b"10\r\r\n", 2, 1),
+            (b"11\n1\xEF\n", 2, 2),
+        ];
+        for (text, code, line) in cases {
+            match read_dense(rt.alloc(), text)? {
+                Read::Ok(_) => panic!(rt; "a matrix in place of {code}, {line}"),
+                Read::Refused(refusal) => assert_eq!(rt; refusal, Refusal { code, line }),
+            }
+        }
+        Ok(())
+    }
+
+    #[test]
+    fn a_row_past_the_limit_is_refused(rt: HostRuntime) -> Result<(), Fail> {
+        let mut text = Vec::new(rt.alloc());
+        for _ in 0..MAX_ROWS {
+            text.extend_from_slice(b"1\n")?;
+        }
+        assert!(rt; matches!(read_dense(rt.alloc(), &text)?, Read::Ok(_)));
+        text.push(b'1')?;
+        let Read::Refused(refusal) = read_dense(rt.alloc(), &text)? else {
+            panic!(rt; "a matrix");
+        };
+        assert_eq!(rt;
+            refusal,
+            Refusal {
+                code: 7,
+                line: MAX_ROWS + 1
+            }
+        );
+        Ok(())
+    }
+}

@@ -1,0 +1,13 @@
+//! Readers of matrices, and the lines, words and numbers that every text format is read by.
+//!
+//! Each reader gives the value of a list of bytes or its first refusal, by one definition on the whole list; the code goes over the bytes line by line and keeps no list of lines.
+#![tactic(auto)]
+
+mod dense;
+mod lines;
+mod words;
+
+pub use dense::read_dense;
+pub use lines::{FilledLine, LineSpan, next_filled_line, next_line, without_mark};
+pub use row_model::NoMemory;
+pub use words::{Numeral, WordSpan, next_word, number};
