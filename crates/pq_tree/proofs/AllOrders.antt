@@ -7,10 +7,11 @@ use Rattle.std.proofs.lemmas.List.Elements.{All-head, All-from_recursion}
 use Rattle.std.proofs.lemmas.List.Sums.{sum_by-cons}
 use Rattle.std.specs.List.{concat}
 use Rattle.column_order.specs.Orders.{occurs, place, IsOrder}
-use Rattle.column_order.proofs.Lists.{occurs-concat, has_from_occurs, at_place}
+use Rattle.column_order.proofs.Lists.{has_from_occurs, at_place}
 use Rattle.pq_tree.specs.Outline.{leaf, p_node, IsFrontier, AreFrontiers}
 use Rattle.pq_tree.specs.Proper.{forest, columns, universal}
-use Rattle.pq_tree.proofs.Universal.{columns_order, universal_many}
+use Rattle.pq_tree.proofs.Universal.{columns_order, leaves_of_all, universal_many}
+use Rattle.pq_tree.proofs.Frontiers.{frontier_occurs}
 
 -- 1 where the number is a, else 0
 abbrev hit : ℕ → ℕ → ℕ
@@ -48,28 +49,13 @@ frontiers_of_leaves : (xs : List ℕ) → AreFrontiers (forest (map leaf xs)) (m
 frontiers_of_leaves [] = tt
 frontiers_of_leaves (x ∷ xs) = (refl, frontiers_of_leaves xs)
 
-leaf_frontiers : (xs : List ℕ) (fs : List (List ℕ)) → AreFrontiers (forest (map leaf xs)) fs → fs ≡ map single xs
-leaf_frontiers [] [] h = refl
-leaf_frontiers [] (f ∷ fs) h = absurd h
-leaf_frontiers (x ∷ xs) [] h = absurd h
-leaf_frontiers (x ∷ xs) (f ∷ fs) h = ap (λ g. g ∷ fs) h.0 ∙ ap (λ gs. (x ∷ []) ∷ gs) (leaf_frontiers xs fs h.1)
-
 -- the frontiers of a P-node over leaves are the permutations of their columns
 permutation_is_frontier : (xs o : List ℕ) → IsPermutation xs o → IsFrontier (p_node (forest (map leaf xs))) o
 permutation_is_frontier xs o h = (map single xs, map single o, frontiers_of_leaves xs, IsPermutation-map single xs o h, sym (concat_singles o))
 
-frontier_occurs : (xs o : List ℕ) (a : ℕ) → IsFrontier (p_node (forest (map leaf xs))) o → occurs o a ≡ occurs xs a
-frontier_occurs xs o a h =
-    ap (λ x. occurs x a) h.4 ∙
-    occurs-concat h.1 a ∙
-    sum_by-IsPermutation (λ f. occurs f a) h.0 h.1 h.3 ∙
-    sym (occurs-concat h.0 a) ∙
-    ap (λ fs. occurs (concat fs) a) (leaf_frontiers xs h.0 h.2) ∙
-    ap (λ x. occurs x a) (concat_singles xs)
-
 pub many_orders : (c : ℕ) (o : List ℕ) → IsFrontier (p_node (forest (map leaf (columns c)))) o ↔ IsOrder c o
 many_orders c o = (
-  λ h a. frontier_occurs (columns c) o a h ∙ columns_order c a,
+  λ h a. frontier_occurs (p_node (forest (map leaf (columns c)))) o a h ∙ ap (λ x. occurs x a) (leaves_of_all (columns c)) ∙ columns_order c a,
   λ h. permutation_is_frontier (columns c) o (permutation_from_occurs (columns c) o (λ a. columns_order c a ∙ sym (h a))),
 )
 

@@ -1,28 +1,75 @@
 -- The least column, and trees in canonical order.
-use Rattle.std.proofs.Common.{◌≡◌, ◌⊎◌, ◌∙◌, ◌+◌, ◌<◌, ◌≤◌, ◌-◌, ℕ, suc, min, List, [], ◌∷◌, ◌++◌, reverse, map, take, length, get_or, fold, IsPermutation, refl, sym, ap, subst, inl, inr, arith}
+use Rattle.std.proofs.Common.{◌≡◌, ◌≢◌, ◌⊎◌, ◌∙◌, ◌+◌, ◌<◌, ◌≤◌, ◌-◌, ℕ, suc, min, List, [], ◌∷◌, ◌++◌, reverse, map, take, length, get_or, fold, IsTrue, IsFalse, IsPermutation, refl, sym, ap, subst, inl, inr, arith}
+use Rattle.std.proofs.lemmas.Bool.{both_ways, cases_Bool, cases_lt}
 use Rattle.std.proofs.lemmas.List.{length-reverse, get_or-reverse, reverse-append, map_more, map-append, take_all}
 use Rattle.std.proofs.lemmas.List.Sums.{fold-append}
 use Rattle.std.proofs.lemmas.List.Sorted.{IsPermutation-map}
 use Rattle.std.specs.List.Sorted.{IsNonDecreasingBy}
 use Rattle.std.specs.declared.vec.Vec.{Vec}
 use Rattle.std.specs.declared.alloc.Global.{Global}
-use Rattle.pq_tree.specs.Outline.{Outline, leaf, p_node, q_node}
-use Rattle.pq_tree.specs.Proper.{outline_of, forest}
+use Rattle.column_order.specs.Orders.{has}
+use Rattle.column_order.proofs.Lists.{has_head, has_append_left, has_append_right, occurs-append, apart}
+use Rattle.pq_tree.specs.Outline.{Outline, Forest, leaf, p_node, q_node, no_tree, tree_and, leaves, leaves_of}
+use Rattle.pq_tree.specs.Proper.{outline_of, forest, count, HasArities, HaveArities, IsTree, AreTrees}
 use Rattle.pq_tree.specs.Equivalent.{IsEquivalent, AreEquivalent}
-use Rattle.pq_tree.specs.Canonical.{least, least_of, IsCanonical, AreCanonical, AreRising, AtMostLeast, EndsRise, LastAtLeast}
+use Rattle.pq_tree.specs.Canonical.{least, least_of, CanonicalIfTree, AreCanonical, AreRising, IsBelowEach, EndsRise, IsBelowLast}
 use Rattle.pq_tree.specs.Arranged.{outline_in}
 use Rattle.pq_tree.specs.declared.Tree.{Tree, Leaf, P, Q}
 use Rattle.pq_tree.specs.declared.arranged.Arranged.{Arranged}
 use Rattle.pq_tree.proofs.Shown.{outline_of-Leaf, outline_of-P, outline_of-Q}
 
+-- the first of the trees, and the others
+first_tree : (t : Outline) (ts : Forest) → AreTrees (tree_and t ts) → IsTree t
+first_tree t ts h = (h.0.0, λ a. omega (arith, h.1 a, occurs-append (leaves t) (leaves_of ts) a))
+
+other_trees : (t : Outline) (ts : Forest) → AreTrees (tree_and t ts) → AreTrees ts
+other_trees t ts h = (h.0.1, λ a. omega (arith, h.1 a, occurs-append (leaves t) (leaves_of ts) a))
+
+-- the least column is a column
+mutual
+  least_has : (t : Outline) → HasArities t → IsTrue (has (leaves t) (least t))
+  least_has (leaf a) h = has_head a []
+  least_has (p_node ts) h = least_have ts (omega (arith, h.0)) h.1
+  least_has (q_node ts) h = least_have ts (omega (arith, h.0)) h.1
+
+  least_have : (ts : Forest) → 1 ≤ count ts → HaveArities ts → IsTrue (has (leaves_of ts) (least_of ts))
+  least_have no_tree l h = absurd (omega (arith, l))
+  least_have (tree_and t no_tree) l h = has_append_left (leaves t) [] (least t) (least_has t h.0)
+  least_have (tree_and t (tree_and u us)) l h =
+      let r = least_have (tree_and u us) (omega arith) h.1 in
+      let m = least_of (tree_and u us) in
+      elim (cases_lt m (least t)) [
+        | inl k ↦
+            let e : min (least t) m ≡ m = omega arith in
+            rw e (has_append_right (leaves t) (leaves_of (tree_and u us)) m r)
+        | inr k ↦
+            let e : min (least t) m ≡ least t = omega arith in
+            rw e (has_append_left (leaves t) (leaves_of (tree_and u us)) (least t) (least_has t h.0))
+      ]
+
+-- a number that is no column of the tree is not its least column
+not_least : (m : ℕ) (t : Outline) → HasArities t → IsFalse (has (leaves t) m) → m ≢ least t
+not_least m t h lacks e = both_ways (has (leaves t) m) lacks (subst (λ n. IsTrue (has (leaves t) n)) (sym e) (least_has t h))
+
+lacks_first : (xs ys : List ℕ) (m : ℕ) → IsFalse (has (xs ++ ys) m) → IsFalse (has xs m)
+lacks_first xs ys m h = elim (cases_Bool (has xs m)) [ inl k ↦ absurd (both_ways (has (xs ++ ys) m) h (has_append_left xs ys m k)) | inr k ↦ k ]
+
+lacks_others : (xs ys : List ℕ) (m : ℕ) → IsFalse (has (xs ++ ys) m) → IsFalse (has ys m)
+lacks_others xs ys m h = elim (cases_Bool (has ys m)) [ inl k ↦ absurd (both_ways (has (xs ++ ys) m) h (has_append_right xs ys m k)) | inr k ↦ k ]
+
+-- the later trees lack the least column of the first
+others_lack : (t : Outline) (ts : Forest) → AreTrees (tree_and t ts) → IsFalse (has (leaves_of ts) (least t))
+others_lack t ts h = apart (leaves t) (leaves_of ts) (least t) (h.1 (least t)) (least_has t h.0.0)
+
 -- each of the trees is canonical
-all_canonical : (xs : List Arranged) → AreCanonical (forest (map outline_in xs))
-all_canonical [] = tt
-all_canonical (x ∷ xs) = (x.canonical, all_canonical xs)
+all_canonical : (xs : List Arranged) → AreTrees (forest (map outline_in xs)) → AreCanonical (forest (map outline_in xs))
+all_canonical [] h = tt
+all_canonical (x ∷ xs) h =
+    (x.canonical (first_tree (outline_in x) (forest (map outline_in xs)) h), all_canonical xs (other_trees (outline_in x) (forest (map outline_in xs)) h))
 
 -- nodes over such trees
-pub canonical_leaf : (a : ℕ) → IsCanonical (outline_of (Leaf a))
-canonical_leaf a = rw (outline_of-Leaf a) tt
+pub canonical_leaf : (a : ℕ) → CanonicalIfTree (outline_of (Leaf a))
+canonical_leaf a = rw (outline_of-Leaf a) (λ h. tt)
 
 pub least_leaf : (a : ℕ) → a ≡ least (outline_of (Leaf a))
 least_leaf a = sym (ap least (outline_of-Leaf a))
@@ -33,11 +80,15 @@ outline_over_P v xs e = outline_of-P v ∙ ap (λ ts. p_node (forest ts)) e
 pub outline_over_Q : (v : Vec Tree Global) (xs : List Arranged) → map outline_of v.items ≡ map outline_in xs → outline_of (Q v) ≡ q_node (forest (map outline_in xs))
 outline_over_Q v xs e = outline_of-Q v ∙ ap (λ ts. q_node (forest ts)) e
 
-pub canonical_P : (v : Vec Tree Global) (xs : List Arranged) → map outline_of v.items ≡ map outline_in xs → AreRising (forest (map outline_in xs)) → IsCanonical (outline_of (P v))
-canonical_P v xs e h = subst IsCanonical (sym (outline_over_P v xs e)) (h, all_canonical xs)
+pub canonical_P : (v : Vec Tree Global) (xs : List Arranged) → map outline_of v.items ≡ map outline_in xs →
+    (AreTrees (forest (map outline_in xs)) → AreRising (forest (map outline_in xs))) → CanonicalIfTree (outline_of (P v))
+canonical_P v xs e h =
+    subst CanonicalIfTree (sym (outline_over_P v xs e)) (λ t. let ts : AreTrees (forest (map outline_in xs)) = (t.0.1, t.1) in (h ts, all_canonical xs ts))
 
-pub canonical_Q : (v : Vec Tree Global) (xs : List Arranged) → map outline_of v.items ≡ map outline_in xs → EndsRise (forest (map outline_in xs)) → IsCanonical (outline_of (Q v))
-canonical_Q v xs e h = subst IsCanonical (sym (outline_over_Q v xs e)) (h, all_canonical xs)
+pub canonical_Q : (v : Vec Tree Global) (xs : List Arranged) → map outline_of v.items ≡ map outline_in xs →
+    (AreTrees (forest (map outline_in xs)) → EndsRise (forest (map outline_in xs))) → CanonicalIfTree (outline_of (Q v))
+canonical_Q v xs e h =
+    subst CanonicalIfTree (sym (outline_over_Q v xs e)) (λ t. let ts : AreTrees (forest (map outline_in xs)) = (t.0.1, t.1) in (h ts, all_canonical xs ts))
 
 pub least_P : (v : Vec Tree Global) (xs : List Arranged) (m : ℕ) → map outline_of v.items ≡ map outline_in xs → m ≡ least_of (forest (map outline_in xs)) → m ≡ least (outline_of (P v))
 least_P v xs m e h = h ∙ sym (ap least (outline_over_P v xs e))
@@ -72,35 +123,43 @@ fold_all all x xs i m e l h =
     folded x (y ∷ ys) = fold_least (key x) y ys ∙ ap (λ n. min n (least_of (forest (map outline_in (y ∷ ys))))) x.is_least
 
 -- by the sort
-at_most : (m : ℕ) (xs : List Arranged) → ((k : ℕ) (d : Arranged) → k < length xs → m ≤ key (get_or xs k d)) → AtMostLeast m (forest (map outline_in xs))
-at_most m [] h = tt
-at_most m (x ∷ xs) h = (omega (arith, h 0 x (omega arith), x.is_least), at_most m xs (λ k d l. h (suc k) d (omega arith)))
+below_each : (m : ℕ) (xs : List Arranged) → ((k : ℕ) (d : Arranged) → k < length xs → m ≤ key (get_or xs k d)) → HaveArities (forest (map outline_in xs)) →
+    IsFalse (has (leaves_of (forest (map outline_in xs))) m) → IsBelowEach m (forest (map outline_in xs))
+below_each m [] h k lacks = tt
+below_each m (x ∷ xs) h k lacks =
+    let other : m ≢ least (outline_in x) = not_least m (outline_in x) k.0 (lacks_first (leaves (outline_in x)) (leaves_of (forest (map outline_in xs))) m lacks) in (
+      omega (arith, h 0 x (omega arith), x.is_least, other),
+      below_each m xs (λ i d l. h (suc i) d (omega arith)) k.1 (lacks_others (leaves (outline_in x)) (leaves_of (forest (map outline_in xs))) m lacks),
+    )
 
-pub rising : (xs : List Arranged) → IsNonDecreasingBy key xs → AreRising (forest (map outline_in xs))
-rising [] h = tt
-rising (x ∷ xs) h =
-    (subst (λ m. AtMostLeast m (forest (map outline_in xs))) x.is_least (at_most x.least_column xs (λ k d l. h 0 (suc k) d (omega arith) (omega arith))), rising xs (λ i j d l m. h (suc i) (suc j) d (omega arith) (omega arith)))
+pub rising : (xs : List Arranged) → IsNonDecreasingBy key xs → AreTrees (forest (map outline_in xs)) → AreRising (forest (map outline_in xs))
+rising [] h k = tt
+rising (x ∷ xs) h k =
+    let ts = forest (map outline_in xs) in (
+      below_each (least (outline_in x)) xs (λ i d l. omega (arith, h 0 (suc i) d (omega arith) (omega arith), x.is_least)) k.0.1 (others_lack (outline_in x) ts k),
+      rising xs (λ i j d l m. h (suc i) (suc j) d (omega arith) (omega arith)) (other_trees (outline_in x) ts k),
+    )
 
 -- by the two ends
-last_at_least : (m : ℕ) (x : Arranged) (xs : List Arranged) (d : Arranged) → m ≤ key (get_or (x ∷ xs) (length xs) d) → LastAtLeast m (forest (map outline_in (x ∷ xs)))
-last_at_least m x [] d h = omega (arith, h, x.is_least)
-last_at_least m x (y ∷ ys) d h = last_at_least m y ys d h
+below_last : (m : ℕ) (x : Arranged) (xs : List Arranged) (d : Arranged) → m < key (get_or (x ∷ xs) (length xs) d) → IsBelowLast m (forest (map outline_in (x ∷ xs)))
+below_last m x [] d h = omega (arith, h, x.is_least)
+below_last m x (y ∷ ys) d h = below_last m y ys d h
 
 pub ends_short : (xs : List Arranged) → length xs ≤ 1 → EndsRise (forest (map outline_in xs))
 ends_short [] h = tt
 ends_short (x ∷ []) h = tt
 ends_short (x ∷ y ∷ ys) h = absurd (omega arith)
 
-ends_rise : (xs : List Arranged) (d e : Arranged) → key (get_or xs 0 d) ≤ key (get_or xs (length xs - 1) e) → EndsRise (forest (map outline_in xs))
+ends_rise : (xs : List Arranged) (d e : Arranged) → key (get_or xs 0 d) < key (get_or xs (length xs - 1) e) → EndsRise (forest (map outline_in xs))
 ends_rise [] d e h = tt
 ends_rise (x ∷ []) d e h = tt
 ends_rise (x ∷ y ∷ ys) d e h =
-    last_at_least (least (outline_in x)) y ys e (subst (λ n. n ≤ key (get_or (y ∷ ys) (length ys) e)) x.is_least (subst (λ n. key x ≤ key (get_or (x ∷ y ∷ ys) n e)) same_end h))
+    below_last (least (outline_in x)) y ys e (subst (λ n. n < key (get_or (y ∷ ys) (length ys) e)) x.is_least (subst (λ n. key x < key (get_or (x ∷ y ∷ ys) n e)) same_end h))
   where
     same_end : length (x ∷ y ∷ ys) - 1 ≡ suc (length ys)
     same_end = omega arith
 
-ends_turned : (xs : List Arranged) (d e : Arranged) → 2 ≤ length xs → key (get_or xs (length xs - 1) e) ≤ key (get_or xs 0 d) → EndsRise (forest (map outline_in (reverse xs)))
+ends_turned : (xs : List Arranged) (d e : Arranged) → 2 ≤ length xs → key (get_or xs (length xs - 1) e) < key (get_or xs 0 d) → EndsRise (forest (map outline_in (reverse xs)))
 ends_turned xs d e two h =
     let n = length xs - 1 in
     let long : length (reverse xs) ≡ length xs = length-reverse xs in
@@ -110,16 +169,32 @@ ends_turned xs d e two h =
     let last : get_or (reverse xs) n d ≡ get_or xs 0 d = get_or-reverse xs n d (omega arith) ∙ ap (λ i. get_or xs i d) last_end in
     ends_rise (reverse xs) e d (rw (long, first, last) h)
 
-pub left_alone : (xs : List Arranged) (n : ℕ) (first last : Arranged) → n ≡ length xs → first ≡ get_or xs 0 first → last ≡ get_or xs (n - 1) last →
-    key first ≤ key last → EndsRise (forest (map outline_in xs))
-left_alone xs n first last e r s h =
-    ends_rise xs first last (subst (λ m. key (get_or xs 0 first) ≤ key (get_or xs (m - 1) last)) e (rw (← r, ← s) h))
+-- the least columns of the first and the last of two or more trees differ
+ends_differ : (m : ℕ) (x : Arranged) (xs : List Arranged) (d : Arranged) → HaveArities (forest (map outline_in (x ∷ xs))) →
+    IsFalse (has (leaves_of (forest (map outline_in (x ∷ xs)))) m) → m ≢ key (get_or (x ∷ xs) (length xs) d)
+ends_differ m x [] d h lacks e = not_least m (outline_in x) h.0 (lacks_first (leaves (outline_in x)) [] m lacks) (e ∙ x.is_least)
+ends_differ m x (y ∷ ys) d h lacks e = ends_differ m y ys d h.1 (lacks_others (leaves (outline_in x)) (leaves_of (forest (map outline_in (y ∷ ys)))) m lacks) e
+
+ends_apart : (xs : List Arranged) (d e : Arranged) → 2 ≤ length xs → AreTrees (forest (map outline_in xs)) → key (get_or xs 0 d) ≢ key (get_or xs (length xs - 1) e)
+ends_apart [] d e two h same = absurd (omega arith)
+ends_apart (x ∷ []) d e two h same = absurd (omega arith)
+ends_apart (x ∷ y ∷ ys) d e two h same =
+    let n : length (x ∷ y ∷ ys) - 1 ≡ suc (length ys) = omega arith in
+    ends_differ (least (outline_in x)) y ys e h.0.1 (others_lack (outline_in x) (forest (map outline_in (y ∷ ys))) h)
+    (sym x.is_least ∙ same ∙ ap (λ i. key (get_or (x ∷ y ∷ ys) i e)) n)
+
+pub left_alone : (xs : List Arranged) (n : ℕ) (first last : Arranged) → n ≡ length xs → 1 < n → first ≡ get_or xs 0 first → last ≡ get_or xs (n - 1) last →
+    key first ≤ key last → AreTrees (forest (map outline_in xs)) → EndsRise (forest (map outline_in xs))
+left_alone xs n first last e two r s h k =
+    let differ : key (get_or xs 0 first) ≢ key (get_or xs (length xs - 1) last) = ends_apart xs first last (omega arith) k in
+    let below : key (get_or xs 0 first) ≤ key (get_or xs (length xs - 1) last) = subst (λ m. key (get_or xs 0 first) ≤ key (get_or xs (m - 1) last)) e (rw (← r, ← s) h) in
+    ends_rise xs first last (omega (arith, differ, below))
 
 pub turned_over : (xs new : List Arranged) (n : ℕ) (first last : Arranged) → n ≡ length xs → 1 < n → first ≡ get_or xs 0 first → last ≡ get_or xs (n - 1) last →
     key last < key first → new ≡ reverse xs → EndsRise (forest (map outline_in new))
 turned_over xs new n first last e two r s h w =
     subst (λ ys. EndsRise (forest (map outline_in ys))) (sym w)
-    (ends_turned xs first last (omega arith) (subst (λ m. key (get_or xs (m - 1) last) ≤ key (get_or xs 0 first)) e (rw (← r, ← s) (omega arith))))
+    (ends_turned xs first last (omega arith) (subst (λ m. key (get_or xs (m - 1) last) < key (get_or xs 0 first)) e (rw (← r, ← s) h)))
 
 -- the walk
 equivalent_push : (ts us : List Outline) (t u : Outline) → AreEquivalent (forest ts) us → IsEquivalent t u → AreEquivalent (forest (ts ++ t ∷ [])) (us ++ u ∷ [])

@@ -1,13 +1,56 @@
--- Equivalent trees have the same frontiers.
+-- The columns of a frontier, a frontier that each tree has, and the frontiers of equivalent trees.
 use Rattle.std.proofs.Common.{◌≡◌, ◌⊎◌, ◌↔◌, ◌∙◌, ℕ, List, [], ◌∷◌, ◌++◌, reverse, map, length, get_or, set, swap, IsPermutation, refl, sym, ap, subst, inl, inr, arith}
 use Rattle.std.proofs.lemmas.List.{reverse-append, reverse-reverse, length-map, map-set}
 use Rattle.std.proofs.Math.ListN.{get_or-map}
 use Rattle.std.proofs.lemmas.List.Elements.{All-from_recursion, recursion_from_All}
-use Rattle.std.proofs.lemmas.List.Sorted.{All-permutation, IsPermutation-keeps, IsPermutation-refl, IsPermutation-swap, IsPermutation-sym, IsPermutation-trans, IsPermutation-map}
+use Rattle.std.proofs.lemmas.List.Sorted.{All-permutation, IsPermutation-keeps, IsPermutation-refl, IsPermutation-swap, IsPermutation-sym, IsPermutation-trans, IsPermutation-map, IsPermutation-reverse, sum_by-IsPermutation}
 use Rattle.std.specs.List.{AllByRecursion, concat}
-use Rattle.pq_tree.specs.Outline.{Outline, Forest, leaf, p_node, q_node, no_tree, tree_and, IsFrontier, AreFrontiers}
+use Rattle.column_order.specs.Orders.{occurs}
+use Rattle.column_order.proofs.Lists.{occurs-append, occurs-concat}
+use Rattle.pq_tree.specs.Outline.{Outline, Forest, leaf, p_node, q_node, no_tree, tree_and, leaves, leaves_of, IsFrontier, AreFrontiers}
 use Rattle.pq_tree.specs.Proper.{forest}
 use Rattle.pq_tree.specs.Equivalent.{IsEquivalent, AreEquivalent}
+
+occurs-permutation : (fs gs : List (List ℕ)) (a : ℕ) → IsPermutation fs gs → occurs (concat gs) a ≡ occurs (concat fs) a
+occurs-permutation fs gs a h = occurs-concat gs a ∙ sum_by-IsPermutation (λ f. occurs f a) fs gs h ∙ sym (occurs-concat fs a)
+
+-- a frontier has the columns of its tree, each as often
+mutual
+  pub frontier_occurs : (t : Outline) (f : List ℕ) (a : ℕ) → IsFrontier t f → occurs f a ≡ occurs (leaves t) a
+  frontier_occurs (leaf b) f a h = ap (λ x. occurs x a) h
+  frontier_occurs (p_node ts) f a h = ap (λ x. occurs x a) h.4 ∙ occurs-permutation h.0 h.1 a h.3 ∙ frontiers_occur ts h.0 a h.2
+  frontier_occurs (q_node ts) f a h =
+      elim h.2 [
+        | inl e ↦ ap (λ x. occurs x a) e ∙ frontiers_occur ts h.0 a h.1
+        | inr e ↦ ap (λ x. occurs x a) e ∙ occurs-permutation h.0 (reverse h.0) a (IsPermutation-reverse h.0) ∙ frontiers_occur ts h.0 a h.1
+      ]
+
+  pub frontiers_occur : (ts : Forest) (fs : List (List ℕ)) (a : ℕ) → AreFrontiers ts fs → occurs (concat fs) a ≡ occurs (leaves_of ts) a
+  frontiers_occur no_tree [] a h = refl
+  frontiers_occur no_tree (f ∷ fs) a h = absurd h
+  frontiers_occur (tree_and t ts) [] a h = absurd h
+  frontiers_occur (tree_and t ts) (f ∷ fs) a h =
+      omega (arith, occurs-append f (concat fs) a, occurs-append (leaves t) (leaves_of ts) a, frontier_occurs t f a h.0, frontiers_occur ts fs a h.1)
+
+-- the leaves of each tree, tree by tree
+abbrev leaf_lists : Forest → List (List ℕ)
+leaf_lists no_tree = []
+leaf_lists (tree_and t ts) = leaves t ∷ leaf_lists ts
+
+leaves_joined : (ts : Forest) → leaves_of ts ≡ concat (leaf_lists ts)
+leaves_joined no_tree = refl
+leaves_joined (tree_and t ts) = ap (λ x. leaves t ++ x) (leaves_joined ts)
+
+-- the leaves from left to right are a frontier
+mutual
+  pub leaves_are_frontier : (t : Outline) → IsFrontier t (leaves t)
+  leaves_are_frontier (leaf a) = refl
+  leaves_are_frontier (p_node ts) = (leaf_lists ts, leaf_lists ts, leaves_are_frontiers ts, IsPermutation-refl (leaf_lists ts), leaves_joined ts)
+  leaves_are_frontier (q_node ts) = (leaf_lists ts, leaves_are_frontiers ts, inl (leaves_joined ts))
+
+  leaves_are_frontiers : (ts : Forest) → AreFrontiers ts (leaf_lists ts)
+  leaves_are_frontiers no_tree = tt
+  leaves_are_frontiers (tree_and t ts) = (leaves_are_frontier t, leaves_are_frontiers ts)
 
 map-swap : {A B : Type 0} (f : A → B) (xs : List A) (i j : ℕ) → map f (swap xs i j) ≡ swap (map f xs) i j
 map-swap f [] i j = refl

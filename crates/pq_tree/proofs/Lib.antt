@@ -1,9 +1,9 @@
 pub mod Shown
 pub mod Universal
+pub mod Frontiers
 pub mod AllOrders
 pub mod Canonical
 pub mod Equivalent
-pub mod Frontiers
 pub mod Texts
 pub mod Moves
 pub mod Runs

@@ -1,4 +1,4 @@
--- What the plan of a tree is at each of its cases.
+-- What the outline of a tree is at each of its cases.
 use Rattle.std.proofs.Common.{◌≡◌, ◌∙◌, ◌+◌, ◌<◌, ℕ, ◌⊎◌, inl, inr, ◌≤◌, List, [], ◌∷◌, ◌++◌, map, refl, sym, ap, take, length, get_or, suc, add-one}
 use Rattle.std.proofs.lemmas.List.{map-append, map_more, append_assoc, append-nil, take_all}
 use Rattle.std.specs.declared.vec.Vec.{Vec}

@@ -1,7 +1,9 @@
 -- Canonical trees.
-use Rattle.std.specs.Prelude.{ℕ, ◌≤◌, min}
+use Rattle.std.specs.Prelude.{ℕ, ◌<◌, min}
 use Rattle.std.specs.Coded.{×_prop, Unit-prop, le_prop}
+use mathlib.Core.HLevel.{Π_prop}
 use Rattle.pq_tree.specs.Outline.{Outline, Forest, leaf, p_node, q_node, no_tree, tree_and}
+use Rattle.pq_tree.specs.Proper.{IsTree}
 
 -- the lower of two numbers; the first alone where no tree is left
 abbrev pub lower : ℕ → Forest → ℕ → ℕ
@@ -20,29 +22,29 @@ abbrev mutual
   least_of no_tree = 0
   least_of (tree_and t ts) = lower (least t) ts (least_of ts)
 
--- m is at most the least column of each tree
-abbrev pub AtMostLeast : ℕ → Forest → Type 0
-AtMostLeast m no_tree = Unit {0}
-AtMostLeast m (tree_and t ts) = (m ≤ least t) × AtMostLeast m ts
+-- m is below the least column of each tree
+abbrev pub IsBelowEach : ℕ → Forest → Type 0
+IsBelowEach m no_tree = Unit {0}
+IsBelowEach m (tree_and t ts) = (m < least t) × IsBelowEach m ts
 
 -- the trees stand in rising order of their least columns
 abbrev pub AreRising : Forest → Type 0
 AreRising no_tree = Unit {0}
-AreRising (tree_and t ts) = AtMostLeast (least t) ts × AreRising ts
+AreRising (tree_and t ts) = IsBelowEach (least t) ts × AreRising ts
 
--- m is at most the least column of the last tree
-abbrev pub LastAtLeast : ℕ → Forest → Type 0
-LastAtLeast m no_tree = Unit {0}
-LastAtLeast m (tree_and t no_tree) = m ≤ least t
-LastAtLeast m (tree_and t (tree_and u us)) = LastAtLeast m (tree_and u us)
+-- m is below the least column of the last tree
+abbrev pub IsBelowLast : ℕ → Forest → Type 0
+IsBelowLast m no_tree = Unit {0}
+IsBelowLast m (tree_and t no_tree) = m < least t
+IsBelowLast m (tree_and t (tree_and u us)) = IsBelowLast m (tree_and u us)
 
--- the least column of the first tree is not above that of the last tree
+-- the least column of the first tree is below that of the last
 abbrev pub EndsRise : Forest → Type 0
 EndsRise no_tree = Unit {0}
-EndsRise (tree_and t ts) = LastAtLeast (least t) ts
+EndsRise (tree_and t ts) = IsBelowLast (least t) ts
 
 -- The children of each P-node stand in rising order of their least columns, and the least column of each Q-node's first
--- child is not above that of its last. (In a proper tree no two children have the same least column.)
+-- child is below that of its last child.
 abbrev mutual
   pub IsCanonical : Outline → Type 0
   IsCanonical (leaf a) = Unit {0}
@@ -54,22 +56,26 @@ abbrev mutual
   AreCanonical no_tree = Unit {0}
   AreCanonical (tree_and t ts) = IsCanonical t × AreCanonical ts
 
-pub AtMostLeast-prop : (m : ℕ) (ts : Forest) → IsProp (AtMostLeast m ts)
-AtMostLeast-prop m no_tree = Unit-prop
-AtMostLeast-prop m (tree_and t ts) = ×_prop le_prop (AtMostLeast-prop m ts)
+-- canonical, unless a node has too few children or a column stands twice
+abbrev pub CanonicalIfTree : Outline → Type 0
+CanonicalIfTree t = IsTree t → IsCanonical t
 
-pub AreRising-prop : (ts : Forest) → IsProp (AreRising ts)
+IsBelowEach-prop : (m : ℕ) (ts : Forest) → IsProp (IsBelowEach m ts)
+IsBelowEach-prop m no_tree = Unit-prop
+IsBelowEach-prop m (tree_and t ts) = ×_prop le_prop (IsBelowEach-prop m ts)
+
+AreRising-prop : (ts : Forest) → IsProp (AreRising ts)
 AreRising-prop no_tree = Unit-prop
-AreRising-prop (tree_and t ts) = ×_prop (AtMostLeast-prop (least t) ts) (AreRising-prop ts)
+AreRising-prop (tree_and t ts) = ×_prop (IsBelowEach-prop (least t) ts) (AreRising-prop ts)
 
-pub LastAtLeast-prop : (m : ℕ) (ts : Forest) → IsProp (LastAtLeast m ts)
-LastAtLeast-prop m no_tree = Unit-prop
-LastAtLeast-prop m (tree_and t no_tree) = le_prop
-LastAtLeast-prop m (tree_and t (tree_and u us)) = LastAtLeast-prop m (tree_and u us)
+IsBelowLast-prop : (m : ℕ) (ts : Forest) → IsProp (IsBelowLast m ts)
+IsBelowLast-prop m no_tree = Unit-prop
+IsBelowLast-prop m (tree_and t no_tree) = le_prop
+IsBelowLast-prop m (tree_and t (tree_and u us)) = IsBelowLast-prop m (tree_and u us)
 
-pub EndsRise-prop : (ts : Forest) → IsProp (EndsRise ts)
+EndsRise-prop : (ts : Forest) → IsProp (EndsRise ts)
 EndsRise-prop no_tree = Unit-prop
-EndsRise-prop (tree_and t ts) = LastAtLeast-prop (least t) ts
+EndsRise-prop (tree_and t ts) = IsBelowLast-prop (least t) ts
 
 mutual
   pub IsCanonical-prop : (t : Outline) → IsProp (IsCanonical t)
@@ -80,3 +86,6 @@ mutual
   pub AreCanonical-prop : (ts : Forest) → IsProp (AreCanonical ts)
   AreCanonical-prop no_tree = Unit-prop
   AreCanonical-prop (tree_and t ts) = ×_prop (IsCanonical-prop t) (AreCanonical-prop ts)
+
+pub CanonicalIfTree-prop : (t : Outline) → IsProp (CanonicalIfTree t)
+CanonicalIfTree-prop t = Π_prop (λ _. IsCanonical-prop t)

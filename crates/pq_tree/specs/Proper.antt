@@ -1,11 +1,11 @@
 -- Proper PQ-trees (Booth and Lueker, 1976) over the columns 1 to c.
-use Rattle.std.specs.Prelude.{ℕ, ◌≤◌, List, [], ◌∷◌, map, ◌+◌, ◌++◌, cond, leb}
+use Rattle.std.specs.Prelude.{ℕ, ◌≤◌, List, [], ◌∷◌, map, ◌+◌, ◌++◌, nat_le, if◌then◌else◌}
 use Rattle.std.proofs.Common.{zero, suc}
 use Rattle.std.specs.Coded.{×_prop, Unit-prop, le_prop}
 use mathlib.Core.HLevel.{Π_prop}
 use native.Mathlib.Nat.{ℕ_set}
-use Rattle.column_order.specs.Orders.{IsOrder}
-use Rattle.pq_tree.specs.Outline.{Outline, Forest, leaf, p_node, q_node, no_tree, tree_and, leaves}
+use Rattle.column_order.specs.Orders.{occurs, IsOrder}
+use Rattle.pq_tree.specs.Outline.{Outline, Forest, leaf, p_node, q_node, no_tree, tree_and, leaves, leaves_of}
 use Rattle.pq_tree.specs.declared.Tree.{Tree, Leaf, P', Q', Row_of-Tree, end_of-Tree, more_of-Tree}
 
 -- the outline of a tree of the program
@@ -45,6 +45,14 @@ abbrev mutual
   HaveArities no_tree = Unit {0}
   HaveArities (tree_and t ts) = HasArities t × HaveArities ts
 
+-- A tree in which each P-node has two or more children, each Q-node three or more, and no column stands at two leaves.
+abbrev pub IsTree : Outline → Type 0
+IsTree t = HasArities t × ((a : ℕ) → occurs (leaves t) a ≤ 1)
+
+-- such trees, of which no two share a column
+abbrev pub AreTrees : Forest → Type 0
+AreTrees ts = HaveArities ts × ((a : ℕ) → occurs (leaves_of ts) a ≤ 1)
+
 -- A proper tree over 1 to c: each P-node has two or more children, each Q-node three or more, and each of 1 to c, and no
 -- other column, stands at exactly one leaf.
 abbrev pub IsProper : ℕ → Outline → Type 0
@@ -70,4 +78,4 @@ columns (suc n) = columns n ++ suc n ∷ []
 
 -- the universal tree: the leaf 1 for one column, else a P-node over all columns
 abbrev pub universal : ℕ → Outline
-universal c = cond (leb c 1) (leaf 1) (p_node (forest (map leaf (columns c))))
+universal c = (if nat_le c 1 then leaf 1 else p_node (forest (map leaf (columns c))))

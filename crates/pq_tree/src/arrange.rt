@@ -2,7 +2,7 @@
 
 ghost use Rattle.std.specs.Prelude.{◌≡◌, ◌⊎◌, map, reverse, IfOk, IsPermutation};
 ghost use Rattle.pq_tree.specs.Outline.{leaf, p_node, q_node};
-ghost use Rattle.pq_tree.specs.Proper.{outline_of, forest};
+ghost use Rattle.pq_tree.specs.Proper.{outline_of, forest, AreTrees};
 ghost use Rattle.pq_tree.specs.Equivalent.{IsEquivalent, AreEquivalent};
 ghost use Rattle.pq_tree.specs.Canonical.{AreRising, EndsRise, least_of};
 ghost use Rattle.pq_tree.specs.Arranged.{outline_in};
@@ -46,7 +46,7 @@ fn arranged_trees(alloc: Global, trees: &[Tree]) -> Result<Vec<Arranged>, NoMemo
 /// Puts the trees in rising order of their least columns.
 fn sort_by_least(trees: &mut Vec<Arranged>)
     ensures moved { IsPermutation trees.old.items trees.new.items }
-    ensures rising { AreRising (forest (map outline_in trees.new.items)) }
+    ensures rising { let ts = forest (map outline_in trees.new.items) in AreTrees ts → AreRising ts }
 {
     trees.sort_unstable_by_key(|tree| tree.least_column);
 }
@@ -54,7 +54,7 @@ fn sort_by_least(trees: &mut Vec<Arranged>)
 /// Reverses the trees where the least column of the last is below that of the first.
 fn turn_up(trees: &mut Vec<Arranged>)
     ensures turned { (trees.new.items ≡ trees.old.items) ⊎ (trees.new.items ≡ reverse trees.old.items) }
-    ensures rise { EndsRise (forest (map outline_in trees.new.items)) }
+    ensures rise { let ts = forest (map outline_in trees.new.items) in AreTrees ts → EndsRise ts }
 {
     let count = trees.len();
     if count > 1 && trees[count - 1].least_column < trees[0].least_column {
@@ -74,7 +74,7 @@ fn arranged_leaf(column: u32) -> Arranged
 
 /// The P-node over trees that stand in rising order.
 fn arranged_p(alloc: Global, children: Vec<Arranged>) -> Result<Arranged, NoMemory>
-    requires { AreRising (forest (map outline_in children.items)) }
+    requires { let ts = forest (map outline_in children.items) in AreTrees ts → AreRising ts }
     ensures { IfOk result (λ a. outline_in a ≡ p_node (forest (map outline_in children.items))) }
 {
     let least_column = least_of_all(&children);
@@ -84,7 +84,7 @@ fn arranged_p(alloc: Global, children: Vec<Arranged>) -> Result<Arranged, NoMemo
 
 /// The Q-node over trees of which the first and the last rise.
 fn arranged_q(alloc: Global, children: Vec<Arranged>) -> Result<Arranged, NoMemory>
-    requires { EndsRise (forest (map outline_in children.items)) }
+    requires { let ts = forest (map outline_in children.items) in AreTrees ts → EndsRise ts }
     ensures { IfOk result (λ a. outline_in a ≡ q_node (forest (map outline_in children.items))) }
 {
     let least_column = least_of_all(&children);

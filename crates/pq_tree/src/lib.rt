@@ -21,6 +21,9 @@ mod write;
 pub use std::alloc::AllocError as NoMemory;
 use std::alloc::Global;
 
+/// Bytes of text for each column: up to five digits, a space, and the two brackets of a node, of which a proper tree has fewer than columns.
+const ROOM_PER_COLUMN: usize = 8;
+
 /// A leaf with its column, or a node over its children from left to right.
 ///
 /// Any value of the type may be built; `PqTree` has the proper ones.
@@ -35,6 +38,7 @@ pub enum Tree {
 }
 
 /// What stands at the top of a tree.
+#[derive(Clone, Copy)]
 pub enum View<'a> {
     /// The column of a leaf.
     Leaf(u32),
@@ -45,7 +49,7 @@ pub enum View<'a> {
 }
 
 impl Tree {
-    ghost use Rattle.pq_tree.specs.View.{Shows};
+    ghost use Rattle.pq_tree.specs.View.{Shows, shown_outline};
 
     /// The leaf of a column. In a proper tree the column is 1 or more.
     pub fn leaf(column: u32) -> Tree
@@ -70,7 +74,8 @@ impl Tree {
 
     /// The case of the tree, with its column or its children.
     pub fn view(&self) -> View<'_>
-        ensures { Shows result self.now }
+        ensures cases { Shows result self.now }
+        ensures outline { outline_of self.now ≡ shown_outline result }
     {
         match self {
             Tree::Leaf(column) => View::Leaf(*column),
@@ -139,9 +144,11 @@ impl PqTree {
         })
     }
 
-    /// The columns from left to right as the tree stands.
+    /// The columns from left to right as the tree stands: one of the tree's frontiers, and so an order of its columns.
     pub fn frontier(&self, alloc: Global) -> Result<Vec<u32>, NoMemory>
-        ensures { IfOk result (λ f. f.items ≡ leaves (outline self.now)) }
+        ensures leaves { IfOk result (λ f. f.items ≡ leaves (outline self.now)) }
+        ensures frontier { IfOk result (λ f. IsFrontier (outline self.now) f.items) }
+        ensures order { IfOk result (λ f. IsOrder (column_count self.now) f.items) }
     {
         let mut columns = Vec::with_capacity(alloc, self.columns as usize)?;
         write::push_leaves(&self.tree, &mut columns)?;
@@ -171,6 +178,7 @@ impl PqTree {
         ensures ok { OnOk result (text.new.items ≡ text.old.items ++ tree_text (outline self.now)) }
         ensures err { OnErr result (Extends text.old.items text.new.items) }
     {
+        text.reserve(self.columns as usize * ROOM_PER_COLUMN)?;
         write::push_tree(&self.tree, text)
     }
 
@@ -189,3 +197,6 @@ impl PqTree {
         }
     }
 }
+
+#[cfg(test)]
+mod tests;
