@@ -44,5 +44,5 @@ head_printed old a b d e new word kind columns w f g h k l =
     let first = codes "pq-verdict 1\nkind " in
     let rest = flat_map number_word columns ++ 10 ∷ [] in
     joined old d e new (first ++ (kind_word kind ++ codes "\ncolumns")) (flat_map number_word columns) (10 ∷ [])
-        (joined old a b d first (kind_word kind) (codes "\ncolumns") f (g ∙ ap (λ t. a ++ t) w) h) k l
+    (joined old a b d first (kind_word kind) (codes "\ncolumns") f (g ∙ ap (λ t. a ++ t) w) h) k l
     ∙ ap (λ t. old ++ t) (append_assoc first (kind_word kind ++ codes "\ncolumns") rest ∙ ap (λ t. first ++ t) (append_assoc (kind_word kind) (codes "\ncolumns") rest) ∙ head_pieces kind columns)

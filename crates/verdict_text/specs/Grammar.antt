@@ -12,7 +12,7 @@ use Rattle.row_model.specs.declared.lists.Place.{Place}
 use Rattle.row_model.specs.declared.lists.Place.TheVariants.{Nowhere, At}
 use Rattle.row_model.specs.declared.lists.Span.{Span}
 use Rattle.pq_tree.specs.Proper.{IsProper}
-use Rattle.verdict_text.specs.Verdict.{SideValue, YesValue, Claim, yes_claim, no_claim, VerdictValue}
+use Rattle.verdict_text.specs.Verdict.{SideValue, AddedValue, Claim, yes_claim, no_claim, VerdictValue}
 
 -- a count, a column, a row or a position: a number of 32 bits
 abbrev pub Fits32 : ℕ → Type 0
@@ -30,6 +30,10 @@ side_count kind = 1
 -- a number of columns
 abbrev pub IsColumnCount : ℕ → Type 0
 IsColumnCount c = (1 ≤ c) × (c ≤ MAX_COLUMNS)
+
+-- numbers of columns
+abbrev pub AreColumnCounts : List ℕ → Type 0
+AreColumnCounts columns = AllByRecursion IsColumnCount columns
 
 -- a tree over 1 to c, and one number or more
 abbrev pub IsSide : ℕ → SideValue → Type 0
@@ -53,10 +57,10 @@ abbrev pub IsSpan : Span → Type 0
 IsSpan span = Fits32 span.first × Fits32 span.last
 
 -- what a kind adds: an interval for each column, or places and contigs, or nothing
-abbrev pub HasAdded : Kind → List ℕ → YesValue → Type 0
-HasAdded Proper columns value = (length value.intervals ∷ [] ≡ columns) × AllByRecursion IsInterval value.intervals × (value.places ≡ []) × (value.contigs ≡ [])
-HasAdded Clones columns value = (value.intervals ≡ []) × Fits32 (length value.places) × AllByRecursion IsPlace value.places × Fits32 (length value.contigs) × AllByRecursion IsSpan value.contigs
-HasAdded kind columns value = (value.intervals ≡ []) × (value.places ≡ []) × (value.contigs ≡ [])
+abbrev pub HasAdded : Kind → List ℕ → AddedValue → Type 0
+HasAdded Proper columns added = (length added.intervals ∷ [] ≡ columns) × AllByRecursion IsInterval added.intervals × (added.places ≡ []) × (added.contigs ≡ [])
+HasAdded Clones columns added = (added.intervals ≡ []) × Fits32 (length added.places) × AllByRecursion IsPlace added.places × Fits32 (length added.contigs) × AllByRecursion IsSpan added.contigs
+HasAdded kind columns added = (added.intervals ≡ []) × (added.places ≡ []) × (added.contigs ≡ [])
 
 abbrev pub IsReason : Why → Type 0
 IsReason Flip = Unit {0}
@@ -68,11 +72,11 @@ IsLine line = Fits32 line.pair.a × Fits32 line.pair.b × IsReason line.why
 
 -- a yes with the sides of the columns and what the kind adds, or a no with one of the kind's sides
 abbrev pub IsClaim : Kind → List ℕ → Claim → Type 0
-IsClaim kind columns (yes_claim value) = AreSides columns value.sides × HasAdded kind columns value
+IsClaim kind columns (yes_claim value) = AreSides columns value.sides × HasAdded kind columns value.added
 IsClaim kind columns (no_claim side lines) = (1 ≤ side) × (side ≤ side_count kind) × Fits32 (length lines) × AllByRecursion IsLine lines
 
 -- a verdict that the grammar has
 pub record IsVerdict (v : VerdictValue) : Type 0 where
   pub sides : length v.columns ≡ side_count v.kind
-  pub columns : AllByRecursion IsColumnCount v.columns
+  pub columns : AreColumnCounts v.columns
   pub claim : IsClaim v.kind v.columns v.claim

@@ -3,3 +3,5 @@ pub mod Numbered
 pub mod Text
 pub mod Grammar
 pub mod Value
+pub mod Reading
+pub mod Seen

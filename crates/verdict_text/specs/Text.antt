@@ -12,7 +12,7 @@ use Rattle.row_model.specs.declared.lists.Place.TheVariants.{Nowhere, At}
 use Rattle.row_model.specs.declared.lists.Span.{Span}
 use Rattle.pq_tree.specs.Text.{tree_text}
 use Rattle.verdict_text.specs.Numbered.{numbered}
-use Rattle.verdict_text.specs.Verdict.{SideValue, YesValue, Claim, yes_claim, no_claim, VerdictValue}
+use Rattle.verdict_text.specs.Verdict.{SideValue, AddedValue, Claim, yes_claim, no_claim, VerdictValue}
 
 -- the word of a kind
 abbrev pub kind_word : Kind → List ℕ
@@ -72,10 +72,10 @@ abbrev pub contigs_text : List Span → List ℕ
 contigs_text contigs = codes "contigs " ++ (decimal (length contigs) ++ (10 ∷ flat_map contig_line contigs))
 
 -- what a kind adds to a yes
-abbrev pub added_text : Kind → YesValue → List ℕ
-added_text Proper value = numbered interval_line 1 value.intervals
-added_text Clones value = places_text value.places ++ contigs_text value.contigs
-added_text kind value = []
+abbrev pub added_text : Kind → AddedValue → List ℕ
+added_text Proper added = numbered interval_line 1 added.intervals
+added_text Clones added = places_text added.places ++ contigs_text added.contigs
+added_text kind added = []
 
 -- the reason for which the pair of a line is joined to the next
 abbrev pub why_text : Why → List ℕ
@@ -92,7 +92,7 @@ cycle_text side lines = codes "side " ++ (decimal side ++ (codes "\ncycle " ++ (
 
 -- `answer yes` or `answer no`, and what follows
 abbrev pub claim_text : Kind → Claim → List ℕ
-claim_text kind (yes_claim value) = codes "answer yes\n" ++ (flat_map side_text value.sides ++ added_text kind value)
+claim_text kind (yes_claim value) = codes "answer yes\n" ++ (flat_map side_text value.sides ++ added_text kind value.added)
 claim_text kind (no_claim side lines) = codes "answer no\n" ++ cycle_text side lines
 
 -- the first three lines

@@ -1,5 +1,5 @@
 -- What a verdict says.
-use Rattle.std.specs.Prelude.{ℕ, List}
+use Rattle.std.specs.Prelude.{ℕ, List, []}
 use Rattle.row_model.specs.declared.kind.Kind.{Kind}
 use Rattle.row_model.specs.declared.graph.Line.{Line}
 use Rattle.row_model.specs.declared.lists.Interval.{Interval}
@@ -12,12 +12,20 @@ pub record SideValue : Type 0 where
   pub tree : Outline
   pub order : List ℕ
 
--- a yes: its sides, and the intervals, places and contigs that some kinds add
-pub record YesValue : Type 0 where
-  pub sides : List SideValue
+-- what some kinds add to a yes
+pub record AddedValue : Type 0 where
   pub intervals : List Interval
   pub places : List Place
   pub contigs : List Span
+
+-- a yes: its sides, and what its kind adds
+pub record YesValue : Type 0 where
+  pub sides : List SideValue
+  pub added : AddedValue
+
+-- nothing is added
+abbrev pub no_added : AddedValue
+no_added = record { intervals = []; places = []; contigs = [] }
 
 -- an answer of yes, or of no with the lines of a cycle of one side
 pub data Claim : Type 0 where

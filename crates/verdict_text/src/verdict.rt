@@ -84,9 +84,9 @@ impl YesPart {
         contigs: Spans,
     ) -> YesPart
         ensures sides { (yes_value result).sides ≡ record { tree = outline tree; order = order.items } ∷ [] }
-        ensures intervals { (yes_value result).intervals ≡ intervals }
-        ensures places { (yes_value result).places ≡ places }
-        ensures contigs { (yes_value result).contigs ≡ contigs }
+        ensures intervals { (yes_value result).added.intervals ≡ intervals }
+        ensures places { (yes_value result).added.places ≡ places }
+        ensures contigs { (yes_value result).added.contigs ≡ contigs }
     {
         let added = Added {
             intervals,
@@ -99,16 +99,11 @@ impl YesPart {
     }
 
     /// A yes with two sides, whose kind adds nothing.
-    pub fn two(
-        tree1: PqTree,
-        order1: Vec<u32>,
-        tree2: PqTree,
-        order2: Vec<u32>,
-    ) -> YesPart
+    pub fn two(tree1: PqTree, order1: Vec<u32>, tree2: PqTree, order2: Vec<u32>) -> YesPart
         ensures sides { (yes_value result).sides ≡ record { tree = outline tree1; order = order1.items } ∷ record { tree = outline tree2; order = order2.items } ∷ [] }
-        ensures intervals { (yes_value result).intervals ≡ [] }
-        ensures places { (yes_value result).places ≡ [] }
-        ensures contigs { (yes_value result).contigs ≡ [] }
+        ensures intervals { (yes_value result).added.intervals ≡ [] }
+        ensures places { (yes_value result).added.places ≡ [] }
+        ensures contigs { (yes_value result).added.contigs ≡ [] }
     {
         let first = Side {
             tree: tree1,
@@ -155,19 +150,13 @@ impl YesPart {
     {
         match &self.sides {
             Sides::One(only, _) => only,
-            Sides::Two(first, second) => {
-                if side == 1 {
-                    first
-                } else {
-                    second
-                }
-            }
+            Sides::Two(first, second) => { if side == 1 { first } else { second } }
         }
     }
 
     /// The interval of each vertex, for `Kind::Proper`.
     pub fn intervals(&self) -> &[Interval]
-        ensures { result.now ≡ (yes_value self.now).intervals }
+        ensures { result.now ≡ (yes_value self.now).added.intervals }
     {
         match &self.sides {
             Sides::One(_, added) => added.intervals.as_slice(),
@@ -177,7 +166,7 @@ impl YesPart {
 
     /// The place of each clone, for `Kind::Clones`.
     pub fn places(&self) -> &[Place]
-        ensures { result.now ≡ (yes_value self.now).places }
+        ensures { result.now ≡ (yes_value self.now).added.places }
     {
         match &self.sides {
             Sides::One(_, added) => added.places.as_slice(),
@@ -187,7 +176,7 @@ impl YesPart {
 
     /// The contigs, for `Kind::Clones`.
     pub fn contigs(&self) -> &[Span]
-        ensures { result.now ≡ (yes_value self.now).contigs }
+        ensures { result.now ≡ (yes_value self.now).added.contigs }
     {
         match &self.sides {
             Sides::One(_, added) => added.contigs.as_slice(),

@@ -139,7 +139,7 @@ fn push_side(side: &Side, text: &mut Vec<u8>) -> Result<(), NoMemory>
 
 // What the kind adds.
 fn push_added(kind: Kind, yes: &YesPart, text: &mut Vec<u8>) -> Result<(), NoMemory>
-    ensures ok { OnOk result (text.new.items ≡ text.old.items ++ added_text kind (yes_value yes.now)) }
+    ensures ok { OnOk result (text.new.items ≡ text.old.items ++ added_text kind (yes_value yes.now).added) }
     ensures err { OnErr result (Extends text.old.items text.new.items) }
 {
     match kind {

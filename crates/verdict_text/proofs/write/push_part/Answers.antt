@@ -1,4 +1,3 @@
-use Rattle.std.proofs.Common.{refl}
 use Rattle.std.proofs.lemmas.List.{append_assoc}
 use Rattle.verdict_text.proofs.write.push_part.Goals as goal
 

@@ -1,0 +1,65 @@
+-- Steps of a chain of readers: what they took, and what they take.
+use Rattle.std.proofs.Common.{◌≡◌, ◌∙◌, ◌^◌, ◌<◌, ◌≤◌, ℕ, zero, suc, true, false, List, ◌++◌, Option, Some, None, refl, sym, ap, arith, inl, inr, eqb, cond, eq-eqb}
+use Rattle.std.specs.Prelude.{option_and_then}
+use Rattle.std.specs.Fmt.{decimal}
+use Rattle.std.proofs.lemmas.Bool.{eqb-true}
+use Rattle.std.proofs.lemmas.Option.{none-some, same_Some, option_and_then_some}
+use Rattle.plain_text.specs.Numbers.{number_at, NoDigitFirst}
+use Rattle.plain_text.specs.Words.{word_at}
+use Rattle.plain_text.proofs.NumberLaws.{number_takes, number_again, chosen}
+use Rattle.plain_text.proofs.WordLaws.{word_takes, word_again}
+use Rattle.verdict_text.specs.Reading.{index_at, max_number, max_end}
+
+-- what was read: a value whose text stands at the front, and the bytes after it
+pub record Takes {A : Type 0} (text : A → List ℕ) (Good : A → Type 0) (bytes : List ℕ) (x : A) (rest : List ℕ) : Type 0 where
+  pub good : Good x
+  pub front : bytes ≡ text x ++ rest
+
+pub small : max_number < 2 ^ 64
+small = omega arith
+
+pub large : max_end < 2 ^ 64
+large = omega arith
+
+-- a number that was read, and the rest of the chain at it
+pub after_number : {B : Type 0} (f : (ℕ × List ℕ) → Option B) (limit : ℕ) (bytes : List ℕ) (y : B) → limit < 2 ^ 64 → option_and_then f (number_at limit bytes) ≡ Some y
+    → (n : ℕ) × (rest : List ℕ) × (n ≤ limit) × (bytes ≡ decimal n ++ rest) × (f (n, rest) ≡ Some y)
+after_number f limit bytes y s h =
+    option_and_then_some f (number_at limit bytes) y h (λ x e k.
+    let t = number_takes limit bytes x.0 x.1 s e in
+    (x.0, x.1, t.1, t.0, k))
+
+-- a word that was read
+pub after_word : {B : Type 0} (f : List ℕ → Option B) (word bytes : List ℕ) (y : B) → option_and_then f (word_at word bytes) ≡ Some y → (rest : List ℕ) × (bytes ≡ word ++ rest) × (f rest ≡ Some y)
+after_word f word bytes y h = option_and_then_some f (word_at word bytes) y h (λ x e k. (x, word_takes word bytes x e, k))
+
+-- a word and a given number that were read
+pub after_index : {B : Type 0} (f : List ℕ → Option B) (word : List ℕ) (i : ℕ) (bytes : List ℕ) (y : B) → option_and_then f (index_at word i bytes) ≡ Some y → (rest : List ℕ) × (bytes ≡ word ++ (decimal i ++ rest)) × (f rest ≡ Some y)
+unfolding index_at
+after_index f word i bytes y h =
+    option_and_then_some f (index_at word i bytes) y h (λ r e k.
+    let a = after_word _ word bytes r e in
+    let b = after_number _ max_number a.0 r small a.2 in
+    elim (chosen (eqb b.0 i) _ _ _ b.4) [
+      | inl z ↦ (r, a.1 ∙ ap (λ x. word ++ x) (b.3 ∙ ap (λ n. decimal n ++ b.1) (eqb-true b.0 i z.0) ∙ ap (λ x. decimal i ++ x) (same_Some b.1 r z.1)), k)
+      | inr z ↦ absurd (none-some _ z.1)
+    ])
+
+-- a number is read from its text
+pub at_number : {B : Type 0} (f : (ℕ × List ℕ) → Option B) (limit n : ℕ) (rest : List ℕ) → limit < 2 ^ 64 → n ≤ limit → NoDigitFirst rest → option_and_then f (number_at limit (decimal n ++ rest)) ≡ f (n, rest)
+at_number f limit n rest s l h = ap (option_and_then f) (number_again limit n rest s l h)
+
+-- a word is read
+pub at_word : {B : Type 0} (f : List ℕ → Option B) (word rest : List ℕ) → option_and_then f (word_at word (word ++ rest)) ≡ f rest
+at_word f word rest = ap (option_and_then f) (word_again word rest)
+
+-- a word and a given number are read
+pub at_index : {B : Type 0} (f : List ℕ → Option B) (word : List ℕ) (i : ℕ) (rest : List ℕ) → i ≤ max_number → NoDigitFirst rest → option_and_then f (index_at word i (word ++ (decimal i ++ rest))) ≡ f rest
+unfolding index_at
+at_index f word i rest l s =
+    let found : index_at word i (word ++ (decimal i ++ rest)) ≡ Some rest = at_word _ word (decimal i ++ rest) ∙ at_number _ max_number i rest small l s ∙ ap (λ b. cond b (Some rest) None) (eq-eqb i i refl) in
+    ap (option_and_then f) found
+
+pub some_number : (n : ℕ) → eqb n 0 ≡ false → 1 ≤ n
+some_number zero h = absurd cc
+some_number (suc n) h = omega arith

@@ -1,0 +1,114 @@
+-- The first three lines: the kind and the columns.
+use Rattle.std.proofs.Common.{◌≡◌, ◌∙◌, ◌+◌, ◌^◌, ◌<◌, ◌≤◌, ℕ, zero, suc, true, false, List, [], ◌∷◌, ◌++◌, length, Option, Some, None, refl, sym, ap, arith, inl, inr, subst, codes, eqb, cond}
+use Rattle.std.specs.Prelude.{option_and_then, flat_map}
+use Rattle.std.specs.Fmt.{decimal}
+use Rattle.std.proofs.lemmas.List.{append_assoc}
+use Rattle.std.proofs.lemmas.Bool.{ne_eqb}
+use Rattle.std.proofs.lemmas.Option.{none-some, some_pair_parts, option_and_then_some}
+use Rattle.plain_text.specs.Numbers.{NoDigitFirst}
+use Rattle.plain_text.specs.Words.{word_at}
+use Rattle.plain_text.proofs.NumberLaws.{chosen}
+use Rattle.row_model.specs.declared.TheConstants.{MAX_COLUMNS}
+use Rattle.row_model.specs.declared.kind.Kind.{Kind}
+use Rattle.verdict_text.specs.Text.{kind_word, number_word, head_text}
+use Rattle.verdict_text.specs.Grammar.{side_count, AreColumnCounts, IsColumnCount}
+use Rattle.verdict_text.specs.Numbered.{with_first}
+use Rattle.verdict_text.specs.Reading.{kind_at, kind_from, all_kinds, kind_columns_at, columns_at, column_count_at, head_at}
+use Rattle.verdict_text.proofs.PrintLaws.{head_pieces}
+use Rattle.verdict_text.proofs.KindLaws.{kind_takes, kind_again}
+use Rattle.verdict_text.proofs.Chains.{Takes, after_number, after_word, at_number, at_word, some_number}
+
+count_takes : (bytes : List ℕ) (c : ℕ) (rest : List ℕ) → column_count_at bytes ≡ Some (c, rest) → Takes number_word IsColumnCount bytes c rest
+unfolding column_count_at
+count_takes bytes c rest h =
+    let a = after_word _ (32 ∷ []) bytes (c, rest) h in
+    let b = after_number _ MAX_COLUMNS a.0 (c, rest) (omega arith) a.2 in
+    elim (chosen (eqb b.0 0) _ _ _ b.4) [
+      | inl z ↦ absurd (none-some _ z.1)
+      | inr z ↦
+          let p = some_pair_parts b.0 c b.1 rest z.1 in
+          record {
+            good = subst IsColumnCount p.0 (some_number b.0 z.0, b.2);
+            front = a.1 ∙ ap (λ y. 32 ∷ y) (b.3 ∙ ap (λ n. decimal n ++ b.1) p.0 ∙ ap (λ y. decimal c ++ y) p.1);
+          }
+    ]
+
+count_again : (c : ℕ) (rest : List ℕ) → IsColumnCount c → NoDigitFirst rest → column_count_at (number_word c ++ rest) ≡ Some (c, rest)
+unfolding column_count_at
+count_again c rest h s =
+    let z : eqb c 0 ≡ false = ne_eqb c 0 (λ e. omega (arith, h.0)) in
+    at_word _ (32 ∷ []) (decimal c ++ rest) ∙ at_number _ MAX_COLUMNS c rest (omega arith) h.1 s ∙ rw z refl
+
+record AreRead (n : ℕ) (bytes : List ℕ) (cs : List ℕ) (rest : List ℕ) : Type 0 where
+  each : AreColumnCounts cs
+  all : length cs ≡ n
+  front : bytes ≡ flat_map number_word cs ++ rest
+
+columns_take : (n : ℕ) (bytes : List ℕ) (cs : List ℕ) (rest : List ℕ) → columns_at n bytes ≡ Some (cs, rest) → AreRead n bytes cs rest
+unfolding columns_at
+columns_take zero bytes cs rest h =
+    let p = some_pair_parts [] cs bytes rest h in
+    subst (λ l. AreRead 0 bytes l rest) p.0 (record { each = tt; all = refl; front = p.1 })
+columns_take (suc n) bytes cs rest h =
+    option_and_then_some _ (column_count_at bytes) (cs, rest) h (λ x e k.
+    option_and_then_some (with_first x.0) (columns_at n x.1) (cs, rest) k (λ y f m.
+    let l = count_takes bytes x.0 x.1 e in
+    let r = columns_take n x.1 y.0 y.1 f in
+    let p = some_pair_parts (x.0 ∷ y.0) cs y.1 rest m in
+    subst (λ l. AreRead (suc n) bytes l rest) p.0 (record {
+      each = (l.good, r.each);
+      all = ap suc r.all;
+      front = l.front ∙ ap (λ z. number_word x.0 ++ z) (r.front ∙ ap (λ z. flat_map number_word y.0 ++ z) p.1) ∙ sym (append_assoc (number_word x.0) (flat_map number_word y.0) rest);
+    })))
+
+pub words_stop : (cs : List ℕ) (rest : List ℕ) → NoDigitFirst rest → NoDigitFirst (flat_map number_word cs ++ rest)
+words_stop [] rest s = s
+words_stop (c ∷ cs) rest s = refl
+
+columns_again : (cs : List ℕ) (rest : List ℕ) → AreColumnCounts cs → NoDigitFirst rest → columns_at (length cs) (flat_map number_word cs ++ rest) ≡ Some (cs, rest)
+unfolding columns_at
+columns_again [] rest h s = refl
+columns_again (c ∷ cs) rest h s =
+    ap (columns_at (suc (length cs))) (append_assoc (number_word c) (flat_map number_word cs) rest)
+    ∙ ap (option_and_then (λ x. option_and_then (with_first x.0) (columns_at (length cs) x.1))) (count_again c (flat_map number_word cs ++ rest) h.0 (words_stop cs rest s))
+    ∙ ap (option_and_then (with_first c)) (columns_again cs rest h.1 s)
+
+-- the first three lines and what follows them, piece by piece
+head_regroup : (kind : Kind) (cs rest : List ℕ) → head_text kind cs ++ rest ≡ codes "pq-verdict 1\nkind " ++ (kind_word kind ++ (codes "\ncolumns" ++ (flat_map number_word cs ++ (10 ∷ rest))))
+head_regroup kind cs rest =
+    ap (λ t. t ++ rest) (sym (head_pieces kind cs))
+    ∙ ap (λ t. codes "pq-verdict 1\nkind " ++ t) (append_assoc (kind_word kind) (codes "\ncolumns" ++ (flat_map number_word cs ++ 10 ∷ [])) rest ∙ ap (λ t. kind_word kind ++ (codes "\ncolumns" ++ t)) (append_assoc (flat_map number_word cs) (10 ∷ []) rest))
+
+pub record IsHead (bytes : List ℕ) (kind : Kind) (cs rest : List ℕ) : Type 0 where
+  pub columns : AreColumnCounts cs
+  pub sides : length cs ≡ side_count kind
+  pub front : bytes ≡ head_text kind cs ++ rest
+
+pub head_takes : (bytes : List ℕ) (kind : Kind) (cs rest : List ℕ) → head_at bytes ≡ Some ((kind, cs), rest) → IsHead bytes kind cs rest
+unfolding head_at kind_at kind_columns_at
+head_takes bytes kind cs rest h =
+    let a = after_word _ (codes "pq-verdict 1\nkind ") bytes ((kind, cs), rest) h in
+    option_and_then_some _ (kind_from all_kinds a.0) ((kind, cs), rest) a.2 (λ x e k.
+    let b = after_word _ (codes "\ncolumns") x.1 ((kind, cs), rest) k in
+    option_and_then_some _ (columns_at (side_count x.0) b.0) ((kind, cs), rest) b.2 (λ y f m.
+    let d = after_word _ (10 ∷ []) y.1 ((kind, cs), rest) m in
+    let r = columns_take (side_count x.0) b.0 y.0 y.1 f in
+    let p = some_pair_parts (x.0, y.0) (kind, cs) d.0 rest d.2 in
+    let made : IsHead bytes x.0 y.0 rest = record {
+      columns = r.each;
+      sides = r.all;
+      front = a.1 ∙ ap (λ z. codes "pq-verdict 1\nkind " ++ z) (kind_takes all_kinds a.0 x.0 x.1 e ∙ ap (λ z. kind_word x.0 ++ z) (b.1 ∙ ap (λ z. codes "\ncolumns" ++ z) (r.front ∙ ap (λ z. flat_map number_word y.0 ++ z) (d.1 ∙ ap (λ z. 10 ∷ z) p.1)))) ∙ sym (head_regroup x.0 y.0 rest);
+    } in
+    let P : (Kind × List ℕ) → Type 0 = λ q. IsHead bytes q.0 q.1 rest in
+    subst P p.0 made))
+
+pub head_again : (kind : Kind) (cs rest : List ℕ) → AreColumnCounts cs → length cs ≡ side_count kind → head_at (head_text kind cs ++ rest) ≡ Some ((kind, cs), rest)
+unfolding head_at kind_at kind_columns_at
+head_again kind cs rest h l =
+    let words : List ℕ = flat_map number_word cs ++ (10 ∷ rest) in
+    let columns : columns_at (side_count kind) words ≡ Some (cs, 10 ∷ rest) = ap (λ n. columns_at n words) (sym l) ∙ columns_again cs (10 ∷ rest) h refl in
+    ap head_at (head_regroup kind cs rest) ∙ at_word _ (codes "pq-verdict 1\nkind ") (kind_word kind ++ (codes "\ncolumns" ++ words))
+    ∙ ap (option_and_then _) (kind_again kind (codes "\ncolumns" ++ words))
+    ∙ at_word _ (codes "\ncolumns") words
+    ∙ ap (option_and_then _) columns
+    ∙ at_word _ (10 ∷ []) rest

@@ -1,0 +1,8 @@
+use Rattle.std.proofs.Common.{◌≡◌, ◌-◌, ◌+◌}
+use Rattle.verdict_text.specs.Numbered.{numbered_at}
+use Rattle.verdict_text.specs.Reading.{interval_at}
+use Rattle.verdict_text.proofs.LoopLaws.{before_items}
+use Rattle.verdict_text.proofs.read.yes.read_intervals.Given as goal
+
+abbrev pub invariant-lines : goal.invariant-lines
+invariant-lines l = before_items l.intervals (numbered_at interval_at (l.i + 1) (l.count - l.i) l.rest) ≡ numbered_at interval_at 1 l.count l.bytes

@@ -1,0 +1,233 @@
+-- A verdict read from the front of bytes. Each function gives what it reads and the bytes after it, and none where that does not stand there.
+use Rattle.std.specs.Prelude.{ℕ, zero, suc, ◌==◌, if◌then◌else◌, List, [], ◌∷◌, length, take, drop, codes, Option, Some, None, option_and_then}
+use Rattle.plain_text.specs.Numbers.{number_at}
+use Rattle.plain_text.specs.Words.{word_at}
+use Rattle.row_model.specs.declared.TheConstants.{MAX_COLUMNS}
+use Rattle.row_model.specs.declared.kind.Kind.{Kind}
+use Rattle.row_model.specs.declared.kind.Kind.TheVariants.{Matrix, Rows, Table, Circular, Convex, Doubly, Proper, Robinson, Clones}
+use Rattle.row_model.specs.declared.graph.Line.{Line}
+use Rattle.row_model.specs.declared.graph.Why.{Why}
+use Rattle.row_model.specs.declared.graph.Why.TheVariants.{Flip, Row}
+use Rattle.row_model.specs.declared.lists.Interval.{Interval}
+use Rattle.row_model.specs.declared.lists.Place.{Place}
+use Rattle.row_model.specs.declared.lists.Place.TheVariants.{Nowhere, At}
+use Rattle.row_model.specs.declared.lists.Span.{Span}
+use Rattle.pq_tree.specs.Outline.{Outline}
+use Rattle.pq_tree.specs.Reading.{tree_of}
+use Rattle.verdict_text.specs.Verdict.{SideValue, AddedValue, no_added, YesValue, Claim, yes_claim, no_claim, VerdictValue}
+use Rattle.verdict_text.specs.Text.{kind_word}
+use Rattle.verdict_text.specs.Grammar.{side_count}
+use Rattle.verdict_text.specs.Numbered.{numbered_at, with_first}
+
+infixl 10 ◌>>=◌
+abbrev pub ◌>>=◌ : {A B : Type 0} → Option A → (A → Option B) → Option B
+o >>= f = option_and_then f o
+
+-- the first that is there
+abbrev pub or_else : {A : Type 0} → Option A → Option A → Option A
+or_else None o = o
+or_else (Some x) o = Some x
+
+-- the greatest count, column, row or position
+abbrev pub max_number : ℕ
+max_number = 4294967295
+
+-- the greatest end of an interval
+abbrev pub max_end : ℕ
+max_end = 18446744073709551615
+
+abbrev pub all_kinds : List Kind
+all_kinds = Matrix ∷ Rows ∷ Table ∷ Circular ∷ Convex ∷ Doubly ∷ Proper ∷ Robinson ∷ Clones ∷ []
+
+abbrev pub with_kind : Kind → List ℕ → Option (Kind × List ℕ)
+with_kind kind rest = Some (kind, rest)
+
+-- the first of the kinds whose word stands at the front
+abbrev pub kind_from : List Kind → List ℕ → Option (Kind × List ℕ)
+kind_from [] bytes = None
+kind_from (kind ∷ kinds) bytes = or_else (option_and_then (with_kind kind) (word_at (kind_word kind) bytes)) (kind_from kinds bytes)
+
+-- the kind whose word stands at the front
+unfoldable pub kind_at : List ℕ → Option (Kind × List ℕ)
+kind_at bytes = kind_from all_kinds bytes
+
+-- a number of columns, after a space
+unfoldable pub column_count_at : List ℕ → Option (ℕ × List ℕ)
+column_count_at bytes = do
+  space ← word_at (32 ∷ []) bytes
+  c ← number_at MAX_COLUMNS space
+  if c.0 == 0 then None else Some c
+
+-- so many numbers of columns
+unfoldable pub columns_at : ℕ → List ℕ → Option (List ℕ × List ℕ)
+columns_at zero bytes = Some ([], bytes)
+columns_at (suc n) bytes = column_count_at bytes >>= λ c. columns_at n c.1 >>= with_first c.0
+
+-- the numbers of columns of a kind
+unfoldable pub kind_columns_at : Kind → List ℕ → Option (List ℕ × List ℕ)
+kind_columns_at kind bytes = columns_at (side_count kind) bytes
+
+-- the kind and the columns
+unfoldable pub head_at : List ℕ → Option ((Kind × List ℕ) × List ℕ)
+head_at bytes = do
+  first ← word_at (codes "pq-verdict 1\nkind ") bytes
+  kind ← kind_at first
+  next ← word_at (codes "\ncolumns") kind.1
+  columns ← kind_columns_at kind.0 next
+  rest ← word_at (10 ∷ []) columns.1
+  Some ((kind.0, columns.0), rest)
+
+-- how many bytes stand before the first line feed
+abbrev pub line_len : List ℕ → ℕ
+line_len [] = 0
+line_len (b ∷ bytes) = if b == 10 then 0 else suc (line_len bytes)
+
+abbrev pub with_bytes : List ℕ → Outline → Option (Outline × List ℕ)
+with_bytes rest tree = Some (tree, rest)
+
+-- the tree over 1 to c that stands before the first line feed
+unfoldable pub tree_at : ℕ → List ℕ → Option (Outline × List ℕ)
+tree_at c bytes = tree_of c (take (line_len bytes) bytes) >>= with_bytes (drop (line_len bytes) bytes)
+
+abbrev pub after_space : Option (List ℕ) → List ℕ → (List ℕ → Option (List ℕ × List ℕ)) → Option (List ℕ × List ℕ)
+after_space None bytes more = Some ([], bytes)
+after_space (Some space) bytes more = more space
+
+-- the numbers at the front, each after a space; at most so many
+unfoldable pub numbers_at : ℕ → List ℕ → Option (List ℕ × List ℕ)
+numbers_at zero bytes = Some ([], bytes)
+numbers_at (suc n) bytes = after_space (word_at (32 ∷ []) bytes) bytes (λ space. number_at max_number space >>= λ k. numbers_at n k.1 >>= with_first k.0)
+
+-- a side's tree and order
+unfoldable pub side_at : ℕ → List ℕ → Option (SideValue × List ℕ)
+side_at c bytes = do
+  first ← word_at (codes "tree ") bytes
+  tree ← tree_at c first
+  next ← word_at (codes "\norder") tree.1
+  order ← numbers_at (length next) next
+  rest ← word_at (10 ∷ []) order.1
+  if length order.0 == 0 then None else Some (record { tree = tree.0; order = order.0 }, rest)
+
+-- a word, and a given number
+unfoldable pub index_at : List ℕ → ℕ → List ℕ → Option (List ℕ)
+index_at word i bytes = do
+  first ← word_at word bytes
+  n ← number_at max_number first
+  if n.0 == i then Some n.1 else None
+
+unfoldable pub interval_at : ℕ → List ℕ → Option (Interval × List ℕ)
+interval_at i bytes = do
+  index ← index_at (codes "interval ") i bytes
+  space ← word_at (32 ∷ []) index
+  left ← number_at max_end space
+  space ← word_at (32 ∷ []) left.1
+  right ← number_at max_end space
+  rest ← word_at (10 ∷ []) right.1
+  Some (record { left = left.0; right = right.0 }, rest)
+
+-- the two ends of a span, and the end of the line
+unfoldable pub ends_at : List ℕ → Option (Span × List ℕ)
+ends_at bytes = do
+  space ← word_at (32 ∷ []) bytes
+  first ← number_at max_number space
+  space ← word_at (32 ∷ []) first.1
+  last ← number_at max_number space
+  rest ← word_at (10 ∷ []) last.1
+  Some (record { first = first.0; last = last.0 }, rest)
+
+abbrev pub as_nowhere : List ℕ → Option (Place × List ℕ)
+as_nowhere rest = Some (Nowhere, rest)
+
+abbrev pub as_place : (Span × List ℕ) → Option (Place × List ℕ)
+as_place ends = Some (At ends.0.first ends.0.last, ends.1)
+
+-- the rest of a place's line
+abbrev pub where_at : List ℕ → Option (Place × List ℕ)
+where_at bytes = or_else (word_at (codes " none\n") bytes >>= as_nowhere) (ends_at bytes >>= as_place)
+
+unfoldable pub place_at : ℕ → List ℕ → Option (Place × List ℕ)
+place_at i bytes = index_at (codes "place ") i bytes >>= where_at
+
+-- a contig, which has no number
+unfoldable pub contig_at : ℕ → List ℕ → Option (Span × List ℕ)
+contig_at i bytes = word_at (codes "contig") bytes >>= ends_at
+
+-- a word, a count, and so many lines
+unfoldable pub counted_at : {A : Type 0} → List ℕ → (ℕ → List ℕ → Option (A × List ℕ)) → List ℕ → Option (List A × List ℕ)
+counted_at word read bytes = do
+  first ← word_at word bytes
+  count ← number_at max_number first
+  next ← word_at (10 ∷ []) count.1
+  numbered_at read 1 count.0 next
+
+unfoldable pub placed_at : List ℕ → Option (AddedValue × List ℕ)
+placed_at bytes = do
+  places ← counted_at (codes "places ") place_at bytes
+  contigs ← counted_at (codes "contigs ") contig_at places.1
+  Some (record { intervals = []; places = places.0; contigs = contigs.0 }, contigs.1)
+
+-- what a kind with one side of c columns adds
+abbrev pub added_at : Kind → ℕ → List ℕ → Option (AddedValue × List ℕ)
+added_at Proper c bytes = numbered_at interval_at 1 c bytes >>= λ x. Some (record { intervals = x.0; places = []; contigs = [] }, x.1)
+added_at Clones c bytes = placed_at bytes
+added_at kind c bytes = Some (no_added, bytes)
+
+-- one side and what its kind adds, or two sides
+unfoldable pub yes_at : Kind → List ℕ → List ℕ → Option (YesValue × List ℕ)
+yes_at kind [] bytes = None
+yes_at kind (c ∷ []) bytes = do
+  side ← side_at c bytes
+  added ← added_at kind c side.1
+  Some (record { sides = side.0 ∷ []; added = added.0 }, added.1)
+yes_at kind (c ∷ d ∷ columns) bytes = do
+  first ← side_at c bytes
+  second ← side_at d first.1
+  Some (record { sides = first.0 ∷ second.0 ∷ []; added = no_added }, second.1)
+
+unfoldable pub row_at : List ℕ → Option (Why × List ℕ)
+row_at bytes = do
+  row ← word_at (codes " row ") bytes
+  k ← number_at max_number row
+  rest ← word_at (10 ∷ []) k.1
+  Some (Row k.0, rest)
+
+abbrev pub as_flip : List ℕ → Option (Why × List ℕ)
+as_flip rest = Some (Flip, rest)
+
+unfoldable pub why_at : List ℕ → Option (Why × List ℕ)
+why_at bytes = or_else (word_at (codes " flip\n") bytes >>= as_flip) (row_at bytes)
+
+-- a line of a cycle, which has no number
+unfoldable pub line_at : ℕ → List ℕ → Option (Line × List ℕ)
+line_at i bytes = do
+  a ← number_at max_number bytes
+  space ← word_at (32 ∷ []) a.1
+  b ← number_at max_number space
+  why ← why_at b.1
+  Some (record { pair = record { a = a.0; b = b.0 }; why = why.0 }, why.1)
+
+-- a side of so many, and a cycle
+unfoldable pub no_at : ℕ → List ℕ → Option (Claim × List ℕ)
+no_at sides bytes = do
+  first ← word_at (codes "side ") bytes
+  side ← number_at sides first
+  lines ← counted_at (codes "\ncycle ") line_at side.1
+  if side.0 == 0 then None else Some (no_claim side.0 lines.0, lines.1)
+
+abbrev pub as_yes : (YesValue × List ℕ) → Option (Claim × List ℕ)
+as_yes x = Some (yes_claim x.0, x.1)
+
+abbrev pub yes_or_no : Kind → List ℕ → Option (List ℕ) → List ℕ → Option (Claim × List ℕ)
+yes_or_no kind columns (Some rest) bytes = yes_at kind columns rest >>= as_yes
+yes_or_no kind columns None bytes = word_at (codes "answer no\n") bytes >>= no_at (side_count kind)
+
+unfoldable pub claim_at : Kind → List ℕ → List ℕ → Option (Claim × List ℕ)
+claim_at kind columns bytes = yes_or_no kind columns (word_at (codes "answer yes\n") bytes) bytes
+
+-- the verdict that all of the bytes are the text of
+unfoldable pub verdict_of : List ℕ → Option VerdictValue
+verdict_of bytes = do
+  head ← head_at bytes
+  claim ← claim_at head.0.0 head.0.1 head.1
+  rest ← word_at (codes "end\n") claim.1
+  if length rest == 0 then Some (record { kind = head.0.0; columns = head.0.1; claim = claim.0 }) else None

@@ -1,0 +1,56 @@
+-- What the readers of the program give.
+use Rattle.std.specs.Prelude.{◌≡◌, ℕ, List, Option, Some, None, Result, Ok, Err}
+use Rattle.std.specs.Borrow.{Bor}
+use Rattle.std.specs.declared.vec.Vec.{Vec}
+use Rattle.std.specs.declared.alloc.Global.{Global}
+use Rattle.row_model.specs.declared.kind.Kind.{Kind}
+use Rattle.pq_tree.specs.Outline.{Outline}
+use Rattle.pq_tree.specs.PqTree.{outline}
+use Rattle.pq_tree.specs.declared.PqTree.{PqTree}
+use Rattle.verdict_text.specs.Verdict.{SideValue, AddedValue, YesValue, Claim, no_claim}
+use Rattle.verdict_text.specs.Value.{column_counts, side_value, added_value, yes_value, claim_of}
+use Rattle.verdict_text.specs.declared.read.Stop.{Stop}
+use Rattle.verdict_text.specs.declared.read.Stop.TheVariants as stop
+use Rattle.verdict_text.specs.declared.verdict.Columns.{Columns}
+use Rattle.verdict_text.specs.declared.verdict.Side.{Side}
+use Rattle.verdict_text.specs.declared.verdict.Added.{Added}
+use Rattle.verdict_text.specs.declared.verdict.YesPart.{YesPart}
+use Rattle.verdict_text.specs.declared.verdict.NoPart.{NoPart}
+use Rattle.verdict_text.specs.declared.verdict.Part.{Part}
+
+-- a stop says that nothing is to be read, unless memory ran out
+abbrev pub Stops : {Y : Type 0} → Stop → Option Y → Type 0
+Stops stop.NoMemory read = Unit {0}
+Stops stop.Outside read = read ≡ None
+
+-- what a reader returned, as a view shows it, is what is to be read, unless memory ran out
+abbrev pub Gives : {X Y : Type 0} → (X → Y) → Result X Stop → Option Y → Type 0
+Gives view (Ok x) read = read ≡ Some (view x)
+Gives view (Err e) read = Stops e read
+
+abbrev pub head_seen : (Kind × Columns × Bor (List ℕ)) → ((Kind × List ℕ) × List ℕ)
+head_seen x = ((x.0, column_counts x.1), x.2.now)
+
+abbrev pub columns_seen : (Columns × Bor (List ℕ)) → (List ℕ × List ℕ)
+columns_seen x = (column_counts x.0, x.1.now)
+
+abbrev pub tree_seen : (PqTree × Bor (List ℕ)) → (Outline × List ℕ)
+tree_seen x = (outline x.0, x.1.now)
+
+abbrev pub numbers_seen : (Vec ℕ Global × Bor (List ℕ)) → (List ℕ × List ℕ)
+numbers_seen x = (x.0.items, x.1.now)
+
+abbrev pub side_seen : (Side × Bor (List ℕ)) → (SideValue × List ℕ)
+side_seen x = (side_value x.0, x.1.now)
+
+abbrev pub added_seen : (Added × Bor (List ℕ)) → (AddedValue × List ℕ)
+added_seen x = (added_value x.0, x.1.now)
+
+abbrev pub yes_seen : (YesPart × Bor (List ℕ)) → (YesValue × List ℕ)
+yes_seen x = (yes_value x.0, x.1.now)
+
+abbrev pub no_seen : (NoPart × Bor (List ℕ)) → (Claim × List ℕ)
+no_seen x = (no_claim x.0.side x.0.lines, x.1.now)
+
+abbrev pub part_seen : (Part × Bor (List ℕ)) → (Claim × List ℕ)
+part_seen x = (claim_of x.0, x.1.now)
