@@ -1,12 +1,16 @@
 -- Numbers of pairs, and lists that are indexed by their pairs.
-use Rattle.std.proofs.Common.{◌≡◌, ◌≢◌, ◌⊎◌, ◌∙◌, ℕ, ◌+◌, ◌-◌, ◌*◌, ◌<◌, ◌≤◌, List, [], ◌∷◌, ◌++◌, length, take, drop, set, get_or, slice_get, Some, AllPairs, refl, sym, ap, subst, inl, inr, arith, get_or-set_same, get_or-set_other}
-use Rattle.std.proofs.lemmas.Bool.{cases_eq, cases_lt}
+use Rattle.std.proofs.Common.{◌≡◌, ◌≢◌, ◌⊎◌, ◌∙◌, ℕ, ◌+◌, ◌-◌, ◌*◌, ◌<◌, ◌≤◌, Bool, true, false, suc, eqb, eqb-true, List, [], ◌∷◌, ◌++◌, length, map, take, drop, set, get_or, slice_get, Some, AllPairs, refl, sym, ap, subst, inl, inr, arith, get_or-set_same, get_or-set_other}
+use Rattle.std.proofs.lemmas.Bool.{cases_eq, cases_lt, ne_eqb, or_cases}
+use Rattle.std.proofs.lemmas.List.{get_or-map, length-map}
+use Rattle.std.proofs.lemmas.Map.Keys.{IsDistinct-from_apart}
+use Rattle.std.proofs.lemmas.Map.Steps.{length-le_from_distinct_below}
+use Rattle.std.specs.List.{list_any}
 use Rattle.std.proofs.lemmas.Nat.{same_from_place, mul-add-lt}
-use Rattle.std.proofs.lemmas.Option.{same_Some, slice_get_within, slice_get-get_or}
+use Rattle.std.proofs.lemmas.Option.{same_Some, slice_get_within, slice_get-get_or, get_or_from_slice_get}
 use Rattle.row_model.specs.declared.graph.Pair.{Pair}
 use Rattle.row_model.specs.Graph.{pair, IsPair}
 use Rattle.incompat_graph.specs.Numbers.{Numbering, number_of, place_of, Renumbers, IsIndexed}
-use Rattle.incompat_graph.proofs.Items.{item_pushed, item_last, item_append, item_taken, item_take, item-drop}
+use Rattle.incompat_graph.proofs.Items.{item_pushed, item_last, item_append, item_taken, item_take, item-drop, item_at}
 
 pub same_pair : (v w : Pair) → v.a ≡ w.a → v.b ≡ w.b → v ≡ w
 same_pair v w e f = ap (λ x. pair x v.b) e ∙ ap (λ y. pair w.a y) f
@@ -38,6 +42,18 @@ renumbered c entries written v number long p e =
       changed = rw e (get_or-set_same entries (place_of c v) number 0 within);
       others = λ w q n. rw e (get_or-set_other entries (place_of c v) (place_of c w) number 0 (λ f. n (place_of-inj c w v q p f)));
     }
+
+-- the place of an item's pair
+placed : {A : Type 0} (xs : List A) (place : A → ℕ) (i d : ℕ) (x : A) → slice_get xs i ≡ Some x → get_or (map place xs) i d ≡ place x
+placed xs place i d x e = get_or-map place xs i x d (slice_get_within xs i x e) ∙ ap place (get_or_from_slice_get xs i x x e)
+
+any_item : (q : ℕ) (xs : List ℕ) → list_any (eqb q) xs ≡ true → (i : ℕ) × (slice_get xs i ≡ Some q)
+any_item q [] e = absurd (cc)
+any_item q (x ∷ xs) e =
+    elim (or_cases (eqb q x) (list_any (eqb q) xs) e) [
+      | inl t ↦ (0, ap Some (sym (eqb-true q x t)))
+      | inr t ↦ (let r = any_item q xs t in (suc r.0, r.1))
+    ]
 
 module _ {A : Type 0} (pair_of : A → Pair) where
   -- the number of an item's pair tells where it stands
@@ -99,3 +115,22 @@ module _ {A : Type 0} (pair_of : A → Pair) where
       let e : slice_get xs (n + i) ≡ Some (get_or (drop n xs) i d) = sym (item-drop n xs i) ∙ slice_get-get_or (drop n xs) i d (omega arith) in
       let f : slice_get xs (n + j) ≡ Some (get_or (drop n xs) j d) = sym (item-drop n xs j) ∙ slice_get-get_or (drop n xs) j d m in
       omega (arith, indexed_same t xs (n + i) (n + j) (get_or (drop n xs) i d) (get_or (drop n xs) j d) h e f g)
+
+  -- so there are no more items than pairs
+  pub indexed_room : (t : Numbering) (xs : List A) → IsIndexed pair_of t xs → length xs ≤ t.columns * t.columns
+  indexed_room t xs h =
+      let place : A → ℕ = λ x. place_of t.columns (pair_of x) in
+      let places = map place xs in
+      let apart : (i j : ℕ) (d : ℕ) → i < j → j < length places → eqb (get_or places i d) (get_or places j d) ≡ false = λ i j d l m.
+        let m' : j < length xs = omega (arith, m, length-map xs place) in
+        let x = item_at xs i (omega arith) in
+        let y = item_at xs j m' in
+        let e : get_or places i d ≡ place x.0 = placed xs place i d x.0 x.1 in
+        let f : get_or places j d ≡ place y.0 = placed xs place j d y.0 y.1 in
+        ne_eqb (get_or places i d) (get_or places j d) (λ s. omega (arith, indexed_same t xs i j x.0 y.0 h x.1 y.1 (place_of-inj t.columns (pair_of x.0) (pair_of y.0) (h.pairs i x.0 x.1).0 (h.pairs j y.0 y.1).0 (sym e ∙ s ∙ f)))) in
+      let below : (q : ℕ) → list_any (eqb q) places ≡ true → q < t.columns * t.columns = λ q e.
+        let at = any_item q places e in
+        let x = item_at xs at.0 (omega (arith, slice_get_within places at.0 q at.1, length-map xs place)) in
+        let s : q ≡ place x.0 = same_Some q (place x.0) (sym at.1 ∙ slice_get-get_or places at.0 q (slice_get_within places at.0 q at.1) ∙ ap Some (placed xs place at.0 q x.0 x.1)) in
+        omega (arith, s, place_of-lt t.columns (pair_of x.0) (h.pairs at.0 x.0 x.1).0) in
+      omega (arith, length-le_from_distinct_below places (t.columns * t.columns) (IsDistinct-from_apart eqb places apart) below, length-map xs place)
