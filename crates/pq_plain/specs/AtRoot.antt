@@ -48,10 +48,6 @@ abbrev pub line_if : Option Halves → Forest
 line_if None = no_tree
 line_if (Some h) = line_of (halves_seen h)
 
-abbrev pub turned_line_if : Option Halves → Forest
-turned_line_if None = no_tree
-turned_line_if (Some h) = turned_line_of (halves_seen h)
-
 -- the trees and the partials at these places
 abbrev pub span_seen : List Outline → List Label → Places → Span
 span_seen ts ps s = record {

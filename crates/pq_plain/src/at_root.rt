@@ -8,7 +8,7 @@ ghost use Rattle.pq_plain.specs.Templates.{join, star, under, back};
 ghost use Rattle.pq_plain.specs.Labels.{empty_trees, full_trees, partials};
 ghost use Rattle.pq_plain.specs.Reduce.{span_of};
 ghost use Rattle.pq_plain.specs.Seen.{outlines, halves_seen, label_seen, labels_seen};
-ghost use Rattle.pq_plain.specs.AtRoot.{root_of, outcome_seen, p_outcome, q_outcome, p_made, q_made, PartialsAt, span_seen, line_of, turned_line_of, line_if, turned_line_if};
+ghost use Rattle.pq_plain.specs.AtRoot.{root_of, outcome_seen, p_outcome, q_outcome, p_made, q_made, PartialsAt, span_seen, line_of, turned_line_of, line_if};
 
 use crate::below::label_trees;
 use crate::children::{empty_children, full_children, partial_children, star_of};
@@ -294,7 +294,7 @@ fn template_q3(
     second: Option<Halves>,
     mut behind: Vec<Tree>,
 ) -> Result<Tree, NoMemory>
-    ensures { IfOk result (λ t. outline_of t ≡ q_node (join (join (join (join (outlines before.items) (line_if first)) (outlines full.items)) (turned_line_if second)) (outlines behind.items))) }
+    ensures { IfOk result (λ t. outline_of t ≡ q_node (join (join (join (join (outlines before.items) (line_if first)) (outlines full.items)) (back (line_if second))) (outlines behind.items))) }
 {
     let mut line = before;
     let mut left = in_line_if(alloc, first)?;

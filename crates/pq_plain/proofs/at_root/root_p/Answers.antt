@@ -1,0 +1,17 @@
+use Rattle.pq_plain.proofs.Counted.{IsCounted, counted}
+use Rattle.pq_plain.proofs.RootMade.{p_unchanged, p_no_full, p_lone, p_many, p_two, p_four, p_six}
+use Rattle.pq_plain.proofs.at_root.root_p.Goals as goal
+
+pub returns-in-0-eq0-default : goal.returns-in-0-eq0-default
+returns-in-0-eq0-default c =
+    let k = c.count_kinds-kinds.ensures in
+    let n : IsCounted c.args.children.now c.args.labels.items c.count_kinds-kinds.result.empty c.count_kinds-kinds.result.full c.count_kinds-kinds.result.partial =
+    counted _ _ _ _ _ _ c.requires c.deref.ensures.value k.empty k.full k.partial in
+    p_unchanged _ _ _ _ _ n c.in-0-eq0-default.is-0 c.in-0-eq0-default.is-1
+
+pub returns-in-0-default-eq0 : goal.returns-in-0-default-eq0
+returns-in-0-default-eq0 c =
+    let k = c.count_kinds-kinds.ensures in
+    let n : IsCounted c.args.children.now c.args.labels.items c.count_kinds-kinds.result.empty c.count_kinds-kinds.result.full c.count_kinds-kinds.result.partial =
+    counted _ _ _ _ _ _ c.requires c.deref.ensures.value k.empty k.full k.partial in
+    p_no_full _ _ _ _ _ n c.in-0-default-eq0.is-0 c.in-0-default-eq0.is-1.1 c.in-0-default-eq0.is-2
