@@ -1,6 +1,6 @@
 use Rattle.pq_plain.proofs.Labelled.{label_of_leaf, label_of_p, label_of_q}
 use Rattle.pq_plain.proofs.Reduced.{root_of_p, root_of_q}
-use Rattle.pq_plain.proofs.template_law.Goals as goal
+use Rattle.pq_plain.proofs.laws.template_law.Goals as goal
 
 pub returns : goal.returns
 returns c =
