@@ -6,7 +6,7 @@ use Rattle.column_order.proofs.Lists.{occurs-append}
 use Rattle.pq_tree.specs.Outline.{leaf, p_node, leaves_of}
 use Rattle.pq_tree.specs.Proper.{forest, columns, universal, count, HaveArities, IsProper}
 
-leaves_of_all : (xs : List ℕ) → leaves_of (forest (map leaf xs)) ≡ xs
+pub leaves_of_all : (xs : List ℕ) → leaves_of (forest (map leaf xs)) ≡ xs
 leaves_of_all [] = refl
 leaves_of_all (x ∷ xs) = ap (λ ys. x ∷ ys) (leaves_of_all xs)
 

@@ -1,5 +1,5 @@
 use Rattle.pq_tree.proofs.Shown.{push_step, push_all, outline_of-Leaf}
-use Rattle.pq_tree.proofs.Tree.+push_leaves.Goals as goal
+use Rattle.pq_tree.proofs.write.+push_leaves.Goals as goal
 
 pub loop-child-preserved : goal.loop-child-preserved
 loop-child-preserved t c =
