@@ -9,7 +9,7 @@ use Rattle.tied_law.proofs.Bound.{IsClosed, AreClosed, IsBound, AreBound, IsPair
 use Rattle.tied_law.proofs.Frontiers.{has_same}
 use Rattle.pq_plain.specs.Templates.{gather, under}
 use Rattle.pq_plain.proofs.Lines.{IsParted, closed_within, parted_closed, closed_left, closed_right, parted_bound, parted_bound_left, parted_bound_right, parted_occurs, has_parted_cases}
-use Rattle.pq_plain.proofs.Below.{AreEmpty, AreFull, closed_alike}
+use Rattle.pq_plain.proofs.BelowRoot.{AreEmpty, AreFull, closed_alike}
 
 -- A template at the root may turn t into u: they have the same columns, and for every equivalence R of pairs u is bound
 -- exactly where t is and the row is closed in it. So u is tied to one row more than t.

@@ -6,7 +6,7 @@ use Rattle.row_model.specs.Graph.{pair}
 use Rattle.pq_tree.specs.Outline.{Forest, leaves_of}
 use Rattle.tied_law.specs.Tied.{IsForward}
 use Rattle.tied_law.proofs.Bound.{IsClosed, IsInLine, IsPairEq}
-use Rattle.pq_plain.proofs.Below.{IsOutside, towards}
+use Rattle.pq_plain.proofs.BelowRoot.{IsOutside, towards}
 
 module _ (R : Pair → Pair → Type 0) (eq : IsPairEq R) where
   -- x is closed towards f and g, and has an empty column e and a full one h: h isn't between f and g

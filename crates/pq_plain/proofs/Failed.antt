@@ -13,7 +13,7 @@ use Rattle.tied_law.proofs.Frontiers.{has_same}
 use Rattle.pq_plain.specs.Templates.{join, back}
 use Rattle.pq_plain.specs.Labels.{Partial, Label, empty_trees, full_trees, partials, at_p, at_q, at_run, Run, run_of, all_full, one_more, label_of, labels_of, first_some}
 use Rattle.pq_plain.proofs.Lines.{has_join_left, has_join_right, parted_occurs, closed_right}
-use Rattle.pq_plain.proofs.Below.{IsOutside, Treated, outside_within}
+use Rattle.pq_plain.proofs.BelowRoot.{IsOutside, Treated, outside_within}
 use Rattle.pq_plain.proofs.QLines.{forward_back}
 use Rattle.pq_plain.proofs.Conflicts.{two_partial, both_ends}
 use Rattle.pq_plain.proofs.Labelled.{labels_right, labels_sorted}

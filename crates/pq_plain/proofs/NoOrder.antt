@@ -16,7 +16,7 @@ use Rattle.pq_plain.specs.Templates.{join}
 use Rattle.pq_plain.specs.Labels.{Partial, Label, empty_trees, full_trees, partials, labels_of}
 use Rattle.pq_plain.specs.Reduce.{holds, root_p, Tail, Span, all_empty, full_more, before_more, begins, tail_of, span_of, root_q, at_span, inner_or, put, behind_of, reduce, inner}
 use Rattle.pq_plain.proofs.Lines.{has_join_cases, IsParted, parted_occurs, has_parted_cases, closed_right}
-use Rattle.pq_plain.proofs.Below.{AreEmpty, AreFull}
+use Rattle.pq_plain.proofs.BelowRoot.{AreEmpty, AreFull}
 use Rattle.pq_plain.proofs.Conflicts.{three_partial, hole}
 use Rattle.pq_plain.proofs.Labelled.{labels_right, at_most, labels_sorted}
 use Rattle.pq_plain.proofs.Reduced.{all_held, span_is, inner_none}

@@ -12,7 +12,7 @@ use Rattle.tied_law.proofs.Frontiers.{has_same}
 use Rattle.pq_plain.specs.Templates.{join, star}
 use Rattle.pq_plain.proofs.Lines.{IsParted, join_assoc, leaves_of-join, leaves_of-star, has_join_cases, has_join_left, has_join_right, to_star, from_star, forward_cases, forward_left, forward_right, star_forward, bound_join, bound_left, bound_right, star_bound, star_closed, star_each, closed_within, parted_closed, closed_left, closed_right, parted_bound, parted_bound_left, parted_bound_right, parted_occurs, has_parted_cases}
 use Rattle.pq_plain.specs.Templates.{under}
-use Rattle.pq_plain.proofs.Below.{IsOutside, AreEmpty, AreFull, Treated, towards, first_closed, last_closed, middle_closed, end_closed, closed_alike, outside_within}
+use Rattle.pq_plain.proofs.BelowRoot.{IsOutside, AreEmpty, AreFull, Treated, towards, first_closed, last_closed, middle_closed, end_closed, closed_alike, outside_within}
 use Rattle.pq_plain.proofs.AtRoot.{Rooted, under_occurs, set_through, under_up, under_down}
 
 -- P with empty and full children and the partial u: [P*(E) e f P*(F)]

@@ -15,7 +15,7 @@ use Rattle.tied_law.proofs.Bridge.{tied_more}
 use Rattle.tied_law.proofs.Frontiers.{has_same}
 use Rattle.pq_plain.specs.Templates.{Partial, Label, join, back, l1, p1, p4, p5, p6, q1, q2, q3, IsRun, AreAllFull, AreAllEmpty, IsL1, IsP1, IsP2, IsP3, IsP4, IsP5, IsP6, IsQ1, IsQ2, IsQ3}
 use Rattle.pq_plain.proofs.Lines.{IsParted, parted_end, has_parted_cases, has_join_cases, has_join_left, has_join_right, forward_across}
-use Rattle.pq_plain.proofs.Below.{IsFull, AreEmpty, AreFull, Treated, p3_parted}
+use Rattle.pq_plain.proofs.BelowRoot.{IsFull, AreEmpty, AreFull, Treated, p3_parted}
 use Rattle.pq_plain.proofs.AtRoot.{Rooted, p2_parted}
 use Rattle.pq_plain.proofs.OnePartial.{p4_parted, p5_parted}
 use Rattle.pq_plain.proofs.TwoPartials.{p6_parted}

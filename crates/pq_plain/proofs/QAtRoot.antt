@@ -7,7 +7,7 @@ use Rattle.tied_law.proofs.Bound.{IsClosed, IsBound}
 use Rattle.tied_law.proofs.Frontiers.{has_same}
 use Rattle.pq_plain.specs.Templates.{join, back}
 use Rattle.pq_plain.proofs.Lines.{join_assoc, has_join_cases, has_join_left, has_join_right}
-use Rattle.pq_plain.proofs.Below.{AreEmpty, AreFull, Treated}
+use Rattle.pq_plain.proofs.BelowRoot.{AreEmpty, AreFull, Treated}
 use Rattle.pq_plain.proofs.AtRoot.{Rooted}
 use Rattle.pq_plain.proofs.QLines.{back_has}
 use Rattle.pq_plain.proofs.QSteps.{Refined, refined-refl, refined-trans, rooted_from, refined_right, refined_left, run_closed, back-join}

@@ -11,7 +11,7 @@ use Rattle.tied_law.proofs.Bound.{IsClosed, IsInLine, IsBound, AreBound, IsPairE
 use Rattle.tied_law.proofs.Frontiers.{has_same}
 use Rattle.pq_plain.specs.Templates.{join, back}
 use Rattle.pq_plain.proofs.Lines.{leaves_of-join, has_join_cases, has_join_left, has_join_right, forward_cases, forward_left, forward_right, forward_across, bound_join, bound_left, bound_right}
-use Rattle.pq_plain.proofs.Below.{IsOutside, Treated, outside_within}
+use Rattle.pq_plain.proofs.BelowRoot.{IsOutside, Treated, outside_within}
 use Rattle.pq_plain.proofs.AtRoot.{Rooted}
 use Rattle.pq_plain.proofs.Context.{the_bound}
 

@@ -11,7 +11,7 @@ use Rattle.tied_law.proofs.Bound.{IsClosed, IsBound, AreBound, IsPairEq}
 use Rattle.tied_law.proofs.Frontiers.{has_same}
 use Rattle.pq_plain.specs.Templates.{join, back}
 use Rattle.pq_plain.proofs.Lines.{join_assoc, has_join_cases, has_join_left, has_join_right, forward_across, bound_join, bound_left, bound_right}
-use Rattle.pq_plain.proofs.Below.{IsOutside, AreEmpty, AreFull, Treated, towards, middle_closed, outside_within}
+use Rattle.pq_plain.proofs.BelowRoot.{IsOutside, AreEmpty, AreFull, Treated, towards, middle_closed, outside_within}
 use Rattle.pq_plain.proofs.AtRoot.{Rooted}
 use Rattle.pq_plain.proofs.Context.{the_bound}
 use Rattle.pq_plain.proofs.QLines.{back_occurs, back_has, parts_occur, from_parts, parts_up, parts_down, turned_bound, unturned_bound}

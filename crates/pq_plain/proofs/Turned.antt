@@ -11,7 +11,7 @@ use Rattle.tied_law.proofs.Bound.{IsClosed, IsInLine, IsBound, AreBound}
 use Rattle.tied_law.proofs.Frontiers.{has_same}
 use Rattle.tied_law.proofs.Turn.{turned_forward, unturned_forward, turned_bound, unturned_bound, all_turned_bound, all_unturned_bound}
 use Rattle.pq_plain.specs.Templates.{join}
-use Rattle.pq_plain.proofs.Below.{Treated, outside_within}
+use Rattle.pq_plain.proofs.BelowRoot.{Treated, outside_within}
 use Rattle.pq_plain.proofs.AtRoot.{Rooted}
 
 forest-trees : (ts : Forest) → forest (trees ts) ≡ ts

@@ -11,7 +11,7 @@ use Rattle.tied_law.proofs.Bound.{IsClosed, AreClosed, IsBound, AreBound, IsPair
 use Rattle.tied_law.proofs.Frontiers.{has_same}
 use Rattle.pq_plain.specs.Templates.{join, star, back, under}
 use Rattle.pq_plain.proofs.Lines.{IsParted, leaves_of-join, leaves_of-star, has_join_cases, has_join_left, has_join_right, to_star, from_star, forward_cases, star_forward, bound_join, bound_left, bound_right, star_bound, star_closed, star_each, closed_within, parted_closed, closed_left, closed_right, parted_bound, parted_bound_left, parted_bound_right, parted_occurs, has_parted_cases}
-use Rattle.pq_plain.proofs.Below.{AreEmpty, AreFull, Treated, middle_closed, end_closed}
+use Rattle.pq_plain.proofs.BelowRoot.{AreEmpty, AreFull, Treated, middle_closed, end_closed}
 use Rattle.pq_plain.proofs.AtRoot.{Rooted, set_through, under_occurs, under_up, under_down}
 use Rattle.pq_plain.proofs.Context.{rooted_p}
 use Rattle.pq_plain.proofs.QSteps.{Refined}
