@@ -13,7 +13,7 @@ use Rattle.pq_tree.specs.Proper.{IsProper, universal}
 use Rattle.pq_tree.proofs.Universal.{columns_order}
 use Rattle.tied_law.specs.Tied.{IsTied}
 use Rattle.tied_law.proofs.Exact.{tied_law}
-use Rattle.tied_law.proofs.Frontiers.{leaves_frontier}
+use Rattle.pq_tree.proofs.Frontiers.{leaves_are_frontier}
 use Rattle.tied_law.proofs.Start.{universal_tied, universal_proper}
 use Rattle.pq_plain.specs.Reduce.{reduce}
 use Rattle.pq_plain.proofs.Steps.{taken, refused}
@@ -22,7 +22,7 @@ use Rattle.pq_plain.proofs.Steps.{taken, refused}
 from_here : (c : ℕ) (rows more : List (List ℕ)) (t : Outline) → IsProper c t → IsTied c rows t → AllByRecursion (IsWithin c) more →
     HasValidOrder c (rows ++ more) ⊎ HasConflict c (rows ++ more)
 from_here c rows [] t w k all =
-    inl (subst (HasValidOrder c) (sym (append-nil rows)) (leaves t, (tied_law c rows t w.1 k (leaves t)).0 (leaves_frontier t)))
+    inl (subst (HasValidOrder c) (sym (append-nil rows)) (leaves t, (tied_law c rows t w.1 k (leaves t)).0 (leaves_are_frontier t)))
 from_here c rows (row ∷ more) t w k all = at_row (λ u n. from_here c (rows ++ row ∷ []) more u n.0 n.1 all.1) (reduce row t) refl
   where
     more_is : (rows ++ row ∷ []) ++ more ≡ rows ++ (row ∷ more)

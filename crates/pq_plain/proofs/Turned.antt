@@ -5,7 +5,7 @@ use Rattle.column_order.specs.Orders.{has, occurs}
 use Rattle.pq_tree.specs.Outline.{Outline, Forest, leaf, p_node, q_node, no_tree, tree_and, leaves, leaves_of}
 use Rattle.pq_tree.specs.Proper.{forest, trees}
 use Rattle.pq_tree.specs.Equivalent.{IsEquivalent, AreEquivalent}
-use Rattle.pq_tree.proofs.Equivalent.{turned_occurs, all_turned_occur}
+use Rattle.pq_tree.proofs.Equivalent.{equivalent_occurs, equivalent_occur_all}
 use Rattle.tied_law.specs.Tied.{IsForward}
 use Rattle.tied_law.proofs.Bound.{IsClosed, IsInLine, IsBound, AreBound}
 use Rattle.tied_law.proofs.Frontiers.{has_same}
@@ -38,13 +38,13 @@ p_permuted us vs h = (us, vs, subst (AreEquivalent (forest us)) (trees-forest us
 
 module _ (row : List ℕ) where
   has_alike : (s t : Outline) → IsEquivalent s t → (a : ℕ) → has (leaves t) a ≡ has (leaves s) a
-  has_alike s t h a = has_same (leaves t) (leaves s) a (turned_occurs s t a h)
+  has_alike s t h a = has_same (leaves t) (leaves s) a (equivalent_occurs s t a h)
 
   -- the new tree turned
   pub rooted_turned : (t u v : Outline) → Rooted row t u → IsEquivalent u v → Rooted row t v
   rooted_turned t u v r h =
       record {
-        same = λ a. turned_occurs u v a h ∙ r.same a;
+        same = λ a. equivalent_occurs u v a h ∙ r.same a;
         up = λ R eq b. r.up R eq (unturned_bound R eq u v h b);
         down = λ R eq b c. turned_bound R eq u v h (r.down R eq b c);
       }
@@ -53,7 +53,7 @@ module _ (row : List ℕ) where
   pub turned_rooted : (s t u : Outline) → IsEquivalent s t → Rooted row t u → Rooted row s u
   turned_rooted s t u h r =
       record {
-        same = λ a. r.same a ∙ turned_occurs s t a h;
+        same = λ a. r.same a ∙ equivalent_occurs s t a h;
         up = λ R eq b.
             let k : IsBound R t × IsClosed R (leaves t) row = r.up R eq b in
             (unturned_bound R eq s t h k.0, λ a d e i j l n. k.1 a d e i j (has_alike s t h e ∙ l) n);
@@ -64,7 +64,7 @@ module _ (row : List ℕ) where
   pub turned_treated : (s t : Outline) (es fs : Forest) → IsEquivalent s t → Treated row t es fs → Treated row s es fs
   turned_treated s t es fs h r =
       record {
-        same = λ a. r.same a ∙ turned_occurs s t a h;
+        same = λ a. r.same a ∙ equivalent_occurs s t a h;
         empty = r.empty;
         full = r.full;
         some_empty = r.some_empty;
@@ -86,7 +86,7 @@ module _ (row : List ℕ) where
   join_equivalent (tree_and e es) fs (u ∷ us) vs h k = (h.0, join_equivalent es fs us vs h.1 k)
 
   list_has : (ts : Forest) (us : List Outline) → AreEquivalent ts us → (a : ℕ) → has (leaves_of (forest us)) a ≡ has (leaves_of ts) a
-  list_has ts us h a = has_same (leaves_of (forest us)) (leaves_of ts) a (all_turned_occur ts us a h)
+  list_has ts us h a = has_same (leaves_of (forest us)) (leaves_of ts) a (equivalent_occur_all ts us a h)
 
   -- the trees of the partial turned
   pub treated_turned : (t : Outline) (es fs : Forest) (us vs : List Outline) → Treated row t es fs → AreEquivalent es us → AreEquivalent fs vs → Treated row t (forest us) (forest vs)
@@ -94,7 +94,7 @@ module _ (row : List ℕ) where
       let both : AreEquivalent (join es fs) (us ++ vs) = join_equivalent es fs us vs h k in
       let j : forest (us ++ vs) ≡ join (forest us) (forest vs) = join-forest us vs in
       record {
-        same = λ a. ap (λ ws. occurs (leaves_of ws) a) (sym j) ∙ all_turned_occur (join es fs) (us ++ vs) a both ∙ r.same a;
+        same = λ a. ap (λ ws. occurs (leaves_of ws) a) (sym j) ∙ equivalent_occur_all (join es fs) (us ++ vs) a both ∙ r.same a;
         empty = λ a i. r.empty a (sym (list_has es us h a) ∙ i);
         full = λ a i. r.full a (sym (list_has fs vs k a) ∙ i);
         some_empty = (r.some_empty.0, list_has es us h r.some_empty.0 ∙ r.some_empty.1);

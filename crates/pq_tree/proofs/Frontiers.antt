@@ -11,7 +11,7 @@ use Rattle.pq_tree.specs.Outline.{Outline, Forest, leaf, p_node, q_node, no_tree
 use Rattle.pq_tree.specs.Proper.{forest}
 use Rattle.pq_tree.specs.Equivalent.{IsEquivalent, AreEquivalent}
 
-occurs-permutation : (fs gs : List (List ℕ)) (a : ℕ) → IsPermutation fs gs → occurs (concat gs) a ≡ occurs (concat fs) a
+pub occurs-permutation : (fs gs : List (List ℕ)) (a : ℕ) → IsPermutation fs gs → occurs (concat gs) a ≡ occurs (concat fs) a
 occurs-permutation fs gs a h = occurs-concat gs a ∙ sum_by-IsPermutation (λ f. occurs f a) fs gs h ∙ sym (occurs-concat fs a)
 
 -- a frontier has the columns of its tree, each as often

@@ -1,7 +1,7 @@
 -- From one list of rows to the next: what a reduction by one row has to show, for every equality of pairs.
 use Rattle.std.proofs.Common.{◌≡◌, ◌≢◌, ◌∙◌, ℕ, zero, suc, ◌+◌, ◌-◌, ◌<◌, ◌≤◌, true, ltb, leb, ◌&&◌, cond, eqb, eq-eqb, List, [], ◌∷◌, ◌++◌, length, get_or, IsTrue, All, refl, sym, ap, subst, inl, inr, arith, length-append}
 use Rattle.std.proofs.lemmas.Bool.{both_ways, lt-ltb, ltb-true, cases_eq, true_from_ne_false, cond-false, leb-true, and_parts}
-use Rattle.std.proofs.lemmas.List.{get_or_append_left, get_or_push}
+use Rattle.std.proofs.lemmas.List.{get_or_push}
 use Rattle.std.proofs.lemmas.List.Elements.{All-push}
 use Rattle.row_model.specs.declared.graph.Pair.{Pair}
 use Rattle.row_model.specs.declared.graph.Why.TheVariants.{Flip, Row}

@@ -1,6 +1,6 @@
 -- What being tied to rows says of the frontiers of a tree.
 use Rattle.std.specs.Prelude.{◌↔◌, ℕ, ◌≤◌, List, []}
-use Rattle.column_order.specs.Orders.{occurs, IsOrder, IsValidOrder}
+use Rattle.column_order.specs.Orders.{IsOrder, IsValidOrder}
 use Rattle.pq_tree.specs.Outline.{Outline, leaves, IsFrontier}
 use Rattle.pq_tree.specs.Proper.{universal, IsProper}
 use Rattle.pq_tree.specs.Equivalent.{IsEquivalent}
@@ -26,14 +26,9 @@ UniversalLaw =
     1 ≤ c →
     IsProper c (universal c) × IsTied c [] (universal c) × ((o : List ℕ) → IsFrontier (universal c) o ↔ IsOrder c o)
 
--- equivalent trees, in which no column stands twice, have the same frontiers
+-- equivalent trees have the same frontiers
 abbrev pub SameFrontiersLaw : Type 0
-SameFrontiersLaw =
-    (t u : Outline) →
-    ((a : ℕ) → occurs (leaves t) a ≤ 1) →
-    IsEquivalent t u →
-    (o : List ℕ) →
-    IsFrontier t o ↔ IsFrontier u o
+SameFrontiersLaw = (t u : Outline) → IsEquivalent t u → (o : List ℕ) → IsFrontier t o ↔ IsFrontier u o
 
 -- a tree that is equivalent to a tied one is proper and tied to the same rows
 abbrev pub EquivalentLaw : Type 0

@@ -1,4 +1,5 @@
-use Rattle.tied_law.proofs.Turn.{same_frontiers, turned_law}
+use Rattle.pq_tree.proofs.Frontiers.{same_frontiers}
+use Rattle.tied_law.proofs.Turn.{turned_law}
 use Rattle.tied_law.proofs.equivalent_law.Goals as goal
 
 pub returns : goal.returns
