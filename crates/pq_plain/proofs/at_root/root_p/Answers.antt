@@ -15,3 +15,31 @@ returns-in-0-default-eq0 c =
     let n : IsCounted c.args.children.now c.args.labels.items c.count_kinds-kinds.result.empty c.count_kinds-kinds.result.full c.count_kinds-kinds.result.partial =
     counted _ _ _ _ _ _ c.requires c.deref.ensures.value k.empty k.full k.partial in
     p_no_full _ _ _ _ _ n c.in-0-default-eq0.is-0 c.in-0-default-eq0.is-1.1 c.in-0-default-eq0.is-2
+
+pub returns-in_ok-tree-in-0-default-default : goal.returns-in_ok-tree-in-0-default-default
+returns-in_ok-tree-in-0-default-default c =
+    let k = c.count_kinds-kinds.ensures in
+    let n : IsCounted c.args.children.now c.args.labels.items c.count_kinds-kinds.result.empty c.count_kinds-kinds.result.full c.count_kinds-kinds.result.partial =
+    counted _ _ _ _ _ _ c.requires c.deref.ensures.value k.empty k.full k.partial in
+    p_two _ _ _ _ _ n _ c.in_ok-tree-in-0-default-default.ensures c.in-0-default-default.is-0 c.in-0-default-default.is-1.1 c.in-0-default-default.is-2.1
+
+pub returns-in-1-default-eq0 : goal.returns-in-1-default-eq0
+returns-in-1-default-eq0 c =
+    let k = c.count_kinds-kinds.ensures in
+    let n : IsCounted c.args.children.now c.args.labels.items c.count_kinds-kinds.result.empty c.count_kinds-kinds.result.full c.count_kinds-kinds.result.partial =
+    counted _ _ _ _ _ _ c.requires c.deref.ensures.value k.empty k.full k.partial in
+    p_lone _ _ _ _ _ n c.in-1-default-eq0.is-0 c.in-1-default-eq0.is-2
+
+pub returns-in_ok-tree-in-1-default-default : goal.returns-in_ok-tree-in-1-default-default
+returns-in_ok-tree-in-1-default-default c =
+    let k = c.count_kinds-kinds.ensures in
+    let n : IsCounted c.args.children.now c.args.labels.items c.count_kinds-kinds.result.empty c.count_kinds-kinds.result.full c.count_kinds-kinds.result.partial =
+    counted _ _ _ _ _ _ c.requires c.deref.ensures.value k.empty k.full k.partial in
+    p_four _ _ _ _ _ n _ c.in_ok-tree-in-1-default-default.ensures c.in-1-default-default.is-0 c.in-1-default-default.is-2.1
+
+pub returns-in_ok-tree-in-2-default-default : goal.returns-in_ok-tree-in-2-default-default
+returns-in_ok-tree-in-2-default-default c =
+    let k = c.count_kinds-kinds.ensures in
+    let n : IsCounted c.args.children.now c.args.labels.items c.count_kinds-kinds.result.empty c.count_kinds-kinds.result.full c.count_kinds-kinds.result.partial =
+    counted _ _ _ _ _ _ c.requires c.deref.ensures.value k.empty k.full k.partial in
+    p_six _ _ _ _ _ n _ c.in_ok-tree-in-2-default-default.ensures c.in-2-default-default.is-0

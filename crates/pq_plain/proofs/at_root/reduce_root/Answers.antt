@@ -1,0 +1,31 @@
+use Rattle.std.proofs.Common.{◌∙◌, sym, refl}
+use Rattle.std.proofs.lemmas.Result.{IfOk-weaker}
+use Rattle.pq_tree.proofs.Shown.{outline_of-Leaf}
+use Rattle.pq_plain.proofs.TreeLabels.{labels_length}
+use Rattle.pq_plain.proofs.RootLabels.{leaf_root, root_P_none, root_Q_none, root_P_some, root_Q_some}
+use Rattle.pq_plain.proofs.at_root.reduce_root.Goals as goal
+
+pub root_p-requires : goal.root_p-requires
+root_p-requires c =
+    labels_length _ _ _ _ _ (c.deref-in-Some.ensures.value ∙ sym c.deref.ensures.value) c.in-Some.is c.in_ok-label_trees-in-P.ensures
+
+pub root_q-requires : goal.root_q-requires
+root_q-requires c =
+    labels_length _ _ _ _ _ (c.deref-in-Some-2.ensures.value ∙ sym c.deref-in-Q.ensures.value) c.in-Some-2.is c.in_ok-label_trees-in-Q.ensures
+
+pub returns-in-Leaf : goal.returns-in-Leaf
+returns-in-Leaf c = leaf_root _ _ _ c.in-Leaf.is
+
+pub returns-in-None : goal.returns-in-None
+returns-in-None c = root_P_none _ _ _ _ _ c.in-P.is c.deref.ensures.value c.in-None.is c.in_ok-label_trees-in-P.ensures
+
+pub returns-in-Some : goal.returns-in-Some
+returns-in-Some c =
+    IfOk-weaker c.root_p.result _ _ (λ o k. root_P_some _ _ _ _ _ _ _ o c.in-P.is c.deref.ensures.value c.deref-in-Some.ensures.value c.in-Some.is c.in_ok-label_trees-in-P.ensures k) c.root_p.ensures
+
+pub returns-in-None-2 : goal.returns-in-None-2
+returns-in-None-2 c = root_Q_none _ _ _ _ _ c.in-Q.is c.deref-in-Q.ensures.value c.in-None-2.is c.in_ok-label_trees-in-Q.ensures
+
+pub returns-in-Some-2 : goal.returns-in-Some-2
+returns-in-Some-2 c =
+    IfOk-weaker c.root_q.result _ _ (λ o k. root_Q_some _ _ _ _ _ _ _ o c.in-Q.is c.deref-in-Q.ensures.value c.deref-in-Some-2.ensures.value c.in-Some-2.is c.in_ok-label_trees-in-Q.ensures k) c.root_q.ensures
