@@ -12,7 +12,7 @@ use Rattle.pq_plain.specs.AtRoot.{p_outcome, q_outcome, line_of, turned_line_of,
 use Rattle.pq_plain.specs.declared.label.Label.{Label as Marked}
 use Rattle.pq_plain.specs.declared.at_root.Span.{Span as Places}
 use Rattle.pq_plain.proofs.Lines.{join_assoc}
-use Rattle.pq_plain.proofs.QTemplates.{back-join}
+use Rattle.pq_plain.proofs.QSteps.{back-join}
 use Rattle.pq_plain.proofs.Outlines.{join_no_tree}
 use Rattle.pq_plain.proofs.Counted.{IsCounted, HasTree, count_none, count_some, no_partial}
 

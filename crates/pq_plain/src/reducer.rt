@@ -3,7 +3,8 @@ ghost use Rattle.std.specs.Prelude.{◌≡◌, ◌-◌, ◌≤◌, ℕ, List, le
 ghost use Rattle.column_order.specs.Orders.{IsValidOrder};
 ghost use Rattle.pq_tree.specs.Outline.{Outline};
 ghost use Rattle.pq_tree.specs.Proper.{outline_of, IsProper};
-ghost use Rattle.pq_tree.specs.Equivalent.{IsEquivalent, IsCanonical};
+ghost use Rattle.pq_tree.specs.Canonical.{IsCanonical};
+ghost use Rattle.pq_tree.specs.Equivalent.{IsEquivalent};
 ghost use Rattle.tied_law.specs.Tied.{IsTied};
 ghost use Rattle.row_model.specs.Graph.{HasConflict};
 
