@@ -2,6 +2,7 @@
 //! (McConnell, 2004).
 #![tactic(auto)]
 
+mod closing;
 mod cycle;
 mod forest;
 mod holders;

@@ -134,39 +134,6 @@ fn grow<L: Ledger>(
     Ok(None)
 }
 
-// Grows a tree from a pair, unless the pair is reached already.
-fn grow_from<L: Ledger>(
-    m: &Matrix,
-    holders: &[Vec<u32>],
-    marks: &mut Marks,
-    forest: &mut Forest,
-    pair: Pair,
-    steps: &mut Steps<L>,
-) -> Result<Option<Conflict>, AllocError>
-    requires search { IsSearch m.now marks.old forest.old }
-    requires holders { AreHolders m.now marks.old.rows (map (λ list. list.items) holders.now) }
-    requires taken { AreTaken m.now.rows marks.old forest.old.nodes.items (length forest.old.nodes.items) }
-    requires pair { IsPair m.now.columns pair }
-    ensures { IfOk result (λ found. MatchOption found
-        (IsSearch m.now marks.new forest.new × Grows marks.old marks.new forest.old.nodes.items forest.new.nodes.items
-            × AreTaken m.now.rows marks.new forest.new.nodes.items (length forest.new.nodes.items)
-            × ((odd : Bool) × IsReached forest.new.nodes.items pair odd))
-        (ShowsConflict m.now.columns (take marks.old.rows m.now.rows) forest.new)) }
-{
-    if forest.numbers.get(pair) > 0 {
-        return Ok(None);
-    }
-    let root = forest.nodes.len();
-    forest.root = root;
-    forest.add(Node {
-        pair,
-        parent: root,
-        why: Why::Flip,
-        odd: false,
-    })?;
-    grow(m, holders, marks, forest, steps)
-}
-
 // Grows trees until each pair with this first column is reached.
 fn grow_from_column<L: Ledger>(
     m: &Matrix,
@@ -187,11 +154,15 @@ fn grow_from_column<L: Ledger>(
         (ShowsConflict m.now.columns (take marks.old.rows m.now.rows) forest.new)) }
 {
     for b in 0..m.columns() {
-        if b + 1 == a {
+        let pair = Pair { a, b: b + 1 };
+        if pair.a == pair.b {
             continue;
         }
-        let pair = Pair { a, b: b + 1 };
-        if let Some(conflict) = grow_from(m, holders, marks, forest, pair, steps)? {
+        if forest.numbers.get(pair) > 0 {
+            continue;
+        }
+        forest.plant(pair)?;
+        if let Some(conflict) = grow(m, holders, marks, forest, steps)? {
             return Ok(Some(conflict));
         }
     }
