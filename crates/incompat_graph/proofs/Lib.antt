@@ -9,3 +9,4 @@ pub mod SearchLaws
 pub mod TakenLaws
 pub mod SettledLaws
 pub mod ClosingLaws
+pub mod EndLaws

@@ -14,5 +14,6 @@ mod walk;
 
 pub use cycle::{Cycle, simple_cycle};
 pub use reason::joined;
+pub use search::odd_walk;
 pub use std::alloc::AllocError as NoMemory;
 pub use walk::Walk;

@@ -1,17 +1,49 @@
 // The search for a closed walk of odd length.
-ghost use Rattle.std.specs.Prelude.{◌≡◌, ◌<◌, ◌≤◌, ℕ, Bool, true, not, Some, length, map, take, slice_get, IsTrue, IfOk, MatchOption};
-ghost use Rattle.row_model.specs.Graph.{row_at, turned, IsPair};
+ghost use Rattle.std.specs.Prelude.{◌≡◌, ◌<◌, ◌≤◌, ℕ, true, not, Some, length, map, take, slice_get, IsTrue, IfOk, MatchOption};
+ghost use Rattle.row_model.specs.Graph.{row_at, turned, HasOddWalk};
+ghost use Rattle.row_model.specs.Cycles.{IsOddWalk};
 ghost use Rattle.column_order.specs.Orders.{has};
 ghost use Rattle.incompat_graph.specs.declared.forest.Node.{Node};
 ghost use Rattle.incompat_graph.specs.Marks.{is_marked};
 ghost use Rattle.incompat_graph.specs.Search.{IsReached, IsSearch, Grows, ShowsConflict, IsTaken, AreTaken, AreReachedFrom};
 ghost use Rattle.incompat_graph.specs.Holders.{AreHolders};
 
+use crate::closing::closed_walk;
 use crate::forest::{Conflict, Forest, Node};
+use crate::holders::rows_by_column;
 use crate::marks::Marks;
+use crate::walk::Walk;
 use row_model::{Matrix, Pair, Why};
-use std::alloc::AllocError;
+use std::alloc::{AllocError, Global};
 use step_count::{Ledger, Steps};
+
+/// A closed walk of odd length in the incompatibility graph of the first rows, or `None` where there is none.
+///
+/// The pairs are taken in the order in which they are reached, and each is given one of two sides, the other than the pair
+/// from which it was reached. Two joined pairs on one side close an odd walk through the search tree; if there are none, the
+/// graph is bipartite. Each row is looked at once for each column that it lacks.
+pub fn odd_walk<L: Ledger>(
+    alloc: Global,
+    m: &Matrix,
+    rows: u32,
+    steps: &mut Steps<L>,
+) -> Result<Option<Walk>, AllocError>
+    requires { rows ≤ length m.now.rows }
+    ensures { IfOk result (λ found. MatchOption found
+        (¬ HasOddWalk m.now.columns (take rows m.now.rows))
+        (IsOddWalk m.now.columns (take rows m.now.rows))) }
+{
+    let holders = rows_by_column(alloc, m, rows, steps)?;
+    let mut marks = Marks::new(alloc, rows, m.columns())?;
+    let mut forest = Forest::new(alloc, m.columns())?;
+    for k in 0..m.columns() {
+        let found = grow_from_column(m, &holders, &mut marks, &mut forest, k + 1, steps)?;
+        if let Some(conflict) = found {
+            return Ok(Some(closed_walk(alloc, &forest, conflict)?));
+        }
+    }
+    Ok(None)
+}
 
 // Looks from a pair (a,b) at a row that has a. If the row lacks b, each pair (b,d) of b with a column d of the row is
 // joined to (a,b). The pairs (b,d) are the same for every a, so each row is looked at once for each b.
