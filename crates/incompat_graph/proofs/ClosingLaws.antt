@@ -65,11 +65,12 @@ part_down_more forest to at lines node parent tree x l e f =
       within = (tree.parents at node e l).0;
       parity = parity_step (length lines) (length (lines ++ line ∷ [])) x.node.odd x.here.odd parent.odd (length-append lines (line ∷ [])) x.parity (ap (λ (n : Node). n.odd) same ∙ step);
       leads = λ c rows j.
-        let was = x.leads c rows j in
-        let first : first_pair (reverse lines) x.node.pair ≡ node.pair = was.1 ∙ ap (λ (n : Node). n.pair) same in
-        let up = joined_by_sym c rows node.pair parent.pair node.why (j at node parent e l f) in
-        (subst (λ ls. LeadTo c rows ls x.node.pair) (sym back) (subst (λ v. JoinedBy c rows parent.pair v node.why) (sym first) up, was.0),
-         ap (λ ls. first_pair ls x.node.pair) back);
+          let was = x.leads c rows j in
+          let first : first_pair (reverse lines) x.node.pair ≡ node.pair = was.1 ∙ ap (λ (n : Node). n.pair) same in
+          let up = joined_by_sym c rows node.pair parent.pair node.why (j at node parent e l f) in (
+            subst (λ ls. LeadTo c rows ls x.node.pair) (sym back) (subst (λ v. JoinedBy c rows parent.pair v node.why) (sym first) up, was.0),
+            ap (λ ls. first_pair ls x.node.pair) back,
+          );
     }
 
 pub part_down_all : (forest : Forest) (to at : ℕ) (lines back : List Line) → IsPartDown forest to at lines → at ≤ forest.root → back ≡ reverse lines → IsWayDown forest to back
@@ -117,21 +118,24 @@ part_up_more forest from at old new next node parent tree x l e f s =
       within = (tree.parents at node e l).0;
       parity = parity_step (length x.way) (length (x.way ++ line ∷ [])) x.node.odd x.here.odd parent.odd (length-append x.way (line ∷ [])) x.parity (ap (λ (n : Node). n.odd) same ∙ step);
       leads = λ c rows j.
-        let was = subst (λ (n : Node). LeadTo c rows x.way n.pair × (first_pair x.way n.pair ≡ x.node.pair)) same (x.leads c rows j) in
-        (lead_push c rows x.way line parent.pair was.0 (j at node parent e l f), first_pushed x.way line parent.pair ∙ was.1);
+          let was = subst (λ (n : Node). LeadTo c rows x.way n.pair × (first_pair x.way n.pair ≡ x.node.pair)) same (x.leads c rows j) in
+          (lead_push c rows x.way line parent.pair was.0 (j at node parent e l f), first_pushed x.way line parent.pair ∙ was.1);
     }
 
 pub part_up_all : (forest : Forest) (from at : ℕ) (old new : List Line) → IsPartUp forest from at old new → at ≤ forest.root → (way : List Line) × (new ≡ old ++ way) × IsWayUp forest from way
 part_up_all forest from at old new x l =
-    let root : at ≡ forest.root = omega (arith, x.within) in
-    (x.way, x.appended, record {
-      root = x.here;
-      node = x.node;
-      root_there = ap (slice_get forest.nodes.items) (sym root) ∙ x.here_there;
-      node_there = x.node_there;
-      parity = x.parity;
-      leads = x.leads;
-    })
+    let root : at ≡ forest.root = omega (arith, x.within) in (
+      x.way,
+      x.appended,
+      record {
+        root = x.here;
+        node = x.node;
+        root_there = ap (slice_get forest.nodes.items) (sym root) ∙ x.here_there;
+        node_there = x.node_there;
+        parity = x.parity;
+        leads = x.leads;
+      },
+    )
 
 module _ (forest : Forest) (conflict : Conflict) (down up lines : List Line) (line : Line) (d : IsWayDown forest conflict.from down) (u : IsWayUp forest conflict.to up) (e : lines ≡ (down ++ line ∷ []) ++ up) where
   -- down, over and up are odd together

@@ -88,8 +88,8 @@ searched_all m rows marks forest done x l h =
     let settled = settled_from_taken m marks forest x.search x.taken in
     let reached : (v : Pair) → IsPair m.columns v → (odd : Bool) × IsReached forest.nodes.items v odd = λ v p. x.reached v.a p.a_from (omega (arith, p.a_to)) v.b p.b_to p in
     let sides : (v w : Pair) → Joined m.columns graph v w → side_of forest w ≡ not (side_of forest v) = λ v w j.
-      let r = reached v j.1.from in
-      side_of-reached m.columns graph forest w (not r.0) x.search.is_forest (settled v w r.0 r.1 j) ∙ sym (ap not (side_of-reached m.columns graph forest v r.0 x.search.is_forest r.1)) in
+    let r = reached v j.1.from in
+    side_of-reached m.columns graph forest w (not r.0) x.search.is_forest (settled v w r.0 r.1 j) ∙ sym (ap not (side_of-reached m.columns graph forest v r.0 x.search.is_forest r.1)) in
     let odd = subst (λ n. HasOddWalk m.columns (take n m.rows)) (sym x.count) h in
     never_its_not (side_of forest odd.start) (oddly-side (Joined m.columns graph) (side_of forest) sides odd.start odd.start odd.walk)
 

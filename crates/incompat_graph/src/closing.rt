@@ -11,11 +11,7 @@ use row_model::Line;
 use std::alloc::{AllocError, Global};
 
 /// The walk from the root of the last tree down to the one node of the conflict, over to the other, and up to the root.
-pub fn closed_walk(
-    alloc: Global,
-    forest: &Forest,
-    conflict: Conflict,
-) -> Result<Walk, AllocError>
+pub fn closed_walk(alloc: Global, forest: &Forest, conflict: Conflict) -> Result<Walk, AllocError>
     requires tree { IsTree forest.now.root forest.now.nodes.items }
     requires ends { AreEnds forest.now conflict }
     ensures { (c : ℕ) (rows : List (List ℕ)) → ShowsConflict c rows forest.now conflict → IfOk result (IsOddWalk c rows) }

@@ -17,3 +17,6 @@ pub use reason::joined;
 pub use search::odd_walk;
 pub use std::alloc::AllocError as NoMemory;
 pub use walk::Walk;
+
+#[cfg(test)]
+mod tests;

@@ -62,7 +62,7 @@ fn look<L: Ledger>(
         → IsTrue (has (row_at m.now.rows row) node.pair.a) × IsReached forest.old.nodes.items (turned node.pair) (not node.odd) }
     ensures { IfOk result (λ found. MatchOption found
         (IsSearch m.now marks.new forest.new × Grows marks.old marks.new forest.old.nodes.items forest.new.nodes.items × (forest.new.root ≡ forest.old.root)
-            × ((node : Node) → slice_get forest.old.nodes.items from ≡ Some node → is_marked marks.new row node.pair.b ≡ true))
+        × ((node : Node) → slice_get forest.old.nodes.items from ≡ Some node → is_marked marks.new row node.pair.b ≡ true))
         (ShowsConflict m.now.columns (take marks.old.rows m.now.rows) forest.new)) }
 {
     let node = forest.nodes[from];
@@ -112,7 +112,7 @@ fn expand<L: Ledger>(
     requires from { (forest.old.root ≤ from) × (from < length forest.old.nodes.items) }
     ensures { IfOk result (λ found. MatchOption found
         (IsSearch m.now marks.new forest.new × Grows marks.old marks.new forest.old.nodes.items forest.new.nodes.items × (forest.new.root ≡ forest.old.root)
-            × ((node : Node) → slice_get forest.old.nodes.items from ≡ Some node → IsTaken m.now.rows marks.new forest.new.nodes.items node))
+        × ((node : Node) → slice_get forest.old.nodes.items from ≡ Some node → IsTaken m.now.rows marks.new forest.new.nodes.items node))
         (ShowsConflict m.now.columns (take marks.old.rows m.now.rows) forest.new)) }
 {
     let node = forest.nodes[from];
@@ -153,7 +153,7 @@ fn grow<L: Ledger>(
     requires taken { AreTaken m.now.rows marks.old forest.old.nodes.items forest.old.root }
     ensures { IfOk result (λ found. MatchOption found
         (IsSearch m.now marks.new forest.new × Grows marks.old marks.new forest.old.nodes.items forest.new.nodes.items
-            × AreTaken m.now.rows marks.new forest.new.nodes.items (length forest.new.nodes.items))
+        × AreTaken m.now.rows marks.new forest.new.nodes.items (length forest.new.nodes.items))
         (ShowsConflict m.now.columns (take marks.old.rows m.now.rows) forest.new)) }
 {
     let mut head = forest.root;
@@ -181,8 +181,8 @@ fn grow_from_column<L: Ledger>(
     requires column { (1 ≤ a) × (a ≤ m.now.columns) }
     ensures { IfOk result (λ found. MatchOption found
         (IsSearch m.now marks.new forest.new × Grows marks.old marks.new forest.old.nodes.items forest.new.nodes.items
-            × AreTaken m.now.rows marks.new forest.new.nodes.items (length forest.new.nodes.items)
-            × AreReachedFrom m.now.columns forest.new.nodes.items a m.now.columns)
+        × AreTaken m.now.rows marks.new forest.new.nodes.items (length forest.new.nodes.items)
+        × AreReachedFrom m.now.columns forest.new.nodes.items a m.now.columns)
         (ShowsConflict m.now.columns (take marks.old.rows m.now.rows) forest.new)) }
 {
     for b in 0..m.columns() {

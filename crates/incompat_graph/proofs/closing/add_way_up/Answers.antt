@@ -37,4 +37,3 @@ loop-at-preserved c =
     let parent = item_at nodes node.parent (omega (arith, above.1, lt)) in
     let pushed : c.push.new.self.items ≡ c.loop-at.lines.items ++ record { pair = node.pair; why = node.why } ∷ [] = grind (arith, common_steps) in
     part_up_more c.args.forest.now c.args.from c.loop-at.at c.args.lines.now.items c.loop-at.lines.items c.push.new.self.items node parent.0 c.requires.tree c.loop-at.invariant c.loop-at-test.true there parent.1 pushed
-

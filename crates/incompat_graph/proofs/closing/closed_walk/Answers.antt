@@ -30,4 +30,3 @@ returns c =
     let same : c.index.result.now ≡ down.node = same_Some c.index.result.now down.node (sym there ∙ down.node_there) in
     let is : line ≡ record { pair = down.node.pair; why = c.args.conflict.why } = ap (λ (n : Node). record { pair = n.pair; why = c.args.conflict.why }) same in
     λ k rows s. rw c.from_lines.ensures (closing_walk c.args.forest.now c.args.conflict c.in_ok-lines.lines.items up.0 c.add_way_up.new.lines.items line down up.2 all k rows s is odd)
-

@@ -51,4 +51,3 @@ loop-at-preserved c =
 pub returns : goal.returns
 returns c =
     part_down_all c.args.forest.now c.args.to c.loop-at.at c.loop-at.lines.items c.reverse.new.self.items c.loop-at.invariant c.loop-at-test.false c.reverse.ensures.items
-
