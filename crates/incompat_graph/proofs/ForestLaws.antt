@@ -90,11 +90,11 @@ module _ (c : ℕ) (rows : List (List ℕ)) (f g : Forest) (from : ℕ) (parent 
         | inr t ↦ (let k : n.parent ≡ from = ap (λ (x : Node). x.parent) (sym t.1) ∙ child in (omega (arith, k), omega (arith, k, t.0)))
       ] in
       let above : (i : ℕ) (n p : Node) → slice_get old i ≡ Some n → f.root < i → slice_get (old ++ node ∷ []) n.parent ≡ Some p → slice_get old n.parent ≡ Some p = λ i n p t l q.
-        let lt = (h.tree.parents i n t l).1 in
-        elim (item_pushed old node n.parent p q) [ inl u ↦ u | inr u ↦ absurd (omega (arith, u.0, slice_get_within old i n t)) ] in
+      let lt = (h.tree.parents i n t l).1 in
+      elim (item_pushed old node n.parent p q) [ inl u ↦ u | inr u ↦ absurd (omega (arith, u.0, slice_get_within old i n t)) ] in
       let last : (i : ℕ) (n p : Node) → i ≡ length old → node ≡ n → slice_get (old ++ node ∷ []) n.parent ≡ Some p → p ≡ parent = λ i n p t u q.
-        let k : n.parent ≡ from = ap (λ (x : Node). x.parent) (sym u) ∙ child in
-        same_Some p parent (sym q ∙ ap (slice_get (old ++ node ∷ [])) k ∙ item_append old (node ∷ []) from parent there) in
+      let k : n.parent ≡ from = ap (λ (x : Node). x.parent) (sym u) ∙ child in
+      same_Some p parent (sym q ∙ ap (slice_get (old ++ node ∷ [])) k ∙ item_append old (node ∷ []) from parent there) in
       let parities : (i : ℕ) (n p : Node) → slice_get (old ++ node ∷ []) i ≡ Some n → f.root < i → slice_get (old ++ node ∷ []) n.parent ≡ Some p → n.odd ≡ not p.odd = λ i n p e l q. elim (item_pushed old node i n e) [
         | inl t ↦ h.tree.parities i n p t l (above i n p t l q)
         | inr t ↦ ap (λ (x : Node). x.odd) (sym t.1) ∙ odd ∙ ap (λ (x : Node). not x.odd) (sym (last i n p t.0 t.1 q))

@@ -7,3 +7,6 @@ pub mod ForestLaws
 pub mod HolderLaws
 pub mod SearchLaws
 pub mod TakenLaws
+pub mod SettledLaws
+pub mod ClosingLaws
+pub mod EndLaws

@@ -72,9 +72,10 @@ module _ {A : Type 0} (pair_of : A → Pair) where
               let o = h.pairs i y t in
               let other : pair_of y ≢ pair_of x = λ g. elim (cases_eq (number_of old (pair_of y)) 0) [ inl z ↦ omega (arith, o.1) | inr z ↦ z (ap (number_of old) g ∙ fresh) ] in
               (subst (λ c. IsPair c (pair_of y)) (sym r.columns) o.0, r.others (pair_of y) o.0 other ∙ o.1)
-          | inr t ↦
-              (subst (λ (z : A). IsPair new.columns (pair_of z)) t.1 (subst (λ c. IsPair c (pair_of x)) (sym r.columns) p),
-               ap (λ (z : A). number_of new (pair_of z)) (sym t.1) ∙ r.changed ∙ omega (arith, t.0))
+          | inr t ↦ (
+            subst (λ (z : A). IsPair new.columns (pair_of z)) t.1 (subst (λ c. IsPair c (pair_of x)) (sym r.columns) p),
+            ap (λ (z : A). number_of new (pair_of z)) (sym t.1) ∙ r.changed ∙ omega (arith, t.0),
+          )
         ];
         found = λ v q l. elim (cases_pair v (pair_of x)) [
           | inl g ↦
@@ -95,18 +96,18 @@ module _ {A : Type 0} (pair_of : A → Pair) where
   indexed_take old new xs keep h columns kept lost =
       record {
         pairs = λ i y e.
-          let t = item_taken keep xs i y e in
-          let o = h.pairs i y t.1 in
-          (subst (λ c. IsPair c (pair_of y)) (sym columns) o.0, kept (pair_of y) o.0 (omega (arith, o.1, t.0)) ∙ o.1);
+            let t = item_taken keep xs i y e in
+            let o = h.pairs i y t.1 in
+            (subst (λ c. IsPair c (pair_of y)) (sym columns) o.0, kept (pair_of y) o.0 (omega (arith, o.1, t.0)) ∙ o.1);
         found = λ v q l.
-          let q' : IsPair old.columns v = subst (λ c. IsPair c v) columns q in
-          elim (cases_lt keep (number_of old v)) [
-            | inl m ↦ absurd (omega (arith, lost v q' m))
-            | inr m ↦
-                let k : number_of new v ≡ number_of old v = kept v q' m in
-                let o = h.found v q' (omega arith) in
-                (o.0, subst (λ m. slice_get (take keep xs) (m - 1) ≡ Some o.0) (sym k) (item_take keep xs (number_of old v - 1) o.0 (omega arith) o.1), o.2)
-          ];
+            let q' : IsPair old.columns v = subst (λ c. IsPair c v) columns q in
+            elim (cases_lt keep (number_of old v)) [
+              | inl m ↦ absurd (omega (arith, lost v q' m))
+              | inr m ↦
+                  let k : number_of new v ≡ number_of old v = kept v q' m in
+                  let o = h.found v q' (omega arith) in
+                  (o.0, subst (λ m. slice_get (take keep xs) (m - 1) ≡ Some o.0) (sym k) (item_take keep xs (number_of old v - 1) o.0 (omega arith) o.1), o.2)
+            ];
       }
 
   -- no pair stands twice from any position on
@@ -122,15 +123,15 @@ module _ {A : Type 0} (pair_of : A → Pair) where
       let place : A → ℕ = λ x. place_of t.columns (pair_of x) in
       let places = map place xs in
       let apart : (i j : ℕ) (d : ℕ) → i < j → j < length places → eqb (get_or places i d) (get_or places j d) ≡ false = λ i j d l m.
-        let m' : j < length xs = omega (arith, m, length-map xs place) in
-        let x = item_at xs i (omega arith) in
-        let y = item_at xs j m' in
-        let e : get_or places i d ≡ place x.0 = placed xs place i d x.0 x.1 in
-        let f : get_or places j d ≡ place y.0 = placed xs place j d y.0 y.1 in
-        ne_eqb (get_or places i d) (get_or places j d) (λ s. omega (arith, indexed_same t xs i j x.0 y.0 h x.1 y.1 (place_of-inj t.columns (pair_of x.0) (pair_of y.0) (h.pairs i x.0 x.1).0 (h.pairs j y.0 y.1).0 (sym e ∙ s ∙ f)))) in
+      let m' : j < length xs = omega (arith, m, length-map xs place) in
+      let x = item_at xs i (omega arith) in
+      let y = item_at xs j m' in
+      let e : get_or places i d ≡ place x.0 = placed xs place i d x.0 x.1 in
+      let f : get_or places j d ≡ place y.0 = placed xs place j d y.0 y.1 in
+      ne_eqb (get_or places i d) (get_or places j d) (λ s. omega (arith, indexed_same t xs i j x.0 y.0 h x.1 y.1 (place_of-inj t.columns (pair_of x.0) (pair_of y.0) (h.pairs i x.0 x.1).0 (h.pairs j y.0 y.1).0 (sym e ∙ s ∙ f)))) in
       let below : (q : ℕ) → list_any (eqb q) places ≡ true → q < t.columns * t.columns = λ q e.
-        let at = any_item q places e in
-        let x = item_at xs at.0 (omega (arith, slice_get_within places at.0 q at.1, length-map xs place)) in
-        let s : q ≡ place x.0 = same_Some q (place x.0) (sym at.1 ∙ slice_get-get_or places at.0 q (slice_get_within places at.0 q at.1) ∙ ap Some (placed xs place at.0 q x.0 x.1)) in
-        omega (arith, s, place_of-lt t.columns (pair_of x.0) (h.pairs at.0 x.0 x.1).0) in
+      let at = any_item q places e in
+      let x = item_at xs at.0 (omega (arith, slice_get_within places at.0 q at.1, length-map xs place)) in
+      let s : q ≡ place x.0 = same_Some q (place x.0) (sym at.1 ∙ slice_get-get_or places at.0 q (slice_get_within places at.0 q at.1) ∙ ap Some (placed xs place at.0 q x.0 x.1)) in
+      omega (arith, s, place_of-lt t.columns (pair_of x.0) (h.pairs at.0 x.0 x.1).0) in
       omega (arith, length-le_from_distinct_below places (t.columns * t.columns) (IsDistinct-from_apart eqb places apart) below, length-map xs place)

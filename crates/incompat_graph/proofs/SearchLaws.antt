@@ -126,18 +126,17 @@ pub looked : (m : RowList) (marks marks' : Marking) (old new : Forest) (from k :
     IsMarkedAt marks marks' k node.pair.b → IsForest m.columns (take marks.rows m.rows) new → (more : List Node) → new.nodes.items ≡ old.nodes.items ++ more →
     (IsFalse (has (row_at m.rows k) node.pair.b) → IsReachedAlong new.nodes.items node.pair.b (row_at m.rows k)) → new.root ≡ old.root →
     IsSearch m marks' new × Grows marks marks' old.nodes.items new.nodes.items × (new.root ≡ old.root) × ((other : Node) → slice_get old.nodes.items from ≡ Some other → is_marked marks' k other.pair.b ≡ true)
-looked m marks marks' old new from k node h there a b g forest more appended along root =
-    (
-      record {
-        few = subst (λ n. n ≤ length m.rows) (sym g.rows) h.few;
-        columns = g.columns ∙ h.columns;
-        is_forest = subst (λ n. IsForest m.columns (take n m.rows) new) (sym g.rows) forest;
-        spread = subst (IsSpread m.rows marks') (sym appended) (spread_more m.rows marks marks' old.nodes.items more k node.pair.b a b h.spread g (λ n. subst (λ ns. IsReachedAlong ns node.pair.b (row_at m.rows k)) appended (along n)));
-      },
-      record { rows = g.rows; columns = g.columns; stay = g.stay; more = more; appended = appended },
-      root,
-      λ other e. (let same : node ≡ other = same_Some node other (sym there ∙ e) in subst (λ (x : Node). is_marked marks' k x.pair.b ≡ true) same g.here),
-    )
+looked m marks marks' old new from k node h there a b g forest more appended along root = (
+  record {
+    few = subst (λ n. n ≤ length m.rows) (sym g.rows) h.few;
+    columns = g.columns ∙ h.columns;
+    is_forest = subst (λ n. IsForest m.columns (take n m.rows) new) (sym g.rows) forest;
+    spread = subst (IsSpread m.rows marks') (sym appended) (spread_more m.rows marks marks' old.nodes.items more k node.pair.b a b h.spread g (λ n. subst (λ ns. IsReachedAlong ns node.pair.b (row_at m.rows k)) appended (along n)));
+  },
+  record { rows = g.rows; columns = g.columns; stay = g.stay; more = more; appended = appended },
+  root,
+  λ other e. (let same : node ≡ other = same_Some node other (sym there ∙ e) in subst (λ (x : Node). is_marked marks' k x.pair.b ≡ true) same g.here),
+)
 
 -- all columns of the row are done
 pub spreading_all : (m : RowList) (count : ℕ) (old new : Forest) (node : Node) (k : ℕ) → IsSpreading m count old new node k (length (row_at m.rows k)) → IsReachedAlong new.nodes.items node.pair.b (row_at m.rows k)

@@ -79,10 +79,10 @@ module _ (m : RowList) (marks : Marking) (old : Forest) (from : ℕ) (node : Nod
         (record {
           turned = x.exchanged node there;
           marked = λ k a b t.
-            let b' : k ≤ marks.rows = omega (arith, x.grows.rows) in
-            let found = holders.whole node.pair.a k taken_pair.a_from taken_pair.a_to a b' t in
-            let at : slice_get rows found.0 ≡ Some k = subst (λ (r : List ℕ). slice_get r found.0 ≡ Some k) (sym is) found.1 in
-            x.so_far node found.0 k there (omega (arith, slice_get_within rows found.0 k at)) at;
+              let b' : k ≤ marks.rows = omega (arith, x.grows.rows) in
+              let found = holders.whole node.pair.a k taken_pair.a_from taken_pair.a_to a b' t in
+              let at : slice_get rows found.0 ≡ Some k = subst (λ (r : List ℕ). slice_get r found.0 ≡ Some k) (sym is) found.1 in
+              x.so_far node found.0 k there (omega (arith, slice_get_within rows found.0 k at)) at;
         })
 
 pub expanding_more : (m : RowList) (marks marks' marks'' : Marking) (old new next : Forest) (from : ℕ) (rows : List ℕ) (done k : ℕ) → from < length old.nodes.items → IsExpanding m marks marks' old new from rows done →

@@ -3,3 +3,4 @@ pub mod Marks
 pub mod Tables
 pub mod Search
 pub mod Holders
+pub mod Closing

@@ -1,6 +1,7 @@
 -- The search for a closed walk of odd length: what is reached, and what that shows.
-use Rattle.std.specs.Prelude.{◌≡◌, ◌⊎◌, ℕ, ◌<◌, ◌≤◌, Bool, true, not, IsTrue, IsFalse, Option, Some, None, List, [], ◌∷◌, ◌++◌, length, take, slice_get}
+use Rattle.std.specs.Prelude.{◌≡◌, ◌⊎◌, ℕ, ◌<◌, ◌≤◌, Bool, true, false, not, IsTrue, IsFalse, Option, Some, None, List, [], ◌∷◌, ◌++◌, length, take, slice_get}
 use Rattle.row_model.specs.declared.graph.Pair.{Pair}
+use Rattle.row_model.specs.declared.graph.Why.TheVariants.{Flip}
 use Rattle.row_model.specs.Graph.{pair, turned, row_at, JoinedBy, Joined, IsPair}
 use Rattle.row_model.specs.Rows.{RowList}
 use Rattle.column_order.specs.Orders.{has}
@@ -27,6 +28,17 @@ pub record Adds (old new : Forest) (node : Node) : Type 0 where
   pub indexed : IsIndexed pair_of_node new.numbers new.nodes.items
   pub root : new.root ≡ old.root
   pub nodes : new.nodes.items ≡ old.nodes.items ++ node ∷ []
+
+-- the node at the root of a tree
+abbrev pub root_node : Pair → ℕ → Node
+root_node v index = record { pair = v; parent = index; why = Flip; odd = false }
+
+-- the forest has one more tree, of the pair alone
+pub record Plants (old new : Forest) (v : Pair) : Type 0 where
+  pub columns : new.numbers.columns ≡ old.numbers.columns
+  pub indexed : IsIndexed pair_of_node new.numbers new.nodes.items
+  pub root : new.root ≡ length old.nodes.items
+  pub nodes : new.nodes.items ≡ old.nodes.items ++ root_node v (length old.nodes.items) ∷ []
 
 -- either the node was added or its pair was reached already, an odd number of steps from a root as the node would be or an even
 -- number as it would be; or the pair was reached the other way, by the node of the answer, and nothing has changed

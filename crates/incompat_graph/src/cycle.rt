@@ -75,11 +75,7 @@ fn place(numbers: &PairNumbers, path: &[Line], v: Pair) -> usize
 }
 
 // Adds a line with a new pair to the path.
-fn extend(
-    numbers: &mut PairNumbers,
-    path: &mut Vec<Line>,
-    line: Line,
-) -> Result<(), AllocError>
+fn extend(numbers: &mut PairNumbers, path: &mut Vec<Line>, line: Line) -> Result<(), AllocError>
     requires indexed { IsIndexed pair_of numbers.old path.old.items }
     requires pair { IsPair numbers.old.columns line.pair }
     requires fresh { number_of numbers.old line.pair ≡ 0 }

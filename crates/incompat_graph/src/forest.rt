@@ -2,7 +2,7 @@
 ghost use Rattle.std.specs.Prelude.{◌≡◌, [], IfOk, OnOk};
 ghost use Rattle.row_model.specs.Graph.{IsPair};
 ghost use Rattle.incompat_graph.specs.Numbers.{IsIndexed, number_of};
-ghost use Rattle.incompat_graph.specs.Search.{pair_of_node, Adds, Reaches};
+ghost use Rattle.incompat_graph.specs.Search.{pair_of_node, Adds, Plants, Reaches};
 
 use crate::numbers::PairNumbers;
 use row_model::{Pair, Why};
@@ -65,6 +65,24 @@ impl Forest {
     {
         self.nodes.push(node)?;
         self.numbers.set(node.pair, self.nodes.len());
+        Ok(())
+    }
+
+    /// Begins a tree, with a new pair at its root.
+    pub fn plant(&mut self, pair: Pair) -> Result<(), AllocError>
+        requires indexed { IsIndexed pair_of_node self.old.numbers self.old.nodes.items }
+        requires pair { IsPair self.old.numbers.columns pair }
+        requires fresh { number_of self.old.numbers pair ≡ 0 }
+        ensures { OnOk result (Plants self.old self.new pair) }
+    {
+        let root = self.nodes.len();
+        self.add(Node {
+            pair,
+            parent: root,
+            why: Why::Flip,
+            odd: false,
+        })?;
+        self.root = root;
         Ok(())
     }
 

@@ -34,7 +34,7 @@ fn add_holder(holders: &mut Vec<Vec<u32>>, column: u32, row: u32) -> Result<(), 
     requires { (1 ≤ column) × (column ≤ length holders.old.items) }
     ensures { OnOk result (map (λ list. list.items) holders.new.items
         ≡ set (map (λ list. list.items) holders.old.items) (column - 1)
-            (slice_index_or (map (λ list. list.items) holders.old.items) (column - 1) [] ++ row ∷ [])) }
+        (slice_index_or (map (λ list. list.items) holders.old.items) (column - 1) [] ++ row ∷ [])) }
 {
     let list = &mut holders[column as usize - 1];
     list.push(row)?;

@@ -2,6 +2,7 @@
 //! (McConnell, 2004).
 #![tactic(auto)]
 
+mod closing;
 mod cycle;
 mod forest;
 mod holders;
@@ -13,5 +14,9 @@ mod walk;
 
 pub use cycle::{Cycle, simple_cycle};
 pub use reason::joined;
+pub use search::odd_walk;
 pub use std::alloc::AllocError as NoMemory;
 pub use walk::Walk;
+
+#[cfg(test)]
+mod tests;

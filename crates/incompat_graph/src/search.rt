@@ -1,17 +1,49 @@
 // The search for a closed walk of odd length.
-ghost use Rattle.std.specs.Prelude.{◌≡◌, ◌<◌, ◌≤◌, ℕ, Bool, true, not, Some, length, map, take, slice_get, IsTrue, IfOk, MatchOption};
-ghost use Rattle.row_model.specs.Graph.{row_at, turned, IsPair};
+ghost use Rattle.std.specs.Prelude.{◌≡◌, ◌<◌, ◌≤◌, ℕ, true, not, Some, length, map, take, slice_get, IsTrue, IfOk, MatchOption};
+ghost use Rattle.row_model.specs.Graph.{row_at, turned, HasOddWalk};
+ghost use Rattle.row_model.specs.Cycles.{IsOddWalk};
 ghost use Rattle.column_order.specs.Orders.{has};
 ghost use Rattle.incompat_graph.specs.declared.forest.Node.{Node};
 ghost use Rattle.incompat_graph.specs.Marks.{is_marked};
 ghost use Rattle.incompat_graph.specs.Search.{IsReached, IsSearch, Grows, ShowsConflict, IsTaken, AreTaken, AreReachedFrom};
 ghost use Rattle.incompat_graph.specs.Holders.{AreHolders};
 
+use crate::closing::closed_walk;
 use crate::forest::{Conflict, Forest, Node};
+use crate::holders::rows_by_column;
 use crate::marks::Marks;
+use crate::walk::Walk;
 use row_model::{Matrix, Pair, Why};
-use std::alloc::AllocError;
+use std::alloc::{AllocError, Global};
 use step_count::{Ledger, Steps};
+
+/// A closed walk of odd length in the incompatibility graph of the first rows, or `None` where there is none.
+///
+/// The pairs are taken in the order in which they are reached, and each is given one of two sides, the other than the pair
+/// from which it was reached. Two joined pairs on one side close an odd walk through the search tree; if there are none, the
+/// graph is bipartite. Each row is looked at once for each column that it lacks.
+pub fn odd_walk<L: Ledger>(
+    alloc: Global,
+    m: &Matrix,
+    rows: u32,
+    steps: &mut Steps<L>,
+) -> Result<Option<Walk>, AllocError>
+    requires { rows ≤ length m.now.rows }
+    ensures { IfOk result (λ found. MatchOption found
+        (¬ HasOddWalk m.now.columns (take rows m.now.rows))
+        (IsOddWalk m.now.columns (take rows m.now.rows))) }
+{
+    let holders = rows_by_column(alloc, m, rows, steps)?;
+    let mut marks = Marks::new(alloc, rows, m.columns())?;
+    let mut forest = Forest::new(alloc, m.columns())?;
+    for k in 0..m.columns() {
+        let found = grow_from_column(m, &holders, &mut marks, &mut forest, k + 1, steps)?;
+        if let Some(conflict) = found {
+            return Ok(Some(closed_walk(alloc, &forest, conflict)?));
+        }
+    }
+    Ok(None)
+}
 
 // Looks from a pair (a,b) at a row that has a. If the row lacks b, each pair (b,d) of b with a column d of the row is
 // joined to (a,b). The pairs (b,d) are the same for every a, so each row is looked at once for each b.
@@ -30,7 +62,7 @@ fn look<L: Ledger>(
         → IsTrue (has (row_at m.now.rows row) node.pair.a) × IsReached forest.old.nodes.items (turned node.pair) (not node.odd) }
     ensures { IfOk result (λ found. MatchOption found
         (IsSearch m.now marks.new forest.new × Grows marks.old marks.new forest.old.nodes.items forest.new.nodes.items × (forest.new.root ≡ forest.old.root)
-            × ((node : Node) → slice_get forest.old.nodes.items from ≡ Some node → is_marked marks.new row node.pair.b ≡ true))
+        × ((node : Node) → slice_get forest.old.nodes.items from ≡ Some node → is_marked marks.new row node.pair.b ≡ true))
         (ShowsConflict m.now.columns (take marks.old.rows m.now.rows) forest.new)) }
 {
     let node = forest.nodes[from];
@@ -80,7 +112,7 @@ fn expand<L: Ledger>(
     requires from { (forest.old.root ≤ from) × (from < length forest.old.nodes.items) }
     ensures { IfOk result (λ found. MatchOption found
         (IsSearch m.now marks.new forest.new × Grows marks.old marks.new forest.old.nodes.items forest.new.nodes.items × (forest.new.root ≡ forest.old.root)
-            × ((node : Node) → slice_get forest.old.nodes.items from ≡ Some node → IsTaken m.now.rows marks.new forest.new.nodes.items node))
+        × ((node : Node) → slice_get forest.old.nodes.items from ≡ Some node → IsTaken m.now.rows marks.new forest.new.nodes.items node))
         (ShowsConflict m.now.columns (take marks.old.rows m.now.rows) forest.new)) }
 {
     let node = forest.nodes[from];
@@ -121,7 +153,7 @@ fn grow<L: Ledger>(
     requires taken { AreTaken m.now.rows marks.old forest.old.nodes.items forest.old.root }
     ensures { IfOk result (λ found. MatchOption found
         (IsSearch m.now marks.new forest.new × Grows marks.old marks.new forest.old.nodes.items forest.new.nodes.items
-            × AreTaken m.now.rows marks.new forest.new.nodes.items (length forest.new.nodes.items))
+        × AreTaken m.now.rows marks.new forest.new.nodes.items (length forest.new.nodes.items))
         (ShowsConflict m.now.columns (take marks.old.rows m.now.rows) forest.new)) }
 {
     let mut head = forest.root;
@@ -132,39 +164,6 @@ fn grow<L: Ledger>(
         head += 1;
     }
     Ok(None)
-}
-
-// Grows a tree from a pair, unless the pair is reached already.
-fn grow_from<L: Ledger>(
-    m: &Matrix,
-    holders: &[Vec<u32>],
-    marks: &mut Marks,
-    forest: &mut Forest,
-    pair: Pair,
-    steps: &mut Steps<L>,
-) -> Result<Option<Conflict>, AllocError>
-    requires search { IsSearch m.now marks.old forest.old }
-    requires holders { AreHolders m.now marks.old.rows (map (λ list. list.items) holders.now) }
-    requires taken { AreTaken m.now.rows marks.old forest.old.nodes.items (length forest.old.nodes.items) }
-    requires pair { IsPair m.now.columns pair }
-    ensures { IfOk result (λ found. MatchOption found
-        (IsSearch m.now marks.new forest.new × Grows marks.old marks.new forest.old.nodes.items forest.new.nodes.items
-            × AreTaken m.now.rows marks.new forest.new.nodes.items (length forest.new.nodes.items)
-            × ((odd : Bool) × IsReached forest.new.nodes.items pair odd))
-        (ShowsConflict m.now.columns (take marks.old.rows m.now.rows) forest.new)) }
-{
-    if forest.numbers.get(pair) > 0 {
-        return Ok(None);
-    }
-    let root = forest.nodes.len();
-    forest.root = root;
-    forest.add(Node {
-        pair,
-        parent: root,
-        why: Why::Flip,
-        odd: false,
-    })?;
-    grow(m, holders, marks, forest, steps)
 }
 
 // Grows trees until each pair with this first column is reached.
@@ -182,16 +181,20 @@ fn grow_from_column<L: Ledger>(
     requires column { (1 ≤ a) × (a ≤ m.now.columns) }
     ensures { IfOk result (λ found. MatchOption found
         (IsSearch m.now marks.new forest.new × Grows marks.old marks.new forest.old.nodes.items forest.new.nodes.items
-            × AreTaken m.now.rows marks.new forest.new.nodes.items (length forest.new.nodes.items)
-            × AreReachedFrom m.now.columns forest.new.nodes.items a m.now.columns)
+        × AreTaken m.now.rows marks.new forest.new.nodes.items (length forest.new.nodes.items)
+        × AreReachedFrom m.now.columns forest.new.nodes.items a m.now.columns)
         (ShowsConflict m.now.columns (take marks.old.rows m.now.rows) forest.new)) }
 {
     for b in 0..m.columns() {
-        if b + 1 == a {
+        let pair = Pair { a, b: b + 1 };
+        if pair.a == pair.b {
             continue;
         }
-        let pair = Pair { a, b: b + 1 };
-        if let Some(conflict) = grow_from(m, holders, marks, forest, pair, steps)? {
+        if forest.numbers.get(pair) > 0 {
+            continue;
+        }
+        forest.plant(pair)?;
+        if let Some(conflict) = grow(m, holders, marks, forest, steps)? {
             return Ok(Some(conflict));
         }
     }

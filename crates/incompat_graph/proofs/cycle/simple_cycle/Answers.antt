@@ -81,4 +81,3 @@ returns c =
     let e : c.loop-line.line-index ≡ length c.args.walk.now = omega (arith, ap length c.lines-line-items.ensures.lines) in
     let odd = subst (λ (w : List Line). length w % 2 ≡ 1) c.lines-line-items.ensures.lines c.lines-line-items.ensures.odd in
     step_all c.args.m.now.columns c.args.m.now.rows c.args.walk.now c.loop-line.numbers c.loop-line.path.items c.loop-line.line-index c.loop-line.invariant e odd
-

@@ -101,4 +101,3 @@ returns g c =
     let is : rows ≡ holders_of lists node.pair.a = c.deref-row-items.ensures.value ∙ ap (λ (list : Vec ℕ Global). list.items) c.index-holders-node.is ∙ sym (get_or-map (λ (list : Vec ℕ Global). list.items) c.args.holders.now (node.pair.a - 1) c.index-holders-node.result [] within) in
     let x = c.loop-row.invariant in
     (x.search, x.grows, x.root, expanding_all c.args.m.now c.args.marks.now old c.args.from node c.requires.search there c.requires.from.0 lists c.requires.holders rows is c.loop-row.marks c.loop-row.forest c.loop-row.row-index x c.loop-row-test.false)
-

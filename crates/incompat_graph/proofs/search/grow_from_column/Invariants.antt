@@ -1,4 +1,4 @@
-use Rattle.incompat_graph.proofs.TakenLaws.{IsGrownFrom}
+use Rattle.incompat_graph.proofs.SettledLaws.{IsGrownFrom}
 use Rattle.incompat_graph.proofs.search.grow_from_column.Given as goal
 
 abbrev pub invariant-loop-b : goal.invariant-loop-b

@@ -93,4 +93,3 @@ returns g c =
     let all : c.loop-column.column-index ≡ length (row_at c.args.m.now.rows c.args.row) = omega (arith, ap length is) in
     let spread = subst (IsSpreading c.args.m.now c.args.marks.now.rows old c.loop-column.forest node c.args.row) all c.loop-column.invariant in
     looked c.args.m.now c.args.marks.now c.mark.new.self old c.loop-column.forest c.args.from c.args.row node c.requires.search there c.requires.row.0 c.requires.row.1 c.mark.ensures.after spread.is_forest spread.more spread.appended (λ n. spreading_all c.args.m.now c.args.marks.now.rows old c.loop-column.forest node c.args.row spread) spread.root
-

@@ -1,0 +1,6 @@
+use Rattle.std.proofs.Common.{arith}
+use Rattle.row_model.proofs.CycleLaws.{closed_more}
+use Rattle.incompat_graph.proofs.tests.cycle_of.Goals as goal
+
+pub simple_cycle-requires : goal.simple_cycle-requires
+simple_cycle-requires c = ?
