@@ -1,0 +1,155 @@
+// Verdicts that are printed from values and read back.
+ghost use Rattle.std.specs.Prelude.{◌≤◌};
+
+use crate::{Columns, NoPart, Part, Verdict, YesPart, parse, print};
+use pq_tree::PqTree;
+use row_model::{Interval, Intervals, Kind, Line, Lines, Pair, Place, Places, Span, Spans, Why};
+use std::alloc::Global;
+use std::test::Fail;
+
+const PATH: &[u8] =
+    b"pq-verdict 1\nkind proper\ncolumns 4\nanswer yes\ntree [1 2 3 4]\norder 1 2 3 4\ninterval 1 5 11\ninterval 2 10 17\ninterval 3 15 23\ninterval 4 20 24\nend\n";
+
+const CLONES: &[u8] =
+    b"pq-verdict 1\nkind clones\ncolumns 5\nanswer yes\ntree ([1 2 3] 4 5)\norder 1 2 3 4 5\nplaces 4\nplace 1 1 2\nplace 2 2 3\nplace 3 none\nplace 4 4 4\ncontigs 3\ncontig 1 3\ncontig 4 4\ncontig 5 5\nend\n";
+
+const TRIANGLE: &[u8] =
+    b"pq-verdict 1\nkind matrix\ncolumns 3\nanswer no\nside 1\ncycle 3\n1 3 row 1\n3 2 row 3\n2 1 row 2\nend\n";
+
+const BOTH_SIDES: &[u8] =
+    b"pq-verdict 1\nkind doubly\ncolumns 2 2\nanswer yes\ntree (1 2)\norder 1 2\ntree (1 2)\norder 1 2\nend\n";
+
+fn tree(alloc: Global, text: &[u8], c: u32) -> Result<PqTree, Fail>
+    requires { (1 ≤ c) × (c ≤ 32768) }
+{
+    let tree = PqTree::parse(alloc, text, c)?.ok_or("a tree")?;
+    Ok(tree)
+}
+
+fn printed(alloc: Global, v: &Verdict) -> Result<Vec<u8>, Fail> {
+    let mut text = Vec::new(alloc);
+    print(v, &mut text)?;
+    Ok(text)
+}
+
+fn read_and_printed(alloc: Global, text: &[u8]) -> Result<Vec<u8>, Fail> {
+    let v = parse(alloc, text)?.ok_or("a verdict")?;
+    printed(alloc, &v)
+}
+
+#[test]
+fn intervals_of_a_path(rt: HostRuntime) -> Result<(), Fail> {
+    let alloc = rt.alloc();
+    let mut intervals = Intervals::new(alloc);
+    for (left, right) in [(5, 11), (10, 17), (15, 23), (20, 24)] {
+        intervals.push(Interval { left, right })?;
+    }
+    let order = [1, 2, 3, 4].to_vec(alloc)?;
+    let tree = tree(alloc, b"[1 2 3 4]", 4)?;
+    let yes = YesPart::one(
+        tree,
+        order,
+        intervals,
+        Places::new(alloc),
+        Spans::new(alloc),
+    );
+    let v = Verdict {
+        kind: Kind::Proper,
+        columns: Columns::One(4),
+        part: Part::Yes(yes),
+    };
+    assert_eq!(rt; printed(alloc, &v)?.as_slice(), PATH);
+    assert_eq!(rt; read_and_printed(alloc, PATH)?.as_slice(), PATH);
+    Ok(())
+}
+
+#[test]
+fn places_and_contigs_of_clones(rt: HostRuntime) -> Result<(), Fail> {
+    let alloc = rt.alloc();
+    let mut places = Places::new(alloc);
+    places.push(Place::At { first: 1, last: 2 })?;
+    places.push(Place::At { first: 2, last: 3 })?;
+    places.push(Place::Nowhere)?;
+    places.push(Place::At { first: 4, last: 4 })?;
+    let mut contigs = Spans::new(alloc);
+    for (first, last) in [(1, 3), (4, 4), (5, 5)] {
+        contigs.push(Span { first, last })?;
+    }
+    let order = [1, 2, 3, 4, 5].to_vec(alloc)?;
+    let tree = tree(alloc, b"([1 2 3] 4 5)", 5)?;
+    let yes = YesPart::one(tree, order, Intervals::new(alloc), places, contigs);
+    let v = Verdict {
+        kind: Kind::Clones,
+        columns: Columns::One(5),
+        part: Part::Yes(yes),
+    };
+    assert_eq!(rt; printed(alloc, &v)?.as_slice(), CLONES);
+    assert_eq!(rt; read_and_printed(alloc, CLONES)?.as_slice(), CLONES);
+    Ok(())
+}
+
+#[test]
+fn cycle_of_a_triangle(rt: HostRuntime) -> Result<(), Fail> {
+    let alloc = rt.alloc();
+    let mut lines = Lines::new(alloc);
+    for (a, b, row) in [(1, 3, 1), (3, 2, 3), (2, 1, 2)] {
+        let pair = Pair { a, b };
+        lines.push(Line {
+            pair,
+            why: Why::Row(row),
+        })?;
+    }
+    let v = Verdict {
+        kind: Kind::Matrix,
+        columns: Columns::One(3),
+        part: Part::No(NoPart { side: 1, lines }),
+    };
+    assert_eq!(rt; printed(alloc, &v)?.as_slice(), TRIANGLE);
+    assert_eq!(rt; read_and_printed(alloc, TRIANGLE)?.as_slice(), TRIANGLE);
+    Ok(())
+}
+
+#[test]
+fn two_sides(rt: HostRuntime) -> Result<(), Fail> {
+    let alloc = rt.alloc();
+    let yes = YesPart::two(
+        tree(alloc, b"(1 2)", 2)?,
+        [1, 2].to_vec(alloc)?,
+        tree(alloc, b"(1 2)", 2)?,
+        [1, 2].to_vec(alloc)?,
+    );
+    assert_eq!(rt; yes.sides(), 2);
+    let v = Verdict {
+        kind: Kind::Doubly,
+        columns: Columns::Two(2, 2),
+        part: Part::Yes(yes),
+    };
+    assert_eq!(rt; printed(alloc, &v)?.as_slice(), BOTH_SIDES);
+    assert_eq!(rt; read_and_printed(alloc, BOTH_SIDES)?.as_slice(), BOTH_SIDES);
+    let no =
+        b"pq-verdict 1\nkind doubly\ncolumns 3 4\nanswer no\nside 2\ncycle 2\n1 3 flip\n3 1 flip\nend\n";
+    assert_eq!(rt; read_and_printed(alloc, no)?.as_slice(), no.as_slice());
+    Ok(())
+}
+
+#[test]
+fn outside_the_grammar(rt: HostRuntime) -> Result<(), Fail> {
+    for text in [
+        b"".as_slice(),
+        b"pq-verdict 2\nkind matrix\ncolumns 1\nanswer yes\ntree 1\norder 1\nend\n",
+        b"pq-verdict 1\r\nkind matrix\r\ncolumns 1\r\nanswer yes\r\ntree 1\r\norder 1\r\nend\r\n",
+        b"pq-verdict 1\nkind matrix\ncolumns 1\nanswer yes\ntree 1\norder 1\nend\n\n",
+        b"pq-verdict 1\nkind matrix\ncolumns 1\nanswer yes\ntree 1\norder 1\nend",
+        b"pq-verdict 1\nkind matrix\ncolumns 01\nanswer yes\ntree 1\norder 1\nend\n",
+        b"pq-verdict 1\nkind matrix\ncolumns 0\nanswer yes\ntree 1\norder 1\nend\n",
+        b"pq-verdict 1\nkind matrix\ncolumns 1025\nanswer no\nside 1\ncycle 0\nend\n",
+        b"pq-verdict 1\nkind matrix\ncolumns 1\nanswer yes\ntree 1\norder\nend\n",
+        b"pq-verdict 1\nkind matrix\ncolumns 1\nanswer yes\ntree 1\norder 4294967296\nend\n",
+        b"pq-verdict 1\nkind proper\ncolumns 1\nanswer yes\ntree 1\norder 1\ninterval 0 0 0\nend\n",
+        b"pq-verdict 1\nkind matrix\ncolumns 3\nanswer no\nside 2\ncycle 0\nend\n",
+        b"pq-verdict 1\nkind matrix\ncolumns 3\nanswer no\nside 1\ncycle 4294967295\n1 2 flip\nend\n",
+    ] {
+        assert!(rt; parse(rt.alloc(), text)?.is_none());
+    }
+    Ok(())
+}
