@@ -9,9 +9,15 @@ use crate::lines::{next_filled_line, without_mark};
 use row_model::{MAX_COLUMNS, MAX_FILE_BYTES, MAX_ROWS, Matrix, Read, Refusal, code};
 use std::alloc::{AllocError, Global};
 
-/// Reads the matrix of a file of lines of the digits 0 and 1, which spaces and tabs may stand between.
+/// Reads a matrix from the bytes of a file: lines of the digits 0 and 1, between which spaces and tabs may stand.
 ///
-/// Each line that is not blank is a row, and its j-th digit is 1 where the row has column j. A byte order mark at the start is passed over. Where the file breaks a rule, the answer is its first refusal: first the length of the file is judged, and then line by line the number of rows, the bytes, and the number of digits. Only want of memory is an error.
+/// Each line that is not blank is a row, and its j-th digit is 1 where the row has column j. The first row has
+/// 1 to [`MAX_COLUMNS`] digits, each later one as many as the first, and there are 1 to [`MAX_ROWS`] rows. A byte
+/// order mark at the start is passed over.
+///
+/// A file that breaks a rule gives its first refusal. The length of the file comes first. Then each line in turn is
+/// judged by the number of rows before it, by its bytes, and by the number of its digits. Last comes a file without
+/// a row. The error is want of memory.
 pub fn read_dense(alloc: Global, bytes: &[u8]) -> Result<Read<Matrix>, AllocError>
     ensures { IfOk result (λ read. read ≡ dense bytes.now) }
 {
@@ -94,7 +100,8 @@ fn push_rows(
     Ok(Read::Ok(matrix))
 }
 
-// How many ones the row of a line has, where their columns then stand at the front of `columns`; or the code of its refusal, where so many rows stand before it.
+// How many ones the row of a line has, whose columns stand at the front of `columns` then; or the code of its
+// refusal, where so many rows stand before it.
 fn row_in(line: &[u8], before: u32, columns: &mut [u32]) -> Result<usize, u8>
     requires { length columns.old ≤ MAX_COLUMNS }
     ensures refused { IfErr result (λ code. row_code (length columns.old) before line.now ≡ Some code) }
@@ -118,7 +125,8 @@ struct Digits {
     ones: usize,
 }
 
-// The digits of a line, if it has no other bytes but spaces and tabs. The columns of its ones stand at the front of `columns` then, if that has an entry for each digit.
+// The digits of a line, if it has no other bytes but spaces and tabs. The columns of its ones stand at the front of
+// `columns` then, if that has an entry for each digit.
 fn scan(line: &[u8], columns: &mut [u32]) -> Option<Digits>
     requires { length columns.old < 2 ^ 32 }
     ensures foreign { IsNone result ↔ IsTrue (list_any is_foreign line.now) }
@@ -140,7 +148,7 @@ fn scan(line: &[u8], columns: &mut [u32]) -> Option<Digits>
     Some(digits)
 }
 
-// One digit more. Its column is written in either case, which costs less than a branch; only a 1 keeps the entry.
+// One digit more. Its column is written in either case, which costs less than a branch, and only a 1 keeps the entry.
 #[inline(always)]
 fn with_digit(digits: Digits, digit: u8, columns: &mut [u32]) -> Digits
     requires digit { digit ≤ 1 }

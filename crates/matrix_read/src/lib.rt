@@ -1,6 +1,7 @@
 //! Readers of matrices, and the lines, words and numbers that every text format is read by.
 //!
-//! Each reader gives the value of a list of bytes or its first refusal, by one definition on the whole list; the code goes over the bytes line by line and keeps no list of lines.
+//! A reader gives the value of a list of bytes or its first refusal, by one definition on the whole list. The code goes
+//! over the bytes line by line and keeps no list of lines.
 #![tactic(auto)]
 
 mod dense;

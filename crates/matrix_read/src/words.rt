@@ -25,9 +25,10 @@ pub enum Numeral {
     NotDigits,
 }
 
-/// The first word that begins at a place or after it and before `end`, where it is cut; none exactly where only spaces and tabs are left.
+/// The first word from the place `at` on and before `end`; none exactly where only spaces and tabs are left.
 ///
-/// A word is a longest run of bytes other than space and tab.
+/// A word is a longest run of bytes other than space and tab. Here it begins at `at` or later, and ends at `end` at the
+/// latest.
 pub fn next_word(bytes: &[u8], at: usize, end: usize) -> Option<WordSpan>
     requires order { at ≤ end }
     requires within { end ≤ length bytes.now }

@@ -1,6 +1,8 @@
-//! Matrices of zeros and ones as lists of rows, the incompatibility graph of their columns, and what a reader of files answers.
+//! Matrices of zeros and ones as lists of rows, the incompatibility graph of their columns, and what a reader of files
+//! answers.
 //!
-//! A matrix has columns 1 to c and rows from 1 on; each row is the set of the columns at which it has a one (Booth and Lueker, 1976).
+//! A matrix has columns 1 to c and rows from 1 on. Each row is the set of the columns at which it has a one (Booth and
+//! Lueker, 1976).
 #![tactic(auto)]
 
 /// The codes of refusals.

@@ -7,7 +7,8 @@ use crate::pieces::{piece, pop_piece, push_piece, row_has};
 use std::alloc::{AllocError, Global};
 use std::marker::Model;
 
-/// A number of columns, from 1 to 32,768, and at most 16,777,216 rows, each the strictly ascending list of the columns that it has.
+/// A number of columns, from 1 to 32,768, and at most 16,777,216 rows, each the strictly ascending list of the columns
+/// that it has.
 ///
 /// The rows lie one after another in one list, so a matrix takes four bytes for each one and eight for each row.
 #[derive(Drop)]
