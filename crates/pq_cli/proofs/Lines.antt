@@ -1,6 +1,5 @@
 -- The lines that tell of what stood in the way.
 use Rattle.std.proofs.Common.{◌≡◌, ℕ, List, Option, Some, inl, inr, arith, subst}
-use Rattle.row_model.specs.declared.refusal.Refusal.{Refusal}
 use Rattle.pq_cli.specs.Words.{Command}
 use Rattle.pq_cli.specs.Replies.{refusal_of}
 use Rattle.pq_cli.specs.Runs.{ForCommand, WhereFirstTold, IsLineOf}

@@ -1,5 +1,4 @@
 -- What a verdict of the program says.
-use Rattle.std.specs.Prelude.{ℕ}
 use Rattle.pq_tree.specs.PqTree.{outline}
 use Rattle.pq_cli.specs.Verdict.{Claim, yes_claim, no_claim, VerdictValue}
 use Rattle.pq_cli.specs.declared.verdict.Verdict.{Verdict}

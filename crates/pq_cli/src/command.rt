@@ -1,5 +1,5 @@
 // The commands: from what the words ask for to a reply.
-ghost use Rattle.std.specs.Prelude.{◌≡◌, ◌⊎◌, ◌≤◌, ℕ, IfOk, IfErr, IsSome};
+ghost use Rattle.std.specs.Prelude.{◌≡◌, ◌⊎◌, ◌≤◌, List, ℕ, IfOk, IfErr, IsSome};
 ghost use Rattle.pq_io.specs.Faults.{Rose};
 ghost use Rattle.pq_cli.specs.Words.{Solve};
 ghost use Rattle.pq_cli.specs.Task.{command_seen};
@@ -30,6 +30,7 @@ pub struct Reply {
 pub fn perform<F: Shelf>(alloc: Global, task: &Task<'_>, files: &mut F) -> Result<Reply, Stop>
     ensures asked { (n : ℕ) × AsksInTurn (F.content files.old) (command_seen task.now) (F.asked files.old) (F.asked files.new) (outcome_status result) n }
     ensures later { F.faults files.old ≤ F.faults files.new }
+    ensures content { (other : List ℕ) → F.content files.new other ≡ F.content files.old other }
     ensures fault { outcome_status result ≡ 4 → Rose (F.faults files.old) (F.faults files.new) }
     ensures status { IfOk result (λ reply. (reply.status ≡ 0) ⊎ (reply.status ≡ 1)) }
     ensures whole { outcome_status result ≡ 3 → WhereTold (F.content files.old) (command_seen task.now) (λ told. IsSome (refusal_of (command_seen task.now) told)) }
@@ -46,6 +47,7 @@ pub fn perform<F: Shelf>(alloc: Global, task: &Task<'_>, files: &mut F) -> Resul
 fn solve_file<F: Shelf>(alloc: Global, file: &str, files: &mut F) -> Result<Reply, Stop>
     ensures asked { (n : ℕ) × AsksInTurn (F.content files.old) (Solve file.now) (F.asked files.old) (F.asked files.new) (outcome_status result) n }
     ensures later { F.faults files.old ≤ F.faults files.new }
+    ensures content { (other : List ℕ) → F.content files.new other ≡ F.content files.old other }
     ensures fault { outcome_status result ≡ 4 → Rose (F.faults files.old) (F.faults files.new) }
     ensures status { IfOk result (λ reply. (reply.status ≡ 0) ⊎ (reply.status ≡ 1)) }
     ensures whole { outcome_status result ≡ 3 → WhereTold (F.content files.old) (Solve file.now) (λ told. IsSome (refusal_of (Solve file.now) told)) }

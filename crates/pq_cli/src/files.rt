@@ -39,7 +39,13 @@ pub fn read_matrix<F: Shelf>(
 {
     match read_file(alloc, name, files) {
         Err(stop) => Err(stop),
-        Ok(Whole::TooLong) => Err(Stop::Refused(which, Refusal { code: code::LIMIT, line: 0 })),
+        Ok(Whole::TooLong) => Err(Stop::Refused(
+            which,
+            Refusal {
+                code: code::LIMIT,
+                line: 0,
+            },
+        )),
         Ok(Whole::Bytes(bytes)) => match read_dense(alloc, &bytes) {
             Err(_) => Err(Stop::NoMemory),
             Ok(Read::Refused(refusal)) => Err(Stop::Refused(which, refusal)),

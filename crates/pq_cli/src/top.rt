@@ -16,7 +16,8 @@ use std::alloc::Global;
 
 // Offers a line to a sink, whose faults are passed over.
 fn tell<E: Sink>(err: &mut E, line: &[u8])
-    ensures { Tells (E.written err.old) (E.written err.new) (E.faults err.old) (E.faults err.new) line.now }
+    ensures told { Tells (E.written err.old) (E.written err.new) (E.faults err.old) (E.faults err.new) line.now }
+    ensures later { E.faults err.old ≤ E.faults err.new }
 {
     let _ = write_all(err, line);
 }
@@ -34,6 +35,7 @@ fn refusal_line(alloc: Global, which: u8, refusal: Refusal) -> Result<String, No
 fn report<E: Sink>(alloc: Global, stop: Stop, err: &mut E) -> u8
     ensures status { (result ≡ stop_status stop) ⊎ (result ≡ 6) }
     ensures line { (line : List ℕ) × IsStopLine stop result line × Tells (E.written err.old) (E.written err.new) (E.faults err.old) (E.faults err.new) line }
+    ensures later { E.faults err.old ≤ E.faults err.new }
 {
     match stop {
         Stop::Refused(which, refusal) => match refusal_line(alloc, which, refusal) {
@@ -95,6 +97,10 @@ pub fn run<F: Shelf, O: Sink, E: Sink>(
 
     // No other status comes.
     ensures status { result ≤ 6 }
+
+    // The files stay as they are, and no count of faults falls.
+    ensures content { (name : List ℕ) → F.content files.new name ≡ F.content files.old name }
+    ensures counts { (F.faults files.old ≤ F.faults files.new) × (O.faults out.old ≤ O.faults out.new) × (E.faults err.old ≤ E.faults err.new) }
 
     // What stands in the way is told of.
     ensures quiet { (result ≡ 0) ⊎ (result ≡ 1) → err.new ≡ err.old }
