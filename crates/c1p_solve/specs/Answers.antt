@@ -1,11 +1,11 @@
 -- What the answer on a matrix says, and where it leaves the reducer.
-use Rattle.std.specs.Prelude.{◌≡◌, ◌-◌, ◌≤◌, ◌↔◌, ⊥, ℕ, List, length, take}
+use Rattle.std.specs.Prelude.{◌≡◌, ◌-◌, ◌≤◌, ◌↔◌, ℕ, List, length, take}
 use Rattle.column_order.specs.Orders.{IsValidOrder, HasValidOrder}
 use Rattle.row_model.specs.Rows.{RowList}
 use Rattle.row_model.specs.Cycles.{IsOddCycle}
 use Rattle.pq_tree.specs.Outline.{Outline, IsFrontier}
-use Rattle.pq_tree.specs.Proper.{outline_of}
 use Rattle.pq_tree.specs.Canonical.{IsCanonical}
+use Rattle.pq_tree.specs.PqTree.{column_count, outline}
 use Rattle.pq_tree.specs.declared.PqTree.{PqTree}
 use Rattle.tied_law.specs.Tied.{IsTied}
 use Rattle.c1p_solve.specs.declared.solver.Solved.{Solved}
@@ -13,9 +13,9 @@ use Rattle.c1p_solve.specs.declared.solver.Solved.TheVariants.{Yes, No}
 
 -- the tree is canonical, and its frontiers are exactly the valid orders of the matrix
 pub record HasAllOrders (m : RowList) (t : PqTree) : Type 0 where
-  pub columns : t.columns ≡ m.columns
-  pub canonical : IsCanonical (outline_of t.tree)
-  pub orders : (o : List ℕ) → IsFrontier (outline_of t.tree) o ↔ IsValidOrder m.columns m.rows o
+  pub columns : column_count t ≡ m.columns
+  pub canonical : IsCanonical (outline t)
+  pub orders : (o : List ℕ) → IsFrontier (outline t) o ↔ IsValidOrder m.columns m.rows o
 
 -- yes with the tree of all valid orders, or no with an odd cycle, where there is no valid order
 abbrev pub IsAnswer : RowList → Solved → Type 0

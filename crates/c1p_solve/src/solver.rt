@@ -1,9 +1,9 @@
 // Rows reduced in turn, and the odd cycle after a refusal.
-ghost use Rattle.std.specs.Prelude.{◌≡◌, ◌-◌, ◌≤◌, ⊥, IfOk, length, take};
+ghost use Rattle.std.specs.Prelude.{◌≡◌, ◌-◌, ◌≤◌, IfOk, length, take};
 ghost use Rattle.row_model.specs.Graph.{HasConflict};
 ghost use Rattle.row_model.specs.Cycles.{IsOddCycle};
 ghost use Rattle.pq_tree.specs.Proper.{universal};
-ghost use Rattle.c1p_solve.specs.Answers.{IsAnswer, LeavesTree, IsTaken};
+ghost use Rattle.c1p_solve.specs.Answers.{IsAnswer, LeavesTree};
 
 use incompat_graph::{Cycle, odd_walk, simple_cycle};
 use pq_plain::{Reducer, Step};
@@ -40,6 +40,8 @@ pub fn solve<R: Reducer, L: Ledger>(
     ensures answer { IfOk result (IsAnswer m.now) }
     ensures reducer { IfOk result (LeavesTree m.now (R.outline reducer.new)) }
 {
+    let columns = m.columns();
+    prove!(columns > 0);
     for taken in 0..m.rows() {
         match reducer.reduce(m, taken + 1, steps) {
             Err(error) => return Err(error),

@@ -64,9 +64,10 @@ impl Matrix {
         pop_piece(&mut self.members, &mut self.bounds);
     }
 
-    /// The number of columns.
+    /// The number of columns, from 1 to 32,768.
     pub fn columns(&self) -> u32
-        ensures { result ≡ self.now.columns }
+        ensures columns { result ≡ self.now.columns }
+        ensures range { (1 ≤ result) × (result ≤ 32768) }
     {
         self.column_count
     }

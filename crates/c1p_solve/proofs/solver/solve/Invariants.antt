@@ -1,0 +1,11 @@
+use Rattle.std.proofs.Common.{◌≡◌, ◌≤◌, take}
+use Rattle.column_order.specs.Orders.{HasValidOrder}
+use Rattle.tied_law.specs.Tied.{IsTied}
+use Rattle.c1p_solve.proofs.solver.solve.Given as goal
+
+abbrev pub invariant-loop-taken : goal.invariant-loop-taken
+invariant-loop-taken g l = record {
+  columns : g.R.Reducer.columns l.reducer ≡ l.m.columns;
+  tied : IsTied l.m.columns (take l.taken l.m.rows) (g.R.Reducer.outline l.reducer);
+  order : HasValidOrder l.m.columns (take l.taken l.m.rows);
+}
