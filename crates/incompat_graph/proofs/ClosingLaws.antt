@@ -1,8 +1,7 @@
 -- Ways through a search tree, as they grow.
-use Rattle.std.proofs.Common.{◌≡◌, ◌≢◌, ◌⊎◌, ◌∙◌, ℕ, ◌+◌, ◌-◌, ◌%◌, ◌<◌, ◌≤◌, Bool, true, false, not, List, [], ◌∷◌, ◌++◌, length, reverse, slice_get, Some, refl, sym, ap, subst, inl, inr, arith}
+use Rattle.std.proofs.Common.{◌≡◌, ◌∙◌, ℕ, ◌+◌, ◌%◌, ◌<◌, ◌≤◌, Bool, true, false, not, List, [], ◌∷◌, ◌++◌, length, reverse, slice_get, Some, refl, sym, ap, subst, inl, inr, arith}
 use Rattle.std.proofs.lemmas.List.{append-nil, append_assoc, length-append, length-reverse, reverse-append}
-use Rattle.std.proofs.lemmas.Option.{same_Some, slice_get_within}
-use Rattle.row_model.specs.declared.graph.Pair.{Pair}
+use Rattle.std.proofs.lemmas.Option.{same_Some}
 use Rattle.row_model.specs.declared.graph.Line.{Line}
 use Rattle.row_model.specs.Graph.{JoinedBy}
 use Rattle.row_model.specs.Cycles.{first_pair, LeadTo, IsOddWalk}
@@ -10,7 +9,7 @@ use Rattle.row_model.proofs.CycleLaws.{joined_by_sym, first_pushed, first-append
 use Rattle.incompat_graph.specs.declared.forest.Node.{Node}
 use Rattle.incompat_graph.specs.declared.forest.Conflict.{Conflict}
 use Rattle.incompat_graph.specs.declared.forest.Forest.{Forest}
-use Rattle.incompat_graph.specs.Search.{IsTree, AreJoined, IsForest, IsConflict, ShowsConflict}
+use Rattle.incompat_graph.specs.Search.{IsTree, AreJoined, ShowsConflict}
 use Rattle.incompat_graph.specs.Closing.{IsParity, AreEnds, IsWayDown, IsWayUp}
 
 -- one step more

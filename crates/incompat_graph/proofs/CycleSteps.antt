@@ -1,12 +1,12 @@
 -- The steps by which a walk is followed until a pair comes again.
-use Rattle.std.proofs.Common.{◌≡◌, ◌≢◌, ◌⊎◌, ◌∙◌, ℕ, ◌+◌, ◌-◌, ◌%◌, ◌<◌, ◌≤◌, List, [], ◌∷◌, ◌++◌, length, take, drop, get_or, slice_get, Some, inl, inr, refl, sym, ap, subst, arith}
+use Rattle.std.proofs.Common.{◌≡◌, ◌≢◌, ◌⊎◌, ◌∙◌, ℕ, ◌+◌, ◌-◌, ◌%◌, ◌<◌, ◌≤◌, List, [], ◌∷◌, ◌++◌, length, take, drop, get_or, slice_get, Some, inl, inr, sym, ap, subst, arith}
 use Rattle.std.proofs.lemmas.List.{take_all}
 use Rattle.std.proofs.lemmas.Option.{slice_get_within, slice_get-get_or}
 use Rattle.row_model.specs.declared.graph.Pair.{Pair}
 use Rattle.row_model.specs.declared.graph.Line.{Line}
 use Rattle.row_model.specs.declared.graph.Why.TheVariants.{Flip}
 use Rattle.row_model.specs.Graph.{pair, IsPair}
-use Rattle.row_model.specs.Cycles.{pair_of, first_pair, IsClosedWalk, IsOdd, IsOddCycle}
+use Rattle.row_model.specs.Cycles.{pair_of, IsClosedWalk, IsOdd, IsOddCycle}
 use Rattle.row_model.proofs.CycleLaws.{lead_line, closed_leads, cycle_from}
 use Rattle.incompat_graph.specs.Numbers.{Numbering, number_of, IsIndexed}
 use Rattle.incompat_graph.proofs.NumberLaws.{indexed_distinct}

@@ -1,22 +1,18 @@
 -- Search forests: what one more node leaves, and what the end of the search shows.
-use Rattle.std.proofs.Common.{◌≡◌, ◌≢◌, ◌⊎◌, ◌∙◌, ℕ, ◌+◌, ◌-◌, ◌<◌, ◌≤◌, Bool, true, false, not, List, [], ◌∷◌, ◌++◌, length, take, slice_get, get_or, Option, Some, None, IsTrue, IsFalse, refl, sym, ap, subst, inl, inr, arith}
+use Rattle.std.proofs.Common.{◌≡◌, ◌∙◌, ℕ, ◌<◌, ◌≤◌, Bool, true, false, not, List, [], ◌∷◌, ◌++◌, length, take, slice_get, Some, None, refl, sym, ap, subst, inl, inr, arith}
 use Rattle.std.proofs.lemmas.Bool.{cases_lt}
-use Rattle.std.proofs.lemmas.List.{append-nil, append_assoc, length-append, take-append-le, take_all}
-use Rattle.std.proofs.lemmas.Option.{same_Some, slice_get_within, get_or_from_slice_get}
+use Rattle.std.proofs.lemmas.List.{append-nil, append_assoc, length-append, take-append-le}
+use Rattle.std.proofs.lemmas.Option.{same_Some, slice_get_within}
 use Rattle.row_model.specs.declared.graph.Pair.{Pair}
 use Rattle.row_model.specs.declared.graph.Why.{Why}
-use Rattle.row_model.specs.declared.graph.Why.TheVariants.{Flip, Row}
-use Rattle.row_model.specs.Graph.{pair, turned, row_at, IsPair, JoinedBy, Joined, Crosses}
-use Rattle.row_model.specs.Rows.{RowList}
+use Rattle.row_model.specs.Graph.{JoinedBy}
 use Rattle.row_model.proofs.CycleLaws.{joined_by_sym}
-use Rattle.column_order.specs.Orders.{has}
 use Rattle.incompat_graph.specs.declared.forest.Node.{Node}
-use Rattle.incompat_graph.specs.declared.forest.Conflict.{Conflict}
 use Rattle.incompat_graph.specs.declared.forest.Forest.{Forest}
-use Rattle.incompat_graph.specs.Numbers.{Numbering, number_of, IsIndexed}
-use Rattle.incompat_graph.specs.Marks.{Marking, is_marked}
-use Rattle.incompat_graph.specs.Search.{pair_of_node, IsReached, Adds, Reaches, IsTree, AreJoined, IsSettled, IsForest, IsConflict, ShowsConflict, Grows}
-use Rattle.incompat_graph.proofs.Items.{item_pushed, item_last, item_append, item_taken, item_take, item_at}
+use Rattle.incompat_graph.specs.Numbers.{Numbering, IsIndexed}
+use Rattle.incompat_graph.specs.Marks.{Marking}
+use Rattle.incompat_graph.specs.Search.{pair_of_node, IsReached, Adds, Reaches, IsTree, AreJoined, IsSettled, IsForest, ShowsConflict, Grows}
+use Rattle.incompat_graph.proofs.Items.{item_pushed, item_last, item_append, item_taken, item_take}
 use Rattle.incompat_graph.proofs.NumberLaws.{indexed_same}
 
 not_not : (b : Bool) → not (not b) ≡ b

@@ -1,8 +1,8 @@
 -- Marks of rows at columns.
-use Rattle.std.proofs.Common.{◌≡◌, ◌≢◌, ◌⊎◌, ◌∙◌, ℕ, ◌+◌, ◌-◌, ◌*◌, ◌<◌, ◌≤◌, Bool, true, false, List, length, set, get_or, refl, sym, ap, inl, inr, arith, get_or-set_same, get_or-set_other}
+use Rattle.std.proofs.Common.{◌≡◌, ◌≢◌, ◌⊎◌, ◌∙◌, ℕ, ◌-◌, ◌*◌, ◌<◌, ◌≤◌, Bool, true, false, List, length, set, refl, inl, inr, arith, get_or-set_same, get_or-set_other}
 use Rattle.std.proofs.lemmas.Bool.{cases_eq}
 use Rattle.std.proofs.lemmas.Nat.{same_from_place, mul-add-lt}
-use Rattle.incompat_graph.specs.Marks.{Marking, is_marked, mark_place, IsMarkedAt}
+use Rattle.incompat_graph.specs.Marks.{is_marked, mark_place, IsMarkedAt}
 
 -- a place is within the table
 pub mark_place-lt : (rows columns row column : ℕ) → 1 ≤ row → row ≤ rows → 1 ≤ column → column ≤ columns → mark_place rows row column < rows * columns

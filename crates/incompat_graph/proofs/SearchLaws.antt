@@ -1,22 +1,18 @@
 -- The search: what is reached by looking at a row, and what the end of it shows.
-use Rattle.std.proofs.Common.{◌≡◌, ◌≢◌, ◌⊎◌, ◌∙◌, ℕ, ◌+◌, ◌-◌, ◌<◌, ◌≤◌, Bool, true, false, not, List, [], ◌∷◌, ◌++◌, length, take, slice_get, get_or, Option, Some, None, IsTrue, IsFalse, refl, sym, ap, subst, inl, inr, arith}
-use Rattle.std.proofs.lemmas.Bool.{both_ways, cases_lt, cases_eq}
-use Rattle.std.proofs.lemmas.List.{append-nil, append_assoc, length-append, length-take-le, get_or-take}
-use Rattle.std.proofs.lemmas.Option.{same_Some, slice_get_within, get_or_from_slice_get}
-use Rattle.row_model.specs.declared.graph.Pair.{Pair}
-use Rattle.row_model.specs.declared.graph.Why.{Why}
-use Rattle.row_model.specs.declared.graph.Why.TheVariants.{Flip, Row}
-use Rattle.row_model.specs.Graph.{pair, turned, row_at, IsPair, JoinedBy, Joined, Crosses}
+use Rattle.std.proofs.Common.{◌≡◌, ◌≢◌, ◌⊎◌, ◌∙◌, ℕ, ◌+◌, ◌-◌, ◌<◌, ◌≤◌, true, not, List, [], ◌++◌, length, take, slice_get, Some, None, IsTrue, IsFalse, refl, sym, ap, subst, inl, inr, arith}
+use Rattle.std.proofs.lemmas.Bool.{both_ways, cases_eq}
+use Rattle.std.proofs.lemmas.List.{append-nil, append_assoc, length-take-le, get_or-take}
+use Rattle.std.proofs.lemmas.Option.{same_Some, slice_get_within}
+use Rattle.row_model.specs.declared.graph.Why.TheVariants.{Row}
+use Rattle.row_model.specs.Graph.{pair, turned, row_at, IsPair, JoinedBy, Crosses}
 use Rattle.row_model.specs.Rows.{RowList, IsRow}
 use Rattle.column_order.specs.Orders.{has}
 use Rattle.incompat_graph.specs.declared.forest.Node.{Node}
-use Rattle.incompat_graph.specs.declared.forest.Conflict.{Conflict}
 use Rattle.incompat_graph.specs.declared.forest.Forest.{Forest}
-use Rattle.incompat_graph.specs.Numbers.{Numbering, number_of, IsIndexed}
 use Rattle.incompat_graph.specs.Marks.{Marking, is_marked, IsMarkedAt}
-use Rattle.incompat_graph.specs.Search.{pair_of_node, IsReached, Adds, Reaches, IsTree, AreJoined, IsSettled, IsForest, IsConflict, ShowsConflict, IsReachedAlong, IsSpread, IsSearch, Grows, IsTaken, AreTaken, AreReachedFrom}
-use Rattle.incompat_graph.proofs.Items.{item_append, item_taken, item_take, item_at, item_of, row_item}
-use Rattle.incompat_graph.proofs.ForestLaws.{reached_append, reached_grown, reached_node, reached_once, reach_none, reach_some, same_not}
+use Rattle.incompat_graph.specs.Search.{IsReached, Reaches, IsForest, ShowsConflict, IsReachedAlong, IsSpread, IsSearch, Grows}
+use Rattle.incompat_graph.proofs.Items.{item_append, item_of, row_item}
+use Rattle.incompat_graph.proofs.ForestLaws.{reached_append, reach_none, reach_some}
 
 -- the node of the pair (b,d), reached from the node of the pair (a,b)
 abbrev pub next_node : Node → ℕ → ℕ → ℕ → Node

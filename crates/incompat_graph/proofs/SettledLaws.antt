@@ -1,19 +1,19 @@
 -- The end of a tree, and of the search.
-use Rattle.std.proofs.Common.{◌≡◌, ◌≢◌, ◌⊎◌, ◌∙◌, ℕ, ◌+◌, ◌-◌, ◌<◌, ◌≤◌, Bool, true, false, not, List, [], ◌∷◌, ◌++◌, length, take, slice_get, get_or, Some, IsTrue, IsFalse, refl, sym, ap, subst, inl, inr, arith}
+use Rattle.std.proofs.Common.{◌≡◌, ◌∙◌, ℕ, ◌+◌, ◌-◌, ◌<◌, ◌≤◌, Bool, true, false, not, [], ◌∷◌, ◌++◌, length, take, slice_get, Some, IsTrue, IsFalse, refl, sym, ap, subst, inl, inr, arith}
 use Rattle.std.proofs.lemmas.Bool.{cases_eq}
 use Rattle.std.proofs.lemmas.List.{length-append, length-take-le, get_or-take, take_at}
-use Rattle.std.proofs.lemmas.Option.{same_Some, slice_get_within, get_or_from_slice_get}
+use Rattle.std.proofs.lemmas.Option.{slice_get_within}
 use Rattle.row_model.specs.declared.graph.Pair.{Pair}
 use Rattle.row_model.specs.declared.graph.Why.TheVariants.{Flip, Row}
-use Rattle.row_model.specs.Graph.{pair, turned, row_at, IsPair, JoinedBy, Joined, Crosses}
+use Rattle.row_model.specs.Graph.{pair, turned, row_at, IsPair, Crosses}
 use Rattle.row_model.specs.Rows.{RowList}
 use Rattle.column_order.specs.Orders.{has}
 use Rattle.incompat_graph.specs.declared.forest.Node.{Node}
 use Rattle.incompat_graph.specs.declared.forest.Forest.{Forest}
 use Rattle.incompat_graph.specs.Numbers.{number_of}
 use Rattle.incompat_graph.specs.Marks.{Marking, is_marked}
-use Rattle.incompat_graph.specs.Search.{pair_of_node, root_node, IsReached, Plants, IsTree, AreJoined, IsSettled, IsForest, IsSearch, Grows, IsTaken, AreTaken, AreReachedFrom}
-use Rattle.incompat_graph.proofs.Items.{item_pushed, item_last}
+use Rattle.incompat_graph.specs.Search.{root_node, IsReached, Plants, IsSettled, IsSearch, Grows, IsTaken, AreTaken, AreReachedFrom}
+use Rattle.incompat_graph.proofs.Items.{item_last}
 use Rattle.incompat_graph.proofs.NumberLaws.{same_pair}
 use Rattle.incompat_graph.proofs.ForestLaws.{reached_grown, reached_node, reached_once, grows_refl, grows_trans}
 use Rattle.incompat_graph.proofs.TakenLaws.{search_grown, all_taken_grown}

@@ -1,25 +1,19 @@
 -- Nodes that are taken, and what it shows that all are.
-use Rattle.std.proofs.Common.{◌≡◌, ◌≢◌, ◌⊎◌, ◌∙◌, ℕ, ◌+◌, ◌-◌, ◌*◌, ◌<◌, ◌≤◌, Bool, true, false, not, List, [], ◌∷◌, ◌++◌, length, map, take, slice_get, get_or, Option, Some, None, Result, Ok, Err, IfOk, MatchOption, IsTrue, IsFalse, refl, sym, ap, subst, inl, inr, arith}
-use Rattle.std.proofs.lemmas.Bool.{both_ways, cases_lt, cases_eq}
-use Rattle.std.proofs.lemmas.List.{append-nil, append_assoc, length-append, length-take-le, get_or-take, take_at}
-use Rattle.std.proofs.lemmas.Option.{same_Some, slice_get_within, get_or_from_slice_get}
-use Rattle.row_model.specs.declared.graph.Pair.{Pair}
-use Rattle.row_model.specs.declared.graph.Why.{Why}
-use Rattle.row_model.specs.declared.graph.Why.TheVariants.{Flip, Row}
-use Rattle.row_model.specs.Graph.{pair, turned, row_at, IsPair, JoinedBy, Joined, Crosses, HasOddWalk}
-use Rattle.row_model.specs.Rows.{RowList, IsRow}
+use Rattle.std.proofs.Common.{◌≡◌, ◌∙◌, ℕ, ◌+◌, ◌<◌, ◌≤◌, true, not, List, ◌++◌, length, take, slice_get, Some, None, IsTrue, refl, sym, ap, subst, inl, inr, arith}
+use Rattle.std.proofs.lemmas.Bool.{cases_eq}
+use Rattle.std.proofs.lemmas.Option.{same_Some, slice_get_within}
+use Rattle.row_model.specs.declared.graph.Why.TheVariants.{Flip}
+use Rattle.row_model.specs.Graph.{pair, turned, row_at, IsPair, JoinedBy}
+use Rattle.row_model.specs.Rows.{RowList}
 use Rattle.row_model.proofs.Walks.{is_pair_turned}
 use Rattle.column_order.specs.Orders.{has}
 use Rattle.incompat_graph.specs.declared.forest.Node.{Node}
-use Rattle.incompat_graph.specs.declared.forest.Conflict.{Conflict}
 use Rattle.incompat_graph.specs.declared.forest.Forest.{Forest}
-use Rattle.incompat_graph.specs.Numbers.{Numbering, number_of, IsIndexed}
-use Rattle.incompat_graph.specs.Marks.{Marking, is_marked, IsMarkedAt}
+use Rattle.incompat_graph.specs.Marks.{Marking, is_marked}
 use Rattle.incompat_graph.specs.Holders.{holders_of, AreHolders}
-use Rattle.incompat_graph.specs.Search.{pair_of_node, IsReached, Adds, Reaches, IsTree, AreJoined, IsSettled, IsForest, IsConflict, ShowsConflict, IsReachedAlong, IsSpread, IsSearch, Grows, IsTaken, AreTaken, AreReachedFrom}
-use Rattle.incompat_graph.proofs.Items.{item_append, item_taken, item_take, item_at, item_of, row_item}
-use Rattle.incompat_graph.proofs.NumberLaws.{same_pair}
-use Rattle.incompat_graph.proofs.ForestLaws.{reached_append, reached_grown, reached_node, reached_once, reach_none, reach_some, same_not, grows_refl, grows_trans, grown_item, grown_long}
+use Rattle.incompat_graph.specs.Search.{IsReached, Reaches, IsForest, ShowsConflict, IsSearch, Grows, IsTaken, AreTaken}
+use Rattle.incompat_graph.proofs.Items.{item_at}
+use Rattle.incompat_graph.proofs.ForestLaws.{reached_append, reached_grown, reach_none, reach_some, grows_refl, grows_trans, grown_item, grown_long}
 use Rattle.incompat_graph.proofs.SearchLaws.{node_pair}
 
 -- a search stays one with more nodes

@@ -1,5 +1,5 @@
 -- The rows that have each column.
-use Rattle.std.specs.Prelude.{◌≡◌, ℕ, ◌-◌, ◌<◌, ◌≤◌, Some, List, [], length, slice_get, slice_index_or, IsTrue}
+use Rattle.std.specs.Prelude.{◌≡◌, ℕ, ◌-◌, ◌≤◌, Some, List, [], length, slice_get, slice_index_or, IsTrue}
 use Rattle.row_model.specs.Graph.{row_at}
 use Rattle.row_model.specs.Rows.{RowList}
 use Rattle.column_order.specs.Orders.{has}

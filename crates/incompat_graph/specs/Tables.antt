@@ -1,5 +1,5 @@
 -- How the tables keep what contracts see of them.
-use Rattle.std.specs.Prelude.{◌≡◌, ℕ, ◌*◌, length}
+use Rattle.std.specs.Prelude.{◌≡◌, ◌*◌, length}
 use Rattle.incompat_graph.specs.declared.numbers.PairNumbers.TheInside.{Inside}
 use Rattle.incompat_graph.specs.declared.marks.Marks.TheInside.{Inside as MarksInside}
 use Rattle.incompat_graph.specs.Numbers.{Numbering}

@@ -1,5 +1,5 @@
 -- Laws of walks that are written as lists of lines.
-use Rattle.std.proofs.Common.{◌≡◌, ◌≢◌, ◌∙◌, ℕ, zero, suc, ◌+◌, ◌-◌, ◌<◌, ◌≤◌, ◌%◌, ◌/◌, List, [], ◌∷◌, ◌++◌, length, take, drop, map, slice_get, Some, None, AllPairs, refl, sym, ap, subst, inl, inr, arith}
+use Rattle.std.proofs.Common.{◌≡◌, ◌≢◌, ◌∙◌, ℕ, zero, suc, ◌+◌, ◌-◌, ◌≤◌, ◌/◌, List, [], ◌∷◌, ◌++◌, length, take, drop, map, slice_get, Some, AllPairs, refl, sym, ap, subst, inl, inr, arith}
 use Rattle.std.proofs.lemmas.Option.{none-some, same_Some}
 use Rattle.std.proofs.lemmas.List.{get_or-take, length-take-le, length-append, length-map}
 use Rattle.row_model.specs.declared.graph.Pair.{Pair}
@@ -7,7 +7,7 @@ use Rattle.row_model.specs.declared.graph.Line.{Line}
 use Rattle.row_model.specs.declared.graph.Why.{Why}
 use Rattle.row_model.specs.declared.graph.Why.TheVariants.{Flip, Row}
 use Rattle.row_model.specs.Graph.{Crosses, JoinedBy, Joined, row_at, IsWalk, HasOddWalk}
-use Rattle.row_model.specs.Cycles.{pair_of, first_pair, LeadTo, IsClosedWalk, IsOdd, IsOddWalk, IsOddCycle}
+use Rattle.row_model.specs.Cycles.{pair_of, first_pair, LeadTo, IsClosedWalk, IsOddWalk, IsOddCycle}
 
 -- the first pair of lines of which one was pushed
 pub first_pushed : (lines : List Line) (line : Line) (end : Pair) → first_pair (lines ++ line ∷ []) end ≡ first_pair lines line.pair

@@ -1,7 +1,6 @@
-use Rattle.std.proofs.Common.{◌≡◌, ◌∙◌, ℕ, ◌+◌, ◌-◌, ◌%◌, ◌<◌, ◌≤◌, List, [], ◌∷◌, ◌++◌, length, reverse, slice_get, Some, refl, ap, sym, subst, arith}
+use Rattle.std.proofs.Common.{◌≡◌, ◌<◌, [], ◌∷◌, ◌++◌, length, slice_get, Some, refl, sym, subst, arith}
 use Rattle.std.proofs.lemmas.Grind.{common_steps}
 use Rattle.std.proofs.lemmas.Option.{slice_get_read, slice_get_within}
-use Rattle.row_model.specs.declared.graph.Line.{Line}
 use Rattle.incompat_graph.specs.declared.forest.Node.{Node}
 use Rattle.incompat_graph.proofs.Items.{item_at}
 use Rattle.incompat_graph.proofs.ClosingLaws.{IsPartDown, part_down_none, part_down_more, part_down_all}

@@ -1,4 +1,4 @@
-use Rattle.std.proofs.Common.{◌≡◌, ℕ, [], List, replicate}
+use Rattle.std.proofs.Common.{◌≡◌, [], replicate}
 use Rattle.incompat_graph.specs.Holders.{AreHolders}
 use Rattle.incompat_graph.proofs.HolderLaws.{lists_of, HoldersSoFar}
 use Rattle.incompat_graph.proofs.holders.rows_by_column.Given as goal

@@ -1,4 +1,4 @@
-use Rattle.std.proofs.Common.{ℕ, ◌<◌, ◌≤◌}
+use Rattle.std.proofs.Common.{ℕ, ◌≤◌}
 use Rattle.row_model.specs.Graph.{JoinedBy}
 use Rattle.row_model.specs.declared.graph.Why.TheVariants.{Flip, Row}
 use Rattle.incompat_graph.proofs.reason.joined.Given as goal

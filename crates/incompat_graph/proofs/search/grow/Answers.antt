@@ -1,4 +1,4 @@
-use Rattle.std.proofs.Common.{◌≡◌, ℕ, ◌+◌, ◌-◌, ◌*◌, ◌<◌, ◌≤◌, length, subst, arith}
+use Rattle.std.proofs.Common.{◌*◌, ◌<◌, ◌≤◌, length, subst, arith}
 use Rattle.incompat_graph.specs.Search.{pair_of_node}
 use Rattle.incompat_graph.proofs.Items.{none_of}
 use Rattle.incompat_graph.proofs.NumberLaws.{indexed_room}

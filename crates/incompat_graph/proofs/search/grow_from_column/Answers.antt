@@ -1,4 +1,4 @@
-use Rattle.std.proofs.Common.{◌≡◌, ◌+◌}
+use Rattle.std.proofs.Common.{◌+◌}
 use Rattle.row_model.specs.Graph.{pair}
 use Rattle.incompat_graph.proofs.Items.{none_of}
 use Rattle.incompat_graph.proofs.SettledLaws.{grown_from_none, grown_from_tree, planted_search, planted_taken}

@@ -1,4 +1,3 @@
-use Rattle.row_model.specs.Graph.{row_at}
 use Rattle.incompat_graph.proofs.SearchLaws.{IsSpreading}
 use Rattle.incompat_graph.proofs.search.look.Given as goal
 

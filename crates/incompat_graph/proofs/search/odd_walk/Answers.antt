@@ -1,4 +1,4 @@
-use Rattle.std.proofs.Common.{◌≡◌, take, subst, arith}
+use Rattle.std.proofs.Common.{take, subst, arith}
 use Rattle.row_model.specs.Cycles.{IsOddWalk}
 use Rattle.incompat_graph.proofs.Items.{none_of}
 use Rattle.incompat_graph.proofs.EndLaws.{searched_more, searched_all}

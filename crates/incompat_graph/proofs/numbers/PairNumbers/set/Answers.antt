@@ -1,4 +1,4 @@
-use Rattle.std.proofs.Common.{◌≡◌, set, ap, sym, subst, arith}
+use Rattle.std.proofs.Common.{◌≡◌, set, ap, sym, subst}
 use Rattle.row_model.specs.Graph.{IsPair}
 use Rattle.incompat_graph.proofs.NumberLaws.{renumbered}
 use Rattle.incompat_graph.proofs.numbers.PairNumbers.set.Goals as goal
