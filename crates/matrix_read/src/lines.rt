@@ -70,8 +70,8 @@ fn line_end(bytes: &[u8], at: usize) -> usize
     bytes.len()
 }
 
-#[tactic(auto, using(crate::proofs::LineLemmas::length_return_dropped, crate::proofs::LineLemmas::length_return_none))]
 // How long a line is without a carriage return at its end.
+#[tactic(auto, using(crate::proofs::LineLemmas::length_return_dropped, crate::proofs::LineLemmas::length_return_none))]
 fn len_without_return(line: &[u8]) -> usize
     ensures line { result ≡ length (without_return line.now) }
     ensures within { result ≤ length line.now }
