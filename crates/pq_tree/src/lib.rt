@@ -193,7 +193,7 @@ impl PqTree {
     {
         match parse::tree_of(alloc, bytes, c)? {
             None => Ok(None),
-            Some(tree) => Ok(Some(PqTree { columns: c, tree })),
+            Some(tree) => Ok(Some(PqTree::from_tree(c, tree))),
         }
     }
 }
