@@ -18,6 +18,7 @@ mod arranged;
 mod parse;
 mod write;
 
+pub use parse::one_tree;
 pub use std::alloc::AllocError as NoMemory;
 use std::alloc::Global;
 
