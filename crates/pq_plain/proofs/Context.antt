@@ -9,7 +9,7 @@ use Rattle.tied_law.proofs.Bound.{IsClosed, AreClosed, IsInLine, IsBound, AreBou
 use Rattle.tied_law.proofs.Frontiers.{has_same}
 use Rattle.pq_plain.specs.Templates.{join}
 use Rattle.pq_plain.proofs.Lines.{has_join_right}
-use Rattle.pq_plain.proofs.Root.{Rooted, set_through}
+use Rattle.pq_plain.proofs.AtRoot.{Rooted, set_through}
 
 -- two lists of trees with a tree t in the one where the other has u
 module _ (t u : Outline) (same : (a : ℕ) → occurs (leaves u) a ≡ occurs (leaves t) a) where

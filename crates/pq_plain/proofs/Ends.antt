@@ -8,7 +8,7 @@ use Rattle.pq_tree.specs.Outline.{Outline, Forest, q_node, no_tree}
 use Rattle.pq_tree.specs.Proper.{outline_of, forest}
 use Rattle.pq_tree.specs.declared.Tree.{Tree}
 use Rattle.pq_plain.specs.Templates.{join, back}
-use Rattle.pq_plain.specs.Treat.{Partial, Label, partials}
+use Rattle.pq_plain.specs.Labels.{Partial, Label, partials}
 use Rattle.pq_plain.specs.Seen.{outlines, halves_seen, label_seen}
 use Rattle.pq_plain.specs.AtRoot.{line_of, turned_line_of, line_if, span_seen, PartialsAt, first_line, first_turned, q_made}
 use Rattle.pq_plain.specs.declared.label.Halves.{Halves}

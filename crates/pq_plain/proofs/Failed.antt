@@ -1,4 +1,4 @@
--- Where `treat` or `reduce` gives nothing, some pair is related to itself turned round.
+-- Where no template fits at a node below the root, some pair is related to itself with its columns exchanged.
 use Rattle.std.proofs.Common.{◌≡◌, ◌≢◌, ◌⊎◌, ◌∙◌, ◌+◌, ◌≤◌, ℕ, Bool, true, false, cond, List, [], ◌∷◌, ◌++◌, reverse, Option, Some, None, IsTrue, IsFalse, refl, sym, subst, inl, inr, arith, option_and_then}
 use Rattle.std.proofs.lemmas.Bool.{both_ways, false_from_ne_true}
 use Rattle.row_model.specs.declared.graph.Pair.{Pair}
@@ -10,15 +10,17 @@ use Rattle.pq_tree.specs.Proper.{HasArities, HaveArities}
 use Rattle.tied_law.specs.Tied.{IsForward}
 use Rattle.tied_law.proofs.Bound.{IsClosed, AreClosed, IsBound, AreBound, IsPairEq}
 use Rattle.tied_law.proofs.Frontiers.{has_same}
-use Rattle.pq_plain.specs.Templates.{join, back, IsParted}
-use Rattle.pq_plain.specs.Treat.{Partial, Label, empty_trees, full_trees, partial_trees, partials, at_p, at_q, at_run, Run, run_of, all_filled, one_more, label_of, labels_of, first_some}
-use Rattle.pq_plain.proofs.Lines.{closed_right, parted_occurs, has_join_left, has_join_right}
-use Rattle.pq_plain.proofs.Treat.{IsOutside, Treated, outside_within}
-use Rattle.pq_plain.proofs.Queue.{forward_back}
-use Rattle.pq_plain.proofs.Refused.{two_partial, both_ends}
-use Rattle.pq_plain.proofs.Made.{made_void, made_filled, made_split, AreMade, none_made, more_made, AreHalves, no_half, a_half, rest, first_parted, second_parted, halves_made, some_leaf, treat_all_made, made_back, counts_back}
+use Rattle.pq_plain.specs.Templates.{join, back}
+use Rattle.pq_plain.specs.Labels.{Partial, Label, empty_trees, full_trees, partials, at_p, at_q, at_run, Run, run_of, all_full, one_more, label_of, labels_of, first_some}
+use Rattle.pq_plain.proofs.Lines.{has_join_left, has_join_right, parted_occurs, closed_right}
+use Rattle.pq_plain.proofs.BelowRoot.{IsOutside, Treated, outside_within}
+use Rattle.pq_plain.proofs.QLines.{forward_back}
+use Rattle.pq_plain.proofs.Conflicts.{two_partial, both_ends}
+use Rattle.pq_plain.proofs.Labelled.{labels_right, labels_sorted}
+use Rattle.pq_plain.proofs.HaveColumns.{some_leaf, arities_back}
+use Rattle.pq_plain.proofs.Meaning.{labelled_empty, labelled_full, labelled_partial, AreLabelled, none_labelled, more_labelled, ArePartial, no_partial, a_partial, labelled_back, parts}
 
--- a pair of distinct columns that is related to itself turned
+-- a pair of distinct columns that is related to itself with its columns exchanged
 pub record Crossed (R : Pair → Pair → Type 0) : Type 0 where
   pub a : ℕ
   pub b : ℕ
@@ -57,18 +59,18 @@ pub in_right : (row : List ℕ) (u : Outline) (h : Partial) (t : Treated row u h
 in_right row u h t a k = sym (has_same (leaves_of (join h.e h.f)) (leaves u) a (t.same a)) ∙ has_join_right h.e h.f a k
 
 -- a later tree that isn't full has an empty column
-not_filled : (row : List ℕ) (ts : Forest) (ps : List Label) → AreMade row ts ps → HaveArities ts → IsFalse (all_filled ps) → (d : ℕ) × IsTrue (has (leaves_of ts) d) × IsFalse (has row d)
-not_filled row ts ps none_made c e = absurd (both_ways true e refl)
-not_filled row ts ps (more_made {t = t} {ts = us} (made_void k) m) c e =
+some_empty_column : (row : List ℕ) (ts : Forest) (ps : List Label) → AreLabelled row ts ps → HaveArities ts → IsFalse (all_full ps) → (d : ℕ) × IsTrue (has (leaves_of ts) d) × IsFalse (has row d)
+some_empty_column row ts ps none_labelled c e = absurd (both_ways true e refl)
+some_empty_column row ts ps (more_labelled {t = t} {ts = us} (labelled_empty k) m) c e =
     let w : (a : ℕ) × IsTrue (has (leaves t) a) = some_leaf t c.0 in (w.0, has_append_left (leaves t) (leaves_of us) w.0 w.1, k w.0 w.1)
-not_filled row ts ps (more_made {t = t} {ts = us} {ps = qs} (made_filled k) m) c e =
-    let w : (d : ℕ) × IsTrue (has (leaves_of us) d) × IsFalse (has row d) = not_filled row us qs m c.1 e in (w.0, has_append_right (leaves t) (leaves_of us) w.0 w.1, w.2)
-not_filled row ts ps (more_made {t = t} {ts = us} (made_split h k) m) c e =
+some_empty_column row ts ps (more_labelled {t = t} {ts = us} {ps = qs} (labelled_full k) m) c e =
+    let w : (d : ℕ) × IsTrue (has (leaves_of us) d) × IsFalse (has row d) = some_empty_column row us qs m c.1 e in (w.0, has_append_right (leaves t) (leaves_of us) w.0 w.1, w.2)
+some_empty_column row ts ps (more_labelled {t = t} {ts = us} (labelled_partial h k) m) c e =
     (k.some_empty.0, has_append_left (leaves t) (leaves_of us) k.some_empty.0 (in_left row t h k k.some_empty.0 k.some_empty.1), k.empty k.some_empty.0 k.some_empty.1)
 
-run_falls : (row : List ℕ) (ts : Forest) (ps : List Label) → AreMade row ts ps → HaveArities ts → run_of ts ps ≡ None → Falls row ts
-run_falls row ts ps none_made c e = cc
-run_falls row ts ps (more_made {t = t} {ts = us} {ps = qs} (made_void k) m) c e =
+run_falls : (row : List ℕ) (ts : Forest) (ps : List Label) → AreLabelled row ts ps → HaveArities ts → run_of ts ps ≡ None → Falls row ts
+run_falls row ts ps none_labelled c e = cc
+run_falls row ts ps (more_labelled {t = t} {ts = us} {ps = qs} (labelled_empty k) m) c e =
     elim (and_then_none (λ r. Some (one_more t r)) (run_of us qs) e) [
       | inl n ↦ let w : Falls row us = run_falls row us qs m c.1 n in record { v = w.v; forward = inr w.forward; from_full = w.from_full; to_empty = w.to_empty }
       | inr n ↦ none_some (one_more t n.0) n.2
@@ -76,12 +78,12 @@ run_falls row ts ps (more_made {t = t} {ts = us} {ps = qs} (made_void k) m) c e 
   where
     none_some : (r : Run) → Some r ≡ None → Falls row (tree_and t us)
     none_some r e = cc
-run_falls row ts ps (more_made {t = t} {ts = us} {ps = qs} (made_filled k) m) c e =
-    let w : (d : ℕ) × IsTrue (has (leaves_of us) d) × IsFalse (has row d) = not_filled row us qs m c.1 (cond_none (all_filled qs) (record { before = no_tree; middle = []; behind = tree_and t us }) e) in
+run_falls row ts ps (more_labelled {t = t} {ts = us} {ps = qs} (labelled_full k) m) c e =
+    let w : (d : ℕ) × IsTrue (has (leaves_of us) d) × IsFalse (has row d) = some_empty_column row us qs m c.1 (cond_none (all_full qs) (record { before = no_tree; middle = []; behind = tree_and t us }) e) in
     let l : (a : ℕ) × IsTrue (has (leaves t) a) = some_leaf t c.0 in
     record { v = pair l.0 w.0; forward = inl (l.1, w.1); from_full = k l.0 l.1; to_empty = w.2 }
-run_falls row ts ps (more_made {t = t} {ts = us} {ps = qs} (made_split h k) m) c e =
-    let w : (d : ℕ) × IsTrue (has (leaves_of us) d) × IsFalse (has row d) = not_filled row us qs m c.1 (cond_none (all_filled qs) (record { before = no_tree; middle = h ∷ []; behind = us }) e) in
+run_falls row ts ps (more_labelled {t = t} {ts = us} {ps = qs} (labelled_partial h k) m) c e =
+    let w : (d : ℕ) × IsTrue (has (leaves_of us) d) × IsFalse (has row d) = some_empty_column row us qs m c.1 (cond_none (all_full qs) (record { before = no_tree; middle = h ∷ []; behind = us }) e) in
     record { v = pair k.some_full.0 w.0; forward = inl (in_right row t h k k.some_full.0 k.some_full.1, w.1); from_full = k.full k.some_full.0 k.some_full.1; to_empty = w.2 }
 
 pub forward_first : (ts : Forest) (v : Pair) → IsForward ts v → IsTrue (has (leaves_of ts) v.a)
@@ -101,13 +103,13 @@ module _ (R : Pair → Pair → Type 0) (eq : IsPairEq R) (row : List ℕ) where
   AllOutside (tree_and t ts) = ((s : ℕ) × IsTrue (has row s) × IsFalse (has (leaves t) s) × IsOutside R row (leaves t) s) × IsClosed R (leaves t) row × AllOutside ts
 
   -- two partial trees below the root
-  two_halves : (ts us : Forest) (hs : List Partial) (es fs : Forest) (s : ℕ) → AreHalves row us hs → AreClosed R (leaves_of ts) us → ((a : ℕ) → IsTrue (has (leaves_of us) a) → IsTrue (has (leaves_of ts) a)) →
+  two_partials : (ts us : Forest) (hs : List Partial) (es fs : Forest) (s : ℕ) → ArePartial row us hs → AreClosed R (leaves_of ts) us → ((a : ℕ) → IsTrue (has (leaves_of us) a) → IsTrue (has (leaves_of ts) a)) →
       ((a : ℕ) → occurs (leaves_of us) a ≤ 1) → IsClosed R (leaves_of ts) row → IsOutside R row (leaves_of ts) s → at_p hs es fs ≡ None → Crossed R
-  two_halves ts us hs no_tree fs s no_half c sub once cr o e = cc
-  two_halves ts us hs (tree_and g es) no_tree s no_half c sub once cr o e = cc
-  two_halves ts us hs (tree_and g es) (tree_and k fs) s no_half c sub once cr o e = cc
-  two_halves ts us hs es fs s (a_half part no_half) c sub once cr o e = cc
-  two_halves ts us hs es fs s (a_half {t = u} {h = h} part (a_half {t = w} {ts = vs} {h = k} part2 m)) c sub once cr o e =
+  two_partials ts us hs no_tree fs s no_partial c sub once cr o e = cc
+  two_partials ts us hs (tree_and g es) no_tree s no_partial c sub once cr o e = cc
+  two_partials ts us hs (tree_and g es) (tree_and k fs) s no_partial c sub once cr o e = cc
+  two_partials ts us hs es fs s (a_partial part no_partial) c sub once cr o e = cc
+  two_partials ts us hs es fs s (a_partial {t = u} {h = h} part (a_partial {t = w} {ts = vs} {h = k} part2 m)) c sub once cr o e =
       let e1 : IsTrue (has (leaves u) part.some_empty.0) = in_left row u h part part.some_empty.0 part.some_empty.1 in
       let f1 : IsTrue (has (leaves u) part.some_full.0) = in_right row u h part part.some_full.0 part.some_full.1 in
       let e2 : IsTrue (has (leaves w) part2.some_empty.0) = in_left row w k part2 part2.some_empty.0 part2.some_empty.1 in
@@ -148,30 +150,29 @@ module _ (R : Pair → Pair → Type 0) (eq : IsPairEq R) (row : List ℕ) where
 
   mutual
     -- Below the root: no template fits at some node.
-    pub treat_failed : (t : Outline) (s : ℕ) → IsTrue (has row s) → IsFalse (has (leaves t) s) → IsOutside R row (leaves t) s → IsClosed R (leaves t) row → IsBound R t → HasArities t →
+    pub label_failed : (t : Outline) (s : ℕ) → IsTrue (has row s) → IsFalse (has (leaves t) s) → IsOutside R row (leaves t) s → IsClosed R (leaves t) row → IsBound R t → HasArities t →
         ((a : ℕ) → occurs (leaves t) a ≤ 1) → label_of row t ≡ None → Crossed R
-    treat_failed (leaf a) s rs ls o cr b n once e = cc
-    treat_failed (p_node ts) s rs ls o cr b n once e =
+    label_failed (leaf a) s rs ls o cr b n once e = cc
+    label_failed (p_node ts) s rs ls o cr b n once e =
         elim (and_then_none (λ ps. at_p (partials ps) (empty_trees ts ps) (full_trees ts ps)) (labels_of row ts) e) [
-          | inl k ↦ treat_all_failed ts (all_outside (leaves_of ts) s rs ls o cr ts (λ a h. h)) b.1 n.1 once k
+          | inl k ↦ labels_failed ts (all_outside (leaves_of ts) s rs ls o cr ts (λ a h. h)) b.1 n.1 once k
           | inr k ↦
-              let m : AreMade row ts k.0 = treat_all_made row ts k.0 n.1 once k.1 in
-              let g : IsParted ts (empty_trees ts k.0) (rest ts k.0) = first_parted row ts k.0 m in
-              let h : IsParted (rest ts k.0) (full_trees ts k.0) (partial_trees ts k.0) = second_parted row ts k.0 m in
-              two_halves ts (partial_trees ts k.0) (partials k.0) (empty_trees ts k.0) (full_trees ts k.0) s (halves_made row ts k.0 m)
-              (closed_right R (leaves_of ts) h (closed_right R (leaves_of ts) g b.0))
-              (λ a l. has_from_occurs (leaves_of ts) a (omega (arith, parted_occurs g a, parted_occurs h a, occurs_from_has (leaves_of (partial_trees ts k.0)) a l)))
-              (λ a. omega (arith, once a, parted_occurs g a, parted_occurs h a)) cr o k.2
+              let m : AreLabelled row ts k.0 = labels_right row ts k.0 n.1 once k.1 in
+              let g = parts row (labels_sorted row ts k.0 k.1) m in
+              two_partials ts g.us (partials k.0) (empty_trees ts k.0) (full_trees ts k.0) s g.partial
+              (closed_right R (leaves_of ts) g.second (closed_right R (leaves_of ts) g.first b.0))
+              (λ a l. has_from_occurs (leaves_of ts) a (omega (arith, parted_occurs g.first a, parted_occurs g.second a, occurs_from_has (leaves_of g.us) a l)))
+              (λ a. omega (arith, once a, parted_occurs g.first a, parted_occurs g.second a)) cr o k.2
         ]
-    treat_failed (q_node ts) s rs ls o cr b n once e =
+    label_failed (q_node ts) s rs ls o cr b n once e =
         elim (and_then_none (λ ps. first_some (option_and_then at_run (run_of ts ps)) (option_and_then at_run (run_of (back ts) (reverse ps)))) (labels_of row ts) e) [
-          | inl k ↦ treat_all_failed ts (all_outside (leaves_of ts) s rs ls o cr ts (λ a h. h)) b.1 n.1 once k
+          | inl k ↦ labels_failed ts (all_outside (leaves_of ts) s rs ls o cr ts (λ a h. h)) b.1 n.1 once k
           | inr k ↦
-              let m : AreMade row ts k.0 = treat_all_made row ts k.0 n.1 once k.1 in
+              let m : AreLabelled row ts k.0 = labels_right row ts k.0 n.1 once k.1 in
               let both : (option_and_then at_run (run_of ts k.0) ≡ None) × (option_and_then at_run (run_of (back ts) (reverse k.0)) ≡ None) =
               first_none (option_and_then at_run (run_of ts k.0)) (option_and_then at_run (run_of (back ts) (reverse k.0))) k.2 in
               let x : Falls row ts = run_falls row ts k.0 m n.1 (no_run (run_of ts k.0) both.0) in
-              let y : Falls row (back ts) = run_falls row (back ts) (reverse k.0) (made_back row ts k.0 m) (counts_back ts n.1) (no_run (run_of (back ts) (reverse k.0)) both.1) in
+              let y : Falls row (back ts) = run_falls row (back ts) (reverse k.0) (labelled_back row ts k.0 m) (arities_back ts n.1) (no_run (run_of (back ts) (reverse k.0)) both.1) in
               let yf : IsForward ts (pair y.v.b y.v.a) = forward_back ts y.v y.forward in
               record {
                 a = y.v.b;
@@ -183,14 +184,14 @@ module _ (R : Pair → Pair → Type 0) (eq : IsPairEq R) (row : List ℕ) where
               }
         ]
 
-    pub treat_all_failed : (ts : Forest) → AllOutside ts → AreBound R ts → HaveArities ts → ((a : ℕ) → occurs (leaves_of ts) a ≤ 1) → labels_of row ts ≡ None → Crossed R
-    treat_all_failed no_tree o b n once e = cc
-    treat_all_failed (tree_and t ts) o b n once e =
+    pub labels_failed : (ts : Forest) → AllOutside ts → AreBound R ts → HaveArities ts → ((a : ℕ) → occurs (leaves_of ts) a ≤ 1) → labels_of row ts ≡ None → Crossed R
+    labels_failed no_tree o b n once e = cc
+    labels_failed (tree_and t ts) o b n once e =
         let sum : (a : ℕ) → occurs (leaves t ++ leaves_of ts) a ≤ 1 = once in
         elim (and_then_none (λ x. option_and_then (λ ps. Some (x ∷ ps)) (labels_of row ts)) (label_of row t) e) [
-          | inl k ↦ treat_failed t o.0.0 o.0.1 o.0.2 o.0.3 o.1 b.0 n.0 (λ a. omega (arith, sum a, occurs-append (leaves t) (leaves_of ts) a)) k
+          | inl k ↦ label_failed t o.0.0 o.0.1 o.0.2 o.0.3 o.1 b.0 n.0 (λ a. omega (arith, sum a, occurs-append (leaves t) (leaves_of ts) a)) k
           | inr k ↦ elim (and_then_none (λ ps. Some (k.0 ∷ ps)) (labels_of row ts) k.2) [
-            | inl j ↦ treat_all_failed ts o.2 b.1 n.1 (λ a. omega (arith, sum a, occurs-append (leaves t) (leaves_of ts) a)) j
+            | inl j ↦ labels_failed ts o.2 b.1 n.1 (λ a. omega (arith, sum a, occurs-append (leaves t) (leaves_of ts) a)) j
             | inr j ↦ some_none (k.0 ∷ j.0) j.2
           ]
         ]

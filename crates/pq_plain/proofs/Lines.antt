@@ -7,7 +7,17 @@ use Rattle.column_order.proofs.Lists.{has_append_cases, has_append_left, has_app
 use Rattle.pq_tree.specs.Outline.{Outline, Forest, p_node, no_tree, tree_and, leaves, leaves_of}
 use Rattle.tied_law.specs.Tied.{IsForward}
 use Rattle.tied_law.proofs.Bound.{AreClosed, AreBound}
-use Rattle.pq_plain.specs.Templates.{join, star, IsParted, none_parted, to_left, to_right}
+use Rattle.pq_plain.specs.Templates.{join, star}
+
+-- the first list is an interleaving of the two others
+pub data IsParted : Forest → Forest → Forest → Type 0 where
+  none_parted : IsParted no_tree no_tree no_tree
+  to_left : {t : Outline} {ts us vs : Forest} → IsParted ts us vs → IsParted (tree_and t ts) (tree_and t us) vs
+  to_right : {t : Outline} {ts us vs : Forest} → IsParted ts us vs → IsParted (tree_and t ts) us (tree_and t vs)
+
+pub parted_end : {ts us : Forest} → IsParted ts us no_tree → ts ≡ us
+parted_end none_parted = refl
+parted_end (to_left {t = t} r) = ap (tree_and t) (parted_end r)
 
 pub leaves_of-join : (xs ys : Forest) → leaves_of (join xs ys) ≡ leaves_of xs ++ leaves_of ys
 leaves_of-join no_tree ys = refl

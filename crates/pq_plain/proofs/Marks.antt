@@ -4,7 +4,7 @@ use Rattle.std.proofs.lemmas.List.{map_more}
 use Rattle.pq_tree.specs.Outline.{Outline, no_tree, tree_and}
 use Rattle.pq_tree.specs.Proper.{forest}
 use Rattle.pq_plain.specs.Templates.{join}
-use Rattle.pq_plain.specs.Treat.{Label, empty_label, full_label, partial_label, partials, empty_trees, full_trees}
+use Rattle.pq_plain.specs.Labels.{Label, empty_label, full_label, partial_label, partials, empty_trees, full_trees}
 use Rattle.pq_plain.specs.Seen.{label_seen, empties, fulls}
 use Rattle.pq_plain.specs.declared.label.Label.{Label as Marked}
 

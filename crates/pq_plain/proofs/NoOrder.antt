@@ -1,77 +1,36 @@
--- Where `reduce` gives nothing, some pair is related to itself turned round, so no order is left.
-use Rattle.std.proofs.Common.{◌≡◌, ◌⊎◌, ◌∙◌, ◌+◌, ◌≤◌, ℕ, Bool, true, false, not, cond, List, [], ◌∷◌, ◌++◌, Option, Some, None, IsTrue, IsFalse, refl, sym, ap, subst, inl, inr, arith, option_and_then}
-use Rattle.std.proofs.lemmas.Bool.{both_ways, cases_Bool, and_cases}
-use Rattle.std.specs.List.{list_all}
+-- Where no template fits, some pair is related to itself with its columns exchanged, so no order is left.
+use Rattle.std.proofs.Common.{◌≡◌, ◌⊎◌, ◌∙◌, ◌+◌, ◌≤◌, ℕ, true, false, cond, List, [], ◌∷◌, ◌++◌, Option, Some, None, IsTrue, IsFalse, refl, sym, ap, subst, inl, inr, arith, option_and_then}
+use Rattle.std.proofs.lemmas.Bool.{both_ways, cases_Bool}
 use Rattle.row_model.specs.declared.graph.Pair.{Pair}
-use Rattle.column_order.specs.Orders.{has, occurs, place, IsOrder, IsValidOrder}
-use Rattle.row_model.specs.Graph.{pair, Joined}
-use Rattle.column_order.proofs.Lists.{has_head, has_tail, has_append_cases, has_append_left, has_append_right, occurs-append, occurs_from_has, has_from_occurs, lacks_from_occurs, place-inj}
+use Rattle.column_order.specs.Orders.{has, occurs, IsOrder}
+use Rattle.row_model.specs.Graph.{pair, Joined, Evenly, HasConflict}
+use Rattle.column_order.proofs.Lists.{has_append_cases, has_append_left, has_append_right, occurs-append, occurs_from_has, has_from_occurs, lacks_from_occurs}
 use Rattle.pq_tree.specs.Outline.{Outline, Forest, leaf, p_node, q_node, no_tree, tree_and, leaves, leaves_of}
 use Rattle.pq_tree.specs.Proper.{HasArities, HaveArities}
-use Rattle.tied_law.specs.Tied.{IsForward, Evenly, IsTied}
+use Rattle.tied_law.specs.Tied.{IsForward, IsTied}
 use Rattle.tied_law.proofs.Bound.{IsClosed, AreClosed, IsBound, AreBound, IsPairEq, line_closed, bound_mono}
-use Rattle.tied_law.proofs.Bridge.{evenly_eq, last_row_closed, joined_more}
+use Rattle.tied_law.proofs.Bridge.{evenly_eq, last_row_closed}
 use Rattle.tied_law.proofs.Exact.{order_once, tied_bound}
-use Rattle.row_model.proofs.Walks.{evenly-mono, evenly_one_side}
-use Rattle.row_model.proofs.Sides.{side, other_side}
-use Rattle.pq_plain.specs.Templates.{join, IsParted, none_parted, to_left, to_right}
-use Rattle.pq_plain.specs.Treat.{Partial, Label, empty_trees, full_trees, partial_trees, partials, labels_of}
-use Rattle.pq_plain.specs.Reduce.{holds, root_p, Tail, Span, all_void, full_more, before_more, begins, tail_of, span_of, root_q, at_span, inner_or, put, behind_of, reduce, inner}
-use Rattle.pq_plain.proofs.Lines.{closed_right, parted_occurs, has_parted_cases, has_join_cases}
-use Rattle.pq_plain.proofs.Treat.{AreEmpty, AreFull}
-use Rattle.pq_plain.proofs.Refused.{three_partial, hole}
-use Rattle.pq_plain.proofs.Made.{made_void, made_filled, made_split, AreMade, none_made, more_made, AreHalves, no_half, a_half, rest, first_parted, second_parted, voids_empty, fills_full, halves_made, some_leaf, treat_all_made, no_row}
-use Rattle.pq_plain.proofs.Reduced.{IsSpan, span_made, span_before, span_plain, span_half, tail_plain, tail_half, tail_behind, PlainLeft, LeftHalf, RightHalf, all_held}
-use Rattle.pq_plain.proofs.Failed.{Crossed, and_then_none, cond_none, AllOutside, treat_all_failed, in_left, in_right, forward_first}
+use Rattle.row_model.proofs.Walks.{joined-append, conflict_from, evenly-mono}
+use Rattle.pq_plain.specs.Templates.{join}
+use Rattle.pq_plain.specs.Labels.{Partial, Label, empty_trees, full_trees, partials, labels_of}
+use Rattle.pq_plain.specs.Reduce.{holds, root_p, Tail, Span, all_empty, full_more, before_more, begins, tail_of, span_of, root_q, at_span, inner_or, put, behind_of, reduce, inner}
+use Rattle.pq_plain.proofs.Lines.{has_join_cases, IsParted, parted_occurs, has_parted_cases, closed_right}
+use Rattle.pq_plain.proofs.BelowRoot.{AreEmpty, AreFull}
+use Rattle.pq_plain.proofs.Conflicts.{three_partial, hole}
+use Rattle.pq_plain.proofs.Labelled.{labels_right, at_most, labels_sorted}
+use Rattle.pq_plain.proofs.Reduced.{all_held, span_is, inner_none}
+use Rattle.pq_plain.proofs.Failed.{Crossed, and_then_none, cond_none, AllOutside, labels_failed, in_left, in_right, forward_first}
+use Rattle.pq_plain.proofs.HaveColumns.{some_leaf}
+use Rattle.pq_plain.proofs.Meaning.{labelled_empty, labelled_full, labelled_partial, AreLabelled, none_labelled, more_labelled, ArePartial, no_partial, a_partial, IsAtMostOne, no_such, one_such, Misses, AllMiss, IsRoot, miss_right, miss_after, SpanParts, span_parts, parts}
 
--- a column of the row outside the list
-abbrev pub Misses : List ℕ → List ℕ → Type 0
-Misses row l = (s : ℕ) × IsTrue (has row s) × IsFalse (has l s)
-
-abbrev pub AllMiss : List ℕ → Forest → Type 0
-AllMiss row no_tree = Unit {0}
-AllMiss row (tree_and t ts) = Misses row (leaves t) × AllMiss row ts
-
-not_all : (l xs : List ℕ) → IsFalse (list_all (λ a. has l a) xs) → Misses xs l
-not_all l [] e = absurd (both_ways true e refl)
-not_all l (x ∷ xs) e =
-    elim (and_cases (has l x) (list_all (λ a. has l a) xs) e) [
-      | inl k ↦ (x, has_head x xs, k)
-      | inr k ↦ let w : Misses xs l = not_all l xs k in (w.0, has_tail x w.0 xs w.1, w.2)
-    ]
-
-behind_none : (t : Outline) (o : Option (Option Forest)) → behind_of t o ≡ None → o ≡ None
-behind_none t None e = refl
-behind_none t (Some None) e = cc
-behind_none t (Some (Some us)) e = cc
-
-inner_none : (row : List ℕ) (ts : Forest) → inner row ts ≡ None → AllMiss row ts
-inner_none row no_tree e = tt
-inner_none row (tree_and t ts) e =
-    elim (cases_Bool (holds row t)) [
-      | inl k ↦ some_none (put ts (reduce row t)) (ap (λ b. cond b (Some (put ts (reduce row t))) (behind_of t (inner row ts))) (sym k) ∙ e)
-      | inr k ↦ (not_all (leaves t) row k, inner_none row ts (behind_none t (inner row ts) (ap (λ b. cond b (Some (put ts (reduce row t))) (behind_of t (inner row ts))) (sym k) ∙ e)))
-    ]
-  where
-    some_none : (o : Option Forest) → Some o ≡ None → AllMiss row (tree_and t ts)
-    some_none o x = cc
-
-miss_right : {ts us vs : Forest} (row : List ℕ) → IsParted ts us vs → AllMiss row ts → AllMiss row vs
-miss_right row none_parted h = tt
-miss_right row (to_left r) h = miss_right row r h.1
-miss_right row (to_right r) h = (h.0, miss_right row r h.1)
-
-miss_at : (row : List ℕ) (xs ys : Forest) (t : Outline) → AllMiss row (join xs (tree_and t ys)) → Misses row (leaves t)
-miss_at row no_tree ys t h = h.0
-miss_at row (tree_and x xs) ys t h = miss_at row xs ys t h.1
-
-not_void : (row : List ℕ) (ts : Forest) (ps : List Label) → AreMade row ts ps → HaveArities ts → IsFalse (all_void ps) → (g : ℕ) × IsTrue (has (leaves_of ts) g) × IsTrue (has row g)
-not_void row ts ps none_made c e = absurd (both_ways true e refl)
-not_void row ts ps (more_made {t = t} {ts = us} {ps = qs} (made_void k) m) c e =
-    let w : (g : ℕ) × IsTrue (has (leaves_of us) g) × IsTrue (has row g) = not_void row us qs m c.1 e in (w.0, has_append_right (leaves t) (leaves_of us) w.0 w.1, w.2)
-not_void row ts ps (more_made {t = t} {ts = us} (made_filled k) m) c e =
+some_full_column : (row : List ℕ) (ts : Forest) (ps : List Label) → AreLabelled row ts ps → HaveArities ts → IsFalse (all_empty ps) → (g : ℕ) × IsTrue (has (leaves_of ts) g) × IsTrue (has row g)
+some_full_column row ts ps none_labelled c e = absurd (both_ways true e refl)
+some_full_column row ts ps (more_labelled {t = t} {ts = us} {ps = qs} (labelled_empty k) m) c e =
+    let w : (g : ℕ) × IsTrue (has (leaves_of us) g) × IsTrue (has row g) = some_full_column row us qs m c.1 e in (w.0, has_append_right (leaves t) (leaves_of us) w.0 w.1, w.2)
+some_full_column row ts ps (more_labelled {t = t} {ts = us} (labelled_full k) m) c e =
     let w : (a : ℕ) × IsTrue (has (leaves t) a) = some_leaf t c.0 in (w.0, has_append_left (leaves t) (leaves_of us) w.0 w.1, k w.0 w.1)
-not_void row ts ps (more_made {t = t} {ts = us} (made_split h k) m) c e =
+some_full_column row ts ps (more_labelled {t = t} {ts = us} (labelled_partial h k) m) c e =
     (k.some_full.0, has_append_left (leaves t) (leaves_of us) k.some_full.0 (in_right row t h k k.some_full.0 k.some_full.1), k.full k.some_full.0 k.some_full.1)
 
 -- a pair that goes forward from a column outside the row to one of it
@@ -81,13 +40,13 @@ pub record Climbs (row : List ℕ) (ts : Forest) : Type 0 where
   pub from_empty : IsFalse (has row v.a)
   pub to_full : IsTrue (has row v.b)
 
-tail_climbs : (row : List ℕ) (ts : Forest) (ps : List Label) → AreMade row ts ps → HaveArities ts → tail_of ts ps ≡ None → Climbs row ts
-tail_climbs row ts ps none_made c e = cc
-tail_climbs row ts ps (more_made {t = t} {ts = us} {ps = qs} (made_void k) m) c e =
-    let w : (g : ℕ) × IsTrue (has (leaves_of us) g) × IsTrue (has row g) = not_void row us qs m c.1 (cond_none (all_void qs) (record { middle = no_tree; right = []; behind = tree_and t us }) e) in
+tail_climbs : (row : List ℕ) (ts : Forest) (ps : List Label) → AreLabelled row ts ps → HaveArities ts → tail_of ts ps ≡ None → Climbs row ts
+tail_climbs row ts ps none_labelled c e = cc
+tail_climbs row ts ps (more_labelled {t = t} {ts = us} {ps = qs} (labelled_empty k) m) c e =
+    let w : (g : ℕ) × IsTrue (has (leaves_of us) g) × IsTrue (has row g) = some_full_column row us qs m c.1 (cond_none (all_empty qs) (record { middle = no_tree; right = []; behind = tree_and t us }) e) in
     let l : (a : ℕ) × IsTrue (has (leaves t) a) = some_leaf t c.0 in
     record { v = pair l.0 w.0; forward = inl (l.1, w.1); from_empty = k l.0 l.1; to_full = w.2 }
-tail_climbs row ts ps (more_made {t = t} {ts = us} {ps = qs} (made_filled k) m) c e =
+tail_climbs row ts ps (more_labelled {t = t} {ts = us} {ps = qs} (labelled_full k) m) c e =
     elim (and_then_none (λ r. Some (full_more t r)) (tail_of us qs) e) [
       | inl n ↦ let w : Climbs row us = tail_climbs row us qs m c.1 n in record { v = w.v; forward = inr w.forward; from_empty = w.from_empty; to_full = w.to_full }
       | inr n ↦ some_none (full_more t n.0) n.2
@@ -95,8 +54,8 @@ tail_climbs row ts ps (more_made {t = t} {ts = us} {ps = qs} (made_filled k) m) 
   where
     some_none : (r : Tail) → Some r ≡ None → Climbs row (tree_and t us)
     some_none r x = cc
-tail_climbs row ts ps (more_made {t = t} {ts = us} {ps = qs} (made_split h k) m) c e =
-    let w : (g : ℕ) × IsTrue (has (leaves_of us) g) × IsTrue (has row g) = not_void row us qs m c.1 (cond_none (all_void qs) (record { middle = no_tree; right = h ∷ []; behind = us }) e) in
+tail_climbs row ts ps (more_labelled {t = t} {ts = us} {ps = qs} (labelled_partial h k) m) c e =
+    let w : (g : ℕ) × IsTrue (has (leaves_of us) g) × IsTrue (has row g) = some_full_column row us qs m c.1 (cond_none (all_empty qs) (record { middle = no_tree; right = h ∷ []; behind = us }) e) in
     record { v = pair k.some_empty.0 w.0; forward = inl (in_left row t h k k.some_empty.0 k.some_empty.1, w.1); from_empty = k.empty k.some_empty.0 k.some_empty.1; to_full = w.2 }
 
 -- a full column, then an empty one, then a full one
@@ -106,9 +65,9 @@ pub record HasHole (row : List ℕ) (ts : Forest) : Type 0 where
   pub before : IsForward ts (pair f up.v.a)
   pub full : IsTrue (has row f)
 
-span_hole : (row : List ℕ) (ts : Forest) (ps : List Label) → AreMade row ts ps → HaveArities ts → span_of ts ps ≡ None → HasHole row ts
-span_hole row ts ps none_made c e = cc
-span_hole row ts ps (more_made {t = t} {ts = us} {ps = qs} (made_void k) m) c e =
+span_hole : (row : List ℕ) (ts : Forest) (ps : List Label) → AreLabelled row ts ps → HaveArities ts → span_of ts ps ≡ None → HasHole row ts
+span_hole row ts ps none_labelled c e = cc
+span_hole row ts ps (more_labelled {t = t} {ts = us} {ps = qs} (labelled_empty k) m) c e =
     elim (and_then_none (λ r. Some (before_more t r)) (span_of us qs) e) [
       | inl n ↦
           let w : HasHole row us = span_hole row us qs m c.1 n in
@@ -118,7 +77,7 @@ span_hole row ts ps (more_made {t = t} {ts = us} {ps = qs} (made_void k) m) c e 
   where
     some_none : (r : Span) → Some r ≡ None → HasHole row (tree_and t us)
     some_none r x = cc
-span_hole row ts ps (more_made {t = t} {ts = us} {ps = qs} (made_filled k) m) c e =
+span_hole row ts ps (more_labelled {t = t} {ts = us} {ps = qs} (labelled_full k) m) c e =
     elim (and_then_none (λ r. Some (begins [] (full_more t r))) (tail_of us qs) e) [
       | inl n ↦
           let w : Climbs row us = tail_climbs row us qs m c.1 n in
@@ -129,7 +88,7 @@ span_hole row ts ps (more_made {t = t} {ts = us} {ps = qs} (made_filled k) m) c 
   where
     some_none : (r : Span) → Some r ≡ None → HasHole row (tree_and t us)
     some_none r x = cc
-span_hole row ts ps (more_made {t = t} {ts = us} {ps = qs} (made_split h k) m) c e =
+span_hole row ts ps (more_labelled {t = t} {ts = us} {ps = qs} (labelled_partial h k) m) c e =
     elim (and_then_none (λ r. Some (begins (h ∷ []) r)) (tail_of us qs) e) [
       | inl n ↦
           let w : Climbs row us = tail_climbs row us qs m c.1 n in
@@ -181,13 +140,17 @@ module _ (R : Pair → Pair → Type 0) (eq : IsPairEq R) (row : List ℕ) where
         outsides l ts c.1 cr (λ a k. sub a (has_append_right (leaves t) (leaves_of ts) a k)) within m.1,
       )
 
-  root_p_failed : (ts es rs fs us : Forest) (hs : List Partial) → IsParted ts es rs → IsParted rs fs us → AreEmpty row es → AreFull row fs → AreHalves row us hs → AreClosed R (leaves_of ts) us → AllMiss row us →
+  root_p_failed : (ts es rs fs us : Forest) (hs : List Partial) → IsParted ts es rs → IsParted rs fs us → AreEmpty row es → AreFull row fs → ArePartial row us hs → AreClosed R (leaves_of ts) us → AllMiss row us →
       IsClosed R (leaves_of ts) row → ((a : ℕ) → occurs (leaves_of ts) a ≤ 1) → ((a : ℕ) → IsTrue (has row a) → IsTrue (has (leaves_of ts) a)) → (c : ℕ) → IsTrue (has row c) → root_p hs es fs ts ≡ None → Crossed R
-  root_p_failed ts no_tree rs fs us hs f s ee ff no_half cs ms cr once within c hc e = cc
-  root_p_failed ts (tree_and t es) rs no_tree us hs f s ee ff no_half cs ms cr once within c hc e =
-      absurd (both_ways (has row c) (no_row row ts (tree_and t es) rs f s ee c (within c hc)) hc)
-  root_p_failed ts (tree_and t es) rs (tree_and g fs) us hs f s ee ff no_half cs ms cr once within c hc e = cc
-  root_p_failed ts es rs no_tree us hs f s ee ff (a_half {t = u} part no_half) cs ms cr once within c hc e =
+  root_p_failed ts no_tree rs fs us hs f s ee ff no_partial cs ms cr once within c hc e = cc
+  root_p_failed ts (tree_and t es) rs no_tree us hs f s ee ff no_partial cs ms cr once within c hc e =
+      absurd
+      (elim (has_parted_cases f c (within c hc)) [
+        | inl k ↦ both_ways (has row c) (ee c k) hc
+        | inr k ↦ elim (has_parted_cases s c k) [ inl j ↦ both_ways false refl j | inr j ↦ both_ways false refl j ]
+      ])
+  root_p_failed ts (tree_and t es) rs (tree_and g fs) us hs f s ee ff no_partial cs ms cr once within c hc e = cc
+  root_p_failed ts es rs no_tree us hs f s ee ff (a_partial {t = u} part no_partial) cs ms cr once within c hc e =
       absurd
       (elim (has_parted_cases f ms.0.0 (within ms.0.0 ms.0.1)) [
         | inl k ↦ both_ways (has row ms.0.0) (ee ms.0.0 k) ms.0.1
@@ -196,9 +159,9 @@ module _ (R : Pair → Pair → Type 0) (eq : IsPairEq R) (row : List ℕ) where
           | inr j ↦ elim (has_append_cases (leaves u) [] ms.0.0 j) [ inl i ↦ both_ways (has (leaves u) ms.0.0) ms.0.2 i | inr i ↦ both_ways false refl i ]
         ]
       ])
-  root_p_failed ts es rs (tree_and g fs) us hs f s ee ff (a_half part no_half) cs ms cr once within c hc e = cc
-  root_p_failed ts es rs fs us hs f s ee ff (a_half part (a_half part2 no_half)) cs ms cr once within c hc e = cc
-  root_p_failed ts es rs fs us hs f s ee ff (a_half {t = u} {h = h} part (a_half {t = w} {h = k} part2 (a_half {t = z} {ts = vs} {h = j} part3 m))) cs ms cr once within c hc e =
+  root_p_failed ts es rs (tree_and g fs) us hs f s ee ff (a_partial part no_partial) cs ms cr once within c hc e = cc
+  root_p_failed ts es rs fs us hs f s ee ff (a_partial part (a_partial part2 no_partial)) cs ms cr once within c hc e = cc
+  root_p_failed ts es rs fs us hs f s ee ff (a_partial {t = u} {h = h} part (a_partial {t = w} {h = k} part2 (a_partial {t = z} {ts = vs} {h = j} part3 m))) cs ms cr once within c hc e =
       let e1 : IsTrue (has (leaves u) part.some_empty.0) = in_left row u h part part.some_empty.0 part.some_empty.1 in
       let f1 : IsTrue (has (leaves u) part.some_full.0) = in_right row u h part part.some_full.0 part.some_full.1 in
       let e2 : IsTrue (has (leaves w) part2.some_empty.0) = in_left row w k part2 part2.some_empty.0 part2.some_empty.1 in
@@ -238,26 +201,30 @@ module _ (R : Pair → Pair → Type 0) (eq : IsPairEq R) (row : List ℕ) where
         | inr k ↦ elim (has_append_cases (leaves u) (leaves_of gs) m.0 k) [ inl i ↦ both_ways (has (leaves u) m.0) m.2 i | inr i ↦ both_ways (has row m.0) (gg m.0 i) m.1 ]
       ]
 
-  root_q_failed : (ts : Forest) (r : Span) → IsSpan row ts r → AllMiss row ts → ((a : ℕ) → IsTrue (has row a) → IsTrue (has (leaves_of ts) a)) →
-      (hs ks : List Partial) (fs : Forest) → r.left ≡ hs → r.tail.right ≡ ks → r.tail.middle ≡ fs → root_q hs ks fs r.before r.tail.behind ts ≡ None → ⊥
-  root_q_failed ts r m ms within [] [] fs el er ef e = cc
-  root_q_failed ts r m ms within (h ∷ hs) [] no_tree el er ef e =
-      let w : LeftHalf row ts r h = span_half row ts r h hs m el in
-      let j : ts ≡ join r.before (tree_and w.u r.tail.behind) = w.is ∙ ap (λ y. join r.before (tree_and w.u y)) (tail_plain row w.later r.tail w.tail er ∙ ap (λ y. join y r.tail.behind) ef) in
-      lone r.before r.tail.behind w.u (span_before row ts r m) (tail_behind row w.later r.tail w.tail) (miss_at row r.before r.tail.behind w.u (subst (AllMiss row) j ms))
-      (λ a k. subst (λ y. IsTrue (has (leaves_of y) a)) j (within a k))
-  root_q_failed ts r m ms within (h ∷ hs) [] (tree_and f fs) el er ef e = cc
-  root_q_failed ts r m ms within [] (k ∷ ks) no_tree el er ef e =
-      let w : PlainLeft row ts r = span_plain row ts r m el in
-      let v : RightHalf row w.later r.tail k = tail_half row w.later r.tail k ks w.tail er in
-      let j : ts ≡ join r.before (tree_and v.w r.tail.behind) = w.is ∙ ap (join r.before) (v.is ∙ ap (λ y. join y (tree_and v.w r.tail.behind)) ef) in
-      lone r.before r.tail.behind v.w (span_before row ts r m) (tail_behind row w.later r.tail w.tail) (miss_at row r.before r.tail.behind v.w (subst (AllMiss row) j ms))
-      (λ a i. subst (λ y. IsTrue (has (leaves_of y) a)) j (within a i))
-  root_q_failed ts r m ms within [] (k ∷ ks) (tree_and f fs) el er ef e = cc
-  root_q_failed ts r m ms within (h ∷ hs) (k ∷ ks) fs el er ef e = cc
+  lone_left : (es us gs : Forest) (h : Partial) → IsAtMostOne row us (Some h) → AreEmpty row es → AreEmpty row gs → AllMiss row (join es (join us gs)) →
+      ((a : ℕ) → IsTrue (has row a) → IsTrue (has (leaves_of (join es (join us gs))) a)) → ⊥
+  lone_left es us gs h (one_such {t = u} k part) ee gg ms within = lone es gs u ee gg (miss_after row es (tree_and u gs) ms).0 within
+
+  none_left : (us : Forest) → IsAtMostOne row us None → us ≡ no_tree
+  none_left us no_such = refl
+
+  -- a single partial child with no full one isn't at the root
+  root_q_failed : (hs ks : List Partial) (fs es gs ts : Forest) → SpanParts row ts es (at_most hs) fs (at_most ks) gs → IsRoot row ts → root_q hs ks fs es gs ts ≡ None → ⊥
+  root_q_failed [] [] fs es gs ts m root e = cc
+  root_q_failed (h ∷ hs) [] no_tree es gs ts m root e =
+      let j : join es (join m.us gs) ≡ ts = sym (ap (λ ws. join es (join m.us (join ws gs))) (none_left m.ws m.right)) ∙ m.is in
+      let here : IsRoot row (join es (join m.us gs)) = subst (IsRoot row) (sym j) root in
+      lone_left es m.us gs h m.left m.before m.behind here.lowest here.within
+  root_q_failed (h ∷ hs) [] (tree_and f fs) es gs ts m root e = cc
+  root_q_failed [] (k ∷ ks) no_tree es gs ts m root e =
+      let j : join es (join m.ws gs) ≡ ts = sym (ap (λ us. join es (join us (join m.ws gs))) (none_left m.us m.left)) ∙ m.is in
+      let here : IsRoot row (join es (join m.ws gs)) = subst (IsRoot row) (sym j) root in
+      lone_left es m.ws gs k m.right m.before m.behind here.lowest here.within
+  root_q_failed [] (k ∷ ks) (tree_and f fs) es gs ts m root e = cc
+  root_q_failed (h ∷ hs) (k ∷ ks) fs es gs ts m root e = cc
 
   mutual
-    -- No template fits at some node: a pair is related to itself turned round.
+    -- Where no template fits at some node, a pair is related to itself with its columns exchanged.
     pub reduce_failed : (t : Outline) → IsBound R t → IsClosed R (leaves t) row → HasArities t → ((a : ℕ) → occurs (leaves t) a ≤ 1) → ((a : ℕ) → IsTrue (has row a) → IsTrue (has (leaves t) a)) →
         (c : ℕ) → IsTrue (has row c) → reduce row t ≡ None → Crossed R
     reduce_failed (leaf a) b cr n once within c hc e = cc
@@ -267,13 +234,12 @@ module _ (R : Pair → Pair → Type 0) (eq : IsPairEq R) (row : List ℕ) where
           | inr k ↦
               let ms : AllMiss row ts = inner_none row ts k.0 in
               elim (and_then_none (λ ps. root_p (partials ps) (empty_trees ts ps) (full_trees ts ps) ts) (labels_of row ts) k.1) [
-                | inl j ↦ treat_all_failed R eq row ts (outsides (leaves_of ts) ts b.0 cr (λ a h. h) within ms) b.1 n.1 once j
+                | inl j ↦ labels_failed R eq row ts (outsides (leaves_of ts) ts b.0 cr (λ a h. h) within ms) b.1 n.1 once j
                 | inr j ↦
-                    let m : AreMade row ts j.0 = treat_all_made row ts j.0 n.1 once j.1 in
-                    let g : IsParted ts (empty_trees ts j.0) (rest ts j.0) = first_parted row ts j.0 m in
-                    let h : IsParted (rest ts j.0) (full_trees ts j.0) (partial_trees ts j.0) = second_parted row ts j.0 m in
-                    root_p_failed ts (empty_trees ts j.0) (rest ts j.0) (full_trees ts j.0) (partial_trees ts j.0) (partials j.0) g h (voids_empty row ts j.0 m) (fills_full row ts j.0 m) (halves_made row ts j.0 m)
-                    (closed_right R (leaves_of ts) h (closed_right R (leaves_of ts) g b.0)) (miss_right row h (miss_right row g ms)) cr once within c hc j.2
+                    let m : AreLabelled row ts j.0 = labels_right row ts j.0 n.1 once j.1 in
+                    let g = parts row (labels_sorted row ts j.0 j.1) m in
+                    root_p_failed ts (empty_trees ts j.0) g.rest (full_trees ts j.0) g.us (partials j.0) g.first g.second g.empty g.full g.partial
+                    (closed_right R (leaves_of ts) g.second (closed_right R (leaves_of ts) g.first b.0)) (miss_right row g.second (miss_right row g.first ms)) cr once within c hc j.2
               ]
         ]
     reduce_failed (q_node ts) b cr n once within c hc e =
@@ -282,9 +248,9 @@ module _ (R : Pair → Pair → Type 0) (eq : IsPairEq R) (row : List ℕ) where
           | inr k ↦
               let ms : AllMiss row ts = inner_none row ts k.0 in
               elim (and_then_none (λ ps. option_and_then (at_span ts) (span_of ts ps)) (labels_of row ts) k.1) [
-                | inl j ↦ treat_all_failed R eq row ts (outsides (leaves_of ts) ts (line_closed R eq ts b.0) cr (λ a h. h) within ms) b.1 n.1 once j
+                | inl j ↦ labels_failed R eq row ts (outsides (leaves_of ts) ts (line_closed R eq ts b.0) cr (λ a h. h) within ms) b.1 n.1 once j
                 | inr j ↦
-                    let m : AreMade row ts j.0 = treat_all_made row ts j.0 n.1 once j.1 in
+                    let m : AreLabelled row ts j.0 = labels_right row ts j.0 n.1 once j.1 in
                     elim (and_then_none (at_span ts) (span_of ts j.0) j.2) [
                       | inl i ↦
                           let x : HasHole row ts = span_hole row ts j.0 m n.1 i in
@@ -295,7 +261,10 @@ module _ (R : Pair → Pair → Type 0) (eq : IsPairEq R) (row : List ℕ) where
                             turned =
                                 hole R eq row ts b.0 cr x.f x.up.v.a x.up.v.b x.before x.up.forward x.full x.up.to_full x.up.from_empty (forward_first ts x.up.v x.up.forward);
                           }
-                      | inr i ↦ absurd (root_q_failed ts i.0 (span_made row ts j.0 i.0 m i.1) ms within i.0.left i.0.tail.right i.0.tail.middle refl refl refl i.2)
+                      | inr i ↦ absurd (
+                          root_q_failed i.0.left i.0.tail.right i.0.tail.middle i.0.before i.0.tail.behind ts
+                          (span_parts row (span_is ts j.0 i.0 (labels_sorted row ts j.0 j.1) i.1) m) (record { within = within; lowest = ms }) i.2
+                          )
                     ]
               ]
         ]
@@ -315,21 +284,12 @@ module _ (R : Pair → Pair → Type 0) (eq : IsPairEq R) (row : List ℕ) where
               (behind_failed t (inner row ts) (ap (λ b. cond b (Some (put ts (reduce row t))) (behind_of t (inner row ts))) (sym k) ∙ e))
         ]
 
-never : (b : Bool) → b ≡ not b → ⊥
-never true e = cc
-never false e = cc
-
--- A refused row leaves no valid order, and there is a pair to show it.
+-- A refused row gives a conflict in the rows with this one.
 pub refused_pair : (c : ℕ) (rows : List (List ℕ)) (row : List ℕ) (t : Outline) → HasArities t → IsOrder c (leaves t) → IsTied c rows t →
-    ((a : ℕ) → IsTrue (has row a) → IsTrue (has (leaves t) a)) → (d : ℕ) → IsTrue (has row d) → reduce row t ≡ None → Crossed (Evenly c (rows ++ row ∷ []))
+    ((a : ℕ) → IsTrue (has row a) → IsTrue (has (leaves t) a)) → (d : ℕ) → IsTrue (has row d) → reduce row t ≡ None → HasConflict c (rows ++ row ∷ [])
 refused_pair c rows row t n whole tied within d hd e =
+    let x : Crossed (Evenly c (rows ++ row ∷ [])) =
     reduce_failed (Evenly c (rows ++ row ∷ [])) (evenly_eq c (rows ++ row ∷ [])) row t
-    (bound_mono (Evenly c rows) (Evenly c (rows ++ row ∷ [])) (λ v w h. evenly-mono (Joined c rows) (Joined c (rows ++ row ∷ [])) (joined_more c rows row) v w h) t (tied_bound c rows t tied))
-    (last_row_closed c rows row (leaves t) whole within) n (order_once c (leaves t) whole) within d hd e
-
-pub refused_none : (c : ℕ) (rows : List (List ℕ)) (row : List ℕ) (t : Outline) → HasArities t → IsOrder c (leaves t) → IsTied c rows t →
-    ((a : ℕ) → IsTrue (has row a) → IsTrue (has (leaves t) a)) → (d : ℕ) → IsTrue (has row d) → reduce row t ≡ None → (o : List ℕ) → IsValidOrder c (rows ++ row ∷ []) o → ⊥
-refused_none c rows row t n whole tied within d hd e o valid =
-    let x : Crossed (Evenly c (rows ++ row ∷ [])) = refused_pair c rows row t n whole tied within d hd e in
-    let one : side o (pair x.b x.a) ≡ side o (pair x.a x.b) = evenly_one_side c (rows ++ row ∷ []) o valid (pair x.a x.b) (pair x.b x.a) x.turned in
-    never (side o (pair x.a x.b)) (sym one ∙ other_side (place o x.a) (place o x.b) (λ z. x.differ (place-inj o x.a x.b z)))
+    (bound_mono (Evenly c rows) (Evenly c (rows ++ row ∷ [])) (λ v w h. evenly-mono (Joined c rows) (Joined c (rows ++ row ∷ [])) (joined-append c rows (row ∷ [])) v w h) t (tied_bound c rows t tied))
+    (last_row_closed c rows row (leaves t) whole within) n (order_once c (leaves t) whole) within d hd e in
+    conflict_from c (rows ++ row ∷ []) x.a x.b x.differ x.turned

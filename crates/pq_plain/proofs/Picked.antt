@@ -5,7 +5,7 @@ use Rattle.pq_tree.specs.Outline.{Outline, Forest, no_tree, tree_and}
 use Rattle.pq_tree.specs.Proper.{outline_of, forest}
 use Rattle.pq_tree.specs.declared.Tree.{Tree}
 use Rattle.pq_plain.specs.Templates.{join}
-use Rattle.pq_plain.specs.Treat.{Label, empty_label, full_label, partial_label, partials, empty_trees, full_trees}
+use Rattle.pq_plain.specs.Labels.{Label, empty_label, full_label, partial_label, partials, empty_trees, full_trees}
 use Rattle.pq_plain.specs.Seen.{outlines, halves_seen, label_seen}
 use Rattle.pq_plain.specs.declared.label.Halves.{Halves}
 use Rattle.pq_plain.specs.declared.label.Label.{Label as Marked}

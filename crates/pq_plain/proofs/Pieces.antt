@@ -7,7 +7,7 @@ use Rattle.pq_tree.specs.Proper.{outline_of, forest}
 use Rattle.pq_tree.specs.declared.Tree.{Tree, P, Q}
 use Rattle.pq_tree.proofs.Shown.{outline_of-P, outline_of-Q}
 use Rattle.pq_plain.specs.Templates.{join, star, back, under}
-use Rattle.pq_plain.specs.Treat.{Partial}
+use Rattle.pq_plain.specs.Labels.{Partial}
 use Rattle.pq_plain.specs.Seen.{outlines}
 use Rattle.pq_plain.proofs.Outlines.{outlines_append, outlines_reverse}
 

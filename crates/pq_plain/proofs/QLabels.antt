@@ -7,7 +7,7 @@ use Rattle.pq_tree.specs.Outline.{Outline, Forest, no_tree, tree_and}
 use Rattle.pq_tree.specs.Proper.{outline_of, forest}
 use Rattle.pq_tree.specs.declared.Tree.{Tree}
 use Rattle.pq_plain.specs.Templates.{join, back}
-use Rattle.pq_plain.specs.Treat.{Partial, Label, empty_label, full_label, partial_label, partials, Run, all_filled, one_more, run_of, at_q, at_run, first_some, empty_trees, full_trees}
+use Rattle.pq_plain.specs.Labels.{Partial, Label, empty_label, full_label, partial_label, partials, Run, all_full, one_more, run_of, at_q, at_run, first_some, empty_trees, full_trees}
 use Rattle.pq_plain.specs.Seen.{outlines, halves_seen, label_seen, empties, fulls, run_seen, q_label}
 use Rattle.pq_plain.specs.declared.label.Halves.{Halves}
 use Rattle.pq_plain.specs.declared.label.Label.{Label as Marked}
@@ -15,7 +15,7 @@ use Rattle.pq_plain.specs.declared.label.Run.{Run as Places}
 use Rattle.pq_plain.proofs.Outlines.{forest_reverse, map_reverse}
 use Rattle.pq_plain.proofs.Runs.{to_end}
 use Rattle.pq_plain.proofs.Counted.{IsCounted, HasTree, count_none, count_some, no_partial, last_of_one}
-use Rattle.pq_plain.proofs.Made.{and_then, cond_some, some_inj}
+use Rattle.pq_plain.proofs.Labelled.{and_then, cond_some, some_inj}
 
 -- a run has at most one partial
 pub few_partials : (ts : Forest) (ps : List Label) (r : Run) → run_of ts ps ≡ Some r → length r.middle ≤ 1
@@ -28,10 +28,10 @@ few_partials (tree_and t ts) (empty_label ∷ ps) r e =
     let w : (x : Run) × (run_of ts ps ≡ Some x) × (Some (one_more t x) ≡ Some r) = and_then (λ x. Some (one_more t x)) (run_of ts ps) r e in
     omega (arith, few_partials ts ps w.0 w.1, ap (λ z. length z.middle) (some_inj w.2))
 few_partials (tree_and t ts) (full_label ∷ ps) r e =
-    let k : let x : Run = record { before = no_tree; middle = []; behind = tree_and t ts } in x ≡ r = (cond_some (all_filled ps) (record { before = no_tree; middle = []; behind = tree_and t ts }) r e).1 in
+    let k : let x : Run = record { before = no_tree; middle = []; behind = tree_and t ts } in x ≡ r = (cond_some (all_full ps) (record { before = no_tree; middle = []; behind = tree_and t ts }) r e).1 in
     omega (arith, ap (λ z. length z.middle) k)
 few_partials (tree_and t ts) (partial_label h ∷ ps) r e =
-    let k : let x : Run = record { before = no_tree; middle = h ∷ []; behind = ts } in x ≡ r = (cond_some (all_filled ps) (record { before = no_tree; middle = h ∷ []; behind = ts }) r e).1 in
+    let k : let x : Run = record { before = no_tree; middle = h ∷ []; behind = ts } in x ≡ r = (cond_some (all_full ps) (record { before = no_tree; middle = h ∷ []; behind = ts }) r e).1 in
     omega (arith, ap (λ z. length z.middle) k)
 
 -- the label of a run
@@ -58,18 +58,18 @@ last_of_few rest all h hs e q n =
     last_of_one rest all h hs e q (omega (arith, n, ap length q, length-map all halves_seen, ap length e, length-append rest (h ∷ [])))
 
 -- all full, or all empty
-all_full : (ps : List Label) → empties ps ≡ 0 → partials ps ≡ [] → IsTrue (all_filled ps)
-all_full [] e h = refl
-all_full (empty_label ∷ ps) e h = absurd (omega arith)
-all_full (full_label ∷ ps) e h = all_full ps e h
-all_full (partial_label g ∷ ps) e h = cc
+fulls_only : (ps : List Label) → empties ps ≡ 0 → partials ps ≡ [] → IsTrue (all_full ps)
+fulls_only [] e h = refl
+fulls_only (empty_label ∷ ps) e h = absurd (omega arith)
+fulls_only (full_label ∷ ps) e h = fulls_only ps e h
+fulls_only (partial_label g ∷ ps) e h = cc
 
 full_run : (xs : List Outline) (ps : List Label) → length ps ≡ length xs → empties ps ≡ 0 → partials ps ≡ [] → option_and_then at_run (run_of (forest xs) ps) ≡ Some full_label
 full_run [] ps n e h = refl
 full_run (x ∷ xs) [] n e h = absurd (omega arith)
 full_run (x ∷ xs) (empty_label ∷ ps) n e h = absurd (omega arith)
 full_run (x ∷ xs) (full_label ∷ ps) n e h =
-    ap (option_and_then at_run) (cond-true (all_filled ps) (Some (record { before = no_tree; middle = []; behind = tree_and x (forest xs) })) None (all_full ps e h))
+    ap (option_and_then at_run) (cond-true (all_full ps) (Some (record { before = no_tree; middle = []; behind = tree_and x (forest xs) })) None (fulls_only ps e h))
 full_run (x ∷ xs) (partial_label g ∷ ps) n e h = cc
 
 empty_run : (xs : List Outline) (ps : List Label) → length ps ≡ length xs → fulls ps ≡ 0 → partials ps ≡ [] → run_of (forest xs) ps ≡ Some (record { before = forest xs; middle = []; behind = no_tree })

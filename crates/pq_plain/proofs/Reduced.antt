@@ -1,224 +1,105 @@
--- What `reduce` gives is tied to one row more.
-use Rattle.std.proofs.Common.{◌≡◌, ◌⊎◌, ◌∙◌, ◌≤◌, ℕ, false, cond, List, [], ◌∷◌, ◌++◌, Option, Some, None, IsTrue, IsFalse, refl, sym, ap, subst, inl, inr, arith, option_and_then}
-use Rattle.std.proofs.lemmas.Bool.{both_ways, cases_Bool, and_parts}
+-- What `reduce` gives is what the templates give, and it is tied to one row more.
+use Rattle.std.proofs.Common.{◌≡◌, ◌⊎◌, ◌∙◌, ◌≤◌, ℕ, true, false, cond, List, [], ◌∷◌, ◌++◌, Option, Some, None, IsTrue, IsFalse, refl, sym, ap, subst, inl, inr, arith, option_and_then}
+use Rattle.std.proofs.lemmas.Bool.{both_ways, cases_Bool, and_parts, and_cases}
 use Rattle.std.specs.List.{list_all}
 use Rattle.column_order.specs.Orders.{has, occurs, IsOrder}
-use Rattle.column_order.proofs.Lists.{has_cases, has_append_cases, occurs-append}
+use Rattle.column_order.proofs.Lists.{has_cases, occurs-append, has_head, has_tail}
 use Rattle.pq_tree.specs.Outline.{Outline, Forest, leaf, p_node, q_node, no_tree, tree_and, leaves, leaves_of}
 use Rattle.pq_tree.specs.Proper.{HasArities, HaveArities}
 use Rattle.tied_law.specs.Tied.{IsTied}
-use Rattle.tied_law.proofs.Frontiers.{has_same}
-use Rattle.tied_law.proofs.Bridge.{tied_more}
 use Rattle.tied_law.proofs.Exact.{order_once}
-use Rattle.pq_plain.specs.Templates.{join, back, IsParted}
-use Rattle.pq_plain.specs.Treat.{Partial, Label, empty_label, empty_trees, full_trees, partial_trees, partials, labels_of}
-use Rattle.pq_plain.specs.Reduce.{holds, root_p, Tail, Span, all_void, full_more, before_more, begins, tail_of, span_of, root_q, at_span, inner_or, put, behind_of, reduce, inner}
-use Rattle.pq_plain.proofs.Lines.{join_assoc, has_join_right}
-use Rattle.pq_plain.proofs.Treat.{AreEmpty, AreFull, Treated}
-use Rattle.pq_plain.proofs.Root.{Rooted, p2}
-use Rattle.pq_plain.proofs.Halves.{p4}
-use Rattle.pq_plain.proofs.RootP.{p6}
-use Rattle.pq_plain.proofs.RootQ.{q3_none, q3_left, q3_both, join_empty, join_full, part_empty, part_full}
-use Rattle.pq_plain.proofs.QTemplates.{Refined, refined_left, rooted_from, run_closed, back-join}
+use Rattle.pq_plain.specs.Templates.{join, IsSorted, l1, p1, none_sorted, to_empty, to_full, to_partial, AreAllEmpty, IsTail, tail_empty, tail_partial, tail_more, IsSpan, span_tail, span_partial, span_more, IsQ3}
+use Rattle.pq_plain.specs.Labels.{Partial, Label, empty_label, empty_trees, full_trees, partials, labels_of, full_label, partial_label}
+use Rattle.pq_plain.specs.Reduce.{holds, root_p, Tail, Span, all_empty, full_more, before_more, begins, tail_of, span_of, root_q, at_span, inner_or, put, behind_of, reduce, inner}
+use Rattle.pq_plain.proofs.AtRoot.{Rooted}
 use Rattle.pq_plain.proofs.Context.{rooted_p, rooted_q}
-use Rattle.pq_plain.proofs.Made.{made_void, made_filled, made_split, AreMade, none_made, more_made, AreHalves, no_half, a_half, rest, first_parted, second_parted, voids_empty, fills_full, halves_made, parted_end, counts_left, counts_right, some_leaf_of, all_row, some_inj, and_then, cond_some, treat_all_made}
+use Rattle.pq_plain.proofs.Labelled.{some_inj, and_then, cond_some, labels_right, at_most, labels_sorted}
+use Rattle.pq_plain.proofs.Preserved.{full_rooted, l1_kept, p1_kept, p2_kept, p4_kept, p6_kept, q3_kept, rooted_tied}
+use Rattle.pq_plain.specs.Chosen.{IsRootOfP, root_p1, root_p2, root_p4, root_p6}
+use Rattle.pq_plain.proofs.Meaning.{AreLabelled, Misses, AllMiss, IsRoot}
+use Rattle.pq_plain.proofs.Patterns.{as_all_full, span_plain}
 
--- the row is closed where it has all columns of the tree
-whole_row : (row : List ℕ) (t : Outline) → ((a : ℕ) → IsTrue (has (leaves t) a) → IsTrue (has row a)) → Rooted row t t
-whole_row row t all =
-    record {
-      same = λ a. refl;
-      up = λ R eq b. (b, λ x y d rx ry ld rd. absurd (both_ways (has row d) rd (all d ld)));
-      down = λ R eq b c. b;
-    }
+-- P1, P2, P4 and P6
+root_p_is : (ts es fs : Forest) (ps : List Label) (hs : List Partial) (u : Outline) → IsSorted ts ps es fs hs → root_p hs es fs ts ≡ Some u → IsRootOfP ts ps u
+root_p_is ts no_tree fs ps [] u s e = subst (IsRootOfP ts ps) (some_inj e) (root_p1 (as_all_full s))
+root_p_is ts (tree_and t es) no_tree ps [] u s e = cc
+root_p_is ts (tree_and t es) (tree_and f fs) ps [] u s e =
+    root_p2 u (record { e = t; es = es; f = f; fs = fs; pattern = s; becomes = sym (some_inj e) })
+root_p_is ts es no_tree ps (h ∷ []) u s e = cc
+root_p_is ts es (tree_and f fs) ps (h ∷ []) u s e = root_p4 u (record { es = es; h = h; fs = tree_and f fs; pattern = s; becomes = sym (some_inj e) })
+root_p_is ts es fs ps (h ∷ k ∷ []) u s e = root_p6 u (record { es = es; h = h; fs = fs; k = k; pattern = s; becomes = sym (some_inj e) })
+root_p_is ts es fs ps (h ∷ k ∷ l ∷ hs) u s e = cc
 
-root_p_made : (row : List ℕ) (ts es rs fs us : Forest) (hs : List Partial) (x : Outline) → IsParted ts es rs → IsParted rs fs us → AreEmpty row es → AreFull row fs → AreHalves row us hs →
-    HaveArities ts → ((a : ℕ) → occurs (leaves_of ts) a ≤ 1) → ((a : ℕ) → IsTrue (has row a) → IsTrue (has (leaves_of ts) a)) → root_p hs es fs ts ≡ Some x → Rooted row (p_node ts) x
-root_p_made row ts no_tree rs fs us hs x f s ee ff no_half c once within e =
-    subst (Rooted row (p_node ts)) (some_inj e) (whole_row row (p_node ts) (all_row row ts rs fs f s ff))
-root_p_made row ts (tree_and t es) rs no_tree us hs x f s ee ff no_half c once within e = cc
-root_p_made row ts (tree_and t es) rs (tree_and g fs) us hs x f s ee ff no_half c once within e =
-    subst (Rooted row (p_node ts)) (some_inj e) (p2 row ts (tree_and t es) fs g (subst (IsParted ts (tree_and t es)) (parted_end s) f) ee ff within)
-root_p_made row ts es rs no_tree us hs x f s ee ff (a_half part no_half) c once within e = cc
-root_p_made row ts es rs (tree_and g fs) us hs x f s ee ff (a_half {t = u} {h = h} part no_half) c once within e =
-    subst (Rooted row (p_node ts)) (some_inj e)
-    (p4 row ts es rs (tree_and g fs) u h.e h.f f s ee ff part once within (some_leaf_of (tree_and g fs) (omega arith) (counts_left s (counts_right f c))))
-root_p_made row ts es rs fs us hs x f s ee ff (a_half {t = u} {h = h} part (a_half {t = w} {h = k} part2 no_half)) c once within e =
-    subst (Rooted row (p_node ts)) (some_inj e) (p6 row ts es rs fs u w h.e h.f k.e k.f f s ee ff part part2 once within)
-root_p_made row ts es rs fs us hs x f s ee ff (a_half part (a_half part2 (a_half part3 m))) c once within e = cc
+all_empty_is : {ts es fs : Forest} {hs : List Partial} (ps : List Label) → IsSorted ts ps es fs hs → IsTrue (all_empty ps) → AreAllEmpty ts ps
+all_empty_is ps none_sorted e = none_sorted
+all_empty_is ps (to_empty {ps = qs} s) e = to_empty (all_empty_is qs s e)
+all_empty_is ps (to_full s) e = absurd (both_ways false refl e)
+all_empty_is ps (to_partial s) e = absurd (both_ways false refl e)
 
--- what the parse of a Q-node tells
-pub data IsTail (row : List ℕ) : Forest → Tail → Type 1 where
-  tail_end : IsTail row no_tree (record { middle = no_tree; right = []; behind = no_tree })
-  tail_void : {ts : Forest} → AreEmpty row ts → IsTail row ts (record { middle = no_tree; right = []; behind = ts })
-  tail_full : {t : Outline} {ts : Forest} {r : Tail} → ((a : ℕ) → IsTrue (has (leaves t) a) → IsTrue (has row a)) → IsTail row ts r → IsTail row (tree_and t ts) (full_more t r)
-  tail_split : {t : Outline} {ts : Forest} → (h : Partial) → Treated row t h.e h.f → AreEmpty row ts → IsTail row (tree_and t ts) (record { middle = no_tree; right = h ∷ []; behind = ts })
-
-pub data IsSpan (row : List ℕ) : Forest → Span → Type 1 where
-  span_void : {t : Outline} {ts : Forest} {r : Span} → ((a : ℕ) → IsTrue (has (leaves t) a) → IsFalse (has row a)) → IsSpan row ts r → IsSpan row (tree_and t ts) (before_more t r)
-  span_tail : {ts : Forest} {r : Tail} → IsTail row ts r → IsSpan row ts (begins [] r)
-  span_split : {t : Outline} {ts : Forest} {r : Tail} → (h : Partial) → Treated row t h.e h.f → IsTail row ts r → IsSpan row (tree_and t ts) (begins (h ∷ []) r)
-
-void_empty : (row : List ℕ) (ts : Forest) (ps : List Label) → AreMade row ts ps → IsTrue (all_void ps) → AreEmpty row ts
-void_empty row ts ps none_made e a h = absurd (both_ways false refl h)
-void_empty row ts ps (more_made {t = t} {ts = us} {ps = qs} (made_void k) m) e a h =
-    elim (has_append_cases (leaves t) (leaves_of us) a h) [ inl l ↦ k a l | inr l ↦ void_empty row us qs m e a l ]
-void_empty row ts ps (more_made (made_filled k) m) e a h = absurd (both_ways false refl e)
-void_empty row ts ps (more_made (made_split k t) m) e a h = absurd (both_ways false refl e)
-
-tail_made : (row : List ℕ) (ts : Forest) (ps : List Label) (r : Tail) → AreMade row ts ps → tail_of ts ps ≡ Some r → IsTail row ts r
-tail_made row ts ps r none_made e = subst (IsTail row no_tree) (some_inj e) tail_end
-tail_made row ts ps r (more_made {t = t} {ts = us} {ps = qs} (made_void k) m) e =
-    let w : IsTrue (all_void qs) × (record { middle = no_tree; right = []; behind = tree_and t us } ≡ r) = cond_some (all_void qs) (record { middle = no_tree; right = []; behind = tree_and t us }) r e in
-    subst (IsTail row (tree_and t us)) w.1 (tail_void (void_empty row (tree_and t us) (empty_label ∷ qs) (more_made (made_void k) m) w.0))
-tail_made row ts ps r (more_made {t = t} {ts = us} {ps = qs} (made_filled k) m) e =
+-- what `tail_of` and `span_of` find is one
+tail_is : {es fs : Forest} {hs : List Partial} (ts : Forest) (ps : List Label) (r : Tail) → IsSorted ts ps es fs hs → tail_of ts ps ≡ Some r → IsTail ts ps r.middle (at_most r.right) r.behind
+tail_is ts ps r none_sorted e = subst (λ (x : Tail). IsTail no_tree [] x.middle (at_most x.right) x.behind) (some_inj e) (tail_empty none_sorted)
+tail_is ts ps r (to_empty {t = t} {ts = us} {ps = qs} s) e =
+    let w : IsTrue (all_empty qs) × (record { middle = no_tree; right = []; behind = tree_and t us } ≡ r) = cond_some (all_empty qs) (record { middle = no_tree; right = []; behind = tree_and t us }) r e in
+    subst (λ (x : Tail). IsTail (tree_and t us) (empty_label ∷ qs) x.middle (at_most x.right) x.behind) w.1 (tail_empty (to_empty (all_empty_is qs s w.0)))
+tail_is ts ps r (to_full {t = t} {ts = us} {ps = qs} s) e =
     let w : (x : Tail) × (tail_of us qs ≡ Some x) × (Some (full_more t x) ≡ Some r) = and_then (λ x. Some (full_more t x)) (tail_of us qs) r e in
-    subst (IsTail row (tree_and t us)) (some_inj w.2) (tail_full k (tail_made row us qs w.0 m w.1))
-tail_made row ts ps r (more_made {t = t} {ts = us} {ps = qs} (made_split h k) m) e =
-    let w : IsTrue (all_void qs) × (record { middle = no_tree; right = h ∷ []; behind = us } ≡ r) = cond_some (all_void qs) (record { middle = no_tree; right = h ∷ []; behind = us }) r e in
-    subst (IsTail row (tree_and t us)) w.1 (tail_split h k (void_empty row us qs m w.0))
+    subst (λ (x : Tail). IsTail (tree_and t us) (full_label ∷ qs) x.middle (at_most x.right) x.behind) (some_inj w.2) (tail_more (tail_is us qs w.0 s w.1))
+tail_is ts ps r (to_partial {t = t} {ts = us} {ps = qs} {h = h} s) e =
+    let w : IsTrue (all_empty qs) × (record { middle = no_tree; right = h ∷ []; behind = us } ≡ r) = cond_some (all_empty qs) (record { middle = no_tree; right = h ∷ []; behind = us }) r e in
+    subst (λ (x : Tail). IsTail (tree_and t us) (partial_label h ∷ qs) x.middle (at_most x.right) x.behind) w.1 (tail_partial (all_empty_is qs s w.0))
 
-pub span_made : (row : List ℕ) (ts : Forest) (ps : List Label) (r : Span) → AreMade row ts ps → span_of ts ps ≡ Some r → IsSpan row ts r
-span_made row ts ps r none_made e = subst (IsSpan row no_tree) (some_inj e) (span_tail tail_end)
-span_made row ts ps r (more_made {t = t} {ts = us} {ps = qs} (made_void k) m) e =
+abbrev SpanIs : Forest → List Label → Span → Type 0
+SpanIs ts ps r = IsSpan ts ps r.before (at_most r.left) r.tail.middle (at_most r.tail.right) r.tail.behind
+
+pub span_is : {es fs : Forest} {hs : List Partial} (ts : Forest) (ps : List Label) (r : Span) → IsSorted ts ps es fs hs → span_of ts ps ≡ Some r →
+    IsSpan ts ps r.before (at_most r.left) r.tail.middle (at_most r.tail.right) r.tail.behind
+span_is ts ps r none_sorted e = subst (SpanIs no_tree []) (some_inj e) (span_tail (tail_empty none_sorted))
+span_is ts ps r (to_empty {t = t} {ts = us} {ps = qs} s) e =
     let w : (x : Span) × (span_of us qs ≡ Some x) × (Some (before_more t x) ≡ Some r) = and_then (λ x. Some (before_more t x)) (span_of us qs) r e in
-    subst (IsSpan row (tree_and t us)) (some_inj w.2) (span_void k (span_made row us qs w.0 m w.1))
-span_made row ts ps r (more_made {t = t} {ts = us} {ps = qs} (made_filled k) m) e =
+    subst (SpanIs (tree_and t us) (empty_label ∷ qs)) (some_inj w.2) (span_more (span_is us qs w.0 s w.1))
+span_is ts ps r (to_full {t = t} {ts = us} {ps = qs} s) e =
     let w : (x : Tail) × (tail_of us qs ≡ Some x) × (Some (begins [] (full_more t x)) ≡ Some r) = and_then (λ x. Some (begins [] (full_more t x))) (tail_of us qs) r e in
-    subst (IsSpan row (tree_and t us)) (some_inj w.2) (span_tail (tail_full k (tail_made row us qs w.0 m w.1)))
-span_made row ts ps r (more_made {t = t} {ts = us} {ps = qs} (made_split h k) m) e =
+    subst (SpanIs (tree_and t us) (full_label ∷ qs)) (some_inj w.2) (span_tail (tail_more (tail_is us qs w.0 s w.1)))
+span_is ts ps r (to_partial {t = t} {ts = us} {ps = qs} {h = h} s) e =
     let w : (x : Tail) × (tail_of us qs ≡ Some x) × (Some (begins (h ∷ []) x) ≡ Some r) = and_then (λ x. Some (begins (h ∷ []) x)) (tail_of us qs) r e in
-    subst (IsSpan row (tree_and t us)) (some_inj w.2) (span_split h k (tail_made row us qs w.0 m w.1))
+    subst (SpanIs (tree_and t us) (partial_label h ∷ qs)) (some_inj w.2) (span_partial (tail_is us qs w.0 s w.1))
 
-pub tail_middle : (row : List ℕ) (ts : Forest) (r : Tail) → IsTail row ts r → AreFull row r.middle
-tail_middle row ts r tail_end a h = absurd (both_ways false refl h)
-tail_middle row ts r (tail_void k) a h = absurd (both_ways false refl h)
-tail_middle row ts r (tail_full {t = t} {ts = us} {r = x} k m) a h =
-    elim (has_append_cases (leaves t) (leaves_of x.middle) a h) [ inl l ↦ k a l | inr l ↦ tail_middle row us x m a l ]
-tail_middle row ts r (tail_split g k n) a h = absurd (both_ways false refl h)
+-- Q3; a Q-node without a partial child stays
+root_q_is : (hs ks : List Partial) (fs es gs ts : Forest) (ps : List Label) (u : Outline) → IsSpan ts ps es (at_most hs) fs (at_most ks) gs → root_q hs ks fs es gs ts ≡ Some u → IsQ3 ts ps u
+root_q_is [] [] fs es gs ts ps u s e =
+    record { es = es; h = None; fs = fs; k = None; gs = gs; pattern = s; becomes = sym (some_inj e) ∙ ap q_node (sym (span_plain s)) }
+root_q_is (h ∷ hs) [] no_tree es gs ts ps u s e = cc
+root_q_is (h ∷ hs) [] (tree_and f fs) es gs ts ps u s e =
+    record { es = es; h = Some h; fs = tree_and f fs; k = None; gs = gs; pattern = s; becomes = sym (some_inj e) }
+root_q_is [] (k ∷ ks) no_tree es gs ts ps u s e = cc
+root_q_is [] (k ∷ ks) (tree_and f fs) es gs ts ps u s e =
+    record { es = es; h = None; fs = tree_and f fs; k = Some k; gs = gs; pattern = s; becomes = sym (some_inj e) }
+root_q_is (h ∷ hs) (k ∷ ks) fs es gs ts ps u s e =
+    record { es = es; h = Some h; fs = fs; k = Some k; gs = gs; pattern = s; becomes = sym (some_inj e) }
 
-pub tail_behind : (row : List ℕ) (ts : Forest) (r : Tail) → IsTail row ts r → AreEmpty row r.behind
-tail_behind row ts r tail_end a h = absurd (both_ways false refl h)
-tail_behind row ts r (tail_void k) a h = k a h
-tail_behind row ts r (tail_full {ts = us} {r = x} k m) a h = tail_behind row us x m a h
-tail_behind row ts r (tail_split g k n) a h = n a h
+pub root_of_p : (row : List ℕ) (ts : Forest) (ps : List Label) (u : Outline) → inner row ts ≡ None → labels_of row ts ≡ Some ps → reduce row (p_node ts) ≡ Some u → IsRootOfP ts ps u
+root_of_p row ts ps u n l e =
+    let f : option_and_then (λ qs. root_p (partials qs) (empty_trees ts qs) (full_trees ts qs) ts) (labels_of row ts) ≡ Some u =
+    subst (λ o. inner_or o p_node (option_and_then (λ qs. root_p (partials qs) (empty_trees ts qs) (full_trees ts qs) ts) (labels_of row ts)) ≡ Some u) n e in
+    let k : root_p (partials ps) (empty_trees ts ps) (full_trees ts ps) ts ≡ Some u =
+    subst (λ o. option_and_then (λ qs. root_p (partials qs) (empty_trees ts qs) (full_trees ts qs) ts) o ≡ Some u) l f in
+    root_p_is ts (empty_trees ts ps) (full_trees ts ps) ps (partials ps) u (labels_sorted row ts ps l) k
 
-pub tail_plain : (row : List ℕ) (ts : Forest) (r : Tail) → IsTail row ts r → r.right ≡ [] → ts ≡ join r.middle r.behind
-tail_plain row ts r tail_end e = refl
-tail_plain row ts r (tail_void k) e = refl
-tail_plain row ts r (tail_full {t = t} {ts = us} {r = x} k m) e = ap (tree_and t) (tail_plain row us x m e)
-tail_plain row ts r (tail_split g k n) e = cc
+pub root_of_q : (row : List ℕ) (ts : Forest) (ps : List Label) (u : Outline) → inner row ts ≡ None → labels_of row ts ≡ Some ps → reduce row (q_node ts) ≡ Some u → IsQ3 ts ps u
+root_of_q row ts ps u n l e =
+    let f : option_and_then (λ qs. option_and_then (at_span ts) (span_of ts qs)) (labels_of row ts) ≡ Some u =
+    subst (λ o. inner_or o q_node (option_and_then (λ qs. option_and_then (at_span ts) (span_of ts qs)) (labels_of row ts)) ≡ Some u) n e in
+    let k : option_and_then (at_span ts) (span_of ts ps) ≡ Some u = subst (λ o. option_and_then (λ qs. option_and_then (at_span ts) (span_of ts qs)) o ≡ Some u) l f in
+    let v : (r : Span) × (span_of ts ps ≡ Some r) × (at_span ts r ≡ Some u) = and_then (at_span ts) (span_of ts ps) u k in
+    root_q_is v.0.left v.0.tail.right v.0.tail.middle v.0.before v.0.tail.behind ts ps u (span_is ts ps v.0 (labels_sorted row ts ps l) v.1) v.2
 
-pub record RightHalf (row : List ℕ) (ts : Forest) (r : Tail) (k : Partial) : Type 1 where
-  pub w : Outline
-  pub is : ts ≡ join r.middle (tree_and w r.behind)
-  pub part : Treated row w k.e k.f
-
-pub tail_half : (row : List ℕ) (ts : Forest) (r : Tail) (k : Partial) (ks : List Partial) → IsTail row ts r → r.right ≡ k ∷ ks → RightHalf row ts r k
-tail_half row ts r k ks tail_end e = cc
-tail_half row ts r k ks (tail_void v) e = cc
-tail_half row ts r k ks (tail_full {t = t} {ts = us} {r = x} v m) e =
-    let w : RightHalf row us x k = tail_half row us x k ks m e in record { w = w.w; is = ap (tree_and t) w.is; part = w.part }
-tail_half row ts r k ks (tail_split {t = t} g v n) e =
-    let same : g ≡ k = cc in record { w = t; is = refl; part = subst (λ y. Treated row t y.e y.f) same v }
-
-pub span_before : (row : List ℕ) (ts : Forest) (r : Span) → IsSpan row ts r → AreEmpty row r.before
-span_before row ts r (span_void {t = t} {ts = us} {r = x} k m) a h =
-    elim (has_append_cases (leaves t) (leaves_of x.before) a h) [ inl l ↦ k a l | inr l ↦ span_before row us x m a l ]
-span_before row ts r (span_tail m) a h = absurd (both_ways false refl h)
-span_before row ts r (span_split g k m) a h = absurd (both_ways false refl h)
-
-pub record PlainLeft (row : List ℕ) (ts : Forest) (r : Span) : Type 1 where
-  pub later : Forest
-  pub is : ts ≡ join r.before later
-  pub tail : IsTail row later r.tail
-
-pub record LeftHalf (row : List ℕ) (ts : Forest) (r : Span) (h : Partial) : Type 1 where
-  pub u : Outline
-  pub later : Forest
-  pub is : ts ≡ join r.before (tree_and u later)
-  pub part : Treated row u h.e h.f
-  pub tail : IsTail row later r.tail
-
-pub span_plain : (row : List ℕ) (ts : Forest) (r : Span) → IsSpan row ts r → r.left ≡ [] → PlainLeft row ts r
-span_plain row ts r (span_void {t = t} {ts = us} {r = x} k m) e =
-    let w : PlainLeft row us x = span_plain row us x m e in record { later = w.later; is = ap (tree_and t) w.is; tail = w.tail }
-span_plain row ts r (span_tail m) e = record { later = ts; is = refl; tail = m }
-span_plain row ts r (span_split g k m) e = cc
-
-pub span_half : (row : List ℕ) (ts : Forest) (r : Span) (h : Partial) (hs : List Partial) → IsSpan row ts r → r.left ≡ h ∷ hs → LeftHalf row ts r h
-span_half row ts r h hs (span_void {t = t} {ts = us} {r = x} k m) e =
-    let w : LeftHalf row us x h = span_half row us x h hs m e in record { u = w.u; later = w.later; is = ap (tree_and t) w.is; part = w.part; tail = w.tail }
-span_half row ts r h hs (span_tail m) e = cc
-span_half row ts r h hs (span_split {t = t} {ts = us} g k m) e =
-    let same : g ≡ h = cc in record { u = t; later = us; is = refl; part = subst (λ y. Treated row t y.e y.f) same k; tail = m }
-
-counts_after : (xs ys : Forest) → HaveArities (join xs ys) → HaveArities ys
-counts_after no_tree ys h = h
-counts_after (tree_and t ts) ys h = counts_after ts ys h.1
-
-counts_front : (xs ys : Forest) → HaveArities (join xs ys) → HaveArities xs
-counts_front no_tree ys h = tt
-counts_front (tree_and t ts) ys h = (h.0, counts_front ts ys h.1)
-
--- one partial child, behind full ones
-q3_right : (row : List ℕ) (es fs gs : Forest) (w : Outline) (e f : Forest) → Treated row w e f → AreEmpty row es → AreFull row fs → AreEmpty row gs → (s : ℕ) → IsTrue (has (leaves_of fs) s) →
-    ((a : ℕ) → IsTrue (has row a) → IsTrue (has (leaves_of (join es (join fs (tree_and w gs)))) a)) →
-    Rooted row (q_node (join es (join fs (tree_and w gs)))) (q_node (join es (join (join fs (back f)) (join (back e) gs))))
-q3_right row es fs gs w e f part ee ff gg s hs within =
-    let old : join (join es fs) (tree_and w gs) ≡ join es (join fs (tree_and w gs)) = join_assoc es fs (tree_and w gs) in
-    let new : join (join es fs) (join (back (join e f)) gs) ≡ join es (join (join fs (back f)) (join (back e) gs)) = simp (back-join, join_assoc) in
-    let step : Refined row (q_node (join es (join fs (tree_and w gs)))) (q_node (join es (join (join fs (back f)) (join (back e) gs)))) =
-    subst (λ y. Refined row (q_node y) (q_node (join es (join (join fs (back f)) (join (back e) gs))))) old
-    (subst (λ y. Refined row (q_node (join (join es fs) (tree_and w gs))) (q_node y)) new
-    (refined_left row (join es fs) gs w e f part s (has_join_right es fs s hs) (ff s hs))) in
-    rooted_from row (q_node (join es (join fs (tree_and w gs)))) (q_node (join es (join (join fs (back f)) (join (back e) gs)))) step
-    (run_closed row es (join fs (back f)) (join (back e) gs) ee (join_full row fs (back f) ff (part_full row f part.full)) (join_empty row (back e) gs (part_empty row e part.empty) gg)
-    (λ a h. has_same (leaves_of (join es (join (join fs (back f)) (join (back e) gs)))) (leaves_of (join es (join fs (tree_and w gs)))) a (step.same a) ∙ within a h))
-
-root_q_made : (row : List ℕ) (ts : Forest) (r : Span) → IsSpan row ts r → HaveArities ts → ((a : ℕ) → IsTrue (has row a) → IsTrue (has (leaves_of ts) a)) →
-    (hs ks : List Partial) (fs : Forest) → r.left ≡ hs → r.tail.right ≡ ks → r.tail.middle ≡ fs → (x : Outline) → root_q hs ks fs r.before r.tail.behind ts ≡ Some x → Rooted row (q_node ts) x
-root_q_made row ts r m c within [] [] fs el er ef x e =
-    let w : PlainLeft row ts r = span_plain row ts r m el in
-    let j : join r.before (join r.tail.middle r.tail.behind) ≡ ts = sym (w.is ∙ ap (join r.before) (tail_plain row w.later r.tail w.tail er)) in
-    subst (Rooted row (q_node ts)) (some_inj e)
-    (subst (λ y. Rooted row (q_node y) (q_node y)) j
-    (q3_none row r.before r.tail.middle r.tail.behind (span_before row ts r m) (tail_middle row w.later r.tail w.tail) (tail_behind row w.later r.tail w.tail)
-    (λ a h. subst (λ y. IsTrue (has (leaves_of y) a)) (sym j) (within a h))))
-root_q_made row ts r m c within (h ∷ hs) [] no_tree el er ef x e = cc
-root_q_made row ts r m c within (h ∷ hs) [] (tree_and f fs) el er ef x e =
-    let w : LeftHalf row ts r h = span_half row ts r h hs m el in
-    let j : join r.before (tree_and w.u (join (tree_and f fs) r.tail.behind)) ≡ ts =
-    sym (w.is ∙ ap (λ y. join r.before (tree_and w.u y)) (tail_plain row w.later r.tail w.tail er ∙ ap (λ y. join y r.tail.behind) ef)) in
-    let cj : HaveArities (join r.before (tree_and w.u (join (tree_and f fs) r.tail.behind))) = subst HaveArities (sym j) c in
-    let cf : HaveArities (tree_and f fs) = counts_front (tree_and f fs) r.tail.behind ((counts_after r.before (tree_and w.u (join (tree_and f fs) r.tail.behind)) cj).1) in
-    let s : (a : ℕ) × IsTrue (has (leaves_of (tree_and f fs)) a) = some_leaf_of (tree_and f fs) (omega arith) cf in
-    subst (Rooted row (q_node ts)) (some_inj e)
-    (subst (λ y. Rooted row (q_node y) (q_node (join (join r.before h.e) (join (join h.f (tree_and f fs)) r.tail.behind)))) j
-    (q3_left row r.before (tree_and f fs) r.tail.behind w.u h.e h.f w.part (span_before row ts r m) (subst (AreFull row) ef (tail_middle row w.later r.tail w.tail)) (tail_behind row w.later r.tail w.tail) s.0 s.1
-    (λ a h. subst (λ y. IsTrue (has (leaves_of y) a)) (sym j) (within a h))))
-root_q_made row ts r m c within [] (k ∷ ks) no_tree el er ef x e = cc
-root_q_made row ts r m c within [] (k ∷ ks) (tree_and f fs) el er ef x e =
-    let w : PlainLeft row ts r = span_plain row ts r m el in
-    let v : RightHalf row w.later r.tail k = tail_half row w.later r.tail k ks w.tail er in
-    let j : join r.before (join (tree_and f fs) (tree_and v.w r.tail.behind)) ≡ ts =
-    sym (w.is ∙ ap (join r.before) (v.is ∙ ap (λ y. join y (tree_and v.w r.tail.behind)) ef)) in
-    let cj : HaveArities (join r.before (join (tree_and f fs) (tree_and v.w r.tail.behind))) = subst HaveArities (sym j) c in
-    let cf : HaveArities (tree_and f fs) = counts_front (tree_and f fs) (tree_and v.w r.tail.behind) (counts_after r.before (join (tree_and f fs) (tree_and v.w r.tail.behind)) cj) in
-    let s : (a : ℕ) × IsTrue (has (leaves_of (tree_and f fs)) a) = some_leaf_of (tree_and f fs) (omega arith) cf in
-    subst (Rooted row (q_node ts)) (some_inj e)
-    (subst (λ y. Rooted row (q_node y) (q_node (join r.before (join (join (tree_and f fs) (back k.f)) (join (back k.e) r.tail.behind))))) j
-    (q3_right row r.before (tree_and f fs) r.tail.behind v.w k.e k.f v.part (span_before row ts r m) (subst (AreFull row) ef (tail_middle row w.later r.tail w.tail)) (tail_behind row w.later r.tail w.tail) s.0 s.1
-    (λ a h. subst (λ y. IsTrue (has (leaves_of y) a)) (sym j) (within a h))))
-root_q_made row ts r m c within (h ∷ hs) (k ∷ ks) fs el er ef x e =
-    let w : LeftHalf row ts r h = span_half row ts r h hs m el in
-    let v : RightHalf row w.later r.tail k = tail_half row w.later r.tail k ks w.tail er in
-    let j : join r.before (tree_and w.u (join fs (tree_and v.w r.tail.behind))) ≡ ts =
-    sym (w.is ∙ ap (λ y. join r.before (tree_and w.u y)) (v.is ∙ ap (λ y. join y (tree_and v.w r.tail.behind)) ef)) in
-    subst (Rooted row (q_node ts)) (some_inj e)
-    (subst (λ y. Rooted row (q_node y) (q_node (join (join r.before h.e) (join (join h.f (join fs (back k.f))) (join (back k.e) r.tail.behind))))) j
-    (q3_both row r.before fs r.tail.behind w.u v.w h.e h.f k.e k.f w.part v.part (span_before row ts r m) (subst (AreFull row) ef (tail_middle row w.later r.tail w.tail)) (tail_behind row w.later r.tail w.tail)
-    (λ a h. subst (λ y. IsTrue (has (leaves_of y) a)) (sym j) (within a h))))
+-- what the templates make of the root
+root_p_right : (row : List ℕ) (ts : Forest) (ps : List Label) (u : Outline) → AreLabelled row ts ps → ((a : ℕ) → occurs (leaves_of ts) a ≤ 1) → IsRoot row ts → IsRootOfP ts ps u → Rooted row (p_node ts) u
+root_p_right row ts ps u m once root (root_p1 s) = full_rooted row (p1 ts) (p1_kept row ts ps m s)
+root_p_right row ts ps u m once root (root_p2 x s) = p2_kept row ts ps m u root s
+root_p_right row ts ps u m once root (root_p4 x s) = p4_kept row ts ps m once u root s
+root_p_right row ts ps u m once root (root_p6 x s) = p6_kept row ts ps m once u root s
 
 -- the child that holds the row
 pub all_held : (l : List ℕ) (row : List ℕ) → IsTrue (list_all (λ a. has l a) row) → (a : ℕ) → IsTrue (has row a) → IsTrue (has l a)
@@ -238,8 +119,8 @@ pub record Within (row : List ℕ) (ts us : Forest) : Type 1 where
   pub rooted : Rooted row t u
 
 -- the three answers of the search in the children
-pub inner_cases : (o : Option (Option Forest)) (f : Forest → Outline) (k : Option Outline) (x : Outline) → inner_or o f k ≡ Some x → ((us : Forest) × (o ≡ Some (Some us)) × (f us ≡ x)) ⊎ (k ≡ Some x)
-inner_cases None f k x e = inr e
+pub inner_cases : (o : Option (Option Forest)) (f : Forest → Outline) (k : Option Outline) (x : Outline) → inner_or o f k ≡ Some x → ((us : Forest) × (o ≡ Some (Some us)) × (f us ≡ x)) ⊎ ((o ≡ None) × (k ≡ Some x))
+inner_cases None f k x e = inr (refl, e)
 inner_cases (Some None) f k x e = cc
 inner_cases (Some (Some us)) f k x e = inl (us, refl, some_inj e)
 
@@ -252,13 +133,38 @@ pub put_cases : (ts : Forest) (o : Option Outline) (us : Forest) → put ts o �
 put_cases ts None us e = cc
 put_cases ts (Some u) us e = (u, refl, some_inj e)
 
+-- no child holds the row
+not_all : (l xs : List ℕ) → IsFalse (list_all (λ a. has l a) xs) → Misses xs l
+not_all l [] e = absurd (both_ways true e refl)
+not_all l (x ∷ xs) e =
+    elim (and_cases (has l x) (list_all (λ a. has l a) xs) e) [
+      | inl k ↦ (x, has_head x xs, k)
+      | inr k ↦ let w : Misses xs l = not_all l xs k in (w.0, has_tail x w.0 xs w.1, w.2)
+    ]
+
+behind_none : (t : Outline) (o : Option (Option Forest)) → behind_of t o ≡ None → o ≡ None
+behind_none t None e = refl
+behind_none t (Some None) e = cc
+behind_none t (Some (Some us)) e = cc
+
+pub inner_none : (row : List ℕ) (ts : Forest) → inner row ts ≡ None → AllMiss row ts
+inner_none row no_tree e = tt
+inner_none row (tree_and t ts) e =
+    elim (cases_Bool (holds row t)) [
+      | inl k ↦ some_none (put ts (reduce row t)) (ap (λ b. cond b (Some (put ts (reduce row t))) (behind_of t (inner row ts))) (sym k) ∙ e)
+      | inr k ↦ (not_all (leaves t) row k, inner_none row ts (behind_none t (inner row ts) (ap (λ b. cond b (Some (put ts (reduce row t))) (behind_of t (inner row ts))) (sym k) ∙ e)))
+    ]
+  where
+    some_none : (o : Option Forest) → Some o ≡ None → AllMiss row (tree_and t ts)
+    some_none o x = cc
+
 mutual
   pub reduce_rooted : (row : List ℕ) (t x : Outline) → HasArities t → ((a : ℕ) → occurs (leaves t) a ≤ 1) → ((a : ℕ) → IsTrue (has row a) → IsTrue (has (leaves t) a)) →
       (c : ℕ) → IsTrue (has row c) → reduce row t ≡ Some x → Rooted row t x
   reduce_rooted row (leaf b) x n once within c hc e =
       let same : b ≡ c = elim (has_cases b c [] (within c hc)) [ inl k ↦ k | inr k ↦ absurd (both_ways false refl k) ] in
       subst (Rooted row (leaf b)) (some_inj e)
-      (whole_row row (leaf b) (λ a h. elim (has_cases b a [] h) [ inl k ↦ subst (λ y. IsTrue (has row y)) (sym same ∙ k) hc | inr k ↦ absurd (both_ways false refl k) ]))
+      (full_rooted row (l1 b) (l1_kept row b (subst (λ y. IsTrue (has row y)) (sym same) hc)))
   reduce_rooted row (p_node ts) x n once within c hc e =
       elim (inner_cases (inner row ts) p_node (option_and_then (λ ps. root_p (partials ps) (empty_trees ts ps) (full_trees ts ps) ts) (labels_of row ts)) x e) [
         | inl k ↦
@@ -267,10 +173,9 @@ mutual
             subst (Rooted row (p_node ts)) (ap p_node w.new ∙ k.2) (subst (λ y. Rooted row (p_node y) (p_node (join w.xs (tree_and w.u w.ys)))) w.old r)
         | inr k ↦
             let w : (ps : List Label) × (labels_of row ts ≡ Some ps) × (root_p (partials ps) (empty_trees ts ps) (full_trees ts ps) ts ≡ Some x) =
-            and_then (λ ps. root_p (partials ps) (empty_trees ts ps) (full_trees ts ps) ts) (labels_of row ts) x k in
-            let m : AreMade row ts w.0 = treat_all_made row ts w.0 n.1 once w.1 in
-            root_p_made row ts (empty_trees ts w.0) (rest ts w.0) (full_trees ts w.0) (partial_trees ts w.0) (partials w.0) x (first_parted row ts w.0 m) (second_parted row ts w.0 m)
-            (voids_empty row ts w.0 m) (fills_full row ts w.0 m) (halves_made row ts w.0 m) n.1 once within w.2
+            and_then (λ ps. root_p (partials ps) (empty_trees ts ps) (full_trees ts ps) ts) (labels_of row ts) x k.1 in
+            root_p_right row ts w.0 x (labels_right row ts w.0 n.1 once w.1) once (record { within = within; lowest = inner_none row ts k.0 })
+            (root_p_is ts (empty_trees ts w.0) (full_trees ts w.0) w.0 (partials w.0) x (labels_sorted row ts w.0 w.1) w.2)
       ]
   reduce_rooted row (q_node ts) x n once within c hc e =
       elim (inner_cases (inner row ts) q_node (option_and_then (λ ps. option_and_then (at_span ts) (span_of ts ps)) (labels_of row ts)) x e) [
@@ -280,10 +185,10 @@ mutual
             subst (Rooted row (q_node ts)) (ap q_node w.new ∙ k.2) (subst (λ y. Rooted row (q_node y) (q_node (join w.xs (tree_and w.u w.ys)))) w.old r)
         | inr k ↦
             let w : (ps : List Label) × (labels_of row ts ≡ Some ps) × (option_and_then (at_span ts) (span_of ts ps) ≡ Some x) =
-            and_then (λ ps. option_and_then (at_span ts) (span_of ts ps)) (labels_of row ts) x k in
+            and_then (λ ps. option_and_then (at_span ts) (span_of ts ps)) (labels_of row ts) x k.1 in
             let v : (r : Span) × (span_of ts w.0 ≡ Some r) × (at_span ts r ≡ Some x) = and_then (at_span ts) (span_of ts w.0) x w.2 in
-            let m : AreMade row ts w.0 = treat_all_made row ts w.0 n.1 once w.1 in
-            root_q_made row ts v.0 (span_made row ts w.0 v.0 m v.1) n.1 within v.0.left v.0.tail.right v.0.tail.middle refl refl refl x v.2
+            q3_kept row ts w.0 x (labels_right row ts w.0 n.1 once w.1) (record { within = within; lowest = inner_none row ts k.0 })
+            (root_q_is v.0.left v.0.tail.right v.0.tail.middle v.0.before v.0.tail.behind ts w.0 x (span_is ts w.0 v.0 (labels_sorted row ts w.0 w.1) v.1) v.2)
       ]
 
   pub inner_rooted : (row : List ℕ) (ts us : Forest) → HaveArities ts → ((a : ℕ) → occurs (leaves_of ts) a ≤ 1) → (c : ℕ) → IsTrue (has row c) → inner row ts ≡ Some (Some us) → Within row ts us
@@ -317,7 +222,7 @@ pub reduce_tied : (c : ℕ) (rows : List (List ℕ)) (row : List ℕ) (t x : Out
     ((a : ℕ) → IsTrue (has row a) → IsTrue (has (leaves t) a)) → (d : ℕ) → IsTrue (has row d) → reduce row t ≡ Some x → IsTied c (rows ++ row ∷ []) x
 reduce_tied c rows row t x n whole tied within d hd e =
     let r : Rooted row t x = reduce_rooted row t x n (order_once c (leaves t) whole) within d hd e in
-    tied_more c rows row t x whole tied within r.same r.down r.up
+    rooted_tied c rows row t x whole tied within r
 
 pub reduce_order : (c : ℕ) (row : List ℕ) (t x : Outline) → HasArities t → IsOrder c (leaves t) → ((a : ℕ) → IsTrue (has row a) → IsTrue (has (leaves t) a)) → (d : ℕ) → IsTrue (has row d) →
     reduce row t ≡ Some x → IsOrder c (leaves x)

@@ -6,7 +6,7 @@ use Rattle.pq_tree.specs.Outline.{Outline, leaf, p_node, q_node}
 use Rattle.pq_tree.specs.Proper.{outline_of}
 use Rattle.pq_tree.specs.declared.Tree.{Tree, Leaf, P, Q}
 use Rattle.pq_tree.proofs.Shown.{outline_of-Leaf, outline_of-P, outline_of-Q}
-use Rattle.pq_plain.specs.Treat.{Label, labels_of}
+use Rattle.pq_plain.specs.Labels.{Label, labels_of}
 use Rattle.pq_plain.specs.Seen.{outlines, labels_seen}
 use Rattle.pq_plain.specs.AtRoot.{p_outcome, q_outcome, root_of, outcome_seen}
 use Rattle.pq_plain.specs.declared.label.Label.{Label as Marked}

@@ -5,14 +5,14 @@ use Rattle.pq_tree.specs.Outline.{Outline, Forest, p_node, q_node, no_tree, tree
 use Rattle.pq_tree.specs.Proper.{outline_of, forest, count}
 use Rattle.pq_tree.specs.declared.Tree.{Tree}
 use Rattle.pq_plain.specs.Templates.{join, star, back, under, gather}
-use Rattle.pq_plain.specs.Treat.{Partial, Label, partials, empty_trees, full_trees}
+use Rattle.pq_plain.specs.Labels.{Partial, Label, partials, empty_trees, full_trees}
 use Rattle.pq_plain.specs.Reduce.{Tail, Span, root_p, root_q, at_span, span_of}
 use Rattle.pq_plain.specs.Seen.{outlines, label_seen}
 use Rattle.pq_plain.specs.AtRoot.{p_outcome, q_outcome, line_of, turned_line_of, p_made, span_seen, PartialsAt, first_line, first_turned, q_made}
 use Rattle.pq_plain.specs.declared.label.Label.{Label as Marked}
 use Rattle.pq_plain.specs.declared.at_root.Span.{Span as Places}
 use Rattle.pq_plain.proofs.Lines.{join_assoc}
-use Rattle.pq_plain.proofs.QTemplates.{back-join}
+use Rattle.pq_plain.proofs.QSteps.{back-join}
 use Rattle.pq_plain.proofs.Outlines.{join_no_tree}
 use Rattle.pq_plain.proofs.Counted.{IsCounted, HasTree, count_none, count_some, no_partial}
 

@@ -4,7 +4,7 @@ use Rattle.std.proofs.lemmas.Bool.{cond-true, cond-false}
 use Rattle.std.proofs.lemmas.List.{drop-map, length-map, length-drop, take_all}
 use Rattle.pq_tree.specs.Outline.{Outline, Forest, no_tree, tree_and}
 use Rattle.pq_tree.specs.Proper.{forest}
-use Rattle.pq_plain.specs.Treat.{Partial, Label, empty_label, full_label, partial_label, partials, Run, all_filled, one_more, run_of}
+use Rattle.pq_plain.specs.Labels.{Partial, Label, empty_label, full_label, partial_label, partials, Run, all_full, one_more, run_of}
 use Rattle.pq_plain.specs.Seen.{label_seen, empty_front, full_front, cut_front, run_seen}
 use Rattle.pq_plain.specs.declared.label.Label.{Label as Marked}
 use Rattle.pq_plain.specs.declared.label.Run.{Run as Places}
@@ -30,26 +30,26 @@ run_end_few (empty_label ∷ ps) = omega (arith, run_end_few ps)
 run_end_few (full_label ∷ ps) = omega arith
 run_end_few (partial_label h ∷ ps) = omega arith
 
-pub filled_front : (ps : List Label) → full_front ps ≡ length ps → IsTrue (all_filled ps)
+pub filled_front : (ps : List Label) → full_front ps ≡ length ps → IsTrue (all_full ps)
 filled_front [] e = refl
 filled_front (empty_label ∷ ps) e = absurd (omega arith)
 filled_front (full_label ∷ ps) e = filled_front ps (omega arith)
 filled_front (partial_label h ∷ ps) e = absurd (omega arith)
 
-pub not_filled_front : (ps : List Label) → full_front ps ≢ length ps → IsFalse (all_filled ps)
+pub not_filled_front : (ps : List Label) → full_front ps ≢ length ps → IsFalse (all_full ps)
 not_filled_front [] e = absurd (e refl)
 not_filled_front (empty_label ∷ ps) e = refl
 not_filled_front (full_label ∷ ps) e = not_filled_front ps (λ k. e (omega arith))
 not_filled_front (partial_label h ∷ ps) e = refl
 
-filled_partials : (ps : List Label) → IsTrue (all_filled ps) → partials ps ≡ []
+filled_partials : (ps : List Label) → IsTrue (all_full ps) → partials ps ≡ []
 filled_partials [] h = refl
 filled_partials (empty_label ∷ ps) h = cc
 filled_partials (full_label ∷ ps) h = filled_partials ps h
 filled_partials (partial_label g ∷ ps) h = cc
 
 -- a run, and none
-run_fits : (ts : List Outline) (ps : List Label) → length ts ≡ length ps → IsTrue (all_filled (drop (run_end ps) ps)) →
+run_fits : (ts : List Outline) (ps : List Label) → length ts ≡ length ps → IsTrue (all_full (drop (run_end ps) ps)) →
     run_of (forest ts) ps ≡ Some (record { before = forest (take (empty_front ps) ts); middle = partials ps; behind = forest (drop (run_end ps) ts) })
 unfolding run_end
 run_fits [] [] n h = refl
@@ -57,20 +57,20 @@ run_fits [] (p ∷ ps) n h = absurd (omega arith)
 run_fits (t ∷ ts) [] n h = absurd (omega arith)
 run_fits (t ∷ ts) (empty_label ∷ ps) n h = ap (option_and_then (λ r. Some (one_more t r))) (run_fits ts ps (omega arith) h)
 run_fits (t ∷ ts) (full_label ∷ ps) n h =
-    cond-true (all_filled ps) (Some (record { before = no_tree; middle = []; behind = tree_and t (forest ts) })) None h ∙
+    cond-true (all_full ps) (Some (record { before = no_tree; middle = []; behind = tree_and t (forest ts) })) None h ∙
     ap (λ hs. Some (record { before = no_tree; middle = hs; behind = tree_and t (forest ts) })) (sym (filled_partials ps h))
 run_fits (t ∷ ts) (partial_label g ∷ ps) n h =
-    cond-true (all_filled ps) (Some (record { before = no_tree; middle = g ∷ []; behind = forest ts })) None h ∙
+    cond-true (all_full ps) (Some (record { before = no_tree; middle = g ∷ []; behind = forest ts })) None h ∙
     ap (λ hs. Some (record { before = no_tree; middle = g ∷ hs; behind = forest ts })) (sym (filled_partials ps h))
 
-run_fails : (ts : List Outline) (ps : List Label) → length ts ≡ length ps → IsFalse (all_filled (drop (run_end ps) ps)) → run_of (forest ts) ps ≡ None
+run_fails : (ts : List Outline) (ps : List Label) → length ts ≡ length ps → IsFalse (all_full (drop (run_end ps) ps)) → run_of (forest ts) ps ≡ None
 unfolding run_end
 run_fails [] [] n h = cc
 run_fails [] (p ∷ ps) n h = absurd (omega arith)
 run_fails (t ∷ ts) [] n h = absurd (omega arith)
 run_fails (t ∷ ts) (empty_label ∷ ps) n h = ap (option_and_then (λ r. Some (one_more t r))) (run_fails ts ps (omega arith) h)
-run_fails (t ∷ ts) (full_label ∷ ps) n h = cond-false (all_filled ps) (Some (record { before = no_tree; middle = []; behind = tree_and t (forest ts) })) None h
-run_fails (t ∷ ts) (partial_label g ∷ ps) n h = cond-false (all_filled ps) (Some (record { before = no_tree; middle = g ∷ []; behind = forest ts })) None h
+run_fails (t ∷ ts) (full_label ∷ ps) n h = cond-false (all_full ps) (Some (record { before = no_tree; middle = []; behind = tree_and t (forest ts) })) None h
+run_fails (t ∷ ts) (partial_label g ∷ ps) n h = cond-false (all_full ps) (Some (record { before = no_tree; middle = g ∷ []; behind = forest ts })) None h
 
 -- as the program finds them
 found_end : (ls : List Marked) (b n e : ℕ) → b ≡ empty_front (map label_seen ls) → n ≡ cut_front (map label_seen (drop b ls)) → e ≡ b + n → e ≡ run_end (map label_seen ls)

@@ -14,7 +14,7 @@ use Rattle.pq_tree.specs.Proper.{outline_of, forest}
 use Rattle.pq_tree.specs.declared.Tree.{Tree, Leaf, P, Q}
 use Rattle.pq_tree.proofs.Shown.{outline_of-Leaf, outline_of-P, outline_of-Q, leaves_of-append}
 use Rattle.pq_plain.specs.Reduce.{holds, put, behind_of, inner_or, reduce, inner}
-use Rattle.pq_plain.specs.Treat.{labels_of}
+use Rattle.pq_plain.specs.Labels.{labels_of}
 use Rattle.pq_plain.specs.Seen.{outlines}
 use Rattle.pq_plain.specs.AtRoot.{root_of, p_outcome, q_outcome}
 use Rattle.pq_plain.specs.Found.{hits, IsStep, IsFound, IsFoundBelow, IsStepAmong, IsFoundAmong}

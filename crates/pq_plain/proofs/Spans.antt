@@ -4,8 +4,8 @@ use Rattle.std.proofs.lemmas.Bool.{cond-true, cond-false}
 use Rattle.std.proofs.lemmas.List.{drop-map, length-map, length-drop, drop-drop}
 use Rattle.pq_tree.specs.Outline.{Outline, Forest, no_tree, tree_and}
 use Rattle.pq_tree.specs.Proper.{forest}
-use Rattle.pq_plain.specs.Treat.{Partial, Label, empty_label, full_label, partial_label, partials}
-use Rattle.pq_plain.specs.Reduce.{Tail, Span, all_void, full_more, before_more, tail_of, begins, span_of}
+use Rattle.pq_plain.specs.Labels.{Partial, Label, empty_label, full_label, partial_label, partials}
+use Rattle.pq_plain.specs.Reduce.{Tail, Span, all_empty, full_more, before_more, tail_of, begins, span_of}
 use Rattle.pq_plain.specs.Seen.{label_seen, empty_front, full_front, cut_front}
 use Rattle.pq_plain.specs.AtRoot.{span_seen, PartialsAt}
 use Rattle.pq_plain.specs.declared.label.Label.{Label as Marked}
@@ -33,48 +33,48 @@ tail_end_few (empty_label ∷ ps) = omega arith
 tail_end_few (full_label ∷ ps) = omega (arith, tail_end_few ps)
 tail_end_few (partial_label h ∷ ps) = omega arith
 
-void_front : (ps : List Label) → empty_front ps ≡ length ps → IsTrue (all_void ps)
+void_front : (ps : List Label) → empty_front ps ≡ length ps → IsTrue (all_empty ps)
 void_front [] e = refl
 void_front (empty_label ∷ ps) e = void_front ps (omega arith)
 void_front (full_label ∷ ps) e = absurd (omega arith)
 void_front (partial_label h ∷ ps) e = absurd (omega arith)
 
-not_void_front : (ps : List Label) → empty_front ps ≢ length ps → IsFalse (all_void ps)
+not_void_front : (ps : List Label) → empty_front ps ≢ length ps → IsFalse (all_empty ps)
 not_void_front [] e = absurd (e refl)
 not_void_front (empty_label ∷ ps) e = not_void_front ps (λ k. e (omega arith))
 not_void_front (full_label ∷ ps) e = refl
 not_void_front (partial_label h ∷ ps) e = refl
 
-void_partials : (ps : List Label) → IsTrue (all_void ps) → partials ps ≡ []
+void_partials : (ps : List Label) → IsTrue (all_empty ps) → partials ps ≡ []
 void_partials [] h = refl
 void_partials (empty_label ∷ ps) h = void_partials ps h
 void_partials (full_label ∷ ps) h = cc
 void_partials (partial_label g ∷ ps) h = cc
 
-tail_fits : (ts : List Outline) (ps : List Label) → length ts ≡ length ps → IsTrue (all_void (drop (tail_end ps) ps)) →
+tail_fits : (ts : List Outline) (ps : List Label) → length ts ≡ length ps → IsTrue (all_empty (drop (tail_end ps) ps)) →
     tail_of (forest ts) ps ≡ Some (record { middle = forest (take (full_front ps) ts); right = partials ps; behind = forest (drop (tail_end ps) ts) })
 unfolding tail_end
 tail_fits [] [] n h = refl
 tail_fits [] (p ∷ ps) n h = absurd (omega arith)
 tail_fits (t ∷ ts) [] n h = absurd (omega arith)
 tail_fits (t ∷ ts) (empty_label ∷ ps) n h =
-    cond-true (all_void ps) (Some (record { middle = no_tree; right = []; behind = tree_and t (forest ts) })) None h ∙
+    cond-true (all_empty ps) (Some (record { middle = no_tree; right = []; behind = tree_and t (forest ts) })) None h ∙
     ap (λ hs. Some (record { middle = no_tree; right = hs; behind = tree_and t (forest ts) })) (sym (void_partials ps h))
 tail_fits (t ∷ ts) (full_label ∷ ps) n h = ap (option_and_then (λ r. Some (full_more t r))) (tail_fits ts ps (omega arith) h)
 tail_fits (t ∷ ts) (partial_label g ∷ ps) n h =
-    cond-true (all_void ps) (Some (record { middle = no_tree; right = g ∷ []; behind = forest ts })) None h ∙
+    cond-true (all_empty ps) (Some (record { middle = no_tree; right = g ∷ []; behind = forest ts })) None h ∙
     ap (λ hs. Some (record { middle = no_tree; right = g ∷ hs; behind = forest ts })) (sym (void_partials ps h))
 
-tail_fails : (ts : List Outline) (ps : List Label) → length ts ≡ length ps → IsFalse (all_void (drop (tail_end ps) ps)) → tail_of (forest ts) ps ≡ None
+tail_fails : (ts : List Outline) (ps : List Label) → length ts ≡ length ps → IsFalse (all_empty (drop (tail_end ps) ps)) → tail_of (forest ts) ps ≡ None
 unfolding tail_end
 tail_fails [] [] n h = cc
 tail_fails [] (p ∷ ps) n h = absurd (omega arith)
 tail_fails (t ∷ ts) [] n h = absurd (omega arith)
-tail_fails (t ∷ ts) (empty_label ∷ ps) n h = cond-false (all_void ps) (Some (record { middle = no_tree; right = []; behind = tree_and t (forest ts) })) None h
+tail_fails (t ∷ ts) (empty_label ∷ ps) n h = cond-false (all_empty ps) (Some (record { middle = no_tree; right = []; behind = tree_and t (forest ts) })) None h
 tail_fails (t ∷ ts) (full_label ∷ ps) n h = ap (option_and_then (λ r. Some (full_more t r))) (tail_fails ts ps (omega arith) h)
-tail_fails (t ∷ ts) (partial_label g ∷ ps) n h = cond-false (all_void ps) (Some (record { middle = no_tree; right = g ∷ []; behind = forest ts })) None h
+tail_fails (t ∷ ts) (partial_label g ∷ ps) n h = cond-false (all_empty ps) (Some (record { middle = no_tree; right = g ∷ []; behind = forest ts })) None h
 
-tail_partials : (ps : List Label) → IsTrue (all_void (drop (tail_end ps) ps)) → length (partials ps) + full_front ps ≡ tail_end ps
+tail_partials : (ps : List Label) → IsTrue (all_empty (drop (tail_end ps) ps)) → length (partials ps) + full_front ps ≡ tail_end ps
 unfolding tail_end
 tail_partials [] h = refl
 tail_partials (empty_label ∷ ps) h = omega (arith, ap length (void_partials ps h))
@@ -95,7 +95,7 @@ span_end_is (empty_label ∷ ps) = omega (arith, span_end_is ps)
 span_end_is (full_label ∷ ps) = omega arith
 span_end_is (partial_label h ∷ ps) = omega arith
 
-span_fits : (ts : List Outline) (ps : List Label) → length ts ≡ length ps → IsTrue (all_void (drop (span_end ps) ps)) →
+span_fits : (ts : List Outline) (ps : List Label) → length ts ≡ length ps → IsTrue (all_empty (drop (span_end ps) ps)) →
     span_of (forest ts) ps ≡
     Some (record {
       before = forest (take (empty_front ps) ts);
@@ -114,7 +114,7 @@ span_fits (t ∷ ts) (empty_label ∷ ps) n h = ap (option_and_then (λ r. Some 
 span_fits (t ∷ ts) (full_label ∷ ps) n h = ap (option_and_then (λ r. Some (begins [] (full_more t r)))) (tail_fits ts ps (omega arith) h)
 span_fits (t ∷ ts) (partial_label g ∷ ps) n h = ap (option_and_then (λ r. Some (begins (g ∷ []) r))) (tail_fits ts ps (omega arith) h)
 
-span_fails : (ts : List Outline) (ps : List Label) → length ts ≡ length ps → IsFalse (all_void (drop (span_end ps) ps)) → span_of (forest ts) ps ≡ None
+span_fails : (ts : List Outline) (ps : List Label) → length ts ≡ length ps → IsFalse (all_empty (drop (span_end ps) ps)) → span_of (forest ts) ps ≡ None
 unfolding span_end run_end tail_end
 span_fails [] [] n h = cc
 span_fails [] (p ∷ ps) n h = absurd (omega arith)
@@ -183,7 +183,7 @@ module _ (ls : List Marked) (b n l f r m q v : ℕ) (before : b ≡ empty_front 
   few =
       omega (arith, end_is, span_end_is (map label_seen ls), run_end_few (map label_seen ls), tail_end_few (drop (run_end (map label_seen ls)) (map label_seen ls)), length-drop (run_end (map label_seen ls)) (map label_seen ls), size)
 
-  is_void : q + v ≡ length ls → IsTrue (all_void (drop (span_end (map label_seen ls)) (map label_seen ls)))
+  is_void : q + v ≡ length ls → IsTrue (all_empty (drop (span_end (map label_seen ls)) (map label_seen ls)))
   is_void h = void_front (drop (span_end (map label_seen ls)) (map label_seen ls)) (omega (arith, h, rest_empty, rest_size))
 
   pub span_found : q + v ≡ length ls → (ts : List Outline) → length ts ≡ length ls →
@@ -223,7 +223,7 @@ module _ (ls : List Marked) (b n l f r m q v : ℕ) (before : b ≡ empty_front 
       let cut_at : drop (tail_end (drop l (map label_seen ls))) (drop l (map label_seen ls)) ≡ drop (span_end (map label_seen ls)) (map label_seen ls) =
       sym (drop_sum l (tail_end (drop l (map label_seen ls))) (map label_seen ls)) ∙ ap (λ x. drop x (map label_seen ls)) (ap (λ x. l + x) (sym tail_is) ∙ omega arith ∙ end_is) in
       let c : length (partials (drop l (map label_seen ls))) + full_front (drop l (map label_seen ls)) ≡ tail_end (drop l (map label_seen ls)) =
-      tail_partials (drop l (map label_seen ls)) (subst (λ x. IsTrue (all_void x)) (sym cut_at) (is_void h)) in
+      tail_partials (drop l (map label_seen ls)) (subst (λ x. IsTrue (all_empty x)) (sym cut_at) (is_void h)) in
       let k1 : n ≤ 1 = omega (arith, cut, cut_few (map label_seen (take (length ls - b) (drop b ls)))) in
       let k2 : m ≤ 1 = omega (arith, again, cut_few (map label_seen (take (length ls - r) (drop r ls)))) in
       record {

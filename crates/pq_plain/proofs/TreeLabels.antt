@@ -7,10 +7,10 @@ use Rattle.pq_tree.specs.Outline.{Outline, Forest, p_node, q_node, no_tree, tree
 use Rattle.pq_tree.specs.Proper.{outline_of, forest}
 use Rattle.pq_tree.specs.declared.Tree.{Tree, P, Q}
 use Rattle.pq_tree.proofs.Shown.{outline_of-P, outline_of-Q}
-use Rattle.pq_plain.specs.Treat.{Label, label_of, labels_of}
+use Rattle.pq_plain.specs.Labels.{Label, label_of, labels_of}
 use Rattle.pq_plain.specs.Seen.{outlines, label_seen, labels_seen, p_label, q_label}
 use Rattle.pq_plain.specs.declared.label.Label.{Label as Marked}
-use Rattle.pq_plain.proofs.Made.{and_then, some_inj}
+use Rattle.pq_plain.proofs.Labelled.{and_then, some_inj}
 
 labels_size : (row : List ℕ) (xs : List Outline) (ps : List Label) → labels_of row (forest xs) ≡ Some ps → length ps ≡ length xs
 labels_size row [] ps e = ap length (sym (some_inj e))

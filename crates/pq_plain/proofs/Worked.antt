@@ -1,4 +1,4 @@
--- Worked rows, computed.
+-- Worked rows, computed by the definitions alone.
 use Rattle.std.proofs.Common.{◌≡◌, [], ◌∷◌, Some, None, option_and_then, refl}
 use Rattle.pq_tree.specs.Outline.{Outline, leaf, p_node, q_node, no_tree, tree_and}
 use Rattle.pq_plain.specs.Reduce.{reduce}

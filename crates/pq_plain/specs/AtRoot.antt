@@ -3,7 +3,7 @@ use Rattle.std.specs.Prelude.{◌≡◌, ℕ, ◌-◌, ◌≤◌, List, [], ◌�
 use Rattle.pq_tree.specs.Outline.{Outline, Forest, leaf, p_node, q_node, no_tree}
 use Rattle.pq_tree.specs.Proper.{outline_of, forest}
 use Rattle.pq_plain.specs.Templates.{join, star, back, under}
-use Rattle.pq_plain.specs.Treat.{Partial, Label, partials, empty_trees, full_trees, labels_of}
+use Rattle.pq_plain.specs.Labels.{Partial, Label, partials, empty_trees, full_trees, labels_of}
 use Rattle.pq_plain.specs.Reduce.{Span, root_p, span_of, at_span}
 use Rattle.pq_plain.specs.Seen.{halves_seen}
 use Rattle.pq_plain.specs.declared.label.Halves.{Halves}

@@ -6,7 +6,7 @@ use Rattle.std.specs.declared.alloc.Global.{Global}
 use Rattle.pq_tree.specs.Outline.{Outline, Forest}
 use Rattle.pq_tree.specs.Proper.{outline_of, forest}
 use Rattle.pq_tree.specs.declared.Tree.{Tree}
-use Rattle.pq_plain.specs.Treat.{Partial, Label, empty_label, full_label, partial_label, partials, empty_trees, full_trees, at_p, Run, run_of, at_run, first_some}
+use Rattle.pq_plain.specs.Labels.{Partial, Label, empty_label, full_label, partial_label, partials, empty_trees, full_trees, at_p, Run, run_of, at_run, first_some}
 use Rattle.pq_plain.specs.Templates.{back}
 use Rattle.pq_plain.specs.declared.label.Halves.{Halves}
 use Rattle.pq_plain.specs.declared.label.Label.{Label as Marked}

@@ -1,34 +1,197 @@
--- The pieces of the templates.
-use Rattle.pq_tree.specs.Outline.{Outline, Forest, p_node, no_tree, tree_and}
+-- The templates of Booth and Lueker (1976): what a node of the row's subtree becomes, once its children have been treated.
+--
+-- A tree is empty where it has no column of the row, full where it has no other column, and else partial. E and F are the
+-- empty and the full children of a node, P*(X) is nothing for no tree, the tree itself for one tree, and P over two trees
+-- or more. A partial tree stands as a Q-shape [e f], its empty trees e before its full trees f, or turned round. The root
+-- is the smallest node that holds the whole row. The children of a P-node stand in no order, a Q-node is read from either
+-- end. Each template has a pattern, on the children ts of the node and their labels ps, and a replacement.
+use Rattle.std.specs.Prelude.{◌≡◌, ◌⊎◌, ℕ, List, [], ◌∷◌, Option, Some, None, reverse, IsTrue}
+use Rattle.column_order.specs.Orders.{has}
+use Rattle.pq_tree.specs.Outline.{Outline, Forest, leaf, p_node, q_node, no_tree, tree_and}
+
+-- a partial [e f]: empty trees e and full trees f
+pub record Partial : Type 0 where
+  pub e : Forest
+  pub f : Forest
+
+-- the label of a tree: it is empty, it is full, or it is partial and becomes this
+pub data Label : Type 0 where
+  empty_label : Label
+  full_label : Label
+  partial_label : Partial → Label
 
 -- one list of trees after another
 abbrev pub join : Forest → Forest → Forest
 join no_tree us = us
 join (tree_and t ts) us = tree_and t (join ts us)
 
--- nothing for no tree, the tree itself for one, P over two or more
+-- the trees from the last to the first
+abbrev pub back : Forest → Forest
+back no_tree = no_tree
+back (tree_and t ts) = join (back ts) (tree_and t no_tree)
+
+-- P*(X): nothing for no tree, the tree itself for one, P over two or more
 abbrev pub star : Forest → Forest
 star no_tree = no_tree
 star (tree_and t no_tree) = tree_and t no_tree
 star (tree_and t (tree_and u us)) = tree_and (p_node (tree_and t (tree_and u us))) no_tree
 
--- the first list is an interleaving of the two others
-pub data IsParted : Forest → Forest → Forest → Type 0 where
-  none_parted : IsParted no_tree no_tree no_tree
-  to_left : {t : Outline} {ts us vs : Forest} → IsParted ts us vs → IsParted (tree_and t ts) (tree_and t us) vs
-  to_right : {t : Outline} {ts us vs : Forest} → IsParted ts us vs → IsParted (tree_and t ts) us (tree_and t vs)
-
--- one tree for one or more
+-- P*(X) as a tree, for the tree t and further trees
 abbrev pub gather : Outline → Forest → Outline
 gather t no_tree = t
 gather t (tree_and u us) = p_node (tree_and t (tree_and u us))
 
--- P over the tree and the others, or the tree alone where there are no others
+-- P over E and the tree x; where E is empty, x alone
 abbrev pub under : Forest → Outline → Outline
 under no_tree x = x
-under (tree_and t ts) x = p_node (tree_and x (tree_and t ts))
+under (tree_and e es) x = p_node (tree_and x (tree_and e es))
 
--- the trees from the last to the first
-abbrev pub back : Forest → Forest
-back no_tree = no_tree
-back (tree_and t ts) = join (back ts) (tree_and t no_tree)
+-- The children of a node, sorted by their labels: the empty ones, the full ones, and what the partial ones become.
+-- The children are an interleaving of these, so the order in which those of a P-node stand says nothing.
+pub data IsSorted : Forest → List Label → Forest → Forest → List Partial → Type 0 where
+  none_sorted : IsSorted no_tree [] no_tree no_tree []
+  to_empty : {t : Outline} {ts es fs : Forest} {ps : List Label} {hs : List Partial} → IsSorted ts ps es fs hs → IsSorted (tree_and t ts) (empty_label ∷ ps) (tree_and t es) fs hs
+  to_full : {t : Outline} {ts es fs : Forest} {ps : List Label} {hs : List Partial} → IsSorted ts ps es fs hs → IsSorted (tree_and t ts) (full_label ∷ ps) es (tree_and t fs) hs
+  to_partial : {t : Outline} {ts es fs : Forest} {ps : List Label} {hs : List Partial} {h : Partial} → IsSorted ts ps es fs hs → IsSorted (tree_and t ts) (partial_label h ∷ ps) es fs (h ∷ hs)
+
+-- all children are full; all are empty
+abbrev pub AreAllFull : Forest → List Label → Type 0
+AreAllFull ts ps = IsSorted ts ps no_tree ts []
+
+abbrev pub AreAllEmpty : Forest → List Label → Type 0
+AreAllEmpty ts ps = IsSorted ts ps ts no_tree []
+
+-- the children from one end: empty ones, at most one partial, full ones
+pub data IsRun : Forest → List Label → Forest → Option Partial → Forest → Type 0 where
+  run_full : {ts : Forest} {ps : List Label} → AreAllFull ts ps → IsRun ts ps no_tree None ts
+  run_partial : {t : Outline} {ts : Forest} {ps : List Label} {h : Partial} → AreAllFull ts ps → IsRun (tree_and t ts) (partial_label h ∷ ps) no_tree (Some h) ts
+  run_more : {t : Outline} {ts es fs : Forest} {ps : List Label} {h : Option Partial} → IsRun ts ps es h fs → IsRun (tree_and t ts) (empty_label ∷ ps) (tree_and t es) h fs
+
+-- the children from one end: full ones, at most one partial, empty ones
+pub data IsTail : Forest → List Label → Forest → Option Partial → Forest → Type 0 where
+  tail_empty : {ts : Forest} {ps : List Label} → AreAllEmpty ts ps → IsTail ts ps no_tree None ts
+  tail_partial : {t : Outline} {ts : Forest} {ps : List Label} {k : Partial} → AreAllEmpty ts ps → IsTail (tree_and t ts) (partial_label k ∷ ps) no_tree (Some k) ts
+  tail_more : {t : Outline} {ts fs gs : Forest} {ps : List Label} {k : Option Partial} → IsTail ts ps fs k gs → IsTail (tree_and t ts) (full_label ∷ ps) (tree_and t fs) k gs
+
+-- the children from one end: empty ones, at most one partial, full ones, at most one partial, empty ones
+pub data IsSpan : Forest → List Label → Forest → Option Partial → Forest → Option Partial → Forest → Type 0 where
+  span_tail : {ts fs gs : Forest} {ps : List Label} {k : Option Partial} → IsTail ts ps fs k gs → IsSpan ts ps no_tree None fs k gs
+  span_partial : {t : Outline} {ts fs gs : Forest} {ps : List Label} {h : Partial} {k : Option Partial} → IsTail ts ps fs k gs → IsSpan (tree_and t ts) (partial_label h ∷ ps) no_tree (Some h) fs k gs
+  span_more : {t : Outline} {ts es fs gs : Forest} {ps : List Label} {h k : Option Partial} → IsSpan ts ps es h fs k gs → IsSpan (tree_and t ts) (empty_label ∷ ps) (tree_and t es) h fs k gs
+
+-- L1, anywhere: a leaf whose column is in the row. It is full, and unchanged.
+abbrev pub IsL1 : List ℕ → ℕ → Type 0
+IsL1 row a = IsTrue (has row a)
+
+abbrev pub l1 : ℕ → Outline
+l1 a = leaf a
+
+-- P1, anywhere: a P-node whose children are all full. It is full, and unchanged.
+abbrev pub IsP1 : Forest → List Label → Type 0
+IsP1 ts ps = AreAllFull ts ps
+
+abbrev pub p1 : Forest → Outline
+p1 ts = p_node ts
+
+-- P2, at the root: a P-node with no partial child, with empty children E, and with full children f and more.
+-- It becomes P over E and P*(F).
+abbrev pub p2 : Forest → Outline → Forest → Outline
+p2 es f fs = under es (gather f fs)
+
+pub record IsP2 (ts : Forest) (ps : List Label) (u : Outline) : Type 0 where
+  pub e : Outline
+  pub es : Forest
+  pub f : Outline
+  pub fs : Forest
+  pub pattern : IsSorted ts ps (tree_and e es) (tree_and f fs) []
+  pub becomes : u ≡ p2 (tree_and e es) f fs
+
+-- P3, not at the root: a P-node with no partial child, with empty children E and with full children F.
+-- It becomes the partial [P*(E) P*(F)].
+abbrev pub p3 : Forest → Forest → Partial
+p3 es fs = record { e = star es; f = star fs }
+
+pub record IsP3 (ts : Forest) (ps : List Label) (x : Partial) : Type 0 where
+  pub e : Outline
+  pub es : Forest
+  pub f : Outline
+  pub fs : Forest
+  pub pattern : IsSorted ts ps (tree_and e es) (tree_and f fs) []
+  pub becomes : x ≡ p3 (tree_and e es) (tree_and f fs)
+
+-- P4, at the root: a P-node with one partial child [e f].
+-- It becomes P over E and [e f P*(F)]; where E is empty, that Q-node alone.
+abbrev pub p4 : Forest → Partial → Forest → Outline
+p4 es h fs = under es (q_node (join (join h.e h.f) (star fs)))
+
+pub record IsP4 (ts : Forest) (ps : List Label) (u : Outline) : Type 0 where
+  pub es : Forest
+  pub h : Partial
+  pub fs : Forest
+  pub pattern : IsSorted ts ps es fs (h ∷ [])
+  pub becomes : u ≡ p4 es h fs
+
+-- P5, not at the root: a P-node with one partial child [e f]. It becomes the partial [P*(E) e f P*(F)].
+abbrev pub p5 : Forest → Partial → Forest → Partial
+p5 es h fs = record { e = join (star es) h.e; f = join h.f (star fs) }
+
+pub record IsP5 (ts : Forest) (ps : List Label) (x : Partial) : Type 0 where
+  pub es : Forest
+  pub h : Partial
+  pub fs : Forest
+  pub pattern : IsSorted ts ps es fs (h ∷ [])
+  pub becomes : x ≡ p5 es h fs
+
+-- P6, at the root: a P-node with two partial children [e f] and [e2 f2].
+-- It becomes P over E and [e f P*(F) f2 e2], the second turned; where E is empty, that Q-node alone.
+abbrev pub p6 : Forest → Partial → Forest → Partial → Outline
+p6 es h fs k = under es (q_node (join h.e (join (join h.f (join (star fs) (back k.f))) (join (back k.e) no_tree))))
+
+pub record IsP6 (ts : Forest) (ps : List Label) (u : Outline) : Type 0 where
+  pub es : Forest
+  pub h : Partial
+  pub fs : Forest
+  pub k : Partial
+  pub pattern : IsSorted ts ps es fs (h ∷ k ∷ [])
+  pub becomes : u ≡ p6 es h fs k
+
+-- Q1, anywhere: a Q-node whose children are all full. It is full, and unchanged.
+abbrev pub IsQ1 : Forest → List Label → Type 0
+IsQ1 ts ps = AreAllFull ts ps
+
+abbrev pub q1 : Forest → Outline
+q1 ts = q_node ts
+
+-- Q2, anywhere: a Q-node that has, from one end, empty children E, at most one partial child [e f] and full children F,
+-- and is not full. It becomes [E e f F]: the partial child's trees stand in its place, the empty ones towards E.
+-- Not at the root that is a partial.
+abbrev pub q2 : Forest → Option Partial → Forest → Partial
+q2 es None fs = record { e = es; f = fs }
+q2 es (Some h) fs = record { e = join es h.e; f = join h.f fs }
+
+pub record IsQ2 (ts : Forest) (ps : List Label) (x : Partial) : Type 0 where
+  pub es : Forest
+  pub h : Option Partial
+  pub fs : Forest
+  pub pattern : IsRun ts ps es h fs ⊎ IsRun (back ts) (reverse ps) es h fs
+  pub not_full : AreAllFull ts ps → ⊥
+  pub becomes : x ≡ q2 es h fs
+
+-- Q3, at the root: a Q-node that has empty children E, at most one partial child [e f], full children F, at most one
+-- partial child [e2 f2] and empty children G. It becomes [E e f F f2 e2 G]: each partial child's trees stand in its place,
+-- the full ones towards F. Where there is nothing behind F this is Q2 at the root, and where there is nothing before F it
+-- is Q2 from the other end.
+abbrev pub q3 : Forest → Option Partial → Forest → Option Partial → Forest → Forest
+q3 es None fs None gs = join es (join fs gs)
+q3 es (Some h) fs None gs = join (join es h.e) (join (join h.f fs) gs)
+q3 es None fs (Some k) gs = join es (join (join fs (back k.f)) (join (back k.e) gs))
+q3 es (Some h) fs (Some k) gs = join (join es h.e) (join (join h.f (join fs (back k.f))) (join (back k.e) gs))
+
+pub record IsQ3 (ts : Forest) (ps : List Label) (u : Outline) : Type 0 where
+  pub es : Forest
+  pub h : Option Partial
+  pub fs : Forest
+  pub k : Option Partial
+  pub gs : Forest
+  pub pattern : IsSpan ts ps es h fs k gs
+  pub becomes : u ≡ q_node (q3 es h fs k gs)

@@ -5,7 +5,7 @@ ghost use Rattle.std.specs.Option.{option_to_list};
 ghost use Rattle.pq_tree.specs.Outline.{Outline, p_node, q_node};
 ghost use Rattle.pq_tree.specs.Proper.{outline_of, forest};
 ghost use Rattle.pq_plain.specs.Templates.{join, star, under, back};
-ghost use Rattle.pq_plain.specs.Treat.{empty_trees, full_trees, partials};
+ghost use Rattle.pq_plain.specs.Labels.{empty_trees, full_trees, partials};
 ghost use Rattle.pq_plain.specs.Reduce.{span_of};
 ghost use Rattle.pq_plain.specs.Seen.{outlines, halves_seen, label_seen, labels_seen};
 ghost use Rattle.pq_plain.specs.AtRoot.{root_of, outcome_seen, p_outcome, q_outcome, p_made, q_made, PartialsAt, span_seen, line_of, turned_line_of, line_if};

@@ -5,7 +5,7 @@ ghost use Rattle.column_order.specs.Orders.{has};
 ghost use Rattle.pq_tree.specs.Outline.{leaf};
 ghost use Rattle.pq_tree.specs.Proper.{outline_of};
 ghost use Rattle.pq_plain.specs.Templates.{join, star, back};
-ghost use Rattle.pq_plain.specs.Treat.{label_of, labels_of, run_of, at_run, at_q, partials};
+ghost use Rattle.pq_plain.specs.Labels.{label_of, labels_of, run_of, at_run, at_q, partials};
 ghost use Rattle.pq_plain.specs.Seen.{outlines, halves_seen, label_seen, labels_seen, p_label, q_label};
 
 use crate::children::{back_copied, empty_children, full_children, partial_children, star_of};

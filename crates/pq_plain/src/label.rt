@@ -2,7 +2,7 @@
 ghost use Rattle.std.specs.Prelude.{◌≡◌, ◌≤◌, ◌<◌, ◌+◌, ◌-◌, ◌^◌, List, [], ◌∷◌, map, length, IfSome, option_map};
 ghost use Rattle.pq_tree.specs.Outline.{Outline};
 ghost use Rattle.pq_tree.specs.Proper.{forest};
-ghost use Rattle.pq_plain.specs.Treat.{run_of, partials};
+ghost use Rattle.pq_plain.specs.Labels.{run_of, partials};
 ghost use Rattle.pq_plain.specs.Seen.{label_seen, empties, fulls, empty_front, full_front, cut_front, run_seen};
 
 use pq_tree::Tree;

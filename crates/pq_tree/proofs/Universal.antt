@@ -6,7 +6,7 @@ use Rattle.column_order.proofs.Lists.{occurs-append}
 use Rattle.pq_tree.specs.Outline.{leaf, p_node, leaves_of}
 use Rattle.pq_tree.specs.Proper.{forest, columns, universal, count, HaveArities, IsProper}
 
-leaves_of_all : (xs : List ℕ) → leaves_of (forest (map leaf xs)) ≡ xs
+pub leaves_of_all : (xs : List ℕ) → leaves_of (forest (map leaf xs)) ≡ xs
 leaves_of_all [] = refl
 leaves_of_all (x ∷ xs) = ap (λ ys. x ∷ ys) (leaves_of_all xs)
 
@@ -37,7 +37,7 @@ same_one n a e = ap (λ b. cond {A = ℕ} b 1 0 + 0) (eq-eqb (suc n) a e)
 other_one : (n a : ℕ) → suc n ≢ a → occurs (suc n ∷ []) a ≡ 0
 other_one n a e = ap (λ b. cond {A = ℕ} b 1 0 + 0) (ne_eqb (suc n) a e)
 
-columns_order : (n : ℕ) → IsOrder n (columns n)
+pub columns_order : (n : ℕ) → IsOrder n (columns n)
 columns_order zero a =
     elim (cases_eq a 0) [ inl e ↦ sym (before 0 a e) | inr e ↦ sym (past 0 a (omega arith)) ]
 columns_order (suc n) a =

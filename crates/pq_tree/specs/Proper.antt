@@ -1,4 +1,4 @@
--- The plan that a tree of the program has, and when it is a PQ-tree over 1 to c.
+-- Proper PQ-trees (Booth and Lueker, 1976) over the columns 1 to c.
 use Rattle.std.specs.Prelude.{ℕ, ◌≤◌, List, [], ◌∷◌, map, ◌+◌, ◌++◌, cond, leb}
 use Rattle.std.proofs.Common.{zero, suc}
 use Rattle.std.specs.Coded.{×_prop, Unit-prop, le_prop}
@@ -8,6 +8,7 @@ use Rattle.column_order.specs.Orders.{IsOrder}
 use Rattle.pq_tree.specs.Outline.{Outline, Forest, leaf, p_node, q_node, no_tree, tree_and, leaves}
 use Rattle.pq_tree.specs.declared.Tree.{Tree, Leaf, P', Q', Row_of-Tree, end_of-Tree, more_of-Tree}
 
+-- the outline of a tree of the program
 unfoldable mutual
   pub outline_of : Tree → Outline
   outline_of (Leaf a) = leaf a
@@ -18,20 +19,22 @@ unfoldable mutual
   forest_of end_of-Tree = no_tree
   forest_of (more_of-Tree t rest) = tree_and (outline_of t) (forest_of rest)
 
--- the list's plans
+-- a list of trees as a forest
 abbrev pub forest : List Outline → Forest
 forest [] = no_tree
 forest (t ∷ ts) = tree_and t (forest ts)
 
+-- a forest as a list of trees
 abbrev pub trees : Forest → List Outline
 trees no_tree = []
 trees (tree_and t ts) = t ∷ trees ts
 
+-- the number of trees
 abbrev pub count : Forest → ℕ
 count no_tree = 0
 count (tree_and t ts) = 1 + count ts
 
--- each P has two or more children, each Q three or more
+-- each P-node has two or more children, each Q-node three or more
 abbrev mutual
   pub HasArities : Outline → Type 0
   HasArities (leaf a) = Unit {0}
@@ -42,7 +45,8 @@ abbrev mutual
   HaveArities no_tree = Unit {0}
   HaveArities (tree_and t ts) = HasArities t × HaveArities ts
 
--- the tree has the counts, and each of 1 to c, and no other column, stands at exactly one leaf
+-- A proper tree over 1 to c: each P-node has two or more children, each Q-node three or more, and each of 1 to c, and no
+-- other column, stands at exactly one leaf.
 abbrev pub IsProper : ℕ → Outline → Type 0
 IsProper c t = HasArities t × IsOrder c (leaves t)
 
@@ -64,6 +68,6 @@ abbrev pub columns : ℕ → List ℕ
 columns zero = []
 columns (suc n) = columns n ++ suc n ∷ []
 
--- one column, or P over all columns
+-- the universal tree: the leaf 1 for one column, else a P-node over all columns
 abbrev pub universal : ℕ → Outline
 universal c = cond (leb c 1) (leaf 1) (p_node (forest (map leaf (columns c))))

@@ -1,185 +1,131 @@
-// Trees.
+//! PQ-trees (Booth and Lueker, 1976) over the columns 1 to c: a tree stands for a set of orders of its columns, its frontiers.
+//!
+//! A tree is a leaf with a column, a P-node, whose children may be permuted, or a Q-node, whose children may be reversed. It is proper where each
+//! P-node has two or more children, each Q-node three or more, and each of 1 to c stands at exactly one leaf.
 #![tactic(auto)]
 
-ghost use Rattle.std.specs.Prelude.{◌≡◌, ◌≤◌, ◌<◌, ◌++◌, ◌⊎◌, length, map, min, reverse, IfOk, IsPermutation};
-ghost use Rattle.pq_tree.specs.Outline.{leaves};
-ghost use Rattle.pq_tree.specs.Equivalent.{IsEquivalent, AreEquivalent, IsCanonical, AreCanonical, AreRising, EndsRise, least};
-ghost use Rattle.pq_tree.specs.Proper.{outline_of, forest, IsProper, IsProper-prop, universal};
+ghost use Rattle.std.specs.Prelude.{◌≡◌, ◌≤◌, ◌++◌, ◌↔◌, List, ℕ, IfOk, OnOk, OnErr};
+ghost use Rattle.column_order.specs.Orders.{IsOrder};
+ghost use Rattle.plain_text.specs.Pieces.{Extends};
+ghost use Rattle.pq_tree.specs.Outline.{leaves, IsFrontier};
+ghost use Rattle.pq_tree.specs.Proper.{outline_of, IsProper, IsProper-prop, universal};
+ghost use Rattle.pq_tree.specs.Equivalent.{IsEquivalent};
+ghost use Rattle.pq_tree.specs.Canonical.{IsCanonical};
+ghost use Rattle.pq_tree.specs.Text.{tree_text};
 
-use std::alloc::{AllocError, Global};
+mod arrange;
+mod arranged;
+mod write;
 
-/// A column, or a node over subtrees.
+pub use std::alloc::AllocError as NoMemory;
+use std::alloc::Global;
+
+/// Bytes of text for each column: up to five digits, a space, and the two brackets of a node, of which a proper tree has fewer than columns.
+const ROOM_PER_COLUMN: usize = 8;
+
+/// A leaf with its column, or a node over its children from left to right.
+///
+/// Any value of the type may be built; `PqTree` has the proper ones.
 #[derive(Drop)]
 pub enum Tree {
+    /// A column, numbered from 1.
     Leaf(u32),
+    /// A P-node: its children may be permuted.
     P(Vec<Tree>),
+    /// A Q-node: its children may be reversed.
     Q(Vec<Tree>),
 }
 
+/// What stands at the top of a tree.
+#[derive(Clone, Copy)]
+pub enum View<'a> {
+    /// The column of a leaf.
+    Leaf(u32),
+    /// The children of a P-node.
+    P(&'a [Tree]),
+    /// The children of a Q-node.
+    Q(&'a [Tree]),
+}
+
 impl Tree {
+    ghost use Rattle.pq_tree.specs.View.{Shows, shown_outline};
+
+    /// The leaf of a column. In a proper tree the column is 1 or more.
     pub fn leaf(column: u32) -> Tree
         ensures { result ≡ Tree.Leaf column }
     {
         Tree::Leaf(column)
     }
 
+    /// The P-node over these children. In a proper tree it has two or more, and no column stands in two of them.
     pub fn p(children: Vec<Tree>) -> Tree
         ensures { result ≡ Tree.P children }
     {
         Tree::P(children)
     }
 
-    /// The least column.
-    fn least(&self) -> u32
-        ensures { result ≡ least (outline_of self.now) }
+    /// The Q-node over these children. In a proper tree it has three or more, and no column stands in two of them.
+    pub fn q(children: Vec<Tree>) -> Tree
+        ensures { result ≡ Tree.Q children }
     {
-        match self {
-            Tree::Leaf(column) => *column,
-            Tree::P(children) | Tree::Q(children) => {
-                let mut least = 0;
-                for (i, child) in children.iter().enumerate() {
-                    least = lower_column(i, least, child.least());
-                }
-                least
-            }
-        }
+        Tree::Q(children)
     }
 
-    /// The canonical tree with the same frontiers.
-    #[cycle(arrange)]
-    fn arranged(&self, alloc: Global) -> Result<Tree, AllocError>
-        ensures turned { IfOk result (λ t. IsEquivalent (outline_of self.now) (outline_of t)) }
-        ensures canonical { IfOk result (λ t. IsCanonical (outline_of t)) }
+    /// The case of the tree, with its column or its children.
+    pub fn view(&self) -> View<'_>
+        ensures cases { Shows result self.now }
+        ensures outline { outline_of self.now ≡ shown_outline result }
     {
         match self {
-            Tree::Leaf(column) => Ok(Tree::Leaf(*column)),
-            Tree::P(children) => {
-                let trees = all_arranged(alloc, children)?;
-                Ok(Tree::P(risen(trees)?))
-            }
-            Tree::Q(children) => {
-                let trees = all_arranged(alloc, children)?;
-                Ok(Tree::Q(turned_up(trees)))
-            }
-        }
-    }
-
-    /// Appends the columns from left to right.
-    fn push_leaves(&self, columns: &mut Vec<u32>) -> Result<(), AllocError>
-        ensures { IfOk result (λ _. columns.new.items ≡ columns.old.items ++ leaves (outline_of self.now)) }
-    {
-        match self {
-            Tree::Leaf(column) => {
-                columns.push(*column)?;
-                Ok(())
-            }
-            Tree::P(children) | Tree::Q(children) => {
-                for child in children {
-                    child.push_leaves(columns)?;
-                }
-                Ok(())
-            }
+            Tree::Leaf(column) => View::Leaf(*column),
+            Tree::P(children) => View::P(children),
+            Tree::Q(children) => View::Q(children),
         }
     }
 }
 
-/// The second column for the first child, the lower of the two for a later one.
-fn lower_column(i: usize, a: u32, b: u32) -> u32
-    ensures first { i ≡ 0 → result ≡ b }
-    ensures later { 0 < i → result ≡ min a b }
-{
-    if i == 0 || b < a { b } else { a }
-}
-
-/// Each tree in its canonical form.
-#[cycle(arrange)]
-fn all_arranged(alloc: Global, trees: &[Tree]) -> Result<Vec<Tree>, AllocError>
-    ensures turned { IfOk result (λ v. AreEquivalent (forest (map outline_of trees.now)) (map outline_of v.items)) }
-    ensures canonical { IfOk result (λ v. AreCanonical (forest (map outline_of v.items))) }
-{
-    let mut all = Vec::new(alloc);
-    for tree in trees {
-        all.push(tree.arranged(alloc)?)?;
-    }
-    Ok(all)
-}
-
-/// The trees in rising order of their least columns.
-fn risen(mut trees: Vec<Tree>) -> Result<Vec<Tree>, AllocError>
-    ensures moved { IfOk result (λ v. IsPermutation trees.items v.items) }
-    ensures rising { IfOk result (λ v. AreRising (forest (map outline_of v.items))) }
-{
-    trees.sort_by_cached_key(|t| t.least())?;
-    Ok(trees)
-}
-
-/// The trees forwards or backwards, so that the least column of the first is at most that of the last.
-fn turned_up(mut trees: Vec<Tree>) -> Vec<Tree>
-    ensures turned { (result.items ≡ trees.items) ⊎ (result.items ≡ reverse trees.items) }
-    ensures rise { EndsRise (forest (map outline_of result.items)) }
-{
-    let count = trees.len();
-    if count < 2 {
-        return trees;
-    }
-    let first = trees[0].least();
-    let last = trees[count - 1].least();
-    if last < first {
-        trees.reverse();
-    }
-    trees
-}
-
-/// A tree over the columns from 1 on, each of which stands at exactly one leaf.
+/// A proper tree over the columns 1 to c.
 #[derive(Drop)]
 pub struct PqTree {
     columns: u32,
     tree: Tree,
-    pub ghost whole: { IsProper columns (outline_of tree) } by { IsProper-prop columns (outline_of tree) },
+    pub ghost proper: { IsProper columns (outline_of tree) } by { IsProper-prop columns (outline_of tree) },
 }
 
 impl PqTree {
+    ghost use Rattle.pq_tree.specs.PqTree.{column_count, outline};
+
+    /// The tree over the columns 1 to c.
     pub fn from_tree(c: u32, tree: Tree) -> PqTree
         requires { IsProper c (outline_of tree) }
-        ensures columns { result.columns ≡ c }
-        ensures tree { result.tree ≡ tree }
+        ensures columns { column_count result ≡ c }
+        ensures tree { outline result ≡ outline_of tree }
     {
         PqTree { columns: c, tree }
     }
 
+    /// The tree itself.
     pub fn root(&self) -> &Tree
-        ensures { result.now ≡ self.now.tree }
+        ensures { outline_of result.now ≡ outline self.now }
     {
         &self.tree
     }
 
-    /// The columns from left to right as the tree stands.
-    pub fn frontier(&self, alloc: Global) -> Result<Vec<u32>, AllocError>
-        ensures { IfOk result (λ v. v.items ≡ leaves (outline_of self.now.tree)) }
+    /// The number of columns, which are 1 to this number.
+    pub fn columns(&self) -> u32
+        ensures { result ≡ column_count self.now }
     {
-        let mut columns = Vec::new(alloc);
-        self.tree.push_leaves(&mut columns)?;
-        Ok(columns)
+        self.columns
     }
 
-    /// The canonical tree with the same frontiers.
-    pub fn canonical(&self, alloc: Global) -> Result<PqTree, AllocError>
-        ensures columns { IfOk result (λ t. t.columns ≡ self.now.columns) }
-        ensures turned { IfOk result (λ t. IsEquivalent (outline_of self.now.tree) (outline_of t.tree)) }
-        ensures canonical { IfOk result (λ t. IsCanonical (outline_of t.tree)) }
-    {
-        let tree = self.tree.arranged(alloc)?;
-        Ok(PqTree {
-            columns: self.columns,
-            tree,
-        })
-    }
-
-    pub fn universal(alloc: Global, c: u32) -> Result<PqTree, AllocError>
+    /// The universal tree, whose frontiers are all orders of 1 to c: the leaf 1 where c is 1, else one P-node over all columns in
+    /// rising order.
+    pub fn universal(alloc: Global, c: u32) -> Result<PqTree, NoMemory>
         requires from { 1 ≤ c }
         requires to { c ≤ 32768 }
-        ensures columns { IfOk result (λ t. t.columns ≡ c) }
-        ensures tree { IfOk result (λ t. outline_of t.tree ≡ universal c) }
+        ensures columns { IfOk result (λ t. column_count t ≡ c) }
+        ensures tree { IfOk result (λ t. outline t ≡ universal c) }
+        ensures frontiers { IfOk result (λ t. (o : List ℕ) → IsFrontier (outline t) o ↔ IsOrder c o) }
     {
         if c == 1 {
             return Ok(PqTree {
@@ -187,7 +133,7 @@ impl PqTree {
                 tree: Tree::Leaf(1),
             });
         }
-        let mut children = Vec::new(alloc);
+        let mut children = Vec::with_capacity(alloc, c as usize)?;
         for i in 0..c {
             children.push(Tree::Leaf(i + 1))?;
         }
@@ -196,4 +142,45 @@ impl PqTree {
             tree: Tree::P(children),
         })
     }
+
+    /// The columns from left to right as the tree stands: one of the tree's frontiers, and so an order of its columns.
+    pub fn frontier(&self, alloc: Global) -> Result<Vec<u32>, NoMemory>
+        ensures leaves { IfOk result (λ f. f.items ≡ leaves (outline self.now)) }
+        ensures frontier { IfOk result (λ f. IsFrontier (outline self.now) f.items) }
+        ensures order { IfOk result (λ f. IsOrder (column_count self.now) f.items) }
+    {
+        let mut columns = Vec::with_capacity(alloc, self.columns as usize)?;
+        write::push_leaves(&self.tree, &mut columns)?;
+        Ok(columns)
+    }
+
+    /// The canonical tree with the same frontiers: the children of each P-node stand in rising order of their least columns, and each
+    /// Q-node stands so that the least column of its first child is below that of its last.
+    pub fn canonical(&self, alloc: Global) -> Result<PqTree, NoMemory>
+        ensures columns { IfOk result (λ t. column_count t ≡ column_count self.now) }
+        ensures equivalent { IfOk result (λ t. IsEquivalent (outline self.now) (outline t)) }
+        ensures canonical { IfOk result (λ t. IsCanonical (outline t)) }
+        ensures frontiers { IfOk result (λ t. (o : List ℕ) → IsFrontier (outline self.now) o ↔ IsFrontier (outline t) o) }
+    {
+        let arranged = arrange::arranged_tree(alloc, &self.tree)?;
+        Ok(PqTree {
+            columns: self.columns,
+            tree: arranged.tree,
+        })
+    }
+
+    /// Appends the text of the tree: a leaf is its column as a plain number, a P-node its children between `(` and `)`, a Q-node its
+    /// children between `[` and `]`, with one space between children.
+    ///
+    /// Takes no memory but the growth of `text`. On an error what `text` held is still its front.
+    pub fn print(&self, text: &mut Vec<u8>) -> Result<(), NoMemory>
+        ensures ok { OnOk result (text.new.items ≡ text.old.items ++ tree_text (outline self.now)) }
+        ensures err { OnErr result (Extends text.old.items text.new.items) }
+    {
+        text.reserve(self.columns as usize * ROOM_PER_COLUMN)?;
+        write::push_tree(&self.tree, text)
+    }
 }
+
+#[cfg(test)]
+mod tests;

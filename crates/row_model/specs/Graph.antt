@@ -52,12 +52,31 @@ IsWalk J v (u ∷ us) w = J v u × IsWalk J u us w
 pub record IsEvenly (J : Pair → Pair → Type 0) (v w : Pair) : Type 0 where
   pub steps : List Pair
   pub walk : IsWalk J v steps w
-  pub partial_of : ℕ
-  pub even : length steps ≡ partial_of + partial_of
+  pub half : ℕ
+  pub even : length steps ≡ half + half
 
 -- there is a walk from v to w with an odd number of steps
 pub record IsOddly (J : Pair → Pair → Type 0) (v w : Pair) : Type 0 where
   pub steps : List Pair
   pub walk : IsWalk J v steps w
-  pub partial_of : ℕ
-  pub odd : length steps ≡ partial_of + partial_of + 1
+  pub half : ℕ
+  pub odd : length steps ≡ half + half + 1
+
+-- the pair with its columns exchanged
+abbrev pub turned : Pair → Pair
+turned v = pair v.b v.a
+
+-- a walk of even length leads from v to w in the graph of these rows
+abbrev pub Evenly : ℕ → List (List ℕ) → Pair → Pair → Type 0
+Evenly c rows = IsEvenly (Joined c rows)
+
+-- a walk of odd length leads from some pair back to it
+pub record HasOddWalk (c : ℕ) (rows : List (List ℕ)) : Type 0 where
+  pub start : Pair
+  pub walk : IsOddly (Joined c rows) start start
+
+-- a walk of even length leads from some pair of distinct columns to the same pair with its columns exchanged
+pub record HasConflict (c : ℕ) (rows : List (List ℕ)) : Type 0 where
+  pub start : Pair
+  pub is_pair : IsPair c start
+  pub walk : Evenly c rows start (turned start)

@@ -2,11 +2,13 @@
 #![tactic(auto)]
 
 mod graph;
+mod laws;
 mod matrix;
 mod pieces;
 mod refusal;
 
 pub use graph::{Pair, Why};
+pub use laws::walk_laws;
 pub use matrix::Matrix;
 pub use refusal::{Read, Refusal};
 pub use std::alloc::AllocError as NoMemory;

@@ -17,7 +17,7 @@ use Rattle.tied_law.proofs.Sorted.{Rises, rises_left, rises_right, rises_below, 
 use Rattle.tied_law.proofs.Law.{Found, found}
 use Rattle.tied_law.proofs.Exact.{order_rises}
 
--- the first columns stand alike to the second ones, by the rank
+-- the first columns of the two pairs stand to the second ones alike, by their ranks
 abbrev pub Alike : (ℕ → ℕ) → Pair → Pair → Type 0
 Alike rank v w =
     (ltb (rank v.a) (rank v.b) ≡ ltb (rank w.a) (rank w.b)) × (ltb (rank v.b) (rank v.a) ≡ ltb (rank w.b) (rank w.a))

@@ -1,4 +1,5 @@
--- The second and third part of being tied, node by node: what a node says of its children alone.
+-- The second and third part of being tied, node by node: what a node says of its own columns and children alone.
+-- It is said for any relation R of pairs; for R take that a walk of even length leads from the one to the other.
 use Rattle.std.proofs.Common.{◌≡◌, ℕ, List, ◌++◌, IsTrue, IsFalse, refl, sym, subst, inl, inr}
 use Rattle.std.proofs.lemmas.Bool.{cases_Bool, both_ways}
 use Rattle.row_model.specs.declared.graph.Pair.{Pair}
@@ -8,19 +9,21 @@ use Rattle.column_order.proofs.Lists.{has_append_left, has_append_right, has_app
 use Rattle.pq_tree.specs.Outline.{Outline, Forest, leaf, p_node, q_node, no_tree, tree_and, leaves, leaves_of}
 use Rattle.tied_law.specs.Tied.{IsNode, IsNodeOf, IsForward}
 
--- each column of l outside x makes related pairs with any two columns of x
+-- the set x is closed in l: any two columns of x, each with the same column of l outside x, are related pairs
 abbrev pub IsClosed : (Pair → Pair → Type 0) → List ℕ → List ℕ → Type 0
 IsClosed R l x = (a b d : ℕ) → IsTrue (has x a) → IsTrue (has x b) → IsTrue (has l d) → IsFalse (has x d) → R (pair a d) (pair b d)
 
--- each tree's columns are so within l
+-- the columns of each tree are closed in l
 abbrev pub AreClosed : (Pair → Pair → Type 0) → List ℕ → Forest → Type 0
 AreClosed R l no_tree = Unit {0}
 AreClosed R l (tree_and t ts) = IsClosed R l (leaves t) × AreClosed R l ts
 
--- any two forward pairs are related
+-- the trees stand in line: any two pairs that go forward in them are related
 abbrev pub IsInLine : (Pair → Pair → Type 0) → Forest → Type 0
 IsInLine R ts = (v w : Pair) → IsForward ts v → IsForward ts w → R v w
 
+-- A tree is bound by R where the columns of each child of a P-node are closed in those of the node, and the children of
+-- each Q-node stand in line.
 abbrev mutual
   pub IsBound : (Pair → Pair → Type 0) → Outline → Type 0
   IsBound R (leaf a) = Unit {0}
@@ -58,7 +61,7 @@ module _ (R : Pair → Pair → Type 0) (all : Outline) (l : List ℕ)
       are_bound_from ts (λ d h. sub d (has_append_right (leaves t) (leaves_of ts) d h)) (λ x h. below x (inr h)),
     )
 
--- equal up to walks: an equivalence of pairs that turning both pairs keeps
+-- R is an equivalence of pairs that stays where the columns of both pairs are exchanged
 pub record IsPairEq (R : Pair → Pair → Type 0) : Type 0 where
   pub same : (v : Pair) → R v v
   pub turn : (v w : Pair) → R v w → R w v
@@ -79,7 +82,7 @@ mutual
   are_bound_mono R S m no_tree h = tt
   are_bound_mono R S m (tree_and t ts) h = (bound_mono R S m t h.0, are_bound_mono R S m ts h.1)
 
--- if x is closed in l, what is closed in x is closed in l
+-- what is closed in a set x that is closed in l is closed in l
 pub closed_through : (R : Pair → Pair → Type 0) (l x : List ℕ) → IsClosed R l x → (ts : Forest) →
     ((d : ℕ) → IsTrue (has (leaves_of ts) d) → IsTrue (has x d)) → AreClosed R x ts → AreClosed R l ts
 closed_through R l x h no_tree sub c = tt

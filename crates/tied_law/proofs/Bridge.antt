@@ -1,22 +1,22 @@
 -- From one list of rows to the next: what a reduction by one row has to show, for every equality of pairs.
 use Rattle.std.proofs.Common.{◌≡◌, ◌≢◌, ◌∙◌, ℕ, zero, suc, ◌+◌, ◌-◌, ◌<◌, ◌≤◌, true, ltb, leb, ◌&&◌, cond, eqb, eq-eqb, List, [], ◌∷◌, ◌++◌, length, get_or, IsTrue, All, refl, sym, ap, subst, inl, inr, arith, length-append}
 use Rattle.std.proofs.lemmas.Bool.{both_ways, lt-ltb, ltb-true, cases_eq, true_from_ne_false, cond-false, leb-true, and_parts}
-use Rattle.std.proofs.lemmas.List.{get_or_append_left, get_or_push}
+use Rattle.std.proofs.lemmas.List.{get_or_push}
 use Rattle.std.proofs.lemmas.List.Elements.{All-push}
 use Rattle.row_model.specs.declared.graph.Pair.{Pair}
 use Rattle.row_model.specs.declared.graph.Why.TheVariants.{Flip, Row}
 use Rattle.column_order.specs.Orders.{has, occurs, place, IsOrder, Keeps}
-use Rattle.row_model.specs.Graph.{pair, IsPair, Crosses, row_at, Joined, IsWalk}
+use Rattle.row_model.specs.Graph.{pair, IsPair, Crosses, row_at, Joined, IsWalk, Evenly}
 use Rattle.column_order.proofs.Lists.{has_head, has_tail, place_head, place_tail, occurs_from_has}
-use Rattle.row_model.proofs.Walks.{evenly-refl, evenly-sym, evenly-trans, evenly-two, evenly-ends, evenly-mono}
+use Rattle.row_model.proofs.Walks.{joined-append, is_pair_turned, turned_joined, evenly-refl, evenly-sym, evenly-trans, evenly-two, evenly-ends, evenly-mono}
 use Rattle.pq_tree.specs.Outline.{Outline, leaves, IsFrontier}
-use Rattle.tied_law.specs.Tied.{Evenly, IsTied}
+use Rattle.tied_law.specs.Tied.{IsTied}
 use Rattle.tied_law.proofs.Bound.{IsClosed, IsBound, IsPairEq, bound_mono, node_closed, node_in_line}
 use Rattle.tied_law.proofs.Frontiers.{frontier_occurs, frontier_has}
 use Rattle.tied_law.proofs.Exact.{tied_bound, order_rises, order_once}
 use Rattle.tied_law.proofs.Alike.{Alike, frontier_bound, bound_frontier}
 
--- the two instances
+-- two such equivalences: to stand alike in an order, and to be joined by a walk of even length
 pub alike_eq : (rank : ℕ → ℕ) → IsPairEq (Alike rank)
 alike_eq rank =
     record {
@@ -31,15 +31,6 @@ joined_sym c rows v w (Flip, j) = (Flip, record { from = j.to; to = j.from; fits
 joined_sym c rows v w (Row k, j) =
     (Row k, record { from = j.to; to = j.from; fits = (j.fits.0, j.fits.1, elim j.fits.2 [ inl x ↦ inr x | inr x ↦ inl x ]) })
 
-back_pair : Pair → Pair
-back_pair v = pair v.b v.a
-
-is_pair_back : (c : ℕ) (v : Pair) → IsPair c v → IsPair c (pair v.b v.a)
-is_pair_back c v h = record { a_from = h.b_from; a_to = h.b_to; b_from = h.a_from; b_to = h.a_to; distinct = λ e. h.distinct (sym e) }
-
-flipped : (c : ℕ) (rows : List (List ℕ)) (v : Pair) → IsPair c v → Joined c rows (pair v.b v.a) v
-flipped c rows v h = (Flip, record { from = is_pair_back c v h; to = h; fits = (refl, refl) })
-
 walk_end : (c : ℕ) (rows : List (List ℕ)) (us : List Pair) (v w : Pair) → IsPair c v → IsWalk (Joined c rows) v us w → IsPair c w
 walk_end c rows [] v w h e = subst (IsPair c) e h
 walk_end c rows (u ∷ us) v w h k = walk_end c rows us u w k.0.1.to k.1
@@ -50,9 +41,9 @@ evenly_flip c rows v w [] e n l = subst (λ x. Evenly c rows (pair v.b v.a) (pai
 evenly_flip c rows v w (u ∷ us) h n l =
     let pv : IsPair c v = h.0.1.from in
     let pw : IsPair c w = walk_end c rows us u w h.0.1.to h.1 in
-    evenly-ends (Joined c rows) (pair v.b v.a) v (pair w.b w.a) w (flipped c rows v pv)
-    (record { steps = u ∷ us; walk = h; partial_of = n; even = l })
-    (joined_sym c rows (pair w.b w.a) w (flipped c rows w pw))
+    evenly-ends (Joined c rows) (pair v.b v.a) v (pair w.b w.a) w (turned_joined c rows v pv)
+    (record { steps = u ∷ us; walk = h; half = n; even = l })
+    (joined_sym c rows (pair w.b w.a) w (turned_joined c rows w pw))
 
 pub evenly_eq : (c : ℕ) (rows : List (List ℕ)) → IsPairEq (Evenly c rows)
 evenly_eq c rows =
@@ -60,24 +51,8 @@ evenly_eq c rows =
       same = evenly-refl (Joined c rows);
       turn = evenly-sym (Joined c rows) (joined_sym c rows);
       join = evenly-trans (Joined c rows);
-      flip = λ v w h. evenly_flip c rows v w h.steps h.walk h.partial_of h.even;
+      flip = λ v w h. evenly_flip c rows v w h.steps h.walk h.half h.even;
     }
-
-pub joined_more : (c : ℕ) (rows : List (List ℕ)) (row : List ℕ) (v w : Pair) → Joined c rows v w → Joined c (rows ++ row ∷ []) v w
-joined_more c rows row v w (Flip, j) = (Flip, record { from = j.from; to = j.to; fits = j.fits })
-joined_more c rows row v w (Row k, j) =
-    let e : row_at (rows ++ row ∷ []) k ≡ row_at rows k = get_or_append_left rows (row ∷ []) [] (k - 1) (omega arith) in (
-      Row k,
-      record {
-        from = j.from;
-        to = j.to;
-        fits = (
-          j.fits.0,
-          omega (arith, length-append rows (row ∷ [])),
-          elim j.fits.2 [ inl x ↦ inl (rw e x) | inr x ↦ inr (rw e x) ],
-        );
-      },
-    )
 
 order_within : (c : ℕ) (o : List ℕ) → IsOrder c o → (a : ℕ) → IsTrue (has o a) → (1 ≤ a) × (a ≤ c)
 order_within c o h a k =
@@ -104,8 +79,8 @@ last_row_closed c rows row l whole sub a b d ra rb ld rd =
           let x : Crosses (row_at (rows ++ row ∷ []) (suc (length rows))) (pair a d) (pair d b) =
           rw e (record { middle = refl; ends = n; has_first = ra; has_last = rb; lacks_middle = rd }) in
           evenly-two (Joined c (rows ++ row ∷ [])) (pair a d) (pair d b) (pair b d)
-          (Row (suc (length rows)), record { from = p1; to = is_pair_back c (pair b d) p2; fits = (omega arith, omega (arith, length-append rows (row ∷ [])), inl x) })
-          (Flip, record { from = is_pair_back c (pair b d) p2; to = p2; fits = (refl, refl) })
+          (Row (suc (length rows)), record { from = p1; to = is_pair_turned c (pair b d) p2; fits = (omega arith, omega (arith, length-append rows (row ∷ [])), inl x) })
+          (Flip, record { from = is_pair_turned c (pair b d) p2; to = p2; fits = (refl, refl) })
     ]
 
 pub has_at : (o : List ℕ) (i : ℕ) → i < length o → IsTrue (has o (get_or o i 0))
@@ -170,5 +145,5 @@ tied_more c rows row t u whole tied sub same down up =
     All-push (Keeps f) rows row (tied.kept f old)
     (closed_keeps f row once (λ a b d ra rb fd rd. k.1 a b d ra rb (sym (frontier_has t f d old) ∙ fd) rd)))
     (down (Evenly c (rows ++ row ∷ [])) (evenly_eq c (rows ++ row ∷ []))
-    (bound_mono (Evenly c rows) (Evenly c (rows ++ row ∷ [])) (λ v w h. evenly-mono (Joined c rows) (Joined c (rows ++ row ∷ [])) (joined_more c rows row) v w h) t (tied_bound c rows t tied))
+    (bound_mono (Evenly c rows) (Evenly c (rows ++ row ∷ [])) (λ v w h. evenly-mono (Joined c rows) (Joined c (rows ++ row ∷ [])) (joined-append c rows (row ∷ [])) v w h) t (tied_bound c rows t tied))
     (last_row_closed c rows row (leaves t) whole sub))

@@ -2,11 +2,11 @@
 use Rattle.std.proofs.Common.{◌≡◌, ◌≢◌, ◌∙◌, ◌↔◌, ℕ, ◌+◌, ◌<◌, ◌≤◌, cond, leb, eqb, eq-eqb, ◌&&◌, List, [], ◌∷◌, IsTrue, refl, sym, ap, inl, inr, arith}
 use Rattle.std.proofs.lemmas.Bool.{cases_eq, cond_both}
 use Rattle.column_order.specs.Orders.{has, occurs, place, IsOrder, IsValidOrder}
-use Rattle.row_model.specs.Graph.{pair, Joined}
+use Rattle.row_model.specs.Graph.{pair, Joined, Evenly}
 use Rattle.column_order.proofs.Lists.{has_head, has_tail, place-inj, place_head, place_tail, occurs_from_has}
 use Rattle.row_model.proofs.Walks.{evenly_one_side, evenly-refl}
 use Rattle.pq_tree.specs.Outline.{Outline, leaves, IsFrontier}
-use Rattle.tied_law.specs.Tied.{Evenly, IsTied}
+use Rattle.tied_law.specs.Tied.{IsTied}
 use Rattle.tied_law.proofs.Bound.{IsBound, bound_from}
 use Rattle.tied_law.proofs.Frontiers.{frontier_occurs, has_same}
 use Rattle.tied_law.proofs.Sorted.{Rises, rises_same}

@@ -1,32 +1,10 @@
--- A frontier has the columns of its tree, each as often.
-use Rattle.std.proofs.Common.{◌≡◌, ◌∙◌, ℕ, List, [], ◌∷◌, ◌++◌, reverse, ltb, IsPermutation, refl, sym, ap, inl, inr, arith, append_assoc}
-use Rattle.std.proofs.lemmas.List.Sorted.{IsPermutation-reverse, sum_by-IsPermutation}
+-- A frontier has the columns of its tree.
+pub use Rattle.pq_tree.proofs.Frontiers.{occurs-permutation, frontier_occurs, frontiers_occur}
+use Rattle.std.proofs.Common.{◌≡◌, ◌∙◌, ℕ, List, [], ◌∷◌, ◌++◌, ltb, refl, sym, ap, append_assoc}
 use Rattle.std.specs.List.{concat}
 use Rattle.column_order.specs.Orders.{has, occurs}
-use Rattle.column_order.proofs.Lists.{occurs-append, occurs-concat, has-occurs}
-use Rattle.pq_tree.specs.Outline.{Outline, Forest, leaf, p_node, q_node, no_tree, tree_and, leaves, leaves_of, IsFrontier, AreFrontiers}
-
-pub occurs-permutation : (fs gs : List (List ℕ)) (a : ℕ) → IsPermutation fs gs → occurs (concat gs) a ≡ occurs (concat fs) a
-occurs-permutation fs gs a h =
-    occurs-concat gs a ∙ sum_by-IsPermutation (λ f. occurs f a) fs gs h ∙ sym (occurs-concat fs a)
-
-mutual
-  pub frontier_occurs : (t : Outline) (f : List ℕ) (a : ℕ) → IsFrontier t f → occurs f a ≡ occurs (leaves t) a
-  frontier_occurs (leaf b) f a h = ap (λ x. occurs x a) h
-  frontier_occurs (p_node ts) f a h =
-      ap (λ x. occurs x a) h.4 ∙ occurs-permutation h.0 h.1 a h.3 ∙ frontiers_occur ts h.0 a h.2
-  frontier_occurs (q_node ts) f a h =
-      elim h.2 [
-        | inl e ↦ ap (λ x. occurs x a) e ∙ frontiers_occur ts h.0 a h.1
-        | inr e ↦ ap (λ x. occurs x a) e ∙ occurs-permutation h.0 (reverse h.0) a (IsPermutation-reverse h.0) ∙ frontiers_occur ts h.0 a h.1
-      ]
-
-  pub frontiers_occur : (ts : Forest) (fs : List (List ℕ)) (a : ℕ) → AreFrontiers ts fs → occurs (concat fs) a ≡ occurs (leaves_of ts) a
-  frontiers_occur no_tree [] a h = refl
-  frontiers_occur no_tree (f ∷ fs) a h = absurd h
-  frontiers_occur (tree_and t ts) [] a h = absurd h
-  frontiers_occur (tree_and t ts) (f ∷ fs) a h =
-      omega (arith, occurs-append f (concat fs) a, occurs-append (leaves t) (leaves_of ts) a, frontier_occurs t f a h.0, frontiers_occur ts fs a h.1)
+use Rattle.column_order.proofs.Lists.{has-occurs}
+use Rattle.pq_tree.specs.Outline.{Outline, Forest, leaves, leaves_of, IsFrontier, AreFrontiers}
 
 pub has_same : (xs ys : List ℕ) (a : ℕ) → occurs xs a ≡ occurs ys a → has xs a ≡ has ys a
 has_same xs ys a e = has-occurs xs a ∙ ap (ltb 0) e ∙ sym (has-occurs ys a)

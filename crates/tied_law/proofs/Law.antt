@@ -61,7 +61,7 @@ module _ (R : Pair → Pair → Type 0) (rank : ℕ → ℕ)
   closed_same : (l xs ys : List ℕ) → ((a : ℕ) → has xs a ≡ has ys a) → IsClosed R l ys → IsClosed R l xs
   closed_same l xs ys e h a b d xa xb ld xd = h a b d (sym (e a) ∙ xa) (sym (e b) ∙ xb) ld (sym (e d) ∙ xd)
 
-  -- a list that is closed and has out column of the trees stands beside each of their frontiers
+  -- a list that is closed and has no column of the trees stands beside each of their frontiers
   all_beside : (l f : List ℕ) (ts : Forest) (gs : List (List ℕ)) → AreFrontiers ts gs → AreClosed R l ts → IsClosed R l f →
       ((d : ℕ) → IsTrue (has f d) → IsTrue (has l d)) → ((d : ℕ) → IsTrue (has (leaves_of ts) d) → IsTrue (has l d)) →
       ((d : ℕ) → IsTrue (has f d) → IsFalse (has (leaves_of ts) d)) → AreBeside rank f gs

@@ -3,13 +3,13 @@ use Rattle.std.proofs.Common.{◌≡◌, ◌∙◌, ◌↔◌, ℕ, ◌≤◌, L
 use Rattle.std.proofs.lemmas.Bool.{both_ways, cases_lt}
 use Rattle.row_model.specs.declared.graph.Pair.{Pair}
 use Rattle.column_order.specs.Orders.{has, IsOrder, IsValidOrder}
-use Rattle.row_model.specs.Graph.{pair, Joined}
+use Rattle.row_model.specs.Graph.{pair, Joined, Evenly}
 use Rattle.column_order.proofs.Lists.{has_cases}
 use Rattle.row_model.proofs.Walks.{evenly-refl}
 use Rattle.pq_tree.specs.Outline.{Outline, leaf, p_node, leaves, IsFrontier}
-use Rattle.pq_tree.specs.Proper.{forest, columns, universal}
+use Rattle.pq_tree.specs.Proper.{forest, columns, universal, IsProper}
 use Rattle.pq_tree.proofs.Universal.{universal_many, whole_all, whole_one}
-use Rattle.tied_law.specs.Tied.{Evenly, IsTied}
+use Rattle.tied_law.specs.Tied.{IsTied}
 use Rattle.tied_law.proofs.Bound.{AreClosed, AreBound}
 use Rattle.tied_law.proofs.Bridge.{bound_tied}
 use Rattle.tied_law.proofs.Exact.{tied_law}
@@ -40,10 +40,13 @@ universal_tied c h =
     (λ k. bound_tied c [] (p_node (forest (map leaf (columns c)))) (λ f i k d l. absurd (omega arith))
     (leaves_closed (Evenly c []) (evenly-refl (Joined c [])) (leaves (p_node (forest (map leaf (columns c))))) (columns c), leaves_bound (Evenly c []) (columns c)))
 
-universal_order : (c : ℕ) → 1 ≤ c → IsOrder c (leaves (universal c))
-universal_order c h = universal_cases c h (λ t. IsOrder c (leaves t)) (λ e. rw e (whole_one.1)) (λ k. (whole_all c k).1)
+pub universal_proper : (c : ℕ) → 1 ≤ c → IsProper c (universal c)
+universal_proper c h = universal_cases c h (IsProper c) (λ e. rw e whole_one) (λ k. whole_all c k)
 
 pub universal_all : (c : ℕ) → 1 ≤ c → (o : List ℕ) → IsFrontier (universal c) o ↔ IsOrder c o
 universal_all c h o =
-    let l : IsFrontier (universal c) o ↔ IsValidOrder c [] o = tied_law c [] (universal c) (universal_order c h) (universal_tied c h) o in
+    let l : IsFrontier (universal c) o ↔ IsValidOrder c [] o = tied_law c [] (universal c) (universal_proper c h).1 (universal_tied c h) o in
     (λ f. (l.0 f).order, λ i. l.1 (record { order = i; kept = λ k d m. absurd (omega arith) }))
+
+pub universal_law : (c : ℕ) → 1 ≤ c → IsProper c (universal c) × IsTied c [] (universal c) × ((o : List ℕ) → IsFrontier (universal c) o ↔ IsOrder c o)
+universal_law c h = (universal_proper c h, universal_tied c h, universal_all c h)

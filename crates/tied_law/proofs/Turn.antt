@@ -1,52 +1,27 @@
--- Turning a tree changes neither its frontiers nor the rows that it is tied to.
-use Rattle.std.proofs.Common.{◌≡◌, ◌⊎◌, ◌∙◌, ◌≤◌, ℕ, false, List, [], ◌∷◌, ◌++◌, reverse, IsTrue, IsPermutation, sum_by, refl, sym, ap, subst, inl, inr, arith, append_assoc, append-nil}
+-- An equivalent tree has the same frontiers, and is tied to the same rows.
+use Rattle.std.proofs.Common.{◌≡◌, ◌⊎◌, ◌∙◌, ℕ, false, List, [], ◌∷◌, ◌++◌, reverse, IsTrue, IsPermutation, refl, sym, ap, subst, inl, inr, append_assoc, append-nil}
 use Rattle.std.proofs.lemmas.Bool.{both_ways}
 use Rattle.std.proofs.lemmas.List.{reverse-append, reverse-reverse}
 use Rattle.std.proofs.lemmas.List.Elements.{All-from_recursion, recursion_from_All}
-use Rattle.std.proofs.lemmas.List.Sorted.{All-permutation, IsPermutation-sym, IsPermutation-reverse, sum_by-IsPermutation}
-use Rattle.std.proofs.lemmas.List.Sums.{sum_by-cons}
+use Rattle.std.proofs.lemmas.List.Sorted.{All-permutation, IsPermutation-sym, IsPermutation-reverse}
 use Rattle.std.specs.List.{AllByRecursion}
 use Rattle.row_model.specs.declared.graph.Pair.{Pair}
-use Rattle.column_order.specs.Orders.{has, occurs, place, IsOrder}
-use Rattle.row_model.specs.Graph.{pair}
-use Rattle.column_order.proofs.Lists.{has_append_cases, has_append_left, has_append_right, occurs-append}
-use Rattle.pq_tree.specs.Outline.{Outline, Forest, leaf, p_node, q_node, no_tree, tree_and, leaves, leaves_of, IsFrontier}
-use Rattle.pq_tree.specs.Proper.{forest}
+use Rattle.column_order.specs.Orders.{has, IsOrder}
+use Rattle.row_model.specs.Graph.{pair, Evenly}
+use Rattle.column_order.proofs.Lists.{has_append_cases, has_append_left, has_append_right}
+use Rattle.pq_tree.specs.Outline.{Outline, Forest, leaf, p_node, q_node, no_tree, tree_and, leaves, leaves_of}
 use Rattle.pq_tree.specs.Equivalent.{IsEquivalent, AreEquivalent}
-use Rattle.tied_law.specs.Tied.{IsForward, Evenly, IsTied}
+use Rattle.pq_tree.specs.Proper.{forest, IsProper}
+use Rattle.pq_tree.proofs.Frontiers.{same_frontiers}
+use Rattle.pq_tree.proofs.Equivalent.{moved_occurs, equivalent_occurs, equivalent_occur_all, equivalent_proper}
+use Rattle.tied_law.specs.Tied.{IsForward, IsTied}
 use Rattle.tied_law.proofs.Bound.{IsClosed, AreClosed, IsBound, AreBound, IsPairEq}
-use Rattle.tied_law.proofs.Frontiers.{has_same, frontier_occurs}
-use Rattle.tied_law.proofs.Exact.{tied_bound, order_rises, order_once}
-use Rattle.tied_law.proofs.Alike.{Alike, frontier_bound, bound_frontier}
-use Rattle.tied_law.proofs.Bridge.{alike_eq, evenly_eq, bound_tied}
-
-leaves_sum : (ts : List Outline) (a : ℕ) → occurs (leaves_of (forest ts)) a ≡ sum_by (λ t. occurs (leaves t) a) ts
-leaves_sum [] a = refl
-leaves_sum (t ∷ ts) a =
-    omega (arith, occurs-append (leaves t) (leaves_of (forest ts)) a, leaves_sum ts a, sum_by-cons (λ u. occurs (leaves u) a) t ts)
-
-moved_occurs : (us vs : List Outline) (a : ℕ) → IsPermutation us vs → occurs (leaves_of (forest vs)) a ≡ occurs (leaves_of (forest us)) a
-moved_occurs us vs a h = leaves_sum vs a ∙ sum_by-IsPermutation (λ t. occurs (leaves t) a) us vs h ∙ sym (leaves_sum us a)
-
-mutual
-  pub turned_occurs : (t u : Outline) (a : ℕ) → IsEquivalent t u → occurs (leaves u) a ≡ occurs (leaves t) a
-  turned_occurs (leaf b) u a h = ap (λ x. occurs (leaves x) a) h
-  turned_occurs (p_node ts) u a h = ap (λ x. occurs (leaves x) a) h.4 ∙ moved_occurs h.0 h.1 a h.3 ∙ all_turned_occur ts h.0 a h.2
-  turned_occurs (q_node ts) u a h =
-      elim h.2 [
-        | inl e ↦ ap (λ x. occurs (leaves x) a) e ∙ all_turned_occur ts h.0 a h.1
-        | inr e ↦ ap (λ x. occurs (leaves x) a) e ∙ moved_occurs h.0 (reverse h.0) a (IsPermutation-reverse h.0) ∙ all_turned_occur ts h.0 a h.1
-      ]
-
-  pub all_turned_occur : (ts : Forest) (us : List Outline) (a : ℕ) → AreEquivalent ts us → occurs (leaves_of (forest us)) a ≡ occurs (leaves_of ts) a
-  all_turned_occur no_tree [] a h = refl
-  all_turned_occur no_tree (u ∷ us) a h = absurd h
-  all_turned_occur (tree_and t ts) [] a h = absurd h
-  all_turned_occur (tree_and t ts) (u ∷ us) a h =
-      omega (arith, occurs-append (leaves u) (leaves_of (forest us)) a, occurs-append (leaves t) (leaves_of ts) a, turned_occurs t u a h.0, all_turned_occur ts us a h.1)
+use Rattle.tied_law.proofs.Frontiers.{has_same}
+use Rattle.tied_law.proofs.Exact.{tied_bound}
+use Rattle.tied_law.proofs.Bridge.{evenly_eq, bound_tied}
 
 turned_has : (t u : Outline) (a : ℕ) → IsEquivalent t u → has (leaves u) a ≡ has (leaves t) a
-turned_has t u a h = has_same (leaves u) (leaves t) a (turned_occurs t u a h)
+turned_has t u a h = has_same (leaves u) (leaves t) a (equivalent_occurs t u a h)
 
 all_turned_closed : (R : Pair → Pair → Type 0) (l : List ℕ) (ts : Forest) (us : List Outline) → AreEquivalent ts us → AreClosed R l ts → AreClosed R l (forest us)
 all_turned_closed R l no_tree [] h k = tt
@@ -55,14 +30,14 @@ all_turned_closed R l (tree_and t ts) [] h k = absurd h
 all_turned_closed R l (tree_and t ts) (u ∷ us) h k =
     ((λ a b d i j m n. k.0 a b d (sym (turned_has t u a h.0) ∙ i) (sym (turned_has t u b h.0) ∙ j) m (sym (turned_has t u d h.0) ∙ n)), all_turned_closed R l ts us h.1 k.1)
 
-turned_forward : (ts : Forest) (us : List Outline) → AreEquivalent ts us → (v : Pair) → IsForward (forest us) v → IsForward ts v
+pub turned_forward : (ts : Forest) (us : List Outline) → AreEquivalent ts us → (v : Pair) → IsForward (forest us) v → IsForward ts v
 turned_forward no_tree [] h v k = k
 turned_forward no_tree (u ∷ us) h v k = absurd h
 turned_forward (tree_and t ts) [] h v k = absurd h
 turned_forward (tree_and t ts) (u ∷ us) h v k =
     elim k [
       | inl m ↦
-          inl (sym (turned_has t u v.a h.0) ∙ m.0, has_same (leaves_of ts) (leaves_of (forest us)) v.b (sym (all_turned_occur ts us v.b h.1)) ∙ m.1)
+          inl (sym (turned_has t u v.a h.0) ∙ m.0, has_same (leaves_of ts) (leaves_of (forest us)) v.b (sym (equivalent_occur_all ts us v.b h.1)) ∙ m.1)
       | inr m ↦ inr (turned_forward ts us h.1 v m)
     ]
 
@@ -72,12 +47,12 @@ all_unturned_closed R l (tree_and t ts) [] h k = absurd h
 all_unturned_closed R l (tree_and t ts) (u ∷ us) h k =
     ((λ a b d i j m n. k.0 a b d (turned_has t u a h.0 ∙ i) (turned_has t u b h.0 ∙ j) m (turned_has t u d h.0 ∙ n)), all_unturned_closed R l ts us h.1 k.1)
 
-unturned_forward : (ts : Forest) (us : List Outline) → AreEquivalent ts us → (v : Pair) → IsForward ts v → IsForward (forest us) v
+pub unturned_forward : (ts : Forest) (us : List Outline) → AreEquivalent ts us → (v : Pair) → IsForward ts v → IsForward (forest us) v
 unturned_forward no_tree us h v k = absurd k
 unturned_forward (tree_and t ts) [] h v k = absurd h
 unturned_forward (tree_and t ts) (u ∷ us) h v k =
     elim k [
-      | inl m ↦ inl (turned_has t u v.a h.0 ∙ m.0, has_same (leaves_of (forest us)) (leaves_of ts) v.b (all_turned_occur ts us v.b h.1) ∙ m.1)
+      | inl m ↦ inl (turned_has t u v.a h.0 ∙ m.0, has_same (leaves_of (forest us)) (leaves_of ts) v.b (equivalent_occur_all ts us v.b h.1) ∙ m.1)
       | inr m ↦ inr (unturned_forward ts us h.1 v m)
     ]
 
@@ -150,7 +125,7 @@ module _ (R : Pair → Pair → Type 0) (eq : IsPairEq R) where
     turned_bound (leaf b) u h k = subst (IsBound R) (sym h) tt
     turned_bound (p_node ts) u h k =
         let e : (a : ℕ) → has (leaves_of (forest h.1)) a ≡ has (leaves_of ts) a =
-        λ a. has_same (leaves_of (forest h.1)) (leaves_of ts) a (moved_occurs h.0 h.1 a h.3 ∙ all_turned_occur ts h.0 a h.2) in
+        λ a. has_same (leaves_of (forest h.1)) (leaves_of ts) a (moved_occurs h.0 h.1 a h.3 ∙ equivalent_occur_all ts h.0 a h.2) in
         subst (IsBound R) (sym h.4) (
           scope R (leaves_of ts) (leaves_of (forest h.1)) e (forest h.1)
               (all_closed R (leaves_of ts) h.1
@@ -181,7 +156,7 @@ module _ (R : Pair → Pair → Type 0) (eq : IsPairEq R) where
     unturned_bound (p_node ts) u h k =
         let b : IsBound R (p_node (forest h.1)) = subst (IsBound R) h.4 k in
         let e : (a : ℕ) → has (leaves_of ts) a ≡ has (leaves_of (forest h.1)) a =
-        λ a. has_same (leaves_of ts) (leaves_of (forest h.1)) a (sym (moved_occurs h.0 h.1 a h.3 ∙ all_turned_occur ts h.0 a h.2)) in
+        λ a. has_same (leaves_of ts) (leaves_of (forest h.1)) a (sym (moved_occurs h.0 h.1 a h.3 ∙ equivalent_occur_all ts h.0 a h.2)) in
         let m : IsPermutation h.1 h.0 = IsPermutation-sym h.0 h.1 h.3 in (
           scope R (leaves_of (forest h.1)) (leaves_of ts) e ts
               (all_unturned_closed R (leaves_of (forest h.1)) ts h.0 h.2
@@ -207,20 +182,10 @@ module _ (R : Pair → Pair → Type 0) (eq : IsPairEq R) where
     all_unturned_bound (tree_and t ts) [] h k = absurd h
     all_unturned_bound (tree_and t ts) (u ∷ us) h k = (unturned_bound t u h.0 k.0, all_unturned_bound ts us h.1 k.1)
 
--- A canonical tree, for one, has the frontiers of the tree that it was turned from, and is tied to the rows that it is tied to.
-pub turned_frontier : (t u : Outline) → ((a : ℕ) → occurs (leaves t) a ≤ 1) → IsEquivalent t u → (o : List ℕ) → IsFrontier t o → IsFrontier u o
-turned_frontier t u once h o f =
-    let e : (a : ℕ) → occurs o a ≡ occurs (leaves t) a = λ a. frontier_occurs t o a f in
-    bound_frontier u o (λ a. rw (turned_occurs t u a h) (once a)) (λ a. e a ∙ sym (turned_occurs t u a h))
-    (turned_bound (Alike (place o)) (alike_eq (place o)) t u h (frontier_bound (place o) t o f (order_rises o (λ a. rw (e a) (once a)))))
-
-pub unturned_frontier : (t u : Outline) → ((a : ℕ) → occurs (leaves t) a ≤ 1) → IsEquivalent t u → (o : List ℕ) → IsFrontier u o → IsFrontier t o
-unturned_frontier t u once h o f =
-    let e : (a : ℕ) → occurs o a ≡ occurs (leaves t) a = λ a. frontier_occurs u o a f ∙ turned_occurs t u a h in
-    bound_frontier t o once e
-    (unturned_bound (Alike (place o)) (alike_eq (place o)) t u h (frontier_bound (place o) u o f (order_rises o (λ a. rw (e a) (once a)))))
-
 pub turned_tied : (c : ℕ) (rows : List (List ℕ)) (t u : Outline) → IsOrder c (leaves t) → IsEquivalent t u → IsTied c rows t → IsTied c rows u
 turned_tied c rows t u whole h k =
-    bound_tied c rows u (λ f g. k.kept f (unturned_frontier t u (order_once c (leaves t) whole) h f g))
+    bound_tied c rows u (λ f g. k.kept f ((same_frontiers t u h f).1 g))
     (turned_bound (Evenly c rows) (evenly_eq c rows) t u h (tied_bound c rows t k))
+
+pub turned_law : (c : ℕ) (rows : List (List ℕ)) (t u : Outline) → IsProper c t → IsEquivalent t u → IsTied c rows t → IsProper c u × IsTied c rows u
+turned_law c rows t u w h k = (equivalent_proper c t u h w, turned_tied c rows t u w.1 h k)

@@ -1,5 +1,5 @@
 use Rattle.std.proofs.Common.{◌≡◌, map, take, Some}
-use Rattle.pq_plain.specs.Treat.{labels_of}
+use Rattle.pq_plain.specs.Labels.{labels_of}
 use Rattle.pq_plain.specs.Seen.{outlines, label_seen}
 use Rattle.pq_plain.proofs.below.+label.Given as goal
 

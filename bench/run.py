@@ -1,0 +1,135 @@
+#!/usr/bin/env python3
+"""Measures the built program against plain Rust programs on the same files, and prints ratios of time and peak memory.
+
+Usage: bench/run.py [NAME ..]     after `./pq` has built the program; needs rustc. NAMEs pick benches, default all.
+
+Inputs are made from a fixed seed in a temporary folder. Both programs run in turn; the figure is the least time of the rounds.
+The time of reading and judging alone is that of a file whose last row is refused, so that nothing is solved.
+"""
+
+import os
+import random
+import subprocess
+import sys
+import tempfile
+import time
+
+HOME = os.path.dirname(os.path.dirname(os.path.abspath(__file__)))
+PROGRAM = os.path.join(HOME, "crates", "pq", "out", "pq")
+FILE_LIMIT = 16_777_216
+SEED = 20261127
+ROUNDS = 7
+
+
+def dense_file(columns, density, rng):
+    """Rows of random digits up to the limit of bytes, the last of them one digit short."""
+    rows = min(65_536, FILE_LIMIT // (columns + 1))
+    lines = []
+    for _ in range(rows - 1):
+        lines.append(bytes(49 if rng.random() < density else 48 for _ in range(columns)))
+    lines.append(b"0" * (columns - 1))
+    text = b"\n".join(lines) + b"\n"
+    return text + b" " * (FILE_LIMIT - len(text))
+
+
+def nested_file(columns, rows, rng):
+    """Rows that are runs from the first column on: they are nested."""
+    lines = []
+    for _ in range(rows):
+        last = rng.randint(1, columns)
+        lines.append(b"1" * last + b"0" * (columns - last))
+    return b"\n".join(lines) + b"\n"
+
+
+def interval_file(columns, rows, rng):
+    """Rows that are runs in a hidden order of the columns, so that an order exists."""
+    hidden = list(range(columns))
+    rng.shuffle(hidden)
+    lines = []
+    for _ in range(rows):
+        low, high = sorted((rng.randrange(columns), rng.randrange(columns)))
+        line = bytearray(b"0" * columns)
+        for place in range(low, high + 1):
+            line[hidden[place]] = 49
+        lines.append(bytes(line))
+    return b"\n".join(lines) + b"\n"
+
+
+def measured(words):
+    """The seconds and the peak kibibytes of one run, and its status."""
+    start = time.perf_counter()
+    process = subprocess.Popen(words, stdout=subprocess.DEVNULL, stderr=subprocess.DEVNULL)
+    _, status, usage = os.wait4(process.pid, 0)
+    return time.perf_counter() - start, usage.ru_maxrss, os.waitstatus_to_exitcode(status)
+
+
+def best(words, wanted, rounds):
+    """The least seconds and the peak of several runs, each of which ends with the status that is wanted."""
+    runs = [measured(words) for _ in range(rounds)]
+    for _, _, status in runs:
+        if status != wanted:
+            sys.exit(f"{words[0]} ended with {status}, wanted {wanted}")
+    return min(seconds for seconds, _, _ in runs), max(peak for _, peak, _ in runs)
+
+
+def compiled(name, folder):
+    """A plain Rust program, built by rustc alone."""
+    program = os.path.join(folder, name)
+    subprocess.run(["rustc", "-O", "-o", program, os.path.join(HOME, "bench", "plain", name + ".rs")], check=True)
+    return program
+
+
+def compare(title, file, words, plain, status):
+    """One line: both programs on one file, and their ratio."""
+    size = os.path.getsize(file)
+    ours, peak = best([PROGRAM] + words, status, ROUNDS)
+    theirs, plain_peak = best([plain, file], status, ROUNDS)
+    print(f"{title}: {ours * 1000:.1f} ms, plain Rust {theirs * 1000:.1f} ms, ratio {ours / theirs:.2f}; "
+          f"peak {peak / 1024:.1f} MiB, {peak * 1024 / size:.2f} times the file (plain {plain_peak / 1024:.1f} MiB)")
+
+
+def whole_call(title, file, status):
+    """One line: a whole call of `solve`, which has no yardstick."""
+    ours, peak = best([PROGRAM, "solve", "matrix", file], status, 3)
+    print(f"{title}: {ours * 1000:.1f} ms, peak {peak / 1024:.1f} MiB")
+
+
+def write(folder, name, content):
+    file = os.path.join(folder, name)
+    with open(file, "wb") as stream:
+        stream.write(content)
+    return file
+
+
+def bench_dense(folder, rng):
+    """Reading and judging a dense file of the greatest length."""
+    plain = compiled("dense", folder)
+    for columns, density in [(1000, 0.5), (1000, 0.02), (255, 0.5)]:
+        file = write(folder, "dense.txt", dense_file(columns, density, rng))
+        title = f"dense, {columns} columns, {density:.0%} ones, 16 MiB"
+        compare(title, file, ["solve", "matrix", file], plain, 3)
+
+
+def bench_solve(folder, rng):
+    """Whole calls of `solve matrix`."""
+    for columns, rows in [(100, 1000), (1000, 1000)]:
+        file = write(folder, "nested.txt", nested_file(columns, rows, rng))
+        whole_call(f"solve, {rows} nested rows over {columns} columns", file, 0)
+        file = write(folder, "intervals.txt", interval_file(columns, rows, rng))
+        whole_call(f"solve, {rows} runs in a hidden order over {columns} columns", file, 0)
+
+
+BENCHES = {"dense": bench_dense, "solve": bench_solve}
+
+
+def main():
+    if not os.access(PROGRAM, os.X_OK):
+        sys.exit(f"{PROGRAM} is missing: run `./pq` first")
+    names = sys.argv[1:] or list(BENCHES)
+    with tempfile.TemporaryDirectory() as folder:
+        for name in names:
+            BENCHES[name](folder, random.Random(SEED))
+
+
+if __name__ == "__main__":
+    main()

@@ -1,0 +1,118 @@
+//! The canonical form of a tree, in one walk.
+
+ghost use Rattle.std.specs.Prelude.{◌≡◌, ◌⊎◌, map, reverse, IfOk, IsPermutation};
+ghost use Rattle.pq_tree.specs.Outline.{leaf, p_node, q_node};
+ghost use Rattle.pq_tree.specs.Proper.{outline_of, forest};
+ghost use Rattle.pq_tree.specs.Equivalent.{IsEquivalent, AreEquivalent};
+ghost use Rattle.pq_tree.specs.Canonical.{AreRising, EndsRise, least_of};
+ghost use Rattle.pq_tree.specs.Arranged.{outline_in};
+
+use crate::arranged::Arranged;
+use crate::{NoMemory, Tree};
+use std::alloc::Global;
+
+/// The tree in its canonical form. Each subtree's least column comes back with it, so each node is looked at once.
+#[cycle(arrange)]
+pub fn arranged_tree(alloc: Global, tree: &Tree) -> Result<Arranged, NoMemory>
+    ensures { IfOk result (λ a. IsEquivalent (outline_of tree.now) (outline_of a.tree)) }
+{
+    match tree {
+        Tree::Leaf(column) => Ok(arranged_leaf(*column)),
+        Tree::P(children) => {
+            let mut children = arranged_trees(alloc, children)?;
+            sort_by_least(&mut children);
+            arranged_p(alloc, children)
+        }
+        Tree::Q(children) => {
+            let mut children = arranged_trees(alloc, children)?;
+            turn_up(&mut children);
+            arranged_q(alloc, children)
+        }
+    }
+}
+
+/// Each tree in its canonical form.
+#[cycle(arrange)]
+fn arranged_trees(alloc: Global, trees: &[Tree]) -> Result<Vec<Arranged>, NoMemory>
+    ensures { IfOk result (λ v. AreEquivalent (forest (map outline_of trees.now)) (map outline_in v.items)) }
+{
+    let mut all = Vec::with_capacity(alloc, trees.len())?;
+    for tree in trees {
+        all.push(arranged_tree(alloc, tree)?)?;
+    }
+    Ok(all)
+}
+
+/// Puts the trees in rising order of their least columns.
+fn sort_by_least(trees: &mut Vec<Arranged>)
+    ensures moved { IsPermutation trees.old.items trees.new.items }
+    ensures rising { AreRising (forest (map outline_in trees.new.items)) }
+{
+    trees.sort_unstable_by_key(|tree| tree.least_column);
+}
+
+/// Reverses the trees where the least column of the last is below that of the first.
+fn turn_up(trees: &mut Vec<Arranged>)
+    ensures turned { (trees.new.items ≡ trees.old.items) ⊎ (trees.new.items ≡ reverse trees.old.items) }
+    ensures rise { EndsRise (forest (map outline_in trees.new.items)) }
+{
+    let count = trees.len();
+    if count > 1 && trees[count - 1].least_column < trees[0].least_column {
+        trees.reverse();
+    }
+}
+
+/// The leaf of a column.
+fn arranged_leaf(column: u32) -> Arranged
+    ensures { outline_in result ≡ leaf column }
+{
+    Arranged {
+        tree: Tree::Leaf(column),
+        least_column: column,
+    }
+}
+
+/// The P-node over trees that stand in rising order.
+fn arranged_p(alloc: Global, children: Vec<Arranged>) -> Result<Arranged, NoMemory>
+    requires { AreRising (forest (map outline_in children.items)) }
+    ensures { IfOk result (λ a. outline_in a ≡ p_node (forest (map outline_in children.items))) }
+{
+    let least_column = least_of_all(&children);
+    let tree = Tree::P(bare_trees(alloc, children)?);
+    Ok(Arranged { tree, least_column })
+}
+
+/// The Q-node over trees of which the first and the last rise.
+fn arranged_q(alloc: Global, children: Vec<Arranged>) -> Result<Arranged, NoMemory>
+    requires { EndsRise (forest (map outline_in children.items)) }
+    ensures { IfOk result (λ a. outline_in a ≡ q_node (forest (map outline_in children.items))) }
+{
+    let least_column = least_of_all(&children);
+    let tree = Tree::Q(bare_trees(alloc, children)?);
+    Ok(Arranged { tree, least_column })
+}
+
+/// The least column of these trees, 0 where there is none.
+fn least_of_all(all: &[Arranged]) -> u32
+    ensures { result ≡ least_of (forest (map outline_in all.now)) }
+{
+    let Some((first, others)) = all.split_first() else {
+        return 0;
+    };
+    let mut least = first.least_column;
+    for other in others {
+        least = least.min(other.least_column);
+    }
+    least
+}
+
+/// The trees alone.
+fn bare_trees(alloc: Global, all: Vec<Arranged>) -> Result<Vec<Tree>, NoMemory>
+    ensures { IfOk result (λ v. map outline_of v.items ≡ map outline_in all.items) }
+{
+    let mut trees = Vec::with_capacity(alloc, all.len())?;
+    for one in all {
+        trees.push(one.tree)?;
+    }
+    Ok(trees)
+}

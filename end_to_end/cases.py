@@ -1,0 +1,110 @@
+"""The cases of the end-to-end checks: words, files, standard input, and the output, line of errors and status that are wanted.
+
+Every wanted text was written by hand from the rules of the formats (docs/FORMATS.md).
+"""
+
+LIMIT = 16_777_216
+
+
+def case(name, words, status, out=b"", err=b"", **more):
+    return {"name": name, "words": words, "status": status, "out": out, "err": err, **more}
+
+
+def yes(columns, tree, order):
+    """The verdict on a matrix that has a valid order."""
+    return (f"pq-verdict 1\nkind matrix\ncolumns {columns}\nanswer yes\n"
+            f"tree {tree}\norder {order}\nend\n").encode()
+
+
+def no(columns):
+    """The verdict on a matrix that has none."""
+    return f"pq-verdict 1\nkind matrix\ncolumns {columns}\nanswer no\nend\n".encode()
+
+
+def answers(name, content, status, out):
+    return case(name, ["solve", "matrix", "file"], status, out, files={"file": content})
+
+
+def refused(name, content, code, line):
+    return case(name, ["solve", "matrix", "file"], 3, err=f"pq: refused 1 code {code} line {line}\n".encode(),
+                files={"file": content})
+
+
+def outside(name, words):
+    return case(name, words, 2, err=b"pq: words\n")
+
+
+def count(last):
+    """The numbers from 1 to the last, with a space between each two."""
+    return " ".join(str(number) for number in range(1, last + 1))
+
+
+WORDS = [
+    outside("no words", []),
+    outside("one word", ["solve"]),
+    outside("a word is missing", ["solve", "matrix"]),
+    outside("a word too many", ["solve", "matrix", "-", "-"]),
+    outside("another command", ["solved", "matrix", "-"]),
+    outside("another kind", ["solve", "matrices", "-"]),
+    outside("capitals", ["SOLVE", "matrix", "-"]),
+    outside("an empty word in place of the kind", ["solve", "", "-"]),
+    outside("a word that is no UTF-8", ["solve", "matrix", b"\xff"]),
+    outside("a kind that is no UTF-8", ["solve", b"\xc3", "-"]),
+]
+
+ANSWERS = [
+    answers("one column", b"1\n", 0, yes(1, "1", "1")),
+    answers("one column that no row has", b"0\n", 0, yes(1, "1", "1")),
+    answers("a full and an empty row", b"00\n11\n", 0, yes(2, "(1 2)", "1 2")),
+    answers("nested rows", b"1100\n1110\n1100\n1110\n", 0, yes(4, "(((1 2) 3) 4)", "1 2 3 4")),
+    answers("disjoint rows", b"10100\n01010\n", 0, yes(5, "((1 3) (2 4) 5)", "1 3 2 4 5")),
+    answers("two rows that overlap", b"110\n011\n", 0, yes(3, "[1 2 3]", "1 2 3")),
+    answers("the middle column comes first", b"101\n110\n", 0, yes(3, "[2 1 3]", "2 1 3")),
+    answers("a chain beside a column", b"11000\n00110\n01100\n", 0, yes(5, "([1 2 3 4] 5)", "1 2 3 4 5")),
+    answers("three columns of which each two shall meet", b"110\n011\n101\n", 1, no(3)),
+    answers("three pairs and a row across", b"110000\n001100\n000011\n010101\n", 1, no(6)),
+    answers("blanks and tabs between the digits", b" 1\t1 0 \n0 1 1\n", 0, yes(3, "[1 2 3]", "1 2 3")),
+    answers("lines that end with CR LF", b"110\r\n011\r\n", 0, yes(3, "[1 2 3]", "1 2 3")),
+    answers("no LF at the end", b"110\n011", 0, yes(3, "[1 2 3]", "1 2 3")),
+    answers("a lone CR at the end", b"110\n011\r", 0, yes(3, "[1 2 3]", "1 2 3")),
+    answers("a byte order mark", b"\xef\xbb\xbf110\n011\n", 0, yes(3, "[1 2 3]", "1 2 3")),
+    answers("blank lines", b"\n\n110\n \t\n011\n\n", 0, yes(3, "[1 2 3]", "1 2 3")),
+    answers("1,024 columns", b"0" * 1024 + b"\n", 0, yes(1024, f"({count(1024)})", count(1024))),
+    answers("65,536 rows", b"1\n" * 65_536, 0, yes(1, "1", "1")),
+    answers("a file of the greatest length", b"1\n" + b" " * (LIMIT - 2), 0, yes(1, "1", "1")),
+    case("standard input", ["solve", "matrix", "-"], 0, yes(3, "[2 1 3]", "2 1 3"), input=b"101\n110\n"),
+    case("a name with blanks and other letters", ["solve", "matrix", "r\u00e4nge 1.txt"], 0, yes(2, "(1 2)", "1 2"),
+         files={"r\u00e4nge 1.txt": b"11\n"}),
+]
+
+REFUSED = [
+    refused("a short row", b"110\n01\n", 3, 2),
+    refused("a long row", b"110\n0110\n", 3, 2),
+    refused("an empty file", b"", 1, 0),
+    refused("a blank file", b" \n\t\r\n\n", 1, 0),
+    refused("a byte order mark alone", b"\xef\xbb\xbf", 1, 0),
+    refused("a second byte order mark", b"\xef\xbb\xbf\xef\xbb\xbf1\n", 2, 1),
+    refused("a digit that is neither 0 nor 1", b"12\n", 2, 1),
+    refused("a CR in the middle", b"11\n1\r1\n", 2, 2),
+    refused("two CR at the end", b"11\n11\r\r\n", 2, 2),
+    refused("a byte outside the grammar before a row of another length", b"11\n\n1x1\n1\n", 2, 3),
+    refused("a row of another length before a byte outside the grammar", b"11\n1\n1x\n", 3, 2),
+    refused("a byte outside the grammar in a row of another length", b"11\n1x1\n", 2, 2),
+    refused("a zero byte", b"1\x001\n", 2, 1),
+    refused("1,025 digits", b"0" * 1025 + b"\n", 7, 1),
+    refused("1,025 digits and a byte outside the grammar", b"0" * 1025 + b"x\n", 2, 1),
+    refused("the 65,537th row", b"1\n" * 65_537, 7, 65_537),
+    refused("the 65,537th row is also malformed", b"1\n" * 65_536 + b"\nx\n", 7, 65_538),
+    refused("a file one byte past the limit", b"1\n" + b" " * (LIMIT - 1), 7, 0),
+    refused("a file past the limit is judged by its length first", b"x" * (LIMIT + 1), 7, 0),
+]
+
+FILES = [
+    case("a missing file", ["solve", "matrix", "file"], 4, err=b"pq: read fault\n"),
+    case("an empty name", ["solve", "matrix", ""], 4, err=b"pq: read fault\n"),
+    case("a directory", ["solve", "matrix", "folder"], 4, err=b"pq: read fault\n", folders=["folder"]),
+    case("a file without leave to read", ["solve", "matrix", "file"], 4, err=b"pq: read fault\n",
+         files={"file": b"11\n"}, unreadable=["file"]),
+]
+
+CASES = WORDS + ANSWERS + REFUSED + FILES
