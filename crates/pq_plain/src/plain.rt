@@ -75,3 +75,9 @@ impl Reducer for PlainReducer {
         Ok(tree)
     }
 }
+
+#[cfg(test)]
+mod tests {
+    use super::*;
+    use std::test::Fail;
+}
