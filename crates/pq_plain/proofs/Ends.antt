@@ -4,19 +4,17 @@ use Rattle.std.specs.Prelude.{IsSome}
 use Rattle.std.specs.Option.{option_to_list}
 use Rattle.std.proofs.lemmas.Bool.{false≢true}
 use Rattle.std.proofs.lemmas.List.{map-append, append-nil, length-map, take-map, drop-map, take-append-drop}
-use Rattle.pq_tree.specs.Outline.{Outline, Forest, q_node, no_tree}
+use Rattle.pq_tree.specs.Outline.{Outline, Forest, q_node}
 use Rattle.pq_tree.specs.Proper.{outline_of, forest}
 use Rattle.pq_tree.specs.declared.Tree.{Tree}
 use Rattle.pq_plain.specs.Templates.{join, back}
 use Rattle.pq_plain.specs.Labels.{Partial, Label, partials}
-use Rattle.pq_plain.specs.Seen.{outlines, halves_seen, label_seen}
+use Rattle.pq_plain.specs.Seen.{outlines, halves_seen}
 use Rattle.pq_plain.specs.AtRoot.{line_of, turned_line_of, line_if, span_seen, PartialsAt, first_line, first_turned, q_made}
 use Rattle.pq_plain.specs.declared.label.Halves.{Halves}
-use Rattle.pq_plain.specs.declared.label.Label.{Label as Marked}
 use Rattle.pq_plain.specs.declared.at_root.Span.{Span as Places}
 use Rattle.pq_plain.proofs.Lines.{join_assoc}
 use Rattle.pq_plain.proofs.Marks.{partials_append}
-use Rattle.pq_plain.proofs.Runs.{to_end}
 
 last_is : (xs ys : List Partial) (x y : Partial) → xs ++ x ∷ [] ≡ ys ++ y ∷ [] → (xs ≡ ys) × (x ≡ y)
 last_is [] [] x y e = (refl, cc)

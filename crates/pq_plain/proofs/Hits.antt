@@ -1,11 +1,9 @@
 -- How many columns of a row stand in a list, and whether all do.
-use Rattle.std.proofs.Common.{◌≡◌, ◌≢◌, ◌∙◌, ◌+◌, ◌<◌, ◌≤◌, ℕ, zero, suc, Bool, true, false, cond, eqb, List, [], ◌∷◌, ◌++◌, length, IsTrue, IsFalse, refl, sym, ap, inl, inr, arith, eq-eqb}
+use Rattle.std.proofs.Common.{◌≡◌, ◌∙◌, ◌+◌, ◌<◌, ◌≤◌, ℕ, cond, eqb, List, [], ◌∷◌, ◌++◌, length, IsTrue, IsFalse, refl, sym, ap, inl, inr, arith, eq-eqb}
 use Rattle.std.proofs.lemmas.Bool.{both_ways, cases_Bool, cases_eq, cases_lt, ne_eqb, cond-true, cond-false, and_from, and_left, and_right}
 use Rattle.std.specs.List.{list_all}
 use Rattle.column_order.specs.Orders.{has, occurs}
 use Rattle.column_order.proofs.Lists.{occurs_from_has, has_from_occurs}
-use Rattle.pq_tree.specs.Outline.{Outline, Forest, leaf, p_node, q_node, no_tree, tree_and, leaves, leaves_of}
-use Rattle.pq_plain.specs.Reduce.{holds}
 use Rattle.pq_plain.specs.Found.{hits}
 
 -- for each number of the first list, at how many places of the second it stands

@@ -1,10 +1,7 @@
 -- Lists of labels, one label more at a time.
 use Rattle.std.proofs.Common.{◌≡◌, ◌∙◌, ◌+◌, ◌<◌, ◌≤◌, ℕ, List, [], ◌∷◌, ◌++◌, map, take, length, get_or, refl, sym, ap, arith, length-append}
 use Rattle.std.proofs.lemmas.List.{map_more}
-use Rattle.pq_tree.specs.Outline.{Outline, no_tree, tree_and}
-use Rattle.pq_tree.specs.Proper.{forest}
-use Rattle.pq_plain.specs.Templates.{join}
-use Rattle.pq_plain.specs.Labels.{Label, empty_label, full_label, partial_label, partials, empty_trees, full_trees}
+use Rattle.pq_plain.specs.Labels.{Label, empty_label, full_label, partial_label, partials}
 use Rattle.pq_plain.specs.Seen.{label_seen, empties, fulls}
 use Rattle.pq_plain.specs.declared.label.Label.{Label as Marked}
 
@@ -46,23 +43,23 @@ one_partial (partial_label h) = omega arith
 pub empties_more : (xs : List Marked) (i m n : ℕ) (x : Marked) → i < length xs → x ≡ get_or xs i x → m ≡ empties (map label_seen (take i xs)) → n ≡ m + empties (label_seen x ∷ []) →
     (n ≡ empties (map label_seen (take (i + 1) xs))) × (n ≤ m + 1)
 empties_more xs i m n x h r e k = (
-    k ∙
-    ap (λ a. a + empties (label_seen x ∷ [])) e ∙
-    sym (empties_push (map label_seen (take i xs)) (label_seen x)) ∙
-    ap (λ y. empties (map label_seen (take i xs) ++ label_seen y ∷ [])) r ∙
-    sym (ap empties (map_more label_seen xs i x h)),
-    omega (arith, k, one_empty (label_seen x)),
+  k ∙
+      ap (λ a. a + empties (label_seen x ∷ [])) e ∙
+      sym (empties_push (map label_seen (take i xs)) (label_seen x)) ∙
+      ap (λ y. empties (map label_seen (take i xs) ++ label_seen y ∷ [])) r ∙
+      sym (ap empties (map_more label_seen xs i x h)),
+  omega (arith, k, one_empty (label_seen x)),
 )
 
 pub fulls_more : (xs : List Marked) (i m n : ℕ) (x : Marked) → i < length xs → x ≡ get_or xs i x → m ≡ fulls (map label_seen (take i xs)) → n ≡ m + fulls (label_seen x ∷ []) →
     (n ≡ fulls (map label_seen (take (i + 1) xs))) × (n ≤ m + 1)
 fulls_more xs i m n x h r e k = (
-    k ∙
-    ap (λ a. a + fulls (label_seen x ∷ [])) e ∙
-    sym (fulls_push (map label_seen (take i xs)) (label_seen x)) ∙
-    ap (λ y. fulls (map label_seen (take i xs) ++ label_seen y ∷ [])) r ∙
-    sym (ap fulls (map_more label_seen xs i x h)),
-    omega (arith, k, one_full (label_seen x)),
+  k ∙
+      ap (λ a. a + fulls (label_seen x ∷ [])) e ∙
+      sym (fulls_push (map label_seen (take i xs)) (label_seen x)) ∙
+      ap (λ y. fulls (map label_seen (take i xs) ++ label_seen y ∷ [])) r ∙
+      sym (ap fulls (map_more label_seen xs i x h)),
+  omega (arith, k, one_full (label_seen x)),
 )
 
 partials_push : (ps : List Label) (p : Label) → length (partials (ps ++ p ∷ [])) ≡ length (partials ps) + length (partials (p ∷ []))
@@ -71,10 +68,10 @@ partials_push ps p = ap length (partials_append ps (p ∷ [])) ∙ length-append
 pub partials_more : (xs : List Marked) (i m n : ℕ) (x : Marked) → i < length xs → x ≡ get_or xs i x → m ≡ length (partials (map label_seen (take i xs))) → n ≡ m + length (partials (label_seen x ∷ [])) →
     (n ≡ length (partials (map label_seen (take (i + 1) xs)))) × (n ≤ m + 1)
 partials_more xs i m n x h r e k = (
-    k ∙
-    ap (λ a. a + length (partials (label_seen x ∷ []))) e ∙
-    sym (partials_push (map label_seen (take i xs)) (label_seen x)) ∙
-    ap (λ y. length (partials (map label_seen (take i xs) ++ label_seen y ∷ []))) r ∙
-    sym (ap (λ ps. length (partials ps)) (map_more label_seen xs i x h)),
-    omega (arith, k, one_partial (label_seen x)),
+  k ∙
+      ap (λ a. a + length (partials (label_seen x ∷ []))) e ∙
+      sym (partials_push (map label_seen (take i xs)) (label_seen x)) ∙
+      ap (λ y. length (partials (map label_seen (take i xs) ++ label_seen y ∷ []))) r ∙
+      sym (ap (λ ps. length (partials ps)) (map_more label_seen xs i x h)),
+  omega (arith, k, one_partial (label_seen x)),
 )

@@ -1,10 +1,10 @@
 -- Lists of trees as the templates see them.
-use Rattle.std.proofs.Common.{◌≡◌, ◌∙◌, ◌+◌, ◌<◌, ◌≤◌, ℕ, List, [], ◌∷◌, ◌++◌, map, take, drop, reverse, length, get_or, refl, sym, ap}
+use Rattle.std.proofs.Common.{◌≡◌, ◌∙◌, List, [], ◌∷◌, ◌++◌, map, reverse, refl, sym, ap}
 use Rattle.std.proofs.lemmas.List.{map-append, reverse-append}
 use Rattle.pq_tree.specs.Outline.{Outline, Forest, no_tree, tree_and}
 use Rattle.pq_tree.specs.Proper.{outline_of, forest}
 use Rattle.pq_tree.specs.declared.Tree.{Tree}
-use Rattle.pq_plain.specs.Templates.{join, star, back}
+use Rattle.pq_plain.specs.Templates.{join, back}
 use Rattle.pq_plain.specs.Seen.{outlines}
 
 pub forest_append : (xs ys : List Outline) → forest (xs ++ ys) ≡ join (forest xs) (forest ys)

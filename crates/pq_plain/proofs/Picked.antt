@@ -1,7 +1,7 @@
 -- The children of one label, one child more at a time.
-use Rattle.std.proofs.Common.{◌≡◌, ◌∙◌, ◌+◌, ◌<◌, ◌≤◌, ◌⊎◌, inl, inr, ℕ, List, [], ◌∷◌, ◌++◌, map, take, length, get_or, refl, sym, ap, ap₂, arith}
+use Rattle.std.proofs.Common.{◌≡◌, ◌∙◌, ◌+◌, ◌<◌, ◌⊎◌, inl, inr, ℕ, List, [], ◌∷◌, ◌++◌, map, take, length, get_or, refl, sym, ap, ap₂, arith}
 use Rattle.std.proofs.lemmas.List.{map_more, map-append, length-map, length-take, append-nil}
-use Rattle.pq_tree.specs.Outline.{Outline, Forest, no_tree, tree_and}
+use Rattle.pq_tree.specs.Outline.{Outline, no_tree, tree_and}
 use Rattle.pq_tree.specs.Proper.{outline_of, forest}
 use Rattle.pq_tree.specs.declared.Tree.{Tree}
 use Rattle.pq_plain.specs.Templates.{join}

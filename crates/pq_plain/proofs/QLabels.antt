@@ -1,20 +1,19 @@
 -- The templates of a Q-node below the root, as the program finds them.
-use Rattle.std.proofs.Common.{◌≡◌, ◌∙◌, ◌+◌, ◌-◌, ◌<◌, ◌≤◌, ℕ, zero, suc, Bool, true, false, cond, List, [], ◌∷◌, ◌++◌, Option, Some, None, map, take, drop, reverse, length, IsTrue, refl, sym, ap, ap₂, subst, arith, option_and_then, length-append}
+use Rattle.std.proofs.Common.{◌≡◌, ◌∙◌, ◌+◌, ◌≤◌, ℕ, List, [], ◌∷◌, ◌++◌, Some, None, map, take, drop, reverse, length, IsTrue, refl, sym, ap, ap₂, subst, arith, option_and_then, length-append}
 use Rattle.std.proofs.lemmas.Bool.{cond-true}
-use Rattle.std.proofs.lemmas.List.{drop-map, take-map, length-map, length-reverse, take_all, length-drop, map-append, reverse-append, take-append-drop}
+use Rattle.std.proofs.lemmas.List.{drop-map, take-map, length-map, length-reverse, length-drop, map-append, reverse-append, take-append-drop}
 use Rattle.std.proofs.Math.Seq.{take-append_seam, drop-append_seam}
 use Rattle.pq_tree.specs.Outline.{Outline, Forest, no_tree, tree_and}
 use Rattle.pq_tree.specs.Proper.{outline_of, forest}
 use Rattle.pq_tree.specs.declared.Tree.{Tree}
 use Rattle.pq_plain.specs.Templates.{join, back}
-use Rattle.pq_plain.specs.Labels.{Partial, Label, empty_label, full_label, partial_label, partials, Run, all_full, one_more, run_of, at_q, at_run, first_some, empty_trees, full_trees}
+use Rattle.pq_plain.specs.Labels.{Partial, Label, empty_label, full_label, partial_label, partials, Run, all_full, one_more, run_of, at_q, at_run, first_some}
 use Rattle.pq_plain.specs.Seen.{outlines, halves_seen, label_seen, empties, fulls, run_seen, q_label}
 use Rattle.pq_plain.specs.declared.label.Halves.{Halves}
 use Rattle.pq_plain.specs.declared.label.Label.{Label as Marked}
 use Rattle.pq_plain.specs.declared.label.Run.{Run as Places}
-use Rattle.pq_plain.proofs.Outlines.{forest_reverse, map_reverse}
-use Rattle.pq_plain.proofs.Runs.{to_end}
-use Rattle.pq_plain.proofs.Counted.{IsCounted, HasTree, count_none, count_some, no_partial, last_of_one}
+use Rattle.pq_plain.proofs.Outlines.{forest_reverse}
+use Rattle.pq_plain.proofs.Counted.{no_partial, last_of_one}
 use Rattle.pq_plain.proofs.Labelled.{and_then, cond_some, some_inj}
 
 -- a run has at most one partial

@@ -1,11 +1,11 @@
 -- One row of a matrix, reduced.
-use Rattle.std.proofs.Common.{◌≡◌, ◌∙◌, ◌+◌, ◌-◌, ◌<◌, ◌≤◌, ℕ, zero, suc, List, [], ◌∷◌, ◌++◌, Some, None, Result, Ok, Err, IfOk, OnErr, take, length, get_or, IsTrue, refl, sym, ap, subst, inl, inr, arith, eq-eqb}
+use Rattle.std.proofs.Common.{◌≡◌, ◌∙◌, ◌+◌, ◌-◌, ◌≤◌, ℕ, List, [], ◌∷◌, ◌++◌, Some, None, Result, Ok, Err, IfOk, OnErr, take, length, IsTrue, refl, sym, ap, subst, inl, inr, arith, eq-eqb}
 use Rattle.std.specs.Prelude.{slice_get}
 use Rattle.std.specs.List.{list_all}
 use Rattle.std.proofs.lemmas.Bool.{both_ways, cases_eq, and_from, cond-true, cond-false, ne_eqb}
 use Rattle.std.proofs.lemmas.List.{take_more}
 use Rattle.std.proofs.lemmas.Option.{get_or_from_slice_get}
-use Rattle.column_order.specs.Orders.{has, occurs, IsWithin, HasValidOrder}
+use Rattle.column_order.specs.Orders.{has, occurs, HasValidOrder}
 use Rattle.column_order.proofs.Lists.{has_head, has_tail}
 use Rattle.row_model.specs.Rows.{Ascends, IsRow}
 use Rattle.row_model.specs.Graph.{HasConflict}

@@ -1,12 +1,12 @@
 -- The root by the labels of its children.
-use Rattle.std.proofs.Common.{◌≡◌, ◌∙◌, ℕ, List, Option, Some, None, refl, sym, ap, ap₂, option_and_then, option_map}
+use Rattle.std.proofs.Common.{◌≡◌, ◌∙◌, ℕ, List, Option, Some, None, sym, ap, option_and_then, option_map}
 use Rattle.std.specs.declared.vec.Vec.{Vec}
 use Rattle.std.specs.declared.alloc.Global.{Global}
-use Rattle.pq_tree.specs.Outline.{Outline, leaf, p_node, q_node}
+use Rattle.pq_tree.specs.Outline.{leaf, p_node, q_node}
 use Rattle.pq_tree.specs.Proper.{outline_of}
 use Rattle.pq_tree.specs.declared.Tree.{Tree, Leaf, P, Q}
 use Rattle.pq_tree.proofs.Shown.{outline_of-Leaf, outline_of-P, outline_of-Q}
-use Rattle.pq_plain.specs.Labels.{Label, labels_of}
+use Rattle.pq_plain.specs.Labels.{labels_of}
 use Rattle.pq_plain.specs.Seen.{outlines, labels_seen}
 use Rattle.pq_plain.specs.AtRoot.{p_outcome, q_outcome, root_of, outcome_seen}
 use Rattle.pq_plain.specs.declared.label.Label.{Label as Marked}

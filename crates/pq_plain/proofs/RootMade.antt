@@ -1,12 +1,12 @@
 -- The templates at the root, by the counts of the root's labels.
-use Rattle.std.proofs.Common.{◌≡◌, ◌∙◌, ◌+◌, ◌-◌, ◌<◌, ◌≤◌, ℕ, zero, suc, List, [], ◌∷◌, ◌++◌, Option, Some, None, map, take, drop, length, refl, sym, ap, ap₂, subst, arith, option_and_then}
+use Rattle.std.proofs.Common.{◌≡◌, ◌∙◌, ◌-◌, ◌≤◌, ℕ, zero, suc, List, [], ◌∷◌, Some, None, map, take, drop, length, refl, sym, ap, ap₂, subst, arith, option_and_then}
 use Rattle.std.proofs.lemmas.List.{length-map, length-take, length-drop}
 use Rattle.pq_tree.specs.Outline.{Outline, Forest, p_node, q_node, no_tree, tree_and}
 use Rattle.pq_tree.specs.Proper.{outline_of, forest, count}
 use Rattle.pq_tree.specs.declared.Tree.{Tree}
 use Rattle.pq_plain.specs.Templates.{join, star, back, under, gather}
-use Rattle.pq_plain.specs.Labels.{Partial, Label, partials, empty_trees, full_trees}
-use Rattle.pq_plain.specs.Reduce.{Tail, Span, root_p, root_q, at_span, span_of}
+use Rattle.pq_plain.specs.Labels.{Partial, partials, empty_trees, full_trees}
+use Rattle.pq_plain.specs.Reduce.{Span, root_p, root_q, at_span, span_of}
 use Rattle.pq_plain.specs.Seen.{outlines, label_seen}
 use Rattle.pq_plain.specs.AtRoot.{p_outcome, q_outcome, line_of, turned_line_of, p_made, span_seen, PartialsAt, first_line, first_turned, q_made}
 use Rattle.pq_plain.specs.declared.label.Label.{Label as Marked}

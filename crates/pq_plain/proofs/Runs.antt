@@ -1,10 +1,10 @@
 -- Where labels read empty, at most one partial, full.
-use Rattle.std.proofs.Common.{◌≡◌, ◌≢◌, ◌∙◌, ◌+◌, ◌-◌, ◌<◌, ◌≤◌, ℕ, zero, suc, Bool, true, false, cond, List, [], ◌∷◌, ◌++◌, Option, Some, None, map, take, drop, length, IsTrue, IsFalse, refl, sym, ap, ap₂, arith, option_and_then}
+use Rattle.std.proofs.Common.{◌≡◌, ◌≢◌, ◌∙◌, ◌+◌, ◌-◌, ◌≤◌, ℕ, suc, List, [], ◌∷◌, Some, None, map, take, drop, length, IsTrue, IsFalse, refl, sym, ap, ap₂, arith, option_and_then}
 use Rattle.std.proofs.lemmas.Bool.{cond-true, cond-false}
 use Rattle.std.proofs.lemmas.List.{drop-map, length-map, length-drop, take_all}
-use Rattle.pq_tree.specs.Outline.{Outline, Forest, no_tree, tree_and}
+use Rattle.pq_tree.specs.Outline.{Outline, no_tree, tree_and}
 use Rattle.pq_tree.specs.Proper.{forest}
-use Rattle.pq_plain.specs.Labels.{Partial, Label, empty_label, full_label, partial_label, partials, Run, all_full, one_more, run_of}
+use Rattle.pq_plain.specs.Labels.{Label, empty_label, full_label, partial_label, partials, all_full, one_more, run_of}
 use Rattle.pq_plain.specs.Seen.{label_seen, empty_front, full_front, cut_front, run_seen}
 use Rattle.pq_plain.specs.declared.label.Label.{Label as Marked}
 use Rattle.pq_plain.specs.declared.label.Run.{Run as Places}

@@ -1,7 +1,7 @@
 -- The search for a row's root.
-use Rattle.std.proofs.Common.{◌≡◌, ◌≢◌, ◌∙◌, ◌+◌, ◌<◌, ◌≤◌, ℕ, zero, suc, Bool, true, false, cond, List, [], ◌∷◌, ◌++◌, Option, Some, None, Result, Ok, Err, OnErr, map, take, drop, set, length, get_or, IsTrue, IsFalse, refl, sym, ap, ap₂, subst, inl, inr, arith, option_and_then}
-use Rattle.std.proofs.lemmas.Bool.{both_ways, cases_Bool, cond-true, cond-false, and_from, and_parts}
-use Rattle.std.proofs.lemmas.List.{map_more, map-set, map-append, take-append-drop, drop_more, length-map, length-set, get_or-map, get_or-set_same, take-set, drop-set-lt, with_items_is, get_or-set_other, append-nil, take-map, take_all}
+use Rattle.std.proofs.Common.{◌≡◌, ◌∙◌, ◌+◌, ◌<◌, ◌≤◌, ℕ, List, [], ◌∷◌, ◌++◌, Option, Some, None, Result, Ok, Err, OnErr, map, take, drop, set, length, get_or, IsTrue, IsFalse, refl, sym, ap, ap₂, subst, inl, inr, arith, option_and_then}
+use Rattle.std.proofs.lemmas.Bool.{cases_Bool, cond-true, cond-false, and_from, and_parts}
+use Rattle.std.proofs.lemmas.List.{map_more, map-append, take-append-drop, drop_more, length-map, length-set, get_or-set_same, take-set, drop-set-lt, with_items_is, append-nil, take-map, take_all}
 use Rattle.std.proofs.Math.Seq.{map-set_same}
 use Rattle.std.specs.List.{list_all}
 use Rattle.std.specs.Vec.{with_items}

@@ -1,11 +1,11 @@
 -- Where labels read empty, at most one partial, full, at most one partial, empty.
-use Rattle.std.proofs.Common.{◌≡◌, ◌≢◌, ◌∙◌, ◌+◌, ◌-◌, ◌<◌, ◌≤◌, ℕ, zero, suc, Bool, true, false, cond, List, [], ◌∷◌, ◌++◌, Option, Some, None, map, take, drop, length, IsTrue, IsFalse, refl, sym, ap, ap₂, subst, arith, option_and_then}
+use Rattle.std.proofs.Common.{◌≡◌, ◌≢◌, ◌∙◌, ◌+◌, ◌-◌, ◌≤◌, ℕ, suc, List, [], ◌∷◌, Some, None, map, take, drop, length, IsTrue, IsFalse, refl, sym, ap, ap₂, subst, arith, option_and_then}
 use Rattle.std.proofs.lemmas.Bool.{cond-true, cond-false}
 use Rattle.std.proofs.lemmas.List.{drop-map, length-map, length-drop, drop-drop}
-use Rattle.pq_tree.specs.Outline.{Outline, Forest, no_tree, tree_and}
+use Rattle.pq_tree.specs.Outline.{Outline, no_tree, tree_and}
 use Rattle.pq_tree.specs.Proper.{forest}
-use Rattle.pq_plain.specs.Labels.{Partial, Label, empty_label, full_label, partial_label, partials}
-use Rattle.pq_plain.specs.Reduce.{Tail, Span, all_empty, full_more, before_more, tail_of, begins, span_of}
+use Rattle.pq_plain.specs.Labels.{Label, empty_label, full_label, partial_label, partials}
+use Rattle.pq_plain.specs.Reduce.{all_empty, full_more, before_more, tail_of, begins, span_of}
 use Rattle.pq_plain.specs.Seen.{label_seen, empty_front, full_front, cut_front}
 use Rattle.pq_plain.specs.AtRoot.{span_seen, PartialsAt}
 use Rattle.pq_plain.specs.declared.label.Label.{Label as Marked}

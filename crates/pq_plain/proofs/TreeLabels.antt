@@ -1,9 +1,9 @@
 -- The labels of the trees of a list, and of the nodes over them.
-use Rattle.std.proofs.Common.{◌≡◌, ◌∙◌, ◌+◌, ◌<◌, ◌≤◌, ℕ, List, [], ◌∷◌, ◌++◌, Option, Some, None, map, take, drop, length, get_or, refl, sym, ap, ap₂, arith, option_and_then, option_map}
-use Rattle.std.proofs.lemmas.List.{map_more, map-append, take-append-drop, drop_more, length-map, take_all}
+use Rattle.std.proofs.Common.{◌≡◌, ◌∙◌, ◌+◌, ◌<◌, ℕ, List, [], ◌∷◌, ◌++◌, Option, Some, None, map, take, drop, length, get_or, sym, ap, ap₂, arith, option_and_then, option_map}
+use Rattle.std.proofs.lemmas.List.{map_more, map-append, take-append-drop, drop_more, length-map}
 use Rattle.std.specs.declared.vec.Vec.{Vec}
 use Rattle.std.specs.declared.alloc.Global.{Global}
-use Rattle.pq_tree.specs.Outline.{Outline, Forest, p_node, q_node, no_tree, tree_and}
+use Rattle.pq_tree.specs.Outline.{Outline, no_tree}
 use Rattle.pq_tree.specs.Proper.{outline_of, forest}
 use Rattle.pq_tree.specs.declared.Tree.{Tree, P, Q}
 use Rattle.pq_tree.proofs.Shown.{outline_of-P, outline_of-Q}

@@ -1,5 +1,5 @@
 -- What the templates make of a row's root, as the program finds it.
-use Rattle.std.specs.Prelude.{◌≡◌, ℕ, ◌-◌, ◌≤◌, List, [], ◌∷◌, length, take, drop, map, Option, Some, None, option_and_then}
+use Rattle.std.specs.Prelude.{◌≡◌, ℕ, ◌-◌, ◌≤◌, List, [], ◌∷◌, length, take, drop, Option, Some, None, option_and_then}
 use Rattle.pq_tree.specs.Outline.{Outline, Forest, leaf, p_node, q_node, no_tree}
 use Rattle.pq_tree.specs.Proper.{outline_of, forest}
 use Rattle.pq_plain.specs.Templates.{join, star, back, under}

@@ -1,5 +1,5 @@
 -- The labels of the program as the templates speak of them.
-use Rattle.std.specs.Prelude.{ℕ, ◌+◌, ◌≡◌, List, [], ◌∷◌, map, take, drop, reverse, Option, Some, option_and_then}
+use Rattle.std.specs.Prelude.{ℕ, ◌+◌, List, [], ◌∷◌, map, take, drop, reverse, Option, option_and_then}
 use Rattle.std.proofs.Common.{suc}
 use Rattle.std.specs.declared.vec.Vec.{Vec}
 use Rattle.std.specs.declared.alloc.Global.{Global}

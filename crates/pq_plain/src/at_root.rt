@@ -48,11 +48,7 @@ pub fn reduce_root(alloc: Global, row: &[u32], root: &Tree) -> Result<Outcome, N
 }
 
 /// P1, P2, P4 and P6 at the root.
-fn root_p(
-    alloc: Global,
-    children: &[Tree],
-    labels: Vec<Label>,
-) -> Result<Outcome, NoMemory>
+fn root_p(alloc: Global, children: &[Tree], labels: Vec<Label>) -> Result<Outcome, NoMemory>
     requires { length labels.items ≡ length children.now }
     ensures { IfOk result (λ o. outcome_seen (p_node (outlines children.now)) o ≡ p_outcome (outlines children.now) (labels_seen labels)) }
 {
@@ -78,11 +74,7 @@ fn root_p(
 }
 
 /// P2, P4 or P6, by the number of partial children.
-fn replaced_p(
-    alloc: Global,
-    children: &[Tree],
-    labels: Vec<Label>,
-) -> Result<Tree, NoMemory>
+fn replaced_p(alloc: Global, children: &[Tree], labels: Vec<Label>) -> Result<Tree, NoMemory>
     requires length { length labels.items ≡ length children.now }
     requires few { length (partials (labels_seen labels)) ≤ 2 }
     ensures { IfOk result (λ t. outline_of t ≡ p_made (partials (labels_seen labels)) (empty_trees (outlines children.now) (labels_seen labels)) (full_trees (outlines children.now) (labels_seen labels))) }
@@ -109,11 +101,7 @@ fn replaced_p(
 }
 
 /// P2: empty children E and full children F become P over `P*(F)` and E.
-fn template_p2(
-    alloc: Global,
-    mut empty: Vec<Tree>,
-    full: Vec<Tree>,
-) -> Result<Tree, NoMemory>
+fn template_p2(alloc: Global, mut empty: Vec<Tree>, full: Vec<Tree>) -> Result<Tree, NoMemory>
     ensures { IfOk result (λ t. outline_of t ≡ p_node (join (star (outlines full.items)) (outlines empty.items))) }
 {
     let mut children = star_of(alloc, full)?;
@@ -220,11 +208,7 @@ fn find_span(labels: &[Label]) -> Option<Span>
 }
 
 /// Q1, Q2 and Q3 at the root.
-fn root_q(
-    alloc: Global,
-    children: &[Tree],
-    labels: Vec<Label>,
-) -> Result<Outcome, NoMemory>
+fn root_q(alloc: Global, children: &[Tree], labels: Vec<Label>) -> Result<Outcome, NoMemory>
     requires { length labels.items ≡ length children.now }
     ensures { IfOk result (λ o. outcome_seen (q_node (outlines children.now)) o ≡ q_outcome (outlines children.now) (labels_seen labels)) }
 {

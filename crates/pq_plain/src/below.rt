@@ -17,11 +17,7 @@ use std::alloc::Global;
 
 /// The label of a tree below the row's root, `None` where at some node no template fits.
 #[cycle(label)]
-pub fn label_tree(
-    alloc: Global,
-    row: &[u32],
-    tree: &Tree,
-) -> Result<Option<Label>, NoMemory>
+pub fn label_tree(alloc: Global, row: &[u32], tree: &Tree) -> Result<Option<Label>, NoMemory>
     requires { IsNonDecreasing row.now }
     ensures { IfOk result (λ r. option_map label_seen r ≡ label_of row.now (outline_of tree.now)) }
 {
@@ -95,8 +91,8 @@ fn template_p5(
     full: Vec<Tree>,
 ) -> Result<Halves, NoMemory>
     ensures { IfOk result (λ h. halves_seen h ≡ record {
-        e = join (star (outlines empty.items)) (halves_seen partial).e;
-        f = join (halves_seen partial).f (star (outlines full.items));
+      e = join (star (outlines empty.items)) (halves_seen partial).e;
+      f = join (halves_seen partial).f (star (outlines full.items));
     }) }
 {
     let mut all_empty = star_of(alloc, empty)?;
@@ -110,11 +106,7 @@ fn template_p5(
 }
 
 /// P1, P3 and P5, `None` where none fits.
-fn label_p(
-    alloc: Global,
-    children: &[Tree],
-    labels: Vec<Label>,
-) -> Result<Option<Label>, NoMemory>
+fn label_p(alloc: Global, children: &[Tree], labels: Vec<Label>) -> Result<Option<Label>, NoMemory>
     requires { length labels.items ≡ length children.now }
     ensures { IfOk result (λ r. option_map label_seen r ≡ p_label (outlines children.now) (labels_seen labels)) }
 {
@@ -151,8 +143,8 @@ fn template_q2(
     mut full: Vec<Tree>,
 ) -> Result<Halves, NoMemory>
     ensures { IfOk result (λ h. halves_seen h ≡ record {
-        e = join (outlines empty.items) (halves_seen partial).e;
-        f = join (halves_seen partial).f (outlines full.items);
+      e = join (outlines empty.items) (halves_seen partial).e;
+      f = join (halves_seen partial).f (outlines full.items);
     }) }
 {
     empty.append(&mut partial.empty)?;
@@ -186,11 +178,7 @@ fn label_run(
 }
 
 /// Q1 and Q2, `None` where neither fits.
-fn label_q(
-    alloc: Global,
-    children: &[Tree],
-    labels: Vec<Label>,
-) -> Result<Option<Label>, NoMemory>
+fn label_q(alloc: Global, children: &[Tree], labels: Vec<Label>) -> Result<Option<Label>, NoMemory>
     requires { length labels.items ≡ length children.now }
     ensures { IfOk result (λ r. option_map label_seen r ≡ q_label (outlines children.now) (labels_seen labels)) }
 {

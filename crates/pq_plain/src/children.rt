@@ -80,4 +80,3 @@ pub fn back_copied(alloc: Global, trees: &[Tree]) -> Result<Vec<Tree>, NoMemory>
     copies.reverse();
     Ok(copies)
 }
-

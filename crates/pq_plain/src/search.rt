@@ -78,11 +78,7 @@ fn reduce_below(alloc: Global, row: &[u32], tree: &mut Tree) -> Result<Found, No
 
 /// Searches the trees from left to right, up to the first that holds the whole row.
 #[cycle(search)]
-fn reduce_children(
-    alloc: Global,
-    row: &[u32],
-    children: &mut [Tree],
-) -> Result<Found, NoMemory>
+fn reduce_children(alloc: Global, row: &[u32], children: &mut [Tree]) -> Result<Found, NoMemory>
     requires ascending { IsNonDecreasing row.now }
     requires distinct { (a : ℕ) → occurs row.now a ≤ 1 }
     requires some { 0 < length row.now }

@@ -1,4 +1,4 @@
-use Rattle.std.proofs.Common.{◌≡◌, take, length}
+use Rattle.std.proofs.Common.{take}
 use Rattle.row_model.specs.Graph.{HasOddWalk}
 use Rattle.row_model.specs.Cycles.{IsOddWalk}
 use Rattle.row_model.proofs.CycleLaws.{closed_more}

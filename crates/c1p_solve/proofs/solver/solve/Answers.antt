@@ -1,4 +1,4 @@
-use Rattle.std.proofs.Common.{◌≡◌, ◌∙◌, ◌+◌, ◌-◌, ◌≤◌, take, arith, sym, ℕ, subst, ap}
+use Rattle.std.proofs.Common.{◌≡◌, ◌∙◌, ◌+◌, ◌-◌, ◌≤◌, take, arith, sym, ℕ, subst}
 use Rattle.std.proofs.lemmas.List.{take_all}
 use Rattle.pq_tree.specs.PqTree.{column_count}
 use Rattle.tied_law.specs.Tied.{IsTied}
@@ -35,9 +35,11 @@ pub returns-in-Ok-tree-clause-answer : goal.returns-in-Ok-tree-clause-answer
 returns-in-Ok-tree-clause-answer g c =
     let columns : column_count c.in-Ok-tree.tree ≡ c.args.m.now.columns = c.in-Ok-tree.ensures.columns ∙ c.loop-taken.invariant.columns in
     let whole : take c.loop-taken.taken c.args.m.now.rows ≡ c.args.m.now.rows = take_all c.loop-taken.taken c.args.m.now.rows (omega arith) in
-    let tied = subst (λ (n : ℕ). IsTied n c.args.m.now.rows (g.R.Reducer.outline c.loop-taken.reducer)) (sym c.loop-taken.invariant.columns) (rw whole at c.loop-taken.invariant.tied) in
-    (record {
-      columns = columns;
-      canonical = c.in-Ok-tree.ensures.canonical;
-      orders = tied_exact c.args.m.now.columns c.args.m.now.rows c.in-Ok-tree.tree columns (rw c.loop-taken.invariant.columns at (c.in-Ok-tree.ensures.tied c.args.m.now.rows tied));
-    }, rw whole at c.loop-taken.invariant.order)
+    let tied = subst (λ (n : ℕ). IsTied n c.args.m.now.rows (g.R.Reducer.outline c.loop-taken.reducer)) (sym c.loop-taken.invariant.columns) (rw whole at c.loop-taken.invariant.tied) in (
+      record {
+        columns = columns;
+        canonical = c.in-Ok-tree.ensures.canonical;
+        orders = tied_exact c.args.m.now.columns c.args.m.now.rows c.in-Ok-tree.tree columns (rw c.loop-taken.invariant.columns at (c.in-Ok-tree.ensures.tied c.args.m.now.rows tied));
+      },
+      rw whole at c.loop-taken.invariant.order,
+    )

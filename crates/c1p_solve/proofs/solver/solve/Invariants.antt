@@ -1,4 +1,4 @@
-use Rattle.std.proofs.Common.{◌≡◌, ◌≤◌, take}
+use Rattle.std.proofs.Common.{◌≡◌, take}
 use Rattle.column_order.specs.Orders.{HasValidOrder}
 use Rattle.tied_law.specs.Tied.{IsTied}
 use Rattle.c1p_solve.proofs.solver.solve.Given as goal

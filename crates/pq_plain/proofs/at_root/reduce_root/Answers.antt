@@ -1,6 +1,5 @@
-use Rattle.std.proofs.Common.{◌∙◌, sym, refl}
+use Rattle.std.proofs.Common.{◌∙◌, sym}
 use Rattle.std.proofs.lemmas.Result.{IfOk-weaker}
-use Rattle.pq_tree.proofs.Shown.{outline_of-Leaf}
 use Rattle.pq_plain.proofs.TreeLabels.{labels_length}
 use Rattle.pq_plain.proofs.RootLabels.{leaf_root, root_P_none, root_Q_none, root_P_some, root_Q_some}
 use Rattle.pq_plain.proofs.at_root.reduce_root.Goals as goal

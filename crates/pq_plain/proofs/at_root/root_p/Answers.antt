@@ -1,5 +1,5 @@
 use Rattle.pq_plain.proofs.Counted.{IsCounted, counted}
-use Rattle.pq_plain.proofs.RootMade.{p_unchanged, p_no_full, p_lone, p_many, p_two, p_four, p_six}
+use Rattle.pq_plain.proofs.RootMade.{p_unchanged, p_no_full, p_lone, p_two, p_four, p_six}
 use Rattle.pq_plain.proofs.at_root.root_p.Goals as goal
 
 pub returns-in-0-eq0-default : goal.returns-in-0-eq0-default

@@ -1,4 +1,4 @@
-use Rattle.pq_plain.proofs.Counted.{IsCounted, counted, p_all_full, p_all_empty, p_three, last_of_one, p_five, p_many}
+use Rattle.pq_plain.proofs.Counted.{IsCounted, counted, p_all_full, p_all_empty, p_three}
 use Rattle.pq_plain.proofs.below.label_p.Goals as goal
 
 pub returns-in-0-eq0-default : goal.returns-in-0-eq0-default

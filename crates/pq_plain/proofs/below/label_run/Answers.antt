@@ -1,6 +1,6 @@
-use Rattle.std.proofs.Common.{◌≡◌, ◌∙◌, [], map, length, rules, arith, refl}
+use Rattle.std.proofs.Common.{map, rules, arith}
 use Rattle.pq_plain.specs.Labels.{partials}
-use Rattle.pq_plain.specs.Seen.{halves_seen, label_seen}
+use Rattle.pq_plain.specs.Seen.{label_seen}
 use Rattle.pq_plain.proofs.QLabels.{no_halves, q_empty, q_plain, q_cut, last_of_few}
 use Rattle.pq_plain.proofs.below.label_run.Goals as goal
 

@@ -1,4 +1,4 @@
-use Rattle.std.proofs.Common.{◌≡◌, ◌∙◌, ◌≤◌, ◌+◌, ◌-◌, ap, arith, length, refl}
+use Rattle.std.proofs.Common.{◌≡◌, ◌≤◌, ◌+◌, ◌-◌, ap, arith, length, refl}
 use Rattle.std.proofs.lemmas.List.{length-reverse}
 use Rattle.pq_plain.proofs.Runs.{to_end}
 use Rattle.pq_plain.proofs.QLabels.{right_none, right_few, right_label}

@@ -1,4 +1,4 @@
-use Rattle.pq_plain.proofs.Copies.{copy_more, copy_all, copy_P, copy_Q}
+use Rattle.pq_plain.proofs.Copies.{copy_P, copy_Q}
 use Rattle.pq_plain.proofs.copy.+copy.Goals as goal
 
 pub copied-returns-in_ok-copies-in-P : goal.copied-returns-in_ok-copies-in-P

@@ -1,4 +1,4 @@
-use Rattle.std.proofs.Common.{◌≡◌, ◌∙◌, ◌≤◌, ◌+◌, length, rules, arith}
+use Rattle.std.proofs.Common.{◌∙◌, ◌≤◌, ◌+◌, length, rules, arith}
 use Rattle.std.proofs.lemmas.List.{length-set, get_or-set_other}
 use Rattle.std.proofs.lemmas.Result.{IfOk-weaker, on_err_weaker}
 use Rattle.pq_tree.specs.declared.Tree.TheViews.{the_lemmas}
@@ -6,9 +6,19 @@ use Rattle.pq_plain.proofs.Searched.{child_once, among_root, same_after, none_af
 use Rattle.pq_plain.proofs.search.+search.Goals as goal
 
 pub reduce_children-reduce_tree-requires : goal.reduce_children-reduce_tree-requires
-reduce_children-reduce_tree-requires t c =
-    (search (rules, the_lemmas), (c.requires.ascending, (c.requires.distinct, (c.requires.some,
-    child_once c.args.row.now c.args.children.now c.loop-i.children c.loop-i.i _ c.loop-i-test.true c.loop-i.invariant.same c.requires.once))))
+reduce_children-reduce_tree-requires t c = (
+  search (rules, the_lemmas),
+  (
+    c.requires.ascending,
+    (
+      c.requires.distinct,
+      (
+        c.requires.some,
+        child_once c.args.row.now c.args.children.now c.loop-i.children c.loop-i.i _ c.loop-i-test.true c.loop-i.invariant.same c.requires.once,
+      ),
+    ),
+  ),
+)
 
 pub reduce_children-returns-in_err-step-clause-err : goal.reduce_children-returns-in_err-step-clause-err
 reduce_children-returns-in_err-step-clause-err t c =
@@ -52,14 +62,34 @@ pub reduce_below-returns-in-Leaf-clause-found : goal.reduce_below-returns-in-Lea
 reduce_below-returns-in-Leaf-clause-found t c = leaf_found c.args.row.now _ _ _ _ c.replace.ensures.value c.in-Leaf.is c.count_leaf.ensures
 
 pub reduce_below-reduce_children-found-requires : goal.reduce_below-reduce_children-found-requires
-reduce_below-reduce_children-found-requires t c =
-    (search (rules, the_lemmas), (c.requires.ascending, (c.requires.distinct, (c.requires.some,
-    P_once _ _ _ _ c.replace.ensures.value c.deref_mut.ensures.value c.in-P.is c.requires.once))))
+reduce_below-reduce_children-found-requires t c = (
+  search (rules, the_lemmas),
+  (
+    c.requires.ascending,
+    (
+      c.requires.distinct,
+      (
+        c.requires.some,
+        P_once _ _ _ _ c.replace.ensures.value c.deref_mut.ensures.value c.in-P.is c.requires.once,
+      ),
+    ),
+  ),
+)
 
 pub reduce_below-reduce_children-found-requires-in-Q : goal.reduce_below-reduce_children-found-requires-in-Q
-reduce_below-reduce_children-found-requires-in-Q t c =
-    (search (rules, the_lemmas), (c.requires.ascending, (c.requires.distinct, (c.requires.some,
-    Q_once _ _ _ _ c.replace.ensures.value c.deref_mut-in-Q.ensures.value c.in-Q.is c.requires.once))))
+reduce_below-reduce_children-found-requires-in-Q t c = (
+  search (rules, the_lemmas),
+  (
+    c.requires.ascending,
+    (
+      c.requires.distinct,
+      (
+        c.requires.some,
+        Q_once _ _ _ _ c.replace.ensures.value c.deref_mut-in-Q.ensures.value c.in-Q.is c.requires.once,
+      ),
+    ),
+  ),
+)
 
 pub reduce_below-returns-in-P-clause-found : goal.reduce_below-returns-in-P-clause-found
 reduce_below-returns-in-P-clause-found t c =

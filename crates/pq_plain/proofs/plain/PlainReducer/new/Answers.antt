@@ -1,5 +1,4 @@
 use Rattle.std.proofs.Common.{[], ◌∙◌, sym, subst}
-use Rattle.pq_tree.specs.Proper.{universal}
 use Rattle.tied_law.specs.Tied.{IsTied}
 use Rattle.tied_law.proofs.Start.{universal_tied}
 use Rattle.pq_plain.proofs.plain.PlainReducer.new.Goals as goal

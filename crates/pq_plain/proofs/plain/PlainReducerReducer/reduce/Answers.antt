@@ -1,7 +1,6 @@
-use Rattle.std.proofs.Common.{◌≡◌, ◌≤◌, length, rules}
+use Rattle.std.proofs.Common.{◌≡◌, length, rules}
 use Rattle.row_model.proofs.PieceLemmas.{ascends_rises}
-use Rattle.pq_tree.specs.Proper.{outline_of}
-use Rattle.pq_plain.proofs.Reducing.{row_once, empty_taken, empty_order, tree_once, not_outside, root_tied, root_order, root_conflict, root_none, still_proper}
+use Rattle.pq_plain.proofs.Reducing.{row_once, empty_taken, empty_order, not_outside, root_tied, root_order, root_conflict, root_none, still_proper}
 use Rattle.pq_plain.proofs.plain.PlainReducerReducer.reduce.Goals as goal
 
 pub returns-then-is_empty-clause-taken : goal.returns-then-is_empty-clause-taken
