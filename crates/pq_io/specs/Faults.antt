@@ -1,9 +1,9 @@
 -- Faults of reading and writing, and the counts that tell of them.
-use Rattle.std.specs.Prelude.{ℕ, ◌+◌, ◌-◌, ◌^◌, ◌<◌, ◌≤◌, min, Result, Ok, Err, OnErr}
+use Rattle.std.specs.Prelude.{◌≢◌, ℕ, ◌+◌, ◌-◌, ◌^◌, ◌<◌, ◌≤◌, min, Result, Ok, Err, OnErr}
 
--- the count rose, unless it stood at its last value already
+-- the count rose, unless it stood at its last value
 abbrev pub Rose : ℕ → ℕ → Type 0
-Rose before now = before < 2 ^ 64 - 1 → before < now
+Rose before now = before ≢ 2 ^ 64 - 1 → before < now
 
 -- the count never falls, and an error comes only where it rose
 pub record HasCause {T E : Type 0} (before now : ℕ) (result : Result T E) : Type 0 where

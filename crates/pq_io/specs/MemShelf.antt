@@ -14,6 +14,7 @@ left_at files place = drop place.read (bytes_at files place.file)
 abbrev pub IsPlace : List MemFile → Place → Type 0
 IsPlace files place = (place.file < length files) × (place.read ≤ length (bytes_at files place.file))
 
+-- what the shelf holds, as contracts see it
 abbrev pub held : Inside → Held
 held shelf = record {
   files = named_files shelf.files.items;
@@ -22,5 +23,6 @@ held shelf = record {
   faults = shelf.faults;
 }
 
+-- a chosen place is one of a file of the shelf
 abbrev pub IsInRange : Inside → Type 0
 IsInRange shelf = IfSome shelf.chosen (IsPlace shelf.files.items)

@@ -7,15 +7,15 @@ use Rattle.pq_io.specs.declared.reading.Whole.TheVariants as whole
 use Rattle.pq_io.specs.declared.error.ReadFail.{ReadFail}
 use Rattle.pq_io.specs.declared.error.ReadFail.TheVariants as fail
 
--- what was read of a file of these bytes: all of them, or that they are more than the limit
+-- what was read, where these bytes were left of the chosen file: all of them, or that they are more than the limit
 abbrev pub IsWhole : ℕ → List ℕ → Whole → Type 0
 IsWhole limit bytes (whole.Bytes read) = (read.items ≡ bytes) × (length bytes ≤ limit)
 IsWhole limit bytes whole.TooLong = limit < length bytes
 
 -- no more bytes than the limit are given
-abbrev pub IsWithin : ℕ → Whole → Type 0
-IsWithin limit (whole.Bytes read) = vec_len read ≤ limit
-IsWithin limit whole.TooLong = ⊤
+abbrev pub IsAtMost : ℕ → Whole → Type 0
+IsAtMost limit (whole.Bytes read) = vec_len read ≤ limit
+IsAtMost limit whole.TooLong = ⊤
 
 -- where all bytes are given, none is left
 abbrev pub LeavesNone : Option (List ℕ) → Whole → Type 0

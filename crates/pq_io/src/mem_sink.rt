@@ -70,7 +70,8 @@ impl Sink for MemSink {
 
     ghost faults = { λ sink. sink.faults };
 
-    /// Takes as many bytes as there is room for. It fails exactly where no room is left.
+    /// Takes as many bytes as there is room for. It fails exactly where no room is left, and then
+    /// only the count changes.
     fn write(&mut self, piece: &[u8]) -> Result<usize, Failed>
         requires { 0 < length piece.now }
         ensures bound { IfOk result (TakesSome piece.now) }
@@ -80,6 +81,7 @@ impl Sink for MemSink {
         ensures fails { is_err result ≡ (self.old.room == 0) }
         ensures taken { IfOk result (λ n. n ≡ min (length piece.now) self.old.room) }
         ensures room { IfOk result (λ n. self.new.room ≡ self.old.room - n) }
+        ensures kept { OnErr result (self.new ≡ record self.old { faults = self.new.faults }) }
         ensures count { self.new.faults ≡ count_after self.old.faults result }
     {
         let n = piece.len().min(self.room);

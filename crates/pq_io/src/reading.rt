@@ -1,7 +1,7 @@
 // A file as a whole.
 ghost use Rattle.std.specs.Prelude.{◌≡◌, ◌≤◌, ◌+◌, ◌^◌, ℕ, List, take, drop, vec_len, IfOk, IfSome, IsTrue};
 ghost use Rattle.std.specs.Io.KnownBytes.{Consumes, IsAtEnd};
-ghost use Rattle.pq_io.specs.Whole.{IsWhole, IsWithin, LeavesNone, HasReadCause};
+ghost use Rattle.pq_io.specs.Whole.{IsWhole, IsAtMost, LeavesNone, HasReadCause};
 
 use crate::{ReadFail, Shelf};
 use std::alloc::Global;
@@ -27,7 +27,7 @@ pub fn read_all<F: Shelf>(alloc: Global, shelf: &mut F, limit: u64) -> Result<Wh
     requires limit { limit ≤ 2 ^ 32 }
     requires chosen { IsTrue (F.has_chosen shelf.old) }
     ensures whole { IfOk result (λ whole. IfSome (F.left shelf.old) (λ bytes. IsWhole limit bytes whole)) }
-    ensures within { IfOk result (IsWithin limit) }
+    ensures within { IfOk result (IsAtMost limit) }
     ensures end { IfOk result (LeavesNone (F.left shelf.new)) }
     ensures cause { HasReadCause (F.faults shelf.old) (F.faults shelf.new) result }
     ensures chosen { IsTrue (F.has_chosen shelf.new) }

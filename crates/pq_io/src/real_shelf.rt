@@ -1,10 +1,13 @@
 // The files of the system.
-ghost use Rattle.std.specs.Prelude.{◌≡◌, [], None, false};
+ghost use Rattle.std.specs.Prelude.{◌≡◌, [], None, false, length, IsTrue, OnOk, OnErr, ◌<◌};
+ghost use Rattle.std.specs.Io.{ReadsAtMost};
+ghost use Rattle.pq_io.specs.Faults.{HasCause, count_after};
+ghost use Rattle.pq_io.specs.Shelf.{Asks, HasChoiceCause, count_after_choice};
 
 use crate::{ChooseError, Failed, Shelf};
 use std::alloc::Global;
 use std::fs;
-use std::io::Read;
+use std::io::{ErrorKind, Read};
 use std::marker::Model;
 use std::rt::Files;
 
@@ -34,9 +37,9 @@ impl<R: Files + Input> Model for RealShelf<R> {
 
     ghost Value = { Asked };
 
-    ghost use Rattle.pq_io.specs.Chosen.{is_file};
+    ghost use Rattle.pq_io.specs.Chosen.{is_chosen};
 
-    ghost view = { λ shelf. record { asked = map string_bytes shelf.asked.items; has_chosen = is_file shelf.chosen; faults = shelf.faults } };
+    ghost view = { λ shelf. record { asked = map string_bytes shelf.asked.items; has_chosen = is_chosen shelf.chosen; faults = shelf.faults } };
 }
 
 impl<R: Files + Input> RealShelf<R> {
@@ -65,14 +68,30 @@ impl<R: Files + Input + Drop> Shelf for RealShelf<R> {
 
     ghost has_chosen = { λ shelf. shelf.has_chosen };
 
-    fn choose(&mut self, _alloc: Global, name: &str) -> Result<(), ChooseError> {
+    /// The count rises by one at each failure. Where the opening lacks memory, the answer is `NoMemory`.
+    fn choose(&mut self, _alloc: Global, name: &str) -> Result<(), ChooseError>
+        ensures chosen { OnOk result (IsTrue self.new.has_chosen) }
+        ensures none_chosen { OnErr result (self.new.has_chosen ≡ false) }
+        ensures asked { Asks self.old.asked self.new.asked name.now result }
+        ensures cause { HasChoiceCause self.old.faults self.new.faults result }
+
+        ensures count { self.new.faults ≡ count_after_choice self.old.faults result }
+    {
         self.chosen = Chosen::Nothing;
-        self.asked.push(String::from_str(self.alloc, name)?)?;
+        let asked = String::from_str(self.alloc, name)?;
         if name == "-" {
+            self.asked.push(asked)?;
             self.chosen = Chosen::Input(self.runtime.reader());
             return Ok(());
         }
-        match fs::open(&self.runtime, name) {
+        let opened = match fs::open(&self.runtime, name) {
+            Err(error) if error.kind() == ErrorKind::OutOfMemory => return Err(
+                ChooseError::NoMemory,
+            ),
+            opened => opened,
+        };
+        self.asked.push(asked)?;
+        match opened {
             Ok(file) => {
                 self.chosen = Chosen::File(file);
                 Ok(())
@@ -84,7 +103,17 @@ impl<R: Files + Input + Drop> Shelf for RealShelf<R> {
         }
     }
 
-    fn read(&mut self, buf: &mut [u8]) -> Result<usize, Failed> {
+    /// The count rises by one at each failure.
+    fn read(&mut self, buf: &mut [u8]) -> Result<usize, Failed>
+        requires room { 0 < length buf.old }
+        requires chosen { IsTrue self.old.has_chosen }
+        ensures bound { ReadsAtMost result buf.new }
+        ensures cause { HasCause self.old.faults self.new.faults result }
+        ensures chosen { IsTrue self.new.has_chosen }
+        ensures asked { self.new.asked ≡ self.old.asked }
+
+        ensures count { self.new.faults ≡ count_after self.old.faults result }
+    {
         let outcome = match &mut self.chosen {
             Chosen::Nothing => unreachable!(),
             Chosen::Input(reader) => reader.read(buf),
