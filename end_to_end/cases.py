@@ -16,11 +16,6 @@ def yes(columns, tree, order):
             f"tree {tree}\norder {order}\nend\n").encode()
 
 
-def no(columns):
-    """The verdict on a matrix that has none."""
-    return f"pq-verdict 1\nkind matrix\ncolumns {columns}\nanswer no\nend\n".encode()
-
-
 def answers(name, content, status, out):
     return case(name, ["solve", "matrix", "file"], status, out, files={"file": content})
 
@@ -32,6 +27,16 @@ def refused(name, content, code, line):
 
 def outside(name, words):
     return case(name, words, 2, err=b"pq: words\n")
+
+
+def nested_rows(columns):
+    """The rows 1 to 2, 1 to 3 and so on, up to 1 to columns - 1."""
+    return b"".join(b"1" * last + b"0" * (columns - last) + b"\n" for last in range(2, columns))
+
+
+def nested_tree(columns):
+    """The tree of nested rows, a P-node of two children at each level."""
+    return "(" * (columns - 1) + "1 2)" + "".join(f" {column})" for column in range(3, columns + 1))
 
 
 def count(last):
@@ -61,8 +66,6 @@ ANSWERS = [
     answers("two rows that overlap", b"110\n011\n", 0, yes(3, "[1 2 3]", "1 2 3")),
     answers("the middle column comes first", b"101\n110\n", 0, yes(3, "[2 1 3]", "2 1 3")),
     answers("a chain beside a column", b"11000\n00110\n01100\n", 0, yes(5, "([1 2 3 4] 5)", "1 2 3 4 5")),
-    answers("three columns of which each two shall meet", b"110\n011\n101\n", 1, no(3)),
-    answers("three pairs and a row across", b"110000\n001100\n000011\n010101\n", 1, no(6)),
     answers("blanks and tabs between the digits", b" 1\t1 0 \n0 1 1\n", 0, yes(3, "[1 2 3]", "1 2 3")),
     answers("lines that end with CR LF", b"110\r\n011\r\n", 0, yes(3, "[1 2 3]", "1 2 3")),
     answers("no LF at the end", b"110\n011", 0, yes(3, "[1 2 3]", "1 2 3")),
@@ -70,6 +73,7 @@ ANSWERS = [
     answers("a byte order mark", b"\xef\xbb\xbf110\n011\n", 0, yes(3, "[1 2 3]", "1 2 3")),
     answers("blank lines", b"\n\n110\n \t\n011\n\n", 0, yes(3, "[1 2 3]", "1 2 3")),
     answers("1,024 columns", b"0" * 1024 + b"\n", 0, yes(1024, f"({count(1024)})", count(1024))),
+    answers("a tree nested 1,023 deep", nested_rows(1024), 0, yes(1024, nested_tree(1024), count(1024))),
     answers("65,536 rows", b"1\n" * 65_536, 0, yes(1, "1", "1")),
     answers("a file of the greatest length", b"1\n" + b" " * (LIMIT - 2), 0, yes(1, "1", "1")),
     case("standard input", ["solve", "matrix", "-"], 0, yes(3, "[2 1 3]", "2 1 3"), input=b"101\n110\n"),
@@ -105,6 +109,14 @@ FILES = [
     case("a directory", ["solve", "matrix", "folder"], 4, err=b"pq: read fault\n", folders=["folder"]),
     case("a file without leave to read", ["solve", "matrix", "file"], 4, err=b"pq: read fault\n",
          files={"file": b"11\n"}, unreadable=["file"]),
+]
+
+# Matrices with no valid order: the number of columns, and the rows. Which odd cycle is printed is free.
+REFUTED = [
+    ("three columns of which each two shall meet", 3, [{1, 2}, {2, 3}, {1, 3}]),
+    ("three pairs and a row across", 6, [{1, 2}, {3, 4}, {5, 6}, {2, 4, 6}]),
+    ("four columns round a circle", 4, [{1, 2}, {2, 3}, {3, 4}, {1, 4}]),
+    ("a row across two nested ones", 5, [{1, 2, 3}, {1, 2}, {2, 3}, {1, 3, 4}, {5}]),
 ]
 
 CASES = WORDS + ANSWERS + REFUSED + FILES

@@ -1,5 +1,6 @@
 #!/usr/bin/env python3
-"""Runs the built program over real files, streams and devices, and compares bytes and status.
+"""Runs the built program over real files, streams and devices, and compares bytes and status; then runs it over every small
+matrix, and compares the answer with a plain program that tries all orders.
 
 Usage: end_to_end/check.py            after `rt ci` or `./pq`, which leave the program in crates/pq/out/pq
 The last line is `N passed, N failed`; the status is 0 where nothing failed.
@@ -11,12 +12,14 @@ import subprocess
 import sys
 import tempfile
 
-from cases import CASES
+from all_orders import matrices, problem as wrong_answer
+from cases import CASES, REFUTED
 
 HOME = os.path.dirname(os.path.dirname(os.path.abspath(__file__)))
 PROGRAM = os.path.join(HOME, "crates", "pq", "out", "pq")
 NOBODY = 65534
 SECONDS = 60
+MOST_COLUMNS = 4
 
 
 class Report:
@@ -131,6 +134,11 @@ def main():
             except subprocess.TimeoutExpired:
                 problem = f"no end within {SECONDS} seconds"
             report.tell(name, problem)
+    for name, columns, rows in REFUTED:
+        report.tell(name, wrong_answer(columns, rows))
+    for columns in range(1, MOST_COLUMNS + 1):
+        for rows in matrices(columns):
+            report.tell(f"all orders of {columns} columns, rows {[sorted(row) for row in rows]}", wrong_answer(columns, rows))
     print(f"{report.passed} passed, {report.failed} failed")
     return 1 if report.failed else 0
 

@@ -58,18 +58,18 @@ last_of_few rest all h hs e q n =
     last_of_one rest all h hs e q (omega (arith, n, ap length q, length-map all halves_seen, ap length e, length-append rest (h ∷ [])))
 
 -- all full, or all empty
-labels_are_full : (ps : List Label) → empties ps ≡ 0 → partials ps ≡ [] → IsTrue (all_full ps)
-labels_are_full [] e h = refl
-labels_are_full (empty_label ∷ ps) e h = absurd (omega arith)
-labels_are_full (full_label ∷ ps) e h = labels_are_full ps e h
-labels_are_full (partial_label g ∷ ps) e h = cc
+fulls_only : (ps : List Label) → empties ps ≡ 0 → partials ps ≡ [] → IsTrue (all_full ps)
+fulls_only [] e h = refl
+fulls_only (empty_label ∷ ps) e h = absurd (omega arith)
+fulls_only (full_label ∷ ps) e h = fulls_only ps e h
+fulls_only (partial_label g ∷ ps) e h = cc
 
 full_run : (xs : List Outline) (ps : List Label) → length ps ≡ length xs → empties ps ≡ 0 → partials ps ≡ [] → option_and_then at_run (run_of (forest xs) ps) ≡ Some full_label
 full_run [] ps n e h = refl
 full_run (x ∷ xs) [] n e h = absurd (omega arith)
 full_run (x ∷ xs) (empty_label ∷ ps) n e h = absurd (omega arith)
 full_run (x ∷ xs) (full_label ∷ ps) n e h =
-    ap (option_and_then at_run) (cond-true (all_full ps) (Some (record { before = no_tree; middle = []; behind = tree_and x (forest xs) })) None (labels_are_full ps e h))
+    ap (option_and_then at_run) (cond-true (all_full ps) (Some (record { before = no_tree; middle = []; behind = tree_and x (forest xs) })) None (fulls_only ps e h))
 full_run (x ∷ xs) (partial_label g ∷ ps) n e h = cc
 
 empty_run : (xs : List Outline) (ps : List Label) → length ps ≡ length xs → fulls ps ≡ 0 → partials ps ≡ [] → run_of (forest xs) ps ≡ Some (record { before = forest xs; middle = []; behind = no_tree })

@@ -1,12 +1,13 @@
 // What a reducer promises, however it keeps its tree.
 ghost use Rattle.std.specs.Prelude.{◌≡◌, ◌-◌, ◌≤◌, ℕ, List, length, take, IfOk, OnErr};
-ghost use Rattle.column_order.specs.Orders.{IsValidOrder};
-ghost use Rattle.pq_tree.specs.Outline.{Outline};
-ghost use Rattle.pq_tree.specs.Proper.{outline_of, IsProper};
-ghost use Rattle.pq_tree.specs.Canonical.{IsCanonical};
-ghost use Rattle.pq_tree.specs.Equivalent.{IsEquivalent};
-ghost use Rattle.tied_law.specs.Tied.{IsTied};
+ghost use Rattle.column_order.specs.Orders.{HasValidOrder};
 ghost use Rattle.row_model.specs.Graph.{HasConflict};
+ghost use Rattle.pq_tree.specs.Outline.{Outline};
+ghost use Rattle.pq_tree.specs.Proper.{IsProper};
+ghost use Rattle.pq_tree.specs.PqTree.{column_count, outline as tree_of};
+ghost use Rattle.pq_tree.specs.Equivalent.{IsEquivalent};
+ghost use Rattle.pq_tree.specs.Canonical.{IsCanonical};
+ghost use Rattle.tied_law.specs.Tied.{IsTied};
 
 use pq_tree::PqTree;
 use row_model::{Matrix, NoMemory};
@@ -16,9 +17,9 @@ use step_count::{Ledger, Steps};
 /// What became of a row.
 #[derive(Clone, Copy, Debug, PartialEq, Eq)]
 pub enum Step {
-    /// The tree now stands for the orders that keep this row too.
+    /// The tree now stands for the valid orders of the rows with this one.
     Taken,
-    /// No order keeps this row and the rows before it. The tree is as it was.
+    /// The rows with this one have no valid order. The tree is as it was.
     Refused,
 }
 
@@ -27,17 +28,18 @@ pub trait Reducer {
     /// The tree.
     ghost outline: { Self → Outline };
 
-    /// The number of its columns.
+    /// The number of its columns, which are 1 to this number.
     ghost columns: { Self → ℕ };
 
     /// Reduces the tree by row `k` of `m`, after the rows before it. Row numbers begin at 1.
     ///
-    /// After `Taken` the tree is tied to the rows 1 to `k`. `Refused` comes exactly where these rows have no valid
-    /// order; then an even walk of their incompatibility graph leads from some pair to the same pair turned round.
+    /// After `Taken` the tree is tied to the rows 1 to `k`: its frontiers are exactly their valid orders. `Refused` comes
+    /// exactly where these rows have no valid order; then a walk of even length in their incompatibility graph leads from
+    /// some pair of columns to the same pair with its columns exchanged.
     ///
     /// # Errors
     ///
-    /// `NoMemory`, and then as after `Refused` the tree is unchanged.
+    /// `NoMemory`. The tree is then unchanged, as it is after `Refused`.
     fn reduce<L: Ledger>(
         &mut self,
         m: &Matrix,
@@ -48,22 +50,22 @@ pub trait Reducer {
         requires columns { columns self.old ≡ m.now.columns }
         requires tied { IsTied m.now.columns (take (k - 1) m.now.rows) (outline self.old) }
         ensures taken { IfOk result (λ step. step ≡ Step.Taken → IsTied m.now.columns (take k m.now.rows) (outline self.new)) }
-        ensures order { IfOk result (λ step. step ≡ Step.Taken → (o : List ℕ) × IsValidOrder m.now.columns (take k m.now.rows) o) }
-        ensures refused { IfOk result (λ step. step ≡ Step.Refused → (o : List ℕ) → IsValidOrder m.now.columns (take k m.now.rows) o → ⊥) }
-        ensures pair { IfOk result (λ step. step ≡ Step.Refused → HasConflict m.now.columns (take k m.now.rows)) }
+        ensures order { IfOk result (λ step. step ≡ Step.Taken → HasValidOrder m.now.columns (take k m.now.rows)) }
+        ensures refused { IfOk result (λ step. step ≡ Step.Refused → HasValidOrder m.now.columns (take k m.now.rows) → ⊥) }
+        ensures conflict { IfOk result (λ step. step ≡ Step.Refused → HasConflict m.now.columns (take k m.now.rows)) }
         ensures unchanged { IfOk result (λ step. step ≡ Step.Refused → outline self.new ≡ outline self.old) }
         ensures err { OnErr result (outline self.new ≡ outline self.old) }
-        ensures proper { IsProper m.now.columns (outline self.new) }
+        ensures proper { IsProper (columns self.new) (outline self.new) }
         ensures columns { columns self.new ≡ columns self.old };
 
-    /// The canonical tree with the same frontiers.
+    /// The canonical tree with the same frontiers. It is tied to the rows to which the reducer's tree is tied.
     ///
     /// # Errors
     ///
     /// `NoMemory`.
     fn tree(&self, alloc: Global) -> Result<PqTree, NoMemory>
-        ensures columns { IfOk result (λ t. t.columns ≡ columns self.now) }
-        ensures equivalent { IfOk result (λ t. IsEquivalent (outline self.now) (outline_of t.tree)) }
-        ensures canonical { IfOk result (λ t. IsCanonical (outline_of t.tree)) }
-        ensures tied { IfOk result (λ t. (rows : List (List ℕ)) → IsTied t.columns rows (outline self.now) → IsTied t.columns rows (outline_of t.tree)) };
+        ensures columns { IfOk result (λ t. column_count t ≡ columns self.now) }
+        ensures equivalent { IfOk result (λ t. IsEquivalent (outline self.now) (tree_of t)) }
+        ensures canonical { IfOk result (λ t. IsCanonical (tree_of t)) }
+        ensures tied { IfOk result (λ t. (rows : List (List ℕ)) → IsTied (columns self.now) rows (outline self.now) → IsTied (columns self.now) rows (tree_of t)) };
 }

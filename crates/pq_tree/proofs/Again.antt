@@ -1,19 +1,17 @@
 -- The text of a tree over 1 to c is read as that tree.
-use Rattle.std.proofs.Common.{◌≡◌, ◌∙◌, ◌+◌, ◌-◌, ◌*◌, ◌/◌, ◌%◌, ◌^◌, ◌<◌, ◌≤◌, ℕ, zero, suc, Bool, true, false, not, cond, ◌&&◌, ◌||◌, eqb, leb, ltb, List, [], ◌∷◌, ◌++◌, length, Option, Some, None, refl, sym, ap, arith, inl, inr, ◌⊎◌, eq-eqb, subst}
+use Rattle.std.proofs.Common.{◌≡◌, ◌∙◌, ◌+◌, ◌-◌, ◌*◌, ◌/◌, ◌%◌, ◌^◌, ◌<◌, ◌≤◌, ℕ, zero, suc, Bool, true, false, cond, ◌&&◌, eqb, leb, List, [], ◌∷◌, ◌++◌, length, Some, refl, sym, ap, arith, inl, inr, eq-eqb, subst}
 use Rattle.std.specs.Prelude.{option_and_then}
-use Rattle.std.proofs.lemmas.Bool.{le-leb, leb-true, lt-ltb, le-ltb, cases_eq, cases_lt, cases_Bool, ne_eqb, both_ways, cond-true, cond-false, and_from}
+use Rattle.std.proofs.lemmas.Bool.{le-leb, lt-ltb, cases_eq, cases_lt, ne_eqb, and_from}
 use Rattle.std.proofs.lemmas.List.{append_assoc, append-nil, length-append}
 use Rattle.std.proofs.lemmas.Fmt.{decimal_by_steps}
-use Rattle.std.specs.Char.{is_ascii_digit}
 use Rattle.std.specs.Fmt.{decimal}
 use Rattle.plain_text.proofs.Digits.{digit_is}
 use Rattle.column_order.specs.Orders.{has, occurs, IsOrder}
-use Rattle.column_order.proofs.Lists.{occurs-append, has-occurs, occurs_from_has, has_from_occurs, lacks_from_occurs}
+use Rattle.column_order.proofs.Lists.{occurs-append, has_from_occurs, lacks_from_occurs}
 use Rattle.pq_tree.specs.Outline.{Outline, Forest, leaf, p_node, q_node, no_tree, tree_and, leaves, leaves_of}
 use Rattle.pq_tree.specs.Proper.{forest, trees, count, HasArities, HaveArities, IsProper}
 use Rattle.pq_tree.specs.Text.{tree_text, forest_text, spaced_text}
-use Rattle.pq_tree.specs.Reading.{State, Begun, used, begun_leaves, settled, settled_at, digit_at, opened_at, spaced_after, closed, closed_in, node_of, least_count, same_shape, step, covers, only, finished, run, start, tree_of}
-use Rattle.pq_tree.specs.declared.parse.Last.{Last}
+use Rattle.pq_tree.specs.Reading.{State, Begun, used, begun_leaves, settled, digit_at, spaced_after, closed, node_of, least_count, same_shape, step, covers, finished, run, start, tree_of}
 use Rattle.pq_tree.specs.declared.parse.Last.TheVariants.{Nothing, Number, Child}
 use Rattle.pq_tree.proofs.Shown.{leaves_of-append}
 use Rattle.pq_tree.proofs.Runs.{run_on}

@@ -1,7 +1,7 @@
 -- What the reading gives has the text that was read.
-use Rattle.std.proofs.Common.{◌≡◌, ◌∙◌, ◌+◌, ◌-◌, ◌*◌, ◌^◌, ◌<◌, ◌≤◌, ℕ, zero, suc, Bool, true, false, not, cond, ◌&&◌, ◌||◌, eqb, leb, ltb, List, [], ◌∷◌, ◌++◌, length, Option, Some, None, refl, sym, ap, arith, inl, inr, ◌⊎◌, eq-eqb, subst}
+use Rattle.std.proofs.Common.{◌≡◌, ◌∙◌, ◌+◌, ◌-◌, ◌*◌, ◌^◌, ◌<◌, ◌≤◌, ℕ, zero, suc, Bool, true, false, cond, ◌&&◌, eqb, leb, ltb, List, [], ◌∷◌, ◌++◌, length, Option, Some, refl, sym, ap, arith, inl, inr, ◌⊎◌, eq-eqb, subst}
 use Rattle.std.specs.Prelude.{option_and_then}
-use Rattle.std.proofs.lemmas.Bool.{le-leb, leb-true, ltb-true, ltb-false, cases_eq, cases_lt, ne_eqb, eqb-true, both_ways, cond-true, cond-false, lt-leb, and_left, and_right, and_from}
+use Rattle.std.proofs.lemmas.Bool.{le-leb, leb-true, ltb-false, cases_eq, cases_lt, ne_eqb, eqb-true, cond-true, cond-false, lt-leb, and_left, and_right, and_from}
 use Rattle.std.proofs.lemmas.Option.{none-some, same_Some, option_and_then_some, cond_some}
 use Rattle.std.proofs.lemmas.List.{append_assoc, append-nil, length-append}
 use Rattle.std.specs.Char.{is_ascii_digit}
@@ -10,10 +10,10 @@ use Rattle.plain_text.proofs.Digits.{and_first, and_second, digit_within, decima
 use Rattle.plain_text.proofs.NumberLaws.{chosen}
 use Rattle.column_order.specs.Orders.{has, occurs, IsOrder}
 use Rattle.column_order.proofs.Lists.{occurs-append, has-occurs, occurs_from_has}
-use Rattle.pq_tree.specs.Outline.{Outline, Forest, leaf, p_node, q_node, leaves, leaves_of}
+use Rattle.pq_tree.specs.Outline.{Outline, leaf, leaves, leaves_of}
 use Rattle.pq_tree.specs.Proper.{forest, count, HasArities, HaveArities, IsProper}
 use Rattle.pq_tree.specs.Text.{tree_text, forest_text, spaced_text}
-use Rattle.pq_tree.specs.Reading.{State, Begun, used, begun_leaves, settled, settled_at, digit_at, opened_at, spaced_after, closed, closed_in, node_of, least_count, same_shape, step, covers, only, finished, run, start, tree_of}
+use Rattle.pq_tree.specs.Reading.{State, Begun, used, begun_leaves, settled, settled_at, digit_at, opened_at, spaced_after, closed, closed_in, node_of, least_count, same_shape, step, covers, finished, run, start, tree_of}
 use Rattle.pq_tree.specs.declared.parse.Last.{Last}
 use Rattle.pq_tree.specs.declared.parse.Last.TheVariants.{Nothing, Number, Child}
 use Rattle.pq_tree.proofs.Shown.{leaves_of-append}

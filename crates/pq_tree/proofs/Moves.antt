@@ -1,16 +1,15 @@
 -- The steps of the parser.
-use Rattle.std.proofs.Common.{◌≡◌, ◌≢◌, ◌∙◌, ◌+◌, ◌<◌, ◌≤◌, ℕ, zero, suc, Bool, true, false, not, ◌||◌, ◌&&◌, eqb, List, [], ◌∷◌, ◌++◌, length, map, reverse, get_or, set, Option, Some, None, refl, sym, ap, inl, inr, arith, add-one, get_or-set_same, get_or-set_other, eq-eqb, if◌then◌else◌, option_to_list}
+use Rattle.std.proofs.Common.{◌≡◌, ◌≢◌, ◌∙◌, ◌+◌, ◌<◌, ◌≤◌, ℕ, zero, suc, Bool, true, false, not, ◌||◌, ◌&&◌, eqb, List, [], ◌∷◌, ◌++◌, length, map, reverse, get_or, set, Some, refl, sym, ap, inl, inr, arith, get_or-set_same, get_or-set_other, eq-eqb}
 use Rattle.std.proofs.lemmas.Bool.{cases_eq, ne_eqb, le-leb, and_right}
 use Rattle.std.proofs.lemmas.List.{map-append, append_assoc, append-nil, reverse-append, length-map, length-append}
 use Rattle.std.proofs.Math.ListN.{length-set}
 use Rattle.column_order.specs.Orders.{has}
 use Rattle.column_order.proofs.Lists.{has-append}
-use Rattle.pq_tree.specs.Outline.{Outline, Forest, leaf, leaves, leaves_of}
+use Rattle.pq_tree.specs.Outline.{Outline, leaf, leaves_of}
 use Rattle.pq_tree.specs.Proper.{outline_of, forest}
-use Rattle.pq_tree.specs.Reading.{State, Begun, used, begun_leaves, settled, settled_at, closed, closed_in, covers, node_of, least_count, same_shape}
+use Rattle.pq_tree.specs.Reading.{State, used, begun_leaves, settled, settled_at, closed, covers, node_of, least_count, same_shape}
 use Rattle.pq_tree.specs.Seen.{seen, begun_of, IsKept, IsMoved}
-use Rattle.pq_tree.specs.declared.parse.Last.{Last}
-use Rattle.pq_tree.specs.declared.parse.Last.TheVariants.{Nothing, Number, Child}
+use Rattle.pq_tree.specs.declared.parse.Last.TheVariants.{Number, Child}
 use Rattle.pq_tree.specs.declared.parse.OpenNode.{OpenNode}
 use Rattle.pq_tree.specs.declared.parse.Parser.{Parser}
 use Rattle.pq_tree.specs.declared.Tree.{Tree, Leaf}

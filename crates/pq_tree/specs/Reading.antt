@@ -2,7 +2,7 @@
 use Rattle.std.specs.Prelude.{ℕ, zero, suc, ◌+◌, ◌-◌, ◌*◌, ◌==◌, ◌&&◌, Bool, true, false, not, if◌then◌else◌, nat_le, nat_lt, List, [], ◌∷◌, ◌++◌, length, Option, Some, None, option_and_then}
 use Rattle.std.specs.Char.{is_ascii_digit}
 use Rattle.column_order.specs.Orders.{has}
-use Rattle.pq_tree.specs.Outline.{Outline, Forest, leaf, p_node, q_node, leaves_of}
+use Rattle.pq_tree.specs.Outline.{Outline, leaf, p_node, q_node, leaves_of}
 use Rattle.pq_tree.specs.Proper.{forest}
 use Rattle.pq_tree.specs.declared.parse.Last.{Last}
 use Rattle.pq_tree.specs.declared.parse.Last.TheVariants.{Nothing, Number, Child}

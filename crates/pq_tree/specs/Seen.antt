@@ -1,5 +1,5 @@
 -- What a parser holds.
-use Rattle.std.specs.Prelude.{◌≡◌, ℕ, ◌+◌, ◌<◌, ◌≤◌, Bool, true, false, List, map, reverse, length, slice_index_or, Option, Some, None}
+use Rattle.std.specs.Prelude.{◌≡◌, ℕ, ◌+◌, ◌<◌, ◌≤◌, Bool, true, false, map, reverse, length, slice_index_or, Option, Some, None}
 use Rattle.column_order.specs.Orders.{has}
 use Rattle.pq_tree.specs.Proper.{outline_of}
 use Rattle.pq_tree.specs.Reading.{State, Begun, used}

@@ -18,6 +18,7 @@ mod arranged;
 mod parse;
 mod write;
 
+pub use parse::one_tree;
 pub use std::alloc::AllocError as NoMemory;
 use std::alloc::Global;
 
@@ -193,7 +194,7 @@ impl PqTree {
     {
         match parse::tree_of(alloc, bytes, c)? {
             None => Ok(None),
-            Some(tree) => Ok(Some(PqTree { columns: c, tree })),
+            Some(tree) => Ok(Some(PqTree::from_tree(c, tree))),
         }
     }
 }

@@ -4,7 +4,7 @@ ghost use Rattle.row_model.specs.Graph.{IsPair, Crosses, JoinedBy, row_at};
 
 use crate::matrix::Matrix;
 
-/// An ordered pair of columns, a vertex of the incompatibility graph (McConnell, 2004).
+/// An ordered pair of columns. Where they are distinct it is a vertex of the incompatibility graph (McConnell, 2004).
 #[derive(Clone, Copy, Debug, PartialEq, Eq)]
 pub struct Pair {
     /// The first column.
@@ -18,7 +18,7 @@ pub struct Pair {
 pub enum Why {
     /// The pairs are (a,b) and (b,a).
     Flip,
-    /// The pairs are (a,b) and (b,d), and the row of this number, from 1, has a and d and lacks b.
+    /// The pairs are (a,b) and (b,d) in either order, and the row of this number, from 1, has a and d and lacks b.
     Row(u32),
 }
 

@@ -7,7 +7,7 @@ pub enum Kind {
     Matrix,
     /// The same question for rows that are given as lists of columns.
     Rows,
-    /// The same question for a table whose filled cells are the ones.
+    /// The same question for a table whose cells mark presence.
     Table,
     /// As `Matrix`, with consecutive ones round a circle.
     Circular,

@@ -1,5 +1,5 @@
 -- Steps of a chain of readers: what they took, and what they take.
-use Rattle.std.proofs.Common.{◌≡◌, ◌∙◌, ◌^◌, ◌<◌, ◌≤◌, ℕ, zero, suc, true, false, List, ◌++◌, Option, Some, None, refl, sym, ap, arith, inl, inr, eqb, cond, eq-eqb}
+use Rattle.std.proofs.Common.{◌≡◌, ◌∙◌, ◌^◌, ◌<◌, ◌≤◌, ℕ, zero, suc, false, List, ◌++◌, Option, Some, None, refl, ap, arith, inl, inr, eqb, cond, eq-eqb}
 use Rattle.std.specs.Prelude.{option_and_then}
 use Rattle.std.specs.Fmt.{decimal}
 use Rattle.std.proofs.lemmas.Bool.{eqb-true}

@@ -1,8 +1,8 @@
 -- A yes and a no.
-use Rattle.std.proofs.Common.{◌≡◌, ◌∙◌, ◌+◌, ◌^◌, ◌<◌, ◌≤◌, ℕ, zero, suc, List, [], ◌∷◌, ◌++◌, length, Option, Some, None, refl, sym, ap, arith, subst, codes}
+use Rattle.std.proofs.Common.{◌≡◌, ◌∙◌, ◌^◌, ◌<◌, ◌≤◌, ℕ, suc, List, [], ◌∷◌, ◌++◌, length, Some, None, refl, sym, ap, arith, subst, codes}
 use Rattle.std.specs.Prelude.{option_and_then, flat_map}
 use Rattle.std.proofs.lemmas.List.{append_assoc}
-use Rattle.std.proofs.lemmas.Option.{none-some, some_pair_parts, option_and_then_some}
+use Rattle.std.proofs.lemmas.Option.{some_pair_parts, option_and_then_some}
 use Rattle.plain_text.specs.Words.{word_at}
 use Rattle.plain_text.proofs.WordLaws.{word_takes, word_again}
 use Rattle.row_model.specs.declared.kind.Kind.{Kind}
@@ -11,7 +11,7 @@ use Rattle.verdict_text.specs.Verdict.{SideValue, AddedValue, no_added, YesValue
 use Rattle.verdict_text.specs.Text.{side_text, added_text, claim_text, cycle_text}
 use Rattle.verdict_text.specs.Grammar.{side_count, AreColumnCounts, AreSides, HasAdded, IsClaim}
 use Rattle.verdict_text.specs.Reading.{yes_at, side_at, added_at, as_yes, yes_or_no, claim_at, no_at}
-use Rattle.verdict_text.proofs.Chains.{Takes, after_word, at_word}
+use Rattle.verdict_text.proofs.Chains.{after_word, at_word}
 use Rattle.verdict_text.proofs.SideLaws.{side_takes, side_again}
 use Rattle.verdict_text.proofs.AddedLaws.{added_takes, added_again}
 use Rattle.verdict_text.proofs.CycleLaws.{no_takes, no_again}

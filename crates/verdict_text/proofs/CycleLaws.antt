@@ -1,5 +1,5 @@
 -- A no: its side and its cycle.
-use Rattle.std.proofs.Common.{◌≡◌, ◌∙◌, ◌+◌, ◌*◌, ◌^◌, ◌<◌, ◌≤◌, ℕ, zero, suc, true, false, List, [], ◌∷◌, ◌++◌, length, Option, Some, None, refl, sym, ap, arith, inl, inr, subst, codes, eqb, cond, length-append}
+use Rattle.std.proofs.Common.{◌≡◌, ◌∙◌, ◌*◌, ◌^◌, ◌<◌, ◌≤◌, ℕ, false, List, [], ◌∷◌, ◌++◌, length, Some, None, refl, sym, ap, arith, inl, inr, subst, codes, eqb, length-append}
 use Rattle.std.specs.Prelude.{option_and_then, flat_map}
 use Rattle.std.specs.List.{AllByRecursion}
 use Rattle.std.specs.Fmt.{decimal}
@@ -20,7 +20,7 @@ use Rattle.verdict_text.specs.Grammar.{IsLine, IsReason, Fits32}
 use Rattle.verdict_text.specs.Numbered.{numbered, numbered_at}
 use Rattle.verdict_text.specs.Reading.{row_at, as_flip, why_at, line_at, no_at, counted_at, or_else, max_number}
 use Rattle.verdict_text.proofs.Chains.{Takes, small, after_number, after_word, at_number, at_word, some_number}
-use Rattle.verdict_text.proofs.NumberedLaws.{numbered-flat_map, numbered_none, AreCounted, counted_take, counted_again}
+use Rattle.verdict_text.proofs.NumberedLaws.{numbered-flat_map, numbered_none, counted_take, counted_again}
 
 row_takes : (bytes : List ℕ) (why : Why) (rest : List ℕ) → row_at bytes ≡ Some (why, rest) → Takes why_text IsReason bytes why rest
 unfolding row_at

@@ -1,11 +1,10 @@
 -- Items one after another, as text and as read.
-use Rattle.std.proofs.Common.{◌≡◌, ◌∙◌, ◌+◌, ◌-◌, ◌*◌, ◌<◌, ◌≤◌, ◌^◌, ℕ, zero, suc, List, [], ◌∷◌, ◌++◌, length, Option, Some, None, refl, sym, ap, arith, subst, length-append}
+use Rattle.std.proofs.Common.{◌≡◌, ◌∙◌, ◌+◌, ◌*◌, ◌<◌, ◌≤◌, ℕ, zero, suc, List, [], ◌∷◌, ◌++◌, length, Option, Some, None, refl, sym, ap, arith, subst, length-append}
 use Rattle.std.specs.Prelude.{option_and_then, flat_map}
 use Rattle.std.specs.Fmt.{decimal}
 use Rattle.std.specs.List.{AllByRecursion}
-use Rattle.std.proofs.lemmas.List.{append_assoc, append-nil}
+use Rattle.std.proofs.lemmas.List.{append_assoc}
 use Rattle.std.proofs.lemmas.Option.{some_pair_parts, option_and_then_some}
-use Rattle.plain_text.specs.Words.{word_at}
 use Rattle.verdict_text.specs.Grammar.{Fits32}
 use Rattle.verdict_text.specs.Numbered.{numbered, numbered_at, with_first}
 use Rattle.verdict_text.specs.Reading.{counted_at, max_number}

@@ -1,16 +1,16 @@
 -- One side of a yes: its tree and its order.
-use Rattle.std.proofs.Common.{◌≡◌, ◌∙◌, ◌+◌, ◌-◌, ◌%◌, ◌/◌, ◌*◌, ◌^◌, ◌<◌, ◌≤◌, ℕ, zero, suc, true, false, List, [], ◌∷◌, ◌++◌, length, take, drop, Option, Some, None, refl, sym, ap, arith, inl, inr, subst, codes, eqb, cond, length-append}
+use Rattle.std.proofs.Common.{◌≡◌, ◌∙◌, ◌+◌, ◌%◌, ◌^◌, ◌<◌, ◌≤◌, ℕ, zero, suc, false, List, [], ◌∷◌, ◌++◌, length, take, drop, Some, None, refl, sym, ap, arith, inl, inr, subst, codes, eqb, length-append}
 use Rattle.std.specs.Prelude.{option_and_then, flat_map}
 use Rattle.std.specs.List.{AllByRecursion}
 use Rattle.std.specs.Fmt.{decimal}
-use Rattle.std.proofs.lemmas.List.{append_assoc, append-nil, take-append-drop}
+use Rattle.std.proofs.lemmas.List.{append_assoc, take-append-drop}
 use Rattle.std.proofs.Math.Seq.{drop-append_seam, take-append_seam}
 use Rattle.std.proofs.lemmas.Bool.{ne_eqb}
-use Rattle.std.proofs.lemmas.Option.{none-some, same_Some, some_pair_parts, option_and_then_some}
+use Rattle.std.proofs.lemmas.Option.{none-some, some_pair_parts, option_and_then_some}
 use Rattle.std.proofs.lemmas.Fmt.{decimal_by_steps}
-use Rattle.plain_text.specs.Numbers.{number_at, NoDigitFirst}
+use Rattle.plain_text.specs.Numbers.{number_at}
 use Rattle.plain_text.specs.Words.{word_at}
-use Rattle.plain_text.proofs.NumberLaws.{number_takes, chosen}
+use Rattle.plain_text.proofs.NumberLaws.{chosen}
 use Rattle.plain_text.proofs.WordLaws.{word_takes, word_again}
 use Rattle.column_order.specs.Orders.{occurs}
 use Rattle.column_order.proofs.Lists.{occurs-append}
@@ -26,7 +26,6 @@ use Rattle.verdict_text.specs.Text.{side_text, number_word}
 use Rattle.verdict_text.specs.Grammar.{IsSide, Fits32}
 use Rattle.verdict_text.specs.Numbered.{with_first}
 use Rattle.verdict_text.specs.Reading.{numbers_at, after_space, max_number, tree_at, with_bytes, line_len, side_at}
-use Rattle.verdict_text.proofs.NumberLoop.{numbers_enough, space_short, number_short}
 use Rattle.verdict_text.proofs.HeadLaws.{words_stop}
 use Rattle.verdict_text.proofs.Chains.{Takes, small, after_number, after_word, at_number, at_word, some_number}
 

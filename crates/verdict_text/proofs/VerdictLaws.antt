@@ -1,18 +1,16 @@
 -- What is read is the text of a verdict, and the text of a verdict is read.
-use Rattle.std.proofs.Common.{◌≡◌, ◌∙◌, ℕ, List, [], ◌∷◌, ◌++◌, length, Option, Some, None, refl, sym, ap, arith, inl, inr, subst, codes, eqb}
+use Rattle.std.proofs.Common.{◌≡◌, ◌∙◌, ℕ, List, [], ◌∷◌, ◌++◌, length, Some, refl, ap, arith, inl, inr, subst, codes, eqb}
 use Rattle.std.specs.Prelude.{option_and_then}
-use Rattle.std.proofs.lemmas.List.{append_assoc}
 use Rattle.std.proofs.lemmas.Bool.{eqb-true}
 use Rattle.std.proofs.lemmas.Option.{none-some, same_Some, option_and_then_some}
-use Rattle.plain_text.specs.Words.{word_at}
 use Rattle.plain_text.proofs.NumberLaws.{chosen}
 use Rattle.verdict_text.specs.Verdict.{VerdictValue}
 use Rattle.verdict_text.specs.Text.{head_text, claim_text, verdict_text}
 use Rattle.verdict_text.specs.Grammar.{IsVerdict}
 use Rattle.verdict_text.specs.Reading.{head_at, claim_at, verdict_of}
-use Rattle.verdict_text.proofs.HeadLaws.{IsHead, head_takes, head_again}
-use Rattle.verdict_text.proofs.ClaimLaws.{ClaimIs, claim_takes, claim_again}
-use Rattle.verdict_text.proofs.Chains.{Takes, after_word, at_word}
+use Rattle.verdict_text.proofs.HeadLaws.{head_takes, head_again}
+use Rattle.verdict_text.proofs.ClaimLaws.{claim_takes, claim_again}
+use Rattle.verdict_text.proofs.Chains.{after_word, at_word}
 
 no_more : (xs : List ℕ) → length xs ≡ 0 → xs ≡ []
 no_more [] h = refl

@@ -1,4 +1,21 @@
-//! Verdicts and their texts, by the grammar of `pq-verdict 1`.
+//! Verdicts and their texts.
+//!
+//! A text has these lines, each with a line feed at its end and one space between entries. Capital letters stand for plain numbers,
+//! which have no leading zeros; K is the word of a kind, and T the text of a tree.
+//!
+//! ```text
+//! pq-verdict 1
+//! kind K
+//! columns C                 for `doubly`: columns C D
+//! answer yes                or: answer no
+//! tree T                        side S
+//! order N1 N2 ..                cycle L
+//! ..                            A B flip, or: A B row N; L lines
+//! end                           end
+//! ```
+//!
+//! A yes has the tree and the order of each side. For `proper` C lines `interval I L R` follow; for `clones` a line `places M` with M
+//! lines `place I F L` or `place I none`, and a line `contigs Q` with Q lines `contig F L`.
 #![tactic(auto)]
 
 ghost use Rattle.std.specs.Prelude.{◌≡◌, ◌≢◌, IfOk, IfSome, IfNone};

@@ -150,7 +150,8 @@ impl YesPart {
     {
         match &self.sides {
             Sides::One(only, _) => only,
-            Sides::Two(first, second) => { if side == 1 { first } else { second } }
+            Sides::Two(first, _) if side == 1 => first,
+            Sides::Two(_, second) => second,
         }
     }
 

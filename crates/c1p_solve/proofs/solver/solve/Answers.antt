@@ -17,7 +17,7 @@ loop-taken-init g c =
 
 pub returns-in-Ok-clause-answer : goal.returns-in-Ok-clause-answer
 returns-in-Ok-clause-answer g c =
-    (c.in-Ok.ensures, λ h. let front = valid_front c.args.m.now.columns (c.loop-taken.taken + 1) c.args.m.now.rows h in c.in-Ok-Refused.ensures.refused c.in-Ok-Refused.field-0-is front.0 front.1)
+    (c.in-Ok.ensures, λ h. c.in-Ok-Refused.ensures.refused c.in-Ok-Refused.field-0-is (valid_front c.args.m.now.columns (c.loop-taken.taken + 1) c.args.m.now.rows h))
 
 pub returns-in-Ok-clause-reducer : goal.returns-in-Ok-clause-reducer
 returns-in-Ok-clause-reducer g c =
@@ -28,16 +28,16 @@ returns-in-Ok-clause-reducer g c =
       to = omega (arith, c.loop-taken-test.true, c.loop-taken.auto.taken-end, c.rows-taken-end.ensures);
       tied = rw (before, c.in-Ok-Refused.ensures.unchanged c.in-Ok-Refused.field-0-is) c.loop-taken.invariant.tied;
       before = rw before c.loop-taken.invariant.order;
-      refused = λ h. c.in-Ok-Refused.ensures.refused c.in-Ok-Refused.field-0-is h.0 h.1;
+      refused = c.in-Ok-Refused.ensures.refused c.in-Ok-Refused.field-0-is;
     }
 
 pub returns-in-Ok-tree-clause-answer : goal.returns-in-Ok-tree-clause-answer
 returns-in-Ok-tree-clause-answer g c =
     let columns : column_count c.in-Ok-tree.tree ≡ c.args.m.now.columns = c.in-Ok-tree.ensures.columns ∙ c.loop-taken.invariant.columns in
     let whole : take c.loop-taken.taken c.args.m.now.rows ≡ c.args.m.now.rows = take_all c.loop-taken.taken c.args.m.now.rows (omega arith) in
-    let tied = subst (λ (n : ℕ). IsTied n c.args.m.now.rows (g.R.Reducer.outline c.loop-taken.reducer)) (sym columns) (rw whole at c.loop-taken.invariant.tied) in
+    let tied = subst (λ (n : ℕ). IsTied n c.args.m.now.rows (g.R.Reducer.outline c.loop-taken.reducer)) (sym c.loop-taken.invariant.columns) (rw whole at c.loop-taken.invariant.tied) in
     (record {
       columns = columns;
       canonical = c.in-Ok-tree.ensures.canonical;
-      orders = tied_exact c.args.m.now.columns c.args.m.now.rows c.in-Ok-tree.tree columns (c.in-Ok-tree.ensures.tied c.args.m.now.rows tied);
+      orders = tied_exact c.args.m.now.columns c.args.m.now.rows c.in-Ok-tree.tree columns (rw c.loop-taken.invariant.columns at (c.in-Ok-tree.ensures.tied c.args.m.now.rows tied));
     }, rw whole at c.loop-taken.invariant.order)

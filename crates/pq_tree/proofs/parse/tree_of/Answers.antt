@@ -1,10 +1,9 @@
-use Rattle.std.proofs.Common.{◌≡◌, ℕ, get_or, Option, Some, None, true, false, refl, rules, arith, ap, sym, ◌∙◌, option_map, replicate, ◌+◌}
+use Rattle.std.proofs.Common.{◌≡◌, ℕ, get_or, None, false, refl, rules, arith, ap, sym, ◌∙◌, replicate, ◌+◌}
 use Rattle.std.specs.Prelude.{option_and_then}
 use Rattle.std.proofs.lemmas.Grind.{common_steps}
 use Rattle.std.proofs.lemmas.Result.{IfOk-weaker}
-use Rattle.pq_tree.specs.Proper.{outline_of}
-use Rattle.pq_tree.specs.Reading.{step, finished, settled, tree_of, start}
-use Rattle.pq_tree.specs.Seen.{IsMoved, seen, IsKept}
+use Rattle.pq_tree.specs.Reading.{step, finished, settled}
+use Rattle.pq_tree.specs.Seen.{IsMoved, seen}
 use Rattle.pq_tree.proofs.Runs.{run_byte, run_stopped, run_ended, run_start, moved, not_moved, kept_start, seen_start}
 use Rattle.pq_tree.proofs.parse.tree_of.Goals as goal
 

@@ -1,4 +1,4 @@
-use Rattle.std.proofs.Common.{◌≡◌, ◌≤◌, ◌++◌, ◌∷◌, [], length, refl, rules, arith, ap, ◌∙◌, map, true}
+use Rattle.std.proofs.Common.{◌≡◌, ◌≤◌, length, refl, rules, arith, map, true}
 use Rattle.std.proofs.lemmas.Grind.{common_steps}
 use Rattle.pq_tree.specs.Proper.{outline_of}
 use Rattle.pq_tree.specs.Reading.{node_of, same_shape, least_count}

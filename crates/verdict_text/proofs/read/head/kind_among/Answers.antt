@@ -1,4 +1,4 @@
-use Rattle.std.proofs.Common.{◌≡◌, ◌∙◌, refl, sym, ap, arith, rules, get_or, Some, None}
+use Rattle.std.proofs.Common.{◌≡◌, ◌∙◌, sym, ap, arith, rules, get_or, Some, None}
 use Rattle.std.proofs.lemmas.Grind.{common_steps}
 use Rattle.plain_text.specs.Words.{word_at}
 use Rattle.row_model.specs.declared.kind.Kind.{Kind}

@@ -1,4 +1,4 @@
-use Rattle.std.proofs.Common.{◌≡◌, ◌∙◌, ◌<◌, length, refl, sym, ap, arith, rules, Some, None, [], ◌∷◌}
+use Rattle.std.proofs.Common.{◌≡◌, sym, arith, rules, Some, None, [], ◌∷◌}
 use Rattle.std.proofs.lemmas.Result.{err_from_is_err_and}
 use Rattle.plain_text.specs.Words.{word_at}
 use Rattle.verdict_text.proofs.NumberLoop.{numbers_step, numbers_stop, numbers_end, number_short, space_short}

@@ -1,4 +1,4 @@
-use Rattle.std.proofs.Common.{◌≡◌, ◌-◌, length}
+use Rattle.std.proofs.Common.{◌≡◌, length}
 use Rattle.verdict_text.specs.Reading.{numbers_at}
 use Rattle.verdict_text.proofs.LoopLaws.{before_items}
 use Rattle.verdict_text.proofs.read.yes.read_numbers.Given as goal

@@ -1,4 +1,4 @@
-use Rattle.std.proofs.Common.{◌≡◌, ◌≢◌, ◌∙◌, ◌-◌, take, drop, length, refl, sym, ap, arith, Some}
+use Rattle.std.proofs.Common.{◌≡◌, ◌≢◌, ◌∙◌, ◌-◌, take, drop, length, sym, ap, arith, Some}
 use Rattle.std.proofs.lemmas.Grind.{common_steps}
 use Rattle.pq_tree.specs.Outline.{Outline}
 use Rattle.pq_tree.specs.Text.{tree_text}

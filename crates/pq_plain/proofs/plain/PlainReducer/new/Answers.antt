@@ -1,0 +1,9 @@
+use Rattle.std.proofs.Common.{[], ◌∙◌, sym, subst}
+use Rattle.pq_tree.specs.Proper.{universal}
+use Rattle.tied_law.specs.Tied.{IsTied}
+use Rattle.tied_law.proofs.Start.{universal_tied}
+use Rattle.pq_plain.proofs.plain.PlainReducer.new.Goals as goal
+
+pub returns-clause-tied : goal.returns-clause-tied
+returns-clause-tied c =
+    subst (IsTied c.args.columns []) (sym (c.in_ok-tree.ensures ∙ c.root.ensures ∙ c.in_ok-universal.ensures.tree)) (universal_tied c.args.columns c.requires.0)
