@@ -2,7 +2,9 @@
 //! incompatibility graph where there is none.
 #![tactic(auto)]
 
+mod chosen;
 mod solver;
 
+pub use chosen::{Answered, Chosen, answer};
 pub use row_model::NoMemory;
 pub use solver::{Solved, solve};

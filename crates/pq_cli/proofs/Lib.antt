@@ -1,5 +1,4 @@
+pub mod Claims
 pub mod Lines
-pub mod Numbers
 pub mod Reading
-pub mod Rows
 pub mod Turns

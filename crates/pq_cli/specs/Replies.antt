@@ -3,14 +3,17 @@ use Rattle.std.specs.Prelude.{◌≡◌, ◌↔◌, ℕ, List, [], ◌∷◌, Op
 use Rattle.row_model.specs.declared.refusal.Refusal.{Refusal}
 use Rattle.row_model.specs.declared.refusal.Read.{Read}
 use Rattle.row_model.specs.declared.refusal.Read.TheVariants as read
+use Rattle.row_model.specs.declared.kind.Kind.TheVariants.{Matrix}
 use Rattle.row_model.specs.Rows.{RowList}
-use Rattle.column_order.specs.Orders.{IsValidOrder}
+use Rattle.row_model.specs.Cycles.{IsOddCycle}
+use Rattle.column_order.specs.Orders.{IsValidOrder, HasValidOrder}
 use Rattle.pq_tree.specs.Outline.{IsFrontier, leaves}
 use Rattle.pq_tree.specs.Proper.{IsProper}
 use Rattle.pq_tree.specs.Canonical.{IsCanonical}
 use Rattle.matrix_read.specs.Dense.{dense}
+use Rattle.verdict_text.specs.Verdict.{SideValue, no_added, Claim, yes_claim, no_claim, VerdictValue}
+use Rattle.verdict_text.specs.Text.{verdict_text}
 use Rattle.pq_cli.specs.Words.{Command, Solve}
-use Rattle.pq_cli.specs.Verdict.{Claim, yes_claim, no_claim, VerdictValue, verdict_text}
 
 -- the refusal of the file of this number, if it is refused
 abbrev pub refused_at : {T : Type 0} → ℕ → Read T → Option (ℕ × Refusal)
@@ -22,22 +25,31 @@ abbrev pub refusal_of : Command → List (List ℕ) → Option (ℕ × Refusal)
 refusal_of command [] = None
 refusal_of (Solve _) (bytes ∷ _) = refused_at 1 (dense bytes)
 
--- What is claimed is true of the matrix. Yes: the tree is a canonical PQ-tree over its columns, whose frontiers are exactly the valid
--- orders, and the order is its leaves from left to right. No: there is no valid order.
-abbrev pub IsTrueClaim : RowList → Claim → Type 0
-IsTrueClaim m (yes_claim tree order) =
-    IsProper m.columns tree × IsCanonical tree × ((o : List ℕ) → IsFrontier tree o ↔ IsValidOrder m.columns m.rows o) × (order ≡ leaves tree)
-IsTrueClaim m no_claim = (o : List ℕ) → IsValidOrder m.columns m.rows o → ⊥
+-- The tree is a canonical PQ-tree over the columns of the matrix, whose frontiers are exactly the valid orders. The order is its leaves from
+-- left to right, and so a valid order.
+pub record ShowsOrders (m : RowList) (side : SideValue) : Type 0 where
+  pub proper : IsProper m.columns side.tree
+  pub canonical : IsCanonical side.tree
+  pub orders : (o : List ℕ) → IsFrontier side.tree o ↔ IsValidOrder m.columns m.rows o
+  pub leaves : side.order ≡ leaves side.tree
+  pub order : IsValidOrder m.columns m.rows side.order
 
--- a verdict is true of a matrix
+-- What is claimed is true of the matrix. Yes: one side, which shows the valid orders, and nothing added. No: side 1 has none, as an odd cycle
+-- of its incompatibility graph shows.
+abbrev pub IsTrueClaim : RowList → Claim → Type 0
+IsTrueClaim m (yes_claim value) = (side : SideValue) × (value ≡ record { sides = side ∷ []; added = no_added }) × ShowsOrders m side
+IsTrueClaim m (no_claim side lines) = (side ≡ 1) × IsOddCycle m.columns m.rows lines × (HasValidOrder m.columns m.rows → ⊥)
+
+-- a verdict on a matrix of digits is true of the matrix
 pub record IsTrueOf (m : RowList) (v : VerdictValue) : Type 0 where
-  pub columns : v.columns ≡ m.columns
+  pub kind : v.kind ≡ Matrix
+  pub columns : v.columns ≡ m.columns ∷ []
   pub claim : IsTrueClaim m v.claim
 
 -- the status that goes with a claim: 0 for yes, 1 for no
 abbrev pub status_of : Claim → ℕ
-status_of (yes_claim _ _) = 0
-status_of no_claim = 1
+status_of (yes_claim _) = 0
+status_of (no_claim _ _) = 1
 
 -- the status and the text are those of a true verdict on the matrix
 pub record IsSolution (m : RowList) (status : ℕ) (text : List ℕ) : Type 0 where

@@ -3,18 +3,14 @@ ghost use Rattle.std.specs.Prelude.{◌≡◌, ◌⊎◌, ◌≤◌, List, ℕ, 
 ghost use Rattle.pq_io.specs.Faults.{Rose};
 ghost use Rattle.pq_cli.specs.Words.{Solve};
 ghost use Rattle.pq_cli.specs.Task.{command_seen};
-ghost use Rattle.pq_cli.specs.Replies.{refusal_of, Replies, IsTrueOf, IsSolution};
-ghost use Rattle.pq_cli.specs.Said.{said};
+ghost use Rattle.pq_cli.specs.Replies.{refusal_of, Replies};
 ghost use Rattle.pq_cli.specs.Runs.{WhereTold, AsksInTurn};
 ghost use Rattle.pq_cli.specs.Stops.{outcome_status, IsRefusalOf};
 
-use crate::NoMemory;
 use crate::files::{Stop, read_matrix};
-use crate::solving::{Solved, solve};
-use crate::verdict::{Answer, Verdict};
+use crate::solution::solution;
 use crate::words::Task;
 use pq_io::Shelf;
-use row_model::Matrix;
 use std::alloc::Global;
 
 /// What is to be written, and the status.
@@ -59,42 +55,6 @@ fn solve_file<F: Shelf>(alloc: Global, file: &str, files: &mut F) -> Result<Repl
         Ok(m) => match solution(alloc, &m) {
             Err(_) => Err(Stop::NoMemory),
             Ok(reply) => Ok(reply),
-        },
-    }
-}
-
-// The reply on a matrix.
-fn solution(alloc: Global, m: &Matrix) -> Result<Reply, NoMemory>
-    requires { (1 ≤ m.now.columns) × (m.now.columns ≤ 32768) }
-    ensures solution { IfOk result (λ reply. IsSolution m.now reply.status reply.text.items) }
-    ensures status { IfOk result (λ reply. (reply.status ≡ 0) ⊎ (reply.status ≡ 1)) }
-{
-    let verdict = verdict_on(alloc, m)?;
-    let text = verdict.text(alloc)?;
-    Ok(Reply {
-        status: verdict.status(),
-        text,
-    })
-}
-
-// The verdict on a matrix.
-fn verdict_on(alloc: Global, m: &Matrix) -> Result<Verdict, NoMemory>
-    requires { (1 ≤ m.now.columns) × (m.now.columns ≤ 32768) }
-    ensures { IfOk result (λ verdict. IsTrueOf m.now (said verdict)) }
-{
-    let columns = m.columns();
-    match solve(alloc, m) {
-        Err(error) => Err(error),
-        Ok(Solved::No) => Ok(Verdict {
-            columns,
-            answer: Answer::No,
-        }),
-        Ok(Solved::Yes(tree)) => match tree.frontier(alloc) {
-            Err(error) => Err(error),
-            Ok(order) => Ok(Verdict {
-                columns,
-                answer: Answer::Yes { tree, order },
-            }),
         },
     }
 }

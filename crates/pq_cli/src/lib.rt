@@ -6,9 +6,8 @@
 
 mod command;
 mod files;
-mod solving;
+mod solution;
 mod top;
-mod verdict;
 mod words;
 
 pub use std::alloc::AllocError as NoMemory;

@@ -1,0 +1,41 @@
+// The answer by the reducer that the programs use.
+ghost use Rattle.std.specs.Prelude.{IfOk};
+ghost use Rattle.pq_plain.specs.Plain.{plain_outline};
+ghost use Rattle.c1p_solve.specs.Answers.{IsAnswer, LeavesTree};
+
+use crate::solver::{Solved, solve};
+use pq_plain::PlainReducer;
+use row_model::{Matrix, NoMemory};
+use std::alloc::Global;
+use step_count::{Ledger, Steps};
+
+/// The reducer by which matrices are solved.
+pub type Chosen = PlainReducer;
+
+/// The answer on a matrix, and the reducer that found it.
+#[derive(Drop)]
+pub struct Answered {
+    /// The tree of all valid orders, or an odd cycle.
+    pub solved: Solved,
+    /// The reducer. After `Yes` its tree is tied to all rows of the matrix; after `No` to the rows before the first one
+    /// up to which the rows have no valid order.
+    pub reducer: Chosen,
+}
+
+/// Solves a matrix.
+///
+/// # Errors
+///
+/// `NoMemory`.
+pub fn answer<L: Ledger>(
+    alloc: Global,
+    m: &Matrix,
+    steps: &mut Steps<L>,
+) -> Result<Answered, NoMemory>
+    ensures solved { IfOk result (λ a. IsAnswer m.now a.solved) }
+    ensures reducer { IfOk result (λ a. LeavesTree m.now (plain_outline a.reducer) a.solved) }
+{
+    let mut reducer = Chosen::new(alloc, m.columns())?;
+    let solved = solve(alloc, &mut reducer, m, steps)?;
+    Ok(Answered { solved, reducer })
+}
