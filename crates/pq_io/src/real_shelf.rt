@@ -85,9 +85,9 @@ impl<R: Files + Input + Drop> Shelf for RealShelf<R> {
             return Ok(());
         }
         let opened = match fs::open(&self.runtime, name) {
-            Err(error) if error.kind() == ErrorKind::OutOfMemory => return Err(
-                ChooseError::NoMemory,
-            ),
+            Err(error) if error.kind() == ErrorKind::OutOfMemory => {
+                return Err(ChooseError::NoMemory);
+            }
             opened => opened,
         };
         self.asked.push(asked)?;
