@@ -9,13 +9,14 @@ mod tests {
     use std::process::Abort;
     use std::test::Fail;
 
-    // A run: the words, the bytes of the file `matrix`, how many bytes the output has room for, and the status, the output and the line of
-    // errors that are wanted.
+    // A run: the words, the bytes of the file `matrix`, how many bytes the output and the line of errors have room for, and the status, the
+    // output and the line of errors that are wanted.
     #[derive(Drop)]
     struct Case {
         words: &'static [&'static str],
         file: &'static [u8],
         room: usize,
+        err_room: usize,
         status: u8,
         out: &'static [u8],
         err: &'static [u8],
@@ -29,7 +30,7 @@ mod tests {
         err: MemSink,
     }
 
-    // Runs a case, with ample memory and room for the line of errors.
+    // Runs a case, with ample memory.
     fn outcome_of(alloc: Global, case: &Case) -> Result<Outcome, NoMemory> {
         let mut words = Vec::new(alloc);
         for word in case.words {
@@ -40,7 +41,7 @@ mod tests {
         let mut out = MemSink::new(alloc);
         out.reserve(case.room)?;
         let mut err = MemSink::new(alloc);
-        err.reserve(100)?;
+        err.reserve(case.err_room)?;
         let status = run(alloc, &words, &mut files, &mut out, &mut err);
         Ok(Outcome { status, out, err })
     }
@@ -61,6 +62,7 @@ mod tests {
             words: &["solve", "matrix", "matrix"],
             file,
             room: 1000,
+            err_room: 100,
             status,
             out,
             err: b"",
@@ -72,6 +74,7 @@ mod tests {
             words: &["solve", "matrix", "matrix"],
             file,
             room: 1000,
+            err_room: 100,
             status: 3,
             out: b"",
             err,
@@ -83,6 +86,7 @@ mod tests {
             words,
             file: b"1\n",
             room: 1000,
+            err_room: 100,
             status: 2,
             out: b"",
             err: b"pq: words\n",
@@ -121,14 +125,19 @@ mod tests {
         passes(&rt, rt.alloc(), &cases)
     }
 
+    // Which odd cycle is printed is free.
     #[test]
     fn a_matrix_without_a_valid_order(rt: HostRuntime) -> Result<(), Fail> {
-        let cases = [solved(
-            b"110\n011\n101\n",
-            1,
-            b"pq-verdict 1\nkind matrix\ncolumns 3\nanswer no\nend\n",
-        )];
-        passes(&rt, rt.alloc(), &cases)
+        let case = solved(b"110\n011\n101\n", 1, b"");
+        let outcome = outcome_of(rt.alloc(), &case)?;
+        assert_eq!(rt; outcome.status, 1);
+        let out = outcome.out.bytes();
+        assert!(rt; out.starts_with(
+            b"pq-verdict 1\nkind matrix\ncolumns 3\nanswer no\nside 1\ncycle "
+        ));
+        assert!(rt; out.ends_with(b"\nend\n"));
+        assert!(rt; outcome.err.bytes().is_empty());
+        Ok(())
     }
 
     #[test]
@@ -159,6 +168,7 @@ mod tests {
                 words: &["solve", "matrix", "missing"],
                 file: b"1\n",
                 room: 1000,
+                err_room: 100,
                 status: 4,
                 out: b"",
                 err: b"pq: read fault\n",
@@ -167,6 +177,7 @@ mod tests {
                 words: &["solve", "matrix", "matrix"],
                 file: b"1100\n1110\n1100\n1110\n",
                 room: 0,
+                err_room: 100,
                 status: 5,
                 out: b"",
                 err: b"pq: write fault\n",
@@ -175,9 +186,35 @@ mod tests {
                 words: &["solve", "matrix", "matrix"],
                 file: b"1100\n1110\n1100\n1110\n",
                 room: 8,
+                err_room: 100,
                 status: 5,
                 out: b"pq-verdi",
                 err: b"pq: write fault\n",
+            },
+        ];
+        passes(&rt, rt.alloc(), &cases)
+    }
+
+    #[test]
+    fn a_line_of_errors_that_finds_no_room(rt: HostRuntime) -> Result<(), Fail> {
+        let cases = [
+            Case {
+                words: &["solve", "matrix", "matrix"],
+                file: b"110\n01\n",
+                room: 1000,
+                err_room: 0,
+                status: 3,
+                out: b"",
+                err: b"",
+            },
+            Case {
+                words: &["solve", "matrix", "missing"],
+                file: b"1\n",
+                room: 1000,
+                err_room: 0,
+                status: 4,
+                out: b"",
+                err: b"",
             },
         ];
         passes(&rt, rt.alloc(), &cases)

@@ -1,6 +1,6 @@
-use Rattle.std.proofs.Common.{◌≡◌, [], ◌∷◌, refl, ap, subst}
+use Rattle.std.proofs.Common.{[], ◌∷◌, refl, ap}
 use Rattle.column_order.specs.Orders.{HasValidOrder}
-use Rattle.c1p_solve.specs.Answers.{IsAnswer, HasAllOrders}
+use Rattle.c1p_solve.specs.Answers.{HasAllOrders}
 use Rattle.row_model.specs.Cycles.{IsOddCycle}
 use Rattle.verdict_text.specs.Value.{yes_value, claim_of}
 use Rattle.pq_cli.specs.Replies.{IsTrueClaim}
