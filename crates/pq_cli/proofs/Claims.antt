@@ -13,13 +13,13 @@ use Rattle.pq_cli.specs.Replies.{IsTrueClaim}
 -- a tree of all valid orders, with its leaves, makes a true yes
 pub yes_is_true : (m : RowList) (t : PqTree) (y : YesValue) → y ≡ record { sides = record { tree = outline t; order = leaves (outline t) } ∷ []; added = no_added } → HasAllOrders m t → IsTrueClaim m (yes_claim y)
 yes_is_true m t y is all = (
-    record { tree = outline t; order = leaves (outline t) },
-    is,
-    record {
-      proper = subst (λ (c : ℕ). IsProper c (outline t)) all.columns t.proper;
-      canonical = all.canonical;
-      orders = all.orders;
-      leaves = refl;
-      order = (all.orders (leaves (outline t))).0 (leaves_are_frontier (outline t));
-    },
-  )
+  record { tree = outline t; order = leaves (outline t) },
+  is,
+  record {
+    proper = subst (λ (c : ℕ). IsProper c (outline t)) all.columns t.proper;
+    canonical = all.canonical;
+    orders = all.orders;
+    leaves = refl;
+    order = (all.orders (leaves (outline t))).0 (leaves_are_frontier (outline t));
+  },
+)

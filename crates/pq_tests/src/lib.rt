@@ -132,9 +132,9 @@ mod tests {
         let outcome = outcome_of(rt.alloc(), &case)?;
         assert_eq!(rt; outcome.status, 1);
         let out = outcome.out.bytes();
-        assert!(rt; out.starts_with(
-            b"pq-verdict 1\nkind matrix\ncolumns 3\nanswer no\nside 1\ncycle "
-        ));
+        assert!(rt;
+            out.starts_with(b"pq-verdict 1\nkind matrix\ncolumns 3\nanswer no\nside 1\ncycle ")
+        );
         assert!(rt; out.ends_with(b"\nend\n"));
         assert!(rt; outcome.err.bytes().is_empty());
         Ok(())

@@ -13,10 +13,10 @@ returns c =
     let m = c.args.m.now in
     let claim : IsTrueClaim m (claim_of c.match-branch-2.part) = elim c.match-branch-2.branch [
       | in-Yes+in_ok-yes-in-Yes w ↦
-        let all : HasAllOrders m w.in-Yes.tree × HasValidOrder m.columns m.rows = rw w.in-Yes.is at c.in_ok-tree.ensures in
-        rw w.part-is (yes_is_true m w.in-Yes.tree (yes_value w.in_ok-yes-in-Yes.field-0) w.in_ok-yes-in-Yes.ensures all.0)
+          let all : HasAllOrders m w.in-Yes.tree × HasValidOrder m.columns m.rows = rw w.in-Yes.is at c.in_ok-tree.ensures in
+          rw w.part-is (yes_is_true m w.in-Yes.tree (yes_value w.in_ok-yes-in-Yes.field-0) w.in_ok-yes-in-Yes.ensures all.0)
       | in-No+in_ok-no-in-No w ↦
-        let none : IsOddCycle m.columns m.rows w.in-No.cycle × (HasValidOrder m.columns m.rows → ⊥) = rw w.in-No.is at c.in_ok-tree.ensures in
-        rw (w.part-is, w.in_ok-no-in-No.ensures.lines) (w.in_ok-no-in-No.ensures.side, none.0, none.1)
+          let none : IsOddCycle m.columns m.rows w.in-No.cycle × (HasValidOrder m.columns m.rows → ⊥) = rw w.in-No.is at c.in_ok-tree.ensures in
+          rw (w.part-is, w.in_ok-no-in-No.ensures.lines) (w.in_ok-no-in-No.ensures.side, none.0, none.1)
     ] in
     record { kind = refl; columns = ap (λ n. n ∷ []) c.columns.ensures.columns; claim = claim }
