@@ -1,8 +1,7 @@
 -- The lines that tell of what stood in the way.
 use Rattle.std.proofs.Common.{◌≡◌, ℕ, List, Option, Some, inl, inr, arith, subst}
 use Rattle.pq_cli.specs.Words.{Command}
-use Rattle.pq_cli.specs.Replies.{refusal_of}
-use Rattle.pq_cli.specs.Runs.{ForCommand, WhereFirstTold, IsLineOf}
+use Rattle.pq_cli.specs.Runs.{ForCommand, IsFirstRefusal, IsLineOf}
 use Rattle.pq_cli.specs.Stops.{IsStopLine, IsRefusalOf}
 use Rattle.pq_cli.specs.declared.files.Stop.{Stop}
 use Rattle.pq_cli.specs.declared.files.Stop.TheVariants as stop
@@ -14,7 +13,7 @@ line_of_stop found command told (stop.Refused which refusal) status line is stop
     record {
       words = λ s. elim stopped [ inl a ↦ absurd (omega arith) | inr b ↦ absurd (omega arith) ];
       refused = λ s. elim stopped [
-        | inl a ↦ (which, refusal, a.1, subst (λ f. ForCommand f (λ c. WhereFirstTold told c which (λ files. refusal_of c files ≡ Some (which, refusal)))) is judged)
+        | inl a ↦ (which, refusal, a.1, subst (λ f. ForCommand f (λ c. IsFirstRefusal told c which refusal)) is judged)
         | inr b ↦ absurd (omega arith)
       ];
       read_fault = λ s. elim stopped [ inl a ↦ absurd (omega arith) | inr b ↦ absurd (omega arith) ];

@@ -21,7 +21,7 @@ stop_turn told c before after (stop.Refused which refusal) n few names at earlie
       in_turn = earlier;
       on_refusal = λ e. elim at [
         | inl full ↦ absurd (omega arith)
-        | inr here ↦ λ files t. (refusal, subst (λ (k : ℕ). refusal_of c files ≡ Some (k, refusal)) here.0 (judged files (subst (λ (k : ℕ). AllTold told (take k (files_of c)) files) (sym here.0) t)))
+        | inr here ↦ λ files t. (refusal, subst (λ (k : ℕ). refusal_of c files ≡ Some (k, refusal)) here.0 (judged.2 files (subst (λ (k : ℕ). AllTold told (take k (files_of c)) files) (sym here.0) t)))
       ];
     }
 stop_turn told c before after stop.ReadFault n few names at earlier judged =

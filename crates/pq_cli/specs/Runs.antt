@@ -58,11 +58,16 @@ abbrev pub refused_line : ℕ → Refusal → List ℕ
 refused_line which refusal =
     codes "pq: refused " ++ (decimal which ++ (codes " code " ++ (decimal refusal.code ++ (codes " line " ++ (decimal refusal.line ++ codes "\n")))))
 
+-- The file of this number among those of the command, counted from 1, is the first that is refused, and this is its refusal.
+abbrev pub IsFirstRefusal : (List ℕ → Option (List ℕ)) → Command → ℕ → Refusal → Type 0
+IsFirstRefusal told command which refusal =
+    (1 ≤ which) × (which ≤ length (files_of command)) × WhereFirstTold told command which (λ files. refusal_of command files ≡ Some (which, refusal))
+
 -- the line that goes with a status which is no reply's
 pub record IsLineOf (command : Option Command) (told : List ℕ → Option (List ℕ)) (status : ℕ) (line : List ℕ) : Type 0 where
   pub words : status ≡ 2 → line ≡ codes "pq: words\n"
   pub refused : status ≡ 3 → (which : ℕ) × (refusal : Refusal) × (line ≡ refused_line which refusal)
-      × ForCommand command (λ c. WhereFirstTold told c which (λ files. refusal_of c files ≡ Some (which, refusal)))
+      × ForCommand command (λ c. IsFirstRefusal told c which refusal)
   pub read_fault : status ≡ 4 → line ≡ codes "pq: read fault\n"
   pub write_fault : status ≡ 5 → line ≡ codes "pq: write fault\n"
   pub no_memory : status ≡ 6 → line ≡ codes "pq: no memory\n"

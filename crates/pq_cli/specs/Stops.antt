@@ -1,10 +1,9 @@
 -- How a command ends before it writes.
-use Rattle.std.specs.Prelude.{◌≡◌, ◌⊎◌, ⊤, ℕ, List, Option, Some, Result, Ok, Err, codes}
+use Rattle.std.specs.Prelude.{◌≡◌, ◌⊎◌, ⊤, ℕ, List, Option, Result, Ok, Err, codes}
 use Rattle.row_model.specs.declared.refusal.Read.{Read}
 use Rattle.row_model.specs.declared.refusal.Read.TheVariants as read
 use Rattle.pq_cli.specs.Words.{Command}
-use Rattle.pq_cli.specs.Replies.{refusal_of}
-use Rattle.pq_cli.specs.Runs.{WhereFirstTold, refused_line}
+use Rattle.pq_cli.specs.Runs.{IsFirstRefusal, refused_line}
 use Rattle.pq_cli.specs.declared.files.Stop.{Stop}
 use Rattle.pq_cli.specs.declared.files.Stop.TheVariants as stop
 use Rattle.pq_cli.specs.declared.command.Reply.{Reply}
@@ -27,7 +26,7 @@ read_status (Err s) = stop_status s
 
 -- a refusal is the one of the first files of the command
 abbrev pub IsRefusalOf : Command → (List ℕ → Option (List ℕ)) → Stop → Type 0
-IsRefusalOf command told (stop.Refused which refusal) = WhereFirstTold told command which (λ files. refusal_of command files ≡ Some (which, refusal))
+IsRefusalOf command told (stop.Refused which refusal) = IsFirstRefusal told command which refusal
 IsRefusalOf command told stop.ReadFault = ⊤
 IsRefusalOf command told stop.NoMemory = ⊤
 

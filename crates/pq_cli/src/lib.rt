@@ -6,9 +6,11 @@
 
 mod command;
 mod files;
+mod laws;
 mod solution;
 mod top;
 mod words;
 
+pub use laws::reply_law;
 pub use std::alloc::AllocError as NoMemory;
 pub use top::run;

@@ -68,7 +68,7 @@ fn report<E: Sink>(alloc: Global, stop: Stop, err: &mut E) -> u8
 /// |---|---|
 /// | 0 | the matrix has a valid order |
 /// | 1 | it has none |
-/// | 2 | the words are outside the grammar; nothing is read or written |
+/// | 2 | the words are outside the grammar; nothing is read, and nothing is written to `out` |
 /// | 3 | the file is refused |
 /// | 4 | it can't be read |
 /// | 5 | the reply can't be written; some first bytes of it were |
