@@ -55,12 +55,22 @@ def interval_file(columns, rows, rng):
     return b"\n".join(lines) + b"\n"
 
 
-def measured(words):
-    """The seconds and the peak kibibytes of one run, and its status."""
+def measure(words):
+    """Prints the seconds and the peak kibibytes of one run, and its status."""
     start = time.perf_counter()
     process = subprocess.Popen(words, stdout=subprocess.DEVNULL, stderr=subprocess.DEVNULL)
     _, status, usage = os.wait4(process.pid, 0)
-    return time.perf_counter() - start, usage.ru_maxrss, os.waitstatus_to_exitcode(status)
+    print(time.perf_counter() - start, usage.ru_maxrss, os.waitstatus_to_exitcode(status))
+
+
+def measured(words):
+    """The seconds and the peak kibibytes of one run, and its status.
+
+    A small process of its own starts the run, since the peak of a new process begins at the size of the one that starts it.
+    """
+    told = subprocess.run([sys.executable, __file__, "--measure"] + words, capture_output=True, text=True, check=True)
+    seconds, peak, status = told.stdout.split()
+    return float(seconds), int(peak), int(status)
 
 
 def best(words, wanted, rounds):
@@ -123,6 +133,9 @@ BENCHES = {"dense": bench_dense, "solve": bench_solve}
 
 
 def main():
+    if sys.argv[1:2] == ["--measure"]:
+        measure(sys.argv[2:])
+        return
     if not os.access(PROGRAM, os.X_OK):
         sys.exit(f"{PROGRAM} is missing: run `./pq` first")
     names = sys.argv[1:] or list(BENCHES)
