@@ -1,12 +1,11 @@
 -- The status of a reply, and whether there is a valid order.
-use Rattle.std.proofs.Common.{◌≡◌, ◌↔◌, ◌∙◌, ℕ, List, [], ◌∷◌, sym, ap, subst, arith}
+use Rattle.std.proofs.Common.{◌≡◌, ◌↔◌, ◌∙◌, ℕ, List, sym, ap, subst, arith}
 use Rattle.column_order.specs.Orders.{HasValidOrder}
 use Rattle.row_model.specs.Rows.{RowList}
 use Rattle.row_model.specs.declared.refusal.Read.{Read}
 use Rattle.row_model.specs.declared.refusal.Read.TheVariants as read
 use Rattle.matrix_read.specs.Dense.{dense}
 use Rattle.verdict_text.specs.Verdict.{Claim, yes_claim, no_claim}
-use Rattle.pq_cli.specs.Words.{Solve}
 use Rattle.pq_cli.specs.Replies.{IsTrueClaim, status_of, Replies}
 use Rattle.pq_cli.specs.Laws.{NoLaw, YesLaw}
 
