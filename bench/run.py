@@ -14,45 +14,12 @@ import sys
 import tempfile
 import time
 
+from inputs import cycle_verdict, dense_file, every_pair, interval_file, nested_file, steps_round
+
 HOME = os.path.dirname(os.path.dirname(os.path.abspath(__file__)))
 PROGRAM = os.path.join(HOME, "crates", "pq", "out", "pq")
-FILE_LIMIT = 16_777_216
 SEED = 20261127
 ROUNDS = 7
-
-
-def dense_file(columns, density, rng):
-    """Rows of random digits up to the limit of bytes, the last of them one digit short."""
-    rows = min(65_536, FILE_LIMIT // (columns + 1))
-    lines = []
-    for _ in range(rows - 1):
-        lines.append(bytes(49 if rng.random() < density else 48 for _ in range(columns)))
-    lines.append(b"0" * (columns - 1))
-    text = b"\n".join(lines) + b"\n"
-    return text + b" " * (FILE_LIMIT - len(text))
-
-
-def nested_file(columns, rows, rng):
-    """Rows that are runs from the first column on: they are nested."""
-    lines = []
-    for _ in range(rows):
-        last = rng.randint(1, columns)
-        lines.append(b"1" * last + b"0" * (columns - last))
-    return b"\n".join(lines) + b"\n"
-
-
-def interval_file(columns, rows, rng):
-    """Rows that are runs in a hidden order of the columns, so that an order exists."""
-    hidden = list(range(columns))
-    rng.shuffle(hidden)
-    lines = []
-    for _ in range(rows):
-        low, high = sorted((rng.randrange(columns), rng.randrange(columns)))
-        line = bytearray(b"0" * columns)
-        for place in range(low, high + 1):
-            line[hidden[place]] = 49
-        lines.append(bytes(line))
-    return b"\n".join(lines) + b"\n"
 
 
 def measure(words):
@@ -89,13 +56,13 @@ def compiled(name, folder):
     return program
 
 
-def compare(title, file, words, plain, status):
-    """One line: both programs on one file, and their ratio."""
-    size = os.path.getsize(file)
-    ours, peak = best([PROGRAM] + words, status, ROUNDS)
-    theirs, plain_peak = best([plain, file], status, ROUNDS)
+def compare(title, files, words, plain, statuses):
+    """One line: both programs on the same files, and their ratio."""
+    size = sum(os.path.getsize(file) for file in files)
+    ours, peak = best([PROGRAM] + words + files, statuses[0], ROUNDS)
+    theirs, plain_peak = best([plain] + files, statuses[1], ROUNDS)
     print(f"{title}: {ours * 1000:.1f} ms, plain Rust {theirs * 1000:.1f} ms, ratio {ours / theirs:.2f}; "
-          f"peak {peak / 1024:.1f} MiB, {peak * 1024 / size:.2f} times the file (plain {plain_peak / 1024:.1f} MiB)")
+          f"peak {peak / 1024:.1f} MiB, {peak * 1024 / size:.2f} times the files (plain {plain_peak / 1024:.1f} MiB)")
 
 
 def whole_call(title, file, status):
@@ -114,10 +81,10 @@ def write(folder, name, content):
 def bench_dense(folder, rng):
     """Reading and judging a dense file of the greatest length."""
     plain = compiled("dense", folder)
-    for columns, density in [(1000, 0.5), (1000, 0.02), (255, 0.5)]:
+    for columns, density in [(1000, 0.5), (1000, 0.25), (1000, 0.02), (255, 0.5)]:
         file = write(folder, "dense.txt", dense_file(columns, density, rng))
         title = f"dense, {columns} columns, {density:.0%} ones, 16 MiB"
-        compare(title, file, ["solve", "matrix", file], plain, 3)
+        compare(title, [file], ["solve", "matrix"], plain, (3, 3))
 
 
 def bench_solve(folder, rng):
@@ -129,7 +96,22 @@ def bench_solve(folder, rng):
         whole_call(f"solve, {rows} runs in a hidden order over {columns} columns", file, 0)
 
 
-BENCHES = {"dense": bench_dense, "solve": bench_solve}
+def bench_check(folder, rng):
+    """Checking a long yes and a long no; the plain program reads the same files into lists and judges nothing."""
+    plain = compiled("verdict", folder)
+    for columns, rows in [(1000, 1000), (250, 60_000)]:
+        file = write(folder, "intervals.txt", interval_file(columns, rows, rng))
+        verdict = write(folder, "yes.txt", subprocess.run([PROGRAM, "solve", "matrix", file], capture_output=True, check=True).stdout)
+        compare(f"check, yes, {rows} rows over {columns} columns", [file, verdict], ["check", "matrix"], plain, (0, 0))
+    columns = 317
+    matrix, number = every_pair(columns)
+    walk = steps_round(columns)
+    file = write(folder, "pairs.txt", matrix)
+    verdict = write(folder, "no.txt", cycle_verdict(columns, walk, number))
+    compare(f"check, no, a cycle of {len(walk)} lines", [file, verdict], ["check", "matrix"], plain, (0, 0))
+
+
+BENCHES = {"dense": bench_dense, "solve": bench_solve, "check": bench_check}
 
 
 def main():

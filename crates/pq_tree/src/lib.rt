@@ -56,21 +56,21 @@ impl Tree {
     pub fn leaf(column: u32) -> Tree
         ensures { result ≡ Tree.Leaf column }
     {
-        Tree::Leaf(column)
+        Self::Leaf(column)
     }
 
     /// The P-node over these children. In a proper tree it has two or more, and no column stands in two of them.
     pub fn p(children: Vec<Tree>) -> Tree
         ensures { result ≡ Tree.P children }
     {
-        Tree::P(children)
+        Self::P(children)
     }
 
     /// The Q-node over these children. In a proper tree it has three or more, and no column stands in two of them.
     pub fn q(children: Vec<Tree>) -> Tree
         ensures { result ≡ Tree.Q children }
     {
-        Tree::Q(children)
+        Self::Q(children)
     }
 
     /// The case of the tree, with its column or its children.

@@ -1,0 +1,78 @@
+"""The files that the benches read, made from a seed."""
+
+FILE_LIMIT = 16_777_216
+
+
+def dense_file(columns, density, rng):
+    """Rows of random digits up to the limit of bytes, the last of them one digit short."""
+    rows = min(65_536, FILE_LIMIT // (columns + 1))
+    lines = []
+    for _ in range(rows - 1):
+        lines.append(bytes(49 if rng.random() < density else 48 for _ in range(columns)))
+    lines.append(b"0" * (columns - 1))
+    text = b"\n".join(lines) + b"\n"
+    return text + b" " * (FILE_LIMIT - len(text))
+
+
+def nested_file(columns, rows, rng):
+    """Rows that are runs from the first column on: they are nested."""
+    lines = []
+    for _ in range(rows):
+        last = rng.randint(1, columns)
+        lines.append(b"1" * last + b"0" * (columns - last))
+    return b"\n".join(lines) + b"\n"
+
+
+def interval_file(columns, rows, rng):
+    """Rows that are runs in a hidden order of the columns, so that an order exists."""
+    hidden = list(range(columns))
+    rng.shuffle(hidden)
+    lines = []
+    for _ in range(rows):
+        low, high = sorted((rng.randrange(columns), rng.randrange(columns)))
+        line = bytearray(b"0" * columns)
+        for place in range(low, high + 1):
+            line[hidden[place]] = 49
+        lines.append(bytes(line))
+    return b"\n".join(lines) + b"\n"
+
+
+def every_pair(columns):
+    """A row for each two columns: (a,b) is joined to (b,d) for any three columns."""
+    lines = []
+    number = {}
+    for a in range(1, columns + 1):
+        for b in range(a + 1, columns + 1):
+            line = bytearray(b"0" * columns)
+            line[a - 1] = line[b - 1] = 49
+            lines.append(bytes(line))
+            number[a, b] = number[b, a] = len(lines)
+    return b"\n".join(lines) + b"\n", number
+
+
+def steps_round(columns):
+    """Columns in a round, the number of them odd: no step from one to the next is taken twice, and none straight back.
+
+    The number of columns is an odd prime, so that steps of one width lead through every column and home.
+    """
+    widths = list(range(1, columns - 3))
+    middle = columns // 2
+    widths.remove(middle)
+    widths.insert(0, middle)
+    at, walk = 0, []
+    for width in widths:
+        for _ in range(columns):
+            walk.append(at + 1)
+            at = (at + width) % columns
+    return walk
+
+
+def cycle_verdict(columns, walk, number):
+    """The verdict of an odd cycle through the pairs of neighbours of a closed walk."""
+    length = len(walk)
+    lines = []
+    for i, a in enumerate(walk):
+        b, d = walk[(i + 1) % length], walk[(i + 2) % length]
+        lines.append(f"{a} {b} row {number[a, d]}")
+    head = ["pq-verdict 1", "kind matrix", f"columns {columns}", "answer no", "side 1", f"cycle {length}"]
+    return "\n".join(head + lines + ["end", ""]).encode()
