@@ -4,3 +4,4 @@ pub mod Tables
 pub mod Search
 pub mod Holders
 pub mod Closing
+pub mod Reasons
