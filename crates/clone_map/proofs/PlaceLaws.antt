@@ -9,7 +9,7 @@ use Rattle.row_model.specs.Rows.{Ascends, IsRow}
 use Rattle.row_model.specs.declared.lists.Place.{Place}
 use Rattle.row_model.specs.declared.lists.Place.TheVariants.{Nowhere, At}
 use Rattle.clone_map.specs.Places.{probe_at, StandsAt, StandsFrom, IsPlaceOf, ArePlaces}
-use Rattle.clone_map.specs.Positions.{position_of, ArePositions}
+use Rattle.clone_map.specs.Positions.{StandsOnlyAt}
 use Rattle.clone_map.specs.Runs.{IsWithinPositions}
 
 -- an empty clone stands nowhere
@@ -77,31 +77,31 @@ has_clone o clones places place h among = find clones places among.0 h among.1 a
         record { clone = r.clone; among = (suc r.among.0, omega (arith, r.among.1), r.among.2); is_place = r.is_place }
 
 -- a further probe of a clone
-module _ (o clone positions : List ℕ) (a : ℕ) (from : 1 ≤ a) (to : a ≤ length positions) (are : ArePositions o positions) where
+module _ (o clone : List ℕ) (a p : ℕ) (at : StandsOnlyAt o a p) where
   stands_more : (i : ℕ) → StandsAt o clone i → StandsAt o (clone ++ a ∷ []) i
   stands_more i h = record { from = h.from; to = h.to; holds = has_append_left clone (a ∷ []) (probe_at o i) h.holds }
 
-  stands_new : StandsAt o (clone ++ a ∷ []) (position_of positions a)
+  stands_new : StandsAt o (clone ++ a ∷ []) p
   stands_new =
       record {
-        from = are.from a from to;
-        to = are.to a from to;
-        holds = has_append_right clone (a ∷ []) (probe_at o (position_of positions a)) (subst (λ x. IsTrue (has (a ∷ []) x)) (sym (are.there a from to)) (has_head a []));
+        from = at.from;
+        to = at.to;
+        holds = has_append_right clone (a ∷ []) (probe_at o p) (subst (λ x. IsTrue (has (a ∷ []) x)) (sym at.there) (has_head a []));
       }
 
-  stands_cases : (i : ℕ) → StandsAt o (clone ++ a ∷ []) i → StandsAt o clone i ⊎ (i ≡ position_of positions a)
+  stands_cases : (i : ℕ) → StandsAt o (clone ++ a ∷ []) i → StandsAt o clone i ⊎ (i ≡ p)
   stands_cases i h =
       elim (has_append_cases clone (a ∷ []) (probe_at o i) h.holds) [
         | inl k ↦ inl (record { from = h.from; to = h.to; holds = k })
         | inr k ↦ elim (has_cases a (probe_at o i) [] k) [
-          | inl e ↦ inr (are.only a i from to h.from h.to (sym e))
+          | inl e ↦ inr (at.only i h.from h.to (sym e))
           | inr t ↦ absurd (both_ways false refl t)
         ]
       ]
 
-  pub first_probe : clone ≡ [] → StandsFrom o (clone ++ a ∷ []) (position_of positions a) (position_of positions a)
+  pub first_probe : clone ≡ [] → StandsFrom o (clone ++ a ∷ []) p p
   first_probe e =
-      let only : (i : ℕ) → StandsAt o (clone ++ a ∷ []) i → i ≡ position_of positions a = λ i h. elim (stands_cases i h) [
+      let only : (i : ℕ) → StandsAt o (clone ++ a ∷ []) i → i ≡ p = λ i h. elim (stands_cases i h) [
         | inl k ↦ absurd (none_stands o i (subst (λ c. StandsAt o c i) e k))
         | inr s ↦ s
       ] in
@@ -112,9 +112,8 @@ module _ (o clone positions : List ℕ) (a : ℕ) (from : 1 ≤ a) (to : a ≤ l
         none_after = λ i h. omega (arith, only i h);
       }
 
-  pub next_probe : (first last : ℕ) → StandsFrom o clone first last → StandsFrom o (clone ++ a ∷ []) (min first (position_of positions a)) (max last (position_of positions a))
+  pub next_probe : (first last : ℕ) → StandsFrom o clone first last → StandsFrom o (clone ++ a ∷ []) (min first p) (max last p)
   next_probe first last h =
-      let p = position_of positions a in
       record {
         at_first = elim (cases_lt first p) [
           | inl l ↦ subst (StandsAt o (clone ++ a ∷ [])) (omega arith) (stands_more first h.at_first)

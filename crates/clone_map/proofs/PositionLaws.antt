@@ -11,7 +11,7 @@ use Rattle.column_order.specs.Orders.{has, occurs, place, IsOrder, IsWithin}
 use Rattle.column_order.proofs.Lists.{has_head, has_tail, occurs_from_has, place_head, place_tail, at_place}
 use Rattle.row_model.proofs.Sides.{order_has}
 use Rattle.clone_map.specs.Places.{probe_at, StandsAt}
-use Rattle.clone_map.specs.Positions.{position_of, ArePositions}
+use Rattle.clone_map.specs.Positions.{StandsOnlyAt, position_of, ArePositions}
 
 pub has_at : (o : List ℕ) (i : ℕ) → i < length o → IsTrue (has o (get_or o i 0))
 has_at [] i h = absurd (omega arith)
@@ -113,13 +113,15 @@ module _ (c : ℕ) (o : List ℕ) (order : IsOrder c o) where
       }
 
   pub positions_all : (positions : List ℕ) → ArePositionsUpTo c o positions (length o) → ArePositions o positions
-  positions_all positions h =
-      record {
-        from = λ a l u. omega (arith, at a l u, (found a l u).1);
-        to = λ a l u. omega (arith, at a l u, (found a l u).2);
-        there = λ a l u. ap (probe_at o) (at a l u) ∙ (found a l u).3;
-        only = λ a i l u f t e. position_only i (found a l u).0 f t (found a l u).1 (found a l u).2 (e ∙ sym (found a l u).3) ∙ sym (at a l u);
-      }
+  positions_all positions h a l u =
+      let i = (found a l u).0 in
+      let e : i ≡ position_of positions a = sym (at a l u) in
+      subst (StandsOnlyAt o a) e (record {
+        from = (found a l u).1;
+        to = (found a l u).2;
+        there = (found a l u).3;
+        only = λ j f t same. position_only j i f t (found a l u).1 (found a l u).2 (same ∙ sym (found a l u).3);
+      })
     where
       found : (a : ℕ) → 1 ≤ a → a ≤ length positions → (i : ℕ) × (1 ≤ i) × (i ≤ length o) × (probe_at o i ≡ a)
       found a l u = position_from a l (omega (arith, h.size))

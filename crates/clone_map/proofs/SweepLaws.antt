@@ -1,14 +1,14 @@
 -- The sweep along the positions.
-use Rattle.std.proofs.Common.{◌≡◌, ◌≢◌, ◌⊎◌, ◌∙◌, ℕ, ◌+◌, ◌<◌, ◌≤◌, List, [], ◌∷◌, ◌++◌, get_or, set, replicate, max, All, refl, sym, ap, subst, inl, inr, arith, get_or-set_same, get_or-set_other}
+use Rattle.std.proofs.Common.{◌≡◌, ◌≢◌, ◌⊎◌, ◌∙◌, ℕ, ◌+◌, ◌<◌, ◌≤◌, List, [], ◌∷◌, ◌++◌, get_or, set, max, All, sym, ap, subst, inl, inr, arith, get_or-set_same, get_or-set_other}
 use Rattle.std.specs.List.{Contains}
 use Rattle.std.proofs.lemmas.Bool.{cases_lt, cases_eq}
-use Rattle.std.proofs.lemmas.List.{length-set, length-replicate, get_or-replicate, get_or_past}
-use Rattle.std.proofs.lemmas.List.Elements.{All-contains, All-push, All-nil, Contains-push, Contains-push_cases, Contains-append_left}
+use Rattle.std.proofs.lemmas.List.{length-set}
+use Rattle.std.proofs.lemmas.List.Elements.{All-contains, All-push, Contains-push, Contains-push_cases, Contains-append_left}
 use Rattle.row_model.specs.declared.lists.Place.{Place}
 use Rattle.row_model.specs.declared.lists.Place.TheVariants.{Nowhere, At}
 use Rattle.row_model.specs.declared.lists.Span.{Span}
 use Rattle.clone_map.specs.Contigs.{Cover}
-use Rattle.clone_map.specs.Runs.{IsWithinPositions, AreReaches, IsCovered, IsRun, AreRuns}
+use Rattle.clone_map.specs.Runs.{IsWithinPositions, AreReaches, IsCovered, IsRun}
 
 -- after a number of positions: the runs so far, the last position that they cover, and the greatest last position of the places that begin so far
 pub record IsSwept (places : List Place) (done before reach : ℕ) (spans : List Span) : Type 0 where
@@ -26,26 +26,6 @@ cover_push before middle end (x ∷ spans) s h f l e = (h.0, h.1, cover_push x.l
 module _ (count : ℕ) (places : List Place) (within : All (IsWithinPositions count) places) where
   in_positions : (first last : ℕ) → Contains places (At first last) → (1 ≤ first) × (first ≤ last) × (last ≤ count)
   in_positions first last among = All-contains (IsWithinPositions count) places (At first last) within among
-
-  pub swept_none : IsSwept places 0 0 0 []
-  swept_none =
-      record {
-        cover = refl;
-        runs = All-nil (IsRun places);
-        behind = omega arith;
-        open_run = λ gap l u. absurd (omega arith);
-        greatest = λ first last among l u. absurd (omega arith);
-        taken = inl refl;
-      }
-
-  -- at the end the runs cover all positions
-  pub swept_all : (before reach : ℕ) (spans : List Span) → IsSwept places count before reach spans → AreRuns count places spans
-  swept_all before reach spans h =
-      let all : before ≡ count = elim (cases_lt before count) [
-        | inl l ↦ (let k = h.open_run count l (omega arith) in absurd (omega (arith, k.after, (in_positions k.first k.last k.among).2)))
-        | inr l ↦ omega (arith, h.behind)
-      ] in
-      record { cover = subst (λ n. Cover 0 n spans) all h.cover; runs = h.runs }
 
   module _ (done before reach : ℕ) (spans : List Span) (reaches : List ℕ) (h : IsSwept places done before reach spans) (at : AreReaches count places reaches) where
     abbrev next : ℕ
@@ -190,21 +170,3 @@ module _ (count : ℕ) (places : List Place) (reaches : List ℕ) (h : AreReache
             ])
           ];
         }
-
-zero_at : (count i : ℕ) → get_or (replicate {A = ℕ} count 0) i 0 ≡ 0
-zero_at count i =
-    let none : ℕ = 0 in
-    elim (cases_lt i count) [
-      | inl l ↦ get_or-replicate count i none none l
-      | inr l ↦ get_or_past (replicate count none) i none (omega (arith, length-replicate count none))
-    ]
-
--- with no place yet
-pub reaches_none : (count : ℕ) → AreReaches count [] (replicate {A = ℕ} count 0)
-reaches_none count =
-    let none : ℕ = 0 in
-    record {
-      size = length-replicate count none;
-      greatest = λ i last among. absurd (omega (arith, among.1));
-      taken = λ i. inl (zero_at count i);
-    }

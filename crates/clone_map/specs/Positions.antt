@@ -2,13 +2,17 @@
 use Rattle.std.specs.Prelude.{◌≡◌, ℕ, ◌-◌, ◌≤◌, List, length, slice_index}
 use Rattle.clone_map.specs.Places.{probe_at}
 
+-- the column stands at the position, and at no other
+pub record StandsOnlyAt (o : List ℕ) (column position : ℕ) : Type 0 where
+  pub from : 1 ≤ position
+  pub to : position ≤ length o
+  pub there : probe_at o position ≡ column
+  pub only : (i : ℕ) → 1 ≤ i → i ≤ length o → probe_at o i ≡ column → i ≡ position
+
 -- the position of a column
 abbrev pub position_of : List ℕ → ℕ → ℕ
-position_of positions a = slice_index positions (a - 1)
+position_of positions column = slice_index positions (column - 1)
 
--- each column stands at its position and at no other
-pub record ArePositions (o positions : List ℕ) : Type 0 where
-  pub from : (a : ℕ) → 1 ≤ a → a ≤ length positions → 1 ≤ position_of positions a
-  pub to : (a : ℕ) → 1 ≤ a → a ≤ length positions → position_of positions a ≤ length o
-  pub there : (a : ℕ) → 1 ≤ a → a ≤ length positions → probe_at o (position_of positions a) ≡ a
-  pub only : (a i : ℕ) → 1 ≤ a → a ≤ length positions → 1 ≤ i → i ≤ length o → probe_at o i ≡ a → i ≡ position_of positions a
+-- the list has the position of each of its columns, from column 1 on
+abbrev pub ArePositions : List ℕ → List ℕ → Type 0
+ArePositions o positions = (column : ℕ) → 1 ≤ column → column ≤ length positions → StandsOnlyAt o column (position_of positions column)

@@ -1,4 +1,4 @@
-//! Where the clones of a physical map stand in an order of the probes, and the contigs that they make up.
+//! Where the clones stand in an order of the probes, and the contigs that they make up.
 //!
 //! A clone is a row of a matrix, the set of the probes that it holds; a probe is a column. In a valid order the probes of
 //! each clone stand side by side.

@@ -2,7 +2,7 @@
 ghost use Rattle.std.specs.Prelude.{◌≡◌, ◌≤◌, ℕ, List, [], ◌∷◌, ◌++◌, length, All, IfOk};
 ghost use Rattle.row_model.specs.Rows.{IsRow};
 ghost use Rattle.clone_map.specs.Places.{ArePlaces, IsPlaceOf};
-ghost use Rattle.clone_map.specs.Positions.{ArePositions, position_of};
+ghost use Rattle.clone_map.specs.Positions.{ArePositions, StandsOnlyAt};
 
 use row_model::{Matrix, Place, Places};
 use std::alloc::{AllocError, Global};
@@ -33,11 +33,10 @@ fn place_of(row: &[u32], positions: &[u32]) -> Place
     place
 }
 
-// The place of a row that has one more column, at this position.
+// From the place of a row, that of the row with one more column, which stands at the position.
 fn with_position(place: Place, position: u32) -> Place
-    ensures { (order row positions : List ℕ) (column : ℕ) →
-        1 ≤ column → column ≤ length positions → position ≡ position_of positions column →
-        ArePositions order positions → IsPlaceOf order row place →
+    ensures { (order row : List ℕ) (column : ℕ) →
+        StandsOnlyAt order column position → IsPlaceOf order row place →
         IsPlaceOf order (row ++ column ∷ []) result }
 {
     match place {

@@ -1,4 +1,4 @@
-use Rattle.std.proofs.Common.{length, take, get_or, subst, sym, arith, refl}
+use Rattle.std.proofs.Common.{length, take, get_or, subst, sym, arith}
 use Rattle.std.proofs.lemmas.List.{take_more}
 use Rattle.clone_map.specs.Places.{IsPlaceOf}
 use Rattle.clone_map.proofs.PlaceLaws.{row_range}
@@ -16,4 +16,4 @@ loop-column-preserved c = λ order are.
     let i = c.loop-column.column-index in
     let range = row_range (length c.args.positions.now) row i c.requires c.loop-column-test.true in
     subst (λ xs. IsPlaceOf order xs c.with_position-place.result) (sym (take_more row i 0 c.loop-column-test.true))
-    (c.with_position-place.ensures order (take i row) c.args.positions.now (get_or row i 0) range.0 range.1 refl are (c.loop-column.invariant order are))
+    (c.with_position-place.ensures order (take i row) (get_or row i 0) (are (get_or row i 0) range.0 range.1) (c.loop-column.invariant order are))
