@@ -1,0 +1,6 @@
+pub mod PositionLaws
+pub mod ChainLaws
+pub mod PlaceLaws
+pub mod RunLaws
+pub mod ContigLaws
+pub mod SweepLaws

@@ -1,0 +1,13 @@
+use Rattle.clone_map.proofs.ContigLaws.{contigs_only}
+use Rattle.clone_map.proofs.ChainLaws.{neighbours_both}
+use Rattle.clone_map.proofs.PlaceLaws.{places_only}
+use Rattle.clone_map.proofs.laws.place_laws.Goals as goal
+
+pub returns-clause-places : goal.returns-clause-places
+returns-clause-places c = places_only
+
+pub returns-clause-neighbours : goal.returns-clause-neighbours
+returns-clause-neighbours c = neighbours_both
+
+pub returns-clause-contigs : goal.returns-clause-contigs
+returns-clause-contigs c = contigs_only

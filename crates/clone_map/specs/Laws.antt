@@ -1,0 +1,40 @@
+-- The places and the contigs of an order are unique, and a valid order has each contig in one run.
+use Rattle.std.specs.Prelude.{◌≡◌, ◌↔◌, ℕ, ◌+◌, ◌≤◌, List, length, All, Contains}
+use Rattle.column_order.specs.Orders.{IsValidOrder, IsWithin}
+use Rattle.row_model.specs.declared.lists.Place.{Place}
+use Rattle.row_model.specs.declared.lists.Span.{Span}
+use Rattle.clone_map.specs.Places.{probe_at, StandsAt, ArePlaces}
+use Rattle.clone_map.specs.Contigs.{InOneContig, AreContigs}
+
+-- two lists of the clones' places are equal
+abbrev pub PlacesLaw : Type 0
+PlacesLaw =
+    (clones : List (List ℕ)) (o : List ℕ) (places others : List Place) →
+    ArePlaces o clones places →
+    ArePlaces o clones others →
+    places ≡ others
+
+-- two lists of an order's contigs are equal
+abbrev pub ContigsLaw : Type 0
+ContigsLaw =
+    (clones : List (List ℕ)) (o : List ℕ) (spans others : List Span) →
+    AreContigs clones o spans →
+    AreContigs clones o others →
+    spans ≡ others
+
+-- some clone has the probes at both positions
+pub record HasBoth (clones : List (List ℕ)) (o : List ℕ) (i j : ℕ) : Type 0 where
+  pub clone : List ℕ
+  pub among : Contains clones clone
+  pub one : StandsAt o clone i
+  pub other : StandsAt o clone j
+
+-- in a valid order two neighbouring probes lie in one contig exactly where some clone has both
+abbrev pub NeighboursLaw : Type 0
+NeighboursLaw =
+    (c : ℕ) (clones : List (List ℕ)) (o : List ℕ) (i : ℕ) →
+    All (IsWithin c) clones →
+    IsValidOrder c clones o →
+    1 ≤ i →
+    i + 1 ≤ length o →
+    InOneContig clones (probe_at o i) (probe_at o (i + 1)) ↔ HasBoth clones o i (i + 1)

@@ -1,0 +1,5 @@
+pub mod Places
+pub mod Contigs
+pub mod Laws
+pub mod Positions
+pub mod Runs
