@@ -70,6 +70,9 @@ split_not c t row proper s keeps = let b : Broken row t = split_breaks row t pro
 keeps_unsplit : (c : ℕ) (t : Outline) (row : List ℕ) → IsProper c t → ((o : List ℕ) → IsFrontier t o → Keeps o row) → IsFalse (is_split row t)
 keeps_unsplit c t row proper keeps = false_from_ne_true (is_split row t) (λ s. split_not c t row proper s keeps)
 
+pub split_law : (c : ℕ) (t : Outline) (row : List ℕ) → IsProper c t → ((o : List ℕ) → IsFrontier t o → Keeps o row) ↔ IsFalse (is_split row t)
+split_law c t row proper = (keeps_unsplit c t row proper, unsplit_keeps c t row proper)
+
 -- what the walk answers
 pub holds_exactly : (c : ℕ) (t : Outline) (row : List ℕ) (split : Bool) → IsProper c t → split ≡ is_split row t → IsTrue (not split) ↔ ((o : List ℕ) → IsFrontier t o → Keeps o row)
 holds_exactly c t row split proper e = (

@@ -1,7 +1,8 @@
 -- The nodes of a tree that split a row.
-use Rattle.std.specs.Prelude.{◌≡◌, ℕ, ◌+◌, Bool, true, false, not, ◌||◌, ◌&&◌, nat_le, if◌then◌else◌, List, [], ◌∷◌}
-use Rattle.column_order.specs.Orders.{has}
-use Rattle.pq_tree.specs.Outline.{Outline, Forest, leaf, p_node, q_node, no_tree, tree_and, leaves, leaves_of}
+use Rattle.std.specs.Prelude.{◌≡◌, ◌↔◌, IsFalse, ℕ, ◌+◌, Bool, true, false, not, ◌||◌, ◌&&◌, nat_le, if◌then◌else◌, List, [], ◌∷◌}
+use Rattle.column_order.specs.Orders.{has, Keeps}
+use Rattle.pq_tree.specs.Outline.{Outline, Forest, leaf, p_node, q_node, no_tree, tree_and, leaves, leaves_of, IsFrontier}
+use Rattle.pq_tree.specs.Proper.{IsProper}
 use Rattle.verdict_check.specs.declared.holds.Children.{Children}
 use Rattle.verdict_check.specs.declared.holds.Line.{Line}
 use Rattle.verdict_check.specs.declared.holds.Line.TheVariants.{Before, Whole, Ended, Gapped}
@@ -48,6 +49,10 @@ unfoldable mutual
   pub are_split : List ℕ → Forest → Bool
   are_split row no_tree = false
   are_split row (tree_and t ts) = is_split row t || are_split row ts
+
+-- every frontier of a proper tree keeps a row exactly where no node of the tree splits it
+abbrev pub SplitLaw : Type 0
+SplitLaw = (c : ℕ) (t : Outline) (row : List ℕ) → IsProper c t → ((o : List ℕ) → IsFrontier t o → Keeps o row) ↔ IsFalse (is_split row t)
 
 -- the share says what the row has of the tree
 pub record IsShare (row : List ℕ) (t : Outline) (s : Share) : Type 0 where

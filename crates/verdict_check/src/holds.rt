@@ -6,13 +6,13 @@
 
 ghost use Rattle.std.specs.Prelude.{◌≡◌, ◌↔◌, ◌<◌, ◌≤◌, ◌+◌, ◌^◌, ◌-◌, ℕ, List, map, Contains, IsTrue};
 ghost use Rattle.std.specs.List.Sorted.{IsNonDecreasing};
-ghost use Rattle.column_order.specs.Orders.{has, Keeps};
+ghost use Rattle.column_order.specs.Orders.{Keeps};
 ghost use Rattle.row_model.specs.Rows.{IsRow};
 ghost use Rattle.pq_tree.specs.Outline.{Outline, Forest, IsFrontier, leaf, p_node, q_node, no_tree, tree_and};
 ghost use Rattle.pq_tree.specs.Proper.{outline_of, forest};
 ghost use Rattle.pq_tree.specs.PqTree.{column_count, outline};
 ghost use Rattle.verdict_check.specs.Holds.{HoldsLaw};
-ghost use Rattle.verdict_check.specs.HoldsWalk.{IsShare, IsSum, gapped_behind, meets, misses};
+ghost use Rattle.verdict_check.specs.HoldsWalk.{IsShare, IsSum, SplitLaw, gapped_behind};
 
 use pq_tree::{PqTree, Tree};
 
@@ -70,7 +70,7 @@ impl Line {
         }
     }
 
-    /// Whether the children are gapped, where no child is left.
+    /// Whether the row has columns of two of the children, and misses a column of one of the two or of a child between them.
     fn is_gapped(self) -> bool
         ensures { (row : List ℕ) → result ≡ gapped_behind row self no_tree }
     {
@@ -185,8 +185,58 @@ fn row_has(row: &[u32], column: u32) -> bool
     row.binary_search(&column).is_ok()
 }
 
-/// Every frontier of a proper tree keeps a row exactly where the row is empty, or has the columns of one node, or those of neighbouring
-/// children of one Q-node, and no other.
+/// The rows that every frontier of a proper tree keeps.
+///
+/// They are the empty row, the rows that have the columns of one node and no other, and the rows that have those of neighbouring children
+/// of one Q-node and no other. They are also the rows that no node splits.
 pub fn holds_law()
-    ensures { HoldsLaw }
+    ensures stretch { HoldsLaw }
+    ensures split { SplitLaw }
 {}
+
+#[cfg(test)]
+mod tests {
+    ghost use Rattle.std.specs.Prelude.{◌≤◌};
+    ghost use Rattle.row_model.specs.Rows.{IsRow};
+
+    use super::*;
+    use pq_tree::NoMemory;
+    use std::alloc::Global;
+    use std::process::Abort;
+    use std::test::Fail;
+
+    /// Asserts whether every frontier of the tree with this text keeps the row.
+    fn assert_holds(
+        rt: &impl Abort,
+        alloc: Global,
+        text: &[u8],
+        c: u32,
+        row: &[u32],
+        holds: bool,
+    ) -> Result<(), NoMemory>
+        requires columns { (1 ≤ c) × (c ≤ 32768) }
+        requires row { IsRow c row.now }
+    {
+        match PqTree::parse(alloc, text, c)? {
+            None => assert!(rt; false),
+            Some(tree) => {
+                let answer = tree_holds(&tree, row);
+                assert_eq!(rt; answer, holds);
+            }
+        }
+        Ok(())
+    }
+
+    #[test]
+    fn a_run_of_a_q_node_holds_and_a_pair_of_a_p_node_does_not(
+        rt: HostRuntime,
+    ) -> Result<(), Fail> {
+        let alloc = rt.alloc();
+        assert_holds(&rt, alloc, b"[1 2 3]", 3, &[1, 2], true)?;
+        assert_holds(&rt, alloc, b"[1 2 3]", 3, &[1, 3], false)?;
+        assert_holds(&rt, alloc, b"(1 2 3)", 3, &[1, 2], false)?;
+        assert_holds(&rt, alloc, b"([1 2 3] 4)", 4, &[2, 3], true)?;
+        assert_holds(&rt, alloc, b"([1 2 3] 4)", 4, &[3, 4], false)?;
+        Ok(())
+    }
+}
