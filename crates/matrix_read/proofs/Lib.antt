@@ -1,4 +1,6 @@
 pub mod LineLemmas
 pub mod WordLemmas
+pub mod RowLineLemmas
 pub mod DenseLemmas
 pub mod WrittenLemmas
+pub mod SparseLemmas

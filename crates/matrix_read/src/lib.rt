@@ -6,9 +6,11 @@
 
 mod dense;
 mod lines;
+mod sparse;
 mod words;
 
 pub use dense::read_dense;
 pub use lines::{FilledLine, LineSpan, next_filled_line, next_line, without_mark};
 pub use row_model::NoMemory;
+pub use sparse::{read_more, read_rows};
 pub use words::{Numeral, WordSpan, next_word, number};
