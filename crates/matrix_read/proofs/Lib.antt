@@ -2,3 +2,5 @@ pub mod LineLemmas
 pub mod WordLemmas
 pub mod DenseLemmas
 pub mod WrittenLemmas
+pub mod RecordLemmas
+pub mod TableLemmas

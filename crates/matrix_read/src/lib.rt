@@ -4,11 +4,15 @@
 //! over the bytes line by line and keeps no list of lines.
 #![tactic(auto)]
 
+mod cells;
 mod dense;
 mod lines;
+mod records;
+mod table;
 mod words;
 
 pub use dense::read_dense;
 pub use lines::{FilledLine, LineSpan, next_filled_line, next_line, without_mark};
 pub use row_model::NoMemory;
+pub use table::read_table;
 pub use words::{Numeral, WordSpan, next_word, number};
