@@ -4,3 +4,5 @@ pub mod RowLineLemmas
 pub mod DenseLemmas
 pub mod WrittenLemmas
 pub mod SparseLemmas
+pub mod RecordLemmas
+pub mod TableLemmas

@@ -4,3 +4,6 @@ pub mod RowLines
 pub mod Dense
 pub mod Written
 pub mod Sparse
+pub mod Cells
+pub mod RecordsLeft
+pub mod Table

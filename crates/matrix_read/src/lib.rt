@@ -4,13 +4,17 @@
 //! over the bytes line by line and keeps no list of lines.
 #![tactic(auto)]
 
+mod cells;
 mod dense;
 mod lines;
+mod records;
 mod sparse;
+mod table;
 mod words;
 
 pub use dense::read_dense;
 pub use lines::{FilledLine, LineSpan, next_filled_line, next_line, without_mark};
 pub use row_model::NoMemory;
 pub use sparse::{read_more, read_rows};
+pub use table::read_table;
 pub use words::{Numeral, WordSpan, next_word, number};

@@ -49,7 +49,7 @@ pub fn next_word(bytes: &[u8], at: usize, end: usize) -> Option<WordSpan>
 }
 
 // How many spaces and tabs stand at the front.
-fn count_blanks(bytes: &[u8]) -> usize
+pub fn count_blanks(bytes: &[u8]) -> usize
     ensures count { result ≡ blank_len bytes.now }
     ensures within { result ≤ length bytes.now }
 {
@@ -92,7 +92,7 @@ pub fn number(word: &[u8]) -> Numeral
     Numeral::Value(value)
 }
 
-fn all_digits(word: &[u8]) -> bool
+pub fn all_digits(word: &[u8]) -> bool
     ensures { result ≡ list_all is_ascii_digit word.now }
 {
     word.iter().all(|b| b.is_ascii_digit())

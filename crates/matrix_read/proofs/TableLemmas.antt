@@ -1,0 +1,222 @@
+-- Tables that are read record by record.
+use Rattle.std.proofs.Common.{◌≡◌, ℕ, zero, suc, ◌+◌, ◌<◌, ◌≤◌, ◌==◌, ◌||◌, ◌&&◌, not, Bool, true, false, if◌then◌else◌, List, [], ◌∷◌, ◌++◌, length, map, take, drop, get_or, Option, Some, None, ap, sym, ◌∙◌, refl, arith, add-one, append_assoc, length-append, eqb-true}
+use Rattle.std.proofs.lemmas.Bool.{lt-ltb, le-ltb, le-leb, lt-leb}
+use Rattle.std.proofs.lemmas.List.{append-nil}
+use Rattle.std.proofs.lemmas.List.Folds.{list_any-append}
+use Rattle.std.proofs.lemmas.Slice.Eq.{bytes_eq-Decides}
+use Rattle.std.specs.List.{list_any, list_all, filter}
+use Rattle.std.specs.Str.{bytes_eq}
+use Rattle.csv.specs.Reading.{default_config, strip_bom, records}
+use Rattle.csv.specs.Records.{field_at}
+use Rattle.row_model.specs.Rows.{RowList, Ascends, IsRow}
+use Rattle.row_model.specs.declared.refusal.Read.{Read}
+use Rattle.row_model.specs.declared.refusal.Read.TheVariants as read
+use Rattle.row_model.specs.declared.TheConstants.{MAX_ROWS, MAX_FILE_BYTES}
+use Rattle.row_model.specs.declared.code.TheConstants.{GRAMMAR, LIMIT, CSV}
+use Rattle.matrix_read.specs.Lines.{is_blank_byte, is_blank}
+use Rattle.matrix_read.specs.Cells.{without_last_blanks, trimmed, cells, is_present, is_foreign, present_from, row_of}
+use Rattle.matrix_read.specs.Table.{has_twice, record_code, first_refusal, with_records, with_even_records, read_records, table}
+
+-- a byte after the last that is no blank
+filled_more : (bytes : List ℕ) (n : ℕ) → n < length bytes → is_blank_byte (get_or bytes n 0) ≡ false → is_blank (take (suc n) bytes) ≡ false
+filled_more [] n h e = absurd (omega arith)
+filled_more (b ∷ bytes) zero h e = let is : is_blank_byte b ≡ false = e in rw is refl
+filled_more (b ∷ bytes) (suc n) h e = rw (filled_more bytes n (omega arith) e) (elim (is_blank_byte b) as (λ v. (v && false) ≡ false) [ true ↦ refl | false ↦ refl ])
+
+blank_more : (bytes : List ℕ) (n : ℕ) → n < length bytes → is_blank_byte (get_or bytes n 0) ≡ true → is_blank (take (suc n) bytes) ≡ is_blank (take n bytes)
+blank_more [] n h e = absurd (omega arith)
+blank_more (b ∷ bytes) zero h e = let is : is_blank_byte b ≡ true = e in rw is refl
+blank_more (b ∷ bytes) (suc n) h e = ap (λ v. is_blank_byte b && v) (blank_more bytes n (omega arith) e)
+
+last_kept : (bytes : List ℕ) (n : ℕ) → n < length bytes → is_blank_byte (get_or bytes n 0) ≡ false → without_last_blanks (take (suc n) bytes) ≡ take (suc n) bytes
+last_kept [] n h e = absurd (omega arith)
+last_kept (b ∷ bytes) zero h e = let is : is_blank_byte b ≡ false = e in rw is refl
+last_kept (b ∷ bytes) (suc n) h e =
+    ap (λ v. if v then [] else b ∷ without_last_blanks (take (suc n) bytes)) (filled_more (b ∷ bytes) (suc n) h e)
+    ∙ ap (λ t. b ∷ t) (last_kept bytes n (omega arith) e)
+
+last_dropped : (bytes : List ℕ) (n : ℕ) → n < length bytes → is_blank_byte (get_or bytes n 0) ≡ true → without_last_blanks (take (suc n) bytes) ≡ without_last_blanks (take n bytes)
+last_dropped [] n h e = absurd (omega arith)
+last_dropped (b ∷ bytes) zero h e = let is : is_blank_byte b ≡ true = e in rw is refl
+last_dropped (b ∷ bytes) (suc n) h e =
+    ap (λ v. if v then [] else b ∷ without_last_blanks (take (suc n) bytes)) (blank_more (b ∷ bytes) (suc n) h e)
+    ∙ ap (λ t. if is_blank (b ∷ take n bytes) then [] else b ∷ t) (last_dropped bytes n (omega arith) e)
+
+-- the bytes before a place
+module _ (bytes : List ℕ) (place n : ℕ) (is : place ≡ suc n) (within : place ≤ length bytes) where
+  pub kept_before : is_blank_byte (get_or bytes n 0) ≡ false → without_last_blanks (take place bytes) ≡ take place bytes
+  kept_before e = rw is (last_kept bytes n (omega arith) e)
+
+  pub dropped_before : is_blank_byte (get_or bytes n 0) ≡ true → without_last_blanks (take place bytes) ≡ without_last_blanks (take n bytes)
+  dropped_before e = rw is (last_dropped bytes n (omega arith) e)
+
+-- the cells from a field on
+pub cells_step : (fields : List (List ℕ)) (i : ℕ) (field : List ℕ) → field_at fields i ≡ Some field → map trimmed (drop i fields) ≡ trimmed field ∷ map trimmed (drop (i + 1) fields)
+unfolding field_at
+cells_step [] i field e = absurd (cc)
+cells_step (f ∷ fields) zero field e = let same : f ≡ field = cc in ap (λ t. trimmed t ∷ map trimmed fields) same
+cells_step (f ∷ fields) (suc i) field e = cells_step fields i field e ∙ ap (λ k. trimmed field ∷ map trimmed (drop k (f ∷ fields))) (sym (add-one (i + 1)) ∙ omega arith)
+
+pub cells_end : (fields : List (List ℕ)) (i : ℕ) → length fields ≤ i → map trimmed (drop i fields) ≡ []
+cells_end [] zero le = refl
+cells_end [] (suc i) le = refl
+cells_end (f ∷ fields) zero le = absurd (omega arith)
+cells_end (f ∷ fields) (suc i) le = cells_end fields i (omega arith)
+
+-- the tests of a list's items, and of what they are mapped to
+pub list_any-map : {X Y : Type 0} (p : Y → Bool) (f : X → Y) (xs : List X) → list_any (λ x. p (f x)) xs ≡ list_any p (map f xs)
+list_any-map p f [] = refl
+list_any-map p f (x ∷ xs) = ap (λ b. p (f x) || b) (list_any-map p f xs)
+
+pub filter_kept : (keeps : List ℕ → Bool) (xs rest : List (List ℕ)) (x : List ℕ) → xs ≡ x ∷ rest → keeps x ≡ true → filter keeps xs ≡ x ∷ filter keeps rest
+filter_kept keeps xs rest x is h = rw (is, h) refl
+
+-- a test whose negation is known
+pub is_of_not : (a b : Bool) → not a ≡ b → a ≡ not b
+is_of_not true b h = rw (← h) refl
+is_of_not false b h = rw (← h) refl
+
+-- names of which one stands twice
+same_back : (x y : List ℕ) → bytes_eq x y ≡ true → bytes_eq y x ≡ true
+same_back x y h = (bytes_eq-Decides y x).1 (sym ((bytes_eq-Decides x y).0 h))
+
+or_true : (a b : Bool) → b ≡ true → (a || b) ≡ true
+or_true true b h = refl
+or_true false b h = h
+
+pub twice_found : (names : List (List ℕ)) (name : List ℕ) (rest : List (List ℕ)) → list_any (bytes_eq name) names ≡ true → has_twice (names ++ name ∷ rest) ≡ true
+twice_found [] name rest h = absurd (cc)
+twice_found (x ∷ names) name rest h = by (bytes_eq name x) refl h (twice_found names name rest)
+  where
+    here : bytes_eq name x ≡ true → list_any (bytes_eq x) (names ++ name ∷ rest) ≡ true
+    here e =
+        list_any-append (bytes_eq x) names (name ∷ rest)
+        ∙ or_true (list_any (bytes_eq x) names) (bytes_eq x name || list_any (bytes_eq x) rest) (ap (λ v. v || list_any (bytes_eq x) rest) (same_back name x e))
+
+    by : (b : Bool) → bytes_eq name x ≡ b → (b || list_any (bytes_eq name) names) ≡ true → (list_any (bytes_eq name) names ≡ true → has_twice (names ++ name ∷ rest) ≡ true) → (list_any (bytes_eq x) (names ++ name ∷ rest) || has_twice (names ++ name ∷ rest)) ≡ true
+    by true e h later = ap (λ v. v || has_twice (names ++ name ∷ rest)) (here e)
+    by false e h later = or_true (list_any (bytes_eq x) (names ++ name ∷ rest)) (has_twice (names ++ name ∷ rest)) (later h)
+
+not_same_back : (x y : List ℕ) → bytes_eq x y ≡ false → bytes_eq y x ≡ false
+not_same_back x y h = by (bytes_eq y x) refl
+  where
+    by : (b : Bool) → bytes_eq y x ≡ b → b ≡ false
+    by true e = let t = same_back y x e in absurd (cc)
+    by false e = refl
+
+both_false : (a b : Bool) → (a || b) ≡ false → (a ≡ false) × (b ≡ false)
+both_false true b h = absurd (cc)
+both_false false b h = (refl, h)
+
+pub twice_added : (names : List (List ℕ)) (name : List ℕ) → list_any (bytes_eq name) names ≡ false → has_twice names ≡ false → has_twice (names ++ name ∷ []) ≡ false
+twice_added [] name h d = refl
+twice_added (x ∷ names) name h d =
+    let apart = both_false (bytes_eq name x) (list_any (bytes_eq name) names) h in
+    let before = both_false (list_any (bytes_eq x) names) (has_twice names) d in
+    let rest : has_twice (names ++ name ∷ []) ≡ false = twice_added names name apart.1 before.1 in
+    let here : list_any (bytes_eq x) (names ++ name ∷ []) ≡ false =
+    list_any-append (bytes_eq x) names (name ∷ []) ∙ (rw (before.0, not_same_back name x apart.0) refl)
+    in
+    rw (here, rest) refl
+
+-- the columns of cells ascend
+Ascends-low : (c low less : ℕ) (row : List ℕ) → less ≤ low → Ascends c low row → Ascends c less row
+Ascends-low c low less [] le h = tt
+Ascends-low c low less (x ∷ row) le h = (omega (arith, h.0), h.1, h.2)
+
+present_ascend : (c low : ℕ) (rest : List (List ℕ)) → low + length rest ≤ c → Ascends c low (present_from (low + 1) rest)
+present_ascend c low [] le = tt
+present_ascend c low (cell ∷ rest) le =
+    let after : Ascends c (low + 1) (present_from (low + 1 + 1) rest) = present_ascend c (low + 1) rest (omega arith) in
+    elim (is_present cell) as (λ v. Ascends c low (if v then (low + 1) ∷ present_from (low + 1 + 1) rest else present_from (low + 1 + 1) rest)) [
+      | true ↦ (omega arith, omega arith, after)
+      | false ↦ Ascends-low c (low + 1) low (present_from (low + 1 + 1) rest) (omega arith) after
+    ]
+
+length-cells : (fields : List (List ℕ)) (n : ℕ) → length fields ≡ n + 1 → length (cells fields) ≡ n
+length-cells [] n h = absurd (omega arith)
+length-cells (f ∷ fields) n h = length_map fields ∙ omega arith
+  where
+    length_map : (xs : List (List ℕ)) → length (map trimmed xs) ≡ length xs
+    length_map [] = refl
+    length_map (x ∷ xs) = ap suc (length_map xs)
+
+pub row_ascends : (c : ℕ) (fields : List (List ℕ)) → length fields ≡ c + 1 → IsRow c (row_of fields)
+row_ascends c fields h = present_ascend c 0 (cells fields) (omega (arith, length-cells fields c h))
+
+-- one record and then others
+module _ (before : ℕ) (fields : List (List ℕ)) (rest : List (List (List ℕ))) where
+  pub refusal_here : (code : ℕ) → record_code before fields ≡ Some code → first_refusal before (fields ∷ rest) ≡ Some (record { code = code; line = before + 2 })
+  unfolding first_refusal
+  refusal_here code h = rw h refl
+
+  pub refusal_later : record_code before fields ≡ None → first_refusal before (fields ∷ rest) ≡ first_refusal (before + 1) rest
+  unfolding first_refusal
+  refusal_later h = rw h refl
+
+none_refused : (before : ℕ) → first_refusal before [] ≡ None
+unfolding first_refusal
+none_refused before = refl
+
+pub code_full : (before : ℕ) (fields : List (List ℕ)) → MAX_ROWS ≤ before → record_code before fields ≡ Some LIMIT
+code_full before fields h = rw (le-leb MAX_ROWS before h) refl
+
+module _ (before : ℕ) (fields : List (List ℕ)) (few : before < MAX_ROWS) where
+  pub code_foreign : list_any is_foreign (cells fields) ≡ true → record_code before fields ≡ Some GRAMMAR
+  code_foreign h = rw (lt-leb MAX_ROWS before few, h) refl
+
+  pub code_none : list_any is_foreign (cells fields) ≡ false → record_code before fields ≡ None
+  code_none h = rw (lt-leb MAX_ROWS before few, h) refl
+
+pub record_refused : (m : RowList) (fields : List (List ℕ)) (rest : List (List (List ℕ))) (code : ℕ) → record_code (length m.rows) fields ≡ Some code
+    → with_records (read.Ok m) (fields ∷ rest) ≡ read.Refused (record { code = code; line = length m.rows + 2 })
+record_refused m fields rest code h = rw (refusal_here (length m.rows) fields rest code h) refl
+
+pub record_taken : (m : RowList) (fields : List (List ℕ)) (rest : List (List (List ℕ))) → record_code (length m.rows) fields ≡ None
+    → with_records (read.Ok m) (fields ∷ rest) ≡ with_records (read.Ok (record { columns = m.columns; rows = m.rows ++ row_of fields ∷ [] })) rest
+record_taken m fields rest h =
+    let count : length (m.rows ++ row_of fields ∷ []) ≡ length m.rows + 1 = length-append m.rows (row_of fields ∷ []) in
+    rw (refusal_later (length m.rows) fields rest h, count, append_assoc m.rows (row_of fields ∷ []) (map row_of rest)) refl
+
+pub no_record : (so_far : Read RowList) → with_records so_far [] ≡ so_far
+no_record (read.Refused refusal) = refl
+no_record (read.Ok m) = rw (none_refused (length m.rows), append-nil m.rows) refl
+
+pub one_by_one : (so_far : Read RowList) (fields : List (List ℕ)) (rest : List (List (List ℕ))) → with_records (with_records so_far (fields ∷ [])) rest ≡ with_records so_far (fields ∷ rest)
+one_by_one (read.Refused refusal) fields rest = refl
+one_by_one (read.Ok m) fields rest = by (record_code (length m.rows) fields) refl
+  where
+    by : (code : Option ℕ) → record_code (length m.rows) fields ≡ code → with_records (with_records (read.Ok m) (fields ∷ [])) rest ≡ with_records (read.Ok m) (fields ∷ rest)
+    by (Some code) e = ap (λ r. with_records r rest) (record_refused m fields [] code e) ∙ sym (record_refused m fields rest code e)
+    by None e =
+        ap (λ r. with_records r rest) (record_taken m fields [] e ∙ no_record (read.Ok (record { columns = m.columns; rows = m.rows ++ row_of fields ∷ [] })))
+        ∙ sym (record_taken m fields rest e)
+
+-- records of one length, one after another
+module _ (width : ℕ) (so_far : Read RowList) (fields : List (List ℕ)) (further rest : List (List (List ℕ))) (is : further ≡ fields ∷ rest) where
+  pub uneven_here : (length fields ≡ width → ⊥) → with_even_records width so_far further ≡ read.Refused (record { code = CSV; line = 0 })
+  uneven_here h = rw is (by (length fields == width) refl)
+    where
+      by : (b : Bool) → (length fields == width) ≡ b → (if b && list_all (λ f. length f == width) rest then with_records so_far (fields ∷ rest) else read.Refused (record { code = CSV; line = 0 })) ≡ read.Refused (record { code = CSV; line = 0 })
+      by true e = absurd (h (eqb-true (length fields) width e))
+      by false e = refl
+
+  pub even_here : length fields ≡ width → with_even_records width (with_records so_far (fields ∷ [])) rest ≡ with_even_records width so_far further
+  even_here h =
+      let same : (length fields == width) ≡ true = rw h (eqb_same width) in
+      rw (is, same) (ap (λ r. if list_all (λ f. length f == width) rest then r else read.Refused (record { code = CSV; line = 0 })) (one_by_one so_far fields rest))
+    where
+      eqb_same : (n : ℕ) → (n == n) ≡ true
+      eqb_same n = grind arith
+
+pub even_end : (width : ℕ) (so_far : Read RowList) (further : List (List (List ℕ))) → further ≡ [] → with_even_records width so_far further ≡ so_far
+even_end width so_far further is = rw is (no_record so_far)
+
+-- the length of the file comes first
+pub table_long : (bytes : List ℕ) → MAX_FILE_BYTES < length bytes → table bytes ≡ read.Refused (record { code = LIMIT; line = 0 })
+unfolding table
+table_long bytes h = rw (lt-ltb MAX_FILE_BYTES (length bytes) h) refl
+
+pub table_short : (bytes : List ℕ) → length bytes ≤ MAX_FILE_BYTES → table bytes ≡ read_records (records default_config (strip_bom bytes))
+unfolding table
+table_short bytes h = rw (le-ltb MAX_FILE_BYTES (length bytes) h) refl

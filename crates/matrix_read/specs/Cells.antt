@@ -1,0 +1,49 @@
+-- The cells of a table, and the rows that they mark.
+use Rattle.std.specs.Prelude.{ℕ, ◌+◌, ◌==◌, ◌||◌, ◌&&◌, not, List, [], ◌∷◌, map, length, drop, codes, if◌then◌else◌, Bool}
+use Rattle.std.specs.Char.{is_ascii_digit}
+use Rattle.std.specs.List.{list_all}
+use Rattle.std.specs.Str.{bytes_eq}
+use Rattle.matrix_read.specs.Lines.{is_blank}
+use Rattle.matrix_read.specs.Words.{blank_len}
+
+-- the bytes up to the last that is no space or tab
+abbrev pub without_last_blanks : List ℕ → List ℕ
+without_last_blanks [] = []
+without_last_blanks (b ∷ bytes) = if is_blank (b ∷ bytes) then [] else b ∷ without_last_blanks bytes
+
+-- a field without the spaces and tabs at both ends
+abbrev pub trimmed : List ℕ → List ℕ
+trimmed field = without_last_blanks (drop (blank_len field) field)
+
+-- the fields of a record from the second on, each without the spaces and tabs at both ends: one for each column
+abbrev pub cells : List (List ℕ) → List (List ℕ)
+cells fields = map trimmed (drop 1 fields)
+
+-- a cell without a byte
+abbrev pub is_empty : List ℕ → Bool
+is_empty cell = length cell == 0
+
+-- no byte but 0: the row lacks the column
+abbrev pub is_absent : List ℕ → Bool
+is_absent cell = list_all (λ b. b == 48) cell
+
+-- x or X
+abbrev pub is_cross : List ℕ → Bool
+is_cross cell = bytes_eq cell (codes "x") || bytes_eq cell (codes "X")
+
+-- a cross, or digits that are not all 0: the row has the column
+abbrev pub is_present : List ℕ → Bool
+is_present cell = is_cross cell || (list_all is_ascii_digit cell && not (is_absent cell))
+
+-- a cell that says neither
+abbrev pub is_foreign : List ℕ → Bool
+is_foreign cell = not (is_present cell || is_absent cell)
+
+-- the columns whose cells say that the row has them, where the first cell is of this column
+abbrev pub present_from : ℕ → List (List ℕ) → List ℕ
+present_from column [] = []
+present_from column (cell ∷ rest) = if is_present cell then column ∷ present_from (column + 1) rest else present_from (column + 1) rest
+
+-- the row of a record
+abbrev pub row_of : List (List ℕ) → List ℕ
+row_of fields = present_from 1 (cells fields)

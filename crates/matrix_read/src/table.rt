@@ -1,0 +1,226 @@
+// A matrix as a table of comma-separated values.
+ghost use Rattle.std.specs.Prelude.{◌≡◌, ◌+◌, ◌∷◌, [], length, not, true, IfOk};
+ghost use Rattle.std.specs.List.{list_any};
+ghost use Rattle.csv.specs.Records.{fields_of};
+ghost use Rattle.row_model.specs.declared.refusal.Read.TheVariants as read;
+ghost use Rattle.matrix_read.specs.RecordsLeft.{IsPlain, records_left};
+ghost use Rattle.matrix_read.specs.Cells.{cells, is_foreign, row_of};
+ghost use Rattle.matrix_read.specs.Table.{names_of, has_twice, header_code, header_read, IsWithin, with_records, with_even_records, table};
+
+use crate::cells::{is_absent, is_present, trimmed_field};
+use crate::records::next_record;
+use csv::{ByteRecord, Reader, ReaderBuilder};
+use indexmap::IndexSet;
+use row_model::{MAX_COLUMNS, MAX_FILE_BYTES, MAX_ROWS, Matrix, Read, Refusal, code};
+use std::alloc::{AllocError, Global};
+
+/// Reads a matrix from the bytes of a table: comma-separated values, in which double quotes may stand round a field.
+///
+/// The first record names the columns. Its first field and that of every other record are passed over, so field j+1 is
+/// of column j. Each later record is a row. A field counts without the spaces and tabs at both ends: the row has the
+/// column where the field is `x`, `X` or a word of digits that are not all 0, and lacks it where the field is empty or
+/// has zeros alone. A byte order mark at the start is passed over. Fields are bytes, and need not be UTF-8.
+///
+/// A file that breaks a rule gives its first refusal. The length of the file comes first, then a record of another
+/// number of fields than the first one, then a file without a record; these name no line. The header is refused at line
+/// 1 where it has no column, more than [`MAX_COLUMNS`], or two columns of one name; any number of names may be blank.
+/// Last, each later record in turn is judged by the number of rows before it, of which there are at most [`MAX_ROWS`],
+/// and by its fields. The line of its refusal is its number among the records.
+///
+/// The error is want of memory. No clause of `csv` tells that a reader of bytes in memory has no other error, so one
+/// would be answered like that too.
+pub fn read_table(alloc: Global, bytes: &[u8]) -> Result<Read<Matrix>, AllocError>
+    ensures { IfOk result (λ read. read ≡ table bytes.now) }
+{
+    if bytes.len() as u64 > MAX_FILE_BYTES {
+        return Ok(Read::Refused(Refusal {
+            code: code::LIMIT,
+            line: 0,
+        }));
+    }
+    let mut reader = ReaderBuilder::new()
+        .has_headers(false)
+        .flexible(true)
+        .from_reader(alloc, bytes);
+    let mut fields = ByteRecord::new(alloc);
+    if !next_record(&mut reader, &mut fields)? {
+        return Ok(Read::Refused(Refusal {
+            code: code::EMPTY,
+            line: 0,
+        }));
+    }
+    let begun = read_header(alloc, &fields)?;
+    read_further(alloc, reader, fields, begun)
+}
+
+// Reads the records after the header, which is in `fields`. All of them are read even after a refusal, since one of
+// another length is refused before everything else.
+fn read_further(
+    alloc: Global,
+    mut reader: Reader<&[u8]>,
+    mut fields: ByteRecord,
+    begun: Read<Matrix>,
+) -> Result<Read<Matrix>, AllocError>
+    requires plain { IsPlain reader }
+    requires within { IsWithin (length (fields_of fields)) begun }
+    ensures { IfOk result (λ read. read ≡ with_even_records (length (fields_of fields)) begun (records_left reader.entry)) }
+{
+    let width = fields.len();
+    let mut columns = Vec::new(alloc);
+    let mut so_far = begun;
+    while next_record(&mut reader, &mut fields)? {
+        if fields.len() != width {
+            return Ok(Read::Refused(Refusal {
+                code: code::CSV,
+                line: 0,
+            }));
+        }
+        so_far = with_record(so_far, &fields, &mut columns)?;
+    }
+    Ok(so_far)
+}
+
+// Adds the row of a record to what was read before. The row stands in `columns` before it is added.
+fn with_record(
+    so_far: Read<Matrix>,
+    fields: &ByteRecord,
+    columns: &mut Vec<u32>,
+) -> Result<Read<Matrix>, AllocError>
+    requires { IsWithin (length (fields_of fields.now)) so_far }
+    ensures read { IfOk result (λ read. read ≡ with_records so_far (fields_of fields.now ∷ [])) }
+    ensures within { IfOk result (λ read. IsWithin (length (fields_of fields.now)) read) }
+{
+    let mut matrix = match so_far {
+        Read::Ok(matrix) => matrix,
+        Read::Refused(refusal) => return Ok(Read::Refused(refusal)),
+    };
+    let line = matrix.rows() + 2;
+    if matrix.rows() >= MAX_ROWS {
+        return Ok(Read::Refused(Refusal {
+            code: code::LIMIT,
+            line,
+        }));
+    }
+    if !mark_columns(fields, matrix.columns(), columns)? {
+        return Ok(Read::Refused(Refusal {
+            code: code::GRAMMAR,
+            line,
+        }));
+    }
+    matrix.push_row(columns)?;
+    Ok(Read::Ok(matrix))
+}
+
+// Whether all cells of a record are in the grammar. If so, `columns` has the record's row then.
+fn mark_columns(fields: &ByteRecord, count: u32, columns: &mut Vec<u32>) -> Result<bool, AllocError>
+    requires { length (fields_of fields.now) ≡ count + 1 }
+    ensures clean { IfOk result (λ clean. clean ≡ not (list_any is_foreign (cells (fields_of fields.now)))) }
+    ensures row { IfOk result (λ clean. clean ≡ true → columns.new.items ≡ row_of (fields_of fields.now)) }
+{
+    columns.clear();
+    for before in 0..count {
+        let cell = trimmed_field(fields, before as usize + 1);
+        if is_present(cell) {
+            columns.push(before + 1)?;
+            continue;
+        }
+        if !is_absent(cell) {
+            return Ok(false);
+        }
+    }
+    Ok(true)
+}
+
+// A matrix with the columns of a header and no row, or the refusal of the header.
+fn read_header(alloc: Global, header: &ByteRecord) -> Result<Read<Matrix>, AllocError>
+    ensures read { IfOk result (λ read. read ≡ header_read (fields_of header.now)) }
+    ensures within { IfOk result (λ read. IsWithin (length (fields_of header.now)) read) }
+{
+    match header_code(alloc, header)? {
+        Some(code) => Ok(Read::Refused(Refusal { code, line: 1 })),
+        None => Ok(Read::Ok(Matrix::new(alloc, header.len() as u32 - 1)?)),
+    }
+}
+
+// The code by which a header is refused.
+fn header_code(alloc: Global, header: &ByteRecord) -> Result<Option<u8>, AllocError>
+    ensures { IfOk result (λ code. code ≡ header_code (fields_of header.now)) }
+{
+    if header.len() < 2 {
+        return Ok(Some(code::EMPTY));
+    }
+    if header.len() > MAX_COLUMNS as usize + 1 {
+        return Ok(Some(code::LIMIT));
+    }
+    if has_twice(alloc, header)? {
+        return Ok(Some(code::TWICE));
+    }
+    Ok(None)
+}
+
+// Whether two columns have one name.
+fn has_twice(alloc: Global, header: &ByteRecord) -> Result<bool, AllocError>
+    ensures { IfOk result (λ twice. twice ≡ has_twice (names_of (fields_of header.now))) }
+{
+    let mut names: IndexSet<&[u8]> = IndexSet::new(alloc);
+    for place in 1..header.len() {
+        let name = trimmed_field(header, place);
+        if name.is_empty() {
+            continue;
+        }
+        if !names.insert(name)? {
+            return Ok(true);
+        }
+    }
+    Ok(false)
+}
+
+#[cfg(test)]
+mod tests {
+    use super::*;
+    use std::test::Fail;
+
+    #[test]
+    fn crosses_and_numbers_mark_columns(rt: HostRuntime) -> Result<(), Fail> {
+        let text = b"\xEF\xBB\xBFt,a,b,c\nx,2,X,\ny, ,0,1\n";
+        let Read::Ok(matrix) = read_table(rt.alloc(), text)? else {
+            panic!(rt; "refused");
+        };
+        assert_eq!(rt; matrix.columns(), 3);
+        assert_eq!(rt; matrix.rows(), 2);
+        assert_eq!(rt; matrix.row(1), [1, 2].as_slice());
+        assert_eq!(rt; matrix.row(2), [3].as_slice());
+        Ok(())
+    }
+
+    #[test]
+    fn quotes_stand_round_names_and_cells(rt: HostRuntime) -> Result<(), Fail> {
+        let text = b"\"Type\",\"Grave 1, east\",\r\n\"Type \xFF\",,\"\t10 \"";
+        let Read::Ok(matrix) = read_table(rt.alloc(), text)? else {
+            panic!(rt; "refused");
+        };
+        assert_eq!(rt; matrix.columns(), 2);
+        assert_eq!(rt; matrix.rows(), 1);
+        assert_eq!(rt; matrix.row(1), [2].as_slice());
+        Ok(())
+    }
+
+    #[test]
+    fn the_first_refusal_counts(rt: HostRuntime) -> Result<(), Fail> {
+        let cases: [(&[u8], u8, u32); 6] = [
+            (b"\n\n", 1, 0),
+            (b"t\n", 1, 1),
+            (b"t,a,a\n", 5, 1),
+            (b"t,a,b\nx,1\n", 8, 0),
+            (b"t,a, a\t\nx,1,y\nz\n", 8, 0),
+            (b"t,,\n\nr,x,x\r\rq,2x,\n", 2, 3),
+        ];
+        for (text, code, line) in cases {
+            match read_table(rt.alloc(), text)? {
+                Read::Ok(_) => panic!(rt; "a matrix in place of {code}, {line}"),
+                Read::Refused(refusal) => assert_eq!(rt; refusal, Refusal { code, line }),
+            }
+        }
+        Ok(())
+    }
+}
