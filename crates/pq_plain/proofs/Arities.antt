@@ -5,7 +5,7 @@ use Rattle.std.proofs.lemmas.List.{reverse-append}
 use Rattle.column_order.specs.Orders.{has}
 use Rattle.pq_tree.specs.Outline.{Outline, Forest, leaf, p_node, q_node, no_tree, tree_and}
 use Rattle.pq_tree.specs.Proper.{HasArities, HaveArities, count}
-use Rattle.pq_plain.specs.Templates.{join, star, back, under, gather}
+use Rattle.pq_plain.specs.Templates.{join, star, back, under, line}
 use Rattle.pq_plain.specs.Labels.{Partial, Label, empty_label, full_label, partial_label, empty_trees, full_trees, partials, at_p, at_q, at_run, Run, run_of, all_full, one_more, label_of, labels_of, first_some}
 use Rattle.pq_plain.specs.Reduce.{holds, root_p, Tail, Span, all_empty, full_more, before_more, begins, tail_of, span_of, root_q, at_span, put, behind_of, reduce, inner}
 use Rattle.pq_plain.proofs.HaveColumns.{arities_back, count_back}
@@ -45,9 +45,14 @@ star_one : (t : Outline) (ts : Forest) → count (star (tree_and t ts)) ≡ 1
 star_one t no_tree = refl
 star_one t (tree_and u us) = refl
 
-gather_arities : (t : Outline) (ts : Forest) → HaveArities (tree_and t ts) → HasArities (gather t ts)
-gather_arities t no_tree h = h.0
-gather_arities t (tree_and u us) h = (omega arith, h)
+-- the trees of a partial, of which there are two or more, and turned
+line_arities : (h : Partial) → IsGood h → HaveArities (line h) × (2 ≤ count (line h))
+line_arities h g = (arities_join h.e h.f g.0 g.1, omega (arith, count_join h.e h.f, g.2, g.3))
+
+turned_arities : (h : Partial) → IsGood h → HaveArities (back (line h)) × (2 ≤ count (back (line h)))
+turned_arities h g =
+    let w : HaveArities (line h) × (2 ≤ count (line h)) = line_arities h g in
+    (arities_back (line h) w.0, omega (arith, w.1, count_back (line h)))
 
 under_arities : (es : Forest) (x : Outline) → HaveArities es → HasArities x → HasArities (under es x)
 under_arities no_tree x h k = k
@@ -156,7 +161,11 @@ mutual
 root_p_good : (hs : List Partial) (es fs ts : Forest) (x : Outline) → AreGood hs → HaveArities es → HaveArities fs → HasArities (p_node ts) → root_p hs es fs ts ≡ Some x → HasArities x
 root_p_good [] no_tree fs ts x g ce cf c e = subst HasArities (some_inj e) c
 root_p_good [] (tree_and t es) no_tree ts x g ce cf c e = cc
-root_p_good [] (tree_and t es) (tree_and f fs) ts x g ce cf c e = subst HasArities (some_inj e) (under_arities (tree_and t es) (gather f fs) ce (gather_arities f fs cf))
+root_p_good [] (tree_and t es) (tree_and f fs) ts x g ce cf c e =
+    subst HasArities (some_inj e) (
+      omega (arith, count_join (star (tree_and f fs)) (tree_and t es), star_one f fs),
+      arities_join (star (tree_and f fs)) (tree_and t es) (star_arities (tree_and f fs) cf) ce,
+    )
 root_p_good (h ∷ []) es no_tree ts x g ce cf c e = cc
 root_p_good (h ∷ []) es (tree_and f fs) ts x g ce cf c e =
     subst HasArities (some_inj e)
@@ -166,22 +175,9 @@ root_p_good (h ∷ []) es (tree_and f fs) ts x g ce cf c e =
     ))
 root_p_good (h ∷ k ∷ []) es fs ts x g ce cf c e =
     subst HasArities (some_inj e)
-    (under_arities es (q_node (join h.e (join (join h.f (join (star fs) (back k.f))) (join (back k.e) no_tree)))) ce (
-      omega (
-        arith,
-        count_join h.e (join (join h.f (join (star fs) (back k.f))) (join (back k.e) no_tree)),
-        count_join (join h.f (join (star fs) (back k.f))) (join (back k.e) no_tree),
-        count_join h.f (join (star fs) (back k.f)),
-        count_join (star fs) (back k.f),
-        count_back k.f,
-        g.0.2,
-        g.0.3,
-        g.1.0.3,
-      ),
-      arities_join h.e (join (join h.f (join (star fs) (back k.f))) (join (back k.e) no_tree)) g.0.0
-          (arities_join (join h.f (join (star fs) (back k.f))) (join (back k.e) no_tree)
-          (arities_join h.f (join (star fs) (back k.f)) g.0.1 (arities_join (star fs) (back k.f) (star_arities fs cf) (arities_back k.f g.1.0.1)))
-          (arities_join (back k.e) no_tree (arities_back k.e g.1.0.0) tt)),
+    (under_arities es (q_node (join (line h) (join (star fs) (back (line k))))) ce (
+      omega (arith, count_join (line h) (join (star fs) (back (line k))), count_join (star fs) (back (line k)), (line_arities h g.0).1, (turned_arities k g.1.0).1),
+      arities_join (line h) (join (star fs) (back (line k))) (line_arities h g.0).0 (arities_join (star fs) (back (line k)) (star_arities fs cf) (turned_arities k g.1.0).0),
     ))
 root_p_good (h ∷ k ∷ l ∷ hs) es fs ts x g ce cf c e = cc
 
@@ -221,42 +217,30 @@ root_q_good [] [] fs es gs ts x a b cf ce cg c e = subst HasArities (some_inj e)
 root_q_good (h ∷ hs) [] no_tree es gs ts x a b cf ce cg c e = cc
 root_q_good (h ∷ hs) [] (tree_and f fs) es gs ts x a b cf ce cg c e =
     subst HasArities (some_inj e) (
-      omega (arith, count_join (join es h.e) (join (join h.f (tree_and f fs)) gs), count_join es h.e, count_join (join h.f (tree_and f fs)) gs, count_join h.f (tree_and f fs), a.0.2, a.0.3),
-      arities_join (join es h.e) (join (join h.f (tree_and f fs)) gs) (arities_join es h.e ce a.0.0) (arities_join (join h.f (tree_and f fs)) gs (arities_join h.f (tree_and f fs) a.0.1 cf) cg),
+      omega (arith, count_join es (join (line h) (join (tree_and f fs) gs)), count_join (line h) (join (tree_and f fs) gs), (line_arities h a.0).1),
+      arities_join es (join (line h) (join (tree_and f fs) gs)) ce (arities_join (line h) (join (tree_and f fs) gs) (line_arities h a.0).0 (arities_join (tree_and f fs) gs cf cg)),
     )
 root_q_good [] (k ∷ ks) no_tree es gs ts x a b cf ce cg c e = cc
 root_q_good [] (k ∷ ks) (tree_and f fs) es gs ts x a b cf ce cg c e =
     subst HasArities (some_inj e) (
-      omega (
-        arith,
-        count_join es (join (join (tree_and f fs) (back k.f)) (join (back k.e) gs)),
-        count_join (join (tree_and f fs) (back k.f)) (join (back k.e) gs),
-        count_join (tree_and f fs) (back k.f),
-        count_join (back k.e) gs,
-        count_back k.f,
-        count_back k.e,
-        b.0.2,
-        b.0.3,
-      ),
-      arities_join es (join (join (tree_and f fs) (back k.f)) (join (back k.e) gs)) ce
-          (arities_join (join (tree_and f fs) (back k.f)) (join (back k.e) gs) (arities_join (tree_and f fs) (back k.f) cf (arities_back k.f b.0.1)) (arities_join (back k.e) gs (arities_back k.e b.0.0) cg)),
+      omega (arith, count_join es (join (tree_and f fs) (join (back (line k)) gs)), count_join (tree_and f fs) (join (back (line k)) gs), count_join (back (line k)) gs, (turned_arities k b.0).1),
+      arities_join es (join (tree_and f fs) (join (back (line k)) gs)) ce
+          (arities_join (tree_and f fs) (join (back (line k)) gs) cf (arities_join (back (line k)) gs (turned_arities k b.0).0 cg)),
     )
 root_q_good (h ∷ hs) (k ∷ ks) fs es gs ts x a b cf ce cg c e =
     subst HasArities (some_inj e) (
       omega (
         arith,
-        count_join (join es h.e) (join (join h.f (join fs (back k.f))) (join (back k.e) gs)),
-        count_join es h.e,
-        count_join (join h.f (join fs (back k.f))) (join (back k.e) gs),
-        count_join h.f (join fs (back k.f)),
-        count_join fs (back k.f),
-        count_back k.f,
-        a.0.2,
-        a.0.3,
-        b.0.3,
+        count_join es (join (line h) (join fs (join (back (line k)) gs))),
+        count_join (line h) (join fs (join (back (line k)) gs)),
+        count_join fs (join (back (line k)) gs),
+        count_join (back (line k)) gs,
+        (line_arities h a.0).1,
+        (turned_arities k b.0).1,
       ),
-      arities_join (join es h.e) (join (join h.f (join fs (back k.f))) (join (back k.e) gs)) (arities_join es h.e ce a.0.0)
-          (arities_join (join h.f (join fs (back k.f))) (join (back k.e) gs) (arities_join h.f (join fs (back k.f)) a.0.1 (arities_join fs (back k.f) cf (arities_back k.f b.0.1))) (arities_join (back k.e) gs (arities_back k.e b.0.0) cg)),
+      arities_join es (join (line h) (join fs (join (back (line k)) gs))) ce
+          (arities_join (line h) (join fs (join (back (line k)) gs)) (line_arities h a.0).0
+          (arities_join fs (join (back (line k)) gs) cf (arities_join (back (line k)) gs (turned_arities k b.0).0 cg))),
     )
 
 mutual

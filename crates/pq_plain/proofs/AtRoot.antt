@@ -7,7 +7,7 @@ use Rattle.column_order.proofs.Lists.{has_append_cases, has_append_left, has_app
 use Rattle.pq_tree.specs.Outline.{Outline, Forest, p_node, no_tree, tree_and, leaves, leaves_of}
 use Rattle.tied_law.proofs.Bound.{IsClosed, AreClosed, IsBound, AreBound, IsPairEq, closed_through}
 use Rattle.tied_law.proofs.Frontiers.{has_same}
-use Rattle.pq_plain.specs.Templates.{gather, under}
+use Rattle.pq_plain.specs.Templates.{star, under}
 use Rattle.pq_plain.proofs.Lines.{IsParted, closed_within, parted_closed, closed_left, closed_right, parted_bound, parted_bound_left, parted_bound_right, parted_occurs, has_parted_cases}
 use Rattle.pq_plain.proofs.BelowRoot.{AreEmpty, AreFull, closed_alike}
 
@@ -17,6 +17,15 @@ pub record Rooted (row : List ℕ) (t u : Outline) : Type 1 where
   pub same : (a : ℕ) → occurs (leaves u) a ≡ occurs (leaves t) a
   pub up : (R : Pair → Pair → Type 0) → IsPairEq R → IsBound R u → IsBound R t × IsClosed R (leaves t) row
   pub down : (R : Pair → Pair → Type 0) → IsPairEq R → IsBound R t → IsClosed R (leaves t) row → IsBound R u
+
+-- P*(X) as a tree, for the tree t and further trees
+abbrev pub gather : Outline → Forest → Outline
+gather t no_tree = t
+gather t (tree_and u us) = p_node (tree_and t (tree_and u us))
+
+pub star_gather : (t : Outline) (ts : Forest) → star (tree_and t ts) ≡ tree_and (gather t ts) no_tree
+star_gather t no_tree = refl
+star_gather t (tree_and u us) = refl
 
 pub gather_occurs : (t : Outline) (ts : Forest) (a : ℕ) → occurs (leaves (gather t ts)) a ≡ occurs (leaves_of (tree_and t ts)) a
 gather_occurs t no_tree a = omega (arith, occurs-append (leaves t) [] a)

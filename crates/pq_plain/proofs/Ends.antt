@@ -1,19 +1,18 @@
 -- The partials on both sides of the full children of a Q-node.
-use Rattle.std.proofs.Common.{◌≡◌, ◌∙◌, ◌↔◌, ◌+◌, ◌-◌, ◌<◌, ◌≤◌, ℕ, List, [], ◌∷◌, ◌++◌, Option, Some, None, map, take, drop, length, refl, sym, ap, ap₂, arith, length-append}
+use Rattle.std.proofs.Common.{◌≡◌, ◌∙◌, ◌↔◌, ◌+◌, ◌-◌, ◌<◌, ◌≤◌, ℕ, List, [], ◌∷◌, ◌++◌, Option, Some, None, map, take, drop, length, refl, sym, ap, ap₂, arith, length-append, option_map}
 use Rattle.std.specs.Prelude.{IsSome}
 use Rattle.std.specs.Option.{option_to_list}
 use Rattle.std.proofs.lemmas.Bool.{false≢true}
 use Rattle.std.proofs.lemmas.List.{map-append, append-nil, length-map, take-map, drop-map, take-append-drop}
-use Rattle.pq_tree.specs.Outline.{Outline, Forest, q_node}
+use Rattle.pq_tree.specs.Outline.{Outline, q_node}
 use Rattle.pq_tree.specs.Proper.{outline_of, forest}
 use Rattle.pq_tree.specs.declared.Tree.{Tree}
-use Rattle.pq_plain.specs.Templates.{join, back}
-use Rattle.pq_plain.specs.Labels.{Partial, Label, partials}
+use Rattle.pq_plain.specs.Templates.{q3}
+use Rattle.pq_plain.specs.Labels.{Partial, Label, partials, first_of}
 use Rattle.pq_plain.specs.Seen.{outlines, halves_seen}
-use Rattle.pq_plain.specs.AtRoot.{line_of, turned_line_of, line_if, span_seen, PartialsAt, first_line, first_turned, q_made}
+use Rattle.pq_plain.specs.AtRoot.{span_seen, PartialsAt, q_made}
 use Rattle.pq_plain.specs.declared.label.Halves.{Halves}
 use Rattle.pq_plain.specs.declared.at_root.Span.{Span as Places}
-use Rattle.pq_plain.proofs.Lines.{join_assoc}
 use Rattle.pq_plain.proofs.Marks.{partials_append}
 
 last_is : (xs ys : List Partial) (x y : Partial) → xs ++ x ∷ [] ≡ ys ++ y ∷ [] → (xs ≡ ys) × (x ≡ y)
@@ -29,22 +28,18 @@ last_is (a ∷ xs) (b ∷ ys) x y e =
 -- the last of a list, where there is to be one
 record Taken (rest : List Halves) (o : Option Halves) (hs ks : List Partial) : Type 0 where
   pub others : map halves_seen rest ≡ hs
-  pub first : line_if o ≡ first_line ks
-  pub turned : back (line_if o) ≡ first_turned ks
+  pub first : option_map halves_seen o ≡ first_of ks
 
 taken : (all rest : List Halves) (o : Option Halves) (hs ks : List Partial) → map halves_seen all ≡ hs ++ ks → all ≡ rest ++ option_to_list o → IsSome o ↔ (0 < length ks) → length ks ≤ 1 → Taken rest o hs ks
 taken all rest None hs [] e k s n =
-    record { others = ap (map halves_seen) (sym (k ∙ append-nil rest)) ∙ e ∙ append-nil hs; first = refl; turned = refl }
+    record { others = ap (map halves_seen) (sym (k ∙ append-nil rest)) ∙ e ∙ append-nil hs; first = refl }
 taken all rest None hs (x ∷ ks) e k s n = absurd (false≢true (s.1 (omega arith)))
 taken all rest (Some h) hs [] e k s n = absurd (omega (arith, s.0 refl))
 taken all rest (Some h) hs (x ∷ []) e k s n =
     let w : (map halves_seen rest ≡ hs) × (halves_seen h ≡ x) =
     last_is (map halves_seen rest) hs (halves_seen h) x (sym (map-append halves_seen rest (h ∷ [])) ∙ ap (map halves_seen) (sym k) ∙ e) in
-    record { others = w.0; first = ap line_of w.1; turned = ap turned_line_of w.1 }
+    record { others = w.0; first = ap Some w.1 }
 taken all rest (Some h) hs (x ∷ y ∷ ks) e k s n = absurd (omega arith)
-
-five_parts : (es hs fs ks gs : Forest) → join (join (join (join es hs) fs) ks) gs ≡ join es (join hs (join fs (join ks gs)))
-five_parts es hs fs ks gs = simp join_assoc
 
 cut_partials : (l : ℕ) (ps : List Label) → partials ps ≡ partials (take l ps) ++ partials (drop l ps)
 cut_partials l ps = ap partials (sym (take-append-drop l ps)) ∙ partials_append (take l ps) (drop l ps)
@@ -73,7 +68,7 @@ module _ (ts : List Tree) (ps : List Label) (s : Places) (at : PartialsAt ps s) 
           taken mid rest first [] (partials (take s.full_from ps)) right_taken.others cut2
           ((λ h. omega (arith, some2.0 h, at.left)), (λ h. some2.1 (omega (arith, h, at.left)))) (omega (arith, at.left, at.few_left))
 
-      pub replaced : (u : Outline) (es fs gs us : List Tree) → u ≡ q_node (join (join (join (join (outlines es) (line_if first)) (outlines fs)) (back (line_if second))) (outlines gs)) →
+      pub replaced : (u : Outline) (es fs gs us : List Tree) → u ≡ q_node (q3 (outlines es) (option_map halves_seen first) (outlines fs) (option_map halves_seen second) (outlines gs)) →
           map outline_of es ≡ map outline_of (take s.before ts) → map outline_of fs ≡ map outline_of (take (s.full_to - s.full_from) (drop s.full_from ts)) →
           map outline_of gs ≡ map outline_of us → us ≡ drop s.behind ts → u ≡ q_made (span_seen (map outline_of ts) ps s)
       replaced u es fs gs us is e f g k =
@@ -82,7 +77,6 @@ module _ (ts : List Tree) (ps : List Label) (s : Places) (at : PartialsAt ps s) 
           ap forest (f ∙ sym (take-map outline_of (s.full_to - s.full_from) (drop s.full_from ts)) ∙ ap (take (s.full_to - s.full_from)) (sym (drop-map outline_of s.full_from ts))) in
           let d : outlines gs ≡ forest (drop s.behind (map outline_of ts)) = ap forest (g ∙ ap (map outline_of) k ∙ sym (drop-map outline_of s.behind ts)) in
           is ∙
-          ap q_node (five_parts (outlines es) (line_if first) (outlines fs) (back (line_if second)) (outlines gs)) ∙
-          ap₂ (λ x y. q_node (join x (join y (join (outlines fs) (join (back (line_if second)) (outlines gs)))))) a left_taken.first ∙
-          ap₂ (λ x y. q_node (join (forest (take s.before (map outline_of ts))) (join (first_line (partials (take s.full_from ps))) (join x (join y (outlines gs)))))) b right_taken.turned ∙
-          ap (λ x. q_node (join (forest (take s.before (map outline_of ts))) (join (first_line (partials (take s.full_from ps))) (join (forest (take (s.full_to - s.full_from) (drop s.full_from (map outline_of ts)))) (join (first_turned (partials (drop s.full_from ps))) x))))) d
+          ap₂ (λ x y. q_node (q3 x y (outlines fs) (option_map halves_seen second) (outlines gs))) a left_taken.first ∙
+          ap₂ (λ x y. q_node (q3 (forest (take s.before (map outline_of ts))) (first_of (partials (take s.full_from ps))) x y (outlines gs))) b right_taken.first ∙
+          ap (λ x. q_node (q3 (forest (take s.before (map outline_of ts))) (first_of (partials (take s.full_from ps))) (forest (take (s.full_to - s.full_from) (drop s.full_from (map outline_of ts)))) (first_of (partials (drop s.full_from ps))) x)) d

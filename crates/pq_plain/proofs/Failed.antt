@@ -31,7 +31,7 @@ pub and_then_none : {X Y : Type 0} (f : X → Option Y) (o : Option X) → optio
 and_then_none f None e = inl refl
 and_then_none f (Some x) e = inr (x, refl, e)
 
-first_none : {X : Type 0} (o k : Option X) → first_some o k ≡ None → (o ≡ None) × (k ≡ None)
+pub first_none : {X : Type 0} (o k : Option X) → first_some o k ≡ None → (o ≡ None) × (k ≡ None)
 first_none (Some x) k e = cc
 first_none None k e = (refl, e)
 
@@ -44,6 +44,10 @@ at_run_some r [] no_tree fs e = cc
 at_run_some r [] (tree_and g es) no_tree e = cc
 at_run_some r [] (tree_and g es) (tree_and h fs) e = cc
 at_run_some r (h ∷ hs) es fs e = cc
+
+pub no_run : (o : Option Run) → option_and_then at_run o ≡ None → o ≡ None
+no_run None e = refl
+no_run (Some r) e = absurd (at_run_some r r.middle r.before r.behind e)
 
 -- a pair that goes forward from a column of the row to one outside it
 pub record Falls (row : List ℕ) (ts : Forest) : Type 0 where
@@ -140,10 +144,6 @@ module _ (R : Pair → Pair → Type 0) (eq : IsPairEq R) (row : List ℕ) where
         (λ a b d i j k n. cr a b d i j (it d k) n),
         all_outside l s rs ls o cr ts (λ a k. sub a (has_append_right (leaves t) (leaves_of ts) a k)),
       )
-
-  no_run : (o : Option Run) → option_and_then at_run o ≡ None → o ≡ None
-  no_run None e = refl
-  no_run (Some r) e = absurd (at_run_some r r.middle r.before r.behind e)
 
   some_none : (ps : List Label) → Some ps ≡ None → Crossed R
   some_none ps e = cc

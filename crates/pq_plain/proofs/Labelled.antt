@@ -7,7 +7,7 @@ use Rattle.pq_tree.specs.Outline.{Outline, Forest, leaf, p_node, q_node, no_tree
 use Rattle.pq_tree.specs.Proper.{HasArities, HaveArities, count}
 use Rattle.pq_plain.specs.Templates.{Partial, Label, empty_label, full_label, partial_label, back, IsL1, IsSorted, none_sorted, to_empty, to_full, to_partial, AreAllFull, AreAllEmpty, IsRun, run_full, run_partial, run_more, p3, p5, q2}
 use Rattle.pq_plain.specs.Chosen.{IsLabelOfP, p_empty, by_p1, by_p3, by_p5, IsLabelOfQ, q_empty, by_q1, by_q2}
-use Rattle.pq_plain.specs.Labels.{empty_trees, full_trees, partials, at_p, at_q, at_run, Run, run_of, all_full, one_more, label_of, labels_of, first_some}
+use Rattle.pq_plain.specs.Labels.{empty_trees, full_trees, partials, first_of, at_p, at_q, at_run, Run, run_of, all_full, one_more, label_of, labels_of, first_some}
 use Rattle.pq_plain.proofs.Meaning.{IsLabelled, labelled_empty, labelled_full, labelled_partial, AreLabelled, none_labelled, more_labelled}
 use Rattle.pq_plain.proofs.Patterns.{as_all_full, as_all_empty, run_all_full, run_all_empty, sorted_back, full_unback, empty_unback, run_not_full, partial_not_full, run_not_empty, partial_not_empty}
 use Rattle.pq_plain.proofs.Preserved.{l1_kept, p1_kept, empty_kept, p3_kept, p5_kept, q1_kept, q2_kept}
@@ -34,7 +34,7 @@ labels_count row (tree_and t ts) ps e =
     let k : w.0 ∷ v.0 ≡ ps = some_inj v.2 in
     ap length (sym k) ∙ (let n : length v.0 ≡ count ts = labels_count row ts v.0 v.1 in omega (arith, n))
 
-sort : (ts : Forest) (ps : List Label) → length ps ≡ count ts → IsSorted ts ps (empty_trees ts ps) (full_trees ts ps) (partials ps)
+pub sort : (ts : Forest) (ps : List Label) → length ps ≡ count ts → IsSorted ts ps (empty_trees ts ps) (full_trees ts ps) (partials ps)
 sort no_tree [] e = none_sorted
 sort no_tree (p ∷ ps) e = absurd (omega arith)
 sort (tree_and t ts) [] e = absurd (omega arith)
@@ -52,9 +52,9 @@ at_p_is ts no_tree fs ps [] x s e = subst (IsLabelOfP ts ps) (some_inj e) (by_p1
 at_p_is ts (tree_and t es) no_tree ps [] x s e = subst (IsLabelOfP ts ps) (some_inj e) (p_empty (as_all_empty s))
 at_p_is ts (tree_and t es) (tree_and f fs) ps [] x s e =
     subst (IsLabelOfP ts ps) (some_inj e)
-    (by_p3 (p3 (tree_and t es) (tree_and f fs)) (record { e = t; es = es; f = f; fs = fs; pattern = s; becomes = refl }))
+    (by_p3 (p3 (tree_and t es) (tree_and f fs)) (record { below = refl; e = t; es = es; f = f; fs = fs; pattern = s; becomes = refl }))
 at_p_is ts es fs ps (h ∷ []) x s e =
-    subst (IsLabelOfP ts ps) (some_inj e) (by_p5 (p5 es h fs) (record { es = es; h = h; fs = fs; pattern = s; becomes = refl }))
+    subst (IsLabelOfP ts ps) (some_inj e) (by_p5 (p5 es h fs) (record { below = refl; es = es; h = h; fs = fs; pattern = s; becomes = refl }))
 at_p_is ts es fs ps (h ∷ k ∷ hs) x s e = cc
 
 pub label_of_p : (row : List ℕ) (ts : Forest) (ps : List Label) (x : Label) → labels_of row ts ≡ Some ps → label_of row (p_node ts) ≡ Some x → IsLabelOfP ts ps x
@@ -63,11 +63,6 @@ label_of_p row ts ps x l e =
     subst (λ o. option_and_then (λ qs. at_p (partials qs) (empty_trees ts qs) (full_trees ts qs)) o ≡ Some x) l e in
     at_p_is ts (empty_trees ts ps) (full_trees ts ps) ps (partials ps) x (labels_sorted row ts ps l) k
 
--- the first of a list that has at most one
-abbrev pub at_most : List Partial → Option Partial
-at_most [] = None
-at_most (h ∷ hs) = Some h
-
 all_full_is : {ts es fs : Forest} {hs : List Partial} (ps : List Label) → IsSorted ts ps es fs hs → IsTrue (all_full ps) → AreAllFull ts ps
 all_full_is ps none_sorted e = none_sorted
 all_full_is ps (to_empty s) e = absurd (both_ways false refl e)
@@ -75,17 +70,17 @@ all_full_is ps (to_full {ps = qs} s) e = to_full (all_full_is qs s e)
 all_full_is ps (to_partial s) e = absurd (both_ways false refl e)
 
 -- what `run_of` finds is a run
-run_is : {es fs : Forest} {hs : List Partial} (ts : Forest) (ps : List Label) (r : Run) → IsSorted ts ps es fs hs → run_of ts ps ≡ Some r → IsRun ts ps r.before (at_most r.middle) r.behind
-run_is ts ps r none_sorted e = subst (λ (x : Run). IsRun no_tree [] x.before (at_most x.middle) x.behind) (some_inj e) (run_full none_sorted)
+run_is : {es fs : Forest} {hs : List Partial} (ts : Forest) (ps : List Label) (r : Run) → IsSorted ts ps es fs hs → run_of ts ps ≡ Some r → IsRun ts ps r.before (first_of r.middle) r.behind
+run_is ts ps r none_sorted e = subst (λ (x : Run). IsRun no_tree [] x.before (first_of x.middle) x.behind) (some_inj e) (run_full none_sorted)
 run_is ts ps r (to_empty {t = t} {ts = us} {ps = qs} s) e =
     let w : (x : Run) × (run_of us qs ≡ Some x) × (Some (one_more t x) ≡ Some r) = and_then (λ x. Some (one_more t x)) (run_of us qs) r e in
-    subst (λ (x : Run). IsRun (tree_and t us) (empty_label ∷ qs) x.before (at_most x.middle) x.behind) (some_inj w.2) (run_more (run_is us qs w.0 s w.1))
+    subst (λ (x : Run). IsRun (tree_and t us) (empty_label ∷ qs) x.before (first_of x.middle) x.behind) (some_inj w.2) (run_more (run_is us qs w.0 s w.1))
 run_is ts ps r (to_full {t = t} {ts = us} {ps = qs} s) e =
     let w : IsTrue (all_full qs) × (record { before = no_tree; middle = []; behind = tree_and t us } ≡ r) = cond_some (all_full qs) (record { before = no_tree; middle = []; behind = tree_and t us }) r e in
-    subst (λ (x : Run). IsRun (tree_and t us) (full_label ∷ qs) x.before (at_most x.middle) x.behind) w.1 (run_full (to_full (all_full_is qs s w.0)))
+    subst (λ (x : Run). IsRun (tree_and t us) (full_label ∷ qs) x.before (first_of x.middle) x.behind) w.1 (run_full (to_full (all_full_is qs s w.0)))
 run_is ts ps r (to_partial {t = t} {ts = us} {ps = qs} {h = h} s) e =
     let w : IsTrue (all_full qs) × (record { before = no_tree; middle = h ∷ []; behind = us } ≡ r) = cond_some (all_full qs) (record { before = no_tree; middle = h ∷ []; behind = us }) r e in
-    subst (λ (x : Run). IsRun (tree_and t us) (partial_label h ∷ qs) x.before (at_most x.middle) x.behind) w.1 (run_partial (all_full_is qs s w.0))
+    subst (λ (x : Run). IsRun (tree_and t us) (partial_label h ∷ qs) x.before (first_of x.middle) x.behind) w.1 (run_partial (all_full_is qs s w.0))
 
 -- the label of a run
 data RunLabel (ts : Forest) (ps : List Label) : Label → Type 0 where
@@ -93,7 +88,7 @@ data RunLabel (ts : Forest) (ps : List Label) : Label → Type 0 where
   run_is_empty : AreAllEmpty ts ps → RunLabel ts ps empty_label
   run_is_q2 : (es fs : Forest) (h : Option Partial) → IsRun ts ps es h fs → (AreAllFull ts ps → ⊥) → (AreAllEmpty ts ps → ⊥) → RunLabel ts ps (partial_label (q2 es h fs))
 
-at_q_is : (ts es fs : Forest) (ps : List Label) (hs : List Partial) (x : Label) → IsRun ts ps es (at_most hs) fs → at_q hs es fs ≡ Some x → RunLabel ts ps x
+at_q_is : (ts es fs : Forest) (ps : List Label) (hs : List Partial) (x : Label) → IsRun ts ps es (first_of hs) fs → at_q hs es fs ≡ Some x → RunLabel ts ps x
 at_q_is ts no_tree fs ps [] x r e = subst (RunLabel ts ps) (some_inj e) (run_is_full (run_all_full r))
 at_q_is ts (tree_and t es) no_tree ps [] x r e = subst (RunLabel ts ps) (some_inj e) (run_is_empty (run_all_empty r))
 at_q_is ts (tree_and t es) (tree_and f fs) ps [] x r e =
@@ -110,13 +105,13 @@ at_run_is ts ps x s e =
 from_front : (ts : Forest) (ps : List Label) (x : Label) → RunLabel ts ps x → IsLabelOfQ ts ps x
 from_front ts ps x (run_is_full s) = by_q1 s
 from_front ts ps x (run_is_empty s) = q_empty s
-from_front ts ps x (run_is_q2 es fs h r nf ne) = by_q2 (q2 es h fs) (record { es = es; h = h; fs = fs; pattern = inl r; not_full = nf; becomes = refl }) ne
+from_front ts ps x (run_is_q2 es fs h r nf ne) = by_q2 (q2 es h fs) (record { es = es; h = h; fs = fs; pattern = inl r; not_full = nf; not_empty = ne; becomes = refl })
 
 from_rear : (ts : Forest) (ps : List Label) (x : Label) → RunLabel (back ts) (reverse ps) x → IsLabelOfQ ts ps x
 from_rear ts ps x (run_is_full s) = by_q1 (full_unback s)
 from_rear ts ps x (run_is_empty s) = q_empty (empty_unback s)
 from_rear ts ps x (run_is_q2 es fs h r nf ne) =
-    by_q2 (q2 es h fs) (record { es = es; h = h; fs = fs; pattern = inr r; not_full = λ s. nf (sorted_back s); becomes = refl }) (λ s. ne (sorted_back s))
+    by_q2 (q2 es h fs) (record { es = es; h = h; fs = fs; pattern = inr r; not_full = λ s. nf (sorted_back s); not_empty = λ s. ne (sorted_back s); becomes = refl })
 
 pub first_cases : {X : Type 0} (o k : Option X) (y : X) → first_some o k ≡ Some y → (o ≡ Some y) ⊎ (k ≡ Some y)
 first_cases (Some z) k y e = inl e
@@ -142,7 +137,7 @@ p_right row ts ps x m c once (by_p5 h s) = labelled_partial h (p5_kept row ts ps
 q_right : (row : List ℕ) (ts : Forest) (ps : List Label) (x : Label) → AreLabelled row ts ps → HaveArities ts → 2 ≤ count ts → IsLabelOfQ ts ps x → IsLabelled row (q_node ts) x
 q_right row ts ps x m c n (q_empty s) = labelled_empty (empty_kept row ts ps m s)
 q_right row ts ps x m c n (by_q1 s) = labelled_full (q1_kept row ts ps m s)
-q_right row ts ps x m c n (by_q2 h s ne) = labelled_partial h (q2_kept row ts ps h m c n ne s)
+q_right row ts ps x m c n (by_q2 h s) = labelled_partial h (q2_kept row ts ps h m c n s)
 
 leaf_right : (row : List ℕ) (a : ℕ) (x : Label) → label_of row (leaf a) ≡ Some x → IsLabelled row (leaf a) x
 leaf_right row a x e =

@@ -13,12 +13,12 @@ use Rattle.tied_law.proofs.Bridge.{evenly_eq, last_row_closed}
 use Rattle.tied_law.proofs.Exact.{order_once, tied_bound}
 use Rattle.row_model.proofs.Walks.{joined-append, conflict_from, evenly-mono}
 use Rattle.pq_plain.specs.Templates.{join}
-use Rattle.pq_plain.specs.Labels.{Partial, Label, empty_trees, full_trees, partials, labels_of}
+use Rattle.pq_plain.specs.Labels.{Partial, Label, empty_trees, full_trees, partials, first_of, labels_of}
 use Rattle.pq_plain.specs.Reduce.{holds, root_p, Tail, Span, all_empty, full_more, before_more, begins, tail_of, span_of, root_q, at_span, inner_or, put, behind_of, reduce, inner}
 use Rattle.pq_plain.proofs.Lines.{has_join_cases, IsParted, parted_occurs, has_parted_cases, closed_right}
 use Rattle.pq_plain.proofs.BelowRoot.{AreEmpty, AreFull}
 use Rattle.pq_plain.proofs.Conflicts.{three_partial, hole}
-use Rattle.pq_plain.proofs.Labelled.{labels_right, at_most, labels_sorted}
+use Rattle.pq_plain.proofs.Labelled.{labels_right, labels_sorted}
 use Rattle.pq_plain.proofs.Reduced.{all_held, span_is, inner_none}
 use Rattle.pq_plain.proofs.Failed.{Crossed, and_then_none, cond_none, AllOutside, labels_failed, in_left, in_right, forward_first}
 use Rattle.pq_plain.proofs.HaveColumns.{some_leaf}
@@ -121,6 +121,37 @@ behind_failed t None e = cc
 behind_failed t (Some None) e = refl
 behind_failed t (Some (Some us)) e = cc
 
+module _ (row : List ℕ) where
+  -- the root's only child that meets the row would hold it
+  lone : (es gs : Forest) (u : Outline) → AreEmpty row es → AreEmpty row gs → Misses row (leaves u) → ((a : ℕ) → IsTrue (has row a) → IsTrue (has (leaves_of (join es (tree_and u gs))) a)) → ⊥
+  lone es gs u ee gg m within =
+      elim (has_join_cases es (tree_and u gs) m.0 (within m.0 m.1)) [
+        | inl k ↦ both_ways (has row m.0) (ee m.0 k) m.1
+        | inr k ↦ elim (has_append_cases (leaves u) (leaves_of gs) m.0 k) [ inl i ↦ both_ways (has (leaves u) m.0) m.2 i | inr i ↦ both_ways (has row m.0) (gg m.0 i) m.1 ]
+      ]
+
+  lone_left : (es us gs : Forest) (h : Partial) → IsAtMostOne row us (Some h) → AreEmpty row es → AreEmpty row gs → AllMiss row (join es (join us gs)) →
+      ((a : ℕ) → IsTrue (has row a) → IsTrue (has (leaves_of (join es (join us gs))) a)) → ⊥
+  lone_left es us gs h (one_such {t = u} k part) ee gg ms within = lone es gs u ee gg (miss_after row es (tree_and u gs) ms).0 within
+
+  none_left : (us : Forest) → IsAtMostOne row us None → us ≡ no_tree
+  none_left us no_such = refl
+
+  -- a single partial child with no full one isn't at the root
+  pub root_q_failed : (hs ks : List Partial) (fs es gs ts : Forest) → SpanParts row ts es (first_of hs) fs (first_of ks) gs → IsRoot row ts → root_q hs ks fs es gs ts ≡ None → ⊥
+  root_q_failed [] [] fs es gs ts m root e = cc
+  root_q_failed (h ∷ hs) [] no_tree es gs ts m root e =
+      let j : join es (join m.us gs) ≡ ts = sym (ap (λ ws. join es (join m.us (join ws gs))) (none_left m.ws m.right)) ∙ m.is in
+      let here : IsRoot row (join es (join m.us gs)) = subst (IsRoot row) (sym j) root in
+      lone_left es m.us gs h m.left m.before m.behind here.lowest here.within
+  root_q_failed (h ∷ hs) [] (tree_and f fs) es gs ts m root e = cc
+  root_q_failed [] (k ∷ ks) no_tree es gs ts m root e =
+      let j : join es (join m.ws gs) ≡ ts = sym (ap (λ us. join es (join us (join m.ws gs))) (none_left m.us m.left)) ∙ m.is in
+      let here : IsRoot row (join es (join m.ws gs)) = subst (IsRoot row) (sym j) root in
+      lone_left es m.ws gs k m.right m.before m.behind here.lowest here.within
+  root_q_failed [] (k ∷ ks) (tree_and f fs) es gs ts m root e = cc
+  root_q_failed (h ∷ hs) (k ∷ ks) fs es gs ts m root e = cc
+
 module _ (R : Pair → Pair → Type 0) (eq : IsPairEq R) (row : List ℕ) where
   outsides : (l : List ℕ) (ts : Forest) → AreClosed R l ts → IsClosed R l row → ((a : ℕ) → IsTrue (has (leaves_of ts) a) → IsTrue (has l a)) → ((a : ℕ) → IsTrue (has row a) → IsTrue (has l a)) →
       AllMiss row ts → AllOutside R eq row ts
@@ -193,36 +224,6 @@ module _ (R : Pair → Pair → Type 0) (eq : IsPairEq R) (row : List ℕ) where
             (iu part.some_empty.0 e1) (iu part.some_full.0 f1) (iw part2.some_empty.0 e2) (iw part2.some_full.0 f2) (iz part3.some_empty.0 e3) (iz part3.some_full.0 f3) u2 u3 w1 w3 z1 z2;
       }
 
-  -- the root's only child that meets the row would hold it
-  lone : (es gs : Forest) (u : Outline) → AreEmpty row es → AreEmpty row gs → Misses row (leaves u) → ((a : ℕ) → IsTrue (has row a) → IsTrue (has (leaves_of (join es (tree_and u gs))) a)) → ⊥
-  lone es gs u ee gg m within =
-      elim (has_join_cases es (tree_and u gs) m.0 (within m.0 m.1)) [
-        | inl k ↦ both_ways (has row m.0) (ee m.0 k) m.1
-        | inr k ↦ elim (has_append_cases (leaves u) (leaves_of gs) m.0 k) [ inl i ↦ both_ways (has (leaves u) m.0) m.2 i | inr i ↦ both_ways (has row m.0) (gg m.0 i) m.1 ]
-      ]
-
-  lone_left : (es us gs : Forest) (h : Partial) → IsAtMostOne row us (Some h) → AreEmpty row es → AreEmpty row gs → AllMiss row (join es (join us gs)) →
-      ((a : ℕ) → IsTrue (has row a) → IsTrue (has (leaves_of (join es (join us gs))) a)) → ⊥
-  lone_left es us gs h (one_such {t = u} k part) ee gg ms within = lone es gs u ee gg (miss_after row es (tree_and u gs) ms).0 within
-
-  none_left : (us : Forest) → IsAtMostOne row us None → us ≡ no_tree
-  none_left us no_such = refl
-
-  -- a single partial child with no full one isn't at the root
-  root_q_failed : (hs ks : List Partial) (fs es gs ts : Forest) → SpanParts row ts es (at_most hs) fs (at_most ks) gs → IsRoot row ts → root_q hs ks fs es gs ts ≡ None → ⊥
-  root_q_failed [] [] fs es gs ts m root e = cc
-  root_q_failed (h ∷ hs) [] no_tree es gs ts m root e =
-      let j : join es (join m.us gs) ≡ ts = sym (ap (λ ws. join es (join m.us (join ws gs))) (none_left m.ws m.right)) ∙ m.is in
-      let here : IsRoot row (join es (join m.us gs)) = subst (IsRoot row) (sym j) root in
-      lone_left es m.us gs h m.left m.before m.behind here.lowest here.within
-  root_q_failed (h ∷ hs) [] (tree_and f fs) es gs ts m root e = cc
-  root_q_failed [] (k ∷ ks) no_tree es gs ts m root e =
-      let j : join es (join m.ws gs) ≡ ts = sym (ap (λ us. join es (join us (join m.ws gs))) (none_left m.us m.left)) ∙ m.is in
-      let here : IsRoot row (join es (join m.ws gs)) = subst (IsRoot row) (sym j) root in
-      lone_left es m.ws gs k m.right m.before m.behind here.lowest here.within
-  root_q_failed [] (k ∷ ks) (tree_and f fs) es gs ts m root e = cc
-  root_q_failed (h ∷ hs) (k ∷ ks) fs es gs ts m root e = cc
-
   mutual
     -- Where no template fits at some node, a pair is related to itself with its columns exchanged.
     pub reduce_failed : (t : Outline) → IsBound R t → IsClosed R (leaves t) row → HasArities t → ((a : ℕ) → occurs (leaves t) a ≤ 1) → ((a : ℕ) → IsTrue (has row a) → IsTrue (has (leaves t) a)) →
@@ -262,7 +263,7 @@ module _ (R : Pair → Pair → Type 0) (eq : IsPairEq R) (row : List ℕ) where
                                 hole R eq row ts b.0 cr x.f x.up.v.a x.up.v.b x.before x.up.forward x.full x.up.to_full x.up.from_empty (forward_first ts x.up.v x.up.forward);
                           }
                       | inr i ↦ absurd (
-                          root_q_failed i.0.left i.0.tail.right i.0.tail.middle i.0.before i.0.tail.behind ts
+                          root_q_failed row i.0.left i.0.tail.right i.0.tail.middle i.0.before i.0.tail.behind ts
                           (span_parts row (span_is ts j.0 i.0 (labels_sorted row ts j.0 j.1) i.1) m) (record { within = within; lowest = ms }) i.2
                           )
                     ]

@@ -28,7 +28,7 @@ pub run_all_empty : {ts es : Forest} {ps : List Label} → IsRun ts ps es None n
 run_all_empty (run_full s) = s
 run_all_empty (run_more r) = to_empty (run_all_empty r)
 
-push_empty : {ts es fs : Forest} {ps : List Label} {hs : List Partial} (t : Outline) → IsSorted ts ps es fs hs → IsSorted (join ts (tree_and t no_tree)) (ps ++ empty_label ∷ []) (join es (tree_and t no_tree)) fs hs
+pub push_empty : {ts es fs : Forest} {ps : List Label} {hs : List Partial} (t : Outline) → IsSorted ts ps es fs hs → IsSorted (join ts (tree_and t no_tree)) (ps ++ empty_label ∷ []) (join es (tree_and t no_tree)) fs hs
 push_empty t none_sorted = to_empty none_sorted
 push_empty t (to_empty s) = to_empty (push_empty t s)
 push_empty t (to_full s) = to_full (push_empty t s)
@@ -73,6 +73,14 @@ tail_plain (tail_more {t = t} r) = ap (tree_and t) (tail_plain r)
 pub span_plain : {ts es fs gs : Forest} {ps : List Label} → IsSpan ts ps es None fs None gs → join es (join fs gs) ≡ ts
 span_plain (span_tail r) = tail_plain r
 span_plain (span_more {t = t} r) = ap (tree_and t) (span_plain r)
+
+-- a span with no partial and no full child is empty
+tail_all_empty : {ts gs : Forest} {ps : List Label} → IsTail ts ps no_tree None gs → AreAllEmpty ts ps
+tail_all_empty (tail_empty s) = s
+
+pub span_all_empty : {ts es gs : Forest} {ps : List Label} → IsSpan ts ps es None no_tree None gs → AreAllEmpty ts ps
+span_all_empty (span_tail r) = tail_all_empty r
+span_all_empty (span_more r) = to_empty (span_all_empty r)
 
 -- a run with an empty or a partial child is not full
 pub run_not_full : {ts es fs : Forest} {ps : List Label} {h : Option Partial} (e : Outline) → IsRun ts ps (tree_and e es) h fs → AreAllFull ts ps → ⊥

@@ -9,6 +9,7 @@ use Rattle.pq_tree.proofs.Shown.{outline_of-P, outline_of-Q}
 use Rattle.pq_plain.specs.Templates.{join, star, back, under}
 use Rattle.pq_plain.specs.Labels.{Partial}
 use Rattle.pq_plain.specs.Seen.{outlines}
+use Rattle.pq_plain.proofs.Lines.{join_assoc}
 use Rattle.pq_plain.proofs.Outlines.{outlines_append, outlines_reverse}
 
 pub star_few : (ts : List Tree) → length ts < 2 → outlines ts ≡ star (outlines ts)
@@ -31,6 +32,9 @@ halves_of es fs a b p q = ap₂ (λ x y. record { e = x; f = y }) p q
 
 pub appended : (old more new : List Tree) (a b : Forest) → new ≡ old ++ more → outlines old ≡ a → outlines more ≡ b → outlines new ≡ join a b
 appended old more new a b e p q = ap outlines e ∙ outlines_append old more ∙ ap₂ join p q
+
+pub five_parts : (es hs fs ks gs : Forest) → join (join (join (join es hs) fs) ks) gs ≡ join es (join hs (join fs (join ks gs)))
+five_parts es hs fs ks gs = simp join_assoc
 
 pub turned : (ts copies new : List Tree) → map outline_of copies ≡ map outline_of ts → new ≡ reverse copies → outlines new ≡ back (outlines ts)
 turned ts copies new e k = ap outlines k ∙ outlines_reverse copies ∙ ap (λ xs. back (forest xs)) e

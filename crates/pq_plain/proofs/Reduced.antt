@@ -1,5 +1,5 @@
 -- What `reduce` gives is what the templates give, and it is tied to one row more.
-use Rattle.std.proofs.Common.{◌≡◌, ◌⊎◌, ◌∙◌, ◌≤◌, ℕ, true, false, cond, List, [], ◌∷◌, ◌++◌, Option, Some, None, IsTrue, IsFalse, refl, sym, ap, subst, inl, inr, arith, option_and_then}
+use Rattle.std.proofs.Common.{◌≡◌, ◌⊎◌, ◌∙◌, ◌≤◌, ℕ, true, false, cond, List, [], ◌∷◌, ◌++◌, reverse, Option, Some, None, IsTrue, IsFalse, refl, sym, ap, subst, inl, inr, arith, option_and_then}
 use Rattle.std.proofs.lemmas.Bool.{both_ways, cases_Bool, and_parts, and_cases}
 use Rattle.std.specs.List.{list_all}
 use Rattle.column_order.specs.Orders.{has, occurs, IsOrder}
@@ -8,26 +8,27 @@ use Rattle.pq_tree.specs.Outline.{Outline, Forest, leaf, p_node, q_node, no_tree
 use Rattle.pq_tree.specs.Proper.{HasArities, HaveArities}
 use Rattle.tied_law.specs.Tied.{IsTied}
 use Rattle.tied_law.proofs.Exact.{order_once}
-use Rattle.pq_plain.specs.Templates.{join, IsSorted, l1, p1, none_sorted, to_empty, to_full, to_partial, AreAllEmpty, IsTail, tail_empty, tail_partial, tail_more, IsSpan, span_tail, span_partial, span_more, IsQ3}
-use Rattle.pq_plain.specs.Labels.{Partial, Label, empty_label, empty_trees, full_trees, partials, labels_of, full_label, partial_label}
+use Rattle.pq_plain.specs.Templates.{join, back, IsSorted, l1, p1, q1, q2, q3, IsRun, none_sorted, to_empty, to_full, to_partial, AreAllEmpty, IsTail, tail_empty, tail_partial, tail_more, IsSpan, span_tail, span_partial, span_more}
+use Rattle.pq_plain.specs.Labels.{Partial, Label, empty_label, empty_trees, full_trees, partials, first_of, labels_of, full_label, partial_label}
 use Rattle.pq_plain.specs.Reduce.{holds, root_p, Tail, Span, all_empty, full_more, before_more, begins, tail_of, span_of, root_q, at_span, inner_or, put, behind_of, reduce, inner}
 use Rattle.pq_plain.proofs.AtRoot.{Rooted}
 use Rattle.pq_plain.proofs.Context.{rooted_p, rooted_q}
-use Rattle.pq_plain.proofs.Labelled.{some_inj, and_then, cond_some, labels_right, at_most, labels_sorted}
-use Rattle.pq_plain.proofs.Preserved.{full_rooted, l1_kept, p1_kept, p2_kept, p4_kept, p6_kept, q3_kept, rooted_tied}
-use Rattle.pq_plain.specs.Chosen.{IsRootOfP, root_p1, root_p2, root_p4, root_p6}
+use Rattle.pq_plain.proofs.Labelled.{some_inj, and_then, cond_some, labels_right, labels_sorted}
+use Rattle.pq_plain.proofs.Preserved.{full_rooted, l1_kept, p1_kept, p2_kept, p4_kept, p6_kept, q1_kept, q2_rooted, q3_kept, rooted_tied}
+use Rattle.pq_plain.specs.Chosen.{IsRootOfP, root_p1, root_p2, root_p4, root_p6, IsRootOfQ, root_q1, root_q2, root_q3}
 use Rattle.pq_plain.proofs.Meaning.{AreLabelled, Misses, AllMiss, IsRoot}
-use Rattle.pq_plain.proofs.Patterns.{as_all_full, span_plain}
+use Rattle.pq_plain.proofs.Patterns.{as_all_full, run_all_full, sorted_back, span_plain, span_all_empty}
+use Rattle.pq_plain.proofs.QPatterns.{HasAny, any_back, any_not_full, any_not_empty, span_run, span_back, span_not_q2, line_front, line_rear}
 
 -- P1, P2, P4 and P6
 root_p_is : (ts es fs : Forest) (ps : List Label) (hs : List Partial) (u : Outline) → IsSorted ts ps es fs hs → root_p hs es fs ts ≡ Some u → IsRootOfP ts ps u
 root_p_is ts no_tree fs ps [] u s e = subst (IsRootOfP ts ps) (some_inj e) (root_p1 (as_all_full s))
 root_p_is ts (tree_and t es) no_tree ps [] u s e = cc
 root_p_is ts (tree_and t es) (tree_and f fs) ps [] u s e =
-    root_p2 u (record { e = t; es = es; f = f; fs = fs; pattern = s; becomes = sym (some_inj e) })
+    root_p2 u (record { at = refl; e = t; es = es; f = f; fs = fs; pattern = s; becomes = sym (some_inj e) })
 root_p_is ts es no_tree ps (h ∷ []) u s e = cc
-root_p_is ts es (tree_and f fs) ps (h ∷ []) u s e = root_p4 u (record { es = es; h = h; fs = tree_and f fs; pattern = s; becomes = sym (some_inj e) })
-root_p_is ts es fs ps (h ∷ k ∷ []) u s e = root_p6 u (record { es = es; h = h; fs = fs; k = k; pattern = s; becomes = sym (some_inj e) })
+root_p_is ts es (tree_and f fs) ps (h ∷ []) u s e = root_p4 u (record { at = refl; es = es; h = h; fs = tree_and f fs; pattern = s; becomes = sym (some_inj e) })
+root_p_is ts es fs ps (h ∷ k ∷ []) u s e = root_p6 u (record { at = refl; es = es; h = h; fs = fs; k = k; pattern = s; becomes = sym (some_inj e) })
 root_p_is ts es fs ps (h ∷ k ∷ l ∷ hs) u s e = cc
 
 all_empty_is : {ts es fs : Forest} {hs : List Partial} (ps : List Label) → IsSorted ts ps es fs hs → IsTrue (all_empty ps) → AreAllEmpty ts ps
@@ -37,23 +38,23 @@ all_empty_is ps (to_full s) e = absurd (both_ways false refl e)
 all_empty_is ps (to_partial s) e = absurd (both_ways false refl e)
 
 -- what `tail_of` and `span_of` find is one
-tail_is : {es fs : Forest} {hs : List Partial} (ts : Forest) (ps : List Label) (r : Tail) → IsSorted ts ps es fs hs → tail_of ts ps ≡ Some r → IsTail ts ps r.middle (at_most r.right) r.behind
-tail_is ts ps r none_sorted e = subst (λ (x : Tail). IsTail no_tree [] x.middle (at_most x.right) x.behind) (some_inj e) (tail_empty none_sorted)
+tail_is : {es fs : Forest} {hs : List Partial} (ts : Forest) (ps : List Label) (r : Tail) → IsSorted ts ps es fs hs → tail_of ts ps ≡ Some r → IsTail ts ps r.middle (first_of r.right) r.behind
+tail_is ts ps r none_sorted e = subst (λ (x : Tail). IsTail no_tree [] x.middle (first_of x.right) x.behind) (some_inj e) (tail_empty none_sorted)
 tail_is ts ps r (to_empty {t = t} {ts = us} {ps = qs} s) e =
     let w : IsTrue (all_empty qs) × (record { middle = no_tree; right = []; behind = tree_and t us } ≡ r) = cond_some (all_empty qs) (record { middle = no_tree; right = []; behind = tree_and t us }) r e in
-    subst (λ (x : Tail). IsTail (tree_and t us) (empty_label ∷ qs) x.middle (at_most x.right) x.behind) w.1 (tail_empty (to_empty (all_empty_is qs s w.0)))
+    subst (λ (x : Tail). IsTail (tree_and t us) (empty_label ∷ qs) x.middle (first_of x.right) x.behind) w.1 (tail_empty (to_empty (all_empty_is qs s w.0)))
 tail_is ts ps r (to_full {t = t} {ts = us} {ps = qs} s) e =
     let w : (x : Tail) × (tail_of us qs ≡ Some x) × (Some (full_more t x) ≡ Some r) = and_then (λ x. Some (full_more t x)) (tail_of us qs) r e in
-    subst (λ (x : Tail). IsTail (tree_and t us) (full_label ∷ qs) x.middle (at_most x.right) x.behind) (some_inj w.2) (tail_more (tail_is us qs w.0 s w.1))
+    subst (λ (x : Tail). IsTail (tree_and t us) (full_label ∷ qs) x.middle (first_of x.right) x.behind) (some_inj w.2) (tail_more (tail_is us qs w.0 s w.1))
 tail_is ts ps r (to_partial {t = t} {ts = us} {ps = qs} {h = h} s) e =
     let w : IsTrue (all_empty qs) × (record { middle = no_tree; right = h ∷ []; behind = us } ≡ r) = cond_some (all_empty qs) (record { middle = no_tree; right = h ∷ []; behind = us }) r e in
-    subst (λ (x : Tail). IsTail (tree_and t us) (partial_label h ∷ qs) x.middle (at_most x.right) x.behind) w.1 (tail_partial (all_empty_is qs s w.0))
+    subst (λ (x : Tail). IsTail (tree_and t us) (partial_label h ∷ qs) x.middle (first_of x.right) x.behind) w.1 (tail_partial (all_empty_is qs s w.0))
 
 abbrev SpanIs : Forest → List Label → Span → Type 0
-SpanIs ts ps r = IsSpan ts ps r.before (at_most r.left) r.tail.middle (at_most r.tail.right) r.tail.behind
+SpanIs ts ps r = IsSpan ts ps r.before (first_of r.left) r.tail.middle (first_of r.tail.right) r.tail.behind
 
 pub span_is : {es fs : Forest} {hs : List Partial} (ts : Forest) (ps : List Label) (r : Span) → IsSorted ts ps es fs hs → span_of ts ps ≡ Some r →
-    IsSpan ts ps r.before (at_most r.left) r.tail.middle (at_most r.tail.right) r.tail.behind
+    IsSpan ts ps r.before (first_of r.left) r.tail.middle (first_of r.tail.right) r.tail.behind
 span_is ts ps r none_sorted e = subst (SpanIs no_tree []) (some_inj e) (span_tail (tail_empty none_sorted))
 span_is ts ps r (to_empty {t = t} {ts = us} {ps = qs} s) e =
     let w : (x : Span) × (span_of us qs ≡ Some x) × (Some (before_more t x) ≡ Some r) = and_then (λ x. Some (before_more t x)) (span_of us qs) r e in
@@ -65,18 +66,70 @@ span_is ts ps r (to_partial {t = t} {ts = us} {ps = qs} {h = h} s) e =
     let w : (x : Tail) × (tail_of us qs ≡ Some x) × (Some (begins (h ∷ []) x) ≡ Some r) = and_then (λ x. Some (begins (h ∷ []) x)) (tail_of us qs) r e in
     subst (SpanIs (tree_and t us) (partial_label h ∷ qs)) (some_inj w.2) (span_partial (tail_is us qs w.0 s w.1))
 
--- Q3; a Q-node without a partial child stays
-root_q_is : (hs ks : List Partial) (fs es gs ts : Forest) (ps : List Label) (u : Outline) → IsSpan ts ps es (at_most hs) fs (at_most ks) gs → root_q hs ks fs es gs ts ≡ Some u → IsQ3 ts ps u
-root_q_is [] [] fs es gs ts ps u s e =
-    record { es = es; h = None; fs = fs; k = None; gs = gs; pattern = s; becomes = sym (some_inj e) ∙ ap q_node (sym (span_plain s)) }
+module _ (ts : Forest) (ps : List Label) where
+  -- nothing behind: Q1 or Q2; nothing before: Q2 from the other end
+  front : (es fs : Forest) (h : Option Partial) → IsSpan ts ps es h fs None no_tree → HasAny h fs → HasAny h es → IsRootOfQ ts ps (q_node (q3 es h fs None no_tree))
+  front es fs h s f e =
+      root_q2 (q2 es h fs) (q_node (q3 es h fs None no_tree))
+      (record { es = es; h = h; fs = fs; pattern = inl (span_run s); not_full = any_not_full (span_run s) e; not_empty = any_not_empty (span_run s) f; becomes = refl })
+      (inl (ap q_node (line_front es fs h)))
+
+  rear : (fs gs : Forest) (k : Option Partial) → IsSpan ts ps no_tree None fs k gs → HasAny k fs → HasAny k gs → IsRootOfQ ts ps (q_node (q3 no_tree None fs k gs))
+  rear fs gs k s f g =
+      let r : IsRun (back ts) (reverse ps) (back gs) k (back fs) = span_run (span_back s) in
+      root_q2 (q2 (back gs) k (back fs)) (q_node (q3 no_tree None fs k gs))
+      (record {
+        es = back gs;
+        h = k;
+        fs = back fs;
+        pattern = inr r;
+        not_full = λ q. any_not_full r (any_back k gs g) (sorted_back q);
+        not_empty = λ q. any_not_empty r (any_back k fs f) (sorted_back q);
+        becomes = refl;
+      })
+      (inr (ap q_node (line_rear fs gs k)))
+
+  whole : (fs : Forest) → IsSpan ts ps no_tree None fs None no_tree → IsRootOfQ ts ps (q_node (q3 no_tree None fs None no_tree))
+  whole fs s = subst (IsRootOfQ ts ps) (ap q_node (sym (span_plain s))) (root_q1 (run_all_full (span_run s)))
+
+  both : (es fs gs : Forest) (h k : Option Partial) → IsSpan ts ps es h fs k gs → HasAny h fs → HasAny k fs → HasAny h es → HasAny k gs → IsRootOfQ ts ps (q_node (q3 es h fs k gs))
+  both es fs gs h k s a b c d =
+      root_q3 (q_node (q3 es h fs k gs))
+      (record { at = refl; es = es; h = h; fs = fs; k = k; gs = gs; pattern = s; not_q2 = span_not_q2 ts es fs gs ps h k s a b c d; becomes = refl })
+
+  middle_is : (es fs gs : Forest) (h k : Option Partial) → IsSpan ts ps es h fs k gs → HasAny h fs → HasAny k fs → IsRootOfQ ts ps (q_node (q3 es h fs k gs))
+  middle_is no_tree fs no_tree None None s a b = whole fs s
+  middle_is (tree_and e es) fs no_tree None None s a b = front (tree_and e es) fs None s a tt
+  middle_is es fs no_tree (Some h) None s a b = front es fs (Some h) s a tt
+  middle_is no_tree fs (tree_and g gs) None None s a b = rear fs (tree_and g gs) None s b tt
+  middle_is no_tree fs gs None (Some k) s a b = rear fs gs (Some k) s b tt
+  middle_is (tree_and e es) fs (tree_and g gs) None None s a b = both (tree_and e es) fs (tree_and g gs) None None s a b tt tt
+  middle_is (tree_and e es) fs gs None (Some k) s a b = both (tree_and e es) fs gs None (Some k) s a b tt tt
+  middle_is es fs (tree_and g gs) (Some h) None s a b = both es fs (tree_and g gs) (Some h) None s a b tt tt
+  middle_is es fs gs (Some h) (Some k) s a b = both es fs gs (Some h) (Some k) s a b tt tt
+
+-- Q1, Q2 and Q3; a Q-node without a partial child stays
+root_q_is : (hs ks : List Partial) (fs es gs ts : Forest) (ps : List Label) (u : Outline) → IsSpan ts ps es (first_of hs) fs (first_of ks) gs → root_q hs ks fs es gs ts ≡ Some u → IsRootOfQ ts ps u
+root_q_is [] [] no_tree es gs ts ps u s e =
+    root_q3 u
+    (record {
+      at = refl;
+      es = es;
+      h = None;
+      fs = no_tree;
+      k = None;
+      gs = gs;
+      pattern = s;
+      not_q2 = λ x q. q.not_empty (span_all_empty s);
+      becomes = sym (some_inj e) ∙ ap q_node (sym (span_plain s));
+    })
+root_q_is [] [] (tree_and f fs) es gs ts ps u s e =
+    subst (IsRootOfQ ts ps) (ap q_node (span_plain s) ∙ some_inj e) (middle_is ts ps es (tree_and f fs) gs None None s tt tt)
 root_q_is (h ∷ hs) [] no_tree es gs ts ps u s e = cc
-root_q_is (h ∷ hs) [] (tree_and f fs) es gs ts ps u s e =
-    record { es = es; h = Some h; fs = tree_and f fs; k = None; gs = gs; pattern = s; becomes = sym (some_inj e) }
+root_q_is (h ∷ hs) [] (tree_and f fs) es gs ts ps u s e = subst (IsRootOfQ ts ps) (some_inj e) (middle_is ts ps es (tree_and f fs) gs (Some h) None s tt tt)
 root_q_is [] (k ∷ ks) no_tree es gs ts ps u s e = cc
-root_q_is [] (k ∷ ks) (tree_and f fs) es gs ts ps u s e =
-    record { es = es; h = None; fs = tree_and f fs; k = Some k; gs = gs; pattern = s; becomes = sym (some_inj e) }
-root_q_is (h ∷ hs) (k ∷ ks) fs es gs ts ps u s e =
-    record { es = es; h = Some h; fs = fs; k = Some k; gs = gs; pattern = s; becomes = sym (some_inj e) }
+root_q_is [] (k ∷ ks) (tree_and f fs) es gs ts ps u s e = subst (IsRootOfQ ts ps) (some_inj e) (middle_is ts ps es (tree_and f fs) gs None (Some k) s tt tt)
+root_q_is (h ∷ hs) (k ∷ ks) fs es gs ts ps u s e = subst (IsRootOfQ ts ps) (some_inj e) (middle_is ts ps es fs gs (Some h) (Some k) s tt tt)
 
 pub root_of_p : (row : List ℕ) (ts : Forest) (ps : List Label) (u : Outline) → inner row ts ≡ None → labels_of row ts ≡ Some ps → reduce row (p_node ts) ≡ Some u → IsRootOfP ts ps u
 root_of_p row ts ps u n l e =
@@ -86,7 +139,7 @@ root_of_p row ts ps u n l e =
     subst (λ o. option_and_then (λ qs. root_p (partials qs) (empty_trees ts qs) (full_trees ts qs) ts) o ≡ Some u) l f in
     root_p_is ts (empty_trees ts ps) (full_trees ts ps) ps (partials ps) u (labels_sorted row ts ps l) k
 
-pub root_of_q : (row : List ℕ) (ts : Forest) (ps : List Label) (u : Outline) → inner row ts ≡ None → labels_of row ts ≡ Some ps → reduce row (q_node ts) ≡ Some u → IsQ3 ts ps u
+pub root_of_q : (row : List ℕ) (ts : Forest) (ps : List Label) (u : Outline) → inner row ts ≡ None → labels_of row ts ≡ Some ps → reduce row (q_node ts) ≡ Some u → IsRootOfQ ts ps u
 root_of_q row ts ps u n l e =
     let f : option_and_then (λ qs. option_and_then (at_span ts) (span_of ts qs)) (labels_of row ts) ≡ Some u =
     subst (λ o. inner_or o q_node (option_and_then (λ qs. option_and_then (at_span ts) (span_of ts qs)) (labels_of row ts)) ≡ Some u) n e in
@@ -100,6 +153,11 @@ root_p_right row ts ps u m once root (root_p1 s) = full_rooted row (p1 ts) (p1_k
 root_p_right row ts ps u m once root (root_p2 x s) = p2_kept row ts ps m u root s
 root_p_right row ts ps u m once root (root_p4 x s) = p4_kept row ts ps m once u root s
 root_p_right row ts ps u m once root (root_p6 x s) = p6_kept row ts ps m once u root s
+
+root_q_right : (row : List ℕ) (ts : Forest) (ps : List Label) (u : Outline) → AreLabelled row ts ps → IsRoot row ts → IsRootOfQ ts ps u → Rooted row (q_node ts) u
+root_q_right row ts ps u m root (root_q1 s) = full_rooted row (q1 ts) (q1_kept row ts ps m s)
+root_q_right row ts ps u m root (root_q2 x v q s) = q2_rooted row ts ps x u m root q s
+root_q_right row ts ps u m root (root_q3 v q) = q3_kept row ts ps u m root q
 
 -- the child that holds the row
 pub all_held : (l : List ℕ) (row : List ℕ) → IsTrue (list_all (λ a. has l a) row) → (a : ℕ) → IsTrue (has row a) → IsTrue (has l a)
@@ -187,7 +245,7 @@ mutual
             let w : (ps : List Label) × (labels_of row ts ≡ Some ps) × (option_and_then (at_span ts) (span_of ts ps) ≡ Some x) =
             and_then (λ ps. option_and_then (at_span ts) (span_of ts ps)) (labels_of row ts) x k.1 in
             let v : (r : Span) × (span_of ts w.0 ≡ Some r) × (at_span ts r ≡ Some x) = and_then (at_span ts) (span_of ts w.0) x w.2 in
-            q3_kept row ts w.0 x (labels_right row ts w.0 n.1 once w.1) (record { within = within; lowest = inner_none row ts k.0 })
+            root_q_right row ts w.0 x (labels_right row ts w.0 n.1 once w.1) (record { within = within; lowest = inner_none row ts k.0 })
             (root_q_is v.0.left v.0.tail.right v.0.tail.middle v.0.before v.0.tail.behind ts w.0 x (span_is ts w.0 v.0 (labels_sorted row ts w.0 w.1) v.1) v.2)
       ]
 

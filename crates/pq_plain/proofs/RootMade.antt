@@ -4,28 +4,20 @@ use Rattle.std.proofs.lemmas.List.{length-map, length-take, length-drop}
 use Rattle.pq_tree.specs.Outline.{Outline, Forest, p_node, q_node, no_tree, tree_and}
 use Rattle.pq_tree.specs.Proper.{outline_of, forest, count}
 use Rattle.pq_tree.specs.declared.Tree.{Tree}
-use Rattle.pq_plain.specs.Templates.{join, star, back, under, gather}
-use Rattle.pq_plain.specs.Labels.{Partial, partials, empty_trees, full_trees}
+use Rattle.pq_plain.specs.Templates.{p2, q3}
+use Rattle.pq_plain.specs.Labels.{Partial, partials, first_of, empty_trees, full_trees}
 use Rattle.pq_plain.specs.Reduce.{Span, root_p, root_q, at_span, span_of}
 use Rattle.pq_plain.specs.Seen.{outlines, label_seen}
-use Rattle.pq_plain.specs.AtRoot.{p_outcome, q_outcome, line_of, turned_line_of, p_made, span_seen, PartialsAt, first_line, first_turned, q_made}
+use Rattle.pq_plain.specs.AtRoot.{p_outcome, q_outcome, p_made, span_seen, PartialsAt, q_made}
 use Rattle.pq_plain.specs.declared.label.Label.{Label as Marked}
 use Rattle.pq_plain.specs.declared.at_root.Span.{Span as Places}
-use Rattle.pq_plain.proofs.Lines.{join_assoc}
-use Rattle.pq_plain.proofs.QSteps.{back-join}
-use Rattle.pq_plain.proofs.Outlines.{join_no_tree}
 use Rattle.pq_plain.proofs.Counted.{IsCounted, HasTree, count_none, count_some, no_partial}
 
 -- the templates of a P-node
-star_gather : (t : Outline) (ts : Forest) → star (tree_and t ts) ≡ tree_and (gather t ts) no_tree
-star_gather t no_tree = refl
-star_gather t (tree_and u us) = refl
-
 root_two : (hs : List Partial) (es fs ts : Forest) → hs ≡ [] → HasTree es → HasTree fs → Some (p_made hs es fs) ≡ root_p hs es fs ts
 root_two hs es fs ts h e f =
     ap₂ (λ x y. Some (p_made x y fs)) h e.is ∙
-    ap (λ y. Some (p_node (join (star y) (tree_and e.t e.us)))) f.is ∙
-    ap (λ y. Some (p_node (join y (tree_and e.t e.us)))) (star_gather f.t f.us) ∙
+    ap (λ y. Some (p2 (tree_and e.t e.us) y)) f.is ∙
     sym (ap₂ (λ x y. root_p x y fs ts) h e.is ∙ ap (λ y. root_p [] (tree_and e.t e.us) y ts) f.is)
 
 root_none : (hs : List Partial) (es fs ts : Forest) → hs ≡ [] → HasTree es → fs ≡ no_tree → None ≡ root_p hs es fs ts
@@ -41,14 +33,10 @@ root_lone [] es fs ts n f = absurd (omega arith)
 root_lone (h ∷ []) es fs ts n f = sym (ap (λ y. root_p (h ∷ []) es y ts) f)
 root_lone (h ∷ k ∷ hs) es fs ts n f = absurd (omega arith)
 
-six_line : (h k : Partial) (xs : Forest) →
-    join (join (line_of h) xs) (turned_line_of k) ≡ join h.e (join (join h.f (join xs (back k.f))) (join (back k.e) no_tree))
-six_line h k xs = simp (back-join, join_assoc, join_no_tree)
-
 root_six : (hs : List Partial) (es fs ts : Forest) → length hs ≡ 2 → Some (p_made hs es fs) ≡ root_p hs es fs ts
 root_six [] es fs ts n = absurd (omega arith)
 root_six (h ∷ []) es fs ts n = absurd (omega arith)
-root_six (h ∷ k ∷ []) es fs ts n = ap (λ y. Some (under es (q_node y))) (six_line h k (star fs))
+root_six (h ∷ k ∷ []) es fs ts n = refl
 root_six (h ∷ k ∷ l ∷ hs) es fs ts n = absurd (omega arith)
 
 root_many : (hs : List Partial) (es fs ts : Forest) → 3 ≤ length hs → None ≡ root_p hs es fs ts
@@ -114,40 +102,26 @@ module _ (ts : List Tree) (ls : List Marked) (e f p : ℕ) (n : IsCounted ts ls 
         root_six (partials (map label_seen ls)) (empty_trees (outlines ts) (map label_seen ls)) (full_trees (outlines ts) (map label_seen ls)) (outlines ts) (sym n.partial ∙ z)
 
 -- the templates of a Q-node
-q_left : (h : Partial) (es fs gs : Forest) → join es (join (line_of h) (join fs (join no_tree gs))) ≡ join (join es h.e) (join (join h.f fs) gs)
-q_left h es fs gs = simp join_assoc
-
-q_right : (k : Partial) (es fs gs : Forest) → join es (join no_tree (join fs (join (turned_line_of k) gs))) ≡ join es (join (join fs (back k.f)) (join (back k.e) gs))
-q_right k es fs gs = simp (back-join, join_assoc)
-
-q_both : (h k : Partial) (es fs gs : Forest) →
-    join es (join (line_of h) (join fs (join (turned_line_of k) gs))) ≡ join (join es h.e) (join (join h.f (join fs (back k.f))) (join (back k.e) gs))
-q_both h k es fs gs = simp (back-join, join_assoc)
-
 q_of : List Partial → List Partial → Forest → Forest → Forest → Outline
-q_of hs ks fs es gs = q_node (join es (join (first_line hs) (join fs (join (first_turned ks) gs))))
+q_of hs ks fs es gs = q_node (q3 es (first_of hs) fs (first_of ks) gs)
 
 left_only : (hs ks : List Partial) (fs es gs ts : Forest) → length hs ≡ 1 → ks ≡ [] → HasTree fs → Some (q_of hs ks fs es gs) ≡ root_q hs ks fs es gs ts
 unfolding q_of
 left_only [] ks fs es gs ts n k f = absurd (omega arith)
 left_only (h ∷ hs) ks fs es gs ts n k f =
-    ap₂ (λ x y. Some (q_node (join es (join (line_of h) (join y (join (first_turned x) gs)))))) k f.is ∙
-    ap (λ x. Some (q_node x)) (q_left h es (tree_and f.t f.us) gs) ∙
-    sym (ap₂ (λ x y. root_q (h ∷ hs) x y es gs ts) k f.is)
+    ap₂ (λ x y. Some (q_node (q3 es (Some h) y (first_of x) gs))) k f.is ∙ sym (ap₂ (λ x y. root_q (h ∷ hs) x y es gs ts) k f.is)
 
 right_only : (hs ks : List Partial) (fs es gs ts : Forest) → hs ≡ [] → length ks ≡ 1 → HasTree fs → Some (q_of hs ks fs es gs) ≡ root_q hs ks fs es gs ts
 unfolding q_of
 right_only hs [] fs es gs ts h n f = absurd (omega arith)
 right_only hs (k ∷ ks) fs es gs ts h n f =
-    ap₂ (λ x y. Some (q_node (join es (join (first_line x) (join y (join (turned_line_of k) gs)))))) h f.is ∙
-    ap (λ x. Some (q_node x)) (q_right k es (tree_and f.t f.us) gs) ∙
-    sym (ap₂ (λ x y. root_q x (k ∷ ks) y es gs ts) h f.is)
+    ap₂ (λ x y. Some (q_node (q3 es (first_of x) y (Some k) gs))) h f.is ∙ sym (ap₂ (λ x y. root_q x (k ∷ ks) y es gs ts) h f.is)
 
 both_sides : (hs ks : List Partial) (fs es gs ts : Forest) → length hs ≡ 1 → length ks ≡ 1 → Some (q_of hs ks fs es gs) ≡ root_q hs ks fs es gs ts
 unfolding q_of
 both_sides [] ks fs es gs ts n m = absurd (omega arith)
 both_sides (h ∷ hs) [] fs es gs ts n m = absurd (omega arith)
-both_sides (h ∷ hs) (k ∷ ks) fs es gs ts n m = ap (λ x. Some (q_node x)) (q_both h k es fs gs)
+both_sides (h ∷ hs) (k ∷ ks) fs es gs ts n m = refl
 
 left_lone : (hs ks : List Partial) (fs es gs ts : Forest) → length hs ≡ 1 → ks ≡ [] → fs ≡ no_tree → None ≡ root_q hs ks fs es gs ts
 left_lone [] ks fs es gs ts n k f = absurd (omega arith)

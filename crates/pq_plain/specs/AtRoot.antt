@@ -1,12 +1,10 @@
--- What the templates make of a row's root, as the program finds it.
+-- What the templates make of the pertinent root, as the program finds it.
 use Rattle.std.specs.Prelude.{◌≡◌, ℕ, ◌-◌, ◌≤◌, List, [], ◌∷◌, length, take, drop, Option, Some, None, option_and_then}
-use Rattle.pq_tree.specs.Outline.{Outline, Forest, leaf, p_node, q_node, no_tree}
+use Rattle.pq_tree.specs.Outline.{Outline, Forest, leaf, p_node, q_node}
 use Rattle.pq_tree.specs.Proper.{outline_of, forest}
-use Rattle.pq_plain.specs.Templates.{join, star, back, under}
-use Rattle.pq_plain.specs.Labels.{Partial, Label, partials, empty_trees, full_trees, labels_of}
+use Rattle.pq_plain.specs.Templates.{p2, p4, p6, q3}
+use Rattle.pq_plain.specs.Labels.{Partial, Label, partials, first_of, empty_trees, full_trees, labels_of}
 use Rattle.pq_plain.specs.Reduce.{Span, root_p, span_of, at_span}
-use Rattle.pq_plain.specs.Seen.{halves_seen}
-use Rattle.pq_plain.specs.declared.label.Halves.{Halves}
 use Rattle.pq_plain.specs.declared.at_root.Outcome.{Outcome}
 use Rattle.pq_plain.specs.declared.at_root.Outcome.TheVariants.{Unchanged, Replaced, NoTemplate}
 use Rattle.pq_plain.specs.declared.at_root.Span.{Span as Places}
@@ -18,7 +16,7 @@ p_outcome ts ps = root_p (partials ps) (empty_trees ts ps) (full_trees ts ps) ts
 abbrev pub q_outcome : Forest → List Label → Option Outline
 q_outcome ts ps = option_and_then (at_span ts) (span_of ts ps)
 
--- the row's root reduced, or nothing where at some node no template fits
+-- the pertinent root reduced, or nothing where at some node no template fits
 abbrev pub root_of : List ℕ → Outline → Option Outline
 root_of row (leaf a) = Some (leaf a)
 root_of row (p_node ts) = option_and_then (p_outcome ts) (labels_of row ts)
@@ -30,23 +28,11 @@ outcome_seen t Unchanged = Some t
 outcome_seen t (Replaced u) = Some (outline_of u)
 outcome_seen t NoTemplate = None
 
--- the trees of a partial from left to right, and turned
-abbrev pub line_of : Partial → Forest
-line_of h = join h.e h.f
-
-abbrev pub turned_line_of : Partial → Forest
-turned_line_of h = back (line_of h)
-
--- what a P-node at the root becomes, by its partial, empty and full children
+-- what P2, P4 or P6 makes of a P-node, by its partial, empty and full children
 abbrev pub p_made : List Partial → Forest → Forest → Outline
-p_made [] es fs = p_node (join (star fs) es)
-p_made (h ∷ []) es fs = under es (q_node (join (line_of h) (star fs)))
-p_made (h ∷ k ∷ hs) es fs = under es (q_node (join (join (line_of h) (star fs)) (turned_line_of k)))
-
--- the trees of a partial, if there is one
-abbrev pub line_if : Option Halves → Forest
-line_if None = no_tree
-line_if (Some h) = line_of (halves_seen h)
+p_made [] es fs = p2 es fs
+p_made (h ∷ []) es fs = p4 es h fs
+p_made (h ∷ k ∷ hs) es fs = p6 es h fs k
 
 -- the trees and the partials at these places
 abbrev pub span_seen : List Outline → List Label → Places → Span
@@ -67,15 +53,6 @@ pub record PartialsAt (ps : List Label) (s : Places) : Type 0 where
   pub few_left : s.full_from - s.before ≤ 1
   pub few_right : s.behind - s.full_to ≤ 1
 
--- the trees of the first partial, if there is one
-abbrev pub first_line : List Partial → Forest
-first_line [] = no_tree
-first_line (h ∷ hs) = line_of h
-
-abbrev pub first_turned : List Partial → Forest
-first_turned [] = no_tree
-first_turned (h ∷ hs) = turned_line_of h
-
--- what a Q-node at the root becomes
+-- what Q2 or Q3 makes of a Q-node
 abbrev pub q_made : Span → Outline
-q_made s = q_node (join s.before (join (first_line s.left) (join s.tail.middle (join (first_turned s.tail.right) s.tail.behind))))
+q_made s = q_node (q3 s.before (first_of s.left) s.tail.middle (first_of s.tail.right) s.tail.behind)

@@ -36,6 +36,11 @@ partials (empty_label ∷ ps) = partials ps
 partials (full_label ∷ ps) = partials ps
 partials (partial_label h ∷ ps) = h ∷ partials ps
 
+-- the first of them, if there is one
+abbrev pub first_of : List Partial → Option Partial
+first_of [] = None
+first_of (h ∷ hs) = Some h
+
 -- the label of the partial [e f]
 abbrev pub partial_of : Forest → Forest → Label
 partial_of e f = partial_label (record { e = e; f = f })

@@ -1,14 +1,14 @@
 -- What a reduction by one row does to a tied tree, and what follows for the rows of a matrix.
-use Rattle.std.specs.Prelude.{◌≡◌, ◌⊎◌, ◌↔◌, ℕ, List, [], ◌∷◌, ◌++◌, Some, None, All, take}
-use Rattle.column_order.specs.Orders.{HasValidOrder, IsWithin}
+use Rattle.std.specs.Prelude.{◌≡◌, ◌⊎◌, ◌↔◌, ◌≤◌, ℕ, true, List, [], ◌∷◌, ◌++◌, Some, None, All, take, IsTrue}
+use Rattle.column_order.specs.Orders.{has, occurs, HasValidOrder, IsWithin}
 use Rattle.row_model.specs.Graph.{HasOddWalk, HasConflict}
 use Rattle.row_model.specs.Rows.{RowList, IsRow}
-use Rattle.pq_tree.specs.Outline.{Outline, Forest, leaf, p_node, q_node}
-use Rattle.pq_tree.specs.Proper.{IsProper}
+use Rattle.pq_tree.specs.Outline.{Outline, Forest, leaf, p_node, q_node, leaves_of}
+use Rattle.pq_tree.specs.Proper.{IsProper, HaveArities, count}
 use Rattle.tied_law.specs.Tied.{IsTied}
-use Rattle.pq_plain.specs.Templates.{Label, full_label, IsL1, IsQ3}
-use Rattle.pq_plain.specs.Labels.{label_of, labels_of}
-use Rattle.pq_plain.specs.Chosen.{IsLabelOfP, IsLabelOfQ, IsRootOfP}
+use Rattle.pq_plain.specs.Templates.{Label, full_label, IsL1, IsP2, IsP4}
+use Rattle.pq_plain.specs.Labels.{label_of, labels_of, full_trees}
+use Rattle.pq_plain.specs.Chosen.{IsLabelOfP, IsLabelOfQ, IsRootOfP, IsRootOfQ}
 use Rattle.pq_plain.specs.Reduce.{reduce, inner}
 
 -- a proper tree that is tied to the rows, reduced by a further row over 1 to c, is proper and tied to one row more
@@ -61,14 +61,77 @@ RootOfPLaw =
     reduce row (p_node ts) ≡ Some u →
     IsRootOfP ts ps u
 
--- a Q-node at the root is reduced by Q3, of which Q1 and Q2 at the root are cases
+-- a Q-node at the root, where no child holds the row, is reduced by Q1, Q2 or Q3
 abbrev pub RootOfQLaw : Type 0
 RootOfQLaw =
     (row : List ℕ) (ts : Forest) (ps : List Label) (u : Outline) →
     inner row ts ≡ None →
     labels_of row ts ≡ Some ps →
     reduce row (q_node ts) ≡ Some u →
-    IsQ3 ts ps u
+    IsRootOfQ ts ps u
+
+-- The node over these children is the pertinent root: it holds the whole row, and none of its children does. Below it each
+-- node has its number of children, and no column stands twice.
+pub record IsPertinentRoot (row : List ℕ) (ts : Forest) : Type 0 where
+  pub within : (a : ℕ) → IsTrue (has row a) → IsTrue (has (leaves_of ts) a)
+  pub lowest : inner row ts ≡ None
+  pub arities : HaveArities ts
+  pub once : (a : ℕ) → occurs (leaves_of ts) a ≤ 1
+
+-- a P-node below the pertinent root has no label only where no template fits it
+abbrev pub NoLabelOfPLaw : Type 0
+NoLabelOfPLaw =
+    (row : List ℕ) (ts : Forest) (ps : List Label) (x : Label) →
+    labels_of row ts ≡ Some ps →
+    label_of row (p_node ts) ≡ None →
+    IsLabelOfP ts ps x →
+    ⊥
+
+-- a Q-node below the pertinent root has no label only where no template fits it
+abbrev pub NoLabelOfQLaw : Type 0
+NoLabelOfQLaw =
+    (row : List ℕ) (ts : Forest) (ps : List Label) (x : Label) →
+    labels_of row ts ≡ Some ps →
+    label_of row (q_node ts) ≡ None →
+    IsLabelOfQ ts ps x →
+    ⊥
+
+-- a P-node that is the pertinent root is not reduced, where its children have labels, only where no template fits it
+abbrev pub NoRootOfPLaw : Type 0
+NoRootOfPLaw =
+    (row : List ℕ) (ts : Forest) (ps : List Label) (u : Outline) →
+    IsPertinentRoot row ts →
+    labels_of row ts ≡ Some ps →
+    reduce row (p_node ts) ≡ None →
+    IsRootOfP ts ps u →
+    ⊥
+
+-- so is a Q-node
+abbrev pub NoRootOfQLaw : Type 0
+NoRootOfQLaw =
+    (row : List ℕ) (ts : Forest) (ps : List Label) (u : Outline) →
+    IsPertinentRoot row ts →
+    labels_of row ts ≡ Some ps →
+    reduce row (q_node ts) ≡ None →
+    IsRootOfQ ts ps u →
+    ⊥
+
+-- at the pertinent root P2 has two full children or more, and P4 one or more, else a node below would hold the row
+abbrev pub FullChildrenOfP2Law : Type 0
+FullChildrenOfP2Law =
+    (row : List ℕ) (ts : Forest) (ps : List Label) (u : Outline) →
+    IsPertinentRoot row ts →
+    labels_of row ts ≡ Some ps →
+    IsP2 true ts ps u →
+    2 ≤ count (full_trees ts ps)
+
+abbrev pub FullChildrenOfP4Law : Type 0
+FullChildrenOfP4Law =
+    (row : List ℕ) (ts : Forest) (ps : List Label) (u : Outline) →
+    IsPertinentRoot row ts →
+    labels_of row ts ≡ Some ps →
+    IsP4 true ts ps u →
+    1 ≤ count (full_trees ts ps)
 
 -- an empty row leaves every tree as it is
 abbrev pub EmptyRowLaw : Type 0

@@ -14,7 +14,7 @@ holds row t = list_all (λ a. has (leaves t) a) row
 abbrev pub root_p : List Partial → Forest → Forest → Forest → Option Outline
 root_p [] no_tree fs ts = Some (p1 ts)
 root_p [] (tree_and e es) no_tree ts = None
-root_p [] (tree_and e es) (tree_and f fs) ts = Some (p2 (tree_and e es) f fs)
+root_p [] (tree_and e es) (tree_and f fs) ts = Some (p2 (tree_and e es) (tree_and f fs))
 root_p (h ∷ []) es no_tree ts = None
 root_p (h ∷ []) es (tree_and f fs) ts = Some (p4 es h (tree_and f fs))
 root_p (h ∷ k ∷ []) es fs ts = Some (p6 es h fs k)

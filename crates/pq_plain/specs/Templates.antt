@@ -1,11 +1,14 @@
--- The templates of Booth and Lueker (1976): what a node of the row's subtree becomes, once its children have been treated.
+-- The templates of Booth and Lueker (1976): what a node becomes, once its children have been treated.
 --
 -- A tree is empty where it has no column of the row, full where it has no other column, and else partial. E and F are the
 -- empty and the full children of a node, P*(X) is nothing for no tree, the tree itself for one tree, and P over two trees
--- or more. A partial tree stands as a Q-shape [e f], its empty trees e before its full trees f, or turned round. The root
--- is the smallest node that holds the whole row. The children of a P-node stand in no order, a Q-node is read from either
--- end. Each template has a pattern, on the children ts of the node and their labels ps, and a replacement.
-use Rattle.std.specs.Prelude.{◌≡◌, ◌⊎◌, ℕ, List, [], ◌∷◌, Option, Some, None, reverse, IsTrue}
+-- or more. A partial tree stands as a Q-shape [e f], its empty trees e before its full trees f, or turned round. The
+-- pertinent root is the smallest node that holds the whole row. The children of a P-node stand in no order, a Q-node is
+-- read from either end.
+--
+-- Each template is a relation: where it applies, its pattern on the children ts of the node and their labels ps, and its
+-- replacement. `root` tells whether the node is the pertinent root; a template that names no place applies at every node.
+use Rattle.std.specs.Prelude.{◌≡◌, ◌⊎◌, ℕ, Bool, List, [], ◌∷◌, Option, Some, None, reverse, IsTrue, IsFalse}
 use Rattle.column_order.specs.Orders.{has}
 use Rattle.pq_tree.specs.Outline.{Outline, Forest, leaf, p_node, q_node, no_tree, tree_and}
 
@@ -36,10 +39,17 @@ star no_tree = no_tree
 star (tree_and t no_tree) = tree_and t no_tree
 star (tree_and t (tree_and u us)) = tree_and (p_node (tree_and t (tree_and u us))) no_tree
 
--- P*(X) as a tree, for the tree t and further trees
-abbrev pub gather : Outline → Forest → Outline
-gather t no_tree = t
-gather t (tree_and u us) = p_node (tree_and t (tree_and u us))
+-- the trees of a partial from left to right; of one that may be missing
+abbrev pub line : Partial → Forest
+line h = join h.e h.f
+
+abbrev pub line_if : Option Partial → Forest
+line_if None = no_tree
+line_if (Some h) = line h
+
+-- the Q-shape [e f] as a tree, or turned
+abbrev pub IsShape : Partial → Outline → Type 0
+IsShape h u = (u ≡ q_node (line h)) ⊎ (u ≡ q_node (back (line h)))
 
 -- P over E and the tree x; where E is empty, x alone
 abbrev pub under : Forest → Outline → Outline
@@ -93,25 +103,27 @@ IsP1 ts ps = AreAllFull ts ps
 abbrev pub p1 : Forest → Outline
 p1 ts = p_node ts
 
--- P2, at the root: a P-node with no partial child, with empty children E, and with full children f and more.
+-- P2, at the pertinent root: a P-node with no partial child, with empty children E and with full children F.
 -- It becomes P over E and P*(F).
-abbrev pub p2 : Forest → Outline → Forest → Outline
-p2 es f fs = under es (gather f fs)
+abbrev pub p2 : Forest → Forest → Outline
+p2 es fs = p_node (join (star fs) es)
 
-pub record IsP2 (ts : Forest) (ps : List Label) (u : Outline) : Type 0 where
+pub record IsP2 (root : Bool) (ts : Forest) (ps : List Label) (u : Outline) : Type 0 where
+  pub at : IsTrue root
   pub e : Outline
   pub es : Forest
   pub f : Outline
   pub fs : Forest
   pub pattern : IsSorted ts ps (tree_and e es) (tree_and f fs) []
-  pub becomes : u ≡ p2 (tree_and e es) f fs
+  pub becomes : u ≡ p2 (tree_and e es) (tree_and f fs)
 
--- P3, not at the root: a P-node with no partial child, with empty children E and with full children F.
+-- P3, not at the pertinent root: a P-node with no partial child, with empty children E and with full children F.
 -- It becomes the partial [P*(E) P*(F)].
 abbrev pub p3 : Forest → Forest → Partial
 p3 es fs = record { e = star es; f = star fs }
 
-pub record IsP3 (ts : Forest) (ps : List Label) (x : Partial) : Type 0 where
+pub record IsP3 (root : Bool) (ts : Forest) (ps : List Label) (x : Partial) : Type 0 where
+  pub below : IsFalse root
   pub e : Outline
   pub es : Forest
   pub f : Outline
@@ -119,35 +131,38 @@ pub record IsP3 (ts : Forest) (ps : List Label) (x : Partial) : Type 0 where
   pub pattern : IsSorted ts ps (tree_and e es) (tree_and f fs) []
   pub becomes : x ≡ p3 (tree_and e es) (tree_and f fs)
 
--- P4, at the root: a P-node with one partial child [e f].
+-- P4, at the pertinent root: a P-node with one partial child [e f].
 -- It becomes P over E and [e f P*(F)]; where E is empty, that Q-node alone.
 abbrev pub p4 : Forest → Partial → Forest → Outline
-p4 es h fs = under es (q_node (join (join h.e h.f) (star fs)))
+p4 es h fs = under es (q_node (join (line h) (star fs)))
 
-pub record IsP4 (ts : Forest) (ps : List Label) (u : Outline) : Type 0 where
+pub record IsP4 (root : Bool) (ts : Forest) (ps : List Label) (u : Outline) : Type 0 where
+  pub at : IsTrue root
   pub es : Forest
   pub h : Partial
   pub fs : Forest
   pub pattern : IsSorted ts ps es fs (h ∷ [])
   pub becomes : u ≡ p4 es h fs
 
--- P5, not at the root: a P-node with one partial child [e f]. It becomes the partial [P*(E) e f P*(F)].
+-- P5, not at the pertinent root: a P-node with one partial child [e f]. It becomes the partial [P*(E) e f P*(F)].
 abbrev pub p5 : Forest → Partial → Forest → Partial
 p5 es h fs = record { e = join (star es) h.e; f = join h.f (star fs) }
 
-pub record IsP5 (ts : Forest) (ps : List Label) (x : Partial) : Type 0 where
+pub record IsP5 (root : Bool) (ts : Forest) (ps : List Label) (x : Partial) : Type 0 where
+  pub below : IsFalse root
   pub es : Forest
   pub h : Partial
   pub fs : Forest
   pub pattern : IsSorted ts ps es fs (h ∷ [])
   pub becomes : x ≡ p5 es h fs
 
--- P6, at the root: a P-node with two partial children [e f] and [e2 f2].
+-- P6, at the pertinent root: a P-node with two partial children [e f] and [e2 f2].
 -- It becomes P over E and [e f P*(F) f2 e2], the second turned; where E is empty, that Q-node alone.
 abbrev pub p6 : Forest → Partial → Forest → Partial → Outline
-p6 es h fs k = under es (q_node (join h.e (join (join h.f (join (star fs) (back k.f))) (join (back k.e) no_tree))))
+p6 es h fs k = under es (q_node (join (line h) (join (star fs) (back (line k)))))
 
-pub record IsP6 (ts : Forest) (ps : List Label) (u : Outline) : Type 0 where
+pub record IsP6 (root : Bool) (ts : Forest) (ps : List Label) (u : Outline) : Type 0 where
+  pub at : IsTrue root
   pub es : Forest
   pub h : Partial
   pub fs : Forest
@@ -163,8 +178,8 @@ abbrev pub q1 : Forest → Outline
 q1 ts = q_node ts
 
 -- Q2, anywhere: a Q-node that has, from one end, empty children E, at most one partial child [e f] and full children F,
--- and is not full. It becomes [E e f F]: the partial child's trees stand in its place, the empty ones towards E.
--- Not at the root that is a partial.
+-- and whose children are not all full, nor all empty. It becomes the Q-shape [E e f F]: the partial child's trees stand
+-- in its place, the empty ones towards E. Not at the pertinent root that is a partial.
 abbrev pub q2 : Forest → Option Partial → Forest → Partial
 q2 es None fs = record { e = es; f = fs }
 q2 es (Some h) fs = record { e = join es h.e; f = join h.f fs }
@@ -175,23 +190,22 @@ pub record IsQ2 (ts : Forest) (ps : List Label) (x : Partial) : Type 0 where
   pub fs : Forest
   pub pattern : IsRun ts ps es h fs ⊎ IsRun (back ts) (reverse ps) es h fs
   pub not_full : AreAllFull ts ps → ⊥
+  pub not_empty : AreAllEmpty ts ps → ⊥
   pub becomes : x ≡ q2 es h fs
 
--- Q3, at the root: a Q-node that has empty children E, at most one partial child [e f], full children F, at most one
--- partial child [e2 f2] and empty children G. It becomes [E e f F f2 e2 G]: each partial child's trees stand in its place,
--- the full ones towards F. Where there is nothing behind F this is Q2 at the root, and where there is nothing before F it
--- is Q2 from the other end.
+-- Q3, at the pertinent root: a Q-node that has empty children E, at most one partial child [e f], full children F, at most
+-- one partial child [e2 f2] and empty children G, where Q2 doesn't fit. It becomes [E e f F f2 e2 G]: each partial child's
+-- trees stand in its place, the full ones towards F.
 abbrev pub q3 : Forest → Option Partial → Forest → Option Partial → Forest → Forest
-q3 es None fs None gs = join es (join fs gs)
-q3 es (Some h) fs None gs = join (join es h.e) (join (join h.f fs) gs)
-q3 es None fs (Some k) gs = join es (join (join fs (back k.f)) (join (back k.e) gs))
-q3 es (Some h) fs (Some k) gs = join (join es h.e) (join (join h.f (join fs (back k.f))) (join (back k.e) gs))
+q3 es h fs k gs = join es (join (line_if h) (join fs (join (back (line_if k)) gs)))
 
-pub record IsQ3 (ts : Forest) (ps : List Label) (u : Outline) : Type 0 where
+pub record IsQ3 (root : Bool) (ts : Forest) (ps : List Label) (u : Outline) : Type 0 where
+  pub at : IsTrue root
   pub es : Forest
   pub h : Option Partial
   pub fs : Forest
   pub k : Option Partial
   pub gs : Forest
   pub pattern : IsSpan ts ps es h fs k gs
+  pub not_q2 : (x : Partial) → IsQ2 ts ps x → ⊥
   pub becomes : u ≡ q_node (q3 es h fs k gs)

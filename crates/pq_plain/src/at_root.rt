@@ -4,11 +4,11 @@ ghost use Rattle.std.specs.List.Sorted.{IsNonDecreasing};
 ghost use Rattle.std.specs.Option.{option_to_list};
 ghost use Rattle.pq_tree.specs.Outline.{Outline, p_node, q_node};
 ghost use Rattle.pq_tree.specs.Proper.{outline_of, forest};
-ghost use Rattle.pq_plain.specs.Templates.{join, star, under, back};
+ghost use Rattle.pq_plain.specs.Templates.{p2, p4, p6, q3, line, line_if, under};
 ghost use Rattle.pq_plain.specs.Labels.{empty_trees, full_trees, partials};
 ghost use Rattle.pq_plain.specs.Reduce.{span_of};
 ghost use Rattle.pq_plain.specs.Seen.{outlines, halves_seen, label_seen, labels_seen};
-ghost use Rattle.pq_plain.specs.AtRoot.{root_of, outcome_seen, p_outcome, q_outcome, p_made, q_made, PartialsAt, span_seen, line_of, turned_line_of, line_if};
+ghost use Rattle.pq_plain.specs.AtRoot.{root_of, outcome_seen, p_outcome, q_outcome, p_made, q_made, PartialsAt, span_seen};
 
 use crate::below::label_trees;
 use crate::children::{empty_children, full_children, partial_children, star_of};
@@ -102,7 +102,7 @@ fn replaced_p(alloc: Global, children: &[Tree], labels: Vec<Label>) -> Result<Tr
 
 /// P2: empty children E and full children F become P over `P*(F)` and E.
 fn template_p2(alloc: Global, mut empty: Vec<Tree>, full: Vec<Tree>) -> Result<Tree, NoMemory>
-    ensures { IfOk result (λ t. outline_of t ≡ p_node (join (star (outlines full.items)) (outlines empty.items))) }
+    ensures { IfOk result (λ t. outline_of t ≡ p2 (outlines empty.items) (outlines full.items)) }
 {
     let mut children = star_of(alloc, full)?;
     children.append(&mut empty)?;
@@ -117,7 +117,7 @@ fn template_p4(
     empty: Vec<Tree>,
     full: Vec<Tree>,
 ) -> Result<Tree, NoMemory>
-    ensures { IfOk result (λ t. outline_of t ≡ under (outlines empty.items) (q_node (join (line_of (halves_seen partial)) (star (outlines full.items))))) }
+    ensures { IfOk result (λ t. outline_of t ≡ p4 (outlines empty.items) (halves_seen partial) (outlines full.items)) }
 {
     let mut line = in_line(partial)?;
     let mut end = star_of(alloc, full)?;
@@ -135,7 +135,7 @@ fn template_p6(
     empty: Vec<Tree>,
     full: Vec<Tree>,
 ) -> Result<Tree, NoMemory>
-    ensures { IfOk result (λ t. outline_of t ≡ under (outlines empty.items) (q_node (join (join (line_of (halves_seen first)) (star (outlines full.items))) (turned_line_of (halves_seen second))))) }
+    ensures { IfOk result (λ t. outline_of t ≡ p6 (outlines empty.items) (halves_seen first) (outlines full.items) (halves_seen second)) }
 {
     let mut line = in_line(first)?;
     let mut middle = star_of(alloc, full)?;
@@ -149,7 +149,7 @@ fn template_p6(
 
 /// The trees of the partial `[e f]` from left to right.
 fn in_line(partial: Halves) -> Result<Vec<Tree>, NoMemory>
-    ensures { IfOk result (λ v. outlines v.items ≡ line_of (halves_seen partial)) }
+    ensures { IfOk result (λ v. outlines v.items ≡ line (halves_seen partial)) }
 {
     let Halves {
         empty: mut line,
@@ -278,7 +278,7 @@ fn template_q3(
     second: Option<Halves>,
     mut behind: Vec<Tree>,
 ) -> Result<Tree, NoMemory>
-    ensures { IfOk result (λ t. outline_of t ≡ q_node (join (join (join (join (outlines before.items) (line_if first)) (outlines full.items)) (back (line_if second))) (outlines behind.items))) }
+    ensures { IfOk result (λ t. outline_of t ≡ q_node (q3 (outlines before.items) (option_map halves_seen first) (outlines full.items) (option_map halves_seen second) (outlines behind.items))) }
 {
     let mut line = before;
     let mut left = in_line_if(alloc, first)?;
@@ -293,7 +293,7 @@ fn template_q3(
 
 /// The trees of the partial, if there is one, from left to right.
 fn in_line_if(alloc: Global, partial: Option<Halves>) -> Result<Vec<Tree>, NoMemory>
-    ensures { IfOk result (λ v. outlines v.items ≡ line_if partial) }
+    ensures { IfOk result (λ v. outlines v.items ≡ line_if (option_map halves_seen partial)) }
 {
     match partial {
         None => Ok(Vec::new(alloc)),

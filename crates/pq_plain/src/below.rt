@@ -4,7 +4,7 @@ ghost use Rattle.std.specs.List.Sorted.{IsNonDecreasing};
 ghost use Rattle.column_order.specs.Orders.{has};
 ghost use Rattle.pq_tree.specs.Outline.{leaf};
 ghost use Rattle.pq_tree.specs.Proper.{outline_of};
-ghost use Rattle.pq_plain.specs.Templates.{join, star, back};
+ghost use Rattle.pq_plain.specs.Templates.{p3, p5, q2, back};
 ghost use Rattle.pq_plain.specs.Labels.{label_of, labels_of, run_of, at_run, at_q, partials};
 ghost use Rattle.pq_plain.specs.Seen.{outlines, halves_seen, label_seen, labels_seen, p_label, q_label};
 
@@ -76,7 +76,7 @@ fn label_leaf(row: &[u32], column: u32) -> Label
 
 /// P3: empty children E and full children F become the partial `[P*(E) P*(F)]`.
 fn template_p3(alloc: Global, empty: Vec<Tree>, full: Vec<Tree>) -> Result<Halves, NoMemory>
-    ensures { IfOk result (λ h. halves_seen h ≡ record { e = star (outlines empty.items); f = star (outlines full.items) }) }
+    ensures { IfOk result (λ h. halves_seen h ≡ p3 (outlines empty.items) (outlines full.items)) }
 {
     let empty = star_of(alloc, empty)?;
     let full = star_of(alloc, full)?;
@@ -90,10 +90,7 @@ fn template_p5(
     empty: Vec<Tree>,
     full: Vec<Tree>,
 ) -> Result<Halves, NoMemory>
-    ensures { IfOk result (λ h. halves_seen h ≡ record {
-      e = join (star (outlines empty.items)) (halves_seen partial).e;
-      f = join (halves_seen partial).f (star (outlines full.items));
-    }) }
+    ensures { IfOk result (λ h. halves_seen h ≡ p5 (outlines empty.items) (halves_seen partial) (outlines full.items)) }
 {
     let mut all_empty = star_of(alloc, empty)?;
     all_empty.append(&mut partial.empty)?;
@@ -142,10 +139,7 @@ fn template_q2(
     mut empty: Vec<Tree>,
     mut full: Vec<Tree>,
 ) -> Result<Halves, NoMemory>
-    ensures { IfOk result (λ h. halves_seen h ≡ record {
-      e = join (outlines empty.items) (halves_seen partial).e;
-      f = join (halves_seen partial).f (outlines full.items);
-    }) }
+    ensures { IfOk result (λ h. halves_seen h ≡ q2 (outlines empty.items) (Some (halves_seen partial)) (outlines full.items)) }
 {
     empty.append(&mut partial.empty)?;
     partial.full.append(&mut full)?;

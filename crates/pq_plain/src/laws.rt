@@ -1,5 +1,5 @@
 // Laws of the templates and of reductions. The functions here have no body: their contracts are the laws.
-ghost use Rattle.pq_plain.specs.Laws.{LeafLaw, LabelOfPLaw, LabelOfQLaw, RootOfPLaw, RootOfQLaw, TakenLaw, RefusedLaw, EmptyRowLaw, EitherLaw, OrderLaw, NoOrderLaw, FirstRowsLaw};
+ghost use Rattle.pq_plain.specs.Laws.{LeafLaw, LabelOfPLaw, LabelOfQLaw, RootOfPLaw, RootOfQLaw, NoLabelOfPLaw, NoLabelOfQLaw, NoRootOfPLaw, NoRootOfQLaw, FullChildrenOfP2Law, FullChildrenOfP4Law, TakenLaw, RefusedLaw, EmptyRowLaw, EitherLaw, OrderLaw, NoOrderLaw, FirstRowsLaw};
 
 /// A reduction goes by the templates of Booth and Lueker (1976).
 pub fn template_law()
@@ -8,6 +8,16 @@ pub fn template_law()
     ensures label_of_q { LabelOfQLaw }
     ensures root_of_p { RootOfPLaw }
     ensures root_of_q { RootOfQLaw }
+    ensures full_children_of_p2 { FullChildrenOfP2Law }
+    ensures full_children_of_p4 { FullChildrenOfP4Law }
+{}
+
+/// Where a node gets no label, or the pertinent root is not replaced, no template fits it.
+pub fn no_template_law()
+    ensures label_of_p { NoLabelOfPLaw }
+    ensures label_of_q { NoLabelOfQLaw }
+    ensures root_of_p { NoRootOfPLaw }
+    ensures root_of_q { NoRootOfQLaw }
 {}
 
 /// A reduction by one row keeps a tied tree tied, and a refused row leaves no valid order.
