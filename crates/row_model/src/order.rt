@@ -82,4 +82,16 @@ mod tests {
         assert!(rt; !is_order(rt.alloc(), 3, &[2, 4, 1])?);
         Ok(())
     }
+
+    #[test]
+    fn a_row_spans_positions_of_an_order(rt: HostRuntime) -> Result<(), Fail> {
+        let positions = positions(rt.alloc(), &[2, 3, 1])?;
+        assert_eq!(rt; positions.as_slice(), [3, 1, 2].as_slice());
+        assert_eq!(rt;
+            span_of(&positions, &[1, 2]),
+            Some(Span { first: 1, last: 3 })
+        );
+        assert_eq!(rt; span_of(&positions, &[]), None);
+        Ok(())
+    }
 }
