@@ -1,13 +1,30 @@
 -- Chains of clones along an order: a gap that no clone bridges is crossed by no chain.
-use Rattle.std.proofs.Common.{◌≡◌, ◌⊎◌, ℕ, zero, suc, ◌+◌, ◌-◌, ◌<◌, ◌≤◌, List, [], ◌∷◌, ◌++◌, length, IsTrue, All, sym, ap, subst, inl, inr, arith}
+use Rattle.std.proofs.Common.{◌≡◌, ◌⊎◌, ◌∙◌, ℕ, zero, suc, ◌+◌, ◌-◌, ◌<◌, ◌≤◌, List, [], ◌∷◌, ◌++◌, length, get_or, IsTrue, All, sym, ap, subst, inl, inr, arith}
 use Rattle.std.specs.List.{Contains}
 use Rattle.std.proofs.lemmas.Bool.{cases_eq, cases_lt}
 use Rattle.std.proofs.lemmas.List.Elements.{All-contains}
-use Rattle.column_order.specs.Orders.{has, IsOrder, Keeps, IsValidOrder, IsWithin}
+use Rattle.column_order.proofs.Lists.{at_place, place_at}
+use Rattle.column_order.proofs.Counts.{order_once, order_has}
+use Rattle.column_order.specs.Orders.{has, place, IsOrder, Keeps, IsValidOrder, IsWithin}
 use Rattle.clone_map.specs.Places.{probe_at, StandsAt}
 use Rattle.clone_map.specs.Contigs.{Share, LeadsTo, AreChained, InOneContig}
 use Rattle.clone_map.specs.Laws.{HasBoth}
-use Rattle.clone_map.proofs.PositionLaws.{position_only, stands_from}
+
+module _ (c : ℕ) (o : List ℕ) (order : IsOrder c o) where
+  -- no probe stands at two positions
+  position_only : (i j : ℕ) → 1 ≤ i → i ≤ length o → 1 ≤ j → j ≤ length o → probe_at o i ≡ probe_at o j → i ≡ j
+  position_only i j a b d f e =
+      let once = order_once c o order in
+      omega (arith, sym (place_at o once (i - 1) (omega arith)) ∙ ap (place o) e ∙ place_at o once (j - 1) (omega arith))
+
+  -- each probe of a clone stands somewhere
+  stands_from : (clone : List ℕ) (a : ℕ) → IsWithin c clone → IsTrue (has clone a) → (i : ℕ) × StandsAt o clone i × (probe_at o i ≡ a)
+  stands_from clone a within h =
+      let r = within a h in
+      let p = at_place o a (order_has c o order a r.0 r.1) in
+      let same : suc (place o a) - 1 ≡ place o a = omega arith in
+      let there : probe_at o (suc (place o a)) ≡ a = ap (λ n. get_or o n 0) same ∙ p.1 in
+      (suc (place o a), record { from = omega arith; to = omega (arith, p.0); holds = subst (λ x. IsTrue (has clone x)) (sym there) h }, there)
 
 -- some clone has probes on both sides of the gap after a position
 pub record IsBridged (clones : List (List ℕ)) (o : List ℕ) (gap : ℕ) : Type 0 where

@@ -1,4 +1,3 @@
-pub mod PositionLaws
 pub mod ChainLaws
 pub mod PlaceLaws
 pub mod RunLaws

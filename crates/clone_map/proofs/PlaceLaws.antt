@@ -1,15 +1,15 @@
 -- The places of clones, one by one and in lists.
-use Rattle.std.proofs.Common.{◌≡◌, ◌⊎◌, ◌∙◌, ℕ, zero, suc, ◌<◌, ◌≤◌, false, List, [], ◌∷◌, ◌++◌, length, get_or, min, max, IsTrue, refl, sym, ap, subst, inl, inr, arith}
+use Rattle.std.proofs.Common.{◌≡◌, ◌-◌, ◌∙◌, ℕ, zero, suc, ◌<◌, ◌≤◌, false, List, [], ◌∷◌, ◌++◌, length, refl, ap, subst, arith}
 use Rattle.std.specs.List.{Contains, slice_index_or, All, AllByRecursion}
 use Rattle.std.proofs.lemmas.List.Elements.{All-from_recursion}
-use Rattle.std.proofs.lemmas.Bool.{both_ways, cases_lt}
-use Rattle.column_order.specs.Orders.{has, place, IsWithin}
-use Rattle.column_order.proofs.Lists.{has_append_cases, has_append_left, has_append_right, has_head, has_cases, at_place}
-use Rattle.row_model.specs.Rows.{Ascends, IsRow}
+use Rattle.std.proofs.lemmas.Bool.{both_ways}
+use Rattle.column_order.specs.Orders.{IsOrder, IsWithin}
+use Rattle.column_order.proofs.Counts.{order_has}
+use Rattle.row_model.specs.Positions.{ArePositions, IsSpan, Spans}
+use Rattle.row_model.specs.declared.lists.Span.{Span}
 use Rattle.row_model.specs.declared.lists.Place.{Place}
 use Rattle.row_model.specs.declared.lists.Place.TheVariants.{Nowhere, At}
-use Rattle.clone_map.specs.Places.{probe_at, StandsAt, StandsFrom, IsPlaceOf, ArePlaces}
-use Rattle.clone_map.specs.Positions.{StandsOnlyAt}
+use Rattle.clone_map.specs.Places.{StandsAt, StandsFrom, IsPlaceOf, ArePlaces}
 use Rattle.clone_map.specs.Runs.{IsWithinPositions}
 
 -- an empty clone stands nowhere
@@ -76,76 +76,25 @@ has_clone o clones places place h among = find clones places among.0 h among.1 a
         let r = find xs ps k h.1 (omega arith) e in
         record { clone = r.clone; among = (suc r.among.0, omega (arith, r.among.1), r.among.2); is_place = r.is_place }
 
--- a further probe of a clone
-module _ (o clone : List ℕ) (a p : ℕ) (at : StandsOnlyAt o a p) where
-  stands_more : (i : ℕ) → StandsAt o clone i → StandsAt o (clone ++ a ∷ []) i
-  stands_more i h = record { from = h.from; to = h.to; holds = has_append_left clone (a ∷ []) (probe_at o i) h.holds }
+-- the span of a clone in an order is its place
+module _ (c : ℕ) (o positions clone : List ℕ) (span : Span) (order : IsOrder c o) (are : ArePositions o positions) (inside : IsWithin c clone)
+    (is : IsSpan positions clone span) (h : Spans o clone span) where
+  last_from_1 : 1 ≤ span.last
+  last_from_1 =
+      let r = inside is.to is.has_to in
+      omega (arith, is.at_last, are.places is.to (order_has c o order is.to r.0 r.1))
 
-  stands_new : StandsAt o (clone ++ a ∷ []) p
-  stands_new =
+  between : (i : ℕ) → StandsAt o clone i → (span.first - 1 ≤ i - 1) × (i - 1 ≤ span.last - 1)
+  between i k = h.ends.whole (i - 1) (omega (arith, k.from, k.to)) k.holds
+
+  pub span_place : StandsFrom o clone span.first span.last
+  span_place =
       record {
-        from = at.from;
-        to = at.to;
-        holds = has_append_right clone (a ∷ []) (probe_at o p) (subst (λ x. IsTrue (has (a ∷ []) x)) (sym at.there) (has_head a []));
+        at_first = record { from = h.from_1; to = omega (arith, last_from_1, h.from_1, h.ends.rise, h.ends.inside); holds = h.ends.has_first };
+        at_last = record { from = last_from_1; to = omega (arith, last_from_1, h.ends.inside); holds = h.ends.has_last };
+        none_before = λ i k. omega (arith, k.from, h.from_1, (between i k).0);
+        none_after = λ i k. omega (arith, last_from_1, k.from, (between i k).1);
       }
-
-  stands_cases : (i : ℕ) → StandsAt o (clone ++ a ∷ []) i → StandsAt o clone i ⊎ (i ≡ p)
-  stands_cases i h =
-      elim (has_append_cases clone (a ∷ []) (probe_at o i) h.holds) [
-        | inl k ↦ inl (record { from = h.from; to = h.to; holds = k })
-        | inr k ↦ elim (has_cases a (probe_at o i) [] k) [
-          | inl e ↦ inr (at.only i h.from h.to (sym e))
-          | inr t ↦ absurd (both_ways false refl t)
-        ]
-      ]
-
-  pub first_probe : clone ≡ [] → StandsFrom o (clone ++ a ∷ []) p p
-  first_probe e =
-      let only : (i : ℕ) → StandsAt o (clone ++ a ∷ []) i → i ≡ p = λ i h. elim (stands_cases i h) [
-        | inl k ↦ absurd (none_stands o i (subst (λ c. StandsAt o c i) e k))
-        | inr s ↦ s
-      ] in
-      record {
-        at_first = stands_new;
-        at_last = stands_new;
-        none_before = λ i h. omega (arith, only i h);
-        none_after = λ i h. omega (arith, only i h);
-      }
-
-  pub next_probe : (first last : ℕ) → StandsFrom o clone first last → StandsFrom o (clone ++ a ∷ []) (min first p) (max last p)
-  next_probe first last h =
-      record {
-        at_first = elim (cases_lt first p) [
-          | inl l ↦ subst (StandsAt o (clone ++ a ∷ [])) (omega arith) (stands_more first h.at_first)
-          | inr l ↦ subst (StandsAt o (clone ++ a ∷ [])) (omega arith) stands_new
-        ];
-        at_last = elim (cases_lt p last) [
-          | inl l ↦ subst (StandsAt o (clone ++ a ∷ [])) (omega arith) (stands_more last h.at_last)
-          | inr l ↦ subst (StandsAt o (clone ++ a ∷ [])) (omega arith) stands_new
-        ];
-        none_before = λ i k. elim (stands_cases i k) [
-          | inl s ↦ omega (arith, h.none_before i s)
-          | inr e ↦ omega (arith, e)
-        ];
-        none_after = λ i k. elim (stands_cases i k) [
-          | inl s ↦ omega (arith, h.none_after i s)
-          | inr e ↦ omega (arith, e)
-        ];
-      }
-
--- the columns of a row are in range
-ascends_within : (c low : ℕ) (row : List ℕ) (i : ℕ) → Ascends c low row → i < length row → (low < get_or row i 0) × (get_or row i 0 ≤ c)
-ascends_within c low [] i h l = absurd (omega arith)
-ascends_within c low (x ∷ row) zero h l = (h.0, h.1)
-ascends_within c low (x ∷ row) (suc i) h l = (let r = ascends_within c x row i h.2 (omega arith) in (omega (arith, h.0, r.0), r.1))
-
-pub row_range : (c : ℕ) (row : List ℕ) (i : ℕ) → IsRow c row → i < length row → (1 ≤ get_or row i 0) × (get_or row i 0 ≤ c)
-row_range c row i h l = (let r = ascends_within c 0 row i h l in (omega (arith, r.0), r.1))
-
-pub row_within : (c : ℕ) (row : List ℕ) → IsRow c row → IsWithin c row
-row_within c row h a k =
-    let p = at_place row a k in
-    subst (λ x. (1 ≤ x) × (x ≤ c)) p.1 (row_range c row (place row a) h p.0)
 
 -- the places are within the positions of the order
 pub places_within : (o : List ℕ) (clones : List (List ℕ)) (places : List Place) → ArePlaces o clones places → All (IsWithinPositions (length o)) places

@@ -1,5 +1,4 @@
 pub mod Places
 pub mod Contigs
 pub mod Laws
-pub mod Positions
 pub mod Runs

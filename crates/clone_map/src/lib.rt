@@ -8,8 +8,10 @@ mod contigs;
 mod laws;
 mod placed;
 mod places;
-mod positions;
 
 pub use laws::place_laws;
 pub use placed::{Placed, place};
 pub use std::alloc::AllocError as NoMemory;
+
+#[cfg(test)]
+mod tests;

@@ -6,8 +6,7 @@ ghost use Rattle.clone_map.specs.Contigs.{AreContigs};
 
 use crate::contigs::contigs_of;
 use crate::places::places_of;
-use crate::positions::positions_of;
-use row_model::{Matrix, Places, Spans};
+use row_model::{Matrix, Places, Spans, positions};
 use std::alloc::{AllocError, Global};
 
 /// Where the clones and the contigs stand in an order of the probes.
@@ -31,8 +30,9 @@ pub fn place(alloc: Global, m: &Matrix, order: &[u32]) -> Result<Placed, AllocEr
     ensures places { IfOk result (λ placed. ArePlaces order.now m.now.rows placed.places) }
     ensures contigs { IfOk result (λ placed. AreContigs m.now.rows order.now placed.contigs) }
 {
-    let positions = positions_of(alloc, m.columns(), order)?;
+    let columns = m.columns();
+    let positions = positions(alloc, order)?;
     let places = places_of(alloc, m, &positions)?;
-    let contigs = contigs_of(alloc, order.len() as u32, places.as_slice())?;
+    let contigs = contigs_of(alloc, columns, places.as_slice())?;
     Ok(Placed { places, contigs })
 }

@@ -1,19 +1,13 @@
-use Rattle.std.proofs.Common.{length, take, get_or, subst, sym, arith}
-use Rattle.std.proofs.lemmas.List.{take_more}
-use Rattle.clone_map.specs.Places.{IsPlaceOf}
-use Rattle.clone_map.proofs.PlaceLaws.{row_range}
+use Rattle.clone_map.proofs.PlaceLaws.{span_place}
+use Rattle.row_model.proofs.Ascending.{row_within}
+use Rattle.std.proofs.Common.{length}
 use Rattle.clone_map.proofs.places.place_of.Goals as goal
 
-pub overflow_sub-column : goal.overflow_sub-column
-overflow_sub-column c = (row_range (length c.args.positions.now) c.args.row.now c.loop-column.column-index c.requires c.loop-column-test.true).0
+pub span_of-requires : goal.span_of-requires
+span_of-requires c = row_within (length c.args.positions.now) c.args.row.now c.requires
 
-pub bounds-positions-column : goal.bounds-positions-column
-bounds-positions-column c = omega (arith, row_range (length c.args.positions.now) c.args.row.now c.loop-column.column-index c.requires c.loop-column-test.true)
-
-pub loop-column-preserved : goal.loop-column-preserved
-loop-column-preserved c = λ order are.
+pub returns-in-Some : goal.returns-in-Some
+returns-in-Some c = λ order is are.
+    let columns = length c.args.positions.now in
     let row = c.args.row.now in
-    let i = c.loop-column.column-index in
-    let range = row_range (length c.args.positions.now) row i c.requires c.loop-column-test.true in
-    subst (λ xs. IsPlaceOf order xs c.with_position-place.result) (sym (take_more row i 0 c.loop-column-test.true))
-    (c.with_position-place.ensures order (take i row) (get_or row i 0) (are (get_or row i 0) range.0 range.1) (c.loop-column.invariant order are))
+    span_place columns order c.args.positions.now row c.in-Some.field-0 is are (row_within columns row c.requires) c.in-Some.ensures.least (c.in-Some.ensures.spans order is are)
