@@ -5,3 +5,5 @@ pub mod NoTests
 pub mod Accepted
 pub mod Truth
 pub mod Value
+pub mod Holds
+pub mod HoldsWalk

@@ -32,9 +32,11 @@ ghost use Rattle.verdict_check.specs.Accepted.{IsAccepted, FailsFirst, AcceptedL
 ghost use Rattle.verdict_check.specs.declared.outcome.Reason.{Reason};
 ghost use Rattle.verdict_check.specs.declared.outcome.Checked.TheVariants.{Valid, Invalid};
 
+mod holds;
 mod instance;
 mod outcome;
 
+pub use holds::{holds_law, tree_holds};
 pub use instance::Instance;
 pub use outcome::{Checked, Reason};
 pub use row_model::NoMemory;
