@@ -7,3 +7,4 @@ pub mod Truth
 pub mod Value
 pub mod Holds
 pub mod HoldsWalk
+pub mod Found

@@ -32,12 +32,16 @@ ghost use Rattle.verdict_check.specs.Accepted.{IsAccepted, FailsFirst, AcceptedL
 ghost use Rattle.verdict_check.specs.declared.outcome.Reason.{Reason};
 ghost use Rattle.verdict_check.specs.declared.outcome.Checked.TheVariants.{Valid, Invalid};
 
+mod cycle;
 mod holds;
 mod instance;
+mod judge;
 mod outcome;
+mod side;
 
 pub use holds::{holds_law, tree_holds};
 pub use instance::Instance;
+use judge::first_failing;
 pub use outcome::{Checked, Reason};
 pub use row_model::NoMemory;
 use std::alloc::Global;
@@ -53,5 +57,8 @@ pub fn check(alloc: Global, instance: &Instance, v: &Verdict) -> Result<Checked,
     ensures valid { IfOk result (λ checked. (checked ≡ Valid) ↔ IsAccepted (instance_value instance.now) (verdict_value v.now)) }
     ensures invalid { IfOk result (λ checked. (r : Reason) → (checked ≡ Invalid r) ↔ FailsFirst (instance_value instance.now) (verdict_value v.now) r) }
 {
-    Err(NoMemory)
+    match first_failing(alloc, instance, v)? {
+        None => Ok(Checked::Valid),
+        Some(reason) => Ok(Checked::Invalid(reason)),
+    }
 }
