@@ -1,3 +1,4 @@
+pub mod Copies
 pub mod HoldsLists
 pub mod HoldsFrontiers
 pub mod HoldsSplit
@@ -5,3 +6,8 @@ pub mod HoldsStretch
 pub mod HoldsSegments
 pub mod HoldsExact
 pub mod HoldsSteps
+pub mod First
+pub mod Lines
+pub mod CycleTests
+pub mod SideTests
+pub mod JudgeTests

@@ -1,2 +1,10 @@
+pub mod Instance
+pub mod Tests
+pub mod YesTests
+pub mod NoTests
+pub mod Accepted
+pub mod Truth
+pub mod Value
 pub mod Holds
 pub mod HoldsWalk
+pub mod Found

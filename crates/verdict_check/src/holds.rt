@@ -196,9 +196,6 @@ pub fn holds_law()
 
 #[cfg(test)]
 mod tests {
-    ghost use Rattle.std.specs.Prelude.{◌≤◌};
-    ghost use Rattle.row_model.specs.Rows.{IsRow};
-
     use super::*;
     use pq_tree::NoMemory;
     use std::alloc::Global;
@@ -218,7 +215,7 @@ mod tests {
         requires row { IsRow c row.now }
     {
         match PqTree::parse(alloc, text, c)? {
-            None => assert!(rt; false),
+            None => panic!(rt; "no tree has this text"),
             Some(tree) => {
                 let answer = tree_holds(&tree, row);
                 assert_eq!(rt; answer, holds);
