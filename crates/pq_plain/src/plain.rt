@@ -75,9 +75,3 @@ impl Reducer for PlainReducer {
         Ok(tree)
     }
 }
-
-#[cfg(test)]
-mod tests {
-    use super::*;
-    use std::test::Fail;
-}
