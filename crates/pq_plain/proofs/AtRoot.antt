@@ -1,4 +1,4 @@
--- The templates at the root of the row's subtree: the new tree is bound exactly where the old one is and the row is closed.
+-- The templates at the pertinent root: the new tree is bound exactly where the old one is and the row is closed.
 use Rattle.std.proofs.Common.{◌≡◌, ◌⊎◌, ◌∙◌, ◌+◌, ℕ, false, List, [], ◌++◌, IsTrue, refl, sym, inl, inr, arith}
 use Rattle.std.proofs.lemmas.Bool.{both_ways, cases_Bool, false_from_ne_true}
 use Rattle.row_model.specs.declared.graph.Pair.{Pair}
@@ -11,7 +11,7 @@ use Rattle.pq_plain.specs.Templates.{star, under}
 use Rattle.pq_plain.proofs.Lines.{IsParted, closed_within, parted_closed, closed_left, closed_right, parted_bound, parted_bound_left, parted_bound_right, parted_occurs, has_parted_cases}
 use Rattle.pq_plain.proofs.BelowRoot.{AreEmpty, AreFull, closed_alike}
 
--- A template at the root may turn t into u: they have the same columns, and for every equivalence R of pairs u is bound
+-- A template at the pertinent root may turn t into u: they have the same columns, and for every equivalence R of pairs u is bound
 -- exactly where t is and the row is closed in it. So u is tied to one row more than t.
 pub record Rooted (row : List ℕ) (t u : Outline) : Type 1 where
   pub same : (a : ℕ) → occurs (leaves u) a ≡ occurs (leaves t) a
@@ -70,7 +70,7 @@ module _ (R : Pair → Pair → Type 0) where
       λ d k. elim (has_append_cases (leaves x) (leaves_of (tree_and t ts)) d k) [ inl m ↦ sx d m | inr m ↦ se d m ] in
       ((λ a e d i j k n. cx a e d i j (s d k) n, closed_within R l (leaves x ++ leaves_of (tree_and t ts)) (tree_and t ts) s ce), (bx, be))
 
--- P with empty and full children at the root: P over E and P*(F)
+-- P with empty and full children at the pertinent root: P over E and P*(F)
 module _ (row : List ℕ) (ts es fs : Forest) (f : Outline) (parted : IsParted ts es (tree_and f fs)) (empty : AreEmpty row es) (full : AreFull row (tree_and f fs))
     (within : (a : ℕ) → IsTrue (has row a) → IsTrue (has (leaves_of ts) a)) where
   f_same : (a : ℕ) → has (leaves (gather f fs)) a ≡ has (leaves_of (tree_and f fs)) a

@@ -1,4 +1,4 @@
--- A node below the root of the row's subtree, and what its template makes of it.
+-- A node below the pertinent root, and what its template makes of it.
 use Rattle.std.proofs.Common.{◌≡◌, ◌⊎◌, ◌∙◌, ◌+◌, ℕ, List, IsTrue, IsFalse, sym, ap, ap₂, subst, inl, inr, arith}
 use Rattle.std.proofs.lemmas.Bool.{both_ways}
 use Rattle.row_model.specs.declared.graph.Pair.{Pair}
@@ -31,7 +31,7 @@ AreEmpty row ts = (a : ℕ) → IsTrue (has (leaves_of ts) a) → IsFalse (has r
 abbrev pub AreFull : List ℕ → Forest → Type 0
 AreFull row ts = (a : ℕ) → IsTrue (has (leaves_of ts) a) → IsTrue (has row a)
 
--- The partial [es fs] may stand in the place of the node t, which isn't the root: it has the same columns, empty ones in es
+-- The partial [es fs] may stand in the place of the node t, which isn't the pertinent root: it has the same columns, empty ones in es
 -- and full ones in fs, and some of each. For every equivalence R of pairs, t is bound where the partial stands in line and
 -- is bound; and where t is bound and s is a column of the row outside t, each pair that goes forward in the partial is
 -- related to the pair of any column of t with s, and each tree of the partial is bound.

@@ -34,7 +34,7 @@ module _ (R : Pair → Pair → Type 0) (eq : IsPairEq R) where
       (beside_both e2 f2 f1 f3 (cy e2 f2 f1 ye yf lf1 y1) (cy e2 f2 f3 ye yf lf3 y3) (cr f2 f1 e2 rf2 rf1 le2 re2) (cr f2 f3 e2 rf2 rf3 le2 re2))
       (beside_both e3 f3 f1 f2 (cz e3 f3 f1 ze zf lf1 z1) (cz e3 f3 f2 ze zf lf2 z2) (cr f3 f1 e3 rf3 rf1 le3 re3) (cr f3 f2 e3 rf3 rf2 le3 re3))
 
-  -- P below the root with two partial children x, y; s is a column of the row outside the node n
+  -- P below the pertinent root with two partial children x, y; s is a column of the row outside the node n
   pub two_partial : (row n x y : List ℕ) (s : ℕ) → IsOutside R row n s → IsClosed R n row → IsClosed R n x → IsClosed R n y →
       (e1 f1 e2 f2 : ℕ) → IsTrue (has x e1) → IsTrue (has x f1) → IsTrue (has y e2) → IsTrue (has y f2) →
       IsFalse (has row e1) → IsTrue (has row f1) → IsFalse (has row e2) → IsTrue (has row f2) →
@@ -51,7 +51,7 @@ module _ (R : Pair → Pair → Type 0) (eq : IsPairEq R) where
   hole row ts line cr f e g a b rf rg re te =
       eq.join (pair e g) (pair f e) (pair g e) (line (pair e g) (pair f e) b a) (cr f g e rf rg te re)
 
-  -- Q below the root: an empty column before a full one, and an empty one after a full one
+  -- Q below the pertinent root: an empty column before a full one, and an empty one after a full one
   pub both_ends : (row : List ℕ) (ts : Forest) (s : ℕ) → IsInLine R ts → IsOutside R row (leaves_of ts) s → (e f g d : ℕ) → IsForward ts (pair e f) → IsForward ts (pair g d) →
       IsFalse (has row e) → IsTrue (has row f) → IsTrue (has row g) → IsFalse (has row d) →
       IsTrue (has (leaves_of ts) e) → IsTrue (has (leaves_of ts) f) → IsTrue (has (leaves_of ts) g) → IsTrue (has (leaves_of ts) d) → R (pair e s) (pair s e)

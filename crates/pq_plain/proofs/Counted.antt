@@ -60,7 +60,7 @@ pub no_partial : (hs : List Partial) → length hs ≡ 0 → hs ≡ []
 no_partial [] e = refl
 no_partial (h ∷ hs) e = absurd (omega arith)
 
--- the templates of a P-node below the root
+-- the templates of a P-node below the pertinent root
 pub p_all_full : (ts : List Tree) (ls : List Marked) (e f p : ℕ) → IsCounted ts ls e f p → p ≡ 0 → e ≡ 0 → Some full_label ≡ p_label (outlines ts) (map label_seen ls)
 p_all_full ts ls e f p n z x =
     sym

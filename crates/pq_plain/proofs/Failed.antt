@@ -1,4 +1,4 @@
--- Where no template fits at a node below the root, some pair is related to itself with its columns exchanged.
+-- Where no template fits at a node below the pertinent root, some pair is related to itself with its columns exchanged.
 use Rattle.std.proofs.Common.{◌≡◌, ◌≢◌, ◌⊎◌, ◌∙◌, ◌+◌, ◌≤◌, ℕ, Bool, true, false, cond, List, [], ◌∷◌, ◌++◌, reverse, Option, Some, None, IsTrue, IsFalse, refl, sym, subst, inl, inr, arith, option_and_then}
 use Rattle.std.proofs.lemmas.Bool.{both_ways, false_from_ne_true}
 use Rattle.row_model.specs.declared.graph.Pair.{Pair}
@@ -106,7 +106,7 @@ module _ (R : Pair → Pair → Type 0) (eq : IsPairEq R) (row : List ℕ) where
   AllOutside no_tree = Unit {0}
   AllOutside (tree_and t ts) = ((s : ℕ) × IsTrue (has row s) × IsFalse (has (leaves t) s) × IsOutside R row (leaves t) s) × IsClosed R (leaves t) row × AllOutside ts
 
-  -- two partial trees below the root
+  -- two partial trees below the pertinent root
   two_partials : (ts us : Forest) (hs : List Partial) (es fs : Forest) (s : ℕ) → ArePartial row us hs → AreClosed R (leaves_of ts) us → ((a : ℕ) → IsTrue (has (leaves_of us) a) → IsTrue (has (leaves_of ts) a)) →
       ((a : ℕ) → occurs (leaves_of us) a ≤ 1) → IsClosed R (leaves_of ts) row → IsOutside R row (leaves_of ts) s → at_p hs es fs ≡ None → Crossed R
   two_partials ts us hs no_tree fs s no_partial c sub once cr o e = cc
@@ -149,7 +149,7 @@ module _ (R : Pair → Pair → Type 0) (eq : IsPairEq R) (row : List ℕ) where
   some_none ps e = cc
 
   mutual
-    -- Below the root: no template fits at some node.
+    -- Below the pertinent root: no template fits at some node.
     pub label_failed : (t : Outline) (s : ℕ) → IsTrue (has row s) → IsFalse (has (leaves t) s) → IsOutside R row (leaves t) s → IsClosed R (leaves t) row → IsBound R t → HasArities t →
         ((a : ℕ) → occurs (leaves t) a ≤ 1) → label_of row t ≡ None → Crossed R
     label_failed (leaf a) s rs ls o cr b n once e = cc

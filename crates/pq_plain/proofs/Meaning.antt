@@ -47,7 +47,7 @@ pub miss_after : (row : List ℕ) (xs ys : Forest) → AllMiss row (join xs ys) 
 miss_after row no_tree ys h = h
 miss_after row (tree_and x xs) ys h = miss_after row xs ys h.1
 
--- the node over these children is the smallest that holds the whole row: it holds it, and no child does
+-- the node over these children is the pertinent root: it holds the whole row, and no child does
 pub record IsRoot (row : List ℕ) (ts : Forest) : Type 0 where
   pub within : (a : ℕ) → IsTrue (has row a) → IsTrue (has (leaves_of ts) a)
   pub lowest : AllMiss row ts

@@ -122,7 +122,7 @@ behind_failed t (Some None) e = refl
 behind_failed t (Some (Some us)) e = cc
 
 module _ (row : List ℕ) where
-  -- the root's only child that meets the row would hold it
+  -- the pertinent root's only child that meets the row would hold it
   lone : (es gs : Forest) (u : Outline) → AreEmpty row es → AreEmpty row gs → Misses row (leaves u) → ((a : ℕ) → IsTrue (has row a) → IsTrue (has (leaves_of (join es (tree_and u gs))) a)) → ⊥
   lone es gs u ee gg m within =
       elim (has_join_cases es (tree_and u gs) m.0 (within m.0 m.1)) [
@@ -137,7 +137,7 @@ module _ (row : List ℕ) where
   none_left : (us : Forest) → IsAtMostOne row us None → us ≡ no_tree
   none_left us no_such = refl
 
-  -- a single partial child with no full one isn't at the root
+  -- a single partial child with no full one isn't at the pertinent root
   pub root_q_failed : (hs ks : List Partial) (fs es gs ts : Forest) → SpanParts row ts es (first_of hs) fs (first_of ks) gs → IsRoot row ts → root_q hs ks fs es gs ts ≡ None → ⊥
   root_q_failed [] [] fs es gs ts m root e = cc
   root_q_failed (h ∷ hs) [] no_tree es gs ts m root e =

@@ -1,4 +1,4 @@
--- P with one partial child, below the root and at the root.
+-- P with one partial child, below the pertinent root and at it.
 use Rattle.std.proofs.Common.{◌≡◌, ◌⊎◌, ◌∙◌, ◌+◌, ◌≤◌, ℕ, false, List, [], ◌++◌, IsTrue, IsFalse, refl, sym, ap, subst, inl, inr, arith}
 use Rattle.std.proofs.lemmas.Bool.{both_ways, false_from_ne_true}
 use Rattle.row_model.specs.declared.graph.Pair.{Pair}
@@ -168,7 +168,7 @@ module _ (row : List ℕ) (ts es rest fs : Forest) (u : Outline) (e f : Forest) 
         down_each = λ R eq s o b. subst (AreBound R) (sym regroup) (p5_each R eq s o b);
       }
 
-  -- at the root: P over E and [e f P*(F)]
+  -- at the pertinent root: P over E and [e f P*(F)]
   module _ (within : (a : ℕ) → IsTrue (has row a) → IsTrue (has (leaves_of ts) a)) (some_fs : (a : ℕ) × IsTrue (has (leaves_of fs) a)) where
     row_cases : (a : ℕ) → IsTrue (has row a) → IsTrue (has (leaves_of f) a) ⊎ IsTrue (has (leaves_of fs) a)
     row_cases a h =

@@ -1,8 +1,8 @@
 -- Each template keeps what ties a tree to its rows: one lemma for each, whatever the reducer.
 --
--- The labels ps of the children ts are right for the row (`AreLabelled`). Not at the root a node becomes full, or a partial
--- that may stand in its place (`Treated`). At the root (`IsRoot`) the new tree is bound exactly where the old one is and the
--- row is closed in it (`Rooted`), so that it is tied to one row more (`rooted_tied`).
+-- The labels ps of the children ts are right for the row (`AreLabelled`). Below the pertinent root a node becomes full,
+-- or a partial that may stand in its place (`Treated`). At the pertinent root (`IsRoot`) the new tree is bound exactly where
+-- the old one is and the row is closed in it (`Rooted`), so that it is tied to one row more (`rooted_tied`).
 use Rattle.std.proofs.Common.{◌≡◌, ◌⊎◌, ◌∙◌, ◌≤◌, ℕ, true, false, List, [], ◌∷◌, ◌++◌, reverse, Option, Some, None, IsTrue, refl, sym, ap, ap₂, subst, inl, inr, arith}
 use Rattle.std.proofs.lemmas.Bool.{both_ways}
 use Rattle.column_order.specs.Orders.{has, occurs, IsOrder}
@@ -28,7 +28,7 @@ use Rattle.pq_plain.proofs.QAtRoot.{q3_none, q3_left, q3_right, q3_both}
 use Rattle.pq_plain.proofs.Meaning.{AreLabelled, labelled_back, ArePartial, no_partial, a_partial, IsAtMostOne, no_such, one_such, Misses, miss_right, miss_after, IsRoot, parts, run_parts, span_parts}
 use Rattle.pq_plain.proofs.Patterns.{run_all_full, run_all_empty, full_unback, empty_unback}
 
--- What keeping is for: a tree that a template at the root gives is tied to one row more.
+-- What keeping is for: a tree that a template at the pertinent root gives is tied to one row more.
 pub rooted_tied : (c : ℕ) (rows : List (List ℕ)) (row : List ℕ) (t u : Outline) → IsOrder c (leaves t) → IsTied c rows t →
     ((a : ℕ) → IsTrue (has row a) → IsTrue (has (leaves t) a)) → Rooted row t u → IsTied c (rows ++ row ∷ []) u
 rooted_tied c rows row t u whole tied within r = tied_more c rows row t u whole tied within r.same r.down r.up
@@ -46,7 +46,7 @@ q3_line_right k es fs gs = simp (back-join, join_assoc)
 q3_line_both : (h k : Partial) (es fs gs : Forest) → q3 es (Some h) fs (Some k) gs ≡ join (join es h.e) (join (join h.f (join fs (back k.f))) (join (back k.e) gs))
 q3_line_both h k es fs gs = simp (back-join, join_assoc)
 
--- a full tree stays at the root too: the row is closed where it has all columns
+-- a full tree stays at the pertinent root too: the row is closed where it has all columns
 pub full_rooted : (row : List ℕ) (t : Outline) → IsFull row t → Rooted row t t
 full_rooted row t all =
     record {
@@ -113,7 +113,7 @@ module _ (row : List ℕ) (ts : Forest) (ps : List Label) (right : AreLabelled r
       (p3_parted row ts (tree_and x.e x.es) (tree_and x.f x.fs) s k.empty k.full
       (some_leaf_of (tree_and x.e x.es) (omega arith) (arities_left s c)) (some_leaf_of (tree_and x.f x.fs) (omega arith) (arities_right s c)))
 
-  -- at the root a partial child is not the only one that meets the row
+  -- at the pertinent root a partial child is not the only one that meets the row
   pub full_column : (es fs us rest : Forest) (h : Partial) → IsParted ts es rest → IsParted rest fs us → AreEmpty row es → IsRoot row ts → ArePartial row us (h ∷ []) → (a : ℕ) × IsTrue (has (leaves_of fs) a)
   full_column es fs us rest h first second ee root (a_partial {t = u} part no_partial) =
       let m : Misses row (leaves u) = (miss_right row second (miss_right row first root.lowest)).0 in
@@ -203,7 +203,7 @@ module _ (row : List ℕ) where
             (λ s. x.not_full (full_unback s)) (λ s. x.not_empty (empty_unback s)))
       ])
 
-  -- at the root a partial child is not the only one that meets the row
+  -- at the pertinent root a partial child is not the only one that meets the row
   second_column : (es us fs ws gs : Forest) (h k : Option Partial) → IsAtMostOne row us h → IsAtMostOne row ws k → AreEmpty row es → AreEmpty row gs →
       IsRoot row (join es (join us (join fs (join ws gs)))) → HasSecond h fs k
   second_column es us fs ws gs h k no_such no_such ee gg root = tt
@@ -268,7 +268,7 @@ module _ (row : List ℕ) where
             (subst (λ ys. Rooted row (q_node ts) (q_node ys)) k (span_kept ts no_tree (back fs) (back es) ps None h right root (rear_span r))))
       ]
 
-  -- Q2 at the root
+  -- Q2 at the pertinent root
   pub q2_rooted : (ts : Forest) (ps : List Label) (x : Partial) (u : Outline) → AreLabelled row ts ps → IsRoot row ts → IsQ2 ts ps x → IsShape x u → Rooted row (q_node ts) u
   q2_rooted ts ps x u right root q shape =
       let r : Rooted row (q_node ts) (q_node (line x)) = subst (λ y. Rooted row (q_node ts) (q_node (line y))) (sym q.becomes) (q2_shaped ts q.es q.fs ps q.h right root q.pattern) in

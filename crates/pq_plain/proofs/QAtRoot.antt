@@ -1,4 +1,4 @@
--- Q2 and Q3 at the root, and P6 by way of Q3.
+-- Q2 and Q3 at the pertinent root, and P6 by way of Q3.
 use Rattle.std.proofs.Common.{◌≡◌, ◌∙◌, ℕ, List, IsTrue, sym, subst, inl, inr}
 use Rattle.column_order.specs.Orders.{has}
 use Rattle.column_order.proofs.Lists.{has_append_left}

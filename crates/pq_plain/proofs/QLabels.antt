@@ -1,4 +1,4 @@
--- The templates of a Q-node below the root, as the program finds them.
+-- The templates of a Q-node below the pertinent root, as the program finds them.
 use Rattle.std.proofs.Common.{◌≡◌, ◌∙◌, ◌+◌, ◌≤◌, ℕ, List, [], ◌∷◌, ◌++◌, Some, None, map, take, drop, reverse, length, IsTrue, refl, sym, ap, ap₂, subst, arith, option_and_then, length-append}
 use Rattle.std.proofs.lemmas.Bool.{cond-true}
 use Rattle.std.proofs.lemmas.List.{drop-map, take-map, length-map, length-reverse, length-drop, map-append, reverse-append, take-append-drop}

@@ -1,4 +1,4 @@
--- Q2 below the root, and the steps of Q3.
+-- Q2 below the pertinent root, and the steps of Q3.
 use Rattle.std.proofs.Common.{◌≡◌, ◌⊎◌, ◌∙◌, ℕ, List, IsTrue, IsFalse, refl, sym, ap, ap₂, subst, inl, inr}
 use Rattle.std.proofs.lemmas.Bool.{both_ways, false_from_ne_true}
 use Rattle.row_model.specs.declared.graph.Pair.{Pair}
@@ -16,7 +16,7 @@ use Rattle.pq_plain.proofs.AtRoot.{Rooted}
 use Rattle.pq_plain.proofs.Context.{the_bound}
 use Rattle.pq_plain.proofs.QLines.{back_occurs, back_has, parts_occur, from_parts, parts_up, parts_down, turned_bound, unturned_bound}
 
--- Q2 below the root without a partial child: [E F]
+-- Q2 below the pertinent root without a partial child: [E F]
 module _ (row : List ℕ) (es fs : Forest) (empty : AreEmpty row es) (full : AreFull row fs)
     (some_e : (a : ℕ) × IsTrue (has (leaves_of es) a)) (some_f : (a : ℕ) × IsTrue (has (leaves_of fs) a)) where
   pub q2_none : Treated row (q_node (join es fs)) es fs
@@ -34,7 +34,7 @@ module _ (row : List ℕ) (es fs : Forest) (empty : AreEmpty row es) (full : Are
         down_each = λ R eq s o b. b.1;
       }
 
--- Q2 below the root with the partial child u: [E e f F]. The pair z goes from an empty column to a full one.
+-- Q2 below the pertinent root with the partial child u: [E e f F]. The pair z goes from an empty column to a full one.
 module _ (row : List ℕ) (es fs : Forest) (u : Outline) (e f : Forest) (part : Treated row u e f) (empty : AreEmpty row es) (full : AreFull row fs)
     (z : Pair) (forward : IsForward (join es (tree_and u fs)) z) (from_empty : IsFalse (has row z.a)) (to_full : IsTrue (has row z.b))
     (z_a : IsTrue (has (leaves_of (join es (tree_and u fs))) z.a)) (z_b : IsTrue (has (leaves_of (join es (tree_and u fs))) z.b)) where
@@ -80,7 +80,7 @@ module _ (row : List ℕ) (es fs : Forest) (u : Outline) (e f : Forest) (part : 
         down_each = λ R eq s o b. subst (AreBound R) (sym q2_group) (q2_each R eq s o b);
       }
 
--- At the root a line is changed in steps, and at last the row is the run between empty children.
+-- At the pertinent root a line is changed in steps, and at last the row is the run between empty children.
 pub record Refined (row : List ℕ) (t u : Outline) : Type 1 where
   pub same : (a : ℕ) → occurs (leaves u) a ≡ occurs (leaves t) a
   pub up : (R : Pair → Pair → Type 0) → IsPairEq R → IsBound R u → IsBound R t

@@ -147,7 +147,7 @@ root_of_q row ts ps u n l e =
     let v : (r : Span) × (span_of ts ps ≡ Some r) × (at_span ts r ≡ Some u) = and_then (at_span ts) (span_of ts ps) u k in
     root_q_is v.0.left v.0.tail.right v.0.tail.middle v.0.before v.0.tail.behind ts ps u (span_is ts ps v.0 (labels_sorted row ts ps l) v.1) v.2
 
--- what the templates make of the root
+-- what the templates make of the pertinent root
 root_p_right : (row : List ℕ) (ts : Forest) (ps : List Label) (u : Outline) → AreLabelled row ts ps → ((a : ℕ) → occurs (leaves_of ts) a ≤ 1) → IsRoot row ts → IsRootOfP ts ps u → Rooted row (p_node ts) u
 root_p_right row ts ps u m once root (root_p1 s) = full_rooted row (p1 ts) (p1_kept row ts ps m s)
 root_p_right row ts ps u m once root (root_p2 x s) = p2_kept row ts ps m u root s

@@ -1,4 +1,4 @@
--- The root by the labels of its children.
+-- The pertinent root by the labels of its children.
 use Rattle.std.proofs.Common.{◌≡◌, ◌∙◌, ℕ, List, Option, Some, None, sym, ap, option_and_then, option_map}
 use Rattle.std.specs.declared.vec.Vec.{Vec}
 use Rattle.std.specs.declared.alloc.Global.{Global}

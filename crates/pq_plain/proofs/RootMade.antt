@@ -1,4 +1,4 @@
--- The templates at the root, by the counts of the root's labels.
+-- The templates at the pertinent root, by the counts of its children's labels.
 use Rattle.std.proofs.Common.{◌≡◌, ◌∙◌, ◌-◌, ◌≤◌, ℕ, zero, suc, List, [], ◌∷◌, Some, None, map, take, drop, length, refl, sym, ap, ap₂, subst, arith, option_and_then}
 use Rattle.std.proofs.lemmas.List.{length-map, length-take, length-drop}
 use Rattle.pq_tree.specs.Outline.{Outline, Forest, p_node, q_node, no_tree, tree_and}

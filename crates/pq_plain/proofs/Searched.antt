@@ -1,4 +1,4 @@
--- The search for a row's root.
+-- The search for the pertinent root.
 use Rattle.std.proofs.Common.{◌≡◌, ◌∙◌, ◌+◌, ◌<◌, ◌≤◌, ℕ, List, [], ◌∷◌, ◌++◌, Option, Some, None, Result, Ok, Err, OnErr, map, take, drop, set, length, get_or, IsTrue, IsFalse, refl, sym, ap, ap₂, subst, inl, inr, arith, option_and_then}
 use Rattle.std.proofs.lemmas.Bool.{cases_Bool, cond-true, cond-false, and_from, and_parts}
 use Rattle.std.proofs.lemmas.List.{map_more, map-append, take-append-drop, drop_more, length-map, length-set, get_or-set_same, take-set, drop-set-lt, with_items_is, append-nil, take-map, take_all}
@@ -257,7 +257,7 @@ module _ (r t : Tree) (v : Vec Tree Global) (os : List Tree) (is : r ≡ t) (rea
     pub Q_same : r ≡ Q v → outlines ws ≡ outlines os → outline_of (Q (with_items v ws)) ≡ outline_of t
     Q_same e h = new_Q ∙ ap q_node h ∙ sym (old_Q e)
 
--- the tree itself is the row's root
+-- the tree itself is the pertinent root
 pub root_here : (row : List ℕ) (t x u : Outline) (found : Found) (n : ℕ) (step : Step) → ((a : ℕ) → occurs row a ≤ 1) → ((a : ℕ) → occurs (leaves t) a ≤ 1) →
     IsFoundBelow row t x found → found ≡ Columns n → length row ≤ n → IsStep (root_of row x) x u step → IsTrue (holds row t) × IsStep (reduce row t) t u step
 root_here row t x u found n step distinct once h e l s =

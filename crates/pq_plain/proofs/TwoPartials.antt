@@ -1,4 +1,4 @@
--- P6 at the root: the full and the two partial children go into one line, which Q3 then reduces.
+-- P6 at the pertinent root: the full and the two partial children go into one line, which Q3 then reduces.
 use Rattle.std.proofs.Common.{◌≡◌, ◌⊎◌, ◌∙◌, ◌+◌, ◌≤◌, ℕ, false, List, [], ◌++◌, IsTrue, IsFalse, refl, sym, ap, inl, inr, arith}
 use Rattle.std.proofs.lemmas.Bool.{both_ways, false_from_ne_true}
 use Rattle.row_model.specs.declared.graph.Pair.{Pair}

@@ -22,7 +22,7 @@ root_of row (leaf a) = Some (leaf a)
 root_of row (p_node ts) = option_and_then (p_outcome ts) (labels_of row ts)
 root_of row (q_node ts) = option_and_then (q_outcome ts) (labels_of row ts)
 
--- an outcome at the root t
+-- an outcome at the pertinent root t
 abbrev pub outcome_seen : Outline → Outcome → Option Outline
 outcome_seen t Unchanged = Some t
 outcome_seen t (Replaced u) = Some (outline_of u)

@@ -1,4 +1,4 @@
--- What the search for a row's root finds, and makes of the tree.
+-- What the search for the pertinent root finds, and makes of the tree.
 use Rattle.std.specs.Prelude.{◌≡◌, ℕ, ◌+◌, ◌<◌, cond, List, [], ◌∷◌, length, Option, Some, None, IsTrue}
 use Rattle.column_order.specs.Orders.{has}
 use Rattle.pq_tree.specs.Outline.{Outline, Forest, leaves, leaves_of}

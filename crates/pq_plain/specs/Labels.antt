@@ -1,4 +1,4 @@
--- What the templates make of a tree below the root of the row's subtree.
+-- What the templates make of a tree below the pertinent root.
 pub use Rattle.pq_plain.specs.Templates.{Partial, Label, empty_label, full_label, partial_label}
 use Rattle.std.specs.Prelude.{ℕ, Bool, true, false, if◌then◌else◌, List, [], ◌∷◌, Option, Some, None, option_and_then, reverse}
 use Rattle.column_order.specs.Orders.{has}

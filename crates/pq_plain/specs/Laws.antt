@@ -10,6 +10,7 @@ use Rattle.pq_plain.specs.Templates.{Label, full_label, IsL1, IsP2, IsP4}
 use Rattle.pq_plain.specs.Labels.{label_of, labels_of, full_trees}
 use Rattle.pq_plain.specs.Chosen.{IsLabelOfP, IsLabelOfQ, IsRootOfP, IsRootOfQ}
 use Rattle.pq_plain.specs.Reduce.{reduce, inner}
+use Rattle.pq_plain.specs.Unfit.{IsUnfit, IsUnfitRootP, IsUnfitRootQ}
 
 -- a proper tree that is tied to the rows, reduced by a further row over 1 to c, is proper and tied to one row more
 abbrev pub TakenLaw : Type 0
@@ -36,7 +37,7 @@ RefusedLaw =
 abbrev pub LeafLaw : Type 0
 LeafLaw = (row : List ℕ) (a : ℕ) → label_of row (leaf a) ≡ Some full_label ↔ IsL1 row a
 
--- a P-node that is not the root gets its label by P1, P3 or P5, or is empty
+-- a P-node below the pertinent root gets its label by P1, P3 or P5, or is empty
 abbrev pub LabelOfPLaw : Type 0
 LabelOfPLaw =
     (row : List ℕ) (ts : Forest) (ps : List Label) (x : Label) →
@@ -44,7 +45,7 @@ LabelOfPLaw =
     label_of row (p_node ts) ≡ Some x →
     IsLabelOfP ts ps x
 
--- a Q-node that is not the root gets its label by Q1 or Q2, or is empty
+-- a Q-node below the pertinent root gets its label by Q1 or Q2, or is empty
 abbrev pub LabelOfQLaw : Type 0
 LabelOfQLaw =
     (row : List ℕ) (ts : Forest) (ps : List Label) (x : Label) →
@@ -52,7 +53,7 @@ LabelOfQLaw =
     label_of row (q_node ts) ≡ Some x →
     IsLabelOfQ ts ps x
 
--- a P-node at the root, where no child holds the row, is reduced by P1, P2, P4 or P6
+-- a P-node at the pertinent root, where no child holds the row, is reduced by P1, P2, P4 or P6
 abbrev pub RootOfPLaw : Type 0
 RootOfPLaw =
     (row : List ℕ) (ts : Forest) (ps : List Label) (u : Outline) →
@@ -61,7 +62,7 @@ RootOfPLaw =
     reduce row (p_node ts) ≡ Some u →
     IsRootOfP ts ps u
 
--- a Q-node at the root, where no child holds the row, is reduced by Q1, Q2 or Q3
+-- a Q-node at the pertinent root, where no child holds the row, is reduced by Q1, Q2 or Q3
 abbrev pub RootOfQLaw : Type 0
 RootOfQLaw =
     (row : List ℕ) (ts : Forest) (ps : List Label) (u : Outline) →
@@ -78,43 +79,16 @@ pub record IsPertinentRoot (row : List ℕ) (ts : Forest) : Type 0 where
   pub arities : HaveArities ts
   pub once : (a : ℕ) → occurs (leaves_of ts) a ≤ 1
 
--- a P-node below the pertinent root has no label only where no template fits it
-abbrev pub NoLabelOfPLaw : Type 0
-NoLabelOfPLaw =
-    (row : List ℕ) (ts : Forest) (ps : List Label) (x : Label) →
-    labels_of row ts ≡ Some ps →
-    label_of row (p_node ts) ≡ None →
-    IsLabelOfP ts ps x →
-    ⊥
+-- a tree below the pertinent root has no label exactly where at some node no template fits
+abbrev pub NoLabelLaw : Type 0
+NoLabelLaw = (row : List ℕ) (t : Outline) → label_of row t ≡ None ↔ IsUnfit row t
 
--- a Q-node below the pertinent root has no label only where no template fits it
-abbrev pub NoLabelOfQLaw : Type 0
-NoLabelOfQLaw =
-    (row : List ℕ) (ts : Forest) (ps : List Label) (x : Label) →
-    labels_of row ts ≡ Some ps →
-    label_of row (q_node ts) ≡ None →
-    IsLabelOfQ ts ps x →
-    ⊥
-
--- a P-node that is the pertinent root is not reduced, where its children have labels, only where no template fits it
+-- a row is refused exactly where at the pertinent root, or at some node below it, no template fits
 abbrev pub NoRootOfPLaw : Type 0
-NoRootOfPLaw =
-    (row : List ℕ) (ts : Forest) (ps : List Label) (u : Outline) →
-    IsPertinentRoot row ts →
-    labels_of row ts ≡ Some ps →
-    reduce row (p_node ts) ≡ None →
-    IsRootOfP ts ps u →
-    ⊥
+NoRootOfPLaw = (row : List ℕ) (ts : Forest) → IsPertinentRoot row ts → reduce row (p_node ts) ≡ None ↔ IsUnfitRootP row ts
 
--- so is a Q-node
 abbrev pub NoRootOfQLaw : Type 0
-NoRootOfQLaw =
-    (row : List ℕ) (ts : Forest) (ps : List Label) (u : Outline) →
-    IsPertinentRoot row ts →
-    labels_of row ts ≡ Some ps →
-    reduce row (q_node ts) ≡ None →
-    IsRootOfQ ts ps u →
-    ⊥
+NoRootOfQLaw = (row : List ℕ) (ts : Forest) → IsPertinentRoot row ts → reduce row (q_node ts) ≡ None ↔ IsUnfitRootQ row ts
 
 -- at the pertinent root P2 has two full children or more, and P4 one or more, else a node below would hold the row
 abbrev pub FullChildrenOfP2Law : Type 0

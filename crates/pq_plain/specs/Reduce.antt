@@ -1,4 +1,4 @@
--- One row reduced: the templates below the smallest node that holds the row, and the one at that node.
+-- One row reduced: the templates below the pertinent root, the smallest node that holds the row, and the one at it.
 use Rattle.std.specs.Prelude.{ℕ, Bool, true, false, if◌then◌else◌, List, [], ◌∷◌, Option, Some, None, option_and_then}
 use Rattle.std.specs.List.{list_all}
 use Rattle.column_order.specs.Orders.{has}
@@ -10,7 +10,7 @@ use Rattle.pq_plain.specs.Labels.{Label, empty_label, full_label, partial_label,
 abbrev pub holds : List ℕ → Outline → Bool
 holds row t = list_all (λ a. has (leaves t) a) row
 
--- the P-node over ts at the root, with these partial children, these empty and these full ones: P1, P2, P4 or P6
+-- the P-node over ts at the pertinent root, with these partial children, these empty and these full ones: P1, P2, P4 or P6
 abbrev pub root_p : List Partial → Forest → Forest → Forest → Option Outline
 root_p [] no_tree fs ts = Some (p1 ts)
 root_p [] (tree_and e es) no_tree ts = None
@@ -20,13 +20,13 @@ root_p (h ∷ []) es (tree_and f fs) ts = Some (p4 es h (tree_and f fs))
 root_p (h ∷ k ∷ []) es fs ts = Some (p6 es h fs k)
 root_p (h ∷ k ∷ l ∷ hs) es fs ts = None
 
--- the rest of a Q-node at the root, from its first full child on: full children, at most one partial, empty ones
+-- the rest of a Q-node at the pertinent root, from its first full child on: full children, at most one partial, empty ones
 pub record Tail : Type 0 where
   pub middle : Forest
   pub right : List Partial
   pub behind : Forest
 
--- a Q-node at the root: empty children, at most one partial, and such a rest
+-- a Q-node at the pertinent root: empty children, at most one partial, and such a rest
 pub record Span : Type 0 where
   pub before : Forest
   pub left : List Partial
@@ -67,8 +67,9 @@ span_of (tree_and t ts) (empty_label ∷ ps) = option_and_then (λ r. Some (befo
 span_of (tree_and t ts) (full_label ∷ ps) = option_and_then (λ r. Some (begins [] (full_more t r))) (tail_of ts ps)
 span_of (tree_and t ts) (partial_label h ∷ ps) = option_and_then (λ r. Some (begins (h ∷ []) r)) (tail_of ts ps)
 
--- The Q-node over ts at the root, with these partial children before and behind the full ones, and these empty ones:
--- Q1 and the other cases without a partial child, where it stays, or Q2 or Q3. A partial child alone would hold the row.
+-- The Q-node over ts at the pertinent root, with these partial children before and behind the full ones, and these empty
+-- ones: Q1 and the other cases without a partial child, where it stays, or Q2 or Q3. A partial child alone would hold the
+-- row.
 abbrev pub root_q : List Partial → List Partial → Forest → Forest → Forest → Forest → Option Outline
 root_q [] [] fs es gs ts = Some (q1 ts)
 root_q (h ∷ hs) [] no_tree es gs ts = None

@@ -60,7 +60,7 @@ cut_front (empty_label ∷ ps) = 0
 cut_front (full_label ∷ ps) = 0
 cut_front (partial_label h ∷ ps) = 1
 
--- what a P-node below the root is labelled, by the labels of its children
+-- what a P-node below the pertinent root is labelled, by the labels of its children
 abbrev pub p_label : Forest → List Label → Option Label
 p_label ts ps = at_p (partials ps) (empty_trees ts ps) (full_trees ts ps)
 
@@ -68,6 +68,6 @@ p_label ts ps = at_p (partials ps) (empty_trees ts ps) (full_trees ts ps)
 abbrev pub run_seen : List Outline → List Label → Places → Run
 run_seen ts ps r = record { before = forest (take r.before ts); middle = partials ps; behind = forest (drop r.behind ts) }
 
--- what a Q-node below the root is labelled, by the labels of its children read from either end
+-- what a Q-node below the pertinent root is labelled, by the labels of its children read from either end
 abbrev pub q_label : Forest → List Label → Option Label
 q_label ts ps = first_some (option_and_then at_run (run_of ts ps)) (option_and_then at_run (run_of (back ts) (reverse ps)))

@@ -1,4 +1,4 @@
-// The templates at the row's root, the smallest node that holds the whole row.
+// The templates at the pertinent root, the smallest node that holds the whole row.
 ghost use Rattle.std.specs.Prelude.{◌≡◌, ◌↔◌, ◌≤◌, ◌<◌, ◌++◌, map, length, IfOk, IfSome, IsSome, List, option_map};
 ghost use Rattle.std.specs.List.Sorted.{IsNonDecreasing};
 ghost use Rattle.std.specs.Option.{option_to_list};
@@ -18,7 +18,7 @@ use pq_tree::Tree;
 use row_model::NoMemory;
 use std::alloc::Global;
 
-/// What the templates make of a row's root.
+/// What the templates make of the pertinent root.
 #[derive(Drop)]
 pub enum Outcome {
     /// The root stays as it is.
@@ -29,7 +29,7 @@ pub enum Outcome {
     NoTemplate,
 }
 
-/// Applies the template that fits at the row's root, after those below it.
+/// Applies the template that fits at the pertinent root, after those below it.
 pub fn reduce_root(alloc: Global, row: &[u32], root: &Tree) -> Result<Outcome, NoMemory>
     requires { IsNonDecreasing row.now }
     ensures { IfOk result (λ o. outcome_seen (outline_of root.now) o ≡ root_of row.now (outline_of root.now)) }
@@ -47,7 +47,7 @@ pub fn reduce_root(alloc: Global, row: &[u32], root: &Tree) -> Result<Outcome, N
     }
 }
 
-/// P1, P2, P4 and P6 at the root.
+/// P1, P2, P4 and P6 at the pertinent root.
 fn root_p(alloc: Global, children: &[Tree], labels: Vec<Label>) -> Result<Outcome, NoMemory>
     requires { length labels.items ≡ length children.now }
     ensures { IfOk result (λ o. outcome_seen (p_node (outlines children.now)) o ≡ p_outcome (outlines children.now) (labels_seen labels)) }
@@ -207,7 +207,7 @@ fn find_span(labels: &[Label]) -> Option<Span>
     }
 }
 
-/// Q1, Q2 and Q3 at the root.
+/// Q1, Q2 and Q3 at the pertinent root.
 fn root_q(alloc: Global, children: &[Tree], labels: Vec<Label>) -> Result<Outcome, NoMemory>
     requires { length labels.items ≡ length children.now }
     ensures { IfOk result (λ o. outcome_seen (q_node (outlines children.now)) o ≡ q_outcome (outlines children.now) (labels_seen labels)) }

@@ -1,4 +1,4 @@
-// The label of a tree below the row's root, and the templates there.
+// The label of a tree below the pertinent root, and the templates there.
 ghost use Rattle.std.specs.Prelude.{◌≡◌, ◌≤◌, map, length, reverse, IfOk, option_map, option_and_then, Some};
 ghost use Rattle.std.specs.List.Sorted.{IsNonDecreasing};
 ghost use Rattle.column_order.specs.Orders.{has};
@@ -15,7 +15,7 @@ use pq_tree::Tree;
 use row_model::NoMemory;
 use std::alloc::Global;
 
-/// The label of a tree below the row's root, `None` where at some node no template fits.
+/// The label of a tree below the pertinent root, `None` where at some node no template fits.
 #[cycle(label)]
 pub fn label_tree(alloc: Global, row: &[u32], tree: &Tree) -> Result<Option<Label>, NoMemory>
     requires { IsNonDecreasing row.now }

@@ -16,7 +16,7 @@ pub struct Halves {
     pub full: Vec<Tree>,
 }
 
-/// What a row makes of a tree below the row's root.
+/// What a row makes of a tree below the pertinent root.
 #[derive(Drop)]
 pub enum Label {
     /// No column of the tree is in the row.

@@ -1,5 +1,5 @@
 // Laws of the templates and of reductions. The functions here have no body: their contracts are the laws.
-ghost use Rattle.pq_plain.specs.Laws.{LeafLaw, LabelOfPLaw, LabelOfQLaw, RootOfPLaw, RootOfQLaw, NoLabelOfPLaw, NoLabelOfQLaw, NoRootOfPLaw, NoRootOfQLaw, FullChildrenOfP2Law, FullChildrenOfP4Law, TakenLaw, RefusedLaw, EmptyRowLaw, EitherLaw, OrderLaw, NoOrderLaw, FirstRowsLaw};
+ghost use Rattle.pq_plain.specs.Laws.{LeafLaw, LabelOfPLaw, LabelOfQLaw, RootOfPLaw, RootOfQLaw, NoLabelLaw, NoRootOfPLaw, NoRootOfQLaw, FullChildrenOfP2Law, FullChildrenOfP4Law, TakenLaw, RefusedLaw, EmptyRowLaw, EitherLaw, OrderLaw, NoOrderLaw, FirstRowsLaw};
 
 /// A reduction goes by the templates of Booth and Lueker (1976).
 pub fn template_law()
@@ -12,12 +12,11 @@ pub fn template_law()
     ensures full_children_of_p4 { FullChildrenOfP4Law }
 {}
 
-/// Where a node gets no label, or the pertinent root is not replaced, no template fits it.
+/// A row is refused exactly where at the pertinent root, or at some node below it, no template fits.
 pub fn no_template_law()
-    ensures label_of_p { NoLabelOfPLaw }
-    ensures label_of_q { NoLabelOfQLaw }
-    ensures root_of_p { NoRootOfPLaw }
-    ensures root_of_q { NoRootOfQLaw }
+    ensures below { NoLabelLaw }
+    ensures root_p { NoRootOfPLaw }
+    ensures root_q { NoRootOfQLaw }
 {}
 
 /// A reduction by one row keeps a tied tree tied, and a refused row leaves no valid order.

@@ -11,8 +11,9 @@ use row_model::{Matrix, NoMemory};
 use std::alloc::Global;
 use step_count::{Ledger, Steps};
 
-/// A reducer whose tree owns its nodes. A row costs at most a few walks over the tree: the row's root is found in one walk,
-/// its new subtree is made of copies, and takes its place when all memory has been had.
+/// A reducer whose tree owns its nodes. A row costs at most a few walks over the tree: the pertinent root, the smallest node
+/// that holds the row, is found in one walk; its new subtree is made of copies, and takes its place when all memory has been
+/// had.
 #[derive(Drop)]
 pub struct PlainReducer {
     alloc: Global,
@@ -74,10 +75,4 @@ impl Reducer for PlainReducer {
         let tree = PqTree::from_tree(self.column_count, copy).canonical(alloc)?;
         Ok(tree)
     }
-}
-
-#[cfg(test)]
-mod tests {
-    use super::*;
-    use std::test::Fail;
 }

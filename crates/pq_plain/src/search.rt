@@ -1,4 +1,4 @@
-// The search for a row's root: one walk over the tree, each child before its node.
+// The search for the pertinent root: one walk over the tree, each child before its node.
 ghost use Rattle.std.specs.Prelude.{◌≡◌, ◌≤◌, ◌<◌, ℕ, List, [], ◌∷◌, map, length, IfOk, OnErr};
 ghost use Rattle.std.specs.List.Sorted.{IsNonDecreasing};
 ghost use Rattle.column_order.specs.Orders.{occurs};
@@ -16,7 +16,7 @@ use row_model::NoMemory;
 use std::alloc::Global;
 use std::mem;
 
-/// What a search for a row's root found in a tree.
+/// What a search for the pertinent root found in a tree.
 #[derive(Drop)]
 pub enum Found {
     /// The root isn't there. So many columns of the row are.
@@ -25,7 +25,7 @@ pub enum Found {
     Root(Step),
 }
 
-/// Reduces the tree at its smallest node that holds the whole row, if one does. The tree is unchanged where it has no such
+/// Reduces the tree at its pertinent root, if a node holds the whole row. The tree is unchanged where it has no such
 /// node, where the row is refused, and on an error.
 #[cycle(search)]
 pub fn reduce_tree(alloc: Global, row: &[u32], tree: &mut Tree) -> Result<Found, NoMemory>
@@ -104,7 +104,7 @@ fn count_leaf(row: &[u32], column: u32) -> usize
     if row_has(row, column) { 1 } else { 0 }
 }
 
-/// Applies the templates to the tree, whose root is the row's.
+/// Applies the templates to a tree whose root is the pertinent root.
 fn reduce_here(alloc: Global, row: &[u32], tree: &mut Tree) -> Result<Step, NoMemory>
     requires { IsNonDecreasing row.now }
     ensures step { IfOk result (IsStep (root_of row.now (outline_of tree.old)) (outline_of tree.old) (outline_of tree.new)) }

@@ -1,11 +1,5 @@
-use Rattle.pq_plain.proofs.NoTemplate.{no_label_of_p, no_label_of_q, no_root_of_p, no_root_of_q}
+use Rattle.pq_plain.proofs.Unfit.{label_unfit, root_unfit_p, root_unfit_q}
 use Rattle.pq_plain.proofs.laws.no_template_law.Goals as goal
 
 pub returns : goal.returns
-returns c =
-    record {
-      label_of_p = no_label_of_p;
-      label_of_q = no_label_of_q;
-      root_of_p = λ row ts ps u at l e x. no_root_of_p row ts ps at l u e x;
-      root_of_q = λ row ts ps u at l e x. no_root_of_q row ts ps at l u e x;
-    }
+returns c = record { below = label_unfit; root_p = root_unfit_p; root_q = root_unfit_q }
