@@ -54,9 +54,28 @@ finds_each P f (suc n) (Some k) h =
           finds_part P (map f (numbers n)) (f (suc n) ∷ []) (f k) (finds_each P f n (Some k) (h.0, u, h.2, h.3))
     ])
 
+-- what holds of the whole holds of each part
+pub all_parts : (P : Reason → Type 0) (xs ys : List Reason) → AllByRecursion P (xs ++ ys) → AllByRecursion P xs × AllByRecursion P ys
+all_parts P [] ys h = (tt, h)
+all_parts P (x ∷ xs) ys h = ((h.0, (all_parts P xs ys h.1).0), (all_parts P xs ys h.1).1)
+
+-- where each test that is passed is passed in other words
+pub all_apply : (P Q : Reason → Type 0) (xs : List Reason) → AllByRecursion (λ r. P r → Q r) xs → AllByRecursion P xs → AllByRecursion Q xs
+all_apply P Q [] m h = tt
+all_apply P Q (x ∷ xs) m h = (m.0 h.0, all_apply P Q xs m.1 h.1)
+
 -- what holds for the numbers 1 to n
 pub all_each : (P : Reason → Type 0) (f : ℕ → Reason) (n : ℕ) → ((k : ℕ) → 1 ≤ k → k ≤ n → P (f k)) → AllByRecursion P (map f (numbers n))
 all_each P f n h = finds_each P f n None h
+
+pub each_all : (P : Reason → Type 0) (f : ℕ → Reason) (n : ℕ) → AllByRecursion P (map f (numbers n)) → (k : ℕ) → 1 ≤ k → k ≤ n → P (f k)
+each_all P f zero h k l u = absurd (omega (arith, l, u))
+each_all P f (suc n) h k l u =
+    let parts = all_parts P (map f (numbers n)) (f (suc n) ∷ []) (subst (AllByRecursion P) (map-append f (numbers n) (suc n ∷ [])) h) in
+    elim (cases_eq k (suc n)) [
+      | inl e ↦ subst (λ j. P (f j)) (sym e) parts.1.0
+      | inr ne ↦ each_all P f n parts.0 k l (omega (arith, u, ne))
+    ]
 
 -- what holds of each part holds of the whole
 pub all_after : (P : Reason → Type 0) (xs ys : List Reason) → AllByRecursion P xs → AllByRecursion P ys → AllByRecursion P (xs ++ ys)

@@ -1,5 +1,5 @@
 -- All tests of a verdict.
-use Rattle.std.proofs.Common.{◌≡◌, ℕ, ◌-◌, ◌≤◌, List, [], ◌∷◌, length, map, Option, Some, Result, Ok, Err, slice_get, refl, sym, subst, arith, append-nil, ◌∙◌}
+use Rattle.std.proofs.Common.{◌≡◌, ℕ, ◌-◌, ◌≤◌, List, [], ◌∷◌, length, map, Option, Some, None, Result, Ok, Err, slice_get, refl, sym, subst, arith, append-nil, ◌∙◌}
 use Rattle.std.specs.Prelude.{IfOk, IsSomeAnd, flat_map}
 use Rattle.std.specs.List.{AllByRecursion}
 use Rattle.row_model.specs.declared.kind.Kind.{Kind}
@@ -10,11 +10,11 @@ use Rattle.verdict_text.specs.Verdict.{SideValue, YesValue, Claim, yes_claim, no
 use Rattle.verdict_check.specs.Instance.{InstanceValue, plain, instance_kind, instance_columns, derived_matrix}
 use Rattle.verdict_check.specs.Tests.{numbers, side_tests, added_tests, yes_tests, no_tests, claim_tests, tests}
 use Rattle.verdict_check.specs.YesTests.{HasSide, PassesYes}
-use Rattle.verdict_check.specs.Accepted.{PassesClaim, Passes}
+use Rattle.verdict_check.specs.Accepted.{PassesClaim, Passes, IsAccepted}
 use Rattle.verdict_check.specs.Found.{Finds, PassesSide}
 use Rattle.verdict_check.specs.declared.outcome.Reason.{Reason}
 use Rattle.verdict_check.specs.declared.outcome.Reason.TheVariants as reason
-use Rattle.verdict_check.proofs.First.{finds_here, finds_next, finds_same, all_each, all_after, all_over}
+use Rattle.verdict_check.proofs.First.{finds_here, finds_next, finds_same, all_each, all_after, all_apply, all_over}
 
 -- one side, with its tree
 pub only_side : (c : ℕ) (value : YesValue) → AreSides (c ∷ []) value.sides → (1 ≤ length value.sides) × HasSide value 1 (λ side. IsProper c side.tree)
@@ -39,7 +39,7 @@ every : (P : Reason → Type 0) (xs : List Reason) → ((r : Reason) → P r) �
 every P [] h = tt
 every P (x ∷ xs) h = (h x, every P xs h)
 
-only_tests : (kind : Kind) (m : RowList) → yes_tests (plain kind m) ≡ side_tests 1 m
+pub only_tests : (kind : Kind) (m : RowList) → yes_tests (plain kind m) ≡ side_tests 1 m
 only_tests kind m = append-nil _ ∙ append-nil _
 
 pub plain_yes : (kind : Kind) (m : RowList) (value : YesValue) (o : Option Reason) → Finds (PassesSide m value) (side_tests 1 m) o → Finds (PassesYes (plain kind m) value) (yes_tests (plain kind m)) o
@@ -100,3 +100,12 @@ pub claim_found_ok : {E : Type 0} (i : InstanceValue) (v : VerdictValue) (claim 
     v.claim ≡ claim → IfOk r (Finds (PassesClaim i claim) (claim_tests i claim)) → IfOk r (Finds (Passes i v) (tests i v))
 claim_found_ok i v claim (Ok o) k c e h = claim_found i v o k c (subst (λ x. Finds (PassesClaim i x) (claim_tests i x) o) (sym e) h)
 claim_found_ok i v claim (Err err) k c e h = tt
+
+-- the tests of its claim, of a verdict that is accepted
+pub accepted_claim : (i : InstanceValue) (v : VerdictValue) → IsAccepted i v → AllByRecursion (PassesClaim i v.claim) (claim_tests i v.claim)
+accepted_claim i v h = all_apply (Passes i v) (PassesClaim i v.claim) (claim_tests i v.claim) (from_verdict i v v.claim) h.1.1
+
+-- a verdict of the instance's kind and columns whose claim passes its tests is accepted
+pub claim_accepted : (i : InstanceValue) (v : VerdictValue) (claim : Claim) → v.kind ≡ instance_kind i → v.columns ≡ instance_columns i → v.claim ≡ claim →
+    AllByRecursion (PassesClaim i claim) (claim_tests i claim) → IsAccepted i v
+claim_accepted i v claim k c e h = claim_found i v None k c (subst (λ x. Finds (PassesClaim i x) (claim_tests i x) None) (sym e) h)

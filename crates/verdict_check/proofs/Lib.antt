@@ -11,3 +11,5 @@ pub mod Lines
 pub mod CycleTests
 pub mod SideTests
 pub mod JudgeTests
+pub mod Closed
+pub mod True

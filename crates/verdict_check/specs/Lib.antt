@@ -4,6 +4,7 @@ pub mod YesTests
 pub mod NoTests
 pub mod Accepted
 pub mod Truth
+pub mod Laws
 pub mod Value
 pub mod Holds
 pub mod HoldsWalk
