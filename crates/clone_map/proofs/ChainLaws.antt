@@ -151,3 +151,9 @@ neighbours_both c clones o i within valid l u = (
   λ h. bridged_both clones o valid.kept i (contig_bridges clones o c valid.order within i (i + 1) i l (omega arith) (omega arith) u h (inl (omega arith, omega arith))),
   both_contig clones o i (i + 1),
 )
+
+-- in a valid order each contig is a run of positions
+pub contig_runs : (c : ℕ) (clones : List (List ℕ)) (o : List ℕ) (i j k : ℕ) → All (IsWithin c) clones → IsValidOrder c clones o → 1 ≤ i → i ≤ j → j ≤ k → k ≤ length o →
+    InOneContig clones (probe_at o i) (probe_at o k) → InOneContig clones (probe_at o i) (probe_at o j)
+contig_runs c clones o i j k within valid l m n u one =
+    (bridged_contig clones o valid.kept (j - i) i j (omega arith) (λ gap p q. contig_bridges clones o c valid.order within i k gap l (omega arith) (omega arith) u one (inl (p, omega arith)))).0

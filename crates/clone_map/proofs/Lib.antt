@@ -3,3 +3,4 @@ pub mod PlaceLaws
 pub mod RunLaws
 pub mod ContigLaws
 pub mod SweepLaws
+pub mod SameLists

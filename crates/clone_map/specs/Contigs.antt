@@ -4,7 +4,7 @@ use Rattle.column_order.specs.Orders.{has}
 use Rattle.row_model.specs.declared.lists.Span.{Span}
 use Rattle.clone_map.specs.Places.{probe_at}
 
--- some probe stands in both clones
+-- both clones hold some probe
 pub record Share (clone other : List ℕ) : Type 0 where
   pub probe : ℕ
   pub in_one : IsTrue (has clone probe)
@@ -22,7 +22,7 @@ pub record AreChained (clones : List (List ℕ)) (probe other : ℕ) : Type 0 wh
   pub begins : IsTrue (has clone probe)
   pub leads : LeadsTo clones clone chain other
 
--- two probes lie in one contig
+-- two probes lie in one contig: they are equal, or a chain leads from the one to the other
 abbrev pub InOneContig : List (List ℕ) → ℕ → ℕ → Type 0
 InOneContig clones probe other = (probe ≡ other) ⊎ AreChained clones probe other
 

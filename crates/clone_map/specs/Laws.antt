@@ -1,4 +1,4 @@
--- The places and the contigs of an order are unique, and a valid order has each contig in one run.
+-- The places and the contigs of an order are unique, and in a valid order each contig is a run of positions.
 use Rattle.std.specs.Prelude.{◌≡◌, ◌↔◌, ℕ, ◌+◌, ◌≤◌, List, length, All, Contains}
 use Rattle.column_order.specs.Orders.{IsValidOrder, IsWithin}
 use Rattle.row_model.specs.declared.lists.Place.{Place}
@@ -38,3 +38,16 @@ NeighboursLaw =
     1 ≤ i →
     i + 1 ≤ length o →
     InOneContig clones (probe_at o i) (probe_at o (i + 1)) ↔ HasBoth clones o i (i + 1)
+
+-- in a valid order each contig is a run of positions: a probe between two probes of a contig lies in it
+abbrev pub RunsLaw : Type 0
+RunsLaw =
+    (c : ℕ) (clones : List (List ℕ)) (o : List ℕ) (i j k : ℕ) →
+    All (IsWithin c) clones →
+    IsValidOrder c clones o →
+    1 ≤ i →
+    i ≤ j →
+    j ≤ k →
+    k ≤ length o →
+    InOneContig clones (probe_at o i) (probe_at o k) →
+    InOneContig clones (probe_at o i) (probe_at o j)

@@ -1,5 +1,5 @@
 use Rattle.clone_map.proofs.ContigLaws.{contigs_only}
-use Rattle.clone_map.proofs.ChainLaws.{neighbours_both}
+use Rattle.clone_map.proofs.ChainLaws.{neighbours_both, contig_runs}
 use Rattle.clone_map.proofs.PlaceLaws.{places_only}
 use Rattle.clone_map.proofs.laws.place_laws.Goals as goal
 
@@ -11,3 +11,6 @@ returns-clause-neighbours c = neighbours_both
 
 pub returns-clause-contigs : goal.returns-clause-contigs
 returns-clause-contigs c = contigs_only
+
+pub returns-clause-runs : goal.returns-clause-runs
+returns-clause-runs c = contig_runs
