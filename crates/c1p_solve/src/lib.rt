@@ -8,3 +8,6 @@ mod solver;
 pub use chosen::{Answered, Chosen, answer};
 pub use row_model::NoMemory;
 pub use solver::{Solved, solve};
+
+#[cfg(test)]
+mod tests;

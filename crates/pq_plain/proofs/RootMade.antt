@@ -1,5 +1,5 @@
 -- The templates at the pertinent root, by the counts of its children's labels.
-use Rattle.std.proofs.Common.{◌≡◌, ◌∙◌, ◌-◌, ◌≤◌, ℕ, zero, suc, List, [], ◌∷◌, Some, None, map, take, drop, length, refl, sym, ap, ap₂, subst, arith, option_and_then}
+use Rattle.std.proofs.Common.{◌≡◌, ◌⊎◌, ◌∙◌, ◌+◌, ◌-◌, ◌≤◌, ℕ, zero, suc, List, [], ◌∷◌, Some, None, map, take, drop, length, refl, sym, ap, ap₂, subst, inl, inr, arith, option_and_then}
 use Rattle.std.proofs.lemmas.List.{length-map, length-take, length-drop}
 use Rattle.pq_tree.specs.Outline.{Outline, Forest, p_node, q_node, no_tree, tree_and}
 use Rattle.pq_tree.specs.Proper.{outline_of, forest, count}
@@ -134,6 +134,20 @@ right_lone hs (k ∷ ks) fs es gs ts h n f = sym (ap₂ (λ x y. root_q x (k ∷
 no_sides : (hs ks : List Partial) (fs es gs ts : Forest) → hs ≡ [] → ks ≡ [] → Some (q_node ts) ≡ root_q hs ks fs es gs ts
 no_sides hs ks fs es gs ts h k = sym (ap₂ (λ x y. root_q x y fs es gs ts) h k)
 
+zero_or_not : (n : ℕ) → (n ≡ 0) ⊎ (n ≡ 0 → ⊥)
+zero_or_not zero = inl refl
+zero_or_not (suc n) = inr (λ e. absurd (omega (arith, e)))
+
+nonzero : (n : ℕ) → (n ≡ 0 → ⊥) → 1 ≤ n
+nonzero zero h = absurd (h refl)
+nonzero (suc n) h = omega arith
+
+-- two sides, one with nothing and the other with at most one
+few : (m n : ℕ) → m ≡ 0 → n ≤ 1 → (m + n ≡ 0 → ⊥) → (m + n ≡ 1 → ⊥) → ⊥
+few m zero z l x y = x (omega (arith, z))
+few m (suc zero) z l x y = y (omega (arith, z))
+few m (suc (suc n)) z l x y = omega (arith, l)
+
 forest_count : (xs : List Outline) → count (forest xs) ≡ length xs
 forest_count [] = refl
 forest_count (x ∷ xs) = omega (arith, forest_count xs)
@@ -192,26 +206,36 @@ module _ (ts : List Tree) (ls ms : List Marked) (s : Places) (size : length ls �
   no_right : s.behind - s.full_to ≡ 0 → partials (drop s.full_from (map label_seen ls)) ≡ []
   no_right x = no_partial (partials (drop s.full_from (map label_seen ls))) (right_size ∙ x)
 
-  pub q_unchanged : s.full_from - s.before ≡ 0 → s.behind - s.full_to ≡ 0 → Some (q_node (outlines ts)) ≡ q_outcome (outlines ts) (map label_seen ls)
-  q_unchanged x y =
+  no_partials : s.full_from - s.before ≡ 0 → s.behind - s.full_to ≡ 0 → Some (q_node (outlines ts)) ≡ q_outcome (outlines ts) (map label_seen ls)
+  no_partials x y =
       no_sides (partials (take s.full_from (map label_seen ls))) (partials (drop s.full_from (map label_seen ls))) (forest (take (s.full_to - s.full_from) (drop s.full_from (map outline_of ts)))) (forest (take s.before (map outline_of ts))) (forest (drop s.behind (map outline_of ts))) (outlines ts)
       (no_left x) (no_right y) ∙
       sym found
 
-  pub q_right_lone : s.full_from - s.before ≡ 0 → (s.behind - s.full_to ≡ 0 → ⊥) → s.full_to - s.full_from ≡ 0 → None ≡ q_outcome (outlines ts) (map label_seen ls)
+  q_right_lone : s.full_from - s.before ≡ 0 → (s.behind - s.full_to ≡ 0 → ⊥) → s.full_to - s.full_from ≡ 0 → None ≡ q_outcome (outlines ts) (map label_seen ls)
   q_right_lone x y z =
       right_lone (partials (take s.full_from (map label_seen ls))) (partials (drop s.full_from (map label_seen ls))) (forest (take (s.full_to - s.full_from) (drop s.full_from (map outline_of ts)))) (forest (take s.before (map outline_of ts))) (forest (drop s.behind (map outline_of ts))) (outlines ts)
       (no_left x) (one_right y) (no_middle z) ∙
       sym found
 
-  pub q_left_lone : (s.full_from - s.before ≡ 0 → ⊥) → s.behind - s.full_to ≡ 0 → s.full_to - s.full_from ≡ 0 → None ≡ q_outcome (outlines ts) (map label_seen ls)
+  q_left_lone : (s.full_from - s.before ≡ 0 → ⊥) → s.behind - s.full_to ≡ 0 → s.full_to - s.full_from ≡ 0 → None ≡ q_outcome (outlines ts) (map label_seen ls)
   q_left_lone x y z =
       left_lone (partials (take s.full_from (map label_seen ls))) (partials (drop s.full_from (map label_seen ls))) (forest (take (s.full_to - s.full_from) (drop s.full_from (map outline_of ts)))) (forest (take s.before (map outline_of ts))) (forest (drop s.behind (map outline_of ts))) (outlines ts)
       (one_left x) (no_right y) (no_middle z) ∙
       sym found
 
+  pub q_unchanged : s.full_from - s.before + (s.behind - s.full_to) ≡ 0 → Some (q_node (outlines ts)) ≡ q_outcome (outlines ts) (map label_seen ls)
+  q_unchanged x = no_partials (omega arith) (omega arith)
+
+  pub q_lone : s.full_from - s.before + (s.behind - s.full_to) ≡ 1 → s.full_to - s.full_from ≡ 0 → None ≡ q_outcome (outlines ts) (map label_seen ls)
+  q_lone x z =
+      elim (zero_or_not (s.full_from - s.before)) [
+        | inl y ↦ q_right_lone y (λ w. absurd (omega (arith, x, y, w))) z
+        | inr y ↦ q_left_lone y (omega (arith, x, nonzero (s.full_from - s.before) y)) z
+      ]
+
   module _ (u : Outline) (is : u ≡ q_made (span_seen (map outline_of ts) (map label_seen ls) s)) where
-    pub q_left_made : (s.full_from - s.before ≡ 0 → ⊥) → s.behind - s.full_to ≡ 0 → (s.full_to - s.full_from ≡ 0 → ⊥) → Some u ≡ q_outcome (outlines ts) (map label_seen ls)
+    q_left_made : (s.full_from - s.before ≡ 0 → ⊥) → s.behind - s.full_to ≡ 0 → (s.full_to - s.full_from ≡ 0 → ⊥) → Some u ≡ q_outcome (outlines ts) (map label_seen ls)
     unfolding q_of
     q_left_made x y z =
         ap Some is ∙
@@ -219,7 +243,7 @@ module _ (ts : List Tree) (ls ms : List Marked) (s : Places) (size : length ls �
         (one_left x) (no_right y) (some_middle z) ∙
         sym found
 
-    pub q_right_made : s.full_from - s.before ≡ 0 → (s.behind - s.full_to ≡ 0 → ⊥) → (s.full_to - s.full_from ≡ 0 → ⊥) → Some u ≡ q_outcome (outlines ts) (map label_seen ls)
+    q_right_made : s.full_from - s.before ≡ 0 → (s.behind - s.full_to ≡ 0 → ⊥) → (s.full_to - s.full_from ≡ 0 → ⊥) → Some u ≡ q_outcome (outlines ts) (map label_seen ls)
     unfolding q_of
     q_right_made x y z =
         ap Some is ∙
@@ -227,10 +251,22 @@ module _ (ts : List Tree) (ls ms : List Marked) (s : Places) (size : length ls �
         (no_left x) (one_right y) (some_middle z) ∙
         sym found
 
-    pub q_both_made : (s.full_from - s.before ≡ 0 → ⊥) → (s.behind - s.full_to ≡ 0 → ⊥) → Some u ≡ q_outcome (outlines ts) (map label_seen ls)
+    q_both_made : (s.full_from - s.before ≡ 0 → ⊥) → (s.behind - s.full_to ≡ 0 → ⊥) → Some u ≡ q_outcome (outlines ts) (map label_seen ls)
     unfolding q_of
     q_both_made x y =
         ap Some is ∙
         both_sides (partials (take s.full_from (map label_seen ls))) (partials (drop s.full_from (map label_seen ls))) (forest (take (s.full_to - s.full_from) (drop s.full_from (map outline_of ts)))) (forest (take s.before (map outline_of ts))) (forest (drop s.behind (map outline_of ts))) (outlines ts)
         (one_left x) (one_right y) ∙
         sym found
+
+    pub q_one_made : s.full_from - s.before + (s.behind - s.full_to) ≡ 1 → (s.full_to - s.full_from ≡ 0 → ⊥) → Some u ≡ q_outcome (outlines ts) (map label_seen ls)
+    q_one_made x z =
+        elim (zero_or_not (s.full_from - s.before)) [
+          | inl y ↦ q_right_made y (λ w. absurd (omega (arith, x, y, w))) z
+          | inr y ↦ q_left_made y (omega (arith, x, nonzero (s.full_from - s.before) y)) z
+        ]
+
+    pub q_two_made : (s.full_from - s.before + (s.behind - s.full_to) ≡ 0 → ⊥) → (s.full_from - s.before + (s.behind - s.full_to) ≡ 1 → ⊥) → Some u ≡ q_outcome (outlines ts) (map label_seen ls)
+    q_two_made x y =
+        q_both_made (λ z. few (s.full_from - s.before) (s.behind - s.full_to) z root_at.few_right x y)
+        (λ z. few (s.behind - s.full_to) (s.full_from - s.before) z root_at.few_left (λ w. x (omega (arith, w))) (λ w. y (omega (arith, w))))

@@ -215,20 +215,10 @@ fn root_q(alloc: Global, children: &[Tree], labels: Vec<Label>) -> Result<Outcom
     match find_span(&labels) {
         None => Ok(Outcome::NoTemplate),
         Some(span) => {
-            let left = span.full_from - span.before;
-            let right = span.behind - span.full_to;
-            match (left, right, span.full_to - span.full_from) {
-                (0, 0, _) => Ok(Outcome::Unchanged),
-                (0, _, 0) => Ok(Outcome::NoTemplate),
-                (0, _, _) => {
-                    let tree = replaced_q(alloc, children, labels, span)?;
-                    Ok(Outcome::Replaced(tree))
-                }
-                (_, 0, 0) => Ok(Outcome::NoTemplate),
-                (_, 0, _) => {
-                    let tree = replaced_q(alloc, children, labels, span)?;
-                    Ok(Outcome::Replaced(tree))
-                }
+            let partials = (span.full_from - span.before) + (span.behind - span.full_to);
+            match (partials, span.full_to - span.full_from) {
+                (0, _) => Ok(Outcome::Unchanged),
+                (1, 0) => Ok(Outcome::NoTemplate),
                 _ => {
                     let tree = replaced_q(alloc, children, labels, span)?;
                     Ok(Outcome::Replaced(tree))
