@@ -74,7 +74,7 @@ never_true true h = h refl
 never_true false h = refl
 
 -- the ones of digits ascend
-Ascends-low : (c low less : ℕ) (row : List ℕ) → less ≤ low → Ascends c low row → Ascends c less row
+pub Ascends-low : (c low less : ℕ) (row : List ℕ) → less ≤ low → Ascends c low row → Ascends c less row
 Ascends-low c low less [] le h = tt
 Ascends-low c low less (x ∷ row) le h = (omega (arith, h.0), h.1, h.2)
 

@@ -4,3 +4,5 @@ pub mod DenseLemmas
 pub mod WrittenLemmas
 pub mod RecordLemmas
 pub mod TableLemmas
+pub mod CellLemmas
+pub mod WrittenTableLemmas

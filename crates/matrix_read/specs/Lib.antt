@@ -5,3 +5,4 @@ pub mod Written
 pub mod Cells
 pub mod RecordsLeft
 pub mod Table
+pub mod TableLaws
