@@ -6,3 +6,5 @@ pub mod WrittenLemmas
 pub mod SparseLemmas
 pub mod RecordLemmas
 pub mod TableLemmas
+pub mod CellLemmas
+pub mod WrittenTableLemmas

@@ -34,7 +34,7 @@ shorter cfg c xs s r e =
     taken (is_end (step cfg s c).1) xs (fields_after (step cfg s c).1 [] [], (step cfg s c).0, xs) r (next_record cfg (step cfg s c).0 (fields_after (step cfg s c).1 [] []) (field_after (step cfg s c).1 c []) xs) refl e (not_longer cfg xs _ _ _ r)
 
 -- the end of the bytes leaves no record
-none_at_end : (cfg : Config) (n : ℕ) → records_from cfg n st.StartRecord [] ≡ []
+pub none_at_end : (cfg : Config) (n : ℕ) → records_from cfg n st.StartRecord [] ≡ []
 unfolding records_from next_record
 none_at_end cfg zero = refl
 none_at_end cfg (suc n) = refl
@@ -68,22 +68,23 @@ from_first : (cfg : Config) (n : ℕ) (s : State) (xs : List ℕ) (r : Option Re
 unfolding records_from
 from_first cfg n s xs r e = ap (λ k. records_from cfg k s xs) (add-one n) ∙ ap (records_next (records_from cfg n)) e
 
--- the records of bytes: the first, and those after it
+-- the records of bytes: the first, and those of the bytes after it
+pub records_step : (cfg : Config) (s : State) (xs : List ℕ) (p : Read) → next_record cfg s [] [] xs ≡ Some p → records_from cfg (length xs + 1) s xs ≡ p.0 ∷ records_from cfg (length p.2 + 1) p.1 p.2
+records_step cfg s xs p e = from_first cfg (length xs) s xs (Some p) e ∙ ap (λ t. p.0 ∷ t) (rest xs e)
+  where
+    rest : (xs : List ℕ) → next_record cfg s [] [] xs ≡ Some p → records_from cfg (length xs) p.1 p.2 ≡ records_from cfg (length p.2 + 1) p.1 p.2
+    rest [] e = none_after_last cfg 0 s p e ∙ sym (none_after_last cfg (length p.2 + 1) s p e)
+    rest (c ∷ xs) e = let le = shorter cfg c xs s p e in enough cfg (suc (length xs)) (length p.2 + 1) p.1 p.2 (omega arith) (omega arith)
+
+-- the same, as a read tells it
 records_first : (s s2 : State) (old new : Option (List ℕ)) (f : List (List ℕ)) → IsSome old → ReadsNext default_config s old new true f s2 → records_of s old ≡ f ∷ records_of s2 new
 records_first s s2 None new f some h = absurd (cc)
 records_first s s2 (Some xs) None f some h = absurd h
 records_first s s2 (Some xs) (Some ys) f some h = by (next_record default_config s [] [] xs) refl h
   where
-    rest : (xs : List ℕ) (p : Read) → next_record default_config s [] [] xs ≡ Some p → records_from default_config (length xs) p.1 p.2 ≡ records_from default_config (length p.2 + 1) p.1 p.2
-    rest [] p e = none_after_last default_config 0 s p e ∙ sym (none_after_last default_config (length p.2 + 1) s p e)
-    rest (c ∷ xs) p e = let le = shorter default_config c xs s p e in enough default_config (suc (length xs)) (length p.2 + 1) p.1 p.2 (omega arith) (omega arith)
-
     by : (r : Option Read) → next_record default_config s [] [] xs ≡ r → NextIs r true f s2 ys → records_from default_config (length xs + 1) s xs ≡ f ∷ records_from default_config (length ys + 1) s2 ys
     by None e q = absurd (cc)
-    by (Some p) e q =
-        from_first default_config (length xs) s xs (Some p) e
-        ∙ ap (λ t. p.0 ∷ t) (rest xs p e)
-        ∙ (rw (q.1, q.2, q.3) refl)
+    by (Some p) e q = records_step default_config s xs p e ∙ (rw (q.1, q.2, q.3) refl)
 
 records_none : (s s2 : State) (old new : Option (List ℕ)) (f : List (List ℕ)) → IsSome old → ReadsNext default_config s old new false f s2 → records_of s old ≡ []
 records_none s s2 None new f some h = refl

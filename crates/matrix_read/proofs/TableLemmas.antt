@@ -1,7 +1,7 @@
 -- Tables that are read record by record.
 use Rattle.std.proofs.Common.{◌≡◌, ℕ, zero, suc, ◌+◌, ◌<◌, ◌≤◌, ◌==◌, ◌||◌, ◌&&◌, not, Bool, true, false, if◌then◌else◌, List, [], ◌∷◌, ◌++◌, length, map, take, drop, get_or, Option, Some, None, ap, sym, ◌∙◌, refl, arith, add-one, append_assoc, length-append, eqb-true}
-use Rattle.std.proofs.lemmas.Bool.{lt-ltb, le-ltb, le-leb, lt-leb}
-use Rattle.std.proofs.lemmas.List.{append-nil}
+use Rattle.std.proofs.lemmas.Bool.{lt-ltb, le-ltb, le-leb, lt-leb, or_parts}
+use Rattle.std.proofs.lemmas.List.{append-nil, length-map}
 use Rattle.std.proofs.lemmas.List.Folds.{list_any-append}
 use Rattle.std.proofs.lemmas.Slice.Eq.{bytes_eq-Decides}
 use Rattle.std.specs.List.{list_any, list_all, filter}
@@ -14,6 +14,7 @@ use Rattle.row_model.specs.declared.refusal.Read.TheVariants as read
 use Rattle.row_model.specs.declared.TheConstants.{MAX_ROWS, MAX_FILE_BYTES}
 use Rattle.row_model.specs.declared.code.TheConstants.{GRAMMAR, LIMIT, CSV}
 use Rattle.matrix_read.specs.Lines.{is_blank_byte, is_blank}
+use Rattle.matrix_read.proofs.DenseLemmas.{Ascends-low}
 use Rattle.matrix_read.specs.Cells.{without_last_blanks, trimmed, cells, is_present, is_foreign, present_from, row_of}
 use Rattle.matrix_read.specs.Table.{has_twice, record_code, first_refusal, with_records, with_even_records, read_records, table}
 
@@ -104,15 +105,11 @@ not_same_back x y h = by (bytes_eq y x) refl
     by true e = let t = same_back y x e in absurd (cc)
     by false e = refl
 
-both_false : (a b : Bool) → (a || b) ≡ false → (a ≡ false) × (b ≡ false)
-both_false true b h = absurd (cc)
-both_false false b h = (refl, h)
-
 pub twice_added : (names : List (List ℕ)) (name : List ℕ) → list_any (bytes_eq name) names ≡ false → has_twice names ≡ false → has_twice (names ++ name ∷ []) ≡ false
 twice_added [] name h d = refl
 twice_added (x ∷ names) name h d =
-    let apart = both_false (bytes_eq name x) (list_any (bytes_eq name) names) h in
-    let before = both_false (list_any (bytes_eq x) names) (has_twice names) d in
+    let apart = or_parts (bytes_eq name x) (list_any (bytes_eq name) names) h in
+    let before = or_parts (list_any (bytes_eq x) names) (has_twice names) d in
     let rest : has_twice (names ++ name ∷ []) ≡ false = twice_added names name apart.1 before.1 in
     let here : list_any (bytes_eq x) (names ++ name ∷ []) ≡ false =
     list_any-append (bytes_eq x) names (name ∷ []) ∙ (rw (before.0, not_same_back name x apart.0) refl)
@@ -120,10 +117,6 @@ twice_added (x ∷ names) name h d =
     rw (here, rest) refl
 
 -- the columns of cells ascend
-Ascends-low : (c low less : ℕ) (row : List ℕ) → less ≤ low → Ascends c low row → Ascends c less row
-Ascends-low c low less [] le h = tt
-Ascends-low c low less (x ∷ row) le h = (omega (arith, h.0), h.1, h.2)
-
 present_ascend : (c low : ℕ) (rest : List (List ℕ)) → low + length rest ≤ c → Ascends c low (present_from (low + 1) rest)
 present_ascend c low [] le = tt
 present_ascend c low (cell ∷ rest) le =
@@ -135,11 +128,7 @@ present_ascend c low (cell ∷ rest) le =
 
 length-cells : (fields : List (List ℕ)) (n : ℕ) → length fields ≡ n + 1 → length (cells fields) ≡ n
 length-cells [] n h = absurd (omega arith)
-length-cells (f ∷ fields) n h = length_map fields ∙ omega arith
-  where
-    length_map : (xs : List (List ℕ)) → length (map trimmed xs) ≡ length xs
-    length_map [] = refl
-    length_map (x ∷ xs) = ap suc (length_map xs)
+length-cells (f ∷ fields) n h = length-map fields trimmed ∙ omega arith
 
 pub row_ascends : (c : ℕ) (fields : List (List ℕ)) → length fields ≡ c + 1 → IsRow c (row_of fields)
 row_ascends c fields h = present_ascend c 0 (cells fields) (omega (arith, length-cells fields c h))
@@ -154,7 +143,7 @@ module _ (before : ℕ) (fields : List (List ℕ)) (rest : List (List (List ℕ)
   unfolding first_refusal
   refusal_later h = rw h refl
 
-none_refused : (before : ℕ) → first_refusal before [] ≡ None
+pub none_refused : (before : ℕ) → first_refusal before [] ≡ None
 unfolding first_refusal
 none_refused before = refl
 

@@ -7,3 +7,4 @@ pub mod Sparse
 pub mod Cells
 pub mod RecordsLeft
 pub mod Table
+pub mod TableLaws

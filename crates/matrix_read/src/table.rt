@@ -5,6 +5,7 @@ ghost use Rattle.csv.specs.Records.{fields_of};
 ghost use Rattle.row_model.specs.declared.refusal.Read.TheVariants as read;
 ghost use Rattle.matrix_read.specs.RecordsLeft.{IsPlain, records_left};
 ghost use Rattle.matrix_read.specs.Cells.{cells, is_foreign, row_of};
+ghost use Rattle.matrix_read.specs.TableLaws.{TableLaw, RowLaw, TrimmedLaw, NamesLaw, RefusalLaw};
 ghost use Rattle.matrix_read.specs.Table.{names_of, has_twice, header_code, header_read, IsWithin, with_records, with_even_records, table};
 
 use crate::cells::{is_absent, is_present, trimmed_field};
@@ -27,8 +28,8 @@ use std::alloc::{AllocError, Global};
 /// Last, each later record in turn is judged by the number of rows before it, of which there are at most [`MAX_ROWS`],
 /// and by its fields. The line of its refusal is its number among the records.
 ///
-/// The error is want of memory. No clause of `csv` tells that a reader of bytes in memory has no other error, so one
-/// would be answered like that too.
+/// The error is want of memory. No clause of `csv` rules out another error of its reader over bytes in memory, so one
+/// would be answered as want of memory too.
 pub fn read_table(alloc: Global, bytes: &[u8]) -> Result<Read<Matrix>, AllocError>
     ensures { IfOk result (λ read. read ≡ table bytes.now) }
 {
@@ -174,6 +175,17 @@ fn has_twice(alloc: Global, header: &ByteRecord) -> Result<bool, AllocError>
     }
     Ok(false)
 }
+
+/// The laws of [`read_table`]: the table that is written of a matrix is read as that matrix. A row has exactly the
+/// columns whose fields say so, apart from blanks at both ends. Names are refused exactly where two of them are the
+/// same. A refusal is of the first record that is refused.
+pub fn table_laws()
+    ensures written { TableLaw }
+    ensures row { RowLaw }
+    ensures trimmed { TrimmedLaw }
+    ensures names { NamesLaw }
+    ensures refusal { RefusalLaw }
+{}
 
 #[cfg(test)]
 mod tests {

@@ -1,0 +1,88 @@
+-- What is said of tables apart from how they are read.
+use Rattle.std.specs.Prelude.{◌≡◌, ◌≢◌, ◌↔◌, ◌<◌, ◌≤◌, ℕ, zero, suc, ◌+◌, List, [], ◌∷◌, ◌++◌, map, length, codes, if◌then◌else◌, slice_index_or, IsTrue, IsFalse, Option, Some, None, All, AllPairs}
+use Rattle.csv.specs.Reading.{strip_bom}
+use Rattle.csv.specs.Writing.{default_writer, row_text}
+use Rattle.column_order.specs.Orders.{has}
+use Rattle.row_model.specs.Rows.{IsRow}
+use Rattle.row_model.specs.declared.refusal.Refusal.{Refusal}
+use Rattle.row_model.specs.declared.refusal.Read.TheVariants as read
+use Rattle.row_model.specs.declared.TheConstants.{MAX_COLUMNS, MAX_ROWS, MAX_FILE_BYTES}
+use Rattle.matrix_read.specs.Lines.{is_blank, is_blank_byte}
+use Rattle.matrix_read.specs.Cells.{trimmed, is_present, row_of}
+use Rattle.matrix_read.specs.Table.{names_of, has_twice, record_code, first_refusal, table}
+
+-- a row with a label, which is no part of the matrix
+pub record LabelledRow : Type 0 where
+  pub label : List ℕ
+  pub row : List ℕ
+
+-- so many cells of a row from a column on: each has an `x` where the row has the column, and else nothing
+abbrev pub crosses_from : ℕ → ℕ → List ℕ → List (List ℕ)
+crosses_from column zero row = []
+crosses_from column (suc n) row = (if has row column then codes "x" else []) ∷ crosses_from (column + 1) n row
+
+-- the records of labelled rows over columns with these names, under a header
+abbrev pub records_with : List ℕ → List (List ℕ) → List LabelledRow → List (List (List ℕ))
+records_with corner names rows = (corner ∷ names) ∷ map (λ labelled. labelled.label ∷ crosses_from 1 (length names) labelled.row) rows
+
+-- the text that csv writes for records
+abbrev pub text_of : List (List (List ℕ)) → List ℕ
+text_of [] = []
+text_of (fields ∷ further) = row_text default_writer fields ++ text_of further
+
+-- no two names are the same
+abbrev pub Differ : List (List ℕ) → Type 0
+Differ names = AllPairs (λ earlier later. earlier ≢ later) names
+
+-- the table that is written of a matrix within the limits, with different names and any labels, is read as that matrix
+abbrev pub TableLaw : Type 0
+TableLaw =
+    (corner : List ℕ) (names : List (List ℕ)) (rows : List LabelledRow) →
+    1 ≤ length names →
+    length names ≤ MAX_COLUMNS →
+    Differ (names_of (corner ∷ names)) →
+    length rows ≤ MAX_ROWS →
+    All (λ labelled. IsRow (length names) labelled.row) rows →
+    length (text_of (records_with corner names rows)) ≤ MAX_FILE_BYTES →
+    strip_bom (text_of (records_with corner names rows)) ≡ text_of (records_with corner names rows) →
+    table (text_of (records_with corner names rows)) ≡ read.Ok (record { columns = length names; rows = map (λ labelled. labelled.row) rows })
+
+-- a row has exactly the columns from 1 on whose fields, apart from blanks at both ends, say so; the first field is of none
+abbrev pub RowLaw : Type 0
+RowLaw =
+    (fields : List (List ℕ)) (column : ℕ) →
+    IsTrue (has (row_of fields) column) ↔ ((1 ≤ column) × (column < length fields) × IsTrue (is_present (trimmed (slice_index_or fields column []))))
+
+-- no name stands twice exactly where no two names are the same
+abbrev pub NamesLaw : Type 0
+NamesLaw = (names : List (List ℕ)) → IsFalse (has_twice names) ↔ Differ names
+
+-- a part of a field, with nothing but blanks on either side of it, and no blank at its own ends
+pub record IsBetweenBlanks (part field : List ℕ) : Type 0 where
+  pub front : List ℕ
+  pub back : List ℕ
+  pub whole : field ≡ front ++ (part ++ back)
+  pub front_blank : IsTrue (is_blank front)
+  pub back_blank : IsTrue (is_blank back)
+  pub first : (b : ℕ) (rest : List ℕ) → part ≡ b ∷ rest → IsFalse (is_blank_byte b)
+  pub last : (b : ℕ) (rest : List ℕ) → part ≡ rest ++ b ∷ [] → IsFalse (is_blank_byte b)
+
+-- a field without the blanks at both ends is the part between them
+abbrev pub TrimmedLaw : Type 0
+TrimmedLaw = (field : List ℕ) → IsBetweenBlanks (trimmed field) field
+
+-- the refusal of the first record that is refused as a row, by its number; the header is record 1
+pub record IsOfFirst (further : List (List (List ℕ))) (refusal : Refusal) : Type 0 where
+  pub before : ℕ
+  pub within : before < length further
+  pub line : refusal.line ≡ before + 2
+  pub code : record_code before (slice_index_or further before []) ≡ Some refusal.code
+  pub earlier : (i : ℕ) → i < before → record_code i (slice_index_or further i []) ≡ None
+
+-- a refusal among the records after the header is of the first of them that is refused, and where there is none no record is refused
+abbrev pub AreTold : List (List (List ℕ)) → Option Refusal → Type 0
+AreTold further (Some refusal) = IsOfFirst further refusal
+AreTold further None = (i : ℕ) → i < length further → record_code i (slice_index_or further i []) ≡ None
+
+abbrev pub RefusalLaw : Type 0
+RefusalLaw = (further : List (List (List ℕ))) → AreTold further (first_refusal 0 further)
