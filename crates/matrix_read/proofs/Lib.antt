@@ -1,6 +1,7 @@
 pub mod LineLemmas
 pub mod WordLemmas
-pub mod RowLineLemmas
+pub mod RowLemmas
 pub mod DenseLemmas
 pub mod WrittenLemmas
 pub mod SparseLemmas
+pub mod CloneLemmas

@@ -1,6 +1,7 @@
 pub mod Lines
 pub mod Words
-pub mod RowLines
+pub mod Rows
 pub mod Dense
 pub mod Written
 pub mod Sparse
+pub mod Clones

@@ -4,11 +4,14 @@
 //! over the bytes line by line and keeps no list of lines.
 #![tactic(auto)]
 
+mod clones;
 mod dense;
 mod lines;
+mod rows;
 mod sparse;
 mod words;
 
+pub use clones::read_clones;
 pub use dense::read_dense;
 pub use lines::{FilledLine, LineSpan, next_filled_line, next_line, without_mark};
 pub use row_model::NoMemory;
