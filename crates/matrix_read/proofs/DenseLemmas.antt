@@ -9,6 +9,7 @@ use Rattle.row_model.specs.declared.refusal.Read.TheVariants as read
 use Rattle.row_model.specs.declared.TheConstants.{MAX_COLUMNS, MAX_ROWS, MAX_FILE_BYTES}
 use Rattle.row_model.specs.declared.code.TheConstants.{GRAMMAR, COUNT, LIMIT}
 use Rattle.matrix_read.specs.Lines.{NumberedLine, is_blank, is_blank_byte, filled_lines, lines_of, without_mark}
+use Rattle.matrix_read.proofs.RowLemmas.{Ascends-low}
 use Rattle.matrix_read.specs.Dense.{is_digit, is_foreign, digits_of, width_of, ones_from, row_of, row_code, first_refusal, rows_of, refused_or, read_lines, dense}
 
 -- one line less, which is refused or a row
@@ -74,10 +75,6 @@ never_true true h = h refl
 never_true false h = refl
 
 -- the ones of digits ascend
-pub Ascends-low : (c low less : ℕ) (row : List ℕ) → less ≤ low → Ascends c low row → Ascends c less row
-Ascends-low c low less [] le h = tt
-Ascends-low c low less (x ∷ row) le h = (omega (arith, h.0), h.1, h.2)
-
 pub ones_ascend : (c low : ℕ) (digits : List ℕ) → low + length digits ≤ c → Ascends c low (ones_from (low + 1) digits)
 ones_ascend c low [] le = tt
 ones_ascend c low (d ∷ digits) le =

@@ -1,6 +1,6 @@
 pub mod LineLemmas
 pub mod WordLemmas
-pub mod RowLineLemmas
+pub mod RowLemmas
 pub mod DenseLemmas
 pub mod WrittenLemmas
 pub mod SparseLemmas
@@ -8,3 +8,4 @@ pub mod RecordLemmas
 pub mod TableLemmas
 pub mod CellLemmas
 pub mod WrittenTableLemmas
+pub mod CloneLemmas

@@ -1,62 +1,21 @@
 -- Rows that name their columns.
-use Rattle.std.proofs.Common.{◌≡◌, ℕ, zero, suc, ◌<◌, ◌≤◌, ◌+◌, ◌-◌, ◌||◌, List, [], ◌∷◌, length, slice_range, get_or, set, refl, sym, ap, ◌∙◌, arith, Bool, true, false, if◌then◌else◌, None, Some, Ok, Err, inl, inr, eq-eqb, get_or-set_same, get_or-set_other}
-use Rattle.std.proofs.lemmas.Bool.{cases_eq, ne_eqb, lt-leb, lt-ltb, le-ltb}
+use Rattle.std.proofs.Common.{◌≡◌, ℕ, ◌<◌, ◌≤◌, ◌+◌, ◌||◌, List, [], ◌∷◌, length, slice_range, refl, sym, ap, ◌∙◌, arith, Bool, true, false, None, Some, Ok, Err}
+use Rattle.std.proofs.lemmas.Bool.{lt-leb, lt-ltb, le-ltb}
 use Rattle.column_order.specs.Orders.{has}
-use Rattle.row_model.specs.Rows.{Ascends, IsRow}
+use Rattle.row_model.specs.Rows.{IsRow}
 use Rattle.row_model.specs.declared.refusal.Read.TheVariants as read
 use Rattle.row_model.specs.declared.TheConstants.{MAX_ROWS, MAX_FILE_BYTES}
 use Rattle.row_model.specs.declared.code.TheConstants.{LIMIT}
 use Rattle.matrix_read.specs.Lines.{is_blank, lines_of, without_mark}
 use Rattle.matrix_read.specs.Words.{words_of, only_word, blank_len, word_len, numeral_of}
-use Rattle.matrix_read.specs.Sparse.{column_code, words_code, line_code, first_width, columns_among, row_named, numbers_of, marked_from, named_rows, sparse_lines, sparse, further}
-use Rattle.matrix_read.specs.RowLines.{numbered_lines}
+use Rattle.matrix_read.specs.Sparse.{column_code, words_code, line_code, first_width, row_named, numbers_of, named_rows, sparse_lines, sparse, further}
+use Rattle.matrix_read.specs.Rows.{numbered_lines}
 use Rattle.matrix_read.proofs.WordLemmas.{word_step, no_word}
-use Rattle.matrix_read.proofs.DenseLemmas.{Ascends-low}
+use Rattle.matrix_read.proofs.RowLemmas.{columns_ascend}
 
 -- the columns of a row ascend
-columns_ascend : (c low n : ℕ) (numbers : List ℕ) → low + n ≤ c → Ascends c low (columns_among (low + 1) n numbers)
-columns_ascend c low zero numbers le = tt
-columns_ascend c low (suc n) numbers le =
-    let rest : Ascends c (low + 1) (columns_among (low + 1 + 1) n numbers) = columns_ascend c (low + 1) n numbers (omega arith) in
-    elim (has numbers (low + 1)) as (λ v. Ascends c low (if v then (low + 1) ∷ columns_among (low + 1 + 1) n numbers else columns_among (low + 1 + 1) n numbers)) [
-      | true ↦ (omega arith, omega arith, rest)
-      | false ↦ Ascends-low c (low + 1) low (columns_among (low + 1 + 1) n numbers) (omega arith) rest
-    ]
-
 pub row_ascends : (c : ℕ) (line : List ℕ) → IsRow c (row_named c line)
 row_ascends c line = columns_ascend c 0 c (numbers_of (words_of line)) (omega arith)
-
--- the marked columns are those that are named
-pub marked_is : (column : ℕ) (marks : List Bool) (numbers : List ℕ) → ((j : ℕ) → j < length marks → get_or marks j false ≡ has numbers (j + column)) → marked_from column marks ≡ columns_among column (length marks) numbers
-marked_is column [] numbers h = refl
-marked_is column (mark ∷ marks) numbers h =
-    let here : mark ≡ has numbers column = h 0 (omega arith) ∙ ap (has numbers) (omega arith) in
-    let later : marked_from (column + 1) marks ≡ columns_among (column + 1) (length marks) numbers =
-    marked_is (column + 1) marks numbers (λ j lt. h (suc j) (omega arith) ∙ ap (has numbers) (omega arith)) in
-    rw (here, later) refl
-
--- one more mark, for a number that is named
-pub mark_step : (marks : List Bool) (n c : ℕ) (rest whole : List ℕ) → 1 ≤ n → n ≤ length marks
-    → ((j : ℕ) → j < c → (get_or marks j false || has (n ∷ rest) (j + 1)) ≡ has whole (j + 1))
-    → (j : ℕ) → j < c → (get_or (set marks (n - 1) true) j false || has rest (j + 1)) ≡ has whole (j + 1)
-mark_step marks n c rest whole some few h j lt =
-    elim (cases_eq n (j + 1)) [
-      | inl same ↦
-          let at : n - 1 ≡ j = omega arith in
-          let within : j < length marks = omega arith in
-          let before = h j lt in
-          let named : (get_or marks j false || true) ≡ has whole (j + 1) = rw (eq-eqb n (j + 1) same) at before in
-          rw (at, get_or-set_same marks j true false within) (sym (or_true (get_or marks j false)) ∙ named)
-      | inr other ↦
-          let ne : j ≡ n - 1 → ⊥ = λ e. other (omega arith) in
-          let before = h j lt in
-          let named : (get_or marks j false || has rest (j + 1)) ≡ has whole (j + 1) = rw (ne_eqb n (j + 1) other) at before in
-          rw (get_or-set_other marks (n - 1) j true false ne) named
-    ]
-  where
-    or_true : (b : Bool) → (b || true) ≡ true
-    or_true true = refl
-    or_true false = refl
 
 -- a line with one word alone
 pub one_word : (line : List ℕ) (start end : ℕ) → start ≡ 0 + blank_len (slice_range line 0 (length line)) → end ≡ start + word_len (slice_range line start (length line)) → start < end

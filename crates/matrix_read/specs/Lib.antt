@@ -1,6 +1,6 @@
 pub mod Lines
 pub mod Words
-pub mod RowLines
+pub mod Rows
 pub mod Dense
 pub mod Written
 pub mod Sparse
@@ -8,3 +8,4 @@ pub mod Cells
 pub mod RecordsLeft
 pub mod Table
 pub mod TableLaws
+pub mod Clones

@@ -1,14 +1,13 @@
 -- A matrix as lines that name columns: a first line with the number of columns, and a line for each row.
-use Rattle.std.specs.Prelude.{ℕ, zero, suc, ◌+◌, ◌==◌, ◌&&◌, List, [], ◌∷◌, map, length, if◌then◌else◌, Bool, nat_lt, nat_le, Option, Some, None, Result, Ok, Err}
-use Rattle.column_order.specs.Orders.{has}
+use Rattle.std.specs.Prelude.{ℕ, ◌==◌, ◌&&◌, List, [], ◌∷◌, map, if◌then◌else◌, nat_lt, nat_le, Option, Some, None, Result, Ok, Err}
 use Rattle.row_model.specs.Rows.{RowList}
 use Rattle.row_model.specs.declared.refusal.Read.{Read}
 use Rattle.row_model.specs.declared.refusal.Read.TheVariants as read
-use Rattle.row_model.specs.declared.TheConstants.{MAX_COLUMNS, MAX_ROWS, MAX_FILE_BYTES}
+use Rattle.row_model.specs.declared.TheConstants.{MAX_COLUMNS, MAX_ROWS}
 use Rattle.row_model.specs.declared.code.TheConstants.{EMPTY, GRAMMAR, RANGE, LIMIT}
 use Rattle.matrix_read.specs.Lines.{without_mark, lines_of, NumberedLine}
 use Rattle.matrix_read.specs.Words.{words_of, only_word, number_after, numeral_of}
-use Rattle.matrix_read.specs.RowLines.{numbered_lines, first_refusal, refused_or}
+use Rattle.matrix_read.specs.Rows.{numbered_lines, first_refusal, refused_or, within_length, columns_among}
 use Rattle.matrix_read.specs.declared.words.Numeral.{Numeral}
 use Rattle.matrix_read.specs.declared.words.Numeral.TheVariants.{Value, TooLarge, NotDigits}
 
@@ -35,12 +34,6 @@ line_code c before line = if nat_le MAX_ROWS before then Some LIMIT else words_c
 -- the numbers that words write
 abbrev pub numbers_of : List (List ℕ) → List ℕ
 numbers_of words = map (number_after 0) words
-
--- of so many columns from one on, those that are among the numbers
-abbrev pub columns_among : ℕ → ℕ → List ℕ → List ℕ
-columns_among column zero numbers = []
-columns_among column (suc n) numbers =
-    if has numbers column then column ∷ columns_among (column + 1) n numbers else columns_among (column + 1) n numbers
 
 -- the row of a line over 1 to c: the set of the columns that the line names
 abbrev pub row_named : ℕ → List ℕ → List ℕ
@@ -71,10 +64,6 @@ abbrev pub sparse_lines : List (List ℕ) → Read RowList
 sparse_lines [] = read.Refused (record { code = EMPTY; line = 0 })
 sparse_lines (first ∷ lines) = rows_behind (first_width (only_word (words_of first))) lines
 
--- what a file within the limit of its length gives, or the refusal of a longer one
-abbrev pub within_length : List ℕ → Read RowList → Read RowList
-within_length bytes inside = if nat_lt MAX_FILE_BYTES (length bytes) then read.Refused (record { code = LIMIT; line = 0 }) else inside
-
 -- the matrix of the bytes of a file, or their first refusal
 unfoldable pub sparse : List ℕ → Read RowList
 sparse bytes = within_length bytes (sparse_lines (lines_of (without_mark bytes)))
@@ -82,8 +71,3 @@ sparse bytes = within_length bytes (sparse_lines (lines_of (without_mark bytes))
 -- the rows over 1 to c of the bytes of a file without a first line, or their first refusal
 unfoldable pub further : ℕ → List ℕ → Read RowList
 further c bytes = within_length bytes (named_rows c (numbered_lines 1 (lines_of (without_mark bytes))))
-
--- the columns from one on whose marks are set
-abbrev pub marked_from : ℕ → List Bool → List ℕ
-marked_from column [] = []
-marked_from column (mark ∷ marks) = if mark then column ∷ marked_from (column + 1) marks else marked_from (column + 1) marks

@@ -5,13 +5,16 @@
 #![tactic(auto)]
 
 mod cells;
+mod clones;
 mod dense;
 mod lines;
 mod records;
+mod rows;
 mod sparse;
 mod table;
 mod words;
 
+pub use clones::read_clones;
 pub use dense::read_dense;
 pub use lines::{FilledLine, LineSpan, next_filled_line, next_line, without_mark};
 pub use row_model::NoMemory;

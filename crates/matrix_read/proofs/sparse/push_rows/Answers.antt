@@ -1,10 +1,10 @@
 use Rattle.std.proofs.Common.{◌≡◌, ◌∷◌, ◌++◌, ◌+◌, ◌<◌, [], List, ℕ, length, slice_range, drop, refl, sym, ◌∙◌, ap, arith, Some, None}
 use Rattle.row_model.specs.Rows.{RowList}
 use Rattle.matrix_read.specs.Lines.{lines_of, NumberedLine}
-use Rattle.matrix_read.specs.RowLines.{numbered_lines}
+use Rattle.matrix_read.specs.Rows.{numbered_lines}
 use Rattle.matrix_read.specs.Sparse.{line_code, row_named}
 use Rattle.matrix_read.proofs.LineLemmas.{lines_step, next_gt, no_lines}
-use Rattle.matrix_read.proofs.RowLineLemmas.{numbered_step, numbered_none, answer_after, answer_stop, answer_step, answer_end}
+use Rattle.matrix_read.proofs.RowLemmas.{numbered_step, numbered_none, answer_after, answer_stop, answer_step, answer_end}
 use Rattle.matrix_read.proofs.SparseLemmas.{row_ascends}
 use Rattle.matrix_read.proofs.sparse.push_rows.Goals as goal
 

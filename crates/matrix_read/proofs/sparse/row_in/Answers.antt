@@ -1,7 +1,9 @@
 use Rattle.std.proofs.Common.{◌≡◌, ◌∙◌, ap, length}
 use Rattle.matrix_read.specs.Words.{words_of}
-use Rattle.matrix_read.specs.Sparse.{numbers_of, columns_among}
-use Rattle.matrix_read.proofs.SparseLemmas.{marked_is, line_taken}
+use Rattle.matrix_read.specs.Sparse.{numbers_of}
+use Rattle.matrix_read.specs.Rows.{columns_among}
+use Rattle.matrix_read.proofs.RowLemmas.{marked_is}
+use Rattle.matrix_read.proofs.SparseLemmas.{line_taken}
 use Rattle.matrix_read.proofs.sparse.row_in.Goals as goal
 
 pub returns-in-Ok-clause-row : goal.returns-in-Ok-clause-row
