@@ -5,7 +5,7 @@ use Rattle.std.proofs.lemmas.List.Elements.{All-from_recursion}
 use Rattle.std.proofs.lemmas.Bool.{both_ways}
 use Rattle.column_order.specs.Orders.{IsOrder, IsWithin}
 use Rattle.column_order.proofs.Counts.{order_has}
-use Rattle.row_model.specs.Positions.{ArePositions, IsSpan, Spans}
+use Rattle.row_model.specs.Positions.{ArePositions, IsSpan, IsSpanInOrder}
 use Rattle.row_model.specs.declared.lists.Span.{Span}
 use Rattle.row_model.specs.declared.lists.Place.{Place}
 use Rattle.row_model.specs.declared.lists.Place.TheVariants.{Nowhere, At}
@@ -78,7 +78,7 @@ has_clone o clones places place h among = find clones places among.0 h among.1 a
 
 -- the span of a clone in an order is its place
 module _ (c : ℕ) (o positions clone : List ℕ) (span : Span) (order : IsOrder c o) (are : ArePositions o positions) (inside : IsWithin c clone)
-    (is : IsSpan positions clone span) (h : Spans o clone span) where
+    (is : IsSpan positions clone span) (h : IsSpanInOrder o clone span) where
   last_from_1 : 1 ≤ span.last
   last_from_1 =
       let r = inside is.to is.has_to in

@@ -5,7 +5,7 @@ use Rattle.column_order.specs.Orders.{has, occurs, place, IsOrder, IsWithin, Kee
 use Rattle.column_order.proofs.Lists.{at_place, has_at, place_at, place-inj}
 use Rattle.column_order.proofs.Counts.{order_once, order_within, order_has}
 use Rattle.column_order.proofs.Runs.{kept_by_length}
-use Rattle.row_model.specs.Positions.{position_of, ArePositions, IsSpan, Spans}
+use Rattle.row_model.specs.Positions.{position_of, ArePositions, IsSpan, IsSpanInOrder}
 use Rattle.row_model.specs.declared.lists.Span.{Span}
 
 module _ (c : ℕ) (o positions row : List ℕ) (order : IsOrder c o) (are : ArePositions o positions) (inside : IsWithin c row) (span : Span) (is : IsSpan positions row span) where
@@ -24,7 +24,7 @@ module _ (c : ℕ) (o positions row : List ℕ) (order : IsOrder c o) (are : Are
   rise = omega (arith, (is.whole is.from is.has_from).1, is.at_first)
 
   -- the least and the greatest position are the first and the last
-  pub spans : Spans o row span
+  pub spans : IsSpanInOrder o row span
   spans =
       let f = place_of is.from is.has_from in
       let t = place_of is.to is.has_to in
@@ -32,6 +32,7 @@ module _ (c : ℕ) (o positions row : List ℕ) (order : IsOrder c o) (are : Are
       let et : place o is.to ≡ span.last - 1 = omega (arith, t.2, is.at_last) in
       record {
         from_1 = from_1;
+        to_1 = omega (arith, from_1, rise);
         ends = record {
           rise = omega (arith, rise);
           inside = omega (arith, et, t.0);

@@ -23,6 +23,7 @@ pub record IsSpan (positions row : List ℕ) (span : Span) : Type 0 where
   pub whole : (column : ℕ) → IsTrue (has row column) → (span.first ≤ position_of positions column) × (position_of positions column ≤ span.last)
 
 -- the span goes from the first to the last position of the order with a column of the row
-pub record Spans (o row : List ℕ) (span : Span) : Type 0 where
+pub record IsSpanInOrder (o row : List ℕ) (span : Span) : Type 0 where
   pub from_1 : 1 ≤ span.first
+  pub to_1 : 1 ≤ span.last
   pub ends : AreEnds o row (span.first - 1) (span.last - 1)

@@ -2,7 +2,7 @@
 ghost use Rattle.std.specs.Prelude.{◌≡◌, ◌≤◌, ◌↔◌, ℕ, List, [], length, IfOk, IfSome, IsTrue, MatchOption};
 ghost use Rattle.column_order.specs.Orders.{IsOrder, IsWithin, Keeps};
 ghost use Rattle.row_model.specs.Rows.{IsRow};
-ghost use Rattle.row_model.specs.Positions.{ArePositions, IsSpan, Spans};
+ghost use Rattle.row_model.specs.Positions.{ArePositions, IsSpan, IsSpanInOrder};
 
 use crate::lists::Span;
 use std::alloc::{AllocError, Global};
@@ -43,7 +43,7 @@ pub fn positions(alloc: Global, order: &[u32]) -> Result<Vec<u32>, AllocError>
 pub fn span_of(positions: &[u32], row: &[u32]) -> Option<Span>
     requires { IsWithin (length positions.now) row.now }
     ensures least { MatchOption result (row.now ≡ []) (λ span. IsSpan positions.now row.now span) }
-    ensures spans { IfSome result (λ span. (o : List ℕ) → IsOrder (length positions.now) o → ArePositions o positions.now → Spans o row.now span) }
+    ensures spans { IfSome result (λ span. (o : List ℕ) → IsOrder (length positions.now) o → ArePositions o positions.now → IsSpanInOrder o row.now span) }
 {
     let mut span = Span {
         first: u32::MAX,
