@@ -20,7 +20,7 @@ use Rattle.row_model.specs.declared.TheConstants.{MAX_COLUMNS, MAX_ROWS, MAX_FIL
 use Rattle.row_model.specs.declared.code.TheConstants.{EMPTY, RANGE, TWICE, LIMIT}
 use Rattle.matrix_read.specs.Lines.{without_mark}
 use Rattle.matrix_read.specs.Rows.{refused_or, columns_among}
-use Rattle.matrix_read.proofs.RowLemmas.{columns_ascend}
+use Rattle.matrix_read.proofs.RowLemmas.{too_long, short_enough, columns_ascend}
 use Rattle.matrix_read.specs.Clones.{reading, array_at, texts_of, count, has_twice, is_probe, column_of, probes_of, names_code, first_refused, clone_row, clone_rows, head_code, clone_matrix, matrix_of, if_read, clones, bytes_of}
 
 module _ (probes : List (List ℕ)) where
@@ -57,11 +57,11 @@ reading_none text none =
 module _ (bytes : List ℕ) where
   pub clones_long : MAX_FILE_BYTES < length bytes → clones bytes ≡ answer.Refused (record { code = LIMIT; line = 0 })
   unfolding clones
-  clones_long h = rw (lt-ltb MAX_FILE_BYTES (length bytes) h) refl
+  clones_long h = too_long bytes _ h
 
   pub clones_short : length bytes ≤ MAX_FILE_BYTES → clones bytes ≡ if_read (reading (without_mark bytes))
   unfolding clones
-  clones_short h = rw (le-ltb MAX_FILE_BYTES (length bytes) h) refl
+  clones_short h = short_enough bytes _ h
 
 -- the items of a list of values
 pub length_texts : (values : List Value) → length (texts_of (items_view values)) ≡ length values

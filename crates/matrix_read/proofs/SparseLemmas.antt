@@ -1,6 +1,6 @@
 -- Rows that name their columns.
 use Rattle.std.proofs.Common.{◌≡◌, ℕ, ◌<◌, ◌≤◌, ◌+◌, ◌||◌, List, [], ◌∷◌, length, slice_range, refl, sym, ap, ◌∙◌, arith, Bool, true, false, None, Some, Ok, Err}
-use Rattle.std.proofs.lemmas.Bool.{lt-leb, lt-ltb, le-ltb}
+use Rattle.std.proofs.lemmas.Bool.{lt-leb}
 use Rattle.column_order.specs.Orders.{has}
 use Rattle.row_model.specs.Rows.{IsRow}
 use Rattle.row_model.specs.declared.refusal.Read.TheVariants as read
@@ -11,7 +11,7 @@ use Rattle.matrix_read.specs.Words.{words_of, only_word, blank_len, word_len, nu
 use Rattle.matrix_read.specs.Sparse.{column_code, words_code, line_code, first_width, row_named, numbers_of, named_rows, sparse_lines, sparse, further}
 use Rattle.matrix_read.specs.Rows.{numbered_lines}
 use Rattle.matrix_read.proofs.WordLemmas.{word_step, no_word}
-use Rattle.matrix_read.proofs.RowLemmas.{columns_ascend}
+use Rattle.matrix_read.proofs.RowLemmas.{too_long, short_enough, columns_ascend}
 
 -- the columns of a row ascend
 pub row_ascends : (c : ℕ) (line : List ℕ) → IsRow c (row_named c line)
@@ -52,19 +52,19 @@ marks_end false named words column is h = rw is at h
 module _ (bytes : List ℕ) where
   pub sparse_long : MAX_FILE_BYTES < length bytes → sparse bytes ≡ read.Refused (record { code = LIMIT; line = 0 })
   unfolding sparse
-  sparse_long h = rw (lt-ltb MAX_FILE_BYTES (length bytes) h) refl
+  sparse_long h = too_long bytes _ h
 
   pub sparse_short : length bytes ≤ MAX_FILE_BYTES → sparse bytes ≡ sparse_lines (lines_of (without_mark bytes))
   unfolding sparse
-  sparse_short h = rw (le-ltb MAX_FILE_BYTES (length bytes) h) refl
+  sparse_short h = short_enough bytes _ h
 
   pub further_long : (c : ℕ) → MAX_FILE_BYTES < length bytes → further c bytes ≡ read.Refused (record { code = LIMIT; line = 0 })
   unfolding further
-  further_long c h = rw (lt-ltb MAX_FILE_BYTES (length bytes) h) refl
+  further_long c h = too_long bytes _ h
 
   pub further_short : (c : ℕ) → length bytes ≤ MAX_FILE_BYTES → further c bytes ≡ named_rows c (numbered_lines 1 (lines_of (without_mark bytes)))
   unfolding further
-  further_short c h = rw (le-ltb MAX_FILE_BYTES (length bytes) h) refl
+  further_short c h = short_enough bytes _ h
 
 -- a line that is a row
 pub line_taken : (c before : ℕ) (line : List ℕ) → before < MAX_ROWS → words_code c (words_of line) ≡ None → line_code c before line ≡ None
