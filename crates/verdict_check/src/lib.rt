@@ -39,6 +39,8 @@ mod instance;
 mod judge;
 mod outcome;
 mod side;
+#[cfg(test)]
+mod tests;
 
 pub use holds::{holds_law, tree_holds};
 pub use instance::Instance;
