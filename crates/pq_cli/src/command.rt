@@ -1,5 +1,5 @@
 // The commands: from what the words ask for to a reply.
-ghost use Rattle.std.specs.Prelude.{◌≡◌, ◌⊎◌, ◌≤◌, List, ℕ, IfOk, IfErr, IsSome};
+ghost use Rattle.std.specs.Prelude.{◌≡◌, ◌≢◌, ◌⊎◌, ◌≤◌, List, ℕ, IfOk, IfErr, IsSome};
 ghost use Rattle.pq_io.specs.Faults.{Rose};
 ghost use Rattle.pq_cli.specs.Words.{Solve};
 ghost use Rattle.pq_cli.specs.Task.{command_seen};
@@ -28,6 +28,7 @@ pub fn perform<F: Shelf>(alloc: Global, task: &Task<'_>, files: &mut F) -> Resul
     ensures later { F.faults files.old ≤ F.faults files.new }
     ensures content { (other : List ℕ) → F.content files.new other ≡ F.content files.old other }
     ensures fault { outcome_status result ≡ 4 → Rose (F.faults files.old) (F.faults files.new) }
+    ensures fault_told { F.faults files.new ≢ F.faults files.old → outcome_status result ≡ 4 }
     ensures status { IfOk result (λ reply. (reply.status ≡ 0) ⊎ (reply.status ≡ 1)) }
     ensures whole { outcome_status result ≡ 3 → WhereTold (F.content files.old) (command_seen task.now) (λ told. IsSome (refusal_of (command_seen task.now) told)) }
     ensures refused { IfErr result (λ stop. IsRefusalOf (command_seen task.now) (F.content files.old) stop) }
@@ -45,6 +46,7 @@ fn solve_file<F: Shelf>(alloc: Global, file: &str, files: &mut F) -> Result<Repl
     ensures later { F.faults files.old ≤ F.faults files.new }
     ensures content { (other : List ℕ) → F.content files.new other ≡ F.content files.old other }
     ensures fault { outcome_status result ≡ 4 → Rose (F.faults files.old) (F.faults files.new) }
+    ensures fault_told { F.faults files.new ≢ F.faults files.old → outcome_status result ≡ 4 }
     ensures status { IfOk result (λ reply. (reply.status ≡ 0) ⊎ (reply.status ≡ 1)) }
     ensures whole { outcome_status result ≡ 3 → WhereTold (F.content files.old) (Solve file.now) (λ told. IsSome (refusal_of (Solve file.now) told)) }
     ensures refused { IfErr result (λ stop. IsRefusalOf (Solve file.now) (F.content files.old) stop) }

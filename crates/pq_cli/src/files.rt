@@ -1,10 +1,10 @@
 // One file of a command, read whole and judged.
-ghost use Rattle.std.specs.Prelude.{◌≡◌, ◌≤◌, ◌^◌, List, ℕ, IfOk, IfErr, IfSome};
+ghost use Rattle.std.specs.Prelude.{◌≡◌, ◌≢◌, ◌≤◌, ◌^◌, List, ℕ, IfOk, IfErr, IfSome};
 ghost use Rattle.pq_io.specs.Faults.{Rose};
 ghost use Rattle.pq_io.specs.Whole.{IsWhole};
 ghost use Rattle.matrix_read.specs.Dense.{dense};
 ghost use Rattle.pq_cli.specs.Runs.{AsksOne};
-ghost use Rattle.pq_cli.specs.Stops.{read_status, IsReadStop, Refuses, IsOf};
+ghost use Rattle.pq_cli.specs.Stops.{stop_status, read_status, IsReadStop, Refuses, IsOf};
 
 use matrix_read::read_dense;
 use pq_io::{ChooseError, ReadFail, Shelf, Whole, read_all};
@@ -22,6 +22,19 @@ pub enum Stop {
     NoMemory,
 }
 
+impl Stop {
+    /// The exit status.
+    pub fn status(&self) -> u8
+        ensures { result ≡ stop_status self.now }
+    {
+        match self {
+            Stop::Refused(..) => 3,
+            Stop::ReadFault => 4,
+            Stop::NoMemory => 6,
+        }
+    }
+}
+
 /// The matrix of digits in a file, which has this number among those of the command.
 pub fn read_matrix<F: Shelf>(
     alloc: Global,
@@ -32,6 +45,7 @@ pub fn read_matrix<F: Shelf>(
     ensures asked { AsksOne (F.asked files.old) (F.asked files.new) name.now (read_status result) }
     ensures later { F.faults files.old ≤ F.faults files.new }
     ensures fault { read_status result ≡ 4 → Rose (F.faults files.old) (F.faults files.new) }
+    ensures fault_told { F.faults files.new ≢ F.faults files.old → read_status result ≡ 4 }
     ensures value { IfOk result (λ m. IfSome (F.content files.old name.now) (λ bytes. dense bytes ≡ Read.Ok m)) }
     ensures refused { IfErr result (λ stop. IfSome (F.content files.old name.now) (λ bytes. Refuses which (dense bytes) stop)) }
     ensures which { IfErr result (IsOf which) }
@@ -59,6 +73,7 @@ fn read_file<F: Shelf>(alloc: Global, name: &str, files: &mut F) -> Result<Whole
     ensures asked { AsksOne (F.asked files.old) (F.asked files.new) name.now (read_status result) }
     ensures later { F.faults files.old ≤ F.faults files.new }
     ensures fault { read_status result ≡ 4 → Rose (F.faults files.old) (F.faults files.new) }
+    ensures fault_told { F.faults files.new ≢ F.faults files.old → read_status result ≡ 4 }
     ensures whole { IfOk result (λ whole. IfSome (F.content files.old name.now) (λ bytes. IsWhole MAX_FILE_BYTES bytes whole)) }
     ensures stop { IfErr result IsReadStop }
     ensures content { (other : List ℕ) → F.content files.new other ≡ F.content files.old other }

@@ -8,6 +8,7 @@ mod command;
 mod files;
 mod laws;
 mod solution;
+mod telling;
 mod top;
 mod words;
 
