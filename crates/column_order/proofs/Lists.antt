@@ -1,5 +1,5 @@
 -- Membership, counts and places.
-use Rattle.std.proofs.Common.{◌≡◌, ◌≢◌, ◌⊎◌, ◌∙◌, ℕ, suc, ◌+◌, ◌<◌, ◌≤◌, true, false, cond, ◌||◌, eqb, ltb, List, [], ◌∷◌, ◌++◌, length, get_or, IsTrue, IsFalse, refl, sym, ap, inl, inr, arith, sum_by, eq-eqb, eqb-true}
+use Rattle.std.proofs.Common.{◌≡◌, ◌≢◌, ◌⊎◌, ◌∙◌, ℕ, zero, suc, ◌+◌, ◌<◌, ◌≤◌, true, false, cond, ◌||◌, eqb, ltb, List, [], ◌∷◌, ◌++◌, length, get_or, IsTrue, IsFalse, refl, sym, ap, inl, inr, arith, sum_by, eq-eqb, eqb-true}
 use Rattle.std.proofs.lemmas.Bool.{or_cases, or_left, or_right, ne_eqb, both_ways, cases_eq, lt-ltb, le-ltb, ltb-true}
 use Rattle.std.proofs.lemmas.List.Sums.{sum_by-cons}
 use Rattle.std.specs.List.{concat}
@@ -100,3 +100,25 @@ at_place (x ∷ xs) a h =
           let r : (place xs a < length xs) × (get_or xs (place xs a) 0 ≡ a) = at_place xs a t in
           rw (place_tail x a xs n) (omega (arith, r.0), r.1)
     ]
+
+-- at each position of a list stands a number that the list has
+pub has_at : (o : List ℕ) (i : ℕ) → i < length o → IsTrue (has o (get_or o i 0))
+has_at [] i h = absurd (omega arith)
+has_at (x ∷ xs) zero h = has_head x xs
+has_at (x ∷ xs) (suc i) h = has_tail x (get_or xs i 0) xs (has_at xs i (omega arith))
+
+-- where no number stands twice, the number at a position has that place
+pub place_at : (o : List ℕ) → ((a : ℕ) → occurs o a ≤ 1) → (i : ℕ) → i < length o → place o (get_or o i 0) ≡ i
+place_at [] once i h = absurd (omega arith)
+place_at (x ∷ xs) once zero h = place_head x x xs refl
+place_at (x ∷ xs) once (suc i) h =
+    place_tail x (get_or xs i 0) xs (another i (omega arith)) ∙ ap suc (place_at xs (λ a. rest a (once a)) i (omega arith))
+  where
+    rest : (a : ℕ) → occurs (x ∷ xs) a ≤ 1 → occurs xs a ≤ 1
+    rest a k = omega arith
+
+    another : (i : ℕ) → i < length xs → x ≢ get_or xs i 0
+    another i k e =
+        let h : occurs (x ∷ xs) (get_or xs i 0) ≤ 1 = once (get_or xs i 0) in
+        let one : cond {A = ℕ} (eqb x (get_or xs i 0)) 1 0 ≡ 1 = ap (λ b. cond {A = ℕ} b 1 0) (eq-eqb x (get_or xs i 0) e) in
+        omega (arith, occurs_from_has xs (get_or xs i 0) (has_at xs i k))

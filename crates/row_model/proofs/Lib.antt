@@ -4,3 +4,6 @@ pub mod CycleLaws
 pub mod PieceLemmas
 pub mod FirstRows
 pub mod Members
+pub mod Ascending
+pub mod PositionLemmas
+pub mod SeenLemmas

@@ -1,19 +1,16 @@
 -- In a valid order exactly one of two joined pairs has its first column first.
-use Rattle.std.proofs.Common.{◌≡◌, ◌≢◌, ◌∙◌, ℕ, ◌-◌, ◌<◌, ◌≤◌, Bool, true, false, not, ltb, List, [], get_or, IsTrue, IsFalse, sym, ap, inl, inr, arith}
-use Rattle.std.proofs.lemmas.Bool.{both_ways, cases_lt, lt-ltb, le-ltb, cond-true, and_from, le-leb}
+use Rattle.std.proofs.Common.{◌≡◌, ◌≢◌, ◌∙◌, ℕ, ◌-◌, ◌<◌, Bool, true, false, not, ltb, List, [], get_or, IsTrue, IsFalse, sym, ap, inl, inr, arith}
+use Rattle.std.proofs.lemmas.Bool.{both_ways, cases_lt, lt-ltb, le-ltb}
 use Rattle.row_model.specs.declared.graph.Pair.{Pair}
 use Rattle.row_model.specs.declared.graph.Why.TheVariants.{Flip, Row}
 use Rattle.column_order.specs.Orders.{has, place, IsOrder, Keeps, IsValidOrder}
 use Rattle.row_model.specs.Graph.{IsPair, Crosses, row_at, Joined}
-use Rattle.column_order.proofs.Lists.{place-inj, at_place, has_from_occurs}
+use Rattle.column_order.proofs.Lists.{place-inj, at_place}
+pub use Rattle.column_order.proofs.Counts.{order_has}
 
 -- whether the pair's first column stands before its second
 abbrev pub side : List ℕ → Pair → Bool
 side o v = ltb (place o v.a) (place o v.b)
-
-pub order_has : (c : ℕ) (o : List ℕ) → IsOrder c o → (a : ℕ) → 1 ≤ a → a ≤ c → IsTrue (has o a)
-order_has c o h a l u =
-    has_from_occurs o a (omega (arith, h a ∙ cond-true _ 1 0 (and_from _ _ (le-leb 1 a l) (le-leb a c u))))
 
 -- no column that the row lacks stands between two of its columns
 pub between : (o row : List ℕ) (a b d : ℕ) → Keeps o row → IsTrue (has o a) → IsTrue (has o b) → IsTrue (has o d) →

@@ -4,3 +4,4 @@ pub mod Rows
 pub mod Pieces
 pub mod Bounds
 pub mod Laws
+pub mod Positions

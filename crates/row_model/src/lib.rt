@@ -13,6 +13,7 @@ mod laws;
 mod lines;
 mod lists;
 mod matrix;
+mod order;
 mod pieces;
 mod refusal;
 
@@ -22,6 +23,7 @@ pub use laws::walk_laws;
 pub use lines::Lines;
 pub use lists::{Interval, Intervals, Place, Places, Span, Spans};
 pub use matrix::Matrix;
+pub use order::{is_order, positions, span_of};
 pub use refusal::{Read, Refusal};
 pub use std::alloc::AllocError as NoMemory;
 

@@ -1,8 +1,9 @@
 // A matrix by its rows, one after another in one list.
-ghost use Rattle.std.specs.Prelude.{◌≡◌, ◌<◌, ◌≤◌, ◌+◌, ◌-◌, List, ℕ, [], ◌∷◌, ◌++◌, Some, length, take, IfOk, OnOk, OnErr, sum_by, slice_get, slice_index_or};
-ghost use Rattle.column_order.specs.Orders.{has};
+ghost use Rattle.std.specs.Prelude.{◌≡◌, ◌<◌, ◌≤◌, ◌+◌, ◌-◌, List, ℕ, [], ◌∷◌, ◌++◌, Some, length, take, IfOk, OnOk, OnErr, sum_by, slice_get, slice_index_or, IsTrue, All, ◌↔◌};
+ghost use Rattle.column_order.specs.Orders.{has, IsOrder, Keeps};
 ghost use Rattle.row_model.specs.Rows.{IsRow};
 
+use crate::order::{is_kept, positions};
 use crate::pieces::{piece, pop_piece, push_piece, row_has};
 use std::alloc::{AllocError, Global};
 use std::marker::Model;
@@ -102,6 +103,21 @@ impl Matrix {
     {
         row_has(self.row(k), column)
     }
+
+    /// Whether the order of the columns keeps every row: of any three positions, a row with the columns at the first and
+    /// the last has the column between them.
+    pub fn keeps(&self, order: &[u32]) -> Result<bool, AllocError>
+        requires { IsOrder self.now.columns order.now }
+        ensures { IfOk result (λ yes. IsTrue yes ↔ All (Keeps order.now) self.now.rows) }
+    {
+        let positions = positions(*self.members.allocator(), order)?;
+        for k in 0..self.rows() {
+            if !is_kept(&positions, self.row(k + 1)) {
+                return Ok(false);
+            }
+        }
+        Ok(true)
+    }
 }
 
 #[cfg(test)]
@@ -123,6 +139,17 @@ mod tests {
         matrix.pop_row();
         assert_eq!(rt; matrix.rows(), 1);
         assert_eq!(rt; matrix.ones(), 2);
+        Ok(())
+    }
+
+    #[test]
+    fn an_order_keeps_every_row_or_not(rt: HostRuntime) -> Result<(), Fail> {
+        let mut matrix = Matrix::new(rt.alloc(), 3)?;
+        matrix.push_row(&[1, 2])?;
+        matrix.push_row(&[])?;
+        matrix.push_row(&[2, 3])?;
+        assert!(rt; matrix.keeps(&[3, 2, 1])?);
+        assert!(rt; !matrix.keeps(&[1, 3, 2])?);
         Ok(())
     }
 }

@@ -1,0 +1,10 @@
+use Rattle.std.proofs.Common.{◌≡◌, ◌⊎◌, ◌<◌}
+use Rattle.row_model.proofs.PositionLemmas.{IsSpanOf}
+use Rattle.row_model.proofs.order.span_of.Given as goal
+
+abbrev pub invariant-loop-column : goal.invariant-loop-column
+invariant-loop-column l =
+    record {
+      some : (0 < l.column-index) ⊎ ((l.span.first ≡ 4294967295) × (l.span.last ≡ 0));
+      span : IsSpanOf l.positions l.row l.span.first l.span.last l.column-index;
+    }

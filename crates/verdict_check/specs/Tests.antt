@@ -1,0 +1,37 @@
+-- The tests of a verdict on an instance, in their order. A test is named by the reason that is given where it fails.
+use Rattle.std.specs.Prelude.{ℕ, zero, suc, List, [], ◌∷◌, ◌++◌, length, map, flat_map}
+use Rattle.row_model.specs.Rows.{RowList}
+use Rattle.verdict_text.specs.Verdict.{Claim, yes_claim, no_claim, VerdictValue}
+use Rattle.verdict_check.specs.Instance.{InstanceValue, plain, instance_columns, derived_matrix}
+use Rattle.verdict_check.specs.declared.outcome.Reason.{Reason}
+use Rattle.verdict_check.specs.declared.outcome.Reason.TheVariants as reason
+
+-- the numbers 1 to n
+abbrev pub numbers : ℕ → List ℕ
+numbers zero = []
+numbers (suc n) = numbers n ++ suc n ∷ []
+
+-- of a side of a yes: its order, and its tree by each derived row
+abbrev pub side_tests : InstanceValue → ℕ → List Reason
+side_tests i s = reason.Order s ∷ map (reason.Tree s) (numbers (length (derived_matrix i s).rows))
+
+-- what a kind adds to a yes: to that of a matrix nothing
+abbrev pub added_tests : InstanceValue → List Reason
+added_tests (plain kind matrix) = []
+
+-- of a yes: side after side, and then what the kind adds
+abbrev pub yes_tests : InstanceValue → List Reason
+yes_tests i = flat_map (side_tests i) (numbers (length (instance_columns i))) ++ added_tests i
+
+-- of a no with a cycle of so many lines: their number, then the pair of each, then that each pair is a new one, then what each line joins
+abbrev pub no_tests : ℕ → List Reason
+no_tests count = reason.Length count ∷ (map reason.Pair (numbers count) ++ (map reason.Repeat (numbers count) ++ map reason.Join (numbers count)))
+
+-- of what a verdict claims
+abbrev pub claim_tests : InstanceValue → Claim → List Reason
+claim_tests i (yes_claim value) = yes_tests i
+claim_tests i (no_claim side lines) = no_tests (length lines)
+
+-- of a verdict: its kind, its columns, and what it claims
+abbrev pub tests : InstanceValue → VerdictValue → List Reason
+tests i v = reason.Kind ∷ reason.Columns ∷ claim_tests i v.claim

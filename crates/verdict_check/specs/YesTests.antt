@@ -1,0 +1,31 @@
+-- What the tests of a yes ask.
+use Rattle.std.specs.Prelude.{ℕ, ◌-◌, List, slice_get, IsSomeAnd}
+use Rattle.row_model.specs.Graph.{row_at}
+use Rattle.column_order.specs.Orders.{Keeps}
+use Rattle.pq_tree.specs.Outline.{Outline, IsFrontier}
+use Rattle.verdict_text.specs.Verdict.{SideValue, YesValue}
+use Rattle.verdict_check.specs.Instance.{InstanceValue, IsTextbookOrder, derived_matrix}
+use Rattle.verdict_check.specs.declared.outcome.Reason.{Reason}
+use Rattle.verdict_check.specs.declared.outcome.Reason.TheVariants as reason
+
+-- each frontier of the tree keeps the row
+abbrev pub AllKeep : Outline → List ℕ → Type 0
+AllKeep t row = (o : List ℕ) → IsFrontier t o → Keeps o row
+
+-- the yes has a side of this number, from 1, of which P holds
+abbrev pub HasSide : YesValue → ℕ → (SideValue → Type 0) → Type 0
+HasSide value s P = IsSomeAnd (slice_get value.sides (s - 1)) P
+
+-- `order S`: the order of side S is a textbook order of that side
+abbrev pub PassesOrder : InstanceValue → YesValue → ℕ → Type 0
+PassesOrder i value s = HasSide value s (λ side. IsTextbookOrder i s side.order)
+
+-- `tree S K`: each frontier of the tree of side S keeps derived row K
+abbrev pub PassesTree : InstanceValue → YesValue → ℕ → ℕ → Type 0
+PassesTree i value s k = HasSide value s (λ side. AllKeep side.tree (row_at (derived_matrix i s).rows k))
+
+-- the tests by their names; a yes passes no other
+abbrev pub PassesYes : InstanceValue → YesValue → Reason → Type 0
+PassesYes i value (reason.Order s) = PassesOrder i value s
+PassesYes i value (reason.Tree s k) = PassesTree i value s k
+PassesYes i value other = ⊥

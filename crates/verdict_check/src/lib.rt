@@ -1,0 +1,57 @@
+//! The judge of verdicts: whether a verdict is to be believed of an instance.
+//!
+//! The judge neither reduces nor searches. It goes through these tests in their order, and gives the first that fails as
+//! its reason.
+//!
+//! | Reason | What the test asks |
+//! |---|---|
+//! | `Kind` | the kind of the verdict is that of the instance |
+//! | `Columns` | its numbers of columns are those of the instance, side by side |
+//! | `Order(S)` | yes: the order of side S is a textbook order of that side |
+//! | `Tree(S, K)` | yes: each frontier of the tree of side S keeps row K of the side's derived matrix; K is the least that fails |
+//! | `Intervals` | yes, `proper`: the intervals fit the graph |
+//! | `Places` | yes, `clones`: the places are those of the clones in the order |
+//! | `Contigs` | yes, `clones`: the contigs are those of the clones in the order, from left to right |
+//! | `Length(L)` | no: the number L of lines is odd and at least 3 |
+//! | `Pair(I)` | no: line I has two distinct columns of the side; I is the least that fails |
+//! | `Repeat(I)` | no: the pair of line I stands on no earlier line; I is the least that fails |
+//! | `Join(I)` | no: the reason of line I joins its pair to that of the next line, and the last line's to that of the first, in the derived matrix of the side; I is the least that fails |
+//!
+//! Where there are two sides, `Order(1)`, `Tree(1, K)`, `Order(2)` and `Tree(2, K)` follow one another.
+//!
+//! A verdict that passes each test is true: a yes because its orders are textbook orders, a no because a closed walk of
+//! odd length in the incompatibility graph leaves no valid order (McConnell, 2004).
+#![tactic(auto)]
+
+ghost use Rattle.std.specs.Prelude.{◌≡◌, ◌↔◌, IfOk};
+ghost use Rattle.verdict_text.specs.Grammar.{IsVerdict};
+ghost use Rattle.verdict_text.specs.Value.{verdict_value};
+ghost use Rattle.verdict_check.specs.Instance.{instance_kind, IsInstance, IsTestedKind};
+ghost use Rattle.verdict_check.specs.Value.{instance_value};
+ghost use Rattle.verdict_check.specs.Accepted.{IsAccepted, FailsFirst, AcceptedLaw};
+ghost use Rattle.verdict_check.specs.declared.outcome.Reason.{Reason};
+ghost use Rattle.verdict_check.specs.declared.outcome.Checked.TheVariants.{Valid, Invalid};
+
+mod holds;
+mod instance;
+mod outcome;
+
+pub use holds::{holds_law, tree_holds};
+pub use instance::Instance;
+pub use outcome::{Checked, Reason};
+pub use row_model::NoMemory;
+use std::alloc::Global;
+use verdict_text::Verdict;
+
+/// Judges a verdict: valid exactly where it passes each test, else invalid with the first that fails.
+///
+/// The instance is of one of the kinds `Matrix`, `Rows` and `Table`: a verdict on clones has places and contigs as well.
+pub fn check(alloc: Global, instance: &Instance, v: &Verdict) -> Result<Checked, NoMemory>
+    requires instance { IsInstance (instance_value instance.now) }
+    requires kind { IsTestedKind (instance_kind (instance_value instance.now)) }
+    requires verdict { IsVerdict (verdict_value v.now) }
+    ensures valid { IfOk result (λ checked. (checked ≡ Valid) ↔ IsAccepted (instance_value instance.now) (verdict_value v.now)) }
+    ensures invalid { IfOk result (λ checked. (r : Reason) → (checked ≡ Invalid r) ↔ FailsFirst (instance_value instance.now) (verdict_value v.now) r) }
+{
+    Err(NoMemory)
+}
