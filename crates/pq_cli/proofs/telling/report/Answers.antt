@@ -1,4 +1,4 @@
-use Rattle.std.proofs.Common.{subst, sym, ◌∙◌}
+use Rattle.std.proofs.Common.{subst, ◌∙◌}
 use Rattle.pq_cli.specs.Runs.{Tells}
 use Rattle.pq_cli.proofs.telling.report.Goals as goal
 
