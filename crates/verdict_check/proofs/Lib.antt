@@ -6,3 +6,10 @@ pub mod HoldsStretch
 pub mod HoldsSegments
 pub mod HoldsExact
 pub mod HoldsSteps
+pub mod First
+pub mod Lines
+pub mod CycleTests
+pub mod SideTests
+pub mod JudgeTests
+pub mod Closed
+pub mod True

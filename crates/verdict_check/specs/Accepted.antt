@@ -1,13 +1,11 @@
 -- When a verdict is accepted for an instance, and for which reason it is not.
 use Rattle.std.specs.Prelude.{◌≡◌, ◌∷◌, ◌++◌, List}
 use Rattle.std.specs.List.{AllByRecursion}
-use Rattle.verdict_text.specs.Grammar.{IsVerdict}
 use Rattle.verdict_text.specs.Verdict.{Claim, yes_claim, no_claim, VerdictValue}
 use Rattle.verdict_check.specs.Instance.{InstanceValue, instance_kind, instance_columns, derived_matrix}
 use Rattle.verdict_check.specs.Tests.{tests}
 use Rattle.verdict_check.specs.YesTests.{PassesYes}
 use Rattle.verdict_check.specs.NoTests.{PassesNo}
-use Rattle.verdict_check.specs.Truth.{IsTrueVerdict}
 use Rattle.verdict_check.specs.declared.outcome.Reason.{Reason}
 use Rattle.verdict_check.specs.declared.outcome.Reason.TheVariants as reason
 
@@ -37,7 +35,3 @@ IsAccepted i v = AllByRecursion (Passes i v) (tests i v)
 -- this test is the first that the verdict does not pass
 abbrev pub FailsFirst : InstanceValue → VerdictValue → Reason → Type 0
 FailsFirst i v r = IsFirstFailing (Passes i v) (tests i v) r
-
--- a verdict that is accepted is true
-abbrev pub AcceptedLaw : Type 0
-AcceptedLaw = (i : InstanceValue) (v : VerdictValue) → IsVerdict v → IsAccepted i v → IsTrueVerdict i v

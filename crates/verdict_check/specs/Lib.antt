@@ -4,6 +4,8 @@ pub mod YesTests
 pub mod NoTests
 pub mod Accepted
 pub mod Truth
+pub mod Laws
 pub mod Value
 pub mod Holds
 pub mod HoldsWalk
+pub mod Found

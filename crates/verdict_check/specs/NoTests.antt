@@ -6,7 +6,6 @@ use Rattle.row_model.specs.declared.graph.Line.{Line}
 use Rattle.row_model.specs.Graph.{IsPair, JoinedBy}
 use Rattle.row_model.specs.Cycles.{first_pair, IsOdd}
 use Rattle.row_model.specs.Rows.{RowList}
-use Rattle.verdict_check.specs.Instance.{InstanceValue, derived_matrix}
 use Rattle.verdict_check.specs.declared.outcome.Reason.{Reason}
 use Rattle.verdict_check.specs.declared.outcome.Reason.TheVariants as reason
 

@@ -11,9 +11,9 @@ abbrev pub numbers : ℕ → List ℕ
 numbers zero = []
 numbers (suc n) = numbers n ++ suc n ∷ []
 
--- of a side of a yes: its order, and its tree by each derived row
-abbrev pub side_tests : InstanceValue → ℕ → List Reason
-side_tests i s = reason.Order s ∷ map (reason.Tree s) (numbers (length (derived_matrix i s).rows))
+-- of side s of a yes, with its derived matrix: the order, and the tree by each row
+abbrev pub side_tests : ℕ → RowList → List Reason
+side_tests s m = reason.Order s ∷ map (reason.Tree s) (numbers (length m.rows))
 
 -- what a kind adds to a yes: to that of a matrix nothing
 abbrev pub added_tests : InstanceValue → List Reason
@@ -21,7 +21,7 @@ added_tests (plain kind matrix) = []
 
 -- of a yes: side after side, and then what the kind adds
 abbrev pub yes_tests : InstanceValue → List Reason
-yes_tests i = flat_map (side_tests i) (numbers (length (instance_columns i))) ++ added_tests i
+yes_tests i = flat_map (λ s. side_tests s (derived_matrix i s)) (numbers (length (instance_columns i))) ++ added_tests i
 
 -- of a no with a cycle of so many lines: their number, then the pair of each, then that each pair is a new one, then what each line joins
 abbrev pub no_tests : ℕ → List Reason

@@ -28,16 +28,21 @@ ghost use Rattle.verdict_text.specs.Grammar.{IsVerdict};
 ghost use Rattle.verdict_text.specs.Value.{verdict_value};
 ghost use Rattle.verdict_check.specs.Instance.{instance_kind, IsInstance, IsTestedKind};
 ghost use Rattle.verdict_check.specs.Value.{instance_value};
-ghost use Rattle.verdict_check.specs.Accepted.{IsAccepted, FailsFirst, AcceptedLaw};
+ghost use Rattle.verdict_check.specs.Accepted.{IsAccepted, FailsFirst};
+ghost use Rattle.verdict_check.specs.Laws.{TrueLaw, YesLaw, NoLaw};
 ghost use Rattle.verdict_check.specs.declared.outcome.Reason.{Reason};
 ghost use Rattle.verdict_check.specs.declared.outcome.Checked.TheVariants.{Valid, Invalid};
 
+mod cycle;
 mod holds;
 mod instance;
+mod judge;
 mod outcome;
+mod side;
 
 pub use holds::{holds_law, tree_holds};
 pub use instance::Instance;
+use judge::first_failing;
 pub use outcome::{Checked, Reason};
 pub use row_model::NoMemory;
 use std::alloc::Global;
@@ -53,5 +58,22 @@ pub fn check(alloc: Global, instance: &Instance, v: &Verdict) -> Result<Checked,
     ensures valid { IfOk result (λ checked. (checked ≡ Valid) ↔ IsAccepted (instance_value instance.now) (verdict_value v.now)) }
     ensures invalid { IfOk result (λ checked. (r : Reason) → (checked ≡ Invalid r) ↔ FailsFirst (instance_value instance.now) (verdict_value v.now) r) }
 {
-    Err(NoMemory)
+    match first_failing(alloc, instance, v)? {
+        None => Ok(Checked::Valid),
+        Some(reason) => Ok(Checked::Invalid(reason)),
+    }
 }
+
+/// A verdict that passes each test is true of the instance.
+///
+/// The textbook orders of a yes are shown by its order and its tree. A no is shown by its cycle, since a closed walk of odd
+/// length in the incompatibility graph leaves no valid order (McConnell, 2004).
+pub fn true_law()
+    ensures { TrueLaw }
+{}
+
+/// What a solver finds passes each test: textbook orders with a tree whose frontiers keep the derived rows, or an odd cycle.
+pub fn solved_laws()
+    ensures yes { YesLaw }
+    ensures no { NoLaw }
+{}

@@ -1,0 +1,148 @@
+-- The first test that fails, found part by part.
+use Rattle.std.proofs.Common.{◌≡◌, ◌↔◌, ◌∙◌, ℕ, zero, suc, ◌≤◌, List, [], ◌∷◌, ◌++◌, map, Option, Some, None, refl, sym, ap, subst, inl, inr, arith, append_assoc}
+use Rattle.std.specs.Prelude.{option_map, flat_map}
+use Rattle.std.specs.List.{AllByRecursion}
+use Rattle.std.proofs.lemmas.Bool.{cases_eq}
+use Rattle.std.proofs.lemmas.List.{map-append}
+use Rattle.verdict_check.specs.Tests.{numbers}
+use Rattle.verdict_check.specs.Accepted.{IsFirstFailing}
+use Rattle.verdict_check.specs.Found.{IsLeastFailing, Finds}
+use Rattle.verdict_check.specs.declared.outcome.Reason.{Reason}
+use Rattle.verdict_check.specs.declared.outcome.Checked.{Checked}
+use Rattle.verdict_check.specs.declared.outcome.Checked.TheVariants.{Valid, Invalid}
+
+-- the first test fails
+pub finds_here : (P : Reason → Type 0) (r : Reason) (xs : List Reason) → (P r → ⊥) → Finds P (r ∷ xs) (Some r)
+finds_here P r xs h = record { passed = []; later = xs; order = refl; pass = tt; fails = h }
+
+-- the first test is passed
+pub finds_next : (P : Reason → Type 0) (x : Reason) (xs : List Reason) (o : Option Reason) → P x → Finds P xs o → Finds P (x ∷ xs) o
+finds_next P x xs None p f = (p, f)
+finds_next P x xs (Some r) p f = record { passed = x ∷ f.passed; later = f.later; order = ap (λ ys. x ∷ ys) f.order; pass = (p, f.pass); fails = f.fails }
+
+-- the first tests are passed
+pub finds_after : (P : Reason → Type 0) (xs ys : List Reason) (o : Option Reason) → AllByRecursion P xs → Finds P ys o → Finds P (xs ++ ys) o
+finds_after P [] ys o h f = f
+finds_after P (x ∷ xs) ys o h f = finds_next P x (xs ++ ys) o h.0 (finds_after P xs ys o h.1 f)
+
+-- one of the first tests fails
+pub finds_part : (P : Reason → Type 0) (xs ys : List Reason) (r : Reason) → Finds P xs (Some r) → Finds P (xs ++ ys) (Some r)
+finds_part P xs ys r f =
+    record {
+      passed = f.passed;
+      later = f.later ++ ys;
+      order = ap (λ zs. zs ++ ys) f.order ∙ append_assoc f.passed (r ∷ f.later) ys;
+      pass = f.pass;
+      fails = f.fails;
+    }
+
+-- tests with the numbers 1 to n, of which the least that fails is known
+pub finds_each : (P : Reason → Type 0) (f : ℕ → Reason) (n : ℕ) (o : Option ℕ) → IsLeastFailing (λ k. P (f k)) n o → Finds P (map f (numbers n)) (option_map f o)
+finds_each P f zero None h = tt
+finds_each P f zero (Some k) h = absurd (omega (arith, h.0, h.1))
+finds_each P f (suc n) None h =
+    subst (λ xs. Finds P xs None) (sym (map-append f (numbers n) (suc n ∷ [])))
+    (finds_after P (map f (numbers n)) (f (suc n) ∷ []) None (finds_each P f n None (λ k l u. h k l (omega arith))) (h (suc n) (omega arith) (omega arith), tt))
+finds_each P f (suc n) (Some k) h =
+    subst (λ xs. Finds P xs (Some (f k))) (sym (map-append f (numbers n) (suc n ∷ [])))
+    (elim (cases_eq k (suc n)) [
+      | inl e ↦
+          subst (λ j. Finds P (map f (numbers n) ++ f j ∷ []) (Some (f k))) e
+          (finds_after P (map f (numbers n)) (f k ∷ []) (Some (f k)) (finds_each P f n None (λ j l u. h.3 j l (omega (arith, e)))) (finds_here P (f k) [] h.2))
+      | inr ne ↦
+          let u : k ≤ n = omega (arith, h.1, ne) in
+          finds_part P (map f (numbers n)) (f (suc n) ∷ []) (f k) (finds_each P f n (Some k) (h.0, u, h.2, h.3))
+    ])
+
+-- what holds of the whole holds of each part
+pub all_parts : (P : Reason → Type 0) (xs ys : List Reason) → AllByRecursion P (xs ++ ys) → AllByRecursion P xs × AllByRecursion P ys
+all_parts P [] ys h = (tt, h)
+all_parts P (x ∷ xs) ys h = ((h.0, (all_parts P xs ys h.1).0), (all_parts P xs ys h.1).1)
+
+-- where each test that is passed is passed in other words
+pub all_apply : (P Q : Reason → Type 0) (xs : List Reason) → AllByRecursion (λ r. P r → Q r) xs → AllByRecursion P xs → AllByRecursion Q xs
+all_apply P Q [] m h = tt
+all_apply P Q (x ∷ xs) m h = (m.0 h.0, all_apply P Q xs m.1 h.1)
+
+-- what holds for the numbers 1 to n
+pub all_each : (P : Reason → Type 0) (f : ℕ → Reason) (n : ℕ) → ((k : ℕ) → 1 ≤ k → k ≤ n → P (f k)) → AllByRecursion P (map f (numbers n))
+all_each P f n h = finds_each P f n None h
+
+pub each_all : (P : Reason → Type 0) (f : ℕ → Reason) (n : ℕ) → AllByRecursion P (map f (numbers n)) → (k : ℕ) → 1 ≤ k → k ≤ n → P (f k)
+each_all P f zero h k l u = absurd (omega (arith, l, u))
+each_all P f (suc n) h k l u =
+    let parts = all_parts P (map f (numbers n)) (f (suc n) ∷ []) (subst (AllByRecursion P) (map-append f (numbers n) (suc n ∷ [])) h) in
+    elim (cases_eq k (suc n)) [
+      | inl e ↦ subst (λ j. P (f j)) (sym e) parts.1.0
+      | inr ne ↦ each_all P f n parts.0 k l (omega (arith, u, ne))
+    ]
+
+-- what holds of each part holds of the whole
+pub all_after : (P : Reason → Type 0) (xs ys : List Reason) → AllByRecursion P xs → AllByRecursion P ys → AllByRecursion P (xs ++ ys)
+all_after P xs ys h k = finds_after P xs ys None h k
+
+pub all_over : {A : Type 0} (P : Reason → Type 0) (f : A → List Reason) (xs : List A) → ((x : A) → AllByRecursion P (f x)) → AllByRecursion P (flat_map f xs)
+all_over P f [] h = tt
+all_over P f (x ∷ xs) h = all_after P (f x) (flat_map f xs) (h x) (all_over P f xs h)
+
+-- what holds of each test holds of the one between two parts
+all_at : (P : Reason → Type 0) (xs ys : List Reason) (r : Reason) → AllByRecursion P (xs ++ r ∷ ys) → P r
+all_at P [] ys r h = h.0
+all_at P (x ∷ xs) ys r h = all_at P xs ys r h.1
+
+all_mono : (P Q : Reason → Type 0) (xs : List Reason) → ((r : Reason) → P r → Q r) → AllByRecursion P xs → AllByRecursion Q xs
+all_mono P Q [] m h = tt
+all_mono P Q (x ∷ xs) m h = (m x h.0, all_mono P Q xs m h.1)
+
+-- the same tests in other words
+pub finds_same : (P Q : Reason → Type 0) (xs : List Reason) (o : Option Reason) → ((r : Reason) → P r → Q r) → AllByRecursion (λ r. Q r → P r) xs → Finds P xs o → Finds Q xs o
+finds_same P Q xs None m b f = all_mono P Q xs m f
+finds_same P Q xs (Some r) m b f =
+    record {
+      passed = f.passed;
+      later = f.later;
+      order = f.order;
+      pass = all_mono P Q f.passed m f.pass;
+      fails = λ q. f.fails (all_at (λ r. Q r → P r) f.passed f.later r (subst (AllByRecursion (λ r. Q r → P r)) f.order b) q);
+    }
+
+pub least_same : (P Q : ℕ → Type 0) (n : ℕ) (o : Option ℕ) → ((k : ℕ) → P k → Q k) → ((k : ℕ) → Q k → P k) → IsLeastFailing P n o → IsLeastFailing Q n o
+least_same P Q n None m b h = λ k l u. m k (h k l u)
+least_same P Q n (Some k) m b h = (h.0, h.1, λ q. h.2 (b k q), λ j l u. m j (h.3 j l u))
+
+same_head : (x y : Reason) (xs ys : List Reason) → x ∷ xs ≡ y ∷ ys → x ≡ y
+same_head x y xs ys e = cc
+
+same_tail : (x y : Reason) (xs ys : List Reason) → x ∷ xs ≡ y ∷ ys → xs ≡ ys
+same_tail x y xs ys e = cc
+
+-- the first test that fails is one alone, and then not each is passed
+same_first : (P : Reason → Type 0) (xs ys xs' ys' : List Reason) (r r' : Reason) → xs ++ r ∷ ys ≡ xs' ++ r' ∷ ys' → AllByRecursion P xs → AllByRecursion P xs' →
+    (P r → ⊥) → (P r' → ⊥) → r ≡ r'
+same_first P [] ys [] ys' r r' e h h' f f' = same_head r r' ys ys' e
+same_first P [] ys (x' ∷ xs') ys' r r' e h h' f f' = absurd (f (subst P (sym (same_head r x' ys (xs' ++ r' ∷ ys') e)) h'.0))
+same_first P (x ∷ xs) ys [] ys' r r' e h h' f f' = absurd (f' (subst P (same_head x r' (xs ++ r ∷ ys) ys' e) h.0))
+same_first P (x ∷ xs) ys (x' ∷ xs') ys' r r' e h h' f f' =
+    same_first P xs ys xs' ys' r r' (same_tail x x' (xs ++ r ∷ ys) (xs' ++ r' ∷ ys') e) h.1 h'.1 f f'
+
+pub one_first : (P : Reason → Type 0) (xs : List Reason) (r r' : Reason) → IsFirstFailing P xs r → IsFirstFailing P xs r' → r ≡ r'
+one_first P xs r r' f f' = same_first P f.passed f.later f'.passed f'.later r r' (sym f.order ∙ f'.order) f.pass f'.pass f.fails f'.fails
+
+pub never_both : (P : Reason → Type 0) (xs : List Reason) (r : Reason) → IsFirstFailing P xs r → AllByRecursion P xs → ⊥
+never_both P xs r f h = f.fails (all_at P f.passed f.later r (subst (AllByRecursion P) f.order h))
+
+-- what is said of a verdict by what is found
+abbrev pub said : Option Reason → Checked
+said None = Valid
+said (Some r) = Invalid r
+
+pub said_valid : (P : Reason → Type 0) (xs : List Reason) (o : Option Reason) → Finds P xs o → (said o ≡ Valid) ↔ AllByRecursion P xs
+said_valid P xs None f = (λ e. f, λ h. refl)
+said_valid P xs (Some r) f = (λ e. absurd (cc), λ h. absurd (never_both P xs r f h))
+
+pub said_invalid : (P : Reason → Type 0) (xs : List Reason) (o : Option Reason) → Finds P xs o → (r : Reason) → (said o ≡ Invalid r) ↔ IsFirstFailing P xs r
+said_invalid P xs None f r = (λ e. absurd (cc), λ h. absurd (never_both P xs r h f))
+said_invalid P xs (Some q) f r = (λ e. subst (IsFirstFailing P xs) (same_reason q r e) f, λ h. ap Invalid (one_first P xs q r f h))
+  where
+    same_reason : (q r : Reason) → Invalid q ≡ Invalid r → q ≡ r
+    same_reason q r e = cc

@@ -1,0 +1,111 @@
+-- All tests of a verdict.
+use Rattle.std.proofs.Common.{◌≡◌, ℕ, ◌-◌, ◌≤◌, List, [], ◌∷◌, length, map, Option, Some, None, Result, Ok, Err, slice_get, refl, sym, subst, arith, append-nil, ◌∙◌}
+use Rattle.std.specs.Prelude.{IfOk, IsSomeAnd, flat_map}
+use Rattle.std.specs.List.{AllByRecursion}
+use Rattle.row_model.specs.declared.kind.Kind.{Kind}
+use Rattle.row_model.specs.Rows.{RowList}
+use Rattle.pq_tree.specs.Proper.{IsProper}
+use Rattle.verdict_text.specs.Grammar.{AreSides}
+use Rattle.verdict_text.specs.Verdict.{SideValue, YesValue, Claim, yes_claim, no_claim, VerdictValue}
+use Rattle.verdict_check.specs.Instance.{InstanceValue, plain, instance_kind, instance_columns, derived_matrix}
+use Rattle.verdict_check.specs.Tests.{numbers, side_tests, added_tests, yes_tests, no_tests, claim_tests, tests}
+use Rattle.verdict_check.specs.YesTests.{HasSide, PassesYes}
+use Rattle.verdict_check.specs.Accepted.{PassesClaim, Passes, IsAccepted}
+use Rattle.verdict_check.specs.Found.{Finds, PassesSide}
+use Rattle.verdict_check.specs.declared.outcome.Reason.{Reason}
+use Rattle.verdict_check.specs.declared.outcome.Reason.TheVariants as reason
+use Rattle.verdict_check.proofs.First.{finds_here, finds_next, finds_same, all_each, all_after, all_apply, all_over}
+
+-- one side, with its tree
+pub only_side : (c : ℕ) (value : YesValue) → AreSides (c ∷ []) value.sides → (1 ≤ length value.sides) × HasSide value 1 (λ side. IsProper c side.tree)
+only_side c value h = only value.sides h
+  where
+    only : (sides : List SideValue) → AreSides (c ∷ []) sides → (1 ≤ length sides) × IsSomeAnd (slice_get sides (1 - 1)) (λ side. IsProper c side.tree)
+    only [] h = absurd h
+    only (s ∷ sides) h = (omega arith, h.0.0)
+
+-- the tests of a yes about a matrix are those of its side
+to_yes : (kind : Kind) (m : RowList) (value : YesValue) (r : Reason) → PassesSide m value r → PassesYes (plain kind m) value r
+to_yes kind m value (reason.Order s) h = h
+to_yes kind m value (reason.Tree s k) h = h
+to_yes kind m value other h = absurd h
+
+from_yes : (kind : Kind) (m : RowList) (value : YesValue) (r : Reason) → PassesYes (plain kind m) value r → PassesSide m value r
+from_yes kind m value (reason.Order s) h = h
+from_yes kind m value (reason.Tree s k) h = h
+from_yes kind m value other h = absurd h
+
+every : (P : Reason → Type 0) (xs : List Reason) → ((r : Reason) → P r) → AllByRecursion P xs
+every P [] h = tt
+every P (x ∷ xs) h = (h x, every P xs h)
+
+pub only_tests : (kind : Kind) (m : RowList) → yes_tests (plain kind m) ≡ side_tests 1 m
+only_tests kind m = append-nil _ ∙ append-nil _
+
+pub plain_yes : (kind : Kind) (m : RowList) (value : YesValue) (o : Option Reason) → Finds (PassesSide m value) (side_tests 1 m) o → Finds (PassesYes (plain kind m) value) (yes_tests (plain kind m)) o
+plain_yes kind m value o f =
+    subst (λ xs. Finds (PassesYes (plain kind m) value) xs o) (sym (only_tests kind m))
+    (finds_same (PassesSide m value) (PassesYes (plain kind m) value) (side_tests 1 m) o (to_yes kind m value)
+    (every (λ r. PassesYes (plain kind m) value r → PassesSide m value r) (side_tests 1 m) (from_yes kind m value)) f)
+
+pub yes_found : {E : Type 0} (i : InstanceValue) (m : RowList) (value : YesValue) (r : Result (Option Reason) E) → m ≡ derived_matrix i 1 → IfOk r (Finds (PassesSide m value) (side_tests 1 m)) →
+    IfOk r (Finds (PassesYes i value) (yes_tests i))
+yes_found (plain kind m') m value (Ok o) e h = subst (λ n. Finds (PassesYes (plain kind n) value) (yes_tests (plain kind n)) o) e (plain_yes kind m value o h)
+yes_found i m value (Err e) is h = tt
+
+module _ (i : InstanceValue) (v : VerdictValue) where
+  pub kind_fails : (v.kind ≡ instance_kind i → ⊥) → Finds (Passes i v) (tests i v) (Some reason.Kind)
+  kind_fails h = finds_here (Passes i v) reason.Kind _ h
+
+  pub columns_fail : v.kind ≡ instance_kind i → (v.columns ≡ instance_columns i → ⊥) → Finds (Passes i v) (tests i v) (Some reason.Columns)
+  columns_fail k h = finds_next (Passes i v) reason.Kind _ (Some reason.Columns) k (finds_here (Passes i v) reason.Columns _ h)
+
+-- the tests of a claim are tests of the verdict
+to_verdict : (i : InstanceValue) (v : VerdictValue) (claim : Claim) (r : Reason) → v.claim ≡ claim → PassesClaim i claim r → Passes i v r
+to_verdict i v (yes_claim value) reason.Kind e h = absurd h
+to_verdict i v (yes_claim value) reason.Columns e h = absurd h
+to_verdict i v (no_claim side lines) reason.Kind e h = absurd h
+to_verdict i v (no_claim side lines) reason.Columns e h = absurd h
+to_verdict i v claim other e h = subst (λ c. PassesClaim i c other) (sym e) h
+
+from_side : (i : InstanceValue) (v : VerdictValue) (s : ℕ) (m : RowList) → AllByRecursion (λ r. Passes i v r → PassesClaim i v.claim r) (side_tests s m)
+from_side i v s m = (λ h. h, all_each (λ r. Passes i v r → PassesClaim i v.claim r) (reason.Tree s) (length m.rows) (λ k l u h. h))
+
+from_added : (i : InstanceValue) (v : VerdictValue) → AllByRecursion (λ r. Passes i v r → PassesClaim i v.claim r) (added_tests i)
+from_added (plain kind m) v = tt
+
+from_no : (i : InstanceValue) (v : VerdictValue) (n : ℕ) → AllByRecursion (λ r. Passes i v r → PassesClaim i v.claim r) (no_tests n)
+from_no i v n =
+    let Q : Reason → Type 0 = λ r. Passes i v r → PassesClaim i v.claim r in (
+      λ h. h,
+      all_after Q (map reason.Pair (numbers n)) _ (all_each Q reason.Pair n (λ k l u h. h))
+          (all_after Q (map reason.Repeat (numbers n)) _ (all_each Q reason.Repeat n (λ k l u h. h)) (all_each Q reason.Join n (λ k l u h. h))),
+    )
+
+from_verdict : (i : InstanceValue) (v : VerdictValue) (claim : Claim) → AllByRecursion (λ r. Passes i v r → PassesClaim i v.claim r) (claim_tests i claim)
+from_verdict i v (yes_claim value) =
+    let Q : Reason → Type 0 = λ r. Passes i v r → PassesClaim i v.claim r in
+    all_after Q (flat_map (λ s. side_tests s (derived_matrix i s)) (numbers (length (instance_columns i)))) (added_tests i)
+    (all_over Q (λ s. side_tests s (derived_matrix i s)) (numbers (length (instance_columns i))) (λ s. from_side i v s (derived_matrix i s))) (from_added i v)
+from_verdict i v (no_claim side lines) = from_no i v (length lines)
+
+claim_found : (i : InstanceValue) (v : VerdictValue) (o : Option Reason) → v.kind ≡ instance_kind i → v.columns ≡ instance_columns i →
+    Finds (PassesClaim i v.claim) (claim_tests i v.claim) o → Finds (Passes i v) (tests i v) o
+claim_found i v o k c f =
+    finds_next (Passes i v) reason.Kind (reason.Columns ∷ claim_tests i v.claim) o k
+    (finds_next (Passes i v) reason.Columns (claim_tests i v.claim) o c
+    (finds_same (PassesClaim i v.claim) (Passes i v) (claim_tests i v.claim) o (λ r h. to_verdict i v v.claim r refl h) (from_verdict i v v.claim) f))
+
+pub claim_found_ok : {E : Type 0} (i : InstanceValue) (v : VerdictValue) (claim : Claim) (r : Result (Option Reason) E) → v.kind ≡ instance_kind i → v.columns ≡ instance_columns i →
+    v.claim ≡ claim → IfOk r (Finds (PassesClaim i claim) (claim_tests i claim)) → IfOk r (Finds (Passes i v) (tests i v))
+claim_found_ok i v claim (Ok o) k c e h = claim_found i v o k c (subst (λ x. Finds (PassesClaim i x) (claim_tests i x) o) (sym e) h)
+claim_found_ok i v claim (Err err) k c e h = tt
+
+-- the tests of its claim, of a verdict that is accepted
+pub accepted_claim : (i : InstanceValue) (v : VerdictValue) → IsAccepted i v → AllByRecursion (PassesClaim i v.claim) (claim_tests i v.claim)
+accepted_claim i v h = all_apply (Passes i v) (PassesClaim i v.claim) (claim_tests i v.claim) (from_verdict i v v.claim) h.1.1
+
+-- a verdict of the instance's kind and columns whose claim passes its tests is accepted
+pub claim_accepted : (i : InstanceValue) (v : VerdictValue) (claim : Claim) → v.kind ≡ instance_kind i → v.columns ≡ instance_columns i → v.claim ≡ claim →
+    AllByRecursion (PassesClaim i claim) (claim_tests i claim) → IsAccepted i v
+claim_accepted i v claim k c e h = claim_found i v None k c (subst (λ x. Finds (PassesClaim i x) (claim_tests i x) None) (sym e) h)

@@ -1,0 +1,5 @@
+use Rattle.verdict_check.proofs.True as laws
+use Rattle.verdict_check.proofs.true_law.Goals as goal
+
+pub returns : goal.returns
+returns c = laws.true_law

@@ -1,0 +1,41 @@
+-- Which verdicts are accepted, and that they are true.
+use Rattle.std.specs.Prelude.{◌≡◌, ℕ, List, All}
+use Rattle.column_order.specs.Orders.{Keeps}
+use Rattle.row_model.specs.declared.graph.Line.{Line}
+use Rattle.row_model.specs.Cycles.{IsOddCycle}
+use Rattle.pq_tree.specs.Outline.{IsFrontier}
+use Rattle.verdict_text.specs.Grammar.{IsVerdict}
+use Rattle.verdict_text.specs.Verdict.{SideValue, YesValue, yes_claim, no_claim, VerdictValue}
+use Rattle.verdict_check.specs.Instance.{InstanceValue, instance_kind, instance_columns, IsSideOf, IsTextbookOrder, derived_matrix, IsTestedKind}
+use Rattle.verdict_check.specs.YesTests.{HasSide}
+use Rattle.verdict_check.specs.Accepted.{IsAccepted}
+use Rattle.verdict_check.specs.Truth.{IsTrueVerdict}
+
+-- a verdict that is accepted is true
+abbrev pub TrueLaw : Type 0
+TrueLaw = (i : InstanceValue) (v : VerdictValue) → IsVerdict v → IsAccepted i v → IsTrueVerdict i v
+
+-- the order is a textbook order of the side, and each frontier of the tree keeps every derived row
+abbrev pub IsSolvedSide : InstanceValue → ℕ → SideValue → Type 0
+IsSolvedSide i s side = IsTextbookOrder i s side.order × ((o : List ℕ) → IsFrontier side.tree o → All (Keeps o) (derived_matrix i s).rows)
+
+-- a yes with such sides is accepted
+abbrev pub YesLaw : Type 0
+YesLaw =
+    (i : InstanceValue) (v : VerdictValue) (value : YesValue) →
+    IsTestedKind (instance_kind i) →
+    v.kind ≡ instance_kind i →
+    v.columns ≡ instance_columns i →
+    v.claim ≡ yes_claim value →
+    ((s : ℕ) → IsSideOf i s → HasSide value s (IsSolvedSide i s)) →
+    IsAccepted i v
+
+-- a no with an odd cycle of its side's derived matrix is accepted
+abbrev pub NoLaw : Type 0
+NoLaw =
+    (i : InstanceValue) (v : VerdictValue) (s : ℕ) (lines : List Line) →
+    v.kind ≡ instance_kind i →
+    v.columns ≡ instance_columns i →
+    v.claim ≡ no_claim s lines →
+    IsOddCycle (derived_matrix i s).columns (derived_matrix i s).rows lines →
+    IsAccepted i v

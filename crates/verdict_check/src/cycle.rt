@@ -1,0 +1,108 @@
+// The tests of a no, on the lines of its cycle.
+ghost use Rattle.std.specs.Prelude.{◌↔◌, ℕ, ◌≡◌, ◌+◌, ◌<◌, ◌≤◌, length, IsTrue, IfOk};
+ghost use Rattle.row_model.specs.Graph.{IsPair};
+ghost use Rattle.row_model.specs.declared.graph.Pair.{Pair};
+ghost use Rattle.verdict_text.specs.Grammar.{Fits32};
+ghost use Rattle.verdict_check.specs.Tests.{no_tests};
+ghost use Rattle.verdict_check.specs.NoTests.{pair_after, PassesLength, PassesPair, PassesRepeat, PassesJoin, PassesNo};
+ghost use Rattle.verdict_check.specs.Found.{IsLeastFailing, Finds, pair_place};
+
+use crate::outcome::Reason;
+use row_model::{Line, Matrix, NoMemory, Pair, joined_by};
+use std::alloc::Global;
+
+/// The first test that the lines fail as an odd cycle of the matrix.
+pub fn cycle_fault(alloc: Global, m: &Matrix, lines: &[Line]) -> Result<Option<Reason>, NoMemory>
+    requires { Fits32 (length lines.now) }
+    ensures { IfOk result (Finds (PassesNo m.now lines.now) (no_tests (length lines.now))) }
+{
+    if !is_odd_length(lines) {
+        return Ok(Some(Reason::Length(lines.len() as u32)));
+    }
+    if let Some(i) = first_bad_pair(m.columns(), lines) {
+        return Ok(Some(Reason::Pair(i)));
+    }
+    if let Some(i) = first_repeat(alloc, m.columns(), lines)? {
+        return Ok(Some(Reason::Repeat(i)));
+    }
+    if let Some(i) = first_unjoined(m, lines) {
+        return Ok(Some(Reason::Join(i)));
+    }
+    Ok(None)
+}
+
+// Whether the number of lines is odd and at least 3.
+fn is_odd_length(lines: &[Line]) -> bool
+    ensures { IsTrue result ↔ PassesLength lines.now }
+{
+    lines.len() % 2 == 1 && lines.len() >= 3
+}
+
+// The first line, from 1, that has not two distinct columns of 1 to c.
+fn first_bad_pair(c: u32, lines: &[Line]) -> Option<u32>
+    requires { Fits32 (length lines.now) }
+    ensures { IsLeastFailing (PassesPair c lines.now) (length lines.now) result }
+{
+    for (i, line) in lines.iter().enumerate() {
+        if !is_pair(c, line.pair) {
+            return Some(i as u32 + 1);
+        }
+    }
+    None
+}
+
+// Whether the pair has two distinct columns of 1 to c.
+fn is_pair(c: u32, v: Pair) -> bool
+    ensures { IsTrue result ↔ IsPair c v }
+{
+    1 <= v.a && v.a <= c && 1 <= v.b && v.b <= c && v.a != v.b
+}
+
+// The first line, from 1, whose pair stands on an earlier line.
+fn first_repeat(alloc: Global, c: u32, lines: &[Line]) -> Result<Option<u32>, NoMemory>
+    requires few { Fits32 (length lines.now) }
+    requires pairs { (k : ℕ) → 1 ≤ k → k ≤ length lines.now → PassesPair c lines.now k }
+    ensures { IfOk result (IsLeastFailing (PassesRepeat lines.now) (length lines.now)) }
+{
+    let mut seen = vec![in alloc; false; c as usize * c as usize]?;
+    for (i, line) in lines.iter().enumerate() {
+        let place = place_of(c, line.pair);
+        if seen[place] {
+            return Ok(Some(i as u32 + 1));
+        }
+        seen[place] = true;
+    }
+    Ok(None)
+}
+
+// The place of a pair in a table of all pairs of 1 to c.
+fn place_of(c: u32, v: Pair) -> usize
+    requires { IsPair c v }
+    ensures { result ≡ pair_place c v }
+{
+    (v.a as usize - 1) * c as usize + (v.b as usize - 1)
+}
+
+// The first line, from 1, whose reason does not join its pair to that of the next line, the last line's to that of the first.
+fn first_unjoined(m: &Matrix, lines: &[Line]) -> Option<u32>
+    requires { Fits32 (length lines.now) }
+    ensures { IsLeastFailing (PassesJoin m.now lines.now) (length lines.now) result }
+{
+    for (i, line) in lines.iter().enumerate() {
+        if !joined_by(m, line.pair, next_pair(lines, i), line.why) {
+            return Some(i as u32 + 1);
+        }
+    }
+    None
+}
+
+// The pair of the line after the one at an index, and that of the first line after the last.
+fn next_pair(lines: &[Line], i: usize) -> Pair
+    requires { i < length lines.now }
+    ensures { (other : Pair) → result ≡ pair_after lines.now (i + 1) other }
+{
+    match lines.get(i + 1) {
+        Some(next) => next.pair,
+        None => lines[0].pair,
+    }
+}

@@ -1,0 +1,79 @@
+// All tests of a verdict, in their order.
+ghost use Rattle.std.specs.Prelude.{◌≡◌, ◌↔◌, length, IsTrue, IfOk};
+ghost use Rattle.verdict_text.specs.Grammar.{Fits32, AreSides, IsVerdict};
+ghost use Rattle.verdict_text.specs.Value.{column_counts, yes_value, verdict_value};
+ghost use Rattle.verdict_check.specs.Instance.{instance_kind, instance_columns, derived_matrix};
+ghost use Rattle.verdict_check.specs.Value.{instance_value};
+ghost use Rattle.verdict_check.specs.Tests.{tests, yes_tests, no_tests};
+ghost use Rattle.verdict_check.specs.YesTests.{PassesYes};
+ghost use Rattle.verdict_check.specs.NoTests.{PassesNo};
+ghost use Rattle.verdict_check.specs.Accepted.{Passes};
+ghost use Rattle.verdict_check.specs.Found.{Finds};
+
+use crate::cycle::cycle_fault;
+use crate::instance::Instance;
+use crate::outcome::Reason;
+use crate::side::side_fault;
+use row_model::{Kind, NoMemory};
+use std::alloc::Global;
+use verdict_text::{Columns, NoPart, Part, Verdict, YesPart};
+
+/// The first test that the verdict fails.
+pub fn first_failing(
+    alloc: Global,
+    instance: &Instance,
+    v: &Verdict,
+) -> Result<Option<Reason>, NoMemory>
+    requires { IsVerdict (verdict_value v.now) }
+    ensures { IfOk result (Finds (Passes (instance_value instance.now) (verdict_value v.now)) (tests (instance_value instance.now) (verdict_value v.now))) }
+{
+    if !has_kind(instance, v.kind) {
+        return Ok(Some(Reason::Kind));
+    }
+    if !has_columns(instance, v.columns) {
+        return Ok(Some(Reason::Columns));
+    }
+    match &v.part {
+        Part::Yes(yes) => yes_fault(alloc, instance, yes),
+        Part::No(no) => no_fault(alloc, instance, no),
+    }
+}
+
+// Whether this is the kind of the instance.
+fn has_kind(instance: &Instance, kind: Kind) -> bool
+    ensures { IsTrue result ↔ (kind ≡ instance_kind (instance_value instance.now)) }
+{
+    kind == instance.kind()
+}
+
+// Whether these are the columns of the instance, side by side.
+fn has_columns(instance: &Instance, columns: Columns) -> bool
+    ensures { IsTrue result ↔ (column_counts columns ≡ instance_columns (instance_value instance.now)) }
+{
+    match columns {
+        Columns::One(c) => instance.sides() == 1 && c == instance.columns(1),
+        Columns::Two(c, d) => {
+            instance.sides() == 2 && c == instance.columns(1) && d == instance.columns(2)
+        }
+    }
+}
+
+// The first test that a yes fails, where it has a side for each of the instance.
+fn yes_fault(alloc: Global, instance: &Instance, yes: &YesPart) -> Result<Option<Reason>, NoMemory>
+    requires { AreSides (instance_columns (instance_value instance.now)) (yes_value yes.now).sides }
+    ensures { IfOk result (Finds (PassesYes (instance_value instance.now) (yes_value yes.now)) (yes_tests (instance_value instance.now))) }
+{
+    match instance {
+        Instance::Plain(_, matrix) => side_fault(alloc, 1, matrix, yes),
+    }
+}
+
+// The first test that a no fails.
+fn no_fault(alloc: Global, instance: &Instance, no: &NoPart) -> Result<Option<Reason>, NoMemory>
+    requires { Fits32 (length no.now.lines) }
+    ensures { IfOk result (Finds (PassesNo (derived_matrix (instance_value instance.now) no.now.side) no.now.lines) (no_tests (length no.now.lines))) }
+{
+    match instance {
+        Instance::Plain(_, matrix) => cycle_fault(alloc, matrix, no.lines.as_slice()),
+    }
+}
