@@ -5,7 +5,10 @@ use Rattle.row_model.specs.Rows.{RowList}
 use Rattle.row_model.specs.declared.refusal.Read.{Read}
 use Rattle.row_model.specs.declared.refusal.Read.TheVariants as read
 use Rattle.matrix_read.specs.Dense.{dense}
+use Rattle.row_model.specs.declared.kind.Kind.TheVariants.{Matrix}
 use Rattle.verdict_text.specs.Verdict.{Claim, yes_claim, no_claim}
+use Rattle.verdict_check.specs.Instance.{InstanceValue, plain, derived_matrix}
+use Rattle.pq_cli.specs.Instances.{map_read, instance_of}
 use Rattle.pq_cli.specs.Replies.{IsTrueClaim, status_of, Replies}
 use Rattle.pq_cli.specs.Laws.{NoLaw, YesLaw}
 
@@ -18,22 +21,23 @@ claim_yes : (m : RowList) (claim : Claim) (status : ℕ) → IsTrueClaim m claim
 claim_yes m (yes_claim value) status true is = (λ e. (true.0.order, true.2.order), λ some. is)
 claim_yes m (no_claim side lines) status true is = (λ e. absurd (omega arith), λ some. absurd (true.2 some))
 
--- what is read, if a matrix is
-abbrev read_or : RowList → Read RowList → RowList
-read_or other (read.Ok m) = m
+-- the instance that is read, if one is
+abbrev read_or : InstanceValue → Read InstanceValue → InstanceValue
+read_or other (read.Ok i) = i
 read_or other (read.Refused refusal) = other
 
-same_matrix : (bytes : List ℕ) (m n : RowList) → dense bytes ≡ read.Ok m → dense bytes ≡ read.Ok n → n ≡ m
-same_matrix bytes m n e f = ap (read_or m) (sym f ∙ e)
+-- the instance of a matrix of digits
+same_instance : (bytes : List ℕ) (m : RowList) (i : InstanceValue) → dense bytes ≡ read.Ok m → instance_of Matrix bytes ≡ read.Ok i → i ≡ plain Matrix m
+same_instance bytes m i e f = ap (read_or i) (sym f ∙ ap (map_read (plain Matrix)) e)
 
 pub no_law : NoLaw
 unfolding Replies
 no_law file bytes text status m is reply =
-    subst (λ (n : RowList). (status ≡ 1) ↔ (HasValidOrder n.columns n.rows → ⊥)) (same_matrix bytes m reply.0 is reply.1)
-    (claim_no reply.0 reply.2.verdict.claim status reply.2.holds.claim reply.2.status_is)
+    subst (λ (i : InstanceValue). (status ≡ 1) ↔ (HasValidOrder (derived_matrix i 1).columns (derived_matrix i 1).rows → ⊥)) (same_instance bytes m reply.0 is reply.1)
+    (claim_no (derived_matrix reply.0 1) reply.2.verdict.claim status reply.2.holds.claim reply.2.status_is)
 
 pub yes_law : YesLaw
 unfolding Replies
 yes_law file bytes text status m is reply =
-    subst (λ (n : RowList). (status ≡ 0) ↔ HasValidOrder n.columns n.rows) (same_matrix bytes m reply.0 is reply.1)
-    (claim_yes reply.0 reply.2.verdict.claim status reply.2.holds.claim reply.2.status_is)
+    subst (λ (i : InstanceValue). (status ≡ 0) ↔ HasValidOrder (derived_matrix i 1).columns (derived_matrix i 1).rows) (same_instance bytes m reply.0 is reply.1)
+    (claim_yes (derived_matrix reply.0 1) reply.2.verdict.claim status reply.2.holds.claim reply.2.status_is)

@@ -2,6 +2,7 @@
 use Rattle.std.specs.Prelude.{◌≡◌, ◌↔◌, ℕ, List, [], ◌∷◌}
 use Rattle.column_order.specs.Orders.{HasValidOrder}
 use Rattle.row_model.specs.Rows.{RowList}
+use Rattle.row_model.specs.declared.kind.Kind.TheVariants.{Matrix}
 use Rattle.row_model.specs.declared.refusal.Read.TheVariants as read
 use Rattle.matrix_read.specs.Dense.{dense}
 use Rattle.pq_cli.specs.Words.{Solve}
@@ -12,7 +13,7 @@ abbrev pub NoLaw : Type 0
 NoLaw =
     (file bytes text : List ℕ) (status : ℕ) (m : RowList) →
     dense bytes ≡ read.Ok m →
-    Replies (Solve file) (bytes ∷ []) status text →
+    Replies (Solve Matrix file) (bytes ∷ []) status text →
     (status ≡ 1) ↔ (HasValidOrder m.columns m.rows → ⊥)
 
 -- the status of a reply is 0 exactly where the matrix has a valid order
@@ -20,5 +21,5 @@ abbrev pub YesLaw : Type 0
 YesLaw =
     (file bytes text : List ℕ) (status : ℕ) (m : RowList) →
     dense bytes ≡ read.Ok m →
-    Replies (Solve file) (bytes ∷ []) status text →
+    Replies (Solve Matrix file) (bytes ∷ []) status text →
     (status ≡ 0) ↔ HasValidOrder m.columns m.rows

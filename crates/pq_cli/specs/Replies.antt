@@ -3,17 +3,18 @@ use Rattle.std.specs.Prelude.{◌≡◌, ◌↔◌, ℕ, List, [], ◌∷◌, Op
 use Rattle.row_model.specs.declared.refusal.Refusal.{Refusal}
 use Rattle.row_model.specs.declared.refusal.Read.{Read}
 use Rattle.row_model.specs.declared.refusal.Read.TheVariants as read
-use Rattle.row_model.specs.declared.kind.Kind.TheVariants.{Matrix}
 use Rattle.row_model.specs.Rows.{RowList}
 use Rattle.row_model.specs.Cycles.{IsOddCycle}
 use Rattle.column_order.specs.Orders.{IsValidOrder, HasValidOrder}
 use Rattle.pq_tree.specs.Outline.{IsFrontier, leaves}
 use Rattle.pq_tree.specs.Proper.{IsProper}
 use Rattle.pq_tree.specs.Canonical.{IsCanonical}
-use Rattle.matrix_read.specs.Dense.{dense}
 use Rattle.verdict_text.specs.Verdict.{SideValue, no_added, Claim, yes_claim, no_claim, VerdictValue}
 use Rattle.verdict_text.specs.Text.{verdict_text}
-use Rattle.pq_cli.specs.Words.{Command, Solve}
+use Rattle.verdict_check.specs.Instance.{InstanceValue, instance_kind, instance_columns, derived_matrix}
+use Rattle.pq_cli.specs.Words.{Command, Solve, Check}
+use Rattle.pq_cli.specs.Instances.{instance_of}
+use Rattle.pq_cli.specs.Judgements.{IsJudging}
 
 -- the refusal of the file of this number, if it is refused
 abbrev pub refused_at : {T : Type 0} → ℕ → Read T → Option (ℕ × Refusal)
@@ -23,7 +24,8 @@ refused_at which (read.Refused refusal) = Some (which, refusal)
 -- which of a command's files is refused, counted from 1, and its first refusal, given the bytes of the first files
 abbrev pub refusal_of : Command → List (List ℕ) → Option (ℕ × Refusal)
 refusal_of command [] = None
-refusal_of (Solve _) (bytes ∷ _) = refused_at 1 (dense bytes)
+refusal_of (Solve kind _) (bytes ∷ _) = refused_at 1 (instance_of kind bytes)
+refusal_of (Check kind _ _) (bytes ∷ _) = refused_at 1 (instance_of kind bytes)
 
 -- The tree is a canonical PQ-tree over the columns of the matrix, whose frontiers are exactly the valid orders. The order is its leaves from
 -- left to right, and so a valid order.
@@ -40,25 +42,26 @@ abbrev pub IsTrueClaim : RowList → Claim → Type 0
 IsTrueClaim m (yes_claim value) = (side : SideValue) × (value ≡ record { sides = side ∷ []; added = no_added }) × ShowsOrders m side
 IsTrueClaim m (no_claim side lines) = (side ≡ 1) × IsOddCycle m.columns m.rows lines × (HasValidOrder m.columns m.rows → ⊥)
 
--- a verdict on a matrix of digits is true of the matrix
-pub record IsTrueOf (m : RowList) (v : VerdictValue) : Type 0 where
-  pub kind : v.kind ≡ Matrix
-  pub columns : v.columns ≡ m.columns ∷ []
-  pub claim : IsTrueClaim m v.claim
+-- a verdict on an instance is true of it
+pub record IsTrueOf (i : InstanceValue) (v : VerdictValue) : Type 0 where
+  pub kind : v.kind ≡ instance_kind i
+  pub columns : v.columns ≡ instance_columns i
+  pub claim : IsTrueClaim (derived_matrix i 1) v.claim
 
 -- the status that goes with a claim: 0 for yes, 1 for no
 abbrev pub status_of : Claim → ℕ
 status_of (yes_claim _) = 0
 status_of (no_claim _ _) = 1
 
--- the status and the text are those of a true verdict on the matrix
-pub record IsSolution (m : RowList) (status : ℕ) (text : List ℕ) : Type 0 where
+-- the status and the text are those of a true verdict on the instance
+pub record IsSolution (i : InstanceValue) (status : ℕ) (text : List ℕ) : Type 0 where
   pub verdict : VerdictValue
-  pub holds : IsTrueOf m verdict
+  pub holds : IsTrueOf i verdict
   pub status_is : status ≡ status_of verdict.claim
   pub text_is : text ≡ verdict_text verdict
 
 -- A status and a text are a reply to a command over files of these bytes: no file is refused, and what the text says is true.
 unfoldable pub Replies : Command → List (List ℕ) → ℕ → List ℕ → Type 0
-Replies (Solve _) (bytes ∷ []) status text = (m : RowList) × (dense bytes ≡ read.Ok m) × IsSolution m status text
+Replies (Solve kind _) (bytes ∷ []) status text = (i : InstanceValue) × (instance_of kind bytes ≡ read.Ok i) × IsSolution i status text
+Replies (Check kind _ _) (bytes ∷ verdict ∷ []) status text = (i : InstanceValue) × (instance_of kind bytes ≡ read.Ok i) × IsJudging i verdict status text
 Replies command files status text = ⊥

@@ -48,9 +48,8 @@ IsReadStop (stop.Refused _ _) = ⊥
 IsReadStop stop.ReadFault = ⊤
 IsReadStop stop.NoMemory = ⊤
 
--- the line of what stood in the way, or that memory was refused for it
-abbrev pub IsStopLine : Stop → ℕ → List ℕ → Type 0
-IsStopLine (stop.Refused which refusal) status line =
-    ((status ≡ 3) × (line ≡ refused_line which refusal)) ⊎ ((status ≡ 6) × (line ≡ codes "pq: no memory\n"))
-IsStopLine stop.ReadFault status line = (status ≡ 4) × (line ≡ codes "pq: read fault\n")
-IsStopLine stop.NoMemory status line = (status ≡ 6) × (line ≡ codes "pq: no memory\n")
+-- the line of what stood in the way
+abbrev pub stop_line : Stop → List ℕ
+stop_line (stop.Refused which refusal) = refused_line which refusal
+stop_line stop.ReadFault = codes "pq: read fault\n"
+stop_line stop.NoMemory = codes "pq: no memory\n"

@@ -1,8 +1,9 @@
 -- The command that the code reads from the words.
-use Rattle.pq_cli.specs.Words.{Command, Solve}
+use Rattle.pq_cli.specs.Words.{Command, Solve, Check}
 use Rattle.pq_cli.specs.declared.words.Task.{Task}
 use Rattle.pq_cli.specs.declared.words.Task.TheVariants as task
 
 -- the command of a task
 abbrev pub command_seen : Task → Command
-command_seen (task.Solve file) = Solve file.now
+command_seen (task.Solve kind file) = Solve kind file.now
+command_seen (task.Check kind file verdict) = Check kind file.now verdict.now

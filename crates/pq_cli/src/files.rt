@@ -1,15 +1,19 @@
-// One file of a command, read whole and judged.
-ghost use Rattle.std.specs.Prelude.{◌≡◌, ◌≤◌, ◌^◌, List, ℕ, IfOk, IfErr, IfSome};
+// The files of a command, read whole, and the instance in one of them.
+ghost use Rattle.std.specs.Prelude.{◌≡◌, ◌≢◌, ◌≤◌, ◌^◌, List, ℕ, IfOk, IfErr, IfSome};
 ghost use Rattle.pq_io.specs.Faults.{Rose};
 ghost use Rattle.pq_io.specs.Whole.{IsWhole};
-ghost use Rattle.matrix_read.specs.Dense.{dense};
+ghost use Rattle.verdict_check.specs.Value.{instance_value};
+ghost use Rattle.pq_cli.specs.Words.{IsTaken};
+ghost use Rattle.pq_cli.specs.Instances.{instance_of, map_read, IfRead, IsJudged, IsJudgedInstance};
 ghost use Rattle.pq_cli.specs.Runs.{AsksOne};
-ghost use Rattle.pq_cli.specs.Stops.{read_status, IsReadStop, Refuses, IsOf};
+ghost use Rattle.pq_cli.specs.Stops.{stop_status, read_status, IsReadStop, Refuses, IsOf};
 
+use crate::NoMemory;
 use matrix_read::read_dense;
 use pq_io::{ChooseError, ReadFail, Shelf, Whole, read_all};
-use row_model::{MAX_FILE_BYTES, Matrix, Read, Refusal, code};
+use row_model::{Kind, MAX_FILE_BYTES, Read, Refusal, code};
 use std::alloc::Global;
+use verdict_check::Instance;
 
 /// What stood in the way of a reply.
 #[derive(Drop)]
@@ -22,22 +26,39 @@ pub enum Stop {
     NoMemory,
 }
 
-/// The matrix of digits in a file, which has this number among those of the command.
-pub fn read_matrix<F: Shelf>(
+impl Stop {
+    /// The exit status.
+    pub fn status(&self) -> u8
+        ensures { result ≡ stop_status self.now }
+    {
+        match self {
+            Stop::Refused(..) => 3,
+            Stop::ReadFault => 4,
+            Stop::NoMemory => 6,
+        }
+    }
+}
+
+/// The instance of a kind in a file, which has this number among those of the command.
+pub fn read_instance<F: Shelf>(
     alloc: Global,
+    kind: Kind,
     which: u8,
     name: &str,
     files: &mut F,
-) -> Result<Matrix, Stop>
+) -> Result<Instance, Stop>
+    requires { IsTaken kind }
     ensures asked { AsksOne (F.asked files.old) (F.asked files.new) name.now (read_status result) }
     ensures later { F.faults files.old ≤ F.faults files.new }
     ensures fault { read_status result ≡ 4 → Rose (F.faults files.old) (F.faults files.new) }
-    ensures value { IfOk result (λ m. IfSome (F.content files.old name.now) (λ bytes. dense bytes ≡ Read.Ok m)) }
-    ensures refused { IfErr result (λ stop. IfSome (F.content files.old name.now) (λ bytes. Refuses which (dense bytes) stop)) }
+    ensures fault_told { F.faults files.new ≢ F.faults files.old → read_status result ≡ 4 }
+    ensures value { IfOk result (λ i. IfSome (F.content files.old name.now) (λ bytes. instance_of kind bytes ≡ Read.Ok (instance_value i))) }
+    ensures judged { IfOk result IsJudgedInstance }
+    ensures refused { IfErr result (λ stop. IfSome (F.content files.old name.now) (λ bytes. Refuses which (instance_of kind bytes) stop)) }
     ensures which { IfErr result (IsOf which) }
     ensures content { (other : List ℕ) → F.content files.new other ≡ F.content files.old other }
 {
-    match read_file(alloc, name, files) {
+    match read_file(alloc, name, MAX_FILE_BYTES, files) {
         Err(stop) => Err(stop),
         Ok(Whole::TooLong) => Err(Stop::Refused(
             which,
@@ -46,27 +67,50 @@ pub fn read_matrix<F: Shelf>(
                 line: 0,
             },
         )),
-        Ok(Whole::Bytes(bytes)) => match read_dense(alloc, &bytes) {
+        Ok(Whole::Bytes(bytes)) => match instance_in(alloc, kind, &bytes) {
             Err(_) => Err(Stop::NoMemory),
             Ok(Read::Refused(refusal)) => Err(Stop::Refused(which, refusal)),
-            Ok(Read::Ok(m)) => Ok(m),
+            Ok(Read::Ok(instance)) => Ok(instance),
         },
     }
 }
 
-// The bytes of a file, up to the limit.
-fn read_file<F: Shelf>(alloc: Global, name: &str, files: &mut F) -> Result<Whole, Stop>
+// The instance of a kind in the bytes of a file, or their first refusal.
+fn instance_in(alloc: Global, kind: Kind, bytes: &[u8]) -> Result<Read<Instance>, NoMemory>
+    requires { IsTaken kind }
+    ensures value { IfOk result (λ read. map_read instance_value read ≡ instance_of kind bytes.now) }
+    ensures judged { IfOk result (λ read. IfRead read IsJudgedInstance) }
+{
+    match kind {
+        Kind::Matrix => match read_dense(alloc, bytes) {
+            Err(_) => Err(NoMemory),
+            Ok(Read::Refused(refusal)) => Ok(Read::Refused(refusal)),
+            Ok(Read::Ok(m)) => Ok(Read::Ok(Instance::Plain(kind, m))),
+        },
+        _ => unreachable!(),
+    }
+}
+
+/// The bytes of a file, up to a limit.
+pub fn read_file<F: Shelf>(
+    alloc: Global,
+    name: &str,
+    limit: u64,
+    files: &mut F,
+) -> Result<Whole, Stop>
+    requires { limit ≤ 2 ^ 32 }
     ensures asked { AsksOne (F.asked files.old) (F.asked files.new) name.now (read_status result) }
     ensures later { F.faults files.old ≤ F.faults files.new }
     ensures fault { read_status result ≡ 4 → Rose (F.faults files.old) (F.faults files.new) }
-    ensures whole { IfOk result (λ whole. IfSome (F.content files.old name.now) (λ bytes. IsWhole MAX_FILE_BYTES bytes whole)) }
+    ensures fault_told { F.faults files.new ≢ F.faults files.old → read_status result ≡ 4 }
+    ensures whole { IfOk result (λ whole. IfSome (F.content files.old name.now) (λ bytes. IsWhole limit bytes whole)) }
     ensures stop { IfErr result IsReadStop }
     ensures content { (other : List ℕ) → F.content files.new other ≡ F.content files.old other }
 {
     match files.choose(alloc, name) {
         Err(ChooseError::Failed) => Err(Stop::ReadFault),
         Err(ChooseError::NoMemory) => Err(Stop::NoMemory),
-        Ok(()) => match read_all(alloc, files, MAX_FILE_BYTES) {
+        Ok(()) => match read_all(alloc, files, limit) {
             Err(ReadFail::Fault) => Err(Stop::ReadFault),
             Err(ReadFail::NoMemory) => Err(Stop::NoMemory),
             Ok(whole) => Ok(whole),

@@ -6,11 +6,17 @@
 
 mod command;
 mod files;
+mod judgement;
+mod judging;
 mod laws;
 mod solution;
+mod telling;
 mod top;
 mod words;
 
 pub use laws::reply_law;
 pub use std::alloc::AllocError as NoMemory;
 pub use top::run;
+
+/// The greatest number of bytes of a verdict that is judged.
+pub const MAX_VERDICT_BYTES: u64 = 33_554_432;

@@ -1,10 +1,12 @@
-// The reply on a matrix.
+// The reply to `solve`.
 ghost use Rattle.std.specs.Prelude.{◌≡◌, ◌⊎◌, ◌<◌, [], ◌∷◌, IfOk};
 ghost use Rattle.pq_tree.specs.Outline.{leaves};
 ghost use Rattle.pq_tree.specs.PqTree.{outline};
 ghost use Rattle.c1p_solve.specs.Answers.{IsAnswer};
 ghost use Rattle.verdict_text.specs.Verdict.{no_added};
 ghost use Rattle.verdict_text.specs.Value.{yes_value, claim_of, verdict_value};
+ghost use Rattle.verdict_check.specs.Instance.{plain};
+ghost use Rattle.verdict_check.specs.Value.{instance_value};
 ghost use Rattle.pq_cli.specs.Replies.{IsTrueOf, IsSolution, status_of};
 
 use crate::NoMemory;
@@ -15,14 +17,25 @@ use pq_tree::PqTree;
 use row_model::{Intervals, Kind, Lines, Matrix, Places, Spans};
 use std::alloc::Global;
 use step_count::{Blank, Brand, Ledger, Steps};
+use verdict_check::Instance;
 use verdict_text::{Columns, NoPart, Part, Verdict, YesPart, print};
 
-/// The reply on a matrix: the text of the verdict, and its status.
-pub fn solution(alloc: Global, m: &Matrix) -> Result<Reply, NoMemory>
-    ensures solution { IfOk result (λ reply. IsSolution m.now reply.status reply.text.items) }
+/// The reply on an instance: the text of the verdict, and its status.
+pub fn solution(alloc: Global, instance: &Instance) -> Result<Reply, NoMemory>
+    ensures solution { IfOk result (λ reply. IsSolution (instance_value instance.now) reply.status reply.text.items) }
     ensures status { IfOk result (λ reply. (reply.status ≡ 0) ⊎ (reply.status ≡ 1)) }
 {
-    let verdict = verdict_on(alloc, m)?;
+    match instance {
+        Instance::Plain(kind, m) => matrix_solution(alloc, *kind, m),
+    }
+}
+
+// The reply on a matrix that stands for itself.
+fn matrix_solution(alloc: Global, kind: Kind, m: &Matrix) -> Result<Reply, NoMemory>
+    ensures solution { IfOk result (λ reply. IsSolution (plain kind m.now) reply.status reply.text.items) }
+    ensures status { IfOk result (λ reply. (reply.status ≡ 0) ⊎ (reply.status ≡ 1)) }
+{
+    let verdict = verdict_on(alloc, kind, m)?;
     let mut text = Vec::with_capacity(alloc, room(m.columns(), &verdict.part))?;
     print(&verdict, &mut text)?;
     Ok(Reply {
@@ -32,15 +45,15 @@ pub fn solution(alloc: Global, m: &Matrix) -> Result<Reply, NoMemory>
 }
 
 // The verdict on a matrix.
-fn verdict_on(alloc: Global, m: &Matrix) -> Result<Verdict, NoMemory>
-    ensures { IfOk result (λ verdict. IsTrueOf m.now (verdict_value verdict)) }
+fn verdict_on(alloc: Global, kind: Kind, m: &Matrix) -> Result<Verdict, NoMemory>
+    ensures { IfOk result (λ verdict. IsTrueOf (plain kind m.now) (verdict_value verdict)) }
 {
     let part = match solved::<Brand>(alloc, m, Blank::new(1))? {
         Solved::Yes(tree) => Part::Yes(yes(alloc, tree)?),
         Solved::No(cycle) => Part::No(no(alloc, &cycle)?),
     };
     Ok(Verdict {
-        kind: Kind::Matrix,
+        kind,
         columns: Columns::One(m.columns()),
         part,
     })

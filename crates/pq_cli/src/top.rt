@@ -1,63 +1,15 @@
 // The top call: one command, from the words to the status.
-ghost use Rattle.std.specs.Prelude.{◌≡◌, ◌⊎◌, ◌↔◌, ◌≤◌, IfOk, IfNone, IsNone, IsSome, List, ℕ, string_bytes};
+ghost use Rattle.std.specs.Prelude.{◌≡◌, ◌≢◌, ◌⊎◌, ◌↔◌, ◌≤◌, IfNone, IsNone, IsSome, List, ℕ};
 ghost use Rattle.pq_io.specs.Faults.{Rose};
 ghost use Rattle.pq_cli.specs.Words.{texts, command_of};
 ghost use Rattle.pq_cli.specs.Replies.{refusal_of};
-ghost use Rattle.pq_cli.specs.Runs.{WhereTold, ForCommand, AsksInTurn, WritesReply, WritesPart, Tells, IsLineOf, refused_line};
-ghost use Rattle.pq_cli.specs.Stops.{stop_status, IsStopLine};
+ghost use Rattle.pq_cli.specs.Runs.{WhereTold, ForCommand, AsksInTurn, WritesReply, WritesPart, Tells, IsLineOf};
 
-use crate::NoMemory;
 use crate::command::perform;
-use crate::files::Stop;
+use crate::telling::{report, tell};
 use crate::words::task_of;
 use pq_io::{Shelf, Sink, write_all};
-use row_model::Refusal;
 use std::alloc::Global;
-
-// Offers a line to a sink, whose faults are passed over.
-fn tell<E: Sink>(err: &mut E, line: &[u8])
-    ensures told { Tells (E.written err.old) (E.written err.new) (E.faults err.old) (E.faults err.new) line.now }
-    ensures later { E.faults err.old ≤ E.faults err.new }
-{
-    let _ = write_all(err, line);
-}
-
-// The line that tells of a refusal.
-fn refusal_line(alloc: Global, which: u8, refusal: Refusal) -> Result<String, NoMemory>
-    ensures { IfOk result (λ line. string_bytes line ≡ refused_line which refusal) }
-{
-    let code = refusal.code;
-    let line = refusal.line;
-    format!(in alloc; "pq: refused {which} code {code} line {line}\n")
-}
-
-// Tells of what stood in the way, and gives its status.
-fn report<E: Sink>(alloc: Global, stop: Stop, err: &mut E) -> u8
-    ensures status { (result ≡ stop_status stop) ⊎ (result ≡ 6) }
-    ensures line { (line : List ℕ) × IsStopLine stop result line × Tells (E.written err.old) (E.written err.new) (E.faults err.old) (E.faults err.new) line }
-    ensures later { E.faults err.old ≤ E.faults err.new }
-{
-    match stop {
-        Stop::Refused(which, refusal) => match refusal_line(alloc, which, refusal) {
-            Ok(line) => {
-                tell(err, line.as_bytes());
-                3
-            }
-            Err(_) => {
-                tell(err, b"pq: no memory\n");
-                6
-            }
-        },
-        Stop::ReadFault => {
-            tell(err, b"pq: read fault\n");
-            4
-        }
-        Stop::NoMemory => {
-            tell(err, b"pq: no memory\n");
-            6
-        }
-    }
-}
 
 /// Does what the words ask for, and answers the exit status.
 ///
@@ -87,12 +39,14 @@ pub fn run<F: Shelf, O: Sink, E: Sink>(
     // The files are read in turn, and no other name is asked for.
     ensures asked { ForCommand (command_of (texts words.now)) (λ c. (n : ℕ) × AsksInTurn (F.content files.old) c (F.asked files.old) (F.asked files.new) result n) }
     ensures read_fault { result ≡ 4 → Rose (F.faults files.old) (F.faults files.new) }
+    ensures read_fault_told { F.faults files.new ≢ F.faults files.old → result ≡ 4 }
     ensures refused { result ≡ 3 → ForCommand (command_of (texts words.now)) (λ c. WhereTold (F.content files.old) c (λ told. IsSome (refusal_of c told))) }
 
     // What is written is a reply to the bytes of the files.
     ensures answered { (result ≡ 0) ⊎ (result ≡ 1) → ForCommand (command_of (texts words.now)) (λ c. WhereTold (F.content files.old) c (λ told. WritesReply c told result (O.written out.old) (O.written out.new))) }
     ensures cut_short { result ≡ 5 → ForCommand (command_of (texts words.now)) (λ c. WhereTold (F.content files.old) c (λ told. WritesPart c told (O.written out.old) (O.written out.new))) }
     ensures write_fault { result ≡ 5 → Rose (O.faults out.old) (O.faults out.new) }
+    ensures write_fault_told { O.faults out.new ≢ O.faults out.old → result ≡ 5 }
     ensures unwritten { (result ≡ 2) ⊎ (result ≡ 3) ⊎ (result ≡ 4) ⊎ (result ≡ 6) → out.new ≡ out.old }
 
     // No other status comes.
@@ -112,7 +66,10 @@ pub fn run<F: Shelf, O: Sink, E: Sink>(
         return 2;
     };
     match perform(alloc, &task, files) {
-        Err(stop) => report(alloc, stop, err),
+        Err(stop) => {
+            report(&stop, err);
+            stop.status()
+        }
         Ok(reply) => match write_all(out, &reply.text) {
             Ok(()) => reply.status,
             Err(_) => {

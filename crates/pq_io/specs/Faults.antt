@@ -1,5 +1,5 @@
 -- Faults of reading and writing, and the counts that tell of them.
-use Rattle.std.specs.Prelude.{◌≢◌, ℕ, ◌+◌, ◌-◌, ◌^◌, ◌<◌, ◌≤◌, min, Result, Ok, Err, OnErr}
+use Rattle.std.specs.Prelude.{◌≡◌, ◌≢◌, ℕ, ◌+◌, ◌-◌, ◌^◌, ◌<◌, ◌≤◌, min, Result, Ok, Err, OnOk, OnErr}
 
 -- the count rose, unless it stood at its last value
 abbrev pub Rose : ℕ → ℕ → Type 0
@@ -9,6 +9,10 @@ Rose before now = before ≢ 2 ^ 64 - 1 → before < now
 pub record HasCause {T E : Type 0} (before now : ℕ) (result : Result T E) : Type 0 where
   pub later : before ≤ now
   pub failed : OnErr result (Rose before now)
+
+-- the count changed only where the call failed
+abbrev pub ChangedOnlyIfFailed : {T E : Type 0} → ℕ → ℕ → Result T E → Type 0
+ChangedOnlyIfFailed before now result = OnOk result (now ≡ before)
 
 -- the count after one more fault
 abbrev pub one_more : ℕ → ℕ

@@ -21,6 +21,12 @@ pub record HasChoiceCause {T : Type 0} (before now : ℕ) (result : Result T Cho
   pub later : before ≤ now
   pub failed : FailsOnlyIfRose before now result
 
+-- the count changed only where the answer is `Failed`
+abbrev pub ChangedOnlyIfNotFound : {T : Type 0} → ℕ → ℕ → Result T ChooseError → Type 0
+ChangedOnlyIfNotFound before now (Ok _) = now ≡ before
+ChangedOnlyIfNotFound before now (Err choice.Failed) = ⊤
+ChangedOnlyIfNotFound before now (Err choice.NoMemory) = now ≡ before
+
 -- the count after a choice: one more where it failed, else as before
 abbrev pub count_after_choice : {T : Type 0} → ℕ → Result T ChooseError → ℕ
 count_after_choice before (Ok _) = before

@@ -28,6 +28,12 @@ FaultsOnlyIfRose before now (Ok _) = ⊤
 FaultsOnlyIfRose before now (Err fail.Fault) = Rose before now
 FaultsOnlyIfRose before now (Err fail.NoMemory) = ⊤
 
+-- the count changed only where the answer is `Fault`
+abbrev pub ChangedOnlyIfFault : {T : Type 0} → ℕ → ℕ → Result T ReadFail → Type 0
+ChangedOnlyIfFault before now (Ok _) = now ≡ before
+ChangedOnlyIfFault before now (Err fail.Fault) = ⊤
+ChangedOnlyIfFault before now (Err fail.NoMemory) = now ≡ before
+
 -- the count never falls, and `Fault` comes only where it rose
 pub record HasReadCause {T : Type 0} (before now : ℕ) (result : Result T ReadFail) : Type 0 where
   pub later : before ≤ now

@@ -2,8 +2,8 @@
 ghost use Rattle.std.specs.Prelude.{◌≡◌, ◌≢◌, ◌<◌, ◌+◌, ℕ, List, [], Some, None, length, take, min, is_some, is_none, true, false, slice_get, IsTrue, IsOk, IfOk, IfSome, IfNone, OnOk, OnErr};
 ghost use Rattle.std.specs.Io.{ReadsAtMost};
 ghost use Rattle.std.specs.Io.KnownBytes.{ReadConsumes};
-ghost use Rattle.pq_io.specs.Faults.{HasCause};
-ghost use Rattle.pq_io.specs.Shelf.{Asks, HasChoiceCause, FailsExactly, count_after_choice};
+ghost use Rattle.pq_io.specs.Faults.{HasCause, ChangedOnlyIfFailed};
+ghost use Rattle.pq_io.specs.Shelf.{Asks, HasChoiceCause, ChangedOnlyIfNotFound, FailsExactly, count_after_choice};
 ghost use Rattle.pq_io.specs.NamedFiles.{content_of};
 ghost use Rattle.pq_io.specs.MemFile.{has_name, IsNamedByNone};
 
@@ -101,6 +101,7 @@ impl Shelf for MemShelf {
         ensures none_chosen { OnErr result (is_some self.new.left ≡ false) }
         ensures asked { Asks self.old.asked self.new.asked name.now result }
         ensures cause { HasChoiceCause self.old.faults self.new.faults result }
+        ensures told { ChangedOnlyIfNotFound self.old.faults self.new.faults result }
         ensures content { (other : List ℕ) → content_of self.new.files other ≡ content_of self.old.files other }
 
         ensures fails { FailsExactly (is_none (content_of self.old.files name.now)) result }
@@ -123,6 +124,7 @@ impl Shelf for MemShelf {
         ensures bound { ReadsAtMost result buf.new }
         ensures bytes { ReadConsumes self.old.left self.new.left result buf.new }
         ensures cause { HasCause self.old.faults self.new.faults result }
+        ensures told { ChangedOnlyIfFailed self.old.faults self.new.faults result }
         ensures chosen { IsTrue (is_some self.new.left) }
         ensures asked { self.new.asked ≡ self.old.asked }
         ensures content { (other : List ℕ) → content_of self.new.files other ≡ content_of self.old.files other }

@@ -1,7 +1,7 @@
 // A sink in memory.
 ghost use Rattle.std.specs.Prelude.{◌≡◌, ◌<◌, ◌≤◌, ◌+◌, ◌-◌, ◌==◌, [], Some, length, min, is_err, IfOk, OnOk, OnErr};
 ghost use Rattle.std.specs.Io.KnownBytes.{WriteAppends};
-ghost use Rattle.pq_io.specs.Faults.{HasCause, count_after};
+ghost use Rattle.pq_io.specs.Faults.{HasCause, ChangedOnlyIfFailed, count_after};
 ghost use Rattle.pq_io.specs.Sink.{TakesSome};
 
 use crate::{Failed, NoMemory, Sink};
@@ -77,6 +77,7 @@ impl Sink for MemSink {
         ensures bound { IfOk result (TakesSome piece.now) }
         ensures bytes { WriteAppends (Some self.old.bytes) (Some self.new.bytes) result piece.now }
         ensures cause { HasCause self.old.faults self.new.faults result }
+        ensures told { ChangedOnlyIfFailed self.old.faults self.new.faults result }
 
         ensures fails { is_err result ≡ (self.old.room == 0) }
         ensures taken { IfOk result (λ n. n ≡ min (length piece.now) self.old.room) }

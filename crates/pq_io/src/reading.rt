@@ -1,7 +1,7 @@
 // A file as a whole.
 ghost use Rattle.std.specs.Prelude.{◌≡◌, ◌≤◌, ◌+◌, ◌^◌, ℕ, List, take, drop, vec_len, IfOk, IfSome, IsTrue};
 ghost use Rattle.std.specs.Io.KnownBytes.{Consumes, IsAtEnd};
-ghost use Rattle.pq_io.specs.Whole.{IsWhole, IsAtMost, LeavesNone, HasReadCause};
+ghost use Rattle.pq_io.specs.Whole.{IsWhole, IsAtMost, LeavesNone, HasReadCause, ChangedOnlyIfFault};
 
 use crate::{ReadFail, Shelf};
 use std::alloc::Global;
@@ -30,6 +30,7 @@ pub fn read_all<F: Shelf>(alloc: Global, shelf: &mut F, limit: u64) -> Result<Wh
     ensures within { IfOk result (IsAtMost limit) }
     ensures end { IfOk result (LeavesNone (F.left shelf.new)) }
     ensures cause { HasReadCause (F.faults shelf.old) (F.faults shelf.new) result }
+    ensures told { ChangedOnlyIfFault (F.faults shelf.old) (F.faults shelf.new) result }
     ensures chosen { IsTrue (F.has_chosen shelf.new) }
     ensures asked { F.asked shelf.new ≡ F.asked shelf.old }
     ensures content { (other : List ℕ) → F.content shelf.new other ≡ F.content shelf.old other }
@@ -58,6 +59,7 @@ fn read_on<F: Shelf>(shelf: &mut F, bytes: &mut Vec<u8>, filled: usize) -> Resul
     ensures read { IfOk result (λ n. Consumes (F.left shelf.old) (F.left shelf.new) (take n (drop filled bytes.new.items))) }
     ensures end { IfOk result (λ n. n ≡ 0 → IsAtEnd (F.left shelf.new)) }
     ensures cause { HasReadCause (F.faults shelf.old) (F.faults shelf.new) result }
+    ensures told { ChangedOnlyIfFault (F.faults shelf.old) (F.faults shelf.new) result }
     ensures chosen { IsTrue (F.has_chosen shelf.new) }
     ensures asked { F.asked shelf.new ≡ F.asked shelf.old }
     ensures content { (other : List ℕ) → F.content shelf.new other ≡ F.content shelf.old other }

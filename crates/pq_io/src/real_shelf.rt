@@ -1,8 +1,8 @@
 // The files of the system.
 ghost use Rattle.std.specs.Prelude.{◌≡◌, [], None, false, length, IsTrue, OnOk, OnErr, ◌<◌};
 ghost use Rattle.std.specs.Io.{ReadsAtMost};
-ghost use Rattle.pq_io.specs.Faults.{HasCause, count_after};
-ghost use Rattle.pq_io.specs.Shelf.{Asks, HasChoiceCause, count_after_choice};
+ghost use Rattle.pq_io.specs.Faults.{HasCause, ChangedOnlyIfFailed, count_after};
+ghost use Rattle.pq_io.specs.Shelf.{Asks, HasChoiceCause, ChangedOnlyIfNotFound, count_after_choice};
 
 use crate::{ChooseError, Failed, Shelf};
 use std::alloc::Global;
@@ -74,6 +74,7 @@ impl<R: Files + Input + Drop> Shelf for RealShelf<R> {
         ensures none_chosen { OnErr result (self.new.has_chosen ≡ false) }
         ensures asked { Asks self.old.asked self.new.asked name.now result }
         ensures cause { HasChoiceCause self.old.faults self.new.faults result }
+        ensures told { ChangedOnlyIfNotFound self.old.faults self.new.faults result }
 
         ensures count { self.new.faults ≡ count_after_choice self.old.faults result }
     {
@@ -109,6 +110,7 @@ impl<R: Files + Input + Drop> Shelf for RealShelf<R> {
         requires chosen { IsTrue self.old.has_chosen }
         ensures bound { ReadsAtMost result buf.new }
         ensures cause { HasCause self.old.faults self.new.faults result }
+        ensures told { ChangedOnlyIfFailed self.old.faults self.new.faults result }
         ensures chosen { IsTrue self.new.has_chosen }
         ensures asked { self.new.asked ≡ self.old.asked }
 

@@ -1,6 +1,6 @@
 // Standard output and standard error.
 ghost use Rattle.std.specs.Prelude.{◌≡◌, ◌<◌, None, length, IfOk};
-ghost use Rattle.pq_io.specs.Faults.{HasCause, count_after};
+ghost use Rattle.pq_io.specs.Faults.{HasCause, ChangedOnlyIfFailed, count_after};
 ghost use Rattle.pq_io.specs.Sink.{TakesSome};
 
 use crate::{Failed, Sink};
@@ -24,12 +24,21 @@ impl<W: Write> Model for RealSink<W> {
     ghost view = { λ sink. sink.faults };
 }
 
+impl<W: Write> RealSink<W> {
+    // A stream with no faults so far.
+    fn over(stream: W) -> Self
+        ensures { result ≡ 0 }
+    {
+        RealSink { stream, faults: 0 }
+    }
+}
+
 impl RealSink<Stdout> {
     /// Standard output, with no faults so far.
     pub fn output(stream: Stdout) -> Self
         ensures { result ≡ 0 }
     {
-        RealSink { stream, faults: 0 }
+        RealSink::over(stream)
     }
 }
 
@@ -38,7 +47,7 @@ impl RealSink<Stderr> {
     pub fn error(stream: Stderr) -> Self
         ensures { result ≡ 0 }
     {
-        RealSink { stream, faults: 0 }
+        RealSink::over(stream)
     }
 }
 
@@ -52,6 +61,7 @@ impl<W: Write> Sink for RealSink<W> {
         requires { 0 < length piece.now }
         ensures bound { IfOk result (TakesSome piece.now) }
         ensures cause { HasCause self.old self.new result }
+        ensures told { ChangedOnlyIfFailed self.old self.new result }
 
         ensures count { self.new ≡ count_after self.old result }
     {
@@ -99,10 +109,7 @@ mod tests {
             (0, true, Err(Failed)),
             (9, false, Err(Failed)),
         ] {
-            let mut sink = RealSink {
-                stream: FakeStream { most, can_flush },
-                faults: 0,
-            };
+            let mut sink = RealSink::over(FakeStream { most, can_flush });
             assert_eq!(rt; sink.write(b"abc"), outcome, "{most} {can_flush}");
         }
     }

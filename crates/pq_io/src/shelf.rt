@@ -2,8 +2,8 @@
 ghost use Rattle.std.specs.Prelude.{◌≡◌, ◌<◌, List, ℕ, Bool, false, Option, length, OnOk, OnErr, IsTrue};
 ghost use Rattle.std.specs.Io.{ReadsAtMost};
 ghost use Rattle.std.specs.Io.KnownBytes.{ReadConsumes};
-ghost use Rattle.pq_io.specs.Faults.{HasCause};
-ghost use Rattle.pq_io.specs.Shelf.{Asks, HasChoiceCause};
+ghost use Rattle.pq_io.specs.Faults.{HasCause, ChangedOnlyIfFailed};
+ghost use Rattle.pq_io.specs.Shelf.{Asks, HasChoiceCause, ChangedOnlyIfNotFound};
 
 use crate::{ChooseError, Failed};
 use std::alloc::Global;
@@ -38,6 +38,7 @@ pub trait Shelf {
         ensures none_chosen { OnErr result (has_chosen self.new ≡ false) }
         ensures asked { Asks (asked self.old) (asked self.new) name.now result }
         ensures cause { HasChoiceCause (faults self.old) (faults self.new) result }
+        ensures told { ChangedOnlyIfNotFound (faults self.old) (faults self.new) result }
         ensures content { (other : List ℕ) → content self.new other ≡ content self.old other };
 
     /// Reads the next bytes of the chosen file into the start of `buf`, and returns how many: 0 only at the end. The file
@@ -52,6 +53,7 @@ pub trait Shelf {
         ensures bound { ReadsAtMost result buf.new }
         ensures bytes { ReadConsumes (left self.old) (left self.new) result buf.new }
         ensures cause { HasCause (faults self.old) (faults self.new) result }
+        ensures told { ChangedOnlyIfFailed (faults self.old) (faults self.new) result }
         ensures chosen { IsTrue (has_chosen self.new) }
         ensures asked { asked self.new ≡ asked self.old }
         ensures content { (other : List ℕ) → content self.new other ≡ content self.old other };

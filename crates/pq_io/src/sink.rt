@@ -1,7 +1,7 @@
 // Where bytes are written to.
 ghost use Rattle.std.specs.Prelude.{◌<◌, List, ℕ, Option, length, IfOk};
 ghost use Rattle.std.specs.Io.KnownBytes.{WriteAppends};
-ghost use Rattle.pq_io.specs.Faults.{HasCause};
+ghost use Rattle.pq_io.specs.Faults.{HasCause, ChangedOnlyIfFailed};
 ghost use Rattle.pq_io.specs.Sink.{TakesSome};
 
 use crate::Failed;
@@ -23,5 +23,6 @@ pub trait Sink {
         requires { 0 < length piece.now }
         ensures bound { IfOk result (TakesSome piece.now) }
         ensures bytes { WriteAppends (written self.old) (written self.new) result piece.now }
-        ensures cause { HasCause (faults self.old) (faults self.new) result };
+        ensures cause { HasCause (faults self.old) (faults self.new) result }
+        ensures told { ChangedOnlyIfFailed (faults self.old) (faults self.new) result };
 }

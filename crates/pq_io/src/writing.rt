@@ -1,7 +1,7 @@
 // A text as a whole.
 ghost use Rattle.std.specs.Prelude.{MatchResult};
 ghost use Rattle.std.specs.Io.KnownBytes.{Appends};
-ghost use Rattle.pq_io.specs.Faults.{HasCause};
+ghost use Rattle.pq_io.specs.Faults.{HasCause, ChangedOnlyIfFailed};
 ghost use Rattle.pq_io.specs.Sink.{AppendsPrefix};
 
 use crate::{Sink, WriteFault};
@@ -16,6 +16,7 @@ pub fn write_all<O: Sink>(sink: &mut O, bytes: &[u8]) -> Result<(), WriteFault>
         (λ _. Appends (O.written sink.old) (O.written sink.new) bytes.now)
         (λ _. AppendsPrefix (O.written sink.old) (O.written sink.new) bytes.now) }
     ensures cause { HasCause (O.faults sink.old) (O.faults sink.new) result }
+    ensures told { ChangedOnlyIfFailed (O.faults sink.old) (O.faults sink.new) result }
 {
     let mut written = 0;
     while written < bytes.len() {

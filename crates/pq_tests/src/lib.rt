@@ -3,11 +3,14 @@
 
 #[cfg(test)]
 mod tests {
+    use matrix_read::read_dense;
     use pq_cli::run;
     use pq_io::{MemShelf, MemSink, NoMemory};
+    use row_model::{Line, Matrix, Read, joined_by};
     use std::alloc::Global;
     use std::process::Abort;
     use std::test::Fail;
+    use verdict_text::{Part, parse};
 
     // A run: the words, the bytes of the file `matrix`, how many bytes the output and the line of errors have room for, and the status, the
     // output and the line of errors that are wanted.
@@ -125,18 +128,46 @@ mod tests {
         passes(&rt, rt.alloc(), &cases)
     }
 
+    // Whether lines are an odd cycle of a matrix: their number is odd and at least 3, no pair comes twice, and the reason of each line joins
+    // its pair to that of the next line, and that of the last to the first.
+    fn is_odd_cycle(m: &Matrix, lines: &[Line]) -> bool {
+        for (i, line) in lines.iter().enumerate() {
+            let next = lines[(i + 1) % lines.len()];
+            if !joined_by(m, line.pair, next.pair, line.why) {
+                return false;
+            }
+            for earlier in &lines[..i] {
+                if earlier.pair.a == line.pair.a && earlier.pair.b == line.pair.b {
+                    return false;
+                }
+            }
+        }
+        lines.len() >= 3 && lines.len() % 2 == 1
+    }
+
     // Which odd cycle is printed is free.
     #[test]
     fn a_matrix_without_a_valid_order(rt: HostRuntime) -> Result<(), Fail> {
-        let case = solved(b"110\n011\n101\n", 1, b"");
-        let outcome = outcome_of(rt.alloc(), &case)?;
-        assert_eq!(rt; outcome.status, 1);
-        let out = outcome.out.bytes();
-        assert!(rt;
-            out.starts_with(b"pq-verdict 1\nkind matrix\ncolumns 3\nanswer no\nside 1\ncycle ")
-        );
-        assert!(rt; out.ends_with(b"\nend\n"));
-        assert!(rt; outcome.err.bytes().is_empty());
+        let alloc = rt.alloc();
+        let files = [
+            b"110\n011\n101\n".as_slice(),
+            b"110000\n001100\n000011\n010101\n".as_slice(),
+        ];
+        for file in files {
+            let outcome = outcome_of(alloc, &solved(file, 1, b""))?;
+            assert_eq!(rt; outcome.status, 1);
+            assert!(rt; outcome.err.bytes().is_empty());
+            let Read::Ok(m) = read_dense(alloc, file)? else {
+                panic!(rt; "the file is refused");
+            };
+            let Some(verdict) = parse(alloc, outcome.out.bytes())? else {
+                panic!(rt; "the text is outside the grammar");
+            };
+            let Part::No(no) = verdict.part else {
+                panic!(rt; "the answer is yes");
+            };
+            assert!(rt; is_odd_cycle(&m, no.lines.as_slice()));
+        }
         Ok(())
     }
 

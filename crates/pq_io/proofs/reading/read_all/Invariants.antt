@@ -7,7 +7,7 @@ invariant-loop-filled g l = record {
   within : l.filled ≤ vec_len l.bytes;
   small : l.limit ≤ 2 ^ 32;
   so_far : Consumes (g.F.Shelf.left l.initial.shelf) (g.F.Shelf.left l.shelf) (take l.filled l.bytes.items);
-  later : g.F.Shelf.faults l.initial.shelf ≤ g.F.Shelf.faults l.shelf;
+  told : g.F.Shelf.faults l.shelf ≡ g.F.Shelf.faults l.initial.shelf;
   chosen : IsTrue (g.F.Shelf.has_chosen l.shelf);
   asked : g.F.Shelf.asked l.shelf ≡ g.F.Shelf.asked l.initial.shelf;
   content : (other : List ℕ) → g.F.Shelf.content l.shelf other ≡ g.F.Shelf.content l.initial.shelf other;

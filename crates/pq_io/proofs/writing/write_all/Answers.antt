@@ -5,6 +5,6 @@ use Rattle.pq_io.proofs.writing.write_all.Goals as goal
 pub loop-written-preserved : goal.loop-written-preserved
 loop-written-preserved g c = record {
   within = search rules;
-  later = omega (arith, c.in_ok-written.ensures.cause);
+  told = search rules;
   so_far = Appends-take _ _ _ _ _ _ c.loop-written.invariant.so_far c.in_ok-written.ensures.bytes;
 }
