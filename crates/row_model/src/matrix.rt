@@ -65,10 +65,11 @@ impl Matrix {
         pop_piece(&mut self.members, &mut self.bounds);
     }
 
-    /// The number of columns, from 1 to 32,768.
+    /// The number of columns, from 1 to 32,768. The matrix has at most 16,777,216 rows.
     pub fn columns(&self) -> u32
         ensures columns { result ≡ self.now.columns }
         ensures range { (1 ≤ result) × (result ≤ 32768) }
+        ensures few_rows { length self.now.rows ≤ 16777216 }
     {
         self.column_count
     }
