@@ -1,3 +1,4 @@
+pub mod Checks
 pub mod Claims
 pub mod Lines
 pub mod Reading

@@ -4,7 +4,7 @@ use Rattle.std.proofs.lemmas.Bool.{leb-false, ltb-true, ltb-false}
 use Rattle.std.proofs.lemmas.List.{length-map}
 use Rattle.std.specs.List.{list_any}
 use Rattle.row_model.specs.declared.kind.Kind.{Kind}
-use Rattle.row_model.specs.declared.kind.Kind.TheVariants.{Matrix}
+use Rattle.row_model.specs.declared.kind.Kind.TheVariants.{Matrix, Rows, Table, Circular, Convex, Doubly, Proper, Robinson, Clones}
 use Rattle.row_model.specs.declared.refusal.Refusal.{Refusal}
 use Rattle.row_model.specs.declared.refusal.Read.TheVariants as read
 use Rattle.row_model.specs.declared.TheConstants.{MAX_COLUMNS, MAX_ROWS, MAX_FILE_BYTES}
@@ -20,6 +20,14 @@ use Rattle.pq_cli.specs.Instances.{instance_of, map_read, IsJudged}
 -- bytes past the limit are refused, whatever the kind
 pub instance_long : (kind : Kind) (bytes : List ℕ) → IsTaken kind → 16777216 < length bytes → instance_of kind bytes ≡ read.Refused (record { code = 7; line = 0 })
 instance_long Matrix bytes taken h = ap (map_read (plain Matrix)) (dense_long bytes h)
+instance_long Rows bytes taken h = absurd taken
+instance_long Table bytes taken h = absurd taken
+instance_long Circular bytes taken h = absurd taken
+instance_long Convex bytes taken h = absurd taken
+instance_long Doubly bytes taken h = absurd taken
+instance_long Proper bytes taken h = absurd taken
+instance_long Robinson bytes taken h = absurd taken
+instance_long Clones bytes taken h = absurd taken
 
 -- what a line that is not refused has passed
 pub record Passes (full foreign wide : Bool) : Type 0 where
@@ -71,13 +79,13 @@ lines_within [] m filled e = absurd (cc)
 lines_within (first ∷ rest) m filled e =
     let width = width_of first.text in
     ok_within (first_refusal width 0 (first ∷ rest)) (record { columns = width; rows = rows_of (first ∷ rest) }) m e (λ none.
-      let both = unrefused width 0 first rest none in
-      let passed = passes_of width 0 first.text both.0 in
-      record {
-        some = some_digit first.text (filled first rest refl) passed.clean;
-        columns = ltb-false MAX_COLUMNS width passed.narrow;
-        rows = subst (λ (n : ℕ). n ≤ MAX_ROWS) (sym (length-map (first ∷ rest) (λ (line : NumberedLine). row_of line.text))) (few_lines width 0 (first ∷ rest) none (omega arith));
-      })
+    let both = unrefused width 0 first rest none in
+    let passed = passes_of width 0 first.text both.0 in
+    record {
+      some = some_digit first.text (filled first rest refl) passed.clean;
+      columns = ltb-false MAX_COLUMNS width passed.narrow;
+      rows = subst (λ (n : ℕ). n ≤ MAX_ROWS) (sym (length-map (first ∷ rest) (λ (line : NumberedLine). row_of line.text))) (let few = few_lines width 0 (first ∷ rest) none (omega arith) in omega (arith, few));
+    })
 
 by_length : (bytes : List ℕ) (m : RowList) (long : Bool) → nat_lt MAX_FILE_BYTES (length bytes) ≡ long → dense bytes ≡ read.Ok m → IsWithin m
 by_length bytes m true long e = let refused = dense_long bytes (ltb-true MAX_FILE_BYTES (length bytes) long) in absurd (cc)

@@ -1,5 +1,5 @@
 -- The files that a command asks for, in turn.
-use Rattle.std.proofs.Common.{◌≡◌, ◌⊎◌, ℕ, ◌<◌, ◌≤◌, ◌-◌, List, [], ◌∷◌, ◌++◌, length, take, Option, Some, None, inl, inr, arith, subst, sym, ◌∙◌, refl}
+use Rattle.std.proofs.Common.{◌≡◌, ◌⊎◌, ℕ, ◌<◌, ◌≤◌, ◌-◌, List, [], ◌∷◌, ◌++◌, length, take, Option, Some, None, inl, inr, arith, subst, sym, ◌∙◌, ap, append_assoc, refl}
 use Rattle.std.proofs.lemmas.List.{append-nil}
 use Rattle.pq_cli.specs.Words.{Command, files_of}
 use Rattle.pq_cli.specs.Replies.{refusal_of}
@@ -51,9 +51,38 @@ first_stop told c name rest before after s is asks here judged = elim asks [
   | inr none ↦ (0, stop_turn told c before after s 0 (omega arith) (none.0 ∙ sym (append-nil before)) (inl none.1) (λ h. absurd (omega arith)) judged)
 ]
 
+-- a stop at the second file, where the first is not refused
+pub second_stop : (told : List ℕ → Option (List ℕ)) (c : Command) (first second : List ℕ) (before mid after : List (List ℕ)) (s : Stop) → files_of c ≡ first ∷ second ∷ []
+    → AsksOne before mid first 0 → AsksOne mid after second (stop_status s) → IsOf 2 s → WhereFirstTold told c 1 (λ files. refusal_of c files ≡ None) → IsRefusalOf c told s
+    → (n : ℕ) × AsksInTurn told c before after (stop_status s) n
+second_stop told c first second before mid after s is one asks here fine judged =
+    let begun : mid ≡ before ++ first ∷ [] = elim one [ inl e ↦ e | inr e ↦ absurd (omega arith) ] in
+    elim asks [
+      | inl two ↦ (2, stop_turn told c before after s 2 (rw is (omega arith)) (rw is (two ∙ ap (λ t. t ++ second ∷ []) begun ∙ append_assoc before (first ∷ []) (second ∷ []))) (inr (here, omega arith)) (λ h. fine) judged)
+      | inr none ↦ (1, stop_turn told c before after s 1 (rw is (omega arith)) (rw is (none.0 ∙ begun)) (inl none.1) (λ h. absurd (omega arith)) judged)
+    ]
+
 -- a command with one file ends after it, with a reply or for memory
 pub one_end : (told : List ℕ → Option (List ℕ)) (c : Command) (name : List ℕ) (before after : List (List ℕ)) (status : ℕ) → files_of c ≡ name ∷ []
     → AsksOne before after name 0 → (status ≡ 3 → ⊥) → (n : ℕ) × AsksInTurn told c before after status n
 one_end told c name before after status is one other =
     let begun : after ≡ before ++ name ∷ [] = elim one [ inl e ↦ e | inr e ↦ absurd (omega arith) ] in
     (1, record { few = rw is (omega arith); names = rw is begun; on_fault = λ e. omega arith; on_reply = λ e. rw is refl; in_turn = λ h. absurd (omega arith); on_refusal = λ e. absurd (other e) })
+
+-- a command with two files ends after them, with a reply or for memory
+pub two_end : (told : List ℕ → Option (List ℕ)) (c : Command) (first second : List ℕ) (before mid after : List (List ℕ)) (status : ℕ) → files_of c ≡ first ∷ second ∷ []
+    → AsksOne before mid first 0 → AsksOne mid after second 0 → (status ≡ 3 → ⊥) → WhereFirstTold told c 1 (λ files. refusal_of c files ≡ None)
+    → (n : ℕ) × AsksInTurn told c before after status n
+two_end told c first second before mid after status is one two other fine =
+    let begun : mid ≡ before ++ first ∷ [] = elim one [ inl e ↦ e | inr e ↦ absurd (omega arith) ] in
+    let both : after ≡ mid ++ second ∷ [] = elim two [ inl e ↦ e | inr e ↦ absurd (omega arith) ] in (
+      2,
+      record {
+        few = rw is (omega arith);
+        names = rw is (both ∙ ap (λ t. t ++ second ∷ []) begun ∙ append_assoc before (first ∷ []) (second ∷ []));
+        on_fault = λ e. omega arith;
+        on_reply = λ e. rw is refl;
+        in_turn = λ h. fine;
+        on_refusal = λ e. absurd (other e);
+      },
+    )

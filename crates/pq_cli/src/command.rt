@@ -50,12 +50,7 @@ pub fn perform<F: Shelf>(alloc: Global, task: &Task<'_>, files: &mut F) -> Resul
 
 // Solves the instance in a file.
 #[tactic(auto, unfolding(crate::specs::Replies::Replies))]
-fn solve_file<F: Shelf>(
-    alloc: Global,
-    kind: Kind,
-    file: &str,
-    files: &mut F,
-) -> Result<Reply, Stop>
+fn solve_file<F: Shelf>(alloc: Global, kind: Kind, file: &str, files: &mut F) -> Result<Reply, Stop>
     requires { IsTaken kind }
     ensures asked { (n : ℕ) × AsksInTurn (F.content files.old) (Solve kind file.now) (F.asked files.old) (F.asked files.new) (outcome_status result) n }
     ensures later { F.faults files.old ≤ F.faults files.new }

@@ -40,8 +40,7 @@ pub fn task_of(words: &[String]) -> Option<Task<'_>>
             })
         }
         [verb, kind, file, verdict]
-            if verb.as_str() == "check" && !are_both_input(file.as_str(), verdict.as_str()) =>
-        {
+            if verb.as_str() == "check" && !are_both_input(file.as_str(), verdict.as_str()) => {
             let kind = kind_of(kind.as_str())?;
             Some(Task::Check {
                 kind,

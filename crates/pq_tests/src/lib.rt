@@ -33,20 +33,49 @@ mod tests {
         err: MemSink,
     }
 
-    // Runs a case, with ample memory.
-    fn outcome_of(alloc: Global, case: &Case) -> Result<Outcome, NoMemory> {
-        let mut words = Vec::new(alloc);
-        for word in case.words {
-            words.push(String::from_str(alloc, word)?)?;
+    // Runs words over a matrix and a verdict, with ample memory and with room for so many bytes.
+    fn outcome_with(
+        alloc: Global,
+        words: &[&str],
+        matrix: &[u8],
+        verdict: &[u8],
+        room: usize,
+        err_room: usize,
+    ) -> Result<Outcome, NoMemory> {
+        let mut texts = Vec::new(alloc);
+        for word in words {
+            texts.push(String::from_str(alloc, word)?)?;
         }
         let mut files = MemShelf::new(alloc);
-        files.add("matrix", case.file)?;
+        files.add("matrix", matrix)?;
+        files.add("verdict", verdict)?;
         let mut out = MemSink::new(alloc);
-        out.reserve(case.room)?;
+        out.reserve(room)?;
         let mut err = MemSink::new(alloc);
-        err.reserve(case.err_room)?;
-        let status = run(alloc, &words, &mut files, &mut out, &mut err);
+        err.reserve(err_room)?;
+        let status = run(alloc, &texts, &mut files, &mut out, &mut err);
         Ok(Outcome { status, out, err })
+    }
+
+    // Runs a case.
+    fn outcome_of(alloc: Global, case: &Case) -> Result<Outcome, NoMemory> {
+        outcome_with(alloc, case.words, case.file, b"", case.room, case.err_room)
+    }
+
+    // Checks a verdict on a matrix, and compares the line with what is wanted.
+    fn judged(
+        rt: &impl Abort,
+        alloc: Global,
+        matrix: &[u8],
+        verdict: &[u8],
+        line: &[u8],
+    ) -> Result<(), Fail> {
+        let words = ["check", "matrix", "matrix", "verdict"];
+        let outcome = outcome_with(alloc, &words, matrix, verdict, 100, 100)?;
+        assert_eq!(rt; outcome.out.bytes(), line);
+        assert_eq!(rt; outcome.status, if line == b"valid\n".as_slice() { 0 } else { 1 });
+        assert!(rt; outcome.err.bytes().is_empty());
+        Ok(())
     }
 
     // Runs each case and compares what it left with what is wanted.
@@ -172,6 +201,97 @@ mod tests {
     }
 
     #[test]
+    fn what_was_solved_is_valid(rt: HostRuntime) -> Result<(), Fail> {
+        let alloc = rt.alloc();
+        let files = [
+            b"101\n110\n".as_slice(),
+            b"110000\n001100\n000011\n010101\n".as_slice(),
+        ];
+        for file in files {
+            let words = ["solve", "matrix", "matrix"];
+            let outcome = outcome_with(alloc, &words, file, b"", 1000, 100)?;
+            judged(&rt, alloc, file, outcome.out.bytes(), b"valid\n")?;
+        }
+        Ok(())
+    }
+
+    #[test]
+    fn a_verdict_of_no_is_judged(rt: HostRuntime) -> Result<(), Fail> {
+        let matrix = b"110\n011\n101\n";
+        let cases = [
+            (
+                b"cycle 3\n1 3 row 1\n3 2 row 3\n2 1 row 2\nend\n".as_slice(),
+                b"valid\n".as_slice(),
+            ),
+            (
+                b"cycle 2\n1 3 row 1\n3 2 row 3\nend\n".as_slice(),
+                b"invalid length 2\n".as_slice(),
+            ),
+            (
+                b"cycle 5\n1 3 flip\n3 1 flip\n1 3 row 1\n3 2 row 3\n2 1 row 2\nend\n".as_slice(),
+                b"invalid repeat 3\n".as_slice(),
+            ),
+            (
+                b"cycle 3\n1 3 row 1\n3 2 row 3\n2 1 row 9\nend\n".as_slice(),
+                b"invalid join 3\n".as_slice(),
+            ),
+            (
+                b"cycle 3\n1 3 row 1\n3 2 row 3\n2 1 row 2\nend\n\n".as_slice(),
+                b"invalid text\n".as_slice(),
+            ),
+        ];
+        for (rest, line) in cases {
+            let mut verdict = b"pq-verdict 1\nkind matrix\ncolumns 3\nanswer no\nside 1\n".to_vec(
+                rt.alloc(),
+            )?;
+            verdict.extend_from_slice(rest)?;
+            judged(&rt, rt.alloc(), matrix, &verdict, line)?;
+        }
+        Ok(())
+    }
+
+    #[test]
+    fn a_verdict_of_yes_is_judged(rt: HostRuntime) -> Result<(), Fail> {
+        let matrix = b"110\n011\n";
+        let cases = [
+            (
+                b"matrix\ncolumns 3\nanswer yes\ntree [1 2 3]\norder 1 2 3\nend\n".as_slice(),
+                b"valid\n".as_slice(),
+            ),
+            (
+                b"matrix\ncolumns 3\nanswer yes\ntree [1 2 3]\norder 1 3 2\nend\n".as_slice(),
+                b"invalid order 1\n".as_slice(),
+            ),
+            (
+                b"matrix\ncolumns 3\nanswer yes\ntree (1 2 3)\norder 1 2 3\nend\n".as_slice(),
+                b"invalid tree 1 1\n".as_slice(),
+            ),
+            (
+                b"rows\ncolumns 3\nanswer yes\ntree [1 2 3]\norder 1 2 3\nend\n".as_slice(),
+                b"invalid kind\n".as_slice(),
+            ),
+            (
+                b"matrix\ncolumns 3\nanswer yes\ntree [1 2 2]\norder 1 2 3\nend\n".as_slice(),
+                b"invalid text\n".as_slice(),
+            ),
+        ];
+        for (rest, line) in cases {
+            let mut verdict = b"pq-verdict 1\nkind ".to_vec(rt.alloc())?;
+            verdict.extend_from_slice(rest)?;
+            judged(&rt, rt.alloc(), matrix, &verdict, line)?;
+        }
+        Ok(())
+    }
+
+    #[test]
+    fn a_verdict_past_the_limit_of_bytes(rt: HostRuntime) -> Result<(), Fail> {
+        let mut verdict = vec![in rt.alloc(); b'x'; 33_554_432]?;
+        judged(&rt, rt.alloc(), b"1\n", &verdict, b"invalid text\n")?;
+        verdict.push(b'x')?;
+        judged(&rt, rt.alloc(), b"1\n", &verdict, b"invalid too-long\n")
+    }
+
+    #[test]
     fn a_file_that_is_no_matrix(rt: HostRuntime) -> Result<(), Fail> {
         let cases = [
             refused(b"110\n01\n", b"pq: refused 1 code 3 line 2\n"),
@@ -188,6 +308,8 @@ mod tests {
             outside(&["solve", "matrix"]),
             outside(&["solve", "matrix", "matrix", "matrix"]),
             outside(&["solve", "matrices", "matrix"]),
+            outside(&["check", "matrix", "matrix"]),
+            outside(&["check", "matrix", "-", "-"]),
         ];
         passes(&rt, rt.alloc(), &cases)
     }

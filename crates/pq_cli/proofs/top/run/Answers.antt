@@ -8,6 +8,6 @@ pub returns-in-Err-clause-line : goal.returns-in-Err-clause-line
 returns-in-Err-clause-line g c = λ above. (
   stop_line c.in-Err.stop,
   line_of_stop (command_of (texts c.args.words.now)) (command_seen c.in-Some.task) (g.F.Shelf.content c.args.files.now) c.in-Err.stop c.status.result
-      c.in-Some.ensures c.status.ensures c.in-Err.ensures.refused,
+      c.in-Some.ensures.task c.status.ensures c.in-Err.ensures.refused,
   c.report.ensures.told,
 )
