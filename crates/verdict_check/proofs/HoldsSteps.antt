@@ -1,6 +1,7 @@
 -- What a row has of the children of a node, one child more at a time.
 use Rattle.std.proofs.Common.{◌≡◌, ◌∙◌, ℕ, suc, ◌+◌, ◌<◌, ◌≤◌, Bool, true, false, not, ◌||◌, ◌&&◌, leb, ltb, List, map, drop, length, get_or, IsTrue, refl, sym, ap, subst, inl, inr, arith, drop-cons, add-one}
-use Rattle.std.proofs.lemmas.Bool.{cases_Bool, cases_lt, or_left, lt-ltb, le-ltb, le-leb, lt-leb}
+use Rattle.std.proofs.lemmas.Bool.{cases_Bool, or_left, lt-ltb}
+use Rattle.std.proofs.Math.Bool.{or-false, or_assoc}
 use Rattle.std.proofs.Math.ListN.{drop_of_length-le}
 use Rattle.std.specs.declared.vec.Vec.{Vec}
 use Rattle.std.specs.declared.alloc.Global.{Global}
@@ -16,14 +17,6 @@ use Rattle.verdict_check.specs.declared.holds.Line.TheVariants.{Before, Ended}
 use Rattle.verdict_check.specs.declared.holds.Share.{Share}
 use Rattle.verdict_check.proofs.HoldsLists.{meets-append, misses-append}
 use Rattle.verdict_check.proofs.HoldsSplit.{split_leaf, split_p, split_q, split_and, split_none, meeting_head, meeting_tail}
-
-or_false : (b : Bool) → (b || false) ≡ b
-or_false true = refl
-or_false false = refl
-
-or_assoc : (a b c : Bool) → (a || (b || c)) ≡ ((a || b) || c)
-or_assoc true b c = refl
-or_assoc false b c = refl
 
 ended : (row : List ℕ) (line : Line) (t : Outline) (ts : Forest) → line ≡ Ended → gapped_behind row line (tree_and t ts) ≡ (meets row (leaves t) || meets row (leaves_of ts))
 ended row line t ts e = ap (λ l. gapped_behind row l (tree_and t ts)) e ∙ meets-append row (leaves t) (leaves_of ts)
@@ -47,10 +40,10 @@ sum_more row all rest t c s n line one none gap h k =
       meeting_is = omega (arith, k.meeting_is, more);
       misses_is =
           k.misses_is ∙ ap (λ b. c.misses || b) (misses-append row (leaves t) (leaves_of rest) ∙ ap (λ b. b || misses row (leaves_of rest)) (sym h.misses_is)) ∙
-          or_assoc c.misses s.misses (misses row (leaves_of rest));
+          sym (or_assoc c.misses s.misses (misses row (leaves_of rest)));
       split_is =
           k.split_is ∙ ap (λ b. c.split || b) (split_and row t rest ∙ ap (λ b. b || are_split row rest) (sym h.split_is)) ∙
-          or_assoc c.split s.split (are_split row rest);
+          sym (or_assoc c.split s.split (are_split row rest));
       gapped_is = k.gapped_is ∙ gap;
     }
 
@@ -66,9 +59,6 @@ meets_count row (tree_and t ts) =
           sym (meets-append row (leaves t) (leaves_of ts) ∙ ap (λ b. b || meets row (leaves_of ts)) k)
     ]
 
-two_or_more : (n : ℕ) → ltb 1 n ≡ leb 2 n
-two_or_more n = elim (cases_lt 1 n) [ inl l ↦ lt-ltb 1 n l ∙ sym (le-leb 2 n (omega arith)) | inr l ↦ le-ltb 1 n l ∙ sym (lt-leb 2 n (omega arith)) ]
-
 module _ (row : List ℕ) (ts : Forest) (c : Children) (h : IsSum row ts no_tree c) where
   count_is : c.meeting ≡ meeting row ts
   count_is = omega (arith, h.meeting_is)
@@ -77,10 +67,10 @@ module _ (row : List ℕ) (ts : Forest) (c : Children) (h : IsSum row ts no_tree
   meets_is = ap (ltb 0) count_is ∙ meets_count row ts
 
   misses_is : c.misses ≡ misses row (leaves_of ts)
-  misses_is = sym (h.misses_is ∙ or_false c.misses)
+  misses_is = sym (h.misses_is ∙ or-false c.misses)
 
   splits_are : c.split ≡ are_split row ts
-  splits_are = sym (h.split_is ∙ ap (λ b. c.split || b) (split_none row) ∙ or_false c.split)
+  splits_are = sym (h.split_is ∙ ap (λ b. c.split || b) (split_none row) ∙ or-false c.split)
 
   pub share_p : IsShare row (p_node ts) (record { meets = ltb 0 c.meeting; misses = c.misses; split = c.split || (ltb 1 c.meeting && c.misses) })
   share_p =
@@ -89,7 +79,7 @@ module _ (row : List ℕ) (ts : Forest) (c : Children) (h : IsSum row ts no_tree
         misses_is = misses_is;
         split_is =
             ap (λ b. b || (ltb 1 c.meeting && c.misses)) splits_are ∙
-            ap (λ b. are_split row ts || (b && c.misses)) (ap (ltb 1) count_is ∙ two_or_more (meeting row ts)) ∙
+            ap (λ b. are_split row ts || (b && c.misses)) (ap (ltb 1) count_is) ∙
             ap (λ b. are_split row ts || (leb 2 (meeting row ts) && b)) misses_is ∙
             sym (split_p row ts);
       }
@@ -106,8 +96,8 @@ module _ (row : List ℕ) (ts : Forest) (c : Children) (h : IsSum row ts no_tree
 pub share_leaf : (row : List ℕ) (a : ℕ) (found : Bool) → found ≡ has row a → IsShare row (leaf a) (record { meets = found; misses = not found; split = false })
 share_leaf row a found e =
     record {
-      meets_is = e ∙ sym (or_false (has row a));
-      misses_is = ap not e ∙ sym (or_false (not (has row a)));
+      meets_is = e ∙ sym (or-false (has row a));
+      misses_is = ap not e ∙ sym (or-false (not (has row a)));
       split_is = sym (split_leaf row a);
     }
 

@@ -60,14 +60,14 @@ pub record IsShare (row : List ℕ) (t : Outline) (s : Share) : Type 0 where
   pub misses_is : s.misses ≡ misses row (leaves t)
   pub split_is : s.split ≡ is_split row t
 
--- whether trees are gapped of which the first ones stand as the line says and these are left
+-- whether trees are gapped, where the first ones stand as the line says and these are the rest
 abbrev pub gapped_behind : List ℕ → Line → Forest → Bool
 gapped_behind row Before ts = is_gapped row ts
 gapped_behind row Whole ts = resumes row ts
 gapped_behind row Ended ts = meets row (leaves_of ts)
 gapped_behind row Gapped ts = true
 
--- the sum says what the row has of the first of the trees, those in front of the ones that are left
+-- what the row has of all the trees follows from the sum, which speaks of the first ones, and from the rest of the trees
 pub record IsSum (row : List ℕ) (all rest : Forest) (s : Children) : Type 0 where
   pub meeting_is : meeting row all ≡ s.meeting + meeting row rest
   pub misses_is : misses row (leaves_of all) ≡ (s.misses || misses row (leaves_of rest))
