@@ -1,20 +1,21 @@
 -- All tests of a verdict.
-use Rattle.std.proofs.Common.{◌≡◌, ℕ, ◌-◌, ◌≤◌, List, [], ◌∷◌, length, map, Option, Some, None, Result, Ok, Err, slice_get, refl, sym, subst, arith, append-nil, ◌∙◌}
+use Rattle.std.proofs.Common.{◌≡◌, ℕ, ◌-◌, ◌≤◌, List, [], ◌∷◌, length, map, Option, Some, None, Result, Ok, Err, slice_get, refl, sym, ap, subst, arith, append-nil, ◌++◌}
 use Rattle.std.specs.Prelude.{IfOk, IsSomeAnd, flat_map}
 use Rattle.std.specs.List.{AllByRecursion}
 use Rattle.row_model.specs.declared.kind.Kind.{Kind}
+use Rattle.row_model.specs.declared.kind.Kind.TheVariants.{Matrix, Rows, Table, Circular, Convex, Doubly, Proper, Robinson, Clones}
 use Rattle.row_model.specs.Rows.{RowList}
 use Rattle.pq_tree.specs.Proper.{IsProper}
 use Rattle.verdict_text.specs.Grammar.{AreSides}
 use Rattle.verdict_text.specs.Verdict.{SideValue, YesValue, Claim, yes_claim, no_claim, VerdictValue}
 use Rattle.verdict_check.specs.Instance.{InstanceValue, plain, instance_kind, instance_columns, derived_matrix}
-use Rattle.verdict_check.specs.Tests.{numbers, side_tests, added_tests, yes_tests, no_tests, claim_tests, tests}
+use Rattle.verdict_check.specs.Tests.{numbers, side_tests, kind_tests, added_tests, yes_tests, no_tests, claim_tests, tests}
 use Rattle.verdict_check.specs.YesTests.{HasSide, PassesYes}
 use Rattle.verdict_check.specs.Accepted.{PassesClaim, Passes, IsAccepted}
-use Rattle.verdict_check.specs.Found.{Finds, PassesSide}
+use Rattle.verdict_check.specs.Found.{Finds, PassesSide, PassesAdded}
 use Rattle.verdict_check.specs.declared.outcome.Reason.{Reason}
 use Rattle.verdict_check.specs.declared.outcome.Reason.TheVariants as reason
-use Rattle.verdict_check.proofs.First.{finds_here, finds_next, finds_same, all_each, all_after, all_apply, all_over}
+use Rattle.verdict_check.proofs.First.{finds_here, finds_next, finds_after, finds_part, finds_same, all_each, all_after, all_apply, all_over}
 
 -- one side, with its tree
 pub only_side : (c : ℕ) (value : YesValue) → AreSides (c ∷ []) value.sides → (1 ≤ length value.sides) × HasSide value 1 (λ side. IsProper c side.tree)
@@ -24,34 +25,49 @@ only_side c value h = only value.sides h
     only [] h = absurd h
     only (s ∷ sides) h = (omega arith, h.0.0)
 
--- the tests of a yes about a matrix are those of its side
+-- the tests of a side are tests of a yes about a matrix
 to_yes : (kind : Kind) (m : RowList) (value : YesValue) (r : Reason) → PassesSide m value r → PassesYes (plain kind m) value r
 to_yes kind m value (reason.Order s) h = h
 to_yes kind m value (reason.Tree s k) h = h
 to_yes kind m value other h = absurd h
 
-from_yes : (kind : Kind) (m : RowList) (value : YesValue) (r : Reason) → PassesYes (plain kind m) value r → PassesSide m value r
-from_yes kind m value (reason.Order s) h = h
-from_yes kind m value (reason.Tree s k) h = h
-from_yes kind m value other h = absurd h
+from_yes : (kind : Kind) (m : RowList) (value : YesValue) → AllByRecursion (λ r. PassesYes (plain kind m) value r → PassesSide m value r) (side_tests 1 m)
+from_yes kind m value = (λ h. h, all_each (λ r. PassesYes (plain kind m) value r → PassesSide m value r) (reason.Tree 1) (length m.rows) (λ k l u h. h))
 
-every : (P : Reason → Type 0) (xs : List Reason) → ((r : Reason) → P r) → AllByRecursion P xs
-every P [] h = tt
-every P (x ∷ xs) h = (h x, every P xs h)
+-- and so are those of what the kind adds
+to_added : (kind : Kind) (m : RowList) (value : YesValue) (r : Reason) → PassesAdded m value r → PassesYes (plain kind m) value r
+to_added kind m value reason.Places h = h
+to_added kind m value reason.Contigs h = h
+to_added kind m value other h = absurd h
 
-pub only_tests : (kind : Kind) (m : RowList) → yes_tests (plain kind m) ≡ side_tests 1 m
-only_tests kind m = append-nil _ ∙ append-nil _
+from_kind : (kind named : Kind) (m : RowList) (value : YesValue) → AllByRecursion (λ r. PassesYes (plain kind m) value r → PassesAdded m value r) (kind_tests named)
+from_kind kind Clones m value = (λ h. h, (λ h. h, tt))
+from_kind kind named m value = tt
 
-pub plain_yes : (kind : Kind) (m : RowList) (value : YesValue) (o : Option Reason) → Finds (PassesSide m value) (side_tests 1 m) o → Finds (PassesYes (plain kind m) value) (yes_tests (plain kind m)) o
-plain_yes kind m value o f =
-    subst (λ xs. Finds (PassesYes (plain kind m) value) xs o) (sym (only_tests kind m))
-    (finds_same (PassesSide m value) (PassesYes (plain kind m) value) (side_tests 1 m) o (to_yes kind m value)
-    (every (λ r. PassesYes (plain kind m) value r → PassesSide m value r) (side_tests 1 m) (from_yes kind m value)) f)
+pub only_tests : (kind : Kind) (m : RowList) → yes_tests (plain kind m) ≡ side_tests 1 m ++ kind_tests kind
+only_tests kind m = rw (append-nil (side_tests 1 m)) refl
 
-pub yes_found : {E : Type 0} (i : InstanceValue) (m : RowList) (value : YesValue) (r : Result (Option Reason) E) → m ≡ derived_matrix i 1 → IfOk r (Finds (PassesSide m value) (side_tests 1 m)) →
-    IfOk r (Finds (PassesYes i value) (yes_tests i))
-yes_found (plain kind m') m value (Ok o) e h = subst (λ n. Finds (PassesYes (plain kind n) value) (yes_tests (plain kind n)) o) e (plain_yes kind m value o h)
-yes_found i m value (Err e) is h = tt
+module _ (kind : Kind) (m : RowList) (value : YesValue) where
+  abbrev P : Reason → Type 0
+  P = PassesYes (plain kind m) value
+
+  side_found : (o : Option Reason) → Finds (PassesSide m value) (side_tests 1 m) o → Finds P (side_tests 1 m) o
+  side_found o f = finds_same (PassesSide m value) P (side_tests 1 m) o (to_yes kind m value) (from_yes kind m value) f
+
+  added_found : (o : Option Reason) → Finds (PassesAdded m value) (kind_tests kind) o → Finds P (kind_tests kind) o
+  added_found o f = finds_same (PassesAdded m value) P (kind_tests kind) o (to_added kind m value) (from_kind kind kind m value) f
+
+  -- a test of the side fails
+  pub side_fails : (r : Reason) → Finds (PassesSide m value) (side_tests 1 m) (Some r) → Finds P (yes_tests (plain kind m)) (Some r)
+  side_fails r f = subst (λ xs. Finds P xs (Some r)) (sym (only_tests kind m)) (finds_part P (side_tests 1 m) (kind_tests kind) r (side_found (Some r) f))
+
+  -- each test of the side is passed
+  pub added_last : (o : Option Reason) → Finds (PassesSide m value) (side_tests 1 m) None → Finds (PassesAdded m value) (kind_tests kind) o → Finds P (yes_tests (plain kind m)) o
+  added_last o f g = subst (λ xs. Finds P xs o) (sym (only_tests kind m)) (finds_after P (side_tests 1 m) (kind_tests kind) o (side_found None f) (added_found o g))
+
+  pub added_last_ok : {E : Type 0} (r : Result (Option Reason) E) → Finds (PassesSide m value) (side_tests 1 m) None → IfOk r (Finds (PassesAdded m value) (kind_tests kind)) → IfOk r (Finds P (yes_tests (plain kind m)))
+  added_last_ok (Ok o) f g = added_last o f g
+  added_last_ok (Err e) f g = tt
 
 module _ (i : InstanceValue) (v : VerdictValue) where
   pub kind_fails : (v.kind ≡ instance_kind i → ⊥) → Finds (Passes i v) (tests i v) (Some reason.Kind)
@@ -72,6 +88,7 @@ from_side : (i : InstanceValue) (v : VerdictValue) (s : ℕ) (m : RowList) → A
 from_side i v s m = (λ h. h, all_each (λ r. Passes i v r → PassesClaim i v.claim r) (reason.Tree s) (length m.rows) (λ k l u h. h))
 
 from_added : (i : InstanceValue) (v : VerdictValue) → AllByRecursion (λ r. Passes i v r → PassesClaim i v.claim r) (added_tests i)
+from_added (plain Clones m) v = (λ h. h, (λ h. h, tt))
 from_added (plain kind m) v = tt
 
 from_no : (i : InstanceValue) (v : VerdictValue) (n : ℕ) → AllByRecursion (λ r. Passes i v r → PassesClaim i v.claim r) (no_tests n)

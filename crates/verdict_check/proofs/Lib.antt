@@ -10,6 +10,7 @@ pub mod First
 pub mod Lines
 pub mod CycleTests
 pub mod SideTests
+pub mod ClonesTests
 pub mod JudgeTests
 pub mod Closed
 pub mod True

@@ -5,6 +5,9 @@ use Rattle.std.specs.List.{AllByRecursion}
 use Rattle.std.proofs.lemmas.List.{get_or_default}
 use Rattle.column_order.specs.Orders.{IsOrder, Keeps, IsValidOrder, HasValidOrder}
 use Rattle.row_model.specs.declared.kind.Kind.{Kind}
+use Rattle.row_model.specs.declared.kind.Kind.TheVariants.{Matrix, Rows, Table, Circular, Convex, Doubly, Proper, Robinson, Clones}
+use Rattle.clone_map.specs.Places.{ArePlaces}
+use Rattle.clone_map.specs.Contigs.{AreContigs}
 use Rattle.row_model.specs.declared.graph.Line.{Line}
 use Rattle.row_model.specs.Graph.{row_at}
 use Rattle.row_model.specs.Rows.{RowList}
@@ -17,11 +20,11 @@ use Rattle.pq_tree.proofs.Frontiers.{frontier_occurs}
 use Rattle.verdict_text.specs.Grammar.{AreSides, IsClaim}
 use Rattle.verdict_text.specs.Verdict.{SideValue, YesValue, Claim, yes_claim, no_claim}
 use Rattle.verdict_check.specs.Instance.{plain, derived_matrix}
-use Rattle.verdict_check.specs.Tests.{numbers, side_tests, no_tests, claim_tests}
+use Rattle.verdict_check.specs.Tests.{numbers, side_tests, kind_tests, no_tests, claim_tests}
 use Rattle.verdict_check.specs.YesTests.{HasSide, AllKeep, PassesYes}
 use Rattle.verdict_check.specs.NoTests.{PassesNo}
 use Rattle.verdict_check.specs.Accepted.{PassesClaim}
-use Rattle.verdict_check.specs.Truth.{IsTrueSide, IsTrueClaim}
+use Rattle.verdict_check.specs.Truth.{IsTrueSide, IsTrueAddedTo, IsTrueAdded, IsTrueClaim}
 use Rattle.verdict_check.specs.Laws.{TrueLaw, YesLaw, NoLaw, IsSolvedSide}
 use Rattle.verdict_check.specs.declared.outcome.Reason.{Reason}
 use Rattle.verdict_check.specs.declared.outcome.Reason.TheVariants as reason
@@ -55,6 +58,29 @@ true_side kind m value (side ∷ sides) e g h s one =
     subst (λ o. IsSomeAnd o (IsTrueSide (plain kind m) s)) (sym there)
     (order, λ o f. record { order = frontier_order m.columns side.tree o g.0.0 f; kept = all_rows o m.rows (λ k l u. rows k l u o f) })
 
+-- what holds of one value by itself, and what else holds of it
+some_both : {A : Type 0} (o : Option A) (P Q : A → Type 0) → IsSomeAnd o P → IsSomeAnd o Q → IsSomeAnd o (λ x. P x × Q x)
+some_both None P Q h k = h
+some_both (Some x) P Q h k = (h, k)
+
+some_mono : {A : Type 0} (o : Option A) (P Q : A → Type 0) → ((x : A) → P x → Q x) → IsSomeAnd o P → IsSomeAnd o Q
+some_mono None P Q m h = h
+some_mono (Some x) P Q m h = m x h
+
+-- what the kind adds, where it passes its tests
+true_added : (kind : Kind) (m : RowList) (value : YesValue) → AllByRecursion (PassesYes (plain kind m) value) (kind_tests kind) → IsSomeAnd (slice_get value.sides 0) (λ _. Unit {0}) →
+    IsTrueAdded (plain kind m) value
+true_added Clones m value h e =
+    some_both (slice_get value.sides 0) (λ (x : SideValue). ArePlaces x.order m.rows value.added.places) (λ (x : SideValue). AreContigs m.rows x.order value.added.contigs) h.0 h.1.0
+true_added kind m value h e = e
+
+solved_added : (kind : Kind) (m : RowList) (value : YesValue) → IsTrueAdded (plain kind m) value → AllByRecursion (PassesYes (plain kind m) value) (kind_tests kind)
+solved_added Clones m value h = (
+  some_mono (slice_get value.sides 0) (IsTrueAddedTo Clones m.rows value) (λ (x : SideValue). ArePlaces x.order m.rows value.added.places) (λ x k. k.0) h,
+  (some_mono (slice_get value.sides 0) (IsTrueAddedTo Clones m.rows value) (λ (x : SideValue). AreContigs m.rows x.order value.added.contigs) (λ x k. k.1) h, tt),
+)
+solved_added kind m value h = tt
+
 -- a cycle that passes its tests leaves no valid order
 true_no : (m : RowList) (lines : List Line) → AllByRecursion (PassesNo m lines) (no_tests (length lines)) → HasValidOrder m.columns m.rows → ⊥
 true_no m lines h =
@@ -67,17 +93,19 @@ true_no m lines h =
 
 true_claim : (kind : Kind) (m : RowList) (named : Kind) (claim : Claim) → IsClaim named (m.columns ∷ []) claim → AllByRecursion (PassesClaim (plain kind m) claim) (claim_tests (plain kind m) claim) →
     IsTrueClaim (plain kind m) claim
-true_claim kind m named (yes_claim value) g h = λ s l.
-    true_side kind m value value.sides refl g.0 (subst (AllByRecursion (PassesYes (plain kind m) value)) (only_tests kind m) h) s (omega arith)
+true_claim kind m named (yes_claim value) g h =
+    let P = PassesYes (plain kind m) value in
+    let parts = all_parts P (side_tests 1 m) (kind_tests kind) (subst (AllByRecursion P) (only_tests kind m) h) in
+    let there = true_side kind m value value.sides refl g.0 parts.0 1 refl in
+    record {
+      sides = λ s l. true_side kind m value value.sides refl g.0 parts.0 s (omega arith);
+      added = true_added kind m value parts.1 (some_mono (slice_get value.sides 0) (IsTrueSide (plain kind m) 1) (λ _. Unit {0}) (λ x h. tt) there);
+    }
 true_claim kind m named (no_claim side lines) g h = λ o. true_no m lines h (o 1 (omega arith, omega arith))
 
 pub true_law : TrueLaw
 true_law (plain kind m) v g h =
     true_claim kind m v.kind v.claim (subst (λ columns. IsClaim v.kind columns v.claim) h.1.0 g.claim) (accepted_claim (plain kind m) v h)
-
-some_mono : {A : Type 0} (o : Option A) (P Q : A → Type 0) → ((x : A) → P x → Q x) → IsSomeAnd o P → IsSomeAnd o Q
-some_mono None P Q m h = h
-some_mono (Some x) P Q m h = m x h
 
 -- a side that a solver found passes its tests
 solved_side : (kind : Kind) (m : RowList) (value : YesValue) → HasSide value 1 (IsSolvedSide (plain kind m) 1) → AllByRecursion (PassesYes (plain kind m) value) (side_tests 1 m)
@@ -89,9 +117,10 @@ solved_side kind m value h =
     )
 
 pub yes_law : YesLaw
-yes_law (plain kind m) v value tested k c e h =
+yes_law (plain kind m) v value k c e h added =
+    let P = PassesYes (plain kind m) value in
     claim_accepted (plain kind m) v (yes_claim value) k c e
-    (subst (AllByRecursion (PassesYes (plain kind m) value)) (sym (only_tests kind m)) (solved_side kind m value (h 1 (omega arith, omega arith))))
+    (subst (AllByRecursion P) (sym (only_tests kind m)) (all_after P (side_tests 1 m) (kind_tests kind) (solved_side kind m value (h 1 (omega arith, omega arith))) (solved_added kind m value added)))
 
 -- a cycle passes its tests
 solved_no : (m : RowList) (lines : List Line) → IsOddCycle m.columns m.rows lines → AllByRecursion (PassesNo m lines) (no_tests (length lines))

@@ -6,6 +6,8 @@ use Rattle.row_model.specs.Rows.{RowList}
 use Rattle.row_model.specs.Graph.{row_at}
 use Rattle.column_order.specs.Orders.{IsValidOrder}
 use Rattle.verdict_text.specs.Verdict.{YesValue}
+use Rattle.clone_map.specs.Places.{ArePlaces}
+use Rattle.clone_map.specs.Contigs.{AreContigs}
 use Rattle.verdict_check.specs.YesTests.{HasSide, AllKeep}
 use Rattle.verdict_check.specs.Accepted.{IsFirstFailing}
 use Rattle.verdict_check.specs.declared.outcome.Reason.{Reason}
@@ -26,6 +28,12 @@ abbrev pub PassesSide : RowList → YesValue → Reason → Type 0
 PassesSide m value (reason.Order s) = HasSide value s (λ side. IsValidOrder m.columns m.rows side.order)
 PassesSide m value (reason.Tree s k) = HasSide value s (λ side. AllKeep side.tree (row_at m.rows k))
 PassesSide m value other = ⊥
+
+-- the tests of what a kind adds to a yes about a matrix, whose only side has a valid order
+abbrev pub PassesAdded : RowList → YesValue → Reason → Type 0
+PassesAdded m value reason.Places = HasSide value 1 (λ side. ArePlaces side.order m.rows value.added.places)
+PassesAdded m value reason.Contigs = HasSide value 1 (λ side. AreContigs m.rows side.order value.added.contigs)
+PassesAdded m value other = ⊥
 
 -- the place of a pair in a table of all pairs of 1 to c, row by row
 abbrev pub pair_place : ℕ → Pair → ℕ

@@ -42,13 +42,6 @@ IsPlainKind Table = Unit {0}
 IsPlainKind Clones = Unit {0}
 IsPlainKind kind = ⊥
 
--- the kinds whose verdicts say no more than the tests here ask: a verdict on clones has places and contigs as well
-abbrev pub IsTestedKind : Kind → Type 0
-IsTestedKind Matrix = Unit {0}
-IsTestedKind Rows = Unit {0}
-IsTestedKind Table = Unit {0}
-IsTestedKind kind = ⊥
-
 -- an instance of a kind of its form, within the limits
 abbrev pub IsInstance : InstanceValue → Type 0
 IsInstance (plain kind matrix) = IsPlainKind kind × (matrix.columns ≤ MAX_COLUMNS) × (length matrix.rows ≤ MAX_ROWS)

@@ -6,10 +6,10 @@ use Rattle.row_model.specs.Cycles.{IsOddCycle}
 use Rattle.pq_tree.specs.Outline.{IsFrontier}
 use Rattle.verdict_text.specs.Grammar.{IsVerdict}
 use Rattle.verdict_text.specs.Verdict.{SideValue, YesValue, yes_claim, no_claim, VerdictValue}
-use Rattle.verdict_check.specs.Instance.{InstanceValue, instance_kind, instance_columns, IsSideOf, IsTextbookOrder, derived_matrix, IsTestedKind}
+use Rattle.verdict_check.specs.Instance.{InstanceValue, instance_kind, instance_columns, IsSideOf, IsTextbookOrder, derived_matrix}
 use Rattle.verdict_check.specs.YesTests.{HasSide}
 use Rattle.verdict_check.specs.Accepted.{IsAccepted}
-use Rattle.verdict_check.specs.Truth.{IsTrueVerdict}
+use Rattle.verdict_check.specs.Truth.{IsTrueAdded, IsTrueVerdict}
 
 -- a verdict that is accepted is true
 abbrev pub TrueLaw : Type 0
@@ -19,15 +19,15 @@ TrueLaw = (i : InstanceValue) (v : VerdictValue) → IsVerdict v → IsAccepted 
 abbrev pub IsSolvedSide : InstanceValue → ℕ → SideValue → Type 0
 IsSolvedSide i s side = IsTextbookOrder i s side.order × ((o : List ℕ) → IsFrontier side.tree o → All (Keeps o) (derived_matrix i s).rows)
 
--- a yes with such sides is accepted
+-- a yes with such sides, of which what the kind adds is true, is accepted
 abbrev pub YesLaw : Type 0
 YesLaw =
     (i : InstanceValue) (v : VerdictValue) (value : YesValue) →
-    IsTestedKind (instance_kind i) →
     v.kind ≡ instance_kind i →
     v.columns ≡ instance_columns i →
     v.claim ≡ yes_claim value →
     ((s : ℕ) → IsSideOf i s → HasSide value s (IsSolvedSide i s)) →
+    IsTrueAdded i value →
     IsAccepted i v
 
 -- a no with an odd cycle of its side's derived matrix is accepted

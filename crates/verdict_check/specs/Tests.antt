@@ -1,6 +1,8 @@
 -- The tests of a verdict on an instance, in their order. A test is named by the reason that is given where it fails.
 use Rattle.std.specs.Prelude.{ℕ, zero, suc, List, [], ◌∷◌, ◌++◌, length, map, flat_map}
 use Rattle.row_model.specs.Rows.{RowList}
+use Rattle.row_model.specs.declared.kind.Kind.{Kind}
+use Rattle.row_model.specs.declared.kind.Kind.TheVariants.{Clones}
 use Rattle.verdict_text.specs.Verdict.{Claim, yes_claim, no_claim, VerdictValue}
 use Rattle.verdict_check.specs.Instance.{InstanceValue, plain, instance_columns, derived_matrix}
 use Rattle.verdict_check.specs.declared.outcome.Reason.{Reason}
@@ -15,9 +17,14 @@ numbers (suc n) = numbers n ++ suc n ∷ []
 abbrev pub side_tests : ℕ → RowList → List Reason
 side_tests s m = reason.Order s ∷ map (reason.Tree s) (numbers (length m.rows))
 
--- what a kind adds to a yes: to that of a matrix nothing
+-- of what a kind of matrix adds to a yes: clones add their places and their contigs, and no other kind anything
+abbrev pub kind_tests : Kind → List Reason
+kind_tests Clones = reason.Places ∷ reason.Contigs ∷ []
+kind_tests kind = []
+
+-- of what the kind adds to a yes
 abbrev pub added_tests : InstanceValue → List Reason
-added_tests (plain kind matrix) = []
+added_tests (plain kind matrix) = kind_tests kind
 
 -- of a yes: side after side, and then what the kind adds
 abbrev pub yes_tests : InstanceValue → List Reason

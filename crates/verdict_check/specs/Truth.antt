@@ -2,15 +2,29 @@
 use Rattle.std.specs.Prelude.{ℕ, ◌-◌, List, slice_get, IsSomeAnd}
 use Rattle.pq_tree.specs.Outline.{IsFrontier}
 use Rattle.verdict_text.specs.Verdict.{SideValue, YesValue, Claim, yes_claim, no_claim, VerdictValue}
-use Rattle.verdict_check.specs.Instance.{InstanceValue, IsSideOf, IsTextbookOrder, HasTextbookOrder}
+use Rattle.row_model.specs.declared.kind.Kind.{Kind}
+use Rattle.row_model.specs.declared.kind.Kind.TheVariants.{Clones}
+use Rattle.clone_map.specs.Places.{ArePlaces}
+use Rattle.clone_map.specs.Contigs.{AreContigs}
+use Rattle.verdict_check.specs.Instance.{InstanceValue, plain, IsSideOf, IsTextbookOrder, HasTextbookOrder}
 
 -- the order is a textbook order of the side, and so is each frontier of the tree
 abbrev pub IsTrueSide : InstanceValue → ℕ → SideValue → Type 0
 IsTrueSide i s side = IsTextbookOrder i s side.order × ((o : List ℕ) → IsFrontier side.tree o → IsTextbookOrder i s o)
 
--- so for each side of the instance
-abbrev pub IsTrueYes : InstanceValue → YesValue → Type 0
-IsTrueYes i value = (s : ℕ) → IsSideOf i s → IsSomeAnd (slice_get value.sides (s - 1)) (IsTrueSide i s)
+-- what clones add is where they stand, and what they make up, in the order; no other kind of matrix adds anything
+abbrev pub IsTrueAddedTo : Kind → List (List ℕ) → YesValue → SideValue → Type 0
+IsTrueAddedTo Clones rows value side = ArePlaces side.order rows value.added.places × AreContigs rows side.order value.added.contigs
+IsTrueAddedTo kind rows value side = Unit {0}
+
+-- what the kind adds is true of the order
+abbrev pub IsTrueAdded : InstanceValue → YesValue → Type 0
+IsTrueAdded (plain kind matrix) value = IsSomeAnd (slice_get value.sides 0) (IsTrueAddedTo kind matrix.rows value)
+
+-- each side of the instance is true, and so is what the kind adds
+pub record IsTrueYes (i : InstanceValue) (value : YesValue) : Type 0 where
+  pub sides : (s : ℕ) → IsSideOf i s → IsSomeAnd (slice_get value.sides (s - 1)) (IsTrueSide i s)
+  pub added : IsTrueAdded i value
 
 -- a yes is true by its sides, and a no where some side has no textbook order
 abbrev pub IsTrueClaim : InstanceValue → Claim → Type 0

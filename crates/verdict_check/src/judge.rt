@@ -10,6 +10,7 @@ ghost use Rattle.verdict_check.specs.NoTests.{PassesNo};
 ghost use Rattle.verdict_check.specs.Accepted.{Passes};
 ghost use Rattle.verdict_check.specs.Found.{Finds};
 
+use crate::clones::added_fault;
 use crate::cycle::cycle_fault;
 use crate::instance::Instance;
 use crate::outcome::Reason;
@@ -64,7 +65,10 @@ fn yes_fault(alloc: Global, instance: &Instance, yes: &YesPart) -> Result<Option
     ensures { IfOk result (Finds (PassesYes (instance_value instance.now) (yes_value yes.now)) (yes_tests (instance_value instance.now))) }
 {
     match instance {
-        Instance::Plain(_, matrix) => side_fault(alloc, 1, matrix, yes),
+        Instance::Plain(kind, matrix) => match side_fault(alloc, 1, matrix, yes)? {
+            Some(reason) => Ok(Some(reason)),
+            None => added_fault(alloc, *kind, matrix, yes),
+        },
     }
 }
 

@@ -26,13 +26,14 @@
 ghost use Rattle.std.specs.Prelude.{◌≡◌, ◌↔◌, IfOk};
 ghost use Rattle.verdict_text.specs.Grammar.{IsVerdict};
 ghost use Rattle.verdict_text.specs.Value.{verdict_value};
-ghost use Rattle.verdict_check.specs.Instance.{instance_kind, IsInstance, IsTestedKind};
+ghost use Rattle.verdict_check.specs.Instance.{IsInstance};
 ghost use Rattle.verdict_check.specs.Value.{instance_value};
 ghost use Rattle.verdict_check.specs.Accepted.{IsAccepted, FailsFirst};
 ghost use Rattle.verdict_check.specs.Laws.{TrueLaw, YesLaw, NoLaw};
 ghost use Rattle.verdict_check.specs.declared.outcome.Reason.{Reason};
 ghost use Rattle.verdict_check.specs.declared.outcome.Checked.TheVariants.{Valid, Invalid};
 
+mod clones;
 mod cycle;
 mod holds;
 mod instance;
@@ -52,10 +53,9 @@ use verdict_text::Verdict;
 
 /// Judges a verdict: valid exactly where it passes each test, else invalid with the first that fails.
 ///
-/// The instance is of one of the kinds `Matrix`, `Rows` and `Table`: a verdict on clones has places and contigs as well.
+/// The instance is within the limits of files, and the verdict within the grammar.
 pub fn check(alloc: Global, instance: &Instance, v: &Verdict) -> Result<Checked, NoMemory>
     requires instance { IsInstance (instance_value instance.now) }
-    requires kind { IsTestedKind (instance_kind (instance_value instance.now)) }
     requires verdict { IsVerdict (verdict_value v.now) }
     ensures valid { IfOk result (λ checked. (checked ≡ Valid) ↔ IsAccepted (instance_value instance.now) (verdict_value v.now)) }
     ensures invalid { IfOk result (λ checked. (r : Reason) → (checked ≡ Invalid r) ↔ FailsFirst (instance_value instance.now) (verdict_value v.now) r) }

@@ -1,6 +1,6 @@
 // Verdicts on small matrices, and what is said of them.
 ghost use Rattle.std.specs.Prelude.{IfOk};
-ghost use Rattle.verdict_check.specs.Instance.{instance_kind, IsInstance, IsTestedKind};
+ghost use Rattle.verdict_check.specs.Instance.{IsInstance};
 ghost use Rattle.verdict_check.specs.Value.{instance_value};
 
 use crate::{Checked, Instance, Reason, check};
@@ -33,8 +33,7 @@ const NO_ROW: &[u8] =
 
 // The rows {1,2} and {2,3}.
 fn path(alloc: Global) -> Result<Instance, Fail>
-    ensures instance { IfOk result (λ i. IsInstance (instance_value i)) }
-    ensures kind { IfOk result (λ i. IsTestedKind (instance_kind (instance_value i))) }
+    ensures { IfOk result (λ i. IsInstance (instance_value i)) }
 {
     let mut m = Matrix::new(alloc, 3)?;
     m.push_row(&[1, 2])?;
@@ -44,8 +43,7 @@ fn path(alloc: Global) -> Result<Instance, Fail>
 
 // The rows {1,2}, {2,3} and {1,3}.
 fn triangle(alloc: Global) -> Result<Instance, Fail>
-    ensures instance { IfOk result (λ i. IsInstance (instance_value i)) }
-    ensures kind { IfOk result (λ i. IsTestedKind (instance_kind (instance_value i))) }
+    ensures { IfOk result (λ i. IsInstance (instance_value i)) }
 {
     let mut m = Matrix::new(alloc, 3)?;
     m.push_row(&[1, 2])?;
@@ -55,8 +53,7 @@ fn triangle(alloc: Global) -> Result<Instance, Fail>
 }
 
 fn judged(alloc: Global, instance: &Instance, text: &[u8]) -> Result<Checked, Fail>
-    requires instance { IsInstance (instance_value instance.now) }
-    requires kind { IsTestedKind (instance_kind (instance_value instance.now)) }
+    requires { IsInstance (instance_value instance.now) }
 {
     let v = parse(alloc, text)?.ok_or("a verdict")?;
     let checked = check(alloc, instance, &v)?;

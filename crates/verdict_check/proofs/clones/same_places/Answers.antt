@@ -1,0 +1,5 @@
+use Rattle.clone_map.proofs.SameLists.{same_places}
+use Rattle.verdict_check.proofs.clones.same_places.Goals as goal
+
+pub returns : goal.returns
+returns c = same_places c.args.places.now c.args.others.now c.eq.result c.eq.ensures
