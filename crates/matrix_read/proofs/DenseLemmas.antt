@@ -1,46 +1,17 @@
--- Rows that are read line by line.
-use Rattle.std.proofs.Common.{◌≡◌, ℕ, suc, ◌<◌, ◌≤◌, ◌+◌, List, [], ◌∷◌, ◌++◌, length, ap, sym, ◌∙◌, refl, arith, Some, None, append_assoc, length-append, true, false, if◌then◌else◌, ◌==◌, ◌||◌, ◌&&◌, not, Bool, nat_lt, nat_le, eqb-true}
-use Rattle.std.proofs.lemmas.Bool.{lt-ltb, le-ltb}
-use Rattle.std.proofs.lemmas.List.{append-nil}
+-- Rows as lines of digits.
+use Rattle.std.proofs.Common.{◌≡◌, ℕ, suc, ◌<◌, ◌≤◌, ◌+◌, List, [], ◌∷◌, length, ap, sym, ◌∙◌, refl, arith, Some, None, true, false, if◌then◌else◌, ◌==◌, ◌||◌, ◌&&◌, not, Bool, nat_lt, nat_le, eqb-true}
 use Rattle.std.specs.List.{list_any}
-use Rattle.row_model.specs.Rows.{RowList, Ascends, IsRow}
-use Rattle.row_model.specs.declared.refusal.Read.{Read}
+use Rattle.row_model.specs.Rows.{Ascends, IsRow}
 use Rattle.row_model.specs.declared.refusal.Read.TheVariants as read
 use Rattle.row_model.specs.declared.TheConstants.{MAX_COLUMNS, MAX_ROWS, MAX_FILE_BYTES}
 use Rattle.row_model.specs.declared.code.TheConstants.{GRAMMAR, COUNT, LIMIT}
 use Rattle.matrix_read.specs.Lines.{NumberedLine, is_blank, is_blank_byte, filled_lines, lines_of, without_mark}
-use Rattle.matrix_read.specs.Dense.{is_digit, is_foreign, digits_of, width_of, ones_from, row_of, row_code, first_refusal, rows_of, refused_or, read_lines, dense}
-
--- one line less, which is refused or a row
-module _ (width before : ℕ) (line : NumberedLine) (lines : List NumberedLine) where
-  pub first_refusal-here : (code : ℕ) → row_code width before line.text ≡ Some code → first_refusal width before (line ∷ lines) ≡ Some (record { code = code; line = line.number })
-  unfolding first_refusal
-  first_refusal-here code h = rw h refl
-
-  pub first_refusal-later : row_code width before line.text ≡ None → first_refusal width before (line ∷ lines) ≡ first_refusal width (before + 1) lines
-  unfolding first_refusal
-  first_refusal-later h = rw h refl
-
--- the answer, where so many rows stand before the lines
-abbrev pub answer_after : ℕ → List (List ℕ) → List NumberedLine → Read RowList
-answer_after width rows lines = refused_or (first_refusal width (length rows) lines) (record { columns = width; rows = rows ++ rows_of lines })
-
-module _ (width : ℕ) (rows : List (List ℕ)) (line : NumberedLine) (lines rest : List NumberedLine) (is : lines ≡ line ∷ rest) where
-  pub answer_stop : (code : ℕ) → row_code width (length rows) line.text ≡ Some code → answer_after width rows lines ≡ read.Refused (record { code = code; line = line.number })
-  answer_stop code h = rw (is, first_refusal-here width (length rows) line rest code h) refl
-
-  pub answer_step : row_code width (length rows) line.text ≡ None → answer_after width (rows ++ row_of line.text ∷ []) rest ≡ answer_after width rows lines
-  answer_step h =
-      let count : length (rows ++ row_of line.text ∷ []) ≡ length rows + 1 = length-append rows (row_of line.text ∷ []) in
-      rw (is, first_refusal-later width (length rows) line rest h, count, append_assoc rows (row_of line.text ∷ []) (rows_of rest)) refl
-
-pub answer_end : (m : RowList) (width : ℕ) (lines : List NumberedLine) → lines ≡ [] → m.columns ≡ width → answer_after width m.rows lines ≡ read.Ok m
-unfolding first_refusal
-answer_end m width lines is w = rw (is, append-nil m.rows, ← w) refl
+use Rattle.matrix_read.proofs.RowLemmas.{too_long, short_enough, Ascends-low, first_refusal-here}
+use Rattle.matrix_read.specs.Dense.{is_digit, is_foreign, digits_of, width_of, ones_from, row_of, row_code, read_lines, dense}
 
 -- the first line of all
 pub first_line_refused : (line : NumberedLine) (lines rest : List NumberedLine) (code : ℕ) → lines ≡ line ∷ rest → row_code (width_of line.text) 0 line.text ≡ Some code → read_lines lines ≡ read.Refused (record { code = code; line = line.number })
-first_line_refused line lines rest code is h = rw (is, first_refusal-here (width_of line.text) 0 line rest code h) refl
+first_line_refused line lines rest code is h = rw (is, first_refusal-here (row_code (width_of line.text)) 0 line rest code h) refl
 
 -- a line that is not blank and has no foreign byte has a digit
 digit_or : (digit blank filled foreign : Bool) (n : ℕ) → (blank && filled) ≡ false → (not (digit || blank) || foreign) ≡ false → (filled ≡ false → foreign ≡ false → 1 ≤ n) → 1 ≤ (if digit then suc n else n)
@@ -74,10 +45,6 @@ never_true true h = h refl
 never_true false h = refl
 
 -- the ones of digits ascend
-pub Ascends-low : (c low less : ℕ) (row : List ℕ) → less ≤ low → Ascends c low row → Ascends c less row
-Ascends-low c low less [] le h = tt
-Ascends-low c low less (x ∷ row) le h = (omega (arith, h.0), h.1, h.2)
-
 pub ones_ascend : (c low : ℕ) (digits : List ℕ) → low + length digits ≤ c → Ascends c low (ones_from (low + 1) digits)
 ones_ascend c low [] le = tt
 ones_ascend c low (d ∷ digits) le =
@@ -105,8 +72,8 @@ row_code-width width before line h =
 -- the length of the file comes first
 pub dense_long : (bytes : List ℕ) → MAX_FILE_BYTES < length bytes → dense bytes ≡ read.Refused (record { code = LIMIT; line = 0 })
 unfolding dense
-dense_long bytes h = rw (lt-ltb MAX_FILE_BYTES (length bytes) h) refl
+dense_long bytes h = too_long bytes _ h
 
 pub dense_short : (bytes : List ℕ) → length bytes ≤ MAX_FILE_BYTES → dense bytes ≡ read_lines (filled_lines 1 (lines_of (without_mark bytes)))
 unfolding dense
-dense_short bytes h = rw (le-ltb MAX_FILE_BYTES (length bytes) h) refl
+dense_short bytes h = short_enough bytes _ h

@@ -1,7 +1,11 @@
 pub mod LineLemmas
 pub mod WordLemmas
+pub mod RowLemmas
 pub mod DenseLemmas
 pub mod WrittenLemmas
+pub mod NameLemmas
+pub mod SparseLemmas
+pub mod CloneLemmas
 pub mod RecordLemmas
 pub mod TableLemmas
 pub mod CellLemmas

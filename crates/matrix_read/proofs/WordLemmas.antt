@@ -1,12 +1,13 @@
 -- Words, and the numbers that they write.
-use Rattle.std.proofs.Common.{◌≡◌, ℕ, suc, ◌<◌, ◌≤◌, ◌+◌, ◌-◌, ◌*◌, ◌^◌, List, [], ◌∷◌, length, take, drop, slice_range, ap, sym, ◌∙◌, refl, arith, true, false, if◌then◌else◌, ◌&&◌, get_or, drop-cons}
+use Rattle.std.proofs.Common.{◌≡◌, ℕ, suc, ◌<◌, ◌≤◌, ◌+◌, ◌-◌, ◌*◌, ◌^◌, List, [], ◌∷◌, length, take, drop, slice_range, ap, sym, ◌∙◌, refl, arith, true, false, if◌then◌else◌, ◌&&◌, not, get_or, drop-cons}
 use Rattle.std.proofs.Math.ListN.{drop_of_length-le}
 use Rattle.std.proofs.lemmas.List.{drop-take, drop-drop, length-take-le, length-drop}
-use Rattle.std.proofs.lemmas.Bool.{lt-ltb, le-ltb}
+use Rattle.std.proofs.lemmas.Bool.{lt-ltb, le-ltb, and_parts}
+use Rattle.std.proofs.lemmas.Grind.{common_steps}
 use Rattle.std.specs.List.{list_all}
 use Rattle.std.specs.Char.{is_ascii_digit}
-use Rattle.matrix_read.specs.Lines.{is_blank, is_blank_byte}
-use Rattle.matrix_read.specs.Words.{blank_len, word_len, number_after, numeral_of}
+use Rattle.matrix_read.specs.Lines.{is_blank, is_blank_byte, before_first}
+use Rattle.matrix_read.specs.Words.{blank_len, word_len, begins_word, words_of, number_after, numeral_of}
 use Rattle.matrix_read.specs.declared.words.Numeral.TheVariants.{Value, TooLarge}
 
 -- all bytes are blanks, or a word begins behind the blanks
@@ -54,6 +55,70 @@ module _ (bytes : List ℕ) (at end k : ℕ) (order : at ≤ end) (within : end 
   word_here h =
       let le : at + k ≤ end = omega arith in
       rw (← drop-slice_range bytes at end k le, is) (word_some (slice_range bytes at end) (omega (arith, length-slice_range bytes at end order within)))
+
+-- blanks at the front are in no word
+module _ (b : ℕ) (line : List ℕ) where
+  words_of_blank : is_blank_byte b ≡ true → words_of (b ∷ line) ≡ words_of line
+  unfolding words_of
+  words_of_blank h = rw h refl
+
+  words_of_last : is_blank_byte b ≡ false → begins_word line ≡ false → words_of (b ∷ line) ≡ (b ∷ []) ∷ words_of line
+  unfolding words_of
+  words_of_last h e = rw (h, e) refl
+
+  words_of_more : is_blank_byte b ≡ false → begins_word line ≡ true → words_of (b ∷ line) ≡ before_first b (words_of line)
+  unfolding words_of
+  words_of_more h e = rw (h, e) refl
+
+words_of_skip : (line : List ℕ) → words_of line ≡ words_of (drop (blank_len line) line)
+words_of_skip [] = refl
+words_of_skip (b ∷ line) =
+    (elim (is_blank_byte b) as (λ v. is_blank_byte b ≡ v → words_of (b ∷ line) ≡ words_of (drop (if v then suc (blank_len line) else 0) (b ∷ line))) [
+      | true ↦ λ e. words_of_blank b line e ∙ words_of_skip line
+      | false ↦ λ e. refl
+    ]) refl
+
+-- the first word, and the words after it
+words_of_word : (b : ℕ) (line : List ℕ) → is_blank_byte b ≡ false → words_of (b ∷ line) ≡ (b ∷ take (word_len line) line) ∷ words_of (drop (word_len line) line)
+words_of_word b [] h = words_of_last b [] h refl
+words_of_word b (c ∷ line) h =
+    (elim (is_blank_byte c) as (λ v. is_blank_byte c ≡ v → words_of (b ∷ c ∷ line) ≡ (b ∷ take (if v then 0 else suc (word_len line)) (c ∷ line)) ∷ words_of (drop (if v then 0 else suc (word_len line)) (c ∷ line))) [
+      | true ↦ λ e. words_of_last b (c ∷ line) h (ap not e)
+      | false ↦ λ e. words_of_more b (c ∷ line) h (ap not e) ∙ ap (before_first b) (words_of_word c line e)
+    ]) refl
+
+word_first : (line : List ℕ) → 0 < word_len line → words_of line ≡ take (word_len line) line ∷ words_of (drop (word_len line) line)
+word_first [] h = absurd (omega arith)
+word_first (b ∷ line) h =
+    (elim (is_blank_byte b) as (λ v. is_blank_byte b ≡ v → 0 < (if v then 0 else suc (word_len line)) → words_of (b ∷ line) ≡ take (if v then 0 else suc (word_len line)) (b ∷ line) ∷ words_of (drop (if v then 0 else suc (word_len line)) (b ∷ line))) [
+      | true ↦ λ e h. absurd (omega arith)
+      | false ↦ λ e h. words_of_word b line e
+    ]) refl h
+
+words_of_blanks : (line : List ℕ) → is_blank line ≡ true → words_of line ≡ []
+unfolding words_of
+words_of_blanks [] h = refl
+words_of_blanks (b ∷ line) h = let parts = and_parts (is_blank_byte b) (is_blank line) h in words_of_blank b line parts.0 ∙ words_of_blanks line parts.1
+
+pub to_end : (line : List ℕ) (at : ℕ) → slice_range line at (length line) ≡ drop at line
+to_end line at = grind (arith, common_steps)
+
+-- the words from a place on: the one that stands there, and those from its end on
+pub word_step : (line : List ℕ) (at start end : ℕ) → start ≡ at + blank_len (slice_range line at (length line)) → end ≡ start + word_len (slice_range line start (length line)) → start < end
+    → words_of (drop at line) ≡ slice_range line start end ∷ words_of (drop end line)
+word_step line at start end s e lt =
+    let s' : start ≡ at + blank_len (drop at line) = rw (to_end line at) at s in
+    let e' : end ≡ start + word_len (drop start line) = rw (to_end line start) at e in
+    let n : word_len (drop start line) ≡ end - start = omega (arith, e') in
+    let back : start + (end - start) ≡ end = omega arith in
+    words_of_skip (drop at line)
+    ∙ ap words_of (drop-drop (blank_len (drop at line)) at line ∙ ap (λ k. drop k line) (sym s'))
+    ∙ word_first (drop start line) (omega (arith, e'))
+    ∙ ap (λ k. take k (drop start line) ∷ words_of (drop k (drop start line))) n
+    ∙ ap (λ t. take (end - start) (drop start line) ∷ words_of t) (drop-drop (end - start) start line ∙ ap (λ k. drop k line) back)
+
+pub no_word : (line : List ℕ) (at : ℕ) → is_blank (slice_range line at (length line)) ≡ true → words_of (drop at line) ≡ []
+no_word line at blank = words_of_blanks (drop at line) (rw (to_end line at) at blank)
 
 number_after-le : (n : ℕ) (digits : List ℕ) → n ≤ number_after n digits
 number_after-le n [] = omega arith

@@ -8,10 +8,12 @@ use Rattle.row_model.specs.Rows.{Ascends, IsRow}
 use Rattle.row_model.specs.declared.refusal.Read.TheVariants as read
 use Rattle.row_model.specs.declared.TheConstants.{MAX_COLUMNS, MAX_ROWS}
 use Rattle.matrix_read.specs.Lines.{without_mark, without_return, line_parts, lines_of, is_blank, filled_lines}
-use Rattle.matrix_read.specs.Dense.{is_digit, is_foreign, digits_of, width_of, ones_from, row_of, row_code, first_refusal, rows_of, rows_or_refusal, refused_or, read_lines}
+use Rattle.matrix_read.specs.Dense.{is_digit, is_foreign, digits_of, width_of, ones_from, row_of, row_code, rows_of, rows_or_refusal, read_lines}
+use Rattle.matrix_read.specs.Rows.{first_refusal, refused_or}
 use Rattle.matrix_read.specs.Written.{digits_from, text_of, DenseLaw}
 use Rattle.matrix_read.proofs.LineLemmas.{filled_here}
-use Rattle.matrix_read.proofs.DenseLemmas.{first_refusal-later, dense_short}
+use Rattle.matrix_read.proofs.RowLemmas.{first_refusal-later}
+use Rattle.matrix_read.proofs.DenseLemmas.{dense_short}
 
 -- only digits
 abbrev pub AreDigits : List ℕ → Type 0
@@ -129,12 +131,12 @@ filled-written (suc c) number row rows some =
     filled_here number (first ∷ rest) (written (suc c) rows) (digit_filled first rest (first_digit first rest (digits-written 1 (suc c) row)))
 
 module _ (c : ℕ) (some : 1 ≤ c) (narrow : c ≤ MAX_COLUMNS) where
-  first_refusal-written : (before number : ℕ) (rows : List (List ℕ)) → before + length rows ≤ MAX_ROWS → AllByRecursion (IsRow c) rows → first_refusal c before (filled_lines number (written c rows)) ≡ None
+  first_refusal-written : (before number : ℕ) (rows : List (List ℕ)) → before + length rows ≤ MAX_ROWS → AllByRecursion (IsRow c) rows → first_refusal (row_code c) before (filled_lines number (written c rows)) ≡ None
   unfolding first_refusal filled_lines
   first_refusal-written before number [] few all = refl
   first_refusal-written before number (row ∷ rows) few all =
-      ap (first_refusal c before) (filled-written c number row rows some)
-      ∙ first_refusal-later c before (record { number = number; text = digits_from 1 c row }) (filled_lines (number + 1) (written c rows)) (row_code-written c row all.0 before (omega arith) narrow)
+      ap (first_refusal (row_code c) before) (filled-written c number row rows some)
+      ∙ first_refusal-later (row_code c) before (record { number = number; text = digits_from 1 c row }) (filled_lines (number + 1) (written c rows)) (row_code-written c row all.0 before (omega arith) narrow)
       ∙ first_refusal-written (before + 1) (number + 1) rows (omega arith) all.1
 
   rows_of-written : (number : ℕ) (rows : List (List ℕ)) → AllByRecursion (IsRow c) rows → rows_of (filled_lines number (written c rows)) ≡ rows

@@ -2,12 +2,12 @@
 use Rattle.std.specs.Prelude.{ℕ, ◌+◌, ◌==◌, ◌||◌, not, List, [], ◌∷◌, map, length, if◌then◌else◌, Bool, nat_lt, nat_le, Option, Some, None}
 use Rattle.std.specs.List.{list_any, filter}
 use Rattle.row_model.specs.Rows.{RowList}
-use Rattle.row_model.specs.declared.refusal.Refusal.{Refusal}
 use Rattle.row_model.specs.declared.refusal.Read.{Read}
 use Rattle.row_model.specs.declared.refusal.Read.TheVariants as read
-use Rattle.row_model.specs.declared.TheConstants.{MAX_COLUMNS, MAX_ROWS, MAX_FILE_BYTES}
+use Rattle.row_model.specs.declared.TheConstants.{MAX_COLUMNS, MAX_ROWS}
 use Rattle.row_model.specs.declared.code.TheConstants.{EMPTY, GRAMMAR, COUNT, LIMIT}
 use Rattle.matrix_read.specs.Lines.{is_blank_byte, without_mark, lines_of, filled_lines, NumberedLine}
+use Rattle.matrix_read.specs.Rows.{first_refusal, refused_or, within_length}
 
 -- 0 or 1
 abbrev pub is_digit : ℕ → Bool
@@ -43,28 +43,13 @@ row_code width before line =
     else if width_of line == width then None
     else Some COUNT
 
--- the refusal of this code at this line, or what follows
-abbrev pub refusal_or : Option ℕ → ℕ → Option Refusal → Option Refusal
-refusal_or (Some code) number rest = Some (record { code = code; line = number })
-refusal_or None number rest = rest
-
--- the first refusal among lines, if there is one, where so many rows stand before them
-unfoldable pub first_refusal : ℕ → ℕ → List NumberedLine → Option Refusal
-first_refusal width before [] = None
-first_refusal width before (line ∷ lines) = refusal_or (row_code width before line.text) line.number (first_refusal width (before + 1) lines)
-
 -- the rows of lines
 abbrev pub rows_of : List NumberedLine → List (List ℕ)
 rows_of lines = map (λ line. row_of line.text) lines
 
--- the refusal, if there is one, or the matrix
-abbrev pub refused_or : {T : Type 0} → Option Refusal → T → Read T
-refused_or (Some refusal) m = read.Refused refusal
-refused_or None m = read.Ok m
-
 -- the matrix of lines with this width, or their first refusal
 abbrev pub rows_or_refusal : ℕ → List NumberedLine → Read RowList
-rows_or_refusal width lines = refused_or (first_refusal width 0 lines) (record { columns = width; rows = rows_of lines })
+rows_or_refusal width lines = refused_or (first_refusal (row_code width) 0 lines) (record { columns = width; rows = rows_of lines })
 
 -- the matrix of lines that are not blank, or their first refusal; the width is that of the first row
 abbrev pub read_lines : List NumberedLine → Read RowList
@@ -73,6 +58,4 @@ read_lines (first ∷ lines) = rows_or_refusal (width_of first.text) (first ∷ 
 
 -- the matrix of the bytes of a file, or their first refusal
 unfoldable pub dense : List ℕ → Read RowList
-dense bytes =
-    if nat_lt MAX_FILE_BYTES (length bytes) then read.Refused (record { code = LIMIT; line = 0 })
-    else read_lines (filled_lines 1 (lines_of (without_mark bytes)))
+dense bytes = within_length bytes (read_lines (filled_lines 1 (lines_of (without_mark bytes))))

@@ -1,7 +1,11 @@
 pub mod Lines
 pub mod Words
+pub mod Rows
 pub mod Dense
 pub mod Written
+pub mod Names
+pub mod Sparse
+pub mod Clones
 pub mod Cells
 pub mod RecordsLeft
 pub mod Table

@@ -1,8 +1,8 @@
 -- The words of a line, and the numbers that they write.
-use Rattle.std.specs.Prelude.{ℕ, suc, ◌+◌, ◌-◌, ◌*◌, ◌^◌, List, [], ◌∷◌, if◌then◌else◌, nat_lt}
+use Rattle.std.specs.Prelude.{ℕ, suc, ◌+◌, ◌-◌, ◌*◌, ◌^◌, List, [], ◌∷◌, if◌then◌else◌, nat_lt, Bool, false, not, Option, Some, None}
 use Rattle.std.specs.Char.{is_ascii_digit}
 use Rattle.std.specs.List.{list_all}
-use Rattle.matrix_read.specs.Lines.{is_blank_byte}
+use Rattle.matrix_read.specs.Lines.{is_blank_byte, before_first}
 use Rattle.matrix_read.specs.declared.words.Numeral.{Numeral}
 use Rattle.matrix_read.specs.declared.words.Numeral.TheVariants.{Value, TooLarge, NotDigits}
 
@@ -15,6 +15,24 @@ blank_len (b ∷ bytes) = if is_blank_byte b then suc (blank_len bytes) else 0
 abbrev pub word_len : List ℕ → ℕ
 word_len [] = 0
 word_len (b ∷ bytes) = if is_blank_byte b then 0 else suc (word_len bytes)
+
+-- whether a line begins with a word
+abbrev pub begins_word : List ℕ → Bool
+begins_word [] = false
+begins_word (b ∷ line) = not (is_blank_byte b)
+
+-- the words of a line: the longest runs of bytes other than spaces and tabs
+unfoldable pub words_of : List ℕ → List (List ℕ)
+words_of [] = []
+words_of (b ∷ line) =
+    if is_blank_byte b then words_of line
+    else if begins_word line then before_first b (words_of line)
+    else (b ∷ []) ∷ words_of line
+
+-- the word, where there is exactly one
+abbrev pub only_word : List (List ℕ) → Option (List ℕ)
+only_word (word ∷ []) = Some word
+only_word words = None
 
 -- the number that digits write, where a number stands before them
 abbrev pub number_after : ℕ → List ℕ → ℕ

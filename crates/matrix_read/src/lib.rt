@@ -5,14 +5,19 @@
 #![tactic(auto)]
 
 mod cells;
+mod clones;
 mod dense;
 mod lines;
 mod records;
+mod rows;
+mod sparse;
 mod table;
 mod words;
 
+pub use clones::read_clones;
 pub use dense::read_dense;
 pub use lines::{FilledLine, LineSpan, next_filled_line, next_line, without_mark};
 pub use row_model::NoMemory;
+pub use sparse::{read_more, read_rows};
 pub use table::read_table;
 pub use words::{Numeral, WordSpan, next_word, number};

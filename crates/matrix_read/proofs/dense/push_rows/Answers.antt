@@ -2,7 +2,8 @@ use Rattle.std.proofs.Common.{◌≡◌, ◌∷◌, ◌++◌, [], length, slice_
 use Rattle.row_model.specs.Rows.{RowList}
 use Rattle.matrix_read.specs.Lines.{lines_of, filled_lines}
 use Rattle.matrix_read.specs.Dense.{row_code, row_of}
-use Rattle.matrix_read.proofs.DenseLemmas.{answer_after, answer_stop, answer_step, answer_end, row_ascends, row_code-width}
+use Rattle.matrix_read.proofs.RowLemmas.{answer_after, answer_stop, answer_step, answer_end}
+use Rattle.matrix_read.proofs.DenseLemmas.{row_ascends, row_code-width}
 use Rattle.matrix_read.proofs.dense.push_rows.Goals as goal
 
 pub returns-in-Err : goal.returns-in-Err
@@ -11,7 +12,7 @@ returns-in-Err c =
     let line : List ℕ = slice_range c.args.text.now c.in-Some.line.span.start c.in-Some.line.span.end in
     let room : length c.loop-line.columns ≡ m.columns = c.loop-line.auto.columns ∙ c.requires.width ∙ sym c.loop-line.invariant.columns in
     let refused : row_code m.columns (length m.rows) line ≡ Some c.in-Err.code = rw (room, c.rows.ensures) at c.in-Err.ensures.refused in
-    sym (answer_stop m.columns m.rows _ _ _ c.in-Some.ensures.line c.in-Err.code refused) ∙ c.loop-line.invariant.so_far
+    sym (answer_stop (row_code m.columns) row_of m.columns m.rows _ _ _ c.in-Some.ensures.line c.in-Err.code refused) ∙ c.loop-line.invariant.so_far
 
 pub push_row-requires-clause-row : goal.push_row-requires-clause-row
 push_row-requires-clause-row c =
@@ -34,10 +35,10 @@ loop-line-preserved c =
       few = c.in-Some.ensures.number;
       columns = ap (λ (x : RowList). x.columns) pushed ∙ c.loop-line.invariant.columns;
       so_far =
-          ap (λ (x : RowList). answer_after x.columns x.rows rest) pushed
-          ∙ answer_step m.columns m.rows _ _ rest c.in-Some.ensures.line taken
+          ap (λ (x : RowList). answer_after (row_code x.columns) row_of x.columns x.rows rest) pushed
+          ∙ answer_step (row_code m.columns) row_of m.columns m.rows _ _ rest c.in-Some.ensures.line taken
           ∙ c.loop-line.invariant.so_far;
     }
 
 pub returns : goal.returns
-returns c = sym (answer_end c.loop-line.matrix c.loop-line.matrix.columns _ c.in_default.ensures.none refl) ∙ c.loop-line.invariant.so_far
+returns c = sym (answer_end (row_code c.loop-line.matrix.columns) row_of c.loop-line.matrix.columns c.loop-line.matrix _ c.in_default.ensures.none refl) ∙ c.loop-line.invariant.so_far

@@ -1,0 +1,169 @@
+-- Probes and clones.
+use Rattle.std.proofs.Common.{◌≡◌, inl, inr, ℕ, suc, ◌+◌, ◌<◌, ◌≤◌, ◌==◌, not, List, [], ◌∷◌, ◌++◌, length, map, codes, drop, get_or, refl, ap, sym, ◌∙◌, arith, Bool, true, false, if◌then◌else◌, cond, unwrap_or, Some, None, append_assoc, drop-cons, add-one, eq-eqb}
+use Rattle.std.proofs.lemmas.List.{append-nil}
+use Rattle.row_model.specs.Rows.{RowList, IsRow}
+use Rattle.row_model.specs.declared.refusal.Read.{Read}
+use Rattle.row_model.specs.declared.refusal.Read.TheVariants as answer
+use Rattle.serde_json.specs.Data.{Data, Items, no_items, item}
+use Rattle.serde_json.specs.Read.{read}
+use Rattle.std.specs.Str.{IsUtf8, is_utf8, bytes_eq}
+use Rattle.std.specs.List.{list_all, prefix_len, position}
+use Rattle.std.specs.Borrow.{Bor}
+use Rattle.std.proofs.lemmas.List.{length-map}
+use Rattle.serde_json.specs.declared.value.Value.{Value}
+use Rattle.serde_json.specs.View.{view, items_view}
+use Rattle.std.proofs.lemmas.Str.{IsUtf8-from_is_utf8, is_utf8-from_IsUtf8}
+use Rattle.std.proofs.lemmas.Bool.{lt-ltb, le-ltb, ne_eqb, cases_lt, false≢true}
+use Rattle.row_model.specs.declared.TheConstants.{MAX_COLUMNS, MAX_ROWS, MAX_FILE_BYTES}
+use Rattle.row_model.specs.declared.code.TheConstants.{EMPTY, RANGE, TWICE, LIMIT}
+use Rattle.matrix_read.specs.Lines.{without_mark}
+use Rattle.matrix_read.specs.Rows.{refused_or, columns_among}
+use Rattle.matrix_read.proofs.RowLemmas.{too_long, short_enough, columns_ascend}
+use Rattle.matrix_read.specs.Clones.{reading, array_at, texts_of, count, is_probe, column_of, probes_of, names_code, first_refused, clone_row, clone_rows, head_code, clone_matrix, matrix_of, if_read, clones}
+use Rattle.matrix_read.specs.Names.{has_twice, bytes_of}
+
+module _ (probes : List (List ℕ)) where
+  -- the answer, where these rows stand before the clones
+  abbrev pub matrix_after : List (List ℕ) → ℕ → Items → Read RowList
+  matrix_after rows number clones = refused_or (first_refused probes number clones) (record { columns = length probes; rows = rows ++ clone_rows probes clones })
+
+  -- one clone less, which is refused or a row
+  module _ (rows : List (List ℕ)) (number : ℕ) (clone : Data) (clones : Items) where
+    pub clone_stop : (code : ℕ) → names_code probes (probes_of clone) ≡ Some code → matrix_after rows number (item clone clones) ≡ answer.Refused (record { code = code; line = number })
+    unfolding first_refused
+    clone_stop code h = rw h refl
+
+    pub clone_step : names_code probes (probes_of clone) ≡ None → matrix_after (rows ++ clone_row probes clone ∷ []) (number + 1) clones ≡ matrix_after rows number (item clone clones)
+    unfolding first_refused
+    clone_step h = rw (h, append_assoc rows (clone_row probes clone ∷ []) (clone_rows probes clones)) refl
+
+  pub clone_end : (m : RowList) (number : ℕ) → m.columns ≡ length probes → matrix_after m.rows number no_items ≡ answer.Ok m
+  unfolding first_refused
+  clone_end m number w = rw (append-nil m.rows, ← w) refl
+
+-- a text that is read, and one that is not
+pub reading_some : (text : List ℕ) (value : Data) → IsUtf8 text → read text ≡ Some value → Some value ≡ reading text
+reading_some text value utf8 is = rw (is_utf8-from_IsUtf8 text utf8, is) refl
+
+pub reading_none : (text : List ℕ) → (IsUtf8 text → read text ≡ None) → None ≡ reading text
+reading_none text none =
+    (elim (is_utf8 text) as (λ v. is_utf8 text ≡ v → None ≡ (if v then read text else None)) [
+      | true ↦ λ e. sym (none (IsUtf8-from_is_utf8 text e))
+      | false ↦ λ e. refl
+    ]) refl
+
+-- the length of the file comes first
+module _ (bytes : List ℕ) where
+  pub clones_long : MAX_FILE_BYTES < length bytes → clones bytes ≡ answer.Refused (record { code = LIMIT; line = 0 })
+  unfolding clones
+  clones_long h = too_long bytes _ h
+
+  pub clones_short : length bytes ≤ MAX_FILE_BYTES → clones bytes ≡ if_read (reading (without_mark bytes))
+  unfolding clones
+  clones_short h = short_enough bytes _ h
+
+-- the items of a list of values
+pub length_texts : (values : List Value) → length (texts_of (items_view values)) ≡ length values
+length_texts [] = refl
+length_texts (value ∷ values) = ap suc (length_texts values)
+
+pub count_is : (values : List Value) → count (items_view values) ≡ length values
+count_is [] = refl
+count_is (value ∷ values) = ap suc (count_is values)
+
+pub items_drop : (values : List Value) (i : ℕ) (value : Value) → i < length values → value ≡ get_or values i value → items_view (drop i values) ≡ item (view value) (items_view (drop (i + 1) values))
+items_drop values i value lt is = ap items_view (drop-cons values i value lt) ∙ ap (λ (v : Value). item (view v) (items_view (drop (suc i) values))) (sym is) ∙ ap (λ n. item (view value) (items_view (drop n values))) (sym (add-one i))
+
+-- names by their bytes
+prefix_len-bytes : (p : List ℕ → Bool) (names : List (Bor (List ℕ))) → prefix_len (λ (name : Bor (List ℕ)). p name.now) names ≡ prefix_len p (bytes_of names)
+prefix_len-bytes p [] = refl
+prefix_len-bytes p (name ∷ names) = ap (λ n. cond (p name.now) (1 + n) 0) (prefix_len-bytes p names)
+
+place_if : (b : Bool) (n i : ℕ) → cond b (Some n) None ≡ Some i → n ≡ i
+place_if true n i h = cc
+place_if false n i h = absurd (cc)
+
+-- the column of a name that is found at a place
+pub column_found : (names : List (Bor (List ℕ))) (name : List ℕ) (i : ℕ) → position (λ (key : Bor (List ℕ)). bytes_eq name key.now) names ≡ Some i → i + 1 ≡ column_of (bytes_of names) name
+column_found names name i h =
+    let place : prefix_len (λ (key : Bor (List ℕ)). not (bytes_eq name key.now)) names ≡ i = place_if _ _ i h in
+    add-one i ∙ ap suc (sym place ∙ prefix_len-bytes (λ key. not (bytes_eq name key)) names)
+
+-- a shape with probes and clones, and the tests of the whole file
+pub shaped : (value : Data) (probes : List (List ℕ)) (clones : Items) → Some probes ≡ probes_of value → Some clones ≡ array_at (codes "clones") value → if_read (Some value) ≡ matrix_of probes clones
+shaped value probes clones p c = rw (← p, ← c) refl
+
+module _ (probes : List (List ℕ)) (clones : ℕ) where
+  pub head_empty : length probes ≡ 0 → head_code probes clones ≡ Some EMPTY
+  head_empty h = rw h refl
+
+  module _ (some : 0 < length probes) where
+    some_probe : (length probes == 0) ≡ false
+    some_probe = ne_eqb (length probes) 0 (λ e. omega arith)
+
+    pub head_wide : MAX_COLUMNS < length probes → head_code probes clones ≡ Some LIMIT
+    head_wide h = rw (some_probe, lt-ltb MAX_COLUMNS (length probes) h) refl
+
+    module _ (narrow : length probes ≤ MAX_COLUMNS) where
+      pub head_twice : has_twice probes ≡ true → head_code probes clones ≡ Some TWICE
+      head_twice h = rw (some_probe, le-ltb MAX_COLUMNS (length probes) narrow, h) refl
+
+      pub head_many : has_twice probes ≡ false → MAX_ROWS < clones → head_code probes clones ≡ Some LIMIT
+      head_many h many = rw (some_probe, le-ltb MAX_COLUMNS (length probes) narrow, h, lt-ltb MAX_ROWS clones many) refl
+
+      pub head_taken : has_twice probes ≡ false → clones ≤ MAX_ROWS → head_code probes clones ≡ None
+      head_taken h few = rw (some_probe, le-ltb MAX_COLUMNS (length probes) narrow, h, le-ltb MAX_ROWS clones few) refl
+
+-- a clone whose strings are these names
+module _ (probes names : List (List ℕ)) (clone : Data) (is : Some names ≡ probes_of clone) where
+  pub names_taken : list_all (is_probe probes) names ≡ true → names_code probes (probes_of clone) ≡ None
+  names_taken h = rw (← is, h) refl
+
+  pub names_refused : list_all (is_probe probes) names ≡ false → names_code probes (probes_of clone) ≡ Some RANGE
+  names_refused h = rw (← is, h) refl
+
+  pub row_of_names : clone_row probes clone ≡ columns_among 1 (length probes) (map (column_of probes) names)
+  row_of_names = rw (← is) refl
+
+pub clone_row_ascends : (probes : List (List ℕ)) (clone : Data) → IsRow (length probes) (clone_row probes clone)
+clone_row_ascends probes clone = columns_ascend (length probes) 0 (length probes) (map (column_of probes) (unwrap_or (probes_of clone) [])) (omega arith)
+
+-- as many names as keys
+pub length-bytes : (keys : List (Bor (List ℕ))) → length (bytes_of keys) ≡ length keys
+length-bytes keys = length-map keys (λ (name : Bor (List ℕ)). name.now)
+
+pub some_if : (n : ℕ) → false ≡ (n == 0) → 0 < n
+some_if n h = elim (cases_lt 0 n) [ inl lt ↦ lt | inr le ↦ absurd (false≢true (h ∙ eq-eqb n 0 (omega arith))) ]
+
+-- the tests of probes and clones as lists of values
+module _ (probes clones : List Value) where
+  width : length (texts_of (items_view probes)) ≡ length probes
+  width = length_texts probes
+
+  height : count (items_view clones) ≡ length clones
+  height = count_is clones
+
+  -- what is refused by a code
+  abbrev pub RefusedBy : ℕ → Type 0
+  RefusedBy code = matrix_of (texts_of (items_view probes)) (items_view clones) ≡ answer.Refused (record { code = code; line = 0 })
+
+  by : (code : ℕ) → head_code (texts_of (items_view probes)) (count (items_view clones)) ≡ Some code → RefusedBy code
+  by code h = rw h refl
+
+  pub no_probe : length probes ≡ 0 → RefusedBy EMPTY
+  no_probe h = by EMPTY (head_empty (texts_of (items_view probes)) (count (items_view clones)) (width ∙ h))
+
+  module _ (some : 0 < length probes) where
+    pub many_probes : MAX_COLUMNS < length probes → RefusedBy LIMIT
+    many_probes h = by LIMIT (head_wide (texts_of (items_view probes)) (count (items_view clones)) (omega (arith, width)) (omega (arith, width)))
+
+    module _ (narrow : length probes ≤ MAX_COLUMNS) where
+      pub probe_twice : has_twice (texts_of (items_view probes)) ≡ true → RefusedBy TWICE
+      probe_twice h = by TWICE (head_twice (texts_of (items_view probes)) (count (items_view clones)) (omega (arith, width)) (omega (arith, width)) h)
+
+      pub many_clones : has_twice (texts_of (items_view probes)) ≡ false → MAX_ROWS < length clones → RefusedBy LIMIT
+      many_clones h many = by LIMIT (head_many (texts_of (items_view probes)) (count (items_view clones)) (omega (arith, width)) (omega (arith, width)) h (omega (arith, height)))
+
+      pub within_limits : has_twice (texts_of (items_view probes)) ≡ false → length clones ≤ MAX_ROWS
+          → matrix_of (texts_of (items_view probes)) (items_view clones) ≡ clone_matrix (texts_of (items_view probes)) (items_view clones)
+      within_limits h few = rw (head_taken (texts_of (items_view probes)) (count (items_view clones)) (omega (arith, width)) (omega (arith, width)) h (omega (arith, height))) refl

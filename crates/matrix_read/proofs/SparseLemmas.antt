@@ -1,0 +1,79 @@
+-- Rows that name their columns.
+use Rattle.std.proofs.Common.{◌≡◌, ℕ, ◌<◌, ◌≤◌, ◌+◌, ◌||◌, List, [], ◌∷◌, length, slice_range, refl, sym, ap, ◌∙◌, arith, Bool, true, false, None, Some, Ok, Err}
+use Rattle.std.proofs.lemmas.Bool.{lt-leb}
+use Rattle.column_order.specs.Orders.{has}
+use Rattle.row_model.specs.Rows.{IsRow}
+use Rattle.row_model.specs.declared.refusal.Read.TheVariants as read
+use Rattle.row_model.specs.declared.TheConstants.{MAX_ROWS, MAX_FILE_BYTES}
+use Rattle.row_model.specs.declared.code.TheConstants.{LIMIT}
+use Rattle.matrix_read.specs.Lines.{is_blank, lines_of, without_mark}
+use Rattle.matrix_read.specs.Words.{words_of, only_word, blank_len, word_len, numeral_of}
+use Rattle.matrix_read.specs.Sparse.{column_code, words_code, line_code, first_width, row_named, numbers_of, named_rows, sparse_lines, sparse, further}
+use Rattle.matrix_read.specs.Rows.{numbered_lines}
+use Rattle.matrix_read.proofs.WordLemmas.{word_step, no_word}
+use Rattle.matrix_read.proofs.RowLemmas.{too_long, short_enough, columns_ascend}
+
+-- the columns of a row ascend
+pub row_ascends : (c : ℕ) (line : List ℕ) → IsRow c (row_named c line)
+row_ascends c line = columns_ascend c 0 c (numbers_of (words_of line)) (omega arith)
+
+-- a line with one word alone
+pub one_word : (line : List ℕ) (start end : ℕ) → start ≡ 0 + blank_len (slice_range line 0 (length line)) → end ≡ start + word_len (slice_range line start (length line)) → start < end
+    → is_blank (slice_range line end (length line)) ≡ true → words_of line ≡ slice_range line start end ∷ []
+one_word line start end s e lt blank = word_step line 0 start end s e lt ∙ ap (λ words. slice_range line start end ∷ words) (no_word line end blank)
+
+-- a line with two words or more
+pub more_words : (line : List ℕ) (start end start2 end2 : ℕ) → start ≡ 0 + blank_len (slice_range line 0 (length line)) → end ≡ start + word_len (slice_range line start (length line)) → start < end
+    → start2 ≡ end + blank_len (slice_range line end (length line)) → end2 ≡ start2 + word_len (slice_range line start2 (length line)) → start2 < end2
+    → None ≡ only_word (words_of line)
+more_words line start end start2 end2 s e lt s2 e2 lt2 =
+    sym (ap only_word (word_step line 0 start end s e lt ∙ ap (λ words. slice_range line start end ∷ words) (word_step line end start2 end2 s2 e2 lt2)))
+
+-- the words of a line one by one
+module _ (c : ℕ) (words rest : List (List ℕ)) (word : List ℕ) (is : words ≡ word ∷ rest) where
+  pub words_stop : (code : ℕ) → column_code c (numeral_of word) ≡ Some code → words_code c words ≡ Some code
+  unfolding words_code
+  words_stop code h = rw (is, h) refl
+
+  pub words_next : column_code c (numeral_of word) ≡ None → words_code c rest ≡ words_code c words
+  unfolding words_code
+  words_next h = rw (is, h) refl
+
+pub words_end : (c : ℕ) (words : List (List ℕ)) → words ≡ [] → words_code c words ≡ None
+unfolding words_code
+words_end c words is = rw is refl
+
+-- no mark is left to be made
+pub marks_end : (mark named : Bool) (words : List (List ℕ)) (column : ℕ) → words ≡ [] → (mark || has (numbers_of words) column) ≡ named → mark ≡ named
+marks_end true named words column is h = h
+marks_end false named words column is h = rw is at h
+
+-- the length of the file comes first
+module _ (bytes : List ℕ) where
+  pub sparse_long : MAX_FILE_BYTES < length bytes → sparse bytes ≡ read.Refused (record { code = LIMIT; line = 0 })
+  unfolding sparse
+  sparse_long h = too_long bytes _ h
+
+  pub sparse_short : length bytes ≤ MAX_FILE_BYTES → sparse bytes ≡ sparse_lines (lines_of (without_mark bytes))
+  unfolding sparse
+  sparse_short h = short_enough bytes _ h
+
+  pub further_long : (c : ℕ) → MAX_FILE_BYTES < length bytes → further c bytes ≡ read.Refused (record { code = LIMIT; line = 0 })
+  unfolding further
+  further_long c h = too_long bytes _ h
+
+  pub further_short : (c : ℕ) → length bytes ≤ MAX_FILE_BYTES → further c bytes ≡ named_rows c (numbered_lines 1 (lines_of (without_mark bytes)))
+  unfolding further
+  further_short c h = short_enough bytes _ h
+
+-- a line that is a row
+pub line_taken : (c before : ℕ) (line : List ℕ) → before < MAX_ROWS → words_code c (words_of line) ≡ None → line_code c before line ≡ None
+line_taken c before line few named = rw (lt-leb MAX_ROWS before few) named
+
+-- the first line of all
+module _ (text line : List ℕ) (later : List (List ℕ)) (is : lines_of text ≡ line ∷ later) where
+  pub first_refused : (code : ℕ) → Err code ≡ first_width (only_word (words_of line)) → sparse_lines (lines_of text) ≡ read.Refused (record { code = code; line = 1 })
+  first_refused code e = rw (is, ← e) refl
+
+  pub first_taken : (c : ℕ) → Ok c ≡ first_width (only_word (words_of line)) → sparse_lines (lines_of text) ≡ named_rows c (numbered_lines 2 later)
+  first_taken c e = rw (is, ← e) refl

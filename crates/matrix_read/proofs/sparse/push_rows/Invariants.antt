@@ -1,0 +1,19 @@
+use Rattle.std.proofs.Common.{◌≡◌, ◌≤◌, ◌+◌, ◌-◌, ℕ, false, drop, length, get_or}
+use Rattle.matrix_read.specs.Lines.{lines_of}
+use Rattle.matrix_read.specs.Rows.{numbered_lines}
+use Rattle.matrix_read.specs.Sparse.{line_code, row_named, named_rows}
+use Rattle.matrix_read.proofs.RowLemmas.{answer_after}
+use Rattle.matrix_read.proofs.sparse.push_rows.Given as goal
+
+abbrev pub invariant-loop-span : goal.invariant-loop-span
+invariant-loop-span l = record {
+  within : l.at ≤ length l.text;
+  few : l.line ≤ l.at + 1;
+  columns : l.matrix.columns ≡ l.initial.matrix.columns;
+  clear : (j : ℕ) → get_or l.marks j false ≡ false;
+  so_far : answer_after (line_code l.initial.matrix.columns) (row_named l.initial.matrix.columns) l.initial.matrix.columns l.matrix.rows (numbered_lines (l.line + 1) (lines_of (drop l.at l.text)))
+      ≡ named_rows l.initial.matrix.columns (numbered_lines (l.passed + 1) (lines_of l.text));
+}
+
+abbrev pub decreases-loop-span : goal.decreases-loop-span
+decreases-loop-span l = length l.text - l.at

@@ -1,0 +1,300 @@
+// A matrix as probes and clones in JSON.
+ghost use Rattle.std.specs.Prelude.{◌≡◌, ◌+◌, ◌≤◌, ◌<◌, ℕ, [], map, false, true, length, take, codes, slice_index_or, Some, None, option_map, IfSome, IfOk, IfErr, IfNone, OnOk, MatchOption, IsTrue};
+ghost use Rattle.std.specs.List.{list_all};
+ghost use Rattle.row_model.specs.declared.code.TheConstants.{RANGE};
+ghost use Rattle.column_order.specs.Orders.{has};
+ghost use Rattle.serde_json.specs.View.{view, items_view};
+ghost use Rattle.matrix_read.specs.Clones.{reading, array_at, are_strings, text_of, texts_of, strings_of, strings_at, count, is_probe, column_of, probes_of, names_code, clone_row, clone_matrix, matrix_of, if_read, clones};
+ghost use Rattle.matrix_read.specs.Names.{has_twice, bytes_of};
+
+use crate::lines::without_mark;
+use crate::rows::{refused, take_marked};
+use indexmap::IndexSet;
+use row_model::{MAX_COLUMNS, MAX_FILE_BYTES, MAX_ROWS, Matrix, Read, code};
+use serde_json::{Category, Value};
+use std::alloc::{AllocError, Global};
+
+/// Reads a matrix from the bytes of a clone file: one value in JSON, an object with the arrays `probes` and `clones`.
+///
+/// The probes are 1 to [`MAX_COLUMNS`] strings, no two of them equal: the j-th is column j. The clones are at most
+/// [`MAX_ROWS`] objects, each with an array `probes` of strings, and each of these is one of the probes: the i-th clone
+/// is row i. A probe that is named twice in a clone counts once. Other keys are passed over. Of two equal keys the last
+/// counts. A byte order mark at the start is passed over.
+///
+/// A file that breaks a rule gives its first refusal. The length of the file comes first, then bytes that `serde_json`
+/// does not read. Then come the shape of the object, the number of probes, a probe that occurs twice, and the number of
+/// clones. Last come the clones in turn, each with its number as the line: its shape is judged before its names. The
+/// error is want of memory.
+pub fn read_clones(alloc: Global, bytes: &[u8]) -> Result<Read<Matrix>, AllocError>
+    ensures { IfOk result (λ read. read ≡ clones bytes.now) }
+{
+    if bytes.len() as u64 > MAX_FILE_BYTES {
+        return Ok(refused(code::LIMIT, 0));
+    }
+    match value_of(alloc, without_mark(bytes)) {
+        Err(e) => Err(e),
+        Ok(None) => Ok(refused(code::JSON, 0)),
+        Ok(Some(value)) => matrix_in(alloc, &value),
+    }
+}
+
+// The value that the bytes of a text have; none where they are no UTF-8 or have no reading.
+fn value_of(alloc: Global, text: &[u8]) -> Result<Option<Value>, AllocError>
+    ensures { IfOk result (λ value. option_map view value ≡ reading text.now) }
+{
+    match Value::from_slice(alloc, text) {
+        Ok(value) => Ok(Some(value)),
+        Err(error) => match error.classify() {
+            Category::Memory => Err(AllocError),
+            _ => Ok(None),
+        },
+    }
+}
+
+// The matrix of a value, or its first refusal.
+fn matrix_in(alloc: Global, value: &Value) -> Result<Read<Matrix>, AllocError>
+    ensures { IfOk result (λ read. read ≡ if_read (Some (view value.now))) }
+{
+    let Some(probes) = strings_in(value, "probes") else {
+        return Ok(refused(code::SHAPE, 0));
+    };
+    let Some(clones) = array_in(value, "clones") else {
+        return Ok(refused(code::SHAPE, 0));
+    };
+    matrix_of(alloc, probes, clones)
+}
+
+// The matrix of probes, which are strings, and clones, or their first refusal.
+fn matrix_of(alloc: Global, probes: &[Value], clones: &[Value]) -> Result<Read<Matrix>, AllocError>
+    ensures { IfOk result (λ read. read ≡ matrix_of (texts_of (items_view probes.now)) (items_view clones.now)) }
+{
+    if probes.is_empty() {
+        return Ok(refused(code::EMPTY, 0));
+    }
+    if probes.len() > MAX_COLUMNS as usize {
+        return Ok(refused(code::LIMIT, 0));
+    }
+    match names_of(alloc, probes) {
+        Err(e) => Err(e),
+        Ok(None) => Ok(refused(code::TWICE, 0)),
+        Ok(Some(names)) => {
+            if clones.len() > MAX_ROWS as usize {
+                return Ok(refused(code::LIMIT, 0));
+            }
+            rows_of(alloc, &names, clones)
+        }
+    }
+}
+
+// The array under a key of an object.
+fn array_in<'a>(value: &'a Value, key: &str) -> Option<&'a [Value]>
+    ensures { option_map (λ list. items_view list.now) result ≡ array_at key.now (view value.now) }
+{
+    match value.get(key).and_then(Value::as_array) {
+        Some(list) => Some(list),
+        None => None,
+    }
+}
+
+// The array under a key of an object, if all its items are strings.
+fn strings_in<'a>(value: &'a Value, key: &str) -> Option<&'a [Value]>
+    ensures { option_map (λ list. texts_of (items_view list.now)) result ≡ strings_at key.now (view value.now) }
+{
+    match array_in(value, key) {
+        Some(list) if all_strings(list) => Some(list),
+        _ => None,
+    }
+}
+
+fn all_strings(list: &[Value]) -> bool
+    ensures { result ≡ are_strings (items_view list.now) }
+{
+    for value in list {
+        if !value.is_string() {
+            return false;
+        }
+    }
+    true
+}
+
+// The text of a string. Another value has none.
+fn text_of(value: &Value) -> &str
+    ensures { result.now ≡ text_of (view value.now) }
+{
+    value.as_str().unwrap_or("")
+}
+
+// The names that strings are, in their order; none where one occurs twice.
+fn names_of<'a>(alloc: Global, list: &'a [Value]) -> Result<Option<IndexSet<&'a str>>, AllocError>
+    ensures { IfOk result (λ names. MatchOption names
+        (has_twice (texts_of (items_view list.now)) ≡ true)
+        (λ names. (has_twice (texts_of (items_view list.now)) ≡ false) × (bytes_of names.keys ≡ texts_of (items_view list.now)))) }
+{
+    let mut names = IndexSet::new(alloc);
+    for value in list {
+        match names.insert(text_of(value)) {
+            Err(_) => return Err(AllocError),
+            Ok(false) => return Ok(None),
+            Ok(true) => {}
+        }
+    }
+    Ok(Some(names))
+}
+
+// The matrix over the probes of these names with a row for each clone, or the first refusal of a clone.
+fn rows_of(
+    alloc: Global,
+    names: &IndexSet<&str>,
+    clones: &[Value],
+) -> Result<Read<Matrix>, AllocError>
+    requires some { 1 ≤ length names.now.keys }
+    requires small { length names.now.keys ≤ MAX_COLUMNS }
+    requires few { length clones.now ≤ MAX_ROWS }
+    ensures { IfOk result (λ read. read ≡ clone_matrix (bytes_of names.now.keys) (items_view clones.now)) }
+{
+    let matrix = Matrix::new(alloc, names.len() as u32)?;
+    let mut marks = vec![in alloc; false; names.len()]?;
+    let mut columns = vec![in alloc; 0u32; names.len()]?;
+    push_rows(matrix, names, clones, &mut marks, &mut columns)
+}
+
+// Fills a matrix with the rows of clones. `marks` and `columns` have an entry for each probe. Between two clones no mark
+// is set.
+fn push_rows(
+    mut matrix: Matrix,
+    names: &IndexSet<&str>,
+    clones: &[Value],
+    marks: &mut [bool],
+    columns: &mut [u32],
+) -> Result<Read<Matrix>, AllocError>
+    requires empty { matrix.rows ≡ [] }
+    requires width { matrix.columns ≡ length names.now.keys }
+    requires small { length names.now.keys ≤ MAX_COLUMNS }
+    requires few { length clones.now ≤ MAX_ROWS }
+    requires marks { length marks.old ≡ length names.now.keys }
+    requires clear { (j : ℕ) → slice_index_or marks.old j false ≡ false }
+    requires columns { length columns.old ≡ length names.now.keys }
+    ensures { IfOk result (λ read. read ≡ clone_matrix (bytes_of names.now.keys) (items_view clones.now)) }
+{
+    for (i, clone) in clones.iter().enumerate() {
+        match row_in(clone, names, marks, columns) {
+            Err(code) => return Ok(refused(code, i as u32 + 1)),
+            Ok(ones) => matrix.push_row(&columns[..ones])?,
+        }
+    }
+    Ok(Read::Ok(matrix))
+}
+
+// How many columns the row of a clone has, which stand at the front of `columns` then; or the code of its refusal.
+fn row_in(
+    clone: &Value,
+    names: &IndexSet<&str>,
+    marks: &mut [bool],
+    columns: &mut [u32],
+) -> Result<usize, u8>
+    requires small { length names.now.keys ≤ MAX_COLUMNS }
+    requires marks { length marks.old ≡ length names.now.keys }
+    requires clear { (j : ℕ) → slice_index_or marks.old j false ≡ false }
+    requires room { length marks.old ≤ length columns.old }
+    ensures refused { IfErr result (λ code. names_code (bytes_of names.now.keys) (probes_of (view clone.now)) ≡ Some code) }
+    ensures row { IfOk result (λ ones. (names_code (bytes_of names.now.keys) (probes_of (view clone.now)) ≡ None) × (take ones columns.new ≡ clone_row (bytes_of names.now.keys) (view clone.now))) }
+    ensures within { IfOk result (λ ones. ones ≤ length columns.new) }
+    ensures clear { OnOk result ((j : ℕ) → slice_index_or marks.new j false ≡ false) }
+{
+    let Some(list) = strings_in(clone, "probes") else {
+        return Err(code::SHAPE);
+    };
+    match mark_names(list, names, marks) {
+        Err(code) => Err(code),
+        Ok(()) => Ok(take_marked(marks, columns)),
+    }
+}
+
+// Marks the column of each string. Column 1 has the first mark. The error is the code of a string that is no probe.
+fn mark_names(list: &[Value], names: &IndexSet<&str>, marks: &mut [bool]) -> Result<(), u8>
+    requires marks { length marks.old ≡ length names.now.keys }
+    requires clear { (j : ℕ) → slice_index_or marks.old j false ≡ false }
+    ensures refused { IfErr result (λ code. (code ≡ RANGE) × (list_all (is_probe (bytes_of names.now.keys)) (texts_of (items_view list.now)) ≡ false)) }
+    ensures named { OnOk result (list_all (is_probe (bytes_of names.now.keys)) (texts_of (items_view list.now)) ≡ true) }
+    ensures marks { OnOk result ((j : ℕ) → j < length marks.old → slice_index_or marks.new j false ≡ has (map (column_of (bytes_of names.now.keys)) (texts_of (items_view list.now))) (j + 1)) }
+{
+    for value in list {
+        match names.get_index_of(text_of(value)) {
+            None => return Err(code::RANGE),
+            Some(index) => marks[index] = true,
+        }
+    }
+    Ok(())
+}
+
+#[cfg(test)]
+mod tests {
+    use super::*;
+    use row_model::Refusal;
+    use std::test::Fail;
+
+    #[test]
+    fn clones_are_rows_over_the_probes(rt: HostRuntime) -> Result<(), Fail> {
+        let text = b"{\"probes\":[\"a\",\"b\",\"c\",\"d\",\"e\"],\"clones\":[\
+            {\"name\":\"k1\",\"probes\":[\"b\",\"a\"]},{\"name\":\"k2\",\"probes\":[\"b\",\"c\"]},\
+            {\"name\":\"k3\",\"probes\":[]},{\"name\":\"k4\",\"probes\":[\"d\"]}]}";
+        let Read::Ok(matrix) = read_clones(rt.alloc(), text)? else {
+            panic!(rt; "refused");
+        };
+        assert_eq!(rt; matrix.columns(), 5);
+        assert_eq!(rt; matrix.rows(), 4);
+        assert_eq!(rt; matrix.row(1), [1, 2].as_slice());
+        assert_eq!(rt; matrix.row(2), [2, 3].as_slice());
+        assert_eq!(rt; matrix.row(3), [].as_slice());
+        assert_eq!(rt; matrix.row(4), [4].as_slice());
+        Ok(())
+    }
+
+    #[test]
+    fn a_probe_that_is_named_twice_counts_once(rt: HostRuntime) -> Result<(), Fail> {
+        let text =
+            b"\xEF\xBB\xBF{\"clones\":[{\"probes\":[\"b\",\"\\u0062\"]}],\"probes\":[],\"probes\":[\"a\",\"b\"]}";
+        let Read::Ok(matrix) = read_clones(rt.alloc(), text)? else {
+            panic!(rt; "refused");
+        };
+        assert_eq!(rt; matrix.columns(), 2);
+        assert_eq!(rt; matrix.rows(), 1);
+        assert_eq!(rt; matrix.row(1), [2].as_slice());
+        Ok(())
+    }
+
+    #[test]
+    fn the_first_refusal_counts(rt: HostRuntime) -> Result<(), Fail> {
+        let cases: [(&[u8], u8, u32); 10] = [
+            (b"{", 9, 0),
+            (b"\"\xFF\"", 9, 0),
+            (b"[]", 10, 0),
+            (b"{\"probes\":[\"a\",1],\"clones\":[]}", 10, 0),
+            (b"{\"probes\":[],\"clones\":{}}", 10, 0),
+            (b"{\"probes\":[],\"clones\":[1]}", 1, 0),
+            (b"{\"probes\":[\"a\",\"b\",\"a\"],\"clones\":[1]}", 5, 0),
+            (
+                b"{\"probes\":[\"a\"],\"clones\":[{\"probes\":[\"b\",1]}]}",
+                10,
+                1,
+            ),
+            (
+                b"{\"probes\":[\"a\"],\"clones\":[{\"probes\":[\"a\"]},{\"probes\":[\"b\"]}]}",
+                4,
+                2,
+            ),
+            (
+                b"{\"probes\":[\"a\"],\"clones\":[{\"probes\":[\"a\"]},[\"a\"]]}",
+                10,
+                2,
+            ),
+        ];
+        for (text, code, line) in cases {
+            match read_clones(rt.alloc(), text)? {
+                Read::Ok(_) => panic!(rt; "a matrix in place of {code}, {line}"),
+                Read::Refused(refusal) => assert_eq!(rt; refusal, Refusal { code, line }),
+            }
+        }
+        Ok(())
+    }
+}
