@@ -4,6 +4,9 @@ pub mod RowLemmas
 pub mod DenseLemmas
 pub mod WrittenLemmas
 pub mod SparseLemmas
+pub mod NameLemmas
+pub mod SparseLemmas
+pub mod CloneLemmas
 pub mod RecordLemmas
 pub mod TableLemmas
 pub mod CellLemmas

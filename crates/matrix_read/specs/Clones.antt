@@ -1,6 +1,5 @@
 -- A matrix as probes and clones in JSON: each probe is a column, and each clone is a row.
-use Rattle.std.specs.Prelude.{ℕ, suc, ◌+◌, ◌==◌, ◌&&◌, ◌||◌, List, [], ◌∷◌, map, length, codes, if◌then◌else◌, Bool, true, false, nat_lt, is_some, unwrap_or, Option, Some, None, option_and_then}
-use Rattle.std.specs.Borrow.{Bor}
+use Rattle.std.specs.Prelude.{ℕ, suc, ◌+◌, ◌==◌, ◌&&◌, List, [], ◌∷◌, map, length, codes, if◌then◌else◌, Bool, true, nat_lt, is_some, unwrap_or, Option, Some, None, option_and_then}
 use Rattle.std.specs.List.{list_any, list_all, position_or_len}
 use Rattle.std.specs.Str.{bytes_eq, is_utf8}
 use Rattle.serde_json.specs.Data.{Data, Items, no_items, item}
@@ -13,6 +12,7 @@ use Rattle.row_model.specs.declared.refusal.Read.TheVariants as answer
 use Rattle.row_model.specs.declared.TheConstants.{MAX_COLUMNS, MAX_ROWS}
 use Rattle.row_model.specs.declared.code.TheConstants.{EMPTY, RANGE, TWICE, LIMIT, JSON, SHAPE}
 use Rattle.matrix_read.specs.Lines.{without_mark}
+use Rattle.matrix_read.specs.Names.{has_twice}
 use Rattle.matrix_read.specs.Rows.{refusal_or, refused_or, within_length, columns_among}
 
 -- the value that `serde_json` reads; bytes that are no UTF-8 have none
@@ -49,11 +49,6 @@ strings_at key value = option_and_then strings_of (array_at key value)
 abbrev pub count : Items → ℕ
 count no_items = 0
 count (item value items) = suc (count items)
-
--- whether some name occurs twice
-abbrev pub has_twice : List (List ℕ) → Bool
-has_twice [] = false
-has_twice (name ∷ names) = list_any (bytes_eq name) names || has_twice names
 
 -- whether a probe has the name
 abbrev pub is_probe : List (List ℕ) → List ℕ → Bool
@@ -121,7 +116,3 @@ if_read (Some value) = if_shaped (probes_of value) (array_at (codes "clones") va
 -- the matrix of the bytes of a file, or their first refusal
 unfoldable pub clones : List ℕ → Read RowList
 clones bytes = within_length bytes (if_read (reading (without_mark bytes)))
-
--- the bytes of names
-abbrev pub bytes_of : List (Bor (List ℕ)) → List (List ℕ)
-bytes_of names = map (λ name. name.now) names

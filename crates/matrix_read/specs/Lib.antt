@@ -4,6 +4,9 @@ pub mod Rows
 pub mod Dense
 pub mod Written
 pub mod Sparse
+pub mod Names
+pub mod Sparse
+pub mod Clones
 pub mod Cells
 pub mod RecordsLeft
 pub mod Table
