@@ -11,11 +11,7 @@ use Rattle.row_model.specs.declared.refusal.Read.TheVariants as read
 use Rattle.row_model.specs.declared.TheConstants.{MAX_ROWS, MAX_FILE_BYTES}
 use Rattle.row_model.specs.declared.code.TheConstants.{GRAMMAR, LIMIT, CSV}
 use Rattle.matrix_read.specs.Lines.{is_blank_byte, is_blank}
-<<<<<<< HEAD
-use Rattle.matrix_read.proofs.RowLemmas.{Ascends-low}
-=======
 use Rattle.matrix_read.proofs.RowLemmas.{Ascends-low, too_long, short_enough}
->>>>>>> 2bba87f3f96d54c4499feb627c9f8eb3e397838a
 use Rattle.matrix_read.specs.Cells.{without_last_blanks, trimmed, cells, is_present, is_foreign, present_from, row_of}
 use Rattle.matrix_read.specs.Table.{record_code, first_refusal, with_records, with_even_records, read_records, table}
 
