@@ -76,7 +76,7 @@ pub items_drop : (values : List Value) (i : ℕ) (value : Value) → i < length 
 items_drop values i value lt is = ap items_view (drop-cons values i value lt) ∙ ap (λ (v : Value). item (view v) (items_view (drop (suc i) values))) (sym is) ∙ ap (λ n. item (view value) (items_view (drop n values))) (sym (add-one i))
 
 -- a name more among names that occur once
-same_bytes : (xs ys : List ℕ) → bytes_eq xs ys ≡ true → bytes_eq ys xs ≡ true
+pub same_bytes : (xs ys : List ℕ) → bytes_eq xs ys ≡ true → bytes_eq ys xs ≡ true
 same_bytes xs ys h = (bytes_eq-Decides ys xs).1 (sym ((bytes_eq-Decides xs ys).0 h))
 
 pub twice_found : (name : List ℕ) (names rest : List (List ℕ)) → list_any (bytes_eq name) names ≡ true → has_twice (names ++ name ∷ rest) ≡ true

@@ -5,3 +5,5 @@ pub mod DenseLemmas
 pub mod WrittenLemmas
 pub mod SparseLemmas
 pub mod CloneLemmas
+pub mod WrittenRowLemmas
+pub mod CloneRowLemmas

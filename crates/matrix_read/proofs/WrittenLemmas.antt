@@ -23,7 +23,7 @@ digit_cases : (b : ℕ) → is_digit b ≡ true → (b ≡ 48) ⊎ (b ≡ 49)
 digit_cases b h = elim (or_cases (b == 48) (b == 49) h) [ inl e ↦ inl (eqb-true b 48 e) | inr e ↦ inr (eqb-true b 49 e) ]
 
 -- a column that the row has, or lacks
-lacks_low : (c low a : ℕ) (row : List ℕ) → Ascends c low row → a ≤ low → has row a ≡ false
+pub lacks_low : (c low a : ℕ) (row : List ℕ) → Ascends c low row → a ≤ low → has row a ≡ false
 lacks_low c low a [] h le = refl
 lacks_low c low a (x ∷ row) h le = rw (ne_eqb x a (λ e. omega (arith, e, h.0)), lacks_low c x a row h.2 (omega (arith, h.0))) refl
 

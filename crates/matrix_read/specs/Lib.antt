@@ -5,3 +5,5 @@ pub mod Dense
 pub mod Written
 pub mod Sparse
 pub mod Clones
+pub mod WrittenRows
+pub mod CloneRows
