@@ -12,3 +12,5 @@ pub mod TableLemmas
 pub mod CellLemmas
 pub mod WrittenTableLemmas
 pub mod CloneLemmas
+pub mod WrittenRowLemmas
+pub mod CloneRowLemmas

@@ -72,9 +72,13 @@ unfoldable pub first_refused : List (List ℕ) → ℕ → Items → Option Refu
 first_refused probes number no_items = None
 first_refused probes number (item clone clones) = refusal_or (names_code probes (probes_of clone)) number (first_refused probes (number + 1) clones)
 
--- the row of a clone: the set of the columns of its probes
+-- the row of names: the set of their columns
+abbrev pub names_row : List (List ℕ) → List (List ℕ) → List ℕ
+names_row probes names = columns_among 1 (length probes) (map (column_of probes) names)
+
+-- the row of a clone: that of its probes
 abbrev pub clone_row : List (List ℕ) → Data → List ℕ
-clone_row probes clone = columns_among 1 (length probes) (map (column_of probes) (unwrap_or (probes_of clone) []))
+clone_row probes clone = names_row probes (unwrap_or (probes_of clone) [])
 
 -- the row of each clone
 abbrev pub clone_rows : List (List ℕ) → Items → List (List ℕ)

@@ -12,3 +12,5 @@ pub mod RecordsLeft
 pub mod Table
 pub mod TableLaws
 pub mod Clones
+pub mod WrittenRows
+pub mod CloneRows
