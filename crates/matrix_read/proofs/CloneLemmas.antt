@@ -74,35 +74,6 @@ count_is (value ∷ values) = ap suc (count_is values)
 pub items_drop : (values : List Value) (i : ℕ) (value : Value) → i < length values → value ≡ get_or values i value → items_view (drop i values) ≡ item (view value) (items_view (drop (i + 1) values))
 items_drop values i value lt is = ap items_view (drop-cons values i value lt) ∙ ap (λ (v : Value). item (view v) (items_view (drop (suc i) values))) (sym is) ∙ ap (λ n. item (view value) (items_view (drop n values))) (sym (add-one i))
 
-<<<<<<< HEAD
-=======
--- a name more among names that occur once
-pub same_bytes : (xs ys : List ℕ) → bytes_eq xs ys ≡ true → bytes_eq ys xs ≡ true
-same_bytes xs ys h = (bytes_eq-Decides ys xs).1 (sym ((bytes_eq-Decides xs ys).0 h))
-
-pub twice_found : (name : List ℕ) (names rest : List (List ℕ)) → list_any (bytes_eq name) names ≡ true → has_twice (names ++ name ∷ rest) ≡ true
-twice_found name [] rest h = absurd (cc)
-twice_found name (first ∷ names) rest h =
-    elim (or_cases (bytes_eq name first) (list_any (bytes_eq name) names) h) [
-      | inl same ↦
-          let here : list_any (bytes_eq first) (names ++ name ∷ rest) ≡ true = list_any-append (bytes_eq first) names (name ∷ rest) ∙ or_right (list_any (bytes_eq first) names) (bytes_eq first name || list_any (bytes_eq first) rest) (rw (same_bytes name first same) refl) in
-          rw here refl
-      | inr later ↦ or_right _ _ (twice_found name names rest later)
-    ]
-
-pub once_more : (name : List ℕ) (names : List (List ℕ)) → list_any (bytes_eq name) names ≡ false → has_twice names ≡ false → has_twice (names ++ name ∷ []) ≡ false
-once_more name [] h once = refl
-once_more name (first ∷ names) h once =
-    let other = or_parts (bytes_eq name first) (list_any (bytes_eq name) names) h in
-    let alone = or_parts (list_any (bytes_eq first) names) (has_twice names) once in
-    let apart : bytes_eq first name ≡ false = elim (cases_Bool (bytes_eq first name)) [ inl same ↦ absurd (false≢true (sym other.0 ∙ same_bytes first name same)) | inr not_same ↦ not_same ] in
-    rw (list_any-append (bytes_eq first) names (name ∷ []), alone.0, apart) (once_more name names other.1 alone.1)
-
-pub found_if : (b : Bool) → false ≡ not b → b ≡ true
-found_if true h = refl
-found_if false h = absurd (false≢true h)
-
->>>>>>> 7b873729adc09d8e91d23c5691b45943825bf53a
 -- names by their bytes
 prefix_len-bytes : (p : List ℕ → Bool) (names : List (Bor (List ℕ))) → prefix_len (λ (name : Bor (List ℕ)). p name.now) names ≡ prefix_len p (bytes_of names)
 prefix_len-bytes p [] = refl

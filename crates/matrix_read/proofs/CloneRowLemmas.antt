@@ -6,9 +6,10 @@ use Rattle.std.specs.Str.{bytes_eq}
 use Rattle.std.proofs.lemmas.Slice.Eq.{bytes_eq-Decides}
 use Rattle.column_order.specs.Orders.{has}
 use Rattle.matrix_read.specs.Rows.{columns_among}
-use Rattle.matrix_read.specs.Clones.{has_twice, column_of}
+use Rattle.matrix_read.specs.Clones.{column_of}
+use Rattle.matrix_read.specs.Names.{has_twice}
 use Rattle.matrix_read.specs.CloneRows.{CloneLaw}
-use Rattle.matrix_read.proofs.CloneLemmas.{same_bytes}
+use Rattle.matrix_read.proofs.NameLemmas.{same_bytes}
 
 -- the columns among numbers have each of the columns that is one of the numbers
 lacks_among : (column n a : ℕ) (numbers : List ℕ) → a < column → has (columns_among column n numbers) a ≡ false

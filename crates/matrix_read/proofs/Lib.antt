@@ -5,12 +5,10 @@ pub mod DenseLemmas
 pub mod WrittenLemmas
 pub mod SparseLemmas
 pub mod NameLemmas
-pub mod SparseLemmas
 pub mod CloneLemmas
 pub mod RecordLemmas
 pub mod TableLemmas
 pub mod CellLemmas
 pub mod WrittenTableLemmas
-pub mod CloneLemmas
 pub mod WrittenRowLemmas
 pub mod CloneRowLemmas

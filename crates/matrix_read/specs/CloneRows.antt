@@ -3,7 +3,8 @@ use Rattle.std.specs.Prelude.{◌≡◌, ℕ, ◌+◌, ◌<◌, false, List, [],
 use Rattle.std.specs.List.{list_any}
 use Rattle.std.specs.Str.{bytes_eq}
 use Rattle.column_order.specs.Orders.{has}
-use Rattle.matrix_read.specs.Clones.{has_twice, names_row}
+use Rattle.matrix_read.specs.Clones.{names_row}
+use Rattle.matrix_read.specs.Names.{has_twice}
 
 -- where no two probes are equal, the row of names has a column exactly where a name is the probe at that place
 abbrev pub CloneLaw : Type 0

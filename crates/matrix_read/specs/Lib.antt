@@ -5,12 +5,10 @@ pub mod Dense
 pub mod Written
 pub mod Sparse
 pub mod Names
-pub mod Sparse
 pub mod Clones
 pub mod Cells
 pub mod RecordsLeft
 pub mod Table
 pub mod TableLaws
-pub mod Clones
 pub mod WrittenRows
 pub mod CloneRows

@@ -4,13 +4,9 @@ ghost use Rattle.std.specs.List.{list_all};
 ghost use Rattle.row_model.specs.declared.code.TheConstants.{RANGE};
 ghost use Rattle.column_order.specs.Orders.{has};
 ghost use Rattle.serde_json.specs.View.{view, items_view};
-<<<<<<< HEAD
 ghost use Rattle.matrix_read.specs.Clones.{reading, array_at, are_strings, text_of, texts_of, strings_of, strings_at, count, is_probe, column_of, probes_of, names_code, clone_row, clone_matrix, matrix_of, if_read, clones};
-ghost use Rattle.matrix_read.specs.Names.{has_twice, bytes_of};
-=======
-ghost use Rattle.matrix_read.specs.Clones.{reading, array_at, are_strings, text_of, texts_of, strings_at, has_twice, is_probe, column_of, probes_of, names_code, clone_row, clone_matrix, matrix_of, if_read, bytes_of, clones};
 ghost use Rattle.matrix_read.specs.CloneRows.{CloneLaw};
->>>>>>> 7b873729adc09d8e91d23c5691b45943825bf53a
+ghost use Rattle.matrix_read.specs.Names.{has_twice, bytes_of};
 
 use crate::lines::without_mark;
 use crate::rows::{refused, take_marked};

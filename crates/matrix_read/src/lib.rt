@@ -18,10 +18,6 @@ pub use clones::{clone_law, read_clones};
 pub use dense::{dense_law, read_dense};
 pub use lines::{FilledLine, LineSpan, next_filled_line, next_line, without_mark};
 pub use row_model::NoMemory;
-<<<<<<< HEAD
-pub use sparse::{read_more, read_rows};
-pub use table::read_table;
-=======
 pub use sparse::{named_laws, read_more, read_rows};
->>>>>>> 7b873729adc09d8e91d23c5691b45943825bf53a
+pub use table::{read_table, table_laws};
 pub use words::{Numeral, WordSpan, next_word, number};
