@@ -95,10 +95,15 @@ def cycle_problem(columns, rows, lines):
     return None
 
 
+def dense(columns, rows):
+    """The file of a matrix."""
+    return "".join("".join("1" if column in row else "0" for column in range(1, columns + 1)) + "\n" for row in rows)
+
+
 def problem(columns, rows):
     """What is wrong with the answer on a matrix, or None."""
-    text = "".join("".join("1" if column in row else "0" for column in range(1, columns + 1)) + "\n" for row in rows)
-    done = subprocess.run([PROGRAM, "solve", "matrix", "-"], input=text.encode(), capture_output=True, check=False)
+    done = subprocess.run([PROGRAM, "solve", "matrix", "-"], input=dense(columns, rows).encode(), capture_output=True,
+                          check=False)
     lines = done.stdout.decode().split("\n")
     if lines[:3] != ["pq-verdict 1", "kind matrix", f"columns {columns}"] or lines[-2:] != ["end", ""]:
         return f"head or end of {lines}"

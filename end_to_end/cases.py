@@ -4,6 +4,11 @@ Every wanted text was written by hand from the rules of the formats (docs/FORMAT
 """
 
 LIMIT = 16_777_216
+VERDICT_LIMIT = 33_554_432
+
+# Two rows that overlap, and three of which each two overlap.
+CHAIN = b"110\n011\n"
+TRIANGLE = b"110\n011\n101\n"
 
 
 def case(name, words, status, out=b"", err=b"", **more):
@@ -23,6 +28,28 @@ def answers(name, content, status, out):
 def refused(name, content, code, line):
     return case(name, ["solve", "matrix", "file"], 3, err=f"pq: refused 1 code {code} line {line}\n".encode(),
                 files={"file": content})
+
+
+def says(answer, kind="matrix", columns="3"):
+    """The text of a verdict with this answer, whose lines are apart by ` / `."""
+    lines = f"pq-verdict 1 / kind {kind} / columns {columns} / answer {answer} / end / "
+    return lines.replace(" / ", "\n").encode()
+
+
+def judged(name, matrix, verdict, line):
+    """A check of a verdict, and the line that it writes."""
+    return case(name, ["check", "matrix", "file", "verdict"], 0 if line == "valid" else 1, f"{line}\n".encode(),
+                files={"file": matrix, "verdict": verdict})
+
+
+def claims(name, answer, line, matrix=TRIANGLE, **head):
+    """A check of a verdict with this answer."""
+    return judged(name, matrix, says(answer, **head), line)
+
+
+def cycle(*lines):
+    """An answer of no with a cycle of these lines."""
+    return " / ".join(["no / side 1", f"cycle {len(lines)}", *lines])
 
 
 def outside(name, words):
@@ -55,6 +82,10 @@ WORDS = [
     outside("an empty word in place of the kind", ["solve", "", "-"]),
     outside("a word that is no UTF-8", ["solve", "matrix", b"\xff"]),
     outside("a kind that is no UTF-8", ["solve", b"\xc3", "-"]),
+    outside("no verdict to check", ["check", "matrix", "-"]),
+    outside("a word too many after check", ["check", "matrix", "file", "verdict", "verdict"]),
+    outside("another kind to check", ["check", "matrices", "file", "verdict"]),
+    outside("standard input twice", ["check", "matrix", "-", "-"]),
 ]
 
 ANSWERS = [
@@ -111,6 +142,79 @@ FILES = [
          files={"file": b"11\n"}, unreadable=["file"]),
 ]
 
+VALID = [
+    claims("an odd cycle", cycle("1 3 row 1", "3 2 row 3", "2 1 row 2"), "valid"),
+    claims("an odd cycle of nine lines",
+           cycle("2 3 row 4", "3 6 row 2", "6 4 row 3", "4 5 row 4", "5 2 row 3", "2 6 row 1", "6 1 row 4", "1 4 row 1",
+                 "4 2 row 2"), "valid", matrix=b"110000\n001100\n000011\n010101\n", columns="6"),
+    claims("a tree and its order", "yes / tree [1 2 3] / order 1 2 3", "valid", CHAIN),
+    claims("the tree turned round, and the order the other way", "yes / tree [3 2 1] / order 3 2 1", "valid", CHAIN),
+    claims("a tree of fewer orders", "yes / tree [1 2 3] / order 1 2 3", "valid", b"110\n"),
+    claims("a single column", "yes / tree 1 / order 1", "valid", b"1\n", columns="1"),
+]
+
+# Each verdict fails one test of those that are made on a matrix, and passes those before it.
+FORGED = [
+    judged("the greatest verdict that is read", CHAIN, b"x" * VERDICT_LIMIT, "invalid text"),
+    judged("a verdict one byte past the limit", CHAIN, b"x" * (VERDICT_LIMIT + 1), "invalid too-long"),
+    judged("an empty verdict", TRIANGLE, b"", "invalid text"),
+    judged("a byte after the last line", TRIANGLE, says(cycle("1 3 row 1", "3 2 row 3", "2 1 row 2")) + b"\n", "invalid text"),
+    judged("a last line without its LF", CHAIN, says("yes / tree [1 2 3] / order 1 2 3")[:-1], "invalid text"),
+    judged("lines that end with CR LF", CHAIN, says("yes / tree [1 2 3] / order 1 2 3").replace(b"\n", b"\r\n"), "invalid text"),
+    judged("a byte order mark", CHAIN, b"\xef\xbb\xbf" + says("yes / tree [1 2 3] / order 1 2 3"), "invalid text"),
+    judged("another version", CHAIN, says("yes / tree [1 2 3] / order 1 2 3").replace(b"t 1", b"t 2", 1), "invalid text"),
+    claims("a column twice in the tree", "yes / tree [1 2 2] / order 1 2 3", "invalid text", CHAIN),
+    claims("a column that the tree lacks", "yes / tree (1 2) / order 1 2 3", "invalid text", CHAIN),
+    claims("a node in square brackets with two children", "yes / tree [1 (2 3)] / order 1 2 3", "invalid text", CHAIN),
+    claims("a node with one child", "yes / tree [1 2 (3)] / order 1 2 3", "invalid text", CHAIN),
+    claims("a leading zero", "yes / tree [1 2 3] / order 01 2 3", "invalid text", CHAIN),
+    claims("two spaces", "yes / tree [1 2 3] / order 1  2 3", "invalid text", CHAIN),
+    claims("no order", "yes / tree [1 2 3]", "invalid text", CHAIN),
+    claims("a number past 32 bits", "yes / tree [1 2 3] / order 4294967296 2 3", "invalid text", CHAIN),
+    claims("no columns", "yes / tree [1 2 3] / order 1 2 3", "invalid text", CHAIN, columns="0"),
+    claims("1,025 columns", "yes / tree [1 2 3] / order 1 2 3", "invalid text", CHAIN, columns="1025"),
+    claims("side 2 of a matrix", "no / side 2 / cycle 0", "invalid text"),
+    claims("fewer lines than are counted", "no / side 1 / cycle 3 / 1 3 row 1 / 3 2 row 3", "invalid text"),
+    claims("another kind", "yes / tree [1 2 3] / order 1 2 3", "invalid kind", CHAIN, kind="rows"),
+    claims("other columns", "yes / tree (1 2 3 4) / order 1 2 3 4", "invalid columns", CHAIN, columns="4"),
+    claims("an order that parts a row", "yes / tree [1 2 3] / order 1 3 2", "invalid order 1", CHAIN),
+    claims("an order with a column twice", "yes / tree [1 2 3] / order 1 2 2", "invalid order 1", CHAIN),
+    claims("a short order", "yes / tree [1 2 3] / order 1 2", "invalid order 1", CHAIN),
+    claims("an order with a 0", "yes / tree [1 2 3] / order 0 1 2", "invalid order 1", CHAIN),
+    claims("an order with the greatest number", "yes / tree [1 2 3] / order 4294967295 2 3", "invalid order 1", CHAIN),
+    claims("yes where there is no valid order", "yes / tree [1 2 3] / order 1 2 3", "invalid order 1"),
+    claims("a tree whose leaves alone keep the rows", "yes / tree (1 2 3) / order 1 2 3", "invalid tree 1 1", CHAIN),
+    claims("a tree that keeps the first row alone", "yes / tree ((1 2) 3) / order 1 2 3", "invalid tree 1 2", CHAIN),
+    claims("a cycle without lines", cycle(), "invalid length 0"),
+    claims("a cycle of one line", cycle("1 3 flip"), "invalid length 1"),
+    claims("a cycle of two lines", cycle("1 3 row 1", "3 2 row 3"), "invalid length 2"),
+    claims("a cycle of four lines", cycle("1 3 flip", "3 1 flip", "1 2 flip", "2 1 flip"), "invalid length 4"),
+    claims("a column past the last", cycle("1 3 row 1", "3 4 row 3", "4 1 row 2"), "invalid pair 2"),
+    claims("a column 0", cycle("0 3 row 1", "3 2 row 3", "2 1 row 2"), "invalid pair 1"),
+    claims("a pair of one column", cycle("1 3 row 1", "3 2 row 3", "2 2 row 2"), "invalid pair 3"),
+    claims("a pair that comes twice", cycle("1 3 flip", "3 1 flip", "1 3 row 1", "3 2 row 3", "2 1 row 2"), "invalid repeat 3"),
+    claims("a row past the last", cycle("1 3 row 1", "3 2 row 3", "2 1 row 9"), "invalid join 3"),
+    claims("a row 0", cycle("1 3 row 0", "3 2 row 3", "2 1 row 2"), "invalid join 1"),
+    claims("a row that does not join the pairs", cycle("1 3 row 1", "3 2 row 1", "2 1 row 2"), "invalid join 2"),
+    claims("a flip that does not join the pairs", cycle("1 3 flip", "3 2 row 3", "2 1 row 2"), "invalid join 1"),
+    claims("a last line that does not lead to the first", cycle("1 3 row 1", "3 2 flip", "2 3 flip"), "invalid join 3"),
+    claims("no where there is a valid order", cycle("1 3 row 1", "3 2 row 3", "2 1 row 2"), "invalid join 2", CHAIN),
+]
+
+CHECK_FILES = [
+    case("a verdict from standard input", ["check", "matrix", "file", "-"], 0, b"valid\n", files={"file": CHAIN},
+         input=says("yes / tree [1 2 3] / order 1 2 3")),
+    case("a matrix from standard input", ["check", "matrix", "-", "verdict"], 0, b"valid\n", input=CHAIN,
+         files={"verdict": says("yes / tree [1 2 3] / order 1 2 3")}),
+    case("a missing verdict", ["check", "matrix", "file", "verdict"], 4, err=b"pq: read fault\n", files={"file": CHAIN}),
+    case("a verdict that is a directory", ["check", "matrix", "file", "folder"], 4, err=b"pq: read fault\n",
+         files={"file": CHAIN}, folders=["folder"]),
+    case("a matrix that is missing", ["check", "matrix", "file", "verdict"], 4, err=b"pq: read fault\n",
+         files={"verdict": b""}),
+    case("the matrix is refused before the verdict is read", ["check", "matrix", "file", "verdict"], 3,
+         err=b"pq: refused 1 code 2 line 1\n", files={"file": b"12\n"}),
+]
+
 # Matrices with no valid order: the number of columns, and the rows. Which odd cycle is printed is free.
 REFUTED = [
     ("three columns of which each two shall meet", 3, [{1, 2}, {2, 3}, {1, 3}]),
@@ -119,4 +223,4 @@ REFUTED = [
     ("a row across two nested ones", 5, [{1, 2, 3}, {1, 2}, {2, 3}, {1, 3, 4}, {5}]),
 ]
 
-CASES = WORDS + ANSWERS + REFUSED + FILES
+CASES = WORDS + ANSWERS + REFUSED + FILES + VALID + FORGED + CHECK_FILES

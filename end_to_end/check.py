@@ -1,6 +1,6 @@
 #!/usr/bin/env python3
 """Runs the built program over real files, streams and devices, and compares bytes and status; then runs it over every small
-matrix, and compares the answer with a plain program that tries all orders.
+matrix, compares the answer with a plain program that tries all orders, and checks the verdict.
 
 Usage: end_to_end/check.py            after `rt ci` or `./pq`, which leave the program in crates/pq/out/pq
 The last line is `N passed, N failed`; the status is 0 where nothing failed.
@@ -12,7 +12,7 @@ import subprocess
 import sys
 import tempfile
 
-from all_orders import matrices, problem as wrong_answer
+from all_orders import dense, matrices, problem as wrong_answer
 from cases import CASES, REFUTED
 
 HOME = os.path.dirname(os.path.dirname(os.path.abspath(__file__)))
@@ -113,6 +113,18 @@ def script_runs(folder, program):
             or difference("errors", b"pq: read fault\n", refused.stderr))
 
 
+def not_believed(columns, rows, folder, program):
+    """Whether `check` finds what `solve` wrote on a matrix other than valid, and how; None where it is valid."""
+    matrix, verdict = os.path.join(folder, "matrix"), os.path.join(folder, "verdict")
+    with open(matrix, "wb") as file:
+        file.write(dense(columns, rows).encode())
+    with open(verdict, "wb") as file:
+        solved = subprocess.run([program, "solve", "matrix", matrix], stdout=file, timeout=SECONDS, check=False)
+    done = subprocess.run([program, "check", "matrix", matrix, verdict], capture_output=True, timeout=SECONDS, check=False)
+    return (difference("status of solve", True, solved.returncode in (0, 1))
+            or difference("status", 0, done.returncode) or difference("output", b"valid\n", done.stdout))
+
+
 STREAMS = [full_device, closed_pipe, closed_errors, script_runs]
 
 
@@ -134,11 +146,11 @@ def main():
             except subprocess.TimeoutExpired:
                 problem = f"no end within {SECONDS} seconds"
             report.tell(name, problem)
-    for name, columns, rows in REFUTED:
-        report.tell(name, wrong_answer(columns, rows))
-    for columns in range(1, MOST_COLUMNS + 1):
-        for rows in matrices(columns):
-            report.tell(f"all orders of {columns} columns, rows {[sorted(row) for row in rows]}", wrong_answer(columns, rows))
+        small = [(f"all orders of {columns} columns, rows {[sorted(row) for row in rows]}", columns, rows)
+                 for columns in range(1, MOST_COLUMNS + 1) for rows in matrices(columns)]
+        for name, columns, rows in REFUTED + small:
+            report.tell(name, wrong_answer(columns, rows))
+            report.tell(f"check of {name}", not_believed(columns, rows, top, program))
     print(f"{report.passed} passed, {report.failed} failed")
     return 1 if report.failed else 0
 

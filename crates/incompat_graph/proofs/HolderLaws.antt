@@ -1,8 +1,9 @@
 -- The lists of the rows that have each column, as they grow.
-use Rattle.std.proofs.Common.{◌≡◌, ◌≢◌, ◌∙◌, ℕ, ◌+◌, ◌-◌, ◌<◌, ◌≤◌, Vec, Global, List, [], ◌∷◌, ◌++◌, length, map, set, replicate, get_or, slice_get, Some, IsTrue, sym, ap, subst, inl, inr, arith, get_or-set_same, get_or-set_other}
+use Rattle.std.proofs.Common.{◌≡◌, ◌≢◌, ◌∙◌, take, sum_by, ℕ, ◌+◌, ◌-◌, ◌<◌, ◌≤◌, Vec, Global, List, [], ◌∷◌, ◌++◌, length, map, set, replicate, get_or, slice_get, Some, IsTrue, sym, ap, subst, inl, inr, arith, get_or-set_same, get_or-set_other}
 use Rattle.std.proofs.lemmas.Bool.{cases_eq, cases_lt}
-use Rattle.std.proofs.lemmas.List.{length-set, length-replicate, get_or-replicate, get_or_past}
-use Rattle.std.proofs.lemmas.Option.{none-some, same_Some, slice_get_within}
+use Rattle.std.proofs.lemmas.List.Sums.{sum_by-append, sum_by-cons}
+use Rattle.std.proofs.lemmas.List.{take_more, length-set, length-replicate, get_or-replicate, get_or_past}
+use Rattle.std.proofs.lemmas.Option.{none-some, same_Some, slice_get_within, get_or_from_slice_get}
 use Rattle.column_order.specs.Orders.{has}
 use Rattle.row_model.specs.Graph.{row_at}
 use Rattle.row_model.specs.Rows.{RowList}
@@ -101,3 +102,11 @@ module _ (m : RowList) (k : ℕ) (row : List ℕ) (done : ℕ) (lists lists' : L
               (found.0, stays q found.0 (k + 1) (row_columns j q f).0 found.1)
         ];
       }
+
+-- the ones of a further row
+pub ones_more : (rows : List (List ℕ)) (k : ℕ) (row : List ℕ) → slice_get rows (k + 1 - 1) ≡ Some row → sum_by length (take (k + 1) rows) ≡ sum_by length (take k rows) + length row
+ones_more rows k row e =
+    let here : slice_get rows k ≡ Some row = subst (λ n. slice_get rows n ≡ Some row) (omega arith) e in
+    ap (sum_by length) (take_more rows k row (slice_get_within rows k row here))
+    ∙ sum_by-append length (take k rows) (get_or rows k row ∷ [])
+    ∙ ap (λ n. sum_by length (take k rows) + n) (sum_by-cons length (get_or rows k row) [] ∙ omega (arith, ap length (get_or_from_slice_get rows k row row here)))

@@ -1,5 +1,5 @@
 // The rows that have each column.
-ghost use Rattle.std.specs.Prelude.{◌≡◌, ◌-◌, ◌<◌, ◌≤◌, [], ◌∷◌, ◌++◌, length, map, set, slice_index_or, IfOk, OnOk};
+ghost use Rattle.std.specs.Prelude.{◌≡◌, ◌+◌, ◌-◌, ◌<◌, ◌≤◌, [], ◌∷◌, ◌++◌, length, map, set, slice_index_or, sum_by, take, IfOk, OnOk};
 ghost use Rattle.incompat_graph.specs.Holders.{AreHolders};
 
 use row_model::Matrix;
@@ -14,7 +14,8 @@ pub fn rows_by_column<L: Ledger>(
     steps: &mut Steps<L>,
 ) -> Result<Vec<Vec<u32>>, AllocError>
     requires { rows ≤ length m.now.rows }
-    ensures { IfOk result (λ holders. AreHolders m.now rows (map (λ list. list.items) holders.items)) }
+    ensures holders { IfOk result (λ holders. AreHolders m.now rows (map (λ list. list.items) holders.items)) }
+    ensures counted { OnOk result (steps.new ≡ steps.old + sum_by length (take rows m.now.rows)) }
 {
     let mut holders = Vec::new(alloc);
     for _ in 0..m.columns() {

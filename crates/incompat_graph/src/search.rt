@@ -1,5 +1,5 @@
 // The search for a closed walk of odd length.
-ghost use Rattle.std.specs.Prelude.{◌≡◌, ◌<◌, ◌≤◌, ℕ, true, not, Some, length, map, take, slice_get, IsTrue, IfOk, MatchOption};
+ghost use Rattle.std.specs.Prelude.{◌≡◌, ◌+◌, ◌<◌, ◌≤◌, ℕ, true, not, Some, length, map, take, slice_get, sum_by, IsTrue, IfOk, OnOk, MatchOption};
 ghost use Rattle.row_model.specs.Graph.{row_at, turned, HasOddWalk};
 ghost use Rattle.row_model.specs.Cycles.{IsOddWalk};
 ghost use Rattle.column_order.specs.Orders.{has};
@@ -21,7 +21,8 @@ use step_count::{Ledger, Steps};
 ///
 /// The pairs are taken in the order in which they are reached, and each is given one of two sides, the other than the pair
 /// from which it was reached. Two joined pairs on one side close an odd walk through the search tree; if there are none, the
-/// graph is bipartite. Each row is looked at once for each column that it lacks.
+/// graph is bipartite. Each row is looked at once for each column that it lacks. It counts a step at least for each one of
+/// the first rows.
 pub fn odd_walk<L: Ledger>(
     alloc: Global,
     m: &Matrix,
@@ -29,9 +30,10 @@ pub fn odd_walk<L: Ledger>(
     steps: &mut Steps<L>,
 ) -> Result<Option<Walk>, AllocError>
     requires { rows ≤ length m.now.rows }
-    ensures { IfOk result (λ found. MatchOption found
+    ensures found { IfOk result (λ found. MatchOption found
         (¬ HasOddWalk m.now.columns (take rows m.now.rows))
         (IsOddWalk m.now.columns (take rows m.now.rows))) }
+    ensures counted { OnOk result (steps.old + sum_by length (take rows m.now.rows) ≤ steps.new) }
 {
     let holders = rows_by_column(alloc, m, rows, steps)?;
     let mut marks = Marks::new(alloc, rows, m.columns())?;
@@ -60,10 +62,11 @@ fn look<L: Ledger>(
     requires row { (1 ≤ row) × (row ≤ marks.old.rows) }
     requires node { (node : Node) → slice_get forest.old.nodes.items from ≡ Some node
         → IsTrue (has (row_at m.now.rows row) node.pair.a) × IsReached forest.old.nodes.items (turned node.pair) (not node.odd) }
-    ensures { IfOk result (λ found. MatchOption found
+    ensures found { IfOk result (λ found. MatchOption found
         (IsSearch m.now marks.new forest.new × Grows marks.old marks.new forest.old.nodes.items forest.new.nodes.items × (forest.new.root ≡ forest.old.root)
         × ((node : Node) → slice_get forest.old.nodes.items from ≡ Some node → is_marked marks.new row node.pair.b ≡ true))
         (ShowsConflict m.now.columns (take marks.old.rows m.now.rows) forest.new)) }
+    ensures later { steps.old ≤ steps.new }
 {
     let node = forest.nodes[from];
     if marks.mark(row, node.pair.b) {
@@ -110,10 +113,11 @@ fn expand<L: Ledger>(
     requires search { IsSearch m.now marks.old forest.old }
     requires holders { AreHolders m.now marks.old.rows (map (λ list. list.items) holders.now) }
     requires from { (forest.old.root ≤ from) × (from < length forest.old.nodes.items) }
-    ensures { IfOk result (λ found. MatchOption found
+    ensures found { IfOk result (λ found. MatchOption found
         (IsSearch m.now marks.new forest.new × Grows marks.old marks.new forest.old.nodes.items forest.new.nodes.items × (forest.new.root ≡ forest.old.root)
         × ((node : Node) → slice_get forest.old.nodes.items from ≡ Some node → IsTaken m.now.rows marks.new forest.new.nodes.items node))
         (ShowsConflict m.now.columns (take marks.old.rows m.now.rows) forest.new)) }
+    ensures later { steps.old ≤ steps.new }
 {
     let node = forest.nodes[from];
     let turned = Node {
@@ -151,10 +155,11 @@ fn grow<L: Ledger>(
     requires search { IsSearch m.now marks.old forest.old }
     requires holders { AreHolders m.now marks.old.rows (map (λ list. list.items) holders.now) }
     requires taken { AreTaken m.now.rows marks.old forest.old.nodes.items forest.old.root }
-    ensures { IfOk result (λ found. MatchOption found
+    ensures found { IfOk result (λ found. MatchOption found
         (IsSearch m.now marks.new forest.new × Grows marks.old marks.new forest.old.nodes.items forest.new.nodes.items
         × AreTaken m.now.rows marks.new forest.new.nodes.items (length forest.new.nodes.items))
         (ShowsConflict m.now.columns (take marks.old.rows m.now.rows) forest.new)) }
+    ensures later { steps.old ≤ steps.new }
 {
     let mut head = forest.root;
     while head < forest.nodes.len() {
@@ -179,11 +184,12 @@ fn grow_from_column<L: Ledger>(
     requires holders { AreHolders m.now marks.old.rows (map (λ list. list.items) holders.now) }
     requires taken { AreTaken m.now.rows marks.old forest.old.nodes.items (length forest.old.nodes.items) }
     requires column { (1 ≤ a) × (a ≤ m.now.columns) }
-    ensures { IfOk result (λ found. MatchOption found
+    ensures found { IfOk result (λ found. MatchOption found
         (IsSearch m.now marks.new forest.new × Grows marks.old marks.new forest.old.nodes.items forest.new.nodes.items
         × AreTaken m.now.rows marks.new forest.new.nodes.items (length forest.new.nodes.items)
         × AreReachedFrom m.now.columns forest.new.nodes.items a m.now.columns)
         (ShowsConflict m.now.columns (take marks.old.rows m.now.rows) forest.new)) }
+    ensures later { steps.old ≤ steps.new }
 {
     for b in 0..m.columns() {
         let pair = Pair { a, b: b + 1 };

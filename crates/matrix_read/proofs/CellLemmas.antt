@@ -11,8 +11,9 @@ use Rattle.row_model.specs.declared.refusal.Refusal.{Refusal}
 use Rattle.matrix_read.specs.Lines.{is_blank_byte, is_blank}
 use Rattle.matrix_read.specs.Words.{blank_len}
 use Rattle.matrix_read.specs.Cells.{without_last_blanks, trimmed, is_present, present_from}
-use Rattle.matrix_read.specs.Table.{has_twice, record_code, first_refusal}
-use Rattle.matrix_read.specs.Dense.{refusal_or}
+use Rattle.matrix_read.specs.Table.{record_code, first_refusal}
+use Rattle.matrix_read.specs.Names.{has_twice}
+use Rattle.matrix_read.specs.Rows.{refusal_or}
 use Rattle.matrix_read.specs.TableLaws.{NamesLaw, RowLaw, TrimmedLaw, AreTold, RefusalLaw}
 
 -- no name is equal to a later one

@@ -1,5 +1,5 @@
 -- Probes and clones.
-use Rattle.std.proofs.Common.{◌≡◌, inl, inr, ℕ, suc, ◌+◌, ◌<◌, ◌≤◌, ◌==◌, ◌||◌, not, List, [], ◌∷◌, ◌++◌, length, map, codes, drop, get_or, refl, ap, sym, ◌∙◌, arith, Bool, true, false, if◌then◌else◌, cond, unwrap_or, Some, None, append_assoc, drop-cons, add-one, eq-eqb}
+use Rattle.std.proofs.Common.{◌≡◌, inl, inr, ℕ, suc, ◌+◌, ◌<◌, ◌≤◌, ◌==◌, not, List, [], ◌∷◌, ◌++◌, length, map, codes, drop, get_or, refl, ap, sym, ◌∙◌, arith, Bool, true, false, if◌then◌else◌, cond, unwrap_or, Some, None, append_assoc, drop-cons, add-one, eq-eqb}
 use Rattle.std.proofs.lemmas.List.{append-nil}
 use Rattle.row_model.specs.Rows.{RowList, IsRow}
 use Rattle.row_model.specs.declared.refusal.Read.{Read}
@@ -7,21 +7,20 @@ use Rattle.row_model.specs.declared.refusal.Read.TheVariants as answer
 use Rattle.serde_json.specs.Data.{Data, Items, no_items, item}
 use Rattle.serde_json.specs.Read.{read}
 use Rattle.std.specs.Str.{IsUtf8, is_utf8, bytes_eq}
-use Rattle.std.specs.List.{list_any, list_all, prefix_len, position}
+use Rattle.std.specs.List.{list_all, prefix_len, position}
 use Rattle.std.specs.Borrow.{Bor}
-use Rattle.std.proofs.lemmas.List.{map-append, length-map}
-use Rattle.std.proofs.lemmas.List.Folds.{list_any-append}
-use Rattle.std.proofs.lemmas.Slice.Eq.{bytes_eq-Decides}
+use Rattle.std.proofs.lemmas.List.{length-map}
 use Rattle.serde_json.specs.declared.value.Value.{Value}
 use Rattle.serde_json.specs.View.{view, items_view}
 use Rattle.std.proofs.lemmas.Str.{IsUtf8-from_is_utf8, is_utf8-from_IsUtf8}
-use Rattle.std.proofs.lemmas.Bool.{lt-ltb, le-ltb, or_cases, or_parts, or_right, ne_eqb, cases_Bool, cases_lt, false≢true}
+use Rattle.std.proofs.lemmas.Bool.{lt-ltb, le-ltb, ne_eqb, cases_lt, false≢true}
 use Rattle.row_model.specs.declared.TheConstants.{MAX_COLUMNS, MAX_ROWS, MAX_FILE_BYTES}
 use Rattle.row_model.specs.declared.code.TheConstants.{EMPTY, RANGE, TWICE, LIMIT}
 use Rattle.matrix_read.specs.Lines.{without_mark}
 use Rattle.matrix_read.specs.Rows.{refused_or, columns_among}
 use Rattle.matrix_read.proofs.RowLemmas.{too_long, short_enough, columns_ascend}
-use Rattle.matrix_read.specs.Clones.{reading, array_at, texts_of, count, has_twice, is_probe, column_of, probes_of, names_code, first_refused, clone_row, clone_rows, head_code, clone_matrix, matrix_of, if_read, clones, bytes_of}
+use Rattle.matrix_read.specs.Clones.{reading, array_at, texts_of, count, is_probe, column_of, probes_of, names_code, first_refused, clone_row, clone_rows, head_code, clone_matrix, matrix_of, if_read, clones}
+use Rattle.matrix_read.specs.Names.{has_twice, bytes_of}
 
 module _ (probes : List (List ℕ)) where
   -- the answer, where these rows stand before the clones
@@ -75,40 +74,10 @@ count_is (value ∷ values) = ap suc (count_is values)
 pub items_drop : (values : List Value) (i : ℕ) (value : Value) → i < length values → value ≡ get_or values i value → items_view (drop i values) ≡ item (view value) (items_view (drop (i + 1) values))
 items_drop values i value lt is = ap items_view (drop-cons values i value lt) ∙ ap (λ (v : Value). item (view v) (items_view (drop (suc i) values))) (sym is) ∙ ap (λ n. item (view value) (items_view (drop n values))) (sym (add-one i))
 
--- a name more among names that occur once
-same_bytes : (xs ys : List ℕ) → bytes_eq xs ys ≡ true → bytes_eq ys xs ≡ true
-same_bytes xs ys h = (bytes_eq-Decides ys xs).1 (sym ((bytes_eq-Decides xs ys).0 h))
-
-pub twice_found : (name : List ℕ) (names rest : List (List ℕ)) → list_any (bytes_eq name) names ≡ true → has_twice (names ++ name ∷ rest) ≡ true
-twice_found name [] rest h = absurd (cc)
-twice_found name (first ∷ names) rest h =
-    elim (or_cases (bytes_eq name first) (list_any (bytes_eq name) names) h) [
-      | inl same ↦
-          let here : list_any (bytes_eq first) (names ++ name ∷ rest) ≡ true = list_any-append (bytes_eq first) names (name ∷ rest) ∙ or_right (list_any (bytes_eq first) names) (bytes_eq first name || list_any (bytes_eq first) rest) (rw (same_bytes name first same) refl) in
-          rw here refl
-      | inr later ↦ or_right _ _ (twice_found name names rest later)
-    ]
-
-pub once_more : (name : List ℕ) (names : List (List ℕ)) → list_any (bytes_eq name) names ≡ false → has_twice names ≡ false → has_twice (names ++ name ∷ []) ≡ false
-once_more name [] h once = refl
-once_more name (first ∷ names) h once =
-    let other = or_parts (bytes_eq name first) (list_any (bytes_eq name) names) h in
-    let alone = or_parts (list_any (bytes_eq first) names) (has_twice names) once in
-    let apart : bytes_eq first name ≡ false = elim (cases_Bool (bytes_eq first name)) [ inl same ↦ absurd (false≢true (sym other.0 ∙ same_bytes first name same)) | inr not_same ↦ not_same ] in
-    rw (list_any-append (bytes_eq first) names (name ∷ []), alone.0, apart) (once_more name names other.1 alone.1)
-
-pub found_if : (b : Bool) → false ≡ not b → b ≡ true
-found_if true h = refl
-found_if false h = absurd (false≢true h)
-
 -- names by their bytes
 prefix_len-bytes : (p : List ℕ → Bool) (names : List (Bor (List ℕ))) → prefix_len (λ (name : Bor (List ℕ)). p name.now) names ≡ prefix_len p (bytes_of names)
 prefix_len-bytes p [] = refl
 prefix_len-bytes p (name ∷ names) = ap (λ n. cond (p name.now) (1 + n) 0) (prefix_len-bytes p names)
-
-pub list_any-bytes : (p : List ℕ → Bool) (names : List (Bor (List ℕ))) → list_any (λ (name : Bor (List ℕ)). p name.now) names ≡ list_any p (bytes_of names)
-list_any-bytes p [] = refl
-list_any-bytes p (name ∷ names) = ap (λ b. p name.now || b) (list_any-bytes p names)
 
 place_if : (b : Bool) (n i : ℕ) → cond b (Some n) None ≡ Some i → n ≡ i
 place_if true n i h = cc
@@ -144,22 +113,6 @@ module _ (probes : List (List ℕ)) (clones : ℕ) where
 
       pub head_taken : has_twice probes ≡ false → clones ≤ MAX_ROWS → head_code probes clones ≡ None
       head_taken h few = rw (some_probe, le-ltb MAX_COLUMNS (length probes) narrow, h, le-ltb MAX_ROWS clones few) refl
-
--- a name that is added behind names
-module _ (keys new : List (Bor (List ℕ))) (key : Bor (List ℕ)) (fresh : true ≡ not (list_any (bytes_eq key.now) (bytes_of keys)))
-    (is : new ≡ (if list_any (λ (other : Bor (List ℕ)). bytes_eq key.now other.now) keys then keys else keys ++ key ∷ [])) where
-  absent : list_any (bytes_eq key.now) (bytes_of keys) ≡ false
-  absent = elim (cases_Bool (list_any (bytes_eq key.now) (bytes_of keys))) [ inl found ↦ absurd (false≢true (sym (fresh ∙ ap not found))) | inr none ↦ none ]
-
-  pub added_bytes : bytes_of new ≡ bytes_of keys ++ key.now ∷ []
-  added_bytes =
-      ap bytes_of (is ∙ ap (λ b. if b then keys else keys ++ key ∷ []) (list_any-bytes (bytes_eq key.now) keys ∙ absent)) ∙ map-append (λ (name : Bor (List ℕ)). name.now) keys (key ∷ [])
-
-  pub added_once : has_twice (bytes_of keys) ≡ false → has_twice (bytes_of new) ≡ false
-  added_once once = ap has_twice added_bytes ∙ once_more key.now (bytes_of keys) absent once
-
-  pub added_whole : (name : List ℕ) (rest : List (List ℕ)) → key.now ≡ name → bytes_of new ++ rest ≡ bytes_of keys ++ name ∷ rest
-  added_whole name rest e = ap (λ names. names ++ rest) added_bytes ∙ append_assoc (bytes_of keys) (key.now ∷ []) rest ∙ ap (λ n. bytes_of keys ++ n ∷ rest) e
 
 -- a clone whose strings are these names
 module _ (probes names : List (List ℕ)) (clone : Data) (is : Some names ≡ probes_of clone) where

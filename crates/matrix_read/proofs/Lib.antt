@@ -4,8 +4,11 @@ pub mod RowLemmas
 pub mod DenseLemmas
 pub mod WrittenLemmas
 pub mod SparseLemmas
+pub mod NameLemmas
+pub mod CloneLemmas
 pub mod RecordLemmas
 pub mod TableLemmas
 pub mod CellLemmas
 pub mod WrittenTableLemmas
-pub mod CloneLemmas
+pub mod WrittenRowLemmas
+pub mod CloneRowLemmas

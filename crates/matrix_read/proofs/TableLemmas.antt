@@ -1,11 +1,8 @@
 -- Tables that are read record by record.
-use Rattle.std.proofs.Common.{◌≡◌, ℕ, zero, suc, ◌+◌, ◌<◌, ◌≤◌, ◌==◌, ◌||◌, ◌&&◌, not, Bool, true, false, if◌then◌else◌, List, [], ◌∷◌, ◌++◌, length, map, take, drop, get_or, Option, Some, None, ap, sym, ◌∙◌, refl, arith, add-one, append_assoc, length-append, eqb-true}
-use Rattle.std.proofs.lemmas.Bool.{lt-ltb, le-ltb, le-leb, lt-leb, or_parts}
+use Rattle.std.proofs.Common.{◌≡◌, ℕ, zero, suc, ◌+◌, ◌<◌, ◌≤◌, ◌==◌, ◌&&◌, not, Bool, true, false, if◌then◌else◌, List, [], ◌∷◌, ◌++◌, length, map, take, drop, get_or, Option, Some, None, ap, sym, ◌∙◌, refl, arith, add-one, append_assoc, length-append, eqb-true}
+use Rattle.std.proofs.lemmas.Bool.{le-leb, lt-leb}
 use Rattle.std.proofs.lemmas.List.{append-nil, length-map}
-use Rattle.std.proofs.lemmas.List.Folds.{list_any-append}
-use Rattle.std.proofs.lemmas.Slice.Eq.{bytes_eq-Decides}
 use Rattle.std.specs.List.{list_any, list_all, filter}
-use Rattle.std.specs.Str.{bytes_eq}
 use Rattle.csv.specs.Reading.{default_config, strip_bom, records}
 use Rattle.csv.specs.Records.{field_at}
 use Rattle.row_model.specs.Rows.{RowList, Ascends, IsRow}
@@ -14,9 +11,9 @@ use Rattle.row_model.specs.declared.refusal.Read.TheVariants as read
 use Rattle.row_model.specs.declared.TheConstants.{MAX_ROWS, MAX_FILE_BYTES}
 use Rattle.row_model.specs.declared.code.TheConstants.{GRAMMAR, LIMIT, CSV}
 use Rattle.matrix_read.specs.Lines.{is_blank_byte, is_blank}
-use Rattle.matrix_read.proofs.RowLemmas.{Ascends-low}
+use Rattle.matrix_read.proofs.RowLemmas.{Ascends-low, too_long, short_enough}
 use Rattle.matrix_read.specs.Cells.{without_last_blanks, trimmed, cells, is_present, is_foreign, present_from, row_of}
-use Rattle.matrix_read.specs.Table.{has_twice, record_code, first_refusal, with_records, with_even_records, read_records, table}
+use Rattle.matrix_read.specs.Table.{record_code, first_refusal, with_records, with_even_records, read_records, table}
 
 -- a byte after the last that is no blank
 filled_more : (bytes : List ℕ) (n : ℕ) → n < length bytes → is_blank_byte (get_or bytes n 0) ≡ false → is_blank (take (suc n) bytes) ≡ false
@@ -64,11 +61,7 @@ cells_end [] (suc i) le = refl
 cells_end (f ∷ fields) zero le = absurd (omega arith)
 cells_end (f ∷ fields) (suc i) le = cells_end fields i (omega arith)
 
--- the tests of a list's items, and of what they are mapped to
-pub list_any-map : {X Y : Type 0} (p : Y → Bool) (f : X → Y) (xs : List X) → list_any (λ x. p (f x)) xs ≡ list_any p (map f xs)
-list_any-map p f [] = refl
-list_any-map p f (x ∷ xs) = ap (λ b. p (f x) || b) (list_any-map p f xs)
-
+-- the first item, which a filter keeps
 pub filter_kept : (keeps : List ℕ → Bool) (xs rest : List (List ℕ)) (x : List ℕ) → xs ≡ x ∷ rest → keeps x ≡ true → filter keeps xs ≡ x ∷ filter keeps rest
 filter_kept keeps xs rest x is h = rw (is, h) refl
 
@@ -76,45 +69,6 @@ filter_kept keeps xs rest x is h = rw (is, h) refl
 pub is_of_not : (a b : Bool) → not a ≡ b → a ≡ not b
 is_of_not true b h = rw (← h) refl
 is_of_not false b h = rw (← h) refl
-
--- names of which one stands twice
-same_back : (x y : List ℕ) → bytes_eq x y ≡ true → bytes_eq y x ≡ true
-same_back x y h = (bytes_eq-Decides y x).1 (sym ((bytes_eq-Decides x y).0 h))
-
-or_true : (a b : Bool) → b ≡ true → (a || b) ≡ true
-or_true true b h = refl
-or_true false b h = h
-
-pub twice_found : (names : List (List ℕ)) (name : List ℕ) (rest : List (List ℕ)) → list_any (bytes_eq name) names ≡ true → has_twice (names ++ name ∷ rest) ≡ true
-twice_found [] name rest h = absurd (cc)
-twice_found (x ∷ names) name rest h = by (bytes_eq name x) refl h (twice_found names name rest)
-  where
-    here : bytes_eq name x ≡ true → list_any (bytes_eq x) (names ++ name ∷ rest) ≡ true
-    here e =
-        list_any-append (bytes_eq x) names (name ∷ rest)
-        ∙ or_true (list_any (bytes_eq x) names) (bytes_eq x name || list_any (bytes_eq x) rest) (ap (λ v. v || list_any (bytes_eq x) rest) (same_back name x e))
-
-    by : (b : Bool) → bytes_eq name x ≡ b → (b || list_any (bytes_eq name) names) ≡ true → (list_any (bytes_eq name) names ≡ true → has_twice (names ++ name ∷ rest) ≡ true) → (list_any (bytes_eq x) (names ++ name ∷ rest) || has_twice (names ++ name ∷ rest)) ≡ true
-    by true e h later = ap (λ v. v || has_twice (names ++ name ∷ rest)) (here e)
-    by false e h later = or_true (list_any (bytes_eq x) (names ++ name ∷ rest)) (has_twice (names ++ name ∷ rest)) (later h)
-
-not_same_back : (x y : List ℕ) → bytes_eq x y ≡ false → bytes_eq y x ≡ false
-not_same_back x y h = by (bytes_eq y x) refl
-  where
-    by : (b : Bool) → bytes_eq y x ≡ b → b ≡ false
-    by true e = let t = same_back y x e in absurd (cc)
-    by false e = refl
-
-pub twice_added : (names : List (List ℕ)) (name : List ℕ) → list_any (bytes_eq name) names ≡ false → has_twice names ≡ false → has_twice (names ++ name ∷ []) ≡ false
-twice_added [] name h d = refl
-twice_added (x ∷ names) name h d =
-    let apart = or_parts (bytes_eq name x) (list_any (bytes_eq name) names) h in
-    let before = or_parts (list_any (bytes_eq x) names) (has_twice names) d in
-    let rest : has_twice (names ++ name ∷ []) ≡ false = twice_added names name apart.1 before.1 in
-    let here : list_any (bytes_eq x) (names ++ name ∷ []) ≡ false =
-    list_any-append (bytes_eq x) names (name ∷ []) ∙ (rw (before.0, not_same_back name x apart.0) refl)
-    in
-    rw (here, rest) refl
 
 -- the columns of cells ascend
 present_ascend : (c low : ℕ) (rest : List (List ℕ)) → low + length rest ≤ c → Ascends c low (present_from (low + 1) rest)
@@ -204,8 +158,8 @@ even_end width so_far further is = rw is (no_record so_far)
 -- the length of the file comes first
 pub table_long : (bytes : List ℕ) → MAX_FILE_BYTES < length bytes → table bytes ≡ read.Refused (record { code = LIMIT; line = 0 })
 unfolding table
-table_long bytes h = rw (lt-ltb MAX_FILE_BYTES (length bytes) h) refl
+table_long bytes h = too_long bytes _ h
 
 pub table_short : (bytes : List ℕ) → length bytes ≤ MAX_FILE_BYTES → table bytes ≡ read_records (records default_config (strip_bom bytes))
 unfolding table
-table_short bytes h = rw (le-ltb MAX_FILE_BYTES (length bytes) h) refl
+table_short bytes h = short_enough bytes _ h

@@ -58,15 +58,15 @@ module _ (bytes : List ℕ) (at end k : ℕ) (order : at ≤ end) (within : end 
 
 -- blanks at the front are in no word
 module _ (b : ℕ) (line : List ℕ) where
-  words_of_blank : is_blank_byte b ≡ true → words_of (b ∷ line) ≡ words_of line
+  pub words_of_blank : is_blank_byte b ≡ true → words_of (b ∷ line) ≡ words_of line
   unfolding words_of
   words_of_blank h = rw h refl
 
-  words_of_last : is_blank_byte b ≡ false → begins_word line ≡ false → words_of (b ∷ line) ≡ (b ∷ []) ∷ words_of line
+  pub words_of_last : is_blank_byte b ≡ false → begins_word line ≡ false → words_of (b ∷ line) ≡ (b ∷ []) ∷ words_of line
   unfolding words_of
   words_of_last h e = rw (h, e) refl
 
-  words_of_more : is_blank_byte b ≡ false → begins_word line ≡ true → words_of (b ∷ line) ≡ before_first b (words_of line)
+  pub words_of_more : is_blank_byte b ≡ false → begins_word line ≡ true → words_of (b ∷ line) ≡ before_first b (words_of line)
   unfolding words_of
   words_of_more h e = rw (h, e) refl
 

@@ -13,9 +13,10 @@ use Rattle.row_model.specs.Rows.{Ascends, IsRow}
 use Rattle.row_model.specs.declared.refusal.Read.TheVariants as read
 use Rattle.row_model.specs.declared.TheConstants.{MAX_COLUMNS, MAX_ROWS}
 use Rattle.row_model.specs.declared.code.TheConstants.{CSV}
-use Rattle.matrix_read.specs.Dense.{refused_or}
+use Rattle.matrix_read.specs.Rows.{refused_or}
 use Rattle.matrix_read.specs.Cells.{trimmed, is_foreign, present_from, row_of}
-use Rattle.matrix_read.specs.Table.{names_of, has_twice, header_code, header_read, record_code, first_refusal, with_records, read_records}
+use Rattle.matrix_read.specs.Table.{names_of, header_code, header_read, record_code, first_refusal, with_records, read_records}
+use Rattle.matrix_read.specs.Names.{has_twice}
 use Rattle.matrix_read.specs.TableLaws.{LabelledRow, crosses_from, records_with, text_of, Differ, TableLaw}
 use Rattle.matrix_read.proofs.RecordLemmas.{none_at_end, records_step}
 use Rattle.matrix_read.proofs.TableLemmas.{code_none, refusal_later, none_refused, table_short}

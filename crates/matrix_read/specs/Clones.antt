@@ -1,6 +1,5 @@
 -- A matrix as probes and clones in JSON: each probe is a column, and each clone is a row.
-use Rattle.std.specs.Prelude.{ℕ, suc, ◌+◌, ◌==◌, ◌&&◌, ◌||◌, List, [], ◌∷◌, map, length, codes, if◌then◌else◌, Bool, true, false, nat_lt, is_some, unwrap_or, Option, Some, None, option_and_then}
-use Rattle.std.specs.Borrow.{Bor}
+use Rattle.std.specs.Prelude.{ℕ, suc, ◌+◌, ◌==◌, ◌&&◌, List, [], ◌∷◌, map, length, codes, if◌then◌else◌, Bool, true, nat_lt, is_some, unwrap_or, Option, Some, None, option_and_then}
 use Rattle.std.specs.List.{list_any, list_all, position_or_len}
 use Rattle.std.specs.Str.{bytes_eq, is_utf8}
 use Rattle.serde_json.specs.Data.{Data, Items, no_items, item}
@@ -13,6 +12,7 @@ use Rattle.row_model.specs.declared.refusal.Read.TheVariants as answer
 use Rattle.row_model.specs.declared.TheConstants.{MAX_COLUMNS, MAX_ROWS}
 use Rattle.row_model.specs.declared.code.TheConstants.{EMPTY, RANGE, TWICE, LIMIT, JSON, SHAPE}
 use Rattle.matrix_read.specs.Lines.{without_mark}
+use Rattle.matrix_read.specs.Names.{has_twice}
 use Rattle.matrix_read.specs.Rows.{refusal_or, refused_or, within_length, columns_among}
 
 -- the value that `serde_json` reads; bytes that are no UTF-8 have none
@@ -50,11 +50,6 @@ abbrev pub count : Items → ℕ
 count no_items = 0
 count (item value items) = suc (count items)
 
--- whether some name occurs twice
-abbrev pub has_twice : List (List ℕ) → Bool
-has_twice [] = false
-has_twice (name ∷ names) = list_any (bytes_eq name) names || has_twice names
-
 -- whether a probe has the name
 abbrev pub is_probe : List (List ℕ) → List ℕ → Bool
 is_probe probes name = list_any (bytes_eq name) probes
@@ -77,9 +72,13 @@ unfoldable pub first_refused : List (List ℕ) → ℕ → Items → Option Refu
 first_refused probes number no_items = None
 first_refused probes number (item clone clones) = refusal_or (names_code probes (probes_of clone)) number (first_refused probes (number + 1) clones)
 
--- the row of a clone: the set of the columns of its probes
+-- the row of names: the set of their columns
+abbrev pub names_row : List (List ℕ) → List (List ℕ) → List ℕ
+names_row probes names = columns_among 1 (length probes) (map (column_of probes) names)
+
+-- the row of a clone: that of its probes
 abbrev pub clone_row : List (List ℕ) → Data → List ℕ
-clone_row probes clone = columns_among 1 (length probes) (map (column_of probes) (unwrap_or (probes_of clone) []))
+clone_row probes clone = names_row probes (unwrap_or (probes_of clone) [])
 
 -- the row of each clone
 abbrev pub clone_rows : List (List ℕ) → Items → List (List ℕ)
@@ -121,7 +120,3 @@ if_read (Some value) = if_shaped (probes_of value) (array_at (codes "clones") va
 -- the matrix of the bytes of a file, or their first refusal
 unfoldable pub clones : List ℕ → Read RowList
 clones bytes = within_length bytes (if_read (reading (without_mark bytes)))
-
--- the bytes of names
-abbrev pub bytes_of : List (Bor (List ℕ)) → List (List ℕ)
-bytes_of names = map (λ name. name.now) names

@@ -4,8 +4,11 @@ pub mod Rows
 pub mod Dense
 pub mod Written
 pub mod Sparse
+pub mod Names
+pub mod Clones
 pub mod Cells
 pub mod RecordsLeft
 pub mod Table
 pub mod TableLaws
-pub mod Clones
+pub mod WrittenRows
+pub mod CloneRows

@@ -1,25 +1,20 @@
 -- A matrix as a table of comma-separated values: a record with the names of the columns, and then a record for each row.
-use Rattle.std.specs.Prelude.{◌≡◌, ◌≤◌, ℕ, ◌+◌, ◌==◌, ◌||◌, not, List, [], ◌∷◌, ◌++◌, map, length, if◌then◌else◌, Bool, false, nat_lt, nat_le, Option, Some, None}
+use Rattle.std.specs.Prelude.{◌≡◌, ◌≤◌, ℕ, ◌+◌, ◌==◌, not, List, [], ◌∷◌, ◌++◌, map, length, if◌then◌else◌, nat_lt, nat_le, Option, Some, None}
 use Rattle.std.specs.List.{list_any, list_all, filter}
-use Rattle.std.specs.Str.{bytes_eq}
 use Rattle.csv.specs.Reading.{default_config, strip_bom, records}
 use Rattle.row_model.specs.Rows.{RowList}
 use Rattle.row_model.specs.declared.refusal.Refusal.{Refusal}
 use Rattle.row_model.specs.declared.refusal.Read.{Read}
 use Rattle.row_model.specs.declared.refusal.Read.TheVariants as read
-use Rattle.row_model.specs.declared.TheConstants.{MAX_COLUMNS, MAX_ROWS, MAX_FILE_BYTES}
+use Rattle.row_model.specs.declared.TheConstants.{MAX_COLUMNS, MAX_ROWS}
 use Rattle.row_model.specs.declared.code.TheConstants.{EMPTY, GRAMMAR, TWICE, LIMIT, CSV}
-use Rattle.matrix_read.specs.Dense.{refusal_or, refused_or}
+use Rattle.matrix_read.specs.Rows.{refusal_or, refused_or, within_length}
+use Rattle.matrix_read.specs.Names.{has_twice}
 use Rattle.matrix_read.specs.Cells.{cells, is_empty, is_foreign, row_of}
 
 -- the names in a header: blank cells are none
 abbrev pub names_of : List (List ℕ) → List (List ℕ)
 names_of header = filter (λ name. not (is_empty name)) (cells header)
-
--- some name stands twice
-abbrev pub has_twice : List (List ℕ) → Bool
-has_twice [] = false
-has_twice (name ∷ names) = list_any (bytes_eq name) names || has_twice names
 
 -- the code by which a header is refused, if it is
 abbrev pub header_code : List (List ℕ) → Option ℕ
@@ -68,6 +63,4 @@ read_records (header ∷ further) = with_even_records (length header) (header_re
 
 -- the matrix of the bytes of a file, or their first refusal; the records are those that csv reads
 unfoldable pub table : List ℕ → Read RowList
-table bytes =
-    if nat_lt MAX_FILE_BYTES (length bytes) then read.Refused (record { code = LIMIT; line = 0 })
-    else read_records (records default_config (strip_bom bytes))
+table bytes = within_length bytes (read_records (records default_config (strip_bom bytes)))

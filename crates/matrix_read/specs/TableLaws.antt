@@ -9,7 +9,8 @@ use Rattle.row_model.specs.declared.refusal.Read.TheVariants as read
 use Rattle.row_model.specs.declared.TheConstants.{MAX_COLUMNS, MAX_ROWS, MAX_FILE_BYTES}
 use Rattle.matrix_read.specs.Lines.{is_blank, is_blank_byte}
 use Rattle.matrix_read.specs.Cells.{trimmed, is_present, row_of}
-use Rattle.matrix_read.specs.Table.{names_of, has_twice, record_code, first_refusal, table}
+use Rattle.matrix_read.specs.Table.{names_of, record_code, first_refusal, table}
+use Rattle.matrix_read.specs.Names.{has_twice}
 
 -- a row with a label, which is no part of the matrix
 pub record LabelledRow : Type 0 where

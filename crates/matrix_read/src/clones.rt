@@ -1,10 +1,12 @@
 // A matrix as probes and clones in JSON.
-ghost use Rattle.std.specs.Prelude.{◌≡◌, ◌+◌, ◌≤◌, ◌<◌, ℕ, [], map, false, true, length, take, codes, slice_index_or, Some, None, option_map, IfSome, IfOk, IfErr, IfNone, OnOk, MatchOption, IsTrue};
+ghost use Rattle.std.specs.Prelude.{◌≡◌, ◌+◌, ◌≤◌, ◌<◌, ℕ, [], map, false, true, length, take, slice_index_or, Some, None, option_map, IfOk, IfErr, OnOk, MatchOption};
 ghost use Rattle.std.specs.List.{list_all};
 ghost use Rattle.row_model.specs.declared.code.TheConstants.{RANGE};
 ghost use Rattle.column_order.specs.Orders.{has};
 ghost use Rattle.serde_json.specs.View.{view, items_view};
-ghost use Rattle.matrix_read.specs.Clones.{reading, array_at, are_strings, text_of, texts_of, strings_of, strings_at, count, has_twice, is_probe, column_of, probes_of, names_code, clone_row, clone_matrix, matrix_of, if_read, bytes_of, clones};
+ghost use Rattle.matrix_read.specs.Clones.{reading, array_at, are_strings, text_of, texts_of, strings_of, strings_at, count, is_probe, column_of, probes_of, names_code, clone_row, clone_matrix, matrix_of, if_read, clones};
+ghost use Rattle.matrix_read.specs.CloneRows.{CloneLaw};
+ghost use Rattle.matrix_read.specs.Names.{has_twice, bytes_of};
 
 use crate::lines::without_mark;
 use crate::rows::{refused, take_marked};
@@ -89,10 +91,10 @@ fn matrix_of(alloc: Global, probes: &[Value], clones: &[Value]) -> Result<Read<M
 fn array_in<'a>(value: &'a Value, key: &str) -> Option<&'a [Value]>
     ensures { option_map (λ list. items_view list.now) result ≡ array_at key.now (view value.now) }
 {
-    match value.get(key).and_then(Value::as_array) {
-        Some(list) => Some(list),
-        None => None,
-    }
+    value
+        .get(key)
+        .and_then(Value::as_array)
+        .map(|list| list.as_slice())
 }
 
 // The array under a key of an object, if all its items are strings.
@@ -225,6 +227,12 @@ fn mark_names(list: &[Value], names: &IndexSet<&str>, marks: &mut [bool]) -> Res
     }
     Ok(())
 }
+
+/// The law of [`read_clones`]: where no two probes are equal, the row of a clone has a column exactly where the clone
+/// names the probe at that place.
+pub fn clone_law()
+    ensures { CloneLaw }
+{}
 
 #[cfg(test)]
 mod tests {

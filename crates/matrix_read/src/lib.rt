@@ -1,7 +1,7 @@
 //! Readers of matrices, and the lines, words and numbers that every text format is read by.
 //!
-//! A reader gives the value of a list of bytes or its first refusal, by one definition on the whole list. The code goes
-//! over the bytes line by line and keeps no list of lines.
+//! A reader gives the value of a list of bytes or its first refusal, by one definition on the whole list. Where the format
+//! has lines, the code goes over the bytes line by line and keeps no list of them.
 #![tactic(auto)]
 
 mod cells;
@@ -14,10 +14,10 @@ mod sparse;
 mod table;
 mod words;
 
-pub use clones::read_clones;
-pub use dense::read_dense;
+pub use clones::{clone_law, read_clones};
+pub use dense::{dense_law, read_dense};
 pub use lines::{FilledLine, LineSpan, next_filled_line, next_line, without_mark};
 pub use row_model::NoMemory;
-pub use sparse::{read_more, read_rows};
-pub use table::read_table;
+pub use sparse::{named_laws, read_more, read_rows};
+pub use table::{read_table, table_laws};
 pub use words::{Numeral, WordSpan, next_word, number};

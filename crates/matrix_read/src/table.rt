@@ -6,13 +6,15 @@ ghost use Rattle.row_model.specs.declared.refusal.Read.TheVariants as read;
 ghost use Rattle.matrix_read.specs.RecordsLeft.{IsPlain, records_left};
 ghost use Rattle.matrix_read.specs.Cells.{cells, is_foreign, row_of};
 ghost use Rattle.matrix_read.specs.TableLaws.{TableLaw, RowLaw, TrimmedLaw, NamesLaw, RefusalLaw};
-ghost use Rattle.matrix_read.specs.Table.{names_of, has_twice, header_code, header_read, IsWithin, with_records, with_even_records, table};
+ghost use Rattle.matrix_read.specs.Table.{names_of, header_code, header_read, IsWithin, with_records, with_even_records, table};
+ghost use Rattle.matrix_read.specs.Names.{has_twice};
 
 use crate::cells::{is_absent, is_present, trimmed_field};
 use crate::records::next_record;
+use crate::rows::refused;
 use csv::{ByteRecord, Reader, ReaderBuilder};
 use indexmap::IndexSet;
-use row_model::{MAX_COLUMNS, MAX_FILE_BYTES, MAX_ROWS, Matrix, Read, Refusal, code};
+use row_model::{MAX_COLUMNS, MAX_FILE_BYTES, MAX_ROWS, Matrix, Read, code};
 use std::alloc::{AllocError, Global};
 
 /// Reads a matrix from the bytes of a table: comma-separated values, in which double quotes may stand round a field.
@@ -34,10 +36,7 @@ pub fn read_table(alloc: Global, bytes: &[u8]) -> Result<Read<Matrix>, AllocErro
     ensures { IfOk result (λ read. read ≡ table bytes.now) }
 {
     if bytes.len() as u64 > MAX_FILE_BYTES {
-        return Ok(Read::Refused(Refusal {
-            code: code::LIMIT,
-            line: 0,
-        }));
+        return Ok(refused(code::LIMIT, 0));
     }
     let mut reader = ReaderBuilder::new()
         .has_headers(false)
@@ -45,10 +44,7 @@ pub fn read_table(alloc: Global, bytes: &[u8]) -> Result<Read<Matrix>, AllocErro
         .from_reader(alloc, bytes);
     let mut fields = ByteRecord::new(alloc);
     if !next_record(&mut reader, &mut fields)? {
-        return Ok(Read::Refused(Refusal {
-            code: code::EMPTY,
-            line: 0,
-        }));
+        return Ok(refused(code::EMPTY, 0));
     }
     let begun = read_header(alloc, &fields)?;
     read_further(alloc, reader, fields, begun)
@@ -71,10 +67,7 @@ fn read_further(
     let mut so_far = begun;
     while next_record(&mut reader, &mut fields)? {
         if fields.len() != width {
-            return Ok(Read::Refused(Refusal {
-                code: code::CSV,
-                line: 0,
-            }));
+            return Ok(refused(code::CSV, 0));
         }
         so_far = with_record(so_far, &fields, &mut columns)?;
     }
@@ -97,16 +90,10 @@ fn with_record(
     };
     let line = matrix.rows() + 2;
     if matrix.rows() >= MAX_ROWS {
-        return Ok(Read::Refused(Refusal {
-            code: code::LIMIT,
-            line,
-        }));
+        return Ok(refused(code::LIMIT, line));
     }
     if !mark_columns(fields, matrix.columns(), columns)? {
-        return Ok(Read::Refused(Refusal {
-            code: code::GRAMMAR,
-            line,
-        }));
+        return Ok(refused(code::GRAMMAR, line));
     }
     matrix.push_row(columns)?;
     Ok(Read::Ok(matrix))
@@ -138,7 +125,7 @@ fn read_header(alloc: Global, header: &ByteRecord) -> Result<Read<Matrix>, Alloc
     ensures within { IfOk result (λ read. IsWithin (length (fields_of header.now)) read) }
 {
     match header_code(alloc, header)? {
-        Some(code) => Ok(Read::Refused(Refusal { code, line: 1 })),
+        Some(code) => Ok(refused(code, 1)),
         None => Ok(Read::Ok(Matrix::new(alloc, header.len() as u32 - 1)?)),
     }
 }
@@ -190,6 +177,7 @@ pub fn table_laws()
 #[cfg(test)]
 mod tests {
     use super::*;
+    use row_model::Refusal;
     use std::test::Fail;
 
     #[test]

@@ -1,6 +1,9 @@
 pub mod Checks
 pub mod Claims
+pub mod Judged
+pub mod Lengths
 pub mod Lines
 pub mod Reading
+pub mod Solved
 pub mod Statuses
 pub mod Turns

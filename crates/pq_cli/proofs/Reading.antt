@@ -6,6 +6,7 @@ use Rattle.std.specs.List.{list_any}
 use Rattle.row_model.specs.declared.kind.Kind.{Kind}
 use Rattle.row_model.specs.declared.kind.Kind.TheVariants.{Matrix, Rows, Table, Circular, Convex, Doubly, Proper, Robinson, Clones}
 use Rattle.row_model.specs.declared.refusal.Refusal.{Refusal}
+use Rattle.row_model.specs.declared.refusal.Read.{Read}
 use Rattle.row_model.specs.declared.refusal.Read.TheVariants as read
 use Rattle.row_model.specs.declared.TheConstants.{MAX_COLUMNS, MAX_ROWS, MAX_FILE_BYTES}
 use Rattle.row_model.specs.declared.code.TheConstants.{GRAMMAR, COUNT, LIMIT}
@@ -13,7 +14,7 @@ use Rattle.row_model.specs.Rows.{RowList}
 use Rattle.matrix_read.specs.Lines.{NumberedLine, is_blank, lines_of, filled_lines, without_mark}
 use Rattle.matrix_read.specs.Dense.{dense, read_lines, rows_of, row_of, row_code, refusal_or, refused_or, first_refusal, width_of, is_foreign}
 use Rattle.matrix_read.proofs.DenseLemmas.{dense_long, dense_short, filled_first, some_digit}
-use Rattle.verdict_check.specs.Instance.{InstanceValue, plain}
+use Rattle.verdict_check.specs.Instance.{InstanceValue, plain, IsTestedKind}
 use Rattle.pq_cli.specs.Words.{IsTaken}
 use Rattle.pq_cli.specs.Instances.{instance_of, map_read, IsJudged}
 
@@ -99,3 +100,34 @@ dense_within bytes m e = by_length bytes m (nat_lt MAX_FILE_BYTES (length bytes)
 -- a matrix of digits is an instance that verdicts are judged of
 pub dense_judged : (bytes : List ℕ) (m : RowList) → dense bytes ≡ read.Ok m → IsJudged (plain Matrix m)
 dense_judged bytes m e = let within = dense_within bytes m e in ((tt, within.columns, within.rows), tt)
+
+-- the instance that is read, if one is
+abbrev read_or : InstanceValue → Read InstanceValue → InstanceValue
+read_or other (read.Ok i) = i
+read_or other (read.Refused refusal) = other
+
+-- bytes have one reading
+pub same_read : (kind : Kind) (bytes : List ℕ) (i j : InstanceValue) → instance_of kind bytes ≡ read.Ok i → instance_of kind bytes ≡ read.Ok j → j ≡ i
+same_read kind bytes i j e f = ap (read_or i) (sym f ∙ e)
+
+-- an instance that is read, of a kind that commands take, is a matrix within the limits
+pub record IsRead (kind : Kind) (i : InstanceValue) : Type 0 where
+  pub matrix : RowList
+  pub is : i ≡ plain kind matrix
+  pub tested : IsTestedKind kind
+  pub within : IsWithin matrix
+
+dense_read : (judged : Read RowList) (i : InstanceValue) → map_read (plain Matrix) judged ≡ read.Ok i → ((m : RowList) → judged ≡ read.Ok m → IsWithin m) → IsRead Matrix i
+dense_read (read.Ok m) i e within = record { matrix = m; is = sym (ap (read_or i) e); tested = tt; within = within m refl }
+dense_read (read.Refused refusal) i e within = absurd (cc)
+
+pub instance_read : (kind : Kind) (bytes : List ℕ) (i : InstanceValue) → instance_of kind bytes ≡ read.Ok i → IsRead kind i
+instance_read Matrix bytes i e = dense_read (dense bytes) i e (dense_within bytes)
+instance_read Rows bytes i e = absurd (cc)
+instance_read Table bytes i e = absurd (cc)
+instance_read Circular bytes i e = absurd (cc)
+instance_read Convex bytes i e = absurd (cc)
+instance_read Doubly bytes i e = absurd (cc)
+instance_read Proper bytes i e = absurd (cc)
+instance_read Robinson bytes i e = absurd (cc)
+instance_read Clones bytes i e = absurd (cc)

@@ -1,11 +1,18 @@
--- What a reply says of its matrix.
-use Rattle.std.specs.Prelude.{◌≡◌, ◌↔◌, ℕ, List, [], ◌∷◌}
+-- What replies say.
+use Rattle.std.specs.Prelude.{◌≡◌, ◌↔◌, ℕ, List, [], ◌∷◌, codes}
 use Rattle.column_order.specs.Orders.{HasValidOrder}
 use Rattle.row_model.specs.Rows.{RowList}
+use Rattle.row_model.specs.declared.kind.Kind.{Kind}
 use Rattle.row_model.specs.declared.kind.Kind.TheVariants.{Matrix}
 use Rattle.row_model.specs.declared.refusal.Read.TheVariants as read
 use Rattle.matrix_read.specs.Dense.{dense}
-use Rattle.pq_cli.specs.Words.{Solve}
+use Rattle.verdict_text.specs.Verdict.{VerdictValue}
+use Rattle.verdict_text.specs.Grammar.{IsVerdict}
+use Rattle.verdict_text.specs.Text.{verdict_text}
+use Rattle.verdict_check.specs.Instance.{InstanceValue}
+use Rattle.verdict_check.specs.Truth.{IsTrueVerdict}
+use Rattle.pq_cli.specs.Words.{Solve, Check}
+use Rattle.pq_cli.specs.Instances.{instance_of}
 use Rattle.pq_cli.specs.Replies.{Replies}
 
 -- the status of a reply is 1 exactly where the matrix has no valid order
@@ -23,3 +30,19 @@ YesLaw =
     dense bytes ≡ read.Ok m →
     Replies (Solve Matrix file) (bytes ∷ []) status text →
     (status ≡ 0) ↔ HasValidOrder m.columns m.rows
+
+-- a verdict that a check ends on with status 0 is one of the grammar, and true of the instance
+abbrev pub CheckLaw : Type 0
+CheckLaw =
+    (kind : Kind) (file verdict bytes given text : List ℕ) (i : InstanceValue) →
+    instance_of kind bytes ≡ read.Ok i →
+    Replies (Check kind file verdict) (bytes ∷ given ∷ []) 0 text →
+    (v : VerdictValue) × IsVerdict v × (given ≡ verdict_text v) × IsTrueVerdict i v
+
+-- a check of what `solve` wrote on the same bytes finds it valid
+abbrev pub SolvedLaw : Type 0
+SolvedLaw =
+    (kind : Kind) (file other verdict bytes given text : List ℕ) (status found : ℕ) →
+    Replies (Solve kind file) (bytes ∷ []) status given →
+    Replies (Check kind other verdict) (bytes ∷ given ∷ []) found text →
+    (found ≡ 0) × (text ≡ codes "valid\n")

@@ -14,7 +14,7 @@ mod telling;
 mod top;
 mod words;
 
-pub use laws::reply_law;
+pub use laws::{check_law, reply_law, solved_law};
 pub use std::alloc::AllocError as NoMemory;
 pub use top::run;
 

@@ -73,7 +73,10 @@ mod tests {
         let words = ["check", "matrix", "matrix", "verdict"];
         let outcome = outcome_with(alloc, &words, matrix, verdict, 100, 100)?;
         assert_eq!(rt; outcome.out.bytes(), line);
-        assert_eq!(rt; outcome.status, if line == b"valid\n".as_slice() { 0 } else { 1 });
+        assert_eq!(rt;
+            outcome.status,
+            if line == b"valid\n".as_slice() { 0 } else { 1 }
+        );
         assert!(rt; outcome.err.bytes().is_empty());
         Ok(())
     }

@@ -1,4 +1,4 @@
-use Rattle.std.proofs.Common.{◌≡◌, [], replicate}
+use Rattle.std.proofs.Common.{◌≡◌, ◌+◌, [], length, replicate, take, sum_by}
 use Rattle.incompat_graph.specs.Holders.{AreHolders}
 use Rattle.incompat_graph.proofs.HolderLaws.{lists_of, HoldersSoFar}
 use Rattle.incompat_graph.proofs.holders.rows_by_column.Given as goal
@@ -7,7 +7,15 @@ abbrev pub invariant-loop : goal.invariant-loop
 invariant-loop g l = lists_of l.holders.items ≡ replicate l.counter []
 
 abbrev pub invariant-loop-column : goal.invariant-loop-column
-invariant-loop-column g l = HoldersSoFar l.m l.k l.column-items l.column-index (lists_of l.holders.items)
+invariant-loop-column g l =
+    record {
+      holders : HoldersSoFar l.m l.k l.column-items l.column-index (lists_of l.holders.items);
+      counted : l.steps ≡ l.initial.steps + l.column-index;
+    }
 
 abbrev pub invariant-loop-k : goal.invariant-loop-k
-invariant-loop-k g l = AreHolders l.m l.k (lists_of l.holders.items)
+invariant-loop-k g l =
+    record {
+      holders : AreHolders l.m l.k (lists_of l.holders.items);
+      counted : l.steps ≡ l.initial.steps + sum_by length (take l.k l.m.rows);
+    }

@@ -12,8 +12,8 @@ use Rattle.incompat_graph.proofs.ForestLaws.{grown_item}
 use Rattle.incompat_graph.proofs.TakenLaws.{turned_node, taken_pair, expanding_none, expanding_conflict, expanding_row, expanding_more, expanding_all}
 use Rattle.incompat_graph.proofs.search.expand.Goals as goal
 
-pub returns-in-Some : goal.returns-in-Some
-returns-in-Some g c =
+pub returns-in-Some-clause-found : goal.returns-in-Some-clause-found
+returns-in-Some-clause-found g c =
     let old = c.args.forest.now in
     let node : Node = c.index-node.result.now in
     let there : slice_get old.nodes.items c.args.from ≡ Some node = slice_get_read old.nodes.items (length old.nodes.items) c.args.from node refl c.requires.from.1 c.index-node.ensures in
@@ -41,7 +41,7 @@ loop-row-init g c =
     let node : Node = c.index-node.result.now in
     let there : slice_get old.nodes.items c.args.from ≡ Some node = slice_get_read old.nodes.items (length old.nodes.items) c.args.from node refl c.requires.from.1 c.index-node.ensures in
     let reached = subst (Reaches old c.reach.new.self (turned_node node c.args.from)) (none_of c.in_ok-to.field-0 c.in_default.not-Some) c.in_ok-to.ensures in
-    expanding_none c.args.m.now c.args.marks.now old c.args.from node c.requires.search there c.requires.from.0 c.reach.new.self c.deref-row-items.result.now reached
+    record { expanding = expanding_none c.args.m.now c.args.marks.now old c.args.from node c.requires.search there c.requires.from.0 c.reach.new.self c.deref-row-items.result.now reached; later = omega arith }
 
 pub look-requires-clause-row : goal.look-requires-clause-row
 look-requires-clause-row g c =
@@ -55,7 +55,7 @@ look-requires-clause-row g c =
     let is : rows ≡ holders_of lists node.pair.a = c.deref-row-items.ensures.value ∙ ap (λ (list : Vec ℕ Global). list.items) c.index-holders-node.is ∙ sym (get_or-map (λ (list : Vec ℕ Global). list.items) c.args.holders.now (node.pair.a - 1) c.index-holders-node.result [] within) in
     let row = get_or rows c.loop-row.row-index 0 in
     let at : slice_get rows c.loop-row.row-index ≡ Some row = slice_get-get_or rows c.loop-row.row-index 0 c.loop-row-test.true in
-    let r = expanding_row c.args.m.now c.args.marks.now old c.args.from node c.requires.search there c.requires.from.0 lists c.requires.holders rows is c.loop-row.marks c.loop-row.forest c.loop-row.row-index c.loop-row.invariant row at in
+    let r = expanding_row c.args.m.now c.args.marks.now old c.args.from node c.requires.search there c.requires.from.0 lists c.requires.holders rows is c.loop-row.marks c.loop-row.forest c.loop-row.row-index c.loop-row.invariant.expanding row at in
     (r.0, r.1)
 
 pub look-requires-clause-node : goal.look-requires-clause-node
@@ -70,9 +70,9 @@ look-requires-clause-node g c =
     let is : rows ≡ holders_of lists node.pair.a = c.deref-row-items.ensures.value ∙ ap (λ (list : Vec ℕ Global). list.items) c.index-holders-node.is ∙ sym (get_or-map (λ (list : Vec ℕ Global). list.items) c.args.holders.now (node.pair.a - 1) c.index-holders-node.result [] within) in
     let row = get_or rows c.loop-row.row-index 0 in
     let at : slice_get rows c.loop-row.row-index ≡ Some row = slice_get-get_or rows c.loop-row.row-index 0 c.loop-row-test.true in
-    let r = expanding_row c.args.m.now c.args.marks.now old c.args.from node c.requires.search there c.requires.from.0 lists c.requires.holders rows is c.loop-row.marks c.loop-row.forest c.loop-row.row-index c.loop-row.invariant row at in
-    let now : slice_get c.loop-row.forest.nodes.items c.args.from ≡ Some node = grown_item c.args.marks.now c.loop-row.marks old.nodes.items c.loop-row.forest.nodes.items c.args.from node c.loop-row.invariant.grows there in
-    λ other e. subst (λ (n : Node). IsTrue (has (row_at c.args.m.now.rows row) n.pair.a) × IsReached c.loop-row.forest.nodes.items (turned n.pair) (not n.odd)) (same_Some node other (sym now ∙ e)) (r.2, c.loop-row.invariant.exchanged node there)
+    let r = expanding_row c.args.m.now c.args.marks.now old c.args.from node c.requires.search there c.requires.from.0 lists c.requires.holders rows is c.loop-row.marks c.loop-row.forest c.loop-row.row-index c.loop-row.invariant.expanding row at in
+    let now : slice_get c.loop-row.forest.nodes.items c.args.from ≡ Some node = grown_item c.args.marks.now c.loop-row.marks old.nodes.items c.loop-row.forest.nodes.items c.args.from node c.loop-row.invariant.expanding.grows there in
+    λ other e. subst (λ (n : Node). IsTrue (has (row_at c.args.m.now.rows row) n.pair.a) × IsReached c.loop-row.forest.nodes.items (turned n.pair) (not n.odd)) (same_Some node other (sym now ∙ e)) (r.2, c.loop-row.invariant.expanding.exchanged node there)
 
 pub loop-row-preserved : goal.loop-row-preserved
 loop-row-preserved g c =
@@ -87,10 +87,10 @@ loop-row-preserved g c =
     let row = get_or rows c.loop-row.row-index 0 in
     let at : slice_get rows c.loop-row.row-index ≡ Some row = slice_get-get_or rows c.loop-row.row-index 0 c.loop-row-test.true in
     let none = none_of c.in_ok-conflict.field-0 c.in_default-2.not-Some in
-    expanding_more c.args.m.now c.args.marks.now c.loop-row.marks c.look.new.marks old c.loop-row.forest c.look.new.forest c.args.from rows c.loop-row.row-index row c.requires.from.1 c.loop-row.invariant at (rw none at c.in_ok-conflict.ensures)
+    record { expanding = expanding_more c.args.m.now c.args.marks.now c.loop-row.marks c.look.new.marks old c.loop-row.forest c.look.new.forest c.args.from rows c.loop-row.row-index row c.requires.from.1 c.loop-row.invariant.expanding at (rw none at c.in_ok-conflict.ensures.found); later = omega arith }
 
-pub returns : goal.returns
-returns g c =
+pub returns-clause-found : goal.returns-clause-found
+returns-clause-found g c =
     let old = c.args.forest.now in
     let node : Node = c.index-node.result.now in
     let there : slice_get old.nodes.items c.args.from ≡ Some node = slice_get_read old.nodes.items (length old.nodes.items) c.args.from node refl c.requires.from.1 c.index-node.ensures in
@@ -99,5 +99,5 @@ returns g c =
     let p = taken_pair c.args.m.now c.args.marks.now old c.args.from node c.requires.search there c.requires.from.0 in
     let within : node.pair.a - 1 < length c.args.holders.now = omega (arith, p.a_from, p.a_to, c.requires.holders.columns, length-map c.args.holders.now (λ (list : Vec ℕ Global). list.items)) in
     let is : rows ≡ holders_of lists node.pair.a = c.deref-row-items.ensures.value ∙ ap (λ (list : Vec ℕ Global). list.items) c.index-holders-node.is ∙ sym (get_or-map (λ (list : Vec ℕ Global). list.items) c.args.holders.now (node.pair.a - 1) c.index-holders-node.result [] within) in
-    let x = c.loop-row.invariant in
+    let x = c.loop-row.invariant.expanding in
     (x.search, x.grows, x.root, expanding_all c.args.m.now c.args.marks.now old c.args.from node c.requires.search there c.requires.from.0 lists c.requires.holders rows is c.loop-row.marks c.loop-row.forest c.loop-row.row-index x c.loop-row-test.false)

@@ -7,7 +7,7 @@ use Rattle.incompat_graph.proofs.search.grow.Goals as goal
 
 pub loop-head-smaller : goal.loop-head-smaller
 loop-head-smaller g c =
-    let forest = c.loop-head.invariant.search.is_forest in
+    let forest = c.loop-head.invariant.growing.search.is_forest in
     let room = subst (λ n. length c.loop-head.forest.nodes.items ≤ n * n) forest.columns (indexed_room pair_of_node c.loop-head.forest.numbers c.loop-head.forest.nodes.items forest.indexed) in
     let lt : c.loop-head.head < c.args.m.now.columns * c.args.m.now.columns = omega (arith, room) in
     omega (arith, lt)
@@ -16,7 +16,7 @@ pub loop-head-preserved : goal.loop-head-preserved
 loop-head-preserved g c =
     let none = none_of c.in_ok-conflict.field-0 c.in_default.not-Some in
     let lt : c.loop-head.head < length c.loop-head.forest.nodes.items = omega arith in
-    growing_more c.args.m.now c.args.marks.now c.loop-head.marks c.expand.new.marks c.args.forest.now c.loop-head.forest c.expand.new.forest c.loop-head.head c.loop-head.invariant lt (rw none at c.in_ok-conflict.ensures)
+    record { growing = growing_more c.args.m.now c.args.marks.now c.loop-head.marks c.expand.new.marks c.args.forest.now c.loop-head.forest c.expand.new.forest c.loop-head.head c.loop-head.invariant.growing lt (rw none at c.in_ok-conflict.ensures.found); later = omega arith }
 
-pub returns : goal.returns
-returns g c = growing_all c.args.m.now c.args.marks.now c.loop-head.marks c.args.forest.now c.loop-head.forest c.loop-head.head c.loop-head.invariant (omega arith)
+pub returns-clause-found : goal.returns-clause-found
+returns-clause-found g c = growing_all c.args.m.now c.args.marks.now c.loop-head.marks c.args.forest.now c.loop-head.forest c.loop-head.head c.loop-head.invariant.growing (omega arith)

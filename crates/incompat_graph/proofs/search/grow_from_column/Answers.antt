@@ -1,34 +1,37 @@
-use Rattle.std.proofs.Common.{◌+◌}
+use Rattle.std.proofs.Common.{◌+◌, arith}
 use Rattle.row_model.specs.Graph.{pair}
 use Rattle.incompat_graph.proofs.Items.{none_of}
 use Rattle.incompat_graph.proofs.SettledLaws.{grown_from_none, grown_from_tree, planted_search, planted_taken}
 use Rattle.incompat_graph.proofs.search.grow_from_column.Goals as goal
 
 pub loop-b-init : goal.loop-b-init
-loop-b-init g c = grown_from_none c.args.m.now c.args.marks.now c.args.forest.now c.args.a c.requires.search c.requires.taken
+loop-b-init g c = record { grown = grown_from_none c.args.m.now c.args.marks.now c.args.forest.now c.args.a c.requires.search c.requires.taken; later = omega arith }
 
 pub grow-requires-clause-search : goal.grow-requires-clause-search
 grow-requires-clause-search g c =
-    planted_search c.args.m.now c.loop-b.marks c.loop-b.forest c.loop-b.invariant.search c.loop-b.invariant.taken c.plant.new.self (pair c.args.a (c.loop-b.b + 1)) c.in_ok-plant.ensures
+    planted_search c.args.m.now c.loop-b.marks c.loop-b.forest c.loop-b.invariant.grown.search c.loop-b.invariant.grown.taken c.plant.new.self (pair c.args.a (c.loop-b.b + 1)) c.in_ok-plant.ensures
 
 pub grow-requires-clause-taken : goal.grow-requires-clause-taken
 grow-requires-clause-taken g c =
-    planted_taken c.args.m.now c.loop-b.marks c.loop-b.forest c.loop-b.invariant.search c.loop-b.invariant.taken c.plant.new.self (pair c.args.a (c.loop-b.b + 1)) c.in_ok-plant.ensures
+    planted_taken c.args.m.now c.loop-b.marks c.loop-b.forest c.loop-b.invariant.grown.search c.loop-b.invariant.grown.taken c.plant.new.self (pair c.args.a (c.loop-b.b + 1)) c.in_ok-plant.ensures
 
 pub loop-b-preserved : goal.loop-b-preserved
 loop-b-preserved g c =
     let none = none_of c.in_ok-conflict.field-0 c.in_default.not-Some in
-    grown_from_tree
-    c.args.m.now
-    c.args.marks.now
-    c.loop-b.marks
-    c.args.forest.now
-    c.loop-b.forest
-    c.args.a
-    c.loop-b.b
-    c.loop-b.invariant
-    c.plant.new.self
-    c.grow.new.forest
-    c.grow.new.marks
-    c.in_ok-plant.ensures
-    (rw none at c.in_ok-conflict.ensures)
+    record {
+      grown = grown_from_tree
+          c.args.m.now
+          c.args.marks.now
+          c.loop-b.marks
+          c.args.forest.now
+          c.loop-b.forest
+          c.args.a
+          c.loop-b.b
+          c.loop-b.invariant.grown
+          c.plant.new.self
+          c.grow.new.forest
+          c.grow.new.marks
+          c.in_ok-plant.ensures
+          (rw none at c.in_ok-conflict.ensures.found);
+      later = omega arith;
+    }

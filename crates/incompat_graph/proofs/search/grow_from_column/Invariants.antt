@@ -1,5 +1,10 @@
+use Rattle.std.proofs.Common.{◌≤◌}
 use Rattle.incompat_graph.proofs.SettledLaws.{IsGrownFrom}
 use Rattle.incompat_graph.proofs.search.grow_from_column.Given as goal
 
 abbrev pub invariant-loop-b : goal.invariant-loop-b
-invariant-loop-b g l = IsGrownFrom l.m l.fn.marks l.marks l.fn.forest l.forest l.a l.b
+invariant-loop-b g l =
+    record {
+      grown : IsGrownFrom l.m l.fn.marks l.marks l.fn.forest l.forest l.a l.b;
+      later : l.fn.steps ≤ l.steps;
+    }

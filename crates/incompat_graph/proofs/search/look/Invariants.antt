@@ -1,5 +1,10 @@
+use Rattle.std.proofs.Common.{◌≤◌}
 use Rattle.incompat_graph.proofs.SearchLaws.{IsSpreading}
 use Rattle.incompat_graph.proofs.search.look.Given as goal
 
 abbrev pub invariant-loop-column : goal.invariant-loop-column
-invariant-loop-column g l = IsSpreading l.m l.fn.marks.rows l.fn.forest l.forest l.node l.row l.column-index
+invariant-loop-column g l =
+    record {
+      spreading : IsSpreading l.m l.fn.marks.rows l.fn.forest l.forest l.node l.row l.column-index;
+      later : l.fn.steps ≤ l.steps;
+    }

@@ -1,5 +1,10 @@
+use Rattle.std.proofs.Common.{◌+◌, ◌≤◌, length, take, sum_by}
 use Rattle.incompat_graph.proofs.EndLaws.{IsSearched}
 use Rattle.incompat_graph.proofs.search.odd_walk.Given as goal
 
 abbrev pub invariant-loop-k : goal.invariant-loop-k
-invariant-loop-k g l = IsSearched l.m l.rows l.marks l.forest l.k
+invariant-loop-k g l =
+    record {
+      searched : IsSearched l.m l.rows l.marks l.forest l.k;
+      counted : l.fn.steps + sum_by length (take l.rows l.m.rows) ≤ l.steps;
+    }

@@ -3,9 +3,11 @@ use Rattle.std.specs.List.{list_all}
 use Rattle.std.specs.Str.{bytes_eq}
 use Rattle.column_order.specs.Orders.{has}
 use Rattle.serde_json.specs.View.{items_view}
-use Rattle.matrix_read.specs.Clones.{bytes_of, texts_of, is_probe, column_of}
+use Rattle.matrix_read.specs.Clones.{texts_of, is_probe, column_of}
+use Rattle.matrix_read.specs.Names.{bytes_of}
 use Rattle.matrix_read.proofs.RowLemmas.{mark_step}
-use Rattle.matrix_read.proofs.CloneLemmas.{items_drop, list_any-bytes, column_found}
+use Rattle.matrix_read.proofs.CloneLemmas.{items_drop, column_found}
+use Rattle.matrix_read.proofs.NameLemmas.{list_any-bytes}
 use Rattle.matrix_read.proofs.clones.mark_names.Goals as goal
 
 pub returns-in-None-clause-refused : goal.returns-in-None-clause-refused

@@ -2,7 +2,8 @@ use Rattle.std.proofs.Common.{◌≡◌, ◌<◌, ◌+◌, ◌||◌, ℕ, drop, 
 use Rattle.std.specs.List.{list_all}
 use Rattle.column_order.specs.Orders.{has}
 use Rattle.serde_json.specs.View.{items_view}
-use Rattle.matrix_read.specs.Clones.{texts_of, bytes_of, is_probe, column_of}
+use Rattle.matrix_read.specs.Clones.{texts_of, is_probe, column_of}
+use Rattle.matrix_read.specs.Names.{bytes_of}
 use Rattle.matrix_read.proofs.clones.mark_names.Given as goal
 
 abbrev pub invariant-loop-value : goal.invariant-loop-value

@@ -1,6 +1,7 @@
 use Rattle.std.proofs.Common.{◌≡◌, length, sym, ◌∙◌, ap, arith}
 use Rattle.serde_json.specs.View.{items_view}
-use Rattle.matrix_read.specs.Clones.{texts_of, bytes_of, matrix_of, clone_matrix}
+use Rattle.matrix_read.specs.Clones.{texts_of, matrix_of, clone_matrix}
+use Rattle.matrix_read.specs.Names.{bytes_of}
 use Rattle.matrix_read.proofs.CloneLemmas.{some_if, length_texts, length-bytes, many_probes, probe_twice, many_clones, within_limits}
 use Rattle.matrix_read.proofs.clones.matrix_of.Goals as goal
 

@@ -2,8 +2,10 @@ use Rattle.std.proofs.Common.{◌≡◌, ◌∷◌, ◌++◌, ◌+◌, sym, ◌�
 use Rattle.std.specs.List.{list_any}
 use Rattle.std.specs.Str.{bytes_eq}
 use Rattle.serde_json.specs.View.{view, items_view}
-use Rattle.matrix_read.specs.Clones.{bytes_of, text_of, texts_of, has_twice}
-use Rattle.matrix_read.proofs.CloneLemmas.{items_drop, twice_found, added_once, added_whole, list_any-bytes, found_if}
+use Rattle.matrix_read.specs.Clones.{text_of, texts_of}
+use Rattle.matrix_read.specs.Names.{bytes_of, has_twice}
+use Rattle.matrix_read.proofs.CloneLemmas.{items_drop}
+use Rattle.matrix_read.proofs.NameLemmas.{twice_found, added_once, added_whole, list_any-bytes, found_if}
 use Rattle.matrix_read.proofs.clones.names_of.Goals as goal
 
 pub returns-in-Ok-false : goal.returns-in-Ok-false

@@ -1,6 +1,7 @@
 use Rattle.std.proofs.Common.{◌≡◌, ◌++◌, drop, false}
 use Rattle.serde_json.specs.View.{items_view}
-use Rattle.matrix_read.specs.Clones.{texts_of, bytes_of, has_twice}
+use Rattle.matrix_read.specs.Clones.{texts_of}
+use Rattle.matrix_read.specs.Names.{bytes_of, has_twice}
 use Rattle.matrix_read.proofs.clones.names_of.Given as goal
 
 abbrev pub invariant-loop-value : goal.invariant-loop-value

@@ -2,7 +2,8 @@ use Rattle.std.proofs.Common.{◌≡◌, ◌∷◌, ◌++◌, ◌+◌, [], lengt
 use Rattle.std.proofs.Math.ListN.{drop_of_length-le}
 use Rattle.row_model.specs.Rows.{RowList}
 use Rattle.serde_json.specs.View.{view, items_view}
-use Rattle.matrix_read.specs.Clones.{bytes_of, clone_row}
+use Rattle.matrix_read.specs.Clones.{clone_row}
+use Rattle.matrix_read.specs.Names.{bytes_of}
 use Rattle.matrix_read.proofs.CloneLemmas.{items_drop, matrix_after, clone_stop, clone_step, clone_end, clone_row_ascends, length-bytes}
 use Rattle.matrix_read.proofs.clones.push_rows.Goals as goal
 

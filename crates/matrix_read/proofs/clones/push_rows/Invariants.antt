@@ -1,6 +1,7 @@
 use Rattle.std.proofs.Common.{◌≡◌, ◌+◌, ℕ, drop, length, get_or, false}
 use Rattle.serde_json.specs.View.{items_view}
-use Rattle.matrix_read.specs.Clones.{bytes_of, clone_matrix}
+use Rattle.matrix_read.specs.Clones.{clone_matrix}
+use Rattle.matrix_read.specs.Names.{bytes_of}
 use Rattle.matrix_read.proofs.CloneLemmas.{matrix_after}
 use Rattle.matrix_read.proofs.clones.push_rows.Given as goal
 

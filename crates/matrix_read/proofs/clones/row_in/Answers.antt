@@ -1,7 +1,8 @@
 use Rattle.std.proofs.Common.{◌≡◌, ◌∙◌, sym, ap, map, length}
 use Rattle.serde_json.specs.View.{view, items_view}
 use Rattle.matrix_read.specs.Rows.{columns_among}
-use Rattle.matrix_read.specs.Clones.{bytes_of, texts_of, column_of}
+use Rattle.matrix_read.specs.Clones.{texts_of, column_of}
+use Rattle.matrix_read.specs.Names.{bytes_of}
 use Rattle.matrix_read.proofs.RowLemmas.{marked_is}
 use Rattle.matrix_read.proofs.CloneLemmas.{names_taken, row_of_names, length-bytes}
 use Rattle.matrix_read.proofs.clones.row_in.Goals as goal

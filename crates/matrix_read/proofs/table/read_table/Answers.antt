@@ -8,7 +8,7 @@ use Rattle.matrix_read.proofs.TableLemmas.{table_long, table_short}
 use Rattle.matrix_read.proofs.table.read_table.Goals as goal
 
 pub returns-then-bytes-gt-MAX_FILE_BYTES : goal.returns-then-bytes-gt-MAX_FILE_BYTES
-returns-then-bytes-gt-MAX_FILE_BYTES c = sym (table_long c.args.bytes.now c.if-bytes-gt-MAX_FILE_BYTES.true)
+returns-then-bytes-gt-MAX_FILE_BYTES c = c.refused.ensures ∙ sym (table_long c.args.bytes.now c.if-bytes-gt-MAX_FILE_BYTES.true)
 
 pub returns-then-not-branch : goal.returns-then-not-branch
 returns-then-not-branch c =
@@ -16,7 +16,7 @@ returns-then-not-branch c =
     let start = c.from_reader-reader.ensures in
     let all : records_left c.from_reader-reader.result ≡ records default_config (strip_bom bytes) = left_at_start c.from_reader-reader.result (strip_bom bytes) start.state start.source in
     let none = c.in_ok-next_record.ensures.end c.if-not-branch.true in
-    sym (table_short bytes c.if-bytes-gt-MAX_FILE_BYTES.false ∙ ap read_records (sym all ∙ none))
+    c.refused-then-not-branch.ensures ∙ sym (table_short bytes c.if-bytes-gt-MAX_FILE_BYTES.false ∙ ap read_records (sym all ∙ none))
 
 pub returns : goal.returns
 returns c =

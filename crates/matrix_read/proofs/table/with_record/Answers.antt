@@ -14,7 +14,7 @@ returns-then-rows-ge-MAX_ROWS-clause-read c =
     let m = c.in-Ok.matrix in
     let fields = fields_of c.args.fields.now in
     let full : MAX_ROWS ≤ length m.rows = omega (arith, c.rows.ensures) in
-    rw (c.in-Ok.is, c.rows-line.ensures) (sym (record_refused m fields [] LIMIT (code_full (length m.rows) fields full)))
+    rw (c.in-Ok.is, c.refused.ensures, c.rows-line.ensures) (sym (record_refused m fields [] LIMIT (code_full (length m.rows) fields full)))
 
 pub returns-then-not-branch-clause-read : goal.returns-then-not-branch-clause-read
 returns-then-not-branch-clause-read c =
@@ -22,7 +22,7 @@ returns-then-not-branch-clause-read c =
     let fields = fields_of c.args.fields.now in
     let few : length m.rows < MAX_ROWS = omega (arith, c.rows.ensures) in
     let foreign : list_any is_foreign (cells fields) ≡ true = is_of_not (list_any is_foreign (cells fields)) false (sym c.in_ok-mark_columns.ensures.clean ∙ c.if-not-branch.true) in
-    rw (c.in-Ok.is, c.rows-line.ensures) (sym (record_refused m fields [] GRAMMAR (code_foreign (length m.rows) fields few foreign)))
+    rw (c.in-Ok.is, c.refused-then-not-branch.ensures, c.rows-line.ensures) (sym (record_refused m fields [] GRAMMAR (code_foreign (length m.rows) fields few foreign)))
 
 pub push_row-requires-clause-row : goal.push_row-requires-clause-row
 push_row-requires-clause-row c =

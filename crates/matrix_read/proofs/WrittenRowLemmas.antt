@@ -1,0 +1,268 @@
+-- The text of lines that name the columns of rows is read as these rows.
+use Rattle.std.proofs.Common.{◌≡◌, ◌⊎◌, ℕ, zero, suc, ◌<◌, ◌≤◌, ◌+◌, ◌^◌, List, [], ◌∷◌, ◌++◌, length, map, ap, sym, ◌∙◌, refl, arith, None, Ok, true, false, ◌==◌, not, eq-eqb, inl, inr}
+use Rattle.std.proofs.lemmas.Bool.{cases_eq, ne_eqb, le-leb, le-ltb, leb-true, and_parts, or_right}
+use Rattle.std.proofs.lemmas.List.{append-nil}
+use Rattle.std.proofs.lemmas.Fmt.{digits_decimal, digits_value-decimal, decimal_nonempty, IsAscii-decimal}
+use Rattle.std.proofs.lemmas.Str.{IsAscii-append}
+use Rattle.std.proofs.lemmas.Str.Ascii.{IsAscii-nil, IsAscii-cons}
+use Rattle.std.proofs.lemmas.Str.Parse.{IsNumeralModel, numerals_by_fold}
+use Rattle.std.specs.Char.{is_ascii_digit}
+use Rattle.std.specs.Fmt.{decimal}
+use Rattle.std.specs.List.{list_all, AllByRecursion}
+use Rattle.std.specs.Str.{IsAscii}
+use Rattle.std.proofs.Common.{rules}
+use Rattle.column_order.specs.Orders.{has}
+use Rattle.row_model.specs.Rows.{Ascends}
+use Rattle.row_model.specs.declared.refusal.Read.TheVariants as read
+use Rattle.row_model.specs.declared.TheConstants.{MAX_COLUMNS, MAX_ROWS}
+use Rattle.matrix_read.specs.Lines.{NumberedLine, before_first, is_blank_byte, without_mark, without_return, line_parts, lines_of}
+use Rattle.matrix_read.specs.Words.{begins_word, words_of, only_word, number_after, numeral_of}
+use Rattle.matrix_read.specs.declared.words.Numeral.TheVariants.{Value}
+use Rattle.matrix_read.specs.Rows.{numbered_lines, first_refusal, refused_or, columns_among}
+use Rattle.matrix_read.specs.Sparse.{column_code, width_of_numeral, words_code, line_code, numbers_of, row_named, named_rows, first_width, sparse_lines}
+use Rattle.matrix_read.specs.WrittenRows.{spaced, named_line, named_text, Names, NameAll, FurtherLaw, SparseLaw}
+use Rattle.matrix_read.proofs.WordLemmas.{words_of_blank, words_of_last, words_of_more, numeral_value}
+use Rattle.matrix_read.proofs.WrittenLemmas.{lacks_low}
+use Rattle.matrix_read.proofs.SparseLemmas.{sparse_short, further_short, first_taken, line_taken, words_next, words_end}
+
+-- the bytes of numbers and of the spaces between them
+abbrev pub IsDigit : ℕ → Type 0
+IsDigit b = (48 ≤ b) × (b ≤ 57)
+
+abbrev pub IsWritten : ℕ → Type 0
+IsWritten b = (b ≡ 32) ⊎ IsDigit b
+
+own : IsNumeralModel (λ ds. list_all is_ascii_digit ds ≡ true) (number_after 0)
+own = numerals_by_fold _ (search rules) number_after (search rules)
+
+are_digits : (bytes : List ℕ) → list_all is_ascii_digit bytes ≡ true → AllByRecursion IsDigit bytes
+are_digits [] h = tt
+are_digits (b ∷ bytes) h =
+    let parts = and_parts (is_ascii_digit b) (list_all is_ascii_digit bytes) h in
+    let bounds = and_parts _ _ parts.0 in
+    ((leb-true 48 b bounds.0, leb-true b 57 bounds.1), are_digits bytes parts.1)
+
+decimal_digits : (n : ℕ) → n < 2 ^ 64 → AllByRecursion IsDigit (decimal n)
+decimal_digits n small = are_digits (decimal n) (digits_decimal own n small)
+
+decimal_value : (n : ℕ) → n < 2 ^ 64 → numeral_of (decimal n) ≡ Value n
+decimal_value n small = sym (numeral_value (decimal n) (decimal_nonempty n small) (digits_decimal own n small) n (sym (digits_value-decimal own n small)) small)
+
+-- a word of digits before bytes that begin no word
+digit_filled : (b : ℕ) → IsDigit b → is_blank_byte b ≡ false
+digit_filled b h = rw (ne_eqb b 32 (λ e. omega (arith, e, h.0)), ne_eqb b 9 (λ e. omega (arith, e, h.0))) refl
+
+word_before : (word rest : List ℕ) → 0 < length word → AllByRecursion IsDigit word → begins_word rest ≡ false → words_of (word ++ rest) ≡ word ∷ words_of rest
+word_before [] rest some digits apart = absurd (omega arith)
+word_before (b ∷ []) rest some digits apart = words_of_last b rest (digit_filled b digits.0) apart
+word_before (b ∷ a ∷ word) rest some digits apart =
+    words_of_more b (a ∷ (word ++ rest)) (digit_filled b digits.0) (ap not (digit_filled a digits.1.0))
+    ∙ ap (before_first b) (word_before (a ∷ word) rest (omega arith) digits.1 apart)
+
+-- the columns are within 1 to c
+abbrev pub AreWithin : ℕ → List ℕ → Type 0
+AreWithin c columns = AllByRecursion (λ a. (1 ≤ a) × (a ≤ c)) columns
+
+-- the words of a line that names columns
+spaced_apart : (columns : List ℕ) → begins_word (spaced columns) ≡ false
+spaced_apart [] = refl
+spaced_apart (column ∷ columns) = refl
+
+module _ (c : ℕ) (small : c ≤ 32768) where
+  small_enough : (a : ℕ) → a ≤ c → a < 2 ^ 64
+  small_enough a le = omega arith
+
+  words_of-spaced : (columns : List ℕ) → AreWithin c columns → words_of (spaced columns) ≡ map decimal columns
+  unfolding words_of
+  words_of-spaced [] within = refl
+  words_of-spaced (column ∷ columns) within =
+      let fits = small_enough column within.0.1 in
+      words_of_blank 32 (decimal column ++ spaced columns) refl
+      ∙ word_before (decimal column) (spaced columns) (decimal_nonempty column fits) (decimal_digits column fits) (spaced_apart columns)
+      ∙ ap (λ words. decimal column ∷ words) (words_of-spaced columns within.1)
+
+  words_of-line : (columns : List ℕ) → AreWithin c columns → words_of (named_line columns) ≡ map decimal columns
+  unfolding words_of
+  words_of-line [] within = refl
+  words_of-line (column ∷ columns) within =
+      let fits = small_enough column within.0.1 in
+      word_before (decimal column) (spaced columns) (decimal_nonempty column fits) (decimal_digits column fits) (spaced_apart columns)
+      ∙ ap (λ words. decimal column ∷ words) (words_of-spaced columns within.1)
+
+  -- they are the columns, and none is refused
+  numbers_of-decimals : (columns : List ℕ) → AreWithin c columns → numbers_of (map decimal columns) ≡ columns
+  numbers_of-decimals [] within = refl
+  numbers_of-decimals (column ∷ columns) within =
+      ap (λ n. n ∷ numbers_of (map decimal columns)) (digits_value-decimal own column (small_enough column within.0.1)) ∙ ap (λ ns. column ∷ ns) (numbers_of-decimals columns within.1)
+
+  words_code-decimals : (columns : List ℕ) → AreWithin c columns → words_code c (map decimal columns) ≡ None
+  words_code-decimals [] within = words_end c [] refl
+  words_code-decimals (column ∷ columns) within =
+      let taken : column_code c (numeral_of (decimal column)) ≡ None = ap (column_code c) (decimal_value column (small_enough column within.0.1)) ∙ rw (le-leb 1 column within.0.0, le-leb column c within.0.1) refl in
+      sym (words_next c (map decimal (column ∷ columns)) (map decimal columns) (decimal column) refl taken) ∙ words_code-decimals columns within.1
+
+-- the set of columns is the row
+among_same : (column n : ℕ) (xs ys : List ℕ) → ((a : ℕ) → has xs a ≡ has ys a) → columns_among column n xs ≡ columns_among column n ys
+among_same column zero xs ys same = refl
+among_same column (suc n) xs ys same = rw (same column, among_same (column + 1) n xs ys same) refl
+
+among_later : (x column n : ℕ) (row : List ℕ) → x < column → columns_among column n (x ∷ row) ≡ columns_among column n row
+among_later x column zero row lt = refl
+among_later x column (suc n) row lt = rw (ne_eqb x column (λ e. omega (arith, e)), among_later x (column + 1) n row (omega arith)) refl
+
+among_row : (c low n : ℕ) (row : List ℕ) → low + n ≡ c → Ascends c low row → columns_among (low + 1) n row ≡ row
+among_row c low zero [] e h = refl
+among_row c low zero (x ∷ row) e h = absurd (omega (arith, h.0, h.1))
+among_row c low (suc n) [] e h = among_row c (low + 1) n [] (omega arith) tt
+among_row c low (suc n) (x ∷ row) e h =
+    elim (cases_eq x (low + 1)) [
+      | inl same ↦
+          let rest : Ascends c (low + 1) row = rw same at h.2 in
+          rw (eq-eqb x (low + 1) same, among_later x (low + 1 + 1) n row (omega (arith, same)), among_row c (low + 1) n row (omega arith) rest) (ap (λ a. a ∷ row) (sym same))
+      | inr other ↦
+          let above : Ascends c (low + 1) (x ∷ row) = (omega (arith, other, h.0), h.1, h.2) in
+          rw (ne_eqb x (low + 1) other, lacks_low c x (low + 1) row h.2 (omega (arith, above.0))) (among_row c (low + 1) n (x ∷ row) (omega arith) above)
+    ]
+
+-- what a row has is within its columns
+has_within : (c low a : ℕ) (row : List ℕ) → Ascends c low row → has row a ≡ true → (low < a) × (a ≤ c)
+has_within c low a [] h found = absurd (cc)
+has_within c low a (x ∷ row) h found =
+    elim (cases_eq x a) [
+      | inl same ↦ (omega (arith, h.0, same), omega (arith, h.1, same))
+      | inr other ↦
+          let later : has row a ≡ true = rw (ne_eqb x a other) at found in
+          let rest = has_within c x a row h.2 later in
+          (omega (arith, h.0, rest.0), rest.1)
+    ]
+
+all_within : (c : ℕ) (columns : List ℕ) → ((a : ℕ) → has columns a ≡ true → (1 ≤ a) × (a ≤ c)) → AreWithin c columns
+all_within c [] h = tt
+all_within c (column ∷ columns) h =
+    let here : has (column ∷ columns) column ≡ true = rw (eq-eqb column column refl) refl in
+    (h column here, all_within c columns (λ a found. h a (or_right (column == a) (has columns a) found)))
+
+module _ (c : ℕ) (small : c ≤ 32768) (columns row : List ℕ) (names : Names c columns row) where
+  named_within : AreWithin c columns
+  named_within = all_within c columns (λ a found. let bounds = has_within c 0 a row names.is_row (sym (names.same a) ∙ found) in (omega (arith, bounds.0), bounds.1))
+
+  row_named-line : row_named c (named_line columns) ≡ row
+  row_named-line =
+      ap (λ words. columns_among 1 c (numbers_of words)) (words_of-line c small columns named_within)
+      ∙ ap (columns_among 1 c) (numbers_of-decimals c small columns named_within)
+      ∙ among_same 1 c columns row names.same
+      ∙ among_row c 0 c row (omega arith) names.is_row
+
+  line_code-line : (before : ℕ) → before < MAX_ROWS → line_code c before (named_line columns) ≡ None
+  line_code-line before few = line_taken c before (named_line columns) few (ap (words_code c) (words_of-line c small columns named_within) ∙ words_code-decimals c small columns named_within)
+
+-- written bytes end no line
+written_append : (xs ys : List ℕ) → AllByRecursion IsWritten xs → AllByRecursion IsWritten ys → AllByRecursion IsWritten (xs ++ ys)
+written_append [] ys p q = q
+written_append (x ∷ xs) ys p q = (p.0, written_append xs ys p.1 q)
+
+written_digits : (bytes : List ℕ) → AllByRecursion IsDigit bytes → AllByRecursion IsWritten bytes
+written_digits [] h = tt
+written_digits (b ∷ bytes) h = (inr h.0, written_digits bytes h.1)
+
+no_feed : (b : ℕ) → IsWritten b → (b == 10) ≡ false
+no_feed b h = ne_eqb b 10 (λ e. elim h [ inl space ↦ omega (arith, e, space) | inr digit ↦ omega (arith, e, digit.0) ])
+
+no_return : (b : ℕ) → IsWritten b → (b == 13) ≡ false
+no_return b h = ne_eqb b 13 (λ e. elim h [ inl space ↦ omega (arith, e, space) | inr digit ↦ omega (arith, e, digit.0) ])
+
+line_parts-written : (bytes rest : List ℕ) → AllByRecursion IsWritten bytes → line_parts (bytes ++ 10 ∷ rest) ≡ bytes ∷ line_parts rest
+unfolding line_parts
+line_parts-written [] rest h = refl
+line_parts-written (b ∷ bytes) rest h = rw (no_feed b h.0, line_parts-written bytes rest h.1) refl
+
+without_return-written : (bytes : List ℕ) → AllByRecursion IsWritten bytes → without_return bytes ≡ bytes
+without_return-written [] h = refl
+without_return-written (b ∷ []) h = rw (no_return b h.0) refl
+without_return-written (b ∷ a ∷ bytes) h = ap (λ t. b ∷ t) (without_return-written (a ∷ bytes) h.1)
+
+first_line_written : (bytes rest : List ℕ) → AllByRecursion IsWritten bytes → lines_of (bytes ++ 10 ∷ rest) ≡ bytes ∷ lines_of rest
+first_line_written bytes rest h = ap (map without_return) (line_parts-written bytes rest h) ∙ ap (λ line. line ∷ lines_of rest) (without_return-written bytes h)
+
+-- a text of bytes below 128 has no mark
+without_mark-ascii : (bytes : List ℕ) → IsAscii bytes → without_mark bytes ≡ bytes
+without_mark-ascii [] h = refl
+without_mark-ascii (a ∷ []) h = refl
+without_mark-ascii (a ∷ b ∷ []) h = refl
+without_mark-ascii (a ∷ b ∷ c ∷ bytes) h = rw (ne_eqb a 239 (λ e. omega (arith, e, h 0))) refl
+
+-- the text of rows
+module _ (c : ℕ) (small : c ≤ 32768) where
+  spaced_written : (columns : List ℕ) → AreWithin c columns → AllByRecursion IsWritten (spaced columns) × IsAscii (spaced columns)
+  spaced_written [] within = (tt, IsAscii-nil)
+  spaced_written (column ∷ columns) within =
+      let fits = small_enough c small column within.0.1 in
+      let rest = spaced_written columns within.1 in (
+        (inl refl, written_append (decimal column) (spaced columns) (written_digits (decimal column) (decimal_digits column fits)) rest.0),
+        IsAscii-cons 32 (decimal column ++ spaced columns) (omega arith) (IsAscii-append (decimal column) (spaced columns) (IsAscii-decimal column fits) rest.1),
+      )
+
+  line_written : (columns : List ℕ) → AreWithin c columns → AllByRecursion IsWritten (named_line columns) × IsAscii (named_line columns)
+  line_written [] within = (tt, IsAscii-nil)
+  line_written (column ∷ columns) within =
+      let fits = small_enough c small column within.0.1 in
+      let rest = spaced_written columns within.1 in (
+        written_append (decimal column) (spaced columns) (written_digits (decimal column) (decimal_digits column fits)) rest.0,
+        IsAscii-append (decimal column) (spaced columns) (IsAscii-decimal column fits) rest.1,
+      )
+
+  text_ascii : (lists rows : List (List ℕ)) → NameAll c lists rows → IsAscii (named_text lists)
+  text_ascii [] rows names = IsAscii-nil
+  text_ascii (columns ∷ lists) [] names = absurd names
+  text_ascii (columns ∷ lists) (row ∷ rows) names =
+      IsAscii-append (named_line columns) (10 ∷ named_text lists) (line_written columns (named_within c small columns row names.0)).1 (IsAscii-cons 10 (named_text lists) (omega arith) (text_ascii lists rows names.1))
+
+  lines_of-text : (lists rows : List (List ℕ)) → NameAll c lists rows → lines_of (named_text lists) ≡ map named_line lists
+  unfolding line_parts
+  lines_of-text [] rows names = refl
+  lines_of-text (columns ∷ lists) [] names = absurd names
+  lines_of-text (columns ∷ lists) (row ∷ rows) names =
+      first_line_written (named_line columns) (named_text lists) (line_written columns (named_within c small columns row names.0)).0
+      ∙ ap (λ lines. named_line columns ∷ lines) (lines_of-text lists rows names.1)
+
+  first_refusal-text : (before number : ℕ) (lists rows : List (List ℕ)) → NameAll c lists rows → before + length rows ≤ MAX_ROWS → first_refusal (line_code c) before (numbered_lines number (map named_line lists)) ≡ None
+  unfolding first_refusal numbered_lines
+  first_refusal-text before number [] rows names few = refl
+  first_refusal-text before number (columns ∷ lists) [] names few = absurd names
+  first_refusal-text before number (columns ∷ lists) (row ∷ rows) names few =
+      rw (line_code-line c small columns row names.0 before (omega arith)) (first_refusal-text (before + 1) (number + 1) lists rows names.1 (omega arith))
+
+  rows-text : (number : ℕ) (lists rows : List (List ℕ)) → NameAll c lists rows → map (λ line. row_named c line.text) (numbered_lines number (map named_line lists)) ≡ rows
+  unfolding numbered_lines
+  rows-text number [] [] names = refl
+  rows-text number [] (row ∷ rows) names = absurd names
+  rows-text number (columns ∷ lists) [] names = absurd names
+  rows-text number (columns ∷ lists) (row ∷ rows) names =
+      ap (λ first. first ∷ map (λ (line : NumberedLine). row_named c line.text) (numbered_lines (number + 1) (map named_line lists))) (row_named-line c small columns row names.0)
+      ∙ ap (λ later. row ∷ later) (rows-text (number + 1) lists rows names.1)
+
+  named_rows-text : (number : ℕ) (lists rows : List (List ℕ)) → NameAll c lists rows → length rows ≤ MAX_ROWS → named_rows c (numbered_lines number (lines_of (named_text lists))) ≡ read.Ok (record { columns = c; rows = rows })
+  named_rows-text number lists rows names few =
+      ap (λ lines. named_rows c (numbered_lines number lines)) (lines_of-text lists rows names)
+      ∙ ap (λ refusal. refused_or refusal (record { columns = c; rows = map (λ (line : NumberedLine). row_named c line.text) (numbered_lines number (map named_line lists)) })) (first_refusal-text 0 number lists rows names (omega arith))
+      ∙ ap (λ read_rows. read.Ok (record { columns = c; rows = read_rows })) (rows-text number lists rows names)
+
+pub further_law_holds : FurtherLaw
+further_law_holds c lists rows small names few short =
+    further_short (named_text lists) c short
+    ∙ ap (λ text. named_rows c (numbered_lines 1 (lines_of text))) (without_mark-ascii (named_text lists) (text_ascii c small lists rows names))
+    ∙ named_rows-text c small 1 lists rows names few
+
+pub sparse_law_holds : SparseLaw
+unfolding words_of
+sparse_law_holds c lists rows some narrow names few short =
+    let small : c ≤ 32768 = omega arith in
+    let fits = small_enough c small c (omega arith) in
+    let text = decimal c ++ 10 ∷ named_text lists in
+    let ascii = IsAscii-append (decimal c) (10 ∷ named_text lists) (IsAscii-decimal c fits) (IsAscii-cons 10 (named_text lists) (omega arith) (text_ascii c small lists rows names)) in
+    let word : words_of (decimal c) ≡ decimal c ∷ [] = ap words_of (sym (append-nil (decimal c))) ∙ word_before (decimal c) [] (decimal_nonempty c fits) (decimal_digits c fits) refl in
+    let width : Ok c ≡ first_width (only_word (words_of (decimal c))) = sym (ap (λ words. first_width (only_word words)) word ∙ ap width_of_numeral (decimal_value c fits) ∙ rw (ne_eqb c 0 (λ e. omega (arith, e)), le-ltb MAX_COLUMNS c narrow) refl) in
+    sparse_short text short
+    ∙ ap (λ bytes. sparse_lines (lines_of bytes)) (without_mark-ascii text ascii)
+    ∙ first_taken text (decimal c) (lines_of (named_text lists)) (first_line_written (decimal c) (named_text lists) (written_digits (decimal c) (decimal_digits c fits))) c width
+    ∙ named_rows-text c small 2 lists rows names few

@@ -1,0 +1,67 @@
+-- What a check says of the bytes of a verdict.
+use Rattle.std.proofs.Common.{◌≡◌, ◌∙◌, ℕ, List, ◌∷◌, ◌++◌, codes, refl, sym, ap, subst, arith}
+use Rattle.std.specs.List.{AllByRecursion}
+use Rattle.std.proofs.lemmas.Option.{same_Some}
+use Rattle.verdict_text.specs.Verdict.{VerdictValue}
+use Rattle.verdict_text.specs.Grammar.{IsVerdict}
+use Rattle.verdict_text.specs.Text.{verdict_text}
+use Rattle.verdict_text.specs.Reading.{verdict_of}
+use Rattle.verdict_text.proofs.VerdictLaws.{verdict_again}
+use Rattle.verdict_check.specs.Instance.{InstanceValue}
+use Rattle.verdict_check.specs.Accepted.{Passes, IsAccepted, FailsFirst}
+use Rattle.verdict_check.specs.declared.outcome.Reason.{Reason}
+use Rattle.verdict_check.proofs.First.{all_parts}
+use Rattle.verdict_check.proofs.True.{true_law}
+use Rattle.pq_cli.specs.Judgements.{HasVerdict, IsJudgement, IsJudging, judgement_status, judgement_text}
+use Rattle.pq_cli.specs.Replies.{Replies, IsTrueOf, IsSolution}
+use Rattle.pq_cli.specs.Laws.{CheckLaw, SolvedLaw}
+use Rattle.pq_cli.specs.declared.judgement.Judgement.{Judgement}
+use Rattle.pq_cli.specs.declared.judgement.Judgement.TheVariants as judgement
+use Rattle.pq_cli.proofs.Reading.{same_read, instance_read}
+use Rattle.pq_cli.proofs.Solved.{solved_accepted}
+
+-- with status 0 the bytes are valid
+valid_at_zero : (i : InstanceValue) (bytes : List ℕ) (found : Judgement) → IsJudgement i bytes found → 0 ≡ judgement_status found → HasVerdict bytes (IsAccepted i)
+valid_at_zero i bytes judgement.Valid h e = h
+valid_at_zero i bytes judgement.TooLong h e = absurd (omega arith)
+valid_at_zero i bytes judgement.NoVerdict h e = absurd (omega arith)
+valid_at_zero i bytes (judgement.Fails r) h e = absurd (omega arith)
+
+pub check_law : CheckLaw
+unfolding Replies
+check_law kind file verdict bytes given text i e reply =
+    let same : reply.0 ≡ i = same_read kind bytes i reply.0 e reply.1 in
+    let valid : HasVerdict given (IsAccepted i) = subst (λ j. HasVerdict given (IsAccepted j)) same (valid_at_zero reply.0 given reply.2.judgement reply.2.holds reply.2.status_is) in
+    (valid.1.0, valid.1.1, valid.1.2, true_law i valid.1.0 valid.1.1 valid.1.3)
+
+-- no test of a verdict that is accepted fails
+accepted_fails_none : (i : InstanceValue) (v : VerdictValue) (r : Reason) → IsAccepted i v → FailsFirst i v r → ⊥
+accepted_fails_none i v r accepted first =
+    let all : AllByRecursion (Passes i v) (first.passed ++ r ∷ first.later) = subst (AllByRecursion (Passes i v)) first.order accepted in
+    first.fails (all_parts (Passes i v) first.passed (r ∷ first.later) all).1.0
+
+-- bytes are the text of one verdict
+one_text : (v w : VerdictValue) (bytes : List ℕ) → IsVerdict v → IsVerdict w → bytes ≡ verdict_text v → bytes ≡ verdict_text w → v ≡ w
+one_text v w bytes h k e f = same_Some v w (sym (verdict_again v h) ∙ ap verdict_of (sym e ∙ f) ∙ verdict_again w k)
+
+-- bytes that are accepted are judged valid
+accepted_is_valid : (i : InstanceValue) (bytes : List ℕ) (found : Judgement) → HasVerdict bytes (IsAccepted i) → IsJudgement i bytes found → (judgement_status found ≡ 0) × (judgement_text found ≡ codes "valid")
+accepted_is_valid i bytes judgement.Valid has h = (refl, refl)
+accepted_is_valid i bytes judgement.TooLong has h = absurd (omega (arith, has.0))
+accepted_is_valid i bytes judgement.NoVerdict has h = absurd (h.1 has.1.0 has.1.1 has.1.2)
+accepted_is_valid i bytes (judgement.Fails r) has h =
+    let same : has.1.0 ≡ h.1.0 = one_text has.1.0 h.1.0 bytes has.1.1 h.1.1 has.1.2 h.1.2 in
+    absurd (accepted_fails_none i h.1.0 r (subst (IsAccepted i) same has.1.3) h.1.3)
+
+pub solved_law : SolvedLaw
+unfolding Replies
+solved_law kind file other verdict bytes given text status found solved checked =
+    let i = solved.0 in
+    let solution : IsSolution i status given = solved.2 in
+    let read_as = instance_read kind bytes i solved.1 in
+    let true = subst (λ j. HasVerdict (verdict_text solution.verdict) (IsAccepted j)) (sym read_as.is) (solved_accepted kind read_as.matrix read_as.tested read_as.within solution.verdict (subst (λ (j : InstanceValue). IsTrueOf j solution.verdict) read_as.is solution.holds)) in
+    let accepted : HasVerdict given (IsAccepted i) = subst (λ text. HasVerdict text (IsAccepted i)) (sym solution.text_is) true in
+    let same : checked.0 ≡ i = same_read kind bytes i checked.0 solved.1 checked.1 in
+    let judging : IsJudging i given found text = subst (λ j. IsJudging j given found text) same checked.2 in
+    let valid = accepted_is_valid i given judging.judgement accepted judging.holds in
+    (judging.status_is ∙ valid.0, judging.text_is ∙ ap (λ text. text ++ codes "\n") valid.1)

@@ -1,0 +1,5 @@
+use Rattle.pq_cli.proofs.Judged as laws
+use Rattle.pq_cli.proofs.laws.check_law.Goals as goal
+
+pub returns : goal.returns
+returns c = laws.check_law
