@@ -1,5 +1,5 @@
 -- All tests of a verdict.
-use Rattle.std.proofs.Common.{◌≡◌, ℕ, ◌-◌, ◌≤◌, List, [], ◌∷◌, length, map, Option, Some, None, Result, Ok, Err, slice_get, refl, sym, ap, subst, arith, append-nil, ◌++◌}
+use Rattle.std.proofs.Common.{◌≡◌, ℕ, ◌-◌, ◌≤◌, List, [], ◌∷◌, length, map, Option, Some, None, Result, Ok, Err, slice_get, refl, sym, subst, arith, append-nil, ◌++◌}
 use Rattle.std.specs.Prelude.{IfOk, IsSomeAnd, flat_map}
 use Rattle.std.specs.List.{AllByRecursion}
 use Rattle.row_model.specs.declared.kind.Kind.{Kind}
@@ -45,7 +45,7 @@ from_kind kind Clones m value = (λ h. h, (λ h. h, tt))
 from_kind kind named m value = tt
 
 pub only_tests : (kind : Kind) (m : RowList) → yes_tests (plain kind m) ≡ side_tests 1 m ++ kind_tests kind
-only_tests kind m = rw (append-nil (side_tests 1 m)) refl
+only_tests kind m = subst (λ xs. xs ++ kind_tests kind ≡ side_tests 1 m ++ kind_tests kind) (sym (append-nil (side_tests 1 m))) refl
 
 module _ (kind : Kind) (m : RowList) (value : YesValue) where
   abbrev P : Reason → Type 0
@@ -68,6 +68,18 @@ module _ (kind : Kind) (m : RowList) (value : YesValue) where
   pub added_last_ok : {E : Type 0} (r : Result (Option Reason) E) → Finds (PassesSide m value) (side_tests 1 m) None → IfOk r (Finds (PassesAdded m value) (kind_tests kind)) → IfOk r (Finds P (yes_tests (plain kind m)))
   added_last_ok (Ok o) f g = added_last o f g
   added_last_ok (Err e) f g = tt
+
+-- of the tests of a yes about a matrix one on its side fails
+pub yes_side_fails : (i : InstanceValue) (m : RowList) (value : YesValue) (o : Option Reason) (r : Reason) → m ≡ derived_matrix i 1 → o ≡ Some r →
+    Finds (PassesSide m value) (side_tests 1 m) o → Finds (PassesYes i value) (yes_tests i) (Some r)
+yes_side_fails (plain kind n) m value o r e is f =
+    subst (λ x. Finds (PassesYes (plain kind x) value) (yes_tests (plain kind x)) (Some r)) e (side_fails kind m value r (subst (Finds (PassesSide m value) (side_tests 1 m)) is f))
+
+-- each test on its side is passed, and then come those of what the kind adds
+pub yes_added_last : {E : Type 0} (i : InstanceValue) (kind : Kind) (m : RowList) (value : YesValue) (o : Option Reason) (r : Result (Option Reason) E) → i ≡ plain kind m → o ≡ None →
+    Finds (PassesSide m value) (side_tests 1 m) o → IfOk r (Finds (PassesAdded m value) (kind_tests kind)) → IfOk r (Finds (PassesYes i value) (yes_tests i))
+yes_added_last i kind m value o r e is f g =
+    subst (λ j. IfOk r (Finds (PassesYes j value) (yes_tests j))) (sym e) (added_last_ok kind m value r (subst (Finds (PassesSide m value) (side_tests 1 m)) is f) g)
 
 module _ (i : InstanceValue) (v : VerdictValue) where
   pub kind_fails : (v.kind ≡ instance_kind i → ⊥) → Finds (Passes i v) (tests i v) (Some reason.Kind)

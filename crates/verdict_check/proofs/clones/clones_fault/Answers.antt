@@ -1,5 +1,16 @@
 use Rattle.std.proofs.Common.{rules}
+use Rattle.std.specs.Prelude.{IsTrue, IsFalse}
+use Rattle.std.proofs.lemmas.Bool.{both_ways}
+use Rattle.row_model.specs.declared.lists.Place.{Place}
+use Rattle.row_model.specs.declared.lists.Span.{Span}
+use Rattle.verdict_text.specs.Value.{yes_value}
+use Rattle.verdict_check.proofs.ClonesTests.{places_fail, contigs_fail}
 use Rattle.verdict_check.proofs.clones.clones_fault.Goals as goal
 
 pub returns-then-not-same_places : goal.returns-then-not-same_places
-returns-then-not-same_places c = ?
+returns-then-not-same_places c =
+    places_fail c.args.m.now (yes_value c.args.yes.now) c.order.result.now c.order.ensures c.in_ok-placed.placed.places c.in_ok-placed.placed.contigs c.in_ok-placed.ensures.places c.in_ok-placed.ensures.contigs (search rules)
+
+pub returns-then-not-same_contigs : goal.returns-then-not-same_contigs
+returns-then-not-same_contigs c =
+    contigs_fail c.args.m.now (yes_value c.args.yes.now) c.order.result.now c.order.ensures c.in_ok-placed.placed.places c.in_ok-placed.placed.contigs c.in_ok-placed.ensures.places c.in_ok-placed.ensures.contigs (search rules) (search rules)
