@@ -11,23 +11,31 @@ use verdict_text::parse;
 
 const PATH: &[u8] =
     b"pq-verdict 1\nkind matrix\ncolumns 3\nanswer yes\ntree [1 2 3]\norder 1 2 3\nend\n";
+
 const ANOTHER_KIND: &[u8] =
     b"pq-verdict 1\nkind rows\ncolumns 3\nanswer yes\ntree [1 2 3]\norder 1 2 3\nend\n";
+
 const ANOTHER_COLUMN: &[u8] =
     b"pq-verdict 1\nkind matrix\ncolumns 4\nanswer yes\ntree [1 2 3 4]\norder 1 2 3 4\nend\n";
+
 const ANOTHER_ORDER: &[u8] =
     b"pq-verdict 1\nkind matrix\ncolumns 3\nanswer yes\ntree [1 2 3]\norder 1 3 2\nend\n";
+
 const ANOTHER_TREE: &[u8] =
     b"pq-verdict 1\nkind matrix\ncolumns 3\nanswer yes\ntree (1 2 3)\norder 1 2 3\nend\n";
 
 const TRIANGLE: &[u8] =
     b"pq-verdict 1\nkind matrix\ncolumns 3\nanswer no\nside 1\ncycle 3\n1 3 row 1\n3 2 row 3\n2 1 row 2\nend\n";
+
 const TWO_LINES: &[u8] =
     b"pq-verdict 1\nkind matrix\ncolumns 3\nanswer no\nside 1\ncycle 2\n1 3 row 1\n3 2 row 3\nend\n";
+
 const ONE_COLUMN_TWICE: &[u8] =
     b"pq-verdict 1\nkind matrix\ncolumns 3\nanswer no\nside 1\ncycle 3\n1 3 row 1\n3 3 row 3\n2 4 row 2\nend\n";
+
 const THERE_AND_BACK: &[u8] =
     b"pq-verdict 1\nkind matrix\ncolumns 3\nanswer no\nside 1\ncycle 5\n1 3 flip\n3 1 flip\n1 3 row 1\n3 2 row 3\n2 1 row 2\nend\n";
+
 const NO_ROW: &[u8] =
     b"pq-verdict 1\nkind matrix\ncolumns 3\nanswer no\nside 1\ncycle 3\n1 3 row 1\n3 2 row 3\n2 1 row 9\nend\n";
 
