@@ -1,9 +1,9 @@
 -- A tree has no label, and the pertinent root is not replaced, exactly where at some node no template fits.
-use Rattle.std.proofs.Common.{◌≡◌, ◌⊎◌, ◌↔◌, ◌∙◌, ℕ, List, ◌∷◌, Option, Some, None, sym, ap, subst, refl, inl, inr, option_and_then}
+use Rattle.std.proofs.Common.{◌≡◌, ◌⊎◌, ◌↔◌, ◌∙◌, ℕ, List, ◌∷◌, Option, Some, None, sym, ap, refl, inl, inr, option_and_then}
 use Rattle.pq_tree.specs.Outline.{Outline, Forest, leaf, p_node, q_node, no_tree, tree_and}
-use Rattle.pq_plain.specs.Labels.{Label, full_label, empty_label, empty_trees, full_trees, partials, at_p, at_run, run_of, first_some, label_of, labels_of}
-use Rattle.pq_plain.specs.Reduce.{root_p, at_span, span_of, inner_or, reduce, inner}
-use Rattle.pq_plain.specs.Unfit.{IsUnfit, IsSomeUnfit, IsUnfitP, IsUnfitQ, IsUnfitRootP, IsUnfitRootQ}
+use Rattle.pq_plain.specs.Labels.{Label, empty_trees, full_trees, partials, label_of, labels_of}
+use Rattle.pq_plain.specs.Reduce.{root_p, at_span, span_of, inner_or, reduce}
+use Rattle.pq_plain.specs.Unfit.{IsUnfit, IsSomeUnfit, IsUnfitRootP, IsUnfitRootQ}
 use Rattle.pq_plain.specs.Laws.{IsPertinentRoot}
 use Rattle.pq_plain.proofs.Labelled.{label_of_p, label_of_q}
 use Rattle.pq_plain.proofs.Reduced.{root_of_p, root_of_q}
