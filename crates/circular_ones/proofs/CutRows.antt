@@ -1,29 +1,10 @@
 -- The rows cut one after another.
-use Rattle.std.proofs.Common.{◌≡◌, ◌∙◌, ℕ, zero, suc, ◌+◌, ◌-◌, ◌≤◌, Bool, true, false, cond, not, List, [], ◌∷◌, ◌++◌, Some, take, slice_get, sym, ap, subst, arith}
+use Rattle.std.proofs.Common.{◌≡◌, ◌∙◌, ℕ, ◌+◌, ◌-◌, List, [], ◌∷◌, ◌++◌, Some, take, slice_get, sym, ap, subst, arith}
 use Rattle.std.proofs.lemmas.List.{take_more}
 use Rattle.std.proofs.lemmas.Option.{slice_get-map, slice_get_within, get_or_from_slice_get}
-use Rattle.std.specs.List.{filter, range_with_len}
 use Rattle.std.specs.Option.{option_map}
-use Rattle.column_order.specs.Orders.{has}
-use Rattle.row_model.specs.Rows.{RowList, Ascends, IsRow}
-use Rattle.circular_ones.specs.Circular.{complement, cut_row, cut_rows}
-
-ascends_lower : (c low high : ℕ) (row : List ℕ) → low ≤ high → Ascends c high row → Ascends c low row
-ascends_lower c low high [] l h = tt
-ascends_lower c low high (x ∷ row) l h = (omega (arith, l, h.0), h.1, h.2)
-
-ascends_filter : (p : ℕ → Bool) (n c low : ℕ) → low + n ≤ c → Ascends c low (filter p (range_with_len (low + 1) n))
-ascends_filter p zero c low h = tt
-ascends_filter p (suc n) c low h =
-    let rest : Ascends c (low + 1) (filter p (range_with_len (low + 1 + 1) n)) = ascends_filter p n c (low + 1) (omega (arith, h)) in
-    elim (p (low + 1)) as (λ t. Ascends c low (cond t ((low + 1) ∷ filter p (range_with_len (low + 1 + 1) n)) (filter p (range_with_len (low + 1 + 1) n)))) [
-      | true ↦ (omega arith, omega (arith, h), rest)
-      | false ↦ ascends_lower c low (low + 1) (filter p (range_with_len (low + 1 + 1) n)) (omega arith) rest
-    ]
-
--- a complement ascends
-pub complement_row : (c : ℕ) (row : List ℕ) → IsRow c (complement c row)
-complement_row c row = ascends_filter (λ a. not (has row a)) c c 0 (omega arith)
+use Rattle.row_model.specs.Rows.{RowList}
+use Rattle.circular_ones.specs.Circular.{cut_row, cut_rows}
 
 -- one cut row more
 pub cut_next : (new old : RowList) (c k : ℕ) (rows : List (List ℕ)) (row next : List ℕ) → new ≡ record old { rows = old.rows ++ next ∷ [] } → next ≡ cut_row c row →

@@ -1,12 +1,11 @@
 -- The complement of an ascending row, column by column.
-use Rattle.std.proofs.Common.{◌≡◌, ◌∙◌, ℕ, zero, suc, ◌+◌, ◌<◌, ◌≤◌, Bool, not, cond, ◌||◌, List, [], ◌∷◌, ◌++◌, length, drop, get_or, IsTrue, IsFalse, refl, sym, ap, subst, inl, inr, arith, append-nil, length-drop}
+use Rattle.std.proofs.Common.{◌≡◌, ◌∙◌, ℕ, suc, ◌+◌, ◌<◌, ◌≤◌, not, cond, ◌||◌, List, [], ◌∷◌, ◌++◌, length, drop, get_or, IsTrue, IsFalse, refl, sym, ap, subst, inl, inr, arith, append-nil, length-drop}
 use Rattle.std.proofs.lemmas.Bool.{cases_eq, ne_eqb}
-use Rattle.std.proofs.lemmas.List.Elements.{filter-append}
 use Rattle.std.proofs.Math.Seq.{drop-cons}
 use Rattle.std.proofs.lemmas.List.{get_or-drop}
-use Rattle.std.specs.List.{filter, range_with_len}
 use Rattle.column_order.specs.Orders.{has}
 use Rattle.column_order.proofs.Lists.{has_head}
+use Rattle.row_model.proofs.Filtered.{filtered_more}
 use Rattle.row_model.specs.Rows.{Ascends, IsRow}
 use Rattle.circular_ones.specs.Circular.{complement}
 
@@ -20,20 +19,8 @@ pub record IsListed (c : ℕ) (row : List ℕ) (inside before : ℕ) (outside : 
 pub none_listed : (c : ℕ) (row : List ℕ) → IsRow c row → IsListed c row 0 0 []
 none_listed c row h = record { low = omega arith; listed = refl; rest = h; same = λ a l. refl }
 
-range_more : (n low : ℕ) → range_with_len low (n + 1) ≡ range_with_len low n ++ (low + n) ∷ []
-range_more zero low = ap (λ m. m ∷ []) (omega arith)
-range_more (suc n) low =
-    let more : suc n + 1 ≡ suc (n + 1) = omega arith in
-    let next : low + 1 + n ≡ low + suc n = omega arith in
-    ap (range_with_len low) more ∙ ap (λ xs. low ∷ xs) (range_more n (low + 1)) ∙ ap (λ m. low ∷ (range_with_len (low + 1) n ++ m ∷ [])) next
-
 complement_more : (row : List ℕ) (n : ℕ) → complement (n + 1) row ≡ complement n row ++ cond (not (has row (n + 1))) ((n + 1) ∷ []) []
-complement_more row n =
-    let lacks : ℕ → Bool = λ column. not (has row column) in
-    let next : 1 + n ≡ n + 1 = omega arith in
-    ap (filter lacks) (range_more n 1) ∙
-    filter-append lacks (range_with_len 1 n) ((1 + n) ∷ []) ∙
-    ap (λ m. complement n row ++ cond (lacks m) (m ∷ []) []) next
+complement_more row n = filtered_more (λ column. not (has row column)) n
 
 drop_next : (row : List ℕ) (i : ℕ) → i < length row → drop i row ≡ get_or row i 0 ∷ drop (i + 1) row
 drop_next row i l =

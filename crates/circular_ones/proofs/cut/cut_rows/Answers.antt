@@ -3,7 +3,8 @@ use Rattle.std.proofs.lemmas.Bool.{cond-true, cond-false}
 use Rattle.std.proofs.lemmas.Option.{get_or_from_slice_get}
 use Rattle.column_order.specs.Orders.{has}
 use Rattle.circular_ones.specs.Circular.{complement, cut_row}
-use Rattle.circular_ones.proofs.CutRows.{complement_row, cut_next}
+use Rattle.circular_ones.proofs.Complements.{complement_row}
+use Rattle.circular_ones.proofs.CutRows.{cut_next}
 use Rattle.circular_ones.proofs.cut.cut_rows.Goals as goal
 use Rattle.circular_ones.proofs.cut.cut_rows.Goals.{then-has+in_ok-list_outside+in_ok-push_row, else-has+in_ok-push_row-2}
 
