@@ -2,6 +2,7 @@ pub mod Sides
 pub mod Walks
 pub mod CycleLaws
 pub mod PieceLemmas
+pub mod Filtered
 pub mod FirstRows
 pub mod Members
 pub mod Ascending

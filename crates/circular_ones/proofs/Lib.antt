@@ -1,0 +1,6 @@
+mod Complements
+mod CutLaws
+mod CutRows
+mod Outside
+mod Rotations
+mod Turns

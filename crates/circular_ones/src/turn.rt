@@ -1,0 +1,18 @@
+// Rotations of an order.
+ghost use Rattle.std.specs.Prelude.{IfOk, length};
+ghost use Rattle.column_order.specs.Orders.{IsOrder};
+ghost use Rattle.circular_ones.specs.Circular.{IsTurned};
+
+use std::alloc::{AllocError, Global};
+
+/// The rotation of an order that begins with column 1: the columns from 1 on, and then those before it.
+pub fn turned(alloc: Global, order: &[u32]) -> Result<Vec<u32>, AllocError>
+    requires { IsOrder (length order.now) order.now }
+    ensures { IfOk result (λ turned. IsTurned order.now turned.items) }
+{
+    let mut turned = Vec::from_slice(alloc, order)?;
+    if let Some(before) = order.iter().position(|column| *column == 1) {
+        turned.rotate_left(before);
+    }
+    Ok(turned)
+}
