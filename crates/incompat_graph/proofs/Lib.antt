@@ -10,3 +10,4 @@ pub mod TakenLaws
 pub mod SettledLaws
 pub mod ClosingLaws
 pub mod EndLaws
+pub mod OddCycles

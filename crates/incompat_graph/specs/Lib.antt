@@ -5,3 +5,4 @@ pub mod Search
 pub mod Holders
 pub mod Closing
 pub mod Reasons
+pub mod Laws

@@ -41,7 +41,7 @@ impl Cycle {
     }
 }
 
-/// An odd cycle among the lines of a closed walk of odd length.
+/// An odd cycle of the matrix, which is looked for along a closed walk of odd length.
 ///
 /// A pair that comes twice cuts a closed walk into two closed walks, and one of the two is odd. So the walk is followed
 /// until a pair comes again: the lines since then are the cycle, if they are odd in number, and are left out if not.

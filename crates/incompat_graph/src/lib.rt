@@ -6,6 +6,7 @@ mod closing;
 mod cycle;
 mod forest;
 mod holders;
+mod laws;
 mod marks;
 mod numbers;
 mod reason;
@@ -13,6 +14,7 @@ mod search;
 mod walk;
 
 pub use cycle::{Cycle, simple_cycle};
+pub use laws::odd_cycle_law;
 pub use reason::joined;
 pub use search::odd_walk;
 pub use std::alloc::AllocError as NoMemory;

@@ -1,0 +1,7 @@
+// What a closed walk of odd length contains.
+ghost use Rattle.incompat_graph.specs.Laws.{OddCycleLaw};
+
+/// A closed walk of odd length contains an odd cycle.
+pub fn odd_cycle_law()
+    ensures { OddCycleLaw }
+{}
