@@ -1,1 +1,4 @@
 pub mod GraphLemmas
+pub mod TableLemmas
+pub mod ItemLemmas
+pub mod FileLemmas

@@ -14,7 +14,7 @@ use Rattle.matrix_read.proofs.WordLemmas.{word_step, no_word}
 use Rattle.matrix_read.proofs.DenseLemmas.{Ascends-low}
 
 -- the columns of a row ascend
-columns_ascend : (c low n : ℕ) (numbers : List ℕ) → low + n ≤ c → Ascends c low (columns_among (low + 1) n numbers)
+pub columns_ascend : (c low n : ℕ) (numbers : List ℕ) → low + n ≤ c → Ascends c low (columns_among (low + 1) n numbers)
 columns_ascend c low zero numbers le = tt
 columns_ascend c low (suc n) numbers le =
     let rest : Ascends c (low + 1) (columns_among (low + 1 + 1) n numbers) = columns_ascend c (low + 1) n numbers (omega arith) in
