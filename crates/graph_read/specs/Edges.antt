@@ -11,6 +11,7 @@ use Rattle.matrix_read.specs.Lines.{NumberedLine}
 use Rattle.matrix_read.specs.Sparse.{columns_among}
 use Rattle.graph_read.specs.Items.{items_behind}
 use Rattle.graph_read.specs.Numbers.{is_zero, is_past, is_within, value_of, two_numbers}
+use Rattle.matrix_read.specs.declared.words.Numeral.{Numeral}
 use Rattle.graph_read.specs.declared.numbers.NumberPair.{NumberPair}
 use Rattle.graph_read.specs.declared.edges.Edge.{Edge}
 use Rattle.graph_read.specs.declared.edges.Shape.{Shape}
@@ -83,3 +84,11 @@ sides_named limit (Some pair) =
     if is_zero pair.first || is_zero pair.second then Err RANGE
     else if is_past limit pair.first || is_past MAX_COLUMNS pair.second then Err LIMIT
     else Ok (Bipartite (value_of pair.first) (value_of pair.second))
+
+-- the vertices that a number gives, or the code of its refusal
+abbrev pub vertices_named : Option Numeral → Result Shape ℕ
+vertices_named None = Err GRAMMAR
+vertices_named (Some n) =
+    if is_zero n then Err RANGE
+    else if is_past MAX_COLUMNS n then Err LIMIT
+    else Ok (Plain (value_of n))

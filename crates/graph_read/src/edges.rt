@@ -1,10 +1,10 @@
 // The edges that lines name, and the sides that they go between.
 ghost use Rattle.std.specs.Prelude.{◌≡◌, ◌≤◌, IfOk};
 ghost use Rattle.matrix_read.specs.Words.{words_of};
-ghost use Rattle.graph_read.specs.Numbers.{two_numbers};
-ghost use Rattle.graph_read.specs.Edges.{left_of, right_of, edge_named, sides_named};
+ghost use Rattle.graph_read.specs.Numbers.{one_number, two_numbers};
+ghost use Rattle.graph_read.specs.Edges.{left_of, right_of, edge_named, sides_named, vertices_named};
 
-use crate::numbers::{is_past, is_within, is_zero, two_numbers, value_of};
+use crate::numbers::{is_past, is_within, is_zero, one_number, two_numbers, value_of};
 use row_model::{MAX_COLUMNS, code};
 
 /// An edge as a line names it.
@@ -95,5 +95,25 @@ pub fn sides_in(limit: u32, line: &[u8]) -> Result<Shape, u8>
     Ok(Shape::Bipartite {
         left: value_of(pair.first) as u32,
         right: value_of(pair.second) as u32,
+    })
+}
+
+/// The vertices that a first line gives, or the code of its refusal.
+pub fn vertices_in(line: &[u8]) -> Result<Shape, u8>
+    ensures vertices { result ≡ vertices_named (one_number (words_of line.now)) }
+    ensures range { IfOk result (λ shape. (1 ≤ left_of shape) × (left_of shape ≤ MAX_COLUMNS)) }
+    ensures square { IfOk result (λ shape. shape ≡ Shape.Plain (left_of shape)) }
+{
+    let Some(number) = one_number(line) else {
+        return Err(code::GRAMMAR);
+    };
+    if is_zero(number) {
+        return Err(code::RANGE);
+    }
+    if is_past(MAX_COLUMNS, number) {
+        return Err(code::LIMIT);
+    }
+    Ok(Shape::Plain {
+        vertices: value_of(number) as u32,
     })
 }

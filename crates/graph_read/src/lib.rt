@@ -17,5 +17,5 @@ mod table;
 pub use bigraph::Bigraph;
 pub use distances::Distances;
 pub use graph::Graph;
-pub use graph_files::read_bigraph;
+pub use graph_files::{read_bigraph, read_graph};
 pub use row_model::NoMemory;

@@ -8,14 +8,14 @@ use Rattle.graph_read.proofs.FileLemmas.{bigraph_long, bigraph_short, bigraph_re
 use Rattle.graph_read.proofs.graph_files.read_bigraph.Goals as goal
 
 pub returns-then-bytes-gt-MAX_FILE_BYTES : goal.returns-then-bytes-gt-MAX_FILE_BYTES
-returns-then-bytes-gt-MAX_FILE_BYTES c = c.refused.ensures ∙ sym (bigraph_long c.args.left_limit c.args.bytes.now c.if-bytes-gt-MAX_FILE_BYTES.true)
+returns-then-bytes-gt-MAX_FILE_BYTES c = ap (λ r. read.Refused r) c.refusal.ensures ∙ sym (bigraph_long c.args.left_limit c.args.bytes.now c.if-bytes-gt-MAX_FILE_BYTES.true)
 
 pub returns-in_default : goal.returns-in_default
 returns-in_default c =
     let limit = c.args.left_limit in
     let whole : bigraph limit c.args.bytes.now ≡ bigraph_lines limit (filled_lines 1 (lines_of c.without_mark-text.result.now)) =
     bigraph_short limit c.args.bytes.now c.if-bytes-gt-MAX_FILE_BYTES.false ∙ ap (λ text. bigraph_lines limit (filled_lines 1 (lines_of text))) (sym c.without_mark-text.ensures.text) in
-    c.refused-in_default.ensures ∙ sym (whole ∙ ap (bigraph_lines limit) c.in_default.ensures.none)
+    ap (λ r. read.Refused r) c.refusal-in_default.ensures ∙ sym (whole ∙ ap (bigraph_lines limit) c.in_default.ensures.none)
 
 pub returns-in-Err : goal.returns-in-Err
 returns-in-Err c =
@@ -24,7 +24,7 @@ returns-in-Err c =
     let rest = filled_lines (first.number + 1) (lines_of (drop first.span.next c.without_mark-text.result.now)) in
     let whole : bigraph limit c.args.bytes.now ≡ bigraph_lines limit (filled_lines 1 (lines_of c.without_mark-text.result.now)) =
     bigraph_short limit c.args.bytes.now c.if-bytes-gt-MAX_FILE_BYTES.false ∙ ap (λ text. bigraph_lines limit (filled_lines 1 (lines_of text))) (sym c.without_mark-text.ensures.text) in
-    c.refused-in-Err.ensures ∙ sym (whole ∙ ap (bigraph_lines limit) c.in-Some.ensures.line ∙ ap (λ sides. bigraph_behind first.number sides rest) (sym c.in-Err.ensures.sides))
+    ap (λ r. read.Refused r) c.refusal-in-Err.ensures ∙ sym (whole ∙ ap (bigraph_lines limit) c.in-Some.ensures.line ∙ ap (λ sides. bigraph_behind first.number sides rest) (sym c.in-Err.ensures.sides))
 
 pub returns-in-Refused : goal.returns-in-Refused
 returns-in-Refused c =
