@@ -1,1 +1,5 @@
 pub mod GraphLemmas
+pub mod TableLemmas
+pub mod ItemLemmas
+pub mod EdgeLemmas
+pub mod FileLemmas

@@ -1,5 +1,5 @@
 // A bipartite graph by the lists of its left side.
-ghost use Rattle.std.specs.Prelude.{◌≡◌, ◌≤◌, ◌-◌, [], Some, replicate, slice_get, IfOk, OnOk, OnErr};
+ghost use Rattle.std.specs.Prelude.{◌≡◌, ◌≤◌, ◌-◌, [], Some, length, replicate, slice_get, IfOk, OnOk, OnErr};
 ghost use Rattle.row_model.specs.Rows.{IsRow};
 ghost use Rattle.graph_read.specs.Graphs.{has_edge, HasOneMore, IsBigraph};
 
@@ -40,6 +40,14 @@ impl Bigraph {
     {
         let lists = empty_lists(alloc, left, right)?;
         Ok(Bigraph { alloc, lists })
+    }
+
+    // The graph with these lists.
+    pub(crate) fn of_lists(alloc: Global, lists: Matrix) -> Self
+        requires { IsBigraph (record { left = length lists.rows; right = lists.columns; neighbours = lists.rows }) }
+        ensures { result ≡ record { left = length lists.rows; right = lists.columns; neighbours = lists.rows } }
+    {
+        Bigraph { alloc, lists }
     }
 
     /// Adds the edge from `x` to `y`; one that is there stays. On an error the graph is as before.

@@ -40,6 +40,14 @@ impl Graph {
         Ok(Graph { alloc, lists })
     }
 
+    // The graph with these lists.
+    pub(crate) fn of_lists(alloc: Global, lists: Matrix) -> Self
+        requires { IsGraph (record { vertices = lists.columns; neighbours = lists.rows }) }
+        ensures { result ≡ record { vertices = lists.columns; neighbours = lists.rows } }
+    {
+        Graph { alloc, lists }
+    }
+
     /// Adds an edge between two vertices; one that is there stays. On an error the graph is as before.
     ///
     /// A new edge takes time in proportion to the size of the graph. [`read_graph`](crate::read_graph) makes a graph with

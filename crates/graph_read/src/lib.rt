@@ -6,10 +6,16 @@
 
 mod bigraph;
 mod distances;
+mod edges;
 mod graph;
+mod graph_files;
 mod lists;
+mod numbers;
+mod read_lists;
+mod table;
 
 pub use bigraph::Bigraph;
 pub use distances::Distances;
 pub use graph::Graph;
+pub use graph_files::{read_bigraph, read_graph};
 pub use row_model::NoMemory;

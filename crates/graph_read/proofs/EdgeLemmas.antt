@@ -1,0 +1,189 @@
+-- The lists of edges both ways are those of a graph.
+use Rattle.std.proofs.Common.{◌≡◌, ◌≢◌, ◌⊎◌, ◌∙◌, ℕ, zero, suc, ◌+◌, ◌-◌, ◌<◌, ◌≤◌, Bool, true, false, if◌then◌else◌, ◌||◌, ◌&&◌, eqb, List, [], ◌∷◌, ◌++◌, length, get_or, refl, sym, ap, inl, inr, arith, eq-eqb, subst, Option, Some, None, Result, Ok, Err}
+use Rattle.std.proofs.lemmas.Bool.{cases_eq, cases_lt, ne_eqb}
+use Rattle.std.proofs.lemmas.List.{get_or_past}
+use Rattle.std.specs.List.{AllByRecursion}
+use Rattle.column_order.specs.Orders.{has}
+use Rattle.row_model.specs.Rows.{IsRow}
+use Rattle.row_model.specs.declared.code.TheConstants.{SYMMETRY, RANGE}
+use Rattle.row_model.proofs.Ascending.{row_within}
+use Rattle.matrix_read.specs.Lines.{NumberedLine}
+use Rattle.matrix_read.specs.Sparse.{columns_among}
+use Rattle.matrix_read.specs.Words.{words_of}
+use Rattle.matrix_read.proofs.SparseLemmas.{columns_ascend}
+use Rattle.graph_read.specs.declared.edges.Edge.{Edge}
+use Rattle.graph_read.specs.declared.edges.Shape.TheVariants.{Plain}
+use Rattle.graph_read.specs.declared.numbers.NumberPair.{NumberPair}
+use Rattle.graph_read.specs.Graphs.{has_edge}
+use Rattle.graph_read.specs.Items.{items_behind, with_item}
+use Rattle.graph_read.specs.Numbers.{is_within, value_of, two_numbers}
+use Rattle.graph_read.specs.Edges.{both_ways, ends_from, lists_from, edge_named, edge_of, edges_of, unless_loop}
+
+-- the numbers of a range that are among others
+among_below : (a start n : ℕ) (numbers : List ℕ) → a < start → has (columns_among start n numbers) a ≡ false
+among_below a start zero numbers lt = refl
+among_below a start (suc n) numbers lt =
+    let rest = among_below a (start + 1) n numbers (omega arith) in
+    elim (has numbers start) as (λ v. has (if v then start ∷ columns_among (start + 1) n numbers else columns_among (start + 1) n numbers) a ≡ false) [
+      | true ↦ rw (ne_eqb start a (λ e. absurd (omega arith)), rest) refl
+      | false ↦ rest
+    ]
+
+among_inside : (a start n : ℕ) (numbers : List ℕ) → start ≤ a → a < start + n → has (columns_among start n numbers) a ≡ has numbers a
+among_inside a start zero numbers le lt = absurd (omega arith)
+among_inside a start (suc n) numbers le lt =
+    elim (cases_eq start a) [
+      | inl same ↦
+          (elim (has numbers start) as (λ v. has numbers start ≡ v → has (if v then start ∷ columns_among (start + 1) n numbers else columns_among (start + 1) n numbers) a ≡ has numbers a) [
+            | true ↦ λ e. rw (eq-eqb start a same) (sym e ∙ ap (has numbers) same)
+            | false ↦ λ e. among_below a (start + 1) n numbers (omega arith) ∙ sym e ∙ ap (has numbers) same
+          ]) refl
+      | inr other ↦
+          let rest : has (columns_among (start + 1) n numbers) a ≡ has numbers a = among_inside a (start + 1) n numbers (omega arith) (omega arith) in
+          elim (has numbers start) as (λ v. has (if v then start ∷ columns_among (start + 1) n numbers else columns_among (start + 1) n numbers) a ≡ has numbers a) [
+            | true ↦ rw (ne_eqb start a other) rest
+            | false ↦ rest
+          ]
+    ]
+
+-- the list of a vertex
+list_at : (x n c i : ℕ) (edges : List Edge) → i < n → get_or (lists_from x n c edges) i [] ≡ columns_among 1 c (ends_from (x + i) edges)
+list_at x zero c i edges lt = absurd (omega arith)
+list_at x (suc n) c zero edges lt = ap (λ a. columns_among 1 c (ends_from a edges)) (omega arith)
+list_at x (suc n) c (suc i) edges lt = list_at (x + 1) n c i edges (omega arith) ∙ ap (λ a. columns_among 1 c (ends_from a edges)) (omega arith)
+
+list_of : (n c u : ℕ) (edges : List Edge) → 1 ≤ u → u ≤ n → get_or (lists_from 1 n c edges) (u - 1) [] ≡ columns_among 1 c (ends_from u edges)
+list_of n c u edges some le =
+    let at : 1 + (u - 1) ≡ u = omega arith in
+    list_at 1 n c (u - 1) edges (omega arith) ∙ ap (λ a. columns_among 1 c (ends_from a edges)) at
+
+length-lists : (x n c : ℕ) (edges : List Edge) → length (lists_from x n c edges) ≡ n
+length-lists x zero c edges = refl
+length-lists x (suc n) c edges = ap suc (length-lists (x + 1) n c edges)
+
+edge_inside : (n u v : ℕ) (edges : List Edge) → 1 ≤ u → u ≤ n → 1 ≤ v → v ≤ n → has_edge (lists_from 1 n n edges) u v ≡ has (ends_from u edges) v
+edge_inside n u v edges pu lu pv lv = ap (λ list. has list v) (list_of n n u edges pu lu) ∙ among_inside v 1 n (ends_from u edges) pv (omega arith)
+
+lacks : (b : Bool) → (b ≡ true → ⊥) → b ≡ false
+lacks true h = absurd (h refl)
+lacks false h = refl
+
+list_past : (n u v : ℕ) (edges : List Edge) → 1 ≤ u → n < u → has_edge (lists_from 1 n n edges) u v ≡ false
+list_past n u v edges pu far = ap (λ list. has list v) (get_or_past (lists_from 1 n n edges) (u - 1) [] (omega (arith, length-lists 1 n n edges)))
+
+edge_outside : (n u v : ℕ) (edges : List Edge) → 1 ≤ u → (n < u) ⊎ (n < v) → has_edge (lists_from 1 n n edges) u v ≡ false
+edge_outside n u v edges pu (inl far) = list_past n u v edges pu far
+edge_outside n u v edges pu (inr far) =
+    elim (cases_lt n u) [
+      | inl out ↦ list_past n u v edges pu out
+      | inr le ↦
+          let row : IsRow n (columns_among 1 n (ends_from u edges)) = columns_ascend n 0 n (ends_from u edges) (omega arith) in
+          ap (λ list. has list v) (list_of n n u edges pu le) ∙ lacks (has (columns_among 1 n (ends_from u edges)) v) (λ e. absurd (omega (arith, (row_within n (columns_among 1 n (ends_from u edges)) row v e).1)))
+    ]
+
+-- edges both ways
+ends_step : (u v : ℕ) (edge : Edge) (edges : List Edge) → has (ends_from u (edge ∷ edges)) v ≡ ((eqb edge.from u && eqb edge.to v) || has (ends_from u edges) v)
+ends_step u v edge edges = elim (eqb edge.from u) as (λ p. has (if p then edge.to ∷ ends_from u edges else ends_from u edges) v ≡ ((p && eqb edge.to v) || has (ends_from u edges) v)) [ true ↦ refl | false ↦ refl ]
+
+turn : (p q r s h : Bool) → ((p && q) || ((r && s) || h)) ≡ ((s && r) || ((q && p) || h))
+turn true true true true h = refl
+turn true true true false h = refl
+turn true true false true h = refl
+turn true true false false h = refl
+turn true false true true h = refl
+turn true false true false h = refl
+turn true false false true h = refl
+turn true false false false h = refl
+turn false true true true h = refl
+turn false true true false h = refl
+turn false true false true h = refl
+turn false true false false h = refl
+turn false false true true h = refl
+turn false false true false h = refl
+turn false false false true h = refl
+turn false false false false h = refl
+
+ends_turned : (u v : ℕ) (edges : List Edge) → has (ends_from u (both_ways edges)) v ≡ has (ends_from v (both_ways edges)) u
+ends_turned u v [] = refl
+ends_turned u v (e ∷ edges) =
+    let back : Edge = record { from = e.to; to = e.from } in
+    let rest = both_ways edges in
+    ends_step u v e (back ∷ rest)
+    ∙ ap (λ h. (eqb e.from u && eqb e.to v) || h) (ends_step u v back rest)
+    ∙ ap (λ h. (eqb e.from u && eqb e.to v) || ((eqb e.to u && eqb e.from v) || h)) (ends_turned u v edges)
+    ∙ turn (eqb e.from u) (eqb e.to v) (eqb e.to u) (eqb e.from v) (has (ends_from v rest) u)
+    ∙ sym (ends_step v u e (back ∷ rest) ∙ ap (λ h. (eqb e.from v && eqb e.to u) || h) (ends_step v u back rest))
+
+abbrev pub NoLoop : Edge → Type 0
+NoLoop e = e.from ≢ e.to
+
+no_loop_at : (a b v : ℕ) → a ≢ b → (eqb a v && eqb b v) ≡ false
+no_loop_at a b v apart =
+    elim (cases_eq a v) [
+      | inl e ↦ rw (eq-eqb a v e, ne_eqb b v (λ s. apart (e ∙ sym s))) refl
+      | inr n ↦ rw (ne_eqb a v n) refl
+    ]
+
+ends_loopless : (v : ℕ) (edges : List Edge) → AllByRecursion NoLoop edges → has (ends_from v (both_ways edges)) v ≡ false
+ends_loopless v [] h = refl
+ends_loopless v (e ∷ edges) h =
+    let back : Edge = record { from = e.to; to = e.from } in
+    ends_step v v e (back ∷ both_ways edges)
+    ∙ ap (λ t. (eqb e.from v && eqb e.to v) || t) (ends_step v v back (both_ways edges))
+    ∙ rw (no_loop_at e.from e.to v h.0, no_loop_at e.to e.from v (λ s. h.0 (sym s)), ends_loopless v edges h.1) refl
+
+-- edges that lines name are no loops
+named_no_loop : (n : ℕ) (edge : Edge) (found : Edge) → unless_loop (Plain n) edge ≡ Ok found → NoLoop found
+named_no_loop n edge found h same =
+    (elim (eqb edge.from edge.to) as (λ v. eqb edge.from edge.to ≡ v → (if v then Err SYMMETRY else Ok edge) ≡ Ok found → ⊥) [
+      | true ↦ λ e k. absurd (cc)
+      | false ↦ λ e k.
+          let is : edge ≡ found = cc in
+          let equal : edge.from ≡ edge.to = ap (λ (x : Edge). x.from) is ∙ same ∙ sym (ap (λ (x : Edge). x.to) is) in
+          absurd (cc (eq-eqb edge.from edge.to equal))
+    ]) refl h
+
+in_range_no_loop : (n : ℕ) (inside : Bool) (edge found : Edge) → (if inside then unless_loop (Plain n) edge else Err RANGE) ≡ Ok found → NoLoop found
+in_range_no_loop n true edge found h = named_no_loop n edge found h
+in_range_no_loop n false edge found h = absurd (cc)
+
+pair_no_loop : (n : ℕ) (pair : Option NumberPair) (found : Edge) → edge_named (Plain n) pair ≡ Ok found → NoLoop found
+pair_no_loop n None found h = absurd (cc)
+pair_no_loop n (Some pair) found h =
+    in_range_no_loop n (is_within n pair.first && is_within n pair.second) (record { from = value_of pair.first; to = value_of pair.second }) found h
+
+no_loop_push : (xs : List Edge) (x : Edge) → AllByRecursion NoLoop xs → NoLoop x → AllByRecursion NoLoop (xs ++ x ∷ [])
+no_loop_push [] x h p = (p, tt)
+no_loop_push (y ∷ xs) x h p = (h.0, no_loop_push xs x h.1 p)
+
+items_no_loop : (n : ℕ) (before : List Edge) (lines : List NumberedLine) (edges : List Edge) → AllByRecursion NoLoop before → items_behind (edge_of (Plain n)) before lines ≡ Ok edges → AllByRecursion NoLoop edges
+unfolding items_behind
+items_no_loop n before [] edges all h = let is : before ≡ edges = cc in subst (AllByRecursion NoLoop) is all
+items_no_loop n before (line ∷ lines) edges all h =
+    step (edge_named (Plain n) (two_numbers (words_of line.text))) refl h (λ e fine k. items_no_loop n (before ++ e ∷ []) lines edges (no_loop_push before e all fine) k)
+  where
+    step : (item : Result Edge ℕ) → edge_named (Plain n) (two_numbers (words_of line.text)) ≡ item → with_item item line.number (λ e. items_behind (edge_of (Plain n)) (before ++ e ∷ []) lines) ≡ Ok edges
+        → ((e : Edge) → NoLoop e → items_behind (edge_of (Plain n)) (before ++ e ∷ []) lines ≡ Ok edges → AllByRecursion NoLoop edges) → AllByRecursion NoLoop edges
+    step (Err code) e k later = absurd (cc)
+    step (Ok edge) e k later = later edge (pair_no_loop n (two_numbers (words_of line.text)) edge e) k
+
+module _ (n : ℕ) (edges : List Edge) where
+  pub graph_symmetric : (u v : ℕ) → 1 ≤ u → 1 ≤ v → has_edge (lists_from 1 n n (both_ways edges)) u v ≡ has_edge (lists_from 1 n n (both_ways edges)) v u
+  graph_symmetric u v pu pv =
+      elim (cases_lt n u) [
+        | inl out ↦ edge_outside n u v (both_ways edges) pu (inl out) ∙ sym (edge_outside n v u (both_ways edges) pv (inr out))
+        | inr lu ↦ elim (cases_lt n v) [
+          | inl out ↦ edge_outside n u v (both_ways edges) pu (inr out) ∙ sym (edge_outside n v u (both_ways edges) pv (inl out))
+          | inr lv ↦ edge_inside n u v (both_ways edges) pu lu pv lv ∙ ends_turned u v edges ∙ sym (edge_inside n v u (both_ways edges) pv lv pu lu)
+        ]
+      ]
+
+  pub graph_loopless : AllByRecursion NoLoop edges → (v : ℕ) → 1 ≤ v → has_edge (lists_from 1 n n (both_ways edges)) v v ≡ false
+  graph_loopless all v pv =
+      elim (cases_lt n v) [
+        | inl out ↦ edge_outside n v v (both_ways edges) pv (inl out)
+        | inr lv ↦ edge_inside n v v (both_ways edges) pv lv pv lv ∙ ends_loopless v edges all
+      ]
+
+pub edges_no_loop : (n : ℕ) (lines : List NumberedLine) (edges : List Edge) → edges_of (Plain n) lines ≡ Ok edges → AllByRecursion NoLoop edges
+edges_no_loop n lines edges h = items_no_loop n [] lines edges tt h

@@ -1,0 +1,94 @@
+-- The edges that lines name.
+use Rattle.std.specs.Prelude.{ℕ, zero, suc, ◌+◌, ◌==◌, ◌&&◌, ◌||◌, List, [], ◌∷◌, if◌then◌else◌, Option, Some, None, Result, Ok, Err}
+use Rattle.row_model.specs.Rows.{RowList}
+use Rattle.row_model.specs.declared.refusal.Refusal.{Refusal}
+use Rattle.row_model.specs.declared.refusal.Read.{Read}
+use Rattle.row_model.specs.declared.refusal.Read.TheVariants as read
+use Rattle.row_model.specs.declared.TheConstants.{MAX_COLUMNS}
+use Rattle.row_model.specs.declared.code.TheConstants.{GRAMMAR, RANGE, SYMMETRY, LIMIT}
+use Rattle.matrix_read.specs.Words.{words_of}
+use Rattle.matrix_read.specs.Lines.{NumberedLine}
+use Rattle.matrix_read.specs.Sparse.{columns_among}
+use Rattle.graph_read.specs.Items.{items_behind}
+use Rattle.graph_read.specs.Numbers.{is_zero, is_past, is_within, value_of, two_numbers}
+use Rattle.matrix_read.specs.declared.words.Numeral.{Numeral}
+use Rattle.graph_read.specs.declared.numbers.NumberPair.{NumberPair}
+use Rattle.graph_read.specs.declared.edges.Edge.{Edge}
+use Rattle.graph_read.specs.declared.edges.Shape.{Shape}
+use Rattle.graph_read.specs.declared.edges.Shape.TheVariants.{Bipartite, Plain}
+
+-- from how many vertices edges come
+abbrev pub left_of : Shape → ℕ
+left_of (Bipartite left right) = left
+left_of (Plain vertices) = vertices
+
+-- to how many vertices edges go
+abbrev pub right_of : Shape → ℕ
+right_of (Bipartite left right) = right
+right_of (Plain vertices) = vertices
+
+-- an edge, or the code of its refusal as a loop
+abbrev pub unless_loop : Shape → Edge → Result Edge ℕ
+unless_loop (Bipartite left right) edge = Ok edge
+unless_loop (Plain vertices) edge = if edge.from == edge.to then Err SYMMETRY else Ok edge
+
+-- the edge that two numbers name, or the code of their refusal
+abbrev pub edge_named : Shape → Option NumberPair → Result Edge ℕ
+edge_named shape None = Err GRAMMAR
+edge_named shape (Some pair) =
+    if is_within (left_of shape) pair.first && is_within (right_of shape) pair.second
+    then unless_loop shape (record { from = value_of pair.first; to = value_of pair.second })
+    else Err RANGE
+
+-- the edge of a line, whatever the edges before it
+abbrev pub edge_of : Shape → List Edge → List ℕ → Result Edge ℕ
+edge_of shape before line = edge_named shape (two_numbers (words_of line))
+
+-- edges both ways
+abbrev pub both_ways : List Edge → List Edge
+both_ways [] = []
+both_ways (edge ∷ edges) = edge ∷ record { from = edge.to; to = edge.from } ∷ both_ways edges
+
+-- the edges as each vertex of the left side sees them: those of a graph go both ways
+abbrev pub ways : Shape → List Edge → List Edge
+ways (Bipartite left right) edges = edges
+ways (Plain vertices) edges = both_ways edges
+
+-- the vertices that edges from x go to
+abbrev pub ends_from : ℕ → List Edge → List ℕ
+ends_from x [] = []
+ends_from x (edge ∷ edges) = if edge.from == x then edge.to ∷ ends_from x edges else ends_from x edges
+
+-- the lists of so many vertices from x on: of the vertices 1 to c those that the edges from it go to, ascending
+abbrev pub lists_from : ℕ → ℕ → ℕ → List Edge → List (List ℕ)
+lists_from x zero c edges = []
+lists_from x (suc n) c edges = columns_among 1 c (ends_from x edges) ∷ lists_from (x + 1) n c edges
+
+-- the list of each vertex
+abbrev pub lists_of : Shape → List Edge → List (List ℕ)
+lists_of shape edges = lists_from 1 (left_of shape) (right_of shape) (ways shape edges)
+
+-- the edges of lines, or their first refusal
+abbrev pub edges_of : Shape → List NumberedLine → Result (List Edge) Refusal
+edges_of shape lines = items_behind (edge_of shape) [] lines
+
+-- the lists of edges, or the refusal
+abbrev pub lists_with : Shape → Result (List Edge) Refusal → Read RowList
+lists_with shape (Ok edges) = read.Ok (record { columns = right_of shape; rows = lists_of shape edges })
+lists_with shape (Err refusal) = read.Refused refusal
+
+-- the sides that two numbers name, or the code of their refusal; the left side has at most so many vertices
+abbrev pub sides_named : ℕ → Option NumberPair → Result Shape ℕ
+sides_named limit None = Err GRAMMAR
+sides_named limit (Some pair) =
+    if is_zero pair.first || is_zero pair.second then Err RANGE
+    else if is_past limit pair.first || is_past MAX_COLUMNS pair.second then Err LIMIT
+    else Ok (Bipartite (value_of pair.first) (value_of pair.second))
+
+-- the vertices that a number gives, or the code of its refusal
+abbrev pub vertices_named : Option Numeral → Result Shape ℕ
+vertices_named None = Err GRAMMAR
+vertices_named (Some n) =
+    if is_zero n then Err RANGE
+    else if is_past MAX_COLUMNS n then Err LIMIT
+    else Ok (Plain (value_of n))

@@ -1,0 +1,52 @@
+-- The two numbers of a line.
+use Rattle.std.specs.Prelude.{ℕ, ◌==◌, ◌&&◌, not, nat_lt, Bool, true, false, List, [], ◌∷◌, if◌then◌else◌, Option, Some, None}
+use Rattle.matrix_read.specs.Words.{numeral_of}
+use Rattle.matrix_read.specs.declared.words.Numeral.{Numeral}
+use Rattle.matrix_read.specs.declared.words.Numeral.TheVariants.{Value, TooLarge, NotDigits}
+use Rattle.graph_read.specs.declared.numbers.NumberPair.{NumberPair}
+
+-- whether a word is digits
+abbrev pub is_number : Numeral → Bool
+is_number (Value n) = true
+is_number TooLarge = true
+is_number NotDigits = false
+
+-- whether a number is 0
+abbrev pub is_zero : Numeral → Bool
+is_zero (Value n) = n == 0
+is_zero TooLarge = false
+is_zero NotDigits = false
+
+-- whether a number is past a limit
+abbrev pub is_past : ℕ → Numeral → Bool
+is_past limit (Value n) = nat_lt limit n
+is_past limit TooLarge = true
+is_past limit NotDigits = false
+
+-- whether a number is one of 1 to n
+abbrev pub is_within : ℕ → Numeral → Bool
+is_within n a = not (is_zero a) && not (is_past n a)
+
+-- a number of 64 bits
+abbrev pub value_of : Numeral → ℕ
+value_of (Value n) = n
+value_of TooLarge = 0
+value_of NotDigits = 0
+
+-- two words as numbers, if both are digits
+abbrev pub both_numbers : Numeral → Numeral → Option NumberPair
+both_numbers a b = if is_number a && is_number b then Some (record { first = a; second = b }) else None
+
+-- the two numbers of a line that is exactly two words of digits
+abbrev pub two_numbers : List (List ℕ) → Option NumberPair
+two_numbers (a ∷ b ∷ []) = both_numbers (numeral_of a) (numeral_of b)
+two_numbers words = None
+
+-- a word as a number, if it is digits
+abbrev pub if_number : Numeral → Option Numeral
+if_number a = if is_number a then Some a else None
+
+-- the number of a line that is exactly one word of digits
+abbrev pub one_number : List (List ℕ) → Option Numeral
+one_number (a ∷ []) = if_number (numeral_of a)
+one_number words = None

@@ -1,0 +1,79 @@
+// Readers of graphs and bipartite graphs.
+ghost use Rattle.std.specs.Prelude.{◌≡◌, ◌≤◌, IfOk};
+ghost use Rattle.graph_read.specs.GraphFiles.{bigraph, graph};
+
+use crate::bigraph::Bigraph;
+use crate::edges::{sides_in, vertices_in};
+use crate::graph::Graph;
+use crate::read_lists::read_lists;
+use matrix_read::{next_filled_line, without_mark};
+use row_model::{MAX_FILE_BYTES, Read, Refusal, code};
+use std::alloc::{AllocError, Global};
+
+/// Reads a bipartite graph from the bytes of a file: a line with the sizes of the two sides, and a line for each edge.
+///
+/// Blank lines are passed over, and they count for line numbers. The first line has two numbers: the size of the left
+/// side, from 1 to `left_limit`, and that of the right side, from 1 to [`MAX_COLUMNS`](row_model::MAX_COLUMNS). Each later
+/// line has two numbers, an x and a y of these sides: an edge. An edge that is repeated counts once. A byte order mark at
+/// the start is passed over.
+///
+/// A file that breaks a rule gives its first refusal. The length of the file comes first, then a file without a line, and
+/// then line for line from the first on. A line is judged by its words, then by their range, and the first line last by
+/// the limits. The error is want of memory.
+pub fn read_bigraph(
+    alloc: Global,
+    bytes: &[u8],
+    left_limit: u32,
+) -> Result<Read<Bigraph>, AllocError>
+    requires { left_limit ≤ 65536 }
+    ensures { IfOk result (λ read. read ≡ bigraph left_limit bytes.now) }
+{
+    if bytes.len() as u64 > MAX_FILE_BYTES {
+        return Ok(Read::Refused(refusal(code::LIMIT, 0)));
+    }
+    let text = without_mark(bytes);
+    let Some(first) = next_filled_line(text, 0, 0) else {
+        return Ok(Read::Refused(refusal(code::EMPTY, 0)));
+    };
+    match sides_in(left_limit, &text[first.span.start..first.span.end]) {
+        Err(code) => Ok(Read::Refused(refusal(code, first.number))),
+        Ok(shape) => match read_lists(alloc, shape, text, first.span.next, first.number)? {
+            Read::Refused(refusal) => Ok(Read::Refused(refusal)),
+            Read::Ok(lists) => Ok(Read::Ok(Bigraph::of_lists(alloc, lists))),
+        },
+    }
+}
+
+/// Reads a graph from the bytes of a file: a line with the number of vertices, and a line for each edge.
+///
+/// Blank lines are passed over, and they count for line numbers. The first line has one number, from 1 to
+/// [`MAX_COLUMNS`](row_model::MAX_COLUMNS). Each later line has the numbers of two different vertices: an edge. An edge
+/// that is repeated, either way round, counts once. A byte order mark at the start is passed over.
+///
+/// A file that breaks a rule gives its first refusal. The length of the file comes first, then a file without a line, and
+/// then line for line from the first on. A line is judged by its words, then by their range; the first line last by the
+/// limit, and a later one last as a loop. The error is want of memory.
+pub fn read_graph(alloc: Global, bytes: &[u8]) -> Result<Read<Graph>, AllocError>
+    ensures { IfOk result (λ read. read ≡ graph bytes.now) }
+{
+    if bytes.len() as u64 > MAX_FILE_BYTES {
+        return Ok(Read::Refused(refusal(code::LIMIT, 0)));
+    }
+    let text = without_mark(bytes);
+    let Some(first) = next_filled_line(text, 0, 0) else {
+        return Ok(Read::Refused(refusal(code::EMPTY, 0)));
+    };
+    match vertices_in(&text[first.span.start..first.span.end]) {
+        Err(code) => Ok(Read::Refused(refusal(code, first.number))),
+        Ok(shape) => match read_lists(alloc, shape, text, first.span.next, first.number)? {
+            Read::Refused(refusal) => Ok(Read::Refused(refusal)),
+            Read::Ok(lists) => Ok(Read::Ok(Graph::of_lists(alloc, lists))),
+        },
+    }
+}
+
+fn refusal(code: u8, line: u32) -> Refusal
+    ensures { result ≡ record { code = code; line = line } }
+{
+    Refusal { code, line }
+}

@@ -1,0 +1,109 @@
+// The two numbers of a line.
+ghost use Rattle.std.specs.Prelude.{◌≡◌, length};
+ghost use Rattle.matrix_read.specs.Words.{words_of};
+ghost use Rattle.graph_read.specs.Numbers.{is_number, is_zero, is_past, is_within, value_of, both_numbers, two_numbers, if_number, one_number};
+
+use matrix_read::{Numeral, next_word, number};
+
+/// Two numbers that stand in a line, each of digits.
+#[derive(Clone, Copy)]
+pub struct NumberPair {
+    /// The first number.
+    pub first: Numeral,
+    /// The second number.
+    pub second: Numeral,
+}
+
+/// The two numbers of a line that is exactly two words of digits.
+pub fn two_numbers(line: &[u8]) -> Option<NumberPair>
+    ensures { result ≡ two_numbers (words_of line.now) }
+{
+    let end = line.len();
+    let Some(a) = next_word(line, 0, end) else {
+        return None;
+    };
+    let Some(b) = next_word(line, a.end, end) else {
+        return None;
+    };
+    match next_word(line, b.end, end) {
+        Some(_) => None,
+        None => both_numbers(number(&line[a.start..a.end]), number(&line[b.start..b.end])),
+    }
+}
+
+// Two words as numbers, if both are digits.
+fn both_numbers(first: Numeral, second: Numeral) -> Option<NumberPair>
+    ensures { result ≡ both_numbers first second }
+{
+    if is_number(first) && is_number(second) {
+        Some(NumberPair { first, second })
+    } else {
+        None
+    }
+}
+
+/// The number of a line that is exactly one word of digits.
+pub fn one_number(line: &[u8]) -> Option<Numeral>
+    ensures { result ≡ one_number (words_of line.now) }
+{
+    let end = line.len();
+    let Some(a) = next_word(line, 0, end) else {
+        return None;
+    };
+    match next_word(line, a.end, end) {
+        Some(_) => None,
+        None => if_number(number(&line[a.start..a.end])),
+    }
+}
+
+// A word as a number, if it is digits.
+fn if_number(numeral: Numeral) -> Option<Numeral>
+    ensures { result ≡ if_number numeral }
+{
+    if is_number(numeral) {
+        Some(numeral)
+    } else {
+        None
+    }
+}
+
+fn is_number(numeral: Numeral) -> bool
+    ensures { result ≡ is_number numeral }
+{
+    !matches!(numeral, Numeral::NotDigits)
+}
+
+/// Whether a number is 0.
+pub fn is_zero(numeral: Numeral) -> bool
+    ensures { result ≡ is_zero numeral }
+{
+    matches!(numeral, Numeral::Value(0))
+}
+
+/// Whether a number is past a limit.
+pub fn is_past(limit: u32, numeral: Numeral) -> bool
+    ensures { result ≡ is_past limit numeral }
+{
+    match numeral {
+        Numeral::Value(n) => n > u64::from(limit),
+        Numeral::TooLarge => true,
+        Numeral::NotDigits => false,
+    }
+}
+
+/// Whether a number is one of 1 to `n`.
+pub fn is_within(n: u32, numeral: Numeral) -> bool
+    ensures { result ≡ is_within n numeral }
+{
+    !is_zero(numeral) && !is_past(n, numeral)
+}
+
+/// A number of 64 bits.
+pub fn value_of(numeral: Numeral) -> u64
+    ensures { result ≡ value_of numeral }
+{
+    match numeral {
+        Numeral::Value(n) => n,
+        _ => 0,
+    }
+}
