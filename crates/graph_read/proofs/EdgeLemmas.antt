@@ -10,7 +10,7 @@ use Rattle.row_model.proofs.Ascending.{row_within}
 use Rattle.matrix_read.specs.Lines.{NumberedLine}
 use Rattle.matrix_read.specs.Sparse.{columns_among}
 use Rattle.matrix_read.specs.Words.{words_of}
-use Rattle.matrix_read.proofs.SparseLemmas.{columns_ascend}
+use Rattle.matrix_read.proofs.RowLemmas.{columns_ascend}
 use Rattle.graph_read.specs.declared.edges.Edge.{Edge}
 use Rattle.graph_read.specs.declared.edges.Shape.TheVariants.{Plain}
 use Rattle.graph_read.specs.declared.numbers.NumberPair.{NumberPair}

@@ -14,18 +14,6 @@ use Rattle.matrix_read.proofs.WordLemmas.{word_step, no_word}
 use Rattle.matrix_read.proofs.RowLemmas.{too_long, short_enough, columns_ascend}
 
 -- the columns of a row ascend
-<<<<<<< HEAD
-=======
-pub columns_ascend : (c low n : ℕ) (numbers : List ℕ) → low + n ≤ c → Ascends c low (columns_among (low + 1) n numbers)
-columns_ascend c low zero numbers le = tt
-columns_ascend c low (suc n) numbers le =
-    let rest : Ascends c (low + 1) (columns_among (low + 1 + 1) n numbers) = columns_ascend c (low + 1) n numbers (omega arith) in
-    elim (has numbers (low + 1)) as (λ v. Ascends c low (if v then (low + 1) ∷ columns_among (low + 1 + 1) n numbers else columns_among (low + 1 + 1) n numbers)) [
-      | true ↦ (omega arith, omega arith, rest)
-      | false ↦ Ascends-low c (low + 1) low (columns_among (low + 1 + 1) n numbers) (omega arith) rest
-    ]
-
->>>>>>> aae3dc86c8e55fe4c9f2d76727d0c94d1a96b256
 pub row_ascends : (c : ℕ) (line : List ℕ) → IsRow c (row_named c line)
 row_ascends c line = columns_ascend c 0 c (numbers_of (words_of line)) (omega arith)
 
