@@ -12,11 +12,12 @@ use Rattle.row_model.specs.declared.TheConstants.{MAX_COLUMNS, MAX_ROWS, MAX_FIL
 use Rattle.row_model.specs.declared.code.TheConstants.{GRAMMAR, COUNT, LIMIT}
 use Rattle.row_model.specs.Rows.{RowList}
 use Rattle.matrix_read.specs.Lines.{NumberedLine, is_blank, lines_of, filled_lines, without_mark}
-use Rattle.matrix_read.specs.Dense.{dense, read_lines, rows_of, row_of, row_code, refusal_or, refused_or, first_refusal, width_of, is_foreign}
+use Rattle.matrix_read.specs.Rows.{refusal_or, refused_or, first_refusal}
+use Rattle.matrix_read.specs.Dense.{dense, read_lines, rows_of, row_of, row_code, width_of, is_foreign}
 use Rattle.matrix_read.proofs.DenseLemmas.{dense_long, dense_short, filled_first, some_digit}
-use Rattle.verdict_check.specs.Instance.{InstanceValue, plain, IsTestedKind}
+use Rattle.verdict_check.specs.Instance.{InstanceValue, plain, IsInstance}
 use Rattle.pq_cli.specs.Words.{IsTaken}
-use Rattle.pq_cli.specs.Instances.{instance_of, map_read, IsJudged}
+use Rattle.pq_cli.specs.Instances.{instance_of, map_read}
 
 -- bytes past the limit are refused, whatever the kind
 pub instance_long : (kind : Kind) (bytes : List ℕ) → IsTaken kind → 16777216 < length bytes → instance_of kind bytes ≡ read.Refused (record { code = 7; line = 0 })
@@ -50,13 +51,13 @@ none_first : (code : Option ℕ) (number : ℕ) (rest : Option Refusal) → refu
 none_first (Some code) number rest h = absurd (cc)
 none_first None number rest h = (refl, h)
 
-unrefused : (width before : ℕ) (line : NumberedLine) (lines : List NumberedLine) → first_refusal width before (line ∷ lines) ≡ None
-    → (row_code width before line.text ≡ None) × (first_refusal width (before + 1) lines ≡ None)
+unrefused : (width before : ℕ) (line : NumberedLine) (lines : List NumberedLine) → first_refusal (row_code width) before (line ∷ lines) ≡ None
+    → (row_code width before line.text ≡ None) × (first_refusal (row_code width) (before + 1) lines ≡ None)
 unfolding first_refusal
-unrefused width before line lines h = none_first (row_code width before line.text) line.number (first_refusal width (before + 1) lines) h
+unrefused width before line lines h = none_first (row_code width before line.text) line.number (first_refusal (row_code width) (before + 1) lines) h
 
 -- lines of which none is refused are no more than there may be
-few_lines : (width before : ℕ) (lines : List NumberedLine) → first_refusal width before lines ≡ None → before ≤ MAX_ROWS → before + length lines ≤ MAX_ROWS
+few_lines : (width before : ℕ) (lines : List NumberedLine) → first_refusal (row_code width) before lines ≡ None → before ≤ MAX_ROWS → before + length lines ≤ MAX_ROWS
 few_lines width before [] h le = omega arith
 few_lines width before (line ∷ lines) h le =
     let both = unrefused width before line lines h in
@@ -79,7 +80,7 @@ lines_within : (lines : List NumberedLine) (m : RowList) → ((first : NumberedL
 lines_within [] m filled e = absurd (cc)
 lines_within (first ∷ rest) m filled e =
     let width = width_of first.text in
-    ok_within (first_refusal width 0 (first ∷ rest)) (record { columns = width; rows = rows_of (first ∷ rest) }) m e (λ none.
+    ok_within (first_refusal (row_code width) 0 (first ∷ rest)) (record { columns = width; rows = rows_of (first ∷ rest) }) m e (λ none.
     let both = unrefused width 0 first rest none in
     let passed = passes_of width 0 first.text both.0 in
     record {
@@ -98,8 +99,8 @@ pub dense_within : (bytes : List ℕ) (m : RowList) → dense bytes ≡ read.Ok 
 dense_within bytes m e = by_length bytes m (nat_lt MAX_FILE_BYTES (length bytes)) refl e
 
 -- a matrix of digits is an instance that verdicts are judged of
-pub dense_judged : (bytes : List ℕ) (m : RowList) → dense bytes ≡ read.Ok m → IsJudged (plain Matrix m)
-dense_judged bytes m e = let within = dense_within bytes m e in ((tt, within.columns, within.rows), tt)
+pub dense_judged : (bytes : List ℕ) (m : RowList) → dense bytes ≡ read.Ok m → IsInstance (plain Matrix m)
+dense_judged bytes m e = let within = dense_within bytes m e in (tt, within.columns, within.rows)
 
 -- the instance that is read, if one is
 abbrev read_or : InstanceValue → Read InstanceValue → InstanceValue
@@ -114,11 +115,11 @@ same_read kind bytes i j e f = ap (read_or i) (sym f ∙ e)
 pub record IsRead (kind : Kind) (i : InstanceValue) : Type 0 where
   pub matrix : RowList
   pub is : i ≡ plain kind matrix
-  pub tested : IsTestedKind kind
+  pub taken : IsTaken kind
   pub within : IsWithin matrix
 
 dense_read : (judged : Read RowList) (i : InstanceValue) → map_read (plain Matrix) judged ≡ read.Ok i → ((m : RowList) → judged ≡ read.Ok m → IsWithin m) → IsRead Matrix i
-dense_read (read.Ok m) i e within = record { matrix = m; is = sym (ap (read_or i) e); tested = tt; within = within m refl }
+dense_read (read.Ok m) i e within = record { matrix = m; is = sym (ap (read_or i) e); taken = tt; within = within m refl }
 dense_read (read.Refused refusal) i e within = absurd (cc)
 
 pub instance_read : (kind : Kind) (bytes : List ℕ) (i : InstanceValue) → instance_of kind bytes ≡ read.Ok i → IsRead kind i

@@ -20,11 +20,13 @@ use Rattle.pq_tree.specs.Text.{tree_text}
 use Rattle.verdict_text.specs.Verdict.{SideValue, YesValue, no_added, Claim, yes_claim, no_claim, VerdictValue}
 use Rattle.verdict_text.specs.Grammar.{Fits32, side_count, IsSide, HasAdded, IsLine, IsClaim, IsVerdict}
 use Rattle.verdict_text.specs.Text.{kind_word, kind_line, columns_line, number_word, side_text, cycle_text, cycle_line, added_text, claim_text, head_text, verdict_text}
-use Rattle.verdict_check.specs.Instance.{plain, IsTestedKind, IsSideOf}
+use Rattle.verdict_check.specs.Instance.{plain, IsSideOf}
+use Rattle.verdict_check.specs.Truth.{IsTrueAdded}
 use Rattle.verdict_check.specs.YesTests.{HasSide}
 use Rattle.verdict_check.specs.Laws.{IsSolvedSide}
 use Rattle.verdict_check.specs.Accepted.{IsAccepted}
 use Rattle.verdict_check.proofs.True.{yes_law, no_law}
+use Rattle.pq_cli.specs.Words.{IsTaken}
 use Rattle.pq_cli.specs.Replies.{ShowsOrders, IsTrueClaim, IsTrueOf}
 use Rattle.pq_cli.specs.Judgements.{HasVerdict}
 use Rattle.pq_cli.proofs.Reading.{IsWithin}
@@ -64,10 +66,10 @@ lines_fit [] h = tt
 lines_fit (line ∷ lines) h = (line_fits line line.why refl h.0, lines_fit lines h.1)
 
 -- the kinds whose verdicts have one side and nothing added
-one_side : (kind : Kind) → IsTestedKind kind → side_count kind ≡ 1
+one_side : (kind : Kind) → IsTaken kind → side_count kind ≡ 1
 one_side Matrix h = refl
-one_side Rows h = refl
-one_side Table h = refl
+one_side Rows h = absurd h
+one_side Table h = absurd h
 one_side Circular h = absurd h
 one_side Convex h = absurd h
 one_side Doubly h = absurd h
@@ -75,10 +77,10 @@ one_side Proper h = absurd h
 one_side Robinson h = absurd h
 one_side Clones h = absurd h
 
-adds_nothing : (kind : Kind) (columns : List ℕ) → IsTestedKind kind → HasAdded kind columns no_added
+adds_nothing : (kind : Kind) (columns : List ℕ) → IsTaken kind → HasAdded kind columns no_added
 adds_nothing Matrix columns h = (refl, refl, refl)
-adds_nothing Rows columns h = (refl, refl, refl)
-adds_nothing Table columns h = (refl, refl, refl)
+adds_nothing Rows columns h = absurd h
+adds_nothing Table columns h = absurd h
 adds_nothing Circular columns h = absurd h
 adds_nothing Convex columns h = absurd h
 adds_nothing Doubly columns h = absurd h
@@ -86,10 +88,10 @@ adds_nothing Proper columns h = absurd h
 adds_nothing Robinson columns h = absurd h
 adds_nothing Clones columns h = absurd h
 
-writes_nothing : (kind : Kind) → IsTestedKind kind → added_text kind no_added ≡ []
+writes_nothing : (kind : Kind) → IsTaken kind → added_text kind no_added ≡ []
 writes_nothing Matrix h = refl
-writes_nothing Rows h = refl
-writes_nothing Table h = refl
+writes_nothing Rows h = absurd h
+writes_nothing Table h = absurd h
 writes_nothing Circular h = absurd h
 writes_nothing Convex h = absurd h
 writes_nothing Doubly h = absurd h
@@ -97,10 +99,22 @@ writes_nothing Proper h = absurd h
 writes_nothing Robinson h = absurd h
 writes_nothing Clones h = absurd h
 
-short_word : (kind : Kind) → IsTestedKind kind → length (kind_word kind) ≤ 8
+-- of a kind that adds nothing, nothing added is true
+adds_true : (kind : Kind) → IsTaken kind → (m : RowList) (side : SideValue) → IsTrueAdded (plain kind m) (record { sides = side ∷ []; added = no_added })
+adds_true Matrix h m side = tt
+adds_true Rows h m side = absurd h
+adds_true Table h m side = absurd h
+adds_true Circular h m side = absurd h
+adds_true Convex h m side = absurd h
+adds_true Doubly h m side = absurd h
+adds_true Proper h m side = absurd h
+adds_true Robinson h m side = absurd h
+adds_true Clones h m side = absurd h
+
+short_word : (kind : Kind) → IsTaken kind → length (kind_word kind) ≤ 8
 short_word Matrix h = omega arith
-short_word Rows h = omega arith
-short_word Table h = omega arith
+short_word Rows h = absurd h
+short_word Table h = absurd h
 short_word Circular h = absurd h
 short_word Convex h = absurd h
 short_word Doubly h = absurd h
@@ -108,7 +122,7 @@ short_word Proper h = absurd h
 short_word Robinson h = absurd h
 short_word Clones h = absurd h
 
-module _ (kind : Kind) (m : RowList) (tested : IsTestedKind kind) (within : IsWithin m) where
+module _ (kind : Kind) (m : RowList) (taken : IsTaken kind) (within : IsWithin m) where
   -- a verdict with this claim
   abbrev claimed : Claim → VerdictValue
   claimed claim = record { kind = kind; columns = m.columns ∷ []; claim = claim }
@@ -125,19 +139,19 @@ module _ (kind : Kind) (m : RowList) (tested : IsTestedKind kind) (within : IsWi
       let side = true.0 in
       let shows = true.2 in
       let fits : IsSide m.columns side = (shows.proper, omega (arith, order_count side shows, within.some), columns_fit side.order (order_columns side shows)) in
-      rw true.1 ((fits, tt), adds_nothing kind (m.columns ∷ []) tested)
+      rw true.1 ((fits, tt), adds_nothing kind (m.columns ∷ []) taken)
   claim_fits (no_claim side lines) true =
       let each = cycle_lines m.columns m.rows lines within.columns within.rows true.1.closed in
-      (omega (arith, true.0), omega (arith, true.0, one_side kind tested), omega (arith, few_lines lines each true.1.simple), lines_fit lines each)
+      (omega (arith, true.0), omega (arith, true.0, one_side kind taken), omega (arith, few_lines lines each true.1.simple), lines_fit lines each)
 
   fits : (claim : Claim) → IsTrueClaim m claim → IsVerdict (claimed claim)
-  fits claim true = record { sides = sym (one_side kind tested); columns = ((within.some, within.columns), tt); claim = claim_fits claim true }
+  fits claim true = record { sides = sym (one_side kind taken); columns = ((within.some, within.columns), tt); claim = claim_fits claim true }
 
   head_short : length (head_text kind (m.columns ∷ [])) ≤ 100
   head_short =
       omega (
         arith,
-        short_word kind tested,
+        short_word kind taken,
         four_digits m.columns within.columns,
         length-append (codes "pq-verdict 1\n") (kind_line kind ++ columns_line (m.columns ∷ [])),
         length-append (kind_line kind) (columns_line (m.columns ∷ [])),
@@ -174,7 +188,7 @@ module _ (kind : Kind) (m : RowList) (tested : IsTestedKind kind) (within : IsWi
       omega (
         arith,
         side_short side true.2,
-        ap length (writes_nothing kind tested),
+        ap length (writes_nothing kind taken),
         length-append (codes "answer yes\n") (flat_map side_text (side ∷ []) ++ added_text kind no_added),
         length-append (flat_map side_text (side ∷ [])) (added_text kind no_added),
         length-append (side_text side) [],
@@ -210,7 +224,7 @@ module _ (kind : Kind) (m : RowList) (tested : IsTestedKind kind) (within : IsWi
       let one : 1 ≡ s = omega (arith, h.0, h.1) in
       subst (λ n. HasSide (record { sides = side ∷ []; added = no_added }) n (IsSolvedSide (plain kind m) n)) one (shows.order, λ o f. ((shows.orders o).0 f).kept) in
       subst (λ (y : YesValue). IsAccepted (plain kind m) (claimed (yes_claim y))) (sym true.1)
-      (yes_law (plain kind m) (claimed (yes_claim (record { sides = side ∷ []; added = no_added }))) (record { sides = side ∷ []; added = no_added }) tested refl refl refl solved)
+      (yes_law (plain kind m) (claimed (yes_claim (record { sides = side ∷ []; added = no_added }))) (record { sides = side ∷ []; added = no_added }) refl refl refl solved (adds_true kind taken m side))
   accepted (no_claim side lines) true = no_law (plain kind m) (claimed (no_claim side lines)) side lines refl refl refl true.1
 
   -- a true verdict on a matrix within the limits

@@ -6,7 +6,7 @@ use Rattle.row_model.specs.declared.refusal.Read.{Read}
 use Rattle.row_model.specs.declared.refusal.Read.TheVariants as read
 use Rattle.row_model.specs.declared.code.TheConstants.{LIMIT}
 use Rattle.matrix_read.specs.Dense.{dense}
-use Rattle.verdict_check.specs.Instance.{InstanceValue, plain, instance_kind, IsInstance, IsTestedKind}
+use Rattle.verdict_check.specs.Instance.{InstanceValue, plain, IsInstance}
 use Rattle.verdict_check.specs.Value.{instance_value}
 use Rattle.verdict_check.specs.declared.instance.Instance.{Instance}
 
@@ -25,10 +25,6 @@ abbrev pub instance_of : Kind → List ℕ → Read InstanceValue
 instance_of Matrix bytes = map_read (plain Matrix) (dense bytes)
 instance_of kind bytes = read.Refused (record { code = LIMIT; line = 0 })
 
--- an instance that verdicts are judged of
-abbrev pub IsJudged : InstanceValue → Type 0
-IsJudged i = IsInstance i × IsTestedKind (instance_kind i)
-
--- the instance of the program is one
-abbrev pub IsJudgedInstance : Instance → Type 0
-IsJudgedInstance i = IsJudged (instance_value i)
+-- an instance that verdicts are judged of: it is within the limits of files
+abbrev pub IsJudged : Instance → Type 0
+IsJudged i = IsInstance (instance_value i)

@@ -4,7 +4,7 @@ ghost use Rattle.pq_io.specs.Faults.{Rose};
 ghost use Rattle.pq_io.specs.Whole.{IsWhole};
 ghost use Rattle.verdict_check.specs.Value.{instance_value};
 ghost use Rattle.pq_cli.specs.Words.{IsTaken};
-ghost use Rattle.pq_cli.specs.Instances.{instance_of, map_read, IfRead, IsJudged, IsJudgedInstance};
+ghost use Rattle.pq_cli.specs.Instances.{instance_of, map_read, IfRead, IsJudged};
 ghost use Rattle.pq_cli.specs.Runs.{AsksOne};
 ghost use Rattle.pq_cli.specs.Stops.{stop_status, read_status, IsReadStop, Refuses, IsOf};
 
@@ -53,7 +53,7 @@ pub fn read_instance<F: Shelf>(
     ensures fault { read_status result ≡ 4 → Rose (F.faults files.old) (F.faults files.new) }
     ensures fault_told { F.faults files.new ≢ F.faults files.old → read_status result ≡ 4 }
     ensures value { IfOk result (λ i. IfSome (F.content files.old name.now) (λ bytes. instance_of kind bytes ≡ Read.Ok (instance_value i))) }
-    ensures judged { IfOk result IsJudgedInstance }
+    ensures judged { IfOk result IsJudged }
     ensures refused { IfErr result (λ stop. IfSome (F.content files.old name.now) (λ bytes. Refuses which (instance_of kind bytes) stop)) }
     ensures which { IfErr result (IsOf which) }
     ensures content { (other : List ℕ) → F.content files.new other ≡ F.content files.old other }
@@ -79,7 +79,7 @@ pub fn read_instance<F: Shelf>(
 fn instance_in(alloc: Global, kind: Kind, bytes: &[u8]) -> Result<Read<Instance>, NoMemory>
     requires { IsTaken kind }
     ensures value { IfOk result (λ read. map_read instance_value read ≡ instance_of kind bytes.now) }
-    ensures judged { IfOk result (λ read. IfRead read IsJudgedInstance) }
+    ensures judged { IfOk result (λ read. IfRead read IsJudged) }
 {
     match kind {
         Kind::Matrix => match read_dense(alloc, bytes) {

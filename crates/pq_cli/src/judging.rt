@@ -15,7 +15,7 @@ use verdict_text::parse;
 
 /// The reply to the check of a verdict: one line with what is found, and its status.
 pub fn judging(alloc: Global, instance: &Instance, verdict: &Whole) -> Result<Reply, NoMemory>
-    requires { IsJudged (instance_value instance.now) }
+    requires { IsJudged instance.now }
     ensures judging { IfOk result (λ reply. (bytes : List ℕ) → IsWhole MAX_VERDICT_BYTES bytes verdict.now → IsJudging (instance_value instance.now) bytes reply.status reply.text.items) }
     ensures status { IfOk result (λ reply. (reply.status ≡ 0) ⊎ (reply.status ≡ 1)) }
 {
@@ -29,7 +29,7 @@ pub fn judging(alloc: Global, instance: &Instance, verdict: &Whole) -> Result<Re
 
 // What is found of the bytes of a verdict.
 fn judgement_on(alloc: Global, instance: &Instance, verdict: &Whole) -> Result<Judgement, NoMemory>
-    requires { IsJudged (instance_value instance.now) }
+    requires { IsJudged instance.now }
     ensures { IfOk result (λ judgement. (bytes : List ℕ) → IsWhole MAX_VERDICT_BYTES bytes verdict.now → IsJudgement (instance_value instance.now) bytes judgement) }
 {
     let Whole::Bytes(bytes) = verdict else {
