@@ -8,7 +8,7 @@ use Rattle.row_model.specs.Rows.{IsRow}
 use Rattle.row_model.specs.declared.code.TheConstants.{SYMMETRY, RANGE}
 use Rattle.row_model.proofs.Ascending.{row_within}
 use Rattle.matrix_read.specs.Lines.{NumberedLine}
-use Rattle.matrix_read.specs.Sparse.{columns_among}
+use Rattle.matrix_read.specs.Rows.{columns_among}
 use Rattle.matrix_read.specs.Words.{words_of}
 use Rattle.matrix_read.proofs.RowLemmas.{columns_ascend}
 use Rattle.graph_read.specs.declared.edges.Edge.{Edge}

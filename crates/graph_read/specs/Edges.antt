@@ -8,7 +8,7 @@ use Rattle.row_model.specs.declared.TheConstants.{MAX_COLUMNS}
 use Rattle.row_model.specs.declared.code.TheConstants.{GRAMMAR, RANGE, SYMMETRY, LIMIT}
 use Rattle.matrix_read.specs.Words.{words_of}
 use Rattle.matrix_read.specs.Lines.{NumberedLine}
-use Rattle.matrix_read.specs.Sparse.{columns_among}
+use Rattle.matrix_read.specs.Rows.{columns_among}
 use Rattle.graph_read.specs.Items.{items_behind}
 use Rattle.graph_read.specs.Numbers.{is_zero, is_past, is_within, value_of, two_numbers}
 use Rattle.matrix_read.specs.declared.words.Numeral.{Numeral}
