@@ -1,4 +1,4 @@
-use Rattle.std.proofs.Common.{arith, rules}
+use Rattle.std.proofs.Common.{rules}
 use Rattle.pq_io.proofs.Pieces.{Appends-take}
 use Rattle.pq_io.proofs.writing.write_all.Goals as goal
 
