@@ -7,3 +7,6 @@ pub mod Reading
 pub mod Solved
 pub mod Statuses
 pub mod Turns
+pub mod Within
+pub mod WithinLines
+pub mod WithinTable

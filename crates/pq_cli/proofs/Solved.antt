@@ -29,7 +29,7 @@ use Rattle.verdict_check.proofs.True.{yes_law, no_law}
 use Rattle.pq_cli.specs.Words.{IsTaken}
 use Rattle.pq_cli.specs.Replies.{ShowsOrders, IsTrueClaim, IsTrueOf}
 use Rattle.pq_cli.specs.Judgements.{HasVerdict}
-use Rattle.pq_cli.proofs.Reading.{IsWithin}
+use Rattle.pq_cli.proofs.Within.{IsWithin}
 use Rattle.pq_cli.proofs.Lengths.{IsColumn, IsCycleLine, IsRowReason, four_digits, seven_digits, words_length, tree_length, lines_length, few_lines}
 
 -- a list of columns of the greatest matrix
@@ -68,8 +68,8 @@ lines_fit (line ∷ lines) h = (line_fits line line.why refl h.0, lines_fit line
 -- the kinds whose verdicts have one side and nothing added
 one_side : (kind : Kind) → IsTaken kind → side_count kind ≡ 1
 one_side Matrix h = refl
-one_side Rows h = absurd h
-one_side Table h = absurd h
+one_side Rows h = refl
+one_side Table h = refl
 one_side Circular h = absurd h
 one_side Convex h = absurd h
 one_side Doubly h = absurd h
@@ -79,8 +79,8 @@ one_side Clones h = absurd h
 
 adds_nothing : (kind : Kind) (columns : List ℕ) → IsTaken kind → HasAdded kind columns no_added
 adds_nothing Matrix columns h = (refl, refl, refl)
-adds_nothing Rows columns h = absurd h
-adds_nothing Table columns h = absurd h
+adds_nothing Rows columns h = (refl, refl, refl)
+adds_nothing Table columns h = (refl, refl, refl)
 adds_nothing Circular columns h = absurd h
 adds_nothing Convex columns h = absurd h
 adds_nothing Doubly columns h = absurd h
@@ -90,8 +90,8 @@ adds_nothing Clones columns h = absurd h
 
 writes_nothing : (kind : Kind) → IsTaken kind → added_text kind no_added ≡ []
 writes_nothing Matrix h = refl
-writes_nothing Rows h = absurd h
-writes_nothing Table h = absurd h
+writes_nothing Rows h = refl
+writes_nothing Table h = refl
 writes_nothing Circular h = absurd h
 writes_nothing Convex h = absurd h
 writes_nothing Doubly h = absurd h
@@ -102,8 +102,8 @@ writes_nothing Clones h = absurd h
 -- of a kind that adds nothing, nothing added is true
 adds_true : (kind : Kind) → IsTaken kind → (m : RowList) (side : SideValue) → IsTrueAdded (plain kind m) (record { sides = side ∷ []; added = no_added })
 adds_true Matrix h m side = tt
-adds_true Rows h m side = absurd h
-adds_true Table h m side = absurd h
+adds_true Rows h m side = tt
+adds_true Table h m side = tt
 adds_true Circular h m side = absurd h
 adds_true Convex h m side = absurd h
 adds_true Doubly h m side = absurd h
@@ -113,8 +113,8 @@ adds_true Clones h m side = absurd h
 
 short_word : (kind : Kind) → IsTaken kind → length (kind_word kind) ≤ 8
 short_word Matrix h = omega arith
-short_word Rows h = absurd h
-short_word Table h = absurd h
+short_word Rows h = omega arith
+short_word Table h = omega arith
 short_word Circular h = absurd h
 short_word Convex h = absurd h
 short_word Doubly h = absurd h

@@ -3,32 +3,30 @@ use Rattle.std.specs.Prelude.{◌≡◌, ◌↔◌, ℕ, List, [], ◌∷◌, co
 use Rattle.column_order.specs.Orders.{HasValidOrder}
 use Rattle.row_model.specs.Rows.{RowList}
 use Rattle.row_model.specs.declared.kind.Kind.{Kind}
-use Rattle.row_model.specs.declared.kind.Kind.TheVariants.{Matrix}
 use Rattle.row_model.specs.declared.refusal.Read.TheVariants as read
-use Rattle.matrix_read.specs.Dense.{dense}
 use Rattle.verdict_text.specs.Verdict.{VerdictValue}
 use Rattle.verdict_text.specs.Grammar.{IsVerdict}
 use Rattle.verdict_text.specs.Text.{verdict_text}
-use Rattle.verdict_check.specs.Instance.{InstanceValue}
+use Rattle.verdict_check.specs.Instance.{InstanceValue, plain}
 use Rattle.verdict_check.specs.Truth.{IsTrueVerdict}
 use Rattle.pq_cli.specs.Words.{Solve, Check}
 use Rattle.pq_cli.specs.Instances.{instance_of}
 use Rattle.pq_cli.specs.Replies.{Replies}
 
--- the status of a reply is 1 exactly where the matrix has no valid order
+-- the status of a reply is 1 exactly where the matrix in the file has no valid order
 abbrev pub NoLaw : Type 0
 NoLaw =
-    (file bytes text : List ℕ) (status : ℕ) (m : RowList) →
-    dense bytes ≡ read.Ok m →
-    Replies (Solve Matrix file) (bytes ∷ []) status text →
+    (kind : Kind) (file bytes text : List ℕ) (status : ℕ) (m : RowList) →
+    instance_of kind bytes ≡ read.Ok (plain kind m) →
+    Replies (Solve kind file) (bytes ∷ []) status text →
     (status ≡ 1) ↔ (HasValidOrder m.columns m.rows → ⊥)
 
--- the status of a reply is 0 exactly where the matrix has a valid order
+-- the status of a reply is 0 exactly where the matrix in the file has a valid order
 abbrev pub YesLaw : Type 0
 YesLaw =
-    (file bytes text : List ℕ) (status : ℕ) (m : RowList) →
-    dense bytes ≡ read.Ok m →
-    Replies (Solve Matrix file) (bytes ∷ []) status text →
+    (kind : Kind) (file bytes text : List ℕ) (status : ℕ) (m : RowList) →
+    instance_of kind bytes ≡ read.Ok (plain kind m) →
+    Replies (Solve kind file) (bytes ∷ []) status text →
     (status ≡ 0) ↔ HasValidOrder m.columns m.rows
 
 -- a verdict that a check ends on with status 0 is one of the grammar, and true of the instance

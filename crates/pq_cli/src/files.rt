@@ -2,6 +2,7 @@
 ghost use Rattle.std.specs.Prelude.{◌≡◌, ◌≢◌, ◌≤◌, ◌^◌, List, ℕ, IfOk, IfErr, IfSome};
 ghost use Rattle.pq_io.specs.Faults.{Rose};
 ghost use Rattle.pq_io.specs.Whole.{IsWhole};
+ghost use Rattle.verdict_check.specs.Instance.{plain};
 ghost use Rattle.verdict_check.specs.Value.{instance_value};
 ghost use Rattle.pq_cli.specs.Words.{IsTaken};
 ghost use Rattle.pq_cli.specs.Instances.{instance_of, map_read, IfRead, IsJudged};
@@ -9,9 +10,9 @@ ghost use Rattle.pq_cli.specs.Runs.{AsksOne};
 ghost use Rattle.pq_cli.specs.Stops.{stop_status, read_status, IsReadStop, Refuses, IsOf};
 
 use crate::NoMemory;
-use matrix_read::read_dense;
+use matrix_read::{read_dense, read_rows, read_table};
 use pq_io::{ChooseError, ReadFail, Shelf, Whole, read_all};
-use row_model::{Kind, MAX_FILE_BYTES, Read, Refusal, code};
+use row_model::{Kind, MAX_FILE_BYTES, Matrix, Read, Refusal, code};
 use std::alloc::Global;
 use verdict_check::Instance;
 
@@ -81,12 +82,22 @@ fn instance_in(alloc: Global, kind: Kind, bytes: &[u8]) -> Result<Read<Instance>
     ensures value { IfOk result (λ read. map_read instance_value read ≡ instance_of kind bytes.now) }
     ensures judged { IfOk result (λ read. IfRead read IsJudged) }
 {
+    match matrix_in(alloc, kind, bytes) {
+        Err(_) => Err(NoMemory),
+        Ok(Read::Refused(refusal)) => Ok(Read::Refused(refusal)),
+        Ok(Read::Ok(m)) => Ok(Read::Ok(Instance::Plain(kind, m))),
+    }
+}
+
+// The matrix of a kind in the bytes of a file, or their first refusal.
+fn matrix_in(alloc: Global, kind: Kind, bytes: &[u8]) -> Result<Read<Matrix>, NoMemory>
+    requires { IsTaken kind }
+    ensures { IfOk result (λ read. map_read (plain kind) read ≡ instance_of kind bytes.now) }
+{
     match kind {
-        Kind::Matrix => match read_dense(alloc, bytes) {
-            Err(_) => Err(NoMemory),
-            Ok(Read::Refused(refusal)) => Ok(Read::Refused(refusal)),
-            Ok(Read::Ok(m)) => Ok(Read::Ok(Instance::Plain(kind, m))),
-        },
+        Kind::Matrix => read_dense(alloc, bytes),
+        Kind::Rows => read_rows(alloc, bytes),
+        Kind::Table => read_table(alloc, bytes),
         _ => unreachable!(),
     }
 }

@@ -59,6 +59,8 @@ fn kind_of(word: &str) -> Option<Kind>
 {
     match word {
         "matrix" => Some(Kind::Matrix),
+        "rows" => Some(Kind::Rows),
+        "table" => Some(Kind::Table),
         _ => None,
     }
 }
