@@ -17,8 +17,8 @@
 //! | `Repeat(I)` | no: the pair of line I stands on no earlier line; I is the least that fails |
 //! | `Join(I)` | no: the reason of line I joins its pair to that of the next line, and the last line's to that of the first, in the derived matrix of the side; I is the least that fails |
 //!
-//! Where there are two sides, `Order(1)`, `Tree(1, K)`, `Order(2)` and `Tree(2, K)` follow one another. `Intervals`, `Places`
-//! and `Contigs` are never given yet: the kinds that have them are not judged here.
+//! Where there are two sides, `Order(1)`, `Tree(1, K)`, `Order(2)` and `Tree(2, K)` follow one another. `Intervals` is never
+//! given yet: the kind that has intervals is not judged here.
 //!
 //! A verdict that passes each test is true: a yes because its orders are textbook orders, a no because a closed walk of
 //! odd length in the incompatibility graph leaves no valid order (McConnell, 2004).
