@@ -13,16 +13,16 @@ use std::alloc::Global;
 
 /// Does what the words ask for, and answers the exit status.
 ///
-/// The words are `solve matrix FILE`. The file is read from `files`, the reply is written to `out`, and on the statuses 2 to 6 one line is
-/// offered to `err`, whose faults change nothing.
+/// The words are `solve KIND FILE` or `check KIND FILE VERDICT`, where the kind is `matrix`, `rows`, `table` or `clones`. The files are read
+/// from `files`, the reply is written to `out`, and on the statuses 2 to 6 one line is offered to `err`, whose faults change nothing.
 ///
 /// | Status | Meaning |
 /// |---|---|
-/// | 0 | the matrix has a valid order |
-/// | 1 | it has none |
+/// | 0 | there is a valid order; or the verdict is valid |
+/// | 1 | there is none; or the verdict is invalid |
 /// | 2 | the words are outside the grammar; nothing is read, and nothing is written to `out` |
-/// | 3 | the file is refused |
-/// | 4 | it can't be read |
+/// | 3 | the file of the instance is refused |
+/// | 4 | a file can't be read |
 /// | 5 | the reply can't be written; some first bytes of it were |
 /// | 6 | memory is refused |
 pub fn run<F: Shelf, O: Sink, E: Sink>(
