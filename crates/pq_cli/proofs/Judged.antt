@@ -59,7 +59,7 @@ solved_law kind file other verdict bytes given text status found solved checked 
     let i = solved.0 in
     let solution : IsSolution i status given = solved.2 in
     let read_as = instance_read kind bytes i solved.1 in
-    let true = subst (λ j. HasVerdict (verdict_text solution.verdict) (IsAccepted j)) (sym read_as.is) (solved_accepted kind read_as.matrix read_as.taken read_as.within solution.verdict (subst (λ (j : InstanceValue). IsTrueOf j solution.verdict) read_as.is solution.holds)) in
+    let true = subst (λ j. HasVerdict (verdict_text solution.verdict) (IsAccepted j)) (sym read_as.is) (solved_accepted kind read_as.matrix read_as.plain_kind read_as.within solution.verdict (subst (λ (j : InstanceValue). IsTrueOf j solution.verdict) read_as.is solution.holds)) in
     let accepted : HasVerdict given (IsAccepted i) = subst (λ text. HasVerdict text (IsAccepted i)) (sym solution.text_is) true in
     let same : checked.0 ≡ i = same_read kind bytes i checked.0 solved.1 checked.1 in
     let judging : IsJudging i given found text = subst (λ j. IsJudging j given found text) same checked.2 in

@@ -24,7 +24,7 @@ use Rattle.incompat_graph.proofs.NumberLaws.{place_of-inj, place_of-lt}
 pub four_digits : (n : ℕ) → n ≤ 1024 → length (decimal n) ≤ 4
 four_digits n le = length-decimal-le 4 n (omega arith) (omega arith) (omega arith)
 
-five_digits : (n : ℕ) → n ≤ 65536 → length (decimal n) ≤ 5
+pub five_digits : (n : ℕ) → n ≤ 65536 → length (decimal n) ≤ 5
 five_digits n le = length-decimal-le 5 n (omega arith) (omega arith) (omega arith)
 
 pub seven_digits : (n : ℕ) → n ≤ 1048576 → length (decimal n) ≤ 7

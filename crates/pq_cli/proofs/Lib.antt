@@ -1,12 +1,15 @@
+pub mod Added
 pub mod Checks
 pub mod Claims
 pub mod Judged
 pub mod Lengths
 pub mod Lines
+pub mod PlainKinds
 pub mod Reading
 pub mod Solved
 pub mod Statuses
 pub mod Turns
 pub mod Within
+pub mod WithinClones
 pub mod WithinLines
 pub mod WithinTable

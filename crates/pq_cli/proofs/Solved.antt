@@ -1,6 +1,6 @@
 -- What `solve` wrote is a verdict of the grammar, within the limit of bytes, that passes each test.
 use Rattle.std.proofs.Common.{◌≡◌, ◌∙◌, ℕ, ◌≤◌, IsTrue, List, [], ◌∷◌, ◌++◌, length, codes, refl, sym, ap, subst, arith}
-use Rattle.std.specs.Prelude.{flat_map}
+use Rattle.std.specs.Prelude.{flat_map, slice_get, IsSomeAnd}
 use Rattle.std.specs.List.{AllByRecursion}
 use Rattle.std.specs.Fmt.{decimal}
 use Rattle.std.proofs.lemmas.List.{length-append}
@@ -8,7 +8,6 @@ use Rattle.column_order.specs.Orders.{has}
 use Rattle.column_order.proofs.Lists.{has_head, has_tail}
 use Rattle.column_order.proofs.Counts.{order_length, order_within}
 use Rattle.row_model.specs.declared.kind.Kind.{Kind}
-use Rattle.row_model.specs.declared.kind.Kind.TheVariants.{Matrix, Rows, Table, Circular, Convex, Doubly, Proper, Robinson, Clones}
 use Rattle.row_model.specs.declared.graph.Pair.{Pair}
 use Rattle.row_model.specs.declared.graph.Line.{Line}
 use Rattle.row_model.specs.declared.graph.Why.{Why}
@@ -17,19 +16,19 @@ use Rattle.row_model.specs.Graph.{IsPair, Fits}
 use Rattle.row_model.specs.Cycles.{LeadTo, IsClosedWalk}
 use Rattle.row_model.specs.Rows.{RowList}
 use Rattle.pq_tree.specs.Text.{tree_text}
-use Rattle.verdict_text.specs.Verdict.{SideValue, YesValue, no_added, Claim, yes_claim, no_claim, VerdictValue}
-use Rattle.verdict_text.specs.Grammar.{Fits32, side_count, IsSide, HasAdded, IsLine, IsClaim, IsVerdict}
+use Rattle.verdict_text.specs.Verdict.{SideValue, Claim, yes_claim, no_claim, VerdictValue}
+use Rattle.verdict_text.specs.Grammar.{Fits32, AreSides, IsSide, IsLine, IsClaim, IsVerdict}
 use Rattle.verdict_text.specs.Text.{kind_word, kind_line, columns_line, number_word, side_text, cycle_text, cycle_line, added_text, claim_text, head_text, verdict_text}
-use Rattle.verdict_check.specs.Instance.{plain, IsSideOf}
-use Rattle.verdict_check.specs.Truth.{IsTrueAdded}
+use Rattle.verdict_check.specs.Instance.{plain, IsPlainKind, IsSideOf}
 use Rattle.verdict_check.specs.YesTests.{HasSide}
 use Rattle.verdict_check.specs.Laws.{IsSolvedSide}
 use Rattle.verdict_check.specs.Accepted.{IsAccepted}
 use Rattle.verdict_check.proofs.True.{yes_law, no_law}
-use Rattle.pq_cli.specs.Words.{IsTaken}
 use Rattle.pq_cli.specs.Replies.{ShowsOrders, IsTrueClaim, IsTrueOf}
 use Rattle.pq_cli.specs.Judgements.{HasVerdict}
 use Rattle.pq_cli.proofs.Within.{IsWithin}
+use Rattle.pq_cli.proofs.PlainKinds.{one_side, short_word}
+use Rattle.pq_cli.proofs.Added.{adds_fit, adds_short, adds_true}
 use Rattle.pq_cli.proofs.Lengths.{IsColumn, IsCycleLine, IsRowReason, four_digits, seven_digits, words_length, tree_length, lines_length, few_lines}
 
 -- a list of columns of the greatest matrix
@@ -65,64 +64,7 @@ lines_fit : (lines : List Line) → AllByRecursion IsCycleLine lines → AllByRe
 lines_fit [] h = tt
 lines_fit (line ∷ lines) h = (line_fits line line.why refl h.0, lines_fit lines h.1)
 
--- the kinds whose verdicts have one side and nothing added
-one_side : (kind : Kind) → IsTaken kind → side_count kind ≡ 1
-one_side Matrix h = refl
-one_side Rows h = refl
-one_side Table h = refl
-one_side Circular h = absurd h
-one_side Convex h = absurd h
-one_side Doubly h = absurd h
-one_side Proper h = absurd h
-one_side Robinson h = absurd h
-one_side Clones h = absurd h
-
-adds_nothing : (kind : Kind) (columns : List ℕ) → IsTaken kind → HasAdded kind columns no_added
-adds_nothing Matrix columns h = (refl, refl, refl)
-adds_nothing Rows columns h = (refl, refl, refl)
-adds_nothing Table columns h = (refl, refl, refl)
-adds_nothing Circular columns h = absurd h
-adds_nothing Convex columns h = absurd h
-adds_nothing Doubly columns h = absurd h
-adds_nothing Proper columns h = absurd h
-adds_nothing Robinson columns h = absurd h
-adds_nothing Clones columns h = absurd h
-
-writes_nothing : (kind : Kind) → IsTaken kind → added_text kind no_added ≡ []
-writes_nothing Matrix h = refl
-writes_nothing Rows h = refl
-writes_nothing Table h = refl
-writes_nothing Circular h = absurd h
-writes_nothing Convex h = absurd h
-writes_nothing Doubly h = absurd h
-writes_nothing Proper h = absurd h
-writes_nothing Robinson h = absurd h
-writes_nothing Clones h = absurd h
-
--- of a kind that adds nothing, nothing added is true
-adds_true : (kind : Kind) → IsTaken kind → (m : RowList) (side : SideValue) → IsTrueAdded (plain kind m) (record { sides = side ∷ []; added = no_added })
-adds_true Matrix h m side = tt
-adds_true Rows h m side = tt
-adds_true Table h m side = tt
-adds_true Circular h m side = absurd h
-adds_true Convex h m side = absurd h
-adds_true Doubly h m side = absurd h
-adds_true Proper h m side = absurd h
-adds_true Robinson h m side = absurd h
-adds_true Clones h m side = absurd h
-
-short_word : (kind : Kind) → IsTaken kind → length (kind_word kind) ≤ 8
-short_word Matrix h = omega arith
-short_word Rows h = omega arith
-short_word Table h = omega arith
-short_word Circular h = absurd h
-short_word Convex h = absurd h
-short_word Doubly h = absurd h
-short_word Proper h = absurd h
-short_word Robinson h = absurd h
-short_word Clones h = absurd h
-
-module _ (kind : Kind) (m : RowList) (taken : IsTaken kind) (within : IsWithin m) where
+module _ (kind : Kind) (m : RowList) (is_plain : IsPlainKind kind) (within : IsWithin m) where
   -- a verdict with this claim
   abbrev claimed : Claim → VerdictValue
   claimed claim = record { kind = kind; columns = m.columns ∷ []; claim = claim }
@@ -134,24 +76,29 @@ module _ (kind : Kind) (m : RowList) (taken : IsTaken kind) (within : IsWithin m
   order_count : (side : SideValue) → ShowsOrders m side → length side.order ≡ m.columns
   order_count side shows = order_length m.columns side.order shows.order.order
 
-  claim_fits : (claim : Claim) → IsTrueClaim m claim → IsClaim kind (m.columns ∷ []) claim
+  few_positions : (side : SideValue) → ShowsOrders m side → length side.order ≤ 1024
+  few_positions side shows = omega (arith, order_count side shows, within.columns)
+
+  claim_fits : (claim : Claim) → IsTrueClaim kind m claim → IsClaim kind (m.columns ∷ []) claim
   claim_fits (yes_claim value) true =
       let side = true.0 in
       let shows = true.2 in
-      let fits : IsSide m.columns side = (shows.proper, omega (arith, order_count side shows, within.some), columns_fit side.order (order_columns side shows)) in
-      rw true.1 ((fits, tt), adds_nothing kind (m.columns ∷ []) taken)
+      let fits : IsSide m.columns side = (shows.proper, omega (arith, order_count side shows, within.some), columns_fit side.order (order_columns side shows)) in (
+        subst (AreSides (m.columns ∷ [])) (sym true.1) (fits, tt),
+        adds_fit m side.order within.rows (few_positions side shows) value.added kind (m.columns ∷ []) is_plain true.3,
+      )
   claim_fits (no_claim side lines) true =
       let each = cycle_lines m.columns m.rows lines within.columns within.rows true.1.closed in
-      (omega (arith, true.0), omega (arith, true.0, one_side kind taken), omega (arith, few_lines lines each true.1.simple), lines_fit lines each)
+      (omega (arith, true.0), omega (arith, true.0, one_side kind is_plain), omega (arith, few_lines lines each true.1.simple), lines_fit lines each)
 
-  fits : (claim : Claim) → IsTrueClaim m claim → IsVerdict (claimed claim)
-  fits claim true = record { sides = sym (one_side kind taken); columns = ((within.some, within.columns), tt); claim = claim_fits claim true }
+  fits : (claim : Claim) → IsTrueClaim kind m claim → IsVerdict (claimed claim)
+  fits claim true = record { sides = sym (one_side kind is_plain); columns = ((within.some, within.columns), tt); claim = claim_fits claim true }
 
   head_short : length (head_text kind (m.columns ∷ [])) ≤ 100
   head_short =
       omega (
         arith,
-        short_word kind taken,
+        short_word kind is_plain,
         four_digits m.columns within.columns,
         length-append (codes "pq-verdict 1\n") (kind_line kind ++ columns_line (m.columns ∷ [])),
         length-append (kind_line kind) (columns_line (m.columns ∷ [])),
@@ -181,19 +128,19 @@ module _ (kind : Kind) (m : RowList) (taken : IsTaken kind) (within : IsWithin m
         length-append (flat_map number_word side.order) (10 ∷ []),
       )
 
-  claim_short : (claim : Claim) → IsTrueClaim m claim → length (claim_text kind claim) ≤ 30000000
+  claim_short : (claim : Claim) → IsTrueClaim kind m claim → length (claim_text kind claim) ≤ 30000000
   claim_short (yes_claim value) true =
       let side = true.0 in
-      let text : length (claim_text kind (yes_claim (record { sides = side ∷ []; added = no_added }))) ≤ 30000000 =
+      let sides : length (flat_map side_text value.sides) ≡ length (flat_map side_text (side ∷ [])) = ap (λ sides. length (flat_map side_text sides)) true.1 in
       omega (
         arith,
+        sides,
         side_short side true.2,
-        ap length (writes_nothing kind taken),
-        length-append (codes "answer yes\n") (flat_map side_text (side ∷ []) ++ added_text kind no_added),
-        length-append (flat_map side_text (side ∷ [])) (added_text kind no_added),
+        adds_short m side.order within.rows (few_positions side true.2) value.added kind is_plain true.3,
+        length-append (codes "answer yes\n") (flat_map side_text value.sides ++ added_text kind value.added),
+        length-append (flat_map side_text value.sides) (added_text kind value.added),
         length-append (side_text side) [],
-      ) in
-      rw true.1 text
+      )
   claim_short (no_claim side lines) true =
       let each = cycle_lines m.columns m.rows lines within.columns within.rows true.1.closed in
       let few = few_lines lines each true.1.simple in
@@ -211,20 +158,21 @@ module _ (kind : Kind) (m : RowList) (taken : IsTaken kind) (within : IsWithin m
         length-append (decimal (length lines)) tail,
       )
 
-  short : (claim : Claim) → IsTrueClaim m claim → length (verdict_text (claimed claim)) ≤ 33554432
+  short : (claim : Claim) → IsTrueClaim kind m claim → length (verdict_text (claimed claim)) ≤ 33554432
   unfolding verdict_text
   short claim true =
       omega (arith, head_short, claim_short claim true, length-append (head_text kind (m.columns ∷ [])) (claim_text kind claim ++ codes "end\n"), length-append (claim_text kind claim) (codes "end\n"))
 
-  accepted : (claim : Claim) → IsTrueClaim m claim → IsAccepted (plain kind m) (claimed claim)
+  accepted : (claim : Claim) → IsTrueClaim kind m claim → IsAccepted (plain kind m) (claimed claim)
   accepted (yes_claim value) true =
       let side = true.0 in
       let shows = true.2 in
-      let solved : (s : ℕ) → IsSideOf (plain kind m) s → HasSide (record { sides = side ∷ []; added = no_added }) s (IsSolvedSide (plain kind m) s) = λ s h.
+      let first : HasSide value 1 (IsSolvedSide (plain kind m) 1) =
+      subst (λ sides. IsSomeAnd (slice_get sides 0) (IsSolvedSide (plain kind m) 1)) (sym true.1) (shows.order, λ o f. ((shows.orders o).0 f).kept) in
+      let solved : (s : ℕ) → IsSideOf (plain kind m) s → HasSide value s (IsSolvedSide (plain kind m) s) = λ s h.
       let one : 1 ≡ s = omega (arith, h.0, h.1) in
-      subst (λ n. HasSide (record { sides = side ∷ []; added = no_added }) n (IsSolvedSide (plain kind m) n)) one (shows.order, λ o f. ((shows.orders o).0 f).kept) in
-      subst (λ (y : YesValue). IsAccepted (plain kind m) (claimed (yes_claim y))) (sym true.1)
-      (yes_law (plain kind m) (claimed (yes_claim (record { sides = side ∷ []; added = no_added }))) (record { sides = side ∷ []; added = no_added }) refl refl refl solved (adds_true kind taken m side))
+      subst (λ n. HasSide value n (IsSolvedSide (plain kind m) n)) one first in
+      yes_law (plain kind m) (claimed (yes_claim value)) value refl refl refl solved (adds_true m side value kind is_plain true.1 true.3)
   accepted (no_claim side lines) true = no_law (plain kind m) (claimed (no_claim side lines)) side lines refl refl refl true.1
 
   -- a true verdict on a matrix within the limits

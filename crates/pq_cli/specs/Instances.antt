@@ -1,13 +1,14 @@
 -- The instance in the bytes of a file.
 use Rattle.std.specs.Prelude.{ℕ, List, ⊤}
 use Rattle.row_model.specs.declared.kind.Kind.{Kind}
-use Rattle.row_model.specs.declared.kind.Kind.TheVariants.{Matrix, Rows, Table}
+use Rattle.row_model.specs.declared.kind.Kind.TheVariants.{Matrix, Rows, Table, Clones}
 use Rattle.row_model.specs.declared.refusal.Read.{Read}
 use Rattle.row_model.specs.declared.refusal.Read.TheVariants as read
 use Rattle.row_model.specs.declared.code.TheConstants.{LIMIT}
 use Rattle.matrix_read.specs.Dense.{dense}
 use Rattle.matrix_read.specs.Sparse.{sparse}
 use Rattle.matrix_read.specs.Table.{table}
+use Rattle.matrix_read.specs.Clones.{clones}
 use Rattle.verdict_check.specs.Instance.{InstanceValue, plain, IsInstance}
 use Rattle.verdict_check.specs.Value.{instance_value}
 use Rattle.verdict_check.specs.declared.instance.Instance.{Instance}
@@ -27,6 +28,7 @@ abbrev pub instance_of : Kind → List ℕ → Read InstanceValue
 instance_of Matrix bytes = map_read (plain Matrix) (dense bytes)
 instance_of Rows bytes = map_read (plain Rows) (sparse bytes)
 instance_of Table bytes = map_read (plain Table) (table bytes)
+instance_of Clones bytes = map_read (plain Clones) (clones bytes)
 instance_of kind bytes = read.Refused (record { code = LIMIT; line = 0 })
 
 -- an instance that verdicts are judged of: it is within the limits of files

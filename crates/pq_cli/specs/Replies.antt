@@ -1,15 +1,19 @@
 -- What a command replies for the bytes of its files.
 use Rattle.std.specs.Prelude.{◌≡◌, ◌↔◌, ℕ, List, [], ◌∷◌, Option, Some, None}
+use Rattle.row_model.specs.declared.kind.Kind.{Kind}
+use Rattle.row_model.specs.declared.kind.Kind.TheVariants.{Clones}
 use Rattle.row_model.specs.declared.refusal.Refusal.{Refusal}
 use Rattle.row_model.specs.declared.refusal.Read.{Read}
 use Rattle.row_model.specs.declared.refusal.Read.TheVariants as read
 use Rattle.row_model.specs.Rows.{RowList}
 use Rattle.row_model.specs.Cycles.{IsOddCycle}
 use Rattle.column_order.specs.Orders.{IsValidOrder, HasValidOrder}
+use Rattle.clone_map.specs.Places.{ArePlaces}
+use Rattle.clone_map.specs.Contigs.{AreContigs}
 use Rattle.pq_tree.specs.Outline.{IsFrontier, leaves}
 use Rattle.pq_tree.specs.Proper.{IsProper}
 use Rattle.pq_tree.specs.Canonical.{IsCanonical}
-use Rattle.verdict_text.specs.Verdict.{SideValue, no_added, Claim, yes_claim, no_claim, VerdictValue}
+use Rattle.verdict_text.specs.Verdict.{SideValue, AddedValue, Claim, yes_claim, no_claim, VerdictValue}
 use Rattle.verdict_text.specs.Text.{verdict_text}
 use Rattle.verdict_check.specs.Instance.{InstanceValue, instance_kind, instance_columns, derived_matrix}
 use Rattle.pq_cli.specs.Words.{Command, Solve, Check}
@@ -36,17 +40,23 @@ pub record ShowsOrders (m : RowList) (side : SideValue) : Type 0 where
   pub leaves : side.order ≡ leaves side.tree
   pub order : IsValidOrder m.columns m.rows side.order
 
--- What is claimed is true of the matrix. Yes: one side, which shows the valid orders, and nothing added. No: side 1 has none, as an odd cycle
--- of its incompatibility graph shows.
-abbrev pub IsTrueClaim : RowList → Claim → Type 0
-IsTrueClaim m (yes_claim value) = (side : SideValue) × (value ≡ record { sides = side ∷ []; added = no_added }) × ShowsOrders m side
-IsTrueClaim m (no_claim side lines) = (side ≡ 1) × IsOddCycle m.columns m.rows lines × (HasValidOrder m.columns m.rows → ⊥)
+-- What the kind adds to a yes with this order is true. Clones add where they stand in the order, and the contigs that they make up, from
+-- left to right; no other kind of matrix adds anything.
+abbrev pub Adds : Kind → RowList → List ℕ → AddedValue → Type 0
+Adds Clones m order added = (added.intervals ≡ []) × ArePlaces order m.rows added.places × AreContigs m.rows order added.contigs
+Adds kind m order added = (added.intervals ≡ []) × (added.places ≡ []) × (added.contigs ≡ [])
+
+-- What is claimed is true of the matrix. Yes: one side, which shows the valid orders, and what the kind adds to its order. No: side 1 has
+-- none, as an odd cycle of its incompatibility graph shows.
+abbrev pub IsTrueClaim : Kind → RowList → Claim → Type 0
+IsTrueClaim kind m (yes_claim value) = (side : SideValue) × (value.sides ≡ side ∷ []) × ShowsOrders m side × Adds kind m side.order value.added
+IsTrueClaim kind m (no_claim side lines) = (side ≡ 1) × IsOddCycle m.columns m.rows lines × (HasValidOrder m.columns m.rows → ⊥)
 
 -- a verdict on an instance is true of it
 pub record IsTrueOf (i : InstanceValue) (v : VerdictValue) : Type 0 where
   pub kind : v.kind ≡ instance_kind i
   pub columns : v.columns ≡ instance_columns i
-  pub claim : IsTrueClaim (derived_matrix i 1) v.claim
+  pub claim : IsTrueClaim (instance_kind i) (derived_matrix i 1) v.claim
 
 -- the status that goes with a claim: 0 for yes, 1 for no
 abbrev pub status_of : Claim → ℕ

@@ -3,7 +3,7 @@ use Rattle.std.specs.Prelude.{ℕ, Bool, List, [], ◌∷◌, ◌&&◌, not, if�
 use Rattle.std.specs.Str.{bytes_eq}
 use Rattle.std.specs.declared.string.String.{String}
 use Rattle.row_model.specs.declared.kind.Kind.{Kind}
-use Rattle.row_model.specs.declared.kind.Kind.TheVariants.{Matrix, Rows, Table}
+use Rattle.row_model.specs.declared.kind.Kind.TheVariants.{Matrix, Rows, Table, Clones}
 use Rattle.verdict_text.specs.Text.{kind_word}
 
 -- what the words ask for
@@ -19,13 +19,14 @@ texts words = map string_bytes words
 
 -- the kinds that commands take
 abbrev pub taken_kinds : List Kind
-taken_kinds = Matrix ∷ Rows ∷ Table ∷ []
+taken_kinds = Matrix ∷ Rows ∷ Table ∷ Clones ∷ []
 
 -- commands take this kind
 abbrev pub IsTaken : Kind → Type 0
 IsTaken Matrix = Unit {0}
 IsTaken Rows = Unit {0}
 IsTaken Table = Unit {0}
+IsTaken Clones = Unit {0}
 IsTaken kind = ⊥
 
 -- the kind of this word, among some

@@ -10,7 +10,7 @@ ghost use Rattle.pq_cli.specs.Runs.{AsksOne};
 ghost use Rattle.pq_cli.specs.Stops.{stop_status, read_status, IsReadStop, Refuses, IsOf};
 
 use crate::NoMemory;
-use matrix_read::{read_dense, read_rows, read_table};
+use matrix_read::{read_clones, read_dense, read_rows, read_table};
 use pq_io::{ChooseError, ReadFail, Shelf, Whole, read_all};
 use row_model::{Kind, MAX_FILE_BYTES, Matrix, Read, Refusal, code};
 use std::alloc::Global;
@@ -98,6 +98,7 @@ fn matrix_in(alloc: Global, kind: Kind, bytes: &[u8]) -> Result<Read<Matrix>, No
         Kind::Matrix => read_dense(alloc, bytes),
         Kind::Rows => read_rows(alloc, bytes),
         Kind::Table => read_table(alloc, bytes),
+        Kind::Clones => read_clones(alloc, bytes),
         _ => unreachable!(),
     }
 }

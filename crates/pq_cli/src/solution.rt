@@ -1,17 +1,17 @@
 // The reply to `solve`.
-ghost use Rattle.std.specs.Prelude.{◌≡◌, ◌⊎◌, ◌<◌, [], ◌∷◌, IfOk};
-ghost use Rattle.pq_tree.specs.Outline.{leaves};
-ghost use Rattle.pq_tree.specs.PqTree.{outline};
-ghost use Rattle.c1p_solve.specs.Answers.{IsAnswer};
-ghost use Rattle.verdict_text.specs.Verdict.{no_added};
+ghost use Rattle.std.specs.Prelude.{◌≡◌, ◌⊎◌, ◌<◌, [], IfOk};
+ghost use Rattle.column_order.specs.Orders.{IsValidOrder};
+ghost use Rattle.c1p_solve.specs.Answers.{IsAnswer, HasAllOrders};
+ghost use Rattle.verdict_text.specs.Verdict.{yes_claim};
 ghost use Rattle.verdict_text.specs.Value.{yes_value, claim_of, verdict_value};
 ghost use Rattle.verdict_check.specs.Instance.{plain};
 ghost use Rattle.verdict_check.specs.Value.{instance_value};
-ghost use Rattle.pq_cli.specs.Replies.{IsTrueOf, IsSolution, status_of};
+ghost use Rattle.pq_cli.specs.Replies.{Adds, IsTrueClaim, IsTrueOf, IsSolution, status_of};
 
 use crate::NoMemory;
 use crate::command::Reply;
 use c1p_solve::{Answered, Solved, answer};
+use clone_map::{Placed, place};
 use incompat_graph::Cycle;
 use pq_tree::PqTree;
 use row_model::{Intervals, Kind, Lines, Matrix, Places, Spans};
@@ -36,7 +36,7 @@ fn matrix_solution(alloc: Global, kind: Kind, m: &Matrix) -> Result<Reply, NoMem
     ensures status { IfOk result (λ reply. (reply.status ≡ 0) ⊎ (reply.status ≡ 1)) }
 {
     let verdict = verdict_on(alloc, kind, m)?;
-    let mut text = Vec::with_capacity(alloc, room(m.columns(), &verdict.part))?;
+    let mut text = Vec::with_capacity(alloc, room(kind, m, &verdict.part))?;
     print(&verdict, &mut text)?;
     Ok(Reply {
         status: status(&verdict.part),
@@ -49,7 +49,7 @@ fn verdict_on(alloc: Global, kind: Kind, m: &Matrix) -> Result<Verdict, NoMemory
     ensures { IfOk result (λ verdict. IsTrueOf (plain kind m.now) (verdict_value verdict)) }
 {
     let part = match solved::<Brand>(alloc, m, Blank::new(1))? {
-        Solved::Yes(tree) => Part::Yes(yes(alloc, tree)?),
+        Solved::Yes(tree) => Part::Yes(yes(alloc, kind, m, tree)?),
         Solved::No(cycle) => Part::No(no(alloc, &cycle)?),
     };
     Ok(Verdict {
@@ -71,18 +71,34 @@ fn solved<L: Ledger>(alloc: Global, m: &Matrix, blank: Blank) -> Result<Solved, 
     Ok(solved)
 }
 
-// A yes with the tree, and its leaves from left to right.
-fn yes(alloc: Global, tree: PqTree) -> Result<YesPart, NoMemory>
-    ensures { IfOk result (λ y. yes_value y ≡ record { sides = record { tree = outline tree; order = leaves (outline tree) } ∷ []; added = no_added }) }
+// A yes with the tree of all orders, its leaves from left to right, and what the kind adds to them.
+fn yes(alloc: Global, kind: Kind, m: &Matrix, tree: PqTree) -> Result<YesPart, NoMemory>
+    requires { HasAllOrders m.now tree }
+    ensures { IfOk result (λ y. IsTrueClaim kind m.now (yes_claim (yes_value y))) }
 {
     let order = tree.frontier(alloc)?;
+    let added = added(alloc, kind, m, &order)?;
     Ok(YesPart::one(
         tree,
         order,
         Intervals::new(alloc),
-        Places::new(alloc),
-        Spans::new(alloc),
+        added.places,
+        added.contigs,
     ))
+}
+
+// What the kind adds to an order: clones their places and their contigs, and every other kind nothing.
+fn added(alloc: Global, kind: Kind, m: &Matrix, order: &[u32]) -> Result<Placed, NoMemory>
+    requires { IsValidOrder m.now.columns m.now.rows order.now }
+    ensures { IfOk result (λ added. Adds kind m.now order.now (record { intervals = []; places = added.places; contigs = added.contigs })) }
+{
+    match kind {
+        Kind::Clones => place(alloc, m, order),
+        _ => Ok(Placed {
+            places: Places::new(alloc),
+            contigs: Spans::new(alloc),
+        }),
+    }
 }
 
 // A no with the lines of the cycle.
@@ -108,11 +124,13 @@ fn status(part: &Part) -> u8
 }
 
 // How many bytes the text has at most, where there are at most 9,999 columns and 99,999 rows. In a yes each column has 12: its number
-// stands in the tree and in the order, after a space or a bracket, and the tree has fewer nodes with brackets than leaves. In a no each
-// line has 20.
-fn room(columns: u32, part: &Part) -> usize {
-    match part {
-        Part::Yes(_) => 96 + 12 * columns as usize,
-        Part::No(no) => 96 + 20 * no.lines.as_slice().len(),
+// stands in the tree and in the order, after a space or a bracket, and the tree has fewer nodes with brackets than leaves. The place of a
+// clone has 22, and a contig, of which there are no more than columns, has 17. In a no each line has 20.
+fn room(kind: Kind, m: &Matrix, part: &Part) -> usize {
+    let columns = m.columns() as usize;
+    match (part, kind) {
+        (Part::Yes(_), Kind::Clones) => 128 + 29 * columns + 22 * m.rows() as usize,
+        (Part::Yes(_), _) => 96 + 12 * columns,
+        (Part::No(no), _) => 96 + 20 * no.lines.as_slice().len(),
     }
 }

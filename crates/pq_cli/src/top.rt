@@ -13,15 +13,16 @@ use std::alloc::Global;
 
 /// Does what the words ask for, and answers the exit status.
 ///
-/// The words are `solve KIND FILE` or `check KIND FILE VERDICT`, where KIND is `matrix` and not both names are `-`. The files are read from
-/// `files` in turn, the reply is written to `out`, and on the statuses 2 to 6 one line is offered to `err`, whose faults change nothing.
+/// The words are `solve KIND FILE` or `check KIND FILE VERDICT`, where KIND is `matrix`, `rows`, `table` or `clones`, and not both names
+/// are `-`. The files are read from `files` in turn, the reply is written to `out`, and on the statuses 2 to 6 one line is offered to `err`,
+/// whose faults change nothing.
 ///
 /// | Status | Meaning |
 /// |---|---|
-/// | 0 | `solve`: the matrix has a valid order; `check`: the verdict is valid |
+/// | 0 | `solve`: the instance has a valid order; `check`: the verdict is valid |
 /// | 1 | `solve`: it has none; `check`: the verdict is invalid |
 /// | 2 | the words are outside the grammar; nothing is read, and nothing is written to `out` |
-/// | 3 | the first file is refused |
+/// | 3 | the file of the instance is refused |
 /// | 4 | a file can't be read |
 /// | 5 | the reply can't be written; some first bytes of it were |
 /// | 6 | memory is refused |

@@ -61,6 +61,7 @@ fn kind_of(word: &str) -> Option<Kind>
         "matrix" => Some(Kind::Matrix),
         "rows" => Some(Kind::Rows),
         "table" => Some(Kind::Table),
+        "clones" => Some(Kind::Clones),
         _ => None,
     }
 }

@@ -1,0 +1,151 @@
+-- What a kind adds to a yes is within the grammar, its text is short, and the judge finds it true.
+use Rattle.std.proofs.Common.{◌≡◌, ℕ, ◌+◌, ◌*◌, ◌≤◌, List, [], ◌∷◌, ◌++◌, length, codes, sym, subst, arith}
+use Rattle.std.specs.Prelude.{flat_map, slice_get, IsSomeAnd}
+use Rattle.std.specs.List.{AllByRecursion}
+use Rattle.std.specs.Fmt.{decimal}
+use Rattle.std.proofs.lemmas.List.{length-append}
+use Rattle.std.proofs.lemmas.Slice.Zip.{AllZip-long}
+use Rattle.row_model.specs.declared.kind.Kind.{Kind}
+use Rattle.row_model.specs.declared.kind.Kind.TheVariants.{Matrix, Rows, Table, Clones}
+use Rattle.row_model.specs.declared.lists.Place.{Place}
+use Rattle.row_model.specs.declared.lists.Place.TheVariants.{Nowhere, At}
+use Rattle.row_model.specs.declared.lists.Span.{Span}
+use Rattle.row_model.specs.Rows.{RowList}
+use Rattle.clone_map.specs.Places.{IsPlaceOf, ArePlaces}
+use Rattle.clone_map.specs.Contigs.{Cover, AreContigs}
+use Rattle.clone_map.proofs.RunLaws.{cover_le}
+use Rattle.verdict_text.specs.Verdict.{SideValue, AddedValue, YesValue}
+use Rattle.verdict_text.specs.Numbered.{numbered}
+use Rattle.verdict_text.specs.Grammar.{IsPlace, IsSpan, HasAdded}
+use Rattle.verdict_text.specs.Text.{number_word, ends_text, place_text, place_line, contig_line, places_text, contigs_text, added_text}
+use Rattle.verdict_check.specs.Instance.{plain, IsPlainKind}
+use Rattle.verdict_check.specs.Truth.{IsTrueAddedTo, IsTrueAdded}
+use Rattle.pq_cli.specs.Replies.{Adds}
+use Rattle.pq_cli.proofs.PlainKinds.{plain_cases}
+use Rattle.pq_cli.proofs.Lengths.{IsColumn, four_digits, five_digits}
+
+-- a place and a span within the positions of the greatest matrix
+abbrev IsNearPlace : Place → Type 0
+IsNearPlace Nowhere = Unit {0}
+IsNearPlace (At first last) = IsColumn first × IsColumn last
+
+abbrev IsNearSpan : Span → Type 0
+IsNearSpan span = IsColumn span.first × IsColumn span.last
+
+near_place : (o clone : List ℕ) (place : Place) → length o ≤ 1024 → IsPlaceOf o clone place → IsNearPlace place
+near_place o clone Nowhere le h = tt
+near_place o clone (At first last) le h = (omega (arith, le, h.at_first.to), omega (arith, le, h.at_last.to))
+
+near_places : (o : List ℕ) (clones : List (List ℕ)) (places : List Place) → length o ≤ 1024 → ArePlaces o clones places → AllByRecursion IsNearPlace places
+near_places o [] [] le h = tt
+near_places o [] (place ∷ places) le h = absurd h
+near_places o (clone ∷ clones) [] le h = absurd h
+near_places o (clone ∷ clones) (place ∷ places) le h = (near_place o clone place le h.0, near_places o clones places le h.1)
+
+near_spans : (before end : ℕ) (spans : List Span) → end ≤ 1024 → Cover before end spans → AllByRecursion IsNearSpan spans
+near_spans before end [] le h = tt
+near_spans before end (span ∷ spans) le h =
+    let last : span.last ≤ end = cover_le span.last end spans h.2 in
+    ((omega (arith, h.1, last), omega (arith, last)), near_spans span.last end spans le h.2)
+
+-- spans are no more than the positions
+few_spans : (before end : ℕ) (spans : List Span) → Cover before end spans → before + length spans ≤ end
+few_spans before end [] h = omega (arith, h)
+few_spans before end (span ∷ spans) h = omega (arith, h.0, h.1, few_spans span.last end spans h.2)
+
+-- within the grammar
+place_fits : (place : Place) → IsNearPlace place → IsPlace place
+place_fits Nowhere h = tt
+place_fits (At first last) h = (omega (arith, h.0), omega (arith, h.1))
+
+places_fit : (places : List Place) → AllByRecursion IsNearPlace places → AllByRecursion IsPlace places
+places_fit [] h = tt
+places_fit (place ∷ places) h = (place_fits place h.0, places_fit places h.1)
+
+spans_fit : (spans : List Span) → AllByRecursion IsNearSpan spans → AllByRecursion IsSpan spans
+spans_fit [] h = tt
+spans_fit (span ∷ spans) h = ((omega (arith, h.0.0), omega (arith, h.0.1)), spans_fit spans h.1)
+
+-- the line of a place has at most 22 bytes, that of a contig at most 17
+ends_length : (first last : ℕ) → IsColumn first → IsColumn last → length (ends_text first last) ≤ 11
+ends_length first last h k =
+    omega (arith, four_digits first h, four_digits last k, length-append (number_word first) (number_word last ++ 10 ∷ []), length-append (number_word last) (10 ∷ []))
+
+place_length : (place : Place) → IsNearPlace place → length (place_text place) ≤ 11
+place_length Nowhere h = omega arith
+place_length (At first last) h = ends_length first last h.0 h.1
+
+places_length : (i : ℕ) (places : List Place) → i + length places ≤ 65537 → AllByRecursion IsNearPlace places → length (numbered place_line i places) ≤ 22 * length places
+places_length i [] le h = omega arith
+places_length i (place ∷ places) le h =
+    omega (
+      arith,
+      five_digits i (omega (arith, le)),
+      place_length place h.0,
+      places_length (i + 1) places (omega (arith, le)) h.1,
+      length-append (place_line i place) (numbered place_line (i + 1) places),
+      length-append (codes "place ") (decimal i ++ place_text place),
+      length-append (decimal i) (place_text place),
+    )
+
+contigs_length : (spans : List Span) → AllByRecursion IsNearSpan spans → length (flat_map contig_line spans) ≤ 17 * length spans
+contigs_length [] h = omega arith
+contigs_length (span ∷ spans) h =
+    omega (
+      arith,
+      ends_length span.first span.last h.0.0 h.0.1,
+      contigs_length spans h.1,
+      length-append (contig_line span) (flat_map contig_line spans),
+      length-append (codes "contig") (ends_text span.first span.last),
+    )
+
+-- the places and the contigs of clones in an order of the greatest matrix at most
+module _ (m : RowList) (o : List ℕ) (few_rows : length m.rows ≤ 65536) (short : length o ≤ 1024) (added : AddedValue) (adds : Adds Clones m o added) where
+  near : AllByRecursion IsNearPlace added.places
+  near = near_places o m.rows added.places short adds.1
+
+  near_contigs : AllByRecursion IsNearSpan added.contigs
+  near_contigs = near_spans 0 (length o) added.contigs short adds.2.cover
+
+  few_places : length added.places ≤ 65536
+  few_places = omega (arith, few_rows, AllZip-long (IsPlaceOf o) m.rows added.places adds.1)
+
+  few_contigs : length added.contigs ≤ 1024
+  few_contigs = omega (arith, short, few_spans 0 (length o) added.contigs adds.2.cover)
+
+  clones_fit : (columns : List ℕ) → HasAdded Clones columns added
+  clones_fit columns = (adds.0, omega (arith, few_places), places_fit added.places near, omega (arith, few_contigs), spans_fit added.contigs near_contigs)
+
+  clones_short : length (added_text Clones added) ≤ 1500000
+  clones_short =
+      let places = 10 ∷ numbered place_line 1 added.places in
+      let contigs = 10 ∷ flat_map contig_line added.contigs in
+      omega (
+        arith,
+        few_places,
+        few_contigs,
+        five_digits (length added.places) few_places,
+        four_digits (length added.contigs) few_contigs,
+        places_length 1 added.places (omega (arith, few_places)) near,
+        contigs_length added.contigs near_contigs,
+        length-append (places_text added.places) (contigs_text added.contigs),
+        length-append (codes "places ") (decimal (length added.places) ++ places),
+        length-append (decimal (length added.places)) places,
+        length-append (codes "contigs ") (decimal (length added.contigs) ++ contigs),
+        length-append (decimal (length added.contigs)) contigs,
+      )
+
+-- the same of each kind of matrix
+module _ (m : RowList) (o : List ℕ) (few_rows : length m.rows ≤ 65536) (short : length o ≤ 1024) (added : AddedValue) where
+  pub adds_fit : (kind : Kind) (columns : List ℕ) → IsPlainKind kind → Adds kind m o added → HasAdded kind columns added
+  adds_fit kind columns h = plain_cases (λ k. Adds k m o added → HasAdded k columns added) (λ a. a) (λ a. a) (λ a. a) (λ a. clones_fit m o few_rows short added a columns) kind h
+
+  pub adds_short : (kind : Kind) → IsPlainKind kind → Adds kind m o added → length (added_text kind added) ≤ 1500000
+  adds_short kind h =
+      plain_cases (λ k. Adds k m o added → length (added_text k added) ≤ 1500000) (λ a. omega arith) (λ a. omega arith) (λ a. omega arith) (clones_short m o few_rows short added) kind h
+
+-- what is added is true of the side
+pub adds_true : (m : RowList) (side : SideValue) (value : YesValue) (kind : Kind) → IsPlainKind kind → value.sides ≡ side ∷ [] → Adds kind m side.order value.added → IsTrueAdded (plain kind m) value
+adds_true m side value kind h is adds =
+    subst (λ sides. IsSomeAnd (slice_get sides 0) (IsTrueAddedTo kind m.rows value)) (sym is)
+    (plain_cases (λ k. Adds k m side.order value.added → IsTrueAddedTo k m.rows value side) (λ a. tt) (λ a. tt) (λ a. tt) (λ a. (a.1, a.2)) kind h adds)
