@@ -13,6 +13,8 @@ mod lists;
 mod numbers;
 mod read_lists;
 mod table;
+#[cfg(test)]
+mod tests;
 
 pub use bigraph::Bigraph;
 pub use distances::Distances;
