@@ -5,6 +5,7 @@
 #![tactic(auto)]
 
 mod bigraph;
+mod distance_files;
 mod distances;
 mod edges;
 mod graph;
@@ -17,6 +18,7 @@ mod table;
 mod tests;
 
 pub use bigraph::Bigraph;
+pub use distance_files::read_distances;
 pub use distances::Distances;
 pub use graph::Graph;
 pub use graph_files::{read_bigraph, read_graph};

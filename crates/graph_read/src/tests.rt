@@ -100,3 +100,34 @@ fn distances_are_kept_row_by_row(rt: HostRuntime) -> Result<(), Fail> {
     assert_eq!(rt; distances.at(2, 2), 0);
     Ok(())
 }
+
+#[test]
+fn three_items_on_a_line_are_read(rt: HostRuntime) -> Result<(), Fail> {
+    let Read::Ok(distances) = read_distances(rt.alloc(), b"3\n0 1 2\n1 0 1\n2 1 0\n")? else {
+        panic!(rt; "refused");
+    };
+    assert_eq!(rt; distances.items(), 3);
+    assert_eq!(rt; distances.at(1, 3), 2);
+    assert_eq!(rt; distances.at(3, 2), 1);
+    Ok(())
+}
+
+#[test]
+fn the_first_refusal_of_distances_counts(rt: HostRuntime) -> Result<(), Fail> {
+    let cases: [(&[u8], u8, u32); 7] = [
+        (b"3\n0 1 2\n1 0 1\n2 2 0\n", 6, 4),
+        (b"257\n", 7, 1),
+        (b"2\n0 1\n", 3, 0),
+        (b"1\n0\n\n0\n", 3, 4),
+        (b"2\n0 18446744073709551616 x\n", 4, 2),
+        (b"2\n0 x\n", 2, 2),
+        (b"2\n1\n", 3, 2),
+    ];
+    for (text, code, line) in cases {
+        match read_distances(rt.alloc(), text)? {
+            Read::Ok(_) => panic!(rt; "distances in place of {code}, {line}"),
+            Read::Refused(refusal) => assert_eq!(rt; refusal, Refusal { code, line }),
+        }
+    }
+    Ok(())
+}
