@@ -3,3 +3,4 @@ pub mod TableLemmas
 pub mod ItemLemmas
 pub mod EdgeLemmas
 pub mod FileLemmas
+pub mod DistanceLemmas

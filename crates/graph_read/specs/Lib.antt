@@ -6,3 +6,4 @@ pub mod Numbers
 pub mod Edges
 pub mod Tables
 pub mod GraphFiles
+pub mod DistanceFiles

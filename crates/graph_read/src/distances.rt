@@ -41,6 +41,17 @@ impl Distances {
         })
     }
 
+    // The table of `n` items with these values.
+    pub(crate) fn of_values(n: u32, values: Vec<u64>) -> Self
+        requires { IsDistances (record { items = n; values = values.items }) }
+        ensures { result ≡ record { items = n; values = values.items } }
+    {
+        Distances {
+            item_count: n,
+            values,
+        }
+    }
+
     /// The number of items.
     pub fn items(&self) -> u32
         ensures items { result ≡ self.now.items }

@@ -72,7 +72,8 @@ pub fn read_graph(alloc: Global, bytes: &[u8]) -> Result<Read<Graph>, AllocError
     }
 }
 
-fn refusal(code: u8, line: u32) -> Refusal
+/// The refusal of this code at this line.
+pub fn refusal(code: u8, line: u32) -> Refusal
     ensures { result ≡ record { code = code; line = line } }
 {
     Refusal { code, line }

@@ -5,6 +5,7 @@
 #![tactic(auto)]
 
 mod bigraph;
+mod distance_files;
 mod distances;
 mod edges;
 mod graph;
@@ -13,8 +14,11 @@ mod lists;
 mod numbers;
 mod read_lists;
 mod table;
+#[cfg(test)]
+mod tests;
 
 pub use bigraph::Bigraph;
+pub use distance_files::read_distances;
 pub use distances::Distances;
 pub use graph::Graph;
 pub use graph_files::{read_bigraph, read_graph};
