@@ -1,0 +1,18 @@
+// The neighbourhoods of the left side.
+ghost use Rattle.std.specs.Prelude.{◌≡◌, IfOk};
+ghost use Rattle.convex_bipartite.specs.Sides.{left_rows};
+
+use graph_read::Bigraph;
+use row_model::Matrix;
+use std::alloc::{AllocError, Global};
+
+/// The matrix with a column for each y, in which row x is the list of the ys that x has an edge to.
+pub fn rows_of(alloc: Global, g: &Bigraph) -> Result<Matrix, AllocError>
+    ensures { IfOk result (λ m. m ≡ left_rows g.now) }
+{
+    let mut rows = Matrix::new(alloc, g.right())?;
+    for k in 0..g.left() {
+        rows.push_row(g.neighbours(k + 1))?;
+    }
+    Ok(rows)
+}
