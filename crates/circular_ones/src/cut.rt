@@ -17,7 +17,8 @@ pub fn cut_rows(alloc: Global, m: &Matrix) -> Result<Matrix, AllocError>
     let mut outside = Vec::new(alloc);
     for k in 0..m.rows() {
         let row = m.row(k + 1);
-        if m.has(k + 1, 1) {
+        let is_cut = m.has(k + 1, 1);
+        if is_cut {
             list_outside(&mut outside, m.columns(), row)?;
             rows.push_row(&outside)?;
         } else {
