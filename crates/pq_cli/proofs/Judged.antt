@@ -7,6 +7,8 @@ use Rattle.verdict_text.specs.Grammar.{IsVerdict}
 use Rattle.verdict_text.specs.Text.{verdict_text}
 use Rattle.verdict_text.specs.Reading.{verdict_of}
 use Rattle.verdict_text.proofs.VerdictLaws.{verdict_again}
+use Rattle.row_model.specs.declared.kind.Kind.{Kind}
+use Rattle.row_model.specs.declared.refusal.Read.TheVariants as read
 use Rattle.verdict_check.specs.Instance.{InstanceValue}
 use Rattle.verdict_check.specs.Accepted.{Passes, IsAccepted, FailsFirst}
 use Rattle.verdict_check.specs.declared.outcome.Reason.{Reason}
@@ -14,7 +16,8 @@ use Rattle.verdict_check.proofs.First.{all_parts}
 use Rattle.verdict_check.proofs.True.{true_law}
 use Rattle.pq_cli.specs.Judgements.{HasVerdict, IsJudgement, IsJudging, judgement_status, judgement_text}
 use Rattle.pq_cli.specs.Replies.{Replies, IsTrueOf, IsSolution}
-use Rattle.pq_cli.specs.Laws.{CheckLaw, SolvedLaw}
+use Rattle.pq_cli.specs.Instances.{instance_of}
+use Rattle.pq_cli.specs.Laws.{CheckLaw, StatusLaw, SolvedLaw, AgreedLaw}
 use Rattle.pq_cli.specs.declared.judgement.Judgement.{Judgement}
 use Rattle.pq_cli.specs.declared.judgement.Judgement.TheVariants as judgement
 use Rattle.pq_cli.proofs.Reading.{same_read, instance_read}
@@ -53,15 +56,32 @@ accepted_is_valid i bytes (judgement.Fails r) has h =
     let same : has.1.0 ≡ h.1.0 = one_text has.1.0 h.1.0 bytes has.1.1 h.1.1 has.1.2 h.1.2 in
     absurd (accepted_fails_none i h.1.0 r (subst (IsAccepted i) same has.1.3) h.1.3)
 
+pub status_law : StatusLaw
+unfolding Replies
+status_law kind file verdict bytes given text status i e reply =
+    let same : reply.0 ≡ i = same_read kind bytes i reply.0 e reply.1 in
+    let judging : IsJudging i given status text = subst (λ j. IsJudging j given status text) same reply.2 in (
+      λ zero. valid_at_zero i given judging.judgement judging.holds (sym zero ∙ judging.status_is),
+      λ has. judging.status_is ∙ (accepted_is_valid i given judging.judgement has judging.holds).0,
+    )
+
+-- a solution is accepted
+accepted_solution : (kind : Kind) (bytes given : List ℕ) (status : ℕ) (i : InstanceValue) → instance_of kind bytes ≡ read.Ok i → IsSolution i status given → HasVerdict given (IsAccepted i)
+accepted_solution kind bytes given status i e solution =
+    let read_as = instance_read kind bytes i e in
+    let true = subst (λ j. HasVerdict (verdict_text solution.verdict) (IsAccepted j)) (sym read_as.is) (solved_accepted kind read_as.matrix read_as.plain_kind read_as.within solution.verdict (subst (λ (j : InstanceValue). IsTrueOf j solution.verdict) read_as.is solution.holds)) in
+    subst (λ text. HasVerdict text (IsAccepted i)) (sym solution.text_is) true
+
 pub solved_law : SolvedLaw
 unfolding Replies
-solved_law kind file other verdict bytes given text status found solved checked =
+solved_law kind file bytes given status i e solved =
+    subst (λ j. HasVerdict given (IsAccepted j)) (same_read kind bytes i solved.0 e solved.1) (accepted_solution kind bytes given status solved.0 solved.1 solved.2)
+
+pub agreed_law : AgreedLaw
+unfolding Replies
+agreed_law kind file other verdict bytes given text status found solved checked =
     let i = solved.0 in
-    let solution : IsSolution i status given = solved.2 in
-    let read_as = instance_read kind bytes i solved.1 in
-    let true = subst (λ j. HasVerdict (verdict_text solution.verdict) (IsAccepted j)) (sym read_as.is) (solved_accepted kind read_as.matrix read_as.plain_kind read_as.within solution.verdict (subst (λ (j : InstanceValue). IsTrueOf j solution.verdict) read_as.is solution.holds)) in
-    let accepted : HasVerdict given (IsAccepted i) = subst (λ text. HasVerdict text (IsAccepted i)) (sym solution.text_is) true in
     let same : checked.0 ≡ i = same_read kind bytes i checked.0 solved.1 checked.1 in
     let judging : IsJudging i given found text = subst (λ j. IsJudging j given found text) same checked.2 in
-    let valid = accepted_is_valid i given judging.judgement accepted judging.holds in
+    let valid = accepted_is_valid i given judging.judgement (accepted_solution kind bytes given status i solved.1 solved.2) judging.holds in
     (judging.status_is ∙ valid.0, judging.text_is ∙ ap (λ text. text ++ codes "\n") valid.1)
