@@ -1,6 +1,6 @@
 #!/usr/bin/env python3
-"""Runs the built program over real files, streams and devices, and compares bytes and status; then runs it over every small
-matrix, compares the answer with a plain program that tries all orders, and checks the verdict.
+"""Runs the built program over real files, streams and devices, and compares bytes and status; has it check what it solved; then
+runs it over every small matrix, compares the answer with a plain program that tries all orders, and checks the verdict.
 
 Usage: end_to_end/check.py            after `rt ci` or `./pq`, which leave the program in crates/pq/out/pq
 The last line is `N passed, N failed`; the status is 0 where nothing failed.
@@ -14,6 +14,7 @@ import tempfile
 
 from all_orders import dense, matrices, problem as wrong_answer
 from cases import CASES, REFUTED
+from kinds import KIND_CASES, SOLVED
 
 HOME = os.path.dirname(os.path.dirname(os.path.abspath(__file__)))
 PROGRAM = os.path.join(HOME, "crates", "pq", "out", "pq")
@@ -113,14 +114,14 @@ def script_runs(folder, program):
             or difference("errors", b"pq: read fault\n", refused.stderr))
 
 
-def not_believed(columns, rows, folder, program):
-    """Whether `check` finds what `solve` wrote on a matrix other than valid, and how; None where it is valid."""
-    matrix, verdict = os.path.join(folder, "matrix"), os.path.join(folder, "verdict")
-    with open(matrix, "wb") as file:
-        file.write(dense(columns, rows).encode())
+def not_believed(kind, content, folder, program):
+    """Whether `check` finds what `solve` wrote on a file other than valid, and how; None where it is valid."""
+    instance, verdict = os.path.join(folder, "instance"), os.path.join(folder, "verdict")
+    with open(instance, "wb") as file:
+        file.write(content)
     with open(verdict, "wb") as file:
-        solved = subprocess.run([program, "solve", "matrix", matrix], stdout=file, timeout=SECONDS, check=False)
-    done = subprocess.run([program, "check", "matrix", matrix, verdict], capture_output=True, timeout=SECONDS, check=False)
+        solved = subprocess.run([program, "solve", kind, instance], stdout=file, timeout=SECONDS, check=False)
+    done = subprocess.run([program, "check", kind, instance, verdict], capture_output=True, timeout=SECONDS, check=False)
     return (difference("status of solve", True, solved.returncode in (0, 1))
             or difference("status", 0, done.returncode) or difference("output", b"valid\n", done.stdout))
 
@@ -137,7 +138,7 @@ def main():
         os.chmod(top, 0o755)
         program = shutil.copy(PROGRAM, os.path.join(top, "pq"))
         os.chmod(program, 0o755)
-        tried = [(case["name"], run_case, case) for case in CASES] + [(s.__name__, s, None) for s in STREAMS]
+        tried = [(case["name"], run_case, case) for case in CASES + KIND_CASES] + [(s.__name__, s, None) for s in STREAMS]
         for number, (name, check, case) in enumerate(tried):
             folder = os.path.join(top, str(number))
             os.mkdir(folder)
@@ -146,11 +147,13 @@ def main():
             except subprocess.TimeoutExpired:
                 problem = f"no end within {SECONDS} seconds"
             report.tell(name, problem)
+        for name, kind, content in SOLVED:
+            report.tell(f"check of {kind}: {name}", not_believed(kind, content, top, program))
         small = [(f"all orders of {columns} columns, rows {[sorted(row) for row in rows]}", columns, rows)
                  for columns in range(1, MOST_COLUMNS + 1) for rows in matrices(columns)]
         for name, columns, rows in REFUTED + small:
             report.tell(name, wrong_answer(columns, rows))
-            report.tell(f"check of {name}", not_believed(columns, rows, top, program))
+            report.tell(f"check of {name}", not_believed("matrix", dense(columns, rows).encode(), top, program))
     print(f"{report.passed} passed, {report.failed} failed")
     return 1 if report.failed else 0
 

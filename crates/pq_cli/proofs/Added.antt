@@ -6,13 +6,13 @@ use Rattle.std.specs.Fmt.{decimal}
 use Rattle.std.proofs.lemmas.List.{length-append}
 use Rattle.std.proofs.lemmas.Slice.Zip.{AllZip-long}
 use Rattle.row_model.specs.declared.kind.Kind.{Kind}
-use Rattle.row_model.specs.declared.kind.Kind.TheVariants.{Matrix, Rows, Table, Clones}
+use Rattle.row_model.specs.declared.kind.Kind.TheVariants.{Clones}
 use Rattle.row_model.specs.declared.lists.Place.{Place}
 use Rattle.row_model.specs.declared.lists.Place.TheVariants.{Nowhere, At}
 use Rattle.row_model.specs.declared.lists.Span.{Span}
 use Rattle.row_model.specs.Rows.{RowList}
 use Rattle.clone_map.specs.Places.{IsPlaceOf, ArePlaces}
-use Rattle.clone_map.specs.Contigs.{Cover, AreContigs}
+use Rattle.clone_map.specs.Contigs.{Cover}
 use Rattle.clone_map.proofs.RunLaws.{cover_le}
 use Rattle.verdict_text.specs.Verdict.{SideValue, AddedValue, YesValue}
 use Rattle.verdict_text.specs.Numbered.{numbered}

@@ -1,6 +1,5 @@
 pub mod Added
 pub mod Checks
-pub mod Claims
 pub mod Judged
 pub mod Lengths
 pub mod Lines

@@ -1,5 +1,5 @@
 -- The status of a reply, and whether there is a valid order.
-use Rattle.std.proofs.Common.{◌≡◌, ◌↔◌, ℕ, List, subst, arith}
+use Rattle.std.proofs.Common.{◌≡◌, ◌↔◌, ℕ, subst, arith}
 use Rattle.column_order.specs.Orders.{HasValidOrder}
 use Rattle.row_model.specs.declared.kind.Kind.{Kind}
 use Rattle.row_model.specs.Rows.{RowList}

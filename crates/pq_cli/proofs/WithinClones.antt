@@ -1,5 +1,5 @@
 -- A matrix that is read from clones is within the limits.
-use Rattle.std.proofs.Common.{◌≡◌, ℕ, ◌≤◌, ◌==◌, Bool, true, false, nat_lt, if◌then◌else◌, List, length, codes, Option, Some, None, sym, refl, arith}
+use Rattle.std.proofs.Common.{◌≡◌, ℕ, ◌==◌, Bool, true, false, nat_lt, if◌then◌else◌, List, length, codes, Option, Some, None, sym, refl, arith}
 use Rattle.std.proofs.lemmas.Bool.{ltb-false}
 use Rattle.serde_json.specs.Data.{Data, Items, no_items, item}
 use Rattle.row_model.specs.declared.refusal.Read.{Read}

@@ -1,5 +1,5 @@
 -- A matrix that is read from lines is within the limits.
-use Rattle.std.proofs.Common.{◌≡◌, ℕ, ◌+◌, ◌<◌, ◌≤◌, ◌==◌, Bool, true, false, nat_le, nat_lt, if◌then◌else◌, List, [], ◌∷◌, length, map, Option, Some, None, sym, refl, subst, arith}
+use Rattle.std.proofs.Common.{◌≡◌, ℕ, ◌+◌, ◌<◌, ◌≤◌, ◌==◌, Bool, true, false, nat_le, nat_lt, if◌then◌else◌, List, [], ◌∷◌, map, Option, Some, None, sym, refl, subst, arith}
 use Rattle.std.specs.Prelude.{Result, Ok, Err}
 use Rattle.std.specs.List.{list_any}
 use Rattle.std.proofs.lemmas.Bool.{ltb-false}
@@ -12,7 +12,7 @@ use Rattle.matrix_read.specs.Lines.{NumberedLine, is_blank, lines_of, filled_lin
 use Rattle.matrix_read.specs.Words.{words_of, only_word, numeral_of}
 use Rattle.matrix_read.specs.Rows.{numbered_lines, first_refusal}
 use Rattle.matrix_read.specs.Dense.{dense, read_lines, rows_of, row_of, row_code, width_of, is_foreign}
-use Rattle.matrix_read.specs.Sparse.{sparse, sparse_lines, rows_behind, first_width, width_of_numeral, named_rows, line_code, words_code, row_named}
+use Rattle.matrix_read.specs.Sparse.{sparse, sparse_lines, rows_behind, first_width, width_of_numeral, line_code, words_code, row_named}
 use Rattle.matrix_read.specs.declared.words.Numeral.{Numeral}
 use Rattle.matrix_read.specs.declared.words.Numeral.TheVariants.{Value, TooLarge, NotDigits}
 use Rattle.matrix_read.proofs.DenseLemmas.{filled_first, some_digit}

@@ -1,5 +1,5 @@
 -- A matrix that is read from a table is within the limits.
-use Rattle.std.proofs.Common.{◌≡◌, ℕ, ◌+◌, ◌<◌, ◌≤◌, ◌==◌, Bool, true, false, nat_lt, if◌then◌else◌, List, [], ◌∷◌, ◌++◌, length, map, drop, Option, Some, None, refl, arith}
+use Rattle.std.proofs.Common.{◌≡◌, ℕ, ◌+◌, ◌<◌, ◌≤◌, ◌==◌, Bool, true, false, nat_lt, if◌then◌else◌, List, [], ◌∷◌, ◌++◌, length, map, Some, None, refl, arith}
 use Rattle.std.specs.List.{list_any, list_all}
 use Rattle.std.proofs.lemmas.Bool.{ltb-false}
 use Rattle.std.proofs.lemmas.List.{length-map, length-append}
@@ -12,7 +12,7 @@ use Rattle.row_model.specs.Rows.{RowList}
 use Rattle.matrix_read.specs.Names.{has_twice}
 use Rattle.matrix_read.specs.Cells.{trimmed, cells, is_foreign, row_of}
 use Rattle.matrix_read.specs.Rows.{refusal_or}
-use Rattle.matrix_read.specs.Table.{names_of, header_code, record_code, first_refusal, header_read, with_records, with_even_records, read_records, table}
+use Rattle.matrix_read.specs.Table.{names_of, header_code, record_code, first_refusal, header_read, with_records, read_records, table}
 use Rattle.pq_cli.proofs.Within.{IsWithin, inside_read, ok_within, none_first, has_room}
 
 -- a header that is not refused has a column, and no more than there may be
