@@ -1,5 +1,7 @@
 """The files that the benches read, made from a seed."""
 
+import json
+
 FILE_LIMIT = 16_777_216
 
 
@@ -12,6 +14,40 @@ def dense_file(columns, density, rng):
     lines.append(b"0" * (columns - 1))
     text = b"\n".join(lines) + b"\n"
     return text + b" " * (FILE_LIMIT - len(text))
+
+
+def sparse_file(columns, ones, rng):
+    """Rows that name so many random columns each, in no order, up to the limits; the last row names a column past the last."""
+    words = [str(column).encode() for column in range(1, columns + 1)]
+    text = bytearray(f"{columns}\n".encode())
+    for _ in range(65_535):
+        line = b" ".join(rng.sample(words, ones)) + b"\n"
+        if len(text) + len(line) > FILE_LIMIT - 8:
+            break
+        text += line
+    text += f"{columns + 1}\n".encode()
+    return bytes(text)
+
+
+def table_file(columns, cells, rng):
+    """A table of random cells up to the limit of bytes, under a header; the last cell is none that a table may have."""
+    header = b"kind," + b",".join(f"site {place}".encode() for place in range(1, columns + 1)) + b"\n"
+    text = bytearray(header)
+    for number in range(1, 65_536):
+        line = f"kind {number},".encode() + b",".join(rng.choices(cells, k=columns)) + b"\n"
+        if len(text) + len(line) > FILE_LIMIT - len(header):
+            break
+        text += line
+    text += b"kind" + b"," * columns + b"?\n"
+    return bytes(text)
+
+
+def clone_file(probes, named, rng):
+    """65,536 clones that each name so many random probes, as JSON; the last clone names one that is not among the probes."""
+    names = [f"p{place}" for place in range(1, probes + 1)]
+    clones = [{"name": f"k{number}", "probes": rng.sample(names, named)} for number in range(1, 65_536)]
+    clones.append({"name": "last", "probes": ["another"]})
+    return json.dumps({"probes": names, "clones": clones}, separators=(",", ":")).encode()
 
 
 def nested_file(columns, rows, rng):
@@ -35,6 +71,25 @@ def interval_file(columns, rows, rng):
             line[hidden[place]] = 49
         lines.append(bytes(line))
     return b"\n".join(lines) + b"\n"
+
+
+def window_file(columns, rows, width, rng):
+    """Rows that name a run, of at most so many columns, of a hidden order of the columns; and the order."""
+    order = list(range(1, columns + 1))
+    rng.shuffle(order)
+    words = [str(column) for column in order]
+    lines = [str(columns)]
+    for _ in range(rows):
+        start = rng.randrange(columns)
+        lines.append(" ".join(words[start : start + rng.randint(1, width)]))
+    return ("\n".join(lines) + "\n").encode(), order
+
+
+def yes_verdict(kind, order):
+    """The verdict of an order, under a Q-node over its columns: both of its frontiers keep what the order keeps."""
+    words = " ".join(str(column) for column in order)
+    lines = ["pq-verdict 1", f"kind {kind}", f"columns {len(order)}", "answer yes", f"tree [{words}]", f"order {words}", "end", ""]
+    return "\n".join(lines).encode()
 
 
 def every_pair(columns):

@@ -1,20 +1,35 @@
 #!/usr/bin/env python3
 """Measures the built program against plain Rust programs on the same files, and prints ratios of time and peak memory.
 
-Usage: bench/run.py [NAME ..]     after `./pq` has built the program; needs rustc. NAMEs pick benches, default all.
+Usage: bench/run.py [--csv PROGRAM] [--json PROGRAM] [NAME ..]     after `./pq` has built the program; needs rustc.
 
-Inputs are made from a fixed seed in a temporary folder. Both programs run in turn; the figure is the least time of the rounds.
+NAMEs pick benches, default all. PROGRAMs are the yardsticks of `table` and `clones`, which YARDSTICKS.md describes; without them those
+two are passed over.
+
+Inputs are made from a fixed seed in a temporary folder. Both programs run in turn; the figure is the least processor time of the rounds.
 The time of reading and judging alone is that of a file whose last row is refused, so that nothing is solved.
 """
 
+import argparse
 import os
 import random
 import subprocess
 import sys
 import tempfile
-import time
 
-from inputs import cycle_verdict, dense_file, every_pair, interval_file, nested_file, steps_round
+from inputs import (
+    clone_file,
+    cycle_verdict,
+    dense_file,
+    every_pair,
+    interval_file,
+    nested_file,
+    sparse_file,
+    steps_round,
+    table_file,
+    window_file,
+    yes_verdict,
+)
 
 HOME = os.path.dirname(os.path.dirname(os.path.abspath(__file__)))
 PROGRAM = os.path.join(HOME, "crates", "pq", "out", "pq")
@@ -23,15 +38,14 @@ ROUNDS = 7
 
 
 def measure(words):
-    """Prints the seconds and the peak kibibytes of one run, and its status."""
-    start = time.perf_counter()
+    """Prints the processor's seconds and the peak kibibytes of one run, and its status."""
     process = subprocess.Popen(words, stdout=subprocess.DEVNULL, stderr=subprocess.DEVNULL)
     _, status, usage = os.wait4(process.pid, 0)
-    print(time.perf_counter() - start, usage.ru_maxrss, os.waitstatus_to_exitcode(status))
+    print(usage.ru_utime + usage.ru_stime, usage.ru_maxrss, os.waitstatus_to_exitcode(status))
 
 
 def measured(words):
-    """The seconds and the peak kibibytes of one run, and its status.
+    """The processor's seconds and the peak kibibytes of one run, and its status.
 
     A small process of its own starts the run, since the peak of a new process begins at the size of the one that starts it.
     """
@@ -56,13 +70,13 @@ def compiled(name, folder):
     return program
 
 
-def compare(title, files, words, plain, statuses):
-    """One line: both programs on the same files, and their ratio."""
+def compare(title, files, words, yardstick, statuses, name="plain Rust"):
+    """One line: the program and the yardstick, each by its first words, on the same files, and their ratio."""
     size = sum(os.path.getsize(file) for file in files)
     ours, peak = best([PROGRAM] + words + files, statuses[0], ROUNDS)
-    theirs, plain_peak = best([plain] + files, statuses[1], ROUNDS)
-    print(f"{title}: {ours * 1000:.1f} ms, plain Rust {theirs * 1000:.1f} ms, ratio {ours / theirs:.2f}; "
-          f"peak {peak / 1024:.1f} MiB, {peak * 1024 / size:.2f} times the files (plain {plain_peak / 1024:.1f} MiB)")
+    theirs, other_peak = best(yardstick + files, statuses[1], ROUNDS)
+    print(f"{title}, {size / 2**20:.1f} MiB: {ours * 1000:.1f} ms, {name} {theirs * 1000:.1f} ms, ratio {ours / theirs:.2f}; "
+          f"peak {peak / 1024:.1f} MiB, {peak * 1024 / size:.2f} times the files ({name} {other_peak / 1024:.1f} MiB)", flush=True)
 
 
 def whole_call(title, file, status):
@@ -72,22 +86,49 @@ def whole_call(title, file, status):
 
 
 def write(folder, name, content):
+    """A new file in the folder."""
     file = os.path.join(folder, name)
     with open(file, "wb") as stream:
         stream.write(content)
     return file
 
 
-def bench_dense(folder, rng):
+def bench_dense(folder, rng, _yardsticks):
     """Reading and judging a dense file of the greatest length."""
     plain = compiled("dense", folder)
     for columns, density in [(1000, 0.5), (1000, 0.25), (1000, 0.02), (255, 0.5)]:
         file = write(folder, "dense.txt", dense_file(columns, density, rng))
-        title = f"dense, {columns} columns, {density:.0%} ones, 16 MiB"
-        compare(title, [file], ["solve", "matrix"], plain, (3, 3))
+        title = f"dense, {columns} columns, {density:.0%} ones"
+        compare(title, [file], ["solve", "matrix"], [plain], (3, 3))
 
 
-def bench_solve(folder, rng):
+def bench_rows(folder, rng, _yardsticks):
+    """Reading and judging a file of named columns of the greatest length."""
+    plain = compiled("sparse", folder)
+    for ones in [64, 500]:
+        file = write(folder, "sparse.txt", sparse_file(1000, ones, rng))
+        compare(f"rows, {ones} of 1000 columns a row", [file], ["solve", "rows"], [plain], (3, 3))
+
+
+def bench_table(folder, rng, yardsticks):
+    """Reading and judging a table of the greatest length, against going through its records alone."""
+    if not yardsticks.csv:
+        return
+    for what, cells in [("0 and 1", [b"0", b"1"]), ("a cross in 10 %", [b""] * 9 + [b"x"])]:
+        file = write(folder, "table.csv", table_file(1000, cells, rng))
+        compare(f"table, 1000 columns, {what}", [file], ["solve", "table"], [yardsticks.csv], (3, 0), "csv alone")
+
+
+def bench_clones(folder, rng, yardsticks):
+    """Reading and judging a long clone file, against reading its JSON alone."""
+    if not yardsticks.json:
+        return
+    file = write(folder, "clones.json", clone_file(1000, 30, rng))
+    title = "clones, 30 of 1000 probes each"
+    compare(title, [file], ["solve", "clones"], [yardsticks.json], (3, 0), "serde_json alone")
+
+
+def bench_solve(folder, rng, _yardsticks):
     """Whole calls of `solve matrix`."""
     for columns, rows in [(100, 1000), (1000, 1000)]:
         file = write(folder, "nested.txt", nested_file(columns, rows, rng))
@@ -96,34 +137,48 @@ def bench_solve(folder, rng):
         whole_call(f"solve, {rows} runs in a hidden order over {columns} columns", file, 0)
 
 
-def bench_check(folder, rng):
+def bench_check(folder, rng, _yardsticks):
     """Checking a long yes and a long no; the plain program reads the same files into lists and judges nothing."""
     plain = compiled("verdict", folder)
     for columns, rows in [(1000, 1000), (250, 60_000)]:
         file = write(folder, "intervals.txt", interval_file(columns, rows, rng))
-        verdict = write(folder, "yes.txt", subprocess.run([PROGRAM, "solve", "matrix", file], capture_output=True, check=True).stdout)
-        compare(f"check, yes, {rows} rows over {columns} columns", [file, verdict], ["check", "matrix"], plain, (0, 0))
-    columns = 317
-    matrix, number = every_pair(columns)
-    walk = steps_round(columns)
-    file = write(folder, "pairs.txt", matrix)
-    verdict = write(folder, "no.txt", cycle_verdict(columns, walk, number))
-    compare(f"check, no, a cycle of {len(walk)} lines", [file, verdict], ["check", "matrix"], plain, (0, 0))
+        told = subprocess.run([PROGRAM, "solve", "matrix", file], capture_output=True, check=True).stdout
+        verdict = write(folder, "yes.txt", told)
+        compare(f"check, yes, {rows} rows over {columns} columns", [file, verdict], ["check", "matrix"], [plain, "matrix"], (0, 0))
+    matrix, order = window_file(1024, 65_536, 60, rng)
+    files = [write(folder, "windows.txt", matrix), write(folder, "yes.txt", yes_verdict("rows", order))]
+    compare("check, yes, 65536 short rows over 1024 columns", files, ["check", "rows"], [plain, "rows"], (0, 0))
+    matrix, number = every_pair(317)
+    walk = steps_round(317)
+    files = [write(folder, "pairs.txt", matrix), write(folder, "no.txt", cycle_verdict(317, walk, number))]
+    compare(f"check, no, a cycle of {len(walk)} lines", files, ["check", "matrix"], [plain, "matrix"], (0, 0))
 
 
-BENCHES = {"dense": bench_dense, "solve": bench_solve, "check": bench_check}
+BENCHES = {
+    "dense": bench_dense,
+    "rows": bench_rows,
+    "table": bench_table,
+    "clones": bench_clones,
+    "solve": bench_solve,
+    "check": bench_check,
+}
 
 
 def main():
+    """Runs the benches of the command line."""
     if sys.argv[1:2] == ["--measure"]:
         measure(sys.argv[2:])
         return
+    parser = argparse.ArgumentParser(description="Measures the built program against yardsticks.")
+    parser.add_argument("--csv", metavar="PROGRAM", help="goes through the records of a table")
+    parser.add_argument("--json", metavar="PROGRAM", help="reads a file of JSON")
+    parser.add_argument("names", nargs="*", metavar="NAME", help="a bench: " + ", ".join(BENCHES))
+    given = parser.parse_args()
     if not os.access(PROGRAM, os.X_OK):
         sys.exit(f"{PROGRAM} is missing: run `./pq` first")
-    names = sys.argv[1:] or list(BENCHES)
     with tempfile.TemporaryDirectory() as folder:
-        for name in names:
-            BENCHES[name](folder, random.Random(SEED))
+        for name in given.names or BENCHES:
+            BENCHES[name](folder, random.Random(SEED), given)
 
 
 if __name__ == "__main__":

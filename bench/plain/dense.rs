@@ -1,4 +1,5 @@
 // The yardstick: reads a dense file into the same flat rows, in plain Rust, and tells how many rows and ones it has.
+mod read_dense;
 mod rows;
 
 use std::process::ExitCode;
@@ -9,14 +10,5 @@ fn main() -> ExitCode {
     let Ok(bytes) = fs::read(name) else {
         return ExitCode::from(4);
     };
-    match rows::read_dense(&bytes) {
-        Ok(matrix) => {
-            println!("columns {} rows {} ones {}", matrix.columns, matrix.bounds.len() - 1, matrix.members.len());
-            ExitCode::SUCCESS
-        }
-        Err(refusal) => {
-            println!("refused {} {}", refusal.code, refusal.line);
-            ExitCode::from(3)
-        }
-    }
+    rows::tell(read_dense::read_dense(&bytes))
 }

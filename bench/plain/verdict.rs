@@ -1,4 +1,6 @@
-// The yardstick: reads a dense file and a verdict into flat lists, in plain Rust, and judges neither.
+// The yardstick: reads a file of a kind, `matrix` or `rows`, and a verdict into flat lists, in plain Rust, and judges neither.
+mod read_dense;
+mod read_sparse;
 mod rows;
 
 use std::process::ExitCode;
@@ -10,17 +12,20 @@ enum Token {
     Column(u32),
 }
 
+/// Why two pairs are joined.
 enum Why {
     Flip,
     Row(u32),
 }
 
+/// A line of a cycle: a pair, and why it is joined to the next.
 struct Line {
     a: u32,
     b: u32,
     why: Why,
 }
 
+/// What a verdict lists.
 #[derive(Default)]
 struct Verdict {
     tree: Vec<Token>,
@@ -28,6 +33,24 @@ struct Verdict {
     lines: Vec<Line>,
 }
 
+impl Verdict {
+    /// The sum of the columns of the tree.
+    fn columns(&self) -> u64 {
+        self.tree.iter().map(|token| if let Token::Column(c) = token { u64::from(*c) } else { 0 }).sum()
+    }
+
+    /// The number of P-nodes.
+    fn p_nodes(&self) -> usize {
+        self.tree.iter().filter(|token| matches!(token, Token::Bracket(b'('))).count()
+    }
+
+    /// The sum of the numbers of the lines.
+    fn numbers(&self) -> u64 {
+        self.lines.iter().map(|line| u64::from(line.a + line.b) + if let Why::Row(k) = line.why { u64::from(k) } else { 0 }).sum()
+    }
+}
+
+/// What a word of digits writes.
 fn number(word: &[u8]) -> Option<u32> {
     if word.is_empty() {
         return None;
@@ -38,10 +61,12 @@ fn number(word: &[u8]) -> Option<u32> {
     })
 }
 
+/// The numbers between single spaces.
 fn numbers(line: &[u8]) -> Option<Vec<u32>> {
     line.split(|byte| *byte == b' ').map(number).collect()
 }
 
+/// The brackets and columns of a tree.
 fn tokens(line: &[u8]) -> Option<Vec<Token>> {
     let mut tree = Vec::new();
     let mut at = 0;
@@ -62,6 +87,7 @@ fn tokens(line: &[u8]) -> Option<Vec<Token>> {
     Some(tree)
 }
 
+/// A line of a cycle.
 fn cycle_line(line: &[u8]) -> Option<Line> {
     let mut words = line.split(|byte| *byte == b' ');
     let (a, b) = (number(words.next()?)?, number(words.next()?)?);
@@ -72,6 +98,7 @@ fn cycle_line(line: &[u8]) -> Option<Line> {
     Some(Line { a, b, why })
 }
 
+/// The lists of a verdict; none where it is not in the form.
 fn read_verdict(bytes: &[u8]) -> Option<Verdict> {
     let mut verdict = Verdict::default();
     for line in bytes.split(|byte| *byte == b'\n') {
@@ -87,20 +114,18 @@ fn read_verdict(bytes: &[u8]) -> Option<Verdict> {
 }
 
 fn main() -> ExitCode {
-    let mut names = env::args().skip(1);
-    let (Some(file), Some(verdict)) = (names.next(), names.next()) else {
+    let words: Vec<String> = env::args().skip(1).collect();
+    let [kind, file, verdict] = words.as_slice() else {
         return ExitCode::from(2);
     };
     let (Ok(file), Ok(verdict)) = (fs::read(file), fs::read(verdict)) else {
         return ExitCode::from(4);
     };
-    let (Ok(matrix), Some(verdict)) = (rows::read_dense(&file), read_verdict(&verdict)) else {
+    let matrix = if kind == "rows" { read_sparse::read_sparse(&file) } else { read_dense::read_dense(&file) };
+    let Some(verdict) = read_verdict(&verdict) else {
         return ExitCode::from(3);
     };
-    let columns: u64 = verdict.tree.iter().map(|token| if let Token::Column(c) = token { u64::from(*c) } else { 0 }).sum();
-    let brackets = verdict.tree.iter().filter(|token| matches!(token, Token::Bracket(b'('))).count();
-    let reasons: u64 = verdict.lines.iter().map(|line| u64::from(line.a + line.b) + if let Why::Row(k) = line.why { u64::from(k) } else { 0 }).sum();
-    println!("{} rows over {} columns, {} ones", matrix.bounds.len() - 1, matrix.columns, matrix.members.len());
-    println!("tree of {columns} and {brackets}, order of {}, {} lines of {reasons}", verdict.order.len(), verdict.lines.len());
-    ExitCode::SUCCESS
+    println!("tree of {} in all and {} P-nodes", verdict.columns(), verdict.p_nodes());
+    println!("order of {}, {} lines of {}", verdict.order.len(), verdict.lines.len(), verdict.numbers());
+    rows::tell(matrix)
 }
