@@ -5,6 +5,12 @@
 #![tactic(auto)]
 
 mod laws;
+mod radii;
+mod rows;
 
 pub use laws::robinson_law;
+pub use rows::balls;
 pub use std::alloc::AllocError as NoMemory;
+
+#[cfg(test)]
+mod tests;
