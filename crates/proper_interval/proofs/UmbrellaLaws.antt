@@ -95,8 +95,7 @@ module _ (g : GraphValue) (o : List ℕ) (h : IsGraph g) (order : IsOrder g.vert
       let left : Keeps o (closed_row g a) = All-contains (Keeps o) (closed_to g g.vertices) (closed_row g a) kept (closed_has g a g.vertices ra.0 ra.1) in
       let right : Keeps o (closed_row g b) = All-contains (Keeps o) (closed_to g g.vertices) (closed_row g b) kept (closed_has g b g.vertices rb.0 rb.1) in
       let from_a = left i j k ij jk u (closed_self g a a cc) (closed_edge g a b e) in
-      let from_b = right i j k ij jk u (closed_edge g b a (turned a b ra.0 rb.0 e)) (closed_self g b b cc) in
-      (
+      let from_b = right i j k ij jk u (closed_edge g b a (turned a b ra.0 rb.0 e)) (closed_self g b b cc) in (
         elim (closed_cases g a m from_a) [ inl t ↦ t | inr s ↦ absurd (omega (arith, ij, place_is i li, place_is j lj, ap (place o) s)) ],
         elim (closed_cases g b m from_b) [ inl t ↦ turned b m rb.0 rm.0 t | inr s ↦ absurd (omega (arith, jk, place_is k u, place_is j lj, ap (place o) s)) ],
       )

@@ -5,6 +5,8 @@
 #![tactic(auto)]
 
 mod laws;
+mod rows;
 
 pub use laws::umbrella_law;
+pub use rows::closed_rows;
 pub use std::alloc::AllocError as NoMemory;
