@@ -1,5 +1,5 @@
 -- The closed rows vertex by vertex.
-use Rattle.std.proofs.Common.{◌≡◌, ◌∙◌, ℕ, zero, suc, ◌+◌, ◌-◌, ◌≤◌, List, [], ◌∷◌, ◌++◌, Some, length, get_or, slice_get, sym, ap, subst, arith, length-append}
+use Rattle.std.proofs.Common.{◌≡◌, ◌∙◌, ℕ, zero, suc, ◌+◌, ◌-◌, ◌≤◌, List, [], ◌∷◌, ◌++◌, Some, length, get_or, slice_get, sym, ap, arith, length-append}
 use Rattle.std.proofs.lemmas.Option.{get_or_from_slice_get}
 use Rattle.row_model.specs.Rows.{RowList, IsRow}
 use Rattle.graph_read.specs.Graphs.{GraphValue, IsGraph, with_number}

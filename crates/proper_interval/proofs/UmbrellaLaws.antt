@@ -1,9 +1,9 @@
 -- Umbrella orders are the valid orders of the closed rows.
-use Rattle.std.proofs.Common.{◌≡◌, ◌⊎◌, ◌∙◌, ℕ, zero, suc, ◌-◌, ◌<◌, ◌≤◌, eqb, List, [], ◌∷◌, ◌++◌, length, get_or, IsTrue, All, sym, ap, subst, inl, inr, arith, eq-eqb, eqb-true}
+use Rattle.std.proofs.Common.{◌≡◌, ◌⊎◌, ◌∙◌, ℕ, zero, suc, ◌-◌, ◌<◌, ◌≤◌, eqb, List, [], ◌∷◌, length, get_or, IsTrue, All, sym, ap, subst, inl, inr, arith, eq-eqb, eqb-true}
 use Rattle.std.proofs.lemmas.Bool.{cases_eq, cases_lt, or_cases, or_left, or_right}
 use Rattle.std.proofs.lemmas.List.Elements.{All-append, All-nil, All-contains, Contains-append_left, Contains-append_right}
 use Rattle.std.specs.List.{Contains}
-use Rattle.column_order.specs.Orders.{has, place, IsOrder, Keeps, IsValidOrder}
+use Rattle.column_order.specs.Orders.{has, place, IsOrder, Keeps}
 use Rattle.column_order.proofs.Lists.{has_at, at_place, place_at}
 use Rattle.column_order.proofs.Counts.{order_once, order_within, order_has}
 use Rattle.graph_read.specs.Graphs.{GraphValue, IsGraph, has_edge}

@@ -1,4 +1,4 @@
-use Rattle.std.proofs.Common.{◌≡◌, ◌∙◌, ◌≤◌, ◌+◌, length, ap, arith}
+use Rattle.std.proofs.Common.{◌≡◌, ◌∙◌, ◌+◌, length, ap, arith}
 use Rattle.row_model.specs.Rows.{RowList}
 use Rattle.graph_read.specs.Graphs.{with_number}
 use Rattle.proper_interval.proofs.ClosedLemmas.{many_closed, closed_next, closed_ascends}
