@@ -1,0 +1,2 @@
+pub mod UmbrellaLaws
+pub mod ClosedLemmas

@@ -1,0 +1,2 @@
+pub mod Umbrellas
+pub mod Laws

@@ -1,0 +1,136 @@
+-- Robinson orders are the valid orders of the balls.
+use Rattle.std.proofs.Common.{◌≡◌, ◌∙◌, ℕ, zero, suc, ◌<◌, ◌≤◌, true, false, cond, leb, ltb, eqb, List, [], ◌∷◌, length, map, get_or, IsTrue, All, refl, sym, ap, subst, inl, inr, arith}
+use Rattle.std.proofs.lemmas.Bool.{cases_eq, cases_lt, leb-true, le-leb, lt-ltb, le-ltb, ne_eqb, both_ways}
+use Rattle.std.proofs.lemmas.List.Elements.{All-append, All-map, All-nil, All-contains, Contains-append_left, Contains-append_right}
+use Rattle.std.specs.List.{Contains}
+use Rattle.column_order.specs.Orders.{has, place, IsOrder, Keeps}
+use Rattle.column_order.proofs.Lists.{has_cases, has_head, has_tail, has_at, at_place}
+use Rattle.column_order.proofs.Counts.{order_within, order_has}
+use Rattle.row_model.proofs.Filtered.{has_filtered}
+use Rattle.graph_read.specs.Distances.{DistancesValue, IsDistances}
+use Rattle.robinson_balls.specs.Balls.{between, ball, with_radius, radii_to, balls_round, balls_to, IsRobinsonOrder}
+use Rattle.robinson_balls.specs.Laws.{RobinsonLaw}
+
+-- an item is in a ball exactly where its distance is at most the radius
+in_ball : (d : DistancesValue) (x radius y : ℕ) → 1 ≤ y → y ≤ d.items → between d x y ≤ radius → IsTrue (has (ball d x radius) y)
+in_ball d x radius y l u h = has_filtered (λ z. leb (between d x z) radius) d.items y l u ∙ le-leb (between d x y) radius h
+
+near : (d : DistancesValue) (x radius y : ℕ) → 1 ≤ y → y ≤ d.items → IsTrue (has (ball d x radius) y) → between d x y ≤ radius
+near d x radius y l u h = leb-true (between d x y) radius (sym (has_filtered (λ z. leb (between d x z) radius) d.items y l u) ∙ h)
+
+-- a list with one radius more has that radius and those before
+pub with_radius_has : (s : ℕ) (radii : List ℕ) → IsTrue (has (with_radius s radii) s)
+with_radius_has s [] = has_head s []
+with_radius_has s (r ∷ radii) =
+    elim (cases_lt r s) [
+      | inl l ↦ rw (lt-ltb r s l) (has_tail r s (with_radius s radii) (with_radius_has s radii))
+      | inr l ↦ elim (cases_eq r s) [
+        | inl e ↦ rw (le-ltb r s l, e) (cond_same s radii)
+        | inr n ↦ rw (le-ltb r s l, ne_eqb r s n) (has_head s (r ∷ radii))
+      ]
+    ]
+  where
+    cond_same : (s : ℕ) (radii : List ℕ) → IsTrue (has (cond (eqb s s) (s ∷ radii) (s ∷ s ∷ radii)) s)
+    cond_same s radii = elim (eqb s s) as (λ b. IsTrue (has (cond b (s ∷ radii) (s ∷ s ∷ radii)) s)) [ true ↦ has_head s radii | false ↦ has_head s (s ∷ radii) ]
+
+pub with_radius_keeps : (s r : ℕ) (radii : List ℕ) → IsTrue (has radii r) → IsTrue (has (with_radius s radii) r)
+with_radius_keeps s r [] h = has_tail s r [] h
+with_radius_keeps s r (q ∷ radii) h =
+    elim (ltb q s) as (λ b. IsTrue (has (cond b (q ∷ with_radius s radii) (cond (eqb q s) (q ∷ radii) (s ∷ q ∷ radii))) r)) [
+      | true ↦ elim (has_cases q r radii h) [
+        | inl e ↦ subst (λ a. IsTrue (has (q ∷ with_radius s radii) a)) e (has_head q (with_radius s radii))
+        | inr t ↦ has_tail q r (with_radius s radii) (with_radius_keeps s r radii t)
+      ]
+      | false ↦ elim (eqb q s) as (λ b. IsTrue (has (cond b (q ∷ radii) (s ∷ q ∷ radii)) r)) [
+        | true ↦ h
+        | false ↦ has_tail s r (q ∷ radii) h
+      ]
+    ]
+
+-- each distance of an item is a radius
+radii_have : (d : DistancesValue) (x z n : ℕ) → 1 ≤ z → z ≤ n → IsTrue (has (radii_to d x n) (between d x z))
+radii_have d x z zero l u = absurd (omega (arith, l, u))
+radii_have d x z (suc n) l u =
+    elim (cases_eq z (suc n)) [
+      | inl e ↦ subst (λ a. IsTrue (has (radii_to d x (suc n)) (between d x a))) (sym e) (with_radius_has (between d x (suc n)) (radii_to d x n))
+      | inr k ↦ with_radius_keeps (between d x (suc n)) (between d x z) (radii_to d x n) (radii_have d x z n l (omega (arith, u, k)))
+    ]
+
+map_has : (f : ℕ → List ℕ) (xs : List ℕ) (a : ℕ) → IsTrue (has xs a) → Contains (map f xs) (f a)
+map_has f [] a h = absurd (both_ways _ refl h)
+map_has f (x ∷ xs) a h =
+    elim (has_cases x a xs h) [
+      | inl e ↦ (zero, omega arith, ap f e)
+      | inr t ↦ let found = map_has f xs a t in (suc found.0, omega (arith, found.1), found.2)
+    ]
+
+-- among the balls are those round each item that reach to another
+balls_have : (d : DistancesValue) (x z n : ℕ) → 1 ≤ x → x ≤ n → 1 ≤ z → z ≤ d.items → Contains (balls_to d n) (ball d x (between d x z))
+balls_have d x z zero l u lz uz = absurd (omega (arith, l, u))
+balls_have d x z (suc n) l u lz uz =
+    elim (cases_eq x (suc n)) [
+      | inl e ↦ subst (λ a. Contains (balls_to d (suc n)) (ball d a (between d a z))) (sym e)
+          (Contains-append_right (balls_to d n) (balls_round d (suc n)) (ball d (suc n) (between d (suc n) z))
+          (map_has (ball d (suc n)) (radii_to d (suc n) d.items) (between d (suc n) z) (radii_have d (suc n) z d.items lz uz)))
+      | inr k ↦ Contains-append_left (balls_to d n) (balls_round d (suc n)) (ball d x (between d x z)) (balls_have d x z n l (omega (arith, u, k)) lz uz)
+    ]
+
+module _ (d : DistancesValue) (o : List ℕ) (h : IsDistances d) (order : IsOrder d.items o) where
+  item : (i : ℕ) → i < length o → (1 ≤ get_or o i 0) × (get_or o i 0 ≤ d.items)
+  item i l = order_within d.items o order (get_or o i 0) (has_at o i l)
+
+  symmetric : (i j : ℕ) → i < length o → j < length o → between d (get_or o i 0) (get_or o j 0) ≡ between d (get_or o j 0) (get_or o i 0)
+  symmetric i j li lj = h.symmetric (get_or o i 0) (get_or o j 0) (item i li).0 (item i li).1 (item j lj).0 (item j lj).1
+
+  -- in a Robinson order no ball has a gap
+  ball_kept : IsRobinsonOrder d o → (x radius : ℕ) → 1 ≤ x → x ≤ d.items → Keeps o (ball d x radius)
+  ball_kept r x radius lx ux i j k ij jk u hi hk =
+      let at = at_place o x (order_has d.items o order x lx ux) in
+      let p = place o x in
+      let mid = get_or o j 0 in
+      let li : i < length o = omega (arith, ij, jk, u) in
+      let lj : j < length o = omega (arith, jk, u) in
+      let near_i : between d x (get_or o i 0) ≤ radius = near d x radius (get_or o i 0) (item i li).0 (item i li).1 hi in
+      let near_k : between d x (get_or o k 0) ≤ radius = near d x radius (get_or o k 0) (item k u).0 (item k u).1 hk in
+      let from : (a : ℕ) → between d (get_or o p 0) a ≡ between d x a = λ a. ap (λ y. between d y a) at.1 in
+      in_ball d x radius mid (item j lj).0 (item j lj).1 (elim (cases_lt p j) [
+        | inl before ↦ omega (arith, near_k, from mid, from (get_or o k 0), (r.outer p j k before jk u).0)
+        | inr l ↦ elim (cases_eq p j) [
+          | inl e ↦ omega (arith, h.zero_diagonal x lx ux, ap (λ y. between d x y) (sym at.1), ap (λ q. between d x (get_or o q 0)) (sym e))
+          | inr n ↦ omega (arith, near_i, from mid, from (get_or o i 0), (r.outer i j p ij (omega (arith, l, n)) at.0).1, symmetric j p lj at.0, symmetric i p li at.0)
+        ]
+      ])
+
+  all_kept : IsRobinsonOrder d o → (n : ℕ) → n ≤ d.items → All (Keeps o) (balls_to d n)
+  all_kept r zero l = All-nil (Keeps o)
+  all_kept r (suc n) l =
+      All-append (Keeps o) (balls_to d n) (balls_round d (suc n)) (all_kept r n (omega (arith, l)))
+      (All-map (Keeps o) (ball d (suc n)) (radii_to d (suc n) d.items) (λ i s u. ball_kept r (suc n) (get_or (radii_to d (suc n) d.items) i s) (omega arith) l))
+
+  -- the ball round one item that reaches to another has the items between them
+  outer_from : All (Keeps o) (balls_to d d.items) → (i j k : ℕ) → i < j → j < k → k < length o →
+      (between d (get_or o i 0) (get_or o j 0) ≤ between d (get_or o i 0) (get_or o k 0)) × (between d (get_or o j 0) (get_or o k 0) ≤ between d (get_or o i 0) (get_or o k 0))
+  outer_from kept i j k ij jk u =
+      let li : i < length o = omega (arith, ij, jk, u) in
+      let lj : j < length o = omega (arith, jk, u) in
+      let a = get_or o i 0 in
+      let m = get_or o j 0 in
+      let b = get_or o k 0 in
+      let ra = item i li in
+      let rm = item j lj in
+      let rb = item k u in
+      let zero_a : between d a a ≡ 0 = h.zero_diagonal a ra.0 ra.1 in
+      let zero_b : between d b b ≡ 0 = h.zero_diagonal b rb.0 rb.1 in
+      let left : Keeps o (ball d a (between d a b)) = All-contains (Keeps o) (balls_to d d.items) (ball d a (between d a b)) kept (balls_have d a b d.items ra.0 ra.1 rb.0 rb.1) in
+      let right : Keeps o (ball d b (between d b a)) = All-contains (Keeps o) (balls_to d d.items) (ball d b (between d b a)) kept (balls_have d b a d.items rb.0 rb.1 ra.0 ra.1) in
+      let from_a : between d a m ≤ between d a b =
+      near d a (between d a b) m rm.0 rm.1 (left i j k ij jk u (in_ball d a (between d a b) a ra.0 ra.1 (omega (arith, zero_a))) (in_ball d a (between d a b) b rb.0 rb.1 (omega arith))) in
+      let from_b : between d b m ≤ between d b a =
+      near d b (between d b a) m rm.0 rm.1 (right i j k ij jk u (in_ball d b (between d b a) a ra.0 ra.1 (omega arith)) (in_ball d b (between d b a) b rb.0 rb.1 (omega (arith, zero_b)))) in
+      (from_a, omega (arith, from_b, symmetric j k lj u, symmetric i k li u))
+
+pub robinson_exactly : RobinsonLaw
+robinson_exactly d o h = (
+  λ r. record { order = r.order; kept = all_kept d o h r.order r d.items (omega arith) },
+  λ v. record { order = v.order; outer = outer_from d o h v.order v.kept },
+)

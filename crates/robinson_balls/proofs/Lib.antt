@@ -1,0 +1,3 @@
+pub mod BallLaws
+pub mod RadiiLemmas
+pub mod RowLemmas

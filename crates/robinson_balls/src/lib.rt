@@ -1,0 +1,16 @@
+//! The balls of a table of distances: a Robinson order of the items is a valid order of the balls.
+//!
+//! In a Robinson order the distance grows, or stays, away from each item in both directions, so the items within any
+//! distance of an item are consecutive (Mirkin and Rodin, 1984).
+#![tactic(auto)]
+
+mod laws;
+mod radii;
+mod rows;
+
+pub use laws::robinson_law;
+pub use rows::balls;
+pub use std::alloc::AllocError as NoMemory;
+
+#[cfg(test)]
+mod tests;
