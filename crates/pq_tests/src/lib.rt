@@ -62,6 +62,25 @@ mod tests {
         outcome_with(alloc, case.words, case.file, b"", case.room, case.err_room)
     }
 
+    // Solves a file of a kind, compares the verdict with what is wanted, and has it checked.
+    fn solved_as(
+        rt: &impl Abort,
+        alloc: Global,
+        kind: &str,
+        file: &[u8],
+        out: &[u8],
+    ) -> Result<(), Fail> {
+        let words = ["solve", kind, "matrix"];
+        let solved = outcome_with(alloc, &words, file, b"", 1000, 100)?;
+        assert_eq!(rt; solved.out.bytes(), out);
+        assert_eq!(rt; solved.status, 0);
+        let words = ["check", kind, "matrix", "verdict"];
+        let checked = outcome_with(alloc, &words, file, solved.out.bytes(), 100, 100)?;
+        assert_eq!(rt; checked.out.bytes(), b"valid\n".as_slice());
+        assert_eq!(rt; checked.status, 0);
+        Ok(())
+    }
+
     // Checks a verdict on a matrix, and compares the line with what is wanted.
     fn judged(
         rt: &impl Abort,
@@ -158,6 +177,31 @@ mod tests {
             ),
         ];
         passes(&rt, rt.alloc(), &cases)
+    }
+
+    #[test]
+    fn rows_a_table_and_clones(rt: HostRuntime) -> Result<(), Fail> {
+        solved_as(
+            &rt,
+            rt.alloc(),
+            "rows",
+            b"5\n1 2\n3 4\n2 3\n",
+            b"pq-verdict 1\nkind rows\ncolumns 5\nanswer yes\ntree ([1 2 3 4] 5)\norder 1 2 3 4 5\nend\n",
+        )?;
+        solved_as(
+            &rt,
+            rt.alloc(),
+            "table",
+            b"\xef\xbb\xbft,a,b,c\nx,2,X,\ny, ,0,1\n",
+            b"pq-verdict 1\nkind table\ncolumns 3\nanswer yes\ntree ((1 2) 3)\norder 1 2 3\nend\n",
+        )?;
+        solved_as(
+            &rt,
+            rt.alloc(),
+            "clones",
+            b"{\"probes\":[\"a\",\"b\",\"c\",\"d\",\"e\"],\"clones\":[{\"name\":\"k1\",\"probes\":[\"b\",\"a\"]},{\"name\":\"k2\",\"probes\":[\"b\",\"c\"]},{\"name\":\"k3\",\"probes\":[]},{\"name\":\"k4\",\"probes\":[\"d\"]}]}\n",
+            b"pq-verdict 1\nkind clones\ncolumns 5\nanswer yes\ntree ([1 2 3] 4 5)\norder 1 2 3 4 5\nplaces 4\nplace 1 1 2\nplace 2 2 3\nplace 3 none\nplace 4 4 4\ncontigs 3\ncontig 1 3\ncontig 4 4\ncontig 5 5\nend\n",
+        )
     }
 
     // Whether lines are an odd cycle of a matrix: their number is odd and at least 3, no pair comes twice, and the reason of each line joins
