@@ -14,3 +14,7 @@ pub mod ClonesTests
 pub mod JudgeTests
 pub mod Closed
 pub mod True
+pub mod GapLines
+pub mod GapTrees
+pub mod GapWalk
+pub mod GapSplit
