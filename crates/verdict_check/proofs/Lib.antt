@@ -18,3 +18,4 @@ pub mod GapLines
 pub mod GapTrees
 pub mod GapWalk
 pub mod GapSplit
+pub mod GapPlaces
