@@ -1,11 +1,9 @@
 -- Columns in a line, each with the gap before it: what a row has of them.
-use Rattle.std.proofs.Common.{◌≡◌, ◌⊎◌, ◌∙◌, ℕ, suc, ◌+◌, ◌<◌, ◌≤◌, Bool, true, false, not, List, [], ◌∷◌, ◌++◌, IsTrue, IsFalse, refl, sym, ap, subst, inl, inr, arith, map}
-use Rattle.std.proofs.lemmas.Bool.{cases_Bool, both_ways}
+use Rattle.std.proofs.Common.{◌≡◌, ◌⊎◌, ◌∙◌, ℕ, ◌≤◌, Bool, true, false, List, [], ◌∷◌, ◌++◌, IsTrue, IsFalse, refl, sym, ap, subst, inl, inr, arith}
+use Rattle.std.proofs.lemmas.Bool.{cases_Bool}
 use Rattle.column_order.specs.Orders.{has}
 use Rattle.verdict_check.specs.declared.gaps.Gap.{Gap}
-use Rattle.verdict_check.specs.declared.gaps.Gap.TheVariants.{P, Q}
 use Rattle.verdict_check.specs.Gaps.{depth, LiesWithin}
-use Rattle.verdict_check.specs.HoldsWalk.{meets, misses}
 
 abbrev pub Line : Type 0
 Line = List (ℕ × Gap)
@@ -104,16 +102,12 @@ ended_fits row o p g (x ∷ xs) l n h =
     ended o true g h = h
     ended o false g h = tt
 
--- a run: columns of the row without one that it misses between them
-abbrev pub chosen : Bool → Type 0 → Type 0 → Type 0
-chosen true A B = A
-chosen false A B = B
-
--- the row has columns up to here; a run from here on
+-- columns of the row, and then columns that it misses
 abbrev pub Amid : List ℕ → Line → Type 0
 Amid row [] = Unit {0}
 Amid row (x ∷ xs) = (IsTrue (has row x.0) × Amid row xs) ⊎ (IsFalse (has row x.0) × None row xs)
 
+-- a run: no column that the row misses between two that it has
 abbrev pub IsRun : List ℕ → Line → Type 0
 IsRun row [] = Unit {0}
 IsRun row (x ∷ xs) = (IsTrue (has row x.0) × Amid row xs) ⊎ (IsFalse (has row x.0) × IsRun row xs)

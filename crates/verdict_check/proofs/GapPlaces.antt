@@ -1,5 +1,5 @@
 -- The gaps before each position of a line.
-use Rattle.std.proofs.Common.{◌≡◌, ◌⊎◌, ◌↔◌, ◌∙◌, ℕ, zero, suc, ◌+◌, ◌-◌, ◌<◌, ◌≤◌, Bool, true, false, List, [], ◌∷◌, ◌++◌, length, get_or, IsTrue, IsFalse, refl, sym, ap, subst, inl, inr, arith}
+use Rattle.std.proofs.Common.{◌≡◌, ◌⊎◌, ℕ, zero, suc, ◌<◌, ◌≤◌, Bool, true, false, List, [], ◌∷◌, length, get_or, IsTrue, IsFalse, refl, sym, subst, inl, inr, arith}
 use Rattle.std.proofs.lemmas.Bool.{cases_Bool, both_ways, false_from_ne_true}
 use Rattle.column_order.specs.Orders.{has, Keeps, AreEnds}
 use Rattle.verdict_check.specs.declared.gaps.Gap.{Gap}
@@ -90,16 +90,16 @@ end_joins : (o : ℕ) (p b : Bool) (g : Gap) → IsTrue p → IsFalse b → Join
 end_joins o p b g h k w = subst (λ y. Joins o true y g) k (subst (λ x. Joins o x b g) h w)
 
 -- the gap before position i, where the last one stands at the end
-abbrev pub gap_at : Line → ℕ → Gap
-gap_at xs i = get_or (gaps_in xs) i (P 0)
+abbrev pub gap_before : Line → ℕ → Gap
+gap_before xs i = get_or (gaps_in xs) i (P 0)
 
 -- each gap within the span lies within o, and the two at its ends lie at o or above
 pub record Parted (o f l : ℕ) (xs : Line) : Type 0 where
-  pub begins : depth (gap_at xs f) ≤ o
-  pub ends : depth (gap_at xs (suc l)) ≤ o
-  pub within : (i : ℕ) → f < i → i ≤ l → LiesWithin o (gap_at xs i)
+  pub begins : depth (gap_before xs f) ≤ o
+  pub ends : depth (gap_before xs (suc l)) ≤ o
+  pub within : (i : ℕ) → f < i → i ≤ l → LiesWithin o (gap_before xs i)
 
-gap_past : (xs : Line) (i : ℕ) → length (columns_of xs) ≤ i → gap_at xs i ≡ P 0
+gap_past : (xs : Line) (i : ℕ) → length (columns_of xs) ≤ i → gap_before xs i ≡ P 0
 gap_past [] i l = past i
   where
     past : (i : ℕ) → get_or [] i (P 0) ≡ P 0
@@ -112,7 +112,7 @@ parted row o f l xs k e t =
     record {
       begins = first f refl;
       ends = elim (le_or (suc l) (length (columns_of xs))) [
-        | inl a ↦ end_joins o (has row (get_or (columns_of xs) l 0)) (has row (get_or (columns_of xs) (suc l) 0)) (gap_at xs (suc l)) e.has_last
+        | inl a ↦ end_joins o (has row (get_or (columns_of xs) l 0)) (has row (get_or (columns_of xs) (suc l) 0)) (gap_before xs (suc l)) e.has_last
             (outside (columns_of xs) row f l e (suc l) a (inr (omega arith))) (fit_at row o false xs t (suc l) a)
         | inr a ↦ subst (λ g. depth g ≤ o) (sym (gap_past xs (suc l) a)) (omega arith)
       ];
@@ -122,19 +122,19 @@ parted row o f l xs k e t =
     le_or : (i j : ℕ) → (i < j) ⊎ (j ≤ i)
     le_or i j = grind arith
 
-    first : (i : ℕ) → i ≡ f → depth (gap_at xs i) ≤ o
-    first zero q = begin_joins o false (has row (get_or (columns_of xs) 0 0)) (gap_at xs 0) refl (subst (λ x. IsTrue (has row (get_or (columns_of xs) x 0))) (sym q) e.has_first)
+    first : (i : ℕ) → i ≡ f → depth (gap_before xs i) ≤ o
+    first zero q = begin_joins o false (has row (get_or (columns_of xs) 0 0)) (gap_before xs 0) refl (subst (λ x. IsTrue (has row (get_or (columns_of xs) x 0))) (sym q) e.has_first)
         (fit_at row o false xs t 0 (omega (arith, q, e.rise, e.inside)))
     first (suc i) q =
-        begin_joins o (has row (get_or (columns_of xs) i 0)) (has row (get_or (columns_of xs) (suc i) 0)) (gap_at xs (suc i))
+        begin_joins o (has row (get_or (columns_of xs) i 0)) (has row (get_or (columns_of xs) (suc i) 0)) (gap_before xs (suc i))
         (outside (columns_of xs) row f l e i (omega (arith, q, e.rise, e.inside)) (inl (omega (arith, q))))
         (subst (λ x. IsTrue (has row (get_or (columns_of xs) x 0))) (sym q) e.has_first)
         (fit_at row o false xs t (suc i) (omega (arith, q, e.rise, e.inside)))
 
-    inner : (i : ℕ) → f < i → i ≤ l → LiesWithin o (gap_at xs i)
+    inner : (i : ℕ) → f < i → i ≤ l → LiesWithin o (gap_before xs i)
     inner zero a b = absurd (omega (arith, a))
     inner (suc i) a b =
-        both_joins o (has row (get_or (columns_of xs) i 0)) (has row (get_or (columns_of xs) (suc i) 0)) (gap_at xs (suc i))
+        both_joins o (has row (get_or (columns_of xs) i 0)) (has row (get_or (columns_of xs) (suc i) 0)) (gap_before xs (suc i))
         (between (columns_of xs) row f l k e i (omega (arith, a)) (omega (arith, b)))
         (between (columns_of xs) row f l k e (suc i) (omega (arith, a)) b)
         (fit_at row o false xs t (suc i) (omega (arith, b, e.inside)))
@@ -153,24 +153,24 @@ parted_fits row o f l xs k e t = fit_from row o false xs at
 
     at : (i : ℕ) → i < length (columns_of xs) → JoinsAt row o false xs i
     at zero m = elim (cut zero f) [
-      | inl a ↦ joins_none o false (has row (get_or (columns_of xs) 0 0)) (gap_at xs 0) refl (there 0 m (inl a))
+      | inl a ↦ joins_none o false (has row (get_or (columns_of xs) 0 0)) (gap_before xs 0) refl (there 0 m (inl a))
       | inr h ↦ elim h [
-        | inl a ↦ joins_begin o false (has row (get_or (columns_of xs) 0 0)) (gap_at xs 0) refl (here 0 m (omega (arith, a)) (omega arith)) (subst (λ x. depth (gap_at xs x) ≤ o) (sym a) t.begins)
+        | inl a ↦ joins_begin o false (has row (get_or (columns_of xs) 0 0)) (gap_before xs 0) refl (here 0 m (omega (arith, a)) (omega arith)) (subst (λ x. depth (gap_before xs x) ≤ o) (sym a) t.begins)
         | inr a ↦ absurd (omega (arith, a))
       ]
     ]
     at (suc i) m =
         let p = has row (get_or (columns_of xs) i 0) in
         let b = has row (get_or (columns_of xs) (suc i) 0) in
-        let g = gap_at xs (suc i) in
+        let g = gap_before xs (suc i) in
         elim (cut (suc i) f) [
           | inl a ↦ joins_none o p b g (there i (omega (arith, m)) (inl (omega (arith, a)))) (there (suc i) m (inl a))
           | inr h ↦ elim h [
-            | inl a ↦ joins_begin o p b g (there i (omega (arith, m)) (inl (omega (arith, a)))) (here (suc i) m (omega (arith, a)) (omega (arith, a, e.rise))) (subst (λ x. depth (gap_at xs x) ≤ o) (sym a) t.begins)
+            | inl a ↦ joins_begin o p b g (there i (omega (arith, m)) (inl (omega (arith, a)))) (here (suc i) m (omega (arith, a)) (omega (arith, a, e.rise))) (subst (λ x. depth (gap_before xs x) ≤ o) (sym a) t.begins)
             | inr a ↦ elim (cut i l) [
               | inl c ↦ joins_both o p b g (here i (omega (arith, m)) (omega (arith, a)) (omega (arith, c))) (here (suc i) m (omega (arith, a)) (omega (arith, c))) (t.within (suc i) a (omega (arith, c)))
               | inr y ↦ elim y [
-                | inl c ↦ joins_end o p b g (here i (omega (arith, m)) (omega (arith, a)) (omega (arith, c))) (there (suc i) m (inr (omega (arith, c)))) (subst (λ x. depth (gap_at xs (suc x)) ≤ o) (sym c) t.ends)
+                | inl c ↦ joins_end o p b g (here i (omega (arith, m)) (omega (arith, a)) (omega (arith, c))) (there (suc i) m (inr (omega (arith, c)))) (subst (λ x. depth (gap_before xs (suc x)) ≤ o) (sym c) t.ends)
                 | inr c ↦ joins_none o p b g (there i (omega (arith, m)) (inr c)) (there (suc i) m (inr (omega (arith, c))))
               ]
             ]

@@ -1,15 +1,15 @@
 -- Where one depth parts the gaps within a run from those at its ends, no node splits the run.
-use Rattle.std.proofs.Common.{◌≡◌, ◌⊎◌, ◌∙◌, ℕ, suc, ◌+◌, ◌<◌, ◌≤◌, Bool, true, false, not, cond, ◌||◌, ◌&&◌, leb, List, [], ◌∷◌, ◌++◌, IsTrue, IsFalse, refl, sym, ap, subst, inl, inr, arith}
+use Rattle.std.proofs.Common.{◌≡◌, ◌∙◌, ℕ, ◌+◌, ◌<◌, ◌≤◌, Bool, true, false, cond, ◌||◌, ◌&&◌, leb, List, IsTrue, IsFalse, refl, sym, inl, inr, arith}
 use Rattle.std.proofs.lemmas.Bool.{cases_Bool, both_ways, or_cases, or_from, and_parts, leb-true, cond-true, cond-false, false_from_ne_true}
 use Rattle.pq_tree.specs.Outline.{Outline, Forest, leaf, p_node, q_node, no_tree, tree_and, leaves, leaves_of}
-use Rattle.pq_tree.specs.Proper.{HasArities, HaveArities, count}
+use Rattle.pq_tree.specs.Proper.{HasArities, HaveArities}
 use Rattle.verdict_check.specs.declared.gaps.Gap.{Gap}
 use Rattle.verdict_check.specs.declared.gaps.Gap.TheVariants.{P, Q}
 use Rattle.verdict_check.specs.Gaps.{LiesWithin}
 use Rattle.verdict_check.specs.HoldsWalk.{meets, misses, meeting, resumes, is_gapped, is_split, are_split}
 use Rattle.verdict_check.proofs.HoldsLists.{meets_left, meets_right}
 use Rattle.verdict_check.proofs.HoldsSplit.{split_leaf, split_p, split_q, split_none, split_and, meeting_head, meeting_tail}
-use Rattle.verdict_check.proofs.GapLines.{Line, Fit, last, fit_parts, None, All, Opens, IsRun, Amid, run_left, run_right, run_parts, amid_parts, amid_left, crossed, mixed_ends}
+use Rattle.verdict_check.proofs.GapLines.{Line, Fit, last, fit_parts, None, IsRun, Amid, run_left, run_right, run_parts, amid_parts, amid_left, crossed, mixed_ends}
 use Rattle.verdict_check.proofs.GapTrees.{line, line_of, all_of, not_all, not_none, not_alls, not_nones, opens_of, opens, deep_after, deeps_after, last_all}
 use Rattle.verdict_check.proofs.GapWalk.{one_meeting}
 
@@ -125,12 +125,12 @@ mutual
       split_p row ts ∙
       or_from (are_split row ts) (leb 2 (meeting row ts) && misses row (leaves_of ts)) (unsplits row o p g (P d) (1 + d) ts h.1 f r)
       (false_from_ne_true (leb 2 (meeting row ts) && misses row (leaves_of ts)) (λ e.
-        let two = and_parts (leb 2 (meeting row ts)) (misses row (leaves_of ts)) e in
-        let l : 2 ≤ meeting row ts = leb-true 2 (meeting row ts) two.0 in
-        let high : o < d = two_meeting row o p g (P d) (1 + d) ts h.1 f r l in
-        let deep : d ≤ o = mixed_ends row o d p (line_of g (P d) (1 + d) ts) f (deeps_after d g (P d) (1 + d) ts (omega arith) (omega arith))
-            (not_alls row g (P d) (1 + d) ts two.1) (not_nones row g (P d) (1 + d) ts (one_meeting row ts (omega (arith, l)))) in
-        omega (arith, high, deep)))
+      let two = and_parts (leb 2 (meeting row ts)) (misses row (leaves_of ts)) e in
+      let l : 2 ≤ meeting row ts = leb-true 2 (meeting row ts) two.0 in
+      let high : o < d = two_meeting row o p g (P d) (1 + d) ts h.1 f r l in
+      let deep : d ≤ o = mixed_ends row o d p (line_of g (P d) (1 + d) ts) f (deeps_after d g (P d) (1 + d) ts (omega arith) (omega arith))
+      (not_alls row g (P d) (1 + d) ts two.1) (not_nones row g (P d) (1 + d) ts (one_meeting row ts (omega (arith, l)))) in
+      omega (arith, high, deep)))
   unsplit row o p g d (q_node ts) h f r =
       split_q row ts ∙
       or_from (are_split row ts) (is_gapped row ts) (unsplits row o p g (Q d) (1 + d) ts h.1 f r)

@@ -1,17 +1,17 @@
 -- No node of a tree splits a run exactly where one depth parts the gaps within the run from those at its ends.
-use Rattle.std.proofs.Common.{◌≡◌, ◌⊎◌, ◌∙◌, ℕ, suc, ◌+◌, ◌<◌, ◌≤◌, Bool, true, false, not, cond, ◌||◌, ◌&&◌, leb, List, [], ◌∷◌, ◌++◌, IsTrue, IsFalse, refl, sym, ap, subst, inl, inr, arith}
-use Rattle.std.proofs.lemmas.Bool.{cases_Bool, both_ways, or_cases, or_from, or_parts, and_cases, and_parts, leb-true, leb-false, cond-true, cond-false, false_from_ne_true}
+use Rattle.std.proofs.Common.{◌≡◌, ◌∙◌, ℕ, ◌+◌, ◌<◌, ◌≤◌, Bool, true, false, cond, ◌||◌, ◌&&◌, leb, List, ◌++◌, IsTrue, IsFalse, refl, sym, subst, inl, inr, arith}
+use Rattle.std.proofs.lemmas.Bool.{cases_Bool, both_ways, or_parts, and_cases, leb-false, cond-true, cond-false}
 use Rattle.column_order.specs.Orders.{has}
 use Rattle.pq_tree.specs.Outline.{Outline, Forest, leaf, p_node, q_node, no_tree, tree_and, leaves, leaves_of}
-use Rattle.pq_tree.specs.Proper.{count, HasArities, HaveArities}
+use Rattle.pq_tree.specs.Proper.{HasArities, HaveArities}
 use Rattle.verdict_check.specs.declared.gaps.Gap.{Gap}
 use Rattle.verdict_check.specs.declared.gaps.Gap.TheVariants.{P, Q}
 use Rattle.verdict_check.specs.Gaps.{depth, LiesWithin}
 use Rattle.verdict_check.specs.HoldsWalk.{meets, misses, meeting, resumes, is_gapped, is_split, are_split}
 use Rattle.verdict_check.proofs.HoldsLists.{meets-append, none_append, meets_cases}
-use Rattle.verdict_check.proofs.HoldsSplit.{split_leaf, split_p, split_q, split_none, split_and, meeting_head, meeting_tail}
-use Rattle.verdict_check.proofs.GapLines.{Line, Joins, Fit, last, fit_join, fit_parts, All, None, none_fits, none_last, ended_fits, IsRun, Amid, run_left, run_right, run_parts, amid_parts, amid_run, crossed, mixed_ends}
-use Rattle.verdict_check.proofs.GapTrees.{line, line_of, all_of, none_of, alls_of, nones_of, not_all, not_none, not_alls, not_nones, opens_of, deep_after, deeps_after, last_all, all_fits, alls_fit}
+use Rattle.verdict_check.proofs.HoldsSplit.{split_p, split_q, split_and, meeting_head, meeting_tail}
+use Rattle.verdict_check.proofs.GapLines.{Line, Joins, Fit, last, fit_join, None, none_fits, none_last, ended_fits}
+use Rattle.verdict_check.proofs.GapTrees.{line, line_of, all_of, none_of, alls_of, nones_of, opens_of, last_all, all_fits, alls_fit}
 
 -- a depth, of at least k, that parts the gaps
 abbrev pub Parts : List ℕ → ℕ → Line → Type 0
@@ -36,15 +36,21 @@ rest_fits row o p s d (tree_and t ts) h l n =
 
 first_parts : (row : List ℕ) (k : ℕ) (g s : Gap) (d : ℕ) (t : Outline) (ts : Forest) → HaveArities ts → depth s ≤ k → Parts row k (line g d t) → IsFalse (meets row (leaves_of ts)) →
     Parts row k (line_of g s d (tree_and t ts))
-first_parts row k g s d t ts h l f n =
-    (f.0, f.1, fit_join row f.0 false (line g d t) (line_of s s d ts) f.2
-    (rest_fits row f.0 (last row false (line g d t)) s d ts h (omega (arith, l, f.1)) (nones_of row s s d ts n)))
+first_parts row k g s d t ts h l f n = (
+  f.0,
+  f.1,
+  fit_join row f.0 false (line g d t) (line_of s s d ts) f.2
+      (rest_fits row f.0 (last row false (line g d t)) s d ts h (omega (arith, l, f.1)) (nones_of row s s d ts n)),
+)
 
 later_parts : (row : List ℕ) (k : ℕ) (g s : Gap) (d : ℕ) (t : Outline) (ts : Forest) → IsFalse (meets row (leaves t)) → Parts row k (line_of s s d ts) → Parts row k (line_of g s d (tree_and t ts))
 later_parts row k g s d t ts n f =
-    let none = none_of row g d t n in
-    (f.0, f.1, fit_join row f.0 false (line g d t) (line_of s s d ts) (none_fits row f.0 (line g d t) none)
-    (subst (λ b. Fit row f.0 b (line_of s s d ts)) (sym (none_last row (line g d t) none)) f.2))
+    let none = none_of row g d t n in (
+      f.0,
+      f.1,
+      fit_join row f.0 false (line g d t) (line_of s s d ts) (none_fits row f.0 (line g d t) none)
+          (subst (λ b. Fit row f.0 b (line_of s s d ts)) (sym (none_last row (line g d t) none)) f.2),
+    )
 
 -- trees that the row has, and then trees that it has not
 front_fits : (row : List ℕ) (o d : ℕ) (s : Gap) (ts : Forest) → HaveArities ts → o < d → depth s ≤ o → LiesWithin o s → IsFalse (resumes row ts) → Fit row o true (line_of s s d ts)
@@ -77,9 +83,11 @@ mutual
         | inl few ↦
             let r = alone row (1 + k) g (P (1 + k)) ts h.1 (omega (arith, l)) (omega arith) (leb-false 2 (meeting row ts) few) m e.0 in
             (r.0, omega (arith, r.1), r.2)
-        | inr all ↦
-            (k, omega arith,
-              alls_fit row k false g (P (1 + k)) (1 + (1 + k)) ts h.1 (omega arith) (omega arith) l (alls_of row g (P (1 + k)) (1 + (1 + k)) ts all))
+        | inr all ↦ (
+          k,
+          omega arith,
+          alls_fit row k false g (P (1 + k)) (1 + (1 + k)) ts h.1 (omega arith) (omega arith) l (alls_of row g (P (1 + k)) (1 + (1 + k)) ts all),
+        )
       ]
   parts row k g (q_node ts) h l m s =
       let e = or_parts (are_split row ts) (is_gapped row ts) (sym (split_q row ts) ∙ s) in
@@ -112,12 +120,14 @@ mutual
                   first_parts row k g (Q k) (1 + k) t ts h.1 (omega arith) (parts row k g t h.0 l y e.0)
                   (sym (cond-true (misses row (leaves t)) (meets row (leaves_of ts)) (resumes row ts) n) ∙ b)
               | inr n ↦
-                  let all = all_of row g (1 + k) t n in
-                  (k, omega arith,
+                  let all = all_of row g (1 + k) t n in (
+                    k,
+                    omega arith,
                     fit_join row k false (line g (1 + k) t) (line_of (Q k) (Q k) (1 + k) ts) (all_fits row k false g (1 + k) t h.0 (omega arith) l all)
-                    (subst (λ z. Fit row k z (line_of (Q k) (Q k) (1 + k) ts)) (sym (last_all row false g (1 + k) t h.0 all))
-                    (front_fits row k (1 + k) (Q k) ts h.1 (omega arith) (omega arith) (omega arith)
-                    (sym (cond-false (misses row (leaves t)) (meets row (leaves_of ts)) (resumes row ts) n) ∙ b))))
+                        (subst (λ z. Fit row k z (line_of (Q k) (Q k) (1 + k) ts)) (sym (last_all row false g (1 + k) t h.0 all))
+                        (front_fits row k (1 + k) (Q k) ts h.1 (omega arith) (omega arith) (omega arith)
+                        (sym (cond-false (misses row (leaves t)) (meets row (leaves_of ts)) (resumes row ts) n) ∙ b))),
+                  )
             ]
         | inr y ↦
             let b : IsFalse (is_gapped row ts) =

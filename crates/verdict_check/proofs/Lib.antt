@@ -19,3 +19,8 @@ pub mod GapTrees
 pub mod GapWalk
 pub mod GapSplit
 pub mod GapPlaces
+pub mod GapsExact
+pub mod GapRows
+pub mod GapPush
+pub mod GapNew
+pub mod GapCut

@@ -1,8 +1,11 @@
 -- The gaps between the neighbouring leaves of a tree.
-use Rattle.std.specs.Prelude.{ℕ, ◌<◌, ◌≤◌, ◌+◌, List, [], ◌∷◌, ◌++◌}
-use Rattle.pq_tree.specs.Outline.{Outline, Forest, leaf, p_node, q_node, no_tree, tree_and}
+use Rattle.std.specs.Prelude.{◌≡◌, ℕ, ◌<◌, ◌≤◌, ◌+◌, ◌-◌, List, [], ◌∷◌, ◌++◌, length, slice_index_or}
+use Rattle.row_model.specs.Positions.{ArePositions}
+use Rattle.pq_tree.specs.Outline.{Outline, Forest, leaf, p_node, q_node, no_tree, tree_and, leaves}
+use Rattle.pq_tree.specs.Proper.{IsProper}
 use Rattle.verdict_check.specs.declared.gaps.Gap.{Gap}
 use Rattle.verdict_check.specs.declared.gaps.Gap.TheVariants.{P, Q}
+use Rattle.verdict_check.specs.declared.gaps.Gaps.{Gaps}
 
 -- The gap before each leaf, from left to right: the depth and the kind of the node at which the leaf and the one before it part.
 -- The tree itself lies at depth d, and g is the gap before its first leaf.
@@ -26,3 +29,18 @@ depth (Q d) = d
 abbrev pub LiesWithin : ℕ → Gap → Type 0
 LiesWithin outer (P d) = outer < d
 LiesWithin outer (Q d) = outer ≤ d
+
+-- the gap at an index, a gap at depth 0 past the last
+abbrev pub gap_at : List Gap → ℕ → Gap
+gap_at gs i = slice_index_or gs i (P 0)
+
+-- each gap from first to before last lies within the gap before first and within the gap at last
+abbrev pub AreWithin : List Gap → ℕ → ℕ → Type 0
+AreWithin gs first last =
+    (i : ℕ) → first ≤ i → i < last → LiesWithin (depth (gap_at gs (first - 1))) (gap_at gs i) × LiesWithin (depth (gap_at gs last)) (gap_at gs i)
+
+-- the gaps of a proper tree, a gap at depth 0 at each end, with the positions of its leaves
+pub record AreGaps (t : Outline) (g : Gaps) : Type 0 where
+  pub proper : IsProper (length g.positions.items) t
+  pub positions : ArePositions (leaves t) g.positions.items
+  pub gaps : g.gaps.items ≡ gaps (P 0) 1 t ++ P 0 ∷ []
