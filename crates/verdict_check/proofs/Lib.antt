@@ -14,3 +14,13 @@ pub mod ClonesTests
 pub mod JudgeTests
 pub mod Closed
 pub mod True
+pub mod GapLines
+pub mod GapTrees
+pub mod GapWalk
+pub mod GapSplit
+pub mod GapPlaces
+pub mod GapsExact
+pub mod GapRows
+pub mod GapPush
+pub mod GapNew
+pub mod GapCut

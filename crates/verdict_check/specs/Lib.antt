@@ -9,3 +9,4 @@ pub mod Value
 pub mod Holds
 pub mod HoldsWalk
 pub mod Found
+pub mod Gaps

@@ -36,6 +36,7 @@ ghost use Rattle.verdict_check.specs.declared.outcome.Checked.TheVariants.{Valid
 
 mod clones;
 mod cycle;
+mod gaps;
 mod holds;
 mod instance;
 mod judge;

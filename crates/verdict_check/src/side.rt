@@ -9,7 +9,7 @@ ghost use Rattle.verdict_check.specs.Tests.{side_tests};
 ghost use Rattle.verdict_check.specs.YesTests.{HasSide, AllKeep};
 ghost use Rattle.verdict_check.specs.Found.{IsLeastFailing, Finds, PassesSide};
 
-use crate::holds::tree_holds;
+use crate::gaps::Gaps;
 use crate::outcome::Reason;
 use pq_tree::PqTree;
 use row_model::{Matrix, NoMemory, is_order};
@@ -30,7 +30,7 @@ pub fn side_fault(
     if !is_valid_order(alloc, m, yes.order(side))? {
         return Ok(Some(Reason::Order(side)));
     }
-    match first_broken_row(yes.tree(side), m) {
+    match first_broken_row(alloc, yes.tree(side), m)? {
         Some(k) => Ok(Some(Reason::Tree(side, k))),
         None => Ok(None),
     }
@@ -48,14 +48,17 @@ fn is_valid_order(alloc: Global, m: &Matrix, order: &[u32]) -> Result<bool, NoMe
 }
 
 // The first row, from 1, that some frontier of the tree does not keep.
-fn first_broken_row(tree: &PqTree, m: &Matrix) -> Option<u32>
+fn first_broken_row(alloc: Global, tree: &PqTree, m: &Matrix) -> Result<Option<u32>, NoMemory>
     requires { column_count tree.now ≡ m.now.columns }
-    ensures { IsLeastFailing (λ k. AllKeep (outline tree.now) (row_at m.now.rows k)) (length m.now.rows) result }
+    ensures { IfOk result (IsLeastFailing (λ k. AllKeep (outline tree.now) (row_at m.now.rows k)) (length m.now.rows)) }
 {
+    // A matrix has few enough columns for positions.
+    let _columns = m.columns();
+    let gaps = Gaps::new(alloc, tree)?;
     for k in 0..m.rows() {
-        if !tree_holds(tree, m.row(k + 1)) {
-            return Some(k + 1);
+        if !gaps.holds(m.row(k + 1)) {
+            return Ok(Some(k + 1));
         }
     }
-    None
+    Ok(None)
 }

@@ -2,19 +2,25 @@ use Rattle.std.proofs.Common.{◌+◌, length, arith}
 use Rattle.row_model.specs.Graph.{row_at}
 use Rattle.pq_tree.specs.PqTree.{outline}
 use Rattle.verdict_check.specs.YesTests.{AllKeep}
+use Rattle.verdict_check.proofs.GapNew.{row_fits}
 use Rattle.verdict_check.proofs.Lines.{each_more, least_here}
 use Rattle.verdict_check.proofs.SideTests.{row_kept, row_broken}
 use Rattle.verdict_check.proofs.side.first_broken_row.Goals as goal
 
-pub returns-then-not-tree_holds : goal.returns-then-not-tree_holds
-returns-then-not-tree_holds c =
+pub holds-requires : goal.holds-requires
+holds-requires c = record { tree = (outline c.args.tree.now, c.in_ok-gaps.ensures); row = row_fits c.args.tree.now c.in_ok-gaps.gaps c.args.m.now.columns c.row.result.now c.in_ok-gaps.ensures c.requires c.row.ensures.ascending }
+
+pub returns-then-not-holds : goal.returns-then-not-holds
+returns-then-not-holds c =
     least_here (λ k. AllKeep (outline c.args.tree.now) (row_at c.args.m.now.rows k)) (length c.args.m.now.rows) c.loop-k.k (omega arith) c.loop-k.invariant
-    (row_broken (AllKeep (outline c.args.tree.now)) c.args.m.now.rows (c.loop-k.k + 1) c.row.result.now c.tree_holds.result c.row.ensures.row c.tree_holds.ensures c.if-not-tree_holds.true)
+    (row_broken (AllKeep (outline c.args.tree.now)) c.args.m.now.rows (c.loop-k.k + 1) c.row.result.now c.holds.result c.row.ensures.row
+    (c.holds.ensures (outline c.args.tree.now) c.in_ok-gaps.ensures) c.if-not-holds.true)
 
 pub loop-k-preserved : goal.loop-k-preserved
 loop-k-preserved c =
     each_more (λ k. AllKeep (outline c.args.tree.now) (row_at c.args.m.now.rows k)) c.loop-k.k c.loop-k.invariant
-    (row_kept (AllKeep (outline c.args.tree.now)) c.args.m.now.rows (c.loop-k.k + 1) c.row.result.now c.tree_holds.result c.row.ensures.row c.tree_holds.ensures c.if-not-tree_holds.false)
+    (row_kept (AllKeep (outline c.args.tree.now)) c.args.m.now.rows (c.loop-k.k + 1) c.row.result.now c.holds.result c.row.ensures.row
+    (c.holds.ensures (outline c.args.tree.now) c.in_ok-gaps.ensures) c.if-not-holds.false)
 
 pub returns : goal.returns
 returns c = λ k l u. c.loop-k.invariant k l (omega arith)

@@ -1,0 +1,130 @@
+-- The gaps of the children of a node, one child more at a time.
+use Rattle.std.proofs.Common.{◌≡◌, ◌∙◌, ℕ, zero, suc, ◌+◌, ◌^◌, ◌<◌, ◌≤◌, List, [], ◌∷◌, ◌++◌, length, length-append, map, take, get_or, Result, Ok, Err, refl, sym, ap, subst, arith, add-one}
+use Rattle.std.proofs.lemmas.List.{append_assoc, append-nil, length-map, map_more, take_all}
+use Rattle.std.proofs.Math.ListN.{get_or-map}
+use Rattle.std.specs.Prelude.{OnOk}
+use Rattle.std.specs.declared.vec.Vec.{Vec}
+use Rattle.std.specs.declared.alloc.Global.{Global}
+use Rattle.pq_tree.specs.Outline.{Outline, Forest, leaf, p_node, q_node, no_tree, tree_and, leaves, leaves_of}
+use Rattle.pq_tree.specs.Proper.{outline_of, forest, count, HasArities, HaveArities}
+use Rattle.pq_tree.specs.declared.Tree.{Tree, P, Q}
+use Rattle.pq_tree.proofs.Shown.{outline_of-P, outline_of-Q}
+use Rattle.verdict_check.specs.declared.gaps.Gap.{Gap}
+use Rattle.verdict_check.specs.declared.gaps.Gap.TheVariants.{P as gap_P, Q as gap_Q}
+use Rattle.verdict_check.specs.Gaps.{gaps, gaps_of}
+
+-- the gap before the child of an index
+abbrev pub gap_before : ℕ → Gap → Gap → Gap
+gap_before zero g s = g
+gap_before (suc i) g s = s
+
+front : List Outline → Gap → Gap → Gap
+front [] g s = g
+front (u ∷ us) g s = s
+
+front_same : (us : List Outline) (s : Gap) → front us s s ≡ s
+unfolding front
+front_same [] s = refl
+front_same (u ∷ us) s = refl
+
+gaps_more : (g s : Gap) (d : ℕ) (us : List Outline) (u : Outline) → gaps_of g s d (forest (us ++ u ∷ [])) ≡ gaps_of g s d (forest us) ++ gaps (front us g s) d u
+unfolding front
+gaps_more g s d [] u = append-nil (gaps g d u)
+gaps_more g s d (x ∷ us) u =
+    ap (λ z. gaps g d x ++ z) (gaps_more s s d us u ∙ ap (λ y. gaps_of s s d (forest us) ++ gaps y d u) (front_same us s)) ∙
+    sym (append_assoc (gaps g d x) (gaps_of s s d (forest us)) (gaps s d u))
+
+front_at : (ts : List Tree) (i : ℕ) (g s : Gap) → i < length ts → front (map outline_of (take i ts)) g s ≡ gap_before i g s
+unfolding front
+front_at [] i g s h = absurd (omega (arith, h))
+front_at (t ∷ ts) zero g s h = refl
+front_at (t ∷ ts) (suc i) g s h = refl
+
+pub push_gaps_step : (old all new : List Gap) (g s gap : Gap) (d : ℕ) (ts : List Tree) (i : ℕ) (child : Tree) → i < length ts → child ≡ get_or ts i child →
+    gap ≡ gap_before i g s → all ≡ old ++ gaps_of g s d (forest (map outline_of (take i ts))) → new ≡ all ++ gaps gap d (outline_of child) →
+    new ≡ old ++ gaps_of g s d (forest (map outline_of (take (i + 1) ts)))
+push_gaps_step old all new g s gap d ts i child h r b e k =
+    let us = map outline_of (take i ts) in
+    k ∙ ap (λ z. z ++ gaps gap d (outline_of child)) e ∙ append_assoc old (gaps_of g s d (forest us)) (gaps gap d (outline_of child)) ∙
+    ap (λ z. old ++ z)
+    (ap (λ y. gaps_of g s d (forest us) ++ gaps y d (outline_of child)) (b ∙ sym (front_at ts i g s h)) ∙
+    ap (λ c. gaps_of g s d (forest us) ++ gaps (front us g s) d (outline_of c)) r ∙
+    sym (ap (λ x. gaps_of g s d (forest x)) (map_more outline_of ts i child h) ∙ gaps_more g s d us (outline_of (get_or ts i child))))
+
+pub gap_before_next : (i : ℕ) (g s : Gap) → s ≡ gap_before (i + 1) g s
+gap_before_next i g s = rw (add-one) refl
+
+pub push_gaps_all : (old all : List Gap) (g s : Gap) (d : ℕ) (ts : List Tree) (i : ℕ) → length ts ≤ i → all ≡ old ++ gaps_of g s d (forest (map outline_of (take i ts))) →
+    all ≡ old ++ gaps_of g s d (forest (map outline_of ts))
+push_gaps_all old all g s d ts i l e = e ∙ ap (λ x. old ++ gaps_of g s d (forest (map outline_of x))) (take_all i ts l)
+
+-- trees have leaves
+mutual
+  long : (t : Outline) → HasArities t → 1 ≤ length (leaves t)
+  long (leaf a) h = omega arith
+  long (p_node ts) h = omega (arith, longs ts h.1, h.0)
+  long (q_node ts) h = omega (arith, longs ts h.1, h.0)
+
+  longs : (ts : Forest) → HaveArities ts → count ts ≤ length (leaves_of ts)
+  longs no_tree h = omega arith
+  longs (tree_and t ts) h = omega (arith, long t h.0, longs ts h.1, length-append (leaves t) (leaves_of ts))
+
+count_forest : (us : List Outline) → count (forest us) ≡ length us
+count_forest [] = refl
+count_forest (u ∷ us) = omega (arith, count_forest us)
+
+one_of : (us : List Outline) (i : ℕ) (d : Outline) → i < length us → HaveArities (forest us) → HasArities (get_or us i d) × (length (leaves (get_or us i d)) + length us ≤ 1 + length (leaves_of (forest us)))
+one_of [] i d l h = absurd (omega (arith, l))
+one_of (u ∷ us) zero d l h = (h.0, omega (arith, longs (forest us) h.1, count_forest us, length-append (leaves u) (leaves_of (forest us))))
+one_of (u ∷ us) (suc i) d l h =
+    let r = one_of us i d (omega (arith, l)) h.1 in
+    (r.0, omega (arith, r.1, long u h.0, length-append (leaves u) (leaves_of (forest us))))
+
+pub child_of : (ts : List Tree) (i : ℕ) (child : Tree) (depth : ℕ) → i < length ts → child ≡ get_or ts i child → 2 ≤ length ts → HaveArities (forest (map outline_of ts)) →
+    depth + length (leaves_of (forest (map outline_of ts))) ≤ 2 ^ 32 → HasArities (outline_of child) × (depth + length (leaves (outline_of child)) < 2 ^ 32)
+child_of ts i child depth l e two h short =
+    let n : length (map outline_of ts) ≡ length ts = length-map ts outline_of in
+    let r = one_of (map outline_of ts) i (outline_of child) (omega (arith, n, l)) h in
+    let same : get_or (map outline_of ts) i (outline_of child) ≡ outline_of child = get_or-map outline_of ts i child ∙ ap outline_of (sym e) in
+    let m : length (leaves (get_or (map outline_of ts) i (outline_of child))) ≡ length (leaves (outline_of child)) = ap (λ x. length (leaves x)) same in
+    (subst HasArities same r.0, omega (arith, m, n, r.1, two, short))
+
+swapped : (d : ℕ) → d + 1 ≡ 1 + d
+swapped d = omega arith
+
+-- a node over its children
+count_trees : (ts : List Tree) → count (forest (map outline_of ts)) ≡ length ts
+count_trees ts = count_forest (map outline_of ts) ∙ length-map ts outline_of
+
+pub node_children_P : (t : Tree) (v : Vec Tree Global) (ts : List Tree) (depth : ℕ) → t ≡ P v → ts ≡ v.items → HasArities (outline_of t) → depth + length (leaves (outline_of t)) < 2 ^ 32 →
+    (2 ≤ length ts) × (HaveArities (forest (map outline_of ts)) × (depth + 1 + length (leaves_of (forest (map outline_of ts))) ≤ 2 ^ 32))
+node_children_P t v ts depth e s h l =
+    let o : outline_of t ≡ p_node (forest (map outline_of ts)) = ap outline_of e ∙ outline_of-P v ∙ ap (λ x. p_node (forest (map outline_of x))) (sym s) in
+    let a : HasArities (p_node (forest (map outline_of ts))) = subst HasArities o h in
+    let n : length (leaves (outline_of t)) ≡ length (leaves_of (forest (map outline_of ts))) = ap (λ x. length (leaves x)) o in
+    (omega (arith, a.0, count_trees ts), (a.1, omega (arith, n, l)))
+
+pub node_children_Q : (t : Tree) (v : Vec Tree Global) (ts : List Tree) (depth : ℕ) → t ≡ Q v → ts ≡ v.items → HasArities (outline_of t) → depth + length (leaves (outline_of t)) < 2 ^ 32 →
+    (2 ≤ length ts) × (HaveArities (forest (map outline_of ts)) × (depth + 1 + length (leaves_of (forest (map outline_of ts))) ≤ 2 ^ 32))
+node_children_Q t v ts depth e s h l =
+    let o : outline_of t ≡ q_node (forest (map outline_of ts)) = ap outline_of e ∙ outline_of-Q v ∙ ap (λ x. q_node (forest (map outline_of x))) (sym s) in
+    let a : HasArities (q_node (forest (map outline_of ts))) = subst HasArities o h in
+    let n : length (leaves (outline_of t)) ≡ length (leaves_of (forest (map outline_of ts))) = ap (λ x. length (leaves x)) o in
+    (omega (arith, a.0, count_trees ts), (a.1, omega (arith, n, l)))
+
+pub depth_of : (t : Tree) (depth : ℕ) → HasArities (outline_of t) → depth + length (leaves (outline_of t)) < 2 ^ 32 → depth + 1 < 2 ^ 32
+depth_of t depth h l = omega (arith, l, long (outline_of t) h)
+
+pub over_P : {E : Type 0} (t : Tree) (v : Vec Tree Global) (ts : List Tree) (g : Gap) (d : ℕ) (old new : List Gap) (r : Result (Unit {0}) E) → t ≡ P v → ts ≡ v.items →
+    OnOk r (new ≡ old ++ gaps_of g (gap_P d) (d + 1) (forest (map outline_of ts))) → OnOk r (new ≡ old ++ gaps g d (outline_of t))
+over_P t v ts g d old new (Ok u) e s h =
+    h ∙ ap (λ n. old ++ gaps_of g (gap_P d) n (forest (map outline_of ts))) (swapped d) ∙
+    ap (λ x. old ++ gaps g d x) (sym (ap outline_of e ∙ outline_of-P v ∙ ap (λ x. p_node (forest (map outline_of x))) (sym s)))
+over_P t v ts g d old new (Err u) e s h = tt
+
+pub over_Q : {E : Type 0} (t : Tree) (v : Vec Tree Global) (ts : List Tree) (g : Gap) (d : ℕ) (old new : List Gap) (r : Result (Unit {0}) E) → t ≡ Q v → ts ≡ v.items →
+    OnOk r (new ≡ old ++ gaps_of g (gap_Q d) (d + 1) (forest (map outline_of ts))) → OnOk r (new ≡ old ++ gaps g d (outline_of t))
+over_Q t v ts g d old new (Ok u) e s h =
+    h ∙ ap (λ n. old ++ gaps_of g (gap_Q d) n (forest (map outline_of ts))) (swapped d) ∙
+    ap (λ x. old ++ gaps g d x) (sym (ap outline_of e ∙ outline_of-Q v ∙ ap (λ x. q_node (forest (map outline_of x))) (sym s)))
+over_Q t v ts g d old new (Err u) e s h = tt

@@ -1,0 +1,145 @@
+//! Whether every frontier of a tree keeps a row, by the gaps between the tree's neighbouring leaves.
+//!
+//! Two neighbouring leaves part at a node. Every frontier keeps a row exactly where its columns stand side by side as the tree stands, and
+//! where they part at deeper nodes than the leaves at the two ends part from those outside, or at a Q-node at least as deep. So one walk
+//! over the tree serves all rows, and each row costs a walk over its columns.
+
+ghost use Rattle.std.specs.Prelude.{◌≡◌, ◌↔◌, ◌≤◌, ◌<◌, ◌+◌, ◌^◌, ◌++◌, ℕ, length, map, IfOk, OnOk, IsTrue, EachIndex};
+ghost use Rattle.pq_tree.specs.Outline.{Outline, leaves, leaves_of};
+ghost use Rattle.pq_tree.specs.Proper.{outline_of, forest, HasArities, HaveArities};
+ghost use Rattle.pq_tree.specs.PqTree.{column_count, outline};
+ghost use Rattle.row_model.specs.Rows.{IsRow};
+ghost use Rattle.verdict_check.specs.Gaps.{gaps, gaps_of, depth, LiesWithin, AreWithin, AreGaps, gap_at};
+ghost use Rattle.verdict_check.specs.YesTests.{AllKeep};
+
+use pq_tree::{PqTree, Tree};
+use row_model::{NoMemory, Span, positions, span_of};
+use std::alloc::Global;
+
+/// Where two neighbouring leaves part: the depth of the node, whose root has depth 1, and its kind.
+#[derive(Clone, Copy)]
+enum Gap {
+    /// They part at a P-node.
+    P(u32),
+    /// They part at a Q-node.
+    Q(u32),
+}
+
+/// The leaves of a tree from left to right, and the gaps between them.
+#[derive(Drop)]
+pub struct Gaps {
+    /// The position of each column, from 1.
+    positions: Vec<u32>,
+    /// The gap before each leaf, and the one after the last. The two at the ends lie at depth 0.
+    gaps: Vec<Gap>,
+}
+
+impl Gap {
+    /// The depth of the node.
+    fn depth(self) -> u32
+        ensures { result ≡ depth self }
+    {
+        match self {
+            Gap::P(depth) | Gap::Q(depth) => depth,
+        }
+    }
+
+    /// Whether the gap lies deeper than this, or is at a Q-node at least as deep.
+    fn lies_within(self, outer: u32) -> bool
+        ensures { IsTrue result ↔ LiesWithin outer self }
+    {
+        match self {
+            Gap::P(depth) => outer < depth,
+            Gap::Q(depth) => outer <= depth,
+        }
+    }
+}
+
+impl Gaps {
+    /// The gaps of a tree, in one walk.
+    pub fn new(alloc: Global, tree: &PqTree) -> Result<Gaps, NoMemory>
+        requires { column_count tree.now ≤ 32768 }
+        ensures { IfOk result (λ g. AreGaps (outline tree.now) g) }
+    {
+        let order = tree.frontier(alloc)?;
+        let mut gaps = Vec::with_capacity(alloc, order.len() + 1)?;
+        push_gaps(tree.root(), Gap::P(0), 1, &mut gaps)?;
+        gaps.push(Gap::P(0))?;
+        Ok(Gaps {
+            positions: positions(alloc, &order)?,
+            gaps,
+        })
+    }
+
+    /// Whether every frontier of the tree keeps the row: in none of them a column that the row misses stands between two that it has.
+    ///
+    /// Takes time in the length of the row, and no memory.
+    pub fn holds(&self, row: &[u32]) -> bool
+        requires tree { (t : Outline) × AreGaps t self.now }
+        requires row { IsRow (length self.now.positions.items) row.now }
+        ensures { (t : Outline) → AreGaps t self.now → (IsTrue result ↔ AllKeep t row.now) }
+    {
+        match span_of(&self.positions, row) {
+            None => true,
+            Some(Span { first, last }) => {
+                (last - first) as usize + 1 == row.len()
+                    && are_within(&self.gaps, first as usize, last as usize)
+            }
+        }
+    }
+}
+
+/// Whether the gaps from `first` to before `last` lie within the gap before them and within the gap after them.
+fn are_within(gaps: &[Gap], first: usize, last: usize) -> bool
+    requires { (1 ≤ first) × (first ≤ last) × (last < length gaps.now) }
+    ensures { IsTrue result ↔ AreWithin gaps.now first last }
+{
+    let outer = gaps[first - 1].depth().max(gaps[last].depth());
+    all_within(&gaps[first..last], outer)
+}
+
+/// Whether all these gaps lie deeper than this, or are at a Q-node at least as deep.
+fn all_within(gaps: &[Gap], outer: u32) -> bool
+    ensures { IsTrue result ↔ EachIndex gaps.now (λ i. LiesWithin outer (gap_at gaps.now i)) }
+{
+    gaps.iter().all(|gap| gap.lies_within(outer))
+}
+
+/// Appends the gap before each leaf of the tree, which lies at this depth. The gap before its first leaf is `first`.
+#[cycle(gaps)]
+fn push_gaps(tree: &Tree, first: Gap, depth: u32, all: &mut Vec<Gap>) -> Result<(), NoMemory>
+    requires proper { HasArities (outline_of tree.now) }
+    requires shallow { depth + length (leaves (outline_of tree.now)) < 2 ^ 32 }
+    ensures { OnOk result (all.new.items ≡ all.old.items ++ gaps first depth (outline_of tree.now)) }
+{
+    match tree {
+        Tree::Leaf(_) => {
+            all.push(first)?;
+            Ok(())
+        }
+        Tree::P(children) => push_all_gaps(children, first, Gap::P(depth), depth + 1, all),
+        Tree::Q(children) => push_all_gaps(children, first, Gap::Q(depth), depth + 1, all),
+    }
+}
+
+/// Appends the gaps of children of one node, which lie at this depth. Two of them part at the gap `between`.
+#[cycle(gaps)]
+fn push_all_gaps(
+    children: &[Tree],
+    first: Gap,
+    between: Gap,
+    depth: u32,
+    all: &mut Vec<Gap>,
+) -> Result<(), NoMemory>
+    requires many { 2 ≤ length children.now }
+    requires proper { HaveArities (forest (map outline_of children.now)) }
+    requires shallow { depth + length (leaves_of (forest (map outline_of children.now))) ≤ 2 ^ 32 }
+    ensures { OnOk result (all.new.items ≡ all.old.items ++ gaps_of first between depth (forest (map outline_of children.now))) }
+{
+    let mut gap = first;
+    for child in children {
+        push_gaps(child, gap, depth, all)?;
+        gap = between;
+    }
+    Ok(())
+}
