@@ -1,22 +1,35 @@
 -- Valid orders of the first rows, and of the rows that a tree is tied to.
-use Rattle.std.proofs.Common.{◌≡◌, ℕ, List, take, ◌↔◌, subst, arith, []}
+use Rattle.std.proofs.Common.{◌≡◌, ◌∙◌, ℕ, List, take, subst, sym, arith, [], IfOk, Result, Ok, Err}
+use Rattle.std.specs.declared.alloc.AllocError.{AllocError}
 use Rattle.std.proofs.lemmas.List.Elements.{All-take}
-use Rattle.column_order.specs.Orders.{IsOrder, Keeps, IsValidOrder, HasValidOrder}
-use Rattle.pq_tree.specs.Outline.{leaves, IsFrontier}
+use Rattle.column_order.specs.Orders.{IsOrder, Keeps, HasValidOrder}
+use Rattle.row_model.specs.Rows.{RowList}
+use Rattle.pq_tree.specs.Outline.{Outline, leaves}
+use Rattle.pq_tree.specs.Canonical.{IsCanonical}
 use Rattle.pq_tree.specs.Proper.{columns}
 use Rattle.pq_tree.proofs.Universal.{columns_order}
 use Rattle.pq_tree.specs.PqTree.{outline, column_count}
 use Rattle.pq_tree.specs.declared.PqTree.{PqTree}
 use Rattle.tied_law.specs.Tied.{IsTied}
 use Rattle.tied_law.proofs.Exact.{tied_law}
+use Rattle.c1p_solve.specs.Answers.{HasAllOrders}
 
 -- a valid order of some rows is one of the first of them
 pub valid_front : (c k : ℕ) (rows : List (List ℕ)) → HasValidOrder c rows → HasValidOrder c (take k rows)
 valid_front c k rows h = (h.0, record { order = h.1.order; kept = All-take (Keeps h.0) k rows h.1.kept })
 
--- the frontiers of a tied tree are exactly the valid orders
-pub tied_exact : (c : ℕ) (rows : List (List ℕ)) (t : PqTree) → column_count t ≡ c → IsTied c rows (outline t) → (o : List ℕ) → IsFrontier (outline t) o ↔ IsValidOrder c rows o
-tied_exact c rows t e tied = tied_law c rows (outline t) (subst (λ (n : ℕ). IsOrder n (leaves (outline t))) e t.proper.1) tied
+-- the frontiers of a canonical tree that is tied to the rows of a matrix are exactly its valid orders
+pub tied_orders : (m : RowList) (t : PqTree) → column_count t ≡ m.columns → IsCanonical (outline t) → IsTied m.columns m.rows (outline t) → HasAllOrders m t
+tied_orders m t e canonical tied = record {
+  columns = e;
+  canonical = canonical;
+  orders = tied_law m.columns m.rows (outline t) (subst (λ (n : ℕ). IsOrder n (leaves (outline t))) e t.proper.1) tied;
+}
+
+-- the same of what a reducer of so many columns, whose tree is tied to the rows, answers
+pub reducer_orders : (m : RowList) (r : Result PqTree AllocError) (n : ℕ) (t : Outline) → n ≡ m.columns → IsTied m.columns m.rows t → IfOk r (λ u. column_count u ≡ n) → IfOk r (λ u. IsCanonical (outline u)) → IfOk r (λ u. (rows : List (List ℕ)) → IsTied n rows t → IsTied n rows (outline u)) → IfOk r (HasAllOrders m)
+reducer_orders m (Ok u) n t e tied columns canonical kept = tied_orders m u (columns ∙ e) canonical (subst (λ (k : ℕ). IsTied k m.rows (outline u)) e (kept m.rows (subst (λ (k : ℕ). IsTied k m.rows t) (sym e) tied)))
+reducer_orders m (Err error) n t e tied columns canonical kept = tt
 
 -- where there is no row, the columns as they stand are a valid order
 pub some_order : (c : ℕ) → HasValidOrder c []

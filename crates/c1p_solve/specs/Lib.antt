@@ -1,1 +1,5 @@
 pub mod Answers
+pub mod Sessions
+pub mod Codes
+pub mod Kept
+pub mod Taking

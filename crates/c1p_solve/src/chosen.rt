@@ -1,6 +1,6 @@
 // The answer by the reducer that the programs use.
-ghost use Rattle.std.specs.Prelude.{IfOk};
-ghost use Rattle.pq_plain.specs.Plain.{plain_outline};
+ghost use Rattle.std.specs.Prelude.{◌≡◌, IfOk};
+ghost use Rattle.pq_plain.specs.Plain.{plain_columns, plain_outline};
 ghost use Rattle.c1p_solve.specs.Answers.{IsAnswer, LeavesTree};
 
 use crate::solver::{Solved, solve};
@@ -34,6 +34,7 @@ pub fn answer<L: Ledger>(
 ) -> Result<Answered, NoMemory>
     ensures solved { IfOk result (λ a. IsAnswer m.now a.solved) }
     ensures reducer { IfOk result (λ a. LeavesTree m.now (plain_outline a.reducer) a.solved) }
+    ensures columns { IfOk result (λ a. plain_columns a.reducer ≡ m.now.columns) }
 {
     let mut reducer = Chosen::new(alloc, m.columns())?;
     let solved = solve(alloc, &mut reducer, m, steps)?;

@@ -3,10 +3,12 @@
 #![tactic(auto)]
 
 mod chosen;
+mod session;
 mod solver;
 
 pub use chosen::{Answered, Chosen, answer};
 pub use row_model::NoMemory;
+pub use session::{Session, Started, Taken};
 pub use solver::{Solved, solve};
 
 #[cfg(test)]

@@ -39,6 +39,7 @@ pub fn solve<R: Reducer, L: Ledger>(
     requires universal { R.outline reducer.old ≡ universal m.now.columns }
     ensures answer { IfOk result (IsAnswer m.now) }
     ensures reducer { IfOk result (LeavesTree m.now (R.outline reducer.new)) }
+    ensures columns { R.columns reducer.new ≡ R.columns reducer.old }
 {
     let columns = m.columns();
     prove!(columns > 0);
@@ -61,7 +62,7 @@ pub fn solve<R: Reducer, L: Ledger>(
 }
 
 /// An odd cycle of a matrix of which the first `rows` rows have no valid order.
-fn conflict<L: Ledger>(
+pub fn conflict<L: Ledger>(
     alloc: Global,
     m: &Matrix,
     rows: u32,

@@ -1,5 +1,6 @@
-// Two rows with a valid order, and a third that leaves none.
-ghost use Rattle.std.specs.Prelude.{◌≡◌, ◌<◌};
+// Two rows with a valid order, a third that leaves none, and a session that goes on after it.
+ghost use Rattle.std.specs.Prelude.{◌≡◌, ◌<◌, length};
+ghost use Rattle.row_model.specs.Rows.{IsRow};
 ghost use Rattle.pq_tree.specs.Proper.{universal};
 ghost use Rattle.pq_plain.specs.Plain.{plain_columns, plain_outline};
 
@@ -34,6 +35,46 @@ fn answer_counted<L: Ledger>(alloc: Global, m: &Matrix, blank: Blank) -> Result<
 {
     let mut steps = Steps::<L>::new(blank);
     answer(alloc, m, &mut steps)
+}
+
+fn start_counted<L: Ledger>(alloc: Global, m: Matrix, blank: Blank) -> Result<Started, NoMemory>
+    requires name { blank.name ≡ L.name }
+    requires parts { blank.parts ≡ L.parts }
+    requires some { 0 < blank.parts }
+{
+    let mut steps = Steps::<L>::new(blank);
+    Session::start(alloc, m, &mut steps)
+}
+
+fn take_counted<L: Ledger>(
+    session: &mut Session,
+    row: &[u32],
+    explain: bool,
+    blank: Blank,
+) -> Result<Taken, NoMemory>
+    requires name { blank.name ≡ L.name }
+    requires parts { blank.parts ≡ L.parts }
+    requires some { 0 < blank.parts }
+    requires row { IsRow session.old.matrix.columns row.now }
+    requires room { length session.old.matrix.rows < 16777216 }
+{
+    let mut steps = Steps::<L>::new(blank);
+    session.take_row(row, explain, &mut steps)
+}
+
+fn started(alloc: Global, m: Matrix) -> Result<Started, NoMemory> {
+    start_counted::<Brand>(alloc, m, Blank::new(1))
+}
+
+// Takes a row over three columns, or none where the session has other columns.
+fn take(session: &mut Session, row: &[u32], explain: bool) -> Result<Option<Taken>, NoMemory>
+    requires { IsRow 3 row.now }
+{
+    if session.matrix().columns() != 3 || session.matrix().rows() > 8 {
+        return Ok(None);
+    }
+    let taken = take_counted::<Brand>(session, row, explain, Blank::new(1))?;
+    Ok(Some(taken))
 }
 
 fn solved(alloc: Global, m: &Matrix) -> Result<Solved, NoMemory> {
@@ -98,5 +139,45 @@ fn a_third_row_leaves_an_odd_cycle(rt: HostRuntime) -> Result<(), Fail> {
     let left = answered.reducer.tree(rt.alloc())?;
     let text = text_of(rt.alloc(), &left)?;
     assert_eq!(rt; text.as_slice(), b"[1 2 3]".as_slice());
+    Ok(())
+}
+
+// Whether a session of the row 110 takes 011, refuses 101 with and without a cycle, and takes 111 then.
+fn goes_on(session: &mut Session) -> Result<bool, NoMemory> {
+    let taken = take(session, &[2, 3], true)?;
+    let explained = take(session, &[1, 3], true)?;
+    let refused = take(session, &[1, 3], false)?;
+    let last = take(session, &[1, 2, 3], true)?;
+    Ok(
+        matches!(taken, Some(Taken::Ok))
+            && matches!(explained, Some(Taken::No(Some(_))))
+            && matches!(refused, Some(Taken::No(None)))
+            && matches!(last, Some(Taken::Ok)),
+    )
+}
+
+#[test]
+fn a_session_goes_on_after_a_refusal(rt: HostRuntime) -> Result<(), Fail> {
+    let mut base = Matrix::new(rt.alloc(), 3)?;
+    base.push_row(&[1, 2])?;
+    match started(rt.alloc(), base)? {
+        Started::No(_) => assert!(rt; false),
+        Started::Ok(mut session) => {
+            assert!(rt; goes_on(&mut session)?);
+            assert_eq!(rt; session.matrix().rows(), 3);
+            let text = text_of(rt.alloc(), &session.tree()?)?;
+            assert_eq!(rt; text.as_slice(), b"[1 2 3]".as_slice());
+            let shown = session.reducer().tree(rt.alloc())?;
+            let text = text_of(rt.alloc(), &shown)?;
+            assert_eq!(rt; text.as_slice(), b"[1 2 3]".as_slice());
+        }
+    }
+    Ok(())
+}
+
+#[test]
+fn no_session_starts_without_a_valid_order(rt: HostRuntime) -> Result<(), Fail> {
+    let started = started(rt.alloc(), triangle(rt.alloc())?)?;
+    assert!(rt; matches!(started, Started::No(_)));
     Ok(())
 }

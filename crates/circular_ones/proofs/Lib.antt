@@ -1,5 +1,5 @@
 mod Complements
-mod CutLaws
+pub mod CutLaws
 mod CutRows
 mod Outside
 mod Rotations

@@ -6,10 +6,12 @@ ghost use Rattle.circular_ones.specs.Circular.{complement, cut};
 use row_model::Matrix;
 use std::alloc::{AllocError, Global};
 
-/// The matrix in which each row that holds column 1 is replaced by its complement, the columns that it lacks. The other
-/// rows stay.
+/// The matrix in which each row that holds column 1 is replaced by its complement, the columns that it lacks (Tucker,
+/// 1971). The other rows stay.
 ///
-/// Its valid orders are circular orders of the given matrix, and one of them is a rotation of each circular order.
+/// Its valid orders are circular orders of the given matrix, and one of them is a rotation of each circular order, as
+/// [`circular_law`](crate::circular_law) says. A row that holds column 1 takes time linear in the number of columns, and
+/// any other in its length.
 pub fn cut_rows(alloc: Global, m: &Matrix) -> Result<Matrix, AllocError>
     ensures { IfOk result (λ rows. rows ≡ cut m.now) }
 {

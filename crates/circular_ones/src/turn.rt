@@ -5,7 +5,9 @@ ghost use Rattle.circular_ones.specs.Circular.{IsTurned};
 
 use std::alloc::{AllocError, Global};
 
-/// The rotation of an order that begins with column 1: the columns from 1 on, and then those before it.
+/// The rotation of an order that begins with column 1: the columns from 1 on, and then those before it. The time is linear.
+///
+/// The order is circular exactly where this rotation is a valid order of the [cut rows](crate::cut_rows) (Tucker, 1971).
 pub fn turned(alloc: Global, order: &[u32]) -> Result<Vec<u32>, AllocError>
     requires { IsOrder (length order.now) order.now }
     ensures { IfOk result (λ turned. IsTurned order.now turned.items) }

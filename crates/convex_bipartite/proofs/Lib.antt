@@ -1,4 +1,4 @@
-mod ConvexLaws
+pub mod ConvexLaws
 mod Counting
 mod InTurn
 mod Placing

@@ -15,7 +15,7 @@ use Rattle.graph_read.specs.Distances.{distance, IsDistances}
 use Rattle.graph_read.specs.Items.{with_item}
 use Rattle.graph_read.specs.DistanceFiles.{with_number, numbers_behind, is_symmetric_at, is_row_at, with_row, row_behind, table_behind, distances, distances_lines}
 use Rattle.graph_read.proofs.ItemLemmas.{long_file, short_file}
-use Rattle.graph_read.proofs.TableLemmas.{place_within}
+use Rattle.graph_read.proofs.PlaceLemmas.{place_within}
 
 -- where a row is not symmetric
 pub not_symmetric : (n : ℕ) (values : List ℕ) (x y z : ℕ) → (distance n values x (suc y) == distance n values (suc y) x) ≡ false → y < z → is_symmetric_at n values x z ≡ false

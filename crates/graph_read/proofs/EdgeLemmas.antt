@@ -1,5 +1,5 @@
 -- The lists of edges both ways are those of a graph.
-use Rattle.std.proofs.Common.{◌≡◌, ◌≢◌, ◌⊎◌, ◌∙◌, ℕ, zero, suc, ◌+◌, ◌-◌, ◌<◌, ◌≤◌, Bool, true, false, if◌then◌else◌, ◌||◌, ◌&&◌, eqb, List, [], ◌∷◌, ◌++◌, length, get_or, refl, sym, ap, inl, inr, arith, eq-eqb, subst, Option, Some, None, Result, Ok, Err}
+use Rattle.std.proofs.Common.{◌≡◌, ◌≢◌, ◌⊎◌, ◌∙◌, ℕ, zero, suc, ◌+◌, ◌-◌, ◌<◌, ◌≤◌, Bool, true, false, if◌then◌else◌, ◌||◌, ◌&&◌, eqb, List, [], ◌∷◌, ◌++◌, get_or, refl, sym, ap, inl, inr, arith, eq-eqb, subst, Option, Some, None, Result, Ok, Err}
 use Rattle.std.proofs.lemmas.Bool.{cases_eq, cases_lt, ne_eqb}
 use Rattle.std.proofs.lemmas.List.{get_or_past}
 use Rattle.std.specs.List.{AllByRecursion}
@@ -18,6 +18,7 @@ use Rattle.graph_read.specs.Graphs.{has_edge}
 use Rattle.graph_read.specs.Items.{items_behind, with_item}
 use Rattle.graph_read.specs.Numbers.{is_within, value_of, two_numbers}
 use Rattle.graph_read.specs.Edges.{both_ways, ends_from, lists_from, edge_named, edge_of, edges_of, unless_loop}
+use Rattle.graph_read.proofs.ListLemmas.{length-lists_from}
 
 -- the numbers of a range that are among others
 among_below : (a start n : ℕ) (numbers : List ℕ) → a < start → has (columns_among start n numbers) a ≡ false
@@ -57,19 +58,15 @@ list_of n c u edges some le =
     let at : 1 + (u - 1) ≡ u = omega arith in
     list_at 1 n c (u - 1) edges (omega arith) ∙ ap (λ a. columns_among 1 c (ends_from a edges)) at
 
-length-lists : (x n c : ℕ) (edges : List Edge) → length (lists_from x n c edges) ≡ n
-length-lists x zero c edges = refl
-length-lists x (suc n) c edges = ap suc (length-lists (x + 1) n c edges)
-
-edge_inside : (n u v : ℕ) (edges : List Edge) → 1 ≤ u → u ≤ n → 1 ≤ v → v ≤ n → has_edge (lists_from 1 n n edges) u v ≡ has (ends_from u edges) v
-edge_inside n u v edges pu lu pv lv = ap (λ list. has list v) (list_of n n u edges pu lu) ∙ among_inside v 1 n (ends_from u edges) pv (omega arith)
+pub edge_inside : (n c u v : ℕ) (edges : List Edge) → 1 ≤ u → u ≤ n → 1 ≤ v → v ≤ c → has_edge (lists_from 1 n c edges) u v ≡ has (ends_from u edges) v
+edge_inside n c u v edges pu lu pv lv = ap (λ list. has list v) (list_of n c u edges pu lu) ∙ among_inside v 1 c (ends_from u edges) pv (omega arith)
 
 lacks : (b : Bool) → (b ≡ true → ⊥) → b ≡ false
 lacks true h = absurd (h refl)
 lacks false h = refl
 
 list_past : (n u v : ℕ) (edges : List Edge) → 1 ≤ u → n < u → has_edge (lists_from 1 n n edges) u v ≡ false
-list_past n u v edges pu far = ap (λ list. has list v) (get_or_past (lists_from 1 n n edges) (u - 1) [] (omega (arith, length-lists 1 n n edges)))
+list_past n u v edges pu far = ap (λ list. has list v) (get_or_past (lists_from 1 n n edges) (u - 1) [] (omega (arith, length-lists_from 1 n n edges)))
 
 edge_outside : (n u v : ℕ) (edges : List Edge) → 1 ≤ u → (n < u) ⊎ (n < v) → has_edge (lists_from 1 n n edges) u v ≡ false
 edge_outside n u v edges pu (inl far) = list_past n u v edges pu far
@@ -82,7 +79,7 @@ edge_outside n u v edges pu (inr far) =
     ]
 
 -- edges both ways
-ends_step : (u v : ℕ) (edge : Edge) (edges : List Edge) → has (ends_from u (edge ∷ edges)) v ≡ ((eqb edge.from u && eqb edge.to v) || has (ends_from u edges) v)
+pub ends_step : (u v : ℕ) (edge : Edge) (edges : List Edge) → has (ends_from u (edge ∷ edges)) v ≡ ((eqb edge.from u && eqb edge.to v) || has (ends_from u edges) v)
 ends_step u v edge edges = elim (eqb edge.from u) as (λ p. has (if p then edge.to ∷ ends_from u edges else ends_from u edges) v ≡ ((p && eqb edge.to v) || has (ends_from u edges) v)) [ true ↦ refl | false ↦ refl ]
 
 turn : (p q r s h : Bool) → ((p && q) || ((r && s) || h)) ≡ ((s && r) || ((q && p) || h))
@@ -102,6 +99,25 @@ turn false false true true h = refl
 turn false false true false h = refl
 turn false false false true h = refl
 turn false false false false h = refl
+
+-- edges both ways are those of either way
+shuffle : (p r s a b : Bool) → (p || ((r && s) || (a || b))) ≡ ((p || a) || ((s && r) || b))
+shuffle true r s a b = refl
+shuffle false true true true b = refl
+shuffle false true true false b = refl
+shuffle false true false a b = refl
+shuffle false false true a b = refl
+shuffle false false false a b = refl
+
+pub ends_either : (u v : ℕ) (edges : List Edge) → has (ends_from u (both_ways edges)) v ≡ (has (ends_from u edges) v || has (ends_from v edges) u)
+ends_either u v [] = refl
+ends_either u v (e ∷ edges) =
+    let back : Edge = record { from = e.to; to = e.from } in
+    let rest = both_ways edges in
+    ends_step u v e (back ∷ rest)
+    ∙ ap (λ h. (eqb e.from u && eqb e.to v) || h) (ends_step u v back rest ∙ ap (λ h. (eqb e.to u && eqb e.from v) || h) (ends_either u v edges))
+    ∙ shuffle (eqb e.from u && eqb e.to v) (eqb e.to u) (eqb e.from v) (has (ends_from u edges) v) (has (ends_from v edges) u)
+    ∙ sym (ap (λ h. h || has (ends_from v (e ∷ edges)) u) (ends_step u v e edges) ∙ ap (λ h. ((eqb e.from u && eqb e.to v) || has (ends_from u edges) v) || h) (ends_step v u e edges))
 
 ends_turned : (u v : ℕ) (edges : List Edge) → has (ends_from u (both_ways edges)) v ≡ has (ends_from v (both_ways edges)) u
 ends_turned u v [] = refl
@@ -174,7 +190,7 @@ module _ (n : ℕ) (edges : List Edge) where
         | inl out ↦ edge_outside n u v (both_ways edges) pu (inl out) ∙ sym (edge_outside n v u (both_ways edges) pv (inr out))
         | inr lu ↦ elim (cases_lt n v) [
           | inl out ↦ edge_outside n u v (both_ways edges) pu (inr out) ∙ sym (edge_outside n v u (both_ways edges) pv (inl out))
-          | inr lv ↦ edge_inside n u v (both_ways edges) pu lu pv lv ∙ ends_turned u v edges ∙ sym (edge_inside n v u (both_ways edges) pv lv pu lu)
+          | inr lv ↦ edge_inside n n u v (both_ways edges) pu lu pv lv ∙ ends_turned u v edges ∙ sym (edge_inside n n v u (both_ways edges) pv lv pu lu)
         ]
       ]
 
@@ -182,7 +198,7 @@ module _ (n : ℕ) (edges : List Edge) where
   graph_loopless all v pv =
       elim (cases_lt n v) [
         | inl out ↦ edge_outside n v v (both_ways edges) pv (inl out)
-        | inr lv ↦ edge_inside n v v (both_ways edges) pv lv pv lv ∙ ends_loopless v edges all
+        | inr lv ↦ edge_inside n n v v (both_ways edges) pv lv pv lv ∙ ends_loopless v edges all
       ]
 
 pub edges_no_loop : (n : ℕ) (lines : List NumberedLine) (edges : List Edge) → edges_of (Plain n) lines ≡ Ok edges → AllByRecursion NoLoop edges

@@ -14,7 +14,7 @@ use Rattle.graph_read.specs.declared.edges.Shape.{Shape}
 use Rattle.graph_read.specs.GraphFiles.{bigraph, bigraph_lines, bigraph_with, graph, graph_lines, graph_with}
 use Rattle.graph_read.proofs.ItemLemmas.{long_file, short_file}
 use Rattle.graph_read.proofs.EdgeLemmas.{graph_symmetric, graph_loopless, edges_no_loop}
-use Rattle.graph_read.proofs.TableLemmas.{AreLists, are_lists, lists_count, lists_columns, lists_rows}
+use Rattle.graph_read.proofs.ListLemmas.{AreLists, are_lists, lists_count, lists_columns, lists_rows}
 
 module _ (limit : ℕ) (bytes : List ℕ) where
   pub bigraph_long : MAX_FILE_BYTES < length bytes → bigraph limit bytes ≡ read.Refused (record { code = LIMIT; line = 0 })

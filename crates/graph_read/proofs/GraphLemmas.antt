@@ -31,7 +31,7 @@ or_swap false true r = refl
 or_swap false false true = refl
 or_swap false false false = refl
 
-or_step : (p q r : Bool) → (p || (q || r)) ≡ ((p || q) || r)
+pub or_step : (p q r : Bool) → (p || (q || r)) ≡ ((p || q) || r)
 or_step true q r = refl
 or_step false q r = refl
 

@@ -1,6 +1,10 @@
 pub mod GraphLemmas
-pub mod TableLemmas
+pub mod ListLemmas
+pub mod PlaceLemmas
 pub mod ItemLemmas
 pub mod EdgeLemmas
 pub mod FileLemmas
 pub mod DistanceLemmas
+pub mod Ranges
+pub mod FileLaws
+pub mod WrittenLaws

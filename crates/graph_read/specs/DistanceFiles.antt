@@ -8,6 +8,7 @@ use Rattle.matrix_read.specs.Lines.{NumberedLine, without_mark, lines_of, filled
 use Rattle.matrix_read.specs.Words.{words_of, numeral_of}
 use Rattle.matrix_read.specs.declared.words.Numeral.{Numeral}
 use Rattle.matrix_read.specs.declared.words.Numeral.TheVariants.{Value, TooLarge, NotDigits}
+pub use Rattle.graph_read.specs.declared.distance_files.TheConstants.{MAX_ITEMS}
 use Rattle.graph_read.specs.Distances.{DistancesValue, distance}
 use Rattle.graph_read.specs.Items.{with_item, within_length}
 use Rattle.graph_read.specs.Numbers.{is_zero, is_past, value_of, one_number}
@@ -47,10 +48,6 @@ row_behind n x values line = if nat_le n x then Err COUNT else with_row n (lengt
 unfoldable pub table_behind : ℕ → ℕ → List ℕ → List NumberedLine → Result (List ℕ) Refusal
 table_behind n x values [] = if nat_le n x then Ok values else Err (record { code = COUNT; line = 0 })
 table_behind n x values (line ∷ lines) = with_item (row_behind n x values line.text) line.number (λ more. table_behind n (x + 1) more lines)
-
--- the greatest number of items of a file
-abbrev pub MAX_ITEMS : ℕ
-MAX_ITEMS = 256
 
 -- the number of items, or the code of its refusal
 abbrev pub items_named : Option Numeral → Result ℕ ℕ

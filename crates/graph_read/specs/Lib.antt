@@ -4,6 +4,7 @@ pub mod Inside
 pub mod Items
 pub mod Numbers
 pub mod Edges
-pub mod Tables
+pub mod Places
 pub mod GraphFiles
 pub mod DistanceFiles
+pub mod FileLaws

@@ -52,8 +52,8 @@ impl Bigraph {
 
     /// Adds the edge from `x` to `y`; one that is there stays. On an error the graph is as before.
     ///
-    /// A new edge takes time in proportion to the size of the graph. [`read_bigraph`](crate::read_bigraph) makes a graph
-    /// with all its edges at once.
+    /// A new edge takes time in proportion to the size of the graph, and until it stands the memory of one graph more.
+    /// [`read_bigraph`](crate::read_bigraph) makes a graph with all its edges at once.
     pub fn add_edge(&mut self, x: u32, y: u32) -> Result<(), AllocError>
         requires x { (1 ≤ x) × (x ≤ self.old.left) }
         requires y { (1 ≤ y) × (y ≤ self.old.right) }

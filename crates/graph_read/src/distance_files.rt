@@ -157,7 +157,7 @@ fn push_rows(
 /// A file that breaks a rule gives its first refusal. The length of the file comes first, then a file without a line, and
 /// then line for line from the first on. A row is judged by the number of rows before it, then word for word from the
 /// left, by the number of its words, and by the rows above it. Last come rows that are missing. The error is want of
-/// memory.
+/// memory. The time is linear in the length of the file, and the memory is that of the table.
 pub fn read_distances(alloc: Global, bytes: &[u8]) -> Result<Read<Distances>, AllocError>
     ensures { IfOk result (λ read. read ≡ distances bytes.now) }
 {

@@ -5,7 +5,7 @@ ghost use Rattle.graph_read.specs.Distances.{distance, IsSymmetric, HasZeroDiago
 use std::alloc::{AllocError, Global};
 use std::marker::Model;
 
-/// The distances between 1 to 4,096 items: a symmetric table with a zero diagonal, kept row by row.
+/// The distances between 1 to 4,096 items: a symmetric table with a zero diagonal, kept row by row, eight bytes a distance.
 ///
 /// Contracts know `IsDistances` of every table, by [`items`](Distances::items).
 #[derive(Drop)]

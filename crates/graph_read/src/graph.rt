@@ -50,8 +50,8 @@ impl Graph {
 
     /// Adds an edge between two vertices; one that is there stays. On an error the graph is as before.
     ///
-    /// A new edge takes time in proportion to the size of the graph. [`read_graph`](crate::read_graph) makes a graph with
-    /// all its edges at once.
+    /// A new edge takes time in proportion to the size of the graph, and until it stands the memory of two graphs more.
+    /// [`read_graph`](crate::read_graph) makes a graph with all its edges at once.
     pub fn add_edge(&mut self, u: u32, v: u32) -> Result<(), AllocError>
         requires u { (1 ≤ u) × (u ≤ self.old.vertices) }
         requires v { (1 ≤ v) × (v ≤ self.old.vertices) }

@@ -10,10 +10,11 @@ mod distances;
 mod edges;
 mod graph;
 mod graph_files;
+mod laws;
 mod lists;
 mod numbers;
+mod places;
 mod read_lists;
-mod table;
 #[cfg(test)]
 mod tests;
 
@@ -22,4 +23,5 @@ pub use distance_files::read_distances;
 pub use distances::Distances;
 pub use graph::Graph;
 pub use graph_files::{read_bigraph, read_graph};
+pub use laws::edge_laws;
 pub use row_model::NoMemory;

@@ -1,18 +1,20 @@
 // The lists of neighbours that lines of edges give.
-ghost use Rattle.std.specs.Prelude.{◌≡◌, ◌+◌, ◌*◌, ◌≤◌, ℕ, false, length, drop, slice_index_or, Err, IfOk, IfErr, OnOk};
+ghost use Rattle.std.specs.Prelude.{◌≡◌, ◌+◌, ◌≤◌, [], length, drop, Err, IfOk, IfSome, IfNone};
 ghost use Rattle.matrix_read.specs.Lines.{lines_of, filled_lines};
 ghost use Rattle.graph_read.specs.Edges.{left_of, right_of, edges_of, lists_with};
-ghost use Rattle.graph_read.specs.Tables.{MarksOf};
+ghost use Rattle.graph_read.specs.Places.{ArePlacesOf};
 
 use crate::edges::{Shape, edge_in};
-use crate::table::{lists_marked, mark_edge};
+use crate::places::{lists_at, push_edge};
 use matrix_read::next_filled_line;
 use row_model::{MAX_FILE_BYTES, Matrix, Read, Refusal};
 use std::alloc::{AllocError, Global};
 
 /// The lists that the lines from a place on give, where `passed` lines stand before it; or the first refusal.
 ///
-/// Each line that is not blank is an edge. The edges may stand in any order, and each any number of times.
+/// Each line that is not blank is an edge. The edges may stand in any order, and each any number of times. Beside the
+/// lists themselves they take four bytes for each line, and eight where edges go both ways. Where they stand in the order
+/// of the lists the time is linear; else they are sorted.
 pub fn read_lists(
     alloc: Global,
     shape: Shape,
@@ -27,33 +29,32 @@ pub fn read_lists(
     requires right { (1 ≤ right_of shape) × (right_of shape ≤ 32768) }
     ensures { IfOk result (λ read. read ≡ lists_with shape (edges_of shape (filled_lines (passed + 1) (lines_of (drop at text.now))))) }
 {
-    let size = shape.left() as usize * shape.right() as usize;
-    let mut marks = vec![in alloc; false; size]?;
-    match mark_lines(shape, text, at, passed, &mut marks) {
-        Err(refusal) => Ok(Read::Refused(refusal)),
-        Ok(()) => {
-            let lists = lists_marked(alloc, shape.left(), shape.right(), &marks)?;
+    let mut places = Vec::new(alloc);
+    match push_lines(shape, text, at, passed, &mut places)? {
+        Some(refusal) => Ok(Read::Refused(refusal)),
+        None => {
+            places.sort_unstable();
+            let lists = lists_at(alloc, shape.left(), shape.right(), &places)?;
             Ok(Read::Ok(lists))
         }
     }
 }
 
-// Marks the edge of each line, or gives the first refusal.
-fn mark_lines(
+// Adds the places of the edge of each line, or gives the first refusal.
+fn push_lines(
     shape: Shape,
     text: &[u8],
     at: usize,
     passed: u32,
-    marks: &mut [bool],
-) -> Result<(), Refusal>
+    places: &mut Vec<u32>,
+) -> Result<Option<Refusal>, AllocError>
     requires short { length text.now ≤ MAX_FILE_BYTES }
     requires at { at ≤ length text.now }
     requires passed { passed ≤ at }
     requires small { (left_of shape ≤ 65536) × (right_of shape ≤ 32768) }
-    requires table { length marks.old ≡ left_of shape * right_of shape }
-    requires clear { (k : ℕ) → slice_index_or marks.old k false ≡ false }
-    ensures refused { IfErr result (λ refusal. edges_of shape (filled_lines (passed + 1) (lines_of (drop at text.now))) ≡ Err refusal) }
-    ensures marks { OnOk result (MarksOf shape (edges_of shape (filled_lines (passed + 1) (lines_of (drop at text.now)))) marks.new) }
+    requires empty { places.old.items ≡ [] }
+    ensures refused { IfOk result (λ r. IfSome r (λ refusal. edges_of shape (filled_lines (passed + 1) (lines_of (drop at text.now))) ≡ Err refusal)) }
+    ensures places { IfOk result (λ r. IfNone r (ArePlacesOf shape (edges_of shape (filled_lines (passed + 1) (lines_of (drop at text.now)))) places.new.items)) }
 {
     let mut number = passed;
     let mut place = at;
@@ -62,10 +63,10 @@ fn mark_lines(
         place = line.span.next;
         match edge_in(shape, &text[line.span.start..line.span.end]) {
             Err(code) => {
-                return Err(Refusal { code, line: number });
+                return Ok(Some(Refusal { code, line: number }));
             }
-            Ok(edge) => mark_edge(shape, marks, edge),
+            Ok(edge) => push_edge(shape, places, edge)?,
         }
     }
-    Ok(())
+    Ok(None)
 }

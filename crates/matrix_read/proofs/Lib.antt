@@ -12,3 +12,7 @@ pub mod CellLemmas
 pub mod WrittenTableLemmas
 pub mod WrittenRowLemmas
 pub mod CloneRowLemmas
+pub mod Within
+pub mod WithinLines
+pub mod WithinTable
+pub mod WithinClones

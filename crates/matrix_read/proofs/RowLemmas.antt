@@ -91,7 +91,7 @@ module _ (marks : List Bool) (i c : ℕ) (rest whole : List ℕ) (within : i < l
       ]
 
 -- the length of the file comes first
-module _ (bytes : List ℕ) (inside : Read RowList) where
+module _ {T : Type 0} (bytes : List ℕ) (inside : Read T) where
   pub too_long : MAX_FILE_BYTES < length bytes → within_length bytes inside ≡ read.Refused (record { code = LIMIT; line = 0 })
   too_long h = rw (lt-ltb MAX_FILE_BYTES (length bytes) h) refl
 

@@ -1,7 +1,9 @@
 -- Tables that are read record by record.
-use Rattle.std.proofs.Common.{◌≡◌, ℕ, zero, suc, ◌+◌, ◌<◌, ◌≤◌, ◌==◌, ◌&&◌, not, Bool, true, false, if◌then◌else◌, List, [], ◌∷◌, ◌++◌, length, map, take, drop, get_or, Option, Some, None, ap, sym, ◌∙◌, refl, arith, add-one, append_assoc, length-append, eqb-true}
+use Rattle.std.proofs.Common.{◌≡◌, ℕ, zero, suc, ◌+◌, ◌<◌, ◌≤◌, ◌==◌, ◌&&◌, Bool, true, false, if◌then◌else◌, List, [], ◌∷◌, ◌++◌, length, map, take, drop, get_or, set, Option, Some, None, ap, sym, ◌∙◌, refl, arith, add-one, append_assoc, length-append, eqb-true}
 use Rattle.std.proofs.lemmas.Bool.{le-leb, lt-leb}
-use Rattle.std.proofs.lemmas.List.{append-nil, length-map}
+use Rattle.std.proofs.Math.Seq.{take-append_seam}
+use Rattle.std.proofs.lemmas.List.{append-nil, length-map, take_more_set, take-set-le}
+use Rattle.std.specs.Int.{from_bool}
 use Rattle.std.specs.List.{list_any, list_all, filter}
 use Rattle.csv.specs.Reading.{default_config, strip_bom, records}
 use Rattle.csv.specs.Records.{field_at}
@@ -12,7 +14,7 @@ use Rattle.row_model.specs.declared.TheConstants.{MAX_ROWS, MAX_FILE_BYTES}
 use Rattle.row_model.specs.declared.code.TheConstants.{GRAMMAR, LIMIT, CSV}
 use Rattle.matrix_read.specs.Lines.{is_blank_byte, is_blank}
 use Rattle.matrix_read.proofs.RowLemmas.{Ascends-low, too_long, short_enough}
-use Rattle.matrix_read.specs.Cells.{without_last_blanks, trimmed, cells, is_present, is_foreign, present_from, row_of}
+use Rattle.matrix_read.specs.Cells.{without_last_blanks, trimmed, cells, is_empty, is_present, is_foreign, present_from, row_of}
 use Rattle.matrix_read.specs.Table.{record_code, first_refusal, with_records, with_even_records, read_records, table}
 
 -- a byte after the last that is no blank
@@ -55,20 +57,48 @@ cells_step [] i field e = absurd (cc)
 cells_step (f ∷ fields) zero field e = let same : f ≡ field = cc in ap (λ t. trimmed t ∷ map trimmed fields) same
 cells_step (f ∷ fields) (suc i) field e = cells_step fields i field e ∙ ap (λ k. trimmed field ∷ map trimmed (drop k (f ∷ fields))) (sym (add-one (i + 1)) ∙ omega arith)
 
-pub cells_end : (fields : List (List ℕ)) (i : ℕ) → length fields ≤ i → map trimmed (drop i fields) ≡ []
-cells_end [] zero le = refl
-cells_end [] (suc i) le = refl
-cells_end (f ∷ fields) zero le = absurd (omega arith)
-cells_end (f ∷ fields) (suc i) le = cells_end fields i (omega arith)
+-- an empty field is an empty cell
+empty_cell : (field : List ℕ) → is_empty field ≡ true → trimmed field ≡ []
+empty_cell [] h = refl
+empty_cell (b ∷ field) h = absurd (omega (arith, eqb-true (length (b ∷ field)) 0 h))
+
+-- one field more: whether its cell is foreign, and its column, which is written whether or not the row has it
+module _ (fields : List (List ℕ)) (i : ℕ) (field : List ℕ) (is : field_at fields i ≡ Some field) where
+  pub foreign_here : is_foreign (trimmed field) ≡ true → list_any is_foreign (map trimmed (drop i fields)) ≡ true
+  foreign_here h = rw (cells_step fields i field is, h) refl
+
+  pub foreign_later : is_foreign (trimmed field) ≡ false → list_any is_foreign (map trimmed (drop (i + 1) fields)) ≡ list_any is_foreign (map trimmed (drop i fields))
+  foreign_later h = rw (cells_step fields i field is, h) refl
+
+  pub column_more : (columns : List ℕ) (ones entry : ℕ) → ones < length columns → entry ≡ from_bool (is_present (trimmed field))
+      → take (ones + entry) (set columns ones i) ++ present_from (i + 1) (map trimmed (drop (i + 1) fields)) ≡ take ones columns ++ present_from i (map trimmed (drop i fields))
+  column_more columns ones entry within h = rw (cells_step fields i field is, h) (by (is_present (trimmed field)))
+    where
+      rest : List ℕ
+      rest = present_from (i + 1) (map trimmed (drop (i + 1) fields))
+
+      by : (v : Bool) → take (ones + from_bool v) (set columns ones i) ++ rest ≡ take ones columns ++ (if v then i ∷ rest else rest)
+      by true = rw (take_more_set columns ones i within) (append_assoc (take ones columns) (i ∷ []) rest)
+      by false = rw (take-set-le (ones + 0) columns ones i (omega arith)) (ap (λ n. take n columns ++ rest) (omega arith))
+
+  pub foreign_empty : is_empty field ≡ true → list_any is_foreign (map trimmed (drop (i + 1) fields)) ≡ list_any is_foreign (map trimmed (drop i fields))
+  foreign_empty h = rw (cells_step fields i field is, empty_cell field h) refl
+
+  pub column_empty : is_empty field ≡ true → present_from (i + 1) (map trimmed (drop (i + 1) fields)) ≡ present_from i (map trimmed (drop i fields))
+  column_empty h = rw (cells_step fields i field is, empty_cell field h) refl
+
+-- what is written over a whole list
+pub written_whole : (xs ys : List ℕ) (n : ℕ) → n ≡ length xs → take n (xs ++ ys) ≡ xs
+written_whole xs ys n h = rw h (take-append_seam xs ys)
+
+-- an entry is 0 or 1
+pub entry_le : (entry : ℕ) (has : Bool) → entry ≡ from_bool has → entry ≤ 1
+entry_le entry true h = omega (arith, h)
+entry_le entry false h = omega (arith, h)
 
 -- the first item, which a filter keeps
 pub filter_kept : (keeps : List ℕ → Bool) (xs rest : List (List ℕ)) (x : List ℕ) → xs ≡ x ∷ rest → keeps x ≡ true → filter keeps xs ≡ x ∷ filter keeps rest
 filter_kept keeps xs rest x is h = rw (is, h) refl
-
--- a test whose negation is known
-pub is_of_not : (a b : Bool) → not a ≡ b → a ≡ not b
-is_of_not true b h = rw (← h) refl
-is_of_not false b h = rw (← h) refl
 
 -- the columns of cells ascend
 present_ascend : (c low : ℕ) (rest : List (List ℕ)) → low + length rest ≤ c → Ascends c low (present_from (low + 1) rest)

@@ -12,3 +12,4 @@ pub mod Table
 pub mod TableLaws
 pub mod WrittenRows
 pub mod CloneRows
+pub mod Limits

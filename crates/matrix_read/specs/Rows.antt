@@ -1,7 +1,6 @@
 -- Rows that are read one after another, and the first refusal among them.
 use Rattle.std.specs.Prelude.{ℕ, zero, suc, ◌+◌, List, [], ◌∷◌, length, Bool, if◌then◌else◌, nat_lt, Option, Some, None}
 use Rattle.column_order.specs.Orders.{has}
-use Rattle.row_model.specs.Rows.{RowList}
 use Rattle.row_model.specs.declared.TheConstants.{MAX_FILE_BYTES}
 use Rattle.row_model.specs.declared.code.TheConstants.{LIMIT}
 use Rattle.row_model.specs.declared.refusal.Refusal.{Refusal}
@@ -37,7 +36,7 @@ columns_among column (suc n) numbers =
     if has numbers column then column ∷ columns_among (column + 1) n numbers else columns_among (column + 1) n numbers
 
 -- what a file within the limit of its length gives, or the refusal of a longer one
-abbrev pub within_length : List ℕ → Read RowList → Read RowList
+abbrev pub within_length : {T : Type 0} → List ℕ → Read T → Read T
 within_length bytes inside = if nat_lt MAX_FILE_BYTES (length bytes) then read.Refused (record { code = LIMIT; line = 0 }) else inside
 
 -- the columns from one on whose marks are set

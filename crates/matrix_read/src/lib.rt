@@ -18,6 +18,7 @@ pub use clones::{clone_law, read_clones};
 pub use dense::{dense_law, read_dense};
 pub use lines::{FilledLine, LineSpan, next_filled_line, next_line, without_mark};
 pub use row_model::NoMemory;
+pub use rows::limits_law;
 pub use sparse::{named_laws, read_more, read_rows};
 pub use table::{read_table, table_laws};
 pub use words::{Numeral, WordSpan, next_word, number};

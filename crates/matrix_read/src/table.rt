@@ -1,5 +1,5 @@
 // A matrix as a table of comma-separated values.
-ghost use Rattle.std.specs.Prelude.{◌≡◌, ◌+◌, ◌∷◌, [], length, not, true, IfOk};
+ghost use Rattle.std.specs.Prelude.{◌≡◌, ◌+◌, ◌≤◌, ◌↔◌, ◌∷◌, [], length, take, IfOk, IsNone, IfSome, IsTrue};
 ghost use Rattle.std.specs.List.{list_any};
 ghost use Rattle.csv.specs.Records.{fields_of};
 ghost use Rattle.row_model.specs.declared.refusal.Read.TheVariants as read;
@@ -9,7 +9,7 @@ ghost use Rattle.matrix_read.specs.TableLaws.{TableLaw, RowLaw, TrimmedLaw, Name
 ghost use Rattle.matrix_read.specs.Table.{names_of, header_code, header_read, IsWithin, with_records, with_even_records, table};
 ghost use Rattle.matrix_read.specs.Names.{has_twice};
 
-use crate::cells::{is_absent, is_present, trimmed_field};
+use crate::cells::{entry, field, trimmed_field};
 use crate::records::next_record;
 use crate::rows::refused;
 use csv::{ByteRecord, Reader, ReaderBuilder};
@@ -92,31 +92,38 @@ fn with_record(
     if matrix.rows() >= MAX_ROWS {
         return Ok(refused(code::LIMIT, line));
     }
-    if !mark_columns(fields, matrix.columns(), columns)? {
+    columns.resize(matrix.columns() as usize, 0)?;
+    let Some(ones) = mark_columns(fields, columns) else {
         return Ok(refused(code::GRAMMAR, line));
-    }
-    matrix.push_row(columns)?;
+    };
+    matrix.push_row(&columns[..ones])?;
     Ok(Read::Ok(matrix))
 }
 
-// Whether all cells of a record are in the grammar. If so, `columns` has the record's row then.
-fn mark_columns(fields: &ByteRecord, count: u32, columns: &mut Vec<u32>) -> Result<bool, AllocError>
-    requires { length (fields_of fields.now) ≡ count + 1 }
-    ensures clean { IfOk result (λ clean. clean ≡ not (list_any is_foreign (cells (fields_of fields.now)))) }
-    ensures row { IfOk result (λ clean. clean ≡ true → columns.new.items ≡ row_of (fields_of fields.now)) }
+// How many columns the row of a record has, which stand at the front of `columns` then; none where a cell is not in the
+// grammar. The column of a filled field is written before it is known whether the row has it, which costs less than a
+// branch.
+#[inline(never)]
+fn mark_columns(fields: &ByteRecord, columns: &mut [u32]) -> Option<usize>
+    requires width { length (fields_of fields.now) ≡ length columns.old + 1 }
+    requires small { length columns.old ≤ 32768 }
+    ensures foreign { IsNone result ↔ IsTrue (list_any is_foreign (cells (fields_of fields.now))) }
+    ensures row { IfSome result (λ ones. take ones columns.new ≡ row_of (fields_of fields.now)) }
+    ensures within { IfSome result (λ ones. ones ≤ length columns.new) }
 {
-    columns.clear();
-    for before in 0..count {
-        let cell = trimmed_field(fields, before as usize + 1);
-        if is_present(cell) {
-            columns.push(before + 1)?;
+    let mut ones = 0;
+    for before in 0..columns.len() {
+        let field = field(fields, before + 1);
+        if field.is_empty() {
             continue;
         }
-        if !is_absent(cell) {
-            return Ok(false);
-        }
+        let Some(entry) = entry(field) else {
+            return None;
+        };
+        columns[ones] = before as u32 + 1;
+        ones += usize::from(entry);
     }
-    Ok(true)
+    Some(ones)
 }
 
 // A matrix with the columns of a header and no row, or the refusal of the header.

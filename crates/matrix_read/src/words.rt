@@ -48,7 +48,7 @@ pub fn next_word(bytes: &[u8], at: usize, end: usize) -> Option<WordSpan>
     })
 }
 
-// How many spaces and tabs stand at the front.
+/// How many spaces and tabs stand at the front.
 pub fn count_blanks(bytes: &[u8]) -> usize
     ensures count { result ≡ blank_len bytes.now }
     ensures within { result ≤ length bytes.now }
@@ -92,6 +92,7 @@ pub fn number(word: &[u8]) -> Numeral
     Numeral::Value(value)
 }
 
+/// Whether each byte is one of the digits `0` to `9`.
 pub fn all_digits(word: &[u8]) -> bool
     ensures { result ≡ list_all is_ascii_digit word.now }
 {

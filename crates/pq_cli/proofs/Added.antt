@@ -1,11 +1,10 @@
--- What a kind adds to a yes is within the grammar, its text is short, and the judge finds it true.
-use Rattle.std.proofs.Common.{◌≡◌, ℕ, ◌+◌, ◌*◌, ◌≤◌, List, [], ◌∷◌, ◌++◌, length, codes, sym, subst, arith}
-use Rattle.std.specs.Prelude.{flat_map, slice_get, IsSomeAnd}
+-- What a kind adds to a yes is within the grammar, and its text is short.
+use Rattle.std.proofs.Common.{ℕ, ◌+◌, ◌*◌, ◌≤◌, List, [], ◌∷◌, ◌++◌, length, codes, ap, arith}
+use Rattle.std.specs.Prelude.{flat_map}
 use Rattle.std.specs.List.{AllByRecursion}
 use Rattle.std.specs.Fmt.{decimal}
 use Rattle.std.proofs.lemmas.List.{length-append}
 use Rattle.std.proofs.lemmas.Slice.Zip.{AllZip-long}
-use Rattle.row_model.specs.declared.kind.Kind.{Kind}
 use Rattle.row_model.specs.declared.kind.Kind.TheVariants.{Clones}
 use Rattle.row_model.specs.declared.lists.Place.{Place}
 use Rattle.row_model.specs.declared.lists.Place.TheVariants.{Nowhere, At}
@@ -14,13 +13,16 @@ use Rattle.row_model.specs.Rows.{RowList}
 use Rattle.clone_map.specs.Places.{IsPlaceOf, ArePlaces}
 use Rattle.clone_map.specs.Contigs.{Cover}
 use Rattle.clone_map.proofs.RunLaws.{cover_le}
-use Rattle.verdict_text.specs.Verdict.{SideValue, AddedValue, YesValue}
+use Rattle.column_order.specs.Orders.{IsOrder}
+use Rattle.column_order.proofs.Counts.{order_length}
+use Rattle.verdict_text.specs.Verdict.{AddedValue}
 use Rattle.verdict_text.specs.Numbered.{numbered}
 use Rattle.verdict_text.specs.Grammar.{IsPlace, IsSpan, HasAdded}
 use Rattle.verdict_text.specs.Text.{number_word, ends_text, place_text, place_line, contig_line, places_text, contigs_text, added_text}
-use Rattle.verdict_check.specs.Instance.{plain, IsPlainKind}
-use Rattle.verdict_check.specs.Truth.{IsTrueAddedTo, IsTrueAdded}
-use Rattle.pq_cli.specs.Replies.{Adds}
+use Rattle.instance_model.specs.Instance.{InstanceValue, plain, circular, convex, doubly, proper, robinson, instance_kind, instance_columns, derived_matrix, IsInstance}
+use Rattle.pq_cli.specs.Replies.{AddsToMatrix, Adds}
+use Rattle.pq_cli.proofs.AddedIntervals.{near_intervals, intervals_fit, intervals_length}
+use Rattle.pq_cli.proofs.Sizes.{first_side, few_columns}
 use Rattle.pq_cli.proofs.PlainKinds.{plain_cases}
 use Rattle.pq_cli.proofs.Lengths.{IsColumn, four_digits, five_digits}
 
@@ -100,7 +102,7 @@ contigs_length (span ∷ spans) h =
     )
 
 -- the places and the contigs of clones in an order of the greatest matrix at most
-module _ (m : RowList) (o : List ℕ) (few_rows : length m.rows ≤ 65536) (short : length o ≤ 1024) (added : AddedValue) (adds : Adds Clones m o added) where
+module _ (m : RowList) (o : List ℕ) (few_rows : length m.rows ≤ 65536) (short : length o ≤ 1024) (added : AddedValue) (adds : AddsToMatrix Clones m o added) where
   near : AllByRecursion IsNearPlace added.places
   near = near_places o m.rows added.places short adds.1
 
@@ -135,17 +137,30 @@ module _ (m : RowList) (o : List ℕ) (few_rows : length m.rows ≤ 65536) (shor
         length-append (decimal (length added.contigs)) contigs,
       )
 
--- the same of each kind of matrix
-module _ (m : RowList) (o : List ℕ) (few_rows : length m.rows ≤ 65536) (short : length o ≤ 1024) (added : AddedValue) where
-  pub adds_fit : (kind : Kind) (columns : List ℕ) → IsPlainKind kind → Adds kind m o added → HasAdded kind columns added
-  adds_fit kind columns h = plain_cases (λ k. Adds k m o added → HasAdded k columns added) (λ a. a) (λ a. a) (λ a. a) (λ a. clones_fit m o few_rows short added a columns) kind h
+-- what an instance adds to an order of its first side
+module _ (i : InstanceValue) (h : IsInstance i) (o : List ℕ) (order : IsOrder (derived_matrix i 1).columns o) where
+  few_positions : length o ≤ 1024
+  few_positions = omega (arith, order_length (derived_matrix i 1).columns o order, few_columns i 1 h (first_side i))
 
-  pub adds_short : (kind : Kind) → IsPlainKind kind → Adds kind m o added → length (added_text kind added) ≤ 1500000
-  adds_short kind h =
-      plain_cases (λ k. Adds k m o added → length (added_text k added) ≤ 1500000) (λ a. omega arith) (λ a. omega arith) (λ a. omega arith) (clones_short m o few_rows short added) kind h
+pub adds_fit : (i : InstanceValue) (o : List ℕ) (added : AddedValue) → IsInstance i → IsOrder (derived_matrix i 1).columns o → Adds i o added
+    → HasAdded (instance_kind i) (instance_columns i) added
+adds_fit (plain kind m) o added h order a =
+    plain_cases (λ k. AddsToMatrix k m o added → HasAdded k (m.columns ∷ []) added) (λ b. b) (λ b. b) (λ b. b)
+    (λ b. clones_fit m o h.2 (few_positions (plain kind m) h o order) added b (m.columns ∷ [])) kind h.0 a
+adds_fit (circular m) o added h order a = a
+adds_fit (convex g) o added h order a = a
+adds_fit (doubly g) o added h order a = a
+adds_fit (proper g) o added h order a = (ap (λ n. n ∷ []) a.0.count, intervals_fit added.intervals (near_intervals g o added.intervals h order a.0), a.1, a.2)
+adds_fit (robinson d) o added h order a = a
 
--- what is added is true of the side
-pub adds_true : (m : RowList) (side : SideValue) (value : YesValue) (kind : Kind) → IsPlainKind kind → value.sides ≡ side ∷ [] → Adds kind m side.order value.added → IsTrueAdded (plain kind m) value
-adds_true m side value kind h is adds =
-    subst (λ sides. IsSomeAnd (slice_get sides 0) (IsTrueAddedTo kind m.rows value)) (sym is)
-    (plain_cases (λ k. Adds k m side.order value.added → IsTrueAddedTo k m.rows value side) (λ a. tt) (λ a. tt) (λ a. tt) (λ a. (a.1, a.2)) kind h adds)
+pub adds_short : (i : InstanceValue) (o : List ℕ) (added : AddedValue) → IsInstance i → IsOrder (derived_matrix i 1).columns o → Adds i o added
+    → length (added_text (instance_kind i) added) ≤ 1500000
+adds_short (plain kind m) o added h order a =
+    plain_cases (λ k. AddsToMatrix k m o added → length (added_text k added) ≤ 1500000) (λ b. omega arith) (λ b. omega arith) (λ b. omega arith)
+    (clones_short m o h.2 (few_positions (plain kind m) h o order) added) kind h.0 a
+adds_short (circular m) o added h order a = omega arith
+adds_short (convex g) o added h order a = omega arith
+adds_short (doubly g) o added h order a = omega arith
+adds_short (proper g) o added h order a =
+    omega (arith, h, a.0.count, intervals_length 1 added.intervals (omega (arith, h, a.0.count)) (near_intervals g o added.intervals h order a.0))
+adds_short (robinson d) o added h order a = omega arith

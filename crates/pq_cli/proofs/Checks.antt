@@ -4,7 +4,7 @@ use Rattle.row_model.specs.declared.kind.Kind.{Kind}
 use Rattle.row_model.specs.declared.refusal.Read.TheVariants as read
 use Rattle.pq_io.specs.Whole.{IsWhole}
 use Rattle.pq_io.specs.declared.reading.Whole.{Whole}
-use Rattle.verdict_check.specs.Instance.{InstanceValue}
+use Rattle.instance_model.specs.Instance.{InstanceValue}
 use Rattle.pq_cli.specs.Words.{Command, Check}
 use Rattle.pq_cli.specs.Instances.{instance_of}
 use Rattle.pq_cli.specs.Judgements.{IsJudging}
@@ -16,7 +16,7 @@ use Rattle.pq_cli.specs.declared.files.Stop.{Stop}
 use Rattle.pq_cli.specs.declared.files.Stop.TheVariants as stop
 
 -- the facts about the bytes that a shelf tells, at those that it told
-where_told : (P : List ℕ → Type 0) (told : Option (List ℕ)) (bytes : List ℕ) → IfSome told P → told ≡ Some bytes → P bytes
+pub where_told : (P : List ℕ → Type 0) (told : Option (List ℕ)) (bytes : List ℕ) → IfSome told P → told ≡ Some bytes → P bytes
 where_told P told bytes holds is = subst (λ found. IfSome found P) is holds
 
 -- a file in which an instance is read is not refused

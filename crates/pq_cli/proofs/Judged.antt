@@ -9,13 +9,13 @@ use Rattle.verdict_text.specs.Reading.{verdict_of}
 use Rattle.verdict_text.proofs.VerdictLaws.{verdict_again}
 use Rattle.row_model.specs.declared.kind.Kind.{Kind}
 use Rattle.row_model.specs.declared.refusal.Read.TheVariants as read
-use Rattle.verdict_check.specs.Instance.{InstanceValue}
+use Rattle.instance_model.specs.Instance.{InstanceValue}
 use Rattle.verdict_check.specs.Accepted.{Passes, IsAccepted, FailsFirst}
 use Rattle.verdict_check.specs.declared.outcome.Reason.{Reason}
 use Rattle.verdict_check.proofs.First.{all_parts}
 use Rattle.verdict_check.proofs.True.{true_law}
 use Rattle.pq_cli.specs.Judgements.{HasVerdict, IsJudgement, IsJudging, judgement_status, judgement_text}
-use Rattle.pq_cli.specs.Replies.{Replies, IsTrueOf, IsSolution}
+use Rattle.pq_cli.specs.Replies.{Replies, IsSolution}
 use Rattle.pq_cli.specs.Instances.{instance_of}
 use Rattle.pq_cli.specs.Laws.{CheckLaw, StatusLaw, SolvedLaw, AgreedLaw}
 use Rattle.pq_cli.specs.declared.judgement.Judgement.{Judgement}
@@ -35,7 +35,7 @@ unfolding Replies
 check_law kind file verdict bytes given text i e reply =
     let same : reply.0 ≡ i = same_read kind bytes i reply.0 e reply.1 in
     let valid : HasVerdict given (IsAccepted i) = subst (λ j. HasVerdict given (IsAccepted j)) same (valid_at_zero reply.0 given reply.2.judgement reply.2.holds reply.2.status_is) in
-    (valid.1.0, valid.1.1, valid.1.2, true_law i valid.1.0 valid.1.1 valid.1.3)
+    (valid.1.0, valid.1.1, valid.1.2, true_law i valid.1.0 (instance_read kind bytes i e).formed valid.1.1 valid.1.3)
 
 -- no test of a verdict that is accepted fails
 accepted_fails_none : (i : InstanceValue) (v : VerdictValue) (r : Reason) → IsAccepted i v → FailsFirst i v r → ⊥
@@ -68,9 +68,8 @@ status_law kind file verdict bytes given text status i e reply =
 -- a solution is accepted
 accepted_solution : (kind : Kind) (bytes given : List ℕ) (status : ℕ) (i : InstanceValue) → instance_of kind bytes ≡ read.Ok i → IsSolution i status given → HasVerdict given (IsAccepted i)
 accepted_solution kind bytes given status i e solution =
-    let read_as = instance_read kind bytes i e in
-    let true = subst (λ j. HasVerdict (verdict_text solution.verdict) (IsAccepted j)) (sym read_as.is) (solved_accepted kind read_as.matrix read_as.plain_kind read_as.within solution.verdict (subst (λ (j : InstanceValue). IsTrueOf j solution.verdict) read_as.is solution.holds)) in
-    subst (λ text. HasVerdict text (IsAccepted i)) (sym solution.text_is) true
+    let found = instance_read kind bytes i e in
+    solved_accepted i found.within found.formed status given solution
 
 pub solved_law : SolvedLaw
 unfolding Replies

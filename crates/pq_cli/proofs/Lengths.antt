@@ -20,14 +20,14 @@ use Rattle.verdict_text.specs.Text.{number_word, why_text, cycle_line}
 use Rattle.incompat_graph.specs.Numbers.{place_of}
 use Rattle.incompat_graph.proofs.NumberLaws.{place_of-inj, place_of-lt}
 
--- a number up to 1,024 has at most four digits, one up to 65,536 at most five
+-- a number up to 1,024 has at most four digits, one up to 65,536 at most five, one up to 9,999,999 at most seven
 pub four_digits : (n : ℕ) → n ≤ 1024 → length (decimal n) ≤ 4
 four_digits n le = length-decimal-le 4 n (omega arith) (omega arith) (omega arith)
 
 pub five_digits : (n : ℕ) → n ≤ 65536 → length (decimal n) ≤ 5
 five_digits n le = length-decimal-le 5 n (omega arith) (omega arith) (omega arith)
 
-pub seven_digits : (n : ℕ) → n ≤ 1048576 → length (decimal n) ≤ 7
+pub seven_digits : (n : ℕ) → n ≤ 9999999 → length (decimal n) ≤ 7
 seven_digits n le = length-decimal-le 7 n (omega arith) (omega arith) (omega arith)
 
 -- a column of the greatest matrix

@@ -1,10 +1,20 @@
 pub mod Added
+pub mod AddedIntervals
 pub mod Checks
+pub mod Extensions
+pub mod Fits
 pub mod Judged
 pub mod Lengths
 pub mod Lines
+pub mod NoOrders
 pub mod PlainKinds
 pub mod Reading
+pub mod RowFiles
+pub mod SessionLaws
+pub mod Sessions
+pub mod Short
+pub mod Shown
+pub mod Sizes
 pub mod Solved
 pub mod Statuses
 pub mod Turns
@@ -12,3 +22,5 @@ pub mod Within
 pub mod WithinClones
 pub mod WithinLines
 pub mod WithinTable
+pub mod Drawn
+pub mod Counted

@@ -82,7 +82,7 @@ word_width : (word : Option (List ℕ)) (c : ℕ) → first_width word ≡ Ok c 
 word_width None c e = absurd (cc)
 word_width (Some word) c e = numeral_width (numeral_of word) c e
 
-line_room : (c before : ℕ) (line : List ℕ) → line_code c before line ≡ None → before < MAX_ROWS
+pub line_room : (c before : ℕ) (line : List ℕ) → line_code c before line ≡ None → before < MAX_ROWS
 line_room c before line h = has_room before (words_code c (words_of line)) h
 
 -- lines that name columns

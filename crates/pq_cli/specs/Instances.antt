@@ -1,17 +1,19 @@
 -- The instance in the bytes of a file.
-use Rattle.std.specs.Prelude.{ℕ, List, ⊤}
+use Rattle.std.specs.Prelude.{◌≡◌, ℕ, List, ⊤}
 use Rattle.row_model.specs.declared.kind.Kind.{Kind}
-use Rattle.row_model.specs.declared.kind.Kind.TheVariants.{Matrix, Rows, Table, Clones}
+use Rattle.row_model.specs.declared.kind.Kind.TheVariants.{Matrix, Rows, Table, Circular, Convex, Doubly, Proper, Robinson, Clones}
 use Rattle.row_model.specs.declared.refusal.Read.{Read}
 use Rattle.row_model.specs.declared.refusal.Read.TheVariants as read
-use Rattle.row_model.specs.declared.code.TheConstants.{LIMIT}
+use Rattle.row_model.specs.declared.TheConstants.{MAX_COLUMNS, MAX_ROWS}
 use Rattle.matrix_read.specs.Dense.{dense}
 use Rattle.matrix_read.specs.Sparse.{sparse}
 use Rattle.matrix_read.specs.Table.{table}
 use Rattle.matrix_read.specs.Clones.{clones}
-use Rattle.verdict_check.specs.Instance.{InstanceValue, plain, IsInstance}
-use Rattle.verdict_check.specs.Value.{instance_value}
-use Rattle.verdict_check.specs.declared.instance.Instance.{Instance}
+use Rattle.graph_read.specs.GraphFiles.{bigraph, graph}
+use Rattle.graph_read.specs.DistanceFiles.{distances}
+use Rattle.instance_model.specs.Instance.{InstanceValue, plain, circular, convex, doubly, proper, robinson, IsInstance}
+use Rattle.instance_model.specs.Value.{instance_value}
+use Rattle.instance_model.specs.declared.instance.Instance.{Instance}
 
 -- what is made of a value that was read, or the refusal
 abbrev pub map_read : {A B : Type 0} → (A → B) → Read A → Read B
@@ -23,13 +25,25 @@ abbrev pub IfRead : {A : Type 0} → Read A → (A → Type 0) → Type 0
 IfRead (read.Ok value) P = P value
 IfRead (read.Refused refusal) P = ⊤
 
--- The instance of a kind in the bytes of its file, or their first refusal. Nothing is an instance of a kind that commands do not take.
+-- both are values of which P holds, or both are the same refusal
+abbrev pub AreRead : {A B : Type 0} → (A → B → Type 0) → Read A → Read B → Type 0
+AreRead P (read.Ok value) (read.Ok made) = P value made
+AreRead P (read.Ok value) (read.Refused refusal) = ⊥
+AreRead P (read.Refused refusal) (read.Ok made) = ⊥
+AreRead P (read.Refused refusal) (read.Refused same) = same ≡ refusal
+
+-- The instance of a kind in the bytes of its file, or their first refusal. Of a doubly convex graph both sides are columns, so that both have
+-- the limit of columns.
 abbrev pub instance_of : Kind → List ℕ → Read InstanceValue
 instance_of Matrix bytes = map_read (plain Matrix) (dense bytes)
 instance_of Rows bytes = map_read (plain Rows) (sparse bytes)
 instance_of Table bytes = map_read (plain Table) (table bytes)
+instance_of Circular bytes = map_read circular (dense bytes)
+instance_of Convex bytes = map_read convex (bigraph MAX_ROWS bytes)
+instance_of Doubly bytes = map_read doubly (bigraph MAX_COLUMNS bytes)
+instance_of Proper bytes = map_read proper (graph bytes)
+instance_of Robinson bytes = map_read robinson (distances bytes)
 instance_of Clones bytes = map_read (plain Clones) (clones bytes)
-instance_of kind bytes = read.Refused (record { code = LIMIT; line = 0 })
 
 -- an instance that verdicts are judged of: it is within the limits of files
 abbrev pub IsJudged : Instance → Type 0

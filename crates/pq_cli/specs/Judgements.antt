@@ -4,7 +4,7 @@ use Rattle.std.specs.Fmt.{decimal}
 use Rattle.verdict_text.specs.Verdict.{VerdictValue}
 use Rattle.verdict_text.specs.Grammar.{IsVerdict}
 use Rattle.verdict_text.specs.Text.{verdict_text}
-use Rattle.verdict_check.specs.Instance.{InstanceValue}
+use Rattle.instance_model.specs.Instance.{InstanceValue}
 use Rattle.verdict_check.specs.Accepted.{IsAccepted, FailsFirst}
 use Rattle.verdict_check.specs.declared.outcome.Reason.{Reason}
 use Rattle.verdict_check.specs.declared.outcome.Reason.TheVariants as reason

@@ -1,8 +1,13 @@
 pub mod Words
 pub mod Task
 pub mod Instances
+pub mod Bases
 pub mod Judgements
+pub mod Sessions
 pub mod Replies
+pub mod Taking
 pub mod Laws
 pub mod Runs
 pub mod Stops
+pub mod Generated
+pub mod Summaries

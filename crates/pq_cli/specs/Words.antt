@@ -1,10 +1,15 @@
 -- The words of the command line, and the commands that they may be.
-use Rattle.std.specs.Prelude.{ℕ, Bool, List, [], ◌∷◌, ◌&&◌, not, if◌then◌else◌, Option, Some, None, option_map, map, string_bytes, codes}
+use Rattle.std.specs.Prelude.{⊤, ℕ, ◌≤◌, nat_le, Bool, List, [], ◌∷◌, ◌&&◌, if◌then◌else◌, Option, Some, None, option_map, map, string_bytes, codes}
 use Rattle.std.specs.Str.{bytes_eq}
 use Rattle.std.specs.declared.string.String.{String}
 use Rattle.row_model.specs.declared.kind.Kind.{Kind}
-use Rattle.row_model.specs.declared.kind.Kind.TheVariants.{Matrix, Rows, Table, Clones}
+use Rattle.row_model.specs.declared.kind.Kind.TheVariants.{Matrix, Rows, Table, Circular, Convex, Doubly, Proper, Robinson, Clones}
+use Rattle.row_model.specs.declared.TheConstants.{MAX_COLUMNS, MAX_ROWS}
+use Rattle.matrix_read.specs.Words.{numeral_of}
+use Rattle.matrix_read.specs.declared.words.Numeral.{Numeral}
+use Rattle.matrix_read.specs.declared.words.Numeral.TheVariants.{Value, TooLarge, NotDigits}
 use Rattle.verdict_text.specs.Text.{kind_word}
+use Rattle.verdict_text.specs.Reading.{◌>>=◌}
 
 -- what the words ask for
 pub data Command : Type 0 where
@@ -12,49 +17,88 @@ pub data Command : Type 0 where
   Solve : (kind : Kind) (file : List ℕ) → Command
   -- `check KIND FILE VERDICT`
   Check : (kind : Kind) (file verdict : List ℕ) → Command
+  -- `extend KIND FILE ROWS`
+  Extend : (kind : Kind) (file rows : List ℕ) → Command
+  -- `gen SEED COLUMNS ROWS`
+  Gen : (seed columns rows : ℕ) → Command
 
 -- the words as bytes
 abbrev pub texts : {A : Type 0} → List (String A) → List (List ℕ)
 texts words = map string_bytes words
 
--- the kinds that commands take
-abbrev pub taken_kinds : List Kind
-taken_kinds = Matrix ∷ Rows ∷ Table ∷ Clones ∷ []
-
--- commands take this kind
-abbrev pub IsTaken : Kind → Type 0
-IsTaken Matrix = Unit {0}
-IsTaken Rows = Unit {0}
-IsTaken Table = Unit {0}
-IsTaken Clones = Unit {0}
-IsTaken kind = ⊥
+-- all kinds
+abbrev pub all_kinds : List Kind
+all_kinds = Matrix ∷ Rows ∷ Table ∷ Circular ∷ Convex ∷ Doubly ∷ Proper ∷ Robinson ∷ Clones ∷ []
 
 -- the kind of this word, among some
 abbrev pub kind_among : List Kind → List ℕ → Option Kind
 kind_among [] word = None
 kind_among (kind ∷ kinds) word = if bytes_eq word (kind_word kind) then Some kind else kind_among kinds word
 
--- the kind of this word, among those that commands take
+-- the kind of this word
 abbrev pub kind_of : List ℕ → Option Kind
-kind_of word = kind_among taken_kinds word
+kind_of word = kind_among all_kinds word
+
+-- `extend` takes this kind
+abbrev pub IsExtended : Kind → Type 0
+IsExtended Matrix = Unit {0}
+IsExtended Rows = Unit {0}
+IsExtended Table = Unit {0}
+IsExtended kind = ⊥
+
+-- the kind of this word, among those that `extend` takes
+abbrev pub extended_kind_of : List ℕ → Option Kind
+extended_kind_of word = kind_among (Matrix ∷ Rows ∷ Table ∷ []) word
 
 -- both names are that of standard input, which can be read but once
 abbrev pub are_both_input : List ℕ → List ℕ → Bool
-are_both_input file verdict = bytes_eq file (codes "-") && bytes_eq verdict (codes "-")
+are_both_input file other = bytes_eq file (codes "-") && bytes_eq other (codes "-")
+
+-- a number, if it is not less than the one and not more than the other
+abbrev pub in_range : ℕ → ℕ → Numeral → Option ℕ
+in_range least most (Value n) = if nat_le least n && nat_le n most then Some n else None
+in_range least most TooLarge = None
+in_range least most NotDigits = None
+
+-- the number that a word of digits writes, if it is in a range; leading zeros are allowed
+abbrev pub number_in : ℕ → ℕ → List ℕ → Option ℕ
+number_in least most word = in_range least most (numeral_of word)
+
+-- `check` with these words
+abbrev pub check_of : List ℕ → List ℕ → List ℕ → Option Command
+check_of kind file verdict = if are_both_input file verdict then None else option_map (λ k. Check k file verdict) (kind_of kind)
+
+-- `extend` with these words
+abbrev pub extend_of : List ℕ → List ℕ → List ℕ → Option Command
+extend_of kind file rows = if are_both_input file rows then None else option_map (λ k. Extend k file rows) (extended_kind_of kind)
+
+-- `gen` with these words: a seed of 64 bits, and numbers of columns and of rows within the limits
+abbrev pub gen_of : List ℕ → List ℕ → List ℕ → Option Command
+gen_of seed columns rows = do
+  s ← number_in 0 18446744073709551615 seed
+  c ← number_in 1 MAX_COLUMNS columns
+  r ← number_in 0 MAX_ROWS rows
+  Some (Gen s c r)
 
 -- the command of these words, or none where they are outside the grammar
 abbrev pub command_of : List (List ℕ) → Option Command
 command_of (verb ∷ kind ∷ file ∷ []) = if bytes_eq verb (codes "solve") then option_map (λ k. Solve k file) (kind_of kind) else None
-command_of (verb ∷ kind ∷ file ∷ verdict ∷ []) =
-    if bytes_eq verb (codes "check") && not (are_both_input file verdict) then option_map (λ k. Check k file verdict) (kind_of kind) else None
+command_of (verb ∷ first ∷ second ∷ third ∷ []) =
+    if bytes_eq verb (codes "check") then check_of first second third
+    else if bytes_eq verb (codes "extend") then extend_of first second third
+    else if bytes_eq verb (codes "gen") then gen_of first second third
+    else None
 command_of words = None
 
--- the kind of a command
-abbrev pub kind_in : Command → Kind
-kind_in (Solve kind file) = kind
-kind_in (Check kind file verdict) = kind
+-- `extend` takes its kind, and the numbers of `gen` are within the limits
+abbrev pub IsInGrammar : Command → Type 0
+IsInGrammar (Extend kind file rows) = IsExtended kind
+IsInGrammar (Gen seed columns rows) = (1 ≤ columns) × (columns ≤ MAX_COLUMNS) × (rows ≤ MAX_ROWS)
+IsInGrammar command = ⊤
 
 -- the names of a command's files, in the order in which they are read
 abbrev pub files_of : Command → List (List ℕ)
 files_of (Solve kind file) = file ∷ []
 files_of (Check kind file verdict) = file ∷ verdict ∷ []
+files_of (Extend kind file rows) = file ∷ rows ∷ []
+files_of (Gen seed columns rows) = []

@@ -2,19 +2,19 @@
 ghost use Rattle.std.specs.Prelude.{◌≡◌, ◌≢◌, ◌≤◌, ◌^◌, List, ℕ, IfOk, IfErr, IfSome};
 ghost use Rattle.pq_io.specs.Faults.{Rose};
 ghost use Rattle.pq_io.specs.Whole.{IsWhole};
-ghost use Rattle.verdict_check.specs.Instance.{plain};
-ghost use Rattle.verdict_check.specs.Value.{instance_value};
-ghost use Rattle.pq_cli.specs.Words.{IsTaken};
-ghost use Rattle.pq_cli.specs.Instances.{instance_of, map_read, IfRead, IsJudged};
+ghost use Rattle.instance_model.specs.Instance.{plain, IsPlainKind};
+ghost use Rattle.instance_model.specs.Value.{instance_value};
+ghost use Rattle.pq_cli.specs.Instances.{instance_of, map_read, AreRead, IfRead, IsJudged};
 ghost use Rattle.pq_cli.specs.Runs.{AsksOne};
 ghost use Rattle.pq_cli.specs.Stops.{stop_status, read_status, IsReadStop, Refuses, IsOf};
 
 use crate::NoMemory;
+use graph_read::{read_bigraph, read_distances, read_graph};
+use instance_model::Instance;
 use matrix_read::{read_clones, read_dense, read_rows, read_table};
 use pq_io::{ChooseError, ReadFail, Shelf, Whole, read_all};
-use row_model::{Kind, MAX_FILE_BYTES, Matrix, Read, Refusal, code};
+use row_model::{Kind, MAX_COLUMNS, MAX_FILE_BYTES, MAX_ROWS, Matrix, Read, Refusal, code};
 use std::alloc::Global;
-use verdict_check::Instance;
 
 /// What stood in the way of a reply.
 #[derive(Drop)]
@@ -48,7 +48,6 @@ pub fn read_instance<F: Shelf>(
     name: &str,
     files: &mut F,
 ) -> Result<Instance, Stop>
-    requires { IsTaken kind }
     ensures asked { AsksOne (F.asked files.old) (F.asked files.new) name.now (read_status result) }
     ensures later { F.faults files.old ≤ F.faults files.new }
     ensures fault { read_status result ≡ 4 → Rose (F.faults files.old) (F.faults files.new) }
@@ -78,20 +77,32 @@ pub fn read_instance<F: Shelf>(
 
 // The instance of a kind in the bytes of a file, or their first refusal.
 fn instance_in(alloc: Global, kind: Kind, bytes: &[u8]) -> Result<Read<Instance>, NoMemory>
-    requires { IsTaken kind }
-    ensures value { IfOk result (λ read. map_read instance_value read ≡ instance_of kind bytes.now) }
-    ensures judged { IfOk result (λ read. IfRead read IsJudged) }
+    ensures { IfOk result (λ read. map_read instance_value read ≡ instance_of kind bytes.now) }
 {
-    match matrix_in(alloc, kind, bytes) {
-        Err(_) => Err(NoMemory),
-        Ok(Read::Refused(refusal)) => Ok(Read::Refused(refusal)),
-        Ok(Read::Ok(m)) => Ok(Read::Ok(Instance::Plain(kind, m))),
+    Ok(match kind {
+        Kind::Circular => map_read(read_dense(alloc, bytes)?, Instance::Circular),
+        Kind::Convex => map_read(read_bigraph(alloc, bytes, MAX_ROWS)?, Instance::Convex),
+        Kind::Doubly => map_read(read_bigraph(alloc, bytes, MAX_COLUMNS)?, Instance::Doubly),
+        Kind::Proper => map_read(read_graph(alloc, bytes)?, Instance::Proper),
+        Kind::Robinson => map_read(read_distances(alloc, bytes)?, Instance::Robinson),
+        _ => map_read(matrix_in(alloc, kind, bytes)?, |m| Instance::Plain(kind, m)),
+    })
+}
+
+// The instance of what was read, or the refusal.
+fn map_read<T, F: FnOnce(T) -> Instance>(read: Read<T>, instance: F) -> Read<Instance>
+    requires { IfRead read (λ value. F.pre instance value) }
+    ensures { AreRead (F.post instance) read result }
+{
+    match read {
+        Read::Ok(value) => Read::Ok(instance(value)),
+        Read::Refused(refusal) => Read::Refused(refusal),
     }
 }
 
 // The matrix of a kind in the bytes of a file, or their first refusal.
 fn matrix_in(alloc: Global, kind: Kind, bytes: &[u8]) -> Result<Read<Matrix>, NoMemory>
-    requires { IsTaken kind }
+    requires { IsPlainKind kind }
     ensures { IfOk result (λ read. map_read (plain kind) read ≡ instance_of kind bytes.now) }
 {
     match kind {

@@ -1,7 +1,7 @@
 // The reply to `check`.
 ghost use Rattle.std.specs.Prelude.{◌≡◌, ◌⊎◌, List, ℕ, IfOk};
 ghost use Rattle.pq_io.specs.Whole.{IsWhole};
-ghost use Rattle.verdict_check.specs.Value.{instance_value};
+ghost use Rattle.instance_model.specs.Value.{instance_value};
 ghost use Rattle.pq_cli.specs.Instances.{IsJudged};
 ghost use Rattle.pq_cli.specs.Judgements.{IsJudgement, IsJudging};
 

@@ -13,16 +13,24 @@ use std::alloc::Global;
 
 /// Does what the words ask for, and answers the exit status.
 ///
-/// The words are `solve KIND FILE` or `check KIND FILE VERDICT`, where KIND is `matrix`, `rows`, `table` or `clones`, and not both names
-/// are `-`. The files are read from `files` in turn, the reply is written to `out`, and on the statuses 2 to 6 one line is offered to `err`,
-/// whose faults change nothing.
+/// The words are one of these, with KIND one of `matrix`, `rows`, `table`, `circular`, `convex`, `doubly`, `proper`, `robinson` and `clones`:
+///
+/// - `solve KIND FILE`: the orders of an instance;
+/// - `check KIND FILE VERDICT`: whether a verdict on an instance is true;
+/// - `extend KIND FILE ROWS`, with KIND `matrix`, `rows` or `table`: further rows, taken in turn after those of a matrix as long as a valid
+///   order is left;
+/// - `gen SEED COLUMNS ROWS`: a matrix that a number draws, summed up. The words are decimal digits, leading zeros allowed: SEED of at most
+///   64 bits, COLUMNS from 1 to 1,024, ROWS at most 65,536.
+///
+/// Of two names of files not both are `-`. The files are read from `files` in turn, the reply is written to `out`, and on the statuses 2 to 6
+/// one line is offered to `err`, whose faults change nothing.
 ///
 /// | Status | Meaning |
 /// |---|---|
-/// | 0 | `solve`: the instance has a valid order; `check`: the verdict is valid |
-/// | 1 | `solve`: it has none; `check`: the verdict is invalid |
+/// | 0 | `solve`: the instance has a textbook order of its kind, on each side; `check`: the verdict is valid; `extend`: the matrix has a valid order; `gen`: done |
+/// | 1 | `solve`: it has none, on one side at least; `check`: the verdict is invalid; `extend`: the matrix has no valid order |
 /// | 2 | the words are outside the grammar; nothing is read, and nothing is written to `out` |
-/// | 3 | the file of the instance is refused |
+/// | 3 | the file of the instance is refused, or that of further rows |
 /// | 4 | a file can't be read |
 /// | 5 | the reply can't be written; some first bytes of it were |
 /// | 6 | memory is refused |

@@ -1,9 +1,10 @@
 // The words of the command line.
-ghost use Rattle.std.specs.Prelude.{◌≡◌, option_map, IfSome};
-ghost use Rattle.pq_cli.specs.Words.{texts, command_of, kind_of, kind_in, are_both_input, IsTaken};
+ghost use Rattle.std.specs.Prelude.{◌≡◌, ◌≤◌, [], ◌∷◌, option_map, IfSome};
+ghost use Rattle.pq_cli.specs.Words.{texts, command_of, check_of, extend_of, gen_of, kind_of, extended_kind_of, number_in, are_both_input, IsExtended, IsInGrammar};
 ghost use Rattle.pq_cli.specs.Task.{command_seen};
 
-use row_model::Kind;
+use matrix_read::{Numeral, number};
+use row_model::{Kind, MAX_COLUMNS, MAX_ROWS};
 
 /// What the words ask for.
 #[derive(Clone, Copy)]
@@ -24,51 +25,156 @@ pub enum Task<'a> {
         /// The name of the file of the verdict.
         verdict: &'a str,
     },
+    /// `extend KIND FILE ROWS`: take further rows after those of a matrix, as long as they leave an order.
+    Extend {
+        /// The kind of the matrix.
+        kind: Kind,
+        /// The name of its file.
+        file: &'a str,
+        /// The name of the file of the further rows.
+        rows: &'a str,
+    },
+    /// `gen SEED COLUMNS ROWS`: make a matrix and sum up its tree.
+    Gen {
+        /// Where the draws begin.
+        seed: u64,
+        /// The number of columns, from 1 to [`MAX_COLUMNS`].
+        columns: u32,
+        /// The number of rows, at most [`MAX_ROWS`].
+        rows: u32,
+    },
 }
 
-/// What the words ask for, or none where they are outside the grammar.
+/// What the words ask for, or none where they are outside the grammar. It takes no memory.
 pub fn task_of(words: &[String]) -> Option<Task<'_>>
     ensures task { option_map command_seen result ≡ command_of (texts words.now) }
-    ensures taken { IfSome result (λ task. IsTaken (kind_in (command_seen task))) }
+    ensures taken { IfSome result (λ task. IsInGrammar (command_seen task)) }
 {
     match words {
-        [verb, kind, file] if verb.as_str() == "solve" => {
-            let kind = kind_of(kind.as_str())?;
-            Some(Task::Solve {
-                kind,
-                file: file.as_str(),
-            })
-        }
-        [verb, kind, file, verdict]
-            if verb.as_str() == "check" && !are_both_input(file.as_str(), verdict.as_str()) => {
-            let kind = kind_of(kind.as_str())?;
-            Some(Task::Check {
-                kind,
-                file: file.as_str(),
-                verdict: verdict.as_str(),
-            })
-        }
+        [verb, kind, file] => three_words(verb.as_str(), kind.as_str(), file.as_str()),
+        [verb, first, second, third] => four_words(
+            verb.as_str(),
+            first.as_str(),
+            second.as_str(),
+            third.as_str(),
+        ),
         _ => None,
     }
 }
 
-// The kind of a word, among those that commands take.
+// What three words ask for.
+fn three_words<'a>(verb: &str, kind: &str, file: &'a str) -> Option<Task<'a>>
+    ensures task { option_map command_seen result ≡ command_of (verb.now ∷ kind.now ∷ file.now ∷ []) }
+    ensures taken { IfSome result (λ task. IsInGrammar (command_seen task)) }
+{
+    if verb != "solve" {
+        return None;
+    }
+    let kind = kind_of(kind)?;
+    Some(Task::Solve { kind, file })
+}
+
+// What four words ask for.
+fn four_words<'a>(verb: &str, first: &'a str, second: &'a str, third: &'a str) -> Option<Task<'a>>
+    ensures task { option_map command_seen result ≡ command_of (verb.now ∷ first.now ∷ second.now ∷ third.now ∷ []) }
+    ensures taken { IfSome result (λ task. IsInGrammar (command_seen task)) }
+{
+    match verb {
+        "check" => check_of(first, second, third),
+        "extend" => extend_of(first, second, third),
+        "gen" => gen_of(first, second, third),
+        _ => None,
+    }
+}
+
+// `check` with these words.
+fn check_of<'a>(kind: &str, file: &'a str, verdict: &'a str) -> Option<Task<'a>>
+    ensures task { option_map command_seen result ≡ check_of kind.now file.now verdict.now }
+    ensures taken { IfSome result (λ task. IsInGrammar (command_seen task)) }
+{
+    if are_both_input(file, verdict) {
+        return None;
+    }
+    let kind = kind_of(kind)?;
+    Some(Task::Check {
+        kind,
+        file,
+        verdict,
+    })
+}
+
+// `extend` with these words.
+fn extend_of<'a>(kind: &str, file: &'a str, rows: &'a str) -> Option<Task<'a>>
+    ensures task { option_map command_seen result ≡ extend_of kind.now file.now rows.now }
+    ensures taken { IfSome result (λ task. IsInGrammar (command_seen task)) }
+{
+    if are_both_input(file, rows) {
+        return None;
+    }
+    let kind = extended_kind_of(kind)?;
+    Some(Task::Extend { kind, file, rows })
+}
+
+// `gen` with these words.
+fn gen_of(seed: &str, columns: &str, rows: &str) -> Option<Task<'static>>
+    ensures task { option_map command_seen result ≡ gen_of seed.now columns.now rows.now }
+    ensures taken { IfSome result (λ task. IsInGrammar (command_seen task)) }
+{
+    let seed = number_in(0, u64::MAX, seed)?;
+    let columns = number_in(1, u64::from(MAX_COLUMNS), columns)? as u32;
+    let rows = number_in(0, u64::from(MAX_ROWS), rows)? as u32;
+    Some(Task::Gen {
+        seed,
+        columns,
+        rows,
+    })
+}
+
+// The kind of a word.
 fn kind_of(word: &str) -> Option<Kind>
-    ensures kind { result ≡ kind_of word.now }
-    ensures taken { IfSome result IsTaken }
+    ensures { result ≡ kind_of word.now }
 {
     match word {
         "matrix" => Some(Kind::Matrix),
         "rows" => Some(Kind::Rows),
         "table" => Some(Kind::Table),
+        "circular" => Some(Kind::Circular),
+        "convex" => Some(Kind::Convex),
+        "doubly" => Some(Kind::Doubly),
+        "proper" => Some(Kind::Proper),
+        "robinson" => Some(Kind::Robinson),
         "clones" => Some(Kind::Clones),
         _ => None,
     }
 }
 
-// Whether both names are that of standard input, which can be read but once.
-fn are_both_input(file: &str, verdict: &str) -> bool
-    ensures { result ≡ are_both_input file.now verdict.now }
+// The kind of a word, among those that `extend` takes.
+fn extended_kind_of(word: &str) -> Option<Kind>
+    ensures kind { result ≡ extended_kind_of word.now }
+    ensures taken { IfSome result IsExtended }
 {
-    file == "-" && verdict == "-"
+    match word {
+        "matrix" => Some(Kind::Matrix),
+        "rows" => Some(Kind::Rows),
+        "table" => Some(Kind::Table),
+        _ => None,
+    }
+}
+
+// The number that a word of digits writes, if it is from `least` to `most`.
+fn number_in(least: u64, most: u64, word: &str) -> Option<u64>
+    ensures number { result ≡ number_in least most word.now }
+    ensures range { IfSome result (λ n. (least ≤ n) × (n ≤ most)) }
+{
+    match number(word.as_bytes()) {
+        Numeral::Value(n) if least <= n && n <= most => Some(n),
+        _ => None,
+    }
+}
+
+// Whether both names are that of standard input, which can be read but once.
+fn are_both_input(file: &str, other: &str) -> bool
+    ensures { result ≡ are_both_input file.now other.now }
+{
+    file == "-" && other == "-"
 }

@@ -2,6 +2,11 @@
 #![tactic(auto)]
 
 #[cfg(test)]
+mod graphs;
+#[cfg(test)]
+mod sessions;
+
+#[cfg(test)]
 mod tests {
     use matrix_read::read_dense;
     use pq_cli::run;
@@ -27,14 +32,14 @@ mod tests {
 
     // What a run left.
     #[derive(Drop)]
-    struct Outcome {
-        status: u8,
-        out: MemSink,
-        err: MemSink,
+    pub struct Outcome {
+        pub status: u8,
+        pub out: MemSink,
+        pub err: MemSink,
     }
 
     // Runs words over a matrix and a verdict, with ample memory and with room for so many bytes.
-    fn outcome_with(
+    pub fn outcome_with(
         alloc: Global,
         words: &[&str],
         matrix: &[u8],
@@ -63,7 +68,7 @@ mod tests {
     }
 
     // Solves a file of a kind, compares the verdict with what is wanted, and has it checked.
-    fn solved_as(
+    pub fn solved_as(
         rt: &impl Abort,
         alloc: Global,
         kind: &str,

@@ -1,5 +1,5 @@
-// Umbrella orders and the valid orders of the closed rows.
-ghost use Rattle.proper_interval.specs.Laws.{UmbrellaLaw};
+// Umbrella orders, the valid orders of the closed rows, and proper models.
+ghost use Rattle.proper_interval.specs.Laws.{UmbrellaLaw, ModelLaw, IntervalsLaw, OneListLaw, ProperLaw};
 
 /// Umbrella orders and valid orders of the closed rows (Roberts, 1969).
 ///
@@ -7,4 +7,16 @@ ghost use Rattle.proper_interval.specs.Laws.{UmbrellaLaw};
 /// exactly where it is a valid order of the closed rows.
 pub fn umbrella_law()
     ensures { UmbrellaLaw }
+{}
+
+/// Proper models and umbrella orders (Roberts, 1969).
+///
+/// A graph that has a proper model has an umbrella order. An umbrella order has exactly one list of the intervals of
+/// [`intervals`](crate::intervals), and it is a proper model. So a graph has a proper model exactly where its closed rows
+/// have a valid order.
+pub fn model_law()
+    ensures orders { ModelLaw }
+    ensures models { IntervalsLaw }
+    ensures one_list { OneListLaw }
+    ensures exactly { ProperLaw }
 {}

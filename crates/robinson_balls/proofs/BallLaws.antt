@@ -1,59 +1,31 @@
 -- Robinson orders are the valid orders of the balls.
-use Rattle.std.proofs.Common.{◌≡◌, ◌∙◌, ℕ, zero, suc, ◌<◌, ◌≤◌, true, false, cond, leb, ltb, eqb, List, [], ◌∷◌, length, map, get_or, IsTrue, All, refl, sym, ap, subst, inl, inr, arith}
-use Rattle.std.proofs.lemmas.Bool.{cases_eq, cases_lt, leb-true, le-leb, lt-ltb, le-ltb, ne_eqb, both_ways}
+use Rattle.std.proofs.Common.{◌≡◌, ◌∙◌, ℕ, zero, suc, ◌<◌, ◌≤◌, leb, List, [], ◌∷◌, length, map, get_or, IsTrue, All, refl, sym, ap, subst, inl, inr, arith}
+use Rattle.std.proofs.lemmas.Bool.{cases_eq, cases_lt, leb-true, le-leb, both_ways}
 use Rattle.std.proofs.lemmas.List.Elements.{All-append, All-map, All-nil, All-contains, Contains-append_left, Contains-append_right}
 use Rattle.std.specs.List.{Contains}
 use Rattle.column_order.specs.Orders.{has, place, IsOrder, Keeps}
-use Rattle.column_order.proofs.Lists.{has_cases, has_head, has_tail, has_at, at_place}
+use Rattle.column_order.proofs.Lists.{has_cases, has_at, at_place}
 use Rattle.column_order.proofs.Counts.{order_within, order_has}
 use Rattle.row_model.proofs.Filtered.{has_filtered}
 use Rattle.graph_read.specs.Distances.{DistancesValue, IsDistances}
-use Rattle.robinson_balls.specs.Balls.{between, ball, with_radius, radii_to, balls_round, balls_to, IsRobinsonOrder}
+use Rattle.robinson_balls.specs.Balls.{between, ball, radii_to, balls_round, balls_to, IsRobinsonOrder}
 use Rattle.robinson_balls.specs.Laws.{RobinsonLaw}
+use Rattle.robinson_balls.proofs.Rising.{with_number_has, with_number_keeps}
 
 -- an item is in a ball exactly where its distance is at most the radius
-in_ball : (d : DistancesValue) (x radius y : ℕ) → 1 ≤ y → y ≤ d.items → between d x y ≤ radius → IsTrue (has (ball d x radius) y)
+pub in_ball : (d : DistancesValue) (x radius y : ℕ) → 1 ≤ y → y ≤ d.items → between d x y ≤ radius → IsTrue (has (ball d x radius) y)
 in_ball d x radius y l u h = has_filtered (λ z. leb (between d x z) radius) d.items y l u ∙ le-leb (between d x y) radius h
 
-near : (d : DistancesValue) (x radius y : ℕ) → 1 ≤ y → y ≤ d.items → IsTrue (has (ball d x radius) y) → between d x y ≤ radius
+pub near : (d : DistancesValue) (x radius y : ℕ) → 1 ≤ y → y ≤ d.items → IsTrue (has (ball d x radius) y) → between d x y ≤ radius
 near d x radius y l u h = leb-true (between d x y) radius (sym (has_filtered (λ z. leb (between d x z) radius) d.items y l u) ∙ h)
 
--- a list with one radius more has that radius and those before
-pub with_radius_has : (s : ℕ) (radii : List ℕ) → IsTrue (has (with_radius s radii) s)
-with_radius_has s [] = has_head s []
-with_radius_has s (r ∷ radii) =
-    elim (cases_lt r s) [
-      | inl l ↦ rw (lt-ltb r s l) (has_tail r s (with_radius s radii) (with_radius_has s radii))
-      | inr l ↦ elim (cases_eq r s) [
-        | inl e ↦ rw (le-ltb r s l, e) (cond_same s radii)
-        | inr n ↦ rw (le-ltb r s l, ne_eqb r s n) (has_head s (r ∷ radii))
-      ]
-    ]
-  where
-    cond_same : (s : ℕ) (radii : List ℕ) → IsTrue (has (cond (eqb s s) (s ∷ radii) (s ∷ s ∷ radii)) s)
-    cond_same s radii = elim (eqb s s) as (λ b. IsTrue (has (cond b (s ∷ radii) (s ∷ s ∷ radii)) s)) [ true ↦ has_head s radii | false ↦ has_head s (s ∷ radii) ]
-
-pub with_radius_keeps : (s r : ℕ) (radii : List ℕ) → IsTrue (has radii r) → IsTrue (has (with_radius s radii) r)
-with_radius_keeps s r [] h = has_tail s r [] h
-with_radius_keeps s r (q ∷ radii) h =
-    elim (ltb q s) as (λ b. IsTrue (has (cond b (q ∷ with_radius s radii) (cond (eqb q s) (q ∷ radii) (s ∷ q ∷ radii))) r)) [
-      | true ↦ elim (has_cases q r radii h) [
-        | inl e ↦ subst (λ a. IsTrue (has (q ∷ with_radius s radii) a)) e (has_head q (with_radius s radii))
-        | inr t ↦ has_tail q r (with_radius s radii) (with_radius_keeps s r radii t)
-      ]
-      | false ↦ elim (eqb q s) as (λ b. IsTrue (has (cond b (q ∷ radii) (s ∷ q ∷ radii)) r)) [
-        | true ↦ h
-        | false ↦ has_tail s r (q ∷ radii) h
-      ]
-    ]
-
 -- each distance of an item is a radius
-radii_have : (d : DistancesValue) (x z n : ℕ) → 1 ≤ z → z ≤ n → IsTrue (has (radii_to d x n) (between d x z))
+pub radii_have : (d : DistancesValue) (x z n : ℕ) → 1 ≤ z → z ≤ n → IsTrue (has (radii_to d x n) (between d x z))
 radii_have d x z zero l u = absurd (omega (arith, l, u))
 radii_have d x z (suc n) l u =
     elim (cases_eq z (suc n)) [
-      | inl e ↦ subst (λ a. IsTrue (has (radii_to d x (suc n)) (between d x a))) (sym e) (with_radius_has (between d x (suc n)) (radii_to d x n))
-      | inr k ↦ with_radius_keeps (between d x (suc n)) (between d x z) (radii_to d x n) (radii_have d x z n l (omega (arith, u, k)))
+      | inl e ↦ subst (λ a. IsTrue (has (radii_to d x (suc n)) (between d x a))) (sym e) (with_number_has (between d x (suc n)) (radii_to d x n))
+      | inr k ↦ with_number_keeps (between d x (suc n)) (between d x z) (radii_to d x n) (radii_have d x z n l (omega (arith, u, k)))
     ]
 
 map_has : (f : ℕ → List ℕ) (xs : List ℕ) (a : ℕ) → IsTrue (has xs a) → Contains (map f xs) (f a)

@@ -1,3 +1,5 @@
 pub mod BallLaws
-pub mod RadiiLemmas
+pub mod Growing
+pub mod Rims
+pub mod Rising
 pub mod RowLemmas

@@ -14,14 +14,14 @@ abbrev pub ball : DistancesValue → ℕ → ℕ → List ℕ
 ball d x radius = filter (λ y. nat_le (between d x y) radius) (range_with_len 1 d.items)
 
 -- a rising list of numbers with one number more, where the list lacks it
-abbrev pub with_radius : ℕ → List ℕ → List ℕ
-with_radius s [] = s ∷ []
-with_radius s (r ∷ radii) = if nat_lt r s then r ∷ with_radius s radii else if r == s then r ∷ radii else s ∷ r ∷ radii
+abbrev pub with_number : ℕ → List ℕ → List ℕ
+with_number s [] = s ∷ []
+with_number s (r ∷ radii) = if nat_lt r s then r ∷ with_number s radii else if r == s then r ∷ radii else s ∷ r ∷ radii
 
 -- the distances of x from the items 1 to z, each once and in rising order
 abbrev pub radii_to : DistancesValue → ℕ → ℕ → List ℕ
 radii_to d x zero = []
-radii_to d x (suc z) = with_radius (between d x (suc z)) (radii_to d x z)
+radii_to d x (suc z) = with_number (between d x (suc z)) (radii_to d x z)
 
 -- the balls round x, whose radii are its distances from all items, itself included
 abbrev pub balls_round : DistancesValue → ℕ → List (List ℕ)

@@ -1,2 +1,3 @@
 pub mod Balls
 pub mod Laws
+pub mod Neighbours

@@ -5,7 +5,7 @@
 #![tactic(auto)]
 
 mod laws;
-mod radii;
+mod neighbours;
 mod rows;
 
 pub use laws::robinson_law;

@@ -1,8 +1,9 @@
 // The matrix of all balls.
-ghost use Rattle.std.specs.Prelude.{◌≡◌, ◌≤◌, ◌+◌, ◌++◌, length, map, IfOk, OnOk};
-ghost use Rattle.robinson_balls.specs.Balls.{ball, balls_of};
+ghost use Rattle.std.specs.Prelude.{◌≡◌, ◌≤◌, ◌+◌, ◌++◌, length, IfOk, OnOk};
+ghost use Rattle.std.specs.List.Sorted.{IsNonDecreasing};
+ghost use Rattle.robinson_balls.specs.Balls.{balls_of, balls_round, with_number};
 
-use crate::radii::list_radii;
+use crate::neighbours::{Neighbour, ends_ball, list_neighbours};
 use graph_read::Distances;
 use row_model::Matrix;
 use std::alloc::{AllocError, Global};
@@ -12,49 +13,51 @@ use std::alloc::{AllocError, Global};
 /// For each item x, from 1, and for each distance s of x from some item, itself included, in rising order and each once,
 /// a row has the items at a distance of at most s from x. The valid orders of the rows are the Robinson orders, as
 /// [`robinson_law`](crate::robinson_law) says. With n items there are at most n rows for each.
+///
+/// The items are sorted by distance once for each centre, and each ball is grown from the one before it.
 pub fn balls(alloc: Global, d: &Distances) -> Result<Matrix, AllocError>
     ensures { IfOk result (λ m. m ≡ balls_of d.now) }
 {
     let mut balls = Matrix::new(alloc, d.items())?;
-    let mut radii = Vec::with_capacity(alloc, d.items() as usize)?;
-    let mut members = Vec::with_capacity(alloc, d.items() as usize)?;
+    let mut neighbours = Vec::with_capacity(alloc, d.items() as usize)?;
+    let mut ball = Vec::with_capacity(alloc, d.items() as usize)?;
     for before in 0..d.items() {
-        list_radii(&mut radii, d, before + 1)?;
-        push_balls(&mut balls, &mut members, d, before + 1, &radii)?;
+        push_balls(&mut balls, &mut neighbours, &mut ball, d, before + 1)?;
     }
     Ok(balls)
 }
 
-// Adds a row for the ball round `x` of each radius.
+// Adds the balls round `x`: each is the one before it with the items at the next distance. The two lists are room to work in.
 fn push_balls(
     balls: &mut Matrix,
-    members: &mut Vec<u32>,
+    neighbours: &mut Vec<Neighbour>,
+    ball: &mut Vec<u32>,
     d: &Distances,
     x: u32,
-    radii: &[u64],
 ) -> Result<(), AllocError>
     requires columns { balls.old.columns ≡ d.now.items }
     requires centre { (1 ≤ x) × (x ≤ d.now.items) }
-    requires room { length balls.old.rows + length radii.now ≤ 16777216 }
-    ensures { OnOk result (balls.new ≡ record balls.old { rows = balls.old.rows ++ map (ball d.now x) radii.now }) }
+    requires room { length balls.old.rows + d.now.items ≤ 16777216 }
+    ensures { OnOk result (balls.new ≡ record balls.old { rows = balls.old.rows ++ balls_round d.now x }) }
 {
-    for k in 0..radii.len() {
-        list_ball(members, d, x, radii[k])?;
-        balls.push_row(members)?;
+    list_neighbours(neighbours, d, x)?;
+    ball.clear();
+    for k in 0..neighbours.len() {
+        insert(ball, neighbours[k].item)?;
+        if ends_ball(neighbours, k) {
+            balls.push_row(ball)?;
+        }
     }
     Ok(())
 }
 
-// Makes the list that of the items at a distance of at most the radius from `x`, in ascending order.
-fn list_ball(members: &mut Vec<u32>, d: &Distances, x: u32, radius: u64) -> Result<(), AllocError>
-    requires { (1 ≤ x) × (x ≤ d.now.items) }
-    ensures { OnOk result (members.new.items ≡ ball d.now x radius) }
+// Puts a number at its place in a list that does not fall, where the list lacks it.
+fn insert(list: &mut Vec<u32>, number: u32) -> Result<(), AllocError>
+    requires { IsNonDecreasing list.old.items }
+    ensures { OnOk result (list.new.items ≡ with_number number list.old.items) }
 {
-    members.clear();
-    for before in 0..d.items() {
-        if d.at(x, before + 1) <= radius {
-            members.push(before + 1)?;
-        }
+    if let Err(place) = list.binary_search(&number) {
+        list.insert(place, number)?;
     }
     Ok(())
 }

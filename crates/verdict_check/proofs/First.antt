@@ -1,8 +1,9 @@
 -- The first test that fails, found part by part.
-use Rattle.std.proofs.Common.{◌≡◌, ◌↔◌, ◌∙◌, ℕ, zero, suc, ◌≤◌, List, [], ◌∷◌, ◌++◌, map, Option, Some, None, refl, sym, ap, subst, inl, inr, arith, append_assoc}
+use Rattle.std.proofs.Common.{◌≡◌, ◌↔◌, ◌∙◌, ℕ, zero, suc, ◌≤◌, List, [], ◌∷◌, ◌++◌, map, Option, Some, None, refl, sym, ap, subst, inl, inr, arith, append_assoc, append-nil, ◌+◌, ◌<◌}
 use Rattle.std.specs.Prelude.{option_map, flat_map}
 use Rattle.std.specs.List.{AllByRecursion}
 use Rattle.std.proofs.lemmas.Bool.{cases_eq}
+use Rattle.std.proofs.lemmas.Grind.{flat_map-append}
 use Rattle.std.proofs.lemmas.List.{map-append}
 use Rattle.verdict_check.specs.Tests.{numbers}
 use Rattle.verdict_check.specs.Accepted.{IsFirstFailing}
@@ -84,6 +85,47 @@ all_after P xs ys h k = finds_after P xs ys None h k
 pub all_over : {A : Type 0} (P : Reason → Type 0) (f : A → List Reason) (xs : List A) → ((x : A) → AllByRecursion P (f x)) → AllByRecursion P (flat_map f xs)
 all_over P f [] h = tt
 all_over P f (x ∷ xs) h = all_after P (f x) (flat_map f xs) (h x) (all_over P f xs h)
+
+-- tests in parts with the numbers 1 to n: one part more
+parts_more : (f : ℕ → List Reason) (n : ℕ) → flat_map f (numbers (suc n)) ≡ flat_map f (numbers n) ++ f (suc n)
+parts_more f n = flat_map-append f (numbers n) (suc n ∷ []) ∙ ap (λ xs. flat_map f (numbers n) ++ xs) (append-nil (f (suc n)))
+
+pub all_parts_more : (P : Reason → Type 0) (f : ℕ → List Reason) (n : ℕ) → AllByRecursion P (flat_map f (numbers n)) → AllByRecursion P (f (n + 1)) → AllByRecursion P (flat_map f (numbers (n + 1)))
+all_parts_more P f n h k =
+    let e : n + 1 ≡ suc n = omega arith in
+    let next : AllByRecursion P (f (suc n)) = subst (λ j. AllByRecursion P (f j)) e k in
+    subst (λ j. AllByRecursion P (flat_map f (numbers j))) (sym e) (subst (AllByRecursion P) (sym (parts_more f n)) (all_after P (flat_map f (numbers n)) (f (suc n)) h next))
+
+-- the first parts are passed, and in the next one a test fails
+pub finds_in_part : (P : Reason → Type 0) (f : ℕ → List Reason) (n k : ℕ) (r : Reason) → k < n → AllByRecursion P (flat_map f (numbers k)) → Finds P (f (k + 1)) (Some r) →
+    Finds P (flat_map f (numbers n)) (Some r)
+finds_in_part P f zero k r l h g = absurd (omega (arith, l))
+finds_in_part P f (suc n) k r l h g =
+    subst (λ xs. Finds P xs (Some r)) (sym (parts_more f n))
+    (elim (cases_eq k n) [
+      | inl e ↦
+          finds_after P (flat_map f (numbers n)) (f (suc n)) (Some r) (subst (λ j. AllByRecursion P (flat_map f (numbers j))) e h)
+          (subst (λ j. Finds P (f j) (Some r)) (next k n e) g)
+      | inr ne ↦ finds_part P (flat_map f (numbers n)) (f (suc n)) r (finds_in_part P f n k r (omega (arith, l, ne)) h g)
+    ])
+  where
+    next : (k n : ℕ) → k ≡ n → k + 1 ≡ suc n
+    next k n e = omega (arith, e)
+
+-- what holds of each part with a number of 1 to n
+pub all_in_parts : (P : Reason → Type 0) (f : ℕ → List Reason) (n : ℕ) → ((s : ℕ) → 1 ≤ s → s ≤ n → AllByRecursion P (f s)) → AllByRecursion P (flat_map f (numbers n))
+all_in_parts P f zero h = tt
+all_in_parts P f (suc n) h =
+    subst (AllByRecursion P) (sym (parts_more f n)) (all_after P (flat_map f (numbers n)) (f (suc n)) (all_in_parts P f n (λ s l u. h s l (omega arith))) (h (suc n) (omega arith) (omega arith)))
+
+pub in_part_all : (P : Reason → Type 0) (f : ℕ → List Reason) (n : ℕ) → AllByRecursion P (flat_map f (numbers n)) → (s : ℕ) → 1 ≤ s → s ≤ n → AllByRecursion P (f s)
+in_part_all P f zero h s l u = absurd (omega (arith, l, u))
+in_part_all P f (suc n) h s l u =
+    let parts = all_parts P (flat_map f (numbers n)) (f (suc n)) (subst (AllByRecursion P) (parts_more f n) h) in
+    elim (cases_eq s (suc n)) [
+      | inl e ↦ subst (λ j. AllByRecursion P (f j)) (sym e) parts.1
+      | inr ne ↦ in_part_all P f n parts.0 s l (omega (arith, u, ne))
+    ]
 
 -- what holds of each test holds of the one between two parts
 all_at : (P : Reason → Type 0) (xs ys : List Reason) (r : Reason) → AllByRecursion P (xs ++ r ∷ ys) → P r

@@ -1,85 +1,59 @@
 -- All tests of a verdict.
-use Rattle.std.proofs.Common.{◌≡◌, ℕ, ◌-◌, ◌≤◌, List, [], ◌∷◌, length, map, Option, Some, None, Result, Ok, Err, slice_get, refl, sym, subst, arith, append-nil, ◌++◌}
-use Rattle.std.specs.Prelude.{IfOk, IsSomeAnd, flat_map}
+use Rattle.std.proofs.Common.{◌≡◌, ◌∙◌, ℕ, ◌≤◌, List, [], ◌∷◌, length, map, Option, Some, None, Result, Ok, Err, refl, sym, ap, subst}
+use Rattle.std.specs.Prelude.{IfOk}
 use Rattle.std.specs.List.{AllByRecursion}
-use Rattle.row_model.specs.declared.kind.Kind.{Kind}
-use Rattle.row_model.specs.declared.kind.Kind.TheVariants.{Matrix, Rows, Table, Circular, Convex, Doubly, Proper, Robinson, Clones}
+use Rattle.row_model.specs.declared.kind.Kind.TheVariants.{Clones}
+use Rattle.row_model.specs.declared.graph.Line.{Line}
+use Rattle.row_model.specs.declared.lists.Interval.{Interval}
 use Rattle.row_model.specs.Rows.{RowList}
-use Rattle.pq_tree.specs.Proper.{IsProper}
-use Rattle.verdict_text.specs.Grammar.{AreSides}
-use Rattle.verdict_text.specs.Verdict.{SideValue, YesValue, Claim, yes_claim, no_claim, VerdictValue}
-use Rattle.verdict_check.specs.Instance.{InstanceValue, plain, instance_kind, instance_columns, derived_matrix}
-use Rattle.verdict_check.specs.Tests.{numbers, side_tests, kind_tests, added_tests, yes_tests, no_tests, claim_tests, tests}
-use Rattle.verdict_check.specs.YesTests.{HasSide, PassesYes}
+use Rattle.graph_read.specs.Graphs.{GraphValue}
+use Rattle.proper_interval.specs.Models.{IsProperModel}
+use Rattle.verdict_text.specs.Grammar.{IsClaim, IsVerdict}
+use Rattle.verdict_text.specs.Verdict.{YesValue, Claim, yes_claim, no_claim, VerdictValue}
+use Rattle.instance_model.specs.Instance.{InstanceValue, plain, circular, convex, doubly, proper, robinson, instance_kind, instance_columns, IsSideOf, derived_matrix}
+use Rattle.verdict_check.specs.Tests.{numbers, side_tests, sides_tests, added_tests, yes_tests, no_tests, claim_tests, tests}
+use Rattle.verdict_check.specs.YesTests.{PassesOrder, PassesYes}
 use Rattle.verdict_check.specs.Accepted.{PassesClaim, Passes, IsAccepted}
-use Rattle.verdict_check.specs.Found.{Finds, PassesSide, PassesAdded}
+use Rattle.verdict_check.specs.Found.{Finds}
 use Rattle.verdict_check.specs.declared.outcome.Reason.{Reason}
 use Rattle.verdict_check.specs.declared.outcome.Reason.TheVariants as reason
-use Rattle.verdict_check.proofs.First.{finds_here, finds_next, finds_after, finds_part, finds_same, all_each, all_after, all_apply, all_over}
+use Rattle.verdict_check.proofs.First.{finds_here, finds_next, finds_after, finds_part, finds_same, all_each, all_after, all_apply, all_over, in_part_all}
+use Rattle.verdict_check.proofs.Sides.{first_side}
 
--- one side, with its tree
-pub only_side : (c : ℕ) (value : YesValue) → AreSides (c ∷ []) value.sides → (1 ≤ length value.sides) × HasSide value 1 (λ side. IsProper c side.tree)
-only_side c value h = only value.sides h
-  where
-    only : (sides : List SideValue) → AreSides (c ∷ []) sides → (1 ≤ length sides) × IsSomeAnd (slice_get sides (1 - 1)) (λ side. IsProper c side.tree)
-    only [] h = absurd h
-    only (s ∷ sides) h = (omega arith, h.0.0)
+-- of the tests of a yes one on its sides fails
+pub sides_fail : (i : InstanceValue) (value : YesValue) (r : Reason) → Finds (PassesYes i value) (sides_tests i) (Some r) → Finds (PassesYes i value) (yes_tests i) (Some r)
+sides_fail i value r f = finds_part (PassesYes i value) (sides_tests i) (added_tests i) r f
 
--- the tests of a side are tests of a yes about a matrix
-to_yes : (kind : Kind) (m : RowList) (value : YesValue) (r : Reason) → PassesSide m value r → PassesYes (plain kind m) value r
-to_yes kind m value (reason.Order s) h = h
-to_yes kind m value (reason.Tree s k) h = h
-to_yes kind m value other h = absurd h
+-- each test on its sides is passed, and then come those of what the kind adds
+pub added_last_ok : {E : Type 0} (i : InstanceValue) (value : YesValue) (r : Result (Option Reason) E) → AllByRecursion (PassesYes i value) (sides_tests i) →
+    IfOk r (Finds (PassesYes i value) (added_tests i)) → IfOk r (Finds (PassesYes i value) (yes_tests i))
+added_last_ok i value (Ok o) h f = finds_after (PassesYes i value) (sides_tests i) (added_tests i) o h f
+added_last_ok i value (Err e) h f = tt
 
-from_yes : (kind : Kind) (m : RowList) (value : YesValue) → AllByRecursion (λ r. PassesYes (plain kind m) value r → PassesSide m value r) (side_tests 1 m)
-from_yes kind m value = (λ h. h, all_each (λ r. PassesYes (plain kind m) value r → PassesSide m value r) (reason.Tree 1) (length m.rows) (λ k l u h. h))
+-- what a graph adds fails its test
+pub intervals_fail : (i : InstanceValue) (g : GraphValue) (value : YesValue) (intervals : List Interval) → i ≡ proper g → intervals ≡ value.added.intervals → (IsProperModel g intervals → ⊥) →
+    Finds (PassesYes i value) (added_tests i) (Some reason.Intervals)
+intervals_fail i g value intervals is e f =
+    subst (λ j. Finds (PassesYes j value) (added_tests j) (Some reason.Intervals)) (sym is) (finds_here (PassesYes (proper g) value) reason.Intervals [] (λ h. f (subst (IsProperModel g) (sym e) h)))
 
--- and so are those of what the kind adds
-to_added : (kind : Kind) (m : RowList) (value : YesValue) (r : Reason) → PassesAdded m value r → PassesYes (plain kind m) value r
-to_added kind m value reason.Places h = h
-to_added kind m value reason.Contigs h = h
-to_added kind m value other h = absurd h
+-- where each test of the sides is passed, the order of the first side is a textbook order
+pub first_order : (i : InstanceValue) (value : YesValue) → AllByRecursion (PassesYes i value) (sides_tests i) → PassesOrder i value 1
+first_order i value h =
+    let is = first_side i in
+    let first = in_part_all (PassesYes i value) (λ s. side_tests s (derived_matrix i s)) (length (instance_columns i)) h 1 is.0 is.1 in
+    first.0
 
-from_kind : (kind named : Kind) (m : RowList) (value : YesValue) → AllByRecursion (λ r. PassesYes (plain kind m) value r → PassesAdded m value r) (kind_tests named)
-from_kind kind Clones m value = (λ h. h, (λ h. h, tt))
-from_kind kind named m value = tt
+-- a claim in the grammar is one about the instance's kind and columns
+pub claim_on : (i : InstanceValue) (v : VerdictValue) (claim : Claim) → v.kind ≡ instance_kind i → v.columns ≡ instance_columns i → v.claim ≡ claim → IsVerdict v → IsClaim (instance_kind i) (instance_columns i) claim
+claim_on i v claim k c e h = subst (λ x. IsClaim x (instance_columns i) claim) k (subst (λ x. IsClaim v.kind x claim) c (subst (IsClaim v.kind v.columns) e h.claim))
 
-pub only_tests : (kind : Kind) (m : RowList) → yes_tests (plain kind m) ≡ side_tests 1 m ++ kind_tests kind
-only_tests kind m = subst (λ xs. xs ++ kind_tests kind ≡ side_tests 1 m ++ kind_tests kind) (sym (append-nil (side_tests 1 m))) refl
-
-module _ (kind : Kind) (m : RowList) (value : YesValue) where
-  abbrev P : Reason → Type 0
-  P = PassesYes (plain kind m) value
-
-  side_found : (o : Option Reason) → Finds (PassesSide m value) (side_tests 1 m) o → Finds P (side_tests 1 m) o
-  side_found o f = finds_same (PassesSide m value) P (side_tests 1 m) o (to_yes kind m value) (from_yes kind m value) f
-
-  added_found : (o : Option Reason) → Finds (PassesAdded m value) (kind_tests kind) o → Finds P (kind_tests kind) o
-  added_found o f = finds_same (PassesAdded m value) P (kind_tests kind) o (to_added kind m value) (from_kind kind kind m value) f
-
-  -- a test of the side fails
-  pub side_fails : (r : Reason) → Finds (PassesSide m value) (side_tests 1 m) (Some r) → Finds P (yes_tests (plain kind m)) (Some r)
-  side_fails r f = subst (λ xs. Finds P xs (Some r)) (sym (only_tests kind m)) (finds_part P (side_tests 1 m) (kind_tests kind) r (side_found (Some r) f))
-
-  -- each test of the side is passed
-  pub added_last : (o : Option Reason) → Finds (PassesSide m value) (side_tests 1 m) None → Finds (PassesAdded m value) (kind_tests kind) o → Finds P (yes_tests (plain kind m)) o
-  added_last o f g = subst (λ xs. Finds P xs o) (sym (only_tests kind m)) (finds_after P (side_tests 1 m) (kind_tests kind) o (side_found None f) (added_found o g))
-
-  pub added_last_ok : {E : Type 0} (r : Result (Option Reason) E) → Finds (PassesSide m value) (side_tests 1 m) None → IfOk r (Finds (PassesAdded m value) (kind_tests kind)) → IfOk r (Finds P (yes_tests (plain kind m)))
-  added_last_ok (Ok o) f g = added_last o f g
-  added_last_ok (Err e) f g = tt
-
--- of the tests of a yes about a matrix one on its side fails
-pub yes_side_fails : (i : InstanceValue) (m : RowList) (value : YesValue) (o : Option Reason) (r : Reason) → m ≡ derived_matrix i 1 → o ≡ Some r →
-    Finds (PassesSide m value) (side_tests 1 m) o → Finds (PassesYes i value) (yes_tests i) (Some r)
-yes_side_fails (plain kind n) m value o r e is f =
-    subst (λ x. Finds (PassesYes (plain kind x) value) (yes_tests (plain kind x)) (Some r)) e (side_fails kind m value r (subst (Finds (PassesSide m value) (side_tests 1 m)) is f))
-
--- each test on its side is passed, and then come those of what the kind adds
-pub yes_added_last : {E : Type 0} (i : InstanceValue) (kind : Kind) (m : RowList) (value : YesValue) (o : Option Reason) (r : Result (Option Reason) E) → i ≡ plain kind m → o ≡ None →
-    Finds (PassesSide m value) (side_tests 1 m) o → IfOk r (Finds (PassesAdded m value) (kind_tests kind)) → IfOk r (Finds (PassesYes i value) (yes_tests i))
-yes_added_last i kind m value o r e is f g =
-    subst (λ j. IfOk r (Finds (PassesYes j value) (yes_tests j))) (sym e) (added_last_ok kind m value r (subst (Finds (PassesSide m value) (side_tests 1 m)) is f) g)
+-- a no in the grammar is about one of the instance's sides
+pub claimed_side : (i : InstanceValue) (v : VerdictValue) (s : ℕ) (lines : List Line) → v.columns ≡ instance_columns i → v.claim ≡ no_claim s lines → IsVerdict v → IsSideOf i s
+claimed_side i v s lines c e h =
+    let claim : IsClaim v.kind v.columns (no_claim s lines) = subst (IsClaim v.kind v.columns) e h.claim in (
+      claim.0,
+      subst (λ n. s ≤ n) (sym h.sides ∙ ap (λ xs. length xs) c) claim.1,
+    )
 
 module _ (i : InstanceValue) (v : VerdictValue) where
   pub kind_fails : (v.kind ≡ instance_kind i → ⊥) → Finds (Passes i v) (tests i v) (Some reason.Kind)
@@ -102,6 +76,11 @@ from_side i v s m = (λ h. h, all_each (λ r. Passes i v r → PassesClaim i v.c
 from_added : (i : InstanceValue) (v : VerdictValue) → AllByRecursion (λ r. Passes i v r → PassesClaim i v.claim r) (added_tests i)
 from_added (plain Clones m) v = (λ h. h, (λ h. h, tt))
 from_added (plain kind m) v = tt
+from_added (circular m) v = tt
+from_added (convex g) v = tt
+from_added (doubly g) v = tt
+from_added (proper g) v = (λ h. h, tt)
+from_added (robinson d) v = tt
 
 from_no : (i : InstanceValue) (v : VerdictValue) (n : ℕ) → AllByRecursion (λ r. Passes i v r → PassesClaim i v.claim r) (no_tests n)
 from_no i v n =
@@ -114,7 +93,7 @@ from_no i v n =
 from_verdict : (i : InstanceValue) (v : VerdictValue) (claim : Claim) → AllByRecursion (λ r. Passes i v r → PassesClaim i v.claim r) (claim_tests i claim)
 from_verdict i v (yes_claim value) =
     let Q : Reason → Type 0 = λ r. Passes i v r → PassesClaim i v.claim r in
-    all_after Q (flat_map (λ s. side_tests s (derived_matrix i s)) (numbers (length (instance_columns i)))) (added_tests i)
+    all_after Q (sides_tests i) (added_tests i)
     (all_over Q (λ s. side_tests s (derived_matrix i s)) (numbers (length (instance_columns i))) (λ s. from_side i v s (derived_matrix i s))) (from_added i v)
 from_verdict i v (no_claim side lines) = from_no i v (length lines)
 

@@ -1,4 +1,3 @@
-pub mod Copies
 pub mod HoldsLists
 pub mod HoldsFrontiers
 pub mod HoldsSplit
@@ -9,6 +8,8 @@ pub mod HoldsSteps
 pub mod First
 pub mod Lines
 pub mod CycleTests
+pub mod Sides
+pub mod Orders
 pub mod SideTests
 pub mod ClonesTests
 pub mod JudgeTests

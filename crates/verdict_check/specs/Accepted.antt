@@ -2,7 +2,7 @@
 use Rattle.std.specs.Prelude.{◌≡◌, ◌∷◌, ◌++◌, List}
 use Rattle.std.specs.List.{AllByRecursion}
 use Rattle.verdict_text.specs.Verdict.{Claim, yes_claim, no_claim, VerdictValue}
-use Rattle.verdict_check.specs.Instance.{InstanceValue, instance_kind, instance_columns, derived_matrix}
+use Rattle.instance_model.specs.Instance.{InstanceValue, instance_kind, instance_columns, derived_matrix}
 use Rattle.verdict_check.specs.Tests.{tests}
 use Rattle.verdict_check.specs.YesTests.{PassesYes}
 use Rattle.verdict_check.specs.NoTests.{PassesNo}

@@ -6,14 +6,14 @@ use Rattle.row_model.specs.Cycles.{IsOddCycle}
 use Rattle.pq_tree.specs.Outline.{IsFrontier}
 use Rattle.verdict_text.specs.Grammar.{IsVerdict}
 use Rattle.verdict_text.specs.Verdict.{SideValue, YesValue, yes_claim, no_claim, VerdictValue}
-use Rattle.verdict_check.specs.Instance.{InstanceValue, instance_kind, instance_columns, IsSideOf, IsTextbookOrder, derived_matrix}
+use Rattle.instance_model.specs.Instance.{InstanceValue, instance_kind, instance_columns, IsSideOf, IsTextbookOrder, derived_matrix, IsWellFormed}
 use Rattle.verdict_check.specs.YesTests.{HasSide}
 use Rattle.verdict_check.specs.Accepted.{IsAccepted}
 use Rattle.verdict_check.specs.Truth.{IsTrueAdded, IsTrueVerdict}
 
 -- a verdict that is accepted is true
 abbrev pub TrueLaw : Type 0
-TrueLaw = (i : InstanceValue) (v : VerdictValue) → IsVerdict v → IsAccepted i v → IsTrueVerdict i v
+TrueLaw = (i : InstanceValue) (v : VerdictValue) → IsWellFormed i → IsVerdict v → IsAccepted i v → IsTrueVerdict i v
 
 -- the order is a textbook order of the side, and each frontier of the tree keeps every derived row
 abbrev pub IsSolvedSide : InstanceValue → ℕ → SideValue → Type 0

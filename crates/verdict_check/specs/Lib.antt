@@ -1,11 +1,9 @@
-pub mod Instance
 pub mod Tests
 pub mod YesTests
 pub mod NoTests
 pub mod Accepted
 pub mod Truth
 pub mod Laws
-pub mod Value
 pub mod Holds
 pub mod HoldsWalk
 pub mod Found

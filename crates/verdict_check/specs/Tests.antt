@@ -4,7 +4,7 @@ use Rattle.row_model.specs.Rows.{RowList}
 use Rattle.row_model.specs.declared.kind.Kind.{Kind}
 use Rattle.row_model.specs.declared.kind.Kind.TheVariants.{Clones}
 use Rattle.verdict_text.specs.Verdict.{Claim, yes_claim, no_claim, VerdictValue}
-use Rattle.verdict_check.specs.Instance.{InstanceValue, plain, instance_columns, derived_matrix}
+use Rattle.instance_model.specs.Instance.{InstanceValue, plain, circular, convex, doubly, proper, robinson, instance_columns, derived_matrix}
 use Rattle.verdict_check.specs.declared.outcome.Reason.{Reason}
 use Rattle.verdict_check.specs.declared.outcome.Reason.TheVariants as reason
 
@@ -25,10 +25,19 @@ kind_tests kind = []
 -- of what the kind adds to a yes
 abbrev pub added_tests : InstanceValue → List Reason
 added_tests (plain kind matrix) = kind_tests kind
+added_tests (circular matrix) = []
+added_tests (convex graph) = []
+added_tests (doubly graph) = []
+added_tests (proper graph) = reason.Intervals ∷ []
+added_tests (robinson distances) = []
 
--- of a yes: side after side, and then what the kind adds
+-- of the sides of a yes, one after another
+abbrev pub sides_tests : InstanceValue → List Reason
+sides_tests i = flat_map (λ s. side_tests s (derived_matrix i s)) (numbers (length (instance_columns i)))
+
+-- of a yes: its sides, and then what the kind adds
 abbrev pub yes_tests : InstanceValue → List Reason
-yes_tests i = flat_map (λ s. side_tests s (derived_matrix i s)) (numbers (length (instance_columns i))) ++ added_tests i
+yes_tests i = sides_tests i ++ added_tests i
 
 -- of a no with a cycle of so many lines: their number, then the pair of each, then that each pair is a new one, then what each line joins
 abbrev pub no_tests : ℕ → List Reason

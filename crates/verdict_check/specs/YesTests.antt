@@ -6,7 +6,8 @@ use Rattle.pq_tree.specs.Outline.{Outline, IsFrontier}
 use Rattle.verdict_text.specs.Verdict.{SideValue, YesValue}
 use Rattle.clone_map.specs.Places.{ArePlaces}
 use Rattle.clone_map.specs.Contigs.{AreContigs}
-use Rattle.verdict_check.specs.Instance.{InstanceValue, plain, IsTextbookOrder, derived_matrix}
+use Rattle.proper_interval.specs.Models.{IsProperModel}
+use Rattle.instance_model.specs.Instance.{InstanceValue, plain, proper, IsTextbookOrder, derived_matrix}
 use Rattle.verdict_check.specs.declared.outcome.Reason.{Reason}
 use Rattle.verdict_check.specs.declared.outcome.Reason.TheVariants as reason
 
@@ -26,18 +27,26 @@ PassesOrder i value s = HasSide value s (λ side. IsTextbookOrder i s side.order
 abbrev pub PassesTree : InstanceValue → YesValue → ℕ → ℕ → Type 0
 PassesTree i value s k = HasSide value s (λ side. AllKeep side.tree (row_at (derived_matrix i s).rows k))
 
--- `places`: the places are those of the clones in the order
+-- `intervals`: the intervals are a proper model of the graph; nothing else has such a model
+abbrev pub PassesIntervals : InstanceValue → YesValue → Type 0
+PassesIntervals (proper graph) value = IsProperModel graph value.added.intervals
+PassesIntervals other value = ⊥
+
+-- `places`: the places are those of the clones in the order; only a matrix has clones
 abbrev pub PassesPlaces : InstanceValue → YesValue → Type 0
 PassesPlaces (plain kind matrix) value = HasSide value 1 (λ side. ArePlaces side.order matrix.rows value.added.places)
+PassesPlaces other value = ⊥
 
 -- `contigs`: the contigs are those of the clones in the order, from left to right
 abbrev pub PassesContigs : InstanceValue → YesValue → Type 0
 PassesContigs (plain kind matrix) value = HasSide value 1 (λ side. AreContigs matrix.rows side.order value.added.contigs)
+PassesContigs other value = ⊥
 
 -- the tests by their names; a yes passes no other
 abbrev pub PassesYes : InstanceValue → YesValue → Reason → Type 0
 PassesYes i value (reason.Order s) = PassesOrder i value s
 PassesYes i value (reason.Tree s k) = PassesTree i value s k
+PassesYes i value reason.Intervals = PassesIntervals i value
 PassesYes i value reason.Places = PassesPlaces i value
 PassesYes i value reason.Contigs = PassesContigs i value
 PassesYes i value other = ⊥

@@ -1,12 +1,10 @@
 // The tests of what a yes on clones adds.
-ghost use Rattle.std.specs.Prelude.{◌≡◌, ◌↔◌, IfOk, IsTrue, List};
-ghost use Rattle.column_order.specs.Orders.{IsValidOrder};
-ghost use Rattle.row_model.specs.declared.lists.Place.{Place};
-ghost use Rattle.row_model.specs.declared.lists.Span.{Span};
+ghost use Rattle.std.specs.Prelude.{◌≡◌, ◌↔◌, IfOk, IsTrue};
 ghost use Rattle.verdict_text.specs.Value.{yes_value};
+ghost use Rattle.instance_model.specs.Instance.{plain};
 ghost use Rattle.verdict_check.specs.Tests.{kind_tests};
-ghost use Rattle.verdict_check.specs.YesTests.{HasSide};
-ghost use Rattle.verdict_check.specs.Found.{Finds, PassesAdded};
+ghost use Rattle.verdict_check.specs.YesTests.{PassesOrder, PassesYes};
+ghost use Rattle.verdict_check.specs.Found.{Finds};
 
 use crate::outcome::Reason;
 use clone_map::place;
@@ -14,26 +12,10 @@ use row_model::{Kind, Matrix, NoMemory, Place, Span};
 use std::alloc::Global;
 use verdict_text::YesPart;
 
-/// The first test that what the kind adds to a yes fails.
-pub fn added_fault(
-    alloc: Global,
-    kind: Kind,
-    m: &Matrix,
-    yes: &YesPart,
-) -> Result<Option<Reason>, NoMemory>
-    requires { HasSide (yes_value yes.now) 1 (λ side. IsValidOrder m.now.columns m.now.rows side.order) }
-    ensures { IfOk result (Finds (PassesAdded m.now (yes_value yes.now)) (kind_tests kind)) }
-{
-    match kind {
-        Kind::Clones => clones_fault(alloc, m, yes),
-        _ => Ok(None),
-    }
-}
-
-// The first of the two tests on places and contigs that fails.
-fn clones_fault(alloc: Global, m: &Matrix, yes: &YesPart) -> Result<Option<Reason>, NoMemory>
-    requires { HasSide (yes_value yes.now) 1 (λ side. IsValidOrder m.now.columns m.now.rows side.order) }
-    ensures { IfOk result (Finds (PassesAdded m.now (yes_value yes.now)) (kind_tests Kind.Clones)) }
+/// The first of the two tests on places and contigs that fails, where the order is a valid order of the clones.
+pub fn clones_fault(alloc: Global, m: &Matrix, yes: &YesPart) -> Result<Option<Reason>, NoMemory>
+    requires { PassesOrder (plain Kind.Clones m.now) (yes_value yes.now) 1 }
+    ensures { IfOk result (Finds (PassesYes (plain Kind.Clones m.now) (yes_value yes.now)) (kind_tests Kind.Clones)) }
 {
     let placed = place(alloc, m, yes.order(1))?;
     if !same_places(yes.places(), placed.places.as_slice()) {

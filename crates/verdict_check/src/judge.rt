@@ -1,20 +1,21 @@
 // All tests of a verdict, in their order.
 ghost use Rattle.std.specs.Prelude.{◌≡◌, ◌↔◌, length, IsTrue, IfOk};
-ghost use Rattle.verdict_text.specs.Grammar.{Fits32, AreSides, IsVerdict};
+ghost use Rattle.verdict_text.specs.Grammar.{Fits32, IsClaim, IsVerdict};
+ghost use Rattle.verdict_text.specs.Verdict.{yes_claim};
 ghost use Rattle.verdict_text.specs.Value.{column_counts, yes_value, verdict_value};
-ghost use Rattle.verdict_check.specs.Instance.{instance_kind, instance_columns, derived_matrix};
-ghost use Rattle.verdict_check.specs.Value.{instance_value};
+ghost use Rattle.instance_model.specs.Instance.{instance_kind, instance_columns, derived_matrix, IsInstance, IsSideOf, IsWellFormed};
+ghost use Rattle.instance_model.specs.Value.{instance_value};
 ghost use Rattle.verdict_check.specs.Tests.{tests, yes_tests, no_tests};
 ghost use Rattle.verdict_check.specs.YesTests.{PassesYes};
 ghost use Rattle.verdict_check.specs.NoTests.{PassesNo};
 ghost use Rattle.verdict_check.specs.Accepted.{Passes};
 ghost use Rattle.verdict_check.specs.Found.{Finds};
 
-use crate::clones::added_fault;
+use crate::added::added_fault;
 use crate::cycle::cycle_fault;
-use crate::instance::Instance;
 use crate::outcome::Reason;
-use crate::side::side_fault;
+use crate::side::sides_fault;
+use instance_model::Instance;
 use row_model::{Kind, NoMemory};
 use std::alloc::Global;
 use verdict_text::{Columns, NoPart, Part, Verdict, YesPart};
@@ -25,7 +26,8 @@ pub fn first_failing(
     instance: &Instance,
     v: &Verdict,
 ) -> Result<Option<Reason>, NoMemory>
-    requires { IsVerdict (verdict_value v.now) }
+    requires instance { IsInstance (instance_value instance.now) }
+    requires verdict { IsVerdict (verdict_value v.now) }
     ensures { IfOk result (Finds (Passes (instance_value instance.now) (verdict_value v.now)) (tests (instance_value instance.now) (verdict_value v.now))) }
 {
     if !has_kind(instance, v.kind) {
@@ -42,7 +44,8 @@ pub fn first_failing(
 
 // Whether this is the kind of the instance.
 fn has_kind(instance: &Instance, kind: Kind) -> bool
-    ensures { IsTrue result ↔ (kind ≡ instance_kind (instance_value instance.now)) }
+    ensures kind { IsTrue result ↔ (kind ≡ instance_kind (instance_value instance.now)) }
+    ensures formed { IsWellFormed (instance_value instance.now) }
 {
     kind == instance.kind()
 }
@@ -59,25 +62,29 @@ fn has_columns(instance: &Instance, columns: Columns) -> bool
     }
 }
 
-// The first test that a yes fails, where it has a side for each of the instance.
+// The first test that a yes of the instance's kind and columns fails.
 fn yes_fault(alloc: Global, instance: &Instance, yes: &YesPart) -> Result<Option<Reason>, NoMemory>
-    requires { AreSides (instance_columns (instance_value instance.now)) (yes_value yes.now).sides }
+    requires instance { IsInstance (instance_value instance.now) }
+    requires formed { IsWellFormed (instance_value instance.now) }
+    requires claim { IsClaim (instance_kind (instance_value instance.now)) (instance_columns (instance_value instance.now)) (yes_claim (yes_value yes.now)) }
     ensures { IfOk result (Finds (PassesYes (instance_value instance.now) (yes_value yes.now)) (yes_tests (instance_value instance.now))) }
 {
-    match instance {
-        Instance::Plain(kind, matrix) => match side_fault(alloc, 1, matrix, yes)? {
-            Some(reason) => Ok(Some(reason)),
-            None => added_fault(alloc, *kind, matrix, yes),
-        },
+    match sides_fault(alloc, instance, yes)? {
+        Some(reason) => Ok(Some(reason)),
+        None => added_fault(alloc, instance, yes),
     }
 }
 
-// The first test that a no fails.
+// The first test that a no of the instance's kind and columns fails.
 fn no_fault(alloc: Global, instance: &Instance, no: &NoPart) -> Result<Option<Reason>, NoMemory>
-    requires { Fits32 (length no.now.lines) }
+    requires instance { IsInstance (instance_value instance.now) }
+    requires side { IsSideOf (instance_value instance.now) no.now.side }
+    requires lines { Fits32 (length no.now.lines) }
     ensures { IfOk result (Finds (PassesNo (derived_matrix (instance_value instance.now) no.now.side) no.now.lines) (no_tests (length no.now.lines))) }
 {
+    let lines = no.lines.as_slice();
     match instance {
-        Instance::Plain(_, matrix) => cycle_fault(alloc, matrix, no.lines.as_slice()),
+        Instance::Plain(_, matrix) => cycle_fault(alloc, matrix, lines),
+        _ => cycle_fault(alloc, &instance.derived(alloc, no.side)?, lines),
     }
 }

@@ -17,8 +17,11 @@
 //! | `Repeat(I)` | no: the pair of line I stands on no earlier line; I is the least that fails |
 //! | `Join(I)` | no: the reason of line I joins its pair to that of the next line, and the last line's to that of the first, in the derived matrix of the side; I is the least that fails |
 //!
-//! Where there are two sides, `Order(1)`, `Tree(1, K)`, `Order(2)` and `Tree(2, K)` follow one another. `Intervals` is never
-//! given yet: the kind that has intervals is not judged here.
+//! All nine kinds are judged. `doubly` has two sides, and `Order(1)`, `Tree(1, K)`, `Order(2)` and `Tree(2, K)` follow one another; every
+//! other kind has one side. `instance_model` says what the textbook orders and the derived matrix of each kind are. A textbook order
+//! is tested by the derived matrix, whose valid orders are the textbook orders; of `circular` that is the rotation of the order which
+//! begins with column 1. A tree is tested by the derived rows too, which for `circular` is stricter than to ask that each frontier
+//! be a circular order.
 //!
 //! A verdict that passes each test is true: a yes because its orders are textbook orders, a no because a closed walk of
 //! odd length in the incompatibility graph leaves no valid order (McConnell, 2004).
@@ -27,18 +30,18 @@
 ghost use Rattle.std.specs.Prelude.{◌≡◌, ◌↔◌, IfOk};
 ghost use Rattle.verdict_text.specs.Grammar.{IsVerdict};
 ghost use Rattle.verdict_text.specs.Value.{verdict_value};
-ghost use Rattle.verdict_check.specs.Instance.{IsInstance};
-ghost use Rattle.verdict_check.specs.Value.{instance_value};
+ghost use Rattle.instance_model.specs.Instance.{IsInstance};
+ghost use Rattle.instance_model.specs.Value.{instance_value};
 ghost use Rattle.verdict_check.specs.Accepted.{IsAccepted, FailsFirst};
 ghost use Rattle.verdict_check.specs.Laws.{TrueLaw, YesLaw, NoLaw};
 ghost use Rattle.verdict_check.specs.declared.outcome.Reason.{Reason};
 ghost use Rattle.verdict_check.specs.declared.outcome.Checked.TheVariants.{Valid, Invalid};
 
+mod added;
 mod clones;
 mod cycle;
 mod gaps;
 mod holds;
-mod instance;
 mod judge;
 mod outcome;
 mod side;
@@ -46,7 +49,7 @@ mod side;
 mod tests;
 
 pub use holds::{holds_law, tree_holds};
-pub use instance::Instance;
+pub use instance_model::Instance;
 use judge::first_failing;
 pub use outcome::{Checked, Reason};
 pub use row_model::NoMemory;
@@ -71,7 +74,7 @@ pub fn check(alloc: Global, instance: &Instance, v: &Verdict) -> Result<Checked,
 /// A verdict that passes each test is true of the instance.
 ///
 /// The textbook orders of a yes are shown by its order and its tree. A no is shown by its cycle, since a closed walk of odd
-/// length in the incompatibility graph leaves no valid order (McConnell, 2004).
+/// length in the incompatibility graph leaves no valid order of the derived matrix (McConnell, 2004), and so no textbook order.
 pub fn true_law()
     ensures { TrueLaw }
 {}

@@ -1,49 +1,108 @@
-// The tests of a yes, on the order and the tree of a side.
-ghost use Rattle.std.specs.Prelude.{◌≡◌, ◌↔◌, ◌≤◌, length, IsTrue, IfOk};
+// The tests of a yes, on the order and the tree of each side.
+ghost use Rattle.std.specs.Prelude.{◌≡◌, ◌↔◌, ◌≤◌, ℕ, length, IsTrue, IfOk};
 ghost use Rattle.row_model.specs.Graph.{row_at};
-ghost use Rattle.column_order.specs.Orders.{IsValidOrder};
-ghost use Rattle.pq_tree.specs.Proper.{IsProper};
 ghost use Rattle.pq_tree.specs.PqTree.{column_count, outline};
+ghost use Rattle.verdict_text.specs.Grammar.{AreSides};
 ghost use Rattle.verdict_text.specs.Value.{yes_value};
-ghost use Rattle.verdict_check.specs.Tests.{side_tests};
-ghost use Rattle.verdict_check.specs.YesTests.{HasSide, AllKeep};
-ghost use Rattle.verdict_check.specs.Found.{IsLeastFailing, Finds, PassesSide};
+ghost use Rattle.instance_model.specs.Instance.{instance_columns, derived_matrix, IsInstance, IsSideOf, IsTextbookOrder, IsWellFormed};
+ghost use Rattle.instance_model.specs.Value.{instance_value};
+ghost use Rattle.verdict_check.specs.Tests.{side_tests, sides_tests};
+ghost use Rattle.verdict_check.specs.YesTests.{AllKeep, PassesYes};
+ghost use Rattle.verdict_check.specs.Found.{IsLeastFailing, Finds};
 
 use crate::gaps::Gaps;
 use crate::outcome::Reason;
+use circular_ones::turned;
+use instance_model::Instance;
 use pq_tree::PqTree;
 use row_model::{Matrix, NoMemory, is_order};
 use std::alloc::Global;
 use verdict_text::YesPart;
 
-/// The first test that a side fails, where its textbook orders are the valid orders of a matrix.
-pub fn side_fault(
+/// The first test that the sides of a yes fail, one after another.
+pub fn sides_fault(
     alloc: Global,
-    side: u8,
-    m: &Matrix,
+    instance: &Instance,
     yes: &YesPart,
 ) -> Result<Option<Reason>, NoMemory>
-    requires side { (1 ≤ side) × (side ≤ length (yes_value yes.now).sides) }
-    requires tree { HasSide (yes_value yes.now) side (λ s. IsProper m.now.columns s.tree) }
-    ensures { IfOk result (Finds (PassesSide m.now (yes_value yes.now)) (side_tests side m.now)) }
+    requires instance { IsInstance (instance_value instance.now) }
+    requires formed { IsWellFormed (instance_value instance.now) }
+    requires sides { AreSides (instance_columns (instance_value instance.now)) (yes_value yes.now).sides }
+    ensures { IfOk result (Finds (PassesYes (instance_value instance.now) (yes_value yes.now)) (sides_tests (instance_value instance.now))) }
 {
-    if !is_valid_order(alloc, m, yes.order(side))? {
+    for before in 0..instance.sides() {
+        if let Some(reason) = side_fault(alloc, instance, before + 1, yes)? {
+            return Ok(Some(reason));
+        }
+    }
+    Ok(None)
+}
+
+// The first test that a side fails. The derived matrix is made once, for the order and the tree.
+fn side_fault(
+    alloc: Global,
+    instance: &Instance,
+    side: u8,
+    yes: &YesPart,
+) -> Result<Option<Reason>, NoMemory>
+    requires instance { IsInstance (instance_value instance.now) }
+    requires formed { IsWellFormed (instance_value instance.now) }
+    requires side { IsSideOf (instance_value instance.now) side }
+    requires sides { AreSides (instance_columns (instance_value instance.now)) (yes_value yes.now).sides }
+    ensures { IfOk result (Finds (PassesYes (instance_value instance.now) (yes_value yes.now)) (side_tests side (derived_matrix (instance_value instance.now) side))) }
+{
+    match instance {
+        Instance::Plain(_, matrix) => derived_fault(alloc, instance, side, matrix, yes),
+        _ => {
+            let derived = instance.derived(alloc, side)?;
+            derived_fault(alloc, instance, side, &derived, yes)
+        }
+    }
+}
+
+// The first test that a side with this derived matrix fails: its order, and then its tree by each row.
+fn derived_fault(
+    alloc: Global,
+    instance: &Instance,
+    side: u8,
+    derived: &Matrix,
+    yes: &YesPart,
+) -> Result<Option<Reason>, NoMemory>
+    requires formed { IsWellFormed (instance_value instance.now) }
+    requires side { IsSideOf (instance_value instance.now) side }
+    requires derived { derived.now ≡ derived_matrix (instance_value instance.now) side }
+    requires sides { AreSides (instance_columns (instance_value instance.now)) (yes_value yes.now).sides }
+    ensures { IfOk result (Finds (PassesYes (instance_value instance.now) (yes_value yes.now)) (side_tests side (derived_matrix (instance_value instance.now) side))) }
+{
+    if !is_textbook_order(alloc, instance, derived, yes.order(side))? {
         return Ok(Some(Reason::Order(side)));
     }
-    match first_broken_row(alloc, yes.tree(side), m)? {
+    match first_broken_row(alloc, yes.tree(side), derived)? {
         Some(k) => Ok(Some(Reason::Tree(side, k))),
         None => Ok(None),
     }
 }
 
-// Whether the list is an order of the columns that keeps every row.
-fn is_valid_order(alloc: Global, m: &Matrix, order: &[u32]) -> Result<bool, NoMemory>
-    ensures { IfOk result (λ yes. IsTrue yes ↔ IsValidOrder m.now.columns m.now.rows order.now) }
+// Whether the list is a textbook order of the side with this derived matrix: whether it is an order that keeps each row. A circular
+// order is turned first, so that it begins with column 1.
+fn is_textbook_order(
+    alloc: Global,
+    instance: &Instance,
+    derived: &Matrix,
+    order: &[u32],
+) -> Result<bool, NoMemory>
+    requires { IsWellFormed (instance_value instance.now) }
+    ensures { IfOk result (λ yes. (side : ℕ) →
+        IsSideOf (instance_value instance.now) side →
+        derived.now ≡ derived_matrix (instance_value instance.now) side →
+        IsTrue yes ↔ IsTextbookOrder (instance_value instance.now) side order.now) }
 {
-    if is_order(alloc, m.columns(), order)? {
-        m.keeps(order)
-    } else {
-        Ok(false)
+    if !is_order(alloc, derived.columns(), order)? {
+        return Ok(false);
+    }
+    match instance {
+        Instance::Circular(_) => derived.keeps(&turned(alloc, order)?),
+        _ => derived.keeps(order),
     }
 }
 

@@ -1,9 +1,10 @@
-// Verdicts on small matrices, and what is said of them.
+// Verdicts on small instances, and what is said of them.
 ghost use Rattle.std.specs.Prelude.{IfOk};
-ghost use Rattle.verdict_check.specs.Instance.{IsInstance};
-ghost use Rattle.verdict_check.specs.Value.{instance_value};
+ghost use Rattle.instance_model.specs.Instance.{IsInstance};
+ghost use Rattle.instance_model.specs.Value.{instance_value};
 
 use crate::{Checked, Instance, Reason, check};
+use graph_read::{Bigraph, Graph};
 use row_model::{Kind, Matrix};
 use std::alloc::Global;
 use std::test::Fail;
@@ -39,6 +40,37 @@ const THERE_AND_BACK: &[u8] =
 const NO_ROW: &[u8] =
     b"pq-verdict 1\nkind matrix\ncolumns 3\nanswer no\nside 1\ncycle 3\n1 3 row 1\n3 2 row 3\n2 1 row 9\nend\n";
 
+const CIRCLE: &[u8] =
+    b"pq-verdict 1\nkind circular\ncolumns 4\nanswer yes\ntree [1 2 3 4]\norder 3 4 1 2\nend\n";
+
+const NO_CIRCLE: &[u8] =
+    b"pq-verdict 1\nkind circular\ncolumns 4\nanswer yes\ntree [1 2 3 4]\norder 2 4 3 1\nend\n";
+
+// Each frontier is a circular order, but it does not keep the rows that are cut at column 1.
+const CIRCLE_ELSEWHERE: &[u8] =
+    b"pq-verdict 1\nkind circular\ncolumns 4\nanswer yes\ntree [2 1 4 3]\norder 3 4 1 2\nend\n";
+
+const TWO_SIDES: &[u8] =
+    b"pq-verdict 1\nkind doubly\ncolumns 2 3\nanswer yes\ntree (1 2)\norder 1 2\ntree [1 2 3]\norder 1 2 3\nend\n";
+
+const ANOTHER_ORDER_2: &[u8] =
+    b"pq-verdict 1\nkind doubly\ncolumns 2 3\nanswer yes\ntree (1 2)\norder 1 2\ntree [1 2 3]\norder 2 1 3\nend\n";
+
+const ANOTHER_TREE_2: &[u8] =
+    b"pq-verdict 1\nkind doubly\ncolumns 2 3\nanswer yes\ntree (1 2)\norder 1 2\ntree ((1 2) 3)\norder 1 2 3\nend\n";
+
+const SIDE_2: &[u8] =
+    b"pq-verdict 1\nkind doubly\ncolumns 3 4\nanswer no\nside 2\ncycle 7\n1 3 row 1\n3 2 row 2\n2 1 row 3\n4 2 row 1\n1 4 row 2\n4 3 row 3\n3 1 flip\nend\n";
+
+const SIDE_1: &[u8] =
+    b"pq-verdict 1\nkind doubly\ncolumns 3 4\nanswer no\nside 1\ncycle 3\n1 3 row 1\n3 2 row 2\n2 1 row 3\nend\n";
+
+const INTERVALS: &[u8] =
+    b"pq-verdict 1\nkind proper\ncolumns 4\nanswer yes\ntree [1 2 3 4]\norder 1 2 3 4\ninterval 1 5 11\ninterval 2 10 17\ninterval 3 15 23\ninterval 4 20 24\nend\n";
+
+const OTHER_INTERVALS: &[u8] =
+    b"pq-verdict 1\nkind proper\ncolumns 4\nanswer yes\ntree [1 2 3 4]\norder 1 2 3 4\ninterval 1 5 10\ninterval 2 10 15\ninterval 3 15 20\ninterval 4 20 20\nend\n";
+
 // The rows {1,2} and {2,3}.
 fn path(alloc: Global) -> Result<Instance, Fail>
     ensures { IfOk result (λ i. IsInstance (instance_value i)) }
@@ -60,6 +92,55 @@ fn triangle(alloc: Global) -> Result<Instance, Fail>
     Ok(Instance::Plain(Kind::Matrix, m))
 }
 
+// Round the circle 1 2 3 4: the rows {1,2}, {2,3}, {3,4} and {1,4}.
+fn circle(alloc: Global) -> Result<Instance, Fail>
+    ensures { IfOk result (λ i. IsInstance (instance_value i)) }
+{
+    let mut m = Matrix::new(alloc, 4)?;
+    m.push_row(&[1, 2])?;
+    m.push_row(&[2, 3])?;
+    m.push_row(&[3, 4])?;
+    m.push_row(&[1, 4])?;
+    Ok(Instance::Circular(m))
+}
+
+// Three xs and two ys in a path: 1 has the y 1, 2 has both, and 3 has the y 2.
+fn zigzag(alloc: Global) -> Result<Instance, Fail>
+    ensures { IfOk result (λ i. IsInstance (instance_value i)) }
+{
+    let mut g = Bigraph::new(alloc, 3, 2)?;
+    g.add_edge(1, 1)?;
+    g.add_edge(2, 1)?;
+    g.add_edge(2, 2)?;
+    g.add_edge(3, 2)?;
+    Ok(Instance::Doubly(g))
+}
+
+// Each of three ys has the x 1 and one x of its own.
+fn spider(alloc: Global) -> Result<Instance, Fail>
+    ensures { IfOk result (λ i. IsInstance (instance_value i)) }
+{
+    let mut g = Bigraph::new(alloc, 4, 3)?;
+    g.add_edge(1, 1)?;
+    g.add_edge(2, 1)?;
+    g.add_edge(1, 2)?;
+    g.add_edge(3, 2)?;
+    g.add_edge(1, 3)?;
+    g.add_edge(4, 3)?;
+    Ok(Instance::Doubly(g))
+}
+
+// The path 1 2 3 4.
+fn chain(alloc: Global) -> Result<Instance, Fail>
+    ensures { IfOk result (λ i. IsInstance (instance_value i)) }
+{
+    let mut g = Graph::new(alloc, 4)?;
+    g.add_edge(1, 2)?;
+    g.add_edge(2, 3)?;
+    g.add_edge(3, 4)?;
+    Ok(Instance::Proper(g))
+}
+
 fn judged(alloc: Global, instance: &Instance, text: &[u8]) -> Result<Checked, Fail>
     requires { IsInstance (instance_value instance.now) }
 {
@@ -71,43 +152,92 @@ fn judged(alloc: Global, instance: &Instance, text: &[u8]) -> Result<Checked, Fa
 #[test]
 fn a_yes_is_judged_by_its_order_and_its_tree(rt: HostRuntime) -> Result<(), Fail> {
     let path = path(rt.alloc())?;
-    for (text, said) in [
-        (PATH, Checked::Valid),
-        (ANOTHER_KIND, Checked::Invalid(Reason::Kind)),
-        (ANOTHER_COLUMN, Checked::Invalid(Reason::Columns)),
-        (ANOTHER_ORDER, Checked::Invalid(Reason::Order(1))),
-        (ANOTHER_TREE, Checked::Invalid(Reason::Tree(1, 1))),
-    ] {
-        assert_eq!(rt; judged(rt.alloc(), &path, text)?, said);
-    }
+    assert_eq!(rt; judged(rt.alloc(), &path, PATH)?, Checked::Valid);
+    assert_eq!(rt;
+        judged(rt.alloc(), &path, ANOTHER_KIND)?,
+        Checked::Invalid(Reason::Kind)
+    );
+    assert_eq!(rt;
+        judged(rt.alloc(), &path, ANOTHER_COLUMN)?,
+        Checked::Invalid(Reason::Columns)
+    );
+    assert_eq!(rt;
+        judged(rt.alloc(), &path, ANOTHER_ORDER)?,
+        Checked::Invalid(Reason::Order(1))
+    );
+    assert_eq!(rt;
+        judged(rt.alloc(), &path, ANOTHER_TREE)?,
+        Checked::Invalid(Reason::Tree(1, 1))
+    );
     Ok(())
 }
 
 #[test]
 fn a_no_is_judged_by_its_cycle(rt: HostRuntime) -> Result<(), Fail> {
     let triangle = triangle(rt.alloc())?;
-    for (text, said) in [
-        (TRIANGLE, Checked::Valid),
-        (TWO_LINES, Checked::Invalid(Reason::Length(2))),
-        (ONE_COLUMN_TWICE, Checked::Invalid(Reason::Pair(2))),
-        (THERE_AND_BACK, Checked::Invalid(Reason::Repeat(3))),
-        (NO_ROW, Checked::Invalid(Reason::Join(3))),
-    ] {
-        assert_eq!(rt; judged(rt.alloc(), &triangle, text)?, said);
-    }
+    assert_eq!(rt; judged(rt.alloc(), &triangle, TRIANGLE)?, Checked::Valid);
+    assert_eq!(rt;
+        judged(rt.alloc(), &triangle, TWO_LINES)?,
+        Checked::Invalid(Reason::Length(2))
+    );
+    assert_eq!(rt;
+        judged(rt.alloc(), &triangle, ONE_COLUMN_TWICE)?,
+        Checked::Invalid(Reason::Pair(2))
+    );
+    assert_eq!(rt;
+        judged(rt.alloc(), &triangle, THERE_AND_BACK)?,
+        Checked::Invalid(Reason::Repeat(3))
+    );
+    assert_eq!(rt;
+        judged(rt.alloc(), &triangle, NO_ROW)?,
+        Checked::Invalid(Reason::Join(3))
+    );
     Ok(())
 }
 
 #[test]
-fn the_derived_matrix_of_a_matrix_is_the_same(rt: HostRuntime) -> Result<(), Fail> {
-    let path = path(rt.alloc())?;
-    assert_eq!(rt; path.kind(), Kind::Matrix);
-    assert_eq!(rt; path.sides(), 1);
-    assert_eq!(rt; path.columns(1), 3);
-    let derived = path.derived(rt.alloc(), 1)?;
-    assert_eq!(rt; derived.columns(), 3);
-    assert_eq!(rt; derived.rows(), 2);
-    assert_eq!(rt; derived.row(1), [1, 2].as_slice());
-    assert_eq!(rt; derived.row(2), [2, 3].as_slice());
+fn a_circular_order_is_judged_by_its_rotation(rt: HostRuntime) -> Result<(), Fail> {
+    let circle = circle(rt.alloc())?;
+    assert_eq!(rt; judged(rt.alloc(), &circle, CIRCLE)?, Checked::Valid);
+    assert_eq!(rt;
+        judged(rt.alloc(), &circle, NO_CIRCLE)?,
+        Checked::Invalid(Reason::Order(1))
+    );
+    assert_eq!(rt;
+        judged(rt.alloc(), &circle, CIRCLE_ELSEWHERE)?,
+        Checked::Invalid(Reason::Tree(1, 2))
+    );
+    Ok(())
+}
+
+#[test]
+fn two_sides_are_judged_one_after_the_other(rt: HostRuntime) -> Result<(), Fail> {
+    let zigzag = zigzag(rt.alloc())?;
+    assert_eq!(rt; judged(rt.alloc(), &zigzag, TWO_SIDES)?, Checked::Valid);
+    assert_eq!(rt;
+        judged(rt.alloc(), &zigzag, ANOTHER_ORDER_2)?,
+        Checked::Invalid(Reason::Order(2))
+    );
+    assert_eq!(rt;
+        judged(rt.alloc(), &zigzag, ANOTHER_TREE_2)?,
+        Checked::Invalid(Reason::Tree(2, 2))
+    );
+    let spider = spider(rt.alloc())?;
+    assert_eq!(rt; judged(rt.alloc(), &spider, SIDE_2)?, Checked::Valid);
+    assert_eq!(rt;
+        judged(rt.alloc(), &spider, SIDE_1)?,
+        Checked::Invalid(Reason::Join(1))
+    );
+    Ok(())
+}
+
+#[test]
+fn intervals_are_judged_by_the_graph(rt: HostRuntime) -> Result<(), Fail> {
+    let chain = chain(rt.alloc())?;
+    assert_eq!(rt; judged(rt.alloc(), &chain, INTERVALS)?, Checked::Valid);
+    assert_eq!(rt;
+        judged(rt.alloc(), &chain, OTHER_INTERVALS)?,
+        Checked::Invalid(Reason::Intervals)
+    );
     Ok(())
 }

@@ -5,7 +5,7 @@ use Rattle.std.proofs.lemmas.List.{append_assoc, append-nil, take_more, length-t
 use Rattle.plain_text.specs.Pieces.{Extends}
 use Rattle.row_model.specs.declared.kind.Kind.{Kind}
 use Rattle.verdict_text.specs.Numbered.{numbered}
-use Rattle.verdict_text.specs.Text.{kind_word, number_word, head_text}
+use Rattle.verdict_text.specs.Text.{kind_word, number_word, kind_line, columns_line, head_text}
 
 -- a text that grew twice
 pub extends_after : (old now new front : List ℕ) → now ≡ old ++ front → Extends now new → Extends old new
@@ -15,7 +15,7 @@ pub on_err : {T E P : Type 0} (r : Result T E) → P → OnErr r P
 on_err (Ok x) h = tt
 on_err (Err e) h = h
 
-numbered-append : {A : Type 0} (text : ℕ → A → List ℕ) (i : ℕ) (xs : List A) (x : A) → numbered text i (xs ++ x ∷ []) ≡ numbered text i xs ++ text (i + length xs) x
+pub numbered-append : {A : Type 0} (text : ℕ → A → List ℕ) (i : ℕ) (xs : List A) (x : A) → numbered text i (xs ++ x ∷ []) ≡ numbered text i xs ++ text (i + length xs) x
 numbered-append text i [] x = append-nil (text i x) ∙ ap (λ k. text k x) (omega arith)
 numbered-append text i (y ∷ xs) x =
     ap (λ z. text i y ++ z) (numbered-append text (i + 1) xs x) ∙ sym (append_assoc (text i y) (numbered text (i + 1) xs) (text (i + 1 + length xs) x))
@@ -34,15 +34,19 @@ numbered_more text old now new xs i x d h r e k =
 pub joined : (old a b new x y z : List ℕ) → a ≡ old ++ x → b ≡ a ++ y → new ≡ b ++ z → new ≡ old ++ (x ++ (y ++ z))
 joined old a b new x y z e f g = g ∙ ap (λ t. t ++ z) (f ∙ ap (λ t. t ++ y) e) ∙ append_assoc (old ++ x) y z ∙ append_assoc old x (y ++ z)
 
+-- the lines of the kind and of the columns, piece by piece
+pub subject_pieces : (kind : Kind) (columns : List ℕ) → codes "kind " ++ (kind_word kind ++ (codes "\ncolumns" ++ (flat_map number_word columns ++ 10 ∷ []))) ≡ kind_line kind ++ columns_line columns
+subject_pieces kind columns = ap (λ t. codes "kind " ++ t) (sym (append_assoc (kind_word kind) (10 ∷ []) (codes "columns" ++ (flat_map number_word columns ++ 10 ∷ []))))
+
 -- the first three lines, piece by piece
 pub head_pieces : (kind : Kind) (columns : List ℕ) → codes "pq-verdict 1\nkind " ++ (kind_word kind ++ (codes "\ncolumns" ++ (flat_map number_word columns ++ 10 ∷ []))) ≡ head_text kind columns
-head_pieces kind columns = ap (λ t. codes "pq-verdict 1\nkind " ++ t) (sym (append_assoc (kind_word kind) (10 ∷ []) (codes "columns" ++ (flat_map number_word columns ++ 10 ∷ []))))
+head_pieces kind columns = ap (λ t. codes "pq-verdict 1\n" ++ t) (subject_pieces kind columns)
 
-pub head_printed : (old a b d e new word : List ℕ) (kind : Kind) (columns : List ℕ) → word ≡ kind_word kind → a ≡ old ++ codes "pq-verdict 1\nkind " → b ≡ a ++ word → d ≡ b ++ codes "\ncolumns" → e ≡ d ++ flat_map number_word columns
-    → new ≡ e ++ 10 ∷ [] → new ≡ old ++ head_text kind columns
-head_printed old a b d e new word kind columns w f g h k l =
-    let first = codes "pq-verdict 1\nkind " in
+pub subject_printed : (old a b d e new word : List ℕ) (kind : Kind) (columns : List ℕ) → word ≡ kind_word kind → a ≡ old ++ codes "kind " → b ≡ a ++ word → d ≡ b ++ codes "\ncolumns" → e ≡ d ++ flat_map number_word columns
+    → new ≡ e ++ 10 ∷ [] → new ≡ old ++ (kind_line kind ++ columns_line columns)
+subject_printed old a b d e new word kind columns w f g h k l =
+    let first = codes "kind " in
     let rest = flat_map number_word columns ++ 10 ∷ [] in
     joined old d e new (first ++ (kind_word kind ++ codes "\ncolumns")) (flat_map number_word columns) (10 ∷ [])
     (joined old a b d first (kind_word kind) (codes "\ncolumns") f (g ∙ ap (λ t. a ++ t) w) h) k l
-    ∙ ap (λ t. old ++ t) (append_assoc first (kind_word kind ++ codes "\ncolumns") rest ∙ ap (λ t. first ++ t) (append_assoc (kind_word kind) (codes "\ncolumns") rest) ∙ head_pieces kind columns)
+    ∙ ap (λ t. old ++ t) (append_assoc first (kind_word kind ++ codes "\ncolumns") rest ∙ ap (λ t. first ++ t) (append_assoc (kind_word kind) (codes "\ncolumns") rest) ∙ subject_pieces kind columns)

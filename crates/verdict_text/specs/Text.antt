@@ -86,9 +86,13 @@ why_text (Row k) = codes " row " ++ (decimal k ++ 10 ∷ [])
 abbrev pub cycle_line : Line → List ℕ
 cycle_line line = decimal line.pair.a ++ (number_word line.pair.b ++ why_text line.why)
 
+-- `cycle L` and L lines
+abbrev pub counted_cycle : List Line → List ℕ
+counted_cycle lines = codes "cycle " ++ (decimal (length lines) ++ (10 ∷ flat_map cycle_line lines))
+
 -- `side S`, `cycle L` and L lines
 abbrev pub cycle_text : ℕ → List Line → List ℕ
-cycle_text side lines = codes "side " ++ (decimal side ++ (codes "\ncycle " ++ (decimal (length lines) ++ (10 ∷ flat_map cycle_line lines))))
+cycle_text side lines = codes "side " ++ (decimal side ++ (10 ∷ counted_cycle lines))
 
 -- `answer yes` or `answer no`, and what follows
 abbrev pub claim_text : Kind → Claim → List ℕ

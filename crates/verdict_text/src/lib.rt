@@ -34,7 +34,7 @@ use crate::read::{Stop, read_verdict};
 pub use std::alloc::AllocError as NoMemory;
 use std::alloc::Global;
 pub use verdict::{Columns, NoPart, Part, Verdict, YesPart};
-pub use write::print;
+pub use write::{print, print_cycle, print_side, print_subject};
 
 /// The verdict of which the bytes are the text; none where the bytes are outside the grammar.
 ///

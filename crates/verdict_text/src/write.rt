@@ -3,12 +3,14 @@
 ghost use Rattle.std.specs.Prelude.{◌≡◌, ◌∷◌, ◌++◌, [], length, flat_map, OnOk, OnErr};
 ghost use Rattle.plain_text.specs.Pieces.{Extends};
 ghost use Rattle.verdict_text.specs.Numbered.{numbered};
-ghost use Rattle.verdict_text.specs.Text.{kind_word, head_text, number_word, side_text, interval_line, ends_text, place_text, place_line, contig_line, places_text, contigs_text, added_text, why_text, cycle_line, cycle_text, claim_text, verdict_text};
+ghost use Rattle.pq_tree.specs.PqTree.{outline};
+ghost use Rattle.verdict_text.specs.Text.{kind_word, kind_line, columns_line, counted_cycle, head_text, number_word, side_text, interval_line, ends_text, place_text, place_line, contig_line, places_text, contigs_text, added_text, why_text, cycle_line, cycle_text, claim_text, verdict_text};
 ghost use Rattle.verdict_text.specs.Value.{column_counts, side_value, sides_value, yes_value, claim_of, verdict_value};
 
 use crate::NoMemory;
 use crate::verdict::{Columns, NoPart, Part, Side, Sides, Verdict, YesPart};
 use plain_text::push_number;
+use pq_tree::PqTree;
 use row_model::{Interval, Kind, Line, Place, Span, Why};
 
 /// Appends the text of a verdict. On an error what `text` held is still its front.
@@ -27,7 +29,17 @@ fn push_head(kind: Kind, columns: Columns, text: &mut Vec<u8>) -> Result<(), NoM
     ensures ok { OnOk result (text.new.items ≡ text.old.items ++ head_text kind (column_counts columns)) }
     ensures err { OnErr result (Extends text.old.items text.new.items) }
 {
-    push(text, b"pq-verdict 1\nkind ")?;
+    push(text, b"pq-verdict 1\n")?;
+    print_subject(kind, columns, text)?;
+    Ok(())
+}
+
+/// Appends the lines `kind K` and `columns C`, the second with one number for each side. On an error what `text` held is still its front.
+pub fn print_subject(kind: Kind, columns: Columns, text: &mut Vec<u8>) -> Result<(), NoMemory>
+    ensures ok { OnOk result (text.new.items ≡ text.old.items ++ (kind_line kind ++ columns_line (column_counts columns))) }
+    ensures err { OnErr result (Extends text.old.items text.new.items) }
+{
+    push(text, b"kind ")?;
     push(text, word_of(kind))?;
     push(text, b"\ncolumns")?;
     push_columns(columns, text)?;
@@ -129,10 +141,18 @@ fn push_side(side: &Side, text: &mut Vec<u8>) -> Result<(), NoMemory>
     ensures ok { OnOk result (text.new.items ≡ text.old.items ++ side_text (side_value side.now)) }
     ensures err { OnErr result (Extends text.old.items text.new.items) }
 {
+    print_side(&side.tree, &side.order, text)
+}
+
+/// Appends the lines `tree T` and `order N1 N2 ..`. On an error what `text` held is still its front.
+pub fn print_side(tree: &PqTree, order: &[u32], text: &mut Vec<u8>) -> Result<(), NoMemory>
+    ensures ok { OnOk result (text.new.items ≡ text.old.items ++ side_text (record { tree = outline tree.now; order = order.now })) }
+    ensures err { OnErr result (Extends text.old.items text.new.items) }
+{
     push(text, b"tree ")?;
-    side.tree.print(text)?;
+    tree.print(text)?;
     push(text, b"\norder")?;
-    push_words(&side.order, text)?;
+    push_words(order, text)?;
     push(text, b"\n")?;
     Ok(())
 }
@@ -272,8 +292,17 @@ fn push_no(no: &NoPart, text: &mut Vec<u8>) -> Result<(), NoMemory>
 {
     push(text, b"side ")?;
     push_number(text, u64::from(no.side))?;
-    push(text, b"\ncycle ")?;
-    let lines = no.lines.as_slice();
+    push(text, b"\n")?;
+    print_cycle(no.lines.as_slice(), text)?;
+    Ok(())
+}
+
+/// Appends the line `cycle L` and the L lines of a cycle. On an error what `text` held is still its front.
+pub fn print_cycle(lines: &[Line], text: &mut Vec<u8>) -> Result<(), NoMemory>
+    ensures ok { OnOk result (text.new.items ≡ text.old.items ++ counted_cycle lines.now) }
+    ensures err { OnErr result (Extends text.old.items text.new.items) }
+{
+    push(text, b"cycle ")?;
     push_number(text, lines.len() as u64)?;
     push(text, b"\n")?;
     push_cycle(lines, text)?;

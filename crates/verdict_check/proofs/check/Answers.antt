@@ -1,6 +1,6 @@
 use Rattle.std.proofs.Common.{Some, None, subst}
 use Rattle.verdict_text.specs.Value.{verdict_value}
-use Rattle.verdict_check.specs.Value.{instance_value}
+use Rattle.instance_model.specs.Value.{instance_value}
 use Rattle.verdict_check.specs.Found.{Finds}
 use Rattle.verdict_check.specs.Accepted.{Passes}
 use Rattle.verdict_check.specs.Tests.{tests}

@@ -3,7 +3,7 @@ use Rattle.std.proofs.lemmas.List.{take_all}
 use Rattle.pq_tree.specs.PqTree.{column_count}
 use Rattle.tied_law.specs.Tied.{IsTied}
 use Rattle.tied_law.proofs.Start.{universal_tied}
-use Rattle.c1p_solve.proofs.Orders.{some_order, valid_front, tied_exact}
+use Rattle.c1p_solve.proofs.Orders.{some_order, valid_front, tied_orders}
 use Rattle.c1p_solve.proofs.solver.solve.Goals as goal
 
 pub loop-taken-init : goal.loop-taken-init
@@ -36,10 +36,6 @@ returns-in-Ok-tree-clause-answer g c =
     let columns : column_count c.in-Ok-tree.tree ≡ c.args.m.now.columns = c.in-Ok-tree.ensures.columns ∙ c.loop-taken.invariant.columns in
     let whole : take c.loop-taken.taken c.args.m.now.rows ≡ c.args.m.now.rows = take_all c.loop-taken.taken c.args.m.now.rows (omega arith) in
     let tied = subst (λ (n : ℕ). IsTied n c.args.m.now.rows (g.R.Reducer.outline c.loop-taken.reducer)) (sym c.loop-taken.invariant.columns) (rw whole at c.loop-taken.invariant.tied) in (
-      record {
-        columns = columns;
-        canonical = c.in-Ok-tree.ensures.canonical;
-        orders = tied_exact c.args.m.now.columns c.args.m.now.rows c.in-Ok-tree.tree columns (rw c.loop-taken.invariant.columns at (c.in-Ok-tree.ensures.tied c.args.m.now.rows tied));
-      },
+      tied_orders c.args.m.now c.in-Ok-tree.tree columns c.in-Ok-tree.ensures.canonical (rw c.loop-taken.invariant.columns at (c.in-Ok-tree.ensures.tied c.args.m.now.rows tied)),
       rw whole at c.loop-taken.invariant.order,
     )

@@ -3,7 +3,7 @@ use Rattle.row_model.specs.declared.refusal.Read.TheVariants as read
 use Rattle.matrix_read.specs.Lines.{lines_of, filled_lines}
 use Rattle.graph_read.specs.Edges.{edges_of, lists_with}
 use Rattle.graph_read.specs.GraphFiles.{bigraph, bigraph_with, bigraph_behind, bigraph_lines}
-use Rattle.graph_read.proofs.TableLemmas.{are_lists}
+use Rattle.graph_read.proofs.ListLemmas.{are_lists}
 use Rattle.graph_read.proofs.FileLemmas.{bigraph_long, bigraph_short, bigraph_read, is_bigraph}
 use Rattle.graph_read.proofs.graph_files.read_bigraph.Goals as goal
 

@@ -3,7 +3,7 @@ use Rattle.row_model.specs.declared.refusal.Read.TheVariants as read
 use Rattle.matrix_read.specs.Lines.{lines_of, filled_lines}
 use Rattle.graph_read.specs.Edges.{right_of, edges_of, lists_with}
 use Rattle.graph_read.specs.GraphFiles.{graph, graph_with, graph_behind, graph_lines}
-use Rattle.graph_read.proofs.TableLemmas.{are_lists}
+use Rattle.graph_read.proofs.ListLemmas.{are_lists}
 use Rattle.graph_read.proofs.FileLemmas.{graph_long, graph_short, graph_read, is_graph}
 use Rattle.graph_read.proofs.graph_files.read_graph.Goals as goal
 

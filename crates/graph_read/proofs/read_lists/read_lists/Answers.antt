@@ -1,9 +1,19 @@
-use Rattle.std.proofs.Common.{◌≡◌, ◌∙◌, drop, length, arith}
-use Rattle.graph_read.proofs.TableLemmas.{lists_read, take_front}
+use Rattle.std.proofs.Common.{◌+◌, drop}
+use Rattle.std.proofs.lemmas.List.Sorted.{IsNonDecreasingBy-from_sort}
+use Rattle.matrix_read.specs.Lines.{lines_of, filled_lines}
+use Rattle.graph_read.specs.Edges.{edges_of}
+use Rattle.graph_read.specs.Places.{ArePlacesOf}
+use Rattle.graph_read.proofs.ListLemmas.{lists_read}
+use Rattle.graph_read.proofs.PlaceLemmas.{places_sorted}
 use Rattle.graph_read.proofs.read_lists.read_lists.Goals as goal
+
+pub lists_at-requires-clause-ascending : goal.lists_at-requires-clause-ascending
+lists_at-requires-clause-ascending c = rw c.deref.ensures.value (IsNonDecreasingBy-from_sort (λ x. x) c.sort_unstable.new.self.items c.sort_unstable.ensures.sorted)
 
 pub returns : goal.returns
 returns c =
-    let marks = c.mark_lines.new.marks in
-    let same : c.deref.result.now ≡ marks = c.deref.ensures.value ∙ take_front marks (drop (length marks) c.in_ok-marks.marks.items) c.in_ok-marks.marks.len (omega (arith, c.mark_lines.auto.marks, c.deref_mut.ensures.len)) in
-    lists_read c.args.shape _ c.left-in-Ok.result c.right-in-Ok.result marks c.deref.result.now c.in_ok-lists-in-Ok.lists same c.left-in-Ok.ensures c.right-in-Ok.ensures c.in-Ok.ensures.marks c.in_ok-lists-in-Ok.ensures
+    let edges = edges_of c.args.shape (filled_lines (c.args.passed + 1) (lines_of (drop c.args.at c.args.text.now))) in
+    let places : ArePlacesOf c.args.shape edges c.push_lines.new.places.items = rw c.in-None.is at c.in_ok-refusal.ensures.places in
+    let sorted : ArePlacesOf c.args.shape edges c.deref.result.now =
+    rw c.deref.ensures.value (places_sorted c.args.shape edges c.push_lines.new.places.items c.sort_unstable.new.self.items c.sort_unstable.ensures.permutation places) in
+    lists_read c.args.shape edges c.left.result c.right.result c.deref.result.now c.in_ok-lists-in-None.lists c.left.ensures c.right.ensures sorted c.in_ok-lists-in-None.ensures

@@ -1,7 +1,7 @@
 use Rattle.std.proofs.Common.{[], ◌∷◌, refl, inl, inr, arith, IfSome, subst}
 use Rattle.std.proofs.lemmas.Grind.{common_steps}
 use Rattle.pq_io.specs.Whole.{IsWhole}
-use Rattle.verdict_check.specs.Value.{instance_value}
+use Rattle.instance_model.specs.Value.{instance_value}
 use Rattle.pq_cli.specs.Words.{Check}
 use Rattle.pq_cli.specs.Stops.{IsRefusalOf}
 use Rattle.pq_cli.specs.declared.TheConstants.{MAX_VERDICT_BYTES}

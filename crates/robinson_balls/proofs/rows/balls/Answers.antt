@@ -1,5 +1,5 @@
 use Rattle.std.proofs.Common.{◌≤◌, ◌*◌, length, arith}
-use Rattle.robinson_balls.proofs.RowLemmas.{few_radii, few_balls, room_for}
+use Rattle.robinson_balls.proofs.RowLemmas.{few_balls, room_for}
 use Rattle.robinson_balls.proofs.rows.balls.Goals as goal
 
 pub push_balls-requires-clause-room : goal.push_balls-requires-clause-room
@@ -7,5 +7,4 @@ push_balls-requires-clause-room c =
     let d = c.args.d.now in
     let before = c.loop-before.before in
     let rows : length c.loop-before.balls.rows ≤ before * d.items = rw c.loop-before.invariant (few_balls d before) in
-    let radii : length c.deref.result.now ≤ d.items = rw (c.deref.ensures.value, c.in_ok-list_radii.ensures) (few_radii d _ d.items) in
-    omega (arith, rows, radii, room_for before d.items (omega arith) c.items.ensures.distances.items.1)
+    omega (arith, rows, room_for before d.items (omega arith) c.items.ensures.distances.items.1)

@@ -1,8 +1,4 @@
 use Rattle.std.proofs.Common.{rules}
-use Rattle.std.specs.Prelude.{IsTrue, IsFalse}
-use Rattle.std.proofs.lemmas.Bool.{both_ways}
-use Rattle.row_model.specs.declared.lists.Place.{Place}
-use Rattle.row_model.specs.declared.lists.Span.{Span}
 use Rattle.verdict_text.specs.Value.{yes_value}
 use Rattle.verdict_check.proofs.ClonesTests.{places_fail, contigs_fail}
 use Rattle.verdict_check.proofs.clones.clones_fault.Goals as goal

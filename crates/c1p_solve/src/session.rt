@@ -1,0 +1,170 @@
+// A matrix that grows by the rows with which it keeps a valid order.
+ghost use Rattle.std.specs.Prelude.{◌≡◌, ◌≢◌, ◌<◌, ◌-◌, IfOk, OnErr, length, take};
+ghost use Rattle.row_model.specs.Rows.{IsRow};
+ghost use Rattle.column_order.specs.Orders.{HasValidOrder};
+ghost use Rattle.pq_tree.specs.PqTree.{outline};
+ghost use Rattle.tied_law.specs.Tied.{IsTied};
+ghost use Rattle.pq_plain.specs.Plain.{plain_columns, plain_outline};
+ghost use Rattle.c1p_solve.specs.Answers.{HasAllOrders};
+ghost use Rattle.c1p_solve.specs.Sessions.{IsSession, with_row};
+ghost use Rattle.c1p_solve.specs.Taking.{IsStart, IsDecision, StandsAfter};
+
+use crate::chosen::{Answered, Chosen, answer};
+use crate::solver::{Solved, conflict};
+use incompat_graph::Cycle;
+use pq_plain::{Reducer, Step};
+use pq_tree::PqTree;
+use row_model::{Matrix, NoMemory};
+use std::alloc::Global;
+use std::marker::Model;
+use step_count::{Ledger, Steps};
+
+/// A matrix that has a valid order, and the reducer whose tree stands for all its valid orders. Further rows are taken as
+/// long as they leave one.
+#[derive(Drop)]
+pub struct Session {
+    alloc: Global,
+    matrix: Matrix,
+    reducer: Chosen,
+}
+
+impl Model for Session {
+    ghost use Rattle.c1p_solve.specs.Sessions.{SessionValue};
+    ghost use Rattle.c1p_solve.specs.Codes.{session_code};
+
+    ghost Value = { SessionValue };
+
+    ghost coded = { session_code };
+
+    ghost use Rattle.c1p_solve.specs.Kept.{session_within, IsKept};
+
+    ghost view = { session_within };
+
+    ghost invariant = { IsKept };
+}
+
+/// What became of the matrix of a new session.
+#[derive(Drop)]
+pub enum Started {
+    /// It has a valid order, and the session has it.
+    Ok(Session),
+    /// It has none, as this odd cycle of its incompatibility graph shows.
+    No(Cycle),
+}
+
+/// What became of a further row.
+#[derive(Drop)]
+pub enum Taken {
+    /// The session's rows have a valid order with it, and it is the last of them now.
+    Ok,
+    /// The session's rows have no valid order with it, and the session is as before. Where it was asked for, an odd cycle
+    /// shows it; the refused row has the number after the session's last row there.
+    No(Option<Cycle>),
+}
+
+impl Session {
+    /// A session of this matrix, which allocates by `alloc`, or an odd cycle where the matrix has no valid order.
+    ///
+    /// # Errors
+    ///
+    /// `NoMemory`. The matrix is then dropped, as it is after `No`.
+    pub fn start<L: Ledger>(
+        alloc: Global,
+        m: Matrix,
+        steps: &mut Steps<L>,
+    ) -> Result<Started, NoMemory>
+        ensures { IfOk result (IsStart m) }
+    {
+        let Answered { solved, reducer } = answer(alloc, &m, steps)?;
+        match solved {
+            Solved::Yes(_) => Ok(Started::Ok(Session {
+                alloc,
+                matrix: m,
+                reducer,
+            })),
+            Solved::No(cycle) => Ok(Started::No(cycle)),
+        }
+    }
+
+    /// Takes a further row where the session's rows have a valid order with it, and refuses it where they have none. A
+    /// refusal comes with an odd cycle only where `explain` asks for it, and else costs no search for one.
+    ///
+    /// # Errors
+    ///
+    /// `NoMemory`. The session is then as before, as it is after `No`.
+    pub fn take_row<L: Ledger>(
+        &mut self,
+        row: &[u32],
+        explain: bool,
+        steps: &mut Steps<L>,
+    ) -> Result<Taken, NoMemory>
+        requires row { IsRow self.old.matrix.columns row.now }
+        requires room { length self.old.matrix.rows < 16777216 }
+        ensures decision { IfOk result (IsDecision (with_row self.old.matrix row.now) explain) }
+        ensures session { IfOk result (StandsAfter self.old row.now self.new) }
+        ensures kept { IsSession self.new }
+        ensures err { OnErr result (self.new ≡ self.old) }
+    {
+        self.matrix.push_row(row)?;
+        let taken = reduce_last(self.alloc, &mut self.reducer, &self.matrix, explain, steps);
+        if !matches!(taken, Ok(Taken::Ok)) {
+            self.matrix.pop_row();
+        }
+        taken
+    }
+
+    /// The canonical tree of which the frontiers are exactly the valid orders of the session's rows.
+    ///
+    /// # Errors
+    ///
+    /// `NoMemory`.
+    pub fn tree(&self) -> Result<PqTree, NoMemory>
+        ensures all_orders { IfOk result (HasAllOrders self.now.matrix) }
+        ensures tied { IfOk result (λ t. IsTied self.now.matrix.columns self.now.matrix.rows (outline t)) }
+        ensures order { HasValidOrder self.now.matrix.columns self.now.matrix.rows }
+    {
+        self.reducer.tree(self.alloc)
+    }
+
+    /// The matrix: the rows of the start, and after them the rows that were taken. It has a valid order.
+    pub fn matrix(&self) -> &Matrix
+        ensures matrix { result.now ≡ self.now.matrix }
+        ensures session { IsSession self.now }
+    {
+        &self.matrix
+    }
+
+    /// The reducer. Its tree is tied to all rows of the session.
+    pub fn reducer(&self) -> &Chosen
+        ensures tree { plain_outline result.now ≡ self.now.tree }
+        ensures columns { plain_columns result.now ≡ self.now.matrix.columns }
+        ensures session { IsSession self.now }
+    {
+        &self.reducer
+    }
+}
+
+// Reduces the tree of the rows before the last one by the last one. Where it is refused, an odd cycle is looked for if one
+// is asked for.
+fn reduce_last<R: Reducer, L: Ledger>(
+    alloc: Global,
+    reducer: &mut R,
+    m: &Matrix,
+    explain: bool,
+    steps: &mut Steps<L>,
+) -> Result<Taken, NoMemory>
+    requires some { 0 < length m.now.rows }
+    requires columns { R.columns reducer.old ≡ m.now.columns }
+    requires tied { IsTied m.now.columns (take (length m.now.rows - 1) m.now.rows) (R.outline reducer.old) }
+    ensures decision { IfOk result (IsDecision m.now explain) }
+    ensures tied { IfOk result (λ t. t ≡ Taken.Ok → IsTied m.now.columns m.now.rows (R.outline reducer.new)) }
+    ensures columns { R.columns reducer.new ≡ R.columns reducer.old }
+    ensures unchanged { IfOk result (λ t. t ≢ Taken.Ok → R.outline reducer.new ≡ R.outline reducer.old) }
+    ensures err { OnErr result (R.outline reducer.new ≡ R.outline reducer.old) }
+{
+    match reducer.reduce(m, m.rows(), steps)? {
+        Step::Taken => Ok(Taken::Ok),
+        Step::Refused if explain => Ok(Taken::No(Some(conflict(alloc, m, m.rows(), steps)?))),
+        Step::Refused => Ok(Taken::No(None)),
+    }
+}

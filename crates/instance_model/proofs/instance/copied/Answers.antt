@@ -1,0 +1,5 @@
+use Rattle.instance_model.proofs.Copies.{copied_row}
+use Rattle.instance_model.proofs.instance.copied.Goals as goal
+
+pub loop-k-preserved : goal.loop-k-preserved
+loop-k-preserved c = copied_row _ _ _ _ _ _ c.in_ok-push_row.ensures.ok c.loop-k.invariant c.row.ensures.row

@@ -1,0 +1,3 @@
+pub mod Instance
+pub mod Value
+pub mod Laws

@@ -1,0 +1,68 @@
+-- Further rows, taken in turn after the rows of a matrix, and the text that tells what became of them.
+use Rattle.std.specs.Prelude.{⊤, ℕ, ◌+◌, ◌<◌, ◌≤◌, List, [], ◌∷◌, ◌++◌, Option, Some, None, codes}
+use Rattle.std.specs.Fmt.{decimal}
+use Rattle.column_order.specs.Orders.{HasValidOrder}
+use Rattle.row_model.specs.Cycles.{IsOddCycle}
+use Rattle.row_model.specs.Rows.{RowList}
+use Rattle.row_model.specs.declared.graph.Line.{Line}
+use Rattle.row_model.specs.declared.kind.Kind.{Kind}
+use Rattle.c1p_solve.specs.Sessions.{with_row}
+use Rattle.verdict_text.specs.Numbered.{numbered}
+use Rattle.verdict_text.specs.Text.{kind_line, columns_line, side_text, counted_cycle}
+use Rattle.verdict_text.specs.Verdict.{SideValue}
+use Rattle.pq_cli.specs.declared.TheConstants.{MAX_EXPLAINED}
+
+-- what becomes of a further row: it is accepted, or it is refused, for the first refusals with the lines of an odd cycle
+pub data Outcome : Type 0 where
+  accepted : Outcome
+  refused : (cycle : Option (List Line)) → Outcome
+
+-- What is told of a refusal by these rows, after so many others: an odd cycle of them where it is among the first, and nothing later.
+abbrev pub IsTold : RowList → ℕ → Option (List Line) → Type 0
+IsTold m refusals (Some lines) = (refusals < MAX_EXPLAINED) × IsOddCycle m.columns m.rows lines
+IsTold m refusals None = MAX_EXPLAINED ≤ refusals
+
+-- What becomes of a row after those of the matrix, where so many were refused before it: it is accepted where they have a valid order
+-- together, and refused where they have none.
+abbrev pub IsOutcome : RowList → ℕ → List ℕ → Outcome → Type 0
+IsOutcome m refusals row accepted = HasValidOrder m.columns (m.rows ++ row ∷ [])
+IsOutcome m refusals row (refused cycle) = (HasValidOrder m.columns (m.rows ++ row ∷ []) → ⊥) × IsTold (with_row m row) refusals cycle
+
+-- the matrix after an outcome: an accepted row is appended, and a refused one changes nothing
+abbrev pub matrix_after : RowList → List ℕ → Outcome → RowList
+matrix_after m row accepted = with_row m row
+matrix_after m row (refused cycle) = m
+
+-- how many rows were refused, after an outcome
+abbrev pub refusals_after : ℕ → Outcome → ℕ
+refusals_after refusals accepted = refusals
+refusals_after refusals (refused cycle) = refusals + 1
+
+-- what becomes of further rows, which are taken in turn
+abbrev pub AreOutcomes : RowList → ℕ → List (List ℕ) → List Outcome → Type 0
+AreOutcomes m refusals [] [] = ⊤
+AreOutcomes m refusals [] (_ ∷ _) = ⊥
+AreOutcomes m refusals (_ ∷ _) [] = ⊥
+AreOutcomes m refusals (row ∷ further) (outcome ∷ outcomes) =
+    IsOutcome m refusals row outcome × AreOutcomes (matrix_after m row outcome) (refusals_after refusals outcome) further outcomes
+
+-- the matrix after all of them: its rows at the start, and the accepted rows in their order
+abbrev pub matrix_at_end : RowList → List (List ℕ) → List Outcome → RowList
+matrix_at_end m [] outcomes = m
+matrix_at_end m (_ ∷ _) [] = m
+matrix_at_end m (row ∷ further) (outcome ∷ outcomes) = matrix_at_end (matrix_after m row outcome) further outcomes
+
+-- `cycle L` and its lines, if there are any
+abbrev pub told_text : Option (List Line) → List ℕ
+told_text (Some lines) = counted_cycle lines
+told_text None = []
+
+-- `I ok`; or `I no`, and the cycle where there is one
+abbrev pub outcome_text : ℕ → Outcome → List ℕ
+outcome_text i accepted = decimal i ++ codes " ok\n"
+outcome_text i (refused cycle) = decimal i ++ (codes " no\n" ++ told_text cycle)
+
+-- The whole text: the kind and the number of columns, what became of each further row, the tree of the rows at the end, and an order.
+unfoldable pub session_text : Kind → ℕ → List Outcome → SideValue → List ℕ
+session_text kind c outcomes side =
+    codes "pq-extend 1\n" ++ (kind_line kind ++ (columns_line (c ∷ []) ++ (numbered outcome_text 1 outcomes ++ (side_text side ++ codes "end\n"))))

@@ -1,0 +1,42 @@
+// The items in the order of their distances from one of them.
+ghost use Rattle.std.specs.Prelude.{◌<◌, ◌≤◌, length, IsTrue, IsFalse, OnOk};
+ghost use Rattle.robinson_balls.specs.Neighbours.{AreNeighbours, EndsBall, GoesOn};
+
+use graph_read::Distances;
+use std::alloc::AllocError;
+
+/// An item, and its distance from a centre.
+#[derive(Clone, Copy)]
+pub struct Neighbour {
+    pub item: u32,
+    pub distance: u64,
+}
+
+/// Makes the list that of all items with their distances from `x`, itself included, in rising order of distance.
+pub fn list_neighbours(
+    neighbours: &mut Vec<Neighbour>,
+    d: &Distances,
+    x: u32,
+) -> Result<(), AllocError>
+    requires { (1 ≤ x) × (x ≤ d.now.items) }
+    ensures { OnOk result (AreNeighbours d.now x neighbours.new.items) }
+{
+    neighbours.clear();
+    for before in 0..d.items() {
+        neighbours.push(Neighbour {
+            item: before + 1,
+            distance: d.at(x, before + 1),
+        })?;
+    }
+    neighbours.sort_unstable_by_key(|neighbour| neighbour.distance);
+    Ok(())
+}
+
+/// Whether the neighbour in place `k`, from 0, is nearer than the next, or the last.
+pub fn ends_ball(neighbours: &[Neighbour], k: usize) -> bool
+    requires { k < length neighbours.now }
+    ensures ends { IsTrue result → EndsBall neighbours.now k }
+    ensures goes_on { IsFalse result → GoesOn neighbours.now k }
+{
+    k + 1 == neighbours.len() || neighbours[k].distance < neighbours[k + 1].distance
+}

@@ -1,5 +1,0 @@
-use Rattle.verdict_check.proofs.Copies.{copied_row}
-use Rattle.verdict_check.proofs.instance.copied.Goals as goal
-
-pub loop-k-preserved : goal.loop-k-preserved
-loop-k-preserved c = copied_row _ _ _ _ _ _ c.in_ok-push_row.ensures.ok c.loop-k.invariant c.row.ensures.row
