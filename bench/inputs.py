@@ -29,6 +29,50 @@ def sparse_file(columns, ones, rng):
     return bytes(text)
 
 
+def random_edges(left, right, degree, rng):
+    """The edges of a bipartite graph in which each x has so many random ys, ascending."""
+    return [(x, y) for x in range(1, left + 1) for y in sorted(rng.sample(range(1, right + 1), degree))]
+
+
+def repeated_edges(left, right, count, rng):
+    """So many random edges, in no order and many of them repeated."""
+    return [(rng.randint(1, left), rng.randint(1, right)) for _ in range(count)]
+
+
+def bigraph_file(left, right, edges):
+    """A line for each edge, up to the limit of bytes, behind the sizes of the two sides."""
+    text = bytearray(f"{left} {right}\n".encode())
+    for x, y in edges:
+        line = f"{x} {y}\n".encode()
+        if len(text) + len(line) > FILE_LIMIT:
+            break
+        text += line
+    return bytes(text)
+
+
+def generated_file(seed, columns, rows):
+    """The lists of columns of the matrix that `gen` draws with these words, cut to the limit of bytes. The rule is that of docs/FORMATS.md."""
+    state = seed
+
+    def draw(bound):
+        nonlocal state
+        state = (6364136223846793005 * state + 1442695040888963407) % 2**64
+        return (state >> 33) % bound
+
+    hidden = list(range(1, columns + 1))
+    for i in range(columns, 1, -1):
+        j = 1 + draw(i)
+        hidden[i - 1], hidden[j - 1] = hidden[j - 1], hidden[i - 1]
+    text = bytearray(f"{columns}\n".encode())
+    for _ in range(rows):
+        first, last = sorted((draw(columns), draw(columns)))
+        line = (" ".join(map(str, hidden[first:last + 1])) + "\n").encode()
+        if len(text) + len(line) > FILE_LIMIT:
+            break
+        text += line
+    return bytes(text)
+
+
 def table_file(columns, cells, rng):
     """A table of random cells up to the limit of bytes, under a header; the last cell is none that a table may have."""
     header = b"kind," + b",".join(f"site {place}".encode() for place in range(1, columns + 1)) + b"\n"
@@ -90,6 +134,19 @@ def yes_verdict(kind, order):
     words = " ".join(str(column) for column in order)
     lines = ["pq-verdict 1", f"kind {kind}", f"columns {len(order)}", "answer yes", f"tree [{words}]", f"order {words}", "end", ""]
     return "\n".join(lines).encode()
+
+
+def distance_file(items, rng):
+    """A table of distances that all differ, so that each item has a ball of each size; and an order in which item 1 and the item nearest
+    to it, which make up a ball, stand apart."""
+    rows = [[0] * items for _ in range(items)]
+    values = iter(rng.sample(range(1, items**3), items * (items - 1) // 2))
+    for x in range(items):
+        for y in range(x):
+            rows[x][y] = rows[y][x] = next(values)
+    lines = [str(items)] + [" ".join(str(value) for value in row) for row in rows]
+    apart = sorted(range(1, items), key=lambda y: -rows[0][y])
+    return ("\n".join(lines) + "\n").encode(), [1] + [y + 1 for y in apart]
 
 
 def every_pair(columns):

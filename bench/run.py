@@ -18,12 +18,17 @@ import sys
 import tempfile
 
 from inputs import (
+    bigraph_file,
     clone_file,
     cycle_verdict,
     dense_file,
+    distance_file,
     every_pair,
+    generated_file,
     interval_file,
     nested_file,
+    random_edges,
+    repeated_edges,
     sparse_file,
     steps_round,
     table_file,
@@ -79,9 +84,9 @@ def compare(title, files, words, yardstick, statuses, name="plain Rust"):
           f"peak {peak / 1024:.1f} MiB, {peak * 1024 / size:.2f} times the files ({name} {other_peak / 1024:.1f} MiB)", flush=True)
 
 
-def whole_call(title, file, status):
-    """One line: a whole call of `solve`, which has no yardstick."""
-    ours, peak = best([PROGRAM, "solve", "matrix", file], status, 3)
+def whole_call(title, words, status):
+    """One line: a whole call, which has no yardstick."""
+    ours, peak = best([PROGRAM] + words, status, 3)
     print(f"{title}: {ours * 1000:.1f} ms, peak {peak / 1024:.1f} MiB")
 
 
@@ -110,6 +115,27 @@ def bench_rows(folder, rng, _yardsticks):
         compare(f"rows, {ones} of 1000 columns a row", [file], ["solve", "rows"], [plain], (3, 3))
 
 
+def bench_bigraph(folder, rng, _yardsticks):
+    """Reading a bipartite graph of the greatest length, in order, shuffled, and repeated.
+
+    The program checks a verdict of another kind, which it finds invalid as soon as the graph is read: nothing is derived or solved.
+    """
+    plain = compiled("bigraph", folder)
+    edges = random_edges(65_536, 1_024, 25, rng)
+    mixed = rng.sample(edges, len(edges))
+    repeated = repeated_edges(3_000, 30, 2_500_000, rng)
+    few = repeated_edges(2, 3, 4_200_000, rng)
+    for what, left, right, listed in [
+        ("in order", 65_536, 1_024, edges),
+        ("shuffled", 65_536, 1_024, mixed),
+        ("repeated", 65_536, 1_024, repeated),
+        ("6 edges repeated", 2, 3, few),
+    ]:
+        file = write(folder, "bigraph.txt", bigraph_file(left, right, listed))
+        verdict = write(folder, "other.txt", yes_verdict("rows", [1]))
+        compare(f"bipartite graph, {left} and {right}, {what}", [file, verdict], ["check", "convex"], [plain], (1, 0))
+
+
 def bench_table(folder, rng, yardsticks):
     """Reading and judging a table of the greatest length, against going through its records alone."""
     if not yardsticks.csv:
@@ -132,9 +158,9 @@ def bench_solve(folder, rng, _yardsticks):
     """Whole calls of `solve matrix`."""
     for columns, rows in [(100, 1000), (1000, 1000)]:
         file = write(folder, "nested.txt", nested_file(columns, rows, rng))
-        whole_call(f"solve, {rows} nested rows over {columns} columns", file, 0)
+        whole_call(f"solve, {rows} nested rows over {columns} columns", ["solve", "matrix", file], 0)
         file = write(folder, "intervals.txt", interval_file(columns, rows, rng))
-        whole_call(f"solve, {rows} runs in a hidden order over {columns} columns", file, 0)
+        whole_call(f"solve, {rows} runs in a hidden order over {columns} columns", ["solve", "matrix", file], 0)
 
 
 def bench_check(folder, rng, _yardsticks):
@@ -154,13 +180,38 @@ def bench_check(folder, rng, _yardsticks):
     compare(f"check, no, a cycle of {len(walk)} lines", files, ["check", "matrix"], [plain, "matrix"], (0, 0))
 
 
+def bench_balls(folder, rng, _yardsticks):
+    """Reading a table of distances and deriving its balls, 65,536 rows with 8,421,376 ones.
+
+    The program checks a verdict whose order parts the second row. So it derives every row, and the test of the order ends at the second:
+    neither a reduction nor a search is in the figure. Calling `solve` on the table would put both in.
+    """
+    plain = compiled("balls", folder)
+    table, order = distance_file(256, rng)
+    file = write(folder, "distances.txt", table)
+    verdict = write(folder, "order.txt", yes_verdict("robinson", order))
+    compare("balls, 256 items", [file, verdict], ["check", "robinson"], [plain], (1, 0))
+
+
+def bench_gen(folder, _rng, _yardsticks):
+    """Whole calls of `gen`, and of `solve rows` on the same matrices, which a script makes by the rule of `gen`."""
+    for seed, columns, rows in [(7, 100, 500), (7, 1000, 1000), (7, 1000, 20_000)]:
+        words = ["gen", str(seed), str(columns), str(rows)]
+        whole_call(" ".join(words), words, 0)
+        file = write(folder, "generated.txt", generated_file(seed, columns, rows))
+        whole_call(f"solve, the rows of {' '.join(words)}", ["solve", "rows", file], 0)
+
+
 BENCHES = {
     "dense": bench_dense,
     "rows": bench_rows,
+    "bigraph": bench_bigraph,
     "table": bench_table,
     "clones": bench_clones,
     "solve": bench_solve,
+    "gen": bench_gen,
     "check": bench_check,
+    "balls": bench_balls,
 }
 
 

@@ -1,6 +1,7 @@
 #!/usr/bin/env python3
 """Runs the built program over real files, streams and devices, and compares bytes and status; has it check what it solved; then
-runs it over every small matrix, compares the answer with a plain program that tries all orders, and checks the verdict.
+runs it over every small matrix, bipartite graph, graph and table of distances, compares the answer with a plain program that tries all
+orders, and checks the verdict.
 
 Usage: end_to_end/check.py            after `rt ci` or `./pq`, which leave the program in crates/pq/out/pq
 The last line is `N passed, N failed`; the status is 0 where nothing failed.
@@ -12,9 +13,13 @@ import subprocess
 import sys
 import tempfile
 
+import all_kinds
 from all_orders import dense, matrices, problem as wrong_answer
 from cases import CASES, REFUTED
+from graph_kinds import GRAPH_CASES, GRAPH_SOLVED
 from kinds import KIND_CASES, SOLVED
+from pages import loose_commands, page_problems, pages
+from sessions import SESSION_CASES, drawn, extend_problem, gen_problem, sessions
 
 HOME = os.path.dirname(os.path.dirname(os.path.abspath(__file__)))
 PROGRAM = os.path.join(HOME, "crates", "pq", "out", "pq")
@@ -138,7 +143,7 @@ def main():
         os.chmod(top, 0o755)
         program = shutil.copy(PROGRAM, os.path.join(top, "pq"))
         os.chmod(program, 0o755)
-        tried = [(case["name"], run_case, case) for case in CASES + KIND_CASES] + [(s.__name__, s, None) for s in STREAMS]
+        tried = [(case["name"], run_case, case) for case in CASES + KIND_CASES + GRAPH_CASES + SESSION_CASES] + [(s.__name__, s, None) for s in STREAMS]
         for number, (name, check, case) in enumerate(tried):
             folder = os.path.join(top, str(number))
             os.mkdir(folder)
@@ -147,13 +152,21 @@ def main():
             except subprocess.TimeoutExpired:
                 problem = f"no end within {SECONDS} seconds"
             report.tell(name, problem)
-        for name, kind, content in SOLVED:
+        for page in pages():
+            folder = os.path.join(top, page.replace(os.sep, "_"))
+            os.mkdir(folder)
+            for command, problem in page_problems(page, folder, program):
+                report.tell(f"{page}: {command}", problem)
+            report.tell(f"{page}: commands that are not run", difference("lines", [], loose_commands(page)))
+        for name, kind, content in SOLVED + GRAPH_SOLVED:
             report.tell(f"check of {kind}: {name}", not_believed(kind, content, top, program))
         small = [(f"all orders of {columns} columns, rows {[sorted(row) for row in rows]}", columns, rows)
                  for columns in range(1, MOST_COLUMNS + 1) for rows in matrices(columns)]
         for name, columns, rows in REFUTED + small:
             report.tell(name, wrong_answer(columns, rows))
             report.tell(f"check of {name}", not_believed("matrix", dense(columns, rows).encode(), top, program))
+    for instance, problem in all_kinds.tried():
+        report.tell(f"{instance.kind} {instance.content!r}", problem)
     print(f"{report.passed} passed, {report.failed} failed")
     return 1 if report.failed else 0
 
