@@ -131,6 +131,17 @@ def not_believed(kind, content, folder, program):
             or difference("status", 0, done.returncode) or difference("output", b"valid\n", done.stdout))
 
 
+# The files of examples/ with their kinds.
+EXAMPLES = [("nested.txt", "matrix"), ("chain.txt", "rows"), ("graves.csv", "table"), ("map.json", "clones"), ("ring.txt", "circular"),
+            ("jobs.txt", "convex"), ("path.txt", "doubly"), ("overlaps.txt", "proper"), ("distances.txt", "robinson")]
+
+
+def example(name):
+    """The bytes of an example."""
+    with open(os.path.join(HOME, "examples", name), "rb") as file:
+        return file.read()
+
+
 STREAMS = [full_device, closed_pipe, closed_errors, script_runs]
 
 
@@ -158,7 +169,7 @@ def main():
             for command, problem in page_problems(page, folder, program):
                 report.tell(f"{page}: {command}", problem)
             report.tell(f"{page}: commands that are not run", difference("lines", [], loose_commands(page)))
-        for name, kind, content in SOLVED + GRAPH_SOLVED:
+        for name, kind, content in SOLVED + GRAPH_SOLVED + [(name, kind, example(name)) for name, kind in EXAMPLES]:
             report.tell(f"check of {kind}: {name}", not_believed(kind, content, top, program))
         small = [(f"all orders of {columns} columns, rows {[sorted(row) for row in rows]}", columns, rows)
                  for columns in range(1, MOST_COLUMNS + 1) for rows in matrices(columns)]
