@@ -80,6 +80,7 @@ GEN = [
     generates("leading zeros", ["000", "02", "0003"], 2, 3, 6, 1, 0),
     generates("one column without rows", ["0", "1", "0"], 1, 0, 0, 0, 0),
     generates("two columns without rows", ["5", "2", "0"], 2, 0, 0, 1, 0),
+    generates("1,024 columns without rows", ["0", "1024", "0"], 1024, 0, 0, 1, 0),
     generates("the greatest number", ["18446744073709551615", "1", "1"], 1, 1, 1, 0, 0),
     generates("65,536 rows of one column", ["7", "1", "65536"], 1, 65_536, 65_536, 0, 0),
 ]
