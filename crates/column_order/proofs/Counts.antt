@@ -1,8 +1,8 @@
 -- How many columns a list has: c in an order of 1 to c, and no fewer than c different ones are all of them.
-use Rattle.std.proofs.Common.{◌≡◌, ◌≢◌, ◌⊎◌, ◌∙◌, ℕ, zero, suc, ◌+◌, ◌<◌, ◌≤◌, true, false, cond, ◌&&◌, eqb, leb, List, [], ◌∷◌, length, IsTrue, IsFalse, refl, sym, inl, inr, arith, eq-eqb}
+use Rattle.std.proofs.Common.{◌≡◌, ◌≢◌, ◌⊎◌, ◌∙◌, ℕ, zero, suc, ◌+◌, ◌<◌, ◌≤◌, cond, ◌&&◌, eqb, leb, List, [], ◌∷◌, length, IsTrue, IsFalse, refl, sym, subst, inl, inr, arith, eq-eqb}
 use Rattle.std.proofs.lemmas.Bool.{cond-false, cond-true, lt-leb, le-leb, cases_eq, cases_lt, cases_Bool, ne_eqb, and_from, and_left, and_right, both_ways}
 use Rattle.column_order.specs.Orders.{has, occurs, IsOrder, IsWithin}
-use Rattle.column_order.proofs.Lists.{has_head, has_tail, has_from_occurs, occurs_from_has, lacks_from_occurs}
+use Rattle.column_order.proofs.Lists.{has_head, has_tail, has_from_occurs, occurs_from_has}
 
 -- how often an order of 1 to c has the number
 abbrev pub within : ℕ → ℕ → ℕ
@@ -97,6 +97,10 @@ total_length n (x ∷ xs) h =
 pub order_length : (c : ℕ) (o : List ℕ) → IsOrder c o → length o ≡ c
 order_length c o h =
     sym (total_length c o (order_within c o h)) ∙ sum_to-ones c (occurs o) (λ a l u. h a ∙ within_one c a l u)
+
+-- an order is one of as many columns as it has
+pub order_own : (c : ℕ) (o : List ℕ) → IsOrder c o → IsOrder (length o) o
+order_own c o h = subst (λ n. IsOrder n o) (sym (order_length c o h)) h
 
 -- a list is an order of one number of columns at most
 pub order_unique : (c d : ℕ) (o : List ℕ) → IsOrder c o → IsOrder d o → c ≡ d

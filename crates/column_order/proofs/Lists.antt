@@ -51,6 +51,10 @@ has_from_occurs xs a h = has-occurs xs a ∙ lt-ltb 0 (occurs xs a) h
 pub lacks_from_occurs : (xs : List ℕ) (a : ℕ) → occurs xs a ≡ 0 → IsFalse (has xs a)
 lacks_from_occurs xs a h = has-occurs xs a ∙ le-ltb 0 (occurs xs a) (omega arith)
 
+-- a list that has the number as often as another has it where the other does
+pub has_same : (xs ys : List ℕ) (a : ℕ) → occurs xs a ≡ occurs ys a → has xs a ≡ has ys a
+has_same xs ys a e = has-occurs xs a ∙ ap (ltb 0) e ∙ sym (has-occurs ys a)
+
 -- two lists in which the number stands once at most together: it does not stand in both
 pub apart : (xs ys : List ℕ) (a : ℕ) → occurs (xs ++ ys) a ≤ 1 → IsTrue (has xs a) → IsFalse (has ys a)
 apart xs ys a one h =

@@ -1,6 +1,6 @@
 -- An order keeps a row exactly where the row has as many columns as there are positions from its first to its last.
-use Rattle.std.proofs.Common.{◌≡◌, ◌↔◌, ◌∙◌, ℕ, suc, ◌+◌, ◌-◌, ◌<◌, ◌≤◌, List, [], ◌∷◌, ◌++◌, length, take, drop, get_or, IsTrue, refl, sym, ap, subst, inl, inr, arith, length-drop}
-use Rattle.std.proofs.lemmas.Bool.{cases_eq, cases_lt, cases_Bool, both_ways}
+use Rattle.std.proofs.Common.{◌≡◌, ◌↔◌, ◌∙◌, ℕ, ◌+◌, ◌-◌, ◌<◌, ◌≤◌, List, [], length, take, drop, get_or, IsTrue, refl, sym, ap, subst, inl, inr, arith, length-drop}
+use Rattle.std.proofs.lemmas.Bool.{cases_eq, both_ways}
 use Rattle.std.proofs.lemmas.List.{length-take-le, get_or-drop, get_or-take, take-append-drop}
 use Rattle.column_order.specs.Orders.{has, occurs, place, IsOrder, Keeps, IsWithin, AreEnds}
 use Rattle.column_order.proofs.Lists.{has_at, at_place, occurs-append, occurs_from_has, has_from_occurs}

@@ -6,6 +6,7 @@ pub mod MemShelf
 pub mod MemSink
 pub mod NamedFiles
 pub mod RealShelf
+pub mod RealSink
 pub mod Shelf
 pub mod Sink
 pub mod Whole

@@ -13,6 +13,7 @@ mod mem_sink;
 mod reading;
 mod real_shelf;
 mod real_sink;
+mod retried;
 mod shelf;
 mod sink;
 #[cfg(test)]

@@ -4,6 +4,7 @@ ghost use Rattle.std.specs.Io.{ReadsAtMost};
 ghost use Rattle.pq_io.specs.Faults.{HasCause, ChangedOnlyIfFailed, count_after};
 ghost use Rattle.pq_io.specs.Shelf.{Asks, HasChoiceCause, ChangedOnlyIfNotFound, count_after_choice};
 
+use crate::retried::read_retried;
 use crate::{ChooseError, Failed, Shelf};
 use std::alloc::Global;
 use std::fs;
@@ -104,7 +105,7 @@ impl<R: Files + Input + Drop> Shelf for RealShelf<R> {
         }
     }
 
-    /// The count rises by one at each failure.
+    /// The count rises by one at each failure. A read that a signal interrupted is made again.
     fn read(&mut self, buf: &mut [u8]) -> Result<usize, Failed>
         requires room { 0 < length buf.old }
         requires chosen { IsTrue self.old.has_chosen }
@@ -118,8 +119,8 @@ impl<R: Files + Input + Drop> Shelf for RealShelf<R> {
     {
         let outcome = match &mut self.chosen {
             Chosen::Nothing => unreachable!(),
-            Chosen::Input(reader) => reader.read(buf),
-            Chosen::File(file) => file.read(buf),
+            Chosen::Input(reader) => read_retried(reader, buf),
+            Chosen::File(file) => read_retried(file, buf),
         };
         if outcome.is_err() {
             self.faults = self.faults.saturating_add(1);

@@ -1,15 +1,17 @@
 // Standard output and standard error.
-ghost use Rattle.std.specs.Prelude.{◌≡◌, ◌<◌, None, length, IfOk};
+ghost use Rattle.std.specs.Prelude.{◌≡◌, ◌<◌, None, length, take, IfOk};
+ghost use Rattle.std.specs.Io.KnownBytes.{Appends};
 ghost use Rattle.pq_io.specs.Faults.{HasCause, ChangedOnlyIfFailed, count_after};
 ghost use Rattle.pq_io.specs.Sink.{TakesSome};
 
+use crate::retried::{flush_retried, write_retried};
 use crate::{Failed, Sink};
 use std::io::{Stderr, Stdout, Write};
 use std::marker::Model;
 
-/// Standard output or standard error, flushed in each write. It tells no bytes.
+/// Standard output or standard error, flushed in each write. As a sink it tells no bytes.
 ///
-/// Contracts see it as the count of its faults.
+/// Contracts see it as the bytes that its stream tells, and the count of its faults. The streams of the system tell none.
 #[derive(Drop)]
 pub struct RealSink<W: Write> {
     stream: W,
@@ -17,17 +19,18 @@ pub struct RealSink<W: Write> {
 }
 
 impl<W: Write> Model for RealSink<W> {
-    ghost use Rattle.std.specs.Prelude.{ℕ};
+    ghost use Rattle.pq_io.specs.RealSink.{Stream};
 
-    ghost Value = { ℕ };
+    ghost Value = { Stream };
 
-    ghost view = { λ sink. sink.faults };
+    ghost view = { λ sink. record { contents = W.contents sink.stream; faults = sink.faults } };
 }
 
 impl<W: Write> RealSink<W> {
     // A stream with no faults so far.
     fn over(stream: W) -> Self
-        ensures { result ≡ 0 }
+        ensures contents { result.contents ≡ W.contents stream }
+        ensures faults { result.faults ≡ 0 }
     {
         RealSink { stream, faults: 0 }
     }
@@ -36,7 +39,7 @@ impl<W: Write> RealSink<W> {
 impl RealSink<Stdout> {
     /// Standard output, with no faults so far.
     pub fn output(stream: Stdout) -> Self
-        ensures { result ≡ 0 }
+        ensures faults { result.faults ≡ 0 }
     {
         RealSink::over(stream)
     }
@@ -45,7 +48,7 @@ impl RealSink<Stdout> {
 impl RealSink<Stderr> {
     /// Standard error, with no faults so far.
     pub fn error(stream: Stderr) -> Self
-        ensures { result ≡ 0 }
+        ensures faults { result.faults ≡ 0 }
     {
         RealSink::over(stream)
     }
@@ -54,19 +57,21 @@ impl RealSink<Stderr> {
 impl<W: Write> Sink for RealSink<W> {
     ghost written = { λ _. None };
 
-    ghost faults = { λ sink. sink };
+    ghost faults = { λ sink. sink.faults };
 
-    /// The count rises by one at each failure.
+    /// What the stream tells grew by the bytes that were taken. The count rises by one at each failure. A write that a
+    /// signal interrupted is made again.
     fn write(&mut self, piece: &[u8]) -> Result<usize, Failed>
         requires { 0 < length piece.now }
         ensures bound { IfOk result (TakesSome piece.now) }
-        ensures cause { HasCause self.old self.new result }
-        ensures told { ChangedOnlyIfFailed self.old self.new result }
+        ensures cause { HasCause self.old.faults self.new.faults result }
+        ensures told { ChangedOnlyIfFailed self.old.faults self.new.faults result }
 
-        ensures count { self.new ≡ count_after self.old result }
+        ensures sent { IfOk result (λ n. Appends self.old.contents self.new.contents (take n piece.now)) }
+        ensures count { self.new.faults ≡ count_after self.old.faults result }
     {
-        match self.stream.write(piece) {
-            Ok(n) if n > 0 && self.stream.flush().is_ok() => Ok(n),
+        match write_retried(&mut self.stream, piece) {
+            Ok(n) if n > 0 && flush_retried(&mut self.stream).is_ok() => Ok(n),
             _ => {
                 self.faults = self.faults.saturating_add(1);
                 Err(Failed)
@@ -80,19 +85,32 @@ mod tests {
     use super::*;
     use std::io;
 
-    // Takes at most so many bytes in a write, and then may not be flushed.
+    // Takes at most so many bytes in a write, and then may not be flushed. So many calls are interrupted first.
     #[derive(Drop)]
     struct FakeStream {
         most: usize,
         can_flush: bool,
+        interruptions: u32,
+    }
+
+    impl FakeStream {
+        fn interrupted(&mut self) -> io::Result<()> {
+            if self.interruptions == 0 {
+                return Ok(());
+            }
+            self.interruptions -= 1;
+            Err(io::Error::from(io::ErrorKind::Interrupted))
+        }
     }
 
     impl Write for FakeStream {
         fn write(&mut self, buf: &[u8]) -> io::Result<usize> {
+            self.interrupted()?;
             Ok(buf.len().min(self.most))
         }
 
         fn flush(&mut self) -> io::Result<()> {
+            self.interrupted()?;
             if self.can_flush {
                 Ok(())
             } else {
@@ -109,8 +127,18 @@ mod tests {
             (0, true, Err(Failed)),
             (9, false, Err(Failed)),
         ] {
-            let mut sink = RealSink::over(FakeStream { most, can_flush });
-            assert_eq!(rt; sink.write(b"abc"), outcome, "{most} {can_flush}");
+            for interruptions in [0, 1, 2] {
+                let mut sink = RealSink::over(FakeStream {
+                    most,
+                    can_flush,
+                    interruptions,
+                });
+                assert_eq!(rt;
+                    sink.write(b"abc"),
+                    outcome,
+                    "{most} {can_flush} {interruptions}"
+                );
+            }
         }
     }
 }

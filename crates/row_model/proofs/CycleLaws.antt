@@ -6,7 +6,7 @@ use Rattle.row_model.specs.declared.graph.Pair.{Pair}
 use Rattle.row_model.specs.declared.graph.Line.{Line}
 use Rattle.row_model.specs.declared.graph.Why.{Why}
 use Rattle.row_model.specs.declared.graph.Why.TheVariants.{Flip, Row}
-use Rattle.row_model.specs.Graph.{Crosses, JoinedBy, Joined, row_at, IsWalk, HasOddWalk}
+use Rattle.row_model.specs.Graph.{Crosses, JoinedBy, Joined, row_at, IsWalk, IsOddly, HasOddWalk}
 use Rattle.row_model.specs.Cycles.{pair_of, first_pair, LeadTo, IsClosedWalk, IsOddWalk, IsOddCycle}
 
 -- the first pair of lines of which one was pushed
@@ -145,3 +145,36 @@ odd_walk_from_lines c rows (line ∷ lines) h =
         odd = omega (arith, h.odd, length-append (map pair_of lines) (line.pair ∷ []), length-map lines pair_of);
       };
     }
+
+-- a line for each pair of a walk but the last, with the reason that joins it to the next
+lines_of : (c : ℕ) (rows : List (List ℕ)) (v : Pair) (us : List Pair) (w : Pair) → IsWalk (Joined c rows) v us w → List Line
+lines_of c rows v [] w h = []
+lines_of c rows v (u ∷ us) w h = record { pair = v; why = h.0.0 } ∷ lines_of c rows u us w h.1
+
+lines_first : (c : ℕ) (rows : List (List ℕ)) (v : Pair) (us : List Pair) (w : Pair) (h : IsWalk (Joined c rows) v us w) → first_pair (lines_of c rows v us w h) w ≡ v
+unfolding lines_of
+lines_first c rows v [] w h = sym h
+lines_first c rows v (u ∷ us) w h = refl
+
+lines_lead : (c : ℕ) (rows : List (List ℕ)) (v : Pair) (us : List Pair) (w : Pair) (h : IsWalk (Joined c rows) v us w) → LeadTo c rows (lines_of c rows v us w h) w
+unfolding lines_of
+lines_lead c rows v [] w h = tt
+lines_lead c rows v (u ∷ us) w h =
+    (subst (λ x. JoinedBy c rows v x h.0.0) (sym (lines_first c rows u us w h.1)) h.0.1, lines_lead c rows u us w h.1)
+
+lines_count : (c : ℕ) (rows : List (List ℕ)) (v : Pair) (us : List Pair) (w : Pair) (h : IsWalk (Joined c rows) v us w) → length (lines_of c rows v us w h) ≡ length us
+unfolding lines_of
+lines_count c rows v [] w h = refl
+lines_count c rows v (u ∷ us) w h = omega (arith, lines_count c rows u us w h.1)
+
+-- a closed walk of odd length can be written as lines
+pub lines_from_odd_walk : (c : ℕ) (rows : List (List ℕ)) → HasOddWalk c rows → (lines : List Line) × IsOddWalk c rows lines
+lines_from_odd_walk c rows h =
+    let w : IsOddly (Joined c rows) h.start h.start = h.walk in
+    let lines : List Line = lines_of c rows h.start w.steps h.start w.walk in (
+      lines,
+      record {
+        closed = closed_from c rows lines h.start (lines_lead c rows h.start w.steps h.start w.walk) (lines_first c rows h.start w.steps h.start w.walk);
+        odd = omega (arith, lines_count c rows h.start w.steps h.start w.walk, w.odd);
+      },
+    )

@@ -5,8 +5,10 @@ use Rattle.std.proofs.lemmas.List.Elements.{filter-append}
 use Rattle.std.specs.List.{filter, range_with_len}
 use Rattle.column_order.specs.Orders.{has}
 use Rattle.row_model.specs.Rows.{Ascends, IsRow}
+use Rattle.row_model.proofs.Ascending.{ascends_lower}
 
-has_filter : (p : ℕ → Bool) (xs : List ℕ) (a : ℕ) → IsTrue (has xs a) → has (filter p xs) a ≡ p a
+-- a filtered list has what the list has and the test passes
+pub has_filter : (p : ℕ → Bool) (xs : List ℕ) (a : ℕ) → IsTrue (has xs a) → has (filter p xs) a ≡ p a
 has_filter p xs a h = given xs ∙ ap (λ b. b && p a) h
   where
     step : (x : ℕ) (xs : List ℕ) (t : Bool) → p x ≡ t → has (filter p xs) a ≡ (has xs a && p a) → has (cond t (x ∷ filter p xs) (filter p xs)) a ≡ ((eqb x a || has xs a) && p a)
@@ -25,7 +27,7 @@ has_filter p xs a h = given xs ∙ ap (λ b. b && p a) h
     given [] = refl
     given (x ∷ xs) = step x xs (p x) refl (given xs)
 
-range_has : (n low a : ℕ) → low ≤ a → a < low + n → IsTrue (has (range_with_len low n) a)
+pub range_has : (n low a : ℕ) → low ≤ a → a < low + n → IsTrue (has (range_with_len low n) a)
 range_has zero low a l u = absurd (omega (arith, l, u))
 range_has (suc n) low a l u =
     elim (cases_eq low a) [
@@ -37,11 +39,7 @@ range_has (suc n) low a l u =
 pub has_filtered : (p : ℕ → Bool) (c a : ℕ) → 1 ≤ a → a ≤ c → has (filter p (range_with_len 1 c)) a ≡ p a
 has_filtered p c a l u = has_filter p (range_with_len 1 c) a (range_has c 1 a l (omega (arith, u)))
 
-ascends_lower : (c low high : ℕ) (row : List ℕ) → low ≤ high → Ascends c high row → Ascends c low row
-ascends_lower c low high [] l h = tt
-ascends_lower c low high (x ∷ row) l h = (omega (arith, l, h.0), h.1, h.2)
-
-ascends_filter : (p : ℕ → Bool) (n c low : ℕ) → low + n ≤ c → Ascends c low (filter p (range_with_len (low + 1) n))
+pub ascends_filter : (p : ℕ → Bool) (n c low : ℕ) → low + n ≤ c → Ascends c low (filter p (range_with_len (low + 1) n))
 ascends_filter p zero c low h = tt
 ascends_filter p (suc n) c low h =
     let rest : Ascends c (low + 1) (filter p (range_with_len (low + 1 + 1) n)) = ascends_filter p n c (low + 1) (omega (arith, h)) in

@@ -3,8 +3,13 @@ pub mod Walks
 pub mod CycleLaws
 pub mod PieceLemmas
 pub mod Filtered
+pub mod Columns
 pub mod FirstRows
 pub mod Members
 pub mod Ascending
 pub mod PositionLemmas
 pub mod SeenLemmas
+pub mod Pairs
+pub mod Pushed
+pub mod RowLemmas
+pub mod Limits

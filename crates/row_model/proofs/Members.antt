@@ -4,12 +4,13 @@ use Rattle.std.specs.List.{Contains}
 use Rattle.column_order.specs.Orders.{has}
 use Rattle.column_order.proofs.Lists.{has_cases, has_head, has_tail}
 
-Contains-has : (xs : List ℕ) (a k : ℕ) → k < length xs → get_or xs k a ≡ a → IsTrue (has xs a)
+-- a number that the list contains is one that it has
+pub Contains-has : (xs : List ℕ) (a k : ℕ) → k < length xs → get_or xs k a ≡ a → IsTrue (has xs a)
 Contains-has [] a k lt e = absurd (omega arith)
 Contains-has (x ∷ xs) a zero lt e = let is : x ≡ a = e in rw (← is) (has_head x xs)
 Contains-has (x ∷ xs) a (suc k) lt e = has_tail x a xs (Contains-has xs a k (omega arith) e)
 
-has-Contains : (xs : List ℕ) (a : ℕ) → IsTrue (has xs a) → Contains xs a
+pub has-Contains : (xs : List ℕ) (a : ℕ) → IsTrue (has xs a) → Contains xs a
 has-Contains [] a h = absurd (cc)
 has-Contains (x ∷ xs) a h =
     elim (has_cases x a xs h) [

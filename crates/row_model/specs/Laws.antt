@@ -2,6 +2,8 @@
 use Rattle.std.specs.Prelude.{◌⊎◌, ◌↔◌, ◌<◌, List, ℕ, ◌++◌}
 use Rattle.row_model.specs.declared.graph.Pair.{Pair}
 use Rattle.column_order.specs.Orders.{place, IsValidOrder, HasValidOrder}
+use Rattle.row_model.specs.declared.graph.Line.{Line}
+use Rattle.row_model.specs.Cycles.{IsOddWalk}
 use Rattle.row_model.specs.Graph.{Joined, Evenly, HasOddWalk, HasConflict}
 
 -- in the order the pair's first column stands before its second
@@ -31,6 +33,10 @@ OddWalkLaw = (c : ℕ) (rows : List (List ℕ)) → HasOddWalk c rows → HasVal
 -- a closed walk of odd length exists exactly where a walk of even length leads from a pair to itself with its columns exchanged
 abbrev pub ConflictLaw : Type 0
 ConflictLaw = (c : ℕ) (rows : List (List ℕ)) → HasOddWalk c rows ↔ HasConflict c rows
+
+-- a list of lines that is a closed walk of odd length exists exactly where one of pairs does
+abbrev pub LinesLaw : Type 0
+LinesLaw = (c : ℕ) (rows : List (List ℕ)) → ((lines : List Line) × IsOddWalk c rows lines) ↔ HasOddWalk c rows
 
 -- further rows leave joined pairs joined
 abbrev pub MoreRowsLaw : Type 0

@@ -5,3 +5,4 @@ pub mod Pieces
 pub mod Bounds
 pub mod Laws
 pub mod Positions
+pub mod Limits

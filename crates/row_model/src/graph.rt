@@ -37,8 +37,9 @@ pub struct Line {
 pub fn joined_by(m: &Matrix, v: Pair, w: Pair, why: Why) -> bool
     ensures { IsTrue result ↔ JoinedBy m.now.columns m.now.rows v w why }
 {
-    is_pair(m, v)
-        && is_pair(m, w)
+    let columns = m.columns();
+    is_pair(columns, v)
+        && is_pair(columns, w)
         && match why {
             Why::Flip => v.a == w.b && v.b == w.a,
             Why::Row(k) => {
@@ -47,11 +48,11 @@ pub fn joined_by(m: &Matrix, v: Pair, w: Pair, why: Why) -> bool
         }
 }
 
-// Whether the pair has two distinct columns of the matrix.
-fn is_pair(m: &Matrix, v: Pair) -> bool
-    ensures { IsTrue result ↔ IsPair m.now.columns v }
+/// Whether the pair has two distinct ones of the columns 1 to `c`.
+pub fn is_pair(c: u32, v: Pair) -> bool
+    ensures { IsTrue result ↔ IsPair c v }
 {
-    1 <= v.a && v.a <= m.columns() && 1 <= v.b && v.b <= m.columns() && v.a != v.b
+    1 <= v.a && v.a <= c && 1 <= v.b && v.b <= c && v.a != v.b
 }
 
 // Whether v is (a,b) and w is (b,d) with a and d distinct, and row k has a and d and lacks b.

@@ -1,7 +1,9 @@
-// What a verdict of yes adds for some kinds, and the lists of it.
+// What a verdict of yes adds for some kinds, and lists of what is small enough to copy.
 ghost use Rattle.std.specs.Prelude.{◌≡◌, [], ◌∷◌, ◌++◌, IfOk, OnOk, OnErr};
 
-use std::alloc::{AllocError, Global};
+use crate::NoMemory;
+use crate::graph::Line;
+use std::alloc::Global;
 use std::marker::Model;
 
 /// A closed interval of whole numbers.
@@ -36,42 +38,65 @@ pub struct Span {
     pub last: u32,
 }
 
-/// A list of intervals.
+/// A list, which takes no memory while it is empty.
 #[derive(Drop)]
-pub struct Intervals {
-    items: Vec<Interval>,
+pub struct ListOf<T> {
+    items: Vec<T>,
 }
 
-impl Model for Intervals {
+/// Lines one after another, as those of a walk or of a cycle.
+pub type Lines = ListOf<Line>;
+/// Intervals, as one for each vertex of a proper interval graph.
+pub type Intervals = ListOf<Interval>;
+/// Places, as one for each clone.
+pub type Places = ListOf<Place>;
+/// Spans, as one for each contig.
+pub type Spans = ListOf<Span>;
+
+impl<T> Model for ListOf<T> {
     ghost use Rattle.std.specs.Prelude.{List};
-    ghost use Rattle.row_model.specs.declared.lists.Interval.{Interval};
 
-    ghost Value = { List Interval };
+    ghost Value = { List T };
 
-    ghost view = { λ l. l.items.items };
+    ghost view = { λ list. list.items.items };
 }
 
-impl Intervals {
+impl<T: Copy> ListOf<T> {
     /// The empty list, which takes no memory.
     pub fn new(alloc: Global) -> Self
         ensures { result ≡ [] }
     {
-        Intervals {
+        ListOf {
             items: Vec::new(alloc),
         }
     }
 
+    /// The list of these items, which takes over their memory.
+    pub fn from_vec(items: Vec<T>) -> Self
+        ensures { result ≡ items.items }
+    {
+        ListOf { items }
+    }
+
     /// The empty list, with room for `count` items.
-    pub fn with_capacity(alloc: Global, count: usize) -> Result<Self, AllocError>
+    ///
+    /// # Errors
+    ///
+    /// `NoMemory` where there is no memory for them.
+    pub fn with_capacity(alloc: Global, count: usize) -> Result<Self, NoMemory>
         ensures { IfOk result (λ list. list ≡ []) }
     {
-        Ok(Intervals {
+        Ok(ListOf {
             items: Vec::with_capacity(alloc, count)?,
         })
     }
 
     /// Adds a last item. On an error the list is as before.
-    pub fn push(&mut self, item: Interval) -> Result<(), AllocError>
+    ///
+    /// # Errors
+    ///
+    /// `NoMemory` where there is no memory for one more.
+    pub fn push(&mut self, item: T) -> Result<(), NoMemory>
         ensures ok { OnOk result (self.new ≡ self.old ++ item ∷ []) }
         ensures err { OnErr result (self.new ≡ self.old) }
     {
@@ -80,111 +105,29 @@ impl Intervals {
     }
 
     /// The items in their order.
-    pub fn as_slice(&self) -> &[Interval]
+    pub fn as_slice(&self) -> &[T]
         ensures { result.now ≡ self.now }
     {
         &self.items
     }
 }
 
-/// A list of places.
-#[derive(Drop)]
-pub struct Places {
-    items: Vec<Place>,
-}
+#[cfg(test)]
+mod tests {
+    use super::*;
+    use std::test::Fail;
 
-impl Model for Places {
-    ghost use Rattle.std.specs.Prelude.{List};
-    ghost use Rattle.row_model.specs.declared.lists.Place.{Place};
-
-    ghost Value = { List Place };
-
-    ghost view = { λ l. l.items.items };
-}
-
-impl Places {
-    /// The empty list, which takes no memory.
-    pub fn new(alloc: Global) -> Self
-        ensures { result ≡ [] }
-    {
-        Places {
-            items: Vec::new(alloc),
-        }
-    }
-
-    /// The empty list, with room for `count` items.
-    pub fn with_capacity(alloc: Global, count: usize) -> Result<Self, AllocError>
-        ensures { IfOk result (λ list. list ≡ []) }
-    {
-        Ok(Places {
-            items: Vec::with_capacity(alloc, count)?,
-        })
-    }
-
-    /// Adds a last item. On an error the list is as before.
-    pub fn push(&mut self, item: Place) -> Result<(), AllocError>
-        ensures ok { OnOk result (self.new ≡ self.old ++ item ∷ []) }
-        ensures err { OnErr result (self.new ≡ self.old) }
-    {
-        self.items.push(item)?;
+    #[test]
+    fn what_is_pushed_comes_last(rt: HostRuntime) -> Result<(), Fail> {
+        let first = Span { first: 1, last: 3 };
+        let second = Span { first: 5, last: 5 };
+        let mut spans = Spans::with_capacity(rt.alloc(), 2)?;
+        spans.push(first)?;
+        spans.push(second)?;
+        assert_eq!(rt; spans.as_slice(), [first, second].as_slice());
+        assert!(rt; Spans::new(rt.alloc()).as_slice().is_empty());
+        let taken_over = Spans::from_vec(vec![in rt.alloc(); first; 2]?);
+        assert_eq!(rt; taken_over.as_slice(), [first, first].as_slice());
         Ok(())
-    }
-
-    /// The items in their order.
-    pub fn as_slice(&self) -> &[Place]
-        ensures { result.now ≡ self.now }
-    {
-        &self.items
-    }
-}
-
-/// A list of spans.
-#[derive(Drop)]
-pub struct Spans {
-    items: Vec<Span>,
-}
-
-impl Model for Spans {
-    ghost use Rattle.std.specs.Prelude.{List};
-    ghost use Rattle.row_model.specs.declared.lists.Span.{Span};
-
-    ghost Value = { List Span };
-
-    ghost view = { λ l. l.items.items };
-}
-
-impl Spans {
-    /// The empty list, which takes no memory.
-    pub fn new(alloc: Global) -> Self
-        ensures { result ≡ [] }
-    {
-        Spans {
-            items: Vec::new(alloc),
-        }
-    }
-
-    /// The empty list, with room for `count` items.
-    pub fn with_capacity(alloc: Global, count: usize) -> Result<Self, AllocError>
-        ensures { IfOk result (λ list. list ≡ []) }
-    {
-        Ok(Spans {
-            items: Vec::with_capacity(alloc, count)?,
-        })
-    }
-
-    /// Adds a last item. On an error the list is as before.
-    pub fn push(&mut self, item: Span) -> Result<(), AllocError>
-        ensures ok { OnOk result (self.new ≡ self.old ++ item ∷ []) }
-        ensures err { OnErr result (self.new ≡ self.old) }
-    {
-        self.items.push(item)?;
-        Ok(())
-    }
-
-    /// The items in their order.
-    pub fn as_slice(&self) -> &[Span]
-        ensures { result.now ≡ self.now }
-    {
-        &self.items
     }
 }

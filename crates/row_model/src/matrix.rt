@@ -4,12 +4,15 @@ ghost use Rattle.column_order.specs.Orders.{has, IsOrder, Keeps};
 ghost use Rattle.row_model.specs.Rows.{IsRow};
 
 use crate::order::{is_kept, positions};
-use crate::pieces::{piece, pop_piece, push_piece, row_has};
-use std::alloc::{AllocError, Global};
+use crate::pieces::{piece, pop_piece, push_piece};
+use crate::rows::row_has;
+use crate::{NoMemory, ROW_BOUND};
+use column_order::COLUMN_BOUND;
+use std::alloc::Global;
 use std::marker::Model;
 
-/// A number of columns, from 1 to 32,768, and at most 16,777,216 rows, each the strictly ascending list of the columns
-/// that it has.
+/// A number of columns, from 1 to [`COLUMN_BOUND`], and at most [`ROW_BOUND`] rows, each the strictly ascending list of
+/// the columns that it has.
 ///
 /// The rows lie one after another in one list, so a matrix takes four bytes for each one and eight for each row.
 #[derive(Drop)]
@@ -33,8 +36,12 @@ impl Model for Matrix {
 
 impl Matrix {
     /// A matrix of so many columns, with no row.
-    pub fn new(alloc: Global, columns: u32) -> Result<Self, AllocError>
-        requires { (1 ≤ columns) × (columns ≤ 32768) }
+    ///
+    /// # Errors
+    ///
+    /// `NoMemory` where there is no memory for it.
+    pub fn new(alloc: Global, columns: u32) -> Result<Self, NoMemory>
+        requires { (1 ≤ columns) × (columns ≤ COLUMN_BOUND) }
         ensures { IfOk result (λ m. m ≡ record { columns = columns; rows = [] }) }
     {
         let mut bounds = Vec::new(alloc);
@@ -47,9 +54,13 @@ impl Matrix {
     }
 
     /// Adds a last row. On an error the matrix is as before.
-    pub fn push_row(&mut self, row: &[u32]) -> Result<(), AllocError>
+    ///
+    /// # Errors
+    ///
+    /// `NoMemory` where there is no memory for the row.
+    pub fn push_row(&mut self, row: &[u32]) -> Result<(), NoMemory>
         requires row { IsRow self.old.columns row.now }
-        requires room { length self.old.rows < 16777216 }
+        requires room { length self.old.rows < ROW_BOUND }
         ensures ok { OnOk result (self.new ≡ record self.old { rows = self.old.rows ++ row.now ∷ [] }) }
         ensures err { OnErr result (self.new ≡ self.old) }
     {
@@ -65,11 +76,11 @@ impl Matrix {
         pop_piece(&mut self.members, &mut self.bounds);
     }
 
-    /// The number of columns, from 1 to 32,768. The matrix has at most 16,777,216 rows.
+    /// The number of columns, from 1 to [`COLUMN_BOUND`]. The matrix has at most [`ROW_BOUND`] rows.
     pub fn columns(&self) -> u32
         ensures columns { result ≡ self.now.columns }
-        ensures range { (1 ≤ result) × (result ≤ 32768) }
-        ensures few_rows { length self.now.rows ≤ 16777216 }
+        ensures range { (1 ≤ result) × (result ≤ COLUMN_BOUND) }
+        ensures few_rows { length self.now.rows ≤ ROW_BOUND }
     {
         self.column_count
     }
@@ -107,7 +118,11 @@ impl Matrix {
 
     /// Whether the order of the columns keeps every row: of any three positions, a row with the columns at the first and
     /// the last has the column between them.
-    pub fn keeps(&self, order: &[u32]) -> Result<bool, AllocError>
+    ///
+    /// # Errors
+    ///
+    /// `NoMemory` where there is no memory for the positions of the columns.
+    pub fn keeps(&self, order: &[u32]) -> Result<bool, NoMemory>
         requires { IsOrder self.now.columns order.now }
         ensures { IfOk result (λ yes. IsTrue yes ↔ All (Keeps order.now) self.now.rows) }
     {

@@ -4,12 +4,18 @@ ghost use Rattle.column_order.specs.Orders.{IsOrder, IsWithin, Keeps};
 ghost use Rattle.row_model.specs.Rows.{IsRow};
 ghost use Rattle.row_model.specs.Positions.{ArePositions, IsSpan, IsSpanInOrder};
 
+use crate::NoMemory;
 use crate::lists::Span;
-use std::alloc::{AllocError, Global};
+use column_order::COLUMN_BOUND;
+use std::alloc::Global;
 
 /// Whether a list is an order of the columns 1 to `c`: each of them stands in it exactly once, and no other number does.
-pub fn is_order(alloc: Global, c: u32, list: &[u32]) -> Result<bool, AllocError>
-    requires { (1 ≤ c) × (c ≤ 32768) }
+///
+/// # Errors
+///
+/// `NoMemory` where there is no memory for a mark for each column.
+pub fn is_order(alloc: Global, c: u32, list: &[u32]) -> Result<bool, NoMemory>
+    requires { (1 ≤ c) × (c ≤ COLUMN_BOUND) }
     ensures { IfOk result (λ yes. IsTrue yes ↔ IsOrder c list.now) }
 {
     if list.len() != c as usize {
@@ -26,9 +32,13 @@ pub fn is_order(alloc: Global, c: u32, list: &[u32]) -> Result<bool, AllocError>
 }
 
 /// The position of each column in an order, column by column. Positions count from 1.
-pub fn positions(alloc: Global, order: &[u32]) -> Result<Vec<u32>, AllocError>
+///
+/// # Errors
+///
+/// `NoMemory` where there is no memory for them.
+pub fn positions(alloc: Global, order: &[u32]) -> Result<Vec<u32>, NoMemory>
     requires order { IsOrder (length order.now) order.now }
-    requires few { length order.now ≤ 32768 }
+    requires few { length order.now ≤ COLUMN_BOUND }
     ensures { IfOk result (λ list. ArePositions order.now list.items) }
 {
     let mut positions = vec![in alloc; 0; order.len()]?;
@@ -43,7 +53,11 @@ pub fn positions(alloc: Global, order: &[u32]) -> Result<Vec<u32>, AllocError>
 pub fn span_of(positions: &[u32], row: &[u32]) -> Option<Span>
     requires { IsWithin (length positions.now) row.now }
     ensures least { MatchOption result (row.now ≡ []) (λ span. IsSpan positions.now row.now span) }
-    ensures spans { IfSome result (λ span. (o : List ℕ) → IsOrder (length positions.now) o → ArePositions o positions.now → IsSpanInOrder o row.now span) }
+    ensures spans { IfSome result (λ span.
+        (o : List ℕ) →
+        IsOrder (length positions.now) o →
+        ArePositions o positions.now →
+        IsSpanInOrder o row.now span) }
 {
     let mut span = Span {
         first: u32::MAX,
@@ -61,7 +75,10 @@ pub fn span_of(positions: &[u32], row: &[u32]) -> Option<Span>
 /// to the last.
 pub fn is_kept(positions: &[u32], row: &[u32]) -> bool
     requires { IsRow (length positions.now) row.now }
-    ensures { (o : List ℕ) → IsOrder (length positions.now) o → ArePositions o positions.now → IsTrue result ↔ Keeps o row.now }
+    ensures { (o : List ℕ) →
+        IsOrder (length positions.now) o →
+        ArePositions o positions.now →
+        IsTrue result ↔ Keeps o row.now }
 {
     match span_of(positions, row) {
         None => true,

@@ -1,0 +1,7 @@
+-- What contracts see of standard output and standard error.
+use Rattle.std.specs.Prelude.{ℕ, List, Option}
+
+-- the bytes that the stream tells it holds, if it tells any, and how many calls have failed
+pub record Stream : Type 0 where
+  pub contents : Option (List ℕ)
+  pub faults : ℕ
