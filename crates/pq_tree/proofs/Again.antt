@@ -1,83 +1,40 @@
 -- The text of a tree over 1 to c is read as that tree.
-use Rattle.std.proofs.Common.{◌≡◌, ◌∙◌, ◌+◌, ◌-◌, ◌*◌, ◌/◌, ◌%◌, ◌^◌, ◌<◌, ◌≤◌, ℕ, zero, suc, Bool, true, false, cond, ◌&&◌, eqb, leb, List, [], ◌∷◌, ◌++◌, length, Some, refl, sym, ap, arith, inl, inr, eq-eqb, subst}
+use Rattle.std.proofs.Common.{◌≡◌, ◌∙◌, ◌+◌, ◌-◌, ◌*◌, ◌/◌, ◌%◌, ◌^◌, ◌<◌, ◌≤◌, ℕ, zero, suc, Bool, true, false, cond, ◌&&◌, leb, List, [], ◌∷◌, ◌++◌, length, Some, refl, sym, ap, arith, inl, inr, subst}
 use Rattle.std.specs.Prelude.{option_and_then}
-use Rattle.std.proofs.lemmas.Bool.{le-leb, lt-ltb, cases_eq, cases_lt, ne_eqb, and_from}
+use Rattle.std.proofs.lemmas.Bool.{le-leb, lt-ltb, and_from}
 use Rattle.std.proofs.lemmas.List.{append_assoc, append-nil, length-append}
 use Rattle.std.proofs.lemmas.Fmt.{decimal_by_steps}
 use Rattle.std.specs.Fmt.{decimal}
 use Rattle.plain_text.proofs.Digits.{digit_is}
-use Rattle.column_order.specs.Orders.{has, occurs, IsOrder}
-use Rattle.column_order.proofs.Lists.{occurs-append, has_from_occurs, lacks_from_occurs}
+use Rattle.column_order.specs.Orders.{has, occurs, IsOrder, IsWithin}
+use Rattle.column_order.proofs.Lists.{has_head, occurs-append, occurs_from_has, has_from_occurs, lacks_from_occurs}
+use Rattle.column_order.proofs.Counts.{in_range as range_cases, length_le, order_length, order_within}
 use Rattle.pq_tree.specs.Outline.{Outline, Forest, leaf, p_node, q_node, no_tree, tree_and, leaves, leaves_of}
-use Rattle.pq_tree.specs.Proper.{forest, trees, count, HasArities, HaveArities, IsProper}
+use Rattle.pq_tree.specs.Proper.{forest, trees, columns, count, HasArities, HaveArities, IsProper}
 use Rattle.pq_tree.specs.Text.{tree_text, forest_text, spaced_text}
 use Rattle.pq_tree.specs.Reading.{State, Begun, used, begun_leaves, settled, digit_at, spaced_after, closed, node_of, least_count, same_shape, step, covers, finished, run, start, tree_of}
 use Rattle.pq_tree.specs.declared.parse.Last.TheVariants.{Nothing, Number, Child}
 use Rattle.pq_tree.proofs.Shown.{leaves_of-append}
+use Rattle.pq_tree.proofs.Universal.{columns_order}
 use Rattle.pq_tree.proofs.Runs.{run_on}
 use Rattle.pq_tree.proofs.Found.{within, within_one, within_none, st}
-
--- the columns of 1 to n, counted one at a time
-sum_to : ℕ → List ℕ → ℕ
-sum_to zero xs = 0
-sum_to (suc n) xs = occurs xs (suc n) + sum_to n xs
-
-sum_past : (n x : ℕ) (xs : List ℕ) → n < x → sum_to n (x ∷ xs) ≡ sum_to n xs
-unfolding sum_to
-sum_past zero x xs l = refl
-sum_past (suc n) x xs l =
-    let e : cond {A = ℕ} (eqb x (suc n)) 1 0 ≡ 0 = ap (λ b. cond {A = ℕ} b 1 0) (ne_eqb x (suc n) (λ i. omega arith)) in
-    omega (arith, e, sum_past n x xs (omega arith))
-
-sum_cons : (n x : ℕ) (xs : List ℕ) → 1 ≤ x → x ≤ n → sum_to n (x ∷ xs) ≡ suc (sum_to n xs)
-unfolding sum_to
-sum_cons zero x xs l h = absurd (omega arith)
-sum_cons (suc n) x xs l h =
-    elim (cases_eq x (suc n)) [
-      | inl i ↦
-          let e : cond {A = ℕ} (eqb x (suc n)) 1 0 ≡ 1 = ap (λ b. cond {A = ℕ} b 1 0) (eq-eqb x (suc n) i) in
-          omega (arith, e, sum_past n x xs (omega arith))
-      | inr d ↦
-          let e : cond {A = ℕ} (eqb x (suc n)) 1 0 ≡ 0 = ap (λ b. cond {A = ℕ} b 1 0) (ne_eqb x (suc n) d) in
-          omega (arith, e, sum_cons n x xs l (omega arith))
-    ]
 
 within_le : (c a : ℕ) → within c a ≤ 1
 within_le c a = elim (leb 1 a && leb a c) as (λ b. cond {A = ℕ} b 1 0 ≤ 1) [ true ↦ omega arith | false ↦ omega arith ]
 
-sum_le : (n : ℕ) (xs : List ℕ) → ((a : ℕ) → occurs xs a ≤ 1) → sum_to n xs ≤ n
-unfolding sum_to
-sum_le zero xs h = omega arith
-sum_le (suc n) xs h = omega (arith, h (suc n), sum_le n xs h)
-
 -- a number that a list has is one of 1 to c
 pub in_range : (c a : ℕ) → 1 ≤ within c a → (1 ≤ a) × (a ≤ c)
-in_range c a h =
-    elim (cases_eq a 0) [
-      | inl e ↦ absurd (omega (arith, within_none c a (inl e)))
-      | inr d ↦ elim (cases_lt c a) [
-        | inl l ↦ absurd (omega (arith, within_none c a (inr l)))
-        | inr l ↦ (omega arith, l)
-      ]
-    ]
+in_range c a h = elim (range_cases c a) [ inl r ↦ r | inr r ↦ absurd (omega (arith, within_none c a r)) ]
 
 pub head_one : (x : ℕ) (xs : List ℕ) → 1 ≤ occurs (x ∷ xs) x
-head_one x xs = let e : cond {A = ℕ} (eqb x x) 1 0 ≡ 1 = ap (λ b. cond {A = ℕ} b 1 0) (eq-eqb x x refl) in omega (arith, e)
-
-sum_length : (c : ℕ) (xs : List ℕ) → ((a : ℕ) → occurs xs a ≤ within c a) → sum_to c xs ≡ length xs
-unfolding sum_to
-sum_length c [] h = none c
-  where
-    none : (n : ℕ) → sum_to n [] ≡ 0
-    none zero = refl
-    none (suc n) = omega (arith, none n)
-sum_length c (x ∷ xs) h =
-    let r = in_range c x (omega (arith, head_one x xs, h x)) in
-    sum_cons c x xs r.0 r.1 ∙ ap suc (sum_length c xs (λ a. omega (arith, h a)))
+head_one x xs = occurs_from_has (x ∷ xs) x (has_head x xs)
 
 -- no more than c columns
 pub few : (c : ℕ) (xs : List ℕ) → ((a : ℕ) → occurs xs a ≤ within c a) → length xs ≤ c
-few c xs h = omega (arith, sum_length c xs h, sum_le c xs (λ a. omega (arith, h a, within_le c a)))
+few c xs h =
+    let all : IsOrder c (columns c) = columns_order c in
+    let inside : IsWithin c xs = λ a k. in_range c a (omega (arith, h a, occurs_from_has xs a k)) in
+    omega (arith, length_le c xs inside (columns c) (order_within c (columns c) all) (λ a. omega (arith, h a, all a)), order_length c (columns c) all)
 
 -- every tree has a column
 mutual

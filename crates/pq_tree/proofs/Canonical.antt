@@ -1,10 +1,10 @@
 -- The least column, and trees in canonical order.
-use Rattle.std.proofs.Common.{◌≡◌, ◌≢◌, ◌⊎◌, ◌∙◌, ◌+◌, ◌<◌, ◌≤◌, ◌-◌, ℕ, suc, min, List, [], ◌∷◌, ◌++◌, reverse, map, take, length, get_or, fold, IsTrue, IsFalse, IsPermutation, refl, sym, ap, subst, inl, inr, arith}
+use Rattle.std.proofs.Common.{◌≡◌, ◌≢◌, ◌⊎◌, ◌∙◌, ◌+◌, ◌<◌, ◌≤◌, ◌-◌, ℕ, zero, suc, min, List, [], ◌∷◌, ◌++◌, reverse, map, take, length, get_or, fold, IsTrue, IsFalse, IsPermutation, refl, sym, ap, subst, inl, inr, arith}
 use Rattle.std.proofs.lemmas.Bool.{both_ways, cases_Bool, cases_lt}
-use Rattle.std.proofs.lemmas.List.{length-reverse, get_or-reverse, reverse-append, map_more, map-append, take_all}
+use Rattle.std.proofs.lemmas.List.{length-reverse, get_or-reverse, map_more, map-append, take_all}
 use Rattle.std.proofs.lemmas.List.Sums.{fold-append}
 use Rattle.std.proofs.lemmas.List.Sorted.{IsPermutation-map}
-use Rattle.std.specs.List.Sorted.{IsNonDecreasingBy}
+use Rattle.std.specs.List.Sorted.{IsNonDecreasingBy, IsStrictlyIncreasing}
 use Rattle.std.specs.declared.vec.Vec.{Vec}
 use Rattle.std.specs.declared.alloc.Global.{Global}
 use Rattle.column_order.specs.Orders.{has}
@@ -12,10 +12,11 @@ use Rattle.column_order.proofs.Lists.{has_head, has_append_left, has_append_righ
 use Rattle.pq_tree.specs.Outline.{Outline, Forest, leaf, p_node, q_node, no_tree, tree_and, leaves, leaves_of}
 use Rattle.pq_tree.specs.Proper.{outline_of, forest, count, HasArities, HaveArities, IsTree, AreTrees}
 use Rattle.pq_tree.specs.Equivalent.{IsEquivalent, AreEquivalent}
-use Rattle.pq_tree.specs.Canonical.{least, least_of, CanonicalIfTree, AreCanonical, AreRising, IsBelowEach, EndsRise, IsBelowLast}
+use Rattle.pq_tree.specs.Canonical.{least, least_of, leasts, CanonicalIfTree, AreCanonical, EndsRise}
 use Rattle.pq_tree.specs.Arranged.{outline_in}
 use Rattle.pq_tree.specs.declared.Tree.{Tree, Leaf, P, Q}
 use Rattle.pq_tree.specs.declared.arranged.Arranged.{Arranged}
+use Rattle.pq_tree.proofs.Forests.{map-reverse}
 use Rattle.pq_tree.proofs.Shown.{outline_of-Leaf, outline_of-P, outline_of-Q}
 
 -- the first of the trees, and the others
@@ -81,14 +82,14 @@ pub outline_over_Q : (v : Vec Tree Global) (xs : List Arranged) → map outline_
 outline_over_Q v xs e = outline_of-Q v ∙ ap (λ ts. q_node (forest ts)) e
 
 pub canonical_P : (v : Vec Tree Global) (xs : List Arranged) → map outline_of v.items ≡ map outline_in xs →
-    (AreTrees (forest (map outline_in xs)) → AreRising (forest (map outline_in xs))) → CanonicalIfTree (outline_of (P v))
+    (AreTrees (forest (map outline_in xs)) → IsStrictlyIncreasing (leasts (forest (map outline_in xs)))) → CanonicalIfTree (outline_of (P v))
 canonical_P v xs e h =
     subst CanonicalIfTree (sym (outline_over_P v xs e)) (λ t. let ts : AreTrees (forest (map outline_in xs)) = (t.0.1, t.1) in (h ts, all_canonical xs ts))
 
 pub canonical_Q : (v : Vec Tree Global) (xs : List Arranged) → map outline_of v.items ≡ map outline_in xs →
-    (AreTrees (forest (map outline_in xs)) → EndsRise (forest (map outline_in xs))) → CanonicalIfTree (outline_of (Q v))
+    (AreTrees (forest (map outline_in xs)) → 2 ≤ count (forest (map outline_in xs)) → EndsRise (leasts (forest (map outline_in xs)))) → CanonicalIfTree (outline_of (Q v))
 canonical_Q v xs e h =
-    subst CanonicalIfTree (sym (outline_over_Q v xs e)) (λ t. let ts : AreTrees (forest (map outline_in xs)) = (t.0.1, t.1) in (h ts, all_canonical xs ts))
+    subst CanonicalIfTree (sym (outline_over_Q v xs e)) (λ t. let ts : AreTrees (forest (map outline_in xs)) = (t.0.1, t.1) in (h ts (omega (arith, t.0.0)), all_canonical xs ts))
 
 pub least_P : (v : Vec Tree Global) (xs : List Arranged) (m : ℕ) → map outline_of v.items ≡ map outline_in xs → m ≡ least_of (forest (map outline_in xs)) → m ≡ least (outline_of (P v))
 least_P v xs m e h = h ∙ sym (ap least (outline_over_P v xs e))
@@ -123,43 +124,47 @@ fold_all all x xs i m e l h =
     folded x (y ∷ ys) = fold_least (key x) y ys ∙ ap (λ n. min n (least_of (forest (map outline_in (y ∷ ys))))) x.is_least
 
 -- by the sort
-below_each : (m : ℕ) (xs : List Arranged) → ((k : ℕ) (d : Arranged) → k < length xs → m ≤ key (get_or xs k d)) → HaveArities (forest (map outline_in xs)) →
-    IsFalse (has (leaves_of (forest (map outline_in xs))) m) → IsBelowEach m (forest (map outline_in xs))
-below_each m [] h k lacks = tt
-below_each m (x ∷ xs) h k lacks =
-    let other : m ≢ least (outline_in x) = not_least m (outline_in x) k.0 (lacks_first (leaves (outline_in x)) (leaves_of (forest (map outline_in xs))) m lacks) in (
-      omega (arith, h 0 x (omega arith), x.is_least, other),
-      below_each m xs (λ i d l. h (suc i) d (omega arith)) k.1 (lacks_others (leaves (outline_in x)) (leaves_of (forest (map outline_in xs))) m lacks),
-    )
+rise_more : (m n : ℕ) (ms : List ℕ) → m < n → IsStrictlyIncreasing (n ∷ ms) → IsStrictlyIncreasing (m ∷ n ∷ ms)
+rise_more m n ms l h zero k = l
+rise_more m n ms l h (suc i) k =
+    let e : suc (i + 1) ≡ suc i + 1 = omega arith in
+    subst (λ j. get_or (n ∷ ms) i 0 < get_or (m ∷ n ∷ ms) j 0) e (h i (omega arith))
 
-pub rising : (xs : List Arranged) → IsNonDecreasingBy key xs → AreTrees (forest (map outline_in xs)) → AreRising (forest (map outline_in xs))
-rising [] h k = tt
-rising (x ∷ xs) h k =
-    let ts = forest (map outline_in xs) in (
-      below_each (least (outline_in x)) xs (λ i d l. omega (arith, h 0 (suc i) d (omega arith) (omega arith), x.is_least)) k.0.1 (others_lack (outline_in x) ts k),
-      rising xs (λ i j d l m. h (suc i) (suc j) d (omega arith) (omega arith)) (other_trees (outline_in x) ts k),
-    )
+pub rising : (xs : List Arranged) → IsNonDecreasingBy key xs → AreTrees (forest (map outline_in xs)) →
+    IsStrictlyIncreasing (leasts (forest (map outline_in xs)))
+rising [] h k = λ i l. absurd (omega arith)
+rising (x ∷ []) h k = λ i l. absurd (omega arith)
+rising (x ∷ y ∷ ys) h k =
+    let ts = forest (map outline_in ys) in
+    let m = least (outline_in x) in
+    let other : m ≢ least (outline_in y) =
+    not_least m (outline_in y) k.0.1.0 (lacks_first (leaves (outline_in y)) (leaves_of ts) m (others_lack (outline_in x) (tree_and (outline_in y) ts) k)) in
+    rise_more m (least (outline_in y)) (leasts ts)
+    (omega (arith, h 0 1 x (omega arith) (omega arith), x.is_least, y.is_least, other))
+    (rising (y ∷ ys) (λ i j d l n. h (suc i) (suc j) d (omega arith) (omega arith)) (other_trees (outline_in x) (tree_and (outline_in y) ts) k))
 
 -- by the two ends
-below_last : (m : ℕ) (x : Arranged) (xs : List Arranged) (d : Arranged) → m < key (get_or (x ∷ xs) (length xs) d) → IsBelowLast m (forest (map outline_in (x ∷ xs)))
-below_last m x [] d h = omega (arith, h, x.is_least)
-below_last m x (y ∷ ys) d h = below_last m y ys d h
+pub count_items : (xs : List Arranged) → count (forest (map outline_in xs)) ≡ length xs
+count_items [] = refl
+count_items (x ∷ xs) = omega (arith, count_items xs)
 
-pub ends_short : (xs : List Arranged) → length xs ≤ 1 → EndsRise (forest (map outline_in xs))
-ends_short [] h = tt
-ends_short (x ∷ []) h = tt
-ends_short (x ∷ y ∷ ys) h = absurd (omega arith)
+leasts_long : (xs : List Arranged) → length (leasts (forest (map outline_in xs))) ≡ length xs
+leasts_long [] = refl
+leasts_long (x ∷ xs) = omega (arith, leasts_long xs)
 
-ends_rise : (xs : List Arranged) (d e : Arranged) → key (get_or xs 0 d) < key (get_or xs (length xs - 1) e) → EndsRise (forest (map outline_in xs))
-ends_rise [] d e h = tt
-ends_rise (x ∷ []) d e h = tt
-ends_rise (x ∷ y ∷ ys) d e h =
-    below_last (least (outline_in x)) y ys e (subst (λ n. n < key (get_or (y ∷ ys) (length ys) e)) x.is_least (subst (λ n. key x < key (get_or (x ∷ y ∷ ys) n e)) same_end h))
-  where
-    same_end : length (x ∷ y ∷ ys) - 1 ≡ suc (length ys)
-    same_end = omega arith
+least_at : (xs : List Arranged) (i : ℕ) (d : Arranged) → i < length xs → get_or (leasts (forest (map outline_in xs))) i 0 ≡ key (get_or xs i d)
+least_at [] i d h = absurd (omega arith)
+least_at (x ∷ xs) zero d h = sym x.is_least
+least_at (x ∷ xs) (suc i) d h = least_at xs i d (omega arith)
 
-ends_turned : (xs : List Arranged) (d e : Arranged) → 2 ≤ length xs → key (get_or xs (length xs - 1) e) < key (get_or xs 0 d) → EndsRise (forest (map outline_in (reverse xs)))
+ends_rise : (xs : List Arranged) (d e : Arranged) → 2 ≤ length xs → key (get_or xs 0 d) < key (get_or xs (length xs - 1) e) →
+    EndsRise (leasts (forest (map outline_in xs)))
+ends_rise xs d e two h =
+    let ms = leasts (forest (map outline_in xs)) in
+    subst (λ n. get_or ms 0 0 < get_or ms (n - 1) 0) (sym (leasts_long xs))
+    (omega (arith, least_at xs 0 d (omega arith), least_at xs (length xs - 1) e (omega arith), h))
+
+ends_turned : (xs : List Arranged) (d e : Arranged) → 2 ≤ length xs → key (get_or xs (length xs - 1) e) < key (get_or xs 0 d) → EndsRise (leasts (forest (map outline_in (reverse xs))))
 ends_turned xs d e two h =
     let n = length xs - 1 in
     let long : length (reverse xs) ≡ length xs = length-reverse xs in
@@ -167,7 +172,7 @@ ends_turned xs d e two h =
     let last_end : length xs - 1 - n ≡ 0 = omega arith in
     let first : get_or (reverse xs) 0 e ≡ get_or xs n e = get_or-reverse xs 0 e (omega arith) ∙ ap (λ i. get_or xs i e) zero_end in
     let last : get_or (reverse xs) n d ≡ get_or xs 0 d = get_or-reverse xs n d (omega arith) ∙ ap (λ i. get_or xs i d) last_end in
-    ends_rise (reverse xs) e d (rw (long, first, last) h)
+    ends_rise (reverse xs) e d (omega arith) (rw (long, first, last) h)
 
 -- the least columns of the first and the last of two or more trees differ
 ends_differ : (m : ℕ) (x : Arranged) (xs : List Arranged) (d : Arranged) → HaveArities (forest (map outline_in (x ∷ xs))) →
@@ -184,16 +189,16 @@ ends_apart (x ∷ y ∷ ys) d e two h same =
     (sym x.is_least ∙ same ∙ ap (λ i. key (get_or (x ∷ y ∷ ys) i e)) n)
 
 pub left_alone : (xs : List Arranged) (n : ℕ) (first last : Arranged) → n ≡ length xs → 1 < n → first ≡ get_or xs 0 first → last ≡ get_or xs (n - 1) last →
-    key first ≤ key last → AreTrees (forest (map outline_in xs)) → EndsRise (forest (map outline_in xs))
+    key first ≤ key last → AreTrees (forest (map outline_in xs)) → EndsRise (leasts (forest (map outline_in xs)))
 left_alone xs n first last e two r s h k =
     let differ : key (get_or xs 0 first) ≢ key (get_or xs (length xs - 1) last) = ends_apart xs first last (omega arith) k in
     let below : key (get_or xs 0 first) ≤ key (get_or xs (length xs - 1) last) = subst (λ m. key (get_or xs 0 first) ≤ key (get_or xs (m - 1) last)) e (rw (← r, ← s) h) in
-    ends_rise xs first last (omega (arith, differ, below))
+    ends_rise xs first last (omega arith) (omega (arith, differ, below))
 
 pub turned_over : (xs new : List Arranged) (n : ℕ) (first last : Arranged) → n ≡ length xs → 1 < n → first ≡ get_or xs 0 first → last ≡ get_or xs (n - 1) last →
-    key last < key first → new ≡ reverse xs → EndsRise (forest (map outline_in new))
+    key last < key first → new ≡ reverse xs → EndsRise (leasts (forest (map outline_in new)))
 turned_over xs new n first last e two r s h w =
-    subst (λ ys. EndsRise (forest (map outline_in ys))) (sym w)
+    subst (λ ys. EndsRise (leasts (forest (map outline_in ys)))) (sym w)
     (ends_turned xs first last (omega arith) (subst (λ m. key (get_or xs (m - 1) last) < key (get_or xs 0 first)) e (rw (← r, ← s) h)))
 
 -- the walk
@@ -210,11 +215,6 @@ equivalent_step ts xs new i t x h r e k m =
     subst (λ ss. AreEquivalent (forest ss) (map outline_in new)) (sym (map_more outline_of ts i t h))
     (subst (λ us. AreEquivalent (forest (map outline_of (take i ts) ++ outline_of (get_or ts i t) ∷ [])) us) (sym (ap (map outline_in) e ∙ map-append outline_in xs (x ∷ [])))
     (equivalent_push (map outline_of (take i ts)) (map outline_in xs) (outline_of (get_or ts i t)) (outline_in x) k (subst (λ c. IsEquivalent (outline_of c) (outline_in x)) r m)))
-
-map-reverse : {A B : Type 0} (f : A → B) (xs : List A) → map f (reverse xs) ≡ reverse (map f xs)
-map-reverse f [] = refl
-map-reverse f (x ∷ xs) =
-    ap (map f) (reverse-append (x ∷ []) xs) ∙ map-append f (reverse xs) (x ∷ []) ∙ ap (λ ys. ys ++ f x ∷ []) (map-reverse f xs) ∙ sym (reverse-append (f x ∷ []) (map f xs))
 
 pub equivalent_leaf : (t : Tree) (u : Outline) (a : ℕ) → t ≡ Leaf a → u ≡ leaf a → IsEquivalent (outline_of t) u
 equivalent_leaf t u a e k = rw (e, outline_of-Leaf a) k

@@ -1,7 +1,8 @@
 -- What the reading gives has the text that was read.
-use Rattle.std.proofs.Common.{◌≡◌, ◌∙◌, ◌+◌, ◌-◌, ◌*◌, ◌^◌, ◌<◌, ◌≤◌, ℕ, zero, suc, Bool, true, false, cond, ◌&&◌, eqb, leb, ltb, List, [], ◌∷◌, ◌++◌, length, Option, Some, refl, sym, ap, arith, inl, inr, ◌⊎◌, eq-eqb, subst}
+pub use Rattle.column_order.proofs.Counts.{within, within_one, within_none}
+use Rattle.std.proofs.Common.{◌≡◌, ◌∙◌, ◌+◌, ◌-◌, ◌*◌, ◌^◌, ◌<◌, ◌≤◌, ℕ, zero, suc, Bool, true, false, cond, ◌&&◌, eqb, leb, ltb, List, [], ◌∷◌, ◌++◌, length, Option, Some, refl, sym, ap, arith, inl, inr, eq-eqb, subst}
 use Rattle.std.specs.Prelude.{option_and_then}
-use Rattle.std.proofs.lemmas.Bool.{le-leb, leb-true, ltb-false, cases_eq, cases_lt, ne_eqb, eqb-true, cond-true, cond-false, lt-leb, and_left, and_right, and_from}
+use Rattle.std.proofs.lemmas.Bool.{leb-true, ltb-false, cases_eq, cases_lt, ne_eqb, eqb-true}
 use Rattle.std.proofs.lemmas.Option.{none-some, same_Some, option_and_then_some, cond_some}
 use Rattle.std.proofs.lemmas.List.{append_assoc, append-nil, length-append}
 use Rattle.std.specs.Char.{is_ascii_digit}
@@ -11,11 +12,12 @@ use Rattle.plain_text.proofs.NumberLaws.{chosen}
 use Rattle.column_order.specs.Orders.{has, occurs, IsOrder}
 use Rattle.column_order.proofs.Lists.{occurs-append, has-occurs, occurs_from_has}
 use Rattle.pq_tree.specs.Outline.{Outline, leaf, leaves, leaves_of}
-use Rattle.pq_tree.specs.Proper.{forest, count, HasArities, HaveArities, IsProper}
+use Rattle.pq_tree.specs.Proper.{forest, HasArities, HaveArities, IsProper}
 use Rattle.pq_tree.specs.Text.{tree_text, forest_text, spaced_text}
 use Rattle.pq_tree.specs.Reading.{State, Begun, used, begun_leaves, settled, settled_at, digit_at, opened_at, spaced_after, closed, closed_in, node_of, least_count, same_shape, step, covers, finished, run, start, tree_of}
 use Rattle.pq_tree.specs.declared.parse.Last.{Last}
 use Rattle.pq_tree.specs.declared.parse.Last.TheVariants.{Nothing, Number, Child}
+use Rattle.pq_tree.proofs.Forests.{count_forest}
 use Rattle.pq_tree.proofs.Shown.{leaves_of-append}
 use Rattle.pq_tree.proofs.Moves.{closed_used}
 
@@ -65,14 +67,6 @@ have_counts-append : (ts us : List Outline) → HaveArities (forest ts) → Have
 have_counts-append [] us h k = k
 have_counts-append (t ∷ ts) us h k = (h.0, have_counts-append ts us h.1 k)
 
-count-forest : (ts : List Outline) → count (forest ts) ≡ length ts
-count-forest [] = refl
-count-forest (t ∷ ts) = omega (arith, count-forest ts)
-
--- once where the number is from 1 to c, else never
-abbrev pub within : ℕ → ℕ → ℕ
-within c a = cond (leb 1 a && leb a c) 1 0
-
 IsGoodLast : ℕ → Last → List Outline → Type 0
 IsGoodLast c Nothing ts = Unit {0}
 IsGoodLast c (Number n) ts = (1 ≤ n) × (n ≤ c)
@@ -95,9 +89,6 @@ record Goes (c : ℕ) (s t : State) (bytes : List ℕ) : Type 0 where
 
 abbrev pub st : Last → List Outline → List Begun → State
 st l ts ns = record { last = l; children = ts; open_nodes = ns }
-
-pub within_one : (c n : ℕ) → 1 ≤ n → n ≤ c → within c n ≡ 1
-within_one c n l h = cond-true (leb 1 n && leb n c) 1 0 (and_from _ _ (le-leb 1 n l) (le-leb n c h))
 
 one_at : (n a : ℕ) → occurs (n ∷ []) a ≡ cond {A = ℕ} (eqb n a) 1 0
 one_at n a = omega arith
@@ -227,8 +218,8 @@ node_text true ts = refl
 node_text false ts = refl
 
 node_counts : (round : Bool) (ts : List Outline) → least_count round ≤ length ts → HaveArities (forest ts) → HasArities (node_of round ts)
-node_counts true ts l h = (omega (arith, count-forest ts), h)
-node_counts false ts l h = (omega (arith, count-forest ts), h)
+node_counts true ts l h = (omega (arith, count_forest ts), h)
+node_counts false ts l h = (omega (arith, count_forest ts), h)
 
 same_is : (a b : Bool) → same_shape a b ≡ true → b ≡ a
 same_is true b h = h
@@ -300,10 +291,6 @@ covered (suc c) a xs h l k =
       | inl e ↦ ap (has xs) e ∙ and_first _ _ h
       | inr d ↦ covered c a xs (and_second _ _ h) l (omega arith)
     ]
-
-pub within_none : (c a : ℕ) → (a ≡ 0) ⊎ (c < a) → within c a ≡ 0
-within_none c a (inl e) = cond-false (leb 1 a && leb a c) 1 0 (and_left _ _ (lt-leb 1 a (omega arith)))
-within_none c a (inr l) = cond-false (leb 1 a && leb a c) 1 0 (and_right _ _ (lt-leb a c l))
 
 -- each of 1 to c is used, and none twice
 ordered : (c : ℕ) (xs : List ℕ) → covers c xs ≡ true → ((a : ℕ) → occurs xs a ≤ within c a) → IsOrder c xs

@@ -1,9 +1,13 @@
+pub mod Forests
+pub mod Nodes
+pub mod Amortised
 pub mod Shown
 pub mod Universal
 pub mod Frontiers
 pub mod AllOrders
 pub mod Canonical
 pub mod Equivalent
+pub mod Turnings
 pub mod Texts
 pub mod Moves
 pub mod Runs

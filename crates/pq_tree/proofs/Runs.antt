@@ -1,6 +1,7 @@
 -- Runs of the reading over bytes.
 use Rattle.std.proofs.Common.{◌≡◌, ◌∙◌, ◌+◌, ◌<◌, ◌≤◌, ℕ, Bool, true, false, List, [], ◌∷◌, length, drop, get_or, Option, Some, None, refl, sym, ap, arith, drop-cons, add-one, subst, replicate}
 use Rattle.column_order.specs.Orders.{has}
+use Rattle.column_order.specs.declared.TheConstants.{COLUMN_BOUND}
 use Rattle.std.specs.Prelude.{option_and_then}
 use Rattle.std.proofs.lemmas.List.{length-replicate, get_or-replicate}
 use Rattle.std.proofs.Math.ListN.{drop_of_length-le}
@@ -46,7 +47,7 @@ pub seen_start : (a : Parser) → a.last ≡ Nothing → a.children.items ≡ []
 unfolding seen
 seen_start a l e n = rw (l, e, n) refl
 
-pub kept_start : (a : Parser) → a.columns ≤ 32768 → a.last ≡ Nothing → a.children.items ≡ [] → a.open_nodes.items ≡ [] → a.marks.items ≡ replicate (a.columns + 1) false → IsKept a
+pub kept_start : (a : Parser) → a.columns ≤ COLUMN_BOUND → a.last ≡ Nothing → a.children.items ≡ [] → a.open_nodes.items ≡ [] → a.marks.items ≡ replicate (a.columns + 1) false → IsKept a
 kept_start a small l e n marks =
     record {
       small = small;

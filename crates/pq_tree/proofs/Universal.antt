@@ -1,8 +1,9 @@
 -- The universal tree is a PQ-tree over its columns.
-use Rattle.std.proofs.Common.{◌≡◌, ◌≢◌, ◌∙◌, ◌+◌, ◌<◌, ◌≤◌, ℕ, zero, suc, cond, leb, ◌&&◌, List, [], ◌∷◌, map, refl, sym, ap, length, length-append, arith, inl, inr, eq-eqb}
-use Rattle.std.proofs.lemmas.Bool.{cond-false, cond-true, lt-leb, le-leb, cases_eq, cases_lt, ne_eqb, and_from, and_left, and_right}
+use Rattle.std.proofs.Common.{◌≡◌, ◌≢◌, ◌∙◌, ◌+◌, ◌≤◌, ℕ, zero, suc, cond, leb, ◌&&◌, List, [], ◌∷◌, map, refl, sym, ap, length, length-append, arith, inl, inr, eq-eqb}
+use Rattle.std.proofs.lemmas.Bool.{cond-false, lt-leb, cases_eq, cases_lt, ne_eqb}
 use Rattle.column_order.specs.Orders.{occurs, IsOrder}
 use Rattle.column_order.proofs.Lists.{occurs-append}
+use Rattle.column_order.proofs.Counts.{within_one, within_none}
 use Rattle.pq_tree.specs.Outline.{leaf, p_node, leaves_of}
 use Rattle.pq_tree.specs.Proper.{forest, columns, universal, count, HaveArities, IsProper}
 
@@ -22,15 +23,6 @@ length_columns : (n : ℕ) → length (columns n) ≡ n
 length_columns zero = refl
 length_columns (suc n) = omega (arith, length-append (columns n) (suc n ∷ []), length_columns n)
 
-within : (n a : ℕ) → 1 ≤ a → a ≤ n → cond {A = ℕ} (leb 1 a && leb a n) 1 0 ≡ 1
-within n a l u = cond-true (leb 1 a && leb a n) 1 0 (and_from (leb 1 a) (leb a n) (le-leb 1 a l) (le-leb a n u))
-
-past : (n a : ℕ) → n < a → cond {A = ℕ} (leb 1 a && leb a n) 1 0 ≡ 0
-past n a l = cond-false (leb 1 a && leb a n) 1 0 (and_right (leb 1 a) (leb a n) (lt-leb a n l))
-
-before : (n a : ℕ) → a ≡ 0 → cond {A = ℕ} (leb 1 a && leb a n) 1 0 ≡ 0
-before n a e = cond-false (leb 1 a && leb a n) 1 0 (and_left (leb 1 a) (leb a n) (lt-leb 1 a (omega arith)))
-
 same_one : (n a : ℕ) → suc n ≡ a → occurs (suc n ∷ []) a ≡ 1
 same_one n a e = ap (λ b. cond {A = ℕ} b 1 0 + 0) (eq-eqb (suc n) a e)
 
@@ -39,20 +31,20 @@ other_one n a e = ap (λ b. cond {A = ℕ} b 1 0 + 0) (ne_eqb (suc n) a e)
 
 pub columns_order : (n : ℕ) → IsOrder n (columns n)
 columns_order zero a =
-    elim (cases_eq a 0) [ inl e ↦ sym (before 0 a e) | inr e ↦ sym (past 0 a (omega arith)) ]
+    elim (cases_eq a 0) [ inl e ↦ sym (within_none 0 a (inl e)) | inr e ↦ sym (within_none 0 a (inr (omega arith))) ]
 columns_order (suc n) a =
     occurs-append (columns n) (suc n ∷ []) a ∙ ap (λ m. m + occurs (suc n ∷ []) a) (columns_order n a) ∙ step n a
   where
     step : (n a : ℕ) → cond {A = ℕ} (leb 1 a && leb a n) 1 0 + occurs (suc n ∷ []) a ≡ cond {A = ℕ} (leb 1 a && leb a (suc n)) 1 0
     step n a =
         elim (cases_eq a 0) [
-          | inl e ↦ omega (arith, before n a e, before (suc n) a e, other_one n a (omega arith))
+          | inl e ↦ omega (arith, within_none n a (inl e), within_none (suc n) a (inl e), other_one n a (omega arith))
           | inr e ↦ elim (cases_lt n a) [
             | inl l ↦ elim (cases_eq (suc n) a) [
-              | inl s ↦ omega (arith, past n a l, within (suc n) a (omega arith) (omega arith), same_one n a s)
-              | inr s ↦ omega (arith, past n a l, past (suc n) a (omega arith), other_one n a s)
+              | inl s ↦ omega (arith, within_none n a (inr l), within_one (suc n) a (omega arith) (omega arith), same_one n a s)
+              | inr s ↦ omega (arith, within_none n a (inr l), within_none (suc n) a (inr (omega arith)), other_one n a s)
             ]
-            | inr l ↦ omega (arith, within n a (omega arith) (omega arith), within (suc n) a (omega arith) (omega arith), other_one n a (omega arith))
+            | inr l ↦ omega (arith, within_one n a (omega arith) (omega arith), within_one (suc n) a (omega arith) (omega arith), other_one n a (omega arith))
           ]
         ]
 

@@ -7,10 +7,12 @@ use Rattle.pq_tree.specs.Proper.{forest}
 abbrev mutual
   pub IsEquivalent : Outline → Outline → Type 0
   IsEquivalent (leaf a) u = u ≡ leaf a
-  IsEquivalent (p_node ts) u = (us : List Outline) × (vs : List Outline) × AreEquivalent ts us × IsPermutation us vs × (u ≡ p_node (forest vs))
-  IsEquivalent (q_node ts) u = (us : List Outline) × AreEquivalent ts us × ((u ≡ q_node (forest us)) ⊎ (u ≡ q_node (forest (reverse us))))
+  IsEquivalent (p_node ts) u =
+      (us : List Outline) × (vs : List Outline) × AreEquivalent ts us × IsPermutation us vs × (u ≡ p_node (forest vs))
+  IsEquivalent (q_node ts) u =
+      (us : List Outline) × AreEquivalent ts us × ((u ≡ q_node (forest us)) ⊎ (u ≡ q_node (forest (reverse us))))
 
-  -- so each tree of us from the tree of ts at its place
+  -- each tree of us is had so from the tree of ts at its place
   pub AreEquivalent : Forest → List Outline → Type 0
   AreEquivalent no_tree [] = Unit {0}
   AreEquivalent no_tree (u ∷ us) = ⊥

@@ -1,7 +1,11 @@
 pub mod Outline
+pub mod Forests
 pub mod Proper
 pub mod Equivalent
 pub mod Canonical
+pub mod Propositions
+pub mod Nodes
+pub mod Amortised
 pub mod Text
 pub mod View
 pub mod PqTree

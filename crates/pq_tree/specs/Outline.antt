@@ -14,13 +14,14 @@ mutual
     no_tree : Forest
     tree_and : Outline → Forest → Forest
 
--- the columns from left to right as the tree stands
+-- the columns of a tree from left to right as it stands
 abbrev mutual
   pub leaves : Outline → List ℕ
   leaves (leaf a) = a ∷ []
   leaves (p_node ts) = leaves_of ts
   leaves (q_node ts) = leaves_of ts
 
+  -- the columns of some trees, one tree after another
   pub leaves_of : Forest → List ℕ
   leaves_of no_tree = []
   leaves_of (tree_and t ts) = leaves t ++ leaves_of ts
@@ -30,7 +31,8 @@ abbrev mutual
 abbrev mutual
   pub IsFrontier : Outline → List ℕ → Type 0
   IsFrontier (leaf a) f = f ≡ a ∷ []
-  IsFrontier (p_node ts) f = (fs : List (List ℕ)) × (gs : List (List ℕ)) × AreFrontiers ts fs × IsPermutation fs gs × (f ≡ concat gs)
+  IsFrontier (p_node ts) f =
+      (fs : List (List ℕ)) × (gs : List (List ℕ)) × AreFrontiers ts fs × IsPermutation fs gs × (f ≡ concat gs)
   IsFrontier (q_node ts) f = (fs : List (List ℕ)) × AreFrontiers ts fs × ((f ≡ concat fs) ⊎ (f ≡ concat (reverse fs)))
 
   -- one frontier of each tree, in the order of the trees

@@ -1,9 +1,7 @@
 -- Proper PQ-trees (Booth and Lueker, 1976) over the columns 1 to c.
-use Rattle.std.specs.Prelude.{ℕ, ◌≤◌, List, [], ◌∷◌, map, ◌+◌, ◌++◌, nat_le, if◌then◌else◌}
+pub use Rattle.pq_tree.specs.Forests.{forest, trees, count}
+use Rattle.std.specs.Prelude.{ℕ, ◌≤◌, List, [], ◌∷◌, map, ◌++◌, nat_le, if◌then◌else◌}
 use Rattle.std.proofs.Common.{zero, suc}
-use Rattle.std.specs.Coded.{×_prop, Unit-prop, le_prop}
-use mathlib.Core.HLevel.{Π_prop}
-use native.Mathlib.Nat.{ℕ_set}
 use Rattle.column_order.specs.Orders.{occurs, IsOrder}
 use Rattle.pq_tree.specs.Outline.{Outline, Forest, leaf, p_node, q_node, no_tree, tree_and, leaves, leaves_of}
 use Rattle.pq_tree.specs.declared.Tree.{Tree, Leaf, P', Q', Row_of-Tree, end_of-Tree, more_of-Tree}
@@ -15,24 +13,10 @@ unfoldable mutual
   outline_of (P' shape all) = p_node (forest_of all)
   outline_of (Q' shape all) = q_node (forest_of all)
 
+  -- the outlines of the children of a node
   pub forest_of : {n : _} → Row_of-Tree n → Forest
   forest_of end_of-Tree = no_tree
   forest_of (more_of-Tree t rest) = tree_and (outline_of t) (forest_of rest)
-
--- a list of trees as a forest
-abbrev pub forest : List Outline → Forest
-forest [] = no_tree
-forest (t ∷ ts) = tree_and t (forest ts)
-
--- a forest as a list of trees
-abbrev pub trees : Forest → List Outline
-trees no_tree = []
-trees (tree_and t ts) = t ∷ trees ts
-
--- the number of trees
-abbrev pub count : Forest → ℕ
-count no_tree = 0
-count (tree_and t ts) = 1 + count ts
 
 -- each P-node has two or more children, each Q-node three or more
 abbrev mutual
@@ -41,6 +25,7 @@ abbrev mutual
   HasArities (p_node ts) = (2 ≤ count ts) × HaveArities ts
   HasArities (q_node ts) = (3 ≤ count ts) × HaveArities ts
 
+  -- so in each of the trees
   pub HaveArities : Forest → Type 0
   HaveArities no_tree = Unit {0}
   HaveArities (tree_and t ts) = HasArities t × HaveArities ts
@@ -57,19 +42,6 @@ AreTrees ts = HaveArities ts × ((a : ℕ) → occurs (leaves_of ts) a ≤ 1)
 -- other column, stands at exactly one leaf.
 abbrev pub IsProper : ℕ → Outline → Type 0
 IsProper c t = HasArities t × IsOrder c (leaves t)
-
-mutual
-  pub HasArities-prop : (t : Outline) → IsProp (HasArities t)
-  HasArities-prop (leaf a) = Unit-prop
-  HasArities-prop (p_node ts) = ×_prop le_prop (HaveArities-prop ts)
-  HasArities-prop (q_node ts) = ×_prop le_prop (HaveArities-prop ts)
-
-  pub HaveArities-prop : (ts : Forest) → IsProp (HaveArities ts)
-  HaveArities-prop no_tree = Unit-prop
-  HaveArities-prop (tree_and t ts) = ×_prop (HasArities-prop t) (HaveArities-prop ts)
-
-pub IsProper-prop : (c : ℕ) (t : Outline) → IsProp (IsProper c t)
-IsProper-prop c t = ×_prop (HasArities-prop t) (Π_prop (λ a. ℕ_set _ _))
 
 -- the columns 1 to n
 abbrev pub columns : ℕ → List ℕ

@@ -19,6 +19,7 @@ pub record State : Type 0 where
   pub children : List Outline
   pub open_nodes : List Begun
 
+-- the columns at leaves of the trees that stand before open nodes, the outermost node first
 abbrev pub begun_leaves : List Begun → List ℕ
 begun_leaves [] = []
 begun_leaves (node ∷ nodes) = begun_leaves nodes ++ leaves_of (forest node.before)
@@ -35,6 +36,7 @@ settled_at (Number n) s =
     else Some (record { last = Child; children = s.children ++ leaf n ∷ []; open_nodes = s.open_nodes })
 settled_at Child s = Some s
 
+-- what the bytes so far end with is ended
 abbrev pub settled : State → Option State
 settled s = settled_at s.last s
 
@@ -57,19 +59,22 @@ opened_at c round Child s = None
 abbrev pub spaced_after : State → Option State
 spaced_after s = if nat_lt 0 (length s.open_nodes) then Some (record s { last = Nothing }) else None
 
+-- the node over some trees: a P-node for round brackets, else a Q-node
 abbrev pub node_of : Bool → List Outline → Outline
 node_of true ts = p_node (forest ts)
 node_of false ts = q_node (forest ts)
 
+-- the fewest children of such a node
 abbrev pub least_count : Bool → ℕ
 least_count true = 2
 least_count false = 3
 
+-- whether two brackets are both round or both square
 abbrev pub same_shape : Bool → Bool → Bool
 same_shape true b = b
 same_shape false b = not b
 
--- the innermost node closes
+-- the innermost node closes over its children, where the brackets match and there are enough children
 abbrev pub closed_in : Bool → List Outline → List Begun → Option State
 closed_in round children [] = None
 closed_in round children (node ∷ nodes) =
@@ -77,6 +82,7 @@ closed_in round children (node ∷ nodes) =
     then Some (record { last = Child; children = node.before ++ node_of round children ∷ []; open_nodes = nodes })
     else None
 
+-- the innermost node of a state closes
 abbrev pub closed : Bool → State → Option State
 closed round s = closed_in round s.children s.open_nodes
 
@@ -96,19 +102,22 @@ abbrev pub covers : ℕ → List ℕ → Bool
 covers zero xs = true
 covers (suc c) xs = has xs (suc c) && covers c xs
 
--- the tree that the bytes gave, where nothing is open
+-- the tree, where there is exactly one
 abbrev pub only : List Outline → Option Outline
 only [] = None
 only (t ∷ []) = Some t
 only (t ∷ u ∷ ts) = None
 
+-- the tree, where no node is open and each of 1 to c is used
 abbrev pub finished : ℕ → State → Option Outline
 finished c s = if (length s.open_nodes == 0) && covers c (used s) then only s.children else None
 
+-- what the rest of the bytes makes of a state
 unfoldable pub run : ℕ → State → List ℕ → Option Outline
 run c s [] = option_and_then (finished c) (settled s)
 run c s (b ∷ bytes) = option_and_then (λ t. run c t bytes) (step c s b)
 
+-- the state before any byte
 abbrev pub start : State
 start = record { last = Nothing; children = []; open_nodes = [] }
 

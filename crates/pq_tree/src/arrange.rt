@@ -1,10 +1,12 @@
 //! The canonical form of a tree, in one walk.
 
-ghost use Rattle.std.specs.Prelude.{◌≡◌, ◌⊎◌, map, reverse, IfOk, IsPermutation};
+ghost use Rattle.std.specs.Prelude.{◌≡◌, ◌⊎◌, ◌≤◌, map, reverse, IfOk, IsPermutation};
+ghost use Rattle.std.specs.List.Sorted.{IsStrictlyIncreasing};
 ghost use Rattle.pq_tree.specs.Outline.{leaf, p_node, q_node};
-ghost use Rattle.pq_tree.specs.Proper.{outline_of, forest, AreTrees};
+ghost use Rattle.pq_tree.specs.Forests.{forest, count};
+ghost use Rattle.pq_tree.specs.Proper.{outline_of, AreTrees};
 ghost use Rattle.pq_tree.specs.Equivalent.{IsEquivalent, AreEquivalent};
-ghost use Rattle.pq_tree.specs.Canonical.{AreRising, EndsRise, least_of};
+ghost use Rattle.pq_tree.specs.Canonical.{leasts, EndsRise, least_of};
 ghost use Rattle.pq_tree.specs.Arranged.{outline_in};
 
 use crate::arranged::Arranged;
@@ -31,7 +33,7 @@ pub fn arranged_tree(alloc: Global, tree: &Tree) -> Result<Arranged, NoMemory>
     }
 }
 
-/// Each tree in its canonical form.
+// Each tree in its canonical form.
 #[cycle(arrange)]
 fn arranged_trees(alloc: Global, trees: &[Tree]) -> Result<Vec<Arranged>, NoMemory>
     ensures { IfOk result (λ v. AreEquivalent (forest (map outline_of trees.now)) (map outline_in v.items)) }
@@ -43,18 +45,18 @@ fn arranged_trees(alloc: Global, trees: &[Tree]) -> Result<Vec<Arranged>, NoMemo
     Ok(all)
 }
 
-/// Puts the trees in rising order of their least columns.
+// Puts the trees in rising order of their least columns.
 fn sort_by_least(trees: &mut Vec<Arranged>)
     ensures moved { IsPermutation trees.old.items trees.new.items }
-    ensures rising { let ts = forest (map outline_in trees.new.items) in AreTrees ts → AreRising ts }
+    ensures rising { let ts = forest (map outline_in trees.new.items) in AreTrees ts → IsStrictlyIncreasing (leasts ts) }
 {
     trees.sort_unstable_by_key(|tree| tree.least_column);
 }
 
-/// Reverses the trees where the least column of the last is below that of the first.
+// Reverses the trees where the least column of the last is below that of the first.
 fn turn_up(trees: &mut Vec<Arranged>)
     ensures turned { (trees.new.items ≡ trees.old.items) ⊎ (trees.new.items ≡ reverse trees.old.items) }
-    ensures rise { let ts = forest (map outline_in trees.new.items) in AreTrees ts → EndsRise ts }
+    ensures rise { let ts = forest (map outline_in trees.new.items) in AreTrees ts → 2 ≤ count ts → EndsRise (leasts ts) }
 {
     let count = trees.len();
     if count > 1 && trees[count - 1].least_column < trees[0].least_column {
@@ -62,7 +64,7 @@ fn turn_up(trees: &mut Vec<Arranged>)
     }
 }
 
-/// The leaf of a column.
+// The leaf of a column.
 fn arranged_leaf(column: u32) -> Arranged
     ensures { outline_in result ≡ leaf column }
 {
@@ -72,9 +74,9 @@ fn arranged_leaf(column: u32) -> Arranged
     }
 }
 
-/// The P-node over trees that stand in rising order.
+// The P-node over trees that stand in rising order.
 fn arranged_p(alloc: Global, children: Vec<Arranged>) -> Result<Arranged, NoMemory>
-    requires { let ts = forest (map outline_in children.items) in AreTrees ts → AreRising ts }
+    requires { let ts = forest (map outline_in children.items) in AreTrees ts → IsStrictlyIncreasing (leasts ts) }
     ensures { IfOk result (λ a. outline_in a ≡ p_node (forest (map outline_in children.items))) }
 {
     let least_column = least_of_all(&children);
@@ -82,9 +84,9 @@ fn arranged_p(alloc: Global, children: Vec<Arranged>) -> Result<Arranged, NoMemo
     Ok(Arranged { tree, least_column })
 }
 
-/// The Q-node over trees of which the first and the last rise.
+// The Q-node over trees of which the first and the last rise.
 fn arranged_q(alloc: Global, children: Vec<Arranged>) -> Result<Arranged, NoMemory>
-    requires { let ts = forest (map outline_in children.items) in AreTrees ts → EndsRise ts }
+    requires { let ts = forest (map outline_in children.items) in AreTrees ts → 2 ≤ count ts → EndsRise (leasts ts) }
     ensures { IfOk result (λ a. outline_in a ≡ q_node (forest (map outline_in children.items))) }
 {
     let least_column = least_of_all(&children);
@@ -92,7 +94,7 @@ fn arranged_q(alloc: Global, children: Vec<Arranged>) -> Result<Arranged, NoMemo
     Ok(Arranged { tree, least_column })
 }
 
-/// The least column of these trees, 0 where there is none.
+// The least column of these trees, 0 where there is none.
 fn least_of_all(all: &[Arranged]) -> u32
     ensures { result ≡ least_of (forest (map outline_in all.now)) }
 {
@@ -106,7 +108,7 @@ fn least_of_all(all: &[Arranged]) -> u32
     least
 }
 
-/// The trees alone.
+// The trees alone.
 fn bare_trees(alloc: Global, all: Vec<Arranged>) -> Result<Vec<Tree>, NoMemory>
     ensures { IfOk result (λ v. map outline_of v.items ≡ map outline_in all.items) }
 {

@@ -2,7 +2,8 @@
 
 ghost use Rattle.std.specs.Prelude.{◌≡◌};
 ghost use Rattle.pq_tree.specs.Proper.{outline_of};
-ghost use Rattle.pq_tree.specs.Canonical.{CanonicalIfTree, CanonicalIfTree-prop, least};
+ghost use Rattle.pq_tree.specs.Canonical.{CanonicalIfTree, least};
+ghost use Rattle.pq_tree.specs.Propositions.{CanonicalIfTree-prop};
 
 use crate::Tree;
 

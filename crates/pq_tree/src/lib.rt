@@ -1,14 +1,17 @@
-//! PQ-trees (Booth and Lueker, 1976) over the columns 1 to c: a tree stands for a set of orders of its columns, its frontiers.
+//! PQ-trees (Booth and Lueker, 1976) over the columns 1 to c: a tree stands for a set of orders of its columns, its
+//! frontiers.
 //!
-//! A tree is a leaf with a column, a P-node, whose children may be permuted, or a Q-node, whose children may be reversed. It is proper where each
-//! P-node has two or more children, each Q-node three or more, and each of 1 to c stands at exactly one leaf.
+//! A tree is a leaf with a column, a P-node, whose children may be permuted, or a Q-node, whose children may be
+//! reversed. It is proper where each P-node has two or more children, each Q-node three or more, and each of 1 to c
+//! stands at exactly one leaf.
 #![tactic(auto)]
 
 ghost use Rattle.std.specs.Prelude.{◌≡◌, ◌≤◌, ◌≢◌, ◌++◌, ◌↔◌, List, ℕ, IfOk, IfSome, IfNone, OnOk, OnErr};
 ghost use Rattle.column_order.specs.Orders.{IsOrder};
 ghost use Rattle.plain_text.specs.Pieces.{Extends};
 ghost use Rattle.pq_tree.specs.Outline.{Outline, leaves, IsFrontier};
-ghost use Rattle.pq_tree.specs.Proper.{outline_of, IsProper, IsProper-prop, universal};
+ghost use Rattle.pq_tree.specs.Proper.{outline_of, IsProper, universal};
+ghost use Rattle.pq_tree.specs.Propositions.{IsProper-prop};
 ghost use Rattle.pq_tree.specs.Equivalent.{IsEquivalent};
 ghost use Rattle.pq_tree.specs.Canonical.{IsCanonical};
 ghost use Rattle.pq_tree.specs.Text.{tree_text};
@@ -18,11 +21,13 @@ mod arranged;
 mod parse;
 mod write;
 
+use column_order::COLUMN_BOUND;
 pub use parse::one_tree;
 pub use std::alloc::AllocError as NoMemory;
 use std::alloc::Global;
 
-/// Bytes of text for each column: up to five digits, a space, and the two brackets of a node, of which a proper tree has fewer than columns.
+// Bytes of text for each column: up to five digits, a space, and the two brackets of a node, of which a proper tree has
+// fewer than columns.
 const ROOM_PER_COLUMN: usize = 8;
 
 /// A leaf with its column, or a node over its children from left to right.
@@ -106,6 +111,13 @@ impl PqTree {
         PqTree { columns: c, tree }
     }
 
+    /// The tree itself, handed over without a copy.
+    pub fn into_tree(self) -> Tree
+        ensures { outline_of result ≡ outline self }
+    {
+        self.tree
+    }
+
     /// The tree itself.
     pub fn root(&self) -> &Tree
         ensures { outline_of result.now ≡ outline self.now }
@@ -120,11 +132,15 @@ impl PqTree {
         self.columns
     }
 
-    /// The universal tree, whose frontiers are all orders of 1 to c: the leaf 1 where c is 1, else one P-node over all columns in
-    /// rising order.
+    /// The universal tree, whose frontiers are all orders of 1 to c: the leaf 1 where c is 1, else one P-node over all
+    /// columns in rising order.
+    ///
+    /// # Errors
+    ///
+    /// `NoMemory` where the allocator has no room for the leaves.
     pub fn universal(alloc: Global, c: u32) -> Result<PqTree, NoMemory>
         requires from { 1 ≤ c }
-        requires to { c ≤ 32768 }
+        requires to { c ≤ COLUMN_BOUND }
         ensures columns { IfOk result (λ t. column_count t ≡ c) }
         ensures tree { IfOk result (λ t. outline t ≡ universal c) }
         ensures frontiers { IfOk result (λ t. (o : List ℕ) → IsFrontier (outline t) o ↔ IsOrder c o) }
@@ -146,6 +162,10 @@ impl PqTree {
     }
 
     /// The columns from left to right as the tree stands: one of the tree's frontiers, and so an order of its columns.
+    ///
+    /// # Errors
+    ///
+    /// `NoMemory` where the allocator has no room for the columns.
     pub fn frontier(&self, alloc: Global) -> Result<Vec<u32>, NoMemory>
         ensures leaves { IfOk result (λ f. f.items ≡ leaves (outline self.now)) }
         ensures frontier { IfOk result (λ f. IsFrontier (outline self.now) f.items) }
@@ -156,25 +176,48 @@ impl PqTree {
         Ok(columns)
     }
 
-    /// The canonical tree with the same frontiers: the children of each P-node stand in rising order of their least columns, and each
-    /// Q-node stands so that the least column of its first child is below that of its last.
+    /// The canonical tree with the same frontiers: the children of each P-node stand in rising order of their least
+    /// columns, and each Q-node stands so that the least column of its first child is below that of its last.
+    ///
+    /// # Errors
+    ///
+    /// `NoMemory` where the allocator has no room for the new tree.
     pub fn canonical(&self, alloc: Global) -> Result<PqTree, NoMemory>
         ensures columns { IfOk result (λ t. column_count t ≡ column_count self.now) }
         ensures equivalent { IfOk result (λ t. IsEquivalent (outline self.now) (outline t)) }
         ensures canonical { IfOk result (λ t. IsCanonical (outline t)) }
         ensures frontiers { IfOk result (λ t. (o : List ℕ) → IsFrontier (outline self.now) o ↔ IsFrontier (outline t) o) }
     {
-        let arranged = arrange::arranged_tree(alloc, &self.tree)?;
+        Self::canonical_of(alloc, self.columns, &self.tree)
+    }
+
+    /// The canonical tree with the frontiers of a proper tree over the columns 1 to c, which is only looked at.
+    ///
+    /// # Errors
+    ///
+    /// `NoMemory` where the allocator has no room for the new tree.
+    pub fn canonical_of(alloc: Global, c: u32, tree: &Tree) -> Result<PqTree, NoMemory>
+        requires { IsProper c (outline_of tree.now) }
+        ensures columns { IfOk result (λ t. column_count t ≡ c) }
+        ensures equivalent { IfOk result (λ t. IsEquivalent (outline_of tree.now) (outline t)) }
+        ensures canonical { IfOk result (λ t. IsCanonical (outline t)) }
+        ensures frontiers { IfOk result (λ t. (o : List ℕ) → IsFrontier (outline_of tree.now) o ↔ IsFrontier (outline t) o) }
+    {
+        let arranged = arrange::arranged_tree(alloc, tree)?;
         Ok(PqTree {
-            columns: self.columns,
+            columns: c,
             tree: arranged.tree,
         })
     }
 
-    /// Appends the text of the tree: a leaf is its column as a plain number, a P-node its children between `(` and `)`, a Q-node its
-    /// children between `[` and `]`, with one space between children.
+    /// Appends the text of the tree: a leaf is its column as a plain number, a P-node its children between `(` and `)`,
+    /// a Q-node its children between `[` and `]`, with one space between children.
     ///
-    /// Takes no memory but the growth of `text`. On an error what `text` held is still its front.
+    /// Takes no memory but the growth of `text`.
+    ///
+    /// # Errors
+    ///
+    /// `NoMemory` where `text` cannot grow. What it held is then still its front.
     pub fn print(&self, text: &mut Vec<u8>) -> Result<(), NoMemory>
         ensures ok { OnOk result (text.new.items ≡ text.old.items ++ tree_text (outline self.now)) }
         ensures err { OnErr result (Extends text.old.items text.new.items) }
@@ -183,11 +226,15 @@ impl PqTree {
         write::push_tree(&self.tree, text)
     }
 
-    /// The tree over 1 to c of which the bytes are the text; none where they are the text of no tree over 1 to c.
+    /// The proper tree over 1 to c of which the bytes are the text; none where they are the text of no such tree.
     ///
     /// One pass over the bytes, with at most c open nodes.
+    ///
+    /// # Errors
+    ///
+    /// `NoMemory` where the allocator has no room for the tree, or for a mark at each column.
     pub fn parse(alloc: Global, bytes: &[u8], c: u32) -> Result<Option<PqTree>, NoMemory>
-        requires { (1 ≤ c) × (c ≤ 32768) }
+        requires { (1 ≤ c) × (c ≤ COLUMN_BOUND) }
         ensures columns { IfOk result (λ o. IfSome o (λ t. column_count t ≡ c)) }
         ensures found { IfOk result (λ o. IfSome o (λ t. bytes.now ≡ tree_text (outline t))) }
         ensures none { IfOk result (λ o. IfNone o ((t : Outline) → IsProper c t → bytes.now ≢ tree_text t)) }

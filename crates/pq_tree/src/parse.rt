@@ -9,12 +9,13 @@ ghost use Rattle.pq_tree.specs.Reading.{settled, digit_at, opened_at, spaced_aft
 ghost use Rattle.pq_tree.specs.Seen.{seen, IsKept, Moves};
 
 use crate::{NoMemory, Tree};
+use column_order::COLUMN_BOUND;
 use std::alloc::Global;
 use std::mem;
 
-// The tree over 1 to c of which the bytes are the text; none where they are the text of no tree over 1 to c.
+/// The tree over 1 to c of which the bytes are the text; none where they are the text of no tree over 1 to c.
 pub fn tree_of(alloc: Global, bytes: &[u8], c: u32) -> Result<Option<Tree>, NoMemory>
-    requires { c ≤ 32768 }
+    requires { c ≤ COLUMN_BOUND }
     ensures { IfOk result (λ o. option_map outline_of o ≡ tree_of c bytes.now) }
 {
     let mut parser = Parser {
@@ -47,8 +48,8 @@ struct OpenNode {
     before: Vec<Tree>,
 }
 
-// What stands behind the bytes so far: the children of the innermost open node, the open nodes with the innermost last, and a mark
-// at each column that a leaf has. Each method answers whether the text may go on so.
+// What stands behind the bytes so far: the children of the innermost open node, the open nodes with the innermost last,
+// and a mark at each column that a leaf has. Each method answers whether the text may go on so.
 #[derive(Drop)]
 struct Parser {
     columns: u32,
@@ -243,9 +244,9 @@ fn all_marked(marks: &[bool], c: u32) -> bool
     true
 }
 
-/// No two trees over 1 to c have one text.
+/// No two proper trees over 1 to c have one text. A call stands for the clause alone.
 pub fn one_tree()
-    ensures { (c : ℕ) (t u : Outline) → c ≤ 32768 → IsProper c t → IsProper c u → tree_text t ≡ tree_text u → t ≡ u }
+    ensures { (c : ℕ) (t u : Outline) → c ≤ COLUMN_BOUND → IsProper c t → IsProper c u → tree_text t ≡ tree_text u → t ≡ u }
 {}
 
 #[cfg(test)]

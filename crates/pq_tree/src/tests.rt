@@ -46,6 +46,8 @@ fn universal_trees(rt: HostRuntime) -> Result<(), Fail> {
         let is_leaf = matches!(tree.root().view(), View::Leaf(1));
         assert_eq!(rt; is_leaf, c == 1);
         assert_eq!(rt; tree.frontier(alloc)?.len(), c as usize);
+        let is_leaf = matches!(tree.into_tree().view(), View::Leaf(1));
+        assert_eq!(rt; is_leaf, c == 1);
     }
     Ok(())
 }

@@ -47,7 +47,7 @@ pub fn push_tree(tree: &Tree, text: &mut Vec<u8>) -> Result<(), NoMemory>
     }
 }
 
-/// Appends the texts of the trees with one space between them.
+// Appends the texts of the trees with one space between them.
 #[cycle(write)]
 fn push_trees(trees: &[Tree], text: &mut Vec<u8>) -> Result<(), NoMemory>
     ensures ok { OnOk result (text.new.items ≡ text.old.items ++ forest_text (forest (map outline_of trees.now))) }
@@ -60,7 +60,7 @@ fn push_trees(trees: &[Tree], text: &mut Vec<u8>) -> Result<(), NoMemory>
     Ok(())
 }
 
-/// Appends a space before any tree but the first, which has the index 0.
+// Appends a space before any tree but the first, which has the index 0.
 fn push_gap(i: usize, text: &mut Vec<u8>) -> Result<(), NoMemory>
     ensures ok { OnOk result (text.new.items ≡ text.old.items ++ gap i) }
     ensures err { OnErr result (text.new.items ≡ text.old.items) }

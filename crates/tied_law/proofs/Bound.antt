@@ -1,26 +1,20 @@
 -- The second and third part of being tied, node by node: what a node says of its own columns and children alone.
 -- It is said for any relation R of pairs; for R take that a walk of even length leads from the one to the other.
-use Rattle.std.proofs.Common.{◌≡◌, ℕ, List, ◌++◌, IsTrue, IsFalse, refl, sym, subst, inl, inr}
+pub use Rattle.tied_law.specs.Tied.{IsClosed, IsInLine}
+use Rattle.std.proofs.Common.{◌≡◌, ℕ, List, ◌++◌, IsTrue, refl, sym, subst, inl, inr}
 use Rattle.std.proofs.lemmas.Bool.{cases_Bool, both_ways}
 use Rattle.row_model.specs.declared.graph.Pair.{Pair}
 use Rattle.column_order.specs.Orders.{has}
 use Rattle.row_model.specs.Graph.{pair}
 use Rattle.column_order.proofs.Lists.{has_append_left, has_append_right, has_append_cases}
 use Rattle.pq_tree.specs.Outline.{Outline, Forest, leaf, p_node, q_node, no_tree, tree_and, leaves, leaves_of}
-use Rattle.tied_law.specs.Tied.{IsNode, IsNodeOf, IsForward}
-
--- the set x is closed in l: any two columns of x, each with the same column of l outside x, are related pairs
-abbrev pub IsClosed : (Pair → Pair → Type 0) → List ℕ → List ℕ → Type 0
-IsClosed R l x = (a b d : ℕ) → IsTrue (has x a) → IsTrue (has x b) → IsTrue (has l d) → IsFalse (has x d) → R (pair a d) (pair b d)
+use Rattle.pq_tree.specs.Nodes.{IsNode, IsNodeOf}
+use Rattle.pq_tree.proofs.Nodes.{node_itself}
 
 -- the columns of each tree are closed in l
 abbrev pub AreClosed : (Pair → Pair → Type 0) → List ℕ → Forest → Type 0
 AreClosed R l no_tree = Unit {0}
 AreClosed R l (tree_and t ts) = IsClosed R l (leaves t) × AreClosed R l ts
-
--- the trees stand in line: any two pairs that go forward in them are related
-abbrev pub IsInLine : (Pair → Pair → Type 0) → Forest → Type 0
-IsInLine R ts = (v w : Pair) → IsForward ts v → IsForward ts w → R v w
 
 -- A tree is bound by R where the columns of each child of a P-node are closed in those of the node, and the children of
 -- each Q-node stand in line.
@@ -33,12 +27,6 @@ abbrev mutual
   pub AreBound : (Pair → Pair → Type 0) → Forest → Type 0
   AreBound R no_tree = Unit {0}
   AreBound R (tree_and t ts) = IsBound R t × AreBound R ts
-
--- a tree is a node of itself
-pub node_itself : (t : Outline) → IsNode t t
-node_itself (leaf a) = refl
-node_itself (p_node ts) = inl refl
-node_itself (q_node ts) = inl refl
 
 module _ (R : Pair → Pair → Type 0) (all : Outline) (l : List ℕ)
     (together : (x : Outline) → IsNode x all → IsClosed R l (leaves x))

@@ -1,13 +1,14 @@
 -- From one list of rows to the next: what a reduction by one row has to show, for every equality of pairs.
-use Rattle.std.proofs.Common.{◌≡◌, ◌≢◌, ◌∙◌, ℕ, zero, suc, ◌+◌, ◌-◌, ◌<◌, ◌≤◌, true, ltb, leb, ◌&&◌, cond, eqb, eq-eqb, List, [], ◌∷◌, ◌++◌, length, get_or, IsTrue, All, refl, sym, ap, subst, inl, inr, arith, length-append}
-use Rattle.std.proofs.lemmas.Bool.{both_ways, lt-ltb, ltb-true, cases_eq, true_from_ne_false, cond-false, leb-true, and_parts}
+pub use Rattle.column_order.proofs.Lists.{has_at, place_at}
+use Rattle.std.proofs.Common.{◌≡◌, ◌≢◌, ◌∙◌, ℕ, suc, ◌+◌, ◌-◌, ◌<◌, ◌≤◌, true, ltb, List, [], ◌∷◌, ◌++◌, length, get_or, IsTrue, All, refl, sym, subst, inl, inr, arith, length-append}
+use Rattle.std.proofs.lemmas.Bool.{both_ways, lt-ltb, ltb-true, cases_eq, true_from_ne_false}
 use Rattle.std.proofs.lemmas.List.{get_or_push}
 use Rattle.std.proofs.lemmas.List.Elements.{All-push}
 use Rattle.row_model.specs.declared.graph.Pair.{Pair}
 use Rattle.row_model.specs.declared.graph.Why.TheVariants.{Flip, Row}
 use Rattle.column_order.specs.Orders.{has, occurs, place, IsOrder, Keeps}
 use Rattle.row_model.specs.Graph.{pair, IsPair, Crosses, row_at, Joined, IsWalk, Evenly}
-use Rattle.column_order.proofs.Lists.{has_head, has_tail, place_head, place_tail, occurs_from_has}
+use Rattle.column_order.proofs.Counts.{order_within}
 use Rattle.row_model.proofs.Walks.{joined-append, is_pair_turned, turned_joined, evenly-refl, evenly-sym, evenly-trans, evenly-two, evenly-ends, evenly-mono}
 use Rattle.pq_tree.specs.Outline.{Outline, leaves, IsFrontier}
 use Rattle.tied_law.specs.Tied.{IsTied}
@@ -54,13 +55,6 @@ evenly_eq c rows =
       flip = λ v w h. evenly_flip c rows v w h.steps h.walk h.half h.even;
     }
 
-order_within : (c : ℕ) (o : List ℕ) → IsOrder c o → (a : ℕ) → IsTrue (has o a) → (1 ≤ a) × (a ≤ c)
-order_within c o h a k =
-    let t : IsTrue (leb 1 a && leb a c) =
-    true_from_ne_false (leb 1 a && leb a c) (λ f. let n : occurs o a ≡ 0 = h a ∙ cond-false (leb 1 a && leb a c) 1 0 f in omega (arith, occurs_from_has o a k)) in
-    let s : IsTrue (leb 1 a) × IsTrue (leb a c) = and_parts (leb 1 a) (leb a c) t in
-    (leb-true 1 a s.0, leb-true a c s.1)
-
 -- the columns of the last row are closed
 pub last_row_closed : (c : ℕ) (rows : List (List ℕ)) (row l : List ℕ) → IsOrder c l → ((a : ℕ) → IsTrue (has row a) → IsTrue (has l a)) →
     IsClosed (Evenly c (rows ++ row ∷ [])) l row
@@ -83,27 +77,6 @@ last_row_closed c rows row l whole sub a b d ra rb ld rd =
           (Flip, record { from = is_pair_turned c (pair b d) p2; to = p2; fits = (refl, refl) })
     ]
 
-pub has_at : (o : List ℕ) (i : ℕ) → i < length o → IsTrue (has o (get_or o i 0))
-has_at [] i h = absurd (omega arith)
-has_at (x ∷ xs) zero h = has_head x xs
-has_at (x ∷ xs) (suc i) h = has_tail x (get_or xs i 0) xs (has_at xs i (omega arith))
-
--- at each position of an order its column has that place
-place_at : (o : List ℕ) → ((a : ℕ) → occurs o a ≤ 1) → (i : ℕ) → i < length o → place o (get_or o i 0) ≡ i
-place_at [] once i h = absurd (omega arith)
-place_at (x ∷ xs) once zero h = place_head x x xs refl
-place_at (x ∷ xs) once (suc i) h =
-    place_tail x (get_or xs i 0) xs (apart i (omega arith)) ∙ ap suc (place_at xs (λ a. rest a (once a)) i (omega arith))
-  where
-    rest : (a : ℕ) → occurs (x ∷ xs) a ≤ 1 → occurs xs a ≤ 1
-    rest a k = omega arith
-
-    apart : (i : ℕ) → i < length xs → x ≢ get_or xs i 0
-    apart i k e =
-        let h : occurs (x ∷ xs) (get_or xs i 0) ≤ 1 = once (get_or xs i 0) in
-        let one : cond {A = ℕ} (eqb x (get_or xs i 0)) 1 0 ≡ 1 = ap (λ b. cond {A = ℕ} b 1 0) (eq-eqb x (get_or xs i 0) e) in
-        omega (arith, occurs_from_has xs (get_or xs i 0) (has_at xs i k))
-
 -- an order in which the row's columns are closed keeps the row
 pub closed_keeps : (o row : List ℕ) → ((a : ℕ) → occurs o a ≤ 1) → IsClosed (Alike (place o)) o row → Keeps o row
 closed_keeps o row once h i j k lij ljk lk ri rk =
@@ -123,8 +96,8 @@ pub bound_tied : (c : ℕ) (rows : List (List ℕ)) (t : Outline) → ((f : List
 bound_tied c rows t kept b =
     record {
       kept = kept;
-      together = λ x n a d e ne xa xd te xe.
-          node_closed (Evenly c rows) (evenly_eq c rows) (leaves t) t (λ a b d i j k n. absurd (both_ways (has (leaves t) d) n k)) b x n a d e xa xd te xe;
+      together = λ x n.
+          node_closed (Evenly c rows) (evenly_eq c rows) (leaves t) t (λ a b d i j k n. absurd (both_ways (has (leaves t) d) n k)) b x n;
       in_line = λ us n. node_in_line (Evenly c rows) t b us n;
     }
 

@@ -1,10 +1,10 @@
 -- The frontiers of a tree that is tied to rows are exactly the valid orders of the rows.
-use Rattle.std.proofs.Common.{◌≡◌, ◌≢◌, ◌∙◌, ◌↔◌, ℕ, ◌+◌, ◌<◌, ◌≤◌, cond, leb, eqb, eq-eqb, ◌&&◌, List, [], ◌∷◌, IsTrue, refl, sym, ap, inl, inr, arith}
-use Rattle.std.proofs.lemmas.Bool.{cases_eq, cond_both}
+pub use Rattle.column_order.proofs.Counts.{order_once}
+use Rattle.std.proofs.Common.{◌≡◌, ◌≢◌, ◌∙◌, ◌↔◌, ℕ, ◌+◌, ◌<◌, ◌≤◌, cond, eqb, eq-eqb, List, [], ◌∷◌, IsTrue, refl, sym, ap, arith}
 use Rattle.column_order.specs.Orders.{has, occurs, place, IsOrder, IsValidOrder}
-use Rattle.row_model.specs.Graph.{pair, Joined, Evenly}
+use Rattle.row_model.specs.Graph.{Evenly}
 use Rattle.column_order.proofs.Lists.{has_head, has_tail, place-inj, place_head, place_tail, occurs_from_has}
-use Rattle.row_model.proofs.Walks.{evenly_one_side, evenly-refl}
+use Rattle.row_model.proofs.Walks.{evenly_one_side}
 use Rattle.pq_tree.specs.Outline.{Outline, leaves, IsFrontier}
 use Rattle.tied_law.specs.Tied.{IsTied}
 use Rattle.tied_law.proofs.Bound.{IsBound, bound_from}
@@ -32,18 +32,10 @@ order_rises (x ∷ xs) once =
         let one : cond {A = ℕ} (eqb x y) 1 0 ≡ 1 = ap (λ b. cond {A = ℕ} b 1 0) (eq-eqb x y e) in
         omega (arith, occurs_from_has xs y k)
 
-pub order_once : (c : ℕ) (o : List ℕ) → IsOrder c o → (a : ℕ) → occurs o a ≤ 1
-order_once c o h a = rw (h a) (cond_both (leb 1 a && leb a c) 1 0 (λ n. n ≤ 1) (λ _. omega arith) (λ _. omega arith))
-
 -- what a tied tree says node by node
 pub tied_bound : (c : ℕ) (rows : List (List ℕ)) (t : Outline) → IsTied c rows t → IsBound (Evenly c rows) t
 tied_bound c rows t h =
-    bound_from (Evenly c rows) t (leaves t)
-    (λ x n a b d xa xb ld xd. elim (cases_eq a b) [
-      | inl e ↦ rw e (evenly-refl (Joined c rows) (pair b d))
-      | inr ne ↦ h.together x n a b d ne xa xb ld xd
-    ])
-    h.in_line t (λ d k. k) (λ x k. k)
+    bound_from (Evenly c rows) t (leaves t) h.together h.in_line t (λ d k. k) (λ x k. k)
 
 pub frontier_valid : (c : ℕ) (rows : List (List ℕ)) (t : Outline) → IsOrder c (leaves t) → IsTied c rows t → (o : List ℕ) → IsFrontier t o → IsValidOrder c rows o
 frontier_valid c rows t whole h o f = record { order = λ a. frontier_occurs t o a f ∙ whole a; kept = h.kept o f }

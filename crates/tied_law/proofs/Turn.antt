@@ -1,19 +1,19 @@
 -- An equivalent tree has the same frontiers, and is tied to the same rows.
-use Rattle.std.proofs.Common.{◌≡◌, ◌⊎◌, ◌∙◌, ℕ, false, List, [], ◌∷◌, ◌++◌, reverse, IsTrue, IsPermutation, refl, sym, ap, subst, inl, inr, append_assoc, append-nil}
+use Rattle.std.proofs.Common.{◌≡◌, ◌⊎◌, ◌∙◌, ◌↔◌, ℕ, false, List, [], ◌∷◌, ◌++◌, reverse, IsTrue, IsPermutation, refl, sym, ap, subst, inl, inr, append_assoc, append-nil}
 use Rattle.std.proofs.lemmas.Bool.{both_ways}
 use Rattle.std.proofs.lemmas.List.{reverse-append, reverse-reverse}
 use Rattle.std.proofs.lemmas.List.Elements.{All-from_recursion, recursion_from_All}
 use Rattle.std.proofs.lemmas.List.Sorted.{All-permutation, IsPermutation-sym, IsPermutation-reverse}
 use Rattle.std.specs.List.{AllByRecursion}
 use Rattle.row_model.specs.declared.graph.Pair.{Pair}
-use Rattle.column_order.specs.Orders.{has, IsOrder}
+use Rattle.column_order.specs.Orders.{has}
 use Rattle.row_model.specs.Graph.{pair, Evenly}
 use Rattle.column_order.proofs.Lists.{has_append_cases, has_append_left, has_append_right}
 use Rattle.pq_tree.specs.Outline.{Outline, Forest, leaf, p_node, q_node, no_tree, tree_and, leaves, leaves_of}
 use Rattle.pq_tree.specs.Equivalent.{IsEquivalent, AreEquivalent}
 use Rattle.pq_tree.specs.Proper.{forest, IsProper}
 use Rattle.pq_tree.proofs.Frontiers.{same_frontiers}
-use Rattle.pq_tree.proofs.Equivalent.{moved_occurs, equivalent_occurs, equivalent_occur_all, equivalent_proper}
+use Rattle.pq_tree.proofs.Equivalent.{moved_occurs, equivalent_occurs, equivalent_occur_all, equivalent_proper, proper_from_equivalent}
 use Rattle.tied_law.specs.Tied.{IsForward, IsTied}
 use Rattle.tied_law.proofs.Bound.{IsClosed, AreClosed, IsBound, AreBound, IsPairEq}
 use Rattle.tied_law.proofs.Frontiers.{has_same}
@@ -182,10 +182,16 @@ module _ (R : Pair → Pair → Type 0) (eq : IsPairEq R) where
     all_unturned_bound (tree_and t ts) [] h k = absurd h
     all_unturned_bound (tree_and t ts) (u ∷ us) h k = (unturned_bound t u h.0 k.0, all_unturned_bound ts us h.1 k.1)
 
-pub turned_tied : (c : ℕ) (rows : List (List ℕ)) (t u : Outline) → IsOrder c (leaves t) → IsEquivalent t u → IsTied c rows t → IsTied c rows u
-turned_tied c rows t u whole h k =
+pub turned_tied : (c : ℕ) (rows : List (List ℕ)) (t u : Outline) → IsEquivalent t u → IsTied c rows t → IsTied c rows u
+turned_tied c rows t u h k =
     bound_tied c rows u (λ f g. k.kept f ((same_frontiers t u h f).1 g))
     (turned_bound (Evenly c rows) (evenly_eq c rows) t u h (tied_bound c rows t k))
 
-pub turned_law : (c : ℕ) (rows : List (List ℕ)) (t u : Outline) → IsProper c t → IsEquivalent t u → IsTied c rows t → IsProper c u × IsTied c rows u
-turned_law c rows t u w h k = (equivalent_proper c t u h w, turned_tied c rows t u w.1 h k)
+pub unturned_tied : (c : ℕ) (rows : List (List ℕ)) (t u : Outline) → IsEquivalent t u → IsTied c rows u → IsTied c rows t
+unturned_tied c rows t u h k =
+    bound_tied c rows t (λ f g. k.kept f ((same_frontiers t u h f).0 g))
+    (unturned_bound (Evenly c rows) (evenly_eq c rows) t u h (tied_bound c rows u k))
+
+pub turned_law : (c : ℕ) (rows : List (List ℕ)) (t u : Outline) → IsEquivalent t u → (IsProper c t ↔ IsProper c u) × (IsTied c rows t ↔ IsTied c rows u)
+turned_law c rows t u h =
+    ((equivalent_proper c t u h, proper_from_equivalent c t u h), (turned_tied c rows t u h, unturned_tied c rows t u h))

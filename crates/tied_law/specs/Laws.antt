@@ -30,11 +30,9 @@ UniversalLaw =
 abbrev pub SameFrontiersLaw : Type 0
 SameFrontiersLaw = (t u : Outline) → IsEquivalent t u → (o : List ℕ) → IsFrontier t o ↔ IsFrontier u o
 
--- a tree that is equivalent to a tied one is proper and tied to the same rows
+-- of two equivalent trees both are proper or neither, and both are tied to the same rows
 abbrev pub EquivalentLaw : Type 0
 EquivalentLaw =
     (c : ℕ) (rows : List (List ℕ)) (t u : Outline) →
-    IsProper c t →
     IsEquivalent t u →
-    IsTied c rows t →
-    IsProper c u × IsTied c rows u
+    (IsProper c t ↔ IsProper c u) × (IsTied c rows t ↔ IsTied c rows u)
