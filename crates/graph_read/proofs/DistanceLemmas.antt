@@ -11,10 +11,10 @@ use Rattle.matrix_read.specs.Lines.{NumberedLine, without_mark, lines_of, filled
 use Rattle.matrix_read.specs.Words.{words_of, numeral_of}
 use Rattle.matrix_read.specs.declared.words.Numeral.{Numeral}
 use Rattle.matrix_read.specs.declared.words.Numeral.TheVariants.{Value, TooLarge, NotDigits}
+use Rattle.graph_read.specs.declared.TheConstants.{ITEM_BOUND}
 use Rattle.graph_read.specs.Distances.{distance, IsDistances}
-use Rattle.graph_read.specs.Items.{with_item}
-use Rattle.graph_read.specs.DistanceFiles.{with_number, numbers_behind, is_symmetric_at, is_row_at, with_row, row_behind, table_behind, distances, distances_lines}
-use Rattle.graph_read.proofs.ItemLemmas.{long_file, short_file}
+use Rattle.graph_read.specs.DistanceFiles.{with_number, numbers_behind, is_symmetric_at, is_row_at, with_row, row_behind, with_table, table_behind, distances, distances_lines}
+use Rattle.row_model.proofs.Limits.{too_long, short_enough}
 use Rattle.graph_read.proofs.PlaceLemmas.{place_within}
 
 -- where a row is not symmetric
@@ -74,11 +74,11 @@ module _ (n x : ℕ) (values line : List ℕ) where
 module _ (bytes : List ℕ) where
   pub distances_long : MAX_FILE_BYTES < length bytes → distances bytes ≡ read.Refused (record { code = LIMIT; line = 0 })
   unfolding distances
-  distances_long h = long_file bytes (distances_lines (filled_lines 1 (lines_of (without_mark bytes)))) h
+  distances_long h = too_long bytes (distances_lines (filled_lines 1 (lines_of (without_mark bytes)))) h
 
   pub distances_short : length bytes ≤ MAX_FILE_BYTES → distances bytes ≡ distances_lines (filled_lines 1 (lines_of (without_mark bytes)))
   unfolding distances
-  distances_short h = short_file bytes (distances_lines (filled_lines 1 (lines_of (without_mark bytes)))) h
+  distances_short h = short_enough bytes (distances_lines (filled_lines 1 (lines_of (without_mark bytes)))) h
 
 -- the first rows of a table are symmetric with a zero diagonal
 pub record IsFit (n x : ℕ) (values : List ℕ) : Type 0 where
@@ -175,12 +175,12 @@ table_fit n x values [] table fit le h = whole (nat_le n x) refl h
 table_fit n x values (line ∷ lines) table fit le h =
     step (row_behind n x values line.text) refl h (λ more next k. table_fit n (x + 1) more lines table next.fit (omega (arith, next.few)) k)
   where
-    step : (row : Result (List ℕ) ℕ) → row_behind n x values line.text ≡ row → with_item row line.number (λ more. table_behind n (x + 1) more lines) ≡ Ok table
+    step : (row : Result (List ℕ) ℕ) → row_behind n x values line.text ≡ row → with_table row line.number (λ more. table_behind n (x + 1) more lines) ≡ Ok table
         → ((more : List ℕ) → IsNext n x more → table_behind n (x + 1) more lines ≡ Ok table → IsFit n n table) → IsFit n n table
     step (Ok more) e k later = later more (row_next n x values line.text more fit e) k
     step (Err code) e k later = absurd (cc)
 
-pub are_distances : (n : ℕ) (lines : List NumberedLine) (table : List ℕ) → 1 ≤ n → n ≤ 4096 → table_behind n 0 [] lines ≡ Ok table → IsDistances (record { items = n; values = table })
+pub are_distances : (n : ℕ) (lines : List NumberedLine) (table : List ℕ) → 1 ≤ n → n ≤ ITEM_BOUND → table_behind n 0 [] lines ≡ Ok table → IsDistances (record { items = n; values = table })
 are_distances n lines table some few h =
     let fit : IsFit n n table = table_fit n 0 [] lines table (record { whole = omega arith; symmetric = λ a b pb ba ax. absurd (omega arith); diagonal = λ a pa ax. absurd (omega arith) }) (omega arith) h in
     record {

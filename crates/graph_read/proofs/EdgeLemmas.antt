@@ -1,5 +1,5 @@
 -- The lists of edges both ways are those of a graph.
-use Rattle.std.proofs.Common.{◌≡◌, ◌≢◌, ◌⊎◌, ◌∙◌, ℕ, zero, suc, ◌+◌, ◌-◌, ◌<◌, ◌≤◌, Bool, true, false, if◌then◌else◌, ◌||◌, ◌&&◌, eqb, List, [], ◌∷◌, ◌++◌, get_or, refl, sym, ap, inl, inr, arith, eq-eqb, subst, Option, Some, None, Result, Ok, Err}
+use Rattle.std.proofs.Common.{◌≡◌, ◌≢◌, ◌⊎◌, ◌∙◌, ℕ, zero, suc, ◌+◌, ◌-◌, ◌<◌, ◌≤◌, Bool, true, false, if◌then◌else◌, ◌||◌, ◌&&◌, eqb, List, [], ◌∷◌, get_or, refl, sym, ap, inl, inr, arith, eq-eqb, Option, Some, None, Result, Ok, Err}
 use Rattle.std.proofs.lemmas.Bool.{cases_eq, cases_lt, ne_eqb}
 use Rattle.std.proofs.lemmas.List.{get_or_past}
 use Rattle.std.specs.List.{AllByRecursion}
@@ -7,59 +7,31 @@ use Rattle.column_order.specs.Orders.{has}
 use Rattle.row_model.specs.Rows.{IsRow}
 use Rattle.row_model.specs.declared.code.TheConstants.{SYMMETRY, RANGE}
 use Rattle.row_model.proofs.Ascending.{row_within}
+use Rattle.row_model.proofs.Filtered.{has_filtered, filtered_row}
 use Rattle.matrix_read.specs.Lines.{NumberedLine}
 use Rattle.matrix_read.specs.Rows.{columns_among}
 use Rattle.matrix_read.specs.Words.{words_of}
-use Rattle.matrix_read.proofs.RowLemmas.{columns_ascend}
 use Rattle.graph_read.specs.declared.edges.Edge.{Edge}
 use Rattle.graph_read.specs.declared.edges.Shape.TheVariants.{Plain}
 use Rattle.graph_read.specs.declared.numbers.NumberPair.{NumberPair}
 use Rattle.graph_read.specs.Graphs.{has_edge}
-use Rattle.graph_read.specs.Items.{items_behind, with_item}
 use Rattle.graph_read.specs.Numbers.{is_within, value_of, two_numbers}
-use Rattle.graph_read.specs.Edges.{both_ways, ends_from, lists_from, edge_named, edge_of, edges_of, unless_loop}
+use Rattle.graph_read.specs.Edges.{both_ways, ends_from, lists_from, edge_named, edge_before, edges_of, unless_loop}
 use Rattle.graph_read.proofs.ListLemmas.{length-lists_from}
 
--- the numbers of a range that are among others
-among_below : (a start n : ℕ) (numbers : List ℕ) → a < start → has (columns_among start n numbers) a ≡ false
-among_below a start zero numbers lt = refl
-among_below a start (suc n) numbers lt =
-    let rest = among_below a (start + 1) n numbers (omega arith) in
-    elim (has numbers start) as (λ v. has (if v then start ∷ columns_among (start + 1) n numbers else columns_among (start + 1) n numbers) a ≡ false) [
-      | true ↦ rw (ne_eqb start a (λ e. absurd (omega arith)), rest) refl
-      | false ↦ rest
-    ]
-
-among_inside : (a start n : ℕ) (numbers : List ℕ) → start ≤ a → a < start + n → has (columns_among start n numbers) a ≡ has numbers a
-among_inside a start zero numbers le lt = absurd (omega arith)
-among_inside a start (suc n) numbers le lt =
-    elim (cases_eq start a) [
-      | inl same ↦
-          (elim (has numbers start) as (λ v. has numbers start ≡ v → has (if v then start ∷ columns_among (start + 1) n numbers else columns_among (start + 1) n numbers) a ≡ has numbers a) [
-            | true ↦ λ e. rw (eq-eqb start a same) (sym e ∙ ap (has numbers) same)
-            | false ↦ λ e. among_below a (start + 1) n numbers (omega arith) ∙ sym e ∙ ap (has numbers) same
-          ]) refl
-      | inr other ↦
-          let rest : has (columns_among (start + 1) n numbers) a ≡ has numbers a = among_inside a (start + 1) n numbers (omega arith) (omega arith) in
-          elim (has numbers start) as (λ v. has (if v then start ∷ columns_among (start + 1) n numbers else columns_among (start + 1) n numbers) a ≡ has numbers a) [
-            | true ↦ rw (ne_eqb start a other) rest
-            | false ↦ rest
-          ]
-    ]
-
 -- the list of a vertex
-list_at : (x n c i : ℕ) (edges : List Edge) → i < n → get_or (lists_from x n c edges) i [] ≡ columns_among 1 c (ends_from (x + i) edges)
+list_at : (x n c i : ℕ) (edges : List Edge) → i < n → get_or (lists_from x n c edges) i [] ≡ columns_among c (ends_from (x + i) edges)
 list_at x zero c i edges lt = absurd (omega arith)
-list_at x (suc n) c zero edges lt = ap (λ a. columns_among 1 c (ends_from a edges)) (omega arith)
-list_at x (suc n) c (suc i) edges lt = list_at (x + 1) n c i edges (omega arith) ∙ ap (λ a. columns_among 1 c (ends_from a edges)) (omega arith)
+list_at x (suc n) c zero edges lt = ap (λ a. columns_among c (ends_from a edges)) (omega arith)
+list_at x (suc n) c (suc i) edges lt = list_at (x + 1) n c i edges (omega arith) ∙ ap (λ a. columns_among c (ends_from a edges)) (omega arith)
 
-list_of : (n c u : ℕ) (edges : List Edge) → 1 ≤ u → u ≤ n → get_or (lists_from 1 n c edges) (u - 1) [] ≡ columns_among 1 c (ends_from u edges)
+list_of : (n c u : ℕ) (edges : List Edge) → 1 ≤ u → u ≤ n → get_or (lists_from 1 n c edges) (u - 1) [] ≡ columns_among c (ends_from u edges)
 list_of n c u edges some le =
     let at : 1 + (u - 1) ≡ u = omega arith in
-    list_at 1 n c (u - 1) edges (omega arith) ∙ ap (λ a. columns_among 1 c (ends_from a edges)) at
+    list_at 1 n c (u - 1) edges (omega arith) ∙ ap (λ a. columns_among c (ends_from a edges)) at
 
 pub edge_inside : (n c u v : ℕ) (edges : List Edge) → 1 ≤ u → u ≤ n → 1 ≤ v → v ≤ c → has_edge (lists_from 1 n c edges) u v ≡ has (ends_from u edges) v
-edge_inside n c u v edges pu lu pv lv = ap (λ list. has list v) (list_of n c u edges pu lu) ∙ among_inside v 1 c (ends_from u edges) pv (omega arith)
+edge_inside n c u v edges pu lu pv lv = ap (λ list. has list v) (list_of n c u edges pu lu) ∙ has_filtered (has (ends_from u edges)) c v pv lv
 
 lacks : (b : Bool) → (b ≡ true → ⊥) → b ≡ false
 lacks true h = absurd (h refl)
@@ -74,8 +46,8 @@ edge_outside n u v edges pu (inr far) =
     elim (cases_lt n u) [
       | inl out ↦ list_past n u v edges pu out
       | inr le ↦
-          let row : IsRow n (columns_among 1 n (ends_from u edges)) = columns_ascend n 0 n (ends_from u edges) (omega arith) in
-          ap (λ list. has list v) (list_of n n u edges pu le) ∙ lacks (has (columns_among 1 n (ends_from u edges)) v) (λ e. absurd (omega (arith, (row_within n (columns_among 1 n (ends_from u edges)) row v e).1)))
+          let row : IsRow n (columns_among n (ends_from u edges)) = filtered_row (has (ends_from u edges)) n in
+          ap (λ list. has list v) (list_of n n u edges pu le) ∙ lacks (has (columns_among n (ends_from u edges)) v) (λ e. absurd (omega (arith, (row_within n (columns_among n (ends_from u edges)) row v e).1)))
     ]
 
 -- edges both ways
@@ -163,25 +135,10 @@ in_range_no_loop : (n : ℕ) (inside : Bool) (edge found : Edge) → (if inside 
 in_range_no_loop n true edge found h = named_no_loop n edge found h
 in_range_no_loop n false edge found h = absurd (cc)
 
-pair_no_loop : (n : ℕ) (pair : Option NumberPair) (found : Edge) → edge_named (Plain n) pair ≡ Ok found → NoLoop found
+pub pair_no_loop : (n : ℕ) (pair : Option NumberPair) (found : Edge) → edge_named (Plain n) pair ≡ Ok found → NoLoop found
 pair_no_loop n None found h = absurd (cc)
 pair_no_loop n (Some pair) found h =
     in_range_no_loop n (is_within n pair.first && is_within n pair.second) (record { from = value_of pair.first; to = value_of pair.second }) found h
-
-no_loop_push : (xs : List Edge) (x : Edge) → AllByRecursion NoLoop xs → NoLoop x → AllByRecursion NoLoop (xs ++ x ∷ [])
-no_loop_push [] x h p = (p, tt)
-no_loop_push (y ∷ xs) x h p = (h.0, no_loop_push xs x h.1 p)
-
-items_no_loop : (n : ℕ) (before : List Edge) (lines : List NumberedLine) (edges : List Edge) → AllByRecursion NoLoop before → items_behind (edge_of (Plain n)) before lines ≡ Ok edges → AllByRecursion NoLoop edges
-unfolding items_behind
-items_no_loop n before [] edges all h = let is : before ≡ edges = cc in subst (AllByRecursion NoLoop) is all
-items_no_loop n before (line ∷ lines) edges all h =
-    step (edge_named (Plain n) (two_numbers (words_of line.text))) refl h (λ e fine k. items_no_loop n (before ++ e ∷ []) lines edges (no_loop_push before e all fine) k)
-  where
-    step : (item : Result Edge ℕ) → edge_named (Plain n) (two_numbers (words_of line.text)) ≡ item → with_item item line.number (λ e. items_behind (edge_of (Plain n)) (before ++ e ∷ []) lines) ≡ Ok edges
-        → ((e : Edge) → NoLoop e → items_behind (edge_of (Plain n)) (before ++ e ∷ []) lines ≡ Ok edges → AllByRecursion NoLoop edges) → AllByRecursion NoLoop edges
-    step (Err code) e k later = absurd (cc)
-    step (Ok edge) e k later = later edge (pair_no_loop n (two_numbers (words_of line.text)) edge e) k
 
 module _ (n : ℕ) (edges : List Edge) where
   pub graph_symmetric : (u v : ℕ) → 1 ≤ u → 1 ≤ v → has_edge (lists_from 1 n n (both_ways edges)) u v ≡ has_edge (lists_from 1 n n (both_ways edges)) v u
@@ -201,5 +158,10 @@ module _ (n : ℕ) (edges : List Edge) where
         | inr lv ↦ edge_inside n n v v (both_ways edges) pv lv pv lv ∙ ends_loopless v edges all
       ]
 
-pub edges_no_loop : (n : ℕ) (lines : List NumberedLine) (edges : List Edge) → edges_of (Plain n) lines ≡ Ok edges → AllByRecursion NoLoop edges
-edges_no_loop n lines edges h = items_no_loop n [] lines edges tt h
+pub edges_no_loop : (n : ℕ) (lines : List NumberedLine) → AllByRecursion NoLoop (edges_of (Plain n) lines)
+edges_no_loop n [] = tt
+edges_no_loop n (line ∷ lines) = by (edge_named (Plain n) (two_numbers (words_of line.text))) refl (edges_no_loop n lines)
+  where
+    by : (found : Result Edge ℕ) → edge_named (Plain n) (two_numbers (words_of line.text)) ≡ found → AllByRecursion NoLoop (edges_of (Plain n) lines) → AllByRecursion NoLoop (edge_before found (edges_of (Plain n) lines))
+    by (Err code) e later = later
+    by (Ok edge) e later = (pair_no_loop n (two_numbers (words_of line.text)) edge e, later)

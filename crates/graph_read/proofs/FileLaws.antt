@@ -1,97 +1,94 @@
--- The edges of the graphs that files give are those that lines name.
-use Rattle.std.proofs.Common.{◌≡◌, ◌∙◌, ℕ, ◌≤◌, Bool, true, false, if◌then◌else◌, ◌||◌, ◌&&◌, eqb, List, [], ◌∷◌, ◌++◌, refl, sym, ap, arith, Option, Some, None, Result, Ok, Err}
-use Rattle.std.proofs.lemmas.Bool.{ne_eqb}
-use Rattle.std.proofs.Math.Bool.{or-false}
+-- A file gives a graph exactly where it writes it.
+use Rattle.std.proofs.Common.{◌≡◌, ◌∙◌, ℕ, ◌≤◌, ◌||◌, List, ap, refl, arith, Ok}
+use Rattle.std.proofs.lemmas.List.Elements.{All-from_recursion}
 use Rattle.column_order.specs.Orders.{has}
-use Rattle.column_order.proofs.Lists.{has-append}
-use Rattle.row_model.specs.declared.code.TheConstants.{RANGE, SYMMETRY}
-use Rattle.matrix_read.specs.Lines.{NumberedLine}
+use Rattle.row_model.specs.declared.refusal.Read.TheVariants as read
+use Rattle.matrix_read.specs.Refusals.{filled_of}
 use Rattle.matrix_read.specs.Words.{words_of}
-use Rattle.matrix_read.specs.declared.words.Numeral.{Numeral}
-use Rattle.matrix_read.specs.declared.words.Numeral.TheVariants.{Value, TooLarge, NotDigits}
-use Rattle.graph_read.specs.declared.edges.Edge.{Edge}
+use Rattle.graph_read.specs.declared.TheConstants.{LEFT_BOUND}
 use Rattle.graph_read.specs.declared.edges.Shape.{Shape}
 use Rattle.graph_read.specs.declared.edges.Shape.TheVariants.{Bipartite, Plain}
-use Rattle.graph_read.specs.declared.numbers.NumberPair.{NumberPair}
-use Rattle.graph_read.specs.Items.{items_behind, with_item}
-use Rattle.graph_read.specs.Numbers.{is_within, value_of, two_numbers}
-use Rattle.graph_read.specs.Edges.{left_of, right_of, both_ways, ends_from, edge_named, edge_of, unless_loop}
-use Rattle.graph_read.specs.FileLaws.{is_value, are_values, names_edge, later_lines, BigraphLaw, GraphLaw, DistancesLaw}
-use Rattle.graph_read.proofs.EdgeLemmas.{edge_inside, ends_step, ends_either}
-use Rattle.graph_read.proofs.GraphLemmas.{or_step}
-use Rattle.graph_read.proofs.PlaceLemmas.{ends_from-append}
-use Rattle.graph_read.proofs.Ranges.{bigraph_from, bigraph_range, graph_from, graph_range, distances_range}
+use Rattle.graph_read.specs.Graphs.{BigraphValue, GraphValue}
+use Rattle.graph_read.specs.Edges.{both_ways, ends_from, edges_of, lists_from}
+use Rattle.graph_read.specs.GraphFiles.{bigraph, graph}
+use Rattle.graph_read.specs.FileLaws.{names_edge, IsEdgeLine, WritesBigraph, IsBigraphFile, BigraphLaw, IsPairLine, WritesGraph, IsGraphFile, GraphLaw, IsDistancesFile, DistancesLaw}
+use Rattle.graph_read.proofs.EdgeLemmas.{edge_inside, ends_either}
+use Rattle.graph_read.proofs.EdgeNames.{lines_name}
+use Rattle.graph_read.proofs.Named.{sizes_written, size_written, edge_lines_of, pair_lines_of}
+use Rattle.graph_read.proofs.Ranges.{bigraph_from, bigraph_range, graph_from, graph_range, distances_from}
+use Rattle.row_model.specs.declared.TheConstants.{MAX_ITEMS}
+use Rattle.graph_read.specs.Distances.{DistancesValue}
+use Rattle.graph_read.specs.DistanceFiles.{items_named, distances, distances_with, distances_behind, distances_lines}
+use Rattle.graph_read.specs.Numbers.{one_number}
+use Rattle.graph_read.proofs.DistanceLemmas.{are_distances, distances_short}
+use Rattle.graph_read.proofs.Named.{items_written}
+use Rattle.graph_read.proofs.TableRows.{rows_given, table_taken}
+use Rattle.std.proofs.lemmas.Bool.{ne_eqb, le-ltb}
+use Rattle.graph_read.proofs.WrittenLaws.{written_bigraph, written_graph}
 
-value_is : (n : Numeral) (x : ℕ) → 1 ≤ x → eqb (value_of n) x ≡ is_value x n
-value_is (Value a) x some = refl
-value_is TooLarge x some = ne_eqb 0 x (λ e. absurd (omega arith))
-value_is NotDigits x some = ne_eqb 0 x (λ e. absurd (omega arith))
+bigraph_file : (limit : ℕ) (bytes : List ℕ) (g : BigraphValue) → limit ≤ LEFT_BOUND → bigraph limit bytes ≡ read.Ok g → IsBigraphFile limit bytes g
+bigraph_file limit bytes g small h =
+    let found = bigraph_from limit g bytes h in
+    let r = found.1 in
+    let known = bigraph_range limit (filled_of bytes) g small r in
+    let shape : Shape = Bipartite r.left r.right in
+    let writes : WritesBigraph (filled_of bytes) (record { left = r.left; right = r.right; neighbours = lists_from 1 r.left r.right (edges_of shape r.later) }) = record {
+      first = r.first;
+      later = r.later;
+      are = r.are;
+      sizes = sizes_written limit (words_of r.first.text) r.left r.right r.named;
+      within = All-from_recursion (IsEdgeLine r.left r.right) r.later (edge_lines_of r.left r.right r.later r.none);
+      edges = λ x y px lx py ly. edge_inside r.left r.right x y (edges_of shape r.later) px lx py ly ∙ lines_name x y px py shape r.later r.none;
+    } in
+    record { bigraph = known.bigraph; left = known.left; right = known.right; short = found.0; writes = rw r.is writes }
 
-module _ (x y : ℕ) (px : 1 ≤ x) (py : 1 ≤ y) where
-  -- the edge of a line goes from x to y exactly where the line names the two
-  pair_names : (pair : NumberPair) (edge : Edge) → (record { from = value_of pair.first; to = value_of pair.second }) ≡ edge → has (ends_from x (edge ∷ [])) y ≡ are_values x y (Some pair)
-  pair_names pair edge is =
-      ends_step x y edge [] ∙ or-false (eqb edge.from x && eqb edge.to y)
-      ∙ ap (λ (e : Edge). eqb e.from x && eqb e.to y) (sym is)
-      ∙ ap (λ b. b && eqb (value_of pair.second) y) (value_is pair.first x px) ∙ ap (λ b. is_value x pair.first && b) (value_is pair.second y py)
-
-  no_loop_names : (shape : Shape) (pair : NumberPair) (edge : Edge) → unless_loop shape (record { from = value_of pair.first; to = value_of pair.second }) ≡ Ok edge → has (ends_from x (edge ∷ [])) y ≡ are_values x y (Some pair)
-  no_loop_names (Bipartite left right) pair edge h = pair_names pair edge cc
-  no_loop_names (Plain n) pair edge h = by_loop (eqb (value_of pair.first) (value_of pair.second)) h
-    where
-      by_loop : (loop : Bool) → (if loop then Err SYMMETRY else Ok (record { from = value_of pair.first; to = value_of pair.second })) ≡ Ok edge → has (ends_from x (edge ∷ [])) y ≡ are_values x y (Some pair)
-      by_loop true k = absurd (cc)
-      by_loop false k = pair_names pair edge cc
-
-  line_names : (shape : Shape) (pair : Option NumberPair) (edge : Edge) → edge_named shape pair ≡ Ok edge → has (ends_from x (edge ∷ [])) y ≡ are_values x y pair
-  line_names shape None edge h = absurd (cc)
-  line_names shape (Some pair) edge h = by_range (is_within (left_of shape) pair.first && is_within (right_of shape) pair.second) h
-    where
-      by_range : (inside : Bool) → (if inside then unless_loop shape (record { from = value_of pair.first; to = value_of pair.second }) else Err RANGE) ≡ Ok edge → has (ends_from x (edge ∷ [])) y ≡ are_values x y (Some pair)
-      by_range false k = absurd (cc)
-      by_range true k = no_loop_names shape pair edge k
-
-  pub lines_name : (shape : Shape) (before : List Edge) (lines : List NumberedLine) (edges : List Edge) → items_behind (edge_of shape) before lines ≡ Ok edges → has (ends_from x edges) y ≡ (has (ends_from x before) y || names_edge lines x y)
-  unfolding items_behind
-  lines_name shape before [] edges h = let is : before ≡ edges = cc in ap (λ t. has (ends_from x t) y) (sym is) ∙ sym (or-false (has (ends_from x before) y))
-  lines_name shape before (line ∷ lines) edges h =
-      step (edge_named shape (two_numbers (words_of line.text))) refl h (λ edge k. lines_name shape (before ++ edge ∷ []) lines edges k)
-    where
-      step : (item : Result Edge ℕ) → edge_named shape (two_numbers (words_of line.text)) ≡ item → with_item item line.number (λ e. items_behind (edge_of shape) (before ++ e ∷ []) lines) ≡ Ok edges
-          → ((edge : Edge) → items_behind (edge_of shape) (before ++ edge ∷ []) lines ≡ Ok edges → has (ends_from x edges) y ≡ (has (ends_from x (before ++ edge ∷ [])) y || names_edge lines x y))
-          → has (ends_from x edges) y ≡ (has (ends_from x before) y || names_edge (line ∷ lines) x y)
-      step (Err code) e k later = absurd (cc)
-      step (Ok edge) e k later =
-          later edge k
-          ∙ ap (λ t. has t y || names_edge lines x y) (ends_from-append x before (edge ∷ []))
-          ∙ ap (λ b. b || names_edge lines x y) (has-append (ends_from x before) (ends_from x (edge ∷ [])) y)
-          ∙ ap (λ b. (has (ends_from x before) y || b) || names_edge lines x y) (line_names shape (two_numbers (words_of line.text)) edge e)
-          ∙ sym (or_step (has (ends_from x before) y) (are_values x y (two_numbers (words_of line.text))) (names_edge lines x y))
+graph_file : (bytes : List ℕ) (g : GraphValue) → graph bytes ≡ read.Ok g → IsGraphFile bytes g
+graph_file bytes g h =
+    let found = graph_from g bytes h in
+    let r = found.1 in
+    let known = graph_range (filled_of bytes) g r in
+    let n = r.vertices in
+    let edges = edges_of (Plain n) r.later in
+    let writes : WritesGraph (filled_of bytes) (record { vertices = n; neighbours = lists_from 1 n n (both_ways edges) }) = record {
+      first = r.first;
+      later = r.later;
+      are = r.are;
+      size = size_written (words_of r.first.text) n r.named;
+      within = All-from_recursion (IsPairLine n) r.later (pair_lines_of n r.later r.none);
+      edges = λ u v pu lu pv lv.
+          edge_inside n n u v (both_ways edges) pu lu pv lv ∙ ends_either u v edges
+          ∙ ap (λ b. b || has (ends_from v edges) u) (lines_name u v pu pv (Plain n) r.later r.none)
+          ∙ ap (λ b. names_edge r.later u v || b) (lines_name v u pv pu (Plain n) r.later r.none);
+    } in
+    record { graph = known.graph; vertices = known.vertices; short = found.0; writes = rw r.is writes }
 
 pub bigraph_law : BigraphLaw
-bigraph_law limit bytes g small h =
-    let known = bigraph_range limit small g bytes h in
-    let r = bigraph_from limit g bytes h in
-    record {
-      bigraph = known.bigraph;
-      left = known.left;
-      right = known.right;
-      edges = rw r.is (λ x y px lx py ly.
-          edge_inside r.left r.right x y r.edges px lx py ly ∙ lines_name x y px py (Bipartite r.left r.right) [] (later_lines bytes) r.edges r.items);
-    }
+bigraph_law limit bytes g small = (bigraph_file limit bytes g small, λ file. written_bigraph limit bytes g file)
 
 pub graph_law : GraphLaw
-graph_law bytes g h =
-    let known = graph_range g bytes h in
-    let r = graph_from g bytes h in
+graph_law bytes g = (graph_file bytes g, λ file. written_graph bytes g file)
+
+distances_file : (bytes : List ℕ) (d : DistancesValue) → distances bytes ≡ read.Ok d → IsDistancesFile bytes d
+distances_file bytes d h =
+    let found = distances_from d bytes h in
+    let r = found.1 in
+    let given = rows_given d.items r.later d.values r.table in
     record {
-      graph = known.graph;
-      vertices = known.vertices;
-      edges = rw r.is (λ u v pu lu pv lv.
-          edge_inside r.vertices r.vertices u v (both_ways r.edges) pu lu pv lv ∙ ends_either u v r.edges
-          ∙ ap (λ b. b || has (ends_from v r.edges) u) (lines_name u v pu pv (Plain r.vertices) [] (later_lines bytes) r.edges r.items)
-          ∙ ap (λ b. names_edge (later_lines bytes) u v || b) (lines_name v u pv pu (Plain r.vertices) [] (later_lines bytes) r.edges r.items));
+      distances = are_distances d.items r.later d.values r.within.0 (omega (arith, r.within.1)) r.table;
+      items = r.within.1;
+      short = found.0;
+      writes = record { first = r.first; later = r.later; are = r.are; size = items_written (words_of r.first.text) d.items r.named; count = given.count; rows = given.rows };
     }
 
+written_distances : (bytes : List ℕ) (d : DistancesValue) → IsDistancesFile bytes d → distances bytes ≡ read.Ok d
+written_distances bytes d file =
+    let w = file.writes in
+    let some : 1 ≤ d.items = file.distances.items.0 in
+    let items : items_named (one_number (words_of w.first.text)) ≡ Ok d.items = rw (w.size, ne_eqb d.items 0 (λ e. absurd (omega arith)), le-ltb MAX_ITEMS d.items file.items) refl in
+    distances_short bytes file.short
+    ∙ ap distances_lines w.are
+    ∙ ap (λ n. distances_behind w.first.number n w.later) items
+    ∙ ap (distances_with d.items) (table_taken d.items d.values file.distances w.later w.count w.rows)
+
 pub distances_law : DistancesLaw
-distances_law bytes d h = let r = distances_range d bytes h in (r.distances, r.items)
+distances_law bytes d = (distances_file bytes d, written_distances bytes d)

@@ -7,7 +7,6 @@ use Rattle.std.proofs.lemmas.List.Elements.{All-set, All-get_or}
 use Rattle.std.proofs.Math.Bool.{or-false}
 use Rattle.column_order.specs.Orders.{has}
 use Rattle.row_model.specs.Rows.{Ascends, IsRow, RowList}
-use Rattle.matrix_read.proofs.WordLemmas.{to_end}
 use Rattle.graph_read.specs.Graphs.{has_edge, HasOneMore, HasTwoMore, below, with_number, IsGraph}
 
 pub eqb-sym : (a b : ℕ) → eqb a b ≡ eqb b a
@@ -170,6 +169,9 @@ lists_added old l0 l1 l2 l3 c x n list some le whole same e0 e1 e2 e3 =
     (e2 ∙ ap (λ (m : RowList). record { columns = m.columns; rows = m.rows ++ list ∷ [] })
     (e1 ∙ ap (λ (m : RowList). record { columns = m.columns; rows = m.rows ++ slice_range old.rows 0 (x - 1) }) e0))
     ∙ rw (whole, same, set_is old.rows x list some le) refl
+
+to_end : (row : List ℕ) (at : ℕ) → slice_range row at (length row) ≡ drop at row
+to_end row at = grind (arith, common_steps)
 
 -- a list with one number more in its place, from its parts
 pub parts_joined : (y place : ℕ) (row v0 v1 v2 v3 : List ℕ) → place ≡ below y row → v0 ≡ [] → v1 ≡ v0 ++ take place row → v2 ≡ v1 ++ y ∷ []

@@ -1,10 +1,16 @@
 pub mod GraphLemmas
 pub mod ListLemmas
 pub mod PlaceLemmas
-pub mod ItemLemmas
+pub mod EdgeSteps
 pub mod EdgeLemmas
 pub mod FileLemmas
 pub mod DistanceLemmas
 pub mod Ranges
+pub mod EdgeNames
+pub mod TableRows
 pub mod FileLaws
 pub mod WrittenLaws
+pub mod Named
+pub mod RefusalLaws
+pub mod WordLines
+pub mod TableRefusals

@@ -1,42 +1,46 @@
 -- What is known of each graph and each table of distances that a file gives.
-use Rattle.std.proofs.Common.{◌≡◌, ◌∙◌, ℕ, zero, suc, ◌≤◌, Bool, true, false, if◌then◌else◌, ◌||◌, ◌&&◌, nat_lt, List, [], ◌∷◌, length, refl, sym, ap, arith, subst, Some, None, Result, Ok, Err}
+use Rattle.std.proofs.Common.{◌≡◌, ◌∙◌, ℕ, zero, suc, ◌≤◌, Bool, true, false, if◌then◌else◌, ◌||◌, ◌&&◌, nat_lt, List, [], ◌∷◌, length, refl, sym, ap, arith, subst, Option, Some, None, Result, Ok, Err}
 use Rattle.std.proofs.lemmas.Bool.{and_parts, or_parts, ltb-false}
 use Rattle.row_model.specs.Rows.{RowList}
 use Rattle.row_model.specs.declared.refusal.Refusal.{Refusal}
 use Rattle.row_model.specs.declared.refusal.Read.{Read}
 use Rattle.row_model.specs.declared.refusal.Read.TheVariants as read
-use Rattle.row_model.specs.declared.TheConstants.{MAX_COLUMNS, MAX_FILE_BYTES}
+use Rattle.row_model.specs.declared.TheConstants.{MAX_COLUMNS, MAX_FILE_BYTES, MAX_ITEMS}
 use Rattle.row_model.specs.declared.code.TheConstants.{RANGE, LIMIT}
-use Rattle.matrix_read.specs.Lines.{NumberedLine, without_mark, lines_of, filled_lines}
-use Rattle.std.proofs.Common.{drop}
+use Rattle.matrix_read.specs.Lines.{NumberedLine}
 use Rattle.std.proofs.lemmas.List.Elements.{All-from_recursion}
 use Rattle.row_model.specs.Rows.{IsRow}
 use Rattle.graph_read.specs.Edges.{both_ways, lists_from}
-use Rattle.graph_read.specs.FileLaws.{file_lines, later_lines}
-use Rattle.graph_read.specs.declared.edges.Edge.{Edge}
+use Rattle.matrix_read.specs.Refusals.{filled_of}
+use Rattle.matrix_read.specs.Rows.{refused_or}
+use Rattle.column_order.specs.declared.TheConstants.{COLUMN_BOUND}
+use Rattle.graph_read.specs.declared.TheConstants.{LEFT_BOUND}
 use Rattle.matrix_read.specs.Words.{words_of, numeral_of}
 use Rattle.matrix_read.specs.declared.words.Numeral.{Numeral}
 use Rattle.matrix_read.specs.declared.words.Numeral.TheVariants.{Value, TooLarge, NotDigits}
 use Rattle.graph_read.specs.Graphs.{BigraphValue, IsBigraph, GraphValue, IsGraph}
-use Rattle.graph_read.specs.Distances.{DistancesValue, IsDistances}
-use Rattle.graph_read.specs.Items.{within_length}
+use Rattle.graph_read.specs.Distances.{DistancesValue}
+use Rattle.row_model.specs.Limits.{within_length}
 use Rattle.graph_read.specs.Numbers.{is_number, is_zero, is_past, value_of, both_numbers, two_numbers, if_number, one_number}
-use Rattle.graph_read.specs.Edges.{left_of, right_of, edges_of, lists_with, sides_named, vertices_named}
+use Rattle.graph_read.specs.Edges.{left_of, right_of, edges_of, edge_refusal, lists_of_lines, sides_named, vertices_named}
 use Rattle.graph_read.specs.GraphFiles.{bigraph, bigraph_with, bigraph_behind, bigraph_lines, graph, graph_with, graph_behind, graph_lines}
-use Rattle.graph_read.specs.DistanceFiles.{MAX_ITEMS, items_named, table_behind, distances, distances_with, distances_behind, distances_lines}
+use Rattle.graph_read.specs.DistanceFiles.{items_named, table_behind, distances, distances_with, distances_behind, distances_lines}
 use Rattle.graph_read.specs.declared.edges.Shape.{Shape}
 use Rattle.graph_read.specs.declared.edges.Shape.TheVariants.{Bipartite, Plain}
 use Rattle.graph_read.proofs.ListLemmas.{length-lists_from, lists_from-rows}
 use Rattle.graph_read.proofs.FileLemmas.{is_graph}
-use Rattle.graph_read.proofs.DistanceLemmas.{are_distances}
 
 -- a file that gives a value is within the limit of its length
-length_within : {T : Type 0} (bytes : List ℕ) (inside : Read T) (value : T) → within_length bytes inside ≡ read.Ok value → inside ≡ read.Ok value
-length_within bytes inside value h = by_length (nat_lt MAX_FILE_BYTES (length bytes)) h
+record ReadInside {T : Type 0} (bytes : List ℕ) (inside : Read T) (value : T) : Type 0 where
+  short : length bytes ≤ MAX_FILE_BYTES
+  read_as : inside ≡ read.Ok value
+
+length_within : {T : Type 0} (bytes : List ℕ) (inside : Read T) (value : T) → within_length bytes inside ≡ read.Ok value → ReadInside bytes inside value
+length_within bytes inside value h = by_length (nat_lt MAX_FILE_BYTES (length bytes)) refl h
   where
-    by_length : (long : Bool) → (if long then read.Refused (record { code = LIMIT; line = 0 }) else inside) ≡ read.Ok value → inside ≡ read.Ok value
-    by_length true k = absurd (cc)
-    by_length false k = k
+    by_length : (long : Bool) → nat_lt MAX_FILE_BYTES (length bytes) ≡ long → (if long then read.Refused (record { code = LIMIT; line = 0 }) else inside) ≡ read.Ok value → ReadInside bytes inside value
+    by_length true e k = absurd (cc)
+    by_length false e k = record { short = ltb-false MAX_FILE_BYTES (length bytes) e; read_as = k }
 
 -- a number of digits that is not 0 and not past a limit
 pub number_within : (limit : ℕ) (n : Numeral) → is_number n ≡ true → is_zero n ≡ false → is_past limit n ≡ false → (1 ≤ value_of n) × (value_of n ≤ limit)
@@ -133,37 +137,43 @@ items_within [] n h = absurd (cc)
 items_within (a ∷ []) n h = item_number_within (numeral_of a) n h
 items_within (a ∷ b ∷ words) n h = absurd (cc)
 
--- a bipartite graph that a file gives, with the edges of its lines behind the first
+-- a bipartite graph that lines give
 pub record BigraphRead (limit : ℕ) (lines : List NumberedLine) (g : BigraphValue) : Type 0 where
+  pub first : NumberedLine
+  pub later : List NumberedLine
+  pub are : lines ≡ first ∷ later
   pub left : ℕ
   pub right : ℕ
-  pub edges : List Edge
+  pub named : sides_named limit (two_numbers (words_of first.text)) ≡ Ok (Bipartite left right)
   pub sides : SidesWithin limit (Bipartite left right)
-  pub items : edges_of (Bipartite left right) lines ≡ Ok edges
-  pub is : g ≡ record { left = left; right = right; neighbours = lists_from 1 left right edges }
+  pub none : edge_refusal (Bipartite left right) later ≡ None
+  pub is : g ≡ record { left = left; right = right; neighbours = lists_from 1 left right (edges_of (Bipartite left right) later) }
 
-module _ (limit : ℕ) (g : BigraphValue) where
-  shape_graph : (shape : Shape) (left right : ℕ) (lines : List NumberedLine) (edges : Result (List Edge) Refusal) → shape ≡ Bipartite left right → SidesWithin limit shape
-      → edges_of (Bipartite left right) lines ≡ edges → bigraph_with (Bipartite left right) (lists_with (Bipartite left right) edges) ≡ read.Ok g → BigraphRead limit lines g
-  shape_graph shape left right lines (Err refusal) is sides e h = absurd (cc)
-  shape_graph shape left right lines (Ok edges) is sides e h = record { left = left; right = right; edges = edges; sides = rw is at sides; items = e; is = cc }
+module _ (limit : ℕ) (g : BigraphValue) (first : NumberedLine) (later : List NumberedLine) where
+  listed : (left right : ℕ) → sides_named limit (two_numbers (words_of first.text)) ≡ Ok (Bipartite left right) → SidesWithin limit (Bipartite left right)
+      → (refusal : Option Refusal) → edge_refusal (Bipartite left right) later ≡ refusal
+      → bigraph_with (Bipartite left right) (refused_or refusal (record { columns = right; rows = lists_from 1 left right (edges_of (Bipartite left right) later) })) ≡ read.Ok g
+      → BigraphRead limit (first ∷ later) g
+  listed left right named sides (Some refusal) e h = absurd (cc)
+  listed left right named sides None e h = record { first = first; later = later; are = refl; left = left; right = right; named = named; sides = sides; none = e; is = cc }
 
-  named_graph : (number : ℕ) (words : List (List ℕ)) (sides : Result Shape ℕ) (lines : List NumberedLine) → sides_named limit (two_numbers words) ≡ sides → bigraph_behind number sides lines ≡ read.Ok g → BigraphRead limit lines g
-  named_graph number words (Err code) lines e h = absurd (cc)
-  named_graph number words (Ok (Bipartite left right)) lines e h =
-      shape_graph (Bipartite left right) left right lines (edges_of (Bipartite left right) lines) refl (sides_within limit words (Bipartite left right) e) refl h
-  named_graph number words (Ok (Plain n)) lines e h = absurd (no_plain (sides_within limit words (Plain n) e).bipartite)
+  headed : (sides : Result Shape ℕ) → sides_named limit (two_numbers (words_of first.text)) ≡ sides → bigraph_behind first.number sides later ≡ read.Ok g → BigraphRead limit (first ∷ later) g
+  headed (Err code) e h = absurd (cc)
+  headed (Ok (Bipartite left right)) e h = listed left right e (sides_within limit (words_of first.text) (Bipartite left right) e) (edge_refusal (Bipartite left right) later) refl h
+  headed (Ok (Plain n)) e h = absurd (no_plain (sides_within limit (words_of first.text) (Plain n) e).bipartite)
     where
       no_plain : IsBipartite (Plain n) → ⊥
       no_plain k = k
 
-  lines_graph : (lines : List NumberedLine) → bigraph_lines limit lines ≡ read.Ok g → BigraphRead limit (drop 1 lines) g
-  lines_graph [] h = absurd (cc)
-  lines_graph (first ∷ lines) h = named_graph first.number (words_of first.text) (sides_named limit (two_numbers (words_of first.text))) lines refl h
+lines_bigraph : (limit : ℕ) (g : BigraphValue) (lines : List NumberedLine) → bigraph_lines limit lines ≡ read.Ok g → BigraphRead limit lines g
+lines_bigraph limit g [] h = absurd (cc)
+lines_bigraph limit g (first ∷ later) h = headed limit g first later (sides_named limit (two_numbers (words_of first.text))) refl h
 
-  pub bigraph_from : (bytes : List ℕ) → bigraph limit bytes ≡ read.Ok g → BigraphRead limit (later_lines bytes) g
-  unfolding bigraph
-  bigraph_from bytes h = lines_graph (file_lines bytes) (length_within bytes (bigraph_lines limit (file_lines bytes)) g h)
+pub bigraph_from : (limit : ℕ) (g : BigraphValue) (bytes : List ℕ) → bigraph limit bytes ≡ read.Ok g → (length bytes ≤ MAX_FILE_BYTES) × BigraphRead limit (filled_of bytes) g
+unfolding bigraph
+bigraph_from limit g bytes h =
+    let inside = length_within bytes (bigraph_lines limit (filled_of bytes)) g h in
+    (inside.short, lines_bigraph limit g (filled_of bytes) inside.read_as)
 
 -- what is known of it
 pub record BigraphRange (limit : ℕ) (g : BigraphValue) : Type 0 where
@@ -171,85 +181,96 @@ pub record BigraphRange (limit : ℕ) (g : BigraphValue) : Type 0 where
   pub left : g.left ≤ limit
   pub right : g.right ≤ MAX_COLUMNS
 
-pub bigraph_range : (limit : ℕ) → limit ≤ 65536 → (g : BigraphValue) (bytes : List ℕ) → bigraph limit bytes ≡ read.Ok g → BigraphRange limit g
-bigraph_range limit small g bytes h =
-    let r = bigraph_from limit g bytes h in
+pub bigraph_range : (limit : ℕ) (lines : List NumberedLine) (g : BigraphValue) → limit ≤ LEFT_BOUND → BigraphRead limit lines g → BigraphRange limit g
+bigraph_range limit lines g small r =
+    let edges = edges_of (Bipartite r.left r.right) r.later in
     rw r.is (record {
       bigraph = record {
         left = (r.sides.left.0, omega (arith, r.sides.left.1));
         right = (r.sides.right.0, omega (arith, r.sides.right.1));
-        lists = length-lists_from 1 r.left r.right r.edges;
-        ascending = All-from_recursion (IsRow r.right) (lists_from 1 r.left r.right r.edges) (lists_from-rows 1 r.left r.right r.edges);
+        lists = length-lists_from 1 r.left r.right edges;
+        ascending = All-from_recursion (IsRow r.right) (lists_from 1 r.left r.right edges) (lists_from-rows 1 r.left r.right edges);
       };
       left = r.sides.left.1;
       right = r.sides.right.1;
     })
 
--- a graph that a file gives, with the edges of its lines behind the first
+-- a graph that lines give
 pub record GraphRead (lines : List NumberedLine) (g : GraphValue) : Type 0 where
+  pub first : NumberedLine
+  pub later : List NumberedLine
+  pub are : lines ≡ first ∷ later
   pub vertices : ℕ
-  pub edges : List Edge
+  pub named : vertices_named (one_number (words_of first.text)) ≡ Ok (Plain vertices)
   pub some : 1 ≤ vertices
   pub few : vertices ≤ MAX_COLUMNS
-  pub items : edges_of (Plain vertices) lines ≡ Ok edges
-  pub is : g ≡ record { vertices = vertices; neighbours = lists_from 1 vertices vertices (both_ways edges) }
+  pub none : edge_refusal (Plain vertices) later ≡ None
+  pub is : g ≡ record { vertices = vertices; neighbours = lists_from 1 vertices vertices (both_ways (edges_of (Plain vertices) later)) }
 
-module _ (g : GraphValue) where
-  plain_graph : (n : ℕ) (lines : List NumberedLine) (edges : Result (List Edge) Refusal) → 1 ≤ n → n ≤ MAX_COLUMNS → edges_of (Plain n) lines ≡ edges → graph_with (Plain n) (lists_with (Plain n) edges) ≡ read.Ok g → GraphRead lines g
-  plain_graph n lines (Err refusal) some few e h = absurd (cc)
-  plain_graph n lines (Ok edges) some few e h = record { vertices = n; edges = edges; some = some; few = few; items = e; is = cc }
+module _ (g : GraphValue) (first : NumberedLine) (later : List NumberedLine) where
+  listed_plain : (n : ℕ) → vertices_named (one_number (words_of first.text)) ≡ Ok (Plain n) → 1 ≤ n → n ≤ MAX_COLUMNS
+      → (refusal : Option Refusal) → edge_refusal (Plain n) later ≡ refusal
+      → graph_with (Plain n) (refused_or refusal (record { columns = n; rows = lists_from 1 n n (both_ways (edges_of (Plain n) later)) })) ≡ read.Ok g
+      → GraphRead (first ∷ later) g
+  listed_plain n named some few (Some refusal) e h = absurd (cc)
+  listed_plain n named some few None e h = record { first = first; later = later; are = refl; vertices = n; named = named; some = some; few = few; none = e; is = cc }
 
-  named_vertices : (number : ℕ) (words : List (List ℕ)) (vertices : Result Shape ℕ) (lines : List NumberedLine) → vertices_named (one_number words) ≡ vertices → graph_behind number vertices lines ≡ read.Ok g → GraphRead lines g
-  named_vertices number words (Err code) lines e h = absurd (cc)
-  named_vertices number words (Ok shape) lines e h =
-      let v = vertices_within words shape e in
-      let named : graph_behind number (Ok (Plain v.vertices)) lines ≡ read.Ok g = ap (λ s. graph_behind number (Ok s) lines) (sym v.is) ∙ h in
-      plain_graph v.vertices lines (edges_of (Plain v.vertices) lines) v.some v.few refl named
+  headed_plain : (vertices : Result Shape ℕ) → vertices_named (one_number (words_of first.text)) ≡ vertices → graph_behind first.number vertices later ≡ read.Ok g → GraphRead (first ∷ later) g
+  headed_plain (Err code) e h = absurd (cc)
+  headed_plain (Ok shape) e h =
+      let v = vertices_within (words_of first.text) shape e in
+      listed_plain v.vertices (e ∙ ap (λ s. Ok s) v.is) v.some v.few (edge_refusal (Plain v.vertices) later) refl (ap (λ s. graph_behind first.number (Ok s) later) (sym v.is) ∙ h)
 
-  lines_vertices : (lines : List NumberedLine) → graph_lines lines ≡ read.Ok g → GraphRead (drop 1 lines) g
-  lines_vertices [] h = absurd (cc)
-  lines_vertices (first ∷ lines) h = named_vertices first.number (words_of first.text) (vertices_named (one_number (words_of first.text))) lines refl h
+lines_graph : (g : GraphValue) (lines : List NumberedLine) → graph_lines lines ≡ read.Ok g → GraphRead lines g
+lines_graph g [] h = absurd (cc)
+lines_graph g (first ∷ later) h = headed_plain g first later (vertices_named (one_number (words_of first.text))) refl h
 
-  pub graph_from : (bytes : List ℕ) → graph bytes ≡ read.Ok g → GraphRead (later_lines bytes) g
-  unfolding graph
-  graph_from bytes h = lines_vertices (file_lines bytes) (length_within bytes (graph_lines (file_lines bytes)) g h)
+pub graph_from : (g : GraphValue) (bytes : List ℕ) → graph bytes ≡ read.Ok g → (length bytes ≤ MAX_FILE_BYTES) × GraphRead (filled_of bytes) g
+unfolding graph
+graph_from g bytes h =
+    let inside = length_within bytes (graph_lines (filled_of bytes)) g h in
+    (inside.short, lines_graph g (filled_of bytes) inside.read_as)
 
 -- what is known of it
 pub record GraphRange (g : GraphValue) : Type 0 where
   pub graph : IsGraph g
   pub vertices : g.vertices ≤ MAX_COLUMNS
 
-pub graph_range : (g : GraphValue) (bytes : List ℕ) → graph bytes ≡ read.Ok g → GraphRange g
-graph_range g bytes h =
-    let r = graph_from g bytes h in
-    let m : RowList = record { columns = r.vertices; rows = lists_from 1 r.vertices r.vertices (both_ways r.edges) } in
-    let made : read.Ok m ≡ lists_with (Plain r.vertices) (edges_of (Plain r.vertices) (later_lines bytes)) = sym (ap (lists_with (Plain r.vertices)) r.items) in
-    let small : r.vertices ≤ 32768 = omega (arith, r.few) in
-    rw r.is (record { graph = is_graph (Plain r.vertices) r.vertices (later_lines bytes) m refl r.some small made; vertices = r.few })
+pub graph_range : (lines : List NumberedLine) (g : GraphValue) → GraphRead lines g → GraphRange g
+graph_range lines g r =
+    let edges = edges_of (Plain r.vertices) r.later in
+    let m : RowList = record { columns = r.vertices; rows = lists_from 1 r.vertices r.vertices (both_ways edges) } in
+    let made : read.Ok m ≡ lists_of_lines (Plain r.vertices) r.later = sym (ap (λ refusal. refused_or refusal m) r.none) in
+    let small : r.vertices ≤ COLUMN_BOUND = omega (arith, r.few) in
+    rw r.is (record { graph = is_graph (Plain r.vertices) r.vertices r.later m refl r.some small made; vertices = r.few })
 
--- a table of distances that a file gives
-pub record DistancesRange (d : DistancesValue) : Type 0 where
-  pub distances : IsDistances d
-  pub items : d.items ≤ MAX_ITEMS
+-- a table of distances that lines give
+pub record DistancesRead (lines : List NumberedLine) (d : DistancesValue) : Type 0 where
+  pub first : NumberedLine
+  pub later : List NumberedLine
+  pub are : lines ≡ first ∷ later
+  pub named : items_named (one_number (words_of first.text)) ≡ Ok d.items
+  pub within : (1 ≤ d.items) × (d.items ≤ MAX_ITEMS)
+  pub table : table_behind d.items 0 [] later ≡ Ok d.values
 
-module _ (d : DistancesValue) where
-  table_distances : (n : ℕ) (lines : List NumberedLine) (table : Result (List ℕ) Refusal) → (1 ≤ n) × (n ≤ MAX_ITEMS) → table_behind n 0 [] lines ≡ table → distances_with n table ≡ read.Ok d → DistancesRange d
-  table_distances n lines (Err refusal) items e h = absurd (cc)
-  table_distances n lines (Ok values) items e h =
+module _ (d : DistancesValue) (first : NumberedLine) (later : List NumberedLine) where
+  tabled : (n : ℕ) → items_named (one_number (words_of first.text)) ≡ Ok n → (1 ≤ n) × (n ≤ MAX_ITEMS) → (table : Result (List ℕ) Refusal) → table_behind n 0 [] later ≡ table
+      → distances_with n table ≡ read.Ok d → DistancesRead (first ∷ later) d
+  tabled n named within (Err refusal) e h = absurd (cc)
+  tabled n named within (Ok values) e h =
       let is : (record { items = n; values = values }) ≡ d = cc in
-      record {
-        distances = subst IsDistances is (are_distances n lines values items.0 (omega (arith, items.1)) e);
-        items = rw (← is) items.1;
-      }
+      subst (DistancesRead (first ∷ later)) is (record { first = first; later = later; are = refl; named = named; within = within; table = e })
 
-  named_items : (number : ℕ) (words : List (List ℕ)) (items : Result ℕ ℕ) (lines : List NumberedLine) → items_named (one_number words) ≡ items → distances_behind number items lines ≡ read.Ok d → DistancesRange d
-  named_items number words (Err code) lines e h = absurd (cc)
-  named_items number words (Ok n) lines e h = table_distances n lines (table_behind n 0 [] lines) (items_within words n e) refl h
+  headed_items : (items : Result ℕ ℕ) → items_named (one_number (words_of first.text)) ≡ items → distances_behind first.number items later ≡ read.Ok d → DistancesRead (first ∷ later) d
+  headed_items (Err code) e h = absurd (cc)
+  headed_items (Ok n) e h = tabled n e (items_within (words_of first.text) n e) (table_behind n 0 [] later) refl h
 
-  lines_distances : (lines : List NumberedLine) → distances_lines lines ≡ read.Ok d → DistancesRange d
-  lines_distances [] h = absurd (cc)
-  lines_distances (first ∷ lines) h = named_items first.number (words_of first.text) (items_named (one_number (words_of first.text))) lines refl h
+lines_distances : (d : DistancesValue) (lines : List NumberedLine) → distances_lines lines ≡ read.Ok d → DistancesRead lines d
+lines_distances d [] h = absurd (cc)
+lines_distances d (first ∷ later) h = headed_items d first later (items_named (one_number (words_of first.text))) refl h
 
-  pub distances_range : (bytes : List ℕ) → distances bytes ≡ read.Ok d → DistancesRange d
-  unfolding distances
-  distances_range bytes h = lines_distances (filled_lines 1 (lines_of (without_mark bytes))) (length_within bytes (distances_lines (filled_lines 1 (lines_of (without_mark bytes)))) d h)
+pub distances_from : (d : DistancesValue) (bytes : List ℕ) → distances bytes ≡ read.Ok d → (length bytes ≤ MAX_FILE_BYTES) × DistancesRead (filled_of bytes) d
+unfolding distances
+distances_from d bytes h =
+    let inside = length_within bytes (distances_lines (filled_of bytes)) d h in
+    (inside.short, lines_distances d (filled_of bytes) inside.read_as)

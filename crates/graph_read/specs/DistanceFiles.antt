@@ -3,14 +3,14 @@ use Rattle.std.specs.Prelude.{ℕ, zero, suc, ◌+◌, ◌-◌, ◌==◌, ◌&&�
 use Rattle.row_model.specs.declared.refusal.Refusal.{Refusal}
 use Rattle.row_model.specs.declared.refusal.Read.{Read}
 use Rattle.row_model.specs.declared.refusal.Read.TheVariants as read
+use Rattle.row_model.specs.Limits.{within_length}
+use Rattle.row_model.specs.declared.TheConstants.{MAX_ITEMS}
 use Rattle.row_model.specs.declared.code.TheConstants.{EMPTY, GRAMMAR, COUNT, RANGE, SYMMETRY, LIMIT}
 use Rattle.matrix_read.specs.Lines.{NumberedLine, without_mark, lines_of, filled_lines}
 use Rattle.matrix_read.specs.Words.{words_of, numeral_of}
 use Rattle.matrix_read.specs.declared.words.Numeral.{Numeral}
 use Rattle.matrix_read.specs.declared.words.Numeral.TheVariants.{Value, TooLarge, NotDigits}
-pub use Rattle.graph_read.specs.declared.distance_files.TheConstants.{MAX_ITEMS}
 use Rattle.graph_read.specs.Distances.{DistancesValue, distance}
-use Rattle.graph_read.specs.Items.{with_item, within_length}
 use Rattle.graph_read.specs.Numbers.{is_zero, is_past, value_of, one_number}
 
 -- a distance behind others, or the code of its refusal: a number of 64 bits
@@ -44,10 +44,15 @@ with_row n whole x (Err code) = Err code
 abbrev pub row_behind : ℕ → ℕ → List ℕ → List ℕ → Result (List ℕ) ℕ
 row_behind n x values line = if nat_le n x then Err COUNT else with_row n (length values + n) (x + 1) (numbers_behind values (words_of line))
 
+-- the refusal of the line of this number by its code, or what follows from the table with its row
+abbrev pub with_table : Result (List ℕ) ℕ → ℕ → (List ℕ → Result (List ℕ) Refusal) → Result (List ℕ) Refusal
+with_table (Ok values) number rest = rest values
+with_table (Err code) number rest = Err (record { code = code; line = number })
+
 -- the table of lines behind the rows of so many items, or the first refusal
 unfoldable pub table_behind : ℕ → ℕ → List ℕ → List NumberedLine → Result (List ℕ) Refusal
 table_behind n x values [] = if nat_le n x then Ok values else Err (record { code = COUNT; line = 0 })
-table_behind n x values (line ∷ lines) = with_item (row_behind n x values line.text) line.number (λ more. table_behind n (x + 1) more lines)
+table_behind n x values (line ∷ lines) = with_table (row_behind n x values line.text) line.number (λ more. table_behind n (x + 1) more lines)
 
 -- the number of items, or the code of its refusal
 abbrev pub items_named : Option Numeral → Result ℕ ℕ

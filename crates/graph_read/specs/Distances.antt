@@ -1,5 +1,6 @@
 -- A table of distances as contracts see it.
 use Rattle.std.specs.Prelude.{◌≡◌, ℕ, ◌+◌, ◌-◌, ◌*◌, ◌≤◌, List, length, slice_index_or}
+use Rattle.graph_read.specs.declared.TheConstants.{ITEM_BOUND}
 
 -- the number of items, and the distances row by row, each row from left to right
 pub record DistancesValue : Type 0 where
@@ -20,7 +21,7 @@ HasZeroDiagonal n values = (x : ℕ) → 1 ≤ x → x ≤ n → distance n valu
 
 -- a number of items within its range, and a whole table, symmetric with a zero diagonal
 pub record IsDistances (d : DistancesValue) : Type 0 where
-  pub items : (1 ≤ d.items) × (d.items ≤ 4096)
+  pub items : (1 ≤ d.items) × (d.items ≤ ITEM_BOUND)
   pub whole : length d.values ≡ d.items * d.items
   pub symmetric : IsSymmetric d.items d.values
   pub zero_diagonal : HasZeroDiagonal d.items d.values

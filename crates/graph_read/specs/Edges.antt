@@ -3,13 +3,11 @@ use Rattle.std.specs.Prelude.{ℕ, zero, suc, ◌+◌, ◌==◌, ◌&&◌, ◌||
 use Rattle.row_model.specs.Rows.{RowList}
 use Rattle.row_model.specs.declared.refusal.Refusal.{Refusal}
 use Rattle.row_model.specs.declared.refusal.Read.{Read}
-use Rattle.row_model.specs.declared.refusal.Read.TheVariants as read
 use Rattle.row_model.specs.declared.TheConstants.{MAX_COLUMNS}
 use Rattle.row_model.specs.declared.code.TheConstants.{GRAMMAR, RANGE, SYMMETRY, LIMIT}
 use Rattle.matrix_read.specs.Words.{words_of}
 use Rattle.matrix_read.specs.Lines.{NumberedLine}
-use Rattle.matrix_read.specs.Rows.{columns_among}
-use Rattle.graph_read.specs.Items.{items_behind}
+use Rattle.matrix_read.specs.Rows.{columns_among, first_refusal, refused_or}
 use Rattle.graph_read.specs.Numbers.{is_zero, is_past, is_within, value_of, two_numbers}
 use Rattle.matrix_read.specs.declared.words.Numeral.{Numeral}
 use Rattle.graph_read.specs.declared.numbers.NumberPair.{NumberPair}
@@ -27,6 +25,11 @@ abbrev pub right_of : Shape → ℕ
 right_of (Bipartite left right) = right
 right_of (Plain vertices) = vertices
 
+-- the code of a refusal, if there is one
+abbrev pub refused_as : Result Edge ℕ → Option ℕ
+refused_as (Ok edge) = None
+refused_as (Err code) = Some code
+
 -- an edge, or the code of its refusal as a loop
 abbrev pub unless_loop : Shape → Edge → Result Edge ℕ
 unless_loop (Bipartite left right) edge = Ok edge
@@ -40,9 +43,23 @@ edge_named shape (Some pair) =
     then unless_loop shape (record { from = value_of pair.first; to = value_of pair.second })
     else Err RANGE
 
--- the edge of a line, whatever the edges before it
-abbrev pub edge_of : Shape → List Edge → List ℕ → Result Edge ℕ
-edge_of shape before line = edge_named shape (two_numbers (words_of line))
+-- the code by which a line is refused as an edge, if it is
+abbrev pub edge_code : Shape → List ℕ → Option ℕ
+edge_code shape line = refused_as (edge_named shape (two_numbers (words_of line)))
+
+-- an edge before others, where a line names one
+abbrev pub edge_before : Result Edge ℕ → List Edge → List Edge
+edge_before (Ok edge) edges = edge ∷ edges
+edge_before (Err code) edges = edges
+
+-- the edges that lines name
+abbrev pub edges_of : Shape → List NumberedLine → List Edge
+edges_of shape [] = []
+edges_of shape (line ∷ lines) = edge_before (edge_named shape (two_numbers (words_of line.text))) (edges_of shape lines)
+
+-- the first refusal among lines each of which is an edge, if there is one
+abbrev pub edge_refusal : Shape → List NumberedLine → Option Refusal
+edge_refusal shape lines = first_refusal (λ before line. edge_code shape line) 0 lines
 
 -- edges both ways
 abbrev pub both_ways : List Edge → List Edge
@@ -62,20 +79,15 @@ ends_from x (edge ∷ edges) = if edge.from == x then edge.to ∷ ends_from x ed
 -- the lists of so many vertices from x on: of the vertices 1 to c those that the edges from it go to, ascending
 abbrev pub lists_from : ℕ → ℕ → ℕ → List Edge → List (List ℕ)
 lists_from x zero c edges = []
-lists_from x (suc n) c edges = columns_among 1 c (ends_from x edges) ∷ lists_from (x + 1) n c edges
+lists_from x (suc n) c edges = columns_among c (ends_from x edges) ∷ lists_from (x + 1) n c edges
 
 -- the list of each vertex
 abbrev pub lists_of : Shape → List Edge → List (List ℕ)
 lists_of shape edges = lists_from 1 (left_of shape) (right_of shape) (ways shape edges)
 
--- the edges of lines, or their first refusal
-abbrev pub edges_of : Shape → List NumberedLine → Result (List Edge) Refusal
-edges_of shape lines = items_behind (edge_of shape) [] lines
-
--- the lists of edges, or the refusal
-abbrev pub lists_with : Shape → Result (List Edge) Refusal → Read RowList
-lists_with shape (Ok edges) = read.Ok (record { columns = right_of shape; rows = lists_of shape edges })
-lists_with shape (Err refusal) = read.Refused refusal
+-- the lists of the edges of lines, or the first refusal
+abbrev pub lists_of_lines : Shape → List NumberedLine → Read RowList
+lists_of_lines shape lines = refused_or (edge_refusal shape lines) (record { columns = right_of shape; rows = lists_of shape (edges_of shape lines) })
 
 -- the sides that two numbers name, or the code of their refusal; the left side has at most so many vertices
 abbrev pub sides_named : ℕ → Option NumberPair → Result Shape ℕ

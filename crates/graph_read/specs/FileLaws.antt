@@ -1,16 +1,18 @@
 -- What files give, in the words of graphs and of tables.
-use Rattle.std.specs.Prelude.{◌≡◌, ◌≢◌, ℕ, ◌≤◌, ◌==◌, ◌||◌, ◌&&◌, Bool, false, List, [], ◌∷◌, length, drop, Option, Some, None, All}
+use Rattle.std.specs.Prelude.{◌≡◌, ◌≢◌, ◌↔◌, ℕ, ◌+◌, ◌*◌, ◌≤◌, ◌==◌, ◌||◌, ◌&&◌, Bool, false, List, [], ◌∷◌, length, map, slice_get, slice_range, Option, Some, None, All}
 use Rattle.row_model.specs.declared.refusal.Read.TheVariants as read
-use Rattle.row_model.specs.declared.TheConstants.{MAX_COLUMNS, MAX_FILE_BYTES}
-use Rattle.matrix_read.specs.Lines.{NumberedLine, without_mark, lines_of, filled_lines}
-use Rattle.matrix_read.specs.Words.{words_of}
+use Rattle.row_model.specs.declared.TheConstants.{MAX_COLUMNS, MAX_FILE_BYTES, MAX_ITEMS}
+use Rattle.matrix_read.specs.Lines.{NumberedLine}
+use Rattle.matrix_read.specs.Refusals.{filled_of}
+use Rattle.matrix_read.specs.Words.{words_of, numeral_of}
 use Rattle.matrix_read.specs.declared.words.Numeral.{Numeral}
 use Rattle.matrix_read.specs.declared.words.Numeral.TheVariants.{Value, TooLarge, NotDigits}
 use Rattle.graph_read.specs.Graphs.{has_edge, BigraphValue, IsBigraph, GraphValue, IsGraph}
 use Rattle.graph_read.specs.Distances.{DistancesValue, IsDistances}
 use Rattle.graph_read.specs.Numbers.{one_number, two_numbers}
 use Rattle.graph_read.specs.GraphFiles.{bigraph, graph}
-use Rattle.graph_read.specs.DistanceFiles.{MAX_ITEMS, distances}
+use Rattle.graph_read.specs.DistanceFiles.{distances}
+use Rattle.graph_read.specs.declared.TheConstants.{LEFT_BOUND}
 use Rattle.graph_read.specs.declared.numbers.NumberPair.{NumberPair}
 
 -- whether a number is n
@@ -29,39 +31,6 @@ abbrev pub names_edge : List NumberedLine → ℕ → ℕ → Bool
 names_edge [] x y = false
 names_edge (line ∷ lines) x y = are_values x y (two_numbers (words_of line.text)) || names_edge lines x y
 
--- the lines of a file that are not blank
-abbrev pub file_lines : List ℕ → List NumberedLine
-file_lines bytes = filled_lines 1 (lines_of (without_mark bytes))
-
--- those behind the first of them
-abbrev pub later_lines : List ℕ → List NumberedLine
-later_lines bytes = drop 1 (file_lines bytes)
-
--- a bipartite graph within the limits, in which x has an edge to y exactly where a line behind the first names the two
-pub record IsBigraphOf (limit : ℕ) (bytes : List ℕ) (g : BigraphValue) : Type 0 where
-  pub bigraph : IsBigraph g
-  pub left : g.left ≤ limit
-  pub right : g.right ≤ MAX_COLUMNS
-  pub edges : (x y : ℕ) → 1 ≤ x → x ≤ g.left → 1 ≤ y → y ≤ g.right → has_edge g.neighbours x y ≡ names_edge (later_lines bytes) x y
-
--- so is every bipartite graph that a file gives
-abbrev pub BigraphLaw : Type 0
-BigraphLaw = (limit : ℕ) (bytes : List ℕ) (g : BigraphValue) → limit ≤ 65536 → bigraph limit bytes ≡ read.Ok g → IsBigraphOf limit bytes g
-
--- a graph within the limit, in which u and v are neighbours exactly where a line behind the first names the two, either way round
-pub record IsGraphOf (bytes : List ℕ) (g : GraphValue) : Type 0 where
-  pub graph : IsGraph g
-  pub vertices : g.vertices ≤ MAX_COLUMNS
-  pub edges : (u v : ℕ) → 1 ≤ u → u ≤ g.vertices → 1 ≤ v → v ≤ g.vertices → has_edge g.neighbours u v ≡ (names_edge (later_lines bytes) u v || names_edge (later_lines bytes) v u)
-
--- so is every graph that a file gives
-abbrev pub GraphLaw : Type 0
-GraphLaw = (bytes : List ℕ) (g : GraphValue) → graph bytes ≡ read.Ok g → IsGraphOf bytes g
-
--- every table that a file gives is symmetric with a zero diagonal, and within the limit
-abbrev pub DistancesLaw : Type 0
-DistancesLaw = (bytes : List ℕ) (d : DistancesValue) → distances bytes ≡ read.Ok d → IsDistances d × (d.items ≤ MAX_ITEMS)
-
 -- a line that is exactly an x and a y of two sides of these sizes
 abbrev pub IsEdgeLine : ℕ → ℕ → NumberedLine → Type 0
 IsEdgeLine left right line =
@@ -76,16 +45,17 @@ pub record WritesBigraph (lines : List NumberedLine) (g : BigraphValue) : Type 0
   pub within : All (IsEdgeLine g.left g.right) later
   pub edges : (x y : ℕ) → 1 ≤ x → x ≤ g.left → 1 ≤ y → y ≤ g.right → has_edge g.neighbours x y ≡ names_edge later x y
 
--- a file with such lines is read as this graph, within the limits
-abbrev pub WrittenBigraphLaw : Type 0
-WrittenBigraphLaw =
-    (limit : ℕ) (bytes : List ℕ) (g : BigraphValue) →
-    IsBigraph g →
-    g.left ≤ limit →
-    g.right ≤ MAX_COLUMNS →
-    length bytes ≤ MAX_FILE_BYTES →
-    WritesBigraph (file_lines bytes) g →
-    bigraph limit bytes ≡ read.Ok g
+-- a bipartite graph within the limits, and bytes within theirs, whose lines that are not blank write it
+pub record IsBigraphFile (limit : ℕ) (bytes : List ℕ) (g : BigraphValue) : Type 0 where
+  pub bigraph : IsBigraph g
+  pub left : g.left ≤ limit
+  pub right : g.right ≤ MAX_COLUMNS
+  pub short : length bytes ≤ MAX_FILE_BYTES
+  pub writes : WritesBigraph (filled_of bytes) g
+
+-- a file gives a bipartite graph exactly where it writes it
+abbrev pub BigraphLaw : Type 0
+BigraphLaw = (limit : ℕ) (bytes : List ℕ) (g : BigraphValue) → limit ≤ LEFT_BOUND → (bigraph limit bytes ≡ read.Ok g) ↔ IsBigraphFile limit bytes g
 
 -- a line that is exactly two different vertices of so many
 abbrev pub IsPairLine : ℕ → NumberedLine → Type 0
@@ -101,12 +71,37 @@ pub record WritesGraph (lines : List NumberedLine) (g : GraphValue) : Type 0 whe
   pub within : All (IsPairLine g.vertices) later
   pub edges : (u v : ℕ) → 1 ≤ u → u ≤ g.vertices → 1 ≤ v → v ≤ g.vertices → has_edge g.neighbours u v ≡ (names_edge later u v || names_edge later v u)
 
--- a file with such lines is read as this graph, within the limit
-abbrev pub WrittenGraphLaw : Type 0
-WrittenGraphLaw =
-    (bytes : List ℕ) (g : GraphValue) →
-    IsGraph g →
-    g.vertices ≤ MAX_COLUMNS →
-    length bytes ≤ MAX_FILE_BYTES →
-    WritesGraph (file_lines bytes) g →
-    graph bytes ≡ read.Ok g
+-- a graph within the limit, and bytes within theirs, whose lines that are not blank write it
+pub record IsGraphFile (bytes : List ℕ) (g : GraphValue) : Type 0 where
+  pub graph : IsGraph g
+  pub vertices : g.vertices ≤ MAX_COLUMNS
+  pub short : length bytes ≤ MAX_FILE_BYTES
+  pub writes : WritesGraph (filled_of bytes) g
+
+-- a file gives a graph exactly where it writes it
+abbrev pub GraphLaw : Type 0
+GraphLaw = (bytes : List ℕ) (g : GraphValue) → (graph bytes ≡ read.Ok g) ↔ IsGraphFile bytes g
+
+-- the distances of item x + 1 to all items
+abbrev pub row_of : DistancesValue → ℕ → List ℕ
+row_of d x = slice_range d.values (x * d.items) (x * d.items + d.items)
+
+-- lines that write a table of distances: the number of items, and behind it a line for each row, which is exactly its numbers
+pub record WritesDistances (lines : List NumberedLine) (d : DistancesValue) : Type 0 where
+  pub first : NumberedLine
+  pub later : List NumberedLine
+  pub are : lines ≡ first ∷ later
+  pub size : one_number (words_of first.text) ≡ Some (Value d.items)
+  pub count : length later ≡ d.items
+  pub rows : (x : ℕ) (line : NumberedLine) → slice_get later x ≡ Some line → map numeral_of (words_of line.text) ≡ map (λ n. Value n) (row_of d x)
+
+-- a table of distances within the limit, and bytes within theirs, whose lines that are not blank write it
+pub record IsDistancesFile (bytes : List ℕ) (d : DistancesValue) : Type 0 where
+  pub distances : IsDistances d
+  pub items : d.items ≤ MAX_ITEMS
+  pub short : length bytes ≤ MAX_FILE_BYTES
+  pub writes : WritesDistances (filled_of bytes) d
+
+-- a file gives a table of distances exactly where it writes it
+abbrev pub DistancesLaw : Type 0
+DistancesLaw = (bytes : List ℕ) (d : DistancesValue) → (distances bytes ≡ read.Ok d) ↔ IsDistancesFile bytes d

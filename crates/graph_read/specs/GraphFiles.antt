@@ -1,5 +1,6 @@
 -- The graphs that files write.
 use Rattle.std.specs.Prelude.{ℕ, List, [], ◌∷◌, Result, Ok, Err}
+use Rattle.row_model.specs.Limits.{within_length}
 use Rattle.row_model.specs.Rows.{RowList}
 use Rattle.row_model.specs.declared.refusal.Read.{Read}
 use Rattle.row_model.specs.declared.refusal.Read.TheVariants as read
@@ -7,9 +8,8 @@ use Rattle.row_model.specs.declared.code.TheConstants.{EMPTY}
 use Rattle.matrix_read.specs.Lines.{NumberedLine, without_mark, lines_of, filled_lines}
 use Rattle.matrix_read.specs.Words.{words_of}
 use Rattle.graph_read.specs.Graphs.{BigraphValue, GraphValue}
-use Rattle.graph_read.specs.Items.{within_length}
 use Rattle.graph_read.specs.Numbers.{one_number, two_numbers}
-use Rattle.graph_read.specs.Edges.{left_of, right_of, edges_of, lists_with, sides_named, vertices_named}
+use Rattle.graph_read.specs.Edges.{left_of, right_of, lists_of_lines, sides_named, vertices_named}
 use Rattle.graph_read.specs.declared.edges.Shape.{Shape}
 
 -- the bipartite graph with these lists, or the refusal
@@ -19,7 +19,7 @@ bigraph_with shape (read.Refused refusal) = read.Refused refusal
 
 -- the bipartite graph of the lines behind a first one, which has this number, or the first refusal
 abbrev pub bigraph_behind : ℕ → Result Shape ℕ → List NumberedLine → Read BigraphValue
-bigraph_behind number (Ok shape) lines = bigraph_with shape (lists_with shape (edges_of shape lines))
+bigraph_behind number (Ok shape) lines = bigraph_with shape (lists_of_lines shape lines)
 bigraph_behind number (Err code) lines = read.Refused (record { code = code; line = number })
 
 -- the bipartite graph of lines that are not blank, or their first refusal
@@ -38,7 +38,7 @@ graph_with shape (read.Refused refusal) = read.Refused refusal
 
 -- the graph of the lines behind a first one, which has this number, or the first refusal
 abbrev pub graph_behind : ℕ → Result Shape ℕ → List NumberedLine → Read GraphValue
-graph_behind number (Ok shape) lines = graph_with shape (lists_with shape (edges_of shape lines))
+graph_behind number (Ok shape) lines = graph_with shape (lists_of_lines shape lines)
 graph_behind number (Err code) lines = read.Refused (record { code = code; line = number })
 
 -- the graph of lines that are not blank, or their first refusal

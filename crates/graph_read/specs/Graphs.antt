@@ -1,7 +1,9 @@
 -- Graphs as contracts see them: for each vertex, the list of the vertices that it has an edge to.
 use Rattle.std.specs.Prelude.{◌≡◌, ℕ, suc, ◌≤◌, ◌-◌, ◌==◌, ◌||◌, ◌&&◌, nat_lt, Bool, false, List, [], ◌∷◌, length, if◌then◌else◌, slice_index_or, All}
 use Rattle.column_order.specs.Orders.{has}
+use Rattle.column_order.specs.declared.TheConstants.{COLUMN_BOUND}
 use Rattle.row_model.specs.Rows.{IsRow}
+use Rattle.graph_read.specs.declared.TheConstants.{LEFT_BOUND}
 
 -- whether x, which has the x-th list, from 1, has an edge to y
 abbrev pub has_edge : List (List ℕ) → ℕ → ℕ → Bool
@@ -24,8 +26,8 @@ pub record BigraphValue : Type 0 where
 
 -- sizes within their ranges, and for each x a strictly ascending list of ys
 pub record IsBigraph (g : BigraphValue) : Type 0 where
-  pub left : (1 ≤ g.left) × (g.left ≤ 65536)
-  pub right : (1 ≤ g.right) × (g.right ≤ 32768)
+  pub left : (1 ≤ g.left) × (g.left ≤ LEFT_BOUND)
+  pub right : (1 ≤ g.right) × (g.right ≤ COLUMN_BOUND)
   pub lists : length g.neighbours ≡ g.left
   pub ascending : All (IsRow g.right) g.neighbours
 
@@ -37,7 +39,7 @@ pub record GraphValue : Type 0 where
 -- a number of vertices within its range, and for each vertex a strictly ascending list of neighbours; a neighbour has
 -- the vertex as a neighbour, and no vertex is its own
 pub record IsGraph (g : GraphValue) : Type 0 where
-  pub vertices : (1 ≤ g.vertices) × (g.vertices ≤ 32768)
+  pub vertices : (1 ≤ g.vertices) × (g.vertices ≤ COLUMN_BOUND)
   pub lists : length g.neighbours ≡ g.vertices
   pub ascending : All (IsRow g.vertices) g.neighbours
   pub symmetric : (u v : ℕ) → 1 ≤ u → 1 ≤ v → has_edge g.neighbours u v ≡ has_edge g.neighbours v u

@@ -1,10 +1,10 @@
 pub mod Graphs
 pub mod Distances
 pub mod Inside
-pub mod Items
 pub mod Numbers
 pub mod Edges
 pub mod Places
 pub mod GraphFiles
 pub mod DistanceFiles
 pub mod FileLaws
+pub mod RefusalLaws

@@ -3,12 +3,14 @@ ghost use Rattle.std.specs.Prelude.{◌≡◌, ◌≤◌, ◌-◌, [], Some, len
 ghost use Rattle.row_model.specs.Rows.{IsRow};
 ghost use Rattle.graph_read.specs.Graphs.{has_edge, HasOneMore, IsBigraph};
 
+use crate::LEFT_BOUND;
 use crate::lists::{empty_lists, with_edge};
-use row_model::Matrix;
-use std::alloc::{AllocError, Global};
+use row_model::{COLUMN_BOUND, Matrix, NoMemory};
+use std::alloc::Global;
 use std::marker::Model;
 
-/// A bipartite graph: a left side of 1 to 65,536 xs, a right side of 1 to 32,768 ys, and for each x the strictly
+/// A bipartite graph: a left side of 1 to [`LEFT_BOUND`] xs, a right side of 1 to
+/// [`COLUMN_BOUND`](row_model::COLUMN_BOUND) ys, and for each x the strictly
 /// ascending list of the ys that it has an edge to.
 ///
 /// The lists lie one after another, so a graph takes four bytes for each edge and eight for each x. Contracts know
@@ -33,9 +35,13 @@ impl Model for Bigraph {
 
 impl Bigraph {
     /// A graph of these sizes without an edge.
-    pub fn new(alloc: Global, left: u32, right: u32) -> Result<Self, AllocError>
-        requires left { (1 ≤ left) × (left ≤ 65536) }
-        requires right { (1 ≤ right) × (right ≤ 32768) }
+    ///
+    /// # Errors
+    ///
+    /// [`NoMemory`] where memory is refused.
+    pub fn new(alloc: Global, left: u32, right: u32) -> Result<Self, NoMemory>
+        requires left { (1 ≤ left) × (left ≤ LEFT_BOUND) }
+        requires right { (1 ≤ right) × (right ≤ COLUMN_BOUND) }
         ensures { IfOk result (λ g. g ≡ record { left = left; right = right; neighbours = replicate left [] }) }
     {
         let lists = empty_lists(alloc, left, right)?;
@@ -50,11 +56,15 @@ impl Bigraph {
         Bigraph { alloc, lists }
     }
 
-    /// Adds the edge from `x` to `y`; one that is there stays. On an error the graph is as before.
+    /// Adds the edge from `x` to `y`; one that is there stays.
     ///
     /// A new edge takes time in proportion to the size of the graph, and until it stands the memory of one graph more.
     /// [`read_bigraph`](crate::read_bigraph) makes a graph with all its edges at once.
-    pub fn add_edge(&mut self, x: u32, y: u32) -> Result<(), AllocError>
+    ///
+    /// # Errors
+    ///
+    /// [`NoMemory`] where memory is refused. The graph is as before then.
+    pub fn add_edge(&mut self, x: u32, y: u32) -> Result<(), NoMemory>
         requires x { (1 ≤ x) × (x ≤ self.old.left) }
         requires y { (1 ≤ y) × (y ≤ self.old.right) }
         ensures left { self.new.left ≡ self.old.left }
@@ -79,7 +89,7 @@ impl Bigraph {
     /// The number of ys.
     pub fn right(&self) -> u32
         ensures right { result ≡ self.now.right }
-        ensures range { (1 ≤ result) × (result ≤ 32768) }
+        ensures range { (1 ≤ result) × (result ≤ COLUMN_BOUND) }
     {
         self.lists.columns()
     }

@@ -9,16 +9,13 @@ use crate::distances::Distances;
 use crate::graph_files::refusal;
 use crate::numbers::{is_past, is_zero, one_number, value_of};
 use matrix_read::{Numeral, next_filled_line, next_word, number, without_mark};
-use row_model::{MAX_FILE_BYTES, Read, Refusal, code};
-use std::alloc::{AllocError, Global};
-
-// The greatest number of items of a file.
-const MAX_ITEMS: u32 = 256;
+use row_model::{MAX_FILE_BYTES, MAX_ITEMS, NoMemory, Read, Refusal, code};
+use std::alloc::Global;
 
 // The number of items that a first line gives, or the code of its refusal.
 fn items_in(line: &[u8]) -> Result<u32, u8>
     ensures items { result ≡ items_named (one_number (words_of line.now)) }
-    ensures range { IfOk result (λ n. (1 ≤ n) × (n ≤ 256)) }
+    ensures range { IfOk result (λ n. (1 ≤ n) × (n ≤ MAX_ITEMS)) }
 {
     let Some(number) = one_number(line) else {
         return Err(code::GRAMMAR);
@@ -33,7 +30,7 @@ fn items_in(line: &[u8]) -> Result<u32, u8>
 }
 
 // Adds the numbers of a line, or gives the code of the first word that is refused.
-fn push_numbers(line: &[u8], values: &mut Vec<u64>) -> Result<Option<u8>, AllocError>
+fn push_numbers(line: &[u8], values: &mut Vec<u64>) -> Result<Option<u8>, NoMemory>
     ensures refused { IfOk result (λ code. IfSome code (λ code. numbers_behind values.old.items (words_of line.now) ≡ Err code)) }
     ensures numbers { IfOk result (λ code. IfNone code (numbers_behind values.old.items (words_of line.now) ≡ Ok values.new.items)) }
 {
@@ -51,7 +48,7 @@ fn push_numbers(line: &[u8], values: &mut Vec<u64>) -> Result<Option<u8>, AllocE
 
 // Whether the row of x, which counts from 1, is symmetric with the rows above it, and has 0 at x.
 fn is_row(values: &[u64], n: usize, x: usize) -> bool
-    requires items { n ≤ 256 }
+    requires items { n ≤ MAX_ITEMS }
     requires row { (1 ≤ x) × (x ≤ n) }
     requires whole { length values.now ≡ x * n }
     ensures { result ≡ is_row_at n values.now x }
@@ -69,7 +66,7 @@ fn is_row(values: &[u64], n: usize, x: usize) -> bool
 
 // The code by which a table is refused behind the row of x, if it is, where a whole row makes it so long.
 fn row_code(values: &[u64], n: usize, whole: usize, x: usize) -> Option<u8>
-    requires items { n ≤ 256 }
+    requires items { n ≤ MAX_ITEMS }
     requires row { (1 ≤ x) × (x ≤ n) }
     requires whole { whole ≡ x * n }
     ensures refused { IfSome result (λ code. with_row n whole x (Ok values.now) ≡ Err code) }
@@ -87,13 +84,8 @@ fn row_code(values: &[u64], n: usize, whole: usize, x: usize) -> Option<u8>
 }
 
 // Adds the row of a line behind the rows of x items, or gives the code of its refusal.
-fn push_row(
-    line: &[u8],
-    n: usize,
-    x: usize,
-    values: &mut Vec<u64>,
-) -> Result<Option<u8>, AllocError>
-    requires items { n ≤ 256 }
+fn push_row(line: &[u8], n: usize, x: usize, values: &mut Vec<u64>) -> Result<Option<u8>, NoMemory>
+    requires items { n ≤ MAX_ITEMS }
     requires rows { x ≤ n }
     requires whole { length values.old.items ≡ x * n }
     ensures refused { IfOk result (λ code. IfSome code (λ code. row_behind n x values.old.items line.now ≡ Err code)) }
@@ -117,11 +109,11 @@ fn push_rows(
     passed: u32,
     n: usize,
     values: &mut Vec<u64>,
-) -> Result<Option<Refusal>, AllocError>
+) -> Result<Option<Refusal>, NoMemory>
     requires short { length text.now ≤ MAX_FILE_BYTES }
     requires at { at ≤ length text.now }
     requires passed { passed ≤ at }
-    requires items { n ≤ 256 }
+    requires items { n ≤ MAX_ITEMS }
     requires empty { values.old.items ≡ [] }
     ensures refused { IfOk result (λ r. IfSome r (λ refusal. table_behind n 0 [] (filled_lines (passed + 1) (lines_of (drop at text.now))) ≡ Err refusal)) }
     ensures table { IfOk result (λ r. IfNone r (table_behind n 0 [] (filled_lines (passed + 1) (lines_of (drop at text.now))) ≡ Ok values.new.items)) }
@@ -150,15 +142,22 @@ fn push_rows(
 
 /// Reads distances from the bytes of a file: a line with the number of items, and a line for each row of the table.
 ///
-/// Blank lines are passed over, and they count for line numbers. The first line has one number n, from 1 to 256. Each of
+/// Blank lines are passed over, and they count for line numbers. The first line has one number n, from 1 to
+/// [`MAX_ITEMS`](row_model::MAX_ITEMS). Each of
 /// the n later lines has n numbers of 64 bits: the distances of one item to all. The table is symmetric, and the distance
 /// of an item to itself is 0. A byte order mark at the start is passed over.
 ///
 /// A file that breaks a rule gives its first refusal. The length of the file comes first, then a file without a line, and
 /// then line for line from the first on. A row is judged by the number of rows before it, then word for word from the
-/// left, by the number of its words, and by the rows above it. Last come rows that are missing. The error is want of
-/// memory. The time is linear in the length of the file, and the memory is that of the table.
-pub fn read_distances(alloc: Global, bytes: &[u8]) -> Result<Read<Distances>, AllocError>
+/// left, by the number of its words, and by the rows above it. Last come rows that are missing.
+///
+/// The time is linear in the length of the file. The numbers of a line are kept until it is judged, eight bytes each, and
+/// those of the table stay.
+///
+/// # Errors
+///
+/// [`NoMemory`] where memory is refused.
+pub fn read_distances(alloc: Global, bytes: &[u8]) -> Result<Read<Distances>, NoMemory>
     ensures { IfOk result (λ read. read ≡ distances bytes.now) }
 {
     if bytes.len() as u64 > MAX_FILE_BYTES {

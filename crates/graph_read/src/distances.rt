@@ -2,10 +2,12 @@
 ghost use Rattle.std.specs.Prelude.{◌≡◌, ◌≤◌, ◌*◌, length, IfOk};
 ghost use Rattle.graph_read.specs.Distances.{distance, IsSymmetric, HasZeroDiagonal, IsDistances};
 
-use std::alloc::{AllocError, Global};
+use crate::ITEM_BOUND;
+use row_model::NoMemory;
+use std::alloc::Global;
 use std::marker::Model;
 
-/// The distances between 1 to 4,096 items: a symmetric table with a zero diagonal, kept row by row, eight bytes a distance.
+/// The distances between 1 to [`ITEM_BOUND`] items: a symmetric table with a zero diagonal, kept row by row, eight bytes a distance.
 ///
 /// Contracts know `IsDistances` of every table, by [`items`](Distances::items).
 #[derive(Drop)]
@@ -28,8 +30,12 @@ impl Model for Distances {
 
 impl Distances {
     /// The table of `n` items with these values, row by row.
-    pub fn new(alloc: Global, n: u32, values: &[u64]) -> Result<Self, AllocError>
-        requires n { (1 ≤ n) × (n ≤ 4096) }
+    ///
+    /// # Errors
+    ///
+    /// [`NoMemory`] where memory is refused.
+    pub fn new(alloc: Global, n: u32, values: &[u64]) -> Result<Self, NoMemory>
+        requires n { (1 ≤ n) × (n ≤ ITEM_BOUND) }
         requires whole { length values.now ≡ n * n }
         requires symmetric { IsSymmetric n values.now }
         requires zero_diagonal { HasZeroDiagonal n values.now }

@@ -4,11 +4,11 @@ ghost use Rattle.row_model.specs.Rows.{IsRow};
 ghost use Rattle.graph_read.specs.Graphs.{has_edge, HasTwoMore, IsGraph};
 
 use crate::lists::{empty_lists, with_edge};
-use row_model::Matrix;
-use std::alloc::{AllocError, Global};
+use row_model::{COLUMN_BOUND, Matrix, NoMemory};
+use std::alloc::Global;
 use std::marker::Model;
 
-/// A graph without loops: 1 to 32,768 vertices, and for each the strictly ascending list of its neighbours.
+/// A graph without loops: 1 to [`COLUMN_BOUND`](row_model::COLUMN_BOUND) vertices, and for each the strictly ascending list of its neighbours.
 ///
 /// The lists lie one after another, so a graph takes eight bytes for each edge and eight for each vertex. Contracts know
 /// `IsGraph` of every graph, by [`vertices`](Graph::vertices).
@@ -32,8 +32,12 @@ impl Model for Graph {
 
 impl Graph {
     /// A graph of so many vertices without an edge.
-    pub fn new(alloc: Global, n: u32) -> Result<Self, AllocError>
-        requires { (1 ≤ n) × (n ≤ 32768) }
+    ///
+    /// # Errors
+    ///
+    /// [`NoMemory`] where memory is refused.
+    pub fn new(alloc: Global, n: u32) -> Result<Self, NoMemory>
+        requires { (1 ≤ n) × (n ≤ COLUMN_BOUND) }
         ensures { IfOk result (λ g. g ≡ record { vertices = n; neighbours = replicate n [] }) }
     {
         let lists = empty_lists(alloc, n, n)?;
@@ -48,11 +52,15 @@ impl Graph {
         Graph { alloc, lists }
     }
 
-    /// Adds an edge between two vertices; one that is there stays. On an error the graph is as before.
+    /// Adds an edge between two vertices; one that is there stays.
     ///
     /// A new edge takes time in proportion to the size of the graph, and until it stands the memory of two graphs more.
     /// [`read_graph`](crate::read_graph) makes a graph with all its edges at once.
-    pub fn add_edge(&mut self, u: u32, v: u32) -> Result<(), AllocError>
+    ///
+    /// # Errors
+    ///
+    /// [`NoMemory`] where memory is refused. The graph is as before then.
+    pub fn add_edge(&mut self, u: u32, v: u32) -> Result<(), NoMemory>
         requires u { (1 ≤ u) × (u ≤ self.old.vertices) }
         requires v { (1 ≤ v) × (v ≤ self.old.vertices) }
         requires distinct { u ≢ v }

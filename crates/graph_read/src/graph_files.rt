@@ -2,13 +2,14 @@
 ghost use Rattle.std.specs.Prelude.{◌≡◌, ◌≤◌, IfOk};
 ghost use Rattle.graph_read.specs.GraphFiles.{bigraph, graph};
 
+use crate::LEFT_BOUND;
 use crate::bigraph::Bigraph;
 use crate::edges::{sides_in, vertices_in};
 use crate::graph::Graph;
 use crate::read_lists::read_lists;
 use matrix_read::{next_filled_line, without_mark};
-use row_model::{MAX_FILE_BYTES, Read, Refusal, code};
-use std::alloc::{AllocError, Global};
+use row_model::{MAX_FILE_BYTES, NoMemory, Read, Refusal, code};
+use std::alloc::Global;
 
 /// Reads a bipartite graph from the bytes of a file: a line with the sizes of the two sides, and a line for each edge.
 ///
@@ -19,16 +20,16 @@ use std::alloc::{AllocError, Global};
 ///
 /// A file that breaks a rule gives its first refusal. The length of the file comes first, then a file without a line, and
 /// then line for line from the first on. A line is judged by its words, then by their range, and the first line last by
-/// the limits. The error is want of memory.
+/// the limits.
 ///
 /// While it reads it keeps four bytes for each line, beside the graph. Where the edges ascend, first by x and then by y,
 /// the time is linear in the length of the file and the size of the left side. Else the edges are sorted, in place.
-pub fn read_bigraph(
-    alloc: Global,
-    bytes: &[u8],
-    left_limit: u32,
-) -> Result<Read<Bigraph>, AllocError>
-    requires { left_limit ≤ 65536 }
+///
+/// # Errors
+///
+/// [`NoMemory`] where memory is refused.
+pub fn read_bigraph(alloc: Global, bytes: &[u8], left_limit: u32) -> Result<Read<Bigraph>, NoMemory>
+    requires { left_limit ≤ LEFT_BOUND }
     ensures { IfOk result (λ read. read ≡ bigraph left_limit bytes.now) }
 {
     if bytes.len() as u64 > MAX_FILE_BYTES {
@@ -55,10 +56,14 @@ pub fn read_bigraph(
 ///
 /// A file that breaks a rule gives its first refusal. The length of the file comes first, then a file without a line, and
 /// then line for line from the first on. A line is judged by its words, then by their range; the first line last by the
-/// limit, and a later one last as a loop. The error is want of memory.
+/// limit, and a later one last as a loop.
 ///
 /// While it reads it keeps eight bytes for each line, beside the graph. The edges are sorted, in place, each both ways.
-pub fn read_graph(alloc: Global, bytes: &[u8]) -> Result<Read<Graph>, AllocError>
+///
+/// # Errors
+///
+/// [`NoMemory`] where memory is refused.
+pub fn read_graph(alloc: Global, bytes: &[u8]) -> Result<Read<Graph>, NoMemory>
     ensures { IfOk result (λ read. read ≡ graph bytes.now) }
 {
     if bytes.len() as u64 > MAX_FILE_BYTES {

@@ -1,18 +1,39 @@
-// What files give, in the words of graphs and of tables.
-ghost use Rattle.graph_read.specs.FileLaws.{BigraphLaw, GraphLaw, DistancesLaw, WrittenBigraphLaw, WrittenGraphLaw};
+// What files give, in the words of graphs and of tables, and the bounds by their numerals. A call stands for its clauses.
+ghost use Rattle.std.specs.Prelude.{◌≡◌};
+ghost use Rattle.graph_read.specs.FileLaws.{BigraphLaw, GraphLaw, DistancesLaw};
+ghost use Rattle.graph_read.specs.RefusalLaws.{BigraphRefusals, GraphRefusals, DistancesRefusals};
+
+use crate::{ITEM_BOUND, LEFT_BOUND};
 
 /// What the readers give, in the words of graphs and of tables.
 ///
-/// In a graph that [`read_bigraph`](crate::read_bigraph) gives x has an edge to y exactly where a line behind the first
-/// is the two numbers x and y, and the sides are within their limits. In one that [`read_graph`](crate::read_graph) gives
-/// two vertices are neighbours exactly where such a line names them, either way round; no vertex is its own neighbour.
-/// A file whose lines write a graph within the limits in this way is read as that graph.
+/// A file is read as a bipartite graph by [`read_bigraph`](crate::read_bigraph), or as a graph by
+/// [`read_graph`](crate::read_graph), exactly where it writes that graph within the limits: its first line gives the
+/// sizes, each later line is exactly an edge, and x has an edge to y exactly where a later line is the two numbers x and
+/// y; in a graph an edge is named either way round, and no vertex is its own neighbour.
 ///
-/// The distances that [`read_distances`](crate::read_distances) gives are symmetric with a zero diagonal.
+/// A file is read as a table of distances by [`read_distances`](crate::read_distances) exactly where it writes that table
+/// within the limit: its first line gives the number of items, and each later line is exactly the numbers of a row.
 pub fn edge_laws()
     ensures bigraph { BigraphLaw }
     ensures graph { GraphLaw }
     ensures distances { DistancesLaw }
-    ensures written_bigraph { WrittenBigraphLaw }
-    ensures written_graph { WrittenGraphLaw }
+{}
+
+/// What [`read_bigraph`](crate::read_bigraph), [`read_graph`](crate::read_graph) and
+/// [`read_distances`](crate::read_distances) refuse, in this order: a file past the limit of its length, a file without a
+/// line, the first line, and then the first later line that is not an edge or not the next row; last come rows that are
+/// missing. Where nothing is refused there is a graph or a table.
+pub fn refusal_laws()
+    ensures bigraph { BigraphRefusals }
+    ensures graph { GraphRefusals }
+    ensures distances { DistancesRefusals }
+{
+    matrix_read::refusal_laws();
+}
+
+/// The values of the constants of this crate, by their numerals.
+pub fn values_law()
+    ensures left { LEFT_BOUND ≡ 131072 }
+    ensures items { ITEM_BOUND ≡ 4096 }
 {}

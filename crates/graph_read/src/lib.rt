@@ -23,5 +23,11 @@ pub use distance_files::read_distances;
 pub use distances::Distances;
 pub use graph::Graph;
 pub use graph_files::{read_bigraph, read_graph};
-pub use laws::edge_laws;
+pub use laws::{edge_laws, refusal_laws, values_law};
 pub use row_model::NoMemory;
+
+/// The greatest number of xs that a [`Bigraph`] allows.
+pub const LEFT_BOUND: u32 = 131_072;
+
+/// The greatest number of items that [`Distances`] allow.
+pub const ITEM_BOUND: u32 = 4_096;

@@ -4,13 +4,14 @@ ghost use Rattle.column_order.specs.Orders.{has};
 ghost use Rattle.row_model.specs.Rows.{IsRow};
 ghost use Rattle.graph_read.specs.Graphs.{below, with_number};
 
-use row_model::Matrix;
-use std::alloc::{AllocError, Global};
+use crate::LEFT_BOUND;
+use row_model::{COLUMN_BOUND, Matrix, NoMemory, ROW_BOUND};
+use std::alloc::Global;
 
 /// So many lists without a neighbour.
-pub fn empty_lists(alloc: Global, count: u32, columns: u32) -> Result<Matrix, AllocError>
-    requires count { count ≤ 65536 }
-    requires columns { (1 ≤ columns) × (columns ≤ 32768) }
+pub fn empty_lists(alloc: Global, count: u32, columns: u32) -> Result<Matrix, NoMemory>
+    requires count { count ≤ LEFT_BOUND }
+    requires columns { (1 ≤ columns) × (columns ≤ COLUMN_BOUND) }
     ensures { IfOk result (λ m. m ≡ record { columns = columns; rows = replicate count [] }) }
 {
     let mut lists = Matrix::new(alloc, columns)?;
@@ -21,9 +22,9 @@ pub fn empty_lists(alloc: Global, count: u32, columns: u32) -> Result<Matrix, Al
 }
 
 /// The lists with one neighbour more, `y`, in that of `x`.
-pub fn with_edge(alloc: Global, old: &Matrix, x: u32, y: u32) -> Result<Matrix, AllocError>
-    requires columns { (1 ≤ old.now.columns) × (old.now.columns ≤ 32768) }
-    requires few { length old.now.rows ≤ 65536 }
+pub fn with_edge(alloc: Global, old: &Matrix, x: u32, y: u32) -> Result<Matrix, NoMemory>
+    requires columns { (1 ≤ old.now.columns) × (old.now.columns ≤ COLUMN_BOUND) }
+    requires few { length old.now.rows ≤ LEFT_BOUND }
     requires x { (1 ≤ x) × (x ≤ length old.now.rows) }
     requires y { (1 ≤ y) × (y ≤ old.now.columns) }
     requires new { has (slice_index_or old.now.rows (x - 1) []) y ≡ false }
@@ -38,10 +39,10 @@ pub fn with_edge(alloc: Global, old: &Matrix, x: u32, y: u32) -> Result<Matrix, 
 }
 
 // Adds the lists of the numbers from `from` to `to`, which count from 0, the last left out.
-fn copy_lists(lists: &mut Matrix, old: &Matrix, from: u32, to: u32) -> Result<(), AllocError>
+fn copy_lists(lists: &mut Matrix, old: &Matrix, from: u32, to: u32) -> Result<(), NoMemory>
     requires columns { lists.old.columns ≡ old.now.columns }
     requires range { (from ≤ to) × (to ≤ length old.now.rows) }
-    requires room { length lists.old.rows + to ≤ 131072 }
+    requires room { length lists.old.rows + to ≤ ROW_BOUND }
     ensures { OnOk result (lists.new ≡ record lists.old { rows = lists.old.rows ++ slice_range old.now.rows from to }) }
 {
     for k in from..to {
@@ -51,7 +52,7 @@ fn copy_lists(lists: &mut Matrix, old: &Matrix, from: u32, to: u32) -> Result<()
 }
 
 // A strictly ascending list with one number more.
-fn with_number(alloc: Global, row: &[u32], y: u32) -> Result<Vec<u32>, AllocError>
+fn with_number(alloc: Global, row: &[u32], y: u32) -> Result<Vec<u32>, NoMemory>
     requires { length row.now < 2 ^ 63 }
     ensures { IfOk result (λ longer. longer.items ≡ with_number y row.now) }
 {

@@ -7,13 +7,14 @@ ghost use Rattle.graph_read.specs.declared.edges.Edge.{Edge};
 ghost use Rattle.graph_read.specs.Edges.{left_of, right_of, ways, lists_from};
 ghost use Rattle.graph_read.specs.Places.{place_of, ArePlaces};
 
+use crate::LEFT_BOUND;
 use crate::edges::{Edge, Shape};
-use row_model::Matrix;
-use std::alloc::{AllocError, Global};
+use row_model::{COLUMN_BOUND, Matrix, NoMemory};
+use std::alloc::Global;
 
 /// Adds the place of an edge, and where edges go both ways that of the edge back.
-pub fn push_edge(shape: Shape, places: &mut Vec<u32>, edge: Edge) -> Result<(), AllocError>
-    requires small { (left_of shape ≤ 65536) × (right_of shape ≤ 32768) }
+pub fn push_edge(shape: Shape, places: &mut Vec<u32>, edge: Edge) -> Result<(), NoMemory>
+    requires small { (left_of shape ≤ LEFT_BOUND) × (right_of shape ≤ COLUMN_BOUND) }
     requires from { (1 ≤ edge.from) × (edge.from ≤ left_of shape) }
     requires to { (1 ≤ edge.to) × (edge.to ≤ right_of shape) }
     ensures { OnOk result ((edges : List Edge) → ArePlaces (left_of shape) (right_of shape) (ways shape edges) places.old.items → ArePlaces (left_of shape) (right_of shape) (ways shape (edges ++ edge ∷ [])) places.new.items) }
@@ -31,7 +32,7 @@ pub fn push_edge(shape: Shape, places: &mut Vec<u32>, edge: Edge) -> Result<(), 
 
 // The place of an edge, where a row has so many places.
 fn place(right: u32, edge: Edge) -> u32
-    requires small { (edge.from ≤ 65536) × (right ≤ 32768) }
+    requires small { (edge.from ≤ LEFT_BOUND) × (right ≤ COLUMN_BOUND) }
     requires from { 1 ≤ edge.from }
     requires to { (1 ≤ edge.to) × (edge.to ≤ right) }
     ensures { result ≡ place_of right edge }
@@ -40,9 +41,9 @@ fn place(right: u32, edge: Edge) -> u32
 }
 
 /// The lists of the edges at ascending places.
-pub fn lists_at(alloc: Global, left: u32, right: u32, places: &[u32]) -> Result<Matrix, AllocError>
-    requires left { left ≤ 65536 }
-    requires right { (1 ≤ right) × (right ≤ 32768) }
+pub fn lists_at(alloc: Global, left: u32, right: u32, places: &[u32]) -> Result<Matrix, NoMemory>
+    requires left { left ≤ LEFT_BOUND }
+    requires right { (1 ≤ right) × (right ≤ COLUMN_BOUND) }
     requires ascending { IsNonDecreasing places.now }
     ensures { IfOk result (λ m. (edges : List Edge) → ArePlaces left right edges places.now → m ≡ record { columns = right; rows = lists_from 1 left right edges }) }
 {
@@ -64,8 +65,8 @@ fn take_row(
     first: u32,
     right: u32,
     list: &mut Vec<u32>,
-) -> Result<usize, AllocError>
-    requires small { (first < 2 ^ 31) × (right ≤ 32768) }
+) -> Result<usize, NoMemory>
+    requires small { (first + right ≤ 2 ^ 32) × (right ≤ COLUMN_BOUND) }
     requires ascending { IsNonDecreasing places.now }
     requires from { from ≤ length places.now }
     requires above { (k : ℕ) → from ≤ k → k < length places.now → first ≤ slice_index_or places.now k 0 }
@@ -77,7 +78,7 @@ fn take_row(
     list.clear();
     let mut last = 0;
     let mut at = from;
-    while at < places.len() && places[at] < first + right {
+    while at < places.len() && places[at] - first < right {
         let number = places[at] - first + 1;
         if number > last {
             list.push(number)?;

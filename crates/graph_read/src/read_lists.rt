@@ -1,14 +1,15 @@
 // The lists of neighbours that lines of edges give.
-ghost use Rattle.std.specs.Prelude.{◌≡◌, ◌+◌, ◌≤◌, [], length, drop, Err, IfOk, IfSome, IfNone};
+ghost use Rattle.std.specs.Prelude.{◌≡◌, ◌+◌, ◌≤◌, [], length, drop, Some, None, IfOk, IfSome, IfNone};
 ghost use Rattle.matrix_read.specs.Lines.{lines_of, filled_lines};
-ghost use Rattle.graph_read.specs.Edges.{left_of, right_of, edges_of, lists_with};
-ghost use Rattle.graph_read.specs.Places.{ArePlacesOf};
+ghost use Rattle.graph_read.specs.Edges.{left_of, right_of, ways, edges_of, edge_refusal, lists_of_lines};
+ghost use Rattle.graph_read.specs.Places.{ArePlaces};
 
+use crate::LEFT_BOUND;
 use crate::edges::{Shape, edge_in};
 use crate::places::{lists_at, push_edge};
 use matrix_read::next_filled_line;
-use row_model::{MAX_FILE_BYTES, Matrix, Read, Refusal};
-use std::alloc::{AllocError, Global};
+use row_model::{COLUMN_BOUND, MAX_FILE_BYTES, Matrix, NoMemory, Read, Refusal};
+use std::alloc::Global;
 
 /// The lists that the lines from a place on give, where `passed` lines stand before it; or the first refusal.
 ///
@@ -21,13 +22,13 @@ pub fn read_lists(
     text: &[u8],
     at: usize,
     passed: u32,
-) -> Result<Read<Matrix>, AllocError>
+) -> Result<Read<Matrix>, NoMemory>
     requires short { length text.now ≤ MAX_FILE_BYTES }
     requires at { at ≤ length text.now }
     requires passed { passed ≤ at }
-    requires left { (1 ≤ left_of shape) × (left_of shape ≤ 65536) }
-    requires right { (1 ≤ right_of shape) × (right_of shape ≤ 32768) }
-    ensures { IfOk result (λ read. read ≡ lists_with shape (edges_of shape (filled_lines (passed + 1) (lines_of (drop at text.now))))) }
+    requires left { (1 ≤ left_of shape) × (left_of shape ≤ LEFT_BOUND) }
+    requires right { (1 ≤ right_of shape) × (right_of shape ≤ COLUMN_BOUND) }
+    ensures { IfOk result (λ read. read ≡ lists_of_lines shape (filled_lines (passed + 1) (lines_of (drop at text.now)))) }
 {
     let mut places = Vec::new(alloc);
     match push_lines(shape, text, at, passed, &mut places)? {
@@ -47,14 +48,15 @@ fn push_lines(
     at: usize,
     passed: u32,
     places: &mut Vec<u32>,
-) -> Result<Option<Refusal>, AllocError>
+) -> Result<Option<Refusal>, NoMemory>
     requires short { length text.now ≤ MAX_FILE_BYTES }
     requires at { at ≤ length text.now }
     requires passed { passed ≤ at }
-    requires small { (left_of shape ≤ 65536) × (right_of shape ≤ 32768) }
+    requires small { (left_of shape ≤ LEFT_BOUND) × (right_of shape ≤ COLUMN_BOUND) }
     requires empty { places.old.items ≡ [] }
-    ensures refused { IfOk result (λ r. IfSome r (λ refusal. edges_of shape (filled_lines (passed + 1) (lines_of (drop at text.now))) ≡ Err refusal)) }
-    ensures places { IfOk result (λ r. IfNone r (ArePlacesOf shape (edges_of shape (filled_lines (passed + 1) (lines_of (drop at text.now)))) places.new.items)) }
+    ensures refused { IfOk result (λ r. IfSome r (λ refusal. edge_refusal shape (filled_lines (passed + 1) (lines_of (drop at text.now))) ≡ Some refusal)) }
+    ensures taken { IfOk result (λ r. IfNone r (edge_refusal shape (filled_lines (passed + 1) (lines_of (drop at text.now))) ≡ None)) }
+    ensures places { IfOk result (λ r. IfNone r (ArePlaces (left_of shape) (right_of shape) (ways shape (edges_of shape (filled_lines (passed + 1) (lines_of (drop at text.now))))) places.new.items)) }
 {
     let mut number = passed;
     let mut place = at;

@@ -33,7 +33,11 @@ fn edges_go_from_the_left_side_to_the_right(rt: HostRuntime) -> Result<(), Fail>
 
 #[test]
 fn a_bipartite_graph_is_read_whatever_the_order(rt: HostRuntime) -> Result<(), Fail> {
-    let Read::Ok(graph) = read_bigraph(rt.alloc(), b"2 3\n2 3\n\n1 3\n1 1\r\n 2\t2\n1 1", 65536)?
+    let Read::Ok(graph) = read_bigraph(
+        rt.alloc(),
+        b"2 3\n2 3\n\n1 3\n1 1\r\n 2\t2\n1 1",
+        LEFT_BOUND,
+    )?
     else {
         panic!(rt; "refused");
     };
@@ -62,7 +66,7 @@ fn the_first_refusal_of_a_graph_counts(rt: HostRuntime) -> Result<(), Fail> {
         (b"2\n1 1\n", 6, 2),
         (b"\n2 2\n", 2, 2),
         (b"0\n", 4, 1),
-        (b"1025\n", 7, 1),
+        (b"2049\n", 7, 1),
         (b"2\n\n1 3\n1\n", 4, 3),
         (b"2\n3 x\n", 2, 2),
     ];
@@ -78,13 +82,13 @@ fn the_first_refusal_of_a_graph_counts(rt: HostRuntime) -> Result<(), Fail> {
 #[test]
 fn the_sides_have_their_limits(rt: HostRuntime) -> Result<(), Fail> {
     let cases: [(&[u8], u8, u32); 4] = [
-        (b"1025 1\n", 7, 1),
-        (b"1 1025\n", 7, 1),
+        (b"131073 1\n", 7, 1),
+        (b"131072 2049\n", 7, 1),
         (b"0 18446744073709551616\n", 4, 1),
         (b"2 3\n3 1\n", 4, 2),
     ];
     for (text, code, line) in cases {
-        match read_bigraph(rt.alloc(), text, 1024)? {
+        match read_bigraph(rt.alloc(), text, LEFT_BOUND)? {
             Read::Ok(_) => panic!(rt; "a graph in place of {code}, {line}"),
             Read::Refused(refusal) => assert_eq!(rt; refusal, Refusal { code, line }),
         }

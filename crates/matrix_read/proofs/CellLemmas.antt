@@ -1,17 +1,19 @@
 -- Cells and names of a table.
-use Rattle.std.proofs.Common.{◌≡◌, ℕ, zero, suc, ◌<◌, ◌≤◌, ◌+◌, ◌&&◌, List, [], ◌∷◌, ◌++◌, length, map, take, drop, get_or, if◌then◌else◌, ap, sym, ◌∙◌, refl, arith, Option, Some, None, true, false, eq-eqb, inl, inr, Bool}
-use Rattle.std.proofs.lemmas.Bool.{cases_lt, ne_eqb, or_parts}
+use Rattle.std.proofs.Common.{◌≡◌, ℕ, zero, suc, ◌<◌, ◌≤◌, ◌+◌, ◌-◌, ◌&&◌, List, [], ◌∷◌, ◌++◌, length, map, take, drop, get_or, if◌then◌else◌, ap, sym, ◌∙◌, refl, arith, Option, Some, None, true, false, Bool}
+use Rattle.std.proofs.lemmas.Bool.{or_parts}
 use Rattle.std.proofs.lemmas.List.{take-append-drop, length-map}
 use Rattle.std.proofs.lemmas.Map.Made.{AllPairs-from_IsDistinct, IsDistinct-from_AllPairs}
 use Rattle.std.proofs.lemmas.Slice.Eq.{bytes_eq-Decides}
 use Rattle.std.specs.List.{list_any, AllByRecursion, IsDistinct}
 use Rattle.std.specs.Str.{bytes_eq}
 use Rattle.column_order.specs.Orders.{has}
+use Rattle.row_model.proofs.Ascending.{row_within}
+use Rattle.row_model.proofs.Filtered.{has_filtered, filtered_row}
 use Rattle.row_model.specs.declared.refusal.Refusal.{Refusal}
 use Rattle.matrix_read.specs.Lines.{is_blank_byte, is_blank}
 use Rattle.matrix_read.specs.Words.{blank_len}
-use Rattle.matrix_read.specs.Cells.{without_last_blanks, trimmed, is_present, present_from}
-use Rattle.matrix_read.specs.Table.{record_code, first_refusal}
+use Rattle.matrix_read.specs.Cells.{without_last_blanks, trimmed, cells, is_present, row_of}
+use Rattle.matrix_read.specs.Table.{record_code, record_refusal}
 use Rattle.matrix_read.specs.Names.{has_twice}
 use Rattle.matrix_read.specs.Rows.{refusal_or}
 use Rattle.matrix_read.specs.TableLaws.{NamesLaw, RowLaw, TrimmedLaw, AreTold, RefusalLaw}
@@ -38,59 +40,39 @@ none_twice (name ∷ names) h = rw (any_equal name names h.0, none_twice names h
 pub names_law_holds : NamesLaw
 names_law_holds names = (λ h. AllPairs-from_IsDistinct bytes_eq-Decides names (distinct_names names h), λ h. none_twice names (IsDistinct-from_AllPairs bytes_eq-Decides names h))
 
--- the columns that cells mark, from a column on
-marks_below : (from column : ℕ) (rest : List (List ℕ)) → column < from → has (present_from from rest) column ≡ false
-marks_below from column [] lt = refl
-marks_below from column (cell ∷ rest) lt =
-    let later : has (present_from (from + 1) rest) column ≡ false = marks_below (from + 1) column rest (omega arith) in
-    elim (is_present cell) as (λ v. has (if v then from ∷ present_from (from + 1) rest else present_from (from + 1) rest) column ≡ false) [
-      | true ↦ rw (ne_eqb from column (λ e. omega (arith, e)), later) refl
-      | false ↦ later
-    ]
-
-marks_past : (from column : ℕ) (rest : List (List ℕ)) → from + length rest ≤ column → has (present_from from rest) column ≡ false
-marks_past from column [] le = refl
-marks_past from column (cell ∷ rest) le =
-    let later : has (present_from (from + 1) rest) column ≡ false = marks_past (from + 1) column rest (omega arith) in
-    elim (is_present cell) as (λ v. has (if v then from ∷ present_from (from + 1) rest else present_from (from + 1) rest) column ≡ false) [
-      | true ↦ rw (ne_eqb from column (λ e. omega (arith, e)), later) refl
-      | false ↦ later
-    ]
-
-marks_at : (from column i : ℕ) (rest : List (List ℕ)) → column ≡ from + i → i < length rest → has (present_from from rest) column ≡ is_present (get_or rest i [])
-marks_at from column i [] e lt = absurd (omega arith)
-marks_at from column zero (cell ∷ rest) e lt =
-    elim (is_present cell) as (λ v. has (if v then from ∷ present_from (from + 1) rest else present_from (from + 1) rest) column ≡ v) [
-      | true ↦ rw (eq-eqb from column (omega (arith, e))) refl
-      | false ↦ marks_below (from + 1) column rest (omega (arith, e))
-    ]
-marks_at from column (suc i) (cell ∷ rest) e lt =
-    let later : has (present_from (from + 1) rest) column ≡ is_present (get_or rest i []) = marks_at (from + 1) column i rest (omega arith) (omega arith) in
-    elim (is_present cell) as (λ v. has (if v then from ∷ present_from (from + 1) rest else present_from (from + 1) rest) column ≡ is_present (get_or rest i [])) [
-      | true ↦ rw (ne_eqb from column (λ same. omega (arith, e, same))) later
-      | false ↦ later
-    ]
-
+-- the columns that cells mark
 trimmed-get_or : (fields : List (List ℕ)) (i : ℕ) → get_or (map trimmed fields) i [] ≡ trimmed (get_or fields i [])
 trimmed-get_or [] i = refl
 trimmed-get_or (field ∷ fields) zero = refl
 trimmed-get_or (field ∷ fields) (suc i) = trimmed-get_or fields i
 
-not_marked : (b : Bool) (A : Type 0) → b ≡ false → b ≡ true → A
-not_marked b A e h = absurd (cc)
-
 pub row_law_holds : RowLaw
-row_law_holds [] column = (λ h. absurd (cc), λ h. absurd (omega (arith, h.1)))
-row_law_holds (first ∷ fields) zero = (λ h. not_marked _ _ (marks_below 1 0 (map trimmed fields) (omega arith)) h, λ h. absurd (omega (arith, h.0)))
-row_law_holds (first ∷ fields) (suc i) =
-    elim (cases_lt i (length fields)) [
-      | inl lt ↦
-          let within : i < length (map trimmed fields) = omega (arith, length-map fields trimmed) in
-          let same = marks_at 1 (suc i) i (map trimmed fields) (omega arith) within ∙ ap is_present (trimmed-get_or fields i) in
-          (λ h. (omega arith, omega arith, sym same ∙ h), λ h. same ∙ h.2)
-      | inr le ↦
-          (λ h. not_marked _ _ (marks_past 1 (suc i) (map trimmed fields) (omega (arith, length-map fields trimmed))) h, λ h. absurd (omega (arith, h.1)))
-    ]
+row_law_holds fields column =
+    let c = length (cells fields) in
+    let passes : ℕ → Bool = λ j. is_present (get_or (cells fields) (j - 1) []) in
+    let at : 1 ≤ column → column ≤ c → has (row_of fields) column ≡ is_present (trimmed (get_or fields column [])) =
+    λ from to. has_filtered passes c column from to ∙ ap is_present (cell_at fields column from) in
+    let width : length fields ≤ c + 1 = length-cells-le fields in (
+      λ h.
+          let bounds = row_within c (row_of fields) (filtered_row passes c) column h in
+          (bounds.0, omega (arith, bounds.1, cells-lt fields (omega arith)), sym (at bounds.0 bounds.1) ∙ h),
+      λ h. at h.0 (omega (arith, h.1, width)) ∙ h.2,
+    )
+  where
+    length-cells-le : (fields : List (List ℕ)) → length fields ≤ length (cells fields) + 1
+    length-cells-le [] = omega arith
+    length-cells-le (first ∷ fields) = omega (arith, length-map fields trimmed)
+
+    cells-lt : (fields : List (List ℕ)) → 1 ≤ length (cells fields) → length (cells fields) < length fields
+    cells-lt [] some = absurd (omega arith)
+    cells-lt (first ∷ fields) some = omega (arith, length-map fields trimmed)
+
+    cell_at : (fields : List (List ℕ)) (column : ℕ) → 1 ≤ column → get_or (cells fields) (column - 1) [] ≡ trimmed (get_or fields column [])
+    cell_at [] column some = refl
+    cell_at (first ∷ fields) zero some = absurd (omega arith)
+    cell_at (first ∷ fields) (suc i) some =
+        let at : suc i - 1 ≡ i = omega arith in
+        ap (λ k. get_or (map trimmed fields) k []) at ∙ trimmed-get_or fields i
 
 -- a field without blanks at its ends
 blanks_last : (bytes : List ℕ) → (back : List ℕ) × (bytes ≡ without_last_blanks bytes ++ back) × (is_blank back ≡ true)
@@ -170,16 +152,16 @@ abbrev IsTold : ℕ → List (List (List ℕ)) → Refusal → ℕ → Type 0
 IsTold before further refusal k =
     (k < length further) × (refusal.line ≡ before + k + 2) × (record_code (before + k) (get_or further k []) ≡ Some refusal.code) × ((i : ℕ) → i < k → record_code (before + i) (get_or further i []) ≡ None)
 
-first_told : (before : ℕ) (further : List (List (List ℕ))) (refusal : Refusal) → first_refusal before further ≡ Some refusal → (k : ℕ) × IsTold before further refusal k
-unfolding first_refusal
+first_told : (before : ℕ) (further : List (List (List ℕ))) (refusal : Refusal) → record_refusal before further ≡ Some refusal → (k : ℕ) × IsTold before further refusal k
+unfolding record_refusal
 first_told before [] refusal e = absurd (cc)
 first_told before (fields ∷ further) refusal e = by (record_code before fields) refl e (first_told (before + 1) further refusal)
   where
     shift : (k : ℕ) → before + 1 + k ≡ before + suc k
     shift k = omega arith
 
-    by : (code : Option ℕ) → record_code before fields ≡ code → refusal_or code (before + 2) (first_refusal (before + 1) further) ≡ Some refusal
-        → (first_refusal (before + 1) further ≡ Some refusal → (k : ℕ) × IsTold (before + 1) further refusal k) → (k : ℕ) × IsTold before (fields ∷ further) refusal k
+    by : (code : Option ℕ) → record_code before fields ≡ code → refusal_or code (before + 2) (record_refusal (before + 1) further) ≡ Some refusal
+        → (record_refusal (before + 1) further ≡ Some refusal → (k : ℕ) × IsTold (before + 1) further refusal k) → (k : ℕ) × IsTold before (fields ∷ further) refusal k
     by (Some code) h e later =
         let same : record { code = code; line = before + 2 } ≡ refusal = cc in
         let at : record_code (before + 0) fields ≡ Some code = ap (λ n. record_code n fields) (omega arith) ∙ h in
@@ -193,24 +175,24 @@ first_told before (fields ∷ further) refusal e = by (record_code before fields
         earlier k all zero lt = ap (λ n. record_code n fields) (omega arith) ∙ h
         earlier k all (suc i) lt = ap (λ n. record_code n (get_or further i [])) (sym (shift i)) ∙ all i (omega arith)
 
-none_told : (before : ℕ) (further : List (List (List ℕ))) → first_refusal before further ≡ None → (i : ℕ) → i < length further → record_code (before + i) (get_or further i []) ≡ None
-unfolding first_refusal
+none_told : (before : ℕ) (further : List (List (List ℕ))) → record_refusal before further ≡ None → (i : ℕ) → i < length further → record_code (before + i) (get_or further i []) ≡ None
+unfolding record_refusal
 none_told before [] e i lt = absurd (omega arith)
 none_told before (fields ∷ further) e i lt = by i lt (record_code before fields) refl e (none_told (before + 1) further)
   where
-    by : (i : ℕ) → i < suc (length further) → (code : Option ℕ) → record_code before fields ≡ code → refusal_or code (before + 2) (first_refusal (before + 1) further) ≡ None
-        → (first_refusal (before + 1) further ≡ None → (i : ℕ) → i < length further → record_code (before + 1 + i) (get_or further i []) ≡ None) → record_code (before + i) (get_or (fields ∷ further) i []) ≡ None
+    by : (i : ℕ) → i < suc (length further) → (code : Option ℕ) → record_code before fields ≡ code → refusal_or code (before + 2) (record_refusal (before + 1) further) ≡ None
+        → (record_refusal (before + 1) further ≡ None → (i : ℕ) → i < length further → record_code (before + 1 + i) (get_or further i []) ≡ None) → record_code (before + i) (get_or (fields ∷ further) i []) ≡ None
     by i lt (Some code) h e later = absurd (cc)
     by zero lt None h e later = ap (λ n. record_code n fields) (omega arith) ∙ h
     by (suc i) lt None h e later = ap (λ n. record_code n (get_or further i [])) (omega arith) ∙ later e i (omega arith)
 
 pub refusal_law_holds : RefusalLaw
-refusal_law_holds further = by (first_refusal 0 further) refl
+refusal_law_holds further = by (record_refusal 0 further) refl
   where
     zero-plus : (k : ℕ) → k ≡ 0 + k
     zero-plus k = omega arith
 
-    by : (refusal : Option Refusal) → first_refusal 0 further ≡ refusal → AreTold further refusal
+    by : (refusal : Option Refusal) → record_refusal 0 further ≡ refusal → AreTold further refusal
     by (Some refusal) e =
         let told = first_told 0 further refusal e in
         let k = told.0 in

@@ -1,6 +1,7 @@
 -- Probes and clones.
 use Rattle.std.proofs.Common.{◌≡◌, inl, inr, ℕ, suc, ◌+◌, ◌<◌, ◌≤◌, ◌==◌, not, List, [], ◌∷◌, ◌++◌, length, map, codes, drop, get_or, refl, ap, sym, ◌∙◌, arith, Bool, true, false, if◌then◌else◌, cond, unwrap_or, Some, None, append_assoc, drop-cons, add-one, eq-eqb}
 use Rattle.std.proofs.lemmas.List.{append-nil}
+use Rattle.column_order.specs.Orders.{has}
 use Rattle.row_model.specs.Rows.{RowList, IsRow}
 use Rattle.row_model.specs.declared.refusal.Read.{Read}
 use Rattle.row_model.specs.declared.refusal.Read.TheVariants as answer
@@ -18,7 +19,8 @@ use Rattle.row_model.specs.declared.TheConstants.{MAX_COLUMNS, MAX_ROWS, MAX_FIL
 use Rattle.row_model.specs.declared.code.TheConstants.{EMPTY, RANGE, TWICE, LIMIT}
 use Rattle.matrix_read.specs.Lines.{without_mark}
 use Rattle.matrix_read.specs.Rows.{refused_or, columns_among}
-use Rattle.matrix_read.proofs.RowLemmas.{too_long, short_enough, columns_ascend}
+use Rattle.row_model.proofs.Filtered.{filtered_row}
+use Rattle.row_model.proofs.Limits.{too_long, short_enough}
 use Rattle.matrix_read.specs.Clones.{reading, array_at, texts_of, count, is_probe, column_of, probes_of, names_code, first_refused, clone_row, clone_rows, head_code, clone_matrix, matrix_of, if_read, clones}
 use Rattle.matrix_read.specs.Names.{has_twice, bytes_of}
 
@@ -122,11 +124,11 @@ module _ (probes names : List (List ℕ)) (clone : Data) (is : Some names ≡ pr
   pub names_refused : list_all (is_probe probes) names ≡ false → names_code probes (probes_of clone) ≡ Some RANGE
   names_refused h = rw (← is, h) refl
 
-  pub row_of_names : clone_row probes clone ≡ columns_among 1 (length probes) (map (column_of probes) names)
+  pub row_of_names : clone_row probes clone ≡ columns_among (length probes) (map (column_of probes) names)
   row_of_names = rw (← is) refl
 
 pub clone_row_ascends : (probes : List (List ℕ)) (clone : Data) → IsRow (length probes) (clone_row probes clone)
-clone_row_ascends probes clone = columns_ascend (length probes) 0 (length probes) (map (column_of probes) (unwrap_or (probes_of clone) [])) (omega arith)
+clone_row_ascends probes clone = filtered_row (has (map (column_of probes) (unwrap_or (probes_of clone) []))) (length probes)
 
 -- as many names as keys
 pub length-bytes : (keys : List (Bor (List ℕ))) → length (bytes_of keys) ≡ length keys

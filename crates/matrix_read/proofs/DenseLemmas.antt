@@ -1,17 +1,37 @@
 -- Rows as lines of digits.
-use Rattle.std.proofs.Common.{◌≡◌, ℕ, suc, ◌<◌, ◌≤◌, ◌+◌, List, [], ◌∷◌, length, ap, sym, ◌∙◌, refl, arith, Some, None, true, false, if◌then◌else◌, ◌==◌, ◌||◌, ◌&&◌, not, Bool, nat_lt, nat_le, eqb-true}
+use Rattle.std.proofs.Common.{◌≡◌, ℕ, suc, ◌<◌, ◌≤◌, ◌+◌, ◌-◌, List, [], ◌∷◌, length, get_or, ap, sym, ◌∙◌, refl, arith, Some, None, true, false, if◌then◌else◌, ◌==◌, ◌||◌, ◌&&◌, not, Bool, nat_lt, nat_le, eqb-true, eq-eqb}
 use Rattle.std.specs.List.{list_any}
-use Rattle.row_model.specs.Rows.{Ascends, IsRow}
+use Rattle.row_model.proofs.Filtered.{filtered_row}
+use Rattle.row_model.specs.Rows.{IsRow}
 use Rattle.row_model.specs.declared.refusal.Read.TheVariants as read
 use Rattle.row_model.specs.declared.TheConstants.{MAX_COLUMNS, MAX_ROWS, MAX_FILE_BYTES}
 use Rattle.row_model.specs.declared.code.TheConstants.{GRAMMAR, COUNT, LIMIT}
 use Rattle.matrix_read.specs.Lines.{NumberedLine, is_blank, is_blank_byte, filled_lines, lines_of, without_mark}
-use Rattle.matrix_read.proofs.RowLemmas.{too_long, short_enough, Ascends-low, first_refusal-here}
-use Rattle.matrix_read.specs.Dense.{is_digit, is_foreign, digits_of, width_of, ones_from, row_of, row_code, read_lines, dense}
+use Rattle.row_model.proofs.Limits.{too_long, short_enough}
+use Rattle.matrix_read.proofs.RowLemmas.{first_refusal-later}
+use Rattle.matrix_read.specs.Dense.{is_digit, is_foreign, digits_of, width_of, row_of, rows_of, first_code, row_code, read_lines, dense}
+use Rattle.matrix_read.specs.DenseSteps.{rows_or_refusal}
+use Rattle.matrix_read.specs.Rows.{refusal_or, refused_or, first_refusal}
+use Rattle.matrix_read.proofs.PlaceLemmas.{places_from, places_columns}
 
 -- the first line of all
-pub first_line_refused : (line : NumberedLine) (lines rest : List NumberedLine) (code : ℕ) → lines ≡ line ∷ rest → row_code (width_of line.text) 0 line.text ≡ Some code → read_lines lines ≡ read.Refused (record { code = code; line = line.number })
-first_line_refused line lines rest code is h = rw (is, first_refusal-here (row_code (width_of line.text)) 0 line rest code h) refl
+pub first_line_refused : (line : NumberedLine) (lines rest : List NumberedLine) (code : ℕ) → lines ≡ line ∷ rest → first_code line.text ≡ Some code → read_lines lines ≡ read.Refused (record { code = code; line = line.number })
+first_line_refused line lines rest code is h = rw (is, h) refl
+
+pub first_line_taken : (line : NumberedLine) (lines rest : List NumberedLine) → lines ≡ line ∷ rest → first_code line.text ≡ None → read_lines lines ≡ rows_or_refusal (width_of line.text) lines
+first_line_taken line lines rest is h =
+    let width = width_of line.text in
+    let clean : list_any is_foreign line.text ≡ false = first_clean line.text h in
+    let taken : row_code width 0 line.text ≡ None = rw (clean, eq-eqb width width refl) refl in
+    rw is (ap (λ code. refused_or (refusal_or code line.number (first_refusal (row_code width) 1 rest)) (record { columns = width; rows = rows_of (line ∷ rest) })) h
+    ∙ ap (λ refusal. refused_or refusal (record { columns = width; rows = rows_of (line ∷ rest) })) (sym (first_refusal-later (row_code width) 0 line rest taken)))
+  where
+    no_foreign : (foreign wide : Bool) (c1 c2 : ℕ) → (if foreign then Some c1 else if wide then Some c2 else None) ≡ None → foreign ≡ false
+    no_foreign true wide c1 c2 k = absurd (cc)
+    no_foreign false wide c1 c2 k = refl
+
+    first_clean : (text : List ℕ) → first_code text ≡ None → list_any is_foreign text ≡ false
+    first_clean text k = no_foreign (list_any is_foreign text) (nat_lt MAX_COLUMNS (width_of text)) GRAMMAR LIMIT k
 
 -- a line that is not blank and has no foreign byte has a digit
 digit_or : (digit blank filled foreign : Bool) (n : ℕ) → (blank && filled) ≡ false → (not (digit || blank) || foreign) ≡ false → (filled ≡ false → foreign ≡ false → 1 ≤ n) → 1 ≤ (if digit then suc n else n)
@@ -44,30 +64,26 @@ pub never_true : (b : Bool) → (b ≡ true → true ≡ false) → b ≡ false
 never_true true h = h refl
 never_true false h = refl
 
--- the ones of digits ascend
-pub ones_ascend : (c low : ℕ) (digits : List ℕ) → low + length digits ≤ c → Ascends c low (ones_from (low + 1) digits)
-ones_ascend c low [] le = tt
-ones_ascend c low (d ∷ digits) le =
-    let rest : Ascends c (low + 1) (ones_from (low + 1 + 1) digits) = ones_ascend c (low + 1) digits (omega arith) in
-    elim (d == 49) as (λ v. Ascends c low (if v then (low + 1) ∷ ones_from (low + 1 + 1) digits else ones_from (low + 1 + 1) digits)) [
-      | true ↦ (omega arith, omega arith, rest)
-      | false ↦ Ascends-low c (low + 1) low (ones_from (low + 1 + 1) digits) (omega arith) rest
-    ]
+-- the columns at which digits are 1, where the first digit is of this column
+abbrev pub ones_from : ℕ → List ℕ → List ℕ
+ones_from column digits = places_from (λ digit. digit == 49) column digits
 
-pub row_ascends : (c : ℕ) (line : List ℕ) → width_of line ≤ c → IsRow c (row_of line)
-row_ascends c line le = ones_ascend c 0 (digits_of line) (omega arith)
+pub ones_columns : (line : List ℕ) → ones_from 1 (digits_of line) ≡ row_of line
+ones_columns line = places_columns (λ digit. digit == 49) 0 (digits_of line)
+
+pub row_ascends : (c : ℕ) (line : List ℕ) → width_of line ≡ c → IsRow c (row_of line)
+row_ascends c line is = rw (← is) (filtered_row (λ column. get_or (digits_of line) (column - 1) 0 == 49) (width_of line))
 
 -- a row that is not refused has the width of the first
-last_test : (full foreign wide same : Bool) (c1 c2 c3 c4 : ℕ) → (if full then Some c1 else if foreign then Some c2 else if wide then Some c3 else if same then None else Some c4) ≡ None → same ≡ true
-last_test true foreign wide same c1 c2 c3 c4 h = absurd (cc)
-last_test false true wide same c1 c2 c3 c4 h = absurd (cc)
-last_test false false true same c1 c2 c3 c4 h = absurd (cc)
-last_test false false false true c1 c2 c3 c4 h = refl
-last_test false false false false c1 c2 c3 c4 h = absurd (cc)
+last_test : (full foreign same : Bool) (c1 c2 c3 : ℕ) → (if full then Some c1 else if foreign then Some c2 else if same then None else Some c3) ≡ None → same ≡ true
+last_test true foreign same c1 c2 c3 h = absurd (cc)
+last_test false true same c1 c2 c3 h = absurd (cc)
+last_test false false true c1 c2 c3 h = refl
+last_test false false false c1 c2 c3 h = absurd (cc)
 
 pub row_code-width : (width before : ℕ) (line : List ℕ) → row_code width before line ≡ None → width_of line ≡ width
 row_code-width width before line h =
-    eqb-true (width_of line) width (last_test (nat_le MAX_ROWS before) (list_any is_foreign line) (nat_lt MAX_COLUMNS width) (width_of line == width) LIMIT GRAMMAR LIMIT COUNT h)
+    eqb-true (width_of line) width (last_test (nat_le MAX_ROWS before) (list_any is_foreign line) (width_of line == width) LIMIT GRAMMAR COUNT h)
 
 -- the length of the file comes first
 pub dense_long : (bytes : List ℕ) → MAX_FILE_BYTES < length bytes → dense bytes ≡ read.Refused (record { code = LIMIT; line = 0 })

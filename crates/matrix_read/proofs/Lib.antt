@@ -1,5 +1,6 @@
 pub mod LineLemmas
 pub mod WordLemmas
+pub mod PlaceLemmas
 pub mod RowLemmas
 pub mod DenseLemmas
 pub mod WrittenLemmas
@@ -16,3 +17,5 @@ pub mod Within
 pub mod WithinLines
 pub mod WithinTable
 pub mod WithinClones
+pub mod RefusalLemmas
+pub mod TextLemmas

@@ -1,15 +1,15 @@
 -- Rows that are read one after another.
-use Rattle.std.proofs.Common.{◌≡◌, ℕ, zero, suc, ◌<◌, ◌≤◌, ◌+◌, ◌||◌, List, [], ◌∷◌, ◌++◌, length, map, get_or, set, refl, sym, ap, ◌∙◌, arith, Bool, true, false, if◌then◌else◌, Option, Some, None, inl, inr, append_assoc, length-append, eq-eqb, get_or-set_same, get_or-set_other}
-use Rattle.std.proofs.lemmas.Bool.{cases_eq, ne_eqb, or_right, lt-ltb, le-ltb}
+use Rattle.std.proofs.Common.{◌≡◌, ℕ, ◌<◌, ◌+◌, ◌-◌, ◌||◌, List, [], ◌∷◌, ◌++◌, length, map, get_or, set, refl, sym, ap, ◌∙◌, arith, Bool, true, false, Option, Some, None, inl, inr, append_assoc, length-append, eq-eqb, get_or-set_same, get_or-set_other}
+use Rattle.std.proofs.lemmas.Bool.{cases_eq, ne_eqb, or_right}
 use Rattle.column_order.specs.Orders.{has}
 use Rattle.std.proofs.lemmas.List.{append-nil}
-use Rattle.row_model.specs.Rows.{RowList, Ascends}
+use Rattle.row_model.specs.Rows.{RowList, columns_where}
 use Rattle.row_model.specs.declared.refusal.Read.{Read}
 use Rattle.row_model.specs.declared.refusal.Read.TheVariants as read
-use Rattle.row_model.specs.declared.TheConstants.{MAX_FILE_BYTES}
-use Rattle.row_model.specs.declared.code.TheConstants.{LIMIT}
 use Rattle.matrix_read.specs.Lines.{NumberedLine}
-use Rattle.matrix_read.specs.Rows.{numbered_lines, first_refusal, refused_or, within_length, columns_among, marked_from}
+use Rattle.matrix_read.specs.Rows.{numbered_lines, first_refusal, refused_or, columns_among}
+use Rattle.row_model.proofs.Columns.{columns_same}
+use Rattle.matrix_read.proofs.PlaceLemmas.{places_from, places_columns}
 
 pub numbered_step : (number : ℕ) (line : List ℕ) (lines : List (List ℕ)) → numbered_lines number (line ∷ lines) ≡ record { number = number; text = line } ∷ numbered_lines (number + 1) lines
 unfolding numbered_lines
@@ -48,29 +48,20 @@ module _ (code_of : ℕ → List ℕ → Option ℕ) (row_of : List ℕ → List
   unfolding first_refusal
   answer_end m lines is w = rw (is, append-nil m.rows, ← w) refl
 
--- columns that ascend above a number ascend above a lesser one
-pub Ascends-low : (c low less : ℕ) (row : List ℕ) → less ≤ low → Ascends c low row → Ascends c less row
-Ascends-low c low less [] le h = tt
-Ascends-low c low less (x ∷ row) le h = (omega (arith, h.0), h.1, h.2)
+-- the columns from one on whose marks are set
+abbrev pub marked_from : ℕ → List Bool → List ℕ
+marked_from column marks = places_from (λ mark. mark) column marks
 
--- the columns among numbers ascend
-pub columns_ascend : (c low n : ℕ) (numbers : List ℕ) → low + n ≤ c → Ascends c low (columns_among (low + 1) n numbers)
-columns_ascend c low zero numbers le = tt
-columns_ascend c low (suc n) numbers le =
-    let rest : Ascends c (low + 1) (columns_among (low + 1 + 1) n numbers) = columns_ascend c (low + 1) n numbers (omega arith) in
-    elim (has numbers (low + 1)) as (λ v. Ascends c low (if v then (low + 1) ∷ columns_among (low + 1 + 1) n numbers else columns_among (low + 1 + 1) n numbers)) [
-      | true ↦ (omega arith, omega arith, rest)
-      | false ↦ Ascends-low c (low + 1) low (columns_among (low + 1 + 1) n numbers) (omega arith) rest
-    ]
+pub marked_columns : (marks : List Bool) → marked_from 1 marks ≡ columns_where (length marks) (λ column. get_or marks (column - 1) false)
+marked_columns marks = places_columns (λ mark. mark) false marks
 
 -- the marked columns are those that are among the numbers
-pub marked_is : (column : ℕ) (marks : List Bool) (numbers : List ℕ) → ((j : ℕ) → j < length marks → get_or marks j false ≡ has numbers (j + column)) → marked_from column marks ≡ columns_among column (length marks) numbers
-marked_is column [] numbers h = refl
-marked_is column (mark ∷ marks) numbers h =
-    let here : mark ≡ has numbers column = h 0 (omega arith) ∙ ap (has numbers) (omega arith) in
-    let later : marked_from (column + 1) marks ≡ columns_among (column + 1) (length marks) numbers =
-    marked_is (column + 1) marks numbers (λ j lt. h (suc j) (omega arith) ∙ ap (has numbers) (omega arith)) in
-    rw (here, later) refl
+pub marked_is : (marks : List Bool) (numbers : List ℕ) → ((j : ℕ) → j < length marks → get_or marks j false ≡ has numbers (j + 1))
+    → columns_where (length marks) (λ column. get_or marks (column - 1) false) ≡ columns_among (length marks) numbers
+marked_is marks numbers h =
+    columns_same (length marks) (λ column. get_or marks (column - 1) false) (has numbers) (λ j lt.
+    let at : j + 1 - 1 ≡ j = omega arith in
+    ap (λ i. get_or marks i false) at ∙ h j lt)
 
 -- one more mark, for the next number
 module _ (marks : List Bool) (i c : ℕ) (rest whole : List ℕ) (within : i < length marks)
@@ -89,11 +80,3 @@ module _ (marks : List Bool) (i c : ℕ) (rest whole : List ℕ) (within : i < l
             let named : (get_or marks j false || has rest (j + 1)) ≡ has whole (j + 1) = rw (ne_eqb (i + 1) (j + 1) apart) at known in
             rw (get_or-set_other marks i j true false not_here) named
       ]
-
--- the length of the file comes first
-module _ {T : Type 0} (bytes : List ℕ) (inside : Read T) where
-  pub too_long : MAX_FILE_BYTES < length bytes → within_length bytes inside ≡ read.Refused (record { code = LIMIT; line = 0 })
-  too_long h = rw (lt-ltb MAX_FILE_BYTES (length bytes) h) refl
-
-  pub short_enough : length bytes ≤ MAX_FILE_BYTES → within_length bytes inside ≡ inside
-  short_enough h = rw (le-ltb MAX_FILE_BYTES (length bytes) h) refl

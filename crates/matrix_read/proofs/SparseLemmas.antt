@@ -1,5 +1,5 @@
 -- Rows that name their columns.
-use Rattle.std.proofs.Common.{◌≡◌, ℕ, ◌<◌, ◌≤◌, ◌+◌, ◌||◌, List, [], ◌∷◌, length, slice_range, refl, sym, ap, ◌∙◌, arith, Bool, true, false, None, Some, Ok, Err}
+use Rattle.std.proofs.Common.{◌≡◌, ℕ, ◌<◌, ◌≤◌, ◌+◌, ◌||◌, List, [], ◌∷◌, length, slice_range, refl, sym, ap, ◌∙◌, Bool, true, false, None, Some, Ok, Err}
 use Rattle.std.proofs.lemmas.Bool.{lt-leb}
 use Rattle.column_order.specs.Orders.{has}
 use Rattle.row_model.specs.Rows.{IsRow}
@@ -7,15 +7,16 @@ use Rattle.row_model.specs.declared.refusal.Read.TheVariants as read
 use Rattle.row_model.specs.declared.TheConstants.{MAX_ROWS, MAX_FILE_BYTES}
 use Rattle.row_model.specs.declared.code.TheConstants.{LIMIT}
 use Rattle.matrix_read.specs.Lines.{is_blank, lines_of, without_mark}
-use Rattle.matrix_read.specs.Words.{words_of, only_word, blank_len, word_len, numeral_of}
+use Rattle.matrix_read.specs.Words.{words_of, only_word, blank_len, word_len, number_of}
 use Rattle.matrix_read.specs.Sparse.{column_code, words_code, line_code, first_width, row_named, numbers_of, named_rows, sparse_lines, sparse, further}
 use Rattle.matrix_read.specs.Rows.{numbered_lines}
 use Rattle.matrix_read.proofs.WordLemmas.{word_step, no_word}
-use Rattle.matrix_read.proofs.RowLemmas.{too_long, short_enough, columns_ascend}
+use Rattle.row_model.proofs.Filtered.{filtered_row}
+use Rattle.row_model.proofs.Limits.{too_long, short_enough}
 
 -- the columns of a row ascend
 pub row_ascends : (c : ℕ) (line : List ℕ) → IsRow c (row_named c line)
-row_ascends c line = columns_ascend c 0 c (numbers_of (words_of line)) (omega arith)
+row_ascends c line = filtered_row (has (numbers_of (words_of line))) c
 
 -- a line with one word alone
 pub one_word : (line : List ℕ) (start end : ℕ) → start ≡ 0 + blank_len (slice_range line 0 (length line)) → end ≡ start + word_len (slice_range line start (length line)) → start < end
@@ -31,11 +32,11 @@ more_words line start end start2 end2 s e lt s2 e2 lt2 =
 
 -- the words of a line one by one
 module _ (c : ℕ) (words rest : List (List ℕ)) (word : List ℕ) (is : words ≡ word ∷ rest) where
-  pub words_stop : (code : ℕ) → column_code c (numeral_of word) ≡ Some code → words_code c words ≡ Some code
+  pub words_stop : (code : ℕ) → column_code c (number_of word) ≡ Some code → words_code c words ≡ Some code
   unfolding words_code
   words_stop code h = rw (is, h) refl
 
-  pub words_next : column_code c (numeral_of word) ≡ None → words_code c rest ≡ words_code c words
+  pub words_next : column_code c (number_of word) ≡ None → words_code c rest ≡ words_code c words
   unfolding words_code
   words_next h = rw (is, h) refl
 
@@ -54,7 +55,7 @@ module _ (bytes : List ℕ) where
   unfolding sparse
   sparse_long h = too_long bytes _ h
 
-  pub sparse_short : length bytes ≤ MAX_FILE_BYTES → sparse bytes ≡ sparse_lines (lines_of (without_mark bytes))
+  pub sparse_short : length bytes ≤ MAX_FILE_BYTES → sparse bytes ≡ sparse_lines (numbered_lines 1 (lines_of (without_mark bytes)))
   unfolding sparse
   sparse_short h = short_enough bytes _ h
 
@@ -72,8 +73,10 @@ line_taken c before line few named = rw (lt-leb MAX_ROWS before few) named
 
 -- the first line of all
 module _ (text line : List ℕ) (later : List (List ℕ)) (is : lines_of text ≡ line ∷ later) where
-  pub first_refused : (code : ℕ) → Err code ≡ first_width (only_word (words_of line)) → sparse_lines (lines_of text) ≡ read.Refused (record { code = code; line = 1 })
+  pub first_refused : (code : ℕ) → Err code ≡ first_width (only_word (words_of line)) → sparse_lines (numbered_lines 1 (lines_of text)) ≡ read.Refused (record { code = code; line = 1 })
+  unfolding numbered_lines
   first_refused code e = rw (is, ← e) refl
 
-  pub first_taken : (c : ℕ) → Ok c ≡ first_width (only_word (words_of line)) → sparse_lines (lines_of text) ≡ named_rows c (numbered_lines 2 later)
+  pub first_taken : (c : ℕ) → Ok c ≡ first_width (only_word (words_of line)) → sparse_lines (numbered_lines 1 (lines_of text)) ≡ named_rows c (numbered_lines 2 later)
+  unfolding numbered_lines
   first_taken c e = rw (is, ← e) refl

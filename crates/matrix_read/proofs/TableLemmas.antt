@@ -1,5 +1,5 @@
 -- Tables that are read record by record.
-use Rattle.std.proofs.Common.{◌≡◌, ℕ, zero, suc, ◌+◌, ◌<◌, ◌≤◌, ◌==◌, ◌&&◌, Bool, true, false, if◌then◌else◌, List, [], ◌∷◌, ◌++◌, length, map, take, drop, get_or, set, Option, Some, None, ap, sym, ◌∙◌, refl, arith, add-one, append_assoc, length-append, eqb-true}
+use Rattle.std.proofs.Common.{◌≡◌, ℕ, zero, suc, ◌+◌, ◌-◌, ◌<◌, ◌≤◌, ◌==◌, ◌&&◌, Bool, true, false, if◌then◌else◌, List, [], ◌∷◌, ◌++◌, length, map, take, drop, get_or, set, Option, Some, None, ap, sym, ◌∙◌, refl, arith, add-one, append_assoc, length-append, eqb-true}
 use Rattle.std.proofs.lemmas.Bool.{le-leb, lt-leb}
 use Rattle.std.proofs.Math.Seq.{take-append_seam}
 use Rattle.std.proofs.lemmas.List.{append-nil, length-map, take_more_set, take-set-le}
@@ -7,15 +7,20 @@ use Rattle.std.specs.Int.{from_bool}
 use Rattle.std.specs.List.{list_any, list_all, filter}
 use Rattle.csv.specs.Reading.{default_config, strip_bom, records}
 use Rattle.csv.specs.Records.{field_at}
-use Rattle.row_model.specs.Rows.{RowList, Ascends, IsRow}
+use Rattle.row_model.specs.Rows.{RowList, IsRow}
 use Rattle.row_model.specs.declared.refusal.Read.{Read}
 use Rattle.row_model.specs.declared.refusal.Read.TheVariants as read
 use Rattle.row_model.specs.declared.TheConstants.{MAX_ROWS, MAX_FILE_BYTES}
 use Rattle.row_model.specs.declared.code.TheConstants.{GRAMMAR, LIMIT, CSV}
 use Rattle.matrix_read.specs.Lines.{is_blank_byte, is_blank}
-use Rattle.matrix_read.proofs.RowLemmas.{Ascends-low, too_long, short_enough}
-use Rattle.matrix_read.specs.Cells.{without_last_blanks, trimmed, cells, is_empty, is_present, is_foreign, present_from, row_of}
-use Rattle.matrix_read.specs.Table.{record_code, first_refusal, with_records, with_even_records, read_records, table}
+use Rattle.matrix_read.specs.Rows.{refusal_or, refused_or}
+use Rattle.row_model.proofs.Filtered.{filtered_row}
+use Rattle.row_model.proofs.Limits.{too_long, short_enough}
+use Rattle.matrix_read.proofs.PlaceLemmas.{places_from, places_columns}
+use Rattle.matrix_read.specs.Cells.{without_last_blanks, trimmed, cells, is_empty, is_present, is_foreign, row_of}
+use Rattle.matrix_read.specs.Table.{header_code, record_code, record_refusal, read_records, table}
+use Rattle.matrix_read.specs.TableLaws.{are_even, TableRefusals}
+use Rattle.matrix_read.specs.TableSteps.{header_read, with_records, with_even_records}
 
 -- a byte after the last that is no blank
 filled_more : (bytes : List ℕ) (n : ℕ) → n < length bytes → is_blank_byte (get_or bytes n 0) ≡ false → is_blank (take (suc n) bytes) ≡ false
@@ -62,6 +67,10 @@ empty_cell : (field : List ℕ) → is_empty field ≡ true → trimmed field �
 empty_cell [] h = refl
 empty_cell (b ∷ field) h = absurd (omega (arith, eqb-true (length (b ∷ field)) 0 h))
 
+-- the columns whose cells say that the row has them, where the first cell is of this column
+abbrev pub present_from : ℕ → List (List ℕ) → List ℕ
+present_from column cells = places_from is_present column cells
+
 -- one field more: whether its cell is foreign, and its column, which is written whether or not the row has it
 module _ (fields : List (List ℕ)) (i : ℕ) (field : List ℕ) (is : field_at fields i ≡ Some field) where
   pub foreign_here : is_foreign (trimmed field) ≡ true → list_any is_foreign (map trimmed (drop i fields)) ≡ true
@@ -100,35 +109,29 @@ entry_le entry false h = omega (arith, h)
 pub filter_kept : (keeps : List ℕ → Bool) (xs rest : List (List ℕ)) (x : List ℕ) → xs ≡ x ∷ rest → keeps x ≡ true → filter keeps xs ≡ x ∷ filter keeps rest
 filter_kept keeps xs rest x is h = rw (is, h) refl
 
--- the columns of cells ascend
-present_ascend : (c low : ℕ) (rest : List (List ℕ)) → low + length rest ≤ c → Ascends c low (present_from (low + 1) rest)
-present_ascend c low [] le = tt
-present_ascend c low (cell ∷ rest) le =
-    let after : Ascends c (low + 1) (present_from (low + 1 + 1) rest) = present_ascend c (low + 1) rest (omega arith) in
-    elim (is_present cell) as (λ v. Ascends c low (if v then (low + 1) ∷ present_from (low + 1 + 1) rest else present_from (low + 1 + 1) rest)) [
-      | true ↦ (omega arith, omega arith, after)
-      | false ↦ Ascends-low c (low + 1) low (present_from (low + 1 + 1) rest) (omega arith) after
-    ]
+-- from column 1 on they are the row
+pub present_columns : (fields : List (List ℕ)) → present_from 1 (cells fields) ≡ row_of fields
+present_columns fields = places_columns is_present [] (cells fields)
 
 length-cells : (fields : List (List ℕ)) (n : ℕ) → length fields ≡ n + 1 → length (cells fields) ≡ n
 length-cells [] n h = absurd (omega arith)
 length-cells (f ∷ fields) n h = length-map fields trimmed ∙ omega arith
 
 pub row_ascends : (c : ℕ) (fields : List (List ℕ)) → length fields ≡ c + 1 → IsRow c (row_of fields)
-row_ascends c fields h = present_ascend c 0 (cells fields) (omega (arith, length-cells fields c h))
+row_ascends c fields h = rw (← length-cells fields c h) (filtered_row (λ column. is_present (get_or (cells fields) (column - 1) [])) (length (cells fields)))
 
 -- one record and then others
 module _ (before : ℕ) (fields : List (List ℕ)) (rest : List (List (List ℕ))) where
-  pub refusal_here : (code : ℕ) → record_code before fields ≡ Some code → first_refusal before (fields ∷ rest) ≡ Some (record { code = code; line = before + 2 })
-  unfolding first_refusal
+  pub refusal_here : (code : ℕ) → record_code before fields ≡ Some code → record_refusal before (fields ∷ rest) ≡ Some (record { code = code; line = before + 2 })
+  unfolding record_refusal
   refusal_here code h = rw h refl
 
-  pub refusal_later : record_code before fields ≡ None → first_refusal before (fields ∷ rest) ≡ first_refusal (before + 1) rest
-  unfolding first_refusal
+  pub refusal_later : record_code before fields ≡ None → record_refusal before (fields ∷ rest) ≡ record_refusal (before + 1) rest
+  unfolding record_refusal
   refusal_later h = rw h refl
 
-pub none_refused : (before : ℕ) → first_refusal before [] ≡ None
-unfolding first_refusal
+pub none_refused : (before : ℕ) → record_refusal before [] ≡ None
+unfolding record_refusal
 none_refused before = refl
 
 pub code_full : (before : ℕ) (fields : List (List ℕ)) → MAX_ROWS ≤ before → record_code before fields ≡ Some LIMIT
@@ -185,6 +188,20 @@ module _ (width : ℕ) (so_far : Read RowList) (fields : List (List ℕ)) (furth
 pub even_end : (width : ℕ) (so_far : Read RowList) (further : List (List (List ℕ))) → further ≡ [] → with_even_records width so_far further ≡ so_far
 even_end width so_far further is = rw is (no_record so_far)
 
+-- the header, and the records behind it one after another
+pub records_read : (header : List (List ℕ)) (further : List (List (List ℕ))) → read_records (header ∷ further) ≡ with_even_records (length header) (header_read header) further
+records_read header further = by (list_all (λ (fields : List (List ℕ)). length fields == length header) further) (header_code header)
+  where
+    m : RowList
+    m = record { columns = length (cells header); rows = map row_of further }
+
+    by : (even : Bool) (code : Option ℕ)
+        → (if even then refused_or (refusal_or code 1 (record_refusal 0 further)) m else read.Refused (record { code = CSV; line = 0 }))
+        ≡ (if even then with_records (refused_or (refusal_or code 1 None) (record { columns = length (cells header); rows = [] })) further else read.Refused (record { code = CSV; line = 0 }))
+    by false code = refl
+    by true (Some code) = refl
+    by true None = refl
+
 -- the length of the file comes first
 pub table_long : (bytes : List ℕ) → MAX_FILE_BYTES < length bytes → table bytes ≡ read.Refused (record { code = LIMIT; line = 0 })
 unfolding table
@@ -193,3 +210,32 @@ table_long bytes h = too_long bytes _ h
 pub table_short : (bytes : List ℕ) → length bytes ≤ MAX_FILE_BYTES → table bytes ≡ read_records (records default_config (strip_bom bytes))
 unfolding table
 table_short bytes h = short_enough bytes _ h
+
+-- what is refused of records of one length, and of others
+module _ (header : List (List ℕ)) (further : List (List (List ℕ))) where
+  matrix : RowList
+  matrix = record { columns = length (cells header); rows = map row_of further }
+
+  read_if : (even : Bool) → are_even header further ≡ even → read_records (header ∷ further) ≡ (if even then refused_or (refusal_or (header_code header) 1 (record_refusal 0 further)) matrix else read.Refused (record { code = CSV; line = 0 }))
+  unfolding matrix
+  read_if even h = ap (λ b. if b then refused_or (refusal_or (header_code header) 1 (record_refusal 0 further)) (record { columns = length (cells header); rows = map row_of further }) else read.Refused (record { code = CSV; line = 0 })) h
+
+  read_header_refused : (code : ℕ) → are_even header further ≡ true → header_code header ≡ Some code → read_records (header ∷ further) ≡ read.Refused (record { code = code; line = 1 })
+  read_header_refused code h e = read_if true h ∙ ap (λ c. refused_or (refusal_or c 1 (record_refusal 0 further)) matrix) e
+
+  read_header_taken : are_even header further ≡ true → header_code header ≡ None → read_records (header ∷ further) ≡ refused_or (record_refusal 0 further) matrix
+  read_header_taken h e = read_if true h ∙ ap (λ c. refused_or (refusal_or c 1 (record_refusal 0 further)) matrix) e
+
+pub table_refusals : TableRefusals
+table_refusals = record {
+  too_long = table_long;
+  no_record = λ bytes short e. table_short bytes short ∙ ap read_records e;
+  uneven = λ bytes header further short e h. table_short bytes short ∙ ap read_records e ∙ read_if header further false h;
+  bad_header = λ bytes header further code short e h k. table_short bytes short ∙ ap read_records e ∙ read_header_refused header further code h k;
+  bad_record = λ bytes header further refusal short e h k r.
+      table_short bytes short ∙ ap read_records e ∙ read_header_taken header further h k ∙ ap (λ found. refused_or found (matrix header further)) r;
+  taken = λ bytes header further short e h k r. (
+    matrix header further,
+    table_short bytes short ∙ ap read_records e ∙ read_header_taken header further h k ∙ ap (λ found. refused_or found (matrix header further)) r,
+  );
+}

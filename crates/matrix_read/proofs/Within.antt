@@ -9,7 +9,8 @@ use Rattle.row_model.specs.declared.code.TheConstants.{LIMIT}
 use Rattle.row_model.specs.Rows.{RowList}
 use Rattle.matrix_read.specs.Limits.{IsWithin}
 use Rattle.matrix_read.specs.Lines.{NumberedLine}
-use Rattle.matrix_read.specs.Rows.{refusal_or, refused_or, first_refusal, within_length}
+use Rattle.matrix_read.specs.Rows.{refusal_or, refused_or, first_refusal}
+use Rattle.row_model.specs.Limits.{within_length}
 
 -- a matrix is read of bytes within the limit of the length alone
 short_read : (long : Bool) (inside : Read RowList) (m : RowList) → (if long then read.Refused (record { code = LIMIT; line = 0 }) else inside) ≡ read.Ok m → inside ≡ read.Ok m

@@ -1,5 +1,5 @@
 -- A matrix that is read from a table is within the limits.
-use Rattle.std.proofs.Common.{◌≡◌, ℕ, ◌+◌, ◌<◌, ◌≤◌, ◌==◌, Bool, true, false, nat_lt, if◌then◌else◌, List, [], ◌∷◌, ◌++◌, length, map, Some, None, refl, arith}
+use Rattle.std.proofs.Common.{◌≡◌, ℕ, ◌+◌, ◌<◌, ◌≤◌, ◌==◌, Bool, true, false, nat_lt, if◌then◌else◌, List, [], ◌∷◌, ◌++◌, length, map, Some, None, refl, sym, ◌∙◌, arith}
 use Rattle.std.specs.List.{list_any, list_all}
 use Rattle.std.proofs.lemmas.Bool.{ltb-false}
 use Rattle.std.proofs.lemmas.List.{length-map, length-append}
@@ -12,7 +12,9 @@ use Rattle.row_model.specs.Rows.{RowList}
 use Rattle.matrix_read.specs.Names.{has_twice}
 use Rattle.matrix_read.specs.Cells.{trimmed, cells, is_foreign, row_of}
 use Rattle.matrix_read.specs.Rows.{refusal_or}
-use Rattle.matrix_read.specs.Table.{names_of, header_code, record_code, first_refusal, header_read, with_records, read_records, table}
+use Rattle.matrix_read.specs.Table.{names_of, header_code, record_code, record_refusal, read_records, table}
+use Rattle.matrix_read.specs.TableSteps.{header_read, with_records}
+use Rattle.matrix_read.proofs.TableLemmas.{records_read}
 use Rattle.matrix_read.specs.Limits.{IsWithin}
 use Rattle.matrix_read.proofs.Within.{inside_read, ok_within, none_first, has_room}
 
@@ -38,11 +40,11 @@ header_width (field ∷ fields) h =
 record_room : (before : ℕ) (fields : List (List ℕ)) → record_code before fields ≡ None → before < MAX_ROWS
 record_room before fields h = has_room before (if list_any is_foreign (cells fields) then Some GRAMMAR else None) h
 
-few_records : (before : ℕ) (further : List (List (List ℕ))) → first_refusal before further ≡ None → before ≤ MAX_ROWS → before + length further ≤ MAX_ROWS
-unfolding first_refusal
+few_records : (before : ℕ) (further : List (List (List ℕ))) → record_refusal before further ≡ None → before ≤ MAX_ROWS → before + length further ≤ MAX_ROWS
+unfolding record_refusal
 few_records before [] h le = omega arith
 few_records before (fields ∷ rest) h le =
-    let both = none_first (record_code before fields) (before + 2) (first_refusal (before + 1) rest) h in
+    let both = none_first (record_code before fields) (before + 2) (record_refusal (before + 1) rest) h in
     let free : before < MAX_ROWS = record_room before fields both.0 in
     let later : before + 1 + length rest ≤ MAX_ROWS = few_records (before + 1) rest both.1 (omega arith) in
     omega arith
@@ -57,7 +59,7 @@ further_within : (so_far : Read RowList) (further : List (List (List ℕ))) (m :
 further_within (read.Refused refusal) further m begun e = absurd (cc)
 further_within (read.Ok n) further m begun e =
     let within = begun n refl in
-    ok_within (first_refusal (length n.rows) further) (record { columns = n.columns; rows = n.rows ++ map row_of further }) m e (λ none.
+    ok_within (record_refusal (length n.rows) further) (record { columns = n.columns; rows = n.rows ++ map row_of further }) m e (λ none.
     let few = few_records (length n.rows) further none within.rows in
     record { some = within.some; columns = within.columns; rows = omega (arith, few, length-append n.rows (map row_of further), length-map further row_of) })
 
@@ -69,7 +71,7 @@ records_within : (all : List (List (List ℕ))) (m : RowList) → read_records a
 records_within [] m e = absurd (cc)
 records_within (header ∷ further) m e =
     further_within (header_read header) further m (header_within header)
-    (even_read (list_all (λ (fields : List (List ℕ)). length fields == length header) further) (with_records (header_read header) further) m e)
+    (even_read (list_all (λ (fields : List (List ℕ)). length fields == length header) further) (with_records (header_read header) further) m (sym (records_read header further) ∙ e))
 
 pub table_within : (bytes : List ℕ) (m : RowList) → table bytes ≡ read.Ok m → IsWithin m
 unfolding table

@@ -1,5 +1,5 @@
 -- Words, and the numbers that they write.
-use Rattle.std.proofs.Common.{◌≡◌, ℕ, suc, ◌<◌, ◌≤◌, ◌+◌, ◌-◌, ◌*◌, ◌^◌, List, [], ◌∷◌, length, take, drop, slice_range, ap, sym, ◌∙◌, refl, arith, true, false, if◌then◌else◌, ◌&&◌, not, get_or, drop-cons}
+use Rattle.std.proofs.Common.{◌≡◌, ℕ, suc, ◌<◌, ◌≤◌, ◌+◌, ◌-◌, ◌*◌, ◌^◌, List, [], ◌∷◌, length, take, drop, slice_range, ap, sym, ◌∙◌, refl, arith, true, false, if◌then◌else◌, ◌&&◌, not, get_or, nat_lt, Bool, Option, Some, None, drop-cons}
 use Rattle.std.proofs.Math.ListN.{drop_of_length-le}
 use Rattle.std.proofs.lemmas.List.{drop-take, drop-drop, length-take-le, length-drop}
 use Rattle.std.proofs.lemmas.Bool.{lt-ltb, le-ltb, and_parts}
@@ -7,7 +7,7 @@ use Rattle.std.proofs.lemmas.Grind.{common_steps}
 use Rattle.std.specs.List.{list_all}
 use Rattle.std.specs.Char.{is_ascii_digit}
 use Rattle.matrix_read.specs.Lines.{is_blank, is_blank_byte, before_first}
-use Rattle.matrix_read.specs.Words.{blank_len, word_len, begins_word, words_of, number_after, numeral_of}
+use Rattle.matrix_read.specs.Words.{blank_len, word_len, begins_word, words_of, number_after, numeral, numeral_of}
 use Rattle.matrix_read.specs.declared.words.Numeral.TheVariants.{Value, TooLarge}
 
 -- all bytes are blanks, or a word begins behind the blanks
@@ -70,7 +70,7 @@ module _ (b : ℕ) (line : List ℕ) where
   unfolding words_of
   words_of_more h e = rw (h, e) refl
 
-words_of_skip : (line : List ℕ) → words_of line ≡ words_of (drop (blank_len line) line)
+pub words_of_skip : (line : List ℕ) → words_of line ≡ words_of (drop (blank_len line) line)
 words_of_skip [] = refl
 words_of_skip (b ∷ line) =
     (elim (is_blank_byte b) as (λ v. is_blank_byte b ≡ v → words_of (b ∷ line) ≡ words_of (drop (if v then suc (blank_len line) else 0) (b ∷ line))) [
@@ -87,7 +87,7 @@ words_of_word b (c ∷ line) h =
       | false ↦ λ e. words_of_more b (c ∷ line) h (ap not e) ∙ ap (before_first b) (words_of_word c line e)
     ]) refl
 
-word_first : (line : List ℕ) → 0 < word_len line → words_of line ≡ take (word_len line) line ∷ words_of (drop (word_len line) line)
+pub word_first : (line : List ℕ) → 0 < word_len line → words_of line ≡ take (word_len line) line ∷ words_of (drop (word_len line) line)
 word_first [] h = absurd (omega arith)
 word_first (b ∷ line) h =
     (elim (is_blank_byte b) as (λ v. is_blank_byte b ≡ v → 0 < (if v then 0 else suc (word_len line)) → words_of (b ∷ line) ≡ take (if v then 0 else suc (word_len line)) (b ∷ line) ∷ words_of (drop (if v then 0 else suc (word_len line)) (b ∷ line))) [
@@ -95,7 +95,7 @@ word_first (b ∷ line) h =
       | false ↦ λ e h. words_of_word b line e
     ]) refl h
 
-words_of_blanks : (line : List ℕ) → is_blank line ≡ true → words_of line ≡ []
+pub words_of_blanks : (line : List ℕ) → is_blank line ≡ true → words_of line ≡ []
 unfolding words_of
 words_of_blanks [] h = refl
 words_of_blanks (b ∷ line) h = let parts = and_parts (is_blank_byte b) (is_blank line) h in words_of_blank b line parts.0 ∙ words_of_blanks line parts.1
@@ -149,3 +149,12 @@ none_after v i word h = rw (drop_of_length-le word h) refl
 
 pub digit_after : (v i : ℕ) (word : List ℕ) → i < length word → number_after v (get_or word i 0 ∷ drop (suc i) word) ≡ number_after v (drop i word)
 digit_after v i word h = ap (number_after v) (sym (drop-cons word i 0 h))
+
+-- what the number of a word is, told by its numeral
+pub number_some : (number : Option ℕ) (v : ℕ) → Value v ≡ numeral number → number ≡ Some v
+number_some None v h = absurd (cc)
+number_some (Some n) v h = by (nat_lt n (2 ^ 64)) h
+  where
+    by : (small : Bool) → Value v ≡ (if small then Value n else TooLarge) → Some n ≡ Some v
+    by true k = cc
+    by false k = absurd (cc)

@@ -8,12 +8,14 @@ use Rattle.row_model.specs.Rows.{Ascends, IsRow}
 use Rattle.row_model.specs.declared.refusal.Read.TheVariants as read
 use Rattle.row_model.specs.declared.TheConstants.{MAX_COLUMNS, MAX_ROWS}
 use Rattle.matrix_read.specs.Lines.{without_mark, without_return, line_parts, lines_of, is_blank, filled_lines}
-use Rattle.matrix_read.specs.Dense.{is_digit, is_foreign, digits_of, width_of, ones_from, row_of, row_code, rows_of, rows_or_refusal, read_lines}
+use Rattle.matrix_read.specs.Dense.{is_digit, is_foreign, digits_of, width_of, row_of, first_code, row_code, rows_of, read_lines}
+use Rattle.matrix_read.specs.DenseSteps.{rows_or_refusal}
 use Rattle.matrix_read.specs.Rows.{first_refusal, refused_or}
+use Rattle.row_model.proofs.Ascending.{lacks_low}
 use Rattle.matrix_read.specs.Written.{digits_from, text_of, DenseLaw}
 use Rattle.matrix_read.proofs.LineLemmas.{filled_here}
 use Rattle.matrix_read.proofs.RowLemmas.{first_refusal-later}
-use Rattle.matrix_read.proofs.DenseLemmas.{dense_short}
+use Rattle.matrix_read.proofs.DenseLemmas.{ones_from, ones_columns, first_line_taken, dense_short}
 
 -- only digits
 abbrev pub AreDigits : List ℕ → Type 0
@@ -21,11 +23,6 @@ AreDigits bytes = list_all is_digit bytes ≡ true
 
 digit_cases : (b : ℕ) → is_digit b ≡ true → (b ≡ 48) ⊎ (b ≡ 49)
 digit_cases b h = elim (or_cases (b == 48) (b == 49) h) [ inl e ↦ inl (eqb-true b 48 e) | inr e ↦ inr (eqb-true b 49 e) ]
-
--- a column that the row has, or lacks
-pub lacks_low : (c low a : ℕ) (row : List ℕ) → Ascends c low row → a ≤ low → has row a ≡ false
-lacks_low c low a [] h le = refl
-lacks_low c low a (x ∷ row) h le = rw (ne_eqb x a (λ e. omega (arith, e, h.0)), lacks_low c x a row h.2 (omega (arith, h.0))) refl
 
 digits-written : (column n : ℕ) (row : List ℕ) → AreDigits (digits_from column n row)
 digits-written column zero row = refl
@@ -113,14 +110,17 @@ lines_of-text_of c (row ∷ rows) =
 -- the row of its digits
 module _ (c : ℕ) (row : List ℕ) (is : IsRow c row) where
   row_of-written : row_of (digits_from 1 c row) ≡ row
-  row_of-written = ap (ones_from 1) (digits_of-digits (digits_from 1 c row) (digits-written 1 c row)) ∙ ones-written c 0 c row (omega arith) is
+  row_of-written = sym (ones_columns (digits_from 1 c row)) ∙ ap (ones_from 1) (digits_of-digits (digits_from 1 c row) (digits-written 1 c row)) ∙ ones-written c 0 c row (omega arith) is
 
   width_of-written : width_of (digits_from 1 c row) ≡ c
   width_of-written = ap length (digits_of-digits (digits_from 1 c row) (digits-written 1 c row)) ∙ length-digits_from 1 c row
 
-  row_code-written : (before : ℕ) → before < MAX_ROWS → c ≤ MAX_COLUMNS → row_code c before (digits_from 1 c row) ≡ None
-  row_code-written before few narrow =
-      rw (lt-leb MAX_ROWS before few, no_foreign (digits_from 1 c row) (digits-written 1 c row), le-ltb MAX_COLUMNS c narrow, width_of-written, eq-eqb c c refl) refl
+  row_code-written : (before : ℕ) → before < MAX_ROWS → row_code c before (digits_from 1 c row) ≡ None
+  row_code-written before few =
+      rw (lt-leb MAX_ROWS before few, no_foreign (digits_from 1 c row) (digits-written 1 c row), width_of-written, eq-eqb c c refl) refl
+
+  first_code-written : c ≤ MAX_COLUMNS → first_code (digits_from 1 c row) ≡ None
+  first_code-written narrow = rw (no_foreign (digits_from 1 c row) (digits-written 1 c row), width_of-written, le-ltb MAX_COLUMNS c narrow) refl
 
 -- the written rows are the filled lines, none is refused, and they are read as they are
 filled-written : (c number : ℕ) (row : List ℕ) (rows : List (List ℕ)) → 1 ≤ c → filled_lines number (written c (row ∷ rows)) ≡ record { number = number; text = digits_from 1 c row } ∷ filled_lines (number + 1) (written c rows)
@@ -136,7 +136,7 @@ module _ (c : ℕ) (some : 1 ≤ c) (narrow : c ≤ MAX_COLUMNS) where
   first_refusal-written before number [] few all = refl
   first_refusal-written before number (row ∷ rows) few all =
       ap (first_refusal (row_code c) before) (filled-written c number row rows some)
-      ∙ first_refusal-later (row_code c) before (record { number = number; text = digits_from 1 c row }) (filled_lines (number + 1) (written c rows)) (row_code-written c row all.0 before (omega arith) narrow)
+      ∙ first_refusal-later (row_code c) before (record { number = number; text = digits_from 1 c row }) (filled_lines (number + 1) (written c rows)) (row_code-written c row all.0 before (omega arith))
       ∙ first_refusal-written (before + 1) (number + 1) rows (omega arith) all.1
 
   rows_of-written : (number : ℕ) (rows : List (List ℕ)) → AllByRecursion (IsRow c) rows → rows_of (filled_lines number (written c rows)) ≡ rows
@@ -151,9 +151,8 @@ module _ (c : ℕ) (some : 1 ≤ c) (narrow : c ≤ MAX_COLUMNS) where
   read_lines-written [] full few all = absurd (omega arith)
   read_lines-written (row ∷ rows) full few all =
       let lines = filled_lines 1 (written c (row ∷ rows)) in
-      ap read_lines (filled-written c 1 row rows some)
-      ∙ ap (λ width. rows_or_refusal width (record { number = 1; text = digits_from 1 c row } ∷ filled_lines 2 (written c rows))) (width_of-written c row all.0)
-      ∙ ap (rows_or_refusal c) (sym (filled-written c 1 row rows some))
+      first_line_taken (record { number = 1; text = digits_from 1 c row }) lines (filled_lines 2 (written c rows)) (filled-written c 1 row rows some) (first_code-written c row all.0 narrow)
+      ∙ ap (λ width. rows_or_refusal width lines) (width_of-written c row all.0)
       ∙ ap (λ refusal. refused_or refusal (record { columns = c; rows = rows_of lines })) (first_refusal-written 0 1 (row ∷ rows) (omega arith) all)
       ∙ ap (λ read_rows. read.Ok (record { columns = c; rows = read_rows })) (rows_of-written 1 (row ∷ rows) all)
 

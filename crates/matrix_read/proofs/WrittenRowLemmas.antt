@@ -1,5 +1,5 @@
 -- The text of lines that name the columns of rows is read as these rows.
-use Rattle.std.proofs.Common.{◌≡◌, ◌⊎◌, ℕ, zero, suc, ◌<◌, ◌≤◌, ◌+◌, ◌^◌, List, [], ◌∷◌, ◌++◌, length, map, ap, sym, ◌∙◌, refl, arith, None, Ok, true, false, ◌==◌, not, eq-eqb, inl, inr}
+use Rattle.std.proofs.Common.{◌≡◌, ◌⊎◌, ℕ, ◌<◌, ◌≤◌, ◌+◌, ◌^◌, List, [], ◌∷◌, ◌++◌, length, map, ap, sym, ◌∙◌, refl, arith, None, Some, Ok, true, false, ◌==◌, not, eq-eqb, inl, inr}
 use Rattle.std.proofs.lemmas.Bool.{cases_eq, ne_eqb, le-leb, le-ltb, leb-true, and_parts, or_right}
 use Rattle.std.proofs.lemmas.List.{append-nil}
 use Rattle.std.proofs.lemmas.Fmt.{digits_decimal, digits_value-decimal, decimal_nonempty, IsAscii-decimal}
@@ -12,17 +12,17 @@ use Rattle.std.specs.List.{list_all, AllByRecursion}
 use Rattle.std.specs.Str.{IsAscii}
 use Rattle.std.proofs.Common.{rules}
 use Rattle.column_order.specs.Orders.{has}
+use Rattle.column_order.specs.declared.TheConstants.{COLUMN_BOUND}
 use Rattle.row_model.specs.Rows.{Ascends}
 use Rattle.row_model.specs.declared.refusal.Read.TheVariants as read
 use Rattle.row_model.specs.declared.TheConstants.{MAX_COLUMNS, MAX_ROWS}
 use Rattle.matrix_read.specs.Lines.{NumberedLine, before_first, is_blank_byte, without_mark, without_return, line_parts, lines_of}
-use Rattle.matrix_read.specs.Words.{begins_word, words_of, only_word, number_after, numeral_of}
-use Rattle.matrix_read.specs.declared.words.Numeral.TheVariants.{Value}
+use Rattle.matrix_read.specs.Words.{begins_word, words_of, only_word, number_after, number_of}
 use Rattle.matrix_read.specs.Rows.{numbered_lines, first_refusal, refused_or, columns_among}
-use Rattle.matrix_read.specs.Sparse.{column_code, width_of_numeral, words_code, line_code, numbers_of, row_named, named_rows, first_width, sparse_lines}
+use Rattle.matrix_read.specs.Sparse.{column_code, width_of_number, words_code, line_code, numbers_of, row_named, named_rows, first_width, sparse_lines}
 use Rattle.matrix_read.specs.WrittenRows.{spaced, named_line, named_text, Names, NameAll, FurtherLaw, SparseLaw}
-use Rattle.matrix_read.proofs.WordLemmas.{words_of_blank, words_of_last, words_of_more, numeral_value}
-use Rattle.matrix_read.proofs.WrittenLemmas.{lacks_low}
+use Rattle.matrix_read.proofs.WordLemmas.{words_of_blank, words_of_last, words_of_more, numeral_value, number_some}
+use Rattle.row_model.proofs.Columns.{columns_same, columns_row}
 use Rattle.matrix_read.proofs.SparseLemmas.{sparse_short, further_short, first_taken, line_taken, words_next, words_end}
 
 -- the bytes of numbers and of the spaces between them
@@ -45,8 +45,8 @@ are_digits (b ∷ bytes) h =
 decimal_digits : (n : ℕ) → n < 2 ^ 64 → AllByRecursion IsDigit (decimal n)
 decimal_digits n small = are_digits (decimal n) (digits_decimal own n small)
 
-decimal_value : (n : ℕ) → n < 2 ^ 64 → numeral_of (decimal n) ≡ Value n
-decimal_value n small = sym (numeral_value (decimal n) (decimal_nonempty n small) (digits_decimal own n small) n (sym (digits_value-decimal own n small)) small)
+decimal_value : (n : ℕ) → n < 2 ^ 64 → number_of (decimal n) ≡ Some n
+decimal_value n small = number_some (number_of (decimal n)) n (numeral_value (decimal n) (decimal_nonempty n small) (digits_decimal own n small) n (sym (digits_value-decimal own n small)) small)
 
 -- a word of digits before bytes that begin no word
 digit_filled : (b : ℕ) → IsDigit b → is_blank_byte b ≡ false
@@ -68,7 +68,7 @@ spaced_apart : (columns : List ℕ) → begins_word (spaced columns) ≡ false
 spaced_apart [] = refl
 spaced_apart (column ∷ columns) = refl
 
-module _ (c : ℕ) (small : c ≤ 32768) where
+module _ (c : ℕ) (small : c ≤ COLUMN_BOUND) where
   small_enough : (a : ℕ) → a ≤ c → a < 2 ^ 64
   small_enough a le = omega arith
 
@@ -98,31 +98,8 @@ module _ (c : ℕ) (small : c ≤ 32768) where
   words_code-decimals : (columns : List ℕ) → AreWithin c columns → words_code c (map decimal columns) ≡ None
   words_code-decimals [] within = words_end c [] refl
   words_code-decimals (column ∷ columns) within =
-      let taken : column_code c (numeral_of (decimal column)) ≡ None = ap (column_code c) (decimal_value column (small_enough column within.0.1)) ∙ rw (le-leb 1 column within.0.0, le-leb column c within.0.1) refl in
+      let taken : column_code c (number_of (decimal column)) ≡ None = ap (column_code c) (decimal_value column (small_enough column within.0.1)) ∙ rw (le-leb 1 column within.0.0, le-leb column c within.0.1) refl in
       sym (words_next c (map decimal (column ∷ columns)) (map decimal columns) (decimal column) refl taken) ∙ words_code-decimals columns within.1
-
--- the set of columns is the row
-among_same : (column n : ℕ) (xs ys : List ℕ) → ((a : ℕ) → has xs a ≡ has ys a) → columns_among column n xs ≡ columns_among column n ys
-among_same column zero xs ys same = refl
-among_same column (suc n) xs ys same = rw (same column, among_same (column + 1) n xs ys same) refl
-
-among_later : (x column n : ℕ) (row : List ℕ) → x < column → columns_among column n (x ∷ row) ≡ columns_among column n row
-among_later x column zero row lt = refl
-among_later x column (suc n) row lt = rw (ne_eqb x column (λ e. omega (arith, e)), among_later x (column + 1) n row (omega arith)) refl
-
-among_row : (c low n : ℕ) (row : List ℕ) → low + n ≡ c → Ascends c low row → columns_among (low + 1) n row ≡ row
-among_row c low zero [] e h = refl
-among_row c low zero (x ∷ row) e h = absurd (omega (arith, h.0, h.1))
-among_row c low (suc n) [] e h = among_row c (low + 1) n [] (omega arith) tt
-among_row c low (suc n) (x ∷ row) e h =
-    elim (cases_eq x (low + 1)) [
-      | inl same ↦
-          let rest : Ascends c (low + 1) row = rw same at h.2 in
-          rw (eq-eqb x (low + 1) same, among_later x (low + 1 + 1) n row (omega (arith, same)), among_row c (low + 1) n row (omega arith) rest) (ap (λ a. a ∷ row) (sym same))
-      | inr other ↦
-          let above : Ascends c (low + 1) (x ∷ row) = (omega (arith, other, h.0), h.1, h.2) in
-          rw (ne_eqb x (low + 1) other, lacks_low c x (low + 1) row h.2 (omega (arith, above.0))) (among_row c (low + 1) n (x ∷ row) (omega arith) above)
-    ]
 
 -- what a row has is within its columns
 has_within : (c low a : ℕ) (row : List ℕ) → Ascends c low row → has row a ≡ true → (low < a) × (a ≤ c)
@@ -142,16 +119,16 @@ all_within c (column ∷ columns) h =
     let here : has (column ∷ columns) column ≡ true = rw (eq-eqb column column refl) refl in
     (h column here, all_within c columns (λ a found. h a (or_right (column == a) (has columns a) found)))
 
-module _ (c : ℕ) (small : c ≤ 32768) (columns row : List ℕ) (names : Names c columns row) where
+module _ (c : ℕ) (small : c ≤ COLUMN_BOUND) (columns row : List ℕ) (names : Names c columns row) where
   named_within : AreWithin c columns
   named_within = all_within c columns (λ a found. let bounds = has_within c 0 a row names.is_row (sym (names.same a) ∙ found) in (omega (arith, bounds.0), bounds.1))
 
   row_named-line : row_named c (named_line columns) ≡ row
   row_named-line =
-      ap (λ words. columns_among 1 c (numbers_of words)) (words_of-line c small columns named_within)
-      ∙ ap (columns_among 1 c) (numbers_of-decimals c small columns named_within)
-      ∙ among_same 1 c columns row names.same
-      ∙ among_row c 0 c row (omega arith) names.is_row
+      ap (λ words. columns_among c (numbers_of words)) (words_of-line c small columns named_within)
+      ∙ ap (columns_among c) (numbers_of-decimals c small columns named_within)
+      ∙ columns_same c (has columns) (has row) (λ j lt. names.same (j + 1))
+      ∙ columns_row c row names.is_row
 
   line_code-line : (before : ℕ) → before < MAX_ROWS → line_code c before (named_line columns) ≡ None
   line_code-line before few = line_taken c before (named_line columns) few (ap (words_code c) (words_of-line c small columns named_within) ∙ words_code-decimals c small columns named_within)
@@ -192,7 +169,7 @@ without_mark-ascii (a ∷ b ∷ []) h = refl
 without_mark-ascii (a ∷ b ∷ c ∷ bytes) h = rw (ne_eqb a 239 (λ e. omega (arith, e, h 0))) refl
 
 -- the text of rows
-module _ (c : ℕ) (small : c ≤ 32768) where
+module _ (c : ℕ) (small : c ≤ COLUMN_BOUND) where
   spaced_written : (columns : List ℕ) → AreWithin c columns → AllByRecursion IsWritten (spaced columns) × IsAscii (spaced columns)
   spaced_written [] within = (tt, IsAscii-nil)
   spaced_written (column ∷ columns) within =
@@ -256,13 +233,13 @@ further_law_holds c lists rows small names few short =
 pub sparse_law_holds : SparseLaw
 unfolding words_of
 sparse_law_holds c lists rows some narrow names few short =
-    let small : c ≤ 32768 = omega arith in
+    let small : c ≤ COLUMN_BOUND = omega arith in
     let fits = small_enough c small c (omega arith) in
     let text = decimal c ++ 10 ∷ named_text lists in
     let ascii = IsAscii-append (decimal c) (10 ∷ named_text lists) (IsAscii-decimal c fits) (IsAscii-cons 10 (named_text lists) (omega arith) (text_ascii c small lists rows names)) in
     let word : words_of (decimal c) ≡ decimal c ∷ [] = ap words_of (sym (append-nil (decimal c))) ∙ word_before (decimal c) [] (decimal_nonempty c fits) (decimal_digits c fits) refl in
-    let width : Ok c ≡ first_width (only_word (words_of (decimal c))) = sym (ap (λ words. first_width (only_word words)) word ∙ ap width_of_numeral (decimal_value c fits) ∙ rw (ne_eqb c 0 (λ e. omega (arith, e)), le-ltb MAX_COLUMNS c narrow) refl) in
+    let width : Ok c ≡ first_width (only_word (words_of (decimal c))) = sym (ap (λ words. first_width (only_word words)) word ∙ ap width_of_number (decimal_value c fits) ∙ rw (ne_eqb c 0 (λ e. omega (arith, e)), le-ltb MAX_COLUMNS c narrow) refl) in
     sparse_short text short
-    ∙ ap (λ bytes. sparse_lines (lines_of bytes)) (without_mark-ascii text ascii)
+    ∙ ap (λ bytes. sparse_lines (numbered_lines 1 (lines_of bytes))) (without_mark-ascii text ascii)
     ∙ first_taken text (decimal c) (lines_of (named_text lists)) (first_line_written (decimal c) (named_text lists) (written_digits (decimal c) (decimal_digits c fits))) c width
     ∙ named_rows-text c small 2 lists rows names few

@@ -14,13 +14,14 @@ use Rattle.row_model.specs.declared.refusal.Read.TheVariants as read
 use Rattle.row_model.specs.declared.TheConstants.{MAX_COLUMNS, MAX_ROWS}
 use Rattle.row_model.specs.declared.code.TheConstants.{CSV}
 use Rattle.matrix_read.specs.Rows.{refused_or}
-use Rattle.matrix_read.specs.Cells.{trimmed, is_foreign, present_from, row_of}
-use Rattle.matrix_read.specs.Table.{names_of, header_code, header_read, record_code, first_refusal, with_records, read_records}
+use Rattle.matrix_read.specs.Cells.{trimmed, is_foreign, row_of}
+use Rattle.matrix_read.specs.Table.{names_of, header_code, record_code, record_refusal, read_records}
+use Rattle.matrix_read.specs.TableSteps.{header_read, with_records}
 use Rattle.matrix_read.specs.Names.{has_twice}
 use Rattle.matrix_read.specs.TableLaws.{LabelledRow, crosses_from, records_with, text_of, Differ, TableLaw}
 use Rattle.matrix_read.proofs.RecordLemmas.{none_at_end, records_step}
-use Rattle.matrix_read.proofs.TableLemmas.{code_none, refusal_later, none_refused, table_short}
-use Rattle.matrix_read.proofs.WrittenLemmas.{lacks_low}
+use Rattle.matrix_read.proofs.TableLemmas.{present_from, present_columns, code_none, refusal_later, none_refused, records_read, table_short}
+use Rattle.row_model.proofs.Ascending.{lacks_low}
 use Rattle.matrix_read.proofs.CellLemmas.{names_law_holds}
 
 -- the records of a text that csv writes
@@ -80,12 +81,12 @@ marks-written c low (suc n) (x ∷ row) e h =
 -- no record is refused, and each is read as its row
 module _ (n : ℕ) where
   row_of-written : (labelled : LabelledRow) → IsRow n labelled.row → row_of (fields_with n labelled) ≡ labelled.row
-  row_of-written labelled is = ap (present_from 1) (cells-written 1 n labelled.row) ∙ marks-written n 0 n labelled.row (omega arith) is
+  row_of-written labelled is = sym (present_columns (fields_with n labelled)) ∙ ap (present_from 1) (cells-written 1 n labelled.row) ∙ marks-written n 0 n labelled.row (omega arith) is
 
   code-written : (before : ℕ) (labelled : LabelledRow) → before < MAX_ROWS → record_code before (fields_with n labelled) ≡ None
   code-written before labelled few = code_none before (fields_with n labelled) few (ap (list_any is_foreign) (cells-written 1 n labelled.row) ∙ none_foreign 1 n labelled.row)
 
-  none-refused : (before : ℕ) (rows : List LabelledRow) → before + length rows ≤ MAX_ROWS → first_refusal before (map (fields_with n) rows) ≡ None
+  none-refused : (before : ℕ) (rows : List LabelledRow) → before + length rows ≤ MAX_ROWS → record_refusal before (map (fields_with n) rows) ≡ None
   none-refused before [] few = none_refused before
   none-refused before (labelled ∷ rows) few =
       refusal_later before (fields_with n labelled) (map (fields_with n) rows) (code-written before labelled (omega arith))
@@ -120,6 +121,7 @@ table_law_holds corner names rows some narrow apart few all short plain =
     table_short text short
     ∙ ap (λ bytes. read_records (records default_config bytes)) plain
     ∙ ap read_records (records-text_of (records_with corner names rows) ∙ ap (λ later. (corner ∷ names) ∷ later) (read_back-written (length names) rows))
+    ∙ records_read (corner ∷ names) further
     ∙ ap (λ even. if even then with_records (header_read (corner ∷ names)) further else read.Refused (record { code = CSV; line = 0 })) (even-written (length names) (suc (length names)) rows refl)
     ∙ ap (λ begun. with_records begun further) (header-written corner names some narrow apart)
     ∙ ap (λ refusal. refused_or refusal (record { columns = length names; rows = map row_of further })) (none-refused (length names) 0 rows (omega arith))

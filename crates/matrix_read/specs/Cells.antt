@@ -1,8 +1,9 @@
 -- The cells of a table, and the rows that they mark.
-use Rattle.std.specs.Prelude.{ℕ, ◌+◌, ◌==◌, ◌||◌, ◌&&◌, not, List, [], ◌∷◌, map, length, drop, codes, if◌then◌else◌, Bool}
+use Rattle.std.specs.Prelude.{ℕ, ◌-◌, ◌==◌, ◌||◌, ◌&&◌, not, List, [], ◌∷◌, map, length, drop, slice_index_or, codes, if◌then◌else◌, Bool}
 use Rattle.std.specs.Char.{is_ascii_digit}
 use Rattle.std.specs.List.{list_all}
 use Rattle.std.specs.Str.{bytes_eq}
+use Rattle.row_model.specs.Rows.{columns_where}
 use Rattle.matrix_read.specs.Lines.{is_blank}
 use Rattle.matrix_read.specs.Words.{blank_len}
 
@@ -39,11 +40,6 @@ is_present cell = is_cross cell || (list_all is_ascii_digit cell && not (is_abse
 abbrev pub is_foreign : List ℕ → Bool
 is_foreign cell = not (is_present cell || is_absent cell)
 
--- the columns whose cells say that the row has them, where the first cell is of this column
-abbrev pub present_from : ℕ → List (List ℕ) → List ℕ
-present_from column [] = []
-present_from column (cell ∷ rest) = if is_present cell then column ∷ present_from (column + 1) rest else present_from (column + 1) rest
-
--- the row of a record
+-- the row of a record: the columns whose cells say that the row has them
 abbrev pub row_of : List (List ℕ) → List ℕ
-row_of fields = present_from 1 (cells fields)
+row_of fields = columns_where (length (cells fields)) (λ column. is_present (slice_index_or (cells fields) (column - 1) []))

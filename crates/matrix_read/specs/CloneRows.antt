@@ -1,15 +1,39 @@
--- What the row of a clone is.
-use Rattle.std.specs.Prelude.{◌≡◌, ℕ, ◌+◌, ◌<◌, false, List, [], length, slice_index_or}
-use Rattle.std.specs.List.{list_any}
+-- What the matrix of a clone file is.
+use Rattle.std.specs.Prelude.{◌≡◌, ℕ, ◌+◌, ◌<◌, List, [], ◌∷◌, length, codes, slice_get, slice_index_or, IsTrue, IsFalse, Some}
+use Rattle.std.specs.List.{list_any, list_all}
 use Rattle.std.specs.Str.{bytes_eq}
+use Rattle.serde_json.specs.Data.{Data, Items, no_items, item}
 use Rattle.column_order.specs.Orders.{has}
-use Rattle.matrix_read.specs.Clones.{names_row}
+use Rattle.row_model.specs.Rows.{RowList, IsRow}
+use Rattle.row_model.specs.declared.refusal.Read.TheVariants as read
+use Rattle.matrix_read.specs.Clones.{reading, array_at, is_probe, probes_of, clones}
+use Rattle.matrix_read.specs.Lines.{without_mark}
 use Rattle.matrix_read.specs.Names.{has_twice}
 
--- where no two probes are equal, the row of names has a column exactly where a name is the probe at that place
+-- the items of an array as a list
+abbrev pub values_of : Items → List Data
+values_of no_items = []
+values_of (item value items) = value ∷ values_of items
+
+-- a clone that names probes alone, and its row: it has a column exactly where the clone names the probe at that place
+pub record IsCloneRow (probes : List (List ℕ)) (clone : Data) (row : List ℕ) : Type 0 where
+  pub names : List (List ℕ)
+  pub named : probes_of clone ≡ Some names
+  pub known : IsTrue (list_all (is_probe probes) names)
+  pub is_row : IsRow (length probes) row
+  pub columns : (place : ℕ) → place < length probes → has row (place + 1) ≡ list_any (bytes_eq (slice_index_or probes place [])) names
+
+-- a matrix of the probes and clones of a value: each probe is a column, no two of them equal, and row i is that of clone i
+pub record IsMatrixOf (value : Data) (m : RowList) : Type 0 where
+  pub probes : List (List ℕ)
+  pub clones : Items
+  pub named : probes_of value ≡ Some probes
+  pub listed : array_at (codes "clones") value ≡ Some clones
+  pub distinct : IsFalse (has_twice probes)
+  pub columns : m.columns ≡ length probes
+  pub count : length m.rows ≡ length (values_of clones)
+  pub rows : (i : ℕ) (clone : Data) → slice_get (values_of clones) i ≡ Some clone → IsCloneRow probes clone (slice_index_or m.rows i [])
+
+-- a matrix that is read of a clone file is that of the value of its bytes
 abbrev pub CloneLaw : Type 0
-CloneLaw =
-    (probes names : List (List ℕ)) (place : ℕ) →
-    has_twice probes ≡ false →
-    place < length probes →
-    has (names_row probes names) (place + 1) ≡ list_any (bytes_eq (slice_index_or probes place [])) names
+CloneLaw = (bytes : List ℕ) (m : RowList) → clones bytes ≡ read.Ok m → (value : Data) × (reading (without_mark bytes) ≡ Some value) × IsMatrixOf value m

@@ -5,6 +5,7 @@ use Rattle.std.specs.Str.{bytes_eq, is_utf8}
 use Rattle.serde_json.specs.Data.{Data, Items, no_items, item}
 use Rattle.serde_json.specs.Find.{get, as_array, as_str}
 use Rattle.serde_json.specs.Read.{read}
+use Rattle.row_model.specs.Limits.{within_length}
 use Rattle.row_model.specs.Rows.{RowList}
 use Rattle.row_model.specs.declared.refusal.Refusal.{Refusal}
 use Rattle.row_model.specs.declared.refusal.Read.{Read}
@@ -13,7 +14,7 @@ use Rattle.row_model.specs.declared.TheConstants.{MAX_COLUMNS, MAX_ROWS}
 use Rattle.row_model.specs.declared.code.TheConstants.{EMPTY, RANGE, TWICE, LIMIT, JSON, SHAPE}
 use Rattle.matrix_read.specs.Lines.{without_mark}
 use Rattle.matrix_read.specs.Names.{has_twice}
-use Rattle.matrix_read.specs.Rows.{refusal_or, refused_or, within_length, columns_among}
+use Rattle.matrix_read.specs.Rows.{refusal_or, refused_or, columns_among}
 
 -- the value that `serde_json` reads; bytes that are no UTF-8 have none
 abbrev pub reading : List ℕ → Option Data
@@ -74,7 +75,7 @@ first_refused probes number (item clone clones) = refusal_or (names_code probes 
 
 -- the row of names: the set of their columns
 abbrev pub names_row : List (List ℕ) → List (List ℕ) → List ℕ
-names_row probes names = columns_among 1 (length probes) (map (column_of probes) names)
+names_row probes names = columns_among (length probes) (map (column_of probes) names)
 
 -- the row of a clone: that of its probes
 abbrev pub clone_row : List (List ℕ) → Data → List ℕ

@@ -1,13 +1,14 @@
 -- A matrix as lines of the digits 0 and 1.
-use Rattle.std.specs.Prelude.{ℕ, ◌+◌, ◌==◌, ◌||◌, not, List, [], ◌∷◌, map, length, if◌then◌else◌, Bool, nat_lt, nat_le, Option, Some, None}
+use Rattle.std.specs.Prelude.{ℕ, ◌-◌, ◌==◌, ◌||◌, not, List, [], ◌∷◌, map, length, slice_index_or, if◌then◌else◌, Bool, nat_lt, nat_le, Option, Some, None}
 use Rattle.std.specs.List.{list_any, filter}
-use Rattle.row_model.specs.Rows.{RowList}
+use Rattle.row_model.specs.Limits.{within_length}
+use Rattle.row_model.specs.Rows.{RowList, columns_where}
 use Rattle.row_model.specs.declared.refusal.Read.{Read}
 use Rattle.row_model.specs.declared.refusal.Read.TheVariants as read
 use Rattle.row_model.specs.declared.TheConstants.{MAX_COLUMNS, MAX_ROWS}
 use Rattle.row_model.specs.declared.code.TheConstants.{EMPTY, GRAMMAR, COUNT, LIMIT}
 use Rattle.matrix_read.specs.Lines.{is_blank_byte, without_mark, lines_of, filled_lines, NumberedLine}
-use Rattle.matrix_read.specs.Rows.{first_refusal, refused_or, within_length}
+use Rattle.matrix_read.specs.Rows.{refusal_or, first_refusal, refused_or}
 
 -- 0 or 1
 abbrev pub is_digit : ℕ → Bool
@@ -25,21 +26,22 @@ digits_of line = filter is_digit line
 abbrev pub width_of : List ℕ → ℕ
 width_of line = length (digits_of line)
 
--- the columns at which digits are 1, where the first digit is of this column
-abbrev pub ones_from : ℕ → List ℕ → List ℕ
-ones_from column [] = []
-ones_from column (digit ∷ digits) = if digit == 49 then column ∷ ones_from (column + 1) digits else ones_from (column + 1) digits
-
 -- the row of a line: the columns at which its digits are 1
 abbrev pub row_of : List ℕ → List ℕ
-row_of line = ones_from 1 (digits_of line)
+row_of line = columns_where (width_of line) (λ column. slice_index_or (digits_of line) (column - 1) 0 == 49)
 
--- the code by which a line is refused as a row, if it is, where the first row has this width and so many rows stand before the line
+-- the code by which a line is refused as the first row, if it is
+abbrev pub first_code : List ℕ → Option ℕ
+first_code line =
+    if list_any is_foreign line then Some GRAMMAR
+    else if nat_lt MAX_COLUMNS (width_of line) then Some LIMIT
+    else None
+
+-- the code by which a line is refused as a later row, if it is, where the first row has this width and so many rows stand before the line
 abbrev pub row_code : ℕ → ℕ → List ℕ → Option ℕ
 row_code width before line =
     if nat_le MAX_ROWS before then Some LIMIT
     else if list_any is_foreign line then Some GRAMMAR
-    else if nat_lt MAX_COLUMNS width then Some LIMIT
     else if width_of line == width then None
     else Some COUNT
 
@@ -47,14 +49,12 @@ row_code width before line =
 abbrev pub rows_of : List NumberedLine → List (List ℕ)
 rows_of lines = map (λ line. row_of line.text) lines
 
--- the matrix of lines with this width, or their first refusal
-abbrev pub rows_or_refusal : ℕ → List NumberedLine → Read RowList
-rows_or_refusal width lines = refused_or (first_refusal (row_code width) 0 lines) (record { columns = width; rows = rows_of lines })
-
--- the matrix of lines that are not blank, or their first refusal; the width is that of the first row
+-- the matrix of lines that are not blank, or their first refusal
 abbrev pub read_lines : List NumberedLine → Read RowList
 read_lines [] = read.Refused (record { code = EMPTY; line = 0 })
-read_lines (first ∷ lines) = rows_or_refusal (width_of first.text) (first ∷ lines)
+read_lines (first ∷ lines) =
+    refused_or (refusal_or (first_code first.text) first.number (first_refusal (row_code (width_of first.text)) 1 lines))
+    (record { columns = width_of first.text; rows = rows_of (first ∷ lines) })
 
 -- the matrix of the bytes of a file, or their first refusal
 unfoldable pub dense : List ℕ → Read RowList

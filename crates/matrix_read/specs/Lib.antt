@@ -2,6 +2,7 @@ pub mod Lines
 pub mod Words
 pub mod Rows
 pub mod Dense
+pub mod DenseSteps
 pub mod Written
 pub mod Sparse
 pub mod Names
@@ -9,7 +10,10 @@ pub mod Clones
 pub mod Cells
 pub mod RecordsLeft
 pub mod Table
+pub mod TableSteps
+pub mod Refusals
 pub mod TableLaws
 pub mod WrittenRows
 pub mod CloneRows
 pub mod Limits
+pub mod TextLaws

@@ -6,7 +6,7 @@ use Rattle.row_model.specs.declared.refusal.Read.TheVariants as read
 use Rattle.row_model.specs.declared.TheConstants.{MAX_COLUMNS, MAX_ROWS}
 use Rattle.matrix_read.specs.Clones.{clones}
 use Rattle.matrix_read.specs.Dense.{dense}
-use Rattle.matrix_read.specs.Sparse.{sparse}
+use Rattle.matrix_read.specs.Sparse.{sparse, further}
 use Rattle.matrix_read.specs.Table.{table}
 
 -- a matrix has a column, and no more columns and rows than there may be
@@ -19,9 +19,11 @@ pub record IsWithin (m : RowList) : Type 0 where
 abbrev pub GivesWithin : (List ℕ → Read RowList) → Type 0
 GivesWithin reading = (bytes : List ℕ) (m : RowList) → reading bytes ≡ read.Ok m → IsWithin m
 
--- so is each matrix that is read of any form of file that holds a whole matrix
+-- so is each matrix that is read of any form of file that holds a whole matrix; further rows are over the columns that
+-- they were asked for, and no more than there may be
 pub record LimitsLaw : Type 0 where
   pub dense : GivesWithin dense
   pub rows : GivesWithin sparse
   pub table : GivesWithin table
   pub clones : GivesWithin clones
+  pub further : (c : ℕ) (bytes : List ℕ) (m : RowList) → further c bytes ≡ read.Ok m → (m.columns ≡ c) × (length m.rows ≤ MAX_ROWS)

@@ -1,7 +1,7 @@
 -- The records that csv has still to read.
-use Rattle.std.specs.Prelude.{◌≡◌, ℕ, ◌+◌, List, [], length, Option, Some, None, IsSome}
+use Rattle.std.specs.Prelude.{◌≡◌, ℕ, ◌+◌, List, [], length, true, Option, Some, None, IsSome}
 use Rattle.std.specs.Borrow.{Bor}
-use Rattle.csv.specs.Reading.{Ready, default_config, reader_config, reader_state, reader_trim, records_from, source_of}
+use Rattle.csv.specs.Reading.{Ready, default_config, is_flexible, reader_config, reader_state, reader_trim, records_from, source_of}
 use Rattle.csv.specs.declared.parser.State.{State}
 use Rattle.csv.specs.declared.reader.Reader.{Reader}
 use Rattle.csv.specs.declared.reader.Trim.TheVariants as trim
@@ -19,9 +19,10 @@ records_of state (Some bytes) = records_from default_config (length bytes + 1) s
 unfoldable pub records_left : Reader (Bor (List ℕ)) → List (List (List ℕ))
 records_left reader = records_of (reader_state reader) (bytes_left reader)
 
--- a reader of commas and double quotes, the next read of which gives the next record as it is
+-- a reader of commas and double quotes, the next read of which gives the next record as it is, however many fields that has
 pub record IsPlain (reader : Reader (Bor (List ℕ))) : Type 0 where
   pub trim : reader_trim reader ≡ trim.None
+  pub flexible : is_flexible reader ≡ true
   pub config : reader_config reader ≡ default_config
   pub ready : Ready reader
   pub known : IsSome (bytes_left reader)

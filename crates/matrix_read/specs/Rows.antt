@@ -1,8 +1,7 @@
 -- Rows that are read one after another, and the first refusal among them.
-use Rattle.std.specs.Prelude.{ℕ, zero, suc, ◌+◌, List, [], ◌∷◌, length, Bool, if◌then◌else◌, nat_lt, Option, Some, None}
+use Rattle.std.specs.Prelude.{ℕ, ◌+◌, List, [], ◌∷◌, Option, Some, None}
 use Rattle.column_order.specs.Orders.{has}
-use Rattle.row_model.specs.declared.TheConstants.{MAX_FILE_BYTES}
-use Rattle.row_model.specs.declared.code.TheConstants.{LIMIT}
+use Rattle.row_model.specs.Rows.{columns_where}
 use Rattle.row_model.specs.declared.refusal.Refusal.{Refusal}
 use Rattle.row_model.specs.declared.refusal.Read.{Read}
 use Rattle.row_model.specs.declared.refusal.Read.TheVariants as read
@@ -29,17 +28,6 @@ abbrev pub refused_or : {T : Type 0} → Option Refusal → T → Read T
 refused_or (Some refusal) value = read.Refused refusal
 refused_or None value = read.Ok value
 
--- of so many columns from one on, those that are among the numbers
-abbrev pub columns_among : ℕ → ℕ → List ℕ → List ℕ
-columns_among column zero numbers = []
-columns_among column (suc n) numbers =
-    if has numbers column then column ∷ columns_among (column + 1) n numbers else columns_among (column + 1) n numbers
-
--- what a file within the limit of its length gives, or the refusal of a longer one
-abbrev pub within_length : {T : Type 0} → List ℕ → Read T → Read T
-within_length bytes inside = if nat_lt MAX_FILE_BYTES (length bytes) then read.Refused (record { code = LIMIT; line = 0 }) else inside
-
--- the columns from one on whose marks are set
-abbrev pub marked_from : ℕ → List Bool → List ℕ
-marked_from column [] = []
-marked_from column (mark ∷ marks) = if mark then column ∷ marked_from (column + 1) marks else marked_from (column + 1) marks
+-- the row over the columns 1 to c that has those among the numbers
+abbrev pub columns_among : ℕ → List ℕ → List ℕ
+columns_among c numbers = columns_where c (has numbers)

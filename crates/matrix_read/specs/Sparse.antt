@@ -1,21 +1,19 @@
 -- A matrix as lines that name columns: a first line with the number of columns, and a line for each row.
 use Rattle.std.specs.Prelude.{ℕ, ◌==◌, ◌&&◌, List, [], ◌∷◌, map, if◌then◌else◌, nat_lt, nat_le, Option, Some, None, Result, Ok, Err}
+use Rattle.row_model.specs.Limits.{within_length}
 use Rattle.row_model.specs.Rows.{RowList}
 use Rattle.row_model.specs.declared.refusal.Read.{Read}
 use Rattle.row_model.specs.declared.refusal.Read.TheVariants as read
 use Rattle.row_model.specs.declared.TheConstants.{MAX_COLUMNS, MAX_ROWS}
 use Rattle.row_model.specs.declared.code.TheConstants.{EMPTY, GRAMMAR, RANGE, LIMIT}
 use Rattle.matrix_read.specs.Lines.{without_mark, lines_of, NumberedLine}
-use Rattle.matrix_read.specs.Words.{words_of, only_word, number_after, numeral_of}
-use Rattle.matrix_read.specs.Rows.{numbered_lines, first_refusal, refused_or, within_length, columns_among}
-use Rattle.matrix_read.specs.declared.words.Numeral.{Numeral}
-use Rattle.matrix_read.specs.declared.words.Numeral.TheVariants.{Value, TooLarge, NotDigits}
+use Rattle.matrix_read.specs.Words.{words_of, only_word, number_after, number_of}
+use Rattle.matrix_read.specs.Rows.{numbered_lines, first_refusal, refused_or, columns_among}
 
--- the code by which a word that is this number is refused as one of the columns 1 to c, if it is
-abbrev pub column_code : ℕ → Numeral → Option ℕ
-column_code c NotDigits = Some GRAMMAR
-column_code c TooLarge = Some RANGE
-column_code c (Value n) = if nat_le 1 n && nat_le n c then None else Some RANGE
+-- the code by which a word that writes this number is refused as one of the columns 1 to c, if it is
+abbrev pub column_code : ℕ → Option ℕ → Option ℕ
+column_code c None = Some GRAMMAR
+column_code c (Some n) = if nat_le 1 n && nat_le n c then None else Some RANGE
 
 -- a code, or what follows
 abbrev pub code_or : Option ℕ → Option ℕ → Option ℕ
@@ -25,7 +23,7 @@ code_or None rest = rest
 -- the code of the first word that is refused as a column, if there is one
 unfoldable pub words_code : ℕ → List (List ℕ) → Option ℕ
 words_code c [] = None
-words_code c (word ∷ words) = code_or (column_code c (numeral_of word)) (words_code c words)
+words_code c (word ∷ words) = code_or (column_code c (number_of word)) (words_code c words)
 
 -- the code by which a line is refused as a row, if it is, where so many rows stand before it
 abbrev pub line_code : ℕ → ℕ → List ℕ → Option ℕ
@@ -37,36 +35,35 @@ numbers_of words = map (number_after 0) words
 
 -- the row of a line over 1 to c: the set of the columns that the line names
 abbrev pub row_named : ℕ → List ℕ → List ℕ
-row_named c line = columns_among 1 c (numbers_of (words_of line))
+row_named c line = columns_among c (numbers_of (words_of line))
 
 -- the matrix over 1 to c of lines each of which is a row, or their first refusal
 abbrev pub named_rows : ℕ → List NumberedLine → Read RowList
 named_rows c lines = refused_or (first_refusal (line_code c) 0 lines) (record { columns = c; rows = map (λ line. row_named c line.text) lines })
 
--- the number of columns that a word gives, or the code of its refusal
-abbrev pub width_of_numeral : Numeral → Result ℕ ℕ
-width_of_numeral NotDigits = Err GRAMMAR
-width_of_numeral TooLarge = Err LIMIT
-width_of_numeral (Value n) = if n == 0 then Err RANGE else if nat_lt MAX_COLUMNS n then Err LIMIT else Ok n
+-- the number of columns that a word with this number gives, or the code of its refusal
+abbrev pub width_of_number : Option ℕ → Result ℕ ℕ
+width_of_number None = Err GRAMMAR
+width_of_number (Some n) = if n == 0 then Err RANGE else if nat_lt MAX_COLUMNS n then Err LIMIT else Ok n
 
 -- the number of columns that the first line gives, or the code of its refusal: the line has exactly one word
 abbrev pub first_width : Option (List ℕ) → Result ℕ ℕ
 first_width None = Err GRAMMAR
-first_width (Some word) = width_of_numeral (numeral_of word)
+first_width (Some word) = width_of_number (number_of word)
 
--- the rows of the lines behind the first, or its refusal
-abbrev pub rows_behind : Result ℕ ℕ → List (List ℕ) → Read RowList
-rows_behind (Ok c) lines = named_rows c (numbered_lines 2 lines)
-rows_behind (Err code) lines = read.Refused (record { code = code; line = 1 })
+-- the rows of the lines behind a first one, which has this number, or the first refusal
+abbrev pub rows_behind : ℕ → Result ℕ ℕ → List NumberedLine → Read RowList
+rows_behind number (Ok c) lines = named_rows c lines
+rows_behind number (Err code) lines = read.Refused (record { code = code; line = number })
 
 -- the matrix of lines, or their first refusal
-abbrev pub sparse_lines : List (List ℕ) → Read RowList
+abbrev pub sparse_lines : List NumberedLine → Read RowList
 sparse_lines [] = read.Refused (record { code = EMPTY; line = 0 })
-sparse_lines (first ∷ lines) = rows_behind (first_width (only_word (words_of first))) lines
+sparse_lines (first ∷ lines) = rows_behind first.number (first_width (only_word (words_of first.text))) lines
 
 -- the matrix of the bytes of a file, or their first refusal
 unfoldable pub sparse : List ℕ → Read RowList
-sparse bytes = within_length bytes (sparse_lines (lines_of (without_mark bytes)))
+sparse bytes = within_length bytes (sparse_lines (numbered_lines 1 (lines_of (without_mark bytes))))
 
 -- the rows over 1 to c of the bytes of a file without a first line, or their first refusal
 unfoldable pub further : ℕ → List ℕ → Read RowList

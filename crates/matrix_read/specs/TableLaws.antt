@@ -1,15 +1,18 @@
 -- What is said of tables apart from how they are read.
-use Rattle.std.specs.Prelude.{◌≡◌, ◌≢◌, ◌↔◌, ◌<◌, ◌≤◌, ℕ, zero, suc, ◌+◌, List, [], ◌∷◌, ◌++◌, map, length, codes, if◌then◌else◌, slice_index_or, IsTrue, IsFalse, Option, Some, None, All, AllPairs}
-use Rattle.csv.specs.Reading.{strip_bom}
+use Rattle.std.specs.Prelude.{◌≡◌, ◌≢◌, ◌↔◌, ◌<◌, ◌≤◌, ℕ, zero, suc, ◌+◌, ◌==◌, Bool, List, [], ◌∷◌, ◌++◌, map, length, codes, if◌then◌else◌, slice_index_or, IsTrue, IsFalse, Option, Some, None, All, AllPairs}
+use Rattle.csv.specs.Reading.{default_config, strip_bom, records}
+use Rattle.std.specs.List.{list_all}
 use Rattle.csv.specs.Writing.{default_writer, row_text}
 use Rattle.column_order.specs.Orders.{has}
-use Rattle.row_model.specs.Rows.{IsRow}
+use Rattle.row_model.specs.Rows.{IsRow, RowList}
+use Rattle.row_model.specs.declared.code.TheConstants.{EMPTY, CSV}
+use Rattle.matrix_read.specs.Refusals.{RefusesLong}
 use Rattle.row_model.specs.declared.refusal.Refusal.{Refusal}
 use Rattle.row_model.specs.declared.refusal.Read.TheVariants as read
 use Rattle.row_model.specs.declared.TheConstants.{MAX_COLUMNS, MAX_ROWS, MAX_FILE_BYTES}
 use Rattle.matrix_read.specs.Lines.{is_blank, is_blank_byte}
 use Rattle.matrix_read.specs.Cells.{trimmed, is_present, row_of}
-use Rattle.matrix_read.specs.Table.{names_of, record_code, first_refusal, table}
+use Rattle.matrix_read.specs.Table.{names_of, header_code, record_code, record_refusal, table}
 use Rattle.matrix_read.specs.Names.{has_twice}
 
 -- a row with a label, which is no part of the matrix
@@ -86,4 +89,29 @@ AreTold further (Some refusal) = IsOfFirst further refusal
 AreTold further None = (i : ℕ) → i < length further → record_code i (slice_index_or further i []) ≡ None
 
 abbrev pub RefusalLaw : Type 0
-RefusalLaw = (further : List (List (List ℕ))) → AreTold further (first_refusal 0 further)
+RefusalLaw = (further : List (List (List ℕ))) → AreTold further (record_refusal 0 further)
+
+-- the records that csv gives for the bytes of a file
+abbrev pub records_in : List ℕ → List (List (List ℕ))
+records_in bytes = records default_config (strip_bom bytes)
+
+-- whether each record has as many fields as the header
+abbrev pub are_even : List (List ℕ) → List (List (List ℕ)) → Bool
+are_even header further = list_all (λ fields. length fields == length header) further
+
+-- the refusals of tables. After the length of the file come a file without a record, records of other lengths than the
+-- first, the header, and then the first later record that is refused; a table in which nothing is refused is taken
+pub record TableRefusals : Type 0 where
+  pub too_long : RefusesLong table
+  pub no_record : (bytes : List ℕ) → length bytes ≤ MAX_FILE_BYTES → records_in bytes ≡ [] → table bytes ≡ read.Refused (record { code = EMPTY; line = 0 })
+  pub uneven : (bytes : List ℕ) (header : List (List ℕ)) (further : List (List (List ℕ))) →
+      length bytes ≤ MAX_FILE_BYTES → records_in bytes ≡ header ∷ further → IsFalse (are_even header further) → table bytes ≡ read.Refused (record { code = CSV; line = 0 })
+  pub bad_header : (bytes : List ℕ) (header : List (List ℕ)) (further : List (List (List ℕ))) (code : ℕ) →
+      length bytes ≤ MAX_FILE_BYTES → records_in bytes ≡ header ∷ further → IsTrue (are_even header further) → header_code header ≡ Some code →
+      table bytes ≡ read.Refused (record { code = code; line = 1 })
+  pub bad_record : (bytes : List ℕ) (header : List (List ℕ)) (further : List (List (List ℕ))) (refusal : Refusal) →
+      length bytes ≤ MAX_FILE_BYTES → records_in bytes ≡ header ∷ further → IsTrue (are_even header further) → header_code header ≡ None →
+      record_refusal 0 further ≡ Some refusal → table bytes ≡ read.Refused refusal
+  pub taken : (bytes : List ℕ) (header : List (List ℕ)) (further : List (List (List ℕ))) →
+      length bytes ≤ MAX_FILE_BYTES → records_in bytes ≡ header ∷ further → IsTrue (are_even header further) → header_code header ≡ None →
+      record_refusal 0 further ≡ None → (m : RowList) × (table bytes ≡ read.Ok m)

@@ -39,11 +39,16 @@ abbrev pub number_after : ℕ → List ℕ → ℕ
 number_after n [] = n
 number_after n (b ∷ digits) = number_after (n * 10 + (b - 48)) digits
 
--- a number, if it fits 64 bits
-abbrev pub numeral : ℕ → Numeral
-numeral n = if nat_lt n (2 ^ 64) then Value n else TooLarge
+-- the number that one or more digits write, however many they are; another word writes none
+abbrev pub number_of : List ℕ → Option ℕ
+number_of [] = None
+number_of (b ∷ word) = if list_all is_ascii_digit (b ∷ word) then Some (number_after 0 (b ∷ word)) else None
 
--- what a word is as a number: one or more digits write one
+-- what a number is in 64 bits
+abbrev pub numeral : Option ℕ → Numeral
+numeral None = NotDigits
+numeral (Some n) = if nat_lt n (2 ^ 64) then Value n else TooLarge
+
+-- what a word is as a number of 64 bits
 abbrev pub numeral_of : List ℕ → Numeral
-numeral_of [] = NotDigits
-numeral_of (b ∷ word) = if list_all is_ascii_digit (b ∷ word) then numeral (number_after 0 (b ∷ word)) else NotDigits
+numeral_of word = numeral (number_of word)

@@ -2,6 +2,7 @@
 use Rattle.std.specs.Prelude.{◌≡◌, ℕ, ◌≤◌, List, [], ◌∷◌, ◌++◌, length}
 use Rattle.std.specs.Fmt.{decimal}
 use Rattle.column_order.specs.Orders.{has}
+use Rattle.column_order.specs.declared.TheConstants.{COLUMN_BOUND}
 use Rattle.row_model.specs.Rows.{IsRow}
 use Rattle.row_model.specs.declared.refusal.Read.TheVariants as read
 use Rattle.row_model.specs.declared.TheConstants.{MAX_COLUMNS, MAX_ROWS, MAX_FILE_BYTES}
@@ -38,7 +39,7 @@ NameAll c (columns ∷ lists) (row ∷ rows) = Names c columns row × NameAll c 
 abbrev pub FurtherLaw : Type 0
 FurtherLaw =
     (c : ℕ) (lists rows : List (List ℕ)) →
-    c ≤ 32768 →
+    c ≤ COLUMN_BOUND →
     NameAll c lists rows →
     length rows ≤ MAX_ROWS →
     length (named_text lists) ≤ MAX_FILE_BYTES →

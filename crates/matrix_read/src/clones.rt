@@ -11,9 +11,9 @@ ghost use Rattle.matrix_read.specs.Names.{has_twice, bytes_of};
 use crate::lines::without_mark;
 use crate::rows::{refused, take_marked};
 use indexmap::IndexSet;
-use row_model::{MAX_COLUMNS, MAX_FILE_BYTES, MAX_ROWS, Matrix, Read, code};
+use row_model::{MAX_COLUMNS, MAX_FILE_BYTES, MAX_ROWS, Matrix, NoMemory, Read, code};
 use serde_json::{Category, Value};
-use std::alloc::{AllocError, Global};
+use std::alloc::Global;
 
 /// Reads a matrix from the bytes of a clone file: one value in JSON, an object with the arrays `probes` and `clones`.
 ///
@@ -24,9 +24,14 @@ use std::alloc::{AllocError, Global};
 ///
 /// A file that breaks a rule gives its first refusal. The length of the file comes first, then bytes that `serde_json`
 /// does not read. Then come the shape of the object, the number of probes, a probe that occurs twice, and the number of
-/// clones. Last come the clones in turn, each with its number as the line: its shape is judged before its names. The
-/// error is want of memory.
-pub fn read_clones(alloc: Global, bytes: &[u8]) -> Result<Read<Matrix>, AllocError>
+/// clones. Last come the clones in turn, each with its number as the line: its shape is judged before its names.
+///
+/// Beside the matrix it keeps the value that `serde_json` makes of the bytes, which takes most of the memory.
+///
+/// # Errors
+///
+/// [`NoMemory`] where memory is refused.
+pub fn read_clones(alloc: Global, bytes: &[u8]) -> Result<Read<Matrix>, NoMemory>
     ensures { IfOk result (λ read. read ≡ clones bytes.now) }
 {
     if bytes.len() as u64 > MAX_FILE_BYTES {
@@ -40,20 +45,20 @@ pub fn read_clones(alloc: Global, bytes: &[u8]) -> Result<Read<Matrix>, AllocErr
 }
 
 // The value that the bytes of a text have; none where they are no UTF-8 or have no reading.
-fn value_of(alloc: Global, text: &[u8]) -> Result<Option<Value>, AllocError>
+fn value_of(alloc: Global, text: &[u8]) -> Result<Option<Value>, NoMemory>
     ensures { IfOk result (λ value. option_map view value ≡ reading text.now) }
 {
     match Value::from_slice(alloc, text) {
         Ok(value) => Ok(Some(value)),
         Err(error) => match error.classify() {
-            Category::Memory => Err(AllocError),
+            Category::Memory => Err(NoMemory),
             _ => Ok(None),
         },
     }
 }
 
 // The matrix of a value, or its first refusal.
-fn matrix_in(alloc: Global, value: &Value) -> Result<Read<Matrix>, AllocError>
+fn matrix_in(alloc: Global, value: &Value) -> Result<Read<Matrix>, NoMemory>
     ensures { IfOk result (λ read. read ≡ if_read (Some (view value.now))) }
 {
     let Some(probes) = strings_in(value, "probes") else {
@@ -66,7 +71,7 @@ fn matrix_in(alloc: Global, value: &Value) -> Result<Read<Matrix>, AllocError>
 }
 
 // The matrix of probes, which are strings, and clones, or their first refusal.
-fn matrix_of(alloc: Global, probes: &[Value], clones: &[Value]) -> Result<Read<Matrix>, AllocError>
+fn matrix_of(alloc: Global, probes: &[Value], clones: &[Value]) -> Result<Read<Matrix>, NoMemory>
     ensures { IfOk result (λ read. read ≡ matrix_of (texts_of (items_view probes.now)) (items_view clones.now)) }
 {
     if probes.is_empty() {
@@ -126,7 +131,7 @@ fn text_of(value: &Value) -> &str
 }
 
 // The names that strings are, in their order; none where one occurs twice.
-fn names_of<'a>(alloc: Global, list: &'a [Value]) -> Result<Option<IndexSet<&'a str>>, AllocError>
+fn names_of<'a>(alloc: Global, list: &'a [Value]) -> Result<Option<IndexSet<&'a str>>, NoMemory>
     ensures { IfOk result (λ names. MatchOption names
         (has_twice (texts_of (items_view list.now)) ≡ true)
         (λ names. (has_twice (texts_of (items_view list.now)) ≡ false) × (bytes_of names.keys ≡ texts_of (items_view list.now)))) }
@@ -134,7 +139,7 @@ fn names_of<'a>(alloc: Global, list: &'a [Value]) -> Result<Option<IndexSet<&'a 
     let mut names = IndexSet::new(alloc);
     for value in list {
         match names.insert(text_of(value)) {
-            Err(_) => return Err(AllocError),
+            Err(_) => return Err(NoMemory),
             Ok(false) => return Ok(None),
             Ok(true) => {}
         }
@@ -147,7 +152,7 @@ fn rows_of(
     alloc: Global,
     names: &IndexSet<&str>,
     clones: &[Value],
-) -> Result<Read<Matrix>, AllocError>
+) -> Result<Read<Matrix>, NoMemory>
     requires some { 1 ≤ length names.now.keys }
     requires small { length names.now.keys ≤ MAX_COLUMNS }
     requires few { length clones.now ≤ MAX_ROWS }
@@ -167,7 +172,7 @@ fn push_rows(
     clones: &[Value],
     marks: &mut [bool],
     columns: &mut [u32],
-) -> Result<Read<Matrix>, AllocError>
+) -> Result<Read<Matrix>, NoMemory>
     requires empty { matrix.rows ≡ [] }
     requires width { matrix.columns ≡ length names.now.keys }
     requires small { length names.now.keys ≤ MAX_COLUMNS }
@@ -228,8 +233,8 @@ fn mark_names(list: &[Value], names: &IndexSet<&str>, marks: &mut [bool]) -> Res
     Ok(())
 }
 
-/// The law of [`read_clones`]: where no two probes are equal, the row of a clone has a column exactly where the clone
-/// names the probe at that place.
+/// The law of [`read_clones`]: the columns of a matrix that is read are the probes, of which no two are equal, and its row
+/// i is that of clone i. It has a column exactly where the clone names the probe at that place.
 pub fn clone_law()
     ensures { CloneLaw }
 {}

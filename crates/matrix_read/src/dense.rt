@@ -2,12 +2,13 @@
 ghost use Rattle.std.specs.Prelude.{◌≡◌, ◌+◌, ◌-◌, ◌^◌, ◌<◌, ◌≤◌, ◌↔◌, ◌⊎◌, slice_set, [], length, take, Some, None, IsNone, IfOk, IfErr, IfSome, IsTrue};
 ghost use Rattle.std.specs.List.{list_any};
 ghost use Rattle.matrix_read.specs.Lines.{lines_of, filled_lines};
-ghost use Rattle.matrix_read.specs.Dense.{is_foreign, width_of, row_of, row_code, rows_or_refusal, read_lines, dense};
+ghost use Rattle.matrix_read.specs.Dense.{is_foreign, width_of, row_of, row_code, read_lines, dense};
+ghost use Rattle.matrix_read.specs.DenseSteps.{rows_or_refusal};
 ghost use Rattle.matrix_read.specs.Written.{DenseLaw};
 
 use crate::lines::{next_filled_line, without_mark};
-use row_model::{MAX_COLUMNS, MAX_FILE_BYTES, MAX_ROWS, Matrix, Read, Refusal, code};
-use std::alloc::{AllocError, Global};
+use row_model::{MAX_COLUMNS, MAX_FILE_BYTES, MAX_ROWS, Matrix, NoMemory, Read, Refusal, code};
+use std::alloc::Global;
 
 /// Reads a matrix from the bytes of a file: lines of the digits 0 and 1, between which spaces and tabs may stand.
 ///
@@ -17,8 +18,14 @@ use std::alloc::{AllocError, Global};
 ///
 /// A file that breaks a rule gives its first refusal. The length of the file comes first. Then each line in turn is
 /// judged by the number of rows before it, by its bytes, and by the number of its digits. Last comes a file without
-/// a row. The error is want of memory.
-pub fn read_dense(alloc: Global, bytes: &[u8]) -> Result<Read<Matrix>, AllocError>
+/// a row.
+///
+/// The time is linear in the length of the file, and the memory is that of the matrix and of one row.
+///
+/// # Errors
+///
+/// [`NoMemory`] where memory is refused.
+pub fn read_dense(alloc: Global, bytes: &[u8]) -> Result<Read<Matrix>, NoMemory>
     ensures { IfOk result (λ read. read ≡ dense bytes.now) }
 {
     if bytes.len() as u64 > MAX_FILE_BYTES {
@@ -61,7 +68,7 @@ fn first_width(text: &[u8]) -> Result<u32, Refusal>
 }
 
 // The matrix of a text, the first row of which has so many digits.
-fn read_rows(alloc: Global, text: &[u8], width: u32) -> Result<Read<Matrix>, AllocError>
+fn read_rows(alloc: Global, text: &[u8], width: u32) -> Result<Read<Matrix>, NoMemory>
     requires short { length text.now ≤ MAX_FILE_BYTES }
     requires range { (1 ≤ width) × (width ≤ MAX_COLUMNS) }
     ensures { IfOk result (λ read. read ≡ rows_or_refusal width (filled_lines 1 (lines_of text.now))) }
@@ -72,11 +79,7 @@ fn read_rows(alloc: Global, text: &[u8], width: u32) -> Result<Read<Matrix>, All
 }
 
 // Fills a matrix with the rows of a text. Each row stands in `columns` until it is pushed.
-fn push_rows(
-    mut matrix: Matrix,
-    text: &[u8],
-    columns: &mut [u32],
-) -> Result<Read<Matrix>, AllocError>
+fn push_rows(mut matrix: Matrix, text: &[u8], columns: &mut [u32]) -> Result<Read<Matrix>, NoMemory>
     requires empty { matrix.rows ≡ [] }
     requires short { length text.now ≤ MAX_FILE_BYTES }
     requires width { length columns.old ≡ matrix.columns }

@@ -7,6 +7,7 @@
 mod cells;
 mod clones;
 mod dense;
+mod laws;
 mod lines;
 mod records;
 mod rows;
@@ -16,9 +17,9 @@ mod words;
 
 pub use clones::{clone_law, read_clones};
 pub use dense::{dense_law, read_dense};
+pub use laws::{limits_law, refusal_laws, text_laws};
 pub use lines::{FilledLine, LineSpan, next_filled_line, next_line, without_mark};
 pub use row_model::NoMemory;
-pub use rows::limits_law;
 pub use sparse::{named_laws, read_more, read_rows};
 pub use table::{read_table, table_laws};
 pub use words::{Numeral, WordSpan, next_word, number};

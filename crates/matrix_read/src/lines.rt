@@ -43,6 +43,8 @@ pub fn next_line(bytes: &[u8], at: usize) -> Option<LineSpan>
     ensures end { IfSome result (λ line. line.end ≡ at + length (without_return (first_line (drop at bytes.now)))) }
     ensures next { IfSome result (λ line. line.next ≡ min (at + line_len (drop at bytes.now) + 1) (length bytes.now)) }
     ensures within { IfSome result (λ line. line.end ≤ length bytes.now) }
+    ensures nothing { IfNone result (lines_of (drop at bytes.now) ≡ []) }
+    ensures lines { IfSome result (λ line. lines_of (drop at bytes.now) ≡ slice_range bytes.now line.start line.end ∷ lines_of (drop line.next bytes.now)) }
 {
     if at == bytes.len() {
         return None;

@@ -6,7 +6,8 @@ ghost use Rattle.row_model.specs.declared.refusal.Read.TheVariants as read;
 ghost use Rattle.matrix_read.specs.RecordsLeft.{IsPlain, records_left};
 ghost use Rattle.matrix_read.specs.Cells.{cells, is_foreign, row_of};
 ghost use Rattle.matrix_read.specs.TableLaws.{TableLaw, RowLaw, TrimmedLaw, NamesLaw, RefusalLaw};
-ghost use Rattle.matrix_read.specs.Table.{names_of, header_code, header_read, IsWithin, with_records, with_even_records, table};
+ghost use Rattle.matrix_read.specs.Table.{names_of, header_code, table};
+ghost use Rattle.matrix_read.specs.TableSteps.{header_read, IsWithin, with_records, with_even_records};
 ghost use Rattle.matrix_read.specs.Names.{has_twice};
 
 use crate::cells::{entry, field, trimmed_field};
@@ -14,8 +15,10 @@ use crate::records::next_record;
 use crate::rows::refused;
 use csv::{ByteRecord, Reader, ReaderBuilder};
 use indexmap::IndexSet;
-use row_model::{MAX_COLUMNS, MAX_FILE_BYTES, MAX_ROWS, Matrix, Read, code};
-use std::alloc::{AllocError, Global};
+use row_model::{
+    COLUMN_BOUND, MAX_COLUMNS, MAX_FILE_BYTES, MAX_ROWS, Matrix, NoMemory, Read, code,
+};
+use std::alloc::Global;
 
 /// Reads a matrix from the bytes of a table: comma-separated values, in which double quotes may stand round a field.
 ///
@@ -30,9 +33,13 @@ use std::alloc::{AllocError, Global};
 /// Last, each later record in turn is judged by the number of rows before it, of which there are at most [`MAX_ROWS`],
 /// and by its fields. The line of its refusal is its number among the records.
 ///
-/// The error is want of memory. No clause of `csv` rules out another error of its reader over bytes in memory, so one
-/// would be answered as want of memory too.
-pub fn read_table(alloc: Global, bytes: &[u8]) -> Result<Read<Matrix>, AllocError>
+/// The time is linear in the length of the file. Beside the matrix one record is kept at a time, whose fields take eight
+/// bytes each.
+///
+/// # Errors
+///
+/// [`NoMemory`] where memory is refused.
+pub fn read_table(alloc: Global, bytes: &[u8]) -> Result<Read<Matrix>, NoMemory>
     ensures { IfOk result (λ read. read ≡ table bytes.now) }
 {
     if bytes.len() as u64 > MAX_FILE_BYTES {
@@ -42,7 +49,8 @@ pub fn read_table(alloc: Global, bytes: &[u8]) -> Result<Read<Matrix>, AllocErro
         .has_headers(false)
         .flexible(true)
         .from_reader(alloc, bytes);
-    let mut fields = ByteRecord::new(alloc);
+    // No record has more fields than this, so its room never grows, and room that is not used is never touched.
+    let mut fields = ByteRecord::with_capacity(alloc, bytes.len(), bytes.len() + 1)?;
     if !next_record(&mut reader, &mut fields)? {
         return Ok(refused(code::EMPTY, 0));
     }
@@ -57,7 +65,7 @@ fn read_further(
     mut reader: Reader<&[u8]>,
     mut fields: ByteRecord,
     begun: Read<Matrix>,
-) -> Result<Read<Matrix>, AllocError>
+) -> Result<Read<Matrix>, NoMemory>
     requires plain { IsPlain reader }
     requires within { IsWithin (length (fields_of fields)) begun }
     ensures { IfOk result (λ read. read ≡ with_even_records (length (fields_of fields)) begun (records_left reader.entry)) }
@@ -79,7 +87,7 @@ fn with_record(
     so_far: Read<Matrix>,
     fields: &ByteRecord,
     columns: &mut Vec<u32>,
-) -> Result<Read<Matrix>, AllocError>
+) -> Result<Read<Matrix>, NoMemory>
     requires { IsWithin (length (fields_of fields.now)) so_far }
     ensures read { IfOk result (λ read. read ≡ with_records so_far (fields_of fields.now ∷ [])) }
     ensures within { IfOk result (λ read. IsWithin (length (fields_of fields.now)) read) }
@@ -106,7 +114,7 @@ fn with_record(
 #[inline(never)]
 fn mark_columns(fields: &ByteRecord, columns: &mut [u32]) -> Option<usize>
     requires width { length (fields_of fields.now) ≡ length columns.old + 1 }
-    requires small { length columns.old ≤ 32768 }
+    requires small { length columns.old ≤ COLUMN_BOUND }
     ensures foreign { IsNone result ↔ IsTrue (list_any is_foreign (cells (fields_of fields.now))) }
     ensures row { IfSome result (λ ones. take ones columns.new ≡ row_of (fields_of fields.now)) }
     ensures within { IfSome result (λ ones. ones ≤ length columns.new) }
@@ -127,7 +135,7 @@ fn mark_columns(fields: &ByteRecord, columns: &mut [u32]) -> Option<usize>
 }
 
 // A matrix with the columns of a header and no row, or the refusal of the header.
-fn read_header(alloc: Global, header: &ByteRecord) -> Result<Read<Matrix>, AllocError>
+fn read_header(alloc: Global, header: &ByteRecord) -> Result<Read<Matrix>, NoMemory>
     ensures read { IfOk result (λ read. read ≡ header_read (fields_of header.now)) }
     ensures within { IfOk result (λ read. IsWithin (length (fields_of header.now)) read) }
 {
@@ -138,7 +146,7 @@ fn read_header(alloc: Global, header: &ByteRecord) -> Result<Read<Matrix>, Alloc
 }
 
 // The code by which a header is refused.
-fn header_code(alloc: Global, header: &ByteRecord) -> Result<Option<u8>, AllocError>
+fn header_code(alloc: Global, header: &ByteRecord) -> Result<Option<u8>, NoMemory>
     ensures { IfOk result (λ code. code ≡ header_code (fields_of header.now)) }
 {
     if header.len() < 2 {
@@ -154,7 +162,7 @@ fn header_code(alloc: Global, header: &ByteRecord) -> Result<Option<u8>, AllocEr
 }
 
 // Whether two columns have one name.
-fn has_twice(alloc: Global, header: &ByteRecord) -> Result<bool, AllocError>
+fn has_twice(alloc: Global, header: &ByteRecord) -> Result<bool, NoMemory>
     ensures { IfOk result (λ twice. twice ≡ has_twice (names_of (fields_of header.now))) }
 {
     let mut names: IndexSet<&[u8]> = IndexSet::new(alloc);

@@ -1,9 +1,9 @@
 // The words of a line, and the numbers that they write.
-ghost use Rattle.std.specs.Prelude.{◌≡◌, ◌↔◌, ◌+◌, ◌<◌, ◌≤◌, length, slice_range, IsNone, IfSome, IsTrue};
+ghost use Rattle.std.specs.Prelude.{◌≡◌, ◌↔◌, ◌+◌, ◌<◌, ◌≤◌, ◌∷◌, [], length, slice_range, IsNone, IfNone, IfSome, IsTrue};
 ghost use Rattle.std.specs.Char.{is_ascii_digit};
 ghost use Rattle.std.specs.List.{list_all};
 ghost use Rattle.matrix_read.specs.Lines.{is_blank};
-ghost use Rattle.matrix_read.specs.Words.{blank_len, word_len, numeral_of};
+ghost use Rattle.matrix_read.specs.Words.{blank_len, word_len, words_of, numeral_of};
 
 /// Where a word stands.
 #[derive(Clone, Copy, Debug, PartialEq, Eq)]
@@ -36,6 +36,8 @@ pub fn next_word(bytes: &[u8], at: usize, end: usize) -> Option<WordSpan>
     ensures start { IfSome result (λ word. word.start ≡ at + blank_len (slice_range bytes.now at end)) }
     ensures end { IfSome result (λ word. word.end ≡ word.start + word_len (slice_range bytes.now word.start end)) }
     ensures range { IfSome result (λ word. (word.start < word.end) × (word.end ≤ end)) }
+    ensures nothing { IfNone result (words_of (slice_range bytes.now at end) ≡ []) }
+    ensures words { IfSome result (λ word. words_of (slice_range bytes.now at end) ≡ slice_range bytes.now word.start word.end ∷ words_of (slice_range bytes.now word.end end)) }
 {
     let start = at + count_blanks(&bytes[at..end]);
     if start == end {

@@ -1,30 +1,29 @@
-use Rattle.std.proofs.Common.{◌∙◌, ap, sym, refl, drop}
+use Rattle.std.proofs.Common.{◌∙◌, ap, sym, arith, slice_range, length}
 use Rattle.matrix_read.specs.Words.{words_of}
-use Rattle.matrix_read.proofs.WordLemmas.{word_step, no_word}
 use Rattle.graph_read.specs.DistanceFiles.{numbers_behind}
 use Rattle.graph_read.proofs.DistanceLemmas.{numbers_step, numbers_large, numbers_foreign, numbers_end}
+use Rattle.graph_read.proofs.WordLines.{whole_words}
 use Rattle.graph_read.proofs.distance_files.push_numbers.Goals as goal
 
+pub loop-word-init : goal.loop-word-init
+loop-word-init c = record { within = omega arith; so_far = ap (numbers_behind c.args.values.now.items) (whole_words c.args.line.now) }
+
 pub returns-in-NotDigits-clause-refused : goal.returns-in-NotDigits-clause-refused
-returns-in-NotDigits-clause-refused c =
-    let w = c.in-Some.ensures in
-    sym c.loop-word.invariant.so_far ∙ numbers_foreign c.loop-word.values.items _ _ _ (word_step c.args.line.now _ _ _ w.start w.end w.range.0) c.in-NotDigits.ensures
+returns-in-NotDigits-clause-refused c = sym c.loop-word.invariant.so_far ∙ numbers_foreign c.loop-word.values.items _ _ _ c.in-Some.ensures.words c.in-NotDigits.ensures
 
 pub returns-in-TooLarge-clause-refused : goal.returns-in-TooLarge-clause-refused
-returns-in-TooLarge-clause-refused c =
-    let w = c.in-Some.ensures in
-    sym c.loop-word.invariant.so_far ∙ numbers_large c.loop-word.values.items _ _ _ (word_step c.args.line.now _ _ _ w.start w.end w.range.0) c.in-TooLarge.ensures
+returns-in-TooLarge-clause-refused c = sym c.loop-word.invariant.so_far ∙ numbers_large c.loop-word.values.items _ _ _ c.in-Some.ensures.words c.in-TooLarge.ensures
 
 pub loop-word-preserved : goal.loop-word-preserved
 loop-word-preserved c =
-    let w = c.in-Some.ensures in
+    let line = c.args.line.now in
     record {
-      within = w.range.1;
+      within = c.in-Some.ensures.range.1;
       so_far =
-          ap (λ values. numbers_behind values (words_of (drop c.in-Some.word.end c.args.line.now))) c.in_ok-push-in-Value.ensures.items
-          ∙ numbers_step c.loop-word.values.items _ _ _ (word_step c.args.line.now _ _ _ w.start w.end w.range.0) c.in-Value.n c.in-Value.ensures
+          ap (λ values. numbers_behind values (words_of (slice_range line c.in-Some.word.end (length line)))) c.in_ok-push-in-Value.ensures.items
+          ∙ numbers_step c.loop-word.values.items _ _ _ c.in-Some.ensures.words c.in-Value.n c.in-Value.ensures
           ∙ c.loop-word.invariant.so_far;
     }
 
 pub returns-clause-numbers : goal.returns-clause-numbers
-returns-clause-numbers c = sym c.loop-word.invariant.so_far ∙ numbers_end c.loop-word.values.items _ (no_word c.args.line.now c.loop-word.at (c.in_default.ensures.none.0 refl))
+returns-clause-numbers c = sym c.loop-word.invariant.so_far ∙ numbers_end c.loop-word.values.items _ c.in_default.ensures.nothing

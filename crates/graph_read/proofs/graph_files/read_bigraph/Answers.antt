@@ -1,7 +1,7 @@
 use Rattle.std.proofs.Common.{◌≡◌, ◌∙◌, ◌+◌, ap, sym, arith, drop}
 use Rattle.row_model.specs.declared.refusal.Read.TheVariants as read
 use Rattle.matrix_read.specs.Lines.{lines_of, filled_lines}
-use Rattle.graph_read.specs.Edges.{edges_of, lists_with}
+use Rattle.graph_read.specs.Edges.{lists_of_lines}
 use Rattle.graph_read.specs.GraphFiles.{bigraph, bigraph_with, bigraph_behind, bigraph_lines}
 use Rattle.graph_read.proofs.ListLemmas.{are_lists}
 use Rattle.graph_read.proofs.FileLemmas.{bigraph_long, bigraph_short, bigraph_read, is_bigraph}
@@ -33,15 +33,15 @@ returns-in-Refused c =
     let rest = filled_lines (first.number + 1) (lines_of (drop first.span.next c.without_mark-text.result.now)) in
     let whole : bigraph limit c.args.bytes.now ≡ bigraph_lines limit (filled_lines 1 (lines_of c.without_mark-text.result.now)) =
     bigraph_short limit c.args.bytes.now c.if-bytes-gt-MAX_FILE_BYTES.false ∙ ap (λ text. bigraph_lines limit (filled_lines 1 (lines_of text))) (sym c.without_mark-text.ensures.text) in
-    let refused : read.Refused c.in-Refused.refusal ≡ lists_with c.in-Ok.shape (edges_of c.in-Ok.shape rest) = sym c.in-Refused.is ∙ c.in_ok-refusal-in-Ok.ensures in
+    let refused : read.Refused c.in-Refused.refusal ≡ lists_of_lines c.in-Ok.shape rest = sym c.in-Refused.is ∙ c.in_ok-refusal-in-Ok.ensures in
     sym (whole ∙ ap (bigraph_lines limit) c.in-Some.ensures.line ∙ ap (λ sides. bigraph_behind first.number sides rest) (sym c.in-Ok.ensures.sides) ∙ ap (bigraph_with c.in-Ok.shape) (sym refused))
 
 pub of_lists-requires : goal.of_lists-requires
 of_lists-requires c =
     let first = c.in-Some.first in
     let rest = filled_lines (first.number + 1) (lines_of (drop first.span.next c.without_mark-text.result.now)) in
-    let made : read.Ok c.in-Ok-2.lists ≡ lists_with c.in-Ok.shape (edges_of c.in-Ok.shape rest) = sym c.in-Ok-2.is ∙ c.in_ok-refusal-in-Ok.ensures in
-    is_bigraph c.in-Ok.shape c.in-Ok-2.lists (are_lists c.in-Ok.shape _ c.in-Ok-2.lists made) c.in-Ok.ensures.left.0 (omega (arith, c.in-Ok.ensures.left.1)) c.in-Ok.ensures.right.0 (omega (arith, c.in-Ok.ensures.right.1))
+    let made : read.Ok c.in-Ok-2.lists ≡ lists_of_lines c.in-Ok.shape rest = sym c.in-Ok-2.is ∙ c.in_ok-refusal-in-Ok.ensures in
+    is_bigraph c.in-Ok.shape c.in-Ok-2.lists (are_lists c.in-Ok.shape rest c.in-Ok-2.lists made) c.in-Ok.ensures.left.0 (omega (arith, c.in-Ok.ensures.left.1)) c.in-Ok.ensures.right.0 (omega (arith, c.in-Ok.ensures.right.1))
 
 pub returns-in-Ok-2 : goal.returns-in-Ok-2
 returns-in-Ok-2 c =
@@ -50,7 +50,7 @@ returns-in-Ok-2 c =
     let rest = filled_lines (first.number + 1) (lines_of (drop first.span.next c.without_mark-text.result.now)) in
     let whole : bigraph limit c.args.bytes.now ≡ bigraph_lines limit (filled_lines 1 (lines_of c.without_mark-text.result.now)) =
     bigraph_short limit c.args.bytes.now c.if-bytes-gt-MAX_FILE_BYTES.false ∙ ap (λ text. bigraph_lines limit (filled_lines 1 (lines_of text))) (sym c.without_mark-text.ensures.text) in
-    let made : read.Ok c.in-Ok-2.lists ≡ lists_with c.in-Ok.shape (edges_of c.in-Ok.shape rest) = sym c.in-Ok-2.is ∙ c.in_ok-refusal-in-Ok.ensures in
+    let made : read.Ok c.in-Ok-2.lists ≡ lists_of_lines c.in-Ok.shape rest = sym c.in-Ok-2.is ∙ c.in_ok-refusal-in-Ok.ensures in
     ap (λ g. read.Ok g) c.of_lists.ensures
-    ∙ bigraph_read c.in-Ok.shape c.in-Ok-2.lists (are_lists c.in-Ok.shape _ c.in-Ok-2.lists made)
+    ∙ bigraph_read c.in-Ok.shape c.in-Ok-2.lists (are_lists c.in-Ok.shape rest c.in-Ok-2.lists made)
     ∙ sym (whole ∙ ap (bigraph_lines limit) c.in-Some.ensures.line ∙ ap (λ sides. bigraph_behind first.number sides rest) (sym c.in-Ok.ensures.sides) ∙ ap (bigraph_with c.in-Ok.shape) (sym made))

@@ -1,7 +1,7 @@
 use Rattle.std.proofs.Common.{◌≡◌, ◌∙◌, ◌+◌, ap, sym, arith, drop}
 use Rattle.row_model.specs.declared.refusal.Read.TheVariants as read
 use Rattle.matrix_read.specs.Lines.{lines_of, filled_lines}
-use Rattle.graph_read.specs.Edges.{right_of, edges_of, lists_with}
+use Rattle.graph_read.specs.Edges.{right_of, lists_of_lines}
 use Rattle.graph_read.specs.GraphFiles.{graph, graph_with, graph_behind, graph_lines}
 use Rattle.graph_read.proofs.ListLemmas.{are_lists}
 use Rattle.graph_read.proofs.FileLemmas.{graph_long, graph_short, graph_read, is_graph}
@@ -30,14 +30,14 @@ returns-in-Refused c =
     let rest = filled_lines (first.number + 1) (lines_of (drop first.span.next c.without_mark-text.result.now)) in
     let whole : graph c.args.bytes.now ≡ graph_lines (filled_lines 1 (lines_of c.without_mark-text.result.now)) =
     graph_short c.args.bytes.now c.if-bytes-gt-MAX_FILE_BYTES.false ∙ ap (λ text. graph_lines (filled_lines 1 (lines_of text))) (sym c.without_mark-text.ensures.text) in
-    let refused : read.Refused c.in-Refused.refusal ≡ lists_with c.in-Ok.shape (edges_of c.in-Ok.shape rest) = sym c.in-Refused.is ∙ c.in_ok-refusal-in-Ok.ensures in
+    let refused : read.Refused c.in-Refused.refusal ≡ lists_of_lines c.in-Ok.shape rest = sym c.in-Refused.is ∙ c.in_ok-refusal-in-Ok.ensures in
     sym (whole ∙ ap graph_lines c.in-Some.ensures.line ∙ ap (λ vertices. graph_behind first.number vertices rest) (sym c.in-Ok.ensures.vertices) ∙ ap (graph_with c.in-Ok.shape) (sym refused))
 
 pub of_lists-requires : goal.of_lists-requires
 of_lists-requires c =
     let first = c.in-Some.first in
     let rest = filled_lines (first.number + 1) (lines_of (drop first.span.next c.without_mark-text.result.now)) in
-    let made : read.Ok c.in-Ok-2.lists ≡ lists_with c.in-Ok.shape (edges_of c.in-Ok.shape rest) = sym c.in-Ok-2.is ∙ c.in_ok-refusal-in-Ok.ensures in
+    let made : read.Ok c.in-Ok-2.lists ≡ lists_of_lines c.in-Ok.shape rest = sym c.in-Ok-2.is ∙ c.in_ok-refusal-in-Ok.ensures in
     is_graph c.in-Ok.shape _ rest c.in-Ok-2.lists c.in-Ok.ensures.square c.in-Ok.ensures.range.0 (omega (arith, c.in-Ok.ensures.range.1)) made
 
 pub returns-in-Ok-2 : goal.returns-in-Ok-2
@@ -46,7 +46,7 @@ returns-in-Ok-2 c =
     let rest = filled_lines (first.number + 1) (lines_of (drop first.span.next c.without_mark-text.result.now)) in
     let whole : graph c.args.bytes.now ≡ graph_lines (filled_lines 1 (lines_of c.without_mark-text.result.now)) =
     graph_short c.args.bytes.now c.if-bytes-gt-MAX_FILE_BYTES.false ∙ ap (λ text. graph_lines (filled_lines 1 (lines_of text))) (sym c.without_mark-text.ensures.text) in
-    let made : read.Ok c.in-Ok-2.lists ≡ lists_with c.in-Ok.shape (edges_of c.in-Ok.shape rest) = sym c.in-Ok-2.is ∙ c.in_ok-refusal-in-Ok.ensures in
+    let made : read.Ok c.in-Ok-2.lists ≡ lists_of_lines c.in-Ok.shape rest = sym c.in-Ok-2.is ∙ c.in_ok-refusal-in-Ok.ensures in
     ap (λ g. read.Ok g) c.of_lists.ensures
-    ∙ graph_read c.in-Ok.shape c.in-Ok-2.lists (are_lists c.in-Ok.shape _ c.in-Ok-2.lists made) (ap right_of c.in-Ok.ensures.square)
+    ∙ graph_read c.in-Ok.shape c.in-Ok-2.lists (are_lists c.in-Ok.shape rest c.in-Ok-2.lists made) (ap right_of c.in-Ok.ensures.square)
     ∙ sym (whole ∙ ap graph_lines c.in-Some.ensures.line ∙ ap (λ vertices. graph_behind first.number vertices rest) (sym c.in-Ok.ensures.vertices) ∙ ap (graph_with c.in-Ok.shape) (sym made))

@@ -1,8 +1,7 @@
-use Rattle.std.proofs.Common.{◌≡◌, ◌≤◌, ◌+◌, ◌-◌, List, drop, length}
+use Rattle.std.proofs.Common.{◌≡◌, ◌≤◌, ◌+◌, ◌-◌, ◌++◌, List, drop, length}
 use Rattle.matrix_read.specs.Lines.{lines_of, filled_lines}
 use Rattle.graph_read.specs.declared.edges.Edge.{Edge}
-use Rattle.graph_read.specs.Items.{items_behind}
-use Rattle.graph_read.specs.Edges.{left_of, right_of, edge_of, edges_of, ways}
+use Rattle.graph_read.specs.Edges.{left_of, right_of, edges_of, edge_refusal, ways}
 use Rattle.graph_read.specs.Places.{ArePlaces}
 use Rattle.graph_read.proofs.read_lists.push_lines.Given as goal
 
@@ -10,9 +9,10 @@ abbrev pub invariant-loop-line : goal.invariant-loop-line
 invariant-loop-line l = record {
   within : l.place ≤ length l.text;
   few : l.number ≤ l.place;
+  refusal : edge_refusal l.shape (filled_lines (l.number + 1) (lines_of (drop l.place l.text))) ≡ edge_refusal l.shape (filled_lines (l.passed + 1) (lines_of (drop l.at l.text)));
   so_far : (edges : List Edge)
       × ArePlaces (left_of l.shape) (right_of l.shape) (ways l.shape edges) l.places.items
-      × (items_behind (edge_of l.shape) edges (filled_lines (l.number + 1) (lines_of (drop l.place l.text))) ≡ edges_of l.shape (filled_lines (l.passed + 1) (lines_of (drop l.at l.text))));
+      × (edges ++ edges_of l.shape (filled_lines (l.number + 1) (lines_of (drop l.place l.text))) ≡ edges_of l.shape (filled_lines (l.passed + 1) (lines_of (drop l.at l.text))));
 }
 
 abbrev pub decreases-loop-line : goal.decreases-loop-line

@@ -17,7 +17,7 @@ returns-in-Ok-clause-row c =
     let width : length marks ≡ length probes = same ∙ c.requires.marks ∙ sym (length-bytes keys) in (
       names_taken probes _ (view c.args.clone.now) c.in-Some.ensures c.in-Ok.ensures.named,
       c.take_marked.ensures.columns
-          ∙ marked_is 1 marks numbers (λ j lt. c.in-Ok.ensures.marks j (rw same at lt))
-          ∙ ap (λ n. columns_among 1 n numbers) width
+          ∙ marked_is marks numbers (λ j lt. c.in-Ok.ensures.marks j (rw same at lt))
+          ∙ ap (λ n. columns_among n numbers) width
           ∙ sym (row_of_names probes _ (view c.args.clone.now) c.in-Some.ensures),
     )

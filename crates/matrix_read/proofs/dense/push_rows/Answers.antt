@@ -1,4 +1,4 @@
-use Rattle.std.proofs.Common.{◌≡◌, ◌∷◌, ◌++◌, [], length, slice_range, drop, ◌+◌, sym, ap, ◌∙◌, refl, Some, None, List, ℕ, arith}
+use Rattle.std.proofs.Common.{◌≡◌, ◌∷◌, ◌++◌, [], length, slice_range, drop, ◌+◌, sym, ap, ◌∙◌, refl, Some, None, List, ℕ}
 use Rattle.row_model.specs.Rows.{RowList}
 use Rattle.matrix_read.specs.Lines.{lines_of, filled_lines}
 use Rattle.matrix_read.specs.Dense.{row_code, row_of}
@@ -19,7 +19,7 @@ push_row-requires-clause-row c =
     let m = c.loop-line.matrix in
     let line : List ℕ = slice_range c.args.text.now c.in-Some.line.span.start c.in-Some.line.span.end in
     let room : length c.loop-line.columns ≡ m.columns = c.loop-line.auto.columns ∙ c.requires.width ∙ sym c.loop-line.invariant.columns in
-    rw c.in-Ok.ensures.row.1 (row_ascends m.columns line (omega (arith, room, row_code-width _ _ line c.in-Ok.ensures.row.0)))
+    rw c.in-Ok.ensures.row.1 (row_ascends m.columns line (row_code-width _ _ line c.in-Ok.ensures.row.0 ∙ room))
 
 pub loop-line-preserved : goal.loop-line-preserved
 loop-line-preserved c =

@@ -1,6 +1,7 @@
 use Rattle.std.proofs.Common.{◌≡◌, ◌≤◌, ◌+◌, ◌++◌, drop, take, length}
 use Rattle.std.specs.List.{list_any}
-use Rattle.matrix_read.specs.Dense.{is_foreign, digits_of, width_of, ones_from, row_of}
+use Rattle.matrix_read.specs.Dense.{is_foreign, digits_of, width_of}
+use Rattle.matrix_read.proofs.DenseLemmas.{ones_from}
 use Rattle.matrix_read.proofs.dense.scan.Given as goal
 
 abbrev pub invariant-loop-byte : goal.invariant-loop-byte
@@ -10,5 +11,5 @@ invariant-loop-byte l = record {
   few : l.digits.ones ≤ l.digits.all;
   short : l.digits.all ≤ l.byte-index;
   within : l.digits.ones ≤ length l.columns;
-  row : width_of l.line ≤ length l.columns → take l.digits.ones l.columns ++ ones_from (l.digits.all + 1) (digits_of (drop l.byte-index l.line)) ≡ row_of l.line;
+  row : width_of l.line ≤ length l.columns → take l.digits.ones l.columns ++ ones_from (l.digits.all + 1) (digits_of (drop l.byte-index l.line)) ≡ ones_from 1 (digits_of l.line);
 }

@@ -13,6 +13,6 @@ returns-in-Ok-clause-row c =
     let same : length marks ≡ length c.args.marks.now = c.mark_columns.auto.marks in (
       line_taken (length c.args.marks.now) c.args.before c.args.line.now c.if-before-ge-MAX_ROWS.false c.in-Ok.ensures.named,
       c.take_marked.ensures.columns
-          ∙ marked_is 1 marks numbers (λ j lt. c.in-Ok.ensures.marks j (rw same at lt))
-          ∙ ap (λ n. columns_among 1 n numbers) same,
+          ∙ marked_is marks numbers (λ j lt. c.in-Ok.ensures.marks j (rw same at lt))
+          ∙ ap (λ n. columns_among n numbers) same,
     )

@@ -1,8 +1,10 @@
-use Rattle.std.proofs.Common.{◌≡◌, ◌<◌, ◌+◌, ◌++◌, length, take, arith, refl, sym, ap, ◌∙◌, true, false}
+use Rattle.std.proofs.Common.{◌≡◌, ◌<◌, ◌+◌, ◌++◌, [], List, ℕ, length, map, drop, take, arith, refl, sym, ap, ◌∙◌, true, false}
 use Rattle.csv.specs.Records.{fields_of}
 use Rattle.matrix_read.specs.Cells.{trimmed, is_empty, is_present, is_foreign}
 use Rattle.matrix_read.proofs.DenseLemmas.{never_true}
-use Rattle.matrix_read.proofs.TableLemmas.{foreign_here, foreign_later, column_more, foreign_empty, column_empty, entry_le}
+use Rattle.std.proofs.Math.ListN.{drop_of_length-le}
+use Rattle.std.proofs.lemmas.List.{append-nil}
+use Rattle.matrix_read.proofs.TableLemmas.{present_from, present_columns, foreign_here, foreign_later, column_more, foreign_empty, column_empty, entry_le}
 use Rattle.matrix_read.proofs.table.mark_columns.Goals as goal
 
 pub returns-in_default-clause-foreign : goal.returns-in_default-clause-foreign
@@ -37,3 +39,13 @@ loop-before-preserved c =
           column_more fields place field c.field-field.ensures c.loop-before.columns c.loop-before.ones c.from-ones.result within (c.from-ones.ensures ∙ c.in-Some.ensures.present)
           ∙ c.loop-before.invariant.row;
     }
+
+pub returns-clause-row : goal.returns-clause-row
+returns-clause-row c =
+    let fields = fields_of c.args.fields.now in
+    let ones = c.loop-before.ones in
+    let none : drop (c.loop-before.before + 1) fields ≡ [] = drop_of_length-le fields (omega (arith, c.requires.width)) in
+    sym (append-nil (take ones c.loop-before.columns))
+    ∙ ap (λ (rest : List (List ℕ)). take ones c.loop-before.columns ++ present_from (c.loop-before.before + 1) (map trimmed rest)) (sym none)
+    ∙ c.loop-before.invariant.row
+    ∙ present_columns fields

@@ -1,7 +1,7 @@
 use Rattle.std.proofs.Common.{◌≡◌, sym, ap, ◌∙◌, length}
 use Rattle.csv.specs.Records.{fields_of}
 use Rattle.matrix_read.specs.RecordsLeft.{records_left}
-use Rattle.matrix_read.specs.Table.{with_even_records}
+use Rattle.matrix_read.specs.TableSteps.{with_even_records}
 use Rattle.matrix_read.proofs.TableLemmas.{even_here, even_end}
 use Rattle.matrix_read.proofs.table.read_further.Goals as goal
 

@@ -1,6 +1,6 @@
 use Rattle.std.proofs.Common.{◌≡◌, length}
 use Rattle.matrix_read.specs.RecordsLeft.{IsPlain, records_left}
-use Rattle.matrix_read.specs.Table.{IsWithin, with_even_records}
+use Rattle.matrix_read.specs.TableSteps.{IsWithin, with_even_records}
 use Rattle.matrix_read.proofs.table.read_further.Given as goal
 
 abbrev pub invariant-loop-so_far : goal.invariant-loop-so_far

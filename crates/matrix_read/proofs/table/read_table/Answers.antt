@@ -2,9 +2,10 @@ use Rattle.std.proofs.Common.{◌≡◌, sym, ap, ◌∙◌, length}
 use Rattle.csv.specs.Reading.{default_config, strip_bom, records}
 use Rattle.csv.specs.Records.{fields_of}
 use Rattle.matrix_read.specs.RecordsLeft.{records_left}
-use Rattle.matrix_read.specs.Table.{read_records, with_even_records, table}
+use Rattle.matrix_read.specs.Table.{read_records, table}
+use Rattle.matrix_read.specs.TableSteps.{with_even_records}
 use Rattle.matrix_read.proofs.RecordLemmas.{left_at_start}
-use Rattle.matrix_read.proofs.TableLemmas.{table_long, table_short}
+use Rattle.matrix_read.proofs.TableLemmas.{records_read, table_long, table_short}
 use Rattle.matrix_read.proofs.table.read_table.Goals as goal
 
 pub returns-then-bytes-gt-MAX_FILE_BYTES : goal.returns-then-bytes-gt-MAX_FILE_BYTES
@@ -28,6 +29,7 @@ returns c =
     let whole : table bytes ≡ with_even_records (length header) c.in_ok-begun.begun left =
     table_short bytes c.if-bytes-gt-MAX_FILE_BYTES.false
     ∙ ap read_records (sym all ∙ c.in_ok-next_record.ensures.found c.if-not-branch.false)
+    ∙ records_read header left
     ∙ ap (λ begun. with_even_records (length header) begun left) (sym c.in_ok-begun.ensures.read)
     in
     rw whole c.read_further.ensures

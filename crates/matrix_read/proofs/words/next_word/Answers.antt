@@ -1,6 +1,7 @@
-use Rattle.std.proofs.Common.{◌≡◌, ◌<◌, ◌+◌, slice_range, arith, sym, ◌∙◌, refl, false}
+use Rattle.std.proofs.Common.{◌≡◌, ◌<◌, ◌+◌, slice_range, arith, ap, sym, ◌∙◌, refl, false}
 use Rattle.matrix_read.specs.Lines.{is_blank}
 use Rattle.matrix_read.specs.Words.{word_len}
+use Rattle.matrix_read.proofs.TextLemmas.{words_step, words_none}
 use Rattle.matrix_read.proofs.WordLemmas.{none_left, one_left, word_here, length-slice_range}
 use Rattle.matrix_read.proofs.words.next_word.Goals as goal
 
@@ -26,3 +27,19 @@ returns-clause-range c =
       omega (arith, c.count_word-len.ensures.count),
       omega (arith, length-slice_range bytes (c.args.at + c.count_blanks.result) c.args.end (omega arith) c.requires.within),
     )
+
+pub returns-then-start-end-clause-nothing : goal.returns-then-start-end-clause-nothing
+returns-then-start-end-clause-nothing c =
+    words_none c.args.bytes.now c.args.at c.args.end
+    (none_left c.args.bytes.now c.args.at c.args.end c.count_blanks.result c.requires.order c.requires.within c.count_blanks.ensures.count c.if-start-end.true)
+
+pub returns-clause-words : goal.returns-clause-words
+returns-clause-words c =
+    let bytes = c.args.bytes.now in
+    let start = c.args.at + c.count_blanks.result in
+    let before : start < c.args.end = omega (arith, length-slice_range bytes c.args.at c.args.end c.requires.order c.requires.within) in
+    let some : 0 < word_len (slice_range bytes start c.args.end) =
+    word_here bytes c.args.at c.args.end c.count_blanks.result c.requires.order c.requires.within c.count_blanks.ensures.count before in
+    words_step bytes c.args.at c.args.end start (start + c.count_word-len.result) c.requires.order c.requires.within
+    (ap (λ n. c.args.at + n) c.count_blanks.ensures.count) (ap (λ n. start + n) c.count_word-len.ensures.count) (omega (arith, c.count_word-len.ensures.count))
+    (omega (arith, length-slice_range bytes start c.args.end (omega arith) c.requires.within))

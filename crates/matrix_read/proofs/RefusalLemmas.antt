@@ -1,0 +1,188 @@
+-- The first line that is refused.
+use Rattle.std.proofs.Common.{◌≡◌, ◌∙◌, ℕ, zero, suc, ◌<◌, ◌+◌, List, [], ◌∷◌, map, slice_get, Option, Some, None, Result, Ok, Err, refl, sym, ap, arith}
+use Rattle.row_model.specs.Rows.{RowList}
+use Rattle.row_model.specs.declared.refusal.Refusal.{Refusal}
+use Rattle.row_model.specs.declared.refusal.Read.TheVariants as read
+use Rattle.matrix_read.specs.Lines.{NumberedLine}
+use Rattle.matrix_read.specs.Rows.{refusal_or, first_refusal, refused_or}
+use Rattle.matrix_read.specs.Dense.{width_of, first_code, row_code, rows_of, read_lines}
+use Rattle.matrix_read.specs.Sparse.{line_code, row_named, rows_behind, sparse_lines}
+use Rattle.matrix_read.specs.Refusals.{IsOfFirstLine, NoLineRefused, FirstLineLaw, numbered_of, dense_head, sparse_head, DenseRefusals, SparseRefusals, FurtherRefusals}
+use Rattle.matrix_read.proofs.RowLemmas.{first_refusal-here, first_refusal-later}
+use Rattle.matrix_read.proofs.DenseLemmas.{dense_long, dense_short}
+use Rattle.matrix_read.proofs.SparseLemmas.{sparse_long, sparse_short, further_long, further_short}
+
+module _ (code_of : ℕ → List ℕ → Option ℕ) where
+  -- where no line is refused
+  pub none_from : (before : ℕ) (lines : List NumberedLine) → NoLineRefused code_of before lines → first_refusal code_of before lines ≡ None
+  unfolding first_refusal
+  none_from before [] all = refl
+  none_from before (line ∷ lines) all =
+      let at : before ≡ before + 0 = omega arith in
+      let here : code_of before line.text ≡ None = ap (λ n. code_of n line.text) at ∙ all 0 line refl in
+      first_refusal-later code_of before line lines here
+      ∙ none_from (before + 1) lines (λ i other e.
+      let next : before + 1 + i ≡ before + suc i = omega arith in
+      ap (λ n. code_of n other.text) next ∙ all (suc i) other e)
+
+  -- where a line is the first
+  pub place_first : (before : ℕ) (lines : List NumberedLine) (refusal : Refusal) (place : ℕ) (line : NumberedLine) → slice_get lines place ≡ Some line → refusal.line ≡ line.number
+      → code_of (before + place) line.text ≡ Some refusal.code → ((i : ℕ) (other : NumberedLine) → i < place → slice_get lines i ≡ Some other → code_of (before + i) other.text ≡ None)
+      → first_refusal code_of before lines ≡ Some refusal
+  place_first before [] refusal zero line stands number code earlier = absurd (cc)
+  place_first before [] refusal (suc place) line stands number code earlier = absurd (cc)
+  place_first before (first ∷ lines) refusal zero line stands number code earlier =
+      let same : first ≡ line = cc in
+      let at : before ≡ before + 0 = omega arith in
+      let here : code_of before first.text ≡ Some refusal.code = ap (λ n. code_of n first.text) at ∙ ap (λ (l : NumberedLine). code_of (before + 0) l.text) same ∙ code in
+      let counted : first.number ≡ refusal.line = ap (λ (l : NumberedLine). l.number) same ∙ sym number in
+      first_refusal-here code_of before first lines refusal.code here ∙ ap (λ n. Some (record { code = refusal.code; line = n })) counted
+  place_first before (first ∷ lines) refusal (suc place) line stands number code earlier =
+      let at : before ≡ before + 0 = omega arith in
+      let here : code_of before first.text ≡ None = ap (λ n. code_of n first.text) at ∙ earlier 0 first (omega arith) refl in
+      let next : before + 1 + place ≡ before + suc place = omega arith in
+      first_refusal-later code_of before first lines here
+      ∙ place_first (before + 1) lines refusal place line stands number (ap (λ n. code_of n line.text) next ∙ code) (λ i other lt e.
+      let more : before + 1 + i ≡ before + suc i = omega arith in
+      ap (λ n. code_of n other.text) more ∙ earlier (suc i) other (omega arith) e)
+
+  -- where there is no refusal
+  none_told : (before : ℕ) (lines : List NumberedLine) → first_refusal code_of before lines ≡ None → NoLineRefused code_of before lines
+  unfolding first_refusal
+  none_told before [] e zero line stands = absurd (cc)
+  none_told before [] e (suc i) line stands = absurd (cc)
+  none_told before (first ∷ lines) e i line stands = by (code_of before first.text) refl e (λ k i rest. none_told (before + 1) lines k i line rest) i stands
+    where
+      by : (code : Option ℕ) → code_of before first.text ≡ code → refusal_or code first.number (first_refusal code_of (before + 1) lines) ≡ None
+          → (first_refusal code_of (before + 1) lines ≡ None → (i : ℕ) → slice_get lines i ≡ Some line → code_of (before + 1 + i) line.text ≡ None)
+          → (i : ℕ) → slice_get (first ∷ lines) i ≡ Some line → code_of (before + i) line.text ≡ None
+      by (Some code) h k later i stands = absurd (cc)
+      by None h k later zero stands =
+          let same : first ≡ line = cc in
+          let at : before + 0 ≡ before = omega arith in
+          ap (λ n. code_of n line.text) at ∙ ap (λ (l : NumberedLine). code_of before l.text) (sym same) ∙ h
+      by None h k later (suc i) stands =
+          let next : before + suc i ≡ before + 1 + i = omega arith in
+          ap (λ n. code_of n line.text) next ∙ later k i stands
+
+  -- where there is one
+  first_told : (before : ℕ) (lines : List NumberedLine) (refusal : Refusal) → first_refusal code_of before lines ≡ Some refusal → IsOfFirstLine code_of before lines refusal
+  unfolding first_refusal
+  first_told before [] refusal e = absurd (cc)
+  first_told before (first ∷ lines) refusal e = by (code_of before first.text) refl e (first_told (before + 1) lines refusal)
+    where
+      by : (code : Option ℕ) → code_of before first.text ≡ code → refusal_or code first.number (first_refusal code_of (before + 1) lines) ≡ Some refusal
+          → (first_refusal code_of (before + 1) lines ≡ Some refusal → IsOfFirstLine code_of (before + 1) lines refusal) → IsOfFirstLine code_of before (first ∷ lines) refusal
+      by (Some code) h k later =
+          let same : record { code = code; line = first.number } ≡ refusal = cc in
+          let at : before + 0 ≡ before = omega arith in
+          record {
+            place = 0;
+            line = first;
+            stands = refl;
+            number = ap (λ (r : Refusal). r.line) (sym same);
+            code = ap (λ n. code_of n first.text) at ∙ h ∙ ap (λ (r : Refusal). Some r.code) same;
+            earlier = λ i other lt e. absurd (omega arith);
+          }
+      by None h k later =
+          let rest = later k in
+          let next : before + suc rest.place ≡ before + 1 + rest.place = omega arith in
+          record {
+            place = suc rest.place;
+            line = rest.line;
+            stands = rest.stands;
+            number = rest.number;
+            code = ap (λ n. code_of n rest.line.text) next ∙ rest.code;
+            earlier = earlier rest.place rest.earlier;
+          }
+        where
+          earlier : (place : ℕ) → ((i : ℕ) (other : NumberedLine) → i < place → slice_get lines i ≡ Some other → code_of (before + 1 + i) other.text ≡ None)
+              → (i : ℕ) (other : NumberedLine) → i < suc place → slice_get (first ∷ lines) i ≡ Some other → code_of (before + i) other.text ≡ None
+          earlier place all zero other lt stands =
+              let same : first ≡ other = cc in
+              let at : before + 0 ≡ before = omega arith in
+              ap (λ n. code_of n other.text) at ∙ ap (λ (l : NumberedLine). code_of before l.text) (sym same) ∙ h
+          earlier place all (suc i) other lt stands =
+              let next : before + suc i ≡ before + 1 + i = omega arith in
+              ap (λ n. code_of n other.text) next ∙ all i other (omega arith) stands
+
+  pub of_first : (before : ℕ) (lines : List NumberedLine) (refusal : Refusal) → IsOfFirstLine code_of before lines refusal → first_refusal code_of before lines ≡ Some refusal
+  of_first before lines refusal h = place_first before lines refusal h.place h.line h.stands h.number h.code h.earlier
+
+pub first_line_law : FirstLineLaw
+first_line_law = record {
+  some = λ code_of before lines refusal. (first_told code_of before lines refusal, of_first code_of before lines refusal);
+  none = λ code_of before lines. (none_told code_of before lines, none_from code_of before lines);
+}
+
+-- dense files
+dense_rows : (first : NumberedLine) (later : List NumberedLine) (width : ℕ) → dense_head first.text ≡ Ok width → read_lines (first ∷ later) ≡ refused_or (first_refusal (row_code width) 1 later) (record { columns = width; rows = rows_of (first ∷ later) })
+dense_rows first later width h = by (first_code first.text) refl h
+  where
+    by : (code : Option ℕ) → first_code first.text ≡ code → dense_head first.text ≡ Ok width → read_lines (first ∷ later) ≡ refused_or (first_refusal (row_code width) 1 later) (record { columns = width; rows = rows_of (first ∷ later) })
+    by (Some code) e k = let wrong = rw e at k in absurd (cc)
+    by None e k =
+        let is : width_of first.text ≡ width = let same = rw e at k in cc in
+        rw e (ap (λ w. refused_or (first_refusal (row_code w) 1 later) (record { columns = w; rows = rows_of (first ∷ later) })) is)
+
+dense_head_refused : (first : NumberedLine) (later : List NumberedLine) (code : ℕ) → dense_head first.text ≡ Err code → read_lines (first ∷ later) ≡ read.Refused (record { code = code; line = first.number })
+dense_head_refused first later code h = by (first_code first.text) refl h
+  where
+    by : (found : Option ℕ) → first_code first.text ≡ found → dense_head first.text ≡ Err code → read_lines (first ∷ later) ≡ read.Refused (record { code = code; line = first.number })
+    by (Some found) e k =
+        let is : found ≡ code = let same = rw e at k in cc in
+        rw e (ap (λ n. read.Refused (record { code = n; line = first.number })) is)
+    by None e k = let wrong = rw e at k in absurd (cc)
+
+pub dense_refusals : DenseRefusals
+dense_refusals = record {
+  refused = record {
+    too_long = dense_long;
+    no_line = λ bytes short e. dense_short bytes short ∙ ap read_lines e;
+    bad_head = λ bytes first later code short e h. dense_short bytes short ∙ ap read_lines e ∙ dense_head_refused first later code h;
+    bad_line = λ bytes first later width refusal short e h of.
+        dense_short bytes short ∙ ap read_lines e ∙ dense_rows first later width h
+        ∙ ap (λ r. refused_or r (record { columns = width; rows = rows_of (first ∷ later) })) (of_first (row_code width) 1 later refusal of);
+  };
+  taken = λ bytes first later width short e h all. (
+    record { columns = width; rows = rows_of (first ∷ later) },
+    dense_short bytes short ∙ ap read_lines e ∙ dense_rows first later width h
+        ∙ ap (λ r. refused_or r (record { columns = width; rows = rows_of (first ∷ later) })) (none_from (row_code width) 1 later all),
+  );
+}
+
+-- sparse files
+sparse_rows : (head : NumberedLine) (later : List NumberedLine) (found : Result ℕ ℕ) → sparse_head head.text ≡ found → sparse_lines (head ∷ later) ≡ rows_behind head.number found later
+sparse_rows head later found h = ap (λ width. rows_behind head.number width later) h
+
+-- the matrix of rows that name columns
+named : ℕ → List NumberedLine → RowList
+named c lines = record { columns = c; rows = map (λ (line : NumberedLine). row_named c line.text) lines }
+
+pub sparse_refusals : SparseRefusals
+unfolding named
+sparse_refusals = record {
+  refused = record {
+    too_long = sparse_long;
+    no_line = λ bytes short e. sparse_short bytes short ∙ ap sparse_lines e;
+    bad_head = λ bytes head later code short e h. sparse_short bytes short ∙ ap sparse_lines e ∙ sparse_rows head later (Err code) h;
+    bad_line = λ bytes head later c refusal short e h of.
+        sparse_short bytes short ∙ ap sparse_lines e ∙ sparse_rows head later (Ok c) h ∙ ap (λ r. refused_or r (named c later)) (of_first (line_code c) 0 later refusal of);
+  };
+  taken = λ bytes head later c short e h all. (
+    named c later,
+    sparse_short bytes short ∙ ap sparse_lines e ∙ sparse_rows head later (Ok c) h ∙ ap (λ r. refused_or r (named c later)) (none_from (line_code c) 0 later all),
+  );
+}
+
+-- files of further rows
+pub further_refusals : FurtherRefusals
+unfolding named
+further_refusals = record {
+  too_long = λ c bytes h. further_long bytes c h;
+  bad_line = λ c bytes refusal short of. further_short bytes c short ∙ ap (λ r. refused_or r (named c (numbered_of bytes))) (of_first (line_code c) 0 (numbered_of bytes) refusal of);
+  taken = λ c bytes short all. (
+    named c (numbered_of bytes),
+    further_short bytes c short ∙ ap (λ r. refused_or r (named c (numbered_of bytes))) (none_from (line_code c) 0 (numbered_of bytes) all),
+  );
+}
