@@ -1,12 +1,11 @@
 -- Circular orders (Tucker, 1971): the columns stand round a circle, and so do the columns of each row, or else those outside it, without a gap.
 use Rattle.std.specs.Prelude.{◌≡◌, ◌⊎◌, ℕ, not, if◌then◌else◌, List, [], ◌∷◌, ◌++◌, map, All}
-use Rattle.std.specs.List.{filter, range_with_len}
 use Rattle.column_order.specs.Orders.{has, IsOrder, Keeps}
-use Rattle.row_model.specs.Rows.{RowList}
+use Rattle.row_model.specs.Rows.{RowList, columns_where}
 
 -- the columns of 1 to c that the row lacks, in ascending order
 abbrev pub complement : ℕ → List ℕ → List ℕ
-complement c row = filter (λ column. not (has row column)) (range_with_len 1 c)
+complement c row = columns_where c (λ column. not (has row column))
 
 -- an order in which, for each row, the columns of the row or the columns outside it are consecutive
 pub record IsCircularOrder (c : ℕ) (rows : List (List ℕ)) (o : List ℕ) : Type 0 where

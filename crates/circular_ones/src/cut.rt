@@ -3,8 +3,8 @@ ghost use Rattle.std.specs.Prelude.{◌≡◌, IfOk, OnOk};
 ghost use Rattle.row_model.specs.Rows.{IsRow};
 ghost use Rattle.circular_ones.specs.Circular.{complement, cut};
 
-use row_model::Matrix;
-use std::alloc::{AllocError, Global};
+use row_model::{Matrix, NoMemory};
+use std::alloc::Global;
 
 /// The matrix in which each row that holds column 1 is replaced by its complement, the columns that it lacks (Tucker,
 /// 1971). The other rows stay.
@@ -12,7 +12,11 @@ use std::alloc::{AllocError, Global};
 /// Its valid orders are circular orders of the given matrix, and one of them is a rotation of each circular order, as
 /// [`circular_law`](crate::circular_law) says. A row that holds column 1 takes time linear in the number of columns, and
 /// any other in its length.
-pub fn cut_rows(alloc: Global, m: &Matrix) -> Result<Matrix, AllocError>
+///
+/// # Errors
+///
+/// `NoMemory` where there is no memory for the matrix.
+pub fn cut_rows(alloc: Global, m: &Matrix) -> Result<Matrix, NoMemory>
     ensures { IfOk result (λ rows. rows ≡ cut m.now) }
 {
     let mut rows = Matrix::new(alloc, m.columns())?;
@@ -31,7 +35,7 @@ pub fn cut_rows(alloc: Global, m: &Matrix) -> Result<Matrix, AllocError>
 }
 
 // Makes the list that of the columns which the row lacks, in ascending order.
-fn list_outside(outside: &mut Vec<u32>, columns: u32, row: &[u32]) -> Result<(), AllocError>
+fn list_outside(outside: &mut Vec<u32>, columns: u32, row: &[u32]) -> Result<(), NoMemory>
     requires { IsRow columns row.now }
     ensures { OnOk result (outside.new.items ≡ complement columns row.now) }
 {

@@ -10,7 +10,7 @@ mod turn;
 
 pub use cut::cut_rows;
 pub use laws::circular_law;
-pub use std::alloc::AllocError as NoMemory;
+pub use row_model::NoMemory;
 pub use turn::turned;
 
 #[cfg(test)]

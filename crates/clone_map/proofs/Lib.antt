@@ -3,4 +3,3 @@ pub mod PlaceLaws
 pub mod RunLaws
 pub mod ContigLaws
 pub mod SweepLaws
-pub mod SameLists

@@ -1,15 +1,16 @@
 -- Spans from left to right, and the runs between the gaps that no place covers.
-use Rattle.std.proofs.Common.{◌≡◌, ◌⊎◌, ◌∙◌, ◌↔◌, ℕ, zero, suc, ◌+◌, ◌<◌, ◌≤◌, List, [], ◌∷◌, length, refl, sym, ap, subst, inl, inr, arith}
+use Rattle.std.proofs.Common.{◌≡◌, ◌⊎◌, ◌∙◌, ◌↔◌, ℕ, zero, suc, ◌+◌, ◌<◌, ◌≤◌, List, [], ◌∷◌, length, All, refl, sym, ap, subst, inl, inr, arith}
 use Rattle.std.specs.List.{slice_index_or}
 use Rattle.std.proofs.lemmas.Bool.{cases_lt}
-use Rattle.std.proofs.lemmas.List.Elements.{All-contains}
+use Rattle.std.proofs.lemmas.List.Elements.{All-contains, All-nil, All-cons}
 use Rattle.row_model.specs.declared.lists.Place.{Place}
 use Rattle.row_model.specs.declared.lists.Span.{Span}
 use Rattle.clone_map.specs.Contigs.{Cover, InOneSpan}
+use Rattle.clone_map.specs.Laws.{IsWithinOrder, SpansLaw}
 use Rattle.clone_map.specs.Runs.{IsCovered, IsRun, AreRuns}
 use Rattle.clone_map.proofs.ChainLaws.{IsBetween}
 
-pub cover_le : (before end : ℕ) (spans : List Span) → Cover before end spans → before ≤ end
+cover_le : (before end : ℕ) (spans : List Span) → Cover before end spans → before ≤ end
 cover_le before end [] h = omega arith
 cover_le before end (s ∷ spans) h = omega (arith, h.0, h.1, cover_le s.last end spans h.2)
 
@@ -117,3 +118,17 @@ module _ (count : ℕ) (places : List Place) (spans : List Span) (are : AreRuns 
         | inl h ↦ run.within gap (omega (arith, one.has_one.0, h.0)) (omega (arith, one.has_other.1, h.1))
         | inr h ↦ run.within gap (omega (arith, one.has_other.0, h.0)) (omega (arith, one.has_one.1, h.1))
       ]
+
+-- each span of a cover lies after the beginning and up to the end
+within_cover : (o : List ℕ) (before end : ℕ) (spans : List Span) → end ≤ length o → Cover before end spans → All (IsWithinOrder o) spans
+within_cover o before end [] l h = All-nil (IsWithinOrder o)
+within_cover o before end (s ∷ spans) l h =
+    let last : s.last ≤ end = cover_le s.last end spans h.2 in
+    All-cons (IsWithinOrder o) s spans (record { from = omega (arith, h.0); rise = h.1; to = omega (arith, last, l) }) (within_cover o s.last end spans l h.2)
+
+few_spans : (before end : ℕ) (spans : List Span) → Cover before end spans → before + length spans ≤ end
+few_spans before end [] h = omega (arith, h)
+few_spans before end (s ∷ spans) h = omega (arith, h.0, h.1, few_spans s.last end spans h.2)
+
+pub spans_within : SpansLaw
+spans_within clones o spans h = (within_cover o 0 (length o) spans (omega arith) h.cover, omega (arith, few_spans 0 (length o) spans h.cover))

@@ -22,6 +22,19 @@ ContigsLaw =
     AreContigs clones o others →
     spans ≡ others
 
+-- the span goes from a position of the order to the same or a later one
+pub record IsWithinOrder (o : List ℕ) (span : Span) : Type 0 where
+  pub from : 1 ≤ span.first
+  pub rise : span.first ≤ span.last
+  pub to : span.last ≤ length o
+
+-- the contigs of an order lie within its positions, and are no more than these
+abbrev pub SpansLaw : Type 0
+SpansLaw =
+    (clones : List (List ℕ)) (o : List ℕ) (spans : List Span) →
+    AreContigs clones o spans →
+    All (IsWithinOrder o) spans × (length spans ≤ length o)
+
 -- some clone has the probes at both positions
 pub record HasBoth (clones : List (List ℕ)) (o : List ℕ) (i j : ℕ) : Type 0 where
   pub clone : List ℕ

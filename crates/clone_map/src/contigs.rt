@@ -2,12 +2,12 @@
 ghost use Rattle.std.specs.Prelude.{◌≡◌, ◌≤◌, All, IfOk};
 ghost use Rattle.clone_map.specs.Runs.{IsWithinPositions, AreReaches, AreRuns};
 
-use row_model::{Place, Span, Spans};
-use std::alloc::{AllocError, Global};
+use row_model::{NoMemory, Place, Span, Spans};
+use std::alloc::Global;
 
 /// The contigs of positions 1 to `count`, from left to right: one ends where no place that begins at or before its last
 /// position ends after it.
-pub fn contigs_of(alloc: Global, count: u32, places: &[Place]) -> Result<Spans, AllocError>
+pub fn contigs_of(alloc: Global, count: u32, places: &[Place]) -> Result<Spans, NoMemory>
     requires { All (IsWithinPositions count) places.now }
     ensures { IfOk result (AreRuns count places.now) }
 {
@@ -31,7 +31,7 @@ pub fn contigs_of(alloc: Global, count: u32, places: &[Place]) -> Result<Spans, 
 }
 
 // For each position the greatest last position of the places that begin there, or 0.
-fn reaches_of(alloc: Global, count: u32, places: &[Place]) -> Result<Vec<u32>, AllocError>
+fn reaches_of(alloc: Global, count: u32, places: &[Place]) -> Result<Vec<u32>, NoMemory>
     requires { All (IsWithinPositions count) places.now }
     ensures { IfOk result (λ reaches. AreReaches count places.now reaches.items) }
 {

@@ -11,7 +11,7 @@ mod places;
 
 pub use laws::place_laws;
 pub use placed::{Placed, place};
-pub use std::alloc::AllocError as NoMemory;
+pub use row_model::NoMemory;
 
 #[cfg(test)]
 mod tests;

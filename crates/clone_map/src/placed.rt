@@ -6,8 +6,8 @@ ghost use Rattle.clone_map.specs.Contigs.{AreContigs};
 
 use crate::contigs::contigs_of;
 use crate::places::places_of;
-use row_model::{Matrix, Places, Spans, positions};
-use std::alloc::{AllocError, Global};
+use row_model::{Matrix, NoMemory, Places, Spans, positions};
+use std::alloc::Global;
 
 /// Where the clones and the contigs stand in an order of the probes.
 #[derive(Drop)]
@@ -25,7 +25,11 @@ pub struct Placed {
 /// holds the one to a clone that holds the other. A probe in no clone is a contig by itself.
 ///
 /// The time is linear in the probes, the clones and their ones.
-pub fn place(alloc: Global, m: &Matrix, order: &[u32]) -> Result<Placed, AllocError>
+///
+/// # Errors
+///
+/// `NoMemory` where there is no memory for the places and the contigs.
+pub fn place(alloc: Global, m: &Matrix, order: &[u32]) -> Result<Placed, NoMemory>
     requires { IsValidOrder m.now.columns m.now.rows order.now }
     ensures places { IfOk result (λ placed. ArePlaces order.now m.now.rows placed.places) }
     ensures contigs { IfOk result (λ placed. AreContigs m.now.rows order.now placed.contigs) }

@@ -5,11 +5,11 @@ ghost use Rattle.row_model.specs.Positions.{ArePositions};
 ghost use Rattle.row_model.specs.Rows.{IsRow};
 ghost use Rattle.clone_map.specs.Places.{ArePlaces, IsPlaceOf};
 
-use row_model::{Matrix, Place, Places, Span, span_of};
-use std::alloc::{AllocError, Global};
+use row_model::{Matrix, NoMemory, Place, Places, Span, span_of};
+use std::alloc::Global;
 
 /// The place of each row, from row 1 on.
-pub fn places_of(alloc: Global, m: &Matrix, positions: &[u32]) -> Result<Places, AllocError>
+pub fn places_of(alloc: Global, m: &Matrix, positions: &[u32]) -> Result<Places, NoMemory>
     requires { length positions.now ≡ m.now.columns }
     ensures places { IfOk result (λ places. (order : List ℕ) → IsOrder m.now.columns order →
         ArePositions order positions.now → ArePlaces order m.now.rows places) }

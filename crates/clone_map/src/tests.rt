@@ -1,11 +1,11 @@
 // Small maps, worked by hand.
 use super::*;
 use row_model::{Matrix, Place, Span, is_order};
-use std::alloc::{AllocError, Global};
+use std::alloc::Global;
 use std::test::Fail;
 
 // The places and the contigs, where the order is valid.
-fn placed(alloc: Global, m: &Matrix, order: &[u32]) -> Result<Option<Placed>, AllocError> {
+fn placed(alloc: Global, m: &Matrix, order: &[u32]) -> Result<Option<Placed>, NoMemory> {
     if is_order(alloc, m.columns(), order)? && m.keeps(order)? {
         Ok(Some(place(alloc, m, order)?))
     } else {

@@ -1,2 +1,2 @@
-pub mod Copies
-pub mod Textbook
+mod Sizes
+mod Textbook

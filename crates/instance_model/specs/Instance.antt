@@ -1,7 +1,7 @@
 -- Instances, their textbook orders and their derived matrices.
 use Rattle.std.specs.Prelude.{ℕ, zero, suc, ◌≤◌, List, [], ◌∷◌, length}
 use Rattle.column_order.specs.Orders.{IsValidOrder}
-use Rattle.row_model.specs.declared.TheConstants.{MAX_COLUMNS, MAX_ROWS}
+use Rattle.row_model.specs.declared.TheConstants.{MAX_COLUMNS, MAX_ROWS, MAX_ITEMS}
 use Rattle.row_model.specs.declared.kind.Kind.{Kind}
 use Rattle.row_model.specs.declared.kind.Kind.TheVariants as kind
 use Rattle.row_model.specs.Rows.{RowList}
@@ -12,7 +12,6 @@ use Rattle.convex_bipartite.specs.Sides.{left_rows, right_rows}
 use Rattle.convex_bipartite.specs.Convex.{IsConvexOnRight, IsConvexOnLeft}
 use Rattle.proper_interval.specs.Umbrellas.{IsUmbrellaOrder, closed_of}
 use Rattle.robinson_balls.specs.Balls.{IsRobinsonOrder, balls_of}
-use Rattle.instance_model.specs.declared.TheConstants.{MAX_ITEMS}
 
 -- an instance, by what its file holds; a matrix that stands for itself comes with the kind of its file
 pub data InstanceValue : Type 0 where

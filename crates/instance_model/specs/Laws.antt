@@ -1,9 +1,10 @@
 -- What the derived matrices say of the textbook orders.
-use Rattle.std.specs.Prelude.{◌↔◌, ℕ, List}
+use Rattle.std.specs.Prelude.{◌↔◌, ◌≤◌, ℕ, List, length}
 use Rattle.column_order.specs.Orders.{IsValidOrder, HasValidOrder}
+use Rattle.row_model.specs.declared.TheConstants.{MAX_COLUMNS, MAX_ROWS}
 use Rattle.row_model.specs.Rows.{RowList}
 use Rattle.circular_ones.specs.Circular.{IsTurned}
-use Rattle.instance_model.specs.Instance.{InstanceValue, circular, IsSideOf, IsTextbookOrder, derived_matrix, IsWellFormed}
+use Rattle.instance_model.specs.Instance.{InstanceValue, circular, IsSideOf, IsTextbookOrder, derived_matrix, IsInstance, IsWellFormed}
 
 -- an order is a valid order of a matrix
 abbrev pub IsValidFor : RowList → List ℕ → Type 0
@@ -20,6 +21,19 @@ AreTextbookOrders i s P = (o : List ℕ) → IsTextbookOrder i s o ↔ P o
 -- the valid orders of the derived matrix of a side are exactly its textbook orders
 abbrev pub DerivedLaw : Type 0
 DerivedLaw = (i : InstanceValue) (s : ℕ) → IsWellFormed i → IsSideOf i s → AreTextbookOrders i s (IsValidFor (derived_matrix i s))
+
+-- of an instance within the limits the derived matrix of a side has no more columns than a matrix may have
+abbrev pub FewColumnsLaw : Type 0
+FewColumnsLaw = (i : InstanceValue) (s : ℕ) → IsInstance i → IsSideOf i s → (derived_matrix i s).columns ≤ MAX_COLUMNS
+
+-- nor more rows
+abbrev pub FewRowsLaw : Type 0
+FewRowsLaw =
+    (i : InstanceValue) (s : ℕ) →
+    IsInstance i →
+    IsWellFormed i →
+    IsSideOf i s →
+    length (derived_matrix i s).rows ≤ MAX_ROWS
 
 -- each valid order of the derived matrix of a side is a textbook order
 abbrev pub ValidLaw : Type 0

@@ -1,6 +1,5 @@
 // Instances, by what their files hold.
 ghost use Rattle.std.specs.Prelude.{◌≡◌, ◌-◌, ◌≤◌, Some, length, slice_get, IfOk};
-ghost use Rattle.row_model.specs.declared.TheConstants.{MAX_ROWS};
 ghost use Rattle.instance_model.specs.Instance.{instance_kind, instance_columns, derived_matrix, IsInstance, IsSideOf, IsWellFormed};
 ghost use Rattle.instance_model.specs.Value.{instance_value};
 
@@ -9,7 +8,7 @@ use convex_bipartite::{columns_of, rows_of};
 use graph_read::{Bigraph, Distances, Graph};
 use proper_interval::closed_rows;
 use robinson_balls::balls;
-use row_model::{Kind, Matrix, NoMemory};
+use row_model::{Kind, MAX_ROWS, Matrix, NoMemory};
 use std::alloc::Global;
 
 /// What a verdict is about.
@@ -83,9 +82,15 @@ impl Instance {
         }
     }
 
-    /// The derived matrix of a side: its valid orders are the textbook orders of the side, as [`textbook_law`](crate::textbook_law) says.
+    /// The derived matrix of a side: its valid orders are the textbook orders of the side, as
+    /// [`textbook_law`](crate::textbook_law) says, and it is within the limits, as
+    /// [`derived_sizes_law`](crate::derived_sizes_law) says.
     ///
     /// The matrix of a plain instance is copied.
+    ///
+    /// # Errors
+    ///
+    /// `NoMemory` where there is no memory for the matrix.
     pub fn derived(&self, alloc: Global, side: u8) -> Result<Matrix, NoMemory>
         requires instance { IsInstance (instance_value self.now) }
         requires side { IsSideOf (instance_value self.now) side }

@@ -16,8 +16,5 @@ mod laws;
 mod tests;
 
 pub use instance::Instance;
-pub use laws::textbook_law;
+pub use laws::{derived_sizes_law, textbook_law};
 pub use row_model::NoMemory;
-
-/// The greatest number of items of a table of distances in a file.
-pub const MAX_ITEMS: u32 = 256;

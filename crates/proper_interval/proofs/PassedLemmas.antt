@@ -3,16 +3,13 @@ use Rattle.std.proofs.Common.{◌≡◌, ◌∙◌, ℕ, suc, ◌+◌, ◌≤◌
 use Rattle.std.proofs.lemmas.Bool.{cases_lt, cases_order, lt-ltb, le-ltb, ne_eqb}
 use Rattle.column_order.specs.Orders.{has}
 use Rattle.row_model.specs.Rows.{Ascends, IsRow}
+use Rattle.row_model.proofs.Ascending.{lacks_low}
 use Rattle.graph_read.specs.Graphs.{below}
 
 -- nothing lies below a number that is at most the bound
-none_below : (c low y : ℕ) (row : List ℕ) → Ascends c low row → y ≤ low + 1 → below y row ≡ 0
-none_below c low y [] h l = refl
-none_below c low y (z ∷ row) h l = rw (le-ltb z y (omega (arith, h.0, l))) refl
-
-lacks : (c low y : ℕ) (row : List ℕ) → Ascends c low row → y ≤ low → has row y ≡ false
-lacks c low y [] h l = refl
-lacks c low y (z ∷ row) h l = rw (ne_eqb z y (λ e. absurd (omega (arith, h.0)))) (lacks c z y row h.2 (omega (arith, h.0)))
+below_none : (c low y : ℕ) (row : List ℕ) → Ascends c low row → y ≤ low + 1 → below y row ≡ 0
+below_none c low y [] h l = refl
+below_none c low y (z ∷ row) h l = rw (le-ltb z y (omega (arith, h.0, l))) refl
 
 -- whether the number stands at this place
 abbrev stands : ℕ → List ℕ → ℕ → Bool
@@ -38,7 +35,7 @@ has_behind c low y (z ∷ row) h = elim (cases_order z y) [
         ∙ sym (stands_behind y z row (below y row)) ∙ sym (ap (stands y (z ∷ row)) at)
     | inr g ↦
         let at : below y (z ∷ row) ≡ 0 = rw (le-ltb z y (omega arith)) refl in
-        ap (λ t. t || has row y) (ne_eqb z y (λ e. absurd (omega arith))) ∙ lacks c z y row h.2 (omega arith)
+        ap (λ t. t || has row y) (ne_eqb z y (λ e. absurd (omega arith))) ∙ lacks_low c z y row h.2 (omega arith)
         ∙ sym (other z y row (λ e. absurd (omega arith))) ∙ sym (ap (stands y (z ∷ row)) at)
   ]
 ]
@@ -55,18 +52,18 @@ next_is c y place row h e = ap (stands y row) e ∙ sym (has_behind c 0 y row h)
 
 -- no number lies below 1
 pub below_one : (c : ℕ) (row : List ℕ) → IsRow c row → below 1 row ≡ 0
-below_one c row h = none_below c 0 1 row h (omega arith)
+below_one c row h = below_none c 0 1 row h (omega arith)
 
 -- one more number lies below the next number where the list has the number
 below_next : (c low y : ℕ) (row : List ℕ) → Ascends c low row → below (y + 1) row ≡ below y row + (if has row y then 1 else 0)
 below_next c low y [] h = refl
 below_next c low y (z ∷ row) h = elim (cases_order z y) [
   | inl e ↦
-      let none : below (y + 1) row ≡ 0 = none_below c z (y + 1) row h.2 (omega arith) in
+      let none : below (y + 1) row ≡ 0 = below_none c z (y + 1) row h.2 (omega arith) in
       rw (le-ltb z y (omega (arith, e)), lt-ltb z (y + 1) (omega arith), eq-eqb z y e, none) refl
   | inr o ↦ elim o [
     | inl l ↦ rw (lt-ltb z y l, lt-ltb z (y + 1) (omega arith), ne_eqb z y (λ e. absurd (omega arith))) (omega (arith, below_next c z y row h.2))
-    | inr g ↦ rw (le-ltb z y (omega arith), le-ltb z (y + 1) (omega arith), ne_eqb z y (λ e. absurd (omega arith)), lacks c z y row h.2 (omega arith)) refl
+    | inr g ↦ rw (le-ltb z y (omega arith), le-ltb z (y + 1) (omega arith), ne_eqb z y (λ e. absurd (omega arith)), lacks_low c z y row h.2 (omega arith)) refl
   ]
 ]
 

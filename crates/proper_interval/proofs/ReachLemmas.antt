@@ -27,10 +27,6 @@ farthest_of positions neighbours position span s = record {
   whole = λ v k. omega (arith, (s.whole v k).1);
 }
 
--- an order of the vertices as one of as many as it has
-pub order_alone : (n : ℕ) (o : List ℕ) → IsOrder n o → IsOrder (length o) o
-order_alone n o h = subst (λ c. IsOrder c o) (sym (order_length n o h)) h
-
 -- an interval at the end
 kept_interval : (list : List Interval) (a : Interval) (k : ℕ) → k < length list → interval_of (list ++ a ∷ []) (k + 1) ≡ interval_of list (k + 1)
 kept_interval list a k l =

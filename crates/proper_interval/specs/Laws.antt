@@ -1,11 +1,25 @@
 -- What the closed rows and the proper models say of the umbrella orders (Roberts, 1969).
-use Rattle.std.specs.Prelude.{◌≡◌, ◌↔◌, List, ℕ}
-use Rattle.column_order.specs.Orders.{IsValidOrder, HasValidOrder}
+use Rattle.std.specs.Prelude.{◌≡◌, ◌⊎◌, ◌↔◌, List, ℕ, length, IsTrue}
+use Rattle.column_order.specs.Orders.{has, IsValidOrder, HasValidOrder}
+use Rattle.row_model.specs.Rows.{IsRow}
+use Rattle.row_model.specs.Graph.{row_at}
 use Rattle.row_model.specs.declared.lists.Interval.{Interval}
-use Rattle.graph_read.specs.Graphs.{GraphValue, IsGraph}
-use Rattle.proper_interval.specs.Umbrellas.{closed_to, IsUmbrellaOrder}
-use Rattle.proper_interval.specs.Models.{IsProperModel}
+use Rattle.graph_read.specs.Graphs.{GraphValue, IsGraph, has_edge}
+use Rattle.proper_interval.specs.Umbrellas.{closed_to, closed_of, IsUmbrellaOrder}
+use Rattle.proper_interval.specs.Models.{IsVertex, IsProperModel}
 use Rattle.proper_interval.specs.Formula.{AreIntervals}
+
+-- there is one closed row for each vertex
+abbrev pub ClosedCountLaw : Type 0
+ClosedCountLaw = (g : GraphValue) → length (closed_of g).rows ≡ g.vertices
+
+-- row v is a row over the vertices, and has v and its neighbours
+abbrev pub ClosedRowLaw : Type 0
+ClosedRowLaw =
+    (g : GraphValue) (v : ℕ) →
+    IsVertex g v →
+    IsRow g.vertices (row_at (closed_of g).rows v) ×
+    ((a : ℕ) → IsVertex g a → IsTrue (has (row_at (closed_of g).rows v) a) ↔ ((a ≡ v) ⊎ IsTrue (has_edge g.neighbours v a)))
 
 -- an order of the vertices is an umbrella order exactly where it is a valid order of the closed rows
 abbrev pub UmbrellaLaw : Type 0

@@ -1,17 +1,21 @@
 -- The closed rows of a graph, and its umbrella orders (Roberts, 1969).
-use Rattle.std.specs.Prelude.{ℕ, zero, suc, ◌-◌, ◌++◌, ◌<◌, List, [], ◌∷◌, length, slice_index, slice_index_or, IsTrue}
+use Rattle.std.specs.Prelude.{ℕ, Bool, ◌==◌, ◌||◌, ◌<◌, List, length, map, slice_index, IsTrue}
+use Rattle.std.specs.List.{range_with_len}
 use Rattle.column_order.specs.Orders.{IsOrder}
-use Rattle.row_model.specs.Rows.{RowList}
-use Rattle.graph_read.specs.Graphs.{GraphValue, has_edge, with_number}
+use Rattle.row_model.specs.Rows.{RowList, columns_where}
+use Rattle.graph_read.specs.Graphs.{GraphValue, has_edge}
 
--- the vertex with its neighbours, ascending
+-- whether a vertex is v or one of its neighbours
+abbrev pub is_in_closed : GraphValue → ℕ → ℕ → Bool
+is_in_closed g v a = (v == a) || has_edge g.neighbours v a
+
+-- the vertex with its neighbours, in ascending order
 abbrev pub closed_row : GraphValue → ℕ → List ℕ
-closed_row g v = with_number v (slice_index_or g.neighbours (v - 1) [])
+closed_row g v = columns_where g.vertices (is_in_closed g v)
 
--- the closed rows of the vertices 1 to v
+-- the closed rows of the vertices 1 to n
 abbrev pub closed_to : GraphValue → ℕ → List (List ℕ)
-closed_to g zero = []
-closed_to g (suc v) = closed_to g v ++ closed_row g (suc v) ∷ []
+closed_to g n = map (closed_row g) (range_with_len 1 n)
 
 -- the matrix whose columns are the vertices, with the closed row of each
 abbrev pub closed_of : GraphValue → RowList

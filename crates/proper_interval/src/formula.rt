@@ -7,14 +7,18 @@ ghost use Rattle.proper_interval.specs.Formula.{AreIntervals, interval_at};
 ghost use Rattle.proper_interval.specs.Reaches.{ArePositionsOf, IsFarthest, IsIntervalBy};
 
 use graph_read::Graph;
-use row_model::{Interval, Intervals, positions, span_of};
-use std::alloc::{AllocError, Global};
+use row_model::{COLUMN_BOUND, Interval, Intervals, NoMemory, positions, span_of};
+use std::alloc::Global;
 
 /// The intervals of an umbrella order, vertex by vertex: a proper model of the graph (Roberts, 1969).
 ///
 /// Among n vertices, that at position i, from 1, has the interval from (n+1)i to (n+1)r+i, where r is the last position j at
 /// or after i with j = i or an edge between the vertices at i and j. It takes time in proportion to the vertices and edges.
-pub fn intervals(alloc: Global, g: &Graph, order: &[u32]) -> Result<Intervals, AllocError>
+///
+/// # Errors
+///
+/// `NoMemory` where there is no memory for the positions and the intervals.
+pub fn intervals(alloc: Global, g: &Graph, order: &[u32]) -> Result<Intervals, NoMemory>
     requires { IsUmbrellaOrder g.now order.now }
     ensures formula { IfOk result (λ list. AreIntervals g.now order.now list) }
     ensures model { IfOk result (λ list. IsProperModel g.now list) }
@@ -52,7 +56,7 @@ fn farthest(positions: &[u32], neighbours: &[u32], position: u32) -> u32
 
 // Among n vertices, the interval of that at a position, which reaches to the last.
 fn interval(n: u32, position: u32, last: u32) -> Interval
-    requires n { n ≤ 32768 }
+    requires n { n ≤ COLUMN_BOUND }
     requires position { position ≤ n }
     requires last { last ≤ n }
     ensures { result ≡ interval_at n position last }

@@ -1,5 +1,11 @@
-// Umbrella orders, the valid orders of the closed rows, and proper models.
-ghost use Rattle.proper_interval.specs.Laws.{UmbrellaLaw, ModelLaw, IntervalsLaw, OneListLaw, ProperLaw};
+// Umbrella orders, the valid orders of the closed rows, and proper models. A call stands for the clauses alone.
+ghost use Rattle.proper_interval.specs.Laws.{ClosedCountLaw, ClosedRowLaw, UmbrellaLaw, ModelLaw, IntervalsLaw, OneListLaw, ProperLaw};
+
+/// Which row is whose among the closed rows: there is one for each vertex, and row v has v and its neighbours.
+pub fn closed_rows_law()
+    ensures count { ClosedCountLaw }
+    ensures rows { ClosedRowLaw }
+{}
 
 /// Umbrella orders and valid orders of the closed rows (Roberts, 1969).
 ///

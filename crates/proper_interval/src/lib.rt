@@ -6,7 +6,7 @@
 //! unless they are equal.
 //!
 //! It is proved that
-//! - [`closed_rows`] has the closed row of each vertex, and its valid orders are the umbrella orders ([`umbrella_law`]);
+//! - [`closed_rows`] has the closed row of each vertex ([`closed_rows_law`]), and its valid orders are the umbrella orders ([`umbrella_law`]);
 //! - [`intervals`] gives the intervals of its formula, and they are a proper model;
 //! - [`fits`] is true exactly of a proper model;
 //! - a graph has a proper model exactly where its closed rows have a valid order ([`model_law`]).
@@ -18,10 +18,10 @@ mod model;
 mod rows;
 
 pub use formula::intervals;
-pub use laws::{model_law, umbrella_law};
+pub use laws::{closed_rows_law, model_law, umbrella_law};
 pub use model::fits;
+pub use row_model::NoMemory;
 pub use rows::closed_rows;
-pub use std::alloc::AllocError as NoMemory;
 
 #[cfg(test)]
 mod tests;

@@ -1,41 +1,47 @@
 // The closed rows of a graph.
 ghost use Rattle.std.specs.Prelude.{◌≡◌, ◌≤◌, length, IfOk, OnOk};
-ghost use Rattle.graph_read.specs.Graphs.{below, with_number};
-ghost use Rattle.proper_interval.specs.Umbrellas.{closed_of};
+ghost use Rattle.graph_read.specs.Graphs.{below, IsGraph};
+ghost use Rattle.proper_interval.specs.Umbrellas.{closed_row, closed_of};
 
 use graph_read::Graph;
-use row_model::Matrix;
-use std::alloc::{AllocError, Global};
+use row_model::{Matrix, NoMemory};
+use std::alloc::Global;
 
 /// The closed rows of a graph (Roberts, 1969), as a matrix whose columns are the vertices: row v has v and its neighbours.
 ///
-/// The valid orders of the rows are the umbrella orders of the graph, as [`umbrella_law`](crate::umbrella_law) says.
-pub fn closed_rows(alloc: Global, g: &Graph) -> Result<Matrix, AllocError>
+/// The valid orders of the rows are the umbrella orders of the graph, as [`umbrella_law`](crate::umbrella_law) says, and
+/// which row is whose says [`closed_rows_law`](crate::closed_rows_law).
+///
+/// # Errors
+///
+/// `NoMemory` where there is no memory for the matrix.
+pub fn closed_rows(alloc: Global, g: &Graph) -> Result<Matrix, NoMemory>
     ensures { IfOk result (λ m. m ≡ closed_of g.now) }
 {
     let mut rows = Matrix::new(alloc, g.vertices())?;
     let mut row = Vec::new(alloc);
     for before in 0..g.vertices() {
-        list_closed(&mut row, g.neighbours(before + 1), before + 1)?;
+        list_closed(&mut row, g, before + 1)?;
         rows.push_row(&row)?;
     }
     Ok(rows)
 }
 
 // Makes the row that of the neighbours and the vertex in its place among them.
-fn list_closed(row: &mut Vec<u32>, neighbours: &[u32], v: u32) -> Result<(), AllocError>
-    ensures { OnOk result (row.new.items ≡ with_number v neighbours.now) }
+fn list_closed(row: &mut Vec<u32>, g: &Graph, v: u32) -> Result<(), NoMemory>
+    requires graph { IsGraph g.now }
+    requires vertex { (1 ≤ v) × (v ≤ g.now.vertices) }
+    ensures { OnOk result (row.new.items ≡ closed_row g.now v) }
 {
-    let place = count_below(neighbours, v);
+    let neighbours = g.neighbours(v);
     row.clear();
-    row.extend_from_slice(&neighbours[..place])?;
-    row.push(v)?;
-    row.extend_from_slice(&neighbours[place..])?;
+    row.extend_from_slice(neighbours)?;
+    row.insert(place_among(neighbours, v), v)?;
     Ok(())
 }
 
 // How many neighbours at the front lie below the vertex.
-fn count_below(neighbours: &[u32], v: u32) -> usize
+fn place_among(neighbours: &[u32], v: u32) -> usize
     ensures count { result ≡ below v neighbours.now }
     ensures within { result ≤ length neighbours.now }
 {

@@ -8,9 +8,9 @@ use Rattle.column_order.proofs.Lists.{has_cases, has_at, at_place}
 use Rattle.column_order.proofs.Counts.{order_within, order_has}
 use Rattle.row_model.proofs.Filtered.{has_filtered}
 use Rattle.graph_read.specs.Distances.{DistancesValue, IsDistances}
-use Rattle.robinson_balls.specs.Balls.{between, ball, radii_to, balls_round, balls_to, IsRobinsonOrder}
+use Rattle.robinson_balls.specs.Balls.{between, ball, radii, balls_round, balls_to, IsRobinsonOrder}
 use Rattle.robinson_balls.specs.Laws.{RobinsonLaw}
-use Rattle.robinson_balls.proofs.Rising.{with_number_has, with_number_keeps}
+use Rattle.robinson_balls.proofs.Radii.{radii_have}
 
 -- an item is in a ball exactly where its distance is at most the radius
 pub in_ball : (d : DistancesValue) (x radius y : ℕ) → 1 ≤ y → y ≤ d.items → between d x y ≤ radius → IsTrue (has (ball d x radius) y)
@@ -19,16 +19,7 @@ in_ball d x radius y l u h = has_filtered (λ z. leb (between d x z) radius) d.i
 pub near : (d : DistancesValue) (x radius y : ℕ) → 1 ≤ y → y ≤ d.items → IsTrue (has (ball d x radius) y) → between d x y ≤ radius
 near d x radius y l u h = leb-true (between d x y) radius (sym (has_filtered (λ z. leb (between d x z) radius) d.items y l u) ∙ h)
 
--- each distance of an item is a radius
-pub radii_have : (d : DistancesValue) (x z n : ℕ) → 1 ≤ z → z ≤ n → IsTrue (has (radii_to d x n) (between d x z))
-radii_have d x z zero l u = absurd (omega (arith, l, u))
-radii_have d x z (suc n) l u =
-    elim (cases_eq z (suc n)) [
-      | inl e ↦ subst (λ a. IsTrue (has (radii_to d x (suc n)) (between d x a))) (sym e) (with_number_has (between d x (suc n)) (radii_to d x n))
-      | inr k ↦ with_number_keeps (between d x (suc n)) (between d x z) (radii_to d x n) (radii_have d x z n l (omega (arith, u, k)))
-    ]
-
-map_has : (f : ℕ → List ℕ) (xs : List ℕ) (a : ℕ) → IsTrue (has xs a) → Contains (map f xs) (f a)
+pub map_has : {X : Type 0} (f : ℕ → X) (xs : List ℕ) (a : ℕ) → IsTrue (has xs a) → Contains (map f xs) (f a)
 map_has f [] a h = absurd (both_ways _ refl h)
 map_has f (x ∷ xs) a h =
     elim (has_cases x a xs h) [
@@ -43,7 +34,7 @@ balls_have d x z (suc n) l u lz uz =
     elim (cases_eq x (suc n)) [
       | inl e ↦ subst (λ a. Contains (balls_to d (suc n)) (ball d a (between d a z))) (sym e)
           (Contains-append_right (balls_to d n) (balls_round d (suc n)) (ball d (suc n) (between d (suc n) z))
-          (map_has (ball d (suc n)) (radii_to d (suc n) d.items) (between d (suc n) z) (radii_have d (suc n) z d.items lz uz)))
+          (map_has (ball d (suc n)) (radii d (suc n)) (between d (suc n) z) (radii_have d (suc n) z lz uz)))
       | inr k ↦ Contains-append_left (balls_to d n) (balls_round d (suc n)) (ball d x (between d x z)) (balls_have d x z n l (omega (arith, u, k)) lz uz)
     ]
 
@@ -77,7 +68,7 @@ module _ (d : DistancesValue) (o : List ℕ) (h : IsDistances d) (order : IsOrde
   all_kept r zero l = All-nil (Keeps o)
   all_kept r (suc n) l =
       All-append (Keeps o) (balls_to d n) (balls_round d (suc n)) (all_kept r n (omega (arith, l)))
-      (All-map (Keeps o) (ball d (suc n)) (radii_to d (suc n) d.items) (λ i s u. ball_kept r (suc n) (get_or (radii_to d (suc n) d.items) i s) (omega arith) l))
+      (All-map (Keeps o) (ball d (suc n)) (radii d (suc n)) (λ i s u. ball_kept r (suc n) (get_or (radii d (suc n)) i s) (omega arith) l))
 
   -- the ball round one item that reaches to another has the items between them
   outer_from : All (Keeps o) (balls_to d d.items) → (i j k : ℕ) → i < j → j < k → k < length o →

@@ -9,11 +9,12 @@ use Rattle.row_model.proofs.Ascending.{row_within}
 use Rattle.row_model.proofs.Filtered.{filtered_row}
 use Rattle.graph_read.specs.Distances.{DistancesValue}
 use Rattle.robinson_balls.specs.declared.neighbours.Neighbour.{Neighbour}
-use Rattle.robinson_balls.specs.Balls.{between, ball, with_number}
+use Rattle.robinson_balls.specs.Balls.{between, ball}
+use Rattle.robinson_balls.specs.Neighbours.{with_item}
 use Rattle.robinson_balls.specs.Neighbours.{neighbour, AreNeighbours, EndsBall}
 use Rattle.robinson_balls.proofs.BallLaws.{in_ball, near}
 use Rattle.robinson_balls.proofs.Rims.{told, listed}
-use Rattle.robinson_balls.proofs.Rising.{Rises, rises_lower, rises_with, rising_only, with_number_has, with_number_keeps, with_number_only}
+use Rattle.robinson_balls.proofs.Rising.{Rises, rises_lower, rises_with, rising_only, with_item_has, with_item_keeps, with_item_only}
 
 -- a rising list of the items of the first k neighbours
 pub record AreNearest (neighbours : List Neighbour) (k : ℕ) (items : List ℕ) : Type 0 where
@@ -29,30 +30,30 @@ item_at neighbours k e = (get_or neighbours k e).item
 
 -- one neighbour more
 pub nearest_more : (neighbours : List Neighbour) (k : ℕ) (e : Neighbour) (items : List ℕ) → k < length neighbours → AreNearest neighbours k items →
-    AreNearest neighbours (k + 1) (with_number (get_or neighbours k e).item items)
+    AreNearest neighbours (k + 1) (with_item (get_or neighbours k e).item items)
 nearest_more neighbours k e items l h = record { rises = rises_with 0 (item_at neighbours k e) items (omega arith) h.rises; only = only; all = all }
   where
-    only : (a : ℕ) (f : Neighbour) → IsTrue (has (with_number (item_at neighbours k e) items) a) → (i : ℕ) × (i < k + 1) × (i < length neighbours) × ((get_or neighbours i f).item ≡ a)
+    only : (a : ℕ) (f : Neighbour) → IsTrue (has (with_item (item_at neighbours k e) items) a) → (i : ℕ) × (i < k + 1) × (i < length neighbours) × ((get_or neighbours i f).item ≡ a)
     only a f t =
-        elim (has_cases (item_at neighbours k e) a items (with_number_only (item_at neighbours k e) a items t)) [
+        elim (has_cases (item_at neighbours k e) a items (with_item_only (item_at neighbours k e) a items t)) [
           | inl s ↦ (k, omega arith, l, ap (λ (p : Neighbour). p.item) (get_or_default neighbours k f e l) ∙ s)
           | inr u ↦ let found = h.only a f u in (found.0, omega (arith, found.1), found.2, found.3)
         ]
 
-    all : (i : ℕ) (f : Neighbour) → i < k + 1 → i < length neighbours → IsTrue (has (with_number (item_at neighbours k e) items) (get_or neighbours i f).item)
+    all : (i : ℕ) (f : Neighbour) → i < k + 1 → i < length neighbours → IsTrue (has (with_item (item_at neighbours k e) items) (get_or neighbours i f).item)
     all i f u w =
         elim (cases_lt i k) [
-          | inl b ↦ with_number_keeps (item_at neighbours k e) (get_or neighbours i f).item items (h.all i f b w)
+          | inl b ↦ with_item_keeps (item_at neighbours k e) (get_or neighbours i f).item items (h.all i f b w)
           | inr b ↦
               let same : i ≡ k = omega (arith, u, b) in
               let is : item_at neighbours k e ≡ (get_or neighbours i f).item = ap (λ (p : Neighbour). p.item) (get_or_default neighbours k e f l) ∙ ap (λ j. (get_or neighbours j f).item) (sym same) in
-              subst (λ a. IsTrue (has (with_number (item_at neighbours k e) items) a)) is (with_number_has (item_at neighbours k e) items)
+              subst (λ a. IsTrue (has (with_item (item_at neighbours k e) items) a)) is (with_item_has (item_at neighbours k e) items)
         ]
 
 pub grown : (neighbours : List Neighbour) (k : ℕ) (p : Neighbour) (before after : List ℕ) → k < length neighbours → p ≡ get_or neighbours k p → AreNearest neighbours k before →
-    after ≡ with_number p.item before → AreNearest neighbours (k + 1) after
+    after ≡ with_item p.item before → AreNearest neighbours (k + 1) after
 grown neighbours k p before after l is h e =
-    subst (AreNearest neighbours (k + 1)) (sym (e ∙ ap (λ (q : Neighbour). with_number q.item before) is)) (nearest_more neighbours k p before l h)
+    subst (AreNearest neighbours (k + 1)) (sym (e ∙ ap (λ (q : Neighbour). with_item q.item before) is)) (nearest_more neighbours k p before l h)
 
 row_rises : (c low : ℕ) (row : List ℕ) → Ascends c low row → Rises low row
 row_rises c low [] h = tt

@@ -11,10 +11,10 @@ use Rattle.column_order.proofs.Lists.{has_cases, has_head, has_tail}
 use Rattle.row_model.proofs.Filtered.{range_more}
 use Rattle.graph_read.specs.Distances.{DistancesValue}
 use Rattle.robinson_balls.specs.declared.neighbours.Neighbour.{Neighbour}
-use Rattle.robinson_balls.specs.Balls.{between, radii_to}
+use Rattle.robinson_balls.specs.Balls.{between, radii}
 use Rattle.robinson_balls.specs.Neighbours.{neighbour, AreNeighbours, EndsBall, GoesOn}
-use Rattle.robinson_balls.proofs.BallLaws.{radii_have}
-use Rattle.robinson_balls.proofs.Rising.{Rises, rises_with, rising_only, with_number_only}
+use Rattle.robinson_balls.proofs.Radii.{radii_rise, radii_have, radii_only}
+use Rattle.robinson_balls.proofs.Rising.{Rises, rising_only}
 
 -- one neighbour more in the list of them
 pub neighbours_more : (d : DistancesValue) (x n : ℕ) (before after : List Neighbour) → before ≡ map (neighbour d x) (range_with_len 1 n) → {s : ℕ} → after ≡ before ++ record { item = n + 1; distance = s } ∷ [] → s ≡ between d x (n + 1) →
@@ -125,18 +125,6 @@ rims_only (p ∷ q ∷ rest) a e h =
     later : ((i : ℕ) × (i < length (q ∷ rest)) × ((get_or (q ∷ rest) i e).distance ≡ a)) → (i : ℕ) × (i < length (p ∷ q ∷ rest)) × ((get_or (p ∷ q ∷ rest) i e).distance ≡ a)
     later found = (suc found.0, omega (arith, found.1), found.2)
 
-radii_rise : (d : DistancesValue) (x n : ℕ) → Rises 0 (radii_to d x n)
-radii_rise d x zero = tt
-radii_rise d x (suc n) = rises_with 0 (between d x (suc n)) (radii_to d x n) (omega arith) (radii_rise d x n)
-
-radii_only : (d : DistancesValue) (x n a : ℕ) → IsTrue (has (radii_to d x n) a) → (z : ℕ) × (1 ≤ z) × (z ≤ n) × (between d x z ≡ a)
-radii_only d x zero a h = absurd (both_ways _ refl h)
-radii_only d x (suc n) a h =
-    elim (has_cases (between d x (suc n)) a (radii_to d x n) (with_number_only (between d x (suc n)) a (radii_to d x n) h)) [
-      | inl e ↦ (suc n, omega arith, omega arith, e)
-      | inr t ↦ let found = radii_only d x n a t in (found.0, found.1, omega (arith, found.2), found.3)
-    ]
-
 module _ (d : DistancesValue) (x : ℕ) (near : List Neighbour) (h : AreNeighbours d x near) where
   pub as_many : length near ≡ d.items
   as_many = length_permutation (map (neighbour d x) (range_with_len 1 d.items)) near h.every ∙ length-map-range_with_len (neighbour d x) 1 d.items
@@ -158,19 +146,19 @@ module _ (d : DistancesValue) (x : ℕ) (near : List Neighbour) (h : AreNeighbou
       (found.0, found.1, get_or_default near found.0 e p found.1 ∙ found.2)
 
   -- they end at the radii
-  pub rims_are : rims near ≡ radii_to d x d.items
+  pub rims_are : rims near ≡ radii d x
   rims_are =
       let climbs : Climbs 0 near = climbs_from 0 near (λ l e. omega arith) h.rising in
-      rising_only (rims near) (radii_to d x d.items) (rims_rise 0 near climbs) (radii_rise d x d.items) radius (rim climbs)
+      rising_only (rims near) (radii d x) (rims_rise 0 near climbs) (radii_rise d x) radius (rim climbs)
     where
-      radius : (a : ℕ) → IsTrue (has (rims near) a) → IsTrue (has (radii_to d x d.items) a)
+      radius : (a : ℕ) → IsTrue (has (rims near) a) → IsTrue (has (radii d x) a)
       radius a t =
           let found = rims_only near a (neighbour d x 0) t in
           let item = told found.0 (neighbour d x 0) found.1 in
-          subst (λ s. IsTrue (has (radii_to d x d.items) s)) (sym (ap (λ (p : Neighbour). p.distance) item.3) ∙ found.2) (radii_have d x item.0 d.items item.1 item.2)
+          subst (λ s. IsTrue (has (radii d x) s)) (sym (ap (λ (p : Neighbour). p.distance) item.3) ∙ found.2) (radii_have d x item.0 item.1 item.2)
 
-      rim : Climbs 0 near → (a : ℕ) → IsTrue (has (radii_to d x d.items) a) → IsTrue (has (rims near) a)
+      rim : Climbs 0 near → (a : ℕ) → IsTrue (has (radii d x) a) → IsTrue (has (rims near) a)
       rim climbs a t =
-          let found = radii_only d x d.items a t in
+          let found = radii_only d x a t in
           let place = listed found.0 (neighbour d x 0) found.1 found.2 in
           subst (λ s. IsTrue (has (rims near) s)) (ap (λ (p : Neighbour). p.distance) place.2 ∙ found.3) (rims_have 0 near place.0 (neighbour d x 0) climbs place.1)

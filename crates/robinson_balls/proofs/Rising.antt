@@ -8,7 +8,7 @@ use Rattle.std.specs.Ordering.{nat_cmp}
 use Rattle.std.specs.Result.{MatchResult}
 use Rattle.column_order.specs.Orders.{has}
 use Rattle.column_order.proofs.Lists.{has_cases, has_head, has_tail, has_at}
-use Rattle.robinson_balls.specs.Balls.{with_number}
+use Rattle.robinson_balls.specs.Neighbours.{with_item}
 
 -- each number is above those before it, and the first is not below a number
 abbrev pub Rises : ℕ → List ℕ → Type 0
@@ -20,7 +20,7 @@ rises_lower low high [] l h = tt
 rises_lower low high (x ∷ xs) l h = (omega (arith, l, h.0), h.1)
 
 -- a rising list with one number more rises
-pub rises_with : (low s : ℕ) (xs : List ℕ) → low ≤ s → Rises low xs → Rises low (with_number s xs)
+pub rises_with : (low s : ℕ) (xs : List ℕ) → low ≤ s → Rises low xs → Rises low (with_item s xs)
 rises_with low s [] l h = (l, tt)
 rises_with low s (r ∷ xs) l h =
     elim (cases_lt r s) [
@@ -76,11 +76,11 @@ rising_only xs ys h k there back = rising_same 0 xs ys h k (λ a. elim (cases_Bo
 ])
 
 -- a list with one number more has that number and those before, and no other
-pub with_number_has : (s : ℕ) (xs : List ℕ) → IsTrue (has (with_number s xs) s)
-with_number_has s [] = has_head s []
-with_number_has s (r ∷ xs) =
+pub with_item_has : (s : ℕ) (xs : List ℕ) → IsTrue (has (with_item s xs) s)
+with_item_has s [] = has_head s []
+with_item_has s (r ∷ xs) =
     elim (cases_lt r s) [
-      | inl l ↦ rw (lt-ltb r s l) (has_tail r s (with_number s xs) (with_number_has s xs))
+      | inl l ↦ rw (lt-ltb r s l) (has_tail r s (with_item s xs) (with_item_has s xs))
       | inr l ↦ elim (cases_eq r s) [
         | inl e ↦ rw (le-ltb r s l, e) (cond_same s xs)
         | inr n ↦ rw (le-ltb r s l, ne_eqb r s n) (has_head s (r ∷ xs))
@@ -90,13 +90,13 @@ with_number_has s (r ∷ xs) =
     cond_same : (s : ℕ) (xs : List ℕ) → IsTrue (has (cond (eqb s s) (s ∷ xs) (s ∷ s ∷ xs)) s)
     cond_same s xs = elim (eqb s s) as (λ b. IsTrue (has (cond b (s ∷ xs) (s ∷ s ∷ xs)) s)) [ true ↦ has_head s xs | false ↦ has_head s (s ∷ xs) ]
 
-pub with_number_keeps : (s r : ℕ) (xs : List ℕ) → IsTrue (has xs r) → IsTrue (has (with_number s xs) r)
-with_number_keeps s r [] h = has_tail s r [] h
-with_number_keeps s r (q ∷ xs) h =
-    elim (ltb q s) as (λ b. IsTrue (has (cond b (q ∷ with_number s xs) (cond (eqb q s) (q ∷ xs) (s ∷ q ∷ xs))) r)) [
+pub with_item_keeps : (s r : ℕ) (xs : List ℕ) → IsTrue (has xs r) → IsTrue (has (with_item s xs) r)
+with_item_keeps s r [] h = has_tail s r [] h
+with_item_keeps s r (q ∷ xs) h =
+    elim (ltb q s) as (λ b. IsTrue (has (cond b (q ∷ with_item s xs) (cond (eqb q s) (q ∷ xs) (s ∷ q ∷ xs))) r)) [
       | true ↦ elim (has_cases q r xs h) [
-        | inl e ↦ subst (λ a. IsTrue (has (q ∷ with_number s xs) a)) e (has_head q (with_number s xs))
-        | inr t ↦ has_tail q r (with_number s xs) (with_number_keeps s r xs t)
+        | inl e ↦ subst (λ a. IsTrue (has (q ∷ with_item s xs) a)) e (has_head q (with_item s xs))
+        | inr t ↦ has_tail q r (with_item s xs) (with_item_keeps s r xs t)
       ]
       | false ↦ elim (eqb q s) as (λ b. IsTrue (has (cond b (q ∷ xs) (s ∷ q ∷ xs)) r)) [
         | true ↦ h
@@ -104,13 +104,13 @@ with_number_keeps s r (q ∷ xs) h =
       ]
     ]
 
-pub with_number_only : (s r : ℕ) (xs : List ℕ) → IsTrue (has (with_number s xs) r) → IsTrue (has (s ∷ xs) r)
-with_number_only s r [] h = h
-with_number_only s r (q ∷ xs) h =
-    elim (ltb q s) as (λ b. IsTrue (has (cond b (q ∷ with_number s xs) (cond (eqb q s) (q ∷ xs) (s ∷ q ∷ xs))) r) → IsTrue (has (s ∷ q ∷ xs) r)) [
-      | true ↦ λ k. elim (has_cases q r (with_number s xs) k) [
+pub with_item_only : (s r : ℕ) (xs : List ℕ) → IsTrue (has (with_item s xs) r) → IsTrue (has (s ∷ xs) r)
+with_item_only s r [] h = h
+with_item_only s r (q ∷ xs) h =
+    elim (ltb q s) as (λ b. IsTrue (has (cond b (q ∷ with_item s xs) (cond (eqb q s) (q ∷ xs) (s ∷ q ∷ xs))) r) → IsTrue (has (s ∷ q ∷ xs) r)) [
+      | true ↦ λ k. elim (has_cases q r (with_item s xs) k) [
         | inl e ↦ has_tail s r (q ∷ xs) (rw (← e) (has_head q xs))
-        | inr t ↦ elim (has_cases s r xs (with_number_only s r xs t)) [
+        | inr t ↦ elim (has_cases s r xs (with_item_only s r xs t)) [
           | inl e ↦ rw (← e) (has_head s (q ∷ xs))
           | inr u ↦ has_tail s r (q ∷ xs) (has_tail q r xs u)
         ]
@@ -122,7 +122,7 @@ with_number_only s r (q ∷ xs) h =
     ] h
 
 -- a number that the list has is not put in again
-with_found : (xs : List ℕ) (s i : ℕ) → IsNonDecreasing xs → i < length xs → get_or xs i 0 ≡ s → with_number s xs ≡ xs
+with_found : (xs : List ℕ) (s i : ℕ) → IsNonDecreasing xs → i < length xs → get_or xs i 0 ≡ s → with_item s xs ≡ xs
 with_found [] s i rising l e = absurd (omega (arith, l))
 with_found (r ∷ xs) s zero rising l e = let same : r ≡ s = e in rw (le-ltb r s (omega (arith, same)), eq-eqb r s same) refl
 with_found (r ∷ xs) s (suc i) rising l e =
@@ -134,7 +134,7 @@ with_found (r ∷ xs) s (suc i) rising l e =
 
 -- a number between those below it and those above it
 with_between : (xs : List ℕ) (s i : ℕ) → i ≤ length xs → ((k : ℕ) → k < i → get_or xs k 0 < s) → ((k : ℕ) → i ≤ k → k < length xs → s < get_or xs k 0) →
-    with_number s xs ≡ take i xs ++ s ∷ drop i xs
+    with_item s xs ≡ take i xs ++ s ∷ drop i xs
 with_between [] s zero l low high = refl
 with_between [] s (suc i) l low high = absurd (omega (arith, l))
 with_between (r ∷ xs) s zero l low high =
@@ -146,6 +146,6 @@ with_between (r ∷ xs) s (suc i) l low high =
 
 -- the list with the number that was searched for, where it is found and where not
 pub placed : (xs : List ℕ) (s : ℕ) (r : Result ℕ ℕ) → IsNonDecreasing xs → IsBinarySearchResult (λ y. nat_cmp y s) xs r →
-    MatchResult r (λ i. with_number s xs ≡ xs) (λ i. with_number s xs ≡ take i xs ++ s ∷ drop i xs)
+    MatchResult r (λ i. with_item s xs ≡ xs) (λ i. with_item s xs ≡ take i xs ++ s ∷ drop i xs)
 placed xs s (Ok i) rising h = let found = searched xs s (Ok i) h (λ j k. rising j k 0) in with_found xs s i rising found.0 found.1
 placed xs s (Err i) rising h = let found = searched xs s (Err i) h (λ j k. rising j k 0) in with_between xs s i found.0 found.1 found.2

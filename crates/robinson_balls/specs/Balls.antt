@@ -1,8 +1,8 @@
 -- The balls of a table of distances, and its Robinson orders (Mirkin and Rodin, 1984).
-use Rattle.std.specs.Prelude.{ℕ, zero, suc, ◌++◌, ◌<◌, ◌≤◌, ◌==◌, nat_le, nat_lt, if◌then◌else◌, List, [], ◌∷◌, length, map, slice_index}
+use Rattle.std.specs.Prelude.{ℕ, zero, suc, ◌+◌, ◌++◌, ◌<◌, ◌≤◌, nat_le, max, List, [], ◌∷◌, length, map, slice_index}
 use Rattle.std.specs.List.{filter, range_with_len}
-use Rattle.column_order.specs.Orders.{IsOrder}
-use Rattle.row_model.specs.Rows.{RowList}
+use Rattle.column_order.specs.Orders.{has, IsOrder}
+use Rattle.row_model.specs.Rows.{RowList, columns_where}
 use Rattle.graph_read.specs.Distances.{DistancesValue, distance}
 
 -- the distance of two items
@@ -11,21 +11,24 @@ between d x y = distance d.items d.values x y
 
 -- the ball round x of a radius: the items at a distance of at most the radius, in ascending order
 abbrev pub ball : DistancesValue → ℕ → ℕ → List ℕ
-ball d x radius = filter (λ y. nat_le (between d x y) radius) (range_with_len 1 d.items)
+ball d x radius = columns_where d.items (λ y. nat_le (between d x y) radius)
 
--- a rising list of numbers with one number more, where the list lacks it
-abbrev pub with_number : ℕ → List ℕ → List ℕ
-with_number s [] = s ∷ []
-with_number s (r ∷ radii) = if nat_lt r s then r ∷ with_number s radii else if r == s then r ∷ radii else s ∷ r ∷ radii
+-- the distances of x from all items, itself included, item after item
+abbrev pub distances_of : DistancesValue → ℕ → List ℕ
+distances_of d x = map (between d x) (range_with_len 1 d.items)
 
--- the distances of x from the items 1 to z, each once and in rising order
-abbrev pub radii_to : DistancesValue → ℕ → ℕ → List ℕ
-radii_to d x zero = []
-radii_to d x (suc z) = with_number (between d x (suc z)) (radii_to d x z)
+-- the greatest number of a list, or 0
+abbrev pub greatest : List ℕ → ℕ
+greatest [] = 0
+greatest (x ∷ xs) = max x (greatest xs)
 
--- the balls round x, whose radii are its distances from all items, itself included
+-- the radii round x: the numbers that are a distance of x from some item, each once and in rising order
+abbrev pub radii : DistancesValue → ℕ → List ℕ
+radii d x = filter (has (distances_of d x)) (range_with_len 0 (greatest (distances_of d x) + 1))
+
+-- the balls round x, in rising order of their radii
 abbrev pub balls_round : DistancesValue → ℕ → List (List ℕ)
-balls_round d x = map (ball d x) (radii_to d x d.items)
+balls_round d x = map (ball d x) (radii d x)
 
 -- the balls round the items 1 to x, centre after centre
 abbrev pub balls_to : DistancesValue → ℕ → List (List ℕ)

@@ -1,5 +1,5 @@
 -- The items in rising order of their distances from a centre.
-use Rattle.std.specs.Prelude.{ℕ, ◌+◌, ◌<◌, ◌≤◌, List, length, map, slice_index_or}
+use Rattle.std.specs.Prelude.{ℕ, ◌+◌, ◌<◌, ◌≤◌, ◌==◌, nat_lt, if◌then◌else◌, List, [], ◌∷◌, length, map, slice_index_or}
 use Rattle.std.specs.List.{range_with_len}
 use Rattle.std.specs.List.Sorted.{IsPermutation, IsNonDecreasingBy}
 use Rattle.graph_read.specs.Distances.{DistancesValue}
@@ -14,6 +14,12 @@ neighbour d x y = record { item = y; distance = between d x y }
 pub record AreNeighbours (d : DistancesValue) (x : ℕ) (neighbours : List Neighbour) : Type 0 where
   pub every : IsPermutation (map (neighbour d x) (range_with_len 1 d.items)) neighbours
   pub rising : IsNonDecreasingBy (λ (near : Neighbour). near.distance) neighbours
+
+-- a rising list of items with one item more, where the list lacks it
+abbrev pub with_item : ℕ → List ℕ → List ℕ
+with_item item [] = item ∷ []
+with_item item (first ∷ rest) =
+    if nat_lt first item then first ∷ with_item item rest else if first == item then first ∷ rest else item ∷ first ∷ rest
 
 -- the neighbour in place k, from 0, is nearer than the next, where there is one
 abbrev pub EndsBall : List Neighbour → ℕ → Type 0

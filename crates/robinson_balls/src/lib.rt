@@ -8,9 +8,9 @@ mod laws;
 mod neighbours;
 mod rows;
 
-pub use laws::robinson_law;
+pub use laws::{balls_law, robinson_law};
+pub use row_model::NoMemory;
 pub use rows::balls;
-pub use std::alloc::AllocError as NoMemory;
 
 #[cfg(test)]
 mod tests;

@@ -3,21 +3,21 @@ ghost use Rattle.std.specs.Prelude.{◌<◌, ◌≤◌, length, IsTrue, IsFalse,
 ghost use Rattle.robinson_balls.specs.Neighbours.{AreNeighbours, EndsBall, GoesOn};
 
 use graph_read::Distances;
-use std::alloc::AllocError;
+use row_model::NoMemory;
 
-/// An item, and its distance from a centre.
+// An item, and its distance from a centre.
 #[derive(Clone, Copy)]
 pub struct Neighbour {
     pub item: u32,
     pub distance: u64,
 }
 
-/// Makes the list that of all items with their distances from `x`, itself included, in rising order of distance.
+// Makes the list that of all items with their distances from `x`, itself included, in rising order of distance.
 pub fn list_neighbours(
     neighbours: &mut Vec<Neighbour>,
     d: &Distances,
     x: u32,
-) -> Result<(), AllocError>
+) -> Result<(), NoMemory>
     requires { (1 ≤ x) × (x ≤ d.now.items) }
     ensures { OnOk result (AreNeighbours d.now x neighbours.new.items) }
 {
@@ -32,7 +32,7 @@ pub fn list_neighbours(
     Ok(())
 }
 
-/// Whether the neighbour in place `k`, from 0, is nearer than the next, or the last.
+// Whether the neighbour in place `k`, from 0, is nearer than the next, or the last.
 pub fn ends_ball(neighbours: &[Neighbour], k: usize) -> bool
     requires { k < length neighbours.now }
     ensures ends { IsTrue result → EndsBall neighbours.now k }

@@ -1,21 +1,27 @@
 // The matrix of all balls.
 ghost use Rattle.std.specs.Prelude.{◌≡◌, ◌≤◌, ◌+◌, ◌++◌, length, IfOk, OnOk};
 ghost use Rattle.std.specs.List.Sorted.{IsNonDecreasing};
-ghost use Rattle.robinson_balls.specs.Balls.{balls_of, balls_round, with_number};
+ghost use Rattle.robinson_balls.specs.Balls.{balls_of, balls_round};
+ghost use Rattle.robinson_balls.specs.Neighbours.{with_item};
 
 use crate::neighbours::{Neighbour, ends_ball, list_neighbours};
 use graph_read::Distances;
-use row_model::Matrix;
-use std::alloc::{AllocError, Global};
+use row_model::{Matrix, NoMemory, ROW_BOUND};
+use std::alloc::Global;
 
 /// The balls of a table of distances (Mirkin and Rodin, 1984), as a matrix whose columns are the items.
 ///
 /// For each item x, from 1, and for each distance s of x from some item, itself included, in rising order and each once,
 /// a row has the items at a distance of at most s from x. The valid orders of the rows are the Robinson orders, as
-/// [`robinson_law`](crate::robinson_law) says. With n items there are at most n rows for each.
+/// [`robinson_law`](crate::robinson_law) says, and which ball is whose says [`balls_law`](crate::balls_law). With n items
+/// there are at most n rows for each.
 ///
 /// The items are sorted by distance once for each centre, and each ball is grown from the one before it.
-pub fn balls(alloc: Global, d: &Distances) -> Result<Matrix, AllocError>
+///
+/// # Errors
+///
+/// `NoMemory` where there is no memory for the matrix and the lists that it is made by.
+pub fn balls(alloc: Global, d: &Distances) -> Result<Matrix, NoMemory>
     ensures { IfOk result (λ m. m ≡ balls_of d.now) }
 {
     let mut balls = Matrix::new(alloc, d.items())?;
@@ -34,10 +40,10 @@ fn push_balls(
     ball: &mut Vec<u32>,
     d: &Distances,
     x: u32,
-) -> Result<(), AllocError>
+) -> Result<(), NoMemory>
     requires columns { balls.old.columns ≡ d.now.items }
     requires centre { (1 ≤ x) × (x ≤ d.now.items) }
-    requires room { length balls.old.rows + d.now.items ≤ 16777216 }
+    requires room { length balls.old.rows + d.now.items ≤ ROW_BOUND }
     ensures { OnOk result (balls.new ≡ record balls.old { rows = balls.old.rows ++ balls_round d.now x }) }
 {
     list_neighbours(neighbours, d, x)?;
@@ -52,9 +58,9 @@ fn push_balls(
 }
 
 // Puts a number at its place in a list that does not fall, where the list lacks it.
-fn insert(list: &mut Vec<u32>, number: u32) -> Result<(), AllocError>
+fn insert(list: &mut Vec<u32>, number: u32) -> Result<(), NoMemory>
     requires { IsNonDecreasing list.old.items }
-    ensures { OnOk result (list.new.items ≡ with_number number list.old.items) }
+    ensures { OnOk result (list.new.items ≡ with_item number list.old.items) }
 {
     if let Err(place) = list.binary_search(&number) {
         list.insert(place, number)?;

@@ -1,4 +1,4 @@
-use Rattle.convex_bipartite.proofs.Rows.{copied_row}
+use Rattle.row_model.proofs.Pushed.{copied_row}
 use Rattle.convex_bipartite.proofs.left.rows_of.Goals as goal
 
 pub loop-k-preserved : goal.loop-k-preserved

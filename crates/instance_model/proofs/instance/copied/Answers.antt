@@ -1,4 +1,4 @@
-use Rattle.instance_model.proofs.Copies.{copied_row}
+use Rattle.row_model.proofs.Pushed.{copied_row}
 use Rattle.instance_model.proofs.instance.copied.Goals as goal
 
 pub loop-k-preserved : goal.loop-k-preserved

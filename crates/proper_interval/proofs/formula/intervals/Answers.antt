@@ -2,12 +2,13 @@ use Rattle.std.proofs.Common.{ℕ, ◌+◌, List, [], ◌∷◌, length, sym, ap
 use Rattle.column_order.proofs.Counts.{order_length}
 use Rattle.row_model.specs.declared.lists.Interval.{Interval}
 use Rattle.proper_interval.specs.Reaches.{ArePositionsOf, IsIntervalBy}
-use Rattle.proper_interval.proofs.ReachLemmas.{order_alone, one_more, all_intervals}
+use Rattle.column_order.proofs.Counts.{order_own}
+use Rattle.proper_interval.proofs.ReachLemmas.{one_more, all_intervals}
 use Rattle.proper_interval.proofs.FormulaLaws.{intervals_fit}
 use Rattle.proper_interval.proofs.formula.intervals.Goals as goal
 
 pub positions-requires-clause-order : goal.positions-requires-clause-order
-positions-requires-clause-order c = order_alone c.args.g.now.vertices c.args.order.now c.requires.order
+positions-requires-clause-order c = order_own c.args.g.now.vertices c.args.order.now c.requires.order
 
 pub positions-requires-clause-few : goal.positions-requires-clause-few
 positions-requires-clause-few c = omega (arith, order_length c.args.g.now.vertices c.args.order.now c.requires.order, c.vertices-n.ensures.graph.vertices.1)

@@ -1,7 +1,12 @@
-use Rattle.graph_read.proofs.GraphLemmas.{parts_joined}
+use Rattle.std.proofs.Common.{◌≡◌, ◌∙◌, ◌++◌, ap}
+use Rattle.std.specs.List.{insert}
+use Rattle.proper_interval.proofs.ClosedLemmas.{closed_made}
 use Rattle.proper_interval.proofs.rows.list_closed.Goals as goal
 
 pub returns : goal.returns
 returns c =
-    parts_joined c.args.v c.count_below-place.result c.args.neighbours.now c.clear.new.self.items c.extend_from_slice.new.self.items c.push.new.self.items c.extend_from_slice-2.new.self.items
-    c.count_below-place.ensures.count c.clear.ensures.items c.in_ok-extend_from_slice.ensures.items c.in_ok-push.ensures.items c.in_ok-extend_from_slice-2.ensures.items
+    let neighbours = c.neighbours-neighbours.result.now in
+    let place = c.place_among.result in
+    let copied : c.extend_from_slice.new.self.items ≡ neighbours = c.in_ok-extend_from_slice.ensures.items ∙ ap (λ xs. xs ++ neighbours) c.clear.ensures.items in
+    c.in_ok-insert.ensures.items ∙ ap (λ xs. insert xs place c.args.v) copied
+    ∙ closed_made c.args.g.now c.args.v place neighbours c.requires.graph c.requires.vertex.0 c.requires.vertex.1 c.neighbours-neighbours.ensures.list c.neighbours-neighbours.ensures.ascending c.place_among.ensures.count
