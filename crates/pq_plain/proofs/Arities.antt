@@ -1,40 +1,51 @@
 -- A reduced tree has two children or more at each P-node, and three or more at each Q-node.
-use Rattle.std.proofs.Common.{◌≡◌, ◌∙◌, ◌+◌, ◌≤◌, ℕ, Bool, true, false, cond, List, [], ◌∷◌, ◌++◌, reverse, Some, refl, sym, ap, subst, inl, inr, arith, option_and_then}
-use Rattle.std.proofs.lemmas.Bool.{cases_Bool}
+use Rattle.std.proofs.Common.{◌≡◌, ◌⊎◌, ◌+◌, ◌≤◌, ℕ, true, false, List, [], ◌∷◌, ◌++◌, reverse, Option, Some, None, IsTrue, refl, sym, subst, inl, inr, arith}
+use Rattle.std.proofs.lemmas.Bool.{both_ways}
 use Rattle.std.proofs.lemmas.List.{reverse-append}
-use Rattle.column_order.specs.Orders.{has}
-use Rattle.pq_tree.specs.Outline.{Outline, Forest, leaf, p_node, q_node, no_tree, tree_and}
-use Rattle.pq_tree.specs.Proper.{HasArities, HaveArities, count}
-use Rattle.pq_plain.specs.Templates.{join, star, back, under, line}
-use Rattle.pq_plain.specs.Labels.{Partial, Label, empty_label, full_label, partial_label, empty_trees, full_trees, partials, at_p, at_q, at_run, Run, run_of, all_full, one_more, label_of, labels_of, first_some}
-use Rattle.pq_plain.specs.Reduce.{holds, root_p, Tail, Span, all_empty, full_more, before_more, begins, tail_of, span_of, root_q, at_span, put, behind_of, reduce, inner}
-use Rattle.pq_plain.proofs.HaveColumns.{arities_back, count_back}
-use Rattle.pq_plain.proofs.Labelled.{some_inj, and_then, cond_some, first_cases}
-use Rattle.pq_plain.proofs.Reduced.{inner_cases, behind_cases, put_cases}
+use Rattle.column_order.specs.Orders.{has, occurs}
+use Rattle.pq_tree.specs.Outline.{Outline, Forest, leaf, p_node, q_node, no_tree, tree_and, leaves, leaves_of}
+use Rattle.pq_tree.specs.Proper.{HasArities, HaveArities}
+use Rattle.pq_tree.specs.Forests.{count, trees, join, back}
+use Rattle.pq_tree.proofs.Forests.{arities_back, count_back, forest-trees, count_join, arities_join}
+use Rattle.pq_tree.specs.Equivalent.{AreEquivalent}
+use Rattle.pq_tree.proofs.Equivalent.{equivalent_arities_all}
+use Rattle.pq_plain.specs.Templates.{Partial, Label, empty_label, full_label, partial_label, star, under, line, line_if, q2, IsShape, IsSorted, none_sorted, to_empty, to_full, to_partial, AreAllFull, AreAllEmpty, IsRun, run_full, run_partial, run_more, IsTail, tail_empty, tail_partial, tail_more, IsSpan, span_tail, span_partial, span_more, IsP2, IsP4}
+use Rattle.pq_plain.specs.Chosen.{IsLabelOfP, p_empty, by_p1, by_p3, by_p5, IsLabelOfQ, q_empty, by_q1, by_q2, IsRootOfP, root_p1, root_p2, root_p4, root_p6, IsRootOfQ, root_q1, root_q2, root_q3}
+use Rattle.pq_plain.specs.Reduced.{IsTurned, IsLabel, AreLabels, IsRootMade, IsReplaced, replaced_here, replaced_under_p, replaced_under_q}
+use Rattle.column_order.proofs.Lists.{has_append_cases}
+use Rattle.pq_plain.proofs.Lines.{IsParted, has_parted_cases}
+use Rattle.pq_plain.proofs.BelowRoot.{AreEmpty}
+use Rattle.pq_plain.proofs.Meaning.{AreLabelled, Misses, miss_right, IsRoot, parts}
+use Rattle.pq_plain.proofs.Patterns.{full_unback, empty_unback}
+use Rattle.pq_plain.proofs.Preserved.{two_parts, full_column, HasBoth, has_both}
+use Rattle.pq_plain.proofs.Sound.{labels_sound, lowest_root_p, part_arities, replaced_arities, replaced_occurs}
+use Rattle.pq_plain.specs.Found.{IsLowest}
 
-abbrev pub IsGood : Partial → Type 0
+-- a partial has an empty tree and a full one, and its trees have enough children
+abbrev IsGood : Partial → Type 0
 IsGood h = HaveArities h.e × HaveArities h.f × (1 ≤ count h.e) × (1 ≤ count h.f)
 
-abbrev pub AreGood : List Partial → Type 0
+abbrev AreGood : List Partial → Type 0
 AreGood [] = Unit {0}
 AreGood (h ∷ hs) = IsGood h × AreGood hs
 
-abbrev pub GoodPart : Label → Type 0
-GoodPart empty_label = Unit {0}
-GoodPart full_label = Unit {0}
-GoodPart (partial_label h) = IsGood h
+abbrev IsGoodIf : Option Partial → Type 0
+IsGoodIf None = Unit {0}
+IsGoodIf (Some h) = IsGood h
 
-abbrev pub GoodParts : List Label → Type 0
-GoodParts [] = Unit {0}
-GoodParts (x ∷ ps) = GoodPart x × GoodParts ps
+abbrev GoodLabel : Label → Type 0
+GoodLabel empty_label = Unit {0}
+GoodLabel full_label = Unit {0}
+GoodLabel (partial_label h) = IsGood h
 
-count_join : (xs ys : Forest) → count (join xs ys) ≡ count xs + count ys
-count_join no_tree ys = omega arith
-count_join (tree_and t ts) ys = omega (arith, count_join ts ys)
+abbrev GoodLabels : List Label → Type 0
+GoodLabels [] = Unit {0}
+GoodLabels (x ∷ ps) = GoodLabel x × GoodLabels ps
 
-arities_join : (xs ys : Forest) → HaveArities xs → HaveArities ys → HaveArities (join xs ys)
-arities_join no_tree ys h k = k
-arities_join (tree_and t ts) ys h k = (h.0, arities_join ts ys h.1 k)
+-- how many partial children there are
+abbrev one_if : Option Partial → ℕ
+one_if None = 0
+one_if (Some h) = 1
 
 star_arities : (xs : Forest) → HaveArities xs → HaveArities (star xs)
 star_arities no_tree h = tt
@@ -45,237 +56,278 @@ star_one : (t : Outline) (ts : Forest) → count (star (tree_and t ts)) ≡ 1
 star_one t no_tree = refl
 star_one t (tree_and u us) = refl
 
--- the trees of a partial, of which there are two or more, and turned
-line_arities : (h : Partial) → IsGood h → HaveArities (line h) × (2 ≤ count (line h))
-line_arities h g = (arities_join h.e h.f g.0 g.1, omega (arith, count_join h.e h.f, g.2, g.3))
-
-turned_arities : (h : Partial) → IsGood h → HaveArities (back (line h)) × (2 ≤ count (back (line h)))
-turned_arities h g =
-    let w : HaveArities (line h) × (2 ≤ count (line h)) = line_arities h g in
-    (arities_back (line h) w.0, omega (arith, w.1, count_back (line h)))
+star_some : (ts : Forest) → 1 ≤ count ts → 1 ≤ count (star ts)
+star_some no_tree h = absurd (omega arith)
+star_some (tree_and t ts) h = omega (arith, star_one t ts)
 
 under_arities : (es : Forest) (x : Outline) → HaveArities es → HasArities x → HasArities (under es x)
 under_arities no_tree x h k = k
 under_arities (tree_and t ts) x h k = (omega arith, (k, h))
 
-empty_trees_arities : (ts : Forest) (ps : List Label) → HaveArities ts → HaveArities (empty_trees ts ps)
-empty_trees_arities no_tree ps h = tt
-empty_trees_arities (tree_and t ts) [] h = tt
-empty_trees_arities (tree_and t ts) (empty_label ∷ ps) h = (h.0, empty_trees_arities ts ps h.1)
-empty_trees_arities (tree_and t ts) (full_label ∷ ps) h = empty_trees_arities ts ps h.1
-empty_trees_arities (tree_and t ts) (partial_label g ∷ ps) h = empty_trees_arities ts ps h.1
+-- the trees of a partial, of which there are two or more, and turned
+line_arities : (h : Partial) → IsGood h → HaveArities (line h) × (2 ≤ count (line h))
+line_arities h g = (arities_join h.e h.f g.0 g.1, omega (arith, count_join h.e h.f, g.2, g.3))
 
-full_trees_arities : (ts : Forest) (ps : List Label) → HaveArities ts → HaveArities (full_trees ts ps)
-full_trees_arities no_tree ps h = tt
-full_trees_arities (tree_and t ts) [] h = tt
-full_trees_arities (tree_and t ts) (empty_label ∷ ps) h = full_trees_arities ts ps h.1
-full_trees_arities (tree_and t ts) (full_label ∷ ps) h = (h.0, full_trees_arities ts ps h.1)
-full_trees_arities (tree_and t ts) (partial_label g ∷ ps) h = full_trees_arities ts ps h.1
+back_arities : (h : Partial) → IsGood h → HaveArities (back (line h)) × (2 ≤ count (back (line h)))
+back_arities h g =
+    let w : HaveArities (line h) × (2 ≤ count (line h)) = line_arities h g in
+    (arities_back (line h) w.0, omega (arith, w.1, count_back (line h)))
 
-partials_good : (ps : List Label) → GoodParts ps → AreGood (partials ps)
-partials_good [] h = tt
-partials_good (empty_label ∷ ps) h = partials_good ps h.1
-partials_good (full_label ∷ ps) h = partials_good ps h.1
-partials_good (partial_label g ∷ ps) h = (h.0, partials_good ps h.1)
+line_if_arities : (h : Option Partial) → IsGoodIf h → HaveArities (line_if h) × (one_if h ≤ count (line_if h))
+line_if_arities None g = (tt, omega arith)
+line_if_arities (Some h) g = let w : HaveArities (line h) × (2 ≤ count (line h)) = line_arities h g in (w.0, omega (arith, w.1))
 
-good_push : (ps : List Label) (x : Label) → GoodParts ps → GoodPart x → GoodParts (ps ++ x ∷ [])
+back_if_arities : (h : Option Partial) → IsGoodIf h → HaveArities (back (line_if h)) × (one_if h ≤ count (back (line_if h)))
+back_if_arities None g = (tt, omega arith)
+back_if_arities (Some h) g = let w : HaveArities (back (line h)) × (2 ≤ count (back (line h))) = back_arities h g in (w.0, omega (arith, w.1))
+
+-- the labels from the other end
+good_push : (ps : List Label) (x : Label) → GoodLabels ps → GoodLabel x → GoodLabels (ps ++ x ∷ [])
 good_push [] x h k = (k, tt)
 good_push (y ∷ ps) x h k = (h.0, good_push ps x h.1 k)
 
-good_reverse : (ps : List Label) → GoodParts ps → GoodParts (reverse ps)
+good_reverse : (ps : List Label) → GoodLabels ps → GoodLabels (reverse ps)
 good_reverse [] h = tt
-good_reverse (x ∷ ps) h = subst GoodParts (sym (reverse-append (x ∷ []) ps)) (good_push (reverse ps) x (good_reverse ps h.1) h.0)
+good_reverse (x ∷ ps) h = subst GoodLabels (sym (reverse-append (x ∷ []) ps)) (good_push (reverse ps) x (good_reverse ps h.1) h.0)
 
-at_p_good : (hs : List Partial) (es fs : Forest) (x : Label) → AreGood hs → HaveArities es → HaveArities fs → at_p hs es fs ≡ Some x → GoodPart x
-at_p_good [] no_tree fs x g ce cf e = subst GoodPart (some_inj e) tt
-at_p_good [] (tree_and t es) no_tree x g ce cf e = subst GoodPart (some_inj e) tt
-at_p_good [] (tree_and t es) (tree_and u fs) x g ce cf e =
-    subst GoodPart (some_inj e)
-    (star_arities (tree_and t es) ce, star_arities (tree_and u fs) cf, omega (arith, star_one t es), omega (arith, star_one u fs))
-at_p_good (h ∷ []) es fs x g ce cf e =
-    subst GoodPart (some_inj e) (
-      arities_join (star es) h.e (star_arities es ce) g.0.0,
-      arities_join h.f (star fs) g.0.1 (star_arities fs cf),
-      omega (arith, count_join (star es) h.e, g.0.2),
-      omega (arith, count_join h.f (star fs), g.0.3),
+-- what the patterns say of the children
+sorted_good : {ts es fs : Forest} {ps : List Label} {hs : List Partial} → IsSorted ts ps es fs hs → HaveArities ts → GoodLabels ps → HaveArities es × HaveArities fs × AreGood hs
+sorted_good none_sorted c g = (tt, tt, tt)
+sorted_good (to_empty s) c g = let k = sorted_good s c.1 g.1 in ((c.0, k.0), k.1, k.2)
+sorted_good (to_full s) c g = let k = sorted_good s c.1 g.1 in (k.0, (c.0, k.1), k.2)
+sorted_good (to_partial s) c g = let k = sorted_good s c.1 g.1 in (k.0, k.1, (g.0, k.2))
+
+run_good : {ts es fs : Forest} {ps : List Label} {h : Option Partial} → IsRun ts ps es h fs → HaveArities ts → GoodLabels ps → HaveArities es × IsGoodIf h × HaveArities fs
+run_good (run_full s) c g = (tt, tt, c)
+run_good (run_partial s) c g = (tt, g.0, c.1)
+run_good (run_more r) c g = let k = run_good r c.1 g.1 in ((c.0, k.0), k.1, k.2)
+
+run_count : {ts es fs : Forest} {ps : List Label} {h : Option Partial} → IsRun ts ps es h fs → count es + one_if h + count fs ≡ count ts
+run_count (run_full s) = omega arith
+run_count (run_partial s) = omega arith
+run_count (run_more r) = omega (arith, run_count r)
+
+tail_good : {ts fs gs : Forest} {ps : List Label} {k : Option Partial} → IsTail ts ps fs k gs → HaveArities ts → GoodLabels ps → HaveArities fs × IsGoodIf k × HaveArities gs
+tail_good (tail_empty s) c g = (tt, tt, c)
+tail_good (tail_partial s) c g = (tt, g.0, c.1)
+tail_good (tail_more r) c g = let k = tail_good r c.1 g.1 in ((c.0, k.0), k.1, k.2)
+
+tail_count : {ts fs gs : Forest} {ps : List Label} {k : Option Partial} → IsTail ts ps fs k gs → count fs + one_if k + count gs ≡ count ts
+tail_count (tail_empty s) = omega arith
+tail_count (tail_partial s) = omega arith
+tail_count (tail_more r) = omega (arith, tail_count r)
+
+record GoodSpan (es : Forest) (h : Option Partial) (fs : Forest) (k : Option Partial) (gs : Forest) : Type 0 where
+  before : HaveArities es
+  left : IsGoodIf h
+  middle : HaveArities fs
+  right : IsGoodIf k
+  behind : HaveArities gs
+
+span_good : {ts es fs gs : Forest} {ps : List Label} {h k : Option Partial} → IsSpan ts ps es h fs k gs → HaveArities ts → GoodLabels ps → GoodSpan es h fs k gs
+span_good (span_tail r) c g = let k = tail_good r c g in record { before = tt; left = tt; middle = k.0; right = k.1; behind = k.2 }
+span_good (span_partial r) c g = let k = tail_good r c.1 g.1 in record { before = tt; left = g.0; middle = k.0; right = k.1; behind = k.2 }
+span_good (span_more r) c g =
+    let k = span_good r c.1 g.1 in
+    record { before = (c.0, k.before); left = k.left; middle = k.middle; right = k.right; behind = k.behind }
+
+span_count : {ts es fs gs : Forest} {ps : List Label} {h k : Option Partial} → IsSpan ts ps es h fs k gs → count es + one_if h + count fs + one_if k + count gs ≡ count ts
+span_count (span_tail r) = omega (arith, tail_count r)
+span_count (span_partial r) = omega (arith, tail_count r)
+span_count (span_more r) = omega (arith, span_count r)
+
+-- labels below the pertinent root
+p_good : (ts : Forest) (ps : List Label) (x : Label) → HaveArities ts → GoodLabels ps → IsLabelOfP ts ps x → GoodLabel x
+p_good ts ps x c g (p_empty s) = tt
+p_good ts ps x c g (by_p1 s) = tt
+p_good ts ps x c g (by_p3 h s) =
+    let k = sorted_good s.pattern c g in
+    subst IsGood (sym s.becomes)
+    (star_arities (tree_and s.e s.es) k.0, star_arities (tree_and s.f s.fs) k.1, omega (arith, star_one s.e s.es), omega (arith, star_one s.f s.fs))
+p_good ts ps x c g (by_p5 h s) =
+    let k = sorted_good s.pattern c g in
+    subst IsGood (sym s.becomes) (
+      arities_join (star s.es) s.h.e (star_arities s.es k.0) k.2.0.0,
+      arities_join s.h.f (star s.fs) k.2.0.1 (star_arities s.fs k.1),
+      omega (arith, count_join (star s.es) s.h.e, k.2.0.2),
+      omega (arith, count_join s.h.f (star s.fs), k.2.0.3),
     )
-at_p_good (h ∷ k ∷ hs) es fs x g ce cf e = cc
 
-at_q_good : (hs : List Partial) (es fs : Forest) (x : Label) → AreGood hs → HaveArities es → HaveArities fs → at_q hs es fs ≡ Some x → GoodPart x
-at_q_good [] no_tree fs x g ce cf e = subst GoodPart (some_inj e) tt
-at_q_good [] (tree_and t es) no_tree x g ce cf e = subst GoodPart (some_inj e) tt
-at_q_good [] (tree_and t es) (tree_and u fs) x g ce cf e = subst GoodPart (some_inj e) (ce, cf, omega arith, omega arith)
-at_q_good (h ∷ hs) es fs x g ce cf e =
-    subst GoodPart (some_inj e)
-    (arities_join es h.e ce g.0.0, arities_join h.f fs g.0.1 cf, omega (arith, count_join es h.e, g.0.2), omega (arith, count_join h.f fs, g.0.3))
+q2_good : (es fs : Forest) (h : Option Partial) → HaveArities es → IsGoodIf h → HaveArities fs → HasBoth es h fs → IsGood (q2 es h fs)
+q2_good es fs (Some h) ce g cf b =
+    (arities_join es h.e ce g.0, arities_join h.f fs g.1 cf, omega (arith, count_join es h.e, g.2), omega (arith, count_join h.f fs, g.3))
+q2_good no_tree fs None ce g cf b = absurd b
+q2_good (tree_and e es) no_tree None ce g cf b = absurd b
+q2_good (tree_and e es) (tree_and f fs) None ce g cf b = (ce, cf, omega arith, omega arith)
 
-abbrev pub GoodRun : Run → Type 0
-GoodRun r = HaveArities r.before × AreGood r.middle × HaveArities r.behind
+q2_count : (es fs : Forest) (h : Option Partial) → IsGoodIf h → count es + one_if h + count fs ≤ count (line (q2 es h fs))
+q2_count es fs None g = omega (arith, count_join es fs)
+q2_count es fs (Some h) g =
+    omega (arith, count_join (join es h.e) (join h.f fs), count_join es h.e, count_join h.f fs, g.2)
 
-run_good : (ts : Forest) (ps : List Label) (r : Run) → HaveArities ts → GoodParts ps → run_of ts ps ≡ Some r → GoodRun r
-run_good no_tree ps r c g e = subst GoodRun (some_inj e) (tt, tt, tt)
-run_good (tree_and t ts) [] r c g e = cc
-run_good (tree_and t ts) (empty_label ∷ ps) r c g e =
-    let w : (x : Run) × (run_of ts ps ≡ Some x) × (Some (one_more t x) ≡ Some r) = and_then (λ x. Some (one_more t x)) (run_of ts ps) r e in
-    let k : GoodRun w.0 = run_good ts ps w.0 c.1 g.1 w.1 in
-    subst GoodRun (some_inj w.2) ((c.0, k.0), k.1, k.2)
-run_good (tree_and t ts) (full_label ∷ ps) r c g e =
-    subst GoodRun (cond_some (all_full ps) (record { before = no_tree; middle = []; behind = tree_and t ts }) r e).1 (tt, tt, c)
-run_good (tree_and t ts) (partial_label h ∷ ps) r c g e =
-    subst GoodRun (cond_some (all_full ps) (record { before = no_tree; middle = h ∷ []; behind = ts }) r e).1 (tt, (g.0, tt), c.1)
+run_q2 : (ts es fs : Forest) (ps : List Label) (h : Option Partial) → HaveArities ts → GoodLabels ps → IsRun ts ps es h fs → (AreAllFull ts ps → ⊥) → (AreAllEmpty ts ps → ⊥) →
+    IsGood (q2 es h fs) × (count ts ≤ count (line (q2 es h fs)))
+run_q2 ts es fs ps h c g r nf ne =
+    let k = run_good r c g in
+    (q2_good es fs h k.0 k.1 k.2 (has_both ts es fs ps h r nf ne), omega (arith, run_count r, q2_count es fs h k.1))
 
-run_part : (ts : Forest) (ps : List Label) (x : Label) → HaveArities ts → GoodParts ps → option_and_then at_run (run_of ts ps) ≡ Some x → GoodPart x
-run_part ts ps x c g e =
-    let w : (r : Run) × (run_of ts ps ≡ Some r) × (at_run r ≡ Some x) = and_then at_run (run_of ts ps) x e in
-    let k : GoodRun w.0 = run_good ts ps w.0 c g w.1 in
-    at_q_good w.0.middle w.0.before w.0.behind x k.1 k.0 k.2 w.2
+pub q_shape : (ts : Forest) (ps : List Label) (es fs : Forest) (h : Option Partial) → HaveArities ts → GoodLabels ps → IsRun ts ps es h fs ⊎ IsRun (back ts) (reverse ps) es h fs →
+    (AreAllFull ts ps → ⊥) → (AreAllEmpty ts ps → ⊥) → IsGood (q2 es h fs) × (count ts ≤ count (line (q2 es h fs)))
+q_shape ts ps es fs h c g p nf ne =
+    elim p [
+      | inl r ↦ run_q2 ts es fs ps h c g r nf ne
+      | inr r ↦
+          let k : IsGood (q2 es h fs) × (count (back ts) ≤ count (line (q2 es h fs))) =
+          run_q2 (back ts) es fs (reverse ps) h (arities_back ts c) (good_reverse ps g) r (λ s. nf (full_unback s)) (λ s. ne (empty_unback s)) in
+          (k.0, omega (arith, k.1, count_back ts))
+    ]
 
-leaf_good : (b : Bool) → GoodPart (cond b full_label empty_label)
-leaf_good true = tt
-leaf_good false = tt
+q_good : (ts : Forest) (ps : List Label) (x : Label) → HaveArities ts → GoodLabels ps → IsLabelOfQ ts ps x → GoodLabel x
+q_good ts ps x c g (q_empty s) = tt
+q_good ts ps x c g (by_q1 s) = tt
+q_good ts ps x c g (by_q2 h q) = subst IsGood (sym q.becomes) (q_shape ts ps q.es q.fs q.h c g q.pattern q.not_full q.not_empty).0
+
+-- the trees of a partial turned
+alike_count : (ts us : Forest) → AreEquivalent ts (trees us) → count us ≡ count ts
+alike_count no_tree no_tree h = refl
+alike_count no_tree (tree_and u us) h = absurd h
+alike_count (tree_and t ts) no_tree h = absurd h
+alike_count (tree_and t ts) (tree_and u us) h = omega (arith, alike_count ts us h.1)
+
+alike_arities : (ts us : Forest) → AreEquivalent ts (trees us) → HaveArities ts → HaveArities us
+alike_arities ts us h c = subst HaveArities (forest-trees us) (equivalent_arities_all ts (trees us) h c)
+
+turned_good : (y x : Label) → GoodLabel y → IsTurned y x → GoodLabel x
+turned_good empty_label x g h = subst GoodLabel (sym h) tt
+turned_good full_label x g h = subst GoodLabel (sym h) tt
+turned_good (partial_label p) x g h =
+    subst GoodLabel (sym h.3)
+    (alike_arities p.e h.0.e h.1 g.0, alike_arities p.f h.0.f h.2 g.1, omega (arith, alike_count p.e h.0.e h.1, g.2), omega (arith, alike_count p.f h.0.f h.2, g.3))
+
+leaf_good : (row : List ℕ) (a : ℕ) (x : Label) → IsLabel row (leaf a) x → GoodLabel x
+leaf_good row a x h = elim h [ inl k ↦ subst GoodLabel (sym k.1) tt | inr k ↦ subst GoodLabel (sym k.1) tt ]
 
 mutual
-  pub label_arities : (row : List ℕ) (t : Outline) (x : Label) → HasArities t → label_of row t ≡ Some x → GoodPart x
-  label_arities row (leaf a) x c e = subst GoodPart (some_inj e) (leaf_good (has row a))
-  label_arities row (p_node ts) x c e =
-      let w : (ps : List Label) × (labels_of row ts ≡ Some ps) × (at_p (partials ps) (empty_trees ts ps) (full_trees ts ps) ≡ Some x) =
-      and_then (λ ps. at_p (partials ps) (empty_trees ts ps) (full_trees ts ps)) (labels_of row ts) x e in
-      at_p_good (partials w.0) (empty_trees ts w.0) (full_trees ts w.0) x (partials_good w.0 (labels_arities row ts w.0 c.1 w.1)) (empty_trees_arities ts w.0 c.1) (full_trees_arities ts w.0 c.1) w.2
-  label_arities row (q_node ts) x c e =
-      let w : (ps : List Label) × (labels_of row ts ≡ Some ps) × (first_some (option_and_then at_run (run_of ts ps)) (option_and_then at_run (run_of (back ts) (reverse ps))) ≡ Some x) =
-      and_then (λ ps. first_some (option_and_then at_run (run_of ts ps)) (option_and_then at_run (run_of (back ts) (reverse ps)))) (labels_of row ts) x e in
-      let g : GoodParts w.0 = labels_arities row ts w.0 c.1 w.1 in
-      elim (first_cases (option_and_then at_run (run_of ts w.0)) (option_and_then at_run (run_of (back ts) (reverse w.0))) x w.2) [
-        | inl k ↦ run_part ts w.0 x c.1 g k
-        | inr k ↦ run_part (back ts) (reverse w.0) x (arities_back ts c.1) (good_reverse w.0 g) k
-      ]
+  label_good : (row : List ℕ) (t : Outline) (x : Label) → HasArities t → IsLabel row t x → GoodLabel x
+  label_good row (leaf a) x c h = leaf_good row a x h
+  label_good row (p_node ts) x c h = turned_good h.1 x (p_good ts h.0 h.1 c.1 (labels_good row ts h.0 c.1 h.2) h.3) h.4
+  label_good row (q_node ts) x c h = turned_good h.1 x (q_good ts h.0 h.1 c.1 (labels_good row ts h.0 c.1 h.2) h.3) h.4
 
-  pub labels_arities : (row : List ℕ) (ts : Forest) (ps : List Label) → HaveArities ts → labels_of row ts ≡ Some ps → GoodParts ps
-  labels_arities row no_tree ps c e = subst GoodParts (some_inj e) tt
-  labels_arities row (tree_and t ts) ps c e =
-      let w : (x : Label) × (label_of row t ≡ Some x) × (option_and_then (λ qs. Some (x ∷ qs)) (labels_of row ts) ≡ Some ps) =
-      and_then (λ x. option_and_then (λ qs. Some (x ∷ qs)) (labels_of row ts)) (label_of row t) ps e in
-      let v : (qs : List Label) × (labels_of row ts ≡ Some qs) × (Some (w.0 ∷ qs) ≡ Some ps) = and_then (λ qs. Some (w.0 ∷ qs)) (labels_of row ts) ps w.2 in
-      subst GoodParts (some_inj v.2) (label_arities row t w.0 c.0 w.1, labels_arities row ts v.0 c.1 v.1)
+  labels_good : (row : List ℕ) (ts : Forest) (ps : List Label) → HaveArities ts → AreLabels row ts ps → GoodLabels ps
+  labels_good row no_tree [] c h = tt
+  labels_good row no_tree (x ∷ ps) c h = absurd h
+  labels_good row (tree_and t ts) [] c h = absurd h
+  labels_good row (tree_and t ts) (x ∷ ps) c h = (label_good row t x c.0 h.0, labels_good row ts ps c.1 h.1)
 
-root_p_good : (hs : List Partial) (es fs ts : Forest) (x : Outline) → AreGood hs → HaveArities es → HaveArities fs → HasArities (p_node ts) → root_p hs es fs ts ≡ Some x → HasArities x
-root_p_good [] no_tree fs ts x g ce cf c e = subst HasArities (some_inj e) c
-root_p_good [] (tree_and t es) no_tree ts x g ce cf c e = cc
-root_p_good [] (tree_and t es) (tree_and f fs) ts x g ce cf c e =
-    subst HasArities (some_inj e) (
-      omega (arith, count_join (star (tree_and f fs)) (tree_and t es), star_one f fs),
-      arities_join (star (tree_and f fs)) (tree_and t es) (star_arities (tree_and f fs) cf) ce,
+-- the pertinent root
+some_tree : (fs : Forest) → (a : ℕ) × IsTrue (has (leaves_of fs) a) → 1 ≤ count fs
+some_tree no_tree a = absurd (both_ways false refl a.1)
+some_tree (tree_and f fs) a = omega arith
+
+pub p4_full : (row : List ℕ) (ts : Forest) (ps : List Label) (u : Outline) → AreLabelled row ts ps → IsRoot row ts → (s : IsP4 true ts ps u) → 1 ≤ count s.fs
+p4_full row ts ps u right root s =
+    let k = parts row s.pattern right in
+    some_tree s.fs (full_column row ts ps right s.es s.fs k.us k.rest s.h k.first k.second k.empty root k.partial)
+
+-- P2 has a second full child
+second_full : (row : List ℕ) (ts es fs : Forest) (f : Outline) → IsRoot row ts → IsParted ts es (tree_and f fs) → AreEmpty row es → 1 ≤ count fs
+second_full row ts es (tree_and g fs) f root s ee = omega arith
+second_full row ts es no_tree f root s ee =
+    let m : Misses row (leaves f) = (miss_right row s root.lowest).0 in
+    absurd
+    (elim (has_parted_cases s m.0 (root.within m.0 m.1)) [
+      | inl k ↦ both_ways (has row m.0) (ee m.0 k) m.1
+      | inr k ↦ elim (has_append_cases (leaves f) [] m.0 k) [ inl i ↦ both_ways (has (leaves f) m.0) m.2 i | inr i ↦ both_ways false refl i ]
+    ])
+
+pub p2_full : (row : List ℕ) (ts : Forest) (ps : List Label) (u : Outline) → AreLabelled row ts ps → IsRoot row ts → (s : IsP2 true ts ps u) → 1 ≤ count s.fs
+p2_full row ts ps u right root s =
+    let k = parts row s.pattern right in
+    second_full row ts (tree_and s.e s.es) s.fs s.f root (two_parts row ts ps right (tree_and s.e s.es) (tree_and s.f s.fs) k.us k.rest k.first k.second k.partial) k.empty
+
+root_p_good : (row : List ℕ) (ts : Forest) (ps : List Label) (u : Outline) → HasArities (p_node ts) → GoodLabels ps → AreLabelled row ts ps → IsRoot row ts → IsRootOfP ts ps u → HasArities u
+root_p_good row ts ps u c g right root (root_p1 s) = c
+root_p_good row ts ps u c g right root (root_p2 v s) =
+    let k = sorted_good s.pattern c.1 g in
+    subst HasArities (sym s.becomes) (
+      omega (arith, count_join (star (tree_and s.f s.fs)) (tree_and s.e s.es), star_one s.f s.fs),
+      arities_join (star (tree_and s.f s.fs)) (tree_and s.e s.es) (star_arities (tree_and s.f s.fs) k.1) k.0,
     )
-root_p_good (h ∷ []) es no_tree ts x g ce cf c e = cc
-root_p_good (h ∷ []) es (tree_and f fs) ts x g ce cf c e =
-    subst HasArities (some_inj e)
-    (under_arities es (q_node (join (join h.e h.f) (star (tree_and f fs)))) ce (
-      omega (arith, count_join (join h.e h.f) (star (tree_and f fs)), count_join h.e h.f, star_one f fs, g.0.2, g.0.3),
-      arities_join (join h.e h.f) (star (tree_and f fs)) (arities_join h.e h.f g.0.0 g.0.1) (star_arities (tree_and f fs) cf),
+root_p_good row ts ps u c g right root (root_p4 v s) =
+    let k = sorted_good s.pattern c.1 g in
+    let l : HaveArities (line s.h) × (2 ≤ count (line s.h)) = line_arities s.h k.2.0 in
+    subst HasArities (sym s.becomes)
+    (under_arities s.es (q_node (join (line s.h) (star s.fs))) k.0 (
+      omega (arith, count_join (line s.h) (star s.fs), l.1, star_some s.fs (p4_full row ts ps u right root s)),
+      arities_join (line s.h) (star s.fs) l.0 (star_arities s.fs k.1),
     ))
-root_p_good (h ∷ k ∷ []) es fs ts x g ce cf c e =
-    subst HasArities (some_inj e)
-    (under_arities es (q_node (join (line h) (join (star fs) (back (line k))))) ce (
-      omega (arith, count_join (line h) (join (star fs) (back (line k))), count_join (star fs) (back (line k)), (line_arities h g.0).1, (turned_arities k g.1.0).1),
-      arities_join (line h) (join (star fs) (back (line k))) (line_arities h g.0).0 (arities_join (star fs) (back (line k)) (star_arities fs cf) (turned_arities k g.1.0).0),
+root_p_good row ts ps u c g right root (root_p6 v s) =
+    let k = sorted_good s.pattern c.1 g in
+    let l : HaveArities (line s.h) × (2 ≤ count (line s.h)) = line_arities s.h k.2.0 in
+    let m : HaveArities (back (line s.k)) × (2 ≤ count (back (line s.k))) = back_arities s.k k.2.1.0 in
+    subst HasArities (sym s.becomes)
+    (under_arities s.es (q_node (join (line s.h) (join (star s.fs) (back (line s.k))))) k.0 (
+      omega (arith, count_join (line s.h) (join (star s.fs) (back (line s.k))), count_join (star s.fs) (back (line s.k)), l.1, m.1),
+      arities_join (line s.h) (join (star s.fs) (back (line s.k))) l.0 (arities_join (star s.fs) (back (line s.k)) (star_arities s.fs k.1) m.0),
     ))
-root_p_good (h ∷ k ∷ l ∷ hs) es fs ts x g ce cf c e = cc
 
-abbrev pub GoodTail : Tail → Type 0
-GoodTail r = HaveArities r.middle × AreGood r.right × HaveArities r.behind
+shape_good : (x : Partial) (u : Outline) → HaveArities (line x) → 3 ≤ count (line x) → IsShape x u → HasArities u
+shape_good x u c n s =
+    elim s [
+      | inl e ↦ subst HasArities (sym e) (n, c)
+      | inr e ↦ subst HasArities (sym e) (omega (arith, n, count_back (line x)), arities_back (line x) c)
+    ]
 
-tail_good : (ts : Forest) (ps : List Label) (r : Tail) → HaveArities ts → GoodParts ps → tail_of ts ps ≡ Some r → GoodTail r
-tail_good no_tree ps r c g e = subst GoodTail (some_inj e) (tt, tt, tt)
-tail_good (tree_and t ts) [] r c g e = cc
-tail_good (tree_and t ts) (empty_label ∷ ps) r c g e = subst GoodTail (cond_some (all_empty ps) (record { middle = no_tree; right = []; behind = tree_and t ts }) r e).1 (tt, tt, c)
-tail_good (tree_and t ts) (full_label ∷ ps) r c g e =
-    let w : (x : Tail) × (tail_of ts ps ≡ Some x) × (Some (full_more t x) ≡ Some r) = and_then (λ x. Some (full_more t x)) (tail_of ts ps) r e in
-    let k : GoodTail w.0 = tail_good ts ps w.0 c.1 g.1 w.1 in
-    subst GoodTail (some_inj w.2) ((c.0, k.0), k.1, k.2)
-tail_good (tree_and t ts) (partial_label h ∷ ps) r c g e = subst GoodTail (cond_some (all_empty ps) (record { middle = no_tree; right = h ∷ []; behind = ts }) r e).1 (tt, (g.0, tt), c.1)
-
-abbrev pub GoodSpan : Span → Type 0
-GoodSpan r = HaveArities r.before × AreGood r.left × GoodTail r.tail
-
-span_good : (ts : Forest) (ps : List Label) (r : Span) → HaveArities ts → GoodParts ps → span_of ts ps ≡ Some r → GoodSpan r
-span_good no_tree ps r c g e = subst GoodSpan (some_inj e) (tt, tt, (tt, tt, tt))
-span_good (tree_and t ts) [] r c g e = cc
-span_good (tree_and t ts) (empty_label ∷ ps) r c g e =
-    let w : (x : Span) × (span_of ts ps ≡ Some x) × (Some (before_more t x) ≡ Some r) = and_then (λ x. Some (before_more t x)) (span_of ts ps) r e in
-    let k : GoodSpan w.0 = span_good ts ps w.0 c.1 g.1 w.1 in
-    subst GoodSpan (some_inj w.2) ((c.0, k.0), k.1, k.2)
-span_good (tree_and t ts) (full_label ∷ ps) r c g e =
-    let w : (x : Tail) × (tail_of ts ps ≡ Some x) × (Some (begins [] (full_more t x)) ≡ Some r) = and_then (λ x. Some (begins [] (full_more t x))) (tail_of ts ps) r e in
-    let k : GoodTail w.0 = tail_good ts ps w.0 c.1 g.1 w.1 in
-    subst GoodSpan (some_inj w.2) (tt, tt, ((c.0, k.0), k.1, k.2))
-span_good (tree_and t ts) (partial_label h ∷ ps) r c g e =
-    let w : (x : Tail) × (tail_of ts ps ≡ Some x) × (Some (begins (h ∷ []) x) ≡ Some r) = and_then (λ x. Some (begins (h ∷ []) x)) (tail_of ts ps) r e in
-    subst GoodSpan (some_inj w.2) (tt, (g.0, tt), tail_good ts ps w.0 c.1 g.1 w.1)
-
-root_q_good : (hs ks : List Partial) (fs es gs ts : Forest) (x : Outline) → AreGood hs → AreGood ks → HaveArities fs → HaveArities es → HaveArities gs → HasArities (q_node ts) → root_q hs ks fs es gs ts ≡ Some x → HasArities x
-root_q_good [] [] fs es gs ts x a b cf ce cg c e = subst HasArities (some_inj e) c
-root_q_good (h ∷ hs) [] no_tree es gs ts x a b cf ce cg c e = cc
-root_q_good (h ∷ hs) [] (tree_and f fs) es gs ts x a b cf ce cg c e =
-    subst HasArities (some_inj e) (
-      omega (arith, count_join es (join (line h) (join (tree_and f fs) gs)), count_join (line h) (join (tree_and f fs) gs), (line_arities h a.0).1),
-      arities_join es (join (line h) (join (tree_and f fs) gs)) ce (arities_join (line h) (join (tree_and f fs) gs) (line_arities h a.0).0 (arities_join (tree_and f fs) gs cf cg)),
-    )
-root_q_good [] (k ∷ ks) no_tree es gs ts x a b cf ce cg c e = cc
-root_q_good [] (k ∷ ks) (tree_and f fs) es gs ts x a b cf ce cg c e =
-    subst HasArities (some_inj e) (
-      omega (arith, count_join es (join (tree_and f fs) (join (back (line k)) gs)), count_join (tree_and f fs) (join (back (line k)) gs), count_join (back (line k)) gs, (turned_arities k b.0).1),
-      arities_join es (join (tree_and f fs) (join (back (line k)) gs)) ce
-          (arities_join (tree_and f fs) (join (back (line k)) gs) cf (arities_join (back (line k)) gs (turned_arities k b.0).0 cg)),
-    )
-root_q_good (h ∷ hs) (k ∷ ks) fs es gs ts x a b cf ce cg c e =
-    subst HasArities (some_inj e) (
+root_q_good : (ts : Forest) (ps : List Label) (u : Outline) → HasArities (q_node ts) → GoodLabels ps → IsRootOfQ ts ps u → HasArities u
+root_q_good ts ps u c g (root_q1 s) = c
+root_q_good ts ps u c g (root_q2 x v q s) =
+    let k : IsGood (q2 q.es q.h q.fs) × (count ts ≤ count (line (q2 q.es q.h q.fs))) = q_shape ts ps q.es q.fs q.h c.1 g q.pattern q.not_full q.not_empty in
+    let n : count ts ≤ count (line x) = subst (λ y. count ts ≤ count (line y)) (sym q.becomes) k.1 in
+    shape_good x u (line_arities x (subst IsGood (sym q.becomes) k.0)).0 (omega (arith, n, c.0)) s
+root_q_good ts ps u c g (root_q3 v q) =
+    let k = span_good q.pattern c.1 g in
+    let l : HaveArities (line_if q.h) × (one_if q.h ≤ count (line_if q.h)) = line_if_arities q.h k.left in
+    let m : HaveArities (back (line_if q.k)) × (one_if q.k ≤ count (back (line_if q.k))) = back_if_arities q.k k.right in
+    subst HasArities (sym q.becomes) (
       omega (
         arith,
-        count_join es (join (line h) (join fs (join (back (line k)) gs))),
-        count_join (line h) (join fs (join (back (line k)) gs)),
-        count_join fs (join (back (line k)) gs),
-        count_join (back (line k)) gs,
-        (line_arities h a.0).1,
-        (turned_arities k b.0).1,
+        count_join q.es (join (line_if q.h) (join q.fs (join (back (line_if q.k)) q.gs))),
+        count_join (line_if q.h) (join q.fs (join (back (line_if q.k)) q.gs)),
+        count_join q.fs (join (back (line_if q.k)) q.gs),
+        count_join (back (line_if q.k)) q.gs,
+        l.1,
+        m.1,
+        span_count q.pattern,
+        c.0,
       ),
-      arities_join es (join (line h) (join fs (join (back (line k)) gs))) ce
-          (arities_join (line h) (join fs (join (back (line k)) gs)) (line_arities h a.0).0
-          (arities_join fs (join (back (line k)) gs) cf (arities_join (back (line k)) gs (turned_arities k b.0).0 cg))),
+      arities_join q.es (join (line_if q.h) (join q.fs (join (back (line_if q.k)) q.gs))) k.before
+          (arities_join (line_if q.h) (join q.fs (join (back (line_if q.k)) q.gs)) l.0
+          (arities_join q.fs (join (back (line_if q.k)) q.gs) k.middle (arities_join (back (line_if q.k)) q.gs m.0 k.behind))),
     )
 
-mutual
-  pub reduce_arities : (row : List ℕ) (t x : Outline) → HasArities t → reduce row t ≡ Some x → HasArities x
-  reduce_arities row (leaf a) x c e = subst HasArities (some_inj e) tt
-  reduce_arities row (p_node ts) x c e =
-      elim (inner_cases (inner row ts) p_node (option_and_then (λ ps. root_p (partials ps) (empty_trees ts ps) (full_trees ts ps) ts) (labels_of row ts)) x e) [
-        | inl k ↦ let w : HaveArities k.0 × (count k.0 ≡ count ts) = inner_arities row ts k.0 c.1 k.1 in subst HasArities k.2 (omega (arith, c.0, w.1), w.0)
-        | inr k ↦
-            let w : (ps : List Label) × (labels_of row ts ≡ Some ps) × (root_p (partials ps) (empty_trees ts ps) (full_trees ts ps) ts ≡ Some x) =
-            and_then (λ ps. root_p (partials ps) (empty_trees ts ps) (full_trees ts ps) ts) (labels_of row ts) x k.1 in
-            root_p_good (partials w.0) (empty_trees ts w.0) (full_trees ts w.0) ts x (partials_good w.0 (labels_arities row ts w.0 c.1 w.1)) (empty_trees_arities ts w.0 c.1) (full_trees_arities ts w.0 c.1) c w.2
-      ]
-  reduce_arities row (q_node ts) x c e =
-      elim (inner_cases (inner row ts) q_node (option_and_then (λ ps. option_and_then (at_span ts) (span_of ts ps)) (labels_of row ts)) x e) [
-        | inl k ↦ let w : HaveArities k.0 × (count k.0 ≡ count ts) = inner_arities row ts k.0 c.1 k.1 in subst HasArities k.2 (omega (arith, c.0, w.1), w.0)
-        | inr k ↦
-            let w : (ps : List Label) × (labels_of row ts ≡ Some ps) × (option_and_then (at_span ts) (span_of ts ps) ≡ Some x) =
-            and_then (λ ps. option_and_then (at_span ts) (span_of ts ps)) (labels_of row ts) x k.1 in
-            let v : (r : Span) × (span_of ts w.0 ≡ Some r) × (at_span ts r ≡ Some x) = and_then (at_span ts) (span_of ts w.0) x w.2 in
-            let s : GoodSpan v.0 = span_good ts w.0 v.0 c.1 (labels_arities row ts w.0 c.1 w.1) v.1 in
-            root_q_good v.0.left v.0.tail.right v.0.tail.middle v.0.before v.0.tail.behind ts x s.1 s.2.1 s.2.0 s.0 s.2.2 c v.2
-      ]
+made_good : (row : List ℕ) (x y : Outline) → HasArities x → ((a : ℕ) → occurs (leaves x) a ≤ 1) → IsLowest row x → IsRootMade row x y → HasArities y
+made_good row (leaf a) y c once w h = subst HasArities (sym h.1) tt
+made_good row (p_node ts) y c once w h =
+    root_p_good row ts h.0 y c (labels_good row ts h.0 c.1 h.1) (labels_sound row ts h.0 c.1 once h.1) (lowest_root_p row ts w) h.2
+made_good row (q_node ts) y c once w h = root_q_good ts h.0 y c (labels_good row ts h.0 c.1 h.1) h.2
 
-  pub inner_arities : (row : List ℕ) (ts us : Forest) → HaveArities ts → inner row ts ≡ Some (Some us) → HaveArities us × (count us ≡ count ts)
-  inner_arities row no_tree us c e = cc
-  inner_arities row (tree_and t ts) us c e =
-      elim (cases_Bool (holds row t)) [
-        | inl k ↦
-            let f : Some (put ts (reduce row t)) ≡ Some (Some us) = ap (λ b. cond b (Some (put ts (reduce row t))) (behind_of t (inner row ts))) (sym k) ∙ e in
-            let w : (u : Outline) × (reduce row t ≡ Some u) × (tree_and u ts ≡ us) = put_cases ts (reduce row t) us (some_inj f) in
-            subst (λ y. HaveArities y × (count y ≡ count (tree_and t ts))) w.2 ((reduce_arities row t w.0 c.0 w.1, c.1), refl)
-        | inr k ↦
-            let f : behind_of t (inner row ts) ≡ Some (Some us) = ap (λ b. cond b (Some (put ts (reduce row t))) (behind_of t (inner row ts))) (sym k) ∙ e in
-            let w : (vs : Forest) × (inner row ts ≡ Some (Some vs)) × (tree_and t vs ≡ us) = behind_cases t (inner row ts) us f in
-            let v : HaveArities w.0 × (count w.0 ≡ count ts) = inner_arities row ts w.0 c.1 w.1 in
-            subst (λ y. HaveArities y × (count y ≡ count (tree_and t ts))) w.2 ((c.0, v.0), omega (arith, v.1))
-      ]
+-- a node with another child in the place of one
+put_arities : (ts us : Forest) (t u : Outline) → HaveArities (join ts (tree_and t us)) → HasArities u → HaveArities (join ts (tree_and u us))
+put_arities no_tree us t u h k = (k, h.1)
+put_arities (tree_and s ts) us t u h k = (h.0, put_arities ts us t u h.1 k)
+
+put_count : (ts us : Forest) (t u : Outline) → count (join ts (tree_and u us)) ≡ count (join ts (tree_and t us))
+put_count no_tree us t u = refl
+put_count (tree_and s ts) us t u = omega (arith, put_count ts us t u)
+
+replaced_good : {x y t v : Outline} → IsReplaced x y t v → HasArities y → HasArities t → HasArities v
+replaced_good replaced_here k h = k
+replaced_good (replaced_under_p {t = t} {u = u} ts us r) k h =
+    (omega (arith, put_count ts us t u, h.0), put_arities ts us t u h.1 (replaced_good r k (part_arities ts us t h.1)))
+replaced_good (replaced_under_q {t = t} {u = u} ts us r) k h =
+    (omega (arith, put_count ts us t u, h.0), put_arities ts us t u h.1 (replaced_good r k (part_arities ts us t h.1)))
+
+-- the pertinent root replaced
+pub made_arities : (row : List ℕ) (x y t v : Outline) → HasArities t → ((a : ℕ) → occurs (leaves t) a ≤ 1) → IsLowest row x → IsRootMade row x y → IsReplaced x y t v → HasArities v
+made_arities row x y t v c once w m r =
+    replaced_good r (made_good row x y (replaced_arities r c) (λ a. omega (arith, once a, replaced_occurs r a)) w m) c

@@ -3,10 +3,9 @@ use Rattle.std.proofs.Common.{◌≡◌, ◌⊎◌, ◌∙◌, ◌+◌, ℕ, fal
 use Rattle.std.proofs.lemmas.Bool.{both_ways, cases_Bool, false_from_ne_true}
 use Rattle.row_model.specs.declared.graph.Pair.{Pair}
 use Rattle.column_order.specs.Orders.{has, occurs}
-use Rattle.column_order.proofs.Lists.{has_append_cases, has_append_left, has_append_right, occurs-append, occurs_from_has, has_from_occurs}
+use Rattle.column_order.proofs.Lists.{has_append_cases, has_append_left, has_append_right, occurs-append, occurs_from_has, has_from_occurs, has_same}
 use Rattle.pq_tree.specs.Outline.{Outline, Forest, p_node, no_tree, tree_and, leaves, leaves_of}
 use Rattle.tied_law.proofs.Bound.{IsClosed, AreClosed, IsBound, AreBound, IsPairEq, closed_through}
-use Rattle.tied_law.proofs.Frontiers.{has_same}
 use Rattle.pq_plain.specs.Templates.{star, under}
 use Rattle.pq_plain.proofs.Lines.{IsParted, closed_within, parted_closed, closed_left, closed_right, parted_bound, parted_bound_left, parted_bound_right, parted_occurs, has_parted_cases}
 use Rattle.pq_plain.proofs.BelowRoot.{AreEmpty, AreFull, closed_alike}

@@ -8,8 +8,10 @@ use Rattle.column_order.proofs.Lists.{occurs-append, occurs_from_has, has_from_o
 use Rattle.pq_tree.specs.Outline.{Outline, Forest, p_node, leaves, leaves_of}
 use Rattle.tied_law.specs.Tied.{IsForward}
 use Rattle.tied_law.proofs.Bound.{IsClosed, IsInLine, IsBound, AreBound, IsPairEq, closed_through}
-use Rattle.pq_plain.specs.Templates.{join, star}
-use Rattle.pq_plain.proofs.Lines.{IsParted, join_assoc, leaves_of-join, leaves_of-star, has_join_left, has_join_right, to_star, from_star, forward_cases, forward_right, forward_across, star_forward, bound_join, bound_left, bound_right, star_bound, star_closed, star_each, closed_within, parted_closed, closed_left, closed_right, parted_bound, parted_bound_left, parted_bound_right, parted_occurs, has_parted_cases}
+use Rattle.pq_plain.specs.Templates.{star}
+use Rattle.pq_tree.specs.Forests.{join}
+use Rattle.pq_tree.proofs.Forests.{join_assoc, leaves_of-join, has_join_left, has_join_right}
+use Rattle.pq_plain.proofs.Lines.{IsParted, leaves_of-star, to_star, from_star, forward_cases, forward_right, forward_across, star_forward, bound_join, bound_left, bound_right, star_bound, star_closed, star_each, closed_within, parted_closed, closed_left, closed_right, parted_bound, parted_bound_left, parted_bound_right, parted_occurs, has_parted_cases}
 
 -- For a column s of the row outside x: any two columns of x are related pairs with s, and s stands to an empty column of x
 -- as a full one does.

@@ -2,13 +2,12 @@
 use Rattle.std.proofs.Common.{◌≡◌, ◌∙◌, ℕ, List, IsTrue, sym, inl, inr, arith}
 use Rattle.row_model.specs.declared.graph.Pair.{Pair}
 use Rattle.column_order.specs.Orders.{has, occurs}
-use Rattle.column_order.proofs.Lists.{has_append_left, occurs-append}
+use Rattle.column_order.proofs.Lists.{has_append_left, occurs-append, has_same}
 use Rattle.pq_tree.specs.Outline.{Outline, Forest, p_node, q_node, no_tree, tree_and, leaves, leaves_of}
 use Rattle.tied_law.specs.Tied.{IsForward}
 use Rattle.tied_law.proofs.Bound.{IsClosed, AreClosed, IsInLine, IsBound, AreBound, line_closed}
-use Rattle.tied_law.proofs.Frontiers.{has_same}
-use Rattle.pq_plain.specs.Templates.{join}
-use Rattle.pq_plain.proofs.Lines.{has_join_right}
+use Rattle.pq_tree.specs.Forests.{join}
+use Rattle.pq_tree.proofs.Forests.{has_join_right}
 use Rattle.pq_plain.proofs.AtRoot.{Rooted, set_through}
 
 -- two lists of trees with a tree t in the one where the other has u

@@ -4,7 +4,8 @@ use Rattle.std.proofs.lemmas.List.{map_more, map-append, take_all}
 use Rattle.std.specs.declared.vec.Vec.{Vec}
 use Rattle.std.specs.declared.alloc.Global.{Global}
 use Rattle.pq_tree.specs.Outline.{p_node, q_node}
-use Rattle.pq_tree.specs.Proper.{outline_of, forest}
+use Rattle.pq_tree.specs.Proper.{outline_of}
+use Rattle.pq_tree.specs.Forests.{forest}
 use Rattle.pq_tree.specs.declared.Tree.{Tree, P, Q}
 use Rattle.pq_tree.proofs.Shown.{outline_of-P, outline_of-Q}
 

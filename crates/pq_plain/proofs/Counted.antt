@@ -2,11 +2,13 @@
 use Rattle.std.proofs.Common.{◌≡◌, ◌∙◌, ◌+◌, ◌≤◌, ℕ, zero, suc, List, [], ◌∷◌, ◌++◌, Some, None, map, length, refl, sym, ap, ap₂, arith, length-append}
 use Rattle.std.proofs.lemmas.List.{length-map}
 use Rattle.pq_tree.specs.Outline.{Outline, Forest, no_tree, tree_and}
-use Rattle.pq_tree.specs.Proper.{outline_of, forest, count}
+use Rattle.pq_tree.specs.Proper.{outline_of}
+use Rattle.pq_tree.specs.Forests.{forest, count, join}
 use Rattle.pq_tree.specs.declared.Tree.{Tree}
-use Rattle.pq_plain.specs.Templates.{join, star}
-use Rattle.pq_plain.specs.Labels.{Partial, Label, empty_label, full_label, partial_label, partials, empty_trees, full_trees, at_p}
-use Rattle.pq_plain.specs.Seen.{outlines, halves_seen, label_seen, empties, fulls, p_label}
+use Rattle.pq_plain.specs.Templates.{star}
+use Rattle.pq_plain.specs.Labels.{Partial, Label, empty_label, full_label, partial_label, partials, empty_trees, full_trees}
+use Rattle.pq_plain.proofs.Computed.{at_p, p_label}
+use Rattle.pq_plain.specs.Seen.{outlines, halves_seen, label_seen, empties, fulls}
 use Rattle.pq_plain.specs.declared.label.Halves.{Halves}
 use Rattle.pq_plain.specs.declared.label.Label.{Label as Marked}
 

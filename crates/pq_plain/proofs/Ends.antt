@@ -5,12 +5,13 @@ use Rattle.std.specs.Option.{option_to_list}
 use Rattle.std.proofs.lemmas.Bool.{false≢true}
 use Rattle.std.proofs.lemmas.List.{map-append, append-nil, length-map, take-map, drop-map, take-append-drop}
 use Rattle.pq_tree.specs.Outline.{Outline, q_node}
-use Rattle.pq_tree.specs.Proper.{outline_of, forest}
+use Rattle.pq_tree.specs.Proper.{outline_of}
+use Rattle.pq_tree.specs.Forests.{forest}
 use Rattle.pq_tree.specs.declared.Tree.{Tree}
 use Rattle.pq_plain.specs.Templates.{q3}
 use Rattle.pq_plain.specs.Labels.{Partial, Label, partials, first_of}
 use Rattle.pq_plain.specs.Seen.{outlines, halves_seen}
-use Rattle.pq_plain.specs.AtRoot.{span_seen, PartialsAt, q_made}
+use Rattle.pq_plain.specs.AtRoot.{PartialsAt, q_made}
 use Rattle.pq_plain.specs.declared.label.Halves.{Halves}
 use Rattle.pq_plain.specs.declared.at_root.Span.{Span as Places}
 use Rattle.pq_plain.proofs.Marks.{partials_append}
@@ -70,7 +71,7 @@ module _ (ts : List Tree) (ps : List Label) (s : Places) (at : PartialsAt ps s) 
 
       pub replaced : (u : Outline) (es fs gs us : List Tree) → u ≡ q_node (q3 (outlines es) (option_map halves_seen first) (outlines fs) (option_map halves_seen second) (outlines gs)) →
           map outline_of es ≡ map outline_of (take s.before ts) → map outline_of fs ≡ map outline_of (take (s.full_to - s.full_from) (drop s.full_from ts)) →
-          map outline_of gs ≡ map outline_of us → us ≡ drop s.behind ts → u ≡ q_made (span_seen (map outline_of ts) ps s)
+          map outline_of gs ≡ map outline_of us → us ≡ drop s.behind ts → u ≡ q_made (map outline_of ts) ps s
       replaced u es fs gs us is e f g k =
           let a : outlines es ≡ forest (take s.before (map outline_of ts)) = ap forest (e ∙ sym (take-map outline_of s.before ts)) in
           let b : outlines fs ≡ forest (take (s.full_to - s.full_from) (drop s.full_from (map outline_of ts))) =

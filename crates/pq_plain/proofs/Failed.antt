@@ -1,23 +1,27 @@
 -- Where no template fits at a node below the pertinent root, some pair is related to itself with its columns exchanged.
-use Rattle.std.proofs.Common.{◌≡◌, ◌≢◌, ◌⊎◌, ◌∙◌, ◌+◌, ◌≤◌, ℕ, Bool, true, false, cond, List, [], ◌∷◌, ◌++◌, reverse, Option, Some, None, IsTrue, IsFalse, refl, sym, subst, inl, inr, arith, option_and_then}
+use Rattle.std.proofs.Common.{◌≡◌, ◌≢◌, ◌⊎◌, ◌∙◌, ◌+◌, ◌≤◌, ℕ, Bool, true, false, cond, List, [], ◌∷◌, ◌++◌, reverse, Option, Some, None, IsTrue, IsFalse, refl, sym, subst, inl, inr, arith, option_and_then, length}
 use Rattle.std.proofs.lemmas.Bool.{both_ways, false_from_ne_true}
 use Rattle.row_model.specs.declared.graph.Pair.{Pair}
 use Rattle.column_order.specs.Orders.{has, occurs}
 use Rattle.row_model.specs.Graph.{pair}
-use Rattle.column_order.proofs.Lists.{has_append_left, has_append_right, occurs-append, occurs_from_has, has_from_occurs, lacks_from_occurs}
+use Rattle.column_order.proofs.Lists.{has_append_left, has_append_right, occurs-append, occurs_from_has, has_from_occurs, lacks_from_occurs, has_same}
 use Rattle.pq_tree.specs.Outline.{Outline, Forest, leaf, p_node, q_node, no_tree, tree_and, leaves, leaves_of}
 use Rattle.pq_tree.specs.Proper.{HasArities, HaveArities}
 use Rattle.tied_law.specs.Tied.{IsForward}
 use Rattle.tied_law.proofs.Bound.{IsClosed, AreClosed, IsBound, AreBound, IsPairEq}
-use Rattle.tied_law.proofs.Frontiers.{has_same}
-use Rattle.pq_plain.specs.Templates.{join, back}
-use Rattle.pq_plain.specs.Labels.{Partial, Label, empty_trees, full_trees, partials, at_p, at_q, at_run, Run, run_of, all_full, one_more, label_of, labels_of, first_some}
-use Rattle.pq_plain.proofs.Lines.{has_join_left, has_join_right, parted_occurs, closed_right}
+use Rattle.pq_tree.specs.Forests.{join, back, count}
+use Rattle.pq_tree.proofs.Forests.{has_join_left, has_join_right, some_leaf, arities_back}
+use Rattle.pq_plain.specs.Labels.{Partial, Label, empty_trees, full_trees, partials}
+use Rattle.pq_plain.proofs.Computed.{at_p, at_q, at_run, Run, run_of, all_full, one_more, first_some, p_label, q_label}
+use Rattle.pq_plain.specs.Reduced.{AreLabels}
+use Rattle.pq_plain.specs.Refused.{IsUnfit}
+use Rattle.pq_tree.specs.Nodes.{IsNode, IsNodeOf}
+use Rattle.pq_plain.proofs.Lines.{parted_occurs, closed_right}
 use Rattle.pq_plain.proofs.BelowRoot.{IsOutside, Treated, outside_within}
 use Rattle.pq_plain.proofs.QLines.{forward_back}
 use Rattle.pq_plain.proofs.Conflicts.{two_partial, both_ends}
-use Rattle.pq_plain.proofs.Labelled.{labels_right, labels_sorted}
-use Rattle.pq_plain.proofs.HaveColumns.{some_leaf, arities_back}
+use Rattle.pq_plain.proofs.NodeTemplates.{sort, p_label_some, q_label_some}
+use Rattle.pq_plain.proofs.Sound.{labels_sound}
 use Rattle.pq_plain.proofs.Meaning.{labelled_empty, labelled_full, labelled_partial, AreLabelled, none_labelled, more_labelled, ArePartial, no_partial, a_partial, labelled_back, parts}
 
 -- a pair of distinct columns that is related to itself with its columns exchanged
@@ -38,6 +42,17 @@ first_none None k e = (refl, e)
 pub cond_none : {X : Type 0} (b : Bool) (x : X) → cond b (Some x) None ≡ None → IsFalse b
 cond_none true x e = cc
 cond_none false x e = refl
+
+pub no_value : {X : Type 0} (o : Option X) → ((x : X) → o ≡ Some x → ⊥) → o ≡ None
+no_value None h = refl
+no_value (Some x) h = absurd (h x refl)
+
+-- each tree has one label
+pub labels_long : (row : List ℕ) (ts : Forest) (ps : List Label) → AreLabels row ts ps → length ps ≡ count ts
+labels_long row no_tree [] h = refl
+labels_long row no_tree (x ∷ ps) h = absurd h
+labels_long row (tree_and t ts) [] h = absurd h
+labels_long row (tree_and t ts) (x ∷ ps) h = omega (arith, labels_long row ts ps h.1)
 
 at_run_some : (r : Run) (hs : List Partial) (es fs : Forest) → at_q hs es fs ≡ None → ⊥
 at_run_some r [] no_tree fs e = cc
@@ -145,53 +160,58 @@ module _ (R : Pair → Pair → Type 0) (eq : IsPairEq R) (row : List ℕ) where
         all_outside l s rs ls o cr ts (λ a k. sub a (has_append_right (leaves t) (leaves_of ts) a k)),
       )
 
-  some_none : (ps : List Label) → Some ps ≡ None → Crossed R
-  some_none ps e = cc
+  -- no template fits at the node itself
+  p_failed : (ts : Forest) (s : ℕ) → IsOutside R row (leaves_of ts) s → IsClosed R (leaves_of ts) row → IsBound R (p_node ts) → HaveArities ts → ((a : ℕ) → occurs (leaves_of ts) a ≤ 1) → IsUnfit row (p_node ts) → Crossed R
+  p_failed ts s o cr b n once h =
+      let m : AreLabelled row ts h.0 = labels_sound row ts h.0 n once h.1 in
+      let long : length h.0 ≡ count ts = labels_long row ts h.0 h.1 in
+      let g = parts row (sort ts h.0 long) m in
+      two_partials ts g.us (partials h.0) (empty_trees ts h.0) (full_trees ts h.0) s g.partial
+      (closed_right R (leaves_of ts) g.second (closed_right R (leaves_of ts) g.first b.0))
+      (λ a l. has_from_occurs (leaves_of ts) a (omega (arith, parted_occurs g.first a, parted_occurs g.second a, occurs_from_has (leaves_of g.us) a l)))
+      (λ a. omega (arith, once a, parted_occurs g.first a, parted_occurs g.second a)) cr o
+      (no_value (p_label ts h.0) (λ x e. h.2 x (p_label_some ts h.0 x long e)))
+
+  q_failed : (ts : Forest) (s : ℕ) → IsTrue (has row s) → IsOutside R row (leaves_of ts) s → IsBound R (q_node ts) → HaveArities ts → ((a : ℕ) → occurs (leaves_of ts) a ≤ 1) → IsUnfit row (q_node ts) → Crossed R
+  q_failed ts s rs o b n once h =
+      let m : AreLabelled row ts h.0 = labels_sound row ts h.0 n once h.1 in
+      let long : length h.0 ≡ count ts = labels_long row ts h.0 h.1 in
+      let both : (option_and_then at_run (run_of ts h.0) ≡ None) × (option_and_then at_run (run_of (back ts) (reverse h.0)) ≡ None) =
+      first_none (option_and_then at_run (run_of ts h.0)) (option_and_then at_run (run_of (back ts) (reverse h.0)))
+      (no_value (q_label ts h.0) (λ x e. h.2 x (q_label_some ts h.0 x long e))) in
+      let x : Falls row ts = run_falls row ts h.0 m n (no_run (run_of ts h.0) both.0) in
+      let y : Falls row (back ts) = run_falls row (back ts) (reverse h.0) (labelled_back row ts h.0 m) (arities_back ts n) (no_run (run_of (back ts) (reverse h.0)) both.1) in
+      let yf : IsForward ts (pair y.v.b y.v.a) = forward_back ts y.v y.forward in
+      record {
+        a = y.v.b;
+        b = s;
+        differ = λ z. both_ways (has row s) (subst (λ j. IsFalse (has row j)) z y.to_empty) rs;
+        turned =
+            both_ends R eq row ts s b.0 o y.v.b y.v.a x.v.a x.v.b yf x.forward y.to_empty y.from_full x.from_full x.to_empty
+            (forward_first ts (pair y.v.b y.v.a) yf) (forward_second ts (pair y.v.b y.v.a) yf) (forward_first ts x.v x.forward) (forward_second ts x.v x.forward);
+      }
 
   mutual
     -- Below the pertinent root: no template fits at some node.
-    pub label_failed : (t : Outline) (s : ℕ) → IsTrue (has row s) → IsFalse (has (leaves t) s) → IsOutside R row (leaves t) s → IsClosed R (leaves t) row → IsBound R t → HasArities t →
-        ((a : ℕ) → occurs (leaves t) a ≤ 1) → label_of row t ≡ None → Crossed R
-    label_failed (leaf a) s rs ls o cr b n once e = cc
-    label_failed (p_node ts) s rs ls o cr b n once e =
-        elim (and_then_none (λ ps. at_p (partials ps) (empty_trees ts ps) (full_trees ts ps)) (labels_of row ts) e) [
-          | inl k ↦ labels_failed ts (all_outside (leaves_of ts) s rs ls o cr ts (λ a h. h)) b.1 n.1 once k
-          | inr k ↦
-              let m : AreLabelled row ts k.0 = labels_right row ts k.0 n.1 once k.1 in
-              let g = parts row (labels_sorted row ts k.0 k.1) m in
-              two_partials ts g.us (partials k.0) (empty_trees ts k.0) (full_trees ts k.0) s g.partial
-              (closed_right R (leaves_of ts) g.second (closed_right R (leaves_of ts) g.first b.0))
-              (λ a l. has_from_occurs (leaves_of ts) a (omega (arith, parted_occurs g.first a, parted_occurs g.second a, occurs_from_has (leaves_of g.us) a l)))
-              (λ a. omega (arith, once a, parted_occurs g.first a, parted_occurs g.second a)) cr o k.2
+    pub label_failed : (t z : Outline) (s : ℕ) → IsTrue (has row s) → IsFalse (has (leaves t) s) → IsOutside R row (leaves t) s → IsClosed R (leaves t) row → IsBound R t → HasArities t →
+        ((a : ℕ) → occurs (leaves t) a ≤ 1) → IsNode z t → IsUnfit row z → Crossed R
+    label_failed (leaf a) z s rs ls o cr b n once k h = absurd (subst (IsUnfit row) k h)
+    label_failed (p_node ts) z s rs ls o cr b n once k h =
+        elim k [
+          | inl e ↦ p_failed ts s o cr b n.1 once (subst (IsUnfit row) e h)
+          | inr j ↦ labels_failed ts z (all_outside (leaves_of ts) s rs ls o cr ts (λ a h. h)) b.1 n.1 once j h
         ]
-    label_failed (q_node ts) s rs ls o cr b n once e =
-        elim (and_then_none (λ ps. first_some (option_and_then at_run (run_of ts ps)) (option_and_then at_run (run_of (back ts) (reverse ps)))) (labels_of row ts) e) [
-          | inl k ↦ labels_failed ts (all_outside (leaves_of ts) s rs ls o cr ts (λ a h. h)) b.1 n.1 once k
-          | inr k ↦
-              let m : AreLabelled row ts k.0 = labels_right row ts k.0 n.1 once k.1 in
-              let both : (option_and_then at_run (run_of ts k.0) ≡ None) × (option_and_then at_run (run_of (back ts) (reverse k.0)) ≡ None) =
-              first_none (option_and_then at_run (run_of ts k.0)) (option_and_then at_run (run_of (back ts) (reverse k.0))) k.2 in
-              let x : Falls row ts = run_falls row ts k.0 m n.1 (no_run (run_of ts k.0) both.0) in
-              let y : Falls row (back ts) = run_falls row (back ts) (reverse k.0) (labelled_back row ts k.0 m) (arities_back ts n.1) (no_run (run_of (back ts) (reverse k.0)) both.1) in
-              let yf : IsForward ts (pair y.v.b y.v.a) = forward_back ts y.v y.forward in
-              record {
-                a = y.v.b;
-                b = s;
-                differ = λ z. both_ways (has row s) (subst (λ j. IsFalse (has row j)) z y.to_empty) rs;
-                turned =
-                    both_ends R eq row ts s b.0 o y.v.b y.v.a x.v.a x.v.b yf x.forward y.to_empty y.from_full x.from_full x.to_empty
-                    (forward_first ts (pair y.v.b y.v.a) yf) (forward_second ts (pair y.v.b y.v.a) yf) (forward_first ts x.v x.forward) (forward_second ts x.v x.forward);
-              }
+    label_failed (q_node ts) z s rs ls o cr b n once k h =
+        elim k [
+          | inl e ↦ q_failed ts s rs o b n.1 once (subst (IsUnfit row) e h)
+          | inr j ↦ labels_failed ts z (all_outside (leaves_of ts) s rs ls o cr ts (λ a h. h)) b.1 n.1 once j h
         ]
 
-    pub labels_failed : (ts : Forest) → AllOutside ts → AreBound R ts → HaveArities ts → ((a : ℕ) → occurs (leaves_of ts) a ≤ 1) → labels_of row ts ≡ None → Crossed R
-    labels_failed no_tree o b n once e = cc
-    labels_failed (tree_and t ts) o b n once e =
+    pub labels_failed : (ts : Forest) (z : Outline) → AllOutside ts → AreBound R ts → HaveArities ts → ((a : ℕ) → occurs (leaves_of ts) a ≤ 1) → IsNodeOf z ts → IsUnfit row z → Crossed R
+    labels_failed no_tree z o b n once k h = absurd k
+    labels_failed (tree_and t ts) z o b n once k h =
         let sum : (a : ℕ) → occurs (leaves t ++ leaves_of ts) a ≤ 1 = once in
-        elim (and_then_none (λ x. option_and_then (λ ps. Some (x ∷ ps)) (labels_of row ts)) (label_of row t) e) [
-          | inl k ↦ label_failed t o.0.0 o.0.1 o.0.2 o.0.3 o.1 b.0 n.0 (λ a. omega (arith, sum a, occurs-append (leaves t) (leaves_of ts) a)) k
-          | inr k ↦ elim (and_then_none (λ ps. Some (k.0 ∷ ps)) (labels_of row ts) k.2) [
-            | inl j ↦ labels_failed ts o.2 b.1 n.1 (λ a. omega (arith, sum a, occurs-append (leaves t) (leaves_of ts) a)) j
-            | inr j ↦ some_none (k.0 ∷ j.0) j.2
-          ]
+        elim k [
+          | inl j ↦ label_failed t z o.0.0 o.0.1 o.0.2 o.0.3 o.1 b.0 n.0 (λ a. omega (arith, sum a, occurs-append (leaves t) (leaves_of ts) a)) j h
+          | inr j ↦ labels_failed ts z o.2 b.1 n.1 (λ a. omega (arith, sum a, occurs-append (leaves t) (leaves_of ts) a)) j h
         ]

@@ -1,13 +1,16 @@
 -- Joined lists of trees, and the pairs that go forward in them.
-use Rattle.std.proofs.Common.{◌≡◌, ◌⊎◌, ◌∙◌, ◌+◌, ℕ, false, List, [], ◌++◌, IsTrue, refl, sym, ap, inl, inr, arith, append_assoc, append-nil}
+use Rattle.std.proofs.Common.{◌≡◌, ◌⊎◌, ◌+◌, ℕ, false, List, [], ◌++◌, IsTrue, refl, ap, inl, inr, arith, append-nil}
 use Rattle.std.proofs.lemmas.Bool.{both_ways}
 use Rattle.row_model.specs.declared.graph.Pair.{Pair}
 use Rattle.column_order.specs.Orders.{has, occurs}
 use Rattle.column_order.proofs.Lists.{has_append_cases, has_append_left, has_append_right, occurs-append}
 use Rattle.pq_tree.specs.Outline.{Outline, Forest, p_node, no_tree, tree_and, leaves, leaves_of}
+use Rattle.pq_tree.specs.Proper.{HaveArities}
 use Rattle.tied_law.specs.Tied.{IsForward}
 use Rattle.tied_law.proofs.Bound.{AreClosed, AreBound}
-use Rattle.pq_plain.specs.Templates.{join, star}
+use Rattle.pq_plain.specs.Templates.{star}
+use Rattle.pq_tree.specs.Forests.{join}
+use Rattle.pq_tree.proofs.Forests.{has_join_cases, has_join_left, has_join_right}
 
 -- the first list is an interleaving of the two others
 pub data IsParted : Forest → Forest → Forest → Type 0 where
@@ -19,28 +22,10 @@ pub parted_end : {ts us : Forest} → IsParted ts us no_tree → ts ≡ us
 parted_end none_parted = refl
 parted_end (to_left {t = t} r) = ap (tree_and t) (parted_end r)
 
-pub leaves_of-join : (xs ys : Forest) → leaves_of (join xs ys) ≡ leaves_of xs ++ leaves_of ys
-leaves_of-join no_tree ys = refl
-leaves_of-join (tree_and t ts) ys = ap (λ l. leaves t ++ l) (leaves_of-join ts ys) ∙ sym (append_assoc (leaves t) (leaves_of ts) (leaves_of ys))
-
 pub leaves_of-star : (xs : Forest) → leaves_of (star xs) ≡ leaves_of xs
 leaves_of-star no_tree = refl
 leaves_of-star (tree_and t no_tree) = refl
 leaves_of-star (tree_and t (tree_and u us)) = append-nil (leaves t ++ (leaves u ++ leaves_of us))
-
-pub join_assoc : (xs ys zs : Forest) → join (join xs ys) zs ≡ join xs (join ys zs)
-join_assoc no_tree ys zs = refl
-join_assoc (tree_and t ts) ys zs = ap (tree_and t) (join_assoc ts ys zs)
-
--- a column of a join
-pub has_join_cases : (xs ys : Forest) (a : ℕ) → IsTrue (has (leaves_of (join xs ys)) a) → IsTrue (has (leaves_of xs) a) ⊎ IsTrue (has (leaves_of ys) a)
-has_join_cases xs ys a h = has_append_cases (leaves_of xs) (leaves_of ys) a (rw leaves_of-join at h)
-
-pub has_join_left : (xs ys : Forest) (a : ℕ) → IsTrue (has (leaves_of xs) a) → IsTrue (has (leaves_of (join xs ys)) a)
-has_join_left xs ys a h = rw leaves_of-join (has_append_left (leaves_of xs) (leaves_of ys) a h)
-
-pub has_join_right : (xs ys : Forest) (a : ℕ) → IsTrue (has (leaves_of ys) a) → IsTrue (has (leaves_of (join xs ys)) a)
-has_join_right xs ys a h = rw leaves_of-join (has_append_right (leaves_of xs) (leaves_of ys) a h)
 
 pub to_star : (xs : Forest) (a : ℕ) → IsTrue (has (leaves_of xs) a) → IsTrue (has (leaves_of (star xs)) a)
 to_star xs a h = rw leaves_of-star h
@@ -174,3 +159,14 @@ has_parted_cases (to_right {t = t} {ts = ts} {vs = vs} r) a h =
       | inl k ↦ inr (has_append_left (leaves t) (leaves_of vs) a k)
       | inr k ↦ elim (has_parted_cases r a k) [ inl l ↦ inl l | inr l ↦ inr (has_append_right (leaves t) (leaves_of vs) a l) ]
     ]
+
+-- the arities of the two parts of an interleaving
+pub arities_left : {ts us vs : Forest} → IsParted ts us vs → HaveArities ts → HaveArities us
+arities_left none_parted h = tt
+arities_left (to_left r) h = (h.0, arities_left r h.1)
+arities_left (to_right r) h = arities_left r h.1
+
+pub arities_right : {ts us vs : Forest} → IsParted ts us vs → HaveArities ts → HaveArities vs
+arities_right none_parted h = tt
+arities_right (to_left r) h = arities_right r h.1
+arities_right (to_right r) h = (h.0, arities_right r h.1)

@@ -1,9 +1,13 @@
 -- Lists of labels, one label more at a time.
 use Rattle.std.proofs.Common.{◌≡◌, ◌∙◌, ◌+◌, ◌<◌, ◌≤◌, ℕ, List, [], ◌∷◌, ◌++◌, map, take, length, get_or, refl, sym, ap, arith, length-append}
-use Rattle.std.proofs.lemmas.List.{map_more}
+use Rattle.std.proofs.lemmas.List.{map_more, length-map}
 use Rattle.pq_plain.specs.Labels.{Label, empty_label, full_label, partial_label, partials}
-use Rattle.pq_plain.specs.Seen.{label_seen, empties, fulls}
+use Rattle.pq_plain.specs.Seen.{outlines, label_seen, empties, fulls}
 use Rattle.pq_plain.specs.declared.label.Label.{Label as Marked}
+use Rattle.pq_tree.specs.Forests.{count}
+use Rattle.pq_tree.specs.Proper.{outline_of}
+use Rattle.pq_tree.specs.declared.Tree.{Tree}
+use Rattle.pq_tree.proofs.Forests.{count_forest}
 
 empties_push : (ps : List Label) (p : Label) → empties (ps ++ p ∷ []) ≡ empties ps + empties (p ∷ [])
 empties_push [] p = omega arith
@@ -75,3 +79,7 @@ partials_more xs i m n x h r e k = (
       sym (ap (λ ps. length (partials ps)) (map_more label_seen xs i x h)),
   omega (arith, k, one_partial (label_seen x)),
 )
+
+-- as many labels as trees
+pub marks_long : (ts : List Tree) (ls : List Marked) → length ls ≡ length ts → length (map label_seen ls) ≡ count (outlines ts)
+marks_long ts ls n = length-map ls label_seen ∙ n ∙ sym (length-map ts outline_of) ∙ sym (count_forest (map outline_of ts))

@@ -5,7 +5,8 @@ use Rattle.std.proofs.lemmas.List.{reverse-append}
 use Rattle.column_order.specs.Orders.{has}
 use Rattle.column_order.proofs.Lists.{has_append_cases}
 use Rattle.pq_tree.specs.Outline.{Outline, Forest, no_tree, tree_and, leaves, leaves_of}
-use Rattle.pq_plain.specs.Templates.{Partial, Label, empty_label, full_label, partial_label, join, back, IsSorted, none_sorted, to_empty, to_full, to_partial, IsRun, run_full, run_partial, run_more, IsTail, tail_empty, tail_partial, tail_more, IsSpan, span_tail, span_partial, span_more}
+use Rattle.pq_plain.specs.Templates.{Partial, Label, empty_label, full_label, partial_label, IsSorted, none_sorted, to_empty, to_full, to_partial, IsRun, run_full, run_partial, run_more, IsTail, tail_empty, tail_partial, tail_more, IsSpan, span_tail, span_partial, span_more}
+use Rattle.pq_tree.specs.Forests.{join, back}
 use Rattle.pq_plain.proofs.Lines.{IsParted, none_parted, to_left, to_right}
 use Rattle.pq_plain.proofs.BelowRoot.{IsEmpty, IsFull, AreEmpty, AreFull, Treated}
 

@@ -1,28 +1,34 @@
 -- Where no template fits, some pair is related to itself with its columns exchanged, so no order is left.
-use Rattle.std.proofs.Common.{◌≡◌, ◌⊎◌, ◌∙◌, ◌+◌, ◌≤◌, ℕ, true, false, cond, List, [], ◌∷◌, ◌++◌, Option, Some, None, IsTrue, IsFalse, refl, sym, ap, subst, inl, inr, arith, option_and_then}
-use Rattle.std.proofs.lemmas.Bool.{both_ways, cases_Bool}
+use Rattle.std.proofs.Common.{◌≡◌, ◌∙◌, ◌+◌, ◌≤◌, ℕ, true, false, List, [], ◌∷◌, ◌++◌, length, Some, None, IsTrue, IsFalse, refl, sym, ap, subst, inl, inr, arith}
+use Rattle.std.proofs.lemmas.Bool.{both_ways}
 use Rattle.row_model.specs.declared.graph.Pair.{Pair}
-use Rattle.column_order.specs.Orders.{has, occurs, IsOrder}
+use Rattle.column_order.specs.Orders.{has, occurs}
 use Rattle.row_model.specs.Graph.{pair, Joined, Evenly, HasConflict}
 use Rattle.column_order.proofs.Lists.{has_append_cases, has_append_left, has_append_right, occurs-append, occurs_from_has, has_from_occurs, lacks_from_occurs}
 use Rattle.pq_tree.specs.Outline.{Outline, Forest, leaf, p_node, q_node, no_tree, tree_and, leaves, leaves_of}
-use Rattle.pq_tree.specs.Proper.{HasArities, HaveArities}
+use Rattle.pq_tree.specs.Proper.{HasArities, HaveArities, IsProper}
 use Rattle.tied_law.specs.Tied.{IsForward, IsTied}
 use Rattle.tied_law.proofs.Bound.{IsClosed, AreClosed, IsBound, AreBound, IsPairEq, line_closed, bound_mono}
 use Rattle.tied_law.proofs.Bridge.{evenly_eq, last_row_closed}
-use Rattle.tied_law.proofs.Exact.{order_once, tied_bound}
+use Rattle.tied_law.proofs.Exact.{tied_bound}
+use Rattle.column_order.proofs.Counts.{order_once}
+use Rattle.pq_tree.specs.Forests.{join, count}
+use Rattle.pq_tree.specs.Nodes.{IsNode, IsNodeOf}
+use Rattle.pq_tree.proofs.Forests.{has_join_cases, some_leaf}
 use Rattle.row_model.proofs.Walks.{joined-append, conflict_from, evenly-mono}
-use Rattle.pq_plain.specs.Templates.{join}
-use Rattle.pq_plain.specs.Labels.{Partial, Label, empty_trees, full_trees, partials, first_of, labels_of}
-use Rattle.pq_plain.specs.Reduce.{holds, root_p, Tail, Span, all_empty, full_more, before_more, begins, tail_of, span_of, root_q, at_span, inner_or, put, behind_of, reduce, inner}
-use Rattle.pq_plain.proofs.Lines.{has_join_cases, IsParted, parted_occurs, has_parted_cases, closed_right}
+use Rattle.pq_plain.specs.Labels.{Partial, Label, empty_trees, full_trees, partials, first_of}
+use Rattle.pq_plain.proofs.Computed.{root_p, Tail, Span, all_empty, full_more, before_more, begins, tail_of, span_of, root_q, at_span, p_outcome, q_outcome}
+use Rattle.pq_plain.proofs.Lines.{IsParted, parted_occurs, has_parted_cases, closed_right}
 use Rattle.pq_plain.proofs.BelowRoot.{AreEmpty, AreFull}
 use Rattle.pq_plain.proofs.Conflicts.{three_partial, hole}
-use Rattle.pq_plain.proofs.Labelled.{labels_right, labels_sorted}
-use Rattle.pq_plain.proofs.Reduced.{all_held, span_is, inner_none}
-use Rattle.pq_plain.proofs.Failed.{Crossed, and_then_none, cond_none, AllOutside, labels_failed, in_left, in_right, forward_first}
-use Rattle.pq_plain.proofs.HaveColumns.{some_leaf}
+use Rattle.pq_plain.proofs.NodeTemplates.{sort}
+use Rattle.pq_plain.proofs.RootTemplates.{span_is, p_outcome_some, q_outcome_some}
+use Rattle.pq_plain.proofs.Failed.{Crossed, and_then_none, no_value, labels_long, cond_none, AllOutside, labels_failed, in_left, in_right, forward_first}
 use Rattle.pq_plain.proofs.Meaning.{labelled_empty, labelled_full, labelled_partial, AreLabelled, none_labelled, more_labelled, ArePartial, no_partial, a_partial, IsAtMostOne, no_such, one_such, Misses, AllMiss, IsRoot, miss_right, miss_after, SpanParts, span_parts, parts}
+use Rattle.pq_plain.proofs.Sound.{labels_sound, lowest_root_p, lowest_root_q, node_arities, node_occurs}
+use Rattle.pq_plain.specs.Refused.{IsUnfitRoot, IsStuck, IsRefused}
+use Rattle.pq_plain.specs.Found.{IsLowest}
+use Rattle.pq_tree.proofs.Nodes.{node_within}
 
 some_full_column : (row : List ℕ) (ts : Forest) (ps : List Label) → AreLabelled row ts ps → HaveArities ts → IsFalse (all_empty ps) → (g : ℕ) × IsTrue (has (leaves_of ts) g) × IsTrue (has row g)
 some_full_column row ts ps none_labelled c e = absurd (both_ways true e refl)
@@ -103,23 +109,6 @@ span_hole row ts ps (more_labelled {t = t} {ts = us} {ps = qs} (labelled_partial
   where
     some_none : (r : Span) → Some r ≡ None → HasHole row (tree_and t us)
     some_none r x = cc
-
-inner_or_none : (o : Option (Option Forest)) (f : Forest → Outline) (k : Option Outline) → inner_or o f k ≡ None → (o ≡ Some None) ⊎ ((o ≡ None) × (k ≡ None))
-inner_or_none None f k e = inr (refl, e)
-inner_or_none (Some None) f k e = inl refl
-inner_or_none (Some (Some us)) f k e = cc
-
-some_none_plan : (R : Pair → Pair → Type 0) (x : Outline) → Some x ≡ None → Crossed R
-some_none_plan R x e = cc
-
-put_none : (ts : Forest) (o : Option Outline) → Some (put ts o) ≡ Some None → o ≡ None
-put_none ts None e = refl
-put_none ts (Some u) e = cc
-
-behind_failed : (t : Outline) (o : Option (Option Forest)) → behind_of t o ≡ Some None → o ≡ Some None
-behind_failed t None e = cc
-behind_failed t (Some None) e = refl
-behind_failed t (Some (Some us)) e = cc
 
 module _ (row : List ℕ) where
   -- the pertinent root's only child that meets the row would hold it
@@ -224,73 +213,79 @@ module _ (R : Pair → Pair → Type 0) (eq : IsPairEq R) (row : List ℕ) where
             (iu part.some_empty.0 e1) (iu part.some_full.0 f1) (iw part2.some_empty.0 e2) (iw part2.some_full.0 f2) (iz part3.some_empty.0 e3) (iz part3.some_full.0 f3) u2 u3 w1 w3 z1 z2;
       }
 
-  mutual
-    -- Where no template fits at some node, a pair is related to itself with its columns exchanged.
-    pub reduce_failed : (t : Outline) → IsBound R t → IsClosed R (leaves t) row → HasArities t → ((a : ℕ) → occurs (leaves t) a ≤ 1) → ((a : ℕ) → IsTrue (has row a) → IsTrue (has (leaves t) a)) →
-        (c : ℕ) → IsTrue (has row c) → reduce row t ≡ None → Crossed R
-    reduce_failed (leaf a) b cr n once within c hc e = cc
-    reduce_failed (p_node ts) b cr n once within c hc e =
-        elim (inner_or_none (inner row ts) p_node (option_and_then (λ ps. root_p (partials ps) (empty_trees ts ps) (full_trees ts ps) ts) (labels_of row ts)) e) [
-          | inl k ↦ inner_failed ts b.1 (leaves_of ts) cr (λ a h. h) n.1 once c hc k
-          | inr k ↦
-              let ms : AllMiss row ts = inner_none row ts k.0 in
-              elim (and_then_none (λ ps. root_p (partials ps) (empty_trees ts ps) (full_trees ts ps) ts) (labels_of row ts) k.1) [
-                | inl j ↦ labels_failed R eq row ts (outsides (leaves_of ts) ts b.0 cr (λ a h. h) within ms) b.1 n.1 once j
-                | inr j ↦
-                    let m : AreLabelled row ts j.0 = labels_right row ts j.0 n.1 once j.1 in
-                    let g = parts row (labels_sorted row ts j.0 j.1) m in
-                    root_p_failed ts (empty_trees ts j.0) g.rest (full_trees ts j.0) g.us (partials j.0) g.first g.second g.empty g.full g.partial
-                    (closed_right R (leaves_of ts) g.second (closed_right R (leaves_of ts) g.first b.0)) (miss_right row g.second (miss_right row g.first ms)) cr once within c hc j.2
-              ]
-        ]
-    reduce_failed (q_node ts) b cr n once within c hc e =
-        elim (inner_or_none (inner row ts) q_node (option_and_then (λ ps. option_and_then (at_span ts) (span_of ts ps)) (labels_of row ts)) e) [
-          | inl k ↦ inner_failed ts b.1 (leaves_of ts) cr (λ a h. h) n.1 once c hc k
-          | inr k ↦
-              let ms : AllMiss row ts = inner_none row ts k.0 in
-              elim (and_then_none (λ ps. option_and_then (at_span ts) (span_of ts ps)) (labels_of row ts) k.1) [
-                | inl j ↦ labels_failed R eq row ts (outsides (leaves_of ts) ts (line_closed R eq ts b.0) cr (λ a h. h) within ms) b.1 n.1 once j
-                | inr j ↦
-                    let m : AreLabelled row ts j.0 = labels_right row ts j.0 n.1 once j.1 in
-                    elim (and_then_none (at_span ts) (span_of ts j.0) j.2) [
-                      | inl i ↦
-                          let x : HasHole row ts = span_hole row ts j.0 m n.1 i in
-                          record {
-                            a = x.up.v.a;
-                            b = x.up.v.b;
-                            differ = λ z. both_ways (has row x.up.v.b) (subst (λ y. IsFalse (has row y)) z x.up.from_empty) x.up.to_full;
-                            turned =
-                                hole R eq row ts b.0 cr x.f x.up.v.a x.up.v.b x.before x.up.forward x.full x.up.to_full x.up.from_empty (forward_first ts x.up.v x.up.forward);
-                          }
-                      | inr i ↦ absurd (
-                          root_q_failed row i.0.left i.0.tail.right i.0.tail.middle i.0.before i.0.tail.behind ts
-                          (span_parts row (span_is ts j.0 i.0 (labels_sorted row ts j.0 j.1) i.1) m) (record { within = within; lowest = ms }) i.2
-                          )
-                    ]
-              ]
-        ]
+  -- the row has a column, since a child of the pertinent root lacks one
+  some_column : (ts : Forest) → 1 ≤ count ts → AllMiss row ts → (c : ℕ) × IsTrue (has row c)
+  some_column no_tree n ms = absurd (omega arith)
+  some_column (tree_and t ts) n ms = (ms.0.0, ms.0.1)
 
-    pub inner_failed : (ts : Forest) → AreBound R ts → (l : List ℕ) → IsClosed R l row → ((a : ℕ) → IsTrue (has (leaves_of ts) a) → IsTrue (has l a)) → HaveArities ts → ((a : ℕ) → occurs (leaves_of ts) a ≤ 1) →
-        (c : ℕ) → IsTrue (has row c) → inner row ts ≡ Some None → Crossed R
-    inner_failed no_tree b l cr sub n once c hc e = cc
-    inner_failed (tree_and t ts) b l cr sub n once c hc e =
-        let sum : (a : ℕ) → occurs (leaves t ++ leaves_of ts) a ≤ 1 = once in
-        elim (cases_Bool (holds row t)) [
-          | inl k ↦
-              reduce_failed t b.0 (λ a d x i j g v. cr a d x i j (sub x (has_append_left (leaves t) (leaves_of ts) x g)) v) n.0
-              (λ a. omega (arith, sum a, occurs-append (leaves t) (leaves_of ts) a)) (all_held (leaves t) row k) c hc
-              (put_none ts (reduce row t) (ap (λ b. cond b (Some (put ts (reduce row t))) (behind_of t (inner row ts))) (sym k) ∙ e))
-          | inr k ↦
-              inner_failed ts b.1 l cr (λ a h. sub a (has_append_right (leaves t) (leaves_of ts) a h)) n.1 (λ a. omega (arith, sum a, occurs-append (leaves t) (leaves_of ts) a)) c hc
-              (behind_failed t (inner row ts) (ap (λ b. cond b (Some (put ts (reduce row t))) (behind_of t (inner row ts))) (sym k) ∙ e))
-        ]
+  -- no template fits at the pertinent root
+  p_root_failed : (ts : Forest) → IsBound R (p_node ts) → IsClosed R (leaves_of ts) row → HasArities (p_node ts) → ((a : ℕ) → occurs (leaves_of ts) a ≤ 1) → IsRoot row ts → IsUnfitRoot row (p_node ts) → Crossed R
+  p_root_failed ts b cr n once root h =
+      let m : AreLabelled row ts h.0 = labels_sound row ts h.0 n.1 once h.1 in
+      let long : length h.0 ≡ count ts = labels_long row ts h.0 h.1 in
+      let g = parts row (sort ts h.0 long) m in
+      let c : (c : ℕ) × IsTrue (has row c) = some_column ts (omega (arith, n.0)) root.lowest in
+      root_p_failed ts (empty_trees ts h.0) g.rest (full_trees ts h.0) g.us (partials h.0) g.first g.second g.empty g.full g.partial
+      (closed_right R (leaves_of ts) g.second (closed_right R (leaves_of ts) g.first b.0)) (miss_right row g.second (miss_right row g.first root.lowest)) cr once root.within c.0 c.1
+      (no_value (p_outcome ts h.0) (λ u e. h.2 u (p_outcome_some ts h.0 u long e)))
 
--- A refused row gives a conflict in the rows with this one.
-pub refused_pair : (c : ℕ) (rows : List (List ℕ)) (row : List ℕ) (t : Outline) → HasArities t → IsOrder c (leaves t) → IsTied c rows t →
-    ((a : ℕ) → IsTrue (has row a) → IsTrue (has (leaves t) a)) → (d : ℕ) → IsTrue (has row d) → reduce row t ≡ None → HasConflict c (rows ++ row ∷ [])
-refused_pair c rows row t n whole tied within d hd e =
-    let x : Crossed (Evenly c (rows ++ row ∷ [])) =
-    reduce_failed (Evenly c (rows ++ row ∷ [])) (evenly_eq c (rows ++ row ∷ [])) row t
-    (bound_mono (Evenly c rows) (Evenly c (rows ++ row ∷ [])) (λ v w h. evenly-mono (Joined c rows) (Joined c (rows ++ row ∷ [])) (joined-append c rows (row ∷ [])) v w h) t (tied_bound c rows t tied))
-    (last_row_closed c rows row (leaves t) whole within) n (order_once c (leaves t) whole) within d hd e in
-    conflict_from c (rows ++ row ∷ []) x.a x.b x.differ x.turned
+  q_root_failed : (ts : Forest) → IsBound R (q_node ts) → IsClosed R (leaves_of ts) row → HasArities (q_node ts) → ((a : ℕ) → occurs (leaves_of ts) a ≤ 1) → IsRoot row ts → IsUnfitRoot row (q_node ts) → Crossed R
+  q_root_failed ts b cr n once root h =
+      let m : AreLabelled row ts h.0 = labels_sound row ts h.0 n.1 once h.1 in
+      let long : length h.0 ≡ count ts = labels_long row ts h.0 h.1 in
+      elim (and_then_none (at_span ts) (span_of ts h.0) (no_value (q_outcome ts h.0) (λ u e. h.2 u (q_outcome_some ts h.0 u long e)))) [
+        | inl i ↦
+            let x : HasHole row ts = span_hole row ts h.0 m n.1 i in
+            record {
+              a = x.up.v.a;
+              b = x.up.v.b;
+              differ = λ z. both_ways (has row x.up.v.b) (subst (λ y. IsFalse (has row y)) z x.up.from_empty) x.up.to_full;
+              turned =
+                  hole R eq row ts b.0 cr x.f x.up.v.a x.up.v.b x.before x.up.forward x.full x.up.to_full x.up.from_empty (forward_first ts x.up.v x.up.forward);
+            }
+        | inr i ↦ absurd (
+            root_q_failed row i.0.left i.0.tail.right i.0.tail.middle i.0.before i.0.tail.behind ts
+            (span_parts row (span_is ts h.0 i.0 (sort ts h.0 long) i.1) m) root i.2
+            )
+      ]
+
+  -- Where no template fits at the pertinent root or at a node below it, a pair is related to itself with its columns exchanged.
+  stuck_crossed : (x : Outline) → IsBound R x → IsClosed R (leaves x) row → HasArities x → ((a : ℕ) → occurs (leaves x) a ≤ 1) → IsLowest row x → IsStuck row x → Crossed R
+  stuck_crossed (leaf a) b cr n once w h = absurd (elim h [ inl k ↦ k | inr k ↦ k.1 ])
+  stuck_crossed (p_node ts) b cr n once w h =
+      let root : IsRoot row ts = lowest_root_p row ts w in
+      elim h [
+        | inl k ↦ p_root_failed ts b cr n once root k
+        | inr k ↦ labels_failed R eq row ts k.0 (outsides (leaves_of ts) ts b.0 cr (λ a i. i) root.within root.lowest) b.1 n.1 once k.1 k.2
+      ]
+  stuck_crossed (q_node ts) b cr n once w h =
+      let root : IsRoot row ts = lowest_root_q row ts w in
+      elim h [
+        | inl k ↦ q_root_failed ts b cr n once root k
+        | inr k ↦ labels_failed R eq row ts k.0 (outsides (leaves_of ts) ts (line_closed R eq ts b.0) cr (λ a i. i) root.within root.lowest) b.1 n.1 once k.1 k.2
+      ]
+
+-- a node of a bound tree is bound
+mutual
+  node_bound : (R : Pair → Pair → Type 0) (x t : Outline) → IsNode x t → IsBound R t → IsBound R x
+  node_bound R x (leaf a) n b = subst (IsBound R) (sym n) tt
+  node_bound R x (p_node ts) n b = elim n [ inl e ↦ subst (IsBound R) (sym e) b | inr k ↦ nodes_bound R x ts k b.1 ]
+  node_bound R x (q_node ts) n b = elim n [ inl e ↦ subst (IsBound R) (sym e) b | inr k ↦ nodes_bound R x ts k b.1 ]
+
+  nodes_bound : (R : Pair → Pair → Type 0) (x : Outline) (ts : Forest) → IsNodeOf x ts → AreBound R ts → IsBound R x
+  nodes_bound R x no_tree n b = absurd n
+  nodes_bound R x (tree_and t ts) n b = elim n [ inl k ↦ node_bound R x t k b.0 | inr k ↦ nodes_bound R x ts k b.1 ]
+
+-- A row for which no template fits at some node gives a conflict in the rows with this one.
+pub refused_conflict : (c : ℕ) (rows : List (List ℕ)) (row : List ℕ) (t : Outline) → IsProper c t → IsTied c rows t →
+    ((a : ℕ) → IsTrue (has row a) → IsTrue (has (leaves t) a)) → IsRefused row t → HasConflict c (rows ++ row ∷ [])
+refused_conflict c rows row t w tied within h =
+    let x : Outline = h.0 in
+    let more : IsBound (Evenly c (rows ++ row ∷ [])) t =
+    bound_mono (Evenly c rows) (Evenly c (rows ++ row ∷ [])) (λ v w h. evenly-mono (Joined c rows) (Joined c (rows ++ row ∷ [])) (joined-append c rows (row ∷ [])) v w h) t (tied_bound c rows t tied) in
+    let closed : IsClosed (Evenly c (rows ++ row ∷ [])) (leaves t) row = last_row_closed c rows row (leaves t) w.1 within in
+    let k : Crossed (Evenly c (rows ++ row ∷ [])) =
+    stuck_crossed (Evenly c (rows ++ row ∷ [])) (evenly_eq c (rows ++ row ∷ [])) row x (node_bound (Evenly c (rows ++ row ∷ [])) x t h.1.node more)
+    (λ a b d ra rb xd rd. closed a b d ra rb (node_within x t h.1.node d xd) rd)
+    (node_arities x t h.1.node w.0) (λ a. omega (arith, order_once c (leaves t) w.1 a, node_occurs x t h.1.node a)) (h.1.whole, h.1.smallest) h.2 in
+    conflict_from c (rows ++ row ∷ []) k.a k.b k.differ k.turned

@@ -1,27 +1,22 @@
 -- A node gets no label, and the pertinent root is not replaced, only where the pattern of no template stands there.
-use Rattle.std.proofs.Common.{◌≡◌, ◌∙◌, ◌≤◌, ℕ, true, false, List, [], ◌∷◌, reverse, length, Option, Some, None, IsTrue, refl, sym, ap, ap₂, subst, inl, inr, arith, option_and_then}
+use Rattle.std.proofs.Common.{◌≡◌, ◌∙◌, ◌≤◌, ℕ, List, [], ◌∷◌, reverse, length, Option, Some, None, IsTrue, refl, sym, ap, ap₂, inl, inr, arith, option_and_then}
 use Rattle.std.proofs.lemmas.Bool.{both_ways}
-use Rattle.column_order.specs.Orders.{has}
-use Rattle.column_order.proofs.Lists.{has_append_cases}
-use Rattle.pq_tree.specs.Outline.{Outline, Forest, p_node, q_node, no_tree, tree_and, leaves, leaves_of}
-use Rattle.pq_tree.specs.Proper.{count}
-use Rattle.pq_plain.specs.Templates.{Partial, Label, back, IsSorted, none_sorted, to_empty, to_full, to_partial, IsRun, run_full, run_partial, run_more, IsTail, tail_empty, tail_partial, tail_more, IsSpan, span_tail, span_partial, span_more, IsP2, IsP4}
+use Rattle.pq_tree.specs.Outline.{Outline, Forest, no_tree, tree_and}
+use Rattle.pq_tree.specs.Forests.{count, back}
+use Rattle.pq_plain.specs.Templates.{Partial, Label, IsSorted, none_sorted, to_empty, to_full, to_partial, IsRun, run_full, run_partial, run_more, IsTail, tail_empty, tail_partial, tail_more, IsSpan, span_tail, span_partial, span_more}
 use Rattle.pq_plain.specs.Chosen.{IsLabelOfP, p_empty, by_p1, by_p3, by_p5, IsLabelOfQ, q_empty, by_q1, by_q2, IsRootOfP, root_p1, root_p2, root_p4, root_p6, IsRootOfQ, root_q1, root_q2, root_q3}
-use Rattle.pq_plain.specs.Labels.{empty_trees, full_trees, partials, at_p, at_run, Run, run_of, all_full, one_more, label_of, labels_of, first_some}
-use Rattle.pq_plain.specs.Reduce.{root_p, Tail, Span, all_empty, full_more, before_more, begins, tail_of, span_of, at_span, inner_or, reduce}
-use Rattle.pq_plain.specs.Laws.{IsPertinentRoot}
-use Rattle.pq_plain.proofs.Lines.{IsParted, has_parted_cases}
-use Rattle.pq_plain.proofs.BelowRoot.{AreEmpty}
-use Rattle.pq_plain.proofs.Meaning.{AreLabelled, Misses, miss_right, IsRoot, parts, span_parts}
+use Rattle.pq_plain.specs.Labels.{empty_trees, full_trees, partials}
+use Rattle.pq_plain.proofs.Computed.{at_p, at_run, Run, run_of, all_full, one_more, root_p, Tail, Span, all_empty, full_more, before_more, begins, tail_of, span_of, at_span, p_outcome, q_outcome, p_label, q_label}
+use Rattle.pq_plain.proofs.Meaning.{AreLabelled, IsRoot, span_parts}
 use Rattle.pq_plain.proofs.QPatterns.{empty_run, run_span, rear_span}
-use Rattle.pq_plain.proofs.Labelled.{labels_sorted, labels_right}
-use Rattle.pq_plain.proofs.Reduced.{inner_none, span_is}
-use Rattle.pq_plain.proofs.Preserved.{two_parts, full_column}
+use Rattle.pq_plain.proofs.NodeTemplates.{sort}
+use Rattle.pq_plain.proofs.RootTemplates.{span_is}
 use Rattle.pq_plain.proofs.Failed.{and_then_none, first_none, cond_none, no_run}
+use Rattle.pq_plain.proofs.Arities.{p4_full}
 use Rattle.pq_plain.proofs.NoOrder.{root_q_failed}
 
 -- the children are sorted in one way
-sorted_is : {ts es fs : Forest} {ps : List Label} {hs : List Partial} → IsSorted ts ps es fs hs → (es ≡ empty_trees ts ps) × (fs ≡ full_trees ts ps) × (hs ≡ partials ps)
+pub sorted_is : {ts es fs : Forest} {ps : List Label} {hs : List Partial} → IsSorted ts ps es fs hs → (es ≡ empty_trees ts ps) × (fs ≡ full_trees ts ps) × (hs ≡ partials ps)
 sorted_is none_sorted = (refl, refl, refl)
 sorted_is (to_empty {t = t} s) = let w = sorted_is s in (ap (tree_and t) w.0, w.1, w.2)
 sorted_is (to_full {t = t} s) = let w = sorted_is s in (w.0, ap (tree_and t) w.1, w.2)
@@ -41,17 +36,15 @@ label_few ts ps x (by_p1 s) = omega (arith, ap length (sorted_is s).2)
 label_few ts ps x (by_p3 h s) = omega (arith, ap length (sorted_is s.pattern).2)
 label_few ts ps x (by_p5 h s) = omega (arith, ap length (sorted_is s.pattern).2)
 
-pub no_label_of_p : (row : List ℕ) (ts : Forest) (ps : List Label) (x : Label) → labels_of row ts ≡ Some ps → label_of row (p_node ts) ≡ None → IsLabelOfP ts ps x → ⊥
-no_label_of_p row ts ps x l e k =
-    few (partials ps) (empty_trees ts ps) (full_trees ts ps) (label_few ts ps x k)
-    (subst (λ o. option_and_then (λ qs. at_p (partials qs) (empty_trees ts qs) (full_trees ts qs)) o ≡ None) l e)
+pub p_label_none : (ts : Forest) (ps : List Label) (x : Label) → p_label ts ps ≡ None → IsLabelOfP ts ps x → ⊥
+p_label_none ts ps x e k = few (partials ps) (empty_trees ts ps) (full_trees ts ps) (label_few ts ps x k) e
 
 -- a run is found
 full_all : {ts fs : Forest} {ps : List Label} → IsSorted ts ps no_tree fs [] → IsTrue (all_full ps)
 full_all none_sorted = refl
 full_all (to_full s) = full_all s
 
-run_there : {ts es fs : Forest} {ps : List Label} {h : Option Partial} → IsRun ts ps es h fs → run_of ts ps ≡ None → ⊥
+pub run_there : {ts es fs : Forest} {ps : List Label} {h : Option Partial} → IsRun ts ps es h fs → run_of ts ps ≡ None → ⊥
 run_there (run_full s) e = full_there s e
   where
     full_there : {ts fs : Forest} {ps : List Label} → IsSorted ts ps no_tree fs [] → run_of ts ps ≡ None → ⊥
@@ -64,13 +57,11 @@ run_there (run_more {t = t} {ts = ts} {ps = ps} r) e =
     some_none : (q : Run) → Some q ≡ None → ⊥
     some_none q x = cc
 
-pub no_label_of_q : (row : List ℕ) (ts : Forest) (ps : List Label) (x : Label) → labels_of row ts ≡ Some ps → label_of row (q_node ts) ≡ None → IsLabelOfQ ts ps x → ⊥
-no_label_of_q row ts ps x l e k = neither k
+pub q_label_none : (ts : Forest) (ps : List Label) (x : Label) → q_label ts ps ≡ None → IsLabelOfQ ts ps x → ⊥
+q_label_none ts ps x e k = neither k
   where
     both : (option_and_then at_run (run_of ts ps) ≡ None) × (option_and_then at_run (run_of (back ts) (reverse ps)) ≡ None)
-    both =
-        first_none (option_and_then at_run (run_of ts ps)) (option_and_then at_run (run_of (back ts) (reverse ps)))
-        (subst (λ o. option_and_then (λ qs. first_some (option_and_then at_run (run_of ts qs)) (option_and_then at_run (run_of (back ts) (reverse qs)))) o ≡ None) l e)
+    both = first_none (option_and_then at_run (run_of ts ps)) (option_and_then at_run (run_of (back ts) (reverse ps))) e
 
     neither : {y : Label} → IsLabelOfQ ts ps y → ⊥
     neither (q_empty s) = run_there (empty_run s) (no_run (run_of ts ps) both.0)
@@ -101,7 +92,7 @@ tail_there (tail_more {t = t} {ts = ts} {ps = ps} r) e =
 no_span : (q : Span) → Some q ≡ None → ⊥
 no_span q x = cc
 
-span_there : {ts es fs gs : Forest} {ps : List Label} {h k : Option Partial} → IsSpan ts ps es h fs k gs → span_of ts ps ≡ None → ⊥
+pub span_there : {ts es fs gs : Forest} {ps : List Label} {h k : Option Partial} → IsSpan ts ps es h fs k gs → span_of ts ps ≡ None → ⊥
 span_there (span_tail r) e = tail_span r e
   where
     empty_span : {ts es : Forest} {ps : List Label} → IsSorted ts ps es no_tree [] → span_of ts ps ≡ None → ⊥
@@ -121,39 +112,7 @@ span_there (span_more {t = t} {ts = ts} {ps = ps} r) e =
     elim (and_then_none (λ q. Some (before_more t q)) (span_of ts ps) e) [ inl n ↦ span_there r n | inr n ↦ no_span (before_more t n.0) n.2 ]
 
 -- The pertinent root.
-module _ (row : List ℕ) (ts : Forest) (ps : List Label) (at : IsPertinentRoot row ts) (l : labels_of row ts ≡ Some ps) where
-  root : IsRoot row ts
-  root = record { within = at.within; lowest = inner_none row ts at.lowest }
-
-  right : AreLabelled row ts ps
-  right = labels_right row ts ps at.arities at.once l
-
-  -- P2 has two full children or more, and P4 one or more
-  another : (es fs : Forest) (f : Outline) → IsParted ts es (tree_and f fs) → AreEmpty row es → 1 ≤ count fs
-  another es (tree_and g fs) f s ee = omega arith
-  another es no_tree f s ee =
-      let m : Misses row (leaves f) = (miss_right row s root.lowest).0 in
-      absurd
-      (elim (has_parted_cases s m.0 (root.within m.0 m.1)) [
-        | inl k ↦ both_ways (has row m.0) (ee m.0 k) m.1
-        | inr k ↦ elim (has_append_cases (leaves f) [] m.0 k) [ inl i ↦ both_ways (has (leaves f) m.0) m.2 i | inr i ↦ both_ways false refl i ]
-      ])
-
-  pub two_full : (u : Outline) → IsP2 true ts ps u → 2 ≤ count (full_trees ts ps)
-  two_full u x =
-      let k = parts row x.pattern right in
-      let s : IsParted ts (tree_and x.e x.es) (tree_and x.f x.fs) = two_parts row ts ps right (tree_and x.e x.es) (tree_and x.f x.fs) k.us k.rest k.first k.second k.partial in
-      omega (arith, another (tree_and x.e x.es) x.fs x.f s k.empty, ap count (sorted_is x.pattern).1)
-
-  some_tree : (fs : Forest) → (a : ℕ) × IsTrue (has (leaves_of fs) a) → 1 ≤ count fs
-  some_tree no_tree a = absurd (both_ways false refl a.1)
-  some_tree (tree_and f fs) a = omega arith
-
-  pub one_full : (u : Outline) → IsP4 true ts ps u → 1 ≤ count (full_trees ts ps)
-  one_full u x =
-      let k = parts row x.pattern right in
-      omega (arith, some_tree x.fs (full_column row ts ps right x.es x.fs k.us k.rest x.h k.first k.second k.empty root k.partial), ap count (sorted_is x.pattern).1)
-
+module _ (row : List ℕ) (ts : Forest) (ps : List Label) (root : IsRoot row ts) (right : AreLabelled row ts ps) (long : length ps ≡ count ts) where
   same_root : {es fs : Forest} {hs : List Partial} → IsSorted ts ps es fs hs → root_p (partials ps) (empty_trees ts ps) (full_trees ts ps) ts ≡ root_p hs es fs ts
   same_root {fs = fs} s =
       let w = sorted_is s in
@@ -166,28 +125,22 @@ module _ (row : List ℕ) (ts : Forest) (ps : List Label) (at : IsPertinentRoot 
   root_there : (u : Outline) → IsRootOfP ts ps u → root_p (partials ps) (empty_trees ts ps) (full_trees ts ps) ts ≡ None → ⊥
   root_there u (root_p1 s) e = let k : root_p [] no_tree ts ts ≡ None = sym (same_root s) ∙ e in cc
   root_there u (root_p2 v x) e = let k : root_p [] (tree_and x.e x.es) (tree_and x.f x.fs) ts ≡ None = sym (same_root x.pattern) ∙ e in cc
-  root_there u (root_p4 v x) e = four_there x.h x.es x.fs (omega (arith, one_full u x, ap count (sorted_is x.pattern).1)) (sym (same_root x.pattern) ∙ e)
+  root_there u (root_p4 v x) e = four_there x.h x.es x.fs (p4_full row ts ps u right root x) (sym (same_root x.pattern) ∙ e)
   root_there u (root_p6 v x) e = let k : root_p (x.h ∷ x.k ∷ []) x.es x.fs ts ≡ None = sym (same_root x.pattern) ∙ e in cc
 
-  pub no_root_of_p : (u : Outline) → reduce row (p_node ts) ≡ None → IsRootOfP ts ps u → ⊥
-  no_root_of_p u e k =
-      let f : option_and_then (λ qs. root_p (partials qs) (empty_trees ts qs) (full_trees ts qs) ts) (labels_of row ts) ≡ None =
-      subst (λ o. inner_or o p_node (option_and_then (λ qs. root_p (partials qs) (empty_trees ts qs) (full_trees ts qs) ts) (labels_of row ts)) ≡ None) at.lowest e in
-      root_there u k (subst (λ o. option_and_then (λ qs. root_p (partials qs) (empty_trees ts qs) (full_trees ts qs) ts) o ≡ None) l f)
+  pub p_outcome_none : (u : Outline) → p_outcome ts ps ≡ None → IsRootOfP ts ps u → ⊥
+  p_outcome_none u e k = root_there u k e
 
-  root_spans : (u : Outline) → IsRootOfQ ts ps u → span_of ts ps ≡ None → ⊥
+  pub root_spans : (u : Outline) → IsRootOfQ ts ps u → span_of ts ps ≡ None → ⊥
   root_spans u (root_q1 s) e = span_there (run_span (run_full s)) e
   root_spans u (root_q2 x v q s) e = elim q.pattern [ inl r ↦ span_there (run_span r) e | inr r ↦ span_there {ts = ts} {ps = ps} (rear_span r) e ]
   root_spans u (root_q3 v q) e = span_there q.pattern e
 
-  pub no_root_of_q : (u : Outline) → reduce row (q_node ts) ≡ None → IsRootOfQ ts ps u → ⊥
-  no_root_of_q u e k =
-      let f : option_and_then (λ qs. option_and_then (at_span ts) (span_of ts qs)) (labels_of row ts) ≡ None =
-      subst (λ o. inner_or o q_node (option_and_then (λ qs. option_and_then (at_span ts) (span_of ts qs)) (labels_of row ts)) ≡ None) at.lowest e in
-      let g : option_and_then (at_span ts) (span_of ts ps) ≡ None = subst (λ o. option_and_then (λ qs. option_and_then (at_span ts) (span_of ts qs)) o ≡ None) l f in
-      elim (and_then_none (at_span ts) (span_of ts ps) g) [
+  pub q_outcome_none : (u : Outline) → q_outcome ts ps ≡ None → IsRootOfQ ts ps u → ⊥
+  q_outcome_none u e k =
+      elim (and_then_none (at_span ts) (span_of ts ps) e) [
         | inl n ↦ root_spans u k n
         | inr n ↦
             root_q_failed row n.0.left n.0.tail.right n.0.tail.middle n.0.before n.0.tail.behind ts
-            (span_parts row (span_is ts ps n.0 (labels_sorted row ts ps l) n.1) right) root n.2
+            (span_parts row (span_is ts ps n.0 (sort ts ps long) n.1) right) root n.2
       ]

@@ -4,14 +4,14 @@ use Rattle.std.proofs.lemmas.Bool.{both_ways, false_from_ne_true}
 use Rattle.row_model.specs.declared.graph.Pair.{Pair}
 use Rattle.column_order.specs.Orders.{has, occurs}
 use Rattle.row_model.specs.Graph.{pair}
-use Rattle.column_order.proofs.Lists.{has_append_cases, occurs-append, occurs_from_has, has_from_occurs, lacks_from_occurs}
+use Rattle.column_order.proofs.Lists.{has_append_cases, occurs-append, occurs_from_has, has_from_occurs, lacks_from_occurs, has_same}
 use Rattle.pq_tree.specs.Outline.{Outline, Forest, p_node, q_node, no_tree, tree_and, leaves, leaves_of}
 use Rattle.tied_law.specs.Tied.{IsForward}
 use Rattle.tied_law.proofs.Bound.{IsClosed, AreClosed, IsInLine, IsBound, AreBound, IsPairEq, closed_through}
-use Rattle.tied_law.proofs.Frontiers.{has_same}
-use Rattle.pq_plain.specs.Templates.{join, star}
-use Rattle.pq_plain.proofs.Lines.{IsParted, join_assoc, leaves_of-join, leaves_of-star, has_join_cases, has_join_left, has_join_right, to_star, from_star, forward_cases, forward_left, forward_right, star_forward, bound_join, bound_left, bound_right, star_bound, star_closed, star_each, closed_within, parted_closed, closed_left, closed_right, parted_bound, parted_bound_left, parted_bound_right, parted_occurs, has_parted_cases}
-use Rattle.pq_plain.specs.Templates.{under}
+use Rattle.pq_tree.specs.Forests.{join}
+use Rattle.pq_tree.proofs.Forests.{join_assoc, leaves_of-join, has_join_cases, has_join_left, has_join_right}
+use Rattle.pq_plain.specs.Templates.{star, under}
+use Rattle.pq_plain.proofs.Lines.{IsParted, leaves_of-star, to_star, from_star, forward_cases, forward_left, forward_right, star_forward, bound_join, bound_left, bound_right, star_bound, star_closed, star_each, closed_within, parted_closed, closed_left, closed_right, parted_bound, parted_bound_left, parted_bound_right, parted_occurs, has_parted_cases}
 use Rattle.pq_plain.proofs.BelowRoot.{IsOutside, AreEmpty, AreFull, Treated, towards, first_closed, last_closed, middle_closed, end_closed, closed_alike, outside_within}
 use Rattle.pq_plain.proofs.AtRoot.{Rooted, under_occurs, set_through, under_up, under_down}
 

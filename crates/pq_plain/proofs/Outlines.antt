@@ -1,20 +1,11 @@
 -- Lists of trees as the templates see them.
 use Rattle.std.proofs.Common.{◌≡◌, ◌∙◌, List, [], ◌∷◌, ◌++◌, map, reverse, refl, sym, ap}
 use Rattle.std.proofs.lemmas.List.{map-append, reverse-append}
-use Rattle.pq_tree.specs.Outline.{Outline, Forest, no_tree, tree_and}
-use Rattle.pq_tree.specs.Proper.{outline_of, forest}
+use Rattle.pq_tree.specs.Proper.{outline_of}
+use Rattle.pq_tree.specs.Forests.{forest, join, back}
 use Rattle.pq_tree.specs.declared.Tree.{Tree}
-use Rattle.pq_plain.specs.Templates.{join, back}
 use Rattle.pq_plain.specs.Seen.{outlines}
-
-pub forest_append : (xs ys : List Outline) → forest (xs ++ ys) ≡ join (forest xs) (forest ys)
-forest_append [] ys = refl
-forest_append (x ∷ xs) ys = ap (tree_and x) (forest_append xs ys)
-
-pub forest_reverse : (xs : List Outline) → forest (reverse xs) ≡ back (forest xs)
-forest_reverse [] = refl
-forest_reverse (x ∷ xs) =
-    ap forest (reverse-append (x ∷ []) xs) ∙ forest_append (reverse xs) (x ∷ []) ∙ ap (λ ts. join ts (tree_and x no_tree)) (forest_reverse xs)
+use Rattle.pq_tree.proofs.Forests.{forest_append, forest_reverse}
 
 pub map_reverse : (ts : List Tree) → map outline_of (reverse ts) ≡ reverse (map outline_of ts)
 map_reverse [] = refl
@@ -29,7 +20,3 @@ outlines_append xs ys = ap forest (map-append outline_of xs ys) ∙ forest_appen
 
 pub outlines_reverse : (ts : List Tree) → outlines (reverse ts) ≡ back (outlines ts)
 outlines_reverse ts = ap forest (map_reverse ts) ∙ forest_reverse (map outline_of ts)
-
-pub join_no_tree : (xs : Forest) → join xs no_tree ≡ xs
-join_no_tree no_tree = refl
-join_no_tree (tree_and t ts) = ap (tree_and t) (join_no_tree ts)

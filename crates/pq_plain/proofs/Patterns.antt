@@ -2,8 +2,9 @@
 use Rattle.std.proofs.Common.{◌≡◌, List, [], ◌∷◌, ◌++◌, reverse, Option, Some, None, refl, sym, ap, subst}
 use Rattle.std.proofs.lemmas.List.{reverse-append, reverse-reverse}
 use Rattle.pq_tree.specs.Outline.{Outline, Forest, no_tree, tree_and}
-use Rattle.pq_plain.specs.Templates.{Partial, Label, empty_label, full_label, partial_label, join, back, IsSorted, none_sorted, to_empty, to_full, to_partial, AreAllFull, AreAllEmpty, IsRun, run_full, run_partial, run_more, IsTail, tail_empty, tail_more, IsSpan, span_tail, span_more}
-use Rattle.pq_plain.proofs.QSteps.{back-back}
+use Rattle.pq_plain.specs.Templates.{Partial, Label, empty_label, full_label, partial_label, IsSorted, none_sorted, to_empty, to_full, to_partial, AreAllFull, AreAllEmpty, IsRun, run_full, run_partial, run_more, IsTail, tail_empty, tail_more, IsSpan, span_tail, span_more}
+use Rattle.pq_tree.specs.Forests.{join, back}
+use Rattle.pq_tree.proofs.Forests.{back-back}
 
 -- children that are all full are the full ones, and children that are all empty the empty ones
 pub full_is : {ts fs : Forest} {ps : List Label} → IsSorted ts ps no_tree fs [] → fs ≡ ts

@@ -2,15 +2,16 @@
 use Rattle.std.proofs.Common.{◌≡◌, ◌∙◌, ◌+◌, ◌<◌, ◌⊎◌, inl, inr, ℕ, List, [], ◌∷◌, ◌++◌, map, take, length, get_or, refl, sym, ap, ap₂, arith}
 use Rattle.std.proofs.lemmas.List.{map_more, map-append, length-map, length-take, append-nil}
 use Rattle.pq_tree.specs.Outline.{Outline, no_tree, tree_and}
-use Rattle.pq_tree.specs.Proper.{outline_of, forest}
+use Rattle.pq_tree.specs.Proper.{outline_of}
+use Rattle.pq_tree.specs.Forests.{forest, join}
+use Rattle.pq_tree.proofs.Forests.{join_no_tree}
 use Rattle.pq_tree.specs.declared.Tree.{Tree}
-use Rattle.pq_plain.specs.Templates.{join}
 use Rattle.pq_plain.specs.Labels.{Label, empty_label, full_label, partial_label, partials, empty_trees, full_trees}
 use Rattle.pq_plain.specs.Seen.{outlines, halves_seen, label_seen}
 use Rattle.pq_plain.specs.declared.label.Halves.{Halves}
 use Rattle.pq_plain.specs.declared.label.Label.{Label as Marked}
 use Rattle.pq_plain.specs.declared.label.Label.TheVariants.{Empty, Full, Partial}
-use Rattle.pq_plain.proofs.Outlines.{outlines_append, join_no_tree}
+use Rattle.pq_plain.proofs.Outlines.{outlines_append}
 use Rattle.pq_plain.proofs.Marks.{partials_append}
 
 empty_trees_push : (xs : List Outline) (ps : List Label) (x : Outline) (p : Label) → length ps ≡ length xs →

@@ -3,13 +3,14 @@ use Rattle.std.proofs.Common.{◌≡◌, ◌∙◌, ◌<◌, ◌≤◌, List, []
 use Rattle.std.specs.declared.vec.Vec.{Vec}
 use Rattle.std.specs.declared.alloc.Global.{Global}
 use Rattle.pq_tree.specs.Outline.{Forest, p_node, q_node, no_tree, tree_and}
-use Rattle.pq_tree.specs.Proper.{outline_of, forest}
+use Rattle.pq_tree.specs.Proper.{outline_of}
+use Rattle.pq_tree.specs.Forests.{forest, join, back}
+use Rattle.pq_tree.proofs.Forests.{join_assoc}
 use Rattle.pq_tree.specs.declared.Tree.{Tree, P, Q}
 use Rattle.pq_tree.proofs.Shown.{outline_of-P, outline_of-Q}
-use Rattle.pq_plain.specs.Templates.{join, star, back, under}
+use Rattle.pq_plain.specs.Templates.{star, under}
 use Rattle.pq_plain.specs.Labels.{Partial}
 use Rattle.pq_plain.specs.Seen.{outlines}
-use Rattle.pq_plain.proofs.Lines.{join_assoc}
 use Rattle.pq_plain.proofs.Outlines.{outlines_append, outlines_reverse}
 
 pub star_few : (ts : List Tree) → length ts < 2 → outlines ts ≡ star (outlines ts)

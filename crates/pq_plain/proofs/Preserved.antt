@@ -7,23 +7,22 @@ use Rattle.std.proofs.Common.{◌≡◌, ◌⊎◌, ◌∙◌, ◌≤◌, ℕ, t
 use Rattle.std.proofs.lemmas.Bool.{both_ways}
 use Rattle.column_order.specs.Orders.{has, occurs, IsOrder}
 use Rattle.row_model.specs.Graph.{pair}
-use Rattle.column_order.proofs.Lists.{has_cases, has_append_cases, has_append_left, has_append_right}
+use Rattle.column_order.proofs.Lists.{has_cases, has_append_cases, has_append_left, has_append_right, has_same}
 use Rattle.pq_tree.specs.Outline.{Outline, Forest, p_node, q_node, no_tree, tree_and, leaves, leaves_of}
-use Rattle.pq_tree.specs.Proper.{HaveArities, count}
+use Rattle.pq_tree.specs.Proper.{HaveArities}
+use Rattle.pq_tree.specs.Forests.{count, join, back}
+use Rattle.pq_tree.proofs.Forests.{join_assoc, has_join_cases, has_join_left, has_join_right, some_leaf_of, arities_join_left, arities_join_right, arities_back, count_back, back_occurs, back-back, back-join, join_no_tree}
 use Rattle.tied_law.specs.Tied.{IsTied}
 use Rattle.tied_law.proofs.Bridge.{tied_more}
-use Rattle.tied_law.proofs.Frontiers.{has_same}
-use Rattle.pq_plain.specs.Templates.{Partial, Label, join, back, star, under, line, IsShape, l1, p1, p4, p5, p6, q1, q2, q3, IsRun, AreAllFull, AreAllEmpty, IsSpan, IsL1, IsP1, IsP2, IsP3, IsP4, IsP5, IsP6, IsQ1, IsQ2, IsQ3}
-use Rattle.pq_plain.proofs.Lines.{IsParted, join_assoc, parted_end, has_parted_cases, has_join_cases, has_join_left, has_join_right, forward_across}
+use Rattle.pq_plain.specs.Templates.{Partial, Label, star, under, line, IsShape, l1, p1, p4, p5, p6, q1, q2, q3, IsRun, AreAllFull, AreAllEmpty, IsSpan, IsL1, IsP1, IsP2, IsP3, IsP4, IsP5, IsP6, IsQ1, IsQ2, IsQ3}
+use Rattle.pq_plain.proofs.Lines.{IsParted, parted_end, has_parted_cases, forward_across, arities_left, arities_right}
 use Rattle.pq_plain.proofs.BelowRoot.{IsFull, AreEmpty, AreFull, Treated, p3_parted}
 use Rattle.pq_plain.proofs.AtRoot.{Rooted, star_gather, p2_parted}
 use Rattle.pq_plain.proofs.OnePartial.{p4_parted, p5_parted}
 use Rattle.pq_plain.proofs.TwoPartials.{p6_parted}
-use Rattle.pq_plain.proofs.HaveColumns.{some_leaf_of, arities_left, arities_right, arities_join_left, arities_join_right, arities_back, count_back}
-use Rattle.pq_plain.proofs.QLines.{treated_back, back_occurs, turned_bound, unturned_bound}
+use Rattle.pq_plain.proofs.QLines.{treated_back, turned_bound, unturned_bound}
 use Rattle.pq_plain.proofs.QPatterns.{run_span, rear_span, line_front, line_rear}
-use Rattle.pq_plain.proofs.QSteps.{back-back, back-join, q2_none, q2_one}
-use Rattle.pq_plain.proofs.Outlines.{join_no_tree}
+use Rattle.pq_plain.proofs.QSteps.{q2_none, q2_one}
 use Rattle.pq_plain.proofs.QAtRoot.{q3_none, q3_left, q3_right, q3_both}
 use Rattle.pq_plain.proofs.Meaning.{AreLabelled, labelled_back, ArePartial, no_partial, a_partial, IsAtMostOne, no_such, one_such, Misses, miss_right, miss_after, IsRoot, parts, run_parts, span_parts}
 use Rattle.pq_plain.proofs.Patterns.{run_all_full, run_all_empty, full_unback, empty_unback}
@@ -154,13 +153,13 @@ module _ (row : List ℕ) (ts : Forest) (ps : List Label) (right : AreLabelled r
         subst (Rooted row (p_node ts)) (sym x.becomes) (p6_with x.es x.fs k.us k.rest x.h x.k k.first k.second k.empty k.full root k.partial)
 
 -- There are empty and full children where there is no partial one.
-abbrev HasBoth : Forest → Option Partial → Forest → Type 0
+abbrev pub HasBoth : Forest → Option Partial → Forest → Type 0
 HasBoth es (Some h) fs = Unit {0}
 HasBoth no_tree None fs = ⊥
 HasBoth (tree_and e es) None no_tree = ⊥
 HasBoth (tree_and e es) None (tree_and f fs) = Unit {0}
 
-has_both : (ts es fs : Forest) (ps : List Label) (h : Option Partial) → IsRun ts ps es h fs → (AreAllFull ts ps → ⊥) → (AreAllEmpty ts ps → ⊥) → HasBoth es h fs
+pub has_both : (ts es fs : Forest) (ps : List Label) (h : Option Partial) → IsRun ts ps es h fs → (AreAllFull ts ps → ⊥) → (AreAllEmpty ts ps → ⊥) → HasBoth es h fs
 has_both ts es fs ps (Some h) r nf ne = tt
 has_both ts no_tree fs ps None r nf ne = nf (run_all_full r)
 has_both ts (tree_and e es) no_tree ps None r nf ne = ne (run_all_empty r)

@@ -1,16 +1,14 @@
 -- Q2 and Q3 at the pertinent root, and P6 by way of Q3.
 use Rattle.std.proofs.Common.{◌≡◌, ◌∙◌, ℕ, List, IsTrue, sym, subst, inl, inr}
 use Rattle.column_order.specs.Orders.{has}
-use Rattle.column_order.proofs.Lists.{has_append_left}
+use Rattle.column_order.proofs.Lists.{has_append_left, has_same}
 use Rattle.pq_tree.specs.Outline.{Outline, Forest, q_node, tree_and, leaves, leaves_of}
 use Rattle.tied_law.proofs.Bound.{IsClosed, IsBound}
-use Rattle.tied_law.proofs.Frontiers.{has_same}
-use Rattle.pq_plain.specs.Templates.{join, back}
-use Rattle.pq_plain.proofs.Lines.{join_assoc, has_join_cases, has_join_left, has_join_right}
+use Rattle.pq_tree.specs.Forests.{join, back}
+use Rattle.pq_tree.proofs.Forests.{join_assoc, has_join_cases, has_join_left, has_join_right, back_has, back-join}
 use Rattle.pq_plain.proofs.BelowRoot.{AreEmpty, AreFull, Treated}
 use Rattle.pq_plain.proofs.AtRoot.{Rooted}
-use Rattle.pq_plain.proofs.QLines.{back_has}
-use Rattle.pq_plain.proofs.QSteps.{Refined, refined-refl, refined-trans, rooted_from, refined_right, refined_left, run_closed, back-join}
+use Rattle.pq_plain.proofs.QSteps.{Refined, refined-refl, refined-trans, rooted_from, refined_right, refined_left, run_closed}
 
 pub refined_rooted : (row : List ℕ) (t u w : Outline) → Refined row t u → Rooted row u w → Rooted row t w
 refined_rooted row t u w g h =

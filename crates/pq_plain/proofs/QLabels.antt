@@ -1,39 +1,26 @@
 -- The templates of a Q-node below the pertinent root, as the program finds them.
-use Rattle.std.proofs.Common.{◌≡◌, ◌∙◌, ◌+◌, ◌≤◌, ℕ, List, [], ◌∷◌, ◌++◌, Some, None, map, take, drop, reverse, length, IsTrue, refl, sym, ap, ap₂, subst, arith, option_and_then, length-append}
+use Rattle.std.proofs.Common.{◌≡◌, ◌∙◌, ◌+◌, ◌≤◌, ℕ, List, [], ◌∷◌, ◌++◌, Some, None, map, take, drop, reverse, length, IsTrue, refl, sym, ap, ap₂, subst, arith, option_and_then, length-append, Option}
 use Rattle.std.proofs.lemmas.Bool.{cond-true}
 use Rattle.std.proofs.lemmas.List.{drop-map, take-map, length-map, length-reverse, length-drop, map-append, reverse-append, take-append-drop}
 use Rattle.std.proofs.Math.Seq.{take-append_seam, drop-append_seam}
 use Rattle.pq_tree.specs.Outline.{Outline, Forest, no_tree, tree_and}
-use Rattle.pq_tree.specs.Proper.{outline_of, forest}
+use Rattle.pq_tree.specs.Proper.{outline_of}
+use Rattle.pq_tree.specs.Forests.{forest, join, back}
+use Rattle.pq_tree.proofs.Forests.{forest_reverse}
 use Rattle.pq_tree.specs.declared.Tree.{Tree}
-use Rattle.pq_plain.specs.Templates.{join, back}
-use Rattle.pq_plain.specs.Labels.{Partial, Label, empty_label, full_label, partial_label, partials, Run, all_full, one_more, run_of, at_q, at_run, first_some}
-use Rattle.pq_plain.specs.Seen.{outlines, halves_seen, label_seen, empties, fulls, run_seen, q_label}
+use Rattle.pq_plain.specs.Labels.{Partial, Label, empty_label, full_label, partial_label, partials, first_of}
+use Rattle.pq_plain.proofs.Computed.{all_full, one_more, run_of, at_q, at_run, first_some, q_label}
+use Rattle.pq_plain.specs.Seen.{outlines, halves_seen, label_seen, empties, fulls}
 use Rattle.pq_plain.specs.declared.label.Halves.{Halves}
 use Rattle.pq_plain.specs.declared.label.Label.{Label as Marked}
 use Rattle.pq_plain.specs.declared.label.Run.{Run as Places}
-use Rattle.pq_plain.proofs.Outlines.{forest_reverse}
 use Rattle.pq_plain.proofs.Counted.{no_partial, last_of_one}
-use Rattle.pq_plain.proofs.Labelled.{and_then, cond_some, some_inj}
+use Rattle.pq_plain.proofs.NodeTemplates.{from_front, from_rear}
+use Rattle.pq_plain.specs.Cuts.{Finds, run_label, IsRunCut, IsLabelFromEnd}
+use Rattle.pq_plain.specs.Chosen.{IsLabelOfQ}
+use Rattle.pq_plain.specs.Templates.{IsRun}
+use Rattle.pq_plain.proofs.Cutting.{run_few, run_gives, no_label_from_ends}
 
--- a run has at most one partial
-pub few_partials : (ts : Forest) (ps : List Label) (r : Run) → run_of ts ps ≡ Some r → length r.middle ≤ 1
-few_partials no_tree ps r e = few_of (some_inj e) (omega arith)
-  where
-    few_of : {x y : Run} → x ≡ y → length x.middle ≤ 1 → length y.middle ≤ 1
-    few_of {x} {y} e h = omega (arith, h, ap (λ z. length z.middle) e)
-few_partials (tree_and t ts) [] r e = cc
-few_partials (tree_and t ts) (empty_label ∷ ps) r e =
-    let w : (x : Run) × (run_of ts ps ≡ Some x) × (Some (one_more t x) ≡ Some r) = and_then (λ x. Some (one_more t x)) (run_of ts ps) r e in
-    omega (arith, few_partials ts ps w.0 w.1, ap (λ z. length z.middle) (some_inj w.2))
-few_partials (tree_and t ts) (full_label ∷ ps) r e =
-    let k : let x : Run = record { before = no_tree; middle = []; behind = tree_and t ts } in x ≡ r = (cond_some (all_full ps) (record { before = no_tree; middle = []; behind = tree_and t ts }) r e).1 in
-    omega (arith, ap (λ z. length z.middle) k)
-few_partials (tree_and t ts) (partial_label h ∷ ps) r e =
-    let k : let x : Run = record { before = no_tree; middle = h ∷ []; behind = ts } in x ≡ r = (cond_some (all_full ps) (record { before = no_tree; middle = h ∷ []; behind = ts }) r e).1 in
-    omega (arith, ap (λ z. length z.middle) k)
-
--- the label of a run
 pub no_halves : (all : List Halves) (hs : List Partial) → length all ≡ 0 → map halves_seen all ≡ hs → hs ≡ []
 no_halves [] hs n e = sym e
 no_halves (x ∷ xs) hs n e = absurd (omega arith)
@@ -104,27 +91,32 @@ q_all_empty ts ls ms e f p n s x u y z w v =
     (ap (λ o. first_some o (option_and_then at_run (run_of (back (outlines ts)) (reverse (map label_seen ls))))) (empty_at (map outline_of ts) (map label_seen ls) (same_count ts ls n) c b a))
 
 -- a run from the left
-module _ (ts : List Tree) (ls ms : List Marked) (r : Places) (n : length ls ≡ length ts) (s : ms ≡ ls)
-    (cut : (xs : List Outline) → length xs ≡ length ms → run_of (forest xs) (map label_seen ms) ≡ Some (run_seen xs (map label_seen ms) r)) where
-  from_left : run_of (outlines ts) (map label_seen ls) ≡ Some (run_seen (map outline_of ts) (map label_seen ls) r)
-  from_left =
-      subst (λ l. run_of (outlines ts) (map label_seen l) ≡ Some (run_seen (map outline_of ts) (map label_seen l) r)) s
-      (cut (map outline_of ts) (length-map ts outline_of ∙ sym n ∙ ap length (sym s)))
+module _ (ts : List Tree) (ls ms : List Marked) (n : length ls ≡ length ts) (s : ms ≡ ls) where
+  left_size : length (map outline_of ts) ≡ length ms
+  left_size = length-map ts outline_of ∙ sym n ∙ ap length (sym s)
 
-  pub left_few : length (partials (map label_seen ls)) ≤ 1
-  left_few = few_partials (outlines ts) (map label_seen ls) (run_seen (map outline_of ts) (map label_seen ls) r) from_left
+  pub left_none : ((xs : List Outline) → length xs ≡ length ms → IsRunCut xs (map label_seen ms) None) → (o : Option Label) → IsLabelFromEnd (outlines ts) (map label_seen ls) o →
+      Finds (IsLabelOfQ (outlines ts) (map label_seen ls)) o
+  left_none cut (Some x) h = h
+  left_none cut None h =
+      no_label_from_ends (outlines ts) (map label_seen ls) (subst (λ l. IsRunCut (map outline_of ts) (map label_seen l) None) s (cut (map outline_of ts) left_size)) h
 
-  pub left_label : (es fs us vs : List Tree) (l : Label) → us ≡ take r.before ts → vs ≡ drop r.behind ts → map outline_of es ≡ map outline_of us → map outline_of fs ≡ map outline_of vs →
-      at_q (partials (map label_seen ls)) (outlines es) (outlines fs) ≡ Some l → Some l ≡ q_label (outlines ts) (map label_seen ls)
-  left_label es fs us vs l u v x y z =
-      let a : outlines es ≡ forest (take r.before (map outline_of ts)) =
-      ap forest (x ∙ ap (map outline_of) u ∙ sym (take-map outline_of r.before ts)) in
-      let b : outlines fs ≡ forest (drop r.behind (map outline_of ts)) =
-      ap forest (y ∙ ap (map outline_of) v ∙ sym (drop-map outline_of r.behind ts)) in
-      sym
-      (ap (λ o. first_some (option_and_then at_run o) (option_and_then at_run (run_of (back (outlines ts)) (reverse (map label_seen ls))))) from_left ∙
-      ap (λ o. first_some o (option_and_then at_run (run_of (back (outlines ts)) (reverse (map label_seen ls)))))
-      (sym (ap₂ (at_q (partials (map label_seen ls))) a b) ∙ z))
+  module _ (r : Places) (cut : (xs : List Outline) → length xs ≡ length ms → IsRunCut xs (map label_seen ms) (Some r)) where
+    from_left : IsRun (outlines ts) (map label_seen ls) (forest (take r.before (map outline_of ts))) (first_of (partials (map label_seen ls))) (forest (drop r.behind (map outline_of ts)))
+    from_left = subst (λ l. IsRunCut (map outline_of ts) (map label_seen l) (Some r)) s (cut (map outline_of ts) left_size)
+
+    pub left_few : length (partials (map label_seen ls)) ≤ 1
+    left_few = run_few from_left
+
+    pub left_label : (es fs us vs : List Tree) (l : Label) → us ≡ take r.before ts → vs ≡ drop r.behind ts → map outline_of es ≡ map outline_of us → map outline_of fs ≡ map outline_of vs →
+        l ≡ run_label (outlines es) (first_of (partials (map label_seen ls))) (outlines fs) → IsLabelOfQ (outlines ts) (map label_seen ls) l
+    left_label es fs us vs l u v x y z =
+        let a : outlines es ≡ forest (take r.before (map outline_of ts)) =
+        ap forest (x ∙ ap (map outline_of) u ∙ sym (take-map outline_of r.before ts)) in
+        let b : outlines fs ≡ forest (drop r.behind (map outline_of ts)) =
+        ap forest (y ∙ ap (map outline_of) v ∙ sym (drop-map outline_of r.behind ts)) in
+        subst (IsLabelOfQ (outlines ts) (map label_seen ls)) (sym (z ∙ ap₂ (λ e f. run_label e (first_of (partials (map label_seen ls))) f) a b))
+        (from_front (outlines ts) (map label_seen ls) _ (run_gives from_left))
 
 -- a run from the right
 pub labels_turned : (ls : List Marked) → map label_seen (reverse ls) ≡ reverse (map label_seen ls)
@@ -159,24 +151,26 @@ module _ (ts : List Tree) (ls ms ns : List Marked) (n : length ls ≡ length ts)
   turned_size : length (reverse (map outline_of ts)) ≡ length ms
   turned_size = length-reverse (map outline_of ts) ∙ length-map ts outline_of ∙ sym n ∙ sym (length-reverse ls) ∙ ap length (sym t ∙ sym s)
 
-  pub right_none : ((xs : List Outline) → length xs ≡ length ms → run_of (forest xs) (map label_seen ms) ≡ None) →
-      None ≡ option_and_then at_run (run_of (back (outlines ts)) (reverse (map label_seen ls)))
+  pub right_none : ((xs : List Outline) → length xs ≡ length ms → IsRunCut xs (map label_seen ms) None) → IsLabelFromEnd (outlines ts) (map label_seen ls) None
   right_none cut =
-      sym
-      (ap (option_and_then at_run) (ap₂ run_of (sym (forest_reverse (map outline_of ts))) (sym turned_labels) ∙ cut (reverse (map outline_of ts)) turned_size))
+      subst (λ ps. (es : Forest) (h : Option Partial) (fs : Forest) → IsRun (back (outlines ts)) ps es h fs → ⊥) turned_labels
+      (subst (λ xs. (es : Forest) (h : Option Partial) (fs : Forest) → IsRun xs (map label_seen ms) es h fs → ⊥) (forest_reverse (map outline_of ts)) (cut (reverse (map outline_of ts)) turned_size))
 
-  module _ (r : Places) (cut : (xs : List Outline) → length xs ≡ length ms → run_of (forest xs) (map label_seen ms) ≡ Some (run_seen xs (map label_seen ms) r)) where
-    from_right : run_of (back (outlines ts)) (reverse (map label_seen ls)) ≡ Some (run_seen (reverse (map outline_of ts)) (map label_seen ms) r)
-    from_right = ap₂ run_of (sym (forest_reverse (map outline_of ts))) (sym turned_labels) ∙ cut (reverse (map outline_of ts)) turned_size
+  module _ (r : Places) (cut : (xs : List Outline) → length xs ≡ length ms → IsRunCut xs (map label_seen ms) (Some r)) where
+    from_right : IsRun (back (outlines ts)) (reverse (map label_seen ls)) (forest (take r.before (reverse (map outline_of ts)))) (first_of (partials (map label_seen ms)))
+        (forest (drop r.behind (reverse (map outline_of ts))))
+    from_right =
+        subst (λ ps. IsRun (back (outlines ts)) ps (forest (take r.before (reverse (map outline_of ts)))) (first_of (partials (map label_seen ms))) (forest (drop r.behind (reverse (map outline_of ts))))) turned_labels
+        (subst
+        (λ xs. IsRun xs (map label_seen ms) (forest (take r.before (reverse (map outline_of ts)))) (first_of (partials (map label_seen ms))) (forest (drop r.behind (reverse (map outline_of ts)))))
+        (forest_reverse (map outline_of ts)) (cut (reverse (map outline_of ts)) turned_size))
 
     pub right_few : length (partials (map label_seen ns)) ≤ 1
-    right_few =
-        subst (λ l. length (partials (map label_seen l)) ≤ 1) s
-        (few_partials (back (outlines ts)) (reverse (map label_seen ls)) (run_seen (reverse (map outline_of ts)) (map label_seen ms) r) from_right)
+    right_few = subst (λ l. length (partials (map label_seen l)) ≤ 1) s (run_few (cut (reverse (map outline_of ts)) turned_size))
 
     pub right_label : (es fs us vs : List Tree) (i j : ℕ) (l : Label) → us ≡ drop i ts → i + r.before ≡ length ts → vs ≡ take j ts → j + r.behind ≡ length ts →
-        outlines es ≡ back (outlines us) → outlines fs ≡ back (outlines vs) → at_q (partials (map label_seen ns)) (outlines es) (outlines fs) ≡ Some l →
-        Some l ≡ option_and_then at_run (run_of (back (outlines ts)) (reverse (map label_seen ls)))
+        outlines es ≡ back (outlines us) → outlines fs ≡ back (outlines vs) → l ≡ run_label (outlines es) (first_of (partials (map label_seen ns))) (outlines fs) →
+        IsLabelOfQ (outlines ts) (map label_seen ls) l
     right_label es fs us vs i j l u p v q x y z =
         let a : outlines es ≡ forest (take r.before (reverse (map outline_of ts))) =
         x ∙
@@ -188,8 +182,9 @@ module _ (ts : List Tree) (ls ms ns : List Marked) (n : length ls ≡ length ts)
         sym (forest_reverse (map outline_of vs)) ∙
         ap (λ xs. forest (reverse xs)) (ap (map outline_of) v ∙ sym (take-map outline_of j ts)) ∙
         ap forest (sym (drop_turned r.behind j (map outline_of ts) (q ∙ sym (length-map ts outline_of)))) in
+        let k : run_label (forest (take r.before (reverse (map outline_of ts)))) (first_of (partials (map label_seen ms))) (forest (drop r.behind (reverse (map outline_of ts)))) ≡ l =
         sym
-        (ap (option_and_then at_run) from_right ∙
-        ap (λ ps. at_q (partials ps) (forest (take r.before (reverse (map outline_of ts)))) (forest (drop r.behind (reverse (map outline_of ts))))) (ap (map label_seen) s) ∙
-        sym (ap₂ (at_q (partials (map label_seen ns))) a b) ∙
-        z)
+        (z ∙
+        ap₂ (λ e f. run_label e (first_of (partials (map label_seen ns))) f) a b ∙
+        ap (λ m. run_label (forest (take r.before (reverse (map outline_of ts)))) (first_of (partials (map label_seen m))) (forest (drop r.behind (reverse (map outline_of ts))))) (sym s)) in
+        subst (IsLabelOfQ (outlines ts) (map label_seen ls)) k (from_rear (outlines ts) (map label_seen ls) _ (run_gives from_right))

@@ -4,25 +4,16 @@ use Rattle.std.proofs.lemmas.Bool.{both_ways}
 use Rattle.row_model.specs.declared.graph.Pair.{Pair}
 use Rattle.column_order.specs.Orders.{has, occurs}
 use Rattle.row_model.specs.Graph.{pair}
-use Rattle.column_order.proofs.Lists.{has_append_cases, has_append_left, has_append_right, occurs-append}
+use Rattle.column_order.proofs.Lists.{has_append_cases, has_append_left, has_append_right, occurs-append, has_same}
 use Rattle.pq_tree.specs.Outline.{Outline, Forest, q_node, no_tree, tree_and, leaves, leaves_of}
 use Rattle.tied_law.specs.Tied.{IsForward}
 use Rattle.tied_law.proofs.Bound.{IsClosed, IsInLine, IsBound, AreBound, IsPairEq}
-use Rattle.tied_law.proofs.Frontiers.{has_same}
-use Rattle.pq_plain.specs.Templates.{join, back}
-use Rattle.pq_plain.proofs.Lines.{leaves_of-join, has_join_cases, has_join_left, has_join_right, forward_cases, forward_left, forward_right, forward_across, bound_join, bound_left, bound_right}
+use Rattle.pq_tree.specs.Forests.{join, back}
+use Rattle.pq_tree.proofs.Forests.{leaves_of-join, has_join_cases, has_join_left, has_join_right, back_has, back_occurs}
+use Rattle.pq_plain.proofs.Lines.{forward_cases, forward_left, forward_right, forward_across, bound_join, bound_left, bound_right}
 use Rattle.pq_plain.proofs.BelowRoot.{IsOutside, Treated, outside_within}
 use Rattle.pq_plain.proofs.AtRoot.{Rooted}
 use Rattle.pq_plain.proofs.Context.{the_bound}
-
-pub back_occurs : (ts : Forest) (a : ℕ) → occurs (leaves_of (back ts)) a ≡ occurs (leaves_of ts) a
-back_occurs no_tree a = refl
-back_occurs (tree_and t ts) a =
-    rw (leaves_of-join (back ts) (tree_and t no_tree))
-    (omega (arith, occurs-append (leaves_of (back ts)) (leaves t ++ []) a, occurs-append (leaves t) [] a, occurs-append (leaves t) (leaves_of ts) a, back_occurs ts a))
-
-pub back_has : (ts : Forest) (a : ℕ) → has (leaves_of (back ts)) a ≡ has (leaves_of ts) a
-back_has ts a = has_same (leaves_of (back ts)) (leaves_of ts) a (back_occurs ts a)
 
 pub forward_back : (ts : Forest) (v : Pair) → IsForward (back ts) v → IsForward ts (pair v.b v.a)
 forward_back no_tree v h = h

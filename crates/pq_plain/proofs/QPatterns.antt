@@ -2,10 +2,9 @@
 use Rattle.std.proofs.Common.{◌≡◌, List, [], ◌∷◌, ◌++◌, reverse, Option, Some, None, sym, subst, inl, inr}
 use Rattle.std.proofs.lemmas.List.{reverse-append, reverse-reverse}
 use Rattle.pq_tree.specs.Outline.{Outline, Forest, no_tree, tree_and}
-use Rattle.pq_plain.specs.Templates.{Partial, Label, empty_label, full_label, partial_label, join, back, line, q2, q3, IsSorted, none_sorted, to_empty, to_full, AreAllFull, AreAllEmpty, IsRun, run_full, run_partial, run_more, IsTail, tail_empty, tail_partial, tail_more, IsSpan, span_tail, span_partial, span_more, IsQ2}
-use Rattle.pq_plain.proofs.Lines.{join_assoc}
-use Rattle.pq_plain.proofs.Outlines.{join_no_tree}
-use Rattle.pq_plain.proofs.QSteps.{back-back, back-join}
+use Rattle.pq_plain.specs.Templates.{Partial, Label, empty_label, full_label, partial_label, line, q2, q3, IsSorted, none_sorted, to_empty, to_full, AreAllFull, AreAllEmpty, IsRun, run_full, run_partial, run_more, IsTail, tail_empty, tail_partial, tail_more, IsSpan, span_tail, span_partial, span_more, IsQ2}
+use Rattle.pq_tree.specs.Forests.{join, back}
+use Rattle.pq_tree.proofs.Forests.{join_assoc, join_no_tree, back-back, back-join}
 use Rattle.pq_plain.proofs.Patterns.{full_is, as_all_full, sorted_back, push_empty, run_not_full, partial_not_full, run_not_empty, partial_not_empty}
 
 -- full children alone, and empty ones alone

@@ -4,17 +4,17 @@ use Rattle.std.proofs.lemmas.Bool.{both_ways, false_from_ne_true}
 use Rattle.row_model.specs.declared.graph.Pair.{Pair}
 use Rattle.column_order.specs.Orders.{has, occurs}
 use Rattle.row_model.specs.Graph.{pair}
-use Rattle.column_order.proofs.Lists.{has_append_left}
+use Rattle.column_order.proofs.Lists.{has_append_left, has_same}
 use Rattle.pq_tree.specs.Outline.{Outline, Forest, q_node, no_tree, tree_and, leaves, leaves_of}
 use Rattle.tied_law.specs.Tied.{IsForward}
 use Rattle.tied_law.proofs.Bound.{IsClosed, IsBound, AreBound, IsPairEq}
-use Rattle.tied_law.proofs.Frontiers.{has_same}
-use Rattle.pq_plain.specs.Templates.{join, back}
-use Rattle.pq_plain.proofs.Lines.{join_assoc, has_join_cases, has_join_left, has_join_right, forward_across, bound_join, bound_left, bound_right}
+use Rattle.pq_tree.specs.Forests.{join, back}
+use Rattle.pq_tree.proofs.Forests.{join_assoc, has_join_cases, has_join_left, has_join_right, back_occurs, back_has, back-join, back-back}
+use Rattle.pq_plain.proofs.Lines.{forward_across, bound_join, bound_left, bound_right}
 use Rattle.pq_plain.proofs.BelowRoot.{IsOutside, AreEmpty, AreFull, Treated, towards, middle_closed, outside_within}
 use Rattle.pq_plain.proofs.AtRoot.{Rooted}
 use Rattle.pq_plain.proofs.Context.{the_bound}
-use Rattle.pq_plain.proofs.QLines.{back_occurs, back_has, parts_occur, from_parts, parts_up, parts_down, turned_bound, unturned_bound}
+use Rattle.pq_plain.proofs.QLines.{parts_occur, from_parts, parts_up, parts_down, turned_bound, unturned_bound}
 
 -- Q2 below the pertinent root without a partial child: [E F]
 module _ (row : List ℕ) (es fs : Forest) (empty : AreEmpty row es) (full : AreFull row fs)
@@ -124,14 +124,6 @@ refined_back row ts = record { same = back_occurs ts; up = λ R eq b. unturned_b
 pub join_end : (xs : Forest) → join xs no_tree ≡ xs
 join_end no_tree = refl
 join_end (tree_and t ts) = ap (tree_and t) (join_end ts)
-
-pub back-join : (xs ys : Forest) → back (join xs ys) ≡ join (back ys) (back xs)
-back-join no_tree ys = sym (join_end (back ys))
-back-join (tree_and t ts) ys = ap (λ ws. join ws (tree_and t no_tree)) (back-join ts ys) ∙ join_assoc (back ys) (back ts) (tree_and t no_tree)
-
-pub back-back : (xs : Forest) → back (back xs) ≡ xs
-back-back no_tree = refl
-back-back (tree_and t ts) = back-join (back ts) (tree_and t no_tree) ∙ ap (tree_and t) (back-back ts)
 
 -- a partial child with a column of the row before it: its trees come turned
 pub refined_left : (row : List ℕ) (xs ys : Forest) (u : Outline) (e f : Forest) → Treated row u e f → (s : ℕ) → IsTrue (has (leaves_of xs) s) → IsTrue (has row s) →

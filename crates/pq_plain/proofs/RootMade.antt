@@ -1,14 +1,15 @@
 -- The templates at the pertinent root, by the counts of its children's labels.
-use Rattle.std.proofs.Common.{◌≡◌, ◌⊎◌, ◌∙◌, ◌+◌, ◌-◌, ◌≤◌, ℕ, zero, suc, List, [], ◌∷◌, Some, None, map, take, drop, length, refl, sym, ap, ap₂, subst, inl, inr, arith, option_and_then}
+use Rattle.std.proofs.Common.{◌≡◌, ◌⊎◌, ◌∙◌, ◌+◌, ◌-◌, ◌≤◌, ℕ, zero, suc, List, [], ◌∷◌, Some, None, map, take, drop, length, refl, sym, ap, ap₂, subst, inl, inr, arith}
 use Rattle.std.proofs.lemmas.List.{length-map, length-take, length-drop}
 use Rattle.pq_tree.specs.Outline.{Outline, Forest, p_node, q_node, no_tree, tree_and}
-use Rattle.pq_tree.specs.Proper.{outline_of, forest, count}
+use Rattle.pq_tree.specs.Proper.{outline_of}
+use Rattle.pq_tree.specs.Forests.{forest, count}
 use Rattle.pq_tree.specs.declared.Tree.{Tree}
 use Rattle.pq_plain.specs.Templates.{p2, q3}
 use Rattle.pq_plain.specs.Labels.{Partial, partials, first_of, empty_trees, full_trees}
-use Rattle.pq_plain.specs.Reduce.{Span, root_p, root_q, at_span, span_of}
+use Rattle.pq_plain.proofs.Computed.{root_p, root_q, at_span, p_outcome, span_seen}
 use Rattle.pq_plain.specs.Seen.{outlines, label_seen}
-use Rattle.pq_plain.specs.AtRoot.{p_outcome, q_outcome, p_made, span_seen, PartialsAt, q_made}
+use Rattle.pq_plain.specs.AtRoot.{p_made, PartialsAt, q_made}
 use Rattle.pq_plain.specs.declared.label.Label.{Label as Marked}
 use Rattle.pq_plain.specs.declared.at_root.Span.{Span as Places}
 use Rattle.pq_plain.proofs.Counted.{IsCounted, HasTree, count_none, count_some, no_partial}
@@ -153,21 +154,10 @@ forest_count [] = refl
 forest_count (x ∷ xs) = omega (arith, forest_count xs)
 
 module _ (ts : List Tree) (ls ms : List Marked) (s : Places) (size : length ls ≡ length ts) (same : ms ≡ ls)
-    (cut : (xs : List Outline) → length xs ≡ length ms → span_of (forest xs) (map label_seen ms) ≡ Some (span_seen xs (map label_seen ms) s))
     (at : PartialsAt (map label_seen ms) s)
     (within : (s.before ≤ s.full_from) × (s.full_from ≤ s.full_to) × (s.full_to ≤ s.behind) × (s.behind ≤ length ms)) where
-  r : Span
-  r = span_seen (map outline_of ts) (map label_seen ls) s
-
   pub root_labels : length ls ≡ length ms
   root_labels = ap length (sym same)
-
-  found : q_outcome (outlines ts) (map label_seen ls) ≡ at_span (outlines ts) (span_seen (map outline_of ts) (map label_seen ls) s)
-  found =
-      ap (option_and_then (at_span (outlines ts)))
-      (ap (λ l. span_of (outlines ts) (map label_seen l)) (sym same) ∙
-      cut (map outline_of ts) (length-map ts outline_of ∙ sym size ∙ root_labels) ∙
-      ap (λ l. Some (span_seen (map outline_of ts) (map label_seen l) s)) same)
 
   pub root_at : PartialsAt (map label_seen ls) s
   root_at = subst (λ l. PartialsAt (map label_seen l) s) same at
@@ -206,67 +196,61 @@ module _ (ts : List Tree) (ls ms : List Marked) (s : Places) (size : length ls �
   no_right : s.behind - s.full_to ≡ 0 → partials (drop s.full_from (map label_seen ls)) ≡ []
   no_right x = no_partial (partials (drop s.full_from (map label_seen ls))) (right_size ∙ x)
 
-  no_partials : s.full_from - s.before ≡ 0 → s.behind - s.full_to ≡ 0 → Some (q_node (outlines ts)) ≡ q_outcome (outlines ts) (map label_seen ls)
+  no_partials : s.full_from - s.before ≡ 0 → s.behind - s.full_to ≡ 0 → Some (q_node (outlines ts)) ≡ at_span (outlines ts) (span_seen (map outline_of ts) (map label_seen ls) s)
   no_partials x y =
       no_sides (partials (take s.full_from (map label_seen ls))) (partials (drop s.full_from (map label_seen ls))) (forest (take (s.full_to - s.full_from) (drop s.full_from (map outline_of ts)))) (forest (take s.before (map outline_of ts))) (forest (drop s.behind (map outline_of ts))) (outlines ts)
-      (no_left x) (no_right y) ∙
-      sym found
+      (no_left x) (no_right y)
 
-  q_right_lone : s.full_from - s.before ≡ 0 → (s.behind - s.full_to ≡ 0 → ⊥) → s.full_to - s.full_from ≡ 0 → None ≡ q_outcome (outlines ts) (map label_seen ls)
+  q_right_lone : s.full_from - s.before ≡ 0 → (s.behind - s.full_to ≡ 0 → ⊥) → s.full_to - s.full_from ≡ 0 → None ≡ at_span (outlines ts) (span_seen (map outline_of ts) (map label_seen ls) s)
   q_right_lone x y z =
       right_lone (partials (take s.full_from (map label_seen ls))) (partials (drop s.full_from (map label_seen ls))) (forest (take (s.full_to - s.full_from) (drop s.full_from (map outline_of ts)))) (forest (take s.before (map outline_of ts))) (forest (drop s.behind (map outline_of ts))) (outlines ts)
-      (no_left x) (one_right y) (no_middle z) ∙
-      sym found
+      (no_left x) (one_right y) (no_middle z)
 
-  q_left_lone : (s.full_from - s.before ≡ 0 → ⊥) → s.behind - s.full_to ≡ 0 → s.full_to - s.full_from ≡ 0 → None ≡ q_outcome (outlines ts) (map label_seen ls)
+  q_left_lone : (s.full_from - s.before ≡ 0 → ⊥) → s.behind - s.full_to ≡ 0 → s.full_to - s.full_from ≡ 0 → None ≡ at_span (outlines ts) (span_seen (map outline_of ts) (map label_seen ls) s)
   q_left_lone x y z =
       left_lone (partials (take s.full_from (map label_seen ls))) (partials (drop s.full_from (map label_seen ls))) (forest (take (s.full_to - s.full_from) (drop s.full_from (map outline_of ts)))) (forest (take s.before (map outline_of ts))) (forest (drop s.behind (map outline_of ts))) (outlines ts)
-      (one_left x) (no_right y) (no_middle z) ∙
-      sym found
+      (one_left x) (no_right y) (no_middle z)
 
-  pub q_unchanged : s.full_from - s.before + (s.behind - s.full_to) ≡ 0 → Some (q_node (outlines ts)) ≡ q_outcome (outlines ts) (map label_seen ls)
+  pub q_unchanged : s.full_from - s.before + (s.behind - s.full_to) ≡ 0 → Some (q_node (outlines ts)) ≡ at_span (outlines ts) (span_seen (map outline_of ts) (map label_seen ls) s)
   q_unchanged x = no_partials (omega arith) (omega arith)
 
-  pub q_lone : s.full_from - s.before + (s.behind - s.full_to) ≡ 1 → s.full_to - s.full_from ≡ 0 → None ≡ q_outcome (outlines ts) (map label_seen ls)
+  pub q_lone : s.full_from - s.before + (s.behind - s.full_to) ≡ 1 → s.full_to - s.full_from ≡ 0 → None ≡ at_span (outlines ts) (span_seen (map outline_of ts) (map label_seen ls) s)
   q_lone x z =
       elim (zero_or_not (s.full_from - s.before)) [
         | inl y ↦ q_right_lone y (λ w. absurd (omega (arith, x, y, w))) z
         | inr y ↦ q_left_lone y (omega (arith, x, nonzero (s.full_from - s.before) y)) z
       ]
 
-  module _ (u : Outline) (is : u ≡ q_made (span_seen (map outline_of ts) (map label_seen ls) s)) where
-    q_left_made : (s.full_from - s.before ≡ 0 → ⊥) → s.behind - s.full_to ≡ 0 → (s.full_to - s.full_from ≡ 0 → ⊥) → Some u ≡ q_outcome (outlines ts) (map label_seen ls)
+  module _ (u : Outline) (is : u ≡ q_made (map outline_of ts) (map label_seen ls) s) where
+    q_left_made : (s.full_from - s.before ≡ 0 → ⊥) → s.behind - s.full_to ≡ 0 → (s.full_to - s.full_from ≡ 0 → ⊥) → Some u ≡ at_span (outlines ts) (span_seen (map outline_of ts) (map label_seen ls) s)
     unfolding q_of
     q_left_made x y z =
         ap Some is ∙
         left_only (partials (take s.full_from (map label_seen ls))) (partials (drop s.full_from (map label_seen ls))) (forest (take (s.full_to - s.full_from) (drop s.full_from (map outline_of ts)))) (forest (take s.before (map outline_of ts))) (forest (drop s.behind (map outline_of ts))) (outlines ts)
-        (one_left x) (no_right y) (some_middle z) ∙
-        sym found
+        (one_left x) (no_right y) (some_middle z)
 
-    q_right_made : s.full_from - s.before ≡ 0 → (s.behind - s.full_to ≡ 0 → ⊥) → (s.full_to - s.full_from ≡ 0 → ⊥) → Some u ≡ q_outcome (outlines ts) (map label_seen ls)
+    q_right_made : s.full_from - s.before ≡ 0 → (s.behind - s.full_to ≡ 0 → ⊥) → (s.full_to - s.full_from ≡ 0 → ⊥) → Some u ≡ at_span (outlines ts) (span_seen (map outline_of ts) (map label_seen ls) s)
     unfolding q_of
     q_right_made x y z =
         ap Some is ∙
         right_only (partials (take s.full_from (map label_seen ls))) (partials (drop s.full_from (map label_seen ls))) (forest (take (s.full_to - s.full_from) (drop s.full_from (map outline_of ts)))) (forest (take s.before (map outline_of ts))) (forest (drop s.behind (map outline_of ts))) (outlines ts)
-        (no_left x) (one_right y) (some_middle z) ∙
-        sym found
+        (no_left x) (one_right y) (some_middle z)
 
-    q_both_made : (s.full_from - s.before ≡ 0 → ⊥) → (s.behind - s.full_to ≡ 0 → ⊥) → Some u ≡ q_outcome (outlines ts) (map label_seen ls)
+    q_both_made : (s.full_from - s.before ≡ 0 → ⊥) → (s.behind - s.full_to ≡ 0 → ⊥) → Some u ≡ at_span (outlines ts) (span_seen (map outline_of ts) (map label_seen ls) s)
     unfolding q_of
     q_both_made x y =
         ap Some is ∙
         both_sides (partials (take s.full_from (map label_seen ls))) (partials (drop s.full_from (map label_seen ls))) (forest (take (s.full_to - s.full_from) (drop s.full_from (map outline_of ts)))) (forest (take s.before (map outline_of ts))) (forest (drop s.behind (map outline_of ts))) (outlines ts)
-        (one_left x) (one_right y) ∙
-        sym found
+        (one_left x) (one_right y)
 
-    pub q_one_made : s.full_from - s.before + (s.behind - s.full_to) ≡ 1 → (s.full_to - s.full_from ≡ 0 → ⊥) → Some u ≡ q_outcome (outlines ts) (map label_seen ls)
+    pub q_one_made : s.full_from - s.before + (s.behind - s.full_to) ≡ 1 → (s.full_to - s.full_from ≡ 0 → ⊥) → Some u ≡ at_span (outlines ts) (span_seen (map outline_of ts) (map label_seen ls) s)
     q_one_made x z =
         elim (zero_or_not (s.full_from - s.before)) [
           | inl y ↦ q_right_made y (λ w. absurd (omega (arith, x, y, w))) z
           | inr y ↦ q_left_made y (omega (arith, x, nonzero (s.full_from - s.before) y)) z
         ]
 
-    pub q_two_made : (s.full_from - s.before + (s.behind - s.full_to) ≡ 0 → ⊥) → (s.full_from - s.before + (s.behind - s.full_to) ≡ 1 → ⊥) → Some u ≡ q_outcome (outlines ts) (map label_seen ls)
+    pub q_two_made : (s.full_from - s.before + (s.behind - s.full_to) ≡ 0 → ⊥) → (s.full_from - s.before + (s.behind - s.full_to) ≡ 1 → ⊥) → Some u ≡ at_span (outlines ts) (span_seen (map outline_of ts) (map label_seen ls) s)
     q_two_made x y =
         q_both_made (λ z. few (s.full_from - s.before) (s.behind - s.full_to) z root_at.few_right x y)
         (λ z. few (s.behind - s.full_to) (s.full_from - s.before) z root_at.few_left (λ w. x (omega (arith, w))) (λ w. y (omega (arith, w))))

@@ -3,11 +3,14 @@ use Rattle.std.proofs.Common.{◌≡◌, ◌≢◌, ◌∙◌, ◌+◌, ◌-◌,
 use Rattle.std.proofs.lemmas.Bool.{cond-true, cond-false}
 use Rattle.std.proofs.lemmas.List.{drop-map, length-map, length-drop, take_all}
 use Rattle.pq_tree.specs.Outline.{Outline, no_tree, tree_and}
-use Rattle.pq_tree.specs.Proper.{forest}
-use Rattle.pq_plain.specs.Labels.{Label, empty_label, full_label, partial_label, partials, all_full, one_more, run_of}
-use Rattle.pq_plain.specs.Seen.{label_seen, empty_front, full_front, cut_front, run_seen}
+use Rattle.pq_tree.specs.Forests.{forest}
+use Rattle.pq_plain.specs.Labels.{Label, empty_label, full_label, partial_label, partials}
+use Rattle.pq_plain.proofs.Computed.{all_full, one_more, run_of, run_seen}
+use Rattle.pq_plain.specs.Seen.{label_seen, empty_front, full_front, cut_front}
 use Rattle.pq_plain.specs.declared.label.Label.{Label as Marked}
 use Rattle.pq_plain.specs.declared.label.Run.{Run as Places}
+use Rattle.pq_plain.specs.Cuts.{IsRunCut}
+use Rattle.pq_plain.proofs.Cutting.{run_cut, no_run_cut}
 
 -- how many labels stand before the full ones
 unfoldable pub run_end : List Label → ℕ
@@ -96,7 +99,7 @@ module _ (ls : List Marked) (b n e f : ℕ) (before : b ≡ empty_front (map lab
   rest_length =
       length-drop (run_end (map label_seen ls)) (map label_seen ls) ∙ ap₂ (λ x y. x - y) (length-map ls label_seen) (sym is_end)
 
-  pub run_found : e + f ≡ length ls → (ts : List Outline) → length ts ≡ length ls → let r : Places = record { before = b; behind = e } in
+  run_found : e + f ≡ length ls → (ts : List Outline) → length ts ≡ length ls → let r : Places = record { before = b; behind = e } in
       run_of (forest ts) (map label_seen ls) ≡ Some (run_seen ts (map label_seen ls) r)
   run_found h ts k =
       run_fits ts (map label_seen ls) (k ∙ sym (length-map ls label_seen)) (filled_front (drop (run_end (map label_seen ls)) (map label_seen ls)) (omega (arith, h, rest_front, rest_length))) ∙
@@ -105,7 +108,13 @@ module _ (ls : List Marked) (b n e f : ℕ) (before : b ≡ empty_front (map lab
   few : e ≤ length ls
   few = omega (arith, is_end, run_end_few (map label_seen ls), length-map ls label_seen)
 
-  pub run_missing : e + f ≢ length ls → (ts : List Outline) → length ts ≡ length ls → run_of (forest ts) (map label_seen ls) ≡ None
+  run_missing : e + f ≢ length ls → (ts : List Outline) → length ts ≡ length ls → run_of (forest ts) (map label_seen ls) ≡ None
   run_missing h ts k =
       run_fails ts (map label_seen ls) (k ∙ sym (length-map ls label_seen))
       (not_filled_front (drop (run_end (map label_seen ls)) (map label_seen ls)) (λ x. h (omega (arith, x, few, rest_front, rest_length))))
+
+  pub cut_found : e + f ≡ length ls → (ts : List Outline) → length ts ≡ length ls → IsRunCut ts (map label_seen ls) (Some (record { before = b; behind = e }))
+  cut_found h ts k = run_cut ts (map label_seen ls) (record { before = b; behind = e }) (length-map ls label_seen ∙ sym k) (run_found h ts k)
+
+  pub cut_missing : e + f ≢ length ls → (ts : List Outline) → length ts ≡ length ls → IsRunCut ts (map label_seen ls) None
+  cut_missing h ts k = no_run_cut ts (map label_seen ls) (run_missing h ts k)

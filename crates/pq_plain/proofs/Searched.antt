@@ -1,97 +1,35 @@
 -- The search for the pertinent root.
-use Rattle.std.proofs.Common.{◌≡◌, ◌∙◌, ◌+◌, ◌<◌, ◌≤◌, ℕ, List, [], ◌∷◌, ◌++◌, Option, Some, None, Result, Ok, Err, OnErr, map, take, drop, set, length, get_or, IsTrue, IsFalse, refl, sym, ap, ap₂, subst, inl, inr, arith, option_and_then}
-use Rattle.std.proofs.lemmas.Bool.{cases_Bool, cond-true, cond-false, and_from, and_parts}
+use Rattle.std.proofs.Common.{◌≡◌, ◌∙◌, ◌+◌, ◌<◌, ◌≤◌, ℕ, List, [], ◌∷◌, ◌++◌, Result, Ok, Err, OnErr, map, take, drop, set, length, get_or, IsFalse, sym, ap, ap₂, subst, inr, arith}
 use Rattle.std.proofs.lemmas.List.{map_more, map-append, take-append-drop, drop_more, length-map, length-set, get_or-set_same, take-set, drop-set-lt, with_items_is, append-nil, take-map, take_all}
 use Rattle.std.proofs.Math.Seq.{map-set_same}
-use Rattle.std.specs.List.{list_all}
 use Rattle.std.specs.Vec.{with_items}
 use Rattle.std.specs.declared.vec.Vec.{Vec}
 use Rattle.std.specs.declared.alloc.Global.{Global}
-use Rattle.column_order.specs.Orders.{has, occurs}
-use Rattle.column_order.proofs.Lists.{occurs-append, has_append_left, has_append_right}
-use Rattle.pq_tree.specs.Outline.{Outline, Forest, leaf, p_node, q_node, no_tree, tree_and, leaves, leaves_of}
-use Rattle.pq_tree.specs.Proper.{outline_of, forest}
+use Rattle.column_order.specs.Orders.{occurs}
+use Rattle.column_order.proofs.Lists.{occurs-append}
+use Rattle.pq_tree.specs.Outline.{Outline, Forest, leaf, p_node, q_node, tree_and, leaves, leaves_of}
+use Rattle.pq_tree.specs.Proper.{outline_of, HasArities, HaveArities, IsTree, AreTrees}
+use Rattle.pq_tree.specs.Forests.{forest, join}
+use Rattle.pq_tree.specs.Nodes.{children, IsNodeOf, holds, NoneHolds}
 use Rattle.pq_tree.specs.declared.Tree.{Tree, Leaf, P, Q}
 use Rattle.pq_tree.proofs.Shown.{outline_of-Leaf, outline_of-P, outline_of-Q, leaves_of-append}
-use Rattle.pq_plain.specs.Reduce.{holds, put, behind_of, inner_or, reduce, inner}
-use Rattle.pq_plain.specs.Labels.{labels_of}
 use Rattle.pq_plain.specs.Seen.{outlines}
-use Rattle.pq_plain.specs.AtRoot.{root_of, p_outcome, q_outcome}
-use Rattle.pq_plain.specs.Found.{hits, IsStep, IsFound, IsFoundBelow, IsStepAmong, IsFoundAmong}
+use Rattle.pq_plain.specs.Found.{hits, IsLowest, IsRootStep, IsRootReplaced, IsStep, IsStepIn, IsFound, IsFoundBelow, IsFoundIn}
+use Rattle.pq_plain.specs.Reduced.{IsRootMade, IsReplaced, replaced_here, replaced_under_p, replaced_under_q}
+use Rattle.pq_plain.specs.Refused.{IsStuck, IsRefused}
+use Rattle.pq_plain.proofs.TreeLabels.{node_among}
+use Rattle.pq_tree.proofs.Forests.{forest_append}
+use Rattle.pq_tree.proofs.Nodes.{node_itself}
 use Rattle.pq_plain.specs.declared.reducer.Step.{Step}
 use Rattle.pq_plain.specs.declared.reducer.Step.TheVariants.{Taken, Refused}
 use Rattle.pq_plain.specs.declared.search.Found.{Found}
 use Rattle.pq_plain.specs.declared.search.Found.TheVariants.{Columns, Root}
 use Rattle.pq_plain.proofs.Hits.{hits_few, hits_all, hits_part, hits_append}
 
--- the first tree that holds the row
-record NoneHolds (row : List ℕ) (t : Outline) (ts : Forest) : Type 0 where
-  pub here : IsFalse (holds row t)
-  pub later : inner row ts ≡ None
-
-none_holds : (row : List ℕ) (t : Outline) (ts : Forest) → inner row (tree_and t ts) ≡ None → NoneHolds row t ts
-none_holds row t ts e =
-    elim (cases_Bool (holds row t)) [
-      | inl k ↦ some_none (put ts (reduce row t)) (sym (cond-true (holds row t) (Some (put ts (reduce row t))) (behind_of t (inner row ts)) k) ∙ e)
-      | inr k ↦ record {
-        here = k;
-        later = behind_none (inner row ts) (sym (cond-false (holds row t) (Some (put ts (reduce row t))) (behind_of t (inner row ts)) k) ∙ e);
-      }
-    ]
-  where
-    some_none : (o : Option Forest) → Some o ≡ None → NoneHolds row t ts
-    some_none o x = cc
-
-    behind_none : (o : Option (Option Forest)) → behind_of t o ≡ None → o ≡ None
-    behind_none None x = refl
-    behind_none (Some None) x = cc
-    behind_none (Some (Some us)) x = cc
-
-inner_none : (row : List ℕ) (xs : List Outline) (t : Outline) → inner row (forest xs) ≡ None → IsFalse (holds row t) → inner row (forest (xs ++ t ∷ [])) ≡ None
-inner_none row [] t e h = cond-false (holds row t) (Some (put no_tree (reduce row t))) (behind_of t None) h
-inner_none row (x ∷ xs) t e h =
-    let w : NoneHolds row x (forest xs) = none_holds row x (forest xs) e in
-    cond-false (holds row x) (Some (put (forest (xs ++ t ∷ [])) (reduce row x))) (behind_of x (inner row (forest (xs ++ t ∷ [])))) w.here ∙
-    ap (behind_of x) (inner_none row xs t w.later h)
-
-inner_taken : (row : List ℕ) (xs ys : List Outline) (t u : Outline) → inner row (forest xs) ≡ None → IsTrue (holds row t) → reduce row t ≡ Some u → inner row (forest (xs ++ t ∷ ys)) ≡ Some (Some (forest (xs ++ u ∷ ys)))
-inner_taken row [] ys t u e h k =
-    cond-true (holds row t) (Some (put (forest ys) (reduce row t))) (behind_of t (inner row (forest ys))) h ∙ ap (λ o. Some (put (forest ys) o)) k
-inner_taken row (x ∷ xs) ys t u e h k =
-    let w : NoneHolds row x (forest xs) = none_holds row x (forest xs) e in
-    cond-false (holds row x) (Some (put (forest (xs ++ t ∷ ys)) (reduce row x))) (behind_of x (inner row (forest (xs ++ t ∷ ys)))) w.here ∙
-    ap (behind_of x) (inner_taken row xs ys t u w.later h k)
-
-inner_refused : (row : List ℕ) (xs ys : List Outline) (t : Outline) → inner row (forest xs) ≡ None → IsTrue (holds row t) → reduce row t ≡ None → inner row (forest (xs ++ t ∷ ys)) ≡ Some None
-inner_refused row [] ys t e h k =
-    cond-true (holds row t) (Some (put (forest ys) (reduce row t))) (behind_of t (inner row (forest ys))) h ∙ ap (λ o. Some (put (forest ys) o)) k
-inner_refused row (x ∷ xs) ys t e h k =
-    let w : NoneHolds row x (forest xs) = none_holds row x (forest xs) e in
-    cond-false (holds row x) (Some (put (forest (xs ++ t ∷ ys)) (reduce row x))) (behind_of x (inner row (forest (xs ++ t ∷ ys)))) w.here ∙
-    ap (behind_of x) (inner_refused row xs ys t w.later h k)
-
--- the node above holds what a child holds
-all_weaker : (l m row : List ℕ) → ((a : ℕ) → IsTrue (has l a) → IsTrue (has m a)) → IsTrue (list_all (λ a. has l a) row) → IsTrue (list_all (λ a. has m a) row)
-all_weaker l m [] sub h = refl
-all_weaker l m (x ∷ row) sub h =
-    let w : IsTrue (has l x) × IsTrue (list_all (λ a. has l a) row) = and_parts (has l x) (list_all (λ a. has l a) row) h in
-    and_from (has m x) (list_all (λ a. has m a) row) (sub x w.0) (all_weaker l m row sub w.1)
-
-behind_some : (t : Outline) (x : Option (Option Forest)) (o : Option Forest) → behind_of t x ≡ Some o → (y : Option Forest) × (x ≡ Some y)
-behind_some t None o e = cc
-behind_some t (Some None) o e = (None, refl)
-behind_some t (Some (Some us)) o e = (Some us, refl)
-
-inner_held : (row : List ℕ) (ts : Forest) (o : Option Forest) → inner row ts ≡ Some o → IsTrue (list_all (λ a. has (leaves_of ts) a) row)
-inner_held row no_tree o e = cc
-inner_held row (tree_and t ts) o e =
-    elim (cases_Bool (holds row t)) [
-      | inl k ↦ all_weaker (leaves t) (leaves t ++ leaves_of ts) row (λ a h. has_append_left (leaves t) (leaves_of ts) a h) k
-      | inr k ↦
-          let w : (y : Option Forest) × (inner row ts ≡ Some y) =
-          behind_some t (inner row ts) o (sym (cond-false (holds row t) (Some (put ts (reduce row t))) (behind_of t (inner row ts)) k) ∙ e) in
-          all_weaker (leaves_of ts) (leaves t ++ leaves_of ts) row (λ a h. has_append_right (leaves t) (leaves_of ts) a h) (inner_held row ts w.0 w.1)
-    ]
+-- one tree more that does not hold the row
+none_push : (row : List ℕ) (xs : List Outline) (t : Outline) → NoneHolds row (forest xs) → IsFalse (holds row t) → NoneHolds row (forest (xs ++ t ∷ []))
+none_push row [] t h k = (k, tt)
+none_push row (x ∷ xs) t h k = (h.0, none_push row xs t h.1 k)
 
 -- a list of children cut at one
 cut_at : (ts : List Tree) (i : ℕ) (d : Tree) → i < length ts → map outline_of ts ≡ map outline_of (take i ts) ++ outline_of (get_or ts i d) ∷ map outline_of (drop (i + 1) ts)
@@ -139,28 +77,60 @@ module _ (row : List ℕ) (os ts : List Tree) (i : ℕ) (d : Tree) (here : i < l
       omega
       (arith, ap (λ l. occurs l a) leaves_cut, occurs-append (leaves_of (forest (take i (map outline_of os)))) (leaves (outline_of (get_or ts i d)) ++ leaves_of (forest (map outline_of (drop (i + 1) ts)))) a, occurs-append (leaves (outline_of (get_or ts i d))) (leaves_of (forest (map outline_of (drop (i + 1) ts)))) a)
 
-  module _ (once : (a : ℕ) → occurs (leaves_of (outlines os)) a ≤ 1) where
-    pub child_once : (a : ℕ) → occurs (leaves (outline_of (get_or ts i d))) a ≤ 1
+  arities : (xs : List Outline) (x : Outline) (ys : List Outline) → HaveArities (forest (xs ++ x ∷ ys)) → HasArities x
+  arities [] x ys c = c.0
+  arities (y ∷ xs) x ys c = arities xs x ys c.1
+
+  module _ (trees : AreTrees (outlines os)) where
+    once : (a : ℕ) → occurs (leaves_of (outlines os)) a ≤ 1
+    once = trees.1
+
+    child_once : (a : ℕ) → occurs (leaves (outline_of (get_or ts i d))) a ≤ 1
     child_once a = omega (arith, occurs_cut a, once a)
+
+    pub child_tree : IsTree (outline_of (get_or ts i d))
+    child_tree =
+        (arities (take i (map outline_of os)) (outline_of (get_or ts i d)) (map outline_of (drop (i + 1) ts)) (subst (λ xs. HaveArities (forest xs)) cut trees.0), child_once)
 
     next_once : (a : ℕ) → occurs (leaves_of (forest (take (i + 1) (map outline_of os)))) a ≤ 1
     next_once a =
         omega
         (arith, occurs_cut a, once a, ap (λ l. occurs l a) leaves_next, occurs-append (leaves_of (forest (take i (map outline_of os)))) (leaves (outline_of (get_or ts i d))) a)
 
-    module _ (distinct : (a : ℕ) → occurs row a ≤ 1) (none : inner row (forest (take i (map outline_of os))) ≡ None) where
+    module _ (distinct : (a : ℕ) → occurs row a ≤ 1) (none : NoneHolds row (forest (take i (map outline_of os)))) where
       module _ (found : Found) (u : Tree) (h : IsFound row (outline_of (get_or ts i d)) (outline_of u) found) where
+        old_is : join (forest (take i (map outline_of os))) (tree_and (outline_of (get_or ts i d)) (forest (map outline_of (drop (i + 1) ts)))) ≡ outlines os
+        old_is = sym (ap forest cut ∙ forest_append (take i (map outline_of os)) (outline_of (get_or ts i d) ∷ map outline_of (drop (i + 1) ts)))
+
+        new_is : join (forest (take i (map outline_of os))) (tree_and (outline_of u) (forest (map outline_of (drop (i + 1) ts)))) ≡ outlines (set ts i u)
+        new_is =
+            sym
+            (ap forest (set_cut ts i d u within ∙ ap (λ xs. xs ++ outline_of u ∷ map outline_of (drop (i + 1) ts)) front) ∙
+            forest_append (take i (map outline_of os)) (outline_of u ∷ map outline_of (drop (i + 1) ts)))
+
         -- the child holds the whole row
-        pub among_root : (step : Step) → found ≡ Root step → IsStepAmong (inner row (outlines os)) (outlines os) (outlines (set ts i u)) step
-        among_root Taken e =
-            let w : IsFound row (outline_of (get_or ts i d)) (outline_of u) (Root Taken) = subst (IsFound row (outline_of (get_or ts i d)) (outline_of u)) e h in
-            ap (λ xs. inner row (forest xs)) cut ∙
-            inner_taken row (take i (map outline_of os)) (map outline_of (drop (i + 1) ts)) (outline_of (get_or ts i d)) (outline_of u) none w.0 w.1 ∙
-            ap (λ xs. Some (Some (forest xs))) (ap (λ xs. xs ++ outline_of u ∷ map outline_of (drop (i + 1) ts)) (sym front) ∙ sym (set_cut ts i d u within))
-        among_root Refused e =
-            let w : IsFound row (outline_of (get_or ts i d)) (outline_of u) (Root Refused) = subst (IsFound row (outline_of (get_or ts i d)) (outline_of u)) e h in (
-              ap (λ xs. inner row (forest xs)) cut ∙ inner_refused row (take i (map outline_of os)) (map outline_of (drop (i + 1) ts)) (outline_of (get_or ts i d)) none w.0 w.1.0,
-              ap forest (map-set_same outline_of ts i u d w.1.1 ∙ same),
+        pub in_root : (step : Step) → found ≡ Root step → IsStepIn row (outlines os) (outlines (set ts i u)) step
+        in_root Taken e =
+            let w : IsRootReplaced row (outline_of (get_or ts i d)) (outline_of u) = subst (IsFound row (outline_of (get_or ts i d)) (outline_of u)) e h in
+            record {
+              before = forest (take i (map outline_of os));
+              t = outline_of (get_or ts i d);
+              u = outline_of u;
+              behind = forest (map outline_of (drop (i + 1) ts));
+              old = old_is;
+              new = new_is;
+              root = w;
+            }
+        in_root Refused e =
+            let w : IsFound row (outline_of (get_or ts i d)) (outline_of u) (Root Refused) = subst (IsFound row (outline_of (get_or ts i d)) (outline_of u)) e h in
+            let r : IsRefused row (outline_of (get_or ts i d)) = w.0 in (
+              (
+                r.0,
+                subst (λ xs. IsNodeOf r.0 (forest xs)) (sym cut) (node_among r.0 (outline_of (get_or ts i d)) (take i (map outline_of os)) (map outline_of (drop (i + 1) ts)) r.1.node),
+                (r.1.whole, r.1.smallest),
+                r.2,
+              ),
+              ap forest (map-set_same outline_of ts i u d w.1 ∙ same),
             )
 
         -- it does not
@@ -171,11 +141,11 @@ module _ (row : List ℕ) (os ts : List Tree) (i : ℕ) (d : Tree) (here : i < l
           pub same_after : map outline_of (set ts i u) ≡ map outline_of os
           same_after = map-set_same outline_of ts i u d told.0 ∙ same
 
-          pub none_after : inner row (forest (take (i + 1) (map outline_of os))) ≡ None
+          pub none_after : NoneHolds row (forest (take (i + 1) (map outline_of os)))
           none_after =
-              ap (λ xs. inner row (forest xs)) next ∙
-              inner_none row (take i (map outline_of os)) (outline_of (get_or ts i d)) none
-              (hits_part row (leaves (outline_of (get_or ts i d))) distinct child_once (omega (arith, told.1, told.2)))
+              subst (λ xs. NoneHolds row (forest xs)) (sym next)
+              (none_push row (take i (map outline_of os)) (outline_of (get_or ts i d)) none
+              (hits_part row (leaves (outline_of (get_or ts i d))) distinct child_once (omega (arith, told.1, told.2))))
 
           pub count_after : m + n ≡ hits row (leaves_of (forest (take (i + 1) (map outline_of os))))
           count_after =
@@ -188,35 +158,54 @@ module _ (row : List ℕ) (os ts : List Tree) (i : ℕ) (d : Tree) (here : i < l
               omega (arith, count_after, hits_few row (leaves_of (forest (take (i + 1) (map outline_of os)))) distinct next_once)
 
 -- the node above its children
-pub among_columns : (row : List ℕ) (os ts : List Tree) (i m : ℕ) → length os ≤ i → map outline_of ts ≡ map outline_of os → inner row (forest (take i (map outline_of os))) ≡ None → m ≡ hits row (leaves_of (forest (take i (map outline_of os)))) →
-    IsFoundAmong row (outlines os) (outlines ts) (Columns m)
-among_columns row os ts i m h same none count =
+pub in_columns : (row : List ℕ) (os ts : List Tree) (i m : ℕ) → length os ≤ i → map outline_of ts ≡ map outline_of os → NoneHolds row (forest (take i (map outline_of os))) → m ≡ hits row (leaves_of (forest (take i (map outline_of os)))) →
+    IsFoundIn row (outlines os) (outlines ts) (Columns m)
+in_columns row os ts i m h same none count =
     let all : take i (map outline_of os) ≡ map outline_of os = take_all i (map outline_of os) (omega (arith, h, length-map os outline_of)) in
-    (ap forest same, count ∙ ap (λ xs. hits row (leaves_of (forest xs))) all, ap (λ xs. inner row (forest xs)) (sym all) ∙ none)
+    (ap forest same, count ∙ ap (λ xs. hits row (leaves_of (forest xs))) all, subst (λ xs. NoneHolds row (forest xs)) all none)
 
 pub leaf_found : (row : List ℕ) (r t : Tree) (a n : ℕ) → r ≡ t → r ≡ Leaf a → n ≡ hits row (a ∷ []) → IsFoundBelow row (outline_of t) (outline_of (Leaf a)) (Columns n)
 leaf_found row r t a n s e k =
     let w : outline_of t ≡ leaf a = ap outline_of (sym s ∙ e) ∙ outline_of-Leaf a in (
       outline_of-Leaf a ∙ sym w,
       k ∙ ap (λ x. hits row (leaves x)) (sym w),
-      ap (reduce row) w ∙ sym (ap (root_of row) w),
+      subst (λ x. NoneHolds row (children x)) (sym w) tt,
     )
 
-found_P : (row : List ℕ) (ts us : Forest) (found : Found) → IsFoundAmong row ts us found → IsFoundBelow row (p_node ts) (p_node us) found
-found_P row ts us (Columns n) h =
-    (ap p_node h.0, h.1, ap (λ o. inner_or o p_node (option_and_then (p_outcome ts) (labels_of row ts))) h.2)
-found_P row ts us (Root Taken) h =
-    (inner_held row ts (Some us) h, ap (λ o. inner_or o p_node (option_and_then (p_outcome ts) (labels_of row ts))) h)
-found_P row ts us (Root Refused) h =
-    (inner_held row ts None h.0, (ap (λ o. inner_or o p_node (option_and_then (p_outcome ts) (labels_of row ts))) h.0, ap p_node h.1))
+-- one of the children of a node
+step_P : (row : List ℕ) (ts us : Forest) (step : Step) → IsStepIn row ts us step → IsStep row (p_node ts) (p_node us) step
+step_P row ts us Taken h =
+    record {
+      x = h.root.x;
+      y = h.root.y;
+      lowest = h.root.lowest;
+      made = h.root.made;
+      replaced =
+          subst (IsReplaced h.root.x h.root.y (p_node ts)) (ap p_node h.new)
+          (subst (λ s. IsReplaced h.root.x h.root.y (p_node s) (p_node (join h.before (tree_and h.u h.behind)))) h.old (replaced_under_p h.before h.behind h.root.replaced));
+    }
+step_P row ts us Refused h = ((h.0.0, record { node = inr h.0.1; whole = h.0.2.0; smallest = h.0.2.1 }, h.0.3), ap p_node h.1)
 
-found_Q : (row : List ℕ) (ts us : Forest) (found : Found) → IsFoundAmong row ts us found → IsFoundBelow row (q_node ts) (q_node us) found
-found_Q row ts us (Columns n) h =
-    (ap q_node h.0, h.1, ap (λ o. inner_or o q_node (option_and_then (q_outcome ts) (labels_of row ts))) h.2)
-found_Q row ts us (Root Taken) h =
-    (inner_held row ts (Some us) h, ap (λ o. inner_or o q_node (option_and_then (q_outcome ts) (labels_of row ts))) h)
-found_Q row ts us (Root Refused) h =
-    (inner_held row ts None h.0, (ap (λ o. inner_or o q_node (option_and_then (q_outcome ts) (labels_of row ts))) h.0, ap q_node h.1))
+step_Q : (row : List ℕ) (ts us : Forest) (step : Step) → IsStepIn row ts us step → IsStep row (q_node ts) (q_node us) step
+step_Q row ts us Taken h =
+    record {
+      x = h.root.x;
+      y = h.root.y;
+      lowest = h.root.lowest;
+      made = h.root.made;
+      replaced =
+          subst (IsReplaced h.root.x h.root.y (q_node ts)) (ap q_node h.new)
+          (subst (λ s. IsReplaced h.root.x h.root.y (q_node s) (q_node (join h.before (tree_and h.u h.behind)))) h.old (replaced_under_q h.before h.behind h.root.replaced));
+    }
+step_Q row ts us Refused h = ((h.0.0, record { node = inr h.0.1; whole = h.0.2.0; smallest = h.0.2.1 }, h.0.3), ap q_node h.1)
+
+found_P : (row : List ℕ) (ts us : Forest) (found : Found) → IsFoundIn row ts us found → IsFoundBelow row (p_node ts) (p_node us) found
+found_P row ts us (Columns n) h = (ap p_node h.0, h.1, h.2)
+found_P row ts us (Root step) h = step_P row ts us step h
+
+found_Q : (row : List ℕ) (ts us : Forest) (found : Found) → IsFoundIn row ts us found → IsFoundBelow row (q_node ts) (q_node us) found
+found_Q row ts us (Columns n) h = (ap q_node h.0, h.1, h.2)
+found_Q row ts us (Root step) h = step_Q row ts us step h
 
 module _ (r t : Tree) (v : Vec Tree Global) (os : List Tree) (is : r ≡ t) (read : os ≡ v.items) where
   old_P : r ≡ P v → outline_of t ≡ p_node (outlines os)
@@ -225,11 +214,11 @@ module _ (r t : Tree) (v : Vec Tree Global) (os : List Tree) (is : r ≡ t) (rea
   old_Q : r ≡ Q v → outline_of t ≡ q_node (outlines os)
   old_Q e = ap outline_of (sym is ∙ e) ∙ outline_of-Q v ∙ ap (λ xs. q_node (outlines xs)) (sym read)
 
-  pub P_once : r ≡ P v → ((a : ℕ) → occurs (leaves (outline_of t)) a ≤ 1) → (a : ℕ) → occurs (leaves_of (outlines os)) a ≤ 1
-  P_once e once a = subst (λ x. occurs (leaves x) a ≤ 1) (old_P e) (once a)
+  pub P_trees : r ≡ P v → IsTree (outline_of t) → AreTrees (outlines os)
+  P_trees e w = let n : IsTree (p_node (outlines os)) = subst IsTree (old_P e) w in (n.0.1, n.1)
 
-  pub Q_once : r ≡ Q v → ((a : ℕ) → occurs (leaves (outline_of t)) a ≤ 1) → (a : ℕ) → occurs (leaves_of (outlines os)) a ≤ 1
-  Q_once e once a = subst (λ x. occurs (leaves x) a ≤ 1) (old_Q e) (once a)
+  pub Q_trees : r ≡ Q v → IsTree (outline_of t) → AreTrees (outlines os)
+  Q_trees e w = let n : IsTree (q_node (outlines os)) = subst IsTree (old_Q e) w in (n.0.1, n.1)
 
   module _ (ws : List Tree) (size : length ws ≡ length os) where
     kept : (with_items v ws).items ≡ ws
@@ -241,12 +230,12 @@ module _ (r t : Tree) (v : Vec Tree Global) (os : List Tree) (is : r ≡ t) (rea
     new_Q : outline_of (Q (with_items v ws)) ≡ q_node (outlines ws)
     new_Q = outline_of-Q (with_items v ws) ∙ ap (λ xs. q_node (outlines xs)) kept
 
-    pub P_found : r ≡ P v → (row : List ℕ) (found : Found) → IsFoundAmong row (outlines os) (outlines ws) found → IsFoundBelow row (outline_of t) (outline_of (P (with_items v ws))) found
+    pub P_found : r ≡ P v → (row : List ℕ) (found : Found) → IsFoundIn row (outlines os) (outlines ws) found → IsFoundBelow row (outline_of t) (outline_of (P (with_items v ws))) found
     P_found e row found h =
         subst (λ x. IsFoundBelow row x (outline_of (P (with_items v ws))) found) (sym (old_P e))
         (subst (λ x. IsFoundBelow row (p_node (outlines os)) x found) (sym new_P) (found_P row (outlines os) (outlines ws) found h))
 
-    pub Q_found : r ≡ Q v → (row : List ℕ) (found : Found) → IsFoundAmong row (outlines os) (outlines ws) found → IsFoundBelow row (outline_of t) (outline_of (Q (with_items v ws))) found
+    pub Q_found : r ≡ Q v → (row : List ℕ) (found : Found) → IsFoundIn row (outlines os) (outlines ws) found → IsFoundBelow row (outline_of t) (outline_of (Q (with_items v ws))) found
     Q_found e row found h =
         subst (λ x. IsFoundBelow row x (outline_of (Q (with_items v ws))) found) (sym (old_Q e))
         (subst (λ x. IsFoundBelow row (q_node (outlines os)) x found) (sym new_Q) (found_Q row (outlines os) (outlines ws) found h))
@@ -258,13 +247,30 @@ module _ (r t : Tree) (v : Vec Tree Global) (os : List Tree) (is : r ≡ t) (rea
     Q_same e h = new_Q ∙ ap q_node h ∙ sym (old_Q e)
 
 -- the tree itself is the pertinent root
-pub root_here : (row : List ℕ) (t x u : Outline) (found : Found) (n : ℕ) (step : Step) → ((a : ℕ) → occurs row a ≤ 1) → ((a : ℕ) → occurs (leaves t) a ≤ 1) →
-    IsFoundBelow row t x found → found ≡ Columns n → length row ≤ n → IsStep (root_of row x) x u step → IsTrue (holds row t) × IsStep (reduce row t) t u step
-root_here row t x u found n step distinct once h e l s =
-    let w : IsFoundBelow row t x (Columns n) = subst (IsFoundBelow row t x) e h in (
-      hits_all row (leaves t) distinct once (omega (arith, l, w.1)),
-      subst (λ o. IsStep o t u step) (sym w.2) (subst (λ y. IsStep (root_of row y) y u step) w.0 s),
-    )
+module _ (row : List ℕ) (t x : Outline) (found : Found) (n : ℕ) (distinct : (a : ℕ) → occurs row a ≤ 1) (tree : IsTree t)
+    (h : IsFoundBelow row t x found) (e : found ≡ Columns n) (l : length row ≤ n) where
+  below : IsFoundBelow row t x (Columns n)
+  below = subst (IsFoundBelow row t x) e h
+
+  pub here_tree : IsTree x
+  here_tree = subst IsTree (sym below.0) tree
+
+  at : IsLowest row t
+  at = (hits_all row (leaves t) distinct tree.1 (omega (arith, l, below.1)), below.2)
+
+  pub here_lowest : IsLowest row x
+  here_lowest = subst (IsLowest row) (sym below.0) at
+
+  pub root_here : (u : Outline) (step : Step) → IsRootStep row x u step → IsStep row t u step
+  root_here u Taken s =
+      record {
+        x = t;
+        y = u;
+        lowest = at;
+        made = subst (λ y. IsRootMade row y u) below.0 s;
+        replaced = replaced_here;
+      }
+  root_here u Refused s = ((t, record { node = node_itself t; whole = at.0; smallest = at.1 }, subst (IsStuck row) below.0 s.0), s.1 ∙ below.0)
 
 pub child_same : (os ts : List Tree) (i : ℕ) (d u : Tree) → map outline_of ts ≡ map outline_of os → outline_of u ≡ outline_of (get_or ts i d) → outlines (set ts i u) ≡ outlines os
 child_same os ts i d u same e = ap forest (map-set_same outline_of ts i u d e ∙ same)

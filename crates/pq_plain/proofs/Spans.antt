@@ -3,14 +3,16 @@ use Rattle.std.proofs.Common.{◌≡◌, ◌≢◌, ◌∙◌, ◌+◌, ◌-◌,
 use Rattle.std.proofs.lemmas.Bool.{cond-true, cond-false}
 use Rattle.std.proofs.lemmas.List.{drop-map, length-map, length-drop, drop-drop}
 use Rattle.pq_tree.specs.Outline.{Outline, no_tree, tree_and}
-use Rattle.pq_tree.specs.Proper.{forest}
+use Rattle.pq_tree.specs.Forests.{forest}
 use Rattle.pq_plain.specs.Labels.{Label, empty_label, full_label, partial_label, partials}
-use Rattle.pq_plain.specs.Reduce.{all_empty, full_more, before_more, tail_of, begins, span_of}
+use Rattle.pq_plain.proofs.Computed.{all_empty, full_more, before_more, tail_of, begins, span_of, span_seen}
 use Rattle.pq_plain.specs.Seen.{label_seen, empty_front, full_front, cut_front}
-use Rattle.pq_plain.specs.AtRoot.{span_seen, PartialsAt}
+use Rattle.pq_plain.specs.AtRoot.{PartialsAt}
 use Rattle.pq_plain.specs.declared.label.Label.{Label as Marked}
 use Rattle.pq_plain.specs.declared.at_root.Span.{Span as Places}
 use Rattle.pq_plain.proofs.Runs.{run_end, run_end_is, run_end_few, to_end}
+use Rattle.pq_plain.specs.Cuts.{IsSpanCut}
+use Rattle.pq_plain.proofs.Cutting.{span_cut, no_span_cut}
 
 -- how many labels stand before the last empty ones, from the full ones on
 tail_end : List Label → ℕ
@@ -186,7 +188,7 @@ module _ (ls : List Marked) (b n l f r m q v : ℕ) (before : b ≡ empty_front 
   is_void : q + v ≡ length ls → IsTrue (all_empty (drop (span_end (map label_seen ls)) (map label_seen ls)))
   is_void h = void_front (drop (span_end (map label_seen ls)) (map label_seen ls)) (omega (arith, h, rest_empty, rest_size))
 
-  pub span_found : q + v ≡ length ls → (ts : List Outline) → length ts ≡ length ls →
+  span_found : q + v ≡ length ls → (ts : List Outline) → length ts ≡ length ls →
       let s : Places = record { before = b; full_from = l; full_to = r; behind = q } in span_of (forest ts) (map label_seen ls) ≡ Some (span_seen ts (map label_seen ls) s)
   span_found h ts k =
       let width : full_front (drop (run_end (map label_seen ls)) (map label_seen ls)) ≡ r - l =
@@ -211,7 +213,7 @@ module _ (ls : List Marked) (b n l f r m q v : ℕ) (before : b ≡ empty_front 
       }))
       (sym from_is) (sym end_is)
 
-  pub span_missing : q + v ≢ length ls → (ts : List Outline) → length ts ≡ length ls → span_of (forest ts) (map label_seen ls) ≡ None
+  span_missing : q + v ≢ length ls → (ts : List Outline) → length ts ≡ length ls → span_of (forest ts) (map label_seen ls) ≡ None
   span_missing h ts k =
       span_fails ts (map label_seen ls) (k ∙ sym size)
       (not_void_front (drop (span_end (map label_seen ls)) (map label_seen ls)) (λ x. h (omega (arith, x, few, rest_empty, rest_size))))
@@ -232,3 +234,9 @@ module _ (ls : List Marked) (b n l f r m q v : ℕ) (before : b ≡ empty_front 
         few_left = omega (arith, from, k1);
         few_right = omega (arith, end, k2);
       }
+
+  pub cut_found : q + v ≡ length ls → (ts : List Outline) → length ts ≡ length ls → IsSpanCut ts (map label_seen ls) (Some (record { before = b; full_from = l; full_to = r; behind = q }))
+  cut_found h ts k = span_cut ts (map label_seen ls) (record { before = b; full_from = l; full_to = r; behind = q }) (size ∙ sym k) (span_found h ts k)
+
+  pub cut_missing : q + v ≢ length ls → (ts : List Outline) → length ts ≡ length ls → IsSpanCut ts (map label_seen ls) None
+  cut_missing h ts k = no_span_cut ts (map label_seen ls) (span_missing h ts k)

@@ -1,99 +1,146 @@
 -- The labels of the trees of a list, and of the nodes over them.
-use Rattle.std.proofs.Common.{◌≡◌, ◌∙◌, ◌+◌, ◌<◌, ℕ, List, [], ◌∷◌, ◌++◌, Option, Some, None, map, take, drop, length, get_or, sym, ap, ap₂, arith, option_and_then, option_map}
+use Rattle.std.proofs.Common.{◌≡◌, ◌∙◌, ◌+◌, ◌<◌, ℕ, List, [], ◌∷◌, ◌++◌, Option, Some, None, IsTrue, map, take, drop, length, get_or, refl, sym, ap, subst, inl, inr, arith, option_map}
 use Rattle.std.proofs.lemmas.List.{map_more, map-append, take-append-drop, drop_more, length-map}
 use Rattle.std.specs.declared.vec.Vec.{Vec}
 use Rattle.std.specs.declared.alloc.Global.{Global}
-use Rattle.pq_tree.specs.Outline.{Outline, no_tree}
-use Rattle.pq_tree.specs.Proper.{outline_of, forest}
-use Rattle.pq_tree.specs.declared.Tree.{Tree, P, Q}
-use Rattle.pq_tree.proofs.Shown.{outline_of-P, outline_of-Q}
-use Rattle.pq_plain.specs.Labels.{Label, label_of, labels_of}
-use Rattle.pq_plain.specs.Seen.{outlines, label_seen, labels_seen, p_label, q_label}
+use Rattle.column_order.specs.Orders.{has}
+use Rattle.column_order.proofs.Lists.{has_head}
+use Rattle.pq_tree.specs.Outline.{Outline, leaf, p_node, q_node}
+use Rattle.pq_tree.specs.Forests.{forest}
+use Rattle.pq_tree.specs.Nodes.{IsNode, IsNodeOf}
+use Rattle.pq_tree.specs.Proper.{outline_of, IsTree}
+use Rattle.pq_tree.specs.declared.Tree.{Tree, Leaf, P, Q}
+use Rattle.pq_tree.proofs.Forests.{count_forest}
+use Rattle.pq_tree.proofs.Shown.{outline_of-Leaf, outline_of-P, outline_of-Q}
+use Rattle.pq_plain.specs.Templates.{Label}
+use Rattle.pq_plain.specs.Seen.{outlines, label_seen, labels_seen}
+use Rattle.pq_plain.specs.AtRoot.{outcome_seen}
+use Rattle.pq_plain.specs.Reduced.{IsLabelOfLeaf, IsLabel, AreLabels}
+use Rattle.pq_plain.specs.Found.{IsLabelFound, AreLabelsFound, IsLowest, HasRootLabels, IsRootFound}
 use Rattle.pq_plain.specs.declared.label.Label.{Label as Marked}
-use Rattle.pq_plain.proofs.Labelled.{and_then, some_inj}
+use Rattle.pq_plain.specs.declared.at_root.Outcome.{Outcome}
+use Rattle.pq_plain.proofs.Failed.{labels_long}
+use Rattle.pq_plain.proofs.Finding.{p_found, q_found, p_root_found, q_root_found, leaf_in_row}
+use Rattle.pq_plain.specs.Cuts.{Finds}
+use Rattle.pq_plain.specs.Chosen.{IsLabelOfP, IsLabelOfQ, IsRootOfP, IsRootOfQ}
 
-labels_size : (row : List ℕ) (xs : List Outline) (ps : List Label) → labels_of row (forest xs) ≡ Some ps → length ps ≡ length xs
-labels_size row [] ps e = ap length (sym (some_inj e))
-labels_size row (x ∷ xs) ps e =
-    let w : (l : Label) × (label_of row x ≡ Some l) × (option_and_then (λ qs. Some (l ∷ qs)) (labels_of row (forest xs)) ≡ Some ps) =
-    and_then (λ l. option_and_then (λ qs. Some (l ∷ qs)) (labels_of row (forest xs))) (label_of row x) ps e in
-    let v : (qs : List Label) × (labels_of row (forest xs) ≡ Some qs) × (Some (w.0 ∷ qs) ≡ Some ps) = and_then (λ qs. Some (w.0 ∷ qs)) (labels_of row (forest xs)) ps w.2 in
-    omega (arith, ap length (some_inj v.2), labels_size row xs v.0 v.1)
+labels_size : (row : List ℕ) (xs : List Outline) (ps : List Label) → AreLabels row (forest xs) ps → length ps ≡ length xs
+labels_size row xs ps h = labels_long row (forest xs) ps h ∙ count_forest xs
+
+-- the labels that were found
+some_labels : (row : List ℕ) (ts : List Tree) (o : Option (Vec Marked Global)) (v : Vec Marked Global) → o ≡ Some v → AreLabelsFound row (outlines ts) (option_map labels_seen o) → AreLabels row (outlines ts) (labels_seen v)
+some_labels row ts o v e h = subst (λ x. AreLabelsFound row (outlines ts) (option_map labels_seen x)) e h
 
 -- as many labels as children
-pub labels_length : (row : List ℕ) (ts us : List Tree) (o : Option (Vec Marked Global)) (v : Vec Marked Global) → us ≡ ts → o ≡ Some v → option_map labels_seen o ≡ labels_of row (outlines ts) →
+pub labels_length : (row : List ℕ) (ts us : List Tree) (o : Option (Vec Marked Global)) (v : Vec Marked Global) → us ≡ ts → o ≡ Some v → AreLabelsFound row (outlines ts) (option_map labels_seen o) →
     length v.items ≡ length us
 labels_length row ts us o v s e h =
-    omega
-    (arith, labels_size row (map outline_of ts) (map label_seen v.items) (sym h ∙ ap (option_map labels_seen) e), length-map v.items label_seen, length-map ts outline_of, ap length s)
+    omega (arith, labels_size row (map outline_of ts) (map label_seen v.items) (some_labels row ts o v e h), length-map v.items label_seen, length-map ts outline_of, ap length s)
 
-labels_push : (row : List ℕ) (xs : List Outline) (x : Outline) (ps : List Label) (l : Label) → labels_of row (forest xs) ≡ Some ps → label_of row x ≡ Some l →
-    labels_of row (forest (xs ++ x ∷ [])) ≡ Some (ps ++ l ∷ [])
-labels_push row [] x ps l e k =
-    ap (option_and_then (λ y. option_and_then (λ qs. Some (y ∷ qs)) (labels_of row no_tree))) k ∙ ap (λ qs. Some (qs ++ l ∷ [])) (some_inj e)
-labels_push row (y ∷ xs) x ps l e k =
-    let w : (m : Label) × (label_of row y ≡ Some m) × (option_and_then (λ qs. Some (m ∷ qs)) (labels_of row (forest xs)) ≡ Some ps) =
-    and_then (λ m. option_and_then (λ qs. Some (m ∷ qs)) (labels_of row (forest xs))) (label_of row y) ps e in
-    let v : (qs : List Label) × (labels_of row (forest xs) ≡ Some qs) × (Some (w.0 ∷ qs) ≡ Some ps) = and_then (λ qs. Some (w.0 ∷ qs)) (labels_of row (forest xs)) ps w.2 in
-    ap₂ (λ a b. option_and_then (λ m. option_and_then (λ qs. Some (m ∷ qs)) b) a) w.1 (labels_push row xs x v.0 l v.1 k) ∙
-    ap (λ qs. Some (qs ++ l ∷ [])) (some_inj v.2)
-
-labels_fail : (row : List ℕ) (xs ys : List Outline) (x : Outline) (ps : List Label) → labels_of row (forest xs) ≡ Some ps → label_of row x ≡ None → labels_of row (forest (xs ++ x ∷ ys)) ≡ None
-labels_fail row [] ys x ps e k = ap (option_and_then (λ y. option_and_then (λ qs. Some (y ∷ qs)) (labels_of row (forest ys)))) k
-labels_fail row (y ∷ xs) ys x ps e k =
-    let w : (m : Label) × (label_of row y ≡ Some m) × (option_and_then (λ qs. Some (m ∷ qs)) (labels_of row (forest xs)) ≡ Some ps) =
-    and_then (λ m. option_and_then (λ qs. Some (m ∷ qs)) (labels_of row (forest xs))) (label_of row y) ps e in
-    let v : (qs : List Label) × (labels_of row (forest xs) ≡ Some qs) × (Some (w.0 ∷ qs) ≡ Some ps) = and_then (λ qs. Some (w.0 ∷ qs)) (labels_of row (forest xs)) ps w.2 in
-    ap₂ (λ a b. option_and_then (λ m. option_and_then (λ qs. Some (m ∷ qs)) b) a) w.1 (labels_fail row xs ys x v.0 v.1 k)
+labels_push : (row : List ℕ) (xs : List Outline) (x : Outline) (ps : List Label) (l : Label) → AreLabels row (forest xs) ps → IsLabel row x l → AreLabels row (forest (xs ++ x ∷ [])) (ps ++ l ∷ [])
+labels_push row [] x [] l h k = (k, tt)
+labels_push row [] x (p ∷ ps) l h k = absurd h
+labels_push row (y ∷ xs) x [] l h k = absurd h
+labels_push row (y ∷ xs) x (p ∷ ps) l h k = (h.0, labels_push row xs x ps l h.1 k)
 
 -- one label more
-pub labels_more : (row : List ℕ) (ts : List Tree) (i : ℕ) (t : Tree) (ls new : List Marked) (l : Marked) → i < length ts → t ≡ get_or ts i t → new ≡ ls ++ l ∷ [] →
-    labels_of row (outlines (take i ts)) ≡ Some (map label_seen ls) → Some (label_seen l) ≡ label_of row (outline_of t) → labels_of row (outlines (take (i + 1) ts)) ≡ Some (map label_seen new)
-labels_more row ts i t ls new l h r n e k =
-    ap (λ xs. labels_of row (forest xs)) (map_more outline_of ts i t h) ∙
-    labels_push row (map outline_of (take i ts)) (outline_of (get_or ts i t)) (map label_seen ls) (label_seen l) e (ap (λ x. label_of row (outline_of x)) (sym r) ∙ sym k) ∙
-    ap Some (sym (ap (map label_seen) n ∙ map-append label_seen ls (l ∷ [])))
+pub labels_more : (row : List ℕ) (ts : List Tree) (i : ℕ) (t : Tree) (ls new : List Marked) (l : Marked) (o : Option Marked) → i < length ts → t ≡ get_or ts i t → new ≡ ls ++ l ∷ [] →
+    AreLabels row (outlines (take i ts)) (map label_seen ls) → o ≡ Some l → IsLabelFound row (outline_of t) (option_map label_seen o) → AreLabels row (outlines (take (i + 1) ts)) (map label_seen new)
+labels_more row ts i t ls new l o h r n e s k =
+    subst (AreLabels row (outlines (take (i + 1) ts))) (sym (ap (map label_seen) n ∙ map-append label_seen ls (l ∷ [])))
+    (subst (λ xs. AreLabels row (forest xs) (map label_seen ls ++ label_seen l ∷ [])) (sym (map_more outline_of ts i t h))
+    (labels_push row (map outline_of (take i ts)) (outline_of (get_or ts i t)) (map label_seen ls) (label_seen l) e
+    (subst (λ x. IsLabel row (outline_of x) (label_seen l)) r (subst (λ x. IsLabelFound row (outline_of t) (option_map label_seen x)) s k))))
 
-pub labels_stop : (row : List ℕ) (ts : List Tree) (i : ℕ) (t : Tree) (ls : List Marked) → i < length ts → t ≡ get_or ts i t →
-    labels_of row (outlines (take i ts)) ≡ Some (map label_seen ls) → None ≡ label_of row (outline_of t) → None ≡ labels_of row (outlines ts)
-labels_stop row ts i t ls h r e k =
+-- a node of one of the trees
+pub node_among : (z x : Outline) (xs ys : List Outline) → IsNode z x → IsNodeOf z (forest (xs ++ x ∷ ys))
+node_among z x [] ys n = inl n
+node_among z x (y ∷ xs) ys n = inr (node_among z x xs ys n)
+
+pub labels_stop : (row : List ℕ) (ts : List Tree) (i : ℕ) (t : Tree) (o : Option Marked) → i < length ts → t ≡ get_or ts i t →
+    o ≡ None → IsLabelFound row (outline_of t) (option_map label_seen o) → AreLabelsFound row (outlines ts) None
+labels_stop row ts i t o h r s k =
+    let w : IsLabelFound row (outline_of t) None = subst (λ x. IsLabelFound row (outline_of t) (option_map label_seen x)) s k in
     let cut : map outline_of ts ≡ map outline_of (take i ts) ++ outline_of (get_or ts i t) ∷ map outline_of (drop (i + 1) ts) =
-    ap (map outline_of) (sym (take-append-drop i ts) ∙ ap (λ xs. take i ts ++ xs) (drop_more ts i t h)) ∙ map-append outline_of (take i ts) (get_or ts i t ∷ drop (i + 1) ts) in
-    sym
-    (ap (λ xs. labels_of row (forest xs)) cut ∙
-    labels_fail row (map outline_of (take i ts)) (map outline_of (drop (i + 1) ts)) (outline_of (get_or ts i t)) (map label_seen ls) e (ap (λ x. label_of row (outline_of x)) (sym r) ∙ sym k))
+    ap (map outline_of) (sym (take-append-drop i ts) ∙ ap (λ xs. take i ts ++ xs) (drop_more ts i t h)) ∙ map-append outline_of (take i ts) (get_or ts i t ∷ drop (i + 1) ts) in (
+      w.0,
+      subst (λ xs. IsNodeOf w.0 (forest xs)) (sym cut)
+          (node_among w.0 (outline_of (get_or ts i t)) (map outline_of (take i ts)) (map outline_of (drop (i + 1) ts)) (subst (λ x. IsNode w.0 (outline_of x)) r w.1)),
+      w.2,
+    )
 
--- a node's label by those of its children
-label_at_P : (row : List ℕ) (t : Tree) (v : Vec Tree Global) (ts : List Tree) → t ≡ P v → ts ≡ v.items →
-    label_of row (outline_of t) ≡ option_and_then (p_label (outlines ts)) (labels_of row (outlines ts))
-label_at_P row t v ts e s =
-    ap (label_of row) (ap outline_of e ∙ outline_of-P v) ∙ ap (λ xs. option_and_then (p_label (outlines xs)) (labels_of row (outlines xs))) (sym s)
+-- the node over the trees
+pub at_P : (t : Tree) (v : Vec Tree Global) (ts : List Tree) → t ≡ P v → ts ≡ v.items → outline_of t ≡ p_node (outlines ts)
+at_P t v ts e s = ap outline_of e ∙ outline_of-P v ∙ ap (λ xs. p_node (outlines xs)) (sym s)
 
-label_at_Q : (row : List ℕ) (t : Tree) (v : Vec Tree Global) (ts : List Tree) → t ≡ Q v → ts ≡ v.items →
-    label_of row (outline_of t) ≡ option_and_then (q_label (outlines ts)) (labels_of row (outlines ts))
-label_at_Q row t v ts e s =
-    ap (label_of row) (ap outline_of e ∙ outline_of-Q v) ∙ ap (λ xs. option_and_then (q_label (outlines xs)) (labels_of row (outlines xs))) (sym s)
+pub at_Q : (t : Tree) (v : Vec Tree Global) (ts : List Tree) → t ≡ Q v → ts ≡ v.items → outline_of t ≡ q_node (outlines ts)
+at_Q t v ts e s = ap outline_of e ∙ outline_of-Q v ∙ ap (λ xs. q_node (outlines xs)) (sym s)
 
-pub P_none : (row : List ℕ) (t : Tree) (v : Vec Tree Global) (ts : List Tree) (o : Option (Vec Marked Global)) → t ≡ P v → ts ≡ v.items → o ≡ None → option_map labels_seen o ≡ labels_of row (outlines ts) →
-    None ≡ label_of row (outline_of t)
-P_none row t v ts o e s n h =
-    sym (label_at_P row t v ts e s ∙ ap (option_and_then (p_label (outlines ts))) (sym h ∙ ap (option_map labels_seen) n))
+no_labels : (row : List ℕ) (ts : List Tree) (o : Option (Vec Marked Global)) → o ≡ None → AreLabelsFound row (outlines ts) (option_map labels_seen o) → AreLabelsFound row (outlines ts) None
+no_labels row ts o e h = subst (λ x. AreLabelsFound row (outlines ts) (option_map labels_seen x)) e h
 
-pub Q_none : (row : List ℕ) (t : Tree) (v : Vec Tree Global) (ts : List Tree) (o : Option (Vec Marked Global)) → t ≡ Q v → ts ≡ v.items → o ≡ None → option_map labels_seen o ≡ labels_of row (outlines ts) →
-    None ≡ label_of row (outline_of t)
-Q_none row t v ts o e s n h =
-    sym (label_at_Q row t v ts e s ∙ ap (option_and_then (q_label (outlines ts))) (sym h ∙ ap (option_map labels_seen) n))
+pub leaf_label : (row : List ℕ) (t : Tree) (a : ℕ) (x : Label) → t ≡ Leaf a → IsLabelOfLeaf row a x → IsLabelFound row (outline_of t) (Some x)
+leaf_label row t a x e h = subst (λ y. IsLabelFound row y (Some x)) (sym (ap outline_of e ∙ outline_of-Leaf a)) h
 
-pub P_some : (row : List ℕ) (t : Tree) (v : Vec Tree Global) (ts us : List Tree) (o : Option (Vec Marked Global)) (w : Vec Marked Global) (r : Option Label) → t ≡ P v → ts ≡ v.items → us ≡ v.items → o ≡ Some w →
-    option_map labels_seen o ≡ labels_of row (outlines ts) → r ≡ p_label (outlines us) (labels_seen w) → r ≡ label_of row (outline_of t)
-P_some row t v ts us o w r e s u n h k =
-    k ∙
-    ap (λ xs. p_label (outlines xs) (labels_seen w)) (u ∙ sym s) ∙
-    sym (label_at_P row t v ts e s ∙ ap (option_and_then (p_label (outlines ts))) (sym h ∙ ap (option_map labels_seen) n))
+module _ (row : List ℕ) (t : Tree) (v : Vec Tree Global) (ts : List Tree) (o : Option (Vec Marked Global)) (s : ts ≡ v.items) (h : AreLabelsFound row (outlines ts) (option_map labels_seen o)) where
+  -- below the pertinent root
+  pub P_none : t ≡ P v → o ≡ None → IsLabelFound row (outline_of t) None
+  P_none e n =
+      let w : AreLabelsFound row (outlines ts) None = no_labels row ts o n h in
+      subst (λ y. IsLabelFound row y None) (sym (at_P t v ts e s)) (w.0, inr w.1, w.2)
 
-pub Q_some : (row : List ℕ) (t : Tree) (v : Vec Tree Global) (ts us : List Tree) (o : Option (Vec Marked Global)) (w : Vec Marked Global) (r : Option Label) → t ≡ Q v → ts ≡ v.items → us ≡ v.items → o ≡ Some w →
-    option_map labels_seen o ≡ labels_of row (outlines ts) → r ≡ q_label (outlines us) (labels_seen w) → r ≡ label_of row (outline_of t)
-Q_some row t v ts us o w r e s u n h k =
-    k ∙
-    ap (λ xs. q_label (outlines xs) (labels_seen w)) (u ∙ sym s) ∙
-    sym (label_at_Q row t v ts e s ∙ ap (option_and_then (q_label (outlines ts))) (sym h ∙ ap (option_map labels_seen) n))
+  pub Q_none : t ≡ Q v → o ≡ None → IsLabelFound row (outline_of t) None
+  Q_none e n =
+      let w : AreLabelsFound row (outlines ts) None = no_labels row ts o n h in
+      subst (λ y. IsLabelFound row y None) (sym (at_Q t v ts e s)) (w.0, inr w.1, w.2)
+
+  module _ (us : List Tree) (w : Vec Marked Global) (u : us ≡ v.items) (n : o ≡ Some w) where
+    labels_are : AreLabels row (outlines us) (labels_seen w)
+    labels_are = subst (λ xs. AreLabels row (outlines xs) (labels_seen w)) (s ∙ sym u) (some_labels row ts o w n h)
+
+    pub P_some : (r : Option Label) → t ≡ P v → Finds (IsLabelOfP (outlines us) (labels_seen w)) r → IsLabelFound row (outline_of t) r
+    P_some r e k = subst (λ y. IsLabelFound row y r) (sym (at_P t v us e u)) (p_found row (outlines us) (labels_seen w) r labels_are k)
+
+    pub Q_some : (r : Option Label) → t ≡ Q v → Finds (IsLabelOfQ (outlines us) (labels_seen w)) r → IsLabelFound row (outline_of t) r
+    Q_some r e k = subst (λ y. IsLabelFound row y r) (sym (at_Q t v us e u)) (q_found row (outlines us) (labels_seen w) r labels_are k)
+
+    -- at the pertinent root
+    pub P_root : t ≡ P v → IsTree (outline_of t) → IsLowest row (outline_of t) → HasRootLabels (p_node (outlines us)) (labels_seen w)
+    P_root e tree lowest = let a : outline_of t ≡ p_node (outlines us) = at_P t v us e u in (row, subst IsTree a tree, subst (IsLowest row) a lowest, labels_are)
+
+    pub Q_root : t ≡ Q v → IsTree (outline_of t) → IsLowest row (outline_of t) → HasRootLabels (q_node (outlines us)) (labels_seen w)
+    Q_root e tree lowest = let a : outline_of t ≡ q_node (outlines us) = at_Q t v us e u in (row, subst IsTree a tree, subst (IsLowest row) a lowest, labels_are)
+
+    module _ (r : Outcome) where
+      pub root_P_some : t ≡ P v → Finds (IsRootOfP (outlines us) (labels_seen w)) (outcome_seen (p_node (outlines us)) r) → IsRootFound row (outline_of t) (outcome_seen (outline_of t) r)
+      root_P_some e k =
+          let a : outline_of t ≡ p_node (outlines us) = at_P t v us e u in
+          subst (λ y. IsRootFound row y (outcome_seen y r)) (sym a)
+          (p_root_found row (outlines us) (labels_seen w) (outcome_seen (p_node (outlines us)) r) labels_are k)
+
+      pub root_Q_some : t ≡ Q v → Finds (IsRootOfQ (outlines us) (labels_seen w)) (outcome_seen (q_node (outlines us)) r) → IsRootFound row (outline_of t) (outcome_seen (outline_of t) r)
+      root_Q_some e k =
+          let a : outline_of t ≡ q_node (outlines us) = at_Q t v us e u in
+          subst (λ y. IsRootFound row y (outcome_seen y r)) (sym a)
+          (q_root_found row (outlines us) (labels_seen w) (outcome_seen (q_node (outlines us)) r) labels_are k)
+
+  pub root_P_none : t ≡ P v → o ≡ None → IsRootFound row (outline_of t) None
+  root_P_none e n =
+      let w : AreLabelsFound row (outlines ts) None = no_labels row ts o n h in
+      subst (λ y. IsRootFound row y None) (sym (at_P t v ts e s)) (inr (w.0, w.1, w.2))
+
+  pub root_Q_none : t ≡ Q v → o ≡ None → IsRootFound row (outline_of t) None
+  root_Q_none e n =
+      let w : AreLabelsFound row (outlines ts) None = no_labels row ts o n h in
+      subst (λ y. IsRootFound row y None) (sym (at_Q t v ts e s)) (inr (w.0, w.1, w.2))
+
+-- a row with a column has one
+pub some_number : (row : List ℕ) → 0 < length row → (c : ℕ) × IsTrue (has row c)
+some_number [] l = absurd (omega arith)
+some_number (c ∷ row) l = (c, has_head c row)
+
+pub leaf_root : (row : List ℕ) (t : Tree) (a : ℕ) → t ≡ Leaf a → 0 < length row → IsLowest row (outline_of t) → IsRootFound row (outline_of t) (Some (outline_of t))
+leaf_root row t a e l w =
+    let k : outline_of t ≡ leaf a = ap outline_of e ∙ outline_of-Leaf a in
+    let c : (c : ℕ) × IsTrue (has row c) = some_number row l in
+    subst (λ y. IsRootFound row y (Some y)) (sym k) (leaf_in_row row a c.0 c.1 (subst (IsLowest row) k w).0, refl)

@@ -1,40 +1,17 @@
 -- What a template makes of a node may be turned: children of a P-node in another order, those of a Q-node from the other end.
-use Rattle.std.proofs.Common.{◌≡◌, ◌∙◌, ℕ, List, [], ◌∷◌, ◌++◌, IsPermutation, refl, sym, ap, subst, inl}
-use Rattle.std.proofs.lemmas.List.Sorted.{IsPermutation-refl}
+use Rattle.std.proofs.Common.{◌≡◌, ◌∙◌, ℕ, List, [], ◌∷◌, ◌++◌, sym, ap, subst}
 use Rattle.column_order.specs.Orders.{has, occurs}
-use Rattle.pq_tree.specs.Outline.{Outline, Forest, leaf, p_node, q_node, no_tree, tree_and, leaves, leaves_of}
-use Rattle.pq_tree.specs.Proper.{forest, trees}
+use Rattle.pq_tree.specs.Outline.{Outline, Forest, no_tree, tree_and, leaves, leaves_of}
+use Rattle.pq_tree.specs.Forests.{forest, join}
+use Rattle.column_order.proofs.Lists.{has_same}
 use Rattle.pq_tree.specs.Equivalent.{IsEquivalent, AreEquivalent}
 use Rattle.pq_tree.proofs.Equivalent.{equivalent_occurs, equivalent_occur_all}
 use Rattle.tied_law.specs.Tied.{IsForward}
 use Rattle.tied_law.proofs.Bound.{IsClosed, IsInLine, IsBound, AreBound}
-use Rattle.tied_law.proofs.Frontiers.{has_same}
 use Rattle.tied_law.proofs.Turn.{turned_forward, unturned_forward, turned_bound, unturned_bound, all_turned_bound, all_unturned_bound}
-use Rattle.pq_plain.specs.Templates.{join}
 use Rattle.pq_plain.proofs.BelowRoot.{Treated, outside_within}
 use Rattle.pq_plain.proofs.AtRoot.{Rooted}
-
-forest-trees : (ts : Forest) → forest (trees ts) ≡ ts
-forest-trees no_tree = refl
-forest-trees (tree_and t ts) = ap (tree_and t) (forest-trees ts)
-
-mutual
-  pub equivalent_refl : (t : Outline) → IsEquivalent t t
-  equivalent_refl (leaf a) = refl
-  equivalent_refl (p_node ts) = (trees ts, trees ts, are_equivalent_refl ts, IsPermutation-refl (trees ts), ap p_node (sym (forest-trees ts)))
-  equivalent_refl (q_node ts) = (trees ts, are_equivalent_refl ts, inl (ap q_node (sym (forest-trees ts))))
-
-  pub are_equivalent_refl : (ts : Forest) → AreEquivalent ts (trees ts)
-  are_equivalent_refl no_tree = tt
-  are_equivalent_refl (tree_and t ts) = (equivalent_refl t, are_equivalent_refl ts)
-
-trees-forest : (ts : List Outline) → trees (forest ts) ≡ ts
-trees-forest [] = refl
-trees-forest (t ∷ ts) = ap (λ us. t ∷ us) (trees-forest ts)
-
--- a P-node with its children in another order
-pub p_permuted : (us vs : List Outline) → IsPermutation us vs → IsEquivalent (p_node (forest us)) (p_node (forest vs))
-p_permuted us vs h = (us, vs, subst (AreEquivalent (forest us)) (trees-forest us) (are_equivalent_refl (forest us)), h, refl)
+use Rattle.pq_tree.proofs.Forests.{forest_append}
 
 module _ (row : List ℕ) where
   has_alike : (s t : Outline) → IsEquivalent s t → (a : ℕ) → has (leaves t) a ≡ has (leaves s) a
@@ -75,10 +52,6 @@ module _ (row : List ℕ) where
         down_each = λ R eq k o b. r.down_each R eq k (outside_within R row (leaves s) (leaves t) k (λ d i. sym (has_alike s t h d) ∙ i) o) (turned_bound R eq s t h b);
       }
 
-  join-forest : (us vs : List Outline) → forest (us ++ vs) ≡ join (forest us) (forest vs)
-  join-forest [] vs = refl
-  join-forest (u ∷ us) vs = ap (tree_and u) (join-forest us vs)
-
   join_equivalent : (es fs : Forest) (us vs : List Outline) → AreEquivalent es us → AreEquivalent fs vs → AreEquivalent (join es fs) (us ++ vs)
   join_equivalent no_tree fs [] vs h k = k
   join_equivalent no_tree fs (u ∷ us) vs h k = absurd h
@@ -92,7 +65,7 @@ module _ (row : List ℕ) where
   pub treated_turned : (t : Outline) (es fs : Forest) (us vs : List Outline) → Treated row t es fs → AreEquivalent es us → AreEquivalent fs vs → Treated row t (forest us) (forest vs)
   treated_turned t es fs us vs r h k =
       let both : AreEquivalent (join es fs) (us ++ vs) = join_equivalent es fs us vs h k in
-      let j : forest (us ++ vs) ≡ join (forest us) (forest vs) = join-forest us vs in
+      let j : forest (us ++ vs) ≡ join (forest us) (forest vs) = forest_append us vs in
       record {
         same = λ a. ap (λ ws. occurs (leaves_of ws) a) (sym j) ∙ equivalent_occur_all (join es fs) (us ++ vs) a both ∙ r.same a;
         empty = λ a i. r.empty a (sym (list_has es us h a) ∙ i);

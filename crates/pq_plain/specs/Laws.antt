@@ -1,115 +1,98 @@
 -- What a reduction by one row does to a tied tree, and what follows for the rows of a matrix.
-use Rattle.std.specs.Prelude.{◌≡◌, ◌⊎◌, ◌↔◌, ◌≤◌, ℕ, true, List, [], ◌∷◌, ◌++◌, Some, None, All, take, IsTrue}
-use Rattle.column_order.specs.Orders.{has, occurs, HasValidOrder, IsWithin}
+use Rattle.std.specs.Prelude.{◌⊎◌, ◌↔◌, ◌≤◌, ℕ, true, List, [], ◌∷◌, ◌++◌, All, take, IsTrue, IsFalse}
+use Rattle.column_order.specs.Orders.{has, HasValidOrder, IsWithin}
 use Rattle.row_model.specs.Graph.{HasOddWalk, HasConflict}
 use Rattle.row_model.specs.Rows.{RowList, IsRow}
-use Rattle.pq_tree.specs.Outline.{Outline, Forest, leaf, p_node, q_node, leaves_of}
-use Rattle.pq_tree.specs.Proper.{IsProper, HaveArities, count}
+use Rattle.pq_tree.specs.Outline.{Outline, Forest, p_node, leaves}
+use Rattle.pq_tree.specs.Proper.{IsProper, IsTree}
+use Rattle.pq_tree.specs.Forests.{count}
+use Rattle.pq_tree.specs.Nodes.{IsPertinentRoot}
+use Rattle.pq_tree.specs.Equivalent.{IsEquivalent}
 use Rattle.tied_law.specs.Tied.{IsTied}
-use Rattle.pq_plain.specs.Templates.{Label, full_label, IsL1, IsP2, IsP4}
-use Rattle.pq_plain.specs.Labels.{label_of, labels_of, full_trees}
-use Rattle.pq_plain.specs.Chosen.{IsLabelOfP, IsLabelOfQ, IsRootOfP, IsRootOfQ}
-use Rattle.pq_plain.specs.Reduce.{reduce, inner}
-use Rattle.pq_plain.specs.Unfit.{IsUnfit, IsUnfitRootP, IsUnfitRootQ}
+use Rattle.pq_plain.specs.Templates.{Label, empty_label, full_label, IsP2, IsP4}
+use Rattle.pq_plain.specs.Reduced.{IsTurned, IsLabel, AreLabels, IsRootMade, IsReplaced, IsReduced}
+use Rattle.pq_plain.specs.Refused.{IsRefused}
 
 -- a proper tree that is tied to the rows, reduced by a further row over 1 to c, is proper and tied to one row more
-abbrev pub TakenLaw : Type 0
-TakenLaw =
+abbrev pub KeptLaw : Type 0
+KeptLaw =
     (c : ℕ) (rows : List (List ℕ)) (row : List ℕ) (t u : Outline) →
     IsProper c t →
     IsTied c rows t →
     IsWithin c row →
-    reduce row t ≡ Some u →
+    IsReduced row t u →
     IsProper c u × IsTied c (rows ++ row ∷ []) u
 
--- where such a reduction is refused, no valid order of the rows with this one exists, and a walk of even length in their
--- graph leads from a pair of distinct columns to the same pair with its columns exchanged
+-- a proper tree is reduced by a row over 1 to c, or no template fits at its pertinent root or at a node below it
+abbrev pub DecidedLaw : Type 0
+DecidedLaw =
+    (c : ℕ) (row : List ℕ) (t : Outline) →
+    IsProper c t →
+    IsWithin c row →
+    ((u : Outline) × IsReduced row t u) ⊎ IsRefused row t
+
+-- where no template fits, a walk of even length in the graph of the rows with this one leads from a pair of distinct
+-- columns to the same pair with its columns exchanged, so that they have no valid order
 abbrev pub RefusedLaw : Type 0
 RefusedLaw =
     (c : ℕ) (rows : List (List ℕ)) (row : List ℕ) (t : Outline) →
     IsProper c t →
     IsTied c rows t →
     IsWithin c row →
-    reduce row t ≡ None →
-    HasConflict c (rows ++ row ∷ []) × (HasValidOrder c (rows ++ row ∷ []) → ⊥)
+    IsRefused row t →
+    HasConflict c (rows ++ row ∷ [])
 
--- a leaf is full by L1
-abbrev pub LeafLaw : Type 0
-LeafLaw = (row : List ℕ) (a : ℕ) → label_of row (leaf a) ≡ Some full_label ↔ IsL1 row a
+-- a reduced tree exists exactly where the rows with this one have a valid order
+abbrev pub ExistsLaw : Type 0
+ExistsLaw =
+    (c : ℕ) (rows : List (List ℕ)) (row : List ℕ) (t : Outline) →
+    IsProper c t →
+    IsTied c rows t →
+    IsWithin c row →
+    ((u : Outline) × IsReduced row t u) ↔ HasValidOrder c (rows ++ row ∷ [])
 
--- a P-node below the pertinent root gets its label by P1, P3 or P5, or is empty
-abbrev pub LabelOfPLaw : Type 0
-LabelOfPLaw =
-    (row : List ℕ) (ts : Forest) (ps : List Label) (x : Label) →
-    labels_of row ts ≡ Some ps →
-    label_of row (p_node ts) ≡ Some x →
-    IsLabelOfP ts ps x
+-- The reduced tree may be turned, and so may what a template makes of the pertinent root before it takes its place, and the
+-- trees of a partial before the next template.
+abbrev pub TurnedLaw : Type 0
+TurnedLaw = (row : List ℕ) (t u v : Outline) → IsReduced row t u → IsEquivalent u v → IsReduced row t v
 
--- a Q-node below the pertinent root gets its label by Q1 or Q2, or is empty
-abbrev pub LabelOfQLaw : Type 0
-LabelOfQLaw =
-    (row : List ℕ) (ts : Forest) (ps : List Label) (x : Label) →
-    labels_of row ts ≡ Some ps →
-    label_of row (q_node ts) ≡ Some x →
-    IsLabelOfQ ts ps x
+abbrev pub RootTurnedLaw : Type 0
+RootTurnedLaw =
+    (row : List ℕ) (t x y z v : Outline) →
+    IsPertinentRoot row t x →
+    IsRootMade row x y →
+    IsEquivalent y z →
+    IsReplaced x z t v →
+    IsReduced row t v
 
--- a P-node at the pertinent root, where no child holds the row, is reduced by P1, P2, P4 or P6
-abbrev pub RootOfPLaw : Type 0
-RootOfPLaw =
-    (row : List ℕ) (ts : Forest) (ps : List Label) (u : Outline) →
-    inner row ts ≡ None →
-    labels_of row ts ≡ Some ps →
-    reduce row (p_node ts) ≡ Some u →
-    IsRootOfP ts ps u
+abbrev pub LabelTurnedLaw : Type 0
+LabelTurnedLaw = (row : List ℕ) (t : Outline) (x y : Label) → IsLabel row t x → IsTurned x y → IsLabel row t y
 
--- a Q-node at the pertinent root, where no child holds the row, is reduced by Q1, Q2 or Q3
-abbrev pub RootOfQLaw : Type 0
-RootOfQLaw =
-    (row : List ℕ) (ts : Forest) (ps : List Label) (u : Outline) →
-    inner row ts ≡ None →
-    labels_of row ts ≡ Some ps →
-    reduce row (q_node ts) ≡ Some u →
-    IsRootOfQ ts ps u
+-- a tree is labelled empty exactly where it has no column of the row, and full exactly where it has no other one
+abbrev pub EmptyLabelLaw : Type 0
+EmptyLabelLaw = (row : List ℕ) (t : Outline) → IsTree t → IsLabel row t empty_label ↔ ((a : ℕ) → IsTrue (has (leaves t) a) → IsFalse (has row a))
 
--- The node over these children is the pertinent root: it holds the whole row, and none of its children does. Below it each
--- node has its number of children, and no column stands twice.
-pub record IsPertinentRoot (row : List ℕ) (ts : Forest) : Type 0 where
-  pub within : (a : ℕ) → IsTrue (has row a) → IsTrue (has (leaves_of ts) a)
-  pub lowest : inner row ts ≡ None
-  pub arities : HaveArities ts
-  pub once : (a : ℕ) → occurs (leaves_of ts) a ≤ 1
-
--- a tree below the pertinent root has no label exactly where at some node no template fits
-abbrev pub NoLabelLaw : Type 0
-NoLabelLaw = (row : List ℕ) (t : Outline) → label_of row t ≡ None ↔ IsUnfit row t
-
--- a row is refused exactly where at the pertinent root, or at some node below it, no template fits
-abbrev pub NoRootOfPLaw : Type 0
-NoRootOfPLaw = (row : List ℕ) (ts : Forest) → IsPertinentRoot row ts → reduce row (p_node ts) ≡ None ↔ IsUnfitRootP row ts
-
-abbrev pub NoRootOfQLaw : Type 0
-NoRootOfQLaw = (row : List ℕ) (ts : Forest) → IsPertinentRoot row ts → reduce row (q_node ts) ≡ None ↔ IsUnfitRootQ row ts
+abbrev pub FullLabelLaw : Type 0
+FullLabelLaw = (row : List ℕ) (t : Outline) → IsTree t → IsLabel row t full_label ↔ ((a : ℕ) → IsTrue (has (leaves t) a) → IsTrue (has row a))
 
 -- at the pertinent root P2 has two full children or more, and P4 one or more, else a node below would hold the row
 abbrev pub FullChildrenOfP2Law : Type 0
 FullChildrenOfP2Law =
-    (row : List ℕ) (ts : Forest) (ps : List Label) (u : Outline) →
-    IsPertinentRoot row ts →
-    labels_of row ts ≡ Some ps →
-    IsP2 true ts ps u →
-    2 ≤ count (full_trees ts ps)
+    (row : List ℕ) (t u : Outline) (ts : Forest) (ps : List Label) →
+    IsTree t →
+    IsPertinentRoot row t (p_node ts) →
+    AreLabels row ts ps →
+    (x : IsP2 true ts ps u) →
+    1 ≤ count x.fs
 
 abbrev pub FullChildrenOfP4Law : Type 0
 FullChildrenOfP4Law =
-    (row : List ℕ) (ts : Forest) (ps : List Label) (u : Outline) →
-    IsPertinentRoot row ts →
-    labels_of row ts ≡ Some ps →
-    IsP4 true ts ps u →
-    1 ≤ count (full_trees ts ps)
-
--- an empty row leaves every tree as it is
-abbrev pub EmptyRowLaw : Type 0
-EmptyRowLaw = (t : Outline) → reduce [] t ≡ Some t
+    (row : List ℕ) (t u : Outline) (ts : Forest) (ps : List Label) →
+    IsTree t →
+    IsPertinentRoot row t (p_node ts) →
+    AreLabels row ts ps →
+    (x : IsP4 true ts ps u) →
+    1 ≤ count x.fs
 
 -- rows over 1 to c have a valid order, or their graph has a closed walk of odd length
 abbrev pub EitherLaw : Type 0

@@ -1,16 +1,15 @@
 -- The labels of the program as the templates speak of them.
-use Rattle.std.specs.Prelude.{ℕ, ◌+◌, List, [], ◌∷◌, map, take, drop, reverse, Option, option_and_then}
+use Rattle.std.specs.Prelude.{ℕ, ◌+◌, List, [], ◌∷◌, map}
 use Rattle.std.proofs.Common.{suc}
 use Rattle.std.specs.declared.vec.Vec.{Vec}
 use Rattle.std.specs.declared.alloc.Global.{Global}
-use Rattle.pq_tree.specs.Outline.{Outline, Forest}
-use Rattle.pq_tree.specs.Proper.{outline_of, forest}
+use Rattle.pq_tree.specs.Outline.{Forest}
+use Rattle.pq_tree.specs.Proper.{outline_of}
+use Rattle.pq_tree.specs.Forests.{forest}
 use Rattle.pq_tree.specs.declared.Tree.{Tree}
-use Rattle.pq_plain.specs.Labels.{Partial, Label, empty_label, full_label, partial_label, partials, empty_trees, full_trees, at_p, Run, run_of, at_run, first_some}
-use Rattle.pq_plain.specs.Templates.{back}
+use Rattle.pq_plain.specs.Labels.{Partial, Label, empty_label, full_label, partial_label}
 use Rattle.pq_plain.specs.declared.label.Halves.{Halves}
 use Rattle.pq_plain.specs.declared.label.Label.{Label as Marked}
-use Rattle.pq_plain.specs.declared.label.Run.{Run as Places}
 use Rattle.pq_plain.specs.declared.label.Label.TheVariants.{Empty, Full, Partial as Cut}
 
 -- the outlines of the trees
@@ -59,15 +58,3 @@ cut_front [] = 0
 cut_front (empty_label ∷ ps) = 0
 cut_front (full_label ∷ ps) = 0
 cut_front (partial_label h ∷ ps) = 1
-
--- what a P-node below the pertinent root is labelled, by the labels of its children
-abbrev pub p_label : Forest → List Label → Option Label
-p_label ts ps = at_p (partials ps) (empty_trees ts ps) (full_trees ts ps)
-
--- the trees and the partials at these places
-abbrev pub run_seen : List Outline → List Label → Places → Run
-run_seen ts ps r = record { before = forest (take r.before ts); middle = partials ps; behind = forest (drop r.behind ts) }
-
--- what a Q-node below the pertinent root is labelled, by the labels of its children read from either end
-abbrev pub q_label : Forest → List Label → Option Label
-q_label ts ps = first_some (option_and_then at_run (run_of ts ps)) (option_and_then at_run (run_of (back ts) (reverse ps)))

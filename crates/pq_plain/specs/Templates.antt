@@ -11,6 +11,7 @@
 use Rattle.std.specs.Prelude.{◌≡◌, ◌⊎◌, ℕ, Bool, List, [], ◌∷◌, Option, Some, None, reverse, IsTrue, IsFalse}
 use Rattle.column_order.specs.Orders.{has}
 use Rattle.pq_tree.specs.Outline.{Outline, Forest, leaf, p_node, q_node, no_tree, tree_and}
+use Rattle.pq_tree.specs.Forests.{join, back}
 
 -- a partial [e f]: empty trees e and full trees f
 pub record Partial : Type 0 where
@@ -22,16 +23,6 @@ pub data Label : Type 0 where
   empty_label : Label
   full_label : Label
   partial_label : Partial → Label
-
--- one list of trees after another
-abbrev pub join : Forest → Forest → Forest
-join no_tree us = us
-join (tree_and t ts) us = tree_and t (join ts us)
-
--- the trees from the last to the first
-abbrev pub back : Forest → Forest
-back no_tree = no_tree
-back (tree_and t ts) = join (back ts) (tree_and t no_tree)
 
 -- P*(X): nothing for no tree, the tree itself for one, P over two or more
 abbrev pub star : Forest → Forest

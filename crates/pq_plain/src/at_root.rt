@@ -3,12 +3,15 @@ ghost use Rattle.std.specs.Prelude.{◌≡◌, ◌↔◌, ◌≤◌, ◌<◌, �
 ghost use Rattle.std.specs.List.Sorted.{IsNonDecreasing};
 ghost use Rattle.std.specs.Option.{option_to_list};
 ghost use Rattle.pq_tree.specs.Outline.{Outline, p_node, q_node};
-ghost use Rattle.pq_tree.specs.Proper.{outline_of, forest};
+ghost use Rattle.pq_tree.specs.Proper.{outline_of, IsTree};
+ghost use Rattle.pq_tree.specs.Forests.{forest};
 ghost use Rattle.pq_plain.specs.Templates.{p2, p4, p6, q3, line, line_if, under};
 ghost use Rattle.pq_plain.specs.Labels.{empty_trees, full_trees, partials};
-ghost use Rattle.pq_plain.specs.Reduce.{span_of};
+ghost use Rattle.pq_plain.specs.Chosen.{IsRootOfP, IsRootOfQ};
+ghost use Rattle.pq_plain.specs.Cuts.{Finds, IsSpanCut};
+ghost use Rattle.pq_plain.specs.Found.{IsLowest, HasRootLabels, IsRootFound};
 ghost use Rattle.pq_plain.specs.Seen.{outlines, halves_seen, label_seen, labels_seen};
-ghost use Rattle.pq_plain.specs.AtRoot.{root_of, outcome_seen, p_outcome, q_outcome, p_made, q_made, PartialsAt, span_seen};
+ghost use Rattle.pq_plain.specs.AtRoot.{outcome_seen, p_made, q_made, PartialsAt};
 
 use crate::below::label_trees;
 use crate::children::{empty_children, full_children, partial_children, star_of};
@@ -31,8 +34,11 @@ pub enum Outcome {
 
 /// Applies the template that fits at the pertinent root, after those below it.
 pub fn reduce_root(alloc: Global, row: &[u32], root: &Tree) -> Result<Outcome, NoMemory>
-    requires { IsNonDecreasing row.now }
-    ensures { IfOk result (λ o. outcome_seen (outline_of root.now) o ≡ root_of row.now (outline_of root.now)) }
+    requires ascending { IsNonDecreasing row.now }
+    requires some { 0 < length row.now }
+    requires tree { IsTree (outline_of root.now) }
+    requires lowest { IsLowest row.now (outline_of root.now) }
+    ensures { IfOk result (λ o. IsRootFound row.now (outline_of root.now) (outcome_seen (outline_of root.now) o)) }
 {
     match root {
         Tree::Leaf(_) => Ok(Outcome::Unchanged),
@@ -49,8 +55,9 @@ pub fn reduce_root(alloc: Global, row: &[u32], root: &Tree) -> Result<Outcome, N
 
 /// P1, P2, P4 and P6 at the pertinent root.
 fn root_p(alloc: Global, children: &[Tree], labels: Vec<Label>) -> Result<Outcome, NoMemory>
-    requires { length labels.items ≡ length children.now }
-    ensures { IfOk result (λ o. outcome_seen (p_node (outlines children.now)) o ≡ p_outcome (outlines children.now) (labels_seen labels)) }
+    requires length { length labels.items ≡ length children.now }
+    requires root { HasRootLabels (p_node (outlines children.now)) (labels_seen labels) }
+    ensures { IfOk result (λ o. Finds (IsRootOfP (outlines children.now) (labels_seen labels)) (outcome_seen (p_node (outlines children.now)) o)) }
 {
     let kinds = count_kinds(&labels);
     match (kinds.partial, kinds.empty, kinds.full) {
@@ -187,7 +194,7 @@ struct Span {
 
 /// Where the labels read empty, at most one partial, full, at most one partial, empty, if they do.
 fn find_span(labels: &[Label]) -> Option<Span>
-    ensures cut { (ts : List Outline) → length ts ≡ length labels.now → span_of (forest ts) (map label_seen labels.now) ≡ option_map (span_seen ts (map label_seen labels.now)) result }
+    ensures cut { (ts : List Outline) → length ts ≡ length labels.now → IsSpanCut ts (map label_seen labels.now) result }
     ensures within { IfSome result (λ s. (s.before ≤ s.full_from) × (s.full_from ≤ s.full_to) × (s.full_to ≤ s.behind) × (s.behind ≤ length labels.now)) }
     ensures partials { IfSome result (PartialsAt (map label_seen labels.now)) }
 {
@@ -209,8 +216,9 @@ fn find_span(labels: &[Label]) -> Option<Span>
 
 /// Q1, Q2 and Q3 at the pertinent root.
 fn root_q(alloc: Global, children: &[Tree], labels: Vec<Label>) -> Result<Outcome, NoMemory>
-    requires { length labels.items ≡ length children.now }
-    ensures { IfOk result (λ o. outcome_seen (q_node (outlines children.now)) o ≡ q_outcome (outlines children.now) (labels_seen labels)) }
+    requires length { length labels.items ≡ length children.now }
+    requires root { HasRootLabels (q_node (outlines children.now)) (labels_seen labels) }
+    ensures { IfOk result (λ o. Finds (IsRootOfQ (outlines children.now) (labels_seen labels)) (outcome_seen (q_node (outlines children.now)) o)) }
 {
     match find_span(&labels) {
         None => Ok(Outcome::NoTemplate),
@@ -237,7 +245,7 @@ fn replaced_q(
 ) -> Result<Tree, NoMemory>
     requires within { (span.before ≤ span.full_from) × (span.full_from ≤ span.full_to) × (span.full_to ≤ span.behind) × (span.behind ≤ length children.now) }
     requires partials { PartialsAt (labels_seen labels) span }
-    ensures { IfOk result (λ t. outline_of t ≡ q_made (span_seen (map outline_of children.now) (labels_seen labels) span)) }
+    ensures { IfOk result (λ t. outline_of t ≡ q_made (map outline_of children.now) (labels_seen labels) span) }
 {
     let before = all_copied(alloc, &children[..span.before])?;
     let full = all_copied(alloc, &children[span.full_from..span.full_to])?;

@@ -1,25 +1,28 @@
 // The label of a tree below the pertinent root, and the templates there.
 ghost use Rattle.std.specs.Prelude.{◌≡◌, ◌≤◌, map, length, reverse, IfOk, option_map, option_and_then, Some};
 ghost use Rattle.std.specs.List.Sorted.{IsNonDecreasing};
-ghost use Rattle.column_order.specs.Orders.{has};
-ghost use Rattle.pq_tree.specs.Outline.{leaf};
 ghost use Rattle.pq_tree.specs.Proper.{outline_of};
-ghost use Rattle.pq_plain.specs.Templates.{p3, p5, q2, back};
-ghost use Rattle.pq_plain.specs.Labels.{label_of, labels_of, run_of, at_run, at_q, partials};
-ghost use Rattle.pq_plain.specs.Seen.{outlines, halves_seen, label_seen, labels_seen, p_label, q_label};
+ghost use Rattle.pq_plain.specs.Templates.{p3, p5, q2};
+ghost use Rattle.pq_tree.specs.Forests.{back};
+ghost use Rattle.pq_plain.specs.Reduced.{IsLabelOfLeaf};
+ghost use Rattle.pq_plain.specs.Found.{IsLabelFound, AreLabelsFound};
+ghost use Rattle.pq_plain.specs.Labels.{partials, first_of};
+ghost use Rattle.pq_plain.specs.Chosen.{IsLabelOfP, IsLabelOfQ};
+ghost use Rattle.pq_plain.specs.Cuts.{Finds, run_label, IsLabelFromEnd};
+ghost use Rattle.pq_plain.specs.Seen.{outlines, halves_seen, label_seen, labels_seen};
 
 use crate::children::{back_copied, empty_children, full_children, partial_children, star_of};
 use crate::copy::all_copied;
 use crate::label::{Halves, Label, count_kinds, find_run};
 use pq_tree::Tree;
-use row_model::NoMemory;
+use row_model::{NoMemory, row_has};
 use std::alloc::Global;
 
 /// The label of a tree below the pertinent root, `None` where at some node no template fits.
 #[cycle(label)]
 pub fn label_tree(alloc: Global, row: &[u32], tree: &Tree) -> Result<Option<Label>, NoMemory>
     requires { IsNonDecreasing row.now }
-    ensures { IfOk result (λ r. option_map label_seen r ≡ label_of row.now (outline_of tree.now)) }
+    ensures { IfOk result (λ r. IsLabelFound row.now (outline_of tree.now) (option_map label_seen r)) }
 {
     match tree {
         Tree::Leaf(column) => Ok(Some(label_leaf(row, *column))),
@@ -42,7 +45,7 @@ pub fn label_trees(
     trees: &[Tree],
 ) -> Result<Option<Vec<Label>>, NoMemory>
     requires { IsNonDecreasing row.now }
-    ensures { IfOk result (λ r. option_map labels_seen r ≡ labels_of row.now (outlines trees.now)) }
+    ensures { IfOk result (λ r. AreLabelsFound row.now (outlines trees.now) (option_map labels_seen r)) }
 {
     let mut labels = Vec::new(alloc);
     for tree in trees {
@@ -54,18 +57,10 @@ pub fn label_trees(
     Ok(Some(labels))
 }
 
-/// Whether an ascending row has a column.
-pub fn row_has(row: &[u32], column: u32) -> bool
-    requires { IsNonDecreasing row.now }
-    ensures { result ≡ has row.now column }
-{
-    row.binary_search(&column).is_ok()
-}
-
 /// L1: a leaf in the row is full.
 fn label_leaf(row: &[u32], column: u32) -> Label
     requires { IsNonDecreasing row.now }
-    ensures { label_of row.now (leaf column) ≡ Some (label_seen result) }
+    ensures { IsLabelOfLeaf row.now column (label_seen result) }
 {
     if row_has(row, column) {
         Label::Full
@@ -105,7 +100,7 @@ fn template_p5(
 /// P1, P3 and P5, `None` where none fits.
 fn label_p(alloc: Global, children: &[Tree], labels: Vec<Label>) -> Result<Option<Label>, NoMemory>
     requires { length labels.items ≡ length children.now }
-    ensures { IfOk result (λ r. option_map label_seen r ≡ p_label (outlines children.now) (labels_seen labels)) }
+    ensures { IfOk result (λ r. Finds (IsLabelOfP (outlines children.now) (labels_seen labels)) (option_map label_seen r)) }
 {
     let kinds = count_kinds(&labels);
     match (kinds.partial, kinds.empty, kinds.full) {
@@ -157,7 +152,7 @@ fn label_run(
     full: Vec<Tree>,
 ) -> Result<Label, NoMemory>
     requires { length (partials (labels_seen labels)) ≤ 1 }
-    ensures { IfOk result (λ l. at_q (partials (labels_seen labels)) (outlines empty.items) (outlines full.items) ≡ Some (label_seen l)) }
+    ensures { IfOk result (λ l. label_seen l ≡ run_label (outlines empty.items) (first_of (partials (labels_seen labels))) (outlines full.items)) }
 {
     let mut partials = partial_children(alloc, labels)?;
     match partials.pop() {
@@ -174,7 +169,7 @@ fn label_run(
 /// Q1 and Q2, `None` where neither fits.
 fn label_q(alloc: Global, children: &[Tree], labels: Vec<Label>) -> Result<Option<Label>, NoMemory>
     requires { length labels.items ≡ length children.now }
-    ensures { IfOk result (λ r. option_map label_seen r ≡ q_label (outlines children.now) (labels_seen labels)) }
+    ensures { IfOk result (λ r. Finds (IsLabelOfQ (outlines children.now) (labels_seen labels)) (option_map label_seen r)) }
 {
     let kinds = count_kinds(&labels);
     match (kinds.partial, kinds.empty, kinds.full) {
@@ -199,7 +194,7 @@ fn label_turned(
     mut labels: Vec<Label>,
 ) -> Result<Option<Label>, NoMemory>
     requires { length labels.items ≡ length children.now }
-    ensures { IfOk result (λ r. option_map label_seen r ≡ option_and_then at_run (run_of (back (outlines children.now)) (reverse (labels_seen labels)))) }
+    ensures { IfOk result (λ r. IsLabelFromEnd (outlines children.now) (labels_seen labels) (option_map label_seen r)) }
 {
     labels.reverse();
     match find_run(&labels) {

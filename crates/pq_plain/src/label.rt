@@ -1,9 +1,10 @@
 // Labels, and what they read as from left to right.
 ghost use Rattle.std.specs.Prelude.{◌≡◌, ◌≤◌, ◌<◌, ◌+◌, ◌-◌, ◌^◌, List, [], ◌∷◌, map, length, IfSome, option_map};
 ghost use Rattle.pq_tree.specs.Outline.{Outline};
-ghost use Rattle.pq_tree.specs.Proper.{forest};
-ghost use Rattle.pq_plain.specs.Labels.{run_of, partials};
-ghost use Rattle.pq_plain.specs.Seen.{label_seen, empties, fulls, empty_front, full_front, cut_front, run_seen};
+ghost use Rattle.pq_tree.specs.Forests.{forest};
+ghost use Rattle.pq_plain.specs.Labels.{partials};
+ghost use Rattle.pq_plain.specs.Cuts.{IsRunCut};
+ghost use Rattle.pq_plain.specs.Seen.{label_seen, empties, fulls, empty_front, full_front, cut_front};
 
 use pq_tree::Tree;
 
@@ -123,7 +124,7 @@ pub struct Run {
 
 /// Where the labels read empty, at most one partial, full, if they do.
 pub fn find_run(labels: &[Label]) -> Option<Run>
-    ensures cut { (ts : List Outline) → length ts ≡ length labels.now → run_of (forest ts) (map label_seen labels.now) ≡ option_map (run_seen ts (map label_seen labels.now)) result }
+    ensures cut { (ts : List Outline) → length ts ≡ length labels.now → IsRunCut ts (map label_seen labels.now) result }
     ensures within { IfSome result (λ run. (run.before ≤ run.behind) × (run.behind ≤ length labels.now)) }
 {
     let before = leading_empty(labels);

@@ -1,13 +1,13 @@
 // The reducer that owns its tree.
 ghost use Rattle.std.specs.Prelude.{◌≡◌, ◌≤◌, [], IfOk};
-ghost use Rattle.pq_tree.specs.Proper.{outline_of, universal, IsProper, IsProper-prop};
+ghost use Rattle.pq_tree.specs.Proper.{outline_of, universal, IsProper};
+ghost use Rattle.pq_tree.specs.Propositions.{IsProper-prop};
 ghost use Rattle.tied_law.specs.Tied.{IsTied};
 
-use crate::copy::copied;
 use crate::reducer::{Reducer, Step};
 use crate::search::{Found, reduce_tree};
 use pq_tree::{PqTree, Tree};
-use row_model::{Matrix, NoMemory};
+use row_model::{COLUMN_BOUND, Matrix, NoMemory};
 use std::alloc::Global;
 use step_count::{Ledger, Steps};
 
@@ -31,13 +31,12 @@ impl PlainReducer {
     ///
     /// `NoMemory`.
     pub fn new(alloc: Global, columns: u32) -> Result<Self, NoMemory>
-        requires { (1 ≤ columns) × (columns ≤ 32768) }
+        requires { (1 ≤ columns) × (columns ≤ COLUMN_BOUND) }
         ensures columns { IfOk result (λ r. plain_columns r ≡ columns) }
         ensures tree { IfOk result (λ r. plain_outline r ≡ universal columns) }
         ensures tied { IfOk result (λ r. IsTied columns [] (plain_outline r)) }
     {
-        let universal = PqTree::universal(alloc, columns)?;
-        let tree = copied(alloc, universal.root())?;
+        let tree = PqTree::universal(alloc, columns)?.into_tree();
         Ok(PlainReducer {
             alloc,
             column_count: columns,
@@ -71,8 +70,6 @@ impl Reducer for PlainReducer {
     }
 
     fn tree(&self, alloc: Global) -> Result<PqTree, NoMemory> {
-        let copy = copied(alloc, &self.tree)?;
-        let tree = PqTree::from_tree(self.column_count, copy).canonical(alloc)?;
-        Ok(tree)
+        PqTree::canonical_of(alloc, self.column_count, &self.tree)
     }
 }

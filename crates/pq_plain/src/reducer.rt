@@ -1,13 +1,14 @@
 // What a reducer promises, however it keeps its tree.
 ghost use Rattle.std.specs.Prelude.{◌≡◌, ◌-◌, ◌≤◌, ℕ, List, length, take, IfOk, OnErr};
 ghost use Rattle.column_order.specs.Orders.{HasValidOrder};
-ghost use Rattle.row_model.specs.Graph.{HasConflict};
+ghost use Rattle.row_model.specs.Graph.{row_at, HasConflict};
 ghost use Rattle.pq_tree.specs.Outline.{Outline};
 ghost use Rattle.pq_tree.specs.Proper.{IsProper};
 ghost use Rattle.pq_tree.specs.PqTree.{column_count, outline as tree_of};
 ghost use Rattle.pq_tree.specs.Equivalent.{IsEquivalent};
 ghost use Rattle.pq_tree.specs.Canonical.{IsCanonical};
 ghost use Rattle.tied_law.specs.Tied.{IsTied};
+ghost use Rattle.pq_plain.specs.Reduced.{IsReduced};
 
 use pq_tree::PqTree;
 use row_model::{Matrix, NoMemory};
@@ -33,9 +34,11 @@ pub trait Reducer {
 
     /// Reduces the tree by row `k` of `m`, after the rows before it. Row numbers begin at 1.
     ///
-    /// After `Taken` the tree is tied to the rows 1 to `k`: its frontiers are exactly their valid orders. `Refused` comes
-    /// exactly where these rows have no valid order; then a walk of even length in their incompatibility graph leads from
-    /// some pair of columns to the same pair with its columns exchanged.
+    /// After `Taken` the tree is the old one with its pertinent root, the smallest node that holds the row, replaced by the
+    /// template that fits, up to the order of a P-node's children and the direction of a Q-node's. It is tied to the rows
+    /// 1 to `k`: its frontiers are exactly their valid orders. `Refused` comes exactly where these rows have no valid order;
+    /// then a walk of even length in their incompatibility graph leads from some pair of columns to the same pair with its
+    /// columns exchanged.
     ///
     /// # Errors
     ///
@@ -49,6 +52,7 @@ pub trait Reducer {
         requires row { (1 ≤ k) × (k ≤ length m.now.rows) }
         requires columns { columns self.old ≡ m.now.columns }
         requires tied { IsTied m.now.columns (take (k - 1) m.now.rows) (outline self.old) }
+        ensures reduced { IfOk result (λ step. step ≡ Step.Taken → IsReduced (row_at m.now.rows k) (outline self.old) (outline self.new)) }
         ensures taken { IfOk result (λ step. step ≡ Step.Taken → IsTied m.now.columns (take k m.now.rows) (outline self.new)) }
         ensures order { IfOk result (λ step. step ≡ Step.Taken → HasValidOrder m.now.columns (take k m.now.rows)) }
         ensures refused { IfOk result (λ step. step ≡ Step.Refused → HasValidOrder m.now.columns (take k m.now.rows) → ⊥) }

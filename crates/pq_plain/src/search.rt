@@ -2,17 +2,14 @@
 ghost use Rattle.std.specs.Prelude.{◌≡◌, ◌≤◌, ◌<◌, ℕ, List, [], ◌∷◌, map, length, IfOk, OnErr};
 ghost use Rattle.std.specs.List.Sorted.{IsNonDecreasing};
 ghost use Rattle.column_order.specs.Orders.{occurs};
-ghost use Rattle.pq_tree.specs.Outline.{leaves, leaves_of};
-ghost use Rattle.pq_tree.specs.Proper.{outline_of};
+ghost use Rattle.pq_tree.specs.Proper.{outline_of, IsTree, AreTrees};
 ghost use Rattle.pq_plain.specs.Seen.{outlines};
-ghost use Rattle.pq_plain.specs.AtRoot.{root_of};
-ghost use Rattle.pq_plain.specs.Found.{hits, IsStep, IsFound, IsFoundBelow, IsFoundAmong};
+ghost use Rattle.pq_plain.specs.Found.{hits, IsLowest, IsRootStep, IsFound, IsFoundBelow, IsFoundIn};
 
 use crate::at_root::{Outcome, reduce_root};
-use crate::below::row_has;
 use crate::reducer::Step;
 use pq_tree::Tree;
-use row_model::NoMemory;
+use row_model::{NoMemory, row_has};
 use std::alloc::Global;
 use std::mem;
 
@@ -32,7 +29,7 @@ pub fn reduce_tree(alloc: Global, row: &[u32], tree: &mut Tree) -> Result<Found,
     requires ascending { IsNonDecreasing row.now }
     requires distinct { (a : ℕ) → occurs row.now a ≤ 1 }
     requires some { 0 < length row.now }
-    requires once { (a : ℕ) → occurs (leaves (outline_of tree.old)) a ≤ 1 }
+    requires tree { IsTree (outline_of tree.old) }
     ensures found { IfOk result (IsFound row.now (outline_of tree.old) (outline_of tree.new)) }
     ensures err { OnErr result (outline_of tree.new ≡ outline_of tree.old) }
 {
@@ -54,7 +51,7 @@ fn reduce_below(alloc: Global, row: &[u32], tree: &mut Tree) -> Result<Found, No
     requires ascending { IsNonDecreasing row.now }
     requires distinct { (a : ℕ) → occurs row.now a ≤ 1 }
     requires some { 0 < length row.now }
-    requires once { (a : ℕ) → occurs (leaves (outline_of tree.old)) a ≤ 1 }
+    requires tree { IsTree (outline_of tree.old) }
     ensures found { IfOk result (IsFoundBelow row.now (outline_of tree.old) (outline_of tree.new)) }
     ensures err { OnErr result (outline_of tree.new ≡ outline_of tree.old) }
 {
@@ -82,8 +79,8 @@ fn reduce_children(alloc: Global, row: &[u32], children: &mut [Tree]) -> Result<
     requires ascending { IsNonDecreasing row.now }
     requires distinct { (a : ℕ) → occurs row.now a ≤ 1 }
     requires some { 0 < length row.now }
-    requires once { (a : ℕ) → occurs (leaves_of (outlines children.old)) a ≤ 1 }
-    ensures found { IfOk result (IsFoundAmong row.now (outlines children.old) (outlines children.new)) }
+    requires trees { AreTrees (outlines children.old) }
+    ensures found { IfOk result (IsFoundIn row.now (outlines children.old) (outlines children.new)) }
     ensures err { OnErr result (outlines children.new ≡ outlines children.old) }
 {
     let mut count = 0;
@@ -106,8 +103,11 @@ fn count_leaf(row: &[u32], column: u32) -> usize
 
 /// Applies the templates to a tree whose root is the pertinent root.
 fn reduce_here(alloc: Global, row: &[u32], tree: &mut Tree) -> Result<Step, NoMemory>
-    requires { IsNonDecreasing row.now }
-    ensures step { IfOk result (IsStep (root_of row.now (outline_of tree.old)) (outline_of tree.old) (outline_of tree.new)) }
+    requires ascending { IsNonDecreasing row.now }
+    requires some { 0 < length row.now }
+    requires tree { IsTree (outline_of tree.old) }
+    requires lowest { IsLowest row.now (outline_of tree.old) }
+    ensures step { IfOk result (IsRootStep row.now (outline_of tree.old) (outline_of tree.new)) }
     ensures err { OnErr result (outline_of tree.new ≡ outline_of tree.old) }
 {
     match reduce_root(alloc, row, tree)? {

@@ -1,4 +1,4 @@
-// Two rows and a third that is refused, on three columns.
+// Rows of small matrices in turn: the trees and the refusal are worked out by hand.
 ghost use Rattle.std.specs.Prelude.{◌≡◌, ◌<◌, []};
 ghost use Rattle.tied_law.specs.Tied.{IsTied};
 ghost use Rattle.pq_plain.specs.Plain.{plain_columns, plain_outline};
@@ -62,5 +62,32 @@ fn a_refused_row_leaves_the_tree(rt: HostRuntime) -> Result<(), Fail> {
     let mut text = Vec::new(rt.alloc());
     reducer.tree(rt.alloc())?.print(&mut text)?;
     assert_eq!(rt; text.as_slice(), b"[1 2 3]".as_slice());
+    Ok(())
+}
+
+#[test]
+fn a_column_between_two_rows_stands_in_the_middle(rt: HostRuntime) -> Result<(), Fail> {
+    let mut m = Matrix::new(rt.alloc(), 3)?;
+    m.push_row(&[1, 3])?;
+    m.push_row(&[1, 2])?;
+    let mut reducer = PlainReducer::new(rt.alloc(), 3)?;
+    assert_eq!(rt; reduce_rows(&mut reducer, &m)?, 2);
+    let mut text = Vec::new(rt.alloc());
+    reducer.tree(rt.alloc())?.print(&mut text)?;
+    assert_eq!(rt; text.as_slice(), b"[2 1 3]".as_slice());
+    Ok(())
+}
+
+#[test]
+fn a_row_across_two_p_nodes_joins_them_in_a_q_node(rt: HostRuntime) -> Result<(), Fail> {
+    let mut m = Matrix::new(rt.alloc(), 5)?;
+    m.push_row(&[1, 2])?;
+    m.push_row(&[3, 4])?;
+    m.push_row(&[2, 3])?;
+    let mut reducer = PlainReducer::new(rt.alloc(), 5)?;
+    assert_eq!(rt; reduce_rows(&mut reducer, &m)?, 3);
+    let mut text = Vec::new(rt.alloc());
+    reducer.tree(rt.alloc())?.print(&mut text)?;
+    assert_eq!(rt; text.as_slice(), b"([1 2 3 4] 5)".as_slice());
     Ok(())
 }

@@ -1,7 +1,8 @@
 use Rattle.std.proofs.Common.{◌∙◌, ap}
-use Rattle.pq_plain.specs.Templates.{line, star, back, under}
+use Rattle.pq_plain.specs.Templates.{line, star, under}
+use Rattle.pq_tree.specs.Forests.{back}
+use Rattle.pq_tree.proofs.Forests.{join_assoc}
 use Rattle.pq_plain.specs.Seen.{outlines, halves_seen}
-use Rattle.pq_plain.proofs.Lines.{join_assoc}
 use Rattle.pq_plain.proofs.Pieces.{appended, turned_line, node_Q}
 use Rattle.pq_plain.proofs.at_root.template_p6.Goals as goal
 

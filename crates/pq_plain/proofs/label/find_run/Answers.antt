@@ -1,11 +1,11 @@
 use Rattle.std.proofs.Common.{refl}
-use Rattle.pq_plain.proofs.Runs.{run_found, run_missing}
+use Rattle.pq_plain.proofs.Runs.{cut_found, cut_missing}
 use Rattle.pq_plain.proofs.label.find_run.Goals as goal
 
 pub returns-then-behind-leading_full-clause-cut : goal.returns-then-behind-leading_full-clause-cut
 returns-then-behind-leading_full-clause-cut c =
-    run_found c.args.labels.now _ _ _ _ c.leading_empty-before.ensures.count c.leading_partial.ensures.count refl c.leading_full.ensures.count c.if-behind-leading_full.true
+    cut_found c.args.labels.now _ _ _ _ c.leading_empty-before.ensures.count c.leading_partial.ensures.count refl c.leading_full.ensures.count c.if-behind-leading_full.true
 
 pub returns-else-behind-leading_full-clause-cut : goal.returns-else-behind-leading_full-clause-cut
 returns-else-behind-leading_full-clause-cut c =
-    run_missing c.args.labels.now _ _ _ _ c.leading_empty-before.ensures.count c.leading_partial.ensures.count refl c.leading_full.ensures.count c.if-behind-leading_full.false
+    cut_missing c.args.labels.now _ _ _ _ c.leading_empty-before.ensures.count c.leading_partial.ensures.count refl c.leading_full.ensures.count c.if-behind-leading_full.false

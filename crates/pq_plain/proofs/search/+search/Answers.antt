@@ -2,7 +2,7 @@ use Rattle.std.proofs.Common.{◌∙◌, ◌≤◌, ◌+◌, length, rules, arit
 use Rattle.std.proofs.lemmas.List.{length-set, get_or-set_other}
 use Rattle.std.proofs.lemmas.Result.{IfOk-weaker, on_err_weaker}
 use Rattle.pq_tree.specs.declared.Tree.TheViews.{the_lemmas}
-use Rattle.pq_plain.proofs.Searched.{child_once, among_root, same_after, none_after, count_after, count_few, leaf_found, P_once, Q_once, P_found, Q_found, P_same, Q_same, root_here, child_same, on_err_always}
+use Rattle.pq_plain.proofs.Searched.{child_tree, in_root, same_after, none_after, count_after, count_few, leaf_found, P_trees, Q_trees, here_lowest, P_found, Q_found, P_same, Q_same, root_here, child_same, on_err_always}
 use Rattle.pq_plain.proofs.search.+search.Goals as goal
 
 pub reduce_children-reduce_tree-requires : goal.reduce_children-reduce_tree-requires
@@ -14,7 +14,7 @@ reduce_children-reduce_tree-requires t c = (
       c.requires.distinct,
       (
         c.requires.some,
-        child_once c.args.row.now c.args.children.now c.loop-i.children c.loop-i.i _ c.loop-i-test.true c.loop-i.invariant.same c.requires.once,
+        child_tree c.args.row.now c.args.children.now c.loop-i.children c.loop-i.i _ c.loop-i-test.true c.loop-i.invariant.same c.requires.trees,
       ),
     ),
   ),
@@ -26,13 +26,13 @@ reduce_children-returns-in_err-step-clause-err t c =
 
 pub reduce_children-returns-in-Root-clause-found : goal.reduce_children-returns-in-Root-clause-found
 reduce_children-returns-in-Root-clause-found t c =
-    among_root c.args.row.now c.args.children.now c.loop-i.children c.loop-i.i _ c.loop-i-test.true c.loop-i.invariant.same c.requires.once c.requires.distinct c.loop-i.invariant.none
+    in_root c.args.row.now c.args.children.now c.loop-i.children c.loop-i.i _ c.loop-i-test.true c.loop-i.invariant.same c.requires.trees c.requires.distinct c.loop-i.invariant.none
     _ _ c.in_ok-step.ensures.found _ c.in-Root.is
 
 pub reduce_children-overflow_add-count : goal.reduce_children-overflow_add-count
 reduce_children-overflow_add-count t c =
     let few : c.loop-i.count + c.in-Columns.columns ≤ length c.args.row.now =
-    count_few c.args.row.now c.args.children.now c.loop-i.children c.loop-i.i _ c.loop-i-test.true c.loop-i.invariant.same c.requires.once c.requires.distinct c.loop-i.invariant.none
+    count_few c.args.row.now c.args.children.now c.loop-i.children c.loop-i.i _ c.loop-i-test.true c.loop-i.invariant.same c.requires.trees c.requires.distinct c.loop-i.invariant.none
     _ _ c.in_ok-step.ensures.found _ _ c.in-Columns.is c.loop-i.invariant.count in
     omega (arith, few)
 
@@ -44,19 +44,23 @@ reduce_children-loop-i-preserved t c =
         λ k d l. get_or-set_other c.loop-i.children c.loop-i.i k _ d (omega (arith, l)) ∙ c.loop-i.invariant.unvisited.1 k d (omega (arith, l)),
       );
       same =
-          same_after c.args.row.now c.args.children.now c.loop-i.children c.loop-i.i _ c.loop-i-test.true c.loop-i.invariant.same c.requires.once c.requires.distinct c.loop-i.invariant.none
+          same_after c.args.row.now c.args.children.now c.loop-i.children c.loop-i.i _ c.loop-i-test.true c.loop-i.invariant.same c.requires.trees c.requires.distinct c.loop-i.invariant.none
           _ _ c.in_ok-step.ensures.found _ _ c.in-Columns.is c.loop-i.invariant.count;
       none =
-          none_after c.args.row.now c.args.children.now c.loop-i.children c.loop-i.i _ c.loop-i-test.true c.loop-i.invariant.same c.requires.once c.requires.distinct c.loop-i.invariant.none
+          none_after c.args.row.now c.args.children.now c.loop-i.children c.loop-i.i _ c.loop-i-test.true c.loop-i.invariant.same c.requires.trees c.requires.distinct c.loop-i.invariant.none
           _ _ c.in_ok-step.ensures.found _ _ c.in-Columns.is c.loop-i.invariant.count;
       count =
-          count_after c.args.row.now c.args.children.now c.loop-i.children c.loop-i.i _ c.loop-i-test.true c.loop-i.invariant.same c.requires.once c.requires.distinct c.loop-i.invariant.none
+          count_after c.args.row.now c.args.children.now c.loop-i.children c.loop-i.i _ c.loop-i-test.true c.loop-i.invariant.same c.requires.trees c.requires.distinct c.loop-i.invariant.none
           _ _ c.in_ok-step.ensures.found _ _ c.in-Columns.is c.loop-i.invariant.count;
     }
 
+pub reduce_tree-reduce_here-requires-clause-lowest : goal.reduce_tree-reduce_here-requires-clause-lowest
+reduce_tree-reduce_here-requires-clause-lowest t c =
+    here_lowest c.args.row.now _ _ _ _ c.requires.distinct c.requires.tree c.in_ok-step.ensures.found c.in-Columns.is c.if-count-row.false
+
 pub reduce_tree-returns-in_ok-step-in-Columns-clause-found : goal.reduce_tree-returns-in_ok-step-in-Columns-clause-found
 reduce_tree-returns-in_ok-step-in-Columns-clause-found t c =
-    root_here c.args.row.now _ _ _ _ _ _ c.requires.distinct c.requires.once c.in_ok-step.ensures.found c.in-Columns.is c.if-count-row.false c.in_ok-step-in-Columns.ensures.step
+    root_here c.args.row.now _ _ _ _ c.requires.distinct c.requires.tree c.in_ok-step.ensures.found c.in-Columns.is c.if-count-row.false _ _ c.in_ok-step-in-Columns.ensures.step
 
 pub reduce_below-returns-in-Leaf-clause-found : goal.reduce_below-returns-in-Leaf-clause-found
 reduce_below-returns-in-Leaf-clause-found t c = leaf_found c.args.row.now _ _ _ _ c.replace.ensures.value c.in-Leaf.is c.count_leaf.ensures
@@ -70,7 +74,7 @@ reduce_below-reduce_children-found-requires t c = (
       c.requires.distinct,
       (
         c.requires.some,
-        P_once _ _ _ _ c.replace.ensures.value c.deref_mut.ensures.value c.in-P.is c.requires.once,
+        P_trees _ _ _ _ c.replace.ensures.value c.deref_mut.ensures.value c.in-P.is c.requires.tree,
       ),
     ),
   ),
@@ -85,7 +89,7 @@ reduce_below-reduce_children-found-requires-in-Q t c = (
       c.requires.distinct,
       (
         c.requires.some,
-        Q_once _ _ _ _ c.replace.ensures.value c.deref_mut-in-Q.ensures.value c.in-Q.is c.requires.once,
+        Q_trees _ _ _ _ c.replace.ensures.value c.deref_mut-in-Q.ensures.value c.in-Q.is c.requires.tree,
       ),
     ),
   ),

@@ -1,7 +1,13 @@
 use Rattle.std.proofs.Common.{◌≡◌, length, rules}
+use Rattle.row_model.proofs.Ascending.{row_once}
 use Rattle.row_model.proofs.PieceLemmas.{ascends_rises}
-use Rattle.pq_plain.proofs.Reducing.{row_once, empty_taken, empty_order, not_outside, root_tied, root_order, root_conflict, root_none, still_proper}
+use Rattle.pq_plain.proofs.Reducing.{empty_reached, root_reached, empty_taken, empty_order, not_outside, root_tied, root_order, root_conflict, root_none, still_proper}
 use Rattle.pq_plain.proofs.plain.PlainReducerReducer.reduce.Goals as goal
+
+pub returns-then-is_empty-clause-reduced : goal.returns-then-is_empty-clause-reduced
+returns-then-is_empty-clause-reduced g c =
+    let none : length c.row-row.result.now ≡ 0 = search rules in
+    λ e. empty_reached _ _ c.args.m.now.rows c.args.k _ _ c.requires.columns c.args.self.now.proper c.requires.tied c.requires.row c.row-row.ensures.row c.row-row.ensures.ascending none
 
 pub returns-then-is_empty-clause-taken : goal.returns-then-is_empty-clause-taken
 returns-then-is_empty-clause-taken g c =
@@ -50,4 +56,9 @@ returns-in-Ok-Root-clause-refused g c =
 pub returns-in-Ok-Root-clause-conflict : goal.returns-in-Ok-Root-clause-conflict
 returns-in-Ok-Root-clause-conflict g c =
     root_conflict _ _ c.args.m.now.rows c.args.k _ _ c.requires.columns c.args.self.now.proper c.requires.tied c.requires.row c.row-row.ensures.row c.row-row.ensures.ascending
+    _ _ c.in-Ok-Root.ensures.found _ c.in-Ok-Root.field-0-is
+
+pub returns-in-Ok-Root-clause-reduced : goal.returns-in-Ok-Root-clause-reduced
+returns-in-Ok-Root-clause-reduced g c =
+    root_reached _ _ c.args.m.now.rows c.args.k _ _ c.requires.columns c.args.self.now.proper c.requires.tied c.requires.row c.row-row.ensures.row c.row-row.ensures.ascending
     _ _ c.in-Ok-Root.ensures.found _ c.in-Ok-Root.field-0-is

@@ -1,12 +1,10 @@
-use Rattle.std.proofs.Common.{◌∙◌, subst}
-use Rattle.pq_tree.specs.Equivalent.{IsEquivalent}
-use Rattle.pq_tree.specs.PqTree.{outline}
-use Rattle.tied_law.proofs.Turn.{turned_law}
+use Rattle.std.proofs.lemmas.Result.{IfOk-weaker}
+use Rattle.tied_law.proofs.Turn.{turned_tied}
 use Rattle.pq_plain.specs.Plain.{plain_columns, plain_outline}
 use Rattle.pq_plain.proofs.plain.PlainReducerReducer.tree.Goals as goal
 
 pub returns-clause-tied : goal.returns-clause-tied
 returns-clause-tied c =
-    let equivalent : IsEquivalent (plain_outline c.args.self.now) (outline c.in_ok-tree.tree) =
-    subst (λ t. IsEquivalent t (outline c.in_ok-tree.tree)) (c.from_tree.ensures.tree ∙ c.in_ok-copy.ensures) c.in_ok-tree.ensures.equivalent in
-    λ rows h. (turned_law (plain_columns c.args.self.now) rows (plain_outline c.args.self.now) (outline c.in_ok-tree.tree) c.args.self.now.proper equivalent h).1
+    IfOk-weaker c.canonical_of.result _ _
+    (λ t h rows k. turned_tied (plain_columns c.args.self.now) rows (plain_outline c.args.self.now) _ h k)
+    c.canonical_of.ensures.equivalent
