@@ -1,8 +1,8 @@
 -- The lists of the rows that have each column, as they grow.
 use Rattle.std.proofs.Common.{◌≡◌, ◌≢◌, ◌∙◌, take, sum_by, ℕ, ◌+◌, ◌-◌, ◌<◌, ◌≤◌, Vec, Global, List, [], ◌∷◌, ◌++◌, length, map, set, replicate, get_or, slice_get, Some, IsTrue, sym, ap, subst, inl, inr, arith, get_or-set_same, get_or-set_other}
 use Rattle.std.proofs.lemmas.Bool.{cases_eq, cases_lt}
-use Rattle.std.proofs.lemmas.List.Sums.{sum_by-append, sum_by-cons}
-use Rattle.std.proofs.lemmas.List.{take_more, length-set, length-replicate, get_or-replicate, get_or_past}
+use Rattle.std.proofs.lemmas.List.Sums.{sum_by-append, sum_by-cons, sum_by-take-le}
+use Rattle.std.proofs.lemmas.List.{take_more, take-take, length-set, length-replicate, get_or-replicate, get_or_past}
 use Rattle.std.proofs.lemmas.Option.{none-some, same_Some, slice_get_within, get_or_from_slice_get}
 use Rattle.column_order.specs.Orders.{has}
 use Rattle.row_model.specs.Graph.{row_at}
@@ -110,3 +110,7 @@ ones_more rows k row e =
     ap (sum_by length) (take_more rows k row (slice_get_within rows k row here))
     ∙ sum_by-append length (take k rows) (get_or rows k row ∷ [])
     ∙ ap (λ n. sum_by length (take k rows) + n) (sum_by-cons length (get_or rows k row) [] ∙ omega (arith, ap length (get_or_from_slice_get rows k row row here)))
+
+-- the ones of fewer rows
+pub ones_part : (rows : List (List ℕ)) (k n : ℕ) → k ≤ n → sum_by length (take k rows) ≤ sum_by length (take n rows)
+ones_part rows k n l = subst (λ front. sum_by length front ≤ sum_by length (take n rows)) (take-take k n rows l) (sum_by-take-le length (take n rows) k)

@@ -1,6 +1,6 @@
 -- Items of lists by their positions.
 use Rattle.std.proofs.Common.{◌≡◌, ◌⊎◌, ◌∙◌, ℕ, zero, suc, ◌+◌, ◌<◌, ◌≤◌, List, [], ◌∷◌, ◌++◌, length, take, drop, slice_get, Option, Some, None, IsTrue, refl, ap, subst, inl, inr, arith}
-use Rattle.std.proofs.lemmas.Option.{none-some, same_Some, slice_get-get_or}
+use Rattle.std.proofs.lemmas.Option.{none-some, same_Some, slice_get-get_or, slice_get_within}
 use Rattle.column_order.specs.Orders.{has, place}
 use Rattle.row_model.specs.Rows.{Ascends, IsRow}
 use Rattle.column_order.proofs.Lists.{has_head, has_tail, at_place}
@@ -71,3 +71,7 @@ row_item c row i d h e = (let r = ascends_item c 0 row i d h e in (omega (arith,
 pub none_of : {A : Type 0} (o : Option A) → ((x : A) → o ≡ Some x → ⊥) → o ≡ None
 none_of None h = refl
 none_of (Some x) h = absurd (h x refl)
+
+-- a row with a column has some item
+pub held_some : (row : List ℕ) (d : ℕ) → IsTrue (has row d) → 1 ≤ length row
+held_some row d h = let i = item_of row d h in omega (arith, slice_get_within row i.0 d i.1)

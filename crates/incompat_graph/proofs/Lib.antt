@@ -11,3 +11,4 @@ pub mod SettledLaws
 pub mod ClosingLaws
 pub mod EndLaws
 pub mod OddCycles
+pub mod CycleLength

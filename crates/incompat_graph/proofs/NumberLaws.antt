@@ -5,8 +5,9 @@ use Rattle.std.proofs.lemmas.List.{get_or-map, length-map}
 use Rattle.std.proofs.lemmas.Map.Keys.{IsDistinct-from_apart}
 use Rattle.std.proofs.lemmas.Map.Steps.{length-le_from_distinct_below}
 use Rattle.std.specs.List.{list_any}
-use Rattle.std.proofs.lemmas.Nat.{same_from_place, mul-add-lt}
+use Rattle.std.proofs.lemmas.Nat.{same_from_place, mul-add-lt, mul-le}
 use Rattle.std.proofs.lemmas.Option.{same_Some, slice_get_within, slice_get-get_or, get_or_from_slice_get}
+use Rattle.column_order.specs.declared.TheConstants.{COLUMN_BOUND}
 use Rattle.row_model.specs.declared.graph.Pair.{Pair}
 use Rattle.row_model.specs.Graph.{pair, IsPair}
 use Rattle.incompat_graph.specs.Numbers.{Numbering, number_of, place_of, Renumbers, IsIndexed}
@@ -47,7 +48,7 @@ renumbered c entries written v number long p e =
 placed : {A : Type 0} (xs : List A) (place : A → ℕ) (i d : ℕ) (x : A) → slice_get xs i ≡ Some x → get_or (map place xs) i d ≡ place x
 placed xs place i d x e = get_or-map place xs i x d (slice_get_within xs i x e) ∙ ap place (get_or_from_slice_get xs i x x e)
 
-any_item : (q : ℕ) (xs : List ℕ) → list_any (eqb q) xs ≡ true → (i : ℕ) × (slice_get xs i ≡ Some q)
+pub any_item : (q : ℕ) (xs : List ℕ) → list_any (eqb q) xs ≡ true → (i : ℕ) × (slice_get xs i ≡ Some q)
 any_item q [] e = absurd (cc)
 any_item q (x ∷ xs) e =
     elim (or_cases (eqb q x) (list_any (eqb q) xs) e) [
@@ -67,6 +68,7 @@ module _ {A : Type 0} (pair_of : A → Pair) where
       n ≡ length xs + 1 → Renumbers old new (pair_of x) n → IsIndexed pair_of new (xs ++ x ∷ [])
   indexed_push old new xs x n h p fresh long r =
       record {
+        few = omega (arith, r.columns, h.few);
         pairs = λ i y e. elim (item_pushed xs x i y e) [
           | inl t ↦
               let o = h.pairs i y t in
@@ -95,6 +97,7 @@ module _ {A : Type 0} (pair_of : A → Pair) where
       ((v : Pair) → IsPair old.columns v → keep < number_of old v → number_of new v ≡ 0) → IsIndexed pair_of new (take keep xs)
   indexed_take old new xs keep h columns kept lost =
       record {
+        few = omega (arith, columns, h.few);
         pairs = λ i y e.
             let t = item_taken keep xs i y e in
             let o = h.pairs i y t.1 in
@@ -135,3 +138,10 @@ module _ {A : Type 0} (pair_of : A → Pair) where
       let s : q ≡ place x.0 = same_Some q (place x.0) (sym at.1 ∙ slice_get-get_or places at.0 q (slice_get_within places at.0 q at.1) ∙ ap Some (placed xs place at.0 q x.0 x.1)) in
       omega (arith, s, place_of-lt t.columns (pair_of x.0) (h.pairs at.0 x.0 x.1).0) in
       omega (arith, length-le_from_distinct_below places (t.columns * t.columns) (IsDistinct-from_apart eqb places apart) below, length-map xs place)
+
+  -- and fewer than numbers of 32 bits
+  pub indexed_few : (t : Numbering) (xs : List A) → IsIndexed pair_of t xs → length xs ≤ COLUMN_BOUND * COLUMN_BOUND
+  indexed_few t xs h =
+      let room : length xs ≤ t.columns * t.columns = indexed_room t xs h in
+      let square : t.columns * t.columns ≤ COLUMN_BOUND * COLUMN_BOUND = mul-le t.columns t.columns COLUMN_BOUND COLUMN_BOUND h.few h.few in
+      omega (arith, room, square)

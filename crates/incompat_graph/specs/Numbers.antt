@@ -1,5 +1,6 @@
 -- Numbers that are given to ordered pairs of columns.
-use Rattle.std.specs.Prelude.{◌≡◌, ◌≢◌, ℕ, ◌+◌, ◌-◌, ◌*◌, ◌<◌, Some, List, slice_get, slice_index}
+use Rattle.std.specs.Prelude.{◌≡◌, ◌≢◌, ℕ, ◌+◌, ◌-◌, ◌*◌, ◌<◌, ◌≤◌, Some, List, slice_get, slice_index}
+use Rattle.column_order.specs.declared.TheConstants.{COLUMN_BOUND}
 use Rattle.row_model.specs.declared.graph.Pair.{Pair}
 use Rattle.row_model.specs.Graph.{IsPair}
 
@@ -26,7 +27,9 @@ pub record Renumbers (old new : Numbering) (v : Pair) (number : ℕ) : Type 0 wh
   pub changed : number_of new v ≡ number
   pub others : (w : Pair) → IsPair old.columns w → w ≢ v → number_of new w ≡ number_of old w
 
--- the number of the pair of each item is the item's position, from 1, and each pair with a number above 0 has its item there
+-- the number of the pair of each item is the item's position, from 1, and each pair with a number above 0 has its item there;
+-- the columns are no more than a matrix may have
 pub record IsIndexed {A : Type 0} (pair_of : A → Pair) (numbers : Numbering) (items : List A) : Type 0 where
+  pub few : numbers.columns ≤ COLUMN_BOUND
   pub pairs : (i : ℕ) (x : A) → slice_get items i ≡ Some x → IsPair numbers.columns (pair_of x) × (number_of numbers (pair_of x) ≡ i + 1)
   pub found : (v : Pair) → IsPair numbers.columns v → 0 < number_of numbers v → (x : A) × (slice_get items (number_of numbers v - 1) ≡ Some x) × (pair_of x ≡ v)

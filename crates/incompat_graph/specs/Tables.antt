@@ -1,5 +1,6 @@
 -- How the tables keep what contracts see of them.
-use Rattle.std.specs.Prelude.{◌≡◌, ◌*◌, length}
+use Rattle.std.specs.Prelude.{◌≡◌, ◌*◌, ◌<◌, ◌≤◌, length}
+use Rattle.column_order.specs.declared.TheConstants.{COLUMN_BOUND}
 use Rattle.incompat_graph.specs.declared.numbers.PairNumbers.TheInside.{Inside}
 use Rattle.incompat_graph.specs.declared.marks.Marks.TheInside.{Inside as MarksInside}
 use Rattle.incompat_graph.specs.Numbers.{Numbering}
@@ -8,13 +9,14 @@ use Rattle.incompat_graph.specs.Marks.{Marking}
 abbrev pub numbering_within : Inside → Numbering
 numbering_within t = record { columns = t.columns; entries = t.numbers.items }
 
--- there is a place for each pair
-abbrev pub HasEachPair : Inside → Type 0
-HasEachPair t = length t.numbers.items ≡ t.columns * t.columns
+-- there are no more columns than a matrix may have, and there is a place for each pair
+pub record HasEachPair (t : Inside) : Type 0 where
+  pub few : t.columns ≤ COLUMN_BOUND
+  pub places : length t.numbers.items ≡ t.columns * t.columns
 
 abbrev pub marking_within : MarksInside → Marking
-marking_within t = record { rows = t.rows; columns = t.columns; entries = t.marked.items }
+marking_within t = record { rows = t.rows; columns = t.columns; words = t.words.items }
 
--- there is a place for each row at each column
+-- there is a bit for each row at each column
 abbrev pub HasEachMark : MarksInside → Type 0
-HasEachMark t = length t.marked.items ≡ t.rows * t.columns
+HasEachMark t = t.rows * t.columns < 64 * length t.words.items

@@ -7,8 +7,8 @@ ghost use Rattle.incompat_graph.specs.Numbers.{IsIndexed, number_of};
 
 use crate::numbers::PairNumbers;
 use crate::walk::Walk;
-use row_model::{Line, Matrix, Pair};
-use std::alloc::{AllocError, Global};
+use row_model::{Line, Lines, Matrix, NoMemory, Pair};
+use std::alloc::Global;
 use std::marker::Model;
 
 /// The lines of an odd cycle in the incompatibility graph of a matrix: an odd number of lines, three or more, with no
@@ -16,7 +16,7 @@ use std::marker::Model;
 /// the pair of the first.
 #[derive(Drop)]
 pub struct Cycle {
-    lines: Vec<Line>,
+    lines: Lines,
 }
 
 impl Model for Cycle {
@@ -26,9 +26,9 @@ impl Model for Cycle {
 
     ghost Value = { List Line };
 
-    ghost view = { λ cycle. cycle.lines.items };
+    ghost view = { λ cycle. cycle.lines };
 
-    ghost invariant = { λ cycle. IsSimpleOdd cycle.lines.items };
+    ghost invariant = { λ cycle. IsSimpleOdd cycle.lines };
 }
 
 impl Cycle {
@@ -37,15 +37,28 @@ impl Cycle {
         ensures lines { result.now ≡ self.now }
         ensures simple { IsSimpleOdd result.now }
     {
-        &self.lines
+        self.lines.as_slice()
+    }
+
+    /// The lines in their order, without a copy.
+    pub fn into_lines(self) -> Lines
+        ensures lines { result ≡ self }
+        ensures simple { IsSimpleOdd result }
+    {
+        self.lines
     }
 }
 
 /// An odd cycle of the matrix, which is looked for along a closed walk of odd length.
 ///
 /// A pair that comes twice cuts a closed walk into two closed walks, and one of the two is odd. So the walk is followed
-/// until a pair comes again: the lines since then are the cycle, if they are odd in number, and are left out if not.
-pub fn simple_cycle(alloc: Global, m: &Matrix, walk: &Walk) -> Result<Cycle, AllocError>
+/// until a pair comes again: the lines since then are the cycle, if they are odd in number, and are left out if not. It
+/// takes at most 20 bytes for each pair of columns.
+///
+/// # Errors
+///
+/// `NoMemory`.
+pub fn simple_cycle(alloc: Global, m: &Matrix, walk: &Walk) -> Result<Cycle, NoMemory>
     requires { IsClosedWalk m.now.columns m.now.rows walk.now }
     ensures { IfOk result (IsOddCycle m.now.columns m.now.rows) }
 {
@@ -54,13 +67,15 @@ pub fn simple_cycle(alloc: Global, m: &Matrix, walk: &Walk) -> Result<Cycle, All
     for line in walk.lines() {
         let keep = place(&numbers, &path, line.pair);
         if (path.len() - keep) % 2 == 1 {
-            let lines = path.split_off(keep)?;
+            let lines = Lines::from_vec(path.split_off(keep)?);
             return Ok(Cycle { lines });
         }
         cut(&mut numbers, &mut path, keep);
         extend(&mut numbers, &mut path, *line)?;
     }
-    Ok(Cycle { lines: path })
+    Ok(Cycle {
+        lines: Lines::from_vec(path),
+    })
 }
 
 // The index of the line with this pair, or the length of the path where there is none.
@@ -70,12 +85,12 @@ fn place(numbers: &PairNumbers, path: &[Line], v: Pair) -> usize
 {
     match numbers.get(v) {
         0 => path.len(),
-        number => number - 1,
+        number => number as usize - 1,
     }
 }
 
 // Adds a line with a new pair to the path.
-fn extend(numbers: &mut PairNumbers, path: &mut Vec<Line>, line: Line) -> Result<(), AllocError>
+fn extend(numbers: &mut PairNumbers, path: &mut Vec<Line>, line: Line) -> Result<(), NoMemory>
     requires indexed { IsIndexed pair_of numbers.old path.old.items }
     requires pair { IsPair numbers.old.columns line.pair }
     requires fresh { number_of numbers.old line.pair ≡ 0 }
@@ -83,7 +98,7 @@ fn extend(numbers: &mut PairNumbers, path: &mut Vec<Line>, line: Line) -> Result
         × (numbers.new.columns ≡ numbers.old.columns) × (path.new.items ≡ path.old.items ++ line ∷ [])) }
 {
     path.push(line)?;
-    numbers.set(line.pair, path.len());
+    numbers.set(line.pair, path.len() as u32);
     Ok(())
 }
 

@@ -1,20 +1,20 @@
 // The pairs that the search has reached, each with the way by which it was reached.
-ghost use Rattle.std.specs.Prelude.{◌≡◌, [], IfOk, OnOk};
+ghost use Rattle.std.specs.Prelude.{◌≡◌, ◌≤◌, [], IfOk, OnOk};
 ghost use Rattle.row_model.specs.Graph.{IsPair};
 ghost use Rattle.incompat_graph.specs.Numbers.{IsIndexed, number_of};
 ghost use Rattle.incompat_graph.specs.Search.{pair_of_node, Adds, Plants, Reaches};
 
 use crate::numbers::PairNumbers;
-use row_model::{Pair, Why};
-use std::alloc::{AllocError, Global};
+use row_model::{COLUMN_BOUND, NoMemory, Pair, Why};
+use std::alloc::Global;
 
-/// A pair that the search has reached.
+/// A pair that the search has reached. There are fewer than 2^32 pairs, and each takes 24 bytes here and 4 among the numbers.
 #[derive(Clone, Copy, Debug, PartialEq, Eq)]
 pub struct Node {
     /// The pair.
     pub pair: Pair,
     /// The index of the node from which it was reached; that of a root is its own.
-    pub parent: usize,
+    pub parent: u32,
     /// The reason that joins the pair to the parent's.
     pub why: Why,
     /// Whether an odd number of steps leads to it from the root.
@@ -25,9 +25,9 @@ pub struct Node {
 #[derive(Clone, Copy, Debug, PartialEq, Eq)]
 pub struct Conflict {
     /// The index of the one.
-    pub from: usize,
+    pub from: u32,
     /// The index of the other.
-    pub to: usize,
+    pub to: u32,
     /// The reason that joins the two.
     pub why: Why,
 }
@@ -40,12 +40,13 @@ pub struct Forest {
     /// The nodes, tree after tree.
     pub nodes: Vec<Node>,
     /// The index of the root of the last tree.
-    pub root: usize,
+    pub root: u32,
 }
 
 impl Forest {
     /// A forest with no tree.
-    pub fn new(alloc: Global, columns: u32) -> Result<Self, AllocError>
+    pub fn new(alloc: Global, columns: u32) -> Result<Self, NoMemory>
+        requires { columns ≤ COLUMN_BOUND }
         ensures { IfOk result (λ forest. (forest.numbers.columns ≡ columns) × (forest.nodes.items ≡ []) × (forest.root ≡ 0)
             × IsIndexed pair_of_node forest.numbers forest.nodes.items) }
     {
@@ -57,25 +58,25 @@ impl Forest {
     }
 
     /// Adds a node with a new pair.
-    pub fn add(&mut self, node: Node) -> Result<(), AllocError>
+    pub fn add(&mut self, node: Node) -> Result<(), NoMemory>
         requires indexed { IsIndexed pair_of_node self.old.numbers self.old.nodes.items }
         requires pair { IsPair self.old.numbers.columns node.pair }
         requires fresh { number_of self.old.numbers node.pair ≡ 0 }
         ensures { OnOk result (Adds self.old self.new node) }
     {
         self.nodes.push(node)?;
-        self.numbers.set(node.pair, self.nodes.len());
+        self.numbers.set(node.pair, self.nodes.len() as u32);
         Ok(())
     }
 
     /// Begins a tree, with a new pair at its root.
-    pub fn plant(&mut self, pair: Pair) -> Result<(), AllocError>
+    pub fn plant(&mut self, pair: Pair) -> Result<(), NoMemory>
         requires indexed { IsIndexed pair_of_node self.old.numbers self.old.nodes.items }
         requires pair { IsPair self.old.numbers.columns pair }
         requires fresh { number_of self.old.numbers pair ≡ 0 }
         ensures { OnOk result (Plants self.old self.new pair) }
     {
-        let root = self.nodes.len();
+        let root = self.nodes.len() as u32;
         self.add(Node {
             pair,
             parent: root,
@@ -88,7 +89,7 @@ impl Forest {
 
     /// Adds a node, unless its pair is reached already. The answer is the index of the pair's node where that lies an
     /// odd number of steps from the root and the new one would not, or the other way round.
-    pub fn reach(&mut self, node: Node) -> Result<Option<usize>, AllocError>
+    pub fn reach(&mut self, node: Node) -> Result<Option<u32>, NoMemory>
         requires indexed { IsIndexed pair_of_node self.old.numbers self.old.nodes.items }
         requires pair { IsPair self.old.numbers.columns node.pair }
         ensures { IfOk result (Reaches self.old self.new node) }
@@ -98,7 +99,7 @@ impl Forest {
                 self.add(node)?;
                 Ok(None)
             }
-            number if self.nodes[number - 1].odd == node.odd => Ok(None),
+            number if self.nodes[number as usize - 1].odd == node.odd => Ok(None),
             number => Ok(Some(number - 1)),
         }
     }

@@ -2,20 +2,21 @@
 ghost use Rattle.std.specs.Prelude.{◌≡◌, ◌+◌, ◌-◌, ◌<◌, ◌≤◌, [], ◌∷◌, ◌++◌, length, map, set, slice_index_or, sum_by, take, IfOk, OnOk};
 ghost use Rattle.incompat_graph.specs.Holders.{AreHolders};
 
-use row_model::Matrix;
-use std::alloc::{AllocError, Global};
+use row_model::{Matrix, NoMemory};
+use std::alloc::Global;
 use step_count::{Ledger, Steps};
 
-/// For each column the list of those of the first rows that have it. It counts a step for each one in these rows.
+/// For each column the list of those of the first rows that have it. It counts a step for each one in these rows, before it
+/// reads the one.
 pub fn rows_by_column<L: Ledger>(
     alloc: Global,
     m: &Matrix,
     rows: u32,
     steps: &mut Steps<L>,
-) -> Result<Vec<Vec<u32>>, AllocError>
+) -> Result<Vec<Vec<u32>>, NoMemory>
     requires { rows ≤ length m.now.rows }
     ensures holders { IfOk result (λ holders. AreHolders m.now rows (map (λ list. list.items) holders.items)) }
-    ensures counted { OnOk result (steps.new ≡ steps.old + sum_by length (take rows m.now.rows)) }
+    ensures ticks { steps.new ≤ steps.old + sum_by length (take rows m.now.rows) }
 {
     let mut holders = Vec::new(alloc);
     for _ in 0..m.columns() {
@@ -31,7 +32,7 @@ pub fn rows_by_column<L: Ledger>(
 }
 
 // Adds a row to the list of a column.
-fn add_holder(holders: &mut Vec<Vec<u32>>, column: u32, row: u32) -> Result<(), AllocError>
+fn add_holder(holders: &mut Vec<Vec<u32>>, column: u32, row: u32) -> Result<(), NoMemory>
     requires { (1 ≤ column) × (column ≤ length holders.old.items) }
     ensures { OnOk result (map (λ list. list.items) holders.new.items
         ≡ set (map (λ list. list.items) holders.old.items) (column - 1)

@@ -14,10 +14,10 @@ mod search;
 mod walk;
 
 pub use cycle::{Cycle, simple_cycle};
-pub use laws::odd_cycle_law;
+pub use laws::{cycle_length_law, odd_cycle_law};
 pub use reason::joined;
+pub use row_model::NoMemory;
 pub use search::odd_walk;
-pub use std::alloc::AllocError as NoMemory;
 pub use walk::Walk;
 
 #[cfg(test)]

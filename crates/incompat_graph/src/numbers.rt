@@ -1,18 +1,18 @@
 // A number for each ordered pair of columns, in one table.
-ghost use Rattle.std.specs.Prelude.{◌≡◌, IfOk};
+ghost use Rattle.std.specs.Prelude.{◌≡◌, ◌≤◌, IfOk};
 ghost use Rattle.row_model.specs.declared.graph.Pair.{Pair};
 ghost use Rattle.row_model.specs.Graph.{IsPair};
 ghost use Rattle.incompat_graph.specs.Numbers.{Renumbers, number_of, place_of};
 
-use row_model::Pair;
-use std::alloc::{AllocError, Global};
+use row_model::{COLUMN_BOUND, NoMemory, Pair};
+use std::alloc::Global;
 use std::marker::Model;
 
 /// A table with a number for each ordered pair of columns.
 #[derive(Drop)]
 pub struct PairNumbers {
     columns: u32,
-    numbers: Vec<usize>,
+    numbers: Vec<u32>,
 }
 
 impl Model for PairNumbers {
@@ -28,9 +28,10 @@ impl Model for PairNumbers {
 }
 
 impl PairNumbers {
-    #[tactic(auto, unfolding(crate::specs::Numbers::number_of))]
     /// The table with 0 for each pair.
-    pub fn new(alloc: Global, columns: u32) -> Result<Self, AllocError>
+    #[tactic(auto, unfolding(crate::specs::Numbers::number_of))]
+    pub fn new(alloc: Global, columns: u32) -> Result<Self, NoMemory>
+        requires { columns ≤ COLUMN_BOUND }
         ensures { IfOk result (λ t. (t.columns ≡ columns) × ((v : Pair) → number_of t v ≡ 0)) }
     {
         let size = columns as usize * columns as usize;
@@ -40,18 +41,18 @@ impl PairNumbers {
         })
     }
 
-    #[tactic(auto, unfolding(crate::specs::Numbers::number_of))]
     /// The number of a pair.
-    pub fn get(&self, v: Pair) -> usize
+    #[tactic(auto, unfolding(crate::specs::Numbers::number_of))]
+    pub fn get(&self, v: Pair) -> u32
         requires { IsPair self.now.columns v }
         ensures { result ≡ number_of self.now v }
     {
         self.numbers[cell(self.columns, v)]
     }
 
-    #[tactic(auto, unfolding(crate::specs::Numbers::number_of))]
     /// Gives a pair another number.
-    pub fn set(&mut self, v: Pair, number: usize)
+    #[tactic(auto, unfolding(crate::specs::Numbers::number_of))]
+    pub fn set(&mut self, v: Pair, number: u32)
         requires { IsPair self.old.columns v }
         ensures { Renumbers self.old self.new v number }
     {

@@ -1,10 +1,10 @@
 // The search for a closed walk of odd length.
-ghost use Rattle.std.specs.Prelude.{◌≡◌, ◌+◌, ◌<◌, ◌≤◌, ℕ, true, not, Some, length, map, take, slice_get, sum_by, IsTrue, IfOk, OnOk, MatchOption};
+ghost use Rattle.std.specs.Prelude.{◌≡◌, ◌+◌, ◌*◌, ◌<◌, ◌≤◌, ℕ, true, not, Some, length, map, take, slice_get, sum_by, IsTrue, IfOk, MatchOption};
 ghost use Rattle.row_model.specs.Graph.{row_at, turned, HasOddWalk};
 ghost use Rattle.row_model.specs.Cycles.{IsOddWalk};
 ghost use Rattle.column_order.specs.Orders.{has};
 ghost use Rattle.incompat_graph.specs.declared.forest.Node.{Node};
-ghost use Rattle.incompat_graph.specs.Marks.{is_marked};
+ghost use Rattle.incompat_graph.specs.Marks.{is_marked, marked_ones};
 ghost use Rattle.incompat_graph.specs.Search.{IsReached, IsSearch, Grows, ShowsConflict, IsTaken, AreTaken, AreReachedFrom};
 ghost use Rattle.incompat_graph.specs.Holders.{AreHolders};
 
@@ -13,32 +13,40 @@ use crate::forest::{Conflict, Forest, Node};
 use crate::holders::rows_by_column;
 use crate::marks::Marks;
 use crate::walk::Walk;
-use row_model::{Matrix, Pair, Why};
-use std::alloc::{AllocError, Global};
+use row_model::{Matrix, NoMemory, Pair, Why};
+use std::alloc::Global;
 use step_count::{Ledger, Steps};
 
 /// A closed walk of odd length in the incompatibility graph of the first rows, or `None` where there is none.
 ///
 /// The pairs are taken in the order in which they are reached, and each is given one of two sides, the other than the pair
 /// from which it was reached. Two joined pairs on one side close an odd walk through the search tree; if there are none, the
-/// graph is bipartite. Each row is looked at once for each column that it lacks. It counts a step at least for each one of
-/// the first rows.
+/// graph is bipartite. Each row is looked at once for each column that it lacks.
+///
+/// With c columns and f ones in the first rows it counts at most 8c(f + 1) steps, where memory is refused too: a step for
+/// each look at a row and for each column that is read of it. It takes at most 28 bytes for each pair of columns, a bit for
+/// each row and column, and room for each one.
+///
+/// # Errors
+///
+/// `NoMemory`.
 pub fn odd_walk<L: Ledger>(
     alloc: Global,
     m: &Matrix,
     rows: u32,
     steps: &mut Steps<L>,
-) -> Result<Option<Walk>, AllocError>
+) -> Result<Option<Walk>, NoMemory>
     requires { rows ≤ length m.now.rows }
     ensures found { IfOk result (λ found. MatchOption found
         (¬ HasOddWalk m.now.columns (take rows m.now.rows))
         (IsOddWalk m.now.columns (take rows m.now.rows))) }
-    ensures counted { OnOk result (steps.old + sum_by length (take rows m.now.rows) ≤ steps.new) }
+    ensures ticks { steps.new ≤ steps.old + 8 * m.now.columns * (sum_by length (take rows m.now.rows) + 1) }
 {
+    let columns = m.columns();
     let holders = rows_by_column(alloc, m, rows, steps)?;
-    let mut marks = Marks::new(alloc, rows, m.columns())?;
-    let mut forest = Forest::new(alloc, m.columns())?;
-    for k in 0..m.columns() {
+    let mut marks = Marks::new(alloc, rows, columns)?;
+    let mut forest = Forest::new(alloc, columns)?;
+    for k in 0..columns {
         let found = grow_from_column(m, &holders, &mut marks, &mut forest, k + 1, steps)?;
         if let Some(conflict) = found {
             return Ok(Some(closed_walk(alloc, &forest, conflict)?));
@@ -54,9 +62,9 @@ fn look<L: Ledger>(
     row: u32,
     marks: &mut Marks,
     forest: &mut Forest,
-    from: usize,
+    from: u32,
     steps: &mut Steps<L>,
-) -> Result<Option<Conflict>, AllocError>
+) -> Result<Option<Conflict>, NoMemory>
     requires search { IsSearch m.now marks.old forest.old }
     requires from { (forest.old.root ≤ from) × (from < length forest.old.nodes.items) }
     requires row { (1 ≤ row) × (row ≤ marks.old.rows) }
@@ -66,9 +74,10 @@ fn look<L: Ledger>(
         (IsSearch m.now marks.new forest.new × Grows marks.old marks.new forest.old.nodes.items forest.new.nodes.items × (forest.new.root ≡ forest.old.root)
         × ((node : Node) → slice_get forest.old.nodes.items from ≡ Some node → is_marked marks.new row node.pair.b ≡ true))
         (ShowsConflict m.now.columns (take marks.old.rows m.now.rows) forest.new)) }
-    ensures later { steps.old ≤ steps.new }
+    ensures sizes { (marks.new.rows ≡ marks.old.rows) × (marks.new.columns ≡ marks.old.columns) }
+    ensures ticks { steps.new + 2 * marked_ones m.now.rows marks.old ≤ steps.old + 2 * marked_ones m.now.rows marks.new }
 {
-    let node = forest.nodes[from];
+    let node = forest.nodes[from as usize];
     if marks.mark(row, node.pair.b) {
         return Ok(None);
     }
@@ -107,9 +116,9 @@ fn expand<L: Ledger>(
     holders: &[Vec<u32>],
     marks: &mut Marks,
     forest: &mut Forest,
-    from: usize,
+    from: u32,
     steps: &mut Steps<L>,
-) -> Result<Option<Conflict>, AllocError>
+) -> Result<Option<Conflict>, NoMemory>
     requires search { IsSearch m.now marks.old forest.old }
     requires holders { AreHolders m.now marks.old.rows (map (λ list. list.items) holders.now) }
     requires from { (forest.old.root ≤ from) × (from < length forest.old.nodes.items) }
@@ -117,9 +126,10 @@ fn expand<L: Ledger>(
         (IsSearch m.now marks.new forest.new × Grows marks.old marks.new forest.old.nodes.items forest.new.nodes.items × (forest.new.root ≡ forest.old.root)
         × ((node : Node) → slice_get forest.old.nodes.items from ≡ Some node → IsTaken m.now.rows marks.new forest.new.nodes.items node))
         (ShowsConflict m.now.columns (take marks.old.rows m.now.rows) forest.new)) }
-    ensures later { steps.old ≤ steps.new }
+    ensures sizes { (marks.new.rows ≡ marks.old.rows) × (marks.new.columns ≡ marks.old.columns) }
+    ensures ticks { steps.new + 2 * marked_ones m.now.rows marks.old ≤ steps.old + 2 * marked_ones m.now.rows marks.new }
 {
-    let node = forest.nodes[from];
+    let node = forest.nodes[from as usize];
     let turned = Node {
         pair: Pair {
             a: node.pair.b,
@@ -151,7 +161,7 @@ fn grow<L: Ledger>(
     marks: &mut Marks,
     forest: &mut Forest,
     steps: &mut Steps<L>,
-) -> Result<Option<Conflict>, AllocError>
+) -> Result<Option<Conflict>, NoMemory>
     requires search { IsSearch m.now marks.old forest.old }
     requires holders { AreHolders m.now marks.old.rows (map (λ list. list.items) holders.now) }
     requires taken { AreTaken m.now.rows marks.old forest.old.nodes.items forest.old.root }
@@ -159,10 +169,11 @@ fn grow<L: Ledger>(
         (IsSearch m.now marks.new forest.new × Grows marks.old marks.new forest.old.nodes.items forest.new.nodes.items
         × AreTaken m.now.rows marks.new forest.new.nodes.items (length forest.new.nodes.items))
         (ShowsConflict m.now.columns (take marks.old.rows m.now.rows) forest.new)) }
-    ensures later { steps.old ≤ steps.new }
+    ensures sizes { (marks.new.rows ≡ marks.old.rows) × (marks.new.columns ≡ marks.old.columns) }
+    ensures ticks { steps.new + 2 * marked_ones m.now.rows marks.old ≤ steps.old + 2 * marked_ones m.now.rows marks.new }
 {
     let mut head = forest.root;
-    while head < forest.nodes.len() {
+    while (head as usize) < forest.nodes.len() {
         if let Some(conflict) = expand(m, holders, marks, forest, head, steps)? {
             return Ok(Some(conflict));
         }
@@ -179,7 +190,7 @@ fn grow_from_column<L: Ledger>(
     forest: &mut Forest,
     a: u32,
     steps: &mut Steps<L>,
-) -> Result<Option<Conflict>, AllocError>
+) -> Result<Option<Conflict>, NoMemory>
     requires search { IsSearch m.now marks.old forest.old }
     requires holders { AreHolders m.now marks.old.rows (map (λ list. list.items) holders.now) }
     requires taken { AreTaken m.now.rows marks.old forest.old.nodes.items (length forest.old.nodes.items) }
@@ -189,7 +200,8 @@ fn grow_from_column<L: Ledger>(
         × AreTaken m.now.rows marks.new forest.new.nodes.items (length forest.new.nodes.items)
         × AreReachedFrom m.now.columns forest.new.nodes.items a m.now.columns)
         (ShowsConflict m.now.columns (take marks.old.rows m.now.rows) forest.new)) }
-    ensures later { steps.old ≤ steps.new }
+    ensures sizes { (marks.new.rows ≡ marks.old.rows) × (marks.new.columns ≡ marks.old.columns) }
+    ensures ticks { steps.new + 2 * marked_ones m.now.rows marks.old ≤ steps.old + 2 * marked_ones m.now.rows marks.new }
 {
     for b in 0..m.columns() {
         let pair = Pair { a, b: b + 1 };

@@ -5,7 +5,7 @@ ghost use Rattle.row_model.specs.Cycles.{IsOddWalk};
 
 use super::*;
 use row_model::{Line, Matrix, Pair, Why, joined_by};
-use std::alloc::{AllocError, Global};
+use std::alloc::Global;
 use std::process::Abort;
 use std::test::Fail;
 use step_count::{Blank, Brand, Ledger, Steps};
@@ -15,7 +15,7 @@ fn walk_counted<L: Ledger>(
     m: &Matrix,
     rows: u32,
     blank: Blank,
-) -> Result<Option<Walk>, AllocError>
+) -> Result<Option<Walk>, NoMemory>
     requires name { blank.name ≡ L.name }
     requires parts { blank.parts ≡ L.parts }
     requires some { 0 < blank.parts }
@@ -28,7 +28,7 @@ fn walk_counted<L: Ledger>(
     odd_walk(alloc, m, rows, &mut steps)
 }
 
-fn walk_of(alloc: Global, m: &Matrix, rows: u32) -> Result<Option<Walk>, AllocError>
+fn walk_of(alloc: Global, m: &Matrix, rows: u32) -> Result<Option<Walk>, NoMemory>
     requires { rows ≤ length m.now.rows }
     ensures { IfOk result (λ found. MatchOption found
         (¬ HasOddWalk m.now.columns (take rows m.now.rows))
@@ -37,7 +37,7 @@ fn walk_of(alloc: Global, m: &Matrix, rows: u32) -> Result<Option<Walk>, AllocEr
     walk_counted::<Brand>(alloc, m, rows, Blank::new(1))
 }
 
-fn cycle_of(alloc: Global, m: &Matrix) -> Result<Option<Cycle>, AllocError> {
+fn cycle_of(alloc: Global, m: &Matrix) -> Result<Option<Cycle>, NoMemory> {
     match walk_of(alloc, m, m.rows())? {
         Some(walk) => Ok(Some(simple_cycle(alloc, m, &walk)?)),
         None => Ok(None),
@@ -61,7 +61,7 @@ fn pair(a: u32, b: u32) -> Pair {
 }
 
 // The rows 110, 011 and 101 ask of each two of three columns to be neighbours.
-fn triangle(alloc: Global) -> Result<Matrix, AllocError> {
+fn triangle(alloc: Global) -> Result<Matrix, NoMemory> {
     let mut m = Matrix::new(alloc, 3)?;
     m.push_row(&[1, 2])?;
     m.push_row(&[2, 3])?;

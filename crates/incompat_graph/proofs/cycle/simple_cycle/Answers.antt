@@ -27,7 +27,7 @@ invariant_of-result c =
     let here = line_at c.args.walk.now c.lines-line-items.result.now c.loop-line.line-index blank c.lines-line-items.ensures.lines c.loop-line-test.true in
     let is = subst (λ (p : List Line). (number_of c.loop-line.numbers line.pair ≡ c.place-keep.result + 1) ⊎ ((number_of c.loop-line.numbers line.pair ≡ 0) × (c.place-keep.result ≡ length p))) c.deref.ensures.value c.place-keep.ensures in
     let odd : (length c.loop-line.path.items - c.place-keep.result) % 2 ≡ 1 = omega arith in
-    let tail : c.in_ok-lines.lines.items ≡ drop c.place-keep.result c.loop-line.path.items = grind (arith, common_steps) in
+    let tail : c.from_vec-lines.result ≡ drop c.place-keep.result c.loop-line.path.items = grind (arith, common_steps, c.from_vec-lines.ensures) in
     let cycle = subst (λ lines. IsOddCycle c.args.m.now.columns c.args.m.now.rows lines) (sym tail) (step_odd c.args.m.now.columns c.args.m.now.rows c.args.walk.now c.loop-line.numbers c.loop-line.path.items c.loop-line.line-index line c.requires here c.loop-line.invariant c.place-keep.result is odd) in
     cycle.simple
 
@@ -37,7 +37,7 @@ returns-then-len-keep-eq1 c =
     let here = line_at c.args.walk.now c.lines-line-items.result.now c.loop-line.line-index blank c.lines-line-items.ensures.lines c.loop-line-test.true in
     let is = subst (λ (p : List Line). (number_of c.loop-line.numbers line.pair ≡ c.place-keep.result + 1) ⊎ ((number_of c.loop-line.numbers line.pair ≡ 0) × (c.place-keep.result ≡ length p))) c.deref.ensures.value c.place-keep.ensures in
     let odd : (length c.loop-line.path.items - c.place-keep.result) % 2 ≡ 1 = omega arith in
-    let tail : c.in_ok-lines.lines.items ≡ drop c.place-keep.result c.loop-line.path.items = grind (arith, common_steps) in
+    let tail : c.from_vec-lines.result ≡ drop c.place-keep.result c.loop-line.path.items = grind (arith, common_steps, c.from_vec-lines.ensures) in
     rw tail (step_odd c.args.m.now.columns c.args.m.now.rows c.args.walk.now c.loop-line.numbers c.loop-line.path.items c.loop-line.line-index line c.requires here c.loop-line.invariant c.place-keep.result is odd)
 
 pub cut-requires-clause-within : goal.cut-requires-clause-within
@@ -74,10 +74,10 @@ pub invariant_of-result-2 : goal.invariant_of-result-2
 invariant_of-result-2 c =
     let e : c.loop-line.line-index ≡ length c.args.walk.now = omega (arith, ap length c.lines-line-items.ensures.lines) in
     let odd = subst (λ (w : List Line). length w % 2 ≡ 1) c.lines-line-items.ensures.lines c.lines-line-items.ensures.odd in
-    (step_all c.args.m.now.columns c.args.m.now.rows c.args.walk.now c.loop-line.numbers c.loop-line.path.items c.loop-line.line-index c.loop-line.invariant e odd).simple
+    rw c.from_vec.ensures (step_all c.args.m.now.columns c.args.m.now.rows c.args.walk.now c.loop-line.numbers c.loop-line.path.items c.loop-line.line-index c.loop-line.invariant e odd).simple
 
 pub returns : goal.returns
 returns c =
     let e : c.loop-line.line-index ≡ length c.args.walk.now = omega (arith, ap length c.lines-line-items.ensures.lines) in
     let odd = subst (λ (w : List Line). length w % 2 ≡ 1) c.lines-line-items.ensures.lines c.lines-line-items.ensures.odd in
-    step_all c.args.m.now.columns c.args.m.now.rows c.args.walk.now c.loop-line.numbers c.loop-line.path.items c.loop-line.line-index c.loop-line.invariant e odd
+    rw c.from_vec.ensures (step_all c.args.m.now.columns c.args.m.now.rows c.args.walk.now c.loop-line.numbers c.loop-line.path.items c.loop-line.line-index c.loop-line.invariant e odd)

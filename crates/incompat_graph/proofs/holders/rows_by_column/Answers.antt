@@ -3,7 +3,7 @@ use Rattle.std.proofs.lemmas.Option.{slice_get-get_or, get_or_from_slice_get}
 use Rattle.std.proofs.lemmas.List.{length-map}
 use Rattle.row_model.specs.Graph.{row_at}
 use Rattle.incompat_graph.proofs.Items.{row_item}
-use Rattle.incompat_graph.proofs.HolderLaws.{lists_of, HoldersSoFar, holders_begin, holders_end, holders_more, ones_more}
+use Rattle.incompat_graph.proofs.HolderLaws.{lists_of, HoldersSoFar, holders_begin, holders_end, holders_more, ones_more, ones_part}
 use Rattle.incompat_graph.proofs.holders.rows_by_column.Goals as goal
 
 pub loop-column-init : goal.loop-column-init
@@ -47,3 +47,9 @@ loop-k-preserved g c =
     let is : row ≡ row_at c.args.m.now.rows (c.loop-k.k + 1) = sym (get_or_from_slice_get c.args.m.now.rows (c.loop-k.k + 1 - 1) row _ c.row-column-items.ensures.row) in
     let end : c.loop-column.column-index ≡ length row = omega arith in
     record { holders = holders_end c.args.m.now c.loop-k.k row (lists_of c.loop-column.holders.items) is (subst (λ n. HoldersSoFar c.args.m.now c.loop-k.k row n (lists_of c.loop-column.holders.items)) end c.loop-column.invariant.holders); counted = omega (arith, ones_more c.args.m.now.rows c.loop-k.k row c.row-column-items.ensures.row, c.loop-column.invariant.counted) }
+
+pub returns-in_err-add_holder-clause-ticks : goal.returns-in_err-add_holder-clause-ticks
+returns-in_err-add_holder-clause-ticks g c =
+    let more = ones_more c.args.m.now.rows c.loop-k.k c.row-column-items.result.now c.row-column-items.ensures.row in
+    let all = ones_part c.args.m.now.rows (c.loop-k.k + 1) c.args.rows (omega arith) in
+    omega (arith, more, all, c.loop-k.invariant.counted, c.loop-column.invariant.counted)

@@ -41,7 +41,7 @@ loop-row-init g c =
     let node : Node = c.index-node.result.now in
     let there : slice_get old.nodes.items c.args.from ≡ Some node = slice_get_read old.nodes.items (length old.nodes.items) c.args.from node refl c.requires.from.1 c.index-node.ensures in
     let reached = subst (Reaches old c.reach.new.self (turned_node node c.args.from)) (none_of c.in_ok-to.field-0 c.in_default.not-Some) c.in_ok-to.ensures in
-    record { expanding = expanding_none c.args.m.now c.args.marks.now old c.args.from node c.requires.search there c.requires.from.0 c.reach.new.self c.deref-row-items.result.now reached; later = omega arith }
+    record { expanding = expanding_none c.args.m.now c.args.marks.now old c.args.from node c.requires.search there c.requires.from.0 c.reach.new.self c.deref-row-items.result.now reached; ticks = omega arith }
 
 pub look-requires-clause-row : goal.look-requires-clause-row
 look-requires-clause-row g c =
@@ -87,7 +87,7 @@ loop-row-preserved g c =
     let row = get_or rows c.loop-row.row-index 0 in
     let at : slice_get rows c.loop-row.row-index ≡ Some row = slice_get-get_or rows c.loop-row.row-index 0 c.loop-row-test.true in
     let none = none_of c.in_ok-conflict.field-0 c.in_default-2.not-Some in
-    record { expanding = expanding_more c.args.m.now c.args.marks.now c.loop-row.marks c.look.new.marks old c.loop-row.forest c.look.new.forest c.args.from rows c.loop-row.row-index row c.requires.from.1 c.loop-row.invariant.expanding at (rw none at c.in_ok-conflict.ensures.found); later = omega arith }
+    record { expanding = expanding_more c.args.m.now c.args.marks.now c.loop-row.marks c.look.new.marks old c.loop-row.forest c.look.new.forest c.args.from rows c.loop-row.row-index row c.requires.from.1 c.loop-row.invariant.expanding at (rw none at c.in_ok-conflict.ensures.found); ticks = omega arith }
 
 pub returns-clause-found : goal.returns-clause-found
 returns-clause-found g c =

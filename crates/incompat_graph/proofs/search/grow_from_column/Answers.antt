@@ -5,7 +5,7 @@ use Rattle.incompat_graph.proofs.SettledLaws.{grown_from_none, grown_from_tree, 
 use Rattle.incompat_graph.proofs.search.grow_from_column.Goals as goal
 
 pub loop-b-init : goal.loop-b-init
-loop-b-init g c = record { grown = grown_from_none c.args.m.now c.args.marks.now c.args.forest.now c.args.a c.requires.search c.requires.taken; later = omega arith }
+loop-b-init g c = record { grown = grown_from_none c.args.m.now c.args.marks.now c.args.forest.now c.args.a c.requires.search c.requires.taken; ticks = omega arith }
 
 pub grow-requires-clause-search : goal.grow-requires-clause-search
 grow-requires-clause-search g c =
@@ -33,5 +33,5 @@ loop-b-preserved g c =
           c.grow.new.marks
           c.in_ok-plant.ensures
           (rw none at c.in_ok-conflict.ensures.found);
-      later = omega arith;
+      ticks = omega arith;
     }

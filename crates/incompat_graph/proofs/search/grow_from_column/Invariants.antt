@@ -1,4 +1,5 @@
-use Rattle.std.proofs.Common.{◌≤◌}
+use Rattle.std.proofs.Common.{◌+◌, ◌*◌, ◌≤◌}
+use Rattle.incompat_graph.specs.Marks.{marked_ones}
 use Rattle.incompat_graph.proofs.SettledLaws.{IsGrownFrom}
 use Rattle.incompat_graph.proofs.search.grow_from_column.Given as goal
 
@@ -6,5 +7,5 @@ abbrev pub invariant-loop-b : goal.invariant-loop-b
 invariant-loop-b g l =
     record {
       grown : IsGrownFrom l.m l.fn.marks l.marks l.fn.forest l.forest l.a l.b;
-      later : l.fn.steps ≤ l.steps;
+      ticks : l.steps + 2 * marked_ones l.m.rows l.fn.marks ≤ l.fn.steps + 2 * marked_ones l.m.rows l.marks;
     }

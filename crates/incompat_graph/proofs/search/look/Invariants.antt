@@ -1,4 +1,4 @@
-use Rattle.std.proofs.Common.{◌≤◌}
+use Rattle.std.proofs.Common.{◌≡◌, ◌+◌}
 use Rattle.incompat_graph.proofs.SearchLaws.{IsSpreading}
 use Rattle.incompat_graph.proofs.search.look.Given as goal
 
@@ -6,5 +6,5 @@ abbrev pub invariant-loop-column : goal.invariant-loop-column
 invariant-loop-column g l =
     record {
       spreading : IsSpreading l.m l.fn.marks.rows l.fn.forest l.forest l.node l.row l.column-index;
-      later : l.fn.steps ≤ l.steps;
+      ticks : l.steps ≡ l.fn.steps + 1 + l.column-index;
     }

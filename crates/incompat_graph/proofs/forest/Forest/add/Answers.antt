@@ -1,7 +1,7 @@
 use Rattle.std.proofs.Common.{◌≡◌, ◌+◌, ◌∷◌, [], ◌++◌, length, refl, arith}
 use Rattle.std.proofs.lemmas.Grind.{common_steps}
 use Rattle.incompat_graph.specs.Search.{pair_of_node}
-use Rattle.incompat_graph.proofs.NumberLaws.{indexed_push}
+use Rattle.incompat_graph.proofs.NumberLaws.{indexed_push, indexed_few}
 use Rattle.incompat_graph.proofs.forest.Forest.add.Goals as goal
 
 pub returns : goal.returns
@@ -14,3 +14,9 @@ returns c =
       root = refl;
       nodes = items;
     }
+
+pub overflow_cast-len : goal.overflow_cast-len
+overflow_cast-len c =
+    let long : c.len.result ≡ length c.args.self.now.nodes.items + 1 = grind (arith, common_steps) in
+    let few = indexed_few pair_of_node c.args.self.now.numbers c.args.self.now.nodes.items c.requires.indexed in
+    omega (arith, few, long)

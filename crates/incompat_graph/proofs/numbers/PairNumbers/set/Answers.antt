@@ -14,6 +14,6 @@ returns c =
     _
     c.args.v
     c.args.number
-    c.self.invariant
+    c.self.invariant.places
     is_pair
     (ap (λ place. set c.self.inside.numbers.items place c.args.number) c.cell-place.ensures))
