@@ -31,6 +31,11 @@ pub reducer_orders : (m : RowList) (r : Result PqTree AllocError) (n : ℕ) (t :
 reducer_orders m (Ok u) n t e tied columns canonical kept = tied_orders m u (columns ∙ e) canonical (subst (λ (k : ℕ). IsTied k m.rows (outline u)) e (kept m.rows (subst (λ (k : ℕ). IsTied k m.rows t) (sym e) tied)))
 reducer_orders m (Err error) n t e tied columns canonical kept = tt
 
+-- the tree that it answers is tied to the rows
+pub reducer_tied : (m : RowList) (r : Result PqTree AllocError) (n : ℕ) (t : Outline) → n ≡ m.columns → IsTied m.columns m.rows t → IfOk r (λ u. (rows : List (List ℕ)) → IsTied n rows t → IsTied n rows (outline u)) → IfOk r (λ u. IsTied m.columns m.rows (outline u))
+reducer_tied m (Ok u) n t e tied kept = subst (λ (k : ℕ). IsTied k m.rows (outline u)) e (kept m.rows (subst (λ (k : ℕ). IsTied k m.rows t) (sym e) tied))
+reducer_tied m (Err error) n t e tied kept = tt
+
 -- where there is no row, the columns as they stand are a valid order
 pub some_order : (c : ℕ) → HasValidOrder c []
 some_order c = (columns c, record { order = columns_order c; kept = λ k d m. absurd (omega arith) })

@@ -1,7 +1,8 @@
 -- What the answer on a matrix says, and where it leaves the reducer.
-use Rattle.std.specs.Prelude.{◌≡◌, ◌-◌, ◌≤◌, ◌↔◌, ℕ, List, length, take}
+use Rattle.std.specs.Prelude.{◌≡◌, ◌-◌, ◌≤◌, ◌↔◌, ℕ, Option, Some, None, List, length, take}
 use Rattle.column_order.specs.Orders.{IsValidOrder, HasValidOrder}
 use Rattle.row_model.specs.Rows.{RowList}
+use Rattle.row_model.specs.declared.graph.Line.{Line}
 use Rattle.row_model.specs.Cycles.{IsOddCycle}
 use Rattle.pq_tree.specs.Outline.{Outline, IsFrontier}
 use Rattle.pq_tree.specs.Canonical.{IsCanonical}
@@ -30,6 +31,11 @@ pub record StandsBefore (m : RowList) (t : Outline) : Type 0 where
   pub tied : IsTied m.columns (take (k - 1) m.rows) t
   pub before : HasValidOrder m.columns (take (k - 1) m.rows)
   pub refused : HasValidOrder m.columns (take k m.rows) → ⊥
+
+-- the tree is tied to all rows, which have a valid order, or an odd cycle shows that they have none
+abbrev pub IsReduction : RowList → Outline → Option (List Line) → Type 0
+IsReduction m t None = IsTied m.columns m.rows t × HasValidOrder m.columns m.rows
+IsReduction m t (Some cycle) = IsOddCycle m.columns m.rows cycle × (HasValidOrder m.columns m.rows → ⊥) × StandsBefore m t
 
 -- where an answer leaves the reducer's tree
 abbrev pub LeavesTree : RowList → Outline → Solved → Type 0

@@ -9,12 +9,12 @@ ghost use Rattle.c1p_solve.specs.Answers.{HasAllOrders};
 ghost use Rattle.c1p_solve.specs.Sessions.{IsSession, with_row};
 ghost use Rattle.c1p_solve.specs.Taking.{IsStart, IsDecision, StandsAfter};
 
-use crate::chosen::{Answered, Chosen, answer};
-use crate::solver::{Solved, conflict};
+use crate::chosen::Chosen;
+use crate::solver::{conflict, reduce_all};
 use incompat_graph::Cycle;
 use pq_plain::{Reducer, Step};
 use pq_tree::PqTree;
-use row_model::{Matrix, NoMemory};
+use row_model::{Matrix, NoMemory, ROW_BOUND};
 use std::alloc::Global;
 use std::marker::Model;
 use step_count::{Ledger, Steps};
@@ -75,19 +75,19 @@ impl Session {
     ) -> Result<Started, NoMemory>
         ensures { IfOk result (IsStart m) }
     {
-        let Answered { solved, reducer } = answer(alloc, &m, steps)?;
-        match solved {
-            Solved::Yes(_) => Ok(Started::Ok(Session {
+        let mut reducer = Chosen::new(alloc, m.columns())?;
+        match reduce_all(alloc, &mut reducer, &m, steps)? {
+            None => Ok(Started::Ok(Session {
                 alloc,
                 matrix: m,
                 reducer,
             })),
-            Solved::No(cycle) => Ok(Started::No(cycle)),
+            Some(cycle) => Ok(Started::No(cycle)),
         }
     }
 
     /// Takes a further row where the session's rows have a valid order with it, and refuses it where they have none. A
-    /// refusal comes with an odd cycle only where `explain` asks for it, and else costs no search for one.
+    /// refusal comes with an odd cycle exactly where `explain` asks for one.
     ///
     /// # Errors
     ///
@@ -99,7 +99,7 @@ impl Session {
         steps: &mut Steps<L>,
     ) -> Result<Taken, NoMemory>
         requires row { IsRow self.old.matrix.columns row.now }
-        requires room { length self.old.matrix.rows < 16777216 }
+        requires room { length self.old.matrix.rows < ROW_BOUND }
         ensures decision { IfOk result (IsDecision (with_row self.old.matrix row.now) explain) }
         ensures session { IfOk result (StandsAfter self.old row.now self.new) }
         ensures kept { IsSession self.new }

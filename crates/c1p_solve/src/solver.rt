@@ -1,9 +1,9 @@
 // Rows reduced in turn, and the odd cycle after a refusal.
-ghost use Rattle.std.specs.Prelude.{◌≡◌, ◌-◌, ◌≤◌, IfOk, length, take};
+ghost use Rattle.std.specs.Prelude.{◌≡◌, ◌≤◌, [], IfOk, length, take};
 ghost use Rattle.row_model.specs.Graph.{HasConflict};
 ghost use Rattle.row_model.specs.Cycles.{IsOddCycle};
-ghost use Rattle.pq_tree.specs.Proper.{universal};
-ghost use Rattle.c1p_solve.specs.Answers.{IsAnswer, LeavesTree};
+ghost use Rattle.tied_law.specs.Tied.{IsTied};
+ghost use Rattle.c1p_solve.specs.Answers.{IsAnswer, IsReduction, LeavesTree};
 
 use incompat_graph::{Cycle, odd_walk, simple_cycle};
 use pq_plain::{Reducer, Step};
@@ -21,7 +21,8 @@ pub enum Solved {
     No(Cycle),
 }
 
-/// Solves a matrix by a reducer whose tree is still universal over its columns.
+/// Solves a matrix by a reducer whose tree is universal over its columns, or any other tree that is tied to no rows: its
+/// frontiers are all orders of the columns.
 ///
 /// After `Yes` the reducer's tree is tied to all rows of the matrix. After `No` it is tied to the rows before the first one
 /// up to which the rows have no valid order.
@@ -36,33 +37,41 @@ pub fn solve<R: Reducer, L: Ledger>(
     steps: &mut Steps<L>,
 ) -> Result<Solved, NoMemory>
     requires columns { R.columns reducer.old ≡ m.now.columns }
-    requires universal { R.outline reducer.old ≡ universal m.now.columns }
+    requires tied { IsTied m.now.columns [] (R.outline reducer.old) }
     ensures answer { IfOk result (IsAnswer m.now) }
     ensures reducer { IfOk result (LeavesTree m.now (R.outline reducer.new)) }
     ensures columns { R.columns reducer.new ≡ R.columns reducer.old }
 {
-    let columns = m.columns();
-    prove!(columns > 0);
-    for taken in 0..m.rows() {
-        match reducer.reduce(m, taken + 1, steps) {
-            Err(error) => return Err(error),
-            Ok(Step::Taken) => {}
-            Ok(Step::Refused) => {
-                return match conflict(alloc, m, taken + 1, steps) {
-                    Err(error) => Err(error),
-                    Ok(cycle) => Ok(Solved::No(cycle)),
-                };
-            }
-        }
-    }
-    match reducer.tree(alloc) {
-        Err(error) => Err(error),
-        Ok(tree) => Ok(Solved::Yes(tree)),
+    match reduce_all(alloc, reducer, m, steps)? {
+        None => Ok(Solved::Yes(reducer.tree(alloc)?)),
+        Some(cycle) => Ok(Solved::No(cycle)),
     }
 }
 
-/// An odd cycle of a matrix of which the first `rows` rows have no valid order.
-pub fn conflict<L: Ledger>(
+// Reduces a tree that is tied to no rows by all rows of a matrix in turn, and answers `None`; or as far as the first row
+// that is refused, and answers an odd cycle.
+pub(crate) fn reduce_all<R: Reducer, L: Ledger>(
+    alloc: Global,
+    reducer: &mut R,
+    m: &Matrix,
+    steps: &mut Steps<L>,
+) -> Result<Option<Cycle>, NoMemory>
+    requires columns { R.columns reducer.old ≡ m.now.columns }
+    requires tied { IsTied m.now.columns [] (R.outline reducer.old) }
+    ensures reduction { IfOk result (IsReduction m.now (R.outline reducer.new)) }
+    ensures columns { R.columns reducer.new ≡ R.columns reducer.old }
+{
+    for taken in 0..m.rows() {
+        match reducer.reduce(m, taken + 1, steps)? {
+            Step::Taken => {}
+            Step::Refused => return Ok(Some(conflict(alloc, m, taken + 1, steps)?)),
+        }
+    }
+    Ok(None)
+}
+
+// An odd cycle of a matrix of which the first `rows` rows have no valid order.
+pub(crate) fn conflict<L: Ledger>(
     alloc: Global,
     m: &Matrix,
     rows: u32,
@@ -72,9 +81,8 @@ pub fn conflict<L: Ledger>(
     requires conflict { HasConflict m.now.columns (take rows m.now.rows) }
     ensures { IfOk result (IsOddCycle m.now.columns m.now.rows) }
 {
-    match odd_walk(alloc, m, rows, steps) {
-        Err(error) => Err(error),
-        Ok(Some(walk)) => simple_cycle(alloc, m, &walk),
-        Ok(None) => unreachable!(),
+    match odd_walk(alloc, m, rows, steps)? {
+        Some(walk) => simple_cycle(alloc, m, &walk),
+        None => unreachable!(),
     }
 }

@@ -1,13 +1,13 @@
 // Two rows with a valid order, a third that leaves none, and a session that goes on after it.
-ghost use Rattle.std.specs.Prelude.{◌≡◌, ◌<◌, length};
+ghost use Rattle.std.specs.Prelude.{◌≡◌, ◌<◌, [], length};
 ghost use Rattle.row_model.specs.Rows.{IsRow};
-ghost use Rattle.pq_tree.specs.Proper.{universal};
+ghost use Rattle.tied_law.specs.Tied.{IsTied};
 ghost use Rattle.pq_plain.specs.Plain.{plain_columns, plain_outline};
 
 use super::*;
 use pq_plain::Reducer;
 use pq_tree::PqTree;
-use row_model::Matrix;
+use row_model::{Matrix, ROW_BOUND};
 use std::alloc::Global;
 use std::test::Fail;
 use step_count::{Blank, Brand, Ledger, Steps};
@@ -22,7 +22,7 @@ fn solve_counted<L: Ledger>(
     requires parts { blank.parts ≡ L.parts }
     requires some { 0 < blank.parts }
     requires columns { plain_columns reducer.old ≡ m.now.columns }
-    requires universal { plain_outline reducer.old ≡ universal m.now.columns }
+    requires tied { IsTied m.now.columns [] (plain_outline reducer.old) }
 {
     let mut steps = Steps::<L>::new(blank);
     solve(alloc, reducer, m, &mut steps)
@@ -56,7 +56,7 @@ fn take_counted<L: Ledger>(
     requires parts { blank.parts ≡ L.parts }
     requires some { 0 < blank.parts }
     requires row { IsRow session.old.matrix.columns row.now }
-    requires room { length session.old.matrix.rows < 16777216 }
+    requires room { length session.old.matrix.rows < ROW_BOUND }
 {
     let mut steps = Steps::<L>::new(blank);
     session.take_row(row, explain, &mut steps)

@@ -1,7 +1,7 @@
 use Rattle.std.proofs.Common.{◌≡◌, take}
 use Rattle.column_order.specs.Orders.{HasValidOrder}
 use Rattle.tied_law.specs.Tied.{IsTied}
-use Rattle.c1p_solve.proofs.solver.solve.Given as goal
+use Rattle.c1p_solve.proofs.solver.reduce_all.Given as goal
 
 abbrev pub invariant-loop-taken : goal.invariant-loop-taken
 invariant-loop-taken g l = record {
