@@ -7,8 +7,7 @@ use Rattle.row_model.specs.declared.lists.Span.{Span}
 use Rattle.row_model.specs.Rows.{RowList}
 use Rattle.clone_map.specs.Places.{ArePlaces}
 use Rattle.clone_map.specs.Contigs.{AreContigs}
-use Rattle.clone_map.proofs.PlaceLaws.{places_only}
-use Rattle.clone_map.proofs.ContigLaws.{contigs_only}
+use Rattle.clone_map.specs.Laws.{PlacesLaw, ContigsLaw}
 use Rattle.verdict_text.specs.Verdict.{SideValue, YesValue}
 use Rattle.verdict_check.specs.Tests.{kind_tests}
 use Rattle.instance_model.specs.Instance.{plain}
@@ -41,14 +40,14 @@ module _ (m : RowList) (value : YesValue) (o : List ℕ) (is : HasSide value 1 (
   contigs_pass e = of_order (λ x. AreContigs m.rows x value.added.contigs) (subst (AreContigs m.rows o) (sym e) be)
 
   -- the places are others
-  pub places_fail : (value.added.places ≡ places → ⊥) → Finds P (kind_tests Clones) (Some reason.Places)
-  places_fail f =
+  pub places_fail : PlacesLaw → (value.added.places ≡ places → ⊥) → Finds P (kind_tests Clones) (Some reason.Places)
+  places_fail places_only f =
       finds_here P reason.Places (reason.Contigs ∷ [])
       (λ h. f (places_only m.rows o value.added.places places (order_of (λ x. ArePlaces x m.rows value.added.places) h) are))
 
   -- the places are those of the clones, and the contigs are others
-  pub contigs_fail : value.added.places ≡ places → (value.added.contigs ≡ contigs → ⊥) → Finds P (kind_tests Clones) (Some reason.Contigs)
-  contigs_fail e f =
+  pub contigs_fail : ContigsLaw → value.added.places ≡ places → (value.added.contigs ≡ contigs → ⊥) → Finds P (kind_tests Clones) (Some reason.Contigs)
+  contigs_fail contigs_only e f =
       finds_next P reason.Places (reason.Contigs ∷ []) (Some reason.Contigs) (places_pass e)
       (finds_here P reason.Contigs [] (λ h. f (contigs_only m.rows o value.added.contigs contigs (order_of (λ x. AreContigs m.rows x value.added.contigs) h) be)))
 

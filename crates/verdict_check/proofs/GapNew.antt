@@ -2,6 +2,7 @@
 use Rattle.std.proofs.Common.{◌≡◌, ◌∙◌, ℕ, ◌+◌, ◌^◌, ◌<◌, ◌≤◌, List, [], ◌∷◌, ◌++◌, length, sym, ap, subst, arith}
 use Rattle.std.specs.declared.vec.Vec.{Vec}
 use Rattle.std.specs.declared.alloc.Global.{Global}
+use Rattle.column_order.specs.declared.TheConstants.{COLUMN_BOUND}
 use Rattle.column_order.specs.Orders.{IsOrder}
 use Rattle.column_order.proofs.Counts.{order_length, order_unique}
 use Rattle.pq_tree.specs.Outline.{leaves}
@@ -19,13 +20,13 @@ use Rattle.verdict_check.specs.Gaps.{AreGaps, gaps}
 pub proper_length : (t : PqTree) → length (leaves (outline t)) ≡ column_count t
 proper_length t = let p : IsProper (column_count t) (outline t) = t.proper in order_length (column_count t) (leaves (outline t)) p.1
 
-pub shallow : (t : PqTree) (root : Tree) → outline_of root ≡ outline t → column_count t ≤ 32768 → 1 + length (leaves (outline_of root)) < 2 ^ 32
+pub shallow : (t : PqTree) (root : Tree) → outline_of root ≡ outline t → column_count t ≤ COLUMN_BOUND → 1 + length (leaves (outline_of root)) < 2 ^ 32
 shallow t root e h = let n : length (leaves (outline_of root)) ≡ length (leaves (outline t)) = ap (λ x. length (leaves x)) e in omega (arith, n, proper_length t, h)
 
 pub order_of : (t : PqTree) (o : List ℕ) → o ≡ leaves (outline t) → IsOrder (length o) o
 order_of t o e = let p : IsProper (column_count t) (outline t) = t.proper in subst (λ x. IsOrder (length x) x) (sym e) (subst (λ n. IsOrder n (leaves (outline t))) (sym (proper_length t)) p.1)
 
-pub few : (t : PqTree) (o : List ℕ) → o ≡ leaves (outline t) → column_count t ≤ 32768 → length o ≤ 32768
+pub few : (t : PqTree) (o : List ℕ) → o ≡ leaves (outline t) → column_count t ≤ COLUMN_BOUND → length o ≤ COLUMN_BOUND
 few t o e h = omega (arith, h, proper_length t, ap length e)
 
 pub made : (t : PqTree) (ps : Vec ℕ Global) (gs : Vec Gap Global) (none : List Gap) → none ≡ [] → {most : List Gap} → gs.items ≡ most ++ P 0 ∷ [] → (root : Tree) → most ≡ none ++ gaps (P 0) 1 (outline_of root) → outline_of root ≡ outline t →

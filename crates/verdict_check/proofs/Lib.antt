@@ -25,3 +25,4 @@ pub mod GapRows
 pub mod GapPush
 pub mod GapNew
 pub mod GapCut
+pub mod SameLists

@@ -20,7 +20,7 @@ use Rattle.pq_tree.proofs.Frontiers.{frontier_occurs}
 use Rattle.verdict_text.specs.Grammar.{IsSide, AreSides, IsVerdict}
 use Rattle.verdict_text.specs.Verdict.{SideValue, YesValue, Claim, yes_claim, no_claim, VerdictValue}
 use Rattle.instance_model.specs.Instance.{InstanceValue, plain, circular, convex, doubly, proper, robinson, instance_kind, instance_columns, IsSideOf, IsTextbookOrder, derived_matrix, IsWellFormed}
-use Rattle.instance_model.proofs.Textbook.{valid_textbook, exists_textbook}
+use Rattle.instance_model.specs.Laws.{ValidLaw, ExistsLaw}
 use Rattle.verdict_check.specs.Tests.{numbers, side_tests, kind_tests, sides_tests, added_tests, yes_tests, no_tests, claim_tests}
 use Rattle.verdict_check.specs.YesTests.{HasSide, AllKeep, PassesYes}
 use Rattle.verdict_check.specs.NoTests.{PassesNo}
@@ -48,18 +48,18 @@ row_kept : (o : List ℕ) (rows : List (List ℕ)) (k : ℕ) → 1 ≤ k → k �
 row_kept o rows k l u h = h (k - 1) [] (omega arith)
 
 -- a side that passes its tests, over the columns of its derived matrix
-side_true : (i : InstanceValue) (s : ℕ) → IsWellFormed i → IsSideOf i s → (side : Option SideValue) → IsSomeAnd side (IsSide (derived_matrix i s).columns) →
+side_true : ValidLaw → (i : InstanceValue) (s : ℕ) → IsWellFormed i → IsSideOf i s → (side : Option SideValue) → IsSomeAnd side (IsSide (derived_matrix i s).columns) →
     IsSomeAnd side (λ x. IsTextbookOrder i s x.order) → ((k : ℕ) → 1 ≤ k → k ≤ length (derived_matrix i s).rows → IsSomeAnd side (λ x. AllKeep x.tree (row_at (derived_matrix i s).rows k))) →
     IsSomeAnd side (IsTrueSide i s)
-side_true i s f is None g o r = g
-side_true i s f is (Some side) g o r =
+side_true valid_textbook i s f is None g o r = g
+side_true valid_textbook i s f is (Some side) g o r =
     let m = derived_matrix i s in
     (o, λ q fr. valid_textbook i s q f is (record { order = frontier_order m.columns side.tree q g.0 fr; kept = all_rows q m.rows (λ k l u. r k l u q fr) }))
 
-true_side : (i : InstanceValue) (value : YesValue) (s : ℕ) → IsWellFormed i → IsSideOf i s → AreSides (instance_columns i) value.sides →
+true_side : ValidLaw → (i : InstanceValue) (value : YesValue) (s : ℕ) → IsWellFormed i → IsSideOf i s → AreSides (instance_columns i) value.sides →
     AllByRecursion (PassesYes i value) (side_tests s (derived_matrix i s)) → HasSide value s (IsTrueSide i s)
-true_side i value s f is g h =
-    side_true i s f is (slice_get value.sides (s - 1)) (side_of i value s is g) h.0 (each_all (PassesYes i value) (reason.Tree s) (length (derived_matrix i s).rows) h.1)
+true_side valid_textbook i value s f is g h =
+    side_true valid_textbook i s f is (slice_get value.sides (s - 1)) (side_of i value s is g) h.0 (each_all (PassesYes i value) (reason.Tree s) (length (derived_matrix i s).rows) h.1)
 
 -- what holds of one value by itself, and what else holds of it
 some_both : {A : Type 0} (o : Option A) (P Q : A → Type 0) → IsSomeAnd o P → IsSomeAnd o Q → IsSomeAnd o (λ x. P x × Q x)
@@ -111,29 +111,29 @@ true_no m lines h =
     (odd_walk_from_lines m.columns m.rows lines (record { closed = joins_close m lines (each_all P reason.Join n last.1); odd = h.0.0 }))
 
 -- a yes that passes its tests
-true_yes : (i : InstanceValue) (value : YesValue) → IsWellFormed i → AreSides (instance_columns i) value.sides → AllByRecursion (PassesYes i value) (yes_tests i) → IsTrueYes i value
-true_yes i value f g h =
+true_yes : ValidLaw → (i : InstanceValue) (value : YesValue) → IsWellFormed i → AreSides (instance_columns i) value.sides → AllByRecursion (PassesYes i value) (yes_tests i) → IsTrueYes i value
+true_yes valid_textbook i value f g h =
     let P = PassesYes i value in
     let parts = all_parts P (sides_tests i) (added_tests i) h in
     let sides : (s : ℕ) → IsSideOf i s → HasSide value s (IsTrueSide i s) =
-    λ s is. true_side i value s f is g (in_part_all P (λ k. side_tests k (derived_matrix i k)) (length (instance_columns i)) parts.0 s is.0 is.1) in
+    λ s is. true_side valid_textbook i value s f is g (in_part_all P (λ k. side_tests k (derived_matrix i k)) (length (instance_columns i)) parts.0 s is.0 is.1) in
     record {
       sides = sides;
       added = true_added i value parts.1 (some_mono (slice_get value.sides 0) (IsTrueSide i 1) (λ _. Unit {0}) (λ x k. tt) (sides 1 (first_side i)));
     }
 
 -- what is claimed of the instance's kind and columns, and passes its tests
-true_claim : (i : InstanceValue) (v : VerdictValue) (claim : Claim) → IsWellFormed i → IsVerdict v → v.kind ≡ instance_kind i → v.columns ≡ instance_columns i → v.claim ≡ claim →
+true_claim : ValidLaw → ExistsLaw → (i : InstanceValue) (v : VerdictValue) (claim : Claim) → IsWellFormed i → IsVerdict v → v.kind ≡ instance_kind i → v.columns ≡ instance_columns i → v.claim ≡ claim →
     AllByRecursion (PassesClaim i claim) (claim_tests i claim) → IsTrueClaim i claim
-true_claim i v (yes_claim value) f g k c e h =
+true_claim valid_textbook exists_textbook i v (yes_claim value) f g k c e h =
     let claim = claim_on i v (yes_claim value) k c e g in
-    true_yes i value f claim.0 h
-true_claim i v (no_claim s lines) f g k c e h =
+    true_yes valid_textbook i value f claim.0 h
+true_claim valid_textbook exists_textbook i v (no_claim s lines) f g k c e h =
     let is = claimed_side i v s lines c e g in
     λ o. true_no (derived_matrix i s) lines h ((exists_textbook i s f is).0 (o s is))
 
-pub true_law : TrueLaw
-true_law i v f g h = true_claim i v v.claim f g h.0 h.1.0 refl (accepted_claim i v h)
+pub true_law : ValidLaw → ExistsLaw → TrueLaw
+true_law valid_textbook exists_textbook i v f g h = true_claim valid_textbook exists_textbook i v v.claim f g h.0 h.1.0 refl (accepted_claim i v h)
 
 -- a side that a solver found passes its tests
 solved_side : (i : InstanceValue) (value : YesValue) (s : ℕ) → HasSide value s (IsSolvedSide i s) → AllByRecursion (PassesYes i value) (side_tests s (derived_matrix i s))

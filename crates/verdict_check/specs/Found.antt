@@ -16,5 +16,5 @@ Finds P all None = AllByRecursion P all
 Finds P all (Some r) = IsFirstFailing P all r
 
 -- the place of a pair in a table of all pairs of 1 to c, row by row
-abbrev pub pair_place : ℕ → Pair → ℕ
-pair_place c v = (v.a - 1) * c + (v.b - 1)
+abbrev pub place_of : ℕ → Pair → ℕ
+place_of c v = (v.a - 1) * c + (v.b - 1)

@@ -7,16 +7,22 @@ ghost use Rattle.verdict_check.specs.YesTests.{PassesOrder, PassesYes};
 ghost use Rattle.verdict_check.specs.Found.{Finds};
 
 use crate::outcome::Reason;
-use clone_map::place;
+use clone_map::{place, place_laws};
 use row_model::{Kind, Matrix, NoMemory, Place, Span};
 use std::alloc::Global;
 use verdict_text::YesPart;
 
 /// The first of the two tests on places and contigs that fails, where the order is a valid order of the clones.
+///
+/// # Errors
+///
+/// `NoMemory`.
 pub fn clones_fault(alloc: Global, m: &Matrix, yes: &YesPart) -> Result<Option<Reason>, NoMemory>
     requires { PassesOrder (plain Kind.Clones m.now) (yes_value yes.now) 1 }
     ensures { IfOk result (Finds (PassesYes (plain Kind.Clones m.now) (yes_value yes.now)) (kind_tests Kind.Clones)) }
 {
+    // An order has one list of places and one of contigs.
+    place_laws();
     let placed = place(alloc, m, yes.order(1))?;
     if !same_places(yes.places(), placed.places.as_slice()) {
         return Ok(Some(Reason::Places));

@@ -5,13 +5,17 @@ ghost use Rattle.row_model.specs.declared.graph.Pair.{Pair};
 ghost use Rattle.verdict_text.specs.Grammar.{Fits32};
 ghost use Rattle.verdict_check.specs.Tests.{no_tests};
 ghost use Rattle.verdict_check.specs.NoTests.{pair_after, PassesLength, PassesPair, PassesRepeat, PassesJoin, PassesNo};
-ghost use Rattle.verdict_check.specs.Found.{IsLeastFailing, Finds, pair_place};
+ghost use Rattle.verdict_check.specs.Found.{IsLeastFailing, Finds, place_of};
 
 use crate::outcome::Reason;
-use row_model::{Line, Matrix, NoMemory, Pair, joined_by};
+use row_model::{Line, Matrix, NoMemory, Pair, is_pair, joined_by};
 use std::alloc::Global;
 
-/// The first test that the lines fail as an odd cycle of the matrix.
+/// The first test that the lines fail as an odd cycle of the matrix. It takes a byte for each pair of columns.
+///
+/// # Errors
+///
+/// `NoMemory`.
 pub fn cycle_fault(alloc: Global, m: &Matrix, lines: &[Line]) -> Result<Option<Reason>, NoMemory>
     requires { Fits32 (length lines.now) }
     ensures { IfOk result (Finds (PassesNo m.now lines.now) (no_tests (length lines.now))) }
@@ -51,13 +55,6 @@ fn first_bad_pair(c: u32, lines: &[Line]) -> Option<u32>
     None
 }
 
-// Whether the pair has two distinct columns of 1 to c.
-fn is_pair(c: u32, v: Pair) -> bool
-    ensures { IsTrue result ↔ IsPair c v }
-{
-    1 <= v.a && v.a <= c && 1 <= v.b && v.b <= c && v.a != v.b
-}
-
 // The first line, from 1, whose pair stands on an earlier line.
 fn first_repeat(alloc: Global, c: u32, lines: &[Line]) -> Result<Option<u32>, NoMemory>
     requires few { Fits32 (length lines.now) }
@@ -66,7 +63,7 @@ fn first_repeat(alloc: Global, c: u32, lines: &[Line]) -> Result<Option<u32>, No
 {
     let mut seen = vec![in alloc; false; c as usize * c as usize]?;
     for (i, line) in lines.iter().enumerate() {
-        let place = place_of(c, line.pair);
+        let place = cell(c, line.pair);
         if seen[place] {
             return Ok(Some(i as u32 + 1));
         }
@@ -76,9 +73,9 @@ fn first_repeat(alloc: Global, c: u32, lines: &[Line]) -> Result<Option<u32>, No
 }
 
 // The place of a pair in a table of all pairs of 1 to c.
-fn place_of(c: u32, v: Pair) -> usize
+fn cell(c: u32, v: Pair) -> usize
     requires { IsPair c v }
-    ensures { result ≡ pair_place c v }
+    ensures { result ≡ place_of c v }
 {
     (v.a as usize - 1) * c as usize + (v.b as usize - 1)
 }

@@ -13,7 +13,7 @@ ghost use Rattle.verdict_check.specs.Gaps.{gaps, gaps_of, depth, LiesWithin, Are
 ghost use Rattle.verdict_check.specs.YesTests.{AllKeep};
 
 use pq_tree::{PqTree, Tree};
-use row_model::{NoMemory, Span, positions, span_of};
+use row_model::{COLUMN_BOUND, NoMemory, Span, positions, span_of};
 use std::alloc::Global;
 
 /// Where two neighbouring leaves part: the depth of the node, whose root has depth 1, and its kind.
@@ -58,7 +58,7 @@ impl Gap {
 impl Gaps {
     /// The gaps of a tree, in one walk.
     pub fn new(alloc: Global, tree: &PqTree) -> Result<Gaps, NoMemory>
-        requires { column_count tree.now ≤ 32768 }
+        requires { column_count tree.now ≤ COLUMN_BOUND }
         ensures { IfOk result (λ g. AreGaps (outline tree.now) g) }
     {
         let order = tree.frontier(alloc)?;

@@ -197,7 +197,7 @@ pub fn holds_law()
 #[cfg(test)]
 mod tests {
     use super::*;
-    use pq_tree::NoMemory;
+    use row_model::{COLUMN_BOUND, NoMemory};
     use std::alloc::Global;
     use std::process::Abort;
     use std::test::Fail;
@@ -211,7 +211,7 @@ mod tests {
         row: &[u32],
         holds: bool,
     ) -> Result<(), NoMemory>
-        requires columns { (1 ≤ c) × (c ≤ 32768) }
+        requires columns { (1 ≤ c) × (c ≤ COLUMN_BOUND) }
         requires row { IsRow c row.now }
     {
         match PqTree::parse(alloc, text, c)? {

@@ -50,6 +50,7 @@ mod tests;
 
 pub use holds::{holds_law, tree_holds};
 pub use instance_model::Instance;
+use instance_model::textbook_law;
 use judge::first_failing;
 pub use outcome::{Checked, Reason};
 pub use row_model::NoMemory;
@@ -59,6 +60,10 @@ use verdict_text::Verdict;
 /// Judges a verdict: valid exactly where it passes each test, else invalid with the first that fails.
 ///
 /// The instance is within the limits of files, and the verdict within the grammar.
+///
+/// # Errors
+///
+/// `NoMemory`.
 pub fn check(alloc: Global, instance: &Instance, v: &Verdict) -> Result<Checked, NoMemory>
     requires instance { IsInstance (instance_value instance.now) }
     requires verdict { IsVerdict (verdict_value v.now) }
@@ -77,7 +82,9 @@ pub fn check(alloc: Global, instance: &Instance, v: &Verdict) -> Result<Checked,
 /// length in the incompatibility graph leaves no valid order of the derived matrix (McConnell, 2004), and so no textbook order.
 pub fn true_law()
     ensures { TrueLaw }
-{}
+{
+    textbook_law();
+}
 
 /// What a solver finds passes each test: textbook orders with a tree whose frontiers keep the derived rows, or an odd cycle.
 pub fn solved_laws()

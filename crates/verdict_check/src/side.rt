@@ -12,8 +12,8 @@ ghost use Rattle.verdict_check.specs.Found.{IsLeastFailing, Finds};
 
 use crate::gaps::Gaps;
 use crate::outcome::Reason;
-use circular_ones::turned;
-use instance_model::Instance;
+use circular_ones::{circular_law, turned};
+use instance_model::{Instance, textbook_law};
 use pq_tree::PqTree;
 use row_model::{Matrix, NoMemory, is_order};
 use std::alloc::Global;
@@ -97,6 +97,9 @@ fn is_textbook_order(
         derived.now ≡ derived_matrix (instance_value instance.now) side →
         IsTrue yes ↔ IsTextbookOrder (instance_value instance.now) side order.now) }
 {
+    // What the derived matrix says of the textbook orders, and rotations of circular ones.
+    textbook_law();
+    circular_law();
     if !is_order(alloc, derived.columns(), order)? {
         return Ok(false);
     }

@@ -9,6 +9,7 @@ use Rattle.std.proofs.lemmas.Fmt.{decimal_by_steps, decimal_nonempty}
 use Rattle.plain_text.specs.Numbers.{NoDigitFirst}
 use Rattle.plain_text.specs.Words.{word_at}
 use Rattle.plain_text.proofs.WordLaws.{word_takes, word_again}
+use Rattle.column_order.specs.declared.TheConstants.{COLUMN_BOUND}
 use Rattle.row_model.specs.declared.lists.Interval.{Interval}
 use Rattle.row_model.specs.declared.lists.Place.{Place}
 use Rattle.row_model.specs.declared.lists.Place.TheVariants.{Nowhere, At}
@@ -17,9 +18,9 @@ use Rattle.row_model.specs.declared.kind.Kind.{Kind}
 use Rattle.row_model.specs.declared.kind.Kind.TheVariants.{Matrix, Rows, Table, Circular, Convex, Doubly, Proper, Robinson, Clones}
 use Rattle.verdict_text.specs.Verdict.{AddedValue, no_added}
 use Rattle.verdict_text.specs.Text.{number_word, ends_text, place_text, interval_line, contig_line, place_line, places_text, contigs_text, added_text}
-use Rattle.verdict_text.specs.Grammar.{IsInterval, IsPlace, IsSpan, Fits32, HasAdded}
+use Rattle.verdict_text.specs.Grammar.{max_number, max_end, IsInterval, IsPlace, IsSpan, Fits32, HasAdded}
 use Rattle.verdict_text.specs.Numbered.{numbered, numbered_at}
-use Rattle.verdict_text.specs.Reading.{interval_at, ends_at, where_at, place_at, contig_at, counted_at, placed_at, added_at, max_number, max_end, or_else, as_nowhere, as_place}
+use Rattle.verdict_text.specs.Reading.{interval_at, ends_at, where_at, place_at, contig_at, counted_at, placed_at, added_at, or_else, as_nowhere, as_place}
 use Rattle.verdict_text.proofs.Chains.{Takes, small, large, after_number, after_word, after_index, at_number, at_word, at_index}
 use Rattle.verdict_text.proofs.NumberedLaws.{numbered-flat_map, numbered_take, numbered_again, numbered_none, counted_take, counted_again}
 
@@ -280,7 +281,7 @@ same_head : (m n : ℕ) → m ∷ [] ≡ n ∷ [] → m ≡ n
 unfolding head_of
 same_head m n e = ap head_of e
 
-pub added_again : (kind : Kind) (c : ℕ) (x : AddedValue) (rest : List ℕ) → c ≤ 32768 → HasAdded kind (c ∷ []) x → added_at kind c (added_text kind x ++ rest) ≡ Some (x, rest)
+pub added_again : (kind : Kind) (c : ℕ) (x : AddedValue) (rest : List ℕ) → c ≤ COLUMN_BOUND → HasAdded kind (c ∷ []) x → added_at kind c (added_text kind x ++ rest) ≡ Some (x, rest)
 added_again Matrix c x rest l h = rw (h.0, h.1, h.2) refl
 added_again Rows c x rest l h = rw (h.0, h.1, h.2) refl
 added_again Table c x rest l h = rw (h.0, h.1, h.2) refl

@@ -8,7 +8,8 @@ use Rattle.plain_text.specs.Numbers.{number_at, NoDigitFirst}
 use Rattle.plain_text.specs.Words.{word_at}
 use Rattle.plain_text.proofs.NumberLaws.{number_takes, number_again, chosen}
 use Rattle.plain_text.proofs.WordLaws.{word_takes, word_again}
-use Rattle.verdict_text.specs.Reading.{index_at, max_number, max_end}
+use Rattle.verdict_text.specs.Grammar.{max_number, max_end}
+use Rattle.verdict_text.specs.Reading.{index_at}
 
 -- what was read: a value whose text stands at the front, and the bytes after it
 pub record Takes {A : Type 0} (text : A → List ℕ) (Good : A → Type 0) (bytes : List ℕ) (x : A) (rest : List ℕ) : Type 0 where

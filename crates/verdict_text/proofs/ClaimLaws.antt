@@ -5,6 +5,7 @@ use Rattle.std.proofs.lemmas.List.{append_assoc}
 use Rattle.std.proofs.lemmas.Option.{some_pair_parts, option_and_then_some}
 use Rattle.plain_text.specs.Words.{word_at}
 use Rattle.plain_text.proofs.WordLaws.{word_takes, word_again}
+use Rattle.column_order.specs.declared.TheConstants.{COLUMN_BOUND}
 use Rattle.row_model.specs.declared.kind.Kind.{Kind}
 use Rattle.row_model.specs.declared.kind.Kind.TheVariants.{Matrix, Rows, Table, Circular, Convex, Doubly, Proper, Robinson, Clones}
 use Rattle.verdict_text.specs.Verdict.{SideValue, AddedValue, no_added, YesValue, Claim, yes_claim, no_claim}
@@ -94,7 +95,7 @@ yes_takes kind (c ∷ d ∷ []) bytes y rest h l e =
     subst P (sym two.0) (λ f. two_take c d bytes y rest (omega (arith, h.0.1)) (omega (arith, h.1.0.1)) f) e
 yes_takes kind (c ∷ d ∷ b ∷ columns) bytes y rest h l e = let two = two_sides kind (suc (length columns)) l in absurd (omega (arith, two.1))
 
-one_again : (kind : Kind) (c : ℕ) (sides : List SideValue) (x : AddedValue) (rest : List ℕ) → c ≤ 32768 → AreSides (c ∷ []) sides → HasAdded kind (c ∷ []) x
+one_again : (kind : Kind) (c : ℕ) (sides : List SideValue) (x : AddedValue) (rest : List ℕ) → c ≤ COLUMN_BOUND → AreSides (c ∷ []) sides → HasAdded kind (c ∷ []) x
     → yes_at kind (c ∷ []) (yes_text kind (record { sides = sides; added = x }) ++ rest) ≡ Some (record { sides = sides; added = x }, rest)
 unfolding yes_at
 one_again kind c [] x rest l h k = absurd h
@@ -104,7 +105,7 @@ one_again kind c (s ∷ []) x rest l h k =
     ∙ ap (option_and_then _) (side_again c s (added_text kind x ++ rest) (omega arith) h.0)
     ∙ ap (option_and_then _) (added_again kind c x rest l k)
 
-two_again : (c d : ℕ) (sides : List SideValue) (x : AddedValue) (rest : List ℕ) → c ≤ 32768 → d ≤ 32768 → AreSides (c ∷ d ∷ []) sides → HasAdded Doubly (c ∷ d ∷ []) x
+two_again : (c d : ℕ) (sides : List SideValue) (x : AddedValue) (rest : List ℕ) → c ≤ COLUMN_BOUND → d ≤ COLUMN_BOUND → AreSides (c ∷ d ∷ []) sides → HasAdded Doubly (c ∷ d ∷ []) x
     → yes_at Doubly (c ∷ d ∷ []) (yes_text Doubly (record { sides = sides; added = x }) ++ rest) ≡ Some (record { sides = sides; added = x }, rest)
 unfolding yes_at
 two_again c d [] x rest l l' h k = absurd h

@@ -16,9 +16,9 @@ use Rattle.row_model.specs.declared.graph.Why.{Why}
 use Rattle.row_model.specs.declared.graph.Why.TheVariants.{Flip, Row}
 use Rattle.verdict_text.specs.Verdict.{Claim, no_claim}
 use Rattle.verdict_text.specs.Text.{why_text, cycle_line, cycle_text}
-use Rattle.verdict_text.specs.Grammar.{IsLine, IsReason, Fits32}
+use Rattle.verdict_text.specs.Grammar.{max_number, IsLine, IsReason, Fits32}
 use Rattle.verdict_text.specs.Numbered.{numbered, numbered_at}
-use Rattle.verdict_text.specs.Reading.{row_at, as_flip, why_at, line_at, no_at, counted_at, or_else, max_number}
+use Rattle.verdict_text.specs.Reading.{row_at, as_flip, why_at, line_at, no_at, counted_at, or_else}
 use Rattle.verdict_text.proofs.Chains.{Takes, small, after_number, after_word, at_number, at_word, some_number}
 use Rattle.verdict_text.proofs.NumberedLaws.{numbered-flat_map, numbered_none, counted_take, counted_again}
 

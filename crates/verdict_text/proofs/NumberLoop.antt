@@ -8,7 +8,8 @@ use Rattle.plain_text.specs.Words.{word_at}
 use Rattle.plain_text.proofs.NumberLaws.{number_takes}
 use Rattle.plain_text.proofs.WordLaws.{word_takes}
 use Rattle.verdict_text.specs.Numbered.{with_first}
-use Rattle.verdict_text.specs.Reading.{numbers_at, after_space, max_number}
+use Rattle.verdict_text.specs.Grammar.{max_number}
+use Rattle.verdict_text.specs.Reading.{numbers_at, after_space}
 use Rattle.verdict_text.proofs.LoopLaws.{before_items, before_with}
 
 -- what a number at the front leaves

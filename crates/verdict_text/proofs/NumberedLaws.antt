@@ -5,9 +5,9 @@ use Rattle.std.specs.Fmt.{decimal}
 use Rattle.std.specs.List.{AllByRecursion}
 use Rattle.std.proofs.lemmas.List.{append_assoc}
 use Rattle.std.proofs.lemmas.Option.{some_pair_parts, option_and_then_some}
-use Rattle.verdict_text.specs.Grammar.{Fits32}
+use Rattle.verdict_text.specs.Grammar.{max_number, Fits32}
 use Rattle.verdict_text.specs.Numbered.{numbered, numbered_at, with_first}
-use Rattle.verdict_text.specs.Reading.{counted_at, max_number}
+use Rattle.verdict_text.specs.Reading.{counted_at}
 use Rattle.verdict_text.proofs.Chains.{Takes, small, after_number, after_word, at_number, at_word}
 
 -- where the text of an item does not depend on its number

@@ -12,6 +12,7 @@ use Rattle.plain_text.specs.Numbers.{number_at}
 use Rattle.plain_text.specs.Words.{word_at}
 use Rattle.plain_text.proofs.NumberLaws.{chosen}
 use Rattle.plain_text.proofs.WordLaws.{word_takes, word_again}
+use Rattle.column_order.proofs.Counts.{in_range, within_none}
 use Rattle.column_order.specs.Orders.{occurs}
 use Rattle.column_order.proofs.Lists.{occurs-append}
 use Rattle.pq_tree.specs.Outline.{Outline, Forest, leaf, p_node, q_node, no_tree, tree_and, leaves, leaves_of}
@@ -20,12 +21,12 @@ use Rattle.pq_tree.specs.Text.{tree_text, forest_text, spaced_text}
 use Rattle.pq_tree.specs.Reading.{tree_of}
 use Rattle.pq_tree.proofs.Found.{tree_of_found}
 use Rattle.pq_tree.proofs.Found.{within}
-use Rattle.pq_tree.proofs.Again.{tree_of_proper, in_range, head_one}
+use Rattle.pq_tree.proofs.Again.{tree_of_proper, head_one}
 use Rattle.verdict_text.specs.Verdict.{SideValue}
 use Rattle.verdict_text.specs.Text.{side_text, number_word}
-use Rattle.verdict_text.specs.Grammar.{IsSide, Fits32}
+use Rattle.verdict_text.specs.Grammar.{max_number, IsSide, Fits32}
 use Rattle.verdict_text.specs.Numbered.{with_first}
-use Rattle.verdict_text.specs.Reading.{numbers_at, after_space, max_number, tree_at, with_bytes, line_len, side_at}
+use Rattle.verdict_text.specs.Reading.{numbers_at, after_space, tree_at, with_bytes, line_len, side_at}
 use Rattle.verdict_text.proofs.HeadLaws.{words_stop}
 use Rattle.verdict_text.proofs.Chains.{Takes, small, after_number, after_word, at_number, at_word, some_number}
 
@@ -100,7 +101,7 @@ mutual
   unfolding AreLow AllLow
 
   low_tree : (c : ℕ) (t : Outline) → c < 2 ^ 64 → ((a : ℕ) → occurs (leaves t) a ≤ within c a) → AreLow t
-  low_tree c (leaf a) l h = let r = in_range c a (omega (arith, h a, head_one a [])) in omega (arith, r.1)
+  low_tree c (leaf a) l h = elim (in_range c a) [ inl r ↦ omega (arith, r.1) | inr r ↦ absurd (omega (arith, h a, head_one a [], within_none c a r)) ]
   low_tree c (p_node ts) l h = low_trees c ts l h
   low_tree c (q_node ts) l h = low_trees c ts l h
 

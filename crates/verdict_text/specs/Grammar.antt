@@ -14,13 +14,21 @@ use Rattle.row_model.specs.declared.lists.Span.{Span}
 use Rattle.pq_tree.specs.Proper.{IsProper}
 use Rattle.verdict_text.specs.Verdict.{SideValue, AddedValue, Claim, yes_claim, no_claim, VerdictValue}
 
--- a count, a column, a row or a position: a number of 32 bits
-abbrev pub Fits32 : ℕ → Type 0
-Fits32 n = n ≤ 4294967295
+-- the greatest count, column, row or position: the greatest number of 32 bits
+abbrev pub max_number : ℕ
+max_number = 4294967295
 
--- an end of an interval: a number of 64 bits
+-- the greatest end of an interval: the greatest number of 64 bits
+abbrev pub max_end : ℕ
+max_end = 18446744073709551615
+
+-- a count, a column, a row or a position
+abbrev pub Fits32 : ℕ → Type 0
+Fits32 n = n ≤ max_number
+
+-- an end of an interval
 abbrev pub Fits64 : ℕ → Type 0
-Fits64 n = n ≤ 18446744073709551615
+Fits64 n = n ≤ max_end
 
 -- two sides for `doubly`, one for every other kind
 abbrev pub side_count : Kind → ℕ

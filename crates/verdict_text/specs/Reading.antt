@@ -16,7 +16,7 @@ use Rattle.pq_tree.specs.Outline.{Outline}
 use Rattle.pq_tree.specs.Reading.{tree_of}
 use Rattle.verdict_text.specs.Verdict.{SideValue, AddedValue, no_added, YesValue, Claim, yes_claim, no_claim, VerdictValue}
 use Rattle.verdict_text.specs.Text.{kind_word}
-use Rattle.verdict_text.specs.Grammar.{side_count}
+use Rattle.verdict_text.specs.Grammar.{max_number, max_end, side_count}
 use Rattle.verdict_text.specs.Numbered.{numbered_at, with_first}
 
 infixl 10 ◌>>=◌
@@ -27,14 +27,6 @@ o >>= f = option_and_then f o
 abbrev pub or_else : {A : Type 0} → Option A → Option A → Option A
 or_else None o = o
 or_else (Some x) o = Some x
-
--- the greatest count, column, row or position
-abbrev pub max_number : ℕ
-max_number = 4294967295
-
--- the greatest end of an interval
-abbrev pub max_end : ℕ
-max_end = 18446744073709551615
 
 abbrev pub all_kinds : List Kind
 all_kinds = Matrix ∷ Rows ∷ Table ∷ Circular ∷ Convex ∷ Doubly ∷ Proper ∷ Robinson ∷ Clones ∷ []

@@ -1,7 +1,9 @@
 //! Verdicts and their texts.
 //!
-//! A text has these lines, each with a line feed at its end and one space between entries. Capital letters stand for plain numbers,
-//! which have no leading zeros; K is the word of a kind, and T the text of a tree.
+//! A text has these lines, each with a line feed at its end and one space between entries, and nothing after the last of them.
+//! Capital letters stand for plain numbers, which have no leading zeros; K is the word of a kind, and T the text of a tree. C and D are
+//! from 1 to 2,048 (`MAX_COLUMNS` of `row_model`), S is 1, and for `doubly` 1 or 2, the ends of intervals are at most 2^64 - 1, and
+//! every other number is at most 2^32 - 1.
 //!
 //! ```text
 //! pq-verdict 1
@@ -31,7 +33,7 @@ mod verdict;
 mod write;
 
 use crate::read::{Stop, read_verdict};
-pub use std::alloc::AllocError as NoMemory;
+pub use row_model::NoMemory;
 use std::alloc::Global;
 pub use verdict::{Columns, NoPart, Part, Verdict, YesPart};
 pub use write::{print, print_cycle, print_side, print_subject};
@@ -39,6 +41,10 @@ pub use write::{print, print_cycle, print_side, print_subject};
 /// The verdict of which the bytes are the text; none where the bytes are outside the grammar.
 ///
 /// No list takes more room than the bytes that are left can fill.
+///
+/// # Errors
+///
+/// `NoMemory`.
 pub fn parse(alloc: Global, bytes: &[u8]) -> Result<Option<Verdict>, NoMemory>
     ensures within { IfOk result (λ o. IfSome o (λ v. IsVerdict (verdict_value v))) }
     ensures found { IfOk result (λ o. IfSome o (λ v. bytes.now ≡ verdict_text (verdict_value v))) }

@@ -3,8 +3,8 @@ ghost use Rattle.std.specs.Prelude.{◌≡◌, ◌≤◌, ◌<◌, ◌*◌, leng
 ghost use Rattle.plain_text.specs.Numbers.{number_at};
 ghost use Rattle.plain_text.specs.Rest.{with_rest, rest_of};
 ghost use Rattle.plain_text.specs.Words.{word_at};
-ghost use Rattle.verdict_text.specs.Grammar.{side_count, AreColumnCounts};
-ghost use Rattle.verdict_text.specs.Reading.{max_number, max_end, index_at, claim_at, verdict_of};
+ghost use Rattle.verdict_text.specs.Grammar.{max_number, max_end, side_count, AreColumnCounts};
+ghost use Rattle.verdict_text.specs.Reading.{index_at, claim_at, verdict_of};
 ghost use Rattle.verdict_text.specs.Seen.{Gives, part_seen};
 ghost use Rattle.verdict_text.specs.Value.{column_counts, verdict_value};
 

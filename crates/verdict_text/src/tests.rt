@@ -3,7 +3,9 @@ ghost use Rattle.std.specs.Prelude.{◌≤◌};
 
 use crate::{Columns, NoPart, Part, Verdict, YesPart, parse, print};
 use pq_tree::PqTree;
-use row_model::{Interval, Intervals, Kind, Line, Lines, Pair, Place, Places, Span, Spans, Why};
+use row_model::{
+    COLUMN_BOUND, Interval, Intervals, Kind, Line, Lines, Pair, Place, Places, Span, Spans, Why,
+};
 use std::alloc::Global;
 use std::test::Fail;
 
@@ -20,7 +22,7 @@ const BOTH_SIDES: &[u8] =
     b"pq-verdict 1\nkind doubly\ncolumns 2 2\nanswer yes\ntree (1 2)\norder 1 2\ntree (1 2)\norder 1 2\nend\n";
 
 fn tree(alloc: Global, text: &[u8], c: u32) -> Result<PqTree, Fail>
-    requires { (1 ≤ c) × (c ≤ 32768) }
+    requires { (1 ≤ c) × (c ≤ COLUMN_BOUND) }
 {
     let tree = PqTree::parse(alloc, text, c)?.ok_or("a tree")?;
     Ok(tree)
@@ -142,7 +144,7 @@ fn outside_the_grammar(rt: HostRuntime) -> Result<(), Fail> {
         b"pq-verdict 1\nkind matrix\ncolumns 1\nanswer yes\ntree 1\norder 1\nend",
         b"pq-verdict 1\nkind matrix\ncolumns 01\nanswer yes\ntree 1\norder 1\nend\n",
         b"pq-verdict 1\nkind matrix\ncolumns 0\nanswer yes\ntree 1\norder 1\nend\n",
-        b"pq-verdict 1\nkind matrix\ncolumns 1025\nanswer no\nside 1\ncycle 0\nend\n",
+        b"pq-verdict 1\nkind matrix\ncolumns 2049\nanswer no\nside 1\ncycle 0\nend\n",
         b"pq-verdict 1\nkind matrix\ncolumns 1\nanswer yes\ntree 1\norder\nend\n",
         b"pq-verdict 1\nkind matrix\ncolumns 1\nanswer yes\ntree 1\norder 4294967296\nend\n",
         b"pq-verdict 1\nkind proper\ncolumns 1\nanswer yes\ntree 1\norder 1\ninterval 0 0 0\nend\n",

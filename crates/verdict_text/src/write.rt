@@ -13,7 +13,11 @@ use plain_text::push_number;
 use pq_tree::PqTree;
 use row_model::{Interval, Kind, Line, Place, Span, Why};
 
-/// Appends the text of a verdict. On an error what `text` held is still its front.
+/// Appends the text of a verdict.
+///
+/// # Errors
+///
+/// `NoMemory`. What `text` held is still its front.
 pub fn print(v: &Verdict, text: &mut Vec<u8>) -> Result<(), NoMemory>
     ensures ok { OnOk result (text.new.items ≡ text.old.items ++ verdict_text (verdict_value v.now)) }
     ensures err { OnErr result (Extends text.old.items text.new.items) }
@@ -34,7 +38,11 @@ fn push_head(kind: Kind, columns: Columns, text: &mut Vec<u8>) -> Result<(), NoM
     Ok(())
 }
 
-/// Appends the lines `kind K` and `columns C`, the second with one number for each side. On an error what `text` held is still its front.
+/// Appends the lines `kind K` and `columns C`, the second with one number for each side.
+///
+/// # Errors
+///
+/// `NoMemory`. What `text` held is still its front.
 pub fn print_subject(kind: Kind, columns: Columns, text: &mut Vec<u8>) -> Result<(), NoMemory>
     ensures ok { OnOk result (text.new.items ≡ text.old.items ++ (kind_line kind ++ columns_line (column_counts columns))) }
     ensures err { OnErr result (Extends text.old.items text.new.items) }
@@ -144,7 +152,11 @@ fn push_side(side: &Side, text: &mut Vec<u8>) -> Result<(), NoMemory>
     print_side(&side.tree, &side.order, text)
 }
 
-/// Appends the lines `tree T` and `order N1 N2 ..`. On an error what `text` held is still its front.
+/// Appends the lines `tree T` and `order N1 N2 ..`.
+///
+/// # Errors
+///
+/// `NoMemory`. What `text` held is still its front.
 pub fn print_side(tree: &PqTree, order: &[u32], text: &mut Vec<u8>) -> Result<(), NoMemory>
     ensures ok { OnOk result (text.new.items ≡ text.old.items ++ side_text (record { tree = outline tree.now; order = order.now })) }
     ensures err { OnErr result (Extends text.old.items text.new.items) }
@@ -297,7 +309,11 @@ fn push_no(no: &NoPart, text: &mut Vec<u8>) -> Result<(), NoMemory>
     Ok(())
 }
 
-/// Appends the line `cycle L` and the L lines of a cycle. On an error what `text` held is still its front.
+/// Appends the line `cycle L` and the L lines of a cycle.
+///
+/// # Errors
+///
+/// `NoMemory`. What `text` held is still its front.
 pub fn print_cycle(lines: &[Line], text: &mut Vec<u8>) -> Result<(), NoMemory>
     ensures ok { OnOk result (text.new.items ≡ text.old.items ++ counted_cycle lines.now) }
     ensures err { OnErr result (Extends text.old.items text.new.items) }

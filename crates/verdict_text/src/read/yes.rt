@@ -11,7 +11,7 @@ use super::{Stop, after, after_index, read_end, read_number, room};
 use crate::verdict::{Added, Columns, Side, Sides, YesPart};
 use plain_text::after_word;
 use pq_tree::PqTree;
-use row_model::{Interval, Intervals, Kind, Place, Places, Span, Spans};
+use row_model::{COLUMN_BOUND, Interval, Intervals, Kind, Place, Places, Span, Spans};
 use std::alloc::Global;
 
 // The fewest bytes of a line of each kind.
@@ -49,7 +49,7 @@ pub fn read_yes(
 
 #[tactic(auto, unfolding(crate::specs::Reading::side_at, crate::specs::Value::side_value))]
 fn read_side(alloc: Global, c: u32, bytes: &[u8]) -> Result<(Side, &[u8]), Stop>
-    requires { (1 ≤ c) × (c ≤ 32768) }
+    requires { (1 ≤ c) × (c ≤ COLUMN_BOUND) }
     ensures { Gives side_seen result (side_at c bytes.now) }
 {
     let rest = after(bytes, b"tree ")?;
@@ -65,7 +65,7 @@ fn read_side(alloc: Global, c: u32, bytes: &[u8]) -> Result<(Side, &[u8]), Stop>
 
 // The tree over 1 to c that stands before the first line feed.
 fn read_tree(alloc: Global, c: u32, bytes: &[u8]) -> Result<(PqTree, &[u8]), Stop>
-    requires { (1 ≤ c) × (c ≤ 32768) }
+    requires { (1 ≤ c) × (c ≤ COLUMN_BOUND) }
     ensures { Gives tree_seen result (tree_at c bytes.now) }
 {
     let end = line_length(bytes);

@@ -1,4 +1,4 @@
-use Rattle.clone_map.proofs.SameLists.{same_spans}
+use Rattle.verdict_check.proofs.SameLists.{same_spans}
 use Rattle.verdict_check.proofs.clones.same_contigs.Goals as goal
 
 pub returns : goal.returns

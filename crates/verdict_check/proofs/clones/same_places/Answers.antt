@@ -1,4 +1,4 @@
-use Rattle.clone_map.proofs.SameLists.{same_places}
+use Rattle.verdict_check.proofs.SameLists.{same_places}
 use Rattle.verdict_check.proofs.clones.same_places.Goals as goal
 
 pub returns : goal.returns

@@ -1,0 +1,38 @@
+-- `==` on lists of places and of spans.
+use Rattle.std.proofs.Common.{◌≡◌, ◌∙◌, ℕ, Bool, eqb, eqb-true, eq-eqb, List, refl, ap}
+use Rattle.std.proofs.lemmas.Bool.{and_parts, and_from}
+use Rattle.std.specs.Bool.{Decides}
+use Rattle.std.specs.Cmp.Lexicographic.{pointwise}
+use Rattle.std.proofs.lemmas.Slice.Eq.{slice_eq-Decides}
+use Rattle.row_model.specs.declared.lists.Place.{Place}
+use Rattle.row_model.specs.declared.lists.Place.TheVariants.{Nowhere, At}
+use Rattle.row_model.specs.declared.lists.Span.{Span}
+use Rattle.row_model.specs.contracts.lists.PlacePartialEq.TheImpl as place
+use Rattle.row_model.specs.contracts.lists.SpanPartialEq.TheImpl as span
+
+same_place : (a b : Place) → Decides (place.eq-value.it a b) (a ≡ b)
+same_place Nowhere Nowhere = (λ _. refl, λ _. refl)
+same_place Nowhere (At f l) = (λ e. absurd (cc), λ e. absurd (cc))
+same_place (At f l) Nowhere = (λ e. absurd (cc), λ e. absurd (cc))
+same_place (At f l) (At g m) = (
+  λ e. (let p = and_parts (eqb f g) (eqb l m) e in ap (λ n. At n l) (eqb-true f g p.0) ∙ ap (At g) (eqb-true l m p.1)),
+  λ e. (let firsts : f ≡ g = cc in let lasts : l ≡ m = cc in and_from (eqb f g) (eqb l m) (eq-eqb f g firsts) (eq-eqb l m lasts)),
+)
+
+same_span : (a b : Span) → Decides (span.eq-value.it a b) (a ≡ b)
+same_span a b = (
+  λ e. (
+      let p = and_parts (eqb a.first b.first) (eqb a.last b.last) e in
+      let make : ℕ → ℕ → Span = λ first last. record { first = first; last = last } in
+      ap (λ n. make n a.last) (eqb-true a.first b.first p.0) ∙ ap (make b.first) (eqb-true a.last b.last p.1)
+      ),
+  λ e. and_from (eqb a.first b.first) (eqb a.last b.last) (eq-eqb a.first b.first (ap (λ (s : Span). s.first) e)) (eq-eqb a.last b.last (ap (λ (s : Span). s.last) e)),
+)
+
+-- from the clause of `==`, whether two lists of places are equal
+pub same_places : (a b : List Place) (r : Bool) → r ≡ pointwise place.eq-value.it a b → Decides r (a ≡ b)
+same_places a b r e = slice_eq-Decides same_place a b r e
+
+-- and two lists of spans
+pub same_spans : (a b : List Span) (r : Bool) → r ≡ pointwise span.eq-value.it a b → Decides r (a ≡ b)
+same_spans a b r e = slice_eq-Decides same_span a b r e
