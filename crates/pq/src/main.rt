@@ -3,8 +3,31 @@
 
 use pq_cli::run;
 use pq_io::{RealShelf, RealSink, write_all};
+use std::env::FillError;
 use std::process::ExitCode;
+use std::rt::Env;
 use std::{env, io};
+
+// The words of the command line behind the name of the program, which may be no text.
+#[derive(Clone, Copy)]
+struct BehindName<'a, R>(&'a R);
+
+impl<R: Env> Env for BehindName<'_, R> {
+    fn arg(&self, i: usize, buf: &mut [u8]) -> Result<usize, FillError> {
+        match i.checked_add(1) {
+            Some(next) => self.0.arg(next, buf),
+            None => Err(FillError::NotPresent),
+        }
+    }
+
+    fn var(&self, name: &str, buf: &mut [u8]) -> Result<usize, FillError> {
+        self.0.var(name, buf)
+    }
+
+    fn var_at(&self, i: usize, buf: &mut [u8]) -> Result<usize, FillError> {
+        self.0.var_at(i, buf)
+    }
+}
 
 // Why there are no words.
 enum Unread {
@@ -14,17 +37,14 @@ enum Unread {
     NoMemory,
 }
 
-// The words after the name of the program.
+// The words behind the name of the program.
 fn words_of(rt: &HostRuntime) -> Result<Vec<String>, Unread> {
-    let words = match env::args(rt) {
+    let words = match env::args(&(BehindName(rt), rt.alloc())) {
         Ok(words) => words,
         Err(error) if error.kind() == io::ErrorKind::OutOfMemory => return Err(Unread::NoMemory),
         Err(_) => return Err(Unread::NotText),
     };
-    match words.skip(1).collect(rt.alloc()) {
-        Ok(words) => Ok(words),
-        Err(_) => Err(Unread::NoMemory),
-    }
+    words.collect(rt.alloc()).map_err(|_| Unread::NoMemory)
 }
 
 fn main(rt: HostRuntime) -> ExitCode {

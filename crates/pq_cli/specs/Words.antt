@@ -3,13 +3,13 @@ use Rattle.std.specs.Prelude.{⊤, ℕ, ◌≤◌, nat_le, Bool, List, [], ◌�
 use Rattle.std.specs.Str.{bytes_eq}
 use Rattle.std.specs.declared.string.String.{String}
 use Rattle.row_model.specs.declared.kind.Kind.{Kind}
-use Rattle.row_model.specs.declared.kind.Kind.TheVariants.{Matrix, Rows, Table, Circular, Convex, Doubly, Proper, Robinson, Clones}
+use Rattle.row_model.specs.declared.kind.Kind.TheVariants.{Matrix, Rows, Table}
 use Rattle.row_model.specs.declared.TheConstants.{MAX_COLUMNS, MAX_ROWS}
 use Rattle.matrix_read.specs.Words.{numeral_of}
 use Rattle.matrix_read.specs.declared.words.Numeral.{Numeral}
 use Rattle.matrix_read.specs.declared.words.Numeral.TheVariants.{Value, TooLarge, NotDigits}
 use Rattle.verdict_text.specs.Text.{kind_word}
-use Rattle.verdict_text.specs.Reading.{◌>>=◌}
+use Rattle.verdict_text.specs.Reading.{all_kinds, ◌>>=◌}
 
 -- what the words ask for
 pub data Command : Type 0 where
@@ -25,10 +25,6 @@ pub data Command : Type 0 where
 -- the words as bytes
 abbrev pub texts : {A : Type 0} → List (String A) → List (List ℕ)
 texts words = map string_bytes words
-
--- all kinds
-abbrev pub all_kinds : List Kind
-all_kinds = Matrix ∷ Rows ∷ Table ∷ Circular ∷ Convex ∷ Doubly ∷ Proper ∷ Robinson ∷ Clones ∷ []
 
 -- the kind of this word, among some
 abbrev pub kind_among : List Kind → List ℕ → Option Kind

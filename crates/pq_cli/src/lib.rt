@@ -1,31 +1,43 @@
 //! The top call of the program `pq`: one command, from its words to its status.
 //!
-//! A command reads its files from a `Shelf`, writes its answer to one `Sink` and tells of what stood in its way on another, so that what it
-//! does is a matter of values: `run` says which files were asked for, and that what was written is a reply to their bytes.
+//! A command reads its files from a `Shelf`, writes its reply to one `Sink` and tells of what stood in its way on
+//! another, so that what it does is a matter of values: `run` says which files were asked for, and that what was
+//! written is a reply to their bytes.
+//!
+//! Each command has a room of its own for its code, and others of its name for its definitions and its lemmas: `solve`,
+//! `check`, `extend`, and `generator` for `gen`. What they share is how words are read (`words`), how a file is read by
+//! the form that it should have (`input`), what may stand in the way (`stop`), and the frame of a command that ran,
+//! which is one record. A new command is a case of the words, a room, and its laws.
 #![tactic(auto)]
 
-mod bases;
+ghost use Rattle.std.specs.Prelude.{◌≡◌};
+
+mod check;
 mod command;
-mod draws;
-mod files;
-mod judgement;
-mod judging;
-mod laws;
-mod nodes;
-mod session;
-mod solution;
-mod summaries;
-mod telling;
+mod extend;
+mod generator;
+mod input;
+mod report;
+mod solve;
+mod stop;
 mod top;
 mod words;
 
-pub use draws::{generate, generated_law};
-pub use laws::{check_law, extend_law, model_law, reply_law, solved_law};
-pub use std::alloc::AllocError as NoMemory;
+pub use check::laws::{check_law, solved_law};
+pub use extend::laws::extend_law;
+pub use generator::draws::{generate, generated_law};
+pub use row_model::NoMemory;
+pub use solve::laws::{model_law, reply_law};
 pub use top::run;
 
 /// The greatest number of bytes of a verdict that is judged.
-pub const MAX_VERDICT_BYTES: u64 = 33_554_432;
+pub const MAX_VERDICT_BYTES: u64 = 134_217_728;
 
 /// The number of refused rows, the first ones, of which `extend` writes an odd cycle.
 pub const MAX_EXPLAINED: u32 = 16;
+
+/// The values of the constants.
+pub fn values_law()
+    ensures verdict_bytes { MAX_VERDICT_BYTES ≡ 134217728 }
+    ensures explained { MAX_EXPLAINED ≡ 16 }
+{}

@@ -64,7 +64,8 @@ pub fn task_of(words: &[String]) -> Option<Task<'_>>
 
 // What three words ask for.
 fn three_words<'a>(verb: &str, kind: &str, file: &'a str) -> Option<Task<'a>>
-    ensures task { option_map command_seen result ≡ command_of (verb.now ∷ kind.now ∷ file.now ∷ []) }
+    ensures task { option_map command_seen result ≡ command_of
+        (verb.now ∷ kind.now ∷ file.now ∷ []) }
     ensures taken { IfSome result (λ task. IsInGrammar (command_seen task)) }
 {
     if verb != "solve" {
@@ -76,7 +77,8 @@ fn three_words<'a>(verb: &str, kind: &str, file: &'a str) -> Option<Task<'a>>
 
 // What four words ask for.
 fn four_words<'a>(verb: &str, first: &'a str, second: &'a str, third: &'a str) -> Option<Task<'a>>
-    ensures task { option_map command_seen result ≡ command_of (verb.now ∷ first.now ∷ second.now ∷ third.now ∷ []) }
+    ensures task { option_map command_seen result ≡ command_of
+        (verb.now ∷ first.now ∷ second.now ∷ third.now ∷ []) }
     ensures taken { IfSome result (λ task. IsInGrammar (command_seen task)) }
 {
     match verb {

@@ -337,10 +337,37 @@ mod tests {
 
     #[test]
     fn a_verdict_past_the_limit_of_bytes(rt: HostRuntime) -> Result<(), Fail> {
-        let mut verdict = vec![in rt.alloc(); b'x'; 33_554_432]?;
+        let mut verdict = vec![in rt.alloc(); b'x'; 134_217_728]?;
         judged(&rt, rt.alloc(), b"1\n", &verdict, b"invalid text\n")?;
         verdict.push(b'x')?;
         judged(&rt, rt.alloc(), b"1\n", &verdict, b"invalid too-long\n")
+    }
+
+    #[test]
+    fn the_greatest_number_of_columns(rt: HostRuntime) -> Result<(), Fail> {
+        let alloc = rt.alloc();
+        let mut wanted = b"pq-verdict 1\nkind rows\ncolumns 2048\nanswer yes\ntree (1".to_vec(
+            alloc,
+        )?;
+        let mut order = b")\norder 1".to_vec(alloc)?;
+        for column in 2..=2048 {
+            let word = format!(in alloc; " {column}")?;
+            wanted.extend_from_slice(word.as_bytes())?;
+            order.extend_from_slice(word.as_bytes())?;
+        }
+        wanted.extend_from_slice(&order)?;
+        wanted.extend_from_slice(b"\nend\n")?;
+        let words = ["solve", "rows", "matrix"];
+        let most = outcome_with(alloc, &words, b"2048\n", b"", 30_000, 100)?;
+        assert_eq!(rt; most.out.bytes(), wanted.as_slice());
+        assert_eq!(rt; most.status, 0);
+        let more = outcome_with(alloc, &words, b"2049\n", b"", 100, 100)?;
+        assert_eq!(rt;
+            more.err.bytes(),
+            b"pq: refused 1 code 7 line 1\n".as_slice()
+        );
+        assert_eq!(rt; more.status, 3);
+        Ok(())
     }
 
     #[test]

@@ -108,8 +108,8 @@ fn words_of_extend_and_gen_outside_the_grammar(rt: HostRuntime) -> Result<(), Fa
         &["extend", "matrix", "-", "-"],
         &["extend", "matrix", "matrix"],
         &["gen", "0", "0", "1"],
-        &["gen", "0", "1025", "1"],
-        &["gen", "0", "1", "65537"],
+        &["gen", "0", "2049", "1"],
+        &["gen", "0", "1", "131073"],
         &["gen", "18446744073709551616", "1", "1"],
         &["gen", "0", "1", "+1"],
     ];

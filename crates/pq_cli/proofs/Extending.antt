@@ -1,0 +1,4 @@
+pub mod Bases
+pub mod NoOrders
+pub mod Sessions
+pub mod SessionLaws
