@@ -1,0 +1,3 @@
+pub mod ChildLists
+pub mod Layout
+pub mod NamedTree

@@ -1,0 +1,323 @@
+-- Two nodes exchange their times_child in the chains.
+use Rattle.std.proofs.Common.{◌≡◌, ◌≢◌, inl, inr, ℕ, ◌≤◌, ◌<◌, cond, eqb, List, [], ◌∷◌, length, set, take, map, get_or, unwrap_or, Option, Some, None, refl, sym, ap, subst, ◌∙◌, arith, eq-eqb}
+use Rattle.std.proofs.lemmas.Bool.{cases_eq, ne_eqb}
+use Rattle.std.proofs.lemmas.List.{length-set, get_or-set_same, get_or-set_other}
+use Rattle.pq_arena.specs.declared.node.NodeId.{NodeId}
+use Rattle.bubble_pass.specs.declared.climber.Stage.TheVariants.{Unseen}
+use Rattle.bubble_pass.specs.declared.labels.Label.{Label}
+use Rattle.bubble_pass.specs.declared.labels.Label.TheVariants.{Empty}
+use Rattle.bubble_pass.specs.declared.chains.Chains.{Chains}
+use Rattle.bubble_pass.specs.declared.labels.Labels.{Labels}
+use Rattle.bubble_pass.specs.declared.tables.Seats.{Seats}
+use Rattle.bubble_pass.specs.declared.tables.Tables.{Tables}
+use Rattle.bubble_pass.specs.Climb.{stage, indices, IsSeen}
+use Rattle.bubble_pass.specs.Chains.{entry}
+use Rattle.bubble_pass.specs.Sweep.{Noted}
+use Rattle.bubble_pass.specs.Tables.{node_at, seat_of, Swapped, CanSwap, AreInverse, AreSized, IsBlankAt, KnownFrom, AreKept, TouchedAt}
+use Rattle.bubble_pass.proofs.Marks.{seen_in}
+use Rattle.bubble_pass.specs.Marks.{Marks, exchange, placed_node, first_of, next_of, IsFollowed, tables_marks, IsPut}
+
+pub same_node : (a b : NodeId) → a.index ≡ b.index → a ≡ b
+same_node a b e = ap (λ i. let n : NodeId = record { index = i } in n) e
+
+exchange_old : (old new x : NodeId) → x.index ≡ old.index → exchange old new x ≡ new
+exchange_old old new x e = ap (λ b. cond b new (cond (eqb x.index new.index) old x)) (eq-eqb x.index old.index e)
+
+exchange_new : (old new x : NodeId) → x.index ≡ new.index → exchange old new x ≡ old
+exchange_new old new x e = elim (cases_eq x.index old.index) [
+  | inl q ↦ exchange_old old new x q ∙ same_node new old (sym e ∙ q)
+  | inr ne ↦ ap (λ b. cond b new (cond (eqb x.index new.index) old x)) (ne_eqb x.index old.index ne) ∙ ap (λ b. cond b old x) (eq-eqb x.index new.index e)
+]
+
+exchange_other : (old new x : NodeId) → x.index ≢ old.index → x.index ≢ new.index → exchange old new x ≡ x
+exchange_other old new x not_old not_new = ap (λ b. cond b new (cond (eqb x.index new.index) old x)) (ne_eqb x.index old.index not_old) ∙ ap (λ b. cond b old x) (ne_eqb x.index new.index not_new)
+
+exchange_back : (old new x : NodeId) → exchange old new (exchange old new x) ≡ x
+exchange_back old new x = elim (cases_eq x.index old.index) [
+  | inl e ↦ ap (λ y. exchange old new y) (exchange_old old new x e) ∙ exchange_new old new new refl ∙ same_node old x (sym e)
+  | inr not_old ↦ elim (cases_eq x.index new.index) [
+    | inl e ↦ ap (λ y. exchange old new y) (exchange_new old new x e) ∙ exchange_old old new old refl ∙ same_node new x (sym e)
+    | inr not_new ↦ ap (λ y. exchange old new y) (exchange_other old new x not_old not_new) ∙ exchange_other old new x not_old not_new
+  ]
+]
+
+exchange_in : (old new x : NodeId) (n : ℕ) → old.index < n → new.index < n → x.index < n → (exchange old new x).index < n
+exchange_in old new x n lo ln lx = elim (cases_eq x.index old.index) [
+  | inl e ↦ subst (λ (y : NodeId). y.index < n) (sym (exchange_old old new x e)) ln
+  | inr not_old ↦ elim (cases_eq x.index new.index) [
+    | inl e ↦ subst (λ (y : NodeId). y.index < n) (sym (exchange_new old new x e)) lo
+    | inr not_new ↦ subst (λ (y : NodeId). y.index < n) (sym (exchange_other old new x not_old not_new)) lx
+  ]
+]
+
+-- the nodes and times_child after the exchange
+pub record Exchanged (a b : Seats) (old new : NodeId) : Type 0 where
+  pub inverse : AreInverse a
+  pub can : CanSwap a old new
+  pub swapped : Swapped a b old new
+
+node_swapped : (a b : Seats) (old new s : NodeId) → Exchanged a b old new → node_at b.nodes.items s ≡ exchange old new (node_at a.nodes.items s)
+node_swapped a b old new s x = elim (cases_eq s.index g.index) [
+  | inl e ↦ ap (λ l. unwrap_or (get_or l s.index None) s) x.swapped.nodes ∙ ap (λ i. unwrap_or (get_or twice i None) s) e
+      ∙ ap (λ o. unwrap_or o s) (get_or-set_same once g.index (Some old) None (let l : g.index < length a.nodes.items = x.can.new_seat in omega (arith, length-set a.nodes.items f.index (Some new))))
+      ∙ sym (exchange_new old new (node_at a.nodes.items s) (ap (λ (v : NodeId). v.index) (ap (λ v. node_at a.nodes.items v) (same_node s g e) ∙ x.inverse.there new)))
+  | inr ng ↦ elim (cases_eq s.index f.index) [
+    | inl e ↦ ap (λ l. unwrap_or (get_or l s.index None) s) x.swapped.nodes ∙ ap (λ o. unwrap_or o s) (get_or-set_other once g.index s.index (Some old) None ng)
+        ∙ ap (λ i. unwrap_or (get_or once i None) s) e ∙ ap (λ o. unwrap_or o s) (get_or-set_same a.nodes.items f.index (Some new) None x.can.old_seat)
+        ∙ sym (exchange_old old new (node_at a.nodes.items s) (ap (λ (v : NodeId). v.index) (ap (λ v. node_at a.nodes.items v) (same_node s f e) ∙ x.inverse.there old)))
+    | inr nf ↦ ap (λ l. unwrap_or (get_or l s.index None) s) x.swapped.nodes ∙ ap (λ o. unwrap_or o s) (get_or-set_other once g.index s.index (Some old) None ng)
+        ∙ ap (λ o. unwrap_or o s) (get_or-set_other a.nodes.items f.index s.index (Some new) None nf)
+        ∙ sym (exchange_other old new (node_at a.nodes.items s) (off old nf) (off new ng))
+  ]
+]
+  where
+    f : NodeId
+    f = seat_of a.seats.items old
+
+    g : NodeId
+    g = seat_of a.seats.items new
+
+    once : List (Option NodeId)
+    once = set a.nodes.items f.index (Some new)
+
+    twice : List (Option NodeId)
+    twice = set once g.index (Some old)
+
+    off : (y : NodeId) → s.index ≢ (seat_of a.seats.items y).index → (node_at a.nodes.items s).index ≢ y.index
+    off y ne e = ne (ap (λ (v : NodeId). v.index) (sym (x.inverse.back s) ∙ ap (λ v. seat_of a.seats.items v) (same_node (node_at a.nodes.items s) y e)))
+
+seat_swapped : (a b : Seats) (old new y : NodeId) → Exchanged a b old new → seat_of b.seats.items (exchange old new y) ≡ seat_of a.seats.items y
+seat_swapped a b old new y x = elim (cases_eq y.index old.index) [
+  | inl e ↦ ap (λ v. seat_of b.seats.items v) (exchange_old old new y e) ∙ new_seat ∙ ap (λ v. seat_of a.seats.items v) (same_node old y (sym e))
+  | inr not_old ↦ elim (cases_eq y.index new.index) [
+    | inl e ↦ ap (λ v. seat_of b.seats.items v) (exchange_new old new y e) ∙ old_seat ∙ ap (λ v. seat_of a.seats.items v) (same_node new y (sym e))
+    | inr not_new ↦ ap (λ v. seat_of b.seats.items v) (exchange_other old new y not_old not_new)
+        ∙ ap (λ l. unwrap_or (get_or l y.index None) y) x.swapped.seats
+        ∙ ap (λ o. unwrap_or o y) (get_or-set_other once old.index y.index (Some g) None not_old) ∙ ap (λ o. unwrap_or o y) (get_or-set_other a.seats.items new.index y.index (Some f) None not_new)
+  ]
+]
+  where
+    f : NodeId
+    f = seat_of a.seats.items old
+
+    g : NodeId
+    g = seat_of a.seats.items new
+
+    once : List (Option NodeId)
+    once = set a.seats.items new.index (Some f)
+
+    old_seat : seat_of b.seats.items old ≡ g
+    old_seat = ap (λ l. unwrap_or (get_or l old.index None) old) x.swapped.seats
+        ∙ ap (λ o. unwrap_or o old) (get_or-set_same once old.index (Some g) None (let l : old.index < length a.seats.items = x.can.old_in in omega (arith, length-set a.seats.items new.index (Some f))))
+
+    new_seat : seat_of b.seats.items new ≡ f
+    new_seat = elim (cases_eq new.index old.index) [
+      | inl e ↦ ap (λ v. seat_of b.seats.items v) (same_node new old e) ∙ old_seat ∙ ap (λ v. seat_of a.seats.items v) (same_node new old e)
+      | inr ne ↦ ap (λ l. unwrap_or (get_or l new.index None) new) x.swapped.seats ∙ ap (λ o. unwrap_or o new) (get_or-set_other once old.index new.index (Some g) None ne)
+          ∙ ap (λ o. unwrap_or o new) (get_or-set_same a.seats.items new.index (Some f) None x.can.new_in)
+    ]
+
+nodes_length : (a b : Seats) (old new : NodeId) → Swapped a b old new → length b.nodes.items ≡ length a.nodes.items
+nodes_length a b old new t = ap (λ (v : List (Option NodeId)). length v) t.nodes ∙ length-set (set a.nodes.items (seat_of a.seats.items old).index (Some new)) (seat_of a.seats.items new).index (Some old)
+    ∙ length-set a.nodes.items (seat_of a.seats.items old).index (Some new)
+
+seats_length : (a b : Seats) (old new : NodeId) → Swapped a b old new → length b.seats.items ≡ length a.seats.items
+seats_length a b old new t = ap (λ (v : List (Option NodeId)). length v) t.seats ∙ length-set (set a.seats.items new.index (Some (seat_of a.seats.items old))) old.index (Some (seat_of a.seats.items new))
+    ∙ length-set a.seats.items new.index (Some (seat_of a.seats.items old))
+
+inverse_swapped : (a b : Seats) (old new : NodeId) → Exchanged a b old new → AreInverse b
+inverse_swapped a b old new x = record {
+  there = λ y.
+      ap (λ v. node_at b.nodes.items (seat_of b.seats.items v)) (sym (exchange_back old new y))
+      ∙ ap (λ v. node_at b.nodes.items v) (seat_swapped a b old new (exchange old new y) x) ∙ node_swapped a b old new (seat_of a.seats.items (exchange old new y)) x
+      ∙ ap (λ v. exchange old new v) (x.inverse.there (exchange old new y)) ∙ exchange_back old new y;
+  back = λ s. ap (λ v. seat_of b.seats.items v) (node_swapped a b old new s x) ∙ seat_swapped a b old new (node_at a.nodes.items s) x ∙ x.inverse.back s;
+  inside = λ y l.
+      let e : seat_of b.seats.items y ≡ seat_of a.seats.items (exchange old new y) = ap (λ v. seat_of b.seats.items v) (sym (exchange_back old new y)) ∙ seat_swapped a b old new (exchange old new y) x in
+      let ly : y.index < length a.seats.items = subst (λ k. y.index < k) (seats_length a b old new x.swapped) l in
+      let r : (seat_of a.seats.items (exchange old new y)).index < length a.nodes.items = x.inverse.inside (exchange old new y) (exchange_in old new y (length a.seats.items) x.can.old_in x.can.new_in ly) in
+      subst (λ k. (seat_of b.seats.items y).index < k) (sym (nodes_length a b old new x.swapped)) (subst (λ (v : NodeId). v.index < length a.nodes.items) (sym e) r);
+}
+
+-- what follows o in the chains, exchanged
+abbrev turned : NodeId → NodeId → Option NodeId → Option NodeId
+turned old new None = None
+turned old new (Some x) = Some (exchange old new x)
+
+placed_swapped : (a b : Seats) (old new : NodeId) (o : Option NodeId) → Exchanged a b old new → placed_node b.nodes.items o ≡ turned old new (placed_node a.nodes.items o)
+placed_swapped a b old new None x = refl
+placed_swapped a b old new (Some s) x = ap (λ v. Some v) (node_swapped a b old new s x)
+
+followed_swapped : (a b : Marks) (s t : Seats) (old new : NodeId) (o : Option NodeId) (xs : List NodeId) → Exchanged s t old new → a.seat_nodes ≡ s.nodes.items → a.seats ≡ s.seats.items → b.seat_nodes ≡ t.nodes.items → b.seats ≡ t.seats.items → b.next ≡ a.next →
+    IsFollowed a o xs → IsFollowed b (turned old new o) (map (exchange old new) xs)
+followed_swapped a b s t old new o [] x an sa bn bs nx h = ap (λ v. turned old new v) h
+followed_swapped a b s t old new o (y ∷ ys) x an sa bn bs nx h = (
+  ap (λ v. turned old new v) h.0,
+  subst (λ v. IsFollowed b v (map (exchange old new) ys)) (sym (next_swapped y)) (followed_swapped a b s t old new (next_of a y) ys x an sa bn bs nx h.1),
+)
+  where
+    next_swapped : (y : NodeId) → next_of b (exchange old new y) ≡ turned old new (next_of a y)
+    next_swapped y =
+        ap (λ l. placed_node l (entry b.next (seat_of b.seats (exchange old new y)).index)) bn
+        ∙ ap (λ l. placed_node t.nodes.items (entry b.next (seat_of l (exchange old new y)).index)) bs
+        ∙ ap (λ (v : NodeId). placed_node t.nodes.items (entry b.next v.index)) (seat_swapped s t old new y x)
+        ∙ ap (λ l. placed_node t.nodes.items (entry l (seat_of s.seats.items y).index)) nx
+        ∙ placed_swapped s t old new (entry a.next (seat_of s.seats.items y).index) x
+        ∙ ap (λ l. turned old new (placed_node l (entry a.next (seat_of s.seats.items y).index))) (sym an)
+        ∙ ap (λ l. turned old new (placed_node a.seat_nodes (entry a.next (seat_of l y).index))) (sym sa)
+
+-- the tables as two nodes exchange their times_child: a, after old and new were touched a2, b at the end
+pub record Putting (a a2 : Tables) (seats : Seats) (labels : Labels) (old new : NodeId) (l : Label) : Type 0 where
+  pub kept : AreKept a2
+  pub old_seen : IsSeen (stage a2.climber.stages.items old.index)
+  pub new_seen : IsSeen (stage a2.climber.stages.items new.index)
+  pub chains : a2.chains ≡ a.chains
+  pub labels_same : a2.labels ≡ a.labels
+  pub seats_same : a2.seats ≡ a.seats
+  pub inside : a2.inside ≡ a.inside
+  pub exchanged : Exchanged a2.seats seats old new
+  pub noted : Noted a2.labels labels new l
+
+put_marks : (a a2 : Tables) (seats : Seats) (labels : Labels) (old new : NodeId) (l : Label) → Putting a a2 seats labels old new l → IsPut (tables_marks a2) (tables_marks (record a2 { seats = seats; labels = labels })) old new l
+put_marks a a2 seats labels old new l p =
+    let b : Tables = record a2 { seats = seats; labels = labels } in
+    record {
+      labels = p.noted.labels;
+      nodes = ap (λ n. indices (take n labels.nodes.items)) p.noted.len ∙ ap (λ v. indices (take a2.labels.len v)) p.noted.nodes;
+      full = p.noted.full;
+      partial = p.noted.partial;
+      inside = refl;
+      chains = λ m xs h.
+          subst (λ o. IsFollowed (tables_marks b) o (map (exchange old new) xs)) (sym (placed_swapped a2.seats seats old new (entry a2.chains.first.items m) p.exchanged))
+          (followed_swapped (tables_marks a2) (tables_marks b) a2.seats seats old new (first_of (tables_marks a2) m) xs p.exchanged refl refl refl refl refl h);
+    }
+
+pub put_is : (a a2 : Tables) (seats : Seats) (labels : Labels) (old new : NodeId) (l : Label) → Putting a a2 seats labels old new l → IsPut (tables_marks a) (tables_marks (record a2 { seats = seats; labels = labels })) old new l
+put_is a a2 seats labels old new l p =
+    let e : tables_marks a2 ≡ tables_marks a = ap (λ (v : Chains). tables_marks (record a2 { chains = v })) p.chains ∙ ap (λ (v : Labels). tables_marks (record a2 { chains = a.chains; labels = v })) p.labels_same
+    ∙ ap (λ (v : Seats). tables_marks (record a2 { chains = a.chains; labels = a.labels; seats = v })) p.seats_same ∙ ap (λ v. tables_marks (record a2 { chains = a.chains; labels = a.labels; seats = a.seats; inside = v })) p.inside in
+    subst (λ v. IsPut v (tables_marks (record a2 { seats = seats; labels = labels })) old new l) e (put_marks a a2 seats labels old new l p)
+
+pub put_kept : (a a2 : Tables) (seats : Seats) (labels : Labels) (old new : NodeId) (l : Label) → Putting a a2 seats labels old new l → AreKept (record a2 { seats = seats; labels = labels })
+put_kept a a2 seats labels old new l p =
+    let k : KnownFrom a2 (length a2.climber.stages.items) 0 = p.kept.known in let z : AreSized a2 (length a2.climber.stages.items) = k.sized in
+    record {
+      known = record {
+        sized = record {
+          stages = refl;
+          queue = z.queue;
+          first = z.first;
+          next = z.next;
+          count = z.count;
+          labels = ap (λ (v : List Label). length v) p.noted.labels ∙ length-set a2.labels.labels.items new.index l ∙ z.labels;
+          full = ap (λ (v : List ℕ). length v) p.noted.full ∙ z.full;
+          partial = ap (λ (v : List ℕ). length v) p.noted.partial ∙ z.partial;
+          nodes = ap (λ (v : List NodeId). length v) p.noted.nodes ∙ z.nodes;
+          seat_nodes = nodes_length a2.seats seats old new p.exchanged.swapped ∙ z.seat_nodes;
+          seats = seats_length a2.seats seats old new p.exchanged.swapped ∙ z.seats;
+          few = z.few;
+        };
+        all = k.all;
+        inside = k.inside;
+        room = k.room;
+        blank = λ y u.
+            let b : IsBlankAt a2 y = k.blank y u in
+            let not_old : y ≢ old.index = (λ e. subst (λ v. IsSeen v) (subst (λ v. stage a2.climber.stages.items v ≡ Unseen) e u) p.old_seen) in
+            let not_new : y ≢ new.index = (λ e. subst (λ v. IsSeen v) (subst (λ v. stage a2.climber.stages.items v ≡ Unseen) e u) p.new_seen) in
+            record {
+              stage = u;
+              first = b.first;
+              next = b.next;
+              count = b.count;
+              label = ap (λ v. get_or v y Empty) p.noted.labels ∙ get_or-set_other a2.labels.labels.items new.index y l Empty not_new ∙ b.label;
+              full = ap (λ v. get_or v y 0) p.noted.full ∙ b.full;
+              partial = ap (λ v. get_or v y 0) p.noted.partial ∙ b.partial;
+              node = ap (λ v. entry v y) p.exchanged.swapped.nodes
+                  ∙ get_or-set_other (set a2.seats.nodes.items (seat_of a2.seats.seats.items old).index (Some new)) (seat_of a2.seats.seats.items new).index y (Some old) None (off y new b not_new)
+                  ∙ get_or-set_other a2.seats.nodes.items (seat_of a2.seats.seats.items old).index y (Some new) None (off y old b not_old) ∙ b.node;
+              seat = ap (λ v. entry v y) p.exchanged.swapped.seats
+                  ∙ get_or-set_other (set a2.seats.seats.items new.index (Some (seat_of a2.seats.seats.items old))) old.index y (Some (seat_of a2.seats.seats.items new)) None not_old
+                  ∙ get_or-set_other a2.seats.seats.items new.index y (Some (seat_of a2.seats.seats.items old)) None not_new ∙ b.seat;
+            };
+        order = k.order;
+        len = let e : labels.len ≡ a2.labels.len = p.noted.len in let l1 : a2.labels.len ≤ length a2.climber.stages.items = k.len in omega arith;
+      };
+      room = p.kept.room;
+      inverse = inverse_swapped a2.seats seats old new p.exchanged;
+    }
+  where
+    -- a place of which nothing is known is that of its own node
+    off : (y : ℕ) (x : NodeId) → IsBlankAt a2 y → y ≢ x.index → y ≢ (seat_of a2.seats.seats.items x).index
+    off y x b ne e =
+        let s : NodeId = seat_of a2.seats.seats.items x in
+        let own : node_at a2.seats.nodes.items s ≡ s = ap (λ o. unwrap_or o s) (subst (λ v. entry a2.seats.nodes.items v ≡ None) e b.node) in
+        ne (e ∙ ap (λ (v : NodeId). v.index) (sym own ∙ p.exchanged.inverse.there x))
+
+pub put_can : (t : Tables) (old new : NodeId) → AreKept t → IsSeen (stage t.climber.stages.items old.index) → IsSeen (stage t.climber.stages.items new.index) → CanSwap t.seats old new
+put_can t old new k so sn =
+    let z : AreSized t (length t.climber.stages.items) = k.known.sized in
+    let lo : old.index < length t.climber.stages.items = seen_in t.climber.stages.items old.index so in
+    let ln : new.index < length t.climber.stages.items = seen_in t.climber.stages.items new.index sn in
+    let s : length t.seats.seats.items ≡ length t.climber.stages.items = z.seats in
+    let io : old.index < length t.seats.seats.items = omega arith in
+    let in_new : new.index < length t.seats.seats.items = omega arith in
+    record { old_in = io; new_in = in_new; old_seat = k.inverse.inside old io; new_seat = k.inverse.inside new in_new }
+
+-- one label is written
+pub marked_kept : (a a2 : Tables) (labels : Labels) (n : NodeId) (l : Label) → TouchedAt a a2 n → Noted a2.labels labels n l → AreKept (record a2 { labels = labels })
+marked_kept a a2 labels n l t p =
+    let k : KnownFrom a2 (length a2.climber.stages.items) 0 = t.kept.known in let z : AreSized a2 (length a2.climber.stages.items) = k.sized in
+    record {
+      known = record {
+        sized = record {
+          stages = refl;
+          queue = z.queue;
+          first = z.first;
+          next = z.next;
+          count = z.count;
+          labels = ap (λ (v : List Label). length v) p.labels ∙ length-set a2.labels.labels.items n.index l ∙ z.labels;
+          full = ap (λ (v : List ℕ). length v) p.full ∙ z.full;
+          partial = ap (λ (v : List ℕ). length v) p.partial ∙ z.partial;
+          nodes = ap (λ (v : List NodeId). length v) p.nodes ∙ z.nodes;
+          seat_nodes = z.seat_nodes;
+          seats = z.seats;
+          few = z.few;
+        };
+        all = k.all;
+        inside = k.inside;
+        room = k.room;
+        blank = λ y u.
+            let b : IsBlankAt a2 y = k.blank y u in
+            let not_new : y ≢ n.index = (λ e. subst (λ v. IsSeen v) (subst (λ v. stage a2.climber.stages.items v ≡ Unseen) e u) t.seen) in
+            record {
+              stage = u;
+              first = b.first;
+              next = b.next;
+              count = b.count;
+              label = ap (λ v. get_or v y Empty) p.labels ∙ get_or-set_other a2.labels.labels.items n.index y l Empty not_new ∙ b.label;
+              full = ap (λ v. get_or v y 0) p.full ∙ b.full;
+              partial = ap (λ v. get_or v y 0) p.partial ∙ b.partial;
+              node = b.node;
+              seat = b.seat;
+            };
+        order = k.order;
+        len = let e : labels.len ≡ a2.labels.len = p.len in let l1 : a2.labels.len ≤ length a2.climber.stages.items = k.len in omega arith;
+      };
+      room = t.kept.room;
+      inverse = t.kept.inverse;
+    }
+
+pub marked_is : (a a2 : Tables) (labels : Labels) (n : NodeId) (l : Label) → TouchedAt a a2 n → Noted a2.labels labels n l →
+    tables_marks (record a2 { labels = labels }) ≡ record (tables_marks a) { labels = set a.labels.labels.items n.index l }
+marked_is a a2 labels n l t p =
+    let one : tables_marks (record a2 { labels = labels }) ≡ record (tables_marks a2) { labels = set a2.labels.labels.items n.index l } =
+    ap (λ v. let m : Marks = record (tables_marks a2) { labels = v; nodes = indices (take labels.len labels.nodes.items); full = labels.full.items; partial = labels.partial.items } in m) p.labels
+    ∙ ap (λ v. let m : Marks = record (tables_marks a2) { labels = set a2.labels.labels.items n.index l; nodes = v; full = labels.full.items; partial = labels.partial.items } in m)
+    (ap (λ k. indices (take k labels.nodes.items)) p.len ∙ ap (λ v. indices (take a2.labels.len v)) p.nodes)
+    ∙ ap (λ v. let m : Marks = record (tables_marks a2) { labels = set a2.labels.labels.items n.index l; full = v; partial = labels.partial.items } in m) p.full
+    ∙ ap (λ v. let m : Marks = record (tables_marks a2) { labels = set a2.labels.labels.items n.index l; partial = v } in m) p.partial in
+    one ∙ ap (λ (v : Chains). marked (record a2 { chains = v })) t.chains ∙ ap (λ (v : Labels). marked (record a2 { chains = a.chains; labels = v })) t.labels
+    ∙ ap (λ (v : Seats). marked (record a2 { chains = a.chains; labels = a.labels; seats = v })) t.seats ∙ ap (λ v. marked (record a2 { chains = a.chains; labels = a.labels; seats = a.seats; inside = v })) t.inside
+  where
+    marked : Tables → Marks
+    marked u = record (tables_marks u) { labels = set u.labels.labels.items n.index l }

@@ -1,0 +1,11 @@
+pub mod Climb
+pub mod Moves
+pub mod Found
+pub mod Fair
+pub mod Ends
+pub mod Chains
+pub mod Roots
+pub mod Sweep
+pub mod Tables
+pub mod Marks
+pub mod Pass

@@ -1,0 +1,16 @@
+//! The bubble pass of Booth and Lueker (1976): from the leaves of a row up to the smallest node of a PQ-tree that holds it.
+#![tactic(auto)]
+
+mod chains;
+mod climber;
+mod labels;
+mod pass;
+mod tables;
+#[cfg(test)]
+mod tests;
+mod work;
+
+pub use labels::Label;
+pub use pass::bubble;
+pub use tables::Found;
+pub use work::{Counts, Work};

@@ -1,0 +1,66 @@
+-- What is above a node, up to a top.
+use Rattle.std.proofs.Common.{◌≡◌, ◌≢◌, ◌⊎◌, inl, inr, ℕ, zero, suc, ◌+◌, ◌≤◌, ◌<◌, List, [], ◌∷◌, length, Some, not, nat_eq, leb, IsTrue, refl, sym, ap, subst, ◌∙◌, arith}
+use Rattle.std.proofs.lemmas.Bool.{cases_eq, cases_lt}
+use Rattle.column_order.specs.Orders.{occurs}
+use Rattle.arena_model.specs.declared.Shape.TheVariants.{P, Q}
+use Rattle.arena_model.specs.ChildLists.{head_or, last_or, none}
+use Rattle.arena_model.specs.Layout.{Layout, shape_at, children_at, times_child, IsAtOrAbove, here, down, IsInUse, StandsAlone, MayHaveChildren, IsLayout}
+use Rattle.arena_model.specs.NamedTree.{IsOneTree}
+use Rattle.arena_model.proofs.Lists.{occurs_other, occurs_same, few_once}
+use Rattle.arena_model.proofs.Slots.{in_range, placed_in}
+use Rattle.arena_model.proofs.Trees.{no_circle}
+
+-- a node in use that is no child, at or above x
+pub record TopOver (f : Layout) (x : ℕ) : Type 0 where
+  pub node : ℕ
+  pub used : IsInUse f node
+  pub top : times_child f.slots node ≡ 0
+  pub above : IsAtOrAbove f.slots node x
+
+parent_used : (f : Layout) (m x : ℕ) → IsLayout f → 1 ≤ occurs (children_at f m) x → IsInUse f m
+parent_used f m x h o = λ e. let z : 1 ≤ occurs [] x = subst (λ ks. 1 ≤ occurs ks x) (subst (λ s. MayHaveChildren s (children_at f m)) e (h.children_fit m)) o in absurd (omega arith)
+
+-- from x upwards, xs being the nodes on the way
+upwards : (f : Layout) (fuel x y : ℕ) (xs : List ℕ) → IsLayout f → ((z : ℕ) → occurs (x ∷ xs) z ≤ 1) → ((z : ℕ) → 1 ≤ occurs (x ∷ xs) z → IsInUse f z × IsAtOrAbove f.slots x z) →
+    1 ≤ occurs (x ∷ xs) y → length f.slots ≤ length xs + fuel → TopOver f y
+upwards f zero x y xs h once each oy enough =
+    absurd (let few : length (x ∷ xs) ≤ length f.slots = few_once (x ∷ xs) (length f.slots) once (λ z o. in_range f z (each z o).0) in omega arith)
+upwards f (suc fuel) x y xs h once each oy enough = elim (cases_lt 0 (times_child f.slots x)) [
+  | inr l ↦ record { node = x; used = (each x (omega (arith, occurs_same x xs))).0; top = omega arith; above = (each y oy).1 }
+  | inl l ↦
+      let m = placed_in f.slots x l in
+      let new : occurs (x ∷ xs) m.0 ≡ 0 = (elim (cases_lt 0 (occurs (x ∷ xs) m.0)) [
+        | inl o ↦ absurd (no_circle f.slots m.0 x (h.grounds m.0) m.1 (each m.0 o).1)
+        | inr o ↦ omega arith
+      ]) in
+      upwards f fuel m.0 y (x ∷ xs) h
+      (λ z. elim (cases_eq z m.0) [
+        | inl e ↦ subst (λ v. occurs (m.0 ∷ x ∷ xs) v ≤ 1) (sym e) (omega (arith, occurs_same m.0 (x ∷ xs)))
+        | inr ne ↦ let o : occurs (x ∷ xs) z ≤ 1 = once z in omega (arith, occurs_other m.0 z (x ∷ xs) ne)
+      ])
+      (λ z o. elim (cases_eq z m.0) [
+        | inl e ↦ (subst (λ v. IsInUse f v) (sym e) (parent_used f m.0 x h m.1), subst (λ v. IsAtOrAbove f.slots m.0 v) (sym e) (here m.0))
+        | inr ne ↦ let p = each z (subst (λ v. 1 ≤ v) (occurs_other m.0 z (x ∷ xs) ne) o) in (p.0, down m.0 x z m.1 p.1)
+      ])
+      (let k : 1 ≤ occurs (x ∷ xs) y = oy in omega arith) (omega arith)
+]
+
+pub top_over : (f : Layout) (x : ℕ) → IsLayout f → IsInUse f x → TopOver f x
+top_over f x h used = upwards f (length f.slots) x x [] h (λ z. elim (cases_eq z x) [
+  | inl e ↦ subst (λ v. occurs (x ∷ []) v ≤ 1) (sym e) (omega (arith, occurs_same x []))
+  | inr ne ↦ omega (arith, occurs_other x z [] ne)
+])
+    (λ z o. elim (cases_eq z x) [
+      | inl e ↦ (subst (λ v. IsInUse f v) (sym e) used, subst (λ v. IsAtOrAbove f.slots x v) (sym e) (here x))
+      | inr ne ↦ absurd (let q : occurs (x ∷ []) z ≡ 0 = occurs_other x z [] ne in omega arith)
+    ])
+    (omega (arith, occurs_same x [])) (omega arith)
+
+-- where no node stands alone, all are at or below the root
+pub none_alone : (f : Layout) → IsLayout f → ((k : ℕ) → k < length f.slots → StandsAlone f k → ⊥) → IsOneTree f
+none_alone f h no_one = λ n used.
+    let t : TopOver f n = top_over f n h used in
+    elim (cases_eq t.node f.root) [
+      | inl e ↦ subst (λ v. IsAtOrAbove f.slots v n) e t.above
+      | inr ne ↦ absurd (no_one t.node (in_range f t.node t.used) (record { used = t.used; apart = t.top; other = ne }))
+    ]

@@ -1,0 +1,5 @@
+pub mod Wiring
+pub mod StandsFor
+pub mod Looks
+pub mod View
+pub mod Start

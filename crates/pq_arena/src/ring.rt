@@ -1,0 +1,90 @@
+// The ring of the children of a P-node.
+ghost use Rattle.std.specs.Prelude.{◌≡◌, ℕ, ◌+◌, ◌-◌, ◌<◌, ◌≤◌, ◌≢◌, length, set, Some, None, cond, eqb, ◌∷◌, [], ◌++◌, List, OnOk};
+ghost use Rattle.arena_model.specs.ChildLists.{without, oriented, with_replaced, head_or, last_or, none};
+ghost use Rattle.arena_model.specs.Layout.{shape_at, children_at, with_children, IsChildOfP, StandsAlone, IsAtOrAbove, taken, given_back, IsLeaf, IsInUse, IsLayout, IsSpliceAt, spliced};
+ghost use Rattle.column_order.specs.Orders.{occurs};
+ghost use Rattle.pq_arena.specs.Looks.{ShowsNode, node_named, index_or_none};
+ghost use Rattle.pq_arena.specs.StandsFor.{other_side};
+ghost use Rattle.pq_arena.specs.Wiring.{links, heads, link, head, with_near0, with_near1, unringed, fewer, ringed, more, RingBounds, CanEnter, redirected, relinked_if, joined, spliced_links, spliced_heads, IsNone, CanSplice, fore, aft, swapped, heads_swapped, CanSwap};
+ghost use Rattle.arena_model.specs.declared.Shape.{Shape};
+ghost use Rattle.arena_model.specs.declared.Shape.TheVariants.{P, Q, Leaf};
+
+use crate::node::*;
+
+// Takes `n` out of the ring that it stands in.
+pub fn leave_ring(nodes: &mut Vec<Node>, n: u32)
+    requires { RingBounds (links nodes.old.items) (heads nodes.old.items) n }
+    ensures links { links nodes.new.items ≡ unringed (links nodes.old.items) n }
+    ensures heads { heads nodes.new.items ≡ fewer (heads nodes.old.items) (link (links nodes.old.items) n) n }
+{
+    let link = link_at(nodes, n);
+    let head = head_at(nodes, link.parent);
+    set_near0(nodes, link.near1, link.near0);
+    set_near1(nodes, link.near0, link.near1);
+    set_link(nodes, n, NO_LINK);
+    let first = first_left(head, link, n);
+    set_head(
+        nodes,
+        link.parent,
+        Head {
+            first,
+            count: head.count - 1,
+            ..head
+        },
+    );
+}
+
+// The first child after `n` has left.
+pub fn first_left(head: Head, link: Link, n: u32) -> u32
+    ensures { result ≡ cond (eqb head.count 1) none (cond (eqb head.first n) link.near0 head.first) }
+{
+    if head.count == 1 {
+        NONE
+    } else if head.first == n {
+        link.near0
+    } else {
+        head.first
+    }
+}
+
+// Puts `n` in front of the children of the P-node `p`.
+pub fn enter_ring(nodes: &mut Vec<Node>, p: u32, n: u32)
+    requires { CanEnter (links nodes.old.items) (heads nodes.old.items) p n }
+    ensures links { links nodes.new.items ≡ ringed (links nodes.old.items) (head (heads nodes.old.items) p) p n }
+    ensures heads { heads nodes.new.items ≡ more (heads nodes.old.items) p n }
+{
+    let head = head_at(nodes, p);
+    if head.count == 0 {
+        set_link(
+            nodes,
+            n,
+            Link {
+                parent: p,
+                near0: n,
+                near1: n,
+            },
+        );
+    } else {
+        let back = link_at(nodes, head.first).near1;
+        set_near0(nodes, back, n);
+        set_near1(nodes, head.first, n);
+        set_link(
+            nodes,
+            n,
+            Link {
+                parent: p,
+                near0: head.first,
+                near1: back,
+            },
+        );
+    }
+    set_head(
+        nodes,
+        p,
+        Head {
+            first: n,
+            count: head.count + 1,
+            ..head
+        },
+    );
+}
