@@ -1,0 +1,114 @@
+#!/usr/bin/env python3
+"""Reads the sources for what the gate of proofs does not ask, and fails where one of these rules is broken.
+
+Usage: scripts/walls.py
+
+1. A crate's proofs are its own: no crate cites the proofs of another crate of this repository, but of those at the bottom, whose
+   definitions everything shares. What a crate above needs of any other crate is a public law of it.
+2. Work is counted where it is done: outside tests no code but that of the step counter and of the top call makes a counter of its own.
+3. Every function of the end-to-end checks, the benches and the scripts is called: a check that does not run is none.
+
+Each line that breaks a rule is printed. The last line is `N passed, N failed`; the status is 0 where nothing failed.
+"""
+
+import ast
+import os
+import re
+import sys
+
+HOME = os.path.dirname(os.path.dirname(os.path.abspath(__file__)))
+# The crates whose definitions everything shares; docs/DECISIONS.md says why they offer their lemmas too.
+SHARED_PROOFS = {"column_order", "plain_text", "row_model", "pq_tree", "tied_law", "arena_model"}
+COUNTERS = {"step_count", "pq_cli"}
+PYTHON = ["end_to_end", "bench", "scripts"]
+
+CITED = re.compile(r"Rattle\.([a-z0-9_]+)\.proofs\b|\b([a-z0-9_]+)::proofs::")
+COUNTER = re.compile(r"\b(Blank|Brand)\b")
+
+
+def crates():
+    """The crates of the repository."""
+    with open(os.path.join(HOME, "crates.txt"), encoding="utf-8") as stream:
+        found = [line.split("#")[0].partition(":")[0].split() for line in stream]
+    return [words[0] for words in found if words]
+
+
+def files(folder, *endings):
+    """The files below a folder with one of these endings, but for what the toolchain makes."""
+    for place, folders, names in os.walk(os.path.join(HOME, folder)):
+        folders[:] = sorted(name for name in folders if name not in ("out", "__pycache__"))
+        for name in sorted(names):
+            if name.endswith(endings):
+                yield os.path.join(place, name)
+
+
+def numbered(path):
+    """The lines of a file, with where each stands."""
+    with open(path, encoding="utf-8") as stream:
+        for number, line in enumerate(stream, 1):
+            yield f"{os.path.relpath(path, HOME)}:{number}", line
+
+
+def foreign_proofs(names):
+    """Where a crate cites the proofs of another that are not shared."""
+    for crate in names:
+        for path in files(os.path.join("crates", crate), ".rt", ".antt"):
+            for place, line in numbered(path):
+                for match in CITED.finditer(line):
+                    cited = match[1] or match[2]
+                    if cited in names and cited != crate and cited not in SHARED_PROOFS:
+                        yield f"{place}: cites the proofs of {cited}"
+
+
+def outside_tests(path):
+    """The lines of a source that are no part of its tests, with where each stands. An item for tests ends where its line or its braces end."""
+    is_next, depth = False, 0
+    for place, line in numbered(path):
+        if line.startswith("#[cfg(test)]"):
+            is_next = True
+        elif is_next or depth:
+            is_next = False
+            depth += line.count("{") - line.count("}")
+        else:
+            yield place, line
+
+
+def own_counters(names):
+    """Where code outside tests makes a step counter of its own."""
+    for crate in names:
+        if crate in COUNTERS:
+            continue
+        for path in files(os.path.join("crates", crate, "src"), ".rt"):
+            if os.path.basename(path) == "tests.rt" or "tests" in os.path.dirname(path).split(os.sep):
+                continue
+            for place, line in outside_tests(path):
+                if COUNTER.search(line.split("//")[0]):
+                    yield f"{place}: makes a step counter: {line.strip()}"
+
+
+def idle_functions():
+    """The functions of the scripts that nothing calls or hands on."""
+    trees = {path: ast.parse(open(path, encoding="utf-8").read()) for folder in PYTHON for path in files(folder, ".py")}
+    used = {node.id if isinstance(node, ast.Name) else node.attr
+            for tree in trees.values() for node in ast.walk(tree) if isinstance(node, (ast.Name, ast.Attribute))}
+    for path, tree in trees.items():
+        for node in ast.walk(tree):
+            if isinstance(node, ast.FunctionDef) and node.name not in used and not node.name.startswith("__"):
+                yield f"{os.path.relpath(path, HOME)}:{node.lineno}: nothing calls {node.name}"
+
+
+def main():
+    names = crates()
+    failed = 0
+    rules = [foreign_proofs(names), own_counters(names), idle_functions()]
+    for broken in rules:
+        found = list(broken)
+        failed += bool(found)
+        for line in found:
+            print(f"FAILED {line}")
+    print(f"{len(rules) - failed} passed, {failed} failed")
+    return 1 if failed else 0
+
+
+if __name__ == "__main__":
+    sys.exit(main())
