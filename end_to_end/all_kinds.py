@@ -1,10 +1,11 @@
 #!/usr/bin/env python3
 """Compares `solve` with the definitions of the kinds on every small instance, by trying all orders.
 
-Usage: end_to_end/all_kinds.py     after `rt ci` or `./pq`, which leave the program in crates/pq/out/pq
+Usage: end_to_end/all_kinds.py [COLUMNS]     after `rt ci` or `./pq`, which leave the program in crates/pq/out/pq
 
-The instances are every matrix of at most 4 columns and 3 rows for `circular`, every bipartite graph of at most 3 and 4 vertices for `convex`
-and `doubly`, every graph of at most 5 vertices for `proper`, and every table of at most 4 items with distances 0 to 2 for `robinson`. On yes
+The instances are every matrix of at most COLUMNS columns (default 4; 5 takes some minutes) and 4 rows for `matrix`, every matrix of at most 4
+columns and 3 rows for `circular`, every bipartite graph of at most 3 and 4 vertices for `convex` and `doubly`, every graph of at most 5
+vertices for `proper`, and every table of at most 4 items with distances 0 to 2 for `robinson`. The rows of a matrix are taken as a set. On yes
 the frontiers of each printed tree are exactly the textbook orders of its side, of circular ones up to rotation; on no the printed side is the
 least that has none, and the cycle is an odd cycle of its derived rows. What is written is then found valid by `check`.
 The last line is `N passed, N failed`.
@@ -13,12 +14,15 @@ The last line is `N passed, N failed`.
 import concurrent.futures
 import itertools
 import os
-import subprocess
 import sys
-import tempfile
 
 import definitions
-from all_orders import PROGRAM, cycle_problem, dense, frontiers, leaves, parsed
+from cycles import cycle_problem
+from program import HEADER, run, run_over
+from trees import lines_problem
+
+MOST_COLUMNS = 4
+MOST_ROWS = 4
 
 
 class Instance:
@@ -35,20 +39,6 @@ class Instance:
         return " ".join(str(side.columns) for side in self.sides)
 
 
-def least(tree):
-    """The least column of a tree."""
-    return min(leaves(tree))
-
-
-def is_canonical(tree):
-    """Whether the children of P-nodes rise by their least columns, and Q-nodes begin with the lower end."""
-    if isinstance(tree, int):
-        return True
-    bracket, children = tree
-    mins = [least(child) for child in children]
-    return all(map(is_canonical, children)) and (mins == sorted(mins) if bracket == "(" else mins[0] < mins[-1])
-
-
 def turned(order):
     """The rotation that begins with column 1."""
     at = order.index(1)
@@ -57,17 +47,14 @@ def turned(order):
 
 def side_problem(kind, side, tree_line, order_line):
     """What is wrong with the tree and the order of a side, or None."""
-    tree = parsed(tree_line.removeprefix("tree "))
-    found = frontiers(tree)
-    if not is_canonical(tree):
-        return f"{tree_line} is not canonical"
-    if order_line != "order " + " ".join(map(str, leaves(tree))):
-        return f"{order_line} of {tree_line}"
-    if kind == "circular":
-        right = found <= side.textbook and side.textbook == {order for order in definitions.orders(side.columns) if turned(order) in found}
-    else:
-        right = found == side.textbook
-    return None if right else f"{tree_line}, textbook orders {sorted(side.textbook)}"
+
+    def stands_for_all(found):
+        if kind != "circular":
+            return found == side.textbook
+        return found <= side.textbook and side.textbook == {order for order in definitions.orders(side.columns) if turned(order) in found}
+
+    problem = lines_problem(tree_line, order_line, stands_for_all)
+    return problem and f"{problem}: {sorted(side.textbook)}"
 
 
 def yes_problem(instance, status, body):
@@ -86,7 +73,7 @@ def yes_problem(instance, status, body):
 def answer_problem(instance, status, text):
     """What is wrong with what `solve` wrote, or None."""
     lines = text.split("\n")
-    if lines[:3] != ["pq-verdict 1", f"kind {instance.kind}", f"columns {instance.columns()}"] or lines[-2:] != ["end", ""]:
+    if lines[:3] != [HEADER, f"kind {instance.kind}", f"columns {instance.columns()}"] or lines[-2:] != ["end", ""]:
         return f"head or end of {lines}"
     body = lines[4:-2]
     if lines[3] == "answer yes":
@@ -102,18 +89,17 @@ def answer_problem(instance, status, text):
 
 def problem(instance):
     """What is wrong with the program's answer on an instance, or with its check of it, or None."""
-    with tempfile.TemporaryDirectory() as folder:
-        file, verdict = os.path.join(folder, "instance"), os.path.join(folder, "verdict")
-        with open(file, "wb") as stream:
-            stream.write(instance.content)
-        solved = subprocess.run([PROGRAM, "solve", instance.kind, file], capture_output=True, check=False)
-        found = answer_problem(instance, solved.returncode, solved.stdout.decode())
-        if found:
-            return found
-        with open(verdict, "wb") as stream:
-            stream.write(solved.stdout)
-        checked = subprocess.run([PROGRAM, "check", instance.kind, file, verdict], capture_output=True, check=False)
-        return None if (checked.returncode, checked.stdout) == (0, b"valid\n") else f"check: {checked.stdout}"
+    solved = run(["solve", instance.kind, "-"], instance.content)
+    found = answer_problem(instance, solved.returncode, solved.stdout.decode())
+    if found:
+        return found
+    checked = run_over(["check", instance.kind], instance.content, solved.stdout)
+    return None if (checked.returncode, checked.stdout) == (0, b"valid\n") else f"check: {checked.stdout}"
+
+
+def dense(columns, rows):
+    """The file of a matrix."""
+    return "".join("".join("1" if column in row else "0" for column in range(1, columns + 1)) + "\n" for row in rows).encode()
 
 
 def subsets(items, most=None):
@@ -128,12 +114,28 @@ def edge_file(head, edges):
     return "".join(f"{line}\n" for line in [head, *(f"{u} {v}" for u, v in edges)]).encode()
 
 
+def row_sets(columns, most):
+    """Every set of one row, or of more up to so many, over the columns."""
+    return (rows for rows in subsets(map(frozenset, subsets(range(1, columns + 1))), most) if rows)
+
+
+def matrix_instance(columns, rows):
+    """A matrix."""
+    return Instance("matrix", dense(columns, rows), definitions.matrix(columns, rows))
+
+
+def matrix_instances(most_columns):
+    """Every set of one to four rows over at most so many columns."""
+    for columns in range(1, most_columns + 1):
+        for rows in row_sets(columns, MOST_ROWS):
+            yield matrix_instance(columns, rows)
+
+
 def circular_instances():
     """Every set of one to three rows over at most four columns."""
     for columns in range(1, 5):
-        for rows in subsets(map(frozenset, subsets(range(1, columns + 1))), 3):
-            if rows:
-                yield Instance("circular", dense(columns, rows).encode(), definitions.circular(columns, rows))
+        for rows in row_sets(columns, 3):
+            yield Instance("circular", dense(columns, rows), definitions.circular(columns, rows))
 
 
 def bipartite_instances():
@@ -175,21 +177,21 @@ def table_instances():
             yield Instance("robinson", content, definitions.robinson(items, table))
 
 
-def instances():
-    """All small instances of the kinds that are not matrices."""
-    return itertools.chain(circular_instances(), bipartite_instances(), graph_instances(), table_instances())
+def instances(most_columns):
+    """All small instances."""
+    return itertools.chain(matrix_instances(most_columns), circular_instances(), bipartite_instances(), graph_instances(), table_instances())
 
 
-def tried():
-    """Each small instance with what is wrong with its answer, or None."""
+def tried(some):
+    """Each instance with what is wrong with its answer, or None."""
+    some = list(some)
     with concurrent.futures.ThreadPoolExecutor(os.cpu_count()) as pool:
-        some = list(instances())
         return zip(some, pool.map(problem, some))
 
 
 def main():
     passed = failed = 0
-    for instance, found in tried():
+    for instance, found in tried(instances(int(sys.argv[1]) if len(sys.argv) > 1 else MOST_COLUMNS)):
         if found is None:
             passed += 1
         else:

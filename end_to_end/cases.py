@@ -4,7 +4,7 @@ Every wanted text was written by hand from the rules of the formats (docs/FORMAT
 """
 
 LIMIT = 16_777_216
-VERDICT_LIMIT = 33_554_432
+VERDICT_LIMIT = 134_217_728
 
 # Two rows that overlap, and three of which each two overlap.
 CHAIN = b"110\n011\n"
@@ -103,11 +103,13 @@ ANSWERS = [
     answers("a lone CR at the end", b"110\n011\r", 0, yes(3, "[1 2 3]", "1 2 3")),
     answers("a byte order mark", b"\xef\xbb\xbf110\n011\n", 0, yes(3, "[1 2 3]", "1 2 3")),
     answers("blank lines", b"\n\n110\n \t\n011\n\n", 0, yes(3, "[1 2 3]", "1 2 3")),
-    answers("1,024 columns", b"0" * 1024 + b"\n", 0, yes(1024, f"({count(1024)})", count(1024))),
-    answers("a tree nested 1,023 deep", nested_rows(1024), 0, yes(1024, nested_tree(1024), count(1024))),
-    answers("65,536 rows", b"1\n" * 65_536, 0, yes(1, "1", "1")),
+    answers("2,048 columns", b"0" * 2048 + b"\n", 0, yes(2048, f"({count(2048)})", count(2048))),
+    answers("a tree nested 2,047 deep", nested_rows(2048), 0, yes(2048, nested_tree(2048), count(2048))),
+    answers("131,072 rows", b"1\n" * 131_072, 0, yes(1, "1", "1")),
     answers("a file of the greatest length", b"1\n" + b" " * (LIMIT - 2), 0, yes(1, "1", "1")),
     case("standard input", ["solve", "matrix", "-"], 0, yes(3, "[2 1 3]", "2 1 3"), input=b"101\n110\n"),
+    *(case(f"a file named {name!r}", ["solve", "matrix", name], 0, yes(2, "(1 2)", "1 2"), files={name: b"11\n"}, input=b"1\n")
+      for name in ["-x", "--", "--help", " f", "f ", "\tf", "f\n", "a\nb", "- ", " -", "./-", "*", "f.txt\r"]),
     case("a name with blanks and other letters", ["solve", "matrix", "r\u00e4nge 1.txt"], 0, yes(2, "(1 2)", "1 2"),
          files={"r\u00e4nge 1.txt": b"11\n"}),
 ]
@@ -126,16 +128,18 @@ REFUSED = [
     refused("a row of another length before a byte outside the grammar", b"11\n1\n1x\n", 3, 2),
     refused("a byte outside the grammar in a row of another length", b"11\n1x1\n", 2, 2),
     refused("a zero byte", b"1\x001\n", 2, 1),
-    refused("1,025 digits", b"0" * 1025 + b"\n", 7, 1),
-    refused("1,025 digits and a byte outside the grammar", b"0" * 1025 + b"x\n", 2, 1),
-    refused("the 65,537th row", b"1\n" * 65_537, 7, 65_537),
-    refused("the 65,537th row is also malformed", b"1\n" * 65_536 + b"\nx\n", 7, 65_538),
+    refused("2,049 digits", b"0" * 2049 + b"\n", 7, 1),
+    refused("2,049 digits and a byte outside the grammar", b"0" * 2049 + b"x\n", 2, 1),
+    refused("the 131,073rd row", b"1\n" * 131_073, 7, 131_073),
+    refused("the 131,073rd row is also malformed", b"1\n" * 131_072 + b"\nx\n", 7, 131_074),
     refused("a file one byte past the limit", b"1\n" + b" " * (LIMIT - 1), 7, 0),
     refused("a file past the limit is judged by its length first", b"x" * (LIMIT + 1), 7, 0),
 ]
 
 FILES = [
     case("a missing file", ["solve", "matrix", "file"], 4, err=b"pq: read fault\n"),
+    *(case(f"no file named {name!r}, but one of a name beside it", ["solve", "matrix", name], 4, err=b"pq: read fault\n",
+           files={"f": b"11\n"}, input=b"11\n") for name in [" f", "f ", "f\n", "--", "-f", " -", "- "]),
     case("an empty name", ["solve", "matrix", ""], 4, err=b"pq: read fault\n"),
     case("a directory", ["solve", "matrix", "folder"], 4, err=b"pq: read fault\n", folders=["folder"]),
     case("a file without leave to read", ["solve", "matrix", "file"], 4, err=b"pq: read fault\n",
@@ -172,7 +176,7 @@ FORGED = [
     claims("no order", "yes / tree [1 2 3]", "invalid text", CHAIN),
     claims("a number past 32 bits", "yes / tree [1 2 3] / order 4294967296 2 3", "invalid text", CHAIN),
     claims("no columns", "yes / tree [1 2 3] / order 1 2 3", "invalid text", CHAIN, columns="0"),
-    claims("1,025 columns", "yes / tree [1 2 3] / order 1 2 3", "invalid text", CHAIN, columns="1025"),
+    claims("2,049 columns", "yes / tree [1 2 3] / order 1 2 3", "invalid text", CHAIN, columns="2049"),
     claims("side 2 of a matrix", "no / side 2 / cycle 0", "invalid text"),
     claims("fewer lines than are counted", "no / side 1 / cycle 3 / 1 3 row 1 / 3 2 row 3", "invalid text"),
     claims("another kind", "yes / tree [1 2 3] / order 1 2 3", "invalid kind", CHAIN, kind="rows"),

@@ -1,12 +1,14 @@
 #!/usr/bin/env python3
-"""Runs the built program over real files, streams and devices, and compares bytes and status; has it check what it solved; then
-runs it over every small matrix, bipartite graph, graph and table of distances, compares the answer with a plain program that tries all
-orders, and checks the verdict.
+"""Runs the built program over real files, streams and devices, and compares bytes and status; has it check what it solved, also at the
+limits; runs the commands of the pages; compares the answer on every small instance with a plain program that tries all orders, and has
+the verdict checked; compares the judgement on changed verdicts and the refusals of changed files with a second checker; and compares
+generated matrices and sessions with plain programs of their rules.
 
 Usage: end_to_end/check.py            after `rt ci` or `./pq`, which leave the program in crates/pq/out/pq
 The last line is `N passed, N failed`; the status is 0 where nothing failed.
 """
 
+import concurrent.futures
 import os
 import shutil
 import subprocess
@@ -14,18 +16,17 @@ import sys
 import tempfile
 
 import all_kinds
-from all_orders import dense, matrices, problem as wrong_answer
+import forgeries
 from cases import CASES, REFUTED
+from file_readers import Limits
 from graph_kinds import GRAPH_CASES, GRAPH_SOLVED
 from kinds import KIND_CASES, SOLVED
+from limits import AT_LIMITS
 from pages import loose_commands, page_problems, pages
+from program import HOME, PROGRAM, SECONDS, run, run_over
 from sessions import SESSION_CASES, drawn, extend_problem, gen_problem, sessions
 
-HOME = os.path.dirname(os.path.dirname(os.path.abspath(__file__)))
-PROGRAM = os.path.join(HOME, "crates", "pq", "out", "pq")
 NOBODY = 65534
-SECONDS = 60
-MOST_COLUMNS = 4
 
 
 class Report:
@@ -119,14 +120,25 @@ def script_runs(folder, program):
             or difference("errors", b"pq: read fault\n", refused.stderr))
 
 
-def not_believed(kind, content, folder, program):
+def odd_path(folder, program):
+    """A program whose own path is no UTF-8, and one that is called through a link: only the words after the name count."""
+    place = os.path.join(os.fsencode(folder), b"\xff")
+    os.mkdir(place)
+    copied = shutil.copy(program, os.path.join(place, b"p\xfeq"))
+    linked = os.path.join(place, b"-q")
+    os.symlink(copied, linked)
+    for path in [copied, linked]:
+        done = subprocess.run([path, "solve", "matrix", "-"], input=b"1\n", capture_output=True, timeout=SECONDS, check=False)
+        problem = difference("status", 0, done.returncode) or difference("errors", b"", done.stderr)
+        if problem:
+            return problem
+    return None
+
+
+def not_believed(kind, content):
     """Whether `check` finds what `solve` wrote on a file other than valid, and how; None where it is valid."""
-    instance, verdict = os.path.join(folder, "instance"), os.path.join(folder, "verdict")
-    with open(instance, "wb") as file:
-        file.write(content)
-    with open(verdict, "wb") as file:
-        solved = subprocess.run([program, "solve", kind, instance], stdout=file, timeout=SECONDS, check=False)
-    done = subprocess.run([program, "check", kind, instance, verdict], capture_output=True, timeout=SECONDS, check=False)
+    solved = run(["solve", kind, "-"], content)
+    done = run_over(["check", kind], content, solved.stdout)
     return (difference("status of solve", True, solved.returncode in (0, 1))
             or difference("status", 0, done.returncode) or difference("output", b"valid\n", done.stdout))
 
@@ -142,7 +154,54 @@ def example(name):
         return file.read()
 
 
-STREAMS = [full_device, closed_pipe, closed_errors, script_runs]
+STREAMS = [full_device, closed_pipe, closed_errors, script_runs, odd_path]
+
+
+def in_folders(report, top, program):
+    """The cases and the streams, each in a folder of its own."""
+    tried = [(case["name"], run_case, case) for case in CASES + KIND_CASES + GRAPH_CASES + SESSION_CASES]
+    tried += [(stream.__name__, lambda _, *given, stream=stream: stream(*given), None) for stream in STREAMS]
+    for number, (name, check, case) in enumerate(tried):
+        folder = os.path.join(top, str(number))
+        os.mkdir(folder)
+        try:
+            problem = check(case, folder, program)
+        except subprocess.TimeoutExpired:
+            problem = f"no end within {SECONDS} seconds"
+        report.tell(name, problem)
+        shutil.rmtree(folder)
+
+
+def on_pages(report, top, program):
+    """The commands of the pages, each page in a folder of its own."""
+    for page in pages():
+        folder = os.path.join(top, page.replace(os.sep, "_"))
+        os.mkdir(folder)
+        for command, problem in page_problems(page, folder, program):
+            report.tell(f"{page}: {command}", problem)
+        report.tell(f"{page}: commands that are not run", difference("lines", [], loose_commands(page)))
+
+
+def side_by_side(report, tried):
+    """Checks that need no folder of their own: each with its name, its function and what it is handed."""
+    with concurrent.futures.ThreadPoolExecutor(os.cpu_count()) as pool:
+        running = [(name, pool.submit(check, *given)) for name, check, given in tried]
+        for name, problem in running:
+            report.tell(name, problem.result())
+
+
+def without_folders():
+    """What is checked without a folder of its own."""
+    for name, kind, content in SOLVED + GRAPH_SOLVED + AT_LIMITS + [(name, kind, example(name)) for name, kind in EXAMPLES]:
+        yield f"check of {kind}: {name}", not_believed, (kind, content)
+    for name, columns, rows in REFUTED:
+        yield name, all_kinds.problem, (all_kinds.matrix_instance(columns, rows),)
+    for instance in all_kinds.instances(all_kinds.MOST_COLUMNS):
+        yield f"{instance.kind} {instance.content!r}", all_kinds.problem, (instance,)
+    for words in drawn():
+        yield f"gen {words}", gen_problem, words
+    for session in sessions():
+        yield f"extend {session}", extend_problem, session
 
 
 def main():
@@ -154,30 +213,11 @@ def main():
         os.chmod(top, 0o755)
         program = shutil.copy(PROGRAM, os.path.join(top, "pq"))
         os.chmod(program, 0o755)
-        tried = [(case["name"], run_case, case) for case in CASES + KIND_CASES + GRAPH_CASES + SESSION_CASES] + [(s.__name__, s, None) for s in STREAMS]
-        for number, (name, check, case) in enumerate(tried):
-            folder = os.path.join(top, str(number))
-            os.mkdir(folder)
-            try:
-                problem = check(folder, program) if case is None else check(case, folder, program)
-            except subprocess.TimeoutExpired:
-                problem = f"no end within {SECONDS} seconds"
-            report.tell(name, problem)
-        for page in pages():
-            folder = os.path.join(top, page.replace(os.sep, "_"))
-            os.mkdir(folder)
-            for command, problem in page_problems(page, folder, program):
-                report.tell(f"{page}: {command}", problem)
-            report.tell(f"{page}: commands that are not run", difference("lines", [], loose_commands(page)))
-        for name, kind, content in SOLVED + GRAPH_SOLVED + [(name, kind, example(name)) for name, kind in EXAMPLES]:
-            report.tell(f"check of {kind}: {name}", not_believed(kind, content, top, program))
-        small = [(f"all orders of {columns} columns, rows {[sorted(row) for row in rows]}", columns, rows)
-                 for columns in range(1, MOST_COLUMNS + 1) for rows in matrices(columns)]
-        for name, columns, rows in REFUTED + small:
-            report.tell(name, wrong_answer(columns, rows))
-            report.tell(f"check of {name}", not_believed("matrix", dense(columns, rows).encode(), top, program))
-    for instance, problem in all_kinds.tried():
-        report.tell(f"{instance.kind} {instance.content!r}", problem)
+        in_folders(report, top, program)
+        on_pages(report, top, program)
+    side_by_side(report, without_folders())
+    for name, problem in forgeries.compared(Limits()):
+        report.tell(name, problem)
     print(f"{report.passed} passed, {report.failed} failed")
     return 1 if report.failed else 0
 

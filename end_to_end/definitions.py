@@ -5,7 +5,11 @@ Nothing here is fast: each definition stands as docs/DEFINITIONS.md has it.
 
 import itertools
 
-from all_orders import keeps
+
+def keeps(order, row):
+    """Whether the columns of the row stand together in the order."""
+    places = [place for place, column in enumerate(order) if column in row]
+    return not places or places[-1] - places[0] == len(places) - 1
 
 
 def orders(count):
@@ -25,6 +29,16 @@ class Side:
         self.columns = columns
         self.textbook = {order for order in orders(columns) if is_textbook(order)}
         self.rows = rows
+
+
+def valid_orders(columns, rows):
+    """All orders that keep every row."""
+    return {order for order in orders(columns) if all(keeps(order, row) for row in rows)}
+
+
+def matrix(columns, rows):
+    """A matrix: an order keeps every row."""
+    return [Side(columns, lambda order: all(keeps(order, row) for row in rows), rows)]
 
 
 def circular(columns, rows):

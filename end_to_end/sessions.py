@@ -4,15 +4,15 @@ Every wanted text was written by hand from the rules of the formats (docs/FORMAT
 """
 
 import itertools
-import os
 import random
-import subprocess
-import tempfile
 
-from all_kinds import is_canonical
-from all_orders import PROGRAM, cycle_problem, dense, frontiers, leaves, parsed, valid_orders
+from all_kinds import dense
 from cases import CHAIN, LIMIT, TRIANGLE, case, outside
+from cycles import cycle_problem
+from definitions import valid_orders
 from kinds import MARK, lines
+from program import run, run_over
+from trees import lines_problem, nodes, parsed
 
 EXPLAINED = 16
 
@@ -53,7 +53,7 @@ EXTEND = [
     refused("a column 0", "matrix", CHAIN, b"1\n0\n", 2, 4, 2),
     refused("a word that is no number", "matrix", CHAIN, b"1\n\n2 x\n", 2, 2, 3),
     refused("a number of columns before the rows, as in a file of its own", "matrix", lines("1"), b"3\n", 2, 4, 1),
-    refused("the 65,537th further row", "matrix", b"1\n", b"\n" * 65_537, 2, 7, 65_537),
+    refused("the 131,073rd further row", "matrix", b"1\n", b"\n" * 131_073, 2, 7, 131_073),
     refused("rows past the limit of bytes", "matrix", b"1\n", b" " * (LIMIT + 1), 2, 7, 0),
     refused("a base that is refused", "matrix", b"12\n", b"1 4\n", 1, 2, 1),
     refused("a base of named columns that is refused", "rows", b"2\n3\n", b"1\n", 1, 4, 2),
@@ -62,7 +62,7 @@ EXTEND = [
     case("extend matrix: no further rows", ["extend", "matrix", "file", "missing"], 4, err=b"pq: read fault\n", files={"file": CHAIN}),
     case("extend matrix: a base that is refused, and no further rows", ["extend", "matrix", "file", "missing"], 3,
          err=b"pq: refused 1 code 1 line 0\n", files={"file": b""}),
-    extends("65,536 further rows", "matrix", b"1\n", b"1\n" * 65_536, *(f"{i} ok" for i in range(1, 65_537)), "tree 1", "order 1", columns=1),
+    extends("131,072 further rows", "matrix", b"1\n", b"1\n" * 131_072, *(f"{i} ok" for i in range(1, 131_073)), "tree 1", "order 1", columns=1),
 ]
 
 
@@ -80,9 +80,9 @@ GEN = [
     generates("leading zeros", ["000", "02", "0003"], 2, 3, 6, 1, 0),
     generates("one column without rows", ["0", "1", "0"], 1, 0, 0, 0, 0),
     generates("two columns without rows", ["5", "2", "0"], 2, 0, 0, 1, 0),
-    generates("1,024 columns without rows", ["0", "1024", "0"], 1024, 0, 0, 1, 0),
+    generates("2,048 columns without rows", ["0", "2048", "0"], 2048, 0, 0, 1, 0),
     generates("the greatest number", ["18446744073709551615", "1", "1"], 1, 1, 1, 0, 0),
-    generates("65,536 rows of one column", ["7", "1", "65536"], 1, 65_536, 65_536, 0, 0),
+    generates("131,072 rows of one column", ["7", "1", "131072"], 1, 131_072, 131_072, 0, 0),
 ]
 
 OUTSIDE = [
@@ -92,8 +92,8 @@ OUTSIDE = [
     outside("extend: a word too many", ["extend", "matrix", "a", "b", "c"]),
     outside("extend: standard input twice", ["extend", "matrix", "-", "-"]),
     outside("gen: no column", ["gen", "0", "0", "1"]),
-    outside("gen: 1,025 columns", ["gen", "0", "1025", "1"]),
-    outside("gen: 65,537 rows", ["gen", "0", "1", "65537"]),
+    outside("gen: 2,049 columns", ["gen", "0", "2049", "1"]),
+    outside("gen: 131,073 rows", ["gen", "0", "1", "131073"]),
     outside("gen: a number past 64 bits", ["gen", "18446744073709551616", "1", "1"]),
     outside("gen: columns of 30 digits", ["gen", "0", "1" * 30, "1"]),
     outside("gen: a word that is no number", ["gen", "0", "x", "1"]),
@@ -133,20 +133,18 @@ def generated(seed, columns, rows):
     return found
 
 
-def nodes(tree, bracket):
-    """The number of nodes of a tree that are written with this bracket."""
-    return 0 if isinstance(tree, int) else (tree[0] == bracket) + sum(nodes(child, bracket) for child in tree[1])
-
-
 def gen_problem(seed, columns, rows):
-    """What is wrong with the summary of a generated matrix, or None. The tree is that of `solve` on the same rows."""
+    """What is wrong with the summary of a generated matrix, or with that of a second call, or None. The tree is that of `solve` on its rows."""
     made = generated(seed, columns, rows)
     text = "".join(f"{line}\n" for line in [columns, *(" ".join(map(str, row)) for row in made)]).encode()
-    solved = subprocess.run([PROGRAM, "solve", "rows", "-"], input=text, capture_output=True, check=False).stdout.decode().split("\n")
+    solved = run(["solve", "rows", "-"], text).stdout.decode().split("\n")
     tree = parsed(solved[4].removeprefix("tree "))
     wanted = summary(columns, rows, sum(map(len, made)), nodes(tree, "("), nodes(tree, "["))
-    done = subprocess.run([PROGRAM, "gen", str(seed), str(columns), str(rows)], capture_output=True, check=False)
-    return None if (done.returncode, done.stdout, done.stderr) == (0, wanted, b"") else f"{done.stdout}, wanted {wanted}"
+    for _ in range(2):
+        done = run(["gen", str(seed), str(columns), str(rows)])
+        if (done.returncode, done.stdout, done.stderr) != (0, wanted, b""):
+            return f"{done.stdout}, wanted {wanted}"
+    return None
 
 
 def cycle_lines(text):
@@ -183,25 +181,17 @@ def session_problem(columns, base, further, status, out):
             rows.append(row)
         else:
             refusals += 1
-    tree = parsed(text[0].removeprefix("tree "))
-    if frontiers(tree) != valid_orders(columns, rows) or not is_canonical(tree) or text[1:] != ["order " + " ".join(map(str, leaves(tree)))]:
-        return f"{text}"
-    return None
+    return f"{text}" if len(text) != 2 else lines_problem(*text, lambda found: found == valid_orders(columns, rows))
 
 
 def extend_problem(columns, base, further):
     """What is wrong with a session, or None."""
-    with tempfile.TemporaryDirectory() as folder:
-        names = [os.path.join(folder, name) for name in ("base", "rows")]
-        contents = [dense(columns, base), "".join(" ".join(map(str, row)) + "\n" for row in further)]
-        for name, content in zip(names, contents):
-            with open(name, "w", encoding="ascii") as stream:
-                stream.write(content)
-        done = subprocess.run([PROGRAM, "extend", "matrix", *names], capture_output=True, check=False)
-        if valid_orders(columns, base):
-            return session_problem(columns, base, further, done.returncode, done.stdout)
-        solved = subprocess.run([PROGRAM, "solve", "matrix", names[0]], capture_output=True, check=False)
-        return None if (done.returncode, done.stdout) == (1, solved.stdout) else f"status {done.returncode}, {done.stdout}, wanted {solved.stdout}"
+    content = dense(columns, base)
+    done = run_over(["extend", "matrix"], content, "".join(" ".join(map(str, row)) + "\n" for row in further).encode())
+    if valid_orders(columns, base):
+        return session_problem(columns, base, further, done.returncode, done.stdout)
+    solved = run(["solve", "matrix", "-"], content)
+    return None if (done.returncode, done.stdout) == (1, solved.stdout) else f"status {done.returncode}, {done.stdout}, wanted {solved.stdout}"
 
 
 def sessions():

@@ -1,0 +1,31 @@
+"""The built program, and calls of it."""
+
+import os
+import subprocess
+import tempfile
+
+HOME = os.path.dirname(os.path.dirname(os.path.abspath(__file__)))
+PROGRAM = os.path.join(HOME, "crates", "pq", "out", "pq")
+SECONDS = 60
+# The first line of the verdicts that the program writes.
+HEADER = "pq-verdict 1"
+
+
+def run(words, content=b""):
+    """A call of the program with these bytes on standard input."""
+    return subprocess.run([PROGRAM, *words], input=content, capture_output=True, timeout=SECONDS, check=False)
+
+
+def run_over(words, *contents):
+    """A call of the program whose last words are the names of files with these contents."""
+    with tempfile.TemporaryDirectory() as folder:
+        names = [os.path.join(folder, str(number)) for number in range(len(contents))]
+        for name, content in zip(names, contents):
+            with open(name, "wb") as stream:
+                stream.write(content)
+        return run([*words, *names])
+
+
+def verdict(kind, columns, *body):
+    """The text of a verdict, by its lines after those of the kind and the columns."""
+    return "".join(f"{line}\n" for line in [HEADER, f"kind {kind}", f"columns {columns}", *body, "end"]).encode()
