@@ -3,11 +3,13 @@
 import json
 
 FILE_LIMIT = 16_777_216
+MOST_COLUMNS = 2_048
+MOST_ROWS = 131_072
 
 
 def dense_file(columns, density, rng):
     """Rows of random digits up to the limit of bytes, the last of them one digit short."""
-    rows = min(65_536, FILE_LIMIT // (columns + 1))
+    rows = min(MOST_ROWS, FILE_LIMIT // (columns + 1))
     lines = []
     for _ in range(rows - 1):
         lines.append(bytes(49 if rng.random() < density else 48 for _ in range(columns)))
@@ -20,7 +22,7 @@ def sparse_file(columns, ones, rng):
     """Rows that name so many random columns each, in no order, up to the limits; the last row names a column past the last."""
     words = [str(column).encode() for column in range(1, columns + 1)]
     text = bytearray(f"{columns}\n".encode())
-    for _ in range(65_535):
+    for _ in range(MOST_ROWS - 1):
         line = b" ".join(rng.sample(words, ones)) + b"\n"
         if len(text) + len(line) > FILE_LIMIT - 8:
             break
@@ -77,7 +79,7 @@ def table_file(columns, cells, rng):
     """A table of random cells up to the limit of bytes, under a header; the last cell is none that a table may have."""
     header = b"kind," + b",".join(f"site {place}".encode() for place in range(1, columns + 1)) + b"\n"
     text = bytearray(header)
-    for number in range(1, 65_536):
+    for number in range(1, MOST_ROWS):
         line = f"kind {number},".encode() + b",".join(rng.choices(cells, k=columns)) + b"\n"
         if len(text) + len(line) > FILE_LIMIT - len(header):
             break
@@ -87,11 +89,57 @@ def table_file(columns, cells, rng):
 
 
 def clone_file(probes, named, rng):
-    """65,536 clones that each name so many random probes, as JSON; the last clone names one that is not among the probes."""
+    """Clones, as many as may be, that each name so many random probes, as JSON; the last clone names one that is not among the probes."""
     names = [f"p{place}" for place in range(1, probes + 1)]
-    clones = [{"name": f"k{number}", "probes": rng.sample(names, named)} for number in range(1, 65_536)]
+    clones = [{"name": f"k{number}", "probes": rng.sample(names, named)} for number in range(1, MOST_ROWS)]
     clones.append({"name": "last", "probes": ["another"]})
     return json.dumps({"probes": names, "clones": clones}, separators=(",", ":")).encode()
+
+
+def filled(head, line, tail=b"", most=MOST_ROWS):
+    """A head, one line again and again up to the limit of bytes or so many times, and a tail."""
+    return head + line * min(most, (FILE_LIMIT - len(head) - len(tail)) // len(line)) + tail
+
+
+def edge_lines(head, edges):
+    """A graph: its sizes, and a line for each edge, up to the limit of bytes."""
+    text = bytearray(head)
+    for u, v in edges:
+        line = f"{u} {v}\n".encode()
+        if len(text) + len(line) > FILE_LIMIT:
+            break
+        text += line
+    return bytes(text)
+
+
+def heavy_files(rng):
+    """Files of each kind that take much memory for their bytes, with what they are and their kind. Their rows are of few different sets of
+    columns, so that they are reduced soon. `no` has no valid order, which its last rows show."""
+    ones = b"1" * MOST_COLUMNS + b"\n"
+    names = "".join(f'"{chr(97 + place)}",' for place in range(26))
+    near = [(x, y) for x in range(1, MOST_COLUMNS + 1) for y in range(x + 1, min(x + 900, MOST_COLUMNS) + 1)]
+    yield "all ones", "matrix", filled(b"", ones)
+    yield "one column", "matrix", filled(b"", b"1\n")
+    yield "no, all zeros before", "matrix", filled(b"", b"0" * MOST_COLUMNS + b"\n", b"".join(
+        bytes(48 + (column in pair) for column in range(MOST_COLUMNS)) + b"\n" for pair in [(0, 1), (1, 2), (0, 2)]))
+    yield "rows of one column", "rows", filled(b"2048\n", b"2048\n")
+    yield "rows of 60 columns", "rows", filled(b"2048\n", " ".join(map(str, range(1, 61))).encode() + b"\n")
+    yield "no, rows of 40 columns before", "rows", filled(b"2048\n", " ".join(map(str, range(100, 130))).encode() + b"\n", b"1 2\n2 3\n1 3\n", MOST_ROWS - 3)
+    yield "no, a ring", "rows", b"2048\n" + b"".join(f"{column} {column % MOST_COLUMNS + 1}\n".encode() for column in range(1, MOST_COLUMNS + 1))
+    yield "commas alone", "table", filled(b"", b"," * MOST_COLUMNS + b"\n")
+    yield "all ones", "table", filled(b"t" + b"," * MOST_COLUMNS + b"\n", b"t" + b",1" * MOST_COLUMNS + b"\n")
+    yield "one column", "table", filled(b"t,a\n", b"t,1\n")
+    yield "short names", "clones", filled(b'{"probes":[' + names[:-1].encode() + b'],"clones":[', b'{"probes":[' + (names * 4)[:-1].encode() + b"]},",
+                                         b'{"probes":[]}]}', MOST_ROWS - 1)
+    yield "empty clones", "clones", filled(b'{"probes":["a"],"clones":[', b'{"probes":[]},', b'{"probes":[]}]}', MOST_ROWS - 1)
+    yield "many keys", "clones", filled(b'{"probes":["a"],"clones":[],"more":[', b"{},", b"{}]}", FILE_LIMIT)
+    yield "all ones", "circular", filled(b"", ones)
+    yield "many edges", "convex", edge_lines(b"131072 2048\n", ((x, y) for x in range(1, MOST_ROWS + 1) for y in range(1, 15)))
+    yield "one edge again and again", "convex", filled(b"2 3\n", b"1 1\n", most=FILE_LIMIT)
+    yield "many edges", "doubly", edge_lines(b"2048 2048\n", ((x, y) for x in range(1, MOST_COLUMNS + 1) for y in range(1, 1_000)))
+    yield "many edges", "proper", edge_lines(b"2048\n", near)
+    yield "one edge again and again", "proper", filled(b"2\n", b"1 2\n", most=FILE_LIMIT)
+    yield "distances that all differ", "robinson", distance_file(256, rng)[0]
 
 
 def nested_file(columns, rows, rng):

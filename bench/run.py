@@ -25,6 +25,7 @@ from inputs import (
     distance_file,
     every_pair,
     generated_file,
+    heavy_files,
     interval_file,
     nested_file,
     random_edges,
@@ -40,6 +41,9 @@ HOME = os.path.dirname(os.path.dirname(os.path.abspath(__file__)))
 PROGRAM = os.path.join(HOME, "crates", "pq", "out", "pq")
 SEED = 20261127
 ROUNDS = 7
+# The memory that no file within the limits may take: so many times its bytes, and so many bytes beside.
+TIMES = 12
+BESIDE = 256 << 20
 
 
 def measure(words):
@@ -121,14 +125,14 @@ def bench_bigraph(folder, rng, _yardsticks):
     The program checks a verdict of another kind, which it finds invalid as soon as the graph is read: nothing is derived or solved.
     """
     plain = compiled("bigraph", folder)
-    edges = random_edges(65_536, 1_024, 25, rng)
+    edges = random_edges(131_072, 2_048, 10, rng)
     mixed = rng.sample(edges, len(edges))
     repeated = repeated_edges(3_000, 30, 2_500_000, rng)
     few = repeated_edges(2, 3, 4_200_000, rng)
     for what, left, right, listed in [
-        ("in order", 65_536, 1_024, edges),
-        ("shuffled", 65_536, 1_024, mixed),
-        ("repeated", 65_536, 1_024, repeated),
+        ("in order", 131_072, 2_048, edges),
+        ("shuffled", 131_072, 2_048, mixed),
+        ("repeated", 131_072, 2_048, repeated),
         ("6 edges repeated", 2, 3, few),
     ]:
         file = write(folder, "bigraph.txt", bigraph_file(left, right, listed))
@@ -171,9 +175,9 @@ def bench_check(folder, rng, _yardsticks):
         told = subprocess.run([PROGRAM, "solve", "matrix", file], capture_output=True, check=True).stdout
         verdict = write(folder, "yes.txt", told)
         compare(f"check, yes, {rows} rows over {columns} columns", [file, verdict], ["check", "matrix"], [plain, "matrix"], (0, 0))
-    matrix, order = window_file(1024, 65_536, 60, rng)
+    matrix, order = window_file(2048, 131_072, 40, rng)
     files = [write(folder, "windows.txt", matrix), write(folder, "yes.txt", yes_verdict("rows", order))]
-    compare("check, yes, 65536 short rows over 1024 columns", files, ["check", "rows"], [plain, "rows"], (0, 0))
+    compare("check, yes, 131072 short rows over 2048 columns", files, ["check", "rows"], [plain, "rows"], (0, 0))
     matrix, number = every_pair(317)
     walk = steps_round(317)
     files = [write(folder, "pairs.txt", matrix), write(folder, "no.txt", cycle_verdict(317, walk, number))]
@@ -195,11 +199,31 @@ def bench_balls(folder, rng, _yardsticks):
 
 def bench_gen(folder, _rng, _yardsticks):
     """Whole calls of `gen`, and of `solve rows` on the same matrices, which a script makes by the rule of `gen`."""
-    for seed, columns, rows in [(7, 100, 500), (7, 1000, 1000), (7, 1000, 20_000)]:
+    for seed, columns, rows in [(7, 100, 500), (7, 1000, 1000), (7, 1000, 20_000), (11, 2048, 131_072)]:
         words = ["gen", str(seed), str(columns), str(rows)]
         whole_call(" ".join(words), words, 0)
         file = write(folder, "generated.txt", generated_file(seed, columns, rows))
         whole_call(f"solve, the rows of {' '.join(words)}", ["solve", "rows", file], 0)
+
+
+def bench_memory(folder, rng, _yardsticks):
+    """The peak of `solve`, and of `check` on what it wrote, on files of each kind that take much memory for their bytes."""
+    past = []
+    for what, kind, content in heavy_files(rng):
+        file, verdict = write(folder, "heavy", content), os.path.join(folder, "verdict")
+        with open(verdict, "wb") as stream:
+            status = subprocess.run([PROGRAM, "solve", kind, file], stdout=stream, check=False).returncode
+        most = TIMES * len(content) + BESIDE
+        for words in [["solve", kind, file], ["check", kind, file, verdict]]:
+            if words[0] == "check" and status > 1:
+                continue
+            seconds, peak, _ = measured([PROGRAM] + words)
+            told = f"{words[0]} {kind}, {what}, {len(content) / 2**20:.1f} MiB, status {status}"
+            print(f"{told}: peak {peak / 1024:.1f} MiB, {peak * 1024 / len(content):.1f} times the file, {seconds:.2f} s", flush=True)
+            if peak * 1024 > most:
+                past.append(told)
+    if past:
+        sys.exit(f"past {TIMES} times the bytes and {BESIDE >> 20} MiB: {'; '.join(past)}")
 
 
 BENCHES = {
@@ -212,6 +236,7 @@ BENCHES = {
     "gen": bench_gen,
     "check": bench_check,
     "balls": bench_balls,
+    "memory": bench_memory,
 }
 
 

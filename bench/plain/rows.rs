@@ -3,8 +3,8 @@
 use std::process::ExitCode;
 
 pub const MAX_FILE_BYTES: usize = 16_777_216;
-pub const MAX_COLUMNS: usize = 1_024;
-pub const MAX_ROWS: usize = 65_536;
+pub const MAX_COLUMNS: usize = 2_048;
+pub const MAX_ROWS: usize = 131_072;
 
 /// The columns of row k stand in `members` from the k-th bound to the next.
 pub struct Matrix {
