@@ -1,5 +1,5 @@
 -- Ascending rows: each of their columns stands in them once, and they are in range.
-use Rattle.std.proofs.Common.{◌≡◌, ℕ, ◌<◌, ◌≤◌, false, eqb, List, [], ◌∷◌, IsTrue, refl, inl, inr, arith, eq-eqb}
+use Rattle.std.proofs.Common.{◌≡◌, ℕ, ◌<◌, ◌≤◌, false, eqb, List, [], ◌∷◌, length, ◌-◌, IsTrue, refl, inl, inr, arith, eq-eqb}
 use Rattle.std.proofs.lemmas.Bool.{cond-true, cond-false, cases_eq, ne_eqb, both_ways}
 use Rattle.column_order.specs.Orders.{has, occurs, IsWithin}
 use Rattle.column_order.proofs.Lists.{has_cases, lacks_from_occurs}
@@ -42,3 +42,8 @@ row_once c row h a = ascends_once c 0 a row h
 
 pub row_within : (c : ℕ) (row : List ℕ) → IsRow c row → IsWithin c row
 row_within c row h a k = let r = ascends_within c 0 a row h k in (omega (arith, r.0), r.1)
+
+-- an ascending row has at most one column for each number from its first bound to c
+pub ascends_few : (c low : ℕ) (row : List ℕ) → Ascends c low row → length row ≤ c - low
+ascends_few c low [] h = omega arith
+ascends_few c low (x ∷ row) h = omega (arith, h.0, h.1, ascends_few c x row h.2)

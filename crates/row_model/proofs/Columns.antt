@@ -1,5 +1,5 @@
 -- The columns that pass a test: tests that agree give the same ones, and a row is made of its own columns.
-use Rattle.std.proofs.Common.{◌≡◌, ◌∙◌, ℕ, zero, suc, ◌+◌, ◌-◌, ◌<◌, ◌≤◌, Bool, true, false, if◌then◌else◌, ◌||◌, eqb, List, [], ◌∷◌, refl, ap, sym, arith, inl, inr, eq-eqb}
+use Rattle.std.proofs.Common.{◌≡◌, ◌∙◌, ℕ, zero, suc, ◌+◌, ◌-◌, ◌<◌, ◌≤◌, Bool, if◌then◌else◌, ◌||◌, List, [], ◌∷◌, refl, ap, sym, arith, inl, inr, eq-eqb}
 use Rattle.std.proofs.lemmas.Bool.{cases_eq, ne_eqb}
 use Rattle.std.specs.List.{filter, range_with_len}
 use Rattle.column_order.specs.Orders.{has}

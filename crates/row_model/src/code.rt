@@ -14,7 +14,7 @@ pub const TWICE: u8 = 5;
 pub const SYMMETRY: u8 = 6;
 /// Past a limit.
 pub const LIMIT: u8 = 7;
-/// Bytes that `csv` refuses.
+/// A record of another number of fields than the header.
 pub const CSV: u8 = 8;
 /// Bytes that `serde_json` refuses.
 pub const JSON: u8 = 9;

@@ -10,6 +10,7 @@ use crate::{NoMemory, ROW_BOUND};
 use column_order::COLUMN_BOUND;
 use std::alloc::Global;
 use std::marker::Model;
+use step_count::{Ledger, Steps};
 
 /// A number of columns, from 1 to [`COLUMN_BOUND`], and at most [`ROW_BOUND`] rows, each the strictly ascending list of
 /// the columns that it has.
@@ -116,6 +117,35 @@ impl Matrix {
         row_has(self.row(k), column)
     }
 
+    /// The number of ones of row `k`, from 1.
+    pub fn row_len(&self, k: u32) -> u32
+        requires { (1 ≤ k) × (k ≤ length self.now.rows) }
+        ensures { result ≡ length (slice_index_or self.now.rows (k - 1) []) }
+    {
+        piece(&self.members, &self.bounds, k as usize - 1).len() as u32
+    }
+
+    /// As [`has`](Matrix::has), and one step is counted.
+    pub fn has_counted<L: Ledger>(&self, k: u32, column: u32, steps: &mut Steps<L>) -> bool
+        requires { (1 ≤ k) × (k ≤ length self.now.rows) }
+        ensures has { result ≡ has (slice_index_or self.now.rows (k - 1) []) column }
+        ensures ticks { steps.new ≡ steps.old + 1 }
+    {
+        steps.tick();
+        self.has(k, column)
+    }
+
+    /// The `i`-th column of row `k`, both from 1, and one step is counted.
+    pub fn member_counted<L: Ledger>(&self, k: u32, i: u32, steps: &mut Steps<L>) -> u32
+        requires row { (1 ≤ k) × (k ≤ length self.now.rows) }
+        requires member { (1 ≤ i) × (i ≤ length (slice_index_or self.now.rows (k - 1) [])) }
+        ensures member { slice_get (slice_index_or self.now.rows (k - 1) []) (i - 1) ≡ Some result }
+        ensures ticks { steps.new ≡ steps.old + 1 }
+    {
+        steps.tick();
+        self.row(k)[i as usize - 1]
+    }
+
     /// Whether the order of the columns keeps every row: of any three positions, a row with the columns at the first and
     /// the last has the column between them.
     ///
@@ -140,6 +170,7 @@ impl Matrix {
 mod tests {
     use super::*;
     use std::test::Fail;
+    use step_count::{Blank, Brand};
 
     #[test]
     fn two_rows_are_kept_and_the_last_goes(rt: HostRuntime) -> Result<(), Fail> {
@@ -155,6 +186,36 @@ mod tests {
         matrix.pop_row();
         assert_eq!(rt; matrix.rows(), 1);
         assert_eq!(rt; matrix.ones(), 2);
+        Ok(())
+    }
+
+    fn reads_counted<L: Ledger>(matrix: &Matrix, blank: Blank) -> [u32; 4]
+        requires name { blank.name ≡ L.name }
+        requires parts { blank.parts ≡ L.parts }
+        requires some { 0 < blank.parts }
+        requires rows { length matrix.now.rows ≡ 2 }
+        requires members { length (slice_index_or matrix.now.rows 1 []) ≡ 2 }
+    {
+        let mut steps: Steps<L> = Steps::new(blank);
+        [
+            matrix.has_counted(2, 4, &mut steps) as u32,
+            matrix.has_counted(2, 3, &mut steps) as u32,
+            matrix.member_counted(2, 1, &mut steps),
+            matrix.member_counted(2, 2, &mut steps),
+        ]
+    }
+
+    #[test]
+    fn counted_reads_give_what_the_row_has(rt: HostRuntime) -> Result<(), Fail> {
+        let mut matrix = Matrix::new(rt.alloc(), 4)?;
+        matrix.push_row(&[1])?;
+        matrix.push_row(&[2, 4])?;
+        assert_eq!(rt; matrix.rows(), 2);
+        assert_eq!(rt; matrix.row_len(2), 2);
+        assert_eq!(rt;
+            reads_counted::<Brand>(&matrix, Blank::new(1)),
+            [1, 0, 2, 4]
+        );
         Ok(())
     }
 
