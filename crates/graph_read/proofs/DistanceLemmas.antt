@@ -13,7 +13,8 @@ use Rattle.matrix_read.specs.declared.words.Numeral.{Numeral}
 use Rattle.matrix_read.specs.declared.words.Numeral.TheVariants.{Value, TooLarge, NotDigits}
 use Rattle.graph_read.specs.declared.TheConstants.{ITEM_BOUND}
 use Rattle.graph_read.specs.Distances.{distance, IsDistances}
-use Rattle.graph_read.specs.DistanceFiles.{with_number, numbers_behind, is_symmetric_at, is_row_at, with_row, row_behind, with_table, table_behind, distances, distances_lines}
+use Rattle.graph_read.specs.DistanceSteps.{distance_then, numbers_behind, is_symmetric_at, is_row_at, table_with_row, row_behind, rows_then, table_behind}
+use Rattle.graph_read.specs.DistanceFiles.{distances, distances_lines}
 use Rattle.row_model.proofs.Limits.{too_long, short_enough}
 use Rattle.graph_read.proofs.PlaceLemmas.{place_within}
 
@@ -68,7 +69,7 @@ module _ (n x : ℕ) (values line : List ℕ) where
   pub row_many : n ≤ x → row_behind n x values line ≡ Err COUNT
   row_many le = rw (le-leb n x le) refl
 
-  pub row_here : x < n → row_behind n x values line ≡ with_row n (length values + n) (x + 1) (numbers_behind values (words_of line))
+  pub row_here : x < n → row_behind n x values line ≡ table_with_row n (length values + n) (x + 1) (numbers_behind values (words_of line))
   row_here lt = rw (lt-leb n x lt) refl
 
 module _ (bytes : List ℕ) where
@@ -133,7 +134,7 @@ unfolding numbers_behind
 numbers_start values [] more h = let is : values ≡ more = cc in record { row = []; is = sym is ∙ sym (append-nil values) }
 numbers_start values (word ∷ words) more h = step (numeral_of word) h (λ n k. numbers_start (values ++ n ∷ []) words more k)
   where
-    step : (numeral : Numeral) → with_number numeral (λ n. numbers_behind (values ++ n ∷ []) words) ≡ Ok more → ((n : ℕ) → numbers_behind (values ++ n ∷ []) words ≡ Ok more → StartsWith (values ++ n ∷ []) more) → StartsWith values more
+    step : (numeral : Numeral) → distance_then numeral (λ n. numbers_behind (values ++ n ∷ []) words) ≡ Ok more → ((n : ℕ) → numbers_behind (values ++ n ∷ []) words ≡ Ok more → StartsWith (values ++ n ∷ []) more) → StartsWith values more
     step (Value n) k later = let rest = later n k in record { row = n ∷ rest.row; is = rest.is ∙ append_assoc values (n ∷ []) rest.row }
     step TooLarge k later = absurd (cc)
     step NotDigits k later = absurd (cc)
@@ -154,11 +155,11 @@ row_next n x values line more fit h = by_count (nat_le n x) refl h
     by_row lt found numbers true false long row k = absurd (cc)
     by_row lt found numbers false row long r k = absurd (cc)
 
-    by_numbers : x < n → (found : Result (List ℕ) ℕ) → numbers_behind values (words_of line) ≡ found → with_row n (length values + n) (x + 1) found ≡ Ok more → IsNext n x more
+    by_numbers : x < n → (found : Result (List ℕ) ℕ) → numbers_behind values (words_of line) ≡ found → table_with_row n (length values + n) (x + 1) found ≡ Ok more → IsNext n x more
     by_numbers lt (Ok found) numbers k = by_row lt found numbers (length found == length values + n) (is_row_at n found (x + 1)) refl refl k
     by_numbers lt (Err code) numbers k = absurd (cc)
 
-    by_count : (full : Bool) → nat_le n x ≡ full → (if full then Err COUNT else with_row n (length values + n) (x + 1) (numbers_behind values (words_of line))) ≡ Ok more → IsNext n x more
+    by_count : (full : Bool) → nat_le n x ≡ full → (if full then Err COUNT else table_with_row n (length values + n) (x + 1) (numbers_behind values (words_of line))) ≡ Ok more → IsNext n x more
     by_count true e k = absurd (cc)
     by_count false e k = by_numbers (leb-false n x e) (numbers_behind values (words_of line)) refl k
 
@@ -175,7 +176,7 @@ table_fit n x values [] table fit le h = whole (nat_le n x) refl h
 table_fit n x values (line ∷ lines) table fit le h =
     step (row_behind n x values line.text) refl h (λ more next k. table_fit n (x + 1) more lines table next.fit (omega (arith, next.few)) k)
   where
-    step : (row : Result (List ℕ) ℕ) → row_behind n x values line.text ≡ row → with_table row line.number (λ more. table_behind n (x + 1) more lines) ≡ Ok table
+    step : (row : Result (List ℕ) ℕ) → row_behind n x values line.text ≡ row → rows_then row line.number (λ more. table_behind n (x + 1) more lines) ≡ Ok table
         → ((more : List ℕ) → IsNext n x more → table_behind n (x + 1) more lines ≡ Ok table → IsFit n n table) → IsFit n n table
     step (Ok more) e k later = later more (row_next n x values line.text more fit e) k
     step (Err code) e k later = absurd (cc)

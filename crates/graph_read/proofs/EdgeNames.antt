@@ -11,9 +11,9 @@ use Rattle.graph_read.specs.declared.edges.Edge.{Edge}
 use Rattle.graph_read.specs.declared.edges.Shape.{Shape}
 use Rattle.graph_read.specs.declared.edges.Shape.TheVariants.{Bipartite, Plain}
 use Rattle.graph_read.specs.declared.numbers.NumberPair.{NumberPair}
-use Rattle.graph_read.specs.Numbers.{is_within, value_of, two_numbers}
+use Rattle.graph_read.specs.Numbers.{is_value, are_values, is_within, value_of, two_numbers}
 use Rattle.graph_read.specs.Edges.{left_of, right_of, ends_from, edge_named, edges_of, edge_refusal, unless_loop}
-use Rattle.graph_read.specs.FileLaws.{is_value, are_values, names_edge}
+use Rattle.graph_read.specs.FileLaws.{names_edge}
 use Rattle.graph_read.proofs.EdgeLemmas.{ends_step}
 use Rattle.graph_read.proofs.EdgeSteps.{edges_step, names_first}
 

@@ -18,11 +18,13 @@ use Rattle.graph_read.proofs.Named.{sizes_written, size_written, edge_lines_of, 
 use Rattle.graph_read.proofs.Ranges.{bigraph_from, bigraph_range, graph_from, graph_range, distances_from}
 use Rattle.row_model.specs.declared.TheConstants.{MAX_ITEMS}
 use Rattle.graph_read.specs.Distances.{DistancesValue}
-use Rattle.graph_read.specs.DistanceFiles.{items_named, distances, distances_with, distances_behind, distances_lines}
+use Rattle.graph_read.specs.DistanceFiles.{items_named, distances, distances_behind, distances_lines}
+use Rattle.graph_read.specs.DistanceSteps.{distances_with}
 use Rattle.graph_read.specs.Numbers.{one_number}
 use Rattle.graph_read.proofs.DistanceLemmas.{are_distances, distances_short}
 use Rattle.graph_read.proofs.Named.{items_written}
 use Rattle.graph_read.proofs.TableRows.{rows_given, table_taken}
+use Rattle.graph_read.proofs.TableSteps.{read_behind}
 use Rattle.std.proofs.lemmas.Bool.{ne_eqb, le-ltb}
 use Rattle.graph_read.proofs.WrittenLaws.{written_bigraph, written_graph}
 
@@ -88,6 +90,7 @@ written_distances bytes d file =
     distances_short bytes file.short
     ∙ ap distances_lines w.are
     ∙ ap (λ n. distances_behind w.first.number n w.later) items
+    ∙ read_behind d.items w.later w.first.number
     ∙ ap (distances_with d.items) (table_taken d.items d.values file.distances w.later w.count w.rows)
 
 pub distances_law : DistancesLaw

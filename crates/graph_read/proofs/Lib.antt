@@ -5,9 +5,10 @@ pub mod EdgeSteps
 pub mod EdgeLemmas
 pub mod FileLemmas
 pub mod DistanceLemmas
+pub mod TableRows
+pub mod TableSteps
 pub mod Ranges
 pub mod EdgeNames
-pub mod TableRows
 pub mod FileLaws
 pub mod WrittenLaws
 pub mod Named

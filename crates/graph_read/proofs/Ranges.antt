@@ -24,11 +24,13 @@ use Rattle.row_model.specs.Limits.{within_length}
 use Rattle.graph_read.specs.Numbers.{is_number, is_zero, is_past, value_of, both_numbers, two_numbers, if_number, one_number}
 use Rattle.graph_read.specs.Edges.{left_of, right_of, edges_of, edge_refusal, lists_of_lines, sides_named, vertices_named}
 use Rattle.graph_read.specs.GraphFiles.{bigraph, bigraph_with, bigraph_behind, bigraph_lines, graph, graph_with, graph_behind, graph_lines}
-use Rattle.graph_read.specs.DistanceFiles.{items_named, table_behind, distances, distances_with, distances_behind, distances_lines}
+use Rattle.graph_read.specs.DistanceFiles.{items_named, distances, distances_behind, distances_lines}
+use Rattle.graph_read.specs.DistanceSteps.{table_behind, distances_with}
 use Rattle.graph_read.specs.declared.edges.Shape.{Shape}
 use Rattle.graph_read.specs.declared.edges.Shape.TheVariants.{Bipartite, Plain}
 use Rattle.graph_read.proofs.ListLemmas.{length-lists_from, lists_from-rows}
 use Rattle.graph_read.proofs.FileLemmas.{is_graph}
+use Rattle.graph_read.proofs.TableSteps.{read_behind}
 
 -- a file that gives a value is within the limit of its length
 record ReadInside {T : Type 0} (bytes : List ℕ) (inside : Read T) (value : T) : Type 0 where
@@ -263,7 +265,7 @@ module _ (d : DistancesValue) (first : NumberedLine) (later : List NumberedLine)
 
   headed_items : (items : Result ℕ ℕ) → items_named (one_number (words_of first.text)) ≡ items → distances_behind first.number items later ≡ read.Ok d → DistancesRead (first ∷ later) d
   headed_items (Err code) e h = absurd (cc)
-  headed_items (Ok n) e h = tabled n e (items_within (words_of first.text) n e) (table_behind n 0 [] later) refl h
+  headed_items (Ok n) e h = tabled n e (items_within (words_of first.text) n e) (table_behind n 0 [] later) refl (sym (read_behind n later first.number) ∙ h)
 
 lines_distances : (d : DistancesValue) (lines : List NumberedLine) → distances_lines lines ≡ read.Ok d → DistancesRead lines d
 lines_distances d [] h = absurd (cc)

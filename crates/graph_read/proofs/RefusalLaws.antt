@@ -5,7 +5,7 @@ use Rattle.matrix_read.specs.Lines.{NumberedLine}
 use Rattle.matrix_read.specs.Refusals.{FirstLineLaw}
 use Rattle.matrix_read.specs.Rows.{refused_or}
 use Rattle.graph_read.specs.declared.edges.Shape.{Shape}
-use Rattle.graph_read.specs.Edges.{left_of, right_of, lists_of, edges_of}
+use Rattle.graph_read.specs.Edges.{right_of, lists_of, edges_of}
 use Rattle.graph_read.specs.GraphFiles.{bigraph_with, bigraph_behind, bigraph_lines, graph_with, graph_behind, graph_lines}
 use Rattle.graph_read.specs.RefusalLaws.{edge_line, BigraphRefusals, GraphRefusals}
 use Rattle.graph_read.proofs.FileLemmas.{bigraph_long, bigraph_short, graph_long, graph_short}
@@ -25,11 +25,9 @@ bigraph_refusals law = record {
         bigraph_short limit bytes short ∙ ap (bigraph_lines limit) e ∙ ap (λ sides. bigraph_behind head.number sides later) h
         ∙ ap (λ r. bigraph_with shape (refused_or r (lists shape later))) ((law.some (edge_line shape later) 0 later refusal).1 of);
   };
-  taken = λ limit bytes head later shape short e h all. (
-    record { left = left_of shape; right = right_of shape; neighbours = lists_of shape (edges_of shape later) },
-    bigraph_short limit bytes short ∙ ap (bigraph_lines limit) e ∙ ap (λ sides. bigraph_behind head.number sides later) h
-        ∙ ap (λ r. bigraph_with shape (refused_or r (lists shape later))) ((law.none (edge_line shape later) 0 later).1 all),
-  );
+  taken = λ limit bytes head later shape short e h all.
+      bigraph_short limit bytes short ∙ ap (bigraph_lines limit) e ∙ ap (λ sides. bigraph_behind head.number sides later) h
+      ∙ ap (λ r. bigraph_with shape (refused_or r (lists shape later))) ((law.none (edge_line shape later) 0 later).1 all);
 }
 
 pub graph_refusals : FirstLineLaw → GraphRefusals
@@ -43,9 +41,7 @@ graph_refusals law = record {
         graph_short bytes short ∙ ap graph_lines e ∙ ap (λ vertices. graph_behind head.number vertices later) h
         ∙ ap (λ r. graph_with shape (refused_or r (lists shape later))) ((law.some (edge_line shape later) 0 later refusal).1 of);
   };
-  taken = λ bytes head later shape short e h all. (
-    record { vertices = left_of shape; neighbours = lists_of shape (edges_of shape later) },
-    graph_short bytes short ∙ ap graph_lines e ∙ ap (λ vertices. graph_behind head.number vertices later) h
-        ∙ ap (λ r. graph_with shape (refused_or r (lists shape later))) ((law.none (edge_line shape later) 0 later).1 all),
-  );
+  taken = λ bytes head later shape short e h all.
+      graph_short bytes short ∙ ap graph_lines e ∙ ap (λ vertices. graph_behind head.number vertices later) h
+      ∙ ap (λ r. graph_with shape (refused_or r (lists shape later))) ((law.none (edge_line shape later) 0 later).1 all);
 }

@@ -9,7 +9,7 @@ use Rattle.matrix_read.specs.Words.{words_of, numeral_of}
 use Rattle.matrix_read.specs.declared.words.Numeral.{Numeral}
 use Rattle.matrix_read.specs.declared.words.Numeral.TheVariants.{Value, TooLarge, NotDigits}
 use Rattle.graph_read.specs.Distances.{distance, IsDistances}
-use Rattle.graph_read.specs.DistanceFiles.{with_number, numbers_behind, is_symmetric_at, is_row_at, with_row, row_behind, with_table, table_behind}
+use Rattle.graph_read.specs.DistanceSteps.{distance_then, numbers_behind, is_symmetric_at, is_row_at, table_with_row, row_behind, rows_then, table_behind}
 use Rattle.graph_read.proofs.DistanceLemmas.{table_step, table_whole, row_here}
 use Rattle.graph_read.proofs.PlaceLemmas.{row_within, place_within}
 
@@ -28,7 +28,7 @@ unfolding numbers_behind
 numbers_are values [] more h = let is : values ≡ more = cc in record { row = []; is = sym is ∙ sym (append-nil values); written = refl }
 numbers_are values (word ∷ words) more h = step (numeral_of word) refl h (λ n k. numbers_are (values ++ n ∷ []) words more k)
   where
-    step : (numeral : Numeral) → numeral_of word ≡ numeral → with_number numeral (λ n. numbers_behind (values ++ n ∷ []) words) ≡ Ok more
+    step : (numeral : Numeral) → numeral_of word ≡ numeral → distance_then numeral (λ n. numbers_behind (values ++ n ∷ []) words) ≡ Ok more
         → ((n : ℕ) → numbers_behind (values ++ n ∷ []) words ≡ Ok more → Adds (values ++ n ∷ []) words more) → Adds values (word ∷ words) more
     step (Value n) e k later =
         let rest = later n k in
@@ -48,7 +48,7 @@ numbers_taken values (word ∷ words) [] h = absurd (cc)
 numbers_taken values (word ∷ words) (n ∷ row) h =
     let here : numeral_of word ≡ Value n = heads (numeral_of word) (Value n) (map numeral_of words) (as_words row) h in
     let later : map numeral_of words ≡ as_words row = tails (numeral_of word) (Value n) (map numeral_of words) (as_words row) h in
-    ap (λ m. with_number m (λ k. numbers_behind (values ++ k ∷ []) words)) here
+    ap (λ m. distance_then m (λ k. numbers_behind (values ++ k ∷ []) words)) here
     ∙ numbers_taken (values ++ n ∷ []) words row later
     ∙ ap (λ t. Ok t) (append_assoc values (n ∷ []) row)
   where
@@ -75,11 +75,11 @@ row_taken_as n x values line more h = by_count (nat_le n x) refl h
     by_row lt found numbers true false long k = absurd (cc)
     by_row lt found numbers false row long k = absurd (cc)
 
-    by_numbers : x < n → (found : Result (List ℕ) ℕ) → numbers_behind values (words_of line) ≡ found → with_row n (length values + n) (x + 1) found ≡ Ok more → RowTaken n x values line more
+    by_numbers : x < n → (found : Result (List ℕ) ℕ) → numbers_behind values (words_of line) ≡ found → table_with_row n (length values + n) (x + 1) found ≡ Ok more → RowTaken n x values line more
     by_numbers lt (Ok found) numbers k = by_row lt found numbers (length found == length values + n) (is_row_at n found (x + 1)) refl k
     by_numbers lt (Err code) numbers k = absurd (cc)
 
-    by_count : (full : Bool) → nat_le n x ≡ full → (if full then Err COUNT else with_row n (length values + n) (x + 1) (numbers_behind values (words_of line))) ≡ Ok more → RowTaken n x values line more
+    by_count : (full : Bool) → nat_le n x ≡ full → (if full then Err COUNT else table_with_row n (length values + n) (x + 1) (numbers_behind values (words_of line))) ≡ Ok more → RowTaken n x values line more
     by_count true e k = absurd (cc)
     by_count false e k = by_numbers (leb-false n x e) (numbers_behind values (words_of line)) refl k
 
@@ -114,7 +114,7 @@ rows_are n x values [] table long le h = whole (nat_le n x) refl h
 rows_are n x values (line ∷ lines) table long le h =
     step (row_behind n x values line.text) refl h (λ more wide lt k. rows_are n (x + 1) more lines table wide lt k)
   where
-    step : (row : Result (List ℕ) ℕ) → row_behind n x values line.text ≡ row → with_table row line.number (λ more. table_behind n (x + 1) more lines) ≡ Ok table
+    step : (row : Result (List ℕ) ℕ) → row_behind n x values line.text ≡ row → rows_then row line.number (λ more. table_behind n (x + 1) more lines) ≡ Ok table
         → ((more : List ℕ) → length more ≡ (x + 1) * n → x + 1 ≤ n → table_behind n (x + 1) more lines ≡ Ok table → RowsAre n (x + 1) more lines table) → RowsAre n x values (line ∷ lines) table
     step (Err code) e k later = absurd (cc)
     step (Ok more) e k later =
@@ -197,7 +197,7 @@ module _ (n : ℕ) (v : List ℕ) (d : IsDistances (record { items = n; values =
         numbers_taken before (words_of line) (slice_range v (x * n) (x * n + n)) written ∙ ap (λ t. Ok t) (sym (more_rows (x * n))) in
         let long : length (take (x * n + n) v) ≡ length before + n = omega (arith, length-take-le (x * n + n) v room, length-take-le (x * n) v (omega (arith, room))) in
         row_here n x before line lt
-        ∙ ap (with_row n (length before + n) (x + 1)) numbers
+        ∙ ap (table_with_row n (length before + n) (x + 1)) numbers
         ∙ rw (eq-eqb (length (take (x * n + n) v)) (length before + n) long, next_row) refl
 
   rows_taken : (x : ℕ) (lines : List NumberedLine) → x + length lines ≡ n

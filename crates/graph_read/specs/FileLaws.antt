@@ -1,30 +1,17 @@
 -- What files give, in the words of graphs and of tables.
-use Rattle.std.specs.Prelude.{◌≡◌, ◌≢◌, ◌↔◌, ℕ, ◌+◌, ◌*◌, ◌≤◌, ◌==◌, ◌||◌, ◌&&◌, Bool, false, List, [], ◌∷◌, length, map, slice_get, slice_range, Option, Some, None, All}
+use Rattle.std.specs.Prelude.{◌≡◌, ◌≢◌, ◌↔◌, ℕ, ◌+◌, ◌*◌, ◌≤◌, ◌||◌, Bool, false, List, [], ◌∷◌, length, map, slice_get, slice_range, Some, All}
 use Rattle.row_model.specs.declared.refusal.Read.TheVariants as read
 use Rattle.row_model.specs.declared.TheConstants.{MAX_COLUMNS, MAX_FILE_BYTES, MAX_ITEMS}
 use Rattle.matrix_read.specs.Lines.{NumberedLine}
 use Rattle.matrix_read.specs.Refusals.{filled_of}
 use Rattle.matrix_read.specs.Words.{words_of, numeral_of}
-use Rattle.matrix_read.specs.declared.words.Numeral.{Numeral}
-use Rattle.matrix_read.specs.declared.words.Numeral.TheVariants.{Value, TooLarge, NotDigits}
+use Rattle.matrix_read.specs.declared.words.Numeral.TheVariants.{Value}
 use Rattle.graph_read.specs.Graphs.{has_edge, BigraphValue, IsBigraph, GraphValue, IsGraph}
 use Rattle.graph_read.specs.Distances.{DistancesValue, IsDistances}
-use Rattle.graph_read.specs.Numbers.{one_number, two_numbers}
+use Rattle.graph_read.specs.Numbers.{are_values, one_number, two_numbers}
 use Rattle.graph_read.specs.GraphFiles.{bigraph, graph}
 use Rattle.graph_read.specs.DistanceFiles.{distances}
 use Rattle.graph_read.specs.declared.TheConstants.{LEFT_BOUND}
-use Rattle.graph_read.specs.declared.numbers.NumberPair.{NumberPair}
-
--- whether a number is n
-abbrev pub is_value : ℕ → Numeral → Bool
-is_value n (Value a) = a == n
-is_value n TooLarge = false
-is_value n NotDigits = false
-
--- whether two numbers are x and y
-abbrev pub are_values : ℕ → ℕ → Option NumberPair → Bool
-are_values x y None = false
-are_values x y (Some pair) = is_value x pair.first && is_value y pair.second
 
 -- whether some line is exactly the two numbers x and y
 abbrev pub names_edge : List NumberedLine → ℕ → ℕ → Bool
@@ -62,7 +49,8 @@ abbrev pub IsPairLine : ℕ → NumberedLine → Type 0
 IsPairLine n line =
     (u v : ℕ) × ((1 ≤ u) × (u ≤ n)) × ((1 ≤ v) × (v ≤ n)) × (u ≢ v) × (two_numbers (words_of line.text) ≡ Some (record { first = Value u; second = Value v }))
 
--- lines that write a graph: the number of its vertices, and behind it its edges, in any order, either way round and each as often as may be
+-- lines that write a graph: the number of its vertices, and behind it its edges, in any order, either way round and
+-- each as often as may be
 pub record WritesGraph (lines : List NumberedLine) (g : GraphValue) : Type 0 where
   pub first : NumberedLine
   pub later : List NumberedLine
@@ -83,17 +71,18 @@ abbrev pub GraphLaw : Type 0
 GraphLaw = (bytes : List ℕ) (g : GraphValue) → (graph bytes ≡ read.Ok g) ↔ IsGraphFile bytes g
 
 -- the distances of item x + 1 to all items
-abbrev pub row_of : DistancesValue → ℕ → List ℕ
-row_of d x = slice_range d.values (x * d.items) (x * d.items + d.items)
+abbrev pub item_row : DistancesValue → ℕ → List ℕ
+item_row d x = slice_range d.values (x * d.items) (x * d.items + d.items)
 
--- lines that write a table of distances: the number of items, and behind it a line for each row, which is exactly its numbers
+-- lines that write a table of distances: the number of items, and behind it a line for each row, which is exactly its
+-- numbers
 pub record WritesDistances (lines : List NumberedLine) (d : DistancesValue) : Type 0 where
   pub first : NumberedLine
   pub later : List NumberedLine
   pub are : lines ≡ first ∷ later
   pub size : one_number (words_of first.text) ≡ Some (Value d.items)
   pub count : length later ≡ d.items
-  pub rows : (x : ℕ) (line : NumberedLine) → slice_get later x ≡ Some line → map numeral_of (words_of line.text) ≡ map (λ n. Value n) (row_of d x)
+  pub rows : (x : ℕ) (line : NumberedLine) → slice_get later x ≡ Some line → map numeral_of (words_of line.text) ≡ map (λ n. Value n) (item_row d x)
 
 -- a table of distances within the limit, and bytes within theirs, whose lines that are not blank write it
 pub record IsDistancesFile (bytes : List ℕ) (d : DistancesValue) : Type 0 where

@@ -9,8 +9,12 @@ use Rattle.matrix_read.specs.Lines.{NumberedLine, without_mark, lines_of, filled
 use Rattle.matrix_read.specs.Words.{words_of}
 use Rattle.graph_read.specs.Graphs.{BigraphValue, GraphValue}
 use Rattle.graph_read.specs.Numbers.{one_number, two_numbers}
-use Rattle.graph_read.specs.Edges.{left_of, right_of, lists_of_lines, sides_named, vertices_named}
+use Rattle.graph_read.specs.Edges.{left_of, right_of, edges_of, lists_of, lists_of_lines, sides_named, vertices_named}
 use Rattle.graph_read.specs.declared.edges.Shape.{Shape}
+
+-- the bipartite graph of the edges that lines name
+abbrev pub bigraph_written : Shape → List NumberedLine → BigraphValue
+bigraph_written shape lines = record { left = left_of shape; right = right_of shape; neighbours = lists_of shape (edges_of shape lines) }
 
 -- the bipartite graph with these lists, or the refusal
 abbrev pub bigraph_with : Shape → Read RowList → Read BigraphValue
@@ -30,6 +34,10 @@ bigraph_lines limit (first ∷ lines) = bigraph_behind first.number (sides_named
 -- the bipartite graph of the bytes of a file, or their first refusal; the left side has at most so many vertices
 unfoldable pub bigraph : ℕ → List ℕ → Read BigraphValue
 bigraph limit bytes = within_length bytes (bigraph_lines limit (filled_lines 1 (lines_of (without_mark bytes))))
+
+-- the graph of the edges that lines name
+abbrev pub graph_written : Shape → List NumberedLine → GraphValue
+graph_written shape lines = record { vertices = left_of shape; neighbours = lists_of shape (edges_of shape lines) }
 
 -- the graph with these lists, or the refusal
 abbrev pub graph_with : Shape → Read RowList → Read GraphValue

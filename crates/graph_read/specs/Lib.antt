@@ -5,6 +5,8 @@ pub mod Numbers
 pub mod Edges
 pub mod Places
 pub mod GraphFiles
+pub mod DistanceRows
+pub mod DistanceSteps
 pub mod DistanceFiles
 pub mod FileLaws
 pub mod RefusalLaws

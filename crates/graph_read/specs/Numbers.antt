@@ -1,4 +1,4 @@
--- The two numbers of a line.
+-- Words as numbers, and the one or two numbers of a line.
 use Rattle.std.specs.Prelude.{ℕ, ◌==◌, ◌&&◌, not, nat_lt, Bool, true, false, List, [], ◌∷◌, if◌then◌else◌, Option, Some, None}
 use Rattle.matrix_read.specs.Words.{numeral_of}
 use Rattle.matrix_read.specs.declared.words.Numeral.{Numeral}
@@ -50,3 +50,14 @@ if_number a = if is_number a then Some a else None
 abbrev pub one_number : List (List ℕ) → Option Numeral
 one_number (a ∷ []) = if_number (numeral_of a)
 one_number words = None
+
+-- whether a number is n
+abbrev pub is_value : ℕ → Numeral → Bool
+is_value n (Value a) = a == n
+is_value n TooLarge = false
+is_value n NotDigits = false
+
+-- whether two numbers are x and y
+abbrev pub are_values : ℕ → ℕ → Option NumberPair → Bool
+are_values x y None = false
+are_values x y (Some pair) = is_value x pair.first && is_value y pair.second

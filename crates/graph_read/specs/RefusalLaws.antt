@@ -1,15 +1,15 @@
 -- What the readers of graphs and of distances refuse.
-use Rattle.std.specs.Prelude.{◌≡◌, ◌<◌, ◌≤◌, ℕ, List, [], ◌∷◌, ◌++◌, length, map, take, Option, Some, None, Result, Ok, Err}
+use Rattle.std.specs.Prelude.{◌≡◌, ◌<◌, ◌≤◌, ℕ, List, ◌∷◌, length, Option, Result, Ok}
 use Rattle.row_model.specs.declared.refusal.Read.TheVariants as read
 use Rattle.row_model.specs.declared.TheConstants.{MAX_FILE_BYTES}
 use Rattle.row_model.specs.declared.code.TheConstants.{COUNT}
 use Rattle.matrix_read.specs.Lines.{NumberedLine}
 use Rattle.matrix_read.specs.Refusals.{NoLineRefused, HeadRefusals, TakesLines, filled_of}
-use Rattle.matrix_read.specs.Words.{words_of, numeral_of}
-use Rattle.graph_read.specs.Numbers.{value_of, one_number, two_numbers}
-use Rattle.graph_read.specs.DistanceFiles.{row_behind, items_named, distances}
+use Rattle.matrix_read.specs.Words.{words_of}
+use Rattle.graph_read.specs.Numbers.{one_number, two_numbers}
+use Rattle.graph_read.specs.DistanceFiles.{items_named, row_line, table_written, distances}
 use Rattle.graph_read.specs.Edges.{edge_code, sides_named, vertices_named}
-use Rattle.graph_read.specs.GraphFiles.{bigraph, graph}
+use Rattle.graph_read.specs.GraphFiles.{bigraph_written, bigraph, graph_written, graph}
 use Rattle.graph_read.specs.declared.edges.Shape.{Shape}
 
 -- the sides that a first line gives, or the code of its refusal
@@ -24,32 +24,19 @@ vertices_head line = vertices_named (one_number (words_of line))
 abbrev pub edge_line : Shape → List NumberedLine → ℕ → List ℕ → Option ℕ
 edge_line shape later before line = edge_code shape line
 
--- files of bipartite graphs, and of graphs
+-- files of bipartite graphs
 pub record BigraphRefusals : Type 0 where
   pub refused : (limit : ℕ) → HeadRefusals (bigraph limit) filled_of (sides_head limit) edge_line 0
-  pub taken : (limit : ℕ) → TakesLines (bigraph limit) filled_of (sides_head limit) edge_line 0
+  pub taken : (limit : ℕ) → TakesLines (bigraph limit) filled_of (sides_head limit) edge_line 0 (λ shape head later. bigraph_written shape later)
 
+-- files of graphs
 pub record GraphRefusals : Type 0 where
   pub refused : HeadRefusals graph filled_of vertices_head edge_line 0
-  pub taken : TakesLines graph filled_of vertices_head edge_line 0
+  pub taken : TakesLines graph filled_of vertices_head edge_line 0 (λ shape head later. graph_written shape later)
 
 -- the number of items that a first line gives, or the code of its refusal
 abbrev pub items_head : List ℕ → Result ℕ ℕ
 items_head line = items_named (one_number (words_of line))
-
--- the numbers of lines, one line after another
-abbrev pub numbers_of : List NumberedLine → List ℕ
-numbers_of [] = []
-numbers_of (line ∷ lines) = map (λ word. value_of (numeral_of word)) (words_of line.text) ++ numbers_of lines
-
--- the code of a refusal, if there is one
-abbrev pub row_refused : Result (List ℕ) ℕ → Option ℕ
-row_refused (Ok values) = None
-row_refused (Err code) = Some code
-
--- the code by which a later line is refused as the next row behind the numbers of so many lines before it
-abbrev pub row_line : ℕ → List NumberedLine → ℕ → List ℕ → Option ℕ
-row_line n later before line = row_refused (row_behind n before (numbers_of (take before later)) line)
 
 -- files of distances, which are refused last where rows are missing
 pub record DistancesRefusals : Type 0 where
@@ -59,4 +46,4 @@ pub record DistancesRefusals : Type 0 where
       length later < n → distances bytes ≡ read.Refused (record { code = COUNT; line = 0 })
   pub taken : (bytes : List ℕ) (head : NumberedLine) (later : List NumberedLine) (n : ℕ) →
       length bytes ≤ MAX_FILE_BYTES → filled_of bytes ≡ head ∷ later → items_head head.text ≡ Ok n → NoLineRefused (row_line n later) 0 later →
-      n ≤ length later → distances bytes ≡ read.Ok (record { items = n; values = numbers_of later })
+      n ≤ length later → distances bytes ≡ read.Ok (table_written n later)

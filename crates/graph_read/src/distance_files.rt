@@ -3,7 +3,8 @@ ghost use Rattle.std.specs.Prelude.{◌≡◌, ◌+◌, ◌-◌, ◌*◌, ◌<�
 ghost use Rattle.matrix_read.specs.Lines.{lines_of, filled_lines};
 ghost use Rattle.matrix_read.specs.Words.{words_of};
 ghost use Rattle.graph_read.specs.Numbers.{one_number};
-ghost use Rattle.graph_read.specs.DistanceFiles.{numbers_behind, is_symmetric_at, is_row_at, with_row, row_behind, table_behind, items_named, distances};
+ghost use Rattle.graph_read.specs.DistanceFiles.{items_named, distances};
+ghost use Rattle.graph_read.specs.DistanceSteps.{numbers_behind, is_row_at, table_with_row, row_behind, table_behind};
 
 use crate::distances::Distances;
 use crate::graph_files::refusal;
@@ -65,12 +66,12 @@ fn is_row(values: &[u64], n: usize, x: usize) -> bool
 }
 
 // The code by which a table is refused behind the row of x, if it is, where a whole row makes it so long.
-fn row_code(values: &[u64], n: usize, whole: usize, x: usize) -> Option<u8>
+fn entries_code(values: &[u64], n: usize, whole: usize, x: usize) -> Option<u8>
     requires items { n ≤ MAX_ITEMS }
     requires row { (1 ≤ x) × (x ≤ n) }
     requires whole { whole ≡ x * n }
-    ensures refused { IfSome result (λ code. with_row n whole x (Ok values.now) ≡ Err code) }
-    ensures taken { IfNone result (with_row n whole x (Ok values.now) ≡ Ok values.now) }
+    ensures refused { IfSome result (λ code. table_with_row n whole x (Ok values.now) ≡ Err code) }
+    ensures taken { IfNone result (table_with_row n whole x (Ok values.now) ≡ Ok values.now) }
     ensures len { IfNone result (length values.now ≡ whole) }
 {
     if values.len() != whole {
@@ -98,7 +99,7 @@ fn push_row(line: &[u8], n: usize, x: usize, values: &mut Vec<u64>) -> Result<Op
     let whole = values.len() + n;
     match push_numbers(line, values)? {
         Some(code) => Ok(Some(code)),
-        None => Ok(row_code(values, n, whole, x + 1)),
+        None => Ok(entries_code(values, n, whole, x + 1)),
     }
 }
 
@@ -143,16 +144,17 @@ fn push_rows(
 /// Reads distances from the bytes of a file: a line with the number of items, and a line for each row of the table.
 ///
 /// Blank lines are passed over, and they count for line numbers. The first line has one number n, from 1 to
-/// [`MAX_ITEMS`](row_model::MAX_ITEMS). Each of
-/// the n later lines has n numbers of 64 bits: the distances of one item to all. The table is symmetric, and the distance
-/// of an item to itself is 0. A byte order mark at the start is passed over.
+/// [`MAX_ITEMS`](row_model::MAX_ITEMS). Each of the n later lines has n numbers of 64 bits: the distances of one item
+/// to all. The table is symmetric, and the distance of an item to itself is 0. A byte order mark at the start is passed
+/// over.
 ///
-/// A file that breaks a rule gives its first refusal. The length of the file comes first, then a file without a line, and
-/// then line for line from the first on. A row is judged by the number of rows before it, then word for word from the
-/// left, by the number of its words, and by the rows above it. Last come rows that are missing.
+/// A file that breaks a rule gives its first refusal. The length of the file comes first, then a file without a line,
+/// and then line for line from the first on. A row is judged by the number of rows before it, then word for word from
+/// the left, by the number of its words, and by the rows above it. Last come rows that are missing.
 ///
-/// The time is linear in the length of the file. The numbers of a line are kept until it is judged, eight bytes each, and
-/// those of the table stay.
+/// The time is linear in the length of the file. The numbers of a line are kept until it is judged, behind those of the
+/// table, which stay: eight bytes each in a list whose room doubles as it grows, so up to sixteen bytes for each
+/// number, and up to 24 while the list moves to its new room.
 ///
 /// # Errors
 ///

@@ -7,7 +7,8 @@ use row_model::NoMemory;
 use std::alloc::Global;
 use std::marker::Model;
 
-/// The distances between 1 to [`ITEM_BOUND`] items: a symmetric table with a zero diagonal, kept row by row, eight bytes a distance.
+/// The distances between 1 to [`ITEM_BOUND`] items: a symmetric table with a zero diagonal, kept row by row, eight
+/// bytes a distance.
 ///
 /// Contracts know `IsDistances` of every table, by [`items`](Distances::items).
 #[derive(Drop)]

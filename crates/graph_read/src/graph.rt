@@ -8,10 +8,11 @@ use row_model::{COLUMN_BOUND, Matrix, NoMemory};
 use std::alloc::Global;
 use std::marker::Model;
 
-/// A graph without loops: 1 to [`COLUMN_BOUND`](row_model::COLUMN_BOUND) vertices, and for each the strictly ascending list of its neighbours.
+/// A graph without loops: 1 to [`COLUMN_BOUND`](row_model::COLUMN_BOUND) vertices, and for each the strictly ascending
+/// list of its neighbours.
 ///
-/// The lists lie one after another, so a graph takes eight bytes for each edge and eight for each vertex. Contracts know
-/// `IsGraph` of every graph, by [`vertices`](Graph::vertices).
+/// The lists lie one after another, so a graph takes eight bytes for each edge and eight for each vertex. Contracts
+/// know `IsGraph` of every graph, by [`vertices`](Graph::vertices).
 #[derive(Drop)]
 pub struct Graph {
     alloc: Global,

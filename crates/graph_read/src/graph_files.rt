@@ -14,16 +14,18 @@ use std::alloc::Global;
 /// Reads a bipartite graph from the bytes of a file: a line with the sizes of the two sides, and a line for each edge.
 ///
 /// Blank lines are passed over, and they count for line numbers. The first line has two numbers: the size of the left
-/// side, from 1 to `left_limit`, and that of the right side, from 1 to [`MAX_COLUMNS`](row_model::MAX_COLUMNS). Each later
-/// line has two numbers, an x and a y of these sides: an edge. An edge that is repeated counts once. A byte order mark at
-/// the start is passed over.
+/// side, from 1 to `left_limit`, and that of the right side, from 1 to [`MAX_COLUMNS`](row_model::MAX_COLUMNS). Each
+/// later line has two numbers, an x and a y of these sides: an edge. An edge that is repeated counts once. A byte order
+/// mark at the start is passed over.
 ///
-/// A file that breaks a rule gives its first refusal. The length of the file comes first, then a file without a line, and
-/// then line for line from the first on. A line is judged by its words, then by their range, and the first line last by
-/// the limits.
+/// A file that breaks a rule gives its first refusal. The length of the file comes first, then a file without a line,
+/// and then line for line from the first on. A line is judged by its words, then by their range, and the first line
+/// last by the limits.
 ///
-/// While it reads it keeps four bytes for each line, beside the graph. Where the edges ascend, first by x and then by y,
-/// the time is linear in the length of the file and the size of the left side. Else the edges are sorted, in place.
+/// While it reads it keeps the edges in a list of four bytes each, whose room doubles as it grows: beside the graph up
+/// to eight bytes for each line, and up to twelve while the list moves to its new room. Where the edges ascend, first
+/// by x and then by y, the time is linear in the length of the file and the size of the left side. Else the edges are
+/// sorted, in place.
 ///
 /// # Errors
 ///
@@ -54,11 +56,13 @@ pub fn read_bigraph(alloc: Global, bytes: &[u8], left_limit: u32) -> Result<Read
 /// [`MAX_COLUMNS`](row_model::MAX_COLUMNS). Each later line has the numbers of two different vertices: an edge. An edge
 /// that is repeated, either way round, counts once. A byte order mark at the start is passed over.
 ///
-/// A file that breaks a rule gives its first refusal. The length of the file comes first, then a file without a line, and
-/// then line for line from the first on. A line is judged by its words, then by their range; the first line last by the
-/// limit, and a later one last as a loop.
+/// A file that breaks a rule gives its first refusal. The length of the file comes first, then a file without a line,
+/// and then line for line from the first on. A line is judged by its words, then by their range; the first line last by
+/// the limit, and a later one last as a loop.
 ///
-/// While it reads it keeps eight bytes for each line, beside the graph. The edges are sorted, in place, each both ways.
+/// While it reads it keeps each edge both ways in a list of four bytes a way, whose room doubles as it grows: beside
+/// the graph up to sixteen bytes for each line, and up to 24 while the list moves to its new room. The list is sorted,
+/// in place.
 ///
 /// # Errors
 ///

@@ -9,6 +9,10 @@ use row_model::{COLUMN_BOUND, Matrix, NoMemory, ROW_BOUND};
 use std::alloc::Global;
 
 /// So many lists without a neighbour.
+///
+/// # Errors
+///
+/// [`NoMemory`] where memory is refused.
 pub fn empty_lists(alloc: Global, count: u32, columns: u32) -> Result<Matrix, NoMemory>
     requires count { count ≤ LEFT_BOUND }
     requires columns { (1 ≤ columns) × (columns ≤ COLUMN_BOUND) }
@@ -22,6 +26,10 @@ pub fn empty_lists(alloc: Global, count: u32, columns: u32) -> Result<Matrix, No
 }
 
 /// The lists with one neighbour more, `y`, in that of `x`.
+///
+/// # Errors
+///
+/// [`NoMemory`] where memory is refused.
 pub fn with_edge(alloc: Global, old: &Matrix, x: u32, y: u32) -> Result<Matrix, NoMemory>
     requires columns { (1 ≤ old.now.columns) × (old.now.columns ≤ COLUMN_BOUND) }
     requires few { length old.now.rows ≤ LEFT_BOUND }

@@ -1,4 +1,4 @@
-// The two numbers of a line.
+// Words as numbers, and the one or two numbers of a line.
 ghost use Rattle.std.specs.Prelude.{◌≡◌, length};
 ghost use Rattle.matrix_read.specs.Words.{words_of};
 ghost use Rattle.graph_read.specs.Numbers.{is_number, is_zero, is_past, is_within, value_of, both_numbers, two_numbers, if_number, one_number};
@@ -67,6 +67,7 @@ fn if_number(numeral: Numeral) -> Option<Numeral>
     }
 }
 
+// Whether a word is digits.
 fn is_number(numeral: Numeral) -> bool
     ensures { result ≡ is_number numeral }
 {

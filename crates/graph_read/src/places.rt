@@ -13,6 +13,10 @@ use row_model::{COLUMN_BOUND, Matrix, NoMemory};
 use std::alloc::Global;
 
 /// Adds the place of an edge, and where edges go both ways that of the edge back.
+///
+/// # Errors
+///
+/// [`NoMemory`] where memory is refused.
 pub fn push_edge(shape: Shape, places: &mut Vec<u32>, edge: Edge) -> Result<(), NoMemory>
     requires small { (left_of shape ≤ LEFT_BOUND) × (right_of shape ≤ COLUMN_BOUND) }
     requires from { (1 ≤ edge.from) × (edge.from ≤ left_of shape) }
@@ -41,6 +45,10 @@ fn place(right: u32, edge: Edge) -> u32
 }
 
 /// The lists of the edges at ascending places.
+///
+/// # Errors
+///
+/// [`NoMemory`] where memory is refused.
 pub fn lists_at(alloc: Global, left: u32, right: u32, places: &[u32]) -> Result<Matrix, NoMemory>
     requires left { left ≤ LEFT_BOUND }
     requires right { (1 ≤ right) × (right ≤ COLUMN_BOUND) }
@@ -57,8 +65,8 @@ pub fn lists_at(alloc: Global, left: u32, right: u32, places: &[u32]) -> Result<
     Ok(lists)
 }
 
-// Puts the numbers of a row, whose first place is given, in place of what a list has, where the places from `from` on are
-// those of this row and of later ones. The answer is where those of later rows begin.
+// Puts the numbers of a row, whose first place is given, in place of what a list has, where the places from `from` on
+// are those of this row and of later ones. The answer is where those of later rows begin.
 fn take_row(
     places: &[u32],
     from: usize,

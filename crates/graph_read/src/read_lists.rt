@@ -14,8 +14,13 @@ use std::alloc::Global;
 /// The lists that the lines from a place on give, where `passed` lines stand before it; or the first refusal.
 ///
 /// Each line that is not blank is an edge. The edges may stand in any order, and each any number of times. Beside the
-/// lists themselves they take four bytes for each line, and eight where edges go both ways. Where they stand in the order
-/// of the lists the time is linear; else they are sorted.
+/// lists themselves they are kept in a list of four bytes for each line, and eight where edges go both ways, whose room
+/// doubles as it grows: up to twice as much, and up to three times while the list moves to its new room. Where they
+/// stand in the order of the lists the time is linear; else they are sorted.
+///
+/// # Errors
+///
+/// [`NoMemory`] where memory is refused.
 pub fn read_lists(
     alloc: Global,
     shape: Shape,

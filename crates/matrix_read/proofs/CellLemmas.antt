@@ -12,7 +12,7 @@ use Rattle.row_model.proofs.Filtered.{has_filtered, filtered_row}
 use Rattle.row_model.specs.declared.refusal.Refusal.{Refusal}
 use Rattle.matrix_read.specs.Lines.{is_blank_byte, is_blank}
 use Rattle.matrix_read.specs.Words.{blank_len}
-use Rattle.matrix_read.specs.Cells.{without_last_blanks, trimmed, cells, is_present, row_of}
+use Rattle.matrix_read.specs.Cells.{without_last_blanks, trimmed, cells, is_present, record_row}
 use Rattle.matrix_read.specs.Table.{record_code, record_refusal}
 use Rattle.matrix_read.specs.Names.{has_twice}
 use Rattle.matrix_read.specs.Rows.{refusal_or}
@@ -50,11 +50,11 @@ pub row_law_holds : RowLaw
 row_law_holds fields column =
     let c = length (cells fields) in
     let passes : ℕ → Bool = λ j. is_present (get_or (cells fields) (j - 1) []) in
-    let at : 1 ≤ column → column ≤ c → has (row_of fields) column ≡ is_present (trimmed (get_or fields column [])) =
+    let at : 1 ≤ column → column ≤ c → has (record_row fields) column ≡ is_present (trimmed (get_or fields column [])) =
     λ from to. has_filtered passes c column from to ∙ ap is_present (cell_at fields column from) in
     let width : length fields ≤ c + 1 = length-cells-le fields in (
       λ h.
-          let bounds = row_within c (row_of fields) (filtered_row passes c) column h in
+          let bounds = row_within c (record_row fields) (filtered_row passes c) column h in
           (bounds.0, omega (arith, bounds.1, cells-lt fields (omega arith)), sym (at bounds.0 bounds.1) ∙ h),
       λ h. at h.0 (omega (arith, h.1, width)) ∙ h.2,
     )

@@ -12,13 +12,12 @@ use Rattle.row_model.specs.declared.refusal.Refusal.{Refusal}
 use Rattle.row_model.specs.declared.refusal.Read.TheVariants as answer
 use Rattle.row_model.specs.declared.TheConstants.{MAX_COLUMNS, MAX_ROWS}
 use Rattle.row_model.specs.declared.code.TheConstants.{EMPTY, RANGE, TWICE, LIMIT}
-use Rattle.matrix_read.specs.Lines.{without_mark}
 use Rattle.matrix_read.specs.Rows.{refused_or}
-use Rattle.matrix_read.specs.Clones.{reading, array_at, count, is_probe, column_of, probes_of, names_code, first_refused, names_row, clone_row, clone_rows, head_code, clone_matrix, unless_refused, if_shaped, if_read, clones}
+use Rattle.matrix_read.specs.Clones.{array_at, count, is_probe, column_of, probes_of, names_code, first_refused, names_row, clone_row, clone_rows, head_code, clone_matrix, unless_refused, if_shaped, if_read}
 use Rattle.matrix_read.specs.Names.{has_twice}
-use Rattle.matrix_read.specs.CloneRows.{values_of, IsCloneRow, IsMatrixOf, CloneLaw}
+use Rattle.matrix_read.specs.CloneRows.{values_of, IsCloneRow, IsMatrixOf}
 use Rattle.matrix_read.proofs.CloneLemmas.{clone_row_ascends}
-use Rattle.matrix_read.proofs.Within.{inside_read, none_first}
+use Rattle.matrix_read.proofs.Within.{none_first}
 use Rattle.matrix_read.proofs.NameLemmas.{same_bytes}
 
 -- a name is none of the names that lack it
@@ -56,7 +55,7 @@ column_is name (probe ∷ probes) (suc place) once lt =
       | inr other ↦ rw other (one_further (position_or_len (bytes_eq name) probes) place ∙ column_is name probes place alone.1 (omega arith))
     ]
 
-column_found : (probes names : List (List ℕ)) (place : ℕ) → has_twice probes ≡ false → place < length probes → has (map (column_of probes) names) (place + 1) ≡ list_any (bytes_eq (get_or probes place [])) names
+pub column_found : (probes names : List (List ℕ)) (place : ℕ) → has_twice probes ≡ false → place < length probes → has (map (column_of probes) names) (place + 1) ≡ list_any (bytes_eq (get_or probes place [])) names
 column_found probes [] place once lt = refl
 column_found probes (name ∷ names) place once lt = rw (column_is name probes place once lt, column_found probes names place once lt) refl
 
@@ -93,7 +92,7 @@ rows_are probes number (item first clones) once h zero clone stands =
 rows_are probes number (item first clones) once h (suc i) clone stands =
     rows_are probes (number + 1) clones once (none_first (names_code probes (probes_of first)) number (first_refused probes (number + 1) clones) h).1 i clone stands
 
-length_rows : (probes : List (List ℕ)) (clones : Items) → length (clone_rows probes clones) ≡ length (values_of clones)
+pub length_rows : (probes : List (List ℕ)) (clones : Items) → length (clone_rows probes clones) ≡ length (values_of clones)
 length_rows probes no_items = refl
 length_rows probes (item clone clones) = ap suc (length_rows probes clones)
 
@@ -135,12 +134,6 @@ module _ (value : Data) (m : RowList) where
   shaped_as (Some probes) None p l e = absurd (cc)
   shaped_as (Some probes) (Some clones) p l e = headed probes clones p l (head_code probes (count clones)) refl e
 
-read_as : (m : RowList) (found : Option Data) → if_read found ≡ answer.Ok m → (value : Data) × (found ≡ Some value) × IsMatrixOf value m
+pub read_as : (m : RowList) (found : Option Data) → if_read found ≡ answer.Ok m → (value : Data) × (found ≡ Some value) × IsMatrixOf value m
 read_as m None e = absurd (cc)
 read_as m (Some value) e = (value, refl, shaped_as value m (probes_of value) (array_at (codes "clones") value) refl refl e)
-
-pub clone_law_holds : CloneLaw
-unfolding clones
-clone_law_holds bytes m e =
-    let found = reading (without_mark bytes) in
-    read_as m found (inside_read bytes (if_read found) m e)

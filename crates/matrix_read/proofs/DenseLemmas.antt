@@ -9,7 +9,7 @@ use Rattle.row_model.specs.declared.code.TheConstants.{GRAMMAR, COUNT, LIMIT}
 use Rattle.matrix_read.specs.Lines.{NumberedLine, is_blank, is_blank_byte, filled_lines, lines_of, without_mark}
 use Rattle.row_model.proofs.Limits.{too_long, short_enough}
 use Rattle.matrix_read.proofs.RowLemmas.{first_refusal-later}
-use Rattle.matrix_read.specs.Dense.{is_digit, is_foreign, digits_of, width_of, row_of, rows_of, first_code, row_code, read_lines, dense}
+use Rattle.matrix_read.specs.Dense.{is_digit, is_foreign_byte, digits_of, width_of, digit_row, digit_rows, first_code, row_code, read_lines, dense}
 use Rattle.matrix_read.specs.DenseSteps.{rows_or_refusal}
 use Rattle.matrix_read.specs.Rows.{refusal_or, refused_or, first_refusal}
 use Rattle.matrix_read.proofs.PlaceLemmas.{places_from, places_columns}
@@ -21,17 +21,17 @@ first_line_refused line lines rest code is h = rw (is, h) refl
 pub first_line_taken : (line : NumberedLine) (lines rest : List NumberedLine) → lines ≡ line ∷ rest → first_code line.text ≡ None → read_lines lines ≡ rows_or_refusal (width_of line.text) lines
 first_line_taken line lines rest is h =
     let width = width_of line.text in
-    let clean : list_any is_foreign line.text ≡ false = first_clean line.text h in
+    let clean : list_any is_foreign_byte line.text ≡ false = first_clean line.text h in
     let taken : row_code width 0 line.text ≡ None = rw (clean, eq-eqb width width refl) refl in
-    rw is (ap (λ code. refused_or (refusal_or code line.number (first_refusal (row_code width) 1 rest)) (record { columns = width; rows = rows_of (line ∷ rest) })) h
-    ∙ ap (λ refusal. refused_or refusal (record { columns = width; rows = rows_of (line ∷ rest) })) (sym (first_refusal-later (row_code width) 0 line rest taken)))
+    rw is (ap (λ code. refused_or (refusal_or code line.number (first_refusal (row_code width) 1 rest)) (record { columns = width; rows = digit_rows (line ∷ rest) })) h
+    ∙ ap (λ refusal. refused_or refusal (record { columns = width; rows = digit_rows (line ∷ rest) })) (sym (first_refusal-later (row_code width) 0 line rest taken)))
   where
     no_foreign : (foreign wide : Bool) (c1 c2 : ℕ) → (if foreign then Some c1 else if wide then Some c2 else None) ≡ None → foreign ≡ false
     no_foreign true wide c1 c2 k = absurd (cc)
     no_foreign false wide c1 c2 k = refl
 
-    first_clean : (text : List ℕ) → first_code text ≡ None → list_any is_foreign text ≡ false
-    first_clean text k = no_foreign (list_any is_foreign text) (nat_lt MAX_COLUMNS (width_of text)) GRAMMAR LIMIT k
+    first_clean : (text : List ℕ) → first_code text ≡ None → list_any is_foreign_byte text ≡ false
+    first_clean text k = no_foreign (list_any is_foreign_byte text) (nat_lt MAX_COLUMNS (width_of text)) GRAMMAR LIMIT k
 
 -- a line that is not blank and has no foreign byte has a digit
 digit_or : (digit blank filled foreign : Bool) (n : ℕ) → (blank && filled) ≡ false → (not (digit || blank) || foreign) ≡ false → (filled ≡ false → foreign ≡ false → 1 ≤ n) → 1 ≤ (if digit then suc n else n)
@@ -39,10 +39,10 @@ digit_or true blank filled foreign n h g rest = omega arith
 digit_or false true filled foreign n h g rest = rest h g
 digit_or false false filled foreign n h g rest = absurd (cc)
 
-pub some_digit : (line : List ℕ) → is_blank line ≡ false → list_any is_foreign line ≡ false → 1 ≤ width_of line
+pub some_digit : (line : List ℕ) → is_blank line ≡ false → list_any is_foreign_byte line ≡ false → 1 ≤ width_of line
 some_digit [] blank clean = absurd (cc)
 some_digit (b ∷ line) blank clean =
-    width_step (is_digit b) (digit_or (is_digit b) (is_blank_byte b) (is_blank line) (list_any is_foreign line) (width_of line) blank clean (some_digit line))
+    width_step (is_digit b) (digit_or (is_digit b) (is_blank_byte b) (is_blank line) (list_any is_foreign_byte line) (width_of line) blank clean (some_digit line))
   where
     width_step : (digit : Bool) → 1 ≤ (if digit then suc (width_of line) else width_of line) → 1 ≤ length (if digit then b ∷ digits_of line else digits_of line)
     width_step true h = h
@@ -68,10 +68,10 @@ never_true false h = refl
 abbrev pub ones_from : ℕ → List ℕ → List ℕ
 ones_from column digits = places_from (λ digit. digit == 49) column digits
 
-pub ones_columns : (line : List ℕ) → ones_from 1 (digits_of line) ≡ row_of line
+pub ones_columns : (line : List ℕ) → ones_from 1 (digits_of line) ≡ digit_row line
 ones_columns line = places_columns (λ digit. digit == 49) 0 (digits_of line)
 
-pub row_ascends : (c : ℕ) (line : List ℕ) → width_of line ≡ c → IsRow c (row_of line)
+pub row_ascends : (c : ℕ) (line : List ℕ) → width_of line ≡ c → IsRow c (digit_row line)
 row_ascends c line is = rw (← is) (filtered_row (λ column. get_or (digits_of line) (column - 1) 0 == 49) (width_of line))
 
 -- a row that is not refused has the width of the first
@@ -83,7 +83,7 @@ last_test false false false c1 c2 c3 h = absurd (cc)
 
 pub row_code-width : (width before : ℕ) (line : List ℕ) → row_code width before line ≡ None → width_of line ≡ width
 row_code-width width before line h =
-    eqb-true (width_of line) width (last_test (nat_le MAX_ROWS before) (list_any is_foreign line) (width_of line == width) LIMIT GRAMMAR COUNT h)
+    eqb-true (width_of line) width (last_test (nat_le MAX_ROWS before) (list_any is_foreign_byte line) (width_of line == width) LIMIT GRAMMAR COUNT h)
 
 -- the length of the file comes first
 pub dense_long : (bytes : List ℕ) → MAX_FILE_BYTES < length bytes → dense bytes ≡ read.Refused (record { code = LIMIT; line = 0 })

@@ -17,5 +17,6 @@ pub mod Within
 pub mod WithinLines
 pub mod WithinTable
 pub mod WithinClones
+pub mod CloneCauses
 pub mod RefusalLemmas
 pub mod TextLemmas

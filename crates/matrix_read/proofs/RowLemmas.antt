@@ -29,20 +29,20 @@ module _ (code_of : ℕ → List ℕ → Option ℕ) (before : ℕ) (line : Numb
   unfolding first_refusal
   first_refusal-later h = rw h refl
 
-module _ (code_of : ℕ → List ℕ → Option ℕ) (row_of : List ℕ → List ℕ) (c : ℕ) where
+module _ (code_of : ℕ → List ℕ → Option ℕ) (row_from : List ℕ → List ℕ) (c : ℕ) where
   -- the answer, where these rows stand before the lines
   abbrev pub answer_after : List (List ℕ) → List NumberedLine → Read RowList
-  answer_after rows lines = refused_or (first_refusal code_of (length rows) lines) (record { columns = c; rows = rows ++ map (λ line. row_of line.text) lines })
+  answer_after rows lines = refused_or (first_refusal code_of (length rows) lines) (record { columns = c; rows = rows ++ map (λ line. row_from line.text) lines })
 
   -- one line less, which is refused or a row
   module _ (rows : List (List ℕ)) (line : NumberedLine) (lines rest : List NumberedLine) (is : lines ≡ line ∷ rest) where
     pub answer_stop : (code : ℕ) → code_of (length rows) line.text ≡ Some code → answer_after rows lines ≡ read.Refused (record { code = code; line = line.number })
     answer_stop code h = rw (is, first_refusal-here code_of (length rows) line rest code h) refl
 
-    pub answer_step : code_of (length rows) line.text ≡ None → answer_after (rows ++ row_of line.text ∷ []) rest ≡ answer_after rows lines
+    pub answer_step : code_of (length rows) line.text ≡ None → answer_after (rows ++ row_from line.text ∷ []) rest ≡ answer_after rows lines
     answer_step h =
-        let count : length (rows ++ row_of line.text ∷ []) ≡ length rows + 1 = length-append rows (row_of line.text ∷ []) in
-        rw (is, first_refusal-later code_of (length rows) line rest h, count, append_assoc rows (row_of line.text ∷ []) (map (λ (line : NumberedLine). row_of line.text) rest)) refl
+        let count : length (rows ++ row_from line.text ∷ []) ≡ length rows + 1 = length-append rows (row_from line.text ∷ []) in
+        rw (is, first_refusal-later code_of (length rows) line rest h, count, append_assoc rows (row_from line.text ∷ []) (map (λ (line : NumberedLine). row_from line.text) rest)) refl
 
   pub answer_end : (m : RowList) (lines : List NumberedLine) → lines ≡ [] → m.columns ≡ c → answer_after m.rows lines ≡ read.Ok m
   unfolding first_refusal

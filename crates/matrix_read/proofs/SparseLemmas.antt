@@ -8,7 +8,7 @@ use Rattle.row_model.specs.declared.TheConstants.{MAX_ROWS, MAX_FILE_BYTES}
 use Rattle.row_model.specs.declared.code.TheConstants.{LIMIT}
 use Rattle.matrix_read.specs.Lines.{is_blank, lines_of, without_mark}
 use Rattle.matrix_read.specs.Words.{words_of, only_word, blank_len, word_len, number_of}
-use Rattle.matrix_read.specs.Sparse.{column_code, words_code, line_code, first_width, row_named, numbers_of, named_rows, sparse_lines, sparse, further}
+use Rattle.matrix_read.specs.Sparse.{column_code, words_code, line_code, width_given, row_named, columns_named, named_rows, sparse_lines, sparse, further}
 use Rattle.matrix_read.specs.Rows.{numbered_lines}
 use Rattle.matrix_read.proofs.WordLemmas.{word_step, no_word}
 use Rattle.row_model.proofs.Filtered.{filtered_row}
@@ -16,7 +16,7 @@ use Rattle.row_model.proofs.Limits.{too_long, short_enough}
 
 -- the columns of a row ascend
 pub row_ascends : (c : ℕ) (line : List ℕ) → IsRow c (row_named c line)
-row_ascends c line = filtered_row (has (numbers_of (words_of line))) c
+row_ascends c line = filtered_row (has (columns_named (words_of line))) c
 
 -- a line with one word alone
 pub one_word : (line : List ℕ) (start end : ℕ) → start ≡ 0 + blank_len (slice_range line 0 (length line)) → end ≡ start + word_len (slice_range line start (length line)) → start < end
@@ -45,7 +45,7 @@ unfolding words_code
 words_end c words is = rw is refl
 
 -- no mark is left to be made
-pub marks_end : (mark named : Bool) (words : List (List ℕ)) (column : ℕ) → words ≡ [] → (mark || has (numbers_of words) column) ≡ named → mark ≡ named
+pub marks_end : (mark named : Bool) (words : List (List ℕ)) (column : ℕ) → words ≡ [] → (mark || has (columns_named words) column) ≡ named → mark ≡ named
 marks_end true named words column is h = h
 marks_end false named words column is h = rw is at h
 
@@ -73,10 +73,10 @@ line_taken c before line few named = rw (lt-leb MAX_ROWS before few) named
 
 -- the first line of all
 module _ (text line : List ℕ) (later : List (List ℕ)) (is : lines_of text ≡ line ∷ later) where
-  pub first_refused : (code : ℕ) → Err code ≡ first_width (only_word (words_of line)) → sparse_lines (numbered_lines 1 (lines_of text)) ≡ read.Refused (record { code = code; line = 1 })
+  pub first_refused : (code : ℕ) → Err code ≡ width_given (only_word (words_of line)) → sparse_lines (numbered_lines 1 (lines_of text)) ≡ read.Refused (record { code = code; line = 1 })
   unfolding numbered_lines
   first_refused code e = rw (is, ← e) refl
 
-  pub first_taken : (c : ℕ) → Ok c ≡ first_width (only_word (words_of line)) → sparse_lines (numbered_lines 1 (lines_of text)) ≡ named_rows c (numbered_lines 2 later)
+  pub first_taken : (c : ℕ) → Ok c ≡ width_given (only_word (words_of line)) → sparse_lines (numbered_lines 1 (lines_of text)) ≡ named_rows c (numbered_lines 2 later)
   unfolding numbered_lines
   first_taken c e = rw (is, ← e) refl

@@ -17,8 +17,8 @@ use Rattle.matrix_read.specs.Rows.{refusal_or, refused_or}
 use Rattle.row_model.proofs.Filtered.{filtered_row}
 use Rattle.row_model.proofs.Limits.{too_long, short_enough}
 use Rattle.matrix_read.proofs.PlaceLemmas.{places_from, places_columns}
-use Rattle.matrix_read.specs.Cells.{without_last_blanks, trimmed, cells, is_empty, is_present, is_foreign, row_of}
-use Rattle.matrix_read.specs.Table.{header_code, record_code, record_refusal, read_records, table}
+use Rattle.matrix_read.specs.Cells.{without_last_blanks, trimmed, cells, is_empty, is_present, is_foreign_cell, record_row}
+use Rattle.matrix_read.specs.Table.{header_code, record_code, record_refusal, table_matrix, read_records, table}
 use Rattle.matrix_read.specs.TableLaws.{are_even, TableRefusals}
 use Rattle.matrix_read.specs.TableSteps.{header_read, with_records, with_even_records}
 
@@ -73,10 +73,10 @@ present_from column cells = places_from is_present column cells
 
 -- one field more: whether its cell is foreign, and its column, which is written whether or not the row has it
 module _ (fields : List (List ℕ)) (i : ℕ) (field : List ℕ) (is : field_at fields i ≡ Some field) where
-  pub foreign_here : is_foreign (trimmed field) ≡ true → list_any is_foreign (map trimmed (drop i fields)) ≡ true
+  pub foreign_here : is_foreign_cell (trimmed field) ≡ true → list_any is_foreign_cell (map trimmed (drop i fields)) ≡ true
   foreign_here h = rw (cells_step fields i field is, h) refl
 
-  pub foreign_later : is_foreign (trimmed field) ≡ false → list_any is_foreign (map trimmed (drop (i + 1) fields)) ≡ list_any is_foreign (map trimmed (drop i fields))
+  pub foreign_later : is_foreign_cell (trimmed field) ≡ false → list_any is_foreign_cell (map trimmed (drop (i + 1) fields)) ≡ list_any is_foreign_cell (map trimmed (drop i fields))
   foreign_later h = rw (cells_step fields i field is, h) refl
 
   pub column_more : (columns : List ℕ) (ones entry : ℕ) → ones < length columns → entry ≡ from_bool (is_present (trimmed field))
@@ -90,7 +90,7 @@ module _ (fields : List (List ℕ)) (i : ℕ) (field : List ℕ) (is : field_at 
       by true = rw (take_more_set columns ones i within) (append_assoc (take ones columns) (i ∷ []) rest)
       by false = rw (take-set-le (ones + 0) columns ones i (omega arith)) (ap (λ n. take n columns ++ rest) (omega arith))
 
-  pub foreign_empty : is_empty field ≡ true → list_any is_foreign (map trimmed (drop (i + 1) fields)) ≡ list_any is_foreign (map trimmed (drop i fields))
+  pub foreign_empty : is_empty field ≡ true → list_any is_foreign_cell (map trimmed (drop (i + 1) fields)) ≡ list_any is_foreign_cell (map trimmed (drop i fields))
   foreign_empty h = rw (cells_step fields i field is, empty_cell field h) refl
 
   pub column_empty : is_empty field ≡ true → present_from (i + 1) (map trimmed (drop (i + 1) fields)) ≡ present_from i (map trimmed (drop i fields))
@@ -110,14 +110,14 @@ pub filter_kept : (keeps : List ℕ → Bool) (xs rest : List (List ℕ)) (x : L
 filter_kept keeps xs rest x is h = rw (is, h) refl
 
 -- from column 1 on they are the row
-pub present_columns : (fields : List (List ℕ)) → present_from 1 (cells fields) ≡ row_of fields
+pub present_columns : (fields : List (List ℕ)) → present_from 1 (cells fields) ≡ record_row fields
 present_columns fields = places_columns is_present [] (cells fields)
 
 length-cells : (fields : List (List ℕ)) (n : ℕ) → length fields ≡ n + 1 → length (cells fields) ≡ n
 length-cells [] n h = absurd (omega arith)
 length-cells (f ∷ fields) n h = length-map fields trimmed ∙ omega arith
 
-pub row_ascends : (c : ℕ) (fields : List (List ℕ)) → length fields ≡ c + 1 → IsRow c (row_of fields)
+pub row_ascends : (c : ℕ) (fields : List (List ℕ)) → length fields ≡ c + 1 → IsRow c (record_row fields)
 row_ascends c fields h = rw (← length-cells fields c h) (filtered_row (λ column. is_present (get_or (cells fields) (column - 1) [])) (length (cells fields)))
 
 -- one record and then others
@@ -138,10 +138,10 @@ pub code_full : (before : ℕ) (fields : List (List ℕ)) → MAX_ROWS ≤ befor
 code_full before fields h = rw (le-leb MAX_ROWS before h) refl
 
 module _ (before : ℕ) (fields : List (List ℕ)) (few : before < MAX_ROWS) where
-  pub code_foreign : list_any is_foreign (cells fields) ≡ true → record_code before fields ≡ Some GRAMMAR
+  pub code_foreign : list_any is_foreign_cell (cells fields) ≡ true → record_code before fields ≡ Some GRAMMAR
   code_foreign h = rw (lt-leb MAX_ROWS before few, h) refl
 
-  pub code_none : list_any is_foreign (cells fields) ≡ false → record_code before fields ≡ None
+  pub code_none : list_any is_foreign_cell (cells fields) ≡ false → record_code before fields ≡ None
   code_none h = rw (lt-leb MAX_ROWS before few, h) refl
 
 pub record_refused : (m : RowList) (fields : List (List ℕ)) (rest : List (List (List ℕ))) (code : ℕ) → record_code (length m.rows) fields ≡ Some code
@@ -149,10 +149,10 @@ pub record_refused : (m : RowList) (fields : List (List ℕ)) (rest : List (List
 record_refused m fields rest code h = rw (refusal_here (length m.rows) fields rest code h) refl
 
 pub record_taken : (m : RowList) (fields : List (List ℕ)) (rest : List (List (List ℕ))) → record_code (length m.rows) fields ≡ None
-    → with_records (read.Ok m) (fields ∷ rest) ≡ with_records (read.Ok (record { columns = m.columns; rows = m.rows ++ row_of fields ∷ [] })) rest
+    → with_records (read.Ok m) (fields ∷ rest) ≡ with_records (read.Ok (record { columns = m.columns; rows = m.rows ++ record_row fields ∷ [] })) rest
 record_taken m fields rest h =
-    let count : length (m.rows ++ row_of fields ∷ []) ≡ length m.rows + 1 = length-append m.rows (row_of fields ∷ []) in
-    rw (refusal_later (length m.rows) fields rest h, count, append_assoc m.rows (row_of fields ∷ []) (map row_of rest)) refl
+    let count : length (m.rows ++ record_row fields ∷ []) ≡ length m.rows + 1 = length-append m.rows (record_row fields ∷ []) in
+    rw (refusal_later (length m.rows) fields rest h, count, append_assoc m.rows (record_row fields ∷ []) (map record_row rest)) refl
 
 pub no_record : (so_far : Read RowList) → with_records so_far [] ≡ so_far
 no_record (read.Refused refusal) = refl
@@ -165,7 +165,7 @@ one_by_one (read.Ok m) fields rest = by (record_code (length m.rows) fields) ref
     by : (code : Option ℕ) → record_code (length m.rows) fields ≡ code → with_records (with_records (read.Ok m) (fields ∷ [])) rest ≡ with_records (read.Ok m) (fields ∷ rest)
     by (Some code) e = ap (λ r. with_records r rest) (record_refused m fields [] code e) ∙ sym (record_refused m fields rest code e)
     by None e =
-        ap (λ r. with_records r rest) (record_taken m fields [] e ∙ no_record (read.Ok (record { columns = m.columns; rows = m.rows ++ row_of fields ∷ [] })))
+        ap (λ r. with_records r rest) (record_taken m fields [] e ∙ no_record (read.Ok (record { columns = m.columns; rows = m.rows ++ record_row fields ∷ [] })))
         ∙ sym (record_taken m fields rest e)
 
 -- records of one length, one after another
@@ -193,7 +193,7 @@ pub records_read : (header : List (List ℕ)) (further : List (List (List ℕ)))
 records_read header further = by (list_all (λ (fields : List (List ℕ)). length fields == length header) further) (header_code header)
   where
     m : RowList
-    m = record { columns = length (cells header); rows = map row_of further }
+    m = record { columns = length (cells header); rows = map record_row further }
 
     by : (even : Bool) (code : Option ℕ)
         → (if even then refused_or (refusal_or code 1 (record_refusal 0 further)) m else read.Refused (record { code = CSV; line = 0 }))
@@ -213,18 +213,14 @@ table_short bytes h = short_enough bytes _ h
 
 -- what is refused of records of one length, and of others
 module _ (header : List (List ℕ)) (further : List (List (List ℕ))) where
-  matrix : RowList
-  matrix = record { columns = length (cells header); rows = map row_of further }
-
-  read_if : (even : Bool) → are_even header further ≡ even → read_records (header ∷ further) ≡ (if even then refused_or (refusal_or (header_code header) 1 (record_refusal 0 further)) matrix else read.Refused (record { code = CSV; line = 0 }))
-  unfolding matrix
-  read_if even h = ap (λ b. if b then refused_or (refusal_or (header_code header) 1 (record_refusal 0 further)) (record { columns = length (cells header); rows = map row_of further }) else read.Refused (record { code = CSV; line = 0 })) h
+  read_if : (even : Bool) → are_even header further ≡ even → read_records (header ∷ further) ≡ (if even then refused_or (refusal_or (header_code header) 1 (record_refusal 0 further)) (table_matrix header further) else read.Refused (record { code = CSV; line = 0 }))
+  read_if even h = ap (λ b. if b then refused_or (refusal_or (header_code header) 1 (record_refusal 0 further)) (table_matrix header further) else read.Refused (record { code = CSV; line = 0 })) h
 
   read_header_refused : (code : ℕ) → are_even header further ≡ true → header_code header ≡ Some code → read_records (header ∷ further) ≡ read.Refused (record { code = code; line = 1 })
-  read_header_refused code h e = read_if true h ∙ ap (λ c. refused_or (refusal_or c 1 (record_refusal 0 further)) matrix) e
+  read_header_refused code h e = read_if true h ∙ ap (λ c. refused_or (refusal_or c 1 (record_refusal 0 further)) (table_matrix header further)) e
 
-  read_header_taken : are_even header further ≡ true → header_code header ≡ None → read_records (header ∷ further) ≡ refused_or (record_refusal 0 further) matrix
-  read_header_taken h e = read_if true h ∙ ap (λ c. refused_or (refusal_or c 1 (record_refusal 0 further)) matrix) e
+  read_header_taken : are_even header further ≡ true → header_code header ≡ None → read_records (header ∷ further) ≡ refused_or (record_refusal 0 further) (table_matrix header further)
+  read_header_taken h e = read_if true h ∙ ap (λ c. refused_or (refusal_or c 1 (record_refusal 0 further)) (table_matrix header further)) e
 
 pub table_refusals : TableRefusals
 table_refusals = record {
@@ -233,9 +229,7 @@ table_refusals = record {
   uneven = λ bytes header further short e h. table_short bytes short ∙ ap read_records e ∙ read_if header further false h;
   bad_header = λ bytes header further code short e h k. table_short bytes short ∙ ap read_records e ∙ read_header_refused header further code h k;
   bad_record = λ bytes header further refusal short e h k r.
-      table_short bytes short ∙ ap read_records e ∙ read_header_taken header further h k ∙ ap (λ found. refused_or found (matrix header further)) r;
-  taken = λ bytes header further short e h k r. (
-    matrix header further,
-    table_short bytes short ∙ ap read_records e ∙ read_header_taken header further h k ∙ ap (λ found. refused_or found (matrix header further)) r,
-  );
+      table_short bytes short ∙ ap read_records e ∙ read_header_taken header further h k ∙ ap (λ found. refused_or found (table_matrix header further)) r;
+  taken = λ bytes header further short e h k r.
+      table_short bytes short ∙ ap read_records e ∙ read_header_taken header further h k ∙ ap (λ found. refused_or found (table_matrix header further)) r;
 }

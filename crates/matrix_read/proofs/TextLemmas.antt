@@ -47,6 +47,7 @@ lines_law = record {
   none = ap (map without_return) no_parts;
   feed = λ line rest h. ap (map without_return) (parts_feed line rest h);
   last = last_line;
+  return_nothing = refl;
   return_dropped = return_dropped;
   return_none = return_none;
 }

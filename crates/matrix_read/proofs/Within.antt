@@ -7,7 +7,7 @@ use Rattle.row_model.specs.declared.refusal.Read.TheVariants as read
 use Rattle.row_model.specs.declared.TheConstants.{MAX_ROWS, MAX_FILE_BYTES}
 use Rattle.row_model.specs.declared.code.TheConstants.{LIMIT}
 use Rattle.row_model.specs.Rows.{RowList}
-use Rattle.matrix_read.specs.Limits.{IsWithin}
+use Rattle.matrix_read.specs.Limits.{IsWithinLimits}
 use Rattle.matrix_read.specs.Lines.{NumberedLine}
 use Rattle.matrix_read.specs.Rows.{refusal_or, refused_or, first_refusal}
 use Rattle.row_model.specs.Limits.{within_length}
@@ -21,9 +21,9 @@ pub inside_read : (bytes : List ℕ) (inside : Read RowList) (m : RowList) → w
 inside_read bytes inside m e = short_read (nat_lt MAX_FILE_BYTES (length bytes)) inside m e
 
 -- a matrix is read where nothing is refused
-pub ok_within : (refusal : Option Refusal) (n m : RowList) → refused_or refusal n ≡ read.Ok m → (refusal ≡ None → IsWithin n) → IsWithin m
+pub ok_within : (refusal : Option Refusal) (n m : RowList) → refused_or refusal n ≡ read.Ok m → (refusal ≡ None → IsWithinLimits n) → IsWithinLimits m
 ok_within (Some refusal) n m e within = absurd (cc)
-ok_within None n m e within = let same : n ≡ m = cc in subst IsWithin same (within refl)
+ok_within None n m e within = let same : n ≡ m = cc in subst IsWithinLimits same (within refl)
 
 -- neither the first nor a later one is refused
 pub none_first : (code : Option ℕ) (number : ℕ) (rest : Option Refusal) → refusal_or code number rest ≡ None → (code ≡ None) × (rest ≡ None)

@@ -11,7 +11,7 @@ use Rattle.matrix_read.specs.Lines.{without_mark}
 use Rattle.matrix_read.specs.Names.{has_twice}
 use Rattle.matrix_read.specs.Clones.{reading, array_at, count, probes_of, first_refused, clone_rows, head_code, clone_matrix, unless_refused, matrix_of, if_shaped, if_read, clones}
 use Rattle.matrix_read.proofs.CloneLemmas.{some_if}
-use Rattle.matrix_read.specs.Limits.{IsWithin}
+use Rattle.matrix_read.specs.Limits.{IsWithinLimits}
 use Rattle.matrix_read.proofs.Within.{inside_read, ok_within}
 
 -- probes and clones that are not refused are no more than there may be
@@ -35,7 +35,7 @@ head_within : (code : Option ℕ) (rest : Read RowList) (m : RowList) → unless
 head_within (Some code) rest m e = absurd (cc)
 head_within None rest m e = (refl, e)
 
-matrix_within : (probes : List (List ℕ)) (clones : Items) (m : RowList) → matrix_of probes clones ≡ read.Ok m → IsWithin m
+matrix_within : (probes : List (List ℕ)) (clones : Items) (m : RowList) → matrix_of probes clones ≡ read.Ok m → IsWithinLimits m
 matrix_within probes clones m e =
     let head = head_within (head_code probes (count clones)) (clone_matrix probes clones) m e in
     let n = length probes in
@@ -44,16 +44,16 @@ matrix_within probes clones m e =
     ok_within (first_refused probes 1 clones) (record { columns = n; rows = clone_rows probes clones }) m head.1 (λ none.
     record { some = some_if n (sym passed.some); columns = ltb-false MAX_COLUMNS n passed.narrow; rows = omega (arith, few, length-clone_rows probes clones) })
 
-shaped_within : (probes : Option (List (List ℕ))) (clones : Option Items) (m : RowList) → if_shaped probes clones ≡ read.Ok m → IsWithin m
+shaped_within : (probes : Option (List (List ℕ))) (clones : Option Items) (m : RowList) → if_shaped probes clones ≡ read.Ok m → IsWithinLimits m
 shaped_within None clones m e = absurd (cc)
 shaped_within (Some probes) None m e = absurd (cc)
 shaped_within (Some probes) (Some clones) m e = matrix_within probes clones m e
 
-value_within : (value : Option Data) (m : RowList) → if_read value ≡ read.Ok m → IsWithin m
+value_within : (value : Option Data) (m : RowList) → if_read value ≡ read.Ok m → IsWithinLimits m
 value_within None m e = absurd (cc)
 value_within (Some value) m e = shaped_within (probes_of value) (array_at (codes "clones") value) m e
 
-pub clones_within : (bytes : List ℕ) (m : RowList) → clones bytes ≡ read.Ok m → IsWithin m
+pub clones_within : (bytes : List ℕ) (m : RowList) → clones bytes ≡ read.Ok m → IsWithinLimits m
 unfolding clones
 clones_within bytes m e =
     let value = reading (without_mark bytes) in

@@ -12,11 +12,11 @@ use Rattle.row_model.specs.Rows.{RowList}
 use Rattle.matrix_read.specs.Lines.{NumberedLine, is_blank, lines_of, filled_lines, without_mark}
 use Rattle.matrix_read.specs.Words.{words_of, only_word, number_of}
 use Rattle.matrix_read.specs.Rows.{numbered_lines, refusal_or, refused_or, first_refusal}
-use Rattle.matrix_read.specs.Dense.{dense, read_lines, rows_of, row_of, first_code, row_code, width_of, is_foreign}
-use Rattle.matrix_read.specs.Sparse.{sparse, sparse_lines, further, named_rows, rows_behind, first_width, width_of_number, line_code, words_code, row_named}
+use Rattle.matrix_read.specs.Dense.{dense, read_lines, digit_rows, digit_row, first_code, row_code, width_of, is_foreign_byte}
+use Rattle.matrix_read.specs.Sparse.{sparse, sparse_lines, further, named_rows, rows_behind, width_given, width_of_number, line_code, words_code, row_named}
 use Rattle.matrix_read.proofs.DenseLemmas.{filled_first, some_digit}
 use Rattle.matrix_read.proofs.CloneLemmas.{some_if}
-use Rattle.matrix_read.specs.Limits.{IsWithin}
+use Rattle.matrix_read.specs.Limits.{IsWithinLimits}
 use Rattle.matrix_read.proofs.Within.{inside_read, ok_within, none_first, has_room, few_lines}
 
 -- what a first line that is not refused has passed
@@ -30,25 +30,25 @@ passes false true c1 c2 h = absurd (cc)
 passes false false c1 c2 h = record { clean = refl; narrow = refl }
 
 row_room : (width before : ℕ) (line : List ℕ) → row_code width before line ≡ None → before < MAX_ROWS
-row_room width before line h = has_room before (if list_any is_foreign line then Some GRAMMAR else if width_of line == width then None else Some COUNT) h
+row_room width before line h = has_room before (if list_any is_foreign_byte line then Some GRAMMAR else if width_of line == width then None else Some COUNT) h
 
 -- lines of digits
 digits_within : (lines : List NumberedLine) (m : RowList) → ((first : NumberedLine) (rest : List NumberedLine) → lines ≡ first ∷ rest → is_blank first.text ≡ false)
-    → read_lines lines ≡ read.Ok m → IsWithin m
+    → read_lines lines ≡ read.Ok m → IsWithinLimits m
 digits_within [] m filled e = absurd (cc)
 digits_within (first ∷ rest) m filled e =
     let width = width_of first.text in
-    ok_within (refusal_or (first_code first.text) first.number (first_refusal (row_code width) 1 rest)) (record { columns = width; rows = rows_of (first ∷ rest) }) m e (λ none.
+    ok_within (refusal_or (first_code first.text) first.number (first_refusal (row_code width) 1 rest)) (record { columns = width; rows = digit_rows (first ∷ rest) }) m e (λ none.
     let both = none_first (first_code first.text) first.number (first_refusal (row_code width) 1 rest) none in
-    let passed = passes (list_any is_foreign first.text) (nat_lt MAX_COLUMNS width) GRAMMAR LIMIT both.0 in
+    let passed = passes (list_any is_foreign_byte first.text) (nat_lt MAX_COLUMNS width) GRAMMAR LIMIT both.0 in
     let few = few_lines (row_code width) (row_room width) 1 rest both.1 (omega arith) in
     record {
       some = some_digit first.text (filled first rest refl) passed.clean;
       columns = ltb-false MAX_COLUMNS width passed.narrow;
-      rows = omega (arith, few, length-map rest (λ (line : NumberedLine). row_of line.text));
+      rows = omega (arith, few, length-map rest (λ (line : NumberedLine). digit_row line.text));
     })
 
-pub dense_within : (bytes : List ℕ) (m : RowList) → dense bytes ≡ read.Ok m → IsWithin m
+pub dense_within : (bytes : List ℕ) (m : RowList) → dense bytes ≡ read.Ok m → IsWithinLimits m
 unfolding dense
 dense_within bytes m e =
     let lines = lines_of (without_mark bytes) in
@@ -69,7 +69,7 @@ number_width : (number : Option ℕ) (c : ℕ) → width_of_number number ≡ Ok
 number_width None c e = absurd (cc)
 number_width (Some n) c e = width_tested (n == 0) (nat_lt MAX_COLUMNS n) n c refl refl e
 
-word_width : (word : Option (List ℕ)) (c : ℕ) → first_width word ≡ Ok c → IsWidth c
+word_width : (word : Option (List ℕ)) (c : ℕ) → width_given word ≡ Ok c → IsWidth c
 word_width None c e = absurd (cc)
 word_width (Some word) c e = number_width (number_of word) c e
 
@@ -77,7 +77,7 @@ line_room : (c before : ℕ) (line : List ℕ) → line_code c before line ≡ N
 line_room c before line h = has_room before (words_code c (words_of line)) h
 
 -- lines that name columns
-behind_within : (number : ℕ) (width : Result ℕ ℕ) (lines : List NumberedLine) (m : RowList) → ((c : ℕ) → width ≡ Ok c → IsWidth c) → rows_behind number width lines ≡ read.Ok m → IsWithin m
+behind_within : (number : ℕ) (width : Result ℕ ℕ) (lines : List NumberedLine) (m : RowList) → ((c : ℕ) → width ≡ Ok c → IsWidth c) → rows_behind number width lines ≡ read.Ok m → IsWithinLimits m
 behind_within number (Err code) lines m w e = absurd (cc)
 behind_within number (Ok c) lines m w e =
     let row : NumberedLine → List ℕ = λ line. row_named c line.text in
@@ -85,11 +85,11 @@ behind_within number (Ok c) lines m w e =
     let few = few_lines (line_code c) (line_room c) 0 lines none (omega arith) in
     record { some = (w c refl).0; columns = (w c refl).1; rows = omega (arith, few, length-map lines row) })
 
-names_within : (lines : List NumberedLine) (m : RowList) → sparse_lines lines ≡ read.Ok m → IsWithin m
+names_within : (lines : List NumberedLine) (m : RowList) → sparse_lines lines ≡ read.Ok m → IsWithinLimits m
 names_within [] m e = absurd (cc)
-names_within (first ∷ lines) m e = behind_within first.number (first_width (only_word (words_of first.text))) lines m (word_width (only_word (words_of first.text))) e
+names_within (first ∷ lines) m e = behind_within first.number (width_given (only_word (words_of first.text))) lines m (word_width (only_word (words_of first.text))) e
 
-pub sparse_within : (bytes : List ℕ) (m : RowList) → sparse bytes ≡ read.Ok m → IsWithin m
+pub sparse_within : (bytes : List ℕ) (m : RowList) → sparse bytes ≡ read.Ok m → IsWithinLimits m
 unfolding sparse
 sparse_within bytes m e =
     let lines = numbered_lines 1 (lines_of (without_mark bytes)) in

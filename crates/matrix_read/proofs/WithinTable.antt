@@ -10,12 +10,12 @@ use Rattle.row_model.specs.declared.TheConstants.{MAX_COLUMNS, MAX_ROWS}
 use Rattle.row_model.specs.declared.code.TheConstants.{EMPTY, GRAMMAR, TWICE, LIMIT, CSV}
 use Rattle.row_model.specs.Rows.{RowList}
 use Rattle.matrix_read.specs.Names.{has_twice}
-use Rattle.matrix_read.specs.Cells.{trimmed, cells, is_foreign, row_of}
+use Rattle.matrix_read.specs.Cells.{trimmed, cells, is_foreign_cell, record_row}
 use Rattle.matrix_read.specs.Rows.{refusal_or}
 use Rattle.matrix_read.specs.Table.{names_of, header_code, record_code, record_refusal, read_records, table}
 use Rattle.matrix_read.specs.TableSteps.{header_read, with_records}
 use Rattle.matrix_read.proofs.TableLemmas.{records_read}
-use Rattle.matrix_read.specs.Limits.{IsWithin}
+use Rattle.matrix_read.specs.Limits.{IsWithinLimits}
 use Rattle.matrix_read.proofs.Within.{inside_read, ok_within, none_first, has_room}
 
 -- a header that is not refused has a column, and no more than there may be
@@ -38,7 +38,7 @@ header_width (field ∷ fields) h =
 
 -- records of which none is refused are no more than there may be rows
 record_room : (before : ℕ) (fields : List (List ℕ)) → record_code before fields ≡ None → before < MAX_ROWS
-record_room before fields h = has_room before (if list_any is_foreign (cells fields) then Some GRAMMAR else None) h
+record_room before fields h = has_room before (if list_any is_foreign_cell (cells fields) then Some GRAMMAR else None) h
 
 few_records : (before : ℕ) (further : List (List (List ℕ))) → record_refusal before further ≡ None → before ≤ MAX_ROWS → before + length further ≤ MAX_ROWS
 unfolding record_refusal
@@ -49,31 +49,31 @@ few_records before (fields ∷ rest) h le =
     let later : before + 1 + length rest ≤ MAX_ROWS = few_records (before + 1) rest both.1 (omega arith) in
     omega arith
 
-header_within : (header : List (List ℕ)) (n : RowList) → header_read header ≡ read.Ok n → IsWithin n
+header_within : (header : List (List ℕ)) (n : RowList) → header_read header ≡ read.Ok n → IsWithinLimits n
 header_within header n e =
     ok_within (refusal_or (header_code header) 1 None) (record { columns = length (cells header); rows = [] }) n e (λ none.
     let width = header_width header (none_first (header_code header) 1 None none).0 in
     record { some = width.0; columns = width.1; rows = omega arith })
 
-further_within : (so_far : Read RowList) (further : List (List (List ℕ))) (m : RowList) → ((n : RowList) → so_far ≡ read.Ok n → IsWithin n) → with_records so_far further ≡ read.Ok m → IsWithin m
+further_within : (so_far : Read RowList) (further : List (List (List ℕ))) (m : RowList) → ((n : RowList) → so_far ≡ read.Ok n → IsWithinLimits n) → with_records so_far further ≡ read.Ok m → IsWithinLimits m
 further_within (read.Refused refusal) further m begun e = absurd (cc)
 further_within (read.Ok n) further m begun e =
     let within = begun n refl in
-    ok_within (record_refusal (length n.rows) further) (record { columns = n.columns; rows = n.rows ++ map row_of further }) m e (λ none.
+    ok_within (record_refusal (length n.rows) further) (record { columns = n.columns; rows = n.rows ++ map record_row further }) m e (λ none.
     let few = few_records (length n.rows) further none within.rows in
-    record { some = within.some; columns = within.columns; rows = omega (arith, few, length-append n.rows (map row_of further), length-map further row_of) })
+    record { some = within.some; columns = within.columns; rows = omega (arith, few, length-append n.rows (map record_row further), length-map further record_row) })
 
 even_read : (even : Bool) (inside : Read RowList) (m : RowList) → (if even then inside else read.Refused (record { code = CSV; line = 0 })) ≡ read.Ok m → inside ≡ read.Ok m
 even_read true inside m e = e
 even_read false inside m e = absurd (cc)
 
-records_within : (all : List (List (List ℕ))) (m : RowList) → read_records all ≡ read.Ok m → IsWithin m
+records_within : (all : List (List (List ℕ))) (m : RowList) → read_records all ≡ read.Ok m → IsWithinLimits m
 records_within [] m e = absurd (cc)
 records_within (header ∷ further) m e =
     further_within (header_read header) further m (header_within header)
     (even_read (list_all (λ (fields : List (List ℕ)). length fields == length header) further) (with_records (header_read header) further) m (sym (records_read header further) ∙ e))
 
-pub table_within : (bytes : List ℕ) (m : RowList) → table bytes ≡ read.Ok m → IsWithin m
+pub table_within : (bytes : List ℕ) (m : RowList) → table bytes ≡ read.Ok m → IsWithinLimits m
 unfolding table
 table_within bytes m e =
     let all = records default_config (strip_bom bytes) in

@@ -8,11 +8,11 @@ use Rattle.row_model.specs.Rows.{Ascends, IsRow}
 use Rattle.row_model.specs.declared.refusal.Read.TheVariants as read
 use Rattle.row_model.specs.declared.TheConstants.{MAX_COLUMNS, MAX_ROWS}
 use Rattle.matrix_read.specs.Lines.{without_mark, without_return, line_parts, lines_of, is_blank, filled_lines}
-use Rattle.matrix_read.specs.Dense.{is_digit, is_foreign, digits_of, width_of, row_of, first_code, row_code, rows_of, read_lines}
+use Rattle.matrix_read.specs.Dense.{is_digit, is_foreign_byte, digits_of, width_of, digit_row, first_code, row_code, digit_rows, read_lines}
 use Rattle.matrix_read.specs.DenseSteps.{rows_or_refusal}
 use Rattle.matrix_read.specs.Rows.{first_refusal, refused_or}
 use Rattle.row_model.proofs.Ascending.{lacks_low}
-use Rattle.matrix_read.specs.Written.{digits_from, text_of, DenseLaw}
+use Rattle.matrix_read.specs.Written.{digits_from, digits_text, DenseLaw}
 use Rattle.matrix_read.proofs.LineLemmas.{filled_here}
 use Rattle.matrix_read.proofs.RowLemmas.{first_refusal-later}
 use Rattle.matrix_read.proofs.DenseLemmas.{ones_from, ones_columns, first_line_taken, dense_short}
@@ -68,7 +68,7 @@ digits_of-digits : (bytes : List ℕ) → AreDigits bytes → digits_of bytes �
 digits_of-digits [] h = refl
 digits_of-digits (b ∷ bytes) h = rw (first_digit b bytes h, digits_of-digits bytes (later_digits b bytes h)) refl
 
-no_foreign : (bytes : List ℕ) → AreDigits bytes → list_any is_foreign bytes ≡ false
+no_foreign : (bytes : List ℕ) → AreDigits bytes → list_any is_foreign_byte bytes ≡ false
 no_foreign [] h = refl
 no_foreign (b ∷ bytes) h = rw (first_digit b bytes h, no_foreign bytes (later_digits b bytes h)) refl
 
@@ -98,19 +98,19 @@ without_mark-digit b (a ∷ d ∷ bytes) h = elim (digit_cases b h) [ inl e ↦ 
 abbrev pub written : ℕ → List (List ℕ) → List (List ℕ)
 written c rows = map (digits_from 1 c) rows
 
-lines_of-text_of : (c : ℕ) (rows : List (List ℕ)) → lines_of (text_of c rows) ≡ written c rows
+lines_of-digits_text : (c : ℕ) (rows : List (List ℕ)) → lines_of (digits_text c rows) ≡ written c rows
 unfolding line_parts
-lines_of-text_of c [] = refl
-lines_of-text_of c (row ∷ rows) =
+lines_of-digits_text c [] = refl
+lines_of-digits_text c (row ∷ rows) =
     let digits = digits-written 1 c row in
-    ap (map without_return) (line_parts-digits (digits_from 1 c row) (text_of c rows) digits)
-    ∙ ap (λ line. line ∷ lines_of (text_of c rows)) (without_return-digits (digits_from 1 c row) digits)
-    ∙ ap (λ lines. digits_from 1 c row ∷ lines) (lines_of-text_of c rows)
+    ap (map without_return) (line_parts-digits (digits_from 1 c row) (digits_text c rows) digits)
+    ∙ ap (λ line. line ∷ lines_of (digits_text c rows)) (without_return-digits (digits_from 1 c row) digits)
+    ∙ ap (λ lines. digits_from 1 c row ∷ lines) (lines_of-digits_text c rows)
 
 -- the row of its digits
 module _ (c : ℕ) (row : List ℕ) (is : IsRow c row) where
-  row_of-written : row_of (digits_from 1 c row) ≡ row
-  row_of-written = sym (ones_columns (digits_from 1 c row)) ∙ ap (ones_from 1) (digits_of-digits (digits_from 1 c row) (digits-written 1 c row)) ∙ ones-written c 0 c row (omega arith) is
+  digit_row-written : digit_row (digits_from 1 c row) ≡ row
+  digit_row-written = sym (ones_columns (digits_from 1 c row)) ∙ ap (ones_from 1) (digits_of-digits (digits_from 1 c row) (digits-written 1 c row)) ∙ ones-written c 0 c row (omega arith) is
 
   width_of-written : width_of (digits_from 1 c row) ≡ c
   width_of-written = ap length (digits_of-digits (digits_from 1 c row) (digits-written 1 c row)) ∙ length-digits_from 1 c row
@@ -139,13 +139,13 @@ module _ (c : ℕ) (some : 1 ≤ c) (narrow : c ≤ MAX_COLUMNS) where
       ∙ first_refusal-later (row_code c) before (record { number = number; text = digits_from 1 c row }) (filled_lines (number + 1) (written c rows)) (row_code-written c row all.0 before (omega arith))
       ∙ first_refusal-written (before + 1) (number + 1) rows (omega arith) all.1
 
-  rows_of-written : (number : ℕ) (rows : List (List ℕ)) → AllByRecursion (IsRow c) rows → rows_of (filled_lines number (written c rows)) ≡ rows
+  digit_rows-written : (number : ℕ) (rows : List (List ℕ)) → AllByRecursion (IsRow c) rows → digit_rows (filled_lines number (written c rows)) ≡ rows
   unfolding filled_lines
-  rows_of-written number [] all = refl
-  rows_of-written number (row ∷ rows) all =
-      ap rows_of (filled-written c number row rows some)
-      ∙ ap (λ first. first ∷ rows_of (filled_lines (number + 1) (written c rows))) (row_of-written c row all.0)
-      ∙ ap (λ later. row ∷ later) (rows_of-written (number + 1) rows all.1)
+  digit_rows-written number [] all = refl
+  digit_rows-written number (row ∷ rows) all =
+      ap digit_rows (filled-written c number row rows some)
+      ∙ ap (λ first. first ∷ digit_rows (filled_lines (number + 1) (written c rows))) (digit_row-written c row all.0)
+      ∙ ap (λ later. row ∷ later) (digit_rows-written (number + 1) rows all.1)
 
   read_lines-written : (rows : List (List ℕ)) → 1 ≤ length rows → length rows ≤ MAX_ROWS → AllByRecursion (IsRow c) rows → read_lines (filled_lines 1 (written c rows)) ≡ read.Ok (record { columns = c; rows = rows })
   read_lines-written [] full few all = absurd (omega arith)
@@ -153,19 +153,19 @@ module _ (c : ℕ) (some : 1 ≤ c) (narrow : c ≤ MAX_COLUMNS) where
       let lines = filled_lines 1 (written c (row ∷ rows)) in
       first_line_taken (record { number = 1; text = digits_from 1 c row }) lines (filled_lines 2 (written c rows)) (filled-written c 1 row rows some) (first_code-written c row all.0 narrow)
       ∙ ap (λ width. rows_or_refusal width lines) (width_of-written c row all.0)
-      ∙ ap (λ refusal. refused_or refusal (record { columns = c; rows = rows_of lines })) (first_refusal-written 0 1 (row ∷ rows) (omega arith) all)
-      ∙ ap (λ read_rows. read.Ok (record { columns = c; rows = read_rows })) (rows_of-written 1 (row ∷ rows) all)
+      ∙ ap (λ refusal. refused_or refusal (record { columns = c; rows = digit_rows lines })) (first_refusal-written 0 1 (row ∷ rows) (omega arith) all)
+      ∙ ap (λ read_so. read.Ok (record { columns = c; rows = read_so })) (digit_rows-written 1 (row ∷ rows) all)
 
-without_mark-text_of : (c : ℕ) (rows : List (List ℕ)) → 1 ≤ c → without_mark (text_of c rows) ≡ text_of c rows
-without_mark-text_of c [] some = refl
-without_mark-text_of zero (row ∷ rows) some = absurd (omega arith)
-without_mark-text_of (suc c) (row ∷ rows) some =
+without_mark-digits_text : (c : ℕ) (rows : List (List ℕ)) → 1 ≤ c → without_mark (digits_text c rows) ≡ digits_text c rows
+without_mark-digits_text c [] some = refl
+without_mark-digits_text zero (row ∷ rows) some = absurd (omega arith)
+without_mark-digits_text (suc c) (row ∷ rows) some =
     let first = if has row 1 then 49 else 48 in
-    without_mark-digit first (digits_from 2 c row ++ 10 ∷ text_of (suc c) rows) (first_digit first (digits_from 2 c row) (digits-written 1 (suc c) row))
+    without_mark-digit first (digits_from 2 c row ++ 10 ∷ digits_text (suc c) rows) (first_digit first (digits_from 2 c row) (digits-written 1 (suc c) row))
 
 pub dense_law_holds : DenseLaw
 dense_law_holds c rows some narrow full few all short =
-    dense_short (text_of c rows) short
-    ∙ ap (λ text. read_lines (filled_lines 1 (lines_of text))) (without_mark-text_of c rows some)
-    ∙ ap (λ lines. read_lines (filled_lines 1 lines)) (lines_of-text_of c rows)
+    dense_short (digits_text c rows) short
+    ∙ ap (λ text. read_lines (filled_lines 1 (lines_of text))) (without_mark-digits_text c rows some)
+    ∙ ap (λ lines. read_lines (filled_lines 1 lines)) (lines_of-digits_text c rows)
     ∙ read_lines-written c some narrow rows full few (recursion_from_All (IsRow c) rows all)

@@ -19,7 +19,7 @@ use Rattle.row_model.specs.declared.TheConstants.{MAX_COLUMNS, MAX_ROWS}
 use Rattle.matrix_read.specs.Lines.{NumberedLine, before_first, is_blank_byte, without_mark, without_return, line_parts, lines_of}
 use Rattle.matrix_read.specs.Words.{begins_word, words_of, only_word, number_after, number_of}
 use Rattle.matrix_read.specs.Rows.{numbered_lines, first_refusal, refused_or, columns_among}
-use Rattle.matrix_read.specs.Sparse.{column_code, width_of_number, words_code, line_code, numbers_of, row_named, named_rows, first_width, sparse_lines}
+use Rattle.matrix_read.specs.Sparse.{column_code, width_of_number, words_code, line_code, columns_named, row_named, named_rows, width_given, sparse_lines}
 use Rattle.matrix_read.specs.WrittenRows.{spaced, named_line, named_text, Names, NameAll, FurtherLaw, SparseLaw}
 use Rattle.matrix_read.proofs.WordLemmas.{words_of_blank, words_of_last, words_of_more, numeral_value, number_some}
 use Rattle.row_model.proofs.Columns.{columns_same, columns_row}
@@ -90,10 +90,10 @@ module _ (c : ℕ) (small : c ≤ COLUMN_BOUND) where
       ∙ ap (λ words. decimal column ∷ words) (words_of-spaced columns within.1)
 
   -- they are the columns, and none is refused
-  numbers_of-decimals : (columns : List ℕ) → AreWithin c columns → numbers_of (map decimal columns) ≡ columns
-  numbers_of-decimals [] within = refl
-  numbers_of-decimals (column ∷ columns) within =
-      ap (λ n. n ∷ numbers_of (map decimal columns)) (digits_value-decimal own column (small_enough column within.0.1)) ∙ ap (λ ns. column ∷ ns) (numbers_of-decimals columns within.1)
+  columns_named-decimals : (columns : List ℕ) → AreWithin c columns → columns_named (map decimal columns) ≡ columns
+  columns_named-decimals [] within = refl
+  columns_named-decimals (column ∷ columns) within =
+      ap (λ n. n ∷ columns_named (map decimal columns)) (digits_value-decimal own column (small_enough column within.0.1)) ∙ ap (λ ns. column ∷ ns) (columns_named-decimals columns within.1)
 
   words_code-decimals : (columns : List ℕ) → AreWithin c columns → words_code c (map decimal columns) ≡ None
   words_code-decimals [] within = words_end c [] refl
@@ -125,8 +125,8 @@ module _ (c : ℕ) (small : c ≤ COLUMN_BOUND) (columns row : List ℕ) (names 
 
   row_named-line : row_named c (named_line columns) ≡ row
   row_named-line =
-      ap (λ words. columns_among c (numbers_of words)) (words_of-line c small columns named_within)
-      ∙ ap (columns_among c) (numbers_of-decimals c small columns named_within)
+      ap (λ words. columns_among c (columns_named words)) (words_of-line c small columns named_within)
+      ∙ ap (columns_among c) (columns_named-decimals c small columns named_within)
       ∙ columns_same c (has columns) (has row) (λ j lt. names.same (j + 1))
       ∙ columns_row c row names.is_row
 
@@ -222,7 +222,7 @@ module _ (c : ℕ) (small : c ≤ COLUMN_BOUND) where
   named_rows-text number lists rows names few =
       ap (λ lines. named_rows c (numbered_lines number lines)) (lines_of-text lists rows names)
       ∙ ap (λ refusal. refused_or refusal (record { columns = c; rows = map (λ (line : NumberedLine). row_named c line.text) (numbered_lines number (map named_line lists)) })) (first_refusal-text 0 number lists rows names (omega arith))
-      ∙ ap (λ read_rows. read.Ok (record { columns = c; rows = read_rows })) (rows-text number lists rows names)
+      ∙ ap (λ read_so. read.Ok (record { columns = c; rows = read_so })) (rows-text number lists rows names)
 
 pub further_law_holds : FurtherLaw
 further_law_holds c lists rows small names few short =
@@ -238,7 +238,7 @@ sparse_law_holds c lists rows some narrow names few short =
     let text = decimal c ++ 10 ∷ named_text lists in
     let ascii = IsAscii-append (decimal c) (10 ∷ named_text lists) (IsAscii-decimal c fits) (IsAscii-cons 10 (named_text lists) (omega arith) (text_ascii c small lists rows names)) in
     let word : words_of (decimal c) ≡ decimal c ∷ [] = ap words_of (sym (append-nil (decimal c))) ∙ word_before (decimal c) [] (decimal_nonempty c fits) (decimal_digits c fits) refl in
-    let width : Ok c ≡ first_width (only_word (words_of (decimal c))) = sym (ap (λ words. first_width (only_word words)) word ∙ ap width_of_number (decimal_value c fits) ∙ rw (ne_eqb c 0 (λ e. omega (arith, e)), le-ltb MAX_COLUMNS c narrow) refl) in
+    let width : Ok c ≡ width_given (only_word (words_of (decimal c))) = sym (ap (λ words. width_given (only_word words)) word ∙ ap width_of_number (decimal_value c fits) ∙ rw (ne_eqb c 0 (λ e. omega (arith, e)), le-ltb MAX_COLUMNS c narrow) refl) in
     sparse_short text short
     ∙ ap (λ bytes. sparse_lines (numbered_lines 1 (lines_of bytes))) (without_mark-ascii text ascii)
     ∙ first_taken text (decimal c) (lines_of (named_text lists)) (first_line_written (decimal c) (named_text lists) (written_digits (decimal c) (decimal_digits c fits))) c width

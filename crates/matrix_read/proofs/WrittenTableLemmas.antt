@@ -14,22 +14,22 @@ use Rattle.row_model.specs.declared.refusal.Read.TheVariants as read
 use Rattle.row_model.specs.declared.TheConstants.{MAX_COLUMNS, MAX_ROWS}
 use Rattle.row_model.specs.declared.code.TheConstants.{CSV}
 use Rattle.matrix_read.specs.Rows.{refused_or}
-use Rattle.matrix_read.specs.Cells.{trimmed, is_foreign, row_of}
+use Rattle.matrix_read.specs.Cells.{trimmed, is_foreign_cell, record_row}
 use Rattle.matrix_read.specs.Table.{names_of, header_code, record_code, record_refusal, read_records}
 use Rattle.matrix_read.specs.TableSteps.{header_read, with_records}
 use Rattle.matrix_read.specs.Names.{has_twice}
-use Rattle.matrix_read.specs.TableLaws.{LabelledRow, crosses_from, records_with, text_of, Differ, TableLaw}
+use Rattle.matrix_read.specs.TableLaws.{LabelledRow, crosses_from, records_with, table_text, Differ, TableLaw}
 use Rattle.matrix_read.proofs.RecordLemmas.{none_at_end, records_step}
 use Rattle.matrix_read.proofs.TableLemmas.{present_from, present_columns, code_none, refusal_later, none_refused, records_read, table_short}
 use Rattle.row_model.proofs.Ascending.{lacks_low}
 use Rattle.matrix_read.proofs.CellLemmas.{names_law_holds}
 
 -- the records of a text that csv writes
-records-text_of : (rows : List (List (List ℕ))) → records default_config (text_of rows) ≡ map read_back rows
-records-text_of [] = none_at_end default_config 1
-records-text_of (fields ∷ further) =
-    records_step default_config st.StartRecord (text_of (fields ∷ further)) (read_back fields, st.StartRecord, text_of further) (read-write fields (text_of further))
-    ∙ ap (λ later. read_back fields ∷ later) (records-text_of further)
+records-table_text : (rows : List (List (List ℕ))) → records default_config (table_text rows) ≡ map read_back rows
+records-table_text [] = none_at_end default_config 1
+records-table_text (fields ∷ further) =
+    records_step default_config st.StartRecord (table_text (fields ∷ further)) (read_back fields, st.StartRecord, table_text further) (read-write fields (table_text further))
+    ∙ ap (λ later. read_back fields ∷ later) (records-table_text further)
 
 -- the record of a labelled row over n columns
 abbrev fields_with : ℕ → LabelledRow → List (List ℕ)
@@ -52,10 +52,10 @@ cells-written column (suc n) row =
       | false ↦ ap (λ later. [] ∷ later) (cells-written (column + 1) n row)
     ]
 
-none_foreign : (column n : ℕ) (row : List ℕ) → list_any is_foreign (crosses_from column n row) ≡ false
+none_foreign : (column n : ℕ) (row : List ℕ) → list_any is_foreign_cell (crosses_from column n row) ≡ false
 none_foreign column zero row = refl
 none_foreign column (suc n) row =
-    elim (has row column) as (λ v. (is_foreign (if v then codes "x" else []) || list_any is_foreign (crosses_from (column + 1) n row)) ≡ false) [
+    elim (has row column) as (λ v. (is_foreign_cell (if v then codes "x" else []) || list_any is_foreign_cell (crosses_from (column + 1) n row)) ≡ false) [
       | true ↦ none_foreign (column + 1) n row
       | false ↦ none_foreign (column + 1) n row
     ]
@@ -80,11 +80,11 @@ marks-written c low (suc n) (x ∷ row) e h =
 
 -- no record is refused, and each is read as its row
 module _ (n : ℕ) where
-  row_of-written : (labelled : LabelledRow) → IsRow n labelled.row → row_of (fields_with n labelled) ≡ labelled.row
-  row_of-written labelled is = sym (present_columns (fields_with n labelled)) ∙ ap (present_from 1) (cells-written 1 n labelled.row) ∙ marks-written n 0 n labelled.row (omega arith) is
+  record_row-written : (labelled : LabelledRow) → IsRow n labelled.row → record_row (fields_with n labelled) ≡ labelled.row
+  record_row-written labelled is = sym (present_columns (fields_with n labelled)) ∙ ap (present_from 1) (cells-written 1 n labelled.row) ∙ marks-written n 0 n labelled.row (omega arith) is
 
   code-written : (before : ℕ) (labelled : LabelledRow) → before < MAX_ROWS → record_code before (fields_with n labelled) ≡ None
-  code-written before labelled few = code_none before (fields_with n labelled) few (ap (list_any is_foreign) (cells-written 1 n labelled.row) ∙ none_foreign 1 n labelled.row)
+  code-written before labelled few = code_none before (fields_with n labelled) few (ap (list_any is_foreign_cell) (cells-written 1 n labelled.row) ∙ none_foreign 1 n labelled.row)
 
   none-refused : (before : ℕ) (rows : List LabelledRow) → before + length rows ≤ MAX_ROWS → record_refusal before (map (fields_with n) rows) ≡ None
   none-refused before [] few = none_refused before
@@ -92,10 +92,10 @@ module _ (n : ℕ) where
       refusal_later before (fields_with n labelled) (map (fields_with n) rows) (code-written before labelled (omega arith))
       ∙ none-refused (before + 1) rows (omega arith)
 
-  rows-written : (rows : List LabelledRow) → AllByRecursion (λ labelled. IsRow n labelled.row) rows → map row_of (map (fields_with n) rows) ≡ map (λ labelled. labelled.row) rows
+  rows-written : (rows : List LabelledRow) → AllByRecursion (λ labelled. IsRow n labelled.row) rows → map record_row (map (fields_with n) rows) ≡ map (λ labelled. labelled.row) rows
   rows-written [] all = refl
   rows-written (labelled ∷ rows) all =
-      ap (λ row. row ∷ map row_of (map (fields_with n) rows)) (row_of-written labelled all.0)
+      ap (λ row. row ∷ map record_row (map (fields_with n) rows)) (record_row-written labelled all.0)
       ∙ ap (λ later. labelled.row ∷ later) (rows-written rows all.1)
 
   even-written : (width : ℕ) (rows : List LabelledRow) → width ≡ suc n → list_all (λ fields. length fields == width) (map (fields_with n) rows) ≡ true
@@ -116,13 +116,13 @@ module _ (corner : List ℕ) (names : List (List ℕ)) (some : 1 ≤ length name
 
 pub table_law_holds : TableLaw
 table_law_holds corner names rows some narrow apart few all short plain =
-    let text = text_of (records_with corner names rows) in
+    let text = table_text (records_with corner names rows) in
     let further = map (fields_with (length names)) rows in
     table_short text short
     ∙ ap (λ bytes. read_records (records default_config bytes)) plain
-    ∙ ap read_records (records-text_of (records_with corner names rows) ∙ ap (λ later. (corner ∷ names) ∷ later) (read_back-written (length names) rows))
+    ∙ ap read_records (records-table_text (records_with corner names rows) ∙ ap (λ later. (corner ∷ names) ∷ later) (read_back-written (length names) rows))
     ∙ records_read (corner ∷ names) further
     ∙ ap (λ even. if even then with_records (header_read (corner ∷ names)) further else read.Refused (record { code = CSV; line = 0 })) (even-written (length names) (suc (length names)) rows refl)
     ∙ ap (λ begun. with_records begun further) (header-written corner names some narrow apart)
-    ∙ ap (λ refusal. refused_or refusal (record { columns = length names; rows = map row_of further })) (none-refused (length names) 0 rows (omega arith))
+    ∙ ap (λ refusal. refused_or refusal (record { columns = length names; rows = map record_row further })) (none-refused (length names) 0 rows (omega arith))
     ∙ ap (λ rows. read.Ok (record { columns = length names; rows = rows })) (rows-written (length names) rows (recursion_from_All (λ (labelled : LabelledRow). IsRow (length names) labelled.row) rows all))

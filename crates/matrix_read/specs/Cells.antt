@@ -37,9 +37,9 @@ abbrev pub is_present : List ℕ → Bool
 is_present cell = is_cross cell || (list_all is_ascii_digit cell && not (is_absent cell))
 
 -- a cell that says neither
-abbrev pub is_foreign : List ℕ → Bool
-is_foreign cell = not (is_present cell || is_absent cell)
+abbrev pub is_foreign_cell : List ℕ → Bool
+is_foreign_cell cell = not (is_present cell || is_absent cell)
 
 -- the row of a record: the columns whose cells say that the row has them
-abbrev pub row_of : List (List ℕ) → List ℕ
-row_of fields = columns_where (length (cells fields)) (λ column. is_present (slice_index_or (cells fields) (column - 1) []))
+abbrev pub record_row : List (List ℕ) → List ℕ
+record_row fields = columns_where (length (cells fields)) (λ column. is_present (slice_index_or (cells fields) (column - 1) []))

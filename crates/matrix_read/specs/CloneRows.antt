@@ -1,11 +1,13 @@
 -- What the matrix of a clone file is.
-use Rattle.std.specs.Prelude.{◌≡◌, ℕ, ◌+◌, ◌<◌, List, [], ◌∷◌, length, codes, slice_get, slice_index_or, IsTrue, IsFalse, Some}
+use Rattle.std.specs.Prelude.{◌≡◌, ◌↔◌, ℕ, ◌+◌, ◌<◌, ◌≤◌, List, [], ◌∷◌, length, codes, slice_get, slice_index_or, IsTrue, IsFalse, Some}
 use Rattle.std.specs.List.{list_any, list_all}
 use Rattle.std.specs.Str.{bytes_eq}
 use Rattle.serde_json.specs.Data.{Data, Items, no_items, item}
 use Rattle.column_order.specs.Orders.{has}
 use Rattle.row_model.specs.Rows.{RowList, IsRow}
 use Rattle.row_model.specs.declared.refusal.Read.TheVariants as read
+use Rattle.row_model.specs.declared.TheConstants.{MAX_FILE_BYTES}
+use Rattle.matrix_read.specs.Limits.{IsWithinLimits}
 use Rattle.matrix_read.specs.Clones.{reading, array_at, is_probe, probes_of, clones}
 use Rattle.matrix_read.specs.Lines.{without_mark}
 use Rattle.matrix_read.specs.Names.{has_twice}
@@ -23,7 +25,8 @@ pub record IsCloneRow (probes : List (List ℕ)) (clone : Data) (row : List ℕ)
   pub is_row : IsRow (length probes) row
   pub columns : (place : ℕ) → place < length probes → has row (place + 1) ≡ list_any (bytes_eq (slice_index_or probes place [])) names
 
--- a matrix of the probes and clones of a value: each probe is a column, no two of them equal, and row i is that of clone i
+-- a matrix of the probes and clones of a value: each probe is a column, no two of them equal, and row i is that of
+-- clone i
 pub record IsMatrixOf (value : Data) (m : RowList) : Type 0 where
   pub probes : List (List ℕ)
   pub clones : Items
@@ -34,6 +37,14 @@ pub record IsMatrixOf (value : Data) (m : RowList) : Type 0 where
   pub count : length m.rows ≡ length (values_of clones)
   pub rows : (i : ℕ) (clone : Data) → slice_get (values_of clones) i ≡ Some clone → IsCloneRow probes clone (slice_index_or m.rows i [])
 
--- a matrix that is read of a clone file is that of the value of its bytes
+-- bytes within the limit of their length that are read as one value, and a matrix within its limits of that value
+pub record IsCloneFile (bytes : List ℕ) (m : RowList) : Type 0 where
+  pub short : length bytes ≤ MAX_FILE_BYTES
+  pub value : Data
+  pub is_read : reading (without_mark bytes) ≡ Some value
+  pub is_matrix : IsMatrixOf value m
+  pub within : IsWithinLimits m
+
+-- a file is read as a matrix exactly where it is a clone file of that matrix
 abbrev pub CloneLaw : Type 0
-CloneLaw = (bytes : List ℕ) (m : RowList) → clones bytes ≡ read.Ok m → (value : Data) × (reading (without_mark bytes) ≡ Some value) × IsMatrixOf value m
+CloneLaw = (bytes : List ℕ) (m : RowList) → (clones bytes ≡ read.Ok m) ↔ IsCloneFile bytes m

@@ -63,7 +63,8 @@ column_of probes name = suc (position_or_len (bytes_eq name) probes)
 abbrev pub probes_of : Data → Option (List (List ℕ))
 probes_of value = strings_at (codes "probes") value
 
--- the code by which names are refused as the probes of a clone, if they are: there is an array of strings, and each is a probe
+-- the code by which names are refused as the probes of a clone, if they are: there is an array of strings, and each is
+-- a probe
 abbrev pub names_code : List (List ℕ) → Option (List (List ℕ)) → Option ℕ
 names_code probes None = Some SHAPE
 names_code probes (Some names) = if list_all (is_probe probes) names then None else Some RANGE

@@ -15,8 +15,8 @@ abbrev pub is_digit : ℕ → Bool
 is_digit b = (b == 48) || (b == 49)
 
 -- a byte that is no digit, space or tab
-abbrev pub is_foreign : ℕ → Bool
-is_foreign b = not (is_digit b || is_blank_byte b)
+abbrev pub is_foreign_byte : ℕ → Bool
+is_foreign_byte b = not (is_digit b || is_blank_byte b)
 
 -- the digits of a line
 abbrev pub digits_of : List ℕ → List ℕ
@@ -27,34 +27,39 @@ abbrev pub width_of : List ℕ → ℕ
 width_of line = length (digits_of line)
 
 -- the row of a line: the columns at which its digits are 1
-abbrev pub row_of : List ℕ → List ℕ
-row_of line = columns_where (width_of line) (λ column. slice_index_or (digits_of line) (column - 1) 0 == 49)
+abbrev pub digit_row : List ℕ → List ℕ
+digit_row line = columns_where (width_of line) (λ column. slice_index_or (digits_of line) (column - 1) 0 == 49)
 
 -- the code by which a line is refused as the first row, if it is
 abbrev pub first_code : List ℕ → Option ℕ
 first_code line =
-    if list_any is_foreign line then Some GRAMMAR
+    if list_any is_foreign_byte line then Some GRAMMAR
     else if nat_lt MAX_COLUMNS (width_of line) then Some LIMIT
     else None
 
--- the code by which a line is refused as a later row, if it is, where the first row has this width and so many rows stand before the line
+-- the code by which a line is refused as a later row, if it is, where the first row has this width and so many rows
+-- stand before the line
 abbrev pub row_code : ℕ → ℕ → List ℕ → Option ℕ
 row_code width before line =
     if nat_le MAX_ROWS before then Some LIMIT
-    else if list_any is_foreign line then Some GRAMMAR
+    else if list_any is_foreign_byte line then Some GRAMMAR
     else if width_of line == width then None
     else Some COUNT
 
 -- the rows of lines
-abbrev pub rows_of : List NumberedLine → List (List ℕ)
-rows_of lines = map (λ line. row_of line.text) lines
+abbrev pub digit_rows : List NumberedLine → List (List ℕ)
+digit_rows lines = map (λ line. digit_row line.text) lines
+
+-- the matrix of this width with the rows of lines
+abbrev pub digit_matrix : ℕ → List NumberedLine → RowList
+digit_matrix width lines = record { columns = width; rows = digit_rows lines }
 
 -- the matrix of lines that are not blank, or their first refusal
 abbrev pub read_lines : List NumberedLine → Read RowList
 read_lines [] = read.Refused (record { code = EMPTY; line = 0 })
 read_lines (first ∷ lines) =
     refused_or (refusal_or (first_code first.text) first.number (first_refusal (row_code (width_of first.text)) 1 lines))
-    (record { columns = width_of first.text; rows = rows_of (first ∷ lines) })
+    (digit_matrix (width_of first.text) (first ∷ lines))
 
 -- the matrix of the bytes of a file, or their first refusal
 unfoldable pub dense : List ℕ → Read RowList

@@ -14,6 +14,7 @@ pub mod TableSteps
 pub mod Refusals
 pub mod TableLaws
 pub mod WrittenRows
-pub mod CloneRows
 pub mod Limits
+pub mod CloneRows
+pub mod CloneRefusals
 pub mod TextLaws

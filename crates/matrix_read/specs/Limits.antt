@@ -10,14 +10,14 @@ use Rattle.matrix_read.specs.Sparse.{sparse, further}
 use Rattle.matrix_read.specs.Table.{table}
 
 -- a matrix has a column, and no more columns and rows than there may be
-pub record IsWithin (m : RowList) : Type 0 where
+pub record IsWithinLimits (m : RowList) : Type 0 where
   pub some : 1 ≤ m.columns
   pub columns : m.columns ≤ MAX_COLUMNS
   pub rows : length m.rows ≤ MAX_ROWS
 
 -- each matrix that this reading gives is within the limits
 abbrev pub GivesWithin : (List ℕ → Read RowList) → Type 0
-GivesWithin reading = (bytes : List ℕ) (m : RowList) → reading bytes ≡ read.Ok m → IsWithin m
+GivesWithin reading = (bytes : List ℕ) (m : RowList) → reading bytes ≡ read.Ok m → IsWithinLimits m
 
 -- so is each matrix that is read of any form of file that holds a whole matrix; further rows are over the columns that
 -- they were asked for, and no more than there may be

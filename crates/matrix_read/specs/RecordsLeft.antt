@@ -19,7 +19,8 @@ records_of state (Some bytes) = records_from default_config (length bytes + 1) s
 unfoldable pub records_left : Reader (Bor (List ℕ)) → List (List (List ℕ))
 records_left reader = records_of (reader_state reader) (bytes_left reader)
 
--- a reader of commas and double quotes, the next read of which gives the next record as it is, however many fields that has
+-- a reader of commas and double quotes, the next read of which gives the next record as it is, however many fields that
+-- has
 pub record IsPlain (reader : Reader (Bor (List ℕ))) : Type 0 where
   pub trim : reader_trim reader ≡ trim.None
   pub flexible : is_flexible reader ≡ true

@@ -1,6 +1,5 @@
 -- The first refusal of a file, apart from how it is found.
 use Rattle.std.specs.Prelude.{◌≡◌, ◌↔◌, ◌<◌, ◌≤◌, ℕ, ◌+◌, List, [], ◌∷◌, length, slice_get, Option, Some, None, Result, Ok, Err}
-use Rattle.row_model.specs.Rows.{RowList}
 use Rattle.row_model.specs.declared.refusal.Refusal.{Refusal}
 use Rattle.row_model.specs.declared.refusal.Read.{Read}
 use Rattle.row_model.specs.declared.refusal.Read.TheVariants as read
@@ -9,8 +8,8 @@ use Rattle.row_model.specs.declared.code.TheConstants.{EMPTY, LIMIT}
 use Rattle.matrix_read.specs.Lines.{NumberedLine, without_mark, lines_of, filled_lines}
 use Rattle.matrix_read.specs.Words.{words_of, only_word}
 use Rattle.matrix_read.specs.Rows.{numbered_lines, first_refusal}
-use Rattle.matrix_read.specs.Dense.{width_of, first_code, row_code, dense}
-use Rattle.matrix_read.specs.Sparse.{first_width, line_code, sparse, further}
+use Rattle.matrix_read.specs.Dense.{width_of, first_code, row_code, digit_matrix, dense}
+use Rattle.matrix_read.specs.Sparse.{width_given, line_code, named_matrix, sparse, further}
 
 -- the refusal is that of the first line that is refused: it has the line's number and code, and no line before it is
 -- refused; so many rows stand before the lines, and each line is refused by the code that it has behind so many rows
@@ -36,9 +35,9 @@ pub record FirstLineLaw : Type 0 where
 abbrev pub RefusesLong : {T : Type 0} → (List ℕ → Read T) → Type 0
 RefusesLong reading = (bytes : List ℕ) → MAX_FILE_BYTES < length bytes → reading bytes ≡ read.Refused (record { code = LIMIT; line = 0 })
 
--- the refusals of files that begin with a line apart, the head. Next comes a file without a line, then the head, and then
--- the first of the lines behind it that is refused; the code of such a line depends on the head, on the lines behind the
--- head, and on how many rows stand before it
+-- the refusals of files that begin with a line apart, the head. Next comes a file without a line, then the head, and
+-- then the first of the lines behind it that is refused; the code of such a line depends on the head, on the lines
+-- behind the head, and on how many rows stand before it
 pub record HeadRefusals {T H : Type 0} (reading : List ℕ → Read T) (lines : List ℕ → List NumberedLine) (head_of : List ℕ → Result H ℕ)
     (code_of : H → List NumberedLine → ℕ → List ℕ → Option ℕ) (before : ℕ) : Type 0 where
   pub too_long : RefusesLong reading
@@ -48,20 +47,23 @@ pub record HeadRefusals {T H : Type 0} (reading : List ℕ → Read T) (lines : 
   pub bad_line : (bytes : List ℕ) (head : NumberedLine) (later : List NumberedLine) (h : H) (refusal : Refusal) →
       length bytes ≤ MAX_FILE_BYTES → lines bytes ≡ head ∷ later → head_of head.text ≡ Ok h → IsOfFirstLine (code_of h later) before later refusal → reading bytes ≡ read.Refused refusal
 
--- where no line behind the head is refused, the file is taken
-abbrev pub TakesLines : {T H : Type 0} → (List ℕ → Read T) → (List ℕ → List NumberedLine) → (List ℕ → Result H ℕ) → (H → List NumberedLine → ℕ → List ℕ → Option ℕ) → ℕ → Type 0
-TakesLines {T} {H} reading lines head_of code_of before =
+-- where no line behind the head is refused, the file is read as the value that the head and the lines behind it write
+abbrev pub TakesLines :
+    {T H : Type 0} → (List ℕ → Read T) → (List ℕ → List NumberedLine) → (List ℕ → Result H ℕ) → (H → List NumberedLine → ℕ → List ℕ → Option ℕ) → ℕ →
+    (H → NumberedLine → List NumberedLine → T) → Type 0
+TakesLines {T} {H} reading lines head_of code_of before written =
     (bytes : List ℕ) (head : NumberedLine) (later : List NumberedLine) (h : H) →
     length bytes ≤ MAX_FILE_BYTES →
     lines bytes ≡ head ∷ later →
     head_of head.text ≡ Ok h →
     NoLineRefused (code_of h later) before later →
-    (value : T) × (reading bytes ≡ read.Ok value)
+    reading bytes ≡ read.Ok (written h head later)
 
--- the lines of a file that are not blank, and all its lines
+-- the lines of a file that are not blank
 abbrev pub filled_of : List ℕ → List NumberedLine
 filled_of bytes = filled_lines 1 (lines_of (without_mark bytes))
 
+-- all lines of a file
 abbrev pub numbered_of : List ℕ → List NumberedLine
 numbered_of bytes = numbered_lines 1 (lines_of (without_mark bytes))
 
@@ -75,19 +77,20 @@ dense_head line = unless (first_code line) (width_of line)
 
 -- the number of columns that the first line of a sparse file gives, or the code of its refusal
 abbrev pub sparse_head : List ℕ → Result ℕ ℕ
-sparse_head line = first_width (only_word (words_of line))
+sparse_head line = width_given (only_word (words_of line))
 
--- dense files, whose head is the first row, and sparse ones
+-- dense files, whose head is the first row
 pub record DenseRefusals : Type 0 where
   pub refused : HeadRefusals dense filled_of dense_head (λ width later. row_code width) 1
-  pub taken : TakesLines dense filled_of dense_head (λ width later. row_code width) 1
+  pub taken : TakesLines dense filled_of dense_head (λ width later. row_code width) 1 (λ width head later. digit_matrix width (head ∷ later))
 
+-- sparse files, whose head has the number of columns
 pub record SparseRefusals : Type 0 where
   pub refused : HeadRefusals sparse numbered_of sparse_head (λ c later. line_code c) 0
-  pub taken : TakesLines sparse numbered_of sparse_head (λ c later. line_code c) 0
+  pub taken : TakesLines sparse numbered_of sparse_head (λ c later. line_code c) 0 (λ c head later. named_matrix c later)
 
 -- files of further rows have no head
 pub record FurtherRefusals : Type 0 where
   pub too_long : (c : ℕ) → RefusesLong (further c)
   pub bad_line : (c : ℕ) (bytes : List ℕ) (refusal : Refusal) → length bytes ≤ MAX_FILE_BYTES → IsOfFirstLine (line_code c) 0 (numbered_of bytes) refusal → further c bytes ≡ read.Refused refusal
-  pub taken : (c : ℕ) (bytes : List ℕ) → length bytes ≤ MAX_FILE_BYTES → NoLineRefused (line_code c) 0 (numbered_of bytes) → (m : RowList) × (further c bytes ≡ read.Ok m)
+  pub taken : (c : ℕ) (bytes : List ℕ) → length bytes ≤ MAX_FILE_BYTES → NoLineRefused (line_code c) 0 (numbered_of bytes) → further c bytes ≡ read.Ok (named_matrix c (numbered_of bytes))

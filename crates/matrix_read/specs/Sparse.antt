@@ -30,16 +30,20 @@ abbrev pub line_code : ℕ → ℕ → List ℕ → Option ℕ
 line_code c before line = if nat_le MAX_ROWS before then Some LIMIT else words_code c (words_of line)
 
 -- the numbers that words write
-abbrev pub numbers_of : List (List ℕ) → List ℕ
-numbers_of words = map (number_after 0) words
+abbrev pub columns_named : List (List ℕ) → List ℕ
+columns_named words = map (number_after 0) words
 
 -- the row of a line over 1 to c: the set of the columns that the line names
 abbrev pub row_named : ℕ → List ℕ → List ℕ
-row_named c line = columns_among c (numbers_of (words_of line))
+row_named c line = columns_among c (columns_named (words_of line))
+
+-- the matrix over 1 to c with the row of each line
+abbrev pub named_matrix : ℕ → List NumberedLine → RowList
+named_matrix c lines = record { columns = c; rows = map (λ line. row_named c line.text) lines }
 
 -- the matrix over 1 to c of lines each of which is a row, or their first refusal
 abbrev pub named_rows : ℕ → List NumberedLine → Read RowList
-named_rows c lines = refused_or (first_refusal (line_code c) 0 lines) (record { columns = c; rows = map (λ line. row_named c line.text) lines })
+named_rows c lines = refused_or (first_refusal (line_code c) 0 lines) (named_matrix c lines)
 
 -- the number of columns that a word with this number gives, or the code of its refusal
 abbrev pub width_of_number : Option ℕ → Result ℕ ℕ
@@ -47,9 +51,9 @@ width_of_number None = Err GRAMMAR
 width_of_number (Some n) = if n == 0 then Err RANGE else if nat_lt MAX_COLUMNS n then Err LIMIT else Ok n
 
 -- the number of columns that the first line gives, or the code of its refusal: the line has exactly one word
-abbrev pub first_width : Option (List ℕ) → Result ℕ ℕ
-first_width None = Err GRAMMAR
-first_width (Some word) = width_of_number (number_of word)
+abbrev pub width_given : Option (List ℕ) → Result ℕ ℕ
+width_given None = Err GRAMMAR
+width_given (Some word) = width_of_number (number_of word)
 
 -- the rows of the lines behind a first one, which has this number, or the first refusal
 abbrev pub rows_behind : ℕ → Result ℕ ℕ → List NumberedLine → Read RowList
@@ -59,7 +63,7 @@ rows_behind number (Err code) lines = read.Refused (record { code = code; line =
 -- the matrix of lines, or their first refusal
 abbrev pub sparse_lines : List NumberedLine → Read RowList
 sparse_lines [] = read.Refused (record { code = EMPTY; line = 0 })
-sparse_lines (first ∷ lines) = rows_behind first.number (first_width (only_word (words_of first.text))) lines
+sparse_lines (first ∷ lines) = rows_behind first.number (width_given (only_word (words_of first.text))) lines
 
 -- the matrix of the bytes of a file, or their first refusal
 unfoldable pub sparse : List ℕ → Read RowList

@@ -1,4 +1,5 @@
--- A matrix as a table of comma-separated values: a record with the names of the columns, and then a record for each row.
+-- A matrix as a table of comma-separated values: a record with the names of the columns, and then a record for each
+-- row.
 use Rattle.std.specs.Prelude.{ℕ, ◌+◌, ◌==◌, not, List, [], ◌∷◌, map, length, if◌then◌else◌, nat_lt, nat_le, Option, Some, None}
 use Rattle.std.specs.List.{list_any, list_all, filter}
 use Rattle.csv.specs.Reading.{default_config, strip_bom, records}
@@ -11,7 +12,7 @@ use Rattle.row_model.specs.declared.TheConstants.{MAX_COLUMNS, MAX_ROWS}
 use Rattle.row_model.specs.declared.code.TheConstants.{EMPTY, GRAMMAR, TWICE, LIMIT, CSV}
 use Rattle.matrix_read.specs.Rows.{refusal_or, refused_or}
 use Rattle.matrix_read.specs.Names.{has_twice}
-use Rattle.matrix_read.specs.Cells.{cells, is_empty, is_foreign, row_of}
+use Rattle.matrix_read.specs.Cells.{cells, is_empty, is_foreign_cell, record_row}
 
 -- the names in a header: blank cells are none
 abbrev pub names_of : List (List ℕ) → List (List ℕ)
@@ -29,7 +30,7 @@ header_code header =
 abbrev pub record_code : ℕ → List (List ℕ) → Option ℕ
 record_code before fields =
     if nat_le MAX_ROWS before then Some LIMIT
-    else if list_any is_foreign (cells fields) then Some GRAMMAR
+    else if list_any is_foreign_cell (cells fields) then Some GRAMMAR
     else None
 
 -- the first refusal among records, if there is one, where so many rows stand before them; the header is record 1
@@ -37,12 +38,17 @@ unfoldable pub record_refusal : ℕ → List (List (List ℕ)) → Option Refusa
 record_refusal before [] = None
 record_refusal before (fields ∷ rest) = refusal_or (record_code before fields) (before + 2) (record_refusal (before + 1) rest)
 
--- the matrix of records, or their first refusal; a record with another number of fields than the first is refused before all
+-- the matrix with a column for each cell of the header, and the row of each further record
+abbrev pub table_matrix : List (List ℕ) → List (List (List ℕ)) → RowList
+table_matrix header further = record { columns = length (cells header); rows = map record_row further }
+
+-- the matrix of records, or their first refusal; a record with another number of fields than the first is refused
+-- before all
 abbrev pub read_records : List (List (List ℕ)) → Read RowList
 read_records [] = read.Refused (record { code = EMPTY; line = 0 })
 read_records (header ∷ further) =
     if list_all (λ fields. length fields == length header) further
-    then refused_or (refusal_or (header_code header) 1 (record_refusal 0 further)) (record { columns = length (cells header); rows = map row_of further })
+    then refused_or (refusal_or (header_code header) 1 (record_refusal 0 further)) (table_matrix header further)
     else read.Refused (record { code = CSV; line = 0 })
 
 -- the matrix of the bytes of a file, or their first refusal; the records are those that csv reads

@@ -4,15 +4,15 @@ use Rattle.csv.specs.Reading.{default_config, strip_bom, records}
 use Rattle.std.specs.List.{list_all}
 use Rattle.csv.specs.Writing.{default_writer, row_text}
 use Rattle.column_order.specs.Orders.{has}
-use Rattle.row_model.specs.Rows.{IsRow, RowList}
+use Rattle.row_model.specs.Rows.{IsRow}
 use Rattle.row_model.specs.declared.code.TheConstants.{EMPTY, CSV}
 use Rattle.matrix_read.specs.Refusals.{RefusesLong}
 use Rattle.row_model.specs.declared.refusal.Refusal.{Refusal}
 use Rattle.row_model.specs.declared.refusal.Read.TheVariants as read
 use Rattle.row_model.specs.declared.TheConstants.{MAX_COLUMNS, MAX_ROWS, MAX_FILE_BYTES}
 use Rattle.matrix_read.specs.Lines.{is_blank, is_blank_byte}
-use Rattle.matrix_read.specs.Cells.{trimmed, is_present, row_of}
-use Rattle.matrix_read.specs.Table.{names_of, header_code, record_code, record_refusal, table}
+use Rattle.matrix_read.specs.Cells.{trimmed, is_present, record_row}
+use Rattle.matrix_read.specs.Table.{names_of, header_code, record_code, record_refusal, table_matrix, table}
 use Rattle.matrix_read.specs.Names.{has_twice}
 
 -- a row with a label, which is no part of the matrix
@@ -30,9 +30,9 @@ abbrev pub records_with : List ℕ → List (List ℕ) → List LabelledRow → 
 records_with corner names rows = (corner ∷ names) ∷ map (λ labelled. labelled.label ∷ crosses_from 1 (length names) labelled.row) rows
 
 -- the text that csv writes for records
-abbrev pub text_of : List (List (List ℕ)) → List ℕ
-text_of [] = []
-text_of (fields ∷ further) = row_text default_writer fields ++ text_of further
+abbrev pub table_text : List (List (List ℕ)) → List ℕ
+table_text [] = []
+table_text (fields ∷ further) = row_text default_writer fields ++ table_text further
 
 -- no two names are the same
 abbrev pub Differ : List (List ℕ) → Type 0
@@ -47,15 +47,16 @@ TableLaw =
     Differ (names_of (corner ∷ names)) →
     length rows ≤ MAX_ROWS →
     All (λ labelled. IsRow (length names) labelled.row) rows →
-    length (text_of (records_with corner names rows)) ≤ MAX_FILE_BYTES →
-    strip_bom (text_of (records_with corner names rows)) ≡ text_of (records_with corner names rows) →
-    table (text_of (records_with corner names rows)) ≡ read.Ok (record { columns = length names; rows = map (λ labelled. labelled.row) rows })
+    length (table_text (records_with corner names rows)) ≤ MAX_FILE_BYTES →
+    strip_bom (table_text (records_with corner names rows)) ≡ table_text (records_with corner names rows) →
+    table (table_text (records_with corner names rows)) ≡ read.Ok (record { columns = length names; rows = map (λ labelled. labelled.row) rows })
 
--- a row has exactly the columns from 1 on whose fields, apart from blanks at both ends, say so; the first field is of none
+-- a row has exactly the columns from 1 on whose fields, apart from blanks at both ends, say so; the first field is of
+-- none
 abbrev pub RowLaw : Type 0
 RowLaw =
     (fields : List (List ℕ)) (column : ℕ) →
-    IsTrue (has (row_of fields) column) ↔ ((1 ≤ column) × (column < length fields) × IsTrue (is_present (trimmed (slice_index_or fields column []))))
+    IsTrue (has (record_row fields) column) ↔ ((1 ≤ column) × (column < length fields) × IsTrue (is_present (trimmed (slice_index_or fields column []))))
 
 -- no name stands twice exactly where no two names are the same
 abbrev pub NamesLaw : Type 0
@@ -83,11 +84,13 @@ pub record IsOfFirst (further : List (List (List ℕ))) (refusal : Refusal) : Ty
   pub code : record_code before (slice_index_or further before []) ≡ Some refusal.code
   pub earlier : (i : ℕ) → i < before → record_code i (slice_index_or further i []) ≡ None
 
--- a refusal among the records after the header is of the first of them that is refused, and where there is none no record is refused
+-- a refusal among the records after the header is of the first of them that is refused, and where there is none no
+-- record is refused
 abbrev pub AreTold : List (List (List ℕ)) → Option Refusal → Type 0
 AreTold further (Some refusal) = IsOfFirst further refusal
 AreTold further None = (i : ℕ) → i < length further → record_code i (slice_index_or further i []) ≡ None
 
+-- the refusal among records is of the first record that is refused
 abbrev pub RefusalLaw : Type 0
 RefusalLaw = (further : List (List (List ℕ))) → AreTold further (record_refusal 0 further)
 
@@ -100,7 +103,8 @@ abbrev pub are_even : List (List ℕ) → List (List (List ℕ)) → Bool
 are_even header further = list_all (λ fields. length fields == length header) further
 
 -- the refusals of tables. After the length of the file come a file without a record, records of other lengths than the
--- first, the header, and then the first later record that is refused; a table in which nothing is refused is taken
+-- first, the header, and then the first later record that is refused; a table in which nothing is refused is read as
+-- the matrix of its records
 pub record TableRefusals : Type 0 where
   pub too_long : RefusesLong table
   pub no_record : (bytes : List ℕ) → length bytes ≤ MAX_FILE_BYTES → records_in bytes ≡ [] → table bytes ≡ read.Refused (record { code = EMPTY; line = 0 })
@@ -114,4 +118,4 @@ pub record TableRefusals : Type 0 where
       record_refusal 0 further ≡ Some refusal → table bytes ≡ read.Refused refusal
   pub taken : (bytes : List ℕ) (header : List (List ℕ)) (further : List (List (List ℕ))) →
       length bytes ≤ MAX_FILE_BYTES → records_in bytes ≡ header ∷ further → IsTrue (are_even header further) → header_code header ≡ None →
-      record_refusal 0 further ≡ None → (m : RowList) × (table bytes ≡ read.Ok m)
+      record_refusal 0 further ≡ None → table bytes ≡ read.Ok (table_matrix header further)

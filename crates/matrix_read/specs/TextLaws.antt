@@ -5,12 +5,14 @@ use Rattle.column_order.specs.Orders.{has}
 use Rattle.matrix_read.specs.Lines.{is_blank_byte, without_return, lines_of}
 use Rattle.matrix_read.specs.Words.{words_of}
 
--- no bytes have no line; bytes without a line feed and then a line feed are a line before those of the rest; bytes without
--- a line feed at the end are a line too; and one carriage return at the end of a line is no part of it
+-- no bytes have no line; bytes without a line feed and then a line feed are a line before those of the rest; bytes
+-- without a line feed at the end are a line too; and one carriage return at the end of a line is no part of it, where
+-- there is one
 pub record LinesLaw : Type 0 where
   pub none : lines_of [] ≡ []
   pub feed : (line rest : List ℕ) → IsFalse (has line 10) → lines_of (line ++ 10 ∷ rest) ≡ without_return line ∷ lines_of rest
   pub last : (line : List ℕ) → 1 ≤ length line → IsFalse (has line 10) → lines_of line ≡ without_return line ∷ []
+  pub return_nothing : without_return [] ≡ []
   pub return_dropped : (line : List ℕ) → without_return (line ++ 13 ∷ []) ≡ line
   pub return_none : (line : List ℕ) (b : ℕ) → b ≢ 13 → without_return (line ++ b ∷ []) ≡ line ++ b ∷ []
 
@@ -18,8 +20,8 @@ pub record LinesLaw : Type 0 where
 abbrev pub HasNoBlank : List ℕ → Type 0
 HasNoBlank bytes = IsFalse (list_any is_blank_byte bytes)
 
--- no bytes have no word; a blank before the words is dropped; bytes other than blanks and then a blank are a word before
--- those of the rest; and such bytes at the end are a word too
+-- no bytes have no word; a blank before the words is dropped; bytes other than blanks and then a blank are a word
+-- before those of the rest; and such bytes at the end are a word too
 pub record WordsLaw : Type 0 where
   pub none : words_of [] ≡ []
   pub blank : (b : ℕ) (line : List ℕ) → IsTrue (is_blank_byte b) → words_of (b ∷ line) ≡ words_of line

@@ -12,9 +12,9 @@ digits_from column zero row = []
 digits_from column (suc n) row = (if has row column then 49 else 48) ∷ digits_from (column + 1) n row
 
 -- the text of rows over the columns 1 to c: each row is a line of c digits
-abbrev pub text_of : ℕ → List (List ℕ) → List ℕ
-text_of c [] = []
-text_of c (row ∷ rows) = digits_from 1 c row ++ 10 ∷ text_of c rows
+abbrev pub digits_text : ℕ → List (List ℕ) → List ℕ
+digits_text c [] = []
+digits_text c (row ∷ rows) = digits_from 1 c row ++ 10 ∷ digits_text c rows
 
 -- the text of a matrix within the limits is read as that matrix
 abbrev pub DenseLaw : Type 0
@@ -25,5 +25,5 @@ DenseLaw =
     1 ≤ length rows →
     length rows ≤ MAX_ROWS →
     All (IsRow c) rows →
-    length (text_of c rows) ≤ MAX_FILE_BYTES →
-    dense (text_of c rows) ≡ read.Ok (record { columns = c; rows = rows })
+    length (digits_text c rows) ≤ MAX_FILE_BYTES →
+    dense (digits_text c rows) ≡ read.Ok (record { columns = c; rows = rows })

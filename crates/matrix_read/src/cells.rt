@@ -3,7 +3,7 @@ ghost use Rattle.std.specs.Prelude.{◌≡◌, ◌+◌, ◌<◌, ◌≤◌, ◌�
 ghost use Rattle.std.specs.Int.{from_bool};
 ghost use Rattle.csv.specs.Records.{field_at, fields_of};
 ghost use Rattle.matrix_read.specs.Lines.{is_blank_byte};
-ghost use Rattle.matrix_read.specs.Cells.{without_last_blanks, trimmed, is_absent, is_cross, is_present, is_foreign};
+ghost use Rattle.matrix_read.specs.Cells.{without_last_blanks, trimmed, is_absent, is_cross, is_present, is_foreign_cell};
 
 use crate::words::{all_digits, count_blanks};
 use csv::ByteRecord;
@@ -27,10 +27,10 @@ pub fn field(fields: &ByteRecord, place: usize) -> &[u8]
     }
 }
 
-/// What a row has in the column of a field, 0 or 1; none where the field is not in the grammar. A field counts without the
-/// spaces and tabs at both ends.
+/// What a row has in the column of a field, 0 or 1; none where the field is not in the grammar. A field counts without
+/// the spaces and tabs at both ends.
 pub fn entry(field: &[u8]) -> Option<u8>
-    ensures foreign { IsNone result ↔ IsTrue (is_foreign (trimmed field.now)) }
+    ensures foreign { IsNone result ↔ IsTrue (is_foreign_cell (trimmed field.now)) }
     ensures present { IfSome result (λ one. one ≡ from_bool (is_present (trimmed field.now))) }
 {
     let digit = lone_digit(field);
@@ -47,7 +47,7 @@ pub fn entry(field: &[u8]) -> Option<u8>
 // branch tells 0 from 1, since none could be foretold.
 #[inline(always)]
 fn lone_digit(field: &[u8]) -> u8
-    ensures { result ≤ 1 → (is_foreign (trimmed field.now) ≡ false) × (result ≡ from_bool (is_present (trimmed field.now))) }
+    ensures { result ≤ 1 → (is_foreign_cell (trimmed field.now) ≡ false) × (result ≡ from_bool (is_present (trimmed field.now))) }
 {
     if field.len() != 1 {
         return 2;
@@ -57,7 +57,7 @@ fn lone_digit(field: &[u8]) -> u8
 
 // The entry of a field, given as its cell.
 fn cell_entry(cell: &[u8]) -> Option<u8>
-    ensures foreign { IsNone result ↔ IsTrue (is_foreign cell.now) }
+    ensures foreign { IsNone result ↔ IsTrue (is_foreign_cell cell.now) }
     ensures present { IfSome result (λ one. one ≡ from_bool (is_present cell.now)) }
 {
     if is_present(cell) {

@@ -87,7 +87,7 @@ fn matrix_of(alloc: Global, probes: &[Value], clones: &[Value]) -> Result<Read<M
             if clones.len() > MAX_ROWS as usize {
                 return Ok(refused(code::LIMIT, 0));
             }
-            rows_of(alloc, &names, clones)
+            clone_matrix(alloc, &names, clones)
         }
     }
 }
@@ -112,6 +112,7 @@ fn strings_in<'a>(value: &'a Value, key: &str) -> Option<&'a [Value]>
     }
 }
 
+// Whether all values are strings.
 fn all_strings(list: &[Value]) -> bool
     ensures { result ≡ are_strings (items_view list.now) }
 {
@@ -148,7 +149,7 @@ fn names_of<'a>(alloc: Global, list: &'a [Value]) -> Result<Option<IndexSet<&'a 
 }
 
 // The matrix over the probes of these names with a row for each clone, or the first refusal of a clone.
-fn rows_of(
+fn clone_matrix(
     alloc: Global,
     names: &IndexSet<&str>,
     clones: &[Value],
@@ -164,8 +165,8 @@ fn rows_of(
     push_rows(matrix, names, clones, &mut marks, &mut columns)
 }
 
-// Fills a matrix with the rows of clones. `marks` and `columns` have an entry for each probe. Between two clones no mark
-// is set.
+// Fills a matrix with the rows of clones. `marks` and `columns` have an entry for each probe. Between two clones no
+// mark is set.
 fn push_rows(
     mut matrix: Matrix,
     names: &IndexSet<&str>,
@@ -233,8 +234,9 @@ fn mark_names(list: &[Value], names: &IndexSet<&str>, marks: &mut [bool]) -> Res
     Ok(())
 }
 
-/// The law of [`read_clones`]: the columns of a matrix that is read are the probes, of which no two are equal, and its row
-/// i is that of clone i. It has a column exactly where the clone names the probe at that place.
+/// The law of [`read_clones`]: a file within the limits is read as a matrix exactly where the value of its bytes is one
+/// of probes and clones, no two probes equal, of which that is the matrix. Its columns are the probes, and its row i is
+/// that of clone i, which names probes alone and has a column exactly where it names the probe at that place.
 pub fn clone_law()
     ensures { CloneLaw }
 {}

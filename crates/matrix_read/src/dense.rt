@@ -2,7 +2,7 @@
 ghost use Rattle.std.specs.Prelude.{◌≡◌, ◌+◌, ◌-◌, ◌^◌, ◌<◌, ◌≤◌, ◌↔◌, ◌⊎◌, slice_set, [], length, take, Some, None, IsNone, IfOk, IfErr, IfSome, IsTrue};
 ghost use Rattle.std.specs.List.{list_any};
 ghost use Rattle.matrix_read.specs.Lines.{lines_of, filled_lines};
-ghost use Rattle.matrix_read.specs.Dense.{is_foreign, width_of, row_of, row_code, read_lines, dense};
+ghost use Rattle.matrix_read.specs.Dense.{is_foreign_byte, width_of, digit_row, row_code, read_lines, dense};
 ghost use Rattle.matrix_read.specs.DenseSteps.{rows_or_refusal};
 ghost use Rattle.matrix_read.specs.Written.{DenseLaw};
 
@@ -37,7 +37,7 @@ pub fn read_dense(alloc: Global, bytes: &[u8]) -> Result<Read<Matrix>, NoMemory>
     let text = without_mark(bytes);
     match first_width(text) {
         Err(refusal) => Ok(Read::Refused(refusal)),
-        Ok(width) => read_rows(alloc, text, width),
+        Ok(width) => rows_or_refusal(alloc, text, width),
     }
 }
 
@@ -68,7 +68,7 @@ fn first_width(text: &[u8]) -> Result<u32, Refusal>
 }
 
 // The matrix of a text, the first row of which has so many digits.
-fn read_rows(alloc: Global, text: &[u8], width: u32) -> Result<Read<Matrix>, NoMemory>
+fn rows_or_refusal(alloc: Global, text: &[u8], width: u32) -> Result<Read<Matrix>, NoMemory>
     requires short { length text.now ≤ MAX_FILE_BYTES }
     requires range { (1 ≤ width) × (width ≤ MAX_COLUMNS) }
     ensures { IfOk result (λ read. read ≡ rows_or_refusal width (filled_lines 1 (lines_of text.now))) }
@@ -108,7 +108,7 @@ fn push_rows(mut matrix: Matrix, text: &[u8], columns: &mut [u32]) -> Result<Rea
 fn row_in(line: &[u8], before: u32, columns: &mut [u32]) -> Result<usize, u8>
     requires { length columns.old ≤ MAX_COLUMNS }
     ensures refused { IfErr result (λ code. row_code (length columns.old) before line.now ≡ Some code) }
-    ensures row { IfOk result (λ ones. (row_code (length columns.old) before line.now ≡ None) × (take ones columns.new ≡ row_of line.now)) }
+    ensures row { IfOk result (λ ones. (row_code (length columns.old) before line.now ≡ None) × (take ones columns.new ≡ digit_row line.now)) }
     ensures within { IfOk result (λ ones. ones ≤ length columns.new) }
 {
     if before >= MAX_ROWS {
@@ -132,9 +132,9 @@ struct Digits {
 // `columns` then, if that has an entry for each digit.
 fn scan(line: &[u8], columns: &mut [u32]) -> Option<Digits>
     requires { length columns.old < 2 ^ 32 }
-    ensures foreign { IsNone result ↔ IsTrue (list_any is_foreign line.now) }
+    ensures foreign { IsNone result ↔ IsTrue (list_any is_foreign_byte line.now) }
     ensures width { IfSome result (λ digits. digits.all ≡ width_of line.now) }
-    ensures row { IfSome result (λ digits. width_of line.now ≤ length columns.new → take digits.ones columns.new ≡ row_of line.now) }
+    ensures row { IfSome result (λ digits. width_of line.now ≤ length columns.new → take digits.ones columns.new ≡ digit_row line.now) }
     ensures within { IfSome result (λ digits. digits.ones ≤ length columns.new) }
 {
     let mut digits = Digits { all: 0, ones: 0 };

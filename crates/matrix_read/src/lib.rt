@@ -1,7 +1,7 @@
 //! Readers of matrices, and the lines, words and numbers that every text format is read by.
 //!
-//! A reader gives the value of a list of bytes or its first refusal, by one definition on the whole list. Where the format
-//! has lines, the code goes over the bytes line by line and keeps no list of them.
+//! A reader gives the value of a list of bytes or its first refusal, by one definition on the whole list. Where the
+//! format has lines, the code goes over the bytes line by line and keeps no list of them.
 #![tactic(auto)]
 
 mod cells;

@@ -6,8 +6,8 @@ ghost use Rattle.matrix_read.specs.RecordsLeft.{IsPlain, records_left};
 use csv::{ByteRecord, ErrorKind, Reader};
 use row_model::NoMemory;
 
-/// Reads the next record into `fields`, and says whether there was one. The error is want of memory, or that of the bytes
-/// underneath, which lie in memory and give none.
+/// Reads the next record into `fields`, and says whether there was one. The error is want of memory, or that of the
+/// bytes underneath, which lie in memory and give none.
 pub fn next_record(reader: &mut Reader<&[u8]>, fields: &mut ByteRecord) -> Result<bool, NoMemory>
     requires { IsPlain reader.old }
     ensures plain { OnOk result (IsPlain reader.new) }

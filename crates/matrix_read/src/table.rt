@@ -4,10 +4,10 @@ ghost use Rattle.std.specs.List.{list_any};
 ghost use Rattle.csv.specs.Records.{fields_of};
 ghost use Rattle.row_model.specs.declared.refusal.Read.TheVariants as read;
 ghost use Rattle.matrix_read.specs.RecordsLeft.{IsPlain, records_left};
-ghost use Rattle.matrix_read.specs.Cells.{cells, is_foreign, row_of};
+ghost use Rattle.matrix_read.specs.Cells.{cells, is_foreign_cell, record_row};
 ghost use Rattle.matrix_read.specs.TableLaws.{TableLaw, RowLaw, TrimmedLaw, NamesLaw, RefusalLaw};
 ghost use Rattle.matrix_read.specs.Table.{names_of, header_code, table};
-ghost use Rattle.matrix_read.specs.TableSteps.{header_read, IsWithin, with_records, with_even_records};
+ghost use Rattle.matrix_read.specs.TableSteps.{header_read, FitsRecords, with_records, with_even_records};
 ghost use Rattle.matrix_read.specs.Names.{has_twice};
 
 use crate::cells::{entry, field, trimmed_field};
@@ -33,8 +33,8 @@ use std::alloc::Global;
 /// Last, each later record in turn is judged by the number of rows before it, of which there are at most [`MAX_ROWS`],
 /// and by its fields. The line of its refusal is its number among the records.
 ///
-/// The time is linear in the length of the file. Beside the matrix one record is kept at a time, whose fields take eight
-/// bytes each.
+/// The time is linear in the length of the file. Beside the matrix one record is kept at a time, whose fields take
+/// eight bytes each.
 ///
 /// # Errors
 ///
@@ -67,7 +67,7 @@ fn read_further(
     begun: Read<Matrix>,
 ) -> Result<Read<Matrix>, NoMemory>
     requires plain { IsPlain reader }
-    requires within { IsWithin (length (fields_of fields)) begun }
+    requires within { FitsRecords (length (fields_of fields)) begun }
     ensures { IfOk result (λ read. read ≡ with_even_records (length (fields_of fields)) begun (records_left reader.entry)) }
 {
     let width = fields.len();
@@ -88,9 +88,9 @@ fn with_record(
     fields: &ByteRecord,
     columns: &mut Vec<u32>,
 ) -> Result<Read<Matrix>, NoMemory>
-    requires { IsWithin (length (fields_of fields.now)) so_far }
+    requires { FitsRecords (length (fields_of fields.now)) so_far }
     ensures read { IfOk result (λ read. read ≡ with_records so_far (fields_of fields.now ∷ [])) }
-    ensures within { IfOk result (λ read. IsWithin (length (fields_of fields.now)) read) }
+    ensures within { IfOk result (λ read. FitsRecords (length (fields_of fields.now)) read) }
 {
     let mut matrix = match so_far {
         Read::Ok(matrix) => matrix,
@@ -115,8 +115,8 @@ fn with_record(
 fn mark_columns(fields: &ByteRecord, columns: &mut [u32]) -> Option<usize>
     requires width { length (fields_of fields.now) ≡ length columns.old + 1 }
     requires small { length columns.old ≤ COLUMN_BOUND }
-    ensures foreign { IsNone result ↔ IsTrue (list_any is_foreign (cells (fields_of fields.now))) }
-    ensures row { IfSome result (λ ones. take ones columns.new ≡ row_of (fields_of fields.now)) }
+    ensures foreign { IsNone result ↔ IsTrue (list_any is_foreign_cell (cells (fields_of fields.now))) }
+    ensures row { IfSome result (λ ones. take ones columns.new ≡ record_row (fields_of fields.now)) }
     ensures within { IfSome result (λ ones. ones ≤ length columns.new) }
 {
     let mut ones = 0;
@@ -137,7 +137,7 @@ fn mark_columns(fields: &ByteRecord, columns: &mut [u32]) -> Option<usize>
 // A matrix with the columns of a header and no row, or the refusal of the header.
 fn read_header(alloc: Global, header: &ByteRecord) -> Result<Read<Matrix>, NoMemory>
     ensures read { IfOk result (λ read. read ≡ header_read (fields_of header.now)) }
-    ensures within { IfOk result (λ read. IsWithin (length (fields_of header.now)) read) }
+    ensures within { IfOk result (λ read. FitsRecords (length (fields_of header.now)) read) }
 {
     match header_code(alloc, header)? {
         Some(code) => Ok(refused(code, 1)),

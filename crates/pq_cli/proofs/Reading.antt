@@ -10,7 +10,7 @@ use Rattle.matrix_read.specs.Dense.{dense}
 use Rattle.matrix_read.specs.Sparse.{sparse}
 use Rattle.matrix_read.specs.Table.{table}
 use Rattle.matrix_read.specs.Clones.{clones}
-use Rattle.matrix_read.specs.Limits.{IsWithin, LimitsLaw}
+use Rattle.matrix_read.specs.Limits.{IsWithinLimits, LimitsLaw}
 use Rattle.matrix_read.specs.Refusals.{RefusesLong}
 use Rattle.graph_read.specs.GraphFiles.{bigraph, graph}
 use Rattle.graph_read.specs.DistanceFiles.{distances}
@@ -56,7 +56,7 @@ made_read kind make (read.Ok value) i found e = let same : make value ≡ i = ap
 made_read kind make (read.Refused refusal) i found e = absurd (cc)
 
 -- a matrix that is read
-matrix_read : (kind : Kind) (m : RowList) → IsPlainKind kind → IsWithin m → IsReadAs kind (plain kind m)
+matrix_read : (kind : Kind) (m : RowList) → IsPlainKind kind → IsWithinLimits m → IsReadAs kind (plain kind m)
 matrix_read kind m p within = record { within = (p, within.columns, within.rows); formed = tt; kind_is = refl }
 
 -- the instance in the bytes of a file is within the limits

@@ -1,9 +1,10 @@
 -- How many balls there are.
-use Rattle.std.proofs.Common.{◌≡◌, ◌∙◌, ℕ, zero, suc, ◌+◌, ◌*◌, ◌<◌, ◌≤◌, List, [], ◌∷◌, ◌++◌, length, map, sym, ap, arith, append_assoc, length-append}
+use Rattle.std.proofs.Common.{◌≡◌, ◌∙◌, ℕ, zero, suc, ◌+◌, ◌-◌, ◌*◌, ◌<◌, ◌≤◌, List, [], ◌∷◌, ◌++◌, length, map, sym, ap, arith, append_assoc, length-append}
 use Rattle.std.proofs.lemmas.Nat.{mul-le}
 use Rattle.std.proofs.lemmas.List.{length-map}
 use Rattle.row_model.specs.declared.TheConstants.{ROW_BOUND}
 use Rattle.row_model.specs.Rows.{RowList}
+use Rattle.graph_read.specs.declared.TheConstants.{ITEM_BOUND}
 use Rattle.graph_read.specs.Distances.{DistancesValue}
 use Rattle.robinson_balls.specs.Balls.{ball, radii, balls_round, balls_to}
 use Rattle.robinson_balls.specs.Laws.{FewBallsLaw}
@@ -18,8 +19,8 @@ pub few_of_all : FewBallsLaw
 few_of_all d = few_balls d d.items
 
 -- the balls of one centre more fit a matrix
-pub room_for : (before n : ℕ) → before < n → n ≤ 4096 → before * n + n ≤ ROW_BOUND
-room_for before n l u = omega (arith, mul-le before n 4095 4096 (omega (arith, l, u)) u, u)
+pub room_for : (before n : ℕ) → before < n → n ≤ ITEM_BOUND → before * n + n ≤ ROW_BOUND
+room_for before n l u = omega (arith, mul-le before n (ITEM_BOUND - 1) ITEM_BOUND (omega (arith, l, u)) u, u)
 
 -- a row more is the first of those that are left
 pub pushed : (before after : RowList) (f : ℕ → List ℕ) (row : List ℕ) (s : ℕ) (left rest : List ℕ) (all : List (List ℕ)) → after ≡ record before { rows = before.rows ++ row ∷ [] } →

@@ -1,5 +1,5 @@
 use Rattle.std.proofs.Common.{◌≡◌, true}
-use Rattle.graph_read.specs.DistanceFiles.{is_symmetric_at}
+use Rattle.graph_read.specs.DistanceSteps.{is_symmetric_at}
 use Rattle.graph_read.proofs.distance_files.is_row.Given as goal
 
 abbrev pub invariant-loop-y : goal.invariant-loop-y

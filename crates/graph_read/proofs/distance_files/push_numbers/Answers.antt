@@ -1,6 +1,6 @@
 use Rattle.std.proofs.Common.{◌∙◌, ap, sym, arith, slice_range, length}
 use Rattle.matrix_read.specs.Words.{words_of}
-use Rattle.graph_read.specs.DistanceFiles.{numbers_behind}
+use Rattle.graph_read.specs.DistanceSteps.{numbers_behind}
 use Rattle.graph_read.proofs.DistanceLemmas.{numbers_step, numbers_large, numbers_foreign, numbers_end}
 use Rattle.graph_read.proofs.WordLines.{whole_words}
 use Rattle.graph_read.proofs.distance_files.push_numbers.Goals as goal

@@ -1,6 +1,6 @@
 use Rattle.std.proofs.Common.{◌≡◌, ◌≤◌, ◌-◌, slice_range, length}
 use Rattle.matrix_read.specs.Words.{words_of}
-use Rattle.graph_read.specs.DistanceFiles.{numbers_behind}
+use Rattle.graph_read.specs.DistanceSteps.{numbers_behind}
 use Rattle.graph_read.proofs.distance_files.push_numbers.Given as goal
 
 abbrev pub invariant-loop-word : goal.invariant-loop-word

@@ -1,6 +1,6 @@
 use Rattle.std.proofs.Common.{◌≡◌, ◌≤◌, ◌+◌, ◌-◌, ◌*◌, [], drop, length}
 use Rattle.matrix_read.specs.Lines.{lines_of, filled_lines}
-use Rattle.graph_read.specs.DistanceFiles.{table_behind}
+use Rattle.graph_read.specs.DistanceSteps.{table_behind}
 use Rattle.graph_read.proofs.distance_files.push_rows.Given as goal
 
 abbrev pub invariant-loop-line : goal.invariant-loop-line

@@ -1,8 +1,10 @@
 use Rattle.std.proofs.Common.{◌≡◌, ◌∙◌, ◌+◌, ap, sym, arith, drop}
 use Rattle.row_model.specs.declared.refusal.Read.TheVariants as read
 use Rattle.matrix_read.specs.Lines.{lines_of, filled_lines}
-use Rattle.graph_read.specs.DistanceFiles.{distances, distances_lines, distances_behind, distances_with}
+use Rattle.graph_read.specs.DistanceFiles.{distances, distances_lines, distances_behind}
+use Rattle.graph_read.specs.DistanceSteps.{distances_with}
 use Rattle.graph_read.proofs.DistanceLemmas.{distances_long, distances_short, are_distances}
+use Rattle.graph_read.proofs.TableSteps.{read_behind}
 use Rattle.graph_read.proofs.distance_files.read_distances.Goals as goal
 
 pub returns-then-bytes-gt-MAX_FILE_BYTES : goal.returns-then-bytes-gt-MAX_FILE_BYTES
@@ -34,7 +36,7 @@ returns-in-Some-2 c =
     let whole : distances c.args.bytes.now ≡ distances_lines (filled_lines 1 (lines_of c.without_mark-text.result.now)) =
     distances_short c.args.bytes.now c.if-bytes-gt-MAX_FILE_BYTES.false ∙ ap (λ text. distances_lines (filled_lines 1 (lines_of text))) (sym c.without_mark-text.ensures.text) in
     let refused = rw c.in-Some-2.is at c.in_ok-refusal.ensures.refused in
-    sym (whole ∙ ap distances_lines c.in-Some.ensures.line ∙ ap (λ n. distances_behind first.number n rest) (sym c.in-Ok.ensures.items) ∙ ap (distances_with c.in-Ok.n) refused)
+    sym (whole ∙ ap distances_lines c.in-Some.ensures.line ∙ ap (λ n. distances_behind first.number n rest) (sym c.in-Ok.ensures.items) ∙ read_behind c.in-Ok.n rest first.number ∙ ap (distances_with c.in-Ok.n) refused)
 
 pub returns-in-None : goal.returns-in-None
 returns-in-None c =
@@ -44,4 +46,4 @@ returns-in-None c =
     distances_short c.args.bytes.now c.if-bytes-gt-MAX_FILE_BYTES.false ∙ ap (λ text. distances_lines (filled_lines 1 (lines_of text))) (sym c.without_mark-text.ensures.text) in
     let table = rw c.in-None.is at c.in_ok-refusal.ensures.table in
     ap (λ d. read.Ok d) c.of_values.ensures
-    ∙ sym (whole ∙ ap distances_lines c.in-Some.ensures.line ∙ ap (λ n. distances_behind first.number n rest) (sym c.in-Ok.ensures.items) ∙ ap (distances_with c.in-Ok.n) table)
+    ∙ sym (whole ∙ ap distances_lines c.in-Some.ensures.line ∙ ap (λ n. distances_behind first.number n rest) (sym c.in-Ok.ensures.items) ∙ read_behind c.in-Ok.n rest first.number ∙ ap (distances_with c.in-Ok.n) table)

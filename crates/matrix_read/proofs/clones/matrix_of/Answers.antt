@@ -18,14 +18,14 @@ returns-then-clones c =
     let names = rw c.in-Ok-Some.field-0-is at c.in-Ok-Some.ensures in
     c.refused-then-clones.ensures ∙ sym (many_clones c.args.probes.now c.args.clones.now (some_if _ c.if-is_empty.ensures) c.if-probes.false names.0 c.if-clones.true)
 
-pub rows_of-requires-clause-some : goal.rows_of-requires-clause-some
-rows_of-requires-clause-some c =
+pub clone_matrix-requires-clause-some : goal.clone_matrix-requires-clause-some
+clone_matrix-requires-clause-some c =
     let names = rw c.in-Ok-Some.field-0-is at c.in-Ok-Some.ensures in
     let same : length c.in-Ok-Some.names.keys ≡ length c.args.probes.now = sym (length-bytes c.in-Ok-Some.names.keys) ∙ ap length names.1 ∙ length_texts c.args.probes.now in
     omega (arith, same, some_if _ c.if-is_empty.ensures)
 
-pub rows_of-requires-clause-small : goal.rows_of-requires-clause-small
-rows_of-requires-clause-small c =
+pub clone_matrix-requires-clause-small : goal.clone_matrix-requires-clause-small
+clone_matrix-requires-clause-small c =
     let names = rw c.in-Ok-Some.field-0-is at c.in-Ok-Some.ensures in
     let same : length c.in-Ok-Some.names.keys ≡ length c.args.probes.now = sym (length-bytes c.in-Ok-Some.names.keys) ∙ ap length names.1 ∙ length_texts c.args.probes.now in
     omega (arith, same, c.if-probes.false)
@@ -36,4 +36,4 @@ returns-else-clones c =
     let whole : matrix_of (texts_of (items_view c.args.probes.now)) (items_view c.args.clones.now) ≡ clone_matrix (bytes_of c.in-Ok-Some.names.keys) (items_view c.args.clones.now) =
     within_limits c.args.probes.now c.args.clones.now (some_if _ c.if-is_empty.ensures) c.if-probes.false names.0 c.if-clones.false
     ∙ ap (λ probes. clone_matrix probes (items_view c.args.clones.now)) (sym names.1) in
-    rw whole c.rows_of.ensures
+    rw whole c.clone_matrix.ensures

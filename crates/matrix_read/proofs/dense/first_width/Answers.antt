@@ -3,7 +3,7 @@ use Rattle.std.proofs.lemmas.Bool.{lt-ltb, le-ltb}
 use Rattle.std.specs.List.{list_any}
 use Rattle.row_model.specs.declared.TheConstants.{MAX_COLUMNS}
 use Rattle.matrix_read.specs.Lines.{lines_of, filled_lines}
-use Rattle.matrix_read.specs.Dense.{is_foreign, width_of, first_code}
+use Rattle.matrix_read.specs.Dense.{is_foreign_byte, width_of, first_code}
 use Rattle.matrix_read.specs.DenseSteps.{rows_or_refusal}
 use Rattle.matrix_read.proofs.DenseLemmas.{first_line_refused, first_line_taken, some_digit, filled_first, never_true}
 use Rattle.matrix_read.proofs.dense.first_width.Goals as goal
@@ -14,14 +14,14 @@ returns-in-None-clause-refused c = first_line_refused _ _ _ _ c.in-Some.ensures.
 pub returns-in-Some-scan-clause-refused : goal.returns-in-Some-scan-clause-refused
 returns-in-Some-scan-clause-refused c =
     let line : List ℕ = slice_range c.args.text.now c.in-Some.first.span.start c.in-Some.first.span.end in
-    let clean : list_any is_foreign line ≡ false = never_true (list_any is_foreign line) c.in-Some-scan.ensures.foreign.1 in
+    let clean : list_any is_foreign_byte line ≡ false = never_true (list_any is_foreign_byte line) c.in-Some-scan.ensures.foreign.1 in
     let wide = lt-ltb MAX_COLUMNS (width_of line) (omega (arith, c.in-Some-scan.ensures.width, c.if-digits.true)) in
     first_line_refused _ _ _ _ c.in-Some.ensures.line (rw (clean, wide) refl)
 
 pub returns-in-Some-2-clause-width : goal.returns-in-Some-2-clause-width
 returns-in-Some-2-clause-width c =
     let line : List ℕ = slice_range c.args.text.now c.in-Some.first.span.start c.in-Some.first.span.end in
-    let clean : list_any is_foreign line ≡ false = never_true (list_any is_foreign line) c.in-Some-scan.ensures.foreign.1 in
+    let clean : list_any is_foreign_byte line ≡ false = never_true (list_any is_foreign_byte line) c.in-Some-scan.ensures.foreign.1 in
     let narrow = le-ltb MAX_COLUMNS (width_of line) (omega (arith, c.in-Some-scan.ensures.width, c.if-digits.false)) in
     let taken : first_code line ≡ None = rw (clean, narrow) refl in
     first_line_taken _ _ _ c.in-Some.ensures.line taken
@@ -30,6 +30,6 @@ returns-in-Some-2-clause-width c =
 pub returns-in-Some-2-clause-range : goal.returns-in-Some-2-clause-range
 returns-in-Some-2-clause-range c =
     let line : List ℕ = slice_range c.args.text.now c.in-Some.first.span.start c.in-Some.first.span.end in
-    let clean : list_any is_foreign line ≡ false = never_true (list_any is_foreign line) c.in-Some-scan.ensures.foreign.1 in
+    let clean : list_any is_foreign_byte line ≡ false = never_true (list_any is_foreign_byte line) c.in-Some-scan.ensures.foreign.1 in
     let some : 1 ≤ width_of line = some_digit line (filled_first 1 (lines_of c.args.text.now) _ _ c.in-Some.ensures.line) clean in
     (omega (arith, c.in-Some-scan.ensures.width, some), c.if-digits.false)

@@ -1,6 +1,6 @@
 use Rattle.std.proofs.Common.{◌≡◌, ◌≤◌, ◌+◌, ◌-◌, drop, length}
 use Rattle.matrix_read.specs.Lines.{lines_of, filled_lines}
-use Rattle.matrix_read.specs.Dense.{row_code, row_of}
+use Rattle.matrix_read.specs.Dense.{row_code, digit_row}
 use Rattle.matrix_read.specs.DenseSteps.{rows_or_refusal}
 use Rattle.matrix_read.proofs.RowLemmas.{answer_after}
 use Rattle.matrix_read.proofs.dense.push_rows.Given as goal
@@ -10,7 +10,7 @@ invariant-loop-line l = record {
   within : l.at ≤ length l.text;
   few : l.passed ≤ l.at;
   columns : l.matrix.columns ≡ l.initial.matrix.columns;
-  so_far : answer_after (row_code l.matrix.columns) row_of l.matrix.columns l.matrix.rows (filled_lines (l.passed + 1) (lines_of (drop l.at l.text))) ≡ rows_or_refusal l.initial.matrix.columns (filled_lines 1 (lines_of l.text));
+  so_far : answer_after (row_code l.matrix.columns) digit_row l.matrix.columns l.matrix.rows (filled_lines (l.passed + 1) (lines_of (drop l.at l.text))) ≡ rows_or_refusal l.initial.matrix.columns (filled_lines 1 (lines_of l.text));
 }
 
 abbrev pub decreases-loop-line : goal.decreases-loop-line

@@ -23,4 +23,4 @@ returns-in-Ok c =
     ∙ ap (λ text. read_lines (filled_lines 1 (lines_of text))) (sym c.without_mark-text.ensures.text)
     ∙ c.in-Ok.ensures.width
     in
-    rw whole c.read_rows.ensures
+    rw whole c.rows_or_refusal.ensures

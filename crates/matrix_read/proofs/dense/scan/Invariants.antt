@@ -1,12 +1,12 @@
 use Rattle.std.proofs.Common.{◌≡◌, ◌≤◌, ◌+◌, ◌++◌, drop, take, length}
 use Rattle.std.specs.List.{list_any}
-use Rattle.matrix_read.specs.Dense.{is_foreign, digits_of, width_of}
+use Rattle.matrix_read.specs.Dense.{is_foreign_byte, digits_of, width_of}
 use Rattle.matrix_read.proofs.DenseLemmas.{ones_from}
 use Rattle.matrix_read.proofs.dense.scan.Given as goal
 
 abbrev pub invariant-loop-byte : goal.invariant-loop-byte
 invariant-loop-byte l = record {
-  clean : list_any is_foreign (drop l.byte-index l.line) ≡ list_any is_foreign l.line;
+  clean : list_any is_foreign_byte (drop l.byte-index l.line) ≡ list_any is_foreign_byte l.line;
   width : l.digits.all + width_of (drop l.byte-index l.line) ≡ width_of l.line;
   few : l.digits.ones ≤ l.digits.all;
   short : l.digits.all ≤ l.byte-index;

@@ -1,7 +1,7 @@
 use Rattle.std.proofs.Common.{◌≡◌, ◌∷◌, ◌+◌, ◌-◌, ◌<◌, ◌||◌, [], List, ℕ, length, slice_range, drop, get_or, refl, arith, sym, ◌∙◌, ap, false}
 use Rattle.column_order.specs.Orders.{has}
 use Rattle.matrix_read.specs.Words.{words_of}
-use Rattle.matrix_read.specs.Sparse.{numbers_of}
+use Rattle.matrix_read.specs.Sparse.{columns_named}
 use Rattle.matrix_read.proofs.WordLemmas.{word_step, no_word}
 use Rattle.matrix_read.proofs.SparseLemmas.{words_stop, words_next, words_end, marks_end}
 use Rattle.matrix_read.proofs.RowLemmas.{mark_step}
@@ -25,14 +25,14 @@ loop-word-preserved c =
     word_step line c.loop-word.at word.start word.end found.start found.end found.range.0 in
     let few : length c.loop-word.marks ≡ length c.args.marks.now = c.loop-word.auto.marks in
     let place : c.in-Ok.column ≡ c.in-Ok.column - 1 + 1 = omega (arith, c.in-Ok.ensures.range.0) in
-    let numbers : (c.in-Ok.column - 1 + 1) ∷ numbers_of (words_of (drop word.end line)) ≡ numbers_of (words_of (drop c.loop-word.at line)) =
-    ap (λ n. n ∷ numbers_of (words_of (drop word.end line))) (sym place ∙ c.in-Ok.ensures.named.1) ∙ ap numbers_of (sym step) in
-    let before : (j : ℕ) → j < length c.args.marks.now → (get_or c.loop-word.marks j false || has ((c.in-Ok.column - 1 + 1) ∷ numbers_of (words_of (drop word.end line))) (j + 1)) ≡ has (numbers_of (words_of line)) (j + 1) =
+    let numbers : (c.in-Ok.column - 1 + 1) ∷ columns_named (words_of (drop word.end line)) ≡ columns_named (words_of (drop c.loop-word.at line)) =
+    ap (λ n. n ∷ columns_named (words_of (drop word.end line))) (sym place ∙ c.in-Ok.ensures.named.1) ∙ ap columns_named (sym step) in
+    let before : (j : ℕ) → j < length c.args.marks.now → (get_or c.loop-word.marks j false || has ((c.in-Ok.column - 1 + 1) ∷ columns_named (words_of (drop word.end line))) (j + 1)) ≡ has (columns_named (words_of line)) (j + 1) =
     λ j lt. ap (λ (ns : List ℕ). get_or c.loop-word.marks j false || has ns (j + 1)) numbers ∙ c.loop-word.invariant.marks j lt in
     record {
       within = found.range.1;
       code = words_next (length c.args.marks.now) _ _ _ step (rw few at c.in-Ok.ensures.named.0) ∙ c.loop-word.invariant.code;
-      marks = mark_step c.loop-word.marks (c.in-Ok.column - 1) (length c.args.marks.now) (numbers_of (words_of (drop word.end line))) (numbers_of (words_of line)) (omega (arith, c.in-Ok.ensures.range.0, c.in-Ok.ensures.range.1)) before;
+      marks = mark_step c.loop-word.marks (c.in-Ok.column - 1) (length c.args.marks.now) (columns_named (words_of (drop word.end line))) (columns_named (words_of line)) (omega (arith, c.in-Ok.ensures.range.0, c.in-Ok.ensures.range.1)) before;
     }
 
 pub returns : goal.returns

@@ -14,4 +14,4 @@ returns c =
     further_short c.args.bytes.now c.args.c c.if-bytes-gt-MAX_FILE_BYTES.false
     ∙ ap (λ text. named_rows c.args.c (numbered_lines 1 (lines_of text))) (sym c.without_mark.ensures.text)
     in
-    rw whole c.rows_of.ensures
+    rw whole c.named_rows.ensures

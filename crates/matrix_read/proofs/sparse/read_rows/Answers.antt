@@ -38,5 +38,5 @@ returns-in-Ok c =
     sparse_short c.args.bytes.now c.if-bytes-gt-MAX_FILE_BYTES.false ∙ ap (λ text. sparse_lines (numbered_lines 1 (lines_of text))) (sym c.without_mark-text.ensures.text) in
     let step : lines_of text ≡ slice_range text first.start first.end ∷ lines_of (drop first.next text) =
     lines_step text 0 first.start first.end first.next (omega arith) found.none.1 found.start found.end found.next in
-    let answer = rw (to_end text first.next) at c.rows_of.ensures in
+    let answer = rw (to_end text first.next) at c.named_rows.ensures in
     rw (whole, first_taken text _ _ step c.in-Ok.c c.in-Ok.ensures.width) answer

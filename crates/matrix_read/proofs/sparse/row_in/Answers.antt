@@ -1,6 +1,6 @@
 use Rattle.std.proofs.Common.{◌≡◌, ◌∙◌, ap, length}
 use Rattle.matrix_read.specs.Words.{words_of}
-use Rattle.matrix_read.specs.Sparse.{numbers_of}
+use Rattle.matrix_read.specs.Sparse.{columns_named}
 use Rattle.matrix_read.specs.Rows.{columns_among}
 use Rattle.matrix_read.proofs.RowLemmas.{marked_is}
 use Rattle.matrix_read.proofs.SparseLemmas.{line_taken}
@@ -9,7 +9,7 @@ use Rattle.matrix_read.proofs.sparse.row_in.Goals as goal
 pub returns-in-Ok-clause-row : goal.returns-in-Ok-clause-row
 returns-in-Ok-clause-row c =
     let marks = c.mark_columns.new.marks in
-    let numbers = numbers_of (words_of c.args.line.now) in
+    let numbers = columns_named (words_of c.args.line.now) in
     let same : length marks ≡ length c.args.marks.now = c.mark_columns.auto.marks in (
       line_taken (length c.args.marks.now) c.args.before c.args.line.now c.if-before-ge-MAX_ROWS.false c.in-Ok.ensures.named,
       c.take_marked.ensures.columns

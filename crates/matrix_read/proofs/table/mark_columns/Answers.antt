@@ -1,6 +1,6 @@
 use Rattle.std.proofs.Common.{◌≡◌, ◌<◌, ◌+◌, ◌++◌, [], List, ℕ, length, map, drop, take, arith, refl, sym, ap, ◌∙◌, true, false}
 use Rattle.csv.specs.Records.{fields_of}
-use Rattle.matrix_read.specs.Cells.{trimmed, is_empty, is_present, is_foreign}
+use Rattle.matrix_read.specs.Cells.{trimmed, is_empty, is_present, is_foreign_cell}
 use Rattle.matrix_read.proofs.DenseLemmas.{never_true}
 use Rattle.std.proofs.Math.ListN.{drop_of_length-le}
 use Rattle.std.proofs.lemmas.List.{append-nil}
@@ -29,7 +29,7 @@ loop-before-preserved c =
     let fields = fields_of c.args.fields.now in
     let place = c.loop-before.before + 1 in
     let field = c.field-field.result.now in
-    let clean : is_foreign (trimmed field) ≡ false = never_true (is_foreign (trimmed field)) c.in-Some.ensures.foreign.1 in
+    let clean : is_foreign_cell (trimmed field) ≡ false = never_true (is_foreign_cell (trimmed field)) c.in-Some.ensures.foreign.1 in
     let within : c.loop-before.ones < length c.loop-before.columns = omega (arith, c.loop-before.invariant.few, c.loop-before-test.true, c.loop-before.auto.columns) in
     let few = entry_le c.in-Some.entry (is_present (trimmed field)) c.in-Some.ensures.present in
     record {

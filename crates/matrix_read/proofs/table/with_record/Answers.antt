@@ -5,7 +5,7 @@ use Rattle.row_model.specs.Rows.{RowList}
 use Rattle.row_model.specs.declared.refusal.Read.TheVariants as read
 use Rattle.row_model.specs.declared.TheConstants.{MAX_ROWS}
 use Rattle.row_model.specs.declared.code.TheConstants.{GRAMMAR, LIMIT}
-use Rattle.matrix_read.specs.Cells.{cells, is_foreign, row_of}
+use Rattle.matrix_read.specs.Cells.{cells, is_foreign_cell, record_row}
 use Rattle.matrix_read.proofs.DenseLemmas.{never_true}
 use Rattle.matrix_read.proofs.TableLemmas.{code_full, code_foreign, code_none, record_refused, record_taken, no_record, row_ascends, written_whole}
 use Rattle.matrix_read.proofs.table.with_record.Goals as goal
@@ -22,7 +22,7 @@ returns-in_default-clause-read c =
     let m = c.in-Ok.matrix in
     let fields = fields_of c.args.fields.now in
     let few : length m.rows < MAX_ROWS = omega (arith, c.rows.ensures) in
-    let foreign : list_any is_foreign (cells fields) ≡ true = c.in_default.ensures.foreign.0 refl in
+    let foreign : list_any is_foreign_cell (cells fields) ≡ true = c.in_default.ensures.foreign.0 refl in
     rw (c.in-Ok.is, c.refused-in_default.ensures, c.rows-line.ensures) (sym (record_refused m fields [] GRAMMAR (code_foreign (length m.rows) fields few foreign)))
 
 pub push_row-requires-clause-row : goal.push_row-requires-clause-row
@@ -31,7 +31,7 @@ push_row-requires-clause-row c =
     let fields = fields_of c.args.fields.now in
     let width : m.columns + 1 ≡ length fields = (rw c.in-Ok.is at c.requires).0 in
     let room : c.resize.new.self.len ≡ length c.mark_columns.new.columns = omega (arith, c.mark_columns.auto.columns, c.deref_mut.ensures.len) in
-    let row : take c.in-Some.ones c.deref.result.now ≡ row_of fields =
+    let row : take c.in-Some.ones c.deref.result.now ≡ record_row fields =
     ap (take c.in-Some.ones) (c.deref.ensures.value ∙ written_whole c.mark_columns.new.columns _ c.resize.new.self.len room) ∙ c.in-Some.ensures.row
     in
     rw row (row_ascends m.columns fields (sym width))
@@ -41,11 +41,11 @@ returns-clause-read c =
     let m = c.in-Ok.matrix in
     let fields = fields_of c.args.fields.now in
     let few : length m.rows < MAX_ROWS = omega (arith, c.rows.ensures) in
-    let clean : list_any is_foreign (cells fields) ≡ false = never_true (list_any is_foreign (cells fields)) c.in-Some.ensures.foreign.1 in
+    let clean : list_any is_foreign_cell (cells fields) ≡ false = never_true (list_any is_foreign_cell (cells fields)) c.in-Some.ensures.foreign.1 in
     let room : c.resize.new.self.len ≡ length c.mark_columns.new.columns = omega (arith, c.mark_columns.auto.columns, c.deref_mut.ensures.len) in
-    let row : take c.in-Some.ones c.deref.result.now ≡ row_of fields =
+    let row : take c.in-Some.ones c.deref.result.now ≡ record_row fields =
     ap (take c.in-Some.ones) (c.deref.ensures.value ∙ written_whole c.mark_columns.new.columns _ c.resize.new.self.len room) ∙ c.in-Some.ensures.row
     in
-    let pushed : c.push_row.new.self ≡ record { columns = m.columns; rows = m.rows ++ row_of fields ∷ [] } =
+    let pushed : c.push_row.new.self ≡ record { columns = m.columns; rows = m.rows ++ record_row fields ∷ [] } =
     c.in_ok-push_row.ensures.ok ∙ ap (λ row. record { columns = m.columns; rows = m.rows ++ row ∷ [] }) row in
-    rw c.in-Ok.is (ap (λ (x : RowList). read.Ok x) pushed ∙ sym (record_taken m fields [] (code_none (length m.rows) fields few clean) ∙ no_record (read.Ok (record { columns = m.columns; rows = m.rows ++ row_of fields ∷ [] }))))
+    rw c.in-Ok.is (ap (λ (x : RowList). read.Ok x) pushed ∙ sym (record_taken m fields [] (code_none (length m.rows) fields few clean) ∙ no_record (read.Ok (record { columns = m.columns; rows = m.rows ++ record_row fields ∷ [] }))))
