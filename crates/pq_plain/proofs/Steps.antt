@@ -1,12 +1,12 @@
 -- One reduction, with any row over the columns.
-use Rattle.std.proofs.Common.{◌≡◌, ◌⊎◌, ◌↔◌, ◌∙◌, ◌≤◌, ℕ, true, false, List, [], ◌∷◌, ◌++◌, Option, Some, None, IsTrue, refl, sym, subst, inl, inr}
+use Rattle.std.proofs.Common.{◌≡◌, ◌⊎◌, ◌↔◌, ◌∙◌, ◌≤◌, ℕ, true, false, List, [], ◌∷◌, ◌++◌, Option, Some, None, IsTrue, refl, sym, subst, inl, inr, arith}
 use Rattle.std.proofs.lemmas.Bool.{both_ways}
 use Rattle.column_order.specs.Orders.{has, occurs, IsWithin, HasValidOrder}
 use Rattle.column_order.proofs.Lists.{has_head}
 use Rattle.row_model.specs.Graph.{HasConflict}
 use Rattle.column_order.proofs.Counts.{order_has, order_once}
 use Rattle.row_model.proofs.Walks.{conflict_none}
-use Rattle.pq_tree.specs.Outline.{Outline, Forest, p_node, leaves}
+use Rattle.pq_tree.specs.Outline.{Outline, Forest, p_node, tree_and, leaves}
 use Rattle.pq_tree.specs.Proper.{IsProper, IsTree}
 use Rattle.pq_tree.specs.Forests.{count}
 use Rattle.pq_tree.specs.Nodes.{holds, IsPertinentRoot, pertinent_root}
@@ -84,10 +84,10 @@ exists c rows row t w k within = (
 )
 
 -- full children at the pertinent root
-pub p2_second : (row : List ℕ) (t u : Outline) (ts : Forest) (ps : List Label) → IsTree t → IsPertinentRoot row t (p_node ts) → AreLabels row ts ps → (x : IsP2 true ts ps u) → 1 ≤ count x.fs
+pub p2_second : (row : List ℕ) (t u : Outline) (ts : Forest) (ps : List Label) → IsTree t → IsPertinentRoot row t (p_node ts) → AreLabels row ts ps → (x : IsP2 true ts ps u) → 2 ≤ count (tree_and x.f x.fs)
 p2_second row t u ts ps c r l x =
     let n : IsTree (p_node ts) = node_tree (p_node ts) t r.node c in
-    p2_full row ts ps u (labels_sound row ts ps n.0.1 n.1 l) (lowest_root_p row ts (r.whole, r.smallest)) x
+    omega (arith, p2_full row ts ps u (labels_sound row ts ps n.0.1 n.1 l) (lowest_root_p row ts (r.whole, r.smallest)) x)
 
 pub p4_one : (row : List ℕ) (t u : Outline) (ts : Forest) (ps : List Label) → IsTree t → IsPertinentRoot row t (p_node ts) → AreLabels row ts ps → (x : IsP4 true ts ps u) → 1 ≤ count x.fs
 p4_one row t u ts ps c r l x =

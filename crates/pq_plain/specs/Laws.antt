@@ -3,7 +3,7 @@ use Rattle.std.specs.Prelude.{◌⊎◌, ◌↔◌, ◌≤◌, ℕ, true, List, 
 use Rattle.column_order.specs.Orders.{has, HasValidOrder, IsWithin}
 use Rattle.row_model.specs.Graph.{HasOddWalk, HasConflict}
 use Rattle.row_model.specs.Rows.{RowList, IsRow}
-use Rattle.pq_tree.specs.Outline.{Outline, Forest, p_node, leaves}
+use Rattle.pq_tree.specs.Outline.{Outline, Forest, p_node, tree_and, leaves}
 use Rattle.pq_tree.specs.Proper.{IsProper, IsTree}
 use Rattle.pq_tree.specs.Forests.{count}
 use Rattle.pq_tree.specs.Nodes.{IsPertinentRoot}
@@ -56,6 +56,7 @@ ExistsLaw =
 abbrev pub TurnedLaw : Type 0
 TurnedLaw = (row : List ℕ) (t u v : Outline) → IsReduced row t u → IsEquivalent u v → IsReduced row t v
 
+-- what a template makes of the pertinent root may be turned
 abbrev pub RootTurnedLaw : Type 0
 RootTurnedLaw =
     (row : List ℕ) (t x y z v : Outline) →
@@ -65,17 +66,19 @@ RootTurnedLaw =
     IsReplaced x z t v →
     IsReduced row t v
 
+-- the trees of a label may be turned
 abbrev pub LabelTurnedLaw : Type 0
 LabelTurnedLaw = (row : List ℕ) (t : Outline) (x y : Label) → IsLabel row t x → IsTurned x y → IsLabel row t y
 
--- a tree is labelled empty exactly where it has no column of the row, and full exactly where it has no other one
+-- a tree is labelled empty exactly where it has no column of the row
 abbrev pub EmptyLabelLaw : Type 0
 EmptyLabelLaw = (row : List ℕ) (t : Outline) → IsTree t → IsLabel row t empty_label ↔ ((a : ℕ) → IsTrue (has (leaves t) a) → IsFalse (has row a))
 
+-- a tree is labelled full exactly where it has no column outside the row
 abbrev pub FullLabelLaw : Type 0
 FullLabelLaw = (row : List ℕ) (t : Outline) → IsTree t → IsLabel row t full_label ↔ ((a : ℕ) → IsTrue (has (leaves t) a) → IsTrue (has row a))
 
--- at the pertinent root P2 has two full children or more, and P4 one or more, else a node below would hold the row
+-- at the pertinent root P2 has two full children or more, else one child would hold the row
 abbrev pub FullChildrenOfP2Law : Type 0
 FullChildrenOfP2Law =
     (row : List ℕ) (t u : Outline) (ts : Forest) (ps : List Label) →
@@ -83,8 +86,9 @@ FullChildrenOfP2Law =
     IsPertinentRoot row t (p_node ts) →
     AreLabels row ts ps →
     (x : IsP2 true ts ps u) →
-    1 ≤ count x.fs
+    2 ≤ count (tree_and x.f x.fs)
 
+-- at the pertinent root P4 has one full child or more, else its partial child would hold the row
 abbrev pub FullChildrenOfP4Law : Type 0
 FullChildrenOfP4Law =
     (row : List ℕ) (t u : Outline) (ts : Forest) (ps : List Label) →

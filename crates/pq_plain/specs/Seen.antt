@@ -16,43 +16,49 @@ use Rattle.pq_plain.specs.declared.label.Label.TheVariants.{Empty, Full, Partial
 abbrev pub outlines : List Tree → Forest
 outlines ts = forest (map outline_of ts)
 
+-- the two runs of a partial
 abbrev pub halves_seen : Halves → Partial
 halves_seen h = record { e = outlines h.empty.items; f = outlines h.full.items }
 
+-- a label
 abbrev pub label_seen : Marked → Label
 label_seen Empty = empty_label
 label_seen Full = full_label
 label_seen (Cut h) = partial_label (halves_seen h)
 
--- how many labels are empty; how many are full
+-- how many labels are empty
 abbrev pub empties : List Label → ℕ
 empties [] = 0
 empties (empty_label ∷ ps) = 1 + empties ps
 empties (full_label ∷ ps) = empties ps
 empties (partial_label h ∷ ps) = empties ps
 
+-- how many are full
 abbrev pub fulls : List Label → ℕ
 fulls [] = 0
 fulls (empty_label ∷ ps) = fulls ps
 fulls (full_label ∷ ps) = 1 + fulls ps
 fulls (partial_label h ∷ ps) = fulls ps
 
+-- a list of labels
 abbrev pub labels_seen : Vec Marked Global → List Label
 labels_seen v = map label_seen v.items
 
--- how many empty labels come first; how many full ones; whether the first label is partial
+-- how many empty labels come first
 abbrev pub empty_front : List Label → ℕ
 empty_front [] = 0
 empty_front (empty_label ∷ ps) = suc (empty_front ps)
 empty_front (full_label ∷ ps) = 0
 empty_front (partial_label h ∷ ps) = 0
 
+-- how many full labels come first
 abbrev pub full_front : List Label → ℕ
 full_front [] = 0
 full_front (empty_label ∷ ps) = 0
 full_front (full_label ∷ ps) = suc (full_front ps)
 full_front (partial_label h ∷ ps) = 0
 
+-- one where the first label is partial, else zero
 abbrev pub cut_front : List Label → ℕ
 cut_front [] = 0
 cut_front (empty_label ∷ ps) = 0

@@ -30,10 +30,11 @@ star no_tree = no_tree
 star (tree_and t no_tree) = tree_and t no_tree
 star (tree_and t (tree_and u us)) = tree_and (p_node (tree_and t (tree_and u us))) no_tree
 
--- the trees of a partial from left to right; of one that may be missing
+-- the trees of a partial from left to right
 abbrev pub line : Partial → Forest
 line h = join h.e h.f
 
+-- so of a partial that may be missing
 abbrev pub line_if : Option Partial → Forest
 line_if None = no_tree
 line_if (Some h) = line h
@@ -55,10 +56,11 @@ pub data IsSorted : Forest → List Label → Forest → Forest → List Partial
   to_full : {t : Outline} {ts es fs : Forest} {ps : List Label} {hs : List Partial} → IsSorted ts ps es fs hs → IsSorted (tree_and t ts) (full_label ∷ ps) es (tree_and t fs) hs
   to_partial : {t : Outline} {ts es fs : Forest} {ps : List Label} {hs : List Partial} {h : Partial} → IsSorted ts ps es fs hs → IsSorted (tree_and t ts) (partial_label h ∷ ps) es fs (h ∷ hs)
 
--- all children are full; all are empty
+-- all children are full
 abbrev pub AreAllFull : Forest → List Label → Type 0
 AreAllFull ts ps = IsSorted ts ps no_tree ts []
 
+-- all children are empty
 abbrev pub AreAllEmpty : Forest → List Label → Type 0
 AreAllEmpty ts ps = IsSorted ts ps ts no_tree []
 
@@ -84,6 +86,7 @@ pub data IsSpan : Forest → List Label → Forest → Option Partial → Forest
 abbrev pub IsL1 : List ℕ → ℕ → Type 0
 IsL1 row a = IsTrue (has row a)
 
+-- what L1 leaves
 abbrev pub l1 : ℕ → Outline
 l1 a = leaf a
 
@@ -91,6 +94,7 @@ l1 a = leaf a
 abbrev pub IsP1 : Forest → List Label → Type 0
 IsP1 ts ps = AreAllFull ts ps
 
+-- what P1 leaves
 abbrev pub p1 : Forest → Outline
 p1 ts = p_node ts
 
@@ -99,6 +103,7 @@ p1 ts = p_node ts
 abbrev pub p2 : Forest → Forest → Outline
 p2 es fs = p_node (join (star fs) es)
 
+-- P2 applies, and makes this of the node
 pub record IsP2 (root : Bool) (ts : Forest) (ps : List Label) (u : Outline) : Type 0 where
   pub at : IsTrue root
   pub e : Outline
@@ -113,6 +118,7 @@ pub record IsP2 (root : Bool) (ts : Forest) (ps : List Label) (u : Outline) : Ty
 abbrev pub p3 : Forest → Forest → Partial
 p3 es fs = record { e = star es; f = star fs }
 
+-- P3 applies, and makes this of the node
 pub record IsP3 (root : Bool) (ts : Forest) (ps : List Label) (x : Partial) : Type 0 where
   pub below : IsFalse root
   pub e : Outline
@@ -127,6 +133,7 @@ pub record IsP3 (root : Bool) (ts : Forest) (ps : List Label) (x : Partial) : Ty
 abbrev pub p4 : Forest → Partial → Forest → Outline
 p4 es h fs = under es (q_node (join (line h) (star fs)))
 
+-- P4 applies, and makes this of the node
 pub record IsP4 (root : Bool) (ts : Forest) (ps : List Label) (u : Outline) : Type 0 where
   pub at : IsTrue root
   pub es : Forest
@@ -139,6 +146,7 @@ pub record IsP4 (root : Bool) (ts : Forest) (ps : List Label) (u : Outline) : Ty
 abbrev pub p5 : Forest → Partial → Forest → Partial
 p5 es h fs = record { e = join (star es) h.e; f = join h.f (star fs) }
 
+-- P5 applies, and makes this of the node
 pub record IsP5 (root : Bool) (ts : Forest) (ps : List Label) (x : Partial) : Type 0 where
   pub below : IsFalse root
   pub es : Forest
@@ -152,6 +160,7 @@ pub record IsP5 (root : Bool) (ts : Forest) (ps : List Label) (x : Partial) : Ty
 abbrev pub p6 : Forest → Partial → Forest → Partial → Outline
 p6 es h fs k = under es (q_node (join (line h) (join (star fs) (back (line k)))))
 
+-- P6 applies, and makes this of the node
 pub record IsP6 (root : Bool) (ts : Forest) (ps : List Label) (u : Outline) : Type 0 where
   pub at : IsTrue root
   pub es : Forest
@@ -165,6 +174,7 @@ pub record IsP6 (root : Bool) (ts : Forest) (ps : List Label) (u : Outline) : Ty
 abbrev pub IsQ1 : Forest → List Label → Type 0
 IsQ1 ts ps = AreAllFull ts ps
 
+-- what Q1 leaves
 abbrev pub q1 : Forest → Outline
 q1 ts = q_node ts
 
@@ -175,6 +185,7 @@ abbrev pub q2 : Forest → Option Partial → Forest → Partial
 q2 es None fs = record { e = es; f = fs }
 q2 es (Some h) fs = record { e = join es h.e; f = join h.f fs }
 
+-- Q2 applies, and makes this of the node
 pub record IsQ2 (ts : Forest) (ps : List Label) (x : Partial) : Type 0 where
   pub es : Forest
   pub h : Option Partial
@@ -190,6 +201,7 @@ pub record IsQ2 (ts : Forest) (ps : List Label) (x : Partial) : Type 0 where
 abbrev pub q3 : Forest → Option Partial → Forest → Option Partial → Forest → Forest
 q3 es h fs k gs = join es (join (line_if h) (join fs (join (back (line_if k)) gs)))
 
+-- Q3 applies, and makes this of the node
 pub record IsQ3 (root : Bool) (ts : Forest) (ps : List Label) (u : Outline) : Type 0 where
   pub at : IsTrue root
   pub es : Forest

@@ -21,18 +21,18 @@ use pq_tree::Tree;
 use row_model::NoMemory;
 use std::alloc::Global;
 
-/// What the templates make of the pertinent root.
+// What the templates make of the pertinent root.
 #[derive(Drop)]
 pub enum Outcome {
-    /// The root stays as it is.
+    // The root stays as it is.
     Unchanged,
-    /// This tree takes the place of the root.
+    // This tree takes the place of the root.
     Replaced(Tree),
-    /// At some node no template fits.
+    // At some node no template fits.
     NoTemplate,
 }
 
-/// Applies the template that fits at the pertinent root, after those below it.
+// Applies the template that fits at the pertinent root, after those below it.
 pub fn reduce_root(alloc: Global, row: &[u32], root: &Tree) -> Result<Outcome, NoMemory>
     requires ascending { IsNonDecreasing row.now }
     requires some { 0 < length row.now }
@@ -53,7 +53,7 @@ pub fn reduce_root(alloc: Global, row: &[u32], root: &Tree) -> Result<Outcome, N
     }
 }
 
-/// P1, P2, P4 and P6 at the pertinent root.
+// P1, P2, P4 and P6 at the pertinent root.
 fn root_p(alloc: Global, children: &[Tree], labels: Vec<Label>) -> Result<Outcome, NoMemory>
     requires length { length labels.items ≡ length children.now }
     requires root { HasRootLabels (p_node (outlines children.now)) (labels_seen labels) }
@@ -80,7 +80,7 @@ fn root_p(alloc: Global, children: &[Tree], labels: Vec<Label>) -> Result<Outcom
     }
 }
 
-/// P2, P4 or P6, by the number of partial children.
+// P2, P4 or P6, by the number of partial children.
 fn replaced_p(alloc: Global, children: &[Tree], labels: Vec<Label>) -> Result<Tree, NoMemory>
     requires length { length labels.items ≡ length children.now }
     requires few { length (partials (labels_seen labels)) ≤ 2 }
@@ -107,7 +107,7 @@ fn replaced_p(alloc: Global, children: &[Tree], labels: Vec<Label>) -> Result<Tr
     }
 }
 
-/// P2: empty children E and full children F become P over `P*(F)` and E.
+// P2: empty children E and full children F become P over `P*(F)` and E.
 fn template_p2(alloc: Global, mut empty: Vec<Tree>, full: Vec<Tree>) -> Result<Tree, NoMemory>
     ensures { IfOk result (λ t. outline_of t ≡ p2 (outlines empty.items) (outlines full.items)) }
 {
@@ -116,8 +116,8 @@ fn template_p2(alloc: Global, mut empty: Vec<Tree>, full: Vec<Tree>) -> Result<T
     Ok(Tree::P(children))
 }
 
-/// P4: empty children E, full children F and one partial `[e f]` become P over `[e f P*(F)]` and E; where E is empty,
-/// that Q-node alone.
+// P4: empty children E, full children F and one partial `[e f]` become P over `[e f P*(F)]` and E; where E is empty,
+// that Q-node alone.
 fn template_p4(
     alloc: Global,
     partial: Halves,
@@ -133,8 +133,8 @@ fn template_p4(
     Ok(tree)
 }
 
-/// P6: empty children E, full children F and two partials `[e f]` and `[e2 f2]` become P over `[e f P*(F) f2 e2]`, the
-/// second turned, and E; where E is empty, that Q-node alone.
+// P6: empty children E, full children F and two partials `[e f]` and `[e2 f2]` become P over `[e f P*(F) f2 e2]`, the
+// second turned, and E; where E is empty, that Q-node alone.
 fn template_p6(
     alloc: Global,
     first: Halves,
@@ -154,7 +154,7 @@ fn template_p6(
     Ok(tree)
 }
 
-/// The trees of the partial `[e f]` from left to right.
+// The trees of the partial `[e f]` from left to right.
 fn in_line(partial: Halves) -> Result<Vec<Tree>, NoMemory>
     ensures { IfOk result (λ v. outlines v.items ≡ line (halves_seen partial)) }
 {
@@ -166,7 +166,7 @@ fn in_line(partial: Halves) -> Result<Vec<Tree>, NoMemory>
     Ok(line)
 }
 
-/// P over the tree and the others, or the tree alone where there are no others.
+// P over the tree and the others, or the tree alone where there are no others.
 fn under_p(alloc: Global, mut others: Vec<Tree>, tree: Tree) -> Result<Tree, NoMemory>
     ensures { IfOk result (λ t. outline_of t ≡ under (outlines others.items) (outline_of tree)) }
 {
@@ -179,20 +179,20 @@ fn under_p(alloc: Global, mut others: Vec<Tree>, tree: Tree) -> Result<Tree, NoM
     Ok(Tree::P(children))
 }
 
-/// Where the children of a Q-node that read empty, at most one partial, full, at most one partial, empty are cut.
+// Where the children of a Q-node that read empty, at most one partial, full, at most one partial, empty are cut.
 #[derive(Clone, Copy)]
 struct Span {
-    /// How many empty children come first.
+    // How many empty children come first.
     before: usize,
-    /// How many children stand before the full ones.
+    // How many children stand before the full ones.
     full_from: usize,
-    /// How many children stand before the end of the full ones.
+    // How many children stand before the end of the full ones.
     full_to: usize,
-    /// How many children stand before the last empty ones.
+    // How many children stand before the last empty ones.
     behind: usize,
 }
 
-/// Where the labels read empty, at most one partial, full, at most one partial, empty, if they do.
+// Where the labels read empty, at most one partial, full, at most one partial, empty, if they do.
 fn find_span(labels: &[Label]) -> Option<Span>
     ensures cut { (ts : List Outline) → length ts ≡ length labels.now → IsSpanCut ts (map label_seen labels.now) result }
     ensures within { IfSome result (λ s. (s.before ≤ s.full_from) × (s.full_from ≤ s.full_to) × (s.full_to ≤ s.behind) × (s.behind ≤ length labels.now)) }
@@ -214,7 +214,7 @@ fn find_span(labels: &[Label]) -> Option<Span>
     }
 }
 
-/// Q1, Q2 and Q3 at the pertinent root.
+// Q1, Q2 and Q3 at the pertinent root.
 fn root_q(alloc: Global, children: &[Tree], labels: Vec<Label>) -> Result<Outcome, NoMemory>
     requires length { length labels.items ≡ length children.now }
     requires root { HasRootLabels (q_node (outlines children.now)) (labels_seen labels) }
@@ -236,7 +236,7 @@ fn root_q(alloc: Global, children: &[Tree], labels: Vec<Label>) -> Result<Outcom
     }
 }
 
-/// Q2 or Q3, by the partials on both sides of the full children.
+// Q2 or Q3, by the partials on both sides of the full children.
 fn replaced_q(
     alloc: Global,
     children: &[Tree],
@@ -257,7 +257,7 @@ fn replaced_q(
     Ok(tree)
 }
 
-/// The last partial, if the count isn't zero.
+// The last partial, if the count isn't zero.
 fn last_if(partials: &mut Vec<Halves>, count: usize) -> Option<Halves>
     requires { count ≤ length partials.old.items }
     ensures items { partials.old.items ≡ partials.new.items ++ option_to_list result }
@@ -266,8 +266,8 @@ fn last_if(partials: &mut Vec<Halves>, count: usize) -> Option<Halves>
     if count == 0 { None } else { partials.pop() }
 }
 
-/// Q3, and Q2 where one of the partials is missing: the partials `[e f]` and `[e2 f2]` round the full children F, and the
-/// empty children E and G round them, become `[E e f F f2 e2 G]`.
+// Q3, and Q2 where one of the partials is missing: the partials `[e f]` and `[e2 f2]` round the full children F, and
+// the empty children E and G round them, become `[E e f F f2 e2 G]`.
 fn template_q3(
     alloc: Global,
     before: Vec<Tree>,
@@ -289,7 +289,7 @@ fn template_q3(
     Ok(Tree::Q(line))
 }
 
-/// The trees of the partial, if there is one, from left to right.
+// The trees of the partial, if there is one, from left to right.
 fn in_line_if(alloc: Global, partial: Option<Halves>) -> Result<Vec<Tree>, NoMemory>
     ensures { IfOk result (λ v. outlines v.items ≡ line_if (option_map halves_seen partial)) }
 {

@@ -18,7 +18,7 @@ use pq_tree::Tree;
 use row_model::{NoMemory, row_has};
 use std::alloc::Global;
 
-/// The label of a tree below the pertinent root, `None` where at some node no template fits.
+// The label of a tree below the pertinent root, `None` where at some node no template fits.
 #[cycle(label)]
 pub fn label_tree(alloc: Global, row: &[u32], tree: &Tree) -> Result<Option<Label>, NoMemory>
     requires { IsNonDecreasing row.now }
@@ -37,7 +37,7 @@ pub fn label_tree(alloc: Global, row: &[u32], tree: &Tree) -> Result<Option<Labe
     }
 }
 
-/// The label of each tree, `None` where one has none.
+// The label of each tree, `None` where one has none.
 #[cycle(label)]
 pub fn label_trees(
     alloc: Global,
@@ -57,7 +57,7 @@ pub fn label_trees(
     Ok(Some(labels))
 }
 
-/// L1: a leaf in the row is full.
+// L1: a leaf in the row is full.
 fn label_leaf(row: &[u32], column: u32) -> Label
     requires { IsNonDecreasing row.now }
     ensures { IsLabelOfLeaf row.now column (label_seen result) }
@@ -69,7 +69,7 @@ fn label_leaf(row: &[u32], column: u32) -> Label
     }
 }
 
-/// P3: empty children E and full children F become the partial `[P*(E) P*(F)]`.
+// P3: empty children E and full children F become the partial `[P*(E) P*(F)]`.
 fn template_p3(alloc: Global, empty: Vec<Tree>, full: Vec<Tree>) -> Result<Halves, NoMemory>
     ensures { IfOk result (λ h. halves_seen h ≡ p3 (outlines empty.items) (outlines full.items)) }
 {
@@ -78,7 +78,7 @@ fn template_p3(alloc: Global, empty: Vec<Tree>, full: Vec<Tree>) -> Result<Halve
     Ok(Halves { empty, full })
 }
 
-/// P5: empty children E, full children F and one partial `[e f]` become the partial `[P*(E) e f P*(F)]`.
+// P5: empty children E, full children F and one partial `[e f]` become the partial `[P*(E) e f P*(F)]`.
 fn template_p5(
     alloc: Global,
     mut partial: Halves,
@@ -97,7 +97,7 @@ fn template_p5(
     })
 }
 
-/// P1, P3 and P5, `None` where none fits.
+// P1, P3 and P5, `None` where none fits.
 fn label_p(alloc: Global, children: &[Tree], labels: Vec<Label>) -> Result<Option<Label>, NoMemory>
     requires { length labels.items ≡ length children.now }
     ensures { IfOk result (λ r. Finds (IsLabelOfP (outlines children.now) (labels_seen labels)) (option_map label_seen r)) }
@@ -128,7 +128,7 @@ fn label_p(alloc: Global, children: &[Tree], labels: Vec<Label>) -> Result<Optio
     }
 }
 
-/// Q2: the partial `[e f]` between empty children and full ones becomes the partial `[E e f F]`.
+// Q2: the partial `[e f]` between empty children and full ones becomes the partial `[E e f F]`.
 fn template_q2(
     mut partial: Halves,
     mut empty: Vec<Tree>,
@@ -144,7 +144,7 @@ fn template_q2(
     })
 }
 
-/// Q1 and Q2 for children that read empty, at most one partial, full.
+// Q1 and Q2 for children that read empty, at most one partial, full.
 fn label_run(
     alloc: Global,
     labels: Vec<Label>,
@@ -166,7 +166,7 @@ fn label_run(
     }
 }
 
-/// Q1 and Q2, `None` where neither fits.
+// Q1 and Q2, `None` where neither fits.
 fn label_q(alloc: Global, children: &[Tree], labels: Vec<Label>) -> Result<Option<Label>, NoMemory>
     requires { length labels.items ≡ length children.now }
     ensures { IfOk result (λ r. Finds (IsLabelOfQ (outlines children.now) (labels_seen labels)) (option_map label_seen r)) }
@@ -187,7 +187,7 @@ fn label_q(alloc: Global, children: &[Tree], labels: Vec<Label>) -> Result<Optio
     }
 }
 
-/// Q1 and Q2 for the children from the last to the first, `None` where neither fits.
+// Q1 and Q2 for the children from the last to the first, `None` where neither fits.
 fn label_turned(
     alloc: Global,
     children: &[Tree],

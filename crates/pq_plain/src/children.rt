@@ -11,7 +11,7 @@ use pq_tree::Tree;
 use row_model::NoMemory;
 use std::alloc::Global;
 
-/// Copies of the empty children.
+// Copies of the empty children.
 pub fn empty_children(
     alloc: Global,
     children: &[Tree],
@@ -29,7 +29,7 @@ pub fn empty_children(
     Ok(copies)
 }
 
-/// Copies of the full children.
+// Copies of the full children.
 pub fn full_children(
     alloc: Global,
     children: &[Tree],
@@ -47,7 +47,7 @@ pub fn full_children(
     Ok(copies)
 }
 
-/// The partials among the labels, in the same order.
+// The partials among the labels, in the same order.
 pub fn partial_children(alloc: Global, labels: Vec<Label>) -> Result<Vec<Halves>, NoMemory>
     ensures { IfOk result (λ v. map halves_seen v.items ≡ partials (map label_seen labels.items)) }
 {
@@ -61,7 +61,7 @@ pub fn partial_children(alloc: Global, labels: Vec<Label>) -> Result<Vec<Halves>
     Ok(halves)
 }
 
-/// `P*(X)`: nothing for no tree, the tree itself for one, and a P-node over two or more.
+// `P*(X)`: nothing for no tree, the tree itself for one, and a P-node over two or more.
 pub fn star_of(alloc: Global, trees: Vec<Tree>) -> Result<Vec<Tree>, NoMemory>
     ensures { IfOk result (λ v. outlines v.items ≡ star (outlines trees.items)) }
 {
@@ -73,7 +73,7 @@ pub fn star_of(alloc: Global, trees: Vec<Tree>) -> Result<Vec<Tree>, NoMemory>
     Ok(node)
 }
 
-/// Copies of the trees, from the last to the first.
+// Copies of the trees, from the last to the first.
 pub fn back_copied(alloc: Global, trees: &[Tree]) -> Result<Vec<Tree>, NoMemory>
     ensures { IfOk result (λ v. outlines v.items ≡ back (outlines trees.now)) }
 {

@@ -6,7 +6,7 @@ use pq_tree::Tree;
 use row_model::NoMemory;
 use std::alloc::Global;
 
-/// A copy of a tree.
+// A copy of a tree.
 #[cycle(copy)]
 pub fn copied(alloc: Global, tree: &Tree) -> Result<Tree, NoMemory>
     ensures { IfOk result (λ t. outline_of t ≡ outline_of tree.now) }
@@ -24,7 +24,7 @@ pub fn copied(alloc: Global, tree: &Tree) -> Result<Tree, NoMemory>
     }
 }
 
-/// A copy of each tree, in the same order.
+// A copy of each tree, in the same order.
 #[cycle(copy)]
 pub fn all_copied(alloc: Global, trees: &[Tree]) -> Result<Vec<Tree>, NoMemory>
     ensures { IfOk result (λ v. map outline_of v.items ≡ map outline_of trees.now) }

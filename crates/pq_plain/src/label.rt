@@ -8,39 +8,39 @@ ghost use Rattle.pq_plain.specs.Seen.{label_seen, empties, fulls, empty_front, f
 
 use pq_tree::Tree;
 
-/// The partial `[e f]`: a Q-shape whose run of empty trees is followed by its run of full trees.
+// The partial `[e f]`: a Q-shape whose run of empty trees is followed by its run of full trees.
 #[derive(Drop)]
 pub struct Halves {
-    /// The empty trees, none of whose columns is in the row.
+    // The empty trees, none of whose columns is in the row.
     pub empty: Vec<Tree>,
-    /// The full trees, all of whose columns are in the row.
+    // The full trees, all of whose columns are in the row.
     pub full: Vec<Tree>,
 }
 
-/// What a row makes of a tree below the pertinent root.
+// What a row makes of a tree below the pertinent root.
 #[derive(Drop)]
 pub enum Label {
-    /// No column of the tree is in the row.
+    // No column of the tree is in the row.
     Empty,
-    /// All columns of the tree are in the row.
+    // All columns of the tree are in the row.
     Full,
-    /// Some are and some are not, and the templates make this of the tree.
+    // Some are and some are not, and the templates make this of the tree.
     Partial(Halves),
 }
 
-/// How many labels there are of each kind.
+// How many labels there are of each kind.
 #[derive(Clone, Copy)]
 pub struct Kinds {
-    /// How many are `Empty`.
+    // How many are `Empty`.
     pub empty: usize,
-    /// How many are `Full`.
+    // How many are `Full`.
     pub full: usize,
-    /// How many are `Partial`.
+    // How many are `Partial`.
     pub partial: usize,
 }
 
 impl Kinds {
-    /// Counts one label more.
+    // Counts one label more.
     fn add(&mut self, label: &Label)
         requires empty { self.old.empty < 2 ^ 64 - 1 }
         requires full { self.old.full < 2 ^ 64 - 1 }
@@ -57,7 +57,7 @@ impl Kinds {
     }
 }
 
-/// Counts the labels of each kind.
+// Counts the labels of each kind.
 pub fn count_kinds(labels: &[Label]) -> Kinds
     ensures empty { result.empty ≡ empties (map label_seen labels.now) }
     ensures full { result.full ≡ fulls (map label_seen labels.now) }
@@ -74,7 +74,7 @@ pub fn count_kinds(labels: &[Label]) -> Kinds
     kinds
 }
 
-/// The number of empty labels at the beginning.
+// The number of empty labels at the beginning.
 pub fn leading_empty(labels: &[Label]) -> usize
     ensures count { result ≡ empty_front (map label_seen labels.now) }
     ensures within { result ≤ length labels.now }
@@ -88,7 +88,7 @@ pub fn leading_empty(labels: &[Label]) -> usize
     labels.len()
 }
 
-/// The number of full labels at the beginning.
+// The number of full labels at the beginning.
 pub fn leading_full(labels: &[Label]) -> usize
     ensures count { result ≡ full_front (map label_seen labels.now) }
     ensures within { result ≤ length labels.now }
@@ -102,7 +102,7 @@ pub fn leading_full(labels: &[Label]) -> usize
     labels.len()
 }
 
-/// One if the first label is partial, else zero.
+// One if the first label is partial, else zero.
 pub fn leading_partial(labels: &[Label]) -> usize
     ensures count { result ≡ cut_front (map label_seen labels.now) }
     ensures within { result ≤ length labels.now }
@@ -113,16 +113,16 @@ pub fn leading_partial(labels: &[Label]) -> usize
     }
 }
 
-/// Where children that read empty, at most one partial, full are cut.
+// Where children that read empty, at most one partial, full are cut.
 #[derive(Clone, Copy)]
 pub struct Run {
-    /// How many empty children come first.
+    // How many empty children come first.
     pub before: usize,
-    /// How many children stand before the full ones.
+    // How many children stand before the full ones.
     pub behind: usize,
 }
 
-/// Where the labels read empty, at most one partial, full, if they do.
+// Where the labels read empty, at most one partial, full, if they do.
 pub fn find_run(labels: &[Label]) -> Option<Run>
     ensures cut { (ts : List Outline) → length ts ≡ length labels.now → IsRunCut ts (map label_seen labels.now) result }
     ensures within { IfSome result (λ run. (run.before ≤ run.behind) × (run.behind ≤ length labels.now)) }

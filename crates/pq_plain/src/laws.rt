@@ -14,15 +14,16 @@ pub fn reduce_law()
     ensures exists { ExistsLaw }
 {}
 
-/// The order in which a reducer keeps the children of a P-node, and the direction of a Q-node, are its own: what a template
-/// makes of a node may be turned before the template above is applied, and so may the reduced tree.
+/// The order in which a reducer keeps the children of a P-node, and the direction of a Q-node, are its own: what a
+/// template makes of a node may be turned before the template above is applied, and so may the reduced tree.
 pub fn turned_law()
     ensures reduced { TurnedLaw }
     ensures root { RootTurnedLaw }
     ensures label { LabelTurnedLaw }
 {}
 
-/// What the labels of the templates of Booth and Lueker (1976) say of a tree, and how many full children P2 and P4 have.
+/// What the labels of the templates of Booth and Lueker (1976) say of a tree, and how many full children P2 and P4
+/// have.
 pub fn template_law()
     ensures empty_label { EmptyLabelLaw }
     ensures full_label { FullLabelLaw }
@@ -30,7 +31,8 @@ pub fn template_law()
     ensures full_children_of_p4 { FullChildrenOfP4Law }
 {}
 
-/// Rows have a valid order exactly where their incompatibility graph has no closed walk of odd length (McConnell, 2004).
+/// Rows have a valid order exactly where their incompatibility graph has no closed walk of odd length (McConnell,
+/// 2004).
 pub fn order_law()
     ensures either { EitherLaw }
     ensures order { OrderLaw }

@@ -13,17 +13,17 @@ use row_model::{NoMemory, row_has};
 use std::alloc::Global;
 use std::mem;
 
-/// What a search for the pertinent root found in a tree.
+// What a search for the pertinent root found in a tree.
 #[derive(Drop)]
 pub enum Found {
-    /// The root isn't there. So many columns of the row are.
+    // The root isn't there. So many columns of the row are.
     Columns(usize),
-    /// The root is there, and this became of it.
+    // The root is there, and this became of it.
     Root(Step),
 }
 
-/// Reduces the tree at its pertinent root, if a node holds the whole row. The tree is unchanged where it has no such
-/// node, where the row is refused, and on an error.
+// Reduces the tree at its pertinent root, if a node holds the whole row. The tree is unchanged where it has no such
+// node, where the row is refused, and on an error.
 #[cycle(search)]
 pub fn reduce_tree(alloc: Global, row: &[u32], tree: &mut Tree) -> Result<Found, NoMemory>
     requires ascending { IsNonDecreasing row.now }
@@ -45,7 +45,7 @@ pub fn reduce_tree(alloc: Global, row: &[u32], tree: &mut Tree) -> Result<Found,
     }
 }
 
-/// Searches the children of the tree, or counts its column where it has none.
+// Searches the children of the tree, or counts its column where it has none.
 #[cycle(search)]
 fn reduce_below(alloc: Global, row: &[u32], tree: &mut Tree) -> Result<Found, NoMemory>
     requires ascending { IsNonDecreasing row.now }
@@ -73,7 +73,7 @@ fn reduce_below(alloc: Global, row: &[u32], tree: &mut Tree) -> Result<Found, No
     }
 }
 
-/// Searches the trees from left to right, up to the first that holds the whole row.
+// Searches the trees from left to right, up to the first that holds the whole row.
 #[cycle(search)]
 fn reduce_children(alloc: Global, row: &[u32], children: &mut [Tree]) -> Result<Found, NoMemory>
     requires ascending { IsNonDecreasing row.now }
@@ -93,7 +93,7 @@ fn reduce_children(alloc: Global, row: &[u32], children: &mut [Tree]) -> Result<
     Ok(Found::Columns(count))
 }
 
-/// One if the row has the column, else zero.
+// One if the row has the column, else zero.
 fn count_leaf(row: &[u32], column: u32) -> usize
     requires { IsNonDecreasing row.now }
     ensures { result ≡ hits row.now (column ∷ []) }
@@ -101,7 +101,7 @@ fn count_leaf(row: &[u32], column: u32) -> usize
     if row_has(row, column) { 1 } else { 0 }
 }
 
-/// Applies the templates to a tree whose root is the pertinent root.
+// Applies the templates to a tree whose root is the pertinent root.
 fn reduce_here(alloc: Global, row: &[u32], tree: &mut Tree) -> Result<Step, NoMemory>
     requires ascending { IsNonDecreasing row.now }
     requires some { 0 < length row.now }
