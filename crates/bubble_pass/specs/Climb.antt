@@ -112,7 +112,8 @@ pub record Free (f : Layout) (st : List Stage) : Type 0 where
   pub apart : (y z : ℕ) (m : NodeId) → Beside f y z → stage st y ≡ Blocked → stage st z ≡ Placed m → ⊥
   pub runs : (x : ℕ) → stage st x ≢ InRun
 
--- The seen nodes stand in the queue, each once: those before `head` have had their turn, and those from `head` to `tail` wait.
+-- The seen nodes stand in the queue, each once: those before `head` have had their turn, and those from `head` to
+-- `tail` wait.
 pub record Queue (st : List Stage) (queue : List NodeId) (head tail : ℕ) : Type 0 where
   pub order : head ≤ tail
   pub room : tail + sum_by unseen_one st ≡ length st

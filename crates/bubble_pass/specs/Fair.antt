@@ -18,7 +18,8 @@ pub data Counted (f : Layout) (r : ℕ) (queue : List NodeId) : ℕ → ℕ → 
   counted_above : (n a b n' a' : ℕ) → n' ≡ n + 1 → a' ≡ a + 1 → IsAbove f r (at queue n) → Counted f r queue n a b → Counted f r queue n' a' b
   counted_below : (n a b n' b' : ℕ) → n' ≡ n + 1 → b' ≡ b + 1 → IsAtOrAbove f.slots r (at queue n) → Counted f r queue n a b → Counted f r queue n' a b'
 
--- calm: all in the queue are at or below r; ahead: one, at p, is above; doomed: two open nodes, one above the other, and only nodes above r have a turn
+-- calm: all in the queue are at or below r; ahead: one, at p, is above; doomed: two open nodes, one above the other,
+-- and only nodes above r have a turn
 pub data Course (f : Layout) (r : ℕ) (w : Climber) (a b : ℕ) : Type 0 where
   calm : a ≤ b + 1 → ((i : ℕ) → w.head ≤ i → i < w.tail → IsAtOrAbove f.slots r (at w.queue.items i)) → Course f r w a b
   ahead : (p : ℕ) → a ≤ b + 1 → w.head ≤ p → p < w.tail → IsAbove f r (at w.queue.items p) →

@@ -11,8 +11,8 @@ use Rattle.bubble_pass.specs.Sweep.{label}
 use Rattle.bubble_pass.specs.Tables.{AreKept, node_at, seat_of}
 
 -- The labels, the numbers of full and of partial children and the chains by nodes, the labelled nodes in their order,
--- and whether the last pass ended inside a Q-node. A chain hangs together by times_child: each place has a node, and each node
--- has a place.
+-- and whether the last pass ended inside a Q-node. A chain hangs together by places: each place has a node, and each
+-- node has a place.
 pub record Marks : Type 0 where
   pub labels : List Label
   pub nodes : List ℕ
@@ -41,7 +41,7 @@ abbrev pub placed_node : List (Option NodeId) → Option NodeId → Option NodeI
 placed_node nodes None = None
 placed_node nodes (Some s) = Some (node_at nodes s)
 
--- the first labelled child of n, and the one behind n
+-- the first labelled child of n
 abbrev pub first_of : Marks → ℕ → Option NodeId
 first_of w n = placed_node w.seat_nodes (entry w.first n)
 
@@ -84,7 +84,7 @@ marks_of a = tables_marks a.tables
 abbrev pub exchange : NodeId → NodeId → NodeId → NodeId
 exchange old new x = cond (eqb x.index old.index) new (cond (eqb x.index new.index) old x)
 
--- new has this label, and the two nodes exchange their times_child in the chains
+-- new has this label, and the two nodes exchange their places in the chains
 pub record IsPut (a b : Marks) (old new : NodeId) (l : Label) : Type 0 where
   pub labels : b.labels ≡ set a.labels new.index l
   pub nodes : b.nodes ≡ a.nodes

@@ -108,7 +108,7 @@ pub record Sweeping (f : Layout) (row : List ℕ) (w : Climber) (ls : Labels) (d
   pub quiet : IsQuiet w ls
   pub ticks : s ≤ s0 + 2 * done + fulls_before ls done
 
--- x gets a label, and the node m above it is told
+-- x has this label, and the rest stays
 pub record Noted (a b : Labels) (x : NodeId) (l : Label) : Type 0 where
   pub labels : b.labels.items ≡ set a.labels.items x.index l
   pub full : b.full.items ≡ a.full.items

@@ -21,7 +21,7 @@ seat_of seats x = unwrap_or (entry seats x.index) x
 abbrev pub no_node : NodeId
 no_node = record { index = 0 }
 
--- old and new exchange their times_child
+-- old and new exchange their places
 pub record Swapped (a b : Seats) (old new : NodeId) : Type 0 where
   pub nodes : b.nodes.items ≡ set (set a.nodes.items (seat_of a.seats.items old).index (Some new)) (seat_of a.seats.items new).index (Some old)
   pub seats : b.seats.items ≡ set (set a.seats.items new.index (Some (seat_of a.seats.items old))) old.index (Some (seat_of a.seats.items new))

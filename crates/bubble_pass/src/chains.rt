@@ -38,6 +38,7 @@ impl Chains {
         self.count[x.index() as usize] = 0;
     }
 
+    // The first of the chain of `x`.
     pub fn first_of(&self, x: NodeId) -> Option<NodeId>
         requires { x.index < length self.now.first.items }
         ensures { result ≡ entry self.now.first.items x.index }
@@ -45,6 +46,7 @@ impl Chains {
         self.first[x.index() as usize]
     }
 
+    // How many hang in the chain of `x`.
     pub fn count_of(&self, x: NodeId) -> u32
         requires { x.index < length self.now.count.items }
         ensures { result ≡ number self.now.count.items x.index }

@@ -51,6 +51,7 @@ pub enum End {
 }
 
 impl Climber {
+    // How far `n` has come.
     pub fn stage_of(&self, n: NodeId) -> Stage
         requires { n.index < length self.now.stages.items }
         ensures { result ≡ stage self.now.stages.items n.index }
@@ -58,6 +59,7 @@ impl Climber {
         self.stages[n.index() as usize]
     }
 
+    // `n` has come as far as `to`.
     pub fn set_stage(&mut self, n: NodeId, to: Stage)
         requires { n.index < length self.old.stages.items }
         ensures staged { Staged self.old self.new n to }
@@ -326,6 +328,7 @@ impl Climber {
     }
 }
 
+// The stage of a node in view whose node above is not known after its turn: blocked beside a neighbour, else at the top.
 pub fn parked_stage(view: &NodeView) -> Stage
     ensures { result ≡ parked_as view.now }
 {

@@ -35,6 +35,7 @@ pub struct Labels {
 }
 
 impl Labels {
+    // `x` has this label.
     pub fn note(&mut self, x: NodeId, label: Label)
         requires { x.index < length self.old.labels.items }
         ensures { Noted self.old self.new x label }
@@ -53,6 +54,7 @@ impl Labels {
         self.partial[m.index() as usize] = partial + partial_step(label);
     }
 
+    // `n` stands last among the nodes that get a label.
     pub fn add(&mut self, n: NodeId)
         requires { CanAdd self.old }
         ensures { Added self.old self.new n }
@@ -120,6 +122,7 @@ impl Labels {
         }
     }
 
+    // How many full children `x` has so far.
     pub fn full_of(&self, x: NodeId) -> u32
         requires { x.index < length self.now.full.items }
         ensures { result ≡ number self.now.full.items x.index }
@@ -256,6 +259,7 @@ pub fn other_near(near: [Option<NodeId>; 2], before: Option<NodeId>) -> Option<N
     }
 }
 
+// 1 for a full node, else 0.
 pub fn full_step(label: Label) -> u32
     ensures { result ≡ full_one label }
 {
@@ -265,6 +269,7 @@ pub fn full_step(label: Label) -> u32
     }
 }
 
+// 1 for a partial node, else 0.
 pub fn partial_step(label: Label) -> u32
     ensures { result ≡ partial_one label }
 {

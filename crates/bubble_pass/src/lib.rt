@@ -1,4 +1,5 @@
-//! The bubble pass of Booth and Lueker (1976): from the leaves of a row up to the smallest node of a PQ-tree that holds it.
+//! The bubble pass of Booth and Lueker (1976): from the leaves of a row up to the smallest node of a PQ-tree that holds
+//! the row.
 #![tactic(auto)]
 
 mod chains;

@@ -18,8 +18,8 @@ use step_count::{Ledger, Steps};
 /// Finds the smallest node of the tree that holds row `k` of the matrix, and labels the nodes at and below it that meet
 /// the row. What the last pass left in `work` is forgotten first. The arena stays as it is.
 ///
-/// The bounds on the steps count looks at nodes. Where the answer isn't [`Found::Split`], the second one counts the nodes
-/// at and below the pertinent root alone, however far that lies below the root of the tree.
+/// The bounds on the steps count looks at nodes. Where the answer isn't [`Found::Split`], the second one counts the
+/// nodes at and below the pertinent root alone, however far that lies below the root of the tree.
 pub fn bubble<L: Ledger>(
     arena: &mut Arena,
     m: &Matrix,

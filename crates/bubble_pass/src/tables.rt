@@ -2,7 +2,7 @@
 ghost use Rattle.std.specs.Prelude.{◌≡◌, ℕ, ◌+◌, ◌*◌, ◌≤◌, ◌<◌, length, set, replicate, IfOk, List, false, None, Some};
 ghost use Rattle.pq_arena.specs.declared.node.NodeId.{NodeId};
 ghost use Rattle.bubble_pass.specs.declared.labels.Label.TheVariants.{Empty};
-ghost use Rattle.bubble_pass.specs.Tables.{node_at as node_at_lem, seat_of as seat_of_lem, Swapped, CanSwap, AreKept, Forgot, CanForget, AreClear, TouchedAt};
+ghost use Rattle.bubble_pass.specs.Tables.{node_at, seat_of, Swapped, CanSwap, AreKept, Forgot, CanForget, AreClear, TouchedAt};
 ghost use Rattle.bubble_pass.specs.Marks.{tables_marks, placed_node, IsPut};
 ghost use Rattle.bubble_pass.specs.Tables.{no_node};
 ghost use Rattle.bubble_pass.specs.Pass.{IsAnswer, IsHeld};
@@ -20,7 +20,7 @@ use row_model::NoMemory;
 use std::alloc::Global;
 use step_count::{Ledger, Steps};
 
-// Which node has which place in the chains. A place is node_named by the node that had it first.
+// Which node has which place in the chains. A place is named by the node that had it first.
 #[derive(Drop)]
 pub struct Seats {
     pub nodes: Vec<Option<NodeId>>,
@@ -30,7 +30,7 @@ pub struct Seats {
 impl Seats {
     // The node that has the place `s`.
     pub fn node_at(&self, s: NodeId) -> NodeId
-        ensures { result ≡ node_at_lem self.now.nodes.items s }
+        ensures { result ≡ node_at self.now.nodes.items s }
     {
         match self.nodes.get(s.index() as usize) {
             Some(Some(x)) => *x,
@@ -51,7 +51,7 @@ impl Seats {
     // The place that the node `x` has.
     pub fn seat_of(&self, x: NodeId) -> NodeId
         requires { x.index < length self.now.seats.items }
-        ensures { result ≡ seat_of_lem self.now.seats.items x }
+        ensures { result ≡ seat_of self.now.seats.items x }
     {
         match self.seats[x.index() as usize] {
             Some(s) => s,
@@ -59,7 +59,7 @@ impl Seats {
         }
     }
 
-    // `old` and `new` exchange their times_child.
+    // `old` and `new` exchange their places.
     pub fn swap(&mut self, old: NodeId, new: NodeId)
         requires { CanSwap self.old old new }
         ensures { Swapped self.old self.new old new }
@@ -155,7 +155,7 @@ impl Tables {
         self.labels.note(n, label);
     }
 
-    // `new` has this label, and `old` and `new` exchange their times_child in the chains.
+    // `new` has this label, and `old` and `new` exchange their places in the chains.
     pub fn put(&mut self, old: NodeId, new: NodeId, label: Label)
         requires kept { AreKept self.old }
         requires old { old.index < length self.old.climber.stages.items }

@@ -18,3 +18,4 @@ pub mod Starting
 pub mod Placed
 pub mod Whole
 pub mod Pairs
+pub mod Arities

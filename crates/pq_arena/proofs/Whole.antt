@@ -1,12 +1,11 @@
 -- What is above a node, up to a top.
-use Rattle.std.proofs.Common.{◌≡◌, ◌≢◌, ◌⊎◌, inl, inr, ℕ, zero, suc, ◌+◌, ◌≤◌, ◌<◌, List, [], ◌∷◌, length, Some, not, nat_eq, leb, IsTrue, refl, sym, ap, subst, ◌∙◌, arith}
+use Rattle.std.proofs.Common.{◌≡◌, inl, inr, ℕ, zero, suc, ◌+◌, ◌≤◌, ◌<◌, List, [], ◌∷◌, length, sym, subst, arith}
 use Rattle.std.proofs.lemmas.Bool.{cases_eq, cases_lt}
 use Rattle.column_order.specs.Orders.{occurs}
-use Rattle.arena_model.specs.declared.Shape.TheVariants.{P, Q}
-use Rattle.arena_model.specs.ChildLists.{head_or, last_or, none}
-use Rattle.arena_model.specs.Layout.{Layout, shape_at, children_at, times_child, IsAtOrAbove, here, down, IsInUse, StandsAlone, MayHaveChildren, IsLayout}
+use Rattle.arena_model.specs.Layout.{Layout, children_at, times_child, IsAtOrAbove, here, down, IsInUse, StandsAlone, MayHaveChildren, IsLayout}
 use Rattle.arena_model.specs.NamedTree.{IsOneTree}
 use Rattle.arena_model.proofs.Lists.{occurs_other, occurs_same, few_once}
+use Rattle.arena_model.proofs.Paths.{top_alone}
 use Rattle.arena_model.proofs.Slots.{in_range, placed_in}
 use Rattle.arena_model.proofs.Trees.{no_circle}
 
@@ -55,6 +54,10 @@ top_over f x h used = upwards f (length f.slots) x x [] h (λ z. elim (cases_eq 
       | inr ne ↦ absurd (let q : occurs (x ∷ []) z ≡ 0 = occurs_other x z [] ne in omega arith)
     ])
     (omega (arith, occurs_same x [])) (omega arith)
+
+-- where all are at or below the root, no node stands alone
+pub one_alone : (f : Layout) (n : ℕ) → StandsAlone f n → IsOneTree f → ⊥
+one_alone f n a one = a.other (sym (top_alone f f.root n a.apart (one n a.used)))
 
 -- where no node stands alone, all are at or below the root
 pub none_alone : (f : Layout) → IsLayout f → ((k : ℕ) → k < length f.slots → StandsAlone f k → ⊥) → IsOneTree f

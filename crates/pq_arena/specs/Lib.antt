@@ -3,3 +3,4 @@ pub mod StandsFor
 pub mod Looks
 pub mod View
 pub mod Start
+pub mod Arities

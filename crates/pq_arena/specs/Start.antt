@@ -29,6 +29,7 @@ first_shape c used i = if nat_lt i c then Some (Leaf (i + 1)) else if nat_lt i u
 abbrev pub next_spare : ℕ → ℕ → ℕ → ℕ
 next_spare c used i = if nat_lt i used then none else if i + 1 == size c then none else i + 1
 
+-- what node i holds of itself and its children at first
 abbrev pub first_head : ℕ → ℕ → ℕ → Head
 first_head c used i = record { kind = kind_of (first_shape c used i); first = next_spare c used i; last = none; count = 0 }
 

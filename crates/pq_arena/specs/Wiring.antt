@@ -52,16 +52,19 @@ links nodes = map (λ n. n.link) nodes
 abbrev pub heads : List Node → List Head
 heads nodes = map (λ n. n.head) nodes
 
+-- the link of node x
 abbrev pub link : List Link → ℕ → Link
 link ls x = slice_index_or ls x no_link
 
+-- the head of node x
 abbrev pub head : List Head → ℕ → Head
 head hs x = slice_index_or hs x no_head
 
--- the lists after single writes
+-- x has this first neighbour
 abbrev pub with_near0 : List Link → ℕ → ℕ → List Link
 with_near0 ls x to = set ls x (record (link ls x) { near0 = to })
 
+-- x has this second neighbour
 abbrev pub with_near1 : List Link → ℕ → ℕ → List Link
 with_near1 ls x to = set ls x (record (link ls x) { near1 = to })
 
@@ -69,6 +72,7 @@ with_near1 ls x to = set ls x (record (link ls x) { near1 = to })
 abbrev pub redirected : Link → ℕ → ℕ → Link
 redirected l from to = record l { near0 = cond (eqb l.near0 from) to l.near0; near1 = cond (eqb l.near0 from) l.near1 to }
 
+-- so in the list of all links
 abbrev pub relinked : List Link → ℕ → ℕ → ℕ → List Link
 relinked ls x from to = set ls x (redirected (link ls x) from to)
 
@@ -78,6 +82,7 @@ unringed ls n =
     let l = link ls n in
     set (with_near1 (with_near0 ls l.near1 l.near0) l.near0 l.near1) n no_link
 
+-- the node above has a child less, after the child n with the link l has left
 abbrev pub fewer : List Head → Link → ℕ → List Head
 fewer hs l n =
     let h = head hs l.parent in
@@ -94,6 +99,7 @@ ringed ls h p n =
     (let back = (link ls h.first).near1 in
     set (with_near1 (with_near0 ls back n) h.first n) n (seat p h.first back))
 
+-- p has n as its first child, and a child more
 abbrev pub more : List Head → ℕ → ℕ → List Head
 more hs p n = let h = head hs p in set hs p (record h { first = n; count = h.count + 1 })
 
@@ -113,6 +119,7 @@ pub record CanEnter (ls : List Link) (hs : List Head) (p n : ℕ) : Type 0 where
   pub back_in : 1 ≤ (head hs p).count → (link ls (head hs p).first).near1 < length ls
   pub few : (head hs p).count < NODE_BOUND
 
+-- so where x is a node
 abbrev pub relinked_if : List Link → ℕ → ℕ → ℕ → List Link
 relinked_if ls x from to = cond (eqb x none) ls (relinked ls x from to)
 
@@ -122,6 +129,7 @@ joined ls n child e q =
     let one = relinked_if ls n child e in
     set one e (record (redirected (link one e) none n) { parent = cond (eqb n none) q none })
 
+-- the children of child, from e to g, stand between n and far, and child has no link
 abbrev pub spliced_links : List Link → ℕ → ℕ → ℕ → ℕ → ℕ → ℕ → List Link
 spliced_links ls child n far e g q = set (joined (joined ls n child e q) far child g q) child no_link
 
@@ -135,9 +143,11 @@ spliced_heads hs q child n e g =
       last = cond (eqb h.last child) (cond (eqb h.first child) g (cond (eqb n none) e g)) h.last;
     }))
 
+-- x is the number of no node, or one of the first n numbers
 abbrev pub IsNone : ℕ → ℕ → Type 0
 IsNone n x = x ≢ none → x < n
 
+-- what splice reads and writes is there
 pub record CanSplice (ls : List Link) (hs : List Head) (child n far e g q : ℕ) : Type 0 where
   pub child_in : child < length ls
   pub n_in : IsNone (length ls) n
@@ -146,9 +156,11 @@ pub record CanSplice (ls : List Link) (hs : List Head) (child n far e g q : ℕ)
   pub g_in : g < length ls
   pub q_in : IsNone (length ls) q
 
+-- the end child at the end 0 or 1
 abbrev pub fore : Head → ℕ → ℕ
 fore h first = cond (eqb first 0) h.first h.last
 
+-- the end child at the other end
 abbrev pub aft : Head → ℕ → ℕ
 aft h first = cond (eqb first 0) h.last h.first
 
@@ -158,15 +170,19 @@ moved_to ls old new =
     let l = link ls old in
     relinked_if (relinked_if ls l.near0 old new) l.near1 old new
 
+-- new has the place and the link of old, which has no link
 abbrev pub swapped : List Link → ℕ → ℕ → List Link
 swapped ls old new = let two = moved_to ls old new in set (set two new (link two old)) old no_link
 
+-- new is an end child where old was one
 abbrev pub end_swapped : Head → ℕ → ℕ → Head
 end_swapped h old new = record h { first = cond (eqb h.first old) new h.first; last = cond (eqb h.last old) new h.last }
 
+-- so at the node k, where k is a node
 abbrev pub heads_swapped : List Head → ℕ → ℕ → ℕ → List Head
 heads_swapped hs k old new = cond (eqb k none) hs (set hs k (end_swapped (head hs k) old new))
 
+-- what replace reads and writes is there
 pub record CanSwap (ls : List Link) (hs : List Head) (old new : ℕ) : Type 0 where
   pub old_in : old < length ls
   pub new_in : new < length ls

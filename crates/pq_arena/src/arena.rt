@@ -31,8 +31,8 @@ use std::alloc::Global;
 use std::marker::Model;
 use step_count::{Ledger, Steps};
 
-/// The nodes of a PQ-tree over the columns 1 to c, 2c + 4 in all: those of the tree at the root, those of the trees that
-/// stand alone, and spare ones.
+/// The nodes of a PQ-tree over the columns 1 to c, 2c + 4 in all: those of the tree at the root, those of the trees
+/// that stand alone, and spare ones.
 #[derive(Drop)]
 pub struct Arena {
     nodes: Vec<Node>,
@@ -193,11 +193,12 @@ impl Arena {
         let _ = &self.nodes;
     }
 
-    /// Puts the children of `child` in its place, its end `first` (0 for `ends[0]`, 1 for `ends[1]`) towards `near`, and
-    /// gives `child` back. It is a Q-node with two children or more and a child of a Q-node; `near` is one of its
+    /// Puts the children of `child` in its place, its end `first` (0 for `ends[0]`, 1 for `ends[1]`) towards `near`,
+    /// and gives `child` back. It is a Q-node with two children or more and a child of a Q-node; `near` is one of its
     /// neighbours, or none where it is an end child.
     ///
-    /// Only the neighbours of `child`, its two end children and, where it is an end child, the node above it are written.
+    /// Only the neighbours of `child`, its two end children and, where it is an end child, the node above it are
+    /// written.
     pub fn splice<L: Ledger>(
         &mut self,
         child: NodeId,
@@ -226,8 +227,8 @@ impl Arena {
         self.count += 1;
     }
 
-    /// Puts `new`, which stands alone and is neither `old` nor above `old`, in the place of `old`, which then stands alone.
-    /// Where `old` is the root, `new` is the root.
+    /// Puts `new`, which stands alone and is neither `old` nor above `old`, in the place of `old`, which then stands
+    /// alone. Where `old` is the root, `new` is the root.
     pub fn replace<L: Ledger>(&mut self, old: NodeId, new: NodeId, steps: &mut Steps<L>)
         requires used { IsInUse self.old old.index }
         requires alone { StandsAlone self.old new.index }
@@ -246,8 +247,9 @@ impl Arena {
         swap_nodes(&mut self.nodes, old.index, new.index);
     }
 
-    /// Puts `n`, which stands alone and is neither `q` nor above `q`, at an end of the children of the Q-node `q`: in front
-    /// where `end` is 0, behind where it is 1. The former end child holds no parent then, unless it is the other end too.
+    /// Puts `n`, which stands alone and is neither `q` nor above `q`, at an end of the children of the Q-node `q`: in
+    /// front where `end` is 0, behind where it is 1. The former end child holds no parent then, unless it is the other
+    /// end too.
     pub fn put_end<L: Ledger>(&mut self, q: NodeId, end: usize, n: NodeId, steps: &mut Steps<L>)
         requires end { end ≤ 1 }
         requires q { shape_at self.old q.index ≡ Some Q }

@@ -1,5 +1,5 @@
-//! The arena of a PQ-tree (Booth and Lueker, 1976): all nodes in one vector, named by their numbers, so that a change of the
-//! tree costs only what it touches.
+//! The arena of a PQ-tree (Booth and Lueker, 1976): all nodes in one vector, named by their numbers, so that a change
+//! of the tree costs only what it touches.
 //!
 //! The children of a P-node form a ring, those of a Q-node a run in no stated direction. A child of a P-node and an end
 //! child of a Q-node hold the node above them; a child within a run holds its two neighbours alone. Contracts see an

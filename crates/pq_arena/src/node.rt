@@ -71,18 +71,21 @@ pub struct Head {
     pub count: u32,
 }
 
+// A node as it is stored.
 #[derive(Clone, Copy)]
 pub struct Node {
     pub head: Head,
     pub link: Link,
 }
 
+// The link of a node without a parent and without neighbours.
 pub const NO_LINK: Link = Link {
     parent: NONE,
     near0: NONE,
     near1: NONE,
 };
 
+// The node with this number, or none.
 pub fn named(x: u32) -> Option<NodeId>
     ensures { result ≡ node_named x }
 {
@@ -93,6 +96,7 @@ pub fn named(x: u32) -> Option<NodeId>
     }
 }
 
+// The number of the node, or that of no node.
 pub fn number(x: Option<NodeId>) -> u32
     ensures { result ≡ index_or_none x }
 {
@@ -102,6 +106,7 @@ pub fn number(x: Option<NodeId>) -> u32
     }
 }
 
+// The link of the node `x`.
 pub fn link_at(nodes: &Vec<Node>, x: u32) -> Link
     requires { x < length nodes.now.items }
     ensures { result ≡ link (links nodes.now.items) x }
@@ -109,6 +114,7 @@ pub fn link_at(nodes: &Vec<Node>, x: u32) -> Link
     nodes[x as usize].link
 }
 
+// The head of the node `x`.
 pub fn head_at(nodes: &Vec<Node>, x: u32) -> Head
     requires { x < length nodes.now.items }
     ensures { result ≡ head (heads nodes.now.items) x }
@@ -116,6 +122,7 @@ pub fn head_at(nodes: &Vec<Node>, x: u32) -> Head
     nodes[x as usize].head
 }
 
+// The node `x` has the link `to`.
 pub fn set_link(nodes: &mut Vec<Node>, x: u32, to: Link)
     requires { x < length nodes.old.items }
     ensures links { links nodes.new.items ≡ set (links nodes.old.items) x to }
@@ -125,6 +132,7 @@ pub fn set_link(nodes: &mut Vec<Node>, x: u32, to: Link)
     node.link = to;
 }
 
+// The node `x` has the head `to`.
 pub fn set_head(nodes: &mut Vec<Node>, x: u32, to: Head)
     requires { x < length nodes.old.items }
     ensures heads { heads nodes.new.items ≡ set (heads nodes.old.items) x to }
@@ -134,6 +142,7 @@ pub fn set_head(nodes: &mut Vec<Node>, x: u32, to: Head)
     node.head = to;
 }
 
+// The node `x` has `to` as its first neighbour.
 pub fn set_near0(nodes: &mut Vec<Node>, x: u32, to: u32)
     requires { x < length nodes.old.items }
     ensures links { links nodes.new.items ≡ with_near0 (links nodes.old.items) x to }
@@ -143,6 +152,7 @@ pub fn set_near0(nodes: &mut Vec<Node>, x: u32, to: u32)
     set_link(nodes, x, Link { near0: to, ..link });
 }
 
+// The node `x` has `to` as its second neighbour.
 pub fn set_near1(nodes: &mut Vec<Node>, x: u32, to: u32)
     requires { x < length nodes.old.items }
     ensures links { links nodes.new.items ≡ with_near1 (links nodes.old.items) x to }
@@ -152,6 +162,7 @@ pub fn set_near1(nodes: &mut Vec<Node>, x: u32, to: u32)
     set_link(nodes, x, Link { near1: to, ..link });
 }
 
+// The neighbour that is not `n`.
 pub fn other_side(link: Link, n: u32) -> u32
     ensures { result ≡ other_side link n }
 {

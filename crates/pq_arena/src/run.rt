@@ -22,6 +22,7 @@ pub fn redirect(link: Link, from: u32, to: u32) -> Link
     }
 }
 
+// The side of `x` that showed `from` shows `to`, where `x` is a node.
 pub fn relink_if(nodes: &mut Vec<Node>, x: u32, from: u32, to: u32)
     requires { IsNone (length (links nodes.old.items)) x }
     ensures links { links nodes.new.items ≡ relinked_if (links nodes.old.items) x from to }
@@ -76,6 +77,7 @@ pub fn splice_between(nodes: &mut Vec<Node>, child: u32, n: u32, far: u32, e: u3
     }
 }
 
+// The last child of a run after `child` has left it: `g` where it stood there alone, `outer` where it was the last.
 pub fn new_last(head: Head, child: u32, outer: u32, g: u32) -> u32
     ensures { result ≡ cond (eqb head.last child) (cond (eqb head.first child) g outer) head.last }
 {
@@ -86,12 +88,14 @@ pub fn new_last(head: Head, child: u32, outer: u32, g: u32) -> u32
     }
 }
 
+// The end child at the end `first`: the first where that is 0, else the last.
 pub fn fore_of(head: Head, first: usize) -> u32
     ensures { result ≡ fore head first }
 {
     if first == 0 { head.first } else { head.last }
 }
 
+// The end child at the other end.
 pub fn aft_of(head: Head, first: usize) -> u32
     ensures { result ≡ aft head first }
 {
@@ -143,6 +147,7 @@ fn end_parent_of(q: u32, near0: u32, near1: u32) -> u32
     }
 }
 
+// The ends of a run after `n` has come to its end: the first where `end` is 0, else the last.
 fn extend_ends(head: Head, end: usize, n: u32) -> Head
     ensures { result ≡ extended_ends head end n }
 {

@@ -27,6 +27,7 @@ pub fn swap_nodes(nodes: &mut Vec<Node>, old: u32, new: u32)
     swap_ends(nodes, link.parent, old, new);
 }
 
+// `new` is an end child of `k` where `old` was one, if `k` is a node.
 pub fn swap_ends(nodes: &mut Vec<Node>, k: u32, old: u32, new: u32)
     requires { IsNone (length (heads nodes.old.items)) k }
     ensures heads { heads nodes.new.items ≡ heads_swapped (heads nodes.old.items) k old new }
@@ -48,6 +49,7 @@ pub fn swap_ends(nodes: &mut Vec<Node>, k: u32, old: u32, new: u32)
     }
 }
 
+// The number `x`, or `new` where it is `old`.
 pub fn swap_number(x: u32, old: u32, new: u32) -> u32
     ensures { result ≡ cond (eqb x old) new x }
 {
