@@ -1,5 +1,5 @@
 -- Files by name, of which the last one of a name counts.
-use Rattle.std.proofs.Common.{◌≡◌, ◌≢◌, ℕ, zero, suc, ◌+◌, ◌<◌, Bool, true, false, List, [], ◌∷◌, ◌++◌, length, string_bytes, slice_get, Option, Some, None, IfSome, refl, ap, ◌∙◌, arith, fold, if◌then◌else◌}
+use Rattle.std.proofs.Common.{◌≡◌, ◌≢◌, ℕ, zero, suc, ◌+◌, ◌<◌, Bool, true, false, List, [], ◌∷◌, ◌++◌, length, string_bytes, slice_get, Option, Some, None, IfSome, refl, ap, ◌∙◌, arith, fold, if◌then◌else◌, ◌||◌}
 use Rattle.std.proofs.lemmas.Slice.Eq.{bytes_eq-Decides}
 use Rattle.std.specs.Str.{bytes_eq}
 use Rattle.pq_io.specs.NamedFiles.{content_of}
@@ -14,6 +14,16 @@ content_after found files name = fold (λ found file. if bytes_eq file.name name
 not_true : (test : Bool) → test ≢ true → test ≡ false
 not_true true untrue = absurd (untrue refl)
 not_true false untrue = refl
+
+-- one of two tests holds where the second does
+pub or_right : (first second : Bool) → second ≡ true → (first || second) ≡ true
+or_right true second holds = refl
+or_right false second holds = holds
+
+-- neither of two tests holds
+pub or_neither : (first second : Bool) → first ≡ false → second ≡ false → (first || second) ≡ false
+or_neither true second fails fails_too = fails
+or_neither false second fails fails_too = fails_too
 
 -- a file of another name changes nothing
 kept : (file : MemFile) (name : List ℕ) (found : Option (List ℕ)) → has_name name file ≡ false → (if has_name name file then Some file.bytes.items else found) ≡ found

@@ -1,5 +1,6 @@
 -- Texts that are read or written piece by piece.
-use Rattle.std.proofs.Common.{◌≡◌, ℕ, ◌+◌, ◌-◌, List, ◌++◌, take, drop, length, Option, subst, sym, ap, ◌∙◌, arith}
+use Rattle.std.proofs.Common.{◌≡◌, ℕ, ◌<◌, ◌+◌, ◌-◌, List, [], ◌∷◌, ◌++◌, take, drop, length, min, Option, subst, refl, sym, ap, ◌∙◌, arith, take-append-drop}
+use Rattle.std.proofs.lemmas.List.{length-drop, drop-drop}
 use Rattle.std.proofs.lemmas.Grind.{common_steps}
 use Rattle.std.proofs.Math.Seq.{take-add}
 use Rattle.std.proofs.KnownBytes.{Appends-trans, Consumes-trans}
@@ -21,3 +22,18 @@ pub Consumes-take : (a b c : Option (List ℕ)) (at n : ℕ) (old new : List ℕ
     → Consumes a c (take (at + n) new)
 Consumes-take a b c at n old new first front next =
     subst (Consumes a c) (ap (λ front. front ++ take n (drop at new)) (sym front) ∙ sym (take-add at n new)) (Consumes-trans a b c (take at old) (take n (drop at new)) first next)
+
+-- what is left of a text is the piece that was copied, and what is left behind it
+pub rest_of : (bytes buffer : List ℕ) (at n : ℕ) → take n buffer ≡ take n (drop at bytes) → drop at bytes ≡ take n buffer ++ drop (at + n) bytes
+rest_of bytes buffer at n copied =
+    sym (take-append-drop n (drop at bytes)) ∙ ap (λ piece. piece ++ drop n (drop at bytes)) (sym copied) ∙ ap (λ rest. take n buffer ++ rest) (drop-drop n at bytes)
+
+-- a list without an item is empty
+no_items : (xs : List ℕ) → length xs ≡ 0 → xs ≡ []
+no_items [] none = refl
+no_items (x ∷ xs) none = absurd (omega (arith, none))
+
+-- where there is room and a piece has bytes, an empty copy leaves nothing
+pub none_left : (bytes : List ℕ) (at n room piece : ℕ) → n ≡ min (length (drop at bytes)) (min room piece) → 0 < piece → n ≡ 0 → 0 < room → drop (at + n) bytes ≡ []
+none_left bytes at n room piece is some zero large =
+    no_items (drop (at + n) bytes) (omega (arith, length-drop (at + n) bytes, length-drop at bytes, is, some, zero, large))

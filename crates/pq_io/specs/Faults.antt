@@ -1,5 +1,6 @@
 -- Faults of reading and writing, and the counts that tell of them.
-use Rattle.std.specs.Prelude.{◌≡◌, ◌≢◌, ℕ, ◌+◌, ◌-◌, ◌^◌, ◌<◌, ◌≤◌, min, Result, Ok, Err, OnOk, OnErr}
+use Rattle.std.specs.Prelude.{◌≡◌, ◌≢◌, ◌==◌, ℕ, Bool, List, ◌+◌, ◌-◌, ◌^◌, ◌<◌, ◌≤◌, min, Result, Ok, Err, OnOk, OnErr}
+use Rattle.std.specs.List.{list_any}
 
 -- the count rose, unless it stood at its last value
 abbrev pub Rose : ℕ → ℕ → Type 0
@@ -22,3 +23,7 @@ one_more count = min (count + 1) (2 ^ 64 - 1)
 abbrev pub count_after : {T E : Type 0} → ℕ → Result T E → ℕ
 count_after before (Ok _) = before
 count_after before (Err _) = one_more before
+
+-- whether the call with this number is one of those that are to fail
+abbrev pub is_to_fail : List ℕ → ℕ → Bool
+is_to_fail failing call = list_any (λ number. number == call) failing

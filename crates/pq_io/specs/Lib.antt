@@ -5,6 +5,7 @@ pub mod MemFile
 pub mod MemShelf
 pub mod MemSink
 pub mod NamedFiles
+pub mod NeverShelf
 pub mod RealShelf
 pub mod RealSink
 pub mod Shelf

@@ -20,9 +20,12 @@ held shelf = record {
   files = named_files shelf.files.items;
   left = option_map (left_at shelf.files.items) shelf.chosen;
   asked = map string_bytes shelf.asked.items;
+  piece = shelf.piece;
+  failing = shelf.failing.items;
+  calls = shelf.calls;
   faults = shelf.faults;
 }
 
--- a chosen place is one of a file of the shelf
+-- a read gives something, and a chosen place is one of a file of the shelf
 abbrev pub IsInRange : Inside → Type 0
-IsInRange shelf = IfSome shelf.chosen (IsPlace shelf.files.items)
+IsInRange shelf = (0 < shelf.piece) × IfSome shelf.chosen (IsPlace shelf.files.items)

@@ -3,13 +3,16 @@
 //! A [`Shelf`] holds files by name: one is chosen, and then it is read. A [`Sink`] takes bytes. Each counts its own failures,
 //! and may tell the bytes that it holds. [`read_all`] reads a file whole up to a limit, and [`write_all`] writes a text whole.
 //!
-//! [`MemShelf`] and [`MemSink`] lie in memory and tell their bytes. [`RealShelf`] and [`RealSink`] are the files and the
-//! streams of the system, of which no bytes can be told.
+//! [`MemShelf`] and [`MemSink`] lie in memory and tell their bytes; their calls fail, and move few bytes at a time, where that
+//! is asked for. [`NeverShelf`] and [`NeverSink`] never fail. [`RealShelf`] and [`RealSink`] are the files and the streams of
+//! the system, of which no bytes can be told.
 #![tactic(auto)]
 
 mod error;
 mod mem_shelf;
 mod mem_sink;
+mod never_shelf;
+mod never_sink;
 mod reading;
 mod real_shelf;
 mod real_sink;
@@ -23,6 +26,8 @@ mod writing;
 pub use error::{ChooseError, Failed, ReadFail, WriteFault};
 pub use mem_shelf::MemShelf;
 pub use mem_sink::MemSink;
+pub use never_shelf::NeverShelf;
+pub use never_sink::NeverSink;
 pub use reading::{Whole, read_all};
 pub use real_shelf::RealShelf;
 pub use real_sink::RealSink;

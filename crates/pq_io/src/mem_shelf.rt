@@ -1,11 +1,11 @@
 // A shelf in memory.
-ghost use Rattle.std.specs.Prelude.{◌≡◌, ◌≢◌, ◌<◌, ◌+◌, ℕ, List, [], Some, None, length, take, min, is_some, is_none, true, false, slice_get, IsTrue, IsOk, IfOk, IfSome, IfNone, OnOk, OnErr};
+ghost use Rattle.std.specs.Prelude.{◌≡◌, ◌≢◌, ◌<◌, ◌≤◌, ◌+◌, ◌-◌, ◌^◌, ◌||◌, ℕ, List, [], ◌∷◌, ◌++◌, Some, None, length, take, drop, min, is_some, is_none, is_err, true, false, slice_get, IsTrue, IfOk, IfSome, IfNone, OnOk, OnErr};
 ghost use Rattle.std.specs.Io.{ReadsAtMost};
 ghost use Rattle.std.specs.Io.KnownBytes.{ReadConsumes};
-ghost use Rattle.pq_io.specs.Faults.{HasCause, ChangedOnlyIfFailed};
+ghost use Rattle.pq_io.specs.Faults.{HasCause, ChangedOnlyIfFailed, one_more, count_after, is_to_fail};
 ghost use Rattle.pq_io.specs.Shelf.{Asks, HasChoiceCause, ChangedOnlyIfNotFound, FailsExactly, count_after_choice};
 ghost use Rattle.pq_io.specs.NamedFiles.{content_of};
-ghost use Rattle.pq_io.specs.MemFile.{has_name, IsNamedByNone};
+ghost use Rattle.pq_io.specs.MemFile.{bytes_at, has_name, IsNamedByNone};
 
 use crate::{ChooseError, Failed, NoMemory, Shelf};
 use std::alloc::Global;
@@ -24,15 +24,20 @@ struct Place {
     read: usize,
 }
 
-/// A shelf in memory. A name that is added again has its last bytes.
+/// A shelf in memory, whose calls fail where that is asked for. A name that is added again has its last bytes.
 ///
-/// Contracts see it as its files, the bytes left of the chosen one, the names asked for, and the count of faults.
+/// Contracts see it as its files, the bytes left of the chosen one, the names asked for, the greatest number of bytes a read,
+/// the numbers of the calls that are to fail, and the counts of calls and of faults. The calls of `choose` and of `read` are
+/// numbered together, from 1; the count stands still at 2^64 - 1.
 #[derive(Drop)]
 pub struct MemShelf {
     alloc: Global,
     files: Vec<MemFile>,
     chosen: Option<Place>,
     asked: Vec<String>,
+    piece: usize,
+    failing: Vec<u64>,
+    calls: u64,
     faults: u64,
 }
 
@@ -49,15 +54,18 @@ impl Model for MemShelf {
 }
 
 impl MemShelf {
-    /// A shelf with no files and no faults, which has asked for none.
+    /// A shelf with no files and no faults, which has asked for none. A read gives as many bytes as there is room for.
     pub fn new(alloc: Global) -> Self
-        ensures { result ≡ record { files = []; left = None; asked = []; faults = 0 } }
+        ensures { result ≡ record { files = []; left = None; asked = []; piece = 2 ^ 64 - 1; failing = []; calls = 0; faults = 0 } }
     {
         MemShelf {
             alloc,
             files: Vec::new(alloc),
             chosen: None,
             asked: Vec::new(alloc),
+            piece: usize::MAX,
+            failing: Vec::new(alloc),
+            calls: 0,
             faults: 0,
         }
     }
@@ -81,6 +89,27 @@ impl MemShelf {
         self.chosen = None;
         Ok(())
     }
+
+    /// Has the call with this number fail.
+    ///
+    /// # Errors
+    ///
+    /// `NoMemory`, and the shelf is as before.
+    pub fn fail_at(&mut self, call: u64) -> Result<(), NoMemory>
+        ensures ok { OnOk result (self.new ≡ record self.old { failing = self.old.failing ++ call ∷ [] }) }
+        ensures err { OnErr result (self.new ≡ self.old) }
+    {
+        self.failing.push(call)?;
+        Ok(())
+    }
+
+    /// Has each read give at most `n` bytes.
+    pub fn piece(&mut self, n: usize)
+        requires { 1 ≤ n }
+        ensures { self.new ≡ record self.old { piece = n } }
+    {
+        self.piece = n;
+    }
 }
 
 impl Shelf for MemShelf {
@@ -94,7 +123,7 @@ impl Shelf for MemShelf {
 
     ghost has_chosen = { λ shelf. is_some shelf.left };
 
-    /// It fails exactly for a name that was not added.
+    /// It fails exactly for a name that was not added, and where the call is one of those that are to fail.
     fn choose(&mut self, _alloc: Global, name: &str) -> Result<(), ChooseError>
         ensures chosen { OnOk result (IsTrue (is_some self.new.left)) }
         ensures left { OnOk result (self.new.left ≡ content_of self.old.files name.now) }
@@ -104,11 +133,18 @@ impl Shelf for MemShelf {
         ensures told { ChangedOnlyIfNotFound self.old.faults self.new.faults result }
         ensures content { (other : List ℕ) → content_of self.new.files other ≡ content_of self.old.files other }
 
-        ensures fails { FailsExactly (is_none (content_of self.old.files name.now)) result }
+        ensures fails { FailsExactly (is_to_fail self.old.failing (one_more self.old.calls) || is_none (content_of self.old.files name.now)) result }
+        ensures calls { self.new.calls ≡ one_more self.old.calls }
         ensures count { self.new.faults ≡ count_after_choice self.old.faults result }
+        ensures kept { self.new ≡ record self.old { left = self.new.left; asked = self.new.asked; calls = self.new.calls; faults = self.new.faults } }
     {
+        self.calls = self.calls.saturating_add(1);
         self.chosen = None;
         self.asked.push(String::from_str(self.alloc, name)?)?;
+        if self.failing.contains(&self.calls) {
+            self.faults = self.faults.saturating_add(1);
+            return Err(ChooseError::Failed);
+        }
         let Some(file) = last_with_name(&self.files, name) else {
             self.faults = self.faults.saturating_add(1);
             return Err(ChooseError::Failed);
@@ -117,7 +153,8 @@ impl Shelf for MemShelf {
         Ok(())
     }
 
-    /// Gives as many bytes as `buf` has room for. It never fails.
+    /// Gives as many bytes as `buf` has room for, and no more than a piece. It fails exactly where the call is one of those that
+    /// are to fail.
     fn read(&mut self, buf: &mut [u8]) -> Result<usize, Failed>
         requires room { 0 < length buf.old }
         requires chosen { IsTrue (is_some self.old.left) }
@@ -129,14 +166,26 @@ impl Shelf for MemShelf {
         ensures asked { self.new.asked ≡ self.old.asked }
         ensures content { (other : List ℕ) → content_of self.new.files other ≡ content_of self.old.files other }
 
-        ensures succeeds { IsOk result }
-        ensures count { self.new.faults ≡ self.old.faults }
-        ensures given { IfOk result (λ n. IfSome self.old.left (λ bytes. n ≡ min (length bytes) (length buf.old))) }
+        ensures fails { is_err result ≡ is_to_fail self.old.failing (one_more self.old.calls) }
+        ensures calls { self.new.calls ≡ one_more self.old.calls }
+        ensures count { self.new.faults ≡ count_after self.old.faults result }
+        ensures given { IfOk result (λ n. IfSome self.old.left (λ bytes. n ≡ min (length bytes) (min (length buf.old) self.old.piece))) }
+        ensures kept { self.new ≡ record self.old { left = self.new.left; calls = self.new.calls; faults = self.new.faults } }
     {
+        self.calls = self.calls.saturating_add(1);
+        if self.failing.contains(&self.calls) {
+            self.faults = self.faults.saturating_add(1);
+            return Err(Failed);
+        }
         let Some(place) = &mut self.chosen else {
             unreachable!()
         };
-        let n = give(&self.files[place.file].bytes[place.read..], buf);
+        let n = give(
+            bytes_of(&self.files, place.file),
+            place.read,
+            self.piece,
+            buf,
+        );
         place.read += n;
         Ok(n)
     }
@@ -151,13 +200,25 @@ fn last_with_name(files: &[MemFile], name: &str) -> Option<usize>
     files.iter().rposition(|file| file.name.as_str() == name)
 }
 
-// Copies the first bytes into `buf`, as many as it has room for, and returns how many.
-fn give(bytes: &[u8], buf: &mut [u8]) -> usize
-    ensures count { result ≡ min (length bytes.now) (length buf.old) }
-    ensures given { take result buf.new ≡ take result bytes.now }
+// The bytes of the file at an index.
+fn bytes_of(files: &[MemFile], file: usize) -> &[u8]
+    requires { file < length files.now }
+    ensures { result.now ≡ bytes_at files.now file }
+{
+    &files[file].bytes
+}
+
+// Copies the bytes from the place `read` on into `buf`, as many as it has room for and no more than a piece, and returns how
+// many.
+fn give(bytes: &[u8], read: usize, piece: usize, buf: &mut [u8]) -> usize
+    requires { read ≤ length bytes.now }
+    ensures count { result ≡ min (length (drop read bytes.now)) (min (length buf.old) piece) }
+    ensures within { read + result ≤ length bytes.now }
+    ensures given { take result buf.new ≡ take result (drop read bytes.now) }
     ensures length { length buf.new ≡ length buf.old }
 {
-    let n = bytes.len().min(buf.len());
-    buf[..n].copy_from_slice(&bytes[..n]);
+    let rest = &bytes[read..];
+    let n = rest.len().min(buf.len().min(piece));
+    buf[..n].copy_from_slice(&rest[..n]);
     n
 }

@@ -4,77 +4,6 @@ use std::alloc::Global;
 use std::fs;
 use std::test::Fail;
 
-// A shelf in memory that gives at most four bytes in a read, and of which one read fails. Its count is its own.
-#[derive(Drop)]
-struct FailingShelf {
-    shelf: MemShelf,
-    reads_before: u64,
-    faults: u64,
-}
-
-impl Shelf for FailingShelf {
-    ghost use Rattle.std.specs.Prelude.{is_some};
-    ghost use Rattle.pq_io.specs.NamedFiles.{content_of};
-
-    ghost content = { λ s name. content_of s.shelf.files name };
-
-    ghost left = { λ s. s.shelf.left };
-
-    ghost faults = { λ s. s.faults };
-
-    ghost asked = { λ s. s.shelf.asked };
-
-    ghost has_chosen = { λ s. is_some s.shelf.left };
-
-    fn choose(&mut self, alloc: Global, name: &str) -> Result<(), ChooseError> {
-        let outcome = self.shelf.choose(alloc, name);
-        if matches!(outcome, Err(ChooseError::Failed)) {
-            self.faults = self.faults.saturating_add(1);
-        }
-        outcome
-    }
-
-    fn read(&mut self, buf: &mut [u8]) -> Result<usize, Failed> {
-        if self.reads_before == 0 {
-            self.reads_before = u64::MAX;
-            self.faults = self.faults.saturating_add(1);
-            return Err(Failed);
-        }
-        self.reads_before -= 1;
-        let room = buf.len().min(4);
-        self.shelf.read(&mut buf[..room])
-    }
-}
-
-// A sink in memory that takes at most eight bytes in a write, and of which one write fails. Its count is its own.
-#[derive(Drop)]
-struct FailingSink {
-    sink: MemSink,
-    writes_before: u64,
-    faults: u64,
-}
-
-impl Sink for FailingSink {
-    ghost use Rattle.std.specs.Prelude.{Some};
-
-    ghost written = { λ s. Some s.sink.bytes };
-
-    ghost faults = { λ s. s.faults };
-
-    fn write(&mut self, piece: &[u8]) -> Result<usize, Failed> {
-        let outcome = if self.writes_before == 0 {
-            Err(Failed)
-        } else {
-            self.sink.write(&piece[..piece.len().min(8)])
-        };
-        self.writes_before = self.writes_before.checked_sub(1).unwrap_or(u64::MAX);
-        if outcome.is_err() {
-            self.faults = self.faults.saturating_add(1);
-        }
-        outcome
-    }
-}
-
 #[test]
 fn a_file_of_many_pieces_is_read_up_to_the_limit(rt: HostRuntime) -> Result<(), Fail> {
     let alloc = rt.alloc();
@@ -89,26 +18,64 @@ fn a_file_of_many_pieces_is_read_up_to_the_limit(rt: HostRuntime) -> Result<(), 
     Ok(())
 }
 
+// A failing read at its end, in its middle and at its start; call 1 is the choice.
 #[test]
 fn a_failed_read_is_told_and_loses_nothing(rt: HostRuntime) -> Result<(), Fail> {
     let alloc = rt.alloc();
-    for (reads_before, rest) in [(0, "abcdefghij"), (1, "efghij"), (2, "ij"), (3, "")] {
-        let mut shelf = FailingShelf {
-            shelf: MemShelf::new(alloc),
-            reads_before,
-            faults: 0,
-        };
-        shelf.shelf.add("a", b"abcdefghij")?;
+    for (call, rest) in [(2, "abcdefghij"), (3, "efghij"), (4, "ij"), (5, "")] {
+        let mut shelf = MemShelf::new(alloc);
+        shelf.add("a", b"abcdefghij")?;
+        shelf.piece(4);
+        shelf.fail_at(call)?;
         shelf.choose(alloc, "a")?;
         assert_eq!(rt;
             read_all(alloc, &mut shelf, 10),
             Err(ReadFail::Fault),
-            "{reads_before}"
+            "{call}"
         );
         let rest = Whole::Bytes(rest.as_bytes().to_vec(alloc)?);
-        assert_eq!(rt; read_all(alloc, &mut shelf, 10)?, rest, "{reads_before}");
+        assert_eq!(rt; read_all(alloc, &mut shelf, 10)?, rest, "{call}");
     }
     Ok(())
+}
+
+#[test]
+fn a_choice_fails_where_that_is_asked_for(rt: HostRuntime) -> Result<(), Fail> {
+    let alloc = rt.alloc();
+    let mut shelf = MemShelf::new(alloc);
+    shelf.add("a", b"abc")?;
+    shelf.fail_at(3)?;
+    shelf.fail_at(1)?;
+    let failed = Err(ChooseError::Failed);
+    assert_eq!(rt; shelf.choose(alloc, "a"), failed);
+    assert_eq!(rt; shelf.choose(alloc, "a"), Ok(()));
+    assert_eq!(rt; shelf.choose(alloc, "a"), failed);
+    assert_eq!(rt; shelf.choose(alloc, "b"), failed);
+    assert_eq!(rt; shelf.choose(alloc, "a"), Ok(()));
+    Ok(())
+}
+
+#[test]
+fn a_shelf_that_never_fails(rt: HostRuntime) -> Result<(), Fail> {
+    let alloc = rt.alloc();
+    let mut shelf = NeverShelf::new(alloc);
+    shelf.add("a", b"first")?;
+    shelf.add("a", b"abc")?;
+    for (name, bytes) in [("a", "abc"), ("missing", ""), ("a", "abc")] {
+        shelf.choose(alloc, name)?;
+        let whole = Whole::Bytes(bytes.as_bytes().to_vec(alloc)?);
+        assert_eq!(rt; read_all(alloc, &mut shelf, 3)?, whole, "{name}");
+    }
+    Ok(())
+}
+
+#[test]
+fn a_sink_that_never_fails(rt: HostRuntime) {
+    let mut sink = NeverSink::new();
+    assert_eq!(rt; write_all(&mut sink, b"abc"), Ok(()));
+    assert_eq!(rt; write_all(&mut sink, b""), Ok(()));
+    assert_eq!(rt; write_all(&mut sink, b"de"), Ok(()));
+    assert_eq!(rt; sink.taken(), 5);
 }
 
 #[test]
@@ -127,25 +94,15 @@ fn a_sink_takes_what_room_is_reserved_for(rt: HostRuntime) -> Result<(), Fail> {
 #[test]
 fn a_failed_write_is_told_and_adds_nothing(rt: HostRuntime) -> Result<(), Fail> {
     let text = b"pq-verdict 1\nkind matrix\n";
-    for (writes_before, written) in [(0, 0), (1, 8), (2, 16), (3, 24)] {
-        let mut sink = FailingSink {
-            sink: MemSink::new(rt.alloc()),
-            writes_before,
-            faults: 0,
-        };
-        sink.sink.reserve(100)?;
-        assert_eq!(rt;
-            write_all(&mut sink, text),
-            Err(WriteFault),
-            "{writes_before}"
-        );
-        assert_eq!(rt; sink.sink.bytes(), &text[..written], "{writes_before}");
-        assert_eq!(rt;
-            write_all(&mut sink, &text[written..]),
-            Ok(()),
-            "{writes_before}"
-        );
-        assert_eq!(rt; sink.sink.bytes(), text.as_slice(), "{writes_before}");
+    for (call, written) in [(1, 0), (2, 8), (3, 16), (4, 24)] {
+        let mut sink = MemSink::new(rt.alloc());
+        sink.reserve(100)?;
+        sink.piece(8);
+        sink.fail_at(call)?;
+        assert_eq!(rt; write_all(&mut sink, text), Err(WriteFault), "{call}");
+        assert_eq!(rt; sink.bytes(), &text[..written], "{call}");
+        assert_eq!(rt; write_all(&mut sink, &text[written..]), Ok(()), "{call}");
+        assert_eq!(rt; sink.bytes(), text.as_slice(), "{call}");
     }
     Ok(())
 }

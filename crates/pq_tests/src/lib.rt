@@ -2,6 +2,9 @@
 #![tactic(auto)]
 
 #[cfg(test)]
+#[cfg(test)]
+mod forged;
+#[cfg(test)]
 mod graphs;
 #[cfg(test)]
 mod sessions;
