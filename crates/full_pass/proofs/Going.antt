@@ -1,0 +1,116 @@
+-- A pass over a row, from its beginning to its end.
+use Rattle.std.proofs.Common.{Bool, List, Option, Some, [], ap, arith, cond, drop, false, get_or, inl, inr, length, refl, subst, sym, ℕ, ◌+◌, ◌<◌, ◌∙◌, ◌∷◌, ◌≡◌, ◌≢◌, ◌≤◌}
+use Rattle.arena_model.specs.declared.Shape.TheVariants.{Leaf}
+use Rattle.pq_arena.specs.declared.node.NodeId.{NodeId}
+use Rattle.arena_model.specs.Layout.{IsAtOrAbove, IsLayout, Layout, MayHaveChildren, children_at, down, here, shape_at}
+use Rattle.arena_model.proofs.Slots.{used_by}
+use Rattle.arena_model.proofs.Lists.{occurs_here}
+use Rattle.full_pass.specs.declared.settled.Settled.{Settled}
+use Rattle.full_pass.specs.declared.settled.Settled.TheVariants.{Group, Kept, Open}
+use Rattle.full_pass.specs.Answer.{AreLeaves, leaves_of, IsFullNode, IsKept, IsLeafAt, IsSettled, one_node}
+use Rattle.full_pass.specs.Passing.{AreLinked, Chains, IsLast, IsRisen, Pass, Runs, marks, members_of, runs, total}
+use Rattle.full_pass.specs.declared.entries.Entries.{Entries}
+use Rattle.full_pass.specs.Entries.{AreReady, chain_at, far, first, hits, is_full, next, up}
+use Rattle.full_pass.proofs.Chained.{chained_length, no_chains}
+use Rattle.full_pass.proofs.Columns.{leaf_index, next_leaf}
+use Rattle.full_pass.proofs.Sums.{total_zero}
+use Rattle.full_pass.proofs.Marks.{true_false}
+use Rattle.full_pass.proofs.Ends.{end_first, end_more, end_run}
+use Rattle.column_order.specs.Orders.{occurs}
+
+marks_none : (l : ℕ → Bool) (ks : List ℕ) → ((x : ℕ) → l x ≡ false) → marks l ks ≡ 0
+marks_none l [] h = refl
+marks_none l (k ∷ ks) h =
+    let a : cond {A = ℕ} (l k) 1 0 ≡ 0 = ap (λ b. cond {A = ℕ} b 1 0) (h k) in
+    let r : marks l ks ≡ 0 = marks_none l ks h in omega arith
+
+runs_none : (l : ℕ → Bool) (ks : List ℕ) → ((x : ℕ) → l x ≡ false) → runs l false ks ≡ 0
+runs_none l [] h = refl
+runs_none l (k ∷ ks) h = ap (λ b. cond b 1 0 + runs l b ks) (h k) ∙ (let r : runs l false ks ≡ 0 = runs_none l ks h in omega arith)
+
+leaf_children : (s : _) (ks : List ℕ) (a k : ℕ) → s ≡ Some (Leaf a) → MayHaveChildren s ks → 1 ≤ occurs ks k → ⊥
+leaf_children s ks a k e may o =
+    let n : ks ≡ [] = subst (λ z. MayHaveChildren z ks) e may in
+    let i : 1 ≤ occurs [] k = subst (λ z. 1 ≤ occurs z k) n o in omega arith
+
+leaf_fills : (f : Layout) (row : List ℕ) (n : ℕ) → IsLayout f → IsLeafAt f n → 1 ≤ occurs row n → IsFullNode f row n
+leaf_fills f row n layout leaf o = λ x _ way. by_way n x leaf o way
+  where
+    by_way : (n x : ℕ) → IsLeafAt f n → 1 ≤ occurs row n → IsAtOrAbove f.slots n x → 1 ≤ occurs row x
+    by_way _ _ leaf o (here n) = o
+    by_way _ _ leaf o (down n k x ok way) = absurd (leaf_children (shape_at f n) (children_at f n) leaf.0 k leaf.1 (layout.children_fit n) ok)
+
+pub start : (f : Layout) (row : List ℕ) (l : ℕ → Bool) (h : ℕ → ℕ) → IsLayout f → AreLeaves f row →
+    ((x : ℕ) → l x ≡ false) → ((x : ℕ) → h x ≡ 0) → Pass f row l h row (length row)
+start f row l h layout r none_yet no_hits = record {
+  leaves = λ x o. inr o;
+  filled = λ x t. absurd (true_false (l x) t (none_yet x));
+  fill = λ x o. leaf_fills f row x layout (r.leaf x o) o;
+  once = r.once;
+  fresh = λ x o. none_yet x;
+  used = λ x o. used_by f x (Leaf (r.leaf x o).0) (r.leaf x o).1;
+  filled_children = λ m k t o. absurd (true_false (l m) t (none_yet m));
+  fill_children = λ m k w o. absurd (leaf_children (shape_at f m) (children_at f m) (r.leaf m w).0 k (r.leaf m w).1 (layout.children_fit m) o);
+  root = none_yet f.root;
+  past = λ x _. none_yet x;
+  counts = λ p _. no_hits p ∙ sym (marks_none l (children_at f p) none_yet);
+  parts = λ _. 0;
+  p_parts = λ p _ _ _ m. absurd (let z : marks l (children_at f p) ≡ 0 = marks_none l (children_at f p) none_yet in omega arith);
+  q_parts = λ q _ _ _. subst (λ z. z ≤ 0) (sym (runs_none l (children_at f q) none_yet)) (omega arith);
+  sum = let z : total (λ _. 0) (length f.slots) ≡ 0 = total_zero (length f.slots) in omega arith;
+}
+
+-- the answer that a leaf brought is the last
+pub risen_pass : (f : Layout) (row : List ℕ) (l : ℕ → Bool) (h : ℕ → ℕ) (waiting : List ℕ) (n : ℕ) (s : Settled) →
+    IsRisen f row l h waiting n (Some s) → Pass f row l h waiting n
+risen_pass f row l h waiting n Kept r = r.0.0
+risen_pass f row l h waiting n (Group p) r = r.0.0
+risen_pass f row l h waiting n Open r = absurd (r.1 refl)
+
+pub settled : (f : Layout) (row : List ℕ) (w : Entries) (n : ℕ) (s : Settled) → IsLayout f → AreLeaves f row → n ≤ 1 →
+    Chains f (is_full w) (hits w) (first w) (next w) → IsLast f row (is_full w) (hits w) [] n s → IsSettled f row (members_of w s) s
+settled f row w n Kept layout r le chains last = elim last.1 [
+  | inl run ↦ end_run f row (is_full w) (hits w) n layout r last.0 le run
+  | inr one ↦ end_first f row (is_full w) (hits w) n layout r last.0 le one
+]
+settled f row w n (Group p) layout r le chains last =
+    end_more f row (is_full w) (hits w) n p.index (chain_at w p.index) layout r last.0 le last.1
+    (chained_length (hits w p.index) (next w) (first w p.index))
+    (λ k. chains p.index k last.1.ring.is_p)
+settled f row w n Open layout r le chains last = tt
+
+-- where the root is full all leaves are in the row
+pub root_kept : (f : Layout) (row : List ℕ) → AreLeaves f row → IsFullNode f row f.root → IsKept f row
+root_kept f row r full = one_node f.root full r.below
+
+pub no_runs : (f : Layout) (l : ℕ → Bool) (far : ℕ → ℕ) (up : ℕ → Option NodeId) → ((x : ℕ) → l x ≡ false) → Runs f l far up
+no_runs f l far up none_yet = record {
+  ends = λ q r us rs vs sh is inside before after. absurd (true_false (l r) (inside r (occurs_here r rs)) (none_yet r));
+  ups = λ q a us vs sh is t. absurd (true_false (l a) t (none_yet a));
+}
+
+-- no node is labelled
+pub none_linked : (f : Layout) (w : Entries) → AreReady w (length f.slots) → ((x : ℕ) → is_full w x ≡ false) → ((x : ℕ) → hits w x ≡ 0) → AreLinked f w
+none_linked f w ready none_yet no_hits = record {
+  ready = ready;
+  runs = no_runs f (is_full w) (far w) (up w) none_yet;
+  chains = no_chains f (is_full w) (hits w) (first w) (next w) none_yet no_hits;
+}
+
+pub open_kept : Open ≢ Kept
+open_kept e = cc
+
+pub open_group : (p : NodeId) → Open ≢ Group p
+open_group p e = cc
+
+-- the answer that a leaf brought, as the last
+pub risen_last : (f : Layout) (row : List ℕ) (l : ℕ → Bool) (h : ℕ → ℕ) (waiting : List ℕ) (n : ℕ) (s : Settled) →
+    IsRisen f row l h waiting n (Some s) → IsLast f row l h waiting n s
+risen_last f row l h waiting n s r = r.0
+
+-- the next leaf of the row waits in front
+pub next_waits : (f : Layout) (row : List ℕ) (w : Entries) (i n x : ℕ) → IsLayout f → shape_at f x ≡ Some (Leaf (get_or row i 0)) → i < length row →
+    Pass f (leaves_of row) (is_full w) (hits w) (leaves_of (drop i row)) n → Pass f (leaves_of row) (is_full w) (hits w) (x ∷ leaves_of (drop (i + 1) row)) n
+next_waits f row w i n x layout sh lt pass =
+    subst (λ z. Pass f (leaves_of row) (is_full w) (hits w) (z ∷ leaves_of (drop (i + 1) row)) n) (sym (leaf_index f x (get_or row i 0) layout sh))
+    (subst (λ z. Pass f (leaves_of row) (is_full w) (hits w) z n) (next_leaf row i lt) pass)

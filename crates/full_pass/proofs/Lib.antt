@@ -1,0 +1,15 @@
+pub mod Shapes
+pub mod Sums
+pub mod Marks
+pub mod Steps
+pub mod Ends
+pub mod Places
+pub mod Links
+pub mod Linked
+pub mod Wide
+pub mod Chained
+pub mod Listing
+pub mod Columns
+pub mod Going
+pub mod Joining
+pub mod Frontiers

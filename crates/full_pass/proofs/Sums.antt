@@ -1,0 +1,47 @@
+-- Sums over all nodes.
+use Rattle.std.proofs.Common.{ap, arith, inl, inr, refl, suc, sym, zero, ℕ, ◌+◌, ◌<◌, ◌≡◌, ◌≢◌, ◌≤◌}
+use Rattle.std.proofs.lemmas.Bool.{cases_eq}
+use Rattle.full_pass.specs.Passing.{total}
+
+total_same : (g g' : ℕ → ℕ) (n : ℕ) → ((y : ℕ) → y < n → g' y ≡ g y) → total g' n ≡ total g n
+total_same g g' zero h = refl
+total_same g g' (suc n) h =
+    let a : g' n ≡ g n = h n (omega arith) in
+    let b : total g' n ≡ total g n = total_same g g' n (λ y l. h y (omega arith)) in
+    omega arith
+
+pub total_with : (g g' : ℕ → ℕ) (m n : ℕ) → m < n → ((y : ℕ) → y ≢ m → g' y ≡ g y) → total g' n + g m ≡ total g n + g' m
+total_with g g' m zero l h = absurd (omega arith)
+total_with g g' m (suc n) l h = elim (cases_eq n m) [
+  | inl e ↦
+      let b : total g' n ≡ total g n = total_same g g' n (λ y k. h y (let ne : y ≢ m = omega arith in ne)) in
+      let c : g m ≡ g n = ap g (sym e) in let d : g' m ≡ g' n = ap g' (sym e) in
+      omega arith
+  | inr ne ↦
+      let b : total g' n + g m ≡ total g n + g' m = total_with g g' m n (omega arith) h in
+      let a : g' n ≡ g n = h n ne in
+      omega arith
+]
+
+pub total_one : (g : ℕ → ℕ) (m n : ℕ) → m < n → g m ≤ total g n
+total_one g m zero l = absurd (omega arith)
+total_one g m (suc n) l = elim (cases_eq n m) [
+  | inl e ↦ let c : g m ≡ g n = ap g (sym e) in omega arith
+  | inr ne ↦ let b : g m ≤ total g n = total_one g m n (omega arith) in omega arith
+]
+
+pub total_two : (g : ℕ → ℕ) (m m' n : ℕ) → m ≢ m' → m < n → m' < n → g m + g m' ≤ total g n
+total_two g m m' zero d l l' = absurd (omega arith)
+total_two g m m' (suc n) d l l' = elim (cases_eq n m) [
+  | inl e ↦ let c : g m ≡ g n = ap g (sym e) in
+      let b : g m' ≤ total g n = total_one g m' n (omega arith) in omega arith
+  | inr ne ↦ elim (cases_eq n m') [
+    | inl e ↦ let c : g m' ≡ g n = ap g (sym e) in
+        let b : g m ≤ total g n = total_one g m n (omega arith) in omega arith
+    | inr ne' ↦ let b : g m + g m' ≤ total g n = total_two g m m' n d (omega arith) (omega arith) in omega arith
+  ]
+]
+
+pub total_zero : (n : ℕ) → total (λ _. 0) n ≡ 0
+total_zero zero = refl
+total_zero (suc n) = let b : total (λ _. 0) n ≡ 0 = total_zero n in omega arith

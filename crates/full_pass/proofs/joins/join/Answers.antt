@@ -1,0 +1,133 @@
+use Rattle.std.proofs.Common.{◌≡◌, ◌+◌, ◌≤◌, ◌<◌, length, arith, sym, ap, subst, ◌∙◌}
+use Rattle.arena_model.specs.declared.TheConstants.{NODE_BOUND}
+use Rattle.arena_model.specs.ChildLists.{none}
+use Rattle.arena_model.proofs.Lists.{occurs_here}
+use Rattle.arena_model.proofs.Slots.{in_range}
+use Rattle.full_pass.specs.Entries.{hits, far, mark_of, AreReady}
+use Rattle.full_pass.specs.Passing.{run_as}
+use Rattle.full_pass.proofs.Shapes.{slots_few}
+use Rattle.full_pass.proofs.Places.{side}
+use Rattle.full_pass.proofs.Joining.{joined_run, joined_linked, joined_ring, joined_ring_linked, joined_top, end_few, tied_by, ring_used, hits_few}
+use Rattle.full_pass.proofs.joins.join.Goals as goal
+
+pub look-children-requires : goal.look-children-requires
+look-children-requires g c = ring_used c.args.arena.now c.args.x.index c.in-Ring.p c.look-view.result c.layout_law.ensures c.look-view.ensures.shows c.in-Ring.ensures
+
+pub hit-hits-requires : goal.hit-hits-requires
+hit-hits-requires g c =
+    let w : AreReady c.fill-in-Ring.new.self (length c.args.arena.now.slots) = c.fill-in-Ring.ensures.ready (length c.args.arena.now.slots) c.requires.linked.ready in
+    let lt = in_range c.args.arena.now c.in-Ring.p.index (ring_used c.args.arena.now c.args.x.index c.in-Ring.p c.look-view.result c.layout_law.ensures c.look-view.ensures.shows c.in-Ring.ensures) in
+    let lx = in_range c.args.arena.now c.args.x.index (c.requires.pass.used c.args.x.index (occurs_here c.args.x.index c.requires.waiting)) in
+    let a : hits c.fill-in-Ring.new.self c.in-Ring.p.index ≡ hits c.args.entries.now c.in-Ring.p.index = c.fill-in-Ring.ensures.hits c.in-Ring.p.index in
+    let b : hits c.args.entries.now c.in-Ring.p.index ≤ NODE_BOUND =
+    hits_few c.args.arena.now c.args.entries.now c.args.x.index c.in-Ring.p c.look-view.result c.layout_law.ensures c.look-view.ensures.shows c.in-Ring.ensures c.requires in
+    record {
+      p = subst (λ z. c.in-Ring.p.index < z) (sym w.size) lt;
+      x = subst (λ z. c.args.x.index < z) (sym w.size) lx;
+      few = subst (λ z. z < 4294967295) (sym a) (omega arith);
+    }
+
+pub link-requires : goal.link-requires
+link-requires g c =
+    let w : AreReady c.fill.new.self (length c.args.arena.now.slots) = c.fill.ensures.ready (length c.args.arena.now.slots) c.requires.linked.ready in
+    let few = end_few c.args.arena.now c.args.entries.now c.args.x.index c.end_from-a.result.index c.end_from-b.result.index c.look-view.result
+    c.layout_law.ensures c.look-view.ensures.shows c.in-Run.ensures c.requires c.end_from-a.ensures c.end_from-b.ensures in
+    record { a = subst (λ z. c.end_from-a.result.index < z) (sym w.size) few.0; b = subst (λ z. c.end_from-b.result.index < z) (sym w.size) few.1 }
+
+pub above-above-requires : goal.above-above-requires
+above-above-requires g c =
+    let w : AreReady c.link.new.self (length c.args.arena.now.slots) = c.link.ensures.ready (length c.args.arena.now.slots)
+    (c.fill.ensures.ready (length c.args.arena.now.slots) c.requires.linked.ready) in
+    let few = end_few c.args.arena.now c.args.entries.now c.args.x.index c.end_from-a.result.index c.end_from-b.result.index c.look-view.result
+    c.layout_law.ensures c.look-view.ensures.shows c.in-Run.ensures c.requires c.end_from-a.ensures c.end_from-b.ensures in
+    record { a = subst (λ z. c.end_from-a.result.index < z) (sym w.size) few.0; b = subst (λ z. c.end_from-b.result.index < z) (sym w.size) few.1 }
+
+pub returns-in-Top-clause-joined : goal.returns-in-Top-clause-joined
+returns-in-Top-clause-joined g c = joined_top c.args.arena.now c.args.entries.now c.args.x.index c.look-view.result c.layout_law.ensures c.look-view.ensures.shows c.in-Top.ensures c.requires.one
+
+pub returns-in-Run-clause-joined : goal.returns-in-Run-clause-joined
+returns-in-Run-clause-joined g c =
+    joined_run c.args.arena.now c.args.entries.now c.link.new.self c.args.x.index (c.mark.result + c.mark-in-Run.result)
+    c.end_from-a.result.index c.end_from-b.result.index c.look-view.result c.run_judged.result
+    (record {
+      layout = c.layout_law.ensures;
+      shows = c.look-view.ensures.shows;
+      at = c.in-Run.ensures;
+      runs = c.requires.linked.runs;
+      chains = c.requires.linked.chains;
+      fresh = c.requires.pass.fresh c.args.x.index (occurs_here c.args.x.index c.requires.waiting);
+      ends_none = c.requires.pass.past none (let few : length c.args.arena.now.slots ≤ NODE_BOUND = slots_few c.args.arena.now c.layout_law.ensures in omega arith);
+      a_is = c.end_from-a.ensures;
+      b_is = c.end_from-b.ensures;
+      now = c.link.ensures.full c.args.x.index ∙ c.fill.ensures.here;
+      others = λ y ne. c.link.ensures.full y ∙ c.fill.ensures.others y ne;
+      same = λ y. c.link.ensures.hits y ∙ c.fill.ensures.hits y;
+      firsts = λ y. c.link.ensures.first y ∙ c.fill.ensures.first y;
+      nexts = λ y. c.link.ensures.next y ∙ c.fill.ensures.next y;
+      up_now = c.link.ensures.up c.args.x.index ∙ c.fill.ensures.up;
+      ups = λ y ne. c.link.ensures.up y ∙ c.fill.ensures.ups y ne;
+      tied = tied_by (far c.args.entries.now) (far c.link.new.self) c.end_from-a.result.index c.end_from-b.result.index c.link.ensures.b c.link.ensures.a
+          (λ y na nb. c.link.ensures.others y na nb ∙ c.fill.ensures.far y);
+    })
+    (ap (λ z. z + c.mark-in-Run.result) c.mark.ensures ∙ ap (λ z. mark_of c.args.entries.now (side c.look-view.result 0) + z) c.mark-in-Run.ensures)
+    (c.run_judged.ensures ∙ ap (λ z. run_as (c.mark.result + c.mark-in-Run.result) z) c.above-above.ensures)
+
+pub returns-in-Run-clause-linked : goal.returns-in-Run-clause-linked
+returns-in-Run-clause-linked g c =
+    joined_linked c.args.arena.now c.args.entries.now c.link.new.self c.args.x.index c.end_from-a.result.index c.end_from-b.result.index c.look-view.result
+    (record {
+      layout = c.layout_law.ensures;
+      shows = c.look-view.ensures.shows;
+      at = c.in-Run.ensures;
+      runs = c.requires.linked.runs;
+      chains = c.requires.linked.chains;
+      fresh = c.requires.pass.fresh c.args.x.index (occurs_here c.args.x.index c.requires.waiting);
+      ends_none = c.requires.pass.past none (let few : length c.args.arena.now.slots ≤ NODE_BOUND = slots_few c.args.arena.now c.layout_law.ensures in omega arith);
+      a_is = c.end_from-a.ensures;
+      b_is = c.end_from-b.ensures;
+      now = c.link.ensures.full c.args.x.index ∙ c.fill.ensures.here;
+      others = λ y ne. c.link.ensures.full y ∙ c.fill.ensures.others y ne;
+      same = λ y. c.link.ensures.hits y ∙ c.fill.ensures.hits y;
+      firsts = λ y. c.link.ensures.first y ∙ c.fill.ensures.first y;
+      nexts = λ y. c.link.ensures.next y ∙ c.fill.ensures.next y;
+      up_now = c.link.ensures.up c.args.x.index ∙ c.fill.ensures.up;
+      ups = λ y ne. c.link.ensures.up y ∙ c.fill.ensures.ups y ne;
+      tied = tied_by (far c.args.entries.now) (far c.link.new.self) c.end_from-a.result.index c.end_from-b.result.index c.link.ensures.b c.link.ensures.a
+          (λ y na nb. c.link.ensures.others y na nb ∙ c.fill.ensures.far y);
+    })
+    (c.link.ensures.ready (length c.args.arena.now.slots) (c.fill.ensures.ready (length c.args.arena.now.slots) c.requires.linked.ready))
+
+pub returns-in-Ring-clause-joined : goal.returns-in-Ring-clause-joined
+returns-in-Ring-clause-joined g c =
+    joined_ring c.args.arena.now c.args.entries.now c.hit-hits.new.self c.args.x.index c.in-Ring.p c.look-view.result c.look-children.result c.judged.result c.hit-hits.result
+    c.layout_law.ensures c.look-view.ensures.shows c.in-Ring.ensures c.look-children.ensures.shows
+    (c.hit-hits.ensures.result ∙ ap (λ z. z + 1) (c.fill-in-Ring.ensures.hits c.in-Ring.p.index))
+    c.judged.ensures
+    (c.hit-hits.ensures.full c.args.x.index ∙ c.fill-in-Ring.ensures.here)
+    (λ y ne. c.hit-hits.ensures.full y ∙ c.fill-in-Ring.ensures.others y ne)
+    (c.hit-hits.ensures.here ∙ ap (λ z. z + 1) (c.fill-in-Ring.ensures.hits c.in-Ring.p.index))
+    (λ y ne. c.hit-hits.ensures.others y ne ∙ c.fill-in-Ring.ensures.hits y)
+
+pub returns-in-Ring-clause-linked : goal.returns-in-Ring-clause-linked
+returns-in-Ring-clause-linked g c =
+    joined_ring_linked c.args.arena.now c.args.entries.now c.hit-hits.new.self c.args.x.index c.in-Ring.p c.look-view.result
+    (record {
+      layout = c.layout_law.ensures;
+      shows = c.look-view.ensures.shows;
+      at = c.in-Ring.ensures;
+      linked = c.requires.linked;
+      fresh = c.requires.pass.fresh c.args.x.index (occurs_here c.args.x.index c.requires.waiting);
+      now = c.hit-hits.ensures.full c.args.x.index ∙ c.fill-in-Ring.ensures.here;
+      others = λ y ne. c.hit-hits.ensures.full y ∙ c.fill-in-Ring.ensures.others y ne;
+      hung = record {
+        here = c.hit-hits.ensures.here ∙ ap (λ z. z + 1) (c.fill-in-Ring.ensures.hits c.in-Ring.p.index);
+        others = λ y ne. c.hit-hits.ensures.others y ne ∙ c.fill-in-Ring.ensures.hits y;
+        first_is = c.hit-hits.ensures.first;
+        first_others = λ y ne. c.hit-hits.ensures.firsts y ne ∙ c.fill-in-Ring.ensures.first y;
+        next_is = c.hit-hits.ensures.next ∙ c.fill-in-Ring.ensures.first c.in-Ring.p.index;
+        next_others = λ y ne. c.hit-hits.ensures.nexts y ne ∙ c.fill-in-Ring.ensures.next y;
+      };
+      fars = λ y. c.hit-hits.ensures.far y ∙ c.fill-in-Ring.ensures.far y;
+      ups = λ y ne. c.hit-hits.ensures.up y ∙ c.fill-in-Ring.ensures.ups y ne;
+    })
+    (c.hit-hits.ensures.ready (length c.args.arena.now.slots) (c.fill-in-Ring.ensures.ready (length c.args.arena.now.slots) c.requires.linked.ready))

@@ -1,0 +1,4 @@
+pub mod Answer
+pub mod Entries
+pub mod Passing
+pub mod View

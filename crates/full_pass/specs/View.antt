@@ -1,0 +1,20 @@
+-- What contracts see of the room of a pass, and what it keeps.
+use Rattle.std.specs.Prelude.{ℕ, ◌≤◌, List, length, take}
+use Rattle.pq_arena.specs.declared.node.NodeId.{NodeId}
+use Rattle.full_pass.specs.declared.work.FullWork.TheInside.{Inside}
+use Rattle.full_pass.specs.Entries.{AreReady}
+
+-- The room of a pass: for how many nodes it is, and the members of the last group.
+pub record Room : Type 0 where
+  pub size : ℕ
+  pub members : List NodeId
+
+-- what contracts see of the room
+abbrev pub room_of : Inside → Room
+room_of a = record { size = length a.entries.entries.items; members = take a.count a.members.items }
+
+-- what always holds of the room
+pub record IsKept (a : Inside) : Type 0 where
+  pub ready : AreReady a.entries (length a.entries.entries.items)
+  pub room : length a.entries.entries.items ≤ length a.members.items
+  pub count : a.count ≤ length a.members.items

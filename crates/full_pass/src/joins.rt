@@ -1,0 +1,159 @@
+// The labelling of one full node.
+ghost use Rattle.std.specs.Prelude.{◌≡◌, ℕ, ◌+◌, ◌*◌, ◌≤◌, List, ◌∷◌};
+ghost use Rattle.full_pass.specs.Entries.{is_full, hits};
+ghost use Rattle.full_pass.specs.Passing.{run_as, place, judged_as, AreLinked, Pass, CanJoin, IsJoined, CanRise, IsRisen};
+
+use crate::entries::Entries;
+use crate::settled::Settled;
+use pq_arena::{Arena, NodeId};
+use step_count::{Ledger, Steps};
+
+// Where a node stands.
+#[derive(Clone, Copy)]
+pub enum Place {
+    // No node is above it.
+    Top,
+    // It is a child of a Q-node.
+    Run,
+    // It is a child of this P-node.
+    Ring(NodeId),
+}
+
+// What a node did that was labelled.
+#[derive(Clone, Copy)]
+pub enum Joined {
+    // It is the root, and was not labelled.
+    Top,
+    // It is a child of a Q-node, beside so many labelled ones.
+    Run(usize),
+    // It is a child of this Q-node, all of whose children are labelled, beside so many.
+    Wide(usize, NodeId),
+    // It is the first labelled child of a P-node.
+    First,
+    // It is a further child of this P-node, and others are not labelled.
+    More(NodeId),
+    // It is the last child of this P-node.
+    Whole(NodeId),
+}
+
+// Where a node stands that shows this parent and these neighbours.
+fn place_of(parent: Option<NodeId>, a: Option<NodeId>, b: Option<NodeId>) -> Place
+    ensures { result ≡ place parent a b }
+{
+    match parent {
+        None => match a {
+            None => Place::Top,
+            Some(_) => Place::Run,
+        },
+        Some(p) => match a {
+            None => Place::Run,
+            Some(_) => match b {
+                None => Place::Run,
+                Some(_) => Place::Ring(p),
+            },
+        },
+    }
+}
+
+// What a child of a Q-node did, of whose neighbours so many are labelled, and whose run shows this node at both ends.
+fn run_judged(pairs: usize, above: Option<NodeId>) -> Joined
+    ensures { result ≡ run_as pairs above }
+{
+    match above {
+        None => Joined::Run(pairs),
+        Some(q) => {
+            if pairs == 0 {
+                Joined::Run(pairs)
+            } else {
+                Joined::Wide(pairs, q)
+            }
+        }
+    }
+}
+
+// What a child of the P-node `p` did, of whose children so many are labelled.
+fn judged(p: NodeId, hits: u32, children: u32) -> Joined
+    ensures { result ≡ judged_as p hits children }
+{
+    if hits == 1 {
+        Joined::First
+    } else if hits == children {
+        Joined::Whole(p)
+    } else {
+        Joined::More(p)
+    }
+}
+
+// Labels the full node `x`.
+fn join<L: Ledger>(arena: &Arena, entries: &mut Entries, x: NodeId, steps: &mut Steps<L>) -> Joined
+    requires { CanJoin arena.now entries.old x.index }
+    ensures joined { (row waiting : List ℕ) (n : ℕ) →
+        Pass arena.now row (is_full entries.old) (hits entries.old) (x.index ∷ waiting) n →
+        IsJoined arena.now row (is_full entries.new) (hits entries.new) waiting n result }
+    ensures linked { AreLinked arena.now entries.new }
+    ensures ticks { steps.new ≤ steps.old + 2 }
+{
+    arena.layout_law();
+    let view = arena.look(x, steps);
+    let near0 = view.near[0];
+    let near1 = view.near[1];
+    match place_of(view.parent, near0, near1) {
+        Place::Top => Joined::Top,
+        Place::Run => {
+            let pairs = entries.mark(near0) + entries.mark(near1);
+            let a = entries.end_from(near0, x);
+            let b = entries.end_from(near1, x);
+            entries.fill(x, view.parent);
+            entries.link(a, b);
+            let above = entries.above(a, b);
+            run_judged(pairs, above)
+        }
+        Place::Ring(p) => {
+            let children = arena.look(p, steps).children;
+            entries.fill(x, None);
+            let hits = entries.hit(p, x);
+            judged(p, hits, children)
+        }
+    }
+}
+
+// Labels `x` and the nodes that get full by it, with `parts` for the number of parts. Gives the answer if no other part
+// is left, and none where the root is full.
+pub fn rise<L: Ledger>(
+    arena: &Arena,
+    entries: &mut Entries,
+    x: NodeId,
+    parts: &mut usize,
+    steps: &mut Steps<L>,
+) -> Option<Settled>
+    requires { CanRise arena.now entries.old x.index parts.old }
+    ensures risen { (row waiting : List ℕ) →
+        Pass arena.now row (is_full entries.old) (hits entries.old) (x.index ∷ waiting) parts.old →
+        IsRisen arena.now row (is_full entries.new) (hits entries.new) waiting parts.new result }
+    ensures linked { AreLinked arena.now entries.new }
+    ensures ticks { steps.new + 2 * parts.new ≤ steps.old + 2 * parts.old + 2 }
+{
+    let mut x = x;
+    loop {
+        match join(arena, entries, x, steps) {
+            Joined::Top => return None,
+            Joined::Run(pairs) => {
+                *parts -= pairs;
+                return Some(Settled::Kept);
+            }
+            Joined::Wide(pairs, q) => {
+                *parts -= pairs;
+                x = q;
+            }
+            Joined::First => return Some(Settled::Kept),
+            Joined::More(p) => {
+                *parts -= 1;
+                return Some(Settled::Group(p));
+            }
+            Joined::Whole(p) => {
+                *parts -= 1;
+                x = p;
+            }
+        }
+    }
+}

@@ -1,0 +1,77 @@
+// The full pass over one row.
+ghost use Rattle.std.specs.Prelude.{◌≡◌, ℕ, ◌+◌, ◌*◌, ◌≤◌, List, length};
+ghost use Rattle.column_order.specs.Orders.{Keeps};
+ghost use Rattle.row_model.specs.Graph.{row_at};
+ghost use Rattle.row_model.specs.Rows.{IsRow};
+ghost use Rattle.pq_tree.specs.Outline.{IsFrontier};
+ghost use Rattle.arena_model.specs.NamedTree.{IsOneTree, outline_at};
+ghost use Rattle.full_pass.specs.Answer.{indices, leaves_of, IsSettled};
+ghost use Rattle.full_pass.specs.Entries.{AreReady};
+ghost use Rattle.full_pass.specs.Passing.{members_of};
+
+use crate::entries::Entries;
+use crate::joins::rise;
+use crate::work::FullWork;
+use pq_arena::{Arena, NodeId};
+use row_model::Matrix;
+use step_count::{Ledger, Steps};
+
+/// What a full pass finds of a row.
+#[derive(Clone, Copy)]
+pub enum Settled {
+    /// Every frontier of the tree keeps the row.
+    Kept,
+    /// The row is what stands below some children of this P-node, two or more and not all.
+    Group(NodeId),
+    /// Nothing is known.
+    Open,
+}
+
+/// Looks once at each full node, and says whether every frontier of the tree keeps row `k` of the matrix, numbered from
+/// 1, or template P2 applies. After [`Settled::Group`], [`FullWork::members`] are the full children of its node.
+pub fn settle<L: Ledger>(
+    arena: &Arena,
+    m: &Matrix,
+    k: u32,
+    work: &mut FullWork,
+    steps: &mut Steps<L>,
+) -> Settled
+    requires tree { IsOneTree arena.now }
+    requires columns { arena.now.columns ≡ m.now.columns }
+    requires room { work.old.size ≡ length arena.now.slots }
+    requires row { (1 ≤ k) × (k ≤ length m.now.rows) }
+    ensures room { work.new.size ≡ work.old.size }
+    ensures settled { IsSettled arena.now (leaves_of (row_at m.now.rows k)) (indices work.new.members) result }
+    ensures kept { result ≡ Settled.Kept → (o : List ℕ) → IsFrontier (outline_at arena.now) o →
+        Keeps o (row_at m.now.rows k) }
+    ensures steps { steps.new ≤ steps.old + 4 * length (row_at m.now.rows k) }
+{
+    work.pass(arena, m.row(k), steps)
+}
+
+// The pass over the row with these columns.
+pub fn run<L: Ledger>(
+    arena: &Arena,
+    row: &[u32],
+    entries: &mut Entries,
+    steps: &mut Steps<L>,
+) -> Settled
+    requires tree { IsOneTree arena.now }
+    requires row { IsRow arena.now.columns row.now }
+    requires ready { AreReady entries.old (length arena.now.slots) }
+    ensures ready { AreReady entries.new (length arena.now.slots) }
+    ensures settled { IsSettled arena.now (leaves_of row.now) (members_of entries.new result) result }
+    ensures ticks { steps.new ≤ steps.old + 4 * length row.now }
+{
+    arena.layout_law();
+    entries.begin();
+    let mut parts = row.len();
+    let mut last = Settled::Open;
+    for column in row {
+        match rise(arena, entries, arena.leaf(*column), &mut parts, steps) {
+            Some(settled) => last = settled,
+            None => return Settled::Kept,
+        }
+    }
+    if parts == 1 { last } else { Settled::Open }
+}

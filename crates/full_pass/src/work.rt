@@ -1,0 +1,95 @@
+// The room of a full pass, and what it left there.
+ghost use Rattle.std.specs.Prelude.{◌≡◌, ℕ, ◌+◌, ◌*◌, ◌≤◌, ◌<◌, ◌↔◌, List, [], length, IfOk, IsTrue};
+ghost use Rattle.column_order.specs.Orders.{Keeps};
+ghost use Rattle.row_model.specs.Rows.{IsRow};
+ghost use Rattle.pq_tree.specs.Outline.{IsFrontier};
+ghost use Rattle.arena_model.specs.NamedTree.{IsOneTree, outline_at};
+ghost use Rattle.full_pass.specs.Answer.{indices, leaves_of, IsSettled};
+
+use crate::entries::Entries;
+use crate::settled::{Settled, run};
+use pq_arena::{Arena, NodeId};
+use row_model::{COLUMN_BOUND, NoMemory};
+use std::alloc::Global;
+use std::marker::Model;
+use step_count::{Ledger, Steps};
+
+/// The room of a full pass, taken once for all rows, and the members of the last group that it found.
+#[derive(Drop)]
+pub struct FullWork {
+    entries: Entries,
+    members: Vec<NodeId>,
+    count: usize,
+}
+
+impl Model for FullWork {
+    ghost use Rattle.full_pass.specs.View.{Room};
+
+    ghost Value = { Room };
+
+    ghost use Rattle.full_pass.specs.View.{room_of, IsKept};
+
+    ghost view = { room_of };
+
+    ghost invariant = { IsKept };
+}
+
+impl FullWork {
+    /// Room for the pass over an arena of so many columns.
+    ///
+    /// # Errors
+    ///
+    /// `NoMemory` where memory is refused. No other call takes memory.
+    pub fn new(alloc: Global, columns: u32) -> Result<Self, NoMemory>
+        requires { (1 ≤ columns) × (columns ≤ COLUMN_BOUND) }
+        ensures { IfOk result (λ w. (w.size ≡ 2 * columns + 4) × (w.members ≡ [])) }
+    {
+        let size = 2 * columns as usize + 4;
+        Ok(FullWork {
+            entries: Entries::new(alloc, size)?,
+            members: vec![in alloc; NodeId::default(); size]?,
+            count: 0,
+        })
+    }
+
+    /// Whether there is room for an arena over so many columns.
+    pub fn is_for(&self, columns: u32) -> bool
+        requires { columns ≤ COLUMN_BOUND }
+        ensures { IsTrue result ↔ (self.now.size ≡ 2 * columns + 4) }
+    {
+        self.entries.entries.len() == 2 * columns as usize + 4
+    }
+
+    /// After [`Settled::Group`] the full children of its node, each once, in no stated order.
+    pub fn members(&self) -> &[NodeId]
+        ensures { result.now ≡ self.now.members }
+    {
+        &self.members[..self.count]
+    }
+
+    // The pass over the row with these columns.
+    pub(crate) fn pass<L: Ledger>(
+        &mut self,
+        arena: &Arena,
+        row: &[u32],
+        steps: &mut Steps<L>,
+    ) -> Settled
+        requires tree { IsOneTree arena.now }
+        requires row { IsRow arena.now.columns row.now }
+        requires room { self.old.size ≡ length arena.now.slots }
+        ensures room { self.new.size ≡ self.old.size }
+        ensures settled { IsSettled arena.now (leaves_of row.now) (indices self.new.members) result }
+        ensures kept { result ≡ Settled.Kept → (o : List ℕ) → IsFrontier (outline_at arena.now) o → Keeps o row.now }
+        ensures steps { steps.new ≤ steps.old + 4 * length row.now }
+    {
+        arena.layout_law();
+        match run(arena, row, &mut self.entries, steps) {
+            Settled::Kept => Settled::Kept,
+            Settled::Group(p) => {
+                self.count = self.entries.list(p, &mut self.members);
+                Settled::Group(p)
+            }
+            Settled::Open => Settled::Open,
+        }
+    }
+}
