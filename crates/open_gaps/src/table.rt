@@ -1,0 +1,200 @@
+// The gaps of an order that is valid for the first rows of a matrix.
+ghost use Rattle.std.specs.Prelude.{◌≡◌, ◌⊎◌, ℕ, ◌+◌, ◌-◌, ◌<◌, ◌≤◌, List, [], None, length, sum_by, take, slice_index, slice_index_or, IfOk, IfSome, MatchOption};
+ghost use Rattle.column_order.specs.Orders.{IsOrder, IsWithin, IsValidOrder, place};
+ghost use Rattle.row_model.specs.Positions.{ArePositions, IsSpanInOrder};
+ghost use Rattle.row_model.specs.Graph.{pair, IsPair, JoinedBy};
+ghost use Rattle.open_gaps.specs.declared.gap.Gap.{Gap};
+ghost use Rattle.open_gaps.specs.Gaps.{Opens, AreGaps};
+ghost use Rattle.open_gaps.specs.Tables.{covered};
+
+use crate::gap::{Gap, cover, opener};
+use row_model::{Line, Matrix, NoMemory, Pair, Span, Why, positions};
+use std::alloc::Global;
+use std::marker::Model;
+use step_count::{Ledger, Steps};
+
+/// An order that is valid for the first rows of a matrix, and for each of its gaps the columns for which these rows leave it
+/// open. It takes 24 bytes for each column.
+#[derive(Drop)]
+pub struct OpenGaps {
+    order: Vec<u32>,
+    positions: Vec<u32>,
+    gaps: Vec<Gap>,
+}
+
+impl Model for OpenGaps {
+    ghost use Rattle.open_gaps.specs.Tables.{GapTable};
+
+    ghost Value = { GapTable };
+
+    ghost use Rattle.open_gaps.specs.Tables.{table_within, IsKept};
+
+    ghost view = { table_within };
+
+    ghost invariant = { IsKept };
+}
+
+impl OpenGaps {
+    /// The gaps of an order, as the first `rows` rows leave them open. A step is counted for each one in these rows.
+    ///
+    /// # Errors
+    ///
+    /// `NoMemory`.
+    pub fn new<L: Ledger>(
+        alloc: Global,
+        m: &Matrix,
+        rows: u32,
+        order: &[u32],
+        steps: &mut Steps<L>,
+    ) -> Result<Self, NoMemory>
+        requires rows { rows ≤ length m.now.rows }
+        requires order { IsValidOrder m.now.columns (take rows m.now.rows) order.now }
+        ensures order { IfOk result (λ t. t.order ≡ order.now) }
+        ensures gaps { IfOk result (λ t. AreGaps (take rows m.now.rows) order.now t.gaps) }
+        ensures ticks { steps.new ≤ steps.old + sum_by length (take rows m.now.rows) }
+    {
+        let columns = m.columns();
+        let positions = positions(alloc, order)?;
+        let gaps = gaps_of(alloc, m, rows, &positions, steps)?;
+        let mut kept = Vec::with_capacity(alloc, columns as usize)?;
+        kept.extend_from_slice(order)?;
+        Ok(OpenGaps {
+            order: kept,
+            positions,
+            gaps,
+        })
+    }
+
+    /// From a pair (a,b) the pair (b,d), where d stands right before a in the order, if a row that has both a and d and
+    /// lacks b joins the two, with the number of such a row.
+    pub fn before(&self, v: Pair) -> Option<Line>
+        requires { IsPair (length self.now.order) v }
+        ensures joined { (rows : List (List ℕ)) → AreGaps rows self.now.order self.now.gaps
+            → IfSome result (λ line. JoinedBy (length self.now.order) rows line.pair v line.why) }
+        ensures whole { (rows : List (List ℕ)) → AreGaps rows self.now.order self.now.gaps
+            → (k q : ℕ) → q + 1 ≡ place self.now.order v.a → Opens rows self.now.order k q v.b
+            → MatchOption result ⊥ (λ line. line.pair ≡ pair v.b (slice_index self.now.order q)) }
+    {
+        let x = self.place(v.a);
+        let p = self.place(v.b);
+        if x == 0 {
+            return None;
+        }
+        match opener(&self.gaps, x - 1, p) {
+            None => None,
+            Some(row) => Some(line_to(v.b, self.column_at(x - 1), row)),
+        }
+    }
+
+    /// The same where d stands right behind a.
+    pub fn behind(&self, v: Pair) -> Option<Line>
+        requires { IsPair (length self.now.order) v }
+        ensures joined { (rows : List (List ℕ)) → AreGaps rows self.now.order self.now.gaps
+            → IfSome result (λ line. JoinedBy (length self.now.order) rows line.pair v line.why) }
+        ensures whole { (rows : List (List ℕ)) → AreGaps rows self.now.order self.now.gaps
+            → (k : ℕ) → place self.now.order v.a + 1 < length self.now.order
+            → Opens rows self.now.order k (place self.now.order v.a) v.b
+            → MatchOption result ⊥ (λ line. line.pair ≡ pair v.b (slice_index self.now.order (place self.now.order v.a + 1))) }
+    {
+        let x = self.place(v.a);
+        let p = self.place(v.b);
+        if x as usize + 1 == self.order.len() {
+            return None;
+        }
+        match opener(&self.gaps, x, p) {
+            None => None,
+            Some(row) => Some(line_to(v.b, self.column_at(x + 1), row)),
+        }
+    }
+
+    // The position of a column, from 0.
+    fn place(&self, column: u32) -> u32
+        requires { (1 ≤ column) × (column ≤ length self.now.order) }
+        ensures { (result ≡ place self.now.order column) × (result < length self.now.order) }
+    {
+        self.positions[column as usize - 1] - 1
+    }
+
+    // The column at a position, from 0.
+    fn column_at(&self, position: u32) -> u32
+        requires { position < length self.now.order }
+        ensures { result ≡ slice_index self.now.order position }
+    {
+        self.order[position as usize]
+    }
+}
+
+// The line of the pair (b,d), for a row.
+fn line_to(b: u32, d: u32, row: u32) -> Line
+    ensures { (result.pair ≡ pair b d) × (result.why ≡ Why.Row row) }
+{
+    Line {
+        pair: Pair { a: b, b: d },
+        why: Why::Row(row),
+    }
+}
+
+// The first and the last position, from 1, of a row in the order of these positions, or `None` where it has no column. A step
+// is counted for each column.
+fn span_counted<L: Ledger>(row: &[u32], positions: &[u32], steps: &mut Steps<L>) -> Option<Span>
+    requires { IsWithin (length positions.now) row.now }
+    ensures span { (o : List ℕ) → IsOrder (length positions.now) o → ArePositions o positions.now
+        → MatchOption result (row.now ≡ []) (IsSpanInOrder o row.now) }
+    ensures ticks { steps.new ≡ steps.old + length row.now }
+{
+    let mut span = Span {
+        first: u32::MAX,
+        last: 0,
+    };
+    for column in row {
+        steps.tick();
+        let position = positions[*column as usize - 1];
+        span.first = span.first.min(position);
+        span.last = span.last.max(position);
+    }
+    if row.is_empty() { None } else { Some(span) }
+}
+
+// The gaps of the order of these positions, which is valid for the first `rows` rows.
+fn gaps_of<L: Ledger>(
+    alloc: Global,
+    m: &Matrix,
+    rows: u32,
+    positions: &[u32],
+    steps: &mut Steps<L>,
+) -> Result<Vec<Gap>, NoMemory>
+    requires rows { rows ≤ length m.now.rows }
+    requires order { (o : List ℕ) × IsValidOrder m.now.columns (take rows m.now.rows) o × ArePositions o positions.now }
+    ensures len { IfOk result (λ gaps. length gaps.items ≡ m.now.columns) }
+    ensures gaps { IfOk result (λ gaps. (o : List ℕ) → IsValidOrder m.now.columns (take rows m.now.rows) o
+        → ArePositions o positions.now → AreGaps (take rows m.now.rows) o gaps.items) }
+    ensures ticks { steps.new ≤ steps.old + sum_by length (take rows m.now.rows) }
+{
+    let open = Gap {
+        last: m.columns(),
+        last_row: 0,
+        first: 0,
+        first_row: 0,
+    };
+    let mut gaps = vec![in alloc; open; m.columns() as usize]?;
+    for k in 0..rows {
+        let span = span_counted(m.row(k + 1), positions, steps);
+        take_row(&mut gaps, span, k + 1);
+    }
+    Ok(gaps)
+}
+
+// Takes a row over the gaps within its span; a row with no column has none.
+fn take_row(gaps: &mut Vec<Gap>, span: Option<Span>, row: u32)
+    requires within { IfSome span (λ s. (1 ≤ s.first) × (s.first ≤ s.last) × (s.last ≤ length gaps.old.items)) }
+    ensures len { length gaps.new.items ≡ length gaps.old.items }
+    ensures none { span ≡ None → gaps.new.items ≡ gaps.old.items }
+    ensures inside { IfSome span (λ s. (q : ℕ) (d : Gap) → s.first - 1 ≤ q → q < s.last - 1
+        → slice_index_or gaps.new.items q d ≡ covered (slice_index_or gaps.old.items q d) (s.first - 1) (s.last - 1) row) }
+    ensures outside { IfSome span (λ s. (q : ℕ) (d : Gap) → (q < s.first - 1) ⊎ (s.last - 1 ≤ q)
+        → slice_index_or gaps.new.items q d ≡ slice_index_or gaps.old.items q d) }
+{
+    if let Some(span) = span {
+        cover(gaps, span.first - 1, span.last - 1, row);
+    }
+}
