@@ -1,0 +1,116 @@
+-- The leaves below a node, and the tree of a node that the row misses.
+use Rattle.std.proofs.Common.{◌≡◌, inl, inr, ℕ, ◌+◌, ◌-◌, ◌≤◌, ◌<◌, List, [], ◌∷◌, length, Option, Some, None, IsTrue, refl, sym, ap, subst, ◌∙◌, arith}
+use Rattle.std.proofs.lemmas.Bool.{cases_eq, cases_lt}
+use Rattle.column_order.specs.Orders.{occurs, has}
+use Rattle.column_order.proofs.Lists.{has_from_occurs, lacks_from_occurs, occurs-append}
+use Rattle.row_model.specs.Rows.{Ascends, IsRow}
+use Rattle.pq_tree.specs.Outline.{Forest}
+use Rattle.pq_plain.specs.Templates.{Label, empty_label, AreAllEmpty, none_sorted, to_empty}
+use Rattle.pq_plain.specs.Chosen.{p_empty, q_empty}
+use Rattle.pq_plain.specs.Reduced.{IsLabel, AreLabels}
+use Rattle.arena_model.specs.declared.Shape.{Shape}
+use Rattle.arena_model.specs.declared.Shape.TheVariants.{Leaf, P, Q}
+use Rattle.arena_model.specs.Layout.{Layout, shape_at, children_at, IsGrounded, grounded, IsInUse, IsLayout, IsAtOrAbove, here, down}
+use Rattle.arena_model.specs.NamedTree.{NamedTree, NamedTrees, named_tree, no_named, named_and, IsAt, AreAt, node_names, node_names_of, outline_named, outlines_named, outline_below, HasTwoEach}
+use Rattle.arena_model.proofs.Lists.{occurs_here, occurs_same, occurs_other}
+use Rattle.arena_model.proofs.Trees.{TreeAt, tree_at, reached}
+use Rattle.arena_model.proofs.Outlines.{below_named}
+use Rattle.bubble_pass.specs.Climb.{leaves_of}
+use Rattle.bubble_pass.specs.declared.labels.Label.TheVariants.{Empty, Full}
+use Rattle.bubble_pass.specs.Sweep.{IsRight}
+use Rattle.template_model.proofs.Replaced.{child_used}
+
+-- a column of the row is one more than the number of its leaf
+pub row_occurs : (c low : ℕ) (row : List ℕ) (x : ℕ) → Ascends c low row → occurs (leaves_of row) x ≡ occurs row (x + 1)
+row_occurs c low [] x h = refl
+row_occurs c low (a ∷ row) x h =
+    let r : occurs (leaves_of row) x ≡ occurs row (x + 1) = row_occurs c a row x h.2 in
+    let some : low < a = h.0 in
+    elim (cases_eq a (x + 1)) [
+      | inl e ↦
+          let i : occurs ((a - 1) ∷ leaves_of row) x ≡ 1 + occurs (leaves_of row) x = subst (λ z. occurs (z ∷ leaves_of row) x ≡ 1 + occurs (leaves_of row) x) (let k : x ≡ a - 1 = omega arith in k) (occurs_same x (leaves_of row)) in
+          let j : occurs (a ∷ row) (x + 1) ≡ 1 + occurs row (x + 1) = subst (λ z. occurs (z ∷ row) (x + 1) ≡ 1 + occurs row (x + 1)) (sym e) (occurs_same (x + 1) row) in
+          omega arith
+      | inr ne ↦
+          let i : occurs ((a - 1) ∷ leaves_of row) x ≡ occurs (leaves_of row) x = occurs_other (a - 1) x (leaves_of row) (λ e. ne (omega arith)) in
+          let j : occurs (a ∷ row) (x + 1) ≡ occurs row (x + 1) = occurs_other a (x + 1) row (λ e. ne (sym e)) in
+          omega arith
+    ]
+
+-- a leaf below a node
+pub record LeafBelow (f : Layout) (n : ℕ) : Type 0 where
+  pub x : ℕ
+  pub column : ℕ
+  pub below : IsAtOrAbove f.slots n x
+  pub leaf : shape_at f x ≡ Some (Leaf column)
+
+first_child : (ks : List ℕ) → 2 ≤ length ks → (k : ℕ) × (1 ≤ occurs ks k)
+first_child [] l = absurd (omega arith)
+first_child (k ∷ ks) l = (k, occurs_here k ks)
+
+leaf_by : (f : Layout) (n : ℕ) → HasTwoEach f → ((k : ℕ) → 1 ≤ occurs (children_at f n) k → LeafBelow f k) →
+    (o : Option Shape) → shape_at f n ≡ o → IsInUse f n → LeafBelow f n
+leaf_by f n two below None e u = absurd (u e)
+leaf_by f n two below (Some (Leaf a)) e u = record { x = n; column = a; below = here n; leaf = e }
+leaf_by f n two below (Some P) e u = let k = first_child (children_at f n) (two n (inl e)) in
+    let r : LeafBelow f k.0 = below k.0 k.1 in record { x = r.x; column = r.column; below = down n k.0 r.x k.1 r.below; leaf = r.leaf }
+leaf_by f n two below (Some Q) e u = let k = first_child (children_at f n) (two n (inr e)) in
+    let r : LeafBelow f k.0 = below k.0 k.1 in record { x = r.x; column = r.column; below = down n k.0 r.x k.1 r.below; leaf = r.leaf }
+
+leaf_from : (f : Layout) (n : ℕ) → IsLayout f → HasTwoEach f → IsGrounded f.slots n → IsInUse f n → LeafBelow f n
+leaf_from f _ h two (grounded n below) u = leaf_by f n two (λ k o. leaf_from f k h two (below k o) (child_used f n k h o)) (shape_at f n) refl u
+
+pub leaf_below : (f : Layout) (n : ℕ) → IsLayout f → HasTwoEach f → IsInUse f n → LeafBelow f n
+leaf_below f n h two used = leaf_from f n h two (h.grounds n) used
+
+-- labels of trees without a column of the row
+record Empties (row : List ℕ) (ts : Forest) : Type 0 where
+  ps : List Label
+  labels : AreLabels row ts ps
+  all : AreAllEmpty ts ps
+
+mutual
+  empty_named : (f : Layout) (row : List ℕ) (t : NamedTree) → IsLayout f → IsRow f.columns row → IsAt f.slots t →
+      ((x : ℕ) → 1 ≤ occurs (node_names t) x → occurs (leaves_of row) x ≡ 0) → IsLabel row (outline_named t) empty_label
+  empty_named f row (named_tree n (Leaf a) ts) h r i miss =
+      let l = h.no_other_leaf n a (ap (λ c. c.shape) i.0) in
+      let e : a ≡ n + 1 = l.0 in
+      let z : occurs (leaves_of row) n ≡ 0 = miss n (occurs_here n (node_names_of ts)) in
+      let o : occurs row (n + 1) ≡ 0 = sym (row_occurs f.columns 0 row n r) ∙ z in
+      inr (lacks_from_occurs row a (subst (λ y. occurs row y ≡ 0) (sym e) o), refl)
+  empty_named f row (named_tree n P ts) h r i miss =
+      let s : Empties row (outlines_named ts) = empties_named f row ts h r i.1 (λ x o. miss x (omega arith)) in
+      (s.ps, empty_label, s.labels, p_empty s.all, refl)
+  empty_named f row (named_tree n Q ts) h r i miss =
+      let s : Empties row (outlines_named ts) = empties_named f row ts h r i.1 (λ x o. miss x (omega arith)) in
+      (s.ps, empty_label, s.labels, q_empty s.all, refl)
+
+  empties_named : (f : Layout) (row : List ℕ) (ts : NamedTrees) → IsLayout f → IsRow f.columns row → AreAt f.slots ts →
+      ((x : ℕ) → 1 ≤ occurs (node_names_of ts) x → occurs (leaves_of row) x ≡ 0) → Empties row (outlines_named ts)
+  empties_named f row no_named h r i miss = record { ps = []; labels = tt; all = none_sorted }
+  empties_named f row (named_and t ts) h r i miss =
+      let s : Empties row (outlines_named ts) = empties_named f row ts h r i.1 (λ x o. miss x (omega (arith, occurs-append (node_names t) (node_names_of ts) x))) in
+      record {
+        ps = empty_label ∷ s.ps;
+        labels = (empty_named f row t h r i.0 (λ x o. miss x (omega (arith, occurs-append (node_names t) (node_names_of ts) x))), s.labels);
+        all = to_empty s.all;
+      }
+
+-- the tree at a node that the row misses has the empty label
+pub empty_is : (f : Layout) (row : List ℕ) (k : ℕ) → IsLayout f → IsRow f.columns row → IsInUse f k → IsRight f (leaves_of row) k Empty → IsLabel row (outline_below f k) empty_label
+empty_is f row k h r used right =
+    let t : TreeAt f k = tree_at f k h used in
+    subst (λ z. IsLabel row z empty_label) (sym (ap (outline_below f) (sym t.named) ∙ below_named f t.it h t.is))
+    (empty_named f row t.it h r t.is (λ x o. elim (cases_lt 0 (occurs (leaves_of row) x)) [
+      | inl l ↦ absurd (right x (subst (λ z. IsAtOrAbove f.slots z x) t.named (reached f.slots t.it x t.is o)) l)
+      | inr l ↦ omega arith
+    ]))
+
+-- a full leaf has its column in the row
+pub full_leaf : (f : Layout) (row : List ℕ) (n a : ℕ) → IsLayout f → IsRow f.columns row → shape_at f n ≡ Some (Leaf a) → IsRight f (leaves_of row) n Full → IsTrue (has row a)
+full_leaf f row n a h r e right =
+    let l = h.no_other_leaf n a e in
+    let q : a ≡ n + 1 = l.0 in
+    let o : 1 ≤ occurs (leaves_of row) n = right n a (here n) e in
+    let z : occurs (leaves_of row) n ≡ occurs row (n + 1) = row_occurs f.columns 0 row n r in
+    has_from_occurs row a (subst (λ y. 1 ≤ occurs row y) (sym q) (omega arith))

@@ -1,0 +1,16 @@
+pub mod Agree
+pub mod Stepping
+pub mod Leaves
+pub mod Marking
+pub mod Labelling
+pub mod Answering
+pub mod Grounds
+pub mod Applied
+pub mod Rooting
+pub mod Pertinent
+pub mod Ending
+pub mod Loops
+pub mod AtRoot
+pub mod Begin
+pub mod AtInside
+pub mod Ticks

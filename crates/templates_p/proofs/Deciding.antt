@@ -1,0 +1,212 @@
+-- Which templates fit, by the numbers of full and of partial children.
+use Rattle.std.proofs.Common.{◌≡◌, ◌≢◌, ◌⊎◌, ◌↔◌, inl, inr, ℕ, ◌+◌, ◌≤◌, ◌<◌, Bool, true, false, List, [], ◌∷◌, map, sum_by, length, Option, Some, None, refl, sym, ap, subst, ◌∙◌, arith}
+use Rattle.std.specs.Prelude.{IsTrue, IsFalse}
+use Rattle.pq_tree.specs.Outline.{Outline, Forest, no_tree, tree_and}
+use Rattle.pq_tree.specs.Proper.{forest, count}
+use Rattle.arena_model.specs.declared.Shape.TheVariants.{P}
+use Rattle.arena_model.specs.Layout.{Layout, shape_at, children_at}
+use Rattle.arena_model.specs.NamedTree.{outline_below}
+use Rattle.bubble_pass.specs.Marks.{Marks, label_at, fulls_at, partials_at}
+use Rattle.bubble_pass.specs.Pass.{IsRightAt}
+use Rattle.pq_plain.specs.Templates.{Partial, Label, IsSorted, none_sorted, to_full, p2, p3, p4, p5, p6, IsP1, IsP2, IsP3, IsP4, IsP5, IsP6}
+use Rattle.template_model.specs.Standing.{child_trees, AreMarkedAs, IsReady}
+use Rattle.templates_p.specs.declared.sight.Sight.{Sight}
+use Rattle.templates_p.specs.Sorts.{fulls, empties, partials, IsSeenAs, AllAreFull, AreFullAndEmpty, HasPartials}
+use Rattle.templates_p.specs.Fits.{FitsP1, FitsP2, FitsP3, FitsP4, FitsP5, FitsP6}
+use Rattle.templates_p.proofs.Sorting.{held, sorted_unique, sort, count_map, held_length, fulls_length, partials_length, all_counted}
+
+-- children that are all full are the full ones
+full_is : {ts fs : Forest} {ps : List Label} → IsSorted ts ps no_tree fs [] → fs ≡ ts
+full_is none_sorted = refl
+full_is (to_full {t = t} s) = ap (tree_and t) (full_is s)
+
+none_of : (o : ℕ → Outline) (xs : List ℕ) → length xs ≡ 0 → forest (map o xs) ≡ no_tree
+none_of o [] e = refl
+none_of o (x ∷ xs) e = absurd (omega arith)
+
+nothing : {A : Type 0} (xs : List A) → length xs ≡ 0 → xs ≡ []
+nothing [] e = refl
+nothing (x ∷ xs) e = absurd (omega arith)
+
+some_of : (o : ℕ → Outline) (xs : List ℕ) → 1 ≤ length xs → (t : Outline) × (ts : Forest) × (forest (map o xs) ≡ tree_and t ts)
+some_of o [] l = absurd (omega arith)
+some_of o (x ∷ xs) l = (o x, forest (map o xs), refl)
+
+single : {A : Type 0} (xs : List A) → length xs ≡ 1 → (x : A) × (xs ≡ x ∷ [])
+single [] e = absurd (omega arith)
+single (x ∷ []) e = (x, refl)
+single (x ∷ y ∷ xs) e = absurd (omega arith)
+
+double : {A : Type 0} (xs : List A) → length xs ≡ 2 → (x : A) × (y : A) × (xs ≡ x ∷ y ∷ [])
+double [] e = absurd (omega arith)
+double (x ∷ []) e = absurd (omega arith)
+double (x ∷ y ∷ []) e = (x, y, refl)
+double (x ∷ y ∷ z ∷ xs) e = absurd (omega arith)
+
+-- what is known of the children of a P-node
+record Known (f : Layout) (w : Marks) (n : ℕ) (s : Sight) (ps : List Label) : Type 0 where
+  shape : shape_at f n ≡ Some P
+  sorted : IsSorted (child_trees f n) ps (forest (map (outline_below f) (empties w (children_at f n)))) (forest (map (outline_below f) (fulls w (children_at f n)))) (held ps)
+  full : s.full ≡ length (fulls w (children_at f n))
+  partial : s.partial ≡ length (held ps)
+  empty : s.children ≡ s.full + length (empties w (children_at f n)) + s.partial
+
+known : (f : Layout) (w : Marks) (n : ℕ) (s : Sight) (ps : List Label) → IsReady f w n → IsSeenAs f w n (Some s) → AreMarkedAs f w n ps → Known f w n s ps
+known f w n s ps h seen marked =
+    let ks : List ℕ = children_at f n in
+    let a : s.full ≡ length (fulls w ks) = seen.1 ∙ h.right.full ∙ sym (fulls_length w ks) in
+    let b : s.partial ≡ length (partials w ks) = seen.2 ∙ h.right.partial ∙ sym (partials_length w ks) in
+    let c : length (held ps) ≡ length (partials w ks) = held_length w ks ps marked in
+    let d : s.children ≡ length ks = seen.3 in
+    record {
+      shape = seen.0;
+      sorted = sort (outline_below f) w ks ps marked;
+      full = a;
+      partial = b ∙ sym c;
+      empty = omega (arith, all_counted w ks);
+    }
+
+pub p1_decided : (f : Layout) (w : Marks) (n : ℕ) (s : Option Sight) (ps : List Label) → IsReady f w n → IsSeenAs f w n s → AreMarkedAs f w n ps →
+    AllAreFull s ↔ FitsP1 f n ps
+p1_decided f w n None ps h seen m = (λ z. absurd z, λ z. absurd (seen z.0))
+p1_decided f w n (Some s) ps h seen m =
+    let k : Known f w n s ps = known f w n s ps h seen m in
+    let ts : Forest = child_trees f n in
+    let o : ℕ → Outline = outline_below f in
+    let ks : List ℕ = children_at f n in (
+      λ z. (
+        k.shape,
+        let a : length (empties w ks) ≡ 0 = (let b : s.partial ≡ 0 = z.0 in let c : s.full ≡ s.children = z.1 in omega (arith, k.empty)) in
+            let c : held ps ≡ [] = nothing (held ps) (sym k.partial ∙ z.0) in
+            let d : IsSorted ts ps no_tree (forest (map o (fulls w ks))) [] =
+            subst (λ es. IsSorted ts ps es (forest (map o (fulls w ks))) []) (none_of o (empties w ks) a)
+            (subst (λ hs. IsSorted ts ps (forest (map o (empties w ks))) (forest (map o (fulls w ks))) hs) c k.sorted) in
+            subst (λ fs. IsSorted ts ps no_tree fs []) (full_is d) d,
+      ),
+      λ z. let u = sorted_unique k.sorted z.1 in (
+        k.partial ∙ ap (λ hs. length hs) u.2,
+        let a : length (empties w ks) ≡ 0 = sym (count_map o (empties w ks)) ∙ ap count u.0 in
+            let b : s.partial ≡ 0 = k.partial ∙ ap (λ hs. length hs) u.2 in
+            omega (arith, k.empty),
+      ),
+    )
+
+-- full and empty children and no other: the two patterns that say so
+pub two_decided : (f : Layout) (w : Marks) (n : ℕ) (s : Option Sight) (ps : List Label) → IsReady f w n → IsSeenAs f w n s → AreMarkedAs f w n ps →
+    AreFullAndEmpty s ↔ ((shape_at f n ≡ Some P) × (e : Outline) × (es : Forest) × (t : Outline) × (fs : Forest) × IsSorted (child_trees f n) ps (tree_and e es) (tree_and t fs) [])
+two_decided f w n None ps h seen m = (λ z. absurd z, λ z. absurd (seen z.0))
+two_decided f w n (Some s) ps h seen m =
+    let k : Known f w n s ps = known f w n s ps h seen m in
+    let ts : Forest = child_trees f n in
+    let o : ℕ → Outline = outline_below f in
+    let ks : List ℕ = children_at f n in (
+      λ z.
+          let a : 1 ≤ length (fulls w ks) = (let c : 1 ≤ s.full = z.1 in omega (arith, k.full)) in
+          let b : 1 ≤ length (empties w ks) = (let c : s.full < s.children = z.2 in let d : s.partial ≡ 0 = z.0 in omega (arith, k.empty)) in
+          let c : held ps ≡ [] = nothing (held ps) (sym k.partial ∙ z.0) in
+          let e = some_of o (empties w ks) b in
+          let t = some_of o (fulls w ks) a in (
+            k.shape,
+            e.0,
+            e.1,
+            t.0,
+            t.1,
+            subst (λ x. IsSorted ts ps (tree_and e.0 e.1) x []) t.2 (subst (λ x. IsSorted ts ps x (forest (map o (fulls w ks))) []) e.2
+                (subst (λ hs. IsSorted ts ps (forest (map o (empties w ks))) (forest (map o (fulls w ks))) hs) c k.sorted)),
+          ),
+      λ z.
+          let u = sorted_unique k.sorted z.5 in
+          let a : length (empties w ks) ≡ count (tree_and z.1 z.2) = sym (count_map o (empties w ks)) ∙ ap count u.0 in
+          let b : length (fulls w ks) ≡ count (tree_and z.3 z.4) = sym (count_map o (fulls w ks)) ∙ ap count u.1 in
+          let c : s.partial ≡ 0 = k.partial ∙ ap (λ hs. length hs) u.2 in
+          (c, omega (arith, k.full), omega (arith, k.empty)),
+    )
+
+pub p2_decided : (f : Layout) (w : Marks) (n : ℕ) (root : Bool) (s : Option Sight) (ps : List Label) → IsReady f w n → IsSeenAs f w n s → AreMarkedAs f w n ps →
+    (IsTrue root × AreFullAndEmpty s) ↔ FitsP2 f n root ps
+p2_decided f w n root s ps h seen m =
+    let d = two_decided f w n s ps h seen m in (
+      λ z. let t = d.0 z.1 in (
+        t.0,
+        (
+          p2 (tree_and t.1 t.2) (tree_and t.3 t.4),
+          record { at = z.0; e = t.1; es = t.2; f = t.3; fs = t.4; pattern = t.5; becomes = refl },
+        ),
+      ),
+      λ z. (z.1.1.at, d.1 (z.0, z.1.1.e, z.1.1.es, z.1.1.f, z.1.1.fs, z.1.1.pattern)),
+    )
+
+pub p3_decided : (f : Layout) (w : Marks) (n : ℕ) (root : Bool) (s : Option Sight) (ps : List Label) → IsReady f w n → IsSeenAs f w n s → AreMarkedAs f w n ps →
+    (IsFalse root × AreFullAndEmpty s) ↔ FitsP3 f n root ps
+p3_decided f w n root s ps h seen m =
+    let d = two_decided f w n s ps h seen m in (
+      λ z. let t = d.0 z.1 in (
+        t.0,
+        (
+          p3 (tree_and t.1 t.2) (tree_and t.3 t.4),
+          record { below = z.0; e = t.1; es = t.2; f = t.3; fs = t.4; pattern = t.5; becomes = refl },
+        ),
+      ),
+      λ z. (z.1.1.below, d.1 (z.0, z.1.1.e, z.1.1.es, z.1.1.f, z.1.1.fs, z.1.1.pattern)),
+    )
+
+-- one partial child
+pub one_decided : (f : Layout) (w : Marks) (n : ℕ) (s : Option Sight) (ps : List Label) → IsReady f w n → IsSeenAs f w n s → AreMarkedAs f w n ps →
+    HasPartials 1 s ↔ ((shape_at f n ≡ Some P) × (es : Forest) × (x : Partial) × (fs : Forest) × IsSorted (child_trees f n) ps es fs (x ∷ []))
+one_decided f w n None ps h seen m = (λ z. absurd z, λ z. absurd (seen z.0))
+one_decided f w n (Some s) ps h seen m =
+    let k : Known f w n s ps = known f w n s ps h seen m in
+    let o : ℕ → Outline = outline_below f in
+    let ks : List ℕ = children_at f n in (
+      λ z. let x = single (held ps) (sym k.partial ∙ z) in (
+        k.shape,
+        forest (map o (empties w ks)),
+        x.0,
+        forest (map o (fulls w ks)),
+        subst (λ hs. IsSorted (child_trees f n) ps (forest (map o (empties w ks))) (forest (map o (fulls w ks))) hs) x.1 k.sorted,
+      ),
+      λ z. k.partial ∙ ap (λ hs. length hs) (sorted_unique k.sorted z.4).2,
+    )
+
+pub p4_decided : (f : Layout) (w : Marks) (n : ℕ) (root : Bool) (s : Option Sight) (ps : List Label) → IsReady f w n → IsSeenAs f w n s → AreMarkedAs f w n ps →
+    (IsTrue root × HasPartials 1 s) ↔ FitsP4 f n root ps
+p4_decided f w n root s ps h seen m =
+    let d = one_decided f w n s ps h seen m in (
+      λ z. let t = d.0 z.1 in (t.0, (p4 t.1 t.2 t.3, record { at = z.0; es = t.1; h = t.2; fs = t.3; pattern = t.4; becomes = refl })),
+      λ z. (z.1.1.at, d.1 (z.0, z.1.1.es, z.1.1.h, z.1.1.fs, z.1.1.pattern)),
+    )
+
+pub p5_decided : (f : Layout) (w : Marks) (n : ℕ) (root : Bool) (s : Option Sight) (ps : List Label) → IsReady f w n → IsSeenAs f w n s → AreMarkedAs f w n ps →
+    (IsFalse root × HasPartials 1 s) ↔ FitsP5 f n root ps
+p5_decided f w n root s ps h seen m =
+    let d = one_decided f w n s ps h seen m in (
+      λ z. let t = d.0 z.1 in (t.0, (p5 t.1 t.2 t.3, record { below = z.0; es = t.1; h = t.2; fs = t.3; pattern = t.4; becomes = refl })),
+      λ z. (z.1.1.below, d.1 (z.0, z.1.1.es, z.1.1.h, z.1.1.fs, z.1.1.pattern)),
+    )
+
+pub p6_decided : (f : Layout) (w : Marks) (n : ℕ) (root : Bool) (s : Option Sight) (ps : List Label) → IsReady f w n → IsSeenAs f w n s → AreMarkedAs f w n ps →
+    (IsTrue root × HasPartials 2 s) ↔ FitsP6 f n root ps
+p6_decided f w n root None ps h seen m = (λ z. absurd z.1, λ z. absurd (seen z.0))
+p6_decided f w n root (Some s) ps h seen m =
+    let k : Known f w n s ps = known f w n s ps h seen m in
+    let o : ℕ → Outline = outline_below f in
+    let ks : List ℕ = children_at f n in
+    let es : Forest = forest (map o (empties w ks)) in
+    let fs : Forest = forest (map o (fulls w ks)) in (
+      λ z. let x = double (held ps) (sym k.partial ∙ z.1) in (
+        k.shape,
+        (
+          p6 es x.0 fs x.1,
+          record {
+            at = z.0;
+            es = es;
+            h = x.0;
+            fs = fs;
+            k = x.1;
+            pattern = subst (λ hs. IsSorted (child_trees f n) ps es fs hs) x.2 k.sorted;
+            becomes = refl;
+          },
+        ),
+      ),
+      λ z. (z.1.1.at, k.partial ∙ ap (λ hs. length hs) (sorted_unique k.sorted z.1.1.pattern).2),
+    )

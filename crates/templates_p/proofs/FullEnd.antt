@@ -1,0 +1,91 @@
+-- P4 applied: what its steps ask for, from one to the next.
+use Rattle.std.proofs.Common.{◌≡◌, ◌≢◌, ◌⊎◌, inl, inr, ℕ, ◌+◌, ◌*◌, ◌≤◌, ◌<◌, true, List, [], ◌∷◌, map, length, Option, Some, None, refl, sym, ap, subst, ◌∙◌, arith}
+use Rattle.column_order.specs.Orders.{occurs}
+use Rattle.pq_tree.specs.Outline.{Outline, Forest}
+use Rattle.arena_model.specs.declared.Shape.TheVariants.{P, Q}
+use Rattle.arena_model.specs.Layout.{Layout, shape_at, children_at, IsAtOrAbove, here, IsLayout}
+use Rattle.arena_model.specs.NamedTree.{outline_below}
+use Rattle.arena_model.proofs.Lists.{occurs_here}
+use Rattle.arena_model.proofs.Slots.{used_by}
+use Rattle.arena_model.proofs.Trees.{no_circle}
+use Rattle.bubble_pass.specs.declared.labels.Label.TheVariants.{Empty, Partial as Partly, Full}
+use Rattle.bubble_pass.specs.Marks.{Marks, label_at, size_of}
+use Rattle.pq_plain.specs.Templates.{Partial, Label, IsSorted, IsP4}
+use Rattle.template_model.specs.Standing.{child_trees, AreMarkedAs, AreShapesAt, IsShapeAt, IsReady}
+use Rattle.template_model.specs.Treated.{IsTreated}
+use Rattle.templates_p.specs.Fits.{StandsP4}
+use Rattle.templates_p.specs.Sorts.{fulls, empties, partials}
+use Rattle.templates_p.specs.Steps.{HasGroup, HasChildWith, CanGather}
+use Rattle.templates_p.specs.Lines.{CanAbsorb}
+use Rattle.templates_p.proofs.Sorting.{held, sorted_unique, sort, held_length, all_sorted, partial_label_of, not_full_partial}
+use Rattle.templates_p.proofs.Becoming.{can_gather}
+use Rattle.templates_p.proofs.Ending.{OnePartial, one_partial}
+
+some_member : (xs : List ℕ) → 1 ≤ length xs → (k : ℕ) × (1 ≤ occurs xs k)
+some_member [] l = absurd (omega arith)
+some_member (x ∷ xs) l = (x, occurs_here x xs)
+
+-- some children have this label pattern, of which one is partial
+pub partial_count : (f : Layout) (w : Marks) (n : ℕ) (ps : List Label) (es fs : Forest) (hs : List Partial) → AreMarkedAs f w n ps → IsSorted (child_trees f n) ps es fs hs →
+    length (partials w (children_at f n)) ≡ length hs
+partial_count f w n ps es fs hs m p =
+    sym (held_length w (children_at f n) ps m) ∙ ap (λ zs. length zs) (sorted_unique (sort (outline_below f) w (children_at f n) ps m) p).2
+
+pub partial_child : (f : Layout) (w : Marks) (n : ℕ) → IsLayout f → IsReady f w n → 1 ≤ length (partials w (children_at f n)) → HasChildWith f w n Partly n
+partial_child f w n h r l =
+    let k = some_member (partials w (children_at f n)) l in
+    let o : 1 ≤ occurs (partials w (children_at f n)) k.0 = k.1 in
+    let c : 1 ≤ occurs (children_at f n) k.0 = omega (arith, all_sorted w (children_at f n) k.0) in
+    record {
+      ready = r;
+      k = k.0;
+      child = c;
+      labelled = partial_label_of w (children_at f n) k.0 o;
+      other = λ q. no_circle f.slots n k.0 (h.grounds n) c (subst (λ z. IsAtOrAbove f.slots k.0 z) q (here k.0));
+      marked = λ q. (let z : Partly ≡ Empty = q in cc);
+    }
+
+pub p4_one : (f : Layout) (w : Marks) (n : ℕ) → StandsP4 f w n → length (partials w (children_at f n)) ≡ 1
+p4_one f w n s = partial_count f w n s.0 s.3.1.1.es s.3.1.1.fs (s.3.1.1.h ∷ []) s.1 s.3.1.1.pattern
+
+pub p4_can_gather : (f : Layout) (w : Marks) (n : ℕ) → IsReady f w n → StandsP4 f w n → CanGather f w n
+p4_can_gather f w n r s = can_gather f w n r s.3.0 (let e : length (partials w (children_at f n)) ≡ 1 = p4_one f w n s in omega arith)
+
+pub p4_shape : (f : Layout) (w : Marks) (n h : ℕ) → (s : StandsP4 f w n) → 1 ≤ occurs (children_at f n) h → label_at w h ≡ Partly →
+    OnePartial f w n h s.3.1.1.es s.3.1.1.h s.3.1.1.fs
+p4_shape f w n h s o l = one_partial f w n h s.0 s.3.1.1.es s.3.1.1.h s.3.1.1.fs s.1 s.2 s.3.1.1.pattern o l
+
+-- the room stays
+pub same_room : (f g : Layout) (v w : Marks) (n a : ℕ) → IsLayout f → IsLayout g → size_of v ≡ length f.slots → IsTreated f g v w n a → size_of w ≡ length g.slots
+same_room f g v w n a lf lg r t =
+    let a : size_of w ≡ size_of v = t.marks.room in
+    let b : length f.slots ≡ 2 * f.columns + 4 = lf.size in
+    let c : length g.slots ≡ 2 * g.columns + 4 = lg.size in
+    let d : g.columns ≡ f.columns = t.arena.columns in omega arith
+
+-- the line after the full children were gathered
+pub line_shape : (f g : Layout) (v w : Marks) (n h y : ℕ) (es : Forest) (x : Partial) (fs : Forest) → OnePartial f v n h es x fs → HasGroup f v g w n y → IsShapeAt g w h x
+line_shape f g v w n h y es x fs k grp =
+    let o : 1 ≤ occurs (partials v (children_at f n)) h = subst (λ xs. 1 ≤ occurs xs h) (sym k.only) (occurs_here h []) in
+    (grp.others h (omega arith)).shape x k.shape
+
+pub can_absorb : (f g : Layout) (v w : Marks) (n h y : ℕ) (es : Forest) (x : Partial) (fs : Forest) → IsLayout f → IsLayout g → IsReady f v n → IsTreated f g v w n n →
+    OnePartial f v n h es x fs → label_at v h ≡ Partly → HasGroup f v g w n y → CanAbsorb g w n h y
+can_absorb f g v w n h y es x fs lf lg r t k l grp =
+    let ks : List ℕ = children_at f n in
+    let o : 1 ≤ occurs (partials v ks) h = subst (λ xs. 1 ≤ occurs xs h) (sym k.only) (occurs_here h []) in
+    let label : label_at w h ≡ Partly = (grp.others h (omega arith)).label ∙ l in
+    record {
+      one = t.arena.one;
+      two = t.arena.two;
+      room = same_room f g v w n n lf lg r.room t;
+      put = record {
+        is_p = grp.shape;
+        is_q = (line_shape f g v w n h y es x fs k grp).is_q;
+        line = omega (arith, grp.children h);
+        child = omega (arith, grp.children y, occurs_here y []);
+        apart = λ e. not_full_partial (label_at w h) (ap (label_at w) e ∙ grp.label) label;
+        above = t.arena.one n (used_by g n P grp.shape);
+      };
+      partial = label;
+    }

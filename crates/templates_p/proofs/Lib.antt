@@ -1,0 +1,16 @@
+pub mod Rebuilt
+pub mod Remarked
+pub mod Sorting
+pub mod Deciding
+pub mod Framing
+pub mod Moving
+pub mod Chaining
+pub mod Grouping
+pub mod Becoming
+pub mod Handing
+pub mod Absorbing
+pub mod Composing
+pub mod Ending
+pub mod Siding
+pub mod Settling
+pub mod FullEnd

@@ -1,0 +1,226 @@
+-- The children of a node sorted by their labels.
+use Rattle.std.proofs.Common.{◌≡◌, ◌≢◌, ◌⊎◌, inl, inr, ℕ, ◌+◌, ◌≤◌, List, [], ◌∷◌, map, sum_by, length, Some, None, refl, sym, ap, subst, ◌∙◌, arith}
+use Rattle.std.proofs.lemmas.Bool.{cases_eq, cases_lt}
+use Rattle.std.proofs.lemmas.List.Sums.{sum_by-cons}
+use Rattle.column_order.specs.Orders.{occurs}
+use Rattle.pq_tree.specs.Outline.{Outline, Forest, no_tree, tree_and}
+use Rattle.pq_tree.specs.Proper.{forest, count}
+use Rattle.arena_model.specs.Layout.{Layout, children_at}
+use Rattle.arena_model.proofs.Lists.{occurs_other}
+use Rattle.bubble_pass.specs.declared.labels.Label.{Label as Mark}
+use Rattle.bubble_pass.specs.declared.labels.Label.TheVariants.{Empty, Partial as Partly, Full}
+use Rattle.bubble_pass.specs.Marks.{Marks, label_at}
+use Rattle.bubble_pass.specs.Sweep.{full_one, partial_one}
+use Rattle.pq_plain.specs.Templates.{Partial, Label, empty_label, full_label, partial_label, IsSorted, none_sorted, to_empty, to_full, to_partial}
+use Rattle.template_model.specs.Standing.{mark_of, IsShapeAt, AreShapesAt}
+use Rattle.templates_p.specs.Sorts.{full_then, empty_then, partial_then, fulls, empties, partials}
+
+-- what the partial ones of the labels become
+abbrev pub held : List Label → List Partial
+held [] = []
+held (empty_label ∷ ps) = held ps
+held (full_label ∷ ps) = held ps
+held (partial_label h ∷ ps) = h ∷ held ps
+
+pub sorted_unique : {ts es fs es' fs' : Forest} {ps : List Label} {hs hs' : List Partial} → IsSorted ts ps es fs hs → IsSorted ts ps es' fs' hs' →
+    (es ≡ es') × (fs ≡ fs') × (hs ≡ hs')
+sorted_unique none_sorted none_sorted = (refl, refl, refl)
+sorted_unique (to_empty {t = t} s) (to_empty u) = let w = sorted_unique s u in (ap (tree_and t) w.0, w.1, w.2)
+sorted_unique (to_full {t = t} s) (to_full u) = let w = sorted_unique s u in (w.0, ap (tree_and t) w.1, w.2)
+sorted_unique (to_partial {h = h} s) (to_partial u) = let w = sorted_unique s u in (w.0, w.1, ap (λ hs. h ∷ hs) w.2)
+
+cons_head : {A : Type 0} (x y : A) (xs ys : List A) → x ∷ xs ≡ y ∷ ys → x ≡ y
+cons_head x y xs ys e = cc
+
+cons_tail : {A : Type 0} (x y : A) (xs ys : List A) → x ∷ xs ≡ y ∷ ys → xs ≡ ys
+cons_tail x y xs ys e = cc
+
+sort_step : (o : ℕ → Outline) (k : ℕ) (E F : List ℕ) (T : Forest) (x : Label) (ps : List Label) (hs : List Partial) (l : Mark) → mark_of x ≡ l →
+    IsSorted T ps (forest (map o E)) (forest (map o F)) (held ps) →
+    IsSorted (tree_and (o k) T) (x ∷ ps) (forest (map o (empty_then l k E))) (forest (map o (full_then l k F))) (held (x ∷ ps))
+sort_step o k E F T empty_label ps hs Empty e s = to_empty s
+sort_step o k E F T empty_label ps hs Partly e s = absurd (cc)
+sort_step o k E F T empty_label ps hs Full e s = absurd (cc)
+sort_step o k E F T full_label ps hs Empty e s = absurd (cc)
+sort_step o k E F T full_label ps hs Partly e s = absurd (cc)
+sort_step o k E F T full_label ps hs Full e s = to_full s
+sort_step o k E F T (partial_label h) ps hs Empty e s = absurd (cc)
+sort_step o k E F T (partial_label h) ps hs Partly e s = to_partial s
+sort_step o k E F T (partial_label h) ps hs Full e s = absurd (cc)
+
+-- the children sort into the empty ones, the full ones and what the partial ones become
+pub sort : (o : ℕ → Outline) (w : Marks) (ks : List ℕ) (ps : List Label) → map mark_of ps ≡ map (label_at w) ks →
+    IsSorted (forest (map o ks)) ps (forest (map o (empties w ks))) (forest (map o (fulls w ks))) (held ps)
+sort o w [] [] e = none_sorted
+sort o w [] (x ∷ ps) e = absurd (cc)
+sort o w (k ∷ ks) [] e = absurd (cc)
+sort o w (k ∷ ks) (x ∷ ps) e =
+    sort_step o k (empties w ks) (fulls w ks) (forest (map o ks)) x ps (held ps) (label_at w k)
+    (cons_head (mark_of x) (label_at w k) (map mark_of ps) (map (label_at w) ks) e)
+    (sort o w ks ps (cons_tail (mark_of x) (label_at w k) (map mark_of ps) (map (label_at w) ks) e))
+
+pub count_map : (o : ℕ → Outline) (xs : List ℕ) → count (forest (map o xs)) ≡ length xs
+count_map o [] = refl
+count_map o (x ∷ xs) = omega (arith, count_map o xs)
+
+held_step : (k : ℕ) (ks : List ℕ) (x : Label) (ps : List Label) (l : Mark) → mark_of x ≡ l → length (held ps) ≡ length ks → length (held (x ∷ ps)) ≡ length (partial_then l k ks)
+held_step k ks empty_label ps Empty e h = h
+held_step k ks empty_label ps Partly e h = absurd (cc)
+held_step k ks empty_label ps Full e h = absurd (cc)
+held_step k ks full_label ps Empty e h = absurd (cc)
+held_step k ks full_label ps Partly e h = absurd (cc)
+held_step k ks full_label ps Full e h = h
+held_step k ks (partial_label p) ps Empty e h = absurd (cc)
+held_step k ks (partial_label p) ps Partly e h = omega arith
+held_step k ks (partial_label p) ps Full e h = absurd (cc)
+
+pub held_length : (w : Marks) (ks : List ℕ) (ps : List Label) → map mark_of ps ≡ map (label_at w) ks → length (held ps) ≡ length (partials w ks)
+held_length w [] [] e = refl
+held_length w [] (x ∷ ps) e = absurd (cc)
+held_length w (k ∷ ks) [] e = absurd (cc)
+held_length w (k ∷ ks) (x ∷ ps) e =
+    held_step k (partials w ks) x ps (label_at w k) (cons_head (mark_of x) (label_at w k) (map mark_of ps) (map (label_at w) ks) e)
+    (held_length w ks ps (cons_tail (mark_of x) (label_at w k) (map mark_of ps) (map (label_at w) ks) e))
+
+-- each of the nodes stands as its Q-shape
+abbrev pub AreShapes : Layout → Marks → List ℕ → List Partial → Type 0
+AreShapes f w [] [] = Unit {0}
+AreShapes f w [] (h ∷ hs) = ⊥
+AreShapes f w (k ∷ ks) [] = ⊥
+AreShapes f w (k ∷ ks) (h ∷ hs) = IsShapeAt f w k h × AreShapes f w ks hs
+
+shape_step : (f : Layout) (w : Marks) (k : ℕ) (ks js : List ℕ) (x : Label) (ps : List Label) (l : Mark) → mark_of x ≡ l →
+    AreShapesAt f w (k ∷ js) (x ∷ ps) → (AreShapesAt f w js ps → AreShapes f w ks (held ps)) → AreShapes f w (partial_then l k ks) (held (x ∷ ps))
+shape_step f w k ks js empty_label ps Empty e s h = h s
+shape_step f w k ks js empty_label ps Partly e s h = absurd (cc)
+shape_step f w k ks js empty_label ps Full e s h = absurd (cc)
+shape_step f w k ks js full_label ps Empty e s h = absurd (cc)
+shape_step f w k ks js full_label ps Partly e s h = absurd (cc)
+shape_step f w k ks js full_label ps Full e s h = h s
+shape_step f w k ks js (partial_label p) ps Empty e s h = absurd (cc)
+shape_step f w k ks js (partial_label p) ps Partly e s h = (s.0, h s.1)
+shape_step f w k ks js (partial_label p) ps Full e s h = absurd (cc)
+
+pub held_shapes : (f : Layout) (w : Marks) (ks : List ℕ) (ps : List Label) → map mark_of ps ≡ map (label_at w) ks → AreShapesAt f w ks ps →
+    AreShapes f w (partials w ks) (held ps)
+held_shapes f w [] [] e s = tt
+held_shapes f w [] (x ∷ ps) e s = absurd s
+held_shapes f w (k ∷ ks) [] e s = absurd s
+held_shapes f w (k ∷ ks) (x ∷ ps) e s =
+    shape_step f w k (partials w ks) ks x ps (label_at w k) (cons_head (mark_of x) (label_at w k) (map mark_of ps) (map (label_at w) ks) e) s
+    (held_shapes f w ks ps (cons_tail (mark_of x) (label_at w k) (map mark_of ps) (map (label_at w) ks) e))
+
+full_step : (k : ℕ) (ks : List ℕ) (l : Mark) → length (full_then l k ks) ≡ full_one l + length ks
+full_step k ks Empty = omega arith
+full_step k ks Partly = omega arith
+full_step k ks Full = omega arith
+
+partial_step : (k : ℕ) (ks : List ℕ) (l : Mark) → length (partial_then l k ks) ≡ partial_one l + length ks
+partial_step k ks Empty = omega arith
+partial_step k ks Partly = omega arith
+partial_step k ks Full = omega arith
+
+pub fulls_length : (w : Marks) (ks : List ℕ) → length (fulls w ks) ≡ sum_by (λ k. full_one (label_at w k)) ks
+fulls_length w [] = refl
+fulls_length w (k ∷ ks) = omega (arith, full_step k (fulls w ks) (label_at w k), fulls_length w ks, sum_by-cons (λ k. full_one (label_at w k)) k ks)
+
+pub partials_length : (w : Marks) (ks : List ℕ) → length (partials w ks) ≡ sum_by (λ k. partial_one (label_at w k)) ks
+partials_length w [] = refl
+partials_length w (k ∷ ks) = omega (arith, partial_step k (partials w ks) (label_at w k), partials_length w ks, sum_by-cons (λ k. partial_one (label_at w k)) k ks)
+
+all_step : (k x : ℕ) (F E H : List ℕ) (l : Mark) →
+    occurs (full_then l k F) x + occurs (empty_then l k E) x + occurs (partial_then l k H) x ≡ occurs (k ∷ []) x + (occurs F x + occurs E x + occurs H x)
+all_step k x F E H Empty = omega arith
+all_step k x F E H Partly = omega arith
+all_step k x F E H Full = omega arith
+
+-- each child is full, empty or partial
+pub all_sorted : (w : Marks) (ks : List ℕ) (x : ℕ) → occurs ks x ≡ occurs (fulls w ks) x + occurs (empties w ks) x + occurs (partials w ks) x
+all_sorted w [] x = refl
+all_sorted w (k ∷ ks) x = omega (arith, all_sorted w ks x, all_step k x (fulls w ks) (empties w ks) (partials w ks) (label_at w k))
+
+count_step : (k : ℕ) (F E H : List ℕ) (l : Mark) →
+    length (full_then l k F) + length (empty_then l k E) + length (partial_then l k H) ≡ 1 + (length F + length E + length H)
+count_step k F E H Empty = omega arith
+count_step k F E H Partly = omega arith
+count_step k F E H Full = omega arith
+
+pub all_counted : (w : Marks) (ks : List ℕ) → length ks ≡ length (fulls w ks) + length (empties w ks) + length (partials w ks)
+all_counted w [] = refl
+all_counted w (k ∷ ks) = omega (arith, all_counted w ks, count_step k (fulls w ks) (empties w ks) (partials w ks) (label_at w k))
+
+full_of : (w : Marks) (k x : ℕ) (F : List ℕ) (l : Mark) → label_at w k ≡ l → 1 ≤ occurs (full_then l k F) x → (1 ≤ occurs F x → label_at w x ≡ Full) → label_at w x ≡ Full
+full_of w k x F Empty e o h = h o
+full_of w k x F Partly e o h = h o
+full_of w k x F Full e o h = elim (cases_eq x k) [
+  | inl q ↦ ap (label_at w) q ∙ e
+  | inr ne ↦ h (subst (λ z. 1 ≤ z) (occurs_other k x F ne) o)
+]
+
+pub full_label_of : (w : Marks) (ks : List ℕ) (x : ℕ) → 1 ≤ occurs (fulls w ks) x → label_at w x ≡ Full
+full_label_of w [] x o = absurd (omega arith)
+full_label_of w (k ∷ ks) x o = full_of w k x (fulls w ks) (label_at w k) refl o (λ q. full_label_of w ks x q)
+
+empty_of : (w : Marks) (k x : ℕ) (F : List ℕ) (l : Mark) → label_at w k ≡ l → 1 ≤ occurs (empty_then l k F) x → (1 ≤ occurs F x → label_at w x ≡ Empty) → label_at w x ≡ Empty
+empty_of w k x F Full e o h = h o
+empty_of w k x F Partly e o h = h o
+empty_of w k x F Empty e o h = elim (cases_eq x k) [
+  | inl q ↦ ap (label_at w) q ∙ e
+  | inr ne ↦ h (subst (λ z. 1 ≤ z) (occurs_other k x F ne) o)
+]
+
+pub empty_label_of : (w : Marks) (ks : List ℕ) (x : ℕ) → 1 ≤ occurs (empties w ks) x → label_at w x ≡ Empty
+empty_label_of w [] x o = absurd (omega arith)
+empty_label_of w (k ∷ ks) x o = empty_of w k x (empties w ks) (label_at w k) refl o (λ q. empty_label_of w ks x q)
+
+partial_of : (w : Marks) (k x : ℕ) (F : List ℕ) (l : Mark) → label_at w k ≡ l → 1 ≤ occurs (partial_then l k F) x → (1 ≤ occurs F x → label_at w x ≡ Partly) → label_at w x ≡ Partly
+partial_of w k x F Full e o h = h o
+partial_of w k x F Empty e o h = h o
+partial_of w k x F Partly e o h = elim (cases_eq x k) [
+  | inl q ↦ ap (label_at w) q ∙ e
+  | inr ne ↦ h (subst (λ z. 1 ≤ z) (occurs_other k x F ne) o)
+]
+
+pub partial_label_of : (w : Marks) (ks : List ℕ) (x : ℕ) → 1 ≤ occurs (partials w ks) x → label_at w x ≡ Partly
+partial_label_of w [] x o = absurd (omega arith)
+partial_label_of w (k ∷ ks) x o = partial_of w k x (partials w ks) (label_at w k) refl o (λ q. partial_label_of w ks x q)
+
+pub no_full : (w : Marks) (ks : List ℕ) (x : ℕ) → (label_at w x ≡ Full → ⊥) → occurs (fulls w ks) x ≡ 0
+no_full w ks x ne = elim (cases_lt 0 (occurs (fulls w ks) x)) [ inl l ↦ absurd (ne (full_label_of w ks x l)) | inr l ↦ omega arith ]
+
+pub no_empty : (w : Marks) (ks : List ℕ) (x : ℕ) → (label_at w x ≡ Empty → ⊥) → occurs (empties w ks) x ≡ 0
+no_empty w ks x ne = elim (cases_lt 0 (occurs (empties w ks) x)) [ inl l ↦ absurd (ne (empty_label_of w ks x l)) | inr l ↦ omega arith ]
+
+pub no_partial : (w : Marks) (ks : List ℕ) (x : ℕ) → (label_at w x ≡ Partly → ⊥) → occurs (partials w ks) x ≡ 0
+no_partial w ks x ne = elim (cases_lt 0 (occurs (partials w ks) x)) [ inl l ↦ absurd (ne (partial_label_of w ks x l)) | inr l ↦ omega arith ]
+
+pub apart_marks : (a b : Mark) (l : Mark) → l ≡ a → l ≡ b → a ≡ b
+apart_marks a b l e q = sym e ∙ q
+
+pub not_full_empty : (l : Mark) → l ≡ Full → l ≡ Empty → ⊥
+not_full_empty l e q = let z : Full ≡ Empty = sym e ∙ q in cc
+
+pub not_full_partial : (l : Mark) → l ≡ Full → l ≡ Partly → ⊥
+not_full_partial l e q = let z : Full ≡ Partly = sym e ∙ q in cc
+
+pub not_empty_partial : (l : Mark) → l ≡ Empty → l ≡ Partly → ⊥
+not_empty_partial l e q = let z : Empty ≡ Partly = sym e ∙ q in cc
+
+-- a full node is among the full ones as often as among all
+pub full_times : (w : Marks) (ks : List ℕ) (x : ℕ) → label_at w x ≡ Full → occurs (fulls w ks) x ≡ occurs ks x
+full_times w ks x e =
+    let a : occurs (empties w ks) x ≡ 0 = no_empty w ks x (not_full_empty (label_at w x) e) in
+    let b : occurs (partials w ks) x ≡ 0 = no_partial w ks x (not_full_partial (label_at w x) e) in
+    omega (arith, all_sorted w ks x)
+
+pub empty_times : (w : Marks) (ks : List ℕ) (x : ℕ) → label_at w x ≡ Empty → occurs (empties w ks) x ≡ occurs ks x
+empty_times w ks x e =
+    let a : occurs (fulls w ks) x ≡ 0 = no_full w ks x (λ q. not_full_empty (label_at w x) q e) in
+    let b : occurs (partials w ks) x ≡ 0 = no_partial w ks x (not_empty_partial (label_at w x) e) in
+    omega (arith, all_sorted w ks x)
+
+pub partial_times : (w : Marks) (ks : List ℕ) (x : ℕ) → label_at w x ≡ Partly → occurs (partials w ks) x ≡ occurs ks x
+partial_times w ks x e =
+    let a : occurs (fulls w ks) x ≡ 0 = no_full w ks x (λ q. not_full_partial (label_at w x) q e) in
+    let b : occurs (empties w ks) x ≡ 0 = no_empty w ks x (λ q. not_empty_partial (label_at w x) q e) in
+    omega (arith, all_sorted w ks x)

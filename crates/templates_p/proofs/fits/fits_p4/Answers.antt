@@ -1,0 +1,7 @@
+use Rattle.templates_p.proofs.Deciding.{p4_decided}
+use Rattle.templates_p.proofs.fits.fits_p4.Goals as goal
+
+pub returns-clause-fits : goal.returns-clause-fits
+returns-clause-fits g c = λ ps m.
+    let d = p4_decided c.args.arena.now c.args.work.now c.args.node.index c.args.root c.survey-seen.result ps c.requires c.survey-seen.ensures.seen m in
+    (λ z. let q = c.at_root.ensures.0 z in d.0 (q.0, c.has_partials.ensures.0 q.1), λ y. let q = d.1 y in c.at_root.ensures.1 (q.0, c.has_partials.ensures.1 q.1))

@@ -1,0 +1,4 @@
+pub mod Sorts
+pub mod Fits
+pub mod Steps
+pub mod Lines

@@ -1,0 +1,54 @@
+// Q1.
+ghost use Rattle.std.specs.Prelude.{◌≡◌, ℕ, ◌+◌, ◌*◌, ◌≤◌, ◌↔◌, IsTrue, List};
+ghost use Rattle.bubble_pass.specs.Marks.{fulls_at, partials_at};
+ghost use Rattle.pq_plain.specs.Templates.{Label};
+ghost use Rattle.template_model.specs.Standing.{IsReady, AreMarkedAs};
+ghost use Rattle.templates_q.specs.Fits.{FitsQ1};
+
+use crate::walk::{Gap, past_fulls};
+use bubble_pass::Work;
+use pq_arena::{Arena, NodeId, Shape};
+use step_count::{Ledger, Steps};
+
+/// Whether Q1 fits at `node`: it is a Q-node, and all its children are full.
+pub fn fits_q1<L: Ledger>(
+    arena: &Arena,
+    work: &Work,
+    node: NodeId,
+    root: bool,
+    steps: &mut Steps<L>,
+) -> bool
+    requires { IsReady arena.now work.now node.index }
+    ensures fits { (ps : List Label) → AreMarkedAs arena.now work.now node.index ps → (IsTrue result ↔ FitsQ1 arena.now node.index ps) }
+    ensures ticks { steps.new ≤ steps.old + 4 * (fulls_at work.now node.index + partials_at work.now node.index + 1) }
+{
+    let _anywhere = root;
+    arena.layout_law();
+    let view = arena.look(node, steps);
+    match view.shape {
+        Shape::Q => {
+            let start = Gap {
+                before: None,
+                next: view.ends[0],
+            };
+            past_fulls(arena, work, start, steps).gap.next.is_none()
+        }
+        Shape::Leaf(_) | Shape::P => false,
+    }
+}
+
+/// Applies Q1, which leaves the arena and the labels as they are.
+pub fn apply_q1<L: Ledger>(
+    arena: &mut Arena,
+    work: &mut Work,
+    node: NodeId,
+    steps: &mut Steps<L>,
+) -> NodeId
+    requires { IsReady arena.old work.old node.index }
+    ensures arena { arena.new ≡ arena.old }
+    ensures work { work.new ≡ work.old }
+    ensures node { result ≡ node }
+    ensures ticks { steps.new ≡ steps.old }
+{
+    node
+}

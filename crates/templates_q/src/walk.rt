@@ -1,0 +1,124 @@
+// Walks along the children of a Q-node.
+ghost use Rattle.std.specs.Prelude.{◌≡◌, ◌≢◌, ℕ, ◌+◌, ◌≤◌, ◌<◌, List, [], ◌∷◌, ◌++◌, length, slice_index_or, None};
+ghost use Rattle.arena_model.specs.Layout.{IsInUse};
+ghost use Rattle.bubble_pass.specs.Marks.{size_of};
+ghost use Rattle.bubble_pass.specs.declared.labels.Label.TheVariants.{Full, Partial};
+ghost use Rattle.templates_q.specs.Walk.{IsGap, IsPassed, IsFirst, full_in, partial_in, IsInRoom, EndsWithout};
+
+use bubble_pass::{Label, Work};
+use pq_arena::{Arena, NodeId, NodeView};
+use step_count::{Ledger, Steps};
+
+// A place between two neighbouring children of a Q-node, as a walk in one direction comes to it: the child that was
+// passed last, and the next one. At an end of the run one of the two is missing.
+#[derive(Clone, Copy)]
+pub struct Gap {
+    pub before: Option<NodeId>,
+    pub next: Option<NodeId>,
+}
+
+// How many children a walk passed, and where it came to.
+#[derive(Clone, Copy)]
+pub struct Passed {
+    pub count: u32,
+    pub gap: Gap,
+}
+
+// This node, if it is full.
+pub fn full_at(work: &Work, n: Option<NodeId>) -> Option<NodeId>
+    requires { IsInRoom work.now n }
+    ensures { result ≡ full_in work.now n }
+{
+    match n {
+        Some(x) => match work.label(x) {
+            Label::Full => Some(x),
+            Label::Empty | Label::Partial => None,
+        },
+        None => None,
+    }
+}
+
+// This node, if it is partial.
+pub fn partial_at(work: &Work, n: Option<NodeId>) -> Option<NodeId>
+    requires { IsInRoom work.now n }
+    ensures { result ≡ partial_in work.now n }
+{
+    match n {
+        Some(x) => match work.label(x) {
+            Label::Partial => Some(x),
+            Label::Empty | Label::Full => None,
+        },
+        None => None,
+    }
+}
+
+// The neighbour that is not the one before.
+fn beyond(view: &NodeView, before: Option<NodeId>) -> Option<NodeId>
+    ensures back { slice_index_or view.now.near 0 None ≡ before → result ≡ slice_index_or view.now.near 1 None }
+    ensures on { slice_index_or view.now.near 0 None ≢ before → result ≡ slice_index_or view.now.near 0 None }
+{
+    if view.near[0] == before {
+        view.near[1]
+    } else {
+        view.near[0]
+    }
+}
+
+// The place behind the child `x`, which is next.
+fn past<L: Ledger>(arena: &Arena, from: Gap, x: NodeId, steps: &mut Steps<L>) -> Gap
+    requires { IsInUse arena.now x.index }
+    ensures passed { (q : ℕ) (us vs : List ℕ) → IsFirst arena.now q us x.index vs from → IsGap arena.now q (us ++ x.index ∷ []) vs result }
+    ensures ticks { steps.new ≡ steps.old + 1 }
+{
+    arena.layout_law();
+    let view = arena.look(x, steps);
+    Gap {
+        before: Some(x),
+        next: beyond(&view, from.before),
+    }
+}
+
+// Passes the full children that come next.
+pub fn past_fulls<L: Ledger>(arena: &Arena, work: &Work, from: Gap, steps: &mut Steps<L>) -> Passed
+    requires room { size_of work.now ≡ length arena.now.slots }
+    requires place { (q : ℕ) × (us : List ℕ) × (vs : List ℕ) × IsGap arena.now q us vs from }
+    ensures passed { (q : ℕ) (us vs : List ℕ) → IsGap arena.now q us vs from → IsPassed Full arena.now work.now q us vs result }
+    ensures stops { (q : ℕ) (us vs : List ℕ) → IsGap arena.now q us vs result.gap → EndsWithout Full work.now vs }
+    ensures ticks { steps.new ≡ steps.old + result.count }
+{
+    arena.layout_law();
+    let mut gap = from;
+    let mut count = 0;
+    while let Some(x) = full_at(work, gap.next) {
+        gap = past(arena, gap, x, steps);
+        count += 1;
+    }
+    Passed { count, gap }
+}
+
+// Passes the partial child that comes next, if there is one.
+pub fn past_partial<L: Ledger>(
+    arena: &Arena,
+    work: &Work,
+    from: Gap,
+    steps: &mut Steps<L>,
+) -> Passed
+    requires room { size_of work.now ≡ length arena.now.slots }
+    requires place { (q : ℕ) × (us : List ℕ) × (vs : List ℕ) × IsGap arena.now q us vs from }
+    ensures passed { (q : ℕ) (us vs : List ℕ) → IsGap arena.now q us vs from → IsPassed Partial arena.now work.now q us vs result }
+    ensures stops { (q : ℕ) (us vs : List ℕ) → result.count ≡ 0 → IsGap arena.now q us vs result.gap → EndsWithout Partial work.now vs }
+    ensures one { result.count ≤ 1 }
+    ensures ticks { steps.new ≡ steps.old + result.count }
+{
+    arena.layout_law();
+    match partial_at(work, from.next) {
+        Some(x) => Passed {
+            count: 1,
+            gap: past(arena, from, x, steps),
+        },
+        None => Passed {
+            count: 0,
+            gap: from,
+        },
+    }
+}
