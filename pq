@@ -9,5 +9,5 @@ is_fresh() {
         [ -z "$(find "$home/crates" "$home/crates.txt" -name out -prune -o \( -name '*.rt' -o -name '*.antt' -o -name crates.txt \) -newer "$program" -print -quit)" ]
 }
 
-is_fresh || python3 "$home/scripts/build.py" </dev/null || exit
+is_fresh || exec python3 "$home/scripts/build.py" run "$@"
 exec "$program" "$@"

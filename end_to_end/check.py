@@ -1,14 +1,15 @@
 #!/usr/bin/env python3
 """Runs the built program over real files, streams and devices, and compares bytes and status; has it check what it solved, also at the
 limits; runs the commands of the pages; compares the answer on every small instance with a plain program that tries all orders, and has
-the verdict checked; compares the judgement on changed verdicts and the refusals of changed files with a second checker; and compares
-generated matrices and sessions with plain programs of their rules.
+the verdict checked; compares the judgement on changed verdicts and the refusals of changed files with a second checker; compares generated
+matrices and sessions with plain programs of their rules; bounds what hostile files cost; and tries the first call of `./pq`.
 
 Usage: end_to_end/check.py            after `rt ci` or `./pq`, which leave the program in crates/pq/out/pq
 The last line is `N passed, N failed`; the status is 0 where nothing failed.
 """
 
 import concurrent.futures
+import itertools
 import os
 import shutil
 import subprocess
@@ -16,15 +17,19 @@ import sys
 import tempfile
 
 import all_kinds
+import first_call
 import forgeries
 from cases import CASES, REFUTED
 from file_readers import Limits
+from forged import FORGED_CASES
 from graph_kinds import GRAPH_CASES, GRAPH_SOLVED
+from hostile import hostile_problems
 from kinds import KIND_CASES, SOLVED
 from limits import AT_LIMITS
 from pages import loose_commands, page_problems, pages
 from program import HOME, PROGRAM, SECONDS, run, run_over
 from sessions import SESSION_CASES, drawn, extend_problem, gen_problem, sessions
+from streams import difference, streams
 
 NOBODY = 65534
 
@@ -45,17 +50,6 @@ class Report:
             print(f"FAILED {name}: {problem}")
 
 
-def difference(what, wanted, given):
-    """How two values differ, or None."""
-    return None if wanted == given else f"{what} {shown(given)}, wanted {shown(wanted)}"
-
-
-def shown(value):
-    """A value for a message, cut to a readable length."""
-    text = repr(value)
-    return text if len(text) <= 300 else f"{text[:300]}.. ({len(text)} characters)"
-
-
 def run_case(case, folder, program):
     """Runs one case in a folder of its own, and says what is wrong with it, or None."""
     for name, content in case.get("files", {}).items():
@@ -72,67 +66,6 @@ def run_case(case, folder, program):
     return (difference("status", case["status"], done.returncode)
             or difference("output", case.get("out", b""), done.stdout)
             or difference("errors", case.get("err", b""), done.stderr))
-
-
-def full_device(folder, program):
-    """Standard output on a device that is full: status 5 and its line."""
-    with open("/dev/full", "wb") as full:
-        done = subprocess.run([program, "solve", "matrix", "-"], input=b"11\n", stdout=full,
-                              stderr=subprocess.PIPE, cwd=folder, timeout=SECONDS, check=False)
-    return difference("status", 5, done.returncode) or difference("errors", b"pq: write fault\n", done.stderr)
-
-
-def closed_pipe(folder, program):
-    """Standard output on a pipe that nobody reads: status 5, and no signal's death."""
-    reader, writer = os.pipe()
-    os.close(reader)
-    try:
-        done = subprocess.run([program, "solve", "matrix", "-"], input=b"11\n", stdout=writer,
-                              stderr=subprocess.PIPE, cwd=folder, timeout=SECONDS, check=False)
-    finally:
-        os.close(writer)
-    return difference("status", 5, done.returncode) or difference("errors", b"pq: write fault\n", done.stderr)
-
-
-def closed_errors(folder, program):
-    """Standard error on a full device: the status stays."""
-    with open("/dev/full", "wb") as full:
-        done = subprocess.run([program], stdout=subprocess.PIPE, stderr=full, cwd=folder, timeout=SECONDS, check=False)
-    return difference("status", 2, done.returncode) or difference("output", b"", done.stdout)
-
-
-def script_runs(folder, program):
-    """The script at the root hands words, input, output and status through."""
-    del program
-    script = os.path.join(HOME, "pq")
-    nested = os.path.join(HOME, "examples", "nested.txt")
-    with open(nested, "rb") as file:
-        content = file.read()
-    from_file = subprocess.run([script, "solve", "matrix", nested], capture_output=True, cwd=folder, check=False)
-    from_input = subprocess.run([script, "solve", "matrix", "-"], input=content, capture_output=True, cwd=folder,
-                                check=False)
-    refused = subprocess.run([script, "solve", "matrix", "missing file"], capture_output=True, cwd=folder, check=False)
-    with open(os.path.join(HOME, "crates", "pq", "stdout"), "rb") as file:
-        wanted = file.read()
-    return (difference("output from the file", wanted, from_file.stdout)
-            or difference("output from standard input", wanted, from_input.stdout)
-            or difference("status", (0, 0, 4), (from_file.returncode, from_input.returncode, refused.returncode))
-            or difference("errors", b"pq: read fault\n", refused.stderr))
-
-
-def odd_path(folder, program):
-    """A program whose own path is no UTF-8, and one that is called through a link: only the words after the name count."""
-    place = os.path.join(os.fsencode(folder), b"\xff")
-    os.mkdir(place)
-    copied = shutil.copy(program, os.path.join(place, b"p\xfeq"))
-    linked = os.path.join(place, b"-q")
-    os.symlink(copied, linked)
-    for path in [copied, linked]:
-        done = subprocess.run([path, "solve", "matrix", "-"], input=b"1\n", capture_output=True, timeout=SECONDS, check=False)
-        problem = difference("status", 0, done.returncode) or difference("errors", b"", done.stderr)
-        if problem:
-            return problem
-    return None
 
 
 def not_believed(kind, content):
@@ -154,13 +87,10 @@ def example(name):
         return file.read()
 
 
-STREAMS = [full_device, closed_pipe, closed_errors, script_runs, odd_path]
-
-
 def in_folders(report, top, program):
     """The cases and the streams, each in a folder of its own."""
-    tried = [(case["name"], run_case, case) for case in CASES + KIND_CASES + GRAPH_CASES + SESSION_CASES]
-    tried += [(stream.__name__, lambda _, *given, stream=stream: stream(*given), None) for stream in STREAMS]
+    tried = [(case["name"], run_case, case) for case in CASES + KIND_CASES + GRAPH_CASES + SESSION_CASES + FORGED_CASES]
+    tried += [(name, lambda _, *given, stream=stream: stream(*given), None) for name, stream in streams()]
     for number, (name, check, case) in enumerate(tried):
         folder = os.path.join(top, str(number))
         os.mkdir(folder)
@@ -216,7 +146,7 @@ def main():
         in_folders(report, top, program)
         on_pages(report, top, program)
     side_by_side(report, without_folders())
-    for name, problem in forgeries.compared(Limits()):
+    for name, problem in itertools.chain(forgeries.compared(Limits()), hostile_problems(), first_call.problems()):
         report.tell(name, problem)
     print(f"{report.passed} passed, {report.failed} failed")
     return 1 if report.failed else 0

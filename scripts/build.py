@@ -1,13 +1,14 @@
 #!/usr/bin/env python3
 """Proves and builds the program: each crate as soon as those that it stands on are built, as many side by side as there are processors.
 
-Usage: scripts/build.py     `./pq` calls it where the program is missing or older than a source
+Usage: scripts/build.py [run WORDS]     `./pq` calls it where the program is missing or older than a source, and has it run afterwards
 
 It tells each crate on standard error as it begins. What was built stays: a call after an interrupted one goes on where that one stopped,
-and a second call at the same time waits for the first. The status is 0, or 70 where a crate isn't proved, after the prover's own words,
-or 130 where it was interrupted.
+and a second call at the same time waits for the first. The status is that of the run, or 0 without one; 70 where a crate isn't proved,
+after the prover's own words, or where the toolchain is missing; 130 where it was interrupted.
 """
 
+import contextlib
 import fcntl
 import os
 import signal
@@ -22,7 +23,10 @@ PROGRAM = "pq"
 TRIAL = ["gen", "0", "1", "0"]
 FAILED = 70
 INTERRUPTED = 130
+# A terminal that is closed sends the first, Ctrl-C the second, and `kill` the third.
+INTERRUPTIONS = [signal.SIGHUP, signal.SIGINT, signal.SIGTERM]
 BYTES_A_CRATE = 3 << 30
+SECONDS_BETWEEN_LOOKS = 0.05
 
 
 def folder_of(crate):
@@ -108,8 +112,10 @@ class Building:
 
 
 def tell(text):
-    """A line for the user."""
-    print(f"pq: {text}", file=sys.stderr, flush=True)
+    """A line for the user, where standard error is open and takes it."""
+    if sys.stderr is not None:
+        with contextlib.suppress(OSError):
+            print(text, file=sys.stderr, flush=True)
 
 
 def build(crates, names, running):
@@ -120,7 +126,7 @@ def build(crates, names, running):
         ready = sorted((one for one in waiting if built.issuperset(crates[one])), key=chain.get, reverse=True)
         for crate in ready[:side_by_side() - len(running)]:
             begun += 1
-            tell(f"proving {crate} ({begun} of {len(names)})")
+            tell(f"pq: proving {crate} ({begun} of {len(names)})")
             waiting.remove(crate)
             running.append(Building(crate))
         ended = [one for one in running if one.has_ended()]
@@ -130,44 +136,75 @@ def build(crates, names, running):
                 return one
             built.add(one.crate)
         if not ended:
-            time.sleep(0.2)
+            time.sleep(SECONDS_BETWEEN_LOOKS)
     return None
 
 
-def in_turn():
-    """Waits until no other call builds, and holds the turn as long as the file that it gives is open."""
-    folder = os.path.join(folder_of(PROGRAM), "out")
-    os.makedirs(folder, exist_ok=True)
-    turn = open(os.path.join(folder, "building"), "w", encoding="utf-8")
-    try:
-        fcntl.flock(turn, fcntl.LOCK_EX | fcntl.LOCK_NB)
-    except BlockingIOError:
-        tell("another call is building the program; waiting for it")
-        fcntl.flock(turn, fcntl.LOCK_EX)
-    return turn
-
-
-def main():
-    signal.signal(signal.SIGTERM, signal.default_int_handler)
+def build_all():
+    """Builds the program, and gives the status. What still runs at the end is ended, whatever the end is."""
     running = []
     try:
-        with in_turn():
-            crates = stands_on()
-            failed = build(crates, needed(crates, PROGRAM), running)
-    except KeyboardInterrupt:
-        tell("stopped; the next call goes on from here")
-        return INTERRUPTED
+        crates = stands_on()
+        failed = build(crates, needed(crates, PROGRAM), running)
+    except FileNotFoundError as error:
+        tell(f"pq: the toolchain of Rattle is missing: {error}")
+        return FAILED
     finally:
         for one in running:
             one.stop()
     if failed:
-        sys.stderr.write(failed.words())
-        tell(f"the crate {failed.crate} could not be proved and built")
+        tell(failed.words().rstrip("\n"))
+        tell(f"pq: the crate {failed.crate} could not be proved and built")
         return FAILED
     # A program that was built before of the same sources is younger than they are again.
-    os.utime(os.path.join(folder_of(PROGRAM), "out", PROGRAM))
+    os.utime(program_file())
     return 0
 
 
+def program_file():
+    """The built program."""
+    return os.path.join(folder_of(PROGRAM), "out", PROGRAM)
+
+
+def in_turn():
+    """Waits until no other call builds. The turn lasts as long as the file is open; besides it, whether there was another call."""
+    folder = os.path.dirname(program_file())
+    os.makedirs(folder, exist_ok=True)
+    turn = open(os.path.join(folder, "building"), "w", encoding="utf-8")
+    try:
+        fcntl.flock(turn, fcntl.LOCK_EX | fcntl.LOCK_NB)
+        return turn, False
+    except BlockingIOError:
+        tell("pq: another call is building the program; waiting for it")
+        fcntl.flock(turn, fcntl.LOCK_EX)
+        return turn, True
+
+
+def run_instead(program, words):
+    """Runs a program in the place of this one, with the signals as they are by default."""
+    signal.signal(signal.SIGPIPE, signal.SIG_DFL)
+    for number in INTERRUPTIONS:
+        if signal.getsignal(number) is not signal.SIG_IGN:
+            signal.signal(number, signal.SIG_DFL)
+    os.execv(program, [program, *words])
+
+
+def main(words):
+    for number in INTERRUPTIONS:
+        if signal.getsignal(number) is not signal.SIG_IGN:
+            signal.signal(number, signal.default_int_handler)
+    try:
+        turn, has_waited = in_turn()
+        with turn:
+            status = 0 if has_waited and words else build_all()
+    except KeyboardInterrupt:
+        tell("pq: stopped; the next call goes on from here")
+        return INTERRUPTED
+    if status == 0 and words:
+        # Where another call built the program, or was interrupted, `./pq` looks whether something is left to do.
+        run_instead(os.path.join(HOME, PROGRAM) if has_waited else program_file(), words[1:])
+    return status
+
+
 if __name__ == "__main__":
-    sys.exit(main())
+    sys.exit(main(sys.argv[1:]))

@@ -18,7 +18,7 @@ import sys
 
 HOME = os.path.dirname(os.path.dirname(os.path.abspath(__file__)))
 # The crates whose definitions everything shares; docs/DECISIONS.md says why they offer their lemmas too.
-SHARED_PROOFS = {"column_order", "plain_text", "row_model", "pq_tree", "tied_law", "arena_model"}
+SHARED_PROOFS = {"column_order", "plain_text", "row_model", "pq_tree", "tied_law", "arena_model", "template_model"}
 COUNTERS = {"step_count", "pq_cli"}
 PYTHON = ["end_to_end", "bench", "scripts"]
 

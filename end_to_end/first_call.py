@@ -1,0 +1,279 @@
+#!/usr/bin/env python3
+"""The first call of `./pq`, which proves and builds the program: that it goes on after an interruption, waits for another such call, tells
+what is not proved, and leaves words, streams and status alone.
+
+Usage: end_to_end/first_call.py
+
+It is tried in a copy of what the call reads, with a stand-in for the toolchain: a script that takes a moment for each crate, keeps what it
+made, works in one folder one at a time as the toolchain does, and notes when it begins and ends. So the checks take seconds, and say
+nothing of proofs.
+The last line is `N passed, N failed`; the status is 0 where nothing failed.
+"""
+
+import os
+import shutil
+import signal
+import subprocess
+import sys
+import tempfile
+import time
+
+from program import HOME
+
+SECONDS = 60
+# The crates of the copy, each with those that it stands on: two chains that meet.
+CRATES = {"low": [], "left": ["low"], "right": ["low"], "far": ["right"], "pq": ["left", "far", "csv"]}
+LISTED = "# Each crate with those that it stands on.\n" + "".join(f"{name}: {' '.join(below)}\n" for name, below in CRATES.items())
+TOOLCHAIN = """#!/usr/bin/env python3
+import fcntl, os, sys, time
+top, crate = os.path.dirname(os.path.dirname(os.getcwd())), os.path.basename(os.getcwd())
+
+def note(what):
+    with open(os.path.join(top, "notes"), "a") as notes:
+        notes.write(f"{what} {crate}\\n")
+
+os.makedirs("out", exist_ok=True)
+folder = os.open(".", os.O_RDONLY)
+fcntl.flock(folder, fcntl.LOCK_EX)
+source = open("src/lib.rt").read()
+if "unproved" in source:
+    print("error: the clause `sorted` is not proved\\nrt: not proved")
+    sys.exit(1)
+if not os.path.exists("out/kept") or open("out/kept").read() != source:
+    note("begins")
+    time.sleep(float(open(os.path.join(top, "seconds")).read()))
+    open("out/kept", "w").write(source)
+    note("ends")
+if sys.argv[1] == "run":
+    with open("out/new", "w") as program:
+        program.write('#!/bin/sh\\nprintf "%s." "$@"; cat; echo to errors >&2; exit 7\\n')
+    os.chmod("out/new", 0o755)
+    os.rename("out/new", "out/pq")
+"""
+# What `./pq` runs besides the toolchain.
+TOOLS = ["sh", "cat", "dirname", "find", "python3", "readlink"]
+
+
+class Copy:
+    """A copy of what the first call reads, in a folder, with the stand-in for the toolchain."""
+
+    def __init__(self, folder, seconds):
+        self.folder = folder
+        os.makedirs(self.path("scripts"))
+        shutil.copy(os.path.join(HOME, "pq"), self.path("pq"))
+        shutil.copy(os.path.join(HOME, "scripts", "build.py"), self.path("scripts", "build.py"))
+        self.write("crates.txt", LISTED)
+        self.write("seconds", str(seconds))
+        self.write("notes", "")
+        for name in CRATES:
+            os.makedirs(self.path("crates", name, "src"))
+            self.write_source(name, f"{name}\n")
+        os.mkdir(self.path("bin"))
+        for tool in TOOLS:
+            os.symlink(shutil.which(tool), self.path("bin", tool))
+        self.write(os.path.join("bin", "rt"), TOOLCHAIN)
+        os.chmod(self.path("bin", "rt"), 0o755)
+
+    def path(self, *names):
+        """A path in the folder."""
+        return os.path.join(self.folder, *names)
+
+    def write(self, name, text):
+        """Writes a file of the folder."""
+        with open(self.path(name), "w", encoding="utf-8") as stream:
+            stream.write(text)
+
+    def write_source(self, crate, text):
+        """Writes the source of a crate."""
+        self.write(os.path.join("crates", crate, "src", "lib.rt"), text)
+
+    def notes(self):
+        """What the stand-in noted so far."""
+        with open(self.path("notes"), encoding="utf-8") as stream:
+            return stream.read().splitlines()
+
+    def start(self, *words):
+        """A call that is begun. It leads a group of its own, as at a terminal."""
+        return self.start_as([self.path("pq"), *words])
+
+    def start_as(self, command):
+        """A command that is begun, by which only the tools of the folder are found."""
+        return subprocess.Popen(command, env={**os.environ, "PATH": self.path("bin")}, stdin=subprocess.PIPE, stdout=subprocess.PIPE,
+                                stderr=subprocess.PIPE, start_new_session=True)
+
+    def wait_for(self, note):
+        """Waits until the stand-in has noted this."""
+        end = time.monotonic() + SECONDS
+        while note not in self.notes() and time.monotonic() < end:
+            time.sleep(0.01)
+
+    def works_on(self):
+        """The crates that the stand-in works on."""
+        notes = [note.split() for note in self.notes()]
+        return sorted(name for name in CRATES if [what for what, of in notes if of == name][-1:] == ["begins"])
+
+
+def ended(call, content=b"in"):
+    """What a call gave: its status, its output, and its errors."""
+    output, errors = call.communicate(content, timeout=SECONDS)
+    return call.returncode, output, (errors or b"").decode()
+
+
+def answer_problem(given, words):
+    """What is wrong with what a call gave whose program ran on these words, or None. What it told before is in the errors."""
+    status, output, errors = given
+    wanted = (7, b"".join(os.fsencode(word) + b"." for word in words) + b"in", True)
+    return None if (status, output, errors.endswith("to errors\n")) == wanted else f"{given}"
+
+
+def told_problem(errors, crates):
+    """What is wrong with the lines about these crates, or None: one line for each, numbered from 1, each after those that it stands on."""
+    lines = [line.split() for line in errors.splitlines() if line.startswith("pq: proving ")]
+    names = [line[2] for line in lines]
+    numbers = [" ".join(line[3:]) for line in lines]
+    fits = sorted(names) == sorted(crates) and numbers == [f"({number} of {len(CRATES)})" for number in range(1, len(lines) + 1)]
+    in_turn = all(names.index(below) < names.index(name) for name in names for below in CRATES[name] if below in names)
+    return None if fits and in_turn else errors
+
+
+def once_problem(copy):
+    """What is wrong with the work that was done in all, or None: each crate was proved once to its end."""
+    ends = sorted(note for note in copy.notes() if note.startswith("ends "))
+    return None if ends == sorted(f"ends {name}" for name in CRATES) else f"{copy.notes()}"
+
+
+def from_nothing(copy):
+    """A first call tells each crate, builds two side by side, and runs the program; a second one runs it at once."""
+    words = ["solve", "a b", "", os.fsdecode(b"\xff")]
+    given = ended(copy.start(*words))
+    notes = copy.notes()
+    side_by_side = len(os.sched_getaffinity(0)) == 1 or max(notes.index("begins left"), notes.index("begins right")) < min(
+        notes.index("ends left"), notes.index("ends right"))
+    again = ended(copy.start("-"))
+    return (answer_problem(given, words) or told_problem(given[2], CRATES) or once_problem(copy)
+            or (None if side_by_side else f"one after another: {notes}")
+            or (None if again == (7, b"-.in", "to errors\n") else f"the second call: {again}"))
+
+
+def interrupted(number, is_whole_group, copy):
+    """A call that is ended by a signal while it builds, and then a second one, which goes on."""
+    first = copy.start("a")
+    copy.wait_for("ends low")
+    copy.wait_for("begins right")
+    (os.killpg if is_whole_group else os.kill)(first.pid, number)
+    status, output, errors = ended(first)
+    left = copy.works_on() if number != signal.SIGKILL else []
+    second = ended(copy.start("a"))
+    wanted = -signal.SIGKILL if number == signal.SIGKILL else 130
+    return ((None if (status, output) == (wanted, b"") else f"the first call: {status} {output} {errors}")
+            or (None if number == signal.SIGKILL or errors.endswith("pq: stopped; the next call goes on from here\n") else errors)
+            or (None if not copy.works_on() else f"at work after both calls: {left}, {copy.works_on()}")
+            or answer_problem(second, "a") or told_problem(second[2], CRATES) or twice_problem(copy, ["low"]))
+
+
+def twice_problem(copy, done):
+    """What is wrong with the work that was done in all, or None: what was done when the first call ended was not done again."""
+    begun = [name for name in done if copy.notes().count(f"begins {name}") != 1]
+    return f"done twice: {begun}" if begun else once_problem(copy)
+
+
+def two_at_once(copy):
+    """Two first calls at the same time: each crate is proved once, and both run the program on their own words."""
+    calls = [copy.start("a"), copy.start("b")]
+    given = [ended(call) for call in calls]
+    waits = "pq: another call is building the program; waiting for it\n"
+    return (answer_problem(given[0], "a") or answer_problem(given[1], "b") or once_problem(copy)
+            or (None if copy.notes().count("begins low") == 1 else f"{copy.notes()}")
+            or (None if sorted(waits in errors for _, _, errors in given) == [False, True] else f"{given}"))
+
+
+def first_of_two_killed(copy):
+    """A call that waits for another one builds the program itself where that one is killed."""
+    first = copy.start("a")
+    copy.wait_for("begins low")
+    second = copy.start("b")
+    time.sleep(0.2)
+    os.kill(first.pid, signal.SIGKILL)
+    ended(first)
+    given = ended(second)
+    return answer_problem(given, "b") or once_problem(copy)
+
+
+def not_proved(copy):
+    """A crate that is not proved is named after the prover's own words; once it is mended the next call goes on."""
+    copy.write_source("right", "unproved\n")
+    status, output, errors = ended(copy.start("a"))
+    copy.write_source("right", "right\n")
+    second = ended(copy.start("a"))
+    tail = "error: the clause `sorted` is not proved\nrt: not proved\npq: the crate right could not be proved and built\n"
+    return ((None if (status, output) == (70, b"") and errors.endswith(tail) else f"{status} {output} {errors}")
+            or (None if not copy.works_on() else f"at work: {copy.works_on()}")
+            or answer_problem(second, "a") or twice_problem(copy, ["low"]))
+
+
+def edited(copy):
+    """After an edit the next call proves what changed, and tells each crate again."""
+    ended(copy.start("a"))
+    time.sleep(0.05)
+    copy.write_source("far", "far again\n")
+    given = ended(copy.start("a"))
+    again = [note for note in copy.notes() if note.startswith("begins")][len(CRATES):]
+    return answer_problem(given, "a") or told_problem(given[2], CRATES) or (None if again == ["begins far"] else f"{again}")
+
+
+def no_toolchain(copy):
+    """Without the toolchain the status is 70, with one line."""
+    os.remove(copy.path("bin", "rt"))
+    status, output, errors = ended(copy.start("a"))
+    fits = (status, output) == (70, b"") and errors.splitlines()[-1].startswith("pq: the toolchain of Rattle is missing")
+    return None if fits and "Traceback" not in errors else f"{status} {output} {errors}"
+
+
+def closed(number, copy):
+    """One of the three streams is closed: nothing that is told goes to another one, and the program finds it closed."""
+    status, output, errors = ended(copy.start_as(["sh", "-c", f'exec "$@" {number}>&-', "", copy.path("pq"), "a"]))
+    wanted = {0: (7, b"a."), 1: (7, b""), 2: (7, b"a.in")}[number]
+    tells = number == 2 or errors.count("pq: proving ") == len(CRATES)
+    return None if (status, output) == wanted and tells else f"{status} {output} {errors}"
+
+
+def named(check):
+    """What a check shows, in the words of its first line."""
+    return check.__doc__.split(":")[0].split(".")[0]
+
+
+def checks():
+    """Each check, with its name and the seconds that the stand-in takes for a crate."""
+    for check, seconds in [(from_nothing, 0.5), (two_at_once, 0.3), (first_of_two_killed, 0.3), (not_proved, 0.2), (edited, 0), (no_toolchain, 0)]:
+        yield named(check), check, seconds
+    for number in (signal.SIGINT, signal.SIGTERM, signal.SIGHUP, signal.SIGKILL):
+        for is_whole_group in (False, True):
+            name = f"{number.name} to {'the group of the call' if is_whole_group else 'the call alone'}"
+            yield name, lambda copy, given=(number, is_whole_group): interrupted(*given, copy), 0.3
+    for number, stream in enumerate(["standard input", "standard output", "standard error"]):
+        yield f"{stream} is closed", lambda copy, number=number: closed(number, copy), 0
+
+
+def problems():
+    """Each check with what is wrong, or None."""
+    for name, check, seconds in checks():
+        with tempfile.TemporaryDirectory() as folder:
+            try:
+                problem = check(Copy(os.path.join(folder, "copy"), seconds))
+            except subprocess.TimeoutExpired:
+                problem = f"no end within {SECONDS} seconds"
+        yield f"first call: {name}", problem
+
+
+def main():
+    found = list(problems())
+    for name, problem in found:
+        if problem is not None:
+            print(f"FAILED {name}: {problem}")
+    failed = sum(problem is not None for _, problem in found)
+    print(f"{len(found) - failed} passed, {failed} failed")
+    return 1 if failed else 0
+
+
+if __name__ == "__main__":
+    sys.exit(main())

@@ -1,0 +1,165 @@
+"""Files made to cost much: each ends with its status within a bound of processor time, and of memory by the bytes that it was handed.
+
+The bound on memory is twelve times the bytes beside what the program itself takes; README allows more for many small values, and names the
+one file that takes more still.
+"""
+
+import os
+import subprocess
+import sys
+import tempfile
+
+from cases import LIMIT, VERDICT_LIMIT
+from program import HOME, PROGRAM
+
+COLUMNS = 2_048
+MOST_SECONDS = 5
+MOST_TIMES = 12
+# The program, the C library and the room for one read, or the small program that starts it.
+BASE_BYTES = 16 << 20
+# What README allows beside the bytes of files that are full of small values.
+CROWDED_BYTES = 256 << 20
+# What the kit's reader of JSON takes for arrays of one array each, within one another.
+NESTED_BYTES = 50 * LIMIT
+COST = os.path.join(HOME, "end_to_end", "cost.py")
+MATRIX = b"110\n011\n"
+HEAD = b"pq-verdict 1\nkind matrix\ncolumns 3\nanswer "
+NO = HEAD + b"no\nside 1\n"
+YES = HEAD + b"yes\ntree "
+CLONES = b'{"probes":["a"],"clones":['
+
+
+def filled(start, piece, end=b"", length=LIMIT):
+    """A start and an end with as many pieces between them as the length has room for."""
+    return start + piece * ((length - len(start) - len(end)) // len(piece)) + end
+
+
+def verdicts():
+    """Verdicts of the greatest length, each with what it is made of. None is in the grammar, and each is told at another place."""
+    yield "round brackets", filled(YES, b"(", length=VERDICT_LIMIT)
+    yield "square brackets", filled(YES, b"[", length=VERDICT_LIMIT)
+    yield "nodes of two", filled(YES, b"(1 ", length=VERDICT_LIMIT)
+    yield "closing brackets", filled(YES, b")", length=VERDICT_LIMIT)
+    yield "digits in a tree", filled(YES, b"9", length=VERDICT_LIMIT)
+    yield "digits in an order", filled(YES + b"(1 2 3)\norder ", b"9", length=VERDICT_LIMIT)
+    yield "an order without an end", filled(YES + b"(1 2 3)\norder 1", b" 1", length=VERDICT_LIMIT)
+    yield "an order of many columns that is followed by nothing", filled(YES + b"(1 2 3)\norder 1", b" 1", b"\n", length=VERDICT_LIMIT)
+    yield "one line", filled(b"", b"x", length=VERDICT_LIMIT)
+    yield "lines", filled(b"", b"\n", length=VERDICT_LIMIT)
+    yield "zeros", filled(b"", b"\0", length=VERDICT_LIMIT)
+    yield "the greatest number of lines of a cycle, and as many as there is room for", filled(NO + b"cycle 4294967295\n", b"1 2 flip\n", length=VERDICT_LIMIT)
+    yield "the greatest number of lines of a cycle, and one long line", filled(NO + b"cycle 4294967295\n", b"1", length=VERDICT_LIMIT)
+    yield "the greatest number of lines of a cycle", NO + b"cycle 4294967295\n"
+    yield "the greatest number of places", b"pq-verdict 1\nkind clones\ncolumns 1\nanswer yes\ntree 1\norder 1\nplaces 4294967295\n"
+    yield "the greatest number of contigs", b"pq-verdict 1\nkind clones\ncolumns 1\nanswer yes\ntree 1\norder 1\nplaces 0\ncontigs 4294967295\n"
+
+
+def long_cycle():
+    """A verdict in the grammar with as many lines of a cycle as it has room for; the first pair comes twice, or the length is even."""
+    lines = (VERDICT_LIMIT - len(NO) - 30) // len(b"1 2 flip\n")
+    return NO + b"cycle %d\n" % lines + b"1 2 flip\n" * lines + b"end\n", lines
+
+
+def refused_files():
+    """Instances of the greatest length, each with its kind, what it is made of, and the code and the line of its refusal."""
+    yield "clones", "nested arrays", filled(b"", b"["), (9, 0)
+    yield "clones", "nested arrays within a clone", filled(CLONES, b"["), (9, 0)
+    yield "clones", "nested objects", filled(b"", b'{"a":'), (9, 0)
+    yield "clones", "one long string", filled(b'"', b"a", b'"'), (10, 0)
+    yield "clones", "one long string without an end", filled(b'"', b"a"), (9, 0)
+    yield "clones", "escapes", filled(b'"', b"\\u0061", b'"'), (10, 0)
+    yield "clones", "short escapes", filled(b'"', b"\\n", b'"'), (10, 0)
+    yield "clones", "a long name of a probe that is not there", filled(CLONES + b'{"probes":["', b"\\u0061", b'"]}]}'), (4, 1)
+    yield "clones", "digits", filled(b"", b"9"), (9, 0)
+    yield "table", "one column", filled(b"t\n", b"x\n"), (1, 1)
+    yield "table", "quotes", filled(b"", b'"'), (1, 1)
+    yield "table", "short records", filled(b"t,a,b\n", b"x\n"), (8, 0)
+    yield "rows", "digits", filled(b"", b"9"), (7, 1)
+    yield "rows", "lines", filled(b"1\n", b"\n"), (7, 131_074)
+    yield "matrix", "ones", filled(b"", b"1"), (7, 1)
+    yield "matrix", "rows of one column", filled(b"", b"1\n"), (7, 131_073)
+    yield "proper", "digits", filled(b"", b"9"), (7, 1)
+    yield "robinson", "digits", filled(b"1\n", b"9"), (4, 2)
+
+
+def solved_files():
+    """Instances of the greatest length that have a valid order, each with its kind and what it is made of."""
+    record = b"r" + b"," * COLUMNS + b"\n"
+    yield "table", "2,048 empty columns", filled(b"t" + b"," * COLUMNS + b"\n", record)
+    yield "table", "2,048 empty columns and short names", filled(b"t" + b"," * COLUMNS + b"\n", b"," * COLUMNS + b"\n")
+    yield "table", "a long cell", filled(b"t,a\nx,", b"0", b"1\n")
+    yield "clones", "a long string that is passed over", filled(b'{"probes":["a"],"clones":[],"more":"', b"\\u0061", b'"}')
+    yield "clones", "a probe of escapes", filled(b'{"probes":["', b"\\u0061", b'"],"clones":[]}')
+    yield "rows", "leading zeros", filled(b"", b"0", b"1\n1\n")
+    yield "rows", "one column again and again", filled(b"2\n1", b" 1", b"\n")
+    yield "matrix", "blanks", filled(b"1\n", b" ")
+    yield "proper", "one edge again and again", filled(b"2\n", b"1 2\n")
+    yield "convex", "one edge again and again", filled(b"2 2\n", b"1 2\n")
+    yield "doubly", "one edge again and again", filled(b"2 2\n", b"1 2\n")
+
+
+def crowded_files():
+    """Files of the greatest length that are full of small values, each with its kind, what it is made of, and the code and the line of its
+    refusal."""
+    yield "table", "commas", filled(b"", b","), (7, 1)
+    yield "clones", "arrays in an array", filled(b"[", b"[],", b"[]]"), (10, 0)
+    yield "clones", "clones without probes", filled(CLONES + b"{}", b",{}", b"]}"), (7, 0)
+    yield "clones", "numbers", filled(b"[1", b",1", b"]"), (10, 0)
+    yield "clones", "one name of a member again and again", filled(b'{"a":1', b',"a":1', b"}"), (10, 0)
+
+
+def nested_arrays():
+    """A clone file with a member that is passed over, of nested arrays."""
+    return b'{"probes":["a"],"clones":[],"more":' + filled(b"[", b"[[[[[]]]]],", b"1]}", LIMIT - 40)
+
+
+def measured(words, content):
+    """A run of the program over a file as its last word: status, output, errors, seconds of the processor, and the peak of its bytes."""
+    with tempfile.TemporaryDirectory() as folder:
+        file, cost = os.path.join(folder, "file"), os.path.join(folder, "cost")
+        with open(file, "wb") as stream:
+            stream.write(content)
+        done = subprocess.run([sys.executable, "-IS", COST, cost, str(4 * MOST_SECONDS), PROGRAM, *words, file], input=MATRIX, capture_output=True,
+                              check=False)
+        with open(cost, encoding="utf-8") as stream:
+            status, seconds, peak = stream.read().split()
+    return int(status), done.stdout, done.stderr, float(seconds), int(peak)
+
+
+def cost_problem(content, beside, seconds, peak):
+    """What is wrong with the cost of a run over these bytes, or None."""
+    bound = beside + MOST_TIMES * len(content)
+    if seconds > MOST_SECONDS:
+        return f"{seconds:.1f} seconds of the processor"
+    return None if peak <= bound else f"{peak / max(len(content), 1):.1f} times the {len(content)} bytes at the peak"
+
+
+def problem(words, content, wanted, beside):
+    """What is wrong with a run over a file, or None. The wanted output is left out where it is free."""
+    *given, seconds, peak = measured(words, content)
+    given = [one[:200] if isinstance(one, bytes) else one for one in given]
+    fits = all(want is None or want == one for want, one in zip(wanted, given))
+    return cost_problem(content, beside, seconds, peak) if fits else f"{given}, wanted {wanted}"
+
+
+def hostile():
+    """Each hostile file with its name, the words that it is run on, the status, output and errors that are wanted, and the bytes of memory that
+    it may take beside its own."""
+    for what, verdict in verdicts():
+        yield f"a verdict of {what}", ["check", "matrix", "-"], verdict, (1, b"invalid text\n", b""), BASE_BYTES
+    verdict, lines = long_cycle()
+    line = b"invalid repeat 2\n" if lines % 2 else b"invalid length %d\n" % lines
+    yield "a verdict with a cycle of the greatest length", ["check", "matrix", "-"], verdict, (1, line, b""), BASE_BYTES
+    for kind, what, content, (code, line) in refused_files():
+        yield f"{kind} of {what}", ["solve", kind], content, (3, b"", b"pq: refused 1 code %d line %d\n" % (code, line)), BASE_BYTES
+    for kind, what, content in solved_files():
+        yield f"{kind} of {what}", ["solve", kind], content, (0, None, b""), BASE_BYTES
+    for kind, what, content, (code, line) in crowded_files():
+        yield f"{kind} of {what}", ["solve", kind], content, (3, b"", b"pq: refused 1 code %d line %d\n" % (code, line)), CROWDED_BYTES
+    yield "clones of a member of nested arrays", ["solve", "clones"], nested_arrays(), (0, None, b""), NESTED_BYTES
+
+
+def hostile_problems():
+    """Each hostile file with what is wrong, or None. They are run one after another, so that they do not slow each other."""
+    for name, words, content, wanted, beside in hostile():
+        yield f"hostile: {name}", problem(words, content, wanted, beside)
