@@ -5,6 +5,7 @@
 mod chains;
 mod climber;
 mod labels;
+mod laws;
 mod pass;
 mod tables;
 #[cfg(test)]
@@ -12,6 +13,7 @@ mod tests;
 mod work;
 
 pub use labels::Label;
+pub use laws::met_law;
 pub use pass::bubble;
 pub use tables::Found;
 pub use work::{Counts, Work};
