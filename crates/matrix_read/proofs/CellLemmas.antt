@@ -108,7 +108,7 @@ first_filled (a ∷ field) b rest e = by (is_blank_byte a) refl e (first_filled 
         let kept : a ∷ without_last_blanks field ≡ b ∷ rest = (rw h refl) ∙ e in
         ap is_blank_byte (sym (cons_head a b (without_last_blanks field) rest kept)) ∙ h
 
-all_dropped : (bytes : List ℕ) → without_last_blanks bytes ≡ [] → is_blank bytes ≡ true
+pub all_dropped : (bytes : List ℕ) → without_last_blanks bytes ≡ [] → is_blank bytes ≡ true
 all_dropped [] e = refl
 all_dropped (b ∷ bytes) e = by (is_blank (b ∷ bytes)) e
   where

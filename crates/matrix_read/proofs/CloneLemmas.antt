@@ -1,46 +1,47 @@
 -- Probes and clones.
-use Rattle.std.proofs.Common.{◌≡◌, inl, inr, ℕ, suc, ◌+◌, ◌<◌, ◌≤◌, ◌==◌, not, List, [], ◌∷◌, ◌++◌, length, map, codes, drop, get_or, refl, ap, sym, ◌∙◌, arith, Bool, true, false, if◌then◌else◌, cond, unwrap_or, Some, None, append_assoc, drop-cons, add-one, eq-eqb}
+use Rattle.std.proofs.Common.{◌≡◌, inl, inr, ℕ, suc, ◌+◌, ◌<◌, ◌≤◌, ◌==◌, not, List, [], ◌∷◌, ◌++◌, length, map, codes, drop, get_or, refl, ap, sym, ◌∙◌, arith, Bool, true, false, if◌then◌else◌, cond, unwrap_or, Option, Some, None, append_assoc, drop-cons, add-one, eq-eqb}
 use Rattle.std.proofs.lemmas.List.{append-nil}
 use Rattle.column_order.specs.Orders.{has}
 use Rattle.row_model.specs.Rows.{RowList, IsRow}
 use Rattle.row_model.specs.declared.refusal.Read.{Read}
 use Rattle.row_model.specs.declared.refusal.Read.TheVariants as answer
-use Rattle.serde_json.specs.Data.{Data, Items, no_items, item}
+use Rattle.serde_json.specs.Data.{Data, Items}
 use Rattle.serde_json.specs.Read.{read}
 use Rattle.std.specs.Str.{IsUtf8, is_utf8, bytes_eq}
 use Rattle.std.specs.List.{list_all, prefix_len, position}
 use Rattle.std.specs.Borrow.{Bor}
 use Rattle.std.proofs.lemmas.List.{length-map}
-use Rattle.serde_json.specs.declared.value.Value.{Value}
-use Rattle.serde_json.specs.View.{view, items_view}
+use Rattle.std.specs.declared.vec.Vec.{Vec}
+use Rattle.std.specs.declared.alloc.Global.{Global}
+use Rattle.matrix_read.specs.CloneNames.{names_view, clones_view, row_of_clone, names_refused, names_matrix, matrix_of_names}
 use Rattle.std.proofs.lemmas.Str.{IsUtf8-from_is_utf8, is_utf8-from_IsUtf8}
 use Rattle.std.proofs.lemmas.Bool.{lt-ltb, le-ltb, ne_eqb, cases_lt, false≢true}
 use Rattle.row_model.specs.declared.TheConstants.{MAX_COLUMNS, MAX_ROWS, MAX_FILE_BYTES}
-use Rattle.row_model.specs.declared.code.TheConstants.{EMPTY, RANGE, TWICE, LIMIT}
+use Rattle.row_model.specs.declared.code.TheConstants.{EMPTY, TWICE, LIMIT}
 use Rattle.matrix_read.specs.Lines.{without_mark}
-use Rattle.matrix_read.specs.Rows.{refused_or, columns_among}
+use Rattle.matrix_read.specs.Rows.{refused_or}
 use Rattle.row_model.proofs.Filtered.{filtered_row}
 use Rattle.row_model.proofs.Limits.{too_long, short_enough}
-use Rattle.matrix_read.specs.Clones.{reading, array_at, texts_of, count, is_probe, column_of, probes_of, names_code, first_refused, clone_row, clone_rows, head_code, clone_matrix, matrix_of, if_read, clones}
+use Rattle.matrix_read.specs.Clones.{reading, array_at, is_probe, column_of, probes_of, names_code, clone_row, head_code, matrix_of, if_read, clones}
 use Rattle.matrix_read.specs.Names.{has_twice, bytes_of}
 
 module _ (probes : List (List ℕ)) where
   -- the answer, where these rows stand before the clones
-  abbrev pub matrix_after : List (List ℕ) → ℕ → Items → Read RowList
-  matrix_after rows number clones = refused_or (first_refused probes number clones) (record { columns = length probes; rows = rows ++ clone_rows probes clones })
+  abbrev pub matrix_after : List (List ℕ) → ℕ → List (Option (List (List ℕ))) → Read RowList
+  matrix_after rows number clones = refused_or (names_refused probes number clones) (record { columns = length probes; rows = rows ++ map (row_of_clone probes) clones })
 
   -- one clone less, which is refused or a row
-  module _ (rows : List (List ℕ)) (number : ℕ) (clone : Data) (clones : Items) where
-    pub clone_stop : (code : ℕ) → names_code probes (probes_of clone) ≡ Some code → matrix_after rows number (item clone clones) ≡ answer.Refused (record { code = code; line = number })
-    unfolding first_refused
+  module _ (rows : List (List ℕ)) (number : ℕ) (clone : Option (List (List ℕ))) (clones : List (Option (List (List ℕ)))) where
+    pub clone_stop : (code : ℕ) → names_code probes clone ≡ Some code → matrix_after rows number (clone ∷ clones) ≡ answer.Refused (record { code = code; line = number })
+    unfolding names_refused
     clone_stop code h = rw h refl
 
-    pub clone_step : names_code probes (probes_of clone) ≡ None → matrix_after (rows ++ clone_row probes clone ∷ []) (number + 1) clones ≡ matrix_after rows number (item clone clones)
-    unfolding first_refused
-    clone_step h = rw (h, append_assoc rows (clone_row probes clone ∷ []) (clone_rows probes clones)) refl
+    pub clone_step : names_code probes clone ≡ None → matrix_after (rows ++ row_of_clone probes clone ∷ []) (number + 1) clones ≡ matrix_after rows number (clone ∷ clones)
+    unfolding names_refused
+    clone_step h = rw (h, append_assoc rows (row_of_clone probes clone ∷ []) (map (row_of_clone probes) clones)) refl
 
-  pub clone_end : (m : RowList) (number : ℕ) → m.columns ≡ length probes → matrix_after m.rows number no_items ≡ answer.Ok m
-  unfolding first_refused
+  pub clone_end : (m : RowList) (number : ℕ) → m.columns ≡ length probes → matrix_after m.rows number [] ≡ answer.Ok m
+  unfolding names_refused
   clone_end m number w = rw (append-nil m.rows, ← w) refl
 
 -- a text that is read, and one that is not
@@ -64,17 +65,19 @@ module _ (bytes : List ℕ) where
   unfolding clones
   clones_short h = short_enough bytes _ h
 
--- the items of a list of values
-pub length_texts : (values : List Value) → length (texts_of (items_view values)) ≡ length values
-length_texts [] = refl
-length_texts (value ∷ values) = ap suc (length_texts values)
+-- the rest of a list, from a place on
+pub names_drop : (list : List (Bor (List ℕ))) (i : ℕ) (name : Bor (List ℕ)) → i < length list → name ≡ get_or list i name → bytes_of (drop i list) ≡ name.now ∷ bytes_of (drop (i + 1) list)
+names_drop list i name lt is =
+    ap bytes_of (drop-cons list i name lt)
+    ∙ ap (λ (first : Bor (List ℕ)). first.now ∷ bytes_of (drop (suc i) list)) (sym is)
+    ∙ ap (λ n. name.now ∷ bytes_of (drop n list)) (sym (add-one i))
 
-pub count_is : (values : List Value) → count (items_view values) ≡ length values
-count_is [] = refl
-count_is (value ∷ values) = ap suc (count_is values)
-
-pub items_drop : (values : List Value) (i : ℕ) (value : Value) → i < length values → value ≡ get_or values i value → items_view (drop i values) ≡ item (view value) (items_view (drop (i + 1) values))
-items_drop values i value lt is = ap items_view (drop-cons values i value lt) ∙ ap (λ (v : Value). item (view v) (items_view (drop (suc i) values))) (sym is) ∙ ap (λ n. item (view value) (items_view (drop n values))) (sym (add-one i))
+pub clones_drop : (list : List (Option (Vec (Bor (List ℕ)) Global))) (i : ℕ) (clone : Option (Vec (Bor (List ℕ)) Global)) → i < length list → clone ≡ get_or list i clone
+    → clones_view (drop i list) ≡ names_view clone ∷ clones_view (drop (i + 1) list)
+clones_drop list i clone lt is =
+    ap clones_view (drop-cons list i clone lt)
+    ∙ ap (λ (first : Option (Vec (Bor (List ℕ)) Global)). names_view first ∷ clones_view (drop (suc i) list)) (sym is)
+    ∙ ap (λ n. names_view clone ∷ clones_view (drop n list)) (sym (add-one i))
 
 -- names by their bytes
 prefix_len-bytes : (p : List ℕ → Bool) (names : List (Bor (List ℕ))) → prefix_len (λ (name : Bor (List ℕ)). p name.now) names ≡ prefix_len p (bytes_of names)
@@ -121,11 +124,8 @@ module _ (probes names : List (List ℕ)) (clone : Data) (is : Some names ≡ pr
   pub names_taken : list_all (is_probe probes) names ≡ true → names_code probes (probes_of clone) ≡ None
   names_taken h = rw (← is, h) refl
 
-  pub names_refused : list_all (is_probe probes) names ≡ false → names_code probes (probes_of clone) ≡ Some RANGE
-  names_refused h = rw (← is, h) refl
-
-  pub row_of_names : clone_row probes clone ≡ columns_among (length probes) (map (column_of probes) names)
-  row_of_names = rw (← is) refl
+pub names_row_ascends : (probes : List (List ℕ)) (clone : Option (List (List ℕ))) → IsRow (length probes) (row_of_clone probes clone)
+names_row_ascends probes clone = filtered_row (has (map (column_of probes) (unwrap_or clone []))) (length probes)
 
 pub clone_row_ascends : (probes : List (List ℕ)) (clone : Data) → IsRow (length probes) (clone_row probes clone)
 clone_row_ascends probes clone = filtered_row (has (map (column_of probes) (unwrap_or (probes_of clone) []))) (length probes)
@@ -137,35 +137,34 @@ length-bytes keys = length-map keys (λ (name : Bor (List ℕ)). name.now)
 pub some_if : (n : ℕ) → false ≡ (n == 0) → 0 < n
 some_if n h = elim (cases_lt 0 n) [ inl lt ↦ lt | inr le ↦ absurd (false≢true (h ∙ eq-eqb n 0 (omega arith))) ]
 
--- the tests of probes and clones as lists of values
-module _ (probes clones : List Value) where
-  width : length (texts_of (items_view probes)) ≡ length probes
-  width = length_texts probes
+-- the tests of probes and clones as lists of names
+module _ (probes : List (Bor (List ℕ))) (clones : List (Option (Vec (Bor (List ℕ)) Global))) where
+  width : length (bytes_of probes) ≡ length probes
+  width = length-bytes probes
 
-  height : count (items_view clones) ≡ length clones
-  height = count_is clones
+  height : length (clones_view clones) ≡ length clones
+  height = length-map clones names_view
 
   -- what is refused by a code
   abbrev pub RefusedBy : ℕ → Type 0
-  RefusedBy code = matrix_of (texts_of (items_view probes)) (items_view clones) ≡ answer.Refused (record { code = code; line = 0 })
+  RefusedBy code = matrix_of_names (bytes_of probes) (clones_view clones) ≡ answer.Refused (record { code = code; line = 0 })
 
-  by : (code : ℕ) → head_code (texts_of (items_view probes)) (count (items_view clones)) ≡ Some code → RefusedBy code
+  by : (code : ℕ) → head_code (bytes_of probes) (length (clones_view clones)) ≡ Some code → RefusedBy code
   by code h = rw h refl
 
   pub no_probe : length probes ≡ 0 → RefusedBy EMPTY
-  no_probe h = by EMPTY (head_empty (texts_of (items_view probes)) (count (items_view clones)) (width ∙ h))
+  no_probe h = by EMPTY (head_empty (bytes_of probes) (length (clones_view clones)) (width ∙ h))
 
   module _ (some : 0 < length probes) where
     pub many_probes : MAX_COLUMNS < length probes → RefusedBy LIMIT
-    many_probes h = by LIMIT (head_wide (texts_of (items_view probes)) (count (items_view clones)) (omega (arith, width)) (omega (arith, width)))
+    many_probes h = by LIMIT (head_wide (bytes_of probes) (length (clones_view clones)) (omega (arith, width)) (omega (arith, width)))
 
     module _ (narrow : length probes ≤ MAX_COLUMNS) where
-      pub probe_twice : has_twice (texts_of (items_view probes)) ≡ true → RefusedBy TWICE
-      probe_twice h = by TWICE (head_twice (texts_of (items_view probes)) (count (items_view clones)) (omega (arith, width)) (omega (arith, width)) h)
+      pub probe_twice : has_twice (bytes_of probes) ≡ true → RefusedBy TWICE
+      probe_twice h = by TWICE (head_twice (bytes_of probes) (length (clones_view clones)) (omega (arith, width)) (omega (arith, width)) h)
 
-      pub many_clones : has_twice (texts_of (items_view probes)) ≡ false → MAX_ROWS < length clones → RefusedBy LIMIT
-      many_clones h many = by LIMIT (head_many (texts_of (items_view probes)) (count (items_view clones)) (omega (arith, width)) (omega (arith, width)) h (omega (arith, height)))
+      pub many_clones : has_twice (bytes_of probes) ≡ false → MAX_ROWS < length clones → RefusedBy LIMIT
+      many_clones h many = by LIMIT (head_many (bytes_of probes) (length (clones_view clones)) (omega (arith, width)) (omega (arith, width)) h (omega (arith, height)))
 
-      pub within_limits : has_twice (texts_of (items_view probes)) ≡ false → length clones ≤ MAX_ROWS
-          → matrix_of (texts_of (items_view probes)) (items_view clones) ≡ clone_matrix (texts_of (items_view probes)) (items_view clones)
-      within_limits h few = rw (head_taken (texts_of (items_view probes)) (count (items_view clones)) (omega (arith, width)) (omega (arith, width)) h (omega (arith, height))) refl
+      pub within_limits : has_twice (bytes_of probes) ≡ false → length clones ≤ MAX_ROWS → matrix_of_names (bytes_of probes) (clones_view clones) ≡ names_matrix (bytes_of probes) (clones_view clones)
+      within_limits h few = rw (head_taken (bytes_of probes) (length (clones_view clones)) (omega (arith, width)) (omega (arith, width)) h (omega (arith, height))) refl

@@ -10,6 +10,7 @@ pub mod CloneLemmas
 pub mod RecordLemmas
 pub mod TableLemmas
 pub mod CellLemmas
+pub mod HeaderLemmas
 pub mod WrittenTableLemmas
 pub mod WrittenRowLemmas
 pub mod CloneRowLemmas
@@ -17,6 +18,8 @@ pub mod Within
 pub mod WithinLines
 pub mod WithinTable
 pub mod WithinClones
+pub mod JsonLemmas
+pub mod FileLemmas
 pub mod CloneCauses
 pub mod RefusalLemmas
 pub mod TextLemmas

@@ -4,9 +4,10 @@ use Rattle.std.proofs.lemmas.Bool.{ne_eqb, or_parts}
 use Rattle.std.proofs.lemmas.List.{append-nil}
 use Rattle.std.specs.List.{list_any}
 use Rattle.column_order.specs.Orders.{has}
-use Rattle.matrix_read.specs.Lines.{is_blank_byte, before_first, without_return, line_parts, lines_of, is_blank}
+use Rattle.matrix_read.specs.Lines.{is_blank_byte, before_first, without_return, line_parts, lines_of, is_blank, filled_lines}
+use Rattle.matrix_read.specs.Rows.{numbered_lines}
 use Rattle.matrix_read.specs.Words.{blank_len, word_len, begins_word, words_of}
-use Rattle.matrix_read.specs.TextLaws.{LinesLaw, WordsLaw}
+use Rattle.matrix_read.specs.TextLaws.{LinesLaw, LineNumbersLaw, WordsLaw}
 use Rattle.matrix_read.proofs.WordLemmas.{words_of_blank, words_of_last, words_of_more, words_of_blanks, words_of_skip, word_first, drop-slice_range}
 
 -- bytes without a line feed, and then a line feed
@@ -50,6 +51,16 @@ lines_law = record {
   return_nothing = refl;
   return_dropped = return_dropped;
   return_none = return_none;
+}
+
+pub line_numbers_law : LineNumbersLaw
+unfolding filled_lines numbered_lines
+line_numbers_law = record {
+  all_none = λ number. refl;
+  all_line = λ number line lines. refl;
+  filled_none = λ number. refl;
+  filled_blank = λ number line lines h. rw h refl;
+  filled_line = λ number line lines h. rw h refl;
 }
 
 -- a word before bytes that begin none

@@ -6,6 +6,7 @@ pub mod DenseSteps
 pub mod Written
 pub mod Sparse
 pub mod Names
+pub mod JsonSteps
 pub mod Clones
 pub mod Cells
 pub mod RecordsLeft
@@ -15,6 +16,7 @@ pub mod Refusals
 pub mod TableLaws
 pub mod WrittenRows
 pub mod Limits
+pub mod CloneNames
 pub mod CloneRows
 pub mod CloneRefusals
 pub mod TextLaws

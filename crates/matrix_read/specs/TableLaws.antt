@@ -1,17 +1,17 @@
 -- What is said of tables apart from how they are read.
 use Rattle.std.specs.Prelude.{◌≡◌, ◌≢◌, ◌↔◌, ◌<◌, ◌≤◌, ℕ, zero, suc, ◌+◌, ◌==◌, Bool, List, [], ◌∷◌, ◌++◌, map, length, codes, if◌then◌else◌, slice_index_or, IsTrue, IsFalse, Option, Some, None, All, AllPairs}
 use Rattle.csv.specs.Reading.{default_config, strip_bom, records}
-use Rattle.std.specs.List.{list_all}
+use Rattle.std.specs.List.{list_any, list_all}
 use Rattle.csv.specs.Writing.{default_writer, row_text}
 use Rattle.column_order.specs.Orders.{has}
 use Rattle.row_model.specs.Rows.{IsRow}
-use Rattle.row_model.specs.declared.code.TheConstants.{EMPTY, CSV}
+use Rattle.row_model.specs.declared.code.TheConstants.{EMPTY, GRAMMAR, TWICE, LIMIT, CSV}
 use Rattle.matrix_read.specs.Refusals.{RefusesLong}
 use Rattle.row_model.specs.declared.refusal.Refusal.{Refusal}
 use Rattle.row_model.specs.declared.refusal.Read.TheVariants as read
 use Rattle.row_model.specs.declared.TheConstants.{MAX_COLUMNS, MAX_ROWS, MAX_FILE_BYTES}
 use Rattle.matrix_read.specs.Lines.{is_blank, is_blank_byte}
-use Rattle.matrix_read.specs.Cells.{trimmed, is_present, record_row}
+use Rattle.matrix_read.specs.Cells.{trimmed, cells, is_present, is_foreign_cell, record_row}
 use Rattle.matrix_read.specs.Table.{names_of, header_code, record_code, record_refusal, table_matrix, table}
 use Rattle.matrix_read.specs.Names.{has_twice}
 
@@ -61,6 +61,29 @@ RowLaw =
 -- no name stands twice exactly where no two names are the same
 abbrev pub NamesLaw : Type 0
 NamesLaw = (names : List (List ℕ)) → IsFalse (has_twice names) ↔ Differ names
+
+-- the names in a header are its fields from the second on that are not blank, in their order, each without the blanks at
+-- both ends
+pub record HeaderNamesLaw : Type 0 where
+  pub none : names_of [] ≡ []
+  pub corner : (corner : List ℕ) → names_of (corner ∷ []) ≡ []
+  pub blank : (corner field : List ℕ) (fields : List (List ℕ)) → IsTrue (is_blank field) → names_of (corner ∷ field ∷ fields) ≡ names_of (corner ∷ fields)
+  pub name : (corner field : List ℕ) (fields : List (List ℕ)) → IsFalse (is_blank field) → names_of (corner ∷ field ∷ fields) ≡ trimmed field ∷ names_of (corner ∷ fields)
+
+-- a header is refused where it has no field behind the first, then where it has more of them than there may be columns,
+-- and then where a name stands twice; any other is not refused
+pub record HeaderLaw : Type 0 where
+  pub no_column : (header : List (List ℕ)) → length header ≤ 1 → header_code header ≡ Some EMPTY
+  pub many_columns : (header : List (List ℕ)) → MAX_COLUMNS + 1 < length header → header_code header ≡ Some LIMIT
+  pub twice : (header : List (List ℕ)) → 1 < length header → length header ≤ MAX_COLUMNS + 1 → IsTrue (has_twice (names_of header)) → header_code header ≡ Some TWICE
+  pub taken : (header : List (List ℕ)) → 1 < length header → length header ≤ MAX_COLUMNS + 1 → IsFalse (has_twice (names_of header)) → header_code header ≡ None
+
+-- a record is refused as a row where as many rows as there may be stand before it, and then where a cell is in no form
+-- that a cell may have; any other is not refused
+pub record RecordLaw : Type 0 where
+  pub many_rows : (before : ℕ) (fields : List (List ℕ)) → MAX_ROWS ≤ before → record_code before fields ≡ Some LIMIT
+  pub foreign : (before : ℕ) (fields : List (List ℕ)) → before < MAX_ROWS → IsTrue (list_any is_foreign_cell (cells fields)) → record_code before fields ≡ Some GRAMMAR
+  pub taken : (before : ℕ) (fields : List (List ℕ)) → before < MAX_ROWS → IsFalse (list_any is_foreign_cell (cells fields)) → record_code before fields ≡ None
 
 -- a part of a field, with nothing but blanks on either side of it, and no blank at its own ends
 pub record IsBetweenBlanks (part field : List ℕ) : Type 0 where

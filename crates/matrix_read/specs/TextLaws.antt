@@ -1,8 +1,9 @@
 -- What a line is, and what a word is, apart from how they are found.
-use Rattle.std.specs.Prelude.{◌≡◌, ◌≢◌, ◌≤◌, ℕ, List, [], ◌∷◌, ◌++◌, length, IsTrue, IsFalse}
+use Rattle.std.specs.Prelude.{◌≡◌, ◌≢◌, ◌≤◌, ◌+◌, ℕ, List, [], ◌∷◌, ◌++◌, length, IsTrue, IsFalse}
 use Rattle.std.specs.List.{list_any}
 use Rattle.column_order.specs.Orders.{has}
-use Rattle.matrix_read.specs.Lines.{is_blank_byte, without_return, lines_of}
+use Rattle.matrix_read.specs.Lines.{is_blank_byte, is_blank, without_return, lines_of, filled_lines}
+use Rattle.matrix_read.specs.Rows.{numbered_lines}
 use Rattle.matrix_read.specs.Words.{words_of}
 
 -- no bytes have no line; bytes without a line feed and then a line feed are a line before those of the rest; bytes
@@ -15,6 +16,16 @@ pub record LinesLaw : Type 0 where
   pub return_nothing : without_return [] ≡ []
   pub return_dropped : (line : List ℕ) → without_return (line ++ 13 ∷ []) ≡ line
   pub return_none : (line : List ℕ) (b : ℕ) → b ≢ 13 → without_return (line ++ b ∷ []) ≡ line ++ b ∷ []
+
+-- a line under its number is before the later ones, whose numbers go on from it; where blank lines are passed over they
+-- count all the same, so the line behind a blank one has the number after that one's
+pub record LineNumbersLaw : Type 0 where
+  pub all_none : (number : ℕ) → numbered_lines number [] ≡ []
+  pub all_line : (number : ℕ) (line : List ℕ) (lines : List (List ℕ)) → numbered_lines number (line ∷ lines) ≡ record { number = number; text = line } ∷ numbered_lines (number + 1) lines
+  pub filled_none : (number : ℕ) → filled_lines number [] ≡ []
+  pub filled_blank : (number : ℕ) (line : List ℕ) (lines : List (List ℕ)) → IsTrue (is_blank line) → filled_lines number (line ∷ lines) ≡ filled_lines (number + 1) lines
+  pub filled_line : (number : ℕ) (line : List ℕ) (lines : List (List ℕ)) →
+      IsFalse (is_blank line) → filled_lines number (line ∷ lines) ≡ record { number = number; text = line } ∷ filled_lines (number + 1) lines
 
 -- bytes of which none is a blank
 abbrev pub HasNoBlank : List ℕ → Type 0

@@ -1,18 +1,19 @@
 // A matrix as probes and clones in JSON.
-ghost use Rattle.std.specs.Prelude.{◌≡◌, ◌+◌, ◌≤◌, ◌<◌, ℕ, [], map, false, true, length, take, slice_index_or, Some, None, option_map, IfOk, IfErr, OnOk, MatchOption};
+ghost use Rattle.std.specs.Prelude.{◌≡◌, ◌+◌, ◌≤◌, ◌<◌, ◌∷◌, ℕ, [], drop, map, false, true, length, take, slice_index_or, Some, None, IfOk, IfErr, OnOk, MatchOption};
 ghost use Rattle.std.specs.List.{list_all};
 ghost use Rattle.row_model.specs.declared.code.TheConstants.{RANGE};
 ghost use Rattle.column_order.specs.Orders.{has};
-ghost use Rattle.serde_json.specs.View.{view, items_view};
-ghost use Rattle.matrix_read.specs.Clones.{reading, array_at, are_strings, text_of, texts_of, strings_of, strings_at, count, is_probe, column_of, probes_of, names_code, clone_row, clone_matrix, matrix_of, if_read, clones};
+ghost use Rattle.matrix_read.specs.Clones.{is_probe, column_of, names_code, clones};
+ghost use Rattle.matrix_read.specs.CloneNames.{names_view, clones_view, list_view, row_of_clone, names_matrix, matrix_of_names, matrix_named};
 ghost use Rattle.matrix_read.specs.CloneRows.{CloneLaw};
 ghost use Rattle.matrix_read.specs.Names.{has_twice, bytes_of};
 
+use crate::clone_names::{CloneNames, names_in};
 use crate::lines::without_mark;
 use crate::rows::{refused, take_marked};
 use indexmap::IndexSet;
+use json::Scratch;
 use row_model::{MAX_COLUMNS, MAX_FILE_BYTES, MAX_ROWS, Matrix, NoMemory, Read, code};
-use serde_json::{Category, Value};
 use std::alloc::Global;
 
 /// Reads a matrix from the bytes of a clone file: one value in JSON, an object with the arrays `probes` and `clones`.
@@ -26,7 +27,9 @@ use std::alloc::Global;
 /// does not read. Then come the shape of the object, the number of probes, a probe that occurs twice, and the number of
 /// clones. Last come the clones in turn, each with its number as the line: its shape is judged before its names.
 ///
-/// Beside the matrix it keeps the value that `serde_json` makes of the bytes, which takes most of the memory.
+/// Beside the matrix it keeps the names that the file has, as they stand there: sixteen bytes for each, and for each
+/// clone a list of its own. Names with escapes stand in a copy, which is as long as the file. Nothing is kept of keys
+/// and values that are passed over.
 ///
 /// # Errors
 ///
@@ -37,42 +40,33 @@ pub fn read_clones(alloc: Global, bytes: &[u8]) -> Result<Read<Matrix>, NoMemory
     if bytes.len() as u64 > MAX_FILE_BYTES {
         return Ok(refused(code::LIMIT, 0));
     }
-    match value_of(alloc, without_mark(bytes)) {
-        Err(e) => Err(e),
-        Ok(None) => Ok(refused(code::JSON, 0)),
-        Ok(Some(value)) => matrix_in(alloc, &value),
+    let mut scratch = Scratch::new(alloc);
+    match names_in(alloc, without_mark(bytes), &mut scratch)? {
+        None => Ok(refused(code::JSON, 0)),
+        Some(file) => matrix_in(alloc, &file),
     }
 }
 
-// The value that the bytes of a text have; none where they are no UTF-8 or have no reading.
-fn value_of(alloc: Global, text: &[u8]) -> Result<Option<Value>, NoMemory>
-    ensures { IfOk result (λ value. option_map view value ≡ reading text.now) }
+// The matrix of what a file names, or its first refusal.
+fn matrix_in(alloc: Global, file: &CloneNames<'_>) -> Result<Read<Matrix>, NoMemory>
+    ensures { IfOk result (λ read. read ≡ matrix_named (names_view file.now.probes) (list_view file.now.clones)) }
 {
-    match Value::from_slice(alloc, text) {
-        Ok(value) => Ok(Some(value)),
-        Err(error) => match error.classify() {
-            Category::Memory => Err(NoMemory),
-            _ => Ok(None),
-        },
-    }
-}
-
-// The matrix of a value, or its first refusal.
-fn matrix_in(alloc: Global, value: &Value) -> Result<Read<Matrix>, NoMemory>
-    ensures { IfOk result (λ read. read ≡ if_read (Some (view value.now))) }
-{
-    let Some(probes) = strings_in(value, "probes") else {
+    let Some(probes) = &file.probes else {
         return Ok(refused(code::SHAPE, 0));
     };
-    let Some(clones) = array_in(value, "clones") else {
+    let Some(clones) = &file.clones else {
         return Ok(refused(code::SHAPE, 0));
     };
     matrix_of(alloc, probes, clones)
 }
 
-// The matrix of probes, which are strings, and clones, or their first refusal.
-fn matrix_of(alloc: Global, probes: &[Value], clones: &[Value]) -> Result<Read<Matrix>, NoMemory>
-    ensures { IfOk result (λ read. read ≡ matrix_of (texts_of (items_view probes.now)) (items_view clones.now)) }
+// The matrix of probes and the probes of each clone, or their first refusal.
+fn matrix_of(
+    alloc: Global,
+    probes: &[&str],
+    clones: &[Option<Vec<&str>>],
+) -> Result<Read<Matrix>, NoMemory>
+    ensures { IfOk result (λ read. read ≡ matrix_of_names (bytes_of probes.now) (clones_view clones.now)) }
 {
     if probes.is_empty() {
         return Ok(refused(code::EMPTY, 0));
@@ -92,54 +86,15 @@ fn matrix_of(alloc: Global, probes: &[Value], clones: &[Value]) -> Result<Read<M
     }
 }
 
-// The array under a key of an object.
-fn array_in<'a>(value: &'a Value, key: &str) -> Option<&'a [Value]>
-    ensures { option_map (λ list. items_view list.now) result ≡ array_at key.now (view value.now) }
-{
-    value
-        .get(key)
-        .and_then(Value::as_array)
-        .map(|list| list.as_slice())
-}
-
-// The array under a key of an object, if all its items are strings.
-fn strings_in<'a>(value: &'a Value, key: &str) -> Option<&'a [Value]>
-    ensures { option_map (λ list. texts_of (items_view list.now)) result ≡ strings_at key.now (view value.now) }
-{
-    match array_in(value, key) {
-        Some(list) if all_strings(list) => Some(list),
-        _ => None,
-    }
-}
-
-// Whether all values are strings.
-fn all_strings(list: &[Value]) -> bool
-    ensures { result ≡ are_strings (items_view list.now) }
-{
-    for value in list {
-        if !value.is_string() {
-            return false;
-        }
-    }
-    true
-}
-
-// The text of a string. Another value has none.
-fn text_of(value: &Value) -> &str
-    ensures { result.now ≡ text_of (view value.now) }
-{
-    value.as_str().unwrap_or("")
-}
-
-// The names that strings are, in their order; none where one occurs twice.
-fn names_of<'a>(alloc: Global, list: &'a [Value]) -> Result<Option<IndexSet<&'a str>>, NoMemory>
+// The names of a list, in their order; none where one occurs twice.
+fn names_of<'a>(alloc: Global, list: &[&'a str]) -> Result<Option<IndexSet<&'a str>>, NoMemory>
     ensures { IfOk result (λ names. MatchOption names
-        (has_twice (texts_of (items_view list.now)) ≡ true)
-        (λ names. (has_twice (texts_of (items_view list.now)) ≡ false) × (bytes_of names.keys ≡ texts_of (items_view list.now)))) }
+        (has_twice (bytes_of list.now) ≡ true)
+        (λ names. (has_twice (bytes_of list.now) ≡ false) × (bytes_of names.keys ≡ bytes_of list.now))) }
 {
     let mut names = IndexSet::new(alloc);
-    for value in list {
-        match names.insert(text_of(value)) {
+    for place in 0..list.len() {
+        match names.insert(name_at(list, place)) {
             Err(_) => return Err(NoMemory),
             Ok(false) => return Ok(None),
             Ok(true) => {}
@@ -148,16 +103,24 @@ fn names_of<'a>(alloc: Global, list: &'a [Value]) -> Result<Option<IndexSet<&'a 
     Ok(Some(names))
 }
 
+// The name at a place of a list.
+fn name_at<'a>(list: &[&'a str], place: usize) -> &'a str
+    requires { place < length list.now }
+    ensures { bytes_of (drop place list.now) ≡ result.now ∷ bytes_of (drop (place + 1) list.now) }
+{
+    list[place]
+}
+
 // The matrix over the probes of these names with a row for each clone, or the first refusal of a clone.
 fn clone_matrix(
     alloc: Global,
     names: &IndexSet<&str>,
-    clones: &[Value],
+    clones: &[Option<Vec<&str>>],
 ) -> Result<Read<Matrix>, NoMemory>
     requires some { 1 ≤ length names.now.keys }
     requires small { length names.now.keys ≤ MAX_COLUMNS }
     requires few { length clones.now ≤ MAX_ROWS }
-    ensures { IfOk result (λ read. read ≡ clone_matrix (bytes_of names.now.keys) (items_view clones.now)) }
+    ensures { IfOk result (λ read. read ≡ names_matrix (bytes_of names.now.keys) (clones_view clones.now)) }
 {
     let matrix = Matrix::new(alloc, names.len() as u32)?;
     let mut marks = vec![in alloc; false; names.len()]?;
@@ -170,7 +133,7 @@ fn clone_matrix(
 fn push_rows(
     mut matrix: Matrix,
     names: &IndexSet<&str>,
-    clones: &[Value],
+    clones: &[Option<Vec<&str>>],
     marks: &mut [bool],
     columns: &mut [u32],
 ) -> Result<Read<Matrix>, NoMemory>
@@ -181,7 +144,7 @@ fn push_rows(
     requires marks { length marks.old ≡ length names.now.keys }
     requires clear { (j : ℕ) → slice_index_or marks.old j false ≡ false }
     requires columns { length columns.old ≡ length names.now.keys }
-    ensures { IfOk result (λ read. read ≡ clone_matrix (bytes_of names.now.keys) (items_view clones.now)) }
+    ensures { IfOk result (λ read. read ≡ names_matrix (bytes_of names.now.keys) (clones_view clones.now)) }
 {
     for (i, clone) in clones.iter().enumerate() {
         match row_in(clone, names, marks, columns) {
@@ -194,7 +157,7 @@ fn push_rows(
 
 // How many columns the row of a clone has, which stand at the front of `columns` then; or the code of its refusal.
 fn row_in(
-    clone: &Value,
+    clone: &Option<Vec<&str>>,
     names: &IndexSet<&str>,
     marks: &mut [bool],
     columns: &mut [u32],
@@ -203,12 +166,12 @@ fn row_in(
     requires marks { length marks.old ≡ length names.now.keys }
     requires clear { (j : ℕ) → slice_index_or marks.old j false ≡ false }
     requires room { length marks.old ≤ length columns.old }
-    ensures refused { IfErr result (λ code. names_code (bytes_of names.now.keys) (probes_of (view clone.now)) ≡ Some code) }
-    ensures row { IfOk result (λ ones. (names_code (bytes_of names.now.keys) (probes_of (view clone.now)) ≡ None) × (take ones columns.new ≡ clone_row (bytes_of names.now.keys) (view clone.now))) }
+    ensures refused { IfErr result (λ code. names_code (bytes_of names.now.keys) (names_view clone.now) ≡ Some code) }
+    ensures row { IfOk result (λ ones. (names_code (bytes_of names.now.keys) (names_view clone.now) ≡ None) × (take ones columns.new ≡ row_of_clone (bytes_of names.now.keys) (names_view clone.now))) }
     ensures within { IfOk result (λ ones. ones ≤ length columns.new) }
     ensures clear { OnOk result ((j : ℕ) → slice_index_or marks.new j false ≡ false) }
 {
-    let Some(list) = strings_in(clone, "probes") else {
+    let Some(list) = clone else {
         return Err(code::SHAPE);
     };
     match mark_names(list, names, marks) {
@@ -218,15 +181,15 @@ fn row_in(
 }
 
 // Marks the column of each string. Column 1 has the first mark. The error is the code of a string that is no probe.
-fn mark_names(list: &[Value], names: &IndexSet<&str>, marks: &mut [bool]) -> Result<(), u8>
+fn mark_names(list: &[&str], names: &IndexSet<&str>, marks: &mut [bool]) -> Result<(), u8>
     requires marks { length marks.old ≡ length names.now.keys }
     requires clear { (j : ℕ) → slice_index_or marks.old j false ≡ false }
-    ensures refused { IfErr result (λ code. (code ≡ RANGE) × (list_all (is_probe (bytes_of names.now.keys)) (texts_of (items_view list.now)) ≡ false)) }
-    ensures named { OnOk result (list_all (is_probe (bytes_of names.now.keys)) (texts_of (items_view list.now)) ≡ true) }
-    ensures marks { OnOk result ((j : ℕ) → j < length marks.old → slice_index_or marks.new j false ≡ has (map (column_of (bytes_of names.now.keys)) (texts_of (items_view list.now))) (j + 1)) }
+    ensures refused { IfErr result (λ code. (code ≡ RANGE) × (list_all (is_probe (bytes_of names.now.keys)) (bytes_of list.now) ≡ false)) }
+    ensures named { OnOk result (list_all (is_probe (bytes_of names.now.keys)) (bytes_of list.now) ≡ true) }
+    ensures marks { OnOk result ((j : ℕ) → j < length marks.old → slice_index_or marks.new j false ≡ has (map (column_of (bytes_of names.now.keys)) (bytes_of list.now)) (j + 1)) }
 {
-    for value in list {
-        match names.get_index_of(text_of(value)) {
+    for place in 0..list.len() {
+        match names.get_index_of(name_at(list, place)) {
             None => return Err(code::RANGE),
             Some(index) => marks[index] = true,
         }

@@ -5,10 +5,12 @@
 #![tactic(auto)]
 
 mod cells;
+mod clone_names;
 mod clones;
 mod dense;
 mod laws;
 mod lines;
+mod passing;
 mod records;
 mod rows;
 mod sparse;

@@ -5,7 +5,7 @@ ghost use Rattle.csv.specs.Records.{fields_of};
 ghost use Rattle.row_model.specs.declared.refusal.Read.TheVariants as read;
 ghost use Rattle.matrix_read.specs.RecordsLeft.{IsPlain, records_left};
 ghost use Rattle.matrix_read.specs.Cells.{cells, is_foreign_cell, record_row};
-ghost use Rattle.matrix_read.specs.TableLaws.{TableLaw, RowLaw, TrimmedLaw, NamesLaw, RefusalLaw};
+ghost use Rattle.matrix_read.specs.TableLaws.{TableLaw, RowLaw, TrimmedLaw, HeaderNamesLaw, NamesLaw, HeaderLaw, RecordLaw, RefusalLaw};
 ghost use Rattle.matrix_read.specs.Table.{names_of, header_code, table};
 ghost use Rattle.matrix_read.specs.TableSteps.{header_read, FitsRecords, with_records, with_even_records};
 ghost use Rattle.matrix_read.specs.Names.{has_twice};
@@ -179,13 +179,17 @@ fn has_twice(alloc: Global, header: &ByteRecord) -> Result<bool, NoMemory>
 }
 
 /// The laws of [`read_table`]: the table that is written of a matrix is read as that matrix. A row has exactly the
-/// columns whose fields say so, apart from blanks at both ends. Names are refused exactly where two of them are the
-/// same. A refusal is of the first record that is refused.
+/// columns whose fields say so, apart from blanks at both ends. The names are the fields of the header behind the first
+/// that are not blank, apart from blanks at both ends, and are refused exactly where two of them are the same. A header
+/// and a record are refused by the code of the first cause that holds. A refusal is of the first record that is refused.
 pub fn table_laws()
     ensures written { TableLaw }
     ensures row { RowLaw }
     ensures trimmed { TrimmedLaw }
+    ensures header_names { HeaderNamesLaw }
     ensures names { NamesLaw }
+    ensures header { HeaderLaw }
+    ensures record_codes { RecordLaw }
     ensures refusal { RefusalLaw }
 {}
 

@@ -2,38 +2,35 @@ use Rattle.std.proofs.Common.{◌≡◌, ◌∷◌, ◌+◌, ◌<◌, ◌||◌, 
 use Rattle.std.specs.List.{list_all}
 use Rattle.std.specs.Str.{bytes_eq}
 use Rattle.column_order.specs.Orders.{has}
-use Rattle.serde_json.specs.View.{items_view}
-use Rattle.matrix_read.specs.Clones.{texts_of, is_probe, column_of}
+use Rattle.matrix_read.specs.Clones.{is_probe, column_of}
 use Rattle.matrix_read.specs.Names.{bytes_of}
 use Rattle.matrix_read.proofs.RowLemmas.{mark_step}
-use Rattle.matrix_read.proofs.CloneLemmas.{items_drop, column_found}
+use Rattle.matrix_read.proofs.CloneLemmas.{column_found}
 use Rattle.matrix_read.proofs.NameLemmas.{list_any-bytes}
 use Rattle.matrix_read.proofs.clones.mark_names.Goals as goal
 
 pub returns-in-None-clause-refused : goal.returns-in-None-clause-refused
 returns-in-None-clause-refused c =
     let probes = bytes_of c.args.names.now.keys in
-    let name = c.text_of.result.now in
-    let rest = texts_of (items_view (drop (c.loop-value.value-index + 1) c.args.list.now)) in
+    let name = c.name_at.result.now in
+    let rest = bytes_of (drop (c.loop-place.place + 1) c.args.list.now) in
     let unknown : is_probe probes name ≡ false = sym (c.in-None.ensures.found ∙ list_any-bytes (bytes_eq name) c.args.names.now.keys) in
-    let step : texts_of (items_view (drop c.loop-value.value-index c.args.list.now)) ≡ name ∷ rest =
-    ap texts_of (items_drop c.args.list.now c.loop-value.value-index c.value-item.result c.loop-value-test.true c.value-item.is) ∙ ap (λ (n : List ℕ). n ∷ rest) (sym c.text_of.ensures) in
-    (refl, sym c.loop-value.invariant.named ∙ ap (list_all (is_probe probes)) step ∙ ap (λ b. b && list_all (is_probe probes) rest) unknown)
+    let step : bytes_of (drop c.loop-place.place c.args.list.now) ≡ name ∷ rest = c.name_at.ensures in
+    (refl, sym c.loop-place.invariant.named ∙ ap (list_all (is_probe probes)) step ∙ ap (λ b. b && list_all (is_probe probes) rest) unknown)
 
-pub loop-value-preserved : goal.loop-value-preserved
-loop-value-preserved c =
+pub loop-place-preserved : goal.loop-place-preserved
+loop-place-preserved c =
     let probes = bytes_of c.args.names.now.keys in
-    let name = c.text_of.result.now in
+    let name = c.name_at.result.now in
     let index = c.in-Some.index in
-    let rest = texts_of (items_view (drop (c.loop-value.value-index + 1) c.args.list.now)) in
-    let whole = texts_of (items_view c.args.list.now) in
+    let rest = bytes_of (drop (c.loop-place.place + 1) c.args.list.now) in
+    let whole = bytes_of c.args.list.now in
     let known : is_probe probes name ≡ true = sym (c.in-Some.ensures.found ∙ list_any-bytes (bytes_eq name) c.args.names.now.keys) in
-    let step : texts_of (items_view (drop c.loop-value.value-index c.args.list.now)) ≡ name ∷ rest =
-    ap texts_of (items_drop c.args.list.now c.loop-value.value-index c.value-item.result c.loop-value-test.true c.value-item.is) ∙ ap (λ (n : List ℕ). n ∷ rest) (sym c.text_of.ensures) in
+    let step : bytes_of (drop c.loop-place.place c.args.list.now) ≡ name ∷ rest = c.name_at.ensures in
     let column : index + 1 ≡ column_of probes name = column_found c.args.names.now.keys name index (sym c.in-Some.ensures.index) in
-    let before : (j : ℕ) → j < length c.args.marks.now → (get_or c.loop-value.marks j false || has ((index + 1) ∷ map (column_of probes) rest) (j + 1)) ≡ has (map (column_of probes) whole) (j + 1) =
-    λ j lt. ap (λ (ns : List ℕ). get_or c.loop-value.marks j false || has ns (j + 1)) (ap (λ n. n ∷ map (column_of probes) rest) column ∙ ap (map (column_of probes)) (sym step)) ∙ c.loop-value.invariant.marks j lt in
+    let before : (j : ℕ) → j < length c.args.marks.now → (get_or c.loop-place.marks j false || has ((index + 1) ∷ map (column_of probes) rest) (j + 1)) ≡ has (map (column_of probes) whole) (j + 1) =
+    λ j lt. ap (λ (ns : List ℕ). get_or c.loop-place.marks j false || has ns (j + 1)) (ap (λ n. n ∷ map (column_of probes) rest) column ∙ ap (map (column_of probes)) (sym step)) ∙ c.loop-place.invariant.marks j lt in
     record {
-      named = sym (ap (list_all (is_probe probes)) step ∙ ap (λ b. b && list_all (is_probe probes) rest) known) ∙ c.loop-value.invariant.named;
-      marks = mark_step c.loop-value.marks index (length c.args.marks.now) (map (column_of probes) rest) (map (column_of probes) whole) (omega (arith, c.in-Some.ensures.within, c.loop-value.auto.marks, c.requires.marks)) before;
+      named = sym (ap (list_all (is_probe probes)) step ∙ ap (λ b. b && list_all (is_probe probes) rest) known) ∙ c.loop-place.invariant.named;
+      marks = mark_step c.loop-place.marks index (length c.args.marks.now) (map (column_of probes) rest) (map (column_of probes) whole) (omega (arith, c.in-Some.ensures.within, c.loop-place.auto.marks, c.requires.marks)) before;
     }

@@ -1,8 +1,7 @@
 use Rattle.std.proofs.Common.{◌≡◌, length, sym, ◌∙◌, ap, arith}
-use Rattle.serde_json.specs.View.{items_view}
-use Rattle.matrix_read.specs.Clones.{texts_of, matrix_of, clone_matrix}
+use Rattle.matrix_read.specs.CloneNames.{clones_view, names_matrix, matrix_of_names}
 use Rattle.matrix_read.specs.Names.{bytes_of}
-use Rattle.matrix_read.proofs.CloneLemmas.{some_if, length_texts, length-bytes, many_probes, probe_twice, many_clones, within_limits}
+use Rattle.matrix_read.proofs.CloneLemmas.{some_if, length-bytes, many_probes, probe_twice, many_clones, within_limits}
 use Rattle.matrix_read.proofs.clones.matrix_of.Goals as goal
 
 pub returns-then-probes : goal.returns-then-probes
@@ -21,19 +20,19 @@ returns-then-clones c =
 pub clone_matrix-requires-clause-some : goal.clone_matrix-requires-clause-some
 clone_matrix-requires-clause-some c =
     let names = rw c.in-Ok-Some.field-0-is at c.in-Ok-Some.ensures in
-    let same : length c.in-Ok-Some.names.keys ≡ length c.args.probes.now = sym (length-bytes c.in-Ok-Some.names.keys) ∙ ap length names.1 ∙ length_texts c.args.probes.now in
+    let same : length c.in-Ok-Some.names.keys ≡ length c.args.probes.now = sym (length-bytes c.in-Ok-Some.names.keys) ∙ ap length names.1 ∙ length-bytes c.args.probes.now in
     omega (arith, same, some_if _ c.if-is_empty.ensures)
 
 pub clone_matrix-requires-clause-small : goal.clone_matrix-requires-clause-small
 clone_matrix-requires-clause-small c =
     let names = rw c.in-Ok-Some.field-0-is at c.in-Ok-Some.ensures in
-    let same : length c.in-Ok-Some.names.keys ≡ length c.args.probes.now = sym (length-bytes c.in-Ok-Some.names.keys) ∙ ap length names.1 ∙ length_texts c.args.probes.now in
+    let same : length c.in-Ok-Some.names.keys ≡ length c.args.probes.now = sym (length-bytes c.in-Ok-Some.names.keys) ∙ ap length names.1 ∙ length-bytes c.args.probes.now in
     omega (arith, same, c.if-probes.false)
 
 pub returns-else-clones : goal.returns-else-clones
 returns-else-clones c =
     let names = rw c.in-Ok-Some.field-0-is at c.in-Ok-Some.ensures in
-    let whole : matrix_of (texts_of (items_view c.args.probes.now)) (items_view c.args.clones.now) ≡ clone_matrix (bytes_of c.in-Ok-Some.names.keys) (items_view c.args.clones.now) =
+    let whole : matrix_of_names (bytes_of c.args.probes.now) (clones_view c.args.clones.now) ≡ names_matrix (bytes_of c.in-Ok-Some.names.keys) (clones_view c.args.clones.now) =
     within_limits c.args.probes.now c.args.clones.now (some_if _ c.if-is_empty.ensures) c.if-probes.false names.0 c.if-clones.false
-    ∙ ap (λ probes. clone_matrix probes (items_view c.args.clones.now)) (sym names.1) in
+    ∙ ap (λ probes. names_matrix probes (clones_view c.args.clones.now)) (sym names.1) in
     rw whole c.clone_matrix.ensures

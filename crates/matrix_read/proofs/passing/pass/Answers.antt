@@ -1,0 +1,11 @@
+use Rattle.std.proofs.Common.{◌≡◌, [], None, ap, ◌∙◌, arith}
+use Rattle.matrix_read.specs.JsonSteps.{value_at, behind}
+use Rattle.matrix_read.proofs.JsonLemmas.{nothing_at_front}
+use Rattle.matrix_read.proofs.passing.pass.Goals as goal
+
+pub returns-in_err-token-clause-value : goal.returns-in_err-token-clause-value
+returns-in_err-token-clause-value c =
+    let d = c.args.depth in
+    let empty : c.args.reader.now ≡ [] = grind arith in
+    let none : behind (value_at d c.args.reader.now) ≡ None = ap (λ ts. behind (value_at d ts)) empty ∙ ap behind (nothing_at_front d) in
+    grind (arith, none)

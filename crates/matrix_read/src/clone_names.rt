@@ -1,0 +1,296 @@
+// What a clone file names: the probes, and the probes of each clone. All else is passed over, and nothing is kept of it.
+ghost use Rattle.std.specs.Prelude.{◌≡◌, ◌<◌, ◌≤◌, length, Some, None, Err, IfOk, OnOk, option_map};
+ghost use Rattle.json.specs.Json.{parse_map};
+ghost use Rattle.json.specs.Reads.{token_of};
+ghost use Rattle.serde_json.specs.Data.{no_members};
+ghost use Rattle.matrix_read.specs.Clones.{reading, strings_of, probes_of};
+ghost use Rattle.matrix_read.specs.JsonSteps.{value_at, items_at, members_at, string_in, opens_array, opens_object};
+ghost use Rattle.matrix_read.specs.CloneNames.{array_strings, member_probes, clone_names, array_clones, file_names, member_names, with_string, names_view, clones_view, list_view, file_view};
+
+use crate::passing::{pass, pass_value};
+use json::{Invalid, Reader, Scratch, Token};
+use row_model::NoMemory;
+use std::alloc::{AllocFailed, Global};
+
+// How deep the arrays and objects of a file may nest.
+const MAX_DEPTH: usize = 127;
+
+/// What a clone file names.
+#[derive(Drop)]
+pub(crate) struct CloneNames<'a> {
+    /// The strings under `probes`; none where there is no array of strings.
+    pub probes: Option<Vec<&'a str>>,
+    /// Of each of `clones` the strings under `probes`; none where there is no array.
+    pub clones: Option<Vec<Option<Vec<&'a str>>>>,
+}
+
+// Why reading stops.
+#[derive(Clone, Copy, Debug, Drop, PartialEq, Eq)]
+pub(crate) enum Stop {
+    // The text has no value.
+    NotJson,
+    // Memory was refused.
+    NoMemory,
+}
+
+impl From<Invalid> for Stop {
+    ghost use Rattle.std.specs.Prelude.{◌≡◌};
+    ghost use Rattle.matrix_read.specs.declared.clone_names.Stop.TheVariants as stop;
+
+    ghost from_gives = { λ _ made. made ≡ stop.NotJson };
+
+    fn from(_: Invalid) -> Stop {
+        Stop::NotJson
+    }
+}
+
+impl From<NoMemory> for Stop {
+    ghost use Rattle.std.specs.Prelude.{◌≡◌};
+    ghost use Rattle.matrix_read.specs.declared.clone_names.Stop.TheVariants as stop;
+
+    ghost from_gives = { λ _ made. made ≡ stop.NoMemory };
+
+    fn from(_: NoMemory) -> Stop {
+        Stop::NoMemory
+    }
+}
+
+impl<T: Drop> From<AllocFailed<T>> for Stop {
+    ghost use Rattle.std.specs.Prelude.{◌≡◌};
+    ghost use Rattle.matrix_read.specs.declared.clone_names.Stop.TheVariants as stop;
+
+    ghost from_gives = { λ _ made. made ≡ stop.NoMemory };
+
+    fn from(_: AllocFailed<T>) -> Stop {
+        Stop::NoMemory
+    }
+}
+
+/// What a text names; none where its bytes are no UTF-8 or have no value. Names with escapes stand in `scratch`, and all
+/// others in the text.
+///
+/// # Errors
+///
+/// [`NoMemory`] where memory is refused.
+pub(crate) fn names_in<'a>(
+    alloc: Global,
+    text: &'a [u8],
+    scratch: &'a mut Scratch,
+) -> Result<Option<CloneNames<'a>>, NoMemory>
+    ensures { IfOk result (λ names. option_map file_view names ≡ option_map file_names (reading text.now)) }
+{
+    let Ok(text) = std::str::from_utf8(text) else {
+        return Ok(None);
+    };
+    let mut reader = Reader::new(text, scratch)?;
+    match read_file(alloc, &mut reader, MAX_DEPTH) {
+        Err(Stop::NoMemory) => Err(NoMemory),
+        Err(Stop::NotJson) => Ok(None),
+        Ok(_) if reader.next().is_some() => Ok(None),
+        Ok(names) => Ok(Some(names)),
+    }
+}
+
+// What the next value names.
+fn read_file<'a>(
+    alloc: Global,
+    reader: &mut Reader<'a>,
+    depth: usize,
+) -> Result<CloneNames<'a>, Stop>
+    requires { 4 ≤ depth }
+    ensures ok { IfOk result (λ names. parse_map file_names (value_at depth reader.old) ≡ Some (file_view names, reader.new)) }
+    ensures err { result ≡ Err Stop.NotJson → value_at depth reader.old ≡ None }
+{
+    let token = reader.next().ok_or(Invalid)?;
+    if !opens_object(token) {
+        pass_value(token, reader, depth)?;
+        return Ok(CloneNames {
+            probes: None,
+            clones: None,
+        });
+    }
+    read_members(alloc, reader, depth - 1)
+}
+
+// What the members of an object name, up to its end. Of two equal keys the last counts.
+fn read_members<'a>(
+    alloc: Global,
+    reader: &mut Reader<'a>,
+    depth: usize,
+) -> Result<CloneNames<'a>, Stop>
+    requires { 3 ≤ depth }
+    ensures ok { IfOk result (λ names. parse_map member_names (members_at depth (length reader.old) no_members reader.old) ≡ Some (file_view names, reader.new)) }
+    ensures err { result ≡ Err Stop.NotJson → members_at depth (length reader.old) no_members reader.old ≡ None }
+{
+    let mut probes = None;
+    let mut clones = None;
+    while let Some(key) = reader.next_key()? {
+        if key == "probes" {
+            probes = read_names(alloc, reader, depth)?;
+        } else if key == "clones" {
+            clones = read_clones(alloc, reader, depth)?;
+        } else {
+            pass(reader, depth)?;
+        }
+    }
+    Ok(CloneNames { probes, clones })
+}
+
+// The probes of each clone, where the next value is an array.
+fn read_clones<'a>(
+    alloc: Global,
+    reader: &mut Reader<'a>,
+    depth: usize,
+) -> Result<Option<Vec<Option<Vec<&'a str>>>>, Stop>
+    requires { 3 ≤ depth }
+    ensures ok { IfOk result (λ clones. parse_map array_clones (value_at depth reader.old) ≡ Some (list_view clones, reader.new)) }
+    ensures shorter { OnOk result (length reader.new < length reader.old) }
+    ensures err { result ≡ Err Stop.NotJson → value_at depth reader.old ≡ None }
+{
+    let token = reader.next().ok_or(Invalid)?;
+    if !opens_array(token) {
+        pass_value(token, reader, depth)?;
+        return Ok(None);
+    }
+    let clones = read_clone_items(alloc, reader, depth - 1)?;
+    Ok(Some(clones))
+}
+
+// The probes of each item of an array, up to its end.
+fn read_clone_items<'a>(
+    alloc: Global,
+    reader: &mut Reader<'a>,
+    depth: usize,
+) -> Result<Vec<Option<Vec<&'a str>>>, Stop>
+    requires { 2 ≤ depth }
+    ensures ok { IfOk result (λ clones. parse_map clone_names (items_at depth (length reader.old) reader.old) ≡ Some (clones_view clones.items, reader.new)) }
+    ensures shorter { OnOk result (length reader.new < length reader.old) }
+    ensures err { result ≡ Err Stop.NotJson → items_at depth (length reader.old) reader.old ≡ None }
+{
+    let mut clones = Vec::new(alloc);
+    while !reader.take_end_array() {
+        let clone = read_clone(alloc, reader, depth)?;
+        clones.push(clone)?;
+    }
+    Ok(clones)
+}
+
+// The probes of the next value, if it is an object with an array of strings under `probes`.
+fn read_clone<'a>(
+    alloc: Global,
+    reader: &mut Reader<'a>,
+    depth: usize,
+) -> Result<Option<Vec<&'a str>>, Stop>
+    requires { 2 ≤ depth }
+    ensures ok { IfOk result (λ names. parse_map probes_of (value_at depth reader.old) ≡ Some (names_view names, reader.new)) }
+    ensures shorter { OnOk result (length reader.new < length reader.old) }
+    ensures err { result ≡ Err Stop.NotJson → value_at depth reader.old ≡ None }
+{
+    let token = reader.next().ok_or(Invalid)?;
+    if !opens_object(token) {
+        pass_value(token, reader, depth)?;
+        return Ok(None);
+    }
+    read_probes(alloc, reader, depth - 1)
+}
+
+// The strings under `probes` among the members of an object, up to its end. Of two equal keys the last counts.
+fn read_probes<'a>(
+    alloc: Global,
+    reader: &mut Reader<'a>,
+    depth: usize,
+) -> Result<Option<Vec<&'a str>>, Stop>
+    requires { 1 ≤ depth }
+    ensures ok { IfOk result (λ names. parse_map member_probes (members_at depth (length reader.old) no_members reader.old) ≡ Some (names_view names, reader.new)) }
+    ensures shorter { OnOk result (length reader.new < length reader.old) }
+    ensures err { result ≡ Err Stop.NotJson → members_at depth (length reader.old) no_members reader.old ≡ None }
+{
+    let mut probes = None;
+    while let Some(key) = reader.next_key()? {
+        if key == "probes" {
+            probes = read_names(alloc, reader, depth)?;
+        } else {
+            pass(reader, depth)?;
+        }
+    }
+    Ok(probes)
+}
+
+// The strings of the next value, if it is an array of strings.
+fn read_names<'a>(
+    alloc: Global,
+    reader: &mut Reader<'a>,
+    depth: usize,
+) -> Result<Option<Vec<&'a str>>, Stop>
+    requires { 1 ≤ depth }
+    ensures ok { IfOk result (λ names. parse_map array_strings (value_at depth reader.old) ≡ Some (names_view names, reader.new)) }
+    ensures shorter { OnOk result (length reader.new < length reader.old) }
+    ensures err { result ≡ Err Stop.NotJson → value_at depth reader.old ≡ None }
+{
+    let token = reader.next().ok_or(Invalid)?;
+    if !opens_array(token) {
+        pass_value(token, reader, depth)?;
+        return Ok(None);
+    }
+    read_strings(alloc, reader, depth - 1)
+}
+
+// The items of an array up to its end, if all of them are strings.
+fn read_strings<'a>(
+    alloc: Global,
+    reader: &mut Reader<'a>,
+    depth: usize,
+) -> Result<Option<Vec<&'a str>>, Stop>
+    ensures ok { IfOk result (λ names. parse_map strings_of (items_at depth (length reader.old) reader.old) ≡ Some (names_view names, reader.new)) }
+    ensures shorter { OnOk result (length reader.new < length reader.old) }
+    ensures err { result ≡ Err Stop.NotJson → items_at depth (length reader.old) reader.old ≡ None }
+{
+    let mut names = Some(Vec::new(alloc));
+    while !reader.take_end_array() {
+        let token = reader.next().ok_or(Invalid)?;
+        pass_value(token, reader, depth)?;
+        names = with_string(names, string_in(token))?;
+    }
+    Ok(names)
+}
+
+// Adds a string to names. Where there is none, no names are left.
+fn with_string<'a>(
+    names: Option<Vec<&'a str>>,
+    string: Option<&'a str>,
+) -> Result<Option<Vec<&'a str>>, NoMemory>
+    ensures { IfOk result (λ added. names_view added ≡ with_string (names_view names.entry) (option_map (λ text. text.now) string.entry)) }
+{
+    let Some(mut list) = names else {
+        return Ok(None);
+    };
+    let Some(text) = string else {
+        return Ok(None);
+    };
+    list.push(text)?;
+    Ok(Some(list))
+}
+
+// The string that a token is.
+fn string_in<'a>(token: Token<'a>) -> Option<&'a str>
+    ensures { option_map (λ text. text.now) result ≡ string_in (token_of token.entry) }
+{
+    match token {
+        Token::String(text) => Some(text),
+        _ => None,
+    }
+}
+
+// Whether a token begins an array.
+fn opens_array(token: Token<'_>) -> bool
+    ensures { result ≡ opens_array (token_of token.entry) }
+{
+    matches!(token, Token::BeginArray)
+}
+
+// Whether a token begins an object.
+fn opens_object(token: Token<'_>) -> bool
+    ensures { result ≡ opens_object (token_of token.entry) }
+{
+    matches!(token, Token::BeginObject)
+}
