@@ -8,7 +8,8 @@ use Rattle.column_order.specs.Orders.{has}
 use Rattle.pq_tree.specs.Outline.{Outline, Forest, leaf, p_node, q_node, no_tree, tree_and, leaves_of, IsFrontier, AreFrontiers}
 use Rattle.pq_tree.specs.Proper.{forest}
 use Rattle.pq_tree.proofs.Frontiers.{frontiers_occur, occurs-permutation}
-use Rattle.verdict_check.specs.Holds.{IsNode, IsNodeOf, IsStretch}
+use Rattle.pq_tree.specs.Nodes.{IsNode, IsNodeOf}
+use Rattle.verdict_check.specs.Holds.{IsStretch}
 use Rattle.verdict_check.proofs.HoldsLists.{Segment, has_same}
 use Rattle.verdict_check.proofs.HoldsFrontiers.{frontier_has}
 

@@ -6,7 +6,8 @@ use Rattle.column_order.proofs.Lists.{has_append_left, has_append_right, has_app
 use Rattle.pq_tree.specs.Outline.{Outline, Forest, leaf, p_node, q_node, no_tree, tree_and, leaves, leaves_of}
 use Rattle.pq_tree.specs.Proper.{forest, trees}
 use Rattle.pq_tree.proofs.Shown.{leaves_of-append}
-use Rattle.verdict_check.specs.Holds.{IsNode, IsNodeOf, IsStretch}
+use Rattle.pq_tree.specs.Nodes.{IsNode, IsNodeOf}
+use Rattle.verdict_check.specs.Holds.{IsStretch}
 use Rattle.verdict_check.specs.HoldsWalk.{meets, misses, meeting, resumes, is_gapped, is_split, are_split}
 use Rattle.verdict_check.proofs.HoldsLists.{none_has, all_has, meets_cases, none_append, all_append}
 use Rattle.verdict_check.proofs.HoldsSplit.{split_p, split_q, split_and, meeting_head, meeting_tail}

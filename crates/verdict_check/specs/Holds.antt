@@ -2,20 +2,9 @@
 use Rattle.std.specs.Prelude.{◌≡◌, ◌⊎◌, ◌↔◌, ℕ, List, [], ◌++◌}
 use Rattle.column_order.specs.Orders.{has, Keeps}
 use Rattle.row_model.specs.Rows.{IsRow}
-use Rattle.pq_tree.specs.Outline.{Outline, Forest, leaf, p_node, q_node, no_tree, tree_and, leaves, leaves_of, IsFrontier}
+use Rattle.pq_tree.specs.Outline.{Outline, q_node, leaves, leaves_of, IsFrontier}
+use Rattle.pq_tree.specs.Nodes.{IsNode}
 use Rattle.pq_tree.specs.Proper.{forest, IsProper}
-
--- x is a node of the tree, a leaf or the tree itself included
-abbrev mutual
-  pub IsNode : Outline → Outline → Type 0
-  IsNode x (leaf a) = x ≡ leaf a
-  IsNode x (p_node ts) = (x ≡ p_node ts) ⊎ IsNodeOf x ts
-  IsNode x (q_node ts) = (x ≡ q_node ts) ⊎ IsNodeOf x ts
-
-  -- x is a node of one of the trees
-  pub IsNodeOf : Outline → Forest → Type 0
-  IsNodeOf x no_tree = ⊥
-  IsNodeOf x (tree_and t ts) = IsNode x t ⊎ IsNodeOf x ts
 
 -- the columns are the leaves of a node of the tree, or the leaves of neighbouring children of one of its Q-nodes
 abbrev pub IsStretch : List ℕ → Outline → Type 0

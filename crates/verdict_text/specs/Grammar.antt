@@ -54,13 +54,16 @@ AreSides [] (s ∷ sides) = ⊥
 AreSides (c ∷ columns) [] = ⊥
 AreSides (c ∷ columns) (s ∷ sides) = IsSide c s × AreSides columns sides
 
+-- an interval whose ends fit the grammar
 abbrev pub IsInterval : Interval → Type 0
 IsInterval v = Fits64 v.left × Fits64 v.right
 
+-- a place that is nowhere, or whose positions fit the grammar
 abbrev pub IsPlace : Place → Type 0
 IsPlace Nowhere = Unit {0}
 IsPlace (At first last) = Fits32 first × Fits32 last
 
+-- a span whose ends fit the grammar
 abbrev pub IsSpan : Span → Type 0
 IsSpan span = Fits32 span.first × Fits32 span.last
 
@@ -70,6 +73,7 @@ HasAdded Proper columns added = (length added.intervals ∷ [] ≡ columns) × A
 HasAdded Clones columns added = (added.intervals ≡ []) × Fits32 (length added.places) × AllByRecursion IsPlace added.places × Fits32 (length added.contigs) × AllByRecursion IsSpan added.contigs
 HasAdded kind columns added = (added.intervals ≡ []) × (added.places ≡ []) × (added.contigs ≡ [])
 
+-- a reason that is a flip, or whose row fits the grammar
 abbrev pub IsReason : Why → Type 0
 IsReason Flip = Unit {0}
 IsReason (Row k) = Fits32 k

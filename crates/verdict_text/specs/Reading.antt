@@ -19,6 +19,7 @@ use Rattle.verdict_text.specs.Text.{kind_word}
 use Rattle.verdict_text.specs.Grammar.{max_number, max_end, side_count}
 use Rattle.verdict_text.specs.Numbered.{numbered_at, with_first}
 
+-- what is read next, where the first is there
 infixl 10 ◌>>=◌
 abbrev pub ◌>>=◌ : {A B : Type 0} → Option A → (A → Option B) → Option B
 o >>= f = option_and_then f o
@@ -28,9 +29,11 @@ abbrev pub or_else : {A : Type 0} → Option A → Option A → Option A
 or_else None o = o
 or_else (Some x) o = Some x
 
+-- the kinds, in the order in which their words are tried
 abbrev pub all_kinds : List Kind
 all_kinds = Matrix ∷ Rows ∷ Table ∷ Circular ∷ Convex ∷ Doubly ∷ Proper ∷ Robinson ∷ Clones ∷ []
 
+-- the kind, and the bytes after its word
 abbrev pub with_kind : Kind → List ℕ → Option (Kind × List ℕ)
 with_kind kind rest = Some (kind, rest)
 
@@ -74,6 +77,7 @@ abbrev pub line_len : List ℕ → ℕ
 line_len [] = 0
 line_len (b ∷ bytes) = if b == 10 then 0 else suc (line_len bytes)
 
+-- the tree, and the bytes after it
 abbrev pub with_bytes : List ℕ → Outline → Option (Outline × List ℕ)
 with_bytes rest tree = Some (tree, rest)
 
@@ -81,6 +85,7 @@ with_bytes rest tree = Some (tree, rest)
 unfoldable pub tree_at : ℕ → List ℕ → Option (Outline × List ℕ)
 tree_at c bytes = tree_of c (take (line_len bytes) bytes) >>= with_bytes (drop (line_len bytes) bytes)
 
+-- what stands after a space, where one was there; else no number
 abbrev pub after_space : Option (List ℕ) → List ℕ → (List ℕ → Option (List ℕ × List ℕ)) → Option (List ℕ × List ℕ)
 after_space None bytes more = Some ([], bytes)
 after_space (Some space) bytes more = more space
@@ -107,6 +112,7 @@ index_at word i bytes = do
   n ← number_at max_number first
   if n.0 == i then Some n.1 else None
 
+-- the line of the interval of this number
 unfoldable pub interval_at : ℕ → List ℕ → Option (Interval × List ℕ)
 interval_at i bytes = do
   index ← index_at (codes "interval ") i bytes
@@ -127,9 +133,11 @@ ends_at bytes = do
   rest ← word_at (10 ∷ []) last.1
   Some (record { first = first.0; last = last.0 }, rest)
 
+-- no place, and the bytes after it
 abbrev pub as_nowhere : List ℕ → Option (Place × List ℕ)
 as_nowhere rest = Some (Nowhere, rest)
 
+-- the ends as a place, and the bytes after them
 abbrev pub as_place : (Span × List ℕ) → Option (Place × List ℕ)
 as_place ends = Some (At ends.0.first ends.0.last, ends.1)
 
@@ -137,6 +145,7 @@ as_place ends = Some (At ends.0.first ends.0.last, ends.1)
 abbrev pub where_at : List ℕ → Option (Place × List ℕ)
 where_at bytes = or_else (word_at (codes " none\n") bytes >>= as_nowhere) (ends_at bytes >>= as_place)
 
+-- the line of the place of this number
 unfoldable pub place_at : ℕ → List ℕ → Option (Place × List ℕ)
 place_at i bytes = index_at (codes "place ") i bytes >>= where_at
 
@@ -152,6 +161,7 @@ counted_at word read bytes = do
   next ← word_at (10 ∷ []) count.1
   numbered_at read 1 count.0 next
 
+-- the places and the contigs
 unfoldable pub placed_at : List ℕ → Option (AddedValue × List ℕ)
 placed_at bytes = do
   places ← counted_at (codes "places ") place_at bytes
@@ -176,6 +186,7 @@ yes_at kind (c ∷ d ∷ columns) bytes = do
   second ← side_at d first.1
   Some (record { sides = first.0 ∷ second.0 ∷ []; added = no_added }, second.1)
 
+-- a row as the reason, and the end of the line
 unfoldable pub row_at : List ℕ → Option (Why × List ℕ)
 row_at bytes = do
   row ← word_at (codes " row ") bytes
@@ -183,9 +194,11 @@ row_at bytes = do
   rest ← word_at (10 ∷ []) k.1
   Some (Row k.0, rest)
 
+-- a flip, and the bytes after it
 abbrev pub as_flip : List ℕ → Option (Why × List ℕ)
 as_flip rest = Some (Flip, rest)
 
+-- a flip or a row as the reason, and the end of the line
 unfoldable pub why_at : List ℕ → Option (Why × List ℕ)
 why_at bytes = or_else (word_at (codes " flip\n") bytes >>= as_flip) (row_at bytes)
 
@@ -206,13 +219,16 @@ no_at sides bytes = do
   lines ← counted_at (codes "\ncycle ") line_at side.1
   if side.0 == 0 then None else Some (no_claim side.0 lines.0, lines.1)
 
+-- a yes as the claim, and the bytes after it
 abbrev pub as_yes : (YesValue × List ℕ) → Option (Claim × List ℕ)
 as_yes x = Some (yes_claim x.0, x.1)
 
+-- a yes, where its word stood at the front, and else a no
 abbrev pub yes_or_no : Kind → List ℕ → Option (List ℕ) → List ℕ → Option (Claim × List ℕ)
 yes_or_no kind columns (Some rest) bytes = yes_at kind columns rest >>= as_yes
 yes_or_no kind columns None bytes = word_at (codes "answer no\n") bytes >>= no_at (side_count kind)
 
+-- the answer and all that it claims
 unfoldable pub claim_at : Kind → List ℕ → List ℕ → Option (Claim × List ℕ)
 claim_at kind columns bytes = yes_or_no kind columns (word_at (codes "answer yes\n") bytes) bytes
 

@@ -28,29 +28,38 @@ abbrev pub Gives : {X Y : Type 0} → (X → Y) → Result X Stop → Option Y �
 Gives view (Ok x) read = read ≡ Some (view x)
 Gives view (Err e) read = Stops e read
 
+-- the kind, the numbers of columns, and the bytes after them
 abbrev pub head_seen : (Kind × Columns × Bor (List ℕ)) → ((Kind × List ℕ) × List ℕ)
 head_seen x = ((x.0, column_counts x.1), x.2.now)
 
+-- the numbers of columns, and the bytes after them
 abbrev pub columns_seen : (Columns × Bor (List ℕ)) → (List ℕ × List ℕ)
 columns_seen x = (column_counts x.0, x.1.now)
 
+-- the outline of the tree, and the bytes after it
 abbrev pub tree_seen : (PqTree × Bor (List ℕ)) → (Outline × List ℕ)
 tree_seen x = (outline x.0, x.1.now)
 
+-- the numbers, and the bytes after them
 abbrev pub numbers_seen : (Vec ℕ Global × Bor (List ℕ)) → (List ℕ × List ℕ)
 numbers_seen x = (x.0.items, x.1.now)
 
+-- what the side says, and the bytes after it
 abbrev pub side_seen : (Side × Bor (List ℕ)) → (SideValue × List ℕ)
 side_seen x = (side_value x.0, x.1.now)
 
+-- what the kind adds, and the bytes after it
 abbrev pub added_seen : (Added × Bor (List ℕ)) → (AddedValue × List ℕ)
 added_seen x = (added_value x.0, x.1.now)
 
+-- what the yes says, and the bytes after it
 abbrev pub yes_seen : (YesPart × Bor (List ℕ)) → (YesValue × List ℕ)
 yes_seen x = (yes_value x.0, x.1.now)
 
+-- what the no claims, and the bytes after it
 abbrev pub no_seen : (NoPart × Bor (List ℕ)) → (Claim × List ℕ)
 no_seen x = (no_claim x.0.side x.0.lines, x.1.now)
 
+-- what the yes or the no claims, and the bytes after it
 abbrev pub part_seen : (Part × Bor (List ℕ)) → (Claim × List ℕ)
 part_seen x = (claim_of x.0, x.1.now)
