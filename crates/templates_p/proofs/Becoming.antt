@@ -43,11 +43,11 @@ p2_can_gather f w n r s =
     let a : length (empties w ks) ≡ count (tree_and two.e two.es) = sym (count_map o (empties w ks)) ∙ ap count u.0 in
     can_gather f w n r s.3.0 (omega arith)
 
-no_trees : (o : ℕ → Outline) (xs : List ℕ) (t : Outline) (ts : Forest) → xs ≡ [] → forest (map o xs) ≡ tree_and t ts → ⊥
+pub no_trees : (o : ℕ → Outline) (xs : List ℕ) (t : Outline) (ts : Forest) → xs ≡ [] → forest (map o xs) ≡ tree_and t ts → ⊥
 no_trees o [] t ts e q = cc
 no_trees o (x ∷ xs) t ts e q = cc
 
-occurs_none : (xs : List ℕ) (k : ℕ) → length xs ≡ 0 → occurs xs k ≡ 0
+pub occurs_none : (xs : List ℕ) (k : ℕ) → length xs ≡ 0 → occurs xs k ≡ 0
 occurs_none [] k e = refl
 occurs_none (x ∷ xs) k e = absurd (omega arith)
 

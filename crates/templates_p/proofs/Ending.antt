@@ -68,7 +68,7 @@ absorbed_stands f g v w n h c end a x ts lay s b eq =
     q_stands g h ((s.es ++ s.fs) ++ c ∷ []) (join (line x) ts) lay b.shape
     (same_place (children_at g h) (put_on end c (children_at f h)) ((s.es ++ s.fs) ++ c ∷ []) b.children (put_sides (children_at f h) (s.es ++ s.fs) c end s.children)) trees
 
-only_member : (xs : List ℕ) (y : ℕ) → length xs ≡ 1 → 1 ≤ occurs xs y → xs ≡ y ∷ []
+pub only_member : (xs : List ℕ) (y : ℕ) → length xs ≡ 1 → 1 ≤ occurs xs y → xs ≡ y ∷ []
 only_member [] y e o = absurd (omega arith)
 only_member (x ∷ []) y e o = ap (λ z. z ∷ []) (sym (only_one y x o))
 only_member (x ∷ z ∷ xs) y e o = absurd (omega arith)

@@ -225,7 +225,7 @@ one_made f w n y r is_p e o l =
       others = λ k q. record { label = refl; tree = refl; shape = λ h x. x };
     }
 
-two_kinds : (n x m : ℕ) → occurs (n ∷ x ∷ []) m ≡ 0 → (m ≢ n) × (m ≢ x)
+pub two_kinds : (n x m : ℕ) → occurs (n ∷ x ∷ []) m ≡ 0 → (m ≢ n) × (m ≢ x)
 two_kinds n x m z = (
   λ e. let o : 1 ≤ occurs (n ∷ x ∷ []) m = subst (λ y. 1 ≤ occurs (n ∷ x ∷ []) y) (sym e) (occurs_here n (x ∷ [])) in omega arith,
   λ e. let o : 1 ≤ occurs (x ∷ []) m = subst (λ y. 1 ≤ occurs (x ∷ []) y) (sym e) (occurs_here x []) in omega arith,

@@ -66,7 +66,7 @@ handed_root f g n h lay can e q = subst (λ z. IsHandedOver f z n h) (sym q) (re
     top = subst (λ z. times_child f.slots z ≡ 0) (sym e) lay.root_top
 
 -- what is no longer there once it was replaced
-gone_replaced : (xs : List ℕ) (n h : ℕ) → n ≢ h → occurs (with_replaced xs n h) n ≡ 0
+pub gone_replaced : (xs : List ℕ) (n h : ℕ) → n ≢ h → occurs (with_replaced xs n h) n ≡ 0
 gone_replaced [] n h ne = refl
 gone_replaced (x ∷ xs) n h ne = elim (cases_eq x n) [
   | inl e ↦ let q : occurs (cond (eqb x n) h x ∷ with_replaced xs n h) n ≡ occurs (h ∷ with_replaced xs n h) n = ap (λ b. occurs (cond b h x ∷ with_replaced xs n h) n) (eq-eqb x n e) in

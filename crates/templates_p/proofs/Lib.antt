@@ -14,3 +14,13 @@ pub mod Ending
 pub mod Siding
 pub mod Settling
 pub mod FullEnd
+pub mod Merging
+pub mod Splicing
+pub mod Lengthening
+pub mod TwoPartials
+pub mod Joined
+pub mod Parting
+pub mod Lining
+pub mod Filling
+pub mod Starting
+pub mod Lifting

@@ -162,7 +162,7 @@ moved_one f g n x done c m can r =
           ]) g.root m.below;
     }
 
-spare_head : (xs : List ℕ) → 1 ≤ length xs → xs ≡ head_or xs none ∷ all_but_first xs
+pub spare_head : (xs : List ℕ) → 1 ≤ length xs → xs ≡ head_or xs none ∷ all_but_first xs
 spare_head [] l = absurd (omega arith)
 spare_head (x ∷ xs) l = refl
 

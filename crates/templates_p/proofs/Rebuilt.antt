@@ -85,7 +85,7 @@ replaced_has (x ∷ xs) n m o = elim (cases_eq n x) [
   | inr d ↦ let r : 1 ≤ occurs (with_replaced xs n m) m = replaced_has xs n m (subst (λ z. 1 ≤ z) (occurs_other x n xs d) o) in omega arith
 ]
 
-none_child : (f : Layout) (m k : ℕ) → IsLayout f → shape_at f m ≡ None → 1 ≤ occurs (children_at f m) k → ⊥
+pub none_child : (f : Layout) (m k : ℕ) → IsLayout f → shape_at f m ≡ None → 1 ≤ occurs (children_at f m) k → ⊥
 none_child f m k h e o =
     let z : children_at f m ≡ [] = subst (λ s. MayHaveChildren s (children_at f m)) e (h.children_fit m) in
     let q : 1 ≤ occurs [] k = subst (λ ks. 1 ≤ occurs ks k) z o in omega arith

@@ -29,7 +29,7 @@ all_at H (x ∷ xs) k a o = elim (cases_eq k x) [
   | inr ne ↦ all_at H xs k (All-tail H x xs a) (subst (λ z. 1 ≤ z) (occurs_other x k xs ne) o)
 ]
 
-head_in : (xs : List ℕ) (d : ℕ) → 1 ≤ length xs → 1 ≤ occurs xs (head_or xs d)
+pub head_in : (xs : List ℕ) (d : ℕ) → 1 ≤ length xs → 1 ≤ occurs xs (head_or xs d)
 head_in [] d l = absurd (omega arith)
 head_in (x ∷ xs) d l = occurs_here x xs
 

@@ -2,3 +2,5 @@ pub mod Sorts
 pub mod Fits
 pub mod Steps
 pub mod Lines
+pub mod Merging
+pub mod Parts

@@ -4,3 +4,13 @@ pub mod Lines
 pub mod Runs
 pub mod Fitting
 pub mod Splices
+pub mod Splicing
+pub mod Finding
+pub mod Making
+pub mod Stretches
+pub mod Spans
+pub mod Spanning
+pub mod Opening
+pub mod Twice
+pub mod Laying
+pub mod Done

@@ -1,3 +1,6 @@
 pub mod Walk
 pub mod Lines
 pub mod Fits
+pub mod Splicing
+pub mod Span
+pub mod Opening

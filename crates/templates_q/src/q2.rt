@@ -1,14 +1,19 @@
 // Q2.
 ghost use Rattle.std.specs.Prelude.{◌≡◌, ℕ, ◌+◌, ◌*◌, ◌≤◌, ◌↔◌, IsTrue, List, [], length, None};
-ghost use Rattle.bubble_pass.specs.Marks.{fulls_at, partials_at, size_of};
-ghost use Rattle.pq_plain.specs.Templates.{Label};
-ghost use Rattle.template_model.specs.Standing.{IsReady, AreMarkedAs};
+ghost use Rattle.bubble_pass.specs.declared.labels.Label.TheVariants.{Partial as Partly};
+ghost use Rattle.bubble_pass.specs.Marks.{label_at, fulls_at, partials_at, size_of};
+ghost use Rattle.arena_model.specs.Layout.{children_at};
+ghost use Rattle.pq_plain.specs.Templates.{Partial, Label, IsQ2};
+ghost use Rattle.template_model.specs.Standing.{IsReady, AreMarkedAs, AreShapesAt, child_trees};
+ghost use Rattle.template_model.specs.Treated.{IsTreated, StandsForPartial};
 ghost use Rattle.templates_q.specs.Walk.{IsGap};
 ghost use Rattle.templates_q.specs.Lines.{AreCounted, IsRunFrom};
-ghost use Rattle.templates_q.specs.Fits.{FitsQ2};
+ghost use Rattle.templates_q.specs.Fits.{FitsQ2, StandsQ2};
+ghost use Rattle.templates_q.specs.Splicing.{IsPartialLine};
 ghost use Rattle.pq_arena.specs.Looks.{ShowsNode};
 ghost use Rattle.arena_model.specs.declared.Shape.TheVariants.{Q};
 
+use crate::splice::splice_in;
 use crate::walk::{Gap, past_fulls, past_partial};
 use bubble_pass::{Counts, Work};
 use pq_arena::{Arena, NodeId, NodeView, Shape};
@@ -96,4 +101,88 @@ pub fn fits_q2<L: Ledger>(
         Shape::Q => has_q2(arena, work, node, &view, steps),
         Shape::Leaf(_) | Shape::P => false,
     }
+}
+
+// A partial child, and its neighbour on the side of the full children: none where there is no full child.
+#[derive(Clone, Copy)]
+pub struct Line {
+    pub child: NodeId,
+    pub towards: Option<NodeId>,
+}
+
+// The end of the Q-node in view from which its full children come first.
+fn full_side<L: Ledger>(
+    arena: &Arena,
+    work: &Work,
+    node: NodeId,
+    view: &NodeView,
+    steps: &mut Steps<L>,
+) -> Gap
+    requires ready { IsReady arena.now work.now node.index }
+    requires shown { ShowsNode arena.now node.index view.now }
+    requires fits { (ps : List Label) × AreMarkedAs arena.now work.now node.index ps × FitsQ2 arena.now node.index ps }
+    ensures side { (ks : List ℕ) × IsGap arena.now node.index [] ks result × IsRunFrom work.now ks }
+    ensures ticks { steps.new ≤ steps.old + fulls_at work.now node.index + partials_at work.now node.index }
+{
+    let counts = work.counts(node);
+    let front = Gap {
+        before: None,
+        next: view.ends[0],
+    };
+    if is_run_from(arena, work, front, counts, steps) {
+        return front;
+    }
+    Gap {
+        before: None,
+        next: view.ends[1],
+    }
+}
+
+// The partial child of `node`, where Q2 fits and there is one.
+fn find_line<L: Ledger>(arena: &Arena, work: &Work, node: NodeId, steps: &mut Steps<L>) -> Line
+    requires ready { IsReady arena.now work.now node.index }
+    requires fits { (ps : List Label) × AreMarkedAs arena.now work.now node.index ps × FitsQ2 arena.now node.index ps }
+    requires some { 1 ≤ partials_at work.now node.index }
+    ensures line { IsPartialLine arena.now work.now node.index result }
+    ensures ticks { steps.new ≤ steps.old + 2 * (fulls_at work.now node.index + partials_at work.now node.index) + 1 }
+{
+    arena.layout_law();
+    let view = arena.look(node, steps);
+    let side = full_side(arena, work, node, &view, steps);
+    let place = past_fulls(arena, work, side, steps).gap;
+    let Some(child) = place.next else {
+        unreachable!()
+    };
+    Line {
+        child,
+        towards: place.before,
+    }
+}
+
+/// Applies Q2 at `node`: the children of its partial child stand in that child's place, the empty ones on the side of
+/// the empty children. Where there is no partial child, nothing changes. The answer is `node`.
+///
+/// It ticks at most 64 times for each labelled child, and 64 times more.
+pub fn apply_q2<L: Ledger>(
+    arena: &mut Arena,
+    work: &mut Work,
+    node: NodeId,
+    steps: &mut Steps<L>,
+) -> NodeId
+    requires ready { IsReady arena.old work.old node.index }
+    requires stands { StandsQ2 arena.old work.old node.index }
+    ensures treated { IsTreated arena.old arena.new work.old work.new node.index result.index }
+    ensures becomes { (ps : List Label) (x : Partial) → AreMarkedAs arena.old work.old node.index ps →
+        AreShapesAt arena.old work.old (children_at arena.old node.index) ps → label_at work.old node.index ≡ Partly →
+        IsQ2 (child_trees arena.old node.index) ps x → StandsForPartial arena.new work.new result.index x }
+    ensures ticks { steps.new ≤ steps.old + 64 * (fulls_at work.old node.index + partials_at work.old node.index + 1) }
+{
+    arena.layout_law();
+    if work.counts(node).partial == 0 {
+        return node;
+    }
+    let line = find_line(arena, work, node, steps);
+    splice_in(arena, work, line.child, line.towards, steps);
+    arena.layout_law();
+    node
 }

@@ -65,7 +65,7 @@ fn beyond(view: &NodeView, before: Option<NodeId>) -> Option<NodeId>
 }
 
 // The place behind the child `x`, which is next.
-fn past<L: Ledger>(arena: &Arena, from: Gap, x: NodeId, steps: &mut Steps<L>) -> Gap
+pub fn past<L: Ledger>(arena: &Arena, from: Gap, x: NodeId, steps: &mut Steps<L>) -> Gap
     requires { IsInUse arena.now x.index }
     ensures passed { (q : ℕ) (us vs : List ℕ) → IsFirst arena.now q us x.index vs from → IsGap arena.now q (us ++ x.index ∷ []) vs result }
     ensures ticks { steps.new ≡ steps.old + 1 }
