@@ -58,7 +58,7 @@ once : (f : Layout) (n k : ℕ) → IsLayout f → occurs (children_at f n) k �
 once f n k h = let a : occurs (children_at f n) k ≤ times_child f.slots k = children_times f n k in let b : times_child f.slots k ≤ 1 = h.once k in omega arith
 
 -- where a child of the run stands among the children
-in_run : {f : Layout} {v : Marks} {row : List ℕ} (s : AtFoundInside f v row) (k : ℕ) →
+pub in_run : {f : Layout} {v : Marks} {row : List ℕ} (s : AtFoundInside f v row) (k : ℕ) →
     occurs (children_at f s.found.run.q) k ≡ occurs s.found.run.us k + occurs s.found.run.ks k + occurs s.found.run.vs k
 in_run s k = ap (λ z. occurs z k) s.found.run.kids_are ∙ omega (arith, occurs-append s.found.run.us (s.found.run.ks ++ s.found.run.vs) k, occurs-append s.found.run.ks s.found.run.vs k)
 
@@ -136,7 +136,7 @@ inside_kids {f = f} {v = v} {row = row} ts s d = kids s.ground s.found.run.q (he
         subst (λ z. IsLabelled f v row z) t.3 (labels_up s.ground (length v.nodes) (omega arith) (λ j l. not_inside s j l) (λ j l. (template_in ts j, d.fits j l)) t.0 t.1)
 
 -- the children outside of the run have no label
-outer_empty : {f : Layout} {v : Marks} {row : List ℕ} (s : AtFoundInside f v row) → (k : ℕ) → 1 ≤ occurs s.found.run.us k + occurs s.found.run.vs k → label_at v k ≡ Empty
+pub outer_empty : {f : Layout} {v : Marks} {row : List ℕ} (s : AtFoundInside f v row) → (k : ℕ) → 1 ≤ occurs s.found.run.us k + occurs s.found.run.vs k → label_at v k ≡ Empty
 outer_empty {f = f} {v = v} {row = row} s k o = elim (is_empty (label_at v k)) [
   | inl e ↦ e
   | inr some ↦
@@ -319,6 +319,9 @@ inside_child {v = v} r k o = child_now r.step r.found.found.run.q k (inside_stan
 
 pub inside_children : {f g : Layout} {v w : Marks} {row : List ℕ} {place : ℕ → ℕ} (r : InsideNow f g v w row place) → ChildrenNow f v row g w (children_at f r.found.found.run.q) (map place (children_at f r.found.found.run.q))
 inside_children {f = f} {g = g} {v = v} {w = w} {row = row} {place = place} r = children_built f v row g w place (children_at f r.found.found.run.q) (λ k o. inside_child r k o)
+
+pub inside_moved : {f g : Layout} {v w : Marks} {row : List ℕ} {place : ℕ → ℕ} (r : InsideNow f g v w row place) → children_at g r.found.found.run.q ≡ map place (children_at f r.found.found.run.q)
+inside_moved r = r.step.applied.children r.found.found.run.q (inside_standing r)
 
 all_map : (P : ℕ → Type 0) (place : ℕ → ℕ) (ks : List ℕ) → ((k : ℕ) → 1 ≤ occurs ks k → P (place k)) → All P (map place ks)
 all_map P place [] of = λ i d l. absurd (omega arith)

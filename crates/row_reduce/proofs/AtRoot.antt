@@ -93,7 +93,7 @@ kids_at {f = f} {v = v} {row = row} s i l below fits =
     subst (λ z. IsLabelled f v row z) b.2 (labels_up s i (omega arith) below fits b.0 b.1))
 
 -- the pertinent root holds the row, and no child of it does
-least : {f : Layout} {v : Marks} {row : List ℕ} {q : ℕ} → AtFoundRoot f v row q → IsPertinentRoot row (outline_at f) (outline_below f q)
+pub least : {f : Layout} {v : Marks} {row : List ℕ} {q : ℕ} → AtFoundRoot f v row q → IsPertinentRoot row (outline_at f) (outline_below f q)
 least {f = f} {row = row} {q = q} s = root_is f row q s.ground.layout s.ground.one s.ground.is_row s.ground.used s.found.root.holds
     (λ k o h. no_circle f.slots q k (s.ground.layout.grounds q) o (s.found.root.least k h))
 
@@ -150,7 +150,7 @@ not_last {v = v} s i l e =
 top_not : (root : NodeId) (n : ℕ) → n ≢ root.index → is_top (Some root) n ≡ false
 top_not root n ne = ne_eqb n root.index ne
 
-top_is : (root : NodeId) (n : ℕ) → n ≡ root.index → is_top (Some root) n ≡ true
+pub top_is : (root : NodeId) (n : ℕ) → n ≡ root.index → is_top (Some root) n ≡ true
 top_is root n e = eq-eqb n root.index e
 
 pub chosen_below : {f : Layout} {v : Marks} {row : List ℕ} (root : NodeId) (ts : List Template) → AtFoundRoot f v row root.index → length v.nodes ≤ length ts → AreDecided f v (Some root) ts (length v.nodes) →

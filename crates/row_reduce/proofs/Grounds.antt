@@ -3,6 +3,7 @@ use Rattle.std.proofs.Common.{◌≡◌, ◌≢◌, ◌⊎◌, inl, inr, ℕ, ze
 use Rattle.std.proofs.lemmas.Bool.{cases_eq, cases_lt}
 use Rattle.column_order.specs.Orders.{occurs}
 use Rattle.column_order.proofs.Lists.{has_from_occurs}
+use Rattle.row_model.specs.Rows.{IsRow}
 use Rattle.row_model.proofs.Ascending.{row_within}
 use Rattle.arena_model.specs.ChildLists.{none}
 use Rattle.arena_model.specs.declared.Shape.TheVariants.{Leaf}
@@ -58,13 +59,16 @@ right_at {f = f} {q = q} s n some ne =
       of_children = λ k o. right_child s n k l o;
     }
 
--- each number of the row is a leaf
-pub row_leaf : {f : Layout} {v : Marks} {row : List ℕ} {q : ℕ} → IsGround f v row q → (x : ℕ) → 1 ≤ occurs (leaves_of row) x → (a : ℕ) × (shape_at f x ≡ Some (Leaf a))
-row_leaf {f = f} {row = row} s x o =
-    let e : occurs (leaves_of row) x ≡ occurs row (x + 1) = row_occurs f.columns 0 row x s.is_row in
-    let w = row_within f.columns row s.is_row (x + 1) (has_from_occurs row (x + 1) (omega arith)) in
+-- each number of a row is a leaf
+pub row_leaf_at : (f : Layout) (row : List ℕ) → IsLayout f → IsRow f.columns row → (x : ℕ) → 1 ≤ occurs (leaves_of row) x → (a : ℕ) × (shape_at f x ≡ Some (Leaf a))
+row_leaf_at f row layout is_row x o =
+    let e : occurs (leaves_of row) x ≡ occurs row (x + 1) = row_occurs f.columns 0 row x is_row in
+    let w = row_within f.columns row is_row (x + 1) (has_from_occurs row (x + 1) (omega arith)) in
     let le : x + 1 ≤ f.columns = w.1 in
-    (x + 1, s.layout.leaves x (omega arith))
+    (x + 1, layout.leaves x (omega arith))
+
+pub row_leaf : {f : Layout} {v : Marks} {row : List ℕ} {q : ℕ} → IsGround f v row q → (x : ℕ) → 1 ≤ occurs (leaves_of row) x → (a : ℕ) × (shape_at f x ≡ Some (Leaf a))
+row_leaf {f = f} {row = row} s x o = row_leaf_at f row s.layout s.is_row x o
 
 -- a node above a labelled one, below the pertinent root, is labelled
 pub above_labelled : {f : Layout} {v : Marks} {row : List ℕ} {q : ℕ} → IsGround f v row q → (k n : ℕ) → IsAtOrAbove f.slots q k → k ≢ q → n ≢ q → IsAtOrAbove f.slots k n → label_at v n ≢ Empty → label_at v k ≢ Empty

@@ -14,3 +14,15 @@ pub mod AtRoot
 pub mod Begin
 pub mod AtInside
 pub mod Ticks
+pub mod Finding
+pub mod Taking
+pub mod Applying
+pub mod Turning
+pub mod OneApplied
+pub mod RootDone
+pub mod InsideDone
+pub mod RowDone
+pub mod Blocks
+pub mod RowLength
+pub mod Kept
+pub mod Staying

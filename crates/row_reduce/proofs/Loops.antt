@@ -18,7 +18,7 @@ use Rattle.row_reduce.specs.Applying.{AreApplied}
 use Rattle.row_reduce.specs.Decided.{is_top, template_in, labelled_at, AreDecided, IsStopped, AreChosen}
 use Rattle.row_reduce.proofs.Answering.{ChildrenNow}
 use Rattle.row_reduce.proofs.Grounds.{taken_at, node_stands, node_labelled}
-use Rattle.row_reduce.proofs.Applied.{AtPlace, now_at}
+use Rattle.row_reduce.proofs.Applied.{AtStep, AtPlace, now_at}
 
 index_at : (xs : List NodeId) (i : ℕ) (d : NodeId) → i < length xs → (get_or xs i d).index ≡ get_or (indices xs) i none
 index_at [] i d l = absurd (omega arith)
@@ -58,7 +58,7 @@ sum_taken F [] i l = absurd (omega arith)
 sum_taken F (x ∷ xs) zero l = omega (arith, sum_by-cons F x [])
 sum_taken F (x ∷ xs) (suc i) l = omega (arith, sum_taken F xs i (omega arith), sum_by-cons F x (take (suc i) xs), sum_by-cons F x (take i xs))
 
-sum_part : (F : ℕ → ℕ) (xs : List ℕ) (i : ℕ) → sum_by F (take i xs) ≤ sum_by F xs
+pub sum_part : (F : ℕ → ℕ) (xs : List ℕ) (i : ℕ) → sum_by F (take i xs) ≤ sum_by F xs
 sum_part F [] zero = omega arith
 sum_part F [] (suc i) = omega arith
 sum_part F (x ∷ xs) zero = omega arith
@@ -73,21 +73,26 @@ sum_step F xs i node s0 s s' l e a b =
 pub sum_stop : (F : ℕ → ℕ) (xs : List ℕ) (i node s0 s s' : ℕ) → i < length xs → node ≡ get_or xs i none → s ≤ s0 + sum_by F (take i xs) → s' ≤ s + F node → s' ≤ s0 + sum_by F xs
 sum_stop F xs i node s0 s s' l e a b = let r : s' ≤ s0 + sum_by F (take (i + 1) xs) = sum_step F xs i node s0 s s' l e a b in omega (arith, sum_part F xs (i + 1))
 
+-- the templates of the first of the chosen nodes are applied
+pub at_step : (f g : Layout) (v w : Marks) (row : List ℕ) (q : ℕ) (ts : List Template) (count i : ℕ) (place : ℕ → ℕ) → AreChosen f v row q ts count → i ≤ count → IsLayout g →
+    AreApplied f v row (take i v.nodes) place g w → AtStep f v row q i place g w
+at_step f g v w row q ts count i place c l h a = record {
+  ground = c.ground;
+  g_layout = h;
+  applied = a;
+  below = λ y o. let t = taken_at v.nodes i y o in let lt : t.0 < i = t.1 in subst (λ z. z ≢ q) t.3 (c.below t.0 (omega arith));
+}
+
 -- the next of the chosen nodes
 pub at_place : (f g : Layout) (v w : Marks) (row : List ℕ) (q : ℕ) (ts : List Template) (count i : ℕ) (place : ℕ → ℕ) → AreChosen f v row q ts count → i < count → IsLayout g →
     AreApplied f v row (take i v.nodes) place g w → AtPlace f v row q i place g w
 at_place f g v w row q ts count i place c l h a = record {
-  step = record {
-    ground = c.ground;
-    g_layout = h;
-    applied = a;
-    below = λ y o. let t = taken_at v.nodes i y o in let lt : t.0 < i = t.1 in subst (λ z. z ≢ q) t.3 (c.below t.0 (omega arith));
-  };
+  step = at_step f g v w row q ts count i place c (omega arith) h a;
   some = let few : count ≤ length v.nodes = c.few in omega arith;
   not_top = c.below i l;
 }
 
-sum_marks : (F : Mark → ℕ) (lab : ℕ → Mark) (ks : List ℕ) → sum_by (λ k. F (lab k)) ks ≡ sum_by F (map lab ks)
+pub sum_marks : (F : Mark → ℕ) (lab : ℕ → Mark) (ks : List ℕ) → sum_by (λ k. F (lab k)) ks ≡ sum_by F (map lab ks)
 sum_marks F lab [] = refl
 sum_marks F lab (k ∷ ks) = omega (arith, sum_marks F lab ks, sum_by-cons (λ k. F (lab k)) k ks, sum_by-cons F (lab k) (map lab ks))
 

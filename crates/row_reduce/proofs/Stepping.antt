@@ -35,7 +35,7 @@ pub record Stepping (f g h : Layout) (v w u : Marks) (row ds es : List ℕ) (pla
   pub next : IsNext ds n es
   pub answered : IsAnswered f v row h u n a
 
-placed_here : (place : ℕ → ℕ) (n a : ℕ) → placed place n a n ≡ a
+pub placed_here : (place : ℕ → ℕ) (n a : ℕ) → placed place n a n ≡ a
 placed_here place n a = ap (λ b. cond b a (place n)) (eq-eqb n n refl)
 
 placed_other : (place : ℕ → ℕ) (n a k : ℕ) → k ≢ n → placed place n a k ≡ place k

@@ -17,6 +17,7 @@ use Rattle.bubble_pass.specs.Marks.{Marks, label_at, fulls_at, partials_at}
 use Rattle.bubble_pass.specs.Pass.{IsRightAt}
 use Rattle.bubble_pass.specs.Sweep.{full_one, partial_one, IsRight}
 use Rattle.row_reduce.specs.Ground.{IsGround}
+use Rattle.templates_q.specs.Span.{labelled_in}
 use Rattle.row_reduce.specs.Decided.{labelled_at}
 use Rattle.row_reduce.proofs.Answering.{meets_row}
 use Rattle.row_reduce.proofs.Grounds.{labelled_below}
@@ -136,18 +137,38 @@ all_length f v (n ∷ ns) right =
     let b : partials_at v n ≡ sum_by (λ k. partial_one (label_at v k)) (children_at f n) = r.partial in
     omega (arith, length-append (labelled_of v (children_at f n)) (all_labelled f v ns), labelled_length v (children_at f n), all_length f v ns (λ x o. right x (omega arith)), sum_by-cons (λ n. labelled_at v n) n ns)
 
+-- each of the labelled children is a labelled node, so they are no more
+all_few : (f : Layout) (v : Marks) (row : List ℕ) (q : ℕ) (ns : List ℕ) → IsGround f v row q → ((x : ℕ) → occurs ns x ≤ 1) → length (all_labelled f v ns) ≤ length v.nodes
+all_few f v row q ns s once = shorter (all_labelled f v ns) v.nodes (λ z. elim (cases_lt 0 (occurs (all_labelled f v ns) z)) [
+  | inr none ↦ omega arith
+  | inl some ↦
+      let m = all_has f v ns z some in
+      let i : 1 ≤ occurs v.nodes z = s.marked.all z (labelled_has v (children_at f m.0) z m.2) in
+      omega (arith, all_once f v ns s.layout once z)
+])
+
 -- the labelled children of all labelled nodes are no more than these
 pub children_few : {f : Layout} {v : Marks} {row : List ℕ} {q : ℕ} → IsGround f v row q → sum_by (λ n. labelled_at v n) v.nodes ≤ length v.nodes
-children_few {f = f} {v = v} s =
+children_few {f = f} {v = v} {row = row} {q = q} s =
     let l : length (all_labelled f v v.nodes) ≡ sum_by (λ n. labelled_at v n) v.nodes = all_length f v v.nodes (λ n o. s.marked.chains n (s.marked.listed n o)) in
-    let few : length (all_labelled f v v.nodes) ≤ length v.nodes = shorter (all_labelled f v v.nodes) v.nodes (λ z. elim (cases_lt 0 (occurs (all_labelled f v v.nodes) z)) [
-      | inr none ↦ omega arith
-      | inl some ↦
-          let m = all_has f v v.nodes z some in
-          let i : 1 ≤ occurs v.nodes z = s.marked.all z (labelled_has v (children_at f m.0) z m.2) in
-          omega (arith, all_once f v v.nodes s.layout s.marked.once z)
+    omega (arith, all_few f v row q v.nodes s s.marked.once)
+
+with_first : (f : Layout) (v : Marks) (n : ℕ) (ns : List ℕ) → length (all_labelled f v (n ∷ ns)) ≡ length (labelled_of v (children_at f n)) + length (all_labelled f v ns)
+unfolding all_labelled
+with_first f v n ns = length-append (labelled_of v (children_at f n)) (all_labelled f v ns)
+
+-- so it is with those of q, where q has no label
+pub children_few_inside : {f : Layout} {v : Marks} {row : List ℕ} {q : ℕ} → IsGround f v row q → label_at v q ≡ Empty →
+    labelled_in v (children_at f q) + sum_by (λ n. labelled_at v n) v.nodes ≤ length v.nodes
+children_few_inside {f = f} {v = v} {row = row} {q = q} s e =
+    let l : length (all_labelled f v v.nodes) ≡ sum_by (λ n. labelled_at v n) v.nodes = all_length f v v.nodes (λ n o. s.marked.chains n (s.marked.listed n o)) in
+    let all : length (all_labelled f v (q ∷ v.nodes)) ≡ length (labelled_of v (children_at f q)) + length (all_labelled f v v.nodes) = with_first f v q v.nodes in
+    let few : length (all_labelled f v (q ∷ v.nodes)) ≤ length v.nodes = all_few f v row q (q ∷ v.nodes) s (λ x. elim (cases_eq x q) [
+      | inl i ↦ let none : occurs v.nodes q ≡ 0 = elim (cases_lt 0 (occurs v.nodes q)) [ inl o ↦ absurd (s.marked.listed q o e) | inr o ↦ omega arith ] in
+          subst (λ z. occurs (q ∷ v.nodes) z ≤ 1) (sym i) (omega (arith, occurs_same q v.nodes))
+      | inr ne ↦ let o : occurs v.nodes x ≤ 1 = s.marked.once x in omega (arith, occurs_other q x v.nodes ne)
     ]) in
-    omega arith
+    omega (arith, labelled_length v (children_at f q))
 
 -- where each label is right, the labelled nodes are no more than the nodes at and below q that meet the row
 pub nodes_few : {f : Layout} {v : Marks} {row : List ℕ} {q : ℕ} (a : ℕ) → IsGround f v row q → ((n : ℕ) → label_at v n ≢ Empty → IsRight f (leaves_of row) n (label_at v n)) → AtMost f (leaves_of row) q a → length v.nodes ≤ a
@@ -157,10 +178,31 @@ nodes_few {f = f} {v = v} {row = row} {q = q} a s right most = most v.nodes s.ma
     let m = meets_row f (leaves_of row) x (label_at v x) s.layout s.two (below_used f q x s.layout s.used l) (right x some) some in
     ((m.0, m.2, m.1), l))
 
-sum_scaled : (v : Marks) (ns : List ℕ) → sum_by (λ x. 89 * (labelled_at v x + 1)) ns ≡ 89 * (sum_by (λ n. labelled_at v n) ns + length ns)
-sum_scaled v [] = refl
-sum_scaled v (n ∷ ns) = omega (arith, sum_scaled v ns, sum_by-cons (λ x. 89 * (labelled_at v x + 1)) n ns, sum_by-cons (λ n. labelled_at v n) n ns)
+asked : (v : Marks) (ns : List ℕ) → sum_by (λ x. 25 * (labelled_at v x + 1)) ns ≡ 25 * (sum_by (λ n. labelled_at v n) ns + length ns)
+asked v [] = refl
+asked v (n ∷ ns) = omega (arith, asked v ns, sum_by-cons (λ x. 25 * (labelled_at v x + 1)) n ns, sum_by-cons (λ n. labelled_at v n) n ns)
 
--- so is the work on them
-pub work_few : {f : Layout} {v : Marks} {row : List ℕ} {q : ℕ} → IsGround f v row q → sum_by (λ x. 89 * (labelled_at v x + 1)) v.nodes ≤ 178 * length v.nodes
-work_few {v = v} s = omega (arith, sum_scaled v v.nodes, children_few s)
+done : (v : Marks) (ns : List ℕ) → sum_by (λ x. 64 * (labelled_at v x + 1)) ns ≡ 64 * (sum_by (λ n. labelled_at v n) ns + length ns)
+done v [] = refl
+done v (n ∷ ns) = omega (arith, done v ns, sum_by-cons (λ x. 64 * (labelled_at v x + 1)) n ns, sum_by-cons (λ n. labelled_at v n) n ns)
+
+-- so is the work on them: a look and at most six patterns, and a template
+pub work_few : {f : Layout} {v : Marks} {row : List ℕ} {q : ℕ} → IsGround f v row q →
+    sum_by (λ x. 25 * (labelled_at v x + 1)) v.nodes + sum_by (λ x. 64 * (labelled_at v x + 1)) v.nodes ≤ 178 * length v.nodes
+work_few {v = v} s = omega (arith, asked v v.nodes, done v v.nodes, children_few s)
+
+-- where q has no label, with the work at q
+pub work_few_inside : {f : Layout} {v : Marks} {row : List ℕ} {q : ℕ} → IsGround f v row q → label_at v q ≡ Empty →
+    sum_by (λ x. 25 * (labelled_at v x + 1)) v.nodes + sum_by (λ x. 64 * (labelled_at v x + 1)) v.nodes + 68 * labelled_in v (children_at f q) ≤ 178 * length v.nodes
+work_few_inside {v = v} s e = omega (arith, asked v v.nodes, done v v.nodes, children_few_inside s e)
+
+-- so is the work of choosing alone
+pub decide_few : {f : Layout} {v : Marks} {row : List ℕ} {q : ℕ} → IsGround f v row q → (s0 s1 : ℕ) → s1 ≤ s0 + sum_by (λ x. 25 * (labelled_at v x + 1)) v.nodes → s1 ≤ s0 + 178 * length v.nodes
+decide_few {v = v} s s0 s1 a = let few : sum_by (λ x. 25 * (labelled_at v x + 1)) v.nodes + sum_by (λ x. 64 * (labelled_at v x + 1)) v.nodes ≤ 178 * length v.nodes = work_few s in omega arith
+
+-- with the question at q
+pub asked_few : {f : Layout} {v : Marks} {row : List ℕ} {q : ℕ} → IsGround f v row q → label_at v q ≡ Empty → (s0 s1 s2 : ℕ) → s1 ≤ s0 + sum_by (λ x. 25 * (labelled_at v x + 1)) v.nodes →
+    s2 ≤ s1 + 4 * (labelled_in v (children_at f q) + 1) → s2 ≤ s0 + 178 * length v.nodes + 68
+asked_few {f = f} {v = v} {q = q} s e s0 s1 s2 a b =
+    let few : sum_by (λ x. 25 * (labelled_at v x + 1)) v.nodes + sum_by (λ x. 64 * (labelled_at v x + 1)) v.nodes + 68 * labelled_in v (children_at f q) ≤ 178 * length v.nodes = work_few_inside s e in
+    omega arith

@@ -38,3 +38,10 @@ pub record Stands (t : Template) (f : Layout) (v : Marks) (n : ℕ) (root : Bool
   pub marked : AreMarkedAs f v n ps
   pub shapes : AreShapesAt f v (children_at f n) ps
   pub fits : Fits t f v n root ps
+
+-- The template stands at n. Only where n is not the pertinent root may the pass have found a run of inner children, since
+-- Q3 is then meant for another node.
+pub record CanApply (t : Template) (f : Layout) (v : Marks) (n : ℕ) : Type 0 where
+  pub root : Bool
+  pub stands : Stands t f v n root
+  pub outside : root ≡ true → v.inside ≡ false

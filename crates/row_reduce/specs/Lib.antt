@@ -5,3 +5,4 @@ pub mod Becomes
 pub mod Ground
 pub mod Decided
 pub mod Outcome
+pub mod Reducer

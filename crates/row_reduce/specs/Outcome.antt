@@ -1,5 +1,9 @@
 -- What one row does to the arena.
-use Rattle.std.specs.Prelude.{◌≡◌, ◌≢◌, ℕ, List, []}
+use Rattle.std.specs.Prelude.{◌≡◌, ◌≢◌, ℕ, List, [], take}
+use Rattle.column_order.specs.Orders.{HasValidOrder}
+use Rattle.row_model.specs.Graph.{row_at, HasConflict}
+use Rattle.pq_tree.specs.Proper.{IsProper}
+use Rattle.tied_law.specs.Tied.{IsTied}
 use Rattle.pq_plain.specs.Reduced.{IsReduced}
 use Rattle.pq_plain.specs.Refused.{IsRefused}
 use Rattle.pq_plain.specs.declared.reducer.Step.{Step}
@@ -27,3 +31,23 @@ pub record AtFoundInside (f : Layout) (v : Marks) (row : List ℕ) : Type 0 wher
   pub found : FoundInside f (leaves_of row) v
   pub ground : IsGround f v row found.run.q
   pub some : row ≢ []
+
+-- row k is taken: the tree is reduced by it, and tied to it too
+pub record IsTakenRow (c : ℕ) (rows : List (List ℕ)) (k : ℕ) (f g : Layout) : Type 0 where
+  pub reduced : IsReduced (row_at rows k) (outline_at f) (outline_at g)
+  pub one : IsOneTree g
+  pub columns : g.columns ≡ f.columns
+  pub proper : IsProper c (outline_at g)
+  pub tied : IsTied c (take k rows) (outline_at g)
+  pub order : HasValidOrder c (take k rows)
+
+-- row k is refused: the rows with it have no valid order, and the arena stays
+pub record IsRefusedRow (c : ℕ) (rows : List (List ℕ)) (k : ℕ) (f g : Layout) : Type 0 where
+  pub conflict : HasConflict c (take k rows)
+  pub no_order : HasValidOrder c (take k rows) → ⊥
+  pub same : g ≡ f
+
+-- what becomes of row k, the tree being tied to the rows before it
+abbrev pub IsRowOutcome : ℕ → List (List ℕ) → ℕ → Layout → Layout → Step → Type 0
+IsRowOutcome c rows k f g Taken = IsTakenRow c rows k f g
+IsRowOutcome c rows k f g Refused = IsRefusedRow c rows k f g

@@ -1,0 +1,13 @@
+use Rattle.std.proofs.Common.{ℕ, ◌+◌, ◌*◌, ◌≤◌, List, take, sum_by}
+use Rattle.arena_model.specs.Layout.{IsLayout}
+use Rattle.row_reduce.specs.Applying.{AreApplied}
+use Rattle.row_reduce.specs.Decided.{labelled_at, AreChosen}
+use Rattle.row_reduce.proofs.apply.apply_chosen.Given as goal
+
+abbrev pub invariant-loop-i : goal.invariant-loop-i
+invariant-loop-i g l = record {
+  applied : (row : List ℕ) (q : ℕ) → AreChosen l.fn.arena l.fn.work row q l.chosen l.fn.count →
+      (place : ℕ → ℕ) × AreApplied l.fn.arena l.fn.work row (take l.i l.fn.work.nodes) place l.arena l.work;
+  layout : IsLayout l.arena;
+  ticks : l.steps ≤ l.initial.steps + sum_by (λ n. 64 * (labelled_at l.fn.work n + 1)) (take l.i l.fn.work.nodes);
+}

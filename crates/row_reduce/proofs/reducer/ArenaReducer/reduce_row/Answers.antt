@@ -1,0 +1,30 @@
+use Rattle.std.proofs.Common.{◌≡◌, sym, ap, subst, ◌∙◌}
+use Rattle.std.specs.List.{length_refill}
+use Rattle.pq_plain.specs.Reduced.{IsReduced}
+use Rattle.pq_plain.specs.declared.reducer.Step.TheVariants.{Taken}
+use Rattle.row_model.specs.Graph.{row_at}
+use Rattle.arena_model.specs.Layout.{Layout}
+use Rattle.arena_model.specs.NamedTree.{outline_at}
+use Rattle.row_reduce.proofs.Staying.{StaysTree, row_reduced, reducer_kept}
+use Rattle.row_reduce.proofs.reducer.ArenaReducer.reduce_row.Goals as goal
+
+pub invariant_of-self : goal.invariant_of-self
+invariant_of-self g c =
+    let e : c.self.inside.arena ≡ c.args.self.now = cc in
+    let s : StaysTree c.self.inside.arena c.reduce_arena-step.new.arena =
+    reducer_kept c.args.m.now.columns c.args.m.now.rows c.args.k c.self.inside.arena c.reduce_arena-step.new.arena c.reduce_arena-step.result c.layout_law.ensures c.layout_law-2.ensures
+    (ap (λ (z : Layout). z.columns) e ∙ c.requires.columns) c.self.invariant.one c.self.invariant.proper c.reduce_arena-step.ensures.outcome in
+    record {
+      one = s.one;
+      proper = s.proper;
+      full = c.reduce_arena-step.ensures.full ∙ c.self.invariant.full ∙ sym s.slots;
+      room = c.reduce_arena-step.ensures.room ∙ c.self.invariant.room ∙ sym s.slots;
+      chosen = sym (length_refill c.self.inside.chosen.len c.self.inside.chosen.items c.reduce_arena-step.new.chosen c.self.inside.chosen.ok.0)
+          ∙ c.self.inside.chosen.ok.0 ∙ c.self.invariant.chosen ∙ sym s.slots;
+    }
+
+pub returns-clause-reduced : goal.returns-clause-reduced
+returns-clause-reduced g c =
+    let e : c.self.inside.arena ≡ c.args.self.now = cc in
+    subst (λ (z : Layout). c.reduce_arena-step.result ≡ Taken → IsReduced (row_at c.args.m.now.rows c.args.k) (outline_at z) (outline_at c.reduce_arena-step.new.arena)) e
+    (row_reduced c.args.m.now.columns c.args.m.now.rows c.args.k c.self.inside.arena c.reduce_arena-step.new.arena c.reduce_arena-step.result c.reduce_arena-step.ensures.outcome)

@@ -1,0 +1,132 @@
+// The reducer that keeps its tree in an arena.
+ghost use Rattle.std.specs.Prelude.{◌≡◌, ℕ, ◌+◌, ◌-◌, ◌*◌, ◌≤◌, List, [], length, take, IfOk};
+ghost use Rattle.column_order.specs.Orders.{HasValidOrder};
+ghost use Rattle.row_model.specs.Graph.{row_at, HasConflict};
+ghost use Rattle.pq_tree.specs.Amortised.{nodes_met, nodes_met_below_root};
+ghost use Rattle.pq_tree.specs.Proper.{universal, IsProper};
+ghost use Rattle.tied_law.specs.Tied.{IsTied};
+ghost use Rattle.pq_plain.specs.Reduced.{IsReduced};
+ghost use Rattle.arena_model.specs.NamedTree.{outline_at};
+
+use crate::rows::reduce_arena;
+use crate::template::Template;
+use bubble_pass::Work;
+use full_pass::FullWork;
+use pq_arena::Arena;
+use pq_plain::{Reducer, Step};
+use pq_tree::PqTree;
+use row_model::{COLUMN_BOUND, Matrix, NoMemory};
+use std::alloc::Global;
+use std::marker::Model;
+use step_count::{Ledger, Steps};
+use tied_law::{equivalent_law, universal_law};
+
+/// A reducer whose tree stands in an arena. Each row is reduced in place, and looks at no more nodes than the row meets, up
+/// to a factor. A refused row changes nothing: the templates of all nodes are chosen before the first is applied.
+///
+/// All memory is taken by [`new`](ArenaReducer::new).
+#[derive(Drop)]
+pub struct ArenaReducer {
+    arena: Arena,
+    full: FullWork,
+    work: Work,
+    chosen: Vec<Template>,
+}
+
+impl Model for ArenaReducer {
+    ghost use Rattle.arena_model.specs.Layout.{Layout};
+
+    ghost Value = { Layout };
+
+    ghost use Rattle.row_reduce.specs.Reducer.{arena_of, IsKept};
+
+    ghost view = { arena_of };
+
+    ghost invariant = { IsKept };
+}
+
+impl ArenaReducer {
+    /// A reducer with the universal tree, which is tied to no rows.
+    ///
+    /// # Errors
+    ///
+    /// `NoMemory`. No row takes memory later.
+    pub fn new(alloc: Global, columns: u32) -> Result<Self, NoMemory>
+        requires { (1 ≤ columns) × (columns ≤ COLUMN_BOUND) }
+        ensures columns { IfOk result (λ r. r.columns ≡ columns) }
+        ensures tree { IfOk result (λ r. outline_at r ≡ universal columns) }
+        ensures tied { IfOk result (λ r. IsTied columns [] (outline_at r)) }
+    {
+        let arena = Arena::new(alloc, columns)?;
+        arena.layout_law();
+        universal_law();
+        let full = FullWork::new(alloc, columns)?;
+        let work = Work::new(alloc, columns)?;
+        let chosen = vec![in alloc; Template::L1; 2 * columns as usize + 4]?;
+        Ok(ArenaReducer {
+            arena,
+            full,
+            work,
+            chosen,
+        })
+    }
+
+    /// Reduces the tree by row `k` of `m`, after the rows before it. Row numbers begin at 1. This is
+    /// [`reduce`](Reducer::reduce), which never fails here.
+    ///
+    /// It ticks at most 256 times for each node that the row meets, and 256 times more. Where the row is taken, it ticks at
+    /// most 252 times for each of these nodes at or below the smallest that holds the row, 252 times more, and four times
+    /// for each column of the row.
+    pub fn reduce_row<L: Ledger>(&mut self, m: &Matrix, k: u32, steps: &mut Steps<L>) -> Step
+        requires row { (1 ≤ k) × (k ≤ length m.now.rows) }
+        requires columns { self.old.columns ≡ m.now.columns }
+        requires tied { IsTied m.now.columns (take (k - 1) m.now.rows) (outline_at self.old) }
+        ensures reduced { result ≡ Step.Taken → IsReduced (row_at m.now.rows k) (outline_at self.old) (outline_at self.new) }
+        ensures taken { result ≡ Step.Taken → IsTied m.now.columns (take k m.now.rows) (outline_at self.new) }
+        ensures order { result ≡ Step.Taken → HasValidOrder m.now.columns (take k m.now.rows) }
+        ensures refused { result ≡ Step.Refused → HasValidOrder m.now.columns (take k m.now.rows) → ⊥ }
+        ensures conflict { result ≡ Step.Refused → HasConflict m.now.columns (take k m.now.rows) }
+        ensures unchanged { result ≡ Step.Refused → self.new ≡ self.old }
+        ensures proper { IsProper self.new.columns (outline_at self.new) }
+        ensures columns { self.new.columns ≡ self.old.columns }
+        ensures ticks { steps.new ≤ steps.old + 256 * (nodes_met (row_at m.now.rows k) (outline_at self.old) + 1) }
+        ensures below { result ≡ Step.Taken →
+            steps.new ≤ steps.old + 4 * length (row_at m.now.rows k) + 252 * (nodes_met_below_root (row_at m.now.rows k) (outline_at self.old) + 1) }
+    {
+        self.arena.layout_law();
+        let step = reduce_arena(
+            &mut self.arena,
+            &mut self.full,
+            &mut self.work,
+            &mut self.chosen,
+            m,
+            k,
+            steps,
+        );
+        self.arena.layout_law();
+        step
+    }
+}
+
+impl Reducer for ArenaReducer {
+    ghost use Rattle.arena_model.specs.Layout.{Layout};
+    ghost use Rattle.arena_model.specs.NamedTree.{outline_at};
+
+    ghost outline = { λ f. outline_at f };
+
+    ghost columns = { λ f. f.columns };
+
+    fn reduce<L: Ledger>(
+        &mut self,
+        m: &Matrix,
+        k: u32,
+        steps: &mut Steps<L>,
+    ) -> Result<Step, NoMemory> {
+        Ok(self.reduce_row(m, k, steps))
+    }
+
+    fn tree(&self, alloc: Global) -> Result<PqTree, NoMemory> {
+        equivalent_law();
+        self.arena.to_tree(alloc)
+    }
+}

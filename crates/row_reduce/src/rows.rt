@@ -1,0 +1,152 @@
+// One row over an arena.
+ghost use Rattle.std.specs.Prelude.{◌≡◌, ◌≢◌, ℕ, ◌+◌, ◌*◌, ◌-◌, ◌≤◌, List, [], length, take};
+ghost use Rattle.row_model.specs.Graph.{row_at};
+ghost use Rattle.pq_tree.specs.Amortised.{nodes_met, nodes_met_below_root};
+ghost use Rattle.pq_tree.specs.Proper.{IsProper};
+ghost use Rattle.tied_law.specs.Tied.{IsTied};
+ghost use Rattle.arena_model.specs.NamedTree.{IsOneTree, outline_at};
+ghost use Rattle.bubble_pass.specs.Marks.{size_of};
+ghost use Rattle.row_reduce.specs.Outcome.{IsOutcome, IsRowOutcome, AtFoundRoot, AtFoundInside};
+
+use crate::apply::{apply_chosen, apply_one};
+use crate::decide::decide;
+use crate::template::Template;
+use bubble_pass::{Found, Work, bubble, met_law};
+use full_pass::{FullWork, Settled, settle};
+use pq_arena::{Arena, NodeId};
+use pq_plain::{Step, reduce_law, turned_law};
+use row_model::Matrix;
+use step_count::{Ledger, Steps};
+use templates_q::{apply_q3, fits_q3};
+
+// Reduces the tree of the arena by row `k` of the matrix, numbered from 1, or leaves it as it is where no template stands
+// at some node. Most rows of a long list change nothing, and the full pass sees that in one look at each full node.
+pub fn reduce_arena<L: Ledger>(
+    arena: &mut Arena,
+    full: &mut FullWork,
+    work: &mut Work,
+    chosen: &mut [Template],
+    m: &Matrix,
+    k: u32,
+    steps: &mut Steps<L>,
+) -> Step
+    requires tree { IsOneTree arena.old }
+    requires columns { arena.old.columns ≡ m.now.columns }
+    requires proper { IsProper m.now.columns (outline_at arena.old) }
+    requires room { size_of work.old ≡ length arena.old.slots }
+    requires chosen { length chosen.old ≡ length arena.old.slots }
+    requires full { full.old.size ≡ length arena.old.slots }
+    requires row { (1 ≤ k) × (k ≤ length m.now.rows) }
+    requires tied { IsTied m.now.columns (take (k - 1) m.now.rows) (outline_at arena.old) }
+    ensures outcome { IsRowOutcome m.now.columns m.now.rows k arena.old arena.new result }
+    ensures room { size_of work.new ≡ size_of work.old }
+    ensures full { full.new.size ≡ full.old.size }
+    ensures ticks { steps.new ≤ steps.old + 256 * (nodes_met (row_at m.now.rows k) (outline_at arena.old) + 1) }
+    ensures below { result ≡ Step.Taken →
+        steps.new ≤ steps.old + 4 * length (row_at m.now.rows k) + 252 * (nodes_met_below_root (row_at m.now.rows k) (outline_at arena.old) + 1) }
+{
+    arena.layout_law();
+    arena.arities_law();
+    reduce_law();
+    met_law();
+    if m.row(k).is_empty() {
+        return Step::Taken;
+    }
+    match settle(arena, m, k, full, steps) {
+        Settled::Kept => Step::Taken,
+        Settled::Group(_) | Settled::Open => reduce_by_templates(arena, work, chosen, m, k, steps),
+    }
+}
+
+// Reduces the tree by a row that has a column, by the templates at all nodes that the row meets.
+fn reduce_by_templates<L: Ledger>(
+    arena: &mut Arena,
+    work: &mut Work,
+    chosen: &mut [Template],
+    m: &Matrix,
+    k: u32,
+    steps: &mut Steps<L>,
+) -> Step
+    requires tree { IsOneTree arena.old }
+    requires columns { arena.old.columns ≡ m.now.columns }
+    requires proper { IsProper m.now.columns (outline_at arena.old) }
+    requires room { size_of work.old ≡ length arena.old.slots }
+    requires chosen { length chosen.old ≡ length arena.old.slots }
+    requires row { (1 ≤ k) × (k ≤ length m.now.rows) }
+    requires tied { IsTied m.now.columns (take (k - 1) m.now.rows) (outline_at arena.old) }
+    requires some { row_at m.now.rows k ≢ [] }
+    ensures outcome { IsRowOutcome m.now.columns m.now.rows k arena.old arena.new result }
+    ensures room { size_of work.new ≡ size_of work.old }
+    ensures ticks { steps.new ≤ steps.old + 252 * (nodes_met (row_at m.now.rows k) (outline_at arena.old) + 1) }
+    ensures below { result ≡ Step.Taken →
+        steps.new ≤ steps.old + 252 * (nodes_met_below_root (row_at m.now.rows k) (outline_at arena.old) + 1) }
+{
+    arena.layout_law();
+    arena.arities_law();
+    reduce_law();
+    met_law();
+    let _row = m.row(k);
+    match bubble(arena, m, k, work, steps) {
+        Found::Root(root) => reduce_root(arena, work, chosen, root, steps),
+        Found::Inside => reduce_inside(arena, work, chosen, steps),
+        Found::Split => Step::Refused,
+    }
+}
+
+// Reduces the tree where the pertinent root is known.
+fn reduce_root<L: Ledger>(
+    arena: &mut Arena,
+    work: &mut Work,
+    chosen: &mut [Template],
+    root: NodeId,
+    steps: &mut Steps<L>,
+) -> Step
+    requires found { (row : List ℕ) × AtFoundRoot arena.old work.old row root.index }
+    requires chosen { length work.old.nodes ≤ length chosen.old }
+    ensures outcome { (row : List ℕ) → AtFoundRoot arena.old work.old row root.index → IsOutcome row arena.old arena.new result }
+    ensures room { size_of work.new ≡ size_of work.old }
+    ensures ticks { steps.new ≤ steps.old + 178 * length work.old.nodes }
+{
+    if !decide(arena, work, Some(root), chosen, steps) {
+        return Step::Refused;
+    }
+    turned_law();
+    let last = work.nodes().len() - 1;
+    apply_chosen(arena, work, chosen, last, steps);
+    arena.layout_law();
+    apply_one(chosen[last], arena, work, root, steps);
+    arena.layout_law();
+    Step::Taken
+}
+
+// Reduces the tree where the row stands in a run of inner children of a Q-node.
+fn reduce_inside<L: Ledger>(
+    arena: &mut Arena,
+    work: &mut Work,
+    chosen: &mut [Template],
+    steps: &mut Steps<L>,
+) -> Step
+    requires found { (row : List ℕ) × AtFoundInside arena.old work.old row }
+    requires chosen { length work.old.nodes ≤ length chosen.old }
+    ensures outcome { (row : List ℕ) → AtFoundInside arena.old work.old row → IsOutcome row arena.old arena.new result }
+    ensures room { size_of work.new ≡ size_of work.old }
+    ensures ticks { steps.new ≤ steps.old + 178 * length work.old.nodes + 68 }
+{
+    let nodes = work.nodes();
+    let last = nodes.len() - 1;
+    let node = nodes[last];
+    if !decide(arena, work, None, chosen, steps) {
+        return Step::Refused;
+    }
+    if !fits_q3(arena, work, node, true, steps) {
+        return Step::Refused;
+    }
+    turned_law();
+    apply_chosen(arena, work, chosen, last, steps);
+    arena.layout_law();
+    let child = apply_one(chosen[last], arena, work, node, steps);
+    arena.layout_law();
+    apply_q3(arena, work, child, steps);
+    arena.layout_law();
+    Step::Taken
+}
