@@ -1,18 +1,19 @@
 -- Search forests: what one more node leaves, and what the end of the search shows.
-use Rattle.std.proofs.Common.{◌≡◌, ◌∙◌, ℕ, ◌<◌, ◌≤◌, Bool, true, false, not, List, [], ◌∷◌, ◌++◌, length, take, slice_get, Some, None, refl, sym, ap, subst, inl, inr, arith}
+use Rattle.std.proofs.Common.{◌≡◌, ◌∙◌, ℕ, ◌<◌, ◌≤◌, Bool, true, false, not, List, [], ◌∷◌, ◌++◌, length, take, slice_get, Option, Some, None, refl, sym, ap, subst, inl, inr, arith}
 use Rattle.std.proofs.lemmas.Bool.{cases_lt}
 use Rattle.std.proofs.lemmas.List.{append-nil, append_assoc, length-append, take-append-le}
 use Rattle.std.proofs.lemmas.Option.{same_Some, slice_get_within}
 use Rattle.row_model.specs.declared.graph.Pair.{Pair}
 use Rattle.row_model.specs.declared.graph.Why.{Why}
+use Rattle.row_model.specs.declared.graph.Line.{Line}
 use Rattle.row_model.specs.Graph.{JoinedBy}
 use Rattle.row_model.proofs.CycleLaws.{joined_by_sym}
 use Rattle.incompat_graph.specs.declared.forest.Node.{Node}
 use Rattle.incompat_graph.specs.declared.forest.Forest.{Forest}
 use Rattle.incompat_graph.specs.Numbers.{Numbering, IsIndexed}
 use Rattle.incompat_graph.specs.Marks.{Marking}
-use Rattle.incompat_graph.specs.Search.{pair_of_node, IsReached, Adds, Reaches, IsTree, AreJoined, IsSettled, IsForest, ShowsConflict, Grows}
-use Rattle.incompat_graph.proofs.Items.{item_pushed, item_last, item_append, item_taken, item_take}
+use Rattle.incompat_graph.specs.Search.{pair_of_node, IsReached, Adds, Reaches, IsTree, AreJoined, IsSettled, IsForest, ShowsConflict, Grows, IsJoinedFrom, HasGrown, IsKept, HasStepped}
+use Rattle.incompat_graph.proofs.Items.{item_pushed, item_last, item_append, item_taken, item_take, item_at}
 use Rattle.incompat_graph.proofs.NumberLaws.{indexed_same}
 
 not_not : (b : Bool) → not (not b) ≡ b
@@ -135,3 +136,58 @@ module _ (c : ℕ) (rows : List (List ℕ)) (f g : Forest) (from : ℕ) (parent 
         };
       } in
       subst (λ (x : Forest). ShowsConflict c rows x (record { from = from; to = to; why = node.why })) (sym a.0) shows
+
+same_kept : (f g : Forest) → IsIndexed pair_of_node f.numbers f.nodes.items → g ≡ f → IsKept f g
+same_kept f g h e = subst (IsKept f) (sym e) (record { columns = refl; indexed = h; long = omega arith })
+
+-- a forest that stays, or has one more node
+pub reach_kept : (f g : Forest) (node : Node) (o : Option ℕ) → IsIndexed pair_of_node f.numbers f.nodes.items → Reaches f g node o → IsKept f g
+reach_kept f g node None h (inl a) =
+    record { columns = a.columns; indexed = a.indexed; long = omega (arith, ap length a.nodes, length-append f.nodes.items (node ∷ [])) }
+reach_kept f g node None h (inr a) = same_kept f g h a.0
+reach_kept f g node (Some to) h a = same_kept f g h a.0
+
+-- the node of the line's pair
+abbrev pub line_node : Line → ℕ → Node → Node
+line_node line from parent = record { pair = line.pair; parent = from; why = line.why; odd = not parent.odd }
+
+module _ (f g : Forest) (from : ℕ) (line : Line) (parent : Node) (there : slice_get f.nodes.items from ≡ Some parent) (c : ℕ) (rows : List (List ℕ)) (h : IsForest c rows f) (within : f.root ≤ from)
+    (joined : IsJoinedFrom c rows f from line) where
+  pub stepped_none : Reaches f g (line_node line from parent) None → HasStepped c rows f g from line.pair
+  stepped_none a =
+      let r = reach_none c rows f g from parent (line_node line from parent) h there within refl refl (joined parent there) a in
+      record {
+        grown = record { is_forest = r.0; root = r.1; more = r.2.0; appended = r.2.1 };
+        reached = λ other e. subst (λ (x : Node). IsReached g.nodes.items line.pair (not x.odd)) (same_Some parent other (sym there ∙ e)) r.3;
+      }
+
+  pub stepped_some : (to : ℕ) → Reaches f g (line_node line from parent) (Some to) → ShowsConflict c rows g (record { from = from; to = to; why = line.why })
+  stepped_some to a = reach_some c rows f g from parent (line_node line from parent) h there within refl refl (joined parent there) to a
+
+-- a node of a forest that grows is a node of the grown one
+pub grown_there : (c : ℕ) (rows : List (List ℕ)) (f g : Forest) (i : ℕ) (node : Node) → HasGrown c rows f g → slice_get f.nodes.items i ≡ Some node → slice_get g.nodes.items i ≡ Some node
+grown_there c rows f g i node h e = subst (λ ns. slice_get ns i ≡ Some node) (sym h.appended) (item_append f.nodes.items h.more i node e)
+
+-- a node of the grown forest at an old place is the old one
+pub grown_old : (c : ℕ) (rows : List (List ℕ)) (f g : Forest) (i : ℕ) (node : Node) → HasGrown c rows f g → i < length f.nodes.items → slice_get g.nodes.items i ≡ Some node → slice_get f.nodes.items i ≡ Some node
+grown_old c rows f g i node h l e =
+    let was = item_at f.nodes.items i l in
+    was.1 ∙ ap Some (same_Some was.0 node (sym (grown_there c rows f g i was.0 h was.1) ∙ e))
+
+pub grown_reached : (c : ℕ) (rows : List (List ℕ)) (f g : Forest) (v : Pair) (odd : Bool) → HasGrown c rows f g → IsReached f.nodes.items v odd → IsReached g.nodes.items v odd
+grown_reached c rows f g v odd h r = subst (λ ns. IsReached ns v odd) (sym h.appended) (reached_append f.nodes.items h.more v odd r)
+
+pub grown_refl : (c : ℕ) (rows : List (List ℕ)) (f : Forest) → IsForest c rows f → HasGrown c rows f f
+grown_refl c rows f h = record { is_forest = h; root = refl; more = []; appended = sym (append-nil f.nodes.items) }
+
+pub grown_trans : (c : ℕ) (rows : List (List ℕ)) (f g k : Forest) → HasGrown c rows f g → HasGrown c rows g k → HasGrown c rows f k
+grown_trans c rows f g k x y =
+    record {
+      is_forest = y.is_forest;
+      root = y.root ∙ x.root;
+      more = x.more ++ y.more;
+      appended = y.appended ∙ ap (λ ns. ns ++ y.more) x.appended ∙ append_assoc f.nodes.items x.more y.more;
+    }
+
+pub kept_trans : (f g k : Forest) → IsKept f g → IsKept g k → IsKept f k
+kept_trans f g k x y = record { columns = y.columns ∙ x.columns; indexed = y.indexed; long = omega (arith, x.long, y.long) }

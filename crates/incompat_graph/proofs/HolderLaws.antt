@@ -1,14 +1,14 @@
 -- The lists of the rows that have each column, as they grow.
-use Rattle.std.proofs.Common.{◌≡◌, ◌≢◌, ◌∙◌, take, sum_by, ℕ, ◌+◌, ◌-◌, ◌<◌, ◌≤◌, Vec, Global, List, [], ◌∷◌, ◌++◌, length, map, set, replicate, get_or, slice_get, Some, IsTrue, sym, ap, subst, inl, inr, arith, get_or-set_same, get_or-set_other}
+use Rattle.std.proofs.Common.{◌≡◌, ◌≢◌, ◌∙◌, take, drop, sum_by, ℕ, ◌+◌, ◌-◌, ◌<◌, ◌≤◌, Vec, Global, List, [], ◌∷◌, ◌++◌, length, map, set, replicate, get_or, slice_get, Some, IsTrue, sym, ap, subst, inl, inr, arith, get_or-set_same, get_or-set_other}
 use Rattle.std.proofs.lemmas.Bool.{cases_eq, cases_lt}
-use Rattle.std.proofs.lemmas.List.Sums.{sum_by-append, sum_by-cons, sum_by-take-le}
-use Rattle.std.proofs.lemmas.List.{take_more, take-take, length-set, length-replicate, get_or-replicate, get_or_past}
+use Rattle.std.proofs.lemmas.List.Sums.{sum_by-append, sum_by-cons, sum_by-take-le, sum_by-take-drop}
+use Rattle.std.proofs.lemmas.List.{take_more, take-take, drop-take, length-set, length-replicate, get_or-replicate, get_or-map, get_or_past}
 use Rattle.std.proofs.lemmas.Option.{none-some, same_Some, slice_get_within, get_or_from_slice_get}
 use Rattle.column_order.specs.Orders.{has}
 use Rattle.row_model.specs.Graph.{row_at}
 use Rattle.row_model.specs.Rows.{RowList}
 use Rattle.incompat_graph.specs.Holders.{holders_of, AreHolders}
-use Rattle.incompat_graph.proofs.Items.{item_pushed, item_last, item_append, has_item, item_of}
+use Rattle.incompat_graph.proofs.Items.{item_pushed, item_last, item_append, item-drop, has_item, item_of}
 
 -- the lists within the vectors
 abbrev pub lists_of : List (Vec ℕ Global) → List (List ℕ)
@@ -114,3 +114,20 @@ ones_more rows k row e =
 -- the ones of fewer rows
 pub ones_part : (rows : List (List ℕ)) (k n : ℕ) → k ≤ n → sum_by length (take k rows) ≤ sum_by length (take n rows)
 ones_part rows k n l = subst (λ front. sum_by length front ≤ sum_by length (take n rows)) (take-take k n rows l) (sum_by-take-le length (take n rows) k)
+
+-- a row after the first ones
+pub further_item : (rows : List (List ℕ)) (first k : ℕ) (row : List ℕ) → slice_get rows (first + k + 1 - 1) ≡ Some row → slice_get (drop first rows) (k + 1 - 1) ≡ Some row
+further_item rows first k row e =
+    let i : first + (k + 1 - 1) ≡ first + k + 1 - 1 = omega arith in
+    item-drop first rows (k + 1 - 1) ∙ ap (slice_get rows) i ∙ e
+
+-- the ones of the first rows and those of the next ones
+pub ones_split : (rows : List (List ℕ)) (n k : ℕ) → sum_by length (take n rows) + sum_by length (take k (drop n rows)) ≡ sum_by length (take (n + k) rows)
+ones_split rows n k =
+    let front : take n (take (n + k) rows) ≡ take n rows = take-take n (n + k) rows (omega arith) in
+    let back : drop n (take (n + k) rows) ≡ take k (drop n rows) = drop-take n k rows in
+    omega (arith, sum_by-take-drop length (take (n + k) rows) n, ap (sum_by length) front, ap (sum_by length) back)
+
+-- the list at a place
+pub holder_at : (holders : List (Vec ℕ Global)) (i : ℕ) (list : Vec ℕ Global) → i < length holders → list ≡ get_or holders i list → get_or (lists_of holders) i [] ≡ list.items
+holder_at holders i list l e = get_or-map (λ (x : Vec ℕ Global). x.items) holders i list [] l ∙ ap (λ (x : Vec ℕ Global). x.items) (sym e)

@@ -6,9 +6,13 @@ pub mod MarkLaws
 pub mod ForestLaws
 pub mod HolderLaws
 pub mod SearchLaws
+pub mod LeavingLaws
 pub mod TakenLaws
+pub mod AcrossLaws
 pub mod SettledLaws
 pub mod ClosingLaws
 pub mod EndLaws
+pub mod NearLaws
+pub mod ShorterLaws
 pub mod OddCycles
 pub mod CycleLength

@@ -1,5 +1,5 @@
 -- Marks of rows at columns, and the ones of the rows that are marked.
-use Rattle.std.proofs.Common.{◌≡◌, ◌≢◌, ◌⊎◌, ◌∙◌, ℕ, suc, zero, ◌+◌, ◌-◌, ◌*◌, ◌/◌, ◌%◌, ◌<◌, ◌≤◌, true, false, eqb, cond, List, [], length, set, get_or, replicate, take, sum_by, add-one, refl, inl, inr, sym, ap, subst, arith, get_or-set_same, get_or-set_other}
+use Rattle.std.proofs.Common.{◌≡◌, ◌≢◌, ◌⊎◌, ◌∙◌, ℕ, suc, zero, ◌+◌, ◌-◌, ◌*◌, ◌/◌, ◌%◌, ◌<◌, ◌≤◌, true, false, eqb, cond, List, [], length, set, get_or, replicate, take, drop, sum_by, add-one, refl, inl, inr, sym, ap, subst, arith, length-drop, get_or-set_same, get_or-set_other}
 use Rattle.std.specs.Int.{bit_at}
 use Rattle.std.proofs.lemmas.Bool.{cases_eq, cases_lt, cases_Bool}
 use Rattle.std.proofs.lemmas.List.{get_or-replicate, get_or_past, length-replicate}
@@ -158,9 +158,16 @@ marked_few rows t c n few r e =
     subst (λ k. marked_ones rows t ≤ k * sum_by length (take n rows)) e
     (subst (λ k. marked_ones rows t ≤ t.columns * sum_by length (take k rows)) r (marked_all rows t (omega arith)))
 
--- a step for each one, and two for each one of each row at each column, are within the bound of the search
-pub within_bound : (c ones marked before after : ℕ) → 1 ≤ c → marked ≤ c * ones → after ≤ before + ones + 2 * marked → after ≤ before + 8 * c * (ones + 1)
+-- a step, one for each one, and two for each one of each row at each column, are within the bound of the search
+pub within_bound : (c ones marked before after : ℕ) → 1 ≤ c → marked ≤ c * ones → after ≤ before + ones + 1 + 2 * marked → after ≤ before + 8 * c * (ones + 1)
 within_bound c ones marked before after some few h =
     let once : 1 * ones ≤ c * ones = mul-le 1 ones c ones some (omega arith) in
     let bound : 8 * c * (ones + 1) ≡ 8 * (c * ones) + 8 * c = grind arith in
     omega (arith, once, bound)
+
+-- the same of the rows after the first ones
+pub marked_within : (rows : List (List ℕ)) (first further c : ℕ) (t : Marking) (before after : ℕ) → first + further ≤ length rows → t.rows ≡ further → t.columns ≡ c → after ≤ before + 2 * marked_ones (drop first rows) t →
+    after ≤ before + 2 * (c * sum_by length (take further (drop first rows)))
+marked_within rows first further c t before after few r e h =
+    let long : further ≤ length (drop first rows) = omega (arith, length-drop first rows) in
+    omega (arith, h, marked_few (drop first rows) t c further long r e)

@@ -1,8 +1,12 @@
 -- The rows that have each column.
-use Rattle.std.specs.Prelude.{◌≡◌, ℕ, ◌-◌, ◌≤◌, Some, List, [], length, slice_get, slice_index_or, IsTrue}
+use Rattle.std.specs.Prelude.{◌≡◌, ℕ, ◌-◌, ◌≤◌, Some, List, [], length, drop, slice_get, slice_index_or, IsTrue}
 use Rattle.row_model.specs.Graph.{row_at}
 use Rattle.row_model.specs.Rows.{RowList}
 use Rattle.column_order.specs.Orders.{has}
+
+-- the matrix without its first rows
+abbrev pub without : ℕ → RowList → RowList
+without first m = record { columns = m.columns; rows = drop first m.rows }
 
 -- the list of a column, from 1
 abbrev pub holders_of : List (List ℕ) → ℕ → List ℕ

@@ -1,8 +1,9 @@
 pub mod Numbers
 pub mod Marks
 pub mod Tables
-pub mod Search
 pub mod Holders
+pub mod Neighbours
+pub mod Search
 pub mod Closing
 pub mod Reasons
 pub mod Laws

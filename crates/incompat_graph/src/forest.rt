@@ -1,11 +1,11 @@
 // The pairs that the search has reached, each with the way by which it was reached.
-ghost use Rattle.std.specs.Prelude.{◌≡◌, ◌≤◌, [], IfOk, OnOk};
+ghost use Rattle.std.specs.Prelude.{◌≡◌, ◌<◌, ◌≤◌, ℕ, List, [], length, IfOk, OnOk, MatchOption};
 ghost use Rattle.row_model.specs.Graph.{IsPair};
 ghost use Rattle.incompat_graph.specs.Numbers.{IsIndexed, number_of};
-ghost use Rattle.incompat_graph.specs.Search.{pair_of_node, Adds, Plants, Reaches};
+ghost use Rattle.incompat_graph.specs.Search.{pair_of_node, Adds, Plants, Reaches, IsForest, IsJoinedFrom, IsKept, HasStepped, ShowsConflict};
 
 use crate::numbers::PairNumbers;
-use row_model::{COLUMN_BOUND, NoMemory, Pair, Why};
+use row_model::{COLUMN_BOUND, Line, NoMemory, Pair, Why};
 use std::alloc::Global;
 
 /// A pair that the search has reached. There are fewer than 2^32 pairs, and each takes 24 bytes here and 4 among the numbers.
@@ -44,15 +44,17 @@ pub struct Forest {
 }
 
 impl Forest {
-    /// A forest with no tree.
+    /// A forest with no tree, and with room for a node for each pair of columns. So it never grows, and takes 28 bytes for
+    /// each ordered pair.
     pub fn new(alloc: Global, columns: u32) -> Result<Self, NoMemory>
         requires { columns ≤ COLUMN_BOUND }
         ensures { IfOk result (λ forest. (forest.numbers.columns ≡ columns) × (forest.nodes.items ≡ []) × (forest.root ≡ 0)
             × IsIndexed pair_of_node forest.numbers forest.nodes.items) }
     {
+        let pairs = columns as usize * columns as usize;
         Ok(Forest {
             numbers: PairNumbers::new(alloc, columns)?,
-            nodes: Vec::new(alloc),
+            nodes: Vec::with_capacity(alloc, pairs)?,
             root: 0,
         })
     }
@@ -101,6 +103,31 @@ impl Forest {
             }
             number if self.nodes[number as usize - 1].odd == node.odd => Ok(None),
             number => Ok(Some(number - 1)),
+        }
+    }
+    /// Reaches the pair of a line from a node to whose pair the line's reason joins it. The answer is the conflict that
+    /// this shows, if it shows one.
+    pub fn step(&mut self, from: u32, line: Line) -> Result<Option<Conflict>, NoMemory>
+        requires indexed { IsIndexed pair_of_node self.old.numbers self.old.nodes.items }
+        requires from { from < length self.old.nodes.items }
+        requires pair { IsPair self.old.numbers.columns line.pair }
+        ensures kept { OnOk result (IsKept self.old self.new) }
+        ensures stepped { (c : ℕ) (rows : List (List ℕ)) → IsForest c rows self.old → self.old.root ≤ from → IsJoinedFrom c rows self.old from line
+            → IfOk result (λ found. MatchOption found (HasStepped c rows self.old self.new from line.pair) (ShowsConflict c rows self.new)) }
+    {
+        let node = Node {
+            pair: line.pair,
+            parent: from,
+            why: line.why,
+            odd: !self.nodes[from as usize].odd,
+        };
+        match self.reach(node)? {
+            None => Ok(None),
+            Some(to) => Ok(Some(Conflict {
+                from,
+                to,
+                why: line.why,
+            })),
         }
     }
 }

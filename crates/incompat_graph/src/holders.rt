@@ -1,29 +1,30 @@
 // The rows that have each column.
-ghost use Rattle.std.specs.Prelude.{◌≡◌, ◌+◌, ◌-◌, ◌<◌, ◌≤◌, [], ◌∷◌, ◌++◌, length, map, set, slice_index_or, sum_by, take, IfOk, OnOk};
-ghost use Rattle.incompat_graph.specs.Holders.{AreHolders};
+ghost use Rattle.std.specs.Prelude.{◌≡◌, ◌+◌, ◌-◌, ◌<◌, ◌≤◌, [], ◌∷◌, ◌++◌, drop, length, map, set, slice_index_or, sum_by, take, IfOk, OnOk};
+ghost use Rattle.incompat_graph.specs.Holders.{AreHolders, without};
 
 use row_model::{Matrix, NoMemory};
 use std::alloc::Global;
 use step_count::{Ledger, Steps};
 
-/// For each column the list of those of the first rows that have it. It counts a step for each one in these rows, before it
-/// reads the one.
+/// For each column the list of those of so many rows after the first ones that have it, numbered from 1 after these. It
+/// counts a step for each one in these rows, before it reads the one.
 pub fn rows_by_column<L: Ledger>(
     alloc: Global,
     m: &Matrix,
+    first: u32,
     rows: u32,
     steps: &mut Steps<L>,
 ) -> Result<Vec<Vec<u32>>, NoMemory>
-    requires { rows ≤ length m.now.rows }
-    ensures holders { IfOk result (λ holders. AreHolders m.now rows (map (λ list. list.items) holders.items)) }
-    ensures ticks { steps.new ≤ steps.old + sum_by length (take rows m.now.rows) }
+    requires { first + rows ≤ length m.now.rows }
+    ensures holders { IfOk result (λ holders. AreHolders (without first m.now) rows (map (λ list. list.items) holders.items)) }
+    ensures ticks { steps.new ≤ steps.old + sum_by length (take rows (drop first m.now.rows)) }
 {
     let mut holders = Vec::new(alloc);
     for _ in 0..m.columns() {
         holders.push(Vec::new(alloc))?;
     }
     for k in 0..rows {
-        for column in m.row(k + 1) {
+        for column in m.row(first + k + 1) {
             steps.tick();
             add_holder(&mut holders, *column, k + 1)?;
         }

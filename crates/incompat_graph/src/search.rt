@@ -1,19 +1,21 @@
 // The search for a closed walk of odd length.
-ghost use Rattle.std.specs.Prelude.{◌≡◌, ◌+◌, ◌*◌, ◌<◌, ◌≤◌, ℕ, true, not, Some, length, map, take, slice_get, sum_by, IsTrue, IfOk, MatchOption};
-ghost use Rattle.row_model.specs.Graph.{row_at, turned, HasOddWalk};
+ghost use Rattle.std.specs.Prelude.{◌≡◌, ◌+◌, ◌*◌, ◌-◌, ◌<◌, ◌≤◌, ℕ, true, not, Some, length, map, take, drop, slice_get, sum_by, IsTrue, IfOk, MatchOption};
+ghost use Rattle.column_order.specs.Orders.{has, IsValidOrder};
+ghost use Rattle.row_model.specs.Graph.{row_at, turned, HasOddWalk, HasConflict};
 ghost use Rattle.row_model.specs.Cycles.{IsOddWalk};
-ghost use Rattle.column_order.specs.Orders.{has};
 ghost use Rattle.incompat_graph.specs.declared.forest.Node.{Node};
 ghost use Rattle.incompat_graph.specs.Marks.{is_marked, marked_ones};
 ghost use Rattle.incompat_graph.specs.Search.{IsReached, IsSearch, Grows, ShowsConflict, IsTaken, AreTaken, AreReachedFrom};
-ghost use Rattle.incompat_graph.specs.Holders.{AreHolders};
+ghost use Rattle.incompat_graph.specs.Neighbours.{AreNeighbours};
 
 use crate::closing::closed_walk;
-use crate::forest::{Conflict, Forest, Node};
+use crate::forest::{Conflict, Forest};
 use crate::holders::rows_by_column;
 use crate::marks::Marks;
+use crate::neighbours::{Neighbours, leave};
 use crate::walk::Walk;
-use row_model::{Matrix, NoMemory, Pair, Why};
+use open_gaps::{OpenGaps, gap_law};
+use row_model::{Line, Matrix, NoMemory, Pair, Why};
 use std::alloc::Global;
 use step_count::{Ledger, Steps};
 
@@ -24,7 +26,7 @@ use step_count::{Ledger, Steps};
 /// graph is bipartite. Each row is looked at once for each column that it lacks.
 ///
 /// With c columns and f ones in the first rows it counts at most 8c(f + 1) steps, where memory is refused too: a step for
-/// each look at a row and for each column that is read of it. It takes at most 28 bytes for each pair of columns, a bit for
+/// each look at a row and for each column that is read of it. It takes 28 bytes for each ordered pair of columns, a bit for
 /// each row and column, and room for each one.
 ///
 /// # Errors
@@ -42,47 +44,135 @@ pub fn odd_walk<L: Ledger>(
         (IsOddWalk m.now.columns (take rows m.now.rows))) }
     ensures ticks { steps.new ≤ steps.old + 8 * m.now.columns * (sum_by length (take rows m.now.rows) + 1) }
 {
+    let begin = m.columns();
+    let holders = rows_by_column(alloc, m, 0, rows, steps)?;
+    let near = Neighbours {
+        first: 0,
+        gaps: None,
+        holders,
+    };
+    let found = search(alloc, m, &near, rows, begin, steps)?;
+    Ok(found)
+}
+
+/// A closed walk of odd length in the incompatibility graph of the rows 1 to `k`, which have one, where an order is known
+/// that is valid for the rows before row `k`.
+///
+/// It is [`odd_walk`] with other steps: from a pair it goes to the neighbours of its columns in the order, across the gaps
+/// that the rows before row `k` leave open, and only row `k` is looked at for each column that it lacks. So the time does
+/// not grow with the number of rows once their gaps are known.
+///
+/// With c columns and f ones in these rows it counts at most 8c(f + 1) steps, where memory is refused too. It takes 28 bytes
+/// for each ordered pair of columns, and room for the order, its gaps and the ones of row `k`.
+///
+/// # Errors
+///
+/// `NoMemory`.
+pub fn odd_walk_along<L: Ledger>(
+    alloc: Global,
+    m: &Matrix,
+    k: u32,
+    order: &[u32],
+    steps: &mut Steps<L>,
+) -> Result<Walk, NoMemory>
+    requires row { (1 ≤ k) × (k ≤ length m.now.rows) }
+    requires order { IsValidOrder m.now.columns (take (k - 1) m.now.rows) order.now }
+    requires refused { HasConflict m.now.columns (take k m.now.rows) }
+    ensures walk { IfOk result (IsOddWalk m.now.columns (take k m.now.rows)) }
+    ensures ticks { steps.new ≤ steps.old + 8 * m.now.columns * (sum_by length (take k m.now.rows) + 1) }
+{
+    let gaps = OpenGaps::new(alloc, m, k - 1, order, steps)?;
+    let holders = rows_by_column(alloc, m, k - 1, 1, steps)?;
+    let near = Neighbours {
+        first: k - 1,
+        gaps: Some(gaps),
+        holders,
+    };
+    let begin = first_column(m, k, steps);
+    match search(alloc, m, &near, 1, begin, steps)? {
+        Some(walk) => Ok(walk),
+        None => unreachable!(),
+    }
+}
+
+// The first column of a row, and the last of all columns where the row is empty. A step is counted.
+fn first_column<L: Ledger>(m: &Matrix, k: u32, steps: &mut Steps<L>) -> u32
+    requires { (1 ≤ k) × (k ≤ length m.now.rows) }
+    ensures column { (1 ≤ result) × (result ≤ m.now.columns) }
+    ensures ticks { steps.new ≡ steps.old + 1 }
+{
+    steps.tick();
+    let row = m.row(k);
+    if row.is_empty() { m.columns() } else { row[0] }
+}
+
+// Searches the graph of the first rows and the further ones. The first trees begin at pairs with the given first column.
+fn search<L: Ledger>(
+    alloc: Global,
+    m: &Matrix,
+    near: &Neighbours,
+    further: u32,
+    begin: u32,
+    steps: &mut Steps<L>,
+) -> Result<Option<Walk>, NoMemory>
+    requires rows { near.now.first + further ≤ length m.now.rows }
+    requires near { AreNeighbours m.now further near.now }
+    requires column { (1 ≤ begin) × (begin ≤ m.now.columns) }
+    ensures found { IfOk result (λ found. MatchOption found
+        (¬ HasOddWalk m.now.columns (take (near.now.first + further) m.now.rows))
+        (IsOddWalk m.now.columns (take (near.now.first + further) m.now.rows))) }
+    ensures ticks { steps.new ≤ steps.old + 2 * (m.now.columns * sum_by length (take further (drop near.now.first m.now.rows))) }
+{
+    gap_law();
     let columns = m.columns();
-    let holders = rows_by_column(alloc, m, rows, steps)?;
-    let mut marks = Marks::new(alloc, rows, columns)?;
+    let mut marks = Marks::new(alloc, further, columns)?;
     let mut forest = Forest::new(alloc, columns)?;
-    for k in 0..columns {
-        let found = grow_from_column(m, &holders, &mut marks, &mut forest, k + 1, steps)?;
-        if let Some(conflict) = found {
+    for turn in 0..columns + 1 {
+        let a = column_in_turn(begin, turn);
+        if let Some(conflict) = grow_from_column(m, near, &mut marks, &mut forest, a, steps)? {
             return Ok(Some(closed_walk(alloc, &forest, conflict)?));
         }
     }
     Ok(None)
 }
 
-// Looks from a pair (a,b) at a row that has a. If the row lacks b, each pair (b,d) of b with a column d of the row is
-// joined to (a,b). The pairs (b,d) are the same for every a, so each row is looked at once for each b.
+// The columns at which trees begin: one that is given, and then each.
+fn column_in_turn(begin: u32, turn: u32) -> u32
+    ensures first { turn ≡ 0 → result ≡ begin }
+    ensures later { 1 ≤ turn → result ≡ turn }
+{
+    if turn == 0 { begin } else { turn }
+}
+
+// Looks from a pair (a,b) at a further row that has a. If the row lacks b, each pair (b,d) of b with a column d of the row
+// is joined to (a,b). The pairs (b,d) are the same for every a, so each row is looked at once for each b.
 fn look<L: Ledger>(
     m: &Matrix,
-    row: u32,
+    near: &Neighbours,
+    further: u32,
     marks: &mut Marks,
     forest: &mut Forest,
     from: u32,
     steps: &mut Steps<L>,
 ) -> Result<Option<Conflict>, NoMemory>
-    requires search { IsSearch m.now marks.old forest.old }
+    requires search { IsSearch m.now near.now.first marks.old forest.old }
     requires from { (forest.old.root ≤ from) × (from < length forest.old.nodes.items) }
-    requires row { (1 ≤ row) × (row ≤ marks.old.rows) }
+    requires row { (1 ≤ further) × (further ≤ marks.old.rows) }
     requires node { (node : Node) → slice_get forest.old.nodes.items from ≡ Some node
-        → IsTrue (has (row_at m.now.rows row) node.pair.a) × IsReached forest.old.nodes.items (turned node.pair) (not node.odd) }
+        → IsTrue (has (row_at (drop near.now.first m.now.rows) further) node.pair.a) × IsReached forest.old.nodes.items (turned node.pair) (not node.odd) }
     ensures found { IfOk result (λ found. MatchOption found
-        (IsSearch m.now marks.new forest.new × Grows marks.old marks.new forest.old.nodes.items forest.new.nodes.items × (forest.new.root ≡ forest.old.root)
-        × ((node : Node) → slice_get forest.old.nodes.items from ≡ Some node → is_marked marks.new row node.pair.b ≡ true))
-        (ShowsConflict m.now.columns (take marks.old.rows m.now.rows) forest.new)) }
+        (IsSearch m.now near.now.first marks.new forest.new × Grows marks.old marks.new forest.old.nodes.items forest.new.nodes.items × (forest.new.root ≡ forest.old.root)
+        × ((node : Node) → slice_get forest.old.nodes.items from ≡ Some node → is_marked marks.new further node.pair.b ≡ true))
+        (ShowsConflict m.now.columns (take (near.now.first + marks.old.rows) m.now.rows) forest.new)) }
     ensures sizes { (marks.new.rows ≡ marks.old.rows) × (marks.new.columns ≡ marks.old.columns) }
-    ensures ticks { steps.new + 2 * marked_ones m.now.rows marks.old ≤ steps.old + 2 * marked_ones m.now.rows marks.new }
+    ensures ticks { steps.new + 2 * marked_ones (drop near.now.first m.now.rows) marks.old ≤ steps.old + 2 * marked_ones (drop near.now.first m.now.rows) marks.new }
 {
     let node = forest.nodes[from as usize];
-    if marks.mark(row, node.pair.b) {
+    if marks.mark(further, node.pair.b) {
         return Ok(None);
     }
-    steps.tick();
-    if m.has(row, node.pair.b) {
+    let row = near.first + further;
+    if m.has_counted(row, node.pair.b, steps) {
         return Ok(None);
     }
     for column in m.row(row) {
@@ -90,64 +180,46 @@ fn look<L: Ledger>(
         if *column == node.pair.a {
             continue;
         }
-        let next = Node {
+        let line = Line {
             pair: Pair {
                 a: node.pair.b,
                 b: *column,
             },
-            parent: from,
             why: Why::Row(row),
-            odd: !node.odd,
         };
-        if let Some(to) = forest.reach(next)? {
-            return Ok(Some(Conflict {
-                from,
-                to,
-                why: Why::Row(row),
-            }));
+        if let Some(conflict) = forest.step(from, line)? {
+            return Ok(Some(conflict));
         }
     }
     Ok(None)
 }
 
-// Takes a node: reaches its pair with the columns exchanged, and looks at each row with its first column.
+// Takes a node: reaches its pair with the columns exchanged and the pairs across the open gaps, and looks at each further
+// row with its first column.
 fn expand<L: Ledger>(
     m: &Matrix,
-    holders: &[Vec<u32>],
+    near: &Neighbours,
     marks: &mut Marks,
     forest: &mut Forest,
     from: u32,
     steps: &mut Steps<L>,
 ) -> Result<Option<Conflict>, NoMemory>
-    requires search { IsSearch m.now marks.old forest.old }
-    requires holders { AreHolders m.now marks.old.rows (map (λ list. list.items) holders.now) }
+    requires search { IsSearch m.now near.now.first marks.old forest.old }
+    requires near { AreNeighbours m.now marks.old.rows near.now }
     requires from { (forest.old.root ≤ from) × (from < length forest.old.nodes.items) }
     ensures found { IfOk result (λ found. MatchOption found
-        (IsSearch m.now marks.new forest.new × Grows marks.old marks.new forest.old.nodes.items forest.new.nodes.items × (forest.new.root ≡ forest.old.root)
-        × ((node : Node) → slice_get forest.old.nodes.items from ≡ Some node → IsTaken m.now.rows marks.new forest.new.nodes.items node))
-        (ShowsConflict m.now.columns (take marks.old.rows m.now.rows) forest.new)) }
+        (IsSearch m.now near.now.first marks.new forest.new × Grows marks.old marks.new forest.old.nodes.items forest.new.nodes.items × (forest.new.root ≡ forest.old.root)
+        × ((node : Node) → slice_get forest.old.nodes.items from ≡ Some node → IsTaken m.now near.now marks.new forest.new.nodes.items node))
+        (ShowsConflict m.now.columns (take (near.now.first + marks.old.rows) m.now.rows) forest.new)) }
     ensures sizes { (marks.new.rows ≡ marks.old.rows) × (marks.new.columns ≡ marks.old.columns) }
-    ensures ticks { steps.new + 2 * marked_ones m.now.rows marks.old ≤ steps.old + 2 * marked_ones m.now.rows marks.new }
+    ensures ticks { steps.new + 2 * marked_ones (drop near.now.first m.now.rows) marks.old ≤ steps.old + 2 * marked_ones (drop near.now.first m.now.rows) marks.new }
 {
     let node = forest.nodes[from as usize];
-    let turned = Node {
-        pair: Pair {
-            a: node.pair.b,
-            b: node.pair.a,
-        },
-        parent: from,
-        why: Why::Flip,
-        odd: !node.odd,
-    };
-    if let Some(to) = forest.reach(turned)? {
-        return Ok(Some(Conflict {
-            from,
-            to,
-            why: Why::Flip,
-        }));
+    if let Some(conflict) = leave(&near.gaps, forest, from)? {
+        return Ok(Some(conflict));
     }
-    for row in &holders[node.pair.a as usize - 1] {
-        if let Some(conflict) = look(m, *row, marks, forest, from, steps)? {
+    for row in &near.holders[node.pair.a as usize - 1] {
+        if let Some(conflict) = look(m, near, *row, marks, forest, from, steps)? {
             return Ok(Some(conflict));
         }
     }
@@ -157,24 +229,24 @@ fn expand<L: Ledger>(
 // Takes each node of the last tree in turn, those that are reached meanwhile too.
 fn grow<L: Ledger>(
     m: &Matrix,
-    holders: &[Vec<u32>],
+    near: &Neighbours,
     marks: &mut Marks,
     forest: &mut Forest,
     steps: &mut Steps<L>,
 ) -> Result<Option<Conflict>, NoMemory>
-    requires search { IsSearch m.now marks.old forest.old }
-    requires holders { AreHolders m.now marks.old.rows (map (λ list. list.items) holders.now) }
-    requires taken { AreTaken m.now.rows marks.old forest.old.nodes.items forest.old.root }
+    requires search { IsSearch m.now near.now.first marks.old forest.old }
+    requires near { AreNeighbours m.now marks.old.rows near.now }
+    requires taken { AreTaken m.now near.now marks.old forest.old.nodes.items forest.old.root }
     ensures found { IfOk result (λ found. MatchOption found
-        (IsSearch m.now marks.new forest.new × Grows marks.old marks.new forest.old.nodes.items forest.new.nodes.items
-        × AreTaken m.now.rows marks.new forest.new.nodes.items (length forest.new.nodes.items))
-        (ShowsConflict m.now.columns (take marks.old.rows m.now.rows) forest.new)) }
+        (IsSearch m.now near.now.first marks.new forest.new × Grows marks.old marks.new forest.old.nodes.items forest.new.nodes.items
+        × AreTaken m.now near.now marks.new forest.new.nodes.items (length forest.new.nodes.items))
+        (ShowsConflict m.now.columns (take (near.now.first + marks.old.rows) m.now.rows) forest.new)) }
     ensures sizes { (marks.new.rows ≡ marks.old.rows) × (marks.new.columns ≡ marks.old.columns) }
-    ensures ticks { steps.new + 2 * marked_ones m.now.rows marks.old ≤ steps.old + 2 * marked_ones m.now.rows marks.new }
+    ensures ticks { steps.new + 2 * marked_ones (drop near.now.first m.now.rows) marks.old ≤ steps.old + 2 * marked_ones (drop near.now.first m.now.rows) marks.new }
 {
     let mut head = forest.root;
     while (head as usize) < forest.nodes.len() {
-        if let Some(conflict) = expand(m, holders, marks, forest, head, steps)? {
+        if let Some(conflict) = expand(m, near, marks, forest, head, steps)? {
             return Ok(Some(conflict));
         }
         head += 1;
@@ -185,24 +257,25 @@ fn grow<L: Ledger>(
 // Grows trees until each pair with this first column is reached.
 fn grow_from_column<L: Ledger>(
     m: &Matrix,
-    holders: &[Vec<u32>],
+    near: &Neighbours,
     marks: &mut Marks,
     forest: &mut Forest,
     a: u32,
     steps: &mut Steps<L>,
 ) -> Result<Option<Conflict>, NoMemory>
-    requires search { IsSearch m.now marks.old forest.old }
-    requires holders { AreHolders m.now marks.old.rows (map (λ list. list.items) holders.now) }
-    requires taken { AreTaken m.now.rows marks.old forest.old.nodes.items (length forest.old.nodes.items) }
+    requires search { IsSearch m.now near.now.first marks.old forest.old }
+    requires near { AreNeighbours m.now marks.old.rows near.now }
+    requires taken { AreTaken m.now near.now marks.old forest.old.nodes.items (length forest.old.nodes.items) }
     requires column { (1 ≤ a) × (a ≤ m.now.columns) }
     ensures found { IfOk result (λ found. MatchOption found
-        (IsSearch m.now marks.new forest.new × Grows marks.old marks.new forest.old.nodes.items forest.new.nodes.items
-        × AreTaken m.now.rows marks.new forest.new.nodes.items (length forest.new.nodes.items)
+        (IsSearch m.now near.now.first marks.new forest.new × Grows marks.old marks.new forest.old.nodes.items forest.new.nodes.items
+        × AreTaken m.now near.now marks.new forest.new.nodes.items (length forest.new.nodes.items)
         × AreReachedFrom m.now.columns forest.new.nodes.items a m.now.columns)
-        (ShowsConflict m.now.columns (take marks.old.rows m.now.rows) forest.new)) }
+        (ShowsConflict m.now.columns (take (near.now.first + marks.old.rows) m.now.rows) forest.new)) }
     ensures sizes { (marks.new.rows ≡ marks.old.rows) × (marks.new.columns ≡ marks.old.columns) }
-    ensures ticks { steps.new + 2 * marked_ones m.now.rows marks.old ≤ steps.old + 2 * marked_ones m.now.rows marks.new }
+    ensures ticks { steps.new + 2 * marked_ones (drop near.now.first m.now.rows) marks.old ≤ steps.old + 2 * marked_ones (drop near.now.first m.now.rows) marks.new }
 {
+    gap_law();
     for b in 0..m.columns() {
         let pair = Pair { a, b: b + 1 };
         if pair.a == pair.b {
@@ -212,7 +285,7 @@ fn grow_from_column<L: Ledger>(
             continue;
         }
         forest.plant(pair)?;
-        if let Some(conflict) = grow(m, holders, marks, forest, steps)? {
+        if let Some(conflict) = grow(m, near, marks, forest, steps)? {
             return Ok(Some(conflict));
         }
     }

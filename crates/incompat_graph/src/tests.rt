@@ -1,5 +1,5 @@
 // Small matrices, with a valid order and with none.
-ghost use Rattle.std.specs.Prelude.{◌≡◌, ◌<◌, ◌≤◌, length, take, IfOk, MatchOption};
+ghost use Rattle.std.specs.Prelude.{◌≡◌, ◌+◌, ◌<◌, ◌≤◌, length, take, sum_by, IfOk, MatchOption};
 ghost use Rattle.row_model.specs.Graph.{HasOddWalk};
 ghost use Rattle.row_model.specs.Cycles.{IsOddWalk};
 
@@ -80,13 +80,60 @@ fn a_triangle(rt: HostRuntime) -> Result<(), Fail> {
     Ok(())
 }
 
-#[test]
-fn three_blocks_and_a_row_across(rt: HostRuntime) -> Result<(), Fail> {
-    let mut m = Matrix::new(rt.alloc(), 6)?;
+// The rows 110000, 001100, 000011 and 010101, which have nine ones.
+fn three_blocks(alloc: Global) -> Result<Matrix, NoMemory>
+    ensures { IfOk result (λ m. (m.columns ≡ 6) × (length m.rows ≡ 4) × (sum_by length (take 4 m.rows) ≡ 9)) }
+{
+    let mut m = Matrix::new(alloc, 6)?;
     m.push_row(&[1, 2])?;
     m.push_row(&[3, 4])?;
     m.push_row(&[5, 6])?;
     m.push_row(&[2, 4, 6])?;
+    Ok(m)
+}
+
+// The bound of six columns and nine ones, in numbers.
+fn within_480_steps<L: Ledger>(
+    alloc: Global,
+    m: &Matrix,
+    steps: &mut Steps<L>,
+) -> Result<Option<Walk>, NoMemory>
+    requires columns { m.now.columns ≡ 6 }
+    requires rows { length m.now.rows ≡ 4 }
+    requires ones { sum_by length (take 4 m.now.rows) ≡ 9 }
+    ensures { steps.new ≤ steps.old + 480 }
+{
+    let found = odd_walk(alloc, m, 4, steps)?;
+    Ok(found)
+}
+
+fn walk_within_480_steps<L: Ledger>(
+    alloc: Global,
+    m: &Matrix,
+    blank: Blank,
+) -> Result<Option<Walk>, NoMemory>
+    requires name { blank.name ≡ L.name }
+    requires parts { blank.parts ≡ L.parts }
+    requires some { 0 < blank.parts }
+    requires columns { m.now.columns ≡ 6 }
+    requires rows { length m.now.rows ≡ 4 }
+    requires ones { sum_by length (take 4 m.now.rows) ≡ 9 }
+{
+    let mut steps = Steps::<L>::new(blank);
+    within_480_steps(alloc, m, &mut steps)
+}
+
+#[test]
+fn few_steps_on_three_blocks(rt: HostRuntime) -> Result<(), Fail> {
+    let m = three_blocks(rt.alloc())?;
+    let walk = walk_within_480_steps::<Brand>(rt.alloc(), &m, Blank::new(1))?;
+    assert!(rt; walk.is_some());
+    Ok(())
+}
+
+#[test]
+fn three_blocks_and_a_row_across(rt: HostRuntime) -> Result<(), Fail> {
+    let m = three_blocks(rt.alloc())?;
     assert_eq!(rt; m.rows(), 4);
     assert!(rt; walk_of(rt.alloc(), &m, 3)?.is_none());
     let cycle = cycle_of(rt.alloc(), &m)?.ok_or("no cycle")?;

@@ -1,5 +1,5 @@
-use Rattle.std.proofs.Common.{◌≡◌, ◌+◌, [], length, replicate, take, sum_by}
-use Rattle.incompat_graph.specs.Holders.{AreHolders}
+use Rattle.std.proofs.Common.{◌≡◌, ◌+◌, [], length, replicate, take, drop, sum_by}
+use Rattle.incompat_graph.specs.Holders.{AreHolders, without}
 use Rattle.incompat_graph.proofs.HolderLaws.{lists_of, HoldersSoFar}
 use Rattle.incompat_graph.proofs.holders.rows_by_column.Given as goal
 
@@ -9,13 +9,13 @@ invariant-loop g l = lists_of l.holders.items ≡ replicate l.counter []
 abbrev pub invariant-loop-column : goal.invariant-loop-column
 invariant-loop-column g l =
     record {
-      holders : HoldersSoFar l.m l.k l.column-items l.column-index (lists_of l.holders.items);
+      holders : HoldersSoFar (without l.first l.m) l.k l.column-items l.column-index (lists_of l.holders.items);
       counted : l.steps ≡ l.initial.steps + l.column-index;
     }
 
 abbrev pub invariant-loop-k : goal.invariant-loop-k
 invariant-loop-k g l =
     record {
-      holders : AreHolders l.m l.k (lists_of l.holders.items);
-      counted : l.steps ≡ l.initial.steps + sum_by length (take l.k l.m.rows);
+      holders : AreHolders (without l.first l.m) l.k (lists_of l.holders.items);
+      counted : l.steps ≡ l.initial.steps + sum_by length (take l.k (drop l.first l.m.rows));
     }

@@ -16,10 +16,10 @@ pub loop-head-preserved : goal.loop-head-preserved
 loop-head-preserved g c =
     let none = none_of c.in_ok-conflict.field-0 c.in_default.not-Some in
     let lt : c.loop-head.head < length c.loop-head.forest.nodes.items = omega arith in
-    record { growing = growing_more c.args.m.now c.args.marks.now c.loop-head.marks c.expand.new.marks c.args.forest.now c.loop-head.forest c.expand.new.forest c.loop-head.head c.loop-head.invariant.growing lt (rw none at c.in_ok-conflict.ensures.found); ticks = omega arith }
+    record { growing = growing_more c.args.m.now c.args.near.now c.args.marks.now c.loop-head.marks c.expand.new.marks c.args.forest.now c.loop-head.forest c.expand.new.forest c.loop-head.head c.loop-head.invariant.growing lt (rw none at c.in_ok-conflict.ensures.found); ticks = omega arith }
 
 pub returns-clause-found : goal.returns-clause-found
-returns-clause-found g c = growing_all c.args.m.now c.args.marks.now c.loop-head.marks c.args.forest.now c.loop-head.forest c.loop-head.head c.loop-head.invariant.growing (omega arith)
+returns-clause-found g c = growing_all c.args.m.now c.args.near.now c.args.marks.now c.loop-head.marks c.args.forest.now c.loop-head.forest c.loop-head.head c.loop-head.invariant.growing (omega arith)
 
 pub overflow_add-head : goal.overflow_add-head
 overflow_add-head g c = omega (arith, indexed_few pair_of_node c.loop-head.forest.numbers c.loop-head.forest.nodes.items c.loop-head.invariant.growing.search.is_forest.indexed)

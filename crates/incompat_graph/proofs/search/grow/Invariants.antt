@@ -1,4 +1,4 @@
-use Rattle.std.proofs.Common.{◌+◌, ◌≤◌, ◌*◌, ◌-◌}
+use Rattle.std.proofs.Common.{◌+◌, ◌≤◌, ◌*◌, ◌-◌, drop}
 use Rattle.incompat_graph.specs.Marks.{marked_ones}
 use Rattle.incompat_graph.proofs.TakenLaws.{IsGrowing}
 use Rattle.incompat_graph.proofs.search.grow.Given as goal
@@ -6,8 +6,8 @@ use Rattle.incompat_graph.proofs.search.grow.Given as goal
 abbrev pub invariant-loop-head : goal.invariant-loop-head
 invariant-loop-head g l =
     record {
-      growing : IsGrowing l.m l.fn.marks l.marks l.fn.forest l.forest l.head;
-      ticks : l.steps + 2 * marked_ones l.m.rows l.fn.marks ≤ l.fn.steps + 2 * marked_ones l.m.rows l.marks;
+      growing : IsGrowing l.m l.near l.fn.marks l.marks l.fn.forest l.forest l.head;
+      ticks : l.steps + 2 * marked_ones (drop l.near.first l.m.rows) l.fn.marks ≤ l.fn.steps + 2 * marked_ones (drop l.near.first l.m.rows) l.marks;
     }
 
 abbrev pub decreases-loop-head : goal.decreases-loop-head

@@ -1,4 +1,4 @@
-use Rattle.std.proofs.Common.{◌+◌, ◌*◌, ◌≤◌}
+use Rattle.std.proofs.Common.{◌+◌, ◌*◌, ◌≤◌, drop}
 use Rattle.incompat_graph.specs.Marks.{marked_ones}
 use Rattle.incompat_graph.proofs.SettledLaws.{IsGrownFrom}
 use Rattle.incompat_graph.proofs.search.grow_from_column.Given as goal
@@ -6,6 +6,6 @@ use Rattle.incompat_graph.proofs.search.grow_from_column.Given as goal
 abbrev pub invariant-loop-b : goal.invariant-loop-b
 invariant-loop-b g l =
     record {
-      grown : IsGrownFrom l.m l.fn.marks l.marks l.fn.forest l.forest l.a l.b;
-      ticks : l.steps + 2 * marked_ones l.m.rows l.fn.marks ≤ l.fn.steps + 2 * marked_ones l.m.rows l.marks;
+      grown : IsGrownFrom l.m l.near l.fn.marks l.marks l.fn.forest l.forest l.a l.b;
+      ticks : l.steps + 2 * marked_ones (drop l.near.first l.m.rows) l.fn.marks ≤ l.fn.steps + 2 * marked_ones (drop l.near.first l.m.rows) l.marks;
     }

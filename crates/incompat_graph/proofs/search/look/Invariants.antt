@@ -1,10 +1,11 @@
-use Rattle.std.proofs.Common.{◌≡◌, ◌+◌}
+use Rattle.std.proofs.Common.{◌≡◌, ◌+◌, take, drop}
+use Rattle.row_model.specs.Graph.{row_at}
 use Rattle.incompat_graph.proofs.SearchLaws.{IsSpreading}
 use Rattle.incompat_graph.proofs.search.look.Given as goal
 
 abbrev pub invariant-loop-column : goal.invariant-loop-column
 invariant-loop-column g l =
     record {
-      spreading : IsSpreading l.m l.fn.marks.rows l.fn.forest l.forest l.node l.row l.column-index;
+      spreading : IsSpreading l.m.columns (take (l.near.first + l.fn.marks.rows) l.m.rows) (row_at (drop l.near.first l.m.rows) l.further) l.fn.forest l.forest l.node l.column-index;
       ticks : l.steps ≡ l.fn.steps + 1 + l.column-index;
     }
