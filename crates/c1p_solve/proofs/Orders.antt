@@ -2,9 +2,9 @@
 use Rattle.std.proofs.Common.{◌≡◌, ◌∙◌, ℕ, List, take, subst, sym, arith, [], IfOk, Result, Ok, Err}
 use Rattle.std.specs.declared.alloc.AllocError.{AllocError}
 use Rattle.std.proofs.lemmas.List.Elements.{All-take}
-use Rattle.column_order.specs.Orders.{IsOrder, Keeps, HasValidOrder}
+use Rattle.column_order.specs.Orders.{IsOrder, Keeps, IsValidOrder, HasValidOrder}
 use Rattle.row_model.specs.Rows.{RowList}
-use Rattle.pq_tree.specs.Outline.{Outline, leaves}
+use Rattle.pq_tree.specs.Outline.{Outline, leaves, IsFrontier}
 use Rattle.pq_tree.specs.Canonical.{IsCanonical}
 use Rattle.pq_tree.specs.Proper.{columns}
 use Rattle.pq_tree.proofs.Universal.{columns_order}
@@ -39,3 +39,7 @@ reducer_tied m (Err error) n t e tied kept = tt
 -- where there is no row, the columns as they stand are a valid order
 pub some_order : (c : ℕ) → HasValidOrder c []
 some_order c = (columns c, record { order = columns_order c; kept = λ k d m. absurd (omega arith) })
+
+-- the leaves of a tree that is tied to some rows are a valid order of them, as it stands
+pub tied_valid : (c n : ℕ) (rows : List (List ℕ)) (t : PqTree) (f : List ℕ) → column_count t ≡ n → n ≡ c → IsTied c rows (outline t) → IsFrontier (outline t) f → IsOrder (column_count t) f → IsValidOrder c rows f
+tied_valid c n rows t f e e' tied frontier order = record { order = subst (λ k. IsOrder k f) (e ∙ e') order; kept = tied.kept f frontier }

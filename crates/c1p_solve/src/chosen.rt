@@ -1,16 +1,16 @@
 // The answer by the reducer that the programs use.
 ghost use Rattle.std.specs.Prelude.{◌≡◌, IfOk};
-ghost use Rattle.pq_plain.specs.Plain.{plain_columns, plain_outline};
+ghost use Rattle.arena_model.specs.NamedTree.{outline_at};
 ghost use Rattle.c1p_solve.specs.Answers.{IsAnswer, LeavesTree};
 
 use crate::solver::{Solved, solve};
-use pq_plain::PlainReducer;
+use row_reduce::ArenaReducer;
 use row_model::{Matrix, NoMemory};
 use std::alloc::Global;
 use step_count::{Ledger, Steps};
 
 /// The reducer by which matrices are solved.
-pub type Chosen = PlainReducer;
+pub type Chosen = ArenaReducer;
 
 /// The answer on a matrix, and the reducer that found it.
 #[derive(Drop)]
@@ -33,8 +33,8 @@ pub fn answer<L: Ledger>(
     steps: &mut Steps<L>,
 ) -> Result<Answered, NoMemory>
     ensures solved { IfOk result (λ a. IsAnswer m.now a.solved) }
-    ensures reducer { IfOk result (λ a. LeavesTree m.now (plain_outline a.reducer) a.solved) }
-    ensures columns { IfOk result (λ a. plain_columns a.reducer ≡ m.now.columns) }
+    ensures reducer { IfOk result (λ a. LeavesTree m.now (outline_at a.reducer) a.solved) }
+    ensures columns { IfOk result (λ a. a.reducer.columns ≡ m.now.columns) }
 {
     let mut reducer = Chosen::new(alloc, m.columns())?;
     let solved = solve(alloc, &mut reducer, m, steps)?;

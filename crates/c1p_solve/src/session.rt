@@ -4,7 +4,7 @@ ghost use Rattle.row_model.specs.Rows.{IsRow};
 ghost use Rattle.column_order.specs.Orders.{HasValidOrder};
 ghost use Rattle.pq_tree.specs.PqTree.{outline};
 ghost use Rattle.tied_law.specs.Tied.{IsTied};
-ghost use Rattle.pq_plain.specs.Plain.{plain_columns, plain_outline};
+ghost use Rattle.arena_model.specs.NamedTree.{outline_at};
 ghost use Rattle.c1p_solve.specs.Answers.{HasAllOrders};
 ghost use Rattle.c1p_solve.specs.Sessions.{IsSession, with_row};
 ghost use Rattle.c1p_solve.specs.Taking.{IsStart, IsDecision, StandsAfter};
@@ -136,8 +136,8 @@ impl Session {
 
     /// The reducer. Its tree is tied to all rows of the session.
     pub fn reducer(&self) -> &Chosen
-        ensures tree { plain_outline result.now ≡ self.now.tree }
-        ensures columns { plain_columns result.now ≡ self.now.matrix.columns }
+        ensures tree { outline_at result.now ≡ self.now.tree }
+        ensures columns { result.now.columns ≡ self.now.matrix.columns }
         ensures session { IsSession self.now }
     {
         &self.reducer
@@ -164,7 +164,10 @@ fn reduce_last<R: Reducer, L: Ledger>(
 {
     match reducer.reduce(m, m.rows(), steps)? {
         Step::Taken => Ok(Taken::Ok),
-        Step::Refused if explain => Ok(Taken::No(Some(conflict(alloc, m, m.rows(), steps)?))),
+        Step::Refused if explain => {
+            let cycle = conflict(alloc, reducer, m, m.rows(), steps)?;
+            Ok(Taken::No(Some(cycle)))
+        }
         Step::Refused => Ok(Taken::No(None)),
     }
 }

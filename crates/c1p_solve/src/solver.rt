@@ -1,11 +1,11 @@
 // Rows reduced in turn, and the odd cycle after a refusal.
-ghost use Rattle.std.specs.Prelude.{◌≡◌, ◌≤◌, [], IfOk, length, take};
+ghost use Rattle.std.specs.Prelude.{◌≡◌, ◌-◌, ◌≤◌, [], IfOk, length, take};
 ghost use Rattle.row_model.specs.Graph.{HasConflict};
 ghost use Rattle.row_model.specs.Cycles.{IsOddCycle};
 ghost use Rattle.tied_law.specs.Tied.{IsTied};
 ghost use Rattle.c1p_solve.specs.Answers.{IsAnswer, IsReduction, LeavesTree};
 
-use incompat_graph::{Cycle, odd_walk, simple_cycle};
+use incompat_graph::{Cycle, odd_walk_along, shorter_cycle, simple_cycle};
 use pq_plain::{Reducer, Step};
 use pq_tree::PqTree;
 use row_model::{Matrix, NoMemory};
@@ -64,25 +64,30 @@ pub(crate) fn reduce_all<R: Reducer, L: Ledger>(
     for taken in 0..m.rows() {
         match reducer.reduce(m, taken + 1, steps)? {
             Step::Taken => {}
-            Step::Refused => return Ok(Some(conflict(alloc, m, taken + 1, steps)?)),
+            Step::Refused => return Ok(Some(conflict(alloc, reducer, m, taken + 1, steps)?)),
         }
     }
     Ok(None)
 }
 
-// An odd cycle of a matrix of which the first `rows` rows have no valid order.
-pub(crate) fn conflict<L: Ledger>(
+// An odd cycle of a matrix of which the rows 1 to `k` have no valid order, by a reducer whose tree is tied to the rows before
+// row `k`.
+pub(crate) fn conflict<R: Reducer, L: Ledger>(
     alloc: Global,
+    reducer: &R,
     m: &Matrix,
-    rows: u32,
+    k: u32,
     steps: &mut Steps<L>,
 ) -> Result<Cycle, NoMemory>
-    requires within { rows ≤ length m.now.rows }
-    requires conflict { HasConflict m.now.columns (take rows m.now.rows) }
+    requires row { (1 ≤ k) × (k ≤ length m.now.rows) }
+    requires columns { R.columns reducer.now ≡ m.now.columns }
+    requires tied { IsTied m.now.columns (take (k - 1) m.now.rows) (R.outline reducer.now) }
+    requires conflict { HasConflict m.now.columns (take k m.now.rows) }
     ensures { IfOk result (IsOddCycle m.now.columns m.now.rows) }
 {
-    match odd_walk(alloc, m, rows, steps)? {
-        Some(walk) => simple_cycle(alloc, m, &walk),
-        None => unreachable!(),
-    }
+    let tree = reducer.tree(alloc)?;
+    let order = tree.frontier(alloc)?;
+    let walk = odd_walk_along(alloc, m, k, &order, steps)?;
+    let cycle = simple_cycle(alloc, m, &walk)?;
+    shorter_cycle(alloc, m, cycle, steps)
 }

@@ -1,14 +1,16 @@
 // Two rows with a valid order, a third that leaves none, and a session that goes on after it.
-ghost use Rattle.std.specs.Prelude.{◌≡◌, ◌<◌, [], length};
+ghost use Rattle.std.specs.Prelude.{◌≡◌, ◌<◌, ◌≤◌, [], length, IfOk};
 ghost use Rattle.row_model.specs.Rows.{IsRow};
 ghost use Rattle.tied_law.specs.Tied.{IsTied};
-ghost use Rattle.pq_plain.specs.Plain.{plain_columns, plain_outline};
+ghost use Rattle.arena_model.specs.NamedTree.{outline_at};
 
 use super::*;
+use incompat_graph::{Walk, odd_walk};
 use pq_plain::Reducer;
 use pq_tree::PqTree;
-use row_model::{Matrix, ROW_BOUND};
+use row_model::{Line, Matrix, ROW_BOUND, joined_by};
 use std::alloc::Global;
+use std::process::Abort;
 use std::test::Fail;
 use step_count::{Blank, Brand, Ledger, Steps};
 
@@ -21,8 +23,8 @@ fn solve_counted<L: Ledger>(
     requires name { blank.name ≡ L.name }
     requires parts { blank.parts ≡ L.parts }
     requires some { 0 < blank.parts }
-    requires columns { plain_columns reducer.old ≡ m.now.columns }
-    requires tied { IsTied m.now.columns [] (plain_outline reducer.old) }
+    requires columns { reducer.old.columns ≡ m.now.columns }
+    requires tied { IsTied m.now.columns [] (outline_at reducer.old) }
 {
     let mut steps = Steps::<L>::new(blank);
     solve(alloc, reducer, m, &mut steps)
@@ -179,5 +181,115 @@ fn a_session_goes_on_after_a_refusal(rt: HostRuntime) -> Result<(), Fail> {
 fn no_session_starts_without_a_valid_order(rt: HostRuntime) -> Result<(), Fail> {
     let started = started(rt.alloc(), triangle(rt.alloc())?)?;
     assert!(rt; matches!(started, Started::No(_)));
+    Ok(())
+}
+
+// The row of those of so many columns whose bits are set, the lowest bit for column 1.
+fn row_of(alloc: Global, columns: u32, bits: u64) -> Result<Vec<u32>, NoMemory>
+    requires { columns ≤ 32 }
+    ensures { IfOk result (λ row. IsRow columns row.items) }
+{
+    let mut row = Vec::new(alloc);
+    for k in 0..columns {
+        if bits >> k & 1 == 1 {
+            row.push(k + 1)?;
+        }
+    }
+    Ok(row)
+}
+
+// A matrix of such rows, each by the next bits.
+fn matrix_of(alloc: Global, columns: u32, rows: u32, bits: u64) -> Result<Matrix, NoMemory>
+    requires columns { (1 ≤ columns) × (columns ≤ 32) }
+    requires rows { rows ≤ 32 }
+{
+    let mut m = Matrix::new(alloc, columns)?;
+    let mut left = bits;
+    for _ in 0..rows {
+        let row = row_of(alloc, columns, left)?;
+        m.push_row(&row)?;
+        left >>= columns;
+    }
+    Ok(m)
+}
+
+fn walk_counted<L: Ledger>(
+    alloc: Global,
+    m: &Matrix,
+    blank: Blank,
+) -> Result<Option<Walk>, NoMemory>
+    requires name { blank.name ≡ L.name }
+    requires parts { blank.parts ≡ L.parts }
+    requires some { 0 < blank.parts }
+{
+    let mut steps = Steps::<L>::new(blank);
+    odd_walk(alloc, m, m.rows(), &mut steps)
+}
+
+// Each line's reason joins its pair to the next, the last to the first, and the lines are odd in number.
+fn assert_walk(rt: &impl Abort, m: &Matrix, lines: &[Line]) {
+    assert!(rt; lines.len() % 2 == 1);
+    for i in 0..lines.len() {
+        let next = if i + 1 < lines.len() { i + 1 } else { 0 };
+        assert!(rt; joined_by(m, lines[i].pair, lines[next].pair, lines[i].why));
+    }
+}
+
+// The search over all rows finds a walk exactly where the one along the order of the rows before a refused row finds one.
+fn assert_alike(rt: &impl Abort, alloc: Global, m: &Matrix) -> Result<(), NoMemory> {
+    let walk = walk_counted::<Brand>(alloc, m, Blank::new(1))?;
+    let answered = answered(alloc, m)?;
+    match (&walk, &answered.solved) {
+        (None, Solved::Yes(_)) => {}
+        (Some(walk), Solved::No(cycle)) => {
+            assert_walk(rt, m, walk.lines());
+            assert_walk(rt, m, cycle.lines());
+        }
+        _ => assert!(rt; false),
+    }
+    Ok(())
+}
+
+// Whether four rows of four bits rise, so that each set of rows comes in one order alone.
+fn rises(bits: u64) -> bool {
+    let rows = [bits & 15, bits >> 4 & 15, bits >> 8 & 15, bits >> 12 & 15];
+    rows[0] <= rows[1] && rows[1] <= rows[2] && rows[2] <= rows[3]
+}
+
+#[test]
+fn both_searches_agree_on_small_matrices(rt: HostRuntime) -> Result<(), Fail> {
+    for columns in 1..4 {
+        for bits in 0..512 {
+            let m = matrix_of(rt.alloc(), columns, 3, bits)?;
+            assert_alike(&rt, rt.alloc(), &m)?;
+        }
+    }
+    for bits in 0..65536 {
+        if rises(bits) {
+            let m = matrix_of(rt.alloc(), 4, 4, bits)?;
+            assert_alike(&rt, rt.alloc(), &m)?;
+        }
+    }
+    Ok(())
+}
+
+#[test]
+fn both_searches_agree_on_random_matrices(rt: HostRuntime) -> Result<(), Fail> {
+    let mut state: u64 = 1;
+    for k in 0..2000u32 {
+        let first = state
+            .wrapping_mul(6364136223846793005)
+            .wrapping_add(1442695040888963407);
+        state = first
+            .wrapping_mul(6364136223846793005)
+            .wrapping_add(1442695040888963407);
+        let m = matrix_of(
+            rt.alloc(),
+            5 + k % 4,
+            6,
+            first >> 15 & state >> 11 | first >> 23,
+        )?;
+        assert_alike(&rt, rt.alloc(), &m)?;
+    }
     Ok(())
 }

@@ -19,10 +19,11 @@ abbrev mutual
   weight_of p q no_tree = 0
   weight_of p q (tree_and t ts) = weight p q t + weight_of p q ts
 
--- the number of P-nodes, and that of Q-nodes
+-- the number of P-nodes
 abbrev pub p_nodes : Outline → ℕ
 p_nodes t = weight 1 0 t
 
+-- the number of Q-nodes
 abbrev pub q_nodes : Outline → ℕ
 q_nodes t = weight 0 1 t
 

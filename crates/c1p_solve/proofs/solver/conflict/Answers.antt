@@ -1,16 +1,22 @@
-use Rattle.std.proofs.Common.{take}
-use Rattle.row_model.specs.Graph.{HasOddWalk}
-use Rattle.row_model.specs.Cycles.{IsOddWalk}
+use Rattle.std.proofs.Common.{◌≡◌, ◌-◌, ℕ, List, take, sym, subst}
 use Rattle.row_model.proofs.CycleLaws.{closed_more}
-use Rattle.row_model.proofs.Walks.{conflict_odd}
+use Rattle.column_order.specs.Orders.{IsValidOrder}
+use Rattle.pq_tree.specs.PqTree.{outline}
+use Rattle.tied_law.specs.Tied.{IsTied}
+use Rattle.c1p_solve.proofs.Orders.{tied_valid}
 use Rattle.c1p_solve.proofs.solver.conflict.Goals as goal
+
+pub odd_walk_along-requires-clause-order : goal.odd_walk_along-requires-clause-order
+odd_walk_along-requires-clause-order g c =
+    let m = c.args.m.now in
+    let front : List (List ℕ) = take (c.args.k - 1) m.rows in
+    let same : g.R.Reducer.columns c.args.reducer.now ≡ m.columns = c.requires.columns in
+    let tree = c.in_ok-tree.tree in
+    let there = c.in_ok-tree.ensures.tied front (subst (λ (n : ℕ). IsTied n front (g.R.Reducer.outline c.args.reducer.now)) (sym same) c.requires.tied) in
+    let tied : IsTied m.columns front (outline tree) = subst (λ (n : ℕ). IsTied n front (outline tree)) same there in
+    let valid = tied_valid m.columns (g.R.Reducer.columns c.args.reducer.now) front tree c.in_ok-order.order.items c.in_ok-tree.ensures.columns same tied c.in_ok-order.ensures.frontier c.in_ok-order.ensures.order in
+    subst (IsValidOrder m.columns front) (sym c.deref.ensures.value) valid
 
 pub simple_cycle-requires : goal.simple_cycle-requires
 simple_cycle-requires g c =
-    let walk : IsOddWalk c.args.m.now.columns (take c.args.rows c.args.m.now.rows) c.in-Some.walk = rw c.in-Some.is at c.in_ok-walk.ensures.found in
-    closed_more c.args.m.now.columns c.args.m.now.rows c.args.rows c.in-Some.walk c.requires.within walk.closed
-
-pub unreachable-requires : goal.unreachable-requires
-unreachable-requires g c =
-    let none : HasOddWalk c.args.m.now.columns (take c.args.rows c.args.m.now.rows) → ⊥ = rw c.in-None.is at c.in_ok-walk.ensures.found in
-    none ((conflict_odd c.args.m.now.columns (take c.args.rows c.args.m.now.rows)).1 c.requires.conflict)
+    closed_more c.args.m.now.columns c.args.m.now.rows c.args.k c.in_ok-walk.walk c.requires.row.1 c.in_ok-walk.ensures.walk.closed
