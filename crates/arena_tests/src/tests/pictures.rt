@@ -1,0 +1,179 @@
+// The tree of an arena as its views show it, with a test of all links.
+use super::calls::{is_same, view_of};
+use pq_arena::{Arena, NodeId, NodeView, Shape};
+use row_model::NoMemory;
+use std::alloc::Global;
+use std::process::Abort;
+use step_count::{Ledger, Steps};
+
+// A node that the views show. It has a place in the list of all nodes, where each stands behind the one above it and
+// the children of one stand together, from left to right.
+#[derive(Clone, Copy)]
+pub struct Seen {
+    pub node: NodeId,
+    pub shape: Shape,
+    // The place of the node above it; the root has its own.
+    pub above: usize,
+    // The places of its children begin here, and end before `end`.
+    pub first: usize,
+    pub end: usize,
+}
+
+pub fn seen_at(rt: &impl Abort, tree: &Vec<Seen>, place: usize) -> Seen {
+    assert!(rt; place < tree.len());
+    tree[place]
+}
+
+// The children of the node at this place.
+pub fn children_of<'a>(rt: &impl Abort, tree: &'a Vec<Seen>, place: usize) -> &'a [Seen] {
+    let seen = seen_at(rt, tree, place);
+    assert!(rt; seen.first <= seen.end);
+    assert!(rt; seen.end <= tree.len());
+    &tree[seen.first..seen.end]
+}
+
+// The place of a node.
+pub fn place_of(rt: &impl Abort, tree: &Vec<Seen>, node: NodeId) -> usize {
+    for place in 0..tree.len() {
+        if tree[place].node.index() == node.index() {
+            return place;
+        }
+    }
+    assert!(rt; false);
+    0
+}
+
+// The tree at the root.
+pub fn read<L: Ledger>(
+    rt: &impl Abort,
+    alloc: Global,
+    arena: &Arena,
+    steps: &mut Steps<L>,
+) -> Result<Vec<Seen>, NoMemory> {
+    let mut tree = Vec::new(alloc);
+    let root = arena.root();
+    let view = view_of(rt, arena, root, steps);
+    assert!(rt; is_same(view.parent, None));
+    assert!(rt; is_same(view.near[0], None));
+    assert!(rt; is_same(view.near[1], None));
+    push_seen(root, view.shape, 0, &mut tree)?;
+    assert!(rt; arena.columns() <= 40_000);
+    for place in 0..2 * arena.columns() as usize {
+        if place < tree.len() {
+            push_children(rt, arena, place, &mut tree, steps)?;
+        }
+    }
+    Ok(tree)
+}
+
+fn push_seen(
+    node: NodeId,
+    shape: Shape,
+    above: usize,
+    tree: &mut Vec<Seen>,
+) -> Result<(), NoMemory> {
+    let seen = Seen {
+        node,
+        shape,
+        above,
+        first: 0,
+        end: 0,
+    };
+    tree.push(seen)?;
+    Ok(())
+}
+
+// Adds the children of the node at this place.
+fn push_children<L: Ledger>(
+    rt: &impl Abort,
+    arena: &Arena,
+    place: usize,
+    tree: &mut Vec<Seen>,
+    steps: &mut Steps<L>,
+) -> Result<(), NoMemory> {
+    let first = tree.len();
+    let node = seen_at(rt, tree, place).node;
+    let view = view_of(rt, arena, node, steps);
+    match view.shape {
+        Shape::Leaf(_) => {}
+        Shape::P => push_ring(rt, arena, place, node, view, tree, steps)?,
+        Shape::Q => push_run(rt, arena, place, node, view, tree, steps)?,
+    }
+    let end = tree.len();
+    assert!(rt; place < end);
+    tree[place].first = first;
+    tree[place].end = end;
+    Ok(())
+}
+
+// Adds the children of a P-node. Each knows it, and each is the one before the one behind it.
+fn push_ring<L: Ledger>(
+    rt: &impl Abort,
+    arena: &Arena,
+    place: usize,
+    node: NodeId,
+    view: NodeView,
+    tree: &mut Vec<Seen>,
+    steps: &mut Steps<L>,
+) -> Result<(), NoMemory> {
+    let mut next = view.ends[0];
+    for _ in 0..view.children {
+        let child = named(rt, next, node);
+        let child_view = view_of(rt, arena, child, steps);
+        assert!(rt; is_same(child_view.parent, Some(node)));
+        push_seen(child, child_view.shape, place, tree)?;
+        next = child_view.near[0];
+        let behind = named(rt, next, node);
+        let behind_view = view_of(rt, arena, behind, steps);
+        assert!(rt; is_same(behind_view.near[1], Some(child)));
+    }
+    assert!(rt; is_same(next, view.ends[0]));
+    Ok(())
+}
+
+// The node that is named.
+fn named(rt: &impl Abort, name: Option<NodeId>, other: NodeId) -> NodeId {
+    match name {
+        Some(node) => node,
+        None => {
+            assert!(rt; false);
+            other
+        }
+    }
+}
+
+// Adds the children of a Q-node. An end child knows it, and no other child does.
+fn push_run<L: Ledger>(
+    rt: &impl Abort,
+    arena: &Arena,
+    place: usize,
+    node: NodeId,
+    view: NodeView,
+    tree: &mut Vec<Seen>,
+    steps: &mut Steps<L>,
+) -> Result<(), NoMemory> {
+    let mut before = None;
+    let mut next = view.ends[0];
+    for _ in 0..arena.columns() {
+        if let Some(child) = next {
+            let child_view = view_of(rt, arena, child, steps);
+            push_seen(child, child_view.shape, place, tree)?;
+            next = other_near(rt, &child_view, before);
+            let is_end = before.is_none() || next.is_none();
+            assert!(rt; is_same(child_view.parent, if is_end { Some(node) } else { None }));
+            before = Some(child);
+        }
+    }
+    assert!(rt; next.is_none());
+    assert!(rt; is_same(before, view.ends[1]));
+    Ok(())
+}
+
+// The neighbour on the other side of `before`.
+fn other_near(rt: &impl Abort, view: &NodeView, before: Option<NodeId>) -> Option<NodeId> {
+    if is_same(view.near[0], before) {
+        return view.near[1];
+    }
+    assert!(rt; is_same(view.near[1], before));
+    view.near[0]
+}

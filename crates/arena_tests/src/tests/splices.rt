@@ -1,0 +1,279 @@
+// Single calls, and what there is to see after each.
+ghost use Rattle.std.specs.Prelude.{◌≡◌, ◌<◌};
+
+use super::calls::{detach, give_back, is_same, leaf, put_under, replace, splice, take, view_of};
+use super::pictures::{children_of, place_of, read};
+use super::plain::sum;
+use pq_arena::{Arena, NodeId, Shape};
+use row_model::NoMemory;
+use std::alloc::Global;
+use std::process::Abort;
+use step_count::{Blank, Ledger, Steps};
+
+// A Q-node over the columns 2, 3 and 5 in line, between other columns of a Q-node above it, is spliced.
+#[derive(Clone, Copy)]
+struct Splice {
+    before: &'static [u32],
+    behind: &'static [u32],
+    // The end that comes to stand beside this column, which is 0 for none.
+    first: usize,
+    near: u32,
+    wanted: &'static [u32],
+}
+
+const SPLICES: [Splice; 14] = [
+    // Between two others.
+    Splice {
+        before: &[1],
+        behind: &[4],
+        first: 0,
+        near: 1,
+        wanted: &[1, 2, 3, 5, 4],
+    },
+    Splice {
+        before: &[1],
+        behind: &[4],
+        first: 1,
+        near: 1,
+        wanted: &[1, 5, 3, 2, 4],
+    },
+    Splice {
+        before: &[1],
+        behind: &[4],
+        first: 0,
+        near: 4,
+        wanted: &[1, 5, 3, 2, 4],
+    },
+    Splice {
+        before: &[1],
+        behind: &[4],
+        first: 1,
+        near: 4,
+        wanted: &[1, 2, 3, 5, 4],
+    },
+    // At the first end.
+    Splice {
+        before: &[],
+        behind: &[4],
+        first: 0,
+        near: 0,
+        wanted: &[2, 3, 5, 4],
+    },
+    Splice {
+        before: &[],
+        behind: &[4],
+        first: 1,
+        near: 0,
+        wanted: &[5, 3, 2, 4],
+    },
+    Splice {
+        before: &[],
+        behind: &[4],
+        first: 0,
+        near: 4,
+        wanted: &[5, 3, 2, 4],
+    },
+    Splice {
+        before: &[],
+        behind: &[4],
+        first: 1,
+        near: 4,
+        wanted: &[2, 3, 5, 4],
+    },
+    // At the last end.
+    Splice {
+        before: &[1],
+        behind: &[],
+        first: 0,
+        near: 0,
+        wanted: &[1, 5, 3, 2],
+    },
+    Splice {
+        before: &[1],
+        behind: &[],
+        first: 1,
+        near: 0,
+        wanted: &[1, 2, 3, 5],
+    },
+    Splice {
+        before: &[1],
+        behind: &[],
+        first: 0,
+        near: 1,
+        wanted: &[1, 2, 3, 5],
+    },
+    Splice {
+        before: &[1],
+        behind: &[],
+        first: 1,
+        near: 1,
+        wanted: &[1, 5, 3, 2],
+    },
+    // Alone.
+    Splice {
+        before: &[],
+        behind: &[],
+        first: 0,
+        near: 0,
+        wanted: &[2, 3, 5],
+    },
+    Splice {
+        before: &[],
+        behind: &[],
+        first: 1,
+        near: 0,
+        wanted: &[5, 3, 2],
+    },
+];
+
+// Each splice on a new tree.
+pub fn all_splices<L: Ledger>(rt: &impl Abort, alloc: Global, blank: Blank) -> Result<(), NoMemory>
+    requires name { blank.name ≡ L.name }
+    requires parts { blank.parts ≡ L.parts }
+    requires some { 0 < blank.parts }
+{
+    let mut steps = Steps::<L>::new(blank);
+    for case in SPLICES {
+        one_splice(rt, alloc, case, &mut steps)?;
+    }
+    Ok(())
+}
+
+fn one_splice<L: Ledger>(
+    rt: &impl Abort,
+    alloc: Global,
+    case: Splice,
+    steps: &mut Steps<L>,
+) -> Result<(), NoMemory> {
+    let mut arena = Arena::new(alloc, 6)?;
+    let child = take(rt, &mut arena, true, steps);
+    put_columns(rt, &mut arena, child, &[2, 3, 5], steps);
+    let line = take(rt, &mut arena, true, steps);
+    put_columns(rt, &mut arena, line, case.before, steps);
+    put_under(rt, &mut arena, line, 1, child, steps);
+    put_columns(rt, &mut arena, line, case.behind, steps);
+    let root = arena.root();
+    put_under(rt, &mut arena, root, 0, line, steps);
+    let spare = arena.spare() as usize;
+    let near = if case.near == 0 {
+        None
+    } else {
+        Some(leaf(rt, &arena, case.near))
+    };
+    splice(rt, &mut arena, child, case.first, near, steps);
+    assert_eq!(rt; arena.spare() as usize, sum(rt, spare, 1));
+    assert!(rt; !arena.is_in_use(child, steps));
+    assert_columns(rt, alloc, &arena, line, case.wanted, steps)
+}
+
+// Puts columns that stand under a P-node behind the children of a node, one after another.
+pub fn put_columns<L: Ledger>(
+    rt: &impl Abort,
+    arena: &mut Arena,
+    node: NodeId,
+    columns: &[u32],
+    steps: &mut Steps<L>,
+) {
+    for column in columns {
+        let n = leaf(rt, arena, *column);
+        detach(rt, arena, n, steps);
+        put_under(rt, arena, node, 1, n, steps);
+    }
+}
+
+// The children of the node are the leaves of these columns, from left to right. All links of the tree are tested too.
+fn assert_columns<L: Ledger>(
+    rt: &impl Abort,
+    alloc: Global,
+    arena: &Arena,
+    node: NodeId,
+    columns: &[u32],
+    steps: &mut Steps<L>,
+) -> Result<(), NoMemory> {
+    let tree = read(rt, alloc, arena, steps)?;
+    let place = place_of(rt, &tree, node);
+    let children = children_of(rt, &tree, place);
+    assert_eq!(rt; children.len(), columns.len());
+    for i in 0..columns.len() {
+        let is_it = matches!(children[i].shape, Shape::Leaf(column) if column == columns[i]);
+        assert!(rt; is_it);
+    }
+    Ok(())
+}
+
+// The nodes that are spare: one fewer after a node is taken, one more after it is given back, and the next to be taken.
+pub fn taken_and_given_back<L: Ledger>(
+    rt: &impl Abort,
+    alloc: Global,
+    blank: Blank,
+) -> Result<(), NoMemory>
+    requires name { blank.name ≡ L.name }
+    requires parts { blank.parts ≡ L.parts }
+    requires some { 0 < blank.parts }
+{
+    let mut steps = Steps::<L>::new(blank);
+    let mut arena = Arena::new(alloc, 3)?;
+    assert_eq!(rt; arena.spare(), 6);
+    let p = take(rt, &mut arena, false, &mut steps);
+    assert_eq!(rt; arena.spare(), 5);
+    let q = take(rt, &mut arena, true, &mut steps);
+    assert_eq!(rt; arena.spare(), 4);
+    give_back(rt, &mut arena, p, &mut steps);
+    assert_eq!(rt; arena.spare(), 5);
+    assert!(rt; !arena.is_in_use(p, &mut steps));
+    give_back(rt, &mut arena, q, &mut steps);
+    assert_eq!(rt; arena.spare(), 6);
+    let next = take(rt, &mut arena, false, &mut steps);
+    assert_eq!(rt; next.index(), q.index());
+    Ok(())
+}
+
+// The two neighbours of a node, the first behind it in a ring, are these columns, or none where a column is 0.
+fn assert_near<L: Ledger>(
+    rt: &impl Abort,
+    arena: &Arena,
+    n: NodeId,
+    first: u32,
+    second: u32,
+    steps: &mut Steps<L>,
+) {
+    let view = view_of(rt, arena, n, steps);
+    assert!(rt; is_same(view.near[0], named(rt, arena, first)));
+    assert!(rt; is_same(view.near[1], named(rt, arena, second)));
+}
+
+fn named(rt: &impl Abort, arena: &Arena, column: u32) -> Option<NodeId> {
+    if column == 0 {
+        None
+    } else {
+        Some(leaf(rt, arena, column))
+    }
+}
+
+// The neighbours in a ring of three while one of them leaves, stands alone and comes back, and in a run.
+pub fn neighbours<L: Ledger>(rt: &impl Abort, alloc: Global, blank: Blank) -> Result<(), NoMemory>
+    requires name { blank.name ≡ L.name }
+    requires parts { blank.parts ≡ L.parts }
+    requires some { 0 < blank.parts }
+{
+    let mut steps = Steps::<L>::new(blank);
+    let mut arena = Arena::new(alloc, 3)?;
+    let root = arena.root();
+    let one = leaf(rt, &arena, 1);
+    let two = leaf(rt, &arena, 2);
+    assert_near(rt, &arena, one, 2, 3, &mut steps);
+    detach(rt, &mut arena, two, &mut steps);
+    assert_near(rt, &arena, one, 3, 3, &mut steps);
+    assert_near(rt, &arena, two, 0, 0, &mut steps);
+    put_under(rt, &mut arena, root, 0, two, &mut steps);
+    assert_columns(rt, alloc, &arena, root, &[2, 1, 3], &mut steps)?;
+    assert_near(rt, &arena, two, 1, 3, &mut steps);
+    let line = take(rt, &mut arena, true, &mut steps);
+    put_columns(rt, &mut arena, line, &[1, 2, 3], &mut steps);
+    replace(rt, &mut arena, root, line, &mut steps);
+    give_back(rt, &mut arena, root, &mut steps);
+    assert_columns(rt, alloc, &arena, line, &[1, 2, 3], &mut steps)?;
+    assert!(rt; is_same(view_of(rt, &arena, two, &mut steps).parent, None));
+    assert!(rt; is_same(view_of(rt, &arena, one, &mut steps).parent, Some(line)));
+    Ok(())
+}
