@@ -19,8 +19,6 @@ MOST_TIMES = 12
 BASE_BYTES = 16 << 20
 # What README allows beside the bytes of files that are full of small values.
 CROWDED_BYTES = 256 << 20
-# What the kit's reader of JSON takes for arrays of one array each, within one another.
-NESTED_BYTES = 50 * LIMIT
 COST = os.path.join(HOME, "end_to_end", "cost.py")
 MATRIX = b"110\n011\n"
 HEAD = b"pq-verdict 1\nkind matrix\ncolumns 3\nanswer "
@@ -104,6 +102,7 @@ def crowded_files():
     yield "table", "commas", filled(b"", b","), (7, 1)
     yield "clones", "arrays in an array", filled(b"[", b"[],", b"[]]"), (10, 0)
     yield "clones", "clones without probes", filled(CLONES + b"{}", b",{}", b"]}"), (7, 0)
+    yield "clones", "zeros in place of clones", filled(CLONES + b"0", b",0", b"]}"), (7, 0)
     yield "clones", "numbers", filled(b"[1", b",1", b"]"), (10, 0)
     yield "clones", "one name of a member again and again", filled(b'{"a":1', b',"a":1', b"}"), (10, 0)
 
@@ -156,7 +155,7 @@ def hostile():
         yield f"{kind} of {what}", ["solve", kind], content, (0, None, b""), BASE_BYTES
     for kind, what, content, (code, line) in crowded_files():
         yield f"{kind} of {what}", ["solve", kind], content, (3, b"", b"pq: refused 1 code %d line %d\n" % (code, line)), CROWDED_BYTES
-    yield "clones of a member of nested arrays", ["solve", "clones"], nested_arrays(), (0, None, b""), NESTED_BYTES
+    yield "clones of a member of nested arrays", ["solve", "clones"], nested_arrays(), (0, None, b""), BASE_BYTES
 
 
 def hostile_problems():
