@@ -23,3 +23,4 @@ pub mod FileLemmas
 pub mod CloneCauses
 pub mod RefusalLemmas
 pub mod TextLemmas
+pub mod MarkLemmas

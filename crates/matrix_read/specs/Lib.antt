@@ -20,3 +20,4 @@ pub mod CloneNames
 pub mod CloneRows
 pub mod CloneRefusals
 pub mod TextLaws
+pub mod Marks

@@ -32,7 +32,9 @@ loop-word-preserved c =
     record {
       within = found.range.1;
       code = words_next (length c.args.marks.now) _ _ _ step (rw few at c.in-Ok.ensures.named.0) ∙ c.loop-word.invariant.code;
-      marks = mark_step c.loop-word.marks (c.in-Ok.column - 1) (length c.args.marks.now) (columns_named (words_of (drop word.end line))) (columns_named (words_of line)) (omega (arith, c.in-Ok.ensures.range.0, c.in-Ok.ensures.range.1)) before;
+      marks = rw c.mark_column-count.ensures.marks (mark_step c.loop-word.marks (c.in-Ok.column - 1) (length c.args.marks.now) (columns_named (words_of (drop word.end line))) (columns_named (words_of line)) (omega (arith, c.in-Ok.ensures.range.0, c.in-Ok.ensures.range.1)) before);
+      listed = c.mark_column-count.ensures.listed;
+      few = omega (arith, c.mark_column-count.ensures.within, few);
     }
 
 pub returns : goal.returns
@@ -43,4 +45,6 @@ returns c =
       refused = tt;
       named = sym c.loop-word.invariant.code ∙ words_end (length c.args.marks.now) _ none;
       marks = λ j lt. marks_end _ _ _ (j + 1) none (c.loop-word.invariant.marks j lt);
+      listed = c.loop-word.invariant.listed;
+      within = omega arith;
     }

@@ -12,7 +12,7 @@ returns-in-Ok-clause-row c =
     let numbers = columns_named (words_of c.args.line.now) in
     let same : length marks ≡ length c.args.marks.now = c.mark_columns.auto.marks in (
       line_taken (length c.args.marks.now) c.args.before c.args.line.now c.if-before-ge-MAX_ROWS.false c.in-Ok.ensures.named,
-      c.take_marked.ensures.columns
+      c.take_listed.ensures.columns
           ∙ marked_is marks numbers (λ j lt. c.in-Ok.ensures.marks j (rw same at lt))
           ∙ ap (λ n. columns_among n numbers) same,
     )
