@@ -27,7 +27,7 @@ pub enum Settled {
     Open,
 }
 
-/// Looks once at each full node, and says whether every frontier of the tree keeps row `k` of the matrix, numbered from
+/// Looks at full nodes and at the P-nodes above them alone, and says whether every frontier of the tree keeps row `k` of the matrix, numbered from
 /// 1, or template P2 applies. After [`Settled::Group`], [`FullWork::members`] are the full children of its node.
 pub fn settle<L: Ledger>(
     arena: &Arena,

@@ -9,7 +9,6 @@ use Rattle.pq_plain.specs.Reduced.{IsTurned}
 use Rattle.arena_model.specs.ChildLists.{with_replaced}
 use Rattle.arena_model.specs.Layout.{Layout, shape_at, children_at, IsAtOrAbove, IsInUse}
 use Rattle.arena_model.specs.NamedTree.{outline_below, IsOneTree, HasTwoEach}
-use Rattle.bubble_pass.specs.declared.labels.Label.TheVariants.{Partial as Partly}
 use Rattle.bubble_pass.specs.Marks.{Marks, label_at, size_of}
 use Rattle.bubble_pass.specs.Pass.{IsRightAt}
 use Rattle.bubble_pass.specs.Sweep.{IsRight}
@@ -53,9 +52,8 @@ pub record IsTreated (f g : Layout) (v w : Marks) (n a : ℕ) : Type 0 where
 abbrev pub StandsFor : Layout → ℕ → Outline → Type 0
 StandsFor g a u = IsEquivalent u (outline_below g a)
 
--- the Q-node a stands for the partial x, its trees turned, and is marked so
+-- the Q-node a stands for the partial x, its trees turned
 pub record StandsForPartial (g : Layout) (w : Marks) (a : ℕ) (x : Partial) : Type 0 where
   pub shape : Partial
   pub turned : IsTurned (partial_label x) (partial_label shape)
   pub is : IsShapeAt g w a shape
-  pub marked : label_at w a ≡ Partly

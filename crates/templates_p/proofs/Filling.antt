@@ -172,15 +172,14 @@ line_long f i v x h end p F k s =
 
 -- P5 where no child is empty
 pub p5_top : (f i : Layout) (v x : Marks) (n h end a : ℕ) (es : Forest) (p : Partial) (fs : Forest) → OnePartial f v n h es p fs → HasLine f v i x n h end a p fs → a ≡ h → n ≢ h →
-    label_at x a ≡ Partly → StandsForPartial i x a (p5 es p fs)
-p5_top f i v x n h end a es p fs k b is apart m = elim b.place [
+    StandsForPartial i x a (p5 es p fs)
+p5_top f i v x n h end a es p fs k b is apart = elim b.place [
   | inl q ↦ absurd (apart (sym q.0 ∙ is))
   | inr q ↦
       let none : es ≡ no_tree = sym k.empty ∙ ap (λ xs. forest (map (outline_below f) xs)) (empty_none (empties v (children_at f n)) q.1) in
       subst (λ z. StandsForPartial i x z (p5 es p fs)) (sym is) (subst (λ ts. StandsForPartial i x h (p5 ts p fs)) (sym none)
       (line_stands i x h b.line.es b.line.fs p.e (join p.f (star fs)) b.is_q (elim b.line.sides [ inl c ↦ inl c.1 | inr c ↦ inr c.1 ])
-      (line_long f i v x h end p (join p.f (star fs)) k.shape b.line) b.line.some b.line.empty b.line.full b.line.empty_trees b.line.full_trees
-      (subst (λ z. label_at x z ≡ Partly) is m)))
+      (line_long f i v x h end p (join p.f (star fs)) k.shape b.line) b.line.some b.line.empty b.line.full b.line.empty_trees b.line.full_trees))
 ]
 
 -- what holds where some are
@@ -235,10 +234,10 @@ module _ (f i : Layout) (v x : Marks) (n h a : ℕ) (li : IsLayout i) (one : IsO
 
   -- P5 where some child is empty
   pub p5_lifted : (j : Layout) (y : Marks) (full : ℕ) (es : Forest) (p : Partial) (fs : Forest) → full ≤ 1 → IsLayout j → OnePartial f v n h es p fs → HasLine f v i x n h full a p fs →
-      IsParted i j x y n h (1 - full) (without (children_at i n) h) (children_at i h) → label_at x a ≡ Partly → StandsForPartial j y h (p5 es p fs)
-  p5_lifted j y full es p fs small lj k b parted m =
+      IsParted i j x y n h (1 - full) (without (children_at i n) h) (children_at i h) → StandsForPartial j y h (p5 es p fs)
+  p5_lifted j y full es p fs small lj k b parted =
       subst (λ ts. StandsForPartial j y h (p5 ts p fs)) k.empty
       (parted_line i j x y n h (1 - full) full (without (children_at i n) h) (children_at i h) li lj line_of parted rest_empty
       (outline_below f) (empties v (children_at f n)) rest_is
       (λ c o. (s.same c (let o' : 1 ≤ occurs (empties v (children_at f n)) c = omega (arith, rest_is c) in o')).tree)
-      p.e (join p.f (star fs)) b.line (other_end full small) (subst (λ z. label_at x z ≡ Partly) s.node m))
+      p.e (join p.f (star fs)) b.line (other_end full small))

@@ -16,7 +16,7 @@ use Rattle.arena_model.specs.ChildLists.{without, put_on}
 use Rattle.arena_model.specs.Layout.{Layout, shape_at, children_at, IsLayout}
 use Rattle.arena_model.specs.NamedTree.{outline_below}
 use Rattle.arena_model.proofs.Lists.{occurs_same, occurs_other, reverse_cons}
-use Rattle.bubble_pass.specs.declared.labels.Label.TheVariants.{Empty, Partial as Partly, Full}
+use Rattle.bubble_pass.specs.declared.labels.Label.TheVariants.{Empty, Full}
 use Rattle.bubble_pass.specs.Marks.{Marks, label_at}
 use Rattle.pq_plain.specs.Templates.{Partial, star}
 use Rattle.template_model.specs.Treated.{StandsForPartial}
@@ -34,9 +34,9 @@ use Rattle.templates_p.proofs.Parting.{IsLineOf, line_same, part_label, part_sta
 pub line_stands : (g : Layout) (w : Marks) (h : ℕ) (es fs : List ℕ) (E F : Forest) → shape_at g h ≡ Some Q →
     (children_at g h ≡ es ++ fs) ⊎ (children_at g h ≡ reverse (es ++ fs)) → 1 ≤ length es → 1 ≤ length fs →
     All (λ x. label_at w x ≡ Empty) es → All (λ x. label_at w x ≡ Full) fs →
-    AreEquivalent E (map (outline_below g) es) → AreEquivalent F (map (outline_below g) fs) → label_at w h ≡ Partly →
+    AreEquivalent E (map (outline_below g) es) → AreEquivalent F (map (outline_below g) fs) →
     StandsForPartial g w h (record { e = E; f = F })
-line_stands g w h es fs E F q c le lf ae af te tf m =
+line_stands g w h es fs E F q c le lf ae af te tf =
     let s : Partial = record { e = forest (map (outline_below g) es); f = forest (map (outline_below g) fs) } in
     record {
       shape = s;
@@ -47,7 +47,6 @@ line_stands g w h es fs E F q c le lf ae af te tf m =
         refl,
       );
       is = record { es = es; fs = fs; is_q = q; children = c; some_empty = le; some_full = lf; empty = ae; full = af; empty_trees = refl; full_trees = refl };
-      marked = m;
     }
 
 put_front : (js line xs : List ℕ) (end e : ℕ) → js ≡ put_on end e line → end ≡ 0 → line ≡ xs → js ≡ e ∷ xs
@@ -76,9 +75,9 @@ line_sides line xs end (inr q) = inr q.1
 pub parted_line : (f g : Layout) (v w : Marks) (n h end full : ℕ) (rest line : List ℕ) → IsLayout f → IsLayout g → IsLineOf f n h rest line →
     IsParted f g v w n h end rest line → ((k : ℕ) → 1 ≤ occurs rest k → label_at v k ≡ Empty) →
     (o : ℕ → Outline) (xs : List ℕ) → ((k : ℕ) → occurs xs k ≡ occurs rest k) → ((k : ℕ) → 1 ≤ occurs rest k → outline_below f k ≡ o k) →
-    (E F : Forest) → IsLineFor f v line full E F → AreEnds full end → label_at v n ≡ Partly →
+    (E F : Forest) → IsLineFor f v line full E F → AreEnds full end →
     StandsForPartial g w h (record { e = join (star (forest (map o xs))) E; f = F })
-parted_line f g v w n h end full rest line lf lg l p empty o xs bag tree E F s ends m =
+parted_line f g v w n h end full rest line lf lg l p empty o xs bag tree E F s ends =
     let c : (line ≡ s.es ++ s.fs) ⊎ (line ≡ reverse (s.es ++ s.fs)) = line_sides line (s.es ++ s.fs) full s.sides in
     let in_e : (k : ℕ) → 1 ≤ occurs s.es k → 1 ≤ occurs line k = (λ k i. omega (arith, shape_member line s.es s.fs k c)) in
     let in_f : (k : ℕ) → 1 ≤ occurs s.fs k → 1 ≤ occurs line k = (λ k i. omega (arith, shape_member line s.es s.fs k c)) in
@@ -92,7 +91,6 @@ parted_line f g v w n h end full rest line lf lg l p empty o xs bag tree E F s e
     (part_stands f g v w n h end rest line lf lg l p empty o xs bag tree)
     (subst (λ us. AreEquivalent E us) (sym (map_same (outline_below f) (outline_below g) s.es (λ k i. (same k (in_e k i)).tree))) s.empty_trees))
     (subst (λ us. AreEquivalent F us) (sym (map_same (outline_below f) (outline_below g) s.fs (λ k i. (same k (in_f k i)).tree))) s.full_trees)
-    (p.label ∙ m)
 
 -- all but one of a bag
 pub rest_bag : (ks es : List ℕ) (y : ℕ) → ((k : ℕ) → occurs ks k ≡ occurs (y ∷ es) k) → occurs ks y ≤ 1 → (k : ℕ) → occurs es k ≡ occurs (without ks y) k

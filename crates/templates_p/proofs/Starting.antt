@@ -16,7 +16,7 @@ use Rattle.arena_model.proofs.Bare.{bare_children, bare_other, bare_shape, fresh
 use Rattle.arena_model.proofs.Paths.{above_step, above_kept, other_top}
 use Rattle.arena_model.proofs.Slots.{some_none, in_range, used_by, children_same, children_other, shape_same, times_with, children_times}
 use Rattle.arena_model.proofs.Trees.{no_circle}
-use Rattle.bubble_pass.specs.declared.labels.Label.TheVariants.{Empty, Partial as Partly, Full}
+use Rattle.bubble_pass.specs.declared.labels.Label.TheVariants.{Empty, Full}
 use Rattle.bubble_pass.specs.Marks.{Marks, label_at, size_of}
 use Rattle.pq_plain.specs.Templates.{Partial, Label, star, p3, IsP3}
 use Rattle.template_model.specs.Standing.{child_trees, AreMarkedAs, IsReady}
@@ -332,8 +332,8 @@ module _ (f g g' : Layout) (v w : Marks) (n y q : ℕ) (lg : IsLayout g) (grp : 
   }
 
   pub p3_becomes : (i : Layout) (x : Marks) (ps : List Label) (z : Partial) → IsLayout i → IsParted g' i w x n q 0 (without (children_at g' n) q) (children_at g' q) →
-      AreMarkedAs f v n ps → label_at w n ≡ Partly → IsP3 false (child_trees f n) ps z → StandsForPartial i x q z
-  p3_becomes i x ps z li p marked m three =
+      AreMarkedAs f v n ps → IsP3 false (child_trees f n) ps z → StandsForPartial i x q z
+  p3_becomes i x ps z li p marked three =
       let o : ℕ → Outline = outline_below f in
       let ks : List ℕ = children_at f n in
       let u = sorted_unique (sort o v ks ps marked) three.pattern in
@@ -341,7 +341,7 @@ module _ (f g g' : Layout) (v w : Marks) (n y q : ℕ) (lg : IsLayout g) (grp : 
       let fs : Forest = forest (map o (fulls v ks)) in
       let base : StandsForPartial i x q (record { e = join (star es) no_tree; f = star fs }) =
       parted_line g i w x n q 0 1 (without (children_at g' n) q) (children_at g' q) lg li line (started_parted g g' i w x n y q 0 (without (children_at g' n) q) (children_at g' q) s p) rest_empty
-      o (empties v ks) rest_of (λ k r. let c : 1 ≤ occurs (empties v ks) k = in_empty k r in (grp.others k (omega arith)).tree) no_tree (star fs) line_for (inl (refl, refl)) m in
+      o (empties v ks) rest_of (λ k r. let c : 1 ≤ occurs (empties v ks) k = in_empty k r in (grp.others k (omega arith)).tree) no_tree (star fs) line_for (inl (refl, refl)) in
       let plain : StandsForPartial i x q (p3 es fs) = subst (λ ts. StandsForPartial i x q (record { e = ts; f = star fs })) (join_none (star es)) base in
       subst (λ t. StandsForPartial i x q t) (sym three.becomes)
       (subst (λ ts. StandsForPartial i x q (p3 ts (tree_and three.f three.fs))) u.0 (subst (λ ts. StandsForPartial i x q (p3 es ts)) u.1 plain))

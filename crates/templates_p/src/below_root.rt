@@ -1,8 +1,7 @@
 // The templates below the pertinent root, which make a partial of a P-node.
-ghost use Rattle.std.specs.Prelude.{◌≡◌, ℕ, ◌+◌, ◌*◌, ◌≤◌, List, false};
+ghost use Rattle.std.specs.Prelude.{ℕ, ◌+◌, ◌*◌, ◌≤◌, List, false};
 ghost use Rattle.arena_model.specs.Layout.{children_at};
-ghost use Rattle.bubble_pass.specs.declared.labels.Label.TheVariants.{Partial as Partly};
-ghost use Rattle.bubble_pass.specs.Marks.{label_at, fulls_at, partials_at};
+ghost use Rattle.bubble_pass.specs.Marks.{fulls_at, partials_at};
 ghost use Rattle.pq_plain.specs.Templates.{Partial, Label, IsP3, IsP5};
 ghost use Rattle.template_model.specs.Standing.{IsReady, AreMarkedAs, AreShapesAt, child_trees};
 ghost use Rattle.template_model.specs.Treated.{IsTreated, StandsForPartial};
@@ -15,8 +14,8 @@ use bubble_pass::Work;
 use pq_arena::{Arena, NodeId};
 use step_count::{Ledger, Steps};
 
-/// Applies P3 at `node`, which is not the pertinent root: the answer is a new Q-node in its place, partial, with the empty
-/// children, as one node, at one end and the full children, as one node, at the other.
+/// Applies P3 at `node`, which is not the pertinent root: the answer is a new Q-node in its place and with its label, over
+/// the empty children, as one node, at one end and the full children, as one node, at the other.
 ///
 /// It ticks at most 64 times for each labelled child, and 64 times more.
 pub fn apply_p3<L: Ledger>(
@@ -29,7 +28,7 @@ pub fn apply_p3<L: Ledger>(
     requires stands { StandsP3 arena.old work.old node.index }
     ensures treated { IsTreated arena.old arena.new work.old work.new node.index result.index }
     ensures becomes { (ps : List Label) (x : Partial) → AreMarkedAs arena.old work.old node.index ps →
-        AreShapesAt arena.old work.old (children_at arena.old node.index) ps → label_at work.old node.index ≡ Partly →
+        AreShapesAt arena.old work.old (children_at arena.old node.index) ps →
         IsP3 false (child_trees arena.old node.index) ps x → StandsForPartial arena.new work.new result.index x }
     ensures ticks { steps.new ≤ steps.old + 64 * (fulls_at work.old node.index + partials_at work.old node.index + 1) }
 {
@@ -46,8 +45,8 @@ pub fn apply_p3<L: Ledger>(
 }
 
 /// Applies P5 at `node`, which is not the pertinent root: the partial child takes its place, with the empty children, as
-/// one node, at its empty end and the full children, as one node, at its full end. The answer is that child, which is
-/// partial.
+/// one node, at its empty end and the full children, as one node, at its full end. The answer is that child, with the
+/// label of `node`.
 ///
 /// It ticks at most 64 times for each labelled child, and 64 times more.
 pub fn apply_p5<L: Ledger>(
@@ -60,7 +59,7 @@ pub fn apply_p5<L: Ledger>(
     requires stands { StandsP5 arena.old work.old node.index }
     ensures treated { IsTreated arena.old arena.new work.old work.new node.index result.index }
     ensures becomes { (ps : List Label) (x : Partial) → AreMarkedAs arena.old work.old node.index ps →
-        AreShapesAt arena.old work.old (children_at arena.old node.index) ps → label_at work.old node.index ≡ Partly →
+        AreShapesAt arena.old work.old (children_at arena.old node.index) ps →
         IsP5 false (child_trees arena.old node.index) ps x → StandsForPartial arena.new work.new result.index x }
     ensures ticks { steps.new ≤ steps.old + 64 * (fulls_at work.old node.index + partials_at work.old node.index + 1) }
 {

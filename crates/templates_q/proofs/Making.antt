@@ -258,5 +258,5 @@ plain_becomes f w q ps x iq none m s i =
     plain es (d ∷ d' ∷ rs) fs E (Some h) F c ee p ff te tf = absurd p
 
 -- a Q-shape with these trees stands for the partial
-pub stands_for : (g : Layout) (w : Marks) (q : ℕ) (x : Partial) → IsShapeAt g w q x → label_at w q ≡ Partly → StandsForPartial g w q x
-stands_for g w q x s l = record { shape = x; turned = (x, are_equivalent_refl x.e, are_equivalent_refl x.f, refl); is = s; marked = l }
+pub stands_for : (g : Layout) (w : Marks) (q : ℕ) (x : Partial) → IsShapeAt g w q x → StandsForPartial g w q x
+stands_for g w q x s = record { shape = x; turned = (x, are_equivalent_refl x.e, are_equivalent_refl x.f, refl); is = s }

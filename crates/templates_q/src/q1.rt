@@ -11,6 +11,8 @@ use pq_arena::{Arena, NodeId, Shape};
 use step_count::{Ledger, Steps};
 
 /// Whether Q1 fits at `node`: it is a Q-node, and all its children are full.
+///
+/// It ticks at most 4 times for each labelled child, and 4 times more.
 pub fn fits_q1<L: Ledger>(
     arena: &Arena,
     work: &Work,
@@ -37,7 +39,7 @@ pub fn fits_q1<L: Ledger>(
     }
 }
 
-/// Applies Q1, which leaves the arena and the labels as they are.
+/// Applies Q1, which leaves the arena and the labels as they are. It doesn't tick.
 pub fn apply_q1<L: Ledger>(
     arena: &mut Arena,
     work: &mut Work,

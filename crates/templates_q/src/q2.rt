@@ -1,7 +1,6 @@
 // Q2.
 ghost use Rattle.std.specs.Prelude.{◌≡◌, ℕ, ◌+◌, ◌*◌, ◌≤◌, ◌↔◌, IsTrue, List, [], length, None};
-ghost use Rattle.bubble_pass.specs.declared.labels.Label.TheVariants.{Partial as Partly};
-ghost use Rattle.bubble_pass.specs.Marks.{label_at, fulls_at, partials_at, size_of};
+ghost use Rattle.bubble_pass.specs.Marks.{fulls_at, partials_at, size_of};
 ghost use Rattle.arena_model.specs.Layout.{children_at};
 ghost use Rattle.pq_plain.specs.Templates.{Partial, Label, IsQ2};
 ghost use Rattle.template_model.specs.Standing.{IsReady, AreMarkedAs, AreShapesAt, child_trees};
@@ -84,6 +83,8 @@ pub fn has_q2<L: Ledger>(
 
 /// Whether Q2 fits at `node`: it is a Q-node with, from one end, empty children, at most one partial child and full
 /// children, which are not all full, nor all empty.
+///
+/// It ticks at most 4 times for each labelled child, and 4 times more.
 pub fn fits_q2<L: Ledger>(
     arena: &Arena,
     work: &Work,
@@ -173,7 +174,7 @@ pub fn apply_q2<L: Ledger>(
     requires stands { StandsQ2 arena.old work.old node.index }
     ensures treated { IsTreated arena.old arena.new work.old work.new node.index result.index }
     ensures becomes { (ps : List Label) (x : Partial) → AreMarkedAs arena.old work.old node.index ps →
-        AreShapesAt arena.old work.old (children_at arena.old node.index) ps → label_at work.old node.index ≡ Partly →
+        AreShapesAt arena.old work.old (children_at arena.old node.index) ps →
         IsQ2 (child_trees arena.old node.index) ps x → StandsForPartial arena.new work.new result.index x }
     ensures ticks { steps.new ≤ steps.old + 64 * (fulls_at work.old node.index + partials_at work.old node.index + 1) }
 {

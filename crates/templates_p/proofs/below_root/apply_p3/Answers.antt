@@ -48,7 +48,7 @@ returns-clause-treated g c =
     j x 0 c.layout_law-4.ensures c.gather.ensures.treated.arena.one c.gather.ensures.treated.arena.two c.lift_line.ensures.parted)
 
 pub returns-clause-becomes : goal.returns-clause-becomes
-returns-clause-becomes g c = λ ps z marked shapes label three.
+returns-clause-becomes g c = λ ps z marked shapes three.
     let f : Layout = c.args.arena.now in
     let h : Layout = c.gather.new.arena in
     let v : Marks = c.args.work.now in
@@ -56,4 +56,4 @@ returns-clause-becomes g c = λ ps z marked shapes label three.
     let n : ℕ = c.args.node.index in
     p3_becomes f h c.start_line-line.new.arena v w n c.in-Some.full.index c.start_line-line.result.index c.layout_law-2.ensures c.in-Some.ensures.gathered
     (p3_no_partial f v n c.requires.stands) c.start_line-line.ensures.started c.lift_line.new.arena c.lift_line.new.work ps z c.layout_law-4.ensures c.lift_line.ensures.parted
-    marked (c.gather.ensures.treated.marks.label ∙ label) three
+    marked three

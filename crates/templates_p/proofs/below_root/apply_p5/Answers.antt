@@ -61,7 +61,7 @@ returns-then-index-clause-treated g c =
     composed f h i v w x n a c.layout_law.ensures c.layout_law-2.ensures c.layout_law-3.ensures c.gather-group.ensures.treated c.fill_line-top.ensures.treated
 
 pub returns-then-index-clause-becomes : goal.returns-then-index-clause-becomes
-returns-then-index-clause-becomes g c = λ ps z marked shapes label five.
+returns-then-index-clause-becomes g c = λ ps z marked shapes five.
     let f : Layout = c.args.arena.now in
     let h : Layout = c.gather-group.new.arena in
     let i : Layout = c.fill_line-top.new.arena in
@@ -75,8 +75,7 @@ returns-then-index-clause-becomes g c = λ ps z marked shapes label five.
     let b = filled_line f h i v w x n q c.full_end-end.result a c.gather-group.result five.es five.h five.fs c.requires.stands.3.0 k c.child_with-line.ensures.labelled
     c.gather-group.ensures.gathered c.full_end-end.ensures.end c.fill_line-top.ensures.filled in
     subst (λ t. StandsForPartial i x a t) (sym five.becomes)
-    (p5_top f i v x n q c.full_end-end.result a five.es five.h five.fs k b (sym c.index.ensures ∙ c.if-index.true ∙ c.index-2.ensures) (λ e. c.child_with-line.ensures.other (sym e))
-    (c.fill_line-top.ensures.treated.marks.label ∙ c.gather-group.ensures.treated.marks.label ∙ label))
+    (p5_top f i v x n q c.full_end-end.result a five.es five.h five.fs k b (sym c.index.ensures ∙ c.if-index.true ∙ c.index-2.ensures) (λ e. c.child_with-line.ensures.other (sym e)))
 
 pub returns-clause-treated : goal.returns-clause-treated
 returns-clause-treated g c =
@@ -97,7 +96,7 @@ returns-clause-treated g c =
     c.lift_line.new.arena c.lift_line.new.work _ c.layout_law-4.ensures c.lift_line.ensures.parted)
 
 pub returns-clause-becomes : goal.returns-clause-becomes
-returns-clause-becomes g c = λ ps z marked shapes label five.
+returns-clause-becomes g c = λ ps z marked shapes five.
     let f : Layout = c.args.arena.now in
     let h : Layout = c.gather-group.new.arena in
     let i : Layout = c.fill_line-top.new.arena in
@@ -114,4 +113,4 @@ returns-clause-becomes g c = λ ps z marked shapes label five.
     c.gather-group.ensures.gathered c.full_end-end.ensures.end c.fill_line-top.ensures.filled in
     subst (λ t. StandsForPartial c.lift_line.new.arena c.lift_line.new.work q t) (sym five.becomes)
     (p5_lifted f i v x n q a c.layout_law-3.ensures c.fill_line-top.ensures.treated.arena.one c.fill_line-top.ensures.treated.arena.two s
-    c.lift_line.new.arena c.lift_line.new.work c.full_end-end.result five.es five.h five.fs c.full_end-end.ensures.small c.layout_law-4.ensures k b c.lift_line.ensures.parted (c.fill_line-top.ensures.treated.marks.label ∙ c.gather-group.ensures.treated.marks.label ∙ label))
+    c.lift_line.new.arena c.lift_line.new.work c.full_end-end.result five.es five.h five.fs c.full_end-end.ensures.small c.layout_law-4.ensures k b c.lift_line.ensures.parted)

@@ -22,17 +22,17 @@ returns-clause-treated g c =
     c.requires.ready.one c.requires.ready.two
 
 pub returns-clause-becomes : goal.returns-clause-becomes
-returns-clause-becomes g c = λ ps x m s label i.
+returns-clause-becomes g c = λ ps x m s i.
     let f = c.args.arena.now in let w = c.args.work.now in let n = c.args.node.index in
     stands_for c.splice_in.new.arena w n x
-    (spliced_becomes f c.splice_in.new.arena w n c.find_line-line.result c.layout_law.ensures c.layout_law-2.ensures c.requires.ready.two c.find_line-line.ensures.line c.splice_in.ensures.spliced ps x m s i) label
+    (spliced_becomes f c.splice_in.new.arena w n c.find_line-line.result c.layout_law.ensures c.layout_law-2.ensures c.requires.ready.two c.find_line-line.ensures.line c.splice_in.ensures.spliced ps x m s i)
 
 pub returns-then-counts-eq0-clause-treated : goal.returns-then-counts-eq0-clause-treated
 returns-then-counts-eq0-clause-treated g c =
     unchanged c.args.arena.now c.args.work.now c.args.node.index c.layout_law.ensures c.requires.ready.one c.requires.ready.two c.requires.ready.used
 
 pub returns-then-counts-eq0-clause-becomes : goal.returns-then-counts-eq0-clause-becomes
-returns-then-counts-eq0-clause-becomes g c = λ ps x m s label i.
+returns-then-counts-eq0-clause-becomes g c = λ ps x m s i.
     let f = c.args.arena.now in let w = c.args.work.now in let n = c.args.node.index in
     let none : partials_at w n ≡ 0 = sym c.counts.ensures.partial ∙ c.if-counts-eq0.true in
-    stands_for f w n x (plain_becomes f w n ps x c.requires.stands.3.0 (sym c.requires.ready.right.partial ∙ none) m s i) label
+    stands_for f w n x (plain_becomes f w n ps x c.requires.stands.3.0 (sym c.requires.ready.right.partial ∙ none) m s i)
