@@ -159,10 +159,6 @@ same_leaf : {f g h : Layout} {v w u : Marks} {row ds : List ℕ} {place : ℕ �
     AtAnswer f g h v w u row ds place n a c → (b : ℕ) → shape_at f n ≡ Some (Leaf b) → outline_below g n ≡ outline_below f n
 same_leaf {f = f} {g = g} {n = n} s b e = below_leaf g n b s.g_layout (s.before.shapes n s.standing ∙ e) ∙ sym (below_leaf f n b s.at.layout e)
 
-mark_now : {f g h : Layout} {v w u : Marks} {row ds : List ℕ} {place : ℕ → ℕ} {n a : ℕ} {c : ChildrenNow f v row g w (children_at f n) (map place (children_at f n))} →
-    AtAnswer f g h v w u row ds place n a c → label_at v n ≡ Partly → label_at w n ≡ Partly
-mark_now {n = n} s e = s.before.labels n s.standing ∙ e
-
 not_false : IsFalse true → ⊥
 not_false e = cc
 
@@ -190,12 +186,12 @@ answered P2 s fit made = absurd (not_true fit.1.1.at)
 answered P3 {f = f} {g = g} {v = v} {row = row} {n = n} {c = c} s fit made =
     let mark : label_at v n ≡ Partly = partial_mark s.at (not_full_p3 false (child_trees f n) c.ps fit.1.0 fit.1.1) in
     partial_answer s fit.1.0 (p_label f row n c.ps fit.1.0 s.at.layout fit.0 c.labels (by_p3 fit.1.0 fit.1.1)) mark
-    (made (mark_now s mark) fit.1.0 (p3_moved false (child_trees f n) (child_trees g n) c.ps fit.1.0 (agree_at s) fit.1.1))
+    (made fit.1.0 (p3_moved false (child_trees f n) (child_trees g n) c.ps fit.1.0 (agree_at s) fit.1.1))
 answered P4 s fit made = absurd (not_true fit.1.1.at)
 answered P5 {f = f} {g = g} {v = v} {row = row} {n = n} {c = c} s fit made =
     let mark : label_at v n ≡ Partly = partial_mark s.at (not_full_p5 false (child_trees f n) c.ps fit.1.0 fit.1.1) in
     partial_answer s fit.1.0 (p_label f row n c.ps fit.1.0 s.at.layout fit.0 c.labels (by_p5 fit.1.0 fit.1.1)) mark
-    (made (mark_now s mark) fit.1.0 (p5_moved false (child_trees f n) (child_trees g n) c.ps fit.1.0 (agree_at s) fit.1.1))
+    (made fit.1.0 (p5_moved false (child_trees f n) (child_trees g n) c.ps fit.1.0 (agree_at s) fit.1.1))
 answered P6 s fit made = absurd (not_true fit.1.1.at)
 answered Q1 {f = f} {row = row} {n = n} {c = c} s fit made =
     full_answer s (subst (λ z. IsLabel row z full_label) (sym (below_q f n s.at.layout fit.0)) (c.ps, full_label, c.labels, by_q1 fit.1, refl))
@@ -203,5 +199,5 @@ answered Q1 {f = f} {row = row} {n = n} {c = c} s fit made =
 answered Q2 {f = f} {g = g} {v = v} {row = row} {n = n} {c = c} s fit made =
     let mark : label_at v n ≡ Partly = partial_mark s.at (not_full_q2 f v n c.ps fit.1.0 c.marked fit.1.1) in
     partial_answer s fit.1.0 (q_label f row n c.ps fit.1.0 s.at.layout fit.0 c.labels (by_q2 fit.1.0 fit.1.1)) mark
-    (made (mark_now s mark) fit.1.0 (q2_moved (child_trees f n) (child_trees g n) c.ps fit.1.0 (agree_at s) fit.1.1))
+    (made fit.1.0 (q2_moved (child_trees f n) (child_trees g n) c.ps fit.1.0 (agree_at s) fit.1.1))
 answered Q3 s fit made = absurd (not_true fit.1.1.at)

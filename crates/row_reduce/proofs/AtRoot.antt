@@ -34,11 +34,11 @@ use Rattle.row_reduce.proofs.Agree.{Agree}
 use Rattle.row_reduce.proofs.Leaves.{full_leaf}
 use Rattle.row_reduce.proofs.Loops.{counts_kept}
 use Rattle.row_reduce.proofs.Marking.{AreRight}
-use Rattle.row_reduce.proofs.Labelling.{AtNode, labelled, unfit, unfit_root, Labels, labels_built, missed, leaf_fits, partial_mark, not_full_q2}
+use Rattle.row_reduce.proofs.Labelling.{AtNode, labelled, unfit, unfit_root, Labels, labels_built, missed, leaf_fits}
 use Rattle.row_reduce.proofs.Answering.{ChildrenNow, map_fixed}
 use Rattle.row_reduce.proofs.Grounds.{is_empty, right_child, right_at, row_leaf, node_labelled, labelled_below, places_down, once_at, taken_at, child_done, done_labelled}
 use Rattle.row_reduce.proofs.Applied.{AtStep, children_now, stands_now, ready_at}
-use Rattle.row_reduce.proofs.Rooting.{RootMade, AtRoot, RootMarks, root_made}
+use Rattle.row_reduce.proofs.Rooting.{RootMade, AtRoot, IsLeafIn, root_made}
 use Rattle.row_reduce.proofs.Pertinent.{root_is, node_below_it}
 use Rattle.row_reduce.proofs.Ending.{IsExchanged, replaced_whole}
 
@@ -280,11 +280,8 @@ reduced t {f = f} {g = g} {v = v} {w = w} {row = row} {q = q} {place = place} h 
     node : AtNode f v row q c.ps
     node = at_node r.found.ground q (root_some r.found) (root_right r.found) kids_now
 
-    marks : RootMarks f v w row q c.ps
-    marks = record {
-      leaf = λ b e. full_leaf f row q b r.found.ground.layout r.found.ground.is_row e (subst (λ z. IsRight f (leaves_of row) q z) (leaf_fits node b e) r.found.found.top);
-      cut = λ x q2. r.step.applied.labels q (root_standing r) ∙ partial_mark node (not_full_q2 f v q c.ps x c.marked q2);
-    }
+    leaf : IsLeafIn row f q
+    leaf b e = full_leaf f row q b r.found.ground.layout r.found.ground.is_row e (subst (λ z. IsRight f (leaves_of row) q z) (leaf_fits node b e) r.found.found.top)
 
     root : AtRoot f g h v w u row q a c.ps
     root = record {
@@ -297,4 +294,4 @@ reduced t {f = f} {g = g} {v = v} {w = w} {row = row} {q = q} {place = place} h 
     }
 
     m : RootMade f row q h a
-    m = root_made t root marks (fit c.ps c.marked) (becomes c.ps (subst (λ z. map mark_of c.ps ≡ map (label_at w) z) e c.marked_now) (subst (λ z. AreShapesAt g w z c.ps) e c.shapes))
+    m = root_made t root leaf (fit c.ps c.marked) (becomes c.ps (subst (λ z. map mark_of c.ps ≡ map (label_at w) z) e c.marked_now) (subst (λ z. AreShapesAt g w z c.ps) e c.shapes))

@@ -26,3 +26,4 @@ pub mod Blocks
 pub mod RowLength
 pub mod Kept
 pub mod Staying
+pub mod Asking

@@ -3,8 +3,7 @@ use Rattle.std.proofs.Common.{◌≡◌, ℕ, true, false, List, sym, subst}
 use Rattle.pq_tree.specs.Outline.{Outline}
 use Rattle.pq_plain.specs.Templates.{Partial, Label, IsP2, IsP3, IsP4, IsP5, IsP6, IsQ2}
 use Rattle.arena_model.specs.Layout.{Layout, children_at, IsLayout}
-use Rattle.bubble_pass.specs.declared.labels.Label.TheVariants.{Partial as Partly}
-use Rattle.bubble_pass.specs.Marks.{Marks, label_at}
+use Rattle.bubble_pass.specs.Marks.{Marks}
 use Rattle.template_model.specs.Standing.{child_trees, AreMarkedAs, AreShapesAt, IsReady}
 use Rattle.template_model.specs.Treated.{IsTreated, StandsFor, StandsForPartial}
 use Rattle.template_model.proofs.Unchanged.{unchanged}
@@ -25,21 +24,21 @@ pub becomes_p2 : (f g : Layout) (v w : Marks) (n a : ℕ) (t : Template) → t �
 becomes_p2 f g v w n a t e by = back f g v w n a P2 t e (λ ps m s u p. by ps u m s p)
 
 pub becomes_p3 : (f g : Layout) (v w : Marks) (n a : ℕ) (t : Template) → t ≡ P3 →
-    ((ps : List Label) (x : Partial) → AreMarkedAs f v n ps → AreShapesAt f v (children_at f n) ps → label_at v n ≡ Partly → IsP3 false (child_trees f n) ps x → StandsForPartial g w a x) → Becomes t f g v w n a
-becomes_p3 f g v w n a t e by = back f g v w n a P3 t e (λ ps m s l x p. by ps x m s l p)
+    ((ps : List Label) (x : Partial) → AreMarkedAs f v n ps → AreShapesAt f v (children_at f n) ps → IsP3 false (child_trees f n) ps x → StandsForPartial g w a x) → Becomes t f g v w n a
+becomes_p3 f g v w n a t e by = back f g v w n a P3 t e (λ ps m s x p. by ps x m s p)
 
 pub becomes_p4 : (f g : Layout) (v w : Marks) (n a : ℕ) (t : Template) → t ≡ P4 →
     ((ps : List Label) (u : Outline) → AreMarkedAs f v n ps → AreShapesAt f v (children_at f n) ps → IsP4 true (child_trees f n) ps u → StandsFor g a u) → Becomes t f g v w n a
 becomes_p4 f g v w n a t e by = back f g v w n a P4 t e (λ ps m s u p. by ps u m s p)
 
 pub becomes_p5 : (f g : Layout) (v w : Marks) (n a : ℕ) (t : Template) → t ≡ P5 →
-    ((ps : List Label) (x : Partial) → AreMarkedAs f v n ps → AreShapesAt f v (children_at f n) ps → label_at v n ≡ Partly → IsP5 false (child_trees f n) ps x → StandsForPartial g w a x) → Becomes t f g v w n a
-becomes_p5 f g v w n a t e by = back f g v w n a P5 t e (λ ps m s l x p. by ps x m s l p)
+    ((ps : List Label) (x : Partial) → AreMarkedAs f v n ps → AreShapesAt f v (children_at f n) ps → IsP5 false (child_trees f n) ps x → StandsForPartial g w a x) → Becomes t f g v w n a
+becomes_p5 f g v w n a t e by = back f g v w n a P5 t e (λ ps m s x p. by ps x m s p)
 
 pub becomes_p6 : (f g : Layout) (v w : Marks) (n a : ℕ) (t : Template) → t ≡ P6 →
     ((ps : List Label) (u : Outline) → AreMarkedAs f v n ps → AreShapesAt f v (children_at f n) ps → IsP6 true (child_trees f n) ps u → StandsFor g a u) → Becomes t f g v w n a
 becomes_p6 f g v w n a t e by = back f g v w n a P6 t e (λ ps m s u p. by ps u m s p)
 
 pub becomes_q2 : (f g : Layout) (v w : Marks) (n a : ℕ) (t : Template) → t ≡ Q2 →
-    ((ps : List Label) (x : Partial) → AreMarkedAs f v n ps → AreShapesAt f v (children_at f n) ps → label_at v n ≡ Partly → IsQ2 (child_trees f n) ps x → StandsForPartial g w a x) → Becomes t f g v w n a
-becomes_q2 f g v w n a t e by = back f g v w n a Q2 t e (λ ps m s l x p. by ps x m s l p)
+    ((ps : List Label) (x : Partial) → AreMarkedAs f v n ps → AreShapesAt f v (children_at f n) ps → IsQ2 (child_trees f n) ps x → StandsForPartial g w a x) → Becomes t f g v w n a
+becomes_q2 f g v w n a t e by = back f g v w n a Q2 t e (λ ps m s x p. by ps x m s p)

@@ -8,14 +8,13 @@ use Rattle.pq_tree.specs.Forests.{forest, trees, join, back}
 use Rattle.pq_tree.specs.Equivalent.{IsEquivalent, AreEquivalent}
 use Rattle.pq_tree.proofs.Forests.{forest-trees, forest_append, forest_reverse, map-reverse}
 use Rattle.pq_tree.proofs.Turnings.{equivalent_refl}
-use Rattle.pq_plain.specs.Templates.{Partial, Label, partial_label, line, IsQ2}
+use Rattle.pq_plain.specs.Templates.{Partial, Label, partial_label, line}
 use Rattle.pq_plain.specs.Chosen.{IsRootOfP, IsRootOfQ, root_p1, root_p2, root_p4, root_p6, root_q1, root_q2, root_q3}
 use Rattle.pq_plain.specs.Reduced.{AreLabels, IsTurned, IsRootMade}
 use Rattle.arena_model.specs.declared.Shape.TheVariants.{Leaf, P, Q}
 use Rattle.arena_model.specs.Layout.{Layout, shape_at, IsLayout}
 use Rattle.arena_model.specs.NamedTree.{outline_below}
-use Rattle.bubble_pass.specs.declared.labels.Label.TheVariants.{Partial as Partly}
-use Rattle.bubble_pass.specs.Marks.{Marks, label_at}
+use Rattle.bubble_pass.specs.Marks.{Marks}
 use Rattle.template_model.specs.Standing.{child_trees, IsShapeAt}
 use Rattle.template_model.specs.Treated.{StandsFor, StandsForPartial}
 use Rattle.row_reduce.specs.declared.template.Template.{Template}
@@ -95,15 +94,14 @@ q_made {f = f} {row = row} {q = q} {ps = ps} s e x by st = record {
   stands = st;
 }
 
--- the leaf has its column in the row, or the mark of a Q-node that Q2 fits is partial
-pub record RootMarks (f : Layout) (v w : Marks) (row : List ℕ) (q : ℕ) (ps : List Label) : Type 0 where
-  pub leaf : (b : ℕ) → shape_at f q ≡ Some (Leaf b) → IsTrue (has row b)
-  pub cut : (x : Partial) → IsQ2 (child_trees f q) ps x → label_at w q ≡ Partly
+-- the column of a leaf is in the row
+abbrev pub IsLeafIn : List ℕ → Layout → ℕ → Type 0
+IsLeafIn row f q = (b : ℕ) → shape_at f q ≡ Some (Leaf b) → IsTrue (has row b)
 
-pub root_made : (t : Template) {f g h : Layout} {v w u : Marks} {row : List ℕ} {q a : ℕ} {ps : List Label} → AtRoot f g h v w u row q a ps → RootMarks f v w row q ps → Fits t f v q true ps → IsMade t g h w u q a ps → RootMade f row q h a
+pub root_made : (t : Template) {f g h : Layout} {v w u : Marks} {row : List ℕ} {q a : ℕ} {ps : List Label} → AtRoot f g h v w u row q a ps → IsLeafIn row f q → Fits t f v q true ps → IsMade t g h w u q a ps → RootMade f row q h a
 root_made L1 {f = f} {g = g} {h = h} {row = row} {q = q} {a = a} s m fit made = record {
   tree = leaf fit.0.0;
-  made = subst (λ z. IsRootMade row z (leaf fit.0.0)) (sym (below_leaf f q fit.0.0 s.f_layout fit.0.1)) (m.leaf fit.0.0 fit.0.1, refl);
+  made = subst (λ z. IsRootMade row z (leaf fit.0.0)) (sym (below_leaf f q fit.0.0 s.f_layout fit.0.1)) (m fit.0.0 fit.0.1, refl);
   stands = subst (λ z. IsEquivalent z (outline_below h a)) (below_leaf f q fit.0.0 s.f_layout fit.0.1)
       (same_tree s made (below_leaf g q fit.0.0 s.g_layout (s.shape ∙ fit.0.1) ∙ sym (below_leaf f q fit.0.0 s.f_layout fit.0.1)));
 }
@@ -119,7 +117,7 @@ root_made Q1 {f = f} {g = g} {h = h} {q = q} {a = a} s m fit made = q_made s fit
     (subst (λ z. IsEquivalent z (outline_below h a)) (below_q f q s.f_layout fit.0)
     (same_tree s made (below_q g q s.g_layout (s.shape ∙ fit.0) ∙ ap q_node (sym (agree_same fit.1 refl (child_trees g q) s.agree)) ∙ sym (below_q f q s.f_layout fit.0))))
 root_made Q2 {f = f} {g = g} {h = h} {u = u} {q = q} {a = a} {ps = ps} s m fit made =
-    let r : StandsForPartial h u a fit.1.0 = made (m.cut fit.1.0 fit.1.1) fit.1.0 (q2_moved (child_trees f q) (child_trees g q) ps fit.1.0 s.agree fit.1.1) in
+    let r : StandsForPartial h u a fit.1.0 = made fit.1.0 (q2_moved (child_trees f q) (child_trees g q) ps fit.1.0 s.agree fit.1.1) in
     q_made s fit.0 (q_node (line fit.1.0)) (root_q2 fit.1.0 (q_node (line fit.1.0)) fit.1.1 (inl refl))
     (turned_line fit.1.0 r.shape (outline_below h a) r.turned (shape_tree h u a r.shape s.h_layout r.is))
 root_made Q3 {f = f} {g = g} {q = q} {ps = ps} s m fit made =

@@ -3,8 +3,7 @@ use Rattle.std.specs.Prelude.{◌≡◌, ℕ, Bool, true, false, List}
 use Rattle.pq_tree.specs.Outline.{Outline}
 use Rattle.pq_plain.specs.Templates.{Partial, Label, IsP2, IsP3, IsP4, IsP5, IsP6, IsQ2, IsQ3}
 use Rattle.arena_model.specs.Layout.{Layout, children_at}
-use Rattle.bubble_pass.specs.declared.labels.Label.TheVariants.{Partial as Partly}
-use Rattle.bubble_pass.specs.Marks.{Marks, label_at}
+use Rattle.bubble_pass.specs.Marks.{Marks}
 use Rattle.template_model.specs.Standing.{child_trees, AreMarkedAs, AreShapesAt}
 use Rattle.template_model.specs.Treated.{StandsFor, StandsForPartial}
 use Rattle.row_reduce.specs.declared.template.Template.{Template}
@@ -20,12 +19,12 @@ abbrev pub IsMade : Template → Layout → Layout → Marks → Marks → ℕ �
 IsMade L1 f g v w n a ps = IsSame f g v w n a
 IsMade P1 f g v w n a ps = IsSame f g v w n a
 IsMade P2 f g v w n a ps = (u : Outline) → IsP2 true (child_trees f n) ps u → StandsFor g a u
-IsMade P3 f g v w n a ps = label_at v n ≡ Partly → (x : Partial) → IsP3 false (child_trees f n) ps x → StandsForPartial g w a x
+IsMade P3 f g v w n a ps = (x : Partial) → IsP3 false (child_trees f n) ps x → StandsForPartial g w a x
 IsMade P4 f g v w n a ps = (u : Outline) → IsP4 true (child_trees f n) ps u → StandsFor g a u
-IsMade P5 f g v w n a ps = label_at v n ≡ Partly → (x : Partial) → IsP5 false (child_trees f n) ps x → StandsForPartial g w a x
+IsMade P5 f g v w n a ps = (x : Partial) → IsP5 false (child_trees f n) ps x → StandsForPartial g w a x
 IsMade P6 f g v w n a ps = (u : Outline) → IsP6 true (child_trees f n) ps u → StandsFor g a u
 IsMade Q1 f g v w n a ps = IsSame f g v w n a
-IsMade Q2 f g v w n a ps = label_at v n ≡ Partly → (x : Partial) → IsQ2 (child_trees f n) ps x → StandsForPartial g w a x
+IsMade Q2 f g v w n a ps = (x : Partial) → IsQ2 (child_trees f n) ps x → StandsForPartial g w a x
 IsMade Q3 f g v w n a ps = (u : Outline) × IsQ3 true (child_trees f n) ps u × StandsFor g a u
 
 -- by any labels of the children that have their marks, each partial child standing as its Q-shape

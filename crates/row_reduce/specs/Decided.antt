@@ -1,11 +1,12 @@
 -- The templates that were chosen for the labelled nodes.
-use Rattle.std.specs.Prelude.{◌≢◌, ℕ, ◌+◌, ◌≤◌, ◌<◌, ◌==◌, Bool, false, List, length, Option, Some, None, slice_index_or}
-use Rattle.arena_model.specs.Layout.{Layout}
+use Rattle.std.specs.Prelude.{◌≢◌, ℕ, zero, suc, ◌+◌, ◌*◌, ◌≤◌, ◌<◌, ◌==◌, Bool, false, List, length, Option, Some, None, slice_index_or}
+use Rattle.arena_model.specs.Layout.{Layout, shape_at}
 use Rattle.pq_arena.specs.declared.node.NodeId.{NodeId}
 use Rattle.bubble_pass.specs.Marks.{Marks, fulls_at, partials_at}
 use Rattle.bubble_pass.specs.Pass.{node_in}
 use Rattle.row_reduce.specs.declared.template.Template.{Template}
 use Rattle.row_reduce.specs.declared.template.Template.TheVariants.{L1}
+use Rattle.row_reduce.specs.Asked.{asked}
 use Rattle.row_reduce.specs.Fits.{IsFit, IsChoice}
 use Rattle.row_reduce.specs.Ground.{IsGround}
 
@@ -21,6 +22,11 @@ template_in ts i = slice_index_or ts i L1
 -- the number of labelled children of n
 abbrev pub labelled_at : Marks → ℕ → ℕ
 labelled_at w n = fulls_at w n + partials_at w n
+
+-- the ticks of the patterns that are asked at the first n nodes until these templates are found, with a look at each node
+unfoldable pub asking : Layout → Marks → List Template → ℕ → ℕ
+asking f v ts zero = 0
+asking f v ts (suc n) = asking f v ts n + (1 + 4 * asked (shape_at f (node_in v n)) (Some (template_in ts n)) * (labelled_at v (node_in v n) + 1))
 
 -- each of the first n nodes has a template that stands there
 pub record AreDecided (f : Layout) (v : Marks) (top : Option NodeId) (ts : List Template) (n : ℕ) : Type 0 where

@@ -1,4 +1,5 @@
 pub mod Fits
+pub mod Asked
 pub mod Applying
 pub mod Deciding
 pub mod Becomes

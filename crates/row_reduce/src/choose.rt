@@ -4,6 +4,7 @@ ghost use Rattle.arena_model.specs.declared.Shape.TheVariants.{Leaf, P, Q};
 ghost use Rattle.arena_model.specs.Layout.{shape_at};
 ghost use Rattle.template_model.specs.Standing.{IsReady};
 ghost use Rattle.row_reduce.specs.Fits.{IsChoice};
+ghost use Rattle.row_reduce.specs.Asked.{asked, asked_p, asked_q};
 ghost use Rattle.row_reduce.specs.Decided.{labelled_at};
 
 use crate::template::Template;
@@ -24,7 +25,7 @@ pub fn choose<L: Ledger>(
     requires ready { IsReady arena.now work.now node.index }
     requires outside { root ≡ true → work.now.inside ≡ false }
     ensures choice { IsChoice arena.now work.now node.index root result }
-    ensures ticks { steps.new ≤ steps.old + 25 * (labelled_at work.now node.index + 1) }
+    ensures ticks { steps.new ≤ steps.old + 1 + 4 * asked (shape_at arena.now node.index) result * (labelled_at work.now node.index + 1) }
 {
     match arena.look(node, steps).shape {
         Shape::Leaf(_) => choose_leaf(arena, work, node, root, steps),
@@ -44,7 +45,7 @@ fn choose_leaf<L: Ledger>(
     requires ready { IsReady arena.now work.now node.index }
     requires leaf { (a : ℕ) × (shape_at arena.now node.index ≡ Some (Leaf a)) }
     ensures choice { IsChoice arena.now work.now node.index root result }
-    ensures ticks { steps.new ≤ steps.old + 24 * (labelled_at work.now node.index + 1) }
+    ensures ticks { steps.new ≤ steps.old + 4 * (labelled_at work.now node.index + 1) }
 {
     if fits_l1(arena, work, node, root, steps) {
         Some(Template::L1)
@@ -64,7 +65,7 @@ fn choose_p<L: Ledger>(
     requires ready { IsReady arena.now work.now node.index }
     requires p { shape_at arena.now node.index ≡ Some P }
     ensures choice { IsChoice arena.now work.now node.index root result }
-    ensures ticks { steps.new ≤ steps.old + 24 * (labelled_at work.now node.index + 1) }
+    ensures ticks { steps.new ≤ steps.old + 4 * asked_p result * (labelled_at work.now node.index + 1) }
 {
     if fits_p1(arena, work, node, root, steps) {
         return Some(Template::P1);
@@ -99,7 +100,7 @@ fn choose_q<L: Ledger>(
     requires q { shape_at arena.now node.index ≡ Some Q }
     requires outside { root ≡ true → work.now.inside ≡ false }
     ensures choice { IsChoice arena.now work.now node.index root result }
-    ensures ticks { steps.new ≤ steps.old + 24 * (labelled_at work.now node.index + 1) }
+    ensures ticks { steps.new ≤ steps.old + 4 * asked_q result * (labelled_at work.now node.index + 1) }
 {
     if fits_q1(arena, work, node, root, steps) {
         return Some(Template::Q1);

@@ -2,7 +2,7 @@
 ghost use Rattle.std.specs.Prelude.{◌≡◌, ℕ, ◌+◌, ◌*◌, ◌≤◌, ◌<◌, true, false, length, sum_by, Some};
 ghost use Rattle.template_model.specs.Standing.{IsReady};
 ghost use Rattle.bubble_pass.specs.Pass.{node_in};
-ghost use Rattle.row_reduce.specs.Decided.{is_top, labelled_at, AreDecided, IsStopped};
+ghost use Rattle.row_reduce.specs.Decided.{is_top, labelled_at, asking, AreDecided, IsStopped};
 
 use crate::choose::choose;
 use crate::template::Template;
@@ -24,6 +24,7 @@ pub fn decide<L: Ledger>(
     requires outside { (r : NodeId) → root ≡ Some r → work.now.inside ≡ false }
     ensures decided { result ≡ true → AreDecided arena.now work.now root chosen.new (length work.now.nodes) }
     ensures stopped { result ≡ false → IsStopped arena.now work.now root }
+    ensures asking { result ≡ true → steps.new ≤ steps.old + asking arena.now work.now chosen.new (length work.now.nodes) }
     ensures ticks { steps.new ≤ steps.old + sum_by (λ n. 25 * (labelled_at work.now n + 1)) work.now.nodes }
 {
     for (i, node) in work.nodes().iter().enumerate() {

@@ -1,5 +1,5 @@
 // The reducer that keeps its tree in an arena.
-ghost use Rattle.std.specs.Prelude.{◌≡◌, ℕ, ◌+◌, ◌-◌, ◌*◌, ◌≤◌, List, [], length, take, IfOk};
+ghost use Rattle.std.specs.Prelude.{◌≡◌, ℕ, ◌+◌, ◌-◌, ◌*◌, ◌≤◌, List, [], length, take, IfOk, IsOk};
 ghost use Rattle.column_order.specs.Orders.{HasValidOrder};
 ghost use Rattle.row_model.specs.Graph.{row_at, HasConflict};
 ghost use Rattle.pq_tree.specs.Amortised.{nodes_met, nodes_met_below_root};
@@ -24,7 +24,7 @@ use tied_law::{equivalent_law, universal_law};
 /// A reducer whose tree stands in an arena. Each row is reduced in place, and looks at no more nodes than the row meets, up
 /// to a factor. A refused row changes nothing: the templates of all nodes are chosen before the first is applied.
 ///
-/// All memory is taken by [`new`](ArenaReducer::new).
+/// [`new`](ArenaReducer::new) takes all memory that rows need, and [`tree`](Reducer::tree) that of the tree that it gives.
 #[derive(Drop)]
 pub struct ArenaReducer {
     arena: Arena,
@@ -121,7 +121,20 @@ impl Reducer for ArenaReducer {
         m: &Matrix,
         k: u32,
         steps: &mut Steps<L>,
-    ) -> Result<Step, NoMemory> {
+    ) -> Result<Step, NoMemory>
+        requires row { (1 ≤ k) × (k ≤ length m.now.rows) }
+        requires columns { self.old.columns ≡ m.now.columns }
+        requires tied { IsTied m.now.columns (take (k - 1) m.now.rows) (outline_at self.old) }
+        ensures reduced { IfOk result (λ step. step ≡ Step.Taken → IsReduced (row_at m.now.rows k) (outline_at self.old) (outline_at self.new)) }
+        ensures taken { IfOk result (λ step. step ≡ Step.Taken → IsTied m.now.columns (take k m.now.rows) (outline_at self.new)) }
+        ensures order { IfOk result (λ step. step ≡ Step.Taken → HasValidOrder m.now.columns (take k m.now.rows)) }
+        ensures refused { IfOk result (λ step. step ≡ Step.Refused → HasValidOrder m.now.columns (take k m.now.rows) → ⊥) }
+        ensures conflict { IfOk result (λ step. step ≡ Step.Refused → HasConflict m.now.columns (take k m.now.rows)) }
+        ensures unchanged { IfOk result (λ step. step ≡ Step.Refused → outline_at self.new ≡ outline_at self.old) }
+        ensures never_fails { IsOk result }
+        ensures proper { IsProper self.new.columns (outline_at self.new) }
+        ensures columns { self.new.columns ≡ self.old.columns }
+    {
         Ok(self.reduce_row(m, k, steps))
     }
 
