@@ -4,8 +4,8 @@ ghost use Rattle.arena_model.specs.NamedTree.{outline_at};
 ghost use Rattle.c1p_solve.specs.Answers.{IsAnswer, LeavesTree};
 
 use crate::solver::{Solved, solve};
-use row_reduce::ArenaReducer;
 use row_model::{Matrix, NoMemory};
+use row_reduce::ArenaReducer;
 use std::alloc::Global;
 use step_count::{Ledger, Steps};
 

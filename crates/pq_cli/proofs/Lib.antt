@@ -5,3 +5,4 @@ pub mod Solving
 pub mod Checking
 pub mod Extending
 pub mod Generating
+pub mod Promises

@@ -9,3 +9,4 @@ pub mod Replies
 pub mod Stops
 pub mod Reading
 pub mod Runs
+pub mod Promise

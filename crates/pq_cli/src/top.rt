@@ -3,8 +3,10 @@ ghost use Rattle.std.specs.Prelude.{◌≡◌, ◌⊎◌, ◌↔◌, ◌≤◌, 
 ghost use Rattle.pq_cli.specs.Words.{texts, command_of};
 ghost use Rattle.pq_cli.specs.Runs.{ForCommand, TakesFiles, WritesOut, CountsWrites, Offers, IsLineOf, failure_line};
 ghost use Rattle.pq_cli.specs.Stops.{run_status, failure_status};
+ghost use Rattle.pq_cli.specs.Promise.{NothingFails, Completes, KeepsPromise};
 
 use crate::command::perform;
+use crate::promise::promise_law;
 use crate::report::report;
 use crate::stop::Failure;
 use crate::words::task_of;
@@ -65,7 +67,17 @@ pub fn run<F: Shelf, O: Sink, E: Sink>(
     ensures line { 2 ≤ result → (line : List ℕ)
         × IsLineOf (F.content files.old) (command_of (texts words.now)) (F.asked files.old) (F.asked files.new) result line
         × Offers (E.written err.old) (E.written err.new) (E.faults err.old) (E.faults err.new) line }
+
+    // Unless a read or a write fails or memory is refused, a refused file is told as refused, and well-formed files are
+    // answered: an instance is solved exactly, and a verdict on it judged truly.
+    ensures complete { ForCommand (command_of (texts words.now)) (λ c.
+        NothingFails (F.faults files.old) (F.faults files.new) (O.faults out.old) (O.faults out.new) result
+        → Completes (F.content files.old) c (O.written out.old) (O.written out.new) result) }
+    ensures promise { ForCommand (command_of (texts words.now)) (λ c.
+        NothingFails (F.faults files.old) (F.faults files.new) (O.faults out.old) (O.faults out.new) result
+        → KeepsPromise (F.content files.old) c (O.written out.old) (O.written out.new) result) }
 {
+    promise_law();
     match decide(alloc, words, files, out) {
         Ok(status) => status,
         Err(failure) => {

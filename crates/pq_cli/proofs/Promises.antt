@@ -1,0 +1,190 @@
+-- What a run promises where nothing fails.
+use Rattle.std.proofs.Common.{◌≡◌, ◌≢◌, ◌⊎◌, ◌↔◌, ℕ, ◌≤◌, List, [], ◌∷◌, Option, Some, None, inl, inr, refl, ◌∙◌, ap, subst, arith}
+use Rattle.std.specs.Prelude.{IsNone}
+use Rattle.std.proofs.lemmas.Bool.{cases_eq}
+use Rattle.row_model.specs.declared.kind.Kind.{Kind}
+use Rattle.row_model.specs.declared.refusal.Refusal.{Refusal}
+use Rattle.row_model.specs.declared.refusal.Read.{Read}
+use Rattle.row_model.specs.declared.refusal.Read.TheVariants as read
+use Rattle.verdict_text.specs.Verdict.{Claim, yes_claim, no_claim}
+use Rattle.instance_model.specs.Instance.{InstanceValue, HasTextbookOrder}
+use Rattle.pq_cli.specs.Words.{Command, Solve, Check, Extend, Gen, files_of}
+use Rattle.pq_cli.specs.Replies.{refusable, refused_at, refused_behind, refusal_of, Replies}
+use Rattle.pq_cli.specs.Runs.{AllTold, WhereFirstTold, ForCommand, TakesFiles, WritesOut, CountsWrites}
+use Rattle.pq_cli.specs.Solve.Verdicts.{IsClaimOf, status_of}
+use Rattle.pq_cli.specs.Solve.Laws.{NoStatusLaw, YesStatusLaw, OrdersLaw}
+use Rattle.pq_cli.specs.Check.Laws.{CheckLaw, AgreedLaw}
+use Rattle.pq_cli.specs.Stops.{stop_status, failure_status}
+use Rattle.pq_cli.specs.Promise.{NothingFails, WhereWellFormed, Completes, IsNoAnd, TellsNo, IsCycleOf, SaysYes, IsSolved, IsPromised, PromiseLaw, KeepsPromise}
+use Rattle.pq_cli.specs.declared.stop.Stop.{Stop}
+use Rattle.pq_cli.specs.declared.stop.Stop.TheVariants as stop
+use Rattle.pq_cli.specs.declared.stop.Failure.{Failure}
+use Rattle.pq_cli.specs.declared.stop.Failure.TheVariants as failure
+
+-- where the first two files are not refused, the first is not
+first_fine : (first : Read InstanceValue) (given : List ℕ) → refused_behind first given ≡ None → refused_at 1 first ≡ None
+first_fine (read.Ok i) given none = refl
+first_fine (read.Refused refusal) given none = absurd (cc)
+
+-- where no file of a command is refused, its reading ends at no refusal
+unrefused : (told : List ℕ → Option (List ℕ)) (c : Command) (files : List (List ℕ)) (which : ℕ) (refusal : Refusal) → AllTold told (files_of c) files → refusal_of c files ≡ None → 1 ≤ which → which ≤ refusable c
+    → WhereFirstTold told c which (λ first. refusal_of c first ≡ Some (which, refusal)) → ⊥
+unrefused told (Solve kind name) [] which refusal t none from to first = absurd t
+unrefused told (Solve kind name) (bytes ∷ []) which refusal t none from to first =
+    let one : which ≡ 1 = omega (arith, from, to) in
+    let found : refusal_of (Solve kind name) (bytes ∷ []) ≡ Some (1, refusal) = subst (λ n. WhereFirstTold told (Solve kind name) n (λ fs. refusal_of (Solve kind name) fs ≡ Some (n, refusal))) one first (bytes ∷ []) t in
+    absurd (cc)
+unrefused told (Solve kind name) (bytes ∷ more ∷ files) which refusal t none from to first = absurd t.1
+unrefused told (Check kind name other) [] which refusal t none from to first = absurd t
+unrefused told (Check kind name other) (bytes ∷ []) which refusal t none from to first = absurd t.1
+unrefused told (Check kind name other) (bytes ∷ given ∷ []) which refusal t none from to first =
+    let one : which ≡ 1 = omega (arith, from, to) in
+    let found : refusal_of (Check kind name other) (bytes ∷ []) ≡ Some (1, refusal) =
+    subst (λ n. WhereFirstTold told (Check kind name other) n (λ fs. refusal_of (Check kind name other) fs ≡ Some (n, refusal))) one first (bytes ∷ []) (t.0, tt) in
+    absurd (cc)
+unrefused told (Check kind name other) (bytes ∷ given ∷ more ∷ files) which refusal t none from to first = absurd t.1.1
+unrefused told (Extend kind name other) [] which refusal t none from to first = absurd t
+unrefused told (Extend kind name other) (bytes ∷ []) which refusal t none from to first = absurd t.1
+unrefused told (Extend kind name other) (bytes ∷ given ∷ []) which refusal t none from to first =
+    elim (cases_eq which 1) [
+      | inl one ↦
+          let fine = first_fine _ given none in
+          let found : refusal_of (Extend kind name other) (bytes ∷ []) ≡ Some (1, refusal) =
+          subst (λ n. WhereFirstTold told (Extend kind name other) n (λ fs. refusal_of (Extend kind name other) fs ≡ Some (n, refusal))) one first (bytes ∷ []) (t.0, tt) in
+          absurd (cc)
+      | inr more ↦
+          let two : which ≡ 2 = omega (arith, from, to, more) in
+          let found : refusal_of (Extend kind name other) (bytes ∷ given ∷ []) ≡ Some (2, refusal) =
+          subst (λ n. WhereFirstTold told (Extend kind name other) n (λ fs. refusal_of (Extend kind name other) fs ≡ Some (n, refusal))) two first (bytes ∷ given ∷ []) t in
+          absurd (cc)
+    ]
+unrefused told (Extend kind name other) (bytes ∷ given ∷ more ∷ files) which refusal t none from to first = absurd t.1.1
+unrefused told (Gen seed columns rows) files which refusal t none from to first = absurd (omega (arith, from, to))
+
+-- where there is a reply, no file is refused
+replied_unrefused : (c : Command) (files : List (List ℕ)) (status : ℕ) (text : List ℕ) → Replies c files status text → refusal_of c files ≡ None
+unfolding Replies
+replied_unrefused (Solve kind name) [] status text reply = absurd reply
+replied_unrefused (Solve kind name) (bytes ∷ []) status text reply = ap (refused_at 1) reply.1
+replied_unrefused (Solve kind name) (bytes ∷ more ∷ files) status text reply = absurd reply
+replied_unrefused (Check kind name other) [] status text reply = absurd reply
+replied_unrefused (Check kind name other) (bytes ∷ []) status text reply = absurd reply
+replied_unrefused (Check kind name other) (bytes ∷ given ∷ []) status text reply = ap (refused_at 1) reply.1
+replied_unrefused (Check kind name other) (bytes ∷ given ∷ more ∷ files) status text reply = absurd reply
+replied_unrefused (Extend kind name other) [] status text reply = absurd reply
+replied_unrefused (Extend kind name other) (bytes ∷ []) status text reply = absurd reply
+replied_unrefused (Extend kind name other) (bytes ∷ given ∷ []) status text reply = ap (λ first. refused_behind first given) reply.2 ∙ ap (refused_at 2) reply.3
+replied_unrefused (Extend kind name other) (bytes ∷ given ∷ more ∷ files) status text reply = absurd reply
+replied_unrefused (Gen seed columns rows) [] status text reply = refl
+replied_unrefused (Gen seed columns rows) (bytes ∷ files) status text reply = absurd reply
+
+-- the statuses that are left
+left_statuses : (status : ℕ) → status ≤ 6 → status ≢ 2 → status ≢ 4 → status ≢ 5 → status ≢ 6 → (status ≡ 0) ⊎ (status ≡ 1) ⊎ (status ≡ 3)
+left_statuses status most two four five six =
+    elim (cases_eq status 0) [
+      | inl zero ↦ inl zero
+      | inr more ↦ elim (cases_eq status 1) [ inl one ↦ inr (inl one) | inr other ↦ inr (inr (omega (arith, most, two, four, five, six, more, other))) ]
+    ]
+
+-- the status of a reply, and those of what stands in the way
+pub reply_low : (status : ℕ) → (status ≡ 0) ⊎ (status ≡ 1) → status ≤ 6
+reply_low status either = elim either [ inl zero ↦ omega (arith, zero) | inr one ↦ omega (arith, one) ]
+
+stop_low : (s : Stop) → stop_status s ≤ 6
+stop_low (stop.Refused which refusal) = omega arith
+stop_low stop.ReadFault = omega arith
+stop_low stop.NoMemory = omega arith
+
+pub failure_low : (f : Failure) → failure_status f ≤ 6
+failure_low failure.Words = omega arith
+failure_low (failure.Stopped s) = stop_low s
+failure_low failure.WriteFault = omega arith
+
+-- a run, by what it reads and writes
+module _ {S : Type 0} (content : S → List ℕ → Option (List ℕ)) (asked : S → List (List ℕ)) (faults : S → ℕ) (old new : S) (before after : Option (List ℕ)) (writes_before writes_after status : ℕ) where
+  completed : (c : Command) → TakesFiles content asked faults old new c status → WritesOut (content old) c before after status → CountsWrites writes_before writes_after status → status ≤ 6 → status ≢ 2
+      → NothingFails (faults old) (faults new) writes_before writes_after status → Completes (content old) c before after status
+  completed c taken written counted most words nothing =
+      record {
+        ends = left;
+        refused = λ files t is. elim left [
+          | inl zero ↦ absurd (is (no_refusal (inl zero) files t))
+          | inr (inl one) ↦ absurd (is (no_refusal (inr one) files t))
+          | inr (inr three) ↦ three
+        ];
+        answered = answered;
+        reply = λ files t none. written.whole (answered files t none) files t;
+      }
+    where
+      left : (status ≡ 0) ⊎ (status ≡ 1) ⊎ (status ≡ 3)
+      left = left_statuses status most words (λ e. nothing.reads (taken.shelf.fault e)) (λ e. nothing.writes (counted.fault e)) nothing.memory
+
+      no_refusal : (status ≡ 0) ⊎ (status ≡ 1) → (files : List (List ℕ)) → AllTold (content old) (files_of c) files → refusal_of c files ≡ None
+      no_refusal either files t = let reply = written.whole either files t in replied_unrefused c files status reply.0 reply.1
+
+      answered : WhereWellFormed (content old) c (λ files. (status ≡ 0) ⊎ (status ≡ 1))
+      answered files t none =
+          elim left [
+            | inl zero ↦ inl zero
+            | inr (inl one) ↦ inr one
+            | inr (inr three) ↦ let ends = taken.refused three in absurd (unrefused (content old) c files ends.0 ends.1 t none ends.2.from ends.2.to ends.2.first)
+          ]
+
+  pub complete : (found : Option Command) → ForCommand found (λ c. TakesFiles content asked faults old new c status) → ForCommand found (λ c. WritesOut (content old) c before after status)
+      → CountsWrites writes_before writes_after status → status ≤ 6 → ((status ≡ 2) ↔ IsNone found)
+      → ForCommand found (λ c. NothingFails (faults old) (faults new) writes_before writes_after status → Completes (content old) c before after status)
+  complete None taken written counted most words = tt
+  complete (Some c) taken written counted most words = completed c taken written counted most (λ e. let none : IsNone (Some c) = words.0 e in absurd (cc))
+
+  pub promise : PromiseLaw → (found : Option Command)
+      → ForCommand found (λ c. NothingFails (faults old) (faults new) writes_before writes_after status → Completes (content old) c before after status)
+      → ForCommand found (λ c. NothingFails (faults old) (faults new) writes_before writes_after status → KeepsPromise (content old) c before after status)
+  promise law None ended = tt
+  promise law (Some c) ended = λ nothing files t none. let reply = (ended nothing).reply files t none in (reply.0, reply.2, law c files status reply.0 reply.1)
+
+-- a true claim with this status solves the instance
+solved : (i : InstanceValue) (claim : Claim) (status : ℕ) (text : List ℕ) → status ≡ status_of claim → IsClaimOf i claim → (status ≡ 0 → SaysYes i text) → (status ≡ 1 → HasTextbookOrder i → ⊥)
+    → (IsNoAnd claim (IsCycleOf i) → TellsNo text (IsCycleOf i)) → IsSolved i status text
+solved i (yes_claim value) status text is true at_zero at_one tells = inl (is, at_zero is)
+solved i (no_claim s lines) status text is true at_zero at_one tells = inr (is, record { none = at_one is; cycle = tells (true.0.side, true.1) })
+
+module _ (no_law : NoStatusLaw) (yes_law : YesStatusLaw) (orders_law : OrdersLaw) (check_law : CheckLaw) (agreed_law : AgreedLaw) where
+  solve_promised : (kind : Kind) (file bytes : List ℕ) (status : ℕ) (text : List ℕ) → Replies (Solve kind file) (bytes ∷ []) status text → IsPromised (Solve kind file) (bytes ∷ []) status text
+  unfolding Replies
+  solve_promised kind file bytes status text reply =
+      let i = reply.0 in
+      let e = reply.1 in
+      let made = reply.2 in (
+        i,
+        e,
+        solved i made.verdict.claim status text made.status_is made.holds.claim
+            (λ zero. record {
+              exists = (yes_law kind file bytes text status i e reply).0 zero;
+              orders = orders_law kind file bytes text i e (subst (λ s. Replies (Solve kind file) (bytes ∷ []) s text) zero reply);
+            })
+            (no_law kind file bytes text status i e reply).0
+            (λ cycle. (made.verdict, made.grammar, made.text_is, cycle)),
+      )
+
+  check_promised : (kind : Kind) (file verdict bytes given : List ℕ) (status : ℕ) (text : List ℕ) → Replies (Check kind file verdict) (bytes ∷ given ∷ []) status text
+      → IsPromised (Check kind file verdict) (bytes ∷ given ∷ []) status text
+  unfolding Replies
+  check_promised kind file verdict bytes given status text reply = (
+    reply.0,
+    reply.1,
+    record {
+      accepts = λ other found wrote. agreed_law kind other file verdict bytes given text found status wrote reply;
+      believes = λ zero. check_law kind file verdict bytes given text reply.0 reply.1 (subst (λ s. Replies (Check kind file verdict) (bytes ∷ given ∷ []) s text) zero reply);
+    },
+  )
+
+  pub promise_law : PromiseLaw
+  promise_law (Solve kind file) [] status text reply = tt
+  promise_law (Solve kind file) (bytes ∷ []) status text reply = solve_promised kind file bytes status text reply
+  promise_law (Solve kind file) (bytes ∷ more ∷ files) status text reply = tt
+  promise_law (Check kind file verdict) [] status text reply = tt
+  promise_law (Check kind file verdict) (bytes ∷ []) status text reply = tt
+  promise_law (Check kind file verdict) (bytes ∷ given ∷ []) status text reply = check_promised kind file verdict bytes given status text reply
+  promise_law (Check kind file verdict) (bytes ∷ given ∷ more ∷ files) status text reply = tt
+  promise_law (Extend kind file rows) files status text reply = tt
+  promise_law (Gen seed columns rows) files status text reply = tt

@@ -1,0 +1,7 @@
+use Rattle.pq_cli.proofs.Promises as laws
+use Rattle.pq_cli.proofs.promise.promise_law.Goals as goal
+
+pub returns : goal.returns
+returns c =
+    let reply = c.reply_law.ensures in
+    laws.promise_law reply.no reply.yes reply.orders c.check_law.ensures.believed c.solved_law.ensures.agreed
