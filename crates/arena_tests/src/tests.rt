@@ -2,6 +2,7 @@
 ghost use Rattle.std.specs.Prelude.{◌≡◌, ◌<◌, ◌≤◌};
 
 mod answers;
+mod bounds;
 mod calls;
 mod fronts;
 mod large;

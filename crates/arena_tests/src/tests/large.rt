@@ -2,6 +2,7 @@
 ghost use Rattle.std.specs.Prelude.{◌≡◌, ◌<◌};
 
 use super::answers::{counts_of, label_of};
+use super::bounds::ask_star;
 use super::calls::{detach, give_back, leaf, put_under, replace, take};
 use super::passes::{ask, assert_root, room_for};
 use super::splices::put_columns;
@@ -102,6 +103,11 @@ pub fn star<L: Ledger>(rt: &impl Abort, alloc: Global, blank: Blank) -> Result<(
     let row = whole_row(alloc)?;
     assert_found(rt, alloc, &mut arena, &row, &mut work, all, &mut steps)?;
     assert_eq!(rt; counts_of(rt, &work, COLUMNS, root).full, COLUMNS);
+    assert_root(
+        rt,
+        ask_star(rt, alloc, COLUMNS, &[5, 77], &mut steps)?,
+        root,
+    );
     Ok(())
 }
 

@@ -10,7 +10,7 @@ use std::process::Abort;
 use step_count::{Ledger, Steps};
 
 // Whether the columns ascend from 1 on, up to the last.
-fn is_row(columns: u32, row: &[u32]) -> bool
+pub fn is_row(columns: u32, row: &[u32]) -> bool
     ensures { IsTrue result → IsRow columns row.now }
 {
     let mut low = 0;

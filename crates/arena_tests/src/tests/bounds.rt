@@ -1,0 +1,35 @@
+// The steps of a pass over the universal tree.
+ghost use Rattle.std.specs.Prelude.{◌≡◌, ◌+◌, ◌*◌, ◌≤◌, length};
+ghost use Rattle.column_order.specs.declared.TheConstants.{COLUMN_BOUND};
+
+use super::passes::is_row;
+use bubble_pass::{Found, Work, bubble};
+use pq_arena::Arena;
+use row_model::{Matrix, NoMemory};
+use std::alloc::Global;
+use std::process::Abort;
+use step_count::{Ledger, Steps};
+
+// The pass over a row of so many columns under one P-node. Only the root and the leaves of the row meet it, so the bound on
+// the steps tells nothing of the other columns.
+pub fn ask_star<L: Ledger>(
+    rt: &impl Abort,
+    alloc: Global,
+    columns: u32,
+    row: &[u32],
+    steps: &mut Steps<L>,
+) -> Result<Found, NoMemory>
+    requires from { 2 ≤ columns }
+    requires to { columns ≤ COLUMN_BOUND }
+    ensures { steps.new ≤ steps.old + 24 * (length row.now + 2) }
+{
+    assert!(rt; is_row(columns, row));
+    assert!(rt; !row.is_empty());
+    let mut arena = Arena::new(alloc, columns)?;
+    let mut m = Matrix::new(alloc, columns)?;
+    m.push_row(row)?;
+    let mut work = Work::new(alloc, columns)?;
+    assert!(rt; arena.has_two_each());
+    arena.layout_law();
+    Ok(bubble(&mut arena, &m, 1, &mut work, steps))
+}

@@ -1,0 +1,4 @@
+mod both;
+mod drawn;
+mod small;
+mod worked;

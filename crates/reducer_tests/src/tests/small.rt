@@ -1,0 +1,76 @@
+// Every matrix of at most four columns and at most four rows.
+ghost use Rattle.std.specs.Prelude.{◌≡◌, ◌<◌, ◌≤◌};
+
+use crate::tests::both::begin;
+use std::alloc::Global;
+use std::process::Abort;
+use std::test::Fail;
+use step_count::{Blank, Brand, Ledger, Steps};
+
+// Marks the columns at the ones of a number in base two, the lowest digit first.
+fn mark_digits(number: u32, marks: &mut [bool]) {
+    let mut rest = number;
+    for mark in marks {
+        *mark = rest % 2 == 1;
+        rest /= 2;
+    }
+}
+
+// Gives the reducers rows in turn, each by the number that marks it.
+fn agree_on<L: Ledger>(
+    rt: &impl Abort,
+    alloc: Global,
+    columns: u32,
+    numbers: &[u32],
+    steps: &mut Steps<L>,
+) -> Result<(), Fail>
+    requires { (1 ≤ columns) × (columns ≤ 4) }
+{
+    let mut both = begin(alloc, columns)?;
+    let mut marks = vec![in alloc; false; columns as usize]?;
+    for number in numbers {
+        mark_digits(*number, &mut marks);
+        both.take(rt, alloc, &marks, steps)?;
+    }
+    Ok(())
+}
+
+// Each list of four rows over so many columns. The lists of fewer rows are the fronts of these.
+fn agree_on_lists<L: Ledger>(
+    rt: &impl Abort,
+    alloc: Global,
+    columns: u32,
+    steps: &mut Steps<L>,
+) -> Result<(), Fail>
+    requires { (1 ≤ columns) × (columns ≤ 4) }
+{
+    let rows = 1u32 << columns;
+    for a in 0..rows {
+        for b in 0..rows {
+            for c in 0..rows {
+                for d in 0..rows {
+                    agree_on(rt, alloc, columns, &[a, b, c, d], steps)?;
+                }
+            }
+        }
+    }
+    Ok(())
+}
+
+// Each list of four rows over each number of columns up to 4.
+fn agree_on_all<L: Ledger, R: Abort>(rt: &R, alloc: Global, blank: Blank) -> Result<(), Fail>
+    requires name { blank.name ≡ L.name }
+    requires parts { blank.parts ≡ L.parts }
+    requires some { 0 < blank.parts }
+{
+    let mut steps = Steps::<L>::new(blank);
+    for columns in 1..5 {
+        agree_on_lists(rt, alloc, columns, &mut steps)?;
+    }
+    Ok(())
+}
+
+#[test]
+fn every_matrix_of_at_most_four_columns_and_four_rows(rt: HostRuntime) -> Result<(), Fail> {
+    agree_on_all::<Brand, HostRuntime>(&rt, rt.alloc(), Blank::new(1))
+}
