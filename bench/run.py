@@ -4,7 +4,7 @@
 Usage: bench/run.py [--csv PROGRAM] [--json PROGRAM] [NAME ..]     after `./pq` has built the program; needs rustc.
 
 NAMEs pick benches, default all. PROGRAMs are the yardsticks of `table` and `clones`, which YARDSTICKS.md describes; without them those
-two are passed over.
+two are passed over. So is `bubble`, unless `rt run` in crates/bubble_bench has built its program.
 
 Inputs are made from a fixed seed in a temporary folder. Both programs run in turn; the figure is the least processor time of the rounds.
 The time of reading and judging alone is that of a file whose last row is refused, so that nothing is solved.
@@ -39,6 +39,9 @@ from inputs import (
 
 HOME = os.path.dirname(os.path.dirname(os.path.abspath(__file__)))
 PROGRAM = os.path.join(HOME, "crates", "pq", "out", "pq")
+# The program that asks the bubble pass alone, and how many rows it asks in a round.
+BUBBLE = os.path.join(HOME, "crates", "bubble_bench", "out", "bubble_bench")
+BUBBLE_ROWS = 100_000
 SEED = 20261127
 ROUNDS = 7
 # The memory that no file within the limits may take: so many times its bytes, and so many bytes beside.
@@ -92,6 +95,13 @@ def whole_call(title, words, status):
     """One line: a whole call, which has no yardstick."""
     ours, peak = best([PROGRAM] + words, status, 3)
     print(f"{title}: {ours * 1000:.1f} ms, peak {peak / 1024:.1f} MiB")
+
+
+def nanoseconds_a_row(program):
+    """The processor's time for a row of the bubble pass: that of 20 rounds more, so that building the tree and the rows is out of it."""
+    few, _ = best([program, "1"], 0, ROUNDS)
+    many, _ = best([program, "21"], 0, ROUNDS)
+    return (many - few) / (20 * BUBBLE_ROWS) * 1e9
 
 
 def write(folder, name, content):
@@ -156,6 +166,17 @@ def bench_clones(folder, rng, yardsticks):
     file = write(folder, "clones.json", clone_file(1000, 30, rng))
     title = "clones, 30 of 1000 probes each"
     compare(title, [file], ["solve", "clones"], [yardsticks.json], (3, 0), "serde_json alone")
+
+
+def bench_bubble(folder, _rng, _yardsticks):
+    """The bubble pass alone, on rows of 2 to 60 neighbours among 2,048 columns in line. Both programs draw the same rows."""
+    if not os.access(BUBBLE, os.X_OK):
+        return
+    plain = compiled("bubble", folder)
+    if len({subprocess.run([one, "1"], capture_output=True, check=True).stdout for one in (BUBBLE, plain)}) > 1:
+        sys.exit("the two programs of `bubble` differ in their answers")
+    ours, theirs = nanoseconds_a_row(BUBBLE), nanoseconds_a_row(plain)
+    print(f"bubble, rows of 2 to 60 of 2048 columns in line: {ours:.0f} ns a row, plain Rust {theirs:.0f} ns, ratio {ours / theirs:.2f}")
 
 
 def bench_solve(folder, rng, _yardsticks):
@@ -232,6 +253,7 @@ BENCHES = {
     "bigraph": bench_bigraph,
     "table": bench_table,
     "clones": bench_clones,
+    "bubble": bench_bubble,
     "solve": bench_solve,
     "gen": bench_gen,
     "check": bench_check,

@@ -5,8 +5,13 @@ Usage: scripts/walls.py
 
 1. A crate's proofs are its own: no crate cites the proofs of another crate of this repository, but of those at the bottom, whose
    definitions everything shares. What a crate above needs of any other crate is a public law of it.
-2. Work is counted where it is done: outside tests no code but that of the step counter and of the top call makes a counter of its own.
-3. Every function of the end-to-end checks, the benches and the scripts is called: a check that does not run is none.
+2. Work is counted where it is done: outside tests no code but that of the step counter, of the top call and of the program that times
+   the bubble pass makes a counter of its own.
+3. Reducing a row looks at no more nodes than its steps count: outside tests no code of the crates that reduce a row in place names
+   one of the calls that go over a whole arena without a step, but for the reducer's `tree`.
+4. Reducing a row takes no memory: outside tests no code of these crates or of the arena takes an allocator out of a vector, and a call
+   that is handed none has no other.
+5. Every function of the end-to-end checks, the benches and the scripts is called: a check that does not run is none.
 
 Each line that breaks a rule is printed. The last line is `N passed, N failed`; the status is 0 where nothing failed.
 """
@@ -19,11 +24,17 @@ import sys
 HOME = os.path.dirname(os.path.dirname(os.path.abspath(__file__)))
 # The crates whose definitions everything shares; docs/DECISIONS.md says why they offer their lemmas too.
 SHARED_PROOFS = {"column_order", "plain_text", "row_model", "pq_tree", "tied_law", "arena_model", "template_model"}
-COUNTERS = {"step_count", "pq_cli"}
+COUNTERS = {"step_count", "pq_cli", "bubble_bench"}
+STEPPED = ["bubble_pass", "full_pass", "templates_p", "templates_q", "row_reduce"]
+WITHOUT_MEMORY = ["pq_arena"] + STEPPED
+WHOLE_TREE = ("crates/row_reduce/src/reducer.rt", "tree")
 PYTHON = ["end_to_end", "bench", "scripts"]
 
 CITED = re.compile(r"Rattle\.([a-z0-9_]+)\.proofs\b|\b([a-z0-9_]+)::proofs::")
 COUNTER = re.compile(r"\b(Blank|Brand)\b")
+FUNCTION = re.compile(r"\bfn (\w+)")
+WALK = re.compile(r"\b(to_tree|is_one_tree|has_two_each)\b")
+ALLOCATOR = re.compile(r"\ballocator\(")
 
 
 def crates():
@@ -73,17 +84,42 @@ def outside_tests(path):
             yield place, line
 
 
+def code(crate):
+    """The lines of a crate's sources that are no part of its tests, without comments, with where each stands."""
+    for path in files(os.path.join("crates", crate, "src"), ".rt"):
+        if os.path.basename(path) == "tests.rt" or "tests" in os.path.dirname(path).split(os.sep):
+            continue
+        for place, line in outside_tests(path):
+            yield place, line.split("//")[0].strip()
+
+
 def own_counters(names):
     """Where code outside tests makes a step counter of its own."""
     for crate in names:
         if crate in COUNTERS:
             continue
-        for path in files(os.path.join("crates", crate, "src"), ".rt"):
-            if os.path.basename(path) == "tests.rt" or "tests" in os.path.dirname(path).split(os.sep):
-                continue
-            for place, line in outside_tests(path):
-                if COUNTER.search(line.split("//")[0]):
-                    yield f"{place}: makes a step counter: {line.strip()}"
+        for place, line in code(crate):
+            if COUNTER.search(line):
+                yield f"{place}: makes a step counter: {line}"
+
+
+def uncounted_walks():
+    """Where code that reduces a row goes over all nodes of an arena, which no step counts."""
+    for crate in STEPPED:
+        function = None
+        for place, line in code(crate):
+            found = FUNCTION.search(line)
+            function = found[1] if found else function
+            if WALK.search(line) and (place.partition(":")[0], function) != WHOLE_TREE:
+                yield f"{place}: goes over all nodes without a step: {line}"
+
+
+def hidden_memory():
+    """Where code that is to take no memory gets at an allocator."""
+    for crate in WITHOUT_MEMORY:
+        for place, line in code(crate):
+            if ALLOCATOR.search(line):
+                yield f"{place}: takes an allocator out of a vector: {line}"
 
 
 def idle_functions():
@@ -100,7 +136,7 @@ def idle_functions():
 def main():
     names = crates()
     failed = 0
-    rules = [foreign_proofs(names), own_counters(names), idle_functions()]
+    rules = [foreign_proofs(names), own_counters(names), uncounted_walks(), hidden_memory(), idle_functions()]
     for broken in rules:
         found = list(broken)
         failed += bool(found)
