@@ -22,6 +22,7 @@ pub record Layout : Type 0 where
 abbrev pub spare_slot : Slot
 spare_slot = record { shape = None; children = [] }
 
+-- the node of number n
 abbrev pub slot : List Slot → ℕ → Slot
 slot slots n = slice_index_or slots n spare_slot
 
@@ -41,11 +42,12 @@ times_child slots x = sum_by (λ s. occurs s.children x) slots
 pub data IsGrounded (slots : List Slot) : ℕ → Type 0 where
   grounded : (n : ℕ) → ((k : ℕ) → 1 ≤ occurs (slot slots n).children k → IsGrounded slots k) → IsGrounded slots n
 
--- the number of nodes in use
+-- 1 for a node in use, 0 for a spare one
 abbrev pub used_one : Option Shape → ℕ
 used_one None = 0
 used_one (Some s) = 1
 
+-- the number of nodes in use
 abbrev pub used_count : List Slot → ℕ
 used_count [] = 0
 used_count (s ∷ ss) = used_one s.shape + used_count ss
@@ -55,9 +57,11 @@ pub data IsAtOrAbove (slots : List Slot) : ℕ → ℕ → Type 0 where
   here : (n : ℕ) → IsAtOrAbove slots n n
   down : (n k x : ℕ) → 1 ≤ occurs (slot slots n).children k → IsAtOrAbove slots k x → IsAtOrAbove slots n x
 
+-- the node isn't spare
 abbrev pub IsInUse : Layout → ℕ → Type 0
 IsInUse f n = shape_at f n ≢ None
 
+-- the shape is that of a leaf
 abbrev pub IsLeaf : Shape → Type 0
 IsLeaf (Leaf a) = Unit {0}
 IsLeaf P = ⊥

@@ -140,6 +140,7 @@ impl Matrix {
         requires row { (1 ≤ k) × (k ≤ length self.now.rows) }
         requires member { (1 ≤ i) × (i ≤ length (slice_index_or self.now.rows (k - 1) [])) }
         ensures member { slice_get (slice_index_or self.now.rows (k - 1) []) (i - 1) ≡ Some result }
+        ensures range { (1 ≤ result) × (result ≤ self.now.columns) }
         ensures ticks { steps.new ≡ steps.old + 1 }
     {
         steps.tick();
