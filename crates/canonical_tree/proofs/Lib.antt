@@ -1,0 +1,12 @@
+pub mod Shown
+pub mod Mirror
+pub mod Ends
+pub mod Flip
+pub mod Cross
+pub mod Aligned
+pub mod Mixed
+pub mod Child
+pub mod Same
+pub mod Least
+pub mod Canon
+pub mod One
