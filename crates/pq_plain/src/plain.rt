@@ -1,5 +1,5 @@
 // The reducer that owns its tree.
-ghost use Rattle.std.specs.Prelude.{◌≡◌, ◌≤◌, [], IfOk};
+ghost use Rattle.std.specs.Prelude.{◌≡◌, ◌≤◌, false, [], IfOk};
 ghost use Rattle.pq_tree.specs.Proper.{outline_of, universal, IsProper};
 ghost use Rattle.pq_tree.specs.Propositions.{IsProper-prop};
 ghost use Rattle.tied_law.specs.Tied.{IsTied};
@@ -51,6 +51,8 @@ impl Reducer for PlainReducer {
     ghost outline = { plain_outline };
 
     ghost columns = { plain_columns };
+
+    ghost frugal = { false };
 
     fn reduce<L: Ledger>(
         &mut self,

@@ -1,5 +1,5 @@
 // What a reducer promises, however it keeps its tree.
-ghost use Rattle.std.specs.Prelude.{◌≡◌, ◌-◌, ◌≤◌, ℕ, List, length, take, IfOk, OnErr};
+ghost use Rattle.std.specs.Prelude.{◌≡◌, ◌-◌, ◌≤◌, ℕ, Bool, List, length, take, IfOk, IsTrue, OnErr};
 ghost use Rattle.column_order.specs.Orders.{HasValidOrder};
 ghost use Rattle.row_model.specs.Graph.{row_at, HasConflict};
 ghost use Rattle.pq_tree.specs.Outline.{Outline};
@@ -9,6 +9,7 @@ ghost use Rattle.pq_tree.specs.Equivalent.{IsEquivalent};
 ghost use Rattle.pq_tree.specs.Canonical.{IsCanonical};
 ghost use Rattle.tied_law.specs.Tied.{IsTied};
 ghost use Rattle.pq_plain.specs.Reduced.{IsReduced};
+ghost use Rattle.pq_plain.specs.Frugal.{IsFrugal};
 
 use pq_tree::PqTree;
 use row_model::{Matrix, NoMemory};
@@ -31,6 +32,10 @@ pub trait Reducer {
 
     /// The number of its columns, which are 1 to this number.
     ghost columns: { Self → ℕ };
+
+    /// Whether it tells that it is frugal: then each row costs no more steps than its columns and the weight that it takes
+    /// from the tree pay for, and all rows together a constant for each column, row and one.
+    ghost frugal: { Bool };
 
     /// Reduces the tree by row `k` of `m`, after the rows before it. Row numbers begin at 1.
     ///
@@ -60,7 +65,8 @@ pub trait Reducer {
         ensures unchanged { IfOk result (λ step. step ≡ Step.Refused → outline self.new ≡ outline self.old) }
         ensures err { OnErr result (outline self.new ≡ outline self.old) }
         ensures proper { IsProper (columns self.new) (outline self.new) }
-        ensures columns { columns self.new ≡ columns self.old };
+        ensures columns { columns self.new ≡ columns self.old }
+        ensures frugal { IsTrue frugal → IfOk result (IsFrugal (row_at m.now.rows k) (outline self.old) (outline self.new) steps.old steps.new) };
 
     /// The canonical tree with the same frontiers. It is tied to the rows to which the reducer's tree is tied.
     ///
