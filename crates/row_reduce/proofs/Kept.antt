@@ -34,13 +34,13 @@ use Rattle.row_reduce.proofs.Ending.{IsExchanged, replaced_whole}
 use Rattle.row_reduce.proofs.Blocks.{labels_for, block_labels, labels_each, labels_then, all_full_for, block_made}
 
 -- one tree with two children or more at each inner node, and a row with a column
-record IsAsked (f : Layout) (row : List ℕ) : Type 0 where
-  layout : IsLayout f
-  one : IsOneTree f
-  two : HasTwoEach f
-  is_row : IsRow f.columns row
-  leaf : ℕ
-  in_row : 1 ≤ occurs (leaves_of row) leaf
+pub record IsAsked (f : Layout) (row : List ℕ) : Type 0 where
+  pub layout : IsLayout f
+  pub one : IsOneTree f
+  pub two : HasTwoEach f
+  pub is_row : IsRow f.columns row
+  pub leaf : ℕ
+  pub in_row : 1 ≤ occurs (leaves_of row) leaf
 
 -- the leaves of the row are those below neighbouring children ks of the Q-node q
 record IsBlock (f : Layout) (row : List ℕ) (q : ℕ) (us ks vs : List ℕ) : Type 0 where
@@ -75,7 +75,7 @@ holder_used : {f : Layout} {row : List ℕ} → IsAsked f row → (n : ℕ) → 
 holder_used {f = f} {row = row} s n holds = top_used f n s.leaf s.layout (holds s.leaf s.in_row) (leaf_used f row s.leaf s.layout s.is_row s.in_row)
 
 -- a full node meets the row
-full_meets : {f : Layout} {row : List ℕ} → IsAsked f row → (k : ℕ) → IsInUse f k → IsRight f (leaves_of row) k Full → Meets f (leaves_of row) k
+pub full_meets : {f : Layout} {row : List ℕ} → IsAsked f row → (k : ℕ) → IsInUse f k → IsRight f (leaves_of row) k Full → Meets f (leaves_of row) k
 full_meets {f = f} s k used right = let l : LeafBelow f k = leaf_below f k s.layout s.two used in (l.x, right l.x l.column l.below l.leaf, l.below)
 
 once : (f : Layout) (n k : ℕ) → IsLayout f → occurs (children_at f n) k ≤ 1
@@ -105,7 +105,7 @@ both_above f n a b x h oa ob la lb ne = elim (one_path f a b x h la lb) [
 ]
 
 -- where two children of n are full, none holds the row
-none_holds : {f : Layout} {row : List ℕ} → IsAsked f row → (n : ℕ) (ks : List ℕ) → 2 ≤ length ks → ((x : ℕ) → occurs ks x ≤ 1) →
+pub none_holds : {f : Layout} {row : List ℕ} → IsAsked f row → (n : ℕ) (ks : List ℕ) → 2 ≤ length ks → ((x : ℕ) → occurs ks x ≤ 1) →
     ((k : ℕ) → 1 ≤ occurs ks k → (1 ≤ occurs (children_at f n) k) × IsRight f (leaves_of row) k Full) → (k : ℕ) → 1 ≤ occurs (children_at f n) k → Holds f (leaves_of row) k → ⊥
 none_holds {f = f} {row = row} s n ks l one full k o holds =
     let j = another ks k l one in

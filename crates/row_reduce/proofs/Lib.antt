@@ -22,8 +22,10 @@ pub mod OneApplied
 pub mod RootDone
 pub mod InsideDone
 pub mod RowDone
+pub mod GroupDone
 pub mod Blocks
 pub mod RowLength
 pub mod Kept
 pub mod Staying
+pub mod Frugality
 pub mod Asking

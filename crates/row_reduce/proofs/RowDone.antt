@@ -107,7 +107,7 @@ pub met_most : {f : Layout} {c : ℕ} {rows : List (List ℕ)} {k : ℕ} {row : 
     AtMost f (leaves_of (row_at rows k)) f.root (nodes_met (row_at rows k) (outline_at f))
 met_most {f = f} {rows = rows} {k = k} law s = law f (row_at rows k) f.root s.layout s.layout.root_used (subst (λ z. IsRow z (row_at rows k)) (sym s.columns) (is_row_at s))
 
-row_over_arena : {f : Layout} {c : ℕ} {rows : List (List ℕ)} {k : ℕ} {row : List ℕ} → IsRowOver f c rows k row → IsRow f.columns (row_at rows k)
+pub row_over_arena : {f : Layout} {c : ℕ} {rows : List (List ℕ)} {k : ℕ} {row : List ℕ} → IsRowOver f c rows k row → IsRow f.columns (row_at rows k)
 row_over_arena {rows = rows} {k = k} s = subst (λ z. IsRow z (row_at rows k)) (sym s.columns) (is_row_at s)
 
 first_column : (row : List ℕ) → row ≢ [] → (a : ℕ) × IsTrue (has row a)
@@ -121,7 +121,7 @@ pertinent_is c row t x proper some r =
     pertinent_root_unique row a.0 a.1 t (pertinent_root row t) x (order_once c (leaves t) proper.1) (pertinent_root_is row t (holds_above row x t r.node r.whole)) r
 
 -- no more nodes at or below the pertinent root meet the row than the tree counts there
-met_below : {f : Layout} {c : ℕ} {rows : List (List ℕ)} {k : ℕ} {row : List ℕ} → MetLaw → IsRowOver f c rows k row → row_at rows k ≢ [] → (q : ℕ) → IsInUse f q →
+pub met_below : {f : Layout} {c : ℕ} {rows : List (List ℕ)} {k : ℕ} {row : List ℕ} → MetLaw → IsRowOver f c rows k row → row_at rows k ≢ [] → (q : ℕ) → IsInUse f q →
     IsPertinentRoot (row_at rows k) (outline_at f) (outline_below f q) → AtMost f (leaves_of (row_at rows k)) q (nodes_met_below_root (row_at rows k) (outline_at f))
 met_below {f = f} {c = c} {rows = rows} {k = k} law s some q used r =
     subst (λ z. AtMost f (leaves_of (row_at rows k)) q (nodes_met (row_at rows k) z)) (sym (pertinent_is c (row_at rows k) (outline_at f) (outline_below f q) s.proper some r))
@@ -161,16 +161,16 @@ pub kept_taken : {f : Layout} {c : ℕ} {rows : List (List ℕ)} {k : ℕ} {row 
     IsOutcome (row_at rows k) f f Taken
 kept_taken {f = f} {rows = rows} {k = k} s two members settled = (kept_reduced f (row_at rows k) members s.layout s.one two (row_over_arena s) settled, s.one, refl)
 
+-- a row has no more columns than nodes that meet it
+pub few_columns : {f : Layout} {c : ℕ} {rows : List (List ℕ)} {k : ℕ} {row : List ℕ} → MetLaw → IsRowOver f c rows k row → length (row_at rows k) ≤ nodes_met (row_at rows k) (outline_at f)
+few_columns {f = f} {rows = rows} {k = k} law s = row_few f (row_at rows k) (nodes_met (row_at rows k) (outline_at f)) s.layout s.one (row_over_arena s) (met_most law s)
+
 -- the steps of the full pass
 pub kept_total : {f : Layout} {c : ℕ} {rows : List (List ℕ)} {k : ℕ} {row : List ℕ} → MetLaw → IsRowOver f c rows k row → (s0 s1 : ℕ) → s1 ≤ s0 + 4 * length (row_at rows k) →
     s1 ≤ s0 + 256 * (nodes_met (row_at rows k) (outline_at f) + 1)
-kept_total {f = f} {rows = rows} {k = k} law s s0 s1 x =
-    let few : length (row_at rows k) ≤ nodes_met (row_at rows k) (outline_at f) = row_few f (row_at rows k) (nodes_met (row_at rows k) (outline_at f)) s.layout s.one (row_over_arena s) (met_most law s) in
-    omega arith
+kept_total law s s0 s1 x = omega (arith, few_columns law s)
 
 -- and of the templates behind it
 pub open_total : {f : Layout} {c : ℕ} {rows : List (List ℕ)} {k : ℕ} {row : List ℕ} → MetLaw → IsRowOver f c rows k row → (s0 s1 s2 : ℕ) → s1 ≤ s0 + 4 * length (row_at rows k) →
     s2 ≤ s1 + 252 * (nodes_met (row_at rows k) (outline_at f) + 1) → s2 ≤ s0 + 256 * (nodes_met (row_at rows k) (outline_at f) + 1)
-open_total {f = f} {rows = rows} {k = k} law s s0 s1 s2 x y =
-    let few : length (row_at rows k) ≤ nodes_met (row_at rows k) (outline_at f) = row_few f (row_at rows k) (nodes_met (row_at rows k) (outline_at f)) s.layout s.one (row_over_arena s) (met_most law s) in
-    omega arith
+open_total law s s0 s1 s2 x y = omega (arith, few_columns law s)

@@ -1,11 +1,12 @@
 // The reducer that keeps its tree in an arena.
-ghost use Rattle.std.specs.Prelude.{◌≡◌, ℕ, ◌+◌, ◌-◌, ◌*◌, ◌≤◌, List, [], length, take, IfOk, IsOk};
+ghost use Rattle.std.specs.Prelude.{◌≡◌, true, ℕ, ◌+◌, ◌-◌, ◌*◌, ◌≤◌, List, [], length, take, IfOk, IsOk};
 ghost use Rattle.column_order.specs.Orders.{HasValidOrder};
 ghost use Rattle.row_model.specs.Graph.{row_at, HasConflict};
 ghost use Rattle.pq_tree.specs.Amortised.{nodes_met, nodes_met_below_root};
 ghost use Rattle.pq_tree.specs.Proper.{universal, IsProper};
 ghost use Rattle.tied_law.specs.Tied.{IsTied};
 ghost use Rattle.pq_plain.specs.Reduced.{IsReduced};
+ghost use Rattle.pq_plain.specs.Frugal.{IsFrugal};
 ghost use Rattle.arena_model.specs.NamedTree.{outline_at};
 
 use crate::rows::reduce_arena;
@@ -20,6 +21,7 @@ use std::alloc::Global;
 use std::marker::Model;
 use step_count::{Ledger, Steps};
 use tied_law::{equivalent_law, universal_law};
+use total_work::ticks_law;
 
 /// A reducer whose tree stands in an arena. Each row is reduced in place, and looks at no more nodes than the row meets, up
 /// to a factor. A refused row changes nothing: the templates of all nodes are chosen before the first is applied.
@@ -77,6 +79,11 @@ impl ArenaReducer {
     /// It ticks at most 256 times for each node that the row meets, and 256 times more. Where the row is taken, it ticks at
     /// most 252 times for each of these nodes at or below the smallest that holds the row, 252 times more, and four times
     /// for each column of the row.
+    ///
+    /// All rows together are linear: 256 ticks are worth one unit of the tree's weight, the number of its Q-nodes and of the
+    /// children of its P-nodes (Booth and Lueker, 1976). A row that is taken pays what it ticks beyond 1024 times for each of
+    /// its columns, and 1024 times more, with weight that it takes from the tree. One that is refused ticks no more than that
+    /// and what all weight is worth.
     pub fn reduce_row<L: Ledger>(&mut self, m: &Matrix, k: u32, steps: &mut Steps<L>) -> Step
         requires row { (1 ≤ k) × (k ≤ length m.now.rows) }
         requires columns { self.old.columns ≡ m.now.columns }
@@ -92,7 +99,9 @@ impl ArenaReducer {
         ensures ticks { steps.new ≤ steps.old + 256 * (nodes_met (row_at m.now.rows k) (outline_at self.old) + 1) }
         ensures below { result ≡ Step.Taken →
             steps.new ≤ steps.old + 4 * length (row_at m.now.rows k) + 252 * (nodes_met_below_root (row_at m.now.rows k) (outline_at self.old) + 1) }
+        ensures amortised { IsFrugal (row_at m.now.rows k) (outline_at self.old) (outline_at self.new) steps.old steps.new result }
     {
+        ticks_law();
         self.arena.layout_law();
         let step = reduce_arena(
             &mut self.arena,
@@ -116,6 +125,8 @@ impl Reducer for ArenaReducer {
 
     ghost columns = { λ f. f.columns };
 
+    ghost frugal = { true };
+
     fn reduce<L: Ledger>(
         &mut self,
         m: &Matrix,
@@ -132,6 +143,7 @@ impl Reducer for ArenaReducer {
         ensures conflict { IfOk result (λ step. step ≡ Step.Refused → HasConflict m.now.columns (take k m.now.rows)) }
         ensures unchanged { IfOk result (λ step. step ≡ Step.Refused → outline_at self.new ≡ outline_at self.old) }
         ensures never_fails { IsOk result }
+        ensures amortised { IfOk result (IsFrugal (row_at m.now.rows k) (outline_at self.old) (outline_at self.new) steps.old steps.new) }
         ensures proper { IsProper self.new.columns (outline_at self.new) }
         ensures columns { self.new.columns ≡ self.old.columns }
     {

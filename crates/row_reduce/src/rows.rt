@@ -17,6 +17,7 @@ use pq_arena::{Arena, NodeId};
 use pq_plain::{Step, reduce_law, turned_law};
 use row_model::Matrix;
 use step_count::{Ledger, Steps};
+use templates_p::apply_p2_to;
 use templates_q::{apply_q3, fits_q3};
 
 // Reduces the tree of the arena by row `k` of the matrix, numbered from 1, or leaves it as it is where no template stands
@@ -54,7 +55,13 @@ pub fn reduce_arena<L: Ledger>(
     }
     match settle(arena, m, k, full, steps) {
         Settled::Kept => Step::Taken,
-        Settled::Group(_) | Settled::Open => reduce_by_templates(arena, work, chosen, m, k, steps),
+        Settled::Group(node) => {
+            turned_law();
+            apply_p2_to(arena, node, full.members(), steps);
+            arena.layout_law();
+            Step::Taken
+        }
+        Settled::Open => reduce_by_templates(arena, work, chosen, m, k, steps),
     }
 }
 

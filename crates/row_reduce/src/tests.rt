@@ -114,3 +114,19 @@ fn each_template_at_p_nodes(rt: HostRuntime) -> Result<(), Fail> {
     assert_eq!(rt; text.as_slice(), trees.as_slice());
     Ok(())
 }
+
+#[test]
+fn nested_rows_are_groups(rt: HostRuntime) -> Result<(), Fail> {
+    let mut m = Matrix::new(rt.alloc(), 6)?;
+    m.push_row(&[2, 4])?;
+    m.push_row(&[1, 2, 3, 4, 5])?;
+    m.push_row(&[1, 2, 4])?;
+    m.push_row(&[1, 2, 4, 5])?;
+    m.push_row(&[3, 6])?;
+    m.push_row(&[1, 2, 4])?;
+    let text = agreed(rt.alloc(), &m)?.ok_or("other trees")?;
+    let trees =
+        b"(1 (2 4) 3 5 6)((1 (2 4) 3 5) 6)(((1 (2 4)) 3 5) 6)((((1 (2 4)) 5) 3) 6)[((1 (2 4)) 5) 3 6][((1 (2 4)) 5) 3 6]";
+    assert_eq!(rt; text.as_slice(), trees.as_slice());
+    Ok(())
+}

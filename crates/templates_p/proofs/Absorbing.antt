@@ -1,5 +1,5 @@
 -- A full child is put at an end of the partial child.
-use Rattle.std.proofs.Common.{◌≡◌, ◌≢◌, ◌⊎◌, inl, inr, ℕ, ◌+◌, ◌*◌, ◌≤◌, ◌<◌, true, false, cond, eqb, List, [], ◌∷◌, ◌++◌, length, map, set, Some, None, refl, sym, ap, subst, ◌∙◌, arith, eq-eqb, length-append}
+use Rattle.std.proofs.Common.{◌≡◌, ◌≢◌, ◌⊎◌, inl, inr, ℕ, ◌+◌, ◌≤◌, ◌<◌, true, false, cond, eqb, List, [], ◌∷◌, ◌++◌, length, map, set, Some, None, refl, sym, ap, subst, ◌∙◌, arith, eq-eqb, length-append}
 use Rattle.std.proofs.lemmas.Bool.{cases_eq, cases_lt, ne_eqb}
 use Rattle.std.proofs.lemmas.List.{get_or-set_other, get_or-set_same, length-set}
 use Rattle.std.specs.Prelude.{if◌then◌else◌, ◌==◌}
@@ -7,22 +7,19 @@ use Rattle.column_order.specs.Orders.{occurs}
 use Rattle.column_order.proofs.Lists.{occurs-append}
 use Rattle.arena_model.specs.declared.Shape.TheVariants.{Leaf, P, Q}
 use Rattle.arena_model.specs.ChildLists.{without, with_replaced, put_on}
-use Rattle.arena_model.specs.Layout.{Layout, slot, shape_at, children_at, times_child, IsAtOrAbove, here, down, IsLayout, StandsAlone, IsInUse, MayHaveChildren, with_children}
-use Rattle.arena_model.specs.NamedTree.{IsOneTree, HasTwoEach}
+use Rattle.arena_model.specs.Layout.{Layout, shape_at, children_at, IsAtOrAbove, here, down, IsLayout, StandsAlone, IsInUse, MayHaveChildren}
 use Rattle.arena_model.proofs.Lists.{occurs_here, occurs_same, occurs_other, only_one}
 use Rattle.arena_model.proofs.Slots.{in_range, used_by, children_same, children_other, shape_same}
 use Rattle.arena_model.proofs.Paths.{above_step, above_kept, one_parent, other_top}
 use Rattle.arena_model.proofs.Trees.{no_circle}
-use Rattle.bubble_pass.specs.declared.labels.Label.{Label as Mark}
-use Rattle.bubble_pass.specs.declared.labels.Label.TheVariants.{Empty, Partial as Partly, Full}
-use Rattle.pq_arena.specs.declared.node.NodeId.{NodeId}
+use Rattle.bubble_pass.specs.declared.labels.Label.TheVariants.{Empty}
 use Rattle.bubble_pass.specs.Climb.{indices}
-use Rattle.bubble_pass.specs.Marks.{Marks, label_at, size_of, IsPut, exchange}
+use Rattle.bubble_pass.specs.Marks.{Marks, label_at, size_of, exchange}
 use Rattle.template_model.specs.Treated.{IsTreated}
 use Rattle.templates_p.specs.Steps.{IsSameAt}
-use Rattle.templates_p.specs.Lines.{CanHandOver, IsHandedOn, IsSettled, put_in, CanPutIn, CanAbsorb, IsAbsorbed, IsLeftWith}
-use Rattle.templates_p.proofs.Rebuilt.{IsRebuilt, IsWritten, IsMine, replaced_none, child_used}
-use Rattle.templates_p.proofs.Remarked.{AreRemarked, IsJudged, is_answer, is_gone, is_partial, swapped, swapped_self, replaced_self, exchanged_indices, treated}
+use Rattle.templates_p.specs.Lines.{CanHandOver, IsHandedOn, put_in, CanPutIn, CanAbsorb, IsAbsorbed}
+use Rattle.templates_p.proofs.Rebuilt.{IsRebuilt, IsWritten, replaced_none, child_used}
+use Rattle.templates_p.proofs.Remarked.{AreRemarked, is_answer, is_gone, is_partial, swapped, swapped_self, replaced_self, exchanged_indices, treated}
 use Rattle.templates_p.proofs.Framing.{same_at}
 use Rattle.templates_p.proofs.Moving.{without_gone, without_kept, without_less}
 use Rattle.templates_p.proofs.Chaining.{child_once}

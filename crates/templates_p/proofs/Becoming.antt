@@ -1,7 +1,7 @@
 -- What stands at a P-node whose full children have become one.
-use Rattle.std.proofs.Common.{◌≡◌, ◌≢◌, ◌⊎◌, inl, inr, ℕ, ◌+◌, ◌≤◌, ◌<◌, true, false, List, [], ◌∷◌, ◌++◌, map, length, Option, Some, None, refl, sym, ap, subst, ◌∙◌, arith}
+use Rattle.std.proofs.Common.{◌≡◌, ℕ, ◌+◌, ◌≤◌, true, List, [], ◌∷◌, ◌++◌, map, length, Option, Some, None, refl, sym, ap, subst, ◌∙◌, arith}
 use Rattle.column_order.specs.Orders.{occurs}
-use Rattle.pq_tree.specs.Outline.{Outline, Forest, p_node, no_tree, tree_and}
+use Rattle.pq_tree.specs.Outline.{Outline, Forest, no_tree, tree_and}
 use Rattle.pq_tree.specs.Forests.{join}
 use Rattle.pq_tree.specs.Proper.{forest, count}
 use Rattle.pq_tree.specs.Equivalent.{IsEquivalent, AreEquivalent}
@@ -9,14 +9,14 @@ use Rattle.arena_model.specs.declared.Shape.TheVariants.{P}
 use Rattle.arena_model.specs.Layout.{Layout, shape_at, children_at, IsLayout}
 use Rattle.arena_model.specs.NamedTree.{outline_below}
 use Rattle.pq_arena.specs.declared.node.NodeId.{NodeId}
-use Rattle.bubble_pass.specs.Marks.{Marks, label_at, fulls_at, partials_at}
-use Rattle.pq_plain.specs.Templates.{Partial, Label, IsSorted, star, IsP2}
+use Rattle.bubble_pass.specs.Marks.{Marks, fulls_at}
+use Rattle.pq_plain.specs.Templates.{Label, star, IsP2}
 use Rattle.template_model.specs.Standing.{child_trees, AreMarkedAs, IsReady}
 use Rattle.template_model.specs.Treated.{StandsFor}
 use Rattle.templates_p.specs.Fits.{StandsP2}
 use Rattle.templates_p.specs.Sorts.{fulls, empties, partials}
-use Rattle.templates_p.specs.Steps.{IsGathered, HasGroup, CanGather}
-use Rattle.templates_p.proofs.Sorting.{held, sorted_unique, sort, count_map, held_length, fulls_length, partials_length, all_counted}
+use Rattle.templates_p.specs.Steps.{IsGathered, CanGather}
+use Rattle.templates_p.proofs.Sorting.{sorted_unique, sort, count_map, held_length, fulls_length, all_counted}
 use Rattle.templates_p.proofs.Framing.{p_stands, are_same}
 
 pub equivalent_join : (xs ys : Forest) (us vs : List Outline) → AreEquivalent xs us → AreEquivalent ys vs → AreEquivalent (join xs ys) (us ++ vs)

@@ -1,14 +1,14 @@
 -- The chain of a node lists its full and its partial children.
-use Rattle.std.proofs.Common.{◌≡◌, ◌≢◌, ◌⊎◌, inl, inr, ℕ, ◌+◌, ◌*◌, ◌≤◌, ◌<◌, List, [], ◌∷◌, ◌++◌, map, length, Option, Some, None, refl, sym, ap, subst, ◌∙◌, arith, length-append}
-use Rattle.std.proofs.lemmas.Bool.{cases_eq, cases_lt}
+use Rattle.std.proofs.Common.{◌≡◌, ◌≢◌, inl, inr, ℕ, ◌+◌, ◌*◌, ◌≤◌, ◌<◌, List, [], ◌∷◌, ◌++◌, length, Option, Some, None, refl, sym, ap, subst, ◌∙◌, arith, length-append}
+use Rattle.std.proofs.lemmas.Bool.{cases_lt}
 use Rattle.column_order.specs.Orders.{occurs}
 use Rattle.column_order.proofs.Lists.{occurs-append}
-use Rattle.arena_model.specs.Layout.{Layout, children_at, times_child, IsInUse, IsLayout}
-use Rattle.arena_model.proofs.Lists.{occurs_here, occurs_other, occurs_same, few_once}
+use Rattle.arena_model.specs.Layout.{Layout, children_at, times_child, IsLayout}
+use Rattle.arena_model.proofs.Lists.{occurs_here, occurs_other, few_once}
 use Rattle.arena_model.proofs.Slots.{children_times, in_range}
 use Rattle.pq_arena.specs.declared.node.NodeId.{NodeId}
 use Rattle.bubble_pass.specs.declared.labels.Label.{Label as Mark}
-use Rattle.bubble_pass.specs.declared.labels.Label.TheVariants.{Empty, Partial as Partly, Full}
+use Rattle.bubble_pass.specs.declared.labels.Label.TheVariants.{Empty}
 use Rattle.bubble_pass.specs.Climb.{indices}
 use Rattle.bubble_pass.specs.Marks.{Marks, label_at, fulls_at, partials_at, size_of, first_of, next_of, IsFollowed}
 use Rattle.bubble_pass.specs.Pass.{IsRightAt}
@@ -16,7 +16,7 @@ use Rattle.template_model.specs.Standing.{IsReady}
 use Rattle.templates_p.specs.Sorts.{fulls, empties, partials}
 use Rattle.templates_p.specs.Steps.{HasChildWith, Searching}
 use Rattle.templates_p.proofs.Framing.{same_length}
-use Rattle.templates_p.proofs.Sorting.{all_sorted, fulls_length, partials_length, full_label_of, empty_label_of, partial_label_of, no_empty, not_full_empty, not_empty_partial}
+use Rattle.templates_p.proofs.Sorting.{all_sorted, fulls_length, partials_length, full_label_of, partial_label_of, no_empty, not_full_empty, not_empty_partial}
 
 pub child_once : (f : Layout) (n k : ℕ) → IsLayout f → occurs (children_at f n) k ≤ 1
 child_once f n k h = let a : occurs (children_at f n) k ≤ times_child f.slots k = children_times f n k in let b : times_child f.slots k ≤ 1 = h.once k in omega arith

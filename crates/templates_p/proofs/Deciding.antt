@@ -1,14 +1,13 @@
 -- Which templates fit, by the numbers of full and of partial children.
-use Rattle.std.proofs.Common.{◌≡◌, ◌≢◌, ◌⊎◌, ◌↔◌, inl, inr, ℕ, ◌+◌, ◌≤◌, ◌<◌, Bool, true, false, List, [], ◌∷◌, map, sum_by, length, Option, Some, None, refl, sym, ap, subst, ◌∙◌, arith}
+use Rattle.std.proofs.Common.{◌≡◌, ◌↔◌, ℕ, ◌+◌, ◌≤◌, ◌<◌, Bool, List, [], ◌∷◌, map, length, Option, Some, None, refl, sym, ap, subst, ◌∙◌, arith}
 use Rattle.std.specs.Prelude.{IsTrue, IsFalse}
 use Rattle.pq_tree.specs.Outline.{Outline, Forest, no_tree, tree_and}
 use Rattle.pq_tree.specs.Proper.{forest, count}
 use Rattle.arena_model.specs.declared.Shape.TheVariants.{P}
 use Rattle.arena_model.specs.Layout.{Layout, shape_at, children_at}
 use Rattle.arena_model.specs.NamedTree.{outline_below}
-use Rattle.bubble_pass.specs.Marks.{Marks, label_at, fulls_at, partials_at}
-use Rattle.bubble_pass.specs.Pass.{IsRightAt}
-use Rattle.pq_plain.specs.Templates.{Partial, Label, IsSorted, none_sorted, to_full, p2, p3, p4, p5, p6, IsP1, IsP2, IsP3, IsP4, IsP5, IsP6}
+use Rattle.bubble_pass.specs.Marks.{Marks}
+use Rattle.pq_plain.specs.Templates.{Partial, Label, IsSorted, none_sorted, to_full, p2, p3, p4, p5, p6}
 use Rattle.template_model.specs.Standing.{child_trees, AreMarkedAs, IsReady}
 use Rattle.templates_p.specs.declared.sight.Sight.{Sight}
 use Rattle.templates_p.specs.Sorts.{fulls, empties, partials, IsSeenAs, AllAreFull, AreFullAndEmpty, HasPartials}

@@ -1,18 +1,17 @@
 -- What stands where the full children were put at the full end of the partial one.
-use Rattle.std.proofs.Common.{◌≡◌, ◌≢◌, ◌⊎◌, inl, inr, ℕ, ◌+◌, ◌≤◌, ◌<◌, true, false, cond, eqb, List, [], ◌∷◌, ◌++◌, map, reverse, length, Option, Some, None, refl, sym, ap, subst, ◌∙◌, arith}
-use Rattle.std.proofs.lemmas.Bool.{cases_eq, cases_lt}
+use Rattle.std.proofs.Common.{◌≡◌, ◌≢◌, ◌⊎◌, inl, inr, ℕ, ◌+◌, ◌≤◌, true, List, [], ◌∷◌, ◌++◌, map, reverse, length, Some, refl, sym, ap, subst, ◌∙◌, arith}
 use Rattle.std.proofs.lemmas.List.{reverse-append, map-append}
 use Rattle.column_order.specs.Orders.{occurs}
 use Rattle.pq_tree.specs.Outline.{Outline, Forest, p_node, q_node, no_tree, tree_and}
 use Rattle.pq_tree.specs.Forests.{join}
 use Rattle.pq_tree.specs.Proper.{forest}
 use Rattle.pq_tree.specs.Equivalent.{IsEquivalent, AreEquivalent}
-use Rattle.arena_model.specs.declared.Shape.TheVariants.{P, Q}
+use Rattle.arena_model.specs.declared.Shape.TheVariants.{P}
 use Rattle.arena_model.specs.ChildLists.{put_on}
 use Rattle.arena_model.specs.Layout.{Layout, shape_at, children_at, IsLayout}
 use Rattle.arena_model.specs.NamedTree.{outline_below, HasTwoEach}
-use Rattle.arena_model.proofs.Lists.{occurs_here, occurs_other, only_one}
-use Rattle.bubble_pass.specs.declared.labels.Label.TheVariants.{Empty, Partial as Partly, Full}
+use Rattle.arena_model.proofs.Lists.{occurs_here, only_one}
+use Rattle.bubble_pass.specs.declared.labels.Label.TheVariants.{Empty, Partial as Partly}
 use Rattle.bubble_pass.specs.Marks.{Marks, label_at}
 use Rattle.pq_plain.specs.Templates.{Partial, Label, IsSorted, star, line, under, IsP4}
 use Rattle.template_model.specs.Standing.{child_trees, AreMarkedAs, AreShapesAt, IsShapeAt}
@@ -20,7 +19,7 @@ use Rattle.template_model.specs.Treated.{StandsFor}
 use Rattle.templates_p.specs.Sorts.{fulls, empties, partials}
 use Rattle.templates_p.specs.Steps.{IsSameAt, HasGroup}
 use Rattle.templates_p.specs.Lines.{IsShapeTo, IsAbsorbed}
-use Rattle.templates_p.proofs.Sorting.{held, sorted_unique, sort, held_length, AreShapes, held_shapes, all_sorted, all_counted, partial_times, no_full, no_partial, not_full_partial, not_full_empty, not_empty_partial, full_label_of, empty_label_of, partial_label_of}
+use Rattle.templates_p.proofs.Sorting.{held, sorted_unique, sort, held_length, AreShapes, held_shapes, all_sorted, all_counted, partial_times, not_full_empty, not_empty_partial, empty_label_of}
 use Rattle.templates_p.proofs.Framing.{p_stands, q_stands, are_same, shape_member, same_length}
 use Rattle.templates_p.proofs.Becoming.{equivalent_join}
 

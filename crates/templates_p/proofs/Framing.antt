@@ -1,14 +1,12 @@
 -- Nodes that were not written are as they were; and what a node stands for, by its children.
-use Rattle.std.proofs.Common.{◌≡◌, ◌≢◌, ◌⊎◌, inl, inr, ℕ, ◌+◌, ◌≤◌, ◌<◌, List, [], ◌∷◌, ◌++◌, map, reverse, length, Some, None, refl, sym, ap, subst, ◌∙◌, arith}
-use Rattle.std.proofs.lemmas.Bool.{cases_lt}
-use Rattle.std.proofs.lemmas.List.{reverse-append}
+use Rattle.std.proofs.Common.{◌≡◌, ◌⊎◌, inl, inr, ℕ, ◌+◌, ◌≤◌, List, [], ◌∷◌, ◌++◌, map, reverse, length, Some, refl, sym, ap, subst, ◌∙◌, arith}
 use Rattle.std.proofs.lemmas.List.Elements.{All-nil, All-cons, All-head, All-tail}
 use Rattle.std.proofs.lemmas.List.Sorted.{IsPermutation-map, length_permutation}
 use Rattle.std.specs.Prelude.{All}
 use Rattle.column_order.specs.Orders.{occurs}
 use Rattle.column_order.proofs.Lists.{occurs-append}
-use Rattle.pq_tree.specs.Outline.{Outline, Forest, p_node, q_node, no_tree, tree_and}
-use Rattle.pq_tree.specs.Proper.{forest, trees}
+use Rattle.pq_tree.specs.Outline.{Outline, Forest, p_node, q_node}
+use Rattle.pq_tree.specs.Proper.{forest}
 use Rattle.pq_tree.specs.Equivalent.{IsEquivalent, AreEquivalent}
 use Rattle.pq_tree.proofs.AllOrders.{permutation_from_occurs}
 use Rattle.pq_tree.proofs.Forests.{map-reverse, trees-forest}
@@ -20,7 +18,7 @@ use Rattle.arena_model.proofs.Lists.{occurs_here, reverse_cons}
 use Rattle.arena_model.proofs.Outlines.{below_children}
 use Rattle.arena_model.proofs.Paths.{above_step}
 use Rattle.bubble_pass.specs.declared.labels.Label.{Label as Mark}
-use Rattle.bubble_pass.specs.declared.labels.Label.TheVariants.{Empty, Partial as Partly, Full}
+use Rattle.bubble_pass.specs.declared.labels.Label.TheVariants.{Empty, Full}
 use Rattle.bubble_pass.specs.Marks.{Marks, label_at}
 use Rattle.pq_plain.specs.Templates.{Partial}
 use Rattle.template_model.specs.Standing.{IsShapeAt}

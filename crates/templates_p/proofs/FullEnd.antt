@@ -1,23 +1,23 @@
 -- P4 applied: what its steps ask for, from one to the next.
-use Rattle.std.proofs.Common.{◌≡◌, ◌≢◌, ◌⊎◌, inl, inr, ℕ, ◌+◌, ◌*◌, ◌≤◌, ◌<◌, true, List, [], ◌∷◌, map, length, Option, Some, None, refl, sym, ap, subst, ◌∙◌, arith}
+use Rattle.std.proofs.Common.{◌≡◌, ℕ, ◌+◌, ◌*◌, ◌≤◌, List, [], ◌∷◌, length, sym, ap, subst, ◌∙◌, arith}
 use Rattle.column_order.specs.Orders.{occurs}
-use Rattle.pq_tree.specs.Outline.{Outline, Forest}
-use Rattle.arena_model.specs.declared.Shape.TheVariants.{P, Q}
-use Rattle.arena_model.specs.Layout.{Layout, shape_at, children_at, IsAtOrAbove, here, IsLayout}
+use Rattle.pq_tree.specs.Outline.{Forest}
+use Rattle.arena_model.specs.declared.Shape.TheVariants.{P}
+use Rattle.arena_model.specs.Layout.{Layout, children_at, IsAtOrAbove, here, IsLayout}
 use Rattle.arena_model.specs.NamedTree.{outline_below}
 use Rattle.arena_model.proofs.Lists.{occurs_here}
 use Rattle.arena_model.proofs.Slots.{used_by}
 use Rattle.arena_model.proofs.Trees.{no_circle}
-use Rattle.bubble_pass.specs.declared.labels.Label.TheVariants.{Empty, Partial as Partly, Full}
+use Rattle.bubble_pass.specs.declared.labels.Label.TheVariants.{Empty, Partial as Partly}
 use Rattle.bubble_pass.specs.Marks.{Marks, label_at, size_of}
-use Rattle.pq_plain.specs.Templates.{Partial, Label, IsSorted, IsP4}
-use Rattle.template_model.specs.Standing.{child_trees, AreMarkedAs, AreShapesAt, IsShapeAt, IsReady}
+use Rattle.pq_plain.specs.Templates.{Partial, Label, IsSorted}
+use Rattle.template_model.specs.Standing.{child_trees, AreMarkedAs, IsShapeAt, IsReady}
 use Rattle.template_model.specs.Treated.{IsTreated}
 use Rattle.templates_p.specs.Fits.{StandsP4}
-use Rattle.templates_p.specs.Sorts.{fulls, empties, partials}
+use Rattle.templates_p.specs.Sorts.{partials}
 use Rattle.templates_p.specs.Steps.{HasGroup, HasChildWith, CanGather}
 use Rattle.templates_p.specs.Lines.{CanAbsorb}
-use Rattle.templates_p.proofs.Sorting.{held, sorted_unique, sort, held_length, all_sorted, partial_label_of, not_full_partial}
+use Rattle.templates_p.proofs.Sorting.{sorted_unique, sort, held_length, all_sorted, partial_label_of, not_full_partial}
 use Rattle.templates_p.proofs.Becoming.{can_gather}
 use Rattle.templates_p.proofs.Ending.{OnePartial, one_partial}
 

@@ -1,18 +1,17 @@
 -- The full children of a P-node stand under a new one, and all else is as it was.
-use Rattle.std.proofs.Common.{◌≡◌, ◌≢◌, ◌⊎◌, inl, inr, ℕ, ◌+◌, ◌*◌, ◌≤◌, ◌<◌, true, false, cond, eqb, List, [], ◌∷◌, ◌++◌, length, map, set, Option, Some, None, refl, sym, ap, subst, ◌∙◌, arith, eq-eqb, length-append}
+use Rattle.std.proofs.Common.{◌≡◌, ◌≢◌, inl, inr, ℕ, ◌+◌, ◌*◌, ◌≤◌, ◌<◌, cond, List, [], ◌∷◌, ◌++◌, length, map, set, Option, Some, None, refl, sym, ap, subst, ◌∙◌, arith, eq-eqb, length-append}
 use Rattle.std.proofs.lemmas.Bool.{cases_eq, cases_lt, ne_eqb}
 use Rattle.std.proofs.lemmas.List.{get_or-set_other, get_or-set_same, length-set, map-append}
 use Rattle.std.specs.Prelude.{if◌then◌else◌, ◌==◌}
 use Rattle.column_order.specs.Orders.{occurs}
 use Rattle.column_order.proofs.Lists.{occurs-append}
-use Rattle.pq_tree.specs.Outline.{Outline, Forest, p_node, no_tree, tree_and}
+use Rattle.pq_tree.specs.Outline.{Outline, p_node, no_tree, tree_and}
 use Rattle.pq_tree.specs.Proper.{forest}
-use Rattle.pq_tree.specs.Equivalent.{IsEquivalent, AreEquivalent}
-use Rattle.arena_model.specs.declared.Shape.TheVariants.{Leaf, P, Q}
-use Rattle.arena_model.specs.ChildLists.{with_replaced}
-use Rattle.arena_model.specs.Layout.{Layout, Slot, spare_slot, slot, shape_at, children_at, times_child, IsAtOrAbove, here, down, IsLayout, StandsAlone, MayHaveChildren, IsInUse, with_children}
+use Rattle.pq_tree.specs.Equivalent.{AreEquivalent}
+use Rattle.arena_model.specs.declared.Shape.TheVariants.{Leaf, P}
+use Rattle.arena_model.specs.Layout.{Layout, spare_slot, slot, shape_at, children_at, IsAtOrAbove, here, down, IsLayout, StandsAlone, MayHaveChildren, IsInUse, with_children}
 use Rattle.arena_model.specs.NamedTree.{outline_below, IsOneTree, HasTwoEach}
-use Rattle.arena_model.proofs.Lists.{occurs_here, occurs_same, occurs_other, only_one}
+use Rattle.arena_model.proofs.Lists.{occurs_here, occurs_other, only_one}
 use Rattle.arena_model.proofs.Slots.{some_none, in_range, used_by, children_same, children_other, shape_same}
 use Rattle.arena_model.proofs.Paths.{other_top}
 use Rattle.arena_model.proofs.Trees.{no_circle}
@@ -26,11 +25,11 @@ use Rattle.template_model.specs.Treated.{IsTreated}
 use Rattle.templates_p.specs.Sorts.{fulls, empties, partials, full_then}
 use Rattle.templates_p.specs.Steps.{CanMove, Moved, moved_under, without_all, onto, Gathering, HasGroup, CanGather, IsSameAt, HasChildWith}
 use Rattle.templates_p.proofs.Rebuilt.{IsRebuilt, IsWritten, child_used}
-use Rattle.templates_p.proofs.Remarked.{AreRemarked, IsJudged, is_answer, is_full, swapped_self, replaced_self, treated}
-use Rattle.templates_p.proofs.Sorting.{all_sorted, all_counted, fulls_length, partials_length, full_label_of, full_times, no_full, no_empty, no_partial, not_full_empty, not_full_partial}
+use Rattle.templates_p.proofs.Remarked.{AreRemarked, is_answer, is_full, swapped_self, replaced_self, treated}
+use Rattle.templates_p.proofs.Sorting.{all_sorted, all_counted, fulls_length, full_label_of, full_times, no_empty, no_partial, not_full_empty, not_full_partial}
 use Rattle.templates_p.proofs.Framing.{p_stands, are_same, same_at, same_length}
 use Rattle.templates_p.proofs.Moving.{all_kept, all_less, all_gone, onto_has, can_move, ready_to_put, moved_one}
-use Rattle.templates_p.proofs.Chaining.{chain_times, chain_length, child_once, IsAhead, ahead, ahead_of, some_same, never_none}
+use Rattle.templates_p.proofs.Chaining.{chain_times, chain_length, child_once, ahead, ahead_of, some_same, never_none}
 
 pub gather_start : (f g : Layout) (w : Marks) (n x left : ℕ) (next : Option NodeId) (start now : ℕ) → IsLayout f → IsReady f w n → Moved f g n x [] →
     left ≡ fulls_at w n + partials_at w n → next ≡ first_of w n → now ≡ start + 1 → Gathering f g w n x left next start now
@@ -54,7 +53,7 @@ fulls_snoc w (y ∷ xs) x = ap (full_then (label_at w y) y) (fulls_snoc w xs x) 
     front Partly = refl
     front Full = refl
 
-indices_snoc : (xs : List NodeId) (x : NodeId) → indices (xs ++ x ∷ []) ≡ indices xs ++ x.index ∷ []
+pub indices_snoc : (xs : List NodeId) (x : NodeId) → indices (xs ++ x ∷ []) ≡ indices xs ++ x.index ∷ []
 indices_snoc xs x = map-append (λ n. n.index) xs (x ∷ [])
 
 -- the next child of the chain is a child, and was not passed
@@ -260,7 +259,30 @@ ready_to_group f g n x ds h m = record {
   no_way = λ l. other_top g g.root x n h h.root_top m.alone.apart (λ e. m.alone.other (sym e)) m.below l;
 }
 
-module _ (f g : Layout) (v : Marks) (n x : ℕ) (ds : List ℕ) (h : IsLayout f) (hg : IsLayout (grouped g n x)) (c : CanGather f v n) (many : 2 ≤ fulls_at v n) (a : AllMoved f g v n x ds) where
+-- the full children of the P-node n may come under a new node: they are two or more, and not all
+pub record CanGroup (f : Layout) (v : Marks) (n : ℕ) : Type 0 where
+  pub one : IsOneTree f
+  pub two : HasTwoEach f
+  pub room : size_of v ≡ length f.slots
+  pub used : IsInUse f n
+  pub is_p : shape_at f n ≡ Some P
+  pub many : 2 ≤ length (fulls v (children_at f n))
+  pub more : length (fulls v (children_at f n)) < length (children_at f n)
+
+pub can_group : (f : Layout) (v : Marks) (n : ℕ) → CanGather f v n → 2 ≤ fulls_at v n → CanGroup f v n
+can_group f v n c many =
+    let e : fulls_at v n ≡ length (fulls v (children_at f n)) = c.ready.right.full ∙ sym (fulls_length v (children_at f n)) in
+    record {
+      one = c.ready.one;
+      two = c.ready.two;
+      room = c.ready.room;
+      used = c.ready.used;
+      is_p = c.is_p;
+      many = omega (arith, many);
+      more = omega (arith, c.more);
+    }
+
+module _ (f g : Layout) (v : Marks) (n x : ℕ) (ds : List ℕ) (h : IsLayout f) (hg : IsLayout (grouped g n x)) (c : CanGroup f v n) (a : AllMoved f g v n x ds) where
   node_in : n < length g.slots
   node_in = in_range g n (used_by g n P a.moved.node_shape)
 
@@ -311,18 +333,15 @@ module _ (f g : Layout) (v : Marks) (n x : ℕ) (ds : List ℕ) (h : IsLayout f)
   some_left : 1 ≤ length (without_all (children_at f n) ds)
   some_left =
       let ks : List ℕ = children_at f n in
-      let l : fulls_at v n < length ks = c.more in
-      let e : fulls_at v n ≡ length (fulls v ks) = c.ready.right.full ∙ sym (fulls_length v ks) in
+      let l : length (fulls v ks) < length ks = c.more in
       let m : 1 ≤ length (empties v ks ++ partials v ks) = omega (arith, all_counted v ks, length-append (empties v ks) (partials v ks)) in
       let k = some_member (empties v ks ++ partials v ks) m in
       some_length (without_all ks ds) k.0 (omega (arith, k.1, left_children k.0, occurs-append (empties v ks) (partials v ks) k.0))
 
   group_length : 2 ≤ length (children_at (grouped g n x) x)
   group_length =
-      let ks : List ℕ = children_at f n in
-      let e : fulls_at v n ≡ length (fulls v ks) = c.ready.right.full ∙ sym (fulls_length v ks) in
-      let q : length (fulls v ks) ≡ length (children_at (grouped g n x) x) = same_length (children_at (grouped g n x) x) (fulls v ks) in_group in
-      omega (arith, many)
+      let q : length (fulls v (children_at f n)) ≡ length (children_at (grouped g n x) x) = same_length (children_at (grouped g n x) x) (fulls v (children_at f n)) in_group in
+      omega (arith, c.many)
 
   under_node : (k : ℕ) → 1 ≤ occurs (children_at f n) k → IsAtOrAbove (grouped g n x).slots n k
   under_node k o = elim (cases_lt 0 (occurs (fulls v (children_at f n)) k)) [
@@ -372,7 +391,7 @@ module _ (f g : Layout) (v : Marks) (n x : ℕ) (ds : List ℕ) (h : IsLayout f)
     after = hg;
     columns = a.moved.columns;
     root = a.moved.root ∙ root_kept;
-    used = c.ready.used;
+    used = c.used;
     answer = used_by (grouped g n x) n P node_shape;
     n_in = occurs_here n (x ∷ []);
     a_in = occurs_here n (x ∷ []);
@@ -386,7 +405,7 @@ module _ (f g : Layout) (v : Marks) (n x : ℕ) (ds : List ℕ) (h : IsLayout f)
       let s : length (grouped g n x).slots ≡ 2 * (grouped g n x).columns + 4 = hg.size in
       let t : length f.slots ≡ 2 * f.columns + 4 = h.size in
       let u : (grouped g n x).columns ≡ f.columns = a.moved.columns in
-      let r : size_of v ≡ length f.slots = c.ready.room in omega arith
+      let r : size_of v ≡ length f.slots = c.room in omega arith
 
   group_label : label_at (full_marked v x) x ≡ Full
   group_label = get_or-set_same v.labels x Full Empty group_room
@@ -420,7 +439,7 @@ module _ (f g : Layout) (v : Marks) (n x : ℕ) (ds : List ℕ) (h : IsLayout f)
       not_self k o e = no_circle f.slots n k (h.grounds n) o (subst (λ z. IsAtOrAbove f.slots k z) e (here k))
 
   pub group_treated : IsTreated f (grouped g n x) v (full_marked v x) n n
-  group_treated = treated f (grouped g n x) n n (n ∷ x ∷ []) group_rebuilt v (full_marked v x) group_remarked c.ready.one c.ready.two
+  group_treated = treated f (grouped g n x) n n (n ∷ x ∷ []) group_rebuilt v (full_marked v x) group_remarked c.one c.two
 
   not_node : (k : ℕ) → 1 ≤ occurs (children_at f n) k → k ≢ n
   not_node k o e = no_circle f.slots n k (h.grounds n) o (subst (λ z. IsAtOrAbove f.slots k z) e (here k))
@@ -434,7 +453,7 @@ module _ (f g : Layout) (v : Marks) (n x : ℕ) (ds : List ℕ) (h : IsLayout f)
     shape = node_shape;
     children = λ k. ap (λ ks. occurs ks k) node_children ∙ (let z = left_children k in omega (arith, left_children k));
     label = group_label;
-    tree = subst (λ ts. AreEquivalent ts (outline_below (grouped g n x) x ∷ [])) (sym (star_many (outline_below f) (fulls v (children_at f n)) few)) (
+    tree = subst (λ ts. AreEquivalent ts (outline_below (grouped g n x) x ∷ [])) (sym (star_many (outline_below f) (fulls v (children_at f n)) c.many)) (
       p_stands (grouped g n x) x (fulls v (children_at f n)) (forest (map (outline_below f) (fulls v (children_at f n)))) hg group_shape
           (λ k. sym (in_group k))
           (are_same (outline_below f) (outline_below (grouped g n x)) (fulls v (children_at f n)) (λ k o. (child_same k (full_child k o)).tree)),
@@ -443,9 +462,6 @@ module _ (f g : Layout) (v : Marks) (n x : ℕ) (ds : List ℕ) (h : IsLayout f)
     others = λ k o. child_same k (omega (arith, all_sorted v (children_at f n) k));
   }
     where
-      few : 2 ≤ length (fulls v (children_at f n))
-      few = let e : fulls_at v n ≡ length (fulls v (children_at f n)) = c.ready.right.full ∙ sym (fulls_length v (children_at f n)) in omega (arith, many)
-
       star_many : (o : ℕ → Outline) (xs : List ℕ) → 2 ≤ length xs → star (forest (map o xs)) ≡ tree_and (p_node (forest (map o xs))) no_tree
       star_many o [] l = absurd (omega arith)
       star_many o (x ∷ []) l = absurd (omega arith)

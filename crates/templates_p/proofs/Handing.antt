@@ -1,17 +1,16 @@
 -- A child of a P-node stands in its place.
-use Rattle.std.proofs.Common.{◌≡◌, ◌≢◌, ◌⊎◌, inl, inr, ℕ, ◌+◌, ◌≤◌, ◌<◌, true, false, cond, eqb, List, [], ◌∷◌, length, Some, None, refl, sym, ap, subst, ◌∙◌, arith, eq-eqb}
+use Rattle.std.proofs.Common.{◌≡◌, ◌≢◌, inl, inr, ℕ, ◌+◌, ◌≤◌, ◌<◌, cond, eqb, List, [], ◌∷◌, length, refl, sym, ap, subst, ◌∙◌, arith, eq-eqb}
 use Rattle.std.proofs.lemmas.Bool.{cases_eq, cases_lt, ne_eqb}
-use Rattle.std.specs.Prelude.{if◌then◌else◌, ◌==◌}
 use Rattle.column_order.specs.Orders.{occurs}
-use Rattle.arena_model.specs.declared.Shape.TheVariants.{P, Q}
+use Rattle.arena_model.specs.declared.Shape.TheVariants.{P}
 use Rattle.arena_model.specs.ChildLists.{without, with_replaced}
-use Rattle.arena_model.specs.Layout.{Layout, slot, shape_at, children_at, times_child, IsAtOrAbove, here, down, IsLayout, StandsAlone, IsInUse, with_children}
+use Rattle.arena_model.specs.Layout.{Layout, children_at, times_child, IsAtOrAbove, here, down, IsLayout, StandsAlone, IsInUse, with_children}
 use Rattle.arena_model.proofs.Slots.{in_range, used_by, children_same, children_other, shape_same, times_with, children_times}
 use Rattle.arena_model.proofs.Paths.{above_step, above_kept, above_ends, at_once, by, one_parent, other_top}
 use Rattle.arena_model.proofs.Trees.{no_circle}
 use Rattle.templates_p.specs.Lines.{CanHandOver, IsHandedOver}
 use Rattle.templates_p.proofs.Rebuilt.{replaced_none, replaced_has, parent_used}
-use Rattle.templates_p.proofs.Moving.{IsLoose, loose, without_gone, without_less}
+use Rattle.templates_p.proofs.Moving.{IsLoose, loose, without_less}
 
 -- the child h taken from n
 abbrev pub taken_off : Layout → ℕ → ℕ → Layout

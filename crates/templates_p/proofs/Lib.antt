@@ -7,6 +7,7 @@ pub mod Moving
 pub mod Chaining
 pub mod Grouping
 pub mod Becoming
+pub mod Members
 pub mod Handing
 pub mod Absorbing
 pub mod Composing

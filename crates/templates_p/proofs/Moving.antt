@@ -1,14 +1,14 @@
 -- Full children move under a new P-node.
-use Rattle.std.proofs.Common.{◌≡◌, ◌≢◌, ◌⊎◌, inl, inr, ℕ, ◌+◌, ◌*◌, ◌≤◌, ◌<◌, true, false, cond, eqb, List, [], ◌∷◌, ◌++◌, length, map, Some, None, refl, sym, ap, subst, ◌∙◌, arith, eq-eqb}
-use Rattle.std.proofs.lemmas.Bool.{cases_eq, cases_lt, ne_eqb}
-use Rattle.std.proofs.lemmas.List.{get_or-set_other, get_or-set_same, length-set}
+use Rattle.std.proofs.Common.{◌≡◌, ◌≢◌, inl, inr, ℕ, ◌+◌, ◌≤◌, ◌<◌, true, false, cond, eqb, List, [], ◌∷◌, ◌++◌, length, Some, None, refl, sym, ap, subst, ◌∙◌, arith, eq-eqb}
+use Rattle.std.proofs.lemmas.Bool.{cases_eq, ne_eqb}
+use Rattle.std.proofs.lemmas.List.{get_or-set_other}
 use Rattle.column_order.specs.Orders.{occurs}
 use Rattle.arena_model.specs.declared.Shape.TheVariants.{P}
 use Rattle.arena_model.specs.ChildLists.{head_or, none, without, all_but_first}
-use Rattle.arena_model.specs.Layout.{Layout, Slot, spare_slot, slot, shape_at, children_at, times_child, IsAtOrAbove, here, down, IsLayout, StandsAlone, MayHaveChildren, IsInUse, with_children, taken}
-use Rattle.arena_model.proofs.Lists.{occurs_here, occurs_same, occurs_other, only_one}
+use Rattle.arena_model.specs.Layout.{Layout, spare_slot, shape_at, children_at, times_child, IsAtOrAbove, IsLayout, StandsAlone, MayHaveChildren, with_children, taken}
+use Rattle.arena_model.proofs.Lists.{occurs_here, occurs_other}
 use Rattle.arena_model.proofs.Slots.{some_none, in_range, used_by, children_same, children_other, shape_same, times_with, children_times, fewer_layout}
-use Rattle.arena_model.proofs.Paths.{top_alone, above_kept, other_top}
+use Rattle.arena_model.proofs.Paths.{top_alone, above_kept}
 use Rattle.arena_model.proofs.Bare.{bare_children, bare_other, bare_shape, fresh}
 use Rattle.templates_p.specs.Steps.{CanMove, Moved, moved_under, without_all, onto}
 

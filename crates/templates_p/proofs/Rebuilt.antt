@@ -1,13 +1,12 @@
 -- A part of the arena that was built anew in place: from what was written to what stands there.
-use Rattle.std.proofs.Common.{◌≡◌, ◌≢◌, ◌⊎◌, ◌↔◌, inl, inr, ℕ, ◌+◌, ◌≤◌, ◌<◌, true, false, cond, eqb, List, [], ◌∷◌, length, Some, None, refl, sym, ap, subst, ◌∙◌, arith, eq-eqb}
+use Rattle.std.proofs.Common.{◌≡◌, ◌≢◌, ◌⊎◌, ◌↔◌, inl, inr, ℕ, ◌≤◌, cond, List, [], ◌∷◌, length, Some, None, refl, sym, ap, subst, ◌∙◌, arith, eq-eqb}
 use Rattle.std.proofs.lemmas.Bool.{ne_eqb, cases_eq, cases_lt}
 use Rattle.std.specs.Prelude.{if◌then◌else◌, ◌==◌}
 use Rattle.column_order.specs.Orders.{occurs}
-use Rattle.arena_model.specs.declared.Shape.{Shape}
 use Rattle.arena_model.specs.declared.Shape.TheVariants.{Leaf, P, Q}
 use Rattle.arena_model.specs.ChildLists.{with_replaced}
 use Rattle.arena_model.specs.Layout.{Slot, Layout, slot, shape_at, children_at, times_child, IsAtOrAbove, here, down, IsInUse, MayHaveChildren, IsLayout}
-use Rattle.arena_model.specs.NamedTree.{NamedTree, top_name, IsAt, node_names, outline_named, outline_below, IsOneTree, HasTwoEach}
+use Rattle.arena_model.specs.NamedTree.{IsAt, outline_below, IsOneTree, HasTwoEach}
 use Rattle.arena_model.proofs.Lists.{occurs_here, occurs_other}
 use Rattle.arena_model.proofs.Slots.{children_times, some_none, used_by}
 use Rattle.arena_model.proofs.Paths.{above_step, top_alone, one_parent, above_ends, at_once, by}

@@ -1,12 +1,11 @@
 -- The labels and the chains once a part of the arena was built anew in place.
-use Rattle.std.proofs.Common.{◌≡◌, ◌≢◌, ◌⊎◌, ◌↔◌, inl, inr, ℕ, ◌+◌, ◌≤◌, ◌<◌, true, false, cond, eqb, List, [], ◌∷◌, map, sum_by, length, Some, None, refl, sym, ap, subst, ◌∙◌, arith, eq-eqb, eqb-true}
+use Rattle.std.proofs.Common.{◌≡◌, ◌≢◌, ◌⊎◌, ◌↔◌, inl, inr, ℕ, ◌+◌, ◌≤◌, ◌<◌, true, false, cond, eqb, List, [], ◌∷◌, map, sum_by, Some, None, refl, sym, ap, subst, ◌∙◌, arith, eq-eqb}
 use Rattle.std.proofs.lemmas.Bool.{ne_eqb, cases_eq, cases_lt}
 use Rattle.std.proofs.lemmas.List.Sums.{sum_by-cons}
-use Rattle.std.specs.Prelude.{if◌then◌else◌, ◌==◌}
 use Rattle.column_order.specs.Orders.{occurs}
 use Rattle.arena_model.specs.declared.Shape.TheVariants.{Leaf}
 use Rattle.arena_model.specs.ChildLists.{with_replaced}
-use Rattle.arena_model.specs.Layout.{Layout, slot, shape_at, children_at, IsAtOrAbove, here, down, IsInUse, IsLayout}
+use Rattle.arena_model.specs.Layout.{Layout, shape_at, children_at, IsAtOrAbove, here, down, IsLayout}
 use Rattle.arena_model.specs.NamedTree.{IsOneTree, HasTwoEach}
 use Rattle.arena_model.proofs.Lists.{occurs_here, occurs_other, occurs_same}
 use Rattle.arena_model.proofs.Paths.{above_step}
@@ -18,7 +17,7 @@ use Rattle.bubble_pass.specs.Marks.{Marks, label_at, fulls_at, partials_at, size
 use Rattle.bubble_pass.specs.Pass.{IsRightAt}
 use Rattle.bubble_pass.specs.Sweep.{IsRight, full_one, partial_one}
 use Rattle.template_model.specs.Treated.{IsOutside, AreKeptAt, IsTreated}
-use Rattle.templates_p.proofs.Rebuilt.{IsRebuilt, IsWritten, Each, each_at, IsMine, written_at, outside_kept, replaced_none, replaced_keeps, replaced_has, keeps, answer_mine, ways_kept, ways_back, below_used, leaves_again, replaced_at}
+use Rattle.templates_p.proofs.Rebuilt.{IsRebuilt, Each, each_at, written_at, outside_kept, replaced_keeps, replaced_has, answer_mine, ways_kept, ways_back, below_used, leaves_again, replaced_at}
 
 -- n and a exchanged
 abbrev pub swap_one : ℕ → ℕ → ℕ → ℕ

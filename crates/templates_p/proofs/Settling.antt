@@ -1,21 +1,21 @@
 -- Whether a node gives its place to its only child, and what absorbing a child comes to.
-use Rattle.std.proofs.Common.{◌≡◌, ◌≢◌, ◌⊎◌, inl, inr, ℕ, ◌+◌, ◌*◌, ◌≤◌, ◌<◌, true, false, cond, eqb, List, [], ◌∷◌, length, Some, None, refl, sym, ap, subst, ◌∙◌, arith}
+use Rattle.std.proofs.Common.{◌≡◌, inl, inr, ℕ, ◌≤◌, ◌<◌, List, [], ◌∷◌, length, Some, None, refl, sym, ap, subst, ◌∙◌, arith}
 use Rattle.std.proofs.lemmas.List.{length-set}
 use Rattle.column_order.specs.Orders.{occurs}
 use Rattle.arena_model.specs.declared.Shape.{Shape}
-use Rattle.arena_model.specs.declared.Shape.TheVariants.{P, Q}
-use Rattle.arena_model.specs.ChildLists.{without, put_on}
+use Rattle.arena_model.specs.declared.Shape.TheVariants.{P}
+use Rattle.arena_model.specs.ChildLists.{without}
 use Rattle.arena_model.specs.Layout.{Layout, shape_at, children_at, IsLayout, IsLeaf, with_children, given_back}
-use Rattle.arena_model.proofs.Lists.{occurs_here, only_one, without_same}
+use Rattle.arena_model.proofs.Lists.{only_one, without_same}
 use Rattle.arena_model.proofs.Slots.{some_inj, in_range, used_by}
 use Rattle.arena_model.proofs.Bare.{bare_children, bare_other, bare_shape}
 use Rattle.pq_arena.specs.declared.node.NodeId.{NodeId}
 use Rattle.pq_arena.specs.declared.node.NodeView.{NodeView}
 use Rattle.pq_arena.specs.Looks.{ShowsNode, shown_count}
-use Rattle.bubble_pass.specs.Marks.{Marks, label_at, size_of, IsPut}
+use Rattle.bubble_pass.specs.Marks.{Marks, label_at, IsPut}
 use Rattle.template_model.specs.Treated.{IsTreated}
 use Rattle.templates_p.specs.Lines.{CanHandOver, IsHandedOver, IsHandedOn, IsSettled, put_in, CanAbsorb, IsAbsorbed}
-use Rattle.templates_p.proofs.Absorbing.{IsPutIn, is_put_in, stay_treated, stay_absorbed, go_treated, go_absorbed}
+use Rattle.templates_p.proofs.Absorbing.{is_put_in, stay_treated, stay_absorbed, go_treated, go_absorbed}
 
 pub shown_length : (f : Layout) (n : ℕ) (view : NodeView) → ShowsNode f n view → shape_at f n ≡ Some P → view.children ≡ length (children_at f n)
 shown_length f n view s p =

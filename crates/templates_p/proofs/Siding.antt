@@ -1,15 +1,14 @@
 -- Which end of a Q-shape is full.
-use Rattle.std.proofs.Common.{◌≡◌, ◌≢◌, ◌⊎◌, inl, inr, ℕ, zero, suc, ◌+◌, ◌*◌, ◌≤◌, ◌<◌, true, false, cond, eqb, List, [], ◌∷◌, ◌++◌, length, reverse, Option, Some, None, refl, sym, ap, subst, ◌∙◌, arith, slice_index_or}
+use Rattle.std.proofs.Common.{◌≡◌, ◌≢◌, ◌⊎◌, inl, inr, ℕ, ◌+◌, ◌*◌, ◌≤◌, ◌<◌, cond, List, [], ◌∷◌, ◌++◌, length, reverse, Some, None, refl, sym, ap, subst, ◌∙◌, arith, slice_index_or}
 use Rattle.std.proofs.lemmas.Bool.{cases_eq, ne_eqb}
 use Rattle.std.proofs.lemmas.List.{reverse-append}
 use Rattle.std.proofs.lemmas.List.Elements.{All-head, All-tail}
 use Rattle.std.specs.Prelude.{All}
 use Rattle.column_order.specs.Orders.{occurs}
-use Rattle.arena_model.specs.declared.Shape.{Shape}
-use Rattle.arena_model.specs.declared.Shape.TheVariants.{P, Q}
+use Rattle.arena_model.specs.declared.Shape.TheVariants.{Q}
 use Rattle.arena_model.specs.ChildLists.{head_or, none}
 use Rattle.arena_model.specs.Layout.{Layout, shape_at, children_at, IsLayout}
-use Rattle.arena_model.proofs.Lists.{occurs_here, occurs_other, head_or-append}
+use Rattle.arena_model.proofs.Lists.{occurs_here, occurs_other}
 use Rattle.arena_model.proofs.Slots.{some_inj, in_range}
 use Rattle.pq_arena.specs.declared.node.NodeId.{NodeId}
 use Rattle.pq_arena.specs.declared.node.NodeView.{NodeView}

@@ -1,11 +1,11 @@
 -- The children of a node sorted by their labels.
-use Rattle.std.proofs.Common.{◌≡◌, ◌≢◌, ◌⊎◌, inl, inr, ℕ, ◌+◌, ◌≤◌, List, [], ◌∷◌, map, sum_by, length, Some, None, refl, sym, ap, subst, ◌∙◌, arith}
+use Rattle.std.proofs.Common.{◌≡◌, inl, inr, ℕ, ◌+◌, ◌≤◌, List, [], ◌∷◌, map, sum_by, length, refl, sym, ap, subst, ◌∙◌, arith}
 use Rattle.std.proofs.lemmas.Bool.{cases_eq, cases_lt}
 use Rattle.std.proofs.lemmas.List.Sums.{sum_by-cons}
 use Rattle.column_order.specs.Orders.{occurs}
-use Rattle.pq_tree.specs.Outline.{Outline, Forest, no_tree, tree_and}
+use Rattle.pq_tree.specs.Outline.{Outline, Forest, tree_and}
 use Rattle.pq_tree.specs.Proper.{forest, count}
-use Rattle.arena_model.specs.Layout.{Layout, children_at}
+use Rattle.arena_model.specs.Layout.{Layout}
 use Rattle.arena_model.proofs.Lists.{occurs_other}
 use Rattle.bubble_pass.specs.declared.labels.Label.{Label as Mark}
 use Rattle.bubble_pass.specs.declared.labels.Label.TheVariants.{Empty, Partial as Partly, Full}

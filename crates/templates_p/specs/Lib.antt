@@ -4,3 +4,4 @@ pub mod Steps
 pub mod Lines
 pub mod Merging
 pub mod Parts
+pub mod Members

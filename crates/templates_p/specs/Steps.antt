@@ -1,18 +1,17 @@
 -- The steps of which the templates are made: single nodes move, and what else is known then.
-use Rattle.std.specs.Prelude.{◌≡◌, ◌≢◌, ◌⊎◌, ℕ, ◌+◌, ◌*◌, ◌≤◌, ◌<◌, List, [], ◌∷◌, map, length, Option, Some, None}
+use Rattle.std.specs.Prelude.{◌≡◌, ◌≢◌, ℕ, ◌+◌, ◌*◌, ◌≤◌, ◌<◌, List, [], ◌∷◌, map, length, Option, Some, None}
 use Rattle.column_order.specs.Orders.{occurs}
-use Rattle.pq_tree.specs.Outline.{Outline}
 use Rattle.pq_tree.specs.Proper.{forest}
 use Rattle.pq_tree.specs.Equivalent.{AreEquivalent}
-use Rattle.arena_model.specs.declared.Shape.TheVariants.{P, Q}
+use Rattle.arena_model.specs.declared.Shape.TheVariants.{P}
 use Rattle.arena_model.specs.ChildLists.{without}
-use Rattle.arena_model.specs.Layout.{Layout, slot, shape_at, children_at, times_child, with_children, IsAtOrAbove, IsInUse, IsLayout, StandsAlone}
-use Rattle.arena_model.specs.NamedTree.{outline_below, IsOneTree, HasTwoEach}
+use Rattle.arena_model.specs.Layout.{Layout, slot, shape_at, children_at, times_child, with_children, IsAtOrAbove, StandsAlone}
+use Rattle.arena_model.specs.NamedTree.{outline_below}
 use Rattle.pq_arena.specs.declared.node.NodeId.{NodeId}
 use Rattle.bubble_pass.specs.declared.labels.Label.{Label as Mark}
-use Rattle.bubble_pass.specs.declared.labels.Label.TheVariants.{Empty, Partial as Partly, Full}
+use Rattle.bubble_pass.specs.declared.labels.Label.TheVariants.{Empty, Full}
 use Rattle.bubble_pass.specs.Climb.{indices}
-use Rattle.bubble_pass.specs.Marks.{Marks, label_at, fulls_at, partials_at, size_of, IsFollowed}
+use Rattle.bubble_pass.specs.Marks.{Marks, label_at, fulls_at, partials_at, IsFollowed}
 use Rattle.pq_plain.specs.Templates.{Partial, star}
 use Rattle.template_model.specs.Standing.{IsShapeAt, IsReady}
 use Rattle.templates_p.specs.Sorts.{fulls, empties, partials}

@@ -18,7 +18,7 @@ mod unchanged;
 
 pub use below_root::{apply_p3, apply_p5};
 pub use fits::{fits_l1, fits_p1, fits_p2, fits_p3, fits_p4, fits_p5, fits_p6};
-pub use grouped::apply_p2;
+pub use grouped::{apply_p2, apply_p2_to};
 pub use one_partial::apply_p4;
 pub use two_partials::apply_p6;
 pub use unchanged::{apply_l1, apply_p1};

@@ -1,5 +1,4 @@
-use Rattle.std.proofs.Common.{◌≡◌, ◌+◌, ◌-◌, ◌≤◌, ℕ, true, false, sym, arith, ◌∙◌}
-use Rattle.bubble_pass.specs.Marks.{fulls_at, partials_at}
+use Rattle.std.proofs.Common.{◌≡◌, ◌-◌, true, false, sym, arith, ◌∙◌}
 use Rattle.templates_p.proofs.Chaining.{chain_few, search_start, searching_some, searching_on, searched_child, search_on, in_room}
 use Rattle.templates_p.proofs.group.child_with.Goals as goal
 

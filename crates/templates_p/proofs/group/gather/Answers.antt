@@ -1,4 +1,4 @@
-use Rattle.std.proofs.Common.{◌≡◌, refl, sym, ◌∙◌}
+use Rattle.std.proofs.Common.{refl, sym, ◌∙◌}
 use Rattle.template_model.proofs.Unchanged.{unchanged}
 use Rattle.templates_p.proofs.Grouping.{one_full, one_made, no_full_child}
 use Rattle.templates_p.proofs.group.gather.Goals as goal

@@ -1,4 +1,3 @@
-use Rattle.std.proofs.Common.{arith}
 use Rattle.templates_p.proofs.Becoming.{p2_can_gather, p2_becomes}
 use Rattle.templates_p.proofs.grouped.apply_p2.Goals as goal
 

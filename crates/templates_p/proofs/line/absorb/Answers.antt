@@ -1,9 +1,8 @@
-use Rattle.std.proofs.Common.{◌≡◌, ◌≤◌, ℕ, length, Some, sym, subst, ap, arith, ◌∙◌}
-use Rattle.arena_model.specs.declared.Shape.TheVariants.{P, Q}
+use Rattle.std.proofs.Common.{◌≡◌, length, Some, sym, subst, ap, ◌∙◌}
+use Rattle.arena_model.specs.declared.Shape.TheVariants.{Q}
 use Rattle.arena_model.specs.ChildLists.{put_on}
-use Rattle.arena_model.specs.Layout.{Layout, StandsAlone, IsAtOrAbove, IsChildOfP, children_at, shape_at, with_children}
-use Rattle.bubble_pass.specs.Marks.{size_of}
-use Rattle.templates_p.specs.Lines.{CanHandOver, IsSettled, put_in}
+use Rattle.arena_model.specs.Layout.{Layout, StandsAlone, IsAtOrAbove, children_at, shape_at, with_children}
+use Rattle.templates_p.specs.Lines.{CanHandOver, IsSettled}
 use Rattle.templates_p.proofs.Handing.{taken_off}
 use Rattle.templates_p.proofs.Absorbing.{ready_to_end, is_put_in}
 use Rattle.templates_p.proofs.Settling.{absorbed_treated, absorbed_made, put_in_length}

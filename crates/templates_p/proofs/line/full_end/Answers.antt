@@ -1,4 +1,4 @@
-use Rattle.std.proofs.Common.{◌≡◌, ◌<◌, ℕ, true, false, length, Some, sym, subst, ap, arith, ◌∙◌}
+use Rattle.std.proofs.Common.{◌≡◌, ◌<◌, ℕ, true, false, length, sym, arith, ◌∙◌}
 use Rattle.arena_model.specs.declared.Shape.TheVariants.{Q}
 use Rattle.arena_model.specs.ChildLists.{head_or, none}
 use Rattle.arena_model.specs.Layout.{Layout, children_at}

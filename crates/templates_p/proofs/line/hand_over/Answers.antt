@@ -2,7 +2,7 @@ use Rattle.std.proofs.Common.{◌≡◌, ◌≤◌, ℕ, sym, subst, ap, ◌∙�
 use Rattle.column_order.specs.Orders.{occurs}
 use Rattle.arena_model.specs.ChildLists.{with_replaced}
 use Rattle.arena_model.specs.Layout.{Layout, StandsAlone, IsAtOrAbove, IsInUse, children_at, with_children}
-use Rattle.templates_p.proofs.Handing.{taken_off, IsOff, taken_child, handed_over}
+use Rattle.templates_p.proofs.Handing.{taken_off, taken_child, handed_over}
 use Rattle.templates_p.proofs.line.hand_over.Goals as goal
 
 pub replace-requires-clause-used : goal.replace-requires-clause-used

@@ -1,5 +1,4 @@
-use Rattle.std.proofs.Common.{◌≡◌, ◌≤◌, ℕ, length, Some, sym, subst, ap, arith, ◌∙◌}
-use Rattle.arena_model.specs.Layout.{Layout}
+use Rattle.std.proofs.Common.{sym, subst, arith}
 use Rattle.template_model.specs.Treated.{StandsFor}
 use Rattle.templates_p.proofs.Composing.{composed}
 use Rattle.templates_p.proofs.Ending.{p4_plain, p4_becomes}

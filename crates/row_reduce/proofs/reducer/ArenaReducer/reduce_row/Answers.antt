@@ -5,6 +5,9 @@ use Rattle.pq_plain.specs.declared.reducer.Step.TheVariants.{Taken}
 use Rattle.row_model.specs.Graph.{row_at}
 use Rattle.arena_model.specs.Layout.{Layout}
 use Rattle.arena_model.specs.NamedTree.{outline_at}
+use Rattle.pq_tree.proofs.Equivalent.{tree_from_proper}
+use Rattle.pq_plain.specs.Frugal.{IsFrugal}
+use Rattle.row_reduce.proofs.Frugality.{row_frugal}
 use Rattle.row_reduce.proofs.Staying.{StaysTree, row_reduced, reducer_kept}
 use Rattle.row_reduce.proofs.reducer.ArenaReducer.reduce_row.Goals as goal
 
@@ -28,3 +31,16 @@ returns-clause-reduced g c =
     let e : c.self.inside.arena ≡ c.args.self.now = cc in
     subst (λ (z : Layout). c.reduce_arena-step.result ≡ Taken → IsReduced (row_at c.args.m.now.rows c.args.k) (outline_at z) (outline_at c.reduce_arena-step.new.arena)) e
     (row_reduced c.args.m.now.columns c.args.m.now.rows c.args.k c.self.inside.arena c.reduce_arena-step.new.arena c.reduce_arena-step.result c.reduce_arena-step.ensures.outcome)
+
+pub returns-clause-amortised : goal.returns-clause-amortised
+returns-clause-amortised g c =
+    let e : c.self.inside.arena ≡ c.args.self.now = cc in
+    let f = c.self.inside.arena in
+    let h = c.reduce_arena-step.new.arena in
+    let row = row_at c.args.m.now.rows c.args.k in
+    let paid : IsFrugal row (outline_at f) (outline_at h) c.args.steps.now c.reduce_arena-step.new.steps c.reduce_arena-step.result =
+    row_frugal c.ticks_law.ensures.taken c.ticks_law.ensures.refused row (outline_at f) (outline_at h) c.args.steps.now c.reduce_arena-step.new.steps c.reduce_arena-step.result
+    (tree_from_proper f.columns (outline_at f) c.self.invariant.proper)
+    (row_reduced c.args.m.now.columns c.args.m.now.rows c.args.k f h c.reduce_arena-step.result c.reduce_arena-step.ensures.outcome)
+    c.reduce_arena-step.ensures.ticks c.reduce_arena-step.ensures.below in
+    subst (λ (z : Layout). IsFrugal row (outline_at z) (outline_at h) c.args.steps.now c.reduce_arena-step.new.steps c.reduce_arena-step.result) e paid
