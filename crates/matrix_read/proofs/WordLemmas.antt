@@ -4,11 +4,14 @@ use Rattle.std.proofs.Math.ListN.{drop_of_length-le}
 use Rattle.std.proofs.lemmas.List.{drop-take, drop-drop, length-take-le, length-drop}
 use Rattle.std.proofs.lemmas.Bool.{lt-ltb, le-ltb, and_parts}
 use Rattle.std.proofs.lemmas.Grind.{common_steps}
+use Rattle.std.proofs.lemmas.Bool.Decides.{nat_tests}
+use Rattle.std.proofs.lemmas.Nat.{pow-add}
+use Rattle.std.proofs.Math.Pow.{pow_mono}
 use Rattle.std.specs.List.{list_all}
 use Rattle.std.specs.Char.{is_ascii_digit}
 use Rattle.matrix_read.specs.Lines.{is_blank, is_blank_byte, before_first}
 use Rattle.matrix_read.specs.Words.{blank_len, word_len, begins_word, words_of, number_after, numeral, numeral_of}
-use Rattle.matrix_read.specs.declared.words.Numeral.TheVariants.{Value, TooLarge}
+use Rattle.matrix_read.specs.declared.words.Numeral.TheVariants.{Value, TooLarge, NotDigits}
 
 -- all bytes are blanks, or a word begins behind the blanks
 pub all_blank : (bytes : List ℕ) → blank_len bytes ≡ length bytes → is_blank bytes ≡ true
@@ -158,3 +161,41 @@ number_some (Some n) v h = by (nat_lt n (2 ^ 64)) h
     by : (small : Bool) → Value v ≡ (if small then Value n else TooLarge) → Some n ≡ Some v
     by true k = cc
     by false k = absurd (cc)
+
+-- a digit is at most nine
+pub digit_most : (b : ℕ) → is_ascii_digit b ≡ true → b - 48 ≤ 9
+digit_most b h = grind (arith, common_steps, nat_tests)
+
+-- a digit more
+pub one_more_digit : (v d i : ℕ) → v < 2 ^ (4 * i) → d ≤ 9 → v * 10 + d < 2 ^ (4 * (i + 1))
+one_more_digit v d i l s =
+    let p : ℕ = 2 ^ (4 * i) in
+    let more : 4 * (i + 1) ≡ 4 * i + 4 = omega arith in
+    let e : 2 ^ (4 * (i + 1)) ≡ p * 16 = ap (λ n. 2 ^ n) more ∙ pow-add 2 (4 * i) 4 in
+    omega (arith, e, l)
+
+-- a number of at most sixteen digits
+pub few_digits : (v i : ℕ) → v < 2 ^ (4 * i) → i ≤ 16 → v < 2 ^ 64
+few_digits v i l few = let le : 4 * i ≤ 64 = omega arith in let m : 2 ^ (4 * i) ≤ 2 ^ 64 = pow_mono {j = 64} le in omega (arith, l, m)
+
+pub digits_after : (i : ℕ) (word : List ℕ) → i < length word → is_ascii_digit (get_or word i 0) ≡ true → list_all is_ascii_digit (drop i word) ≡ list_all is_ascii_digit word →
+    list_all is_ascii_digit (drop (i + 1) word) ≡ list_all is_ascii_digit word
+digits_after i word h d e =
+    let next : i + 1 ≡ suc i = omega arith in
+    ap (λ n. list_all is_ascii_digit (drop n word)) next
+    ∙ sym (ap (list_all is_ascii_digit) (drop-cons word i 0 h) ∙ ap (λ b. b && list_all is_ascii_digit (drop (suc i) word)) d) ∙ e
+
+pub foreign_digit : (i : ℕ) (word : List ℕ) → i < length word → is_ascii_digit (get_or word i 0) ≡ false → list_all is_ascii_digit (drop i word) ≡ list_all is_ascii_digit word →
+    list_all is_ascii_digit word ≡ false
+foreign_digit i word h d e =
+    sym e ∙ ap (list_all is_ascii_digit) (drop-cons word i 0 h) ∙ ap (λ b. b && list_all is_ascii_digit (drop (suc i) word)) d
+
+pub numeral_foreign : (word : List ℕ) → list_all is_ascii_digit word ≡ false → NotDigits ≡ numeral_of word
+numeral_foreign [] e = refl
+numeral_foreign (b ∷ word) e = rw e refl
+
+pub numeral_small : (word : List ℕ) (v : ℕ) → 0 < length word → list_all is_ascii_digit word ≡ true → v ≡ number_after 0 word → v < 2 ^ 64 → Value v ≡ numeral_of word
+numeral_small [] v some all e l = absurd (omega arith)
+numeral_small (b ∷ word) v some all e l =
+    let l' : number_after 0 (b ∷ word) < 2 ^ 64 = omega (arith, e, l) in
+    rw (all, lt-ltb (number_after 0 (b ∷ word)) (2 ^ 64) l') (ap Value e)

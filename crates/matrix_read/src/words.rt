@@ -80,7 +80,37 @@ fn count_word(bytes: &[u8]) -> usize
 pub fn number(word: &[u8]) -> Numeral
     ensures { result ≡ numeral_of word.now }
 {
-    if word.is_empty() || !all_digits(word) {
+    if word.is_empty() {
+        return Numeral::NotDigits;
+    }
+    if word.len() <= 16 {
+        return short_number(word);
+    }
+    long_number(word)
+}
+
+// The number that a word writes that is too short to go past 64 bits.
+fn short_number(word: &[u8]) -> Numeral
+    requires some { 0 < length word.now }
+    requires short { length word.now ≤ 16 }
+    ensures { result ≡ numeral_of word.now }
+{
+    let mut value = 0u64;
+    for b in word {
+        if !b.is_ascii_digit() {
+            return Numeral::NotDigits;
+        }
+        value = value * 10 + u64::from(*b - b'0');
+    }
+    Numeral::Value(value)
+}
+
+// The number that a word writes, however long it is.
+fn long_number(word: &[u8]) -> Numeral
+    requires { 0 < length word.now }
+    ensures { result ≡ numeral_of word.now }
+{
+    if !all_digits(word) {
         return Numeral::NotDigits;
     }
     let mut value = 0u64;
