@@ -1,15 +1,15 @@
 -- The gaps of an order with one row more.
-use Rattle.std.proofs.Common.{◌≡◌, ◌⊎◌, ◌∙◌, ℕ, zero, suc, ◌+◌, ◌-◌, ◌<◌, ◌≤◌, Bool, true, false, cond, ltb, List, [], ◌∷◌, ◌++◌, length, get_or, take, slice_index, slice_index_or, IsTrue, refl, sym, ap, subst, inl, inr, arith}
+use Rattle.std.proofs.Common.{◌≡◌, ◌⊎◌, ◌∙◌, ℕ, ◌+◌, ◌-◌, ◌<◌, ◌≤◌, Bool, true, false, cond, ltb, List, [], ◌∷◌, ◌++◌, length, get_or, take, slice_index, slice_index_or, IsTrue, refl, sym, ap, subst, inl, inr, arith}
 use Rattle.std.specs.Prelude.{All, Some, slice_get, sum_by}
 use Rattle.std.proofs.lemmas.Bool.{cases_lt, ltb-true, ltb-false}
-use Rattle.std.proofs.lemmas.List.{take_more, get_or-take, length-take-le}
+use Rattle.std.proofs.lemmas.List.{take_all, take_more, get_or-take, length-take-le}
 use Rattle.std.proofs.lemmas.List.Elements.{All-get_or}
 use Rattle.std.proofs.lemmas.List.Sums.{sum_by-append, sum_by-cons}
 use Rattle.std.proofs.lemmas.Option.{get_or_from_slice_get}
 use Rattle.std.specs.Prelude.{Option, None, MatchOption, IfSome}
-use Rattle.column_order.specs.Orders.{has, Keeps, AreEnds, IsValidOrder}
+use Rattle.column_order.specs.Orders.{has, Keeps, AreEnds, IsOrder, IsValidOrder}
 use Rattle.row_model.specs.declared.lists.Span.{Span}
-use Rattle.row_model.specs.Positions.{IsSpanInOrder}
+use Rattle.row_model.specs.Positions.{ArePositions, IsSpan, IsSpanInOrder}
 use Rattle.column_order.proofs.Lists.{at_place}
 use Rattle.open_gaps.specs.declared.gap.Gap.{Gap}
 use Rattle.open_gaps.specs.Gaps.{IsRightEnd, IsLeftEnd, IsGap, AreGaps}
@@ -131,3 +131,13 @@ ones_next rows k row l found =
     ap (λ (rs : List (List ℕ)). sum_by length rs) (next_rows rows k row l found)
     ∙ sum_by-append length (take k rows) (row ∷ [])
     ∙ ap (λ n. sum_by length (take k rows) + n) (sum_by-cons length row [] ∙ omega arith)
+
+-- the span of a row in one order with the positions
+pub in_order : (n : ℕ) (o positions row : List ℕ) (r : Option Span) → IsOrder n o → ArePositions o positions → MatchOption r (row ≡ []) (IsSpan positions row)
+    → IfSome r (λ span. (o : List ℕ) → IsOrder n o → ArePositions o positions → IsSpanInOrder o row span) → MatchOption r (row ≡ []) (IsSpanInOrder o row)
+in_order n o positions row None order are least spans = least
+in_order n o positions row (Some s) order are least spans = spans o order are
+
+-- an order that is valid for all rows
+pub valid_all : (c : ℕ) (rows : List (List ℕ)) (o : List ℕ) → IsValidOrder c rows o → IsValidOrder c (take (length rows) rows) o
+valid_all c rows o valid = subst (λ rs. IsValidOrder c rs o) (sym (take_all (length rows) rows (omega arith))) valid

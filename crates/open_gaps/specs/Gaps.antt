@@ -12,6 +12,10 @@ pub record Opens (rows : List (List ℕ)) (o : List ℕ) (k q b : ℕ) : Type 0 
   pub high : IsTrue (has (row_at rows k) (slice_index o (q + 1)))
   pub lacks : IsFalse (has (row_at rows k) b)
 
+-- some row has the columns on both sides of the gap behind position q, and lacks the column at position p
+abbrev pub IsOpen : List (List ℕ) → List ℕ → ℕ → ℕ → Type 0
+IsOpen rows o q p = (k : ℕ) × Opens rows o k q (slice_index o p)
+
 -- the gap behind position q is open for the columns at the positions past `last` and for no others to its right, and row k opens it
 pub record IsRightEnd (rows : List (List ℕ)) (o : List ℕ) (q last k : ℕ) : Type 0 where
   pub opens : (p : ℕ) → q + 1 < p → last < p → p < length o → Opens rows o k q (slice_index o p)

@@ -1,14 +1,14 @@
 // The gaps of an order that is valid for the first rows of a matrix.
-ghost use Rattle.std.specs.Prelude.{◌≡◌, ◌⊎◌, ℕ, ◌+◌, ◌-◌, ◌<◌, ◌≤◌, List, [], None, length, sum_by, take, slice_index, slice_index_or, IfOk, IfSome, MatchOption};
+ghost use Rattle.std.specs.Prelude.{◌≡◌, ◌⊎◌, ℕ, ◌+◌, ◌-◌, ◌<◌, ◌≤◌, List, [], None, length, sum_by, take, slice_index, slice_index_or, IfOk, IfSome, IsTrue, MatchOption, ◌↔◌};
 ghost use Rattle.column_order.specs.Orders.{IsOrder, IsWithin, IsValidOrder, place};
 ghost use Rattle.row_model.specs.Positions.{ArePositions, IsSpanInOrder};
 ghost use Rattle.row_model.specs.Graph.{pair, IsPair, JoinedBy};
 ghost use Rattle.open_gaps.specs.declared.gap.Gap.{Gap};
-ghost use Rattle.open_gaps.specs.Gaps.{Opens, AreGaps};
+ghost use Rattle.open_gaps.specs.Gaps.{Opens, IsOpen, AreGaps};
 ghost use Rattle.open_gaps.specs.Tables.{covered};
 
 use crate::gap::{Gap, cover, opener};
-use row_model::{Line, Matrix, NoMemory, Pair, Span, Why, positions};
+use row_model::{COLUMN_BOUND, Line, Matrix, NoMemory, Pair, Span, Why, positions, span_of};
 use std::alloc::Global;
 use std::marker::Model;
 use step_count::{Ledger, Steps};
@@ -63,6 +63,45 @@ impl OpenGaps {
             positions,
             gaps,
         })
+    }
+
+    /// The gaps of an order, as all rows leave them open. No step is counted.
+    ///
+    /// # Errors
+    ///
+    /// `NoMemory`.
+    pub fn of_rows(alloc: Global, m: &Matrix, order: &[u32]) -> Result<Self, NoMemory>
+        requires { IsValidOrder m.now.columns m.now.rows order.now }
+        ensures order { IfOk result (λ t. t.order ≡ order.now) }
+        ensures gaps { IfOk result (λ t. AreGaps m.now.rows order.now t.gaps) }
+    {
+        let columns = m.columns();
+        let positions = positions(alloc, order)?;
+        let gaps = gaps_of_all(alloc, m, &positions)?;
+        let mut copy = Vec::with_capacity(alloc, columns as usize)?;
+        copy.extend_from_slice(order)?;
+        Ok(OpenGaps {
+            order: copy,
+            positions,
+            gaps,
+        })
+    }
+
+    /// The number of columns of the order.
+    pub fn columns(&self) -> u32
+        ensures columns { result ≡ length self.now.order }
+        ensures range { result ≤ COLUMN_BOUND }
+    {
+        self.order.len() as u32
+    }
+
+    /// Whether a row has the columns at the positions `q` and `q + 1` and lacks the one at the position `p`. Positions count
+    /// from 0.
+    pub fn is_open(&self, q: u32, p: u32) -> bool
+        requires { (q + 1 < length self.now.order) × (p < length self.now.order) }
+        ensures { (rows : List (List ℕ)) → AreGaps rows self.now.order self.now.gaps → IsTrue result ↔ IsOpen rows self.now.order q p }
+    {
+        opener(&self.gaps, q, p).is_some()
     }
 
     /// From a pair (a,b) the pair (b,d), where d stands right before a in the order, if a row that has both a and d and
@@ -155,6 +194,20 @@ fn span_counted<L: Ledger>(row: &[u32], positions: &[u32], steps: &mut Steps<L>)
     if row.is_empty() { None } else { Some(span) }
 }
 
+// The gaps of the order of these positions, which is valid for all rows.
+fn gaps_of_all(alloc: Global, m: &Matrix, positions: &[u32]) -> Result<Vec<Gap>, NoMemory>
+    requires { (o : List ℕ) × IsValidOrder m.now.columns m.now.rows o × ArePositions o positions.now }
+    ensures len { IfOk result (λ gaps. length gaps.items ≡ m.now.columns) }
+    ensures gaps { IfOk result (λ gaps. (o : List ℕ) → IsValidOrder m.now.columns m.now.rows o
+        → ArePositions o positions.now → AreGaps m.now.rows o gaps.items) }
+{
+    let mut gaps = vec![in alloc; uncovered(m.columns()); m.columns() as usize]?;
+    for k in 0..m.rows() {
+        take_row(&mut gaps, span_of(positions, m.row(k + 1)), k + 1);
+    }
+    Ok(gaps)
+}
+
 // The gaps of the order of these positions, which is valid for the first `rows` rows.
 fn gaps_of<L: Ledger>(
     alloc: Global,
@@ -170,18 +223,24 @@ fn gaps_of<L: Ledger>(
         → ArePositions o positions.now → AreGaps (take rows m.now.rows) o gaps.items) }
     ensures ticks { steps.new ≤ steps.old + sum_by length (take rows m.now.rows) }
 {
-    let open = Gap {
-        last: m.columns(),
-        last_row: 0,
-        first: 0,
-        first_row: 0,
-    };
-    let mut gaps = vec![in alloc; open; m.columns() as usize]?;
+    let mut gaps = vec![in alloc; uncovered(m.columns()); m.columns() as usize]?;
     for k in 0..rows {
         let span = span_counted(m.row(k + 1), positions, steps);
         take_row(&mut gaps, span, k + 1);
     }
     Ok(gaps)
+}
+
+// A gap between two of so many columns with no row over it.
+fn uncovered(columns: u32) -> Gap
+    ensures { result ≡ record { last = columns; last_row = 0; first = 0; first_row = 0 } }
+{
+    Gap {
+        last: columns,
+        last_row: 0,
+        first: 0,
+        first_row: 0,
+    }
 }
 
 // Takes a row over the gaps within its span; a row with no column has none.

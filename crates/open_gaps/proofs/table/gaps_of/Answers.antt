@@ -1,4 +1,4 @@
-use Rattle.std.proofs.Common.{◌≡◌, ◌∙◌, ℕ, ◌+◌, ◌<◌, ◌≤◌, List, length, take, replicate, slice_index_or, refl, ap, sym, subst, arith}
+use Rattle.std.proofs.Common.{◌≡◌, ◌∙◌, ◌≤◌, List, length, replicate, slice_index_or, refl, ap, sym, subst, arith}
 use Rattle.std.proofs.lemmas.List.{get_or-replicate, length-replicate}
 use Rattle.column_order.specs.Orders.{IsOrder}
 use Rattle.column_order.proofs.Counts.{order_length}
@@ -10,7 +10,7 @@ use Rattle.open_gaps.proofs.table.gaps_of.Goals as goal
 pub loop-k-init : goal.loop-k-init
 loop-k-init g c =
     let fresh : Gap = record { last = c.columns.result; last_row = 0; first = 0; first_row = 0 } in
-    let items : c.in_ok-gaps.gaps.items ≡ replicate c.columns-2.result fresh = c.in_ok-gaps.ensures.items_if_clones_equal (λ y e. e) in
+    let items : c.in_ok-gaps.gaps.items ≡ replicate c.columns-2.result fresh = c.in_ok-gaps.ensures.items_if_clones_equal (λ y e. e) ∙ ap (replicate c.columns-2.result) c.uncovered.ensures in
     record {
       len = omega (arith, ap (λ (l : List Gap). length l) items, length-replicate c.columns-2.result fresh, c.columns-2.ensures.columns);
       gaps = λ o valid are. gaps_start o c.in_ok-gaps.gaps.items (λ q d l.

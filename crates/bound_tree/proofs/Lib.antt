@@ -1,0 +1,12 @@
+pub mod Cells
+pub mod Paths
+pub mod Blocked
+pub mod Starts
+pub mod Parts
+pub mod Lists
+pub mod Alike
+pub mod Within
+pub mod Bound
+pub mod Exact
+pub mod Loops
+pub mod Push

@@ -1,0 +1,99 @@
+// Trees that have all valid orders of some rows among their frontiers, and trees that have too few.
+use super::*;
+use crate::stretch::Stretch;
+use std::process::Abort;
+use std::test::Fail;
+
+// Asserts whether the tree with this text, whose leaves keep the rows, is complete for them.
+fn assert_bound(
+    rt: &impl Abort,
+    alloc: Global,
+    m: &Matrix,
+    text: &[u8],
+    bound: bool,
+) -> Result<(), NoMemory> {
+    match PqTree::parse(alloc, text, m.columns())? {
+        None => panic!(rt; "no tree has this text"),
+        Some(tree) => {
+            let kept = m.keeps(&tree.frontier(alloc)?)?;
+            if !kept {
+                panic!(rt; "the leaves do not keep the rows");
+            }
+            let found = is_bound(alloc, m, &tree)?;
+            assert_eq!(rt; found, bound);
+        }
+    }
+    Ok(())
+}
+
+#[test]
+fn no_row_leaves_all_orders(rt: HostRuntime) -> Result<(), Fail> {
+    let alloc = rt.alloc();
+    let m = Matrix::new(alloc, 3)?;
+    assert_bound(&rt, alloc, &m, b"(1 2 3)", true)?;
+    assert_bound(&rt, alloc, &m, b"(3 1 2)", true)?;
+    assert_bound(&rt, alloc, &m, b"[1 2 3]", false)?;
+    assert_bound(&rt, alloc, &m, b"((1 2) 3)", false)?;
+    assert_bound(&rt, alloc, &Matrix::new(alloc, 1)?, b"1", true)?;
+    Ok(())
+}
+
+#[test]
+fn one_pair_stays_together(rt: HostRuntime) -> Result<(), Fail> {
+    let alloc = rt.alloc();
+    let mut m = Matrix::new(alloc, 3)?;
+    m.push_row(&[1, 2])?;
+    assert_bound(&rt, alloc, &m, b"((1 2) 3)", true)?;
+    assert_bound(&rt, alloc, &m, b"(3 (2 1))", true)?;
+    assert_bound(&rt, alloc, &m, b"[1 2 3]", false)?;
+    assert_bound(&rt, alloc, &m, b"[3 2 1]", false)?;
+    Ok(())
+}
+
+#[test]
+fn two_pairs_in_a_path_make_a_line(rt: HostRuntime) -> Result<(), Fail> {
+    let alloc = rt.alloc();
+    let mut m = Matrix::new(alloc, 3)?;
+    m.push_row(&[1, 2])?;
+    m.push_row(&[2, 3])?;
+    assert_bound(&rt, alloc, &m, b"[1 2 3]", true)?;
+    assert_bound(&rt, alloc, &m, b"[3 2 1]", true)?;
+    Ok(())
+}
+
+#[test]
+fn a_line_within_a_p_node(rt: HostRuntime) -> Result<(), Fail> {
+    let alloc = rt.alloc();
+    let mut m = Matrix::new(alloc, 5)?;
+    m.push_row(&[1, 2, 3])?;
+    assert_bound(&rt, alloc, &m, b"((1 2 3) 4 5)", true)?;
+    assert_bound(&rt, alloc, &m, b"([1 2 3] 4 5)", false)?;
+    assert_bound(&rt, alloc, &m, b"((1 2 3) (4 5))", false)?;
+    m.push_row(&[1, 2])?;
+    m.push_row(&[2, 3])?;
+    assert_bound(&rt, alloc, &m, b"([1 2 3] 4 5)", true)?;
+    assert_bound(&rt, alloc, &m, b"(4 [3 2 1] 5)", true)?;
+    assert_bound(&rt, alloc, &m, b"[4 [3 2 1] 5]", false)?;
+    Ok(())
+}
+
+#[test]
+fn a_stretch_for_each_gap(rt: HostRuntime) -> Result<(), Fail> {
+    let alloc = rt.alloc();
+    let tree = PqTree::parse(alloc, b"([1 2 3] 4)", 4)?.ok_or("no tree has this text")?;
+    let near = |at: u32| Stretch {
+        at,
+        from: at - 1,
+        to: at + 1,
+    };
+    let whole = Stretch {
+        at: 3,
+        from: 0,
+        to: 4,
+    };
+    assert_eq!(rt;
+        stretch::of_tree(alloc, &tree)?.as_slice(),
+        [near(1), near(2), whole].as_slice()
+    );
+    Ok(())
+}
