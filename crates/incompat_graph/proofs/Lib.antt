@@ -8,11 +8,15 @@ pub mod HolderLaws
 pub mod SearchLaws
 pub mod LeavingLaws
 pub mod TakenLaws
+pub mod EvenLaws
+pub mod UnionLaws
+pub mod ClassLaws
 pub mod AcrossLaws
 pub mod SettledLaws
 pub mod ClosingLaws
 pub mod EndLaws
 pub mod NearLaws
-pub mod ShorterLaws
+pub mod CheckedLaws
+pub mod PartLaws
 pub mod OddCycles
 pub mod CycleLength

@@ -9,7 +9,6 @@ use Rattle.open_gaps.specs.Tables.{GapTable}
 use Rattle.incompat_graph.specs.Holders.{AreHolders, without}
 use Rattle.incompat_graph.specs.Neighbours.{AreOpenGaps, AreNeighbours}
 use Rattle.incompat_graph.proofs.HolderLaws.{lists_of, ones_split}
-use Rattle.incompat_graph.proofs.MarkLaws.{within_bound}
 
 -- all rows are further rows
 pub near_none : (m : RowList) (rows : ℕ) (holders : Vec (Vec ℕ Global) Global) → AreHolders (without 0 m) rows (lists_of holders.items) → AreNeighbours m rows (record { first = 0; gaps = None; holders = holders })
@@ -25,12 +24,85 @@ near_along m k order t holders valid same gaps h =
     } in
     record { gaps = λ u e. subst (AreOpenGaps m.columns (take (k - 1) m.rows)) (same_Some t u e) opened; none = λ e. absurd (none-some t (sym e)); holders = h }
 
--- a step for each one, one more, and two for each one of the last row at each column
-pub along_bound : (rows : List (List ℕ)) (c k before gapped held after : ℕ) → 1 ≤ c → 1 ≤ k → gapped ≤ before + sum_by length (take (k - 1) rows) → held ≤ gapped + sum_by length (take 1 (drop (k - 1) rows)) →
-    after ≤ held + 1 + 2 * (c * sum_by length (take 1 (drop (k - 1) rows))) → after ≤ before + 8 * c * (sum_by length (take k rows) + 1)
-along_bound rows c k before gapped held after some from g h a =
+-- the ones of the first rows are some of those of the rows up to row k
+pub first_ones : (rows : List (List ℕ)) (k : ℕ) → 1 ≤ k → sum_by length (take (k - 1) rows) + sum_by length (take 1 (drop (k - 1) rows)) ≡ sum_by length (take k rows)
+first_ones rows k from =
     let last = sum_by length (take 1 (drop (k - 1) rows)) in
     let up : k - 1 + 1 ≡ k = omega arith in
-    let all : sum_by length (take (k - 1) rows) + last ≡ sum_by length (take k rows) = subst (λ n. sum_by length (take (k - 1) rows) + last ≡ sum_by length (take n rows)) up (ones_split rows (k - 1) 1) in
-    let few : c * last ≤ c * sum_by length (take k rows) = mul-le c last c (sum_by length (take k rows)) (omega arith) (omega (arith, all)) in
-    within_bound c (sum_by length (take k rows)) (c * last) before after some few (omega (arith, g, h, a, all))
+    subst (λ n. sum_by length (take (k - 1) rows) + last ≡ sum_by length (take n rows)) up (ones_split rows (k - 1) 1)
+
+-- one more of each
+once_more : (c ones : ℕ) → 1 ≤ c → ones + 1 ≤ c * ones + c
+once_more c ones some =
+    let once : 1 * (ones + 1) ≤ c * (ones + 1) = mul-le 1 (ones + 1) c (ones + 1) some (omega arith) in
+    let bound : c * (ones + 1) ≡ c * ones + c = grind arith in
+    omega (arith, once, bound)
+
+-- a step for each one, one more, and two for each one of each row at each column
+pub three_bound : (c ones marked before after : ℕ) → 1 ≤ c → marked ≤ c * ones → after ≤ before + ones + 1 + 2 * marked → after ≤ before + 3 * c * (ones + 1)
+three_bound c ones marked before after some few h =
+    let once = once_more c ones some in
+    let bound : 3 * c * (ones + 1) ≡ 3 * (c * ones) + 3 * c = grind arith in
+    omega (arith, h, few, once, bound)
+
+-- a step for each one, and two for each one at each column
+pub price_bound : (c ones marked before after : ℕ) → marked ≤ c * ones → after ≤ before + ones + 2 * marked → after ≤ before + ones * (2 * c + 1)
+price_bound c ones marked before after few h =
+    let bound : ones * (2 * c + 1) ≡ 2 * (c * ones) + ones = grind arith in
+    omega (arith, h, few, bound)
+
+pub eight_bound : (c ones before after : ℕ) → after ≤ before + 3 * c * (ones + 1) → after ≤ before + 8 * c * (ones + 1)
+eight_bound c ones before after h =
+    let bound3 : 3 * c * (ones + 1) ≡ 3 * (c * ones) + 3 * c = grind arith in
+    let bound8 : 8 * c * (ones + 1) ≡ 8 * (c * ones) + 8 * c = grind arith in
+    omega (arith, h, bound3, bound8)
+
+-- the same along an order, where each one of the first rows was counted before
+pub across_bound : (rows : List (List ℕ)) (c k before held after : ℕ) → 1 ≤ c → 1 ≤ k → held ≤ before + sum_by length (take 1 (drop (k - 1) rows)) →
+    after ≤ held + 1 + 2 * (c * sum_by length (take 1 (drop (k - 1) rows))) → after + sum_by length (take (k - 1) rows) ≤ before + 3 * c * (sum_by length (take k rows) + 1)
+across_bound rows c k before held after some from h a =
+    let first = sum_by length (take (k - 1) rows) in
+    let last = sum_by length (take 1 (drop (k - 1) rows)) in
+    let ones = sum_by length (take k rows) in
+    let all : first + last ≡ ones = first_ones rows k from in
+    let few : c * last ≤ c * ones = mul-le c last c ones (omega arith) (omega (arith, all)) in
+    three_bound c ones (c * last) before (after + first) some few (omega (arith, h, a, all))
+
+spent : (c ones first before gapped tried after : ℕ) → gapped ≤ before + first → tried ≤ gapped + c * (ones + 1) → after + first ≤ tried + 3 * c * (ones + 1) → after ≤ before + 4 * c * (ones + 1)
+spent c ones first before gapped tried after g t a =
+    let bound1 : c * (ones + 1) ≡ c * ones + c = grind arith in
+    let bound3 : 3 * c * (ones + 1) ≡ 3 * (c * ones) + 3 * c = grind arith in
+    let bound4 : 4 * c * (ones + 1) ≡ 4 * (c * ones) + 4 * c = grind arith in
+    omega (arith, g, t, a, bound1, bound3, bound4)
+
+stopped : (c ones first before after : ℕ) → 1 ≤ c → first ≤ ones → after ≤ before + first + c * (ones + 1) → after ≤ before + 4 * c * (ones + 1)
+stopped c ones first before after some fewer a =
+    let once = once_more c ones some in
+    let bound1 : c * (ones + 1) ≡ c * ones + c = grind arith in
+    let bound4 : 4 * c * (ones + 1) ≡ 4 * (c * ones) + 4 * c = grind arith in
+    omega (arith, fewer, a, once, bound1, bound4)
+
+-- a step for each one of the first rows, then an attempt, then a search
+pub along_bound : (rows : List (List ℕ)) (c k before gapped tried after : ℕ) → gapped ≤ before + sum_by length (take (k - 1) rows) → tried ≤ gapped + c * (sum_by length (take k rows) + 1) →
+    after + sum_by length (take (k - 1) rows) ≤ tried + 3 * c * (sum_by length (take k rows) + 1) → after ≤ before + 4 * c * (sum_by length (take k rows) + 1)
+along_bound rows c k before gapped tried after g t a = spent c (sum_by length (take k rows)) (sum_by length (take (k - 1) rows)) before gapped tried after g t a
+
+-- without the search
+pub tried_bound : (rows : List (List ℕ)) (c k before gapped after : ℕ) → 1 ≤ c → 1 ≤ k → gapped ≤ before + sum_by length (take (k - 1) rows) → after ≤ gapped + c * (sum_by length (take k rows) + 1) →
+    after ≤ before + 4 * c * (sum_by length (take k rows) + 1)
+tried_bound rows c k before gapped after some from g a =
+    stopped c (sum_by length (take k rows)) (sum_by length (take (k - 1) rows)) before after some (omega (arith, first_ones rows k from)) (omega (arith, g, a))
+
+-- and as much again for a shorter cycle
+pub twice_bound : (c ones before found most after : ℕ) → found ≤ before + 4 * c * (ones + 1) → most ≤ c * (ones + 1) → after ≤ found + 4 * most → after ≤ before + 8 * c * (ones + 1)
+twice_bound c ones before found most after f m a =
+    let bound1 : c * (ones + 1) ≡ c * ones + c = grind arith in
+    let bound4 : 4 * c * (ones + 1) ≡ 4 * (c * ones) + 4 * c = grind arith in
+    let bound8 : 8 * c * (ones + 1) ≡ 8 * (c * ones) + 8 * c = grind arith in
+    omega (arith, f, m, a, bound1, bound4, bound8)
+
+-- the steps of an attempt do not grow with the ones that are not seen
+pub attempt_bound : (c ones seen most : ℕ) → seen ≤ ones → most ≤ c * (seen + 1) → most ≤ c * (ones + 1)
+attempt_bound c ones seen most fewer h =
+    let few : c * (seen + 1) ≤ c * (ones + 1) = mul-le c (seen + 1) c (ones + 1) (omega arith) (omega arith) in
+    omega (arith, h, few)

@@ -6,4 +6,6 @@ pub mod Neighbours
 pub mod Search
 pub mod Closing
 pub mod Reasons
+pub mod Unions
+pub mod Classes
 pub mod Laws

@@ -32,6 +32,16 @@ impl Model for Cycle {
 }
 
 impl Cycle {
+    // A cycle of these lines.
+    pub(crate) fn from_lines(lines: Vec<Line>) -> Self
+        requires { IsSimpleOdd lines.items }
+        ensures { result ≡ lines.items }
+    {
+        Cycle {
+            lines: Lines::from_vec(lines),
+        }
+    }
+
     /// The lines in their order.
     pub fn lines(&self) -> &[Line]
         ensures lines { result.now ≡ self.now }

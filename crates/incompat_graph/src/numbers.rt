@@ -1,5 +1,5 @@
 // A number for each ordered pair of columns, in one table.
-ghost use Rattle.std.specs.Prelude.{◌≡◌, ◌≤◌, IfOk};
+ghost use Rattle.std.specs.Prelude.{◌≡◌, ◌*◌, ◌≤◌, length, IfOk};
 ghost use Rattle.row_model.specs.declared.graph.Pair.{Pair};
 ghost use Rattle.row_model.specs.Graph.{IsPair};
 ghost use Rattle.incompat_graph.specs.Numbers.{Renumbers, number_of, place_of};
@@ -39,6 +39,25 @@ impl PairNumbers {
             columns,
             numbers: vec![in alloc; 0; size]?,
         })
+    }
+
+    /// The table of these numbers, row by row: first those of the pairs that begin with column 1.
+    pub fn from_entries(columns: u32, entries: Vec<u32>) -> Self
+        requires few { columns ≤ COLUMN_BOUND }
+        requires places { length entries.items ≡ columns * columns }
+        ensures { result ≡ record { columns = columns; entries = entries.items } }
+    {
+        PairNumbers {
+            columns,
+            numbers: entries,
+        }
+    }
+
+    /// The number of columns.
+    pub fn columns(&self) -> u32
+        ensures { result ≡ self.now.columns }
+    {
+        self.columns
     }
 
     /// The number of a pair.

@@ -7,6 +7,7 @@ ghost use Rattle.incompat_graph.specs.declared.forest.Node.{Node};
 ghost use Rattle.incompat_graph.specs.Marks.{is_marked, marked_ones};
 ghost use Rattle.incompat_graph.specs.Search.{IsReached, IsSearch, Grows, ShowsConflict, IsTaken, AreTaken, AreReachedFrom};
 ghost use Rattle.incompat_graph.specs.Neighbours.{AreNeighbours};
+ghost use Rattle.open_gaps.specs.Gaps.{AreGaps};
 
 use crate::closing::closed_walk;
 use crate::forest::{Conflict, Forest};
@@ -43,6 +44,23 @@ pub fn odd_walk<L: Ledger>(
         (¬ HasOddWalk m.now.columns (take rows m.now.rows))
         (IsOddWalk m.now.columns (take rows m.now.rows))) }
     ensures ticks { steps.new ≤ steps.old + 8 * m.now.columns * (sum_by length (take rows m.now.rows) + 1) }
+{
+    walk_in(alloc, m, rows, steps)
+}
+
+// The same, with what its steps are in fact.
+pub(crate) fn walk_in<L: Ledger>(
+    alloc: Global,
+    m: &Matrix,
+    rows: u32,
+    steps: &mut Steps<L>,
+) -> Result<Option<Walk>, NoMemory>
+    requires { rows ≤ length m.now.rows }
+    ensures found { IfOk result (λ found. MatchOption found
+        (¬ HasOddWalk m.now.columns (take rows m.now.rows))
+        (IsOddWalk m.now.columns (take rows m.now.rows))) }
+    ensures ticks { steps.new ≤ steps.old + 3 * m.now.columns * (sum_by length (take rows m.now.rows) + 1) }
+    ensures few { steps.new ≤ steps.old + sum_by length (take rows m.now.rows) * (2 * m.now.columns + 1) }
 {
     let begin = m.columns();
     let holders = rows_by_column(alloc, m, 0, rows, steps)?;
@@ -82,6 +100,26 @@ pub fn odd_walk_along<L: Ledger>(
     ensures ticks { steps.new ≤ steps.old + 8 * m.now.columns * (sum_by length (take k m.now.rows) + 1) }
 {
     let gaps = OpenGaps::new(alloc, m, k - 1, order, steps)?;
+    walk_across(alloc, m, k, gaps, steps)
+}
+
+// A closed walk of odd length in the graph of the rows 1 to `k`, which have one, across the gaps that the rows before row `k`
+// leave open. It leaves room in its bound for a step for each one of these.
+pub(crate) fn walk_across<L: Ledger>(
+    alloc: Global,
+    m: &Matrix,
+    k: u32,
+    gaps: OpenGaps,
+    steps: &mut Steps<L>,
+) -> Result<Walk, NoMemory>
+    requires row { (1 ≤ k) × (k ≤ length m.now.rows) }
+    requires order { IsValidOrder m.now.columns (take (k - 1) m.now.rows) gaps.order }
+    requires gaps { AreGaps (take (k - 1) m.now.rows) gaps.order gaps.gaps }
+    requires refused { HasConflict m.now.columns (take k m.now.rows) }
+    ensures walk { IfOk result (IsOddWalk m.now.columns (take k m.now.rows)) }
+    ensures ticks { steps.new + sum_by length (take (k - 1) m.now.rows)
+        ≤ steps.old + 3 * m.now.columns * (sum_by length (take k m.now.rows) + 1) }
+{
     let holders = rows_by_column(alloc, m, k - 1, 1, steps)?;
     let near = Neighbours {
         first: k - 1,

@@ -4,6 +4,8 @@ ghost use Rattle.row_model.specs.Graph.{HasOddWalk};
 ghost use Rattle.row_model.specs.Cycles.{IsOddWalk};
 
 use super::*;
+use crate::checked::checked_cycle;
+use crate::part::lines_among;
 use row_model::{Line, Matrix, Pair, Why, joined_by};
 use std::alloc::Global;
 use std::process::Abort;
@@ -147,5 +149,96 @@ fn a_matrix_with_a_valid_order(rt: HostRuntime) -> Result<(), Fail> {
     m.push_row(&[1, 2])?;
     m.push_row(&[2, 3])?;
     assert!(rt; cycle_of(rt.alloc(), &m)?.is_none());
+    Ok(())
+}
+
+fn line(a: u32, b: u32, row: u32) -> Line {
+    Line {
+        pair: pair(a, b),
+        why: Why::Row(row),
+    }
+}
+
+fn checked_counted<L: Ledger>(m: &Matrix, lines: Vec<Line>, blank: Blank) -> bool
+    requires name { blank.name ≡ L.name }
+    requires parts { blank.parts ≡ L.parts }
+    requires some { 0 < blank.parts }
+{
+    let mut steps = Steps::<L>::new(blank);
+    let mut left = 27;
+    checked_cycle(m, lines, &mut left, &mut steps).is_some()
+}
+
+fn is_cycle(m: &Matrix, lines: Vec<Line>) -> bool {
+    checked_counted::<Brand>(m, lines, Blank::new(1))
+}
+
+// Row 3 has 1 and 3 and lacks 2, row 1 has 2 and 1 and lacks 3, and row 2 has 3 and 2 and lacks 1.
+#[test]
+fn three_lines_of_a_triangle_are_a_cycle(rt: HostRuntime) -> Result<(), Fail> {
+    let m = triangle(rt.alloc())?;
+    let lines = vec![in rt.alloc(); line(1, 2, 3), line(2, 3, 1), line(3, 1, 2)]?;
+    assert!(rt; is_cycle(&m, lines));
+    Ok(())
+}
+
+#[test]
+fn other_lines_are_no_cycle(rt: HostRuntime) -> Result<(), Fail> {
+    let m = triangle(rt.alloc())?;
+    let joined_by_none = vec![in rt.alloc(); line(1, 2, 3), line(2, 3, 2), line(3, 1, 2)]?;
+    assert!(rt; !is_cycle(&m, joined_by_none));
+    let open_at_its_end = vec![in rt.alloc(); line(2, 3, 1), line(1, 2, 3), line(3, 1, 2)]?;
+    assert!(rt; !is_cycle(&m, open_at_its_end));
+    let of_even_length = vec![in rt.alloc();
+        line(1, 2, 3),
+        line(2, 3, 1),
+        line(3, 1, 2),
+        line(1, 2, 3),
+        line(2, 3, 1),
+        line(3, 1, 2),
+    ]?;
+    assert!(rt; !is_cycle(&m, of_even_length));
+    let thrice_round = vec![in rt.alloc();
+        line(1, 2, 3),
+        line(2, 3, 1),
+        line(3, 1, 2),
+        line(1, 2, 3),
+        line(2, 3, 1),
+        line(3, 1, 2),
+        line(1, 2, 3),
+        line(2, 3, 1),
+        line(3, 1, 2),
+    ]?;
+    assert!(rt; !is_cycle(&m, thrice_round));
+    assert!(rt; !is_cycle(&m, Vec::new(rt.alloc())));
+    Ok(())
+}
+
+fn lines_counted<L: Ledger>(
+    alloc: Global,
+    m: &Matrix,
+    most: u64,
+    blank: Blank,
+) -> Result<Vec<Line>, NoMemory>
+    requires name { blank.name ≡ L.name }
+    requires parts { blank.parts ≡ L.parts }
+    requires some { 0 < blank.parts }
+{
+    let mut steps = Steps::<L>::new(blank);
+    let mut left = most;
+    lines_among(alloc, m, &[1, 2, 3], &[1, 2, 3], &mut left, &mut steps)
+}
+
+fn lines_within(alloc: Global, m: &Matrix, most: u64) -> Result<Vec<Line>, NoMemory> {
+    lines_counted::<Brand>(alloc, m, most, Blank::new(1))
+}
+
+// Nine looks, and at most 6 * (2 * 3 + 1) steps for a search in three columns with six ones.
+#[test]
+fn a_part_is_searched_where_the_steps_are_enough(rt: HostRuntime) -> Result<(), Fail> {
+    let m = triangle(rt.alloc())?;
+    assert!(rt; lines_within(rt.alloc(), &m, 50)?.is_empty());
+    let lines = lines_within(rt.alloc(), &m, 51)?;
+    assert!(rt; is_cycle(&m, lines));
     Ok(())
 }

@@ -1,46 +1,29 @@
-use Rattle.std.proofs.Common.{◌≡◌, ◌+◌, ◌-◌, ◌≤◌, take, subst, arith}
-use Rattle.row_model.specs.Graph.{HasOddWalk}
-use Rattle.row_model.specs.Cycles.{IsOddWalk}
-use Rattle.row_model.proofs.Walks.{conflict_odd}
-use Rattle.incompat_graph.proofs.NearLaws.{near_along, along_bound}
+use Rattle.std.proofs.Common.{◌≡◌, ◌-◌, ◌≤◌, length, take, sum_by, sym, subst, arith}
+use Rattle.column_order.specs.Orders.{IsValidOrder}
+use Rattle.open_gaps.specs.Gaps.{AreGaps}
+use Rattle.incompat_graph.proofs.NearLaws.{along_bound, tried_bound, twice_bound}
 use Rattle.incompat_graph.proofs.search.odd_walk_along.Goals as goal
 
-pub search-requires-clause-near : goal.search-requires-clause-near
-search-requires-clause-near g c =
-    near_along c.args.m.now c.args.k c.args.order.now c.in_ok-gaps.gaps c.in_ok-holders.holders c.requires.order c.in_ok-gaps.ensures.order c.in_ok-gaps.ensures.gaps c.in_ok-holders.ensures.holders
+pub walk_across-requires-clause-order : goal.walk_across-requires-clause-order
+walk_across-requires-clause-order g c =
+    subst (IsValidOrder c.args.m.now.columns (take (c.args.k - 1) c.args.m.now.rows)) (sym c.in_ok-gaps.ensures.order) c.requires.order
 
-pub returns-clause-walk : goal.returns-clause-walk
-returns-clause-walk g c =
-    let up : c.args.k - 1 + 1 ≡ c.args.k = omega arith in
-    let walk : IsOddWalk c.args.m.now.columns (take (c.args.k - 1 + 1) c.args.m.now.rows) c.in-Some.walk = rw c.in-Some.is at c.in_ok-walk.ensures.found in
-    subst (λ n. IsOddWalk c.args.m.now.columns (take n c.args.m.now.rows) c.in-Some.walk) up walk
-
-pub unreachable-requires : goal.unreachable-requires
-unreachable-requires g c =
-    let up : c.args.k - 1 + 1 ≡ c.args.k = omega arith in
-    let none : HasOddWalk c.args.m.now.columns (take (c.args.k - 1 + 1) c.args.m.now.rows) → ⊥ = rw c.in-None.is at c.in_ok-walk.ensures.found in
-    subst (λ n. HasOddWalk c.args.m.now.columns (take n c.args.m.now.rows) → ⊥) up none ((conflict_odd c.args.m.now.columns (take c.args.k c.args.m.now.rows)).1 c.requires.refused)
+pub walk_across-requires-clause-gaps : goal.walk_across-requires-clause-gaps
+walk_across-requires-clause-gaps g c =
+    subst (λ o. AreGaps (take (c.args.k - 1) c.args.m.now.rows) o c.in_ok-gaps.gaps.gaps) (sym c.in_ok-gaps.ensures.order) c.in_ok-gaps.ensures.gaps
 
 pub returns-in_err-gaps-clause-ticks : goal.returns-in_err-gaps-clause-ticks
 returns-in_err-gaps-clause-ticks g c =
     let p = c.requires.refused.is_pair in
     let some : 1 ≤ c.args.m.now.columns = omega (arith, p.a_from, p.a_to) in
-    along_bound c.args.m.now.rows c.args.m.now.columns c.args.k c.args.steps.now c.new.new.steps c.new.new.steps c.new.new.steps some c.requires.row.0 c.new.ensures.ticks (omega arith) (omega arith)
-
-pub returns-in_err-holders-clause-ticks : goal.returns-in_err-holders-clause-ticks
-returns-in_err-holders-clause-ticks g c =
-    let p = c.requires.refused.is_pair in
-    let some : 1 ≤ c.args.m.now.columns = omega (arith, p.a_from, p.a_to) in
-    along_bound c.args.m.now.rows c.args.m.now.columns c.args.k c.args.steps.now c.new.new.steps c.rows_by_column.new.steps c.rows_by_column.new.steps some c.requires.row.0 c.new.ensures.ticks (omega arith) (omega arith)
-
-pub returns-in_err-walk-clause-ticks : goal.returns-in_err-walk-clause-ticks
-returns-in_err-walk-clause-ticks g c =
-    let p = c.requires.refused.is_pair in
-    let some : 1 ≤ c.args.m.now.columns = omega (arith, p.a_from, p.a_to) in
-    along_bound c.args.m.now.rows c.args.m.now.columns c.args.k c.args.steps.now c.new.new.steps c.rows_by_column.new.steps c.search.new.steps some c.requires.row.0 c.new.ensures.ticks (omega arith) (omega arith)
+    let ones = sum_by length (take c.args.k c.args.m.now.rows) in
+    twice_bound c.args.m.now.columns ones c.args.steps.now c.new.new.steps 0 c.new.new.steps
+    (tried_bound c.args.m.now.rows c.args.m.now.columns c.args.k c.args.steps.now c.new.new.steps c.new.new.steps some c.requires.row.0 c.new.ensures.ticks (omega arith))
+    (omega arith) (omega arith)
 
 pub returns-clause-ticks : goal.returns-clause-ticks
 returns-clause-ticks g c =
-    let p = c.requires.refused.is_pair in
-    let some : 1 ≤ c.args.m.now.columns = omega (arith, p.a_from, p.a_to) in
-    along_bound c.args.m.now.rows c.args.m.now.columns c.args.k c.args.steps.now c.new.new.steps c.rows_by_column.new.steps c.search.new.steps some c.requires.row.0 c.new.ensures.ticks (omega arith) (omega arith)
+    let ones = sum_by length (take c.args.k c.args.m.now.rows) in
+    twice_bound c.args.m.now.columns ones c.args.steps.now c.walk_across.new.steps 0 c.walk_across.new.steps
+    (along_bound c.args.m.now.rows c.args.m.now.columns c.args.k c.args.steps.now c.new.new.steps c.new.new.steps c.walk_across.new.steps c.new.ensures.ticks (omega arith) c.walk_across.ensures.ticks)
+    (omega arith) (omega arith)

@@ -1,0 +1,73 @@
+-- Walks that are looked at line by line.
+use Rattle.std.proofs.Common.{◌≡◌, ◌≢◌, ◌∙◌, ℕ, ◌+◌, ◌-◌, ◌<◌, ◌≤◌, List, [], ◌∷◌, ◌++◌, length, take, drop, slice_get, get_or, Some, AllPairs, refl, sym, ap, subst, below_more, arith}
+use Rattle.std.proofs.lemmas.List.{take_more, take_all}
+use Rattle.std.proofs.lemmas.Option.{get_or_from_slice_get, slice_get-get_or, slice_get_within, same_Some}
+use Rattle.std.proofs.Math.ListN.{drop_of_length-le}
+use Rattle.row_model.specs.declared.graph.Pair.{Pair}
+use Rattle.row_model.specs.declared.graph.Line.{Line}
+use Rattle.row_model.specs.Graph.{pair, JoinedBy}
+use Rattle.row_model.specs.Cycles.{first_pair, LeadTo, IsClosedWalk}
+use Rattle.row_model.proofs.CycleLaws.{lead_push, first_drop, closed_from}
+use Rattle.incompat_graph.proofs.Items.{item-drop}
+
+-- each of the first lines leads to the next
+abbrev pub IsLed : ℕ → List (List ℕ) → List Line → ℕ → Type 0
+IsLed c rows lines i = (end : Pair) → first_pair lines end ≡ end → LeadTo c rows (take i lines) (first_pair (drop i lines) end)
+
+pub led_more : (c : ℕ) (rows : List (List ℕ)) (lines : List Line) (i : ℕ) (line : Line) (behind : Pair) → slice_get lines i ≡ Some line → IsLed c rows lines i →
+    ((end : Pair) → first_pair lines end ≡ end → behind ≡ first_pair (drop (i + 1) lines) end) → JoinedBy c rows line.pair behind line.why → IsLed c rows lines (i + 1)
+led_more c rows lines i line behind at h is j end e =
+    let front : take (i + 1) lines ≡ take i lines ++ line ∷ [] = take_more lines i line (slice_get_within lines i line at) ∙ ap (λ x. take i lines ++ x ∷ []) (get_or_from_slice_get lines i line line at) in
+    let before = subst (LeadTo c rows (take i lines)) (first_drop lines i line end at) (h end e) in
+    subst (λ ls. LeadTo c rows ls (first_pair (drop (i + 1) lines) end)) (sym front) (lead_push c rows (take i lines) line (first_pair (drop (i + 1) lines) end) before (subst (λ v. JoinedBy c rows line.pair v line.why) (is end e) j))
+
+first_again : (lines : List Line) (end : Pair) → first_pair lines (first_pair lines end) ≡ first_pair lines end
+first_again [] end = refl
+first_again (l ∷ lines) end = refl
+
+pub led_all : (c : ℕ) (rows : List (List ℕ)) (lines : List Line) (n : ℕ) → length lines ≤ n → IsLed c rows lines n → IsClosedWalk c rows lines
+led_all c rows lines n l h =
+    let end = first_pair lines (pair 0 0) in
+    let e : first_pair lines end ≡ end = first_again lines (pair 0 0) in
+    let none : drop n lines ≡ [] = drop_of_length-le lines l in
+    let led = subst (λ more. LeadTo c rows (take n lines) (first_pair more end)) none (h end e) in
+    closed_from c rows lines end (subst (λ ls. LeadTo c rows ls end) (take_all n lines l) led) e
+
+-- the pair behind a line that is not the last
+pub behind_next : (lines : List Line) (i : ℕ) (next : Line) (end : Pair) → slice_get lines (i + 1) ≡ Some next → next.pair ≡ first_pair (drop (i + 1) lines) end
+behind_next lines i next end at = sym (first_drop lines (i + 1) next end at)
+
+-- and behind the last one
+pub behind_last : (lines : List Line) (i : ℕ) (first : Line) (end : Pair) → slice_get lines 0 ≡ Some first → length lines ≤ i + 1 → first_pair lines end ≡ end → first.pair ≡ first_pair (drop (i + 1) lines) end
+behind_last lines i first end at l e =
+    let none : drop (i + 1) lines ≡ [] = drop_of_length-le lines l in
+    sym (first_drop lines 0 first end at) ∙ e ∙ sym (ap (λ more. first_pair more end) none)
+
+-- the first lines have other pairs
+abbrev pub HaveOthers : List Line → Pair → ℕ → Type 0
+HaveOthers lines v n = (i : ℕ) → i < n → (line : Line) → slice_get lines i ≡ Some line → line.pair ≡ v → ⊥
+
+pub others_more : (lines : List Line) (v : Pair) (n : ℕ) (line : Line) → slice_get lines n ≡ Some line → (line.pair ≡ v → ⊥) → HaveOthers lines v n → HaveOthers lines v (n + 1)
+others_more lines v n line at other h =
+    below_more (λ i. (x : Line) → slice_get lines i ≡ Some x → x.pair ≡ v → ⊥) n h
+    (λ x e same. other (ap (λ (l : Line). l.pair) (same_Some line x (sym at ∙ e)) ∙ same))
+
+pub others_all : (lines : List Line) (v : Pair) (n : ℕ) → length lines ≤ n → HaveOthers lines v n → (i : ℕ) (line : Line) → slice_get lines i ≡ Some line → line.pair ≡ v → ⊥
+others_all lines v n l h i line at = h i (omega (arith, slice_get_within lines i line at)) line at
+
+-- each of the first lines has another pair than each line after it
+abbrev pub AreApart : List Line → ℕ → Type 0
+AreApart lines n = (i : ℕ) → i < n → (k : ℕ) (x y : Line) → i < k → slice_get lines i ≡ Some x → slice_get lines k ≡ Some y → x.pair ≡ y.pair → ⊥
+
+pub apart_more : (lines : List Line) (n : ℕ) (line : Line) → slice_get lines n ≡ Some line → ((i : ℕ) (x : Line) → slice_get (drop (n + 1) lines) i ≡ Some x → x.pair ≡ line.pair → ⊥) → AreApart lines n → AreApart lines (n + 1)
+apart_more lines n line at others h =
+    below_more (λ i. (k : ℕ) (x y : Line) → i < k → slice_get lines i ≡ Some x → slice_get lines k ≡ Some y → x.pair ≡ y.pair → ⊥) n h
+    (λ k x y l ex ey same.
+    let up : n + 1 + (k - (n + 1)) ≡ k = omega arith in
+    let there : slice_get (drop (n + 1) lines) (k - (n + 1)) ≡ Some y = item-drop (n + 1) lines (k - (n + 1)) ∙ ap (slice_get lines) up ∙ ey in
+    let first : line.pair ≡ x.pair = ap (λ (l : Line). l.pair) (same_Some line x (sym at ∙ ex)) in
+    others (k - (n + 1)) y there (sym same ∙ sym first))
+
+pub apart_all : (lines : List Line) (n : ℕ) → length lines ≤ n → AreApart lines n → AllPairs (λ (x : Line) (y : Line). x.pair ≢ y.pair) lines
+apart_all lines n l h = λ i j d low m same.
+    h i (omega arith) j (get_or lines i d) (get_or lines j d) low (slice_get-get_or lines i d (omega arith)) (slice_get-get_or lines j d m) same

@@ -1,0 +1,4 @@
+use Rattle.incompat_graph.proofs.links.add_path.Given as goal
+
+abbrev pub decreases-loop-at : goal.decreases-loop-at
+decreases-loop-at l = l.at

@@ -1,0 +1,10 @@
+use Rattle.std.proofs.Common.{◌≡◌, ◌+◌, ◌≤◌, length}
+use Rattle.incompat_graph.proofs.part.part_of.Given as goal
+
+abbrev pub invariant-loop-k : goal.invariant-loop-k
+invariant-loop-k g l =
+    record {
+      columns : l.part.columns ≡ length l.columns;
+      rows : length l.part.rows ≤ l.k-index;
+      ticks : l.steps + l.left ≤ l.fn.steps + l.fn.left;
+    }

@@ -1,0 +1,19 @@
+use Rattle.std.proofs.Common.{◌≡◌, ◌+◌, ◌∷◌, ◌++◌, [], ℕ, Vec, Global, sym, ap, subst, arith}
+use Rattle.std.proofs.lemmas.Grind.{common_steps}
+use Rattle.row_model.specs.Rows.{IsRow}
+use Rattle.incompat_graph.proofs.PartLaws.{row_wider, row_longer}
+use Rattle.incompat_graph.proofs.part.row_of.Goals as goal
+use Rattle.incompat_graph.proofs.part.row_of.Goals.{then-has_counted+in_ok-push, else-has_counted}
+
+pub loop-i-preserved : goal.loop-i-preserved
+loop-i-preserved g c =
+    let row : IsRow (c.loop-i.i + 1) c.if-has_counted.row.items =
+    elim c.if-has_counted.branch [
+      | then-has_counted+in_ok-push w ↦
+          let e : c.if-has_counted.row.items ≡ c.loop-i.row.items ++ (c.loop-i.i + 1) ∷ [] = grind (arith, common_steps) in
+          subst (IsRow (c.loop-i.i + 1)) (sym e) (row_longer c.loop-i.i c.loop-i.row.items c.loop-i.invariant.row)
+      | else-has_counted w ↦
+          let e : c.if-has_counted.row.items ≡ c.loop-i.row.items = ap (λ (v : Vec ℕ Global). v.items) w.row-is in
+          subst (IsRow (c.loop-i.i + 1)) (sym e) (row_wider c.loop-i.i c.loop-i.row.items c.loop-i.invariant.row)
+    ] in
+    record { row = row; ticks = omega (arith, c.loop-i.invariant.ticks, c.has_counted.ensures.ticks) }

@@ -1,0 +1,42 @@
+use Rattle.std.proofs.Common.{◌≡◌, length, sym, subst, arith}
+use Rattle.column_order.specs.Orders.{IsOrder}
+use Rattle.column_order.proofs.Counts.{order_length}
+use Rattle.incompat_graph.proofs.quick.quick_cycle.Goals as goal
+
+pub positions-requires-clause-order : goal.positions-requires-clause-order
+positions-requires-clause-order g c =
+    let order = c.args.order.now in
+    subst (λ n. IsOrder n order) (sym (order_length c.args.m.now.columns order c.requires.order.order)) c.requires.order.order
+
+pub positions-requires-clause-few : goal.positions-requires-clause-few
+positions-requires-clause-few g c = omega (arith, order_length c.args.m.now.columns c.args.order.now c.requires.order.order, c.columns.ensures.columns, c.columns.ensures.range)
+
+pub returns-in_err-sample-clause-ticks : goal.returns-in_err-sample-clause-ticks
+returns-in_err-sample-clause-ticks g c =
+    let long : length c.args.order.now ≡ c.args.m.now.columns = order_length c.args.m.now.columns c.args.order.now c.requires.order.order in
+    omega (arith, long, c.columns.ensures.columns, c.in-Some.ensures, c.sample_of.ensures)
+
+pub returns-in_err-links-clause-ticks : goal.returns-in_err-links-clause-ticks
+returns-in_err-links-clause-ticks g c =
+    let long : length c.args.order.now ≡ c.args.m.now.columns = order_length c.args.m.now.columns c.args.order.now c.requires.order.order in
+    omega (arith, long, c.columns.ensures.columns, c.in-Some.ensures, c.sample_of.ensures, c.odd_links.ensures)
+
+pub returns-then-is_empty-clause-ticks : goal.returns-then-is_empty-clause-ticks
+returns-then-is_empty-clause-ticks g c =
+    let long : length c.args.order.now ≡ c.args.m.now.columns = order_length c.args.m.now.columns c.args.order.now c.requires.order.order in
+    omega (arith, long, c.columns.ensures.columns, c.in-Some.ensures, c.sample_of.ensures, c.odd_links.ensures)
+
+pub returns-in_err-met-clause-ticks : goal.returns-in_err-met-clause-ticks
+returns-in_err-met-clause-ticks g c =
+    let long : length c.args.order.now ≡ c.args.m.now.columns = order_length c.args.m.now.columns c.args.order.now c.requires.order.order in
+    omega (arith, long, c.columns.ensures.columns, c.in-Some.ensures, c.sample_of.ensures, c.odd_links.ensures, c.met_by.ensures)
+
+pub returns-in_err-lines-clause-ticks : goal.returns-in_err-lines-clause-ticks
+returns-in_err-lines-clause-ticks g c =
+    let long : length c.args.order.now ≡ c.args.m.now.columns = order_length c.args.m.now.columns c.args.order.now c.requires.order.order in
+    omega (arith, long, c.columns.ensures.columns, c.in-Some.ensures, c.sample_of.ensures, c.odd_links.ensures, c.met_by.ensures, c.lines_among.ensures)
+
+pub returns-clause-ticks : goal.returns-clause-ticks
+returns-clause-ticks g c =
+    let long : length c.args.order.now ≡ c.args.m.now.columns = order_length c.args.m.now.columns c.args.order.now c.requires.order.order in
+    omega (arith, long, c.columns.ensures.columns, c.in-Some.ensures, c.sample_of.ensures, c.odd_links.ensures, c.met_by.ensures, c.lines_among.ensures, c.checked_cycle.ensures.ticks)

@@ -1,0 +1,229 @@
+// Ways that end at one pair, and the odd circle that some of them close with a row.
+ghost use Rattle.std.specs.Prelude.{◌≡◌, ◌+◌, ◌≤◌, length};
+
+use crate::sample::Sample;
+use crate::ways::{Front, end_of};
+use row_model::{NoMemory, Pair};
+use std::alloc::Global;
+use step_count::{Ledger, Steps};
+
+/// Two pairs from which the ways end at one pair.
+#[derive(Clone, Copy, Debug, PartialEq, Eq)]
+pub struct Link {
+    /// The one pair.
+    pub one: Pair,
+    /// The other.
+    pub other: Pair,
+}
+
+// The way from a column that the row has and a pivot, a column that it lacks.
+#[derive(Clone, Copy, Debug, PartialEq, Eq)]
+struct Way {
+    pivot: u32,
+    begin: Pair,
+    end: Pair,
+    turned: bool,
+}
+
+// A pivot that is reached from another by a link.
+#[derive(Clone, Copy, Debug, PartialEq, Eq)]
+struct Reached {
+    pivot: u32,
+    odd: bool,
+    parent: usize,
+    link: Link,
+}
+
+// A link between two pivots that are reached, by which an odd circle closes.
+#[derive(Clone, Copy, Debug, PartialEq, Eq)]
+struct Conflict {
+    link: Link,
+    one: usize,
+    other: usize,
+}
+
+/// Links that close an odd circle by way of the row, or none where the sample shows no such circle.
+///
+/// All pairs of a pivot with columns of the row are an even number of steps from each other by the row alone, and so are the
+/// pairs of a link. The pairs of a way are written with the column first that stands first in the order, so a link may join a
+/// pair with its pivot first to one with its pivot second. A circle is odd where an odd number of its links do.
+pub fn odd_links<L: Ledger>(
+    alloc: Global,
+    front: &Front,
+    sample: &Sample,
+    left: &mut u64,
+    steps: &mut Steps<L>,
+) -> Result<Vec<Link>, NoMemory>
+    requires { length front.now.gaps.now.order ≡ front.now.m.now.columns }
+    ensures ticks { steps.new + left.new ≤ steps.old + left.old }
+{
+    let mut links = Vec::new(alloc);
+    let mut ways: Vec<Way> = Vec::new(alloc);
+    for pivot in &sample.pivots {
+        for member in &sample.members {
+            let way = way_of(front, *pivot, *member, left, steps);
+            if let Some(link) = closed_at_once(&ways, way) {
+                links.push(link)?;
+                return Ok(links);
+            }
+            if !is_known(&ways, way) {
+                ways.push(way)?;
+            }
+        }
+    }
+    add_circle(alloc, &sample.pivots, &ways, &mut links)?;
+    Ok(links)
+}
+
+// The way from a pair of a pivot and a member.
+fn way_of<L: Ledger>(
+    front: &Front,
+    pivot: u32,
+    member: u32,
+    left: &mut u64,
+    steps: &mut Steps<L>,
+) -> Way
+    requires { length front.now.gaps.now.order ≡ front.now.m.now.columns }
+    ensures ticks { steps.new + left.new ≤ steps.old + left.old }
+{
+    let turned = front.position(pivot) < front.position(member);
+    let begin = if turned {
+        Pair {
+            a: pivot,
+            b: member,
+        }
+    } else {
+        Pair {
+            a: member,
+            b: pivot,
+        }
+    };
+    let end = end_of(front, begin, left, steps);
+    Way {
+        pivot,
+        begin,
+        end,
+        turned,
+    }
+}
+
+// The link with an earlier way of the same pivot that closes an odd circle.
+fn closed_at_once(ways: &[Way], way: Way) -> Option<Link> {
+    for other in ways {
+        if other.pivot == way.pivot && other.end == way.end && other.turned != way.turned {
+            return Some(Link {
+                one: other.begin,
+                other: way.begin,
+            });
+        }
+    }
+    None
+}
+
+// Whether an earlier way of the same pivot ends at the same pair.
+fn is_known(ways: &[Way], way: Way) -> bool {
+    ways.iter()
+        .any(|other| other.pivot == way.pivot && other.end == way.end)
+}
+
+// Reaches each pivot from another by links, as far as they go, and adds links that close an odd circle if there is one.
+fn add_circle(
+    alloc: Global,
+    pivots: &[u32],
+    ways: &[Way],
+    links: &mut Vec<Link>,
+) -> Result<(), NoMemory> {
+    let mut reached: Vec<Reached> = Vec::new(alloc);
+    for head in 0..pivots.len() {
+        if head >= reached.len() {
+            match first_left(pivots, &reached) {
+                None => return Ok(()),
+                Some(pivot) => reached.push(root(pivot, head))?,
+            }
+        }
+        if let Some(conflict) = spread(ways, head, &mut reached)? {
+            links.push(conflict.link)?;
+            add_path(&reached, conflict.one, links)?;
+            add_path(&reached, conflict.other, links)?;
+            return Ok(());
+        }
+    }
+    Ok(())
+}
+
+// The first pivot that is not reached.
+fn first_left(pivots: &[u32], reached: &[Reached]) -> Option<u32> {
+    pivots
+        .iter()
+        .copied()
+        .find(|pivot| place_of(reached, *pivot).is_none())
+}
+
+// Where a pivot stands among those that are reached.
+fn place_of(reached: &[Reached], pivot: u32) -> Option<usize> {
+    reached.iter().position(|one| one.pivot == pivot)
+}
+
+// Reaches the pivots that links lead to from the one at the place `head`. The answer is a link between two that are reached
+// already, if an odd circle closes by it.
+fn spread(
+    ways: &[Way],
+    head: usize,
+    reached: &mut Vec<Reached>,
+) -> Result<Option<Conflict>, NoMemory> {
+    let Some(here) = reached.get(head).copied() else {
+        return Ok(None);
+    };
+    for way in ways.iter().filter(|way| way.pivot == here.pivot) {
+        for other in ways.iter().filter(|other| other.end == way.end) {
+            let next = Reached {
+                pivot: other.pivot,
+                odd: here.odd != (way.turned != other.turned),
+                parent: head,
+                link: Link {
+                    one: way.begin,
+                    other: other.begin,
+                },
+            };
+            match place_of(reached, next.pivot) {
+                None => reached.push(next)?,
+                Some(there)
+                    if reached
+                        .get(there)
+                        .is_some_and(|found| found.odd != next.odd) => {
+                    return Ok(Some(Conflict {
+                        link: next.link,
+                        one: head,
+                        other: there,
+                    }));
+                }
+                Some(_) => {}
+            }
+        }
+    }
+    Ok(None)
+}
+
+// Adds the links by which a pivot was reached.
+fn add_path(reached: &[Reached], from: usize, links: &mut Vec<Link>) -> Result<(), NoMemory> {
+    let mut at = from;
+    while at > 0 && at < reached.len() && reached[at].parent < at {
+        links.push(reached[at].link)?;
+        at = reached[at].parent;
+    }
+    Ok(())
+}
+
+// A pivot that is reached from no other.
+fn root(pivot: u32, place: usize) -> Reached {
+    let nowhere = Pair { a: 0, b: 0 };
+    Reached {
+        pivot,
+        odd: false,
+        parent: place,
+        link: Link {
+            one: nowhere,
+            other: nowhere,
+        },
+    }
+}

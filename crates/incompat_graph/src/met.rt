@@ -1,0 +1,55 @@
+// The rows and columns that ways and cycles meet.
+use crate::ways::Stop;
+use row_model::{Line, NoMemory, Why};
+use std::alloc::Global;
+
+/// Rows and columns.
+#[derive(Drop)]
+pub struct Met {
+    /// The rows.
+    pub rows: Vec<u32>,
+    /// The columns.
+    pub columns: Vec<u32>,
+}
+
+impl Met {
+    /// None yet.
+    pub fn new(alloc: Global) -> Self {
+        Met {
+            rows: Vec::new(alloc),
+            columns: Vec::new(alloc),
+        }
+    }
+
+    /// Adds those of a way.
+    pub fn add_way(&mut self, way: &[Stop]) -> Result<(), NoMemory> {
+        for stop in way {
+            self.columns.push(stop.pair.a)?;
+            self.columns.push(stop.pair.b)?;
+            if stop.row > 0 {
+                self.rows.push(stop.row)?;
+            }
+        }
+        Ok(())
+    }
+
+    /// Adds those of the lines of a cycle.
+    pub fn add_lines(&mut self, lines: &[Line]) -> Result<(), NoMemory> {
+        for line in lines {
+            self.columns.push(line.pair.a)?;
+            self.columns.push(line.pair.b)?;
+            if let Why::Row(k) = line.why {
+                self.rows.push(k)?;
+            }
+        }
+        Ok(())
+    }
+
+    /// Sorts them, and leaves out what stands there twice.
+    pub fn settle(&mut self) {
+        self.rows.sort_unstable();
+        self.rows.dedup();
+        self.columns.sort_unstable();
+        self.columns.dedup();
+    }
+}

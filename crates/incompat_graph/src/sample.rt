@@ -1,0 +1,82 @@
+// A few columns that a row has, and a few that it lacks.
+ghost use Rattle.std.specs.Prelude.{◌≡◌, ◌+◌, ◌≤◌, length};
+
+use row_model::{Matrix, NoMemory};
+use std::alloc::Global;
+use step_count::{Ledger, Steps};
+
+/// The most columns of one list that a sample takes.
+const MOST: usize = 16;
+
+/// Columns that a row has and columns that it lacks.
+#[derive(Drop)]
+pub struct Sample {
+    /// Columns that the row has.
+    pub members: Vec<u32>,
+    /// Columns that the row lacks.
+    pub pivots: Vec<u32>,
+}
+
+// Columns in their order: all, and those that stand beside one of the other kind.
+#[derive(Drop)]
+struct Kind {
+    all: Vec<u32>,
+    ends: Vec<u32>,
+}
+
+/// The sample of row `k` in an order: up to 16 columns of each kind that stand beside one of the other kind, and 16 others,
+/// evenly spread. A step is counted for each column of the order.
+pub fn sample_of<L: Ledger>(
+    alloc: Global,
+    m: &Matrix,
+    k: u32,
+    order: &[u32],
+    steps: &mut Steps<L>,
+) -> Result<Sample, NoMemory>
+    requires { (1 ≤ k) × (k ≤ length m.now.rows) }
+    ensures ticks { steps.new ≤ steps.old + length order.now }
+{
+    let mut members = no_columns(alloc);
+    let mut pivots = no_columns(alloc);
+    let mut before: Option<(u32, bool)> = None;
+    for column in order {
+        let has = m.has_counted(k, *column, steps);
+        let (same, other) = if has {
+            (&mut members, &mut pivots)
+        } else {
+            (&mut pivots, &mut members)
+        };
+        same.all.push(*column)?;
+        if let Some((last, had)) = before
+            && had != has
+        {
+            other.ends.push(last)?;
+            same.ends.push(*column)?;
+        }
+        before = Some((*column, has));
+    }
+    Ok(Sample {
+        members: thinned(alloc, &members)?,
+        pivots: thinned(alloc, &pivots)?,
+    })
+}
+
+// No columns of a kind.
+fn no_columns(alloc: Global) -> Kind {
+    Kind {
+        all: Vec::new(alloc),
+        ends: Vec::new(alloc),
+    }
+}
+
+// A few columns of a kind.
+fn thinned(alloc: Global, kind: &Kind) -> Result<Vec<u32>, NoMemory> {
+    let mut few = Vec::new(alloc);
+    for column in kind.ends.iter().step_by(kind.ends.len() / MOST + 1) {
+        few.push(*column)?;
+    }
+    for column in kind.all.iter().step_by(kind.all.len() / MOST + 1) {
+        few.push(*column)?;
+    }
+    Ok(few)
+}

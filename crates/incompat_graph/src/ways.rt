@@ -1,0 +1,151 @@
+// Ways along the open gaps of an order to the pair at which they all end.
+ghost use Rattle.std.specs.Prelude.{◌≡◌, ◌+◌, ◌<◌, ◌≤◌, length, IfSome};
+
+use open_gaps::OpenGaps;
+use row_model::{Line, Matrix, NoMemory, Pair, Why, is_pair};
+use std::alloc::Global;
+use step_count::{Ledger, Steps};
+
+/// A matrix, the gaps that its first rows leave open in an order, and the position of each column in the order.
+#[derive(Clone, Copy)]
+pub struct Front<'a> {
+    /// The matrix.
+    pub m: &'a Matrix,
+    /// The gaps.
+    pub gaps: &'a OpenGaps,
+    /// The positions, which count from 1.
+    pub positions: &'a [u32],
+}
+
+/// A pair on a way, and the row by which the way comes to it.
+#[derive(Clone, Copy, Debug, PartialEq, Eq)]
+pub struct Stop {
+    /// The pair.
+    pub pair: Pair,
+    /// The row; 0 where the way begins.
+    pub row: u32,
+}
+
+// The columns of a row that stand first and last in the order.
+#[derive(Clone, Copy, Debug, PartialEq, Eq)]
+struct Ends {
+    first: u32,
+    last: u32,
+}
+
+impl Front<'_> {
+    /// The position of a column, or 0 where there is no such column.
+    pub fn position(&self, column: u32) -> u32 {
+        if column == 0 {
+            return 0;
+        }
+        self.positions
+            .get(column as usize - 1)
+            .copied()
+            .unwrap_or(0)
+    }
+}
+
+/// The pair at which each way from a pair ends, the first column of which stands before the second. A way leads from (a,b) to
+/// the first column of a row that has a and lacks b, in place of a, or to the last column of a row that has b and lacks a, in
+/// place of b. It ends early where no steps are left.
+pub fn end_of<L: Ledger>(front: &Front, v: Pair, left: &mut u64, steps: &mut Steps<L>) -> Pair
+    requires { length front.now.gaps.now.order ≡ front.now.m.now.columns }
+    ensures ticks { steps.new + left.new ≤ steps.old + left.old }
+{
+    let mut at = v;
+    while let Some(stop) = next_stop(front, at, left, steps) {
+        at = stop.pair;
+    }
+    at
+}
+
+/// The pairs of a way, from the first to the one at which it ends.
+pub fn way_from<L: Ledger>(
+    alloc: Global,
+    front: &Front,
+    v: Pair,
+    left: &mut u64,
+    steps: &mut Steps<L>,
+) -> Result<Vec<Stop>, NoMemory>
+    requires { length front.now.gaps.now.order ≡ front.now.m.now.columns }
+    ensures ticks { steps.new + left.new ≤ steps.old + left.old }
+{
+    let mut way = Vec::new(alloc);
+    way.push(Stop { pair: v, row: 0 })?;
+    let mut at = v;
+    while let Some(stop) = next_stop(front, at, left, steps) {
+        way.push(stop)?;
+        at = stop.pair;
+    }
+    Ok(way)
+}
+
+// The pair after a pair on a way.
+fn next_stop<L: Ledger>(
+    front: &Front,
+    v: Pair,
+    left: &mut u64,
+    steps: &mut Steps<L>,
+) -> Option<Stop>
+    requires { length front.now.gaps.now.order ≡ front.now.m.now.columns }
+    ensures ticks { steps.new + left.new ≤ steps.old + left.old }
+    ensures less { IfSome result (λ stop. left.new < left.old) }
+{
+    if !is_pair(front.m.columns(), v) {
+        return None;
+    }
+    if let Some(line) = front.gaps.before(v) {
+        let row = row_of(line)?;
+        let ends = ends_of(front, row, left, steps)?;
+        let pair = Pair {
+            a: ends.first,
+            b: v.b,
+        };
+        return Some(Stop { pair, row });
+    }
+    let line = front.gaps.behind(Pair { a: v.b, b: v.a })?;
+    let row = row_of(line)?;
+    let ends = ends_of(front, row, left, steps)?;
+    let pair = Pair {
+        a: v.a,
+        b: ends.last,
+    };
+    Some(Stop { pair, row })
+}
+
+// The row that is the line's reason.
+fn row_of(line: Line) -> Option<u32> {
+    match line.why {
+        Why::Flip => None,
+        Why::Row(row) => Some(row),
+    }
+}
+
+// The ends of a row, if there is such a row and it can be read in the steps that are left.
+fn ends_of<L: Ledger>(front: &Front, row: u32, left: &mut u64, steps: &mut Steps<L>) -> Option<Ends>
+    ensures ticks { steps.new + left.new ≤ steps.old + left.old }
+    ensures less { IfSome result (λ ends. left.new < left.old) }
+{
+    if row == 0 || row > front.m.rows() {
+        return None;
+    }
+    let columns = front.m.row(row);
+    *left = left.checked_sub(columns.len() as u64 + 1)?;
+    let mut ends = Ends { first: 0, last: 0 };
+    let mut low = u32::MAX;
+    let mut high = 0;
+    for column in columns {
+        steps.tick();
+        let position = front.position(*column);
+        if position < low {
+            low = position;
+            ends.first = *column;
+        }
+        if position > high {
+            high = position;
+            ends.last = *column;
+        }
+    }
+    Some(ends)
+}
