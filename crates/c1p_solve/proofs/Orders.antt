@@ -23,6 +23,7 @@ pub tied_orders : (m : RowList) (t : PqTree) → column_count t ≡ m.columns �
 tied_orders m t e canonical tied = record {
   columns = e;
   canonical = canonical;
+  tied = tied;
   orders = tied_law m.columns m.rows (outline t) (subst (λ (n : ℕ). IsOrder n (leaves (outline t))) e t.proper.1) tied;
 }
 

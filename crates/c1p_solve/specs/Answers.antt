@@ -12,10 +12,11 @@ use Rattle.tied_law.specs.Tied.{IsTied}
 use Rattle.c1p_solve.specs.declared.solver.Solved.{Solved}
 use Rattle.c1p_solve.specs.declared.solver.Solved.TheVariants.{Yes, No}
 
--- the tree is canonical, and its frontiers are exactly the valid orders of the matrix
+-- the tree is canonical and tied to all rows of the matrix, and its frontiers are exactly the valid orders
 pub record HasAllOrders (m : RowList) (t : PqTree) : Type 0 where
   pub columns : column_count t ≡ m.columns
   pub canonical : IsCanonical (outline t)
+  pub tied : IsTied m.columns m.rows (outline t)
   pub orders : (o : List ℕ) → IsFrontier (outline t) o ↔ IsValidOrder m.columns m.rows o
 
 -- yes with the tree of all valid orders, or no with an odd cycle, where there is no valid order

@@ -2,12 +2,14 @@
 ghost use Rattle.std.specs.Prelude.{◌≡◌, IfOk};
 ghost use Rattle.arena_model.specs.NamedTree.{outline_at};
 ghost use Rattle.c1p_solve.specs.Answers.{IsAnswer, LeavesTree};
+ghost use Rattle.c1p_solve.specs.Totals.{IsTotal};
 
 use crate::solver::{Solved, solve};
 use row_model::{Matrix, NoMemory};
 use row_reduce::ArenaReducer;
 use std::alloc::Global;
 use step_count::{Ledger, Steps};
+use total_work::weight_law;
 
 /// The reducer by which matrices are solved.
 pub type Chosen = ArenaReducer;
@@ -24,6 +26,10 @@ pub struct Answered {
 
 /// Solves a matrix.
 ///
+/// With c columns, and of the rows up to the first that leaves no valid order, or all rows, it takes at most 1024 steps for each
+/// column, row and one. Where there is no valid order it takes at most 8c(f + 1) steps more, f being the ones of these rows, to
+/// find the odd cycle.
+///
 /// # Errors
 ///
 /// `NoMemory`.
@@ -35,7 +41,9 @@ pub fn answer<L: Ledger>(
     ensures solved { IfOk result (λ a. IsAnswer m.now a.solved) }
     ensures reducer { IfOk result (λ a. LeavesTree m.now (outline_at a.reducer) a.solved) }
     ensures columns { IfOk result (λ a. a.reducer.columns ≡ m.now.columns) }
+    ensures total { IfOk result (λ a. IsTotal m.now (outline_at a.reducer) steps.old steps.new a.solved) }
 {
+    weight_law();
     let mut reducer = Chosen::new(alloc, m.columns())?;
     let solved = solve(alloc, &mut reducer, m, steps)?;
     Ok(Answered { solved, reducer })

@@ -1,5 +1,6 @@
 // A matrix that grows by the rows with which it keeps a valid order.
 ghost use Rattle.std.specs.Prelude.{◌≡◌, ◌≢◌, ◌<◌, ◌-◌, IfOk, OnErr, length, take};
+ghost use Rattle.row_model.specs.Graph.{row_at};
 ghost use Rattle.row_model.specs.Rows.{IsRow};
 ghost use Rattle.column_order.specs.Orders.{HasValidOrder};
 ghost use Rattle.pq_tree.specs.PqTree.{outline};
@@ -8,6 +9,7 @@ ghost use Rattle.arena_model.specs.NamedTree.{outline_at};
 ghost use Rattle.c1p_solve.specs.Answers.{HasAllOrders};
 ghost use Rattle.c1p_solve.specs.Sessions.{IsSession, with_row};
 ghost use Rattle.c1p_solve.specs.Taking.{IsStart, IsDecision, StandsAfter};
+ghost use Rattle.c1p_solve.specs.SessionTotals.{IsStartTotal, IsRowTotal};
 
 use crate::chosen::Chosen;
 use crate::solver::{conflict, reduce_all};
@@ -18,6 +20,7 @@ use row_model::{Matrix, NoMemory, ROW_BOUND};
 use std::alloc::Global;
 use std::marker::Model;
 use step_count::{Ledger, Steps};
+use total_work::weight_law;
 
 /// A matrix that has a valid order, and the reducer whose tree stands for all its valid orders. Further rows are taken as
 /// long as they leave one.
@@ -63,7 +66,8 @@ pub enum Taken {
 }
 
 impl Session {
-    /// A session of this matrix, which allocates by `alloc`, or an odd cycle where the matrix has no valid order.
+    /// A session of this matrix, which allocates by `alloc`, or an odd cycle where the matrix has no valid order. It takes as many
+    /// steps as [`answer`](crate::answer).
     ///
     /// # Errors
     ///
@@ -73,8 +77,10 @@ impl Session {
         m: Matrix,
         steps: &mut Steps<L>,
     ) -> Result<Started, NoMemory>
-        ensures { IfOk result (IsStart m) }
+        ensures start { IfOk result (IsStart m) }
+        ensures total { IfOk result (IsStartTotal m steps.old steps.new) }
     {
+        weight_law();
         let mut reducer = Chosen::new(alloc, m.columns())?;
         match reduce_all(alloc, &mut reducer, &m, steps)? {
             None => Ok(Started::Ok(Session {
@@ -88,6 +94,10 @@ impl Session {
 
     /// Takes a further row where the session's rows have a valid order with it, and refuses it where they have none. A
     /// refusal comes with an odd cycle exactly where `explain` asks for one.
+    ///
+    /// The start and all rows that are taken together take at most 1024 steps for each column, row and one. A refusal takes at most
+    /// 256 steps for each node of the tree that the row meets, and 256 more; and at most 8c(f + 1) more for a cycle, with c columns
+    /// and f ones in the session's rows and this one.
     ///
     /// # Errors
     ///
@@ -104,6 +114,7 @@ impl Session {
         ensures session { IfOk result (StandsAfter self.old row.now self.new) }
         ensures kept { IsSession self.new }
         ensures err { OnErr result (self.new ≡ self.old) }
+        ensures total { IfOk result (IsRowTotal self.old.matrix.columns (with_row self.old.matrix row.now).rows row.now self.old.tree self.new.tree steps.old steps.new) }
     {
         self.matrix.push_row(row)?;
         let taken = reduce_last(self.alloc, &mut self.reducer, &self.matrix, explain, steps);
@@ -146,23 +157,24 @@ impl Session {
 
 // Reduces the tree of the rows before the last one by the last one. Where it is refused, an odd cycle is looked for if one
 // is asked for.
-fn reduce_last<R: Reducer, L: Ledger>(
+fn reduce_last<L: Ledger>(
     alloc: Global,
-    reducer: &mut R,
+    reducer: &mut Chosen,
     m: &Matrix,
     explain: bool,
     steps: &mut Steps<L>,
 ) -> Result<Taken, NoMemory>
     requires some { 0 < length m.now.rows }
-    requires columns { R.columns reducer.old ≡ m.now.columns }
-    requires tied { IsTied m.now.columns (take (length m.now.rows - 1) m.now.rows) (R.outline reducer.old) }
+    requires columns { reducer.old.columns ≡ m.now.columns }
+    requires tied { IsTied m.now.columns (take (length m.now.rows - 1) m.now.rows) (outline_at reducer.old) }
     ensures decision { IfOk result (IsDecision m.now explain) }
-    ensures tied { IfOk result (λ t. t ≡ Taken.Ok → IsTied m.now.columns m.now.rows (R.outline reducer.new)) }
-    ensures columns { R.columns reducer.new ≡ R.columns reducer.old }
-    ensures unchanged { IfOk result (λ t. t ≢ Taken.Ok → R.outline reducer.new ≡ R.outline reducer.old) }
-    ensures err { OnErr result (R.outline reducer.new ≡ R.outline reducer.old) }
+    ensures tied { IfOk result (λ t. t ≡ Taken.Ok → IsTied m.now.columns m.now.rows (outline_at reducer.new)) }
+    ensures columns { reducer.new.columns ≡ reducer.old.columns }
+    ensures unchanged { IfOk result (λ t. t ≢ Taken.Ok → outline_at reducer.new ≡ outline_at reducer.old) }
+    ensures err { OnErr result (outline_at reducer.new ≡ outline_at reducer.old) }
+    ensures total { IfOk result (IsRowTotal m.now.columns m.now.rows (row_at m.now.rows (length m.now.rows)) (outline_at reducer.old) (outline_at reducer.new) steps.old steps.new) }
 {
-    match reducer.reduce(m, m.rows(), steps)? {
+    match reducer.reduce_row(m, m.rows(), steps) {
         Step::Taken => Ok(Taken::Ok),
         Step::Refused if explain => {
             let cycle = conflict(alloc, reducer, m, m.rows(), steps)?;

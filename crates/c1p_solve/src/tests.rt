@@ -144,6 +144,47 @@ fn a_third_row_leaves_an_odd_cycle(rt: HostRuntime) -> Result<(), Fail> {
     Ok(())
 }
 
+// The rows 1 2, 2 3, 3 4 and 1 4 over thirty columns.
+fn ring_of_four(alloc: Global) -> Result<Matrix, NoMemory> {
+    let mut m = Matrix::new(alloc, 30)?;
+    m.push_row(&[1, 2])?;
+    m.push_row(&[2, 3])?;
+    m.push_row(&[3, 4])?;
+    m.push_row(&[1, 4])?;
+    Ok(m)
+}
+
+// The rows 1 2, 3 4, 5 6 and 2 4 6 over sixty columns, whose refusal rests on three columns that the last row lacks.
+fn three_blocks(alloc: Global) -> Result<Matrix, NoMemory> {
+    let mut m = Matrix::new(alloc, 60)?;
+    m.push_row(&[1, 2])?;
+    m.push_row(&[3, 4])?;
+    m.push_row(&[5, 6])?;
+    m.push_row(&[2, 4, 6])?;
+    Ok(m)
+}
+
+// The lines are a closed walk of odd length, and no pair comes twice.
+fn assert_cycle(rt: &impl Abort, m: &Matrix, lines: &[Line]) {
+    assert_walk(rt, m, lines);
+    for i in 0..lines.len() {
+        for k in 0..i {
+            assert!(rt; lines[k].pair != lines[i].pair);
+        }
+    }
+}
+
+#[test]
+fn odd_cycles_among_many_columns(rt: HostRuntime) -> Result<(), Fail> {
+    for m in [ring_of_four(rt.alloc())?, three_blocks(rt.alloc())?] {
+        match solved(rt.alloc(), &m)? {
+            Solved::Yes(_) => assert!(rt; false),
+            Solved::No(cycle) => assert_cycle(&rt, &m, cycle.lines()),
+        }
+    }
+    Ok(())
+}
+
 // Whether a session of the row 110 takes 011, refuses 101 with and without a cycle, and takes 111 then.
 fn goes_on(session: &mut Session) -> Result<bool, NoMemory> {
     let taken = take(session, &[2, 3], true)?;
@@ -243,7 +284,7 @@ fn assert_alike(rt: &impl Abort, alloc: Global, m: &Matrix) -> Result<(), NoMemo
         (None, Solved::Yes(_)) => {}
         (Some(walk), Solved::No(cycle)) => {
             assert_walk(rt, m, walk.lines());
-            assert_walk(rt, m, cycle.lines());
+            assert_cycle(rt, m, cycle.lines());
         }
         _ => assert!(rt; false),
     }

@@ -1,10 +1,13 @@
-use Rattle.std.proofs.Common.{◌≡◌, ◌+◌, ◌-◌, take, arith}
+use Rattle.std.proofs.Common.{◌≡◌, ◌+◌, ◌-◌, ◌≤◌, length, take, arith}
 use Rattle.std.proofs.lemmas.List.{take_all}
+use Rattle.pq_tree.specs.Amortised.{weight}
 use Rattle.c1p_solve.proofs.Orders.{some_order, valid_front}
+use Rattle.row_model.specs.Graph.{row_at}
+use Rattle.c1p_solve.proofs.Sums.{all_taken, one_refused, refused_cost}
 use Rattle.c1p_solve.proofs.solver.reduce_all.Goals as goal
 
 pub loop-taken-init : goal.loop-taken-init
-loop-taken-init g c = record { columns = c.requires.columns; tied = c.requires.tied; order = some_order c.args.m.now.columns }
+loop-taken-init g c = record { columns = c.requires.columns; tied = c.requires.tied; order = some_order c.args.m.now.columns; paid = λ f h. omega (arith, h) }
 
 pub returns-clause-reduction : goal.returns-clause-reduction
 returns-clause-reduction g c =
@@ -15,7 +18,7 @@ pub returns-in-Refused-clause-reduction : goal.returns-in-Refused-clause-reducti
 returns-in-Refused-clause-reduction g c =
     let before : c.loop-taken.taken + 1 - 1 ≡ c.loop-taken.taken = omega arith in
     let refused = c.in_ok-reduce.ensures.refused c.in-Refused.is in (
-      c.in_ok-conflict-in-Refused.ensures,
+      c.in_ok-conflict-in-Refused.ensures.cycle,
       λ h. refused (valid_front c.args.m.now.columns (c.loop-taken.taken + 1) c.args.m.now.rows h),
       record {
         k = c.loop-taken.taken + 1;
@@ -26,3 +29,25 @@ returns-in-Refused-clause-reduction g c =
         refused = refused;
       },
     )
+
+pub returns-clause-total : goal.returns-clause-total
+returns-clause-total g c =
+    λ f h. all_taken c.args.m.now.columns c.args.m.now.rows c.loop-taken.taken (weight (g.R.Reducer.outline c.loop-taken.reducer)) c.args.steps.now c.loop-taken.steps
+    (omega arith) (omega arith) (c.loop-taken.invariant.paid f h)
+
+pub returns-in-Refused-clause-total : goal.returns-in-Refused-clause-total
+returns-in-Refused-clause-total g c =
+    let before : c.loop-taken.taken + 1 - 1 ≡ c.loop-taken.taken = omega arith in
+    let inside : c.loop-taken.taken + 1 ≤ length c.args.m.now.rows = omega (arith, c.loop-taken-test.true, c.loop-taken.auto.taken-end, c.rows-taken-end.ensures) in
+    λ f h. record {
+      k = c.loop-taken.taken + 1;
+      from = omega arith;
+      to = inside;
+      before = rw before c.loop-taken.invariant.order;
+      refused = c.in_ok-reduce.ensures.refused c.in-Refused.is;
+      total = one_refused c.args.m.now.columns c.args.m.now.rows c.loop-taken.taken (weight (g.R.Reducer.outline c.loop-taken.reducer)) c.args.steps.now c.loop-taken.steps
+          c.reduce.new.steps c.conflict.new.steps (omega (arith, inside)) (c.loop-taken.invariant.paid f h)
+          (refused_cost (row_at c.args.m.now.rows (c.loop-taken.taken + 1)) (g.R.Reducer.outline c.loop-taken.reducer) (g.R.Reducer.outline c.reduce.new.self) c.loop-taken.steps c.reduce.new.steps
+          c.in_ok-reduce.field-0 c.in-Refused.is (c.in_ok-reduce.ensures.frugal f))
+          c.conflict.ensures.ticks;
+    }
