@@ -60,7 +60,7 @@ push_gaps_all old all g s d ts i l e = e ∙ ap (λ x. old ++ gaps_of g s d (for
 
 -- trees have leaves
 mutual
-  long : (t : Outline) → HasArities t → 1 ≤ length (leaves t)
+  pub long : (t : Outline) → HasArities t → 1 ≤ length (leaves t)
   long (leaf a) h = omega arith
   long (p_node ts) h = omega (arith, longs ts h.1, h.0)
   long (q_node ts) h = omega (arith, longs ts h.1, h.0)

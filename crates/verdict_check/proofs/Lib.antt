@@ -26,3 +26,9 @@ pub mod GapPush
 pub mod GapNew
 pub mod GapCut
 pub mod SameLists
+pub mod Places
+pub mod Alike
+pub mod CompleteNodes
+pub mod Looks
+pub mod Children
+pub mod Together

@@ -3,7 +3,11 @@ use Rattle.std.specs.Prelude.{◌≡◌, ℕ, List, All}
 use Rattle.column_order.specs.Orders.{Keeps}
 use Rattle.row_model.specs.declared.graph.Line.{Line}
 use Rattle.row_model.specs.Cycles.{IsOddCycle}
-use Rattle.pq_tree.specs.Outline.{IsFrontier}
+use Rattle.row_model.specs.Rows.{RowList}
+use Rattle.pq_tree.specs.Outline.{Outline, IsFrontier}
+use Rattle.tied_law.specs.Tied.{IsTied}
+use Rattle.verdict_text.specs.declared.verdict.Version.{Version}
+use Rattle.verdict_text.specs.declared.verdict.Version.TheVariants.{One, Two}
 use Rattle.verdict_text.specs.Grammar.{IsVerdict}
 use Rattle.verdict_text.specs.Verdict.{SideValue, YesValue, yes_claim, no_claim, VerdictValue}
 use Rattle.instance_model.specs.Instance.{InstanceValue, instance_kind, instance_columns, IsSideOf, IsTextbookOrder, derived_matrix, IsWellFormed}
@@ -15,9 +19,14 @@ use Rattle.verdict_check.specs.Truth.{IsTrueAdded, IsTrueVerdict}
 abbrev pub TrueLaw : Type 0
 TrueLaw = (i : InstanceValue) (v : VerdictValue) → IsWellFormed i → IsVerdict v → IsAccepted i v → IsTrueVerdict i v
 
--- the order is a textbook order of the side, and each frontier of the tree keeps every derived row
-abbrev pub IsSolvedSide : InstanceValue → ℕ → SideValue → Type 0
-IsSolvedSide i s side = IsTextbookOrder i s side.order × ((o : List ℕ) → IsFrontier side.tree o → All (Keeps o) (derived_matrix i s).rows)
+-- each frontier of the tree keeps every row of the matrix, and in version 2 the tree is tied to the rows
+abbrev pub FitsRows : Version → RowList → Outline → Type 0
+FitsRows One m t = (o : List ℕ) → IsFrontier t o → All (Keeps o) m.rows
+FitsRows Two m t = IsTied m.columns m.rows t
+
+-- the order is a textbook order of the side, and the tree fits the derived rows
+abbrev pub IsSolvedSide : Version → InstanceValue → ℕ → SideValue → Type 0
+IsSolvedSide version i s side = IsTextbookOrder i s side.order × FitsRows version (derived_matrix i s) side.tree
 
 -- a yes with such sides, of which what the kind adds is true, is accepted
 abbrev pub YesLaw : Type 0
@@ -26,7 +35,7 @@ YesLaw =
     v.kind ≡ instance_kind i →
     v.columns ≡ instance_columns i →
     v.claim ≡ yes_claim value →
-    ((s : ℕ) → IsSideOf i s → HasSide value s (IsSolvedSide i s)) →
+    ((s : ℕ) → IsSideOf i s → HasSide value s (IsSolvedSide v.version i s)) →
     IsTrueAdded i value →
     IsAccepted i v
 

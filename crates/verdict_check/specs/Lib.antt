@@ -8,3 +8,4 @@ pub mod Holds
 pub mod HoldsWalk
 pub mod Found
 pub mod Gaps
+pub mod Complete

@@ -4,6 +4,8 @@ use Rattle.row_model.specs.Rows.{RowList}
 use Rattle.row_model.specs.declared.kind.Kind.{Kind}
 use Rattle.row_model.specs.declared.kind.Kind.TheVariants.{Clones}
 use Rattle.verdict_text.specs.Verdict.{Claim, yes_claim, no_claim, VerdictValue}
+use Rattle.verdict_text.specs.declared.verdict.Version.{Version}
+use Rattle.verdict_text.specs.declared.verdict.Version.TheVariants.{One, Two}
 use Rattle.instance_model.specs.Instance.{InstanceValue, plain, circular, convex, doubly, proper, robinson, instance_columns, derived_matrix}
 use Rattle.verdict_check.specs.declared.outcome.Reason.{Reason}
 use Rattle.verdict_check.specs.declared.outcome.Reason.TheVariants as reason
@@ -13,9 +15,14 @@ abbrev pub numbers : ℕ → List ℕ
 numbers zero = []
 numbers (suc n) = numbers n ++ suc n ∷ []
 
--- of side s of a yes, with its derived matrix: the order, and the tree by each row
-abbrev pub side_tests : ℕ → RowList → List Reason
-side_tests s m = reason.Order s ∷ map (reason.Tree s) (numbers (length m.rows))
+-- of side s of a yes of version 2: whether its tree stands for every order
+abbrev pub complete_tests : Version → ℕ → List Reason
+complete_tests One s = []
+complete_tests Two s = reason.Complete s ∷ []
+
+-- of side s of a yes, with its derived matrix: the order, the tree by each row, and in version 2 the tree by all rows
+abbrev pub side_tests : Version → ℕ → RowList → List Reason
+side_tests version s m = reason.Order s ∷ (map (reason.Tree s) (numbers (length m.rows)) ++ complete_tests version s)
 
 -- of what a kind of matrix adds to a yes: clones add their places and their contigs, and no other kind anything
 abbrev pub kind_tests : Kind → List Reason
@@ -32,22 +39,22 @@ added_tests (proper graph) = reason.Intervals ∷ []
 added_tests (robinson distances) = []
 
 -- of the sides of a yes, one after another
-abbrev pub sides_tests : InstanceValue → List Reason
-sides_tests i = flat_map (λ s. side_tests s (derived_matrix i s)) (numbers (length (instance_columns i)))
+abbrev pub sides_tests : Version → InstanceValue → List Reason
+sides_tests version i = flat_map (λ s. side_tests version s (derived_matrix i s)) (numbers (length (instance_columns i)))
 
 -- of a yes: its sides, and then what the kind adds
-abbrev pub yes_tests : InstanceValue → List Reason
-yes_tests i = sides_tests i ++ added_tests i
+abbrev pub yes_tests : Version → InstanceValue → List Reason
+yes_tests version i = sides_tests version i ++ added_tests i
 
 -- of a no with a cycle of so many lines: their number, then the pair of each, then that each pair is a new one, then what each line joins
 abbrev pub no_tests : ℕ → List Reason
 no_tests count = reason.Length count ∷ (map reason.Pair (numbers count) ++ (map reason.Repeat (numbers count) ++ map reason.Join (numbers count)))
 
--- of what a verdict claims
-abbrev pub claim_tests : InstanceValue → Claim → List Reason
-claim_tests i (yes_claim value) = yes_tests i
-claim_tests i (no_claim side lines) = no_tests (length lines)
+-- of what a verdict of a version claims
+abbrev pub claim_tests : Version → InstanceValue → Claim → List Reason
+claim_tests version i (yes_claim value) = yes_tests version i
+claim_tests version i (no_claim side lines) = no_tests (length lines)
 
 -- of a verdict: its kind, its columns, and what it claims
 abbrev pub tests : InstanceValue → VerdictValue → List Reason
-tests i v = reason.Kind ∷ reason.Columns ∷ claim_tests i v.claim
+tests i v = reason.Kind ∷ reason.Columns ∷ claim_tests v.version i v.claim

@@ -1,17 +1,30 @@
 -- When a verdict is true of an instance.
 use Rattle.std.specs.Prelude.{ℕ, ◌-◌, List, slice_get, IsSomeAnd}
-use Rattle.pq_tree.specs.Outline.{IsFrontier}
+use Rattle.pq_tree.specs.Outline.{Outline, IsFrontier}
 use Rattle.verdict_text.specs.Verdict.{SideValue, YesValue, Claim, yes_claim, no_claim, VerdictValue}
+use Rattle.verdict_text.specs.declared.verdict.Version.{Version}
+use Rattle.verdict_text.specs.declared.verdict.Version.TheVariants.{One, Two}
 use Rattle.row_model.specs.declared.kind.Kind.{Kind}
 use Rattle.row_model.specs.declared.kind.Kind.TheVariants.{Clones}
 use Rattle.clone_map.specs.Places.{ArePlaces}
 use Rattle.clone_map.specs.Contigs.{AreContigs}
+use Rattle.circular_ones.specs.Circular.{IsTurned}
 use Rattle.proper_interval.specs.Models.{IsProperModel}
 use Rattle.instance_model.specs.Instance.{InstanceValue, plain, circular, convex, doubly, proper, robinson, IsSideOf, IsTextbookOrder, HasTextbookOrder}
 
 -- the order is a textbook order of the side, and so is each frontier of the tree
-abbrev pub IsTrueSide : InstanceValue → ℕ → SideValue → Type 0
-IsTrueSide i s side = IsTextbookOrder i s side.order × ((o : List ℕ) → IsFrontier side.tree o → IsTextbookOrder i s o)
+abbrev pub ShowsOrders : InstanceValue → ℕ → SideValue → Type 0
+ShowsOrders i s side = IsTextbookOrder i s side.order × ((o : List ℕ) → IsFrontier side.tree o → IsTextbookOrder i s o)
+
+-- each textbook order of the side is a frontier of the tree; of a circular order its rotation that begins with column 1 is
+abbrev pub HasEveryOrder : InstanceValue → ℕ → Outline → Type 0
+HasEveryOrder (circular m) s t = (o turned : List ℕ) → IsTurned o turned → IsTextbookOrder (circular m) s o → IsFrontier t turned
+HasEveryOrder i s t = (o : List ℕ) → IsTextbookOrder i s o → IsFrontier t o
+
+-- the side shows orders, and in version 2 its tree has every order
+abbrev pub IsTrueSide : Version → InstanceValue → ℕ → SideValue → Type 0
+IsTrueSide One i s side = ShowsOrders i s side
+IsTrueSide Two i s side = ShowsOrders i s side × HasEveryOrder i s side.tree
 
 -- what clones add is where they stand, and what they make up, in the order; no other kind of matrix adds anything
 abbrev pub IsTrueAddedTo : Kind → List (List ℕ) → YesValue → SideValue → Type 0
@@ -28,15 +41,15 @@ IsTrueAdded (proper graph) value = IsProperModel graph value.added.intervals
 IsTrueAdded (robinson distances) value = Unit {0}
 
 -- each side of the instance is true, and so is what the kind adds
-pub record IsTrueYes (i : InstanceValue) (value : YesValue) : Type 0 where
-  pub sides : (s : ℕ) → IsSideOf i s → IsSomeAnd (slice_get value.sides (s - 1)) (IsTrueSide i s)
+pub record IsTrueYes (version : Version) (i : InstanceValue) (value : YesValue) : Type 0 where
+  pub sides : (s : ℕ) → IsSideOf i s → IsSomeAnd (slice_get value.sides (s - 1)) (IsTrueSide version i s)
   pub added : IsTrueAdded i value
 
 -- a yes is true by its sides, and a no where some side has no textbook order
-abbrev pub IsTrueClaim : InstanceValue → Claim → Type 0
-IsTrueClaim i (yes_claim value) = IsTrueYes i value
-IsTrueClaim i (no_claim side lines) = HasTextbookOrder i → ⊥
+abbrev pub IsTrueClaim : Version → InstanceValue → Claim → Type 0
+IsTrueClaim version i (yes_claim value) = IsTrueYes version i value
+IsTrueClaim version i (no_claim side lines) = HasTextbookOrder i → ⊥
 
 -- a verdict is true where its claim is
 abbrev pub IsTrueVerdict : InstanceValue → VerdictValue → Type 0
-IsTrueVerdict i v = IsTrueClaim i v.claim
+IsTrueVerdict i v = IsTrueClaim v.version i v.claim

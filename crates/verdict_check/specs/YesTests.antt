@@ -3,6 +3,7 @@ use Rattle.std.specs.Prelude.{ℕ, ◌-◌, List, slice_get, IsSomeAnd}
 use Rattle.row_model.specs.Graph.{row_at}
 use Rattle.column_order.specs.Orders.{Keeps}
 use Rattle.pq_tree.specs.Outline.{Outline, IsFrontier}
+use Rattle.tied_law.specs.Tied.{IsTied}
 use Rattle.verdict_text.specs.Verdict.{SideValue, YesValue}
 use Rattle.clone_map.specs.Places.{ArePlaces}
 use Rattle.clone_map.specs.Contigs.{AreContigs}
@@ -27,6 +28,10 @@ PassesOrder i value s = HasSide value s (λ side. IsTextbookOrder i s side.order
 abbrev pub PassesTree : InstanceValue → YesValue → ℕ → ℕ → Type 0
 PassesTree i value s k = HasSide value s (λ side. AllKeep side.tree (row_at (derived_matrix i s).rows k))
 
+-- `complete S`: the tree of side S is tied to all derived rows
+abbrev pub PassesComplete : InstanceValue → YesValue → ℕ → Type 0
+PassesComplete i value s = HasSide value s (λ side. IsTied (derived_matrix i s).columns (derived_matrix i s).rows side.tree)
+
 -- `intervals`: the intervals are a proper model of the graph; nothing else has such a model
 abbrev pub PassesIntervals : InstanceValue → YesValue → Type 0
 PassesIntervals (proper graph) value = IsProperModel graph value.added.intervals
@@ -46,6 +51,7 @@ PassesContigs other value = ⊥
 abbrev pub PassesYes : InstanceValue → YesValue → Reason → Type 0
 PassesYes i value (reason.Order s) = PassesOrder i value s
 PassesYes i value (reason.Tree s k) = PassesTree i value s k
+PassesYes i value (reason.Complete s) = PassesComplete i value s
 PassesYes i value reason.Intervals = PassesIntervals i value
 PassesYes i value reason.Places = PassesPlaces i value
 PassesYes i value reason.Contigs = PassesContigs i value

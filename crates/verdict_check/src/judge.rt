@@ -18,7 +18,7 @@ use crate::side::sides_fault;
 use instance_model::Instance;
 use row_model::{Kind, NoMemory};
 use std::alloc::Global;
-use verdict_text::{Columns, NoPart, Part, Verdict, YesPart};
+use verdict_text::{Columns, NoPart, Part, Verdict, Version, YesPart};
 
 /// The first test that the verdict fails.
 pub fn first_failing(
@@ -37,7 +37,7 @@ pub fn first_failing(
         return Ok(Some(Reason::Columns));
     }
     match &v.part {
-        Part::Yes(yes) => yes_fault(alloc, instance, yes),
+        Part::Yes(yes) => yes_fault(alloc, v.version, instance, yes),
         Part::No(no) => no_fault(alloc, instance, no),
     }
 }
@@ -63,13 +63,18 @@ fn has_columns(instance: &Instance, columns: Columns) -> bool
 }
 
 // The first test that a yes of the instance's kind and columns fails.
-fn yes_fault(alloc: Global, instance: &Instance, yes: &YesPart) -> Result<Option<Reason>, NoMemory>
+fn yes_fault(
+    alloc: Global,
+    version: Version,
+    instance: &Instance,
+    yes: &YesPart,
+) -> Result<Option<Reason>, NoMemory>
     requires instance { IsInstance (instance_value instance.now) }
     requires formed { IsWellFormed (instance_value instance.now) }
     requires claim { IsClaim (instance_kind (instance_value instance.now)) (instance_columns (instance_value instance.now)) (yes_claim (yes_value yes.now)) }
-    ensures { IfOk result (Finds (PassesYes (instance_value instance.now) (yes_value yes.now)) (yes_tests (instance_value instance.now))) }
+    ensures { IfOk result (Finds (PassesYes (instance_value instance.now) (yes_value yes.now)) (yes_tests version (instance_value instance.now))) }
 {
-    match sides_fault(alloc, instance, yes)? {
+    match sides_fault(alloc, version, instance, yes)? {
         Some(reason) => Ok(Some(reason)),
         None => added_fault(alloc, instance, yes),
     }

@@ -1,6 +1,6 @@
 //! The judge of verdicts: whether a verdict is to be believed of an instance.
 //!
-//! The judge neither reduces nor searches. It goes through these tests in their order, and gives the first that fails as
+//! The judge neither reduces nor searches for an order or a cycle. It goes through these tests in their order, and gives the first that fails as
 //! its reason.
 //!
 //! | Reason | What the test asks |
@@ -9,6 +9,7 @@
 //! | `Columns` | its numbers of columns are those of the instance, side by side |
 //! | `Order(S)` | yes: the order of side S is a textbook order of that side |
 //! | `Tree(S, K)` | yes: each frontier of the tree of side S keeps row K of the side's derived matrix; K is the least that fails |
+//! | `Complete(S)` | yes, version 2: the tree of side S is tied to all rows of the side's derived matrix |
 //! | `Intervals` | yes, `proper`: the intervals fit the graph |
 //! | `Places` | yes, `clones`: the places are those of the clones in the order |
 //! | `Contigs` | yes, `clones`: the contigs are those of the clones in the order, from left to right |
@@ -17,13 +18,16 @@
 //! | `Repeat(I)` | no: the pair of line I stands on no earlier line; I is the least that fails |
 //! | `Join(I)` | no: the reason of line I joins its pair to that of the next line, and the last line's to that of the first, in the derived matrix of the side; I is the least that fails |
 //!
-//! All nine kinds are judged. `doubly` has two sides, and `Order(1)`, `Tree(1, K)`, `Order(2)` and `Tree(2, K)` follow one another; every
-//! other kind has one side. `instance_model` says what the textbook orders and the derived matrix of each kind are. A textbook order
+//! A verdict of version 1 is judged by its own meaning, in which a tree may stand for some of the orders. What it means that a tree is tied
+//! to rows is said in `tied_law`: its frontiers are then exactly their valid orders.
+//!
+//! All nine kinds are judged. `doubly` has two sides, and `Order(1)`, `Tree(1, K)`, `Complete(1)`, `Order(2)`, `Tree(2, K)` and
+//! `Complete(2)` follow one another; every other kind has one side. `instance_model` says what the textbook orders and the derived matrix of each kind are. A textbook order
 //! is tested by the derived matrix, whose valid orders are the textbook orders; of `circular` that is the rotation of the order which
 //! begins with column 1. A tree is tested by the derived rows too, which for `circular` is stricter than to ask that each frontier
 //! be a circular order.
 //!
-//! A verdict that passes each test is true: a yes because its orders are textbook orders, a no because a closed walk of
+//! A verdict that passes each test is true: a yes because its orders are textbook orders, in version 2 all of them, a no because a closed walk of
 //! odd length in the incompatibility graph leaves no valid order (McConnell, 2004).
 #![tactic(auto)]
 
@@ -40,6 +44,7 @@ ghost use Rattle.verdict_check.specs.declared.outcome.Checked.TheVariants.{Valid
 mod added;
 mod clones;
 mod cycle;
+mod every_order;
 mod gaps;
 mod holds;
 mod judge;
@@ -48,6 +53,7 @@ mod side;
 #[cfg(test)]
 mod tests;
 
+pub use every_order::complete;
 pub use holds::{holds_law, tree_holds};
 pub use instance_model::Instance;
 use instance_model::textbook_law;
@@ -55,6 +61,7 @@ use judge::first_failing;
 pub use outcome::{Checked, Reason};
 pub use row_model::NoMemory;
 use std::alloc::Global;
+use tied_law::tied_law;
 use verdict_text::Verdict;
 
 /// Judges a verdict: valid exactly where it passes each test, else invalid with the first that fails.
@@ -78,15 +85,18 @@ pub fn check(alloc: Global, instance: &Instance, v: &Verdict) -> Result<Checked,
 
 /// A verdict that passes each test is true of the instance.
 ///
-/// The textbook orders of a yes are shown by its order and its tree. A no is shown by its cycle, since a closed walk of odd
+/// The textbook orders of a yes are shown by its order and its tree, and in version 2 that they are all of them by walks in the
+/// incompatibility graph, which tie the tree to the derived rows. A no is shown by its cycle, since a closed walk of odd
 /// length in the incompatibility graph leaves no valid order of the derived matrix (McConnell, 2004), and so no textbook order.
 pub fn true_law()
     ensures { TrueLaw }
 {
     textbook_law();
+    tied_law();
 }
 
-/// What a solver finds passes each test: textbook orders with a tree whose frontiers keep the derived rows, or an odd cycle.
+/// What a solver finds passes each test: textbook orders with a tree whose frontiers keep the derived rows, which in version 2 is tied
+/// to them, or an odd cycle.
 pub fn solved_laws()
     ensures yes { YesLaw }
     ensures no { NoLaw }

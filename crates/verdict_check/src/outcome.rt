@@ -20,6 +20,8 @@ pub enum Reason {
     Order(u8),
     /// Of the tree of this side some frontier does not keep this row of the derived matrix.
     Tree(u8, u32),
+    /// The tree of this side is not tied to the rows of the derived matrix.
+    Complete(u8),
     /// The intervals do not fit the graph.
     Intervals,
     /// The places are not those of the clones in the order.

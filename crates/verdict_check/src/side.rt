@@ -1,37 +1,42 @@
 // The tests of a yes, on the order and the tree of each side.
-ghost use Rattle.std.specs.Prelude.{◌≡◌, ◌↔◌, ◌≤◌, ℕ, length, IsTrue, IfOk};
+ghost use Rattle.std.specs.Prelude.{◌≡◌, ◌↔◌, ◌≤◌, ℕ, List, All, length, IsTrue, IfOk};
+ghost use Rattle.column_order.specs.Orders.{Keeps};
 ghost use Rattle.row_model.specs.Graph.{row_at};
+ghost use Rattle.pq_tree.specs.Outline.{IsFrontier};
 ghost use Rattle.pq_tree.specs.PqTree.{column_count, outline};
 ghost use Rattle.verdict_text.specs.Grammar.{AreSides};
 ghost use Rattle.verdict_text.specs.Value.{yes_value};
-ghost use Rattle.instance_model.specs.Instance.{instance_columns, derived_matrix, IsInstance, IsSideOf, IsTextbookOrder, IsWellFormed};
+ghost use Rattle.verdict_text.specs.Verdict.{YesValue};
+ghost use Rattle.instance_model.specs.Instance.{InstanceValue, instance_columns, derived_matrix, IsInstance, IsSideOf, IsTextbookOrder, IsWellFormed};
 ghost use Rattle.instance_model.specs.Value.{instance_value};
-ghost use Rattle.verdict_check.specs.Tests.{side_tests, sides_tests};
-ghost use Rattle.verdict_check.specs.YesTests.{AllKeep, PassesYes};
+ghost use Rattle.verdict_check.specs.Tests.{complete_tests, side_tests, sides_tests};
+ghost use Rattle.verdict_check.specs.YesTests.{AllKeep, HasSide, PassesYes};
 ghost use Rattle.verdict_check.specs.Found.{IsLeastFailing, Finds};
 
 use crate::gaps::Gaps;
 use crate::outcome::Reason;
+use bound_tree::is_complete;
 use circular_ones::{circular_law, turned};
 use instance_model::{Instance, textbook_law};
 use pq_tree::PqTree;
 use row_model::{Matrix, NoMemory, is_order};
 use std::alloc::Global;
-use verdict_text::YesPart;
+use verdict_text::{Version, YesPart};
 
 /// The first test that the sides of a yes fail, one after another.
 pub fn sides_fault(
     alloc: Global,
+    version: Version,
     instance: &Instance,
     yes: &YesPart,
 ) -> Result<Option<Reason>, NoMemory>
     requires instance { IsInstance (instance_value instance.now) }
     requires formed { IsWellFormed (instance_value instance.now) }
     requires sides { AreSides (instance_columns (instance_value instance.now)) (yes_value yes.now).sides }
-    ensures { IfOk result (Finds (PassesYes (instance_value instance.now) (yes_value yes.now)) (sides_tests (instance_value instance.now))) }
+    ensures { IfOk result (Finds (PassesYes (instance_value instance.now) (yes_value yes.now)) (sides_tests version (instance_value instance.now))) }
 {
     for before in 0..instance.sides() {
-        if let Some(reason) = side_fault(alloc, instance, before + 1, yes)? {
+        if let Some(reason) = side_fault(alloc, version, instance, before + 1, yes)? {
             return Ok(Some(reason));
         }
     }
@@ -41,6 +46,7 @@ pub fn sides_fault(
 // The first test that a side fails. The derived matrix is made once, for the order and the tree.
 fn side_fault(
     alloc: Global,
+    version: Version,
     instance: &Instance,
     side: u8,
     yes: &YesPart,
@@ -49,20 +55,22 @@ fn side_fault(
     requires formed { IsWellFormed (instance_value instance.now) }
     requires side { IsSideOf (instance_value instance.now) side }
     requires sides { AreSides (instance_columns (instance_value instance.now)) (yes_value yes.now).sides }
-    ensures { IfOk result (Finds (PassesYes (instance_value instance.now) (yes_value yes.now)) (side_tests side (derived_matrix (instance_value instance.now) side))) }
+    ensures { IfOk result (Finds (PassesYes (instance_value instance.now) (yes_value yes.now)) (side_tests version side (derived_matrix (instance_value instance.now) side))) }
 {
     match instance {
-        Instance::Plain(_, matrix) => derived_fault(alloc, instance, side, matrix, yes),
+        Instance::Plain(_, matrix) => derived_fault(alloc, version, instance, side, matrix, yes),
         _ => {
             let derived = instance.derived(alloc, side)?;
-            derived_fault(alloc, instance, side, &derived, yes)
+            derived_fault(alloc, version, instance, side, &derived, yes)
         }
     }
 }
 
-// The first test that a side with this derived matrix fails: its order, and then its tree by each row.
+// The first test that a side with this derived matrix fails: its order, then its tree by each row, and in version 2 its tree by all
+// rows.
 fn derived_fault(
     alloc: Global,
+    version: Version,
     instance: &Instance,
     side: u8,
     derived: &Matrix,
@@ -72,14 +80,37 @@ fn derived_fault(
     requires side { IsSideOf (instance_value instance.now) side }
     requires derived { derived.now ≡ derived_matrix (instance_value instance.now) side }
     requires sides { AreSides (instance_columns (instance_value instance.now)) (yes_value yes.now).sides }
-    ensures { IfOk result (Finds (PassesYes (instance_value instance.now) (yes_value yes.now)) (side_tests side (derived_matrix (instance_value instance.now) side))) }
+    ensures { IfOk result (Finds (PassesYes (instance_value instance.now) (yes_value yes.now)) (side_tests version side (derived_matrix (instance_value instance.now) side))) }
 {
     if !is_textbook_order(alloc, instance, derived, yes.order(side))? {
         return Ok(Some(Reason::Order(side)));
     }
-    match first_broken_row(alloc, yes.tree(side), derived)? {
+    let tree = yes.tree(side);
+    match first_broken_row(alloc, tree, derived)? {
         Some(k) => Ok(Some(Reason::Tree(side, k))),
-        None => Ok(None),
+        None => complete_fault(alloc, version, side, tree, derived),
+    }
+}
+
+// What version 2 asks besides: whether the tree, each frontier of which keeps every row, stands for all valid orders.
+fn complete_fault(
+    alloc: Global,
+    version: Version,
+    side: u8,
+    tree: &PqTree,
+    derived: &Matrix,
+) -> Result<Option<Reason>, NoMemory>
+    requires columns { column_count tree.now ≡ derived.now.columns }
+    requires kept { (f : List ℕ) → IsFrontier (outline tree.now) f → All (Keeps f) derived.now.rows }
+    ensures { IfOk result (λ found. (i : InstanceValue) (value : YesValue) →
+        derived.now ≡ derived_matrix i side →
+        HasSide value side (λ shown. shown.tree ≡ outline tree.now) →
+        Finds (PassesYes i value) (complete_tests version side) found) }
+{
+    match version {
+        Version::One => Ok(None),
+        Version::Two if is_complete(alloc, derived, tree)? => Ok(None),
+        Version::Two => Ok(Some(Reason::Complete(side))),
     }
 }
 

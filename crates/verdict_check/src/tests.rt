@@ -1,4 +1,4 @@
-// Verdicts on small instances, and what is said of them.
+// Verdicts of version 1 on small instances, and what is said of them.
 ghost use Rattle.std.specs.Prelude.{IfOk};
 ghost use Rattle.instance_model.specs.Instance.{IsInstance};
 ghost use Rattle.instance_model.specs.Value.{instance_value};
@@ -9,6 +9,8 @@ use row_model::{Kind, Matrix};
 use std::alloc::Global;
 use std::test::Fail;
 use verdict_text::parse;
+
+mod version_2;
 
 const PATH: &[u8] =
     b"pq-verdict 1\nkind matrix\ncolumns 3\nanswer yes\ntree [1 2 3]\norder 1 2 3\nend\n";

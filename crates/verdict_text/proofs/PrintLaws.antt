@@ -5,7 +5,7 @@ use Rattle.std.proofs.lemmas.List.{append_assoc, append-nil, take_more, length-t
 use Rattle.plain_text.specs.Pieces.{Extends}
 use Rattle.row_model.specs.declared.kind.Kind.{Kind}
 use Rattle.verdict_text.specs.Numbered.{numbered}
-use Rattle.verdict_text.specs.Text.{kind_word, number_word, kind_line, columns_line, head_text}
+use Rattle.verdict_text.specs.Text.{kind_word, number_word, kind_line, columns_line}
 
 -- a text that grew twice
 pub extends_after : (old now new front : List ℕ) → now ≡ old ++ front → Extends now new → Extends old new
@@ -37,10 +37,6 @@ joined old a b new x y z e f g = g ∙ ap (λ t. t ++ z) (f ∙ ap (λ t. t ++ y
 -- the lines of the kind and of the columns, piece by piece
 pub subject_pieces : (kind : Kind) (columns : List ℕ) → codes "kind " ++ (kind_word kind ++ (codes "\ncolumns" ++ (flat_map number_word columns ++ 10 ∷ []))) ≡ kind_line kind ++ columns_line columns
 subject_pieces kind columns = ap (λ t. codes "kind " ++ t) (sym (append_assoc (kind_word kind) (10 ∷ []) (codes "columns" ++ (flat_map number_word columns ++ 10 ∷ []))))
-
--- the first three lines, piece by piece
-pub head_pieces : (kind : Kind) (columns : List ℕ) → codes "pq-verdict 1\nkind " ++ (kind_word kind ++ (codes "\ncolumns" ++ (flat_map number_word columns ++ 10 ∷ []))) ≡ head_text kind columns
-head_pieces kind columns = ap (λ t. codes "pq-verdict 1\n" ++ t) (subject_pieces kind columns)
 
 pub subject_printed : (old a b d e new word : List ℕ) (kind : Kind) (columns : List ℕ) → word ≡ kind_word kind → a ≡ old ++ codes "kind " → b ≡ a ++ word → d ≡ b ++ codes "\ncolumns" → e ≡ d ++ flat_map number_word columns
     → new ≡ e ++ 10 ∷ [] → new ≡ old ++ (kind_line kind ++ columns_line columns)

@@ -15,9 +15,11 @@ use Rattle.row_model.specs.declared.lists.Span.{Span}
 use Rattle.pq_tree.specs.Outline.{Outline}
 use Rattle.pq_tree.specs.Reading.{tree_of}
 use Rattle.verdict_text.specs.Verdict.{SideValue, AddedValue, no_added, YesValue, Claim, yes_claim, no_claim, VerdictValue}
-use Rattle.verdict_text.specs.Text.{kind_word}
+use Rattle.verdict_text.specs.Text.{version_line, kind_word}
 use Rattle.verdict_text.specs.Grammar.{max_number, max_end, side_count}
 use Rattle.verdict_text.specs.Numbered.{numbered_at, with_first}
+use Rattle.verdict_text.specs.declared.verdict.Version.{Version}
+use Rattle.verdict_text.specs.declared.verdict.Version.TheVariants as versions
 
 -- what is read next, where the first is there
 infixl 10 ◌>>=◌
@@ -28,6 +30,14 @@ o >>= f = option_and_then f o
 abbrev pub or_else : {A : Type 0} → Option A → Option A → Option A
 or_else None o = o
 or_else (Some x) o = Some x
+
+-- the version, and the bytes after its line
+abbrev pub with_version : Version → List ℕ → Option (Version × List ℕ)
+with_version version rest = Some (version, rest)
+
+-- the version whose line stands at the front
+unfoldable pub version_at : List ℕ → Option (Version × List ℕ)
+version_at bytes = or_else (word_at (version_line versions.One) bytes >>= with_version versions.One) (word_at (version_line versions.Two) bytes >>= with_version versions.Two)
 
 -- the kinds, in the order in which their words are tried
 abbrev pub all_kinds : List Kind
@@ -62,15 +72,16 @@ columns_at (suc n) bytes = column_count_at bytes >>= λ c. columns_at n c.1 >>= 
 unfoldable pub kind_columns_at : Kind → List ℕ → Option (List ℕ × List ℕ)
 kind_columns_at kind bytes = columns_at (side_count kind) bytes
 
--- the kind and the columns
-unfoldable pub head_at : List ℕ → Option ((Kind × List ℕ) × List ℕ)
+-- the version, the kind and the columns
+unfoldable pub head_at : List ℕ → Option ((Version × Kind × List ℕ) × List ℕ)
 head_at bytes = do
-  first ← word_at (codes "pq-verdict 1\nkind ") bytes
+  version ← version_at bytes
+  first ← word_at (codes "kind ") version.1
   kind ← kind_at first
   next ← word_at (codes "\ncolumns") kind.1
   columns ← kind_columns_at kind.0 next
   rest ← word_at (10 ∷ []) columns.1
-  Some ((kind.0, columns.0), rest)
+  Some ((version.0, kind.0, columns.0), rest)
 
 -- how many bytes stand before the first line feed
 abbrev pub line_len : List ℕ → ℕ
@@ -236,6 +247,6 @@ claim_at kind columns bytes = yes_or_no kind columns (word_at (codes "answer yes
 unfoldable pub verdict_of : List ℕ → Option VerdictValue
 verdict_of bytes = do
   head ← head_at bytes
-  claim ← claim_at head.0.0 head.0.1 head.1
+  claim ← claim_at head.0.1 head.0.2 head.1
   rest ← word_at (codes "end\n") claim.1
-  if length rest == 0 then Some (record { kind = head.0.0; columns = head.0.1; claim = claim.0 }) else None
+  if length rest == 0 then Some (record { version = head.0.0; kind = head.0.1; columns = head.0.2; claim = claim.0 }) else None

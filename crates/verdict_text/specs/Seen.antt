@@ -12,6 +12,7 @@ use Rattle.verdict_text.specs.Value.{column_counts, side_value, added_value, yes
 use Rattle.verdict_text.specs.declared.read.Stop.{Stop}
 use Rattle.verdict_text.specs.declared.read.Stop.TheVariants as stop
 use Rattle.verdict_text.specs.declared.verdict.Columns.{Columns}
+use Rattle.verdict_text.specs.declared.verdict.Version.{Version}
 use Rattle.verdict_text.specs.declared.verdict.Side.{Side}
 use Rattle.verdict_text.specs.declared.verdict.Added.{Added}
 use Rattle.verdict_text.specs.declared.verdict.YesPart.{YesPart}
@@ -28,9 +29,9 @@ abbrev pub Gives : {X Y : Type 0} → (X → Y) → Result X Stop → Option Y �
 Gives view (Ok x) read = read ≡ Some (view x)
 Gives view (Err e) read = Stops e read
 
--- the kind, the numbers of columns, and the bytes after them
-abbrev pub head_seen : (Kind × Columns × Bor (List ℕ)) → ((Kind × List ℕ) × List ℕ)
-head_seen x = ((x.0, column_counts x.1), x.2.now)
+-- the version, the kind, the numbers of columns, and the bytes after them
+abbrev pub head_seen : (Version × Kind × Columns × Bor (List ℕ)) → ((Version × Kind × List ℕ) × List ℕ)
+head_seen x = ((x.0, x.1, column_counts x.2), x.3.now)
 
 -- the numbers of columns, and the bytes after them
 abbrev pub columns_seen : (Columns × Bor (List ℕ)) → (List ℕ × List ℕ)

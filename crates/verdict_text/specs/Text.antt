@@ -12,7 +12,14 @@ use Rattle.row_model.specs.declared.lists.Place.TheVariants.{Nowhere, At}
 use Rattle.row_model.specs.declared.lists.Span.{Span}
 use Rattle.pq_tree.specs.Text.{tree_text}
 use Rattle.verdict_text.specs.Numbered.{numbered}
+use Rattle.verdict_text.specs.declared.verdict.Version.{Version}
+use Rattle.verdict_text.specs.declared.verdict.Version.TheVariants as versions
 use Rattle.verdict_text.specs.Verdict.{SideValue, AddedValue, Claim, yes_claim, no_claim, VerdictValue}
+
+-- `pq-verdict 1` or `pq-verdict 2`
+abbrev pub version_line : Version → List ℕ
+version_line versions.One = codes "pq-verdict 1\n"
+version_line versions.Two = codes "pq-verdict 2\n"
 
 -- the word of a kind
 abbrev pub kind_word : Kind → List ℕ
@@ -100,9 +107,9 @@ claim_text kind (yes_claim value) = codes "answer yes\n" ++ (flat_map side_text 
 claim_text kind (no_claim side lines) = codes "answer no\n" ++ cycle_text side lines
 
 -- the first three lines
-abbrev pub head_text : Kind → List ℕ → List ℕ
-head_text kind columns = codes "pq-verdict 1\n" ++ (kind_line kind ++ columns_line columns)
+abbrev pub head_text : Version → Kind → List ℕ → List ℕ
+head_text version kind columns = version_line version ++ (kind_line kind ++ columns_line columns)
 
 -- the whole text
 unfoldable pub verdict_text : VerdictValue → List ℕ
-verdict_text v = head_text v.kind v.columns ++ (claim_text v.kind v.claim ++ codes "end\n")
+verdict_text v = head_text v.version v.kind v.columns ++ (claim_text v.kind v.claim ++ codes "end\n")

@@ -42,4 +42,4 @@ claim_of (part.No n) = no_claim n.side n.lines
 
 -- what a verdict says
 abbrev pub verdict_value : Verdict → VerdictValue
-verdict_value v = record { kind = v.kind; columns = column_counts v.columns; claim = claim_of v.part }
+verdict_value v = record { version = v.version; kind = v.kind; columns = column_counts v.columns; claim = claim_of v.part }

@@ -6,6 +6,7 @@ use Rattle.row_model.specs.declared.lists.Interval.{Interval}
 use Rattle.row_model.specs.declared.lists.Place.{Place}
 use Rattle.row_model.specs.declared.lists.Span.{Span}
 use Rattle.pq_tree.specs.Outline.{Outline}
+use Rattle.verdict_text.specs.declared.verdict.Version.{Version}
 
 -- one side of a yes: its tree, and one of its orders
 pub record SideValue : Type 0 where
@@ -32,8 +33,9 @@ pub data Claim : Type 0 where
   yes_claim : (value : YesValue) → Claim
   no_claim : (side : ℕ) (lines : List Line) → Claim
 
--- a claim about an instance of a kind, with the number of columns of each side
+-- a claim of a version about an instance of a kind, with the number of columns of each side
 pub record VerdictValue : Type 0 where
+  pub version : Version
   pub kind : Kind
   pub columns : List ℕ
   pub claim : Claim

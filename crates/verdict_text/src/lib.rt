@@ -1,12 +1,15 @@
 //! Verdicts and their texts.
 //!
+//! A verdict is of version 1 or of version 2. A yes of version 1 has trees of which each frontier is an order of the side; those of a yes
+//! of version 2 have each order of the side as a frontier besides. The number in the first line is all in which their texts differ.
+//!
 //! A text has these lines, each with a line feed at its end and one space between entries, and nothing after the last of them.
-//! Capital letters stand for plain numbers, which have no leading zeros; K is the word of a kind, and T the text of a tree. C and D are
+//! Capital letters stand for plain numbers, which have no leading zeros; V is 1 or 2, K is the word of a kind, and T the text of a tree. C and D are
 //! from 1 to 2,048 (`MAX_COLUMNS` of `row_model`), S is 1, and for `doubly` 1 or 2, the ends of intervals are at most 2^64 - 1, and
 //! every other number is at most 2^32 - 1.
 //!
 //! ```text
-//! pq-verdict 1
+//! pq-verdict V
 //! kind K
 //! columns C                 for `doubly`: columns C D
 //! answer yes                or: answer no
@@ -35,7 +38,7 @@ mod write;
 use crate::read::{Stop, read_verdict};
 pub use row_model::NoMemory;
 use std::alloc::Global;
-pub use verdict::{Columns, NoPart, Part, Verdict, YesPart};
+pub use verdict::{Columns, NoPart, Part, Verdict, Version, YesPart};
 pub use write::{print, print_cycle, print_side, print_subject};
 
 /// The verdict of which the bytes are the text; none where the bytes are outside the grammar.

@@ -54,13 +54,14 @@ impl<T: Drop> From<AllocFailed<T>> for Stop {
 pub fn read_verdict(alloc: Global, bytes: &[u8]) -> Result<Verdict, Stop>
     ensures { Gives verdict_value result (verdict_of bytes.now) }
 {
-    let (kind, columns, rest) = head::read_head(bytes)?;
+    let (version, kind, columns, rest) = head::read_head(bytes)?;
     let (part, rest) = read_part(alloc, kind, columns, rest)?;
     let rest = after(rest, b"end\n")?;
     if !rest.is_empty() {
         return Err(Stop::Outside);
     }
     Ok(Verdict {
+        version,
         kind,
         columns,
         part,

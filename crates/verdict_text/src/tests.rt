@@ -1,7 +1,7 @@
 // Verdicts that are printed from values and read back.
 ghost use Rattle.std.specs.Prelude.{◌≤◌};
 
-use crate::{Columns, NoPart, Part, Verdict, YesPart, parse, print};
+use crate::{Columns, NoPart, Part, Verdict, Version, YesPart, parse, print};
 use pq_tree::PqTree;
 use row_model::{
     COLUMN_BOUND, Interval, Intervals, Kind, Line, Lines, Pair, Place, Places, Span, Spans, Why,
@@ -13,13 +13,13 @@ const PATH: &[u8] =
     b"pq-verdict 1\nkind proper\ncolumns 4\nanswer yes\ntree [1 2 3 4]\norder 1 2 3 4\ninterval 1 5 11\ninterval 2 10 17\ninterval 3 15 23\ninterval 4 20 24\nend\n";
 
 const CLONES: &[u8] =
-    b"pq-verdict 1\nkind clones\ncolumns 5\nanswer yes\ntree ([1 2 3] 4 5)\norder 1 2 3 4 5\nplaces 4\nplace 1 1 2\nplace 2 2 3\nplace 3 none\nplace 4 4 4\ncontigs 3\ncontig 1 3\ncontig 4 4\ncontig 5 5\nend\n";
+    b"pq-verdict 2\nkind clones\ncolumns 5\nanswer yes\ntree ([1 2 3] 4 5)\norder 1 2 3 4 5\nplaces 4\nplace 1 1 2\nplace 2 2 3\nplace 3 none\nplace 4 4 4\ncontigs 3\ncontig 1 3\ncontig 4 4\ncontig 5 5\nend\n";
 
 const TRIANGLE: &[u8] =
     b"pq-verdict 1\nkind matrix\ncolumns 3\nanswer no\nside 1\ncycle 3\n1 3 row 1\n3 2 row 3\n2 1 row 2\nend\n";
 
 const BOTH_SIDES: &[u8] =
-    b"pq-verdict 1\nkind doubly\ncolumns 2 2\nanswer yes\ntree (1 2)\norder 1 2\ntree (1 2)\norder 1 2\nend\n";
+    b"pq-verdict 2\nkind doubly\ncolumns 2 2\nanswer yes\ntree (1 2)\norder 1 2\ntree (1 2)\norder 1 2\nend\n";
 
 fn tree(alloc: Global, text: &[u8], c: u32) -> Result<PqTree, Fail>
     requires { (1 ≤ c) × (c ≤ COLUMN_BOUND) }
@@ -56,6 +56,7 @@ fn intervals_of_a_path(rt: HostRuntime) -> Result<(), Fail> {
         Spans::new(alloc),
     );
     let v = Verdict {
+        version: Version::One,
         kind: Kind::Proper,
         columns: Columns::One(4),
         part: Part::Yes(yes),
@@ -81,6 +82,7 @@ fn places_and_contigs_of_clones(rt: HostRuntime) -> Result<(), Fail> {
     let tree = tree(alloc, b"([1 2 3] 4 5)", 5)?;
     let yes = YesPart::one(tree, order, Intervals::new(alloc), places, contigs);
     let v = Verdict {
+        version: Version::Two,
         kind: Kind::Clones,
         columns: Columns::One(5),
         part: Part::Yes(yes),
@@ -102,6 +104,7 @@ fn cycle_of_a_triangle(rt: HostRuntime) -> Result<(), Fail> {
         })?;
     }
     let v = Verdict {
+        version: Version::One,
         kind: Kind::Matrix,
         columns: Columns::One(3),
         part: Part::No(NoPart { side: 1, lines }),
@@ -122,6 +125,7 @@ fn two_sides(rt: HostRuntime) -> Result<(), Fail> {
     );
     assert_eq!(rt; yes.sides(), 2);
     let v = Verdict {
+        version: Version::Two,
         kind: Kind::Doubly,
         columns: Columns::Two(2, 2),
         part: Part::Yes(yes),
@@ -129,7 +133,7 @@ fn two_sides(rt: HostRuntime) -> Result<(), Fail> {
     assert_eq!(rt; printed(alloc, &v)?.as_slice(), BOTH_SIDES);
     assert_eq!(rt; read_and_printed(alloc, BOTH_SIDES)?.as_slice(), BOTH_SIDES);
     let no =
-        b"pq-verdict 1\nkind doubly\ncolumns 3 4\nanswer no\nside 2\ncycle 2\n1 3 flip\n3 1 flip\nend\n";
+        b"pq-verdict 2\nkind doubly\ncolumns 3 4\nanswer no\nside 2\ncycle 2\n1 3 flip\n3 1 flip\nend\n";
     assert_eq!(rt; read_and_printed(alloc, no)?.as_slice(), no.as_slice());
     Ok(())
 }
@@ -138,7 +142,10 @@ fn two_sides(rt: HostRuntime) -> Result<(), Fail> {
 fn outside_the_grammar(rt: HostRuntime) -> Result<(), Fail> {
     for text in [
         b"".as_slice(),
-        b"pq-verdict 2\nkind matrix\ncolumns 1\nanswer yes\ntree 1\norder 1\nend\n",
+        b"pq-verdict 0\nkind matrix\ncolumns 1\nanswer yes\ntree 1\norder 1\nend\n",
+        b"pq-verdict 3\nkind matrix\ncolumns 1\nanswer yes\ntree 1\norder 1\nend\n",
+        b"pq-verdict 02\nkind matrix\ncolumns 1\nanswer yes\ntree 1\norder 1\nend\n",
+        b"pq-verdict 2\r\nkind matrix\r\ncolumns 1\r\nanswer yes\r\ntree 1\r\norder 1\r\nend\r\n",
         b"pq-verdict 1\r\nkind matrix\r\ncolumns 1\r\nanswer yes\r\ntree 1\r\norder 1\r\nend\r\n",
         b"pq-verdict 1\nkind matrix\ncolumns 1\nanswer yes\ntree 1\norder 1\nend\n\n",
         b"pq-verdict 1\nkind matrix\ncolumns 1\nanswer yes\ntree 1\norder 1\nend",
@@ -152,6 +159,26 @@ fn outside_the_grammar(rt: HostRuntime) -> Result<(), Fail> {
         b"pq-verdict 1\nkind matrix\ncolumns 3\nanswer no\nside 1\ncycle 4294967295\n1 2 flip\nend\n",
     ] {
         assert!(rt; parse(rt.alloc(), text)?.is_none());
+    }
+    Ok(())
+}
+
+#[test]
+fn the_first_line_tells_the_version(rt: HostRuntime) -> Result<(), Fail> {
+    let alloc = rt.alloc();
+    for (text, version) in [
+        (
+            b"pq-verdict 1\nkind matrix\ncolumns 1\nanswer yes\ntree 1\norder 1\nend\n".as_slice(),
+            Version::One,
+        ),
+        (
+            b"pq-verdict 2\nkind matrix\ncolumns 1\nanswer yes\ntree 1\norder 1\nend\n",
+            Version::Two,
+        ),
+    ] {
+        let v = parse(alloc, text)?.ok_or("a verdict")?;
+        assert_eq!(rt; v.version, version);
+        assert_eq!(rt; printed(alloc, &v)?.as_slice(), text);
     }
     Ok(())
 }

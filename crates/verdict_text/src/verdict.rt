@@ -7,12 +7,23 @@ use row_model::{Interval, Intervals, Kind, Lines, Place, Places, Span, Spans};
 /// The answer to the question of an instance, with what shows that it is right.
 #[derive(Drop)]
 pub struct Verdict {
+    /// What a yes has to show.
+    pub version: Version,
     /// The kind of the instance.
     pub kind: Kind,
     /// Its numbers of columns.
     pub columns: Columns,
     /// The answer.
     pub part: Part,
+}
+
+/// What a yes has to show.
+#[derive(Clone, Copy, Debug, PartialEq, Eq)]
+pub enum Version {
+    /// Each frontier of the tree of a side is one of its orders.
+    One,
+    /// Besides, each order of the side is a frontier of its tree.
+    Two,
 }
 
 /// The number of columns of each side.

@@ -4,11 +4,11 @@ ghost use Rattle.std.specs.Prelude.{◌≡◌, ◌∷◌, ◌++◌, [], length, 
 ghost use Rattle.plain_text.specs.Pieces.{Extends};
 ghost use Rattle.verdict_text.specs.Numbered.{numbered};
 ghost use Rattle.pq_tree.specs.PqTree.{outline};
-ghost use Rattle.verdict_text.specs.Text.{kind_word, kind_line, columns_line, counted_cycle, head_text, number_word, side_text, interval_line, ends_text, place_text, place_line, contig_line, places_text, contigs_text, added_text, why_text, cycle_line, cycle_text, claim_text, verdict_text};
+ghost use Rattle.verdict_text.specs.Text.{version_line, kind_word, kind_line, columns_line, counted_cycle, head_text, number_word, side_text, interval_line, ends_text, place_text, place_line, contig_line, places_text, contigs_text, added_text, why_text, cycle_line, cycle_text, claim_text, verdict_text};
 ghost use Rattle.verdict_text.specs.Value.{column_counts, side_value, sides_value, yes_value, claim_of, verdict_value};
 
 use crate::NoMemory;
-use crate::verdict::{Columns, NoPart, Part, Side, Sides, Verdict, YesPart};
+use crate::verdict::{Columns, NoPart, Part, Side, Sides, Verdict, Version, YesPart};
 use plain_text::push_number;
 use pq_tree::PqTree;
 use row_model::{Interval, Kind, Line, Place, Span, Why};
@@ -22,20 +22,35 @@ pub fn print(v: &Verdict, text: &mut Vec<u8>) -> Result<(), NoMemory>
     ensures ok { OnOk result (text.new.items ≡ text.old.items ++ verdict_text (verdict_value v.now)) }
     ensures err { OnErr result (Extends text.old.items text.new.items) }
 {
-    push_head(v.kind, v.columns, text)?;
+    push_head(v.version, v.kind, v.columns, text)?;
     push_part(v.kind, &v.part, text)?;
     push(text, b"end\n")?;
     Ok(())
 }
 
 // The first three lines.
-fn push_head(kind: Kind, columns: Columns, text: &mut Vec<u8>) -> Result<(), NoMemory>
-    ensures ok { OnOk result (text.new.items ≡ text.old.items ++ head_text kind (column_counts columns)) }
+fn push_head(
+    version: Version,
+    kind: Kind,
+    columns: Columns,
+    text: &mut Vec<u8>,
+) -> Result<(), NoMemory>
+    ensures ok { OnOk result (text.new.items ≡ text.old.items ++ head_text version kind (column_counts columns)) }
     ensures err { OnErr result (Extends text.old.items text.new.items) }
 {
-    push(text, b"pq-verdict 1\n")?;
+    push(text, line_of(version))?;
     print_subject(kind, columns, text)?;
     Ok(())
+}
+
+// The first line, which names the version.
+pub fn line_of(version: Version) -> &'static [u8]
+    ensures { result.now ≡ version_line version }
+{
+    match version {
+        Version::One => b"pq-verdict 1\n",
+        Version::Two => b"pq-verdict 2\n",
+    }
 }
 
 /// Appends the lines `kind K` and `columns C`, the second with one number for each side.

@@ -1,14 +1,14 @@
-// The first three lines of a verdict: its kind and its columns.
+// The first three lines of a verdict: its version, its kind and its columns.
 ghost use Rattle.std.specs.Prelude.{◌≡◌, option_map, IfOk};
 ghost use Rattle.plain_text.specs.Rest.{with_rest};
 ghost use Rattle.verdict_text.specs.Grammar.{side_count, AreColumnCounts, IsColumnCount};
-ghost use Rattle.verdict_text.specs.Reading.{kind_from, kind_at, column_count_at, kind_columns_at, head_at};
+ghost use Rattle.verdict_text.specs.Reading.{version_at, kind_from, kind_at, column_count_at, kind_columns_at, head_at};
 ghost use Rattle.verdict_text.specs.Seen.{Gives, columns_seen, head_seen};
 ghost use Rattle.verdict_text.specs.Value.{column_counts};
 
 use super::{Stop, after};
-use crate::verdict::Columns;
-use crate::write::word_of;
+use crate::verdict::{Columns, Version};
+use crate::write::{line_of, word_of};
 use plain_text::{after_word, number};
 use row_model::{Kind, MAX_COLUMNS};
 
@@ -25,16 +25,30 @@ const KINDS: [Kind; 9] = [
 ];
 
 #[tactic(auto, unfolding(crate::specs::Reading::head_at))]
-pub fn read_head(bytes: &[u8]) -> Result<(Kind, Columns, &[u8]), Stop>
+pub fn read_head(bytes: &[u8]) -> Result<(Version, Kind, Columns, &[u8]), Stop>
     ensures value { Gives head_seen result (head_at bytes.now) }
-    ensures columns { IfOk result (λ x. AreColumnCounts (column_counts x.1)) }
+    ensures columns { IfOk result (λ x. AreColumnCounts (column_counts x.2)) }
 {
-    let rest = after(bytes, b"pq-verdict 1\nkind ")?;
+    let (version, rest) = read_version(bytes)?;
+    let rest = after(rest, b"kind ")?;
     let (kind, rest) = read_kind(rest)?;
     let rest = after(rest, b"\ncolumns")?;
     let (columns, rest) = read_columns(kind, rest)?;
     let rest = after(rest, b"\n")?;
-    Ok((kind, columns, rest))
+    Ok((version, kind, columns, rest))
+}
+
+#[tactic(auto, unfolding(crate::specs::Reading::version_at))]
+fn read_version(bytes: &[u8]) -> Result<(Version, &[u8]), Stop>
+    ensures { Gives with_rest result (version_at bytes.now) }
+{
+    match after_word(bytes, line_of(Version::One)) {
+        Some(rest) => Ok((Version::One, rest)),
+        None => {
+            let rest = after(bytes, line_of(Version::Two))?;
+            Ok((Version::Two, rest))
+        }
+    }
 }
 
 #[tactic(auto, unfolding(crate::specs::Reading::kind_at))]

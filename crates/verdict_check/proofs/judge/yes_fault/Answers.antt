@@ -11,4 +11,4 @@ pub returns-in-None : goal.returns-in-None
 returns-in-None c =
     let i = instance_value c.args.instance.now in
     let value = yes_value c.args.yes.now in
-    added_last_ok i value c.added_fault.result (subst (Finds (PassesYes i value) (sides_tests i)) c.in-None.is c.in_ok-reason.ensures) c.added_fault.ensures
+    added_last_ok c.args.version i value c.added_fault.result (subst (Finds (PassesYes i value) (sides_tests c.args.version i)) c.in-None.is c.in_ok-reason.ensures) c.added_fault.ensures

@@ -10,4 +10,4 @@ use Rattle.verdict_check.proofs.side.sides_fault.Given as goal
 -- the tests of the sides so far are passed
 abbrev pub invariant-loop-before : goal.invariant-loop-before
 invariant-loop-before l =
-    AllByRecursion (PassesYes (instance_value l.instance) (yes_value l.yes)) (flat_map (λ s. side_tests s (derived_matrix (instance_value l.instance) s)) (numbers l.before))
+    AllByRecursion (PassesYes (instance_value l.instance) (yes_value l.yes)) (flat_map (λ s. side_tests l.version s (derived_matrix (instance_value l.instance) s)) (numbers l.before))
