@@ -25,7 +25,7 @@ use pq_io::Shelf;
 use row_model::{Kind, Matrix};
 use std::alloc::Global;
 use step_count::{Blank, Brand, Ledger, Steps};
-use verdict_text::{Columns, Part, Verdict};
+use verdict_text::{Columns, Part, Verdict, Version};
 
 pub mod further_file;
 pub mod laws;
@@ -110,6 +110,7 @@ fn no_reply(alloc: Global, kind: Kind, columns: u32, cycle: Cycle) -> Result<Rep
 {
     grammar_law();
     let verdict = Verdict {
+        version: Version::Two,
         kind,
         columns: Columns::One(columns),
         part: Part::No(no(1, cycle)),

@@ -6,6 +6,8 @@ use std::test::Fail;
 
 const CHAIN: &[u8] = b"110\n011\n";
 
+const VERSIONS: [&str; 2] = ["1", "2"];
+
 // Checks a verdict on two rows that overlap, and compares the line and the status with what is wanted.
 fn judged(rt: &impl Abort, alloc: Global, verdict: &[u8], line: &str) -> Result<(), Fail> {
     let words = ["check", "matrix", "matrix", "verdict"];
@@ -34,10 +36,12 @@ fn a_yes_that_is_changed(rt: HostRuntime) -> Result<(), Fail> {
     ];
     let alloc = rt.alloc();
     for (columns, tree, order, line) in cases {
-        let verdict = format!(in alloc;
-            "pq-verdict 1\nkind matrix\ncolumns {columns}\nanswer yes\ntree {tree}\norder {order}\nend\n"
-        )?;
-        judged(&rt, alloc, verdict.as_bytes(), line)?;
+        for version in VERSIONS {
+            let verdict = format!(in alloc;
+                "pq-verdict {version}\nkind matrix\ncolumns {columns}\nanswer yes\ntree {tree}\norder {order}\nend\n"
+            )?;
+            judged(&rt, alloc, verdict.as_bytes(), line)?;
+        }
     }
     Ok(())
 }
@@ -46,7 +50,9 @@ fn a_yes_that_is_changed(rt: HostRuntime) -> Result<(), Fail> {
 fn ends_of_lines_that_are_changed(rt: HostRuntime) -> Result<(), Fail> {
     let verdicts = [
         b"pq-verdict 1\r\nkind matrix\ncolumns 3\nanswer yes\ntree [1 2 3]\norder 1 2 3\nend\n".as_slice(),
+        b"pq-verdict 2\r\nkind matrix\ncolumns 3\nanswer yes\ntree [1 2 3]\norder 1 2 3\nend\n".as_slice(),
         b"pq-verdict 1\nkind matrix\ncolumns 3\nanswer yes\ntree [1 2 3]\norder 1 2 3\nend".as_slice(),
+        b"pq-verdict 2\nkind matrix\ncolumns 3\nanswer yes\ntree [1 2 3]\norder 1 2 3\nend".as_slice(),
         b"pq-verdict 3\nkind matrix\ncolumns 3\nanswer yes\ntree [1 2 3]\norder 1 2 3\nend\n".as_slice(),
     ];
     for verdict in verdicts {
@@ -73,10 +79,12 @@ fn a_no_that_is_changed(rt: HostRuntime) -> Result<(), Fail> {
     ];
     let alloc = rt.alloc();
     for (side, cycle, line) in cases {
-        let verdict = format!(in alloc;
-            "pq-verdict 1\nkind matrix\ncolumns 3\nanswer no\nside {side}\ncycle {cycle}\nend\n"
-        )?;
-        judged(&rt, alloc, verdict.as_bytes(), line)?;
+        for version in VERSIONS {
+            let verdict = format!(in alloc;
+                "pq-verdict {version}\nkind matrix\ncolumns 3\nanswer no\nside {side}\ncycle {cycle}\nend\n"
+            )?;
+            judged(&rt, alloc, verdict.as_bytes(), line)?;
+        }
     }
     Ok(())
 }

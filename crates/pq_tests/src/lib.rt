@@ -8,6 +8,8 @@ mod forged;
 mod graphs;
 #[cfg(test)]
 mod sessions;
+#[cfg(test)]
+mod versions;
 
 #[cfg(test)]
 mod tests {
@@ -19,6 +21,9 @@ mod tests {
     use std::process::Abort;
     use std::test::Fail;
     use verdict_text::{Part, parse};
+
+    // The first line of a verdict of version 1, and of version 2.
+    pub const FIRST_LINES: [&[u8]; 2] = [b"pq-verdict 1\n", b"pq-verdict 2\n"];
 
     // A run: the words, the bytes of the file `matrix`, how many bytes the output and the line of errors have room for, and the status, the
     // output and the line of errors that are wanted.
@@ -161,27 +166,27 @@ mod tests {
             solved(
                 b"110\n011\n",
                 0,
-                b"pq-verdict 1\nkind matrix\ncolumns 3\nanswer yes\ntree [1 2 3]\norder 1 2 3\nend\n",
+                b"pq-verdict 2\nkind matrix\ncolumns 3\nanswer yes\ntree [1 2 3]\norder 1 2 3\nend\n",
             ),
             solved(
                 b"1\n",
                 0,
-                b"pq-verdict 1\nkind matrix\ncolumns 1\nanswer yes\ntree 1\norder 1\nend\n",
+                b"pq-verdict 2\nkind matrix\ncolumns 1\nanswer yes\ntree 1\norder 1\nend\n",
             ),
             solved(
                 b"00\n11\n",
                 0,
-                b"pq-verdict 1\nkind matrix\ncolumns 2\nanswer yes\ntree (1 2)\norder 1 2\nend\n",
+                b"pq-verdict 2\nkind matrix\ncolumns 2\nanswer yes\ntree (1 2)\norder 1 2\nend\n",
             ),
             solved(
                 b"1100\n1110\n1100\n1110\n",
                 0,
-                b"pq-verdict 1\nkind matrix\ncolumns 4\nanswer yes\ntree (((1 2) 3) 4)\norder 1 2 3 4\nend\n",
+                b"pq-verdict 2\nkind matrix\ncolumns 4\nanswer yes\ntree (((1 2) 3) 4)\norder 1 2 3 4\nend\n",
             ),
             solved(
                 b"101\n110\n",
                 0,
-                b"pq-verdict 1\nkind matrix\ncolumns 3\nanswer yes\ntree [2 1 3]\norder 2 1 3\nend\n",
+                b"pq-verdict 2\nkind matrix\ncolumns 3\nanswer yes\ntree [2 1 3]\norder 2 1 3\nend\n",
             ),
         ];
         passes(&rt, rt.alloc(), &cases)
@@ -194,21 +199,21 @@ mod tests {
             rt.alloc(),
             "rows",
             b"5\n1 2\n3 4\n2 3\n",
-            b"pq-verdict 1\nkind rows\ncolumns 5\nanswer yes\ntree ([1 2 3 4] 5)\norder 1 2 3 4 5\nend\n",
+            b"pq-verdict 2\nkind rows\ncolumns 5\nanswer yes\ntree ([1 2 3 4] 5)\norder 1 2 3 4 5\nend\n",
         )?;
         solved_as(
             &rt,
             rt.alloc(),
             "table",
             b"\xef\xbb\xbft,a,b,c\nx,2,X,\ny, ,0,1\n",
-            b"pq-verdict 1\nkind table\ncolumns 3\nanswer yes\ntree ((1 2) 3)\norder 1 2 3\nend\n",
+            b"pq-verdict 2\nkind table\ncolumns 3\nanswer yes\ntree ((1 2) 3)\norder 1 2 3\nend\n",
         )?;
         solved_as(
             &rt,
             rt.alloc(),
             "clones",
             b"{\"probes\":[\"a\",\"b\",\"c\",\"d\",\"e\"],\"clones\":[{\"name\":\"k1\",\"probes\":[\"b\",\"a\"]},{\"name\":\"k2\",\"probes\":[\"b\",\"c\"]},{\"name\":\"k3\",\"probes\":[]},{\"name\":\"k4\",\"probes\":[\"d\"]}]}\n",
-            b"pq-verdict 1\nkind clones\ncolumns 5\nanswer yes\ntree ([1 2 3] 4 5)\norder 1 2 3 4 5\nplaces 4\nplace 1 1 2\nplace 2 2 3\nplace 3 none\nplace 4 4 4\ncontigs 3\ncontig 1 3\ncontig 4 4\ncontig 5 5\nend\n",
+            b"pq-verdict 2\nkind clones\ncolumns 5\nanswer yes\ntree ([1 2 3] 4 5)\norder 1 2 3 4 5\nplaces 4\nplace 1 1 2\nplace 2 2 3\nplace 3 none\nplace 4 4 4\ncontigs 3\ncontig 1 3\ncontig 4 4\ncontig 5 5\nend\n",
         )
     }
 
@@ -296,11 +301,12 @@ mod tests {
             ),
         ];
         for (rest, line) in cases {
-            let mut verdict = b"pq-verdict 1\nkind matrix\ncolumns 3\nanswer no\nside 1\n".to_vec(
-                rt.alloc(),
-            )?;
-            verdict.extend_from_slice(rest)?;
-            judged(&rt, rt.alloc(), matrix, &verdict, line)?;
+            for first in FIRST_LINES {
+                let mut verdict = first.to_vec(rt.alloc())?;
+                verdict.extend_from_slice(b"kind matrix\ncolumns 3\nanswer no\nside 1\n")?;
+                verdict.extend_from_slice(rest)?;
+                judged(&rt, rt.alloc(), matrix, &verdict, line)?;
+            }
         }
         Ok(())
     }
@@ -331,9 +337,12 @@ mod tests {
             ),
         ];
         for (rest, line) in cases {
-            let mut verdict = b"pq-verdict 1\nkind ".to_vec(rt.alloc())?;
-            verdict.extend_from_slice(rest)?;
-            judged(&rt, rt.alloc(), matrix, &verdict, line)?;
+            for first in FIRST_LINES {
+                let mut verdict = first.to_vec(rt.alloc())?;
+                verdict.extend_from_slice(b"kind ")?;
+                verdict.extend_from_slice(rest)?;
+                judged(&rt, rt.alloc(), matrix, &verdict, line)?;
+            }
         }
         Ok(())
     }
@@ -349,7 +358,7 @@ mod tests {
     #[test]
     fn the_greatest_number_of_columns(rt: HostRuntime) -> Result<(), Fail> {
         let alloc = rt.alloc();
-        let mut wanted = b"pq-verdict 1\nkind rows\ncolumns 2048\nanswer yes\ntree (1".to_vec(
+        let mut wanted = b"pq-verdict 2\nkind rows\ncolumns 2048\nanswer yes\ntree (1".to_vec(
             alloc,
         )?;
         let mut order = b")\norder 1".to_vec(alloc)?;

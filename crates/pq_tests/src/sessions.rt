@@ -28,7 +28,7 @@ fn between<'a>(rt: &impl Abort, text: &'a [u8], first: &[u8], last: &[u8]) -> &'
 
 // A check accepts the lines of a cycle as a no on the matrix.
 fn accepted(rt: &impl Abort, alloc: Global, matrix: &[u8], cycle: &[u8]) -> Result<(), Fail> {
-    let mut verdict = b"pq-verdict 1\nkind matrix\ncolumns 3\nanswer no\nside 1\n".to_vec(alloc)?;
+    let mut verdict = b"pq-verdict 2\nkind matrix\ncolumns 3\nanswer no\nside 1\n".to_vec(alloc)?;
     verdict.extend_from_slice(cycle)?;
     verdict.extend_from_slice(b"end\n")?;
     let words = ["check", "matrix", "matrix", "verdict"];

@@ -7,18 +7,19 @@ use Rattle.row_model.specs.declared.graph.Line.{Line}
 use Rattle.row_model.specs.declared.kind.Kind.{Kind}
 use Rattle.verdict_text.specs.Verdict.{no_claim, VerdictValue}
 use Rattle.verdict_text.specs.Text.{verdict_text}
+use Rattle.verdict_text.specs.declared.verdict.Version.TheVariants.{Two}
 use Rattle.instance_model.specs.Instance.{plain, IsInstance}
 use Rattle.pq_cli.specs.Solve.Verdicts.{IsFirstWithout, IsVerdictOf, IsVerdictReply, GrammarLaw}
 use Rattle.pq_cli.proofs.Solving.Sizes.{first_side}
 
 -- a no about the only side
 abbrev no_verdict : Kind → ℕ → ℕ → List Line → VerdictValue
-no_verdict kind columns side lines = record { kind = kind; columns = columns ∷ []; claim = no_claim side lines }
+no_verdict kind columns side lines = record { version = Two; kind = kind; columns = columns ∷ []; claim = no_claim side lines }
 
 no_is_true : (kind : Kind) (m : RowList) (lines : List Line) → IsOddCycle m.columns m.rows lines → (HasValidOrder m.columns m.rows → ⊥) → IsVerdictOf (plain kind m) (no_verdict kind m.columns 1 lines)
 no_is_true kind m lines cycle none =
     let without : IsFirstWithout (plain kind m) 1 = record { side = first_side (plain kind m); before = λ s from to. absurd (omega (arith, from, to)); none = none } in
-    record { kind = refl; columns = refl; claim = (without, cycle) }
+    record { version = refl; kind = refl; columns = refl; claim = (without, cycle) }
 
 -- the text of that verdict is a reply
 pub no_reply : GrammarLaw → (kind : Kind) (columns side : ℕ) (lines cycle : List Line) (text : List ℕ) → side ≡ 1 → lines ≡ cycle → text ≡ verdict_text (no_verdict kind columns side lines)

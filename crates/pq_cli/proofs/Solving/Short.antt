@@ -15,8 +15,10 @@ use Rattle.clone_map.specs.Laws.{SpansLaw}
 use Rattle.pq_cli.specs.declared.TheConstants.{MAX_VERDICT_BYTES}
 use Rattle.pq_tree.specs.Text.{tree_text}
 use Rattle.verdict_text.specs.Verdict.{SideValue, AddedValue, Claim, yes_claim, no_claim, VerdictValue}
+use Rattle.verdict_text.specs.declared.verdict.Version.{Version}
+use Rattle.verdict_text.specs.declared.verdict.Version.TheVariants.{One, Two}
 use Rattle.verdict_text.specs.Grammar.{AreColumnCounts, side_count, IsVerdict}
-use Rattle.verdict_text.specs.Text.{kind_word, kind_line, columns_line, number_word, side_text, cycle_text, cycle_line, added_text, claim_text, head_text, verdict_text}
+use Rattle.verdict_text.specs.Text.{version_line, kind_word, kind_line, columns_line, number_word, side_text, cycle_text, cycle_line, added_text, claim_text, head_text, verdict_text}
 use Rattle.instance_model.specs.Instance.{InstanceValue, instance_kind, IsSideOf, derived_matrix, IsInstance, IsWellFormed}
 use Rattle.pq_cli.specs.Solve.Verdicts.{ShowsOrders, ShowsSides, Adds, IsClaimOf, IsVerdictOf}
 use Rattle.pq_cli.proofs.Solving.Lengths.{IsColumn, four_digits, seven_digits, words_length, tree_length, lines_length}
@@ -51,15 +53,20 @@ counted_columns : (columns : List ℕ) → AreColumnCounts columns → AllByRecu
 counted_columns [] h = tt
 counted_columns (c ∷ columns) h = (h.0.1, counted_columns columns h.1)
 
-head_short : (v : VerdictValue) → IsVerdict v → length (head_text v.kind v.columns) ≤ 100
+short_line : (version : Version) → length (version_line version) ≤ 13
+short_line One = omega arith
+short_line Two = omega arith
+
+head_short : (v : VerdictValue) → IsVerdict v → length (head_text v.version v.kind v.columns) ≤ 100
 head_short v within =
     omega (
       arith,
+      short_line v.version,
       short_word v.kind,
       few_sides v.kind,
       within.sides,
       words_length v.columns (counted_columns v.columns within.columns),
-      length-append (codes "pq-verdict 1\n") (kind_line v.kind ++ columns_line v.columns),
+      length-append (version_line v.version) (kind_line v.kind ++ columns_line v.columns),
       length-append (kind_line v.kind) (columns_line v.columns),
       length-append (codes "kind ") (kind_word v.kind ++ 10 ∷ []),
       length-append (kind_word v.kind) (10 ∷ []),
@@ -145,4 +152,4 @@ module _ (few_columns : FewColumnsLaw) (few_rows : FewRowsLaw) (cycle_length : C
   unfolding verdict_text
   short_text v within true =
       let claim : length (claim_text v.kind v.claim) ≤ 88100000 = subst (λ k. length (claim_text k v.claim) ≤ 88100000) (sym true.kind) (claim_short v.claim true.claim) in
-      omega (arith, head_short v within, claim, length-append (head_text v.kind v.columns) (claim_text v.kind v.claim ++ codes "end\n"), length-append (claim_text v.kind v.claim) (codes "end\n"))
+      omega (arith, head_short v within, claim, length-append (head_text v.version v.kind v.columns) (claim_text v.kind v.claim ++ codes "end\n"), length-append (claim_text v.kind v.claim) (codes "end\n"))

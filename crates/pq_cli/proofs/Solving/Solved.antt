@@ -7,6 +7,8 @@ use Rattle.graph_read.specs.Graphs.{GraphValue, IsGraph}
 use Rattle.proper_interval.specs.Models.{IsProperModel}
 use Rattle.proper_interval.specs.Laws.{IntervalsLaw}
 use Rattle.verdict_text.specs.Verdict.{SideValue, YesValue, Claim, yes_claim, no_claim, VerdictValue}
+use Rattle.verdict_text.specs.declared.verdict.Version.{Version}
+use Rattle.verdict_text.specs.declared.verdict.Version.TheVariants.{Two}
 use Rattle.instance_model.specs.Instance.{InstanceValue, plain, circular, convex, doubly, proper, robinson, instance_kind, instance_columns, IsPlainKind, IsSideOf, IsInstance, IsWellFormed}
 use Rattle.instance_model.specs.Laws.{ValidLaw}
 use Rattle.verdict_check.specs.Laws.{IsSolvedSide, YesLaw, NoLaw}
@@ -41,17 +43,18 @@ added_true valid models (proper g) value h formed shows adds = true_model valid 
 added_true valid models (robinson d) value h formed shows adds = tt
 
 module _ (valid_textbook : ValidLaw) (models : IntervalsLaw) (yes_law : YesLaw) (no_law : NoLaw) (i : InstanceValue) (h : IsInstance i) (formed : IsWellFormed i) where
-  solved_side : (s : ℕ) (side : Option SideValue) → IsSideOf i s → IsSomeAnd side (ShowsSide i s) → IsSomeAnd side (IsSolvedSide i s)
-  solved_side s None inside shows = absurd shows
-  solved_side s (Some side) inside shows = (valid_textbook i s side.order formed inside shows.order, λ o f. ((shows.orders o).0 f).kept)
+  solved_side : (version : Version) → version ≡ Two → (s : ℕ) (side : Option SideValue) → IsSideOf i s → IsSomeAnd side (ShowsSide i s) → IsSomeAnd side (IsSolvedSide version i s)
+  solved_side version two s None inside shows = absurd shows
+  solved_side version two s (Some side) inside shows = subst (λ v. IsSolvedSide v i s side) (sym two) (valid_textbook i s side.order formed inside shows.order, shows.tied)
 
-  accepted_claim : (v : VerdictValue) (claim : Claim) → v.claim ≡ claim → v.kind ≡ instance_kind i → v.columns ≡ instance_columns i → IsClaimOf i claim → IsAccepted i v
-  accepted_claim v (yes_claim value) is kind columns true =
-      yes_law i v value kind columns is (λ s inside. solved_side s (slice_get value.sides (s - 1)) inside (true.0.each s inside)) (added_true valid_textbook models i value h formed true.0 true.1)
-  accepted_claim v (no_claim s lines) is kind columns true = no_law i v s lines kind columns is true.1
+  accepted_claim : (v : VerdictValue) (claim : Claim) → v.claim ≡ claim → v.version ≡ Two → v.kind ≡ instance_kind i → v.columns ≡ instance_columns i → IsClaimOf i claim → IsAccepted i v
+  accepted_claim v (yes_claim value) is two kind columns true =
+      yes_law i v value kind columns is (λ s inside. solved_side v.version two s (slice_get value.sides (s - 1)) inside (true.0.each s inside))
+      (added_true valid_textbook models i value h formed true.0 true.1)
+  accepted_claim v (no_claim s lines) is two kind columns true = no_law i v s lines kind columns is true.1
 
   pub true_accepted : (v : VerdictValue) → IsVerdictOf i v → IsAccepted i v
-  true_accepted v true = accepted_claim v v.claim refl true.kind true.columns true.claim
+  true_accepted v true = accepted_claim v v.claim refl true.version true.kind true.columns true.claim
 
   -- the text of a reply to `solve`
   pub solved_accepted : LengthLaw → (status : ℕ) (text : List ℕ) → IsVerdictReply i status text → HasVerdict text (IsAccepted i)

@@ -34,6 +34,7 @@ reason_text reason.Kind = codes "kind"
 reason_text reason.Columns = codes "columns"
 reason_text (reason.Order side) = codes "order " ++ decimal side
 reason_text (reason.Tree side row) = codes "tree " ++ (decimal side ++ (codes " " ++ decimal row))
+reason_text (reason.Complete side) = codes "complete " ++ decimal side
 reason_text reason.Intervals = codes "intervals"
 reason_text reason.Places = codes "places"
 reason_text reason.Contigs = codes "contigs"

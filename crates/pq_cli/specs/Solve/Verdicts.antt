@@ -11,17 +11,20 @@ use Rattle.proper_interval.specs.Formula.{AreIntervals}
 use Rattle.pq_tree.specs.Outline.{IsFrontier, leaves}
 use Rattle.pq_tree.specs.Proper.{IsProper}
 use Rattle.pq_tree.specs.Canonical.{IsCanonical}
+use Rattle.tied_law.specs.Tied.{IsTied}
 use Rattle.verdict_text.specs.Verdict.{SideValue, AddedValue, Claim, yes_claim, no_claim, VerdictValue}
+use Rattle.verdict_text.specs.declared.verdict.Version.TheVariants.{Two}
 use Rattle.verdict_text.specs.Grammar.{AreColumnCounts, IsVerdict}
 use Rattle.verdict_text.specs.Text.{verdict_text}
 use Rattle.instance_model.specs.Instance.{InstanceValue, plain, circular, convex, doubly, proper, robinson, instance_kind, instance_columns, IsSideOf, derived_matrix, IsInstance, IsWellFormed}
 use Rattle.pq_cli.specs.declared.TheConstants.{MAX_VERDICT_BYTES}
 
--- The tree is a canonical PQ-tree over the columns of the matrix, whose frontiers are exactly the valid orders. The
--- order is its leaves from left to right, and so a valid order.
+-- The tree is a canonical PQ-tree over the columns of the matrix that is tied to all rows, and its frontiers are exactly
+-- the valid orders. The order is its leaves from left to right, and so a valid order.
 pub record ShowsOrders (m : RowList) (side : SideValue) : Type 0 where
   pub proper : IsProper m.columns side.tree
   pub canonical : IsCanonical side.tree
+  pub tied : IsTied m.columns m.rows side.tree
   pub orders : (o : List ℕ) → IsFrontier side.tree o ↔ IsValidOrder m.columns m.rows o
   pub leaves : side.order ≡ leaves side.tree
   pub order : IsValidOrder m.columns m.rows side.order
@@ -72,8 +75,9 @@ abbrev pub IsClaimOf : InstanceValue → Claim → Type 0
 IsClaimOf i (yes_claim value) = ShowsSides i value.sides × IsSomeAnd (slice_get value.sides 0) (λ side. Adds i side.order value.added)
 IsClaimOf i (no_claim s lines) = IsFirstWithout i s × IsOddCycle (derived_matrix i s).columns (derived_matrix i s).rows lines
 
--- a verdict on an instance is true of it
+-- a verdict on an instance is of version 2, and true of it
 pub record IsVerdictOf (i : InstanceValue) (v : VerdictValue) : Type 0 where
+  pub version : v.version ≡ Two
   pub kind : v.kind ≡ instance_kind i
   pub columns : v.columns ≡ instance_columns i
   pub claim : IsClaimOf i v.claim

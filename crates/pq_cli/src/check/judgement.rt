@@ -45,6 +45,7 @@ impl fmt::Display for Judgement {
             Judgement::Fails(Reason::Columns) => f.write_str("invalid columns"),
             Judgement::Fails(Reason::Order(side)) => write!(f, "invalid order {side}"),
             Judgement::Fails(Reason::Tree(side, row)) => write!(f, "invalid tree {side} {row}"),
+            Judgement::Fails(Reason::Complete(side)) => write!(f, "invalid complete {side}"),
             Judgement::Fails(Reason::Intervals) => f.write_str("invalid intervals"),
             Judgement::Fails(Reason::Places) => f.write_str("invalid places"),
             Judgement::Fails(Reason::Contigs) => f.write_str("invalid contigs"),

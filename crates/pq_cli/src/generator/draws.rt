@@ -1,5 +1,5 @@
 // Matrices that are drawn from a number.
-ghost use Rattle.std.specs.Prelude.{◌≡◌, ◌+◌, ◌-◌, ◌*◌, ◌<◌, ◌≤◌, ◌++◌, length, IfOk, OnOk};
+ghost use Rattle.std.specs.Prelude.{◌≡◌, ◌+◌, ◌-◌, ◌*◌, ◌<◌, ◌≤◌, ◌++◌, length, take, IfOk, OnOk};
 ghost use Rattle.column_order.specs.Orders.{IsOrder};
 ghost use Rattle.row_model.specs.Positions.{ArePositions};
 ghost use Rattle.pq_cli.specs.Gen.Generated.{next_state, drawn, shuffled, hidden, run_at, run_of, drawn_rows, generated, GeneratedLaw};
@@ -46,12 +46,12 @@ pub fn generate(alloc: Global, seed: u64, columns: u32, rows: u32) -> Result<Mat
     let order = shuffled_order(alloc, columns, &mut draws)?;
     let positions = positions(alloc, &order)?;
     let mut matrix = Matrix::new(alloc, columns)?;
-    let mut row = Vec::with_capacity(alloc, columns as usize)?;
+    let mut row = vec![in alloc; 0; columns as usize]?;
     for _k in 0..rows {
         let p = draws.below(columns);
         let q = draws.below(columns);
-        list_run(&mut row, &positions, p.min(q) + 1, p.max(q) + 1)?;
-        matrix.push_row(&row)?;
+        let count = list_run(&mut row, &positions, p.min(q) + 1, p.max(q) + 1);
+        matrix.push_row(&row[..count])?;
     }
     Ok(matrix)
 }
@@ -74,19 +74,22 @@ fn shuffled_order(alloc: Global, columns: u32, draws: &mut Draws) -> Result<Vec<
     Ok(order)
 }
 
-// Makes the row that of the columns whose positions are from `first` to `last`, in ascending order. The positions count
-// from 1.
-fn list_run(row: &mut Vec<u32>, positions: &[u32], first: u32, last: u32) -> Result<(), NoMemory>
-    requires { length positions.now ≤ MAX_COLUMNS }
-    ensures { OnOk result (row.new.items ≡ run_at positions.now first last (length positions.now)) }
+// How many columns have a position from `first` to `last`. They stand at the front of `row` then, in ascending order. The
+// positions count from 1. A column is written before it is known whether it is one of them, which costs less than a branch.
+fn list_run(row: &mut [u32], positions: &[u32], first: u32, last: u32) -> usize
+    requires few { length positions.now ≤ MAX_COLUMNS }
+    requires room { length row.old ≡ length positions.now }
+    ensures within { result ≤ length row.new }
+    ensures run { take result row.new ≡ run_at positions.now first last (length positions.now) }
 {
-    row.clear();
+    let mut count = 0;
     for (before, position) in positions.iter().enumerate() {
+        row[count] = before as u32 + 1;
         if first <= *position && *position <= last {
-            row.push(before as u32 + 1)?;
+            count += 1;
         }
     }
-    Ok(())
+    count
 }
 
 /// A generated matrix has a valid order: that of which each row is a run.

@@ -19,9 +19,9 @@ use instance_model::{Instance, derived_sizes_law};
 use pq_tree::PqTree;
 use row_model::Kind;
 use std::alloc::Global;
-use verdict_text::{Columns, NoPart, Part, Verdict, YesPart, print};
+use verdict_text::{Columns, NoPart, Part, Verdict, Version, YesPart, print};
 
-/// The verdict on an instance.
+/// The verdict on an instance, of version 2: the tree of a yes stands for every order.
 pub fn verdict_on(alloc: Global, instance: &Instance) -> Result<Verdict, NoMemory>
     requires { IsInstance (instance_value instance.now) }
     ensures grammar { IfOk result (λ verdict. IsVerdict (verdict_value verdict)) }
@@ -32,6 +32,7 @@ pub fn verdict_on(alloc: Global, instance: &Instance) -> Result<Verdict, NoMemor
     let kind = instance.kind();
     let part = part_on(alloc, instance)?;
     Ok(Verdict {
+        version: Version::Two,
         kind,
         columns: columns_of(instance),
         part,

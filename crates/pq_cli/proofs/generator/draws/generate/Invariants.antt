@@ -6,5 +6,6 @@ use Rattle.pq_cli.proofs.generator.draws.generate.Given as goal
 abbrev pub invariant-loop-k : goal.invariant-loop-k
 invariant-loop-k l =
     (l.matrix.columns ≡ l.columns) ×
+    (length l.row.items ≡ l.columns) ×
     (length l.matrix.rows ≡ l._k) ×
     ((generated l.fn.seed l.columns l.rows).rows ≡ l.matrix.rows ++ drawn_rows (l.rows - l._k) l.order.items l.draws.state)
