@@ -1,0 +1,10 @@
+//! Runs of the top call over devices in memory that fail, that give and take few bytes at a time, and that never fail,
+//! and over files at their limits. The crate has no running code.
+#![tactic(auto)]
+
+#[cfg(test)]
+mod devices;
+#[cfg(test)]
+mod failures;
+#[cfg(test)]
+mod limits;

@@ -1,0 +1,5 @@
+pub mod Sides
+pub mod Ends
+pub mod Same
+pub mod Lines
+pub mod Textbook

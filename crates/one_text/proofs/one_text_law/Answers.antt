@@ -1,0 +1,12 @@
+use Rattle.one_text.proofs.Same.{canonical_text, same_text}
+use Rattle.one_text.proofs.Lines.{lines_law}
+use Rattle.one_text.proofs.Textbook.{textbook_text}
+use Rattle.one_text.proofs.one_text_law.Goals as goal
+
+pub returns : goal.returns
+returns c = record {
+  canonical = canonical_text c.canonical_tree_law.ensures.one;
+  lines = lines_law;
+  same = same_text c.canonical_tree_law.ensures.rows;
+  textbook = textbook_text c.reply_law.ensures.orders c.one_verdict.ensures c.canonical_tree_law.ensures.rows;
+}
