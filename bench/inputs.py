@@ -180,7 +180,7 @@ def window_file(columns, rows, width, rng):
 def yes_verdict(kind, order):
     """The verdict of an order, under a Q-node over its columns: both of its frontiers keep what the order keeps."""
     words = " ".join(str(column) for column in order)
-    lines = ["pq-verdict 1", f"kind {kind}", f"columns {len(order)}", "answer yes", f"tree [{words}]", f"order {words}", "end", ""]
+    lines = ["pq-verdict 2", f"kind {kind}", f"columns {len(order)}", "answer yes", f"tree [{words}]", f"order {words}", "end", ""]
     return "\n".join(lines).encode()
 
 
@@ -234,5 +234,5 @@ def cycle_verdict(columns, walk, number):
     for i, a in enumerate(walk):
         b, d = walk[(i + 1) % length], walk[(i + 2) % length]
         lines.append(f"{a} {b} row {number[a, d]}")
-    head = ["pq-verdict 1", "kind matrix", f"columns {columns}", "answer no", "side 1", f"cycle {length}"]
+    head = ["pq-verdict 2", "kind matrix", f"columns {columns}", "answer no", "side 1", f"cycle {length}"]
     return "\n".join(head + lines + ["end", ""]).encode()

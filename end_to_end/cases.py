@@ -17,7 +17,7 @@ def case(name, words, status, out=b"", err=b"", **more):
 
 def yes(columns, tree, order):
     """The verdict on a matrix that has a valid order."""
-    return (f"pq-verdict 1\nkind matrix\ncolumns {columns}\nanswer yes\n"
+    return (f"pq-verdict 2\nkind matrix\ncolumns {columns}\nanswer yes\n"
             f"tree {tree}\norder {order}\nend\n").encode()
 
 
@@ -30,9 +30,9 @@ def refused(name, content, code, line):
                 files={"file": content})
 
 
-def says(answer, kind="matrix", columns="3"):
+def says(answer, kind="matrix", columns="3", version="2"):
     """The text of a verdict with this answer, whose lines are apart by ` / `."""
-    lines = f"pq-verdict 1 / kind {kind} / columns {columns} / answer {answer} / end / "
+    lines = f"pq-verdict {version} / kind {kind} / columns {columns} / answer {answer} / end / "
     return lines.replace(" / ", "\n").encode()
 
 
@@ -45,6 +45,26 @@ def judged(name, matrix, verdict, line):
 def claims(name, answer, line, matrix=TRIANGLE, **head):
     """A check of a verdict with this answer."""
     return judged(name, matrix, says(answer, **head), line)
+
+
+def in_version_1(verdict):
+    """A verdict of version 2 with the header of version 1. What has another header stays."""
+    return verdict.replace(b"pq-verdict 2", b"pq-verdict 1", 1)
+
+
+def in_both(cases):
+    """The cases, and each with a verdict of version 2 again: with the header of version 1, and with the same answer."""
+    for one in cases:
+        yield one
+        files = one.get("files", {})
+        old = in_version_1(files.get("verdict", b""))
+        if old != files.get("verdict", b""):
+            yield {**one, "name": f"{one['name']}, in version 1", "files": {**files, "verdict": old}}
+
+
+def in_each(judge, name, verdict, line, line_of_1):
+    """Two checks of a verdict, of version 2 and with the header of version 1, and the line that each writes."""
+    return [judge(name, verdict, line), judge(f"{name}, in version 1", in_version_1(verdict), line_of_1)]
 
 
 def cycle(*lines):
@@ -153,9 +173,27 @@ VALID = [
                  "4 2 row 2"), "valid", matrix=b"110000\n001100\n000011\n010101\n", columns="6"),
     claims("a tree and its order", "yes / tree [1 2 3] / order 1 2 3", "valid", CHAIN),
     claims("the tree turned round, and the order the other way", "yes / tree [3 2 1] / order 3 2 1", "valid", CHAIN),
-    claims("a tree of fewer orders", "yes / tree [1 2 3] / order 1 2 3", "valid", b"110\n"),
     claims("a single column", "yes / tree 1 / order 1", "valid", b"1\n", columns="1"),
 ]
+
+# A matrix, the tree and the order of a yes, and the line of a check in version 2 and in version 1.
+COMPLETE = [
+    ("a tree of two orders of six", b"000\n", "[1 2 3]", "1 2 3", "invalid complete 1", "valid"),
+    ("a tree of all six orders", b"000\n", "(1 2 3)", "1 2 3", "valid", "valid"),
+    ("a tree of two orders of four", b"110\n", "[1 2 3]", "1 2 3", "invalid complete 1", "valid"),
+    ("a tree of all four orders", b"110\n", "(3 (2 1))", "1 2 3", "valid", "valid"),
+    ("a tree of two orders that are not the printed one", b"000\n", "[1 3 2]", "1 2 3", "invalid complete 1", "valid"),
+    ("a tree of two orders that part a row", b"101\n", "[1 2 3]", "1 3 2", "invalid tree 1 1", "invalid tree 1 1"),
+    ("a tree of two orders, and a printed one that parts a row", b"110\n", "[1 2 3]", "1 3 2", "invalid order 1", "invalid order 1"),
+    ("a node too many", b"000\n", "((1 2) 3)", "1 2 3", "invalid complete 1", "valid"),
+    ("a column too many in a node in square brackets", b"11000\n00110\n01100\n", "[1 2 3 4 5]", "1 2 3 4 5", "invalid complete 1", "valid"),
+    ("a node in square brackets beside a column", b"11000\n00110\n01100\n", "([1 2 3 4] 5)", "1 2 3 4 5", "valid", "valid"),
+    ("two nodes in square brackets in place of one", b"11000\n01100\n00110\n00011\n", "[[1 2 3] 4 5]", "1 2 3 4 5", "invalid tree 1 3", "invalid tree 1 3"),
+]
+
+VERSIONS = [check for name, matrix, tree, order, *answers_of in COMPLETE
+            for check in in_each(lambda name, verdict, line, matrix=matrix: judged(name, matrix, verdict, line),
+                                 name, says(f"yes / tree {tree} / order {order}", columns=str(len(matrix.split()[0]))), *answers_of)]
 
 # Each verdict fails one test of those that are made on a matrix, and passes those before it.
 FORGED = [
@@ -166,7 +204,8 @@ FORGED = [
     judged("a last line without its LF", CHAIN, says("yes / tree [1 2 3] / order 1 2 3")[:-1], "invalid text"),
     judged("lines that end with CR LF", CHAIN, says("yes / tree [1 2 3] / order 1 2 3").replace(b"\n", b"\r\n"), "invalid text"),
     judged("a byte order mark", CHAIN, b"\xef\xbb\xbf" + says("yes / tree [1 2 3] / order 1 2 3"), "invalid text"),
-    judged("another version", CHAIN, says("yes / tree [1 2 3] / order 1 2 3").replace(b"t 1", b"t 2", 1), "invalid text"),
+    *(claims(f"version {version!r}", "yes / tree [1 2 3] / order 1 2 3", "invalid text", CHAIN, version=version)
+      for version in ["0", "3", "02", "12", "", "2 ", "2.0", "two"]),
     claims("a column twice in the tree", "yes / tree [1 2 2] / order 1 2 3", "invalid text", CHAIN),
     claims("a column that the tree lacks", "yes / tree (1 2) / order 1 2 3", "invalid text", CHAIN),
     claims("a node in square brackets with two children", "yes / tree [1 (2 3)] / order 1 2 3", "invalid text", CHAIN),
@@ -227,4 +266,4 @@ REFUTED = [
     ("a row across two nested ones", 5, [{1, 2, 3}, {1, 2}, {2, 3}, {1, 3, 4}, {5}]),
 ]
 
-CASES = WORDS + ANSWERS + REFUSED + FILES + VALID + FORGED + CHECK_FILES
+CASES = WORDS + ANSWERS + REFUSED + FILES + [*in_both(VALID + FORGED + CHECK_FILES), *VERSIONS]

@@ -1,8 +1,9 @@
 #!/usr/bin/env python3
 """Runs the built program over real files, streams and devices, and compares bytes and status; has it check what it solved, also at the
 limits; runs the commands of the pages; compares the answer on every small instance with a plain program that tries all orders, and has
-the verdict checked; compares the judgement on changed verdicts and the refusals of changed files with a second checker; compares generated
-matrices and sessions with plain programs of their rules; bounds what hostile files cost; and tries the first call of `./pq`.
+the verdict checked; compares the judgement on forged verdicts and the refusals of changed files with a second checker, and that on right
+verdicts with other trees with a plain program that lists all orders; compares generated matrices and sessions with plain programs of their
+rules; bounds what hostile files cost; and tries the first call of `./pq`.
 
 Usage: end_to_end/check.py            after `rt ci` or `./pq`, which leave the program in crates/pq/out/pq
 The last line is `N passed, N failed`; the status is 0 where nothing failed.
@@ -19,6 +20,7 @@ import tempfile
 import all_kinds
 import first_call
 import forgeries
+import other_trees
 from cases import CASES, REFUTED
 from file_readers import Limits
 from forged import FORGED_CASES
@@ -146,7 +148,7 @@ def main():
         in_folders(report, top, program)
         on_pages(report, top, program)
     side_by_side(report, without_folders())
-    for name, problem in itertools.chain(forgeries.compared(Limits()), hostile_problems(), first_call.problems()):
+    for name, problem in itertools.chain(forgeries.compared(Limits()), other_trees.compared(), hostile_problems(), first_call.problems()):
         report.tell(name, problem)
     print(f"{report.passed} passed, {report.failed} failed")
     return 1 if report.failed else 0

@@ -1,12 +1,15 @@
 #!/usr/bin/env python3
-"""A second checker of verdicts, written from docs/FORMATS.md alone: its own readers of every file, and every test of a verdict.
+"""A second checker of verdicts, written from docs/FORMATS.md and docs/CERTIFICATES.md alone: its own readers of every file, and every test of
+a verdict.
 
 Usage: end_to_end/checker.py KIND FILE VERDICT
 
 Prints the line that `pq check` prints, with the same status: 0 where the verdict is valid, 1 where it isn't, and 3 where FILE is refused.
-Each order is tested by what is asked of it, and each tree by the rows that all its frontiers keep; nothing here solves an instance.
+Each order is tested by what is asked of it, and each tree by the rows that all its frontiers keep, and in version 2 by the classes of pairs
+besides; nothing here solves an instance.
 """
 
+import itertools
 import sys
 from typing import Callable, NamedTuple
 
@@ -161,6 +164,37 @@ def always_kept(tree):
     return is_kept
 
 
+def gaps_of(tree, rows):
+    """Of the rows that have two neighbours of a tree from left to right, the least last position and the greatest first one, by the position
+    of the left neighbour. Where there is no such row, nothing lies past the one or before the other."""
+    position = positions_of(tree.leaves)
+    least_last, greatest_first = [len(tree.leaves)] * len(tree.leaves), [1] * len(tree.leaves)
+    for first, last in {span_of(position, row) for row in rows if row}:
+        for left in range(first, last):
+            least_last[left] = min(least_last[left], last)
+            greatest_first[left] = max(greatest_first[left], first)
+    return least_last, greatest_first
+
+
+def has_all_orders(tree, rows):
+    """Whether each order that keeps the rows is a frontier of a tree whose frontiers all keep them."""
+    least_last, greatest_first = gaps_of(tree, rows)
+
+    def leads_on(x, p, first, last):
+        return (x > first and p > least_last[x - 1]) or (p < last and x < greatest_first[p])
+
+    def is_one_class(children):
+        first, last = children[0][0], children[-1][1]
+        return all((x, p) == (first, last) or leads_on(x, p, first, last)
+                   for left, right in itertools.combinations(children, 2)
+                   for x in range(left[0], left[1] + 1) for p in range(right[0], right[1] + 1))
+
+    def is_bound(node):
+        return is_one_class(node.children) if node.bracket == b"[" else all(map(is_one_class, itertools.combinations(node.children, 2)))
+
+    return all(map(is_bound, tree.nodes))
+
+
 def failed_sides(instance, verdict):
     """The first test of an order or a tree that fails, or None."""
     for number, (side, tree, order) in enumerate(zip(instance.sides, verdict.trees, verdict.orders), 1):
@@ -170,6 +204,8 @@ def failed_sides(instance, verdict):
         for row_number, row in enumerate(side.rows, 1):
             if not is_kept(row):
                 return f"tree {number} {row_number}"
+        if verdict.version == 2 and not has_all_orders(tree, side.rows):
+            return f"complete {number}"
     return None
 
 

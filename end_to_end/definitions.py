@@ -3,6 +3,7 @@
 Nothing here is fast: each definition stands as docs/DEFINITIONS.md has it.
 """
 
+import functools
 import itertools
 
 
@@ -27,8 +28,13 @@ class Side:
 
     def __init__(self, columns, is_textbook, rows):
         self.columns = columns
-        self.textbook = {order for order in orders(columns) if is_textbook(order)}
+        self.is_textbook = is_textbook
         self.rows = rows
+
+    @functools.cached_property
+    def textbook(self):
+        """The textbook orders."""
+        return {order for order in orders(self.columns) if self.is_textbook(order)}
 
 
 def valid_orders(columns, rows):

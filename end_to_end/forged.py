@@ -3,10 +3,10 @@
 Every wanted text was written by hand from the rules of the formats (docs/FORMATS.md).
 """
 
-from cases import CHAIN, case, count, judged, nested_tree
+from cases import CHAIN, case, count, in_both, judged, nested_tree
 
 # The verdict on two rows that overlap, by its lines.
-VERDICT = ["pq-verdict 1", "kind matrix", "columns 3", "answer yes", "tree [1 2 3]", "order 1 2 3", "end"]
+VERDICT = ["pq-verdict 2", "kind matrix", "columns 3", "answer yes", "tree [1 2 3]", "order 1 2 3", "end"]
 COLUMNS = 2_048
 
 
@@ -68,13 +68,13 @@ REFUSED = [
 
 # The rows 1 to 2, 1 to 3 and so on, whose tree is nested as deep as a tree can be.
 DEEP = f"{COLUMNS}\n".encode() + b"".join(f"{count(last)}\n".encode() for last in range(2, COLUMNS))
-DEEP_VERDICT = text(["pq-verdict 1", "kind rows", f"columns {COLUMNS}", "answer yes", f"tree {nested_tree(COLUMNS)}", f"order {count(COLUMNS)}", "end"])
+DEEP_VERDICT = text(["pq-verdict 2", "kind rows", f"columns {COLUMNS}", "answer yes", f"tree {nested_tree(COLUMNS)}", f"order {count(COLUMNS)}", "end"])
 
 FORGED_CASES = [
-    *(judged(f"a verdict with {what}", CHAIN, verdict, line) for what, verdict, line in CHANGED),
+    *in_both(judged(f"a verdict with {what}", CHAIN, verdict, line) for what, verdict, line in CHANGED),
     *(case(f"{kind} {content[:40]!r} is refused", ["solve", kind, "file"], 3, err=f"pq: refused 1 code {code} line {line}\n".encode(),
            files={"file": content}) for kind, content, code, line in REFUSED),
     case("a tree nested 2,047 deep", ["solve", "rows", "file"], 0, DEEP_VERDICT, files={"file": DEEP}),
-    case("a verdict with a tree nested 2,047 deep", ["check", "rows", "file", "verdict"], 0, b"valid\n",
-         files={"file": DEEP, "verdict": DEEP_VERDICT}),
+    *in_both([case("a verdict with a tree nested 2,047 deep", ["check", "rows", "file", "verdict"], 0, b"valid\n",
+                   files={"file": DEEP, "verdict": DEEP_VERDICT})]),
 ]

@@ -1,33 +1,49 @@
 #!/usr/bin/env python3
-"""Compares `pq check` and the readers of `pq` with checker.py, on changed verdicts and on changed files.
+"""Compares `pq check` and the readers of `pq` with checker.py, on forged verdicts and on changed files.
 
 Usage: end_to_end/forgeries.py [COLUMNS ROWS VERDICT_BYTES]     after `rt ci` or `./pq`, which leave the program in crates/pq/out/pq
 
-The three numbers are the limits of a program that has other ones. From each verdict on a sample of small instances of every kind it makes
-every single change of a number, a bracket, a word, a blank and a line, and draws other trees and orders; from a small file of each kind
-every single change of a byte. Each changed verdict gets the same line from both, and each changed file the same refusal, or a verdict that
-both find valid.
-The last line is `N passed, N failed`; the status is 0 where nothing failed.
+The three numbers are the limits of a program that has other ones. From each right verdict of the small instances of every kind, and from some
+of larger ones, it makes every forgery of forger.py, and of some of them with the header of version 1 too; and from a small file of each kind
+every single change of a byte. Each forgery gets the same line from both, down to the test and its numbers, and each changed file the same
+refusal, or a verdict that both find valid.
+It prints how many forgeries of each kind failed which test. The last line is `N passed, N failed`; the status is 0 where nothing failed.
 """
 
+import collections
 import concurrent.futures
 import itertools
 import json
 import os
-import random
 import re
+import resource
 import sys
 import tempfile
+import time
 
 import all_kinds
 from checker import judgement, read_instance
 from file_readers import Limits, Refused, read_further
+from forger import NUMBER, forgeries_of, replaced
 from odd_files import ENTRIES, odd_files, odd_further
 from program import run
 
+# What the forgeries have to be at the least, of so many kinds, and how many seconds they may take of each processor.
+LEAST_FORGERIES = 20_000
+KINDS = 9
+MOST_SECONDS = 120
+# An instance is small where it has at most so many columns; of `doubly` and `clones` where the columns of both sides, or the columns and the
+# clones, are so many together.
+SMALL_COLUMNS = 3
+SMALL_TOGETHER = 4
+# Of the larger instances, so many forms of verdicts of each kind and answer.
 SAMPLE = 3
-# Trees and orders drawn for each side of a verdict.
-DRAWN = 60
+# So many right verdicts of each kind are forged with the header of version 1 too.
+OLD = 4
+# So many right verdicts of other files of the kind are tried on a file too.
+OTHERS = 10
+# Files that are solved in one piece.
+PIECE = 500
 NAMES = "abcdefgh"
 # Larger files: trees with nodes below nodes of both sorts, rows without a column, and cycles over more columns.
 LARGER = [("matrix", b"11000000\n01100000\n00110000\n00001100\n11111100\n00000000\n00000010\n"),
@@ -41,123 +57,8 @@ LARGER = [("matrix", b"11000000\n01100000\n00110000\n00001100\n11111100\n0000000
           ("proper", b"7\n1 2\n2 3\n1 4\n2 4\n5 6\n"),
           ("proper", b"6\n1 2\n1 3\n1 4\n5 6\n"),
           ("robinson", b"5\n0 1 3 4 9\n1 0 2 3 8\n3 2 0 1 6\n4 3 1 0 5\n9 8 6 5 0\n")]
-NUMBER = re.compile(rb"[0-9]+")
-BRACKETS = [b"(", b")", b"[", b"]"]
-WORDS = [b"matrix", b"rows", b"doubly", b"clones", b"proper", b"yes", b"no", b"1 2", b"1", b""]
 # The bytes that a changed file has in the place of one, or before one.
 BYTES = [bytes([byte]) for byte in b"013 \t\n\r,\"x-[}\\\0\xef"]
-
-
-def replaced(text, start, end, piece):
-    """The text with a piece in the place of what stands from start to end."""
-    return text[:start] + piece + text[end:]
-
-
-def changed_numbers(text):
-    """Each number made another."""
-    for match in NUMBER.finditer(text):
-        number = int(match[0])
-        others = [number + 1, max(number - 1, 0), 0, 1, 2, 3, 2 ** 32 - 1, 2 ** 32, 2 ** 64 - 1, 2 ** 64]
-        for other in [*dict.fromkeys(others), f"0{number}", f"-{number}", f"{number} {number}", f"({number})", "", "none"]:
-            yield replaced(text, *match.span(), str(other).encode())
-
-
-def changed_brackets(text):
-    """Each bracket made another or none, and each tree with its brackets all of one sort."""
-    for match in re.finditer(rb"[][()]", text):
-        for other in [*BRACKETS, b""]:
-            yield replaced(text, *match.span(), other)
-    yield text.translate(bytes.maketrans(b"()", b"[]"))
-    yield text.translate(bytes.maketrans(b"[]", b"()"))
-
-
-def changed_words(text):
-    """Each word that is no number made another, each exchanged with the next one, and other white space after each."""
-    for match in re.finditer(rb"[^ \n0-9]+", text):
-        for other in WORDS:
-            yield replaced(text, *match.span(), other)
-    for match in re.finditer(rb"(?=\b([0-9a-z]+)([] )([]*)([0-9a-z]+))", text):
-        yield replaced(text, match.start(1), match.end(3), match[3] + match[2] + match[1])
-    for match in re.finditer(rb"[ \n]", text):
-        for other in [b"  ", b" \n", b"\t", b"\r\n", b"\n", b""]:
-            yield replaced(text, *match.span(), other)
-
-
-def changed_lines(text):
-    """Each line dropped, doubled, cut to some of its words, or exchanged with the next one or the one after that."""
-    lines = text.splitlines(keepends=True)
-    for place, line in enumerate(lines):
-        words = line.split(b" ")
-        cut = [b" ".join(words[:count]).strip() + b"\n" for count in range(1, len(words))]
-        for other in [b"", line + line, *cut]:
-            yield b"".join([*lines[:place], other, *lines[place + 1:]])
-        for other in range(place + 1, min(place + 3, len(lines))):
-            yield b"".join([*lines[:place], lines[other], *lines[place + 1:other], line, *lines[other + 1:]])
-
-
-def changed_ends(text):
-    """The text cut off, with more before it or behind it, and with other ends of lines."""
-    yield from (text[:length] for length in range(len(text)))
-    yield from (text + more for more in [b"\n", b" ", b"\0", b"end\n", b"x", text])
-    yield from (more + text for more in [b"\xef\xbb\xbf", b"\n", b" ", b"#\n"])
-    yield text.replace(b"\n", b"\r\n")
-    yield text.replace(b"\n", b"\r")
-    yield text.upper()
-
-
-def drawn_tree(draw, columns):
-    """A tree over these columns that is drawn at random."""
-    trees = [str(column) for column in draw.sample(columns, len(columns))]
-    while len(trees) > 1:
-        count = draw.randint(2, len(trees))
-        first = draw.randrange(len(trees) - count + 1)
-        inner = " ".join(trees[first:first + count])
-        trees[first:first + count] = [f"({inner})" if count == 2 or draw.random() < 0.4 else f"[{inner}]"]
-    return trees[0].encode()
-
-
-def changed_sides(text):
-    """Each tree made others over its columns, and each order others."""
-    draw = random.Random(text)
-    for match in re.finditer(rb"tree (.+)\norder (.+)\n", text):
-        columns = [int(column) for column in match[2].split(b" ")]
-        for _ in range(DRAWN):
-            yield replaced(text, *match.span(1), drawn_tree(draw, columns))
-            order = b" ".join(b"%d" % column for column in draw.sample(columns, len(columns)))
-            yield replaced(text, *match.span(2), order)
-        turns = [columns[turn:] + columns[:turn] for turn in range(len(columns))]
-        for order in turns + [turn[::-1] for turn in turns]:
-            yield replaced(text, *match.span(2), b" ".join(b"%d" % column for column in order))
-
-
-def changed_intervals(text):
-    """Each interval made that of another vertex."""
-    found = list(re.finditer(rb"interval [0-9]+ ([0-9]+ [0-9]+)", text))
-    for one, other in itertools.permutations(found, 2):
-        yield replaced(text, *one.span(1), other[1])
-
-
-def changed_cycles(text):
-    """The lines of a cycle from another of them on, backwards, fewer and more of them, and each with other pairs and reasons."""
-    found = re.search(rb"cycle [0-9]+\n((?:[0-9]+ [0-9]+ [a-z0-9 ]+\n)+)", text)
-    if not found:
-        return
-    lines = found[1].splitlines()
-    pieces = [lines[place:] + lines[:place] for place in range(1, len(lines))]
-    pieces += [lines[:length] for length in range(len(lines))] + [lines + lines[:length] for length in (1, 2, len(lines))]
-    for place, line in enumerate(lines):
-        a, b, reason = line.split(b" ", 2)
-        others = [b"%d %d %s" % (x, y, reason) for x in range(1, 5) for y in range(1, 5)]
-        others += [b" ".join([a, b, other]) for other in [b"flip", *(b"row %d" % row for row in range(6))]]
-        pieces += [[*lines[:place], other, *lines[place + 1:]] for other in others]
-    for piece in [*pieces, lines[::-1]]:
-        yield replaced(text, *found.span(), b"".join(line + b"\n" for line in [b"cycle %d" % len(piece), *piece]))
-
-
-def forged(text):
-    """Every change of a verdict, each once; the first is none."""
-    ways = [changed_numbers, changed_brackets, changed_words, changed_lines, changed_ends, changed_sides, changed_intervals, changed_cycles]
-    return dict.fromkeys(itertools.chain([text], *(way(text) for way in ways)))
 
 
 def changed_files(content):
@@ -181,32 +82,57 @@ def matrix_files(content):
     yield "clones", json.dumps({"probes": list(names), "clones": clones}, separators=(",", ":")).encode()
 
 
-def small_files():
-    """Small files of all nine kinds: by its kind and its answer, which is whether there is an order."""
-    found = {}
+def in_kinds(kind, content):
+    """A file with its kind, and one of a matrix in the other kinds of matrices too."""
+    yield kind, content
+    if kind == "matrix":
+        yield from matrix_files(content)
+
+
+def instance_files():
+    """The file of each instance of all_kinds.py with its kind, that of a matrix in the other kinds of matrices too."""
     for instance in all_kinds.instances(all_kinds.MOST_COLUMNS):
-        answer = all(side.textbook for side in instance.sides)
-        found.setdefault((instance.kind, answer), []).append(instance.content)
-    for answer in (True, False):
-        for content in found["matrix", answer]:
-            for kind, text in matrix_files(content):
-                found.setdefault((kind, answer), []).append(text)
-    return found
+        yield from in_kinds(instance.kind, instance.content)
+
+
+def larger_files():
+    """The larger files, each with its kind."""
+    return itertools.chain.from_iterable(itertools.starmap(in_kinds, LARGER))
+
+
+def solved(files):
+    """Each file with its kind and its verdict."""
+    return [(kind, content, run(["solve", kind, "-"], content).stdout) for kind, content in files]
+
+
+def is_small(verdict):
+    """Whether a verdict is one of a small instance."""
+    counts = [int(count) for line in re.findall(rb"(?:columns|places) (.*)", verdict) for count in line.split()]
+    return max(counts) <= SMALL_COLUMNS and (len(counts) == 1 or sum(counts) <= SMALL_TOGETHER)
 
 
 def spread(items, count):
-    """So many of the items, evenly spread over them, the last one among them."""
+    """So many of the items, or all of fewer, evenly spread over them, the last one among them."""
+    count = min(count, len(items))
     return [items[(len(items) - 1) * number // count] for number in range(1, count + 1)]
 
 
-def sample():
-    """Files whose verdicts are changed, each with its kind: a few small ones of each kind and answer, and larger ones."""
-    for (kind, _), contents in small_files().items():
-        yield from ((kind, content) for content in spread(contents, SAMPLE))
-    for kind, content in LARGER:
-        yield kind, content
-        if kind == "matrix":
-            yield from matrix_files(content)
+def right_verdicts(answers):
+    """The verdicts that are forged, each with its kind and a file that it is right of: each one of a small instance, and of the others the first
+    of some forms. Verdicts that differ in their numbers alone have one form."""
+    forms = {}
+    for (kind, verdict), content in {(kind, verdict): content for kind, content, verdict in answers}.items():
+        if is_small(verdict):
+            yield kind, content, verdict
+        else:
+            forms.setdefault((kind, b"answer yes" in verdict), {}).setdefault(NUMBER.sub(b"#", verdict), (kind, content, verdict))
+    for found in forms.values():
+        yield from spread(list(found.values()), SAMPLE)
+
+
+def with_old_header(verdict):
+    """The verdict with the header of version 1."""
+    return b"pq-verdict 1\n" + verdict.split(b"\n", 1)[1]
 
 
 class Folder:
@@ -227,22 +153,50 @@ class Folder:
 
 
 def judged(folder, kind, instance, verdict, limits):
-    """How the program and the checker differ on a verdict on the file of an instance, or None."""
+    """The line of the checker on a verdict on the file of an instance, and how the program differs from it, or None."""
     folder.write(1, verdict)
     given = folder.run("check", kind, 2)
     line = judgement(kind, instance, verdict, limits)
     wanted = (0 if line == "valid" else 1, f"{line}\n".encode())
-    return None if given == wanted else f"{given}, the page says {wanted}"
+    return line, None if given == wanted else f"{given}, the page says {wanted}"
 
 
-def forgery_problems(kind, content, others, limits):
-    """Each forgery of the verdict on a file, and other verdicts, with how the program and the checker differ on it, or None."""
+class Forged:
+    """What came of the forgeries of a verdict: how many failed each test, what is wrong, and the seconds of the processor."""
+
+    def __init__(self, kind):
+        self.kind = kind
+        self.tests = collections.Counter()
+        self.problems = []
+        self.seconds = 0.0
+
+    def take(self, line, name, problem):
+        """Counts a forgery by its line."""
+        self.tests[line.split()[1] if line.startswith("invalid") else line] += 1
+        self.problems.append((name, problem))
+
+
+def processor_seconds():
+    """The seconds of the processor that this process and its children took."""
+    used = [resource.getrusage(who) for who in (resource.RUSAGE_SELF, resource.RUSAGE_CHILDREN)]
+    return sum(usage.ru_utime + usage.ru_stime for usage in used)
+
+
+def forged_problems(kind, content, verdict, others, limits):
+    """The forgeries of a verdict on a file, and other verdicts, each with how the program and the checker differ on it, or None."""
+    begin = processor_seconds()
     instance = read_instance(kind, content, limits)
+    forged = Forged(kind)
     with tempfile.TemporaryDirectory() as place:
         folder = Folder(place)
         folder.write(0, content)
-        verdicts = dict.fromkeys([*forged(folder.run("solve", kind, 1)[1]), *others])
-        return [(f"check {kind} {content!r} {verdict!r}", judged(folder, kind, instance, verdict, limits)) for verdict in verdicts]
+        line, problem = judged(folder, kind, instance, verdict, limits)
+        forged.problems.append((f"check {kind} {content!r} {verdict!r}", problem or (None if line == "valid" else f"the page says {line}")))
+        for forgery in [*forgeries_of(verdict), *others]:
+            line, problem = judged(folder, kind, instance, forgery, limits)
+            forged.take(line, f"check {kind} {content!r} {forgery!r}", problem)
+    forged.seconds = processor_seconds() - begin
+    return forged
 
 
 def length_problems(limits):
@@ -254,7 +208,7 @@ def length_problems(limits):
         folder.write(0, content)
         verdict = folder.run("solve", "matrix", 1)[1]
         lengths = (limits.verdict_bytes, limits.verdict_bytes + 1)
-        return [(f"check of {length} bytes", judged(folder, "matrix", instance, verdict.ljust(length), limits)) for length in lengths]
+        return [(f"check of {length} bytes", judged(folder, "matrix", instance, verdict.ljust(length), limits)[1]) for length in lengths]
 
 
 def flattened(verdict):
@@ -274,7 +228,7 @@ def answer_problem(folder, kind, content, limits):
     line = judgement(kind, instance, given[1], limits)
     if given[0] not in (0, 1) or line != "valid":
         return f"{given}, which the page finds {line}"
-    return judged(folder, kind, instance, given[1], limits) or judged(folder, kind, instance, flattened(given[1]), limits)
+    return judged(folder, kind, instance, given[1], limits)[1] or judged(folder, kind, instance, flattened(given[1]), limits)[1]
 
 
 def file_problems(kind, contents, limits):
@@ -302,25 +256,53 @@ def further_problems(contents, limits):
     return found
 
 
-def tasks(limits):
-    """What is compared, in pieces of about the same size."""
-    files = list(sample())
-    verdicts = [run(["solve", kind, "-"], content).stdout for kind, content in files]
-    for kind, content in files:
-        others = [verdict for verdict, (other, _) in zip(verdicts, files) if other == kind]
-        yield forgery_problems, (kind, content, others, limits)
-    for kind, content in ENTRIES.items():
-        yield file_problems, (kind, changed_files(content), limits)
-        yield file_problems, (kind, odd_files(kind, limits), limits)
-    yield length_problems, (limits,)
-    yield further_problems, ([*changed_files(b"1 2\n\n3 4 1\n"), *odd_further(limits)], limits)
+def told(forged, seconds):
+    """Prints how many forgeries failed which test, kind by kind, and gives what is wrong with their number and their time, or None."""
+    number = sum(one.tests.total() for one in forged)
+    share = sum(one.seconds for one in forged) / os.cpu_count()
+    kinds = dict.fromkeys(one.kind for one in forged)
+    for kind in kinds:
+        tests = sum((one.tests for one in forged if one.kind == kind), collections.Counter())
+        verdicts = sum(one.kind == kind for one in forged)
+        print(f"{kind}: {tests.total()} forgeries of {verdicts} verdicts; " + ", ".join(f"{test} {count}" for test, count in tests.most_common()))
+    print(f"{number} forgeries of {len(forged)} right verdicts of {len(kinds)} kinds in {seconds:.0f} seconds, "
+          f"{share:.0f} of each of {os.cpu_count()} processors", flush=True)
+    if number < LEAST_FORGERIES or len(kinds) < KINDS:
+        return f"{number} forgeries of {len(kinds)} kinds"
+    return None if share <= MOST_SECONDS else f"{share:.0f} seconds of each processor"
+
+
+def compared_forgeries(pool, limits):
+    """Each forgery with what is wrong with it, or None, and as the last their number and their time."""
+    begin = time.monotonic()
+    files = list(instance_files())
+    pieces = [*(files[start:start + PIECE] for start in range(0, len(files), PIECE)), list(larger_files())]
+    *small, larger = pool.map(solved, pieces)
+    verdicts = [*right_verdicts(itertools.chain.from_iterable(small)), *larger]
+    of_kind = {kind: [given for given in verdicts if given[0] == kind] for kind, _, _ in verdicts}
+    verdicts += [(kind, content, with_old_header(verdict)) for some in of_kind.values() for kind, content, verdict in spread(some, OLD)]
+    others = {kind: [verdict for _, _, verdict in spread(some, OTHERS)] for kind, some in of_kind.items()}
+    running = [pool.submit(forged_problems, kind, content, verdict, others[kind], limits) for kind, content, verdict in verdicts]
+    forged = [one.result() for one in running]
+    yield from itertools.chain.from_iterable(one.problems for one in forged)
+    yield "forgeries, how many and how long", told(forged, time.monotonic() - begin)
+
+
+def compared_files(pool, limits):
+    """Each changed file with what is wrong with it, or None."""
+    tasks = [(length_problems, (limits,)),
+             *((file_problems, (kind, changed_files(content), limits)) for kind, content in ENTRIES.items()),
+             *((file_problems, (kind, odd_files(kind, limits), limits)) for kind in ENTRIES),
+             (further_problems, ([*changed_files(b"1 2\n\n3 4 1\n"), *odd_further(limits)], limits))]
+    for running in [pool.submit(task, *given) for task, given in tasks]:
+        yield from running.result()
 
 
 def compared(limits):
     """Each forgery and each changed file with what is wrong with it, or None."""
     with concurrent.futures.ProcessPoolExecutor(os.cpu_count()) as pool:
-        for running in [pool.submit(task, *given) for task, given in tasks(limits)]:
-            yield from running.result()
+        yield from compared_forgeries(pool, limits)
+        yield from compared_files(pool, limits)
 
 
 def main():

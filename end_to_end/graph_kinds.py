@@ -3,7 +3,7 @@
 Every wanted text was written by hand from the rules of the formats (docs/FORMATS.md).
 """
 
-from cases import LIMIT, case, count
+from cases import LIMIT, case, count, in_both, in_each
 from kinds import DIGITS, MARK, answers, judged, lines, refused
 
 BIG = "18446744073709551615"
@@ -12,7 +12,7 @@ PAST = "18446744073709551616"
 
 def verdict(kind, columns, *body):
     """The text of a verdict, by its lines after those of the kind and the columns."""
-    return "".join(f"{line}\n" for line in ["pq-verdict 1", f"kind {kind}", f"columns {columns}", *body, "end"]).encode()
+    return "".join(f"{line}\n" for line in ["pq-verdict 2", f"kind {kind}", f"columns {columns}", *body, "end"]).encode()
 
 
 def no(kind, columns, side, cycle):
@@ -241,7 +241,33 @@ ROBINSON = [
     judged("a no on a table that has an order", "robinson", LINE, no("robinson", 3, 1, "1 3 row 2 / 3 2 row 8 / 2 1 row 5"), "invalid join 2"),
 ]
 
-GRAPH_CASES = CIRCULAR + CONVEX + DOUBLY + PROPER + ROBINSON
+# ---- versions ----
+
+# A kind, a file of it, its columns, the lines of a yes, and the line of a check in version 2 and in version 1.
+COMPLETE = [
+    ("two cut orders of four", "circular", TRIANGLE, 3, ["tree [1 2 3]", "order 1 2 3"], "invalid complete 1", "valid"),
+    ("two cut orders of four, and an order round the end", "circular", TRIANGLE, 3, ["tree [1 2 3]", "order 2 3 1"], "invalid complete 1", "valid"),
+    ("all cut orders", "circular", TRIANGLE, 3, ["tree ((3 2) 1)", "order 2 3 1"], "valid", "valid"),
+    ("two orders of six", "convex", b"2 3\n", 3, ["tree [1 2 3]", "order 1 2 3"], "invalid complete 1", "valid"),
+    ("too few orders of side 1", "doubly", b"3 3\n", "3 3", ["tree [1 2 3]", "order 1 2 3", "tree (1 2 3)", "order 1 2 3"], "invalid complete 1", "valid"),
+    ("too few orders of side 2", "doubly", b"3 3\n", "3 3", ["tree (1 2 3)", "order 1 2 3", "tree [1 2 3]", "order 1 2 3"], "invalid complete 2", "valid"),
+    ("too few orders of side 1, and a wrong one of side 2", "doubly", b"3 3\n", "3 3",
+     ["tree [1 2 3]", "order 1 2 3", "tree (1 2 3)", "order 1 2 2"], "invalid complete 1", "invalid order 2"),
+    ("too few orders of side 1, and a tree that parts a row of side 2", "doubly", lines("3 3 / 1 1 / 2 1"), "3 3",
+     ["tree [1 2 3]", "order 1 2 3", "tree (1 2 3)", "order 1 2 3"], "invalid complete 1", "invalid tree 2 1"),
+    ("all orders of both sides", "doubly", b"3 3\n", "3 3", ["tree (3 2 1)", "order 1 2 3", "tree (1 2 3)", "order 1 2 3"], "valid", "valid"),
+    ("two orders of six, with intervals", "proper", b"3\n", 3,
+     ["tree [1 2 3]", "order 1 2 3", "interval 1 4 5", "interval 2 8 10", "interval 3 12 15"], "invalid complete 1", "valid"),
+    ("two orders of six, with intervals that meet", "proper", b"3\n", 3,
+     ["tree [1 2 3]", "order 1 2 3", "interval 1 4 8", "interval 2 8 10", "interval 3 12 15"], "invalid complete 1", "invalid intervals"),
+    ("two orders of six", "robinson", lines("3 / 0 1 1 / 1 0 1 / 1 1 0"), 3, ["tree [1 2 3]", "order 1 2 3"], "invalid complete 1", "valid"),
+]
+
+VERSIONS = [check for name, kind, content, columns, body, *answers_of in COMPLETE
+            for check in in_each(lambda name, text, line, kind=kind, content=content: judged(name, kind, content, text, line),
+                                 name, verdict(kind, columns, "answer yes", *body), *answers_of)]
+
+GRAPH_CASES = [*in_both(CIRCULAR + CONVEX + DOUBLY + PROPER + ROBINSON), *VERSIONS]
 
 # Instances whose verdicts, yes and no, `check` finds valid.
 GRAPH_SOLVED = [

@@ -1,13 +1,17 @@
+#!/usr/bin/env python3
 """Files made to cost much: each ends with its status within a bound of processor time, and of memory by the bytes that it was handed.
 
-The bound on memory is twelve times the bytes beside what the program itself takes; README allows more for many small values, and names the
-one file that takes more still.
+Usage: end_to_end/hostile.py          after `rt ci` or `./pq`, which leave the program in crates/pq/out/pq
+
+It prints a line for each file, with what the program took on it. The bound on memory is twelve times the bytes beside what the program itself
+takes; README allows more for many small values, and names the one file that takes more still.
 """
 
 import os
 import subprocess
 import sys
 import tempfile
+from typing import NamedTuple
 
 from cases import LIMIT, VERDICT_LIMIT
 from program import HOME, PROGRAM
@@ -69,6 +73,9 @@ def refused_files():
     yield "clones", "short escapes", filled(b'"', b"\\n", b'"'), (10, 0)
     yield "clones", "a long name of a probe that is not there", filled(CLONES + b'{"probes":["', b"\\u0061", b'"]}]}'), (4, 1)
     yield "clones", "digits", filled(b"", b"9"), (9, 0)
+    yield "clones", "arrays in an array", filled(b"[", b"[],", b"[]]"), (10, 0)
+    yield "clones", "numbers", filled(b"[1", b",1", b"]"), (10, 0)
+    yield "clones", "one name of a member again and again", filled(b'{"a":1', b',"a":1', b"}"), (10, 0)
     yield "table", "one column", filled(b"t\n", b"x\n"), (1, 1)
     yield "table", "quotes", filled(b"", b'"'), (1, 1)
     yield "table", "short records", filled(b"t,a,b\n", b"x\n"), (8, 0)
@@ -100,11 +107,8 @@ def crowded_files():
     """Files of the greatest length that are full of small values, each with its kind, what it is made of, and the code and the line of its
     refusal."""
     yield "table", "commas", filled(b"", b","), (7, 1)
-    yield "clones", "arrays in an array", filled(b"[", b"[],", b"[]]"), (10, 0)
     yield "clones", "clones without probes", filled(CLONES + b"{}", b",{}", b"]}"), (7, 0)
     yield "clones", "zeros in place of clones", filled(CLONES + b"0", b",0", b"]}"), (7, 0)
-    yield "clones", "numbers", filled(b"[1", b",1", b"]"), (10, 0)
-    yield "clones", "one name of a member again and again", filled(b'{"a":1', b',"a":1', b"}"), (10, 0)
 
 
 def nested_arrays():
@@ -112,8 +116,21 @@ def nested_arrays():
     return b'{"probes":["a"],"clones":[],"more":' + filled(b"[", b"[[[[[]]]]],", b"1]}", LIMIT - 40)
 
 
+class Cost(NamedTuple):
+    """What a run took: seconds of the processor, and bytes of memory at the peak."""
+
+    seconds: float
+    peak: int
+
+    def problem(self, length, beside):
+        """What is wrong with the cost of a run over so many bytes, or None."""
+        if self.seconds > MOST_SECONDS:
+            return f"{self.seconds:.1f} seconds of the processor"
+        return None if self.peak <= beside + MOST_TIMES * length else f"{self.peak} bytes at the peak for {length}"
+
+
 def measured(words, content):
-    """A run of the program over a file as its last word: status, output, errors, seconds of the processor, and the peak of its bytes."""
+    """A run of the program over a file as its last word: its status, its output, its errors, and its cost."""
     with tempfile.TemporaryDirectory() as folder:
         file, cost = os.path.join(folder, "file"), os.path.join(folder, "cost")
         with open(file, "wb") as stream:
@@ -122,23 +139,13 @@ def measured(words, content):
                               check=False)
         with open(cost, encoding="utf-8") as stream:
             status, seconds, peak = stream.read().split()
-    return int(status), done.stdout, done.stderr, float(seconds), int(peak)
+    return (int(status), done.stdout, done.stderr), Cost(float(seconds), int(peak))
 
 
-def cost_problem(content, beside, seconds, peak):
-    """What is wrong with the cost of a run over these bytes, or None."""
-    bound = beside + MOST_TIMES * len(content)
-    if seconds > MOST_SECONDS:
-        return f"{seconds:.1f} seconds of the processor"
-    return None if peak <= bound else f"{peak / max(len(content), 1):.1f} times the {len(content)} bytes at the peak"
-
-
-def problem(words, content, wanted, beside):
-    """What is wrong with a run over a file, or None. The wanted output is left out where it is free."""
-    *given, seconds, peak = measured(words, content)
+def difference(given, wanted):
+    """How the status, the output and the errors differ from those that are wanted, or None. The wanted output is left out where it is free."""
     given = [one[:200] if isinstance(one, bytes) else one for one in given]
-    fits = all(want is None or want == one for want, one in zip(wanted, given))
-    return cost_problem(content, beside, seconds, peak) if fits else f"{given}, wanted {wanted}"
+    return None if all(want is None or want == one for want, one in zip(wanted, given)) else f"{given}, wanted {wanted}"
 
 
 def hostile():
@@ -159,6 +166,20 @@ def hostile():
 
 
 def hostile_problems():
-    """Each hostile file with what is wrong, or None. They are run one after another, so that they do not slow each other."""
+    """Each hostile file with what is wrong, or None. They are run one after another, so that they do not slow each other; what each cost is
+    printed."""
     for name, words, content, wanted, beside in hostile():
-        yield f"hostile: {name}", problem(words, content, wanted, beside)
+        given, cost = measured(words, content)
+        times = f", {cost.peak / len(content):.2f} times" if len(content) > LIMIT // 2 else ""
+        print(f"{name}: status {given[0]}, {cost.seconds:.2f} seconds, {cost.peak} bytes at the peak for {len(content)}{times}", flush=True)
+        yield f"hostile: {name}", difference(given, wanted) or cost.problem(len(content), beside)
+
+
+def main():
+    failed = [f"FAILED {name}: {problem}" for name, problem in hostile_problems() if problem is not None]
+    print(*failed, f"{len(failed)} failed", sep="\n")
+    return 1 if failed else 0
+
+
+if __name__ == "__main__":
+    sys.exit(main())

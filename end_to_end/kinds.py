@@ -5,7 +5,7 @@ Every wanted text was written by hand from the rules of the formats (docs/FORMAT
 
 import json
 
-from cases import LIMIT, case, count
+from cases import LIMIT, case, count, in_both, in_each
 
 MARK = b"\xef\xbb\xbf"
 DIGITS = b"1" * 30
@@ -13,7 +13,7 @@ DIGITS = b"1" * 30
 
 def yes(kind, columns, tree, order, *added):
     """The verdict on an instance that has a valid order, with the lines that the kind adds."""
-    lines = ["pq-verdict 1", f"kind {kind}", f"columns {columns}", "answer yes", f"tree {tree}", f"order {order}", *added, "end"]
+    lines = ["pq-verdict 2", f"kind {kind}", f"columns {columns}", "answer yes", f"tree {tree}", f"order {order}", *added, "end"]
     return "\n".join(lines + [""]).encode()
 
 
@@ -43,6 +43,7 @@ CHAIN_ANSWER = (5, "([1 2 3 4] 5)", "1 2 3 4 5")
 
 ROWS = [
     answers("a chain beside a column", "rows", CHAIN_ROWS, *CHAIN_ANSWER),
+    answers("the same rows in another order, one of them twice", "rows", lines("5 / 2 3 / 3 4 / 1 2 / 3 4"), *CHAIN_ANSWER),
     answers("2,048 columns without a row", "rows", b"2048\n", 2048, f"({count(2048)})", count(2048)),
     answers("lines that end with CR LF", "rows", CHAIN_ROWS.replace(b"\n", b"\r\n"), *CHAIN_ANSWER),
     answers("no LF at the end", "rows", CHAIN_ROWS[:-1], *CHAIN_ANSWER),
@@ -325,4 +326,15 @@ SOLVED = [
     ("chains of clones", "clones", clones([str(j) for j in range(300)], *[[str(j * 7 % 300) for j in range(i, i + 1 + i % 9)] for i in range(280)])),
 ]
 
-KIND_CASES = ROWS + TABLES + CLONES + PLACED
+# A tree of eight of the twelve orders of the map.
+FEWER = "([1 2 3] (4 5))"
+VERSIONS = [
+    *in_each(lambda name, verdict, line: judged(name, "clones", MAP, verdict, line), "too few orders",
+             yes("clones", 5, FEWER, "1 2 3 4 5", *PLACES, *CONTIGS), "invalid complete 1", "valid"),
+    *in_each(lambda name, verdict, line: judged(name, "clones", MAP, verdict, line), "too few orders, and wrong places",
+             yes("clones", 5, FEWER, "1 2 3 4 5", "places 0", *CONTIGS), "invalid complete 1", "invalid places"),
+    *in_each(lambda name, verdict, line: judged(name, "table", NESTED_TABLE, verdict, line), "too few orders",
+             yes("table", 3, "[1 2 3]", "1 2 3"), "invalid complete 1", "valid"),
+]
+
+KIND_CASES = ROWS + TABLES + CLONES + [*in_both(PLACED), *VERSIONS]

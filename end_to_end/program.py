@@ -8,7 +8,7 @@ HOME = os.path.dirname(os.path.dirname(os.path.abspath(__file__)))
 PROGRAM = os.path.join(HOME, "crates", "pq", "out", "pq")
 SECONDS = 60
 # The first line of the verdicts that the program writes.
-HEADER = "pq-verdict 1"
+HEADER = "pq-verdict 2"
 
 
 def run(words, content=b""):

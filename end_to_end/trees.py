@@ -19,6 +19,14 @@ def parsed(text):
     return tree
 
 
+def written(tree):
+    """The text of a tree."""
+    if isinstance(tree, int):
+        return str(tree)
+    bracket, children = tree
+    return bracket + " ".join(map(written, children)) + {"(": ")", "[": "]"}[bracket]
+
+
 def frontiers(tree):
     """All frontiers of a tree, as tuples."""
     if isinstance(tree, int):

@@ -42,6 +42,7 @@ class Line(NamedTuple):
 class Verdict(NamedTuple):
     """What a verdict says. What its answer or its kind lacks is empty."""
 
+    version: int
     kind: str
     columns: list
     answer: bool
@@ -201,17 +202,17 @@ def reason_of(words):
 def read_verdict(content, limits):
     """The verdict that the bytes are."""
     lines = Lines(content)
-    lines.exactly(b"pq-verdict 1")
+    version = int(lines.choice(b"pq-verdict", {b"1", b"2"}))
     kind = lines.choice(b"kind", KINDS).decode()
     columns = columns_of(lines, kind, limits)
     if lines.choice(b"answer", {b"yes", b"no"}) == b"yes":
         trees, orders = sides_of(lines, columns)
         intervals = intervals_of(lines, columns[0]) if kind == "proper" else []
         places, contigs = (places_of(lines), contigs_of(lines)) if kind == "clones" else ([], [])
-        verdict = Verdict(kind, columns, True, trees, orders, intervals, places, contigs)
+        verdict = Verdict(version, kind, columns, True, trees, orders, intervals, places, contigs)
     else:
         side = int(lines.choice(b"side", {b"1", b"2"} if kind == "doubly" else {b"1"}))
-        verdict = Verdict(kind, columns, False, side=side, cycle=cycle_of(lines))
+        verdict = Verdict(version, kind, columns, False, side=side, cycle=cycle_of(lines))
     lines.exactly(b"end")
     if lines.place != len(lines.lines):
         raise NoVerdict

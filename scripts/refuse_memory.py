@@ -56,7 +56,7 @@ int posix_memalign(void **new, size_t to, size_t n) { if (is_refused()) return E
 """
 CHAIN = b"110\n011\n"
 TRIANGLE = b"110\n011\n101\n"
-VERDICT = b"pq-verdict 1\nkind matrix\ncolumns 3\nanswer yes\ntree [1 2 3]\norder 1 2 3\nend\n"
+VERDICT = b"pq-verdict 2\nkind matrix\ncolumns 3\nanswer yes\ntree [1 2 3]\norder 1 2 3\nend\n"
 CLONES = b'{"probes":["a","b","c","d","e"],"clones":[{"probes":["b","a"]},{"probes":["b","c"]},{"probes":[]},{"probes":["d"]}]}\n'
 # The words before the files, and the bytes of the files.
 RUNS = [

@@ -87,7 +87,7 @@ def outside_tests(path):
 def code(crate):
     """The lines of a crate's sources that are no part of its tests, without comments, with where each stands."""
     for path in files(os.path.join("crates", crate, "src"), ".rt"):
-        if os.path.basename(path) == "tests.rt" or "tests" in os.path.dirname(path).split(os.sep):
+        if os.path.basename(path).endswith("_tests.rt") or os.path.basename(path) == "tests.rt" or "tests" in os.path.dirname(path).split(os.sep):
             continue
         for place, line in outside_tests(path):
             yield place, line.split("//")[0].strip()
