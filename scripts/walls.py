@@ -12,6 +12,8 @@ Usage: scripts/walls.py
 4. Reducing a row takes no memory: outside tests no code of these crates or of the arena takes an allocator out of a vector, and a call
    that is handed none has no other.
 5. Every function of the end-to-end checks, the benches and the scripts is called: a check that does not run is none.
+6. The pages name what stands: each call, type and law in the second column of docs/CONTRACTS.md is one of the crate in the first, and
+   README names each crate.
 
 Each line that breaks a rule is printed. The last line is `N passed, N failed`; the status is 0 where nothing failed.
 """
@@ -29,12 +31,15 @@ STEPPED = ["bubble_pass", "full_pass", "templates_p", "templates_q", "row_reduce
 WITHOUT_MEMORY = ["pq_arena"] + STEPPED
 WHOLE_TREE = ("crates/row_reduce/src/reducer.rt", "tree")
 PYTHON = ["end_to_end", "bench", "scripts"]
+CONTRACTS = os.path.join("docs", "CONTRACTS.md")
 
 CITED = re.compile(r"Rattle\.([a-z0-9_]+)\.proofs\b|\b([a-z0-9_]+)::proofs::")
 COUNTER = re.compile(r"\b(Blank|Brand)\b")
 FUNCTION = re.compile(r"\bfn (\w+)")
 WALK = re.compile(r"\b(to_tree|is_one_tree|has_two_each)\b")
 ALLOCATOR = re.compile(r"\ballocator\(")
+NAMED = re.compile(r"`([\w:]+)`")
+ITEM = re.compile(r"\b(?:fn|struct|enum|trait|type) (\w+)")
 
 
 def crates():
@@ -133,10 +138,28 @@ def idle_functions():
                 yield f"{os.path.relpath(path, HOME)}:{node.lineno}: nothing calls {node.name}"
 
 
+def untold(names):
+    """What the page of contracts names and its crate lacks, and the crates that README lacks."""
+    items = {name: {found for _, line in code(name) for found in ITEM.findall(line)} for name in names}
+    here = []
+    for place, line in numbered(os.path.join(HOME, CONTRACTS)):
+        cells = line.split("|")[1:-1]
+        if len(cells) == 3:
+            here = NAMED.findall(cells[0]) or here
+            for name in NAMED.findall(cells[1]):
+                if not any(name.split("::")[-1] in items.get(crate, ()) for crate in here):
+                    yield f"{place}: {' and '.join(here)} has no {name}"
+    with open(os.path.join(HOME, "README.md"), encoding="utf-8") as stream:
+        told = set(NAMED.findall(stream.read()))
+    for name in names:
+        if name not in told:
+            yield f"README.md: does not name the crate {name}"
+
+
 def main():
     names = crates()
     failed = 0
-    rules = [foreign_proofs(names), own_counters(names), uncounted_walks(), hidden_memory(), idle_functions()]
+    rules = [foreign_proofs(names), own_counters(names), uncounted_walks(), hidden_memory(), idle_functions(), untold(names)]
     for broken in rules:
         found = list(broken)
         failed += bool(found)
