@@ -5,12 +5,13 @@ the verdict checked; compares the judgement on forged verdicts and the refusals 
 verdicts with other trees with a plain program that lists all orders; compares generated matrices and sessions with plain programs of their
 rules; bounds what hostile files cost; and tries the first call of `./pq`.
 
-Usage: end_to_end/check.py            after `rt ci` or `./pq`, which leave the program in crates/pq/out/pq
-The last line is `N passed, N failed`; the status is 0 where nothing failed.
+Usage: end_to_end/check.py [PART ..]   after `rt ci` or `./pq`, which leave the program in crates/pq/out/pq
+
+PARTs pick some of the checks: `cases` (files and streams), `pages`, `answers` (of small instances, at the limits, of `gen` and of sessions),
+`forgeries`, `trees`, `hostile`, `first_call`; default all. The last line is `N passed, N failed`; the status is 0 where nothing failed.
 """
 
 import concurrent.futures
-import itertools
 import os
 import shutil
 import subprocess
@@ -136,23 +137,41 @@ def without_folders():
         yield f"extend {session}", extend_problem, session
 
 
-def main():
-    if not os.access(PROGRAM, os.X_OK):
-        print(f"{PROGRAM} is missing: run `rt ci` or `./pq` first")
-        return 1
-    report = Report()
+# The checks that tell each name with its problem, by the words that pick them.
+FURTHER = {"forgeries": lambda: forgeries.compared(Limits()), "trees": other_trees.compared, "hostile": hostile_problems,
+           "first_call": first_call.problems}
+PARTS = ["cases", "pages", "answers", *FURTHER]
+
+
+def check_parts(report, parts):
+    """Runs these parts of the checks."""
     with tempfile.TemporaryDirectory() as top:
         os.chmod(top, 0o755)
         program = shutil.copy(PROGRAM, os.path.join(top, "pq"))
         os.chmod(program, 0o755)
-        in_folders(report, top, program)
-        on_pages(report, top, program)
-    side_by_side(report, without_folders())
-    for name, problem in itertools.chain(forgeries.compared(Limits()), other_trees.compared(), hostile_problems(), first_call.problems()):
-        report.tell(name, problem)
+        if "cases" in parts:
+            in_folders(report, top, program)
+        if "pages" in parts:
+            on_pages(report, top, program)
+    if "answers" in parts:
+        side_by_side(report, without_folders())
+    for part in parts:
+        for name, problem in FURTHER.get(part, list)():
+            report.tell(name, problem)
+
+
+def main(words):
+    if not set(words) <= set(PARTS):
+        print(f"the parts are {', '.join(PARTS)}")
+        return 1
+    if not os.access(PROGRAM, os.X_OK):
+        print(f"{PROGRAM} is missing: run `rt ci` or `./pq` first")
+        return 1
+    report = Report()
+    check_parts(report, words or PARTS)
     print(f"{report.passed} passed, {report.failed} failed")
     return 1 if report.failed else 0
 
 
 if __name__ == "__main__":
-    sys.exit(main())
+    sys.exit(main(sys.argv[1:]))
