@@ -65,16 +65,20 @@ pub fn run<F: Shelf, O: Sink, E: Sink>(
     // What stands in the way is told of.
     ensures quiet { (result ≡ 0) ⊎ (result ≡ 1) → err.new ≡ err.old }
     ensures line { 2 ≤ result → (line : List ℕ)
-        × IsLineOf (F.content files.old) (command_of (texts words.now)) (F.asked files.old) (F.asked files.new) result line
-        × Offers (E.written err.old) (E.written err.new) (E.faults err.old) (E.faults err.new) line }
+        × IsLineOf (F.content files.old) (command_of (texts words.now)) (F.asked files.old)
+        (F.asked files.new) result line
+        × Offers (E.written err.old) (E.written err.new) (E.faults err.old) (E.faults err.new)
+        line }
 
     // Unless a read or a write fails or memory is refused, a refused file is told as refused, and well-formed files are
     // answered: an instance is solved exactly, and a verdict on it judged truly.
     ensures complete { ForCommand (command_of (texts words.now)) (λ c.
-        NothingFails (F.faults files.old) (F.faults files.new) (O.faults out.old) (O.faults out.new) result
+        NothingFails (F.faults files.old) (F.faults files.new) (O.faults out.old)
+        (O.faults out.new) result
         → Completes (F.content files.old) c (O.written out.old) (O.written out.new) result) }
     ensures promise { ForCommand (command_of (texts words.now)) (λ c.
-        NothingFails (F.faults files.old) (F.faults files.new) (O.faults out.old) (O.faults out.new) result
+        NothingFails (F.faults files.old) (F.faults files.new) (O.faults out.old)
+        (O.faults out.new) result
         → KeepsPromise (F.content files.old) c (O.written out.old) (O.written out.new) result) }
 {
     promise_law();
