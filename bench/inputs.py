@@ -89,11 +89,16 @@ def table_file(columns, cells, rng):
 
 
 def clone_file(probes, named, rng):
-    """Clones, as many as may be, that each name so many random probes, as JSON; the last clone names one that is not among the probes."""
+    """Clones that each name so many random probes, as JSON, up to the limits; the last clone names one that is not among the probes."""
     names = [f"p{place}" for place in range(1, probes + 1)]
-    clones = [{"name": f"k{number}", "probes": rng.sample(names, named)} for number in range(1, MOST_ROWS)]
-    clones.append({"name": "last", "probes": ["another"]})
-    return json.dumps({"probes": names, "clones": clones}, separators=(",", ":")).encode()
+    text = bytearray(b'{"probes":' + json.dumps(names, separators=(",", ":")).encode() + b',"clones":[')
+    last = b'{"name":"last","probes":["another"]}]}'
+    for number in range(1, MOST_ROWS):
+        line = json.dumps({"name": f"k{number}", "probes": rng.sample(names, named)}, separators=(",", ":")).encode() + b","
+        if len(text) + len(line) + len(last) > FILE_LIMIT:
+            break
+        text += line
+    return bytes(text) + last
 
 
 def filled(head, line, tail=b"", most=MOST_ROWS):
