@@ -24,11 +24,8 @@ CALL = ("crates/pq_cli/src/top.rt", "run")
 # The clause that says the whole promise, and the definition that says it command by command.
 PROMISE = "promise"
 PROMISED = ("crates/pq_cli/specs/Promise.antt", "IsPromised")
-# The laws that README names beside the call.
-LAWS = [("crates/pq_cli/src/solve/laws.rt", "reply_law"), ("crates/pq_cli/src/solve/laws.rt", "model_law"),
-        ("crates/pq_cli/src/check/laws.rt", "check_law"), ("crates/pq_cli/src/check/laws.rt", "solved_law"),
-        ("crates/pq_cli/src/extend/laws.rt", "extend_law"), ("crates/pq_cli/src/generator/draws.rt", "generated_law"),
-        ("crates/one_text/src/lib.rt", "one_text_law")]
+# The crates whose laws say what replies mean.
+LAWS = ["crates/pq_cli/src", "crates/one_text/src"]
 # The types whose cases tell the commands, the kinds of files and the instances apart.
 COMMANDS = ("crates/pq_cli/specs/Words.antt", "Command")
 KINDS = ("crates/row_model/src/kind.rt", "Kind")
@@ -38,7 +35,8 @@ FIRST = ("Solve", "Matrix")
 
 USE = re.compile(r"^\s*(?:ghost\s+)?(?:pub\s+)?use\s+Rattle\.([\w.+]+?)(?:\.\{([^}]*)\}|\s+as\s+(\w+))\s*;?\s*$", re.M)
 CODE_USE = re.compile(r"^use (\w+)::(?:\{([^}]*)\}|(\w+));", re.M)
-HEAD = re.compile(r"^( *)(?:(?:abbrev|unfoldable|opaque|pub|record|data) +)*([^\s(:{}]+)\s(?:[^=]*\s)?:\s")
+HANDED_ON = re.compile(r"^pub use ((?:\w+::)*\w+)::(?:\{([^}]*)\}|(\w+));", re.M)
+HEAD = re.compile(r"^( *)(?:(?:abbrev|unfoldable|opaque|pub|record|data) +)*([^\s(:{}]+)\s(?:[^=]*\s)?:(?:\s|$)")
 MUTUAL = re.compile(r"(?:(?:abbrev|unfoldable|opaque) +)*mutual\b")
 PART = re.compile(r"^\s+(?:pub +)?([^\s(:={}]+) : ")
 FIELD = re.compile(r"(?<=[\w)])\.\w+")
@@ -160,7 +158,7 @@ def others(command, kind):
     left_out = set(cases(*COMMANDS)) - {command}
     if kind:
         instances = cases(*INSTANCES)
-        met = kind.lower() if kind.lower() in instances else PLAIN
+        met = word_of(kind) if word_of(kind) in instances else PLAIN
         left_out |= set(cases(*KINDS)) - {kind} | set(instances) - {met}
     return frozenset(left_out)
 
@@ -284,6 +282,27 @@ def table(listing, known=None):
             f"| together | {listing.lines(*others_of_it) + more} | |"]
 
 
+def public_laws():
+    """The laws that these crates hand on from their modules, or that stand at their tops: each with its file."""
+    for folder in LAWS:
+        top = source(os.path.join(folder, "lib.rt"))
+        for module, names, name in HANDED_ON.findall(top):
+            for law in re.findall(r"\w+_law\b", names + name):
+                yield os.path.join(folder, *module.split("::")) + ".rt", law
+        for law in re.findall(r"^pub fn (\w+_law)\b", top, re.M):
+            yield os.path.join(folder, "lib.rt"), law
+
+
+def word_of(case):
+    """The word of a command or a kind, by its case."""
+    return re.sub(r"(?<=[a-z])(?=[A-Z])", "-", case).lower()
+
+
+def case_of(word):
+    """The case of a command or a kind, by its word."""
+    return "".join(part.capitalize() for part in word.split("-"))
+
+
 def counts(whole):
     """How many lines each command rests on, of a command with a kind by the first kind, and `solve` by each."""
     rows = ["| Command | Behind the clause `promise` | Behind all clauses of `run` |", "|---|---|---|"]
@@ -294,7 +313,7 @@ def counts(whole):
         kinds = cases(*KINDS) if command == FIRST[0] else [FIRST[1]] if takes_kind else [None]
         for kind in kinds:
             left_out = others(command, kind)
-            words = " ".join(word.lower() for word in (command, kind) if word)
+            words = " ".join(word_of(case) for case in (command, kind) if case)
             behind = Listing(*CALL, left_out, PROMISE).lines() if command in promised else "it says nothing"
             rows.append(f"| `{words}` | {behind} | {Listing(*CALL, left_out).lines()} |")
     return rows + [f"| all | {Listing(*CALL, clause=PROMISE).lines()} | {whole.lines()} |"]
@@ -303,8 +322,10 @@ def counts(whole):
 def laws(whole):
     """What each law rests on beyond the clauses of the call."""
     rows = ["| Law | Where | Lines beyond those of `run` | Definitions, each with the line where it begins |", "|---|---|---|---|"]
-    for path, law in LAWS:
+    for path, law in public_laws():
         listing = Listing(path, law)
+        if not listing.lines(whole):
+            continue
         names = "; ".join(f"{file}: {told(names)}" for file, names, _ in listing.beyond(whole))
         rows.append(f"| `{law}` | {path} | {listing.lines(whole)} | {names} |")
     return rows
@@ -351,8 +372,10 @@ def with_lists(page, made):
 
 def main(words):
     if words and words != ["write"]:
-        names = [word.capitalize() for word in words]
-        print("\n".join(table(Listing(*CALL, others(names[0], names[1] if names[1:] else None)))))
+        command, kind = (case_of(word) for word in (words + [""])[:2])
+        if command not in cases(*COMMANDS) or kind and kind not in cases(*KINDS):
+            sys.exit(f"the commands are {', '.join(map(word_of, cases(*COMMANDS)))}; the kinds {', '.join(map(word_of, cases(*KINDS)))}")
+        print("\n".join(table(Listing(*CALL, others(command, kind)))))
         return 0
     page = source(PAGE)
     right, missing = with_lists(page, lists())

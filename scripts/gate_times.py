@@ -95,7 +95,7 @@ def longest_chain(found):
         if name not in chains:
             below = max((chain(one) for one in crates[name]), default=(0.0, []))
             _, first, last = found.get((name, "proof"), (0.0, 0.0, 0.0))
-            chains[name] = (below[0] + last - first, below[1] + [name])
+            chains[name] = (below[0] + last - first, below[1] + [name] * (last > first))
         return chains[name]
 
     return max(chain(name) for name in crates)
