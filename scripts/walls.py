@@ -12,13 +12,14 @@ Usage: scripts/walls.py
 4. Reducing a row takes no memory: outside tests no code of these crates or of the arena takes an allocator out of a vector, and a call
    that is handed none has no other.
 5. Every function of the end-to-end checks, the benches and the scripts is called: a check that does not run is none.
-6. The pages name what stands: each call, type and law in the second column of docs/CONTRACTS.md is one of the crate in the first, and
-   README names each crate.
+6. The pages name what stands: each call, type and law in the second column of docs/CONTRACTS.md is one of the crate in the first; README
+   names each crate and each clause of the top call; and one of the two names each public law.
 
 Each line that breaks a rule is printed. The last line is `N passed, N failed`; the status is 0 where nothing failed.
 """
 
 import ast
+import itertools
 import os
 import re
 import sys
@@ -32,6 +33,7 @@ WITHOUT_MEMORY = ["pq_arena"] + STEPPED
 WHOLE_TREE = ("crates/row_reduce/src/reducer.rt", "tree")
 PYTHON = ["end_to_end", "bench", "scripts"]
 CONTRACTS = os.path.join("docs", "CONTRACTS.md")
+TOP = os.path.join("crates", "pq_cli", "src", "top.rt")
 
 CITED = re.compile(r"Rattle\.([a-z0-9_]+)\.proofs\b|\b([a-z0-9_]+)::proofs::")
 COUNTER = re.compile(r"\b(Blank|Brand)\b")
@@ -40,6 +42,7 @@ WALK = re.compile(r"\b(to_tree|is_one_tree|has_two_each)\b")
 ALLOCATOR = re.compile(r"\ballocator\(")
 NAMED = re.compile(r"`([\w:]+)`")
 ITEM = re.compile(r"\b(?:fn|struct|enum|trait|type) (\w+)")
+LAW = re.compile(r"\b\w+_laws?\b")
 
 
 def crates():
@@ -138,8 +141,14 @@ def idle_functions():
                 yield f"{os.path.relpath(path, HOME)}:{node.lineno}: nothing calls {node.name}"
 
 
-def untold(names):
-    """What the page of contracts names and its crate lacks, and the crates that README lacks."""
+def text_of(path):
+    """The text of a file."""
+    with open(os.path.join(HOME, path), encoding="utf-8") as stream:
+        return stream.read()
+
+
+def unknown_contracts(names):
+    """What the page of contracts names and its crate lacks."""
     items = {name: {found for _, line in code(name) for found in ITEM.findall(line)} for name in names}
     here = []
     for place, line in numbered(os.path.join(HOME, CONTRACTS)):
@@ -149,17 +158,26 @@ def untold(names):
             for name in NAMED.findall(cells[1]):
                 if not any(name.split("::")[-1] in items.get(crate, ()) for crate in here):
                     yield f"{place}: {' and '.join(here)} has no {name}"
-    with open(os.path.join(HOME, "README.md"), encoding="utf-8") as stream:
-        told = set(NAMED.findall(stream.read()))
-    for name in names:
+
+
+def untold(names):
+    """The crates, the clauses of the top call and the public laws that the pages lack."""
+    told = set(NAMED.findall(text_of("README.md")))
+    contract = re.search(r"^pub fn run\b.*?^\{", text_of(TOP), re.S | re.M)[0]
+    for name in [*names, *re.findall(r"^ +ensures (\w+)", contract, re.M)]:
         if name not in told:
-            yield f"README.md: does not name the crate {name}"
+            yield f"README.md: does not name {name}"
+    told.update(NAMED.findall(text_of(CONTRACTS)))
+    for place, line in (found for name in names for found in code(name)):
+        for law in LAW.findall(line) if "src/lib.rt:" in place else []:
+            if law not in told:
+                yield f"{place}: no page tells of {law}"
 
 
 def main():
     names = crates()
     failed = 0
-    rules = [foreign_proofs(names), own_counters(names), uncounted_walks(), hidden_memory(), idle_functions(), untold(names)]
+    rules = [foreign_proofs(names), own_counters(names), uncounted_walks(), hidden_memory(), idle_functions(), itertools.chain(unknown_contracts(names), untold(names))]
     for broken in rules:
         found = list(broken)
         failed += bool(found)
