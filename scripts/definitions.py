@@ -134,7 +134,7 @@ def file_of(path):
 @functools.lru_cache(maxsize=None)
 def declared(crate, name):
     """Where the code of a crate declares a type, a trait or a constant: its file and line."""
-    pattern = re.compile(rf"^\s*pub (?:struct|enum|type|const|trait) {re.escape(name)}\b")
+    pattern = re.compile(rf"^\s*(?:pub(?:\(\w+\))? )?(?:struct|enum|type|const|trait) {re.escape(name)}\b")
     for place, folders, names in os.walk(os.path.join(HOME, "crates", crate, "src")):
         folders.sort()
         for file in sorted(names):
