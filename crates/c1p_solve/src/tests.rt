@@ -291,24 +291,32 @@ fn assert_alike(rt: &impl Abort, alloc: Global, m: &Matrix) -> Result<(), NoMemo
     Ok(())
 }
 
-// Whether four rows of four bits rise, so that each set of rows comes in one order alone.
-fn rises(bits: u64) -> bool {
-    let rows = [bits & 15, bits >> 4 & 15, bits >> 8 & 15, bits >> 12 & 15];
-    rows[0] <= rows[1] && rows[1] <= rows[2] && rows[2] <= rows[3]
+// Both searches agree on every matrix of so many columns and rows.
+fn assert_all_alike(
+    rt: &impl Abort,
+    alloc: Global,
+    columns: u32,
+    rows: u32,
+) -> Result<(), NoMemory>
+    requires columns { (1 ≤ columns) × (columns ≤ 32) }
+    requires rows { rows ≤ 32 }
+{
+    let mut count: u64 = 1;
+    for _ in 0..rows {
+        count = count.saturating_mul(1 << columns);
+    }
+    for bits in 0..count {
+        let m = matrix_of(alloc, columns, rows, bits)?;
+        assert_alike(rt, alloc, &m)?;
+    }
+    Ok(())
 }
 
 #[test]
-fn both_searches_agree_on_small_matrices(rt: HostRuntime) -> Result<(), Fail> {
-    for columns in 1..4 {
-        for bits in 0..512 {
-            let m = matrix_of(rt.alloc(), columns, 3, bits)?;
-            assert_alike(&rt, rt.alloc(), &m)?;
-        }
-    }
-    for bits in 0..65536 {
-        if rises(bits) {
-            let m = matrix_of(rt.alloc(), 4, 4, bits)?;
-            assert_alike(&rt, rt.alloc(), &m)?;
+fn both_searches_agree_on_every_matrix_of_at_most_four_by_four(rt: HostRuntime) -> Result<(), Fail> {
+    for columns in 1..5 {
+        for rows in 0..5 {
+            assert_all_alike(&rt, rt.alloc(), columns, rows)?;
         }
     }
     Ok(())

@@ -1,11 +1,13 @@
 -- Walks that are looked at line by line.
-use Rattle.std.proofs.Common.{◌≡◌, ◌≢◌, ◌∙◌, ℕ, ◌+◌, ◌-◌, ◌<◌, ◌≤◌, List, [], ◌∷◌, ◌++◌, length, take, drop, slice_get, get_or, Some, AllPairs, refl, sym, ap, subst, below_more, arith}
-use Rattle.std.proofs.lemmas.List.{take_more, take_all}
+use Rattle.std.proofs.Common.{◌≡◌, ◌≢◌, ◌⊎◌, ◌∙◌, ℕ, ◌+◌, ◌-◌, ◌<◌, ◌≤◌, List, [], ◌∷◌, ◌++◌, length, take, drop, slice_get, get_or, Some, AllPairs, refl, sym, ap, subst, below_more, arith}
+use Rattle.std.proofs.lemmas.List.{take_more, take_all, get_or-take, length-take-le}
 use Rattle.std.proofs.lemmas.Option.{get_or_from_slice_get, slice_get-get_or, slice_get_within, same_Some}
 use Rattle.std.proofs.Math.ListN.{drop_of_length-le}
 use Rattle.row_model.specs.declared.graph.Pair.{Pair}
 use Rattle.row_model.specs.declared.graph.Line.{Line}
-use Rattle.row_model.specs.Graph.{pair, JoinedBy}
+use Rattle.row_model.specs.declared.graph.Why.{Why}
+use Rattle.row_model.specs.declared.graph.Why.TheVariants.{Flip, Row}
+use Rattle.row_model.specs.Graph.{pair, row_at, Crosses, JoinedBy}
 use Rattle.row_model.specs.Cycles.{first_pair, LeadTo, IsClosedWalk}
 use Rattle.row_model.proofs.CycleLaws.{lead_push, first_drop, closed_from}
 use Rattle.incompat_graph.proofs.Items.{item-drop}
@@ -71,3 +73,12 @@ apart_more lines n line at others h =
 pub apart_all : (lines : List Line) (n : ℕ) → length lines ≤ n → AreApart lines n → AllPairs (λ (x : Line) (y : Line). x.pair ≢ y.pair) lines
 apart_all lines n l h = λ i j d low m same.
     h i (omega arith) j (get_or lines i d) (get_or lines j d) low (slice_get-get_or lines i d (omega arith)) (slice_get-get_or lines j d m) same
+
+-- pairs that a reason among the first rows joins are joined in these
+pub joined_within : (c : ℕ) (rows : List (List ℕ)) (n : ℕ) (v w : Pair) (why : Why) → n ≤ length rows → ((k : ℕ) → why ≡ Row k → k ≤ n) → JoinedBy c rows v w why → JoinedBy c (take n rows) v w why
+joined_within c rows n v w Flip l h j = record { from = j.from; to = j.to; fits = j.fits }
+joined_within c rows n v w (Row k) l h j =
+    let few : k ≤ n = h k refl in
+    let same : row_at (take n rows) k ≡ row_at rows k = get_or-take n rows (k - 1) [] (omega (arith, j.fits.0)) in
+    let long : k ≤ length (take n rows) = omega (arith, length-take-le n rows l) in
+    record { from = j.from; to = j.to; fits = (j.fits.0, long, subst (λ row. Crosses row v w ⊎ Crosses row w v) (sym same) j.fits.2) }

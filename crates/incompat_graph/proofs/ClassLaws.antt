@@ -14,16 +14,16 @@ use Rattle.row_model.proofs.Ascending.{row_within}
 use Rattle.row_model.proofs.Walks.{evenly-refl, evenly-trans}
 use Rattle.incompat_graph.specs.Numbers.{number_of, place_of}
 use Rattle.incompat_graph.specs.Unions.{AreParents, AreAlone, AgreesInSets, AreEvenSets, Unites, Flattens}
-use Rattle.incompat_graph.specs.Classes.{TellsClasses, pair_at, AgreesWith, AgreesAlong}
+use Rattle.incompat_graph.specs.Classes.{TellsClasses, pair_of_place, AgreesWith, AgreesAlong}
 use Rattle.incompat_graph.proofs.Items.{item_of, has_item}
 use Rattle.incompat_graph.proofs.NumberLaws.{same_pair, place_of-lt}
 use Rattle.incompat_graph.proofs.EvenLaws.{evenly_back, evenly_first, evenly_second, evenly_label}
 
 -- at the place of a pair of columns is this pair
-pub pair_at_place : (c : ℕ) (v : Pair) → IsPair c v → pair_at c (place_of c v) ≡ v
-pair_at_place c v p =
+pub pair_of_its_place : (c : ℕ) (v : Pair) → IsPair c v → pair_of_place c (place_of c v) ≡ v
+pair_of_its_place c v p =
     let low : v.b - 1 < c = omega (arith, p.b_from, p.b_to) in
-    same_pair (pair_at c (place_of c v)) v
+    same_pair (pair_of_place c (place_of c v)) v
     (omega (arith, div-mul-add (v.a - 1) c (v.b - 1) low, p.a_from))
     (omega (arith, mod-mul-add (v.a - 1) c (v.b - 1) low, p.b_from))
 
@@ -41,7 +41,7 @@ pub record IsUniting (c : ℕ) (row : List ℕ) (d first : ℕ) (old new : List 
   pub parents : AreParents new
   pub labels : (label : ℕ → ℕ) → AgreesInSets label new → AgreesInSets label old × ((i a : ℕ) → i < done → slice_get row i ≡ Some a →
       (label (place_of c (pair first d)) ≡ label (place_of c (pair a d))) × (label (place_of c (pair d first)) ≡ label (place_of c (pair d a))))
-  pub even : (rows : List (List ℕ)) (k : ℕ) → 1 ≤ k → k ≤ length rows → row_at rows k ≡ row → AreEvenSets c rows (pair_at c) old → AreEvenSets c rows (pair_at c) new
+  pub even : (rows : List (List ℕ)) (k : ℕ) → 1 ≤ k → k ≤ length rows → row_at rows k ≡ row → AreEvenSets c rows (pair_of_place c) old → AreEvenSets c rows (pair_of_place c) new
 
 pub uniting_none : (c : ℕ) (row : List ℕ) (d first : ℕ) (ps : List ℕ) → AreParents ps → IsUniting c row d first ps ps 0
 uniting_none c row d first ps h = record { parents = h; labels = λ label k. (k, λ i a l e. absurd (omega arith)); even = λ rows k a b e s. s }
@@ -73,12 +73,12 @@ module _ (c : ℕ) (row : List ℕ) (d first : ℕ) (row_ascends : IsRow c row) 
         even = λ rows k u v is s.
             let in_row : (n : ℕ) → IsTrue (has row n) → IsTrue (has (row_at rows k) n) = λ n t. subst (λ r. IsTrue (has r n)) (sym is) t in
             let not_in : IsFalse (has (row_at rows k) d) = subst (λ r. IsFalse (has r d)) (sym is) lacks in
-            let at_place : (p : Pair) (n : ℕ) → IsPair c p → n ≡ place_of c p → pair_at c n ≡ p = λ p n q e. ap (pair_at c) e ∙ pair_at_place c p q in
-            let left : Evenly c rows (pair_at c x) (pair_at c y) =
+            let at_place : (p : Pair) (n : ℕ) → IsPair c p → n ≡ place_of c p → pair_of_place c n ≡ p = λ p n q e. ap (pair_of_place c) e ∙ pair_of_its_place c p q in
+            let left : Evenly c rows (pair_of_place c x) (pair_of_place c y) =
             rw (at_place (pair first d) x pairs_first.0 ex) (rw (at_place (pair a d) y pairs.0 ey) (evenly_first c rows k first a d u v (in_row first has_first) (in_row a has_a) not_in pairs_first.0 pairs.0)) in
-            let right : Evenly c rows (pair_at c z) (pair_at c w) =
+            let right : Evenly c rows (pair_of_place c z) (pair_of_place c w) =
             rw (at_place (pair d first) z pairs_first.1 ez) (rw (at_place (pair d a) w pairs.1 ew) (evenly_second c rows k first a d u v (in_row first has_first) (in_row a has_a) not_in pairs_first.0 pairs.0)) in
-            two.even c rows (pair_at c) (one.even c rows (pair_at c) (h.even rows k u v is s) left) right;
+            two.even c rows (pair_of_place c) (one.even c rows (pair_of_place c) (h.even rows k u v is s) left) right;
       }
 
 -- the whole row is done
@@ -99,7 +99,7 @@ uniting_all c row d first old new h label k =
 pub record IsUnitingAlong (c k : ℕ) (row : List ℕ) (old new : List ℕ) (done : ℕ) : Type 0 where
   pub parents : AreParents new
   pub labels : (label : ℕ → ℕ) → AgreesInSets label new → AgreesInSets label old × ((d : ℕ) → 1 ≤ d → d ≤ done → IsFalse (has row d) → AgreesWith c label row d)
-  pub even : (rows : List (List ℕ)) → k ≤ length rows → row_at rows k ≡ row → AreEvenSets c rows (pair_at c) old → AreEvenSets c rows (pair_at c) new
+  pub even : (rows : List (List ℕ)) → k ≤ length rows → row_at rows k ≡ row → AreEvenSets c rows (pair_of_place c) old → AreEvenSets c rows (pair_of_place c) new
 
 pub along_none : (c k : ℕ) (row ps : List ℕ) → AreParents ps → IsUnitingAlong c k row ps ps 0
 along_none c k row ps h = record { parents = h; labels = λ label u. (u, λ d a b e. absurd (omega arith)); even = λ rows a e s. s }
@@ -122,7 +122,7 @@ module _ (c k : ℕ) (row old ps : List ℕ) (done d : ℕ) (h : IsUnitingAlong 
 
   -- a column that the row lacks
   pub along_lacking : (new : List ℕ) → AreParents new → ((label : ℕ → ℕ) → AgreesInSets label new → AgreesInSets label ps × AgreesWith c label row d) →
-      ((rows : List (List ℕ)) → k ≤ length rows → row_at rows k ≡ row → AreEvenSets c rows (pair_at c) ps → AreEvenSets c rows (pair_at c) new) →
+      ((rows : List (List ℕ)) → k ≤ length rows → row_at rows k ≡ row → AreEvenSets c rows (pair_of_place c) ps → AreEvenSets c rows (pair_of_place c) new) →
       IsUnitingAlong c k row old new d
   along_lacking new parents labels even =
       record {
@@ -139,7 +139,7 @@ pub record IsClassing (c n : ℕ) (all : List (List ℕ)) (ps : List ℕ) (done 
   pub places : length ps ≡ c * c
   pub parents : AreParents ps
   pub labels : (label : ℕ → ℕ) → AgreesInSets label ps → (k : ℕ) → 1 ≤ k → k ≤ done → AgreesAlong c label (row_at all k)
-  pub even : AreEvenSets c (take n all) (pair_at c) ps
+  pub even : AreEvenSets c (take n all) (pair_of_place c) ps
 
 pub classing_none : (c n : ℕ) (all : List (List ℕ)) (ps : List ℕ) → length ps ≡ c * c → AreAlone ps → IsClassing c n all ps 0
 classing_none c n all ps long h =
@@ -147,12 +147,12 @@ classing_none c n all ps long h =
       places = long;
       parents = λ i l. omega (arith, h i l);
       labels = λ label u k a b. absurd (omega arith);
-      even = λ i l. subst (λ j. Evenly c (take n all) (pair_at c i) (pair_at c j)) (sym (h i l)) (evenly-refl (Joined c (take n all)) (pair_at c i));
+      even = λ i l. subst (λ j. Evenly c (take n all) (pair_of_place c i) (pair_of_place c j)) (sym (h i l)) (evenly-refl (Joined c (take n all)) (pair_of_place c i));
     }
 
 pub classing_more : (c n : ℕ) (all : List (List ℕ)) (ps new : List ℕ) (done k : ℕ) → IsClassing c n all ps done → k ≡ done + 1 → k ≤ n → n ≤ length all → length new ≡ length ps → AreParents new →
     ((label : ℕ → ℕ) → AgreesInSets label new → AgreesInSets label ps × AgreesAlong c label (row_at all k)) →
-    ((rows : List (List ℕ)) → k ≤ length rows → row_at rows k ≡ row_at all k → AreEvenSets c rows (pair_at c) ps → AreEvenSets c rows (pair_at c) new) →
+    ((rows : List (List ℕ)) → k ≤ length rows → row_at rows k ≡ row_at all k → AreEvenSets c rows (pair_of_place c) ps → AreEvenSets c rows (pair_of_place c) new) →
     IsClassing c n all new k
 classing_more c n all ps new done k h next within few long parents labels even =
     record {
@@ -195,16 +195,16 @@ module _ (c n : ℕ) (all : List (List ℕ)) (ps new : List ℕ) (few : n ≤ le
           let both = on_rows k j.fits.0 j.fits.1 x.b p.b_from p.b_to s.lacks_middle x.a y.b s.has_first s.has_last in
           (both.0 ∙ ap (λ d. number (pair y.b d)) s.middle, both.1 ∙ ap (λ d. number (pair d y.b)) s.middle)
 
-  to_parent : (v : Pair) → IsPair c v → Evenly c (take n all) v (pair_at c (number v))
+  to_parent : (v : Pair) → IsPair c v → Evenly c (take n all) v (pair_of_place c (number v))
   unfolding number label
   to_parent v p =
-      subst (λ x. Evenly c (take n all) x (pair_at c (slice_index new (place_of c v)))) (pair_at_place c v p)
-      (flat.even c (take n all) (pair_at c) h.even (place_of c v) (omega (arith, place_of-lt c v p, h.places, long)))
+      subst (λ x. Evenly c (take n all) x (pair_of_place c (slice_index new (place_of c v)))) (pair_of_its_place c v p)
+      (flat.even c (take n all) (pair_of_place c) h.even (place_of c v) (omega (arith, place_of-lt c v p, h.places, long)))
 
   joins : (v w : Pair) → IsPair c v → IsPair c w → number v ≡ number w → Evenly c (take n all) v w
   joins v w p q e =
-      let back : Evenly c (take n all) (pair_at c (number w)) w = evenly_back c (take n all) w (pair_at c (number w)) (to_parent w q) in
-      evenly-trans (Joined c (take n all)) v (pair_at c (number v)) w (to_parent v p) (subst (λ i. Evenly c (take n all) (pair_at c i) w) (sym e) back)
+      let back : Evenly c (take n all) (pair_of_place c (number w)) w = evenly_back c (take n all) w (pair_of_place c (number w)) (to_parent w q) in
+      evenly-trans (Joined c (take n all)) v (pair_of_place c (number v)) w (to_parent v p) (subst (λ i. Evenly c (take n all) (pair_of_place c i) w) (sym e) back)
 
   pub classes_told : TellsClasses c (take n all) (record { columns = c; entries = new })
   unfolding number label number_of

@@ -1,14 +1,14 @@
 -- The lists of the rows that have each column, as they grow.
-use Rattle.std.proofs.Common.{◌≡◌, ◌≢◌, ◌∙◌, take, drop, sum_by, ℕ, ◌+◌, ◌-◌, ◌<◌, ◌≤◌, Vec, Global, List, [], ◌∷◌, ◌++◌, length, map, set, replicate, get_or, slice_get, Some, IsTrue, sym, ap, subst, inl, inr, arith, get_or-set_same, get_or-set_other}
+use Rattle.std.proofs.Common.{◌≡◌, ◌≢◌, ◌∙◌, take, drop, sum_by, ℕ, ◌+◌, ◌-◌, ◌<◌, ◌≤◌, Vec, Global, List, [], ◌∷◌, ◌++◌, length, map, set, replicate, get_or, slice_get, Some, IsTrue, sym, ap, subst, inl, inr, arith, length-drop, get_or-set_same, get_or-set_other}
 use Rattle.std.proofs.lemmas.Bool.{cases_eq, cases_lt}
 use Rattle.std.proofs.lemmas.List.Sums.{sum_by-append, sum_by-cons, sum_by-take-le, sum_by-take-drop}
-use Rattle.std.proofs.lemmas.List.{take_more, take-take, drop-take, length-set, length-replicate, get_or-replicate, get_or-map, get_or_past}
-use Rattle.std.proofs.lemmas.Option.{none-some, same_Some, slice_get_within, get_or_from_slice_get}
+use Rattle.std.proofs.lemmas.List.{take_more, take-take, drop-take, length-set, length-replicate, get_or-replicate, get_or-map, get_or-drop, get_or_past}
+use Rattle.std.proofs.lemmas.Option.{none-some, same_Some, slice_get_within, slice_get-get_or, get_or_from_slice_get}
 use Rattle.column_order.specs.Orders.{has}
 use Rattle.row_model.specs.Graph.{row_at}
 use Rattle.row_model.specs.Rows.{RowList}
 use Rattle.incompat_graph.specs.Holders.{holders_of, AreHolders}
-use Rattle.incompat_graph.proofs.Items.{item_pushed, item_last, item_append, item-drop, has_item, item_of}
+use Rattle.incompat_graph.proofs.Items.{item_pushed, item_last, item_append, has_item, item_of}
 
 -- the lists within the vectors
 abbrev pub lists_of : List (Vec ℕ Global) → List (List ℕ)
@@ -19,7 +19,7 @@ pub record HoldersSoFar (m : RowList) (k : ℕ) (row : List ℕ) (done : ℕ) (l
   pub columns : length lists ≡ m.columns
   pub sound : (column i r : ℕ) → 1 ≤ column → slice_get (holders_of lists column) i ≡ Some r → (1 ≤ r) × (r ≤ k + 1) × IsTrue (has (row_at m.rows r) column)
   pub whole : (column r : ℕ) → 1 ≤ column → column ≤ m.columns → 1 ≤ r → r ≤ k → IsTrue (has (row_at m.rows r) column) → (i : ℕ) × (slice_get (holders_of lists column) i ≡ Some r)
-  pub next : (j column : ℕ) → j < done → slice_get row j ≡ Some column → (i : ℕ) × (slice_get (holders_of lists column) i ≡ Some (k + 1))
+  pub next : (j column : ℕ) → j < done → slice_get row j ≡ Some column → (1 ≤ column) × ((i : ℕ) × (slice_get (holders_of lists column) i ≡ Some (k + 1)))
 
 empty_at : (c n : ℕ) → get_or (replicate {A = List ℕ} c []) n [] ≡ []
 empty_at c n =
@@ -57,13 +57,13 @@ holders_end m k row lists is h =
         | inl e ↦
             let i = item_of row column (subst (λ ys. IsTrue (has ys column)) (ap (row_at m.rows) e ∙ sym is) t) in
             let found = h.next i.0 column (slice_get_within row i.0 column i.1) i.1 in
-            (found.0, found.1 ∙ ap Some (sym e))
+            (found.1.0, found.1.1 ∙ ap Some (sym e))
         | inr n ↦ h.whole column r a b d (omega arith) t
       ];
     }
 
 module _ (m : RowList) (k : ℕ) (row : List ℕ) (done : ℕ) (lists lists' : List (List ℕ)) (column : ℕ) (is : row ≡ row_at m.rows (k + 1)) (h : HoldersSoFar m k row done lists) (at : slice_get row done ≡ Some column)
-    (from : 1 ≤ column) (to : column ≤ length lists) (e : lists' ≡ set lists (column - 1) (holders_of lists column ++ (k + 1) ∷ [])) (row_columns : (j q : ℕ) → slice_get row j ≡ Some q → (1 ≤ q) × (q ≤ m.columns)) where
+    (from : 1 ≤ column) (to : column ≤ length lists) (e : lists' ≡ set lists (column - 1) (holders_of lists column ++ (k + 1) ∷ [])) where
   here : holders_of lists' column ≡ holders_of lists column ++ (k + 1) ∷ []
   here = ap (λ ls. get_or ls (column - 1) []) e ∙ get_or-set_same lists (column - 1) (holders_of lists column ++ (k + 1) ∷ []) [] (omega arith)
 
@@ -96,10 +96,10 @@ module _ (m : RowList) (k : ℕ) (row : List ℕ) (done : ℕ) (lists lists' : L
         next = λ j q l f. elim (cases_eq j done) [
           | inl s ↦
               let same : q ≡ column = same_Some q column (sym f ∙ ap (slice_get row) s ∙ at) in
-              (length (holders_of lists column), subst (λ c. slice_get (holders_of lists' c) (length (holders_of lists column)) ≡ Some (k + 1)) (sym same) (ap (λ list. slice_get list (length (holders_of lists column))) here ∙ item_last (holders_of lists column) (k + 1)))
+              (omega (arith, same), (length (holders_of lists column), subst (λ c. slice_get (holders_of lists' c) (length (holders_of lists column)) ≡ Some (k + 1)) (sym same) (ap (λ list. slice_get list (length (holders_of lists column))) here ∙ item_last (holders_of lists column) (k + 1))))
           | inr n ↦
               let found = h.next j q (omega arith) f in
-              (found.0, stays q found.0 (k + 1) (row_columns j q f).0 found.1)
+              (found.0, (found.1.0, stays q found.1.0 (k + 1) found.0 found.1.1))
         ];
       }
 
@@ -115,12 +115,6 @@ ones_more rows k row e =
 pub ones_part : (rows : List (List ℕ)) (k n : ℕ) → k ≤ n → sum_by length (take k rows) ≤ sum_by length (take n rows)
 ones_part rows k n l = subst (λ front. sum_by length front ≤ sum_by length (take n rows)) (take-take k n rows l) (sum_by-take-le length (take n rows) k)
 
--- a row after the first ones
-pub further_item : (rows : List (List ℕ)) (first k : ℕ) (row : List ℕ) → slice_get rows (first + k + 1 - 1) ≡ Some row → slice_get (drop first rows) (k + 1 - 1) ≡ Some row
-further_item rows first k row e =
-    let i : first + (k + 1 - 1) ≡ first + k + 1 - 1 = omega arith in
-    item-drop first rows (k + 1 - 1) ∙ ap (slice_get rows) i ∙ e
-
 -- the ones of the first rows and those of the next ones
 pub ones_split : (rows : List (List ℕ)) (n k : ℕ) → sum_by length (take n rows) + sum_by length (take k (drop n rows)) ≡ sum_by length (take (n + k) rows)
 ones_split rows n k =
@@ -131,3 +125,19 @@ ones_split rows n k =
 -- the list at a place
 pub holder_at : (holders : List (Vec ℕ Global)) (i : ℕ) (list : Vec ℕ Global) → i < length holders → list ≡ get_or holders i list → get_or (lists_of holders) i [] ≡ list.items
 holder_at holders i list l e = get_or-map (λ (x : Vec ℕ Global). x.items) holders i list [] l ∙ ap (λ (x : Vec ℕ Global). x.items) (sym e)
+
+-- a row after the first ones
+pub further_same : (rows : List (List ℕ)) (first k n : ℕ) → 1 ≤ k → n ≡ first + k → row_at (drop first rows) k ≡ row_at rows n
+further_same rows first k n a e =
+    let i : first + (k - 1) ≡ n - 1 = omega arith in
+    get_or-drop first rows (k - 1) [] ∙ ap (λ i. get_or rows i []) i
+
+-- a column of it
+pub further_member : (rows : List (List ℕ)) (first k n i column : ℕ) → 1 ≤ k → n ≡ first + k → slice_get (row_at rows n) (i + 1 - 1) ≡ Some column → slice_get (row_at (drop first rows) k) i ≡ Some column
+further_member rows first k n i column a e at =
+    let j : i ≡ i + 1 - 1 = omega arith in
+    ap (λ (row : List ℕ). slice_get row i) (further_same rows first k n a e) ∙ ap (slice_get (row_at rows n)) j ∙ at
+
+-- it is there
+pub further_there : (rows : List (List ℕ)) (first k : ℕ) → first + k < length rows → slice_get (drop first rows) (k + 1 - 1) ≡ Some (row_at (drop first rows) (k + 1))
+further_there rows first k l = slice_get-get_or (drop first rows) (k + 1 - 1) [] (omega (arith, length-drop first rows))

@@ -2,7 +2,6 @@
 use Rattle.std.proofs.Common.{◌≡◌, ◌⊎◌, ◌∙◌, ℕ, zero, suc, ◌+◌, ◌<◌, ◌≤◌, List, [], ◌∷◌, ◌++◌, length, take, drop, slice_get, Option, Some, None, IsTrue, refl, ap, subst, inl, inr, arith}
 use Rattle.std.proofs.lemmas.Option.{none-some, same_Some, slice_get-get_or, slice_get_within}
 use Rattle.column_order.specs.Orders.{has, place}
-use Rattle.row_model.specs.Rows.{Ascends, IsRow}
 use Rattle.column_order.proofs.Lists.{has_head, has_tail, at_place}
 
 -- an item of a list that was pushed to is an old one, or the last one
@@ -57,15 +56,6 @@ pub item_of : (row : List ℕ) (d : ℕ) → IsTrue (has row d) → (i : ℕ) ×
 item_of row d h =
     let p = at_place row d h in
     (place row d, slice_get-get_or row (place row d) 0 p.0 ∙ ap Some p.1)
-
--- the columns of a row are in range
-ascends_item : (c low : ℕ) (row : List ℕ) (i d : ℕ) → Ascends c low row → slice_get row i ≡ Some d → (low < d) × (d ≤ c)
-ascends_item c low [] i d h e = absurd (none-some d e)
-ascends_item c low (x ∷ row) zero d h e = subst (λ y. (low < y) × (y ≤ c)) (same_Some x d e) (h.0, h.1)
-ascends_item c low (x ∷ row) (suc i) d h e = (let r = ascends_item c x row i d h.2 e in (omega (arith, h.0, r.0), r.1))
-
-pub row_item : (c : ℕ) (row : List ℕ) (i d : ℕ) → IsRow c row → slice_get row i ≡ Some d → (1 ≤ d) × (d ≤ c)
-row_item c row i d h e = (let r = ascends_item c 0 row i d h e in (omega (arith, r.0), r.1))
 
 -- what is no `Some` is `None`
 pub none_of : {A : Type 0} (o : Option A) → ((x : A) → o ≡ Some x → ⊥) → o ≡ None

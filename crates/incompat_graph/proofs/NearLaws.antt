@@ -51,12 +51,6 @@ price_bound c ones marked before after few h =
     let bound : ones * (2 * c + 1) ≡ 2 * (c * ones) + ones = grind arith in
     omega (arith, h, few, bound)
 
-pub eight_bound : (c ones before after : ℕ) → after ≤ before + 3 * c * (ones + 1) → after ≤ before + 8 * c * (ones + 1)
-eight_bound c ones before after h =
-    let bound3 : 3 * c * (ones + 1) ≡ 3 * (c * ones) + 3 * c = grind arith in
-    let bound8 : 8 * c * (ones + 1) ≡ 8 * (c * ones) + 8 * c = grind arith in
-    omega (arith, h, bound3, bound8)
-
 -- the same along an order, where each one of the first rows was counted before
 pub across_bound : (rows : List (List ℕ)) (c k before held after : ℕ) → 1 ≤ c → 1 ≤ k → held ≤ before + sum_by length (take 1 (drop (k - 1) rows)) →
     after ≤ held + 1 + 2 * (c * sum_by length (take 1 (drop (k - 1) rows))) → after + sum_by length (take (k - 1) rows) ≤ before + 3 * c * (sum_by length (take k rows) + 1)

@@ -7,14 +7,14 @@ use Rattle.row_model.specs.declared.graph.Pair.{Pair}
 use Rattle.row_model.specs.declared.graph.Why.{Why}
 use Rattle.row_model.specs.declared.graph.Why.TheVariants.{Row}
 use Rattle.row_model.specs.Graph.{pair, turned, row_at, IsPair, JoinedBy, Crosses}
-use Rattle.row_model.specs.Rows.{RowList, IsRow}
+use Rattle.row_model.specs.Rows.{RowList}
 use Rattle.column_order.specs.Orders.{has}
 use Rattle.incompat_graph.specs.declared.forest.Node.{Node}
 use Rattle.incompat_graph.specs.declared.forest.Forest.{Forest}
 use Rattle.incompat_graph.specs.Marks.{Marking, is_marked, IsMarkedAt}
 use Rattle.incompat_graph.specs.Search.{IsReached, IsForest, IsReachedAlong, IsSpread, IsSearch, Grows, IsJoinedFrom, HasGrown, HasStepped}
 use Rattle.row_model.proofs.CycleLaws.{joined_more}
-use Rattle.incompat_graph.proofs.Items.{item_of, has_item, row_item}
+use Rattle.incompat_graph.proofs.Items.{item_of, has_item}
 use Rattle.incompat_graph.proofs.ForestLaws.{reached_append, grown_there, grown_old, grown_reached, grown_refl, grown_trans}
 
 -- the pairs of b with the first columns of the row are reached
@@ -30,7 +30,7 @@ pub node_pair : (c : ℕ) (rows : List (List ℕ)) (f : Forest) (i : ℕ) (node 
 node_pair c rows f i node h e = subst (λ n. IsPair n node.pair) h.columns (h.indexed.pairs i node e).0
 
 module _ (c : ℕ) (rows : List (List ℕ)) (row : List ℕ) (old new : Forest) (node : Node) (from done d : ℕ) (h : IsSpreading c rows row old new node done)
-    (there : slice_get old.nodes.items from ≡ Some node) (ascends : IsRow c row) (at : slice_get row done ≡ Some d) where
+    (there : slice_get old.nodes.items from ≡ Some node) (at : slice_get row done ≡ Some d) where
   -- the column a itself
   pub spreading_turned : d ≡ node.pair.a → IsReached old.nodes.items (turned node.pair) (not node.odd) → IsSpreading c rows row old new node (done + 1)
   spreading_turned e r =
@@ -44,7 +44,7 @@ module _ (c : ℕ) (rows : List (List ℕ)) (row : List ℕ) (old new : Forest) 
         ];
       }
 
-  module _ (k : ℕ) (from_one : 1 ≤ k) (to : k ≤ length rows) (is : row_at rows k ≡ row) (has_a : IsTrue (has row node.pair.a)) (lacks_b : IsFalse (has row node.pair.b)) (other : d ≢ node.pair.a) where
+  module _ (range : (1 ≤ d) × (d ≤ c)) (k : ℕ) (from_one : 1 ≤ k) (to : k ≤ length rows) (is : row_at rows k ≡ row) (has_a : IsTrue (has row node.pair.a)) (lacks_b : IsFalse (has row node.pair.b)) (other : d ≢ node.pair.a) where
     has_d : IsTrue (has row d)
     has_d = has_item row done d at
 
@@ -55,9 +55,7 @@ module _ (c : ℕ) (rows : List (List ℕ)) (row : List ℕ) (old new : Forest) 
     node_is_pair = node_pair c rows new from node h.grown.is_forest (grown_there c rows old new from node h.grown there)
 
     pub next_pair : IsPair c (pair node.pair.b d)
-    next_pair =
-        let r = row_item c row done d ascends at in
-        record { a_from = node_is_pair.b_from; a_to = node_is_pair.b_to; b_from = r.0; b_to = r.1; distinct = far }
+    next_pair = record { a_from = node_is_pair.b_from; a_to = node_is_pair.b_to; b_from = range.0; b_to = range.1; distinct = far }
 
     -- the pair (b,d) is joined to (a,b)
     pub crossed : IsJoinedFrom c rows new from (record { pair = pair node.pair.b d; why = Row k })

@@ -11,8 +11,8 @@ pub record TellsClasses (c : ℕ) (rows : List (List ℕ)) (t : Numbering) : Typ
   pub numbered : (v w : Pair) → IsPair c v → IsPair c w → (number_of t v ≡ number_of t w) ↔ Evenly c rows v w
 
 -- the pair at a place of the table
-abbrev pub pair_at : ℕ → ℕ → Pair
-pair_at c i = pair (i / c + 1) (i % c + 1)
+abbrev pub pair_of_place : ℕ → ℕ → Pair
+pair_of_place c i = pair (i / c + 1) (i % c + 1)
 
 -- all pairs (a,d) of the columns a of the row have one label, and all pairs (d,a)
 abbrev pub AgreesWith : ℕ → (ℕ → ℕ) → List ℕ → ℕ → Type 0

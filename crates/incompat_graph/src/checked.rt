@@ -1,60 +1,79 @@
 // Odd cycles that are looked at line by line.
-ghost use Rattle.std.specs.Prelude.{◌≡◌, ◌≢◌, ℕ, ◌+◌, ◌*◌, ◌<◌, ◌≤◌, Some, drop, length, slice_get, AllPairs, IfSome, IsTrue};
+ghost use Rattle.std.specs.Prelude.{◌≡◌, ◌≢◌, ℕ, ◌+◌, ◌*◌, ◌<◌, ◌≤◌, Some, take, drop, length, slice_get, AllPairs, IfSome, IsTrue};
 ghost use Rattle.row_model.specs.declared.graph.Line.{Line};
 ghost use Rattle.row_model.specs.declared.graph.Pair.{Pair};
+ghost use Rattle.row_model.specs.declared.graph.Why.TheVariants.{Row};
 ghost use Rattle.row_model.specs.Graph.{JoinedBy};
 ghost use Rattle.row_model.specs.Cycles.{first_pair, IsOddWalk, IsOddCycle};
 
 use crate::cycle::Cycle;
-use row_model::{Line, Matrix, Pair, joined_by};
+use row_model::{Line, Matrix, Pair, Why, joined_by};
 use step_count::{Ledger, Steps};
 
 /// The most lines that are looked at.
 const MOST_LINES: usize = 512;
 
-/// The cycle of these lines, if they are an odd cycle of the matrix. There may be at most 512 lines, and as many steps must be
+/// The cycle of these lines, if they are an odd cycle of the first rows. There may be at most 512 lines, and as many steps must be
 /// left as three for each.
 pub fn checked_cycle<L: Ledger>(
     m: &Matrix,
+    rows: u32,
     lines: Vec<Line>,
     left: &mut u64,
     steps: &mut Steps<L>,
 ) -> Option<Cycle>
-    ensures cycle { IfSome result (IsOddCycle m.now.columns m.now.rows) }
+    requires { rows ≤ length m.now.rows }
+    ensures cycle { IfSome result (IsOddCycle m.now.columns (take rows m.now.rows)) }
     ensures ticks { steps.new + left.new ≤ steps.old + left.old }
 {
     if lines.len() < 3 || lines.len() > MOST_LINES {
         return None;
     }
     *left = left.checked_sub(3 * lines.len() as u64)?;
-    if !is_odd_walk(m, &lines, steps) || !are_distinct(&lines) {
+    if !is_odd_walk(m, rows, &lines, steps) || !are_distinct(&lines) {
         return None;
     }
     Some(Cycle::from_lines(lines))
 }
 
-// Whether the lines are a closed walk of odd length in the graph of the matrix.
-fn is_odd_walk<L: Ledger>(m: &Matrix, lines: &[Line], steps: &mut Steps<L>) -> bool
-    ensures walk { IsTrue result → IsOddWalk m.now.columns m.now.rows lines.now }
+// Whether the lines are a closed walk of odd length in the graph of the first rows.
+fn is_odd_walk<L: Ledger>(m: &Matrix, rows: u32, lines: &[Line], steps: &mut Steps<L>) -> bool
+    requires { rows ≤ length m.now.rows }
+    ensures walk { IsTrue result → IsOddWalk m.now.columns (take rows m.now.rows) lines.now }
     ensures ticks { steps.new ≤ steps.old + 3 * length lines.now }
 {
     for (i, line) in lines.iter().enumerate() {
-        if !leads_to(m, *line, pair_behind(lines, i), steps) {
+        if !leads_to(m, rows, *line, pair_behind(lines, i), steps) {
             return false;
         }
     }
     lines.len() % 2 == 1
 }
 
-// Whether the line's reason joins its pair to another. A step is counted for each of three looks at the row.
-fn leads_to<L: Ledger>(m: &Matrix, line: Line, to: Pair, steps: &mut Steps<L>) -> bool
-    ensures joined { IsTrue result → JoinedBy m.now.columns m.now.rows line.pair to line.why }
+// Whether the line's reason is one of the first rows or a flip, and joins its pair to another. A step is counted for each of
+// three looks at the row.
+fn leads_to<L: Ledger>(m: &Matrix, rows: u32, line: Line, to: Pair, steps: &mut Steps<L>) -> bool
+    requires { rows ≤ length m.now.rows }
+    ensures joined { IsTrue result → JoinedBy m.now.columns (take rows m.now.rows) line.pair to line.why }
     ensures ticks { steps.new ≡ steps.old + 3 }
 {
     steps.tick();
     steps.tick();
     steps.tick();
+    if !is_within(line.why, rows) {
+        return false;
+    }
     joined_by(m, line.pair, to, line.why)
+}
+
+// Whether a reason is a flip or one of the first rows.
+fn is_within(why: Why, rows: u32) -> bool
+    ensures { IsTrue result → (k : ℕ) → why ≡ Row k → k ≤ rows }
+{
+    match why {
+        Why::Flip => true,
+        Why::Row(k) => k <= rows,
+    }
 }
 
 // The pair of the line behind a line, which is that of the first line behind the last one.

@@ -5,7 +5,7 @@ ghost use Rattle.row_model.specs.Graph.{pair, row_at, IsPair};
 ghost use Rattle.row_model.specs.Rows.{IsRow};
 ghost use Rattle.incompat_graph.specs.Numbers.{place_of};
 ghost use Rattle.incompat_graph.specs.Unions.{AreParents, AgreesInSets, AreEvenSets};
-ghost use Rattle.incompat_graph.specs.Classes.{TellsClasses, AgreesWith, AgreesAlong, pair_at};
+ghost use Rattle.incompat_graph.specs.Classes.{TellsClasses, AgreesWith, AgreesAlong, pair_of_place};
 
 use crate::numbers::PairNumbers;
 use crate::unions::{each_alone, flatten, unite};
@@ -93,7 +93,7 @@ fn unite_along<L: Ledger>(m: &Matrix, k: u32, parents: &mut [u32], steps: &mut S
     ensures labels { (label : ℕ → ℕ) → AgreesInSets label parents.new
         → AgreesInSets label parents.old × AgreesAlong m.now.columns label (row_at m.now.rows k) }
     ensures even { (rows : List (List ℕ)) → k ≤ length rows → row_at rows k ≡ row_at m.now.rows k
-        → AreEvenSets m.now.columns rows (pair_at m.now.columns) parents.old → AreEvenSets m.now.columns rows (pair_at m.now.columns) parents.new }
+        → AreEvenSets m.now.columns rows (pair_of_place m.now.columns) parents.old → AreEvenSets m.now.columns rows (pair_of_place m.now.columns) parents.new }
     ensures ticks { steps.new ≤ steps.old + 3 * (m.now.columns * length (row_at m.now.rows k)) }
 {
     let row = m.row(k);
@@ -123,7 +123,7 @@ fn unite_with<L: Ledger>(
     ensures parents { AreParents parents.new }
     ensures labels { (label : ℕ → ℕ) → AgreesInSets label parents.new → AgreesInSets label parents.old × AgreesWith columns label row.now d }
     ensures even { (rows : List (List ℕ)) (k : ℕ) → 1 ≤ k → k ≤ length rows → row_at rows k ≡ row.now
-        → AreEvenSets columns rows (pair_at columns) parents.old → AreEvenSets columns rows (pair_at columns) parents.new }
+        → AreEvenSets columns rows (pair_of_place columns) parents.old → AreEvenSets columns rows (pair_of_place columns) parents.new }
     ensures ticks { steps.new ≡ steps.old + 1 + length row.now }
 {
     steps.tick();

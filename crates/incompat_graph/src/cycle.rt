@@ -1,5 +1,5 @@
 // Odd cycles, and the odd cycle that a closed walk of odd length contains.
-ghost use Rattle.std.specs.Prelude.{◌≡◌, ◌⊎◌, ◌+◌, ◌<◌, [], ◌∷◌, ◌++◌, take, length, IfOk, OnOk, ◌≤◌};
+ghost use Rattle.std.specs.Prelude.{◌≡◌, ◌⊎◌, ℕ, ◌+◌, ◌<◌, [], ◌∷◌, ◌++◌, take, length, IfOk, OnOk, ◌≤◌};
 ghost use Rattle.row_model.specs.declared.graph.Pair.{Pair};
 ghost use Rattle.row_model.specs.Graph.{IsPair};
 ghost use Rattle.row_model.specs.Cycles.{IsSimpleOdd, IsClosedWalk, IsOddCycle, pair_of};
@@ -59,7 +59,8 @@ impl Cycle {
     }
 }
 
-/// An odd cycle of the matrix, which is looked for along a closed walk of odd length.
+/// An odd cycle of the matrix, which is looked for along a closed walk of odd length. Along a walk in the graph of the first rows
+/// it is one in that graph.
 ///
 /// A pair that comes twice cuts a closed walk into two closed walks, and one of the two is odd. So the walk is followed
 /// until a pair comes again: the lines since then are the cycle, if they are odd in number, and are left out if not.
@@ -71,7 +72,9 @@ impl Cycle {
 /// `NoMemory`.
 pub fn simple_cycle(alloc: Global, m: &Matrix, walk: &Walk) -> Result<Cycle, NoMemory>
     requires { IsClosedWalk m.now.columns m.now.rows walk.now }
-    ensures { IfOk result (IsOddCycle m.now.columns m.now.rows) }
+    ensures cycle { IfOk result (IsOddCycle m.now.columns m.now.rows) }
+    ensures first_rows { (n : ℕ) → IsClosedWalk m.now.columns (take n m.now.rows) walk.now
+        → IfOk result (IsOddCycle m.now.columns (take n m.now.rows)) }
 {
     let mut numbers = PairNumbers::new(alloc, m.columns())?;
     let mut path = Vec::new(alloc);

@@ -6,8 +6,8 @@ use row_model::{Matrix, NoMemory};
 use std::alloc::Global;
 use step_count::{Ledger, Steps};
 
-/// For each column the list of those of so many rows after the first ones that have it, numbered from 1 after these. It
-/// counts a step for each one in these rows, before it reads the one.
+/// For each column the list of those of so many rows after the first ones that have it, numbered from 1 after these. Each one
+/// in these rows is read once, and counted.
 pub fn rows_by_column<L: Ledger>(
     alloc: Global,
     m: &Matrix,
@@ -24,9 +24,10 @@ pub fn rows_by_column<L: Ledger>(
         holders.push(Vec::new(alloc))?;
     }
     for k in 0..rows {
-        for column in m.row(first + k + 1) {
-            steps.tick();
-            add_holder(&mut holders, *column, k + 1)?;
+        let row = first + k + 1;
+        for i in 0..m.row_len(row) {
+            let column = m.member_counted(row, i + 1, steps);
+            add_holder(&mut holders, column, k + 1)?;
         }
     }
     Ok(holders)

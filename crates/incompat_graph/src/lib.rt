@@ -30,7 +30,7 @@ pub use laws::{cycle_length_law, odd_cycle_law};
 pub use quick::odd_cycle_along;
 pub use reason::joined;
 pub use row_model::NoMemory;
-pub use search::{odd_walk, odd_walk_along};
+pub use search::odd_walk;
 pub use shorter::shorter_cycle;
 pub use walk::Walk;
 

@@ -16,9 +16,9 @@ pub struct Link {
     pub other: Pair,
 }
 
-// The way from a column that the row has and a pivot, a column that it lacks.
+// Where the way from a column that the row has and a pivot, a column that it lacks, begins and ends.
 #[derive(Clone, Copy, Debug, PartialEq, Eq)]
-struct Way {
+struct Course {
     pivot: u32,
     begin: Pair,
     end: Pair,
@@ -36,7 +36,7 @@ struct Reached {
 
 // A link between two pivots that are reached, by which an odd circle closes.
 #[derive(Clone, Copy, Debug, PartialEq, Eq)]
-struct Conflict {
+struct OddLink {
     link: Link,
     one: usize,
     other: usize,
@@ -58,7 +58,7 @@ pub fn odd_links<L: Ledger>(
     ensures ticks { steps.new + left.new ≤ steps.old + left.old }
 {
     let mut links = Vec::new(alloc);
-    let mut ways: Vec<Way> = Vec::new(alloc);
+    let mut ways: Vec<Course> = Vec::new(alloc);
     for pivot in &sample.pivots {
         for member in &sample.members {
             let way = way_of(front, *pivot, *member, left, steps);
@@ -82,7 +82,7 @@ fn way_of<L: Ledger>(
     member: u32,
     left: &mut u64,
     steps: &mut Steps<L>,
-) -> Way
+) -> Course
     requires { length front.now.gaps.now.order ≡ front.now.m.now.columns }
     ensures ticks { steps.new + left.new ≤ steps.old + left.old }
 {
@@ -99,7 +99,7 @@ fn way_of<L: Ledger>(
         }
     };
     let end = end_of(front, begin, left, steps);
-    Way {
+    Course {
         pivot,
         begin,
         end,
@@ -108,7 +108,7 @@ fn way_of<L: Ledger>(
 }
 
 // The link with an earlier way of the same pivot that closes an odd circle.
-fn closed_at_once(ways: &[Way], way: Way) -> Option<Link> {
+fn closed_at_once(ways: &[Course], way: Course) -> Option<Link> {
     for other in ways {
         if other.pivot == way.pivot && other.end == way.end && other.turned != way.turned {
             return Some(Link {
@@ -121,7 +121,7 @@ fn closed_at_once(ways: &[Way], way: Way) -> Option<Link> {
 }
 
 // Whether an earlier way of the same pivot ends at the same pair.
-fn is_known(ways: &[Way], way: Way) -> bool {
+fn is_known(ways: &[Course], way: Course) -> bool {
     ways.iter()
         .any(|other| other.pivot == way.pivot && other.end == way.end)
 }
@@ -130,7 +130,7 @@ fn is_known(ways: &[Way], way: Way) -> bool {
 fn add_circle(
     alloc: Global,
     pivots: &[u32],
-    ways: &[Way],
+    ways: &[Course],
     links: &mut Vec<Link>,
 ) -> Result<(), NoMemory> {
     let mut reached: Vec<Reached> = Vec::new(alloc);
@@ -141,10 +141,10 @@ fn add_circle(
                 Some(pivot) => reached.push(root(pivot, head))?,
             }
         }
-        if let Some(conflict) = spread(ways, head, &mut reached)? {
-            links.push(conflict.link)?;
-            add_path(&reached, conflict.one, links)?;
-            add_path(&reached, conflict.other, links)?;
+        if let Some(odd) = spread(ways, head, &mut reached)? {
+            links.push(odd.link)?;
+            add_path(&reached, odd.one, links)?;
+            add_path(&reached, odd.other, links)?;
             return Ok(());
         }
     }
@@ -156,21 +156,21 @@ fn first_left(pivots: &[u32], reached: &[Reached]) -> Option<u32> {
     pivots
         .iter()
         .copied()
-        .find(|pivot| place_of(reached, *pivot).is_none())
+        .find(|pivot| place_among(reached, *pivot).is_none())
 }
 
 // Where a pivot stands among those that are reached.
-fn place_of(reached: &[Reached], pivot: u32) -> Option<usize> {
+fn place_among(reached: &[Reached], pivot: u32) -> Option<usize> {
     reached.iter().position(|one| one.pivot == pivot)
 }
 
 // Reaches the pivots that links lead to from the one at the place `head`. The answer is a link between two that are reached
 // already, if an odd circle closes by it.
 fn spread(
-    ways: &[Way],
+    ways: &[Course],
     head: usize,
     reached: &mut Vec<Reached>,
-) -> Result<Option<Conflict>, NoMemory> {
+) -> Result<Option<OddLink>, NoMemory> {
     let Some(here) = reached.get(head).copied() else {
         return Ok(None);
     };
@@ -185,13 +185,13 @@ fn spread(
                     other: other.begin,
                 },
             };
-            match place_of(reached, next.pivot) {
+            match place_among(reached, next.pivot) {
                 None => reached.push(next)?,
                 Some(there)
                     if reached
                         .get(there)
                         .is_some_and(|found| found.odd != next.odd) => {
-                    return Ok(Some(Conflict {
+                    return Ok(Some(OddLink {
                         link: next.link,
                         one: head,
                         other: there,

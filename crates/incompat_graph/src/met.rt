@@ -26,8 +26,8 @@ impl Met {
         for stop in way {
             self.columns.push(stop.pair.a)?;
             self.columns.push(stop.pair.b)?;
-            if stop.row > 0 {
-                self.rows.push(stop.row)?;
+            if let Some(row) = stop.row {
+                self.rows.push(row)?;
             }
         }
         Ok(())

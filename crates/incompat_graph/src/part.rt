@@ -3,7 +3,7 @@ ghost use Rattle.std.specs.Prelude.{◌≡◌, ◌+◌, ◌*◌, ◌≤◌, leng
 ghost use Rattle.row_model.specs.Rows.{IsRow};
 
 use crate::cycle::simple_cycle;
-use crate::search::walk_in;
+use crate::search::odd_walk;
 use row_model::{Line, Matrix, NoMemory, Pair, Why};
 use std::alloc::Global;
 use step_count::{Ledger, Steps};
@@ -38,7 +38,7 @@ pub fn lines_among<L: Ledger>(
         return Ok(found);
     };
     *left = rest;
-    if let Some(walk) = walk_in(alloc, &part, part.rows(), steps)? {
+    if let Some(walk) = odd_walk(alloc, &part, part.rows(), steps)? {
         for line in simple_cycle(alloc, &part, &walk)?.lines() {
             if let Some(line) = line_of(*line, rows, columns) {
                 found.push(line)?;

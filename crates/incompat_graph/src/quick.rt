@@ -22,13 +22,16 @@ use step_count::{Ledger, Steps};
 const MOST_STEPS: u64 = 16_777_216;
 
 /// A short odd cycle of a matrix of which the rows 1 to `k` have no valid order, where an order is known that is valid for the
-/// rows before row `k`.
+/// rows before row `k`. Its reasons are flips and rows from 1 to `k`.
 ///
 /// It is looked for among a few columns of row `k` and a few that the row lacks first, which takes time for each column and not
-/// for each pair of columns. Where none is found there, [`odd_walk_along`](crate::odd_walk_along) looks at all pairs. What is
+/// for each pair of columns. Where none is found there, all pairs are searched as in [`odd_walk`](crate::odd_walk), but with
+/// steps across the gaps that the rows before row `k` leave open in the order, so that only row `k` is read once more. What is
 /// found is made [shorter](crate::shorter_cycle).
 ///
-/// With c columns and f ones in these rows it counts at most 8c(f + 1) steps, where memory is refused too.
+/// With c columns and f ones in these rows it counts at most 8c(f + 1) steps, where memory is refused too. While it searches all
+/// pairs it takes 28 bytes for each ordered pair of columns, and then 4; beside these there is room for each column, and for each
+/// line that is found.
 ///
 /// # Errors
 ///
@@ -44,11 +47,13 @@ pub fn odd_cycle_along<L: Ledger>(
     requires order { IsValidOrder m.now.columns (take (k - 1) m.now.rows) order.now }
     requires refused { HasConflict m.now.columns (take k m.now.rows) }
     ensures cycle { IfOk result (IsOddCycle m.now.columns m.now.rows) }
+    ensures first_rows { IfOk result (IsOddCycle m.now.columns (take k m.now.rows)) }
     ensures ticks { steps.new ≤ steps.old + 8 * m.now.columns * (sum_by length (take k m.now.rows) + 1) }
 {
     let most = most_steps(m, k);
     let cycle = any_cycle(alloc, m, k, order, most, steps)?;
-    shorter_cycle(alloc, m, cycle, 4 * most, steps)
+    let found = shorter_cycle(alloc, m, k, cycle, 4 * most, steps)?;
+    Ok(found)
 }
 
 // An odd cycle, from an attempt in at most so many steps, and from a search where that finds none.
@@ -64,7 +69,7 @@ fn any_cycle<L: Ledger>(
     requires order { IsValidOrder m.now.columns (take (k - 1) m.now.rows) order.now }
     requires refused { HasConflict m.now.columns (take k m.now.rows) }
     requires most { most ≤ m.now.columns * (sum_by length (take k m.now.rows) + 1) }
-    ensures cycle { IfOk result (IsOddCycle m.now.columns m.now.rows) }
+    ensures cycle { IfOk result (IsOddCycle m.now.columns (take k m.now.rows)) }
     ensures ticks { steps.new ≤ steps.old + 4 * m.now.columns * (sum_by length (take k m.now.rows) + 1) }
 {
     let gaps = OpenGaps::new(alloc, m, k - 1, order, steps)?;
@@ -111,7 +116,7 @@ fn quick_cycle<L: Ledger>(
     requires row { (1 ≤ k) × (k ≤ length m.now.rows) }
     requires order { IsValidOrder m.now.columns (take (k - 1) m.now.rows) order.now }
     requires columns { length gaps.now.order ≡ m.now.columns }
-    ensures found { IfOk result (λ found. IfSome found (IsOddCycle m.now.columns m.now.rows)) }
+    ensures found { IfOk result (λ found. IfSome found (IsOddCycle m.now.columns (take k m.now.rows))) }
     ensures ticks { steps.new ≤ steps.old + most }
 {
     let Some(mut left) = most.checked_sub(u64::from(m.columns())) else {
@@ -130,7 +135,7 @@ fn quick_cycle<L: Ledger>(
     }
     let met = met_by(alloc, &front, k, &links, &mut left, steps)?;
     let lines = lines_among(alloc, m, &met.rows, &met.columns, &mut left, steps)?;
-    Ok(checked_cycle(m, lines, &mut left, steps))
+    Ok(checked_cycle(m, k, lines, &mut left, steps))
 }
 
 // The rows and columns that the ways of the links meet, each once and in rising order, and row `k`.

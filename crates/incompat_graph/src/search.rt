@@ -22,13 +22,18 @@ use step_count::{Ledger, Steps};
 
 /// A closed walk of odd length in the incompatibility graph of the first rows, or `None` where there is none.
 ///
-/// The pairs are taken in the order in which they are reached, and each is given one of two sides, the other than the pair
-/// from which it was reached. Two joined pairs on one side close an odd walk through the search tree; if there are none, the
-/// graph is bipartite. Each row is looked at once for each column that it lacks.
+/// The pairs are taken in the order in which they are reached, and each is given one of two colours, the other than the pair
+/// from which it was reached. Two joined pairs of one colour close an odd walk through the search tree; if there are none, the
+/// graph is bipartite.
 ///
-/// With c columns and f ones in the first rows it counts at most 8c(f + 1) steps, where memory is refused too: a step for
-/// each look at a row and for each column that is read of it. It takes 28 bytes for each ordered pair of columns, a bit for
-/// each row and column, and room for each one.
+/// A pair (a,b) leads to (b,a), and by each row that has a and lacks b to the pairs (b,d) of the columns d of the row. They are
+/// the same for every a, so a row is read at most once for each column that it lacks. A row that has b and lacks a joins (a,b)
+/// to the pairs (d,a), and is not read once more for these: it leads from (b,a) to (a,d), and those to (d,a), which are three
+/// steps in place of one and give (d,a) the same colour.
+///
+/// With c columns and f ones in the first rows it counts at most f(2c + 1) steps, and so at most 8c(f + 1), where memory is
+/// refused too: a step for each look at a row and for each column that is read of it. It takes 28 bytes for each ordered pair of
+/// columns, a bit for each row and column, and room for each one.
 ///
 /// # Errors
 ///
@@ -44,22 +49,6 @@ pub fn odd_walk<L: Ledger>(
         (¬ HasOddWalk m.now.columns (take rows m.now.rows))
         (IsOddWalk m.now.columns (take rows m.now.rows))) }
     ensures ticks { steps.new ≤ steps.old + 8 * m.now.columns * (sum_by length (take rows m.now.rows) + 1) }
-{
-    walk_in(alloc, m, rows, steps)
-}
-
-// The same, with what its steps are in fact.
-pub(crate) fn walk_in<L: Ledger>(
-    alloc: Global,
-    m: &Matrix,
-    rows: u32,
-    steps: &mut Steps<L>,
-) -> Result<Option<Walk>, NoMemory>
-    requires { rows ≤ length m.now.rows }
-    ensures found { IfOk result (λ found. MatchOption found
-        (¬ HasOddWalk m.now.columns (take rows m.now.rows))
-        (IsOddWalk m.now.columns (take rows m.now.rows))) }
-    ensures ticks { steps.new ≤ steps.old + 3 * m.now.columns * (sum_by length (take rows m.now.rows) + 1) }
     ensures few { steps.new ≤ steps.old + sum_by length (take rows m.now.rows) * (2 * m.now.columns + 1) }
 {
     let begin = m.columns();
@@ -73,38 +62,9 @@ pub(crate) fn walk_in<L: Ledger>(
     Ok(found)
 }
 
-/// A closed walk of odd length in the incompatibility graph of the rows 1 to `k`, which have one, where an order is known
-/// that is valid for the rows before row `k`.
-///
-/// It is [`odd_walk`] with other steps: from a pair it goes to the neighbours of its columns in the order, across the gaps
-/// that the rows before row `k` leave open, and only row `k` is looked at for each column that it lacks. So the time does
-/// not grow with the number of rows once their gaps are known.
-///
-/// With c columns and f ones in these rows it counts at most 8c(f + 1) steps, where memory is refused too. It takes 28 bytes
-/// for each ordered pair of columns, and room for the order, its gaps and the ones of row `k`.
-///
-/// # Errors
-///
-/// `NoMemory`.
-pub fn odd_walk_along<L: Ledger>(
-    alloc: Global,
-    m: &Matrix,
-    k: u32,
-    order: &[u32],
-    steps: &mut Steps<L>,
-) -> Result<Walk, NoMemory>
-    requires row { (1 ≤ k) × (k ≤ length m.now.rows) }
-    requires order { IsValidOrder m.now.columns (take (k - 1) m.now.rows) order.now }
-    requires refused { HasConflict m.now.columns (take k m.now.rows) }
-    ensures walk { IfOk result (IsOddWalk m.now.columns (take k m.now.rows)) }
-    ensures ticks { steps.new ≤ steps.old + 8 * m.now.columns * (sum_by length (take k m.now.rows) + 1) }
-{
-    let gaps = OpenGaps::new(alloc, m, k - 1, order, steps)?;
-    walk_across(alloc, m, k, gaps, steps)
-}
-
 // A closed walk of odd length in the graph of the rows 1 to `k`, which have one, across the gaps that the rows before row `k`
-// leave open. It leaves room in its bound for a step for each one of these.
+// leave open: only row `k` is looked at for each column that it lacks, so the time does not grow with the number of rows once
+// their gaps are known. It leaves room in its bound for a step for each one of these.
 pub(crate) fn walk_across<L: Ledger>(
     alloc: Global,
     m: &Matrix,
@@ -133,15 +93,17 @@ pub(crate) fn walk_across<L: Ledger>(
     }
 }
 
-// The first column of a row, and the last of all columns where the row is empty. A step is counted.
+// The first column of a row, and the last of all columns where the row is empty.
 fn first_column<L: Ledger>(m: &Matrix, k: u32, steps: &mut Steps<L>) -> u32
     requires { (1 ≤ k) × (k ≤ length m.now.rows) }
     ensures column { (1 ≤ result) × (result ≤ m.now.columns) }
-    ensures ticks { steps.new ≡ steps.old + 1 }
+    ensures ticks { steps.new ≤ steps.old + 1 }
 {
-    steps.tick();
-    let row = m.row(k);
-    if row.is_empty() { m.columns() } else { row[0] }
+    if m.row_len(k) == 0 {
+        m.columns()
+    } else {
+        m.member_counted(k, 1, steps)
+    }
 }
 
 // Searches the graph of the first rows and the further ones. The first trees begin at pairs with the given first column.
@@ -213,15 +175,15 @@ fn look<L: Ledger>(
     if m.has_counted(row, node.pair.b, steps) {
         return Ok(None);
     }
-    for column in m.row(row) {
-        steps.tick();
-        if *column == node.pair.a {
+    for i in 0..m.row_len(row) {
+        let column = m.member_counted(row, i + 1, steps);
+        if column == node.pair.a {
             continue;
         }
         let line = Line {
             pair: Pair {
                 a: node.pair.b,
-                b: *column,
+                b: column,
             },
             why: Why::Row(row),
         };

@@ -1,5 +1,5 @@
 // A shorter odd cycle among the rows and columns that a cycle meets.
-ghost use Rattle.std.specs.Prelude.{◌+◌, ◌≤◌, length, IfOk};
+ghost use Rattle.std.specs.Prelude.{◌+◌, ◌≤◌, length, take, IfOk};
 ghost use Rattle.row_model.specs.Cycles.{IsOddCycle};
 
 use crate::checked::checked_cycle;
@@ -13,7 +13,7 @@ use step_count::{Ledger, Steps};
 /// The most lines of a cycle that is searched again.
 const FEW_LINES: usize = 128;
 
-/// An odd cycle of the matrix that is no longer than this one.
+/// An odd cycle of the first rows that is no longer than this one.
 ///
 /// The rows and columns that a short cycle meets are searched once more by themselves, which mostly finds a cycle of a few
 /// lines. A cycle of more than 128 lines stays as it is, and so does one that `most` steps are too few for.
@@ -24,12 +24,14 @@ const FEW_LINES: usize = 128;
 pub fn shorter_cycle<L: Ledger>(
     alloc: Global,
     m: &Matrix,
+    rows: u32,
     cycle: Cycle,
     most: u64,
     steps: &mut Steps<L>,
 ) -> Result<Cycle, NoMemory>
-    requires { IsOddCycle m.now.columns m.now.rows cycle }
-    ensures cycle { IfOk result (IsOddCycle m.now.columns m.now.rows) }
+    requires rows { rows ≤ length m.now.rows }
+    requires cycle { IsOddCycle m.now.columns (take rows m.now.rows) cycle }
+    ensures cycle { IfOk result (IsOddCycle m.now.columns (take rows m.now.rows)) }
     ensures length { IfOk result (λ found. length found ≤ length cycle) }
     ensures ticks { steps.new ≤ steps.old + most }
 {
@@ -41,7 +43,7 @@ pub fn shorter_cycle<L: Ledger>(
     met.settle();
     let mut left = most;
     let lines = lines_among(alloc, m, &met.rows, &met.columns, &mut left, steps)?;
-    match checked_cycle(m, lines, &mut left, steps) {
+    match checked_cycle(m, rows, lines, &mut left, steps) {
         Some(found) if found.lines().len() < cycle.lines().len() => Ok(found),
         _ => Ok(cycle),
     }

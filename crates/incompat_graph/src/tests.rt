@@ -166,7 +166,7 @@ fn checked_counted<L: Ledger>(m: &Matrix, lines: Vec<Line>, blank: Blank) -> boo
 {
     let mut steps = Steps::<L>::new(blank);
     let mut left = 27;
-    checked_cycle(m, lines, &mut left, &mut steps).is_some()
+    checked_cycle(m, m.rows(), lines, &mut left, &mut steps).is_some()
 }
 
 fn is_cycle(m: &Matrix, lines: Vec<Line>) -> bool {

@@ -22,8 +22,8 @@ pub struct Front<'a> {
 pub struct Stop {
     /// The pair.
     pub pair: Pair,
-    /// The row; 0 where the way begins.
-    pub row: u32,
+    /// The row, unless the way begins here.
+    pub row: Option<u32>,
 }
 
 // The columns of a row that stand first and last in the order.
@@ -72,7 +72,7 @@ pub fn way_from<L: Ledger>(
     ensures ticks { steps.new + left.new ≤ steps.old + left.old }
 {
     let mut way = Vec::new(alloc);
-    way.push(Stop { pair: v, row: 0 })?;
+    way.push(Stop { pair: v, row: None })?;
     let mut at = v;
     while let Some(stop) = next_stop(front, at, left, steps) {
         way.push(stop)?;
@@ -102,7 +102,10 @@ fn next_stop<L: Ledger>(
             a: ends.first,
             b: v.b,
         };
-        return Some(Stop { pair, row });
+        return Some(Stop {
+            pair,
+            row: Some(row),
+        });
     }
     let line = front.gaps.behind(Pair { a: v.b, b: v.a })?;
     let row = row_of(line)?;
@@ -111,7 +114,10 @@ fn next_stop<L: Ledger>(
         a: v.a,
         b: ends.last,
     };
-    Some(Stop { pair, row })
+    Some(Stop {
+        pair,
+        row: Some(row),
+    })
 }
 
 // The row that is the line's reason.
@@ -130,21 +136,21 @@ fn ends_of<L: Ledger>(front: &Front, row: u32, left: &mut u64, steps: &mut Steps
     if row == 0 || row > front.m.rows() {
         return None;
     }
-    let columns = front.m.row(row);
-    *left = left.checked_sub(columns.len() as u64 + 1)?;
+    let count = front.m.row_len(row);
+    *left = left.checked_sub(u64::from(count) + 1)?;
     let mut ends = Ends { first: 0, last: 0 };
     let mut low = u32::MAX;
     let mut high = 0;
-    for column in columns {
-        steps.tick();
-        let position = front.position(*column);
+    for i in 0..count {
+        let column = front.m.member_counted(row, i + 1, steps);
+        let position = front.position(column);
         if position < low {
             low = position;
-            ends.first = *column;
+            ends.first = column;
         }
         if position > high {
             high = position;
-            ends.last = *column;
+            ends.last = column;
         }
     }
     Some(ends)

@@ -1,4 +1,4 @@
-use Rattle.std.proofs.Common.{◌≡◌, ◌%◌, Some, length, get_or, slice_get, arith}
+use Rattle.std.proofs.Common.{◌≡◌, ◌%◌, Some, length, take, get_or, slice_get, arith}
 use Rattle.std.proofs.lemmas.Bool.{eqb-true}
 use Rattle.std.proofs.lemmas.Option.{slice_get-get_or}
 use Rattle.row_model.specs.declared.graph.Line.{Line}
@@ -12,14 +12,14 @@ loop-i-preserved g c =
     let line : Line = get_or lines c.loop-i.i blank in
     let at : slice_get lines c.loop-i.i ≡ Some line = slice_get-get_or lines c.loop-i.i blank c.loop-i-test.true in
     record {
-      led = led_more c.args.m.now.columns c.args.m.now.rows lines c.loop-i.i line c.pair_behind.result at c.loop-i.invariant.led c.pair_behind.ensures (c.leads_to.ensures.joined c.if-not-leads_to.false);
+      led = led_more c.args.m.now.columns (take c.args.rows c.args.m.now.rows) lines c.loop-i.i line c.pair_behind.result at c.loop-i.invariant.led c.pair_behind.ensures (c.leads_to.ensures.joined c.if-not-leads_to.false);
       ticks = omega (arith, c.loop-i.invariant.ticks, c.leads_to.ensures.ticks);
     }
 
 pub returns-clause-walk : goal.returns-clause-walk
 returns-clause-walk g c t =
     record {
-      closed = led_all c.args.m.now.columns c.args.m.now.rows c.args.lines.now c.loop-i.i c.loop-i-test.false c.loop-i.invariant.led;
+      closed = led_all c.args.m.now.columns (take c.args.rows c.args.m.now.rows) c.args.lines.now c.loop-i.i c.loop-i-test.false c.loop-i.invariant.led;
       odd = eqb-true (length c.args.lines.now % 2) 1 t;
     }
 

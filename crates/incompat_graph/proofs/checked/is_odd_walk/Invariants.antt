@@ -1,6 +1,6 @@
-use Rattle.std.proofs.Common.{◌+◌, ◌*◌, ◌≤◌}
+use Rattle.std.proofs.Common.{◌+◌, ◌*◌, ◌≤◌, take}
 use Rattle.incompat_graph.proofs.CheckedLaws.{IsLed}
 use Rattle.incompat_graph.proofs.checked.is_odd_walk.Given as goal
 
 abbrev pub invariant-loop-i : goal.invariant-loop-i
-invariant-loop-i g l = record { led : IsLed l.m.columns l.m.rows l.lines l.i; ticks : l.steps ≤ l.fn.steps + 3 * l.i }
+invariant-loop-i g l = record { led : IsLed l.m.columns (take l.rows l.m.rows) l.lines l.i; ticks : l.steps ≤ l.fn.steps + 3 * l.i }

@@ -5,7 +5,7 @@ use Rattle.std.proofs.lemmas.Option.{get_or_from_slice_get}
 use Rattle.column_order.specs.Orders.{has}
 use Rattle.row_model.specs.Graph.{row_at}
 use Rattle.incompat_graph.specs.Unions.{AgreesInSets, AreEvenSets}
-use Rattle.incompat_graph.specs.Classes.{AgreesWith, AgreesAlong, pair_at}
+use Rattle.incompat_graph.specs.Classes.{AgreesWith, AgreesAlong, pair_of_place}
 use Rattle.incompat_graph.proofs.ClassLaws.{IsUnitingAlong, along_held, along_lacking}
 use Rattle.incompat_graph.proofs.classes.unite_along.Goals as goal
 use Rattle.incompat_graph.proofs.classes.unite_along.Goals.{then-not-has_counted, else-not-has_counted}
@@ -25,7 +25,7 @@ loop-d-preserved g c =
           let same : w.columns.result ≡ columns = w.columns.ensures.columns in
           let next = along_lacking columns k row c.args.parents.now ps c.loop-d.d d before (omega arith) w.unite_with.new.parents made.parents
           (λ label u. subst (λ n. AgreesInSets label ps × AgreesWith n label row d) same (made.labels label u))
-          (λ rows l e s. subst (λ n. AreEvenSets n rows (pair_at n) ps → AreEvenSets n rows (pair_at n) w.unite_with.new.parents) same (made.even rows k c.requires.row.0 l e) s) in
+          (λ rows l e s. subst (λ n. AreEvenSets n rows (pair_of_place n) ps → AreEvenSets n rows (pair_of_place n) w.unite_with.new.parents) same (made.even rows k c.requires.row.0 l e) s) in
           record { along = subst (λ x. IsUnitingAlong columns k row c.args.parents.now x d) (sym w.parents-is) next; counted = omega (arith, w.steps-is, made.ticks, c.has_counted.ensures.ticks, c.loop-d.invariant.counted) }
       | else-not-has_counted w ↦
           let held : IsTrue (has row d) = subst (λ r. IsTrue (has r d)) is (sym c.has_counted.ensures.has ∙ w.if-not-has_counted.false) in

@@ -1,4 +1,5 @@
 use Rattle.std.proofs.Common.{◌≡◌, ◌+◌, [], length, replicate, take, drop, sum_by}
+use Rattle.row_model.specs.Graph.{row_at}
 use Rattle.incompat_graph.specs.Holders.{AreHolders, without}
 use Rattle.incompat_graph.proofs.HolderLaws.{lists_of, HoldersSoFar}
 use Rattle.incompat_graph.proofs.holders.rows_by_column.Given as goal
@@ -6,11 +7,11 @@ use Rattle.incompat_graph.proofs.holders.rows_by_column.Given as goal
 abbrev pub invariant-loop : goal.invariant-loop
 invariant-loop g l = lists_of l.holders.items ≡ replicate l.counter []
 
-abbrev pub invariant-loop-column : goal.invariant-loop-column
-invariant-loop-column g l =
+abbrev pub invariant-loop-i : goal.invariant-loop-i
+invariant-loop-i g l =
     record {
-      holders : HoldersSoFar (without l.first l.m) l.k l.column-items l.column-index (lists_of l.holders.items);
-      counted : l.steps ≡ l.initial.steps + l.column-index;
+      holders : HoldersSoFar (without l.first l.m) l.k (row_at (drop l.first l.m.rows) (l.k + 1)) l.i (lists_of l.holders.items);
+      counted : l.steps ≡ l.initial.steps + l.i;
     }
 
 abbrev pub invariant-loop-k : goal.invariant-loop-k

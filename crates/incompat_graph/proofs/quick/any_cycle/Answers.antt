@@ -1,4 +1,4 @@
-use Rattle.std.proofs.Common.{◌≡◌, ◌∙◌, ◌-◌, ◌≤◌, List, ℕ, length, take, ap, sym, subst, arith}
+use Rattle.std.proofs.Common.{◌∙◌, ◌-◌, ◌≤◌, List, ℕ, length, take, ap, sym, subst, arith}
 use Rattle.column_order.specs.Orders.{IsValidOrder}
 use Rattle.column_order.proofs.Counts.{order_length}
 use Rattle.row_model.proofs.CycleLaws.{closed_more}
@@ -47,3 +47,6 @@ returns-in_err-walk-clause-ticks g c =
 pub returns-clause-ticks : goal.returns-clause-ticks
 returns-clause-ticks g c =
     along_bound c.args.m.now.rows c.args.m.now.columns c.args.k c.args.steps.now c.new.new.steps c.quick_cycle.new.steps c.walk_across.new.steps c.new.ensures.ticks (omega arith) c.walk_across.ensures.ticks
+
+pub returns-clause-cycle : goal.returns-clause-cycle
+returns-clause-cycle g c = c.simple_cycle.ensures.first_rows c.args.k c.in_ok-walk.ensures.walk.closed

@@ -3,9 +3,9 @@ use Rattle.row_model.specs.Graph.{row_at}
 use Rattle.incompat_graph.proofs.SearchLaws.{IsSpreading}
 use Rattle.incompat_graph.proofs.search.look.Given as goal
 
-abbrev pub invariant-loop-column : goal.invariant-loop-column
-invariant-loop-column g l =
+abbrev pub invariant-loop-i : goal.invariant-loop-i
+invariant-loop-i g l =
     record {
-      spreading : IsSpreading l.m.columns (take (l.near.first + l.fn.marks.rows) l.m.rows) (row_at (drop l.near.first l.m.rows) l.further) l.fn.forest l.forest l.node l.column-index;
-      ticks : l.steps ≡ l.fn.steps + 1 + l.column-index;
+      spreading : IsSpreading l.m.columns (take (l.near.first + l.fn.marks.rows) l.m.rows) (row_at (drop l.near.first l.m.rows) l.further) l.fn.forest l.forest l.node l.i;
+      ticks : l.steps ≡ l.fn.steps + 1 + l.i;
     }
