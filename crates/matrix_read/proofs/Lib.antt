@@ -24,3 +24,5 @@ pub mod CloneCauses
 pub mod RefusalLemmas
 pub mod TextLemmas
 pub mod MarkLemmas
+pub mod FeedLemmas
+pub mod FewDigits

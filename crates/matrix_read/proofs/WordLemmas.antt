@@ -10,7 +10,7 @@ use Rattle.std.proofs.Math.Pow.{pow_mono}
 use Rattle.std.specs.List.{list_all}
 use Rattle.std.specs.Char.{is_ascii_digit}
 use Rattle.matrix_read.specs.Lines.{is_blank, is_blank_byte, before_first}
-use Rattle.matrix_read.specs.Words.{blank_len, word_len, begins_word, words_of, number_after, numeral, numeral_of}
+use Rattle.matrix_read.specs.Words.{blank_len, word_len, begins_word, words_of, number_after, number_of, numeral, numeral_of}
 use Rattle.matrix_read.specs.declared.words.Numeral.TheVariants.{Value, TooLarge, NotDigits}
 
 -- all bytes are blanks, or a word begins behind the blanks
@@ -159,6 +159,15 @@ number_some None v h = absurd (cc)
 number_some (Some n) v h = by (nat_lt n (2 ^ 64)) h
   where
     by : (small : Bool) → Value v ≡ (if small then Value n else TooLarge) → Some n ≡ Some v
+    by true k = cc
+    by false k = absurd (cc)
+
+-- the number that a word writes
+pub number_written : (word : List ℕ) (n : ℕ) → number_of word ≡ Some n → number_after 0 word ≡ n
+number_written [] n h = absurd (cc)
+number_written (b ∷ word) n h = by (list_all is_ascii_digit (b ∷ word)) h
+  where
+    by : (digits : Bool) → (if digits then Some (number_after 0 (b ∷ word)) else None) ≡ Some n → number_after 0 (b ∷ word) ≡ n
     by true k = cc
     by false k = absurd (cc)
 

@@ -24,4 +24,4 @@ pub use lines::{FilledLine, LineSpan, next_filled_line, next_line, without_mark}
 pub use row_model::NoMemory;
 pub use sparse::{named_laws, read_more, read_rows};
 pub use table::{read_table, table_laws};
-pub use words::{Numeral, WordSpan, next_word, number};
+pub use words::{NumberWord, Numeral, WordSpan, next_number, next_word, number};

@@ -2,6 +2,8 @@
 ghost use Rattle.std.specs.Prelude.{◌≡◌, ◌+◌, ◌^◌, ◌<◌, ◌≤◌, ◌↔◌, ◌∷◌, [], length, drop, slice_range, min, IsNone, IfNone, IfSome};
 ghost use Rattle.matrix_read.specs.Lines.{line_len, first_line, without_return, without_mark, lines_of, is_blank, filled_lines};
 
+use memchr::memchr;
+
 /// Where a line stands in a text, and where the next one begins.
 #[derive(Clone, Copy, Debug, PartialEq, Eq)]
 pub struct LineSpan {
@@ -64,12 +66,10 @@ fn line_end(bytes: &[u8], at: usize) -> usize
     ensures place { result ≡ at + line_len (drop at bytes.now) }
     ensures within { result ≤ length bytes.now }
 {
-    for i in at..bytes.len() {
-        if bytes[i] == b'\n' {
-            return i;
-        }
+    match memchr(b'\n', &bytes[at..]) {
+        Some(len) => at + len,
+        None => bytes.len(),
     }
-    bytes.len()
 }
 
 // How long a line is without a carriage return at its end.

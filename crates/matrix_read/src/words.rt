@@ -1,9 +1,12 @@
 // The words of a line, and the numbers that they write.
-ghost use Rattle.std.specs.Prelude.{◌≡◌, ◌↔◌, ◌+◌, ◌<◌, ◌≤◌, ◌∷◌, [], length, slice_range, IsNone, IfNone, IfSome, IsTrue};
+ghost use Rattle.std.specs.Prelude.{◌≡◌, ◌↔◌, ◌+◌, ◌<◌, ◌≤◌, ◌∷◌, [], true, length, take, drop, slice_range, IsNone, IfNone, IfSome, IsTrue};
 ghost use Rattle.std.specs.Char.{is_ascii_digit};
 ghost use Rattle.std.specs.List.{list_all};
 ghost use Rattle.matrix_read.specs.Lines.{is_blank};
-ghost use Rattle.matrix_read.specs.Words.{blank_len, word_len, words_of, numeral_of};
+ghost use Rattle.matrix_read.specs.Words.{blank_len, word_len, begins_word, words_of, number_after, numeral_of};
+
+// So many digits write a number of 64 bits.
+const FEW_DIGITS: usize = 16;
 
 /// Where a word stands.
 #[derive(Clone, Copy, Debug, PartialEq, Eq)]
@@ -76,6 +79,110 @@ fn count_word(bytes: &[u8]) -> usize
     bytes.len()
 }
 
+/// A word of a line as a number, and where it stands.
+#[derive(Clone, Copy, Debug, PartialEq, Eq)]
+pub struct NumberWord {
+    /// What the word is as a number.
+    pub number: Numeral,
+    /// The place of the word's first byte.
+    pub start: usize,
+    /// The place after the word's last byte.
+    pub end: usize,
+}
+
+/// The first word from the place `at` of a line on, as a number; none exactly where no word is left.
+///
+/// A word of few digits behind at most one space is gone over once.
+pub fn next_number(line: &[u8], at: usize) -> Option<NumberWord>
+    requires { at ≤ length line.now }
+    ensures nothing { IfNone result (words_of (drop at line.now) ≡ []) }
+    ensures words { IfSome result (λ found. words_of (drop at line.now) ≡ slice_range line.now found.start found.end ∷ words_of (drop found.end line.now)) }
+    ensures number { IfSome result (λ found. found.number ≡ numeral_of (slice_range line.now found.start found.end)) }
+    ensures range { IfSome result (λ found. (at < found.end) × (found.end ≤ length line.now)) }
+{
+    if let Some(found) = short_number_at(line, at) {
+        return Some(found);
+    }
+    match next_word(line, at, line.len()) {
+        None => None,
+        Some(word) => Some(NumberWord {
+            number: number(&line[word.start..word.end]),
+            start: word.start,
+            end: word.end,
+        }),
+    }
+}
+
+// The first word from a place on as a number, if it is few digits behind at most one space.
+fn short_number_at(line: &[u8], at: usize) -> Option<NumberWord>
+    requires { at ≤ length line.now }
+    ensures words { IfSome result (λ found. words_of (drop at line.now) ≡ slice_range line.now found.start found.end ∷ words_of (drop found.end line.now)) }
+    ensures number { IfSome result (λ found. found.number ≡ numeral_of (slice_range line.now found.start found.end)) }
+    ensures range { IfSome result (λ found. (at < found.end) × (found.end ≤ length line.now)) }
+{
+    let start = past_space(line, at);
+    let digits = first_digits(&line[start..]);
+    let end = start + digits.len;
+    if digits.len == 0 || begins_word(&line[end..]) {
+        return None;
+    }
+    Some(NumberWord {
+        number: Numeral::Value(digits.value),
+        start,
+        end,
+    })
+}
+
+// The place behind the space that stands at a place, or this place.
+fn past_space(line: &[u8], at: usize) -> usize
+    requires { at ≤ length line.now }
+    ensures words { words_of (drop result line.now) ≡ words_of (drop at line.now) }
+    ensures range { (at ≤ result) × (result ≤ length line.now) }
+{
+    if at < line.len() && line[at] == b' ' {
+        at + 1
+    } else {
+        at
+    }
+}
+
+// Whether a word stands at the front.
+fn begins_word(bytes: &[u8]) -> bool
+    ensures { result ≡ begins_word bytes.now }
+{
+    match bytes {
+        [] => false,
+        [b, ..] => *b != b' ' && *b != b'\t',
+    }
+}
+
+// Digits at the front of a word.
+#[derive(Clone, Copy)]
+struct Digits {
+    // The number that they write.
+    value: u64,
+    // How many they are.
+    len: usize,
+}
+
+// The digits at the front, or the first few of them.
+fn first_digits(bytes: &[u8]) -> Digits
+    ensures digits { list_all is_ascii_digit (take result.len bytes.now) ≡ true }
+    ensures value { result.value ≡ number_after 0 (take result.len bytes.now) }
+    ensures within { result.len ≤ length bytes.now }
+{
+    let mut value = 0u64;
+    let len = bytes.len().min(FEW_DIGITS);
+    for i in 0..len {
+        let digit = bytes[i].wrapping_sub(b'0');
+        if digit > 9 {
+            return Digits { value, len: i };
+        }
+        value = value * 10 + u64::from(digit);
+    }
+    Digits { value, len }
+}
+
 /// The number that a word writes in decimal digits.
 pub fn number(word: &[u8]) -> Numeral
     ensures { result ≡ numeral_of word.now }
@@ -83,7 +190,7 @@ pub fn number(word: &[u8]) -> Numeral
     if word.is_empty() {
         return Numeral::NotDigits;
     }
-    if word.len() <= 16 {
+    if word.len() <= FEW_DIGITS {
         return short_number(word);
     }
     long_number(word)
@@ -92,7 +199,7 @@ pub fn number(word: &[u8]) -> Numeral
 // The number that a word writes that is too short to go past 64 bits.
 fn short_number(word: &[u8]) -> Numeral
     requires some { 0 < length word.now }
-    requires short { length word.now ≤ 16 }
+    requires short { length word.now ≤ FEW_DIGITS }
     ensures { result ≡ numeral_of word.now }
 {
     let mut value = 0u64;
@@ -141,6 +248,16 @@ mod tests {
         assert_eq!(rt; next_word(line, 0, 5), Some(WordSpan { start: 1, end: 3 }));
         assert_eq!(rt; next_word(line, 3, 5), Some(WordSpan { start: 4, end: 5 }));
         assert_eq!(rt; next_word(line, 3, 4), None);
+    }
+
+    #[test]
+    fn a_word_is_a_number_or_none(rt: HostRuntime) {
+        let line = b" 12\t007x  00000000000000003";
+        let found = |number, start, end| Some(NumberWord { number, start, end });
+        assert_eq!(rt; next_number(line, 0), found(Numeral::Value(12), 1, 3));
+        assert_eq!(rt; next_number(line, 3), found(Numeral::NotDigits, 4, 8));
+        assert_eq!(rt; next_number(line, 8), found(Numeral::Value(3), 10, 27));
+        assert_eq!(rt; next_number(line, 27), None);
     }
 
     #[test]
