@@ -1,7 +1,6 @@
 pub mod UmbrellaLaws
 pub mod ClosedLemmas
 pub mod IntervalLemmas
-pub mod PassedLemmas
 pub mod FormulaLaws
 pub mod SortedOrders
 pub mod ListMade

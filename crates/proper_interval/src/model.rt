@@ -1,10 +1,8 @@
 // Whether intervals are a proper model of a graph.
-ghost use Rattle.std.specs.Prelude.{◌≡◌, ◌≤◌, ◌+◌, ◌<◌, ℕ, ◌↔◌, length, slice_index_or, All, IsTrue};
-ghost use Rattle.column_order.specs.Orders.{has};
+ghost use Rattle.std.specs.Prelude.{◌≡◌, ◌↔◌, ◌<◌, length, All, IsTrue};
 ghost use Rattle.row_model.specs.Rows.{IsRow};
-ghost use Rattle.graph_read.specs.Graphs.{below};
-ghost use Rattle.proper_interval.specs.Models.{interval_of, EndsInOrder, ShareNumber, ContainsInterval, IsProperModel};
-ghost use Rattle.proper_interval.specs.Fitting.{PairFits, FitsOthers};
+ghost use Rattle.proper_interval.specs.Models.{EndsInOrder, ShareNumber, ContainsInterval, IsProperModel};
+ghost use Rattle.proper_interval.specs.Fitting.{AreApart, IsProperPair, FitsLater};
 
 use graph_read::Graph;
 use row_model::Interval;
@@ -22,7 +20,7 @@ pub fn fits(g: &Graph, list: &[Interval]) -> bool
         return false;
     }
     for before in 0..g.vertices() {
-        if !fits_others(list, before as usize, g.neighbours(before + 1)) {
+        if !fits_later(list, before as usize, g.neighbours(before + 1)) {
             return false;
         }
     }
@@ -36,53 +34,58 @@ fn are_in_order(list: &[Interval]) -> bool
     list.iter().all(|a| a.left <= a.right)
 }
 
-// Whether the interval at a place, of a vertex with these neighbours, fits that of each other vertex. The neighbours, which
-// ascend, are passed one by one beside the vertices.
-fn fits_others(list: &[Interval], at: usize, neighbours: &[u32]) -> bool
+// Whether the interval at a place, of a vertex with these neighbours, fits that of each later vertex: it overlaps those of the
+// neighbours, and lies apart from all between them.
+fn fits_later(list: &[Interval], at: usize, neighbours: &[u32]) -> bool
     requires at { at < length list.now }
     requires ordered { All EndsInOrder list.now }
     requires neighbours { IsRow (length list.now) neighbours.now }
-    ensures { IsTrue result ↔ FitsOthers list.now at neighbours.now }
+    ensures { IsTrue result ↔ FitsLater list.now at neighbours.now }
 {
-    let mut passed = 0;
-    for i in 0..list.len() {
-        let adjacent = is_next(neighbours, passed, i + 1);
-        if i != at && !pair_fits(list[at], list[i], adjacent) {
-            return false;
+    let a = list[at];
+    let mut from = at + 1;
+    for neighbour in neighbours {
+        let end = *neighbour as usize;
+        if end > from {
+            if !lies_apart(a, &list[from..end - 1]) || !overlap(a, list[end - 1]) {
+                return false;
+            }
+            from = end;
         }
-        if adjacent {
-            passed += 1;
+    }
+    lies_apart(a, &list[from..])
+}
+
+// Whether an interval shares no number with any of the others.
+fn lies_apart(a: Interval, others: &[Interval]) -> bool
+    requires a { EndsInOrder a }
+    requires others { All EndsInOrder others.now }
+    ensures { IsTrue result ↔ All (AreApart a) others.now }
+{
+    for b in others {
+        if meet(a, *b) {
+            return false;
         }
     }
     true
 }
 
-// Whether a vertex is the next neighbour, where those below it were passed.
-fn is_next(neighbours: &[u32], passed: usize, vertex: usize) -> bool
-    requires neighbours { (c : ℕ) × IsRow c neighbours.now }
-    requires passed { passed ≡ below vertex neighbours.now }
-    ensures { result ≡ has neighbours.now vertex }
-{
-    passed < neighbours.len() && neighbours[passed] as usize == vertex
-}
-
-// Whether two intervals meet exactly where their vertices are adjacent, and the first contains the second only where they
-// are equal.
-fn pair_fits(a: Interval, b: Interval, adjacent: bool) -> bool
+// Whether two intervals share a number, and neither contains the other unless they are equal.
+fn overlap(a: Interval, b: Interval) -> bool
     requires a { EndsInOrder a }
     requires b { EndsInOrder b }
-    ensures { IsTrue result ↔ PairFits a b (IsTrue adjacent) }
+    ensures { IsTrue result ↔ (ShareNumber a b × IsProperPair a b) }
 {
-    meets(a, b) == adjacent && (a == b || !contains(a, b))
+    meet(a, b) && (a == b || !(contains(a, b) || contains(b, a)))
 }
 
-// Whether two intervals share a number.
-fn meets(a: Interval, b: Interval) -> bool
+// Whether two intervals share a number. Both ends are looked at, since a branch on either would be taken as often as not.
+fn meet(a: Interval, b: Interval) -> bool
     requires a { EndsInOrder a }
     requires b { EndsInOrder b }
     ensures { IsTrue result ↔ ShareNumber a b }
 {
-    a.left <= b.right && b.left <= a.right
+    (a.left <= b.right) & (b.left <= a.right)
 }
 
 // Whether the first interval contains the second.
