@@ -1,7 +1,24 @@
-//! The rows that are to blame: a least set of rows of a matrix that have no valid order together.
+//! The rows that are to blame: a core of a matrix, which is a set of rows that have no valid order together, while for
+//! each row of the set the others have one.
+//!
+//! A core is found by a solver of the consecutive-ones problem that is seen as a [`Judge`] alone. The rows that an odd
+//! cycle names have no valid order together by themselves (McConnell, 2004). So a set of such rows shrinks by leaving
+//! out a block of rows: where the others still have no valid order, a new cycle names the rows that stay, and else the
+//! block is halved, down to a single row, which no core of the set can do without.
 #![tactic(auto)]
 
+mod blamed;
+mod core_parts;
+mod find;
 mod judge;
+mod laws;
+mod orders;
+mod others;
+mod part;
+mod shrink;
 
+pub use core_parts::Core;
+pub use find::{Cored, find_core};
 pub use judge::{Judge, Judged};
+pub use laws::blame_law;
 pub use row_model::NoMemory;

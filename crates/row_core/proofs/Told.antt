@@ -1,0 +1,75 @@
+-- What is found of a set of rows without each of them makes a core.
+use Rattle.std.proofs.Common.{◌≡◌, ◌∙◌, ℕ, ◌+◌, ◌-◌, ◌*◌, ◌<◌, ◌≤◌, List, [], ◌∷◌, ◌++◌, length, take, drop, get_or, IsTrue, refl, sym, ap, subst, inl, inr, arith}
+use Rattle.std.proofs.lemmas.Bool.{cases_eq}
+use Rattle.std.proofs.lemmas.List.{get_or_append_left, get_or_push, length_push}
+use Rattle.std.proofs.Math.Nat.{mul-le-mul_right}
+use Rattle.column_order.specs.Orders.{has, place, IsValidOrder}
+use Rattle.column_order.proofs.Lists.{at_place}
+use Rattle.row_model.specs.declared.graph.Line.{Line}
+use Rattle.row_model.specs.Cycles.{IsOddCycle}
+use Rattle.row_model.specs.Rows.{RowList}
+use Rattle.pq_tree.specs.Outline.{IsFrontier, leaves}
+use Rattle.pq_tree.specs.PqTree.{outline}
+use Rattle.pq_tree.specs.declared.PqTree.{PqTree}
+use Rattle.row_core.specs.Judges.{IsTreeOfOrders}
+use Rattle.row_core.specs.Cores.{AreRowNumbers, rows_at, but}
+use Rattle.row_core.specs.Told.{IsOrderWithout, AreAmong, TellsCore}
+use Rattle.row_core.specs.Blamed.{part_at}
+use Rattle.row_core.proofs.Masked.{blame_law}
+use Rattle.row_core.proofs.Numbers.{but_at}
+
+-- the order of a tree of all valid orders of the rows but one
+order_without : (m : RowList) (set others o : List ℕ) (i : ℕ) (t : PqTree) → AreRowNumbers (length m.rows) set → i < length set → others ≡ take i set ++ drop (i + 1) set
+    → IsTreeOfOrders (part_at m others) t → o ≡ leaves (outline t) → IsFrontier (outline t) o → IsOrderWithout m set (get_or set i 0) o
+order_without m set others o i t a l e found is frontier =
+    let same : others ≡ but (get_or set i 0) set = e ∙ sym (but_at (length m.rows) 0 set i a l) in
+    let there : IsTreeOfOrders (part_at m (but (get_or set i 0) set)) t = subst (λ xs. IsTreeOfOrders (part_at m xs) t) same found in
+    record { valid = (there.orders o).0 frontier; tree = outline t; canonical = there.canonical; orders = there.orders; leaves = is }
+
+-- one order more
+pub orders_more : (m : RowList) (set others o : List ℕ) (orders new : List (List ℕ)) (i : ℕ) (t : PqTree) → AreRowNumbers (length m.rows) set → i < length set → others ≡ take i set ++ drop (i + 1) set
+    → IsTreeOfOrders (part_at m others) t → o ≡ leaves (outline t) → IsFrontier (outline t) o → new ≡ orders ++ o ∷ [] → length orders ≡ i
+    → ((j : ℕ) → j < i → IsOrderWithout m set (get_or set j 0) (get_or orders j []))
+    → (length new ≡ i + 1) × ((j : ℕ) → j < i + 1 → IsOrderWithout m set (get_or set j 0) (get_or new j []))
+orders_more m set others o orders new i t a l e found is frontier more count before = (
+  ap length more ∙ length_push orders o ∙ ap (λ n. n + 1) count,
+  λ j k.
+      elim (cases_eq j i) [
+        | inl s ↦
+            let at : get_or new j [] ≡ o = ap (λ n. get_or new n []) s ∙ ap (λ os. get_or os i []) more ∙ get_or_push orders o [] i count in
+            let here : IsOrderWithout m set (get_or set j 0) o = subst (λ n. IsOrderWithout m set (get_or set n 0) o) (sym s) (order_without m set others o i t a l e found is frontier) in
+            subst (IsOrderWithout m set (get_or set j 0)) (sym at) here
+        | inr n ↦
+            let at : get_or new j [] ≡ get_or orders j [] = ap (λ os. get_or os j []) more ∙ get_or_append_left orders (o ∷ []) [] j (omega (arith, k, n, count)) in
+            subst (IsOrderWithout m set (get_or set j 0)) (sym at) (before j (omega (arith, k, n)))
+      ],
+)
+
+-- rows that are to blame, with an order without each of them
+pub tells_core : (m : RowList) (rows : List ℕ) (orders : List (List ℕ)) (lines : List Line) → AreRowNumbers (length m.rows) rows → IsOddCycle m.columns m.rows lines → AreAmong rows lines
+    → length orders ≡ length rows → ((i : ℕ) → i < length rows → IsOrderWithout m rows (get_or rows i 0) (get_or orders i [])) → TellsCore m (record { rows = rows; orders = orders; lines = lines })
+tells_core m rows orders lines a cycle among count each =
+    record {
+      core = record {
+        rows = a;
+        none = blame_law m rows lines (record { closed = cycle.closed; odd = cycle.simple.odd }) among;
+        others = λ k h.
+            let there = at_place rows k h in
+            let o : List ℕ = get_or orders (place rows k) [] in
+            (o, subst (λ n. IsValidOrder m.columns (rows_at m.rows (but n rows)) o) there.1 (each (place rows k) there.0).valid);
+      };
+      count = count;
+      orders = each;
+      cycle = cycle;
+      among = among;
+    }
+
+-- a first number that falls counts more than a second one that stays below a bound
+pub lexical : (a b a' b' n : ℕ) → a' < a → b' < n → a' * n + b' < a * n + b
+lexical a b a' b' n l u =
+    let times : (a' + 1) * n ≤ a * n = mul-le-mul_right n (omega (arith, l)) in
+    omega (arith, times, u)
+
+-- and where the first stays, the second counts
+pub lexical_second : (a b a' b' n : ℕ) → a' ≡ a → b' < b → a' * n + b' < a * n + b
+lexical_second a b a' b' n e l = omega (arith, ap (λ k. k * n) e, l)

@@ -1,0 +1,9 @@
+use Rattle.std.proofs.Common.{◌≡◌, ◌<◌, ℕ, [], length, get_or}
+use Rattle.row_core.specs.Told.{IsOrderWithout}
+use Rattle.row_core.proofs.others.each_left_out.Given as goal
+
+abbrev pub invariant-loop-i : goal.invariant-loop-i
+invariant-loop-i g l = record {
+  count : length l.orders ≡ l.i;
+  orders : (j : ℕ) → j < l.i → IsOrderWithout l.m l.blamed.rows.items (get_or l.blamed.rows.items j 0) (get_or l.orders j []);
+}

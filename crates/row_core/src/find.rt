@@ -1,0 +1,84 @@
+// The search for a core.
+ghost use Rattle.std.specs.Prelude.{◌≡◌, ◌≤◌, length, IfOk};
+ghost use Rattle.std.specs.List.{range_with_len};
+ghost use Rattle.row_core.specs.Told.{IsCored, TellsCore};
+ghost use Rattle.row_core.specs.Blamed.{IsBlamed};
+
+use crate::blamed::{Blamed, blame};
+use crate::core_parts::Core;
+use crate::judge::{Judge, Judged};
+use crate::others::{Tried, each_left_out};
+use crate::shrink::shrunk;
+use pq_tree::PqTree;
+use row_model::{Matrix, NoMemory};
+use std::alloc::Global;
+use step_count::{Ledger, Steps};
+
+/// What is found of a matrix.
+#[derive(Drop)]
+pub enum Cored {
+    /// It has a valid order. The tree is canonical, and its frontiers are exactly the valid orders.
+    Has(PqTree),
+    /// It has none. The rows of the core have none together, while for each of them the others have one.
+    Core(Core),
+}
+
+/// The tree of all valid orders of a matrix, or a core where it has none.
+///
+/// The order that is told of a row of the core has the leaves, from left to right, of the canonical tree of all valid orders
+/// of the others, so it depends on the rows of the core alone. Which of several cores is found is free.
+///
+/// # Errors
+///
+/// `NoMemory`.
+pub fn find_core<J: Judge, L: Ledger>(
+    alloc: Global,
+    judge: &mut J,
+    m: &Matrix,
+    steps: &mut Steps<L>,
+) -> Result<Cored, NoMemory>
+    ensures { IfOk result (IsCored m.now) }
+{
+    match judge.judge(alloc, m, steps)? {
+        Judged::Yes(tree) => Ok(Cored::Has(tree)),
+        Judged::No(cycle) => {
+            let all = all_rows(alloc, m)?;
+            let blamed = blame(alloc, &all, &cycle)?;
+            let core = core_among(alloc, judge, m, blamed, steps)?;
+            Ok(Cored::Core(core))
+        }
+    }
+}
+
+// The numbers of all rows.
+fn all_rows(alloc: Global, m: &Matrix) -> Result<Vec<u32>, NoMemory>
+    ensures { IfOk result (λ all. all.items ≡ range_with_len 1 (length m.now.rows)) }
+{
+    let mut all = Vec::with_capacity(alloc, m.rows() as usize)?;
+    for before in 0..m.rows() {
+        all.push(before + 1)?;
+    }
+    Ok(all)
+}
+
+// A core among rows that are to blame. Each round leaves fewer of them, or finds that none can be left out.
+fn core_among<J: Judge, L: Ledger>(
+    alloc: Global,
+    judge: &mut J,
+    m: &Matrix,
+    blamed: Blamed,
+    steps: &mut Steps<L>,
+) -> Result<Core, NoMemory>
+    requires { IsBlamed m.now blamed }
+    ensures { IfOk result (TellsCore m.now) }
+{
+    let mut blamed = blamed;
+    'rounds: loop {
+        match each_left_out(alloc, judge, m, &blamed, steps)? {
+            Tried::Orders(orders) => return Ok(Core::of(blamed.rows, orders, blamed.lines)),
+            Tried::Fewer(fewer, needed) => {
+                blamed = shrunk(alloc, judge, m, fewer, needed, steps)?;
+            }
+        }
+    }
+}
