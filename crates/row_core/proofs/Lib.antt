@@ -5,3 +5,12 @@ pub mod Whole
 pub mod OrderLemmas
 pub mod Parts
 pub mod Told
+pub mod Chains
+pub mod Items
+pub mod LoopLaws
+pub mod NumberLoop
+pub mod KindLaws
+pub mod LineLaws
+pub mod EntryLaws
+pub mod CoreLaws
+pub mod PrintLaws

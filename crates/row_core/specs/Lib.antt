@@ -6,3 +6,7 @@ pub mod Laws
 pub mod Orders
 pub mod Kept
 pub mod Blamed
+pub mod Texts
+pub mod Reading
+pub mod Seen
+pub mod KeptText

@@ -1,0 +1,130 @@
+-- The text of a core read from the front of bytes. Each function gives what it reads and the bytes after it, and none where that does
+-- not stand there.
+use Rattle.std.specs.Prelude.{ℕ, zero, suc, ◌==◌, if◌then◌else◌, List, [], ◌∷◌, length, map, codes, Option, Some, None, option_and_then}
+use Rattle.plain_text.specs.Numbers.{number_at}
+use Rattle.plain_text.specs.Words.{word_at}
+use Rattle.row_model.specs.declared.TheConstants.{MAX_COLUMNS}
+use Rattle.row_model.specs.declared.kind.Kind.{Kind}
+use Rattle.row_model.specs.declared.kind.Kind.TheVariants.{Matrix, Rows, Table, Circular, Convex, Doubly, Proper, Robinson, Clones}
+use Rattle.row_model.specs.declared.graph.Line.{Line}
+use Rattle.row_model.specs.declared.graph.Why.{Why}
+use Rattle.row_model.specs.declared.graph.Why.TheVariants.{Flip, Row}
+use Rattle.row_core.specs.Texts.{TextValue, max_number, kind_word}
+
+-- what is read next, where the first is there
+infixl 10 ◌>>=◌
+abbrev pub ◌>>=◌ : {A B : Type 0} → Option A → (A → Option B) → Option B
+o >>= f = option_and_then f o
+
+-- the first that is there
+abbrev pub or_else : {A : Type 0} → Option A → Option A → Option A
+or_else None o = o
+or_else (Some x) o = Some x
+
+-- the kinds, in the order in which their words are tried
+abbrev pub all_kinds : List Kind
+all_kinds = Matrix ∷ Rows ∷ Table ∷ Circular ∷ Convex ∷ Doubly ∷ Proper ∷ Robinson ∷ Clones ∷ []
+
+-- the kind, and the bytes after its word
+abbrev pub with_kind : Kind → List ℕ → Option (Kind × List ℕ)
+with_kind kind rest = Some (kind, rest)
+
+-- the first of the kinds whose word stands at the front
+abbrev pub kind_from : List Kind → List ℕ → Option (Kind × List ℕ)
+kind_from [] bytes = None
+kind_from (kind ∷ kinds) bytes = or_else (option_and_then (with_kind kind) (word_at (kind_word kind) bytes)) (kind_from kinds bytes)
+
+-- the kind whose word stands at the front
+unfoldable pub kind_at : List ℕ → Option (Kind × List ℕ)
+kind_at bytes = kind_from all_kinds bytes
+
+-- a number of columns
+unfoldable pub column_count_at : List ℕ → Option (ℕ × List ℕ)
+column_count_at bytes = do
+  c ← number_at MAX_COLUMNS bytes
+  if c.0 == 0 then None else Some c
+
+-- an item before those that were read
+abbrev pub with_first : {A : Type 0} → A → (List A × List ℕ) → Option (List A × List ℕ)
+with_first x y = Some (x ∷ y.0, y.1)
+
+-- so many items one after another
+unfoldable pub items_at : {A : Type 0} → (List ℕ → Option (A × List ℕ)) → ℕ → List ℕ → Option (List A × List ℕ)
+items_at read zero bytes = Some ([], bytes)
+items_at read (suc n) bytes = option_and_then (λ x. option_and_then (with_first x.0) (items_at read n x.1)) (read bytes)
+
+-- a word, a count, and so many items from the next line on
+unfoldable pub counted_at : {A : Type 0} → List ℕ → (List ℕ → Option (A × List ℕ)) → List ℕ → Option (List A × List ℕ)
+counted_at word read bytes = do
+  first ← word_at word bytes
+  count ← number_at max_number first
+  next ← word_at (10 ∷ []) count.1
+  items_at read count.0 next
+
+-- what stands after a space, where one was there; else no number
+abbrev pub after_space : Option (List ℕ) → List ℕ → (List ℕ → Option (List ℕ × List ℕ)) → Option (List ℕ × List ℕ)
+after_space None bytes more = Some ([], bytes)
+after_space (Some space) bytes more = more space
+
+-- the numbers at the front, each after a space; at most so many
+unfoldable pub numbers_at : ℕ → List ℕ → Option (List ℕ × List ℕ)
+numbers_at zero bytes = Some ([], bytes)
+numbers_at (suc n) bytes = after_space (word_at (32 ∷ []) bytes) bytes (λ space. number_at max_number space >>= λ k. numbers_at n k.1 >>= with_first k.0)
+
+-- a row and its order
+unfoldable pub entry_at : List ℕ → Option ((ℕ × List ℕ) × List ℕ)
+entry_at bytes = do
+  first ← word_at (codes "row ") bytes
+  row ← number_at max_number first
+  next ← word_at (codes "\nwithout") row.1
+  order ← numbers_at (length next) next
+  rest ← word_at (10 ∷ []) order.1
+  if length order.0 == 0 then None else Some ((row.0, order.0), rest)
+
+-- a row as the reason, and the end of the line
+unfoldable pub row_at : List ℕ → Option (Why × List ℕ)
+row_at bytes = do
+  row ← word_at (codes " row ") bytes
+  k ← number_at max_number row
+  rest ← word_at (10 ∷ []) k.1
+  Some (Row k.0, rest)
+
+-- a flip, and the bytes after it
+abbrev pub as_flip : List ℕ → Option (Why × List ℕ)
+as_flip rest = Some (Flip, rest)
+
+-- a flip or a row as the reason, and the end of the line
+unfoldable pub why_at : List ℕ → Option (Why × List ℕ)
+why_at bytes = or_else (word_at (codes " flip\n") bytes >>= as_flip) (row_at bytes)
+
+-- a line of a cycle
+unfoldable pub line_at : List ℕ → Option (Line × List ℕ)
+line_at bytes = do
+  a ← number_at max_number bytes
+  space ← word_at (32 ∷ []) a.1
+  b ← number_at max_number space
+  why ← why_at b.1
+  Some (record { pair = record { a = a.0; b = b.0 }; why = why.0 }, why.1)
+
+-- the first entry of a pair, and the second
+abbrev pub row_of : (ℕ × List ℕ) → ℕ
+row_of entry = entry.0
+
+abbrev pub order_of : (ℕ × List ℕ) → List ℕ
+order_of entry = entry.1
+
+-- the value of a kind, a number of columns, rows with their orders, and lines
+abbrev pub text_value : Kind → ℕ → List (ℕ × List ℕ) → List Line → TextValue
+text_value kind columns entries lines = record { kind = kind; columns = columns; parts = record { rows = map row_of entries; orders = map order_of entries; lines = lines } }
+
+-- what all of the bytes are the text of
+unfoldable pub core_of : List ℕ → Option TextValue
+core_of bytes = do
+  first ← word_at (codes "pq-core 1\nkind ") bytes
+  kind ← kind_at first
+  next ← word_at (codes "\ncolumns ") kind.1
+  columns ← column_count_at next
+  entries ← counted_at (codes "\ncore ") entry_at columns.1
+  lines ← counted_at (codes "cycle ") line_at entries.1
+  rest ← word_at (codes "end\n") lines.1
+  if length rest == 0 then Some (text_value kind.0 columns.0 entries.0 lines.0) else None
