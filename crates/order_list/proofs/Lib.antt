@@ -1,0 +1,12 @@
+pub mod Permuted
+pub mod Readings
+pub mod Taking
+pub mod Begins
+pub mod Children
+pub mod Gaining
+pub mod Links
+pub mod Steps
+pub mod Openings
+pub mod Whole
+pub mod Firsts
+pub mod Pieces

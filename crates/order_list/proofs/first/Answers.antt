@@ -1,0 +1,32 @@
+use Rattle.std.proofs.Common.{◌≡◌, ◌∙◌, [], refl, ap, false}
+use Rattle.pq_tree.specs.PqTree.{column_count, outline}
+use Rattle.order_list.proofs.Whole.{root_sound, root_ready, whole_first, whole_more}
+use Rattle.order_list.proofs.first.Goals as goal
+
+pub read_on-requires-clause-trees : goal.read_on-requires-clause-trees
+read_on-requires-clause-trees c =
+    let tree = c.args.tree.now in
+    root_sound (column_count tree) (outline tree) c.root.result _ _ tree.proper c.root.ensures refl refl
+
+pub read_on-requires-clause-ready : goal.read_on-requires-clause-ready
+read_on-requires-clause-ready c =
+    let tree = c.args.tree.now in
+    let start : c.new-found.result ≡ record { columns = column_count tree; orders = []; more = false } =
+    c.new-found.ensures ∙ ap (λ n. record { columns = n; orders = []; more = false }) c.columns.ensures in
+    root_ready (column_count tree) (outline tree) c.root.result _ _ tree.proper c.root.ensures refl refl c.in_ok-columns.columns.items c.args.count c.new-found.result c.in_ok-columns.ensures.items start
+
+pub returns-clause-first : goal.returns-clause-first
+returns-clause-first c =
+    let tree = c.args.tree.now in
+    let start : c.new-found.result ≡ record { columns = column_count tree; orders = []; more = false } =
+    c.new-found.ensures ∙ ap (λ n. record { columns = n; orders = []; more = false }) c.columns.ensures in
+    whole_first (column_count tree) (outline tree) c.root.result _ _ tree.proper c.root.ensures refl refl c.in_ok-columns.columns.items c.args.count c.new-found.result c.in_ok-columns.ensures.items start
+    c.read_on.new.found c.in_ok-read_on.ensures.found
+
+pub returns-clause-more : goal.returns-clause-more
+returns-clause-more c =
+    let tree = c.args.tree.now in
+    let start : c.new-found.result ≡ record { columns = column_count tree; orders = []; more = false } =
+    c.new-found.ensures ∙ ap (λ n. record { columns = n; orders = []; more = false }) c.columns.ensures in
+    whole_more (column_count tree) (outline tree) c.root.result _ _ tree.proper c.root.ensures refl refl c.in_ok-columns.columns.items c.args.count c.new-found.result c.in_ok-columns.ensures.items start
+    c.read_on.new.found c.in_ok-read_on.ensures.found

@@ -1,0 +1,47 @@
+//! The first orders among the frontiers of a PQ-tree, in lexicographic order.
+//!
+//! The orders are found one after another, from the least on. The frontiers that begin with given columns are what can still be
+//! read from a list of trees; each column that can come next leaves another such list, and no list is a dead end. So time goes
+//! into the orders that are found, and into none that is thrown away.
+#![tactic(auto)]
+
+ghost use Rattle.std.specs.Prelude.{◌≡◌, ◌↔◌, ◌≤◌, ◌+◌, ℕ, List, IfOk, IsTrue, length};
+ghost use Rattle.pq_tree.specs.Outline.{IsFrontier};
+ghost use Rattle.pq_tree.specs.PqTree.{column_count, outline};
+ghost use Rattle.order_list.specs.First.{AreFirst, HasOther};
+
+mod orders;
+mod search;
+mod walk;
+
+pub use orders::Orders;
+use pq_tree::PqTree;
+pub use std::alloc::AllocError as NoMemory;
+use std::alloc::Global;
+use walk::{Bag, Coming, read_on};
+
+/// The greatest number of orders that may be asked for.
+pub const MAX_ORDERS: u32 = 10_000;
+
+/// The first `count` frontiers of the tree, compared as lists of numbers, or all of them where there are fewer.
+///
+/// Takes time and memory in the size of what is found, and at most the square of the number of columns besides.
+///
+/// # Errors
+///
+/// `NoMemory` where there is no memory for the orders.
+pub fn first(alloc: Global, tree: &PqTree, count: u32) -> Result<Orders, NoMemory>
+    requires { (1 ≤ count) × (count ≤ MAX_ORDERS) }
+    ensures first { IfOk result (λ found. AreFirst (IsFrontier (outline tree.now)) count found.orders) }
+    ensures more { IfOk result (λ found. IsTrue found.more ↔ HasOther (IsFrontier (outline tree.now)) found.orders) }
+{
+    let mut found = Orders::new(alloc, tree.columns());
+    let mut columns = Vec::with_capacity(alloc, tree.columns() as usize)?;
+    let root = [tree.root()];
+    let all = Coming::InAnyOrder(Bag { trees: &root }, &Coming::Nothing);
+    read_on(alloc, &all, &mut columns, count, &mut found)?;
+    Ok(found)
+}
+
+#[cfg(test)]
+mod tests;
