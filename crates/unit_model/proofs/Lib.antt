@@ -1,0 +1,12 @@
+pub mod PutLemmas
+pub mod WalkLemmas
+pub mod LinkLemmas
+pub mod DrawnLemmas
+pub mod FinishLemmas
+pub mod UnitLaws
+pub mod FirstLemmas
+pub mod LengthLemmas
+pub mod Chains
+pub mod TextLaws
+pub mod WriteLaws
+pub mod FitLemmas

@@ -1,0 +1,72 @@
+// Whether left ends and a length are a unit model of a graph.
+ghost use Rattle.std.specs.Prelude.{◌≡◌, ◌≢◌, ◌↔◌, ◌+◌, ◌-◌, ◌≤◌, ◌<◌, ℕ, slice_index, IsTrue, length as count_of};
+ghost use Rattle.row_model.specs.Rows.{IsRow};
+ghost use Rattle.unit_model.specs.Models.{IsUnitModel, DifferByAtMost};
+ghost use Rattle.unit_model.specs.Fitting.{FitsLater, AreApart};
+
+use graph_read::Graph;
+
+/// Whether left ends, vertex by vertex, and a length are a unit model of the graph (Roberts, 1969).
+///
+/// True exactly where the length is at least 1, and the left ends of two distinct vertices differ by at most the length
+/// exactly where the vertices are adjacent. It takes no memory, and time in proportion to the square of the number of
+/// vertices.
+pub fn unit_fits(g: &Graph, lefts: &[u64], length: u64) -> bool
+    requires { count_of lefts.now ≡ g.now.vertices }
+    ensures { IsTrue result ↔ IsUnitModel g.now length lefts.now }
+{
+    if length == 0 {
+        return false;
+    }
+    for before in 0..g.vertices() {
+        if !fits_later(lefts, length, before as usize, g.neighbours(before + 1)) {
+            return false;
+        }
+    }
+    true
+}
+
+// Whether the left end at a place, of a vertex with these neighbours, fits that at each later place. Between two
+// neighbours one after another there are only vertices that are not adjacent.
+fn fits_later(lefts: &[u64], length: u64, at: usize, neighbours: &[u32]) -> bool
+    requires at { at < count_of lefts.now }
+    requires neighbours { IsRow (count_of lefts.now) neighbours.now }
+    ensures { IsTrue result ↔ FitsLater lefts.now length at neighbours.now }
+{
+    let left = lefts[at];
+    let mut from = at + 1;
+    for neighbour in neighbours {
+        let to = *neighbour as usize - 1;
+        if to > at {
+            if !are_apart(left, length, lefts, from, to) || !are_near(left, lefts[to], length) {
+                return false;
+            }
+            from = to + 1;
+        }
+    }
+    are_apart(left, length, lefts, from, lefts.len())
+}
+
+// Whether a left end differs by more than the length from each of those from one place to another.
+fn are_apart(left: u64, length: u64, lefts: &[u64], from: usize, to: usize) -> bool
+    requires { to ≤ count_of lefts.now }
+    ensures { IsTrue result ↔ AreApart left length lefts.now from to }
+{
+    for i in from..to {
+        if are_near(left, lefts[i], length) {
+            return false;
+        }
+    }
+    true
+}
+
+// Whether two left ends differ by at most the length.
+fn are_near(a: u64, b: u64, length: u64) -> bool
+    ensures { IsTrue result ↔ DifferByAtMost length a b }
+{
+    if a < b {
+        b - a <= length
+    } else {
+        a - b <= length
+    }
+}
