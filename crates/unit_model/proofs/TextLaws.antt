@@ -1,15 +1,17 @@
 -- What is read is the text of a unit model, and the text of a unit model is read.
-use Rattle.std.proofs.Common.{◌≡◌, ◌∙◌, ◌+◌, ◌-◌, ◌<◌, ◌≤◌, ◌^◌, ℕ, zero, suc, List, [], ◌∷◌, ◌++◌, length, false, Option, Some, None, refl, sym, ap, subst, inl, inr, arith, codes, cond, eqb, eq-eqb}
+use Rattle.std.proofs.Common.{◌≡◌, ◌∙◌, ◌+◌, ◌*◌, ◌-◌, ◌<◌, ◌≤◌, ◌^◌, ℕ, zero, suc, List, [], ◌∷◌, ◌++◌, length, false, Option, Some, None, refl, sym, ap, subst, inl, inr, arith, codes, cond, eqb, eq-eqb}
 use Rattle.std.specs.Prelude.{option_and_then, IfSome, IfNone, ◌≢◌}
 use Rattle.std.specs.Fmt.{decimal}
 use Rattle.std.specs.List.{AllByRecursion}
 use Rattle.std.proofs.lemmas.Bool.{eqb-true, ne_eqb}
-use Rattle.std.proofs.lemmas.List.{append_assoc, append-nil}
+use Rattle.std.proofs.lemmas.List.{append_assoc, append-nil, length-append}
 use Rattle.std.proofs.lemmas.Option.{none-some, same_Some, some_pair_parts, option_and_then_some}
+use Rattle.std.proofs.lemmas.Fmt.{length-decimal-le}
 use Rattle.plain_text.proofs.NumberLaws.{chosen}
 use Rattle.row_model.specs.declared.TheConstants.{MAX_COLUMNS}
 use Rattle.unit_model.specs.Text.{UnitValue, max_end, IsEnd, IsUnit, left_line, left_lines, unit_head, unit_text}
 use Rattle.unit_model.specs.Reading.{left_at, lefts_at, head_at, unit_of, with_first}
+use Rattle.unit_model.specs.Laws.{OneUnitLaw, TextLengthLaw}
 use Rattle.unit_model.proofs.Chains.{after_number, after_word, at_number, at_word}
 
 small : MAX_COLUMNS < 2 ^ 64
@@ -197,6 +199,49 @@ parsed_found bytes (Some t) e = (unit_takes bytes t (sym e)).1
 pub parsed_none : (bytes : List ℕ) (o : Option UnitValue) → o ≡ unit_of bytes → IfNone o ((t : UnitValue) → IsUnit t → bytes ≢ unit_text t)
 parsed_none bytes None e = λ t h f. none-some t (e ∙ ap unit_of f ∙ unit_again t h)
 parsed_none bytes (Some t) e = tt
+
+-- no two unit models have one text
+pub one_unit : OneUnitLaw
+one_unit t u h k e = same_Some t u (sym (unit_again t h) ∙ ap unit_of e ∙ unit_again u k)
+
+-- how long a text is
+line_long : (i left : ℕ) → i ≤ MAX_COLUMNS → IsEnd left → length (left_line i left) ≤ 31
+line_long i left l k =
+    omega (
+      arith,
+      length-decimal-le 4 i (omega arith) (omega arith) (omega arith),
+      length-decimal-le 20 left (omega arith) (omega arith) (omega arith),
+      length-append (decimal i) (32 ∷ (decimal left ++ 10 ∷ [])),
+      length-append (decimal left) (10 ∷ []),
+    )
+
+lines_long : (i : ℕ) (lefts : List ℕ) → i + length lefts ≤ suc MAX_COLUMNS → AllByRecursion IsEnd lefts → length (left_lines i lefts) ≤ 31 * length lefts
+lines_long i [] l h = omega arith
+lines_long i (left ∷ lefts) l h =
+    omega (arith, line_long i left (omega arith) h.0, lines_long (i + 1) lefts (omega arith) h.1, length-append (left_line i left) (left_lines (i + 1) lefts))
+
+head_long : (vertices size : ℕ) → vertices ≤ MAX_COLUMNS → IsEnd size → length (unit_head vertices size) ≤ 52
+head_long vertices size l k =
+    omega (
+      arith,
+      length-decimal-le 4 vertices (omega arith) (omega arith) (omega arith),
+      length-decimal-le 20 size (omega arith) (omega arith) (omega arith),
+      length-append (decimal vertices) (codes "\nlength " ++ (decimal size ++ 10 ∷ [])),
+      length-append (decimal size) (10 ∷ []),
+    )
+
+pub text_long : TextLengthLaw
+unfolding unit_text
+text_long t h =
+    omega (
+      arith,
+      head_long t.vertices t.size h.vertices.1 h.size,
+      lines_long 1 t.lefts (omega (arith, h.count, h.vertices.1)) h.each,
+      h.count,
+      h.vertices.1,
+      length-append (unit_head t.vertices t.size) (left_lines 1 t.lefts ++ codes "end\n"),
+      length-append (left_lines 1 t.lefts) (codes "end\n"),
+    )
 
 -- a loop that reads left ends: those before the ones that are read, if they are
 abbrev pub before_lefts : List ℕ → Option (List ℕ × List ℕ) → Option (List ℕ × List ℕ)

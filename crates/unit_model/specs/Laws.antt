@@ -1,8 +1,9 @@
--- What unit models say of the umbrella orders (Roberts, 1969).
-use Rattle.std.specs.Prelude.{ℕ, List}
+-- What unit models say of the umbrella orders (Roberts, 1969), and what is said of their texts.
+use Rattle.std.specs.Prelude.{◌≡◌, ◌≤◌, ℕ, List, length}
 use Rattle.graph_read.specs.Graphs.{GraphValue, IsGraph}
 use Rattle.proper_interval.specs.Umbrellas.{IsUmbrellaOrder}
 use Rattle.unit_model.specs.Models.{IsUnitModel}
+use Rattle.unit_model.specs.Text.{UnitValue, IsUnit, unit_text}
 
 -- a graph that has a unit model has an umbrella order
 abbrev pub UnitLaw : Type 0
@@ -11,3 +12,11 @@ UnitLaw =
     IsGraph g →
     IsUnitModel g m lefts →
     (o : List ℕ) × IsUmbrellaOrder g o
+
+-- no two unit models have one text
+abbrev pub OneUnitLaw : Type 0
+OneUnitLaw = (t u : UnitValue) → IsUnit t → IsUnit u → unit_text t ≡ unit_text u → t ≡ u
+
+-- a text has at most 56 bytes, and 31 for each vertex
+abbrev pub TextLengthLaw : Type 0
+TextLengthLaw = (t : UnitValue) → IsUnit t → length (unit_text t) ≤ 63544

@@ -1,5 +1,5 @@
 // Unit models and umbrella orders. A call stands for the clauses alone.
-ghost use Rattle.unit_model.specs.Laws.{UnitLaw};
+ghost use Rattle.unit_model.specs.Laws.{UnitLaw, OneUnitLaw, TextLengthLaw};
 
 use proper_interval::model_law;
 
@@ -9,3 +9,9 @@ pub fn unit_law()
 {
     model_law();
 }
+
+/// No two unit models have one text, and a text has at most 63,544 bytes.
+pub fn unit_text_laws()
+    ensures one { OneUnitLaw }
+    ensures length { TextLengthLaw }
+{}

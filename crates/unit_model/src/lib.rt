@@ -7,7 +7,8 @@
 //! It is proved that
 //! - [`model`] gives the left ends of its rule, and they are a unit model whose length is the number of vertices;
 //! - [`unit_fits`] is true exactly of a unit model;
-//! - a graph that has a unit model has an umbrella order ([`unit_law`]).
+//! - a graph that has a unit model has an umbrella order ([`unit_law`]);
+//! - [`print_unit`] and [`parse_unit`] are the text of a unit model both ways.
 #![tactic(auto)]
 
 mod drawing;
@@ -19,7 +20,7 @@ mod text;
 mod write;
 
 pub use fits::unit_fits;
-pub use laws::unit_law;
+pub use laws::{unit_law, unit_text_laws};
 pub use read::parse_unit;
 pub use row_model::NoMemory;
 pub use rule::model;

@@ -27,6 +27,8 @@
 //! begins with column 1. A tree is tested by the derived rows too, which for `circular` is stricter than to ask that each frontier
 //! be a circular order.
 //!
+//! A unit model of a graph, which is no verdict, has a judge of its own, [`check_unit`].
+//!
 //! A verdict that passes each test is true: a yes because its orders are textbook orders, in version 2 all of them, a no because a closed walk of
 //! odd length in the incompatibility graph leaves no valid order (McConnell, 2004).
 #![tactic(auto)]
@@ -52,6 +54,7 @@ mod outcome;
 mod side;
 #[cfg(test)]
 mod tests;
+mod unit;
 
 pub use every_order::complete;
 pub use holds::{holds_law, tree_holds};
@@ -62,6 +65,7 @@ pub use outcome::{Checked, Reason};
 pub use row_model::NoMemory;
 use std::alloc::Global;
 use tied_law::tied_law;
+pub use unit::{UnitChecked, check_unit};
 use verdict_text::Verdict;
 
 /// Judges a verdict: valid exactly where it passes each test, else invalid with the first that fails.

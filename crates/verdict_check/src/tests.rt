@@ -10,6 +10,7 @@ use std::alloc::Global;
 use std::test::Fail;
 use verdict_text::parse;
 
+mod unit_models;
 mod version_2;
 
 const PATH: &[u8] =
