@@ -1,0 +1,11 @@
+pub mod Groups
+pub mod Line
+pub mod Closed
+pub mod Tied
+pub mod Few
+pub mod Parts
+pub mod Marked
+pub mod Walked
+pub mod Fronts
+pub mod Steps
+pub mod Joint

@@ -1,0 +1,4 @@
+pub mod TreeRows
+pub mod Marks
+pub mod Meets
+pub mod Laws

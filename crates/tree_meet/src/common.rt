@@ -1,0 +1,47 @@
+//! What two trees share.
+
+ghost use Rattle.std.specs.Prelude.{◌≡◌, ◌≤◌, IfOk};
+ghost use Rattle.pq_tree.specs.PqTree.{column_count, outline};
+ghost use Rattle.tree_meet.specs.Meets.{IsMet};
+
+use crate::rows::{push_rows, tree_rows};
+use incompat_graph::Cycle;
+use pq_tree::PqTree;
+use row_core::{Judge, Judged};
+use row_model::{MAX_COLUMNS, NoMemory};
+use std::alloc::Global;
+use step_count::{Ledger, Steps};
+
+/// What two trees share.
+#[derive(Drop)]
+pub enum Met {
+    /// The canonical tree whose frontiers are exactly the common frontiers, of which there is one.
+    Tree(PqTree),
+    /// No frontier is common, as an odd cycle shows in the incompatibility graph (McConnell, 2004) of the rows of the first
+    /// tree followed by those of the second.
+    Apart(Cycle),
+}
+
+/// All orders that both trees stand for: a tree of them, or why there is none.
+///
+/// # Errors
+///
+/// `NoMemory` where there is no memory for the rows of the trees or for the judge.
+pub fn meet<J: Judge, L: Ledger>(
+    alloc: Global,
+    judge: &mut J,
+    first: &PqTree,
+    second: &PqTree,
+    steps: &mut Steps<L>,
+) -> Result<Met, NoMemory>
+    requires same { column_count second.now ≡ column_count first.now }
+    requires few { column_count first.now ≤ MAX_COLUMNS }
+    ensures { IfOk result (IsMet (column_count first.now) (outline first.now) (outline second.now)) }
+{
+    let mut m = tree_rows(alloc, first)?;
+    push_rows(alloc, second, &mut m)?;
+    match judge.judge(alloc, &m, steps)? {
+        Judged::Yes(tree) => Ok(Met::Tree(tree)),
+        Judged::No(cycle) => Ok(Met::Apart(cycle)),
+    }
+}
