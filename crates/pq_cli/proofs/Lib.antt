@@ -5,4 +5,5 @@ pub mod Solving
 pub mod Checking
 pub mod Extending
 pub mod Generating
+pub mod Meeting
 pub mod Promises

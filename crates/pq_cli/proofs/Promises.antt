@@ -8,12 +8,13 @@ use Rattle.row_model.specs.declared.refusal.Read.{Read}
 use Rattle.row_model.specs.declared.refusal.Read.TheVariants as read
 use Rattle.verdict_text.specs.Verdict.{Claim, yes_claim, no_claim}
 use Rattle.instance_model.specs.Instance.{InstanceValue, HasTextbookOrder}
-use Rattle.pq_cli.specs.Words.{Command, Solve, Check, Extend, Gen, files_of}
-use Rattle.pq_cli.specs.Replies.{refusable, refused_at, refused_behind, refusal_of, Replies}
+use Rattle.pq_cli.specs.Words.{Command, Solve, Check, Extend, Gen, Meet, files_of}
+use Rattle.pq_cli.specs.Replies.{refusable, refused_at, refused_behind, refused_of_two, refusal_of, Replies}
 use Rattle.pq_cli.specs.Runs.{AllTold, WhereFirstTold, ForCommand, TakesFiles, WritesOut, CountsWrites}
 use Rattle.pq_cli.specs.Solve.Verdicts.{IsClaimOf, status_of}
 use Rattle.pq_cli.specs.Solve.Laws.{NoStatusLaw, YesStatusLaw, OrdersLaw}
 use Rattle.pq_cli.specs.Check.Laws.{CheckLaw, AgreedLaw}
+use Rattle.pq_cli.specs.Meet.TreeFiles.{tree_file}
 use Rattle.pq_cli.specs.Stops.{stop_status, failure_status}
 use Rattle.pq_cli.specs.Promise.{NothingFails, WhereWellFormed, Completes, IsNoAnd, TellsNo, IsCycleOf, SaysYes, IsSolved, IsPromised, PromiseLaw, KeepsPromise}
 use Rattle.pq_cli.specs.declared.stop.Stop.{Stop}
@@ -25,6 +26,10 @@ use Rattle.pq_cli.specs.declared.stop.Failure.TheVariants as failure
 first_fine : (first : Read InstanceValue) (given : List ℕ) → refused_behind first given ≡ None → refused_at 1 first ≡ None
 first_fine (read.Ok i) given none = refl
 first_fine (read.Refused refusal) given none = absurd (cc)
+
+one_fine : {T : Type 0} (first second : Read T) → refused_of_two first second ≡ None → refused_at 1 first ≡ None
+one_fine (read.Ok i) second none = refl
+one_fine (read.Refused refusal) second none = absurd (cc)
 
 -- where no file of a command is refused, its reading ends at no refusal
 unrefused : (told : List ℕ → Option (List ℕ)) (c : Command) (files : List (List ℕ)) (which : ℕ) (refusal : Refusal) → AllTold told (files_of c) files → refusal_of c files ≡ None → 1 ≤ which → which ≤ refusable c
@@ -60,6 +65,22 @@ unrefused told (Extend kind name other) (bytes ∷ given ∷ []) which refusal t
     ]
 unrefused told (Extend kind name other) (bytes ∷ given ∷ more ∷ files) which refusal t none from to first = absurd t.1.1
 unrefused told (Gen seed columns rows) files which refusal t none from to first = absurd (omega (arith, from, to))
+unrefused told (Meet c name other) [] which refusal t none from to first = absurd t
+unrefused told (Meet c name other) (bytes ∷ []) which refusal t none from to first = absurd t.1
+unrefused told (Meet c name other) (bytes ∷ given ∷ []) which refusal t none from to first =
+    elim (cases_eq which 1) [
+      | inl one ↦
+          let fine : refusal_of (Meet c name other) (bytes ∷ []) ≡ None = one_fine _ _ none in
+          let found : refusal_of (Meet c name other) (bytes ∷ []) ≡ Some (1, refusal) =
+          subst (λ n. WhereFirstTold told (Meet c name other) n (λ fs. refusal_of (Meet c name other) fs ≡ Some (n, refusal))) one first (bytes ∷ []) (t.0, tt) in
+          absurd (cc)
+      | inr more ↦
+          let two : which ≡ 2 = omega (arith, from, to, more) in
+          let found : refusal_of (Meet c name other) (bytes ∷ given ∷ []) ≡ Some (2, refusal) =
+          subst (λ n. WhereFirstTold told (Meet c name other) n (λ fs. refusal_of (Meet c name other) fs ≡ Some (n, refusal))) two first (bytes ∷ given ∷ []) t in
+          absurd (cc)
+    ]
+unrefused told (Meet c name other) (bytes ∷ given ∷ more ∷ files) which refusal t none from to first = absurd t.1.1
 
 -- where there is a reply, no file is refused
 replied_unrefused : (c : Command) (files : List (List ℕ)) (status : ℕ) (text : List ℕ) → Replies c files status text → refusal_of c files ≡ None
@@ -77,6 +98,11 @@ replied_unrefused (Extend kind name other) (bytes ∷ given ∷ []) status text 
 replied_unrefused (Extend kind name other) (bytes ∷ given ∷ more ∷ files) status text reply = absurd reply
 replied_unrefused (Gen seed columns rows) [] status text reply = refl
 replied_unrefused (Gen seed columns rows) (bytes ∷ files) status text reply = absurd reply
+replied_unrefused (Meet c name other) [] status text reply = absurd reply
+replied_unrefused (Meet c name other) (bytes ∷ []) status text reply = absurd reply
+replied_unrefused (Meet c name other) (bytes ∷ given ∷ []) status text reply =
+    ap (λ first. refused_of_two first (tree_file c given)) reply.2 ∙ ap (refused_at 2) reply.3
+replied_unrefused (Meet c name other) (bytes ∷ given ∷ more ∷ files) status text reply = absurd reply
 
 -- the statuses that are left
 left_statuses : (status : ℕ) → status ≤ 6 → status ≢ 2 → status ≢ 4 → status ≢ 5 → status ≢ 6 → (status ≡ 0) ⊎ (status ≡ 1) ⊎ (status ≡ 3)
@@ -188,3 +214,4 @@ module _ (no_law : NoStatusLaw) (yes_law : YesStatusLaw) (orders_law : OrdersLaw
   promise_law (Check kind file verdict) (bytes ∷ given ∷ more ∷ files) status text reply = tt
   promise_law (Extend kind file rows) files status text reply = tt
   promise_law (Gen seed columns rows) files status text reply = tt
+  promise_law (Meet c first second) files status text reply = tt

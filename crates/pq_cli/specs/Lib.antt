@@ -5,6 +5,7 @@ pub mod Solve
 pub mod Check
 pub mod Extend
 pub mod Gen
+pub mod Meet
 pub mod Replies
 pub mod Stops
 pub mod Reading

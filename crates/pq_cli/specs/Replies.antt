@@ -6,12 +6,15 @@ use Rattle.row_model.specs.declared.refusal.Read.{Read}
 use Rattle.row_model.specs.declared.refusal.Read.TheVariants as read
 use Rattle.matrix_read.specs.Sparse.{further}
 use Rattle.instance_model.specs.Instance.{InstanceValue, plain, derived_matrix}
-use Rattle.pq_cli.specs.Words.{Command, Solve, Check, Extend, Gen}
+use Rattle.pq_cli.specs.Words.{Command, Solve, Check, Extend, Gen, Meet}
 use Rattle.pq_cli.specs.Instances.{instance_of}
 use Rattle.pq_cli.specs.Solve.Verdicts.{IsVerdictReply}
 use Rattle.pq_cli.specs.Check.Judgements.{IsJudgementReply}
 use Rattle.pq_cli.specs.Extend.Sessions.{IsExtensionReply}
 use Rattle.pq_cli.specs.Gen.Summaries.{IsSummary}
+use Rattle.pq_tree.specs.Outline.{Outline}
+use Rattle.pq_cli.specs.Meet.TreeFiles.{tree_file}
+use Rattle.pq_cli.specs.Meet.Meetings.{IsMeetingReply}
 
 -- how many of a command's files, the first ones, may be refused: the file of a verdict is judged, and never refused
 abbrev pub refusable : Command → ℕ
@@ -19,6 +22,7 @@ refusable (Solve _ _) = 1
 refusable (Check _ _ _) = 1
 refusable (Extend _ _ _) = 2
 refusable (Gen _ _ _) = 0
+refusable (Meet _ _ _) = 2
 
 -- the refusal of the file of this number, if it is refused
 abbrev pub refused_at : {T : Type 0} → ℕ → Read T → Option (ℕ × Refusal)
@@ -30,6 +34,11 @@ abbrev pub refused_behind : Read InstanceValue → List ℕ → Option (ℕ × R
 refused_behind (read.Refused refusal) given = Some (1, refusal)
 refused_behind (read.Ok i) given = refused_at 2 (further (derived_matrix i 1).columns given)
 
+-- the refusal of the first of two files, or, where that is not refused, of the second
+abbrev pub refused_of_two : {T : Type 0} → Read T → Read T → Option (ℕ × Refusal)
+refused_of_two (read.Refused refusal) second = Some (1, refusal)
+refused_of_two (read.Ok _) second = refused_at 2 second
+
 -- which of a command's files is refused, counted from 1, and its first refusal, given the bytes of the first files
 abbrev pub refusal_of : Command → List (List ℕ) → Option (ℕ × Refusal)
 refusal_of command [] = None
@@ -38,6 +47,8 @@ refusal_of (Check kind _ _) (bytes ∷ _) = refused_at 1 (instance_of kind bytes
 refusal_of (Extend kind _ _) (bytes ∷ []) = refused_at 1 (instance_of kind bytes)
 refusal_of (Extend kind _ _) (bytes ∷ given ∷ _) = refused_behind (instance_of kind bytes) given
 refusal_of (Gen _ _ _) (_ ∷ _) = None
+refusal_of (Meet c _ _) (first ∷ []) = refused_at 1 (tree_file c first)
+refusal_of (Meet c _ _) (first ∷ second ∷ _) = refused_of_two (tree_file c first) (tree_file c second)
 
 -- A status and a text are a reply to a command over files of these bytes: no file is refused, and what the text says is
 -- true.
@@ -47,4 +58,6 @@ Replies (Check kind _ _) (bytes ∷ verdict ∷ []) status text = (i : InstanceV
 Replies (Extend kind _ _) (bytes ∷ given ∷ []) status text =
     (m : RowList) × (n : RowList) × (instance_of kind bytes ≡ read.Ok (plain kind m)) × (further m.columns given ≡ read.Ok n) × IsExtensionReply kind m n.rows status text
 Replies (Gen seed columns rows) [] status text = (status ≡ 0) × IsSummary seed columns rows text
+Replies (Meet c _ _) (first ∷ second ∷ []) status text =
+    (t : Outline) × (u : Outline) × (tree_file c first ≡ read.Ok t) × (tree_file c second ≡ read.Ok u) × IsMeetingReply c t u status text
 Replies command files status text = ⊥

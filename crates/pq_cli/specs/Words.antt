@@ -21,6 +21,8 @@ pub data Command : Type 0 where
   Extend : (kind : Kind) (file rows : List ℕ) → Command
   -- `gen SEED COLUMNS ROWS`
   Gen : (seed columns rows : ℕ) → Command
+  -- `meet COLUMNS TREE1 TREE2`
+  Meet : (columns : ℕ) (first second : List ℕ) → Command
 
 -- the words as bytes
 abbrev pub texts : {A : Type 0} → List (String A) → List (List ℕ)
@@ -76,6 +78,10 @@ gen_of seed columns rows = do
   r ← number_in 0 MAX_ROWS rows
   Some (Gen s c r)
 
+-- `meet` with these words: a number of columns within the limit
+abbrev pub meet_of : List ℕ → List ℕ → List ℕ → Option Command
+meet_of columns first second = if are_both_input first second then None else option_map (λ c. Meet c first second) (number_in 1 MAX_COLUMNS columns)
+
 -- the command of these words, or none where they are outside the grammar
 abbrev pub command_of : List (List ℕ) → Option Command
 command_of (verb ∷ kind ∷ file ∷ []) = if bytes_eq verb (codes "solve") then option_map (λ k. Solve k file) (kind_of kind) else None
@@ -83,13 +89,15 @@ command_of (verb ∷ first ∷ second ∷ third ∷ []) =
     if bytes_eq verb (codes "check") then check_of first second third
     else if bytes_eq verb (codes "extend") then extend_of first second third
     else if bytes_eq verb (codes "gen") then gen_of first second third
+    else if bytes_eq verb (codes "meet") then meet_of first second third
     else None
 command_of words = None
 
--- `extend` takes its kind, and the numbers of `gen` are within the limits
+-- `extend` takes its kind, and the numbers of `gen` and of `meet` are within the limits
 abbrev pub IsInGrammar : Command → Type 0
 IsInGrammar (Extend kind file rows) = IsExtended kind
 IsInGrammar (Gen seed columns rows) = (1 ≤ columns) × (columns ≤ MAX_COLUMNS) × (rows ≤ MAX_ROWS)
+IsInGrammar (Meet columns first second) = (1 ≤ columns) × (columns ≤ MAX_COLUMNS)
 IsInGrammar command = ⊤
 
 -- the names of a command's files, in the order in which they are read
@@ -98,3 +106,4 @@ files_of (Solve kind file) = file ∷ []
 files_of (Check kind file verdict) = file ∷ verdict ∷ []
 files_of (Extend kind file rows) = file ∷ rows ∷ []
 files_of (Gen seed columns rows) = []
+files_of (Meet columns first second) = first ∷ second ∷ []

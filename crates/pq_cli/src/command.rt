@@ -6,6 +6,7 @@ ghost use Rattle.pq_cli.specs.Runs.{RunsCommand};
 use crate::check::check_file;
 use crate::extend::extend_file;
 use crate::generator::summary_reply;
+use crate::meet::meet_files;
 use crate::solve::solve_file;
 use crate::stop::Stop;
 use crate::words::Task;
@@ -44,5 +45,10 @@ pub fn perform<F: Shelf>(alloc: Global, task: &Task<'_>, files: &mut F) -> Resul
             columns,
             rows,
         } => Ok(summary_reply(alloc, *seed, *columns, *rows)?),
+        Task::Meet {
+            columns,
+            first,
+            second,
+        } => meet_files(alloc, *columns, first, second, files),
     }
 }

@@ -5,7 +5,7 @@
 //! written is a reply to their bytes.
 //!
 //! Each command has a room of its own for its code, and others of its name for its definitions and its lemmas: `solve`,
-//! `check`, `extend`, and `generator` for `gen`. What they share is how words are read (`words`), how a file is read by
+//! `check`, `extend`, `meet`, and `generator` for `gen`. What they share is how words are read (`words`), how a file is read by
 //! the form that it should have (`input`), what may stand in the way (`stop`), and the frame of a command that ran,
 //! which is one record. A new command is a case of the words, a room, and its laws.
 #![tactic(auto)]
@@ -17,6 +17,8 @@ mod command;
 mod extend;
 mod generator;
 mod input;
+mod judge;
+mod meet;
 mod promise;
 mod report;
 mod solve;
@@ -27,6 +29,7 @@ mod words;
 pub use check::laws::{check_law, solved_law};
 pub use extend::laws::extend_law;
 pub use generator::draws::{generate, generated_law};
+pub use meet::laws::{meet_law, tree_file_law};
 pub use promise::promise_law;
 pub use row_model::NoMemory;
 pub use solve::laws::{model_law, reply_law};
@@ -38,8 +41,12 @@ pub const MAX_VERDICT_BYTES: u64 = 134_217_728;
 /// The number of refused rows, the first ones, of which `extend` writes an odd cycle.
 pub const MAX_EXPLAINED: u32 = 16;
 
+/// The code of the refusal of a file that writes no tree.
+pub const TREE_CODE: u8 = 12;
+
 /// The values of the constants.
 pub fn values_law()
     ensures verdict_bytes { MAX_VERDICT_BYTES ≡ 134217728 }
     ensures explained { MAX_EXPLAINED ≡ 16 }
+    ensures tree_code { TREE_CODE ≡ 12 }
 {}

@@ -23,7 +23,8 @@ use std::alloc::Global;
 /// - `extend KIND FILE ROWS`, with KIND `matrix`, `rows` or `table`: further rows, taken in turn after those of a
 ///   matrix as long as a valid order is left;
 /// - `gen SEED COLUMNS ROWS`: a matrix that a number draws, summed up. The words are decimal digits, leading zeros
-///   allowed: SEED of at most 64 bits, COLUMNS from 1 to 2,048, ROWS at most 131,072.
+///   allowed: SEED of at most 64 bits, COLUMNS from 1 to 2,048, ROWS at most 131,072;
+/// - `meet COLUMNS TREE1 TREE2`, with COLUMNS as in `gen`: the orders that two trees over these columns share.
 ///
 /// Of two names of files not both are `-`. The files are read from `files` in turn, the reply is written to `out`, and
 /// on the statuses 2 to 6 one line is offered to `err`, whose faults change nothing.

@@ -1,6 +1,6 @@
 // The words of the command line.
 ghost use Rattle.std.specs.Prelude.{◌≡◌, ◌≤◌, [], ◌∷◌, option_map, IfSome};
-ghost use Rattle.pq_cli.specs.Words.{texts, command_of, check_of, extend_of, gen_of, kind_of, extended_kind_of, number_in, are_both_input, IsExtended, IsInGrammar};
+ghost use Rattle.pq_cli.specs.Words.{texts, command_of, check_of, extend_of, gen_of, meet_of, kind_of, extended_kind_of, number_in, are_both_input, IsExtended, IsInGrammar};
 ghost use Rattle.pq_cli.specs.Task.{command_seen};
 
 use matrix_read::{Numeral, number};
@@ -42,6 +42,15 @@ pub enum Task<'a> {
         columns: u32,
         /// The number of rows, at most [`MAX_ROWS`].
         rows: u32,
+    },
+    /// `meet COLUMNS TREE1 TREE2`: find the orders that two trees share.
+    Meet {
+        /// The number of columns, from 1 to [`MAX_COLUMNS`].
+        columns: u32,
+        /// The name of the file of the first tree.
+        first: &'a str,
+        /// The name of the file of the second tree.
+        second: &'a str,
     },
 }
 
@@ -85,6 +94,7 @@ fn four_words<'a>(verb: &str, first: &'a str, second: &'a str, third: &'a str) -
         "check" => check_of(first, second, third),
         "extend" => extend_of(first, second, third),
         "gen" => gen_of(first, second, third),
+        "meet" => meet_of(first, second, third),
         _ => None,
     }
 }
@@ -129,6 +139,22 @@ fn gen_of(seed: &str, columns: &str, rows: &str) -> Option<Task<'static>>
         seed,
         columns,
         rows,
+    })
+}
+
+// `meet` with these words.
+fn meet_of<'a>(columns: &str, first: &'a str, second: &'a str) -> Option<Task<'a>>
+    ensures task { option_map command_seen result ≡ meet_of columns.now first.now second.now }
+    ensures taken { IfSome result (λ task. IsInGrammar (command_seen task)) }
+{
+    if are_both_input(first, second) {
+        return None;
+    }
+    let columns = number_in(1, u64::from(MAX_COLUMNS), columns)? as u32;
+    Some(Task::Meet {
+        columns,
+        first,
+        second,
     })
 }
 

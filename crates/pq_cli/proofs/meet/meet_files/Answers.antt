@@ -1,0 +1,47 @@
+use Rattle.std.proofs.Common.{◌≡◌, ℕ, [], ◌∷◌, ◌∙◌, refl, sym, ap, subst, arith}
+use Rattle.pq_tree.specs.PqTree.{column_count, outline}
+use Rattle.pq_cli.specs.Words.{Meet}
+use Rattle.pq_cli.specs.Meet.TreeFiles.{tree_file, ReadsTree, HoldsTree}
+use Rattle.pq_cli.specs.Meet.Meetings.{IsMeetingReply}
+use Rattle.pq_cli.specs.Replies.{refused_at, refused_of_two, Replies}
+use Rattle.pq_cli.proofs.Frame.{first_stops, second_stops, memory_after_two, reply_after_two}
+use Rattle.pq_cli.proofs.meet.meet_files.Goals as goal
+
+pub returns-in_err-one : goal.returns-in_err-one
+returns-in_err-one g c =
+    let n : ℕ = c.args.columns in
+    first_stops g.F.Shelf.content g.F.Shelf.asked g.F.Shelf.faults c.args.files.now c.read_file.new.files (Meet n c.args.first.now c.args.second.now) c.args.first.now
+    (c.args.second.now ∷ []) (ReadsTree n) (HoldsTree n) refl c.in_err-one.field-0.0 c.in_err-one.ensures
+    (λ refusal held. (omega arith, λ bytes made. ap (refused_at 1) (sym made))) c.from_residual.result c.from_residual.ensures.1
+
+pub returns-in_err-other : goal.returns-in_err-other
+returns-in_err-other g c =
+    let n : ℕ = c.args.columns in
+    second_stops g.F.Shelf.content g.F.Shelf.asked g.F.Shelf.faults c.args.files.now c.read_file.new.files c.read_file-2.new.files (Meet n c.args.first.now c.args.second.now)
+    c.args.first.now c.args.second.now (ReadsTree n) (HoldsTree n) c.in_ok-one.one (ReadsTree n) (HoldsTree n) refl c.in_ok-one.ensures
+    (λ bytes made. ap (refused_at 1) (sym made)) c.in_err-other.field-0.0 c.in_err-other.ensures
+    (λ refusal held. (omega arith, λ bytes given made over. ap (λ x. refused_of_two x (tree_file n given)) (sym made) ∙ ap (refused_at 2) (sym over)))
+    c.from_residual-in_err-other.result c.from_residual-in_err-other.ensures.1
+
+pub returns-in_err-meeting_reply : goal.returns-in_err-meeting_reply
+returns-in_err-meeting_reply g c =
+    let n : ℕ = c.args.columns in
+    memory_after_two g.F.Shelf.content g.F.Shelf.asked g.F.Shelf.faults c.args.files.now c.read_file.new.files c.read_file-2.new.files (Meet n c.args.first.now c.args.second.now)
+    c.args.first.now c.args.second.now (ReadsTree n) (HoldsTree n) c.in_ok-one.one (ReadsTree n) (HoldsTree n) refl c.in_ok-one.ensures
+    (λ bytes made. ap (refused_at 1) (sym made)) c.in_ok-other.other c.in_ok-other.ensures c.from_residual-in_err-meeting_reply.result c.from_residual-in_err-meeting_reply.ensures.1
+
+pub returns : goal.returns
+unfolding Replies
+returns g c =
+    let n : ℕ = c.args.columns in
+    let columns : column_count c.in_ok-one.one ≡ n = c.in_ok-one.ensures.holds_of_value in
+    reply_after_two g.F.Shelf.content g.F.Shelf.asked g.F.Shelf.faults c.args.files.now c.read_file.new.files c.read_file-2.new.files (Meet n c.args.first.now c.args.second.now)
+    c.args.first.now c.args.second.now (ReadsTree n) (HoldsTree n) c.in_ok-one.one (ReadsTree n) (HoldsTree n) refl c.in_ok-one.ensures
+    (λ bytes made. ap (refused_at 1) (sym made)) c.in_ok-other.other c.in_ok-other.ensures c.in_ok-meeting_reply.field-0 c.in_ok-meeting_reply.ensures.status
+    (λ bytes given made over. (
+      outline c.in_ok-one.one,
+      outline c.in_ok-other.other,
+      sym made,
+      sym over,
+      subst (λ k. IsMeetingReply k (outline c.in_ok-one.one) (outline c.in_ok-other.other) c.in_ok-meeting_reply.field-0.status c.in_ok-meeting_reply.field-0.text.items) columns c.in_ok-meeting_reply.ensures.reply,
+    ))

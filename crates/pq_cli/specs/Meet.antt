@@ -1,0 +1,3 @@
+pub mod TreeFiles
+pub mod Meetings
+pub mod Laws

@@ -1,0 +1,25 @@
+// The solver of the program, as the crates that ask for one see it.
+use c1p_solve::{Answered, Solved, answer};
+use row_core::{Judge, Judged, NoMemory};
+use row_model::Matrix;
+use std::alloc::Global;
+use step_count::{Ledger, Steps};
+
+/// The solver that the commands use.
+#[derive(Clone, Copy)]
+pub struct Solver;
+
+impl Judge for Solver {
+    fn judge<L: Ledger>(
+        &mut self,
+        alloc: Global,
+        m: &Matrix,
+        steps: &mut Steps<L>,
+    ) -> Result<Judged, NoMemory> {
+        let Answered { solved, .. } = answer(alloc, m, steps)?;
+        match solved {
+            Solved::Yes(tree) => Ok(Judged::Yes(tree)),
+            Solved::No(cycle) => Ok(Judged::No(cycle)),
+        }
+    }
+}

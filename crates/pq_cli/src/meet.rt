@@ -1,0 +1,39 @@
+// `meet`: the orders that two trees share.
+ghost use Rattle.std.specs.Prelude.{◌≡◌, ◌≤◌};
+ghost use Rattle.row_model.specs.declared.TheConstants.{MAX_COLUMNS};
+ghost use Rattle.pq_cli.specs.Words.{Meet};
+ghost use Rattle.pq_cli.specs.Runs.{RunsCommand};
+
+use crate::command::Reply;
+use crate::input::read_file;
+use crate::meet::meeting::meeting_reply;
+use crate::meet::tree_file::TreeFile;
+use crate::stop::Stop;
+use pq_io::Shelf;
+use std::alloc::Global;
+
+pub mod laws;
+pub mod meeting;
+pub mod tree_file;
+
+/// Tells what the trees in two files share, both over so many columns.
+///
+/// # Errors
+///
+/// What stood in the way of the reply.
+pub fn meet_files<F: Shelf>(
+    alloc: Global,
+    columns: u32,
+    first: &str,
+    second: &str,
+    files: &mut F,
+) -> Result<Reply, Stop>
+    requires { (1 ≤ columns) × (columns ≤ MAX_COLUMNS) }
+    ensures { RunsCommand F.content F.asked F.faults files.old files.new
+        (Meet columns first.now second.now) result }
+{
+    let form = TreeFile { columns };
+    let one = read_file(alloc, &form, 1, first, files)?;
+    let other = read_file(alloc, &form, 2, second, files)?;
+    Ok(meeting_reply(alloc, &one, &other)?)
+}
