@@ -292,12 +292,7 @@ fn assert_alike(rt: &impl Abort, alloc: Global, m: &Matrix) -> Result<(), NoMemo
 }
 
 // Both searches agree on every matrix of so many columns and rows.
-fn assert_all_alike(
-    rt: &impl Abort,
-    alloc: Global,
-    columns: u32,
-    rows: u32,
-) -> Result<(), NoMemory>
+fn assert_all_alike(rt: &impl Abort, alloc: Global, columns: u32, rows: u32) -> Result<(), NoMemory>
     requires columns { (1 ≤ columns) × (columns ≤ 32) }
     requires rows { rows ≤ 32 }
 {
@@ -313,7 +308,9 @@ fn assert_all_alike(
 }
 
 #[test]
-fn both_searches_agree_on_every_matrix_of_at_most_four_by_four(rt: HostRuntime) -> Result<(), Fail> {
+fn both_searches_agree_on_every_matrix_of_at_most_four_by_four(
+    rt: HostRuntime,
+) -> Result<(), Fail> {
     for columns in 1..5 {
         for rows in 0..5 {
             assert_all_alike(&rt, rt.alloc(), columns, rows)?;
