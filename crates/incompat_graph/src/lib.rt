@@ -27,6 +27,7 @@ mod ways;
 pub use classes::{Classes, even_classes};
 pub use cycle::{Cycle, simple_cycle};
 pub use laws::{cycle_length_law, odd_cycle_law};
+pub use marks::Marks;
 pub use quick::odd_cycle_along;
 pub use reason::joined;
 pub use row_model::NoMemory;

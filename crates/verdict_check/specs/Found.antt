@@ -1,7 +1,6 @@
 -- What the parts of the judge find.
-use Rattle.std.specs.Prelude.{ℕ, ◌+◌, ◌*◌, ◌<◌, ◌≤◌, ◌-◌, List, Option, Some, None}
+use Rattle.std.specs.Prelude.{ℕ, ◌<◌, ◌≤◌, List, Option, Some, None}
 use Rattle.std.specs.List.{AllByRecursion}
-use Rattle.row_model.specs.declared.graph.Pair.{Pair}
 use Rattle.verdict_check.specs.Accepted.{IsFirstFailing}
 use Rattle.verdict_check.specs.declared.outcome.Reason.{Reason}
 
@@ -14,7 +13,3 @@ IsLeastFailing P n (Some k) = (1 ≤ k) × (k ≤ n) × (P k → ⊥) × ((j : �
 abbrev pub Finds : (Reason → Type 0) → List Reason → Option Reason → Type 0
 Finds P all None = AllByRecursion P all
 Finds P all (Some r) = IsFirstFailing P all r
-
--- the place of a pair in a table of all pairs of 1 to c, row by row
-abbrev pub place_of : ℕ → Pair → ℕ
-place_of c v = (v.a - 1) * c + (v.b - 1)

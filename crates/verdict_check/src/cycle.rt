@@ -1,17 +1,17 @@
 // The tests of a no, on the lines of its cycle.
 ghost use Rattle.std.specs.Prelude.{◌↔◌, ℕ, ◌≡◌, ◌+◌, ◌<◌, ◌≤◌, length, IsTrue, IfOk};
-ghost use Rattle.row_model.specs.Graph.{IsPair};
 ghost use Rattle.row_model.specs.declared.graph.Pair.{Pair};
 ghost use Rattle.verdict_text.specs.Grammar.{Fits32};
 ghost use Rattle.verdict_check.specs.Tests.{no_tests};
 ghost use Rattle.verdict_check.specs.NoTests.{pair_after, PassesLength, PassesPair, PassesRepeat, PassesJoin, PassesNo};
-ghost use Rattle.verdict_check.specs.Found.{IsLeastFailing, Finds, place_of};
+ghost use Rattle.verdict_check.specs.Found.{IsLeastFailing, Finds};
 
 use crate::outcome::Reason;
+use incompat_graph::Marks;
 use row_model::{Line, Matrix, NoMemory, Pair, is_pair, joined_by};
 use std::alloc::Global;
 
-/// The first test that the lines fail as an odd cycle of the matrix. It takes a byte for each pair of columns.
+/// The first test that the lines fail as an odd cycle of the matrix. It takes a bit for each pair of columns.
 ///
 /// # Errors
 ///
@@ -61,23 +61,13 @@ fn first_repeat(alloc: Global, c: u32, lines: &[Line]) -> Result<Option<u32>, No
     requires pairs { (k : ℕ) → 1 ≤ k → k ≤ length lines.now → PassesPair c lines.now k }
     ensures { IfOk result (IsLeastFailing (PassesRepeat lines.now) (length lines.now)) }
 {
-    let mut seen = vec![in alloc; false; c as usize * c as usize]?;
+    let mut seen = Marks::new(alloc, c, c)?;
     for (i, line) in lines.iter().enumerate() {
-        let place = cell(c, line.pair);
-        if seen[place] {
+        if seen.mark(line.pair.a, line.pair.b) {
             return Ok(Some(i as u32 + 1));
         }
-        seen[place] = true;
     }
     Ok(None)
-}
-
-// The place of a pair in a table of all pairs of 1 to c.
-fn cell(c: u32, v: Pair) -> usize
-    requires { IsPair c v }
-    ensures { result ≡ place_of c v }
-{
-    (v.a as usize - 1) * c as usize + (v.b as usize - 1)
 }
 
 // The first line, from 1, whose reason does not join its pair to that of the next line, the last line's to that of the first.

@@ -5,4 +5,4 @@ use Rattle.verdict_check.proofs.cycle.first_repeat.Given as goal
 
 -- the pairs of the lines so far are marked, and none of them is there twice
 abbrev pub invariant-loop-i : goal.invariant-loop-i
-invariant-loop-i l = AreMarked l.c l.seen.items (take l.i l.lines) × ((k : ℕ) → 1 ≤ k → k ≤ l.i → PassesRepeat l.lines k)
+invariant-loop-i l = AreMarked l.c l.seen (take l.i l.lines) × ((k : ℕ) → 1 ≤ k → k ≤ l.i → PassesRepeat l.lines k)

@@ -1,0 +1,3 @@
+mod plain;
+mod small;
+mod trees;
