@@ -23,7 +23,7 @@ pub use kind::Kind;
 pub use laws::{values_law, walk_laws};
 pub use lists::{Interval, Intervals, Lines, ListOf, Place, Places, Span, Spans};
 pub use matrix::Matrix;
-pub use order::{is_order, positions, span_of};
+pub use order::{is_kept, is_order, positions, span_of};
 pub use refusal::{Read, Refusal};
 pub use rows::row_has;
 pub use std::alloc::AllocError as NoMemory;

@@ -13,21 +13,21 @@ use Rattle.verdict_check.specs.declared.outcome.Checked.{Checked}
 use Rattle.verdict_check.specs.declared.outcome.Checked.TheVariants.{Valid, Invalid}
 
 -- the first test fails
-pub finds_here : (P : Reason → Type 0) (r : Reason) (xs : List Reason) → (P r → ⊥) → Finds P (r ∷ xs) (Some r)
+pub finds_here : {R : Type 0} (P : R → Type 0) (r : R) (xs : List R) → (P r → ⊥) → Finds P (r ∷ xs) (Some r)
 finds_here P r xs h = record { passed = []; later = xs; order = refl; pass = tt; fails = h }
 
 -- the first test is passed
-pub finds_next : (P : Reason → Type 0) (x : Reason) (xs : List Reason) (o : Option Reason) → P x → Finds P xs o → Finds P (x ∷ xs) o
+pub finds_next : {R : Type 0} (P : R → Type 0) (x : R) (xs : List R) (o : Option R) → P x → Finds P xs o → Finds P (x ∷ xs) o
 finds_next P x xs None p f = (p, f)
 finds_next P x xs (Some r) p f = record { passed = x ∷ f.passed; later = f.later; order = ap (λ ys. x ∷ ys) f.order; pass = (p, f.pass); fails = f.fails }
 
 -- the first tests are passed
-pub finds_after : (P : Reason → Type 0) (xs ys : List Reason) (o : Option Reason) → AllByRecursion P xs → Finds P ys o → Finds P (xs ++ ys) o
+pub finds_after : {R : Type 0} (P : R → Type 0) (xs ys : List R) (o : Option R) → AllByRecursion P xs → Finds P ys o → Finds P (xs ++ ys) o
 finds_after P [] ys o h f = f
 finds_after P (x ∷ xs) ys o h f = finds_next P x (xs ++ ys) o h.0 (finds_after P xs ys o h.1 f)
 
 -- one of the first tests fails
-pub finds_part : (P : Reason → Type 0) (xs ys : List Reason) (r : Reason) → Finds P xs (Some r) → Finds P (xs ++ ys) (Some r)
+pub finds_part : {R : Type 0} (P : R → Type 0) (xs ys : List R) (r : R) → Finds P xs (Some r) → Finds P (xs ++ ys) (Some r)
 finds_part P xs ys r f =
     record {
       passed = f.passed;
@@ -38,7 +38,7 @@ finds_part P xs ys r f =
     }
 
 -- tests with the numbers 1 to n, of which the least that fails is known
-pub finds_each : (P : Reason → Type 0) (f : ℕ → Reason) (n : ℕ) (o : Option ℕ) → IsLeastFailing (λ k. P (f k)) n o → Finds P (map f (numbers n)) (option_map f o)
+pub finds_each : {R : Type 0} (P : R → Type 0) (f : ℕ → R) (n : ℕ) (o : Option ℕ) → IsLeastFailing (λ k. P (f k)) n o → Finds P (map f (numbers n)) (option_map f o)
 finds_each P f zero None h = tt
 finds_each P f zero (Some k) h = absurd (omega (arith, h.0, h.1))
 finds_each P f (suc n) None h =
@@ -56,20 +56,20 @@ finds_each P f (suc n) (Some k) h =
     ])
 
 -- what holds of the whole holds of each part
-pub all_parts : (P : Reason → Type 0) (xs ys : List Reason) → AllByRecursion P (xs ++ ys) → AllByRecursion P xs × AllByRecursion P ys
+pub all_parts : {R : Type 0} (P : R → Type 0) (xs ys : List R) → AllByRecursion P (xs ++ ys) → AllByRecursion P xs × AllByRecursion P ys
 all_parts P [] ys h = (tt, h)
 all_parts P (x ∷ xs) ys h = ((h.0, (all_parts P xs ys h.1).0), (all_parts P xs ys h.1).1)
 
 -- where each test that is passed is passed in other words
-pub all_apply : (P Q : Reason → Type 0) (xs : List Reason) → AllByRecursion (λ r. P r → Q r) xs → AllByRecursion P xs → AllByRecursion Q xs
+pub all_apply : {R : Type 0} (P Q : R → Type 0) (xs : List R) → AllByRecursion (λ r. P r → Q r) xs → AllByRecursion P xs → AllByRecursion Q xs
 all_apply P Q [] m h = tt
 all_apply P Q (x ∷ xs) m h = (m.0 h.0, all_apply P Q xs m.1 h.1)
 
 -- what holds for the numbers 1 to n
-pub all_each : (P : Reason → Type 0) (f : ℕ → Reason) (n : ℕ) → ((k : ℕ) → 1 ≤ k → k ≤ n → P (f k)) → AllByRecursion P (map f (numbers n))
+pub all_each : {R : Type 0} (P : R → Type 0) (f : ℕ → R) (n : ℕ) → ((k : ℕ) → 1 ≤ k → k ≤ n → P (f k)) → AllByRecursion P (map f (numbers n))
 all_each P f n h = finds_each P f n None h
 
-pub each_all : (P : Reason → Type 0) (f : ℕ → Reason) (n : ℕ) → AllByRecursion P (map f (numbers n)) → (k : ℕ) → 1 ≤ k → k ≤ n → P (f k)
+pub each_all : {R : Type 0} (P : R → Type 0) (f : ℕ → R) (n : ℕ) → AllByRecursion P (map f (numbers n)) → (k : ℕ) → 1 ≤ k → k ≤ n → P (f k)
 each_all P f zero h k l u = absurd (omega (arith, l, u))
 each_all P f (suc n) h k l u =
     let parts = all_parts P (map f (numbers n)) (f (suc n) ∷ []) (subst (AllByRecursion P) (map-append f (numbers n) (suc n ∷ [])) h) in
@@ -79,25 +79,25 @@ each_all P f (suc n) h k l u =
     ]
 
 -- what holds of each part holds of the whole
-pub all_after : (P : Reason → Type 0) (xs ys : List Reason) → AllByRecursion P xs → AllByRecursion P ys → AllByRecursion P (xs ++ ys)
+pub all_after : {R : Type 0} (P : R → Type 0) (xs ys : List R) → AllByRecursion P xs → AllByRecursion P ys → AllByRecursion P (xs ++ ys)
 all_after P xs ys h k = finds_after P xs ys None h k
 
-pub all_over : {A : Type 0} (P : Reason → Type 0) (f : A → List Reason) (xs : List A) → ((x : A) → AllByRecursion P (f x)) → AllByRecursion P (flat_map f xs)
+pub all_over : {R : Type 0} {A : Type 0} (P : R → Type 0) (f : A → List R) (xs : List A) → ((x : A) → AllByRecursion P (f x)) → AllByRecursion P (flat_map f xs)
 all_over P f [] h = tt
 all_over P f (x ∷ xs) h = all_after P (f x) (flat_map f xs) (h x) (all_over P f xs h)
 
 -- tests in parts with the numbers 1 to n: one part more
-parts_more : (f : ℕ → List Reason) (n : ℕ) → flat_map f (numbers (suc n)) ≡ flat_map f (numbers n) ++ f (suc n)
+parts_more : {R : Type 0} (f : ℕ → List R) (n : ℕ) → flat_map f (numbers (suc n)) ≡ flat_map f (numbers n) ++ f (suc n)
 parts_more f n = flat_map-append f (numbers n) (suc n ∷ []) ∙ ap (λ xs. flat_map f (numbers n) ++ xs) (append-nil (f (suc n)))
 
-pub all_parts_more : (P : Reason → Type 0) (f : ℕ → List Reason) (n : ℕ) → AllByRecursion P (flat_map f (numbers n)) → AllByRecursion P (f (n + 1)) → AllByRecursion P (flat_map f (numbers (n + 1)))
+pub all_parts_more : {R : Type 0} (P : R → Type 0) (f : ℕ → List R) (n : ℕ) → AllByRecursion P (flat_map f (numbers n)) → AllByRecursion P (f (n + 1)) → AllByRecursion P (flat_map f (numbers (n + 1)))
 all_parts_more P f n h k =
     let e : n + 1 ≡ suc n = omega arith in
     let next : AllByRecursion P (f (suc n)) = subst (λ j. AllByRecursion P (f j)) e k in
     subst (λ j. AllByRecursion P (flat_map f (numbers j))) (sym e) (subst (AllByRecursion P) (sym (parts_more f n)) (all_after P (flat_map f (numbers n)) (f (suc n)) h next))
 
 -- the first parts are passed, and in the next one a test fails
-pub finds_in_part : (P : Reason → Type 0) (f : ℕ → List Reason) (n k : ℕ) (r : Reason) → k < n → AllByRecursion P (flat_map f (numbers k)) → Finds P (f (k + 1)) (Some r) →
+pub finds_in_part : {R : Type 0} (P : R → Type 0) (f : ℕ → List R) (n k : ℕ) (r : R) → k < n → AllByRecursion P (flat_map f (numbers k)) → Finds P (f (k + 1)) (Some r) →
     Finds P (flat_map f (numbers n)) (Some r)
 finds_in_part P f zero k r l h g = absurd (omega (arith, l))
 finds_in_part P f (suc n) k r l h g =
@@ -113,12 +113,12 @@ finds_in_part P f (suc n) k r l h g =
     next k n e = omega (arith, e)
 
 -- what holds of each part with a number of 1 to n
-pub all_in_parts : (P : Reason → Type 0) (f : ℕ → List Reason) (n : ℕ) → ((s : ℕ) → 1 ≤ s → s ≤ n → AllByRecursion P (f s)) → AllByRecursion P (flat_map f (numbers n))
+pub all_in_parts : {R : Type 0} (P : R → Type 0) (f : ℕ → List R) (n : ℕ) → ((s : ℕ) → 1 ≤ s → s ≤ n → AllByRecursion P (f s)) → AllByRecursion P (flat_map f (numbers n))
 all_in_parts P f zero h = tt
 all_in_parts P f (suc n) h =
     subst (AllByRecursion P) (sym (parts_more f n)) (all_after P (flat_map f (numbers n)) (f (suc n)) (all_in_parts P f n (λ s l u. h s l (omega arith))) (h (suc n) (omega arith) (omega arith)))
 
-pub in_part_all : (P : Reason → Type 0) (f : ℕ → List Reason) (n : ℕ) → AllByRecursion P (flat_map f (numbers n)) → (s : ℕ) → 1 ≤ s → s ≤ n → AllByRecursion P (f s)
+pub in_part_all : {R : Type 0} (P : R → Type 0) (f : ℕ → List R) (n : ℕ) → AllByRecursion P (flat_map f (numbers n)) → (s : ℕ) → 1 ≤ s → s ≤ n → AllByRecursion P (f s)
 in_part_all P f zero h s l u = absurd (omega (arith, l, u))
 in_part_all P f (suc n) h s l u =
     let parts = all_parts P (flat_map f (numbers n)) (f (suc n)) (subst (AllByRecursion P) (parts_more f n) h) in
@@ -128,16 +128,16 @@ in_part_all P f (suc n) h s l u =
     ]
 
 -- what holds of each test holds of the one between two parts
-all_at : (P : Reason → Type 0) (xs ys : List Reason) (r : Reason) → AllByRecursion P (xs ++ r ∷ ys) → P r
+all_at : {R : Type 0} (P : R → Type 0) (xs ys : List R) (r : R) → AllByRecursion P (xs ++ r ∷ ys) → P r
 all_at P [] ys r h = h.0
 all_at P (x ∷ xs) ys r h = all_at P xs ys r h.1
 
-all_mono : (P Q : Reason → Type 0) (xs : List Reason) → ((r : Reason) → P r → Q r) → AllByRecursion P xs → AllByRecursion Q xs
+all_mono : {R : Type 0} (P Q : R → Type 0) (xs : List R) → ((r : R) → P r → Q r) → AllByRecursion P xs → AllByRecursion Q xs
 all_mono P Q [] m h = tt
 all_mono P Q (x ∷ xs) m h = (m x h.0, all_mono P Q xs m h.1)
 
 -- the same tests in other words
-pub finds_same : (P Q : Reason → Type 0) (xs : List Reason) (o : Option Reason) → ((r : Reason) → P r → Q r) → AllByRecursion (λ r. Q r → P r) xs → Finds P xs o → Finds Q xs o
+pub finds_same : {R : Type 0} (P Q : R → Type 0) (xs : List R) (o : Option R) → ((r : R) → P r → Q r) → AllByRecursion (λ r. Q r → P r) xs → Finds P xs o → Finds Q xs o
 finds_same P Q xs None m b f = all_mono P Q xs m f
 finds_same P Q xs (Some r) m b f =
     record {
@@ -152,14 +152,14 @@ pub least_same : (P Q : ℕ → Type 0) (n : ℕ) (o : Option ℕ) → ((k : ℕ
 least_same P Q n None m b h = λ k l u. m k (h k l u)
 least_same P Q n (Some k) m b h = (h.0, h.1, λ q. h.2 (b k q), λ j l u. m j (h.3 j l u))
 
-same_head : (x y : Reason) (xs ys : List Reason) → x ∷ xs ≡ y ∷ ys → x ≡ y
+same_head : {R : Type 0} (x y : R) (xs ys : List R) → x ∷ xs ≡ y ∷ ys → x ≡ y
 same_head x y xs ys e = cc
 
-same_tail : (x y : Reason) (xs ys : List Reason) → x ∷ xs ≡ y ∷ ys → xs ≡ ys
+same_tail : {R : Type 0} (x y : R) (xs ys : List R) → x ∷ xs ≡ y ∷ ys → xs ≡ ys
 same_tail x y xs ys e = cc
 
 -- the first test that fails is one alone, and then not each is passed
-same_first : (P : Reason → Type 0) (xs ys xs' ys' : List Reason) (r r' : Reason) → xs ++ r ∷ ys ≡ xs' ++ r' ∷ ys' → AllByRecursion P xs → AllByRecursion P xs' →
+same_first : {R : Type 0} (P : R → Type 0) (xs ys xs' ys' : List R) (r r' : R) → xs ++ r ∷ ys ≡ xs' ++ r' ∷ ys' → AllByRecursion P xs → AllByRecursion P xs' →
     (P r → ⊥) → (P r' → ⊥) → r ≡ r'
 same_first P [] ys [] ys' r r' e h h' f f' = same_head r r' ys ys' e
 same_first P [] ys (x' ∷ xs') ys' r r' e h h' f f' = absurd (f (subst P (sym (same_head r x' ys (xs' ++ r' ∷ ys') e)) h'.0))
@@ -167,10 +167,10 @@ same_first P (x ∷ xs) ys [] ys' r r' e h h' f f' = absurd (f' (subst P (same_h
 same_first P (x ∷ xs) ys (x' ∷ xs') ys' r r' e h h' f f' =
     same_first P xs ys xs' ys' r r' (same_tail x x' (xs ++ r ∷ ys) (xs' ++ r' ∷ ys') e) h.1 h'.1 f f'
 
-pub one_first : (P : Reason → Type 0) (xs : List Reason) (r r' : Reason) → IsFirstFailing P xs r → IsFirstFailing P xs r' → r ≡ r'
+pub one_first : {R : Type 0} (P : R → Type 0) (xs : List R) (r r' : R) → IsFirstFailing P xs r → IsFirstFailing P xs r' → r ≡ r'
 one_first P xs r r' f f' = same_first P f.passed f.later f'.passed f'.later r r' (sym f.order ∙ f'.order) f.pass f'.pass f.fails f'.fails
 
-pub never_both : (P : Reason → Type 0) (xs : List Reason) (r : Reason) → IsFirstFailing P xs r → AllByRecursion P xs → ⊥
+pub never_both : {R : Type 0} (P : R → Type 0) (xs : List R) (r : R) → IsFirstFailing P xs r → AllByRecursion P xs → ⊥
 never_both P xs r f h = f.fails (all_at P f.passed f.later r (subst (AllByRecursion P) f.order h))
 
 -- what is said of a verdict by what is found

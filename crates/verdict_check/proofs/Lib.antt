@@ -32,3 +32,5 @@ pub mod CompleteNodes
 pub mod Looks
 pub mod Children
 pub mod Together
+pub mod CoreTests
+pub mod RowTests

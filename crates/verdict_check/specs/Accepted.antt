@@ -21,9 +21,9 @@ Passes i v reason.Columns = v.columns ≡ instance_columns i
 Passes i v r = PassesClaim i v.claim r
 
 -- the first test in a list that is not passed: each before it is passed
-pub record IsFirstFailing (P : Reason → Type 0) (all : List Reason) (r : Reason) : Type 0 where
-  pub passed : List Reason
-  pub later : List Reason
+pub record IsFirstFailing {R : Type 0} (P : R → Type 0) (all : List R) (r : R) : Type 0 where
+  pub passed : List R
+  pub later : List R
   pub order : all ≡ passed ++ r ∷ later
   pub pass : AllByRecursion P passed
   pub fails : P r → ⊥

@@ -9,3 +9,4 @@ pub mod HoldsWalk
 pub mod Found
 pub mod Gaps
 pub mod Complete
+pub mod Core

@@ -35,15 +35,15 @@ pub fn cycle_fault(alloc: Global, m: &Matrix, lines: &[Line]) -> Result<Option<R
     Ok(None)
 }
 
-// Whether the number of lines is odd and at least 3.
-fn is_odd_length(lines: &[Line]) -> bool
+/// Whether the number of lines is odd and at least 3.
+pub fn is_odd_length(lines: &[Line]) -> bool
     ensures { IsTrue result ↔ PassesLength lines.now }
 {
     lines.len() % 2 == 1 && lines.len() >= 3
 }
 
-// The first line, from 1, that has not two distinct columns of 1 to c.
-fn first_bad_pair(c: u32, lines: &[Line]) -> Option<u32>
+/// The first line, from 1, that has not two distinct columns of 1 to c.
+pub fn first_bad_pair(c: u32, lines: &[Line]) -> Option<u32>
     requires { Fits32 (length lines.now) }
     ensures { IsLeastFailing (PassesPair c lines.now) (length lines.now) result }
 {
@@ -55,8 +55,8 @@ fn first_bad_pair(c: u32, lines: &[Line]) -> Option<u32>
     None
 }
 
-// The first line, from 1, whose pair stands on an earlier line.
-fn first_repeat(alloc: Global, c: u32, lines: &[Line]) -> Result<Option<u32>, NoMemory>
+/// The first line, from 1, whose pair stands on an earlier line.
+pub fn first_repeat(alloc: Global, c: u32, lines: &[Line]) -> Result<Option<u32>, NoMemory>
     requires few { Fits32 (length lines.now) }
     requires pairs { (k : ℕ) → 1 ≤ k → k ≤ length lines.now → PassesPair c lines.now k }
     ensures { IfOk result (IsLeastFailing (PassesRepeat lines.now) (length lines.now)) }
@@ -83,8 +83,8 @@ fn first_unjoined(m: &Matrix, lines: &[Line]) -> Option<u32>
     None
 }
 
-// The pair of the line after the one at an index, and that of the first line after the last.
-fn next_pair(lines: &[Line], i: usize) -> Pair
+/// The pair of the line after the one at an index, and that of the first line after the last.
+pub fn next_pair(lines: &[Line], i: usize) -> Pair
     requires { i < length lines.now }
     ensures { (other : Pair) → result ≡ pair_after lines.now (i + 1) other }
 {

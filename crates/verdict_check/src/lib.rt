@@ -29,6 +29,17 @@
 //!
 //! A unit model of a graph, which is no verdict, has a judge of its own, [`check_unit`].
 //!
+//! `check_core` judges the text of a core of a matrix by its own tests, in the same way.
+//!
+//! | Reason | What the test asks |
+//! |---|---|
+//! | `Kind` | the kind of the text is that of the matrix |
+//! | `Columns` | its number of columns is that of the matrix |
+//! | `Rows` | its rows are rows of the matrix, in strictly ascending order |
+//! | `Order(R)` | the order of row R is a valid order of the other rows; R is the least that fails |
+//! | `Length(L)`, `Pair(I)`, `Repeat(I)` | as of a no, in the matrix |
+//! | `Join(I)` | the reason of line I is a flip or a row of the core, and joins as of a no; I is the least that fails |
+//!
 //! A verdict that passes each test is true: a yes because its orders are textbook orders, in version 2 all of them, a no because a closed walk of
 //! odd length in the incompatibility graph leaves no valid order (McConnell, 2004).
 #![tactic(auto)]
@@ -45,6 +56,8 @@ ghost use Rattle.verdict_check.specs.declared.outcome.Checked.TheVariants.{Valid
 
 mod added;
 mod clones;
+mod core_check;
+mod core_outcome;
 mod cycle;
 mod every_order;
 mod gaps;
@@ -56,6 +69,8 @@ mod side;
 mod tests;
 mod unit;
 
+pub use core_check::{check_core, core_laws};
+pub use core_outcome::{CoreChecked, CoreReason};
 pub use every_order::complete;
 pub use holds::{holds_law, tree_holds};
 pub use instance_model::Instance;

@@ -1,0 +1,188 @@
+// The judge of the text of a core.
+ghost use Rattle.std.specs.Prelude.{◌↔◌, ◌≡◌, ◌≤◌, ◌<◌, ℕ, length, map, IsTrue, IfOk, slice_index, option_map};
+ghost use Rattle.std.specs.List.Sorted.{IsNonDecreasing};
+ghost use Rattle.column_order.specs.Orders.{IsValidOrder};
+ghost use Rattle.row_core.specs.Cores.{AreRowNumbers, rows_at, but};
+ghost use Rattle.row_core.specs.Told.{IsAmong};
+ghost use Rattle.row_core.specs.Texts.{IsInGrammar, Fits32};
+ghost use Rattle.verdict_check.specs.Found.{IsLeastFailing, Finds};
+ghost use Rattle.verdict_check.specs.Core.{line_tests, core_tests, PassesCoreJoin, PassesCore, IsAcceptedCore, FailsCoreFirst, NamesCoreLaw, ToldCoreLaw};
+ghost use Rattle.verdict_check.specs.declared.core_outcome.CoreReason.{CoreReason};
+ghost use Rattle.verdict_check.specs.declared.core_outcome.CoreChecked.TheVariants.{Valid, Invalid};
+
+use crate::core_outcome::{CoreChecked, CoreReason};
+use crate::cycle::{first_bad_pair, first_repeat, is_odd_length, next_pair};
+use row_core::{CoreText, blame_law};
+use row_model::{
+    Kind, Line, Matrix, NoMemory, Why, is_kept, is_order, joined_by, positions, row_has,
+};
+use std::alloc::Global;
+
+/// Judges the text of a core of a matrix: valid exactly where it passes each test, else invalid with the first that fails.
+///
+/// The text is within the grammar. With k rows of f ones together it takes about k(c + f) looks at the matrix for the orders,
+/// c being the number of columns.
+///
+/// # Errors
+///
+/// `NoMemory`.
+pub fn check_core(
+    alloc: Global,
+    m: &Matrix,
+    kind: Kind,
+    t: &CoreText,
+) -> Result<CoreChecked, NoMemory>
+    requires { IsInGrammar t.now }
+    ensures valid { IfOk result (λ checked. (checked ≡ Valid) ↔ IsAcceptedCore m.now kind t.now) }
+    ensures invalid { IfOk result (λ checked. (r : CoreReason) → (checked ≡ Invalid r) ↔ FailsCoreFirst m.now kind t.now r) }
+{
+    match core_fault(alloc, m, kind, t)? {
+        None => Ok(CoreChecked::Valid),
+        Some(reason) => Ok(CoreChecked::Invalid(reason)),
+    }
+}
+
+/// A text of a core that is accepted names a core of the matrix, and what is told of a core is accepted.
+pub fn core_laws()
+    ensures names { NamesCoreLaw }
+    ensures told { ToldCoreLaw }
+{
+    blame_law();
+}
+
+// The first test that the text fails.
+fn core_fault(
+    alloc: Global,
+    m: &Matrix,
+    kind: Kind,
+    t: &CoreText,
+) -> Result<Option<CoreReason>, NoMemory>
+    requires { IsInGrammar t.now }
+    ensures { IfOk result (Finds (PassesCore m.now kind t.now) (core_tests t.now)) }
+{
+    if !is_kind(t.kind(), kind) {
+        return Ok(Some(CoreReason::Kind));
+    }
+    if t.columns() != m.columns() {
+        return Ok(Some(CoreReason::Columns));
+    }
+    if !are_row_numbers(m.rows(), t.rows()) {
+        return Ok(Some(CoreReason::Rows));
+    }
+    if let Some(k) = first_bad_order(alloc, m, t)? {
+        return Ok(Some(CoreReason::Order(k)));
+    }
+    lines_fault(alloc, m, kind, t)
+}
+
+// Whether this is the kind.
+fn is_kind(found: Kind, kind: Kind) -> bool
+    ensures { IsTrue result ↔ (found ≡ kind) }
+{
+    found == kind
+}
+
+// Whether these are numbers of 1 to `count` in strictly ascending order.
+fn are_row_numbers(count: u32, rows: &[u32]) -> bool
+    ensures { IsTrue result ↔ AreRowNumbers count rows.now }
+{
+    let mut low = 0;
+    for k in rows {
+        if *k <= low || *k > count {
+            return false;
+        }
+        low = *k;
+    }
+    true
+}
+
+// The first row whose order is not valid for the others.
+fn first_bad_order(alloc: Global, m: &Matrix, t: &CoreText) -> Result<Option<u32>, NoMemory>
+    requires grammar { IsInGrammar t.now }
+    requires rows { AreRowNumbers (length m.now.rows) t.now.parts.rows }
+    ensures { IfOk result (λ found. (kind : Kind) → Finds (PassesCore m.now kind t.now) (map CoreReason.Order t.now.parts.rows) (option_map CoreReason.Order found)) }
+{
+    for (i, k) in t.rows().iter().enumerate() {
+        if !keeps_others(alloc, m, t.rows(), i, t.order(i as u32 + 1))? {
+            return Ok(Some(*k));
+        }
+    }
+    Ok(None)
+}
+
+// Whether the list is an order of the columns that keeps the rows but the one at an index.
+fn keeps_others(
+    alloc: Global,
+    m: &Matrix,
+    rows: &[u32],
+    i: usize,
+    order: &[u32],
+) -> Result<bool, NoMemory>
+    requires rows { AreRowNumbers (length m.now.rows) rows.now }
+    requires within { i < length rows.now }
+    ensures { IfOk result (λ yes. IsTrue yes ↔ IsValidOrder m.now.columns (rows_at m.now.rows (but (slice_index rows.now i) rows.now)) order.now) }
+{
+    if !is_order(alloc, m.columns(), order)? {
+        return Ok(false);
+    }
+    let positions = positions(alloc, order)?;
+    for (j, k) in rows.iter().enumerate() {
+        if j != i && !is_kept(&positions, m.row(*k)) {
+            return Ok(false);
+        }
+    }
+    Ok(true)
+}
+
+// The first test that the lines of the cycle fail.
+fn lines_fault(
+    alloc: Global,
+    m: &Matrix,
+    kind: Kind,
+    t: &CoreText,
+) -> Result<Option<CoreReason>, NoMemory>
+    requires grammar { IsInGrammar t.now }
+    requires rows { AreRowNumbers (length m.now.rows) t.now.parts.rows }
+    ensures { IfOk result (Finds (PassesCore m.now kind t.now) (line_tests (length t.now.parts.lines))) }
+{
+    let lines = t.lines();
+    if !is_odd_length(lines) {
+        return Ok(Some(CoreReason::Length(lines.len() as u32)));
+    }
+    if let Some(i) = first_bad_pair(m.columns(), lines) {
+        return Ok(Some(CoreReason::Pair(i)));
+    }
+    if let Some(i) = first_repeat(alloc, m.columns(), lines)? {
+        return Ok(Some(CoreReason::Repeat(i)));
+    }
+    if let Some(i) = first_bad_join(m, t.rows(), lines) {
+        return Ok(Some(CoreReason::Join(i)));
+    }
+    Ok(None)
+}
+
+// The first line, from 1, whose reason is no flip and none of the rows, or does not join its pair to that of the next line, the
+// last line's to that of the first.
+fn first_bad_join(m: &Matrix, rows: &[u32], lines: &[Line]) -> Option<u32>
+    requires few { Fits32 (length lines.now) }
+    requires rows { AreRowNumbers (length m.now.rows) rows.now }
+    ensures { IsLeastFailing (PassesCoreJoin m.now rows.now lines.now) (length lines.now) result }
+{
+    for (i, line) in lines.iter().enumerate() {
+        if !is_among(rows, line.why) || !joined_by(m, line.pair, next_pair(lines, i), line.why) {
+            return Some(i as u32 + 1);
+        }
+    }
+    None
+}
+
+// Whether the reason is a flip or one of the rows.
+fn is_among(rows: &[u32], why: Why) -> bool
+    requires { IsNonDecreasing rows.now }
+    ensures { IsTrue result ↔ IsAmong rows.now why }
+{
+    match why {
+        Why::Flip => true,
+        Why::Row(k) => row_has(rows, k),
+    }
+}
