@@ -29,6 +29,8 @@ HEAD = b"pq-verdict 1\nkind matrix\ncolumns 3\nanswer "
 NO = HEAD + b"no\nside 1\n"
 YES = HEAD + b"yes\ntree "
 CLONES = b'{"probes":["a"],"clones":['
+# The first tree of `meet`, over all columns.
+TREE = b"(" + b" ".join(b"%d" % column for column in range(1, COLUMNS + 1)) + b")"
 
 
 def filled(start, piece, end=b"", length=LIMIT):
@@ -111,6 +113,26 @@ def crowded_files():
     yield "clones", "zeros in place of clones", filled(CLONES + b"0", b",0", b"]}"), (7, 0)
 
 
+def tree_files():
+    """Files of the greatest length that are no trees over 2,048 columns, each with what it is made of."""
+    yield "round brackets", filled(b"", b"(")
+    yield "square brackets", filled(b"", b"[")
+    yield "nodes of two", filled(b"", b"(1 ")
+    yield "nodes of three", filled(b"", b"[1 2 ")
+    yield "closing brackets", filled(TREE, b")")
+    yield "digits", filled(b"(", b"9")
+    yield "zeros before a number", filled(b"(", b"0", b"1 2)")
+    yield "columns", filled(b"(1", b" 1")
+    yield "blanks before a tree", filled(b"", b" ", TREE)
+    yield "line feeds behind a tree", filled(TREE, b"\n")
+    yield "trees", filled(b"", TREE)
+
+
+def nest(columns):
+    """A tree of nested nodes of two over the columns."""
+    return b"(" * (columns - 1) + b"1 2)" + b"".join(b" %d)" % column for column in range(3, columns + 1))
+
+
 def nested_arrays():
     """A clone file with a member that is passed over, of nested arrays."""
     return b'{"probes":["a"],"clones":[],"more":' + filled(b"[", b"[[[[[]]]]],", b"1]}", LIMIT - 40)
@@ -130,12 +152,14 @@ class Cost(NamedTuple):
 
 
 def measured(words, content):
-    """A run of the program over a file as its last word: its status, its output, its errors, and its cost."""
+    """A run of the program over a file as its last word: its status, its output, its errors, and its cost. Of `meet` the first tree stands on standard
+    input, of other commands a matrix."""
+    given = TREE if words[0] == "meet" else MATRIX
     with tempfile.TemporaryDirectory() as folder:
         file, cost = os.path.join(folder, "file"), os.path.join(folder, "cost")
         with open(file, "wb") as stream:
             stream.write(content)
-        done = subprocess.run([sys.executable, "-IS", COST, cost, str(4 * MOST_SECONDS), PROGRAM, *words, file], input=MATRIX, capture_output=True,
+        done = subprocess.run([sys.executable, "-IS", COST, cost, str(4 * MOST_SECONDS), PROGRAM, *words, file], input=given, capture_output=True,
                               check=False)
         with open(cost, encoding="utf-8") as stream:
             status, seconds, peak = stream.read().split()
@@ -163,6 +187,9 @@ def hostile():
     for kind, what, content, (code, line) in crowded_files():
         yield f"{kind} of {what}", ["solve", kind], content, (3, b"", b"pq: refused 1 code %d line %d\n" % (code, line)), CROWDED_BYTES
     yield "clones of a member of nested arrays", ["solve", "clones"], nested_arrays(), (0, None, b""), BASE_BYTES
+    for what, content in tree_files():
+        yield f"a tree of {what}", ["meet", str(COLUMNS), "-"], content, (3, b"", b"pq: refused 2 code 12 line 0\n"), BASE_BYTES
+    yield "a tree nested 2,047 deep", ["meet", str(COLUMNS), "-"], nest(COLUMNS), (0, None, b""), CROWDED_BYTES
 
 
 def hostile_problems():
