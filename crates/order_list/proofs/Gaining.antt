@@ -247,3 +247,20 @@ ready_pushed S columns pushed limit x a b e r width fresh few =
       few = few;
       wide = λ f s. omega (arith, r.wide (x ∷ f) s, width, ap (λ (l : List ℕ). length l) e, length-append columns (x ∷ []));
     }
+
+-- a set of which each list begins with one column
+pub gains_only : (S : List ℕ → Type 0) (columns pushed : List ℕ) (limit x : ℕ) (a b : OrderList) → a.more ≡ false → length a.orders ≤ limit → pushed ≡ columns ++ x ∷ [] →
+    ((f : List ℕ) → S f → (g : List ℕ) × (f ≡ x ∷ g)) → Gains (from_column x S) pushed limit a b → Gains S columns limit a b
+gains_only S columns pushed limit x a b fresh few e only g =
+    gains_all S columns limit (x + 1) a b all
+    (gains_more S columns limit 0 x a a b (omega arith) (gains_none S columns limit a fresh few) fresh (subst (λ l. Gains (from_column x S) l limit a b) e g) least)
+  where
+    least : (y : ℕ) (f : List ℕ) → S (y ∷ f) → 0 ≤ y → x ≤ y
+    least y f s l =
+        let r : (g : List ℕ) × (y ∷ f ≡ x ∷ g) = only (y ∷ f) s in
+        let h : y ∷ f ≡ x ∷ r.0 = r.1 in
+        let k : y ≡ x = cc in
+        omega arith
+
+    all : (f : List ℕ) → S f → BeginsBelow (x + 1) f
+    all f s = subst (BeginsBelow (x + 1)) (sym (only f s).1) (omega arith)

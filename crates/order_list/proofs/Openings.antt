@@ -165,6 +165,21 @@ pub empty : {A : Type 0} (ts : List A) → length ts ≡ 0 → ts ≡ []
 empty [] e = refl
 empty (t ∷ ts) e = absurd (omega arith)
 
+pub one_outline : (ts : List (Bor Tree)) (d : Bor Tree) → length ts ≡ 1 → outlines ts ≡ outline_of (get_or ts 0 d).now ∷ []
+one_outline [] d n = absurd (omega arith)
+one_outline (t ∷ []) d n = refl
+one_outline (t ∷ u ∷ ts) d n = absurd (omega arith)
+
+module _ (coming : Coming) (bag : Bag) (rest : Bor Coming) (u : Outline) (e : coming ≡ InAnyOrder bag rest) (one : outlines bag.trees.now ≡ u ∷ []) where
+  pub one_trees : coming_trees coming ≡ p_node (forest (u ∷ [])) ∷ coming_trees rest.now
+  one_trees = ap coming_trees e ∙ trees-InAnyOrder bag rest ∙ ap (λ us. p_node (forest us) ∷ coming_trees rest.now) one
+
+  pub one_within : trees_within coming ≡ u ∷ trees_within rest.now
+  one_within = ap trees_within e ∙ within-InAnyOrder bag rest ∙ ap (λ us. us ++ trees_within rest.now) one
+
+  pub one_weight : weight_within coming ≡ 1 + (weight u + weight_within rest.now)
+  one_weight = omega (arith, ap weight_within e, weight-InAnyOrder bag rest, ap (λ us. weights (forest us)) one)
+
 pub none_trees : (coming : Coming) (bag : Bag) (rest : Bor Coming) → coming ≡ InAnyOrder bag rest → length bag.trees.now ≡ 0 → coming_trees coming ≡ p_node no_tree ∷ coming_trees rest.now
 none_trees coming bag rest e n =
     ap coming_trees e ∙ trees-InAnyOrder bag rest ∙ ap (λ ts. p_node (forest (outlines ts)) ∷ coming_trees rest.now) (empty bag.trees.now n)

@@ -4,7 +4,7 @@ use Rattle.std.proofs.Math.Seq.{take-append_seam}
 use Rattle.std.specs.Prelude.{Result, OnOk}
 use Rattle.std.proofs.lemmas.Result.{on_ok_weaker}
 use Rattle.std.proofs.lemmas.List.{length-map, reverse-append, take_all}
-use Rattle.pq_tree.specs.Outline.{Outline, leaf, p_node, q_node, no_tree}
+use Rattle.pq_tree.specs.Outline.{Outline, leaf, p_node, q_node, no_tree, IsFrontier}
 use Rattle.pq_tree.specs.Proper.{outline_of, forest, AreTrees}
 use Rattle.pq_tree.specs.declared.Tree.{Tree}
 use Rattle.order_list.specs.Coming.{outlines}
@@ -40,7 +40,13 @@ same_none us vs e = subst (λ ws. SameSet (Reads us) (Reads ws)) (sym e) (none_u
 pub same_one : (t : Outline) (us vs : List Outline) → vs ≡ t ∷ us → SameSet (Reads (p_node (forest (t ∷ [])) ∷ us)) (Reads vs)
 same_one t us vs e = subst (λ ws. SameSet (Reads (p_node (forest (t ∷ [])) ∷ us)) (Reads ws)) (sym e) (one_taken t us, one_untaken t us)
 
+pub same_bag : (t : Outline) (us vs : List Outline) → vs ≡ p_node (forest (t ∷ [])) ∷ us → SameSet (Reads (t ∷ us)) (Reads vs)
+same_bag t us vs e = subst (λ ws. SameSet (Reads (t ∷ us)) (Reads ws)) (sym e) (one_untaken t us, one_taken t us)
+
 -- a leaf
+pub leaf_first : (u : Outline) (a : ℕ) (us : List Outline) → u ≡ leaf a → (f : List ℕ) → Reads (u ∷ us) f → (g : List ℕ) × (f ≡ a ∷ g)
+leaf_first u a us e f r = (r.1, r.4 ∙ ap (λ g. g ++ r.1) (subst (λ v. IsFrontier v r.0) e r.2))
+
 pub same_leaf : (u : Outline) (a x : ℕ) (us : List Outline) → u ≡ leaf a → CanBegin u x → SameSet (Reads us) (from_column x (Reads (u ∷ us)))
 same_leaf u a x us e b =
     subst (λ v. SameSet (Reads us) (from_column x (Reads (v ∷ us)))) (sym e)

@@ -51,6 +51,8 @@ pub fn read_on<'a>(
         Coming::InAnyOrder(bag, rest) => {
             if bag.trees.is_empty() {
                 read_on(alloc, rest, columns, limit, found)
+            } else if bag.trees.len() == 1 {
+                read_tree(alloc, bag.trees[0], rest, columns, limit, found)
             } else {
                 each_next(alloc, bag.trees, rest, columns, limit, found)
             }
@@ -59,17 +61,41 @@ pub fn read_on<'a>(
             None => read_on(alloc, rest, columns, limit, found),
             Some((tree, others)) => {
                 let rest = Coming::Forwards(others, rest);
-                each_next(alloc, &[tree], &rest, columns, limit, found)
+                read_tree(alloc, tree, &rest, columns, limit, found)
             }
         },
         Coming::Backwards(trees, rest) => match trees.split_last() {
             None => read_on(alloc, rest, columns, limit, found),
             Some((tree, others)) => {
                 let rest = Coming::Backwards(others, rest);
-                each_next(alloc, &[tree], &rest, columns, limit, found)
+                read_tree(alloc, tree, &rest, columns, limit, found)
             }
         },
     }
+}
+
+// The same where the tree comes next, and then the rest. A leaf leaves no choice.
+#[cycle(walk)]
+fn read_tree<'a>(
+    alloc: Global,
+    tree: &'a Tree,
+    rest: &'a Coming<'a>,
+    columns: &mut Vec<u32>,
+    limit: u32,
+    found: &mut Orders,
+) -> Result<(), NoMemory>
+    requires trees { AreTrees (forest (outline_of tree.now ∷ trees_within rest.now)) }
+    requires ready { IsReady (Reads (outline_of tree.now ∷ coming_trees rest.now)) columns.old.items limit found.old }
+    ensures columns { OnOk result (columns.new.items ≡ columns.old.items) }
+    ensures found { OnOk result (Gains (Reads (outline_of tree.now ∷ coming_trees rest.now)) columns.old.items limit found.old found.new) }
+{
+    let Tree::Leaf(column) = tree else {
+        return each_next(alloc, &[tree], &*rest, columns, limit, found);
+    };
+    columns.push(*column)?;
+    read_on(alloc, rest, columns, limit, found)?;
+    columns.pop();
+    Ok(())
 }
 
 // The same where the trees come next, in any order, and then the rest: for each column that can come next, in rising order.

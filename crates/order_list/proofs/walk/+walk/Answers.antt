@@ -1,6 +1,7 @@
-use Rattle.std.proofs.Common.{◌≡◌, ◌∙◌, ◌+◌, ◌<◌, [], ◌∷◌, ◌++◌, map, length, remove, refl, sym, ap, subst, arith, vec_len, eqb-true}
+use Rattle.std.proofs.Common.{◌≡◌, ◌∙◌, ◌+◌, ◌<◌, [], ◌∷◌, ◌++◌, map, length, get_or, remove, refl, sym, ap, subst, arith, vec_len, eqb-true}
 use Rattle.std.proofs.lemmas.Bool.{both_ways}
-use Rattle.pq_tree.specs.Outline.{p_node}
+use Rattle.pq_tree.specs.Outline.{leaf, p_node}
+use Rattle.pq_tree.proofs.Shown.{outline_of-Leaf}
 use Rattle.pq_tree.specs.Proper.{outline_of, forest}
 use Rattle.order_list.specs.Coming.{outlines, coming_trees, trees_within}
 use Rattle.order_list.specs.Gains.{Gains, from_column}
@@ -11,9 +12,9 @@ use Rattle.order_list.proofs.Links.{trees-Nothing, within-InAnyOrder, weight-InA
 use Rattle.order_list.specs.declared.walk.Coming.{Forwards, Backwards}
 use Rattle.std.proofs.lemmas.Result.{on_ok_weaker}
 use Rattle.order_list.specs.Weights.{weight, weights, weight_within}
-use Rattle.order_list.proofs.Gaining.{Below, gains_none, gains_one, ready_pushed}
-use Rattle.order_list.proofs.Steps.{popped, next_gains, last_gains, all_gains, ready_moved, gains_moved, same_trees, same_leaf, same_none, same_one, same_p, outlines_remove, none_begins, next_is}
-use Rattle.order_list.proofs.Openings.{bag_sound, taken_falls, taken_sound, taken_same, forward_falls, forward_sound, forward_same, backward_falls, backward_sound, backward_same, last_begins, none_trees, no_first, no_last, first_trees, first_within, first_weight, last_trees, last_within, last_weight}
+use Rattle.order_list.proofs.Gaining.{Below, gains_same, gains_only, gains_none, gains_one, ready_pushed}
+use Rattle.order_list.proofs.Steps.{popped, next_gains, last_gains, all_gains, ready_moved, gains_moved, same_trees, same_leaf, same_none, same_one, same_bag, leaf_first, same_p, outlines_remove, none_begins, next_is}
+use Rattle.order_list.proofs.Openings.{one_outline, one_trees, one_within, one_weight, bag_sound, taken_falls, taken_sound, taken_same, forward_falls, forward_sound, forward_same, backward_falls, backward_sound, backward_same, last_begins, none_trees, no_first, no_last, first_trees, first_within, first_weight, last_trees, last_within, last_weight}
 use Rattle.order_list.proofs.Children.{outlines_length}
 use Rattle.order_list.proofs.Taking.{sound_left, sound_right, sound_same}
 use Rattle.order_list.proofs.walk.+walk.Goals as goal
@@ -235,9 +236,88 @@ read_on-returns-then-is_empty-clause-found t c =
     gains_moved c.read_on.result (Reads (coming_trees rest.now)) (Reads (coming_trees coming)) c.args.columns.now.items c.args.limit c.args.found.now c.read_on.new.found
     (same_none (coming_trees rest.now) (coming_trees coming) (none_trees coming bag rest c.in-InAnyOrder.is none)) c.read_on.ensures.found
 
+-- a bag of one tree
+pub read_on-read_tree-requires : goal.read_on-read_tree-requires
+read_on-read_tree-requires t c =
+    let bag = c.in-InAnyOrder.bag in
+    let rest = c.in-InAnyOrder.rest in
+    let coming = c.args.coming.now in
+    let u = outline_of (get_or bag.trees.now 0 c.index-bag-0.result).now in
+    let one : outlines bag.trees.now ≡ u ∷ [] = one_outline bag.trees.now c.index-bag-0.result c.if-bag-eq1.true in (
+      omega (arith, one_weight coming bag rest u c.in-InAnyOrder.is one, c.decreases),
+      (
+        sound_same (trees_within coming) (u ∷ trees_within rest.now) (one_within coming bag rest u c.in-InAnyOrder.is one) c.requires.trees,
+        ready_moved (Reads (u ∷ coming_trees rest.now)) (Reads (coming_trees coming)) c.args.columns.now.items c.args.limit c.args.found.now
+            (same_bag u (coming_trees rest.now) (coming_trees coming) (one_trees coming bag rest u c.in-InAnyOrder.is one)) c.requires.ready,
+      ),
+    )
+
+pub read_on-returns-then-bag-eq1-clause-found : goal.read_on-returns-then-bag-eq1-clause-found
+read_on-returns-then-bag-eq1-clause-found t c =
+    let bag = c.in-InAnyOrder.bag in
+    let rest = c.in-InAnyOrder.rest in
+    let coming = c.args.coming.now in
+    let u = outline_of (get_or bag.trees.now 0 c.index-bag-0.result).now in
+    let one : outlines bag.trees.now ≡ u ∷ [] = one_outline bag.trees.now c.index-bag-0.result c.if-bag-eq1.true in
+    gains_moved c.read_tree.result (Reads (u ∷ coming_trees rest.now)) (Reads (coming_trees coming)) c.args.columns.now.items c.args.limit c.args.found.now c.read_tree.new.found
+    (same_bag u (coming_trees rest.now) (coming_trees coming) (one_trees coming bag rest u c.in-InAnyOrder.is one)) c.read_tree.ensures.found
+
+-- one tree: a node
+pub read_tree-each_next-requires : goal.read_tree-each_next-requires
+read_tree-each_next-requires t c =
+    let u = outline_of c.args.tree.now in
+    let us = coming_trees c.args.rest.now in (
+      omega (arith, c.decreases),
+      (
+        omega arith,
+        (
+          c.requires.trees,
+          ready_moved (Reads (p_node (forest (u ∷ [])) ∷ us)) (Reads (u ∷ us)) c.args.columns.now.items c.args.limit c.args.found.now (same_one u us (u ∷ us) refl) c.requires.ready,
+        ),
+      ),
+    )
+
+pub read_tree-returns-in_default : goal.read_tree-returns-in_default
+read_tree-returns-in_default t c =
+    let u = outline_of c.args.tree.now in
+    let us = coming_trees c.args.rest.now in
+    record {
+      columns = c.each_next.ensures.columns;
+      found =
+          gains_moved c.each_next.result (Reads (p_node (forest (u ∷ [])) ∷ us)) (Reads (u ∷ us)) c.args.columns.now.items c.args.limit c.args.found.now c.each_next.new.found (same_one u us (u ∷ us) refl)
+          c.each_next.ensures.found;
+    }
+
+-- one tree: a leaf
+pub read_tree-read_on-requires : goal.read_tree-read_on-requires
+read_tree-read_on-requires t c =
+    let u = outline_of c.args.tree.now in
+    let us = coming_trees c.args.rest.now in
+    let a = c.in-Leaf.column in
+    let is : u ≡ leaf a = ap outline_of c.in-Leaf.is ∙ outline_of-Leaf a in
+    let pushed = c.push.new.self.items in (
+      omega (arith, ap weight is, c.decreases),
+      (
+        sound_right (u ∷ []) (trees_within c.args.rest.now) c.requires.trees,
+        ready_moved (Reads us) (from_column a (Reads (u ∷ us))) pushed c.args.limit c.args.found.now (same_leaf u a a us is (subst (λ v. CanBegin v a) (sym is) ([], refl)))
+            (ready_pushed (Reads (u ∷ us)) c.args.columns.now.items pushed c.args.limit a c.args.found.now c.args.found.now c.in_ok-push.ensures.items c.requires.ready refl c.requires.ready.fresh c.requires.ready.few),
+      ),
+    )
+
+pub read_tree-returns-clause-found : goal.read_tree-returns-clause-found
+read_tree-returns-clause-found t c =
+    let u = outline_of c.args.tree.now in
+    let us = coming_trees c.args.rest.now in
+    let a = c.in-Leaf.column in
+    let is : u ≡ leaf a = ap outline_of c.in-Leaf.is ∙ outline_of-Leaf a in
+    let same = same_leaf u a a us is (subst (λ v. CanBegin v a) (sym is) ([], refl)) in
+    gains_only (Reads (u ∷ us)) c.args.columns.now.items c.push.new.self.items c.args.limit a c.args.found.now c.read_on.new.found c.requires.ready.fresh c.requires.ready.few c.in_ok-push.ensures.items
+    (leaf_first u a us is)
+    (gains_same (Reads us) (from_column a (Reads (u ∷ us))) c.push.new.self.items c.args.limit c.args.found.now c.read_on.new.found same.0 same.1 c.in_ok-read_on.ensures.found)
+
 -- trees in turn
-pub read_on-each_next-requires-in-Some : goal.read_on-each_next-requires-in-Some
-read_on-each_next-requires-in-Some t c =
+pub read_on-read_tree-requires-in-Some : goal.read_on-read_tree-requires-in-Some
+read_on-read_tree-requires-in-Some t c =
     let coming = c.args.coming.now in
     let trees = c.in-Forwards.trees in
     let rest = c.in-Forwards.rest in
@@ -246,12 +326,9 @@ read_on-each_next-requires-in-Some t c =
     let us = coming_trees (Forwards others rest) in (
       omega (arith, first_weight coming trees rest tree others c.in-Forwards.is c.in-Some.ensures.cases, c.decreases),
       (
-        omega arith,
-        (
-          sound_same (trees_within coming) (outline_of tree ∷ trees_within (Forwards others rest)) (first_within coming trees rest tree others c.in-Forwards.is c.in-Some.ensures.cases) c.requires.trees,
-          ready_moved (Reads (p_node (forest (outline_of tree ∷ [])) ∷ us)) (Reads (coming_trees coming)) c.args.columns.now.items c.args.limit c.args.found.now
-              (same_one (outline_of tree) us (coming_trees coming) (first_trees coming trees rest tree others c.in-Forwards.is c.in-Some.ensures.cases)) c.requires.ready,
-        ),
+        sound_same (trees_within coming) (outline_of tree ∷ trees_within (Forwards others rest)) (first_within coming trees rest tree others c.in-Forwards.is c.in-Some.ensures.cases) c.requires.trees,
+        ready_moved (Reads (outline_of tree ∷ us)) (Reads (coming_trees coming)) c.args.columns.now.items c.args.limit c.args.found.now
+            (same_trees (outline_of tree ∷ us) (coming_trees coming) (sym (first_trees coming trees rest tree others c.in-Forwards.is c.in-Some.ensures.cases))) c.requires.ready,
       ),
     )
 
@@ -263,8 +340,8 @@ read_on-returns-in-Some-clause-found t c =
     let tree = c.in-Some.tree.now in
     let others = c.in-Some.others in
     let us = coming_trees (Forwards others rest) in
-    gains_moved c.each_next-in-Some.result (Reads (p_node (forest (outline_of tree ∷ [])) ∷ us)) (Reads (coming_trees coming)) c.args.columns.now.items c.args.limit c.args.found.now c.each_next-in-Some.new.found
-    (same_one (outline_of tree) us (coming_trees coming) (first_trees coming trees rest tree others c.in-Forwards.is c.in-Some.ensures.cases)) c.each_next-in-Some.ensures.found
+    gains_moved c.read_tree-in-Some.result (Reads (outline_of tree ∷ us)) (Reads (coming_trees coming)) c.args.columns.now.items c.args.limit c.args.found.now c.read_tree-in-Some.new.found
+    (same_trees (outline_of tree ∷ us) (coming_trees coming) (sym (first_trees coming trees rest tree others c.in-Forwards.is c.in-Some.ensures.cases))) c.read_tree-in-Some.ensures.found
 
 pub read_on-returns-in-None-clause-found : goal.read_on-returns-in-None-clause-found
 read_on-returns-in-None-clause-found t c =
@@ -274,8 +351,8 @@ read_on-returns-in-None-clause-found t c =
     (same_trees (coming_trees rest.now) (coming_trees coming) (no_first coming c.in-Forwards.trees rest c.in-Forwards.is c.in-None.ensures.cases)) c.read_on-in-None.ensures.found
 
 -- the same backwards
-pub read_on-each_next-requires-in-Some-split_last : goal.read_on-each_next-requires-in-Some-split_last
-read_on-each_next-requires-in-Some-split_last t c =
+pub read_on-read_tree-requires-in-Some-split_last : goal.read_on-read_tree-requires-in-Some-split_last
+read_on-read_tree-requires-in-Some-split_last t c =
     let coming = c.args.coming.now in
     let trees = c.in-Backwards.trees in
     let rest = c.in-Backwards.rest in
@@ -285,12 +362,9 @@ read_on-each_next-requires-in-Some-split_last t c =
     let us = coming_trees (Backwards others rest) in (
       omega (arith, last_weight coming trees rest tree others c.in-Backwards.is found.ensures.cases, c.decreases),
       (
-        omega arith,
-        (
-          sound_same (trees_within coming) (outline_of tree ∷ trees_within (Backwards others rest)) (last_within coming trees rest tree others c.in-Backwards.is found.ensures.cases) c.requires.trees,
-          ready_moved (Reads (p_node (forest (outline_of tree ∷ [])) ∷ us)) (Reads (coming_trees coming)) c.args.columns.now.items c.args.limit c.args.found.now
-              (same_one (outline_of tree) us (coming_trees coming) (last_trees coming trees rest tree others c.in-Backwards.is found.ensures.cases)) c.requires.ready,
-        ),
+        sound_same (trees_within coming) (outline_of tree ∷ trees_within (Backwards others rest)) (last_within coming trees rest tree others c.in-Backwards.is found.ensures.cases) c.requires.trees,
+        ready_moved (Reads (outline_of tree ∷ us)) (Reads (coming_trees coming)) c.args.columns.now.items c.args.limit c.args.found.now
+            (same_trees (outline_of tree ∷ us) (coming_trees coming) (sym (last_trees coming trees rest tree others c.in-Backwards.is found.ensures.cases))) c.requires.ready,
       ),
     )
 
@@ -303,9 +377,9 @@ read_on-returns-in-Some-split_last-clause-found t c =
     let tree = found.tree.now in
     let others = found.others in
     let us = coming_trees (Backwards others rest) in
-    gains_moved c.each_next-in-Some-split_last.result (Reads (p_node (forest (outline_of tree ∷ [])) ∷ us)) (Reads (coming_trees coming)) c.args.columns.now.items c.args.limit c.args.found.now
-    c.each_next-in-Some-split_last.new.found (same_one (outline_of tree) us (coming_trees coming) (last_trees coming trees rest tree others c.in-Backwards.is found.ensures.cases))
-    c.each_next-in-Some-split_last.ensures.found
+    gains_moved c.read_tree-in-Some-split_last.result (Reads (outline_of tree ∷ us)) (Reads (coming_trees coming)) c.args.columns.now.items c.args.limit c.args.found.now
+    c.read_tree-in-Some-split_last.new.found (same_trees (outline_of tree ∷ us) (coming_trees coming) (sym (last_trees coming trees rest tree others c.in-Backwards.is found.ensures.cases)))
+    c.read_tree-in-Some-split_last.ensures.found
 
 pub read_on-returns-in-None-split_last-clause-found : goal.read_on-returns-in-None-split_last-clause-found
 read_on-returns-in-None-split_last-clause-found t c =

@@ -9,7 +9,10 @@ use Rattle.order_list.proofs.Gaining.{Below}
 use Rattle.order_list.proofs.walk.+walk.Given as goal
 
 abbrev pub decreases-read_on : goal.decreases-read_on
-decreases-read_on l = 8 * weight_within l.coming.now + 2
+decreases-read_on l = 8 * weight_within l.coming.now + 3
+
+abbrev pub decreases-read_tree : goal.decreases-read_tree
+decreases-read_tree l = 8 * (weight (outline_of l.tree.now) + weight_within l.rest.now) + 2
 
 abbrev pub decreases-each_next : goal.decreases-each_next
 decreases-each_next l = 8 * (weights (forest (outlines l.trees.now)) + weight_within l.rest.now) + 1
