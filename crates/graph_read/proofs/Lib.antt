@@ -13,5 +13,4 @@ pub mod FileLaws
 pub mod WrittenLaws
 pub mod Named
 pub mod RefusalLaws
-pub mod WordLines
 pub mod TableRefusals

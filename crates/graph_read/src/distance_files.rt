@@ -9,7 +9,7 @@ ghost use Rattle.graph_read.specs.DistanceSteps.{numbers_behind, is_row_at, tabl
 use crate::distances::Distances;
 use crate::graph_files::refusal;
 use crate::numbers::{is_past, is_zero, one_number, value_of};
-use matrix_read::{Numeral, next_filled_line, next_word, number, without_mark};
+use matrix_read::{Numeral, next_filled_line, next_number, without_mark};
 use row_model::{MAX_FILE_BYTES, MAX_ITEMS, NoMemory, Read, Refusal, code};
 use std::alloc::Global;
 
@@ -36,13 +36,13 @@ fn push_numbers(line: &[u8], values: &mut Vec<u64>) -> Result<Option<u8>, NoMemo
     ensures numbers { IfOk result (λ code. IfNone code (numbers_behind values.old.items (words_of line.now) ≡ Ok values.new.items)) }
 {
     let mut at = 0;
-    while let Some(word) = next_word(line, at, line.len()) {
-        match number(&line[word.start..word.end]) {
+    while let Some(word) = next_number(line, at) {
+        match word.number {
             Numeral::NotDigits => return Ok(Some(code::GRAMMAR)),
             Numeral::TooLarge => return Ok(Some(code::RANGE)),
             Numeral::Value(n) => values.push(n)?,
         }
-        at = word.end;
+        at = word.next;
     }
     Ok(None)
 }

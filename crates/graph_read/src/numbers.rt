@@ -3,7 +3,7 @@ ghost use Rattle.std.specs.Prelude.{◌≡◌, length};
 ghost use Rattle.matrix_read.specs.Words.{words_of};
 ghost use Rattle.graph_read.specs.Numbers.{is_number, is_zero, is_past, is_within, value_of, both_numbers, two_numbers, if_number, one_number};
 
-use matrix_read::{Numeral, next_word, number};
+use matrix_read::{Numeral, next_number};
 
 /// Two numbers that stand in a line, each of digits.
 #[derive(Clone, Copy)]
@@ -18,16 +18,15 @@ pub struct NumberPair {
 pub fn two_numbers(line: &[u8]) -> Option<NumberPair>
     ensures { result ≡ two_numbers (words_of line.now) }
 {
-    let end = line.len();
-    let Some(a) = next_word(line, 0, end) else {
+    let Some(a) = next_number(line, 0) else {
         return None;
     };
-    let Some(b) = next_word(line, a.end, end) else {
+    let Some(b) = next_number(line, a.next) else {
         return None;
     };
-    match next_word(line, b.end, end) {
+    match next_number(line, b.next) {
         Some(_) => None,
-        None => both_numbers(number(&line[a.start..a.end]), number(&line[b.start..b.end])),
+        None => both_numbers(a.number, b.number),
     }
 }
 
@@ -46,13 +45,12 @@ fn both_numbers(first: Numeral, second: Numeral) -> Option<NumberPair>
 pub fn one_number(line: &[u8]) -> Option<Numeral>
     ensures { result ≡ one_number (words_of line.now) }
 {
-    let end = line.len();
-    let Some(a) = next_word(line, 0, end) else {
+    let Some(a) = next_number(line, 0) else {
         return None;
     };
-    match next_word(line, a.end, end) {
+    match next_number(line, a.next) {
         Some(_) => None,
-        None => if_number(number(&line[a.start..a.end])),
+        None => if_number(a.number),
     }
 }
 

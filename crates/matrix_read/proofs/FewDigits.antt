@@ -1,5 +1,5 @@
 -- Words that are few digits.
-use Rattle.std.proofs.Common.{◌≡◌, ◌∙◌, ℕ, suc, ◌<◌, ◌≤◌, ◌+◌, ◌-◌, ◌*◌, ◌%◌, ◌^◌, ◌&&◌, ◌||◌, List, [], ◌∷◌, ◌++◌, true, false, length, take, drop, get_or, slice_range, refl, sym, ap, arith, append_assoc, length-drop}
+use Rattle.std.proofs.Common.{◌≡◌, ◌∙◌, ℕ, suc, ◌<◌, ◌≤◌, ◌+◌, ◌-◌, ◌*◌, ◌%◌, ◌^◌, ◌&&◌, ◌||◌, List, [], ◌∷◌, ◌++◌, true, false, length, take, drop, get_or, slice_range, refl, sym, ap, arith, drop-cons, Bool, not}
 use Rattle.std.proofs.lemmas.Bool.{and_parts}
 use Rattle.std.proofs.lemmas.Bool.Decides.{nat_tests}
 use Rattle.std.proofs.lemmas.Grind.{common_steps}
@@ -9,7 +9,7 @@ use Rattle.std.specs.List.{list_all, list_any}
 use Rattle.matrix_read.specs.Lines.{is_blank_byte}
 use Rattle.matrix_read.specs.Words.{begins_word, words_of, number_after, numeral_of}
 use Rattle.matrix_read.specs.declared.words.Numeral.TheVariants.{Value}
-use Rattle.matrix_read.proofs.WordLemmas.{numeral_small}
+use Rattle.matrix_read.proofs.WordLemmas.{numeral_small, words_of_blank}
 use Rattle.matrix_read.proofs.TextLemmas.{word_before}
 
 -- a digit is no blank
@@ -22,16 +22,13 @@ digits_filled (b ∷ word) h =
     let parts = and_parts (is_ascii_digit b) (list_all is_ascii_digit word) h in
     rw (digit_filled b parts.0) (digits_filled word parts.1)
 
--- a byte that is at most nine above the digit 0
-module _ (b : ℕ) (byte : b < 256) (low : (b + 208) % 256 ≤ 9) where
-  is_low : 48 ≤ b × b ≤ 57
-  is_low = (omega arith, omega arith)
+-- a byte from 0 to 9
+pub digit_byte : (b : ℕ) → 48 ≤ b → b ≤ 57 → is_ascii_digit b ≡ true
+digit_byte b low high = grind (arith, common_steps, nat_tests)
 
-  pub low_digit : is_ascii_digit b ≡ true
-  low_digit = let l = is_low in grind (arith, common_steps, nat_tests)
-
-  pub low_value : (b + 208) % 256 ≡ b - 48
-  low_value = omega arith
+-- a small value does not wrap
+pub value_fits : (v d : ℕ) → v * 10 + d < 2 ^ 64 → ((v * 10) % 2 ^ 64 + d) % 2 ^ 64 ≡ v * 10 + d
+value_fits v d small = omega (arith, small)
 
 -- a digit more at the end
 number_after-append : (n : ℕ) (xs ys : List ℕ) → number_after n (xs ++ ys) ≡ number_after (number_after n xs) ys
@@ -54,6 +51,18 @@ module _ (bytes : List ℕ) (i : ℕ) (lt : i < length bytes) where
 
   pub value_more : (v : ℕ) → v ≡ number_after 0 (take i bytes) → v * 10 + (get_or bytes i 0 - 48) ≡ number_after 0 (take (i + 1) bytes)
   value_more v is = rw (first_more, number_after-append 0 (take i bytes) (get_or bytes i 0 ∷ [])) (ap (λ n. n * 10 + (get_or bytes i 0 - 48)) is)
+
+-- a blank at a place
+pub words_past : (line : List ℕ) (at : ℕ) → at < length line → begins_word (drop at line) ≡ false → words_of (drop (at + 1) line) ≡ words_of (drop at line)
+words_past line at lt apart =
+    let next : at + 1 ≡ suc at = omega arith in
+    let front : drop at line ≡ get_or line at 0 ∷ drop (suc at) line = drop-cons line at 0 lt in
+    let blank : is_blank_byte (get_or line at 0) ≡ true = is_blank_of (is_blank_byte (get_or line at 0)) (rw front at apart) in
+    ap (λ n. words_of (drop n line)) next ∙ sym (ap words_of front ∙ words_of_blank (get_or line at 0) (drop (suc at) line) blank)
+  where
+    is_blank_of : (b : Bool) → not b ≡ false → b ≡ true
+    is_blank_of true h = refl
+    is_blank_of false h = absurd (cc)
 
 -- digits before bytes that begin no word
 module _ (line bytes : List ℕ) (start len : ℕ) (from : bytes ≡ drop start line) (some : 1 ≤ len) (within : len ≤ length bytes) (digits : list_all is_ascii_digit (take len bytes) ≡ true) where

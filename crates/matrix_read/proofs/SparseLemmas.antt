@@ -1,17 +1,22 @@
 -- Rows that name their columns.
-use Rattle.std.proofs.Common.{◌≡◌, ℕ, ◌<◌, ◌≤◌, ◌+◌, ◌||◌, List, [], ◌∷◌, length, slice_range, refl, sym, ap, ◌∙◌, Bool, true, false, None, Some, Ok, Err}
+use Rattle.std.proofs.Common.{◌≡◌, ℕ, arith, ◌<◌, ◌≤◌, ◌+◌, ◌||◌, List, [], ◌∷◌, length, slice_range, refl, sym, ap, ◌∙◌, Bool, true, false, None, Some, Ok, Err}
 use Rattle.std.proofs.lemmas.Bool.{lt-leb}
+use Rattle.std.proofs.lemmas.Bool.Decides.{nat_tests}
+use Rattle.std.proofs.lemmas.Grind.{common_steps}
 use Rattle.column_order.specs.Orders.{has}
 use Rattle.row_model.specs.Rows.{IsRow}
 use Rattle.row_model.specs.declared.refusal.Read.TheVariants as read
 use Rattle.row_model.specs.declared.TheConstants.{MAX_ROWS, MAX_FILE_BYTES}
 use Rattle.row_model.specs.declared.code.TheConstants.{LIMIT}
 use Rattle.matrix_read.specs.Lines.{is_blank, lines_of, without_mark}
-use Rattle.matrix_read.specs.Words.{words_of, only_word, blank_len, word_len, number_of}
+use Rattle.matrix_read.specs.Words.{words_of, only_word, blank_len, word_len, number_of, IsFirstNumber}
+use Rattle.matrix_read.specs.declared.words.Numeral.{Numeral}
+use Rattle.matrix_read.specs.declared.words.Numeral.TheVariants.{Value}
 use Rattle.matrix_read.specs.Sparse.{column_code, words_code, line_code, width_given, row_named, columns_named, named_rows, sparse_lines, sparse, further}
 use Rattle.matrix_read.specs.Rows.{numbered_lines}
-use Rattle.matrix_read.proofs.WordLemmas.{word_step, no_word}
+use Rattle.matrix_read.proofs.WordLemmas.{word_step, no_word, number_some, number_written}
 use Rattle.row_model.proofs.Filtered.{filtered_row}
+use Rattle.row_model.proofs.RowLemmas.{row_where}
 use Rattle.row_model.proofs.Limits.{too_long, short_enough}
 
 -- the columns of a row ascend
@@ -43,6 +48,24 @@ module _ (c : ℕ) (words rest : List (List ℕ)) (word : List ℕ) (is : words 
 pub words_end : (c : ℕ) (words : List (List ℕ)) → words ≡ [] → words_code c words ≡ None
 unfolding words_code
 words_end c words is = rw is refl
+
+-- a word that writes a column
+module _ (c : ℕ) (words later : List (List ℕ)) (number : Numeral) (first : IsFirstNumber words number later) (n : ℕ) (is : number ≡ Value n) (low : 1 ≤ n) (high : n ≤ c) where
+  writes_column : number_of first.word ≡ Some n
+  writes_column = number_some (number_of first.word) n (sym is ∙ first.writes)
+
+  pub code_behind : words_code c later ≡ words_code c words
+  code_behind = words_next c words later first.word first.is (ap (column_code c) writes_column ∙ taken)
+    where
+      taken : column_code c (Some n) ≡ None
+      taken = grind (arith, common_steps, nat_tests)
+
+  pub columns_behind : n ∷ columns_named later ≡ columns_named words
+  columns_behind = ap (λ k. k ∷ columns_named later) (sym (number_written first.word n writes_column)) ∙ ap columns_named (sym first.is)
+
+-- ascending columns that a line names are its row
+pub row_listed : (c : ℕ) (line row : List ℕ) → row ≡ columns_named (words_of line) → IsRow c row → row ≡ row_named c line
+row_listed c line row is ascends = row_where c row (has (columns_named (words_of line))) ascends (λ a l u. ap (λ (xs : List ℕ). has xs a) is)
 
 -- no mark is left to be made
 pub marks_end : (mark named : Bool) (words : List (List ℕ)) (column : ℕ) → words ≡ [] → (mark || has (columns_named words) column) ≡ named → mark ≡ named

@@ -1,5 +1,5 @@
 -- The words of a line, and the numbers that they write.
-use Rattle.std.specs.Prelude.{ℕ, suc, ◌+◌, ◌-◌, ◌*◌, ◌^◌, List, [], ◌∷◌, if◌then◌else◌, nat_lt, Bool, false, not, Option, Some, None}
+use Rattle.std.specs.Prelude.{◌≡◌, ℕ, suc, ◌+◌, ◌-◌, ◌*◌, ◌^◌, List, [], ◌∷◌, if◌then◌else◌, nat_lt, Bool, false, not, Option, Some, None}
 use Rattle.std.specs.Char.{is_ascii_digit}
 use Rattle.std.specs.List.{list_all}
 use Rattle.matrix_read.specs.Lines.{is_blank_byte, before_first}
@@ -52,3 +52,9 @@ numeral (Some n) = if nat_lt n (2 ^ 64) then Value n else TooLarge
 -- what a word is as a number of 64 bits
 abbrev pub numeral_of : List ℕ → Numeral
 numeral_of word = numeral (number_of word)
+
+-- the first of these words is this number, and the later words follow
+pub record IsFirstNumber (words : List (List ℕ)) (number : Numeral) (later : List (List ℕ)) : Type 0 where
+  pub word : List ℕ
+  pub is : words ≡ word ∷ later
+  pub writes : number ≡ numeral_of word

@@ -3,7 +3,7 @@ ghost use Rattle.std.specs.Prelude.{◌≡◌, ◌↔◌, ◌+◌, ◌<◌, ◌�
 ghost use Rattle.std.specs.Char.{is_ascii_digit};
 ghost use Rattle.std.specs.List.{list_all};
 ghost use Rattle.matrix_read.specs.Lines.{is_blank};
-ghost use Rattle.matrix_read.specs.Words.{blank_len, word_len, begins_word, words_of, number_after, numeral_of};
+ghost use Rattle.matrix_read.specs.Words.{blank_len, word_len, begins_word, words_of, number_after, numeral_of, IsFirstNumber};
 
 // So many digits write a number of 64 bits.
 const FEW_DIGITS: usize = 16;
@@ -79,67 +79,75 @@ fn count_word(bytes: &[u8]) -> usize
     bytes.len()
 }
 
-/// A word of a line as a number, and where it stands.
+/// A word of a line as a number.
 #[derive(Clone, Copy, Debug, PartialEq, Eq)]
 pub struct NumberWord {
     /// What the word is as a number.
     pub number: Numeral,
-    /// The place of the word's first byte.
-    pub start: usize,
-    /// The place after the word's last byte.
-    pub end: usize,
+    /// A place behind the word, from which the later words stand.
+    pub next: usize,
 }
 
 /// The first word from the place `at` of a line on, as a number; none exactly where no word is left.
 ///
-/// A word of few digits behind at most one space is gone over once.
+/// A word of few digits at the place itself is gone over once.
+#[inline(always)]
 pub fn next_number(line: &[u8], at: usize) -> Option<NumberWord>
     requires { at ≤ length line.now }
     ensures nothing { IfNone result (words_of (drop at line.now) ≡ []) }
-    ensures words { IfSome result (λ found. words_of (drop at line.now) ≡ slice_range line.now found.start found.end ∷ words_of (drop found.end line.now)) }
-    ensures number { IfSome result (λ found. found.number ≡ numeral_of (slice_range line.now found.start found.end)) }
-    ensures range { IfSome result (λ found. (at < found.end) × (found.end ≤ length line.now)) }
+    ensures first { IfSome result (λ word.
+        IsFirstNumber (words_of (drop at line.now)) word.number (words_of (drop word.next line.now))) }
+    ensures range { IfSome result (λ word. (at < word.next) × (word.next ≤ length line.now)) }
 {
-    if let Some(found) = short_number_at(line, at) {
-        return Some(found);
+    match short_number_at(line, at) {
+        Some(word) => Some(word),
+        None => any_number(line, at),
     }
+}
+
+// The first word from a place on as a number, whatever it is.
+fn any_number(line: &[u8], at: usize) -> Option<NumberWord>
+    requires { at ≤ length line.now }
+    ensures nothing { IfNone result (words_of (drop at line.now) ≡ []) }
+    ensures first { IfSome result (λ word.
+        IsFirstNumber (words_of (drop at line.now)) word.number (words_of (drop word.next line.now))) }
+    ensures range { IfSome result (λ word. (at < word.next) × (word.next ≤ length line.now)) }
+{
     match next_word(line, at, line.len()) {
         None => None,
         Some(word) => Some(NumberWord {
             number: number(&line[word.start..word.end]),
-            start: word.start,
-            end: word.end,
+            next: past_blank(line, word.end),
         }),
     }
 }
 
-// The first word from a place on as a number, if it is few digits behind at most one space.
+// The word at a place as a number, if it is few digits.
+#[inline(always)]
 fn short_number_at(line: &[u8], at: usize) -> Option<NumberWord>
     requires { at ≤ length line.now }
-    ensures words { IfSome result (λ found. words_of (drop at line.now) ≡ slice_range line.now found.start found.end ∷ words_of (drop found.end line.now)) }
-    ensures number { IfSome result (λ found. found.number ≡ numeral_of (slice_range line.now found.start found.end)) }
-    ensures range { IfSome result (λ found. (at < found.end) × (found.end ≤ length line.now)) }
+    ensures first { IfSome result (λ word.
+        IsFirstNumber (words_of (drop at line.now)) word.number (words_of (drop word.next line.now))) }
+    ensures range { IfSome result (λ word. (at < word.next) × (word.next ≤ length line.now)) }
 {
-    let start = past_space(line, at);
-    let digits = first_digits(&line[start..]);
-    let end = start + digits.len;
-    if digits.len == 0 || begins_word(&line[end..]) {
+    let digits = first_digits(&line[at..]);
+    let end = at + digits.len;
+    if digits.len == 0 || digits.len > FEW_DIGITS || begins_word(&line[end..]) {
         return None;
     }
     Some(NumberWord {
         number: Numeral::Value(digits.value),
-        start,
-        end,
+        next: past_blank(line, end),
     })
 }
 
-// The place behind the space that stands at a place, or this place.
-fn past_space(line: &[u8], at: usize) -> usize
+// The place behind the space or tab that stands at a place, or this place.
+fn past_blank(line: &[u8], at: usize) -> usize
     requires { at ≤ length line.now }
     ensures words { words_of (drop result line.now) ≡ words_of (drop at line.now) }
     ensures range { (at ≤ result) × (result ≤ length line.now) }
 {
-    if at < line.len() && line[at] == b' ' {
+    if at < line.len() && !begins_word(&line[at..]) {
         at + 1
     } else {
         at
@@ -156,31 +164,33 @@ fn begins_word(bytes: &[u8]) -> bool
     }
 }
 
-// Digits at the front of a word.
+// Digits at the front of bytes.
 #[derive(Clone, Copy)]
 struct Digits {
-    // The number that they write.
+    // The number that they write, if they are few.
     value: u64,
     // How many they are.
     len: usize,
 }
 
-// The digits at the front, or the first few of them.
+// The digits at the front.
 fn first_digits(bytes: &[u8]) -> Digits
     ensures digits { list_all is_ascii_digit (take result.len bytes.now) ≡ true }
-    ensures value { result.value ≡ number_after 0 (take result.len bytes.now) }
+    ensures value { result.len ≤ FEW_DIGITS → result.value ≡ number_after 0 (take result.len bytes.now) }
     ensures within { result.len ≤ length bytes.now }
 {
     let mut value = 0u64;
-    let len = bytes.len().min(FEW_DIGITS);
-    for i in 0..len {
-        let digit = bytes[i].wrapping_sub(b'0');
-        if digit > 9 {
+    for i in 0..bytes.len() {
+        let byte = u64::from(bytes[i]);
+        if byte < 48 || byte > 57 {
             return Digits { value, len: i };
         }
-        value = value * 10 + u64::from(digit);
+        value = value.wrapping_mul(10).wrapping_add(byte - 48);
     }
-    Digits { value, len }
+    Digits {
+        value,
+        len: bytes.len(),
+    }
 }
 
 /// The number that a word writes in decimal digits.
@@ -253,10 +263,10 @@ mod tests {
     #[test]
     fn a_word_is_a_number_or_none(rt: HostRuntime) {
         let line = b" 12\t007x  00000000000000003";
-        let found = |number, start, end| Some(NumberWord { number, start, end });
-        assert_eq!(rt; next_number(line, 0), found(Numeral::Value(12), 1, 3));
-        assert_eq!(rt; next_number(line, 3), found(Numeral::NotDigits, 4, 8));
-        assert_eq!(rt; next_number(line, 8), found(Numeral::Value(3), 10, 27));
+        let found = |number, next| Some(NumberWord { number, next });
+        assert_eq!(rt; next_number(line, 0), found(Numeral::Value(12), 4));
+        assert_eq!(rt; next_number(line, 4), found(Numeral::NotDigits, 9));
+        assert_eq!(rt; next_number(line, 9), found(Numeral::Value(3), 27));
         assert_eq!(rt; next_number(line, 27), None);
     }
 

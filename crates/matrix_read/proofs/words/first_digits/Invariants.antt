@@ -1,4 +1,4 @@
-use Rattle.std.proofs.Common.{◌≡◌, ◌*◌, ◌^◌, ◌<◌, true, take}
+use Rattle.std.proofs.Common.{◌≡◌, ◌*◌, ◌^◌, ◌<◌, ◌≤◌, true, take}
 use Rattle.std.specs.Char.{is_ascii_digit}
 use Rattle.std.specs.List.{list_all}
 use Rattle.matrix_read.specs.Words.{number_after}
@@ -7,6 +7,5 @@ use Rattle.matrix_read.proofs.words.first_digits.Given as goal
 abbrev pub invariant-loop-i : goal.invariant-loop-i
 invariant-loop-i l = record {
   digits : list_all is_ascii_digit (take l.i l.bytes) ≡ true;
-  value : l.value ≡ number_after 0 (take l.i l.bytes);
-  small : l.value < 2 ^ (4 * l.i);
+  value : l.i ≤ 16 → (l.value ≡ number_after 0 (take l.i l.bytes)) × (l.value < 2 ^ (4 * l.i));
 }

@@ -1,13 +1,20 @@
-use Rattle.std.proofs.Common.{◌≡◌, ◌∙◌, ◌+◌, sym, arith, slice_range, length}
+use Rattle.std.proofs.Common.{◌≡◌, ◌∙◌, ◌≤◌, ◌+◌, ◌∷◌, sym, ap, arith, slice_range, length}
 use Rattle.matrix_read.proofs.WordLemmas.{to_end}
-use Rattle.matrix_read.proofs.FewDigits.{digits_word}
+use Rattle.matrix_read.proofs.FewDigits.{digits_word, digits_numeral}
 use Rattle.matrix_read.proofs.words.short_number_at.Goals as goal
 
-pub returns-clause-words : goal.returns-clause-words
-returns-clause-words c =
+pub returns-clause-first : goal.returns-clause-first
+returns-clause-first c =
     let line = c.args.line.now in
-    let start = c.past_space-start.result in
-    let digits = c.first_digits-digits.ensures in
-    sym c.past_space-start.ensures.words
-    ∙ digits_word line (slice_range line start (length line)) start c.first_digits-digits.result.len (to_end line start) (omega arith) digits.within digits.digits
-    (rw (to_end line (start + c.first_digits-digits.result.len)) at (sym c.begins_word.ensures ∙ c.if-begins_word.false))
+    let at = c.args.at in
+    let len = c.first_digits-digits.result.len in
+    let found = c.first_digits-digits.ensures in
+    let some : 1 ≤ len = omega arith in
+    let apart = rw (to_end line (at + len)) at (sym c.begins_word.ensures ∙ c.if-begins_word.false) in
+    record {
+      word = slice_range line at (at + len);
+      is = digits_word line (slice_range line at (length line)) at len (to_end line at) some found.within found.digits apart
+          ∙ ap (λ later. slice_range line at (at + len) ∷ later) (sym c.past_blank.ensures.words);
+      writes = digits_numeral line (slice_range line at (length line)) at len (to_end line at) some found.within found.digits
+          c.first_digits-digits.result.value (found.value c.if-digits-gt-FEW_DIGITS.false) (omega arith);
+    }
