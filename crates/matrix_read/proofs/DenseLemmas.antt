@@ -1,8 +1,9 @@
 -- Rows as lines of digits.
 use Rattle.std.proofs.Common.{◌≡◌, ℕ, suc, ◌<◌, ◌≤◌, ◌+◌, ◌-◌, List, [], ◌∷◌, length, get_or, ap, sym, ◌∙◌, refl, arith, Some, None, true, false, if◌then◌else◌, ◌==◌, ◌||◌, ◌&&◌, not, Bool, nat_lt, nat_le, eqb-true, eq-eqb}
-use Rattle.std.specs.List.{list_any}
+use Rattle.std.specs.List.{list_any, list_all}
+use Rattle.std.proofs.lemmas.Bool.{and_parts}
 use Rattle.row_model.proofs.Filtered.{filtered_row}
-use Rattle.row_model.specs.Rows.{IsRow}
+use Rattle.row_model.specs.Rows.{IsRow, columns_where}
 use Rattle.row_model.specs.declared.refusal.Read.TheVariants as read
 use Rattle.row_model.specs.declared.TheConstants.{MAX_COLUMNS, MAX_ROWS, MAX_FILE_BYTES}
 use Rattle.row_model.specs.declared.code.TheConstants.{GRAMMAR, COUNT, LIMIT}
@@ -93,3 +94,22 @@ dense_long bytes h = too_long bytes _ h
 pub dense_short : (bytes : List ℕ) → length bytes ≤ MAX_FILE_BYTES → dense bytes ≡ read_lines (filled_lines 1 (lines_of (without_mark bytes)))
 unfolding dense
 dense_short bytes h = short_enough bytes _ h
+
+-- a line that is digits alone
+module _ (line : List ℕ) where
+  pub alone_digits : list_all is_digit line ≡ true → digits_of line ≡ line
+  alone_digits h = each line h
+    where
+      each : (xs : List ℕ) → list_all is_digit xs ≡ true → digits_of xs ≡ xs
+      each [] h = refl
+      each (b ∷ xs) h = let parts = and_parts (is_digit b) (list_all is_digit xs) h in rw parts.0 (ap (λ t. b ∷ t) (each xs parts.1))
+
+  pub alone_clean : list_all is_digit line ≡ true → list_any is_foreign_byte line ≡ false
+  alone_clean h = each line h
+    where
+      each : (xs : List ℕ) → list_all is_digit xs ≡ true → list_any is_foreign_byte xs ≡ false
+      each [] h = refl
+      each (b ∷ xs) h = let parts = and_parts (is_digit b) (list_all is_digit xs) h in rw parts.0 (each xs parts.1)
+
+  pub alone_row : list_all is_digit line ≡ true → columns_where (length line) (λ column. get_or line (column - 1) 0 == 49) ≡ digit_row line
+  alone_row h = sym (places_columns (λ digit. digit == 49) 0 line) ∙ ap (ones_from 1) (sym (alone_digits h)) ∙ ones_columns line

@@ -1,8 +1,9 @@
 // A matrix as lines of digits.
-ghost use Rattle.std.specs.Prelude.{◌≡◌, ◌+◌, ◌-◌, ◌^◌, ◌<◌, ◌≤◌, ◌↔◌, ◌⊎◌, slice_set, [], length, take, Some, None, IsNone, IfOk, IfErr, IfSome, IsTrue};
-ghost use Rattle.std.specs.List.{list_any};
+ghost use Rattle.std.specs.Prelude.{◌≡◌, ◌+◌, ◌-◌, ◌^◌, ◌<◌, ◌≤◌, ◌↔◌, ◌⊎◌, ◌==◌, ℕ, slice_set, slice_index_or, [], length, take, Some, None, IsNone, IfOk, IfErr, IfSome, IsTrue};
+ghost use Rattle.std.specs.List.{list_any, list_all};
+ghost use Rattle.row_model.specs.Rows.{columns_where};
 ghost use Rattle.matrix_read.specs.Lines.{lines_of, filled_lines};
-ghost use Rattle.matrix_read.specs.Dense.{is_foreign_byte, width_of, digit_row, row_code, read_lines, dense};
+ghost use Rattle.matrix_read.specs.Dense.{is_digit, is_foreign_byte, width_of, digit_row, row_code, read_lines, dense};
 ghost use Rattle.matrix_read.specs.DenseSteps.{rows_or_refusal};
 ghost use Rattle.matrix_read.specs.Written.{DenseLaw};
 
@@ -131,6 +132,51 @@ struct Digits {
 // The digits of a line, if it has no other bytes but spaces and tabs. The columns of its ones stand at the front of
 // `columns` then, if that has an entry for each digit.
 fn scan(line: &[u8], columns: &mut [u32]) -> Option<Digits>
+    requires { length columns.old < 2 ^ 32 }
+    ensures foreign { IsNone result ↔ IsTrue (list_any is_foreign_byte line.now) }
+    ensures width { IfSome result (λ digits. digits.all ≡ width_of line.now) }
+    ensures row { IfSome result (λ digits. width_of line.now ≤ length columns.new → take digits.ones columns.new ≡ digit_row line.now) }
+    ensures within { IfSome result (λ digits. digits.ones ≤ length columns.new) }
+{
+    if line.len() == columns.len() && is_digits_alone(line) {
+        return Some(Digits {
+            all: line.len(),
+            ones: list_ones(line, columns),
+        });
+    }
+    scan_any(line, columns)
+}
+
+// Whether each byte is 0 or 1. Each is looked at, which costs less than a branch for each.
+fn is_digits_alone(line: &[u8]) -> bool
+    ensures { result ≡ list_all is_digit line.now }
+{
+    let mut alone = true;
+    for byte in line {
+        alone = alone & (*byte == b'0' || *byte == b'1');
+    }
+    alone
+}
+
+// How many bytes are a 1. Their columns stand at the front of `columns` then. Each column is written, which costs less
+// than a branch, and only a 1 keeps its entry.
+fn list_ones(line: &[u8], columns: &mut [u32]) -> usize
+    requires small { length columns.old < 2 ^ 32 }
+    requires room { length line.now ≤ length columns.old }
+    ensures columns { take result columns.new
+        ≡ columns_where (length line.now) (λ column. slice_index_or line.now (column - 1) 0 == 49) }
+    ensures within { result ≤ length columns.new }
+{
+    let mut ones = 0;
+    for j in 0..line.len() {
+        columns[ones] = j as u32 + 1;
+        ones += usize::from(line[j] == b'1');
+    }
+    ones
+}
+
+// The same, byte by byte.
+fn scan_any(line: &[u8], columns: &mut [u32]) -> Option<Digits>
     requires { length columns.old < 2 ^ 32 }
     ensures foreign { IsNone result ↔ IsTrue (list_any is_foreign_byte line.now) }
     ensures width { IfSome result (λ digits. digits.all ≡ width_of line.now) }

@@ -2,7 +2,7 @@ use Rattle.std.proofs.Common.{◌≡◌, ◌≤◌, ◌+◌, ◌++◌, drop, tak
 use Rattle.std.specs.List.{list_any}
 use Rattle.matrix_read.specs.Dense.{is_foreign_byte, digits_of, width_of}
 use Rattle.matrix_read.proofs.DenseLemmas.{ones_from}
-use Rattle.matrix_read.proofs.dense.scan.Given as goal
+use Rattle.matrix_read.proofs.dense.scan_any.Given as goal
 
 abbrev pub invariant-loop-byte : goal.invariant-loop-byte
 invariant-loop-byte l = record {
