@@ -1,5 +1,5 @@
 // The cells of a table: its fields without the spaces and tabs at both ends.
-ghost use Rattle.std.specs.Prelude.{◌≡◌, ◌+◌, ◌<◌, ◌≤◌, ◌↔◌, ◌∷◌, length, drop, map, false, Some, IsNone, IfSome, IsTrue};
+ghost use Rattle.std.specs.Prelude.{◌≡◌, ◌==◌, not, ◌+◌, ◌<◌, ◌≤◌, ◌↔◌, ◌∷◌, length, drop, map, false, Some, IsNone, IfSome, IsTrue};
 ghost use Rattle.std.specs.Int.{from_bool};
 ghost use Rattle.csv.specs.Records.{field_at, fields_of};
 ghost use Rattle.matrix_read.specs.Lines.{is_blank_byte};
@@ -34,8 +34,8 @@ pub fn entry(field: &[u8]) -> Option<u8>
     ensures present { IfSome result (λ one. one ≡ from_bool (is_present (trimmed field.now))) }
 {
     let digit = lone_digit(field);
-    if digit <= 1 {
-        return Some(digit);
+    if digit <= 9 {
+        return Some(u8::from(digit != 0));
     }
     if is_cross(field) {
         return Some(1);
@@ -43,14 +43,14 @@ pub fn entry(field: &[u8]) -> Option<u8>
     cell_entry(trimmed(field))
 }
 
-// The digit in a field of one byte, as most filled ones of large tables are; a number above 1 for every other field. No
-// branch tells 0 from 1, since none could be foretold.
+// The digit in a field of one byte, as most filled ones of large tables are; a number above 9 for every other field. No
+// branch tells 0 from another digit, since none could be foretold.
 #[inline(always)]
 fn lone_digit(field: &[u8]) -> u8
-    ensures { result ≤ 1 → (is_foreign_cell (trimmed field.now) ≡ false) × (result ≡ from_bool (is_present (trimmed field.now))) }
+    ensures { result ≤ 9 → (is_foreign_cell (trimmed field.now) ≡ false) × (is_present (trimmed field.now) ≡ not (result == 0)) }
 {
     if field.len() != 1 {
-        return 2;
+        return 10;
     }
     field[0].wrapping_sub(b'0')
 }
