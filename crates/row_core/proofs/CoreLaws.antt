@@ -13,6 +13,7 @@ use Rattle.row_model.specs.declared.TheConstants.{MAX_COLUMNS}
 use Rattle.row_model.specs.declared.kind.Kind.{Kind}
 use Rattle.row_model.specs.declared.graph.Line.{Line}
 use Rattle.row_core.specs.Parts.{CoreParts}
+use Rattle.row_core.specs.Laws.{OneCoreLaw}
 use Rattle.row_core.specs.Texts.{TextValue, IsColumnCount, IsEntry, IsLine, IsInGrammar, entries, kind_word, entry_text, line_text, counted_text, core_text}
 use Rattle.row_core.specs.Reading.{all_kinds, kind_at, kind_from, column_count_at, counted_at, entry_at, line_at, row_of, order_of, text_value, core_of}
 use Rattle.row_core.proofs.KindLaws.{kind_takes, kind_again}
@@ -150,3 +151,7 @@ at_end x n e = ap (λ b. cond b (Some x) None) e
 
 pub before_end : (x : TextValue) (n : ℕ) → eqb n 0 ≡ false → cond (eqb n 0) (Some x) None ≡ None
 before_end x n e = ap (λ b. cond b (Some x) None) e
+
+-- the text is read as what it says
+pub one_core : OneCoreLaw
+one_core t u g h e = same_Some t u (sym (core_again t g) ∙ ap core_of e ∙ core_again u h)

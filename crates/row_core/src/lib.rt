@@ -39,7 +39,7 @@ mod write;
 pub use core_parts::Core;
 pub use find::{Cored, find_core};
 pub use judge::{Judge, Judged};
-pub use laws::blame_law;
+pub use laws::{blame_law, one_core};
 pub use read::parse_core;
 pub use row_model::NoMemory;
 pub use text::CoreText;
