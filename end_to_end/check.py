@@ -3,12 +3,12 @@
 limits; runs the commands of the pages; compares the answer on every small instance with a plain program that tries all orders, and has
 the verdict checked; compares the judgement on forged verdicts and the refusals of changed files with a second checker, and that on right
 verdicts with other trees with a plain program that lists all orders; compares generated matrices and sessions with plain programs of their
-rules; bounds what hostile files cost; and tries the first call of `./pq`.
+rules, and what two trees share with one that lists all orders; bounds what hostile files cost; and tries the first call of `./pq`.
 
 Usage: end_to_end/check.py [PART ..]   after `rt ci` or `./pq`, which leave the program in crates/pq/out/pq
 
 PARTs pick some of the checks: `cases` (files and streams), `pages`, `answers` (of small instances, at the limits, of `gen` and of sessions),
-`forgeries`, `trees`, `hostile`, `first_call`; default all. The last line is `N passed, N failed`; the status is 0 where nothing failed.
+`forgeries`, `trees`, `meetings`, `hostile`, `first_call`; default all. The last line is `N passed, N failed`; the status is 0 where nothing failed.
 """
 
 import concurrent.futures
@@ -21,6 +21,7 @@ import tempfile
 import all_kinds
 import first_call
 import forgeries
+import meetings
 import other_trees
 from cases import CASES, REFUTED
 from file_readers import Limits
@@ -93,6 +94,7 @@ def example(name):
 def in_folders(report, top, program):
     """The cases and the streams, each in a folder of its own."""
     tried = [(case["name"], run_case, case) for case in CASES + KIND_CASES + GRAPH_CASES + SESSION_CASES + FORGED_CASES]
+    tried += [(case["name"], run_case, case) for case in meetings.MEET_CASES]
     tried += [(name, lambda _, *given, stream=stream: stream(*given), None) for name, stream in streams()]
     for number, (name, check, case) in enumerate(tried):
         folder = os.path.join(top, str(number))
@@ -140,6 +142,7 @@ def without_folders():
 # The checks that tell each name with its problem, by the words that pick them.
 FURTHER = {"forgeries": lambda: forgeries.compared(Limits()), "trees": other_trees.compared, "hostile": hostile_problems,
            "first_call": first_call.problems}
+FURTHER["meetings"] = meetings.compared
 PARTS = ["cases", "pages", "answers", *FURTHER]
 
 

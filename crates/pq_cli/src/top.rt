@@ -38,6 +38,8 @@ use std::alloc::Global;
 /// | 4 | a file can't be read |
 /// | 5 | the reply can't be written; some first bytes of it were |
 /// | 6 | memory is refused |
+///
+/// `meet` ends with 0 where the trees share an order, with 1 where they share none, and with 3 where a tree is refused.
 pub fn run<F: Shelf, O: Sink, E: Sink>(
     alloc: Global,
     words: &[String],

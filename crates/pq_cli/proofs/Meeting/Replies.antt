@@ -1,14 +1,11 @@
 -- What a reply to `meet` tells.
-use Rattle.std.proofs.Common.{◌≡◌, ◌⊎◌, ◌↔◌, ◌∙◌, ℕ, ◌≤◌, List, [], ◌∷◌, ◌++◌, sym, ap, subst, inl, inr, arith, append_assoc}
-use Rattle.row_model.specs.declared.TheConstants.{MAX_COLUMNS, MAX_FILE_BYTES}
-use Rattle.row_model.specs.declared.refusal.Read.{Read}
+use Rattle.std.proofs.Common.{◌≡◌, ◌∙◌, ℕ, ◌≤◌, List, [], ◌∷◌, ◌++◌, sym, ap, subst, inl, inr, arith, append_assoc}
+use Rattle.row_model.specs.declared.TheConstants.{MAX_COLUMNS}
 use Rattle.row_model.specs.declared.refusal.Read.TheVariants as read
 use Rattle.pq_tree.specs.Outline.{Outline}
-use Rattle.tree_meet.specs.Meets.{IsCommon}
 use Rattle.pq_cli.specs.Words.{Meet}
 use Rattle.pq_cli.specs.Replies.{Replies}
-use Rattle.pq_cli.specs.Meet.TreeFiles.{tree_file, WritesTree}
-use Rattle.pq_cli.specs.Meet.Meetings.{TellsCommon, TellsApart, IsMeetingReply}
+use Rattle.pq_cli.specs.Meet.Meetings.{IsMeetingReply}
 use Rattle.pq_cli.specs.Meet.Laws.{WriteTrees, MeetStatusLaw, MeetTextLaw}
 use Rattle.pq_cli.proofs.Meeting.Files.{file_law}
 

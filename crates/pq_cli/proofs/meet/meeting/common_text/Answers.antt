@@ -1,10 +1,9 @@
-use Rattle.std.proofs.Common.{◌≡◌, ◌∙◌, ℕ, List, ◌++◌, ap, subst}
+use Rattle.std.proofs.Common.{◌∙◌, ℕ, List, ◌++◌, ap, subst}
 use Rattle.std.specs.Prelude.{codes}
-use Rattle.pq_tree.specs.Outline.{leaves}
 use Rattle.pq_tree.specs.Proper.{IsProper}
 use Rattle.pq_tree.specs.PqTree.{column_count, outline}
 use Rattle.verdict_text.specs.Verdict.{SideValue}
-use Rattle.pq_cli.specs.Meet.Meetings.{ShowsCommon, head_text}
+use Rattle.pq_cli.specs.Meet.Meetings.{head_text}
 use Rattle.verdict_text.specs.Text.{side_text}
 use Rattle.pq_cli.proofs.Meeting.Replies.{four_parts}
 use Rattle.pq_cli.proofs.meet.meeting.common_text.Goals as goal
