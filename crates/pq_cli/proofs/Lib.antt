@@ -6,4 +6,5 @@ pub mod Checking
 pub mod Extending
 pub mod Generating
 pub mod Meeting
+pub mod Listing
 pub mod Promises

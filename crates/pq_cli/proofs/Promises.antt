@@ -8,7 +8,7 @@ use Rattle.row_model.specs.declared.refusal.Read.{Read}
 use Rattle.row_model.specs.declared.refusal.Read.TheVariants as read
 use Rattle.verdict_text.specs.Verdict.{Claim, yes_claim, no_claim}
 use Rattle.instance_model.specs.Instance.{InstanceValue, HasTextbookOrder}
-use Rattle.pq_cli.specs.Words.{Command, Solve, Check, Extend, Gen, Meet, files_of}
+use Rattle.pq_cli.specs.Words.{Command, Solve, Check, Extend, Gen, Meet, ListOrders, files_of}
 use Rattle.pq_cli.specs.Replies.{refusable, refused_at, refused_behind, refused_of_two, refusal_of, Replies}
 use Rattle.pq_cli.specs.Runs.{AllTold, WhereFirstTold, ForCommand, TakesFiles, WritesOut, CountsWrites}
 use Rattle.pq_cli.specs.Solve.Verdicts.{IsClaimOf, status_of}
@@ -81,6 +81,13 @@ unrefused told (Meet c name other) (bytes ∷ given ∷ []) which refusal t none
           absurd (cc)
     ]
 unrefused told (Meet c name other) (bytes ∷ given ∷ more ∷ files) which refusal t none from to first = absurd t.1.1
+unrefused told (ListOrders kind name count) [] which refusal t none from to first = absurd t
+unrefused told (ListOrders kind name count) (bytes ∷ []) which refusal t none from to first =
+    let one : which ≡ 1 = omega (arith, from, to) in
+    let found : refusal_of (ListOrders kind name count) (bytes ∷ []) ≡ Some (1, refusal) =
+    subst (λ n. WhereFirstTold told (ListOrders kind name count) n (λ fs. refusal_of (ListOrders kind name count) fs ≡ Some (n, refusal))) one first (bytes ∷ []) t in
+    absurd (cc)
+unrefused told (ListOrders kind name count) (bytes ∷ more ∷ files) which refusal t none from to first = absurd t.1
 
 -- where there is a reply, no file is refused
 replied_unrefused : (c : Command) (files : List (List ℕ)) (status : ℕ) (text : List ℕ) → Replies c files status text → refusal_of c files ≡ None
@@ -103,6 +110,9 @@ replied_unrefused (Meet c name other) (bytes ∷ []) status text reply = absurd 
 replied_unrefused (Meet c name other) (bytes ∷ given ∷ []) status text reply =
     ap (λ first. refused_of_two first (tree_file c given)) reply.2 ∙ ap (refused_at 2) reply.3
 replied_unrefused (Meet c name other) (bytes ∷ given ∷ more ∷ files) status text reply = absurd reply
+replied_unrefused (ListOrders kind name count) [] status text reply = absurd reply
+replied_unrefused (ListOrders kind name count) (bytes ∷ []) status text reply = ap (refused_at 1) reply.1
+replied_unrefused (ListOrders kind name count) (bytes ∷ more ∷ files) status text reply = absurd reply
 
 -- the statuses that are left
 left_statuses : (status : ℕ) → status ≤ 6 → status ≢ 2 → status ≢ 4 → status ≢ 5 → status ≢ 6 → (status ≡ 0) ⊎ (status ≡ 1) ⊎ (status ≡ 3)
@@ -215,3 +225,4 @@ module _ (no_law : NoStatusLaw) (yes_law : YesStatusLaw) (orders_law : OrdersLaw
   promise_law (Extend kind file rows) files status text reply = tt
   promise_law (Gen seed columns rows) files status text reply = tt
   promise_law (Meet c first second) files status text reply = tt
+  promise_law (ListOrders kind file count) files status text reply = tt

@@ -6,6 +6,7 @@ pub mod Check
 pub mod Extend
 pub mod Gen
 pub mod Meet
+pub mod Listed
 pub mod Replies
 pub mod Stops
 pub mod Reading

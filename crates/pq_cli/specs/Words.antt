@@ -8,6 +8,7 @@ use Rattle.row_model.specs.declared.TheConstants.{MAX_COLUMNS, MAX_ROWS}
 use Rattle.matrix_read.specs.Words.{numeral_of}
 use Rattle.matrix_read.specs.declared.words.Numeral.{Numeral}
 use Rattle.matrix_read.specs.declared.words.Numeral.TheVariants.{Value, TooLarge, NotDigits}
+use Rattle.order_list.specs.declared.TheConstants.{MAX_ORDERS}
 use Rattle.verdict_text.specs.Text.{kind_word}
 use Rattle.verdict_text.specs.Reading.{all_kinds, ◌>>=◌}
 
@@ -23,6 +24,8 @@ pub data Command : Type 0 where
   Gen : (seed columns rows : ℕ) → Command
   -- `meet COLUMNS TREE1 TREE2`
   Meet : (columns : ℕ) (first second : List ℕ) → Command
+  -- `list KIND FILE K`
+  ListOrders : (kind : Kind) (file : List ℕ) (count : ℕ) → Command
 
 -- the words as bytes
 abbrev pub texts : {A : Type 0} → List (String A) → List (List ℕ)
@@ -82,6 +85,13 @@ gen_of seed columns rows = do
 abbrev pub meet_of : List ℕ → List ℕ → List ℕ → Option Command
 meet_of columns first second = if are_both_input first second then None else option_map (λ c. Meet c first second) (number_in 1 MAX_COLUMNS columns)
 
+-- `list` with these words: a kind that `extend` takes, and a number of orders within the limit
+abbrev pub list_of : List ℕ → List ℕ → List ℕ → Option Command
+list_of kind file count = do
+  k ← extended_kind_of kind
+  n ← number_in 1 MAX_ORDERS count
+  Some (ListOrders k file n)
+
 -- the command of these words, or none where they are outside the grammar
 abbrev pub command_of : List (List ℕ) → Option Command
 command_of (verb ∷ kind ∷ file ∷ []) = if bytes_eq verb (codes "solve") then option_map (λ k. Solve k file) (kind_of kind) else None
@@ -90,6 +100,7 @@ command_of (verb ∷ first ∷ second ∷ third ∷ []) =
     else if bytes_eq verb (codes "extend") then extend_of first second third
     else if bytes_eq verb (codes "gen") then gen_of first second third
     else if bytes_eq verb (codes "meet") then meet_of first second third
+    else if bytes_eq verb (codes "list") then list_of first second third
     else None
 command_of words = None
 
@@ -98,6 +109,7 @@ abbrev pub IsInGrammar : Command → Type 0
 IsInGrammar (Extend kind file rows) = IsExtended kind
 IsInGrammar (Gen seed columns rows) = (1 ≤ columns) × (columns ≤ MAX_COLUMNS) × (rows ≤ MAX_ROWS)
 IsInGrammar (Meet columns first second) = (1 ≤ columns) × (columns ≤ MAX_COLUMNS)
+IsInGrammar (ListOrders kind file count) = IsExtended kind × (1 ≤ count) × (count ≤ MAX_ORDERS)
 IsInGrammar command = ⊤
 
 -- the names of a command's files, in the order in which they are read
@@ -107,3 +119,4 @@ files_of (Check kind file verdict) = file ∷ verdict ∷ []
 files_of (Extend kind file rows) = file ∷ rows ∷ []
 files_of (Gen seed columns rows) = []
 files_of (Meet columns first second) = first ∷ second ∷ []
+files_of (ListOrders kind file count) = file ∷ []

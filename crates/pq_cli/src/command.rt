@@ -7,6 +7,7 @@ use crate::check::check_file;
 use crate::extend::extend_file;
 use crate::generator::summary_reply;
 use crate::meet::meet_files;
+use crate::list::list_file;
 use crate::solve::solve_file;
 use crate::stop::Stop;
 use crate::words::Task;
@@ -50,5 +51,6 @@ pub fn perform<F: Shelf>(alloc: Global, task: &Task<'_>, files: &mut F) -> Resul
             first,
             second,
         } => meet_files(alloc, *columns, first, second, files),
+        Task::ListOrders { kind, file, count } => list_file(alloc, *kind, file, *count, files),
     }
 }

@@ -99,8 +99,8 @@ fn extended<L: Ledger>(
     }
 }
 
-// The reply on a matrix without a valid order, which its cycle shows.
-fn no_reply(alloc: Global, kind: Kind, columns: u32, cycle: Cycle) -> Result<Reply, NoMemory>
+/// The reply on a matrix without a valid order, which its cycle shows.
+pub fn no_reply(alloc: Global, kind: Kind, columns: u32, cycle: Cycle) -> Result<Reply, NoMemory>
     requires { (1 ≤ columns) × (columns ≤ MAX_COLUMNS) }
     ensures reply { IfOk result (λ reply.
         (m : RowList) → m.columns ≡ columns → IsInstance (plain kind m)

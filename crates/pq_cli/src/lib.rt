@@ -5,7 +5,8 @@
 //! written is a reply to their bytes.
 //!
 //! Each command has a room of its own for its code, and others of its name for its definitions and its lemmas: `solve`,
-//! `check`, `extend`, `meet`, and `generator` for `gen`. What they share is how words are read (`words`), how a file is read by
+//! `check`, `extend`, `list`, `meet`, and `generator` for `gen`. What they share is how words are read (`words`), how a
+//! file is read by
 //! the form that it should have (`input`), what may stand in the way (`stop`), and the frame of a command that ran,
 //! which is one record. A new command is a case of the words, a room, and its laws.
 #![tactic(auto)]
@@ -18,6 +19,7 @@ mod extend;
 mod generator;
 mod input;
 mod judge;
+mod list;
 mod meet;
 mod promise;
 mod report;
@@ -29,6 +31,7 @@ mod words;
 pub use check::laws::{check_law, solved_law};
 pub use extend::laws::extend_law;
 pub use generator::draws::{generate, generated_law};
+pub use list::laws::list_law;
 pub use meet::laws::{meet_law, tree_file_law};
 pub use promise::promise_law;
 pub use row_model::NoMemory;

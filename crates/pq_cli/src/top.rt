@@ -24,15 +24,17 @@ use std::alloc::Global;
 ///   matrix as long as a valid order is left;
 /// - `gen SEED COLUMNS ROWS`: a matrix that a number draws, summed up. The words are decimal digits, leading zeros
 ///   allowed: SEED of at most 64 bits, COLUMNS from 1 to 2,048, ROWS at most 131,072;
-/// - `meet COLUMNS TREE1 TREE2`, with COLUMNS as in `gen`: the orders that two trees over these columns share.
+/// - `meet COLUMNS TREE1 TREE2`, with COLUMNS as in `gen`: the orders that two trees over these columns share;
+/// - `list KIND FILE K`, with KIND as for `extend`: the first K valid orders of a matrix, compared as lists of numbers. K is
+///   decimal digits, leading zeros allowed, from 1 to 10,000.
 ///
 /// Of two names of files not both are `-`. The files are read from `files` in turn, the reply is written to `out`, and
 /// on the statuses 2 to 6 one line is offered to `err`, whose faults change nothing.
 ///
 /// | Status | Meaning |
 /// |---|---|
-/// | 0 | `solve`: the instance has a textbook order of its kind, on each side; `check`: the verdict is valid; `extend`: the matrix has a valid order; `gen`: done |
-/// | 1 | `solve`: it has none, on one side at least; `check`: the verdict is invalid; `extend`: the matrix has no valid order |
+/// | 0 | `solve`: the instance has a textbook order of its kind, on each side; `check`: the verdict is valid; `extend` and `list`: the matrix has a valid order; `gen`: done |
+/// | 1 | `solve`: it has none, on one side at least; `check`: the verdict is invalid; `extend` and `list`: the matrix has no valid order |
 /// | 2 | the words are outside the grammar; nothing is read, and nothing is written to `out` |
 /// | 3 | the file of the instance is refused, or that of further rows |
 /// | 4 | a file can't be read |

@@ -1,9 +1,10 @@
 // The words of the command line.
 ghost use Rattle.std.specs.Prelude.{◌≡◌, ◌≤◌, [], ◌∷◌, option_map, IfSome};
-ghost use Rattle.pq_cli.specs.Words.{texts, command_of, check_of, extend_of, gen_of, meet_of, kind_of, extended_kind_of, number_in, are_both_input, IsExtended, IsInGrammar};
+ghost use Rattle.pq_cli.specs.Words.{texts, command_of, check_of, extend_of, gen_of, meet_of, kind_of, extended_kind_of, number_in, are_both_input, IsExtended, IsInGrammar, list_of};
 ghost use Rattle.pq_cli.specs.Task.{command_seen};
 
 use matrix_read::{Numeral, number};
+use order_list::MAX_ORDERS;
 use row_model::{Kind, MAX_COLUMNS, MAX_ROWS};
 
 /// What the words ask for.
@@ -52,6 +53,15 @@ pub enum Task<'a> {
         /// The name of the file of the second tree.
         second: &'a str,
     },
+    /// `list KIND FILE K`: the first valid orders of a matrix.
+    ListOrders {
+        /// The kind of the matrix.
+        kind: Kind,
+        /// The name of its file.
+        file: &'a str,
+        /// How many orders, from 1 to [`MAX_ORDERS`].
+        count: u32,
+    },
 }
 
 /// What the words ask for, or none where they are outside the grammar. It takes no memory.
@@ -95,6 +105,7 @@ fn four_words<'a>(verb: &str, first: &'a str, second: &'a str, third: &'a str) -
         "extend" => extend_of(first, second, third),
         "gen" => gen_of(first, second, third),
         "meet" => meet_of(first, second, third),
+        "list" => list_of(first, second, third),
         _ => None,
     }
 }
@@ -156,6 +167,15 @@ fn meet_of<'a>(columns: &str, first: &'a str, second: &'a str) -> Option<Task<'a
         first,
         second,
     })
+}
+
+// `list` with these words.
+fn list_of<'a>(kind: &str, file: &'a str, count: &str) -> Option<Task<'a>>
+    ensures task { option_map command_seen result ≡ list_of kind.now file.now count.now }
+{
+    let kind = extended_kind_of(kind)?;
+    let count = number_in(1, u64::from(MAX_ORDERS), count)? as u32;
+    Some(Task::ListOrders { kind, file, count })
 }
 
 // The kind of a word.
