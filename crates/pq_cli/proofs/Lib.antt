@@ -8,3 +8,4 @@ pub mod Generating
 pub mod Meeting
 pub mod Listing
 pub mod Promises
+pub mod Units

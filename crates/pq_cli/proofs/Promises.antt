@@ -6,15 +6,21 @@ use Rattle.row_model.specs.declared.kind.Kind.{Kind}
 use Rattle.row_model.specs.declared.refusal.Refusal.{Refusal}
 use Rattle.row_model.specs.declared.refusal.Read.{Read}
 use Rattle.row_model.specs.declared.refusal.Read.TheVariants as read
-use Rattle.verdict_text.specs.Verdict.{Claim, yes_claim, no_claim}
-use Rattle.instance_model.specs.Instance.{InstanceValue, HasTextbookOrder}
-use Rattle.pq_cli.specs.Words.{Command, Solve, Check, Extend, Gen, Meet, ListOrders, files_of}
+use Rattle.verdict_text.specs.Verdict.{Claim, yes_claim, no_claim, VerdictValue}
+use Rattle.instance_model.specs.Instance.{InstanceValue, HasTextbookOrder, proper}
+use Rattle.pq_cli.specs.Words.{Command, Solve, Check, Extend, Gen, Meet, ListOrders, UnitModel, CheckUnit, files_of}
 use Rattle.pq_cli.specs.Replies.{refusable, refused_at, refused_behind, refused_of_two, refusal_of, Replies}
+use Rattle.verdict_text.specs.Grammar.{IsVerdict}
+use Rattle.graph_read.specs.Graphs.{GraphValue}
 use Rattle.pq_cli.specs.Runs.{AllTold, WhereFirstTold, ForCommand, TakesFiles, WritesOut, CountsWrites}
 use Rattle.pq_cli.specs.Solve.Verdicts.{IsClaimOf, status_of}
 use Rattle.pq_cli.specs.Solve.Laws.{NoStatusLaw, YesStatusLaw, OrdersLaw}
 use Rattle.pq_cli.specs.Check.Laws.{CheckLaw, AgreedLaw}
 use Rattle.pq_cli.specs.Meet.TreeFiles.{tree_file}
+use Rattle.pq_cli.specs.Units.Models.{TellsByClaim}
+use Rattle.pq_cli.specs.Units.Laws.{UnitStatusLaw, PrintedUnitLaw}
+use Rattle.pq_cli.specs.UnitCheck.Laws.{UnitCheckLaw, UnitAgreedLaw}
+use Rattle.pq_cli.proofs.Units.{told_status}
 use Rattle.pq_cli.specs.Stops.{stop_status, failure_status}
 use Rattle.pq_cli.specs.Promise.{NothingFails, WhereWellFormed, Completes, IsNoAnd, TellsNo, IsCycleOf, SaysYes, IsSolved, IsPromised, PromiseLaw, KeepsPromise}
 use Rattle.pq_cli.specs.declared.stop.Stop.{Stop}
@@ -88,6 +94,20 @@ unrefused told (ListOrders kind name count) (bytes ∷ []) which refusal t none 
     subst (λ n. WhereFirstTold told (ListOrders kind name count) n (λ fs. refusal_of (ListOrders kind name count) fs ≡ Some (n, refusal))) one first (bytes ∷ []) t in
     absurd (cc)
 unrefused told (ListOrders kind name count) (bytes ∷ more ∷ files) which refusal t none from to first = absurd t.1
+unrefused told (UnitModel name) [] which refusal t none from to first = absurd t
+unrefused told (UnitModel name) (bytes ∷ []) which refusal t none from to first =
+    let one : which ≡ 1 = omega (arith, from, to) in
+    let found : refusal_of (UnitModel name) (bytes ∷ []) ≡ Some (1, refusal) = subst (λ n. WhereFirstTold told (UnitModel name) n (λ fs. refusal_of (UnitModel name) fs ≡ Some (n, refusal))) one first (bytes ∷ []) t in
+    absurd (cc)
+unrefused told (UnitModel name) (bytes ∷ more ∷ files) which refusal t none from to first = absurd t.1
+unrefused told (CheckUnit name other) [] which refusal t none from to first = absurd t
+unrefused told (CheckUnit name other) (bytes ∷ []) which refusal t none from to first = absurd t.1
+unrefused told (CheckUnit name other) (bytes ∷ given ∷ []) which refusal t none from to first =
+    let one : which ≡ 1 = omega (arith, from, to) in
+    let found : refusal_of (CheckUnit name other) (bytes ∷ []) ≡ Some (1, refusal) =
+    subst (λ n. WhereFirstTold told (CheckUnit name other) n (λ fs. refusal_of (CheckUnit name other) fs ≡ Some (n, refusal))) one first (bytes ∷ []) (t.0, tt) in
+    absurd (cc)
+unrefused told (CheckUnit name other) (bytes ∷ given ∷ more ∷ files) which refusal t none from to first = absurd t.1.1
 
 -- where there is a reply, no file is refused
 replied_unrefused : (c : Command) (files : List (List ℕ)) (status : ℕ) (text : List ℕ) → Replies c files status text → refusal_of c files ≡ None
@@ -113,6 +133,13 @@ replied_unrefused (Meet c name other) (bytes ∷ given ∷ more ∷ files) statu
 replied_unrefused (ListOrders kind name count) [] status text reply = absurd reply
 replied_unrefused (ListOrders kind name count) (bytes ∷ []) status text reply = ap (refused_at 1) reply.1
 replied_unrefused (ListOrders kind name count) (bytes ∷ more ∷ files) status text reply = absurd reply
+replied_unrefused (UnitModel name) [] status text reply = absurd reply
+replied_unrefused (UnitModel name) (bytes ∷ []) status text reply = ap (refused_at 1) reply.1
+replied_unrefused (UnitModel name) (bytes ∷ more ∷ files) status text reply = absurd reply
+replied_unrefused (CheckUnit name other) [] status text reply = absurd reply
+replied_unrefused (CheckUnit name other) (bytes ∷ []) status text reply = absurd reply
+replied_unrefused (CheckUnit name other) (bytes ∷ given ∷ []) status text reply = ap (refused_at 1) reply.1
+replied_unrefused (CheckUnit name other) (bytes ∷ given ∷ more ∷ files) status text reply = absurd reply
 
 -- the statuses that are left
 left_statuses : (status : ℕ) → status ≤ 6 → status ≢ 2 → status ≢ 4 → status ≢ 5 → status ≢ 6 → (status ≡ 0) ⊎ (status ≡ 1) ⊎ (status ≡ 3)
@@ -184,7 +211,47 @@ solved : (i : InstanceValue) (claim : Claim) (status : ℕ) (text : List ℕ) �
 solved i (yes_claim value) status text is true at_zero at_one tells = inl (is, at_zero is)
 solved i (no_claim s lines) status text is true at_zero at_one tells = inr (is, record { none = at_one is; cycle = tells (true.0.side, true.1) })
 
-module _ (no_law : NoStatusLaw) (yes_law : YesStatusLaw) (orders_law : OrdersLaw) (check_law : CheckLaw) (agreed_law : AgreedLaw) where
+-- a no of a graph tells a cycle
+unit_no : (g : GraphValue) (verdict : VerdictValue) (claim : Claim) (text : List ℕ) → IsVerdict verdict → IsClaimOf (proper g) claim → TellsByClaim g verdict claim 1 text
+    → (IsNoAnd claim (IsCycleOf (proper g)) → IsNoAnd verdict.claim (IsCycleOf (proper g))) → TellsNo text (IsCycleOf (proper g))
+unit_no g verdict (yes_claim value) text grammar true tells same = absurd (omega (arith, tells.0))
+unit_no g verdict (no_claim s lines) text grammar true tells same = (verdict, grammar, tells.1, same (true.0.side, true.1))
+
+module _ (status_law : UnitStatusLaw) (printed_law : PrintedUnitLaw) (check_law : UnitCheckLaw) (agreed_law : UnitAgreedLaw) where
+  unit_promised : (file bytes : List ℕ) (status : ℕ) (text : List ℕ) → Replies (UnitModel file) (bytes ∷ []) status text → IsPromised (UnitModel file) (bytes ∷ []) status text
+  unfolding Replies
+  unit_promised file bytes status text reply =
+      let g = reply.0 in
+      let e = reply.1 in
+      let made = reply.2 in (
+        g,
+        e,
+        elim (cases_eq status 0) [
+          | inl zero ↦ inl (zero, printed_law file bytes text g e (subst (λ s. Replies (UnitModel file) (bytes ∷ []) s text) zero reply))
+          | inr more ↦
+              let one : status ≡ 1 = told_status g made.verdict made.verdict.claim status text made.tells more in
+              inr (
+                one,
+                λ has. more ((status_law file bytes text status g e reply).1 has),
+                unit_no g made.verdict made.verdict.claim text made.grammar made.holds.claim (subst (λ s. TellsByClaim g made.verdict made.verdict.claim s text) one made.tells) (λ no. no),
+              )
+        ],
+      )
+
+  unit_check_promised : (file unit bytes given : List ℕ) (status : ℕ) (text : List ℕ) → Replies (CheckUnit file unit) (bytes ∷ given ∷ []) status text
+      → IsPromised (CheckUnit file unit) (bytes ∷ given ∷ []) status text
+  unfolding Replies
+  unit_check_promised file unit bytes given status text reply = (
+    reply.0,
+    reply.1,
+    record {
+      accepts = λ other wrote. agreed_law file other unit bytes given text status wrote reply;
+      believes = check_law file unit bytes given text status reply.0 reply.1 reply;
+    },
+  )
+
+module _ (no_law : NoStatusLaw) (yes_law : YesStatusLaw) (orders_law : OrdersLaw) (check_law : CheckLaw) (agreed_law : AgreedLaw)
+    (unit_law : UnitStatusLaw) (printed_law : PrintedUnitLaw) (unit_check : UnitCheckLaw) (unit_agreed : UnitAgreedLaw) where
   solve_promised : (kind : Kind) (file bytes : List ℕ) (status : ℕ) (text : List ℕ) → Replies (Solve kind file) (bytes ∷ []) status text → IsPromised (Solve kind file) (bytes ∷ []) status text
   unfolding Replies
   solve_promised kind file bytes status text reply =
@@ -226,3 +293,10 @@ module _ (no_law : NoStatusLaw) (yes_law : YesStatusLaw) (orders_law : OrdersLaw
   promise_law (Gen seed columns rows) files status text reply = tt
   promise_law (Meet c first second) files status text reply = tt
   promise_law (ListOrders kind file count) files status text reply = tt
+  promise_law (UnitModel file) [] status text reply = tt
+  promise_law (UnitModel file) (bytes ∷ []) status text reply = unit_promised unit_law printed_law unit_check unit_agreed file bytes status text reply
+  promise_law (UnitModel file) (bytes ∷ more ∷ files) status text reply = tt
+  promise_law (CheckUnit file unit) [] status text reply = tt
+  promise_law (CheckUnit file unit) (bytes ∷ []) status text reply = tt
+  promise_law (CheckUnit file unit) (bytes ∷ given ∷ []) status text reply = unit_check_promised unit_law printed_law unit_check unit_agreed file unit bytes given status text reply
+  promise_law (CheckUnit file unit) (bytes ∷ given ∷ more ∷ files) status text reply = tt

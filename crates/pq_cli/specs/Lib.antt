@@ -2,6 +2,8 @@ pub mod Words
 pub mod Task
 pub mod Instances
 pub mod Solve
+pub mod Units
+pub mod UnitCheck
 pub mod Check
 pub mod Extend
 pub mod Gen

@@ -1,5 +1,5 @@
 -- What a run promises where nothing fails. A shelf is seen by the bytes of its files.
-use Rattle.std.specs.Prelude.{◌≡◌, ◌≢◌, ◌⊎◌, ⊤, ℕ, List, [], ◌∷◌, Option, None, codes}
+use Rattle.std.specs.Prelude.{◌≡◌, ◌≢◌, ◌⊎◌, ◌↔◌, ⊤, ℕ, List, [], ◌∷◌, Option, None, codes}
 use Rattle.std.specs.Io.KnownBytes.{Appends}
 use Rattle.pq_io.specs.Faults.{Rose}
 use Rattle.row_model.specs.Cycles.{IsOddCycle}
@@ -9,12 +9,16 @@ use Rattle.row_model.specs.declared.refusal.Read.TheVariants as read
 use Rattle.verdict_text.specs.Verdict.{Claim, yes_claim, no_claim, VerdictValue}
 use Rattle.verdict_text.specs.Grammar.{IsVerdict}
 use Rattle.verdict_text.specs.Text.{verdict_text}
-use Rattle.instance_model.specs.Instance.{InstanceValue, IsSideOf, HasTextbookOrder, derived_matrix}
+use Rattle.row_model.specs.declared.kind.Kind.TheVariants.{Proper}
+use Rattle.graph_read.specs.Graphs.{GraphValue}
+use Rattle.instance_model.specs.Instance.{InstanceValue, proper, IsSideOf, HasTextbookOrder, derived_matrix}
 use Rattle.verdict_check.specs.YesTests.{HasSide}
 use Rattle.verdict_check.specs.Truth.{IsTrueVerdict}
-use Rattle.pq_cli.specs.Words.{Command, Solve, Check}
+use Rattle.pq_cli.specs.Words.{Command, Solve, Check, UnitModel, CheckUnit}
 use Rattle.pq_cli.specs.Instances.{instance_of}
 use Rattle.pq_cli.specs.Solve.Laws.{TellsYes, ShowsTextbookOrders}
+use Rattle.pq_cli.specs.Units.Models.{HasUnitModel, IsUnitOf, TellsUnit}
+use Rattle.pq_cli.specs.UnitCheck.Findings.{HasUnit}
 use Rattle.pq_cli.specs.Replies.{refusal_of, Replies}
 use Rattle.pq_cli.specs.Runs.{WhereTold, WritesReply}
 
@@ -69,11 +73,24 @@ pub record IsJudged (kind : Kind) (bytes : List ℕ) (i : InstanceValue) (given 
   pub accepts : (file : List ℕ) (found : ℕ) → Replies (Solve kind file) (bytes ∷ []) found given → (status ≡ 0) × (text ≡ codes "valid\n")
   pub believes : status ≡ 0 → (v : VerdictValue) × IsVerdict v × (given ≡ verdict_text v) × IsTrueVerdict i v
 
--- What `solve` and `check` promise of their status and text, for the instance in the first file. The other commands
--- have laws of their own.
+-- with status 0 the text is that of a unit model of the graph; with status 1 there is none, and the text tells a simple
+-- odd cycle
+abbrev pub IsUnitSolved : GraphValue → ℕ → List ℕ → Type 0
+IsUnitSolved g status text = ((status ≡ 0) × TellsUnit g text) ⊎ ((status ≡ 1) × (HasUnitModel g → ⊥) × TellsNo text (IsCycleOf (proper g)))
+
+-- A unit model is judged: whatever `unit` wrote on the same bytes with status 0 is valid, and nothing else than a unit
+-- model of the graph is.
+pub record IsUnitJudged (g : GraphValue) (bytes given : List ℕ) (status : ℕ) (text : List ℕ) : Type 0 where
+  pub accepts : (file : List ℕ) → Replies (UnitModel file) (bytes ∷ []) 0 given → (status ≡ 0) × (text ≡ codes "valid\n")
+  pub believes : (status ≡ 0) ↔ HasUnit given (IsUnitOf g)
+
+-- What `solve`, `check`, `unit` and `check-unit` promise of their status and text, for the instance in the first file.
+-- The other commands have laws of their own.
 abbrev pub IsPromised : Command → List (List ℕ) → ℕ → List ℕ → Type 0
 IsPromised (Solve kind _) (bytes ∷ []) status text = (i : InstanceValue) × (instance_of kind bytes ≡ read.Ok i) × IsSolved i status text
 IsPromised (Check kind _ _) (bytes ∷ given ∷ []) status text = (i : InstanceValue) × (instance_of kind bytes ≡ read.Ok i) × IsJudged kind bytes i given status text
+IsPromised (UnitModel _) (bytes ∷ []) status text = (g : GraphValue) × (instance_of Proper bytes ≡ read.Ok (proper g)) × IsUnitSolved g status text
+IsPromised (CheckUnit _ _) (bytes ∷ given ∷ []) status text = (g : GraphValue) × (instance_of Proper bytes ≡ read.Ok (proper g)) × IsUnitJudged g bytes given status text
 IsPromised command files status text = ⊤
 
 -- each reply keeps the promise

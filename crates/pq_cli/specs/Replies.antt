@@ -5,8 +5,10 @@ use Rattle.row_model.specs.declared.refusal.Refusal.{Refusal}
 use Rattle.row_model.specs.declared.refusal.Read.{Read}
 use Rattle.row_model.specs.declared.refusal.Read.TheVariants as read
 use Rattle.matrix_read.specs.Sparse.{further}
-use Rattle.instance_model.specs.Instance.{InstanceValue, plain, derived_matrix}
-use Rattle.pq_cli.specs.Words.{Command, Solve, Check, Extend, Gen, Meet, ListOrders}
+use Rattle.instance_model.specs.Instance.{InstanceValue, plain, derived_matrix, proper}
+use Rattle.pq_cli.specs.Words.{Command, Solve, Check, Extend, Gen, Meet, ListOrders, UnitModel, CheckUnit}
+use Rattle.row_model.specs.declared.kind.Kind.TheVariants.{Proper}
+use Rattle.graph_read.specs.Graphs.{GraphValue}
 use Rattle.pq_cli.specs.Instances.{instance_of}
 use Rattle.pq_cli.specs.Solve.Verdicts.{IsVerdictReply}
 use Rattle.pq_cli.specs.Check.Judgements.{IsJudgementReply}
@@ -16,8 +18,11 @@ use Rattle.pq_tree.specs.Outline.{Outline}
 use Rattle.pq_cli.specs.Meet.TreeFiles.{tree_file}
 use Rattle.pq_cli.specs.Meet.Meetings.{IsMeetingReply}
 use Rattle.pq_cli.specs.Listed.Texts.{IsListReply}
+use Rattle.pq_cli.specs.Units.Models.{IsModelReply}
+use Rattle.pq_cli.specs.UnitCheck.Findings.{IsFindingReply}
 
--- how many of a command's files, the first ones, may be refused: the file of a verdict is judged, and never refused
+-- how many of a command's files, the first ones, may be refused: the file of a verdict or of a unit model is judged, and
+-- never refused
 abbrev pub refusable : Command → ℕ
 refusable (Solve _ _) = 1
 refusable (Check _ _ _) = 1
@@ -25,6 +30,8 @@ refusable (Extend _ _ _) = 2
 refusable (Gen _ _ _) = 0
 refusable (Meet _ _ _) = 2
 refusable (ListOrders _ _ _) = 1
+refusable (UnitModel _) = 1
+refusable (CheckUnit _ _) = 1
 
 -- the refusal of the file of this number, if it is refused
 abbrev pub refused_at : {T : Type 0} → ℕ → Read T → Option (ℕ × Refusal)
@@ -52,6 +59,8 @@ refusal_of (Gen _ _ _) (_ ∷ _) = None
 refusal_of (Meet c _ _) (first ∷ []) = refused_at 1 (tree_file c first)
 refusal_of (Meet c _ _) (first ∷ second ∷ _) = refused_of_two (tree_file c first) (tree_file c second)
 refusal_of (ListOrders kind _ _) (bytes ∷ _) = refused_at 1 (instance_of kind bytes)
+refusal_of (UnitModel _) (bytes ∷ _) = refused_at 1 (instance_of Proper bytes)
+refusal_of (CheckUnit _ _) (bytes ∷ _) = refused_at 1 (instance_of Proper bytes)
 
 -- A status and a text are a reply to a command over files of these bytes: no file is refused, and what the text says is
 -- true.
@@ -64,4 +73,6 @@ Replies (Gen seed columns rows) [] status text = (status ≡ 0) × IsSummary see
 Replies (Meet c _ _) (first ∷ second ∷ []) status text =
     (t : Outline) × (u : Outline) × (tree_file c first ≡ read.Ok t) × (tree_file c second ≡ read.Ok u) × IsMeetingReply c t u status text
 Replies (ListOrders kind _ count) (bytes ∷ []) status text = (m : RowList) × (instance_of kind bytes ≡ read.Ok (plain kind m)) × IsListReply kind m count status text
+Replies (UnitModel _) (bytes ∷ []) status text = (g : GraphValue) × (instance_of Proper bytes ≡ read.Ok (proper g)) × IsModelReply g status text
+Replies (CheckUnit _ _) (bytes ∷ unit ∷ []) status text = (g : GraphValue) × (instance_of Proper bytes ≡ read.Ok (proper g)) × IsFindingReply g unit status text
 Replies command files status text = ⊥

@@ -1,5 +1,5 @@
 -- The command that the code reads from the words.
-use Rattle.pq_cli.specs.Words.{Command, Solve, Check, Extend, Gen, Meet, ListOrders}
+use Rattle.pq_cli.specs.Words.{Command, Solve, Check, Extend, Gen, Meet, ListOrders, UnitModel, CheckUnit}
 use Rattle.pq_cli.specs.declared.words.Task.{Task}
 use Rattle.pq_cli.specs.declared.words.Task.TheVariants as task
 
@@ -11,3 +11,5 @@ command_seen (task.Extend kind file rows) = Extend kind file.now rows.now
 command_seen (task.Gen seed columns rows) = Gen seed columns rows
 command_seen (task.Meet columns first second) = Meet columns first.now second.now
 command_seen (task.ListOrders kind file count) = ListOrders kind file.now count
+command_seen (task.UnitModel file) = UnitModel file.now
+command_seen (task.CheckUnit file unit) = CheckUnit file.now unit.now

@@ -26,6 +26,10 @@ pub data Command : Type 0 where
   Meet : (columns : ℕ) (first second : List ℕ) → Command
   -- `list KIND FILE K`
   ListOrders : (kind : Kind) (file : List ℕ) (count : ℕ) → Command
+  -- `unit FILE`
+  UnitModel : (file : List ℕ) → Command
+  -- `check-unit FILE UNIT`
+  CheckUnit : (file unit : List ℕ) → Command
 
 -- the words as bytes
 abbrev pub texts : {A : Type 0} → List (String A) → List (List ℕ)
@@ -92,9 +96,17 @@ list_of kind file count = do
   n ← number_in 1 MAX_ORDERS count
   Some (ListOrders k file n)
 
+-- `check-unit` with these words
+abbrev pub check_unit_of : List ℕ → List ℕ → Option Command
+check_unit_of file unit = if are_both_input file unit then None else Some (CheckUnit file unit)
+
 -- the command of these words, or none where they are outside the grammar
 abbrev pub command_of : List (List ℕ) → Option Command
-command_of (verb ∷ kind ∷ file ∷ []) = if bytes_eq verb (codes "solve") then option_map (λ k. Solve k file) (kind_of kind) else None
+command_of (verb ∷ file ∷ []) = if bytes_eq verb (codes "unit") then Some (UnitModel file) else None
+command_of (verb ∷ first ∷ second ∷ []) =
+    if bytes_eq verb (codes "solve") then option_map (λ k. Solve k second) (kind_of first)
+    else if bytes_eq verb (codes "check-unit") then check_unit_of first second
+    else None
 command_of (verb ∷ first ∷ second ∷ third ∷ []) =
     if bytes_eq verb (codes "check") then check_of first second third
     else if bytes_eq verb (codes "extend") then extend_of first second third
@@ -120,3 +132,5 @@ files_of (Extend kind file rows) = file ∷ rows ∷ []
 files_of (Gen seed columns rows) = []
 files_of (Meet columns first second) = first ∷ second ∷ []
 files_of (ListOrders kind file count) = file ∷ []
+files_of (UnitModel file) = file ∷ []
+files_of (CheckUnit file unit) = file ∷ unit ∷ []

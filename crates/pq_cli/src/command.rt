@@ -10,6 +10,8 @@ use crate::meet::meet_files;
 use crate::list::list_file;
 use crate::solve::solve_file;
 use crate::stop::Stop;
+use crate::unit::unit_file;
+use crate::unit_check::check_unit_file;
 use crate::words::Task;
 use pq_io::Shelf;
 use std::alloc::Global;
@@ -52,5 +54,7 @@ pub fn perform<F: Shelf>(alloc: Global, task: &Task<'_>, files: &mut F) -> Resul
             second,
         } => meet_files(alloc, *columns, first, second, files),
         Task::ListOrders { kind, file, count } => list_file(alloc, *kind, file, *count, files),
+        Task::UnitModel { file } => unit_file(alloc, file, files),
+        Task::CheckUnit { file, unit } => check_unit_file(alloc, file, unit, files),
     }
 }

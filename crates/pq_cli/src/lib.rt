@@ -5,8 +5,8 @@
 //! written is a reply to their bytes.
 //!
 //! Each command has a room of its own for its code, and others of its name for its definitions and its lemmas: `solve`,
-//! `check`, `extend`, `list`, `meet`, and `generator` for `gen`. What they share is how words are read (`words`), how a
-//! file is read by
+//! `check`, `extend`, `list`, `meet`, `unit`, `generator` for `gen`, and `unit_check` for `check-unit`. What they share is
+//! how words are read (`words`), how a file is read by
 //! the form that it should have (`input`), what may stand in the way (`stop`), and the frame of a command that ran,
 //! which is one record. A new command is a case of the words, a room, and its laws.
 #![tactic(auto)]
@@ -26,6 +26,8 @@ mod report;
 mod solve;
 mod stop;
 mod top;
+mod unit;
+mod unit_check;
 mod words;
 
 pub use check::laws::{check_law, solved_law};
@@ -37,6 +39,8 @@ pub use promise::promise_law;
 pub use row_model::NoMemory;
 pub use solve::laws::{model_law, reply_law};
 pub use top::run;
+pub use unit::laws::unit_reply_law;
+pub use unit_check::laws::unit_check_law;
 
 /// The greatest number of bytes of a verdict that is judged.
 pub const MAX_VERDICT_BYTES: u64 = 134_217_728;

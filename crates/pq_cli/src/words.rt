@@ -1,6 +1,6 @@
 // The words of the command line.
 ghost use Rattle.std.specs.Prelude.{◌≡◌, ◌≤◌, [], ◌∷◌, option_map, IfSome};
-ghost use Rattle.pq_cli.specs.Words.{texts, command_of, check_of, extend_of, gen_of, meet_of, kind_of, extended_kind_of, number_in, are_both_input, IsExtended, IsInGrammar, list_of};
+ghost use Rattle.pq_cli.specs.Words.{texts, command_of, check_of, extend_of, gen_of, meet_of, kind_of, extended_kind_of, number_in, are_both_input, IsExtended, IsInGrammar, list_of, check_unit_of};
 ghost use Rattle.pq_cli.specs.Task.{command_seen};
 
 use matrix_read::{Numeral, number};
@@ -62,6 +62,18 @@ pub enum Task<'a> {
         /// How many orders, from 1 to [`MAX_ORDERS`].
         count: u32,
     },
+    /// `unit FILE`: find the unit model of a graph.
+    UnitModel {
+        /// The name of its file.
+        file: &'a str,
+    },
+    /// `check-unit FILE UNIT`: judge a unit model on a graph.
+    CheckUnit {
+        /// The name of the file of the graph.
+        file: &'a str,
+        /// The name of the file of the unit model.
+        unit: &'a str,
+    },
 }
 
 /// What the words ask for, or none where they are outside the grammar. It takes no memory.
@@ -70,7 +82,8 @@ pub fn task_of(words: &[String]) -> Option<Task<'_>>
     ensures taken { IfSome result (λ task. IsInGrammar (command_seen task)) }
 {
     match words {
-        [verb, kind, file] => three_words(verb.as_str(), kind.as_str(), file.as_str()),
+        [verb, file] => two_words(verb.as_str(), file.as_str()),
+        [verb, first, second] => three_words(verb.as_str(), first.as_str(), second.as_str()),
         [verb, first, second, third] => four_words(
             verb.as_str(),
             first.as_str(),
@@ -81,17 +94,31 @@ pub fn task_of(words: &[String]) -> Option<Task<'_>>
     }
 }
 
-// What three words ask for.
-fn three_words<'a>(verb: &str, kind: &str, file: &'a str) -> Option<Task<'a>>
-    ensures task { option_map command_seen result ≡ command_of
-        (verb.now ∷ kind.now ∷ file.now ∷ []) }
+// What two words ask for.
+fn two_words<'a>(verb: &str, file: &'a str) -> Option<Task<'a>>
+    ensures task { option_map command_seen result ≡ command_of (verb.now ∷ file.now ∷ []) }
     ensures taken { IfSome result (λ task. IsInGrammar (command_seen task)) }
 {
-    if verb != "solve" {
-        return None;
+    match verb {
+        "unit" => Some(Task::UnitModel { file }),
+        _ => None,
     }
-    let kind = kind_of(kind)?;
-    Some(Task::Solve { kind, file })
+}
+
+// What three words ask for.
+fn three_words<'a>(verb: &str, first: &'a str, second: &'a str) -> Option<Task<'a>>
+    ensures task { option_map command_seen result ≡ command_of
+        (verb.now ∷ first.now ∷ second.now ∷ []) }
+    ensures taken { IfSome result (λ task. IsInGrammar (command_seen task)) }
+{
+    match verb {
+        "solve" => {
+            let kind = kind_of(first)?;
+            Some(Task::Solve { kind, file: second })
+        }
+        "check-unit" => check_unit_of(first, second),
+        _ => None,
+    }
 }
 
 // What four words ask for.
@@ -172,10 +199,22 @@ fn meet_of<'a>(columns: &str, first: &'a str, second: &'a str) -> Option<Task<'a
 // `list` with these words.
 fn list_of<'a>(kind: &str, file: &'a str, count: &str) -> Option<Task<'a>>
     ensures task { option_map command_seen result ≡ list_of kind.now file.now count.now }
+    ensures taken { IfSome result (λ task. IsInGrammar (command_seen task)) }
 {
     let kind = extended_kind_of(kind)?;
     let count = number_in(1, u64::from(MAX_ORDERS), count)? as u32;
     Some(Task::ListOrders { kind, file, count })
+}
+
+// `check-unit` with these words.
+fn check_unit_of<'a>(file: &'a str, unit: &'a str) -> Option<Task<'a>>
+    ensures task { option_map command_seen result ≡ check_unit_of file.now unit.now }
+    ensures taken { IfSome result (λ task. IsInGrammar (command_seen task)) }
+{
+    if are_both_input(file, unit) {
+        return None;
+    }
+    Some(Task::CheckUnit { file, unit })
 }
 
 // The kind of a word.

@@ -13,7 +13,7 @@ use row_model::{Interval, Intervals, NoMemory, positions, span_of};
 use std::alloc::Global;
 
 /// The unit model of an umbrella order, vertex by vertex (Roberts, 1969). Its length is the number n of vertices, so each right
-/// end is the left end plus n.
+/// end is the left end plus n, and all numbers are within 64 bits.
 ///
 /// The components are taken in the order of their first vertices. The layer of a vertex is its distance from the first
 /// vertex of its component. Each component has a list, which begins with its first vertex; then, layer after layer and in each
@@ -29,6 +29,7 @@ pub fn model(alloc: Global, g: &Graph, order: &[u32]) -> Result<Intervals, NoMem
     requires { IsUmbrellaOrder g.now order.now }
     ensures left_ends { IfOk result (λ list. AreLeftEnds g.now order.now (lefts_of list)) }
     ensures right_ends { IfOk result (λ list. All (λ a. a.right ≡ a.left + g.now.vertices) list) }
+    ensures within { IfOk result (λ list. All (λ a. a.right < 2 ^ 64) list) }
     ensures model { IfOk result (λ list. IsUnitModel g.now g.now.vertices (lefts_of list)) }
 {
     let lefts = left_ends(alloc, g, order)?;
@@ -40,6 +41,7 @@ fn of_one_length(alloc: Global, lefts: &[u64], length: u32) -> Result<Intervals,
     requires { All (λ left. left < 2 ^ 63) lefts.now }
     ensures lefts { IfOk result (λ list. lefts_of list ≡ lefts.now) }
     ensures rights { IfOk result (λ list. All (λ a. a.right ≡ a.left + length) list) }
+    ensures within { IfOk result (λ list. All (λ a. a.right < 2 ^ 64) list) }
 {
     let mut list = Intervals::with_capacity(alloc, lefts.len())?;
     for left in lefts {

@@ -1,0 +1,188 @@
+-- The unit model of a graph, and the test of one.
+use Rattle.std.proofs.Common.{◌≡◌, ◌≢◌, ◌↔◌, ◌∙◌, ℕ, suc, ◌+◌, ◌^◌, ◌<◌, ◌≤◌, All, List, [], ◌∷◌, ◌++◌, length, slice_get, Option, Some, None, refl, sym, ap, subst, inl, inr, arith, codes}
+use Rattle.std.specs.Prelude.{IsSomeAnd}
+use Rattle.std.proofs.lemmas.Bool.{cases_eq}
+use Rattle.std.specs.List.{AllByRecursion}
+use Rattle.row_model.specs.declared.kind.Kind.TheVariants.{Proper}
+use Rattle.row_model.specs.declared.refusal.Read.TheVariants as read
+use Rattle.graph_read.specs.Graphs.{GraphValue, IsGraph}
+use Rattle.unit_model.specs.Models.{IsUnitModel}
+use Rattle.unit_model.specs.Models.{lefts_of}
+use Rattle.unit_model.specs.Rule.{AreLeftEnds}
+use Rattle.unit_model.specs.Text.{UnitValue, IsEnd, IsUnit, unit_text}
+use Rattle.column_order.specs.Orders.{IsValidOrder}
+use Rattle.row_model.specs.declared.lists.Interval.{Interval}
+use Rattle.row_model.specs.declared.TheConstants.{MAX_COLUMNS}
+use Rattle.proper_interval.specs.Umbrellas.{closed_to}
+use Rattle.unit_model.specs.Laws.{UnitLaw, OneUnitLaw, TextLengthLaw}
+use Rattle.verdict_text.specs.Verdict.{SideValue, Claim, yes_claim, no_claim, VerdictValue}
+use Rattle.verdict_text.specs.Text.{verdict_text}
+use Rattle.instance_model.specs.Instance.{InstanceValue, proper, IsSideOf, HasTextbookOrder, instance_kind, IsInstance, IsPlainKind}
+use Rattle.graph_read.specs.declared.graph.Graph.{Graph}
+use Rattle.instance_model.specs.Value.{instance_value}
+use Rattle.instance_model.specs.declared.instance.Instance.{Instance}
+use Rattle.instance_model.specs.declared.instance.Instance.TheVariants as instance
+use Rattle.pq_cli.specs.Words.{Solve, UnitModel, CheckUnit}
+use Rattle.pq_cli.specs.Instances.{instance_of, InstanceLaw}
+use Rattle.pq_cli.specs.Replies.{Replies}
+use Rattle.pq_cli.specs.Solve.Verdicts.{ShowsSide, IsVerdictOf, IsVerdictReply, status_of}
+use Rattle.pq_cli.specs.Solve.Laws.{NoStatusLaw}
+use Rattle.pq_cli.specs.Units.Models.{HasUnitModel, IsUnitOf, TellsUnit, IsModelOf, TellsModel, TellsByClaim, IsModelReply}
+use Rattle.pq_cli.specs.Units.Laws.{UnitStatusLaw, PrintedUnitLaw, NoUnitLaw}
+use Rattle.pq_cli.specs.UnitCheck.Findings.{HasUnit, IsNoUnit, IsFinding, finding_text, finding_status, IsFindingReply}
+use Rattle.pq_cli.specs.UnitCheck.Laws.{UnitCheckLaw, UnitAgreedLaw}
+use Rattle.pq_cli.specs.declared.TheConstants.{MAX_VERDICT_BYTES}
+use Rattle.pq_cli.specs.declared.unit_check.finding.Finding.{Finding}
+use Rattle.pq_cli.specs.declared.unit_check.finding.Finding.TheVariants as finding
+use Rattle.pq_cli.proofs.Reading.{same_read}
+
+-- a graph is told from an instance
+graph_in : GraphValue → InstanceValue → GraphValue
+graph_in other (proper g) = g
+graph_in other i = other
+
+same_graph : (g k : GraphValue) → proper g ≡ proper k → g ≡ k
+unfolding graph_in
+same_graph g k e = ap (graph_in g) e
+
+same_reading : (bytes : List ℕ) (g k : GraphValue) → instance_of Proper bytes ≡ read.Ok (proper g) → instance_of Proper bytes ≡ read.Ok (proper k) → k ≡ g
+same_reading bytes g k e f = same_graph k g (same_read Proper bytes (proper g) (proper k) e f)
+
+-- the unit model that is made of intervals
+ends_low : (n : ℕ) (list : List Interval) → All (λ (a : Interval). a.right ≡ a.left + n) list → All (λ (a : Interval). a.right < 2 ^ 64) list → AllByRecursion IsEnd (lefts_of list)
+ends_low n [] rights within = tt
+ends_low n (a ∷ list) rights within =
+    let right : a.right ≡ a.left + n = rights 0 a (omega arith) in
+    let low : a.right < 2 ^ 64 = within 0 a (omega arith) in
+    (omega (arith, right, low), ends_low n list (λ k d l. rights (suc k) d (omega arith)) (λ k d l. within (suc k) d (omega arith)))
+
+pub made_model : (g : GraphValue) (order : List ℕ) (list : List Interval) (lefts : List ℕ) (n m : ℕ) (t : UnitValue) → IsGraph g → g.vertices ≤ MAX_COLUMNS → AreLeftEnds g order (lefts_of list)
+    → IsUnitModel g g.vertices (lefts_of list) → All (λ (a : Interval). a.right ≡ a.left + g.vertices) list → All (λ (a : Interval). a.right < 2 ^ 64) list → lefts ≡ lefts_of list → n ≡ g.vertices → m ≡ n
+    → t ≡ record { vertices = n; size = m; lefts = lefts } → IsModelOf g order t
+made_model g order list lefts n m t h few rule model rights within is vertices size made =
+    let of : ℕ → ℕ → List ℕ → UnitValue = λ k l ls. record { vertices = k; size = l; lefts = ls } in
+    let whole : t ≡ record { vertices = g.vertices; size = g.vertices; lefts = lefts_of list } = made ∙ ap (λ k. of k m lefts) vertices ∙ ap (λ l. of g.vertices l lefts) (size ∙ vertices) ∙ ap (of g.vertices g.vertices) is in
+    subst (IsModelOf g order) (sym whole) (record {
+      vertices = refl;
+      size = refl;
+      rule = rule;
+      model = model;
+      grammar = record { vertices = (h.vertices.0, few); size = omega (arith, few); count = model.count; each = ends_low g.vertices list rights within };
+    })
+
+-- an instance of the kind is a graph
+pub only_graph : (i : Instance) → IsInstance (instance_value i) → instance_kind (instance_value i) ≡ Proper → ((x : Graph) → i ≡ instance.Proper x → ⊥) → ⊥
+only_graph (instance.Plain kind m) within is none = let no : IsPlainKind Proper = subst IsPlainKind is within.0 in no
+only_graph (instance.Circular m) within is none = absurd (cc)
+only_graph (instance.Convex x) within is none = absurd (cc)
+only_graph (instance.Doubly x) within is none = absurd (cc)
+only_graph (instance.Proper x) within is none = none x refl
+only_graph (instance.Robinson d) within is none = absurd (cc)
+
+-- the order of a yes is a valid order of the closed rows
+pub shown_valid : (g : GraphValue) (side : Option SideValue) (order : List ℕ) → IsSomeAnd side (ShowsSide (proper g) 1) → IsSomeAnd side (λ s. s.order ≡ order) → IsValidOrder g.vertices (closed_to g g.vertices) order
+shown_valid g None order shows is = absurd shows
+shown_valid g (Some side) order shows is = subst (λ o. IsValidOrder g.vertices (closed_to g g.vertices) o) is shows.order
+
+pub told_order : (g : GraphValue) (side : Option SideValue) (order text : List ℕ) → IsSomeAnd side (λ s. s.order ≡ order) → TellsModel g order text → IsSomeAnd side (λ s. TellsModel g s.order text)
+told_order g None order text is told = absurd is
+told_order g (Some side) order text is told = subst (λ o. TellsModel g o text) (sym is) told
+
+-- what the text of a reply with status 0 tells
+told_some : (g : GraphValue) (text : List ℕ) (side : Option SideValue) → IsSomeAnd side (λ s. TellsModel g s.order text) → (order : List ℕ) × TellsModel g order text
+told_some g text None h = absurd h
+told_some g text (Some side) h = (side.order, h)
+
+told_at_zero : (g : GraphValue) (verdict : VerdictValue) (claim : Claim) (status : ℕ) (text : List ℕ) → TellsByClaim g verdict claim status text → status ≡ 0 → (order : List ℕ) × TellsModel g order text
+told_at_zero g verdict (yes_claim value) status text h zero = told_some g text (slice_get value.sides 0) h.1
+told_at_zero g verdict (no_claim s lines) status text h zero = absurd (omega (arith, h.0, zero))
+
+told_at_one : (g : GraphValue) (verdict : VerdictValue) (claim : Claim) (status : ℕ) (text : List ℕ) → TellsByClaim g verdict claim status text → status ≡ 1 → (1 ≡ status_of claim) × (text ≡ verdict_text verdict)
+told_at_one g verdict (yes_claim value) status text h one = absurd (omega (arith, h.0, one))
+told_at_one g verdict (no_claim s lines) status text h one = (refl, h.1)
+
+unit_of_told : (g : GraphValue) (order text : List ℕ) → TellsModel g order text → TellsUnit g text
+unit_of_told g order text t = (t.0, t.1.grammar, t.2, (t.1.vertices, t.1.model))
+
+-- the status is one of two
+pub told_status : (g : GraphValue) (verdict : VerdictValue) (claim : Claim) (status : ℕ) (text : List ℕ) → TellsByClaim g verdict claim status text → status ≢ 0 → status ≡ 1
+told_status g verdict (yes_claim value) status text h n = absurd (n h.0)
+told_status g verdict (no_claim s lines) status text h n = h.0
+
+pub no_unit_law : NoUnitLaw
+unfolding Replies
+no_unit_law file other bytes text reply =
+    let g = reply.0 in
+    let made = reply.2 in
+    let no = told_at_one g made.verdict made.verdict.claim 1 text made.tells refl in
+    (proper g, reply.1, record { verdict = made.verdict; grammar = made.grammar; holds = made.holds; status_is = no.0; text_is = no.1 })
+
+module _ (instance_read : InstanceLaw) (no_law : NoStatusLaw) (unit_law : UnitLaw) where
+  -- where the status is 1 there is no unit model
+  none_at_one : (file bytes text : List ℕ) (g : GraphValue) → instance_of Proper bytes ≡ read.Ok (proper g) → Replies (UnitModel file) (bytes ∷ []) 1 text → HasUnitModel g → ⊥
+  none_at_one file bytes text g e reply has =
+      let formed = (instance_read Proper bytes (proper g) e).formed in
+      let order = unit_law g has.0 has.1 formed has.2 in
+      (no_law Proper file bytes text 1 (proper g) e (no_unit_law file file bytes text reply)).0 refl (λ s side. order)
+
+  pub unit_status_law : UnitStatusLaw
+  unfolding Replies
+  unit_status_law file bytes text status g e reply =
+      let same : reply.0 ≡ g = same_reading bytes g reply.0 e reply.1 in
+      let made : IsModelReply g status text = subst (λ k. IsModelReply k status text) same reply.2 in (
+        λ zero. let told = told_at_zero g made.verdict made.verdict.claim status text made.tells zero in (told.1.0.size, told.1.0.lefts, told.1.1.model),
+        λ has. elim (cases_eq status 0) [
+          | inl zero ↦ zero
+          | inr n ↦
+              let one = told_status g made.verdict made.verdict.claim status text made.tells n in
+              absurd (none_at_one file bytes text g e (subst (λ s. Replies (UnitModel file) (bytes ∷ []) s text) one reply) has)
+        ],
+      )
+
+pub printed_unit_law : PrintedUnitLaw
+unfolding Replies
+printed_unit_law file bytes text g e reply =
+    let same : reply.0 ≡ g = same_reading bytes g reply.0 e reply.1 in
+    let made : IsModelReply g 0 text = subst (λ k. IsModelReply k 0 text) same reply.2 in
+    let told = told_at_zero g made.verdict made.verdict.claim 0 text made.tells refl in
+    unit_of_told g told.0 text told.1
+
+-- a finding with status 0 is that the text is valid
+valid_at_zero : (g : GraphValue) (bytes : List ℕ) (f : Finding) → IsFinding g bytes f → 0 ≡ finding_status f → HasUnit bytes (IsUnitOf g)
+valid_at_zero g bytes finding.Valid h zero = h
+valid_at_zero g bytes finding.TooLong h zero = absurd (omega arith)
+valid_at_zero g bytes finding.NoUnit h zero = absurd (omega arith)
+valid_at_zero g bytes finding.Vertices h zero = absurd (omega arith)
+valid_at_zero g bytes finding.Model h zero = absurd (omega arith)
+
+-- and it is found where it holds
+found_valid : OneUnitLaw → (g : GraphValue) (bytes : List ℕ) (f : Finding) → IsFinding g bytes f → HasUnit bytes (IsUnitOf g) → (finding_status f ≡ 0) × (finding_text f ≡ codes "valid")
+found_valid one g bytes finding.Valid h has = (refl, refl)
+found_valid one g bytes finding.TooLong h has = absurd (omega (arith, h, has.0))
+found_valid one g bytes finding.NoUnit h has = absurd (h.1 has.1.0 has.1.1 has.1.2)
+found_valid one g bytes finding.Vertices h has =
+    let same : has.1.0 ≡ h.1.0 = one has.1.0 h.1.0 has.1.1 h.1.1 (sym has.1.2 ∙ h.1.2) in
+    absurd (h.1.3 (sym (ap (λ (t : UnitValue). t.vertices) same) ∙ has.1.3.0))
+found_valid one g bytes finding.Model h has =
+    let same : has.1.0 ≡ h.1.0 = one has.1.0 h.1.0 has.1.1 h.1.1 (sym has.1.2 ∙ h.1.2) in
+    absurd (h.1.3.1 (subst (λ (t : UnitValue). IsUnitModel g t.size t.lefts) same has.1.3.1))
+
+module _ (one : OneUnitLaw) where
+  pub unit_check_law : UnitCheckLaw
+  unfolding Replies
+  unit_check_law file unit bytes given text status g e reply =
+      let same : reply.0 ≡ g = same_reading bytes g reply.0 e reply.1 in
+      let made : IsFindingReply g given status text = subst (λ k. IsFindingReply k given status text) same reply.2 in (
+        λ zero. valid_at_zero g given made.finding made.holds (sym zero ∙ made.status_is),
+        λ has. made.status_is ∙ (found_valid one g given made.finding made.holds has).0,
+      )
+
+  pub unit_agreed_law : TextLengthLaw → UnitAgreedLaw
+  unfolding Replies
+  unit_agreed_law short file other unit bytes given text status printed reply =
+      let g = reply.0 in
+      let told = printed_unit_law other bytes given g reply.1 printed in
+      let few : length given ≤ MAX_VERDICT_BYTES = omega (arith, short told.0 told.1, ap (λ (xs : List ℕ). length xs) told.2) in
+      let has : HasUnit given (IsUnitOf g) = (few, told) in
+      let valid = found_valid one g given reply.2.finding reply.2.holds has in
+      (reply.2.status_is ∙ valid.0, reply.2.text_is ∙ ap (λ line. line ++ codes "\n") valid.1)
