@@ -6,9 +6,9 @@
 //!
 //! Each command has a room of its own for its code, and others of its name for its definitions and its lemmas: `solve`,
 //! `check`, `extend`, `list`, `meet`, `unit`, `generator` for `gen`, and `unit_check` for `check-unit`. What they share is
-//! how words are read (`words`), how a file is read by
-//! the form that it should have (`input`), what may stand in the way (`stop`), and the frame of a command that ran,
-//! which is one record. A new command is a case of the words, a room, and its laws.
+//! how words are read (`words`), how a file is read by the form that it should have (`input`), what may stand in the way
+//! (`stop`), and the frame of a command that ran, which is one record. A new command is a case of the words, a room, and
+//! its laws.
 #![tactic(auto)]
 
 ghost use Rattle.std.specs.Prelude.{◌≡◌};
