@@ -1,5 +1,5 @@
 -- Where the first line feed of a text stands.
-use Rattle.std.proofs.Common.{◌≡◌, ◌∙◌, ℕ, zero, suc, ◌<◌, ◌≤◌, ◌+◌, ◌==◌, List, [], ◌∷◌, true, false, length, get_or, if◌then◌else◌, ap, refl, arith}
+use Rattle.std.proofs.Common.{◌≡◌, ℕ, zero, suc, ◌<◌, ◌==◌, List, [], ◌∷◌, true, false, length, get_or, if◌then◌else◌, ap, refl, arith}
 use Rattle.matrix_read.specs.Lines.{line_len}
 
 -- a line feed behind bytes that are none

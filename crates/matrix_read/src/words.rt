@@ -131,13 +131,20 @@ fn short_number_at(line: &[u8], at: usize) -> Option<NumberWord>
     ensures range { IfSome result (λ word. (at < word.next) × (word.next ≤ length line.now)) }
 {
     let digits = first_digits(&line[at..]);
+    if digits.len == 0 || digits.len > FEW_DIGITS {
+        return None;
+    }
+    let number = Numeral::Value(digits.value);
     let end = at + digits.len;
-    if digits.len == 0 || digits.len > FEW_DIGITS || begins_word(&line[end..]) {
+    if end == line.len() {
+        return Some(NumberWord { number, next: end });
+    }
+    if begins_word(&line[end..]) {
         return None;
     }
     Some(NumberWord {
-        number: Numeral::Value(digits.value),
-        next: past_blank(line, end),
+        number,
+        next: end + 1,
     })
 }
 

@@ -1,6 +1,6 @@
-use Rattle.std.proofs.Common.{◌≡◌, ◌∙◌, ◌+◌, ◌<◌, ◌≤◌, ◌∷◌, ◌++◌, [], List, ℕ, length, take, set, drop, append_assoc, sym, ap, arith}
+use Rattle.std.proofs.Common.{◌≡◌, ◌∙◌, ◌+◌, ◌<◌, ◌∷◌, ◌++◌, [], List, ℕ, length, take, set, drop, append_assoc, sym, ap, arith}
 use Rattle.std.proofs.lemmas.List.{take_more_set, append-nil}
-use Rattle.row_model.specs.Rows.{Ascends, IsRow}
+use Rattle.row_model.specs.Rows.{IsRow}
 use Rattle.matrix_read.specs.Words.{words_of}
 use Rattle.matrix_read.specs.Sparse.{columns_named}
 use Rattle.matrix_read.proofs.SparseLemmas.{code_behind, columns_behind, row_listed, words_end}

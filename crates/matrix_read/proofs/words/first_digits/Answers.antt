@@ -1,4 +1,4 @@
-use Rattle.std.proofs.Common.{◌≡◌, ◌∙◌, ◌<◌, ◌≤◌, ℕ, List, ◌+◌, ◌-◌, ◌*◌, ◌%◌, ◌^◌, length, get_or, ap, arith}
+use Rattle.std.proofs.Common.{◌≡◌, ◌∙◌, ◌<◌, ◌≤◌, ℕ, List, ◌+◌, ◌-◌, ◌*◌, ◌%◌, ◌^◌, get_or, ap, arith}
 use Rattle.matrix_read.proofs.WordLemmas.{one_more_digit, few_digits}
 use Rattle.matrix_read.proofs.FewDigits.{digit_byte, value_fits, digit_more, value_more}
 use Rattle.matrix_read.proofs.words.first_digits.Goals as goal

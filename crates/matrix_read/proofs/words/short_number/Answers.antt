@@ -1,4 +1,4 @@
-use Rattle.std.proofs.Common.{◌≡◌, ◌<◌, ◌≤◌, ℕ, List, ◌+◌, ◌-◌, ◌*◌, ◌^◌, length, drop, suc, get_or, ap, sym, ◌∙◌, true, arith, rules}
+use Rattle.std.proofs.Common.{◌≡◌, ◌≤◌, ℕ, List, ◌+◌, ◌*◌, drop, suc, get_or, ap, sym, ◌∙◌, true, arith}
 use Rattle.std.specs.Char.{is_ascii_digit}
 use Rattle.matrix_read.specs.Words.{number_after}
 use Rattle.matrix_read.proofs.WordLemmas.{one_more_digit, few_digits, digit_most, digits_after, digit_after}
