@@ -3,11 +3,12 @@
 limits; runs the commands of the pages; compares the answer on every small instance with a plain program that tries all orders, and has
 the verdict checked; compares the judgement on forged verdicts and the refusals of changed files with a second checker, and that on right
 verdicts with other trees with a plain program that lists all orders; compares generated matrices and sessions with plain programs of their
-rules, and what two trees share with one that lists all orders; bounds what hostile files cost; and tries the first call of `./pq`.
+rules, lists of orders and what two trees share with ones that list all orders; bounds what hostile files cost; and tries the first call
+of `./pq`.
 
 Usage: end_to_end/check.py [PART ..]   after `rt ci` or `./pq`, which leave the program in crates/pq/out/pq
 
-PARTs pick some of the checks: `cases` (files and streams), `pages`, `answers` (of small instances, at the limits, of `gen` and of sessions),
+PARTs pick some of the checks: `cases` (files and streams), `pages`, `answers` (of small instances, at the limits, of `gen`, of sessions and of lists),
 `forgeries`, `trees`, `meetings`, `hostile`, `first_call`; default all. The last line is `N passed, N failed`; the status is 0 where nothing failed.
 """
 
@@ -30,10 +31,12 @@ from graph_kinds import GRAPH_CASES, GRAPH_SOLVED
 from hostile import hostile_problems
 from kinds import KIND_CASES, SOLVED
 from limits import AT_LIMITS
+from listing import LIST_CASES, REFUTED as UNLISTED, list_problem, refused_problem, small_trees
 from pages import loose_commands, page_problems, pages
 from program import HOME, PROGRAM, SECONDS, run, run_over
 from sessions import SESSION_CASES, drawn, extend_problem, gen_problem, sessions
 from streams import difference, streams
+from trees import written
 
 NOBODY = 65534
 
@@ -93,7 +96,7 @@ def example(name):
 
 def in_folders(report, top, program):
     """The cases and the streams, each in a folder of its own."""
-    tried = [(case["name"], run_case, case) for case in CASES + KIND_CASES + GRAPH_CASES + SESSION_CASES + FORGED_CASES]
+    tried = [(case["name"], run_case, case) for case in CASES + KIND_CASES + GRAPH_CASES + SESSION_CASES + LIST_CASES + FORGED_CASES]
     tried += [(case["name"], run_case, case) for case in meetings.MEET_CASES]
     tried += [(name, lambda _, *given, stream=stream: stream(*given), None) for name, stream in streams()]
     for number, (name, check, case) in enumerate(tried):
@@ -137,6 +140,10 @@ def without_folders():
         yield f"gen {words}", gen_problem, words
     for session in sessions():
         yield f"extend {session}", extend_problem, session
+    for tree in small_trees():
+        yield f"list {written(tree)}", list_problem, (tree,)
+    for content in UNLISTED:
+        yield f"list {content}", refused_problem, (content,)
 
 
 # The checks that tell each name with its problem, by the words that pick them.

@@ -32,6 +32,8 @@ KINDS = ("crates/row_model/src/kind.rt", "Kind")
 INSTANCES = ("crates/instance_model/specs/Instance.antt", "InstanceValue")
 PLAIN = "plain"
 FIRST = ("Solve", "Matrix")
+# The words of the cases that are named otherwise.
+WORDS = {"ListOrders": "list"}
 
 USE = re.compile(r"^\s*(?:ghost\s+)?(?:pub\s+)?use\s+Rattle\.([\w.+]+?)(?:\.\{([^}]*)\}|\s+as\s+(\w+))\s*;?\s*$", re.M)
 CODE_USE = re.compile(r"^use (\w+)::(?:\{([^}]*)\}|(\w+));", re.M)
@@ -295,12 +297,13 @@ def public_laws():
 
 def word_of(case):
     """The word of a command or a kind, by its case."""
-    return re.sub(r"(?<=[a-z])(?=[A-Z])", "-", case).lower()
+    return WORDS.get(case) or re.sub(r"(?<=[a-z])(?=[A-Z])", "-", case).lower()
 
 
 def case_of(word):
     """The case of a command or a kind, by its word."""
-    return "".join(part.capitalize() for part in word.split("-"))
+    named = {said: case for case, said in WORDS.items()}
+    return named.get(word) or "".join(part.capitalize() for part in word.split("-"))
 
 
 def counts(whole):

@@ -7,6 +7,8 @@ mod forged;
 #[cfg(test)]
 mod graphs;
 #[cfg(test)]
+mod lists;
+#[cfg(test)]
 mod sessions;
 #[cfg(test)]
 mod versions;
