@@ -3,13 +3,14 @@
 limits; runs the commands of the pages; compares the answer on every small instance with a plain program that tries all orders, and has
 the verdict checked; compares the judgement on forged verdicts and the refusals of changed files with a second checker, and that on right
 verdicts with other trees with a plain program that lists all orders; compares generated matrices and sessions with plain programs of their
-rules, lists of orders and what two trees share with ones that list all orders; bounds what hostile files cost; and tries the first call
-of `./pq`.
+rules, lists of orders and what two trees share with ones that list all orders; finds the unit model of every small graph, and compares
+what is said of changed ones with a plain checker; bounds what hostile files cost; and tries the first call of `./pq`.
 
 Usage: end_to_end/check.py [PART ..]   after `rt ci` or `./pq`, which leave the program in crates/pq/out/pq
 
-PARTs pick some of the checks: `cases` (files and streams), `pages`, `answers` (of small instances, at the limits, of `gen`, of sessions and of lists),
-`forgeries`, `trees`, `meetings`, `hostile`, `first_call`; default all. The last line is `N passed, N failed`; the status is 0 where nothing failed.
+PARTs pick some of the checks: `cases` (files and streams), `pages`, `answers` (of small instances, at the limits, of `gen`, of sessions, of lists and
+of unit models), `forgeries`, `trees`, `meetings`, `hostile`, `first_call`; default all. The last line is `N passed, N failed`; the status is 0 where
+nothing failed.
 """
 
 import concurrent.futures
@@ -24,6 +25,7 @@ import first_call
 import forgeries
 import meetings
 import other_trees
+import units
 from cases import CASES, REFUTED
 from file_readers import Limits
 from forged import FORGED_CASES
@@ -97,7 +99,7 @@ def example(name):
 def in_folders(report, top, program):
     """The cases and the streams, each in a folder of its own."""
     tried = [(case["name"], run_case, case) for case in CASES + KIND_CASES + GRAPH_CASES + SESSION_CASES + LIST_CASES + FORGED_CASES]
-    tried += [(case["name"], run_case, case) for case in meetings.MEET_CASES]
+    tried += [(case["name"], run_case, case) for case in meetings.MEET_CASES + units.UNIT_CASES]
     tried += [(name, lambda _, *given, stream=stream: stream(*given), None) for name, stream in streams()]
     for number, (name, check, case) in enumerate(tried):
         folder = os.path.join(top, str(number))
@@ -144,6 +146,7 @@ def without_folders():
         yield f"list {written(tree)}", list_problem, (tree,)
     for content in UNLISTED:
         yield f"list {content}", refused_problem, (content,)
+    yield from units.checks()
 
 
 # The checks that tell each name with its problem, by the words that pick them.

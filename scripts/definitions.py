@@ -33,7 +33,7 @@ INSTANCES = ("crates/instance_model/specs/Instance.antt", "InstanceValue")
 PLAIN = "plain"
 FIRST = ("Solve", "Matrix")
 # The words of the cases that are named otherwise.
-WORDS = {"ListOrders": "list"}
+WORDS = {"ListOrders": "list", "UnitModel": "unit"}
 
 USE = re.compile(r"^\s*(?:ghost\s+)?(?:pub\s+)?use\s+Rattle\.([\w.+]+?)(?:\.\{([^}]*)\}|\s+as\s+(\w+))\s*;?\s*$", re.M)
 CODE_USE = re.compile(r"^use (\w+)::(?:\{([^}]*)\}|(\w+));", re.M)

@@ -11,6 +11,8 @@ mod lists;
 #[cfg(test)]
 mod sessions;
 #[cfg(test)]
+mod units;
+#[cfg(test)]
 mod versions;
 
 #[cfg(test)]

@@ -1,6 +1,6 @@
 -- Left ends beside the neighbours of a vertex, which ascend.
-use Rattle.std.proofs.Common.{◌≡◌, ◌≢◌, ◌↔◌, ◌∙◌, ℕ, drop, ◌+◌, ◌-◌, ◌<◌, ◌≤◌, false, Some, slice_get, List, [], ◌∷◌, length, get_or, IsTrue, refl, sym, ap, subst, inl, inr, arith, ◌⊎◌, ◌||◌}
-use Rattle.std.proofs.lemmas.Bool.{both_ways, cases_eq, cases_lt, ne_eqb}
+use Rattle.std.proofs.Common.{◌≡◌, ◌≢◌, ◌↔◌, ◌∙◌, ℕ, drop, ◌+◌, ◌-◌, ◌<◌, ◌≤◌, false, Some, slice_get, List, [], ◌∷◌, length, get_or, IsTrue, refl, sym, ap, subst, inl, inr, arith, ◌⊎◌, ◌||◌, ◌^◌, ◌&&◌, leb, min, not, true, Bool}
+use Rattle.std.proofs.lemmas.Bool.{both_ways, cases_eq, cases_lt, ne_eqb, and_parts, and_cases, or_cases, leb-true, leb-false}
 use Rattle.std.proofs.lemmas.List.{drop_more}
 use Rattle.std.proofs.lemmas.Option.{get_or_from_slice_get}
 use Rattle.column_order.specs.Orders.{has}
@@ -158,3 +158,59 @@ next_neighbour lefts m at neighbours i from l p = subst (λ rest. IsPassed lefts
 
 pub next_place : (lefts : List ℕ) (m at : ℕ) (neighbours rest : List ℕ) (v from : ℕ) → IsPassed lefts m at neighbours (v ∷ rest) from → v ≡ v - 1 + 1
 next_place lefts m at neighbours rest v from p = omega (arith, p.ascends.0)
+
+-- a left end lies within the length exactly where it is neither too low nor too high
+within_true : (left m x least most : ℕ) → least ≡ left - m → most ≡ min (left + m) (2 ^ 64 - 1) → (leb least x && leb x most) ≡ true → DifferByAtMost m left x
+within_true left m x least most low high t =
+    let both = and_parts (leb least x) (leb x most) t in
+    let above : least ≤ x = leb-true least x both.0 in
+    let below : x ≤ most = leb-true x most both.1 in
+    (omega (arith, low, above), omega (arith, high, below))
+
+within_false : (left m x least most : ℕ) → least ≡ left - m → most ≡ min (left + m) (2 ^ 64 - 1) → x < 2 ^ 64 → (leb least x && leb x most) ≡ false → DifferByAtMost m left x → ⊥
+within_false left m x least most low high fits t d =
+    elim (and_cases (leb least x) (leb x most) t) [
+      | inl e ↦ let under : x < least = leb-false least x e in absurd (omega (arith, low, under, d.0))
+      | inr e ↦ let over : most < x = leb-false x most e in absurd (omega (arith, high, over, d.1, fits))
+    ]
+
+or_none : (s t : Bool) → (s || t) ≡ false → (s ≡ false) × (t ≡ false)
+or_none true t e = absurd (cc)
+or_none false t e = (refl, e)
+
+-- what is known where the left ends up to a place are compared
+pub record AreCompared (left m : ℕ) (lefts : List ℕ) (from to i : ℕ) (near : Bool) : Type 0 where
+  pub none : near ≡ false → AreApart left m lefts from i
+  pub some : near ≡ true → AreApart left m lefts from i → ⊥
+  pub start : to < from → i ≡ from
+
+pub compared_none : (left m : ℕ) (lefts : List ℕ) (from to : ℕ) → AreCompared left m lefts from to from false
+compared_none left m lefts from to = record { none = λ e i a b. absurd (omega arith); some = λ e apart. absurd (cc); start = λ l. refl }
+
+pub compared_more : (left m : ℕ) (lefts : List ℕ) (from to i : ℕ) (near : Bool) (least most : ℕ) → from ≤ i → i < to → least ≡ left - m → most ≡ min (left + m) (2 ^ 64 - 1) → get_or lefts i 0 < 2 ^ 64 →
+    AreCompared left m lefts from to i near → AreCompared left m lefts from to (i + 1) (near || (leb least (get_or lefts i 0) && leb (get_or lefts i 0) most))
+compared_more left m lefts from to i near least most a b low high fits c = record {
+  none = λ e j k l.
+      let both = or_none near (leb least (get_or lefts i 0) && leb (get_or lefts i 0) most) e in
+      elim (cases_lt j i) [
+        | inl before ↦ c.none both.0 j k before
+        | inr here ↦
+            let same : i ≡ j = omega arith in
+            subst (λ p. DifferByAtMost m left (get_or lefts p 0) → ⊥) same (within_false left m (get_or lefts i 0) least most low high fits both.1)
+      ];
+  some = λ e apart. elim (or_cases near (leb least (get_or lefts i 0) && leb (get_or lefts i 0) most) e) [
+    | inl n ↦ c.some n (λ j k l. apart j k (omega (arith, l)))
+    | inr t ↦ apart i a (omega arith) (within_true left m (get_or lefts i 0) least most low high t)
+  ];
+  start = λ l. absurd (omega (arith, l, a, b));
+}
+
+pub compared_all : (left m : ℕ) (lefts : List ℕ) (from to i : ℕ) (near : Bool) → from ≤ i → (from ≤ to → i ≤ to) → to ≤ i → AreCompared left m lefts from to i near → IsTrue (not near) ↔ AreApart left m lefts from to
+compared_all left m lefts from to i false a end b c = (λ t j k l. c.none refl j k (omega (arith, l, b)), λ apart. refl)
+compared_all left m lefts from to i true a end b c = (
+  λ t. absurd (cc),
+  λ apart. absurd (c.some refl (λ j k l. elim (cases_lt to from) [
+    | inl less ↦ absurd (omega (arith, k, l, c.start less))
+    | inr more ↦ apart j k (omega (arith, l, end more))
+  ])),
+)

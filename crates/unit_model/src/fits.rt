@@ -47,17 +47,19 @@ fn fits_later(lefts: &[u64], length: u64, at: usize, neighbours: &[u32]) -> bool
     are_apart(left, length, lefts, from, lefts.len())
 }
 
-// Whether a left end differs by more than the length from each of those from one place to another.
+// Whether a left end differs by more than the length from each of those from one place to another. It looks at all of
+// them, so that several are compared at once.
 fn are_apart(left: u64, length: u64, lefts: &[u64], from: usize, to: usize) -> bool
     requires { to ≤ count_of lefts.now }
     ensures { IsTrue result ↔ AreApart left length lefts.now from to }
 {
+    let least = left.saturating_sub(length);
+    let most = left.saturating_add(length);
+    let mut near = false;
     for i in from..to {
-        if are_near(left, lefts[i], length) {
-            return false;
-        }
+        near |= (least <= lefts[i]) & (lefts[i] <= most);
     }
-    true
+    !near
 }
 
 // Whether two left ends differ by at most the length.
