@@ -8,6 +8,7 @@ mod forged;
 mod graphs;
 #[cfg(test)]
 mod lists;
+mod meetings;
 #[cfg(test)]
 mod sessions;
 #[cfg(test)]

@@ -16,7 +16,7 @@ fn extended(alloc: Global, matrix: &[u8], rows: &[u8]) -> Result<Outcome, NoMemo
 }
 
 // What stands in a text between its first bytes and its last, which are as is wanted.
-fn between<'a>(rt: &impl Abort, text: &'a [u8], first: &[u8], last: &[u8]) -> &'a [u8] {
+pub fn between<'a>(rt: &impl Abort, text: &'a [u8], first: &[u8], last: &[u8]) -> &'a [u8] {
     let Some(rest) = text.strip_prefix(first) else {
         panic!(rt; "the text begins otherwise");
     };
@@ -27,7 +27,7 @@ fn between<'a>(rt: &impl Abort, text: &'a [u8], first: &[u8], last: &[u8]) -> &'
 }
 
 // A check accepts the lines of a cycle as a no on the matrix.
-fn accepted(rt: &impl Abort, alloc: Global, matrix: &[u8], cycle: &[u8]) -> Result<(), Fail> {
+pub fn accepted(rt: &impl Abort, alloc: Global, matrix: &[u8], cycle: &[u8]) -> Result<(), Fail> {
     let mut verdict = b"pq-verdict 2\nkind matrix\ncolumns 3\nanswer no\nside 1\n".to_vec(alloc)?;
     verdict.extend_from_slice(cycle)?;
     verdict.extend_from_slice(b"end\n")?;

@@ -14,8 +14,8 @@ abbrev pub neighbours : Forest → List (List ℕ)
 neighbours no_tree = []
 neighbours (tree_and t ts) = pairs_from t ts
 
--- The groups of a tree, each node before its children and the children from left to right: a node that is no leaf gives its
--- leaves, and a Q-node gives next the leaves of each two neighbouring children.
+-- The groups of a tree, each node before its children and the children from left to right: a node that is no leaf
+-- gives its leaves, and a Q-node gives next the leaves of each two neighbouring children.
 abbrev mutual
   pub groups : Outline → List (List ℕ)
   groups (leaf a) = []

@@ -17,8 +17,8 @@ use step_count::{Ledger, Steps};
 pub enum Met {
     /// The canonical tree whose frontiers are exactly the common frontiers, of which there is one.
     Tree(PqTree),
-    /// No frontier is common, as an odd cycle shows in the incompatibility graph (McConnell, 2004) of the rows of the first
-    /// tree followed by those of the second.
+    /// No frontier is common, as an odd cycle shows in the incompatibility graph (McConnell, 2004) of the rows of the
+    /// first tree followed by those of the second.
     Apart(Cycle),
 }
 

@@ -2,16 +2,16 @@
 
 ghost use Rattle.tree_meet.specs.Laws.{TreeRowsLaw, TiedRowsLaw, FewRowsLaw, EitherFirstLaw, UniversalMeetLaw};
 
-/// The frontiers of a proper tree are exactly the valid orders of its rows, and the tree is tied to them. It has fewer than
-/// two rows for each column.
+/// The frontiers of a proper tree are exactly the valid orders of its rows, and the tree is tied to them. It has
+/// fewer than two rows for each column.
 pub fn tree_rows_law()
     ensures exact { TreeRowsLaw }
     ensures tied { TiedRowsLaw }
     ensures few { FewRowsLaw }
 {}
 
-/// Which of two trees is the first doesn't matter for the canonical tree of the orders that they share. What a tree shares
-/// with the universal tree is the tree itself, in its canonical form.
+/// Which of two trees is the first doesn't matter for the canonical tree of the orders that they share. What a tree
+/// shares with the universal tree is the tree itself, in its canonical form.
 pub fn common_law()
     ensures either { EitherFirstLaw }
     ensures universal { UniversalMeetLaw }

@@ -23,7 +23,8 @@ pub fn mark_trees(trees: &[Tree], marks: &mut [usize])
 fn mark_tree(tree: &Tree, mark: usize, marks: &mut [usize])
     requires { (a : ℕ) → IsTrue (has (leaves (outline_of tree.now)) a) → a < length marks.old }
     ensures own { (a : ℕ) → IsTrue (has (leaves (outline_of tree.now)) a) → slice_index marks.new a ≡ mark }
-    ensures others { (a : ℕ) → IsFalse (has (leaves (outline_of tree.now)) a) → slice_index marks.new a ≡ slice_index marks.old a }
+    ensures others { (a : ℕ) → IsFalse (has (leaves (outline_of tree.now)) a)
+        → slice_index marks.new a ≡ slice_index marks.old a }
 {
     match tree {
         Tree::Leaf(column) => marks[*column as usize] = mark,

@@ -1,7 +1,7 @@
 //! The rows of a tree, written in one walk.
 //!
-//! A node is handed the row of its leaves. It parts this row among its children, so each column is looked at once for each
-//! row that has it, and no row is sorted.
+//! A node is handed the row of its leaves. It parts this row among its children, so each column is looked at once for
+//! each row that has it, and no row is sorted.
 
 ghost use Rattle.std.specs.Prelude.{◌≡◌, ◌+◌, ◌≤◌, ◌++◌, ℕ, length, map, IfOk, OnOk};
 ghost use Rattle.std.specs.List.{AllByRecursion};
@@ -19,9 +19,9 @@ use pq_tree::{PqTree, Tree};
 use row_model::{COLUMN_BOUND, Matrix, NoMemory, ROW_BOUND};
 use std::alloc::Global;
 
-/// The matrix of the rows of a tree: from the root on, each node before its children and the children from left to right, a
-/// node that is no leaf gives the row of its leaves, and a Q-node gives next the rows of the leaves of each two neighbouring
-/// children.
+/// The matrix of the rows of a tree: from the root on, each node before its children and the children from left to
+/// right, a node that is no leaf gives the row of its leaves, and a Q-node gives next the rows of the leaves of each
+/// two neighbouring children.
 ///
 /// The time is linear in the sum of the lengths of the rows.
 ///
@@ -83,7 +83,9 @@ fn push_tree(
     requires once { (a : ℕ) → occurs (leaves (outline_of tree.now)) a ≤ 1 }
     requires marks { length marks.old ≡ m.old.columns + 1 }
     requires room { length m.old.rows + length (groups (outline_of tree.now)) ≤ ROW_BOUND }
-    ensures { OnOk result (m.new ≡ record m.old { rows = m.old.rows ++ rows_of_tree m.old.columns (outline_of tree.now) }) }
+    ensures { OnOk result (m.new ≡ record m.old {
+      rows = m.old.rows ++ rows_of_tree m.old.columns (outline_of tree.now);
+    }) }
 {
     match tree {
         Tree::Leaf(_) => Ok(()),
