@@ -2,12 +2,12 @@
 #![tactic(auto)]
 
 #[cfg(test)]
-#[cfg(test)]
 mod forged;
 #[cfg(test)]
 mod graphs;
 #[cfg(test)]
 mod lists;
+#[cfg(test)]
 mod meetings;
 #[cfg(test)]
 mod sessions;

@@ -14,7 +14,8 @@ use Rattle.tree_meet.specs.Meets.{IsCommon, joint_rows}
 -- the first three lines: the number of columns, and the numbers of rows of both trees
 abbrev pub head_of : ℕ → ℕ → ℕ → List ℕ
 head_of columns first second =
-    codes "pq-meet 1\ncolumns " ++ (decimal columns ++ (codes "\nrows " ++ (decimal first ++ (codes " " ++ (decimal second ++ codes "\n")))))
+    codes "pq-meet 1\ncolumns " ++ (decimal columns ++
+    (codes "\nrows " ++ (decimal first ++ (codes " " ++ (decimal second ++ codes "\n")))))
 
 -- the same of two trees over 1 to c
 abbrev pub head_text : ℕ → Outline → Outline → List ℕ
@@ -34,7 +35,8 @@ pub record TellsCommon (c : ℕ) (t u : Outline) (text : List ℕ) : Type 0 wher
   pub shows : ShowsCommon c t u side
   pub text_is : text ≡ head_text c t u ++ (codes "answer yes\n" ++ (side_text side ++ codes "end\n"))
 
--- No: no frontier is common, and the text tells an odd cycle of the rows of the first tree followed by those of the second.
+-- No: no frontier is common, and the text tells an odd cycle of the rows of the first tree followed by those of the
+-- second.
 pub record TellsApart (c : ℕ) (t u : Outline) (text : List ℕ) : Type 0 where
   pub none : (o : List ℕ) → IsCommon t u o → ⊥
   pub lines : List Line

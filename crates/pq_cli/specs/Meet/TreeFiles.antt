@@ -28,8 +28,8 @@ abbrev pub read_tree : Option Outline → Read Outline
 read_tree (Some t) = read.Ok t
 read_tree None = read.Refused (record { code = TREE_CODE; line = 0 })
 
--- The tree over 1 to c in the bytes of a file, or their refusal. A byte order mark at the start and an end of line at the
--- end are no part of the tree's text.
+-- The tree over 1 to c in the bytes of a file, or their refusal. A byte order mark at the start and an end of line at
+-- the end are no part of the tree's text.
 unfoldable pub tree_file : ℕ → List ℕ → Read Outline
 tree_file c bytes =
     if nat_lt MAX_FILE_BYTES (length bytes) then read.Refused (record { code = LIMIT; line = 0 })
@@ -64,6 +64,11 @@ TreeFileLaw =
 
 -- one that writes no tree has the code of trees and no line, and one past the limit has the code of limits
 pub record TreeRefusalLaw : Type 0 where
-  pub none : (c : ℕ) (bytes : List ℕ) → c ≤ MAX_COLUMNS → length bytes ≤ MAX_FILE_BYTES → ((t : Outline) → WritesTree c bytes t → ⊥)
-      → tree_file c bytes ≡ read.Refused (record { code = TREE_CODE; line = 0 })
-  pub long : (c : ℕ) (bytes : List ℕ) → MAX_FILE_BYTES < length bytes → tree_file c bytes ≡ read.Refused (record { code = LIMIT; line = 0 })
+  pub none : (c : ℕ) (bytes : List ℕ) →
+      c ≤ MAX_COLUMNS →
+      length bytes ≤ MAX_FILE_BYTES →
+      ((t : Outline) → WritesTree c bytes t → ⊥) →
+      tree_file c bytes ≡ read.Refused (record { code = TREE_CODE; line = 0 })
+  pub long : (c : ℕ) (bytes : List ℕ) →
+      MAX_FILE_BYTES < length bytes →
+      tree_file c bytes ≡ read.Refused (record { code = LIMIT; line = 0 })
