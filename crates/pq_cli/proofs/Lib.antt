@@ -4,6 +4,7 @@ pub mod Lines
 pub mod Solving
 pub mod Checking
 pub mod Extending
+pub mod CoreRows
 pub mod Generating
 pub mod Meeting
 pub mod Listing

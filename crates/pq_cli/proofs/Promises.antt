@@ -8,7 +8,7 @@ use Rattle.row_model.specs.declared.refusal.Read.{Read}
 use Rattle.row_model.specs.declared.refusal.Read.TheVariants as read
 use Rattle.verdict_text.specs.Verdict.{Claim, yes_claim, no_claim, VerdictValue}
 use Rattle.instance_model.specs.Instance.{InstanceValue, HasTextbookOrder, proper}
-use Rattle.pq_cli.specs.Words.{Command, Solve, Check, Extend, Gen, Meet, ListOrders, UnitModel, CheckUnit, files_of}
+use Rattle.pq_cli.specs.Words.{Command, Solve, Check, Extend, Gen, Meet, ListOrders, UnitModel, CheckUnit, Core, CheckCore, files_of}
 use Rattle.pq_cli.specs.Replies.{refusable, refused_at, refused_behind, refused_of_two, refusal_of, Replies}
 use Rattle.verdict_text.specs.Grammar.{IsVerdict}
 use Rattle.graph_read.specs.Graphs.{GraphValue}
@@ -70,6 +70,20 @@ unrefused told (Extend kind name other) (bytes ∷ given ∷ []) which refusal t
           absurd (cc)
     ]
 unrefused told (Extend kind name other) (bytes ∷ given ∷ more ∷ files) which refusal t none from to first = absurd t.1.1
+unrefused told (Core kind name) [] which refusal t none from to first = absurd t
+unrefused told (Core kind name) (bytes ∷ []) which refusal t none from to first =
+    let one : which ≡ 1 = omega (arith, from, to) in
+    let found : refusal_of (Core kind name) (bytes ∷ []) ≡ Some (1, refusal) = subst (λ n. WhereFirstTold told (Core kind name) n (λ fs. refusal_of (Core kind name) fs ≡ Some (n, refusal))) one first (bytes ∷ []) t in
+    absurd (cc)
+unrefused told (Core kind name) (bytes ∷ more ∷ files) which refusal t none from to first = absurd t.1
+unrefused told (CheckCore kind name other) [] which refusal t none from to first = absurd t
+unrefused told (CheckCore kind name other) (bytes ∷ []) which refusal t none from to first = absurd t.1
+unrefused told (CheckCore kind name other) (bytes ∷ given ∷ []) which refusal t none from to first =
+    let one : which ≡ 1 = omega (arith, from, to) in
+    let found : refusal_of (CheckCore kind name other) (bytes ∷ []) ≡ Some (1, refusal) =
+    subst (λ n. WhereFirstTold told (CheckCore kind name other) n (λ fs. refusal_of (CheckCore kind name other) fs ≡ Some (n, refusal))) one first (bytes ∷ []) (t.0, tt) in
+    absurd (cc)
+unrefused told (CheckCore kind name other) (bytes ∷ given ∷ more ∷ files) which refusal t none from to first = absurd t.1.1
 unrefused told (Gen seed columns rows) files which refusal t none from to first = absurd (omega (arith, from, to))
 unrefused told (Meet c name other) [] which refusal t none from to first = absurd t
 unrefused told (Meet c name other) (bytes ∷ []) which refusal t none from to first = absurd t.1
@@ -123,6 +137,13 @@ replied_unrefused (Extend kind name other) [] status text reply = absurd reply
 replied_unrefused (Extend kind name other) (bytes ∷ []) status text reply = absurd reply
 replied_unrefused (Extend kind name other) (bytes ∷ given ∷ []) status text reply = ap (λ first. refused_behind first given) reply.2 ∙ ap (refused_at 2) reply.3
 replied_unrefused (Extend kind name other) (bytes ∷ given ∷ more ∷ files) status text reply = absurd reply
+replied_unrefused (Core kind name) [] status text reply = absurd reply
+replied_unrefused (Core kind name) (bytes ∷ []) status text reply = ap (refused_at 1) reply.1
+replied_unrefused (Core kind name) (bytes ∷ more ∷ files) status text reply = absurd reply
+replied_unrefused (CheckCore kind name other) [] status text reply = absurd reply
+replied_unrefused (CheckCore kind name other) (bytes ∷ []) status text reply = absurd reply
+replied_unrefused (CheckCore kind name other) (bytes ∷ given ∷ []) status text reply = ap (refused_at 1) reply.1
+replied_unrefused (CheckCore kind name other) (bytes ∷ given ∷ more ∷ files) status text reply = absurd reply
 replied_unrefused (Gen seed columns rows) [] status text reply = refl
 replied_unrefused (Gen seed columns rows) (bytes ∷ files) status text reply = absurd reply
 replied_unrefused (Meet c name other) [] status text reply = absurd reply
@@ -290,6 +311,8 @@ module _ (no_law : NoStatusLaw) (yes_law : YesStatusLaw) (orders_law : OrdersLaw
   promise_law (Check kind file verdict) (bytes ∷ given ∷ []) status text reply = check_promised kind file verdict bytes given status text reply
   promise_law (Check kind file verdict) (bytes ∷ given ∷ more ∷ files) status text reply = tt
   promise_law (Extend kind file rows) files status text reply = tt
+  promise_law (Core kind file) files status text reply = tt
+  promise_law (CheckCore kind file core) files status text reply = tt
   promise_law (Gen seed columns rows) files status text reply = tt
   promise_law (Meet c first second) files status text reply = tt
   promise_law (ListOrders kind file count) files status text reply = tt

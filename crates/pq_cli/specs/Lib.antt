@@ -6,6 +6,7 @@ pub mod Units
 pub mod UnitCheck
 pub mod Check
 pub mod Extend
+pub mod Core
 pub mod Gen
 pub mod Meet
 pub mod Listed

@@ -6,13 +6,14 @@ use Rattle.row_model.specs.declared.refusal.Read.{Read}
 use Rattle.row_model.specs.declared.refusal.Read.TheVariants as read
 use Rattle.matrix_read.specs.Sparse.{further}
 use Rattle.instance_model.specs.Instance.{InstanceValue, plain, derived_matrix, proper}
-use Rattle.pq_cli.specs.Words.{Command, Solve, Check, Extend, Gen, Meet, ListOrders, UnitModel, CheckUnit}
+use Rattle.pq_cli.specs.Words.{Command, Solve, Check, Extend, Gen, Meet, ListOrders, UnitModel, CheckUnit, Core, CheckCore}
 use Rattle.row_model.specs.declared.kind.Kind.TheVariants.{Proper}
 use Rattle.graph_read.specs.Graphs.{GraphValue}
 use Rattle.pq_cli.specs.Instances.{instance_of}
 use Rattle.pq_cli.specs.Solve.Verdicts.{IsVerdictReply}
 use Rattle.pq_cli.specs.Check.Judgements.{IsJudgementReply}
 use Rattle.pq_cli.specs.Extend.Sessions.{IsExtensionReply}
+use Rattle.pq_cli.specs.Core.Replies.{IsCoreReply, IsCoreJudgementReply}
 use Rattle.pq_cli.specs.Gen.Summaries.{IsSummary}
 use Rattle.pq_tree.specs.Outline.{Outline}
 use Rattle.pq_cli.specs.Meet.TreeFiles.{tree_file}
@@ -21,12 +22,14 @@ use Rattle.pq_cli.specs.Listed.Texts.{IsListReply}
 use Rattle.pq_cli.specs.Units.Models.{IsModelReply}
 use Rattle.pq_cli.specs.UnitCheck.Findings.{IsFindingReply}
 
--- how many of a command's files, the first ones, may be refused: the file of a verdict or of a unit model is judged, and
--- never refused
+-- how many of a command's files, the first ones, may be refused: the file of a verdict, of a core or of a unit model is
+-- judged, and never refused
 abbrev pub refusable : Command → ℕ
 refusable (Solve _ _) = 1
 refusable (Check _ _ _) = 1
 refusable (Extend _ _ _) = 2
+refusable (Core _ _) = 1
+refusable (CheckCore _ _ _) = 1
 refusable (Gen _ _ _) = 0
 refusable (Meet _ _ _) = 2
 refusable (ListOrders _ _ _) = 1
@@ -55,6 +58,8 @@ refusal_of (Solve kind _) (bytes ∷ _) = refused_at 1 (instance_of kind bytes)
 refusal_of (Check kind _ _) (bytes ∷ _) = refused_at 1 (instance_of kind bytes)
 refusal_of (Extend kind _ _) (bytes ∷ []) = refused_at 1 (instance_of kind bytes)
 refusal_of (Extend kind _ _) (bytes ∷ given ∷ _) = refused_behind (instance_of kind bytes) given
+refusal_of (Core kind _) (bytes ∷ _) = refused_at 1 (instance_of kind bytes)
+refusal_of (CheckCore kind _ _) (bytes ∷ _) = refused_at 1 (instance_of kind bytes)
 refusal_of (Gen _ _ _) (_ ∷ _) = None
 refusal_of (Meet c _ _) (first ∷ []) = refused_at 1 (tree_file c first)
 refusal_of (Meet c _ _) (first ∷ second ∷ _) = refused_of_two (tree_file c first) (tree_file c second)
@@ -69,6 +74,8 @@ Replies (Solve kind _) (bytes ∷ []) status text = (i : InstanceValue) × (inst
 Replies (Check kind _ _) (bytes ∷ verdict ∷ []) status text = (i : InstanceValue) × (instance_of kind bytes ≡ read.Ok i) × IsJudgementReply i verdict status text
 Replies (Extend kind _ _) (bytes ∷ given ∷ []) status text =
     (m : RowList) × (n : RowList) × (instance_of kind bytes ≡ read.Ok (plain kind m)) × (further m.columns given ≡ read.Ok n) × IsExtensionReply kind m n.rows status text
+Replies (Core kind _) (bytes ∷ []) status text = (m : RowList) × (instance_of kind bytes ≡ read.Ok (plain kind m)) × IsCoreReply kind m status text
+Replies (CheckCore kind _ _) (bytes ∷ given ∷ []) status text = (m : RowList) × (instance_of kind bytes ≡ read.Ok (plain kind m)) × IsCoreJudgementReply kind m given status text
 Replies (Gen seed columns rows) [] status text = (status ≡ 0) × IsSummary seed columns rows text
 Replies (Meet c _ _) (first ∷ second ∷ []) status text =
     (t : Outline) × (u : Outline) × (tree_file c first ≡ read.Ok t) × (tree_file c second ≡ read.Ok u) × IsMeetingReply c t u status text

@@ -20,6 +20,10 @@ pub data Command : Type 0 where
   Check : (kind : Kind) (file verdict : List ℕ) → Command
   -- `extend KIND FILE ROWS`
   Extend : (kind : Kind) (file rows : List ℕ) → Command
+  -- `core KIND FILE`
+  Core : (kind : Kind) (file : List ℕ) → Command
+  -- `check-core KIND FILE CORE`
+  CheckCore : (kind : Kind) (file core : List ℕ) → Command
   -- `gen SEED COLUMNS ROWS`
   Gen : (seed columns rows : ℕ) → Command
   -- `meet COLUMNS TREE1 TREE2`
@@ -44,14 +48,14 @@ kind_among (kind ∷ kinds) word = if bytes_eq word (kind_word kind) then Some k
 abbrev pub kind_of : List ℕ → Option Kind
 kind_of word = kind_among all_kinds word
 
--- `extend` takes this kind
+-- `extend`, `core` and `check-core` take this kind
 abbrev pub IsExtended : Kind → Type 0
 IsExtended Matrix = Unit {0}
 IsExtended Rows = Unit {0}
 IsExtended Table = Unit {0}
 IsExtended kind = ⊥
 
--- the kind of this word, among those that `extend` takes
+-- the kind of this word, among those that `extend`, `core` and `check-core` take
 abbrev pub extended_kind_of : List ℕ → Option Kind
 extended_kind_of word = kind_among (Matrix ∷ Rows ∷ Table ∷ []) word
 
@@ -76,6 +80,14 @@ check_of kind file verdict = if are_both_input file verdict then None else optio
 -- `extend` with these words
 abbrev pub extend_of : List ℕ → List ℕ → List ℕ → Option Command
 extend_of kind file rows = if are_both_input file rows then None else option_map (λ k. Extend k file rows) (extended_kind_of kind)
+
+-- `core` with these words
+abbrev pub core_of : List ℕ → List ℕ → Option Command
+core_of kind file = option_map (λ k. Core k file) (extended_kind_of kind)
+
+-- `check-core` with these words
+abbrev pub check_core_of : List ℕ → List ℕ → List ℕ → Option Command
+check_core_of kind file core = if are_both_input file core then None else option_map (λ k. CheckCore k file core) (extended_kind_of kind)
 
 -- `gen` with these words: a seed of 64 bits, and numbers of columns and of rows within the limits
 abbrev pub gen_of : List ℕ → List ℕ → List ℕ → Option Command
@@ -105,20 +117,24 @@ abbrev pub command_of : List (List ℕ) → Option Command
 command_of (verb ∷ file ∷ []) = if bytes_eq verb (codes "unit") then Some (UnitModel file) else None
 command_of (verb ∷ first ∷ second ∷ []) =
     if bytes_eq verb (codes "solve") then option_map (λ k. Solve k second) (kind_of first)
+    else if bytes_eq verb (codes "core") then core_of first second
     else if bytes_eq verb (codes "check-unit") then check_unit_of first second
     else None
 command_of (verb ∷ first ∷ second ∷ third ∷ []) =
     if bytes_eq verb (codes "check") then check_of first second third
     else if bytes_eq verb (codes "extend") then extend_of first second third
+    else if bytes_eq verb (codes "check-core") then check_core_of first second third
     else if bytes_eq verb (codes "gen") then gen_of first second third
     else if bytes_eq verb (codes "meet") then meet_of first second third
     else if bytes_eq verb (codes "list") then list_of first second third
     else None
 command_of words = None
 
--- `extend` takes its kind, and the numbers of `gen` and of `meet` are within the limits
+-- `extend`, `core`, `check-core` and `list` take their kind, and the numbers of `gen`, `meet` and `list` are within the limits
 abbrev pub IsInGrammar : Command → Type 0
 IsInGrammar (Extend kind file rows) = IsExtended kind
+IsInGrammar (Core kind file) = IsExtended kind
+IsInGrammar (CheckCore kind file core) = IsExtended kind
 IsInGrammar (Gen seed columns rows) = (1 ≤ columns) × (columns ≤ MAX_COLUMNS) × (rows ≤ MAX_ROWS)
 IsInGrammar (Meet columns first second) = (1 ≤ columns) × (columns ≤ MAX_COLUMNS)
 IsInGrammar (ListOrders kind file count) = IsExtended kind × (1 ≤ count) × (count ≤ MAX_ORDERS)
@@ -129,6 +145,8 @@ abbrev pub files_of : Command → List (List ℕ)
 files_of (Solve kind file) = file ∷ []
 files_of (Check kind file verdict) = file ∷ verdict ∷ []
 files_of (Extend kind file rows) = file ∷ rows ∷ []
+files_of (Core kind file) = file ∷ []
+files_of (CheckCore kind file core) = file ∷ core ∷ []
 files_of (Gen seed columns rows) = []
 files_of (Meet columns first second) = first ∷ second ∷ []
 files_of (ListOrders kind file count) = file ∷ []

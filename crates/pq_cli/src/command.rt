@@ -4,6 +4,8 @@ ghost use Rattle.pq_cli.specs.Task.{command_seen};
 ghost use Rattle.pq_cli.specs.Runs.{RunsCommand};
 
 use crate::check::check_file;
+use crate::core_rows::check::check_core_file;
+use crate::core_rows::core_file;
 use crate::extend::extend_file;
 use crate::generator::summary_reply;
 use crate::list::list_file;
@@ -43,6 +45,10 @@ pub fn perform<F: Shelf>(alloc: Global, task: &Task<'_>, files: &mut F) -> Resul
             verdict,
         } => check_file(alloc, *kind, file, verdict, files),
         Task::Extend { kind, file, rows } => extend_file(alloc, *kind, file, rows, files),
+        Task::Core { kind, file } => core_file(alloc, *kind, file, files),
+        Task::CheckCore { kind, file, core } => {
+            check_core_file(alloc, *kind, file, core, files)
+        }
         Task::Gen {
             seed,
             columns,

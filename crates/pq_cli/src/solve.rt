@@ -42,8 +42,12 @@ pub fn solve_file<F: Shelf>(
     Ok(verdict_reply(alloc, &instance)?)
 }
 
-// The reply on an instance: the text of the verdict, and its status.
-fn verdict_reply(alloc: Global, instance: &Instance) -> Result<Reply, NoMemory>
+/// The reply on an instance: the text of the verdict, and its status.
+///
+/// # Errors
+///
+/// `NoMemory`.
+pub fn verdict_reply(alloc: Global, instance: &Instance) -> Result<Reply, NoMemory>
     requires { IsInstance (instance_value instance.now) }
     ensures reply { IfOk result (λ reply.
         IsVerdictReply (instance_value instance.now) reply.status reply.text.items) }

@@ -22,26 +22,29 @@ use std::alloc::Global;
 /// - `check KIND FILE VERDICT`: whether a verdict on an instance is true;
 /// - `extend KIND FILE ROWS`, with KIND `matrix`, `rows` or `table`: further rows, taken in turn after those of a
 ///   matrix as long as a valid order is left;
+/// - `core KIND FILE`, with KIND as in `extend`: rows of a matrix that have no valid order together, of which none can be
+///   left out;
+/// - `check-core KIND FILE CORE`, with KIND as in `extend`: whether a text names such rows;
+/// - `list KIND FILE K`, with KIND as in `extend`: the first K valid orders of a matrix, compared as lists of numbers. K is
+///   decimal digits, leading zeros allowed, from 1 to 10,000;
+/// - `unit FILE`: intervals of one length for a graph in the form of `proper`;
+/// - `check-unit FILE UNIT`: whether a text has such intervals of a graph;
 /// - `gen SEED COLUMNS ROWS`: a matrix that a number draws, summed up. The words are decimal digits, leading zeros
 ///   allowed: SEED of at most 64 bits, COLUMNS from 1 to 2,048, ROWS at most 131,072;
-/// - `meet COLUMNS TREE1 TREE2`, with COLUMNS as in `gen`: the orders that two trees over these columns share;
-/// - `list KIND FILE K`, with KIND as for `extend`: the first K valid orders of a matrix, compared as lists of numbers. K is
-///   decimal digits, leading zeros allowed, from 1 to 10,000.
+/// - `meet COLUMNS TREE1 TREE2`, with COLUMNS as in `gen`: the orders that two trees over these columns share.
 ///
 /// Of two names of files not both are `-`. The files are read from `files` in turn, the reply is written to `out`, and
 /// on the statuses 2 to 6 one line is offered to `err`, whose faults change nothing.
 ///
 /// | Status | Meaning |
 /// |---|---|
-/// | 0 | `solve`: the instance has a textbook order of its kind, on each side; `check`: the verdict is valid; `extend` and `list`: the matrix has a valid order; `gen`: done |
-/// | 1 | `solve`: it has none, on one side at least; `check`: the verdict is invalid; `extend` and `list`: the matrix has no valid order |
+/// | 0 | `solve`: the instance has a textbook order of its kind, on each side; `check`: the verdict is valid; `extend` and `list`: the matrix has a valid order; `core`: it has none; `check-core`: the core is valid; `unit`: the graph has a unit model; `check-unit`: the model is valid; `meet`: the trees share an order; `gen`: done |
+/// | 1 | `solve`: it has none, on one side at least; `check`: the verdict is invalid; `extend` and `list`: the matrix has no valid order; `core`: it has one; `check-core`: the core is invalid; `unit`: the graph has no unit model; `check-unit`: the model is invalid; `meet`: the trees share no order |
 /// | 2 | the words are outside the grammar; nothing is read, and nothing is written to `out` |
-/// | 3 | the file of the instance is refused, or that of further rows |
+/// | 3 | the file of the instance, of further rows or of a tree is refused |
 /// | 4 | a file can't be read |
 /// | 5 | the reply can't be written; some first bytes of it were |
 /// | 6 | memory is refused |
-///
-/// `meet` ends with 0 where the trees share an order, with 1 where they share none, and with 3 where a tree is refused.
 pub fn run<F: Shelf, O: Sink, E: Sink>(
     alloc: Global,
     words: &[String],

@@ -1,6 +1,6 @@
 // The words of the command line.
 ghost use Rattle.std.specs.Prelude.{◌≡◌, ◌≤◌, [], ◌∷◌, option_map, IfSome};
-ghost use Rattle.pq_cli.specs.Words.{texts, command_of, check_of, extend_of, gen_of, meet_of, kind_of, extended_kind_of, number_in, are_both_input, IsExtended, IsInGrammar, list_of, check_unit_of};
+ghost use Rattle.pq_cli.specs.Words.{texts, command_of, check_of, extend_of, gen_of, meet_of, kind_of, extended_kind_of, number_in, are_both_input, IsExtended, IsInGrammar, list_of, check_unit_of, Solve, core_of, check_core_of};
 ghost use Rattle.pq_cli.specs.Task.{command_seen};
 
 use matrix_read::{Numeral, number};
@@ -34,6 +34,22 @@ pub enum Task<'a> {
         file: &'a str,
         /// The name of the file of the further rows.
         rows: &'a str,
+    },
+    /// `core KIND FILE`: find the rows of a matrix that are to blame.
+    Core {
+        /// The kind of the matrix.
+        kind: Kind,
+        /// The name of its file.
+        file: &'a str,
+    },
+    /// `check-core KIND FILE CORE`: judge the text of a core of a matrix.
+    CheckCore {
+        /// The kind of the matrix.
+        kind: Kind,
+        /// The name of its file.
+        file: &'a str,
+        /// The name of the file of the core.
+        core: &'a str,
     },
     /// `gen SEED COLUMNS ROWS`: make a matrix and sum up its tree.
     Gen {
@@ -112,13 +128,29 @@ fn three_words<'a>(verb: &str, first: &'a str, second: &'a str) -> Option<Task<'
     ensures taken { IfSome result (λ task. IsInGrammar (command_seen task)) }
 {
     match verb {
-        "solve" => {
-            let kind = kind_of(first)?;
-            Some(Task::Solve { kind, file: second })
-        }
+        "solve" => solve_of(first, second),
+        "core" => core_of(first, second),
         "check-unit" => check_unit_of(first, second),
         _ => None,
     }
+}
+
+// `solve` with these words.
+fn solve_of<'a>(kind: &str, file: &'a str) -> Option<Task<'a>>
+    ensures task { option_map command_seen result ≡ option_map (λ k. Solve k file.now) (kind_of kind.now) }
+    ensures taken { IfSome result (λ task. IsInGrammar (command_seen task)) }
+{
+    let kind = kind_of(kind)?;
+    Some(Task::Solve { kind, file })
+}
+
+// `core` with these words.
+fn core_of<'a>(kind: &str, file: &'a str) -> Option<Task<'a>>
+    ensures task { option_map command_seen result ≡ core_of kind.now file.now }
+    ensures taken { IfSome result (λ task. IsInGrammar (command_seen task)) }
+{
+    let kind = extended_kind_of(kind)?;
+    Some(Task::Core { kind, file })
 }
 
 // What four words ask for.
@@ -130,6 +162,7 @@ fn four_words<'a>(verb: &str, first: &'a str, second: &'a str, third: &'a str) -
     match verb {
         "check" => check_of(first, second, third),
         "extend" => extend_of(first, second, third),
+        "check-core" => check_core_of(first, second, third),
         "gen" => gen_of(first, second, third),
         "meet" => meet_of(first, second, third),
         "list" => list_of(first, second, third),
@@ -163,6 +196,18 @@ fn extend_of<'a>(kind: &str, file: &'a str, rows: &'a str) -> Option<Task<'a>>
     }
     let kind = extended_kind_of(kind)?;
     Some(Task::Extend { kind, file, rows })
+}
+
+// `check-core` with these words.
+fn check_core_of<'a>(kind: &str, file: &'a str, core: &'a str) -> Option<Task<'a>>
+    ensures task { option_map command_seen result ≡ check_core_of kind.now file.now core.now }
+    ensures taken { IfSome result (λ task. IsInGrammar (command_seen task)) }
+{
+    if are_both_input(file, core) {
+        return None;
+    }
+    let kind = extended_kind_of(kind)?;
+    Some(Task::CheckCore { kind, file, core })
 }
 
 // `gen` with these words.
@@ -235,7 +280,7 @@ fn kind_of(word: &str) -> Option<Kind>
     }
 }
 
-// The kind of a word, among those that `extend` takes.
+// The kind of a word, among those that `extend`, `core`, `check-core` and `list` take.
 fn extended_kind_of(word: &str) -> Option<Kind>
     ensures kind { result ≡ extended_kind_of word.now }
     ensures taken { IfSome result IsExtended }

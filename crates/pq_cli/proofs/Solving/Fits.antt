@@ -26,7 +26,7 @@ use Rattle.pq_cli.proofs.Solving.Shown.{sides_of_kind, one_or_two, one_shown, tw
 use Rattle.pq_cli.proofs.Solving.Added.{adds_fit}
 
 -- a list of columns of the greatest matrix
-columns_within : (row : List ℕ) → ((a : ℕ) → IsTrue (has row a) → IsColumn a) → AllByRecursion IsColumn row
+pub columns_within : (row : List ℕ) → ((a : ℕ) → IsTrue (has row a) → IsColumn a) → AllByRecursion IsColumn row
 columns_within [] h = tt
 columns_within (x ∷ xs) h = (h x (has_head x xs), columns_within xs (λ a k. h a (has_tail x a xs k)))
 
