@@ -46,9 +46,7 @@ pub fn perform<F: Shelf>(alloc: Global, task: &Task<'_>, files: &mut F) -> Resul
         } => check_file(alloc, *kind, file, verdict, files),
         Task::Extend { kind, file, rows } => extend_file(alloc, *kind, file, rows, files),
         Task::Core { kind, file } => core_file(alloc, *kind, file, files),
-        Task::CheckCore { kind, file, core } => {
-            check_core_file(alloc, *kind, file, core, files)
-        }
+        Task::CheckCore { kind, file, core } => { check_core_file(alloc, *kind, file, core, files) }
         Task::Gen {
             seed,
             columns,

@@ -23,13 +23,15 @@ fn listed(
 
 #[test]
 fn the_first_of_more_orders(rt: HostRuntime) -> Result<(), Fail> {
-    let text = b"pq-list 1\nkind rows\ncolumns 5\norders 3\norder 1 2 3 4 5\norder 4 3 2 1 5\norder 5 1 2 3 4\nmore yes\nend\n";
+    let text =
+        b"pq-list 1\nkind rows\ncolumns 5\norders 3\norder 1 2 3 4 5\norder 4 3 2 1 5\norder 5 1 2 3 4\nmore yes\nend\n";
     listed(&rt, rt.alloc(), "rows", "3", b"5\n1 2\n3 4\n2 3\n", text)
 }
 
 #[test]
 fn all_orders(rt: HostRuntime) -> Result<(), Fail> {
-    let text = b"pq-list 1\nkind matrix\ncolumns 3\norders 4\norder 1 3 2\norder 2 1 3\norder 2 3 1\norder 3 1 2\nmore no\nend\n";
+    let text =
+        b"pq-list 1\nkind matrix\ncolumns 3\norders 4\norder 1 3 2\norder 2 1 3\norder 2 3 1\norder 3 1 2\nmore no\nend\n";
     for count in ["4", "10", "10000"] {
         listed(&rt, rt.alloc(), "matrix", count, b"101\n", text)?;
     }

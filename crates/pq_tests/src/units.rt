@@ -52,8 +52,7 @@ fn stopped_as(
 
 #[test]
 fn the_unit_model_of_a_path(rt: HostRuntime) -> Result<(), Fail> {
-    let text =
-        b"pq-unit 1\nvertices 4\nlength 4\nunit 1 3\nunit 2 6\nunit 3 9\nunit 4 12\nend\n";
+    let text = b"pq-unit 1\nvertices 4\nlength 4\nunit 1 3\nunit 2 6\nunit 3 9\nunit 4 12\nend\n";
     unit_as(&rt, rt.alloc(), PATH, text)
 }
 
@@ -71,8 +70,7 @@ fn the_unit_model_of_two_vertices_apart(rt: HostRuntime) -> Result<(), Fail> {
 
 #[test]
 fn a_left_end_may_move_within_the_length(rt: HostRuntime) -> Result<(), Fail> {
-    let within =
-        b"pq-unit 1\nvertices 4\nlength 4\nunit 1 3\nunit 2 6\nunit 3 9\nunit 4 13\nend\n";
+    let within = b"pq-unit 1\nvertices 4\nlength 4\nunit 1 3\nunit 2 6\nunit 3 9\nunit 4 13\nend\n";
     judged_as(&rt, rt.alloc(), PATH, within, b"valid\n")?;
     let past = b"pq-unit 1\nvertices 4\nlength 4\nunit 1 3\nunit 2 6\nunit 3 9\nunit 4 14\nend\n";
     judged_as(&rt, rt.alloc(), PATH, past, b"invalid model\n")

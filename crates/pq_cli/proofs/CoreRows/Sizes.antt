@@ -5,6 +5,7 @@ use Rattle.std.specs.List.{AllByRecursion, zip}
 use Rattle.std.specs.Fmt.{decimal}
 use Rattle.std.proofs.lemmas.List.{length-append}
 use Rattle.column_order.proofs.Counts.{order_length, order_within}
+use Rattle.column_order.proofs.Lists.{has_at}
 use Rattle.row_model.specs.declared.kind.Kind.{Kind}
 use Rattle.row_model.specs.declared.kind.Kind.TheVariants.{Matrix, Rows, Table, Circular, Convex, Doubly, Proper, Robinson, Clones}
 use Rattle.row_model.specs.declared.graph.Line.{Line}
@@ -12,13 +13,12 @@ use Rattle.row_model.specs.declared.graph.Why.{Why}
 use Rattle.row_model.specs.declared.graph.Why.TheVariants.{Flip, Row}
 use Rattle.row_model.specs.declared.TheConstants.{MAX_COLUMNS, MAX_ROWS}
 use Rattle.row_model.specs.Rows.{RowList}
-use Rattle.row_model.proofs.Ascending.{ascends_few}
+use Rattle.row_model.proofs.Ascending.{ascends_few, ascends_within}
 use Rattle.incompat_graph.specs.Laws.{CycleLengthLaw}
 use Rattle.instance_model.specs.Instance.{plain, IsInstance}
 use Rattle.row_core.specs.Parts.{CoreParts}
 use Rattle.row_core.specs.Told.{TellsCore}
 use Rattle.row_core.specs.Texts.{TextValue, IsEntry, IsLine, IsInGrammar, Fits32, entries, kind_word, number_word, entry_text, line_text, counted_text, core_text}
-use Rattle.row_core.proofs.Numbers.{within_at}
 use Rattle.pq_cli.specs.declared.TheConstants.{MAX_CORE_BYTES}
 use Rattle.pq_cli.specs.Core.Replies.{core_value}
 use Rattle.pq_cli.specs.Core.Laws.{CoreGrammarLaw}
@@ -109,7 +109,7 @@ module _ (cycle_length : CycleLengthLaw) (kind : Kind) (m : RowList) (parts : Co
       let o : List ℕ = get_or parts.orders i [] in
       let long : length o ≡ m.columns = order_length m.columns o order in
       record {
-        row = omega (arith, (within_at (length m.rows) 0 parts.rows i 0 tells.core.rows l).1, few_matrix_rows);
+        row = omega (arith, (ascends_within (length m.rows) 0 (get_or parts.rows i 0) parts.rows tells.core.rows (has_at parts.rows i l)).1, few_matrix_rows);
         columns = columns_within o (λ a k. let inside = order_within m.columns o order a k in omega (arith, inside.1, few_columns));
         some = omega (arith, long, some);
         few = omega (arith, long, few_columns);

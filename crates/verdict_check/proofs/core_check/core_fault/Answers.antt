@@ -20,7 +20,7 @@ pub returns-then-not-are_row_numbers : goal.returns-then-not-are_row_numbers
 returns-then-not-are_row_numbers c =
     rows_fail c.args.m.now c.args.kind c.args.t.now (sym c.kind.ensures ∙ c.is_kind.ensures.0 c.if-not-is_kind.false) (sym c.columns.ensures ∙ c.if-columns.false ∙ c.columns-2.ensures.columns)
     (λ h. both_ways c.are_row_numbers.result c.if-not-are_row_numbers.true
-        (c.are_row_numbers.ensures.1 (numbers_read c.rows.result (length c.args.m.now.rows) c.args.t.now.parts.rows c.rows-2.result.now c.rows.ensures c.rows-2.ensures.rows h)))
+    (c.are_row_numbers.ensures.1 (numbers_read c.rows.result (length c.args.m.now.rows) c.args.t.now.parts.rows c.rows-2.result.now c.rows.ensures c.rows-2.ensures.rows h)))
 
 pub returns-in-Some : goal.returns-in-Some
 returns-in-Some c =

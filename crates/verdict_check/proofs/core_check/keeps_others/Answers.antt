@@ -4,7 +4,8 @@ use Rattle.column_order.specs.Orders.{IsOrder, Keeps}
 use Rattle.column_order.proofs.Counts.{order_length}
 use Rattle.row_model.specs.Graph.{row_at}
 use Rattle.row_model.specs.Rows.{IsRow}
-use Rattle.row_core.proofs.Numbers.{within_at}
+use Rattle.column_order.proofs.Lists.{has_at}
+use Rattle.row_model.proofs.Ascending.{ascends_within}
 use Rattle.verdict_check.proofs.RowTests.{valid_others, others_valid, long, kept_row}
 use Rattle.verdict_check.proofs.core_check.keeps_others.Goals as goal
 use Rattle.verdict_check.proofs.core_check.keeps_others.Goals.{else-j-i-via-then-j-i+else-not-is_kept, else-j-i-via-else-j-i}
@@ -21,7 +22,7 @@ positions-requires-clause-few c =
 
 pub row-requires : goal.row-requires
 row-requires c =
-    let w = within_at (length c.args.m.now.rows) 0 c.args.rows.now c.loop-j.j 0 c.requires.rows c.loop-j-test.true in
+    let w = ascends_within (length c.args.m.now.rows) 0 (get_or c.args.rows.now c.loop-j.j 0) c.args.rows.now c.requires.rows (has_at c.args.rows.now c.loop-j.j c.loop-j-test.true) in
     (omega (arith, w.0), w.1)
 
 pub is_kept-requires : goal.is_kept-requires
