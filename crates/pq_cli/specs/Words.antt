@@ -112,6 +112,14 @@ list_of kind file count = do
 abbrev pub check_unit_of : List ℕ → List ℕ → Option Command
 check_unit_of file unit = if are_both_input file unit then None else Some (CheckUnit file unit)
 
+-- a command that has a number among its words, with these words
+abbrev pub numbered_of : List ℕ → List ℕ → List ℕ → List ℕ → Option Command
+numbered_of verb first second third =
+    if bytes_eq verb (codes "gen") then gen_of first second third
+    else if bytes_eq verb (codes "meet") then meet_of first second third
+    else if bytes_eq verb (codes "list") then list_of first second third
+    else None
+
 -- the command of these words, or none where they are outside the grammar
 abbrev pub command_of : List (List ℕ) → Option Command
 command_of (verb ∷ file ∷ []) = if bytes_eq verb (codes "unit") then Some (UnitModel file) else None
@@ -124,10 +132,7 @@ command_of (verb ∷ first ∷ second ∷ third ∷ []) =
     if bytes_eq verb (codes "check") then check_of first second third
     else if bytes_eq verb (codes "extend") then extend_of first second third
     else if bytes_eq verb (codes "check-core") then check_core_of first second third
-    else if bytes_eq verb (codes "gen") then gen_of first second third
-    else if bytes_eq verb (codes "meet") then meet_of first second third
-    else if bytes_eq verb (codes "list") then list_of first second third
-    else None
+    else numbered_of verb first second third
 command_of words = None
 
 -- `extend`, `core`, `check-core` and `list` take their kind, and the numbers of `gen`, `meet` and `list` are within the limits

@@ -1,6 +1,6 @@
 // The words of the command line.
 ghost use Rattle.std.specs.Prelude.{◌≡◌, ◌≤◌, [], ◌∷◌, option_map, IfSome};
-ghost use Rattle.pq_cli.specs.Words.{texts, command_of, check_of, extend_of, gen_of, meet_of, kind_of, extended_kind_of, number_in, are_both_input, IsExtended, IsInGrammar, list_of, check_unit_of, Solve, core_of, check_core_of};
+ghost use Rattle.pq_cli.specs.Words.{texts, Solve, command_of, check_of, extend_of, core_of, check_core_of, check_unit_of, numbered_of, gen_of, meet_of, list_of, kind_of, extended_kind_of, number_in, are_both_input, IsExtended, IsInGrammar};
 ghost use Rattle.pq_cli.specs.Task.{command_seen};
 
 use matrix_read::{Numeral, number};
@@ -163,6 +163,16 @@ fn four_words<'a>(verb: &str, first: &'a str, second: &'a str, third: &'a str) -
         "check" => check_of(first, second, third),
         "extend" => extend_of(first, second, third),
         "check-core" => check_core_of(first, second, third),
+        _ => numbered_of(verb, first, second, third),
+    }
+}
+
+// A command that has a number among its words, with these words.
+fn numbered_of<'a>(verb: &str, first: &'a str, second: &'a str, third: &'a str) -> Option<Task<'a>>
+    ensures task { option_map command_seen result ≡ numbered_of verb.now first.now second.now third.now }
+    ensures taken { IfSome result (λ task. IsInGrammar (command_seen task)) }
+{
+    match verb {
         "gen" => gen_of(first, second, third),
         "meet" => meet_of(first, second, third),
         "list" => list_of(first, second, third),
