@@ -8,8 +8,8 @@ IsBefore [] (y ∷ b) = Unit {0}
 IsBefore (x ∷ a) [] = ⊥
 IsBefore (x ∷ a) (y ∷ b) = (x < y) ⊎ ((x ≡ y) × IsBefore a b)
 
--- The first k orders of the set S, a list of orders of S that strictly rises: each order of S is in the list or greater than all of
--- the list. The list has k orders, or all of S where there are fewer.
+-- The first k orders of the set S: a list of orders of S that strictly rises, such that each order of S is in the list or
+-- greater than all of the list. It has k orders, or all of S where there are fewer.
 pub record AreFirst (S : List ℕ → Type 0) (k : ℕ) (orders : List (List ℕ)) : Type 0 where
   pub members : All S orders
   pub rising : AllPairs IsBefore orders

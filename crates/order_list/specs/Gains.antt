@@ -22,14 +22,15 @@ AllBefore rs f = AllByRecursion (λ r. IsBefore r f) rs
 abbrev pub from_column : ℕ → (List ℕ → Type 0) → List ℕ → Type 0
 from_column x S f = S (x ∷ f)
 
--- the walk may go on: there is room or one more is not yet seen, and each list of the set behind the columns so far is an order
+-- the walk may go on: there is no news of others yet, and each list of the set behind the columns so far is as long as an
+-- order
 pub record IsReady (S : List ℕ → Type 0) (columns : List ℕ) (limit : ℕ) (list : OrderList) : Type 0 where
   pub fresh : list.more ≡ false
   pub few : length list.orders ≤ limit
   pub wide : (f : List ℕ) → S f → length columns + length f ≡ list.columns
 
--- The orders that begin with the columns and go on with a list of the set were added, from the least on: all of them, or the list is
--- full and one more was seen.
+-- The orders that begin with the columns and go on with a list of the set were added, from the least on: all of them, or
+-- the list is full and one more was seen.
 pub record Gains (S : List ℕ → Type 0) (columns : List ℕ) (limit : ℕ) (old new : OrderList) : Type 0 where
   pub rests : List (List ℕ)
   pub width : new.columns ≡ old.columns

@@ -1,8 +1,8 @@
 //! The first orders among the frontiers of a PQ-tree, in lexicographic order.
 //!
-//! The orders are found one after another, from the least on. The frontiers that begin with given columns are what can still be
-//! read from a list of trees; each column that can come next leaves another such list, and no list is a dead end. So time goes
-//! into the orders that are found, and into none that is thrown away.
+//! The orders are found one after another, from the least on. What can still be read behind given columns is read from a
+//! list of trees; each column that can come next leaves another such list, and no list is a dead end. So no order is begun
+//! in vain.
 #![tactic(auto)]
 
 ghost use Rattle.std.specs.Prelude.{◌≡◌, ◌↔◌, ◌≤◌, ◌+◌, ℕ, List, IfOk, IsTrue, length};
@@ -25,15 +25,17 @@ pub const MAX_ORDERS: u32 = 10_000;
 
 /// The first `count` frontiers of the tree, compared as lists of numbers, or all of them where there are fewer.
 ///
-/// Takes time and memory in the size of what is found, and at most the square of the number of columns besides.
+/// No order is written out but those that are found, and one more, by which it is seen that there are others.
 ///
 /// # Errors
 ///
 /// `NoMemory` where there is no memory for the orders.
 pub fn first(alloc: Global, tree: &PqTree, count: u32) -> Result<Orders, NoMemory>
     requires { (1 ≤ count) × (count ≤ MAX_ORDERS) }
-    ensures first { IfOk result (λ found. AreFirst (IsFrontier (outline tree.now)) count found.orders) }
-    ensures more { IfOk result (λ found. IsTrue found.more ↔ HasOther (IsFrontier (outline tree.now)) found.orders) }
+    ensures first { IfOk result (λ found.
+        AreFirst (IsFrontier (outline tree.now)) count found.orders) }
+    ensures more { IfOk result (λ found.
+        IsTrue found.more ↔ HasOther (IsFrontier (outline tree.now)) found.orders) }
 {
     let mut found = Orders::new(alloc, tree.columns());
     let mut columns = Vec::with_capacity(alloc, tree.columns() as usize)?;

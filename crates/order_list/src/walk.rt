@@ -18,7 +18,8 @@ pub struct Bag<'a> {
     pub trees: &'a [&'a Tree],
 }
 
-/// What is read after the columns so far. Each step of the walk keeps the trees that it has opened, and lends them to the next.
+/// What is read after the columns so far. Each step of the walk keeps the trees that it has opened, and lends them to the
+/// next.
 #[derive(Clone, Copy)]
 pub enum Coming<'a> {
     /// Nothing more.
@@ -31,8 +32,8 @@ pub enum Coming<'a> {
     Backwards(&'a [Tree], &'a Coming<'a>),
 }
 
-/// Finds the orders that begin with `columns` and go on with what is coming, from the least on, until there are `limit` of them and
-/// one more is seen.
+/// Finds the orders that begin with `columns` and go on with what is coming, from the least on, until there are `limit`
+/// orders and one more is seen.
 #[cycle(walk)]
 pub fn read_on<'a>(
     alloc: Global,
@@ -44,7 +45,8 @@ pub fn read_on<'a>(
     requires trees { AreTrees (forest (trees_within coming.now)) }
     requires ready { IsReady (Reads (coming_trees coming.now)) columns.old.items limit found.old }
     ensures columns { OnOk result (columns.new.items ≡ columns.old.items) }
-    ensures found { OnOk result (Gains (Reads (coming_trees coming.now)) columns.old.items limit found.old found.new) }
+    ensures found { OnOk result (Gains (Reads (coming_trees coming.now))
+        columns.old.items limit found.old found.new) }
 {
     match coming {
         Coming::Nothing => found.add(columns, limit),
@@ -85,9 +87,11 @@ fn read_tree<'a>(
     found: &mut Orders,
 ) -> Result<(), NoMemory>
     requires trees { AreTrees (forest (outline_of tree.now ∷ trees_within rest.now)) }
-    requires ready { IsReady (Reads (outline_of tree.now ∷ coming_trees rest.now)) columns.old.items limit found.old }
+    requires ready { IsReady (Reads (outline_of tree.now ∷ coming_trees rest.now))
+        columns.old.items limit found.old }
     ensures columns { OnOk result (columns.new.items ≡ columns.old.items) }
-    ensures found { OnOk result (Gains (Reads (outline_of tree.now ∷ coming_trees rest.now)) columns.old.items limit found.old found.new) }
+    ensures found { OnOk result (Gains (Reads (outline_of tree.now ∷ coming_trees rest.now))
+        columns.old.items limit found.old found.new) }
 {
     let Tree::Leaf(column) = tree else {
         return each_next(alloc, &[tree], &*rest, columns, limit, found);
@@ -98,7 +102,8 @@ fn read_tree<'a>(
     Ok(())
 }
 
-// The same where the trees come next, in any order, and then the rest: for each column that can come next, in rising order.
+// The same where the trees come next, in any order, and then the rest: for each column that can come next, from the least
+// on.
 #[cycle(walk)]
 fn each_next<'a>(
     alloc: Global,
@@ -110,9 +115,11 @@ fn each_next<'a>(
 ) -> Result<(), NoMemory>
     requires some { 1 ≤ length trees.now }
     requires trees { AreTrees (forest (outlines trees.now ++ trees_within rest.now)) }
-    requires ready { IsReady (Reads (p_node (forest (outlines trees.now)) ∷ coming_trees rest.now)) columns.old.items limit found.old }
+    requires ready { IsReady (Reads (p_node (forest (outlines trees.now)) ∷ coming_trees rest.now))
+        columns.old.items limit found.old }
     ensures columns { OnOk result (columns.new.items ≡ columns.old.items) }
-    ensures found { OnOk result (Gains (Reads (p_node (forest (outlines trees.now)) ∷ coming_trees rest.now))
+    ensures found { OnOk result
+        (Gains (Reads (p_node (forest (outlines trees.now)) ∷ coming_trees rest.now))
         columns.old.items limit found.old found.new) }
 {
     let mut from = 0;
@@ -142,10 +149,12 @@ fn take<'a>(
     requires place { next.place < length trees.now }
     requires begins { CanBegin (tree_at (outlines trees.now) next.place) next.column }
     requires trees { AreTrees (forest (outlines trees.now ++ trees_within rest.now)) }
-    requires ready { IsReady (from_column next.column (Reads (p_node (forest (outlines trees.now)) ∷ coming_trees rest.now)))
+    requires ready { IsReady
+        (from_column next.column (Reads (p_node (forest (outlines trees.now)) ∷ coming_trees rest.now)))
         columns.old.items limit found.old }
     ensures columns { OnOk result (columns.new.items ≡ columns.old.items) }
-    ensures found { OnOk result (Gains (from_column next.column (Reads (p_node (forest (outlines trees.now)) ∷ coming_trees rest.now)))
+    ensures found { OnOk result (Gains
+        (from_column next.column (Reads (p_node (forest (outlines trees.now)) ∷ coming_trees rest.now)))
         columns.old.items limit found.old found.new) }
 {
     let others = without(alloc, trees, next.place)?;
@@ -174,9 +183,11 @@ fn open<'a>(
 ) -> Result<(), NoMemory>
     requires begins { CanBegin (outline_of tree.now) column }
     requires trees { AreTrees (forest (outline_of tree.now ∷ trees_within rest.now)) }
-    requires ready { IsReady (from_column column (Reads (outline_of tree.now ∷ coming_trees rest.now))) columns.old.items limit found.old }
+    requires ready { IsReady (from_column column (Reads (outline_of tree.now ∷ coming_trees rest.now)))
+        columns.old.items limit found.old }
     ensures columns { OnOk result (columns.new.items ≡ columns.old.items) }
-    ensures found { OnOk result (Gains (from_column column (Reads (outline_of tree.now ∷ coming_trees rest.now)))
+    ensures found { OnOk result
+        (Gains (from_column column (Reads (outline_of tree.now ∷ coming_trees rest.now)))
         columns.old.items limit found.old found.new) }
 {
     match tree.view() {

@@ -30,7 +30,7 @@ list_text kind c orders more = codes "pq-list 1\n" ++ (kind_line kind ++ (column
 abbrev pub IsOrderOf : RowList → List ℕ → Type 0
 IsOrderOf m o = IsValidOrder m.columns m.rows o
 
--- the text lists the first k valid orders of the matrix, each once, and tells whether there are others
+-- the text lists the first k valid orders of the matrix, and tells whether there are others
 pub record IsListText (kind : Kind) (m : RowList) (k : ℕ) (text : List ℕ) : Type 0 where
   pub orders : List (List ℕ)
   pub more : Bool
@@ -38,7 +38,8 @@ pub record IsListText (kind : Kind) (m : RowList) (k : ℕ) (text : List ℕ) : 
   pub others : IsTrue more ↔ HasOther (IsOrderOf m) orders
   pub text_is : text ≡ list_text kind m.columns orders more
 
--- the status and the text tell the first valid orders of a matrix: where it has none, as `solve` does, and else as a list
+-- the status and the text tell the first valid orders of a matrix: where it has none, as `solve` does, and else as a
+-- list
 abbrev pub IsListReply : Kind → RowList → ℕ → ℕ → List ℕ → Type 0
 IsListReply kind m k status text =
     ((HasValidOrder m.columns m.rows → ⊥) × (status ≡ 1) × IsVerdictReply (plain kind m) 1 text) ⊎ (HasValidOrder m.columns m.rows × (status ≡ 0) × IsListText kind m k text)

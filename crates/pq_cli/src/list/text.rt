@@ -10,10 +10,13 @@ use row_model::Kind;
 use std::alloc::Global;
 use verdict_text::{Columns, print_subject};
 
-// Bytes of a line for each column where there are at most 9,999: up to four digits and a space; and what stands around them.
+// Bytes of a line for each column where there are at most 9,999: a space and up to four digits.
 const ROOM_PER_COLUMN: usize = 5;
 
+// Bytes of the line for its word and its end.
 const ROOM_PER_ORDER: usize = 6;
+// Bytes of the lines that list no order.
+const ROOM_BESIDE: usize = 96;
 
 /// The text of a list of orders of so many columns.
 pub fn printed_list(
@@ -22,7 +25,8 @@ pub fn printed_list(
     columns: u32,
     found: &Orders,
 ) -> Result<Vec<u8>, NoMemory>
-    ensures { IfOk result (λ text. text.items ≡ list_text kind columns found.now.orders found.now.more) }
+    ensures { IfOk result (λ text.
+        text.items ≡ list_text kind columns found.now.orders found.now.more) }
 {
     let mut text = Vec::with_capacity(alloc, room(columns, found.len()))?;
     text.extend_from_slice(b"pq-list 1\n")?;
@@ -36,7 +40,8 @@ pub fn printed_list(
 // How many bytes the text has at most where there are at most 9,999 columns.
 fn room(columns: u32, orders: u32) -> usize {
     let line = ROOM_PER_COLUMN * columns as usize + ROOM_PER_ORDER;
-    line.saturating_mul(orders as usize).saturating_add(96)
+    line.saturating_mul(orders as usize)
+        .saturating_add(ROOM_BESIDE)
 }
 
 // The number of orders, and a line for each.
