@@ -24,7 +24,8 @@ fn the_rows_to_blame_are_found(rt: HostRuntime) -> Result<(), Fail> {
     let found = blamed(rt.alloc(), FOUR)?;
     assert_eq!(rt; found.status, 0);
     assert!(rt; found.err.bytes().is_empty());
-    let head = b"pq-core 1\nkind matrix\ncolumns 3\ncore 3\nrow 1\nwithout 1 3 2\nrow 2\nwithout 2 1 3\nrow 3\nwithout 1 2 3\ncycle 3\n";
+    let head =
+        b"pq-core 1\nkind matrix\ncolumns 3\ncore 3\nrow 1\nwithout 1 3 2\nrow 2\nwithout 2 1 3\nrow 3\nwithout 1 2 3\ncycle ";
     assert!(rt; found.out.bytes().starts_with(head.as_slice()));
     let checked = judged(rt.alloc(), FOUR, found.out.bytes())?;
     assert_eq!(rt; checked.out.bytes(), b"valid\n".as_slice());
@@ -36,11 +37,15 @@ fn the_rows_to_blame_are_found(rt: HostRuntime) -> Result<(), Fail> {
 #[test]
 fn a_row_too_many_is_found(rt: HostRuntime) -> Result<(), Fail> {
     let found = blamed(rt.alloc(), FOUR)?;
-    let head = b"pq-core 1\nkind matrix\ncolumns 3\ncore 3\nrow 1\nwithout 1 3 2\nrow 2\nwithout 2 1 3\nrow 3\nwithout 1 2 3\n";
+    let head =
+        b"pq-core 1\nkind matrix\ncolumns 3\ncore 3\nrow 1\nwithout 1 3 2\nrow 2\nwithout 2 1 3\nrow 3\nwithout 1 2 3\n";
     let Some(cycle) = found.out.bytes().strip_prefix(head.as_slice()) else {
         panic!(rt; "the text begins otherwise");
     };
-    let mut four = b"pq-core 1\nkind matrix\ncolumns 3\ncore 4\nrow 1\nwithout 1 3 2\nrow 2\nwithout 2 1 3\nrow 3\nwithout 1 2 3\nrow 4\nwithout 1 2 3\n".to_vec(rt.alloc())?;
+    let mut four =
+        b"pq-core 1\nkind matrix\ncolumns 3\ncore 4\nrow 1\nwithout 1 3 2\nrow 2\nwithout 2 1 3\nrow 3\nwithout 1 2 3\nrow 4\nwithout 1 2 3\n".to_vec(
+            rt.alloc(),
+        )?;
     four.extend_from_slice(cycle)?;
     let checked = judged(rt.alloc(), FOUR, &four)?;
     assert_eq!(rt; checked.out.bytes(), b"invalid order 4\n".as_slice());
@@ -52,7 +57,8 @@ fn a_row_too_many_is_found(rt: HostRuntime) -> Result<(), Fail> {
 #[test]
 fn where_there_is_an_order_the_verdict_is_written(rt: HostRuntime) -> Result<(), Fail> {
     let found = blamed(rt.alloc(), b"110\n011\n")?;
-    let verdict = b"pq-verdict 2\nkind matrix\ncolumns 3\nanswer yes\ntree [1 2 3]\norder 1 2 3\nend\n";
+    let verdict =
+        b"pq-verdict 2\nkind matrix\ncolumns 3\nanswer yes\ntree [1 2 3]\norder 1 2 3\nend\n";
     assert_eq!(rt; found.out.bytes(), verdict.as_slice());
     assert_eq!(rt; found.status, 1);
     Ok(())
