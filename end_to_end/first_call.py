@@ -5,8 +5,8 @@ what is not proved, and leaves words, streams and status alone.
 Usage: end_to_end/first_call.py
 
 It is tried in a copy of what the call reads, with a stand-in for the toolchain: a script that takes a moment for each crate, keeps what it
-made, works in one folder one at a time as the toolchain does, and notes when it begins and ends. So the checks take seconds, and say
-nothing of proofs.
+made, works alone in a crate's folder and in those below it as the toolchain does, and notes when it begins and ends. So the checks take
+seconds, and say nothing of proofs.
 The last line is `N passed, N failed`; the status is 0 where nothing failed.
 """
 
@@ -26,15 +26,30 @@ CRATES = {"low": [], "left": ["low"], "right": ["low"], "far": ["right"], "pq": 
 LISTED = "# Each crate with those that it stands on.\n" + "".join(f"{name}: {' '.join(below)}\n" for name, below in CRATES.items())
 TOOLCHAIN = """#!/usr/bin/env python3
 import fcntl, os, sys, time
-top, crate = os.path.dirname(os.path.dirname(os.getcwd())), os.path.basename(os.getcwd())
+root, crate = os.path.dirname(os.path.dirname(os.getcwd())), os.path.basename(os.getcwd())
+top = root
+while not os.path.exists(os.path.join(top, "notes")):
+    top = os.path.dirname(top)
 
 def note(what):
     with open(os.path.join(top, "notes"), "a") as notes:
         notes.write(f"{what} {crate}\\n")
 
+lines = [line.partition(":") for line in open(os.path.join(root, "crates.txt")) if line[0] != "#"]
+listed = {name: below.split() for name, _, below in lines}
+
+def with_below(name):
+    return {name}.union(*[with_below(one) for one in listed[name] if one in listed])
+
+for name in listed:
+    if not os.path.isdir(os.path.join(root, "crates", name, "src")):
+        sys.exit(f"there is no folder of {name}")
 os.makedirs("out", exist_ok=True)
-folder = os.open(".", os.O_RDONLY)
-fcntl.flock(folder, fcntl.LOCK_EX)
+for name in sorted(with_below(crate)):
+    fcntl.flock(os.open(os.path.join(root, "crates", name), os.O_RDONLY), fcntl.LOCK_EX)
+for name in with_below(crate) - {crate}:
+    if not os.path.exists(os.path.join(root, "crates", name, "out", "kept")):
+        sys.exit(f"{name} is not built")
 source = open("src/lib.rt").read()
 if "unproved" in source:
     print("error: the clause `sorted` is not proved\\nrt: not proved")
@@ -229,6 +244,14 @@ def no_toolchain(copy):
     return None if fits and "Traceback" not in errors else f"{status} {output} {errors}"
 
 
+def no_folder(copy):
+    """Where the folder of the program can't be made the status is 70, with one line."""
+    copy.write(os.path.join("crates", "pq", "out"), "a file")
+    status, output, errors = ended(copy.start("a"))
+    fits = (status, output) == (70, b"") and errors.splitlines()[-1].startswith("pq: the program could not be built")
+    return None if fits and "Traceback" not in errors else f"{status} {output} {errors}"
+
+
 def closed(number, copy):
     """One of the three streams is closed: nothing that is told goes to another one, and the program finds it closed."""
     status, output, errors = ended(copy.start_as(["sh", "-c", f'exec "$@" {number}>&-', "", copy.path("pq"), "a"]))
@@ -244,7 +267,8 @@ def named(check):
 
 def checks():
     """Each check, with its name and the seconds that the stand-in takes for a crate."""
-    for check, seconds in [(from_nothing, 0.5), (two_at_once, 0.3), (first_of_two_killed, 0.3), (not_proved, 0.2), (edited, 0), (no_toolchain, 0)]:
+    for check, seconds in [(from_nothing, 0.5), (two_at_once, 0.3), (first_of_two_killed, 0.3), (not_proved, 0.2), (edited, 0), (no_toolchain, 0),
+                           (no_folder, 0)]:
         yield named(check), check, seconds
     for number in (signal.SIGINT, signal.SIGTERM, signal.SIGHUP, signal.SIGKILL):
         for is_whole_group in (False, True):

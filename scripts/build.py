@@ -3,14 +3,18 @@
 
 Usage: scripts/build.py [run WORDS]     `./pq` calls it where the program is missing or older than a source, and has it run afterwards
 
+The toolchain lets one run at a time work in a crate and in those below it. So that crates which share some of these are built side by
+side, each is built in a room: a copy of what it needs, by hard links, from which its `out/` goes back to the crate's folder at the end.
+
 It tells each crate on standard error as it begins. What was built stays: a call after an interrupted one goes on where that one stopped,
 and a second call at the same time waits for the first. The status is that of the run, or 0 without one; 70 where a crate isn't proved,
-after the prover's own words, or where the toolchain is missing; 130 where it was interrupted.
+after the prover's own words, or where the toolchain is missing or the disk refuses; 130 where it was interrupted.
 """
 
 import contextlib
 import fcntl
 import os
+import shutil
 import signal
 import subprocess
 import sys
@@ -26,18 +30,23 @@ INTERRUPTED = 130
 # A terminal that is closed sends the first, Ctrl-C the second, and `kill` the third.
 INTERRUPTIONS = [signal.SIGHUP, signal.SIGINT, signal.SIGTERM]
 BYTES_A_CRATE = 3 << 30
+JOBS_ALONE, JOBS_BESIDE_OTHERS = 4, 2
 SECONDS_BETWEEN_LOOKS = 0.05
 
 
-def folder_of(crate):
+def folder_of(crate, top=HOME):
     """The folder of a crate."""
-    return os.path.join(HOME, "crates", crate)
+    return os.path.join(top, "crates", crate)
+
+
+LISTED = os.path.join(HOME, "crates.txt")
+ROOMS = os.path.join(folder_of(PROGRAM), "out", "rooms")
 
 
 def stands_on():
     """Each crate of the repository with the crates of the repository that it stands on."""
     listed = {}
-    with open(os.path.join(HOME, "crates.txt"), encoding="utf-8") as stream:
+    with open(LISTED, encoding="utf-8") as stream:
         for line in stream:
             name, colon, below = line.split("#")[0].partition(":")
             if colon:
@@ -79,14 +88,59 @@ def side_by_side():
     return max(1, min(len(os.sched_getaffinity(0)), memory // BYTES_A_CRATE))
 
 
+def same_file(source, target):
+    """Another name of a file, or a copy where the file can't have one."""
+    try:
+        os.link(source, target)
+    except OSError:
+        shutil.copy2(source, target)
+
+
+def furnished(crate, below):
+    """A room with a crate and with those below it as they were built. The crate's own `out/` moves there, so that work goes on from it."""
+    room = os.path.join(ROOMS, crate)
+    shutil.copytree(folder_of(crate), folder_of(crate, room), copy_function=same_file, ignore=shutil.ignore_patterns("out", "must-fail"))
+    for one in below:
+        shutil.copytree(folder_of(one), folder_of(one, room), copy_function=same_file, ignore=shutil.ignore_patterns("incremental", "must-fail"))
+    with open(LISTED, encoding="utf-8") as listed, open(os.path.join(room, "crates.txt"), "w", encoding="utf-8") as mine:
+        mine.writelines(line for line in listed if line.partition(":")[0].strip() in (crate, *below))
+    own = os.path.join(folder_of(crate), "out")
+    if os.path.isdir(own):
+        os.rename(own, os.path.join(folder_of(crate, room), "out"))
+    return room
+
+
+def cleared(crate):
+    """Brings a crate's `out/` home from its room, once no toolchain works there, and takes the room away."""
+    room, home = os.path.join(ROOMS, crate), os.path.join(folder_of(crate), "out")
+    if os.path.isdir(folder_of(crate, room)):
+        with locked(folder_of(crate, room)):
+            made = os.path.join(folder_of(crate, room), "out")
+            if os.path.isdir(made) and not os.path.exists(home):
+                os.rename(made, home)
+    shutil.rmtree(room, ignore_errors=True)
+
+
+@contextlib.contextmanager
+def locked(folder):
+    """The turn to work in a crate's folder, which the toolchain takes too."""
+    number = os.open(folder, os.O_RDONLY)
+    try:
+        fcntl.flock(number, fcntl.LOCK_EX)
+        yield
+    finally:
+        os.close(number)
+
+
 class Building:
     """A crate that is being built: its process, and what the toolchain prints."""
 
-    def __init__(self, crate):
+    def __init__(self, crate, below, jobs):
         self.crate = crate
         self.log = tempfile.TemporaryFile()
-        words = ["rt", "run", "--", *TRIAL] if crate == PROGRAM else ["rt", "lib"]
-        self.process = subprocess.Popen(words, cwd=folder_of(crate), stdin=subprocess.DEVNULL, stdout=self.log, stderr=subprocess.STDOUT,
+        work = ["run", "--", *TRIAL] if crate == PROGRAM else ["lib", "--jobs", str(jobs)]
+        folder = folder_of(crate) if crate == PROGRAM else folder_of(crate, furnished(crate, below))
+        self.process = subprocess.Popen(["rt", *work], cwd=folder, stdin=subprocess.DEVNULL, stdout=self.log, stderr=subprocess.STDOUT,
                                         start_new_session=True)
 
     def has_ended(self):
@@ -109,6 +163,7 @@ class Building:
         except ProcessLookupError:
             pass
         self.process.wait()
+        cleared(self.crate)
 
 
 def tell(text):
@@ -128,10 +183,12 @@ def build(crates, names, running):
             begun += 1
             tell(f"pq: proving {crate} ({begun} of {len(names)})")
             waiting.remove(crate)
-            running.append(Building(crate))
+            jobs = JOBS_ALONE if len(ready) == 1 and not running else JOBS_BESIDE_OTHERS
+            running.append(Building(crate, needed(crates, crate)[:-1], jobs))
         ended = [one for one in running if one.has_ended()]
         for one in ended:
             running.remove(one)
+            cleared(one.crate)
             if not one.is_built():
                 return one
             built.add(one.crate)
@@ -140,18 +197,30 @@ def build(crates, names, running):
     return None
 
 
+def end(running):
+    """Ends what still runs; a second interruption doesn't keep it from that."""
+    if running:
+        for number in INTERRUPTIONS:
+            signal.signal(number, signal.SIG_IGN)
+    for one in running:
+        one.stop()
+
+
 def build_all():
     """Builds the program, and gives the status. What still runs at the end is ended, whatever the end is."""
     running = []
     try:
+        # rooms that a call left which was killed
+        for crate in os.listdir(ROOMS) if os.path.isdir(ROOMS) else []:
+            cleared(crate)
         crates = stands_on()
         failed = build(crates, needed(crates, PROGRAM), running)
-    except FileNotFoundError as error:
-        tell(f"pq: the toolchain of Rattle is missing: {error}")
+    except OSError as error:
+        told = "the toolchain of Rattle is missing" if error.filename == "rt" else "the program could not be built"
+        tell(f"pq: {told}: {error}")
         return FAILED
     finally:
-        for one in running:
-            one.stop()
+        end(running)
     if failed:
         tell(failed.words().rstrip("\n"))
         tell(f"pq: the crate {failed.crate} could not be proved and built")
@@ -197,6 +266,9 @@ def main(words):
         turn, has_waited = in_turn()
         with turn:
             status = 0 if has_waited and words else build_all()
+    except OSError as error:
+        tell(f"pq: the program could not be built: {error}")
+        return FAILED
     except KeyboardInterrupt:
         tell("pq: stopped; the next call goes on from here")
         return INTERRUPTED
