@@ -58,23 +58,36 @@ CHAIN = b"110\n011\n"
 TRIANGLE = b"110\n011\n101\n"
 VERDICT = b"pq-verdict 2\nkind matrix\ncolumns 3\nanswer yes\ntree [1 2 3]\norder 1 2 3\nend\n"
 CLONES = b'{"probes":["a","b","c","d","e"],"clones":[{"probes":["b","a"]},{"probes":["b","c"]},{"probes":[]},{"probes":["d"]}]}\n'
-# The words before the files, and the bytes of the files.
+CORE = (b"pq-core 1\nkind matrix\ncolumns 3\ncore 3\nrow 1\nwithout 1 3 2\nrow 2\nwithout 2 1 3\nrow 3\nwithout 1 2 3\n"
+        b"cycle 3\n1 3 row 1\n3 2 row 3\n2 1 row 2\nend\n")
+PATH = b"4\n1 2\n2 3\n3 4\n"
+UNIT = b"pq-unit 1\nvertices 4\nlength 4\nunit 1 3\nunit 2 6\nunit 3 9\nunit 4 12\nend\n"
+# The words before the files, the bytes of the files, and the words behind them.
 RUNS = [
-    (["solve", "matrix"], [CHAIN]),
-    (["solve", "matrix"], [TRIANGLE]),
-    (["check", "matrix"], [CHAIN, VERDICT]),
-    (["extend", "matrix"], [CHAIN, b"1 3\n1 2 3\n"]),
-    (["solve", "rows"], [b"5\n1 2\n3 4\n2 3\n"]),
-    (["solve", "table"], [b"t,a,b,c\nx,2,X,\ny, ,0,1\n"]),
-    (["solve", "clones"], [CLONES]),
-    (["solve", "circular"], [TRIANGLE]),
-    (["solve", "convex"], [b"2 3\n1 1\n1 3\n2 2\n2 3\n"]),
-    (["solve", "doubly"], [b"4 3\n1 1\n2 1\n1 2\n3 2\n1 3\n4 3\n"]),
-    (["solve", "proper"], [b"4\n1 2\n2 3\n3 4\n"]),
-    (["solve", "robinson"], [b"3\n0 1 2\n1 0 1\n2 1 0\n"]),
-    (["gen", "7", "20", "30"], []),
-    (["solve", "matrix"], [b"110\n01\n"]),
-    (["solve", "matrices"], [CHAIN]),
+    (["solve", "matrix"], [CHAIN], []),
+    (["solve", "matrix"], [TRIANGLE], []),
+    (["check", "matrix"], [CHAIN, VERDICT], []),
+    (["extend", "matrix"], [CHAIN, b"1 3\n1 2 3\n"], []),
+    (["solve", "rows"], [b"5\n1 2\n3 4\n2 3\n"], []),
+    (["solve", "table"], [b"t,a,b,c\nx,2,X,\ny, ,0,1\n"], []),
+    (["solve", "clones"], [CLONES], []),
+    (["solve", "circular"], [TRIANGLE], []),
+    (["solve", "convex"], [b"2 3\n1 1\n1 3\n2 2\n2 3\n"], []),
+    (["solve", "doubly"], [b"4 3\n1 1\n2 1\n1 2\n3 2\n1 3\n4 3\n"], []),
+    (["solve", "proper"], [PATH], []),
+    (["solve", "robinson"], [b"3\n0 1 2\n1 0 1\n2 1 0\n"], []),
+    (["gen", "7", "20", "30"], [], []),
+    (["solve", "matrix"], [b"110\n01\n"], []),
+    (["solve", "matrices"], [CHAIN], []),
+    (["core", "matrix"], [TRIANGLE], []),
+    (["core", "matrix"], [CHAIN], []),
+    (["check-core", "matrix"], [TRIANGLE, CORE], []),
+    (["list", "matrix"], [CHAIN], ["5"]),
+    (["unit"], [PATH], []),
+    (["unit"], [b"4\n1 2\n1 3\n1 4\n"], []),
+    (["check-unit"], [PATH, UNIT], []),
+    (["meet", "3"], [b"(1 2 3)", b"[1 2 3]"], []),
+    (["meet", "3"], [b"[2 1 3]", b"[1 2 3]"], []),
 ]
 
 
@@ -106,9 +119,9 @@ class Refusals:
             return (done.returncode, done.stdout, done.stderr), int(stream.read())
 
 
-def problems(refusals, words, contents):
+def problems(refusals, before, contents, behind):
     """Each refusal of a run with what is wrong, or None. A run may end as with ample memory where it can go on without."""
-    words = [*words, *refusals.named(contents)]
+    words = [*before, *refusals.named(contents), *behind]
     wanted, count = refusals.run(words)
     if count == 0:
         yield f"{words}", "the run asked for no memory: is it the C library's?"
@@ -123,8 +136,8 @@ def main():
     passed = failed = 0
     with tempfile.TemporaryDirectory() as folder:
         refusals = Refusals(folder)
-        for words, contents in RUNS:
-            for name, problem in problems(refusals, words, contents):
+        for run in RUNS:
+            for name, problem in problems(refusals, *run):
                 passed += problem is None
                 failed += problem is not None
                 if problem:
