@@ -45,35 +45,6 @@ behind_last lines i first end at l e =
     let none : drop (i + 1) lines ≡ [] = drop_of_length-le lines l in
     sym (first_drop lines 0 first end at) ∙ e ∙ sym (ap (λ more. first_pair more end) none)
 
--- the first lines have other pairs
-abbrev pub HaveOthers : List Line → Pair → ℕ → Type 0
-HaveOthers lines v n = (i : ℕ) → i < n → (line : Line) → slice_get lines i ≡ Some line → line.pair ≡ v → ⊥
-
-pub others_more : (lines : List Line) (v : Pair) (n : ℕ) (line : Line) → slice_get lines n ≡ Some line → (line.pair ≡ v → ⊥) → HaveOthers lines v n → HaveOthers lines v (n + 1)
-others_more lines v n line at other h =
-    below_more (λ i. (x : Line) → slice_get lines i ≡ Some x → x.pair ≡ v → ⊥) n h
-    (λ x e same. other (ap (λ (l : Line). l.pair) (same_Some line x (sym at ∙ e)) ∙ same))
-
-pub others_all : (lines : List Line) (v : Pair) (n : ℕ) → length lines ≤ n → HaveOthers lines v n → (i : ℕ) (line : Line) → slice_get lines i ≡ Some line → line.pair ≡ v → ⊥
-others_all lines v n l h i line at = h i (omega (arith, slice_get_within lines i line at)) line at
-
--- each of the first lines has another pair than each line after it
-abbrev pub AreApart : List Line → ℕ → Type 0
-AreApart lines n = (i : ℕ) → i < n → (k : ℕ) (x y : Line) → i < k → slice_get lines i ≡ Some x → slice_get lines k ≡ Some y → x.pair ≡ y.pair → ⊥
-
-pub apart_more : (lines : List Line) (n : ℕ) (line : Line) → slice_get lines n ≡ Some line → ((i : ℕ) (x : Line) → slice_get (drop (n + 1) lines) i ≡ Some x → x.pair ≡ line.pair → ⊥) → AreApart lines n → AreApart lines (n + 1)
-apart_more lines n line at others h =
-    below_more (λ i. (k : ℕ) (x y : Line) → i < k → slice_get lines i ≡ Some x → slice_get lines k ≡ Some y → x.pair ≡ y.pair → ⊥) n h
-    (λ k x y l ex ey same.
-    let up : n + 1 + (k - (n + 1)) ≡ k = omega arith in
-    let there : slice_get (drop (n + 1) lines) (k - (n + 1)) ≡ Some y = item-drop (n + 1) lines (k - (n + 1)) ∙ ap (slice_get lines) up ∙ ey in
-    let first : line.pair ≡ x.pair = ap (λ (l : Line). l.pair) (same_Some line x (sym at ∙ ex)) in
-    others (k - (n + 1)) y there (sym same ∙ sym first))
-
-pub apart_all : (lines : List Line) (n : ℕ) → length lines ≤ n → AreApart lines n → AllPairs (λ (x : Line) (y : Line). x.pair ≢ y.pair) lines
-apart_all lines n l h = λ i j d low m same.
-    h i (omega arith) j (get_or lines i d) (get_or lines j d) low (slice_get-get_or lines i d (omega arith)) (slice_get-get_or lines j d m) same
-
 -- pairs that a reason among the first rows joins are joined in these
 pub joined_within : (c : ℕ) (rows : List (List ℕ)) (n : ℕ) (v w : Pair) (why : Why) → n ≤ length rows → ((k : ℕ) → why ≡ Row k → k ≤ n) → JoinedBy c rows v w why → JoinedBy c (take n rows) v w why
 joined_within c rows n v w Flip l h j = record { from = j.from; to = j.to; fits = j.fits }

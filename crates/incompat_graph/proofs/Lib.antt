@@ -20,3 +20,4 @@ pub mod CheckedLaws
 pub mod PartLaws
 pub mod OddCycles
 pub mod CycleLength
+pub mod KeyLaws

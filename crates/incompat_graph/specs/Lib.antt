@@ -9,3 +9,4 @@ pub mod Reasons
 pub mod Unions
 pub mod Classes
 pub mod Laws
+pub mod Keys

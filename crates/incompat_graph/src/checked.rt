@@ -1,5 +1,5 @@
 // Odd cycles that are looked at line by line.
-ghost use Rattle.std.specs.Prelude.{◌≡◌, ◌≢◌, ℕ, ◌+◌, ◌*◌, ◌<◌, ◌≤◌, Some, take, drop, length, slice_get, AllPairs, IfSome, IsTrue};
+ghost use Rattle.std.specs.Prelude.{◌≡◌, ◌≢◌, ℕ, ◌+◌, ◌*◌, ◌<◌, ◌≤◌, take, drop, length, AllPairs, IfOk, IfSome, IsTrue};
 ghost use Rattle.row_model.specs.declared.graph.Line.{Line};
 ghost use Rattle.row_model.specs.declared.graph.Pair.{Pair};
 ghost use Rattle.row_model.specs.declared.graph.Why.TheVariants.{Row};
@@ -7,33 +7,34 @@ ghost use Rattle.row_model.specs.Graph.{JoinedBy};
 ghost use Rattle.row_model.specs.Cycles.{first_pair, IsOddWalk, IsOddCycle};
 
 use crate::cycle::Cycle;
-use row_model::{Line, Matrix, Pair, Why, joined_by};
+use crate::keys::{is_rising, sorted_keys};
+use row_model::{Line, Matrix, NoMemory, Pair, Why, joined_by};
+use std::alloc::Global;
 use step_count::{Ledger, Steps};
 
-/// The most lines that are looked at.
-const MOST_LINES: usize = 512;
-
-/// The cycle of these lines, if they are an odd cycle of the first rows. There may be at most 512 lines, and as many steps must be
-/// left as three for each.
+/// The cycle of these lines, if they are an odd cycle of the first rows. As many steps must be left as three for each
+/// line. It takes room for each line.
 pub fn checked_cycle<L: Ledger>(
+    alloc: Global,
     m: &Matrix,
     rows: u32,
     lines: Vec<Line>,
     left: &mut u64,
     steps: &mut Steps<L>,
-) -> Option<Cycle>
+) -> Result<Option<Cycle>, NoMemory>
     requires { rows ≤ length m.now.rows }
-    ensures cycle { IfSome result (IsOddCycle m.now.columns (take rows m.now.rows)) }
+    ensures cycle { IfOk result (λ found. IfSome found (IsOddCycle m.now.columns (take rows m.now.rows))) }
     ensures ticks { steps.new + left.new ≤ steps.old + left.old }
 {
-    if lines.len() < 3 || lines.len() > MOST_LINES {
-        return None;
+    let count = lines.len() as u64;
+    if count < 3 || count > *left / 3 {
+        return Ok(None);
     }
-    *left = left.checked_sub(3 * lines.len() as u64)?;
-    if !is_odd_walk(m, rows, &lines, steps) || !are_distinct(&lines) {
-        return None;
+    *left -= 3 * count;
+    if !is_odd_walk(m, rows, &lines, steps) || !are_distinct(alloc, &lines)? {
+        return Ok(None);
     }
-    Some(Cycle::from_lines(lines))
+    Ok(Some(Cycle::from_lines(lines)))
 }
 
 // Whether the lines are a closed walk of odd length in the graph of the first rows.
@@ -50,8 +51,8 @@ fn is_odd_walk<L: Ledger>(m: &Matrix, rows: u32, lines: &[Line], steps: &mut Ste
     lines.len() % 2 == 1
 }
 
-// Whether the line's reason is one of the first rows or a flip, and joins its pair to another. A step is counted for each of
-// three looks at the row.
+// Whether the line's reason is one of the first rows or a flip, and joins its pair to another. A step is counted for
+// each of three looks at the row.
 fn leads_to<L: Ledger>(m: &Matrix, rows: u32, line: Line, to: Pair, steps: &mut Steps<L>) -> bool
     requires { rows ≤ length m.now.rows }
     ensures joined { IsTrue result → JoinedBy m.now.columns (take rows m.now.rows) line.pair to line.why }
@@ -89,25 +90,9 @@ fn pair_behind(lines: &[Line], i: usize) -> Pair
 }
 
 // Whether no pair comes twice.
-fn are_distinct(lines: &[Line]) -> bool
-    ensures { IsTrue result → AllPairs (λ earlier later. earlier.pair ≢ later.pair) lines.now }
+fn are_distinct(alloc: Global, lines: &[Line]) -> Result<bool, NoMemory>
+    ensures { IfOk result (λ yes. IsTrue yes → AllPairs (λ earlier later. earlier.pair ≢ later.pair) lines.now) }
 {
-    for (i, line) in lines.iter().enumerate() {
-        if !have_others(&lines[i + 1..], line.pair) {
-            return false;
-        }
-    }
-    true
-}
-
-// Whether the lines have other pairs than this one.
-fn have_others(lines: &[Line], v: Pair) -> bool
-    ensures { IsTrue result → (i : ℕ) (line : Line) → slice_get lines.now i ≡ Some line → line.pair ≢ v }
-{
-    for line in lines {
-        if line.pair == v {
-            return false;
-        }
-    }
-    true
+    let keys = sorted_keys(alloc, lines)?;
+    Ok(is_rising(&keys))
 }

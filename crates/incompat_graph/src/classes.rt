@@ -14,8 +14,8 @@ use std::alloc::Global;
 use std::marker::Model;
 use step_count::{Ledger, Steps};
 
-/// The classes of the ordered pairs of distinct columns. Those that [`even_classes`] answers tell which pairs a walk of even
-/// length joins in the incompatibility graph of its rows.
+/// The classes of the ordered pairs of distinct columns. Those that [`even_classes`] answers tell which pairs a walk of
+/// even length joins in the incompatibility graph of its rows.
 #[derive(Drop)]
 pub struct Classes {
     numbers: PairNumbers,
@@ -50,15 +50,15 @@ impl Classes {
     }
 }
 
-/// The classes of the pairs in the incompatibility graph of the first rows (McConnell, 2004): two pairs are in one class
-/// exactly where a walk of even length leads from the one to the other.
+/// The classes of the pairs in the incompatibility graph of the first rows (McConnell, 2004): two pairs are in one
+/// class exactly where a walk of even length leads from the one to the other.
 ///
-/// For each row and each column d that it lacks, all pairs (a,d) of the columns a of the row are in one class, and so are all
-/// pairs (d,a). The classes are the least that have these pairs together, so each row is read once for each column that it
-/// lacks.
+/// For each row and each column d that it lacks, all pairs (a,d) of the columns a of the row are in one class,
+/// and so are all pairs (d,a). The classes are the least that have these pairs together, so each row is read once
+/// for each column that it lacks.
 ///
-/// With c columns and f ones in the first rows it counts at most 8c(f + 1) steps, where memory is refused too: a step for
-/// each look at a row and for each column that is read of it. It takes 4 bytes for each ordered pair of columns.
+/// With c columns and f ones in the first rows it counts at most 8c(f + 1) steps, where memory is refused too: a step
+/// for each look at a row and for each column that is read of it. It takes 4 bytes for each ordered pair of columns.
 ///
 /// # Errors
 ///
@@ -195,8 +195,8 @@ mod tests {
         }
     }
 
-    // The row 110 lacks column 3, so (1,3) and (2,3) are in one class, and (3,1) and (3,2). The row 011 lacks column 1, so
-    // (2,1) and (3,1) are, and (1,2) and (1,3).
+    // The row 110 lacks column 3, so (1,3) and (2,3) are in one class, and (3,1) and (3,2). The row 011 lacks column 1,
+    // so (2,1) and (3,1) are, and (1,2) and (1,3).
     #[test]
     fn two_rows_make_two_classes(rt: HostRuntime) -> Result<(), Fail> {
         let mut m = Matrix::new(rt.alloc(), 3)?;

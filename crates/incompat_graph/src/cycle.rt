@@ -11,9 +11,9 @@ use row_model::{Line, Lines, Matrix, NoMemory, Pair};
 use std::alloc::Global;
 use std::marker::Model;
 
-/// An odd number of lines, three or more, with no pair twice. Those that [`simple_cycle`] answers are an odd cycle in the
-/// incompatibility graph of its matrix: the reason of each line joins its pair to the pair of the next line, and the
-/// reason of the last line to the pair of the first.
+/// An odd number of lines, three or more, with no pair twice. Those that [`simple_cycle`] answers are an odd cycle in
+/// the incompatibility graph of its matrix: the reason of each line joins its pair to the pair of the next line, and
+/// the reason of the last line to the pair of the first.
 #[derive(Drop)]
 pub struct Cycle {
     lines: Lines,
@@ -59,8 +59,8 @@ impl Cycle {
     }
 }
 
-/// An odd cycle of the matrix, which is looked for along a closed walk of odd length. Along a walk in the graph of the first rows
-/// it is one in that graph.
+/// An odd cycle of the matrix, which is looked for along a closed walk of odd length. Along a walk in the graph of the
+/// first rows it is one in that graph.
 ///
 /// A pair that comes twice cuts a closed walk into two closed walks, and one of the two is odd. So the walk is followed
 /// until a pair comes again: the lines since then are the cycle, if they are odd in number, and are left out if not.

@@ -8,7 +8,8 @@ use crate::numbers::PairNumbers;
 use row_model::{COLUMN_BOUND, Line, NoMemory, Pair, Why};
 use std::alloc::Global;
 
-/// A pair that the search has reached. There are fewer than 2^32 pairs, and each takes 24 bytes here and 4 among the numbers.
+/// A pair that the search has reached. There are fewer than 2^32 pairs, and each takes 24 bytes
+/// here and 4 among the numbers.
 #[derive(Clone, Copy, Debug, PartialEq, Eq)]
 pub struct Node {
     /// The pair.
@@ -44,8 +45,8 @@ pub struct Forest {
 }
 
 impl Forest {
-    /// A forest with no tree, and with room for a node for each pair of columns. So it never grows, and takes 28 bytes for
-    /// each ordered pair.
+    /// A forest with no tree, and with room for a node for each pair of columns. So it never grows, and takes 28
+    /// bytes for each ordered pair.
     pub fn new(alloc: Global, columns: u32) -> Result<Self, NoMemory>
         requires { columns ≤ COLUMN_BOUND }
         ensures { IfOk result (λ forest. (forest.numbers.columns ≡ columns) × (forest.nodes.items ≡ []) × (forest.root ≡ 0)

@@ -6,8 +6,8 @@ use row_model::{Matrix, NoMemory};
 use std::alloc::Global;
 use step_count::{Ledger, Steps};
 
-/// For each column the list of those of so many rows after the first ones that have it, numbered from 1 after these. Each one
-/// in these rows is read once, and counted.
+/// For each column the list of those of so many rows after the first ones that have it, numbered from 1 after these.
+/// Each one in these rows is read once, and counted.
 pub fn rows_by_column<L: Ledger>(
     alloc: Global,
     m: &Matrix,

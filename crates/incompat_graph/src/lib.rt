@@ -1,13 +1,16 @@
-//! Odd cycles in the incompatibility graph of a matrix, the certificate that no order of its columns keeps every row, and the
-//! classes of pairs that walks of even length join in it (McConnell, 2004).
+//! Odd cycles in the incompatibility graph of a matrix, the certificate that no order of its columns keeps every row,
+//! and the classes of pairs that walks of even length join in it (McConnell, 2004).
 #![tactic(auto)]
 
+mod around;
+mod borders;
 mod checked;
 mod classes;
 mod closing;
 mod cycle;
 mod forest;
 mod holders;
+mod keys;
 mod laws;
 mod links;
 mod marks;
@@ -17,6 +20,7 @@ mod numbers;
 mod part;
 mod quick;
 mod reason;
+mod repeats;
 mod sample;
 mod search;
 mod shorter;

@@ -16,6 +16,16 @@ pub struct Link {
     pub other: Pair,
 }
 
+impl Link {
+    // The link from the other pair to the one.
+    fn turned(self) -> Self {
+        Link {
+            one: self.other,
+            other: self.one,
+        }
+    }
+}
+
 // Where the way from a column that the row has and a pivot, a column that it lacks, begins and ends.
 #[derive(Clone, Copy, Debug, PartialEq, Eq)]
 struct Course {
@@ -42,11 +52,13 @@ struct OddLink {
     other: usize,
 }
 
-/// Links that close an odd circle by way of the row, or none where the sample shows no such circle.
+/// Links that close an odd circle by way of the row, each with the pivot first at which the one before it ends, or none
+/// where the sample shows no such circle.
 ///
-/// All pairs of a pivot with columns of the row are an even number of steps from each other by the row alone, and so are the
-/// pairs of a link. The pairs of a way are written with the column first that stands first in the order, so a link may join a
-/// pair with its pivot first to one with its pivot second. A circle is odd where an odd number of its links do.
+/// All pairs of a pivot with columns of the row are an even number of steps from each other by the row alone, and so
+/// are the pairs of a link. The pairs of a way are written with the column first that stands first in the order, so a
+/// link may join a pair with its pivot first to one with its pivot second. A circle is odd where an odd number of its
+/// links do.
 pub fn odd_links<L: Ledger>(
     alloc: Global,
     front: &Front,
@@ -57,22 +69,19 @@ pub fn odd_links<L: Ledger>(
     requires { length front.now.gaps.now.order ≡ front.now.m.now.columns }
     ensures ticks { steps.new + left.new ≤ steps.old + left.old }
 {
-    let mut links = Vec::new(alloc);
     let mut ways: Vec<Course> = Vec::new(alloc);
     for pivot in &sample.pivots {
         for member in &sample.members {
             let way = way_of(front, *pivot, *member, left, steps);
             if let Some(link) = closed_at_once(&ways, way) {
-                links.push(link)?;
-                return Ok(links);
+                return Ok(vec![in alloc; link]?);
             }
             if !is_known(&ways, way) {
                 ways.push(way)?;
             }
         }
     }
-    add_circle(alloc, &sample.pivots, &ways, &mut links)?;
-    Ok(links)
+    odd_circle(alloc, &sample.pivots, &ways)
 }
 
 // The way from a pair of a pivot and a member.
@@ -126,29 +135,34 @@ fn is_known(ways: &[Course], way: Course) -> bool {
         .any(|other| other.pivot == way.pivot && other.end == way.end)
 }
 
-// Reaches each pivot from another by links, as far as they go, and adds links that close an odd circle if there is one.
-fn add_circle(
-    alloc: Global,
-    pivots: &[u32],
-    ways: &[Course],
-    links: &mut Vec<Link>,
-) -> Result<(), NoMemory> {
+// Reaches each pivot from another by links, as far as they go, and gives the links that close an odd circle if there is
+// one.
+fn odd_circle(alloc: Global, pivots: &[u32], ways: &[Course]) -> Result<Vec<Link>, NoMemory> {
     let mut reached: Vec<Reached> = Vec::new(alloc);
     for head in 0..pivots.len() {
         if head >= reached.len() {
             match first_left(pivots, &reached) {
-                None => return Ok(()),
+                None => return Ok(Vec::new(alloc)),
                 Some(pivot) => reached.push(root(pivot, head))?,
             }
         }
         if let Some(odd) = spread(ways, head, &mut reached)? {
-            links.push(odd.link)?;
-            add_path(&reached, odd.one, links)?;
-            add_path(&reached, odd.other, links)?;
-            return Ok(());
+            return circle_by(alloc, &reached, odd);
         }
     }
-    Ok(())
+    Ok(Vec::new(alloc))
+}
+
+// The links from the first pivot of a tree to one that is reached, by a link to another that is reached, and back to
+// the first.
+fn circle_by(alloc: Global, reached: &[Reached], odd: OddLink) -> Result<Vec<Link>, NoMemory> {
+    let mut links = path_up(alloc, reached, odd.one)?;
+    links.reverse();
+    links.push(odd.link)?;
+    for link in &path_up(alloc, reached, odd.other)? {
+        links.push(link.turned())?;
+    }
+    Ok(links)
 }
 
 // The first pivot that is not reached.
@@ -164,8 +178,8 @@ fn place_among(reached: &[Reached], pivot: u32) -> Option<usize> {
     reached.iter().position(|one| one.pivot == pivot)
 }
 
-// Reaches the pivots that links lead to from the one at the place `head`. The answer is a link between two that are reached
-// already, if an odd circle closes by it.
+// Reaches the pivots that links lead to from the one at the place `head`. The answer is a link between two that are
+// reached already, if an odd circle closes by it.
 fn spread(
     ways: &[Course],
     head: usize,
@@ -204,14 +218,15 @@ fn spread(
     Ok(None)
 }
 
-// Adds the links by which a pivot was reached.
-fn add_path(reached: &[Reached], from: usize, links: &mut Vec<Link>) -> Result<(), NoMemory> {
+// The links by which a pivot was reached, from the last to the first.
+fn path_up(alloc: Global, reached: &[Reached], from: usize) -> Result<Vec<Link>, NoMemory> {
+    let mut links = Vec::new(alloc);
     let mut at = from;
-    while at > 0 && at < reached.len() && reached[at].parent < at {
+    while at < reached.len() && reached[at].parent < at {
         links.push(reached[at].link)?;
         at = reached[at].parent;
     }
-    Ok(())
+    Ok(links)
 }
 
 // A pivot that is reached from no other.

@@ -1,5 +1,4 @@
-// The rows and columns that ways and cycles meet.
-use crate::ways::Stop;
+// The rows and columns of a part of a matrix.
 use row_model::{Line, NoMemory, Why};
 use std::alloc::Global;
 
@@ -19,18 +18,6 @@ impl Met {
             rows: Vec::new(alloc),
             columns: Vec::new(alloc),
         }
-    }
-
-    /// Adds those of a way.
-    pub fn add_way(&mut self, way: &[Stop]) -> Result<(), NoMemory> {
-        for stop in way {
-            self.columns.push(stop.pair.a)?;
-            self.columns.push(stop.pair.b)?;
-            if let Some(row) = stop.row {
-                self.rows.push(row)?;
-            }
-        }
-        Ok(())
     }
 
     /// Adds those of the lines of a cycle.

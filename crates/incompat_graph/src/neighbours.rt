@@ -14,8 +14,8 @@ use crate::forest::{Conflict, Forest};
 use open_gaps::OpenGaps;
 use row_model::{Line, NoMemory, Pair, Why};
 
-/// What leads from a pair to the pairs that rows join to it: the open gaps of the first rows, where the search goes along an
-/// order that is valid for them, and for each column the further rows that have it.
+/// What leads from a pair to the pairs that rows join to it: the open gaps of the first rows, where the search goes
+/// along an order that is valid for them, and for each column the further rows that have it.
 #[derive(Drop)]
 pub struct Neighbours {
     /// The number of first rows, which is 0 where there are no gaps.

@@ -14,8 +14,8 @@ const MOST_COLUMNS: usize = 256;
 /// The most rows of a part.
 const MOST_ROWS: usize = 256;
 
-/// The lines of an odd cycle in the part of the matrix in these rows and columns, each of which stands once, in rising order.
-/// There are none where the part has no odd cycle, or is too large to be searched in the steps that are left.
+/// The lines of an odd cycle in the part of the matrix in these rows and columns, each of which stands once, in rising
+/// order. There are none where the part has no odd cycle, or is too large to be searched in the steps that are left.
 pub fn lines_among<L: Ledger>(
     alloc: Global,
     m: &Matrix,
@@ -55,8 +55,8 @@ fn price_of(m: &Matrix) -> Option<u64>
     m.ones().checked_mul(2 * u64::from(m.columns()) + 1)
 }
 
-// The part of the matrix in these rows and columns, which are numbered by their positions, from 1. It ends before the row for
-// which too few steps are left.
+// The part of the matrix in these rows and columns, which are numbered by their positions, from 1. It ends before the
+// row for which too few steps are left.
 fn part_of<L: Ledger>(
     alloc: Global,
     m: &Matrix,

@@ -4,15 +4,17 @@ ghost use Rattle.column_order.specs.Orders.{IsValidOrder};
 ghost use Rattle.row_model.specs.Graph.{HasConflict};
 ghost use Rattle.row_model.specs.Cycles.{IsOddCycle};
 
+use crate::around::walk_around;
+use crate::borders::met_at_borders;
 use crate::checked::checked_cycle;
 use crate::cycle::{Cycle, simple_cycle};
-use crate::links::{Link, odd_links};
-use crate::met::Met;
+use crate::links::odd_links;
 use crate::part::lines_among;
-use crate::sample::sample_of;
+use crate::repeats::without_repeats;
+use crate::sample::{Sample, sample_of};
 use crate::search::walk_across;
 use crate::shorter::shorter_cycle;
-use crate::ways::{Front, Stop, way_from};
+use crate::ways::Front;
 use open_gaps::OpenGaps;
 use row_model::{Matrix, NoMemory, positions};
 use std::alloc::Global;
@@ -21,17 +23,18 @@ use step_count::{Ledger, Steps};
 /// The most steps of an attempt.
 const MOST_STEPS: u64 = 16_777_216;
 
-/// A short odd cycle of a matrix of which the rows 1 to `k` have no valid order, where an order is known that is valid for the
-/// rows before row `k`. Its reasons are flips and rows from 1 to `k`.
+/// A short odd cycle of a matrix of which the rows 1 to `k` have no valid order, where an order is known that is valid
+/// for the rows before row `k`. Its reasons are flips and rows from 1 to `k`.
 ///
-/// It is looked for among a few columns of row `k` and a few that the row lacks first, which takes time for each column and not
-/// for each pair of columns. Where none is found there, all pairs are searched as in [`odd_walk`](crate::odd_walk), but with
-/// steps across the gaps that the rows before row `k` leave open in the order, so that only row `k` is read once more. What is
-/// found is made [shorter](crate::shorter_cycle).
+/// It is looked for among the columns that stand near a place of the order where row `k` begins or ends, and then along
+/// ways from a few columns of row `k` and a few that the row lacks, which keeps no table of each
+/// pair of columns. Where none is found there, all pairs are searched as in [`odd_walk`](crate::odd_walk), but with
+/// steps across the gaps that the rows before row `k` leave open in the order, so that only row `k` is read once more.
+/// What is found is made [shorter](crate::shorter_cycle).
 ///
-/// With c columns and f ones in these rows it counts at most 8c(f + 1) steps, where memory is refused too. While it searches all
-/// pairs it takes 28 bytes for each ordered pair of columns, and then 4; beside these there is room for each column, and for each
-/// line that is found.
+/// With c columns and f ones in these rows it counts at most 8c(f + 1) steps, where memory is refused too. While it
+/// searches all pairs it takes 28 bytes for each ordered pair of columns, and then 4; beside these there is room for
+/// each column, and for each line that is found.
 ///
 /// # Errors
 ///
@@ -103,8 +106,8 @@ fn ones_of(m: &Matrix, rows: u32) -> u64
     ones
 }
 
-// An odd cycle among a few columns and rows, in at most so many steps, if one is found there.
-fn quick_cycle<L: Ledger>(
+// An odd cycle that is found without a search among all pairs, in at most so many steps, if there is one.
+pub(crate) fn quick_cycle<L: Ledger>(
     alloc: Global,
     m: &Matrix,
     k: u32,
@@ -129,47 +132,48 @@ fn quick_cycle<L: Ledger>(
         positions: &positions,
     };
     let sample = sample_of(alloc, m, k, order, steps)?;
-    let links = odd_links(alloc, &front, &sample, &mut left, steps)?;
-    if links.is_empty() {
-        return Ok(None);
+    if let Some(cycle) = near_cycle(alloc, &front, k, order, &sample, &mut left, steps)? {
+        return Ok(Some(cycle));
     }
-    let met = met_by(alloc, &front, k, &links, &mut left, steps)?;
-    let lines = lines_among(alloc, m, &met.rows, &met.columns, &mut left, steps)?;
-    Ok(checked_cycle(m, k, lines, &mut left, steps))
+    far_cycle(alloc, &front, k, &sample, &mut left, steps)
 }
 
-// The rows and columns that the ways of the links meet, each once and in rising order, and row `k`.
-fn met_by<L: Ledger>(
+// An odd cycle near the borders of row `k`, which has few lines.
+fn near_cycle<L: Ledger>(
     alloc: Global,
     front: &Front,
     k: u32,
-    links: &[Link],
+    order: &[u32],
+    sample: &Sample,
     left: &mut u64,
     steps: &mut Steps<L>,
-) -> Result<Met, NoMemory>
-    requires { length front.now.gaps.now.order ≡ front.now.m.now.columns }
+) -> Result<Option<Cycle>, NoMemory>
+    requires row { k ≤ length front.now.m.now.rows }
+    requires columns { length front.now.gaps.now.order ≡ front.now.m.now.columns }
+    ensures found { IfOk result (λ found. IfSome found (IsOddCycle front.now.m.now.columns (take k front.now.m.now.rows))) }
     ensures ticks { steps.new + left.new ≤ steps.old + left.old }
 {
-    let mut met = Met::new(alloc);
-    met.rows.push(k)?;
-    for link in links {
-        let mut one = way_from(alloc, front, link.one, left, steps)?;
-        let mut other = way_from(alloc, front, link.other, left, steps)?;
-        part_at_meeting(&mut one, &mut other);
-        met.add_way(&one)?;
-        met.add_way(&other)?;
-    }
-    met.settle();
-    Ok(met)
+    let met = met_at_borders(alloc, front, k, order, &sample.borders)?;
+    let lines = lines_among(alloc, front.m, &met.rows, &met.columns, left, steps)?;
+    checked_cycle(alloc, front.m, k, lines, left, steps)
 }
 
-// Leaves out what two ways have in common at their ends, but for the pair at which they meet.
-fn part_at_meeting(one: &mut Vec<Stop>, other: &mut Vec<Stop>) {
-    while one.len() >= 2
-        && other.len() >= 2
-        && one[one.len() - 2].pair == other[other.len() - 2].pair
-    {
-        one.truncate(one.len() - 1);
-        other.truncate(other.len() - 1);
-    }
+// An odd cycle along ways, however far they lead.
+fn far_cycle<L: Ledger>(
+    alloc: Global,
+    front: &Front,
+    k: u32,
+    sample: &Sample,
+    left: &mut u64,
+    steps: &mut Steps<L>,
+) -> Result<Option<Cycle>, NoMemory>
+    requires row { k ≤ length front.now.m.now.rows }
+    requires columns { length front.now.gaps.now.order ≡ front.now.m.now.columns }
+    ensures found { IfOk result (λ found. IfSome found (IsOddCycle front.now.m.now.columns (take k front.now.m.now.rows))) }
+    ensures ticks { steps.new + left.new ≤ steps.old + left.old }
+{
+    let links = odd_links(alloc, front, sample, left, steps)?;
+    let walk = walk_around(alloc, front, k, &links, left, steps)?;
+    let lines = without_repeats(alloc, &walk)?;
+    checked_cycle(alloc, front.m, k, lines, left, steps)
 }

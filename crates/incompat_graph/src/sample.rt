@@ -8,24 +8,26 @@ use step_count::{Ledger, Steps};
 /// The most columns of one list that a sample takes.
 const MOST: usize = 16;
 
-/// Columns that a row has and columns that it lacks.
+/// Columns that a row has and columns that it lacks, and where in the order the one kind follows the other.
 #[derive(Drop)]
 pub struct Sample {
     /// Columns that the row has.
     pub members: Vec<u32>,
     /// Columns that the row lacks.
     pub pivots: Vec<u32>,
+    /// The positions, from 0, of all columns that stand behind one of the other kind.
+    pub borders: Vec<usize>,
 }
 
-// Columns in their order: all, and those that stand beside one of the other kind.
+// Columns of one kind, in their order: all, and those that stand beside one of the other kind.
 #[derive(Drop)]
-struct Kind {
+struct SampleColumns {
     all: Vec<u32>,
     ends: Vec<u32>,
 }
 
-/// The sample of row `k` in an order: up to 16 columns of each kind that stand beside one of the other kind, and 16 others,
-/// evenly spread. A step is counted for each column of the order.
+/// The sample of row `k` in an order: up to 16 columns of each kind that stand beside one of the other kind, and 16
+/// others, evenly spread. A step is counted for each column of the order.
 pub fn sample_of<L: Ledger>(
     alloc: Global,
     m: &Matrix,
@@ -38,8 +40,9 @@ pub fn sample_of<L: Ledger>(
 {
     let mut members = no_columns(alloc);
     let mut pivots = no_columns(alloc);
+    let mut borders = Vec::new(alloc);
     let mut before: Option<(u32, bool)> = None;
-    for column in order {
+    for (i, column) in order.iter().enumerate() {
         let has = m.has_counted(k, *column, steps);
         let (same, other) = if has {
             (&mut members, &mut pivots)
@@ -52,25 +55,27 @@ pub fn sample_of<L: Ledger>(
         {
             other.ends.push(last)?;
             same.ends.push(*column)?;
+            borders.push(i)?;
         }
         before = Some((*column, has));
     }
     Ok(Sample {
         members: thinned(alloc, &members)?,
         pivots: thinned(alloc, &pivots)?,
+        borders,
     })
 }
 
 // No columns of a kind.
-fn no_columns(alloc: Global) -> Kind {
-    Kind {
+fn no_columns(alloc: Global) -> SampleColumns {
+    SampleColumns {
         all: Vec::new(alloc),
         ends: Vec::new(alloc),
     }
 }
 
 // A few columns of a kind.
-fn thinned(alloc: Global, kind: &Kind) -> Result<Vec<u32>, NoMemory> {
+fn thinned(alloc: Global, kind: &SampleColumns) -> Result<Vec<u32>, NoMemory> {
     let mut few = Vec::new(alloc);
     for column in kind.ends.iter().step_by(kind.ends.len() / MOST + 1) {
         few.push(*column)?;

@@ -22,18 +22,18 @@ use step_count::{Ledger, Steps};
 
 /// A closed walk of odd length in the incompatibility graph of the first rows, or `None` where there is none.
 ///
-/// The pairs are taken in the order in which they are reached, and each is given one of two colours, the other than the pair
-/// from which it was reached. Two joined pairs of one colour close an odd walk through the search tree; if there are none, the
-/// graph is bipartite.
+/// The pairs are taken in the order in which they are reached, and each is given one of two colours, the other than the
+/// pair from which it was reached. Two joined pairs of one colour close an odd walk through the search tree; if there
+/// are none, the graph is bipartite.
 ///
-/// A pair (a,b) leads to (b,a), and by each row that has a and lacks b to the pairs (b,d) of the columns d of the row. They are
-/// the same for every a, so a row is read at most once for each column that it lacks. A row that has b and lacks a joins (a,b)
-/// to the pairs (d,a), and is not read once more for these: it leads from (b,a) to (a,d), and those to (d,a), which are three
-/// steps in place of one and give (d,a) the same colour.
+/// A pair (a,b) leads to (b,a), and by each row that has a and lacks b to the pairs (b,d) of the columns d of the row.
+/// They are the same for every a, so a row is read at most once for each column that it lacks. A row that has b and
+/// lacks a joins (a,b) to the pairs (d,a), and is not read once more for these: it leads from (b,a) to (a,d), and those
+/// to (d,a), which are three steps in place of one and give (d,a) the same colour.
 ///
-/// With c columns and f ones in the first rows it counts at most f(2c + 1) steps, and so at most 8c(f + 1), where memory is
-/// refused too: a step for each look at a row and for each column that is read of it. It takes 28 bytes for each ordered pair of
-/// columns, a bit for each row and column, and room for each one.
+/// With c columns and f ones in the first rows it counts at most f(2c + 1) steps, and so at most 8c(f + 1), where
+/// memory is refused too: a step for each look at a row and for each column that is read of it. It takes 28 bytes for
+/// each ordered pair of columns, a bit for each row and column, and room for each one.
 ///
 /// # Errors
 ///
@@ -62,9 +62,9 @@ pub fn odd_walk<L: Ledger>(
     Ok(found)
 }
 
-// A closed walk of odd length in the graph of the rows 1 to `k`, which have one, across the gaps that the rows before row `k`
-// leave open: only row `k` is looked at for each column that it lacks, so the time does not grow with the number of rows once
-// their gaps are known. It leaves room in its bound for a step for each one of these.
+// A closed walk of odd length in the graph of the rows 1 to `k`, which have one, across the gaps that the rows before
+// row `k` leave open: only row `k` is looked at for each column that it lacks, so the time does not grow with the
+// number of rows once their gaps are known. It leaves room in its bound for a step for each one of these.
 pub(crate) fn walk_across<L: Ledger>(
     alloc: Global,
     m: &Matrix,
@@ -106,7 +106,8 @@ fn first_column<L: Ledger>(m: &Matrix, k: u32, steps: &mut Steps<L>) -> u32
     }
 }
 
-// Searches the graph of the first rows and the further ones. The first trees begin at pairs with the given first column.
+// Searches the graph of the first rows and the further ones. The first trees begin at pairs
+// with the given first column.
 fn search<L: Ledger>(
     alloc: Global,
     m: &Matrix,
@@ -144,8 +145,8 @@ fn column_in_turn(begin: u32, turn: u32) -> u32
     if turn == 0 { begin } else { turn }
 }
 
-// Looks from a pair (a,b) at a further row that has a. If the row lacks b, each pair (b,d) of b with a column d of the row
-// is joined to (a,b). The pairs (b,d) are the same for every a, so each row is looked at once for each b.
+// Looks from a pair (a,b) at a further row that has a. If the row lacks b, each pair (b,d) of b with a column d of the
+// row is joined to (a,b). The pairs (b,d) are the same for every a, so each row is looked at once for each b.
 fn look<L: Ledger>(
     m: &Matrix,
     near: &Neighbours,
@@ -194,8 +195,8 @@ fn look<L: Ledger>(
     Ok(None)
 }
 
-// Takes a node: reaches its pair with the columns exchanged and the pairs across the open gaps, and looks at each further
-// row with its first column.
+// Takes a node: reaches its pair with the columns exchanged and the pairs across the open gaps, and looks at each
+// further row with its first column.
 fn expand<L: Ledger>(
     m: &Matrix,
     near: &Neighbours,

@@ -15,8 +15,8 @@ const FEW_LINES: usize = 128;
 
 /// An odd cycle of the first rows that is no longer than this one.
 ///
-/// The rows and columns that a short cycle meets are searched once more by themselves, which mostly finds a cycle of a few
-/// lines. A cycle of more than 128 lines stays as it is, and so does one that `most` steps are too few for.
+/// The rows and columns that a short cycle meets are searched once more by themselves, which mostly finds a cycle of a
+/// few lines. A cycle of more than 128 lines stays as it is, and so does one that `most` steps are too few for.
 ///
 /// # Errors
 ///
@@ -43,7 +43,7 @@ pub fn shorter_cycle<L: Ledger>(
     met.settle();
     let mut left = most;
     let lines = lines_among(alloc, m, &met.rows, &met.columns, &mut left, steps)?;
-    match checked_cycle(m, rows, lines, &mut left, steps) {
+    match checked_cycle(alloc, m, rows, lines, &mut left, steps)? {
         Some(found) if found.lines().len() < cycle.lines().len() => Ok(found),
         _ => Ok(cycle),
     }

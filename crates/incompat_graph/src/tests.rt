@@ -6,6 +6,7 @@ ghost use Rattle.row_model.specs.Cycles.{IsOddWalk};
 use super::*;
 use crate::checked::checked_cycle;
 use crate::part::lines_among;
+use crate::repeats::without_repeats;
 use row_model::{Line, Matrix, Pair, Why, joined_by};
 use std::alloc::Global;
 use std::process::Abort;
@@ -46,7 +47,8 @@ fn cycle_of(alloc: Global, m: &Matrix) -> Result<Option<Cycle>, NoMemory> {
     }
 }
 
-// Each line's reason joins its pair to the next, the last to the first; the lines are odd in number, and no pair comes twice.
+// Each line's reason joins its pair to the next, the last to the first; the lines are odd in
+// number, and no pair comes twice.
 fn assert_cycle(rt: &impl Abort, m: &Matrix, lines: &[Line]) {
     assert!(rt; lines.len() % 2 == 1);
     for i in 0..lines.len() {
@@ -159,18 +161,23 @@ fn line(a: u32, b: u32, row: u32) -> Line {
     }
 }
 
-fn checked_counted<L: Ledger>(m: &Matrix, lines: Vec<Line>, blank: Blank) -> bool
+fn checked_counted<L: Ledger>(
+    alloc: Global,
+    m: &Matrix,
+    lines: Vec<Line>,
+    blank: Blank,
+) -> Result<bool, NoMemory>
     requires name { blank.name ≡ L.name }
     requires parts { blank.parts ≡ L.parts }
     requires some { 0 < blank.parts }
 {
     let mut steps = Steps::<L>::new(blank);
     let mut left = 27;
-    checked_cycle(m, m.rows(), lines, &mut left, &mut steps).is_some()
+    Ok(checked_cycle(alloc, m, m.rows(), lines, &mut left, &mut steps)?.is_some())
 }
 
-fn is_cycle(m: &Matrix, lines: Vec<Line>) -> bool {
-    checked_counted::<Brand>(m, lines, Blank::new(1))
+fn is_cycle(alloc: Global, m: &Matrix, lines: Vec<Line>) -> Result<bool, NoMemory> {
+    checked_counted::<Brand>(alloc, m, lines, Blank::new(1))
 }
 
 // Row 3 has 1 and 3 and lacks 2, row 1 has 2 and 1 and lacks 3, and row 2 has 3 and 2 and lacks 1.
@@ -178,7 +185,7 @@ fn is_cycle(m: &Matrix, lines: Vec<Line>) -> bool {
 fn three_lines_of_a_triangle_are_a_cycle(rt: HostRuntime) -> Result<(), Fail> {
     let m = triangle(rt.alloc())?;
     let lines = vec![in rt.alloc(); line(1, 2, 3), line(2, 3, 1), line(3, 1, 2)]?;
-    assert!(rt; is_cycle(&m, lines));
+    assert!(rt; is_cycle(rt.alloc(), &m, lines)?);
     Ok(())
 }
 
@@ -186,9 +193,9 @@ fn three_lines_of_a_triangle_are_a_cycle(rt: HostRuntime) -> Result<(), Fail> {
 fn other_lines_are_no_cycle(rt: HostRuntime) -> Result<(), Fail> {
     let m = triangle(rt.alloc())?;
     let joined_by_none = vec![in rt.alloc(); line(1, 2, 3), line(2, 3, 2), line(3, 1, 2)]?;
-    assert!(rt; !is_cycle(&m, joined_by_none));
+    assert!(rt; !is_cycle(rt.alloc(), &m, joined_by_none)?);
     let open_at_its_end = vec![in rt.alloc(); line(2, 3, 1), line(1, 2, 3), line(3, 1, 2)]?;
-    assert!(rt; !is_cycle(&m, open_at_its_end));
+    assert!(rt; !is_cycle(rt.alloc(), &m, open_at_its_end)?);
     let of_even_length = vec![in rt.alloc();
         line(1, 2, 3),
         line(2, 3, 1),
@@ -197,7 +204,7 @@ fn other_lines_are_no_cycle(rt: HostRuntime) -> Result<(), Fail> {
         line(2, 3, 1),
         line(3, 1, 2),
     ]?;
-    assert!(rt; !is_cycle(&m, of_even_length));
+    assert!(rt; !is_cycle(rt.alloc(), &m, of_even_length)?);
     let thrice_round = vec![in rt.alloc();
         line(1, 2, 3),
         line(2, 3, 1),
@@ -209,8 +216,8 @@ fn other_lines_are_no_cycle(rt: HostRuntime) -> Result<(), Fail> {
         line(2, 3, 1),
         line(3, 1, 2),
     ]?;
-    assert!(rt; !is_cycle(&m, thrice_round));
-    assert!(rt; !is_cycle(&m, Vec::new(rt.alloc())));
+    assert!(rt; !is_cycle(rt.alloc(), &m, thrice_round)?);
+    assert!(rt; !is_cycle(rt.alloc(), &m, Vec::new(rt.alloc()))?);
     Ok(())
 }
 
@@ -239,6 +246,30 @@ fn a_part_is_searched_where_the_steps_are_enough(rt: HostRuntime) -> Result<(), 
     let m = triangle(rt.alloc())?;
     assert!(rt; lines_within(rt.alloc(), &m, 50)?.is_empty());
     let lines = lines_within(rt.alloc(), &m, 51)?;
-    assert!(rt; is_cycle(&m, lines));
+    assert!(rt; is_cycle(rt.alloc(), &m, lines)?);
+    Ok(())
+}
+
+fn flip(a: u32, b: u32) -> Line {
+    Line {
+        pair: pair(a, b),
+        why: Why::Flip,
+    }
+}
+
+// From (1,2) over to (2,1) and back, and then round the triangle.
+#[test]
+fn a_pair_that_comes_twice_is_left_out(rt: HostRuntime) -> Result<(), Fail> {
+    let m = triangle(rt.alloc())?;
+    let walk = vec![in rt.alloc();
+        flip(1, 2),
+        flip(2, 1),
+        line(1, 2, 3),
+        line(2, 3, 1),
+        line(3, 1, 2),
+    ]?;
+    let lines = without_repeats(rt.alloc(), &walk)?;
+    assert_eq!(rt; lines.len(), 3);
+    assert!(rt; is_cycle(rt.alloc(), &m, lines)?);
     Ok(())
 }

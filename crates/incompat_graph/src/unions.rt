@@ -5,8 +5,8 @@ ghost use Rattle.incompat_graph.specs.Unions.{AreParents, AreFlat, Climbs, Unite
 use row_model::NoMemory;
 use std::alloc::Global;
 
-/// So many places, each in a set of its own. One place of a set is its own parent, the root of the set, and each other has a
-/// parent that comes before it.
+/// So many places, each in a set of its own. One place of a set is its own parent, the root of the set, and each other
+/// has a parent that comes before it.
 pub fn each_alone(alloc: Global, places: u32) -> Result<Vec<u32>, NoMemory>
     ensures { IfOk result (λ parents. (length parents.items ≡ places) × AreAlone parents.items) }
 {
@@ -17,7 +17,8 @@ pub fn each_alone(alloc: Global, places: u32) -> Result<Vec<u32>, NoMemory>
     Ok(parents)
 }
 
-/// The root of the set of a place. Each second place on the way is given its parent's parent, which makes later ways shorter.
+/// The root of the set of a place. Each second place on the way is given its parent's parent,
+/// which makes later ways shorter.
 pub fn root_of(parents: &mut [u32], place: u32) -> u32
     requires parents { AreParents parents.old }
     requires place { place < length parents.old }

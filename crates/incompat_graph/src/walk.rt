@@ -5,9 +5,9 @@ ghost use Rattle.row_model.specs.Cycles.{IsOdd};
 use row_model::Line;
 use std::marker::Model;
 
-/// An odd number of lines. Those that a search answers are a closed walk in the incompatibility graph of the rows that were
-/// searched: the reason of each line joins its pair to the pair of the next line, and the reason of the last line to the
-/// pair of the first.
+/// An odd number of lines. Those that a search answers are a closed walk in the incompatibility graph of the rows
+/// that were searched: the reason of each line joins its pair to the pair of the next line, and the reason of the
+/// last line to the pair of the first.
 #[derive(Drop)]
 pub struct Walk {
     lines: Vec<Line>,

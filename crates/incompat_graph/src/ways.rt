@@ -19,7 +19,7 @@ pub struct Front<'a> {
 
 /// A pair on a way, and the row by which the way comes to it.
 #[derive(Clone, Copy, Debug, PartialEq, Eq)]
-pub struct Stop {
+pub struct Halt {
     /// The pair.
     pub pair: Pair,
     /// The row, unless the way begins here.
@@ -46,16 +46,16 @@ impl Front<'_> {
     }
 }
 
-/// The pair at which each way from a pair ends, the first column of which stands before the second. A way leads from (a,b) to
-/// the first column of a row that has a and lacks b, in place of a, or to the last column of a row that has b and lacks a, in
-/// place of b. It ends early where no steps are left.
+/// The pair at which each way from a pair ends, the first column of which stands before the second. A way leads from
+/// (a,b) to the first column of a row that has a and lacks b, in place of a, or to the last column of a row that has b
+/// and lacks a, in place of b. It ends early where no steps are left.
 pub fn end_of<L: Ledger>(front: &Front, v: Pair, left: &mut u64, steps: &mut Steps<L>) -> Pair
     requires { length front.now.gaps.now.order ≡ front.now.m.now.columns }
     ensures ticks { steps.new + left.new ≤ steps.old + left.old }
 {
     let mut at = v;
-    while let Some(stop) = next_stop(front, at, left, steps) {
-        at = stop.pair;
+    while let Some(halt) = next_halt(front, at, left, steps) {
+        at = halt.pair;
     }
     at
 }
@@ -67,30 +67,30 @@ pub fn way_from<L: Ledger>(
     v: Pair,
     left: &mut u64,
     steps: &mut Steps<L>,
-) -> Result<Vec<Stop>, NoMemory>
+) -> Result<Vec<Halt>, NoMemory>
     requires { length front.now.gaps.now.order ≡ front.now.m.now.columns }
     ensures ticks { steps.new + left.new ≤ steps.old + left.old }
 {
     let mut way = Vec::new(alloc);
-    way.push(Stop { pair: v, row: None })?;
+    way.push(Halt { pair: v, row: None })?;
     let mut at = v;
-    while let Some(stop) = next_stop(front, at, left, steps) {
-        way.push(stop)?;
-        at = stop.pair;
+    while let Some(halt) = next_halt(front, at, left, steps) {
+        way.push(halt)?;
+        at = halt.pair;
     }
     Ok(way)
 }
 
 // The pair after a pair on a way.
-fn next_stop<L: Ledger>(
+fn next_halt<L: Ledger>(
     front: &Front,
     v: Pair,
     left: &mut u64,
     steps: &mut Steps<L>,
-) -> Option<Stop>
+) -> Option<Halt>
     requires { length front.now.gaps.now.order ≡ front.now.m.now.columns }
     ensures ticks { steps.new + left.new ≤ steps.old + left.old }
-    ensures less { IfSome result (λ stop. left.new < left.old) }
+    ensures less { IfSome result (λ halt. left.new < left.old) }
 {
     if !is_pair(front.m.columns(), v) {
         return None;
@@ -102,7 +102,7 @@ fn next_stop<L: Ledger>(
             a: ends.first,
             b: v.b,
         };
-        return Some(Stop {
+        return Some(Halt {
             pair,
             row: Some(row),
         });
@@ -114,14 +114,14 @@ fn next_stop<L: Ledger>(
         a: v.a,
         b: ends.last,
     };
-    Some(Stop {
+    Some(Halt {
         pair,
         row: Some(row),
     })
 }
 
-// The row that is the line's reason.
-fn row_of(line: Line) -> Option<u32> {
+/// The row that is the line's reason.
+pub fn row_of(line: Line) -> Option<u32> {
     match line.why {
         Why::Flip => None,
         Why::Row(row) => Some(row),

@@ -16,27 +16,17 @@ returns-in_err-sample-clause-ticks g c =
     let long : length c.args.order.now ≡ c.args.m.now.columns = order_length c.args.m.now.columns c.args.order.now c.requires.order.order in
     omega (arith, long, c.columns.ensures.columns, c.in-Some.ensures, c.sample_of.ensures)
 
-pub returns-in_err-links-clause-ticks : goal.returns-in_err-links-clause-ticks
-returns-in_err-links-clause-ticks g c =
+pub returns-in_err-cycle-clause-ticks : goal.returns-in_err-cycle-clause-ticks
+returns-in_err-cycle-clause-ticks g c =
     let long : length c.args.order.now ≡ c.args.m.now.columns = order_length c.args.m.now.columns c.args.order.now c.requires.order.order in
-    omega (arith, long, c.columns.ensures.columns, c.in-Some.ensures, c.sample_of.ensures, c.odd_links.ensures)
+    omega (arith, long, c.columns.ensures.columns, c.in-Some.ensures, c.sample_of.ensures, c.near_cycle.ensures.ticks)
 
-pub returns-then-is_empty-clause-ticks : goal.returns-then-is_empty-clause-ticks
-returns-then-is_empty-clause-ticks g c =
+pub returns-in-Some-2-clause-ticks : goal.returns-in-Some-2-clause-ticks
+returns-in-Some-2-clause-ticks g c =
     let long : length c.args.order.now ≡ c.args.m.now.columns = order_length c.args.m.now.columns c.args.order.now c.requires.order.order in
-    omega (arith, long, c.columns.ensures.columns, c.in-Some.ensures, c.sample_of.ensures, c.odd_links.ensures)
-
-pub returns-in_err-met-clause-ticks : goal.returns-in_err-met-clause-ticks
-returns-in_err-met-clause-ticks g c =
-    let long : length c.args.order.now ≡ c.args.m.now.columns = order_length c.args.m.now.columns c.args.order.now c.requires.order.order in
-    omega (arith, long, c.columns.ensures.columns, c.in-Some.ensures, c.sample_of.ensures, c.odd_links.ensures, c.met_by.ensures)
-
-pub returns-in_err-lines-clause-ticks : goal.returns-in_err-lines-clause-ticks
-returns-in_err-lines-clause-ticks g c =
-    let long : length c.args.order.now ≡ c.args.m.now.columns = order_length c.args.m.now.columns c.args.order.now c.requires.order.order in
-    omega (arith, long, c.columns.ensures.columns, c.in-Some.ensures, c.sample_of.ensures, c.odd_links.ensures, c.met_by.ensures, c.lines_among.ensures)
+    omega (arith, long, c.columns.ensures.columns, c.in-Some.ensures, c.sample_of.ensures, c.near_cycle.ensures.ticks)
 
 pub returns-clause-ticks : goal.returns-clause-ticks
 returns-clause-ticks g c =
     let long : length c.args.order.now ≡ c.args.m.now.columns = order_length c.args.m.now.columns c.args.order.now c.requires.order.order in
-    omega (arith, long, c.columns.ensures.columns, c.in-Some.ensures, c.sample_of.ensures, c.odd_links.ensures, c.met_by.ensures, c.lines_among.ensures, c.checked_cycle.ensures.ticks)
+    omega (arith, long, c.columns.ensures.columns, c.in-Some.ensures, c.sample_of.ensures, c.near_cycle.ensures.ticks, c.far_cycle.ensures.ticks)
