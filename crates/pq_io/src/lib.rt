@@ -1,11 +1,12 @@
 //! Where bytes come from, and where they go to.
 //!
-//! A [`Shelf`] holds files by name: one is chosen, and then it is read. A [`Sink`] takes bytes. Each counts its own failures,
-//! and may tell the bytes that it holds. [`read_all`] reads a file whole up to a limit, and [`write_all`] writes a text whole.
+//! A [`Shelf`] holds files by name: one is chosen, and then it is read. A [`Sink`] takes bytes. Each counts its
+//! own failures, and may tell the bytes that it holds. [`read_all`] reads a file whole up to a limit, and
+//! [`write_all`] writes a text whole.
 //!
-//! [`MemShelf`] and [`MemSink`] lie in memory and tell their bytes; their calls fail, and move few bytes at a time, where that
-//! is asked for. [`NeverShelf`] and [`NeverSink`] never fail. [`RealShelf`] and [`RealSink`] are the files and the streams of
-//! the system, of which no bytes can be told.
+//! [`MemShelf`] and [`MemSink`] lie in memory and tell their bytes; their calls fail, and move few bytes at a time,
+//! where that is asked for. [`NeverShelf`] and [`NeverSink`] never fail. [`RealShelf`] and [`RealSink`] are the files
+//! and the streams of the system, of which no bytes can be told.
 #![tactic(auto)]
 
 mod error;

@@ -11,13 +11,14 @@ use crate::{ChooseError, Failed, NoMemory, Shelf};
 use std::alloc::Global;
 use std::marker::Model;
 
+// A file in memory.
 #[derive(Drop)]
 struct MemFile {
     name: String,
     bytes: Vec<u8>,
 }
 
-/// A place in a file: the file's index, and how many of its bytes have been read.
+// A place in a file: the file's index, and how many of its bytes have been read.
 #[derive(Clone, Copy)]
 struct Place {
     file: usize,
@@ -26,9 +27,9 @@ struct Place {
 
 /// A shelf in memory, whose calls fail where that is asked for. A name that is added again has its last bytes.
 ///
-/// Contracts see it as its files, the bytes left of the chosen one, the names asked for, the greatest number of bytes a read,
-/// the numbers of the calls that are to fail, and the counts of calls and of faults. The calls of `choose` and of `read` are
-/// numbered together, from 1; the count stands still at 2^64 - 1.
+/// Contracts see it as its files, the bytes left of the chosen one, the names asked for, the greatest number of bytes a
+/// read, the numbers of the calls that are to fail, and the counts of calls and of faults. The calls of `choose` and of
+/// `read` are numbered together, from 1; the count stands still at 2^64 - 1.
 #[derive(Drop)]
 pub struct MemShelf {
     alloc: Global,
@@ -153,8 +154,8 @@ impl Shelf for MemShelf {
         Ok(())
     }
 
-    /// Gives as many bytes as `buf` has room for, and no more than a piece. It fails exactly where the call is one of those that
-    /// are to fail.
+    /// Gives as many bytes as `buf` has room for, and no more than a piece. It fails exactly where the call is one
+    /// of those that are to fail.
     fn read(&mut self, buf: &mut [u8]) -> Result<usize, Failed>
         requires room { 0 < length buf.old }
         requires chosen { IsTrue (is_some self.old.left) }
@@ -208,8 +209,8 @@ fn bytes_of(files: &[MemFile], file: usize) -> &[u8]
     &files[file].bytes
 }
 
-// Copies the bytes from the place `read` on into `buf`, as many as it has room for and no more than a piece, and returns how
-// many.
+// Copies the bytes from the place `read` on into `buf`, as many as it has room for and no more than
+// a piece, and returns how many.
 fn give(bytes: &[u8], read: usize, piece: usize, buf: &mut [u8]) -> usize
     requires { read ≤ length bytes.now }
     ensures count { result ≡ min (length (drop read bytes.now)) (min (length buf.old) piece) }

@@ -10,8 +10,9 @@ use std::marker::Model;
 
 /// A sink in memory, which takes as many bytes as room was reserved for, and whose writes fail where that is asked for.
 ///
-/// Contracts see it as the bytes written, the room that is left, the greatest number of bytes a write, the numbers of the writes
-/// that are to fail, and the counts of writes and of faults. The writes are numbered from 1; their count stands still at 2^64 - 1.
+/// Contracts see it as the bytes written, the room that is left, the greatest number of bytes a write, the numbers
+/// of the writes that are to fail, and the counts of writes and of faults. The writes are numbered from 1; their
+/// count stands still at 2^64 - 1.
 #[derive(Drop)]
 pub struct MemSink {
     bytes: Vec<u8>,
@@ -98,8 +99,8 @@ impl Sink for MemSink {
 
     ghost faults = { λ sink. sink.faults };
 
-    /// Takes as many bytes as there is room for, and no more than a piece. It fails exactly where no room is left and where the
-    /// write is one of those that are to fail, and then only the counts change.
+    /// Takes as many bytes as there is room for, and no more than a piece. It fails exactly where no room is left and
+    /// where the write is one of those that are to fail, and then only the counts change.
     fn write(&mut self, piece: &[u8]) -> Result<usize, Failed>
         requires { 0 < length piece.now }
         ensures bound { IfOk result (TakesSome piece.now) }

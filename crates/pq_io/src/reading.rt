@@ -15,8 +15,10 @@ pub enum Whole {
     TooLong,
 }
 
-/// The room for one read, in bytes.
-const PIECE: usize = 64 * 1024;
+// The least and the greatest room that is made for one read, in bytes.
+const LEAST_PIECE: usize = 16 * 1024;
+
+const GREATEST_PIECE: usize = 64 * 1024;
 
 /// Reads what is left of the chosen file, unless it is more than `limit` bytes. The file stays chosen.
 ///
@@ -49,7 +51,9 @@ pub fn read_all<F: Shelf>(alloc: Global, shelf: &mut F, limit: u64) -> Result<Wh
     Ok(Whole::TooLong)
 }
 
-// One read, to behind the filled front of `bytes`. Room is made by zeros, and what an earlier read left of it serves again.
+// One read, to behind the filled front of `bytes`. What room an earlier read left serves again. Where it
+// left none, as much more is made by zeros as is filled, within the bounds of a piece: each page that is
+// touched for the first time costs.
 fn read_on<F: Shelf>(shelf: &mut F, bytes: &mut Vec<u8>, filled: usize) -> Result<usize, ReadFail>
     requires filled { filled ≤ vec_len bytes.old }
     requires small { filled ≤ 2 ^ 32 }
@@ -64,7 +68,10 @@ fn read_on<F: Shelf>(shelf: &mut F, bytes: &mut Vec<u8>, filled: usize) -> Resul
     ensures asked { F.asked shelf.new ≡ F.asked shelf.old }
     ensures content { (other : List ℕ) → F.content shelf.new other ≡ F.content shelf.old other }
 {
-    bytes.resize(filled + PIECE, 0)?;
+    if filled == bytes.len() {
+        let piece = filled.max(LEAST_PIECE).min(GREATEST_PIECE);
+        bytes.resize(filled + piece, 0)?;
+    }
     let n = shelf.read(&mut bytes[filled..])?;
     Ok(n)
 }

@@ -12,7 +12,7 @@ use std::io::{ErrorKind, Read};
 use std::marker::Model;
 use std::rt::Files;
 
-/// What is chosen.
+// What is chosen.
 #[derive(Drop)]
 enum Chosen<File, Reader> {
     Nothing,

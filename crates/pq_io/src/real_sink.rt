@@ -11,7 +11,8 @@ use std::marker::Model;
 
 /// Standard output or standard error, flushed in each write. As a sink it tells no bytes.
 ///
-/// Contracts see it as the bytes that its stream tells, and the count of its faults. The streams of the system tell none.
+/// Contracts see it as the bytes that its stream tells, and the count of its faults. The
+/// streams of the system tell none.
 #[derive(Drop)]
 pub struct RealSink<W: Write> {
     stream: W,

@@ -31,7 +31,8 @@ pub trait Shelf {
     ///
     /// # Errors
     ///
-    /// `Failed` where the file is missing or can't be opened, which counts a fault, and `NoMemory`. No file is chosen then.
+    /// `Failed` where the file is missing or can't be opened, which counts a fault, and
+    /// `NoMemory`. No file is chosen then.
     fn choose(&mut self, alloc: Global, name: &str) -> Result<(), ChooseError>
         ensures chosen { OnOk result (IsTrue (has_chosen self.new)) }
         ensures left { OnOk result (left self.new ≡ content self.old name.now) }
@@ -41,8 +42,8 @@ pub trait Shelf {
         ensures told { ChangedOnlyIfNotFound (faults self.old) (faults self.new) result }
         ensures content { (other : List ℕ) → content self.new other ≡ content self.old other };
 
-    /// Reads the next bytes of the chosen file into the start of `buf`, and returns how many: 0 only at the end. The file
-    /// stays chosen. It takes no memory.
+    /// Reads the next bytes of the chosen file into the start of `buf`, and returns how many: 0 only at the end. The
+    /// file stays chosen. It takes no memory.
     ///
     /// # Errors
     ///

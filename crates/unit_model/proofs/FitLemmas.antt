@@ -3,6 +3,7 @@ use Rattle.std.proofs.Common.{◌≡◌, ◌≢◌, ◌↔◌, ◌∙◌, ℕ, d
 use Rattle.std.proofs.lemmas.Bool.{both_ways, cases_eq, cases_lt, ne_eqb, and_parts, and_cases, or_cases, leb-true, leb-false}
 use Rattle.std.proofs.lemmas.List.{drop_more}
 use Rattle.std.proofs.lemmas.Option.{get_or_from_slice_get}
+use Rattle.std.specs.List.Sorted.{IsNonDecreasing}
 use Rattle.column_order.specs.Orders.{has}
 use Rattle.column_order.proofs.Lists.{has_head}
 use Rattle.row_model.specs.Rows.{Ascends, IsRow}
@@ -214,3 +215,16 @@ compared_all left m lefts from to i true a end b c = (
     | inr more ↦ apart j k (omega (arith, l, end more))
   ])),
 )
+
+-- of left ends that ascend, the first behind a place is the nearest to that there
+pub apart_ahead : (lefts : List ℕ) (m at from to : ℕ) → IsNonDecreasing lefts → at < from → to ≤ length lefts → (DifferByAtMost m (get_or lefts at 0) (get_or lefts from 0) → ⊥) →
+    AreApart (get_or lefts at 0) m lefts from to
+apart_ahead lefts m at from to up l e far i a b d =
+    let low : get_or lefts at 0 ≤ get_or lefts from 0 = up at from 0 (omega arith) (omega (arith, a, b, e)) in
+    let high : get_or lefts from 0 ≤ get_or lefts i 0 = up from i 0 a (omega (arith, b, e)) in
+    far (omega (arith, low), omega (arith, high, d.1))
+
+pub apart_by_first : (lefts : List ℕ) (m at from to : ℕ) (near : Bool) → IsNonDecreasing lefts → at < from → from < to → to ≤ length lefts →
+    (IsTrue near ↔ DifferByAtMost m (get_or lefts at 0) (get_or lefts from 0)) → IsTrue (not near) ↔ AreApart (get_or lefts at 0) m lefts from to
+apart_by_first lefts m at from to true up l k e h = (λ t. absurd (cc), λ apart. absurd (apart from (omega arith) k (h.0 refl)))
+apart_by_first lefts m at from to false up l k e h = (λ t. apart_ahead lefts m at from to up l e (λ d. both_ways false refl (h.1 d)), λ apart. refl)

@@ -7,8 +7,8 @@ ghost use Rattle.unit_model.specs.Drawing.{IsLinkedList, IsNumbered};
 use row_model::NoMemory;
 use std::alloc::Global;
 
-/// Numbers of the vertices, one for each vertex in turn. The list of a component is kept from its end: that is the first
-/// vertex of the component, and each vertex in the list has the one directly before it.
+/// Numbers of the vertices, one for each vertex in turn. The list of a component is kept from its end: that is the
+/// first vertex of the component, and each vertex in the list has the one directly before it.
 #[derive(Drop)]
 pub struct Drawing {
     /// The left end that a vertex would have at place 0 of the list.

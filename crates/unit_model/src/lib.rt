@@ -1,8 +1,8 @@
 //! Unit interval graphs (Roberts, 1969): models of a graph by intervals of one length, in whole numbers.
 //!
-//! A graph is a proper interval graph exactly where it has a unit model: a length of at least 1 and a left end for each vertex,
-//! whole numbers, such that the left ends of two distinct vertices differ by at most the length exactly where the vertices are
-//! adjacent.
+//! A graph is a proper interval graph exactly where it has a unit model: a length of at least 1 and a left end for
+//! each vertex, whole numbers, such that the left ends of two distinct vertices differ by at most the length exactly
+//! where the vertices are adjacent.
 //!
 //! It is proved that
 //! - [`model`] gives the left ends of its rule, and they are a unit model whose length is the number of vertices;

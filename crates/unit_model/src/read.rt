@@ -24,6 +24,7 @@ pub fn parse_unit(alloc: Global, bytes: &[u8]) -> Result<Option<UnitText>, NoMem
     Ok(unit)
 }
 
+// The unit model whose text the bytes are.
 #[tactic(auto, unfolding(crate::specs::Reading::unit_of))]
 fn read_unit(alloc: Global, bytes: &[u8]) -> Result<Option<UnitText>, NoMemory>
     ensures { IfOk result (λ o. o ≡ unit_of bytes.now) }

@@ -12,15 +12,15 @@ use graph_read::Graph;
 use row_model::{Interval, Intervals, NoMemory, positions, span_of};
 use std::alloc::Global;
 
-/// The unit model of an umbrella order, vertex by vertex (Roberts, 1969). Its length is the number n of vertices, so each right
-/// end is the left end plus n, and all numbers are within 64 bits.
+/// The unit model of an umbrella order, vertex by vertex (Roberts, 1969). Its length is the number n of vertices, so
+/// each right end is the left end plus n, and all numbers are within 64 bits.
 ///
 /// The components are taken in the order of their first vertices. The layer of a vertex is its distance from the first
-/// vertex of its component. Each component has a list, which begins with its first vertex; then, layer after layer and in each
-/// layer in the order, a vertex is put directly before its first neighbour of the layer before, behind those already put there
-/// for the same neighbour. A vertex of layer t at place p of the list, from 0, has the left end b + tn + p. The base b is 0 for
-/// the first component, and after a component of L layers it is (L + 1)n more. It takes time in proportion to the vertices
-/// and edges.
+/// vertex of its component. Each component has a list, which begins with its first vertex; then, layer after layer and
+/// in each layer in the order, a vertex is put directly before its first neighbour of the layer before, behind those
+/// already put there for the same neighbour. A vertex of layer t at place p of the list, from 0, has the left end b +
+/// tn + p. The base b is 0 for the first component, and after a component of L layers it is (L + 1)n more. It takes
+/// time in proportion to the vertices and edges.
 ///
 /// # Errors
 ///

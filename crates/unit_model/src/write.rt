@@ -24,6 +24,7 @@ pub fn print_unit(t: &UnitText, text: &mut Vec<u8>) -> Result<(), NoMemory>
     Ok(())
 }
 
+// Appends the lines before those of the vertices.
 fn push_head(vertices: u32, length: u64, text: &mut Vec<u8>) -> Result<(), NoMemory>
     ensures ok { OnOk result (text.new.items ≡ text.old.items ++ unit_head vertices length) }
     ensures err { OnErr result (Extends text.old.items text.new.items) }
@@ -36,6 +37,7 @@ fn push_head(vertices: u32, length: u64, text: &mut Vec<u8>) -> Result<(), NoMem
     Ok(())
 }
 
+// Appends bytes.
 fn push(text: &mut Vec<u8>, bytes: &[u8]) -> Result<(), NoMemory>
     ensures ok { OnOk result (text.new.items ≡ text.old.items ++ bytes.now) }
     ensures err { OnErr result (text.new.items ≡ text.old.items) }
@@ -43,6 +45,7 @@ fn push(text: &mut Vec<u8>, bytes: &[u8]) -> Result<(), NoMemory>
     text.extend_from_slice(bytes)
 }
 
+// Appends a line for each vertex.
 fn push_lefts(lefts: &[u64], text: &mut Vec<u8>) -> Result<(), NoMemory>
     ensures ok { OnOk result (text.new.items ≡ text.old.items ++ left_lines 1 lefts.now) }
     ensures err { OnErr result (Extends text.old.items text.new.items) }
@@ -53,6 +56,7 @@ fn push_lefts(lefts: &[u64], text: &mut Vec<u8>) -> Result<(), NoMemory>
     Ok(())
 }
 
+// Appends the line of one vertex: its number and its left end.
 fn push_left(i: u64, left: u64, text: &mut Vec<u8>) -> Result<(), NoMemory>
     ensures ok { OnOk result (text.new.items ≡ text.old.items ++ left_line i left) }
     ensures err { OnErr result (Extends text.old.items text.new.items) }

@@ -2,21 +2,21 @@
 use Rattle.std.proofs.Common.{◌≡◌, ◌⊎◌, ◌↔◌, ◌∙◌, ℕ, ◌+◌, ◌-◌, ◌<◌, ◌≤◌, Bool, List, length, max, take, drop, sym, subst, inl, inr, arith}
 use Rattle.std.specs.Prelude.{IsTrue, EachIndex}
 use Rattle.std.proofs.lemmas.List.{get_or-take, get_or-drop, length-drop, length-take-le}
-use Rattle.verdict_check.specs.declared.gaps.Gap.{Gap}
-use Rattle.verdict_check.specs.declared.gaps.Gap.TheVariants.{P}
+use Rattle.verdict_check.specs.declared.gaps.LeafGap.{LeafGap}
+use Rattle.verdict_check.specs.declared.gaps.LeafGap.TheVariants.{P}
 use Rattle.verdict_check.specs.Gaps.{depth, LiesWithin, AreWithin, gap_at}
 use Rattle.verdict_check.proofs.GapPlaces.{lies_within_more}
 
 max_is : (a b : ℕ) → ((max a b ≡ a) × (b ≤ a)) ⊎ ((max a b ≡ b) × (a ≤ b))
 max_is a b = grind arith
 
-both_lie : (a b o : ℕ) (g : Gap) → o ≡ max a b → LiesWithin o g → LiesWithin a g × LiesWithin b g
+both_lie : (a b o : ℕ) (g : LeafGap) → o ≡ max a b → LiesWithin o g → LiesWithin a g × LiesWithin b g
 both_lie a b o g e w = (lies_within_more o a g (omega (arith, e)) w, lies_within_more o b g (omega (arith, e)) w)
 
-max_lies : (a b o : ℕ) (g : Gap) → o ≡ max a b → LiesWithin a g × LiesWithin b g → LiesWithin o g
+max_lies : (a b o : ℕ) (g : LeafGap) → o ≡ max a b → LiesWithin a g × LiesWithin b g → LiesWithin o g
 max_lies a b o g e w = elim (max_is a b) [ inl m ↦ subst (λ n. LiesWithin n g) (sym (e ∙ m.0)) w.0 | inr m ↦ subst (λ n. LiesWithin n g) (sym (e ∙ m.0)) w.1 ]
 
-pub within_cut : (gs : List Gap) (f l a b o : ℕ) (r : Bool) → (1 ≤ f) × (f ≤ l) × (l < length gs) → o ≡ max a b → a ≡ depth (gap_at gs (f - 1)) → b ≡ depth (gap_at gs l) →
+pub within_cut : (gs : List LeafGap) (f l a b o : ℕ) (r : Bool) → (1 ≤ f) × (f ≤ l) × (l < length gs) → o ≡ max a b → a ≡ depth (gap_at gs (f - 1)) → b ≡ depth (gap_at gs l) →
     IsTrue r ↔ EachIndex (take (l - f) (drop f gs)) (λ i. LiesWithin o (gap_at (take (l - f) (drop f gs)) i)) → IsTrue r ↔ AreWithin gs f l
 within_cut gs f l a b o r n e p q h = (
   λ t i x y.

@@ -2,11 +2,11 @@
 use Rattle.std.proofs.Common.{◌≡◌, ◌⊎◌, ◌∙◌, ℕ, ◌≤◌, Bool, true, false, List, [], ◌∷◌, ◌++◌, IsTrue, IsFalse, refl, sym, ap, subst, inl, inr, arith}
 use Rattle.std.proofs.lemmas.Bool.{cases_Bool}
 use Rattle.column_order.specs.Orders.{has}
-use Rattle.verdict_check.specs.declared.gaps.Gap.{Gap}
+use Rattle.verdict_check.specs.declared.gaps.LeafGap.{LeafGap}
 use Rattle.verdict_check.specs.Gaps.{depth, LiesWithin}
 
 abbrev pub Line : Type 0
-Line = List (ℕ × Gap)
+Line = List (ℕ × LeafGap)
 
 abbrev pub columns_of : Line → List ℕ
 columns_of [] = []
@@ -17,7 +17,7 @@ columns_of-append [] ys = refl
 columns_of-append (x ∷ xs) ys = ap (λ z. x.0 ∷ z) (columns_of-append xs ys)
 
 -- a gap between two columns, of which the row has the first or not, and the second or not
-abbrev pub Joins : ℕ → Bool → Bool → Gap → Type 0
+abbrev pub Joins : ℕ → Bool → Bool → LeafGap → Type 0
 Joins o true true g = LiesWithin o g
 Joins o true false g = depth g ≤ o
 Joins o false true g = depth g ≤ o
@@ -67,11 +67,11 @@ none_join row [] ys h k = k
 none_join row (x ∷ xs) ys h k = (h.0, none_join row xs ys h.1 k)
 
 -- the first gap, where there is a column
-abbrev pub Opens : Gap → Line → Type 0
+abbrev pub Opens : LeafGap → Line → Type 0
 Opens g [] = ⊥
 Opens g (x ∷ xs) = x.1 ≡ g
 
-pub opens_more : (g : Gap) (xs ys : Line) → Opens g xs → Opens g (xs ++ ys)
+pub opens_more : (g : LeafGap) (xs ys : Line) → Opens g xs → Opens g (xs ++ ys)
 opens_more g [] ys h = absurd h
 opens_more g (x ∷ xs) ys h = h
 
@@ -79,7 +79,7 @@ pub all_last : (row : List ℕ) (xs : Line) → All row xs → last row true xs 
 all_last row [] h = refl
 all_last row (x ∷ xs) h = ap (λ b. last row b xs) h.0 ∙ all_last row xs h.1
 
-pub all_last_any : (row : List ℕ) (p : Bool) (g : Gap) (xs : Line) → Opens g xs → All row xs → last row p xs ≡ true
+pub all_last_any : (row : List ℕ) (p : Bool) (g : LeafGap) (xs : Line) → Opens g xs → All row xs → last row p xs ≡ true
 all_last_any row p g [] n h = absurd n
 all_last_any row p g (x ∷ xs) n h = ap (λ b. last row b xs) h.0 ∙ all_last row xs h.1
 
@@ -93,12 +93,12 @@ none_fits row o [] h = tt
 none_fits row o (x ∷ xs) h = (subst (λ b. Joins o false b x.1) (sym h.0) tt, subst (λ b. Fit row o b xs) (sym h.0) (none_fits row o xs h.1))
 
 -- no column of the row, where the first gap lies at o or above
-pub ended_fits : (row : List ℕ) (o : ℕ) (p : Bool) (g : Gap) (xs : Line) → depth g ≤ o → Opens g xs → None row xs → Fit row o p xs
+pub ended_fits : (row : List ℕ) (o : ℕ) (p : Bool) (g : LeafGap) (xs : Line) → depth g ≤ o → Opens g xs → None row xs → Fit row o p xs
 ended_fits row o p g [] l n h = tt
 ended_fits row o p g (x ∷ xs) l n h =
     (subst (λ b. Joins o p b x.1) (sym h.0) (ended o p x.1 (subst (λ y. depth y ≤ o) (sym n) l)), subst (λ b. Fit row o b xs) (sym h.0) (none_fits row o xs h.1))
   where
-    ended : (o : ℕ) (p : Bool) (g : Gap) → depth g ≤ o → Joins o p false g
+    ended : (o : ℕ) (p : Bool) (g : LeafGap) → depth g ≤ o → Joins o p false g
     ended o true g h = h
     ended o false g h = tt
 
@@ -160,7 +160,7 @@ run_right row xs ys h =
     ]
 
 -- where a run goes over a gap, the gap lies within o
-pub crossed : (row : List ℕ) (o : ℕ) (p : Bool) (g : Gap) (xs : Line) → p ≡ true → Fit row o p xs → Amid row xs → Opens g xs → (None row xs → ⊥) → LiesWithin o g
+pub crossed : (row : List ℕ) (o : ℕ) (p : Bool) (g : LeafGap) (xs : Line) → p ≡ true → Fit row o p xs → Amid row xs → Opens g xs → (None row xs → ⊥) → LiesWithin o g
 crossed row o p g [] e f h n some = absurd n
 crossed row o p g (x ∷ xs) e f h n some =
     elim h [

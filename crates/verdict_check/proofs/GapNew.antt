@@ -12,8 +12,8 @@ use Rattle.pq_tree.specs.declared.PqTree.{PqTree}
 use Rattle.pq_tree.specs.declared.Tree.{Tree}
 use Rattle.row_model.specs.Rows.{IsRow}
 use Rattle.row_model.specs.Positions.{ArePositions}
-use Rattle.verdict_check.specs.declared.gaps.Gap.{Gap}
-use Rattle.verdict_check.specs.declared.gaps.Gap.TheVariants.{P}
+use Rattle.verdict_check.specs.declared.gaps.LeafGap.{LeafGap}
+use Rattle.verdict_check.specs.declared.gaps.LeafGap.TheVariants.{P}
 use Rattle.verdict_check.specs.declared.gaps.Gaps.{Gaps}
 use Rattle.verdict_check.specs.Gaps.{AreGaps, gaps}
 
@@ -29,7 +29,7 @@ order_of t o e = let p : IsProper (column_count t) (outline t) = t.proper in sub
 pub few : (t : PqTree) (o : List ℕ) → o ≡ leaves (outline t) → column_count t ≤ COLUMN_BOUND → length o ≤ COLUMN_BOUND
 few t o e h = omega (arith, h, proper_length t, ap length e)
 
-pub made : (t : PqTree) (ps : Vec ℕ Global) (gs : Vec Gap Global) (none : List Gap) → none ≡ [] → {most : List Gap} → gs.items ≡ most ++ P 0 ∷ [] → (root : Tree) → most ≡ none ++ gaps (P 0) 1 (outline_of root) → outline_of root ≡ outline t →
+pub made : (t : PqTree) (ps : Vec ℕ Global) (gs : Vec LeafGap Global) (none : List LeafGap) → none ≡ [] → {most : List LeafGap} → gs.items ≡ most ++ P 0 ∷ [] → (root : Tree) → most ≡ none ++ gaps (P 0) 1 (outline_of root) → outline_of root ≡ outline t →
     (o : List ℕ) → o ≡ leaves (outline t) → ArePositions o ps.items → AreGaps (outline t) (record { positions = ps; gaps = gs })
 made t ps gs none n {most} g root m r o e h =
     let c : length ps.items ≡ column_count t = h.columns ∙ ap length e ∙ proper_length t in

@@ -2,8 +2,8 @@
 use Rattle.std.proofs.Common.{◌≡◌, ◌⊎◌, ℕ, zero, suc, ◌<◌, ◌≤◌, Bool, true, false, List, [], ◌∷◌, length, get_or, IsTrue, IsFalse, refl, sym, subst, inl, inr, arith}
 use Rattle.std.proofs.lemmas.Bool.{cases_Bool, both_ways, false_from_ne_true}
 use Rattle.column_order.specs.Orders.{has, Keeps, AreEnds}
-use Rattle.verdict_check.specs.declared.gaps.Gap.{Gap}
-use Rattle.verdict_check.specs.declared.gaps.Gap.TheVariants.{P, Q}
+use Rattle.verdict_check.specs.declared.gaps.LeafGap.{LeafGap}
+use Rattle.verdict_check.specs.declared.gaps.LeafGap.TheVariants.{P, Q}
 use Rattle.verdict_check.specs.Gaps.{depth, LiesWithin}
 use Rattle.verdict_check.proofs.GapLines.{Line, columns_of, Joins, Fit, None, Amid, IsRun}
 use Rattle.verdict_check.proofs.GapTrees.{gaps_in}
@@ -47,7 +47,7 @@ pub fit_from : (row : List ℕ) (o : ℕ) (p : Bool) (xs : Line) → ((i : ℕ) 
 fit_from row o p [] h = tt
 fit_from row o p (x ∷ xs) h = (h 0 (omega arith), fit_from row o (has row x.0) xs (shifted row o p x xs h))
   where
-    shifted : (row : List ℕ) (o : ℕ) (p : Bool) (x : ℕ × Gap) (xs : Line) → ((i : ℕ) → i < length (columns_of (x ∷ xs)) → JoinsAt row o p (x ∷ xs) i) → (i : ℕ) → i < length (columns_of xs) → JoinsAt row o (has row x.0) xs i
+    shifted : (row : List ℕ) (o : ℕ) (p : Bool) (x : ℕ × LeafGap) (xs : Line) → ((i : ℕ) → i < length (columns_of (x ∷ xs)) → JoinsAt row o p (x ∷ xs) i) → (i : ℕ) → i < length (columns_of xs) → JoinsAt row o (has row x.0) xs i
     shifted row o p x xs h zero l = h (suc zero) (omega (arith, l))
     shifted row o p x xs h (suc i) l = h (suc (suc i)) (omega (arith, l))
 
@@ -68,29 +68,29 @@ between o row f l k e i m n =
 pub outside : (o row : List ℕ) (f l : ℕ) → AreEnds o row f l → (i : ℕ) → i < length o → (i < f) ⊎ (l < i) → IsFalse (has row (get_or o i 0))
 outside o row f l e i m h = false_from_ne_true (has row (get_or o i 0)) (λ t. let r = e.whole i m t in elim h [ inl a ↦ omega (arith, a, r.0) | inr a ↦ omega (arith, a, r.1) ])
 
-joins_none : (o : ℕ) (p b : Bool) (g : Gap) → IsFalse p → IsFalse b → Joins o p b g
+joins_none : (o : ℕ) (p b : Bool) (g : LeafGap) → IsFalse p → IsFalse b → Joins o p b g
 joins_none o p b g h k = subst (λ x. Joins o x b g) (sym h) (subst (λ y. Joins o false y g) (sym k) tt)
 
-joins_both : (o : ℕ) (p b : Bool) (g : Gap) → IsTrue p → IsTrue b → LiesWithin o g → Joins o p b g
+joins_both : (o : ℕ) (p b : Bool) (g : LeafGap) → IsTrue p → IsTrue b → LiesWithin o g → Joins o p b g
 joins_both o p b g h k w = subst (λ x. Joins o x b g) (sym h) (subst (λ y. Joins o true y g) (sym k) w)
 
-joins_begin : (o : ℕ) (p b : Bool) (g : Gap) → IsFalse p → IsTrue b → depth g ≤ o → Joins o p b g
+joins_begin : (o : ℕ) (p b : Bool) (g : LeafGap) → IsFalse p → IsTrue b → depth g ≤ o → Joins o p b g
 joins_begin o p b g h k w = subst (λ x. Joins o x b g) (sym h) (subst (λ y. Joins o false y g) (sym k) w)
 
-joins_end : (o : ℕ) (p b : Bool) (g : Gap) → IsTrue p → IsFalse b → depth g ≤ o → Joins o p b g
+joins_end : (o : ℕ) (p b : Bool) (g : LeafGap) → IsTrue p → IsFalse b → depth g ≤ o → Joins o p b g
 joins_end o p b g h k w = subst (λ x. Joins o x b g) (sym h) (subst (λ y. Joins o true y g) (sym k) w)
 
-both_joins : (o : ℕ) (p b : Bool) (g : Gap) → IsTrue p → IsTrue b → Joins o p b g → LiesWithin o g
+both_joins : (o : ℕ) (p b : Bool) (g : LeafGap) → IsTrue p → IsTrue b → Joins o p b g → LiesWithin o g
 both_joins o p b g h k w = subst (λ y. Joins o true y g) k (subst (λ x. Joins o x b g) h w)
 
-begin_joins : (o : ℕ) (p b : Bool) (g : Gap) → IsFalse p → IsTrue b → Joins o p b g → depth g ≤ o
+begin_joins : (o : ℕ) (p b : Bool) (g : LeafGap) → IsFalse p → IsTrue b → Joins o p b g → depth g ≤ o
 begin_joins o p b g h k w = subst (λ y. Joins o false y g) k (subst (λ x. Joins o x b g) h w)
 
-end_joins : (o : ℕ) (p b : Bool) (g : Gap) → IsTrue p → IsFalse b → Joins o p b g → depth g ≤ o
+end_joins : (o : ℕ) (p b : Bool) (g : LeafGap) → IsTrue p → IsFalse b → Joins o p b g → depth g ≤ o
 end_joins o p b g h k w = subst (λ y. Joins o true y g) k (subst (λ x. Joins o x b g) h w)
 
 -- the gap before position i, where the last one stands at the end
-abbrev pub gap_before : Line → ℕ → Gap
+abbrev pub gap_before : Line → ℕ → LeafGap
 gap_before xs i = get_or (gaps_in xs) i (P 0)
 
 -- each gap within the span lies within o, and the two at its ends lie at o or above
@@ -178,6 +178,6 @@ parted_fits row o f l xs k e t = fit_from row o false xs at
         ]
 
 -- a higher bound does as well
-pub lies_within_more : (o q : ℕ) (g : Gap) → q ≤ o → LiesWithin o g → LiesWithin q g
+pub lies_within_more : (o q : ℕ) (g : LeafGap) → q ≤ o → LiesWithin o g → LiesWithin q g
 lies_within_more o q (P d) h w = omega (arith, h, w)
 lies_within_more o q (Q d) h w = omega (arith, h, w)

@@ -9,38 +9,38 @@ use Rattle.pq_tree.specs.Outline.{Outline, Forest, leaf, p_node, q_node, no_tree
 use Rattle.pq_tree.specs.Proper.{outline_of, forest, count, HasArities, HaveArities}
 use Rattle.pq_tree.specs.declared.Tree.{Tree, P, Q}
 use Rattle.pq_tree.proofs.Shown.{outline_of-P, outline_of-Q}
-use Rattle.verdict_check.specs.declared.gaps.Gap.{Gap}
-use Rattle.verdict_check.specs.declared.gaps.Gap.TheVariants.{P as gap_P, Q as gap_Q}
+use Rattle.verdict_check.specs.declared.gaps.LeafGap.{LeafGap}
+use Rattle.verdict_check.specs.declared.gaps.LeafGap.TheVariants.{P as gap_P, Q as gap_Q}
 use Rattle.verdict_check.specs.Gaps.{gaps, gaps_of}
 
 -- the gap before the child of an index
-abbrev pub gap_before : ℕ → Gap → Gap → Gap
+abbrev pub gap_before : ℕ → LeafGap → LeafGap → LeafGap
 gap_before zero g s = g
 gap_before (suc i) g s = s
 
-front : List Outline → Gap → Gap → Gap
+front : List Outline → LeafGap → LeafGap → LeafGap
 front [] g s = g
 front (u ∷ us) g s = s
 
-front_same : (us : List Outline) (s : Gap) → front us s s ≡ s
+front_same : (us : List Outline) (s : LeafGap) → front us s s ≡ s
 unfolding front
 front_same [] s = refl
 front_same (u ∷ us) s = refl
 
-gaps_more : (g s : Gap) (d : ℕ) (us : List Outline) (u : Outline) → gaps_of g s d (forest (us ++ u ∷ [])) ≡ gaps_of g s d (forest us) ++ gaps (front us g s) d u
+gaps_more : (g s : LeafGap) (d : ℕ) (us : List Outline) (u : Outline) → gaps_of g s d (forest (us ++ u ∷ [])) ≡ gaps_of g s d (forest us) ++ gaps (front us g s) d u
 unfolding front
 gaps_more g s d [] u = append-nil (gaps g d u)
 gaps_more g s d (x ∷ us) u =
     ap (λ z. gaps g d x ++ z) (gaps_more s s d us u ∙ ap (λ y. gaps_of s s d (forest us) ++ gaps y d u) (front_same us s)) ∙
     sym (append_assoc (gaps g d x) (gaps_of s s d (forest us)) (gaps s d u))
 
-front_at : (ts : List Tree) (i : ℕ) (g s : Gap) → i < length ts → front (map outline_of (take i ts)) g s ≡ gap_before i g s
+front_at : (ts : List Tree) (i : ℕ) (g s : LeafGap) → i < length ts → front (map outline_of (take i ts)) g s ≡ gap_before i g s
 unfolding front
 front_at [] i g s h = absurd (omega (arith, h))
 front_at (t ∷ ts) zero g s h = refl
 front_at (t ∷ ts) (suc i) g s h = refl
 
-pub push_gaps_step : (old all new : List Gap) (g s gap : Gap) (d : ℕ) (ts : List Tree) (i : ℕ) (child : Tree) → i < length ts → child ≡ get_or ts i child →
+pub push_gaps_step : (old all new : List LeafGap) (g s gap : LeafGap) (d : ℕ) (ts : List Tree) (i : ℕ) (child : Tree) → i < length ts → child ≡ get_or ts i child →
     gap ≡ gap_before i g s → all ≡ old ++ gaps_of g s d (forest (map outline_of (take i ts))) → new ≡ all ++ gaps gap d (outline_of child) →
     new ≡ old ++ gaps_of g s d (forest (map outline_of (take (i + 1) ts)))
 push_gaps_step old all new g s gap d ts i child h r b e k =
@@ -51,10 +51,10 @@ push_gaps_step old all new g s gap d ts i child h r b e k =
     ap (λ c. gaps_of g s d (forest us) ++ gaps (front us g s) d (outline_of c)) r ∙
     sym (ap (λ x. gaps_of g s d (forest x)) (map_more outline_of ts i child h) ∙ gaps_more g s d us (outline_of (get_or ts i child))))
 
-pub gap_before_next : (i : ℕ) (g s : Gap) → s ≡ gap_before (i + 1) g s
+pub gap_before_next : (i : ℕ) (g s : LeafGap) → s ≡ gap_before (i + 1) g s
 gap_before_next i g s = rw (add-one) refl
 
-pub push_gaps_all : (old all : List Gap) (g s : Gap) (d : ℕ) (ts : List Tree) (i : ℕ) → length ts ≤ i → all ≡ old ++ gaps_of g s d (forest (map outline_of (take i ts))) →
+pub push_gaps_all : (old all : List LeafGap) (g s : LeafGap) (d : ℕ) (ts : List Tree) (i : ℕ) → length ts ≤ i → all ≡ old ++ gaps_of g s d (forest (map outline_of (take i ts))) →
     all ≡ old ++ gaps_of g s d (forest (map outline_of ts))
 push_gaps_all old all g s d ts i l e = e ∙ ap (λ x. old ++ gaps_of g s d (forest (map outline_of x))) (take_all i ts l)
 
@@ -115,14 +115,14 @@ node_children_Q t v ts depth e s h l =
 pub depth_of : (t : Tree) (depth : ℕ) → HasArities (outline_of t) → depth + length (leaves (outline_of t)) < 2 ^ 32 → depth + 1 < 2 ^ 32
 depth_of t depth h l = omega (arith, l, long (outline_of t) h)
 
-pub over_P : {E : Type 0} (t : Tree) (v : Vec Tree Global) (ts : List Tree) (g : Gap) (d : ℕ) (old new : List Gap) (r : Result (Unit {0}) E) → t ≡ P v → ts ≡ v.items →
+pub over_P : {E : Type 0} (t : Tree) (v : Vec Tree Global) (ts : List Tree) (g : LeafGap) (d : ℕ) (old new : List LeafGap) (r : Result (Unit {0}) E) → t ≡ P v → ts ≡ v.items →
     OnOk r (new ≡ old ++ gaps_of g (gap_P d) (d + 1) (forest (map outline_of ts))) → OnOk r (new ≡ old ++ gaps g d (outline_of t))
 over_P t v ts g d old new (Ok u) e s h =
     h ∙ ap (λ n. old ++ gaps_of g (gap_P d) n (forest (map outline_of ts))) (swapped d) ∙
     ap (λ x. old ++ gaps g d x) (sym (ap outline_of e ∙ outline_of-P v ∙ ap (λ x. p_node (forest (map outline_of x))) (sym s)))
 over_P t v ts g d old new (Err u) e s h = tt
 
-pub over_Q : {E : Type 0} (t : Tree) (v : Vec Tree Global) (ts : List Tree) (g : Gap) (d : ℕ) (old new : List Gap) (r : Result (Unit {0}) E) → t ≡ Q v → ts ≡ v.items →
+pub over_Q : {E : Type 0} (t : Tree) (v : Vec Tree Global) (ts : List Tree) (g : LeafGap) (d : ℕ) (old new : List LeafGap) (r : Result (Unit {0}) E) → t ≡ Q v → ts ≡ v.items →
     OnOk r (new ≡ old ++ gaps_of g (gap_Q d) (d + 1) (forest (map outline_of ts))) → OnOk r (new ≡ old ++ gaps g d (outline_of t))
 over_Q t v ts g d old new (Ok u) e s h =
     h ∙ ap (λ n. old ++ gaps_of g (gap_Q d) n (forest (map outline_of ts))) (swapped d) ∙

@@ -7,7 +7,7 @@ use Rattle.row_model.specs.Positions.{ArePositions, IsSpan, IsSpanInOrder}
 use Rattle.row_model.specs.declared.lists.Span.{Span}
 use Rattle.row_model.proofs.Ascending.{row_within, row_once}
 use Rattle.row_model.proofs.PositionLemmas.{kept_by_span}
-use Rattle.verdict_check.specs.declared.gaps.Gap.TheVariants.{P}
+use Rattle.verdict_check.specs.declared.gaps.LeafGap.TheVariants.{P}
 use Rattle.verdict_check.specs.declared.gaps.Gaps.{Gaps}
 use Rattle.verdict_check.specs.Gaps.{AreWithin, AreGaps, gaps}
 use Rattle.verdict_check.specs.YesTests.{AllKeep}

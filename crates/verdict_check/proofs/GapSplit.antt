@@ -3,8 +3,8 @@ use Rattle.std.proofs.Common.{◌≡◌, ◌∙◌, ℕ, ◌+◌, ◌<◌, ◌�
 use Rattle.std.proofs.lemmas.Bool.{cases_Bool, both_ways, or_cases, or_from, and_parts, leb-true, cond-true, cond-false, false_from_ne_true}
 use Rattle.pq_tree.specs.Outline.{Outline, Forest, leaf, p_node, q_node, no_tree, tree_and, leaves, leaves_of}
 use Rattle.pq_tree.specs.Proper.{HasArities, HaveArities}
-use Rattle.verdict_check.specs.declared.gaps.Gap.{Gap}
-use Rattle.verdict_check.specs.declared.gaps.Gap.TheVariants.{P, Q}
+use Rattle.verdict_check.specs.declared.gaps.LeafGap.{LeafGap}
+use Rattle.verdict_check.specs.declared.gaps.LeafGap.TheVariants.{P, Q}
 use Rattle.verdict_check.specs.Gaps.{LiesWithin}
 use Rattle.verdict_check.specs.HoldsWalk.{meets, misses, meeting, resumes, is_gapped, is_split, are_split}
 use Rattle.verdict_check.proofs.HoldsLists.{meets_left, meets_right}
@@ -14,7 +14,7 @@ use Rattle.verdict_check.proofs.GapTrees.{line, line_of, all_of, not_all, not_no
 use Rattle.verdict_check.proofs.GapWalk.{one_meeting}
 
 -- where the row has columns of a tree and of later ones, it goes over the gap after the tree
-goes_over : (row : List ℕ) (o : ℕ) (p : Bool) (g s : Gap) (d : ℕ) (t : Outline) (ts : Forest) → HaveArities ts → Fit row o p (line_of g s d (tree_and t ts)) → IsRun row (line_of g s d (tree_and t ts)) →
+goes_over : (row : List ℕ) (o : ℕ) (p : Bool) (g s : LeafGap) (d : ℕ) (t : Outline) (ts : Forest) → HaveArities ts → Fit row o p (line_of g s d (tree_and t ts)) → IsRun row (line_of g s d (tree_and t ts)) →
     IsTrue (meets row (leaves t)) → IsTrue (meets row (leaves_of ts)) → LiesWithin o s
 goes_over row o p g s d t no_tree h f r m n = absurd (both_ways false refl n)
 goes_over row o p g s d t (tree_and u us) h f r m n =
@@ -29,7 +29,7 @@ goes_over row o p g s d t (tree_and u us) h f r m n =
       ]
     ]
 
-two_meeting : (row : List ℕ) (o : ℕ) (p : Bool) (g s : Gap) (d : ℕ) (ts : Forest) → HaveArities ts → Fit row o p (line_of g s d ts) → IsRun row (line_of g s d ts) → 2 ≤ meeting row ts → LiesWithin o s
+two_meeting : (row : List ℕ) (o : ℕ) (p : Bool) (g s : LeafGap) (d : ℕ) (ts : Forest) → HaveArities ts → Fit row o p (line_of g s d ts) → IsRun row (line_of g s d ts) → 2 ≤ meeting row ts → LiesWithin o s
 two_meeting row o p g s d no_tree h f r l = absurd (omega arith)
 two_meeting row o p g s d (tree_and t ts) h f r l =
     elim (cases_Bool (meets row (leaves t))) [
@@ -40,7 +40,7 @@ two_meeting row o p g s d (tree_and t ts) h f r l =
     ]
 
 -- a tree of which the row has one column and misses another has a gap at which the row begins or ends
-part_of : (row : List ℕ) (o : ℕ) (p : Bool) (g : Gap) (d : ℕ) (t : Outline) → Fit row o p (line g d t) → IsTrue (meets row (leaves t)) → IsTrue (misses row (leaves t)) → d ≤ o
+part_of : (row : List ℕ) (o : ℕ) (p : Bool) (g : LeafGap) (d : ℕ) (t : Outline) → Fit row o p (line g d t) → IsTrue (meets row (leaves t)) → IsTrue (misses row (leaves t)) → d ≤ o
 part_of row o p g d t f m n = mixed_ends row o d p (line g d t) f (deep_after d g d t (omega arith)) (not_all row g d t n) (not_none row g d t m)
 
 resumes_meets : (row : List ℕ) (ts : Forest) → IsTrue (resumes row ts) → IsTrue (meets row (leaves_of ts))
@@ -87,7 +87,7 @@ resumes_not row o k p (tree_and t ts) e h f a r =
     ]
 
 -- children of a Q-node at depth k
-gapped_not : (row : List ℕ) (o k : ℕ) (p : Bool) (g : Gap) (ts : Forest) → HaveArities ts → Fit row o p (line_of g (Q k) (1 + k) ts) → IsRun row (line_of g (Q k) (1 + k) ts) → IsTrue (is_gapped row ts) → ⊥
+gapped_not : (row : List ℕ) (o k : ℕ) (p : Bool) (g : LeafGap) (ts : Forest) → HaveArities ts → Fit row o p (line_of g (Q k) (1 + k) ts) → IsRun row (line_of g (Q k) (1 + k) ts) → IsTrue (is_gapped row ts) → ⊥
 gapped_not row o k p g no_tree h f a r = both_ways false refl r
 gapped_not row o k p g (tree_and t ts) h f a r =
     let xs : Line = line g (1 + k) t in
@@ -119,7 +119,7 @@ gapped_not row o k p g (tree_and t ts) h f a r =
     ]
 
 mutual
-  pub unsplit : (row : List ℕ) (o : ℕ) (p : Bool) (g : Gap) (d : ℕ) (t : Outline) → HasArities t → Fit row o p (line g d t) → IsRun row (line g d t) → IsFalse (is_split row t)
+  pub unsplit : (row : List ℕ) (o : ℕ) (p : Bool) (g : LeafGap) (d : ℕ) (t : Outline) → HasArities t → Fit row o p (line g d t) → IsRun row (line g d t) → IsFalse (is_split row t)
   unsplit row o p g d (leaf a) h f r = split_leaf row a
   unsplit row o p g d (p_node ts) h f r =
       split_p row ts ∙
@@ -136,7 +136,7 @@ mutual
       or_from (are_split row ts) (is_gapped row ts) (unsplits row o p g (Q d) (1 + d) ts h.1 f r)
       (false_from_ne_true (is_gapped row ts) (λ e. gapped_not row o d p g ts h.1 f r e))
 
-  unsplits : (row : List ℕ) (o : ℕ) (p : Bool) (g s : Gap) (d : ℕ) (ts : Forest) → HaveArities ts → Fit row o p (line_of g s d ts) → IsRun row (line_of g s d ts) → IsFalse (are_split row ts)
+  unsplits : (row : List ℕ) (o : ℕ) (p : Bool) (g s : LeafGap) (d : ℕ) (ts : Forest) → HaveArities ts → Fit row o p (line_of g s d ts) → IsRun row (line_of g s d ts) → IsFalse (are_split row ts)
   unsplits row o p g s d no_tree h f r = split_none row
   unsplits row o p g s d (tree_and t ts) h f r =
       let fits = fit_parts row o p (line g d t) (line_of s s d ts) f in

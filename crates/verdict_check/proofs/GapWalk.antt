@@ -4,8 +4,8 @@ use Rattle.std.proofs.lemmas.Bool.{cases_Bool, both_ways, or_parts, and_cases, l
 use Rattle.column_order.specs.Orders.{has}
 use Rattle.pq_tree.specs.Outline.{Outline, Forest, leaf, p_node, q_node, no_tree, tree_and, leaves, leaves_of}
 use Rattle.pq_tree.specs.Proper.{HasArities, HaveArities}
-use Rattle.verdict_check.specs.declared.gaps.Gap.{Gap}
-use Rattle.verdict_check.specs.declared.gaps.Gap.TheVariants.{P, Q}
+use Rattle.verdict_check.specs.declared.gaps.LeafGap.{LeafGap}
+use Rattle.verdict_check.specs.declared.gaps.LeafGap.TheVariants.{P, Q}
 use Rattle.verdict_check.specs.Gaps.{depth, LiesWithin}
 use Rattle.verdict_check.specs.HoldsWalk.{meets, misses, meeting, resumes, is_gapped, is_split, are_split}
 use Rattle.verdict_check.proofs.HoldsLists.{meets-append, none_append, meets_cases}
@@ -29,12 +29,12 @@ meets_rest : (row xs ys : List ℕ) → IsFalse (meets row xs) → IsTrue (meets
 meets_rest row xs ys n m = elim (meets_cases row xs ys m) [ inl k ↦ absurd (both_ways (meets row xs) n k) | inr k ↦ k ]
 
 -- trees of which the row has no column, after others
-rest_fits : (row : List ℕ) (o : ℕ) (p : Bool) (s : Gap) (d : ℕ) (ts : Forest) → HaveArities ts → depth s ≤ o → None row (line_of s s d ts) → Fit row o p (line_of s s d ts)
+rest_fits : (row : List ℕ) (o : ℕ) (p : Bool) (s : LeafGap) (d : ℕ) (ts : Forest) → HaveArities ts → depth s ≤ o → None row (line_of s s d ts) → Fit row o p (line_of s s d ts)
 rest_fits row o p s d no_tree h l n = tt
 rest_fits row o p s d (tree_and t ts) h l n =
     ended_fits row o p s (line_of s s d (tree_and t ts)) l (opens_of s s d (tree_and t ts) (omega arith) h) n
 
-first_parts : (row : List ℕ) (k : ℕ) (g s : Gap) (d : ℕ) (t : Outline) (ts : Forest) → HaveArities ts → depth s ≤ k → Parts row k (line g d t) → IsFalse (meets row (leaves_of ts)) →
+first_parts : (row : List ℕ) (k : ℕ) (g s : LeafGap) (d : ℕ) (t : Outline) (ts : Forest) → HaveArities ts → depth s ≤ k → Parts row k (line g d t) → IsFalse (meets row (leaves_of ts)) →
     Parts row k (line_of g s d (tree_and t ts))
 first_parts row k g s d t ts h l f n = (
   f.0,
@@ -43,7 +43,7 @@ first_parts row k g s d t ts h l f n = (
       (rest_fits row f.0 (last row false (line g d t)) s d ts h (omega (arith, l, f.1)) (nones_of row s s d ts n)),
 )
 
-later_parts : (row : List ℕ) (k : ℕ) (g s : Gap) (d : ℕ) (t : Outline) (ts : Forest) → IsFalse (meets row (leaves t)) → Parts row k (line_of s s d ts) → Parts row k (line_of g s d (tree_and t ts))
+later_parts : (row : List ℕ) (k : ℕ) (g s : LeafGap) (d : ℕ) (t : Outline) (ts : Forest) → IsFalse (meets row (leaves t)) → Parts row k (line_of s s d ts) → Parts row k (line_of g s d (tree_and t ts))
 later_parts row k g s d t ts n f =
     let none = none_of row g d t n in (
       f.0,
@@ -53,7 +53,7 @@ later_parts row k g s d t ts n f =
     )
 
 -- trees that the row has, and then trees that it has not
-front_fits : (row : List ℕ) (o d : ℕ) (s : Gap) (ts : Forest) → HaveArities ts → o < d → depth s ≤ o → LiesWithin o s → IsFalse (resumes row ts) → Fit row o true (line_of s s d ts)
+front_fits : (row : List ℕ) (o d : ℕ) (s : LeafGap) (ts : Forest) → HaveArities ts → o < d → depth s ≤ o → LiesWithin o s → IsFalse (resumes row ts) → Fit row o true (line_of s s d ts)
 front_fits row o d s no_tree h l m w r = tt
 front_fits row o d s (tree_and t ts) h l m w r =
     elim (cases_Bool (misses row (leaves t))) [
@@ -71,10 +71,10 @@ front_fits row o d s (tree_and t ts) h l m w r =
 
 -- where no node splits the row, a depth parts the gaps
 mutual
-  pub parts : (row : List ℕ) (k : ℕ) (g : Gap) (t : Outline) → HasArities t → depth g ≤ k → IsTrue (meets row (leaves t)) → IsFalse (is_split row t) → Parts row k (line g (1 + k) t)
+  pub parts : (row : List ℕ) (k : ℕ) (g : LeafGap) (t : Outline) → HasArities t → depth g ≤ k → IsTrue (meets row (leaves t)) → IsFalse (is_split row t) → Parts row k (line g (1 + k) t)
   parts row k g (leaf a) h l m s = (k, omega arith, (begun k (has row a) g l, tt))
     where
-      begun : (o : ℕ) (b : Bool) (g : Gap) → depth g ≤ o → Joins o false b g
+      begun : (o : ℕ) (b : Bool) (g : LeafGap) → depth g ≤ o → Joins o false b g
       begun o true g h = h
       begun o false g h = tt
   parts row k g (p_node ts) h l m s =
@@ -94,7 +94,7 @@ mutual
       let r = in_line row (1 + k) g ts h.1 (omega (arith, l)) e.1 m e.0 in
       (r.0, omega (arith, r.1), r.2)
 
-  alone : (row : List ℕ) (k : ℕ) (g s : Gap) (ts : Forest) → HaveArities ts → depth g ≤ k → depth s ≤ k → meeting row ts < 2 → IsTrue (meets row (leaves_of ts)) → IsFalse (are_split row ts) →
+  alone : (row : List ℕ) (k : ℕ) (g s : LeafGap) (ts : Forest) → HaveArities ts → depth g ≤ k → depth s ≤ k → meeting row ts < 2 → IsTrue (meets row (leaves_of ts)) → IsFalse (are_split row ts) →
       Parts row k (line_of g s (1 + k) ts)
   alone row k g s no_tree h l n few m u = absurd (both_ways false refl m)
   alone row k g s (tree_and t ts) h l n few m u =
@@ -106,7 +106,7 @@ mutual
             (alone row k s s ts h.1 n n (omega (arith, meeting_tail row t ts y)) (meets_rest row (leaves t) (leaves_of ts) y m) e.1)
       ]
 
-  in_line : (row : List ℕ) (k : ℕ) (g : Gap) (ts : Forest) → HaveArities ts → depth g ≤ k → IsFalse (is_gapped row ts) → IsTrue (meets row (leaves_of ts)) → IsFalse (are_split row ts) →
+  in_line : (row : List ℕ) (k : ℕ) (g : LeafGap) (ts : Forest) → HaveArities ts → depth g ≤ k → IsFalse (is_gapped row ts) → IsTrue (meets row (leaves_of ts)) → IsFalse (are_split row ts) →
       Parts row k (line_of g (Q k) (1 + k) ts)
   in_line row k g no_tree h l c m u = absurd (both_ways false refl m)
   in_line row k g (tree_and t ts) h l c m u =

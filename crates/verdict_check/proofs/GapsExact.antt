@@ -5,8 +5,8 @@ use Rattle.column_order.proofs.Lists.{has_head, has_tail}
 use Rattle.pq_tree.specs.Outline.{Outline, leaves, IsFrontier}
 use Rattle.pq_tree.specs.Proper.{IsProper}
 use Rattle.pq_tree.proofs.Frontiers.{leaves_are_frontier}
-use Rattle.verdict_check.specs.declared.gaps.Gap.{Gap}
-use Rattle.verdict_check.specs.declared.gaps.Gap.TheVariants.{P}
+use Rattle.verdict_check.specs.declared.gaps.LeafGap.{LeafGap}
+use Rattle.verdict_check.specs.declared.gaps.LeafGap.TheVariants.{P}
 use Rattle.verdict_check.specs.Gaps.{depth, LiesWithin, AreWithin, gap_at, gaps}
 use Rattle.verdict_check.specs.HoldsWalk.{meets}
 use Rattle.verdict_check.proofs.HoldsLists.{meets_has}
@@ -23,14 +23,14 @@ has_at (x ∷ o) zero l = has_head x o
 has_at (x ∷ o) (suc i) l = has_tail x (get_or o i 0) o (has_at o i (omega (arith, l)))
 
 -- the gap at the end is that past the end
-past_end : (gs : List Gap) (g : Gap) (i : ℕ) → get_or (gs ++ g ∷ []) i g ≡ get_or gs i g
+past_end : (gs : List LeafGap) (g : LeafGap) (i : ℕ) → get_or (gs ++ g ∷ []) i g ≡ get_or gs i g
 past_end [] g zero = refl
 past_end [] g (suc i) = refl
 past_end (x ∷ gs) g zero = refl
 past_end (x ∷ gs) g (suc i) = past_end gs g i
 
 -- the gaps of a tree, with that at its end
-abbrev pub all_gaps : Outline → List Gap
+abbrev pub all_gaps : Outline → List LeafGap
 all_gaps t = gaps (P 0) 1 t ++ P 0 ∷ []
 
 pub all_keep_exactly : (c : ℕ) (t : Outline) (row : List ℕ) (f l : ℕ) → IsProper c t → AreEnds (leaves t) row f l →

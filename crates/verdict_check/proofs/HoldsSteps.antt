@@ -12,22 +12,22 @@ use Rattle.pq_tree.specs.declared.Tree.{Tree, P, Q}
 use Rattle.pq_tree.proofs.Shown.{outline_of-P, outline_of-Q}
 use Rattle.verdict_check.specs.HoldsWalk.{meets, misses, meeting, are_split, IsShare, IsSum, gapped_behind}
 use Rattle.verdict_check.specs.declared.holds.Children.{Children}
-use Rattle.verdict_check.specs.declared.holds.Line.{Line}
-use Rattle.verdict_check.specs.declared.holds.Line.TheVariants.{Before, Ended}
+use Rattle.verdict_check.specs.declared.holds.LineSoFar.{LineSoFar}
+use Rattle.verdict_check.specs.declared.holds.LineSoFar.TheVariants.{Before, Ended}
 use Rattle.verdict_check.specs.declared.holds.Share.{Share}
 use Rattle.verdict_check.proofs.HoldsLists.{meets-append, misses-append}
 use Rattle.verdict_check.proofs.HoldsSplit.{split_leaf, split_p, split_q, split_and, split_none, meeting_head, meeting_tail}
 
-ended : (row : List ℕ) (line : Line) (t : Outline) (ts : Forest) → line ≡ Ended → gapped_behind row line (tree_and t ts) ≡ (meets row (leaves t) || meets row (leaves_of ts))
+ended : (row : List ℕ) (line : LineSoFar) (t : Outline) (ts : Forest) → line ≡ Ended → gapped_behind row line (tree_and t ts) ≡ (meets row (leaves t) || meets row (leaves_of ts))
 ended row line t ts e = ap (λ l. gapped_behind row l (tree_and t ts)) e ∙ meets-append row (leaves t) (leaves_of ts)
 
-pub ended_still : (row : List ℕ) (line : Line) (t : Outline) (ts : Forest) (s : Share) → line ≡ Ended → s.meets ≡ false → IsShare row t s → gapped_behind row line (tree_and t ts) ≡ meets row (leaves_of ts)
+pub ended_still : (row : List ℕ) (line : LineSoFar) (t : Outline) (ts : Forest) (s : Share) → line ≡ Ended → s.meets ≡ false → IsShare row t s → gapped_behind row line (tree_and t ts) ≡ meets row (leaves_of ts)
 ended_still row line t ts s e m h = ended row line t ts e ∙ ap (λ b. b || meets row (leaves_of ts)) (sym h.meets_is ∙ m)
 
-pub ended_again : (row : List ℕ) (line : Line) (t : Outline) (ts : Forest) (s : Share) → line ≡ Ended → s.meets ≡ true → IsShare row t s → IsTrue (gapped_behind row line (tree_and t ts))
+pub ended_again : (row : List ℕ) (line : LineSoFar) (t : Outline) (ts : Forest) (s : Share) → line ≡ Ended → s.meets ≡ true → IsShare row t s → IsTrue (gapped_behind row line (tree_and t ts))
 ended_again row line t ts s e m h = ended row line t ts e ∙ or_left (meets row (leaves t)) (meets row (leaves_of ts)) (sym h.meets_is ∙ m)
 
-pub sum_more : (row : List ℕ) (all rest : Forest) (t : Outline) (c : Children) (s : Share) (n : ℕ) (line : Line) → (s.meets ≡ true → n ≡ 1) → (s.meets ≡ false → n ≡ 0) →
+pub sum_more : (row : List ℕ) (all rest : Forest) (t : Outline) (c : Children) (s : Share) (n : ℕ) (line : LineSoFar) → (s.meets ≡ true → n ≡ 1) → (s.meets ≡ false → n ≡ 0) →
     gapped_behind row c.line (tree_and t rest) ≡ gapped_behind row line rest → IsShare row t s → IsSum row all (tree_and t rest) c →
     IsSum row all rest (record { meeting = c.meeting + n; misses = c.misses || s.misses; split = c.split || s.split; line = line })
 sum_more row all rest t c s n line one none gap h k =

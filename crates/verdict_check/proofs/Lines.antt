@@ -1,5 +1,5 @@
 -- Tests of line after line.
-use Rattle.std.proofs.Common.{◌≡◌, ◌≢◌, ◌⊎◌, ◌∙◌, ℕ, ◌+◌, ◌-◌, ◌<◌, ◌≤◌, true, false, List, [], ◌∷◌, ◌++◌, length, take, get_or, slice_get, Some, sym, ap, subst, inl, inr, arith}
+use Rattle.std.proofs.Common.{◌≡◌, ◌≢◌, ◌⊎◌, ◌∙◌, ℕ, zero, suc, ◌+◌, ◌-◌, ◌<◌, ◌≤◌, true, false, List, [], ◌∷◌, ◌++◌, length, take, get_or, slice_get, Some, sym, ap, subst, inl, inr, arith}
 use Rattle.std.specs.List.{AllByRecursion}
 use Rattle.std.specs.Prelude.{IsSomeAnd}
 use Rattle.std.proofs.lemmas.Bool.{cases_eq}
@@ -47,7 +47,7 @@ pub record AreMarked (c : ℕ) (seen : Marking) (lines : List Line) : Type 0 whe
   pub unmarked : (v : Pair) → IsPair c v → IsNew v lines → is_marked seen v.a v.b ≡ false
   pub marked : (v : Pair) → IsPair c v → is_marked seen v.a v.b ≡ false → IsNew v lines
 
-same_pair : (v w : Pair) → v.a ≡ w.a → v.b ≡ w.b → v ≡ w
+pub same_pair : (v w : Pair) → v.a ≡ w.a → v.b ≡ w.b → v ≡ w
 same_pair v w e f = ap (λ x. pair x v.b) e ∙ ap (λ y. pair w.a y) f
 
 cases_pair : (v w : Pair) → (v ≡ w) ⊎ (v ≢ w)
@@ -94,17 +94,33 @@ pub marked_next : (c : ℕ) (old new : Marking) (lines : List Line) (i : ℕ) (d
     IsMarkedAt old new (get_or lines i d).pair.a (get_or lines i d).pair.b → AreMarked c new (take (i + 1) lines)
 marked_next c old new lines i d l h p m = subst (AreMarked c new) (sym (take_more lines i d l)) (marked_push c old new (take i lines) (get_or lines i d) h p m)
 
+-- the pair of a line is new exactly where it stands on none of the lines before it
+pub new_here : (lines : List Line) (i : ℕ) (d : Line) → i < length lines → IsNew (get_or lines i d).pair (take i lines) → PassesRepeat lines (i + 1)
+new_here lines i d l new =
+    let new' : IsNew (get_or lines i d).pair (take (i + 1 - 1) lines) = subst (λ j. IsNew (get_or lines i d).pair (take j lines)) (omega arith) new in
+    line_has lines i d (λ line. IsNew line.pair (take (i + 1 - 1) lines)) l new'
+
+pub new_there : (lines : List Line) (i : ℕ) (d : Line) → i < length lines → PassesRepeat lines (i + 1) → IsNew (get_or lines i d).pair (take i lines)
+new_there lines i d l r =
+    let new : IsNew (get_or lines i d).pair (take (i + 1 - 1) lines) = has_line lines i d (λ line. IsNew line.pair (take (i + 1 - 1) lines)) l r in
+    subst (λ j. IsNew (get_or lines i d).pair (take j lines)) (omega arith) new
+
+-- a pair of one of the first lines is not new behind them
+pub not_new : (v : Pair) (lines : List Line) (i j : ℕ) (d : Line) → j < i → i ≤ length lines → (get_or lines j d).pair ≡ v → IsNew v (take i lines) → ⊥
+not_new v [] i j d l u e h = absurd (omega (arith, l, u))
+not_new v (x ∷ xs) zero j d l u e h = absurd (omega (arith, l))
+not_new v (x ∷ xs) (suc i) zero d l u e h = h.0 e
+not_new v (x ∷ xs) (suc i) (suc j) d l u e h = not_new v xs i j d (omega (arith, l)) (omega (arith, u)) e h.1
+
+-- one more line has another pair
+pub new_next : (v : Pair) (lines : List Line) (j : ℕ) (d : Line) → j < length lines → IsNew v (take j lines) → (get_or lines j d).pair ≢ v → IsNew v (take (j + 1) lines)
+new_next v lines j d l h n = subst (IsNew v) (sym (take_more lines j d l)) (new_push v (take j lines) (get_or lines j d) h n)
+
 -- a pair that is marked stands on an earlier line, and one that is not is new
 pub repeat_fails : (c : ℕ) (seen : Marking) (lines : List Line) (i : ℕ) (d : Line) → i < length lines → AreMarked c seen (take i lines) → IsPair c (get_or lines i d).pair →
     is_marked seen (get_or lines i d).pair.a (get_or lines i d).pair.b ≡ true → PassesRepeat lines (i + 1) → ⊥
-repeat_fails c seen lines i d l h p t r =
-    let new : IsNew (get_or lines i d).pair (take (i + 1 - 1) lines) = has_line lines i d (λ line. IsNew line.pair (take (i + 1 - 1) lines)) l r in
-    let new' : IsNew (get_or lines i d).pair (take i lines) = subst (λ j. IsNew (get_or lines i d).pair (take j lines)) (omega arith) new in
-    never (sym t ∙ h.unmarked (get_or lines i d).pair p new')
+repeat_fails c seen lines i d l h p t r = never (sym t ∙ h.unmarked (get_or lines i d).pair p (new_there lines i d l r))
 
 pub repeat_passes : (c : ℕ) (seen : Marking) (lines : List Line) (i : ℕ) (d : Line) → i < length lines → AreMarked c seen (take i lines) → IsPair c (get_or lines i d).pair →
     is_marked seen (get_or lines i d).pair.a (get_or lines i d).pair.b ≡ false → PassesRepeat lines (i + 1)
-repeat_passes c seen lines i d l h p f =
-    let new : IsNew (get_or lines i d).pair (take i lines) = h.marked (get_or lines i d).pair p f in
-    let new' : IsNew (get_or lines i d).pair (take (i + 1 - 1) lines) = subst (λ j. IsNew (get_or lines i d).pair (take j lines)) (omega arith) new in
-    line_has lines i d (λ line. IsNew line.pair (take (i + 1 - 1) lines)) l new'
+repeat_passes c seen lines i d l h p f = new_here lines i d l (h.marked (get_or lines i d).pair p f)

@@ -1,12 +1,14 @@
--- `==` on lists of places and of spans.
+-- `==` on lists of intervals, of places and of spans.
 use Rattle.std.proofs.Common.{◌≡◌, ◌∙◌, ℕ, Bool, eqb, eqb-true, eq-eqb, List, refl, ap}
 use Rattle.std.proofs.lemmas.Bool.{and_parts, and_from}
 use Rattle.std.specs.Bool.{Decides}
 use Rattle.std.specs.Cmp.Lexicographic.{pointwise}
 use Rattle.std.proofs.lemmas.Slice.Eq.{slice_eq-Decides}
+use Rattle.row_model.specs.declared.lists.Interval.{Interval}
 use Rattle.row_model.specs.declared.lists.Place.{Place}
 use Rattle.row_model.specs.declared.lists.Place.TheVariants.{Nowhere, At}
 use Rattle.row_model.specs.declared.lists.Span.{Span}
+use Rattle.row_model.specs.contracts.lists.IntervalPartialEq.TheImpl as interval
 use Rattle.row_model.specs.contracts.lists.PlacePartialEq.TheImpl as place
 use Rattle.row_model.specs.contracts.lists.SpanPartialEq.TheImpl as span
 
@@ -29,7 +31,21 @@ same_span a b = (
   λ e. and_from (eqb a.first b.first) (eqb a.last b.last) (eq-eqb a.first b.first (ap (λ (s : Span). s.first) e)) (eq-eqb a.last b.last (ap (λ (s : Span). s.last) e)),
 )
 
--- from the clause of `==`, whether two lists of places are equal
+same_interval : (a b : Interval) → Decides (interval.eq-value.it a b) (a ≡ b)
+same_interval a b = (
+  λ e. (
+      let p = and_parts (eqb a.left b.left) (eqb a.right b.right) e in
+      let make : ℕ → ℕ → Interval = λ left right. record { left = left; right = right } in
+      ap (λ n. make n a.right) (eqb-true a.left b.left p.0) ∙ ap (make b.left) (eqb-true a.right b.right p.1)
+      ),
+  λ e. and_from (eqb a.left b.left) (eqb a.right b.right) (eq-eqb a.left b.left (ap (λ (s : Interval). s.left) e)) (eq-eqb a.right b.right (ap (λ (s : Interval). s.right) e)),
+)
+
+-- from the clause of `==`, whether two lists of intervals are equal
+pub same_intervals : (a b : List Interval) (r : Bool) → r ≡ pointwise interval.eq-value.it a b → Decides r (a ≡ b)
+same_intervals a b r e = slice_eq-Decides same_interval a b r e
+
+-- two lists of places
 pub same_places : (a b : List Place) (r : Bool) → r ≡ pointwise place.eq-value.it a b → Decides r (a ≡ b)
 same_places a b r e = slice_eq-Decides same_place a b r e
 

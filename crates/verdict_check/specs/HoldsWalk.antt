@@ -4,8 +4,8 @@ use Rattle.column_order.specs.Orders.{has, Keeps}
 use Rattle.pq_tree.specs.Outline.{Outline, Forest, leaf, p_node, q_node, no_tree, tree_and, leaves, leaves_of, IsFrontier}
 use Rattle.pq_tree.specs.Proper.{IsProper}
 use Rattle.verdict_check.specs.declared.holds.Children.{Children}
-use Rattle.verdict_check.specs.declared.holds.Line.{Line}
-use Rattle.verdict_check.specs.declared.holds.Line.TheVariants.{Before, Whole, Ended, Gapped}
+use Rattle.verdict_check.specs.declared.holds.LineSoFar.{LineSoFar}
+use Rattle.verdict_check.specs.declared.holds.LineSoFar.TheVariants.{Before, Whole, Ended, Gapped}
 use Rattle.verdict_check.specs.declared.holds.Share.{Share}
 
 -- whether the row has one of the columns
@@ -61,7 +61,7 @@ pub record IsShare (row : List ℕ) (t : Outline) (s : Share) : Type 0 where
   pub split_is : s.split ≡ is_split row t
 
 -- whether trees are gapped, where the first ones stand as the line says and these are the rest
-abbrev pub gapped_behind : List ℕ → Line → Forest → Bool
+abbrev pub gapped_behind : List ℕ → LineSoFar → Forest → Bool
 gapped_behind row Before ts = is_gapped row ts
 gapped_behind row Whole ts = resumes row ts
 gapped_behind row Ended ts = meets row (leaves_of ts)

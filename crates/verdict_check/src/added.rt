@@ -10,9 +10,9 @@ ghost use Rattle.verdict_check.specs.YesTests.{PassesOrder, PassesYes};
 ghost use Rattle.verdict_check.specs.Found.{Finds};
 
 use crate::clones::clones_fault;
+use crate::intervals::intervals_fault;
 use crate::outcome::Reason;
 use instance_model::Instance;
-use proper_interval::fits;
 use row_model::{Kind, NoMemory};
 use std::alloc::Global;
 use verdict_text::YesPart;
@@ -29,7 +29,7 @@ pub fn added_fault(
 {
     match instance {
         Instance::Plain(Kind::Clones, matrix) => clones_fault(alloc, matrix, yes),
-        Instance::Proper(graph) if !fits(graph, yes.intervals()) => Ok(Some(Reason::Intervals)),
+        Instance::Proper(graph) => intervals_fault(alloc, graph, yes),
         _ => Ok(None),
     }
 }

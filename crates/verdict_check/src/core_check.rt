@@ -18,10 +18,11 @@ use row_model::{
 };
 use std::alloc::Global;
 
-/// Judges the text of a core of a matrix: valid exactly where it passes each test, else invalid with the first that fails.
+/// Judges the text of a core of a matrix: valid exactly where it passes each test, else
+/// invalid with the first that fails.
 ///
-/// The text is within the grammar. With k rows of f ones together it takes about k(c + f) looks at the matrix for the orders,
-/// c being the number of columns.
+/// The text is within the grammar. With k rows of f ones together it takes about k(c + f) looks at the matrix for the
+/// orders, c being the number of columns.
 ///
 /// # Errors
 ///
@@ -161,8 +162,8 @@ fn lines_fault(
     Ok(None)
 }
 
-// The first line, from 1, whose reason is no flip and none of the rows, or does not join its pair to that of the next line, the
-// last line's to that of the first.
+// The first line, from 1, whose reason is no flip and none of the rows, or does not join its pair to that of the next
+// line, the last line's to that of the first.
 fn first_bad_join(m: &Matrix, rows: &[u32], lines: &[Line]) -> Option<u32>
     requires few { Fits32 (length lines.now) }
     requires rows { AreRowNumbers (length m.now.rows) rows.now }

@@ -26,7 +26,7 @@ pub enum CoreReason {
     Pair(u32),
     /// The pair of this line stands on an earlier line.
     Repeat(u32),
-    /// The reason of this line is no flip and no row of the core, or does not join its pair to the next, the last line's to
-    /// the first.
+    /// The reason of this line is no flip and no row of the core, or does not join its pair to the next, the
+    /// last line's to the first.
     Join(u32),
 }

@@ -1,9 +1,10 @@
-//! Whether a tree stands for every order of some rows, by the classes of pairs of columns in their incompatibility graph.
+//! Whether a tree stands for every order of some rows, by the classes of pairs of columns in
+//! their incompatibility graph.
 //!
-//! The columns of a node stay together where those of each child do, and each two neighbours of them that stand in different children are
-//! alike towards each column outside the node: the pairs of the two with that column are in one class. The children of a Q-node stand in
-//! line where all pairs of columns of two of them, the one of the earlier child first, are in one class. With c columns that takes fewer
-//! than 2c² comparisons of classes.
+//! The columns of a node stay together where those of each child do, and each two neighbours of them that stand in
+//! different children are alike towards each column outside the node: the pairs of the two with that column are in one
+//! class. The children of a Q-node stand in line where all pairs of columns of two of them, the one of the earlier
+//! child first, are in one class. With c columns that takes fewer than 2c² comparisons of classes.
 
 ghost use Rattle.std.specs.Prelude.{◌≡◌, ◌↔◌, ◌⊎◌, ◌≤◌, ◌<◌, ◌-◌, ◌+◌, ◌^◌, ℕ, List, length, map, IfOk, IsTrue};
 ghost use Rattle.column_order.specs.Orders.{IsOrder};
@@ -19,10 +20,11 @@ use pq_tree::{PqTree, Tree};
 use row_model::{NoMemory, Pair};
 use std::alloc::Global;
 
-/// Whether the columns of each node of the tree stay together, and the children of each of its Q-nodes stand in line, in the rows of
-/// which the classes are.
+/// Whether the columns of each node of the tree stay together, and the children of each of its Q-nodes stand in line,
+/// in the rows of which the classes are.
 ///
-/// Where each frontier of the tree keeps these rows too, the tree is tied to them: its frontiers are exactly their valid orders.
+/// Where each frontier of the tree keeps these rows too, the tree is tied to them: its frontiers
+/// are exactly their valid orders.
 ///
 /// # Errors
 ///
@@ -121,8 +123,8 @@ fn leaf_counts(trees: &[Tree]) -> usize
     count
 }
 
-/// Whether the columns at this index and at the one before, both of the node from `start` to before `end`, are alike towards each column
-/// outside the node. None stands before the first of the node.
+/// Whether the columns at this index and at the one before, both of the node from `start` to before `end`, are alike
+/// towards each column outside the node. None stands before the first of the node.
 fn is_joined_at(line: &[u32], at: usize, start: usize, end: usize, classes: &Classes) -> bool
     requires line { IsOrder classes.now.columns line.now }
     requires place { (start ≤ at) × (at < end) × (end ≤ length line.now) }
@@ -149,8 +151,8 @@ fn are_alike(line: &[u32], at: usize, from: usize, to: usize, classes: &Classes)
     true
 }
 
-/// Whether the pairs of a column from `at` to before `next` and one from `next` to before `end` are all in one class with that of the
-/// columns at `start` and before `end`.
+/// Whether the pairs of a column from `at` to before `next` and one from `next` to before `end` are all in one class
+/// with that of the columns at `start` and before `end`.
 fn go_forward(
     line: &[u32],
     start: usize,
@@ -172,8 +174,8 @@ fn go_forward(
     true
 }
 
-/// Whether the pairs of the column at `x` and one from `next` to before `end` are all in one class with that of the columns at `start`
-/// and before `end`.
+/// Whether the pairs of the column at `x` and one from `next` to before `end` are all in one class with that of the
+/// columns at `start` and before `end`.
 fn goes_forward(
     line: &[u32],
     start: usize,

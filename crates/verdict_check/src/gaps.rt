@@ -1,8 +1,8 @@
 //! Whether every frontier of a tree keeps a row, by the gaps between the tree's neighbouring leaves.
 //!
-//! Two neighbouring leaves part at a node. Every frontier keeps a row exactly where its columns stand side by side as the tree stands, and
-//! where they part at deeper nodes than the leaves at the two ends part from those outside, or at a Q-node at least as deep. So one walk
-//! over the tree serves all rows, and each row costs a walk over its columns.
+//! Two neighbouring leaves part at a node. Every frontier keeps a row exactly where its columns stand side by side as
+//! the tree stands, and where they part at deeper nodes than the leaves at the two ends part from those outside, or at
+//! a Q-node at least as deep. So one walk over the tree serves all rows, and each row costs a walk over its columns.
 
 ghost use Rattle.std.specs.Prelude.{◌≡◌, ◌↔◌, ◌≤◌, ◌<◌, ◌+◌, ◌^◌, ◌++◌, ℕ, length, map, IfOk, OnOk, IsTrue, EachIndex};
 ghost use Rattle.pq_tree.specs.Outline.{Outline, leaves, leaves_of};
@@ -18,7 +18,7 @@ use std::alloc::Global;
 
 /// Where two neighbouring leaves part: the depth of the node, whose root has depth 1, and its kind.
 #[derive(Clone, Copy)]
-enum Gap {
+enum LeafGap {
     /// They part at a P-node.
     P(u32),
     /// They part at a Q-node.
@@ -31,16 +31,16 @@ pub struct Gaps {
     /// The position of each column, from 1.
     positions: Vec<u32>,
     /// The gap before each leaf, and the one after the last. The two at the ends lie at depth 0.
-    gaps: Vec<Gap>,
+    gaps: Vec<LeafGap>,
 }
 
-impl Gap {
+impl LeafGap {
     /// The depth of the node.
     fn depth(self) -> u32
         ensures { result ≡ depth self }
     {
         match self {
-            Gap::P(depth) | Gap::Q(depth) => depth,
+            LeafGap::P(depth) | LeafGap::Q(depth) => depth,
         }
     }
 
@@ -49,8 +49,8 @@ impl Gap {
         ensures { IsTrue result ↔ LiesWithin outer self }
     {
         match self {
-            Gap::P(depth) => outer < depth,
-            Gap::Q(depth) => outer <= depth,
+            LeafGap::P(depth) => outer < depth,
+            LeafGap::Q(depth) => outer <= depth,
         }
     }
 }
@@ -63,15 +63,16 @@ impl Gaps {
     {
         let order = tree.frontier(alloc)?;
         let mut gaps = Vec::with_capacity(alloc, order.len() + 1)?;
-        push_gaps(tree.root(), Gap::P(0), 1, &mut gaps)?;
-        gaps.push(Gap::P(0))?;
+        push_gaps(tree.root(), LeafGap::P(0), 1, &mut gaps)?;
+        gaps.push(LeafGap::P(0))?;
         Ok(Gaps {
             positions: positions(alloc, &order)?,
             gaps,
         })
     }
 
-    /// Whether every frontier of the tree keeps the row: in none of them a column that the row misses stands between two that it has.
+    /// Whether every frontier of the tree keeps the row: in none of them a column that the row misses stands
+    /// between two that it has.
     ///
     /// Takes time in the length of the row, and no memory.
     pub fn holds(&self, row: &[u32]) -> bool
@@ -90,7 +91,7 @@ impl Gaps {
 }
 
 /// Whether the gaps from `first` to before `last` lie within the gap before them and within the gap after them.
-fn are_within(gaps: &[Gap], first: usize, last: usize) -> bool
+fn are_within(gaps: &[LeafGap], first: usize, last: usize) -> bool
     requires { (1 ≤ first) × (first ≤ last) × (last < length gaps.now) }
     ensures { IsTrue result ↔ AreWithin gaps.now first last }
 {
@@ -99,7 +100,7 @@ fn are_within(gaps: &[Gap], first: usize, last: usize) -> bool
 }
 
 /// Whether all these gaps lie deeper than this, or are at a Q-node at least as deep.
-fn all_within(gaps: &[Gap], outer: u32) -> bool
+fn all_within(gaps: &[LeafGap], outer: u32) -> bool
     ensures { IsTrue result ↔ EachIndex gaps.now (λ i. LiesWithin outer (gap_at gaps.now i)) }
 {
     gaps.iter().all(|gap| gap.lies_within(outer))
@@ -107,7 +108,12 @@ fn all_within(gaps: &[Gap], outer: u32) -> bool
 
 /// Appends the gap before each leaf of the tree, which lies at this depth. The gap before its first leaf is `first`.
 #[cycle(gaps)]
-fn push_gaps(tree: &Tree, first: Gap, depth: u32, all: &mut Vec<Gap>) -> Result<(), NoMemory>
+fn push_gaps(
+    tree: &Tree,
+    first: LeafGap,
+    depth: u32,
+    all: &mut Vec<LeafGap>,
+) -> Result<(), NoMemory>
     requires proper { HasArities (outline_of tree.now) }
     requires shallow { depth + length (leaves (outline_of tree.now)) < 2 ^ 32 }
     ensures { OnOk result (all.new.items ≡ all.old.items ++ gaps first depth (outline_of tree.now)) }
@@ -117,8 +123,8 @@ fn push_gaps(tree: &Tree, first: Gap, depth: u32, all: &mut Vec<Gap>) -> Result<
             all.push(first)?;
             Ok(())
         }
-        Tree::P(children) => push_all_gaps(children, first, Gap::P(depth), depth + 1, all),
-        Tree::Q(children) => push_all_gaps(children, first, Gap::Q(depth), depth + 1, all),
+        Tree::P(children) => push_all_gaps(children, first, LeafGap::P(depth), depth + 1, all),
+        Tree::Q(children) => push_all_gaps(children, first, LeafGap::Q(depth), depth + 1, all),
     }
 }
 
@@ -126,10 +132,10 @@ fn push_gaps(tree: &Tree, first: Gap, depth: u32, all: &mut Vec<Gap>) -> Result<
 #[cycle(gaps)]
 fn push_all_gaps(
     children: &[Tree],
-    first: Gap,
-    between: Gap,
+    first: LeafGap,
+    between: LeafGap,
     depth: u32,
-    all: &mut Vec<Gap>,
+    all: &mut Vec<LeafGap>,
 ) -> Result<(), NoMemory>
     requires many { 2 ≤ length children.now }
     requires proper { HaveArities (forest (map outline_of children.now)) }

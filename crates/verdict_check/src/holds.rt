@@ -1,8 +1,8 @@
 //! Whether every frontier of a tree keeps a row, in one walk over the tree.
 //!
-//! Every frontier keeps a row exactly where no node splits it. A P-node splits a row that has columns of two or more of its children
-//! and misses one of its columns. A Q-node splits a row that has columns of two of its children and misses a column of one of the two
-//! or of a child between them.
+//! Every frontier keeps a row exactly where no node splits it. A P-node splits a row that has columns of two or more of
+//! its children and misses one of its columns. A Q-node splits a row that has columns of two of its children and misses
+//! a column of one of the two or of a child between them.
 
 ghost use Rattle.std.specs.Prelude.{◌≡◌, ◌↔◌, ◌<◌, ◌≤◌, ◌+◌, ◌^◌, ◌-◌, ℕ, List, map, Contains, IsTrue};
 ghost use Rattle.std.specs.List.Sorted.{IsNonDecreasing};
@@ -29,7 +29,7 @@ struct Share {
 
 /// How the first children of a node stand as a line.
 #[derive(Clone, Copy)]
-enum Line {
+enum LineSoFar {
     /// The row has no column of them.
     Before,
     /// The row has a column of them, and misses none from the first child on of which it has one.
@@ -50,33 +50,35 @@ struct Children {
     /// A node of one of them splits the row.
     split: bool,
     /// How they stand as a line.
-    line: Line,
+    line: LineSoFar,
 }
 
-impl Line {
+impl LineSoFar {
     /// The line with one child more.
-    fn with(self, child: Share) -> Line
+    fn with(self, child: Share) -> LineSoFar
         ensures { (row : List ℕ) (t : Outline) (ts : Forest) →
             IsShare row t child →
             gapped_behind row self (tree_and t ts) ≡ gapped_behind row result ts }
     {
         match (self, child.meets, child.misses) {
-            (Line::Before, false, _) => Line::Before,
-            (Line::Before, true, false) | (Line::Whole, _, false) => Line::Whole,
-            (Line::Before, true, true) | (Line::Whole, false, true) => Line::Ended,
-            (Line::Ended, false, _) => Line::Ended,
-            (Line::Whole, true, true) | (Line::Ended, true, _) | (Line::Gapped, _, _) =>
-                Line::Gapped,
+            (LineSoFar::Before, false, _) => LineSoFar::Before,
+            (LineSoFar::Before, true, false) | (LineSoFar::Whole, _, false) => LineSoFar::Whole,
+            (LineSoFar::Before, true, true) | (LineSoFar::Whole, false, true) => LineSoFar::Ended,
+            (LineSoFar::Ended, false, _) => LineSoFar::Ended,
+            (LineSoFar::Whole, true, true)
+            | (LineSoFar::Ended, true, _)
+            | (LineSoFar::Gapped, _, _) => LineSoFar::Gapped,
         }
     }
 
-    /// Whether the row has columns of two of the children, and misses a column of one of the two or of a child between them.
+    /// Whether the row has columns of two of the children, and misses a column of one of the two or
+    /// of a child between them.
     fn is_gapped(self) -> bool
         ensures { (row : List ℕ) → result ≡ gapped_behind row self no_tree }
     {
         match self {
-            Line::Before | Line::Whole | Line::Ended => false,
-            Line::Gapped => true,
+            LineSoFar::Before | LineSoFar::Whole | LineSoFar::Ended => false,
+            LineSoFar::Gapped => true,
         }
     }
 }
@@ -122,10 +124,11 @@ impl Children {
     }
 }
 
-/// Whether every frontier of the tree keeps the row: in none of them a column that the row misses stands between two that it has.
+/// Whether every frontier of the tree keeps the row: in none of them a column that the row misses
+/// stands between two that it has.
 ///
-/// The row is strictly ascending and within the tree's columns. Each node is looked at once, each leaf by a binary search of the row, and
-/// no memory is taken.
+/// The row is strictly ascending and within the tree's columns. Each node is looked at once, each leaf by a binary
+/// search of the row, and no memory is taken.
 pub fn tree_holds(tree: &PqTree, row: &[u32]) -> bool
     requires { IsRow (column_count tree.now) row.now }
     ensures { IsTrue result ↔ ((o : List ℕ) → IsFrontier (outline tree.now) o → Keeps o row.now) }
@@ -156,7 +159,7 @@ fn all_shares(children: &[Tree], row: &[u32]) -> Children
         meeting: 0,
         misses: false,
         split: false,
-        line: Line::Before,
+        line: LineSoFar::Before,
     };
     for child in children {
         all = all.with(tree_share(child, row));
@@ -187,8 +190,8 @@ fn row_has(row: &[u32], column: u32) -> bool
 
 /// The rows that every frontier of a proper tree keeps.
 ///
-/// They are the empty row, the rows that have the columns of one node and no other, and the rows that have those of neighbouring children
-/// of one Q-node and no other. They are also the rows that no node splits.
+/// They are the empty row, the rows that have the columns of one node and no other, and the rows that have those of
+/// neighbouring children of one Q-node and no other. They are also the rows that no node splits.
 pub fn holds_law()
     ensures stretch { HoldsLaw }
     ensures split { SplitLaw }

@@ -1,7 +1,7 @@
 //! The judge of verdicts: whether a verdict is to be believed of an instance.
 //!
-//! The judge neither reduces nor searches for an order or a cycle. It goes through these tests in their order, and gives the first that fails as
-//! its reason.
+//! The judge neither reduces nor searches for an order or a cycle. It goes through these tests in their order, and
+//! gives the first that fails as its reason.
 //!
 //! | Reason | What the test asks |
 //! |---|---|
@@ -18,14 +18,15 @@
 //! | `Repeat(I)` | no: the pair of line I stands on no earlier line; I is the least that fails |
 //! | `Join(I)` | no: the reason of line I joins its pair to that of the next line, and the last line's to that of the first, in the derived matrix of the side; I is the least that fails |
 //!
-//! A verdict of version 1 is judged by its own meaning, in which a tree may stand for some of the orders. What it means that a tree is tied
-//! to rows is said in `tied_law`: its frontiers are then exactly their valid orders.
+//! A verdict of version 1 is judged by its own meaning, in which a tree may stand for some of the orders. What it means
+//! that a tree is tied to rows is said in `tied_law`: its frontiers are then exactly their valid orders.
 //!
-//! All nine kinds are judged. `doubly` has two sides, and `Order(1)`, `Tree(1, K)`, `Complete(1)`, `Order(2)`, `Tree(2, K)` and
-//! `Complete(2)` follow one another; every other kind has one side. `instance_model` says what the textbook orders and the derived matrix of each kind are. A textbook order
-//! is tested by the derived matrix, whose valid orders are the textbook orders; of `circular` that is the rotation of the order which
-//! begins with column 1. A tree is tested by the derived rows too, which for `circular` is stricter than to ask that each frontier
-//! be a circular order.
+//! All nine kinds are judged. `doubly` has two sides, and `Order(1)`, `Tree(1, K)`, `Complete(1)`, `Order(2)`,
+//! `Tree(2, K)` and `Complete(2)` follow one another; every other kind has one side. `instance_model` says what
+//! the textbook orders and the derived matrix of each kind are. A textbook order is tested by the derived matrix,
+//! whose valid orders are the textbook orders; of `circular` that is the rotation of the order which begins with
+//! column 1. A tree is tested by the derived rows too, which for `circular` is stricter than to ask that each
+//! frontier be a circular order.
 //!
 //! A unit model of a graph, which is no verdict, has a judge of its own, [`check_unit`].
 //!
@@ -40,8 +41,8 @@
 //! | `Length(L)`, `Pair(I)`, `Repeat(I)` | as of a no, in the matrix |
 //! | `Join(I)` | the reason of line I is a flip or a row of the core, and joins as of a no; I is the least that fails |
 //!
-//! A verdict that passes each test is true: a yes because its orders are textbook orders, in version 2 all of them, a no because a closed walk of
-//! odd length in the incompatibility graph leaves no valid order (McConnell, 2004).
+//! A verdict that passes each test is true: a yes because its orders are textbook orders, in version 2 all of them, a
+//! no because a closed walk of odd length in the incompatibility graph leaves no valid order (McConnell, 2004).
 #![tactic(auto)]
 
 ghost use Rattle.std.specs.Prelude.{◌≡◌, ◌↔◌, IfOk};
@@ -62,6 +63,7 @@ mod cycle;
 mod every_order;
 mod gaps;
 mod holds;
+mod intervals;
 mod judge;
 mod outcome;
 mod side;
@@ -104,9 +106,10 @@ pub fn check(alloc: Global, instance: &Instance, v: &Verdict) -> Result<Checked,
 
 /// A verdict that passes each test is true of the instance.
 ///
-/// The textbook orders of a yes are shown by its order and its tree, and in version 2 that they are all of them by walks in the
-/// incompatibility graph, which tie the tree to the derived rows. A no is shown by its cycle, since a closed walk of odd
-/// length in the incompatibility graph leaves no valid order of the derived matrix (McConnell, 2004), and so no textbook order.
+/// The textbook orders of a yes are shown by its order and its tree, and in version 2 that they are all of them by
+/// walks in the incompatibility graph, which tie the tree to the derived rows. A no is shown by its cycle, since a
+/// closed walk of odd length in the incompatibility graph leaves no valid order of the derived matrix (McConnell,
+/// 2004), and so no textbook order.
 pub fn true_law()
     ensures { TrueLaw }
 {
@@ -114,8 +117,8 @@ pub fn true_law()
     tied_law();
 }
 
-/// What a solver finds passes each test: textbook orders with a tree whose frontiers keep the derived rows, which in version 2 is tied
-/// to them, or an odd cycle.
+/// What a solver finds passes each test: textbook orders with a tree whose frontiers keep the derived rows, which in
+/// version 2 is tied to them, or an odd cycle.
 pub fn solved_laws()
     ensures yes { YesLaw }
     ensures no { NoLaw }

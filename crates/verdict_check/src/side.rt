@@ -66,8 +66,8 @@ fn side_fault(
     }
 }
 
-// The first test that a side with this derived matrix fails: its order, then its tree by each row, and in version 2 its tree by all
-// rows.
+// The first test that a side with this derived matrix fails: its order, then its tree by each row, and in
+// version 2 its tree by all rows.
 fn derived_fault(
     alloc: Global,
     version: Version,
@@ -114,8 +114,8 @@ fn complete_fault(
     }
 }
 
-// Whether the list is a textbook order of the side with this derived matrix: whether it is an order that keeps each row. A circular
-// order is turned first, so that it begins with column 1.
+// Whether the list is a textbook order of the side with this derived matrix: whether it is an order that keeps each
+// row. A circular order is turned first, so that it begins with column 1.
 fn is_textbook_order(
     alloc: Global,
     instance: &Instance,

@@ -16,8 +16,8 @@ pub enum UnitChecked {
     Model,
 }
 
-/// Judges a unit model of a graph: `Vertices` exactly where the numbers of vertices differ, else `Valid` exactly where the
-/// length and the left ends are a unit model of the graph, and `Model` where they are not. It takes no memory.
+/// Judges a unit model of a graph: `Vertices` exactly where the numbers of vertices differ, else `Valid` exactly where
+/// the length and the left ends are a unit model of the graph, and `Model` where they are not. It takes no memory.
 pub fn check_unit(g: &Graph, t: &UnitText) -> UnitChecked
     ensures vertices { (result ≡ UnitChecked.Vertices) ↔ (t.now.vertices ≢ g.now.vertices) }
     ensures valid { (result ≡ UnitChecked.Valid) ↔

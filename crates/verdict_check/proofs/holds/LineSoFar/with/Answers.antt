@@ -1,5 +1,5 @@
 use Rattle.verdict_check.proofs.HoldsSteps.{ended_still, ended_again}
-use Rattle.verdict_check.proofs.holds.Line.with.Goals as goal
+use Rattle.verdict_check.proofs.holds.LineSoFar.with.Goals as goal
 
 pub returns-in-Ended-false-default : goal.returns-in-Ended-false-default
 returns-in-Ended-false-default c row t ts h = ended_still row _ t ts _ c.in-Ended-false-default.is-0 c.in-Ended-false-default.is-1 h
