@@ -25,6 +25,13 @@ pub struct Entry {
     pub up: Option<NodeId>,
 }
 
+// What the run of a node has on one side: 1 where the neighbour is labelled and else 0, and the end.
+#[derive(Clone, Copy)]
+pub struct Side {
+    pub mark: usize,
+    pub end: NodeId,
+}
+
 // An entry for each node, and the stamp of the pass.
 #[derive(Drop)]
 pub struct Entries {
@@ -85,14 +92,25 @@ impl Entries {
         }
     }
 
-    // 1 for a node that is labelled, else 0.
-    pub fn mark(&self, x: Option<NodeId>) -> usize
+    // What the run of `x` has on the side of this neighbour.
+    pub fn beside(&self, near: Option<NodeId>, x: NodeId) -> Side
         requires { 1 ≤ self.now.stamp }
-        ensures { result ≡ mark_of self.now x }
+        ensures mark { result.mark ≡ mark_of self.now near }
+        ensures small { result.mark ≤ 1 }
+        ensures end { result.end.index ≡ end_at self.now near x.index }
     {
-        match x {
-            None => 0,
-            Some(x) => { if self.is_full(x) { 1 } else { 0 } }
+        match near {
+            None => Side { mark: 0, end: x },
+            Some(n) => {
+                if self.is_full(n) {
+                    Side {
+                        mark: 1,
+                        end: self.far_of(n),
+                    }
+                } else {
+                    Side { mark: 0, end: x }
+                }
+            }
         }
     }
 
@@ -103,17 +121,6 @@ impl Entries {
     {
         let at = x.index() as usize;
         at < self.entries.len() && self.entries[at].label == self.stamp
-    }
-
-    // The end that the run of `x` has at this neighbour.
-    pub fn end_from(&self, near: Option<NodeId>, x: NodeId) -> NodeId
-        requires { 1 ≤ self.now.stamp }
-        ensures { result.index ≡ end_at self.now near x.index }
-    {
-        match near {
-            None => x,
-            Some(n) => { if self.is_full(n) { self.far_of(n) } else { x } }
-        }
     }
 
     // The other end of the run that the labelled node `n` is an end of.

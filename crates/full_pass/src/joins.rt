@@ -100,13 +100,12 @@ fn join<L: Ledger>(arena: &Arena, entries: &mut Entries, x: NodeId, steps: &mut 
     match place_of(view.parent, near0, near1) {
         Place::Top => Joined::Top,
         Place::Run => {
-            let pairs = entries.mark(near0) + entries.mark(near1);
-            let a = entries.end_from(near0, x);
-            let b = entries.end_from(near1, x);
+            let a = entries.beside(near0, x);
+            let b = entries.beside(near1, x);
             entries.fill(x, view.parent);
-            entries.link(a, b);
-            let above = entries.above(a, b);
-            run_judged(pairs, above)
+            entries.link(a.end, b.end);
+            let above = entries.above(a.end, b.end);
+            run_judged(a.mark + b.mark, above)
         }
         Place::Ring(p) => {
             let children = arena.look(p, steps).children;

@@ -1,6 +1,6 @@
 //! The full pass over one row of a matrix: it looks at the full nodes of a PQ-tree, those below which all leaves are in
-//! the row, and at the P-nodes above them, and at no other node. It finds the rows that every frontier keeps already, and those that are some children of one P-node.
-//! Most rows of a long list are one of these.
+//! the row, and at the P-nodes above them, and at no other node. It finds the rows that every frontier keeps already,
+//! and those that are some children of one P-node. Most rows of a long list are one of these.
 //!
 //! The pass labels full nodes from the leaves up. Each label joins a run of labelled children of a Q-node, whose two
 //! ends name each other, or adds to the number of labelled children of a P-node. What the labels form is counted in

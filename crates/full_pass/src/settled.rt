@@ -27,8 +27,9 @@ pub enum Settled {
     Open,
 }
 
-/// Looks at full nodes and at the P-nodes above them alone, and says whether every frontier of the tree keeps row `k` of the matrix, numbered from
-/// 1, or template P2 applies. After [`Settled::Group`], [`FullWork::members`] are the full children of its node.
+/// Looks at full nodes and at the P-nodes above them alone, and says whether every frontier of the tree keeps row
+/// `k` of the matrix, numbered from 1, or template P2 applies. After [`Settled::Group`], [`FullWork::members`] are
+/// the full children of its node.
 pub fn settle<L: Ledger>(
     arena: &Arena,
     m: &Matrix,

@@ -1,4 +1,5 @@
-// What a clone file names: the probes, and the probes of each clone. All else is passed over, and nothing is kept of it.
+// What a clone file names: the probes, and the probes of each clone. All else is passed over,
+// and nothing is kept of it.
 ghost use Rattle.std.specs.Prelude.{◌≡◌, ◌<◌, ◌≤◌, length, Some, None, Err, IfOk, OnOk, option_map};
 ghost use Rattle.json.specs.Json.{parse_map};
 ghost use Rattle.json.specs.Reads.{token_of};
@@ -24,50 +25,50 @@ pub(crate) struct CloneNames<'a> {
     pub clones: Option<Vec<Option<Vec<&'a str>>>>,
 }
 
-// Why reading stops.
+// Why no names are read.
 #[derive(Clone, Copy, Debug, Drop, PartialEq, Eq)]
-pub(crate) enum Stop {
+pub(crate) enum NoNames {
     // The text has no value.
     NotJson,
     // Memory was refused.
     NoMemory,
 }
 
-impl From<Invalid> for Stop {
+impl From<Invalid> for NoNames {
     ghost use Rattle.std.specs.Prelude.{◌≡◌};
-    ghost use Rattle.matrix_read.specs.declared.clone_names.Stop.TheVariants as stop;
+    ghost use Rattle.matrix_read.specs.declared.clone_names.NoNames.TheVariants as stop;
 
     ghost from_gives = { λ _ made. made ≡ stop.NotJson };
 
-    fn from(_: Invalid) -> Stop {
-        Stop::NotJson
+    fn from(_: Invalid) -> NoNames {
+        NoNames::NotJson
     }
 }
 
-impl From<NoMemory> for Stop {
+impl From<NoMemory> for NoNames {
     ghost use Rattle.std.specs.Prelude.{◌≡◌};
-    ghost use Rattle.matrix_read.specs.declared.clone_names.Stop.TheVariants as stop;
+    ghost use Rattle.matrix_read.specs.declared.clone_names.NoNames.TheVariants as stop;
 
     ghost from_gives = { λ _ made. made ≡ stop.NoMemory };
 
-    fn from(_: NoMemory) -> Stop {
-        Stop::NoMemory
+    fn from(_: NoMemory) -> NoNames {
+        NoNames::NoMemory
     }
 }
 
-impl<T: Drop> From<AllocFailed<T>> for Stop {
+impl<T: Drop> From<AllocFailed<T>> for NoNames {
     ghost use Rattle.std.specs.Prelude.{◌≡◌};
-    ghost use Rattle.matrix_read.specs.declared.clone_names.Stop.TheVariants as stop;
+    ghost use Rattle.matrix_read.specs.declared.clone_names.NoNames.TheVariants as stop;
 
     ghost from_gives = { λ _ made. made ≡ stop.NoMemory };
 
-    fn from(_: AllocFailed<T>) -> Stop {
-        Stop::NoMemory
+    fn from(_: AllocFailed<T>) -> NoNames {
+        NoNames::NoMemory
     }
 }
 
-/// What a text names; none where its bytes are no UTF-8 or have no value. Names with escapes stand in `scratch`, and all
-/// others in the text.
+/// What a text names; none where its bytes are no UTF-8 or have no value. Names with escapes stand in
+/// `scratch`, and all others in the text.
 ///
 /// # Errors
 ///
@@ -84,8 +85,8 @@ pub(crate) fn names_in<'a>(
     };
     let mut reader = Reader::new(text, scratch)?;
     match read_file(alloc, &mut reader, MAX_DEPTH) {
-        Err(Stop::NoMemory) => Err(NoMemory),
-        Err(Stop::NotJson) => Ok(None),
+        Err(NoNames::NoMemory) => Err(NoMemory),
+        Err(NoNames::NotJson) => Ok(None),
         Ok(_) if reader.next().is_some() => Ok(None),
         Ok(names) => Ok(Some(names)),
     }
@@ -96,10 +97,10 @@ fn read_file<'a>(
     alloc: Global,
     reader: &mut Reader<'a>,
     depth: usize,
-) -> Result<CloneNames<'a>, Stop>
+) -> Result<CloneNames<'a>, NoNames>
     requires { 4 ≤ depth }
     ensures ok { IfOk result (λ names. parse_map file_names (value_at depth reader.old) ≡ Some (file_view names, reader.new)) }
-    ensures err { result ≡ Err Stop.NotJson → value_at depth reader.old ≡ None }
+    ensures err { result ≡ Err NoNames.NotJson → value_at depth reader.old ≡ None }
 {
     let token = reader.next().ok_or(Invalid)?;
     if !opens_object(token) {
@@ -117,10 +118,10 @@ fn read_members<'a>(
     alloc: Global,
     reader: &mut Reader<'a>,
     depth: usize,
-) -> Result<CloneNames<'a>, Stop>
+) -> Result<CloneNames<'a>, NoNames>
     requires { 3 ≤ depth }
     ensures ok { IfOk result (λ names. parse_map member_names (members_at depth (length reader.old) no_members reader.old) ≡ Some (file_view names, reader.new)) }
-    ensures err { result ≡ Err Stop.NotJson → members_at depth (length reader.old) no_members reader.old ≡ None }
+    ensures err { result ≡ Err NoNames.NotJson → members_at depth (length reader.old) no_members reader.old ≡ None }
 {
     let mut probes = None;
     let mut clones = None;
@@ -141,11 +142,11 @@ fn read_clones<'a>(
     alloc: Global,
     reader: &mut Reader<'a>,
     depth: usize,
-) -> Result<Option<Vec<Option<Vec<&'a str>>>>, Stop>
+) -> Result<Option<Vec<Option<Vec<&'a str>>>>, NoNames>
     requires { 3 ≤ depth }
     ensures ok { IfOk result (λ clones. parse_map array_clones (value_at depth reader.old) ≡ Some (list_view clones, reader.new)) }
     ensures shorter { OnOk result (length reader.new < length reader.old) }
-    ensures err { result ≡ Err Stop.NotJson → value_at depth reader.old ≡ None }
+    ensures err { result ≡ Err NoNames.NotJson → value_at depth reader.old ≡ None }
 {
     let token = reader.next().ok_or(Invalid)?;
     if !opens_array(token) {
@@ -161,11 +162,11 @@ fn read_clone_items<'a>(
     alloc: Global,
     reader: &mut Reader<'a>,
     depth: usize,
-) -> Result<Vec<Option<Vec<&'a str>>>, Stop>
+) -> Result<Vec<Option<Vec<&'a str>>>, NoNames>
     requires { 2 ≤ depth }
     ensures ok { IfOk result (λ clones. parse_map clone_names (items_at depth (length reader.old) reader.old) ≡ Some (clones_view clones.items, reader.new)) }
     ensures shorter { OnOk result (length reader.new < length reader.old) }
-    ensures err { result ≡ Err Stop.NotJson → items_at depth (length reader.old) reader.old ≡ None }
+    ensures err { result ≡ Err NoNames.NotJson → items_at depth (length reader.old) reader.old ≡ None }
 {
     let mut clones = Vec::new(alloc);
     while !reader.take_end_array() {
@@ -180,11 +181,11 @@ fn read_clone<'a>(
     alloc: Global,
     reader: &mut Reader<'a>,
     depth: usize,
-) -> Result<Option<Vec<&'a str>>, Stop>
+) -> Result<Option<Vec<&'a str>>, NoNames>
     requires { 2 ≤ depth }
     ensures ok { IfOk result (λ names. parse_map probes_of (value_at depth reader.old) ≡ Some (names_view names, reader.new)) }
     ensures shorter { OnOk result (length reader.new < length reader.old) }
-    ensures err { result ≡ Err Stop.NotJson → value_at depth reader.old ≡ None }
+    ensures err { result ≡ Err NoNames.NotJson → value_at depth reader.old ≡ None }
 {
     let token = reader.next().ok_or(Invalid)?;
     if !opens_object(token) {
@@ -199,11 +200,11 @@ fn read_probes<'a>(
     alloc: Global,
     reader: &mut Reader<'a>,
     depth: usize,
-) -> Result<Option<Vec<&'a str>>, Stop>
+) -> Result<Option<Vec<&'a str>>, NoNames>
     requires { 1 ≤ depth }
     ensures ok { IfOk result (λ names. parse_map member_probes (members_at depth (length reader.old) no_members reader.old) ≡ Some (names_view names, reader.new)) }
     ensures shorter { OnOk result (length reader.new < length reader.old) }
-    ensures err { result ≡ Err Stop.NotJson → members_at depth (length reader.old) no_members reader.old ≡ None }
+    ensures err { result ≡ Err NoNames.NotJson → members_at depth (length reader.old) no_members reader.old ≡ None }
 {
     let mut probes = None;
     while let Some(key) = reader.next_key()? {
@@ -221,11 +222,11 @@ fn read_names<'a>(
     alloc: Global,
     reader: &mut Reader<'a>,
     depth: usize,
-) -> Result<Option<Vec<&'a str>>, Stop>
+) -> Result<Option<Vec<&'a str>>, NoNames>
     requires { 1 ≤ depth }
     ensures ok { IfOk result (λ names. parse_map array_strings (value_at depth reader.old) ≡ Some (names_view names, reader.new)) }
     ensures shorter { OnOk result (length reader.new < length reader.old) }
-    ensures err { result ≡ Err Stop.NotJson → value_at depth reader.old ≡ None }
+    ensures err { result ≡ Err NoNames.NotJson → value_at depth reader.old ≡ None }
 {
     let token = reader.next().ok_or(Invalid)?;
     if !opens_array(token) {
@@ -240,10 +241,10 @@ fn read_strings<'a>(
     alloc: Global,
     reader: &mut Reader<'a>,
     depth: usize,
-) -> Result<Option<Vec<&'a str>>, Stop>
+) -> Result<Option<Vec<&'a str>>, NoNames>
     ensures ok { IfOk result (λ names. parse_map strings_of (items_at depth (length reader.old) reader.old) ≡ Some (names_view names, reader.new)) }
     ensures shorter { OnOk result (length reader.new < length reader.old) }
-    ensures err { result ≡ Err Stop.NotJson → items_at depth (length reader.old) reader.old ≡ None }
+    ensures err { result ≡ Err NoNames.NotJson → items_at depth (length reader.old) reader.old ≡ None }
 {
     let mut names = Some(Vec::new(alloc));
     while !reader.take_end_array() {

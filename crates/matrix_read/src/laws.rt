@@ -21,11 +21,11 @@ pub fn text_laws()
 /// is refused.
 ///
 /// Among lines that are judged one after another the first that is refused gives the refusal, by its number and its
-/// code; [`text_laws`] says which number a line has, and [`table_laws`](crate::table_laws) which headers and records are
-/// refused by which code. Before it come a file past the limit of its length, a file without a line, and the line that a file begins
-/// with. Of a table the same is said of records, and of a clone file of clones, before which come bytes without a
-/// value, a value of another shape, the probes, and the number of clones. A file in which nothing is refused is read as
-/// the matrix whose rows are those of its lines, records or clones.
+/// code; [`text_laws`] says which number a line has, and [`table_laws`](crate::table_laws) which headers and records
+/// are refused by which code. Before it come a file past the limit of its length, a file without a line, and the line
+/// that a file begins with. Of a table the same is said of records, and of a clone file of clones, before which come
+/// bytes without a value, a value of another shape, the probes, and the number of clones. A file in which nothing is
+/// refused is read as the matrix whose rows are those of its lines, records or clones.
 pub fn refusal_laws()
     ensures first { FirstLineLaw }
     ensures dense { DenseRefusals }

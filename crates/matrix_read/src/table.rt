@@ -178,10 +178,11 @@ fn has_twice(alloc: Global, header: &ByteRecord) -> Result<bool, NoMemory>
     Ok(false)
 }
 
-/// The laws of [`read_table`]: the table that is written of a matrix is read as that matrix. A row has exactly the
-/// columns whose fields say so, apart from blanks at both ends. The names are the fields of the header behind the first
-/// that are not blank, apart from blanks at both ends, and are refused exactly where two of them are the same. A header
-/// and a record are refused by the code of the first cause that holds. A refusal is of the first record that is refused.
+/// The laws of [`read_table`]: the table that is written of a matrix is read as that matrix. A row has exactly
+/// the columns whose fields say so, apart from blanks at both ends. The names are the fields of the header behind
+/// the first that are not blank, apart from blanks at both ends, and are refused exactly where two of them are
+/// the same. A header and a record are refused by the code of the first cause that holds. A refusal is of the
+/// first record that is refused.
 pub fn table_laws()
     ensures written { TableLaw }
     ensures row { RowLaw }

@@ -1,5 +1,5 @@
 // The words of a line, and the numbers that they write.
-ghost use Rattle.std.specs.Prelude.{◌≡◌, ◌↔◌, ◌+◌, ◌<◌, ◌≤◌, ◌∷◌, [], true, length, take, drop, slice_range, IsNone, IfNone, IfSome, IsTrue};
+ghost use Rattle.std.specs.Prelude.{◌≡◌, ◌↔◌, ◌+◌, ◌*◌, ◌^◌, ◌<◌, ◌≤◌, ◌∷◌, [], true, length, take, drop, slice_range, IsNone, IfNone, IfSome, IsTrue};
 ghost use Rattle.std.specs.Char.{is_ascii_digit};
 ghost use Rattle.std.specs.List.{list_all};
 ghost use Rattle.matrix_read.specs.Lines.{is_blank};
@@ -99,6 +99,9 @@ pub fn next_number(line: &[u8], at: usize) -> Option<NumberWord>
         IsFirstNumber (words_of (drop at line.now)) word.number (words_of (drop word.next line.now))) }
     ensures range { IfSome result (λ word. (at < word.next) × (word.next ≤ length line.now)) }
 {
+    if at == line.len() {
+        return None;
+    }
     match short_number_at(line, at) {
         Some(word) => Some(word),
         None => any_number(line, at),
@@ -180,14 +183,61 @@ struct Digits {
     len: usize,
 }
 
-// The digits at the front.
+// The digits at the front. The first few are told one by one, which costs less than a loop.
+#[inline(always)]
 fn first_digits(bytes: &[u8]) -> Digits
     ensures digits { list_all is_ascii_digit (take result.len bytes.now) ≡ true }
     ensures value { result.len ≤ FEW_DIGITS → result.value ≡ number_after 0 (take result.len bytes.now) }
     ensures within { result.len ≤ length bytes.now }
 {
-    let mut value = 0u64;
-    for i in 0..bytes.len() {
+    if bytes.len() < 5 {
+        return more_digits(bytes, 0, 0);
+    }
+    let a = u64::from(bytes[0]);
+    if a < 48 || a > 57 {
+        return Digits { value: 0, len: 0 };
+    }
+    let one = a - 48;
+    let b = u64::from(bytes[1]);
+    if b < 48 || b > 57 {
+        return Digits { value: one, len: 1 };
+    }
+    let two = one * 10 + (b - 48);
+    let c = u64::from(bytes[2]);
+    if c < 48 || c > 57 {
+        return Digits { value: two, len: 2 };
+    }
+    let three = two * 10 + (c - 48);
+    let d = u64::from(bytes[3]);
+    if d < 48 || d > 57 {
+        return Digits {
+            value: three,
+            len: 3,
+        };
+    }
+    let four = three * 10 + (d - 48);
+    let e = u64::from(bytes[4]);
+    if e < 48 || e > 57 {
+        return Digits {
+            value: four,
+            len: 4,
+        };
+    }
+    more_digits(bytes, four * 10 + (e - 48), 5)
+}
+
+// The digits at the front, where so many of them write a number that is known.
+fn more_digits(bytes: &[u8], known: u64, from: usize) -> Digits
+    requires from { from ≤ length bytes.now }
+    requires known { list_all is_ascii_digit (take from bytes.now) ≡ true }
+    requires value { known ≡ number_after 0 (take from bytes.now) }
+    requires small { known < 2 ^ (4 * from) }
+    ensures digits { list_all is_ascii_digit (take result.len bytes.now) ≡ true }
+    ensures value { result.len ≤ FEW_DIGITS → result.value ≡ number_after 0 (take result.len bytes.now) }
+    ensures within { result.len ≤ length bytes.now }
+{
+    let mut value = known;
+    for i in from..bytes.len() {
         let byte = u64::from(bytes[i]);
         if byte < 48 || byte > 57 {
             return Digits { value, len: i };

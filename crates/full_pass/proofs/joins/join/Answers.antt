@@ -30,25 +30,25 @@ hit-hits-requires g c =
 pub link-requires : goal.link-requires
 link-requires g c =
     let w : AreReady c.fill.new.self (length c.args.arena.now.slots) = c.fill.ensures.ready (length c.args.arena.now.slots) c.requires.linked.ready in
-    let few = end_few c.args.arena.now c.args.entries.now c.args.x.index c.end_from-a.result.index c.end_from-b.result.index c.look-view.result
-    c.layout_law.ensures c.look-view.ensures.shows c.in-Run.ensures c.requires c.end_from-a.ensures c.end_from-b.ensures in
-    record { a = subst (λ z. c.end_from-a.result.index < z) (sym w.size) few.0; b = subst (λ z. c.end_from-b.result.index < z) (sym w.size) few.1 }
+    let few = end_few c.args.arena.now c.args.entries.now c.args.x.index c.beside-a.result.end.index c.beside-b.result.end.index c.look-view.result
+    c.layout_law.ensures c.look-view.ensures.shows c.in-Run.ensures c.requires c.beside-a.ensures.end c.beside-b.ensures.end in
+    record { a = subst (λ z. c.beside-a.result.end.index < z) (sym w.size) few.0; b = subst (λ z. c.beside-b.result.end.index < z) (sym w.size) few.1 }
 
 pub above-above-requires : goal.above-above-requires
 above-above-requires g c =
     let w : AreReady c.link.new.self (length c.args.arena.now.slots) = c.link.ensures.ready (length c.args.arena.now.slots)
     (c.fill.ensures.ready (length c.args.arena.now.slots) c.requires.linked.ready) in
-    let few = end_few c.args.arena.now c.args.entries.now c.args.x.index c.end_from-a.result.index c.end_from-b.result.index c.look-view.result
-    c.layout_law.ensures c.look-view.ensures.shows c.in-Run.ensures c.requires c.end_from-a.ensures c.end_from-b.ensures in
-    record { a = subst (λ z. c.end_from-a.result.index < z) (sym w.size) few.0; b = subst (λ z. c.end_from-b.result.index < z) (sym w.size) few.1 }
+    let few = end_few c.args.arena.now c.args.entries.now c.args.x.index c.beside-a.result.end.index c.beside-b.result.end.index c.look-view.result
+    c.layout_law.ensures c.look-view.ensures.shows c.in-Run.ensures c.requires c.beside-a.ensures.end c.beside-b.ensures.end in
+    record { a = subst (λ z. c.beside-a.result.end.index < z) (sym w.size) few.0; b = subst (λ z. c.beside-b.result.end.index < z) (sym w.size) few.1 }
 
 pub returns-in-Top-clause-joined : goal.returns-in-Top-clause-joined
 returns-in-Top-clause-joined g c = joined_top c.args.arena.now c.args.entries.now c.args.x.index c.look-view.result c.layout_law.ensures c.look-view.ensures.shows c.in-Top.ensures c.requires.one
 
 pub returns-in-Run-clause-joined : goal.returns-in-Run-clause-joined
 returns-in-Run-clause-joined g c =
-    joined_run c.args.arena.now c.args.entries.now c.link.new.self c.args.x.index (c.mark.result + c.mark-in-Run.result)
-    c.end_from-a.result.index c.end_from-b.result.index c.look-view.result c.run_judged.result
+    joined_run c.args.arena.now c.args.entries.now c.link.new.self c.args.x.index (c.beside-a.result.mark + c.beside-b.result.mark)
+    c.beside-a.result.end.index c.beside-b.result.end.index c.look-view.result c.run_judged.result
     (record {
       layout = c.layout_law.ensures;
       shows = c.look-view.ensures.shows;
@@ -57,8 +57,8 @@ returns-in-Run-clause-joined g c =
       chains = c.requires.linked.chains;
       fresh = c.requires.pass.fresh c.args.x.index (occurs_here c.args.x.index c.requires.waiting);
       ends_none = c.requires.pass.past none (let few : length c.args.arena.now.slots ≤ NODE_BOUND = slots_few c.args.arena.now c.layout_law.ensures in omega arith);
-      a_is = c.end_from-a.ensures;
-      b_is = c.end_from-b.ensures;
+      a_is = c.beside-a.ensures.end;
+      b_is = c.beside-b.ensures.end;
       now = c.link.ensures.full c.args.x.index ∙ c.fill.ensures.here;
       others = λ y ne. c.link.ensures.full y ∙ c.fill.ensures.others y ne;
       same = λ y. c.link.ensures.hits y ∙ c.fill.ensures.hits y;
@@ -66,15 +66,15 @@ returns-in-Run-clause-joined g c =
       nexts = λ y. c.link.ensures.next y ∙ c.fill.ensures.next y;
       up_now = c.link.ensures.up c.args.x.index ∙ c.fill.ensures.up;
       ups = λ y ne. c.link.ensures.up y ∙ c.fill.ensures.ups y ne;
-      tied = tied_by (far c.args.entries.now) (far c.link.new.self) c.end_from-a.result.index c.end_from-b.result.index c.link.ensures.b c.link.ensures.a
+      tied = tied_by (far c.args.entries.now) (far c.link.new.self) c.beside-a.result.end.index c.beside-b.result.end.index c.link.ensures.b c.link.ensures.a
           (λ y na nb. c.link.ensures.others y na nb ∙ c.fill.ensures.far y);
     })
-    (ap (λ z. z + c.mark-in-Run.result) c.mark.ensures ∙ ap (λ z. mark_of c.args.entries.now (side c.look-view.result 0) + z) c.mark-in-Run.ensures)
-    (c.run_judged.ensures ∙ ap (λ z. run_as (c.mark.result + c.mark-in-Run.result) z) c.above-above.ensures)
+    (ap (λ z. z + c.beside-b.result.mark) c.beside-a.ensures.mark ∙ ap (λ z. mark_of c.args.entries.now (side c.look-view.result 0) + z) c.beside-b.ensures.mark)
+    (c.run_judged.ensures ∙ ap (λ z. run_as (c.beside-a.result.mark + c.beside-b.result.mark) z) c.above-above.ensures)
 
 pub returns-in-Run-clause-linked : goal.returns-in-Run-clause-linked
 returns-in-Run-clause-linked g c =
-    joined_linked c.args.arena.now c.args.entries.now c.link.new.self c.args.x.index c.end_from-a.result.index c.end_from-b.result.index c.look-view.result
+    joined_linked c.args.arena.now c.args.entries.now c.link.new.self c.args.x.index c.beside-a.result.end.index c.beside-b.result.end.index c.look-view.result
     (record {
       layout = c.layout_law.ensures;
       shows = c.look-view.ensures.shows;
@@ -83,8 +83,8 @@ returns-in-Run-clause-linked g c =
       chains = c.requires.linked.chains;
       fresh = c.requires.pass.fresh c.args.x.index (occurs_here c.args.x.index c.requires.waiting);
       ends_none = c.requires.pass.past none (let few : length c.args.arena.now.slots ≤ NODE_BOUND = slots_few c.args.arena.now c.layout_law.ensures in omega arith);
-      a_is = c.end_from-a.ensures;
-      b_is = c.end_from-b.ensures;
+      a_is = c.beside-a.ensures.end;
+      b_is = c.beside-b.ensures.end;
       now = c.link.ensures.full c.args.x.index ∙ c.fill.ensures.here;
       others = λ y ne. c.link.ensures.full y ∙ c.fill.ensures.others y ne;
       same = λ y. c.link.ensures.hits y ∙ c.fill.ensures.hits y;
@@ -92,7 +92,7 @@ returns-in-Run-clause-linked g c =
       nexts = λ y. c.link.ensures.next y ∙ c.fill.ensures.next y;
       up_now = c.link.ensures.up c.args.x.index ∙ c.fill.ensures.up;
       ups = λ y ne. c.link.ensures.up y ∙ c.fill.ensures.ups y ne;
-      tied = tied_by (far c.args.entries.now) (far c.link.new.self) c.end_from-a.result.index c.end_from-b.result.index c.link.ensures.b c.link.ensures.a
+      tied = tied_by (far c.args.entries.now) (far c.link.new.self) c.beside-a.result.end.index c.beside-b.result.end.index c.link.ensures.b c.link.ensures.a
           (λ y na nb. c.link.ensures.others y na nb ∙ c.fill.ensures.far y);
     })
     (c.link.ensures.ready (length c.args.arena.now.slots) (c.fill.ensures.ready (length c.args.arena.now.slots) c.requires.linked.ready))

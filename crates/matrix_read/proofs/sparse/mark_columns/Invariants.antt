@@ -2,7 +2,7 @@ use Rattle.std.proofs.Common.{◌≡◌, ◌<◌, ◌≤◌, ◌+◌, ◌-◌, �
 use Rattle.column_order.specs.Orders.{has}
 use Rattle.matrix_read.specs.Words.{words_of}
 use Rattle.matrix_read.specs.Sparse.{words_code, columns_named}
-use Rattle.matrix_read.specs.Marks.{AreMarked}
+use Rattle.matrix_read.specs.Marks.{AreMarkedColumns}
 use Rattle.matrix_read.proofs.sparse.mark_columns.Given as goal
 
 abbrev pub invariant-loop-word : goal.invariant-loop-word
@@ -10,7 +10,7 @@ invariant-loop-word l = record {
   within : l.at ≤ length l.line;
   code : words_code (length l.initial.marks) (words_of (drop l.at l.line)) ≡ words_code (length l.initial.marks) (words_of l.line);
   marks : (j : ℕ) → j < length l.initial.marks → (get_or l.marks j false || has (columns_named (words_of (drop l.at l.line))) (j + 1)) ≡ has (columns_named (words_of l.line)) (j + 1);
-  listed : AreMarked l.marks (take l.count l.columns);
+  listed : AreMarkedColumns l.marks (take l.count l.columns);
   few : l.count ≤ length l.initial.marks;
 }
 
