@@ -1,5 +1,5 @@
-//! What an arena of PQ-tree nodes stands for (Booth and Lueker, 1976): a forest of nodes named by numbers, and the trees in
-//! it with and without the numbers. The crate has definitions and their lemmas, and no running code.
+//! What an arena of PQ-tree nodes stands for (Booth and Lueker, 1976): a forest of nodes named by numbers, and the
+//! trees in it with and without the numbers. The crate has definitions and their lemmas, and no running code.
 #![tactic(auto)]
 
 ghost use Rattle.std.specs.Prelude.{◌≡◌, ◌+◌, ◌*◌};

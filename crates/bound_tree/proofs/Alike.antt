@@ -18,16 +18,16 @@ use Rattle.bound_tree.proofs.Parts.{IsPart, front_part, rear_part, part_place, p
 use Rattle.bound_tree.proofs.Starts.{starts_length, starts_first, starts_last, starts_within}
 
 -- the columns at the positions x - 1 and x make related pairs with the one at p
-abbrev pub Alike : (Pair → Pair → Type 0) → List ℕ → ℕ → ℕ → Type 0
-Alike R o x p = R (cell o (x - 1) p) (cell o x p)
+abbrev pub AlikeAt : (Pair → Pair → Type 0) → List ℕ → ℕ → ℕ → Type 0
+AlikeAt R o x p = R (cell o (x - 1) p) (cell o x p)
 
 -- so the columns next to the gap with each outside the stretch
 pub record IsAlike (R : Pair → Pair → Type 0) (o : List ℕ) (s : Stretch) : Type 0 where
-  pub behind : (p : ℕ) → s.to ≤ p → p < length o → Alike R o s.at p
-  pub before : (p : ℕ) → p < s.from → Alike R o s.at p
+  pub behind : (p : ℕ) → s.to ≤ p → p < length o → AlikeAt R o s.at p
+  pub before : (p : ℕ) → p < s.from → AlikeAt R o s.at p
 
 module _ (R : Pair → Pair → Type 0) (eq : IsPairEq R) (o : List ℕ) where
-  outside : (at from to p : ℕ) → IsAlike R o (stretch at from to) → p < length o → (p < from) ⊎ (to ≤ p) → Alike R o at p
+  outside : (at from to p : ℕ) → IsAlike R o (stretch at from to) → p < length o → (p < from) ⊎ (to ≤ p) → AlikeAt R o at p
   outside at from to p h u out = elim out [ inl m ↦ h.before p m | inr m ↦ h.behind p m u ]
 
   more : (s : ℕ) (ts : Forest) → 0 < length (leaves_of ts) → 2 ≤ length (starts s ts)
@@ -37,7 +37,7 @@ module _ (R : Pair → Pair → Type 0) (eq : IsPairEq R) (o : List ℕ) where
   -- outside a Q-node a column is outside the two children next to a gap
   beside : (ts : Forest) (s i q : ℕ) → 1 ≤ i → i + 1 < length (starts s ts) →
       ((j : ℕ) → 1 ≤ j → j + 1 < length (starts s ts) → IsAlike R o (stretch (slice_index (starts s ts) j) (slice_index (starts s ts) (j - 1)) (slice_index (starts s ts) (j + 1)))) →
-      q < length o → (q < s) ⊎ (s + length (leaves_of ts) ≤ q) → Alike R o (slice_index (starts s ts) i) q
+      q < length o → (q < s) ⊎ (s + length (leaves_of ts) ≤ q) → AlikeAt R o (slice_index (starts s ts) i) q
   beside ts s i q a b own v k =
       outside (slice_index (starts s ts) i) (slice_index (starts s ts) (i - 1)) (slice_index (starts s ts) (i + 1)) q (own i a b) v
       (elim k [
@@ -48,7 +48,7 @@ module _ (R : Pair → Pair → Type 0) (eq : IsPairEq R) (o : List ℕ) where
   mutual
     -- the columns of a tree make related pairs with each column outside it
     pub tree_alike : (t : Outline) (s : ℕ) → All (IsAlike R o) (stretches s t) →
-        (x p : ℕ) → s < x → x < s + length (leaves t) → p < length o → (p < s) ⊎ (s + length (leaves t) ≤ p) → Alike R o x p
+        (x p : ℕ) → s < x → x < s + length (leaves t) → p < length o → (p < s) ⊎ (s + length (leaves t) ≤ p) → AlikeAt R o x p
     tree_alike (leaf a) s all x p l u w out = absurd (omega arith)
     tree_alike (p_node ts) s all x p l u w out =
         let own = whole_each (IsAlike R o) (starts s ts) (all_rear (IsAlike R o) (stretches_of s ts) (whole_stretches (starts s ts)) all) in
@@ -66,9 +66,9 @@ module _ (R : Pair → Pair → Type 0) (eq : IsPairEq R) (o : List ℕ) where
     -- the columns of trees side by side make related pairs with each column outside what holds them, where this holds at the gaps
     -- between two of the trees
     pub trees_alike : (ts : Forest) (s from to : ℕ) → All (IsAlike R o) (stretches_of s ts) →
-        ((i p : ℕ) → 1 ≤ i → i + 1 < length (starts s ts) → p < length o → (p < from) ⊎ (to ≤ p) → Alike R o (slice_index (starts s ts) i) p) →
+        ((i p : ℕ) → 1 ≤ i → i + 1 < length (starts s ts) → p < length o → (p < from) ⊎ (to ≤ p) → AlikeAt R o (slice_index (starts s ts) i) p) →
         from ≤ s → s + length (leaves_of ts) ≤ to →
-        (x p : ℕ) → s < x → x < s + length (leaves_of ts) → p < length o → (p < from) ⊎ (to ≤ p) → Alike R o x p
+        (x p : ℕ) → s < x → x < s + length (leaves_of ts) → p < length o → (p < from) ⊎ (to ≤ p) → AlikeAt R o x p
     trees_alike no_tree s from to all own f t x p l u w out = absurd (omega arith)
     trees_alike (tree_and t ts) s from to all own f e x p l u w out =
         let m : ℕ = s + length (leaves t) in
@@ -79,7 +79,7 @@ module _ (R : Pair → Pair → Type 0) (eq : IsPairEq R) (o : List ℕ) where
               (elim out [ inl a ↦ inl (omega arith) | inr a ↦ inr (omega arith) ])
           | inr k ↦ elim (cases_eq x m) [
             | inl e' ↦
-                subst (λ y. Alike R o y p) (starts_first m ts ∙ sym e')
+                subst (λ y. AlikeAt R o y p) (starts_first m ts ∙ sym e')
                 (own 1 p (omega arith) (omega (arith, starts_length m ts, more m ts (omega arith))) w out)
             | inr d ↦
                 trees_alike ts m from to (all_rear (IsAlike R o) (stretches s t) (stretches_of m ts) all)
@@ -89,14 +89,14 @@ module _ (R : Pair → Pair → Type 0) (eq : IsPairEq R) (o : List ℕ) where
         ]
 
   -- from position to position
-  along : (s e p : ℕ) → ((x : ℕ) → s < x → x < e → Alike R o x p) → (n x : ℕ) → s ≤ x → x + n < e → R (cell o x p) (cell o (x + n) p)
+  along : (s e p : ℕ) → ((x : ℕ) → s < x → x < e → AlikeAt R o x p) → (n x : ℕ) → s ≤ x → x + n < e → R (cell o x p) (cell o (x + n) p)
   along s e p h zero x l u = subst (λ y. R (cell o x p) (cell o y p)) (omega arith) (eq.same (cell o x p))
   along s e p h (suc n) x l u =
       let back : x + suc n - 1 ≡ x + n = omega arith in
       eq.join (cell o x p) (cell o (x + n) p) (cell o (x + suc n) p) (along s e p h n x l (omega arith))
       (subst (λ y. R (cell o y p) (cell o (x + suc n) p)) back (h (x + suc n) (omega arith) (omega arith)))
 
-  pub between : (s e p : ℕ) → ((x : ℕ) → s < x → x < e → Alike R o x p) → (x y : ℕ) → s ≤ x → x < e → s ≤ y → y < e → R (cell o x p) (cell o y p)
+  pub between : (s e p : ℕ) → ((x : ℕ) → s < x → x < e → AlikeAt R o x p) → (x y : ℕ) → s ≤ x → x < e → s ≤ y → y < e → R (cell o x p) (cell o y p)
   between s e p h x y lx ux ly uy =
       elim (cases_lt x y) [
         | inl l ↦ let n : x + (y - x) ≡ y = omega arith in subst (λ z. R (cell o x p) (cell o z p)) n (along s e p h (y - x) x lx (omega arith))
@@ -160,7 +160,7 @@ module _ (R : Pair → Pair → Type 0) (eq : IsPairEq R) (o : List ℕ) where
       let inside : e ≤ length o = p.inside in
       let pt : IsPart o s (leaves t) = front_part o s (leaves t) (leaves_of ts) p in
       let pts : IsPart o m (leaves_of ts) = rear_part o s (leaves t) (leaves_of ts) p in
-      let first : (x q : ℕ) → s < x → x < m → q < length o → m ≤ q → Alike R o x q =
+      let first : (x q : ℕ) → s < x → x < m → q < length o → m ≤ q → AlikeAt R o x q =
       λ x q l u w g. tree_alike t s (all_front (IsAlike R o) (stretches s t) (stretches_of m ts) all) x q l u w (inr g) in
       let rest : All (IsAlike R o) (stretches_of m ts) = all_rear (IsAlike R o) (stretches s t) (stretches_of m ts) all in
       elim f [
@@ -181,12 +181,12 @@ module _ (R : Pair → Pair → Type 0) (eq : IsPairEq R) (o : List ℕ) where
             let last : ℕ = m + length (leaves_of ts) - 1 in
             let same : last ≡ e - 1 = omega (arith, n) in
             let ns : List ℕ = starts s (tree_and t ts) in
-            let gap : Alike R o m last =
-            subst (λ y. Alike R o y last) (starts_first m ts)
+            let gap : AlikeAt R o m last =
+            subst (λ y. AlikeAt R o y last) (starts_first m ts)
             ((own 1 (omega arith) (omega (arith, two.0))).behind last (omega (arith, two.1)) (omega (arith, long, inside, n))) in
-            let step : (x : ℕ) → s < x → x < m + 1 → Alike R o x last =
+            let step : (x : ℕ) → s < x → x < m + 1 → AlikeAt R o x last =
             λ x l u. elim (cases_eq x m) [
-              | inl g ↦ subst (λ y. Alike R o y last) (sym g) gap
+              | inl g ↦ subst (λ y. AlikeAt R o y last) (sym g) gap
               | inr d ↦ first x last l (omega arith) (omega (arith, long, inside, n)) (omega (arith, long))
             ] in
             subst (λ y. R v (cell o s y)) same

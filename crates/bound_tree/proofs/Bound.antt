@@ -13,7 +13,7 @@ use Rattle.pq_tree.specs.Proper.{HasArities, HaveArities}
 use Rattle.tied_law.specs.Tied.{IsForward, IsClosed, IsInLine}
 use Rattle.tied_law.proofs.Bound.{IsPairEq}
 use Rattle.bound_tree.specs.Stretches.{stretch, stretches, stretches_of, starts, whole_stretches, near_stretches}
-use Rattle.bound_tree.proofs.Alike.{Alike, IsAlike}
+use Rattle.bound_tree.proofs.Alike.{AlikeAt, IsAlike}
 use Rattle.bound_tree.proofs.Cells.{cell}
 use Rattle.bound_tree.proofs.Lists.{whole_from, near_from}
 use Rattle.bound_tree.proofs.Parts.{IsPart, front_part, rear_part, part_has, part_lacks}
@@ -39,7 +39,7 @@ forward_at o (tree_and t ts) s p (suc i) y z k l u m w =
 
 module _ (R : Pair → Pair → Type 0) (eq : IsPairEq R) (o : List ℕ) (once : (a : ℕ) → occurs o a ≤ 1) where
   -- two neighbouring columns of a node with one outside it
-  closed_alike : (l : List ℕ) (s : ℕ) → IsPart o s l → IsClosed R o l → (x p : ℕ) → s < x → x < s + length l → p < length o → (p < s) ⊎ (s + length l ≤ p) → Alike R o x p
+  closed_alike : (l : List ℕ) (s : ℕ) → IsPart o s l → IsClosed R o l → (x p : ℕ) → s < x → x < s + length l → p < length o → (p < s) ⊎ (s + length l ≤ p) → AlikeAt R o x p
   closed_alike l s part closed x p a b w out =
       closed (slice_index o (x - 1)) (slice_index o x) (slice_index o p) (part_has o s l part (x - 1) (omega arith) (omega arith)) (part_has o s l part x (omega arith) b)
       (has_at o p w) (part_lacks o once s l part p w out)

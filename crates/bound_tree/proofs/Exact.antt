@@ -13,7 +13,7 @@ use Rattle.tied_law.specs.Tied.{AreTogether, AreInLine}
 use Rattle.tied_law.proofs.Bridge.{evenly_eq}
 use Rattle.bound_tree.specs.declared.stretch.Stretch.{Stretch}
 use Rattle.bound_tree.specs.Stretches.{stretches}
-use Rattle.bound_tree.specs.Free.{IsWithin, IsFree, LeadsBehind, LeadsBefore}
+use Rattle.bound_tree.specs.Free.{IsRoundGap, IsFree, LeadsBehind, LeadsBefore}
 use Rattle.bound_tree.proofs.Alike.{IsAlike, closed, lined}
 use Rattle.bound_tree.proofs.Blocked.{blocked}
 use Rattle.bound_tree.proofs.Bound.{tree_gaps}
@@ -50,7 +50,7 @@ known_before rows o gaps are q p l u =
 
 module _ (c : ℕ) (rows : List (List ℕ)) (o : List ℕ) (valid : IsValidOrder c rows o) where
   -- a free stretch: the columns next to its gap make pairs with walks of even length between them
-  free_alike : (s : Stretch) → IsWithin (length o) s → IsFree rows o s → IsAlike (Evenly c rows) o s
+  free_alike : (s : Stretch) → IsRoundGap (length o) s → IsFree rows o s → IsAlike (Evenly c rows) o s
   free_alike s w f =
       let e : s.at - 1 + 1 ≡ s.at = omega (arith, w.before) in
       record {
@@ -65,7 +65,7 @@ module _ (c : ℕ) (rows : List (List ℕ)) (o : List ℕ) (valid : IsValidOrder
 
   module _ (gaps : List Gap) (are : AreGaps rows o gaps) where
     -- and the other way round: else no walk would lead out of the columns between the two
-    alike_free : (s : Stretch) → IsWithin (length o) s → IsAlike (Evenly c rows) o s → IsFree rows o s
+    alike_free : (s : Stretch) → IsRoundGap (length o) s → IsAlike (Evenly c rows) o s → IsFree rows o s
     alike_free s w h =
         let e : s.at - 1 + 1 ≡ s.at = omega (arith, w.before) in
         record {
@@ -107,7 +107,7 @@ pub exact : (c : ℕ) (rows : List (List ℕ)) (t : Outline) (gaps : List Gap) �
 exact c rows t gaps h valid are =
     let o : List ℕ = leaves t in
     let once = order_once c o valid.order in
-    let within : All (IsWithin (length o)) (stretches 0 t) = tree_within (length o) t 0 h (omega arith) in (
+    let within : All (IsRoundGap (length o)) (stretches 0 t) = tree_within (length o) t 0 h (omega arith) in (
       λ free.
           let alike : All (IsAlike (Evenly c rows) o) (stretches 0 t) = λ k d l. free_alike c rows o valid (slice_index_or (stretches 0 t) k d) (within k d l) (free k d l) in (
             λ x n. closed (Evenly c rows) (evenly_eq c rows) o once x (node_placed (IsAlike (Evenly c rows) o) o t 0 (whole_part o) alike x n),

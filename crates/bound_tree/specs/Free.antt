@@ -4,7 +4,7 @@ use Rattle.open_gaps.specs.Gaps.{IsOpen}
 use Rattle.bound_tree.specs.declared.stretch.Stretch.{Stretch}
 
 -- the stretch has the positions on both sides of its gap, and lies within n positions
-pub record IsWithin (n : ℕ) (s : Stretch) : Type 0 where
+pub record IsRoundGap (n : ℕ) (s : Stretch) : Type 0 where
   pub before : s.from < s.at
   pub behind : s.at < s.to
   pub inside : s.to ≤ n

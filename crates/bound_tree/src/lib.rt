@@ -1,8 +1,9 @@
 //! Whether a PQ-tree stands for all valid orders of some rows.
 //!
-//! A tree whose frontiers keep the rows may have too few of them. It has all valid orders exactly where walks of even length lead
-//! between certain pairs in the incompatibility graph of the rows (McConnell, 2004). Along the tree's own leaves these walks go
-//! from neighbour to neighbour, so two looks at each pair of a gap and a column decide whether there are such walks.
+//! A tree whose frontiers keep the rows may have too few of them. It has all valid orders exactly where walks of
+//! even length lead between certain pairs in the incompatibility graph of the rows (McConnell, 2004). Along the
+//! tree's own leaves these walks go from neighbour to neighbour, so two looks at each pair of a gap and a column
+//! decide whether there are such walks.
 #![tactic(auto)]
 
 ghost use Rattle.std.specs.Prelude.{◌≡◌, ◌↔◌, ℕ, List, IfOk, IsTrue, All};
@@ -19,8 +20,8 @@ use pq_tree::PqTree;
 use row_model::{Matrix, NoMemory};
 use std::alloc::Global;
 
-/// Whether a tree whose frontiers all keep the rows has every valid order of the rows among its frontiers: the columns of each
-/// node stay together, and the children of each Q-node stand in line.
+/// Whether a tree whose frontiers all keep the rows has every valid order of the rows among its frontiers: the columns
+/// of each node stay together, and the children of each Q-node stand in line.
 ///
 /// Takes at most four looks at the gaps for each pair of columns, and 52 bytes for each column.
 ///

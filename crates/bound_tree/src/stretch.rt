@@ -9,9 +9,9 @@ use pq_tree::{PqTree, Tree};
 use row_model::NoMemory;
 use std::alloc::Global;
 
-/// The gap between the leaves at the positions `at - 1` and `at`, which part at a node, with the positions from `from` to before
-/// `to`: those of all leaves of the node if it is a P-node, and of the two children with these leaves if it is a Q-node. Positions
-/// count from 0.
+/// The gap between the leaves at the positions `at - 1` and `at`, which part at a node, with the positions from `from`
+/// to before `to`: those of all leaves of the node if it is a P-node, and of the two children with these leaves if it
+/// is a Q-node. Positions count from 0.
 #[derive(Clone, Copy, Debug, PartialEq, Eq)]
 pub struct Stretch {
     /// The position behind the gap.
@@ -53,7 +53,8 @@ fn push_tree(alloc: Global, tree: &Tree, from: u32, all: &mut Vec<Stretch>) -> R
     }
 }
 
-// Appends the stretches of trees whose leaves begin at a position, and tells where each tree begins and the last one ends.
+// Appends the stretches of trees whose leaves begin at a position, and tells where each tree
+// begins and the last one ends.
 #[cycle(push)]
 fn push_trees(
     alloc: Global,
@@ -75,8 +76,8 @@ fn push_trees(
     Ok(starts)
 }
 
-// Appends a stretch over all children of a node for each gap between two of them. They begin at these positions, and the last ends
-// at the last of them.
+// Appends a stretch over all children of a node for each gap between two of them. They begin at these positions, and
+// the last ends at the last of them.
 fn push_whole(starts: &[u32], all: &mut Vec<Stretch>) -> Result<(), NoMemory>
     requires { 1 ≤ length starts.now }
     ensures { OnOk result (all.new.items ≡ all.old.items ++ whole_stretches starts.now) }

@@ -1,4 +1,5 @@
-//! Times the bubble pass alone: rows that are drawn by a fixed rule, asked of one long line of columns, round after round.
+//! Times the bubble pass alone: rows that are drawn by a fixed rule, asked of one long line of
+//! columns, round after round.
 //!
 //! The word of the command line is the number of rounds. It prints the answers of the last one; bench/run.py measures.
 #![tactic(auto)]

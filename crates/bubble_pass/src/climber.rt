@@ -328,7 +328,8 @@ impl Climber {
     }
 }
 
-// The stage of a node in view whose node above is not known after its turn: blocked beside a neighbour, else at the top.
+// The stage of a node in view whose node above is not known after its turn: blocked beside a
+// neighbour, else at the top.
 pub fn parked_stage(view: &NodeView) -> Stage
     ensures { result ≡ parked_as view.now }
 {

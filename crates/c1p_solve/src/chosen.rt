@@ -26,9 +26,9 @@ pub struct Answered {
 
 /// Solves a matrix.
 ///
-/// With c columns, and of the rows up to the first that leaves no valid order, or all rows, it takes at most 1024 steps for each
-/// column, row and one. Where there is no valid order it takes at most 8c(f + 1) steps more, f being the ones of these rows, to
-/// find the odd cycle.
+/// With c columns, and of the rows up to the first that leaves no valid order, or all rows, it takes at most 1024 steps
+/// for each column, row and one. Where there is no valid order it takes at most 8c(f + 1) steps more, f being the ones
+/// of these rows, to find the odd cycle.
 ///
 /// # Errors
 ///

@@ -1,5 +1,5 @@
-//! The consecutive-ones problem, solved: all valid orders of the columns of a matrix, as one tree, or an odd cycle of its
-//! incompatibility graph where there is none.
+//! The consecutive-ones problem, solved: all valid orders of the columns of a matrix, as one tree, or an odd cycle of
+//! its incompatibility graph where there is none.
 #![tactic(auto)]
 
 mod chosen;

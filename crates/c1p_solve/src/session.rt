@@ -22,8 +22,8 @@ use std::marker::Model;
 use step_count::{Ledger, Steps};
 use total_work::weight_law;
 
-/// A matrix that has a valid order, and the reducer whose tree stands for all its valid orders. Further rows are taken as
-/// long as they leave one.
+/// A matrix that has a valid order, and the reducer whose tree stands for all its valid orders. Further rows are
+/// taken as long as they leave one.
 #[derive(Drop)]
 pub struct Session {
     alloc: Global,
@@ -60,14 +60,14 @@ pub enum Started {
 pub enum Taken {
     /// The session's rows have a valid order with it, and it is the last of them now.
     Ok,
-    /// The session's rows have no valid order with it, and the session is as before. Where it was asked for, an odd cycle
-    /// shows it; the refused row has the number after the session's last row there.
+    /// The session's rows have no valid order with it, and the session is as before. Where it was asked for, an odd
+    /// cycle shows it; the refused row has the number after the session's last row there.
     No(Option<Cycle>),
 }
 
 impl Session {
-    /// A session of this matrix, which allocates by `alloc`, or an odd cycle where the matrix has no valid order. It takes as many
-    /// steps as [`answer`](crate::answer).
+    /// A session of this matrix, which allocates by `alloc`, or an odd cycle where the matrix has no valid order. It
+    /// takes as many steps as [`answer`](crate::answer).
     ///
     /// # Errors
     ///
@@ -95,9 +95,9 @@ impl Session {
     /// Takes a further row where the session's rows have a valid order with it, and refuses it where they have none. A
     /// refusal comes with an odd cycle exactly where `explain` asks for one.
     ///
-    /// The start and all rows that are taken together take at most 1024 steps for each column, row and one. A refusal takes at most
-    /// 256 steps for each node of the tree that the row meets, and 256 more; and at most 8c(f + 1) more for a cycle, with c columns
-    /// and f ones in the session's rows and this one.
+    /// The start and all rows that are taken together take at most 1024 steps for each column, row and one. A refusal
+    /// takes at most 256 steps for each node of the tree that the row meets, and 256 more; and at most 8c(f + 1) more
+    /// for a cycle, with c columns and f ones in the session's rows and this one.
     ///
     /// # Errors
     ///
@@ -155,8 +155,8 @@ impl Session {
     }
 }
 
-// Reduces the tree of the rows before the last one by the last one. Where it is refused, an odd cycle is looked for if one
-// is asked for.
+// Reduces the tree of the rows before the last one by the last one. Where it is refused, an odd cycle is
+// looked for if one is asked for.
 fn reduce_last<L: Ledger>(
     alloc: Global,
     reducer: &mut Chosen,

@@ -17,21 +17,22 @@ use step_count::{Ledger, Steps};
 /// The answer on a matrix.
 #[derive(Drop)]
 pub enum Solved {
-    /// There is a valid order. The tree is canonical and tied to all rows, so its frontiers are exactly the valid orders.
+    /// There is a valid order. The tree is canonical and tied to all rows, so its frontiers are
+    /// exactly the valid orders.
     Yes(PqTree),
     /// There is none, as this odd cycle of the incompatibility graph shows.
     No(Cycle),
 }
 
-/// Solves a matrix by a reducer whose tree is universal over its columns, or any other tree that is tied to no rows: its
-/// frontiers are all orders of the columns.
+/// Solves a matrix by a reducer whose tree is universal over its columns, or any other tree that is tied to no rows:
+/// its frontiers are all orders of the columns.
 ///
-/// After `Yes` the reducer's tree is tied to all rows of the matrix. After `No` it is tied to the rows before the first one
-/// up to which the rows have no valid order.
+/// After `Yes` the reducer's tree is tied to all rows of the matrix. After `No` it is tied to the rows before the first
+/// one up to which the rows have no valid order.
 ///
-/// A frugal reducer whose tree weighs no more than its columns, as the universal one does, takes at most 1024 steps for each
-/// column, row and one together, of the rows up to the first that is refused. After a refusal the search for the cycle takes
-/// at most 8c(f + 1) steps more, with c columns and f ones in these rows.
+/// A frugal reducer whose tree weighs no more than its columns, as the universal one does, takes at most 1024 steps for
+/// each column, row and one together, of the rows up to the first that is refused. After a refusal the search for the
+/// cycle takes at most 8c(f + 1) steps more, with c columns and f ones in these rows.
 ///
 /// # Errors
 ///
@@ -55,8 +56,8 @@ pub fn solve<R: Reducer, L: Ledger>(
     }
 }
 
-// Reduces a tree that is tied to no rows by all rows of a matrix in turn, and answers `None`; or as far as the first row
-// that is refused, and answers an odd cycle.
+// Reduces a tree that is tied to no rows by all rows of a matrix in turn, and answers `None`; or as far as the first
+// row that is refused, and answers an odd cycle.
 pub(crate) fn reduce_all<R: Reducer, L: Ledger>(
     alloc: Global,
     reducer: &mut R,
@@ -78,8 +79,8 @@ pub(crate) fn reduce_all<R: Reducer, L: Ledger>(
     Ok(None)
 }
 
-// An odd cycle of a matrix of which the rows 1 to `k` have no valid order, by a reducer whose tree is tied to the rows before
-// row `k`. With c columns and f ones in the rows 1 to `k` it counts at most 8c(f + 1) steps.
+// An odd cycle of a matrix of which the rows 1 to `k` have no valid order, by a reducer whose tree is tied to the rows
+// before row `k`. With c columns and f ones in the rows 1 to `k` it counts at most 8c(f + 1) steps.
 pub(crate) fn conflict<R: Reducer, L: Ledger>(
     alloc: Global,
     reducer: &R,

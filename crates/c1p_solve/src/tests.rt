@@ -276,7 +276,8 @@ fn assert_walk(rt: &impl Abort, m: &Matrix, lines: &[Line]) {
     }
 }
 
-// The search over all rows finds a walk exactly where the one along the order of the rows before a refused row finds one.
+// The search over all rows finds a walk exactly where the one along the order of the rows
+// before a refused row finds one.
 fn assert_alike(rt: &impl Abort, alloc: Global, m: &Matrix) -> Result<(), NoMemory> {
     let walk = walk_counted::<Brand>(alloc, m, Blank::new(1))?;
     let answered = answered(alloc, m)?;

@@ -10,8 +10,8 @@ use std::alloc::Global;
 /// 1971). The other rows stay.
 ///
 /// Its valid orders are circular orders of the given matrix, and one of them is a rotation of each circular order, as
-/// [`circular_law`](crate::circular_law) says. A row that holds column 1 takes time linear in the number of columns, and
-/// any other in its length.
+/// [`circular_law`](crate::circular_law) says. A row that holds column 1 takes time linear in the number of columns,
+/// and any other in its length.
 ///
 /// # Errors
 ///

@@ -1,7 +1,7 @@
 //! Circular orders of the columns of a matrix: round a circle, the columns of each row stand together.
 //!
-//! On a circle the columns of a row stand together exactly where those outside it do. So each row that holds column 1 may
-//! be replaced by its complement; then no row holds column 1, and the circle may be cut there (Tucker, 1971).
+//! On a circle the columns of a row stand together exactly where those outside it do. So each row that holds column 1
+//! may be replaced by its complement; then no row holds column 1, and the circle may be cut there (Tucker, 1971).
 #![tactic(auto)]
 
 mod cut;

@@ -6,9 +6,11 @@ ghost use Rattle.circular_ones.specs.Circular.{IsTurned};
 use row_model::NoMemory;
 use std::alloc::Global;
 
-/// The rotation of an order that begins with column 1: the columns from 1 on, and then those before it. The time is linear.
+/// The rotation of an order that begins with column 1: the columns from 1 on, and then those
+/// before it. The time is linear.
 ///
-/// The order is circular exactly where this rotation is a valid order of the [cut rows](crate::cut_rows) (Tucker, 1971).
+/// The order is circular exactly where this rotation is a valid order of the [cut
+/// rows](crate::cut_rows) (Tucker, 1971).
 ///
 /// # Errors
 ///

@@ -1,7 +1,7 @@
 //! Where the clones stand in an order of the probes, and the contigs that they make up.
 //!
-//! A clone is a row of a matrix, the set of the probes that it holds; a probe is a column. In a valid order the probes of
-//! each clone stand side by side.
+//! A clone is a row of a matrix, the set of the probes that it holds; a probe is a column. In a valid order the probes
+//! of each clone stand side by side.
 #![tactic(auto)]
 
 mod contigs;

@@ -20,9 +20,9 @@ pub struct Placed {
 
 /// The places of the clones, and the contigs, in a valid order of the probes.
 ///
-/// The place of a clone is the first and the last position of its probes; an empty clone has none. Two probes lie in one
-/// contig where they are equal, or where a chain of clones, each sharing a probe with the next, leads from a clone that
-/// holds the one to a clone that holds the other. A probe in no clone is a contig by itself.
+/// The place of a clone is the first and the last position of its probes; an empty clone has none. Two probes lie in
+/// one contig where they are equal, or where a chain of clones, each sharing a probe with the next, leads from a clone
+/// that holds the one to a clone that holds the other. A probe in no clone is a contig by itself.
 ///
 /// The time is linear in the probes, the clones and their ones.
 ///

@@ -18,7 +18,8 @@ pub enum Instance {
     Plain(Kind, Matrix),
     /// A matrix: has it a circular order?
     Circular(Matrix),
-    /// A bipartite graph: has its right side an order that keeps the neighbours of each vertex of the left side together?
+    /// A bipartite graph: has its right side an order that keeps the neighbours of each vertex
+    /// of the left side together?
     Convex(Bigraph),
     /// A bipartite graph: have both sides such an order? Side 1 orders the right side, side 2 the left side.
     Doubly(Bigraph),

@@ -13,8 +13,8 @@ use std::alloc::Global;
 use std::marker::Model;
 use step_count::{Ledger, Steps};
 
-/// An order that is valid for the first rows of a matrix, and for each of its gaps the columns for which these rows leave it
-/// open. It takes 24 bytes for each column.
+/// An order that is valid for the first rows of a matrix, and for each of its gaps the columns for which these rows
+/// leave it open. It takes 24 bytes for each column.
 #[derive(Drop)]
 pub struct OpenGaps {
     order: Vec<u32>,
@@ -95,8 +95,8 @@ impl OpenGaps {
         self.order.len() as u32
     }
 
-    /// Whether a row has the columns at the positions `q` and `q + 1` and lacks the one at the position `p`. Positions count
-    /// from 0.
+    /// Whether a row has the columns at the positions `q` and `q + 1` and lacks the one at the position
+    /// `p`. Positions count from 0.
     pub fn is_open(&self, q: u32, p: u32) -> bool
         requires { (q + 1 < length self.now.order) × (p < length self.now.order) }
         ensures { (rows : List (List ℕ)) → AreGaps rows self.now.order self.now.gaps → IsTrue result ↔ IsOpen rows self.now.order q p }
@@ -173,8 +173,8 @@ fn line_to(b: u32, d: u32, row: u32) -> Line
     }
 }
 
-// The first and the last position, from 1, of a row in the order of these positions, or `None` where it has no column. A step
-// is counted for each column.
+// The first and the last position, from 1, of a row in the order of these positions, or `None` where it has no column.
+// A step is counted for each column.
 fn span_counted<L: Ledger>(row: &[u32], positions: &[u32], steps: &mut Steps<L>) -> Option<Span>
     requires { IsWithin (length positions.now) row.now }
     ensures span { (o : List ℕ) → IsOrder (length positions.now) o → ArePositions o positions.now

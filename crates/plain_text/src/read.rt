@@ -5,10 +5,11 @@ ghost use Rattle.plain_text.specs.Numbers.{number_at, digits_on, NoDigitFirst};
 ghost use Rattle.plain_text.specs.Rest.{with_rest, rest_of};
 ghost use Rattle.plain_text.specs.Words.{word_at};
 
-/// The plain number at the front of bytes, and the bytes after it; none where no plain number stands there, or where it is above
-/// the limit.
+/// The plain number at the front of bytes, and the bytes after it; none where no plain number stands there, or
+/// where it is above the limit.
 ///
-/// A plain number has decimal digits without leading zeros; 0 is a single `0`. So after a `0` the digits that follow are left.
+/// A plain number has decimal digits without leading zeros; 0 is a single `0`. So after a `0` the
+/// digits that follow are left.
 pub fn number(bytes: &[u8], limit: u64) -> Option<(u64, &[u8])>
     ensures value { option_map with_rest result ≡ number_at limit bytes.now }
     ensures within { IfSome result (λ x. x.0 ≤ limit) }
@@ -18,6 +19,7 @@ pub fn number(bytes: &[u8], limit: u64) -> Option<(u64, &[u8])>
     first_number(bytes, limit)
 }
 
+// The number that the bytes begin with, and what follows it.
 #[tactic(auto, unfolding(crate::specs::Numbers::number_at))]
 fn first_number(bytes: &[u8], limit: u64) -> Option<(u64, &[u8])>
     ensures value { option_map with_rest result ≡ number_at limit bytes.now }

@@ -33,16 +33,16 @@ pub trait Reducer {
     /// The number of its columns, which are 1 to this number.
     ghost columns: { Self → ℕ };
 
-    /// Whether it tells that it is frugal: then each row costs no more steps than its columns and the weight that it takes
-    /// from the tree pay for, and all rows together a constant for each column, row and one.
+    /// Whether it tells that it is frugal: then each row costs no more steps than its columns and the weight that it
+    /// takes from the tree pay for, and all rows together a constant for each column, row and one.
     ghost frugal: { Bool };
 
     /// Reduces the tree by row `k` of `m`, after the rows before it. Row numbers begin at 1.
     ///
     /// After `Taken` the tree is the old one with its pertinent root, the smallest node that holds the row, replaced by
     /// the template that fits, up to the order of a P-node's children and the direction of a Q-node's. It is tied to
-    /// the rows 1 to `k`: its frontiers are exactly their valid orders. `Refused` comes exactly where these rows have no
-    /// valid order; then a walk of even length in their incompatibility graph leads from some pair of columns to the
+    /// the rows 1 to `k`: its frontiers are exactly their valid orders. `Refused` comes exactly where these rows have
+    /// no valid order; then a walk of even length in their incompatibility graph leads from some pair of columns to the
     /// same pair with its columns exchanged.
     ///
     /// # Errors

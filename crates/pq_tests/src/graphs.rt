@@ -4,7 +4,8 @@ use std::alloc::Global;
 use std::process::Abort;
 use std::test::Fail;
 
-// Checks a verdict on a file of a kind, in both versions by what stands after its first line, and compares the line with what is wanted.
+// Checks a verdict on a file of a kind, in both versions by what stands after its first line, and compares
+// the line with what is wanted.
 fn judged_as(
     rt: &impl Abort,
     alloc: Global,
@@ -27,8 +28,8 @@ fn judged_as(
     Ok(())
 }
 
-// Solves a file of a kind that has no order: the verdict is of version 2, goes on as is wanted, and ends with some odd cycle, which a check
-// accepts. It accepts the cycle that is given, too.
+// Solves a file of a kind that has no order: the verdict is of version 2, goes on as is wanted, and ends with some odd
+// cycle, which a check accepts. It accepts the cycle that is given, too.
 fn unsolved_as(
     rt: &impl Abort,
     alloc: Global,
@@ -171,7 +172,8 @@ fn robinson_orders(rt: HostRuntime) -> Result<(), Fail> {
         b"3\n0 1 1\n1 0 1\n1 1 0\n",
         b"pq-verdict 2\nkind robinson\ncolumns 3\nanswer yes\ntree (1 2 3)\norder 1 2 3\nend\n",
     )?;
-    // Round each item of a cycle of four lies the ball of its two neighbours and itself: row 11 is that of item 4, and has 1, 3 and 4.
+    // Round each item of a cycle of four lies the ball of its two neighbours and itself: row 11 is that of
+    // item 4, and has 1, 3 and 4.
     unsolved_as(
         &rt,
         rt.alloc(),

@@ -32,8 +32,8 @@ mod tests {
     // The first line of a verdict of version 1, and of version 2.
     pub const FIRST_LINES: [&[u8]; 2] = [b"pq-verdict 1\n", b"pq-verdict 2\n"];
 
-    // A run: the words, the bytes of the file `matrix`, how many bytes the output and the line of errors have room for, and the status, the
-    // output and the line of errors that are wanted.
+    // A run: the words, the bytes of the file `matrix`, how many bytes the output and the line of errors have room for,
+    // and the status, the output and the line of errors that are wanted.
     #[derive(Drop)]
     struct Case {
         words: &'static [&'static str],
@@ -224,8 +224,8 @@ mod tests {
         )
     }
 
-    // Whether lines are an odd cycle of a matrix: their number is odd and at least 3, no pair comes twice, and the reason of each line joins
-    // its pair to that of the next line, and that of the last to the first.
+    // Whether lines are an odd cycle of a matrix: their number is odd and at least 3, no pair comes twice, and the
+    // reason of each line joins its pair to that of the next line, and that of the last to the first.
     fn is_odd_cycle(m: &Matrix, lines: &[Line]) -> bool {
         for (i, line) in lines.iter().enumerate() {
             let next = lines[(i + 1) % lines.len()];

@@ -1,10 +1,12 @@
-// Verdicts of both versions: a yes of version 2 has to have every order, a yes of version 1 has not, and a no says the same in both.
+// Verdicts of both versions: a yes of version 2 has to have every order, a yes of version 1 has not,
+// and a no says the same in both.
 use crate::tests::outcome_with;
 use std::alloc::Global;
 use std::process::Abort;
 use std::test::Fail;
 
-// A verdict on a file, by what stands after its first line, and the line that a check writes in version 1 and in version 2.
+// A verdict on a file, by what stands after its first line, and the line that a check writes
+// in version 1 and in version 2.
 #[derive(Drop)]
 struct Case {
     kind: &'static str,

@@ -2,7 +2,7 @@ use super::*;
 use std::process::Abort;
 use std::test::Fail;
 
-/// Asserts the text of a tree, and that of its canonical form.
+// Asserts the text of a tree, and that of its canonical form.
 fn assert_texts(
     rt: &impl Abort,
     alloc: Global,
@@ -60,7 +60,7 @@ fn a_tree_of_one_leaf(rt: HostRuntime) -> Result<(), Fail> {
     Ok(())
 }
 
-/// A P-node over P-nodes, 2,047 deep, over the columns 1 to 2,048 from right to left.
+// A P-node over P-nodes, 2,047 deep, over the columns 1 to 2,048 from right to left.
 fn deep_tree(alloc: Global) -> Result<Tree, NoMemory> {
     let mut tree = Tree::leaf(2048);
     for k in 0..2047 {

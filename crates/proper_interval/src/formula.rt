@@ -12,8 +12,9 @@ use std::alloc::Global;
 
 /// The intervals of an umbrella order, vertex by vertex: a proper model of the graph (Roberts, 1969).
 ///
-/// Among n vertices, that at position i, from 1, has the interval from (n+1)i to (n+1)r+i, where r is the last position j at
-/// or after i with j = i or an edge between the vertices at i and j. It takes time in proportion to the vertices and edges.
+/// Among n vertices, that at position i, from 1, has the interval from (n+1)i to (n+1)r+i, where r is the
+/// last position j at or after i with j = i or an edge between the vertices at i and j. It takes time in
+/// proportion to the vertices and edges.
 ///
 /// # Errors
 ///

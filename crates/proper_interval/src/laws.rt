@@ -9,17 +9,17 @@ pub fn closed_rows_law()
 
 /// Umbrella orders and valid orders of the closed rows (Roberts, 1969).
 ///
-/// In an umbrella order, for u before v before w, an edge uw implies the edges uv and vw. An order of the vertices is one
-/// exactly where it is a valid order of the closed rows.
+/// In an umbrella order, for u before v before w, an edge uw implies the edges uv and vw. An order of the vertices is
+/// one exactly where it is a valid order of the closed rows.
 pub fn umbrella_law()
     ensures { UmbrellaLaw }
 {}
 
 /// Proper models and umbrella orders (Roberts, 1969).
 ///
-/// A graph that has a proper model has an umbrella order. An umbrella order has exactly one list of the intervals of
-/// [`intervals`](crate::intervals), and it is a proper model. So a graph has a proper model exactly where its closed rows
-/// have a valid order.
+/// A graph that has a proper model has an umbrella order. An umbrella order has exactly one list of the intervals
+/// of [`intervals`](crate::intervals), and it is a proper model. So a graph has a proper model exactly where its
+/// closed rows have a valid order.
 pub fn model_law()
     ensures orders { ModelLaw }
     ensures models { IntervalsLaw }

@@ -10,8 +10,8 @@ use row_model::Interval;
 /// Whether a list of intervals, vertex by vertex, is a proper model of the graph (Roberts, 1969).
 ///
 /// True exactly where each left end is at most its right end, the intervals of two distinct vertices share a number
-/// exactly where there is an edge between them, and none contains another unless they are equal. It takes no memory, and
-/// time in proportion to the square of the number of vertices.
+/// exactly where there is an edge between them, and none contains another unless they are equal. It takes no memory,
+/// and time in proportion to the square of the number of vertices.
 pub fn fits(g: &Graph, list: &[Interval]) -> bool
     requires { length list.now ≡ g.now.vertices }
     ensures { IsTrue result ↔ IsProperModel g.now list.now }
@@ -34,8 +34,8 @@ fn are_in_order(list: &[Interval]) -> bool
     list.iter().all(|a| a.left <= a.right)
 }
 
-// Whether the interval at a place, of a vertex with these neighbours, fits that of each later vertex: it overlaps those of the
-// neighbours, and lies apart from all between them.
+// Whether the interval at a place, of a vertex with these neighbours, fits that of each later vertex: it overlaps those
+// of the neighbours, and lies apart from all between them.
 fn fits_later(list: &[Interval], at: usize, neighbours: &[u32]) -> bool
     requires at { at < length list.now }
     requires ordered { All EndsInOrder list.now }

@@ -7,10 +7,11 @@ use graph_read::Graph;
 use row_model::{Matrix, NoMemory};
 use std::alloc::Global;
 
-/// The closed rows of a graph (Roberts, 1969), as a matrix whose columns are the vertices: row v has v and its neighbours.
+/// The closed rows of a graph (Roberts, 1969), as a matrix whose columns are the vertices: row
+/// v has v and its neighbours.
 ///
-/// The valid orders of the rows are the umbrella orders of the graph, as [`umbrella_law`](crate::umbrella_law) says, and
-/// which row is whose says [`closed_rows_law`](crate::closed_rows_law).
+/// The valid orders of the rows are the umbrella orders of the graph, as [`umbrella_law`](crate::umbrella_law) says,
+/// and which row is whose says [`closed_rows_law`](crate::closed_rows_law).
 ///
 /// # Errors
 ///

@@ -1,8 +1,8 @@
 // Robinson orders and the valid orders of the balls. A call stands for the clauses alone.
 ghost use Rattle.robinson_balls.specs.Laws.{BallsLaw, FewBallsLaw, RobinsonLaw};
 
-/// Which ball is whose: the rows are the balls round each item, centre after centre, and for each centre one for each of its
-/// distances, in rising order. There are at most as many as pairs of items.
+/// Which ball is whose: the rows are the balls round each item, centre after centre, and for each centre one for each
+/// of its distances, in rising order. There are at most as many as pairs of items.
 pub fn balls_law()
     ensures rows { BallsLaw }
     ensures few { FewBallsLaw }

@@ -11,10 +11,10 @@ use std::alloc::Global;
 
 /// The balls of a table of distances (Mirkin and Rodin, 1984), as a matrix whose columns are the items.
 ///
-/// For each item x, from 1, and for each distance s of x from some item, itself included, in rising order and each once,
-/// a row has the items at a distance of at most s from x. The valid orders of the rows are the Robinson orders, as
-/// [`robinson_law`](crate::robinson_law) says, and which ball is whose says [`balls_law`](crate::balls_law). With n items
-/// there are at most n rows for each.
+/// For each item x, from 1, and for each distance s of x from some item, itself included, in rising order and each
+/// once, a row has the items at a distance of at most s from x. The valid orders of the rows are the Robinson orders,
+/// as [`robinson_law`](crate::robinson_law) says, and which ball is whose says [`balls_law`](crate::balls_law). With n
+/// items there are at most n rows for each.
 ///
 /// The items are sorted by distance once for each centre, and each ball is grown from the one before it.
 ///
@@ -33,7 +33,8 @@ pub fn balls(alloc: Global, d: &Distances) -> Result<Matrix, NoMemory>
     Ok(balls)
 }
 
-// Adds the balls round `x`: each is the one before it with the items at the next distance. The two lists are room to work in.
+// Adds the balls round `x`: each is the one before it with the items at the next distance. The
+// two lists are room to work in.
 fn push_balls(
     balls: &mut Matrix,
     neighbours: &mut Vec<Neighbour>,

@@ -147,8 +147,8 @@ impl Matrix {
         self.row(k)[i as usize - 1]
     }
 
-    /// Whether the order of the columns keeps every row: of any three positions, a row with the columns at the first and
-    /// the last has the column between them.
+    /// Whether the order of the columns keeps every row: of any three positions, a row with the columns at the first
+    /// and the last has the column between them.
     ///
     /// # Errors
     ///

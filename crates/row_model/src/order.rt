@@ -9,7 +9,8 @@ use crate::lists::Span;
 use column_order::COLUMN_BOUND;
 use std::alloc::Global;
 
-/// Whether a list is an order of the columns 1 to `c`: each of them stands in it exactly once, and no other number does.
+/// Whether a list is an order of the columns 1 to `c`: each of them stands in it exactly once,
+/// and no other number does.
 ///
 /// # Errors
 ///
@@ -48,8 +49,8 @@ pub fn positions(alloc: Global, order: &[u32]) -> Result<Vec<u32>, NoMemory>
     Ok(positions)
 }
 
-/// The span from the first to the last position of the row's columns in the order of these positions, or `None` where the
-/// row has no column.
+/// The span from the first to the last position of the row's columns in the order of these positions, or `None`
+/// where the row has no column.
 pub fn span_of(positions: &[u32], row: &[u32]) -> Option<Span>
     requires { IsWithin (length positions.now) row.now }
     ensures least { MatchOption result (row.now ≡ []) (λ span. IsSpan positions.now row.now span) }
@@ -71,8 +72,8 @@ pub fn span_of(positions: &[u32], row: &[u32]) -> Option<Span>
     if row.is_empty() { None } else { Some(span) }
 }
 
-/// Whether the order of these positions keeps the row: its columns stand at as many positions as there are from the first
-/// to the last.
+/// Whether the order of these positions keeps the row: its columns stand at as many positions as there
+/// are from the first to the last.
 pub fn is_kept(positions: &[u32], row: &[u32]) -> bool
     requires { IsRow (length positions.now) row.now }
     ensures { (o : List ℕ) →

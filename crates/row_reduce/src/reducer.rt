@@ -23,10 +23,12 @@ use step_count::{Ledger, Steps};
 use tied_law::{equivalent_law, universal_law};
 use total_work::ticks_law;
 
-/// A reducer whose tree stands in an arena. Each row is reduced in place, and looks at no more nodes than the row meets, up
-/// to a factor. A refused row changes nothing: the templates of all nodes are chosen before the first is applied.
+/// A reducer whose tree stands in an arena. Each row is reduced in place, and looks at no more nodes than
+/// the row meets, up to a factor. A refused row changes nothing: the templates of all nodes are chosen
+/// before the first is applied.
 ///
-/// [`new`](ArenaReducer::new) takes all memory that rows need, and [`tree`](Reducer::tree) that of the tree that it gives.
+/// [`new`](ArenaReducer::new) takes all memory that rows need, and [`tree`](Reducer::tree)
+/// that of the tree that it gives.
 #[derive(Drop)]
 pub struct ArenaReducer {
     arena: Arena,
@@ -76,14 +78,14 @@ impl ArenaReducer {
     /// Reduces the tree by row `k` of `m`, after the rows before it. Row numbers begin at 1. This is
     /// [`reduce`](Reducer::reduce), which never fails here.
     ///
-    /// It ticks at most 256 times for each node that the row meets, and 256 times more. Where the row is taken, it ticks at
-    /// most 252 times for each of these nodes at or below the smallest that holds the row, 252 times more, and four times
-    /// for each column of the row.
+    /// It ticks at most 256 times for each node that the row meets, and 256 times more. Where the row is taken, it
+    /// ticks at most 252 times for each of these nodes at or below the smallest that holds the row, 252 times more, and
+    /// four times for each column of the row.
     ///
-    /// All rows together are linear: 256 ticks are worth one unit of the tree's weight, the number of its Q-nodes and of the
-    /// children of its P-nodes (Booth and Lueker, 1976). A row that is taken pays what it ticks beyond 1024 times for each of
-    /// its columns, and 1024 times more, with weight that it takes from the tree. One that is refused ticks no more than that
-    /// and what all weight is worth.
+    /// All rows together are linear: 256 ticks are worth one unit of the tree's weight, the number of its Q-nodes and
+    /// of the children of its P-nodes (Booth and Lueker, 1976). A row that is taken pays what it ticks beyond 1024
+    /// times for each of its columns, and 1024 times more, with weight that it takes from the tree. One that is refused
+    /// ticks no more than that and what all weight is worth.
     pub fn reduce_row<L: Ledger>(&mut self, m: &Matrix, k: u32, steps: &mut Steps<L>) -> Step
         requires row { (1 ≤ k) × (k ≤ length m.now.rows) }
         requires columns { self.old.columns ≡ m.now.columns }

@@ -20,8 +20,9 @@ use step_count::{Ledger, Steps};
 use templates_p::apply_p2_to;
 use templates_q::{apply_q3, fits_q3};
 
-// Reduces the tree of the arena by row `k` of the matrix, numbered from 1, or leaves it as it is where no template stands
-// at some node. Most rows of a long list change nothing, and the full pass sees that in one look at each full node.
+// Reduces the tree of the arena by row `k` of the matrix, numbered from 1, or leaves it as it is where
+// no template stands at some node. Most rows of a long list change nothing, and the full pass sees that
+// in one look at each full node.
 pub fn reduce_arena<L: Ledger>(
     arena: &mut Arena,
     full: &mut FullWork,

@@ -1,5 +1,5 @@
-// Rows in turn over both reducers: after each row their canonical trees are the same. Some of the trees are worked out by
-// hand.
+// Rows in turn over both reducers: after each row their canonical trees are the same. Some of the
+// trees are worked out by hand.
 ghost use Rattle.std.specs.Prelude.{◌≡◌, ◌<◌, []};
 ghost use Rattle.tied_law.specs.Tied.{IsTied};
 

@@ -14,8 +14,8 @@ use bubble_pass::Work;
 use pq_arena::{Arena, NodeId};
 use step_count::{Ledger, Steps};
 
-/// Applies P3 at `node`, which is not the pertinent root: the answer is a new Q-node in its place and with its label, over
-/// the empty children, as one node, at one end and the full children, as one node, at the other.
+/// Applies P3 at `node`, which is not the pertinent root: the answer is a new Q-node in its place and with its label,
+/// over the empty children, as one node, at one end and the full children, as one node, at the other.
 ///
 /// It ticks at most 64 times for each labelled child, and 64 times more.
 pub fn apply_p3<L: Ledger>(
@@ -44,9 +44,9 @@ pub fn apply_p3<L: Ledger>(
     line
 }
 
-/// Applies P5 at `node`, which is not the pertinent root: the partial child takes its place, with the empty children, as
-/// one node, at its empty end and the full children, as one node, at its full end. The answer is that child, with the
-/// label of `node`.
+/// Applies P5 at `node`, which is not the pertinent root: the partial child takes its place, with the empty
+/// children, as one node, at its empty end and the full children, as one node, at its full end. The answer is that
+/// child, with the label of `node`.
 ///
 /// It ticks at most 64 times for each labelled child, and 64 times more.
 pub fn apply_p5<L: Ledger>(

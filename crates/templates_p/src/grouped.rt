@@ -38,8 +38,8 @@ pub fn apply_p2<L: Ledger>(
     node
 }
 
-/// Applies P2 at `node`, the pertinent root, where its full children are known without labels: the `members`, two or more
-/// and not all. They become the children of a new P-node, a child of `node`. No child may be partial.
+/// Applies P2 at `node`, the pertinent root, where its full children are known without labels: the `members`, two or
+/// more and not all. They become the children of a new P-node, a child of `node`. No child may be partial.
 ///
 /// It ticks twice for each member, and twice more.
 pub fn apply_p2_to<L: Ledger>(

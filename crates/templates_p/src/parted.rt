@@ -14,8 +14,8 @@ use bubble_pass::{Label, Work};
 use pq_arena::{Arena, NodeId, Shape};
 use step_count::{Ledger, Steps};
 
-// What is left of the P-node `node`, which stands alone, as one empty node that stands alone: its only child, and `node`
-// is given back then, or `node` itself.
+// What is left of the P-node `node`, which stands alone, as one empty node that stands alone: its only child, and
+// `node` is given back then, or `node` itself.
 fn empty_part<L: Ledger>(
     arena: &mut Arena,
     work: &mut Work,
@@ -43,8 +43,8 @@ fn empty_part<L: Ledger>(
     child
 }
 
-// Puts the child `line` of the P-node `node` in its place, and the other children of `node`, which are empty, as one node
-// at this end of it.
+// Puts the child `line` of the P-node `node` in its place, and the other children of `node`, which are empty,
+// as one node at this end of it.
 pub fn lift_line<L: Ledger>(
     arena: &mut Arena,
     work: &mut Work,
@@ -90,8 +90,8 @@ pub fn start_line<L: Ledger>(
     line
 }
 
-// Puts what the full children of the P-node `node` became at this end of its partial child `line`, which takes the place
-// of `node` where there is no other child. The answer is what stands there.
+// Puts what the full children of the P-node `node` became at this end of its partial child `line`, which takes the
+// place of `node` where there is no other child. The answer is what stands there.
 pub fn fill_line<L: Ledger>(
     arena: &mut Arena,
     work: &mut Work,

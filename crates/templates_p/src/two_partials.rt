@@ -16,8 +16,8 @@ use pq_arena::{Arena, NodeId};
 use step_count::{Ledger, Steps};
 
 /// Applies P6 at `node`, the pertinent root: the full children become one, at the full end of one partial child, and
-/// behind it come the children of the other, which is given back. Where there is no empty child, the Q-node that is left
-/// takes the place of `node`. The answer is what stands there.
+/// behind it come the children of the other, which is given back. Where there is no empty child, the Q-node that is
+/// left takes the place of `node`. The answer is what stands there.
 ///
 /// It ticks at most 64 times for each labelled child, and 64 times more.
 pub fn apply_p6<L: Ledger>(

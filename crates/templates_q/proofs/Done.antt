@@ -8,7 +8,7 @@ use Rattle.pq_plain.specs.Templates.{Partial, Label}
 use Rattle.bubble_pass.specs.Marks.{Marks}
 use Rattle.template_model.specs.Standing.{IsShapeAt, AreMarkedAs}
 use Rattle.template_model.specs.Treated.{IsTreated}
-use Rattle.templates_q.specs.declared.stretch.Stretch.{Stretch}
+use Rattle.templates_q.specs.declared.stretch.PassedSpan.{PassedSpan}
 use Rattle.templates_q.specs.Fits.{FitsQ2}
 use Rattle.templates_q.specs.Span.{IsStretch, StandsQ3, AreKeptBelow, BecomesQ3}
 use Rattle.templates_q.specs.Opening.{AreShaped, AreOpened}
@@ -31,7 +31,7 @@ pub record IsDone (f e : Layout) (w : Marks) (q : ℕ) (us : List ℕ) : Type 0 
   pub becomes : BecomesQ3 f e w q q
   pub left : (k : ℕ) → 1 ≤ occurs us k → 1 ≤ occurs (children_at e q) k
 
-pub q3_done : (f e : Layout) (w : Marks) (q : ℕ) (s : Stretch) (r : IsStretch f w q s) → IsLayout f → IsLayout e → IsOneTree f → HasTwoEach f → StandsQ3 f w q → AreOpened f e w q s r → IsDone f e w q r.us
+pub q3_done : (f e : Layout) (w : Marks) (q : ℕ) (s : PassedSpan) (r : IsStretch f w q s) → IsLayout f → IsLayout e → IsOneTree f → HasTwoEach f → StandsQ3 f w q → AreOpened f e w q s r → IsDone f e w q r.us
 q3_done f e w q s r hf he one two st o = record {
   treated = treated_twice f o.g e w q hf o.layout t.treated u.treated;
   below = below_twice f o.g e w q hf o.layout t.treated.arena t.below u.below;

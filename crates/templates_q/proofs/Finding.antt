@@ -8,9 +8,9 @@ use Rattle.pq_arena.specs.Looks.{node_named}
 use Rattle.bubble_pass.specs.declared.labels.Label.TheVariants.{Empty, Partial as Partly, Full}
 use Rattle.bubble_pass.specs.Marks.{Marks, label_at}
 use Rattle.bubble_pass.specs.Sweep.{full_one, partial_one}
-use Rattle.templates_q.specs.declared.walk.Gap.{Gap}
+use Rattle.templates_q.specs.declared.walk.ChildGap.{ChildGap}
 use Rattle.templates_q.specs.declared.walk.Passed.{Passed}
-use Rattle.templates_q.specs.Walk.{AreChildren, AreAll, IsGap, IsFirst, IsPassed, EndsWithout}
+use Rattle.templates_q.specs.Walk.{AreChildren, AreAll, IsChildGap, IsFirst, IsPassed, EndsWithout}
 use Rattle.templates_q.specs.Lines.{IsRunFrom}
 use Rattle.templates_q.specs.Splicing.{IsPartialLine}
 use Rattle.templates_q.proofs.Lists.{head_reverse, reverse_split}
@@ -33,7 +33,7 @@ read_fulls f w q ks (inl e) = ap (fulls_in w) e
 read_fulls f w q ks (inr e) = ap (fulls_in w) e ∙ sum_reverse (λ k. full_one (label_at w k)) ks
 
 -- the partial child is next, behind full ones and in front of empty ones
-pub record LineNext (f : Layout) (w : Marks) (q : ℕ) (gap : Gap) : Type 0 where
+pub record LineNext (f : Layout) (w : Marks) (q : ℕ) (gap : ChildGap) : Type 0 where
   pub us : List ℕ
   pub vs : List ℕ
   pub c : ℕ
@@ -46,24 +46,24 @@ none_partial : (w : Marks) (fs es : List ℕ) → AreAll Full w fs → AreAll Em
 none_partial w fs es a b =
     let x : partials_in w fs ≡ 0 = (count_full w fs a).1 in let y : partials_in w es ≡ 0 = (count_empty w es b).1 in omega (arith, partials_append w fs es)
 
-next_part : (f : Layout) (w : Marks) (q : ℕ) (fs ps es rest : List ℕ) (gap : Gap) → IsGap f q fs rest gap → rest ≡ ps ++ es → AreAll Full w fs → AreAll Partly w ps → length ps ≤ 1 → AreAll Empty w es →
+next_part : (f : Layout) (w : Marks) (q : ℕ) (fs ps es rest : List ℕ) (gap : ChildGap) → IsChildGap f q fs rest gap → rest ≡ ps ++ es → AreAll Full w fs → AreAll Partly w ps → length ps ≤ 1 → AreAll Empty w es →
     1 ≤ partials_in w (fs ++ (ps ++ es)) → LineNext f w q gap
 next_part f w q fs [] es rest gap g e a b one c some = absurd (let z : partials_in w (fs ++ es) ≡ 0 = none_partial w fs es a c in omega arith)
-next_part f w q fs (x ∷ []) es rest gap g e a b one c some = record { us = fs; vs = es; c = x; first = subst (λ z. IsGap f q fs z gap) e g; full = a; partial = b.0; empty = c }
+next_part f w q fs (x ∷ []) es rest gap g e a b one c some = record { us = fs; vs = es; c = x; first = subst (λ z. IsChildGap f q fs z gap) e g; full = a; partial = b.0; empty = c }
 next_part f w q fs (x ∷ y ∷ ps) es rest gap g e a b one c some = absurd (omega arith)
 
 -- so where the walk over full children of a run stops
-pub line_next : (f : Layout) (w : Marks) (q : ℕ) (ks : List ℕ) (p : Passed) → IsPassed Full f w q [] ks p → ((q : ℕ) (us vs : List ℕ) → IsGap f q us vs p.gap → EndsWithout Full w vs) →
+pub line_next : (f : Layout) (w : Marks) (q : ℕ) (ks : List ℕ) (p : Passed) → IsPassed Full f w q [] ks p → ((q : ℕ) (us vs : List ℕ) → IsChildGap f q us vs p.gap → EndsWithout Full w vs) →
     IsRunFrom w ks → 1 ≤ partials_in w ks → LineNext f w q p.gap
 line_next f w q ks p m stops run some =
     let l = run.line in
     let k = same_cut w m.ks m.rest l.fulls (l.parts ++ l.empties) (sym m.is ∙ l.is) m.marked l.full (stops q m.ks m.rest m.gap) (behind_fulls w l.parts l.empties l.partial l.empty) in
     next_part f w q m.ks l.parts l.empties m.rest p.gap m.gap k.rest m.marked l.partial l.one l.empty (subst (λ z. 1 ≤ partials_in w z) (m.is ∙ ap (λ z. m.ks ++ z) k.rest) some)
 
-pub line_shown : (f : Layout) (w : Marks) (q : ℕ) (gap : Gap) → IsLayout f → LineNext f w q gap → gap.next ≡ None → ⊥
+pub line_shown : (f : Layout) (w : Marks) (q : ℕ) (gap : ChildGap) → IsLayout f → LineNext f w q gap → gap.next ≡ None → ⊥
 line_shown f w q gap h n e = let k : n.c ∷ n.vs ≡ [] = next_none f q n.us (n.c ∷ n.vs) gap h n.first e in cc
 
-pub line_found : (f : Layout) (w : Marks) (q : ℕ) (gap : Gap) (child : NodeId) → IsLayout f → LineNext f w q gap → gap.next ≡ Some child →
+pub line_found : (f : Layout) (w : Marks) (q : ℕ) (gap : ChildGap) (child : NodeId) → IsLayout f → LineNext f w q gap → gap.next ≡ Some child →
     IsPartialLine f w q (record { child = child; towards = gap.before })
 line_found f w q gap child h n e =
     let i = next_is f q n.us (n.c ∷ n.vs) gap child h n.first e in

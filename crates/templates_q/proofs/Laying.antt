@@ -21,7 +21,7 @@ use Rattle.bubble_pass.specs.declared.labels.Label.TheVariants.{Empty, Full}
 use Rattle.bubble_pass.specs.Marks.{Marks, label_at}
 use Rattle.template_model.specs.Standing.{child_trees, IsShapeAt, AreMarkedAs}
 use Rattle.template_model.specs.Treated.{StandsFor}
-use Rattle.templates_q.specs.declared.stretch.Stretch.{Stretch}
+use Rattle.templates_q.specs.declared.stretch.PassedSpan.{PassedSpan}
 use Rattle.templates_q.specs.Walk.{AreChildren, AreAll}
 use Rattle.templates_q.specs.Fits.{FitsQ2}
 use Rattle.templates_q.specs.Span.{IsStretch, BecomesQ3}
@@ -127,7 +127,7 @@ laid_order us ms fs ns rest =
     reverse_three (reverse rest) ns (reverse (us ++ (ms ++ fs))) ∙ ap (λ z. z ++ (reverse ns ++ reverse (reverse rest))) (reverse-reverse (us ++ (ms ++ fs)))
     ∙ ap (λ z. (us ++ (ms ++ fs)) ++ (reverse ns ++ z)) (reverse-reverse rest) ∙ append_assoc us (ms ++ fs) (reverse ns ++ rest) ∙ ap (λ z. us ++ z) (append_assoc ms fs (reverse ns ++ rest))
 
-pub laid_out : (f e : Layout) (w : Marks) (q : ℕ) (s : Stretch) (r : IsStretch f w q s) (h k : Option Partial) → IsLayout f → IsLayout e → AreOpened f e w q s r → IsPart (IsShapeAt f w) w r.passed.ps h →
+pub laid_out : (f e : Layout) (w : Marks) (q : ℕ) (s : PassedSpan) (r : IsStretch f w q s) (h k : Option Partial) → IsLayout f → IsLayout e → AreOpened f e w q s r → IsPart (IsShapeAt f w) w r.passed.ps h →
     IsPart (IsShapeAt f w) w r.passed.ls k → IsLaidOut f e q r.us r.passed.fs r.passed.rest h k
 laid_out f e w q s r h k hf he o ph pk = record { is_q = b.is_q; laid = made }
   where
@@ -181,7 +181,7 @@ pub q2_other : (f : Layout) (w : Marks) (q : ℕ) (ps rs : List Label) → AreMa
 q2_other f w q ps rs m n fits = line_fits f w q rs fits.0 n (fitting_some f w q ps m fits) (fitting_line f w q ps m fits)
 
 -- what stands after the two steps
-pub q3_becomes : (f e : Layout) (w : Marks) (q : ℕ) (s : Stretch) (r : IsStretch f w q s) → IsLayout f → IsLayout e → IsAlone w r.us r.passed.rest → AreOpened f e w q s r →
+pub q3_becomes : (f e : Layout) (w : Marks) (q : ℕ) (s : PassedSpan) (r : IsStretch f w q s) → IsLayout f → IsLayout e → IsAlone w r.us r.passed.rest → AreOpened f e w q s r →
     ((rs : List Label) → AreMarkedAs f w q rs → FitsQ2 f q rs → ⊥) → BecomesQ3 f e w q q
 q3_becomes f e w q s r hf he alone o lacks rs m shapes = by (front_place f w q s r).children
   where

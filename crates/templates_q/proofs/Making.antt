@@ -18,7 +18,7 @@ use Rattle.bubble_pass.specs.declared.labels.Label.TheVariants.{Empty, Partial a
 use Rattle.bubble_pass.specs.Marks.{Marks, label_at}
 use Rattle.template_model.specs.Standing.{mark_of, child_trees, IsShapeAt, AreMarkedAs, AreShapesAt}
 use Rattle.template_model.specs.Treated.{StandsForPartial}
-use Rattle.templates_q.specs.declared.q2.Line.{Line}
+use Rattle.templates_q.specs.declared.q2.PartialLine.{PartialLine}
 use Rattle.templates_q.specs.Walk.{AreChildren, AreAll}
 use Rattle.templates_q.specs.Splicing.{IsLineIn, IsSplicedIn, IsPartialLine}
 use Rattle.templates_q.proofs.Lists.{reverse_split}
@@ -74,7 +74,7 @@ shape_of f w (k ∷ ks) (partial_label h ∷ ps) c m s o l = elim (cases_eq c k)
   | inr ne ↦ shape_of f w ks ps c (cons_tail _ _ _ _ m) s.1 (subst (λ z. 1 ≤ z) (occurs_other k c ks ne) o) l
 ]
 
-pub line_shape : (f : Layout) (w : Marks) (q : ℕ) (line : Line) (ps : List Label) → AreMarkedAs f w q ps → AreShapesAt f w (children_at f q) ps → IsPartialLine f w q line →
+pub line_shape : (f : Layout) (w : Marks) (q : ℕ) (line : PartialLine) (ps : List Label) → AreMarkedAs f w q ps → AreShapesAt f w (children_at f q) ps → IsPartialLine f w q line →
     (h : Partial) × IsShapeAt f w line.child.index h
 line_shape f w q line ps m s l =
     let c : ℕ = line.child.index in
@@ -196,7 +196,7 @@ not_between f w q c us vs es fs x y ee ff p =
       | inr l ↦ full_partial (sym (all_has Full w fs c ff (omega arith)) ∙ p)
     ]
 
-module _ (f g : Layout) (w : Marks) (q : ℕ) (line : Line) (lf : IsLayout f) (lg : IsLayout g) (two : HasTwoEach f) (l : IsPartialLine f w q line)
+module _ (f g : Layout) (w : Marks) (q : ℕ) (line : PartialLine) (lf : IsLayout f) (lg : IsLayout g) (two : HasTwoEach f) (l : IsPartialLine f w q line)
     (spliced : (q : ℕ) (us vs : List ℕ) (h : Partial) → IsLineIn f q line.child.index us vs line.towards → (s : IsShapeAt f w line.child.index h) → IsSplicedIn f g q line.child.index us (s.es ++ s.fs) vs) where
   pub line_spliced : (h : Partial) (s : IsShapeAt f w line.child.index h) → AreSplicedIn f g q line.child.index l.us (s.es ++ s.fs) l.vs
   line_spliced h s = are_spliced f g w q line.child.index l.us l.vs h lf lg l.place.is_q s (spliced q l.us l.vs h l.place s)

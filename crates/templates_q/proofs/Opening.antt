@@ -16,9 +16,9 @@ use Rattle.pq_plain.specs.Templates.{Partial, line_if}
 use Rattle.bubble_pass.specs.declared.labels.Label.TheVariants.{Partial as Partly}
 use Rattle.bubble_pass.specs.Marks.{Marks, size_of}
 use Rattle.template_model.specs.Standing.{IsShapeAt}
-use Rattle.templates_q.specs.declared.walk.Gap.{Gap}
-use Rattle.templates_q.specs.declared.stretch.Stretch.{Stretch}
-use Rattle.templates_q.specs.Walk.{AreChildren, AreAll, IsGap, IsFirst}
+use Rattle.templates_q.specs.declared.walk.ChildGap.{ChildGap}
+use Rattle.templates_q.specs.declared.stretch.PassedSpan.{PassedSpan}
+use Rattle.templates_q.specs.Walk.{AreChildren, AreAll, IsChildGap, IsFirst}
 use Rattle.templates_q.specs.Span.{IsStretch}
 use Rattle.templates_q.specs.Splicing.{IsLineIn, IsSplicedIn}
 use Rattle.templates_q.specs.Opening.{CanOpen, CanOpenCounted, AreShaped, IsOpenedAt}
@@ -27,20 +27,20 @@ use Rattle.templates_q.proofs.Runs.{IsPart}
 use Rattle.templates_q.proofs.Splicing.{all_has, AreSplicedIn, are_spliced, spliced_shape, spliced_tree, shape_kept}
 
 -- the neighbour of x behind it
-pub line_in : (f : Layout) (q : ℕ) (us vs : List ℕ) (x : ℕ) (from to : Gap) → IsFirst f q us x vs from → IsGap f q (us ++ x ∷ []) vs to → IsLineIn f q x us vs to.next
+pub line_in : (f : Layout) (q : ℕ) (us vs : List ℕ) (x : ℕ) (from to : ChildGap) → IsFirst f q us x vs from → IsChildGap f q (us ++ x ∷ []) vs to → IsLineIn f q x us vs to.next
 line_in f q us vs x from to a b = record { is_q = a.is_q; children = a.children; towards_is = b.next }
 
 head_same : (x y : ℕ) (xs ys : List ℕ) → x ∷ xs ≡ y ∷ ys → x ≡ y
 head_same x y xs ys e = cc
 
 -- the one node that comes next
-pub open_one : (f : Layout) (w : Marks) (from : Gap) (x : NodeId) → IsLayout f → CanOpenCounted f w from 1 → from.next ≡ Some x → CanOpen f w from x.index
+pub open_one : (f : Layout) (w : Marks) (from : ChildGap) (x : NodeId) → IsLayout f → CanOpenCounted f w from 1 → from.next ≡ Some x → CanOpen f w from x.index
 open_one f w from x h c e = by c.xs (c.place (some c.many)) c.many c.shape
   where
     some : length c.xs ≡ 1 → 1 ≤ length c.xs
     some n = omega arith
 
-    by : (xs : List ℕ) → IsGap f c.q c.us (xs ++ c.vs) from → length xs ≡ 1 → ((k : ℕ) → 1 ≤ occurs xs k → (h : Partial) × IsShapeAt f w k h) → CanOpen f w from x.index
+    by : (xs : List ℕ) → IsChildGap f c.q c.us (xs ++ c.vs) from → length xs ≡ 1 → ((k : ℕ) → 1 ≤ occurs xs k → (h : Partial) × IsShapeAt f w k h) → CanOpen f w from x.index
     by [] g n s = absurd (omega arith)
     by (y ∷ y' ∷ xs) g n s = absurd (omega arith)
     by (y ∷ []) g n s =
@@ -49,7 +49,7 @@ open_one f w from x h c e = by c.xs (c.place (some c.many)) c.many c.shape
         let t = s y (occurs_here y []) in
         record { two = c.two; room = c.room; q = c.q; us = c.us; vs = c.vs; place = subst (λ z. IsFirst f c.q c.us z c.vs from) yx g; h = t.0; shape = subst (λ z. IsShapeAt f w z t.0) yx t.1 }
 
-pub opened_one : (f g : Layout) (w : Marks) (q : ℕ) (us xs vs : List ℕ) (from : Gap) (x : NodeId) → IsLayout f → from.next ≡ Some x → (1 ≤ length xs → IsGap f q us (xs ++ vs) from) → length xs ≡ 1 →
+pub opened_one : (f g : Layout) (w : Marks) (q : ℕ) (us xs vs : List ℕ) (from : ChildGap) (x : NodeId) → IsLayout f → from.next ≡ Some x → (1 ≤ length xs → IsChildGap f q us (xs ++ vs) from) → length xs ≡ 1 →
     ((q : ℕ) (us vs : List ℕ) (h : Partial) → IsFirst f q us x.index vs from → (s : IsShapeAt f w x.index h) → IsSplicedIn f g q x.index us (s.es ++ s.fs) vs) → IsOpenedAt f g w q from xs
 opened_one f g w q us [] vs from x h e gap n made = absurd (omega arith)
 opened_one f g w q us (y ∷ y' ∷ xs) vs from x h e gap n made = absurd (omega arith)
@@ -58,21 +58,21 @@ opened_one f g w q us (y ∷ []) vs from x h e gap n made =
     let yx : x.index ≡ y = sym (head_same y x.index vs i.rest i.is) in
     subst (λ z. (us vs : List ℕ) (h : Partial) → IsFirst f q us z vs from → (s : IsShapeAt f w z h) → IsSplicedIn f g q z us (s.es ++ s.fs) vs) yx (made q)
 
-pub opened_none : (f : Layout) (w : Marks) (q : ℕ) (xs : List ℕ) (from : Gap) → length xs ≡ 0 → IsOpenedAt f f w q from xs
+pub opened_none : (f : Layout) (w : Marks) (q : ℕ) (xs : List ℕ) (from : ChildGap) → length xs ≡ 0 → IsOpenedAt f f w q from xs
 opened_none f w q [] from n = refl
 opened_none f w q (x ∷ xs) from n = absurd (omega arith)
 
-pub open_some : (f : Layout) (w : Marks) (from : Gap) → IsLayout f → CanOpenCounted f w from 1 → from.next ≡ None → ⊥
+pub open_some : (f : Layout) (w : Marks) (from : ChildGap) → IsLayout f → CanOpenCounted f w from 1 → from.next ≡ None → ⊥
 open_some f w from h c e = by c.xs (c.place (some c.many)) c.many
   where
     some : length c.xs ≡ 1 → 1 ≤ length c.xs
     some n = omega arith
 
-    by : (xs : List ℕ) → IsGap f c.q c.us (xs ++ c.vs) from → length xs ≡ 1 → ⊥
+    by : (xs : List ℕ) → IsChildGap f c.q c.us (xs ++ c.vs) from → length xs ≡ 1 → ⊥
     by [] g n = omega arith
     by (y ∷ xs) g n = let z : y ∷ (xs ++ c.vs) ≡ [] = next_none f c.q c.us (y ∷ (xs ++ c.vs)) from h g e in cc
 
-pub open_is_one : (f : Layout) (w : Marks) (from : Gap) (count : ℕ) → CanOpenCounted f w from count → count ≢ 0 → count ≡ 1
+pub open_is_one : (f : Layout) (w : Marks) (from : ChildGap) (count : ℕ) → CanOpenCounted f w from count → count ≢ 0 → count ≡ 1
 open_is_one f w from count c ne = let a : length c.xs ≡ count = c.many in let b : length c.xs ≤ 1 = c.one in omega arith
 
 -- what one such step leaves, by what the partial child stands for
@@ -89,12 +89,12 @@ shape_trees f w x h s =
     ap forest (map-append (outline_below f) s.es s.fs) ∙ forest_append (map (outline_below f) s.es) (map (outline_below f) s.fs)
     ∙ ap (λ z. join z (forest (map (outline_below f) s.fs))) (sym s.empty_trees) ∙ ap (join h.e) (sym s.full_trees)
 
-pub opened_list : (f g : Layout) (w : Marks) (q x : ℕ) (us vs : List ℕ) (from : Gap) (h : Partial) → IsLayout f → IsLayout g → IsFirst f q us x vs from → IsOpenedAt f g w q from (x ∷ []) → (s : IsShapeAt f w x h) →
+pub opened_list : (f g : Layout) (w : Marks) (q x : ℕ) (us vs : List ℕ) (from : ChildGap) (h : Partial) → IsLayout f → IsLayout g → IsFirst f q us x vs from → IsOpenedAt f g w q from (x ∷ []) → (s : IsShapeAt f w x h) →
     AreSplicedIn f g q x us (s.es ++ s.fs) vs
 opened_list f g w q x us vs from h lf lg gap o s = are_spliced f g w q x us vs h lf lg gap.is_q s (o us vs h gap s)
 
-pub open_step : (f g : Layout) (w : Marks) (q : ℕ) (us ps vs : List ℕ) (from : Gap) (h : Option Partial) → IsLayout f → IsLayout g → shape_at f q ≡ Some Q → AreChildren f q (us ++ (ps ++ vs)) →
-    (1 ≤ length ps → IsGap f q us (ps ++ vs) from) → IsOpenedAt f g w q from ps → IsPart (IsShapeAt f w) w ps h → IsOpenStep f g w q us ps vs h
+pub open_step : (f g : Layout) (w : Marks) (q : ℕ) (us ps vs : List ℕ) (from : ChildGap) (h : Option Partial) → IsLayout f → IsLayout g → shape_at f q ≡ Some Q → AreChildren f q (us ++ (ps ++ vs)) →
+    (1 ≤ length ps → IsChildGap f q us (ps ++ vs) from) → IsOpenedAt f g w q from ps → IsPart (IsShapeAt f w) w ps h → IsOpenStep f g w q us ps vs h
 open_step f g w q us [] vs from None lf lg iq ch gap o p =
     subst (λ z. IsOpenStep f z w q us [] vs None) (sym o)
     (record { ms = []; trees = refl; is_q = iq; new = ch; same = λ k i. refl; shapes = λ k h i s. s })
@@ -130,26 +130,26 @@ part_kept f g w q (x ∷ y ∷ ls) None kept there p = absurd p
 part_kept f g w q (x ∷ y ∷ ls) (Some h) kept there p = absurd p
 
 -- the place in front of the first partial child
-pub front_place : (f : Layout) (w : Marks) (q : ℕ) (s : Stretch) (r : IsStretch f w q s) → IsGap f q r.us (r.passed.ps ++ (r.passed.fs ++ (r.passed.ls ++ r.passed.rest))) s.from
-front_place f w q s r = subst (λ z. IsGap f q r.us z s.from) r.passed.is r.passed.from
+pub front_place : (f : Layout) (w : Marks) (q : ℕ) (s : PassedSpan) (r : IsStretch f w q s) → IsChildGap f q r.us (r.passed.ps ++ (r.passed.fs ++ (r.passed.ls ++ r.passed.rest))) s.from
+front_place f w q s r = subst (λ z. IsChildGap f q r.us z s.from) r.passed.is r.passed.from
 
 pub shapes_in : (f : Layout) (w : Marks) (q : ℕ) (ks xs : List ℕ) → AreShaped f w q → AreChildren f q ks → AreAll Partly w xs → ((k : ℕ) → 1 ≤ occurs xs k → 1 ≤ occurs ks k) → (k : ℕ) → 1 ≤ occurs xs k →
     (h : Partial) × IsShapeAt f w k h
 shapes_in f w q ks xs s c a there k o = s k (let i : 1 ≤ occurs ks k = there k o in omega (arith, children_occur f q ks k c)) (all_has Partly w xs k a o)
 
-pub first_shapes : (f : Layout) (w : Marks) (q : ℕ) (s : Stretch) (r : IsStretch f w q s) → AreShaped f w q → (k : ℕ) → 1 ≤ occurs r.passed.ps k → (h : Partial) × IsShapeAt f w k h
+pub first_shapes : (f : Layout) (w : Marks) (q : ℕ) (s : PassedSpan) (r : IsStretch f w q s) → AreShaped f w q → (k : ℕ) → 1 ≤ occurs r.passed.ps k → (h : Partial) × IsShapeAt f w k h
 first_shapes f w q s r shaped =
     let p = r.passed in
     shapes_in f w q (r.us ++ (p.ps ++ (p.fs ++ (p.ls ++ p.rest)))) p.ps shaped (front_place f w q s r).children p.first
     (λ k o. omega (arith, occurs-append r.us (p.ps ++ (p.fs ++ (p.ls ++ p.rest))) k, occurs-append p.ps (p.fs ++ (p.ls ++ p.rest)) k))
 
-pub last_shapes : (f : Layout) (w : Marks) (q : ℕ) (s : Stretch) (r : IsStretch f w q s) → AreShaped f w q → (k : ℕ) → 1 ≤ occurs r.passed.ls k → (h : Partial) × IsShapeAt f w k h
+pub last_shapes : (f : Layout) (w : Marks) (q : ℕ) (s : PassedSpan) (r : IsStretch f w q s) → AreShaped f w q → (k : ℕ) → 1 ≤ occurs r.passed.ls k → (h : Partial) × IsShapeAt f w k h
 last_shapes f w q s r shaped =
     let p = r.passed in
     shapes_in f w q (r.us ++ (p.ps ++ (p.fs ++ (p.ls ++ p.rest)))) p.ls shaped (front_place f w q s r).children p.last
     (λ k o. omega (arith, occurs-append r.us (p.ps ++ (p.fs ++ (p.ls ++ p.rest))) k, occurs-append p.ps (p.fs ++ (p.ls ++ p.rest)) k, occurs-append p.fs (p.ls ++ p.rest) k, occurs-append p.ls p.rest k))
 
-pub can_first : (f : Layout) (w : Marks) (q : ℕ) (s : Stretch) (r : IsStretch f w q s) → HasTwoEach f → size_of w ≡ length f.slots → AreShaped f w q → CanOpenCounted f w s.from s.first.count
+pub can_first : (f : Layout) (w : Marks) (q : ℕ) (s : PassedSpan) (r : IsStretch f w q s) → HasTwoEach f → size_of w ≡ length f.slots → AreShaped f w q → CanOpenCounted f w s.from s.first.count
 can_first f w q s r two room shaped = let p = r.passed in record {
   two = two;
   room = room;
@@ -183,14 +183,14 @@ last_is xs [] a b ys = absurd (omega arith)
 last_is xs (l ∷ []) a b ys = last_or-append xs (l ∷ []) none
 last_is xs (l ∷ l' ∷ ls) a b ys = absurd (omega arith)
 
-pub back_children : (f g : Layout) (w : Marks) (q : ℕ) (s : Stretch) (r : IsStretch f w q s) (h : Option Partial) (o : IsOpenStep f g w q r.us r.passed.ps (r.passed.fs ++ (r.passed.ls ++ r.passed.rest)) h) →
+pub back_children : (f g : Layout) (w : Marks) (q : ℕ) (s : PassedSpan) (r : IsStretch f w q s) (h : Option Partial) (o : IsOpenStep f g w q r.us r.passed.ps (r.passed.fs ++ (r.passed.ls ++ r.passed.rest)) h) →
     AreChildren g q (reverse r.passed.rest ++ (r.passed.ls ++ reverse (r.us ++ (o.ms ++ r.passed.fs))))
 back_children f g w q s r h o = let p = r.passed in
     subst (AreChildren g q) (sym (turn_back r.us o.ms p.fs p.ls p.rest) ∙ ap (λ z. reverse p.rest ++ (z ++ reverse (r.us ++ (o.ms ++ p.fs)))) (single p.ls p.one_more))
     (turned_children g q (r.us ++ (o.ms ++ (p.fs ++ (p.ls ++ p.rest)))) o.new)
 
-pub back_place : (f g : Layout) (w : Marks) (q : ℕ) (s : Stretch) (r : IsStretch f w q s) (h : Option Partial) (o : IsOpenStep f g w q r.us r.passed.ps (r.passed.fs ++ (r.passed.ls ++ r.passed.rest)) h) → 1 ≤ length r.passed.ls →
-    IsGap g q (reverse r.passed.rest) (r.passed.ls ++ reverse (r.us ++ (o.ms ++ r.passed.fs))) (record { before = s.last.gap.next; next = s.last.gap.before })
+pub back_place : (f g : Layout) (w : Marks) (q : ℕ) (s : PassedSpan) (r : IsStretch f w q s) (h : Option Partial) (o : IsOpenStep f g w q r.us r.passed.ps (r.passed.fs ++ (r.passed.ls ++ r.passed.rest)) h) → 1 ≤ length r.passed.ls →
+    IsChildGap g q (reverse r.passed.rest) (r.passed.ls ++ reverse (r.us ++ (o.ms ++ r.passed.fs))) (record { before = s.last.gap.next; next = s.last.gap.before })
 back_place f g w q s r h o some = let p = r.passed in record {
   is_q = o.is_q;
   children = back_children f g w q s r h o;
@@ -201,16 +201,16 @@ back_place f g w q s r h o some = let p = r.passed in record {
 }
 
 -- the second step, in the arena g that the first one left
-pub last_there : (f g : Layout) (w : Marks) (q : ℕ) (s : Stretch) (r : IsStretch f w q s) (h : Option Partial) (o : IsOpenStep f g w q r.us r.passed.ps (r.passed.fs ++ (r.passed.ls ++ r.passed.rest)) h) → (k : ℕ) → 1 ≤ occurs r.passed.ls k →
+pub last_there : (f g : Layout) (w : Marks) (q : ℕ) (s : PassedSpan) (r : IsStretch f w q s) (h : Option Partial) (o : IsOpenStep f g w q r.us r.passed.ps (r.passed.fs ++ (r.passed.ls ++ r.passed.rest)) h) → (k : ℕ) → 1 ≤ occurs r.passed.ls k →
     1 ≤ occurs (children_at g q) k
 last_there f g w q s r h o k i = let p = r.passed in let xs = reverse (r.us ++ (o.ms ++ p.fs)) in
     omega (arith, children_occur g q (reverse p.rest ++ (p.ls ++ xs)) k (back_children f g w q s r h o), occurs-append (reverse p.rest) (p.ls ++ xs) k, occurs-append p.ls xs k)
 
-pub back_shapes : (f g : Layout) (w : Marks) (q : ℕ) (s : Stretch) (r : IsStretch f w q s) (h : Option Partial) (o : IsOpenStep f g w q r.us r.passed.ps (r.passed.fs ++ (r.passed.ls ++ r.passed.rest)) h) → AreShaped f w q → (k : ℕ) → 1 ≤ occurs r.passed.ls k →
+pub back_shapes : (f g : Layout) (w : Marks) (q : ℕ) (s : PassedSpan) (r : IsStretch f w q s) (h : Option Partial) (o : IsOpenStep f g w q r.us r.passed.ps (r.passed.fs ++ (r.passed.ls ++ r.passed.rest)) h) → AreShaped f w q → (k : ℕ) → 1 ≤ occurs r.passed.ls k →
     (h : Partial) × IsShapeAt g w k h
 back_shapes f g w q s r h o shaped k i = let t = last_shapes f w q s r shaped k i in (t.0, o.shapes k t.0 (last_there f g w q s r h o k i) t.1)
 
-pub can_last : (f g : Layout) (w : Marks) (q : ℕ) (s : Stretch) (r : IsStretch f w q s) (h : Option Partial) (o : IsOpenStep f g w q r.us r.passed.ps (r.passed.fs ++ (r.passed.ls ++ r.passed.rest)) h) → HasTwoEach g → size_of w ≡ length g.slots →
+pub can_last : (f g : Layout) (w : Marks) (q : ℕ) (s : PassedSpan) (r : IsStretch f w q s) (h : Option Partial) (o : IsOpenStep f g w q r.us r.passed.ps (r.passed.fs ++ (r.passed.ls ++ r.passed.rest)) h) → HasTwoEach g → size_of w ≡ length g.slots →
     AreShaped f w q → CanOpenCounted g w (record { before = s.last.gap.next; next = s.last.gap.before }) s.last.count
 can_last f g w q s r h o two room shaped = let p = r.passed in record {
   two = two;
@@ -230,10 +230,10 @@ pub same_room : (f g : Layout) (w : Marks) → IsLayout f → IsLayout g → g.c
 same_room f g w hf hg e room = let a : length f.slots ≡ 2 * f.columns + 4 = hf.size in let b : length g.slots ≡ 2 * g.columns + 4 = hg.size in omega arith
 
 -- the first step of two
-pub front_step : (f g : Layout) (w : Marks) (q : ℕ) (s : Stretch) (r : IsStretch f w q s) (h : Option Partial) → IsLayout f → IsLayout g → IsOpenedAt f g w q s.from r.passed.ps → IsPart (IsShapeAt f w) w r.passed.ps h →
+pub front_step : (f g : Layout) (w : Marks) (q : ℕ) (s : PassedSpan) (r : IsStretch f w q s) (h : Option Partial) → IsLayout f → IsLayout g → IsOpenedAt f g w q s.from r.passed.ps → IsPart (IsShapeAt f w) w r.passed.ps h →
     IsOpenStep f g w q r.us r.passed.ps (r.passed.fs ++ (r.passed.ls ++ r.passed.rest)) h
 front_step f g w q s r h hf hg o p = let pass = r.passed in
     open_step f g w q r.us pass.ps (pass.fs ++ (pass.ls ++ pass.rest)) s.from h hf hg pass.from.is_q (front_place f w q s r).children (λ some. front_place f w q s r) o p
 
-pub front_part : (f : Layout) (w : Marks) (q : ℕ) (s : Stretch) (r : IsStretch f w q s) → AreShaped f w q → (h : Option Partial) × IsPart (IsShapeAt f w) w r.passed.ps h
+pub front_part : (f : Layout) (w : Marks) (q : ℕ) (s : PassedSpan) (r : IsStretch f w q s) → AreShaped f w q → (h : Option Partial) × IsPart (IsShapeAt f w) w r.passed.ps h
 front_part f w q s r shaped = part_of f w r.passed.ps r.passed.first r.passed.one (first_shapes f w q s r shaped)

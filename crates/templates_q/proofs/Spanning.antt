@@ -22,7 +22,7 @@ use Rattle.bubble_pass.specs.Marks.{Marks, label_at, first_of, IsFollowed}
 use Rattle.bubble_pass.specs.Pass.{IsRightAt}
 use Rattle.bubble_pass.specs.Sweep.{full_one, partial_one}
 use Rattle.template_model.specs.Standing.{AreMarkedAs, IsInRun}
-use Rattle.templates_q.specs.declared.stretch.Stretch.{Stretch}
+use Rattle.templates_q.specs.declared.stretch.PassedSpan.{PassedSpan}
 use Rattle.templates_q.specs.Walk.{AreChildren, AreAll, EndsWithout}
 use Rattle.templates_q.specs.Lines.{AreCounted, IsFullFirst}
 use Rattle.templates_q.specs.Fits.{FitsQ2, FitsQ3}
@@ -109,7 +109,7 @@ pub record IsAlone (w : Marks) (us rest : List ℕ) : Type 0 where
   pub before : AreAll Empty w us
   pub behind : AreAll Empty w rest
 
-pub line_alone : (f : Layout) (w : Marks) (q : ℕ) (s : Stretch) (r : IsStretch f w q s) → SpanLine w (r.us ++ r.vs) → IsAlone w r.us r.passed.rest
+pub line_alone : (f : Layout) (w : Marks) (q : ℕ) (s : PassedSpan) (r : IsStretch f w q s) → SpanLine w (r.us ++ r.vs) → IsAlone w r.us r.passed.rest
 line_alone f w q s r line =
     let p = r.passed in let d : IsLed w r.us r.vs = led w r.us r.vs line r.before r.some in
     record {
@@ -117,7 +117,7 @@ line_alone f w q s r line =
       behind = span_rest w p.ps p.fs p.ls p.rest (subst (SpanLine w) p.is d.line) (subst (BeginsLabelled w) p.is r.some) p.first p.one p.full p.last p.one_more p.no_first p.no_full p.no_last;
     }
 
-pub alone_parts : (f : Layout) (w : Marks) (q : ℕ) (s : Stretch) (r : IsStretch f w q s) → IsAlone w r.us r.passed.rest → IsSpanLine w (r.us ++ r.vs)
+pub alone_parts : (f : Layout) (w : Marks) (q : ℕ) (s : PassedSpan) (r : IsStretch f w q s) → IsAlone w r.us r.passed.rest → IsSpanLine w (r.us ++ r.vs)
 alone_parts f w q s r a = let p = r.passed in record {
   es = r.us;
   ps = p.ps;
@@ -143,10 +143,10 @@ pub line_children : (f : Layout) (w : Marks) (q : ℕ) (ks : List ℕ) → AreCh
 line_children f w q ks (inl e) s = subst (SpanLine w) (sym e) s
 line_children f w q ks (inr e) s = subst (SpanLine w) (sym e) (line_turned w ks s)
 
-pub stretch_line : (f : Layout) (w : Marks) (q : ℕ) (s : Stretch) (r : IsStretch f w q s) → IsAlone w r.us r.passed.rest → SpanLine w (children_at f q)
+pub stretch_line : (f : Layout) (w : Marks) (q : ℕ) (s : PassedSpan) (r : IsStretch f w q s) → IsAlone w r.us r.passed.rest → SpanLine w (children_at f q)
 stretch_line f w q s r a = line_children f w q (r.us ++ r.vs) r.passed.from.children (parts_line w (r.us ++ r.vs) (alone_parts f w q s r a))
 
-pub line_stretch : (f : Layout) (w : Marks) (q : ℕ) (s : Stretch) (r : IsStretch f w q s) → SpanLine w (children_at f q) → IsAlone w r.us r.passed.rest
+pub line_stretch : (f : Layout) (w : Marks) (q : ℕ) (s : PassedSpan) (r : IsStretch f w q s) → SpanLine w (children_at f q) → IsAlone w r.us r.passed.rest
 line_stretch f w q s r line = line_alone f w q s r (children_line f w q (r.us ++ r.vs) r.passed.from.children line)
 
 -- where Q3 fits by its line
@@ -188,7 +188,7 @@ children_sums f w q ks full partial (inl e) c = (c.full ∙ ap (λ z. fulls_in w
 children_sums f w q ks full partial (inr e) c =
     (c.full ∙ ap (λ z. fulls_in w z) e ∙ sum_reverse (λ k. full_one (label_at w k)) ks, c.partial ∙ ap (λ z. partials_in w z) e ∙ sum_reverse (λ k. partial_one (label_at w k)) ks)
 
-sums : (f : Layout) (w : Marks) (q full partial : ℕ) (s : Stretch) (r : IsStretch f w q s) → AreCounted w (children_at f q) full partial → SumsAt w r.us r.passed.ps r.passed.fs r.passed.ls r.passed.rest full partial
+sums : (f : Layout) (w : Marks) (q full partial : ℕ) (s : PassedSpan) (r : IsStretch f w q s) → AreCounted w (children_at f q) full partial → SumsAt w r.us r.passed.ps r.passed.fs r.passed.ls r.passed.rest full partial
 sums f w q full partial s r c =
     let p = r.passed in
     let t = children_sums f w q (r.us ++ r.vs) full partial p.from.children c in
@@ -204,7 +204,7 @@ sums f w q full partial s r c =
     }
 
 -- they tell whether all labelled ones were passed
-pub counted_alone : (f : Layout) (w : Marks) (q full partial : ℕ) (s : Stretch) (r : IsStretch f w q s) → AreCounted w (children_at f q) full partial → full ≡ s.fulls.count → partial ≡ s.first.count + s.last.count →
+pub counted_alone : (f : Layout) (w : Marks) (q full partial : ℕ) (s : PassedSpan) (r : IsStretch f w q s) → AreCounted w (children_at f q) full partial → full ≡ s.fulls.count → partial ≡ s.first.count + s.last.count →
     IsAlone w r.us r.passed.rest
 counted_alone f w q full partial s r c ef ep =
     let p = r.passed in
@@ -214,7 +214,7 @@ counted_alone f w q full partial s r c ef ep =
     let a : length p.ps ≡ s.first.count = p.firsts in let b : length p.fs ≡ s.fulls.count = p.fulls in let d : length p.ls ≡ s.last.count = p.lasts in
     record { before = none_counted w r.us (omega arith) (omega arith); behind = none_counted w p.rest (omega arith) (omega arith) }
 
-pub alone_counted : (f : Layout) (w : Marks) (q full partial : ℕ) (s : Stretch) (r : IsStretch f w q s) → AreCounted w (children_at f q) full partial → IsAlone w r.us r.passed.rest →
+pub alone_counted : (f : Layout) (w : Marks) (q full partial : ℕ) (s : PassedSpan) (r : IsStretch f w q s) → AreCounted w (children_at f q) full partial → IsAlone w r.us r.passed.rest →
     (full ≡ s.fulls.count) × (partial ≡ s.first.count + s.last.count)
 alone_counted f w q full partial s r c alone =
     let p = r.passed in
@@ -334,7 +334,7 @@ of_label w l [] n a = tt
 of_label w l (k ∷ ks) n a = ((λ z. n (sym a.0 ∙ z)), of_label w l ks n a.1)
 
 -- in a block the walk passed all labelled ones where it did not stop at one
-pub block_alone : (f : Layout) (w : Marks) (q : ℕ) (s : Stretch) (r : IsStretch f w q s) → IsBlock w (children_at f q) → BeginsEmpty w r.passed.rest → IsAlone w r.us r.passed.rest
+pub block_alone : (f : Layout) (w : Marks) (q : ℕ) (s : PassedSpan) (r : IsStretch f w q s) → IsBlock w (children_at f q) → BeginsEmpty w r.passed.rest → IsAlone w r.us r.passed.rest
 block_alone f w q s r b0 e =
     let p = r.passed in
     let b = children_block f w q (r.us ++ r.vs) p.from.children b0 in

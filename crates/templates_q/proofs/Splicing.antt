@@ -24,7 +24,7 @@ use Rattle.bubble_pass.specs.declared.labels.Label.TheVariants.{Empty, Full}
 use Rattle.bubble_pass.specs.Marks.{Marks, label_at}
 use Rattle.template_model.specs.Standing.{IsShapeAt}
 use Rattle.template_model.specs.Treated.{IsTreated}
-use Rattle.templates_q.specs.Walk.{AreChildren, AreAll, IsGap, EndsWithout}
+use Rattle.templates_q.specs.Walk.{AreChildren, AreAll, IsChildGap, EndsWithout}
 use Rattle.templates_q.specs.Splicing.{IsLineIn, IsSplicedIn}
 use Rattle.templates_q.proofs.Lists.{occurs_reverse, reverse_split}
 use Rattle.templates_q.proofs.Lines.{all_reverse, reverse_three}
@@ -72,7 +72,7 @@ full_behind f w c h s n = elim s.children [
 ]
 
 -- the place in front of its first child
-pub shape_gap : (f : Layout) (w : Marks) (c : ℕ) (h : Partial) (view : NodeView) → ShowsNode f c view → IsShapeAt f w c h → IsGap f c [] (children_at f c) (record { before = None; next = slice_index_or view.ends 0 None })
+pub shape_gap : (f : Layout) (w : Marks) (c : ℕ) (h : Partial) (view : NodeView) → ShowsNode f c view → IsShapeAt f w c h → IsChildGap f c [] (children_at f c) (record { before = None; next = slice_index_or view.ends 0 None })
 shape_gap f w c h view sh s = front_gap f c view sh (some_inj view.shape Q (sym sh.shape_is ∙ s.is_q))
 
 -- its children, two or more

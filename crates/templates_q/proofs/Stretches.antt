@@ -12,10 +12,10 @@ use Rattle.bubble_pass.specs.declared.labels.Label.{Label as Mark}
 use Rattle.bubble_pass.specs.declared.labels.Label.TheVariants.{Empty, Partial, Full}
 use Rattle.bubble_pass.specs.Marks.{Marks, label_at}
 use Rattle.bubble_pass.specs.Sweep.{full_one, partial_one}
-use Rattle.templates_q.specs.declared.walk.Gap.{Gap}
+use Rattle.templates_q.specs.declared.walk.ChildGap.{ChildGap}
 use Rattle.templates_q.specs.declared.walk.Passed.{Passed}
-use Rattle.templates_q.specs.declared.stretch.Stretch.{Stretch}
-use Rattle.templates_q.specs.Walk.{AreChildren, IsGap, IsFirst, IsPassed, EndsWithout}
+use Rattle.templates_q.specs.declared.stretch.PassedSpan.{PassedSpan}
+use Rattle.templates_q.specs.Walk.{AreChildren, IsChildGap, IsFirst, IsPassed, EndsWithout}
 use Rattle.templates_q.specs.Span.{labelled_in, if_labelled, labelled_one, BeginsEmpty, EndsEmpty, BeginsLabelled, AreLabelled, ArePassed, IsMarkedChild, IsStart, IsSpanPassed}
 use Rattle.templates_q.proofs.Lists.{head_reverse, reverse_split}
 use Rattle.templates_q.proofs.Lines.{fulls_append, partials_append, fulls_cons, partials_cons, sum_reverse, count_full, count_partial}
@@ -69,7 +69,7 @@ labelled_known w (Some y) x e = by (label_at w y.index) refl e
     by Full k e = (e, other Full k (λ z. cc) e)
 
 -- where no labelled node comes next
-pub stops_labelled : (f : Layout) (w : Marks) (q : ℕ) (us vs : List ℕ) (gap : Gap) → IsLayout f → IsGap f q us vs gap → labelled_one w gap.next ≡ None → BeginsEmpty w vs
+pub stops_labelled : (f : Layout) (w : Marks) (q : ℕ) (us vs : List ℕ) (gap : ChildGap) → IsLayout f → IsChildGap f q us vs gap → labelled_one w gap.next ≡ None → BeginsEmpty w vs
 stops_labelled f w q us [] gap h g e = tt
 stops_labelled f w q us (x ∷ vs) gap h g e = by (label_at w x) refl i
   where
@@ -82,26 +82,26 @@ stops_labelled f w q us (x ∷ vs) gap h g e = by (label_at w x) refl i
     by Full k e = absurd (let j : if_labelled Full (let n : NodeId = record { index = x } in n) ≡ None = ap (λ l. if_labelled l (let n : NodeId = record { index = x } in n)) (sym k) ∙ e in cc)
 
 -- where an empty node comes next, or none, that is told so
-pub stopped_labelled : (f : Layout) (w : Marks) (q : ℕ) (us vs : List ℕ) (gap : Gap) → IsLayout f → IsGap f q us vs gap → BeginsEmpty w vs → labelled_one w gap.next ≡ None
+pub stopped_labelled : (f : Layout) (w : Marks) (q : ℕ) (us vs : List ℕ) (gap : ChildGap) → IsLayout f → IsChildGap f q us vs gap → BeginsEmpty w vs → labelled_one w gap.next ≡ None
 stopped_labelled f w q us [] gap h g e = ap (labelled_one w) g.next
 stopped_labelled f w q us (x ∷ vs) gap h g e =
     ap (labelled_one w) (g.next ∙ is_named f x h (child_used f q x h (next_child f q us vs x gap g))) ∙ ap (λ l. if_labelled l (let n : NodeId = record { index = x } in n)) e
 
 -- at the start nothing is passed
-pub none_passed : (f : Layout) (w : Marks) (q : ℕ) (us vs : List ℕ) (gap : Gap) → IsGap f q us vs gap → ArePassed f w q us vs (record { count = 0; gap = gap })
+pub none_passed : (f : Layout) (w : Marks) (q : ℕ) (us vs : List ℕ) (gap : ChildGap) → IsChildGap f q us vs gap → ArePassed f w q us vs (record { count = 0; gap = gap })
 none_passed f w q us vs gap g = record {
   ks = [];
   rest = vs;
   is = refl;
   labelled = tt;
   count = refl;
-  gap = subst (λ z. IsGap f q z vs gap) (sym (append-nil us)) g;
+  gap = subst (λ z. IsChildGap f q z vs gap) (sym (append-nil us)) g;
 }
 
 -- one child more is passed
-pub more_passed : (f : Layout) (w : Marks) (q : ℕ) (us vs : List ℕ) (n : ℕ) (gap gap' : Gap) (x : NodeId) → IsLayout f →
+pub more_passed : (f : Layout) (w : Marks) (q : ℕ) (us vs : List ℕ) (n : ℕ) (gap gap' : ChildGap) (x : NodeId) → IsLayout f →
     ArePassed f w q us vs (record { count = n; gap = gap }) → gap.next ≡ Some x → label_at w x.index ≢ Empty →
-    ((q : ℕ) (us vs : List ℕ) → IsFirst f q us x.index vs gap → IsGap f q (us ++ x.index ∷ []) vs gap') → ArePassed f w q us vs (record { count = n + 1; gap = gap' })
+    ((q : ℕ) (us vs : List ℕ) → IsFirst f q us x.index vs gap → IsChildGap f q (us ++ x.index ∷ []) vs gap') → ArePassed f w q us vs (record { count = n + 1; gap = gap' })
 more_passed f w q us vs n gap gap' x h p e k over =
     let i = next_is f q (us ++ p.ks) p.rest gap x h p.gap e in
     let c : length p.ks ≡ n = p.count in
@@ -111,11 +111,11 @@ more_passed f w q us vs n gap gap' x h p e k over =
       is = p.is ∙ ap (λ z. p.ks ++ z) i.is ∙ sym (append_assoc p.ks (x.index ∷ []) i.rest);
       labelled = all_labelled w p.ks (x.index ∷ []) p.labelled (k, tt);
       count = omega (arith, length-append p.ks (x.index ∷ []));
-      gap = subst (λ z. IsGap f q z i.rest gap') (append_assoc us p.ks (x.index ∷ [])) (over q (us ++ p.ks) i.rest i.first);
+      gap = subst (λ z. IsChildGap f q z i.rest gap') (append_assoc us p.ks (x.index ∷ [])) (over q (us ++ p.ks) i.rest i.first);
     }
 
 -- fewer children are passed than there are nodes
-pub few_passed : (f : Layout) (w : Marks) (q : ℕ) (us vs : List ℕ) (n : ℕ) (gap : Gap) (x : NodeId) → IsLayout f →
+pub few_passed : (f : Layout) (w : Marks) (q : ℕ) (us vs : List ℕ) (n : ℕ) (gap : ChildGap) (x : NodeId) → IsLayout f →
     ArePassed f w q us vs (record { count = n; gap = gap }) → gap.next ≡ Some x → n < length f.slots
 few_passed f w q us vs n gap x h p e =
     let i = next_is f q (us ++ p.ks) p.rest gap x h p.gap e in
@@ -130,10 +130,10 @@ few_passed f w q us vs n gap x h p e =
     read (inr e) = ap length e ∙ length-reverse ((us ++ p.ks) ++ p.rest)
 
 -- the place at one side of the child x, as a walk away from x has it
-pub record IsAside (f : Layout) (q : ℕ) (x : NodeId) (gap : Gap) : Type 0 where
+pub record IsAside (f : Layout) (q : ℕ) (x : NodeId) (gap : ChildGap) : Type 0 where
   pub us : List ℕ
   pub vs : List ℕ
-  pub place : IsGap f q (us ++ x.index ∷ []) vs gap
+  pub place : IsChildGap f q (us ++ x.index ∷ []) vs gap
 
 pub aside : (f : Layout) (w : Marks) (q : ℕ) (x : NodeId) (view : NodeView) → IsLayout f → IsMarkedChild f w q x.index → ShowsNode f x.index view →
     IsAside f q x (record { before = Some x; next = slice_index_or view.near 0 None })
@@ -152,7 +152,7 @@ aside f w q x view h m sh = elim (sh.run q s.us s.vs m.is_q s.is).1 [
     s = split_at (children_at f q) x.index m.child
 
     made : (us vs : List ℕ) → AreChildren f q (us ++ x.index ∷ vs) → slice_index_or view.near 0 None ≡ node_named (head_or vs none) →
-        IsGap f q (us ++ x.index ∷ []) vs (record { before = Some x; next = slice_index_or view.near 0 None })
+        IsChildGap f q (us ++ x.index ∷ []) vs (record { before = Some x; next = slice_index_or view.near 0 None })
     made us vs a e = record {
       is_q = m.is_q;
       children = subst (AreChildren f q) (sym (append_assoc us (x.index ∷ []) vs)) a;
@@ -161,7 +161,7 @@ aside f w q x view h m sh = elim (sh.run q s.us s.vs m.is_q s.is).1 [
     }
 
 -- a place as a walk back has it
-pub turned_gap : (f : Layout) (q : ℕ) (us vs : List ℕ) (gap : Gap) → IsGap f q us vs gap → IsGap f q (reverse vs) (reverse us) (record { before = gap.next; next = gap.before })
+pub turned_gap : (f : Layout) (q : ℕ) (us vs : List ℕ) (gap : ChildGap) → IsChildGap f q us vs gap → IsChildGap f q (reverse vs) (reverse us) (record { before = gap.next; next = gap.before })
 turned_gap f q us vs gap g = record {
   is_q = g.is_q;
   children = read g.children;
@@ -209,13 +209,13 @@ start_few f w q x us vs p n r =
     omega (arith, labelled_append w ((us ++ x.index ∷ []) ++ r.ks) r.rest, labelled_append w (us ++ x.index ∷ []) r.ks, labelled_append w us (x.index ∷ []))
 
 -- three walks after one another: over at most one partial child, over full ones, and over at most one partial one
-pub span_passed : (f : Layout) (w : Marks) (q : ℕ) (us vs : List ℕ) (s : Stretch) → IsGap f q us vs s.from →
-    ((q : ℕ) (us vs : List ℕ) → IsGap f q us vs s.from → IsPassed Partial f w q us vs s.first) →
-    ((q : ℕ) (us vs : List ℕ) → s.first.count ≡ 0 → IsGap f q us vs s.first.gap → EndsWithout Partial w vs) → s.first.count ≤ 1 →
-    ((q : ℕ) (us vs : List ℕ) → IsGap f q us vs s.first.gap → IsPassed Full f w q us vs s.fulls) →
-    ((q : ℕ) (us vs : List ℕ) → IsGap f q us vs s.fulls.gap → EndsWithout Full w vs) →
-    ((q : ℕ) (us vs : List ℕ) → IsGap f q us vs s.fulls.gap → IsPassed Partial f w q us vs s.last) →
-    ((q : ℕ) (us vs : List ℕ) → s.last.count ≡ 0 → IsGap f q us vs s.last.gap → EndsWithout Partial w vs) → s.last.count ≤ 1 → IsSpanPassed f w q us vs s
+pub span_passed : (f : Layout) (w : Marks) (q : ℕ) (us vs : List ℕ) (s : PassedSpan) → IsChildGap f q us vs s.from →
+    ((q : ℕ) (us vs : List ℕ) → IsChildGap f q us vs s.from → IsPassed Partial f w q us vs s.first) →
+    ((q : ℕ) (us vs : List ℕ) → s.first.count ≡ 0 → IsChildGap f q us vs s.first.gap → EndsWithout Partial w vs) → s.first.count ≤ 1 →
+    ((q : ℕ) (us vs : List ℕ) → IsChildGap f q us vs s.first.gap → IsPassed Full f w q us vs s.fulls) →
+    ((q : ℕ) (us vs : List ℕ) → IsChildGap f q us vs s.fulls.gap → EndsWithout Full w vs) →
+    ((q : ℕ) (us vs : List ℕ) → IsChildGap f q us vs s.fulls.gap → IsPassed Partial f w q us vs s.last) →
+    ((q : ℕ) (us vs : List ℕ) → s.last.count ≡ 0 → IsChildGap f q us vs s.last.gap → EndsWithout Partial w vs) → s.last.count ≤ 1 → IsSpanPassed f w q us vs s
 span_passed f w q us vs s g over1 ends1 one over2 ends2 over3 ends3 one_more =
     let a = over1 q us vs g in
     let b = over2 q (us ++ a.ks) a.rest a.gap in
@@ -241,12 +241,12 @@ span_passed f w q us vs s g over1 ends1 one over2 ends2 over3 ends3 one_more =
       no_full = subst (EndsWithout Full w) c.is (ends2 q ((us ++ a.ks) ++ b.ks) b.rest b.gap);
       no_last = λ z. ends3 q (((us ++ a.ks) ++ b.ks) ++ c.ks) c.rest (sym nc ∙ z) c.gap;
       from = g;
-      end = subst (λ z. IsGap f q z c.rest s.last.gap)
+      end = subst (λ z. IsChildGap f q z c.rest s.last.gap)
           (ap (λ z. z ++ c.ks) (append_assoc us a.ks b.ks) ∙ append_assoc us (a.ks ++ b.ks) c.ks ∙ ap (λ z. us ++ z) (append_assoc a.ks b.ks c.ks)) c.gap;
     }
 
 -- no more are passed than have labels
-pub span_few : (f : Layout) (w : Marks) (q : ℕ) (us vs : List ℕ) (s : Stretch) → IsSpanPassed f w q us vs s → s.first.count + s.fulls.count + s.last.count ≤ labelled_in w (children_at f q)
+pub span_few : (f : Layout) (w : Marks) (q : ℕ) (us vs : List ℕ) (s : PassedSpan) → IsSpanPassed f w q us vs s → s.first.count + s.fulls.count + s.last.count ≤ labelled_in w (children_at f q)
 span_few f w q us vs s r =
     let e : labelled_in w (children_at f q) ≡ labelled_in w (us ++ vs) = children_labelled f w q (us ++ vs) r.from.children in
     let i : labelled_in w vs ≡ labelled_in w (r.ps ++ (r.fs ++ (r.ls ++ r.rest))) = ap (λ z. labelled_in w z) r.is in

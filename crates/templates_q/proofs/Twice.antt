@@ -11,8 +11,8 @@ use Rattle.template_model.specs.Standing.{IsShapeAt}
 use Rattle.template_model.specs.Treated.{IsOutside, IsReplacedAt, IsTreated}
 use Rattle.template_model.proofs.Replaced.{replaced_self, below_used}
 use Rattle.template_model.proofs.Unchanged.{unchanged}
-use Rattle.templates_q.specs.declared.walk.Gap.{Gap}
-use Rattle.templates_q.specs.Walk.{IsGap}
+use Rattle.templates_q.specs.declared.walk.ChildGap.{ChildGap}
+use Rattle.templates_q.specs.Walk.{IsChildGap}
 use Rattle.templates_q.specs.Span.{AreKeptBelow}
 use Rattle.templates_q.specs.Opening.{IsOpenedAt}
 use Rattle.templates_q.proofs.Runs.{IsPart}
@@ -114,7 +114,7 @@ unchanged_step f w q h one two used = record {
   };
 }
 
-pub step_treated : (f g : Layout) (w : Marks) (q : ℕ) (us ps vs : List ℕ) (from : Gap) (h : Option Partial) → IsLayout f → IsLayout g → shape_at f q ≡ Some Q → (1 ≤ length ps → IsGap f q us (ps ++ vs) from) →
+pub step_treated : (f g : Layout) (w : Marks) (q : ℕ) (us ps vs : List ℕ) (from : ChildGap) (h : Option Partial) → IsLayout f → IsLayout g → shape_at f q ≡ Some Q → (1 ≤ length ps → IsChildGap f q us (ps ++ vs) from) →
     IsOpenedAt f g w q from ps → IsPart (IsShapeAt f w) w ps h → IsOneTree f → HasTwoEach f → IsTreatedStep f g w q
 step_treated f g w q us [] vs from None lf lg iq gap o p one two = subst (λ z. IsTreatedStep f z w q) (sym o) (unchanged_step f w q lf one two (used_by f q Q iq))
 step_treated f g w q us [] vs from (Some h) lf lg iq gap o p one two = absurd p

@@ -17,9 +17,9 @@ use Rattle.pq_arena.specs.Looks.{node_named, ShowsNode, shown_ends}
 use Rattle.bubble_pass.specs.declared.labels.Label.{Label as Mark}
 use Rattle.bubble_pass.specs.declared.labels.Label.TheVariants.{Empty, Partial, Full}
 use Rattle.bubble_pass.specs.Marks.{Marks, label_at, size_of}
-use Rattle.templates_q.specs.declared.walk.Gap.{Gap}
+use Rattle.templates_q.specs.declared.walk.ChildGap.{ChildGap}
 use Rattle.templates_q.specs.declared.walk.Passed.{Passed}
-use Rattle.templates_q.specs.Walk.{AreChildren, AreAll, IsGap, IsFirst, IsPassed, EndsWithout, IsInRoom, if_full, if_partial, full_in, partial_in}
+use Rattle.templates_q.specs.Walk.{AreChildren, AreAll, IsChildGap, IsFirst, IsPassed, EndsWithout, IsInRoom, if_full, if_partial, full_in, partial_in}
 use Rattle.templates_q.proofs.Lines.{all_append}
 use Rattle.templates_q.proofs.Lists.{occurs_reverse, head_reverse, reverse_split}
 
@@ -45,14 +45,14 @@ is_named f x h u =
     let few : length f.slots ≤ 65540 = few_slots f h in
     ap (λ b. cond b None (Some (let n : NodeId = record { index = x } in n))) (ne_eqb x none (λ e. let k : x ≡ 4294967295 = e in absurd (omega arith)))
 
-pub next_child : (f : Layout) (q : ℕ) (us vs : List ℕ) (x : ℕ) (gap : Gap) → IsFirst f q us x vs gap → 1 ≤ occurs (children_at f q) x
+pub next_child : (f : Layout) (q : ℕ) (us vs : List ℕ) (x : ℕ) (gap : ChildGap) → IsFirst f q us x vs gap → 1 ≤ occurs (children_at f q) x
 next_child f q us vs x gap g =
     let e : occurs (children_at f q) x ≡ occurs (us ++ x ∷ vs) x = children_occur f q (us ++ x ∷ vs) x g.children in
     let a : occurs (us ++ x ∷ vs) x ≡ occurs us x + occurs (x ∷ vs) x = occurs-append us (x ∷ vs) x in
     let o : 1 ≤ occurs (x ∷ vs) x = occurs_here x vs in omega arith
 
 -- there is room for what comes next
-pub next_room : (f : Layout) (w : Marks) (q : ℕ) (us vs : List ℕ) (gap : Gap) → IsLayout f → size_of w ≡ length f.slots → IsGap f q us vs gap → IsInRoom w gap.next
+pub next_room : (f : Layout) (w : Marks) (q : ℕ) (us vs : List ℕ) (gap : ChildGap) → IsLayout f → size_of w ≡ length f.slots → IsChildGap f q us vs gap → IsInRoom w gap.next
 next_room f w q us [] gap h size g = subst (IsInRoom w) (sym g.next) tt
 next_room f w q us (x ∷ vs) gap h size g =
     let u : IsInUse f x = child_used f q x h (next_child f q us vs x gap g) in
@@ -62,14 +62,14 @@ some_eq : (x y : NodeId) → Some x ≡ Some y → x ≡ y
 some_eq x y e = cc
 
 -- the node that comes next is the first of vs
-pub record NextIs (f : Layout) (q : ℕ) (us vs : List ℕ) (gap : Gap) (x : NodeId) : Type 0 where
+pub record NextIs (f : Layout) (q : ℕ) (us vs : List ℕ) (gap : ChildGap) (x : NodeId) : Type 0 where
   pub rest : List ℕ
   pub is : vs ≡ x.index ∷ rest
   pub first : IsFirst f q us x.index rest gap
   pub used : IsInUse f x.index
   pub child : 1 ≤ occurs (children_at f q) x.index
 
-pub next_is : (f : Layout) (q : ℕ) (us vs : List ℕ) (gap : Gap) (x : NodeId) → IsLayout f → IsGap f q us vs gap → gap.next ≡ Some x → NextIs f q us vs gap x
+pub next_is : (f : Layout) (q : ℕ) (us vs : List ℕ) (gap : ChildGap) (x : NodeId) → IsLayout f → IsChildGap f q us vs gap → gap.next ≡ Some x → NextIs f q us vs gap x
 next_is f q us [] gap x h g e = absurd (let k : None ≡ Some x = sym g.next ∙ e in cc)
 next_is f q us (y ∷ vs) gap x h g e =
     let o : 1 ≤ occurs (children_at f q) y = next_child f q us vs y gap g in
@@ -85,7 +85,7 @@ next_is f q us (y ∷ vs) gap x h g e =
     }
 
 -- none comes next where vs is empty
-pub next_none : (f : Layout) (q : ℕ) (us vs : List ℕ) (gap : Gap) → IsLayout f → IsGap f q us vs gap → gap.next ≡ None → vs ≡ []
+pub next_none : (f : Layout) (q : ℕ) (us vs : List ℕ) (gap : ChildGap) → IsLayout f → IsChildGap f q us vs gap → gap.next ≡ None → vs ≡ []
 next_none f q us [] gap h g e = refl
 next_none f q us (y ∷ vs) gap h g e =
     absurd (let u : IsInUse f y = child_used f q y h (next_child f q us vs y gap g) in
@@ -129,10 +129,10 @@ same_node (Some x) (Some y) = elim (cases_eq x.index y.index) [
 ]
 
 -- a step over the child x
-pub step_past : (f : Layout) (q : ℕ) (us vs : List ℕ) (x : NodeId) (from : Gap) (view : NodeView) (next : Option NodeId) →
+pub step_past : (f : Layout) (q : ℕ) (us vs : List ℕ) (x : NodeId) (from : ChildGap) (view : NodeView) (next : Option NodeId) →
     IsLayout f → IsInUse f x.index → ShowsNode f x.index view → IsFirst f q us x.index vs from →
     (slice_index_or view.near 0 None ≡ from.before → next ≡ slice_index_or view.near 1 None) → (slice_index_or view.near 0 None ≢ from.before → next ≡ slice_index_or view.near 0 None) →
-    IsGap f q (us ++ x.index ∷ []) vs (record { before = Some x; next = next })
+    IsChildGap f q (us ++ x.index ∷ []) vs (record { before = Some x; next = next })
 step_past f q us vs x from view next h u sh g back on = record {
   is_q = g.is_q;
   children = subst (AreChildren f q) (sym (append_assoc us (x.index ∷ []) vs)) g.children;
@@ -161,14 +161,14 @@ partial_known w (Some y) x e = by (label_at w y.index) refl e
     by Full k e = absurd (cc)
 
 -- where no full, or no partial, node comes next
-pub stops_full : (f : Layout) (w : Marks) (q : ℕ) (us vs : List ℕ) (gap : Gap) → IsLayout f → IsGap f q us vs gap → full_in w gap.next ≡ None → EndsWithout Full w vs
+pub stops_full : (f : Layout) (w : Marks) (q : ℕ) (us vs : List ℕ) (gap : ChildGap) → IsLayout f → IsChildGap f q us vs gap → full_in w gap.next ≡ None → EndsWithout Full w vs
 stops_full f w q us [] gap h g e = tt
 stops_full f w q us (x ∷ vs) gap h g e = λ k.
     let u : IsInUse f x = child_used f q x h (next_child f q us vs x gap g) in
     let i : full_in w (Some (let n : NodeId = record { index = x } in n)) ≡ None = ap (full_in w) (sym (g.next ∙ is_named f x h u)) ∙ e in
     let j : if_full Full (let n : NodeId = record { index = x } in n) ≡ None = ap (λ l. if_full l (let n : NodeId = record { index = x } in n)) (sym k) ∙ i in cc
 
-pub stops_partial : (f : Layout) (w : Marks) (q : ℕ) (us vs : List ℕ) (gap : Gap) → IsLayout f → IsGap f q us vs gap → partial_in w gap.next ≡ None → EndsWithout Partial w vs
+pub stops_partial : (f : Layout) (w : Marks) (q : ℕ) (us vs : List ℕ) (gap : ChildGap) → IsLayout f → IsChildGap f q us vs gap → partial_in w gap.next ≡ None → EndsWithout Partial w vs
 stops_partial f w q us [] gap h g e = tt
 stops_partial f w q us (x ∷ vs) gap h g e = λ k.
     let u : IsInUse f x = child_used f q x h (next_child f q us vs x gap g) in
@@ -176,20 +176,20 @@ stops_partial f w q us (x ∷ vs) gap h g e = λ k.
     let j : if_partial Partial (let n : NodeId = record { index = x } in n) ≡ None = ap (λ l. if_partial l (let n : NodeId = record { index = x } in n)) (sym k) ∙ i in cc
 
 -- at the start nothing is passed
-pub passed_none : (l : Mark) (f : Layout) (w : Marks) (q : ℕ) (us vs : List ℕ) (gap : Gap) → IsGap f q us vs gap → IsPassed l f w q us vs (record { count = 0; gap = gap })
+pub passed_none : (l : Mark) (f : Layout) (w : Marks) (q : ℕ) (us vs : List ℕ) (gap : ChildGap) → IsChildGap f q us vs gap → IsPassed l f w q us vs (record { count = 0; gap = gap })
 passed_none l f w q us vs gap g = record {
   ks = [];
   rest = vs;
   is = refl;
   marked = tt;
   count = refl;
-  gap = subst (λ z. IsGap f q z vs gap) (sym (append-nil us)) g;
+  gap = subst (λ z. IsChildGap f q z vs gap) (sym (append-nil us)) g;
 }
 
 -- one child more is passed
-pub passed_more : (l : Mark) (f : Layout) (w : Marks) (q : ℕ) (us vs : List ℕ) (n : ℕ) (gap gap' : Gap) (x : NodeId) → IsLayout f →
+pub passed_more : (l : Mark) (f : Layout) (w : Marks) (q : ℕ) (us vs : List ℕ) (n : ℕ) (gap gap' : ChildGap) (x : NodeId) → IsLayout f →
     IsPassed l f w q us vs (record { count = n; gap = gap }) → gap.next ≡ Some x → label_at w x.index ≡ l →
-    ((q : ℕ) (us vs : List ℕ) → IsFirst f q us x.index vs gap → IsGap f q (us ++ x.index ∷ []) vs gap') → IsPassed l f w q us vs (record { count = n + 1; gap = gap' })
+    ((q : ℕ) (us vs : List ℕ) → IsFirst f q us x.index vs gap → IsChildGap f q (us ++ x.index ∷ []) vs gap') → IsPassed l f w q us vs (record { count = n + 1; gap = gap' })
 passed_more l f w q us vs n gap gap' x h p e k over =
     let i = next_is f q (us ++ p.ks) p.rest gap x h p.gap e in
     let c : length p.ks ≡ n = p.count in
@@ -199,11 +199,11 @@ passed_more l f w q us vs n gap gap' x h p e k over =
       is = p.is ∙ ap (λ z. p.ks ++ z) i.is ∙ sym (append_assoc p.ks (x.index ∷ []) i.rest);
       marked = all_append l w p.ks (x.index ∷ []) p.marked (k, tt);
       count = omega (arith, length-append p.ks (x.index ∷ []));
-      gap = subst (λ z. IsGap f q z i.rest gap') (append_assoc us p.ks (x.index ∷ [])) (over q (us ++ p.ks) i.rest i.first);
+      gap = subst (λ z. IsChildGap f q z i.rest gap') (append_assoc us p.ks (x.index ∷ [])) (over q (us ++ p.ks) i.rest i.first);
     }
 
 -- fewer children are passed than there are nodes
-pub passed_few : (l : Mark) (f : Layout) (w : Marks) (q : ℕ) (us vs : List ℕ) (n : ℕ) (gap : Gap) (x : NodeId) → IsLayout f →
+pub passed_few : (l : Mark) (f : Layout) (w : Marks) (q : ℕ) (us vs : List ℕ) (n : ℕ) (gap : ChildGap) (x : NodeId) → IsLayout f →
     IsPassed l f w q us vs (record { count = n; gap = gap }) → gap.next ≡ Some x → n < length f.slots
 passed_few l f w q us vs n gap x h p e =
     let i = next_is f q (us ++ p.ks) p.rest gap x h p.gap e in
@@ -218,7 +218,7 @@ passed_few l f w q us vs n gap x h p e =
     read (inr e) = ap length e ∙ length-reverse ((us ++ p.ks) ++ p.rest)
 
 -- the place in front of the first child of a Q-node, and the one in front of its last
-pub front_gap : (f : Layout) (n : ℕ) (view : NodeView) → ShowsNode f n view → view.shape ≡ Q → IsGap f n [] (children_at f n) (record { before = None; next = slice_index_or view.ends 0 None })
+pub front_gap : (f : Layout) (n : ℕ) (view : NodeView) → ShowsNode f n view → view.shape ≡ Q → IsChildGap f n [] (children_at f n) (record { before = None; next = slice_index_or view.ends 0 None })
 front_gap f n view sh e = record {
   is_q = sh.shape_is ∙ ap Some e;
   children = inl refl;
@@ -226,7 +226,7 @@ front_gap f n view sh e = record {
   next = ap (λ z. slice_index_or z 0 None) (sh.ends ∙ ap (λ s. shown_ends s (children_at f n)) e);
 }
 
-pub back_gap : (f : Layout) (n : ℕ) (view : NodeView) → ShowsNode f n view → view.shape ≡ Q → IsGap f n [] (reverse (children_at f n)) (record { before = None; next = slice_index_or view.ends 1 None })
+pub back_gap : (f : Layout) (n : ℕ) (view : NodeView) → ShowsNode f n view → view.shape ≡ Q → IsChildGap f n [] (reverse (children_at f n)) (record { before = None; next = slice_index_or view.ends 1 None })
 back_gap f n view sh e = record {
   is_q = sh.shape_is ∙ ap Some e;
   children = inr (sym (reverse-reverse (children_at f n)));
@@ -247,13 +247,13 @@ pub record PassedTwo (f : Layout) (w : Marks) (q : ℕ) (us vs : List ℕ) (a b 
   pub one : length ps ≤ 1
   pub no_full : EndsWithout Full w (ps ++ rest)
   pub no_partial : length ps ≡ 0 → EndsWithout Partial w rest
-  pub first : IsGap f q (us ++ fs) (ps ++ rest) a.gap
-  pub second : IsGap f q ((us ++ fs) ++ ps) rest b.gap
+  pub first : IsChildGap f q (us ++ fs) (ps ++ rest) a.gap
+  pub second : IsChildGap f q ((us ++ fs) ++ ps) rest b.gap
 
 pub passed_two : (f : Layout) (w : Marks) (q : ℕ) (us vs : List ℕ) (a b : Passed) → IsPassed Full f w q us vs a →
-    ((q : ℕ) (us vs : List ℕ) → IsGap f q us vs a.gap → EndsWithout Full w vs) →
-    ((q : ℕ) (us vs : List ℕ) → IsGap f q us vs a.gap → IsPassed Partial f w q us vs b) →
-    ((q : ℕ) (us vs : List ℕ) → b.count ≡ 0 → IsGap f q us vs b.gap → EndsWithout Partial w vs) → b.count ≤ 1 → PassedTwo f w q us vs a b
+    ((q : ℕ) (us vs : List ℕ) → IsChildGap f q us vs a.gap → EndsWithout Full w vs) →
+    ((q : ℕ) (us vs : List ℕ) → IsChildGap f q us vs a.gap → IsPassed Partial f w q us vs b) →
+    ((q : ℕ) (us vs : List ℕ) → b.count ≡ 0 → IsChildGap f q us vs b.gap → EndsWithout Partial w vs) → b.count ≤ 1 → PassedTwo f w q us vs a b
 passed_two f w q us vs a b p stops over ends one =
     let r = over q (us ++ p.ks) p.rest p.gap in
     let n : length r.ks ≡ b.count = r.count in
@@ -269,11 +269,11 @@ passed_two f w q us vs a b p stops over ends one =
       one = omega arith;
       no_full = subst (EndsWithout Full w) r.is (stops q (us ++ p.ks) p.rest p.gap);
       no_partial = λ z. ends q ((us ++ p.ks) ++ r.ks) r.rest (omega arith) r.gap;
-      first = subst (λ z. IsGap f q (us ++ p.ks) z a.gap) r.is p.gap;
+      first = subst (λ z. IsChildGap f q (us ++ p.ks) z a.gap) r.is p.gap;
       second = r.gap;
     }
 
-pub gap_none : (f : Layout) (q : ℕ) (us vs : List ℕ) (gap : Gap) → IsGap f q us vs gap → vs ≡ [] → gap.next ≡ None
+pub gap_none : (f : Layout) (q : ℕ) (us vs : List ℕ) (gap : ChildGap) → IsChildGap f q us vs gap → vs ≡ [] → gap.next ≡ None
 gap_none f q us vs gap g e = g.next ∙ ap (λ z. node_named (head_or z none)) e
 
 -- a test for none

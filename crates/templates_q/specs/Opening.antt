@@ -7,14 +7,14 @@ use Rattle.arena_model.specs.NamedTree.{HasTwoEach}
 use Rattle.bubble_pass.specs.declared.labels.Label.TheVariants.{Partial as Partly}
 use Rattle.bubble_pass.specs.Marks.{Marks, label_at, size_of}
 use Rattle.template_model.specs.Standing.{IsShapeAt}
-use Rattle.templates_q.specs.declared.walk.Gap.{Gap}
-use Rattle.templates_q.specs.declared.stretch.Stretch.{Stretch}
-use Rattle.templates_q.specs.Walk.{IsGap, IsFirst}
+use Rattle.templates_q.specs.declared.walk.ChildGap.{ChildGap}
+use Rattle.templates_q.specs.declared.stretch.PassedSpan.{PassedSpan}
+use Rattle.templates_q.specs.Walk.{IsChildGap, IsFirst}
 use Rattle.templates_q.specs.Span.{IsStretch}
 use Rattle.templates_q.specs.Splicing.{IsSplicedIn}
 
 -- x is a Q-shape, and the next child at this place
-pub record CanOpen (f : Layout) (w : Marks) (from : Gap) (x : ℕ) : Type 0 where
+pub record CanOpen (f : Layout) (w : Marks) (from : ChildGap) (x : ℕ) : Type 0 where
   pub two : HasTwoEach f
   pub room : size_of w ≡ length f.slots
   pub q : ℕ
@@ -25,14 +25,14 @@ pub record CanOpen (f : Layout) (w : Marks) (from : Gap) (x : ℕ) : Type 0 wher
   pub shape : IsShapeAt f w x h
 
 -- so many children, at most one, come next at this place, if there is one, and each is a Q-shape
-pub record CanOpenCounted (f : Layout) (w : Marks) (from : Gap) (count : ℕ) : Type 0 where
+pub record CanOpenCounted (f : Layout) (w : Marks) (from : ChildGap) (count : ℕ) : Type 0 where
   pub two : HasTwoEach f
   pub room : size_of w ≡ length f.slots
   pub q : ℕ
   pub us : List ℕ
   pub xs : List ℕ
   pub vs : List ℕ
-  pub place : 1 ≤ length xs → IsGap f q us (xs ++ vs) from
+  pub place : 1 ≤ length xs → IsChildGap f q us (xs ++ vs) from
   pub many : length xs ≡ count
   pub one : length xs ≤ 1
   pub shape : (k : ℕ) → 1 ≤ occurs xs k → (h : Partial) × IsShapeAt f w k h
@@ -43,13 +43,13 @@ AreShaped f w q = (k : ℕ) → 1 ≤ occurs (children_at f q) k → label_at w 
 
 -- The arena f became g: instead of the one node that comes next at this place stand its children, the empty ones first.
 -- Where no node is named, nothing changed.
-abbrev pub IsOpenedAt : Layout → Layout → Marks → ℕ → Gap → List ℕ → Type 0
+abbrev pub IsOpenedAt : Layout → Layout → Marks → ℕ → ChildGap → List ℕ → Type 0
 IsOpenedAt f g w q from [] = g ≡ f
 IsOpenedAt f g w q from (x ∷ []) = (us vs : List ℕ) (h : Partial) → IsFirst f q us x vs from → (s : IsShapeAt f w x h) → IsSplicedIn f g q x us (s.es ++ s.fs) vs
 IsOpenedAt f g w q from (x ∷ y ∷ xs) = ⊥
 
 -- the arena f became g by that at the front of the labelled children, and then e by that at their end
-pub record AreOpened (f e : Layout) (w : Marks) (q : ℕ) (s : Stretch) (r : IsStretch f w q s) : Type 0 where
+pub record AreOpened (f e : Layout) (w : Marks) (q : ℕ) (s : PassedSpan) (r : IsStretch f w q s) : Type 0 where
   pub g : Layout
   pub layout : IsLayout g
   pub first : IsOpenedAt f g w q s.from r.passed.ps

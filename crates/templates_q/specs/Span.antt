@@ -13,10 +13,10 @@ use Rattle.bubble_pass.specs.Pass.{IsRightAt}
 use Rattle.bubble_pass.specs.Sweep.{IsRight, full_one, partial_one}
 use Rattle.template_model.specs.Standing.{child_trees, AreMarkedAs, AreShapesAt, IsReady, IsInRun, IsReadyInside}
 use Rattle.template_model.specs.Treated.{IsOutside, StandsFor}
-use Rattle.templates_q.specs.declared.walk.Gap.{Gap}
+use Rattle.templates_q.specs.declared.walk.ChildGap.{ChildGap}
 use Rattle.templates_q.specs.declared.walk.Passed.{Passed}
-use Rattle.templates_q.specs.declared.stretch.Stretch.{Stretch}
-use Rattle.templates_q.specs.Walk.{AreAll, EndsWithout, IsGap}
+use Rattle.templates_q.specs.declared.stretch.PassedSpan.{PassedSpan}
+use Rattle.templates_q.specs.Walk.{AreAll, EndsWithout, IsChildGap}
 use Rattle.templates_q.specs.Fits.{FitsQ3}
 
 -- how many of these nodes have a label
@@ -62,7 +62,7 @@ pub record ArePassed (f : Layout) (w : Marks) (q : ℕ) (us vs : List ℕ) (p : 
   pub is : vs ≡ ks ++ rest
   pub labelled : AreLabelled w ks
   pub count : length ks ≡ p.count
-  pub gap : IsGap f q (us ++ ks) rest p.gap
+  pub gap : IsChildGap f q (us ++ ks) rest p.gap
 
 -- x is a labelled child of the Q-node q
 pub record IsMarkedChild (f : Layout) (w : Marks) (q x : ℕ) : Type 0 where
@@ -71,16 +71,16 @@ pub record IsMarkedChild (f : Layout) (w : Marks) (q x : ℕ) : Type 0 where
   pub marked : label_at w x ≢ Empty
 
 -- the place between an empty child of q, or its end, and a labelled one
-pub record IsStart (f : Layout) (w : Marks) (q : ℕ) (gap : Gap) : Type 0 where
+pub record IsStart (f : Layout) (w : Marks) (q : ℕ) (gap : ChildGap) : Type 0 where
   pub us : List ℕ
   pub vs : List ℕ
-  pub place : IsGap f q us vs gap
+  pub place : IsChildGap f q us vs gap
   pub before : EndsEmpty w us
   pub some : BeginsLabelled w vs
 
 -- From the place between us and vs the walk passed of vs at most one partial child, then full ones, then at most one
 -- partial one, and each time all that came.
-pub record IsSpanPassed (f : Layout) (w : Marks) (q : ℕ) (us vs : List ℕ) (s : Stretch) : Type 0 where
+pub record IsSpanPassed (f : Layout) (w : Marks) (q : ℕ) (us vs : List ℕ) (s : PassedSpan) : Type 0 where
   pub ps : List ℕ
   pub fs : List ℕ
   pub ls : List ℕ
@@ -97,11 +97,11 @@ pub record IsSpanPassed (f : Layout) (w : Marks) (q : ℕ) (us vs : List ℕ) (s
   pub no_first : length ps ≡ 0 → EndsWithout Partial w (fs ++ (ls ++ rest))
   pub no_full : EndsWithout Full w (ls ++ rest)
   pub no_last : length ls ≡ 0 → EndsWithout Partial w rest
-  pub from : IsGap f q us vs s.from
-  pub end : IsGap f q (us ++ (ps ++ (fs ++ ls))) rest s.last.gap
+  pub from : IsChildGap f q us vs s.from
+  pub end : IsChildGap f q (us ++ (ps ++ (fs ++ ls))) rest s.last.gap
 
 -- such a walk over the labelled children of q that stand together
-pub record IsStretch (f : Layout) (w : Marks) (q : ℕ) (s : Stretch) : Type 0 where
+pub record IsStretch (f : Layout) (w : Marks) (q : ℕ) (s : PassedSpan) : Type 0 where
   pub us : List ℕ
   pub vs : List ℕ
   pub before : EndsEmpty w us

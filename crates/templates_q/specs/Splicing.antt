@@ -10,7 +10,7 @@ use Rattle.bubble_pass.specs.declared.labels.Label.TheVariants.{Empty, Partial a
 use Rattle.bubble_pass.specs.Marks.{Marks, label_at, size_of}
 use Rattle.pq_plain.specs.Templates.{Partial}
 use Rattle.template_model.specs.Standing.{IsShapeAt}
-use Rattle.templates_q.specs.declared.q2.Line.{Line}
+use Rattle.templates_q.specs.declared.q2.PartialLine.{PartialLine}
 use Rattle.templates_q.specs.Walk.{AreChildren, AreAll}
 
 -- the children of the Q-node q are us, c and vs, in this order or turned, and `towards` is the neighbour of c among vs
@@ -37,7 +37,7 @@ IsSplicedIn f g q c us ms vs =
     ⊎ ((children_at f q ≡ reverse (us ++ c ∷ vs)) × (g ≡ spliced f q c (reverse (us ++ (ms ++ vs)))))
 
 -- the partial child of the Q-node q, between empty children and full ones
-pub record IsPartialLine (f : Layout) (w : Marks) (q : ℕ) (line : Line) : Type 0 where
+pub record IsPartialLine (f : Layout) (w : Marks) (q : ℕ) (line : PartialLine) : Type 0 where
   pub us : List ℕ
   pub vs : List ℕ
   pub place : IsLineIn f q line.child.index us vs line.towards

@@ -8,7 +8,7 @@ use Rattle.pq_arena.specs.Looks.{node_named}
 use Rattle.bubble_pass.specs.declared.labels.Label.{Label as Mark}
 use Rattle.bubble_pass.specs.declared.labels.Label.TheVariants.{Empty, Partial, Full}
 use Rattle.bubble_pass.specs.Marks.{Marks, label_at, size_of}
-use Rattle.templates_q.specs.declared.walk.Gap.{Gap}
+use Rattle.templates_q.specs.declared.walk.ChildGap.{ChildGap}
 use Rattle.templates_q.specs.declared.walk.Passed.{Passed}
 
 -- the children of n are these, in this order or turned
@@ -16,15 +16,15 @@ abbrev pub AreChildren : Layout → ℕ → List ℕ → Type 0
 AreChildren f n ks = (children_at f n ≡ ks) ⊎ (children_at f n ≡ reverse ks)
 
 -- the place between us and vs, which are the children of the Q-node q in the order of the walk
-pub record IsGap (f : Layout) (q : ℕ) (us vs : List ℕ) (gap : Gap) : Type 0 where
+pub record IsChildGap (f : Layout) (q : ℕ) (us vs : List ℕ) (gap : ChildGap) : Type 0 where
   pub is_q : shape_at f q ≡ Some Q
   pub children : AreChildren f q (us ++ vs)
   pub before : gap.before ≡ node_named (last_or us none)
   pub next : gap.next ≡ node_named (head_or vs none)
 
 -- the place before x, which is next
-abbrev pub IsFirst : Layout → ℕ → List ℕ → ℕ → List ℕ → Gap → Type 0
-IsFirst f q us x vs gap = IsGap f q us (x ∷ vs) gap
+abbrev pub IsFirst : Layout → ℕ → List ℕ → ℕ → List ℕ → ChildGap → Type 0
+IsFirst f q us x vs gap = IsChildGap f q us (x ∷ vs) gap
 
 -- each of these nodes has this label
 abbrev pub AreAll : Mark → Marks → List ℕ → Type 0
@@ -38,7 +38,7 @@ pub record IsPassed (l : Mark) (f : Layout) (w : Marks) (q : ℕ) (us vs : List 
   pub is : vs ≡ ks ++ rest
   pub marked : AreAll l w ks
   pub count : length ks ≡ p.count
-  pub gap : IsGap f q (us ++ ks) rest p.gap
+  pub gap : IsChildGap f q (us ++ ks) rest p.gap
 
 -- the first of vs has another label, or there is none
 abbrev pub EndsWithout : Mark → Marks → List ℕ → Type 0

@@ -1,5 +1,5 @@
-//! The templates Q1, Q2 and Q3 of Booth and Lueker (1976), in place: where each fits at a Q-node of an arena, and what it
-//! makes there. Each is judged by the labels of the labelled children alone, and none walks over empty children.
+//! The templates Q1, Q2 and Q3 of Booth and Lueker (1976), in place: where each fits at a Q-node of an arena, and what
+//! it makes there. Each is judged by the labels of the labelled children alone, and none walks over empty children.
 #![tactic(auto)]
 
 mod q1;

@@ -5,7 +5,7 @@ ghost use Rattle.pq_plain.specs.Templates.{Label};
 ghost use Rattle.template_model.specs.Standing.{IsReady, AreMarkedAs};
 ghost use Rattle.templates_q.specs.Fits.{FitsQ1};
 
-use crate::walk::{Gap, past_fulls};
+use crate::walk::{ChildGap, past_fulls};
 use bubble_pass::Work;
 use pq_arena::{Arena, NodeId, Shape};
 use step_count::{Ledger, Steps};
@@ -29,7 +29,7 @@ pub fn fits_q1<L: Ledger>(
     let view = arena.look(node, steps);
     match view.shape {
         Shape::Q => {
-            let start = Gap {
+            let start = ChildGap {
                 before: None,
                 next: view.ends[0],
             };

@@ -5,7 +5,7 @@ ghost use Rattle.arena_model.specs.Layout.{children_at};
 ghost use Rattle.pq_plain.specs.Templates.{Partial, Label, IsQ2};
 ghost use Rattle.template_model.specs.Standing.{IsReady, AreMarkedAs, AreShapesAt, child_trees};
 ghost use Rattle.template_model.specs.Treated.{IsTreated, StandsForPartial};
-ghost use Rattle.templates_q.specs.Walk.{IsGap};
+ghost use Rattle.templates_q.specs.Walk.{IsChildGap};
 ghost use Rattle.templates_q.specs.Lines.{AreCounted, IsRunFrom};
 ghost use Rattle.templates_q.specs.Fits.{FitsQ2, StandsQ2};
 ghost use Rattle.templates_q.specs.Splicing.{IsPartialLine};
@@ -13,7 +13,7 @@ ghost use Rattle.pq_arena.specs.Looks.{ShowsNode};
 ghost use Rattle.arena_model.specs.declared.Shape.TheVariants.{Q};
 
 use crate::splice::splice_in;
-use crate::walk::{Gap, past_fulls, past_partial};
+use crate::walk::{ChildGap, past_fulls, past_partial};
 use bubble_pass::{Counts, Work};
 use pq_arena::{Arena, NodeId, NodeView, Shape};
 use step_count::{Ledger, Steps};
@@ -25,18 +25,18 @@ pub fn are_counts(counts: Counts, full: u32, partial: u32) -> bool
     counts.full == full && counts.partial == partial
 }
 
-// Whether the children from this place on, of which so many are full and partial, are full ones, at most one partial one
-// and empty ones, and not all are full.
+// Whether the children from this place on, of which so many are full and partial, are full ones, at most one partial
+// one and empty ones, and not all are full.
 fn is_run_from<L: Ledger>(
     arena: &Arena,
     work: &Work,
-    from: Gap,
+    from: ChildGap,
     counts: Counts,
     steps: &mut Steps<L>,
 ) -> bool
     requires room { size_of work.now ≡ length arena.now.slots }
-    requires place { (q : ℕ) × (ks : List ℕ) × IsGap arena.now q [] ks from × AreCounted work.now ks counts.full counts.partial }
-    ensures run { (q : ℕ) (ks : List ℕ) → IsGap arena.now q [] ks from → AreCounted work.now ks counts.full counts.partial → (IsTrue result ↔ IsRunFrom work.now ks) }
+    requires place { (q : ℕ) × (ks : List ℕ) × IsChildGap arena.now q [] ks from × AreCounted work.now ks counts.full counts.partial }
+    ensures run { (q : ℕ) (ks : List ℕ) → IsChildGap arena.now q [] ks from → AreCounted work.now ks counts.full counts.partial → (IsTrue result ↔ IsRunFrom work.now ks) }
     ensures ticks { steps.new ≤ steps.old + counts.full + counts.partial }
 {
     arena.layout_law();
@@ -67,14 +67,14 @@ pub fn has_q2<L: Ledger>(
     if are_counts(counts, 0, 0) {
         return false;
     }
-    let front = Gap {
+    let front = ChildGap {
         before: None,
         next: view.ends[0],
     };
     if is_run_from(arena, work, front, counts, steps) {
         return true;
     }
-    let back = Gap {
+    let back = ChildGap {
         before: None,
         next: view.ends[1],
     };
@@ -106,7 +106,7 @@ pub fn fits_q2<L: Ledger>(
 
 // A partial child, and its neighbour on the side of the full children: none where there is no full child.
 #[derive(Clone, Copy)]
-pub struct Line {
+pub struct PartialLine {
     pub child: NodeId,
     pub towards: Option<NodeId>,
 }
@@ -118,29 +118,34 @@ fn full_side<L: Ledger>(
     node: NodeId,
     view: &NodeView,
     steps: &mut Steps<L>,
-) -> Gap
+) -> ChildGap
     requires ready { IsReady arena.now work.now node.index }
     requires shown { ShowsNode arena.now node.index view.now }
     requires fits { (ps : List Label) × AreMarkedAs arena.now work.now node.index ps × FitsQ2 arena.now node.index ps }
-    ensures side { (ks : List ℕ) × IsGap arena.now node.index [] ks result × IsRunFrom work.now ks }
+    ensures side { (ks : List ℕ) × IsChildGap arena.now node.index [] ks result × IsRunFrom work.now ks }
     ensures ticks { steps.new ≤ steps.old + fulls_at work.now node.index + partials_at work.now node.index }
 {
     let counts = work.counts(node);
-    let front = Gap {
+    let front = ChildGap {
         before: None,
         next: view.ends[0],
     };
     if is_run_from(arena, work, front, counts, steps) {
         return front;
     }
-    Gap {
+    ChildGap {
         before: None,
         next: view.ends[1],
     }
 }
 
 // The partial child of `node`, where Q2 fits and there is one.
-fn find_line<L: Ledger>(arena: &Arena, work: &Work, node: NodeId, steps: &mut Steps<L>) -> Line
+fn find_line<L: Ledger>(
+    arena: &Arena,
+    work: &Work,
+    node: NodeId,
+    steps: &mut Steps<L>,
+) -> PartialLine
     requires ready { IsReady arena.now work.now node.index }
     requires fits { (ps : List Label) × AreMarkedAs arena.now work.now node.index ps × FitsQ2 arena.now node.index ps }
     requires some { 1 ≤ partials_at work.now node.index }
@@ -154,7 +159,7 @@ fn find_line<L: Ledger>(arena: &Arena, work: &Work, node: NodeId, steps: &mut St
     let Some(child) = place.next else {
         unreachable!()
     };
-    Line {
+    PartialLine {
         child,
         towards: place.before,
     }

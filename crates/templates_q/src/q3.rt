@@ -13,12 +13,12 @@ ghost use Rattle.templates_q.specs.Fits.{FitsQ3};
 ghost use Rattle.templates_q.specs.Opening.{AreOpened, AreShaped, CanOpen, CanOpenCounted, IsOpenedAt};
 ghost use Rattle.templates_q.specs.Span.{AreKeptBelow, BecomesQ3, CanApplyQ3, CanAskQ3, IsRunMeant, IsStretch, StandsQ3, labelled_in};
 ghost use Rattle.templates_q.specs.Splicing.{IsSplicedIn};
-ghost use Rattle.templates_q.specs.Walk.{IsFirst, IsGap};
+ghost use Rattle.templates_q.specs.Walk.{IsFirst, IsChildGap};
 
 use crate::q2::{are_counts, has_q2};
 use crate::splice::splice_in;
-use crate::stretch::{Stretch, labelled_at, stretch_around};
-use crate::walk::{Gap, past};
+use crate::stretch::{PassedSpan, labelled_at, stretch_around};
+use crate::walk::{ChildGap, past};
 use bubble_pass::Work;
 use pq_arena::{Arena, NodeId, NodeView, Shape};
 use step_count::{Ledger, Steps};
@@ -61,8 +61,8 @@ fn has_q3_around<L: Ledger>(arena: &Arena, work: &Work, node: NodeId, steps: &mu
     labelled_at(work, seen.last.gap.next).is_none()
 }
 
-/// Whether Q3 fits at `node`: the pertinent root, a Q-node with empty children, at most one partial child, full children,
-/// at most one partial child and empty children, where Q2 does not fit.
+/// Whether Q3 fits at `node`: the pertinent root, a Q-node with empty children, at most one partial child, full
+/// children, at most one partial child and empty children, where Q2 does not fit.
 ///
 /// Where the pass ended inside a Q-node and `root` is true, `node` is one of the run, and the answer is that for its
 /// Q-node, which need not be known. It ticks at most 4 times for each labelled child of that node, and 4 times more.
@@ -96,7 +96,13 @@ pub fn fits_q3<L: Ledger>(
 }
 
 // Puts the children of the Q-shape `x`, the next child at this place, in its place, the empty ones first.
-fn open_next<L: Ledger>(arena: &mut Arena, work: &Work, from: Gap, x: NodeId, steps: &mut Steps<L>)
+fn open_next<L: Ledger>(
+    arena: &mut Arena,
+    work: &Work,
+    from: ChildGap,
+    x: NodeId,
+    steps: &mut Steps<L>,
+)
     requires { CanOpen arena.old work.now from x.index }
     ensures opened { (q : ℕ) (us vs : List ℕ) (h : Partial) → IsFirst arena.old q us x.index vs from → (s : IsShapeAt arena.old work.now x.index h) →
         IsSplicedIn arena.old arena.new q x.index us (s.es ++ s.fs) vs }
@@ -111,12 +117,12 @@ fn open_next<L: Ledger>(arena: &mut Arena, work: &Work, from: Gap, x: NodeId, st
 fn open_counted<L: Ledger>(
     arena: &mut Arena,
     work: &Work,
-    from: Gap,
+    from: ChildGap,
     count: u32,
     steps: &mut Steps<L>,
 )
     requires { CanOpenCounted arena.old work.now from count }
-    ensures opened { (q : ℕ) (us xs vs : List ℕ) → (1 ≤ length xs → IsGap arena.old q us (xs ++ vs) from) → length xs ≡ count → IsOpenedAt arena.old arena.new work.now q from xs }
+    ensures opened { (q : ℕ) (us xs vs : List ℕ) → (1 ≤ length xs → IsChildGap arena.old q us (xs ++ vs) from) → length xs ≡ count → IsOpenedAt arena.old arena.new work.now q from xs }
     ensures ticks { steps.new ≤ steps.old + 3 }
 {
     arena.layout_law();
@@ -129,7 +135,7 @@ fn open_counted<L: Ledger>(
 
 // Puts the children of the partial ones at both ends of these labelled children in their places, the full ones towards
 // the middle.
-fn open_ends<L: Ledger>(arena: &mut Arena, work: &Work, seen: Stretch, steps: &mut Steps<L>)
+fn open_ends<L: Ledger>(arena: &mut Arena, work: &Work, seen: PassedSpan, steps: &mut Steps<L>)
     requires one { IsOneTree arena.old }
     requires two { HasTwoEach arena.old }
     requires room { size_of work.now ≡ length arena.old.slots }
@@ -140,7 +146,7 @@ fn open_ends<L: Ledger>(arena: &mut Arena, work: &Work, seen: Stretch, steps: &m
     arena.layout_law();
     open_counted(arena, work, seen.from, seen.first.count, steps);
     arena.layout_law();
-    let back = Gap {
+    let back = ChildGap {
         before: seen.last.gap.next,
         next: seen.last.gap.before,
     };
@@ -188,12 +194,12 @@ fn apply_around<L: Ledger>(
     beside
 }
 
-/// Applies Q3 at `node`, the pertinent root: the children of each partial child stand in its place, the full ones towards
-/// the middle. The answer is `node`.
+/// Applies Q3 at `node`, the pertinent root: the children of each partial child stand in its place, the full ones
+/// towards the middle. The answer is `node`.
 ///
-/// Where the pass ended inside a Q-node, `node` is one of the run, and this is done at its Q-node, which need not be known.
-/// The answer is then a child of that Q-node. It ticks at most 64 times for each labelled child of that node, and 64 times
-/// more.
+/// Where the pass ended inside a Q-node, `node` is one of the run, and this is done at its Q-node, which need
+/// not be known. The answer is then a child of that Q-node. It ticks at most 64 times for each labelled child of
+/// that node, and 64 times more.
 pub fn apply_q3<L: Ledger>(
     arena: &mut Arena,
     work: &mut Work,

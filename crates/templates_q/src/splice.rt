@@ -28,8 +28,8 @@ fn full_end<L: Ledger>(arena: &Arena, work: &Work, line: NodeId, steps: &mut Ste
     }
 }
 
-// Puts the children of the Q-shape `line`, a child of a Q-node, in its place, the full ones on the side of its neighbour
-// `towards`. That is none where `line` is the end child on this side.
+// Puts the children of the Q-shape `line`, a child of a Q-node, in its place, the full ones on the side of its
+// neighbour `towards`. That is none where `line` is the end child on this side.
 pub fn splice_in<L: Ledger>(
     arena: &mut Arena,
     work: &Work,

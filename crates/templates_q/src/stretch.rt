@@ -2,10 +2,10 @@
 ghost use Rattle.std.specs.Prelude.{◌≡◌, ℕ, ◌+◌, ◌*◌, ◌≤◌, List, length};
 ghost use Rattle.arena_model.specs.Layout.{children_at};
 ghost use Rattle.bubble_pass.specs.Marks.{size_of};
-ghost use Rattle.templates_q.specs.Walk.{IsGap, IsInRoom};
+ghost use Rattle.templates_q.specs.Walk.{IsChildGap, IsInRoom};
 ghost use Rattle.templates_q.specs.Span.{ArePassed, BeginsEmpty, IsMarkedChild, IsSpanPassed, IsStart, IsStretch, labelled_in, labelled_one};
 
-use crate::walk::{Gap, Passed, past, past_fulls, past_partial};
+use crate::walk::{ChildGap, Passed, past, past_fulls, past_partial};
 use bubble_pass::{Label, Work};
 use pq_arena::{Arena, NodeId};
 use step_count::{Ledger, Steps};
@@ -13,8 +13,8 @@ use step_count::{Ledger, Steps};
 // What a walk passed that began in front of labelled children: a partial child, if it comes first, the full ones behind
 // it, and a partial one behind these.
 #[derive(Clone, Copy)]
-pub struct Stretch {
-    pub from: Gap,
+pub struct PassedSpan {
+    pub from: ChildGap,
     pub first: Passed,
     pub fulls: Passed,
     pub last: Passed,
@@ -35,11 +35,16 @@ pub fn labelled_at(work: &Work, n: Option<NodeId>) -> Option<NodeId>
 }
 
 // Passes the labelled children that come next.
-fn past_labelled<L: Ledger>(arena: &Arena, work: &Work, from: Gap, steps: &mut Steps<L>) -> Passed
+fn past_labelled<L: Ledger>(
+    arena: &Arena,
+    work: &Work,
+    from: ChildGap,
+    steps: &mut Steps<L>,
+) -> Passed
     requires room { size_of work.now ≡ length arena.now.slots }
-    requires place { (q : ℕ) × (us : List ℕ) × (vs : List ℕ) × IsGap arena.now q us vs from }
-    ensures passed { (q : ℕ) (us vs : List ℕ) → IsGap arena.now q us vs from → ArePassed arena.now work.now q us vs result }
-    ensures stops { (q : ℕ) (us vs : List ℕ) → IsGap arena.now q us vs result.gap → BeginsEmpty work.now vs }
+    requires place { (q : ℕ) × (us : List ℕ) × (vs : List ℕ) × IsChildGap arena.now q us vs from }
+    ensures passed { (q : ℕ) (us vs : List ℕ) → IsChildGap arena.now q us vs from → ArePassed arena.now work.now q us vs result }
+    ensures stops { (q : ℕ) (us vs : List ℕ) → IsChildGap arena.now q us vs result.gap → BeginsEmpty work.now vs }
     ensures ticks { steps.new ≡ steps.old + result.count }
 {
     arena.layout_law();
@@ -53,7 +58,7 @@ fn past_labelled<L: Ledger>(arena: &Arena, work: &Work, from: Gap, steps: &mut S
 }
 
 // The place in front of the labelled children around `x`, as a walk over them comes to it.
-fn start_of<L: Ledger>(arena: &Arena, work: &Work, x: NodeId, steps: &mut Steps<L>) -> Gap
+fn start_of<L: Ledger>(arena: &Arena, work: &Work, x: NodeId, steps: &mut Steps<L>) -> ChildGap
     requires room { size_of work.now ≡ length arena.now.slots }
     requires child { (q : ℕ) × IsMarkedChild arena.now work.now q x.index }
     ensures start { (q : ℕ) → IsMarkedChild arena.now work.now q x.index → IsStart arena.now work.now q result }
@@ -61,29 +66,34 @@ fn start_of<L: Ledger>(arena: &Arena, work: &Work, x: NodeId, steps: &mut Steps<
 {
     arena.layout_law();
     let view = arena.look(x, steps);
-    let aside = Gap {
+    let aside = ChildGap {
         before: Some(x),
         next: view.near[0],
     };
     let end = past_labelled(arena, work, aside, steps).gap;
-    Gap {
+    ChildGap {
         before: end.next,
         next: end.before,
     }
 }
 
 // Passes a partial child, full ones and a partial one, as far as they come next.
-fn past_span<L: Ledger>(arena: &Arena, work: &Work, from: Gap, steps: &mut Steps<L>) -> Stretch
+fn past_span<L: Ledger>(
+    arena: &Arena,
+    work: &Work,
+    from: ChildGap,
+    steps: &mut Steps<L>,
+) -> PassedSpan
     requires room { size_of work.now ≡ length arena.now.slots }
-    requires place { (q : ℕ) × (us : List ℕ) × (vs : List ℕ) × IsGap arena.now q us vs from }
-    ensures passed { (q : ℕ) (us vs : List ℕ) → IsGap arena.now q us vs from → IsSpanPassed arena.now work.now q us vs result }
+    requires place { (q : ℕ) × (us : List ℕ) × (vs : List ℕ) × IsChildGap arena.now q us vs from }
+    ensures passed { (q : ℕ) (us vs : List ℕ) → IsChildGap arena.now q us vs from → IsSpanPassed arena.now work.now q us vs result }
     ensures few { result.first.count + result.last.count ≤ 2 }
     ensures ticks { steps.new ≡ steps.old + result.first.count + result.fulls.count + result.last.count }
 {
     let first = past_partial(arena, work, from, steps);
     let fulls = past_fulls(arena, work, first.gap, steps);
     let last = past_partial(arena, work, fulls.gap, steps);
-    Stretch {
+    PassedSpan {
         from,
         first,
         fulls,
@@ -97,7 +107,7 @@ pub fn stretch_around<L: Ledger>(
     work: &Work,
     x: NodeId,
     steps: &mut Steps<L>,
-) -> Stretch
+) -> PassedSpan
     requires room { size_of work.now ≡ length arena.now.slots }
     requires child { (q : ℕ) × IsMarkedChild arena.now work.now q x.index }
     ensures stretch { (q : ℕ) → IsMarkedChild arena.now work.now q x.index → IsStretch arena.now work.now q result }

@@ -3,7 +3,7 @@ ghost use Rattle.std.specs.Prelude.{◌≡◌, ◌≢◌, ℕ, ◌+◌, ◌≤�
 ghost use Rattle.arena_model.specs.Layout.{IsInUse};
 ghost use Rattle.bubble_pass.specs.Marks.{size_of};
 ghost use Rattle.bubble_pass.specs.declared.labels.Label.TheVariants.{Full, Partial};
-ghost use Rattle.templates_q.specs.Walk.{IsGap, IsPassed, IsFirst, full_in, partial_in, IsInRoom, EndsWithout};
+ghost use Rattle.templates_q.specs.Walk.{IsChildGap, IsPassed, IsFirst, full_in, partial_in, IsInRoom, EndsWithout};
 
 use bubble_pass::{Label, Work};
 use pq_arena::{Arena, NodeId, NodeView};
@@ -12,7 +12,7 @@ use step_count::{Ledger, Steps};
 // A place between two neighbouring children of a Q-node, as a walk in one direction comes to it: the child that was
 // passed last, and the next one. At an end of the run one of the two is missing.
 #[derive(Clone, Copy)]
-pub struct Gap {
+pub struct ChildGap {
     pub before: Option<NodeId>,
     pub next: Option<NodeId>,
 }
@@ -21,7 +21,7 @@ pub struct Gap {
 #[derive(Clone, Copy)]
 pub struct Passed {
     pub count: u32,
-    pub gap: Gap,
+    pub gap: ChildGap,
 }
 
 // This node, if it is full.
@@ -65,25 +65,30 @@ fn beyond(view: &NodeView, before: Option<NodeId>) -> Option<NodeId>
 }
 
 // The place behind the child `x`, which is next.
-pub fn past<L: Ledger>(arena: &Arena, from: Gap, x: NodeId, steps: &mut Steps<L>) -> Gap
+pub fn past<L: Ledger>(arena: &Arena, from: ChildGap, x: NodeId, steps: &mut Steps<L>) -> ChildGap
     requires { IsInUse arena.now x.index }
-    ensures passed { (q : ℕ) (us vs : List ℕ) → IsFirst arena.now q us x.index vs from → IsGap arena.now q (us ++ x.index ∷ []) vs result }
+    ensures passed { (q : ℕ) (us vs : List ℕ) → IsFirst arena.now q us x.index vs from → IsChildGap arena.now q (us ++ x.index ∷ []) vs result }
     ensures ticks { steps.new ≡ steps.old + 1 }
 {
     arena.layout_law();
     let view = arena.look(x, steps);
-    Gap {
+    ChildGap {
         before: Some(x),
         next: beyond(&view, from.before),
     }
 }
 
 // Passes the full children that come next.
-pub fn past_fulls<L: Ledger>(arena: &Arena, work: &Work, from: Gap, steps: &mut Steps<L>) -> Passed
+pub fn past_fulls<L: Ledger>(
+    arena: &Arena,
+    work: &Work,
+    from: ChildGap,
+    steps: &mut Steps<L>,
+) -> Passed
     requires room { size_of work.now ≡ length arena.now.slots }
-    requires place { (q : ℕ) × (us : List ℕ) × (vs : List ℕ) × IsGap arena.now q us vs from }
-    ensures passed { (q : ℕ) (us vs : List ℕ) → IsGap arena.now q us vs from → IsPassed Full arena.now work.now q us vs result }
-    ensures stops { (q : ℕ) (us vs : List ℕ) → IsGap arena.now q us vs result.gap → EndsWithout Full work.now vs }
+    requires place { (q : ℕ) × (us : List ℕ) × (vs : List ℕ) × IsChildGap arena.now q us vs from }
+    ensures passed { (q : ℕ) (us vs : List ℕ) → IsChildGap arena.now q us vs from → IsPassed Full arena.now work.now q us vs result }
+    ensures stops { (q : ℕ) (us vs : List ℕ) → IsChildGap arena.now q us vs result.gap → EndsWithout Full work.now vs }
     ensures ticks { steps.new ≡ steps.old + result.count }
 {
     arena.layout_law();
@@ -100,13 +105,13 @@ pub fn past_fulls<L: Ledger>(arena: &Arena, work: &Work, from: Gap, steps: &mut 
 pub fn past_partial<L: Ledger>(
     arena: &Arena,
     work: &Work,
-    from: Gap,
+    from: ChildGap,
     steps: &mut Steps<L>,
 ) -> Passed
     requires room { size_of work.now ≡ length arena.now.slots }
-    requires place { (q : ℕ) × (us : List ℕ) × (vs : List ℕ) × IsGap arena.now q us vs from }
-    ensures passed { (q : ℕ) (us vs : List ℕ) → IsGap arena.now q us vs from → IsPassed Partial arena.now work.now q us vs result }
-    ensures stops { (q : ℕ) (us vs : List ℕ) → result.count ≡ 0 → IsGap arena.now q us vs result.gap → EndsWithout Partial work.now vs }
+    requires place { (q : ℕ) × (us : List ℕ) × (vs : List ℕ) × IsChildGap arena.now q us vs from }
+    ensures passed { (q : ℕ) (us vs : List ℕ) → IsChildGap arena.now q us vs from → IsPassed Partial arena.now work.now q us vs result }
+    ensures stops { (q : ℕ) (us vs : List ℕ) → result.count ≡ 0 → IsChildGap arena.now q us vs result.gap → EndsWithout Partial work.now vs }
     ensures one { result.count ≤ 1 }
     ensures ticks { steps.new ≡ steps.old + result.count }
 {

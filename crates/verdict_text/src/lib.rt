@@ -1,12 +1,13 @@
 //! Verdicts and their texts.
 //!
-//! A verdict is of version 1 or of version 2. A yes of version 1 has trees of which each frontier is an order of the side; those of a yes
-//! of version 2 have each order of the side as a frontier besides. The number in the first line is all in which their texts differ.
+//! A verdict is of version 1 or of version 2. A yes of version 1 has trees of which each frontier is an order of the
+//! side; those of a yes of version 2 have each order of the side as a frontier besides. The number in the first line is
+//! all in which their texts differ.
 //!
-//! A text has these lines, each with a line feed at its end and one space between entries, and nothing after the last of them.
-//! Capital letters stand for plain numbers, which have no leading zeros; V is 1 or 2, K is the word of a kind, and T the text of a tree. C and D are
-//! from 1 to 2,048 (`MAX_COLUMNS` of `row_model`), S is 1, and for `doubly` 1 or 2, the ends of intervals are at most 2^64 - 1, and
-//! every other number is at most 2^32 - 1.
+//! A text has these lines, each with a line feed at its end and one space between entries, and nothing after the last
+//! of them. Capital letters stand for plain numbers, which have no leading zeros; V is 1 or 2, K is the word of a kind,
+//! and T the text of a tree. C and D are from 1 to 2,048 (`MAX_COLUMNS` of `row_model`), S is 1, and for `doubly` 1 or
+//! 2, the ends of intervals are at most 2^64 - 1, and every other number is at most 2^32 - 1.
 //!
 //! ```text
 //! pq-verdict V
@@ -19,8 +20,8 @@
 //! end                           end
 //! ```
 //!
-//! A yes has the tree and the order of each side. For `proper` C lines `interval I L R` follow; for `clones` a line `places M` with M
-//! lines `place I F L` or `place I none`, and a line `contigs Q` with Q lines `contig F L`.
+//! A yes has the tree and the order of each side. For `proper` C lines `interval I L R` follow; for `clones` a line
+//! `places M` with M lines `place I F L` or `place I none`, and a line `contigs Q` with Q lines `contig F L`.
 #![tactic(auto)]
 
 ghost use Rattle.std.specs.Prelude.{◌≡◌, ◌≢◌, IfOk, IfSome, IfNone};

@@ -55,7 +55,8 @@ pub struct YesPart {
 pub struct NoPart {
     /// The side, 1 or 2.
     pub side: u8,
-    /// The lines of the cycle. The reason of each line joins its pair to that of the next line, and that of the last to the first.
+    /// The lines of the cycle. The reason of each line joins its pair to that of the next line, and that
+    /// of the last to the first.
     pub lines: Lines,
 }
 

@@ -43,11 +43,13 @@ pub fn wanted_labels(
     Ok(labels)
 }
 
+// The flag at this place.
 fn flag_at(rt: &impl Abort, flags: &Vec<bool>, place: usize) -> bool {
     assert!(rt; place < flags.len());
     flags[place]
 }
 
+// The label that is wanted at this place.
 fn wanted_at(rt: &impl Abort, labels: &Vec<Label>, place: usize) -> Label {
     assert!(rt; place < labels.len());
     labels[place]

@@ -56,6 +56,7 @@ fn move_on(rt: &impl Abort, order: &mut Vec<u32>) -> bool {
     true
 }
 
+// Puts a number at this place.
 fn set_at(rt: &impl Abort, numbers: &mut Vec<u32>, place: usize, to: u32) {
     assert!(rt; place < numbers.len());
     numbers[place] = to;
@@ -78,6 +79,7 @@ struct Reach {
     count: Vec<u32>,
 }
 
+// The reach of each node, where the columns have these positions. Each node comes after the one above it.
 fn reach_of(
     rt: &impl Abort,
     alloc: Global,
@@ -97,6 +99,7 @@ fn reach_of(
     Ok(reach)
 }
 
+// The reach of each leaf by itself; that of an inner node is still empty.
 fn leaf_reach(
     rt: &impl Abort,
     alloc: Global,
@@ -125,6 +128,7 @@ fn leaf_reach(
     Ok(Reach { low, high, count })
 }
 
+// Whether these positions of the columns are those of a frontier of the tree.
 fn is_front(
     rt: &impl Abort,
     alloc: Global,

@@ -13,6 +13,7 @@ use std::alloc::Global;
 use std::process::Abort;
 use step_count::{Blank, Ledger, Steps};
 
+// How many columns each tree has: as many as a matrix may have.
 const COLUMNS: u32 = 2048;
 
 // All columns.
@@ -254,6 +255,7 @@ pub fn nest<L: Ledger>(rt: &impl Abort, alloc: Global, blank: Blank) -> Result<(
     assert_found(rt, alloc, &mut arena, &row, &mut work, all, &mut steps)
 }
 
+// Makes the tree of P-nodes within one another in place of the root, and lists its nodes from the innermost.
 fn make_nest<L: Ledger>(
     rt: &impl Abort,
     alloc: Global,
@@ -274,6 +276,7 @@ fn make_nest<L: Ledger>(
     Ok(nodes)
 }
 
+// The node at this place of the list.
 fn node_at(rt: &impl Abort, nodes: &Vec<NodeId>, i: usize) -> NodeId {
     assert!(rt; i < nodes.len());
     nodes[i]
@@ -329,6 +332,7 @@ pub fn lines<L: Ledger>(rt: &impl Abort, alloc: Global, blank: Blank) -> Result<
     assert_found(rt, alloc, &mut arena, &row, &mut work, all, &mut steps)
 }
 
+// Makes the tree of Q-nodes within one another in place of the root, and lists its nodes from the innermost.
 fn make_lines<L: Ledger>(
     rt: &impl Abort,
     alloc: Global,

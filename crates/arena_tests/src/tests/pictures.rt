@@ -66,6 +66,7 @@ pub fn read<L: Ledger>(
     Ok(tree)
 }
 
+// Adds a node below the one at the place `above`. Its children are not listed yet.
 fn push_seen(
     node: NodeId,
     shape: Shape,

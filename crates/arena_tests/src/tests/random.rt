@@ -118,6 +118,7 @@ fn move_on(chosen: &mut Vec<bool>) -> bool {
     false
 }
 
+// The chosen columns in ascending order.
 fn row_of(alloc: Global, chosen: &Vec<bool>) -> Result<Vec<u32>, NoMemory> {
     let mut row = Vec::new(alloc);
     let mut column = 0u32;

@@ -21,6 +21,7 @@ struct Splice {
     wanted: &'static [u32],
 }
 
+// Each end of the Q-node beside each neighbour: between two others, at either end of the line, and with none beside it.
 const SPLICES: [Splice; 14] = [
     // Between two others.
     Splice {
@@ -139,6 +140,7 @@ pub fn all_splices<L: Ledger>(rt: &impl Abort, alloc: Global, blank: Blank) -> R
     Ok(())
 }
 
+// Makes one of the trees, splices its Q-node, and compares the line that comes of it. The node becomes spare.
 fn one_splice<L: Ledger>(
     rt: &impl Abort,
     alloc: Global,
@@ -242,6 +244,7 @@ fn assert_near<L: Ledger>(
     assert!(rt; is_same(view.near[1], named(rt, arena, second)));
 }
 
+// The leaf of the column; none for 0.
 fn named(rt: &impl Abort, arena: &Arena, column: u32) -> Option<NodeId> {
     if column == 0 {
         None

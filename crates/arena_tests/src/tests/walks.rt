@@ -110,6 +110,7 @@ fn is_free(rt: &impl Abort, tree: &Vec<Seen>, seen: Seen) -> bool {
         && children_of(rt, tree, seen.above).len() >= 3
 }
 
+// One of the leaves whose place can become empty, drawn at random; none where there is none.
 fn free_leaf(rt: &impl Abort, tree: &Vec<Seen>, dice: &mut Dice) -> Option<Seen> {
     let mut found = None;
     for seen in tree {

@@ -6,7 +6,7 @@ use Rattle.pq_tree.specs.Proper.{IsProper}
 use Rattle.pq_tree.specs.PqTree.{column_count, outline}
 use Rattle.open_gaps.specs.Gaps.{AreGaps}
 use Rattle.bound_tree.specs.declared.stretch.Stretch.{Stretch}
-use Rattle.bound_tree.specs.Free.{IsWithin, IsFree}
+use Rattle.bound_tree.specs.Free.{IsRoundGap, IsFree}
 use Rattle.bound_tree.specs.Stretches.{stretches}
 use Rattle.bound_tree.proofs.Exact.{exact}
 use Rattle.bound_tree.proofs.Within.{tree_within}
@@ -21,7 +21,7 @@ pub are_free-requires : goal.are_free-requires
 are_free-requires c =
     let proper : IsProper (column_count c.args.tree.now) (outline c.args.tree.now) = c.args.tree.now.proper in
     let o : c.in_ok-gaps.gaps.order ≡ leaves (outline c.args.tree.now) = c.in_ok-gaps.ensures.order ∙ c.deref.ensures.value ∙ c.in_ok-order.ensures.leaves in
-    subst (All (IsWithin (length c.in_ok-gaps.gaps.order))) (sym (c.deref-2.ensures.value ∙ c.in_ok-stretches.ensures))
+    subst (All (IsRoundGap (length c.in_ok-gaps.gaps.order))) (sym (c.deref-2.ensures.value ∙ c.in_ok-stretches.ensures))
     (tree_within (length c.in_ok-gaps.gaps.order) (outline c.args.tree.now) 0 proper.0 (omega (arith, ap (λ (l : List ℕ). length l) o)))
 
 pub returns : goal.returns

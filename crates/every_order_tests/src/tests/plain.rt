@@ -48,8 +48,8 @@ pub fn keeps_rows(order: &[u32], m: &Matrix) -> bool {
     true
 }
 
-// Whether the order can be read from the tree: the leaves of each node stand together, and those of the children of a Q-node
-// stand as the children do, from left to right or from right to left.
+// Whether the order can be read from the tree: the leaves of each node stand together, and those of the children of a
+// Q-node stand as the children do, from left to right or from right to left.
 #[cycle(read)]
 pub fn is_read_from(order: &[u32], tree: &Tree) -> bool {
     if !stand_together(order, |column| has_leaf(tree, column)) {

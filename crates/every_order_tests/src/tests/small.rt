@@ -90,8 +90,8 @@ fn has_each(frontiers: &[bool], valid: &[bool]) -> bool {
         .all(|(frontier, valid)| *frontier || !*valid)
 }
 
-// Asserts of each tree, where there is a valid order, that the classes tell what the list of orders does, and that the walk along
-// the leaves does too where the frontiers keep the rows. Where there is none, no tree has such frontiers.
+// Asserts of each tree, where there is a valid order, that the classes tell what the list of orders does, and that the
+// walk along the leaves does too where the frontiers keep the rows. Where there is none, no tree has such frontiers.
 fn agree_on<L: Ledger>(
     rt: &impl Abort,
     alloc: Global,
@@ -168,8 +168,8 @@ fn agree_on_all<L: Ledger, R: Abort>(rt: &R, alloc: Global, blank: Blank) -> Res
     Ok(tally)
 }
 
-// Six of the rows over four columns leave every order: the empty one, those of one column, and that of all. In four rows out
-// of these, 126 times, each tree but the 24 texts of one P-node lacks orders: 384.
+// Six of the rows over four columns leave every order: the empty one, those of one column, and that of all. In four
+// rows out of these, 126 times, each tree but the 24 texts of one P-node lacks orders: 384.
 #[test]
 fn every_matrix_of_at_most_four_columns_and_four_rows(rt: HostRuntime) -> Result<(), Fail> {
     let tally = agree_on_all::<Brand, HostRuntime>(&rt, rt.alloc(), Blank::new(1))?;

@@ -10,8 +10,8 @@ use super::Arena;
 use crate::node::{NodeKind, head_at};
 
 impl Arena {
-    /// Whether each node in use is at or below the root, so that no node stands alone. It goes over all nodes, and counts no
-    /// step.
+    /// Whether each node in use is at or below the root, so that no node stands alone. It goes over all
+    /// nodes, and counts no step.
     pub fn is_one_tree(&self) -> bool
         ensures { IsTrue result ↔ IsOneTree self.now }
     {

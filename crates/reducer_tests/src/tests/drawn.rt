@@ -91,8 +91,8 @@ fn spoil(marks: &mut [bool], draws: &mut Draws)
     marks[at] = !marks[at];
 }
 
-// Marks a row: of ten, seven are runs of the hidden order, two are runs with one column too many or too few, and one is any
-// set of columns.
+// Marks a row: of ten, seven are runs of the hidden order, two are runs with one column too many or too few,
+// and one is any set of columns.
 fn mark_row(places: &[u32], marks: &mut [bool], draws: &mut Draws)
     requires some { 0 < length marks.old }
     requires few { length marks.old ≤ 12 }

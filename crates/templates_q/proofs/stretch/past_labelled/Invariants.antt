@@ -1,12 +1,12 @@
 use Rattle.std.proofs.Common.{◌≡◌, ℕ, ◌+◌, ◌-◌, List, length}
-use Rattle.templates_q.specs.Walk.{IsGap}
+use Rattle.templates_q.specs.Walk.{IsChildGap}
 use Rattle.templates_q.specs.Span.{ArePassed}
 use Rattle.templates_q.proofs.stretch.past_labelled.Given as goal
 
 abbrev pub invariant-loop-x : goal.invariant-loop-x
 invariant-loop-x g l =
     (l.steps ≡ l.initial.steps + l.count) ×
-    ((q : ℕ) (us vs : List ℕ) → IsGap l.arena q us vs l.fn.from → ArePassed l.arena l.work q us vs (record { count = l.count; gap = l.gap }))
+    ((q : ℕ) (us vs : List ℕ) → IsChildGap l.arena q us vs l.fn.from → ArePassed l.arena l.work q us vs (record { count = l.count; gap = l.gap }))
 
 abbrev pub decreases-loop-x : goal.decreases-loop-x
 decreases-loop-x g l = length l.arena.slots - l.count
