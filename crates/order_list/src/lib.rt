@@ -1,8 +1,8 @@
 //! The first orders among the frontiers of a PQ-tree, in lexicographic order.
 //!
-//! The orders are found one after another, from the least on. What can still be read behind given columns is read from a
-//! list of trees; each column that can come next leaves another such list, and no list is a dead end. So no order is begun
-//! in vain.
+//! The orders are found one after another, from the least on. What can still be read behind given columns is
+//! read from a list of trees; each column that can come next leaves another such list, and no list is a dead
+//! end. So no order is begun in vain.
 #![tactic(auto)]
 
 ghost use Rattle.std.specs.Prelude.{◌≡◌, ◌↔◌, ◌≤◌, ◌+◌, ℕ, List, IfOk, IsTrue, length};
@@ -22,6 +22,11 @@ use walk::{Bag, Coming, read_on};
 
 /// The greatest number of orders that may be asked for.
 pub const MAX_ORDERS: u32 = 10_000;
+
+/// The value of the constant of this crate, by its numeral. A call stands for the clause alone.
+pub fn values_law()
+    ensures { MAX_ORDERS ≡ 10000 }
+{}
 
 /// The first `count` frontiers of the tree, compared as lists of numbers, or all of them where there are fewer.
 ///

@@ -16,8 +16,8 @@ pub struct Next {
     pub column: u32,
 }
 
-/// The least column, not below `from`, with which one of the trees can begin, and that tree. 64 bits have room for a bound
-/// past each column.
+/// The least column, not below `from`, with which one of the trees can begin, and that tree. 64 bits have room
+/// for a bound past each column.
 pub fn next_of(trees: &[&Tree], from: u64) -> Option<Next>
     requires { HaveArities (forest (outlines trees.now)) }
     ensures { IsNextAmong (outlines trees.now) (length trees.now) from result }

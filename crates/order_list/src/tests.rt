@@ -6,7 +6,7 @@ use super::*;
 use std::process::Abort;
 use std::test::Fail;
 
-/// Asserts what the first orders of the tree with this text are, and whether there are others.
+// Asserts what the first orders of the tree with this text are, and whether there are others.
 fn assert_first(
     rt: &impl Abort,
     alloc: Global,

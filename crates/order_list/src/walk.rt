@@ -18,8 +18,8 @@ pub struct Bag<'a> {
     pub trees: &'a [&'a Tree],
 }
 
-/// What is read after the columns so far. Each step of the walk keeps the trees that it has opened, and lends them to the
-/// next.
+/// What is read after the columns so far. Each step of the walk keeps the trees that it has
+/// opened, and lends them to the next.
 #[derive(Clone, Copy)]
 pub enum Coming<'a> {
     /// Nothing more.
@@ -102,8 +102,8 @@ fn read_tree<'a>(
     Ok(())
 }
 
-// The same where the trees come next, in any order, and then the rest: for each column that can come next, from the least
-// on.
+// The same where the trees come next, in any order, and then the rest: for each column that can
+// come next, from the least on.
 #[cycle(walk)]
 fn each_next<'a>(
     alloc: Global,

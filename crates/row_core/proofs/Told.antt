@@ -9,6 +9,7 @@ use Rattle.row_model.specs.declared.graph.Line.{Line}
 use Rattle.row_model.specs.Cycles.{IsOddCycle}
 use Rattle.row_model.specs.Rows.{RowList}
 use Rattle.pq_tree.specs.Outline.{IsFrontier, leaves}
+use Rattle.pq_tree.specs.Proper.{IsProper}
 use Rattle.pq_tree.specs.PqTree.{outline}
 use Rattle.pq_tree.specs.declared.PqTree.{PqTree}
 use Rattle.row_core.specs.Judges.{IsTreeOfOrders}
@@ -24,7 +25,8 @@ order_without : (m : RowList) (set others o : List ℕ) (i : ℕ) (t : PqTree) �
 order_without m set others o i t a l e found is frontier =
     let same : others ≡ but (get_or set i 0) set = e ∙ sym (but_at (length m.rows) 0 set i a l) in
     let there : IsTreeOfOrders (part_at m (but (get_or set i 0) set)) t = subst (λ xs. IsTreeOfOrders (part_at m xs) t) same found in
-    record { valid = (there.orders o).0 frontier; tree = outline t; canonical = there.canonical; orders = there.orders; leaves = is }
+    let proper : IsProper m.columns (outline t) = subst (λ c. IsProper c (outline t)) there.columns t.proper in
+    record { valid = (there.orders o).0 frontier; tree = outline t; proper = proper; canonical = there.canonical; orders = there.orders; leaves = is }
 
 -- one order more
 pub orders_more : (m : RowList) (set others o : List ℕ) (orders new : List (List ℕ)) (i : ℕ) (t : PqTree) → AreRowNumbers (length m.rows) set → i < length set → others ≡ take i set ++ drop (i + 1) set

@@ -8,6 +8,7 @@ use Rattle.row_model.specs.declared.graph.Why.TheVariants.{Flip, Row}
 use Rattle.row_model.specs.Cycles.{IsOddCycle}
 use Rattle.row_model.specs.Rows.{RowList}
 use Rattle.pq_tree.specs.Outline.{Outline, IsFrontier, leaves}
+use Rattle.pq_tree.specs.Proper.{IsProper}
 use Rattle.pq_tree.specs.Canonical.{IsCanonical}
 use Rattle.row_core.specs.Parts.{CoreParts}
 use Rattle.row_core.specs.Judges.{IsTreeOfOrders}
@@ -29,6 +30,7 @@ AreAmong rows lines = AllByRecursion (λ (line : Line). IsAmong rows line.why) l
 pub record IsOrderWithout (m : RowList) (core : List ℕ) (k : ℕ) (o : List ℕ) : Type 0 where
   pub valid : IsValidOrder m.columns (rows_at m.rows (but k core)) o
   pub tree : Outline
+  pub proper : IsProper m.columns tree
   pub canonical : IsCanonical tree
   pub orders : (p : List ℕ) → IsFrontier tree p ↔ IsValidOrder m.columns (rows_at m.rows (but k core)) p
   pub leaves : o ≡ leaves tree

@@ -18,8 +18,8 @@ pub struct Blamed {
     pub lines: Lines,
 }
 
-/// Those of the rows of a set that a cycle names. The cycle is one of the part of the matrix in these rows, in which they are
-/// numbered by their places.
+/// Those of the rows of a set that a cycle names. The cycle is one of the part of the matrix in these rows, in which
+/// they are numbered by their places.
 pub fn blame(alloc: Global, set: &[u32], cycle: &Cycle) -> Result<Blamed, NoMemory>
     requires { AreReasonsWithin (length set.now) cycle.now }
     ensures blamed { IfOk result (λ blamed. (m : RowList)

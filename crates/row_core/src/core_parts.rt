@@ -8,8 +8,8 @@ use std::marker::Model;
 
 /// Rows of a matrix in strictly ascending order, an order of the columns for each, and the lines of an odd cycle.
 ///
-/// The rows that [`find_core`](crate::find_core) answers are a core. The order of a row is valid for the other rows of the
-/// core, and the reasons of the lines are flips or rows of the core.
+/// The rows that [`find_core`](crate::find_core) answers are a core. The order of a row is valid for the other rows of
+/// the core, and the reasons of the lines are flips or rows of the core.
 #[derive(Drop)]
 pub struct Core {
     pub(crate) rows: Vec<u32>,

@@ -6,9 +6,9 @@
 //! out a block of rows: where the others still have no valid order, a new cycle names the rows that stay, and else the
 //! block is halved, down to a single row, which no core of the set can do without.
 //!
-//! The text of a core has these lines, each with a line feed at its end and one space between entries, and nothing after
-//! the last of them. Capital letters stand for plain numbers, which have no leading zeros; K is the word of a kind. C is
-//! from 1 to 2,048, and every other number is at most 2^32 - 1.
+//! The text of a core has these lines, each with a line feed at its end and one space between entries, and nothing
+//! after the last of them. Capital letters stand for plain numbers, which have no leading zeros; K is the word of a
+//! kind. C is from 1 to 2,048, and every other number is at most 2^32 - 1.
 //!
 //! ```text
 //! pq-core 1

@@ -9,12 +9,12 @@ use row_model::{Matrix, NoMemory};
 use std::alloc::Global;
 use step_count::{Ledger, Steps};
 
-/// Those rows of a set that are still to blame after blocks of them were left out, of which the first `needed` are known to
-/// be needed.
+/// Those rows of a set that are still to blame after blocks of them were left out, of which the first
+/// `needed` are known to be needed.
 ///
-/// A block that can be left out is followed by one of twice its size, and one that cannot by half of it. A single row that
-/// cannot be left out is needed in each smaller set, too. So a core of k rows takes about k log n judgements, n being the
-/// number of rows.
+/// A block that can be left out is followed by one of twice its size, and one that cannot by half of it. A single
+/// row that cannot be left out is needed in each smaller set, too. So a core of k rows takes about k log n
+/// judgements, n being the number of rows.
 pub fn shrunk<J: Judge, L: Ledger>(
     alloc: Global,
     judge: &mut J,

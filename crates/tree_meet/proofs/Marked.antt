@@ -6,14 +6,14 @@ use Rattle.std.proofs.lemmas.List.{get_or-set_same, get_or-set_other}
 use Rattle.column_order.proofs.Lists.{has_cases, has_head, has-append, has_append_left, has_append_right, has_append_cases, occurs-append, apart}
 use Rattle.pq_tree.specs.Outline.{Outline, leaves, leaves_of}
 use Rattle.pq_tree.specs.Forests.{forest}
-use Rattle.tree_meet.specs.Marks.{AreMarked, is_at, is_near}
+use Rattle.tree_meet.specs.Marks.{AreMarkedByTree, is_at, is_near}
 
 -- one tree more is marked
-pub marked_more : (ts : List Outline) (t : Outline) (first : ℕ) (old new : List ℕ) → AreMarked old first (forest ts) →
+pub marked_more : (ts : List Outline) (t : Outline) (first : ℕ) (old new : List ℕ) → AreMarkedByTree old first (forest ts) →
     ((a : ℕ) → IsTrue (has (leaves t) a) → get_or new a 0 ≡ first + length ts) →
     ((a : ℕ) → IsFalse (has (leaves t) a) → get_or new a 0 ≡ get_or old a 0) →
     ((a : ℕ) → occurs (leaves_of (forest ts) ++ leaves t) a ≤ 1) →
-    AreMarked new first (forest (ts ++ t ∷ []))
+    AreMarkedByTree new first (forest (ts ++ t ∷ []))
 marked_more [] t first old new h own others once = (λ a k. own a k ∙ omega arith, tt)
 marked_more (u ∷ us) t first old new h own others once = (
   λ a k. others a (apart (leaves u) (leaves t) a (omega (arith, once a, occurs-append (leaves u ++ leaves_of (forest us)) (leaves t) a, occurs-append (leaves u) (leaves_of (forest us)) a, occurs-append (leaves u) (leaves t) a)) k) ∙ h.0 a k,
@@ -24,7 +24,7 @@ marked_more (u ∷ us) t first old new h own others once = (
 )
 
 -- the marks of the columns of trees
-pub marks_range : (marks : List ℕ) (first : ℕ) (ts : List Outline) → AreMarked marks first (forest ts) → (a : ℕ) → IsTrue (has (leaves_of (forest ts)) a) →
+pub marks_range : (marks : List ℕ) (first : ℕ) (ts : List Outline) → AreMarkedByTree marks first (forest ts) → (a : ℕ) → IsTrue (has (leaves_of (forest ts)) a) →
     (first ≤ get_or marks a 0) × (get_or marks a 0 < first + length ts)
 marks_range marks first [] h a k = absurd (both_ways false refl k)
 marks_range marks first (t ∷ ts) h a k =
@@ -34,7 +34,7 @@ marks_range marks first (t ∷ ts) h a k =
     ]
 
 -- among the columns of the trees, those with the mark of a tree are its own
-pub marks_tell : (marks : List ℕ) (first : ℕ) (ts : List Outline) (d : Outline) → AreMarked marks first (forest ts) → ((a : ℕ) → occurs (leaves_of (forest ts)) a ≤ 1) →
+pub marks_tell : (marks : List ℕ) (first : ℕ) (ts : List Outline) (d : Outline) → AreMarkedByTree marks first (forest ts) → ((a : ℕ) → occurs (leaves_of (forest ts)) a ≤ 1) →
     (i : ℕ) → i < length ts → (a : ℕ) → (has (leaves_of (forest ts)) a && eqb (get_or marks a 0) (first + i)) ≡ has (leaves (get_or ts i d)) a
 marks_tell marks first [] d h once i l a = absurd (omega arith)
 marks_tell marks first (t ∷ ts) d h once zero l a =
@@ -63,7 +63,7 @@ marks_tell marks first (t ∷ ts) d h once (suc i) l a =
     ]
 
 -- the same of the index alone, where the first tree has the index 0
-pub marks_tell_one : (marks : List ℕ) (ts : List Outline) (d : Outline) → AreMarked marks 0 (forest ts) → ((a : ℕ) → occurs (leaves_of (forest ts)) a ≤ 1) →
+pub marks_tell_one : (marks : List ℕ) (ts : List Outline) (d : Outline) → AreMarkedByTree marks 0 (forest ts) → ((a : ℕ) → occurs (leaves_of (forest ts)) a ≤ 1) →
     (i : ℕ) → i < length ts → (a : ℕ) → (has (leaves_of (forest ts)) a && is_at (get_or marks a 0) i) ≡ has (leaves (get_or ts i d)) a
 marks_tell_one marks ts d h once i l a =
     let e : 0 + i ≡ i = omega arith in
@@ -74,7 +74,7 @@ and_either true x y = refl
 and_either false x y = refl
 
 -- and those with the mark of a tree or of the next one are those of both
-pub marks_tell_pair : (marks : List ℕ) (ts : List Outline) (d : Outline) → AreMarked marks 0 (forest ts) → ((a : ℕ) → occurs (leaves_of (forest ts)) a ≤ 1) →
+pub marks_tell_pair : (marks : List ℕ) (ts : List Outline) (d : Outline) → AreMarkedByTree marks 0 (forest ts) → ((a : ℕ) → occurs (leaves_of (forest ts)) a ≤ 1) →
     (i : ℕ) → i + 1 < length ts → (a : ℕ) →
     (has (leaves_of (forest ts)) a && is_near (get_or marks a 0) i) ≡ has (leaves (get_or ts i d) ++ leaves (get_or ts (i + 1) d)) a
 marks_tell_pair marks ts d h once i l a =

@@ -10,7 +10,7 @@ use Rattle.pq_tree.specs.Outline.{Outline, leaf, leaves, leaves_of}
 use Rattle.pq_tree.specs.Proper.{outline_of, forest}
 use Rattle.pq_tree.specs.declared.Tree.{Tree, Leaf, P, Q}
 use Rattle.tree_meet.specs.TreeRows.{neighbours, groups, groups_of, row_of, rows_of_tree}
-use Rattle.tree_meet.specs.Marks.{AreMarked, lists_of, is_at, is_near, ArePartsBy}
+use Rattle.tree_meet.specs.Marks.{AreMarkedByTree, lists_of, is_at, is_near, ArePartsBy}
 use Rattle.tree_meet.proofs.Walked.{parts_rows, pairs_rows, groups_push}
 use Rattle.tree_meet.proofs.Fronts.{node_leaves, groups_P, groups_Q, groups_leaf}
 
@@ -20,7 +20,7 @@ IsOver tree v ts = ((tree ≡ P v) ⊎ (tree ≡ Q v)) × (ts ≡ v.items)
 
 module _ (c : ℕ) (marks row : List ℕ) (tree : Tree) (v : Vec Tree Global) (ts us : List Tree) (over : IsOver tree v ts) (again : us ≡ v.items)
     (is : row ≡ row_of c (leaves (outline_of tree))) (once : (a : ℕ) → occurs (leaves (outline_of tree)) a ≤ 1)
-    (marked : AreMarked marks 0 (forest (map outline_of ts))) where
+    (marked : AreMarkedByTree marks 0 (forest (map outline_of ts))) where
   children_leaves : leaves (outline_of tree) ≡ leaves_of (forest (map outline_of ts))
   children_leaves = node_leaves tree v ts over.0 over.1
 

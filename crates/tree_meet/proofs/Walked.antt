@@ -12,7 +12,7 @@ use Rattle.row_model.proofs.Filtered.{filtered_row}
 use Rattle.pq_tree.specs.Outline.{Outline, leaf, leaves, leaves_of}
 use Rattle.pq_tree.specs.Forests.{forest}
 use Rattle.tree_meet.specs.TreeRows.{pairs_from, neighbours, groups, groups_of, row_of}
-use Rattle.tree_meet.specs.Marks.{AreMarked, lists_of, is_at, is_near, ArePartsBy}
+use Rattle.tree_meet.specs.Marks.{AreMarkedByTree, lists_of, is_at, is_near, ArePartsBy}
 use Rattle.tree_meet.proofs.Groups.{has_in_row}
 use Rattle.tree_meet.proofs.Marked.{marks_range, marks_tell_one, marks_tell_pair}
 
@@ -37,19 +37,19 @@ pub neighbours_count : (ts : List Outline) → length (neighbours (forest ts)) �
 neighbours_count [] = refl
 neighbours_count (t ∷ ts) = omega (arith, pairs_count t ts)
 
-pair_at : (d t : Outline) (us : List Outline) (i : ℕ) → i < length us → get_or (pairs_from t (forest us)) i [] ≡ leaves (get_or (t ∷ us) i d) ++ leaves (get_or us i d)
-pair_at d t [] i h = absurd (omega arith)
-pair_at d t (u ∷ us) zero h = refl
-pair_at d t (u ∷ us) (suc i) h = pair_at d u us i (omega arith)
+pairs_from_at : (d t : Outline) (us : List Outline) (i : ℕ) → i < length us → get_or (pairs_from t (forest us)) i [] ≡ leaves (get_or (t ∷ us) i d) ++ leaves (get_or us i d)
+pairs_from_at d t [] i h = absurd (omega arith)
+pairs_from_at d t (u ∷ us) zero h = refl
+pairs_from_at d t (u ∷ us) (suc i) h = pairs_from_at d u us i (omega arith)
 
 neighbours_at : (d : Outline) (ts : List Outline) (i : ℕ) → i + 1 < length ts → get_or (neighbours (forest ts)) i [] ≡ leaves (get_or ts i d) ++ leaves (get_or ts (i + 1) d)
 neighbours_at d [] i h = absurd (omega arith)
 neighbours_at d (t ∷ us) i h =
     let e : suc i ≡ i + 1 = omega arith in
-    subst (λ n. get_or (pairs_from t (forest us)) i [] ≡ leaves (get_or (t ∷ us) i d) ++ leaves (get_or (t ∷ us) n d)) e (pair_at d t us i (omega arith))
+    subst (λ n. get_or (pairs_from t (forest us)) i [] ≡ leaves (get_or (t ∷ us) i d) ++ leaves (get_or (t ∷ us) n d)) e (pairs_from_at d t us i (omega arith))
 
 module _ (c : ℕ) (marks row : List ℕ) (ts : List Outline) (is : row ≡ row_of c (leaves_of (forest ts)))
-    (marked : AreMarked marks 0 (forest ts)) (once : (a : ℕ) → occurs (leaves_of (forest ts)) a ≤ 1) where
+    (marked : AreMarkedByTree marks 0 (forest ts)) (once : (a : ℕ) → occurs (leaves_of (forest ts)) a ≤ 1) where
   d : Outline
   d = leaf 0
 

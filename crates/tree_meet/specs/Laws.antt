@@ -7,7 +7,7 @@ use Rattle.pq_tree.specs.Equivalent.{IsEquivalent}
 use Rattle.tied_law.specs.Tied.{IsTied}
 use Rattle.canonical_tree.specs.Laws.{IsCanonicalOver}
 use Rattle.tree_meet.specs.TreeRows.{rows_of_tree}
-use Rattle.tree_meet.specs.Meets.{IsCommon}
+use Rattle.tree_meet.specs.Meets.{IsCommon, joint_rows}
 
 -- the frontiers of a proper tree over 1 to c are exactly the valid orders of its rows
 abbrev pub TreeRowsLaw : Type 0
@@ -20,6 +20,11 @@ TiedRowsLaw = (c : ℕ) (t : Outline) → IsProper c t → IsTied c (rows_of_tre
 -- a proper tree over 1 to c has at most 2c - 2 rows
 abbrev pub FewRowsLaw : Type 0
 FewRowsLaw = (c : ℕ) (t : Outline) → IsProper c t → length (rows_of_tree c t) + 2 ≤ c + c
+
+-- the frontiers that two proper trees over 1 to c share are exactly the valid orders of the rows of both
+abbrev pub CommonRowsLaw : Type 0
+CommonRowsLaw =
+    (c : ℕ) (t u : Outline) → IsProper c t → IsProper c u → (o : List ℕ) → IsCommon t u o ↔ IsValidOrder c (joint_rows c t u) o
 
 -- the frontiers of the tree v are exactly those that t and u share
 abbrev pub IsMeetOf : Outline → Outline → Outline → Type 0

@@ -6,10 +6,10 @@ use Rattle.column_order.specs.Orders.{has}
 use Rattle.pq_tree.specs.Outline.{Forest, no_tree, tree_and, leaves}
 
 -- the mark of each column of the trees is the index of its tree, the first tree having this index
-abbrev pub AreMarked : List ℕ → ℕ → Forest → Type 0
-AreMarked marks first no_tree = Unit {0}
-AreMarked marks first (tree_and t ts) =
-    ((a : ℕ) → IsTrue (has (leaves t) a) → slice_index marks a ≡ first) × AreMarked marks (first + 1) ts
+abbrev pub AreMarkedByTree : List ℕ → ℕ → Forest → Type 0
+AreMarkedByTree marks first no_tree = Unit {0}
+AreMarkedByTree marks first (tree_and t ts) =
+    ((a : ℕ) → IsTrue (has (leaves t) a) → slice_index marks a ≡ first) × AreMarkedByTree marks (first + 1) ts
 
 -- the lists in some vectors
 abbrev pub lists_of : List (Vec ℕ Global) → List (List ℕ)

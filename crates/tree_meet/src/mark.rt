@@ -4,7 +4,7 @@ ghost use Rattle.std.specs.Prelude.{◌≡◌, ◌<◌, ◌≤◌, ℕ, length, 
 ghost use Rattle.column_order.specs.Orders.{has, occurs};
 ghost use Rattle.pq_tree.specs.Outline.{leaves, leaves_of};
 ghost use Rattle.pq_tree.specs.Proper.{outline_of, forest};
-ghost use Rattle.tree_meet.specs.Marks.{AreMarked};
+ghost use Rattle.tree_meet.specs.Marks.{AreMarkedByTree};
 
 use pq_tree::Tree;
 
@@ -12,7 +12,7 @@ use pq_tree::Tree;
 pub fn mark_trees(trees: &[Tree], marks: &mut [usize])
     requires within { (a : ℕ) → IsTrue (has (leaves_of (forest (map outline_of trees.now))) a) → a < length marks.old }
     requires once { (a : ℕ) → occurs (leaves_of (forest (map outline_of trees.now))) a ≤ 1 }
-    ensures { AreMarked marks.new 0 (forest (map outline_of trees.now)) }
+    ensures { AreMarkedByTree marks.new 0 (forest (map outline_of trees.now)) }
 {
     for (i, tree) in trees.iter().enumerate() {
         mark_tree(tree, i, marks);

@@ -1,6 +1,6 @@
 use Rattle.std.proofs.Common.{◌≡◌, ◌∙◌, length, map, take, subst, sym, ap, arith}
 use Rattle.pq_tree.specs.Proper.{outline_of, forest}
-use Rattle.tree_meet.specs.Marks.{AreMarked}
+use Rattle.tree_meet.specs.Marks.{AreMarkedByTree}
 use Rattle.tree_meet.proofs.Fronts.{child_has, outlines_more, front_once, front_length}
 use Rattle.tree_meet.proofs.Marked.{marked_more}
 use Rattle.tree_meet.proofs.mark.mark_trees.Goals as goal
@@ -15,7 +15,7 @@ loop-i-preserved c =
     let i = c.loop-i.i in
     let x = c.index-trees-i.result in
     let n : length (map outline_of (take i ts)) ≡ i = front_length ts i c.loop-i-test.true in
-    subst (AreMarked c.mark_tree.new.marks 0) (sym (ap forest (outlines_more ts i x c.loop-i-test.true c.index-trees-i.is)))
+    subst (AreMarkedByTree c.mark_tree.new.marks 0) (sym (ap forest (outlines_more ts i x c.loop-i-test.true c.index-trees-i.is)))
     (marked_more (map outline_of (take i ts)) (outline_of x) 0 c.loop-i.marks c.mark_tree.new.marks c.loop-i.invariant
     (λ a h. c.mark_tree.ensures.own a h ∙ omega (arith, n))
     c.mark_tree.ensures.others
