@@ -8,8 +8,8 @@ what is said of changed ones with a plain checker; bounds what hostile files cos
 
 Usage: end_to_end/check.py [PART ..]   after `rt ci` or `./pq`, which leave the program in crates/pq/out/pq
 
-PARTs pick some of the checks: `cases` (files and streams), `pages`, `answers` (of small instances, at the limits, of `gen`, of sessions, of lists and
-of unit models), `forgeries`, `trees`, `meetings`, `hostile`, `first_call`; default all. The last line is `N passed, N failed`; the status is 0 where
+PARTs pick some of the checks: `cases` (files and streams), `pages`, `answers` (of small instances, at the limits, of `gen`, of sessions, of lists, of
+unit models and of cores), `forgeries`, `trees`, `meetings`, `hostile`, `first_call`; default all. The last line is `N passed, N failed`; the status is 0 where
 nothing failed.
 """
 

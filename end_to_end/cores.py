@@ -76,7 +76,7 @@ def core_problem(columns, rows):
 
 
 def core_matrices():
-    """The matrix of the request, and small ones drawn from a fixed seed; most of them have no order."""
+    """The matrix of three rows that are a core, with one row more, and small ones drawn from a fixed seed; most of them have no order."""
     yield 3, [{1, 2}, {2, 3}, {1, 3}, {1, 2, 3}]
     for size in range(3, 7):
         ring = [{place, place % size + 1} for place in range(1, size + 1)]

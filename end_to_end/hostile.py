@@ -4,16 +4,23 @@
 Usage: end_to_end/hostile.py          after `rt ci` or `./pq`, which leave the program in crates/pq/out/pq
 
 It prints a line for each file, with what the program took on it. The bound on memory is twelve times the bytes beside what the program itself
-takes; README allows more for many small values, and names the one file that takes more still.
+takes; README allows more for files that are full of small values.
+
+A text of a core may be as long as twelve verdicts. Those of the greatest length, and the one that is a byte longer, are hollow: zeros behind
+a front, for which the disk keeps no bytes. The full ones have the length of a verdict.
 """
 
+import itertools
 import os
 import subprocess
 import sys
 import tempfile
+from dataclasses import dataclass
 from typing import NamedTuple
 
 from cases import LIMIT, VERDICT_LIMIT
+from core_checker import LIMIT as CORE_LIMIT
+from cores import CYCLE, FOUR, ORDERS, core_text
 from program import HOME, PROGRAM
 
 COLUMNS = 2_048
@@ -31,6 +38,22 @@ YES = HEAD + b"yes\ntree "
 CLONES = b'{"probes":["a"],"clones":['
 # The first tree of `meet`, over all columns.
 TREE = b"(" + b" ".join(b"%d" % column for column in range(1, COLUMNS + 1)) + b")"
+# The text of a core of four rows, and how those begin that are none.
+RIGHT_CORE = core_text("core 3", *ORDERS, *CYCLE)
+CORE = b"pq-core 1\nkind matrix\ncolumns 3\ncore "
+ENTRY = b"row 1\nwithout 1\n"
+LINE = b"1 2 flip\n"
+
+
+@dataclass(frozen=True)
+class Hollow:
+    """The bytes of a file at its front, and its length; the others are zeros."""
+
+    front: bytes
+    length: int
+
+    def __len__(self):
+        return self.length
 
 
 def filled(start, piece, end=b"", length=LIMIT):
@@ -62,6 +85,52 @@ def long_cycle():
     """A verdict in the grammar with as many lines of a cycle as it has room for; the first pair comes twice, or the length is even."""
     lines = (VERDICT_LIMIT - len(NO) - 30) // len(b"1 2 flip\n")
     return NO + b"cycle %d\n" % lines + b"1 2 flip\n" * lines + b"end\n", lines
+
+
+def hollow_cores():
+    """Texts of cores of the greatest length and a byte past it, of which few bytes are no zeros, each with what it is made of and the test
+    that fails."""
+    yield "zeros, one past the greatest length", Hollow(b"", CORE_LIMIT + 1), b"too-long"
+    yield "a right text, and zeros up to one past the greatest length", Hollow(RIGHT_CORE, CORE_LIMIT + 1), b"too-long"
+    yield "zeros", Hollow(b"", CORE_LIMIT), b"text"
+    yield "a right text, and zeros", Hollow(RIGHT_CORE, CORE_LIMIT), b"text"
+    yield "the greatest number of rows, and zeros", Hollow(CORE + b"4294967295\n", CORE_LIMIT), b"text"
+    yield "as many rows as there is room for, and zeros", Hollow(CORE + b"%d\n" % room_for(ENTRY, CORE_LIMIT), CORE_LIMIT), b"text"
+    yield "the greatest number of lines of a cycle, and zeros", Hollow(CORE + b"0\ncycle 4294967295\n", CORE_LIMIT), b"text"
+    yield "as many lines of a cycle as there is room for, and zeros", Hollow(CORE + b"0\ncycle %d\n" % room_for(LINE, CORE_LIMIT), CORE_LIMIT), b"text"
+
+
+def full_cores():
+    """Full texts of cores of the greatest length of a verdict, and short ones of great numbers, each with what it is made of. None is in the
+    grammar, and each is told at another place."""
+    yield "one line of digits", filled(b"", b"9", length=VERDICT_LIMIT)
+    yield "digits in place of the number of rows", filled(CORE, b"9", length=VERDICT_LIMIT)
+    yield "zeros before the number of rows", filled(CORE, b"0", b"1\n", length=VERDICT_LIMIT)
+    yield "digits in place of a row", filled(CORE + b"1\nrow ", b"9", length=VERDICT_LIMIT)
+    yield "digits in an order", filled(CORE + b"1\nrow 1\nwithout ", b"9", length=VERDICT_LIMIT)
+    yield "an order without an end", filled(CORE + b"1\nrow 1\nwithout", b" 1", length=VERDICT_LIMIT)
+    yield "blanks in place of an order", filled(CORE + b"1\nrow 1\nwithout", b" ", length=VERDICT_LIMIT)
+    yield "rows without orders", filled(CORE + b"1000000\n", b"row 1\n", length=VERDICT_LIMIT)
+    yield "orders without rows", filled(CORE + b"1000000\n", b"without 1\n", length=VERDICT_LIMIT)
+    yield "rows without a cycle", filled(CORE + b"%d\n" % room_for(ENTRY, VERDICT_LIMIT), ENTRY, length=VERDICT_LIMIT)
+    yield "the greatest number of rows, and as many as there is room for", filled(CORE + b"4294967295\n", ENTRY, length=VERDICT_LIMIT)
+    yield "the greatest number of lines of a cycle, and as many as there is room for", filled(CORE + b"0\ncycle 4294967295\n", LINE, length=VERDICT_LIMIT)
+    yield "right texts", filled(b"", RIGHT_CORE, length=VERDICT_LIMIT)
+    yield "the greatest number of rows", CORE + b"4294967295\n"
+    yield "no rows, and the greatest number of lines of a cycle", CORE + b"0\ncycle 4294967295\n"
+
+
+def judged_cores():
+    """Texts of cores in the grammar, of the greatest length of a verdict, each with what it is made of and the test that fails."""
+    rows, lines = room_for(ENTRY, VERDICT_LIMIT), room_for(LINE, VERDICT_LIMIT)
+    yield "one row again and again", CORE + b"%d\n" % rows + ENTRY * rows + b"cycle 0\nend\n", b"rows"
+    yield "one long order", filled(CORE + b"1\nrow 1\nwithout 1", b" 1", b"\ncycle 0\nend\n", length=VERDICT_LIMIT), b"order 1"
+    yield "no rows, and one line again and again", CORE + b"0\ncycle %d\n" % lines + LINE * lines + b"end\n", b"repeat 2" if lines % 2 else b"length %d" % lines
+
+
+def room_for(piece, length):
+    """How many such pieces a text of a core of this length has room for, with a head and an end of at most 100 bytes."""
+    return (length - 100) // len(piece)
 
 
 def refused_files():
@@ -151,14 +220,20 @@ class Cost(NamedTuple):
         return None if self.peak <= beside + MOST_TIMES * length else f"{self.peak} bytes at the peak for {length}"
 
 
+def write_whole(file, content):
+    """Writes the bytes into a file, or the front of a hollow one, whose zeros take no room."""
+    with open(file, "wb") as stream:
+        stream.write(content.front if isinstance(content, Hollow) else content)
+        stream.truncate(len(content))
+
+
 def measured(words, content):
     """A run of the program over a file as its last word: its status, its output, its errors, and its cost. Of `meet` the first tree stands on standard
     input, of other commands a matrix."""
-    given = TREE if words[0] == "meet" else MATRIX
+    given = {"meet": TREE, "check-core": FOUR}.get(words[0], MATRIX)
     with tempfile.TemporaryDirectory() as folder:
         file, cost = os.path.join(folder, "file"), os.path.join(folder, "cost")
-        with open(file, "wb") as stream:
-            stream.write(content)
+        write_whole(file, content)
         done = subprocess.run([sys.executable, "-IS", COST, cost, str(4 * MOST_SECONDS), PROGRAM, *words, file], input=given, capture_output=True,
                               check=False)
         with open(cost, encoding="utf-8") as stream:
@@ -172,6 +247,13 @@ def difference(given, wanted):
     return None if all(want is None or want == one for want, one in zip(wanted, given)) else f"{given}, wanted {wanted}"
 
 
+def hostile_cores():
+    """Each hostile text of a core, as the files of `hostile`."""
+    unread = ((what, text, b"text") for what, text in full_cores())
+    for what, text, test in itertools.chain(hollow_cores(), unread, judged_cores()):
+        yield f"a core of {what}", ["check-core", "matrix", "-"], text, (1, b"invalid %s\n" % test, b""), BASE_BYTES
+
+
 def hostile():
     """Each hostile file with its name, the words that it is run on, the status, output and errors that are wanted, and the bytes of memory that
     it may take beside its own."""
@@ -180,6 +262,7 @@ def hostile():
     verdict, lines = long_cycle()
     line = b"invalid repeat 2\n" if lines % 2 else b"invalid length %d\n" % lines
     yield "a verdict with a cycle of the greatest length", ["check", "matrix", "-"], verdict, (1, line, b""), BASE_BYTES
+    yield from hostile_cores()
     for kind, what, content, (code, line) in refused_files():
         yield f"{kind} of {what}", ["solve", kind], content, (3, b"", b"pq: refused 1 code %d line %d\n" % (code, line)), BASE_BYTES
     for kind, what, content in solved_files():

@@ -23,11 +23,11 @@ PAGE = os.path.join("docs", "SCEPTICS.md")
 CALL = ("crates/pq_cli/src/top.rt", "run")
 # The clause that says the whole promise, and the definition that says it command by command.
 PROMISE = "promise"
-PROMISED = ("crates/pq_cli/specs/Promise.antt", "IsPromised")
+PROMISED = ("crates/reply_laws/specs/Promise.antt", "IsPromised")
 # The crates whose laws say what replies mean.
-LAWS = ["crates/pq_cli/src", "crates/one_text/src"]
+LAWS = ["pq_cli", "one_text"]
 # The types whose cases tell the commands, the kinds of files and the instances apart.
-COMMANDS = ("crates/pq_cli/specs/Words.antt", "Command")
+COMMANDS = ("crates/commands/specs/Words.antt", "Command")
 KINDS = ("crates/row_model/src/kind.rt", "Kind")
 INSTANCES = ("crates/instance_model/specs/Instance.antt", "InstanceValue")
 PLAIN = "plain"
@@ -284,15 +284,18 @@ def table(listing, known=None):
             f"| together | {listing.lines(*others_of_it) + more} | |"]
 
 
-def public_laws():
-    """The laws that these crates hand on from their modules, or that stand at their tops: each with its file."""
-    for folder in LAWS:
-        top = source(os.path.join(folder, "lib.rt"))
-        for module, names, name in HANDED_ON.findall(top):
-            for law in re.findall(r"\w+_law\b", names + name):
+def public_laws(crate):
+    """The laws that a crate hands on from its modules or from a crate below, or that stand at its top: each with its file."""
+    folder = os.path.join("crates", crate, "src")
+    top = source(os.path.join(folder, "lib.rt"))
+    for module, names, name in HANDED_ON.findall(top):
+        for law in re.findall(r"\w+_law\b", names + name):
+            if os.path.isdir(os.path.join(HOME, "crates", module)):
+                yield from (found for found in public_laws(module) if found[1] == law)
+            else:
                 yield os.path.join(folder, *module.split("::")) + ".rt", law
-        for law in re.findall(r"^pub fn (\w+_law)\b", top, re.M):
-            yield os.path.join(folder, "lib.rt"), law
+    for law in re.findall(r"^pub fn (\w+_law)\b", top, re.M):
+        yield os.path.join(folder, "lib.rt"), law
 
 
 def word_of(case):
@@ -325,7 +328,7 @@ def counts(whole):
 def laws(whole):
     """What each law rests on beyond the clauses of the call."""
     rows = ["| Law | Where | Lines beyond those of `run` | Definitions, each with the line where it begins |", "|---|---|---|---|"]
-    for path, law in public_laws():
+    for path, law in (found for crate in LAWS for found in public_laws(crate)):
         listing = Listing(path, law)
         if not listing.lines(whole):
             continue

@@ -6,13 +6,13 @@ use Rattle.row_model.specs.declared.refusal.Read.{Read}
 use Rattle.row_model.specs.declared.refusal.Read.TheVariants as read
 use Rattle.matrix_read.specs.Sparse.{further}
 use Rattle.instance_model.specs.Instance.{plain, derived_matrix}
-use Rattle.pq_cli.specs.Words.{Extend}
-use Rattle.pq_cli.specs.Instances.{instance_of}
-use Rattle.pq_cli.specs.Replies.{Replies}
-use Rattle.pq_cli.specs.Solve.Verdicts.{ShowsOrders}
-use Rattle.pq_cli.specs.Extend.Sessions.{Outcome, accepted, refused, AreOutcomes, matrix_after, refusals_after, matrix_at_end, IsSessionText, IsExtensionReply}
+use Rattle.commands.specs.Words.{Extend}
+use Rattle.commands.specs.Instances.{instance_of}
+use Rattle.reply_laws.specs.Replies.{Replies}
+use Rattle.commands.specs.Verdicts.{ShowsAllOrders}
+use Rattle.solve_replies.specs.Sessions.{Outcome, accepted, refused, AreOutcomes, matrix_after, refusals_after, matrix_at_end, IsSessionText, IsExtensionReply}
 use Rattle.one_text.specs.Told.{at_end, GrowsTo, ExtendsTo, TellsAt}
-use Rattle.one_text.proofs.Sides.{Shown, same_read}
+use Rattle.one_text.proofs.Sides.{Shown, of_shown, same_read}
 
 -- the matrix that further rows lead to is the one at the end of their outcomes
 grown_is : (m grown : RowList) (refusals : ℕ) (rows : List (List ℕ)) (outcomes : List Outcome) → AreOutcomes m refusals rows outcomes → GrowsTo m rows grown → grown ≡ matrix_at_end m rows outcomes
@@ -48,6 +48,6 @@ ended text m h =
     let session = extended h.kind h.file h.rows h.bytes h.given text h.base h.more h.found h.found_more h.reply in
     record {
       side = session.side;
-      shows = subst (λ k. ShowsOrders k session.side) (sym (grown_is h.base m 0 h.more.rows session.outcomes session.in_turn h.grows)) session.shows;
+      shows = of_shown m session.side (subst (λ k. ShowsAllOrders k session.side) (sym (grown_is h.base m 0 h.more.rows session.outcomes session.in_turn h.grows)) session.shows);
       tells = (h.kind, h.base.columns, session.outcomes, session.text_is);
     }

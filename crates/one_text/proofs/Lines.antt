@@ -6,9 +6,10 @@ use Rattle.verdict_text.specs.Numbered.{numbered}
 use Rattle.verdict_text.specs.Text.{kind_line, columns_line, side_text, added_text, claim_text, head_text, verdict_text}
 use Rattle.verdict_text.specs.Verdict.{SideValue, Claim, yes_claim, no_claim, VerdictValue}
 use Rattle.verdict_check.specs.YesTests.{HasSide}
-use Rattle.pq_cli.specs.Solve.Laws.{IsYesAnd}
-use Rattle.pq_cli.specs.Extend.Sessions.{Outcome, outcome_text, session_text}
-use Rattle.one_text.specs.Told.{on_side, at_end}
+use Rattle.reply_laws.specs.Solve.{IsYesAnd}
+use Rattle.solve_replies.specs.Sessions.{Outcome, outcome_text, session_text}
+use Rattle.commands.specs.Meetings as meetings
+use Rattle.one_text.specs.Told.{on_side, at_end, in_meeting}
 use Rattle.one_text.specs.Laws.{HasLines, LinesLaw}
 
 -- lines of a text stand in it behind other bytes, and before other bytes
@@ -47,6 +48,12 @@ in_session kind c outcomes side =
     behind (codes "pq-extend 1\n") (kind_line kind ++ (columns_line (c ∷ []) ++ (rows ++ end))) lines
     (behind (kind_line kind) (columns_line (c ∷ []) ++ (rows ++ end)) lines (behind (columns_line (c ∷ [])) (rows ++ end) lines (behind rows end lines (first lines (codes "end\n")))))
 
+in_shared : (head : List ℕ) (side : SideValue) → HasLines (head ++ (codes "answer yes\n" ++ (side_text side ++ codes "end\n"))) (side_text side)
+in_shared head side =
+    let end = side_text side ++ codes "end\n" in
+    behind head (codes "answer yes\n" ++ end) (side_text side) (behind (codes "answer yes\n") end (side_text side) (first (side_text side) (codes "end\n")))
+
 pub lines_law : LinesLaw
 lines_law text (on_side s) side h = subst (λ t. HasLines t (side_text side)) (sym h.2) (in_verdict h.0 s side h.3)
 lines_law text at_end side h = subst (λ t. HasLines t (side_text side)) (sym h.3) (in_session h.0 h.1 h.2 side)
+lines_law text in_meeting side h = subst (λ t. HasLines t (side_text side)) (sym h.3) (in_shared (meetings.head_text h.0 h.1 h.2) side)

@@ -10,8 +10,10 @@ use Rattle.verdict_text.specs.Text.{verdict_text}
 use Rattle.instance_model.specs.Instance.{InstanceValue, plain, circular, convex, doubly, proper, robinson, IsSideOf, IsTextbookOrder, derived_matrix}
 use Rattle.instance_model.specs.Laws.{IsValidFor, AreTextbookOrders}
 use Rattle.verdict_check.specs.YesTests.{HasSide}
-use Rattle.pq_cli.specs.Solve.Verdicts.{ShowsSide, IsClaimOf}
-use Rattle.pq_cli.specs.Solve.Laws.{IsYesAnd, ShowsTextbookOrders, OrdersLaw}
+use Rattle.commands.specs.Verdicts.{ShowsSide, IsClaimOf}
+use Rattle.reply_laws.specs.Solve.{IsYesAnd, ShowsTextbookOrders, OrdersLaw}
+use Rattle.tree_meet.specs.Laws.{CommonRowsLaw}
+use Rattle.reply_laws.specs.Meet.{MeetTextLaw}
 use Rattle.one_text.specs.Told.{on_side, SolvesSide}
 use Rattle.one_text.specs.Laws.{IsLinear, HaveSameOrders, TextbookTextLaw}
 use Rattle.one_text.proofs.Sides.{solution_of}
@@ -54,11 +56,11 @@ module _ (orders : OrdersLaw) (one_verdict : OneVerdictLaw) where
       let same : told.0 ≡ solution.verdict = one_verdict told.0 solution.verdict told.1 solution.grammar (sym told.2 ∙ solution.text_is) in
       of_claim h.value s solution.verdict.claim linear h.side solution.holds.claim (subst (λ (v : VerdictValue). IsYesAnd v.claim (λ value. (s : ℕ) → IsSideOf h.value s → HasSide value s (ShowsTextbookOrders h.value s))) same told.3)
 
-  pub textbook_text : SameOrdersLaw → TextbookTextLaw
-  textbook_text one_tree text other s t m n one two linear linear_other same =
+  pub textbook_text : CommonRowsLaw → MeetTextLaw → SameOrdersLaw → TextbookTextLaw
+  textbook_text common meet one_tree text other s t m n one two linear linear_other same =
       let first = of_reply text s m one linear in
       let second = of_reply other t n two linear_other in
       let matrices : HaveSameOrders (derived_matrix one.value s) (derived_matrix two.value t) =
       λ o. (λ v. (second o).0 ((same o).0 ((first o).1 v)), λ w. (first o).0 ((same o).1 ((second o).1 w))) in
-      same_text one_tree text other (on_side s) (on_side t) m n one two
+      same_text common meet one_tree text other (on_side s) (on_side t) m n one two
       (subst (λ k. HaveSameOrders k n) (sym one.matrix_is) (subst (λ k. HaveSameOrders (derived_matrix one.value s) k) (sym two.matrix_is) matrices))

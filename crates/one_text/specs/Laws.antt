@@ -3,6 +3,7 @@ use Rattle.std.specs.Prelude.{◌≡◌, ◌↔◌, ◌++◌, ℕ, List}
 use Rattle.row_model.specs.Rows.{RowList}
 use Rattle.pq_tree.specs.Outline.{Outline, leaves}
 use Rattle.canonical_tree.specs.Laws.{IsCanonicalOver, HasOrdersOf}
+use Rattle.row_core.specs.Told.{IsOrderWithout}
 use Rattle.verdict_text.specs.Verdict.{SideValue}
 use Rattle.verdict_text.specs.Text.{side_text}
 use Rattle.instance_model.specs.Instance.{InstanceValue, circular, IsTextbookOrder}
@@ -45,6 +46,10 @@ SameTextLaw =
     RepliesFor other there n →
     HaveSameOrders m n →
     TellTheSame text here other there
+
+-- The order that a core tells of a row which is left out depends on the rows of the core alone.
+abbrev pub OneOrderLaw : Type 0
+OneOrderLaw = (m : RowList) (core : List ℕ) (k : ℕ) (o p : List ℕ) → IsOrderWithout m core k o → IsOrderWithout m core k p → o ≡ p
 
 -- an instance whose orders have a first column: of any kind but a circular one
 abbrev pub IsLinear : InstanceValue → Type 0

@@ -1,24 +1,31 @@
 -- The tree and the order that a reply tells, and the orders that they are about.
-use Rattle.std.specs.Prelude.{◌≡◌, ◌⊎◌, ℕ, List, [], ◌∷◌, ◌++◌}
+use Rattle.std.specs.Prelude.{◌≡◌, ◌⊎◌, ℕ, ◌≤◌, List, [], ◌∷◌, ◌++◌, codes}
 use Rattle.column_order.specs.Orders.{HasValidOrder}
 use Rattle.row_model.specs.Rows.{RowList}
+use Rattle.row_model.specs.declared.TheConstants.{MAX_COLUMNS}
 use Rattle.row_model.specs.declared.kind.Kind.{Kind}
 use Rattle.row_model.specs.declared.refusal.Read.TheVariants as read
 use Rattle.matrix_read.specs.Sparse.{further}
 use Rattle.instance_model.specs.Instance.{InstanceValue, plain, IsSideOf, derived_matrix}
 use Rattle.c1p_solve.specs.Sessions.{with_row}
+use Rattle.pq_tree.specs.Outline.{Outline}
+use Rattle.tree_meet.specs.Meets.{joint_rows}
 use Rattle.verdict_text.specs.Verdict.{SideValue}
+use Rattle.verdict_text.specs.Text.{side_text}
+use Rattle.commands.specs.Meetings.{head_text}
 use Rattle.verdict_check.specs.YesTests.{HasSide}
-use Rattle.pq_cli.specs.Words.{Solve, Extend}
-use Rattle.pq_cli.specs.Instances.{instance_of}
-use Rattle.pq_cli.specs.Replies.{Replies}
-use Rattle.pq_cli.specs.Solve.Laws.{TellsYes}
-use Rattle.pq_cli.specs.Extend.Sessions.{Outcome, session_text}
+use Rattle.commands.specs.Words.{Solve, Extend, Meet}
+use Rattle.commands.specs.Instances.{instance_of}
+use Rattle.reply_laws.specs.Replies.{Replies}
+use Rattle.reply_laws.specs.Solve.{TellsYes}
+use Rattle.reply_laws.specs.Meet.{WriteTrees}
+use Rattle.solve_replies.specs.Sessions.{Outcome, session_text}
 
--- where a reply tells a tree and an order: on a side of a yes, or at the end of a session
+-- where a reply tells a tree and an order: on a side of a yes, at the end of a session, or in what two trees share
 pub data Spot : Type 0 where
   on_side : (s : ℕ) → Spot
   at_end : Spot
+  in_meeting : Spot
 
 -- The matrix after further rows were taken in turn: each row that leaves a valid order is appended, and each other row is
 -- left out.
@@ -54,16 +61,36 @@ pub record ExtendsTo (text : List ℕ) (m : RowList) : Type 0 where
   pub grows : GrowsTo base more.rows m
   pub reply : Replies (Extend kind file rows) (bytes ∷ given ∷ []) 0 text
 
+-- the text is a reply to `meet` with status 0, and the matrix has the rows of both trees
+pub record MeetsIn (text : List ℕ) (m : RowList) : Type 0 where
+  pub columns : ℕ
+  pub name : List ℕ
+  pub other : List ℕ
+  pub first : List ℕ
+  pub second : List ℕ
+  pub one : Outline
+  pub two : Outline
+  pub few : columns ≤ MAX_COLUMNS
+  pub written : WriteTrees columns first second one two
+  pub matrix_is : m ≡ record { columns = columns; rows = joint_rows columns one two }
+  pub reply : Replies (Meet columns name other) (first ∷ second ∷ []) 0 text
+
 -- the text is a reply with status 0 whose tree and order at this spot are about the orders of the matrix
 abbrev pub RepliesFor : List ℕ → Spot → RowList → Type 0
 RepliesFor text (on_side s) m = SolvesSide text s m
 RepliesFor text at_end m = ExtendsTo text m
+RepliesFor text in_meeting m = MeetsIn text m
 
 -- the text is that of a session with this tree and this order at its end
 abbrev pub TellsEnd : List ℕ → SideValue → Type 0
 TellsEnd text side = (kind : Kind) × (c : ℕ) × (outcomes : List Outcome) × (text ≡ session_text kind c outcomes side)
 
+-- the text is that of what two trees share, with this tree and this order
+abbrev pub TellsMeeting : List ℕ → SideValue → Type 0
+TellsMeeting text side = (c : ℕ) × (t : Outline) × (u : Outline) × (text ≡ head_text c t u ++ (codes "answer yes\n" ++ (side_text side ++ codes "end\n")))
+
 -- the text tells this tree and this order at the spot, by the lines `side_text side`
 abbrev pub TellsAt : List ℕ → Spot → SideValue → Type 0
 TellsAt text (on_side s) side = TellsYes text (λ value. HasSide value s (λ told. told ≡ side))
 TellsAt text at_end side = TellsEnd text side
+TellsAt text in_meeting side = TellsMeeting text side

@@ -1,14 +1,15 @@
 //! The tree and the order that a reply tells depend on the set of orders alone.
 //!
-//! What `solve` and `extend` print as `tree` and `order` is the same for the same orders, whatever rows gave them, in whatever order they came,
-//! and by whichever of the two commands. The function here has no body: its contract is the law.
+//! What `solve`, `extend` and `meet` print as `tree` and `order` is the same for the same orders, whatever rows or
+//! trees gave them, in whatever order they came, and by whichever of the commands. So is the order that `core` prints
+//! for each row of a core. The functions here have no body: their contracts are the laws.
 #![tactic(auto)]
 
-ghost use Rattle.one_text.specs.Laws.{CanonicalTextLaw, LinesLaw, SameTextLaw, TextbookTextLaw};
+ghost use Rattle.one_text.specs.Laws.{CanonicalTextLaw, LinesLaw, SameTextLaw, TextbookTextLaw, OneOrderLaw};
 
-/// A reply with status 0 tells the canonical tree of the orders that it is about, and its leaves from left to right, and
-/// has the two lines that say so. So two replies about the same orders tell the same tree and the same order; and two
-/// replies to `solve` do, where their sides have the same textbook orders and neither instance is circular.
+/// A reply with status 0 tells the canonical tree of the orders that it is about, and its leaves from left to right,
+/// and has the two lines that say so. So two replies about the same orders tell the same tree and the same order; and
+/// two replies to `solve` do, where their sides have the same textbook orders and neither instance is circular.
 pub fn one_text_law()
     ensures canonical { CanonicalTextLaw }
     ensures lines { LinesLaw }
@@ -16,6 +17,15 @@ pub fn one_text_law()
     ensures textbook { TextbookTextLaw }
 {
     canonical_tree::canonical_tree_law();
-    pq_cli::reply_law();
+    reply_laws::meet_law();
+    reply_laws::reply_law();
+    tree_meet::common_law();
     verdict_text::one_verdict();
+}
+
+/// The order that a core tells of a row which is left out depends on the rows of the core alone.
+pub fn one_order_law()
+    ensures { OneOrderLaw }
+{
+    canonical_tree::canonical_tree_law();
 }

@@ -1,12 +1,4 @@
-pub mod Reading
 pub mod Frame
 pub mod Lines
-pub mod Solving
-pub mod Checking
-pub mod Extending
-pub mod CoreRows
-pub mod Generating
-pub mod Meeting
-pub mod Listing
+pub mod Bases
 pub mod Promises
-pub mod Units

@@ -2,27 +2,17 @@
 use Rattle.std.proofs.Common.{◌≡◌, ◌≢◌, ◌⊎◌, ◌↔◌, ℕ, ◌≤◌, List, [], ◌∷◌, Option, Some, None, inl, inr, refl, ◌∙◌, ap, subst, arith}
 use Rattle.std.specs.Prelude.{IsNone}
 use Rattle.std.proofs.lemmas.Bool.{cases_eq}
-use Rattle.row_model.specs.declared.kind.Kind.{Kind}
 use Rattle.row_model.specs.declared.refusal.Refusal.{Refusal}
 use Rattle.row_model.specs.declared.refusal.Read.{Read}
 use Rattle.row_model.specs.declared.refusal.Read.TheVariants as read
-use Rattle.verdict_text.specs.Verdict.{Claim, yes_claim, no_claim, VerdictValue}
-use Rattle.instance_model.specs.Instance.{InstanceValue, HasTextbookOrder, proper}
-use Rattle.pq_cli.specs.Words.{Command, Solve, Check, Extend, Gen, Meet, ListOrders, UnitModel, CheckUnit, Core, CheckCore, files_of}
-use Rattle.pq_cli.specs.Replies.{refusable, refused_at, refused_behind, refused_of_two, refusal_of, Replies}
-use Rattle.verdict_text.specs.Grammar.{IsVerdict}
-use Rattle.graph_read.specs.Graphs.{GraphValue}
+use Rattle.instance_model.specs.Instance.{InstanceValue}
+use Rattle.commands.specs.Words.{Command, Solve, Check, Extend, Gen, Meet, ListOrders, UnitModel, CheckUnit, Core, CheckCore, files_of}
+use Rattle.reply_laws.specs.Replies.{refusable, refused_at, refused_behind, refused_of_two, refusal_of, Replies}
 use Rattle.pq_cli.specs.Runs.{AllTold, WhereFirstTold, ForCommand, TakesFiles, WritesOut, CountsWrites}
-use Rattle.pq_cli.specs.Solve.Verdicts.{IsClaimOf, status_of}
-use Rattle.pq_cli.specs.Solve.Laws.{NoStatusLaw, YesStatusLaw, OrdersLaw}
-use Rattle.pq_cli.specs.Check.Laws.{CheckLaw, AgreedLaw}
-use Rattle.pq_cli.specs.Meet.TreeFiles.{tree_file}
-use Rattle.pq_cli.specs.Units.Models.{TellsByClaim}
-use Rattle.pq_cli.specs.Units.Laws.{UnitStatusLaw, PrintedUnitLaw}
-use Rattle.pq_cli.specs.UnitCheck.Laws.{UnitCheckLaw, UnitAgreedLaw}
-use Rattle.pq_cli.proofs.Units.{told_status}
+use Rattle.commands.specs.TreeFiles.{tree_file}
 use Rattle.pq_cli.specs.Stops.{stop_status, failure_status}
-use Rattle.pq_cli.specs.Promise.{NothingFails, WhereWellFormed, Completes, IsNoAnd, TellsNo, IsCycleOf, SaysYes, IsSolved, IsPromised, PromiseLaw, KeepsPromise}
+use Rattle.pq_cli.specs.Promise.{NothingFails, WhereWellFormed, Completes, KeepsPromise}
+use Rattle.reply_laws.specs.Promise.{PromiseLaw}
 use Rattle.pq_cli.specs.declared.stop.Stop.{Stop}
 use Rattle.pq_cli.specs.declared.stop.Stop.TheVariants as stop
 use Rattle.pq_cli.specs.declared.stop.Failure.{Failure}
@@ -225,101 +215,3 @@ module _ {S : Type 0} (content : S → List ℕ → Option (List ℕ)) (asked : 
       → ForCommand found (λ c. NothingFails (faults old) (faults new) writes_before writes_after status → KeepsPromise (content old) c before after status)
   promise law None ended = tt
   promise law (Some c) ended = λ nothing files t none. let reply = (ended nothing).reply files t none in (reply.0, reply.2, law c files status reply.0 reply.1)
-
--- a true claim with this status solves the instance
-solved : (i : InstanceValue) (claim : Claim) (status : ℕ) (text : List ℕ) → status ≡ status_of claim → IsClaimOf i claim → (status ≡ 0 → SaysYes i text) → (status ≡ 1 → HasTextbookOrder i → ⊥)
-    → (IsNoAnd claim (IsCycleOf i) → TellsNo text (IsCycleOf i)) → IsSolved i status text
-solved i (yes_claim value) status text is true at_zero at_one tells = inl (is, at_zero is)
-solved i (no_claim s lines) status text is true at_zero at_one tells = inr (is, record { none = at_one is; cycle = tells (true.0.side, true.1) })
-
--- a no of a graph tells a cycle
-unit_no : (g : GraphValue) (verdict : VerdictValue) (claim : Claim) (text : List ℕ) → IsVerdict verdict → IsClaimOf (proper g) claim → TellsByClaim g verdict claim 1 text
-    → (IsNoAnd claim (IsCycleOf (proper g)) → IsNoAnd verdict.claim (IsCycleOf (proper g))) → TellsNo text (IsCycleOf (proper g))
-unit_no g verdict (yes_claim value) text grammar true tells same = absurd (omega (arith, tells.0))
-unit_no g verdict (no_claim s lines) text grammar true tells same = (verdict, grammar, tells.1, same (true.0.side, true.1))
-
-module _ (status_law : UnitStatusLaw) (printed_law : PrintedUnitLaw) (check_law : UnitCheckLaw) (agreed_law : UnitAgreedLaw) where
-  unit_promised : (file bytes : List ℕ) (status : ℕ) (text : List ℕ) → Replies (UnitModel file) (bytes ∷ []) status text → IsPromised (UnitModel file) (bytes ∷ []) status text
-  unfolding Replies
-  unit_promised file bytes status text reply =
-      let g = reply.0 in
-      let e = reply.1 in
-      let made = reply.2 in (
-        g,
-        e,
-        elim (cases_eq status 0) [
-          | inl zero ↦ inl (zero, printed_law file bytes text g e (subst (λ s. Replies (UnitModel file) (bytes ∷ []) s text) zero reply))
-          | inr more ↦
-              let one : status ≡ 1 = told_status g made.verdict made.verdict.claim status text made.tells more in
-              inr (
-                one,
-                λ has. more ((status_law file bytes text status g e reply).1 has),
-                unit_no g made.verdict made.verdict.claim text made.grammar made.holds.claim (subst (λ s. TellsByClaim g made.verdict made.verdict.claim s text) one made.tells) (λ no. no),
-              )
-        ],
-      )
-
-  unit_check_promised : (file unit bytes given : List ℕ) (status : ℕ) (text : List ℕ) → Replies (CheckUnit file unit) (bytes ∷ given ∷ []) status text
-      → IsPromised (CheckUnit file unit) (bytes ∷ given ∷ []) status text
-  unfolding Replies
-  unit_check_promised file unit bytes given status text reply = (
-    reply.0,
-    reply.1,
-    record {
-      accepts = λ other wrote. agreed_law file other unit bytes given text status wrote reply;
-      believes = check_law file unit bytes given text status reply.0 reply.1 reply;
-    },
-  )
-
-module _ (no_law : NoStatusLaw) (yes_law : YesStatusLaw) (orders_law : OrdersLaw) (check_law : CheckLaw) (agreed_law : AgreedLaw)
-    (unit_law : UnitStatusLaw) (printed_law : PrintedUnitLaw) (unit_check : UnitCheckLaw) (unit_agreed : UnitAgreedLaw) where
-  solve_promised : (kind : Kind) (file bytes : List ℕ) (status : ℕ) (text : List ℕ) → Replies (Solve kind file) (bytes ∷ []) status text → IsPromised (Solve kind file) (bytes ∷ []) status text
-  unfolding Replies
-  solve_promised kind file bytes status text reply =
-      let i = reply.0 in
-      let e = reply.1 in
-      let made = reply.2 in (
-        i,
-        e,
-        solved i made.verdict.claim status text made.status_is made.holds.claim
-            (λ zero. record {
-              exists = (yes_law kind file bytes text status i e reply).0 zero;
-              orders = orders_law kind file bytes text i e (subst (λ s. Replies (Solve kind file) (bytes ∷ []) s text) zero reply);
-            })
-            (no_law kind file bytes text status i e reply).0
-            (λ cycle. (made.verdict, made.grammar, made.text_is, cycle)),
-      )
-
-  check_promised : (kind : Kind) (file verdict bytes given : List ℕ) (status : ℕ) (text : List ℕ) → Replies (Check kind file verdict) (bytes ∷ given ∷ []) status text
-      → IsPromised (Check kind file verdict) (bytes ∷ given ∷ []) status text
-  unfolding Replies
-  check_promised kind file verdict bytes given status text reply = (
-    reply.0,
-    reply.1,
-    record {
-      accepts = λ other found wrote. agreed_law kind other file verdict bytes given text found status wrote reply;
-      believes = λ zero. check_law kind file verdict bytes given text reply.0 reply.1 (subst (λ s. Replies (Check kind file verdict) (bytes ∷ given ∷ []) s text) zero reply);
-    },
-  )
-
-  pub promise_law : PromiseLaw
-  promise_law (Solve kind file) [] status text reply = tt
-  promise_law (Solve kind file) (bytes ∷ []) status text reply = solve_promised kind file bytes status text reply
-  promise_law (Solve kind file) (bytes ∷ more ∷ files) status text reply = tt
-  promise_law (Check kind file verdict) [] status text reply = tt
-  promise_law (Check kind file verdict) (bytes ∷ []) status text reply = tt
-  promise_law (Check kind file verdict) (bytes ∷ given ∷ []) status text reply = check_promised kind file verdict bytes given status text reply
-  promise_law (Check kind file verdict) (bytes ∷ given ∷ more ∷ files) status text reply = tt
-  promise_law (Extend kind file rows) files status text reply = tt
-  promise_law (Core kind file) files status text reply = tt
-  promise_law (CheckCore kind file core) files status text reply = tt
-  promise_law (Gen seed columns rows) files status text reply = tt
-  promise_law (Meet c first second) files status text reply = tt
-  promise_law (ListOrders kind file count) files status text reply = tt
-  promise_law (UnitModel file) [] status text reply = tt
-  promise_law (UnitModel file) (bytes ∷ []) status text reply = unit_promised unit_law printed_law unit_check unit_agreed file bytes status text reply
-  promise_law (UnitModel file) (bytes ∷ more ∷ files) status text reply = tt
-  promise_law (CheckUnit file unit) [] status text reply = tt
-  promise_law (CheckUnit file unit) (bytes ∷ []) status text reply = tt
-  promise_law (CheckUnit file unit) (bytes ∷ given ∷ []) status text reply = unit_check_promised unit_law printed_law unit_check unit_agreed file unit bytes given status text reply
-  promise_law (CheckUnit file unit) (bytes ∷ given ∷ more ∷ files) status text reply = tt

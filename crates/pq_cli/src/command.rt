@@ -1,31 +1,22 @@
 // The commands: from what the words ask for to a reply.
-ghost use Rattle.pq_cli.specs.Words.{IsInGrammar};
-ghost use Rattle.pq_cli.specs.Task.{command_seen};
+ghost use Rattle.commands.specs.Words.{IsInGrammar};
+ghost use Rattle.commands.specs.Task.{command_seen};
 ghost use Rattle.pq_cli.specs.Runs.{RunsCommand};
 
 use crate::check::check_file;
 use crate::core_rows::check::check_core_file;
 use crate::core_rows::core_file;
 use crate::extend::extend_file;
-use crate::generator::summary_reply;
 use crate::list::list_file;
 use crate::meet::meet_files;
 use crate::solve::solve_file;
 use crate::stop::Stop;
 use crate::unit::unit_file;
 use crate::unit_check::check_unit_file;
-use crate::words::Task;
+use commands::{Reply, Task};
 use pq_io::Shelf;
+use solve_replies::summary_reply;
 use std::alloc::Global;
-
-/// What is to be written, and the status.
-#[derive(Drop)]
-pub struct Reply {
-    /// The exit status.
-    pub status: u8,
-    /// The text.
-    pub text: Vec<u8>,
-}
 
 /// Does what the words ask for, up to the reply.
 ///

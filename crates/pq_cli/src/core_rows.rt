@@ -1,33 +1,17 @@
 // `core`: the rows of a matrix that are to blame.
-ghost use Rattle.std.specs.Prelude.{◌≡◌, ◌⊎◌, ◌<◌, ◌≤◌, IfOk};
-ghost use Rattle.column_order.specs.Orders.{HasValidOrder};
-ghost use Rattle.row_model.specs.Rows.{RowList};
-ghost use Rattle.instance_model.specs.Instance.{plain, instance_kind, IsInstance};
-ghost use Rattle.instance_model.specs.Value.{instance_value};
-ghost use Rattle.row_core.specs.Told.{TellsCore, IsCored};
-ghost use Rattle.pq_cli.specs.Words.{Core, IsExtended};
+ghost use Rattle.commands.specs.Words.{Core, IsExtended};
 ghost use Rattle.pq_cli.specs.Runs.{RunsCommand};
-ghost use Rattle.pq_cli.specs.Core.Replies.{IsCoreText, IsCoreReply};
-ghost use Rattle.pq_cli.specs.Solve.Verdicts.{IsVerdictReply};
 
-use crate::NoMemory;
-use crate::command::Reply;
-use crate::core_rows::laws::core_grammar_law;
 use crate::input::instance_file::InstanceFile;
 use crate::input::read_file;
-use crate::judge::Solver;
-use crate::solve::verdict_reply;
 use crate::stop::Stop;
-use instance_model::Instance;
+use commands::Reply;
 use pq_io::Shelf;
-use row_core::{CoreText, Cored, find_core, print_core};
-use row_model::{Kind, Matrix};
+use row_model::Kind;
+use solve_replies::blame_reply;
 use std::alloc::Global;
-use step_count::{Blank, Brand, Ledger, Steps};
 
 pub mod check;
-pub mod judgement;
-pub mod laws;
 pub mod text_file;
 
 /// Finds the rows of the matrix in a file that are to blame.
@@ -46,61 +30,4 @@ pub fn core_file<F: Shelf>(
 {
     let instance = read_file(alloc, &InstanceFile { kind }, 1, file, files)?;
     Ok(blame_reply(alloc, kind, &instance)?)
-}
-
-// The reply on a matrix: a core; or, where the matrix has a valid order, what `solve` replies.
-fn blame_reply(alloc: Global, kind: Kind, instance: &Instance) -> Result<Reply, NoMemory>
-    requires within { IsInstance (instance_value instance.now) }
-    requires of_kind { instance_kind (instance_value instance.now) ≡ kind }
-    requires taken { IsExtended kind }
-    ensures reply { IfOk result (λ reply. (m : RowList) × (instance_value instance.now ≡ plain kind m) × IsCoreReply kind m reply.status reply.text.items) }
-    ensures status { IfOk result (λ reply. (reply.status ≡ 0) ⊎ (reply.status ≡ 1)) }
-{
-    let Instance::Plain(_, m) = instance else {
-        unreachable!()
-    };
-    match cored::<Brand>(alloc, m, Blank::new(1))? {
-        Cored::Core(core) => {
-            let text = core_text(alloc, m, &CoreText::new(kind, m.columns(), core))?;
-            Ok(Reply { status: 0, text })
-        }
-        Cored::Has(_) => {
-            let text = verdict_text(alloc, instance)?;
-            Ok(Reply { status: 1, text })
-        }
-    }
-}
-
-// What is found of a matrix. The counter of steps begins at the blank.
-fn cored<L: Ledger>(alloc: Global, m: &Matrix, blank: Blank) -> Result<Cored, NoMemory>
-    requires name { blank.name ≡ L.name }
-    requires parts { blank.parts ≡ L.parts }
-    requires some { 0 < blank.parts }
-    ensures { IfOk result (IsCored m.now) }
-{
-    let mut steps = Steps::<L>::new(blank);
-    find_core(alloc, &mut Solver, m, &mut steps)
-}
-
-// The text of a core of a matrix.
-fn core_text(alloc: Global, m: &Matrix, core: &CoreText) -> Result<Vec<u8>, NoMemory>
-    requires columns { core.now.columns ≡ m.now.columns }
-    requires within { IsInstance (plain core.now.kind m.now) }
-    requires tells { TellsCore m.now core.now.parts }
-    ensures { IfOk result (λ text. IsCoreText core.now.kind m.now text.items) }
-{
-    core_grammar_law();
-    // A matrix has a column.
-    let _columns = m.columns();
-    let mut text = Vec::new(alloc);
-    print_core(core, &mut text)?;
-    Ok(text)
-}
-
-// The text of the verdict on a matrix that has a valid order.
-fn verdict_text(alloc: Global, instance: &Instance) -> Result<Vec<u8>, NoMemory>
-    requires { IsInstance (instance_value instance.now) }
-    ensures { IfOk result (λ text. (kind : Kind) (m : RowList) → instance_value instance.now ≡ plain kind m → HasValidOrder m.columns m.rows → IsVerdictReply (plain kind m) 0 text.items) }
-{
-    Ok(verdict_reply(alloc, instance)?.text)
 }

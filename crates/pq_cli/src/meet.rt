@@ -1,19 +1,17 @@
 // `meet`: the orders that two trees share.
 ghost use Rattle.std.specs.Prelude.{◌≡◌, ◌≤◌};
 ghost use Rattle.row_model.specs.declared.TheConstants.{MAX_COLUMNS};
-ghost use Rattle.pq_cli.specs.Words.{Meet};
+ghost use Rattle.commands.specs.Words.{Meet};
 ghost use Rattle.pq_cli.specs.Runs.{RunsCommand};
 
-use crate::command::Reply;
 use crate::input::read_file;
-use crate::meet::meeting::meeting_reply;
 use crate::meet::tree_file::TreeFile;
 use crate::stop::Stop;
+use commands::{Reply, meeting_reply};
 use pq_io::Shelf;
+use solve_replies::Solver;
 use std::alloc::Global;
 
-pub mod laws;
-pub mod meeting;
 pub mod tree_file;
 
 /// Tells what the trees in two files share, both over so many columns.
@@ -35,5 +33,5 @@ pub fn meet_files<F: Shelf>(
     let form = TreeFile { columns };
     let one = read_file(alloc, &form, 1, first, files)?;
     let other = read_file(alloc, &form, 2, second, files)?;
-    Ok(meeting_reply(alloc, &one, &other)?)
+    Ok(meeting_reply(alloc, &mut Solver, &one, &other)?)
 }

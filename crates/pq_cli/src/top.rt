@@ -1,16 +1,16 @@
 // The top call: one command, from the words to the status.
 ghost use Rattle.std.specs.Prelude.{◌≡◌, ◌⊎◌, ◌↔◌, ◌≤◌, IfNone, IfOk, IfErr, IsNone, List, ℕ};
-ghost use Rattle.pq_cli.specs.Words.{texts, command_of};
+ghost use Rattle.commands.specs.Words.{texts, command_of};
 ghost use Rattle.pq_cli.specs.Runs.{ForCommand, TakesFiles, WritesOut, CountsWrites, Offers, IsLineOf, failure_line};
 ghost use Rattle.pq_cli.specs.Stops.{run_status, failure_status};
 ghost use Rattle.pq_cli.specs.Promise.{NothingFails, Completes, KeepsPromise};
 
 use crate::command::perform;
-use crate::promise::promise_law;
 use crate::report::report;
 use crate::stop::Failure;
-use crate::words::task_of;
+use commands::task_of;
 use pq_io::{Shelf, Sink, write_all};
+use reply_laws::promise_law;
 use std::alloc::Global;
 
 /// Does what the words ask for, and answers the exit status.
@@ -22,11 +22,11 @@ use std::alloc::Global;
 /// - `check KIND FILE VERDICT`: whether a verdict on an instance is true;
 /// - `extend KIND FILE ROWS`, with KIND `matrix`, `rows` or `table`: further rows, taken in turn after those of a
 ///   matrix as long as a valid order is left;
-/// - `core KIND FILE`, with KIND as in `extend`: rows of a matrix that have no valid order together, of which none can be
-///   left out;
+/// - `core KIND FILE`, with KIND as in `extend`: rows of a matrix that have no valid order together, of
+///   which none can be left out;
 /// - `check-core KIND FILE CORE`, with KIND as in `extend`: whether a text names such rows;
-/// - `list KIND FILE K`, with KIND as in `extend`: the first K valid orders of a matrix, compared as lists of numbers. K is
-///   decimal digits, leading zeros allowed, from 1 to 10,000;
+/// - `list KIND FILE K`, with KIND as in `extend`: the first K valid orders of a matrix, compared as lists of numbers.
+///   K is decimal digits, leading zeros allowed, from 1 to 10,000;
 /// - `unit FILE`: intervals of one length for a graph in the form of `proper`;
 /// - `check-unit FILE UNIT`: whether a text has such intervals of a graph;
 /// - `gen SEED COLUMNS ROWS`: a matrix that a number draws, summed up. The words are decimal digits, leading zeros

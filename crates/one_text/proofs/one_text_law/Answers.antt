@@ -4,9 +4,12 @@ use Rattle.one_text.proofs.Textbook.{textbook_text}
 use Rattle.one_text.proofs.one_text_law.Goals as goal
 
 pub returns : goal.returns
-returns c = record {
-  canonical = canonical_text c.canonical_tree_law.ensures.one;
-  lines = lines_law;
-  same = same_text c.canonical_tree_law.ensures.rows;
-  textbook = textbook_text c.reply_law.ensures.orders c.one_verdict.ensures c.canonical_tree_law.ensures.rows;
-}
+returns c =
+    let common = c.common_law.ensures.rows in
+    let meet = c.meet_law.ensures.text in
+    record {
+      canonical = canonical_text common meet c.canonical_tree_law.ensures.one;
+      lines = lines_law;
+      same = same_text common meet c.canonical_tree_law.ensures.rows;
+      textbook = textbook_text c.reply_law.ensures.orders c.one_verdict.ensures common meet c.canonical_tree_law.ensures.rows;
+    }

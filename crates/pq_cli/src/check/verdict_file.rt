@@ -1,6 +1,7 @@
 // The file of a verdict.
+use crate::NoMemory;
 use crate::input::FileForm;
-use crate::{MAX_VERDICT_BYTES, NoMemory};
+use commands::MAX_VERDICT_BYTES;
 use pq_io::Whole;
 use row_model::Read;
 use std::alloc::Global;
@@ -10,7 +11,7 @@ use std::alloc::Global;
 pub struct VerdictFile;
 
 impl FileForm for VerdictFile {
-    ghost use Rattle.pq_cli.specs.declared.TheConstants.{MAX_VERDICT_BYTES};
+    ghost use Rattle.commands.specs.declared.TheConstants.{MAX_VERDICT_BYTES};
     ghost use Rattle.pq_cli.specs.Reading.{ReadsBytes, IsRead};
 
     type Value = Whole;

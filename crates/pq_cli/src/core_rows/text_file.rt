@@ -1,6 +1,7 @@
 // The file of the text of a core.
+use crate::NoMemory;
 use crate::input::FileForm;
-use crate::{MAX_CORE_BYTES, NoMemory};
+use commands::MAX_CORE_BYTES;
 use pq_io::Whole;
 use row_model::Read;
 use std::alloc::Global;
@@ -10,7 +11,7 @@ use std::alloc::Global;
 pub struct TextFile;
 
 impl FileForm for TextFile {
-    ghost use Rattle.pq_cli.specs.declared.TheConstants.{MAX_CORE_BYTES};
+    ghost use Rattle.commands.specs.declared.TheConstants.{MAX_CORE_BYTES};
     ghost use Rattle.pq_cli.specs.Reading.{ReadsBytes, IsRead};
 
     type Value = Whole;

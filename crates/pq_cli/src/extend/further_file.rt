@@ -20,7 +20,7 @@ pub struct FurtherFile {
 
 impl FileForm for FurtherFile {
     ghost use Rattle.row_model.specs.declared.TheConstants.{MAX_FILE_BYTES};
-    ghost use Rattle.pq_cli.specs.Extend.Files.{ReadsFurther, HoldsFurther};
+    ghost use Rattle.pq_cli.specs.Further.{ReadsFurther, HoldsFurther};
 
     type Value = Matrix;
 

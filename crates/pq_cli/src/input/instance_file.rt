@@ -1,16 +1,10 @@
 // The file of an instance.
-ghost use Rattle.std.specs.Prelude.{◌≡◌, IfOk};
-ghost use Rattle.instance_model.specs.Instance.{plain, IsPlainKind};
-ghost use Rattle.instance_model.specs.Value.{instance_value};
-ghost use Rattle.pq_cli.specs.Instances.{instance_of, map_read, AreRead, IfRead, IsInstanceOf, InstanceLaw, LongLaw};
-
 use crate::NoMemory;
 use crate::input::{FileForm, too_long};
-use graph_read::{edge_laws, read_bigraph, read_distances, read_graph};
+use commands::{instance_in, long_law};
 use instance_model::Instance;
-use matrix_read::{limits_law, read_clones, read_dense, read_rows, read_table};
 use pq_io::Whole;
-use row_model::{Kind, MAX_COLUMNS, MAX_FILE_BYTES, MAX_ROWS, Matrix, Read};
+use row_model::{Kind, MAX_FILE_BYTES, Read};
 use std::alloc::Global;
 
 /// The file of an instance of a kind.
@@ -22,7 +16,7 @@ pub struct InstanceFile {
 
 impl FileForm for InstanceFile {
     ghost use Rattle.row_model.specs.declared.TheConstants.{MAX_FILE_BYTES};
-    ghost use Rattle.pq_cli.specs.Instances.{ReadsInstance, HoldsInstance};
+    ghost use Rattle.commands.specs.Instances.{ReadsInstance, HoldsInstance};
 
     type Value = Instance;
 
@@ -41,69 +35,4 @@ impl FileForm for InstanceFile {
         };
         instance_in(alloc, self.kind, &bytes)
     }
-}
-
-// The instance of a kind in the bytes of a file, or their first refusal.
-fn instance_in(alloc: Global, kind: Kind, bytes: &[u8]) -> Result<Read<Instance>, NoMemory>
-    ensures value { IfOk result (λ made.
-        map_read instance_value made ≡ instance_of kind bytes.now) }
-    ensures within { IfOk result (λ made. IfRead made (IsInstanceOf kind)) }
-{
-    instance_law();
-    parsed(alloc, kind, bytes)
-}
-
-// The same, by the reader of the kind.
-fn parsed(alloc: Global, kind: Kind, bytes: &[u8]) -> Result<Read<Instance>, NoMemory>
-    ensures { IfOk result (λ made. map_read instance_value made ≡ instance_of kind bytes.now) }
-{
-    Ok(match kind {
-        Kind::Circular => map_read(read_dense(alloc, bytes)?, Instance::Circular),
-        Kind::Convex => map_read(read_bigraph(alloc, bytes, MAX_ROWS)?, Instance::Convex),
-        Kind::Doubly => map_read(read_bigraph(alloc, bytes, MAX_COLUMNS)?, Instance::Doubly),
-        Kind::Proper => map_read(read_graph(alloc, bytes)?, Instance::Proper),
-        Kind::Robinson => map_read(read_distances(alloc, bytes)?, Instance::Robinson),
-        _ => map_read(matrix_in(alloc, kind, bytes)?, |m| Instance::Plain(kind, m)),
-    })
-}
-
-// The instance of what was read, or the refusal.
-fn map_read<T, F: FnOnce(T) -> Instance>(read: Read<T>, instance: F) -> Read<Instance>
-    requires { IfRead read (λ value. F.pre instance value) }
-    ensures { AreRead (F.post instance) read result }
-{
-    match read {
-        Read::Ok(value) => Read::Ok(instance(value)),
-        Read::Refused(refusal) => Read::Refused(refusal),
-    }
-}
-
-// The matrix of a kind in the bytes of a file, or their first refusal.
-fn matrix_in(alloc: Global, kind: Kind, bytes: &[u8]) -> Result<Read<Matrix>, NoMemory>
-    requires { IsPlainKind kind }
-    ensures { IfOk result (λ read. map_read (plain kind) read ≡ instance_of kind bytes.now) }
-{
-    match kind {
-        Kind::Matrix => read_dense(alloc, bytes),
-        Kind::Rows => read_rows(alloc, bytes),
-        Kind::Table => read_table(alloc, bytes),
-        Kind::Clones => read_clones(alloc, bytes),
-        _ => unreachable!(),
-    }
-}
-
-/// Each instance in the bytes of a file is within the limits of files.
-pub fn instance_law()
-    ensures { InstanceLaw }
-{
-    limits_law();
-    edge_laws();
-}
-
-// Bytes past the limit are refused, whatever the kind.
-fn long_law()
-    ensures { LongLaw }
-{
-    matrix_read::refusal_laws();
-    graph_read::refusal_laws();
 }

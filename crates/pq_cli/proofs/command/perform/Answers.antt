@@ -1,6 +1,6 @@
 use Rattle.std.proofs.Common.{refl, inl}
-use Rattle.pq_cli.specs.Words.{Gen}
-use Rattle.pq_cli.specs.Replies.{Replies}
+use Rattle.commands.specs.Words.{Gen}
+use Rattle.reply_laws.specs.Replies.{Replies}
 use Rattle.pq_cli.proofs.Frame.{reply_alone}
 use Rattle.pq_cli.proofs.command.perform.Goals as goal
 

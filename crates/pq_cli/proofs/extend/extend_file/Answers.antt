@@ -1,11 +1,11 @@
 use Rattle.std.proofs.Common.{ℕ, [], ◌∷◌, refl, sym, ap, arith}
 use Rattle.instance_model.specs.Value.{instance_value}
-use Rattle.pq_cli.specs.Words.{Extend}
-use Rattle.pq_cli.specs.Instances.{ReadsInstance, HoldsInstance}
-use Rattle.pq_cli.specs.Extend.Files.{ReadsFurther, HoldsFurther}
-use Rattle.pq_cli.specs.Replies.{refused_at, Replies}
+use Rattle.commands.specs.Words.{Extend}
+use Rattle.commands.specs.Instances.{ReadsInstance, HoldsInstance}
+use Rattle.pq_cli.specs.Further.{ReadsFurther, HoldsFurther}
+use Rattle.reply_laws.specs.Replies.{refused_at, Replies}
 use Rattle.pq_cli.proofs.Frame.{first_stops, second_stops, memory_after_two, reply_after_two}
-use Rattle.pq_cli.proofs.Extending.Bases.{base_read, further_refused, further_read}
+use Rattle.pq_cli.proofs.Bases.{base_read, further_refused, further_read}
 use Rattle.pq_cli.proofs.extend.extend_file.Goals as goal
 
 pub returns-in_err-base : goal.returns-in_err-base

@@ -1,9 +1,9 @@
 use Rattle.std.proofs.Common.{◌≡◌, ℕ, [], ◌∷◌, ◌∙◌, refl, sym, ap, subst, arith}
 use Rattle.pq_tree.specs.PqTree.{column_count, outline}
-use Rattle.pq_cli.specs.Words.{Meet}
-use Rattle.pq_cli.specs.Meet.TreeFiles.{tree_file, ReadsTree, HoldsTree}
-use Rattle.pq_cli.specs.Meet.Meetings.{IsMeetingReply}
-use Rattle.pq_cli.specs.Replies.{refused_at, refused_of_two, Replies}
+use Rattle.commands.specs.Words.{Meet}
+use Rattle.commands.specs.TreeFiles.{tree_file, ReadsTree, HoldsTree}
+use Rattle.commands.specs.Meetings.{IsMeetingReply}
+use Rattle.reply_laws.specs.Replies.{refused_at, refused_of_two, Replies}
 use Rattle.pq_cli.proofs.Frame.{first_stops, second_stops, memory_after_two, reply_after_two}
 use Rattle.pq_cli.proofs.meet.meet_files.Goals as goal
 

@@ -1,8 +1,8 @@
 use Rattle.std.proofs.Common.{[], refl, sym, ap, arith}
 use Rattle.instance_model.specs.Value.{instance_value}
-use Rattle.pq_cli.specs.Words.{Solve}
-use Rattle.pq_cli.specs.Instances.{ReadsInstance, HoldsInstance}
-use Rattle.pq_cli.specs.Replies.{refused_at, Replies}
+use Rattle.commands.specs.Words.{Solve}
+use Rattle.commands.specs.Instances.{ReadsInstance, HoldsInstance}
+use Rattle.reply_laws.specs.Replies.{refused_at, Replies}
 use Rattle.pq_cli.proofs.Frame.{first_stops, memory_after_one, reply_after_one}
 use Rattle.pq_cli.proofs.solve.solve_file.Goals as goal
 

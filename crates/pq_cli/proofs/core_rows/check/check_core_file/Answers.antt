@@ -1,10 +1,10 @@
 use Rattle.std.proofs.Common.{[], ◌∷◌, ◌∙◌, refl, sym, ap, arith}
 use Rattle.row_model.specs.declared.refusal.Read.TheVariants as read
-use Rattle.pq_cli.specs.Words.{CheckCore}
-use Rattle.pq_cli.specs.Instances.{ReadsInstance, HoldsInstance}
+use Rattle.commands.specs.Words.{CheckCore}
+use Rattle.commands.specs.Instances.{ReadsInstance, HoldsInstance}
 use Rattle.pq_cli.specs.Reading.{ReadsBytes, IsRead}
-use Rattle.pq_cli.specs.Replies.{refused_at, Replies}
-use Rattle.pq_cli.specs.declared.TheConstants.{MAX_CORE_BYTES}
+use Rattle.reply_laws.specs.Replies.{refused_at, Replies}
+use Rattle.commands.specs.declared.TheConstants.{MAX_CORE_BYTES}
 use Rattle.pq_cli.proofs.Frame.{first_stops, second_stops, memory_after_two, reply_after_two}
 use Rattle.pq_cli.proofs.core_rows.check.check_core_file.Goals as goal
 
@@ -21,16 +21,16 @@ returns-in_err-bytes g c =
     (λ bytes made. ap (refused_at 1) (sym made)) c.in_err-bytes.field-0.0 c.in_err-bytes.ensures (λ refusal held. absurd held) c.from_residual-in_err-bytes.result
     c.from_residual-in_err-bytes.ensures.1
 
-pub returns-in_err-judgement_reply : goal.returns-in_err-judgement_reply
-returns-in_err-judgement_reply g c =
+pub returns-in_err-core_judgement_reply : goal.returns-in_err-core_judgement_reply
+returns-in_err-core_judgement_reply g c =
     memory_after_two g.F.Shelf.content g.F.Shelf.asked g.F.Shelf.faults c.args.files.now c.read_file.new.files c.read_file-2.new.files (CheckCore c.args.kind c.args.file.now c.args.core.now)
     c.args.file.now c.args.core.now (ReadsInstance c.args.kind) (HoldsInstance c.args.kind) c.in_ok-instance.instance (ReadsBytes MAX_CORE_BYTES) IsRead refl c.in_ok-instance.ensures
-    (λ bytes made. ap (refused_at 1) (sym made)) c.in_ok-bytes.bytes c.in_ok-bytes.ensures c.from_residual-in_err-judgement_reply.result c.from_residual-in_err-judgement_reply.ensures.1
+    (λ bytes made. ap (refused_at 1) (sym made)) c.in_ok-bytes.bytes c.in_ok-bytes.ensures c.from_residual-in_err-core_judgement_reply.result c.from_residual-in_err-core_judgement_reply.ensures.1
 
 pub returns : goal.returns
 unfolding Replies
 returns g c =
     reply_after_two g.F.Shelf.content g.F.Shelf.asked g.F.Shelf.faults c.args.files.now c.read_file.new.files c.read_file-2.new.files (CheckCore c.args.kind c.args.file.now c.args.core.now)
     c.args.file.now c.args.core.now (ReadsInstance c.args.kind) (HoldsInstance c.args.kind) c.in_ok-instance.instance (ReadsBytes MAX_CORE_BYTES) IsRead refl c.in_ok-instance.ensures
-    (λ bytes made. ap (refused_at 1) (sym made)) c.in_ok-bytes.bytes c.in_ok-bytes.ensures c.in_ok-judgement_reply.field-0 c.in_ok-judgement_reply.ensures.status
-    (λ bytes given made whole. let here = c.in_ok-judgement_reply.ensures.reply given whole in (here.0, sym made ∙ ap read.Ok here.1, here.2))
+    (λ bytes made. ap (refused_at 1) (sym made)) c.in_ok-bytes.bytes c.in_ok-bytes.ensures c.in_ok-core_judgement_reply.field-0 c.in_ok-core_judgement_reply.ensures.status
+    (λ bytes given made whole. let here = c.in_ok-core_judgement_reply.ensures.reply given whole in (here.0, sym made ∙ ap read.Ok here.1, here.2))

@@ -1,0 +1,12 @@
+use Rattle.commands.proofs.Solved.{added_true, solved_accepted}
+use Rattle.commands.proofs.verdict_laws.passed_law.Goals as goal
+
+pub returns : goal.returns
+returns c =
+    let valid = c.textbook_law.ensures.valid in
+    let models = c.model_law.ensures.models in
+    let tests = c.solved_laws.ensures in
+    record {
+      passed = λ i status text within formed reply. solved_accepted valid models tests.yes tests.no i within formed c.grammar_law.ensures.length status text reply;
+      added = added_true valid models;
+    }

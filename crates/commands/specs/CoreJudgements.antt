@@ -1,0 +1,60 @@
+-- What a check finds of the bytes of the text of a core.
+use Rattle.std.specs.Prelude.{◌≡◌, ◌≢◌, ℕ, ◌<◌, ◌≤◌, List, ◌++◌, length, codes}
+use Rattle.std.specs.Fmt.{decimal}
+use Rattle.row_model.specs.declared.kind.Kind.{Kind}
+use Rattle.row_model.specs.Rows.{RowList}
+use Rattle.row_core.specs.Texts.{TextValue, IsInGrammar, core_text}
+use Rattle.verdict_check.specs.Core.{IsAcceptedCore, FailsCoreFirst}
+use Rattle.verdict_check.specs.declared.core_outcome.CoreReason.{CoreReason}
+use Rattle.verdict_check.specs.declared.core_outcome.CoreReason.TheVariants as reason
+use Rattle.commands.specs.declared.TheConstants.{MAX_CORE_BYTES}
+use Rattle.commands.specs.declared.core_judgement.CoreJudgement.{CoreJudgement}
+use Rattle.commands.specs.declared.core_judgement.CoreJudgement.TheVariants as judgement
+
+-- the bytes are within the limit, and the text of a core of which P holds
+abbrev pub HasCoreText : List ℕ → (TextValue → Type 0) → Type 0
+HasCoreText bytes P = (length bytes ≤ MAX_CORE_BYTES) × ((t : TextValue) × IsInGrammar t × (bytes ≡ core_text t) × P t)
+
+-- the bytes are the text of no core
+abbrev pub IsNoCoreText : List ℕ → Type 0
+IsNoCoreText bytes = (t : TextValue) → IsInGrammar t → bytes ≢ core_text t
+
+-- What is found of the bytes: they are the text of a core that passes each test on the matrix; or the first test that fails, of which
+-- those of the length and of the grammar come before those of the text.
+abbrev pub IsCoreJudgement : Kind → RowList → List ℕ → CoreJudgement → Type 0
+IsCoreJudgement kind m bytes judgement.Valid = HasCoreText bytes (IsAcceptedCore m kind)
+IsCoreJudgement kind m bytes judgement.TooLong = MAX_CORE_BYTES < length bytes
+IsCoreJudgement kind m bytes judgement.NoCore = (length bytes ≤ MAX_CORE_BYTES) × IsNoCoreText bytes
+IsCoreJudgement kind m bytes (judgement.Fails r) = HasCoreText bytes (λ t. FailsCoreFirst m kind t r)
+
+-- the words of a reason
+abbrev pub core_reason_text : CoreReason → List ℕ
+core_reason_text reason.Kind = codes "kind"
+core_reason_text reason.Columns = codes "columns"
+core_reason_text reason.Rows = codes "rows"
+core_reason_text (reason.Order row) = codes "order " ++ decimal row
+core_reason_text (reason.Length count) = codes "length " ++ decimal count
+core_reason_text (reason.Pair line) = codes "pair " ++ decimal line
+core_reason_text (reason.Repeat line) = codes "repeat " ++ decimal line
+core_reason_text (reason.Join line) = codes "join " ++ decimal line
+
+-- `valid`, or `invalid` with the test that failed
+abbrev pub core_judgement_text : CoreJudgement → List ℕ
+core_judgement_text judgement.Valid = codes "valid"
+core_judgement_text judgement.TooLong = codes "invalid too-long"
+core_judgement_text judgement.NoCore = codes "invalid text"
+core_judgement_text (judgement.Fails r) = codes "invalid " ++ core_reason_text r
+
+-- the status that goes with it: 0 for valid, 1 for invalid
+abbrev pub core_judgement_status : CoreJudgement → ℕ
+core_judgement_status judgement.Valid = 0
+core_judgement_status judgement.TooLong = 1
+core_judgement_status judgement.NoCore = 1
+core_judgement_status (judgement.Fails r) = 1
+
+-- the status and the text, one line, are those of what is found of the bytes
+pub record IsCoreJudgementReply (kind : Kind) (m : RowList) (bytes : List ℕ) (status : ℕ) (text : List ℕ) : Type 0 where
+  pub judgement : CoreJudgement
+  pub holds : IsCoreJudgement kind m bytes judgement
+  pub status_is : status ≡ core_judgement_status judgement
+  pub text_is : text ≡ core_judgement_text judgement ++ codes "\n"

@@ -1,0 +1,10 @@
+pub mod Words
+pub mod Task
+pub mod Instances
+pub mod Verdicts
+pub mod Cores
+pub mod Judgements
+pub mod CoreJudgements
+pub mod Findings
+pub mod Meetings
+pub mod TreeFiles

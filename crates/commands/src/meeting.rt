@@ -1,0 +1,133 @@
+// The reply on two trees.
+ghost use Rattle.std.specs.Prelude.{◌≡◌, ◌⊎◌, ◌<◌, ◌≤◌, ◌++◌, ℕ, List, length, IfOk, OnOk};
+ghost use Rattle.row_model.specs.declared.TheConstants.{MAX_COLUMNS};
+ghost use Rattle.row_model.specs.Cycles.{IsOddCycle};
+ghost use Rattle.pq_tree.specs.PqTree.{column_count, outline};
+ghost use Rattle.tree_meet.specs.Meets.{IsCommon, IsMeet, joint_rows};
+ghost use Rattle.commands.specs.Meetings.{head_text, TellsCommon, TellsApart, IsMeetingReply};
+
+use crate::{NoMemory, Reply};
+use incompat_graph::Cycle;
+use pq_tree::PqTree;
+use row_core::Judge;
+use std::alloc::Global;
+use step_count::{Blank, Brand, Ledger, Steps};
+use tree_meet::{Met, meet, row_count};
+use verdict_text::{print_cycle, print_side};
+
+/// The reply with what two trees share, as a judge of matrices finds it.
+///
+/// # Errors
+///
+/// Memory is refused.
+pub fn meeting_reply<J: Judge>(
+    alloc: Global,
+    judge: &mut J,
+    first: &PqTree,
+    second: &PqTree,
+) -> Result<Reply, NoMemory>
+    requires same { column_count second.now ≡ column_count first.now }
+    requires few { column_count first.now ≤ MAX_COLUMNS }
+    ensures reply { IfOk result (λ reply.
+        IsMeetingReply (column_count first.now) (outline first.now) (outline second.now)
+        reply.status reply.text.items) }
+    ensures status { IfOk result (λ reply. (reply.status ≡ 0) ⊎ (reply.status ≡ 1)) }
+{
+    meeting::<Brand, J>(alloc, judge, first, second, Blank::new(1))
+}
+
+// The same. The counter of steps begins at the blank.
+fn meeting<L: Ledger, J: Judge>(
+    alloc: Global,
+    judge: &mut J,
+    first: &PqTree,
+    second: &PqTree,
+    blank: Blank,
+) -> Result<Reply, NoMemory>
+    requires name { blank.name ≡ L.name }
+    requires parts { blank.parts ≡ L.parts }
+    requires some { 0 < blank.parts }
+    requires same { column_count second.now ≡ column_count first.now }
+    requires few { column_count first.now ≤ MAX_COLUMNS }
+    ensures reply { IfOk result (λ reply.
+        IsMeetingReply (column_count first.now) (outline first.now) (outline second.now)
+        reply.status reply.text.items) }
+    ensures status { IfOk result (λ reply. (reply.status ≡ 0) ⊎ (reply.status ≡ 1)) }
+{
+    let mut steps = Steps::<L>::new(blank);
+    match meet(alloc, judge, first, second, &mut steps)? {
+        Met::Tree(tree) => {
+            let text = common_text(alloc, first, second, &tree)?;
+            Ok(Reply { status: 0, text })
+        }
+        Met::Apart(cycle) => {
+            let text = apart_text(alloc, first, second, &cycle)?;
+            Ok(Reply { status: 1, text })
+        }
+    }
+}
+
+// The text that tells the tree of the common frontiers, and an order.
+fn common_text(
+    alloc: Global,
+    first: &PqTree,
+    second: &PqTree,
+    tree: &PqTree,
+) -> Result<Vec<u8>, NoMemory>
+    requires same { column_count second.now ≡ column_count first.now }
+    requires few { column_count first.now ≤ MAX_COLUMNS }
+    requires common { IsMeet (column_count first.now) (outline first.now) (outline second.now) tree.now }
+    requires some { (o : List ℕ) × IsCommon (outline first.now) (outline second.now) o }
+    ensures { IfOk result (λ text.
+        TellsCommon (column_count first.now) (outline first.now) (outline second.now) text.items) }
+{
+    let order = tree.frontier(alloc)?;
+    let mut text = Vec::with_capacity(alloc, 96 + 12 * tree.columns() as usize)?;
+    print_head(alloc, first, second, &mut text)?;
+    text.extend_from_slice(b"answer yes\n")?;
+    print_side(tree, &order, &mut text)?;
+    text.extend_from_slice(b"end\n")?;
+    Ok(text)
+}
+
+// The text that tells that no frontier is common, as an odd cycle shows.
+fn apart_text(
+    alloc: Global,
+    first: &PqTree,
+    second: &PqTree,
+    cycle: &Cycle,
+) -> Result<Vec<u8>, NoMemory>
+    requires same { column_count second.now ≡ column_count first.now }
+    requires few { column_count first.now ≤ MAX_COLUMNS }
+    requires cycle { IsOddCycle (column_count first.now)
+        (joint_rows (column_count first.now) (outline first.now) (outline second.now)) cycle.now }
+    requires none { (o : List ℕ) → IsCommon (outline first.now) (outline second.now) o → ⊥ }
+    ensures { IfOk result (λ text.
+        TellsApart (column_count first.now) (outline first.now) (outline second.now) text.items) }
+{
+    let mut text = Vec::new(alloc);
+    print_head(alloc, first, second, &mut text)?;
+    text.extend_from_slice(b"answer no\n")?;
+    print_cycle(cycle.lines(), &mut text)?;
+    text.extend_from_slice(b"end\n")?;
+    Ok(text)
+}
+
+// The first three lines.
+fn print_head(
+    alloc: Global,
+    first: &PqTree,
+    second: &PqTree,
+    text: &mut Vec<u8>,
+) -> Result<(), NoMemory>
+    requires same { column_count second.now ≡ column_count first.now }
+    requires few { column_count first.now ≤ MAX_COLUMNS }
+    ensures { OnOk result (text.new.items
+        ≡ text.old.items ++ head_text (column_count first.now) (outline first.now) (outline second.now)) }
+{
+    let columns = first.columns();
+    let rows = row_count(first);
+    let others = row_count(second);
+    let head = format!(in alloc; "pq-meet 1\ncolumns {columns}\nrows {rows} {others}\n")?;
+    text.extend_from_slice(head.as_bytes())
+}

@@ -1,0 +1,27 @@
+-- A matrix and further rows over its columns, as their files are read.
+use Rattle.std.proofs.Common.{◌≡◌, ◌∙◌, ℕ, List, [], ◌∷◌, Some, ap, sym}
+use Rattle.row_model.specs.Rows.{RowList}
+use Rattle.row_model.specs.declared.kind.Kind.{Kind}
+use Rattle.row_model.specs.declared.refusal.Refusal.{Refusal}
+use Rattle.row_model.specs.declared.refusal.Read.TheVariants as read
+use Rattle.matrix_read.specs.Sparse.{further}
+use Rattle.instance_model.specs.Instance.{InstanceValue, plain, instance_kind}
+use Rattle.commands.specs.Words.{Extend}
+use Rattle.commands.specs.Instances.{instance_of}
+use Rattle.reply_laws.specs.Replies.{refused_at, refused_behind, refusal_of}
+
+-- an instance of a kind that holds a matrix is that matrix, of that kind
+base_is : (kind k : Kind) (i : InstanceValue) (m : RowList) → i ≡ plain k m → instance_kind i ≡ kind → i ≡ plain kind m
+base_is kind k i m e h = e ∙ ap (λ j. plain j m) (sym (ap instance_kind e) ∙ h)
+
+pub base_read : (kind k : Kind) (bytes : List ℕ) (i : InstanceValue) (m : RowList) → i ≡ plain k m → instance_kind i ≡ kind → read.Ok i ≡ instance_of kind bytes → instance_of kind bytes ≡ read.Ok (plain kind m)
+base_read kind k bytes i m e h made = sym made ∙ ap read.Ok (base_is kind k i m e h)
+
+-- further rows over so many columns
+pub further_refused : (kind : Kind) (file rows bytes given : List ℕ) (m : RowList) (c : ℕ) (refusal : Refusal) → instance_of kind bytes ≡ read.Ok (plain kind m) → c ≡ m.columns
+    → read.Refused refusal ≡ further c given → refusal_of (Extend kind file rows) (bytes ∷ given ∷ []) ≡ Some (2, refusal)
+further_refused kind file rows bytes given m c refusal base over refused =
+    ap (λ j. refused_behind j given) base ∙ ap (λ n. refused_at 2 (further n given)) (sym over) ∙ ap (refused_at 2) (sym refused)
+
+pub further_read : (given : List ℕ) (m n : RowList) (c : ℕ) → c ≡ m.columns → read.Ok n ≡ further c given → further m.columns given ≡ read.Ok n
+further_read given m n c over made = ap (λ k. further k given) (sym over) ∙ sym made

@@ -1,4 +1,0 @@
-pub mod Bases
-pub mod NoOrders
-pub mod Sessions
-pub mod SessionLaws

@@ -1,5 +1,0 @@
-use Rattle.pq_cli.proofs.Listing.ListLaws as laws
-use Rattle.pq_cli.proofs.list.laws.list_law.Goals as goal
-
-pub returns : goal.returns
-returns c = record { status = laws.status_law; list = laws.list_law; none = laws.none_law }

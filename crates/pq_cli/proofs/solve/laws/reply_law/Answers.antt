@@ -1,8 +1,0 @@
-use Rattle.pq_cli.proofs.Solving.Statuses.{no_law, yes_law, orders_law}
-use Rattle.pq_cli.proofs.solve.laws.reply_law.Goals as goal
-
-pub returns : goal.returns
-returns c =
-    let read = c.instance_law.ensures in
-    let textbook = c.textbook_law.ensures in
-    record { no = no_law read textbook.exists; yes = yes_law read textbook.exists; orders = orders_law read textbook.derived textbook.valid }

@@ -1,4 +1,0 @@
-pub mod Sessions
-pub mod Taking
-pub mod Files
-pub mod Laws

@@ -1,3 +1,0 @@
-pub mod TreeFiles
-pub mod Meetings
-pub mod Laws

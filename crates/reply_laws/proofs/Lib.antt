@@ -1,0 +1,9 @@
+pub mod Reading
+pub mod Statuses
+pub mod Judged
+pub mod Told
+pub mod SessionLaws
+pub mod ListLaws
+pub mod Meetings
+pub mod Units
+pub mod Promises

@@ -1,0 +1,8 @@
+use Rattle.reply_laws.proofs.Statuses as laws
+use Rattle.reply_laws.proofs.solve.model_law.Goals as goal
+
+pub returns : goal.returns
+returns c =
+    let read = c.instance_law.ensures in
+    let added = c.passed_law.ensures.added in
+    record { no = laws.no_model_law read c.textbook_law.ensures.exists c.model_law.ensures.orders added; model = laws.model_law read added }

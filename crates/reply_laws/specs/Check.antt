@@ -1,0 +1,47 @@
+-- What a check believes.
+use Rattle.std.specs.Prelude.{◌≡◌, ◌↔◌, ℕ, List, [], ◌∷◌, codes}
+use Rattle.row_model.specs.declared.kind.Kind.{Kind}
+use Rattle.row_model.specs.declared.refusal.Read.TheVariants as read
+use Rattle.verdict_text.specs.Verdict.{VerdictValue}
+use Rattle.verdict_text.specs.Grammar.{IsVerdict}
+use Rattle.verdict_text.specs.Text.{verdict_text}
+use Rattle.instance_model.specs.Instance.{InstanceValue}
+use Rattle.verdict_check.specs.Accepted.{IsAccepted}
+use Rattle.verdict_check.specs.Truth.{IsTrueVerdict}
+use Rattle.commands.specs.Words.{Solve, Check}
+use Rattle.commands.specs.Instances.{instance_of}
+use Rattle.commands.specs.Judgements.{HasVerdict}
+use Rattle.reply_laws.specs.Replies.{Replies}
+
+-- a verdict that a check ends on with status 0 is one of the grammar, and true of the instance
+abbrev pub CheckLaw : Type 0
+CheckLaw =
+    (kind : Kind) (file verdict bytes given text : List ℕ) (i : InstanceValue) →
+    instance_of kind bytes ≡ read.Ok i →
+    Replies (Check kind file verdict) (bytes ∷ given ∷ []) 0 text →
+    (v : VerdictValue) × IsVerdict v × (given ≡ verdict_text v) × IsTrueVerdict i v
+
+-- a check ends with status 0 exactly where the bytes are the text of a verdict that passes each test, within the limit
+-- of bytes
+abbrev pub ValidStatusLaw : Type 0
+ValidStatusLaw =
+    (kind : Kind) (file verdict bytes given text : List ℕ) (status : ℕ) (i : InstanceValue) →
+    instance_of kind bytes ≡ read.Ok i →
+    Replies (Check kind file verdict) (bytes ∷ given ∷ []) status text →
+    (status ≡ 0) ↔ HasVerdict given (IsAccepted i)
+
+-- what `solve` wrote is the text of a verdict that passes each test, within the limit of bytes
+abbrev pub SolvedLaw : Type 0
+SolvedLaw =
+    (kind : Kind) (file bytes given : List ℕ) (status : ℕ) (i : InstanceValue) →
+    instance_of kind bytes ≡ read.Ok i →
+    Replies (Solve kind file) (bytes ∷ []) status given →
+    HasVerdict given (IsAccepted i)
+
+-- a check of what `solve` wrote on the same bytes finds it valid
+abbrev pub AgreedLaw : Type 0
+AgreedLaw =
+    (kind : Kind) (file other verdict bytes given text : List ℕ) (status found : ℕ) →
+    Replies (Solve kind file) (bytes ∷ []) status given →
+    Replies (Check kind other verdict) (bytes ∷ given ∷ []) found text →
+    (found ≡ 0) × (text ≡ codes "valid\n")

@@ -1,0 +1,10 @@
+pub mod Replies
+pub mod Solve
+pub mod Units
+pub mod UnitChecks
+pub mod Check
+pub mod Extend
+pub mod Core
+pub mod Meet
+pub mod Lists
+pub mod Promise

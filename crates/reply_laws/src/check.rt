@@ -1,0 +1,28 @@
+// What a check believes.
+ghost use Rattle.reply_laws.specs.Check.{CheckLaw, ValidStatusLaw, SolvedLaw, AgreedLaw};
+
+use commands::{instance_law, passed_law};
+use verdict_check::true_law;
+use verdict_text::one_verdict;
+
+/// A check believes nothing untrue: where it ends with status 0, the bytes are the text of a verdict that is true of
+/// the instance. It ends so exactly where they are the text of a verdict that passes each test.
+pub fn check_law()
+    ensures believed { CheckLaw }
+    ensures status { ValidStatusLaw }
+{
+    instance_law();
+    one_verdict();
+    true_law();
+}
+
+/// A check believes the program: what `solve` wrote on the bytes of a file is the text of a verdict that passes each
+/// test, and a check on the same bytes finds it valid.
+pub fn solved_law()
+    ensures passes { SolvedLaw }
+    ensures agreed { AgreedLaw }
+{
+    instance_law();
+    passed_law();
+    one_verdict();
+}

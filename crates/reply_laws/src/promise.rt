@@ -1,0 +1,32 @@
+// What a reply promises.
+ghost use Rattle.reply_laws.specs.Promise.{PromiseLaw};
+
+use crate::check::{check_law, solved_law};
+use crate::core_rows::{core_judgement_law, core_law};
+use crate::extend::extend_law;
+use crate::list::list_law;
+use crate::solve::reply_law;
+use crate::unit::unit_reply_law;
+use crate::unit_check::unit_check_law;
+
+/// What a reply promises, whatever the command. A `solve` answers yes exactly where a textbook order exists, with trees
+/// whose frontiers are exactly those orders, of a circular instance up to rotation; and otherwise no, with a simple odd
+/// cycle of the incompatibility graph of the derived rows. A `check` accepts whatever `solve` wrote, and nothing
+/// untrue. An `extend` shows what became of each further row, a `core` names rows that are a core of a matrix without a
+/// valid order, and a `list` the first valid orders; where there is nothing to extend, to blame or to list the reply is
+/// a no or a yes of `solve`. A `check-core` accepts whatever `core` wrote, and nothing that names no core. A `unit`
+/// gives a unit model exactly where one exists, and a `check-unit` accepts it, and nothing else than a unit model. A
+/// `meet` tells what two trees share, and a `gen` what was drawn.
+pub fn promise_law()
+    ensures { PromiseLaw }
+{
+    reply_law();
+    check_law();
+    solved_law();
+    extend_law();
+    core_law();
+    core_judgement_law();
+    list_law();
+    unit_reply_law();
+    unit_check_law();
+}

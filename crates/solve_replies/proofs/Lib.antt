@@ -1,0 +1,6 @@
+pub mod Units
+pub mod Sessions
+pub mod Lists
+pub mod Cores
+pub mod Counted
+pub mod Drawn

@@ -1,0 +1,11 @@
+use Rattle.std.proofs.Common.{take}
+use Rattle.solve_replies.proofs.Sessions.{IsOnTheWay}
+use Rattle.solve_replies.specs.Taking.{HasTaken}
+use Rattle.solve_replies.proofs.session.print_outcomes.Given as goal
+
+abbrev pub invariant-loop-taken : goal.invariant-loop-taken
+invariant-loop-taken g l =
+    record {
+      way : IsOnTheWay l.initial.session.matrix l.session.matrix l.refusals l.taken;
+      told : HasTaken l.initial.session.matrix (take l.taken l.further.rows) l.session.matrix l.refusals l.initial.text.items l.text.items;
+    }

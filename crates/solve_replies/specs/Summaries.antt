@@ -1,0 +1,50 @@
+-- What is told of a generated matrix.
+use Rattle.std.specs.Prelude.{◌≡◌, ◌↔◌, ℕ, ◌+◌, List, ◌++◌, length, sum_by, codes}
+use Rattle.std.specs.Fmt.{decimal}
+use Rattle.column_order.specs.Orders.{IsValidOrder}
+use Rattle.row_model.specs.Rows.{RowList}
+use Rattle.pq_tree.specs.Outline.{Outline, Forest, leaf, p_node, q_node, no_tree, tree_and, IsFrontier}
+use Rattle.pq_tree.specs.Proper.{IsProper}
+use Rattle.pq_tree.specs.Canonical.{IsCanonical}
+use Rattle.solve_replies.specs.Generated.{generated}
+
+-- the sum over the nodes of a tree that are no leaves, where a P-node counts p and a Q-node counts q
+abbrev mutual
+  pub weight : ℕ → ℕ → Outline → ℕ
+  weight p q (leaf a) = 0
+  weight p q (p_node ts) = p + weight_of p q ts
+  weight p q (q_node ts) = q + weight_of p q ts
+
+  pub weight_of : ℕ → ℕ → Forest → ℕ
+  weight_of p q no_tree = 0
+  weight_of p q (tree_and t ts) = weight p q t + weight_of p q ts
+
+-- the number of P-nodes
+abbrev pub p_nodes : Outline → ℕ
+p_nodes t = weight 1 0 t
+
+-- the number of Q-nodes
+abbrev pub q_nodes : Outline → ℕ
+q_nodes t = weight 0 1 t
+
+-- the canonical tree of all valid orders of a matrix
+pub record IsTreeOf (m : RowList) (t : Outline) : Type 0 where
+  pub proper : IsProper m.columns t
+  pub canonical : IsCanonical t
+  pub orders : (o : List ℕ) → IsFrontier t o ↔ IsValidOrder m.columns m.rows o
+
+-- the lines of a summary, by its numbers
+abbrev pub summary_lines : ℕ → ℕ → ℕ → ℕ → ℕ → List ℕ
+summary_lines columns rows ones p q =
+    codes "pq-gen 1\ncolumns " ++ (decimal columns ++ (codes "\nrows " ++ (decimal rows ++ (codes "\nones " ++ (decimal ones ++ (codes "\nanswer yes\np " ++
+    (decimal p ++ (codes "\nq " ++ (decimal q ++ codes "\nend\n")))))))))
+
+-- the summary of a matrix and its tree
+abbrev pub summary_text : RowList → Outline → List ℕ
+summary_text m t = summary_lines m.columns (length m.rows) (sum_by length m.rows) (p_nodes t) (q_nodes t)
+
+-- the text is the summary of the matrix that a number draws
+pub record IsSummary (seed c rows : ℕ) (text : List ℕ) : Type 0 where
+  pub tree : Outline
+  pub shows : IsTreeOf (generated seed c rows) tree
+  pub text_is : text ≡ summary_text (generated seed c rows) tree

@@ -1,0 +1,124 @@
+// A session: what becomes of further rows, told row by row.
+ghost use Rattle.std.specs.Prelude.{◌≡◌, ◌+◌, ◌<◌, ◌≤◌, ℕ, [], ◌∷◌, ◌++◌, length, IfOk, OnOk, codes};
+ghost use Rattle.row_model.specs.Rows.{IsRow};
+ghost use Rattle.verdict_text.specs.Text.{kind_line, columns_line};
+ghost use Rattle.solve_replies.specs.Sessions.{outcome_text, IsSessionText};
+ghost use Rattle.solve_replies.specs.Taking.{outcome_of, HasTakenOne, HasTaken, HasEnded};
+
+use crate::{MAX_EXPLAINED, NoMemory};
+use c1p_solve::{Session, Taken};
+use commands::Reply;
+use plain_text::push_number;
+use row_model::{Kind, Matrix, ROW_BOUND};
+use std::alloc::Global;
+use step_count::{Ledger, Steps};
+use verdict_text::{Columns, print_cycle, print_side, print_subject};
+
+/// The reply of a session that takes further rows.
+pub fn session_reply<L: Ledger>(
+    alloc: Global,
+    kind: Kind,
+    mut session: Session,
+    further: &Matrix,
+    steps: &mut Steps<L>,
+) -> Result<Reply, NoMemory>
+    requires columns { further.now.columns ≡ session.matrix.columns }
+    requires room { length session.matrix.rows + length further.now.rows ≤ ROW_BOUND }
+    ensures reply { IfOk result (λ reply.
+        IsSessionText kind session.matrix further.now.rows reply.text.items) }
+    ensures status { IfOk result (λ reply. reply.status ≡ 0) }
+{
+    let mut text = Vec::with_capacity(alloc, room(further))?;
+    print_start(kind, further.columns(), &mut text)?;
+    print_outcomes(&mut session, further, &mut text, steps)?;
+    print_end(alloc, &session, &mut text)?;
+    Ok(Reply { status: 0, text })
+}
+
+// How many bytes the text has at most where no row is refused, as in a verdict, with up to 10 more for each of at most
+// 999,999 rows.
+fn room(further: &Matrix) -> usize {
+    96 + 12 * further.columns() as usize + 10 * further.rows() as usize
+}
+
+// The first three lines.
+fn print_start(kind: Kind, columns: u32, text: &mut Vec<u8>) -> Result<(), NoMemory>
+    ensures { OnOk result (text.new.items ≡ text.old.items ++
+        (codes "pq-extend 1\n" ++ (kind_line kind ++ columns_line (columns ∷ [])))) }
+{
+    text.extend_from_slice(b"pq-extend 1\n")?;
+    print_subject(kind, Columns::One(columns), text)?;
+    Ok(())
+}
+
+// Takes further rows in turn, and tells what became of each.
+fn print_outcomes<L: Ledger>(
+    session: &mut Session,
+    further: &Matrix,
+    text: &mut Vec<u8>,
+    steps: &mut Steps<L>,
+) -> Result<(), NoMemory>
+    requires columns { further.now.columns ≡ session.old.matrix.columns }
+    requires room { length session.old.matrix.rows + length further.now.rows ≤ ROW_BOUND }
+    ensures { OnOk result ((count : ℕ)
+        × HasTaken session.old.matrix further.now.rows session.new.matrix count text.old.items
+        text.new.items) }
+{
+    let mut refusals = 0;
+    for taken in 0..further.rows() {
+        let row = further.row(taken + 1);
+        refusals = take_one(session, taken + 1, row, refusals, text, steps)?;
+    }
+    Ok(())
+}
+
+// Takes a further row, the `i`-th, and tells what became of it. The answer is how many rows have been refused then.
+fn take_one<L: Ledger>(
+    session: &mut Session,
+    i: u32,
+    row: &[u32],
+    refusals: u32,
+    text: &mut Vec<u8>,
+    steps: &mut Steps<L>,
+) -> Result<u32, NoMemory>
+    requires row { IsRow session.old.matrix.columns row.now }
+    requires room { length session.old.matrix.rows < ROW_BOUND }
+    requires few { refusals < i }
+    ensures { IfOk result (λ count.
+        HasTakenOne session.old.matrix refusals i row.now session.new.matrix count text.old.items
+        text.new.items) }
+{
+    let taken = session.take_row(row, refusals < MAX_EXPLAINED, steps)?;
+    print_outcome(i, &taken, text)?;
+    match taken {
+        Taken::Ok => Ok(refusals),
+        Taken::No(_) => Ok(refusals + 1),
+    }
+}
+
+// What became of the `i`-th further row.
+fn print_outcome(i: u32, taken: &Taken, text: &mut Vec<u8>) -> Result<(), NoMemory>
+    ensures { OnOk result (text.new.items ≡ text.old.items ++ outcome_text i
+        (outcome_of taken.now)) }
+{
+    push_number(text, u64::from(i))?;
+    match taken {
+        Taken::Ok => text.extend_from_slice(b" ok\n"),
+        Taken::No(None) => text.extend_from_slice(b" no\n"),
+        Taken::No(Some(cycle)) => {
+            text.extend_from_slice(b" no\n")?;
+            print_cycle(cycle.lines(), text)
+        }
+    }
+}
+
+// The tree of the session's rows, an order, and the last line.
+fn print_end(alloc: Global, session: &Session, text: &mut Vec<u8>) -> Result<(), NoMemory>
+    ensures { OnOk result (HasEnded session.now.matrix text.old.items text.new.items) }
+{
+    let tree = session.tree()?;
+    let order = tree.frontier(alloc)?;
+    print_side(&tree, &order, text)?;
+    text.extend_from_slice(b"end\n")?;
+    Ok(())
+}
