@@ -1,5 +1,6 @@
-//! The commands of the program `pq`, as far as nothing is solved: what the words of a command line ask for, how the
-//! bytes of a file are read as an instance or as a tree, and the replies of the commands that judge and of `meet`.
+//! The commands of the program `pq`, as far as they need no solver of their own: what the words of a command
+//! line ask for, how the bytes of a file are read as an instance or as a tree, and the replies of the
+//! commands that judge and of `meet`.
 //!
 //! Each kind has a form of files, and a reader of its own. [`instance_in`] reads each kind by its reader, and what is
 //! read is within the limits of files ([`instance_law`]).

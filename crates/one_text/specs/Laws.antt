@@ -47,7 +47,7 @@ SameTextLaw =
     HaveSameOrders m n →
     TellTheSame text here other there
 
--- The order that a core tells of a row which is left out depends on the rows of the core alone.
+-- Of one matrix, for one core and one of its rows there is one order that the core may tell of the others.
 abbrev pub OneOrderLaw : Type 0
 OneOrderLaw = (m : RowList) (core : List ℕ) (k : ℕ) (o p : List ℕ) → IsOrderWithout m core k o → IsOrderWithout m core k p → o ≡ p
 

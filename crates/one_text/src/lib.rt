@@ -1,8 +1,8 @@
 //! The tree and the order that a reply tells depend on the set of orders alone.
 //!
 //! What `solve`, `extend` and `meet` print as `tree` and `order` is the same for the same orders, whatever rows or
-//! trees gave them, in whatever order they came, and by whichever of the commands. So is the order that `core` prints
-//! for each row of a core. The functions here have no body: their contracts are the laws.
+//! trees gave them, in whatever order they came, and by whichever of the commands. So is, of one matrix, the order that
+//! `core` prints for each row of a core. The functions here have no body: their contracts are the laws.
 #![tactic(auto)]
 
 ghost use Rattle.one_text.specs.Laws.{CanonicalTextLaw, LinesLaw, SameTextLaw, TextbookTextLaw, OneOrderLaw};
@@ -23,7 +23,7 @@ pub fn one_text_law()
     verdict_text::one_verdict();
 }
 
-/// The order that a core tells of a row which is left out depends on the rows of the core alone.
+/// Of one matrix, for one core and one of its rows there is one order that the core may tell of the others.
 pub fn one_order_law()
     ensures { OneOrderLaw }
 {

@@ -14,9 +14,9 @@ use crate::unit_check::unit_check_law;
 /// cycle of the incompatibility graph of the derived rows. A `check` accepts whatever `solve` wrote, and nothing
 /// untrue. An `extend` shows what became of each further row, a `core` names rows that are a core of a matrix without a
 /// valid order, and a `list` the first valid orders; where there is nothing to extend, to blame or to list the reply is
-/// a no or a yes of `solve`. A `check-core` accepts whatever `core` wrote, and nothing that names no core. A `unit`
-/// gives a unit model exactly where one exists, and a `check-unit` accepts it, and nothing else than a unit model. A
-/// `meet` tells what two trees share, and a `gen` what was drawn.
+/// a no or a yes of `solve`. A `check-core` accepts whatever `core` wrote with status 0, and nothing that names no
+/// core. A `unit` gives a unit model exactly where one exists, and a `check-unit` accepts it, and nothing else than a
+/// unit model. A `meet` tells what two trees share, and a `gen` what was drawn.
 pub fn promise_law()
     ensures { PromiseLaw }
 {

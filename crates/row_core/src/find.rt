@@ -26,7 +26,7 @@ pub enum Cored {
 /// The tree of all valid orders of a matrix, or a core where it has none.
 ///
 /// The order that is told of a row of the core has the leaves, from left to right, of the canonical tree of all valid
-/// orders of the others, so it depends on the rows of the core alone. Which of several cores is found is free.
+/// orders of the others, so there is one such order. Which of several cores is found is free.
 ///
 /// # Errors
 ///

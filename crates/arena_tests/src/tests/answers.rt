@@ -20,7 +20,7 @@ pub struct Asked {
     pub is_run: bool,
 }
 
-// The label that is wanted at each place: none but at and below the smallest node that holds the row.
+/// The label that is wanted at each place: none but at and below the smallest node that holds the row.
 pub fn wanted_labels(
     rt: &impl Abort,
     alloc: Global,
@@ -64,19 +64,19 @@ fn assert_room(rt: &impl Abort, work: &Work, columns: u32, n: NodeId)
     assert!(rt; n.index() < 2 * columns + 4);
 }
 
-// The label that the pass left.
+/// The label that the pass left.
 pub fn label_of(rt: &impl Abort, work: &Work, columns: u32, n: NodeId) -> Label {
     assert_room(rt, work, columns, n);
     work.label(n)
 }
 
-// The numbers of full and of partial children that the pass left.
+/// The numbers of full and of partial children that the pass left.
 pub fn counts_of(rt: &impl Abort, work: &Work, columns: u32, n: NodeId) -> Counts {
     assert_room(rt, work, columns, n);
     work.counts(n)
 }
 
-// Each node has the label that is wanted, and each labelled one the counts of its children.
+/// Each node has the label that is wanted, and each labelled one the counts of its children.
 pub fn assert_labels(
     rt: &impl Abort,
     tree: &Vec<Seen>,
@@ -120,7 +120,7 @@ fn count_of(
     count
 }
 
-// The labelled nodes are listed once each, after their children.
+/// The labelled nodes are listed once each, after their children.
 pub fn assert_order(rt: &impl Abort, tree: &Vec<Seen>, labels: &Vec<Label>, work: &Work) {
     let nodes = work.nodes();
     let mut count = 0;
@@ -148,7 +148,7 @@ fn turn_of(rt: &impl Abort, nodes: &[NodeId], node: NodeId) -> usize {
     0
 }
 
-// Each chain has each labelled child of its node once, and no other node.
+/// Each chain has each labelled child of its node once, and no other node.
 pub fn assert_chains(
     rt: &impl Abort,
     alloc: Global,

@@ -10,8 +10,8 @@ use std::alloc::Global;
 use std::process::Abort;
 use step_count::{Ledger, Steps};
 
-// The pass over a row of so many columns under one P-node. Only the root and the leaves of the row meet it, so the
-// bound on the steps tells nothing of the other columns.
+/// The pass over a row of so many columns under one P-node. Only the root and the leaves of the row meet it, so the
+/// bound on the steps tells nothing of the other columns.
 pub fn ask_star<L: Ledger>(
     rt: &impl Abort,
     alloc: Global,

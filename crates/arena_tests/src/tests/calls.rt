@@ -8,7 +8,7 @@ use pq_arena::{Arena, NodeId, NodeView, Shape};
 use std::process::Abort;
 use step_count::{Ledger, Steps};
 
-// What there is to see at a node in use.
+/// What there is to see at a node in use.
 pub fn view_of<L: Ledger>(
     rt: &impl Abort,
     arena: &Arena,
@@ -21,20 +21,21 @@ pub fn view_of<L: Ledger>(
     arena.look(n, steps)
 }
 
-// The shape of a node in use.
+/// The shape of a node in use.
 pub fn shape_of<L: Ledger>(rt: &impl Abort, arena: &Arena, n: NodeId, steps: &mut Steps<L>) -> Shape
     ensures { shape_at arena.now n.index ≡ Some result }
 {
     view_of(rt, arena, n, steps).shape
 }
 
+/// The leaf of a column of the arena.
 pub fn leaf(rt: &impl Abort, arena: &Arena, column: u32) -> NodeId {
     assert!(rt; 1 <= column);
     assert!(rt; column <= arena.columns());
     arena.leaf(column)
 }
 
-// Takes a Q-node where `line` holds, else a P-node.
+/// Takes a Q-node where `line` holds, else a P-node.
 pub fn take<L: Ledger>(
     rt: &impl Abort,
     arena: &mut Arena,
@@ -49,12 +50,13 @@ pub fn take<L: Ledger>(
     }
 }
 
+/// Takes a child of a P-node from its parent.
 pub fn detach<L: Ledger>(rt: &impl Abort, arena: &mut Arena, n: NodeId, steps: &mut Steps<L>) {
     assert!(rt; arena.is_child_of_p(n, steps));
     arena.detach(n, steps);
 }
 
-// Whether the node has no child.
+/// Whether the node has no child.
 pub fn is_childless<L: Ledger>(
     rt: &impl Abort,
     arena: &Arena,
@@ -91,7 +93,7 @@ fn is_apart<L: Ledger>(
     is_childless(rt, arena, n, steps)
 }
 
-// Puts a node that stands alone in front of the children of a P-node, or at this end of those of a Q-node.
+/// Puts a node that stands alone in front of the children of a P-node, or at this end of those of a Q-node.
 pub fn put_under<L: Ledger>(
     rt: &impl Abort,
     arena: &mut Arena,
@@ -110,7 +112,7 @@ pub fn put_under<L: Ledger>(
     }
 }
 
-// Puts `new`, which stands alone, in the place of `old`.
+/// Puts `new`, which stands alone, in the place of `old`.
 pub fn replace<L: Ledger>(
     rt: &impl Abort,
     arena: &mut Arena,
@@ -124,7 +126,7 @@ pub fn replace<L: Ledger>(
     arena.replace(old, new, steps);
 }
 
-// Gives back a P-node or a Q-node that stands alone without children.
+/// Gives back a P-node or a Q-node that stands alone without children.
 pub fn give_back<L: Ledger>(rt: &impl Abort, arena: &mut Arena, n: NodeId, steps: &mut Steps<L>) {
     assert!(rt; arena.stands_alone(n, steps));
     assert!(rt; is_childless(rt, arena, n, steps));
@@ -134,7 +136,7 @@ pub fn give_back<L: Ledger>(rt: &impl Abort, arena: &mut Arena, n: NodeId, steps
     }
 }
 
-// Whether these name one node, or none both.
+/// Whether these name one node, or none both.
 pub fn is_same(a: Option<NodeId>, b: Option<NodeId>) -> bool
     ensures { IsTrue result ↔ (a ≡ b) }
 {
@@ -181,7 +183,7 @@ fn can_splice<L: Ledger>(
     is_spliceable(&view, near)
 }
 
-// Puts the children of `child` in its place, its end `first` towards `near`.
+/// Puts the children of `child` in its place, its end `first` towards `near`.
 pub fn splice<L: Ledger>(
     rt: &impl Abort,
     arena: &mut Arena,

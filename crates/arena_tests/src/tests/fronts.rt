@@ -6,8 +6,8 @@ use row_model::NoMemory;
 use std::alloc::Global;
 use std::process::Abort;
 
-// The orders of so many columns, at most six, in which the leaves at or below each node stand together, and the
-// children of each Q-node in their order or in the reverse.
+/// The orders of so many columns, at most six, in which the leaves at or below each node stand together, and the
+/// children of each Q-node in their order or in the reverse.
 pub fn frontiers(
     rt: &impl Abort,
     alloc: Global,
@@ -169,7 +169,7 @@ fn is_in_line(rt: &impl Abort, reach: &Reach, seen: Seen) -> bool {
     rises || falls
 }
 
-// Whether the columns of a row stand together.
+/// Whether the columns of a row stand together.
 pub fn keeps(rt: &impl Abort, positions: &Vec<u32>, row: &[u32]) -> bool {
     let mut low = u32::MAX;
     let mut high = 0;
@@ -182,7 +182,7 @@ pub fn keeps(rt: &impl Abort, positions: &Vec<u32>, row: &[u32]) -> bool {
     low <= high && (high - low) as usize == row.len().wrapping_sub(1)
 }
 
-// Whether some of these frontiers keeps the row.
+/// Whether some of these frontiers keeps the row.
 pub fn is_kept(rt: &impl Abort, fronts: &Vec<Vec<u32>>, row: &[u32]) -> bool {
     for positions in fronts {
         if keeps(rt, positions, row) {

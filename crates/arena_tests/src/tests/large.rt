@@ -65,7 +65,7 @@ fn assert_split<L: Ledger>(
     Ok(())
 }
 
-// All columns under one P-node.
+/// All columns under one P-node.
 pub fn star<L: Ledger>(rt: &impl Abort, alloc: Global, blank: Blank) -> Result<(), NoMemory>
     requires name { blank.name ≡ L.name }
     requires parts { blank.parts ≡ L.parts }
@@ -112,7 +112,7 @@ pub fn star<L: Ledger>(rt: &impl Abort, alloc: Global, blank: Blank) -> Result<(
     Ok(())
 }
 
-// All columns under one Q-node.
+/// All columns under one Q-node.
 pub fn chain<L: Ledger>(rt: &impl Abort, alloc: Global, blank: Blank) -> Result<(), NoMemory>
     requires name { blank.name ≡ L.name }
     requires parts { blank.parts ≡ L.parts }
@@ -191,8 +191,8 @@ fn put_in_place_of_root<L: Ledger>(
     give_back(rt, arena, root, steps);
 }
 
-// P-nodes within one another: column k stands beside the node of the columns behind it. The nodes are listed from the
-// innermost, of the last two columns, to that of all columns.
+/// P-nodes within one another: column k stands beside the node of the columns behind it. The nodes are listed from the
+/// innermost, of the last two columns, to that of all columns.
 pub fn nest<L: Ledger>(rt: &impl Abort, alloc: Global, blank: Blank) -> Result<(), NoMemory>
     requires name { blank.name ≡ L.name }
     requires parts { blank.parts ≡ L.parts }
@@ -282,8 +282,8 @@ fn node_at(rt: &impl Abort, nodes: &Vec<NodeId>, i: usize) -> NodeId {
     nodes[i]
 }
 
-// Q-nodes within one another: each but the innermost has the next between two columns, one below 1025 and one above it.
-// The nodes are listed from the innermost, of the columns 1024 and 1025, to that of all columns.
+/// Q-nodes within one another: each but the innermost has the next between two columns, one below 1025 and one above
+/// it. The nodes are listed from the innermost, of the columns 1024 and 1025, to that of all columns.
 pub fn lines<L: Ledger>(rt: &impl Abort, alloc: Global, blank: Blank) -> Result<(), NoMemory>
     requires name { blank.name ≡ L.name }
     requires parts { blank.parts ≡ L.parts }

@@ -9,7 +9,7 @@ use std::alloc::Global;
 use std::process::Abort;
 use step_count::{Ledger, Steps};
 
-// Whether the columns ascend from 1 on, up to the last.
+/// Whether the columns ascend from 1 on, up to the last.
 pub fn is_row(columns: u32, row: &[u32]) -> bool
     ensures { IsTrue result → IsRow columns row.now }
 {
@@ -41,7 +41,7 @@ fn pass<L: Ledger>(
     bubble(arena, m, 1, work, steps)
 }
 
-// The pass over a row.
+/// The pass over a row.
 pub fn ask<L: Ledger>(
     rt: &impl Abort,
     alloc: Global,
@@ -59,7 +59,7 @@ pub fn ask<L: Ledger>(
     Ok(pass(rt, arena, &m, work, steps))
 }
 
-// Room for passes over the arena.
+/// Room for passes over the arena.
 pub fn room_for(rt: &impl Abort, alloc: Global, arena: &Arena) -> Result<Work, NoMemory> {
     let columns = arena.columns();
     assert!(rt; 1 <= columns);
@@ -67,6 +67,7 @@ pub fn room_for(rt: &impl Abort, alloc: Global, arena: &Arena) -> Result<Work, N
     Work::new(alloc, columns)
 }
 
+/// The pass found this node as the pertinent root.
 pub fn assert_root(rt: &impl Abort, found: Found, root: NodeId) {
     match found {
         Found::Root(r) => assert_eq!(rt; r.index(), root.index()),

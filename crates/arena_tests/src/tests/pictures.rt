@@ -19,12 +19,13 @@ pub struct Seen {
     pub end: usize,
 }
 
+/// The node at this place, which is one of the tree's.
 pub fn seen_at(rt: &impl Abort, tree: &Vec<Seen>, place: usize) -> Seen {
     assert!(rt; place < tree.len());
     tree[place]
 }
 
-// The children of the node at this place.
+/// The children of the node at this place.
 pub fn children_of<'a>(rt: &impl Abort, tree: &'a Vec<Seen>, place: usize) -> &'a [Seen] {
     let seen = seen_at(rt, tree, place);
     assert!(rt; seen.first <= seen.end);
@@ -32,7 +33,7 @@ pub fn children_of<'a>(rt: &impl Abort, tree: &'a Vec<Seen>, place: usize) -> &'
     &tree[seen.first..seen.end]
 }
 
-// The place of a node.
+/// The place of a node.
 pub fn place_of(rt: &impl Abort, tree: &Vec<Seen>, node: NodeId) -> usize {
     for place in 0..tree.len() {
         if tree[place].node.index() == node.index() {
@@ -43,7 +44,7 @@ pub fn place_of(rt: &impl Abort, tree: &Vec<Seen>, node: NodeId) -> usize {
     0
 }
 
-// The tree at the root.
+/// The tree at the root.
 pub fn read<L: Ledger>(
     rt: &impl Abort,
     alloc: Global,

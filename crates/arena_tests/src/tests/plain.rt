@@ -13,12 +13,13 @@ pub struct Tally {
     pub all: Vec<u32>,
 }
 
-// The number at this place.
+/// The number at this place.
 pub fn at(rt: &impl Abort, numbers: &Vec<u32>, place: usize) -> u32 {
     assert!(rt; place < numbers.len());
     numbers[place]
 }
 
+/// Adds to the number at this place; both are at most a million.
 pub fn add_at(rt: &impl Abort, numbers: &mut Vec<u32>, place: usize, more: u32) {
     assert!(rt; place < numbers.len());
     assert!(rt; numbers[place] <= 1_000_000);
@@ -26,7 +27,7 @@ pub fn add_at(rt: &impl Abort, numbers: &mut Vec<u32>, place: usize, more: u32) 
     numbers[place] += more;
 }
 
-// Counts the leaves, from the last place to the first.
+/// Counts the leaves, from the last place to the first.
 pub fn tally_of(
     rt: &impl Abort,
     alloc: Global,
@@ -53,7 +54,7 @@ pub fn tally_of(
     Ok(Tally { met, all })
 }
 
-// How much of the node at this place is in the row.
+/// How much of the node at this place is in the row.
 pub fn label_at(rt: &impl Abort, tally: &Tally, place: usize) -> Label {
     let met = at(rt, &tally.met, place);
     if met == 0 {
@@ -65,8 +66,8 @@ pub fn label_at(rt: &impl Abort, tally: &Tally, place: usize) -> Label {
     }
 }
 
-// The place of the smallest node that holds a row of this many columns: the last one that does, since those that do
-// stand one above another.
+/// The place of the smallest node that holds a row of this many columns: the last one that does, since those that do
+/// stand one above another.
 pub fn smallest(rt: &impl Abort, tally: &Tally, size: u32) -> usize {
     let mut best = 0;
     for place in 0..tally.met.len() {
@@ -77,7 +78,7 @@ pub fn smallest(rt: &impl Abort, tally: &Tally, size: u32) -> usize {
     best
 }
 
-// Whether the node at this place is a Q-node of which inner children alone meet the row, in one run.
+/// Whether the node at this place is a Q-node of which inner children alone meet the row, in one run.
 pub fn is_run_inside(rt: &impl Abort, tree: &Vec<Seen>, tally: &Tally, place: usize) -> bool {
     let seen = seen_at(rt, tree, place);
     if !matches!(seen.shape, Shape::Q) {
@@ -101,7 +102,7 @@ pub fn is_run_inside(rt: &impl Abort, tree: &Vec<Seen>, tally: &Tally, place: us
         && sum(rt, first, count) == sum(rt, last, 1)
 }
 
-// The sum of two small numbers.
+/// The sum of two small numbers.
 pub fn sum(rt: &impl Abort, a: usize, b: usize) -> usize {
     assert!(rt; a <= 1_000_000);
     assert!(rt; b <= 1_000_000);

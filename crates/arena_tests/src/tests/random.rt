@@ -31,7 +31,7 @@ struct Scene {
     fronts: Vec<Vec<u32>>,
 }
 
-// Random trees, of which each is asked for all rows.
+/// Random trees, of which each is asked for all rows.
 pub fn random_trees<L: Ledger>(rt: &impl Abort, alloc: Global, blank: Blank) -> Result<(), NoMemory>
     requires name { blank.name ≡ L.name }
     requires parts { blank.parts ≡ L.parts }

@@ -127,7 +127,7 @@ const SPLICES: [Splice; 14] = [
     },
 ];
 
-// Each splice on a new tree.
+/// Each splice on a new tree.
 pub fn all_splices<L: Ledger>(rt: &impl Abort, alloc: Global, blank: Blank) -> Result<(), NoMemory>
     requires name { blank.name ≡ L.name }
     requires parts { blank.parts ≡ L.parts }
@@ -168,7 +168,7 @@ fn one_splice<L: Ledger>(
     assert_columns(rt, alloc, &arena, line, case.wanted, steps)
 }
 
-// Puts columns that stand under a P-node behind the children of a node, one after another.
+/// Puts columns that stand under a P-node behind the children of a node, one after another.
 pub fn put_columns<L: Ledger>(
     rt: &impl Abort,
     arena: &mut Arena,
@@ -203,7 +203,8 @@ fn assert_columns<L: Ledger>(
     Ok(())
 }
 
-// The nodes that are spare: one fewer after a node is taken, one more after it is given back, and the next to be taken.
+/// The nodes that are spare: one fewer after a node is taken, one more after it is given back,
+/// and the next to be taken.
 pub fn taken_and_given_back<L: Ledger>(
     rt: &impl Abort,
     alloc: Global,
@@ -253,7 +254,7 @@ fn named(rt: &impl Abort, arena: &Arena, column: u32) -> Option<NodeId> {
     }
 }
 
-// The neighbours in a ring of three while one of them leaves, stands alone and comes back, and in a run.
+/// The neighbours in a ring of three while one of them leaves, stands alone and comes back, and in a run.
 pub fn neighbours<L: Ledger>(rt: &impl Abort, alloc: Global, blank: Blank) -> Result<(), NoMemory>
     requires name { blank.name ≡ L.name }
     requires parts { blank.parts ≡ L.parts }

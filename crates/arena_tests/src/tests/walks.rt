@@ -36,7 +36,7 @@ impl Dice {
     }
 }
 
-// Makes one change, if the tree has a place for it.
+/// Makes one change, if the tree has a place for it.
 pub fn change<L: Ledger>(
     rt: &impl Abort,
     alloc: Global,
