@@ -5,7 +5,8 @@ ghost use Rattle.row_model.specs.Graph.{IsPair, Crosses, JoinedBy, row_at};
 use crate::matrix::Matrix;
 
 /// An ordered pair of columns. Where they are distinct it is a vertex of the incompatibility graph (McConnell, 2004).
-#[derive(Clone, Copy, Debug, PartialEq, Eq)]
+/// Pairs are ordered by their first columns, and by their second ones where these are the same.
+#[derive(Clone, Copy, Debug, PartialEq, Eq, PartialOrd, Ord)]
 pub struct Pair {
     /// The first column.
     pub a: u32,
