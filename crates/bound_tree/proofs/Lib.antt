@@ -10,3 +10,5 @@ pub mod Bound
 pub mod Exact
 pub mod Loops
 pub mod Push
+pub mod Passing
+pub mod Turned

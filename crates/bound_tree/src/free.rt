@@ -1,79 +1,78 @@
 // Whether the leaves next to a gap make alike pairs with each leaf outside the gap's stretch.
-ghost use Rattle.std.specs.Prelude.{◌↔◌, ℕ, ◌+◌, ◌-◌, ◌<◌, ◌≤◌, List, length, IsTrue, All};
+ghost use Rattle.std.specs.Prelude.{◌≡◌, ◌↔◌, ℕ, ◌+◌, ◌-◌, ◌<◌, ◌≤◌, List, length, IfOk, IsTrue, All};
+ghost use Rattle.std.specs.List.Sorted.{IsPermutation, IsNonDecreasingBy};
 ghost use Rattle.open_gaps.specs.Gaps.{AreGaps};
 ghost use Rattle.bound_tree.specs.declared.stretch.Stretch.{Stretch};
-ghost use Rattle.bound_tree.specs.Free.{IsRoundGap, IsFree, LeadsBehind, LeadsBefore};
+ghost use Rattle.bound_tree.specs.Free.{IsRoundGap, IsFree};
+ghost use Rattle.bound_tree.specs.Sides.{IsFreeFrom, IsPassed, GoesDown, SkipsOnly};
 
+use crate::side::{Side, is_open, turn};
+use crate::skips::{each_before, nearest};
 use crate::stretch::Stretch;
 use open_gaps::OpenGaps;
+use row_model::NoMemory;
+use std::alloc::Global;
 
-/// Whether the order is free outside each stretch.
-pub fn are_free(gaps: &OpenGaps, stretches: &[Stretch]) -> bool
-    requires { All (IsRoundGap (length gaps.now.order)) stretches.now }
-    ensures { (rows : List (List ℕ)) → AreGaps rows gaps.now.order gaps.now.gaps
-        → IsTrue result ↔ All (IsFree rows gaps.now.order) stretches.now }
+/// Whether the order is free outside each stretch. The stretches are sorted, and turned to the other side of the order.
+pub fn are_free(alloc: Global, gaps: &OpenGaps, stretches: &mut [Stretch]) -> Result<bool, NoMemory>
+    requires { All (IsRoundGap (length gaps.now.order)) stretches.old }
+    ensures { IfOk result (λ yes. (rows : List (List ℕ)) → AreGaps rows gaps.now.order gaps.now.gaps
+        → IsTrue yes ↔ All (IsFree rows gaps.now.order) stretches.old) }
 {
+    sort_by_gap(stretches);
+    if !are_free_from(alloc, gaps, Side::Left, stretches)? {
+        return Ok(false);
+    }
+    turn(stretches, gaps.columns());
+    sort_by_gap(stretches);
+    are_free_from(alloc, gaps, Side::Right, stretches)
+}
+
+// Puts the stretches in the order of their gaps.
+fn sort_by_gap(stretches: &mut [Stretch])
+    ensures moved { IsPermutation stretches.old stretches.new }
+    ensures rising { IsNonDecreasingBy (λ (s : Stretch). s.at) stretches.new }
+{
+    stretches.sort_unstable_by_key(|stretch| stretch.at);
+}
+
+// Whether the order is free on this side of each stretch.
+fn are_free_from(
+    alloc: Global,
+    gaps: &OpenGaps,
+    side: Side,
+    stretches: &[Stretch],
+) -> Result<bool, NoMemory>
+    requires round { All (IsRoundGap (length gaps.now.order)) stretches.now }
+    requires rising { IsNonDecreasingBy (λ (s : Stretch). s.at) stretches.now }
+    ensures { IfOk result (λ yes. (rows : List (List ℕ)) → AreGaps rows gaps.now.order gaps.now.gaps
+        → IsTrue yes ↔ All (IsFreeFrom side rows gaps.now.order) stretches.now) }
+{
+    let mut table = each_before(alloc, gaps.columns())?;
+    let before = table.as_mut_slice();
     for stretch in stretches {
-        if !is_free(gaps, *stretch) {
-            return false;
+        if !is_free_from(before, gaps, side, *stretch) {
+            return Ok(false);
         }
     }
-    true
+    Ok(true)
 }
 
-// Whether the order is free outside the stretch.
-fn is_free(gaps: &OpenGaps, stretch: Stretch) -> bool
-    requires { IsRoundGap (length gaps.now.order) stretch }
-    ensures { (rows : List (List ℕ)) → AreGaps rows gaps.now.order gaps.now.gaps
-        → IsTrue result ↔ IsFree rows gaps.now.order stretch }
+// Whether the order is free on this side of the stretch.
+fn is_free_from(before: &mut [u32], gaps: &OpenGaps, side: Side, stretch: Stretch) -> bool
+    requires table { (length before.old ≡ length gaps.now.order) × GoesDown before.old }
+    requires round { IsRoundGap (length gaps.now.order) stretch }
+    ensures table { (length before.new ≡ length gaps.now.order) × GoesDown before.new }
+    ensures free { (rows : List (List ℕ)) → AreGaps rows gaps.now.order gaps.now.gaps
+        → SkipsOnly (IsPassed side rows gaps.now.order stretch.at) before.old
+        → IsTrue result ↔ IsFreeFrom side rows gaps.now.order stretch }
+    ensures skips { (rows : List (List ℕ)) → AreGaps rows gaps.now.order gaps.now.gaps
+        → SkipsOnly (IsPassed side rows gaps.now.order stretch.at) before.old
+        → SkipsOnly (IsPassed side rows gaps.now.order stretch.at) before.new }
 {
-    is_free_behind(gaps, stretch) && is_free_before(gaps, stretch)
-}
-
-// Whether the order is free behind the stretch.
-fn is_free_behind(gaps: &OpenGaps, stretch: Stretch) -> bool
-    requires { IsRoundGap (length gaps.now.order) stretch }
-    ensures { (rows : List (List ℕ)) → AreGaps rows gaps.now.order gaps.now.gaps
-        → IsTrue result ↔ ((p : ℕ) → stretch.to ≤ p → p < length gaps.now.order → LeadsBehind rows gaps.now.order stretch.at p) }
-{
-    for p in stretch.to..gaps.columns() {
-        if !leads_behind(gaps, stretch.at, p) {
-            return false;
-        }
+    if stretch.from == 0 {
+        return true;
     }
-    true
-}
-
-// Whether the order is free before the stretch.
-fn is_free_before(gaps: &OpenGaps, stretch: Stretch) -> bool
-    requires { IsRoundGap (length gaps.now.order) stretch }
-    ensures { (rows : List (List ℕ)) → AreGaps rows gaps.now.order gaps.now.gaps
-        → IsTrue result ↔ ((p : ℕ) → p < stretch.from → LeadsBefore rows gaps.now.order stretch.at p) }
-{
-    for p in 0..stretch.from {
-        if !leads_before(gaps, stretch.at, p) {
-            return false;
-        }
-    }
-    true
-}
-
-// Whether the gap before the position `at` is open for the column at the position `p` behind it, or the next gap behind
-// `p` is open for the column at `at`.
-fn leads_behind(gaps: &OpenGaps, at: u32, p: u32) -> bool
-    requires { (1 ≤ at) × (at < p) × (p < length gaps.now.order) }
-    ensures { (rows : List (List ℕ)) → AreGaps rows gaps.now.order gaps.now.gaps
-        → IsTrue result ↔ LeadsBehind rows gaps.now.order at p }
-{
-    gaps.is_open(at - 1, p) || (p < gaps.columns() - 1 && gaps.is_open(p, at))
-}
-
-// Whether the gap before the position `at` is open for the column at the position `p` before it, or the next gap before
-// `p` is open for the column before the gap.
-fn leads_before(gaps: &OpenGaps, at: u32, p: u32) -> bool
-    requires { (p + 1 < at) × (at < length gaps.now.order) }
-    ensures { (rows : List (List ℕ)) → AreGaps rows gaps.now.order gaps.now.gaps
-        → IsTrue result ↔ LeadsBefore rows gaps.now.order at p }
-{
-    gaps.is_open(at - 1, p) || (p > 0 && gaps.is_open(p - 1, at - 1))
+    let p = nearest(before, gaps, side, stretch.at, stretch.from - 1);
+    is_open(gaps, side, stretch.at - 1, p)
 }

@@ -78,6 +78,39 @@ fn a_line_within_a_p_node(rt: HostRuntime) -> Result<(), Fail> {
 }
 
 #[test]
+fn stretches_within_stretches(rt: HostRuntime) -> Result<(), Fail> {
+    let alloc = rt.alloc();
+    let mut m = Matrix::new(alloc, 6)?;
+    m.push_row(&[1, 2])?;
+    m.push_row(&[1, 2, 3])?;
+    m.push_row(&[1, 2, 3, 4])?;
+    m.push_row(&[1, 2, 3, 4, 5])?;
+    assert_bound(&rt, alloc, &m, b"(((((1 2) 3) 4) 5) 6)", true)?;
+    assert_bound(&rt, alloc, &m, b"(6 (5 (4 (3 (2 1)))))", true)?;
+    assert_bound(&rt, alloc, &m, b"(6 (4 (3 (1 2)) 5))", true)?;
+    assert_bound(&rt, alloc, &m, b"((((1 2) (3 4)) 5) 6)", false)?;
+    assert_bound(&rt, alloc, &m, b"((((1 2) 3) (4 5)) 6)", false)?;
+    assert_bound(&rt, alloc, &m, b"[(((1 2) 3) 4) 5 6]", false)?;
+    Ok(())
+}
+
+#[test]
+fn many_positions_are_passed(rt: HostRuntime) -> Result<(), Fail> {
+    let alloc = rt.alloc();
+    let mut m = Matrix::new(alloc, 8)?;
+    m.push_row(&[1, 2, 3, 4, 5])?;
+    m.push_row(&[2, 3, 4, 5, 6])?;
+    m.push_row(&[3, 4, 5, 6, 7])?;
+    m.push_row(&[4, 5, 6, 7, 8])?;
+    assert_bound(&rt, alloc, &m, b"[1 2 3 (4 5) 6 7 8]", true)?;
+    assert_bound(&rt, alloc, &m, b"[8 7 6 (5 4) 3 2 1]", true)?;
+    assert_bound(&rt, alloc, &m, b"[1 2 3 4 5 6 7 8]", false)?;
+    assert_bound(&rt, alloc, &m, b"[1 2 (3 4 5) 6 7 8]", true)?;
+    assert_bound(&rt, alloc, &m, b"[1 2 3 [4 5 6] 7 8]", false)?;
+    Ok(())
+}
+
+#[test]
 fn a_stretch_for_each_gap(rt: HostRuntime) -> Result<(), Fail> {
     let alloc = rt.alloc();
     let tree = PqTree::parse(alloc, b"([1 2 3] 4)", 4)?.ok_or("no tree has this text")?;

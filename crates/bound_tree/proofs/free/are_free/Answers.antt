@@ -1,26 +1,58 @@
-use Rattle.std.proofs.Common.{ℕ, slice_index_or, refl, arith, subst, below_more}
+use Rattle.std.proofs.Common.{◌≡◌, List, length, map, slice_index_or, sym, subst}
 use Rattle.std.specs.Prelude.{All}
-use Rattle.std.proofs.lemmas.List.{get_or_default}
+use Rattle.std.proofs.lemmas.List.Elements.{All-map}
+use Rattle.std.proofs.lemmas.List.Sorted.{All-permutation}
+use Rattle.std.proofs.lemmas.Result.{IfOk-weaker}
+use Rattle.std.specs.List.Sorted.{IsPermutation}
+use Rattle.bound_tree.specs.declared.side.Side.TheVariants.{Left}
 use Rattle.bound_tree.specs.declared.stretch.Stretch.{Stretch}
-use Rattle.bound_tree.specs.Free.{IsFree}
-use Rattle.bound_tree.specs.Stretches.{stretch}
+use Rattle.bound_tree.specs.Free.{IsRoundGap, IsFree}
+use Rattle.bound_tree.specs.Sides.{IsFreeFrom, turned_stretch}
 use Rattle.bound_tree.proofs.Loops.{refuted}
+use Rattle.bound_tree.proofs.Turned.{free_left, free_right, free_both, round_turned}
 use Rattle.bound_tree.proofs.free.are_free.Goals as goal
 
-pub returns-then-not-is_free : goal.returns-then-not-is_free
-returns-then-not-is_free c =
-    λ rows are.
-    let here : Stretch = slice_index_or c.args.stretches.now c.loop-stretch.stretch-index (stretch 0 0 0) in
-    refuted c.is_free.result (IsFree rows c.args.gaps.now.order here) (All (IsFree rows c.args.gaps.now.order) c.args.stretches.now) c.if-not-is_free.true
-    (c.is_free.ensures rows are) (λ all. all c.loop-stretch.stretch-index (stretch 0 0 0) c.loop-stretch-test.true)
+pub are_free_from-requires-clause-round : goal.are_free_from-requires-clause-round
+are_free_from-requires-clause-round c =
+    All-permutation (IsRoundGap (length c.args.gaps.now.order)) c.args.stretches.now c.sort_by_gap.new.stretches c.sort_by_gap.ensures.moved c.requires
 
-pub loop-stretch-preserved : goal.loop-stretch-preserved
-loop-stretch-preserved c =
-    λ rows are k d l.
-    let i : ℕ = c.loop-stretch.stretch-index in
-    below_more (λ j. IsFree rows c.args.gaps.now.order (slice_index_or c.args.stretches.now j d)) i (λ j u. c.loop-stretch.invariant rows are j d u)
-    (subst (IsFree rows c.args.gaps.now.order) (get_or_default c.args.stretches.now i (stretch 0 0 0) d c.loop-stretch-test.true)
-    ((c.is_free.ensures rows are).0 c.if-not-is_free.false)) k l
+pub returns-then-not-branch : goal.returns-then-not-branch
+returns-then-not-branch c =
+    λ rows are.
+    let o = c.args.gaps.now.order in
+    let left = free_left rows o c.args.stretches.now c.sort_by_gap.new.stretches c.sort_by_gap.ensures.moved c.requires in
+    refuted c.in_ok-are_free_from.field-0 (All (IsFreeFrom Left rows o) c.sort_by_gap.new.stretches) (All (IsFree rows o) c.args.stretches.now) c.if-not-branch.true
+    (c.in_ok-are_free_from.ensures rows are) (λ all. left.1 (λ k d l. (all k d l).before))
+
+pub turn-requires : goal.turn-requires
+turn-requires c =
+    subst (λ n. All (IsRoundGap n) c.sort_by_gap.new.stretches) (sym c.columns.ensures.columns)
+    (All-permutation (IsRoundGap (length c.args.gaps.now.order)) c.args.stretches.now c.sort_by_gap.new.stretches c.sort_by_gap.ensures.moved c.requires)
+
+pub are_free_from-requires-2-clause-round : goal.are_free_from-requires-2-clause-round
+are_free_from-requires-2-clause-round c =
+    let n = length c.args.gaps.now.order in
+    let turned : c.turn.new.stretches ≡ map (turned_stretch n) c.sort_by_gap.new.stretches =
+    subst (λ m. c.turn.new.stretches ≡ map (turned_stretch m) c.sort_by_gap.new.stretches) c.columns.ensures.columns c.turn.ensures in
+    let round = All-permutation (IsRoundGap n) c.args.stretches.now c.sort_by_gap.new.stretches c.sort_by_gap.ensures.moved c.requires in
+    All-permutation (IsRoundGap n) c.turn.new.stretches c.sort_by_gap-2.new.stretches c.sort_by_gap-2.ensures.moved
+    (subst (All (IsRoundGap n)) (sym turned)
+    (All-map (IsRoundGap n) (turned_stretch n) c.sort_by_gap.new.stretches (λ k d l. round_turned n (slice_index_or c.sort_by_gap.new.stretches k d) (round k d l))))
 
 pub returns : goal.returns
-returns c = λ rows are. (λ t k d l. c.loop-stretch.invariant rows are k d (omega (arith, l, c.loop-stretch-test.false)), λ all. refl)
+returns c =
+    let o = c.args.gaps.now.order in
+    let n = length o in
+    let turned : c.turn.new.stretches ≡ map (turned_stretch n) c.sort_by_gap.new.stretches =
+    subst (λ m. c.turn.new.stretches ≡ map (turned_stretch m) c.sort_by_gap.new.stretches) c.columns.ensures.columns c.turn.ensures in
+    let moved : IsPermutation (map (turned_stretch n) c.sort_by_gap.new.stretches) c.sort_by_gap-2.new.stretches =
+    subst (λ (l : List Stretch). IsPermutation l c.sort_by_gap-2.new.stretches) turned c.sort_by_gap-2.ensures.moved in
+    IfOk-weaker c.are_free_from-2.result _ _
+    (λ yes exact rows are.
+    let left = free_left rows o c.args.stretches.now c.sort_by_gap.new.stretches c.sort_by_gap.ensures.moved c.requires in
+    let right = free_right rows o c.args.stretches.now c.sort_by_gap.new.stretches c.sort_by_gap-2.new.stretches c.sort_by_gap.ensures.moved c.requires moved in
+    let first = (c.in_ok-are_free_from.ensures rows are).0 c.if-not-branch.false in (
+      λ t. free_both rows o c.args.stretches.now (left.0 first) (right.0 ((exact rows are).0 t)),
+      λ all. (exact rows are).1 (right.1 (λ k d l. (all k d l).behind)),
+    ))
+    c.are_free_from-2.ensures

@@ -1,0 +1,18 @@
+use Rattle.std.proofs.Common.{arith}
+use Rattle.bound_tree.specs.Sides.{IsPassed}
+use Rattle.bound_tree.proofs.Passing.{passed_more}
+use Rattle.bound_tree.proofs.skips.nearest.Goals as goal
+
+pub loop-side-preserved : goal.loop-side-preserved
+loop-side-preserved c =
+    let was = c.loop-side.invariant in
+    record {
+      long = c.step-p.ensures.table.0;
+      down = c.step-p.ensures.table.1;
+      range = omega (arith, c.step-p.ensures.before, was.down c.loop-side.p (c.is_passed.ensures.some c.loop-side-test.true) (omega (arith, was.long, was.range, c.requires.range)), was.range);
+      passed = λ rows are skips.
+          passed_more (IsPassed c.args.side rows c.args.gaps.now.order c.args.at) c.loop-side.before c.args.from c.loop-side.p c.step-p.result
+          (omega (arith, was.long, was.range, c.requires.range)) c.step-p.ensures.before (was.skips rows are skips)
+          ((c.is_passed.ensures.passed rows are).0 c.loop-side-test.true) (was.passed rows are skips);
+      skips = λ rows are skips. c.step-p.ensures.skips rows are (was.skips rows are skips);
+    }
