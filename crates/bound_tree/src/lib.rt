@@ -3,7 +3,7 @@
 //! A tree whose frontiers keep the rows may have too few of them. It has all valid orders exactly where walks of
 //! even length lead between certain pairs in the incompatibility graph of the rows (McConnell, 2004). Along the
 //! tree's own leaves these walks go from neighbour to neighbour, so two looks at each pair of a gap and a column
-//! decide whether there are such walks. Most of them are left out, since what one gap passes each later gap passes.
+//! decide whether there are such walks. Most of these looks are left out: what one gap passes, each later gap passes.
 #![tactic(auto)]
 
 ghost use Rattle.std.specs.Prelude.{◌≡◌, ◌↔◌, ℕ, List, IfOk, IsTrue, All};
