@@ -20,4 +20,4 @@ pub mod CheckedLaws
 pub mod PartLaws
 pub mod OddCycles
 pub mod CycleLength
-pub mod KeyLaws
+pub mod RisingLaws

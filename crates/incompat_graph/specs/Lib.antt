@@ -9,4 +9,3 @@ pub mod Reasons
 pub mod Unions
 pub mod Classes
 pub mod Laws
-pub mod Keys

@@ -7,7 +7,7 @@ ghost use Rattle.row_model.specs.Graph.{JoinedBy};
 ghost use Rattle.row_model.specs.Cycles.{first_pair, IsOddWalk, IsOddCycle};
 
 use crate::cycle::Cycle;
-use crate::keys::{is_rising, sorted_keys};
+use crate::sorted::{is_rising, sorted_pairs};
 use row_model::{Line, Matrix, NoMemory, Pair, Why, joined_by};
 use std::alloc::Global;
 use step_count::{Ledger, Steps};
@@ -93,6 +93,6 @@ fn pair_behind(lines: &[Line], i: usize) -> Pair
 fn are_distinct(alloc: Global, lines: &[Line]) -> Result<bool, NoMemory>
     ensures { IfOk result (λ yes. IsTrue yes → AllPairs (λ earlier later. earlier.pair ≢ later.pair) lines.now) }
 {
-    let keys = sorted_keys(alloc, lines)?;
-    Ok(is_rising(&keys))
+    let pairs = sorted_pairs(alloc, lines)?;
+    Ok(is_rising(&pairs))
 }

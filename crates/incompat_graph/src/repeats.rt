@@ -1,7 +1,7 @@
 // Closed walks in which no pair comes twice.
 ghost use Rattle.std.specs.Prelude.{◌≤◌, length};
 
-use crate::keys::{key_of, sorted_keys};
+use crate::sorted::sorted_pairs;
 use row_model::{Line, NoMemory, Pair};
 use std::alloc::Global;
 
@@ -10,11 +10,11 @@ use std::alloc::Global;
 /// A pair that comes twice cuts the walk into two closed walks, one of which is odd. So the lines are followed until a
 /// pair comes again: the lines since then are the part where they are odd in number, and else they are left out.
 pub fn without_repeats(alloc: Global, lines: &[Line]) -> Result<Vec<Line>, NoMemory> {
-    let keys = sorted_keys(alloc, lines)?;
-    let mut places = vec![in alloc; 0; keys.len()]?;
+    let pairs = sorted_pairs(alloc, lines)?;
+    let mut places = vec![in alloc; 0; pairs.len()]?;
     let mut path: Vec<Line> = Vec::new(alloc);
     for line in lines {
-        if let Ok(number) = keys.binary_search(&key_of(line.pair))
+        if let Ok(number) = pairs.binary_search(&line.pair)
             && number < places.len()
         {
             let keep = place_on(&path, places[number], line.pair);
