@@ -34,3 +34,4 @@ pub mod Children
 pub mod Together
 pub mod CoreTests
 pub mod RowTests
+pub mod ChainLaws

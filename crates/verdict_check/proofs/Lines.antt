@@ -7,7 +7,8 @@ use Rattle.std.proofs.lemmas.List.{take_more}
 use Rattle.std.proofs.lemmas.Option.{slice_get-get_or}
 use Rattle.row_model.specs.declared.graph.Pair.{Pair}
 use Rattle.row_model.specs.declared.graph.Line.{Line}
-use Rattle.row_model.specs.Graph.{pair, IsPair}
+use Rattle.row_model.specs.Graph.{IsPair}
+use Rattle.row_model.proofs.Pairs.{same_pair, cases_pair}
 use Rattle.incompat_graph.specs.Marks.{Marking, is_marked, IsMarkedAt}
 use Rattle.verdict_check.specs.NoTests.{HasLine, PassesPair, PassesRepeat}
 use Rattle.verdict_check.specs.Found.{IsLeastFailing}
@@ -46,16 +47,6 @@ pub record AreMarked (c : ℕ) (seen : Marking) (lines : List Line) : Type 0 whe
   pub columns : seen.columns ≡ c
   pub unmarked : (v : Pair) → IsPair c v → IsNew v lines → is_marked seen v.a v.b ≡ false
   pub marked : (v : Pair) → IsPair c v → is_marked seen v.a v.b ≡ false → IsNew v lines
-
-pub same_pair : (v w : Pair) → v.a ≡ w.a → v.b ≡ w.b → v ≡ w
-same_pair v w e f = ap (λ x. pair x v.b) e ∙ ap (λ y. pair w.a y) f
-
-cases_pair : (v w : Pair) → (v ≡ w) ⊎ (v ≢ w)
-cases_pair v w =
-    elim (cases_eq v.a w.a) [
-      | inl e ↦ elim (cases_eq v.b w.b) [ inl f ↦ inl (same_pair v w e f) | inr n ↦ inr (λ g. n (ap (λ (x : Pair). x.b) g)) ]
-      | inr n ↦ inr (λ g. n (ap (λ (x : Pair). x.a) g))
-    ]
 
 new_push : (v : Pair) (lines : List Line) (line : Line) → IsNew v lines → line.pair ≢ v → IsNew v (lines ++ line ∷ [])
 new_push v [] line h n = (n, tt)
@@ -111,10 +102,6 @@ not_new v [] i j d l u e h = absurd (omega (arith, l, u))
 not_new v (x ∷ xs) zero j d l u e h = absurd (omega (arith, l))
 not_new v (x ∷ xs) (suc i) zero d l u e h = h.0 e
 not_new v (x ∷ xs) (suc i) (suc j) d l u e h = not_new v xs i j d (omega (arith, l)) (omega (arith, u)) e h.1
-
--- one more line has another pair
-pub new_next : (v : Pair) (lines : List Line) (j : ℕ) (d : Line) → j < length lines → IsNew v (take j lines) → (get_or lines j d).pair ≢ v → IsNew v (take (j + 1) lines)
-new_next v lines j d l h n = subst (IsNew v) (sym (take_more lines j d l)) (new_push v (take j lines) (get_or lines j d) h n)
 
 -- a pair that is marked stands on an earlier line, and one that is not is new
 pub repeat_fails : (c : ℕ) (seen : Marking) (lines : List Line) (i : ℕ) (d : Line) → i < length lines → AreMarked c seen (take i lines) → IsPair c (get_or lines i d).pair →

@@ -10,3 +10,4 @@ pub mod Found
 pub mod Gaps
 pub mod Complete
 pub mod Core
+pub mod Chains

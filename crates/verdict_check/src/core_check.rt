@@ -11,7 +11,8 @@ ghost use Rattle.verdict_check.specs.declared.core_outcome.CoreReason.{CoreReaso
 ghost use Rattle.verdict_check.specs.declared.core_outcome.CoreChecked.TheVariants.{Valid, Invalid};
 
 use crate::core_outcome::{CoreChecked, CoreReason};
-use crate::cycle::{first_bad_pair, first_repeat, is_odd_length, next_pair};
+use crate::cycle::{first_bad_pair, is_odd_length, next_pair};
+use crate::repeats::first_repeat;
 use row_core::{CoreText, blame_law};
 use row_model::{
     Kind, Line, Matrix, NoMemory, Why, is_kept, is_order, joined_by, positions, row_has,

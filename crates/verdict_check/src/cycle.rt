@@ -7,12 +7,11 @@ ghost use Rattle.verdict_check.specs.NoTests.{pair_after, PassesLength, PassesPa
 ghost use Rattle.verdict_check.specs.Found.{IsLeastFailing, Finds};
 
 use crate::outcome::Reason;
-use incompat_graph::Marks;
+use crate::repeats::first_repeat;
 use row_model::{Line, Matrix, NoMemory, Pair, is_pair, joined_by};
 use std::alloc::Global;
 
-/// The first test that the lines fail as an odd cycle of the matrix. Of more than a few lines it takes a bit for each
-/// pair of columns.
+/// The first test that the lines fail as an odd cycle of the matrix.
 ///
 /// # Errors
 ///
@@ -54,59 +53,6 @@ pub fn first_bad_pair(c: u32, lines: &[Line]) -> Option<u32>
         }
     }
     None
-}
-
-/// The first line, from 1, whose pair stands on an earlier line. Of more than a few lines it takes a bit for each pair
-/// of columns.
-pub fn first_repeat(alloc: Global, c: u32, lines: &[Line]) -> Result<Option<u32>, NoMemory>
-    requires few { Fits32 (length lines.now) }
-    requires pairs { (k : ℕ) → 1 ≤ k → k ≤ length lines.now → PassesPair c lines.now k }
-    ensures { IfOk result (IsLeastFailing (PassesRepeat lines.now) (length lines.now)) }
-{
-    // Fewer comparisons than words of the table.
-    if lines.len() <= c as usize / 8 {
-        return Ok(first_repeat_of_few(lines));
-    }
-    let mut seen = Marks::new(alloc, c, c)?;
-    for (i, line) in lines.iter().enumerate() {
-        if seen.mark(line.pair.a, line.pair.b) {
-            return Ok(Some(i as u32 + 1));
-        }
-    }
-    Ok(None)
-}
-
-// The first line, from 1, whose pair stands on an earlier line. It takes time in the square of the number of lines.
-fn first_repeat_of_few(lines: &[Line]) -> Option<u32>
-    requires { Fits32 (length lines.now) }
-    ensures { IsLeastFailing (PassesRepeat lines.now) (length lines.now) result }
-{
-    for i in 0..lines.len() {
-        if !has_new_pair(lines, i) {
-            return Some(i as u32 + 1);
-        }
-    }
-    None
-}
-
-// Whether the pair of the line at an index stands on no earlier line.
-fn has_new_pair(lines: &[Line], i: usize) -> bool
-    requires { i < length lines.now }
-    ensures { IsTrue result ↔ PassesRepeat lines.now (i + 1) }
-{
-    for j in 0..i {
-        if is_same_pair(lines[j].pair, lines[i].pair) {
-            return false;
-        }
-    }
-    true
-}
-
-// Whether the two are one pair.
-fn is_same_pair(v: Pair, w: Pair) -> bool
-    ensures { IsTrue result ↔ (v ≡ w) }
-{
-    v.a == w.a && v.b == w.b
 }
 
 // The first line, from 1, whose reason does not join its pair to that of the next line, the

@@ -56,6 +56,7 @@ ghost use Rattle.verdict_check.specs.declared.outcome.Reason.{Reason};
 ghost use Rattle.verdict_check.specs.declared.outcome.Checked.TheVariants.{Valid, Invalid};
 
 mod added;
+mod chains;
 mod clones;
 mod core_check;
 mod core_outcome;
@@ -66,6 +67,7 @@ mod holds;
 mod intervals;
 mod judge;
 mod outcome;
+mod repeats;
 mod side;
 #[cfg(test)]
 mod tests;

@@ -1,7 +1,7 @@
 use Rattle.std.proofs.Common.{ℕ, ◌≤◌, take}
 use Rattle.verdict_check.specs.NoTests.{PassesRepeat}
 use Rattle.verdict_check.proofs.Lines.{AreMarked}
-use Rattle.verdict_check.proofs.cycle.first_repeat.Given as goal
+use Rattle.verdict_check.proofs.repeats.first_repeat_by_table.Given as goal
 
 -- the pairs of the lines so far are marked, and none of them is there twice
 abbrev pub invariant-loop-i : goal.invariant-loop-i

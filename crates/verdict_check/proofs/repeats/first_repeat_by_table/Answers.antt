@@ -1,7 +1,7 @@
 use Rattle.std.proofs.Common.{◌∙◌, sym, arith}
 use Rattle.row_model.specs.Graph.{IsPair}
 use Rattle.verdict_check.proofs.Lines.{pair_here, each_more, least_here, marked_next, repeat_fails, repeat_passes}
-use Rattle.verdict_check.proofs.cycle.first_repeat.Goals as goal
+use Rattle.verdict_check.proofs.repeats.first_repeat_by_table.Goals as goal
 
 pub mark-requires-clause-row : goal.mark-requires-clause-row
 mark-requires-clause-row c =
