@@ -1,5 +1,5 @@
 -- A row whose leaves fill some children of a P-node: P2 makes the reduced tree.
-use Rattle.std.proofs.Common.{◌≡◌, ◌≢◌, ℕ, ◌+◌, ◌*◌, ◌≤◌, Bool, true, false, cond, List, [], ◌∷◌, map, length, refl, sym, ap, subst, ◌∙◌, arith}
+use Rattle.std.proofs.Common.{◌≡◌, ◌≢◌, ℕ, ◌+◌, ◌*◌, ◌≤◌, Bool, true, false, cond, List, [], ◌∷◌, map, length, refl, sym, subst, ◌∙◌, arith}
 use Rattle.std.proofs.lemmas.List.{length-map}
 use Rattle.column_order.specs.Orders.{has, occurs}
 use Rattle.column_order.proofs.Lists.{has_from_occurs, occurs_from_has}
@@ -22,7 +22,6 @@ use Rattle.pq_arena.specs.declared.node.NodeId.{NodeId}
 use Rattle.bubble_pass.specs.Climb.{leaves_of, indices}
 use Rattle.bubble_pass.specs.declared.labels.Label.TheVariants.{Full}
 use Rattle.bubble_pass.specs.Fair.{AtMost}
-use Rattle.bubble_pass.specs.Found.{Holds, Meets}
 use Rattle.bubble_pass.specs.Sweep.{IsRight}
 use Rattle.full_pass.specs.Answer.{IsGroup}
 use Rattle.template_model.specs.Standing.{child_trees}

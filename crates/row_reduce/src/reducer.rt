@@ -9,6 +9,7 @@ ghost use Rattle.pq_plain.specs.Reduced.{IsReduced};
 ghost use Rattle.pq_plain.specs.Frugal.{IsFrugal};
 ghost use Rattle.arena_model.specs.NamedTree.{outline_at};
 
+use crate::pace::Pace;
 use crate::rows::reduce_arena;
 use crate::template::Template;
 use bubble_pass::Work;
@@ -32,6 +33,7 @@ use total_work::ticks_law;
 #[derive(Drop)]
 pub struct ArenaReducer {
     arena: Arena,
+    pace: Pace,
     full: FullWork,
     work: Work,
     chosen: Vec<Template>,
@@ -69,6 +71,7 @@ impl ArenaReducer {
         let chosen = vec![in alloc; Template::L1; 2 * columns as usize + 4]?;
         Ok(ArenaReducer {
             arena,
+            pace: Pace::new(),
             full,
             work,
             chosen,
@@ -107,6 +110,7 @@ impl ArenaReducer {
         self.arena.layout_law();
         let step = reduce_arena(
             &mut self.arena,
+            &mut self.pace,
             &mut self.full,
             &mut self.work,
             &mut self.chosen,

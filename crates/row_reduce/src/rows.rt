@@ -10,6 +10,7 @@ ghost use Rattle.row_reduce.specs.Outcome.{IsOutcome, IsRowOutcome, AtFoundRoot,
 
 use crate::apply::{apply_chosen, apply_one};
 use crate::decide::decide;
+use crate::pace::Pace;
 use crate::template::Template;
 use bubble_pass::{Found, Work, bubble, met_law};
 use full_pass::{FullWork, Settled, settle};
@@ -25,6 +26,7 @@ use templates_q::{apply_q3, fits_q3};
 // in one look at each full node.
 pub fn reduce_arena<L: Ledger>(
     arena: &mut Arena,
+    pace: &mut Pace,
     full: &mut FullWork,
     work: &mut Work,
     chosen: &mut [Template],
@@ -54,15 +56,25 @@ pub fn reduce_arena<L: Ledger>(
     if m.row(k).is_empty() {
         return Step::Taken;
     }
+    if !pace.is_full_pass_first() {
+        return reduce_by_templates(arena, work, chosen, m, k, steps);
+    }
     match settle(arena, m, k, full, steps) {
-        Settled::Kept => Step::Taken,
+        Settled::Kept => {
+            pace.settled();
+            Step::Taken
+        }
         Settled::Group(node) => {
+            pace.settled();
             turned_law();
             apply_p2_to(arena, node, full.members(), steps);
             arena.layout_law();
             Step::Taken
         }
-        Settled::Open => reduce_by_templates(arena, work, chosen, m, k, steps),
+        Settled::Open => {
+            pace.was_in_vain();
+            reduce_by_templates(arena, work, chosen, m, k, steps)
+        }
     }
 }
 

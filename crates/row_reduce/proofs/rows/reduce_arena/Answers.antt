@@ -25,11 +25,11 @@ returns-in-Kept-clause-ticks g c = kept_total c.met_law.ensures (row_over c.layo
 
 pub returns-in-Open : goal.returns-in-Open
 returns-in-Open g c = record {
-  outcome = c.reduce_by_templates.ensures.outcome;
-  room = c.reduce_by_templates.ensures.room;
+  outcome = c.reduce_by_templates-in-Open.ensures.outcome;
+  room = c.reduce_by_templates-in-Open.ensures.room;
   full = c.settle.ensures.room;
-  ticks = open_total c.met_law.ensures (row_over c.layout_law.ensures c.requires.tree c.requires.columns c.requires.proper c.requires.row c.requires.tied c.row.ensures.row c.row.ensures.ascending) _ _ _ c.settle.ensures.steps c.reduce_by_templates.ensures.ticks;
-  below = λ e. let t = c.reduce_by_templates.ensures.below e in let u = c.settle.ensures.steps in omega (arith, t, u);
+  ticks = open_total c.met_law.ensures (row_over c.layout_law.ensures c.requires.tree c.requires.columns c.requires.proper c.requires.row c.requires.tied c.row.ensures.row c.row.ensures.ascending) _ _ _ c.settle.ensures.steps c.reduce_by_templates-in-Open.ensures.ticks;
+  below = λ e. let t = c.reduce_by_templates-in-Open.ensures.below e in let u = c.settle.ensures.steps in omega (arith, t, u);
 }
 
 pub returns-in-Group-clause-outcome : goal.returns-in-Group-clause-outcome
