@@ -6,7 +6,8 @@ use verdict_check::true_law;
 use verdict_text::one_verdict;
 
 /// A check believes nothing untrue: where it ends with status 0, the bytes are the text of a verdict that is true of
-/// the instance. It ends so exactly where they are the text of a verdict that passes each test.
+/// the instance. It ends so exactly where they are the text of a verdict that passes each test, within the limit of
+/// bytes.
 pub fn check_law()
     ensures believed { CheckLaw }
     ensures status { ValidStatusLaw }

@@ -14,7 +14,8 @@ pub fn core_law()
 {}
 
 /// What `check-core` ends on with status 0 names a core of the matrix. It ends so exactly where the bytes are the text
-/// of a core that passes each test, and it believes what `core` wrote on the same bytes.
+/// of a core that passes each test, within the limit of bytes, and so on what `core` wrote with status 0 on the same
+/// bytes.
 pub fn core_judgement_law()
     ensures believed { CoreBelievedLaw }
     ensures valid { CoreValidLaw }
