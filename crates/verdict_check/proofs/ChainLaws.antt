@@ -1,5 +1,5 @@
 -- Lines in chains by the first columns of their pairs, and those of a chain whose pairs stand on earlier lines.
-use Rattle.std.proofs.Common.{◌≡◌, ◌≢◌, ◌∙◌, ℕ, zero, suc, ◌+◌, ◌-◌, ◌<◌, ◌≤◌, List, [], ◌∷◌, length, take, set, replicate, get_or, refl, sym, ap, subst, inl, inr, arith, length-set, get_or-set_same, get_or-set_other}
+use Rattle.std.proofs.Common.{◌≡◌, ◌≢◌, ◌∙◌, ℕ, zero, suc, ◌+◌, ◌-◌, ◌<◌, ◌≤◌, List, [], ◌∷◌, length, take, set, replicate, get_or, sym, ap, subst, inl, inr, arith, length-set, get_or-set_same, get_or-set_other}
 use Rattle.std.specs.List.{All}
 use Rattle.std.proofs.lemmas.Bool.{cases_eq, cases_lt}
 use Rattle.std.proofs.lemmas.List.{get_or-replicate, length-replicate}
@@ -7,7 +7,6 @@ use Rattle.row_model.specs.declared.graph.Pair.{Pair}
 use Rattle.row_model.specs.declared.graph.Line.{Line}
 use Rattle.row_model.specs.declared.graph.Why.TheVariants.{Flip}
 use Rattle.row_model.specs.Graph.{pair, IsPair}
-use Rattle.row_model.proofs.Pairs.{same_pair}
 use Rattle.verdict_check.specs.NoTests.{PassesPair, PassesRepeat}
 use Rattle.verdict_check.specs.Chains.{IsNextInChain, AreChains}
 use Rattle.verdict_check.proofs.Lines.{IsNew, pair_here, new_here, new_there, not_new}

@@ -1,4 +1,4 @@
-use Rattle.std.proofs.Common.{◌≡◌, ℕ, ◌+◌, ◌≤◌, length}
+use Rattle.std.proofs.Common.{◌≡◌, ◌+◌, ◌≤◌, length}
 use Rattle.verdict_check.specs.Chains.{AreChains}
 use Rattle.verdict_check.proofs.chains.chains_of.Given as goal
 

@@ -1,5 +1,4 @@
-use Rattle.std.proofs.Common.{ℕ, ◌+◌, ◌≤◌, ◌<◌, length, get_or, arith}
-use Rattle.row_model.specs.declared.graph.Line.{Line}
+use Rattle.std.proofs.Common.{ℕ, ◌≤◌, get_or, arith}
 use Rattle.row_model.specs.Graph.{IsPair}
 use Rattle.verdict_check.specs.NoTests.{PassesRepeat}
 use Rattle.verdict_check.proofs.Lines.{pair_here}
