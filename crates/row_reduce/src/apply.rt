@@ -42,6 +42,27 @@ pub fn apply_one<L: Ledger>(
     }
 }
 
+// As `apply_one`. A full leaf, where nothing changes, takes no call.
+fn apply_at<L: Ledger>(
+    template: Template,
+    arena: &mut Arena,
+    work: &mut Work,
+    node: NodeId,
+    steps: &mut Steps<L>,
+) -> NodeId
+    requires ready { IsReady arena.old work.old node.index }
+    requires stands { CanApply template arena.old work.old node.index }
+    ensures treated { IsTreated arena.old arena.new work.old work.new node.index result.index }
+    ensures becomes { Becomes template arena.old arena.new work.old work.new node.index result.index }
+    ensures ticks { steps.new ≤ steps.old + 64 * (labelled_at work.old node.index + 1) }
+{
+    arena.layout_law();
+    match template {
+        Template::L1 => apply_l1(arena, work, node, steps),
+        other => apply_one(other, arena, work, node, steps),
+    }
+}
+
 // Applies the templates of the first `count` labelled nodes, children first.
 pub fn apply_chosen<L: Ledger>(
     arena: &mut Arena,
@@ -58,7 +79,7 @@ pub fn apply_chosen<L: Ledger>(
     arena.layout_law();
     for i in 0..count {
         let node = work.nodes()[i];
-        apply_one(chosen[i], arena, work, node, steps);
+        apply_at(chosen[i], arena, work, node, steps);
         arena.layout_law();
     }
 }

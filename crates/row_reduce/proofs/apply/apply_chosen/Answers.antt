@@ -10,14 +10,14 @@ loop-i-init g c = record {
   ticks = omega arith;
 }
 
-pub apply_one-requires-clause-ready : goal.apply_one-requires-clause-ready
-apply_one-requires-clause-ready g c =
+pub apply_at-requires-clause-ready : goal.apply_at-requires-clause-ready
+apply_at-requires-clause-ready g c =
     let r = c.requires.chosen in
     let a = c.loop-i.invariant.applied r.0 r.1 r.2 in
     turn_ready (turn_of _ _ _ _ r.0 r.1 _ _ c.loop-i.i a.0 c.nodes.result.now r.2 c.loop-i-test.true c.loop-i.invariant.layout a.1 c.nodes.ensures)
 
-pub apply_one-requires-clause-stands : goal.apply_one-requires-clause-stands
-apply_one-requires-clause-stands g c =
+pub apply_at-requires-clause-stands : goal.apply_at-requires-clause-stands
+apply_at-requires-clause-stands g c =
     let r = c.requires.chosen in
     let a = c.loop-i.invariant.applied r.0 r.1 r.2 in
     turn_stands (turn_of _ _ _ _ r.0 r.1 _ _ c.loop-i.i a.0 c.nodes.result.now r.2 c.loop-i-test.true c.loop-i.invariant.layout a.1 c.nodes.ensures)
@@ -27,11 +27,11 @@ loop-i-preserved g c = record {
   applied = λ row q chosen.
       let a = c.loop-i.invariant.applied row q chosen in
       turned (turn_of _ _ _ _ row q _ _ c.loop-i.i a.0 c.nodes.result.now chosen c.loop-i-test.true c.loop-i.invariant.layout a.1 c.nodes.ensures)
-      _ _ _ c.layout_law-in-loop-i.ensures c.apply_one.ensures.treated c.apply_one.ensures.becomes;
+      _ _ _ c.layout_law-in-loop-i.ensures c.apply_at.ensures.treated c.apply_at.ensures.becomes;
   layout = c.layout_law-in-loop-i.ensures;
   ticks =
       let r = c.requires.chosen in
       let a = c.loop-i.invariant.applied r.0 r.1 r.2 in
       turn_ticks (turn_of _ _ _ _ r.0 r.1 _ _ c.loop-i.i a.0 c.nodes.result.now r.2 c.loop-i-test.true c.loop-i.invariant.layout a.1 c.nodes.ensures)
-      _ _ _ c.loop-i.invariant.ticks c.apply_one.ensures.ticks;
+      _ _ _ c.loop-i.invariant.ticks c.apply_at.ensures.ticks;
 }
