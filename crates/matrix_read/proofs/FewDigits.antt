@@ -16,7 +16,7 @@ use Rattle.matrix_read.proofs.TextLemmas.{word_before}
 digit_filled : (b : ℕ) → is_ascii_digit b ≡ true → is_blank_byte b ≡ false
 digit_filled b h = grind (arith, common_steps, nat_tests)
 
-digits_filled : (word : List ℕ) → list_all is_ascii_digit word ≡ true → list_any is_blank_byte word ≡ false
+pub digits_filled : (word : List ℕ) → list_all is_ascii_digit word ≡ true → list_any is_blank_byte word ≡ false
 digits_filled [] h = refl
 digits_filled (b ∷ word) h =
     let parts = and_parts (is_ascii_digit b) (list_all is_ascii_digit word) h in

@@ -26,3 +26,4 @@ pub mod TextLemmas
 pub mod MarkLemmas
 pub mod FeedLemmas
 pub mod FewDigits
+pub mod PlainLemmas

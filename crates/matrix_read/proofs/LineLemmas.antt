@@ -57,8 +57,23 @@ line_parts_first (b ∷ c ∷ bytes) h = elim (b == 10) as (λ v. (if v then [] 
 drop_capped : (text : List ℕ) (n : ℕ) → drop n text ≡ drop (min n (length text)) text
 drop_capped text n = grind (arith, common_steps, drop_of_length-le {A = ℕ})
 
-rest_is : (text : List ℕ) (at next len : ℕ) → next ≡ min (at + len + 1) (length text) → drop (len + 1) (drop at text) ≡ drop next text
+pub rest_is : (text : List ℕ) (at next len : ℕ) → next ≡ min (at + len + 1) (length text) → drop (len + 1) (drop at text) ≡ drop next text
 rest_is text at next len is = drop-drop (len + 1) at text ∙ ap (λ n. drop n text) (sym (add_assoc at len 1)) ∙ drop_capped text (at + len + 1) ∙ ap (λ n. drop n text) (sym is)
+
+-- the first line from a place on, and the lines behind it
+pub lines_split : (text : List ℕ) (at : ℕ) → at < length text
+    → lines_of (drop at text) ≡ without_return (first_line (drop at text)) ∷ lines_of (drop (line_len (drop at text) + 1) (drop at text))
+lines_split text at lt = ap (map without_return) (line_parts_first (drop at text) (omega (arith, length-drop at text)))
+
+-- the line at a place, without its carriage return
+pub line_text : (text : List ℕ) (at end : ℕ) → end ≡ at + length (without_return (first_line (drop at text))) → slice_range text at end ≡ without_return (first_line (drop at text))
+line_text text at end end_is =
+    let line = first_line (drop at text) in
+    let short : length (without_return line) ≤ line_len (drop at text) = omega (arith, length-without_return-le line, length-take-le (line_len (drop at text)) (drop at text) (line_len-le (drop at text))) in
+    let long : end - at ≡ length (without_return line) = omega arith in
+    ap (λ n. take n (drop at text)) long
+    ∙ sym (take-take (length (without_return line)) (line_len (drop at text)) (drop at text) short)
+    ∙ without_return_is line
 
 -- the line that `next_line` finds
 module _ (text : List ℕ) (at start end next : ℕ) (le : at ≤ length text) (more : at ≡ length text → true ≡ false) (start_is : start ≡ at)
@@ -70,20 +85,11 @@ module _ (text : List ℕ) (at start end next : ℕ) (le : at ≤ length text) (
   pub next_gt : at < next
   next_gt = omega (arith, place_lt)
 
-  line_text : slice_range text at end ≡ without_return (first_line (drop at text))
-  line_text =
-      let line = first_line (drop at text) in
-      let short : length (without_return line) ≤ line_len (drop at text) = omega (arith, length-without_return-le line, length-take-le (line_len (drop at text)) (drop at text) (line_len-le (drop at text))) in
-      let long : end - at ≡ length (without_return line) = omega arith in
-      ap (λ n. take n (drop at text)) long
-      ∙ sym (take-take (length (without_return line)) (line_len (drop at text)) (drop at text) short)
-      ∙ without_return_is line
-
   -- the lines from the place on: it, and those from the next place on
   pub lines_step : lines_of (drop at text) ≡ slice_range text start end ∷ lines_of (drop next text)
   lines_step =
-      ap (map without_return) (line_parts_first (drop at text) (omega (arith, length-drop at text, place_lt)))
-      ∙ ap (λ l. l ∷ lines_of (drop (line_len (drop at text) + 1) (drop at text))) (sym line_text)
+      lines_split text at place_lt
+      ∙ ap (λ l. l ∷ lines_of (drop (line_len (drop at text) + 1) (drop at text))) (sym (line_text text at end end_is))
       ∙ ap (λ t. slice_range text at end ∷ lines_of t) (rest_is text at next (line_len (drop at text)) next_is)
       ∙ ap (λ n. slice_range text n end ∷ lines_of (drop next text)) (sym start_is)
 

@@ -1,8 +1,9 @@
 -- Rows that name their columns.
-use Rattle.std.proofs.Common.{◌≡◌, ℕ, arith, ◌<◌, ◌≤◌, ◌+◌, ◌||◌, List, [], ◌∷◌, length, slice_range, refl, sym, ap, ◌∙◌, Bool, true, false, None, Some, Ok, Err}
+use Rattle.std.proofs.Common.{◌≡◌, ℕ, arith, ◌<◌, ◌≤◌, ◌+◌, ◌||◌, List, [], ◌∷◌, ◌++◌, length, take, set, append_assoc, slice_range, refl, sym, ap, ◌∙◌, Bool, true, false, None, Some, Ok, Err}
 use Rattle.std.proofs.lemmas.Bool.{lt-leb}
 use Rattle.std.proofs.lemmas.Bool.Decides.{nat_tests}
 use Rattle.std.proofs.lemmas.Grind.{common_steps}
+use Rattle.std.proofs.lemmas.List.{take_more_set}
 use Rattle.column_order.specs.Orders.{has}
 use Rattle.row_model.specs.Rows.{IsRow}
 use Rattle.row_model.specs.declared.refusal.Read.TheVariants as read
@@ -66,6 +67,10 @@ module _ (c : ℕ) (words later : List (List ℕ)) (number : Numeral) (first : I
 -- ascending columns that a line names are its row
 pub row_listed : (c : ℕ) (line row : List ℕ) → row ≡ columns_named (words_of line) → IsRow c row → row ≡ row_named c line
 row_listed c line row is ascends = row_where c row (has (columns_named (words_of line))) ascends (λ a l u. ap (λ (xs : List ℕ). has xs a) is)
+
+-- one column more at the front of `columns`
+pub one_more_column : (columns row : List ℕ) (ones n : ℕ) → ones < length columns → take (ones + 1) (set columns ones n) ++ row ≡ take ones columns ++ (n ∷ row)
+one_more_column columns row ones n room = ap (λ (front : List ℕ). front ++ row) (take_more_set columns ones n room) ∙ append_assoc (take ones columns) (n ∷ []) row
 
 -- no mark is left to be made
 pub marks_end : (mark named : Bool) (words : List (List ℕ)) (column : ℕ) → words ≡ [] → (mark || has (columns_named words) column) ≡ named → mark ≡ named

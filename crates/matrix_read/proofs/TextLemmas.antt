@@ -73,7 +73,7 @@ word_before (b ∷ a ∷ word) rest some h apart =
     words_of_more b (a ∷ (word ++ rest)) parts.0 (ap not next.0)
     ∙ ap (before_first b) (word_before (a ∷ word) rest (omega arith) parts.1 apart)
 
-no_words : words_of [] ≡ []
+pub no_words : words_of [] ≡ []
 unfolding words_of
 no_words = refl
 

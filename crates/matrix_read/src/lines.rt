@@ -51,13 +51,26 @@ pub fn next_line(bytes: &[u8], at: usize) -> Option<LineSpan>
     if at == bytes.len() {
         return None;
     }
+    Some(line_from(bytes, at))
+}
+
+/// The line that begins at a place before the end of the text.
+pub(crate) fn line_from(bytes: &[u8], at: usize) -> LineSpan
+    requires { at < length bytes.now }
+    ensures start { result.start ≡ at }
+    ensures end { result.end ≡ at + length (without_return (first_line (drop at bytes.now))) }
+    ensures next { result.next ≡ min (at + line_len (drop at bytes.now) + 1) (length bytes.now) }
+    ensures within { result.end ≤ length bytes.now }
+    ensures line { slice_range bytes.now result.start result.end ≡ without_return (first_line (drop at bytes.now)) }
+    ensures lines { lines_of (drop at bytes.now) ≡ slice_range bytes.now result.start result.end ∷ lines_of (drop result.next bytes.now) }
+{
     let stop = line_end(bytes, at);
     let next = if stop < bytes.len() { stop + 1 } else { stop };
-    Some(LineSpan {
+    LineSpan {
         start: at,
         end: at + len_without_return(&bytes[at..stop]),
         next,
-    })
+    }
 }
 
 // Where the first line feed from a place on stands, or the end.

@@ -1,23 +1,5 @@
-use Rattle.std.proofs.Common.{◌≡◌, ◌∙◌, ◌+◌, ◌-◌, min, length, drop, take, List, ℕ, ap, refl, arith}
-use Rattle.matrix_read.specs.Lines.{line_len, first_line, without_return}
-use Rattle.matrix_read.proofs.LineLemmas.{lines_step, no_lines}
-use Rattle.matrix_read.proofs.lines.next_line.Goals.{then-stop-bytes, else-stop-bytes}
+use Rattle.matrix_read.proofs.LineLemmas.{no_lines}
 use Rattle.matrix_read.proofs.lines.next_line.Goals as goal
 
 pub returns-then-at-bytes-clause-nothing : goal.returns-then-at-bytes-clause-nothing
 returns-then-at-bytes-clause-nothing c = no_lines c.args.bytes.now c.args.at c.if-at-bytes.true
-
-pub returns-clause-lines : goal.returns-clause-lines
-returns-clause-lines c =
-    let text = c.args.bytes.now in
-    let at = c.args.at in
-    let rest : List ℕ = drop at text in
-    let stop = c.line_end-stop.result in
-    let line : take (stop - at) rest ≡ first_line rest = ap (λ n. take n rest) (omega (arith, c.line_end-stop.ensures.place)) in
-    let end : at + c.len_without_return.result ≡ at + length (without_return (first_line rest)) = ap (λ n. at + n) (c.len_without_return.ensures.line ∙ ap (λ l. length (without_return l)) line) in
-    let next : c.if-stop-bytes.next ≡ min (at + line_len rest + 1) (length text) =
-    elim c.if-stop-bytes.branch [
-      | then-stop-bytes w ↦ omega (arith, w.next-is, w.if-stop-bytes, c.line_end-stop.ensures.place)
-      | else-stop-bytes w ↦ omega (arith, w.next-is, w.if-stop-bytes, c.line_end-stop.ensures.place)
-    ] in
-    lines_step text at at (at + c.len_without_return.result) c.if-stop-bytes.next c.requires (λ e. absurd (c.if-at-bytes.false e)) refl end next

@@ -1,9 +1,9 @@
-use Rattle.std.proofs.Common.{◌≡◌, ◌∙◌, ◌+◌, ◌<◌, ◌∷◌, ◌++◌, [], List, ℕ, length, take, set, drop, append_assoc, sym, ap, arith}
-use Rattle.std.proofs.lemmas.List.{take_more_set, append-nil}
+use Rattle.std.proofs.Common.{◌≡◌, ◌∙◌, ◌+◌, ◌<◌, ◌∷◌, ◌++◌, [], List, ℕ, length, take, set, drop, sym, ap, arith}
+use Rattle.std.proofs.lemmas.List.{append-nil}
 use Rattle.row_model.specs.Rows.{IsRow}
 use Rattle.matrix_read.specs.Words.{words_of}
 use Rattle.matrix_read.specs.Sparse.{columns_named}
-use Rattle.matrix_read.proofs.SparseLemmas.{code_behind, columns_behind, row_listed, words_end}
+use Rattle.matrix_read.proofs.SparseLemmas.{code_behind, columns_behind, one_more_column, row_listed, words_end}
 use Rattle.matrix_read.proofs.sparse.ascending_columns.Goals as goal
 
 pub loop-word-preserved : goal.loop-word-preserved
@@ -15,7 +15,7 @@ loop-word-preserved c =
     let later : List (List ℕ) = words_of (drop c.in-Some.word.next c.args.line.now) in
     let room : ones < length columns = omega (arith, c.loop-word.auto.columns) in
     let longer : (row : List ℕ) → take (ones + 1) (set columns ones n) ++ row ≡ take ones columns ++ (n ∷ row) =
-    λ row. ap (λ (front : List ℕ). front ++ row) (take_more_set columns ones n room) ∙ append_assoc (take ones columns) (n ∷ []) row in
+    λ row. one_more_column columns row ones n room in
     record {
       within = c.in-Some.ensures.range.1;
       few = omega arith;

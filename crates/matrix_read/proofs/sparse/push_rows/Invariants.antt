@@ -5,8 +5,8 @@ use Rattle.matrix_read.specs.Sparse.{line_code, row_named, named_rows}
 use Rattle.matrix_read.proofs.RowLemmas.{answer_after}
 use Rattle.matrix_read.proofs.sparse.push_rows.Given as goal
 
-abbrev pub invariant-loop-span : goal.invariant-loop-span
-invariant-loop-span l = record {
+abbrev pub invariant-loop-at : goal.invariant-loop-at
+invariant-loop-at l = record {
   within : l.at ≤ length l.text;
   few : l.line ≤ l.at + 1;
   columns : l.matrix.columns ≡ l.initial.matrix.columns;
@@ -15,5 +15,5 @@ invariant-loop-span l = record {
       ≡ named_rows l.initial.matrix.columns (numbered_lines (l.passed + 1) (lines_of l.text));
 }
 
-abbrev pub decreases-loop-span : goal.decreases-loop-span
-decreases-loop-span l = length l.text - l.at
+abbrev pub decreases-loop-at : goal.decreases-loop-at
+decreases-loop-at l = length l.text - l.at

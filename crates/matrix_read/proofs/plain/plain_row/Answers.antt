@@ -1,0 +1,94 @@
+use Rattle.std.proofs.Common.{◌≡◌, ◌∙◌, ◌<◌, ◌+◌, ◌∷◌, ◌++◌, [], List, ℕ, length, take, drop, set, sym, ap, refl, arith}
+use Rattle.std.proofs.lemmas.List.{append-nil}
+use Rattle.row_model.specs.Rows.{IsRow}
+use Rattle.matrix_read.specs.Lines.{first_line, without_return}
+use Rattle.matrix_read.specs.Words.{words_of, IsFirstNumber}
+use Rattle.matrix_read.specs.declared.words.Numeral.TheVariants.{Value}
+use Rattle.matrix_read.specs.Sparse.{columns_named, words_code, row_named}
+use Rattle.matrix_read.proofs.TextLemmas.{no_words}
+use Rattle.matrix_read.proofs.SparseLemmas.{code_behind, columns_behind, one_more_column, row_listed, words_end}
+use Rattle.matrix_read.proofs.PlainLemmas.{some_digits, space_len, space_return, space_number, feed_len, feed_return, feed_number, lines_behind}
+use Rattle.matrix_read.proofs.plain.plain_row.Goals as goal
+
+pub loop-last-preserved : goal.loop-last-preserved
+loop-last-preserved c =
+    let before = c.loop-last.invariant in
+    let text : List ℕ = c.args.text.now in
+    let place : ℕ = c.loop-last.place in
+    let found = c.digits_at-column.ensures in
+    let end : ℕ = c.digits_at-column.result.end in
+    let n : ℕ = c.digits_at-column.result.value in
+    let columns : List ℕ = c.loop-last.columns in
+    let ones : ℕ = c.loop-last.ones in
+    let later : List (List ℕ) = words_of (first_line (drop (end + 1) text)) in
+    let within : end < length text = omega (arith, found.range, c.if-column-text.false) in
+    let some : place < end = some_digits text place end n found.range.0 found.value (omega arith) in
+    let first : IsFirstNumber (words_of (first_line (drop place text))) (Value n) later =
+    space_number text place end found.range.0 within found.digits c.in-32.is n found.value (omega arith) some in
+    let room : ones < length columns = omega (arith, c.loop-last.auto.columns) in
+    record {
+      from = omega arith;
+      within = omega arith;
+      few = omega arith;
+      most = omega arith;
+      line = before.line ∙ space_len text place end found.range.0 within found.digits c.in-32.is;
+      return_is = λ kept. before.return_is (space_return text place end found.range.0 within found.digits c.in-32.is kept);
+      code = code_behind c.args.c _ later _ first n refl (omega arith) (omega arith) ∙ before.code;
+      named = one_more_column columns (columns_named later) ones n room
+          ∙ ap (λ (rest : List ℕ). take ones columns ++ rest) (columns_behind c.args.c _ later _ first n refl (omega arith) (omega arith))
+          ∙ before.named;
+      ascends = λ row up. rw (one_more_column columns row ones n room) (before.ascends (n ∷ row) (omega arith, omega arith, up));
+    }
+
+pub returns-in-10-clause-line : goal.returns-in-10-clause-line
+returns-in-10-clause-line c =
+    let text : List ℕ = c.args.text.now in
+    let found = c.digits_at-column.ensures in
+    let within : c.digits_at-column.result.end < length text = omega (arith, found.range, c.if-column-text.false) in
+    lines_behind text c.args.at (c.digits_at-column.result.end + 1)
+    (ap (λ n. n + 1) (c.loop-last.invariant.line ∙ feed_len text c.loop-last.place c.digits_at-column.result.end found.range.0 within found.digits c.in-10.is))
+    (omega arith)
+
+pub returns-in-10-clause-named : goal.returns-in-10-clause-named
+returns-in-10-clause-named c =
+    let text : List ℕ = c.args.text.now in
+    let place : ℕ = c.loop-last.place in
+    let found = c.digits_at-column.ensures in
+    let end : ℕ = c.digits_at-column.result.end in
+    let n : ℕ = c.digits_at-column.result.value in
+    let within : end < length text = omega (arith, found.range, c.if-column-text.false) in
+    let some : place < end = some_digits text place end n found.range.0 found.value (omega arith) in
+    let first : IsFirstNumber (words_of (first_line (drop place text))) (Value n) (words_of []) =
+    feed_number text place end found.range.0 within found.digits c.in-10.is n found.value (omega arith) some in
+    let whole : without_return (first_line (drop c.args.at text)) ≡ first_line (drop c.args.at text) =
+    c.loop-last.invariant.return_is (feed_return text place end found.range.0 within found.digits c.in-10.is) in
+    ap (λ line. words_code c.args.c (words_of line)) whole
+    ∙ sym (code_behind c.args.c _ (words_of []) _ first n refl (omega arith) (omega arith) ∙ c.loop-last.invariant.code)
+    ∙ words_end c.args.c (words_of []) no_words
+
+pub returns-in-10-clause-row : goal.returns-in-10-clause-row
+returns-in-10-clause-row c =
+    let before = c.loop-last.invariant in
+    let text : List ℕ = c.args.text.now in
+    let place : ℕ = c.loop-last.place in
+    let found = c.digits_at-column.ensures in
+    let end : ℕ = c.digits_at-column.result.end in
+    let n : ℕ = c.digits_at-column.result.value in
+    let columns : List ℕ = c.loop-last.columns in
+    let ones : ℕ = c.loop-last.ones in
+    let line : List ℕ = first_line (drop c.args.at text) in
+    let within : end < length text = omega (arith, found.range, c.if-column-text.false) in
+    let some : place < end = some_digits text place end n found.range.0 found.value (omega arith) in
+    let first : IsFirstNumber (words_of (first_line (drop place text))) (Value n) (words_of []) =
+    feed_number text place end found.range.0 within found.digits c.in-10.is n found.value (omega arith) some in
+    let whole : without_return line ≡ line = before.return_is (feed_return text place end found.range.0 within found.digits c.in-10.is) in
+    let room : ones < length columns = omega (arith, c.loop-last.auto.columns) in
+    let row : List ℕ = take (ones + 1) (set columns ones n) in
+    let front : row ≡ take ones columns ++ (n ∷ []) = sym (append-nil row) ∙ one_more_column columns [] ones n room in
+    let named : row ≡ columns_named (words_of line) =
+    front
+    ∙ ap (λ (words : List (List ℕ)). take ones columns ++ (n ∷ columns_named words)) (sym no_words)
+    ∙ ap (λ (rest : List ℕ). take ones columns ++ rest) (columns_behind c.args.c _ (words_of []) _ first n refl (omega arith) (omega arith))
+    ∙ before.named in
+    let ascends : IsRow c.args.c row = rw front (before.ascends (n ∷ []) (omega arith, omega arith, tt)) in
+    row_listed c.args.c line row named ascends ∙ ap (row_named c.args.c) (sym whole)

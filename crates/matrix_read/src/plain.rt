@@ -1,0 +1,171 @@
+// Lines in the plainest form: numbers with one space between two, and a line feed behind the last.
+ghost use Rattle.std.specs.Prelude.{◌≡◌, ◌+◌, ◌-◌, ◌<◌, ◌≤◌, ◌∷◌, [], ℕ, true, length, take, drop, map, slice_range, None, IfSome};
+ghost use Rattle.std.specs.Char.{is_ascii_digit};
+ghost use Rattle.std.specs.List.{list_all};
+ghost use Rattle.matrix_read.specs.Lines.{first_line, without_return, lines_of, filled_lines};
+ghost use Rattle.matrix_read.specs.Words.{words_of, number_after, numeral_of};
+ghost use Rattle.matrix_read.specs.Sparse.{words_code, row_named};
+
+use crate::words::Numeral;
+use row_model::COLUMN_BOUND;
+
+// So many digits are read as one number at most.
+const MOST_DIGITS: usize = 9;
+
+// Digits that stand in a text.
+#[derive(Clone, Copy)]
+struct DigitRun {
+    // The number that they write.
+    value: u64,
+    // The place after the last of them.
+    end: usize,
+}
+
+// The digits from a place on, at most nine. A further digit may follow.
+fn digits_at(text: &[u8], at: usize) -> DigitRun
+    requires { at ≤ length text.now }
+    ensures range { (at ≤ result.end) × (result.end ≤ length text.now) }
+    ensures digits { list_all is_ascii_digit (slice_range text.now at result.end) ≡ true }
+    ensures value { result.value ≡ number_after 0 (slice_range text.now at result.end) }
+{
+    let stop = if text.len() - at > MOST_DIGITS {
+        at + MOST_DIGITS
+    } else {
+        text.len()
+    };
+    let mut value = 0u64;
+    let mut end = at;
+    while end < stop {
+        let byte = u64::from(text[end]);
+        if byte < 48 || byte > 57 {
+            break;
+        }
+        value = value * 10 + (byte - 48);
+        end += 1;
+    }
+    DigitRun { value, end }
+}
+
+/// A line of two numbers.
+#[derive(Clone, Copy, Debug, PartialEq, Eq)]
+pub struct PlainPair {
+    /// The number that stands first.
+    pub first: u64,
+    /// The number that stands second.
+    pub second: u64,
+    /// The place after the line feed.
+    pub next: usize,
+}
+
+/// The two numbers of the line that begins at a place, if it has the plainest form: each of one to nine digits, one
+/// space between them, and a line feed behind.
+///
+/// None says nothing of the line. [`next_filled_line`](crate::next_filled_line) reads any.
+pub fn plain_pair(text: &[u8], at: usize) -> Option<PlainPair>
+    requires { at ≤ length text.now }
+    ensures range { IfSome result (λ pair. (at < pair.next) × (pair.next ≤ length text.now)) }
+    ensures line { IfSome result (λ pair. (number : ℕ) → filled_lines number (lines_of (drop at text.now))
+        ≡ record { number = number; text = slice_range text.now at (pair.next - 1) }
+        ∷ filled_lines (number + 1) (lines_of (drop pair.next text.now))) }
+    ensures numbers { IfSome result (λ pair. map numeral_of (words_of (slice_range text.now at (pair.next - 1)))
+        ≡ Numeral.Value pair.first ∷ Numeral.Value pair.second ∷ []) }
+{
+    let first = digits_at(text, at);
+    if first.end == at || first.end == text.len() || text[first.end] != b' ' {
+        return None;
+    }
+    let start = first.end + 1;
+    let second = digits_at(text, start);
+    if second.end == start || second.end == text.len() || text[second.end] != b'\n' {
+        return None;
+    }
+    Some(PlainPair {
+        first: first.value,
+        second: second.value,
+        next: second.end + 1,
+    })
+}
+
+/// The row of a line.
+#[derive(Clone, Copy)]
+pub(crate) struct LineRow {
+    /// How many columns it has.
+    pub ones: usize,
+    /// The place where the next line begins, or the end of the text.
+    pub next: usize,
+}
+
+/// The row over 1 to `c` of the line that begins at a place, if the line has the plainest form: ascending columns, one
+/// space between two, and a line feed behind the last. They stand at the front of `columns` then.
+pub(crate) fn plain_row(text: &[u8], at: usize, c: usize, columns: &mut [u32]) -> Option<LineRow>
+    requires at { at ≤ length text.now }
+    requires small { c ≤ COLUMN_BOUND }
+    requires room { c ≤ length columns.old }
+    ensures range { IfSome result (λ row. (at < row.next) × (row.next ≤ length text.now)) }
+    ensures line { IfSome result (λ row. lines_of (drop at text.now)
+        ≡ without_return (first_line (drop at text.now)) ∷ lines_of (drop row.next text.now)) }
+    ensures named { IfSome result (λ row.
+        words_code c (words_of (without_return (first_line (drop at text.now)))) ≡ None) }
+    ensures row { IfSome result (λ row.
+        take row.ones columns.new ≡ row_named c (without_return (first_line (drop at text.now)))) }
+    ensures within { IfSome result (λ row. row.ones ≤ length columns.new) }
+{
+    let mut ones = 0;
+    let mut last = 0;
+    let mut place = at;
+    loop {
+        let column = digits_at(text, place);
+        if column.value <= last || column.value > c as u64 || column.end == text.len() {
+            return None;
+        }
+        columns[ones] = column.value as u32;
+        ones += 1;
+        last = column.value;
+        place = column.end + 1;
+        match text[column.end] {
+            b' ' => {}
+            b'\n' => return Some(LineRow { ones, next: place }),
+            _ => return None,
+        }
+    }
+}
+
+#[cfg(test)]
+mod tests {
+    use super::*;
+
+    #[test]
+    fn a_pair_is_two_numbers_and_a_line_feed(rt: HostRuntime) {
+        let text = b"12 7\n0 007\n123456789 1\n";
+        let found = |first, second, next| {
+            Some(PlainPair {
+                first,
+                second,
+                next,
+            })
+        };
+        assert_eq!(rt; plain_pair(text, 0), found(12, 7, 5));
+        assert_eq!(rt; plain_pair(text, 5), found(0, 7, 11));
+        assert_eq!(rt; plain_pair(text, 11), found(123456789, 1, 23));
+        assert_eq!(rt; plain_pair(text, 23), None);
+    }
+
+    #[test]
+    fn another_line_is_no_plain_pair(rt: HostRuntime) {
+        let lines: [&[u8]; 10] = [
+            b"\n",
+            b"1\n",
+            b"1 2",
+            b"1 2\r\n",
+            b"1 2 \n",
+            b"1 2 3\n",
+            b"1  2\n",
+            b" 1 2\n",
+            b"1\t2\n",
+            b"1234567890 2\n",
+        ];
+        for line in lines {
+            assert_eq!(rt; plain_pair(line, 0), None);
+        }
+    }
+}
