@@ -183,61 +183,14 @@ struct Digits {
     len: usize,
 }
 
-// The digits at the front. The first few are told one by one, which costs less than a loop.
-#[inline(always)]
+// The digits at the front.
 fn first_digits(bytes: &[u8]) -> Digits
     ensures digits { list_all is_ascii_digit (take result.len bytes.now) ≡ true }
     ensures value { result.len ≤ FEW_DIGITS → result.value ≡ number_after 0 (take result.len bytes.now) }
     ensures within { result.len ≤ length bytes.now }
 {
-    if bytes.len() < 5 {
-        return more_digits(bytes, 0, 0);
-    }
-    let a = u64::from(bytes[0]);
-    if a < 48 || a > 57 {
-        return Digits { value: 0, len: 0 };
-    }
-    let one = a - 48;
-    let b = u64::from(bytes[1]);
-    if b < 48 || b > 57 {
-        return Digits { value: one, len: 1 };
-    }
-    let two = one * 10 + (b - 48);
-    let c = u64::from(bytes[2]);
-    if c < 48 || c > 57 {
-        return Digits { value: two, len: 2 };
-    }
-    let three = two * 10 + (c - 48);
-    let d = u64::from(bytes[3]);
-    if d < 48 || d > 57 {
-        return Digits {
-            value: three,
-            len: 3,
-        };
-    }
-    let four = three * 10 + (d - 48);
-    let e = u64::from(bytes[4]);
-    if e < 48 || e > 57 {
-        return Digits {
-            value: four,
-            len: 4,
-        };
-    }
-    more_digits(bytes, four * 10 + (e - 48), 5)
-}
-
-// The digits at the front, where so many of them write a number that is known.
-fn more_digits(bytes: &[u8], known: u64, from: usize) -> Digits
-    requires from { from ≤ length bytes.now }
-    requires known { list_all is_ascii_digit (take from bytes.now) ≡ true }
-    requires value { known ≡ number_after 0 (take from bytes.now) }
-    requires small { known < 2 ^ (4 * from) }
-    ensures digits { list_all is_ascii_digit (take result.len bytes.now) ≡ true }
-    ensures value { result.len ≤ FEW_DIGITS → result.value ≡ number_after 0 (take result.len bytes.now) }
-    ensures within { result.len ≤ length bytes.now }
-{
-    let mut value = known;
-    for i in from..bytes.len() {
+    let mut value = 0u64;
+    for i in 0..bytes.len() {
         let byte = u64::from(bytes[i]);
         if byte < 48 || byte > 57 {
             return Digits { value, len: i };
@@ -303,36 +256,4 @@ pub fn all_digits(word: &[u8]) -> bool
     ensures { result ≡ list_all is_ascii_digit word.now }
 {
     word.iter().all(|b| b.is_ascii_digit())
-}
-
-#[cfg(test)]
-mod tests {
-    use super::*;
-
-    #[test]
-    fn words_are_runs_between_spaces_and_tabs(rt: HostRuntime) {
-        let line = b" ab\tc";
-        assert_eq!(rt; next_word(line, 0, 5), Some(WordSpan { start: 1, end: 3 }));
-        assert_eq!(rt; next_word(line, 3, 5), Some(WordSpan { start: 4, end: 5 }));
-        assert_eq!(rt; next_word(line, 3, 4), None);
-    }
-
-    #[test]
-    fn a_word_is_a_number_or_none(rt: HostRuntime) {
-        let line = b" 12\t007x  00000000000000003";
-        let found = |number, next| Some(NumberWord { number, next });
-        assert_eq!(rt; next_number(line, 0), found(Numeral::Value(12), 4));
-        assert_eq!(rt; next_number(line, 4), found(Numeral::NotDigits, 9));
-        assert_eq!(rt; next_number(line, 9), found(Numeral::Value(3), 27));
-        assert_eq!(rt; next_number(line, 27), None);
-    }
-
-    #[test]
-    fn numbers_end_at_64_bits(rt: HostRuntime) {
-        assert_eq!(rt; number(b"007"), Numeral::Value(7));
-        assert_eq!(rt; number(b"18446744073709551615"), Numeral::Value(u64::MAX));
-        assert_eq!(rt; number(b"18446744073709551616"), Numeral::TooLarge);
-        assert_eq!(rt; number(b"1a"), Numeral::NotDigits);
-        assert_eq!(rt; number(b""), Numeral::NotDigits);
-    }
 }

@@ -1,10 +1,10 @@
-use Rattle.std.proofs.Common.{◌≡◌, ◌∙◌, ◌<◌, ◌≤◌, ℕ, List, ◌+◌, ◌-◌, ◌*◌, ◌%◌, ◌^◌, get_or, ap, arith}
+use Rattle.std.proofs.Common.{◌≡◌, ◌∙◌, ◌<◌, ◌≤◌, ℕ, List, ◌+◌, ◌-◌, ◌*◌, ◌%◌, ◌^◌, get_or, refl, ap, arith}
 use Rattle.matrix_read.proofs.WordLemmas.{one_more_digit, few_digits}
 use Rattle.matrix_read.proofs.FewDigits.{digit_byte, value_fits, digit_more, value_more}
-use Rattle.matrix_read.proofs.words.more_digits.Goals as goal
+use Rattle.matrix_read.proofs.words.first_digits.Goals as goal
 
 pub loop-i-init : goal.loop-i-init
-loop-i-init c = record { digits = c.requires.known; value = λ few. (c.requires.value, c.requires.small) }
+loop-i-init c = record { digits = refl; value = λ few. (refl, omega arith) }
 
 pub loop-i-preserved : goal.loop-i-preserved
 loop-i-preserved c =

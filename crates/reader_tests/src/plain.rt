@@ -1,0 +1,37 @@
+// Lines in the plainest form.
+use matrix_read::{PlainPair, plain_pair};
+
+#[test]
+fn a_pair_is_two_numbers_and_a_line_feed(rt: HostRuntime) {
+    let text = b"12 7\n0 007\n123456789 1\n";
+    let found = |first, second, next| {
+        Some(PlainPair {
+            first,
+            second,
+            next,
+        })
+    };
+    assert_eq!(rt; plain_pair(text, 0), found(12, 7, 5));
+    assert_eq!(rt; plain_pair(text, 5), found(0, 7, 11));
+    assert_eq!(rt; plain_pair(text, 11), found(123456789, 1, 23));
+    assert_eq!(rt; plain_pair(text, 23), None);
+}
+
+#[test]
+fn another_line_is_no_plain_pair(rt: HostRuntime) {
+    let lines: [&[u8]; 10] = [
+        b"\n",
+        b"1\n",
+        b"1 2",
+        b"1 2\r\n",
+        b"1 2 \n",
+        b"1 2 3\n",
+        b"1  2\n",
+        b" 1 2\n",
+        b"1\t2\n",
+        b"1234567890 2\n",
+    ];
+    for line in lines {
+        assert_eq!(rt; plain_pair(line, 0), None);
+    }
+}
