@@ -1,6 +1,7 @@
 pub mod GraphLemmas
 pub mod ListLemmas
 pub mod PlaceLemmas
+pub mod BitLemmas
 pub mod EdgeSteps
 pub mod EdgeLemmas
 pub mod FileLemmas

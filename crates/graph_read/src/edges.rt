@@ -1,10 +1,10 @@
 // The edges that lines name, and the sides that they go between.
-ghost use Rattle.std.specs.Prelude.{◌≡◌, ◌≤◌, IfOk};
+ghost use Rattle.std.specs.Prelude.{◌≡◌, ◌≤◌, Some, IfOk, IsTrue};
 ghost use Rattle.matrix_read.specs.Words.{words_of};
-ghost use Rattle.graph_read.specs.Numbers.{one_number, two_numbers};
+ghost use Rattle.graph_read.specs.Numbers.{is_number, one_number, two_numbers};
 ghost use Rattle.graph_read.specs.Edges.{left_of, right_of, edge_named, sides_named, vertices_named};
 
-use crate::numbers::{is_past, is_within, is_zero, one_number, two_numbers, value_of};
+use crate::numbers::{NumberPair, is_past, is_within, is_zero, one_number, two_numbers, value_of};
 use row_model::{MAX_COLUMNS, code};
 
 /// An edge as a line names it.
@@ -61,9 +61,19 @@ pub fn edge_in(shape: Shape, line: &[u8]) -> Result<Edge, u8>
     ensures from { IfOk result (λ edge. (1 ≤ edge.from) × (edge.from ≤ left_of shape)) }
     ensures to { IfOk result (λ edge. (1 ≤ edge.to) × (edge.to ≤ right_of shape)) }
 {
-    let Some(pair) = two_numbers(line) else {
-        return Err(code::GRAMMAR);
-    };
+    match two_numbers(line) {
+        None => Err(code::GRAMMAR),
+        Some(pair) => edge_between(shape, pair),
+    }
+}
+
+/// The edge between two numbers, or the code of its refusal.
+pub fn edge_between(shape: Shape, pair: NumberPair) -> Result<Edge, u8>
+    requires numbers { IsTrue (is_number pair.first) × IsTrue (is_number pair.second) }
+    ensures edge { result ≡ edge_named shape (Some pair) }
+    ensures from { IfOk result (λ edge. (1 ≤ edge.from) × (edge.from ≤ left_of shape)) }
+    ensures to { IfOk result (λ edge. (1 ≤ edge.to) × (edge.to ≤ right_of shape)) }
+{
     if !is_within(shape.left(), pair.first) || !is_within(shape.right(), pair.second) {
         return Err(code::RANGE);
     }

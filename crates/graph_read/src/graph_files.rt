@@ -23,9 +23,10 @@ use std::alloc::Global;
 /// last by the limits.
 ///
 /// While it reads it keeps the edges in a list of four bytes each, whose room doubles as it grows: beside the graph up
-/// to eight bytes for each line, and up to twelve while the list moves to its new room. Where the edges ascend, first
-/// by x and then by y, the time is linear in the length of the file and the size of the left side. Else the edges are
-/// sorted, in place.
+/// to eight bytes for each line, and up to twelve while the list moves to its new room. Where there are at most 256
+/// pairs of an x and a y for each edge in that list, a table with a bit for each pair puts them in order, with at most
+/// 32 bytes for each line. The time is linear then in the length of the file and the size of the left side, and also
+/// where the edges ascend, first by x and then by y. Else the edges are sorted, in place.
 ///
 /// # Errors
 ///
@@ -61,8 +62,9 @@ pub fn read_bigraph(alloc: Global, bytes: &[u8], left_limit: u32) -> Result<Read
 /// the limit, and a later one last as a loop.
 ///
 /// While it reads it keeps each edge both ways in a list of four bytes a way, whose room doubles as it grows: beside
-/// the graph up to sixteen bytes for each line, and up to 24 while the list moves to its new room. The list is sorted,
-/// in place.
+/// the graph up to sixteen bytes for each line, and up to 24 while the list moves to its new room. Where there are at
+/// most 256 pairs of vertices for each way in that list, a table with a bit for each pair puts the list in order, with
+/// at most 64 bytes for each line, and the time is linear. Else the list is sorted, in place.
 ///
 /// # Errors
 ///

@@ -7,12 +7,14 @@
 mod bigraph;
 mod distance_files;
 mod distances;
+mod edge_lines;
 mod edges;
 mod graph;
 mod graph_files;
 mod laws;
 mod lists;
 mod numbers;
+mod ordered;
 mod places;
 mod read_lists;
 #[cfg(test)]

@@ -1,5 +1,6 @@
-// Edges as places in a table that has a row for each vertex of the left side. The table itself is never made.
+// Edges as places in a table that has a row for each vertex of the left side.
 ghost use Rattle.std.specs.Prelude.{◌≡◌, ◌+◌, ◌*◌, ◌-◌, ◌<◌, ◌≤◌, ◌^◌, ◌∷◌, ◌++◌, ◌||◌, [], ℕ, List, length, drop, slice_index_or, IfOk, OnOk};
+ghost use Rattle.std.specs.List.{All};
 ghost use Rattle.std.specs.List.Sorted.{IsNonDecreasing};
 ghost use Rattle.column_order.specs.Orders.{has};
 ghost use Rattle.row_model.specs.Rows.{IsRow};
@@ -21,7 +22,8 @@ pub fn push_edge(shape: Shape, places: &mut Vec<u32>, edge: Edge) -> Result<(), 
     requires small { (left_of shape ≤ LEFT_BOUND) × (right_of shape ≤ COLUMN_BOUND) }
     requires from { (1 ≤ edge.from) × (edge.from ≤ left_of shape) }
     requires to { (1 ≤ edge.to) × (edge.to ≤ right_of shape) }
-    ensures { OnOk result ((edges : List Edge) → ArePlaces (left_of shape) (right_of shape) (ways shape edges) places.old.items → ArePlaces (left_of shape) (right_of shape) (ways shape (edges ++ edge ∷ [])) places.new.items) }
+    ensures places { OnOk result ((edges : List Edge) → ArePlaces (left_of shape) (right_of shape) (ways shape edges) places.old.items → ArePlaces (left_of shape) (right_of shape) (ways shape (edges ++ edge ∷ [])) places.new.items) }
+    ensures within { OnOk result (All (λ place. place < left_of shape * right_of shape) places.old.items → All (λ place. place < left_of shape * right_of shape) places.new.items) }
 {
     places.push(place(shape.right(), edge))?;
     if let Shape::Plain { vertices } = shape {

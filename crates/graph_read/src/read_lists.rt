@@ -1,13 +1,15 @@
 // The lists of neighbours that lines of edges give.
-ghost use Rattle.std.specs.Prelude.{◌≡◌, ◌+◌, ◌≤◌, [], length, drop, Some, None, IfOk, IfSome, IfNone};
+ghost use Rattle.std.specs.Prelude.{◌≡◌, ◌+◌, ◌*◌, ◌<◌, ◌≤◌, [], length, drop, Some, None, IfOk, IfSome, IfNone, OnOk};
+ghost use Rattle.std.specs.List.{All};
 ghost use Rattle.matrix_read.specs.Lines.{lines_of, filled_lines};
 ghost use Rattle.graph_read.specs.Edges.{left_of, right_of, ways, edges_of, edge_refusal, lists_of_lines};
 ghost use Rattle.graph_read.specs.Places.{ArePlaces};
 
 use crate::LEFT_BOUND;
-use crate::edges::{Shape, edge_in};
+use crate::edge_lines::next_edge;
+use crate::edges::Shape;
+use crate::ordered::put_in_order;
 use crate::places::{lists_at, push_edge};
-use matrix_read::next_filled_line;
 use row_model::{COLUMN_BOUND, MAX_FILE_BYTES, Matrix, NoMemory, Read, Refusal};
 use std::alloc::Global;
 
@@ -15,8 +17,9 @@ use std::alloc::Global;
 ///
 /// Each line that is not blank is an edge. The edges may stand in any order, and each any number of times. Beside the
 /// lists themselves they are kept in a list of four bytes for each line, and eight where edges go both ways, whose room
-/// doubles as it grows: up to twice as much, and up to three times while the list moves to its new room. Where they
-/// stand in the order of the lists the time is linear; else they are sorted.
+/// doubles as it grows: up to twice as much, and up to three times while the list moves to its new room. Then it is put
+/// in order: by a table of bits where the sides have at most 256 pairs for each of its entries, which takes at most 32
+/// bytes for an entry and linear time; else it is sorted, in linear time where it is in order.
 ///
 /// # Errors
 ///
@@ -39,8 +42,10 @@ pub fn read_lists(
     match push_lines(shape, text, at, passed, &mut places)? {
         Some(refusal) => Ok(Read::Refused(refusal)),
         None => {
-            places.sort_unstable();
-            let lists = lists_at(alloc, shape.left(), shape.right(), &places)?;
+            let left = shape.left();
+            let right = shape.right();
+            put_in_order(alloc, left as usize * right as usize, &mut places)?;
+            let lists = lists_at(alloc, left, right, &places)?;
             Ok(Read::Ok(lists))
         }
     }
@@ -62,13 +67,14 @@ fn push_lines(
     ensures refused { IfOk result (λ r. IfSome r (λ refusal. edge_refusal shape (filled_lines (passed + 1) (lines_of (drop at text.now))) ≡ Some refusal)) }
     ensures taken { IfOk result (λ r. IfNone r (edge_refusal shape (filled_lines (passed + 1) (lines_of (drop at text.now))) ≡ None)) }
     ensures places { IfOk result (λ r. IfNone r (ArePlaces (left_of shape) (right_of shape) (ways shape (edges_of shape (filled_lines (passed + 1) (lines_of (drop at text.now))))) places.new.items)) }
+    ensures within { OnOk result (All (λ place. place < left_of shape * right_of shape) places.new.items) }
 {
     let mut number = passed;
     let mut place = at;
-    while let Some(line) = next_filled_line(text, place, number) {
-        number = line.number;
-        place = line.span.next;
-        match edge_in(shape, &text[line.span.start..line.span.end]) {
+    while let Some(found) = next_edge(shape, text, place, number) {
+        number = found.line.number;
+        place = found.line.span.next;
+        match found.edge {
             Err(code) => {
                 return Ok(Some(Refusal { code, line: number }));
             }

@@ -49,6 +49,66 @@ fn a_bipartite_graph_is_read_whatever_the_order(rt: HostRuntime) -> Result<(), F
 }
 
 #[test]
+fn edges_at_the_borders_of_words_are_kept(rt: HostRuntime) -> Result<(), Fail> {
+    let text = b"3 64\n3 64\n2 1\n1 64\n1 1\n2 1\n1 2\n";
+    let Read::Ok(graph) = read_bigraph(rt.alloc(), text, LEFT_BOUND)? else {
+        panic!(rt; "refused");
+    };
+    assert_eq!(rt; graph.left(), 3);
+    assert_eq!(rt; graph.neighbours(1), [1, 2, 64].as_slice());
+    assert_eq!(rt; graph.neighbours(2), [1].as_slice());
+    assert_eq!(rt; graph.neighbours(3), [64].as_slice());
+    Ok(())
+}
+
+#[test]
+fn few_edges_between_many_vertices_are_read(rt: HostRuntime) -> Result<(), Fail> {
+    let text = b"4 2048\n3 2048\n1 7\n3 1\n1 7\n3 64\n";
+    let Read::Ok(graph) = read_bigraph(rt.alloc(), text, LEFT_BOUND)? else {
+        panic!(rt; "refused");
+    };
+    assert_eq!(rt; graph.left(), 4);
+    assert_eq!(rt; graph.neighbours(1), [7].as_slice());
+    assert_eq!(rt; graph.neighbours(2), [].as_slice());
+    assert_eq!(rt; graph.neighbours(3), [1, 64, 2048].as_slice());
+    assert_eq!(rt; graph.neighbours(4), [].as_slice());
+    Ok(())
+}
+
+#[test]
+fn a_graph_is_read_whatever_form_its_lines_have(rt: HostRuntime) -> Result<(), Fail> {
+    let text = b"4\n3 4\n1\t2\n 2 3 \n\n4 3\n2 1\r\n0000000002 1\n4 3";
+    let Read::Ok(graph) = read_graph(rt.alloc(), text)? else {
+        panic!(rt; "refused");
+    };
+    assert_eq!(rt; graph.vertices(), 4);
+    assert_eq!(rt; graph.neighbours(1), [2].as_slice());
+    assert_eq!(rt; graph.neighbours(2), [1, 3].as_slice());
+    assert_eq!(rt; graph.neighbours(3), [2, 4].as_slice());
+    assert_eq!(rt; graph.neighbours(4), [3].as_slice());
+    Ok(())
+}
+
+#[test]
+fn a_refused_edge_has_its_line_whatever_stands_before(rt: HostRuntime) -> Result<(), Fail> {
+    let cases: [(&[u8], u8, u32); 6] = [
+        (b"2 3\n1 2\n1 4\n", 4, 3),
+        (b"2 3\n1 2\n0 1\n", 4, 3),
+        (b"2 3\n1 2\n\n1\t2\n3 1\n", 4, 5),
+        (b"2 3\n1 2\n1 2 3\n", 2, 3),
+        (b"2 3\n\n1 2\n1 4294967297\n", 4, 4),
+        (b"2 3\n1 2\n1 -2\n", 2, 3),
+    ];
+    for (text, code, line) in cases {
+        match read_bigraph(rt.alloc(), text, LEFT_BOUND)? {
+            Read::Ok(_) => panic!(rt; "a graph in place of {code}, {line}"),
+            Read::Refused(refusal) => assert_eq!(rt; refusal, Refusal { code, line }),
+        }
+    }
+    Ok(())
+}
+
+#[test]
 fn the_path_of_four_vertices_is_read(rt: HostRuntime) -> Result<(), Fail> {
     let Read::Ok(graph) = read_graph(rt.alloc(), b"4\n1 2\n2 3\n3 4\n")? else {
         panic!(rt; "refused");
