@@ -17,8 +17,6 @@ mod numbers;
 mod ordered;
 mod places;
 mod read_lists;
-#[cfg(test)]
-mod tests;
 
 pub use bigraph::Bigraph;
 pub use distance_files::read_distances;

@@ -1,10 +1,12 @@
-//! Tests of the readers of matrices, and of the lines, words and numbers that they are read by.
+//! Tests of the readers of matrices and graphs, and of the lines, words and numbers that they are read by.
 #![tactic(auto)]
 
 #[cfg(test)]
 mod clones;
 #[cfg(test)]
 mod dense;
+#[cfg(test)]
+mod graphs;
 #[cfg(test)]
 mod lines;
 #[cfg(test)]

@@ -1,5 +1,5 @@
 // Graphs and their files.
-use crate::*;
+use graph_read::{Bigraph, Distances, Graph, LEFT_BOUND, read_bigraph, read_distances, read_graph};
 use row_model::{Read, Refusal};
 use std::test::Fail;
 
