@@ -5,9 +5,9 @@
 //! end. So no order is begun in vain.
 #![tactic(auto)]
 
-ghost use Rattle.std.specs.Prelude.{◌≡◌, ◌↔◌, ◌≤◌, ◌+◌, ℕ, List, IfOk, IsTrue, length};
+ghost use Rattle.std.specs.Prelude.{◌≡◌, ◌↔◌, ◌≤◌, IfOk, IsTrue};
 ghost use Rattle.pq_tree.specs.Outline.{IsFrontier};
-ghost use Rattle.pq_tree.specs.PqTree.{column_count, outline};
+ghost use Rattle.pq_tree.specs.PqTree.{outline};
 ghost use Rattle.order_list.specs.First.{AreFirst, HasOther};
 
 mod orders;
@@ -49,6 +49,3 @@ pub fn first(alloc: Global, tree: &PqTree, count: u32) -> Result<Orders, NoMemor
     read_on(alloc, &all, &mut columns, count, &mut found)?;
     Ok(found)
 }
-
-#[cfg(test)]
-mod tests;

@@ -33,33 +33,6 @@ fn texts_and_canonical_forms(rt: HostRuntime) -> Result<(), Fail> {
     Ok(())
 }
 
-#[test]
-fn universal_trees(rt: HostRuntime) -> Result<(), Fail> {
-    let alloc = rt.alloc();
-    for (c, text) in [(1, b"1".as_slice()), (3, b"(1 2 3)".as_slice())] {
-        let tree = PqTree::universal(alloc, c)?;
-        let canonical = tree.canonical(alloc)?;
-        let mut printed = Vec::new(alloc);
-        canonical.print(&mut printed)?;
-        assert_eq!(rt; printed.as_slice(), text);
-        assert_eq!(rt; tree.columns(), c);
-        let is_leaf = matches!(tree.root().view(), View::Leaf(1));
-        assert_eq!(rt; is_leaf, c == 1);
-        assert_eq!(rt; tree.frontier(alloc)?.len(), c as usize);
-        let is_leaf = matches!(tree.into_tree().view(), View::Leaf(1));
-        assert_eq!(rt; is_leaf, c == 1);
-    }
-    Ok(())
-}
-
-#[test]
-fn a_tree_of_one_leaf(rt: HostRuntime) -> Result<(), Fail> {
-    let mut text = Vec::new(rt.alloc());
-    PqTree::from_tree(1, Tree::leaf(1)).print(&mut text)?;
-    assert_eq!(rt; text.as_slice(), b"1".as_slice());
-    Ok(())
-}
-
 // A P-node over P-nodes, 2,047 deep, over the columns 1 to 2,048 from right to left.
 fn deep_tree(alloc: Global) -> Result<Tree, NoMemory> {
     let mut tree = Tree::leaf(2048);

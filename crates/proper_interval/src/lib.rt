@@ -23,6 +23,3 @@ pub use laws::{closed_rows_law, model_law, umbrella_law};
 pub use model::fits;
 pub use row_model::NoMemory;
 pub use rows::closed_rows;
-
-#[cfg(test)]
-mod tests;

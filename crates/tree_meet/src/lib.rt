@@ -19,6 +19,3 @@ pub use count::row_count;
 pub use laws::{common_law, tree_rows_law};
 pub use row_model::NoMemory;
 pub use rows::tree_rows;
-
-#[cfg(test)]
-mod tests;

@@ -26,6 +26,3 @@ pub use row_model::NoMemory;
 pub use rule::model;
 pub use text::UnitText;
 pub use write::print_unit;
-
-#[cfg(test)]
-mod tests;

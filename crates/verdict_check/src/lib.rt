@@ -69,8 +69,6 @@ mod judge;
 mod outcome;
 mod repeats;
 mod side;
-#[cfg(test)]
-mod tests;
 mod unit;
 
 pub use core_check::{check_core, core_laws};

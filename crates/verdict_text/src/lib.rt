@@ -31,8 +31,6 @@ ghost use Rattle.verdict_text.specs.Text.{verdict_text};
 ghost use Rattle.verdict_text.specs.Value.{verdict_value};
 
 mod read;
-#[cfg(test)]
-mod tests;
 mod verdict;
 mod write;
 

@@ -1,22 +1,10 @@
 // The path of four vertices, worked by hand.
-ghost use Rattle.std.specs.Prelude.{◌≡◌, IfOk};
-
-use super::*;
+use crate::graphs::path;
 use graph_read::Graph;
-use row_model::{Interval, Intervals, is_order};
+use proper_interval::{closed_rows, fits, intervals, umbrella_law};
+use row_model::{Interval, Intervals, NoMemory, is_order};
 use std::alloc::Global;
 use std::test::Fail;
-
-// The graph with the edges 12, 23 and 34.
-fn path(alloc: Global) -> Result<Graph, NoMemory>
-    ensures { IfOk result (λ g. g.vertices ≡ 4) }
-{
-    let mut graph = Graph::new(alloc, 4)?;
-    graph.add_edge(1, 2)?;
-    graph.add_edge(2, 3)?;
-    graph.add_edge(3, 4)?;
-    Ok(graph)
-}
 
 // The intervals of an order, if it is an umbrella order.
 fn intervals_if_umbrella(

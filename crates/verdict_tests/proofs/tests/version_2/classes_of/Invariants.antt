@@ -1,4 +1,4 @@
-use Rattle.verdict_check.proofs.tests.version_2.classes_of.Given as goal
+use Rattle.verdict_tests.proofs.tests.version_2.classes_of.Given as goal
 
 abbrev pub ghosts-classes_counted : goal.ghosts-classes_counted
 ghosts-classes_counted a = record { name = a.blank.name; parts = a.blank.parts }

@@ -1,23 +1,13 @@
 // The path of four vertices, the triangle and two vertices without an edge, worked by hand.
-ghost use Rattle.std.specs.Prelude.{◌≡◌, ◌≤◌, IfOk};
+ghost use Rattle.std.specs.Prelude.{◌≤◌};
 
-use super::*;
+use crate::graphs::path;
 use graph_read::Graph;
 use proper_interval::{closed_rows, umbrella_law};
-use row_model::{Interval, Intervals, is_order};
+use row_model::{Interval, Intervals, NoMemory, is_order};
 use std::alloc::Global;
 use std::test::Fail;
-
-// The graph with the edges 12, 23 and 34.
-fn path(alloc: Global) -> Result<Graph, NoMemory>
-    ensures { IfOk result (λ g. g.vertices ≡ 4) }
-{
-    let mut graph = Graph::new(alloc, 4)?;
-    graph.add_edge(1, 2)?;
-    graph.add_edge(2, 3)?;
-    graph.add_edge(3, 4)?;
-    Ok(graph)
-}
+use unit_model::{model, parse_unit, print_unit, unit_fits};
 
 // The unit model of an order, if it is an umbrella order.
 fn model_if_umbrella(
@@ -33,7 +23,7 @@ fn model_if_umbrella(
     Ok(Some(model(alloc, g, order)?))
 }
 
-fn interval(left: u64, length: u32) -> Interval
+fn interval_from(left: u64, length: u32) -> Interval
     requires { left ≤ 1000 }
 {
     Interval {
@@ -51,10 +41,10 @@ fn a_path_goes_up_by_layers(rt: HostRuntime) -> Result<(), Fail> {
     let Some(back) = model_if_umbrella(rt.alloc(), &graph, &[4, 3, 2, 1])? else {
         panic!(rt; "no umbrella order");
     };
-    let a = interval(3, 4);
-    let b = interval(6, 4);
-    let c = interval(9, 4);
-    let d = interval(12, 4);
+    let a = interval_from(3, 4);
+    let b = interval_from(6, 4);
+    let c = interval_from(9, 4);
+    let d = interval_from(12, 4);
     assert_eq!(rt; forth.as_slice(), [a, b, c, d].as_slice());
     assert_eq!(rt; back.as_slice(), [d, c, b, a].as_slice());
     Ok(())
@@ -69,7 +59,11 @@ fn a_layer_stands_together(rt: HostRuntime) -> Result<(), Fail> {
     let Some(model) = model_if_umbrella(rt.alloc(), &triangle, &[1, 2, 3])? else {
         panic!(rt; "no umbrella order");
     };
-    let list = [interval(2, 3), interval(3, 3), interval(4, 3)];
+    let list = [
+        interval_from(2, 3),
+        interval_from(3, 3),
+        interval_from(4, 3),
+    ];
     assert_eq!(rt; model.as_slice(), list.as_slice());
     Ok(())
 }
@@ -82,7 +76,7 @@ fn components_lie_apart(rt: HostRuntime) -> Result<(), Fail> {
     };
     assert_eq!(rt;
         model.as_slice(),
-        [interval(0, 2), interval(4, 2)].as_slice()
+        [interval_from(0, 2), interval_from(4, 2)].as_slice()
     );
     Ok(())
 }

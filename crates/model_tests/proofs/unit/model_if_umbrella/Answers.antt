@@ -1,7 +1,7 @@
 use Rattle.std.proofs.Common.{ℕ, All, subst}
 use Rattle.column_order.specs.Orders.{IsOrder, Keeps}
 use Rattle.row_model.specs.Rows.{RowList}
-use Rattle.unit_model.proofs.tests.model_if_umbrella.Goals as goal
+use Rattle.model_tests.proofs.unit.model_if_umbrella.Goals as goal
 
 pub model-requires : goal.model-requires
 model-requires c =

@@ -3,7 +3,7 @@ ghost use Rattle.std.specs.Prelude.{◌≡◌, ◌<◌, ◌≤◌, IfOk, length}
 ghost use Rattle.instance_model.specs.Instance.{IsInstance};
 ghost use Rattle.instance_model.specs.Value.{instance_value};
 
-use crate::{Checked, Instance, Reason, check, complete};
+use super::version_1::spider;
 use graph_read::Bigraph;
 use incompat_graph::{Classes, even_classes};
 use pq_tree::PqTree;
@@ -12,6 +12,7 @@ use std::alloc::Global;
 use std::process::Abort;
 use std::test::Fail;
 use step_count::{Blank, Brand, Ledger, Steps};
+use verdict_check::{Checked, Instance, Reason, check, complete};
 use verdict_text::parse;
 
 const VERSION_1: &[u8] = b"pq-verdict 1\n";
@@ -115,20 +116,6 @@ fn fork(alloc: Global) -> Result<Instance, Fail>
     g.add_edge(1, 1)?;
     g.add_edge(2, 1)?;
     g.add_edge(3, 1)?;
-    Ok(Instance::Doubly(g))
-}
-
-// Each of three ys has the x 1 and one x of its own. The ys may stand in any order, and the xs in none.
-fn spider(alloc: Global) -> Result<Instance, Fail>
-    ensures { IfOk result (λ i. IsInstance (instance_value i)) }
-{
-    let mut g = Bigraph::new(alloc, 4, 3)?;
-    g.add_edge(1, 1)?;
-    g.add_edge(2, 1)?;
-    g.add_edge(1, 2)?;
-    g.add_edge(3, 2)?;
-    g.add_edge(1, 3)?;
-    g.add_edge(4, 3)?;
     Ok(Instance::Doubly(g))
 }
 

@@ -1,8 +1,10 @@
 // Small trees, whose orders are listed by hand.
 ghost use Rattle.std.specs.Prelude.{◌≤◌};
-ghost use Rattle.column_order.specs.declared.TheConstants.{COLUMN_BOUND};
 
-use super::*;
+use column_order::COLUMN_BOUND;
+use order_list::{MAX_ORDERS, NoMemory, first};
+use pq_tree::PqTree;
+use std::alloc::Global;
 use std::process::Abort;
 use std::test::Fail;
 

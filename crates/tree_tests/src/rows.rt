@@ -2,12 +2,12 @@
 ghost use Rattle.std.specs.Prelude.{◌≡◌, ◌≤◌, IfOk};
 ghost use Rattle.pq_tree.specs.PqTree.{column_count};
 
-use super::*;
 use pq_tree::PqTree;
 use row_model::Matrix;
 use std::alloc::Global;
 use std::process::Abort;
 use std::test::Fail;
+use tree_meet::{row_count, tree_rows};
 
 // The tree with this text.
 fn tree_of(alloc: Global, text: &[u8], c: u32) -> Result<PqTree, Fail>

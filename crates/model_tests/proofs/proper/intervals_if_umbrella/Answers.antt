@@ -1,7 +1,7 @@
 use Rattle.std.proofs.Common.{ℕ, All, subst}
 use Rattle.column_order.specs.Orders.{IsOrder, Keeps}
 use Rattle.row_model.specs.Rows.{RowList}
-use Rattle.proper_interval.proofs.tests.intervals_if_umbrella.Goals as goal
+use Rattle.model_tests.proofs.proper.intervals_if_umbrella.Goals as goal
 
 pub intervals-requires : goal.intervals-requires
 intervals-requires c =

@@ -1,13 +1,13 @@
 // Verdicts that are printed from values and read back.
 ghost use Rattle.std.specs.Prelude.{◌≤◌};
 
-use crate::{Columns, NoPart, Part, Verdict, Version, YesPart, parse, print};
 use pq_tree::PqTree;
 use row_model::{
     COLUMN_BOUND, Interval, Intervals, Kind, Line, Lines, Pair, Place, Places, Span, Spans, Why,
 };
 use std::alloc::Global;
 use std::test::Fail;
+use verdict_text::{Columns, NoPart, Part, Verdict, Version, YesPart, parse, print};
 
 const PATH: &[u8] =
     b"pq-verdict 1\nkind proper\ncolumns 4\nanswer yes\ntree [1 2 3 4]\norder 1 2 3 4\ninterval 1 5 11\ninterval 2 10 17\ninterval 3 15 23\ninterval 4 20 24\nend\n";

@@ -3,15 +3,12 @@ ghost use Rattle.std.specs.Prelude.{IfOk};
 ghost use Rattle.instance_model.specs.Instance.{IsInstance};
 ghost use Rattle.instance_model.specs.Value.{instance_value};
 
-use crate::{Checked, Instance, Reason, check};
 use graph_read::{Bigraph, Graph};
 use row_model::{Kind, Matrix};
 use std::alloc::Global;
 use std::test::Fail;
+use verdict_check::{Checked, Instance, Reason, check};
 use verdict_text::parse;
-
-mod unit_models;
-mod version_2;
 
 const PATH: &[u8] =
     b"pq-verdict 1\nkind matrix\ncolumns 3\nanswer yes\ntree [1 2 3]\norder 1 2 3\nend\n";
@@ -120,7 +117,7 @@ fn zigzag(alloc: Global) -> Result<Instance, Fail>
 }
 
 // Each of three ys has the x 1 and one x of its own.
-fn spider(alloc: Global) -> Result<Instance, Fail>
+pub fn spider(alloc: Global) -> Result<Instance, Fail>
     ensures { IfOk result (λ i. IsInstance (instance_value i)) }
 {
     let mut g = Bigraph::new(alloc, 4, 3)?;

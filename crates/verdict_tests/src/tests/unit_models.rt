@@ -1,8 +1,8 @@
 // Unit models of the path of four vertices, worked by hand.
-use crate::{UnitChecked, check_unit};
 use graph_read::Graph;
 use std::test::Fail;
 use unit_model::UnitText;
+use verdict_check::{UnitChecked, check_unit};
 
 #[test]
 fn a_unit_model_is_judged(rt: HostRuntime) -> Result<(), Fail> {

@@ -1,0 +1,5 @@
+mod holds;
+mod texts;
+mod unit_models;
+mod version_1;
+mod version_2;
