@@ -1,5 +1,6 @@
-//! Tests of the arena and of the bubble pass over trees that are built by calls: random ones, against a plain
-//! definition of what a pass has to find, and large ones. The crate has no running code.
+//! Tests of the arena, of the bubble pass and of the full pass over trees that are built by calls: random ones, against
+//! a plain definition of what a bubble pass has to find, large ones, and small ones that were worked by hand. The crate
+//! has no running code.
 #![tactic(auto)]
 
 #[cfg(test)]

@@ -5,12 +5,15 @@ mod answers;
 mod bounds;
 mod calls;
 mod fronts;
+mod full;
 mod large;
 mod passes;
 mod pictures;
 mod plain;
 mod random;
+mod rows;
 mod splices;
+mod universal;
 mod walks;
 
 use large::{chain, lines, nest, star};

@@ -8,8 +8,6 @@ mod labels;
 mod laws;
 mod pass;
 mod tables;
-#[cfg(test)]
-mod tests;
 mod work;
 
 pub use labels::Label;

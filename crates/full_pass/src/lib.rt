@@ -10,8 +10,6 @@
 mod entries;
 mod joins;
 mod settled;
-#[cfg(test)]
-mod tests;
 mod work;
 
 pub use settled::{Settled, settle};

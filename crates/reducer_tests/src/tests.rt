@@ -1,4 +1,6 @@
+mod alone;
 mod both;
 mod drawn;
 mod small;
+mod texts;
 mod worked;

@@ -14,7 +14,5 @@ mod pace;
 mod reducer;
 mod rows;
 mod template;
-#[cfg(test)]
-mod tests;
 
 pub use reducer::ArenaReducer;

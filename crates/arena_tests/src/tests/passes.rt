@@ -23,11 +23,12 @@ pub fn is_row(columns: u32, row: &[u32]) -> bool
     true
 }
 
-// The pass over the first row of a matrix.
-fn pass<L: Ledger>(
+/// The pass over row `k`, once all its conditions were seen to hold.
+pub fn pass<L: Ledger>(
     rt: &impl Abort,
     arena: &mut Arena,
     m: &Matrix,
+    k: u32,
     work: &mut Work,
     steps: &mut Steps<L>,
 ) -> Found {
@@ -35,10 +36,11 @@ fn pass<L: Ledger>(
     assert!(rt; arena.has_two_each());
     assert!(rt; arena.columns() == m.columns());
     assert!(rt; work.is_for(m.columns()));
-    assert!(rt; 1 <= m.rows());
-    assert!(rt; !m.row(1).is_empty());
+    assert!(rt; 1 <= k);
+    assert!(rt; k <= m.rows());
+    assert!(rt; !m.row(k).is_empty());
     arena.layout_law();
-    bubble(arena, m, 1, work, steps)
+    bubble(arena, m, k, work, steps)
 }
 
 /// The pass over a row.
@@ -56,7 +58,7 @@ pub fn ask<L: Ledger>(
     assert!(rt; is_row(columns, row));
     let mut m = Matrix::new(alloc, columns)?;
     m.push_row(row)?;
-    Ok(pass(rt, arena, &m, work, steps))
+    Ok(pass(rt, arena, &m, 1, work, steps))
 }
 
 /// Room for passes over the arena.

@@ -177,10 +177,39 @@ pub fn put_columns<L: Ledger>(
     steps: &mut Steps<L>,
 ) {
     for column in columns {
-        let n = leaf(rt, arena, *column);
-        detach(rt, arena, n, steps);
-        put_under(rt, arena, node, 1, n, steps);
+        put_column(rt, arena, node, *column, steps);
     }
+}
+
+// Puts a column that stands under a P-node behind the children of a node.
+fn put_column<L: Ledger>(
+    rt: &impl Abort,
+    arena: &mut Arena,
+    node: NodeId,
+    column: u32,
+    steps: &mut Steps<L>,
+) {
+    let n = leaf(rt, arena, column);
+    detach(rt, arena, n, steps);
+    put_under(rt, arena, node, 1, n, steps);
+}
+
+/// Takes a Q-node where `line` holds, else a P-node, for the columns from 1 to `last` under the root, where it stands
+/// instead of them.
+pub fn put_together<L: Ledger>(
+    rt: &impl Abort,
+    arena: &mut Arena,
+    line: bool,
+    last: u32,
+    steps: &mut Steps<L>,
+) -> NodeId {
+    let node = take(rt, arena, line, steps);
+    for column in 1..=last {
+        put_column(rt, arena, node, column, steps);
+    }
+    let root = arena.root();
+    put_under(rt, arena, root, 1, node, steps);
+    node
 }
 
 // The children of the node are the leaves of these columns, from left to right. All links of the tree are tested too.

@@ -1,4 +1,4 @@
-use Rattle.std.proofs.Common.{rules, ◌≡◌, ◌∙◌, ◌+◌, ◌*◌, ◌≤◌, length, [], IsTrue, ap, sym, arith}
+use Rattle.std.proofs.Common.{rules, ◌≡◌, ◌∙◌, ◌+◌, ◌-◌, ◌*◌, ◌≤◌, length, [], IsTrue, ap, sym, arith}
 use Rattle.std.proofs.lemmas.Option.{get_or_from_slice_get}
 use Rattle.row_model.specs.Graph.{row_at}
 use Rattle.bubble_pass.specs.Marks.{size_of}
@@ -14,7 +14,7 @@ bubble-requires-clause-room g c =
 
 pub bubble-requires-clause-some : goal.bubble-requires-clause-some
 bubble-requires-clause-some g c = λ e.
-    let same : row_at c.args.m.now.rows 1 ≡ c.row.result.now = get_or_from_slice_get c.args.m.now.rows 0 c.row.result.now [] c.row.ensures.row in
+    let same : row_at c.args.m.now.rows c.args.k ≡ c.row.result.now = get_or_from_slice_get c.args.m.now.rows (c.args.k - 1) c.row.result.now [] c.row.ensures.row in
     let some : 1 ≤ length c.row.result.now = search rules in
     let none : length c.row.result.now ≡ 0 = ap length (sym same ∙ e) in
     omega arith
