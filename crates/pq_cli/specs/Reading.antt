@@ -1,6 +1,6 @@
 -- What the reading of one file gives. A shelf is seen by the bytes of its files, the names that it was asked for, and
 -- its count of faults.
-use Rattle.std.specs.Prelude.{◌≡◌, ◌≢◌, ◌⊎◌, ⊤, ℕ, ◌≤◌, List, [], ◌∷◌, ◌++◌, Option, IfSome, Result, IfOk, IfErr}
+use Rattle.std.specs.Prelude.{◌≡◌, ◌≢◌, ◌⊎◌, ⊤, ℕ, ◌≤◌, List, [], ◌∷◌, ◌++◌, Option, IfSome, Result, Ok, Err, IfOk, IfErr}
 use Rattle.pq_io.specs.Faults.{Rose}
 use Rattle.pq_io.specs.Whole.{IsWhole}
 use Rattle.pq_io.specs.declared.reading.Whole.{Whole}
@@ -44,6 +44,11 @@ pub record ReadsFile {S V : Type 0} (content : S → List ℕ → Option (List �
   pub refused : IfErr result (λ s. IfSome (content old name) (λ bytes. IsStopAt which (reads bytes) s))
   pub holds_of_value : IfOk result (λ value. holds (read.Ok value))
   pub holds_of_refusal : IfErr result (IsStopAt which holds)
+
+-- the value that was read of the file with this number, or its refusal
+abbrev pub value_of : {V : Type 0} → ℕ → Read V → Result V Stop
+value_of which (read.Ok value) = Ok value
+value_of which (read.Refused refusal) = Err (stop.Refused which refusal)
 
 -- a value was read, and no refusal
 abbrev pub IsRead : {V : Type 0} → Read V → Type 0

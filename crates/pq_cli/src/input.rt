@@ -1,8 +1,8 @@
 // The files of a command: each is read whole, and its bytes by the form that it should have.
-ghost use Rattle.std.specs.Prelude.{◌≡◌, ◌≤◌, ◌^◌, List, ℕ, IfOk, IfErr, IfSome};
+ghost use Rattle.std.specs.Prelude.{◌≡◌, ◌≤◌, ◌^◌, List, ℕ, IsOk, IfOk, IfErr, IfSome};
 ghost use Rattle.row_model.specs.declared.code.TheConstants.{LIMIT};
 ghost use Rattle.pq_io.specs.Whole.{IsWhole};
-ghost use Rattle.pq_cli.specs.Reading.{AsksOne, OnlyReads, IsReadStop, ReadsFile};
+ghost use Rattle.pq_cli.specs.Reading.{AsksOne, OnlyReads, IsReadStop, ReadsFile, value_of};
 ghost use Rattle.pq_cli.specs.Stops.{read_status};
 
 use crate::NoMemory;
@@ -36,11 +36,12 @@ pub trait FileForm {
     ///
     /// # Errors
     ///
-    /// Memory is refused.
+    /// Memory is refused. A file that is too long takes none.
     fn read(&self, alloc: Global, whole: Whole) -> Result<Read<Self::Value>, NoMemory>
         ensures reads { IfOk result (λ made.
             (bytes : List ℕ) → IsWhole MAX_BYTES bytes whole → reads self.now bytes made) }
-        ensures holds { IfOk result (holds self.now) };
+        ensures holds { IfOk result (holds self.now) }
+        ensures long { whole ≡ Whole.TooLong → IsOk result };
 }
 
 /// What is in the file of this name, which has this number among those of the command.
@@ -60,7 +61,14 @@ pub fn read_file<F: Shelf, V: Drop, R: FileForm<Value = V>>(
         (R.reads form.now) (R.holds form.now) result }
 {
     let whole = read_bytes(alloc, name, R::MAX_BYTES, files)?;
-    match form.read(alloc, whole)? {
+    value_of(which, form.read(alloc, whole)?)
+}
+
+// The value that was read of the file with this number, or its refusal.
+fn value_of<V: Drop>(which: u8, read: Read<V>) -> Result<V, Stop>
+    ensures { result ≡ value_of which read }
+{
+    match read {
         Read::Ok(value) => Ok(value),
         Read::Refused(refusal) => Err(Stop::Refused(which, refusal)),
     }

@@ -1,5 +1,5 @@
 // The text of a list of orders.
-ghost use Rattle.std.specs.Prelude.{◌≡◌, ◌++◌, ◌∷◌, [], flat_map, IfOk, OnOk, codes};
+ghost use Rattle.std.specs.Prelude.{◌≡◌, ◌+◌, ◌*◌, ◌≤◌, ◌++◌, ◌∷◌, [], flat_map, IfOk, OnOk, codes};
 ghost use Rattle.verdict_text.specs.Text.{number_word, kind_line, columns_line};
 ghost use Rattle.solve_replies.specs.Lists.{order_line, orders_text, more_line, list_text};
 
@@ -38,7 +38,9 @@ pub fn printed_list(
 }
 
 // How many bytes the text has at most where there are at most 9,999 columns.
-fn room(columns: u32, orders: u32) -> usize {
+fn room(columns: u32, orders: u32) -> usize
+    ensures { result ≤ (ROOM_PER_COLUMN * columns + ROOM_PER_ORDER) * orders + ROOM_BESIDE }
+{
     let line = ROOM_PER_COLUMN * columns as usize + ROOM_PER_ORDER;
     line.saturating_mul(orders as usize)
         .saturating_add(ROOM_BESIDE)
