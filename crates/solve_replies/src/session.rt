@@ -1,5 +1,5 @@
 // A session: what becomes of further rows, told row by row.
-ghost use Rattle.std.specs.Prelude.{◌≡◌, ◌+◌, ◌<◌, ◌≤◌, ℕ, [], ◌∷◌, ◌++◌, length, IfOk, OnOk, codes};
+ghost use Rattle.std.specs.Prelude.{◌≡◌, ◌+◌, ◌*◌, ◌<◌, ◌≤◌, ℕ, [], ◌∷◌, ◌++◌, length, IfOk, OnOk, codes};
 ghost use Rattle.row_model.specs.Rows.{IsRow};
 ghost use Rattle.verdict_text.specs.Text.{kind_line, columns_line};
 ghost use Rattle.solve_replies.specs.Sessions.{outcome_text, IsSessionText};
@@ -37,7 +37,9 @@ pub fn session_reply<L: Ledger>(
 
 // How many bytes the text has at most where no row is refused, as in a verdict, with up to 10 more for each of at most
 // 999,999 rows.
-fn room(further: &Matrix) -> usize {
+fn room(further: &Matrix) -> usize
+    ensures { result ≤ 96 + 12 * further.now.columns + 10 * length further.now.rows }
+{
     96 + 12 * further.columns() as usize + 10 * further.rows() as usize
 }
 
