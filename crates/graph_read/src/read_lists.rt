@@ -18,8 +18,8 @@ use std::alloc::Global;
 /// Each line that is not blank is an edge. The edges may stand in any order, and each any number of times. Beside the
 /// lists themselves they are kept in a list of four bytes for each line, and eight where edges go both ways, whose room
 /// doubles as it grows: up to twice as much, and up to three times while the list moves to its new room. Then it is put
-/// in order: by a table of bits where the sides have at most 256 pairs for each of its entries, which takes at most 32
-/// bytes for an entry and linear time; else it is sorted, in linear time where it is in order.
+/// in order: by a table of bits where the sides have at most 256 pairs for each of its entries, and at most 2^25 in all,
+/// which takes at most 4 MiB and linear time; else it is sorted, in linear time where it is in order.
 ///
 /// # Errors
 ///
