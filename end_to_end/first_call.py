@@ -69,6 +69,12 @@ if sys.argv[1] == "run":
 TOOLS = ["sh", "cat", "dirname", "find", "python3", "readlink"]
 
 
+def heard():
+    """Has a call hear the signals that it is sent, also where these checks were started with some ignored, as by `nohup`."""
+    for number in (signal.SIGHUP, signal.SIGINT, signal.SIGTERM):
+        signal.signal(number, signal.SIG_DFL)
+
+
 class Copy:
     """A copy of what the first call reads, in a folder, with the stand-in for the toolchain."""
 
@@ -114,7 +120,7 @@ class Copy:
     def start_as(self, command):
         """A command that is begun, by which only the tools of the folder are found."""
         return subprocess.Popen(command, env={**os.environ, "PATH": self.path("bin")}, stdin=subprocess.PIPE, stdout=subprocess.PIPE,
-                                stderr=subprocess.PIPE, start_new_session=True)
+                                stderr=subprocess.PIPE, start_new_session=True, preexec_fn=heard)
 
     def wait_for(self, note):
         """Waits until the stand-in has noted this."""
