@@ -9,5 +9,9 @@ is_fresh() {
         [ -z "$(find "$home/crates" "$home/crates.txt" -name out -prune -o \( -name '*.rt' -o -name '*.antt' -o -name crates.txt \) -newer "$program" -print -quit)" ]
 }
 
+if [ ! -f "$home/scripts/build.py" ]; then
+    echo "pq: this copy of ./pq is not in its checkout: make a link to it instead" >&2
+    exit 70
+fi
 is_fresh || exec python3 "$home/scripts/build.py" run "$@"
 exec "$program" "$@"

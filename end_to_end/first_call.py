@@ -4,13 +4,13 @@ what is not proved, and leaves words, streams and status alone.
 
 Usage: end_to_end/first_call.py
 
-It is tried in a copy of what the call reads, with a stand-in for the toolchain: a script that takes a moment for each crate, keeps what it
-made, works alone in a crate's folder and in those below it as the toolchain does, and notes when it begins and ends. So the checks take
-seconds, and say nothing of proofs.
+It is tried in a copy of what the call reads, with a stand-in for the toolchain: scripts of which one takes a moment for each crate, and
+notes when it begins and ends. So the checks take seconds, and say nothing of proofs.
 The last line is `N passed, N failed`; the status is 0 where nothing failed.
 """
 
 import os
+import shlex
 import shutil
 import signal
 import subprocess
@@ -24,46 +24,41 @@ SECONDS = 60
 # The crates of the copy, each with those that it stands on: two chains that meet.
 CRATES = {"low": [], "left": ["low"], "right": ["low"], "far": ["right"], "pq": ["left", "far", "csv"]}
 LISTED = "# Each crate with those that it stands on.\n" + "".join(f"{name}: {' '.join(below)}\n" for name, below in CRATES.items())
-TOOLCHAIN = """#!/usr/bin/env python3
-import fcntl, os, sys, time
-root, crate = os.path.dirname(os.path.dirname(os.getcwd())), os.path.basename(os.getcwd())
-top = root
-while not os.path.exists(os.path.join(top, "notes")):
-    top = os.path.dirname(top)
+PROVER = """#!/usr/bin/env python3
+import os, sys, time
+words = sys.argv[1:]
+crate, made = words[words.index("--crate-name") + 1], words[words.index("-o") + 1]
+top = os.path.dirname(os.path.dirname(os.getcwd()))
 
 def note(what):
     with open(os.path.join(top, "notes"), "a") as notes:
         notes.write(f"{what} {crate}\\n")
 
-lines = [line.partition(":") for line in open(os.path.join(root, "crates.txt")) if line[0] != "#"]
-listed = {name: below.split() for name, _, below in lines}
-
-def with_below(name):
-    return {name}.union(*[with_below(one) for one in listed[name] if one in listed])
-
-for name in listed:
-    if not os.path.isdir(os.path.join(root, "crates", name, "src")):
-        sys.exit(f"there is no folder of {name}")
-os.makedirs("out", exist_ok=True)
-for name in sorted(with_below(crate)):
-    fcntl.flock(os.open(os.path.join(root, "crates", name), os.O_RDONLY), fcntl.LOCK_EX)
-for name in with_below(crate) - {crate}:
-    if not os.path.exists(os.path.join(root, "crates", name, "out", "kept")):
+if os.path.basename(os.getcwd()) != crate:
+    sys.exit(f"{crate} is not in this folder")
+for name, _, place in [word.partition("=") for at, word in enumerate(words) if words[at - 1] == "--extern"]:
+    if name not in ("std", "csv") and not os.path.exists(os.path.join(place, "kept")):
         sys.exit(f"{name} is not built")
-source = open("src/lib.rt").read()
-if "unproved" in source:
-    print("error: the clause `sorted` is not proved\\nrt: not proved")
+if "unproved" in open("src/lib.rt").read():
+    print("error: the clause `sorted` is not proved\\nlogic=not-proved")
     sys.exit(1)
-if not os.path.exists("out/kept") or open("out/kept").read() != source:
-    note("begins")
-    time.sleep(float(open(os.path.join(top, "seconds")).read()))
-    open("out/kept", "w").write(source)
-    note("ends")
-if sys.argv[1] == "run":
-    with open("out/new", "w") as program:
-        program.write('#!/bin/sh\\nprintf "%s." "$@"; cat; echo to errors >&2; exit 7\\n')
-    os.chmod("out/new", 0o755)
-    os.rename("out/new", "out/pq")
+note("begins")
+time.sleep(float(open(os.path.join(top, "seconds")).read()))
+if "--statements" in words:
+    os.makedirs(made)
+    made = os.path.join(made, "kept")
+open(made, "w").write("")
+note("ends")
+"""
+LINKER = """#!/usr/bin/env python3
+import os, sys
+words = sys.argv[1:]
+made = words[words.index("-o") + 1]
+if not os.path.exists(words[words.index("-o") + 2]):
+    sys.exit("the program is not built")
+with open(made, "w") as program:
+    program.write('#!/bin/sh\\nprintf "%s." "$@"; cat; echo to errors >&2; exit 7\\n')
+os.chmod(made, 0o755)
 """
 # What `./pq` runs besides the toolchain.
 TOOLS = ["sh", "cat", "dirname", "find", "python3", "readlink"]
@@ -92,8 +87,9 @@ class Copy:
         os.mkdir(self.path("bin"))
         for tool in TOOLS:
             os.symlink(shutil.which(tool), self.path("bin", tool))
-        self.write(os.path.join("bin", "rt"), TOOLCHAIN)
-        os.chmod(self.path("bin", "rt"), 0o755)
+        for name, text in {"rt": "#!/bin/sh\n", "rattle": PROVER, "rattle-link": LINKER}.items():
+            self.write(os.path.join("bin", name), text)
+            os.chmod(self.path("bin", name), 0o755)
 
     def path(self, *names):
         """A path in the folder."""
@@ -148,13 +144,20 @@ def answer_problem(given, words):
 
 
 def told_problem(errors, crates):
-    """What is wrong with the lines about these crates, or None: one line for each, numbered from 1, each after those that it stands on."""
-    lines = [line.split() for line in errors.splitlines() if line.startswith("pq: proving ")]
-    names = [line[2] for line in lines]
-    numbers = [" ".join(line[3:]) for line in lines]
-    fits = sorted(names) == sorted(crates) and numbers == [f"({number} of {len(CRATES)})" for number in range(1, len(lines) + 1)]
+    """What is wrong with the lines about these crates, or None: one line for each, each after those that it stands on, with what is left."""
+    lines = [line for line in errors.splitlines() if line.startswith("pq: proving ")]
+    names = [line.split()[2] for line in lines]
+    left = range(len(CRATES) - len(crates) + 1, len(CRATES) + 1)
+    fits = sorted(names) == sorted(crates) and all(f"({number} of {len(CRATES)}), " in line and line.endswith(" left") for number, line in zip(left, lines))
     in_turn = all(names.index(below) < names.index(name) for name in names for below in CRATES[name] if below in names)
     return None if fits and in_turn else errors
+
+
+def begun_problem(errors, words):
+    """What is wrong with the first line, or None: it names what runs the program at once."""
+    first = errors.splitlines()[0]
+    fits = first.startswith("pq: the program is proved before its first run, ") and first.endswith("scripts/try.py " + shlex.join(words).encode(errors="backslashreplace").decode())
+    return None if fits else errors
 
 
 def once_problem(copy):
@@ -171,7 +174,7 @@ def from_nothing(copy):
     side_by_side = len(os.sched_getaffinity(0)) == 1 or max(notes.index("begins left"), notes.index("begins right")) < min(
         notes.index("ends left"), notes.index("ends right"))
     again = ended(copy.start("-"))
-    return (answer_problem(given, words) or told_problem(given[2], CRATES) or once_problem(copy)
+    return (answer_problem(given, words) or begun_problem(given[2], words) or told_problem(given[2], CRATES) or once_problem(copy)
             or (None if side_by_side else f"one after another: {notes}")
             or (None if again == (7, b"-.in", "to errors\n") else f"the second call: {again}"))
 
@@ -189,7 +192,13 @@ def interrupted(number, is_whole_group, copy):
     return ((None if (status, output) == (wanted, b"") else f"the first call: {status} {output} {errors}")
             or (None if number == signal.SIGKILL or errors.endswith("pq: stopped; the next call goes on from here\n") else errors)
             or (None if not copy.works_on() else f"at work after both calls: {left}, {copy.works_on()}")
-            or answer_problem(second, "a") or told_problem(second[2], CRATES) or twice_problem(copy, ["low"]))
+            or answer_problem(second, "a") or left_problem(second[2]) or twice_problem(copy, ["low"]))
+
+
+def left_problem(errors):
+    """What is wrong with the lines of a call that goes on where one stopped which had built a crate, or None: no line tells of that crate."""
+    told = {line.split()[2] for line in errors.splitlines() if line.startswith("pq: proving ")}
+    return told_problem(errors, [name for name in CRATES if name in told]) or (None if "low" not in told else errors)
 
 
 def twice_problem(copy, done):
@@ -226,20 +235,30 @@ def not_proved(copy):
     status, output, errors = ended(copy.start("a"))
     copy.write_source("right", "right\n")
     second = ended(copy.start("a"))
-    tail = "error: the clause `sorted` is not proved\nrt: not proved\npq: the crate right could not be proved and built\n"
+    tail = "error: the clause `sorted` is not proved\nlogic=not-proved\npq: the crate right could not be proved and built\n"
     return ((None if (status, output) == (70, b"") and errors.endswith(tail) else f"{status} {output} {errors}")
             or (None if not copy.works_on() else f"at work: {copy.works_on()}")
             or answer_problem(second, "a") or twice_problem(copy, ["low"]))
 
 
 def edited(copy):
-    """After an edit the next call proves what changed, and tells each crate again."""
+    """After an edit the next call proves the crate that changed and those above it, and no other."""
     ended(copy.start("a"))
     time.sleep(0.05)
     copy.write_source("far", "far again\n")
     given = ended(copy.start("a"))
     again = [note for note in copy.notes() if note.startswith("begins")][len(CRATES):]
-    return answer_problem(given, "a") or told_problem(given[2], CRATES) or (None if again == ["begins far"] else f"{again}")
+    return answer_problem(given, "a") or told_problem(given[2], ["far", "pq"]) or (None if again == ["begins far", "begins pq"] else f"{again}")
+
+
+def edited_meanwhile(copy):
+    """A source that changes while the call builds is proved by the next call."""
+    first = copy.start("a")
+    copy.wait_for("begins right")
+    copy.write_source("low", "low again\n")
+    ended(first)
+    given = ended(copy.start("a"))
+    return answer_problem(given, "a") or told_problem(given[2], CRATES)
 
 
 def no_toolchain(copy):
@@ -258,6 +277,17 @@ def no_folder(copy):
     return None if fits and "Traceback" not in errors else f"{status} {output} {errors}"
 
 
+def elsewhere(copy):
+    """A copy of `./pq` outside its checkout ends with status 70 and says to make a link, and a link runs the program."""
+    away = copy.path("away")
+    os.mkdir(away)
+    shutil.copy(copy.path("pq"), os.path.join(away, "copy"))
+    os.symlink(copy.path("pq"), os.path.join(away, "link"))
+    status, output, errors = ended(copy.start_as([os.path.join(away, "copy"), "a"]))
+    fits = (status, output, errors) == (70, b"", "pq: this copy of ./pq is not in its checkout: make a link to it instead\n")
+    return answer_problem(ended(copy.start_as([os.path.join(away, "link"), "a"])), "a") if fits else f"{status} {output} {errors}"
+
+
 def closed(number, copy):
     """One of the three streams is closed: nothing that is told goes to another one, and the program finds it closed."""
     status, output, errors = ended(copy.start_as(["sh", "-c", f'exec "$@" {number}>&-', "", copy.path("pq"), "a"]))
@@ -273,8 +303,8 @@ def named(check):
 
 def checks():
     """Each check, with its name and the seconds that the stand-in takes for a crate."""
-    for check, seconds in [(from_nothing, 0.5), (two_at_once, 0.3), (first_of_two_killed, 0.3), (not_proved, 0.2), (edited, 0), (no_toolchain, 0),
-                           (no_folder, 0)]:
+    for check, seconds in [(from_nothing, 0.5), (two_at_once, 0.3), (first_of_two_killed, 0.3), (not_proved, 0.2), (edited, 0), (edited_meanwhile, 0.2), (no_toolchain, 0),
+                           (no_folder, 0), (elsewhere, 0)]:
         yield named(check), check, seconds
     for number in (signal.SIGINT, signal.SIGTERM, signal.SIGHUP, signal.SIGKILL):
         for is_whole_group in (False, True):

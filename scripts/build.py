@@ -1,19 +1,25 @@
 #!/usr/bin/env python3
-"""Proves and builds the program: each crate as soon as those that it stands on are built, as many side by side as there are processors.
+"""Proves and builds the program: each crate as soon as those that it stands on are built, with all processors.
 
 Usage: scripts/build.py [run WORDS]     `./pq` calls it where the program is missing or older than a source, and has it run afterwards
 
-The toolchain lets one run at a time work in a crate and in those below it. So that crates which share some of these are built side by
-side, each is built in a room: a copy of what it needs, by hard links, from which its `out/` goes back to the crate's folder at the end.
+A library is built by its statements, as in the gate: all of it is proved, and what a crate above reads of it is what can be cited. So no
+proof is read twice. The longest chain of crates that stand on one another is begun first, by the seconds that their proofs took when they
+were last measured (the table of docs/WORKING.md).
 
-It tells each crate on standard error as it begins. What was built stays: a call after an interrupted one goes on where that one stopped,
-and a second call at the same time waits for the first. The status is that of the run, or 0 without one; 70 where a crate isn't proved,
-after the prover's own words, or where the toolchain is missing or the disk refuses; 130 where it was interrupted.
+It tells each crate on standard error as it begins, with the minutes that are left. What was built stays: a call after an interrupted one
+goes on with the crates that are left, and a second call at the same time waits for the first. The status is that of the run, or 0 without
+one; 70 where a crate isn't proved, after the prover's own words, or where the toolchain is missing or the disk refuses; 130 where it was
+interrupted.
 """
 
 import contextlib
+import ctypes
 import fcntl
+import hashlib
 import os
+import re
+import shlex
 import shutil
 import signal
 import subprocess
@@ -23,34 +29,47 @@ import time
 
 HOME = os.path.dirname(os.path.dirname(os.path.abspath(__file__)))
 PROGRAM = "pq"
-# The words of the program's first run, by which it is built.
-TRIAL = ["gen", "0", "1", "0"]
+LISTED = os.path.join(HOME, "crates.txt")
+MEASURED = os.path.join(HOME, "docs", "WORKING.md")
+TRY = os.path.join(HOME, "scripts", "try.py")
+PARTS = ("src", "specs", "proofs")
 FAILED = 70
 INTERRUPTED = 130
 # A terminal that is closed sends the first, Ctrl-C the second, and `kill` the third.
 INTERRUPTIONS = [signal.SIGHUP, signal.SIGINT, signal.SIGTERM]
 BYTES_A_CRATE = 3 << 30
-JOBS_ALONE, JOBS_BESIDE_OTHERS = 4, 2
+MOST_JOBS = 4
 SECONDS_BETWEEN_LOOKS = 0.05
+# The number of Linux's `prctl` by which a process asks for a signal at the end of the one that started it.
+PR_SET_PDEATHSIG = 1
+# For a crate whose proof wasn't measured yet.
+SECONDS_A_CRATE, LINES_A_SECOND = 6, 27
 
 
-def folder_of(crate, top=HOME):
+def folder_of(crate):
     """The folder of a crate."""
-    return os.path.join(top, "crates", crate)
+    return os.path.join(HOME, "crates", crate)
 
 
-LISTED = os.path.join(HOME, "crates.txt")
-ROOMS = os.path.join(folder_of(PROGRAM), "out", "rooms")
+def made(*names):
+    """The path of a file that is made, in the program's folder."""
+    return os.path.join(folder_of(PROGRAM), "out", *names)
 
 
-def stands_on():
-    """Each crate of the repository with the crates of the repository that it stands on."""
+def lines_of_list():
+    """Each crate of the repository with the crates and libraries that it stands on."""
     listed = {}
     with open(LISTED, encoding="utf-8") as stream:
         for line in stream:
             name, colon, below = line.split("#")[0].partition(":")
             if colon:
                 listed[name.split()[0]] = below.split()
+    return listed
+
+
+def stands_on():
+    """Each crate of the repository with the crates of the repository that it stands on."""
+    listed = lines_of_list()
     return {name: [one for one in below if one in listed] for name, below in listed.items()}
 
 
@@ -62,108 +81,222 @@ def needed(crates, top):
     return found + [top]
 
 
-def lines_of(crate):
-    """The lines of a crate's sources and proofs, by which the time of its proof is guessed."""
-    count = 0
-    for place, folders, names in os.walk(folder_of(crate)):
-        folders[:] = [folder for folder in folders if folder not in ("out", "must-fail")]
-        for name in names:
-            with open(os.path.join(place, name), "rb") as stream:
-                count += stream.read().count(b"\n")
-    return count
+def sources(crate):
+    """The files of a crate's sources, definitions and proofs."""
+    for part in PARTS:
+        for place, folders, names in os.walk(os.path.join(folder_of(crate), part)):
+            folders.sort()
+            yield from (os.path.join(place, name) for name in sorted(names))
 
 
-def chains(crates, names):
-    """For each crate the lines of the longest chain of crates that stand on one another from it up: the longest is begun first."""
-    above = {name: [one for one in names if name in crates[one]] for name in names}
-    found = {}
-    for name in reversed(names):
-        found[name] = lines_of(name) + max((found[one] for one in above[name]), default=0)
+def sum_of_texts(crate):
+    """A sum of a crate's sources, definitions and proofs."""
+    found = hashlib.sha256()
+    for path in sources(crate):
+        found.update(repr((os.path.relpath(path, HOME), text_of(path))).encode())
+    return found.hexdigest()
+
+
+def seconds_of(names):
+    """The seconds of one processor that the proof of each crate took when it was last measured, or a guess by its lines."""
+    table = ""
+    if os.path.exists(MEASURED):
+        with open(MEASURED, encoding="utf-8") as stream:
+            table = stream.read()
+    found = {name: int(seconds) for name, seconds in re.findall(r"^\| `(\w+)` \| (\d+) \|", table, re.M)}
+    for name in names:
+        if name not in found:
+            found[name] = SECONDS_A_CRATE + sum(text_of(path).count(b"\n") for path in sources(name)) // LINES_A_SECOND
     return found
 
 
-def side_by_side():
-    """How many crates are built at a time: one a processor, and fewer where the memory is small."""
+def text_of(path):
+    """The bytes of a file."""
+    with open(path, "rb") as stream:
+        return stream.read()
+
+
+def chains(crates, names, seconds):
+    """For each crate the seconds of the longest chain of crates that stand on one another from it up: the longest is begun first."""
+    found = {}
+    for name in reversed(names):
+        found[name] = seconds[name] + max((found[one] for one in names if name in crates[one]), default=0)
+    return found
+
+
+def processors():
+    """How many processors prove at a time: fewer where the memory is small."""
     memory = os.sysconf("SC_PAGE_SIZE") * os.sysconf("SC_PHYS_PAGES")
     return max(1, min(len(os.sched_getaffinity(0)), memory // BYTES_A_CRATE))
 
 
-def same_file(source, target):
-    """Another name of a file, or a copy where the file can't have one."""
-    try:
-        os.link(source, target)
-    except OSError:
-        shutil.copy2(source, target)
+class Toolchain:
+    """Where the toolchain lies."""
+
+    def __init__(self):
+        command = shutil.which("rt")
+        if command is None:
+            raise FileNotFoundError(2, "there is no command", "rt")
+        self.kit = os.path.dirname(os.path.dirname(os.path.realpath(command)))
+        self.prover = os.path.join(self.kit, "bin", "rattle")
+        self.linker = os.path.join(self.kit, "bin", "rattle-link")
+
+    def path(self, *names):
+        """A path in its folder."""
+        return os.path.join(self.kit, *names)
+
+    def sum(self):
+        """A sum that tells one toolchain from another."""
+        what = self.path("WHAT")
+        return text_of(what) if os.path.exists(what) else b""
 
 
-def furnished(crate, below):
-    """A room with a crate and with those below it as they were built. The crate's own `out/` moves there, so that work goes on from it."""
-    room = os.path.join(ROOMS, crate)
-    shutil.copytree(folder_of(crate), folder_of(crate, room), copy_function=same_file, ignore=shutil.ignore_patterns("out", "must-fail"))
-    for one in below:
-        shutil.copytree(folder_of(one), folder_of(one, room), copy_function=same_file, ignore=shutil.ignore_patterns("incremental", "must-fail"))
-    with open(LISTED, encoding="utf-8") as listed, open(os.path.join(room, "crates.txt"), "w", encoding="utf-8") as mine:
-        mine.writelines(line for line in listed if line.partition(":")[0].strip() in (crate, *below))
-    own = os.path.join(folder_of(crate), "out")
-    if os.path.isdir(own):
-        os.rename(own, os.path.join(folder_of(crate, room), "out"))
-    return room
+class House:
+    """The crates of the repository that the program needs, and what is built of each."""
+
+    def __init__(self):
+        self.listed = lines_of_list()
+        self.crates = stands_on()
+        self.names = needed(self.crates, PROGRAM)
+        self.toolchain = Toolchain()
+        self.begun = time.time()
+        self.texts, self.stamps = {}, {}
+        for name in self.names:
+            self.texts[name] = sum_of_texts(name)
+            self.stamps[name] = self.stamp(name)
+
+    def rlib(self, crate):
+        """Where the built library of a crate lies."""
+        return made("statements", f"{crate}.rlib")
+
+    def new_rlib(self, crate):
+        """Where the library of a crate lies until it is whole. The folder is this call's own."""
+        return made("new", str(os.getpid()), f"{crate}.rlib")
+
+    def stamp_file(self, crate):
+        """Where it is noted of which texts the crate was built."""
+        return made("statements", f"{crate}.stamp")
+
+    def stamp(self, crate):
+        """A sum of all that the crate is built of, as it was when the call began; those of the crates below are there."""
+        told = repr((self.toolchain.sum(), self.listed[crate], self.texts[crate], [self.stamps[one] for one in self.crates[crate]]))
+        return hashlib.sha256(told.encode()).hexdigest()
+
+    def is_built(self, crate):
+        """Whether the crate was built of the texts as they are."""
+        path = self.stamp_file(crate)
+        return os.path.exists(path) and text_of(path).decode() == self.stamps[crate]
+
+    def keep(self, crate):
+        """Puts a crate that was built in its place, and notes of which texts it was built, unless they changed since the call began."""
+        if crate == PROGRAM:
+            return
+        os.rename(self.new_rlib(crate), self.rlib(crate))
+        if sum_of_texts(crate) != self.texts[crate]:
+            return
+        with open(self.stamp_file(crate), "w", encoding="utf-8") as stream:
+            stream.write(self.stamps[crate])
+
+    def words(self, crate, jobs):
+        """The command that proves and builds a crate."""
+        kit = self.toolchain.path
+        found = [self.toolchain.prover, "build", "--crate-name", crate, "src/main.rt" if crate == PROGRAM else "src/lib.rt"]
+        for one in ["std", *self.listed[crate]]:
+            found += ["--extern", f"{one}={self.rlib(one) if one in self.crates else kit('rlibs', one + '.rlib')}"]
+        found += ["-L", f"dependency={kit('rlibs')}", "-L", f"dependency={made('statements')}"]
+        found += ["--antt-project", kit("rattle", "logic", "antt-project.json"), "--logic-built", kit("logic_built"), "--links", f"{crate}="]
+        found += ["--jobs", str(jobs)]
+        if crate == PROGRAM:
+            return [*found, "--toolchain", kit("toolchain"), "--backend", "llvm", "-o", made(f"{PROGRAM}.o")]
+        return [*found, "--statements", "-o", self.new_rlib(crate)]
+
+    def link(self):
+        """Links the program, which takes the place of an older one at once."""
+        kit, new = self.toolchain.path, made(f"{PROGRAM}.new")
+        words = ["--target", "x86_64-unknown-linux-gnu", "--toolchain", kit("toolchain"), "-o", new, made(f"{PROGRAM}.o")]
+        done = subprocess.run([self.toolchain.linker, *words, kit("c", "libos_c.a"), kit("c", "liblibc_c.a")], stdin=subprocess.DEVNULL,
+                              stdout=subprocess.PIPE, stderr=subprocess.STDOUT, check=False)
+        if done.returncode:
+            raise OSError(done.stdout.decode(errors="replace"))
+        # A source that changed since the call began is newer than the program.
+        os.utime(new, (self.begun, self.begun))
+        os.rename(new, program_file())
 
 
-def cleared(crate):
-    """Brings a crate's `out/` home from its room, once no toolchain works there, and takes the room away."""
-    room, home = os.path.join(ROOMS, crate), os.path.join(folder_of(crate), "out")
-    if os.path.isdir(folder_of(crate, room)):
-        with locked(folder_of(crate, room)):
-            made = os.path.join(folder_of(crate, room), "out")
-            if os.path.isdir(made) and not os.path.exists(home):
-                os.rename(made, home)
-    shutil.rmtree(room, ignore_errors=True)
-
-
-@contextlib.contextmanager
-def locked(folder):
-    """The turn to work in a crate's folder, which the toolchain takes too."""
-    number = os.open(folder, os.O_RDONLY)
-    try:
-        fcntl.flock(number, fcntl.LOCK_EX)
-        yield
-    finally:
-        os.close(number)
+def ends_with_its_caller():
+    """Has a process that is begun end when this one does, also where this one is killed."""
+    ctypes.CDLL(None).prctl(PR_SET_PDEATHSIG, signal.SIGTERM)
 
 
 class Building:
-    """A crate that is being built: its process, and what the toolchain prints."""
+    """A crate that is being built: its process, and what the prover prints."""
 
-    def __init__(self, crate, below, jobs):
-        self.crate = crate
+    def __init__(self, house, crate, jobs):
+        self.crate, self.jobs, self.begun = crate, jobs, time.monotonic()
         self.log = tempfile.TemporaryFile()
-        work = ["run", "--", *TRIAL] if crate == PROGRAM else ["lib", "--jobs", str(jobs)]
-        folder = folder_of(crate) if crate == PROGRAM else folder_of(crate, furnished(crate, below))
-        self.process = subprocess.Popen(["rt", *work], cwd=folder, stdin=subprocess.DEVNULL, stdout=self.log, stderr=subprocess.STDOUT,
-                                        start_new_session=True)
+        with contextlib.suppress(FileNotFoundError):
+            os.remove(house.stamp_file(crate))
+        shutil.rmtree(house.rlib(crate), ignore_errors=True)
+        self.process = subprocess.Popen(house.words(crate, jobs), cwd=folder_of(crate), stdin=subprocess.DEVNULL, stdout=self.log,
+                                        stderr=subprocess.STDOUT, start_new_session=True, preexec_fn=ends_with_its_caller)
 
     def has_ended(self):
-        """Whether the toolchain is done."""
+        """Whether the prover is done."""
         return self.process.poll() is not None
 
     def is_built(self):
-        """Whether it ended well; of the program, with a first run."""
+        """Whether the crate is proved and built."""
         return self.process.returncode == 0
 
+    def seconds(self):
+        """How long it has taken so far."""
+        return time.monotonic() - self.begun
+
     def words(self):
-        """What the toolchain printed."""
+        """What the prover printed."""
         self.log.seek(0)
         return self.log.read().decode(errors="replace")
 
     def stop(self):
         """Ends it and what it started."""
-        try:
+        with contextlib.suppress(ProcessLookupError):
             os.killpg(self.process.pid, signal.SIGTERM)
-        except ProcessLookupError:
-            pass
         self.process.wait()
-        cleared(self.crate)
+
+
+class Plan:
+    """Which crate comes next, and how long all of them take."""
+
+    def __init__(self, crates, names):
+        self.crates, self.names = crates, names
+        self.seconds = seconds_of(names)
+        self.chain = chains(crates, names, self.seconds)
+        # What the crates took that are built, by the clock, and what was expected of them.
+        self.took, self.expected = 0.0, 0.0
+
+    def ready(self, waiting, built):
+        """The crates that can begin, that of the longest chain first."""
+        return sorted((one for one in waiting if built.issuperset(self.crates[one])), key=self.chain.get, reverse=True)
+
+    def note(self, crate, seconds):
+        """Notes how long a crate took."""
+        self.took += seconds
+        self.expected += self.seconds[crate]
+
+    def left(self, waiting, running):
+        """The seconds that are left: what would happen if each crate took what is expected at the pace so far."""
+        pace = self.took / self.expected if self.expected > 60 else 1.0
+        at_work = {one.crate: max(self.seconds[one.crate] * pace - one.seconds(), 1.0) for one in running}
+        waiting, now = set(waiting), 0.0
+        built = set(self.names) - waiting - set(at_work)
+        while waiting or at_work:
+            for crate in self.ready(waiting, built)[:processors() - len(at_work)]:
+                waiting.remove(crate)
+                at_work[crate] = now + self.seconds[crate] * pace
+            crate = min(at_work, key=at_work.get)
+            now = at_work.pop(crate)
+            built.add(crate)
+        return now
 
 
 def tell(text):
@@ -173,24 +306,39 @@ def tell(text):
             print(text, file=sys.stderr, flush=True)
 
 
-def build(crates, names, running):
+def in_minutes(seconds):
+    """A time in words."""
+    minutes = round(seconds / 60)
+    return "less than a minute" if minutes == 0 else "about a minute" if minutes == 1 else f"about {minutes} minutes"
+
+
+def build(house, running, words):
     """Builds the crates, and says which one could not be built, or None."""
-    chain = chains(crates, names)
-    waiting, built, begun = set(names), set(), 0
-    while len(built) < len(names):
-        ready = sorted((one for one in waiting if built.issuperset(crates[one])), key=chain.get, reverse=True)
-        for crate in ready[:side_by_side() - len(running)]:
-            begun += 1
-            tell(f"pq: proving {crate} ({begun} of {len(names)})")
+    plan = Plan(house.crates, house.names)
+    built = {one for one in house.names if one != PROGRAM and house.is_built(one)}
+    waiting = set(house.names) - built
+    if len(waiting) > 1:
+        told = shlex.join(words) if words else "WORDS"
+        tell(f"pq: the program is proved before its first run, {in_minutes(plan.left(waiting, []))}; at once, not proved: {shlex.quote(os.path.relpath(TRY))} {told}")
+    while len(built) < len(house.names):
+        ready = plan.ready(waiting, built)
+        free = processors() - sum(one.jobs for one in running)
+        while ready and free > 0:
+            crate = ready.pop(0)
+            # Processors that no other crate can use now are lent to this one.
+            jobs = max(1, min(MOST_JOBS, free // (len(ready) + 1)))
+            free -= jobs
+            left = in_minutes(plan.left(waiting, running))
             waiting.remove(crate)
-            jobs = JOBS_ALONE if len(ready) == 1 and not running else JOBS_BESIDE_OTHERS
-            running.append(Building(crate, needed(crates, crate)[:-1], jobs))
+            running.append(Building(house, crate, jobs))
+            tell(f"pq: proving {crate} ({len(built) + len(running)} of {len(house.names)}), {left} left")
         ended = [one for one in running if one.has_ended()]
         for one in ended:
             running.remove(one)
-            cleared(one.crate)
             if not one.is_built():
                 return one
+            plan.note(one.crate, one.seconds())
+            house.keep(one.crate)
             built.add(one.crate)
         if not ended:
             time.sleep(SECONDS_BETWEEN_LOOKS)
@@ -206,40 +354,41 @@ def end(running):
         one.stop()
 
 
-def build_all():
+def build_all(words):
     """Builds the program, and gives the status. What still runs at the end is ended, whatever the end is."""
     running = []
     try:
-        # rooms that a call left which was killed
-        for crate in os.listdir(ROOMS) if os.path.isdir(ROOMS) else []:
-            cleared(crate)
-        crates = stands_on()
-        failed = build(crates, needed(crates, PROGRAM), running)
+        os.makedirs(made("statements"), exist_ok=True)
+        # what a call left that was killed
+        shutil.rmtree(made("new"), ignore_errors=True)
+        os.makedirs(made("new", str(os.getpid())))
+        house = House()
+        failed = build(house, running, words)
+        if not failed:
+            house.link()
     except OSError as error:
         told = "the toolchain of Rattle is missing" if error.filename == "rt" else "the program could not be built"
         tell(f"pq: {told}: {error}")
         return FAILED
     finally:
         end(running)
+        shutil.rmtree(made("new"), ignore_errors=True)
     if failed:
         tell(failed.words().rstrip("\n"))
         tell(f"pq: the crate {failed.crate} could not be proved and built")
         return FAILED
-    # A program that was built before of the same sources is younger than they are again.
-    os.utime(program_file())
     return 0
 
 
 def program_file():
     """The built program."""
-    return os.path.join(folder_of(PROGRAM), "out", PROGRAM)
+    return made(PROGRAM)
 
 
 def in_turn():
     """Waits until no other call builds. The turn lasts as long as the file is open; besides it, whether there was another call."""
-    folder = os.path.dirname(program_file())
-    os.makedirs(folder, exist_ok=True)
-    turn = open(os.path.join(folder, "building"), "w", encoding="utf-8")
+    os.makedirs(made(), exist_ok=True)
+    turn = open(made("building"), "w", encoding="utf-8")
     try:
         fcntl.flock(turn, fcntl.LOCK_EX | fcntl.LOCK_NB)
         return turn, False
@@ -265,7 +414,7 @@ def main(words):
     try:
         turn, has_waited = in_turn()
         with turn:
-            status = 0 if has_waited and words else build_all()
+            status = 0 if has_waited and words else build_all(words[1:])
     except OSError as error:
         tell(f"pq: the program could not be built: {error}")
         return FAILED
