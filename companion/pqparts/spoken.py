@@ -1,0 +1,86 @@
+"""What was found, in the words of the reader."""
+
+import math
+
+from .trees import in_words, inner_nodes, tree_of
+
+COUNTED = 10**15
+
+
+class Words:
+    """What the reader calls the things that are put in order and the rows."""
+
+    def __init__(self, kind, things=None, rows=None):
+        own = {"clones": ("probes", "clones"), "proper": ("vertices", "vertices"), "robinson": ("items", "balls"), "convex": ("right side", "left side"),
+               "doubly": ("right side", "left side")}.get(kind, ("columns", "rows"))
+        self.kind, self.things, self.rows = kind, things or own[0], rows or own[1]
+
+    def of_side(self, side):
+        """The words for one side, which change places on the second side of `doubly`."""
+        return (self.things, self.rows) if side == 1 else (self.rows, self.things)
+
+    def question(self):
+        """What was asked."""
+        things, rows = self.things, self.rows
+        return {
+            "circular": f"Is there an order of the {things} round a circle in which the marks of each of the {rows} stand together?",
+            "convex": f"Is there an order of the {things} in which the neighbours of each of the {rows} stand together?",
+            "doubly": f"Are there orders of the {things} and of the {rows} in which the neighbours of each of the others stand together?",
+            "proper": f"Is there an order of the {things} in which an edge between two implies edges from both to all between them?",
+            "robinson": f"Is there an order of the {things} in which, of any three, the outer two are at least as far apart as the middle one is from either?",
+        }.get(self.kind, f"Is there an order of the {things} in which those of each of the {rows} stand together?")
+
+
+def orders_of(tree):
+    """How many orders a tree stands for, or None where these are more than can be said."""
+    found = 1
+    for node, _ in inner_nodes(tree):
+        found *= 2 if node.is_turning else math.factorial(len(node.children)) if len(node.children) < 20 else COUNTED
+        if found >= COUNTED:
+            return None
+    return found
+
+
+def answer_lines(question, finding, words):
+    """The answer as sentences."""
+    verdict = finding.verdict
+    if not verdict.is_yes:
+        things, rows = words.of_side(verdict.side)
+        found = [f"No: there is no such order of the {things}."]
+        if finding.contradiction:
+            kept, aside = len(finding.contradiction.agreed), len(finding.contradiction.aside)
+            found.append(f"Taken in turn, {kept} of the {rows} agree, and {aside} were set aside, each since it contradicts some that were taken before it.")
+        return found
+    found = ["Yes."]
+    for number, (side, tree) in enumerate(zip(question.sides, map(tree_of, verdict.trees)), 1):
+        things, _ = words.of_side(number)
+        found += in_words(tree, side.things, things)
+        count = orders_of(tree)
+        turned = ", up to rotation" if question.kind == "circular" else ""
+        found.append(f"That makes {'more than a thousand million million' if count is None else count} orders of the {things}{turned}.")
+    return found
+
+
+def steps(cycle, things, rows):
+    """A cycle read aloud: each step from the order of two things to that of the next two, by a row that has two things and lacks a third."""
+    for number, (one, other, row) in enumerate(cycle):
+        then_one, then_other, _ = cycle[(number + 1) % len(cycle)]
+        now = said_pair(things, one, other, number % 2 == 0)
+        then = said_pair(things, then_one, then_other, number % 2 == 1)
+        if row is None:
+            yield f"{now}; turned round: {then}."
+            continue
+        has, lacks = ((one, then_other), other) if then_one == other else ((then_one, other), one)
+        yield f"{now}; {rows[row]} has {things[has[0] - 1]} and {things[has[1] - 1]} and lacks {things[lacks - 1]}, so {then}."
+
+
+def said_pair(things, one, other, is_before):
+    """That one thing stands before another, or after it."""
+    return f"{things[one - 1]} stands {'before' if is_before else 'after'} {things[other - 1]}"
+
+
+def lacking(cycle):
+    """Where the steps of a cycle stand in a picture: for each step with a row that row, and the thing that it lacks."""
+    for number, (one, other, row) in enumerate(cycle):
+        if row is not None:
+            yield number + 1, row, other if cycle[(number + 1) % len(cycle)][0] == other else one
