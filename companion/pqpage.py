@@ -210,6 +210,8 @@ def again(words):
         program = Program(found_program(words.pq))
         judge_again(program, question, finding)
         made = files_of(question, finding, told, os.path.basename(stem))
+    except Stop as stop:
+        raise Stop(NOT_PROVED if stop.status == NOT_READABLE else stop.status, str(stop)) from stop
     except (ValueError, KeyError, TypeError, AttributeError, IndexError) as error:
         raise Stop(NOT_PROVED, f"{words.file}: this is not a whole report of pqpage: {error}") from error
     for ending, wanted in made.items():

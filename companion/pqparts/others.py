@@ -92,11 +92,11 @@ def named_square(found, where, reading):
     body = records if has_names == NONE else records[1:]
     begin = 0 if has_names == NONE else 1
     names = [f"item {at}" for at in range(1, len(body) + 1)] if has_names == NONE else [record.fields[0] for record in body]
-    if has_names == FIRST and names != records[0].fields[1:]:
-        raise unreadable(where, f"the names at the head ({', '.join(records[0].fields[1:4])}, ..) are not those at the side ({', '.join(names[:3])}, ..)")
     rows = [record.fields[begin:] for record in body]
     if any(len(row) != len(body) for row in rows):
         raise unreadable(where, f"the table isn't square: {len(body)} lines and {len(rows[0])} columns of distances")
+    if has_names == FIRST and names != records[0].fields[1:]:
+        raise unreadable(where, f"the names at the head ({', '.join(records[0].fields[1:4])}, ..) are not those at the side ({', '.join(names[:3])}, ..)")
     twice = first_twice(names)
     if twice is not None or not all(names):
         raise unreadable(where, "an item has no name" if twice is None else f"two items are named {twice!r}")

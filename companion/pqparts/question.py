@@ -39,7 +39,9 @@ class Question:
     distances: list = None
 
     def too_large(self):
-        """What is past a limit of pq, or None."""
+        """What is past a limit of pq, or None. Of a file that only pq can judge nothing is known here."""
+        if not self.sides:
+            return None
         most = MOST_ITEMS if self.kind == "robinson" else MOST_COLUMNS
         for side in self.sides:
             if len(side.things) > most:

@@ -70,13 +70,24 @@ class Sheet:
 
 
 def split(text, separator, where):
-    """The records of a text, without blank lines."""
-    reader = csv.reader(io.StringIO(text, newline=""), delimiter=separator)
+    """The records of a text. A line without a field is a record without fields."""
+    reader = csv.reader(io.StringIO(text, newline=""), delimiter=separator, strict=True)
     try:
         found = [Record(reader.line_num, [cell.strip() for cell in row]) for row in reader]
     except csv.Error as error:
-        raise unreadable(where, f"line {reader.line_num}: {error}") from error
+        raise unreadable(where, f"line {reader.line_num}: {error}: see whether each quote is closed") from error
     return [record if record.fields != [""] else Record(record.line, []) for record in found]
+
+
+def candidates_of(text, where, separators, header):
+    """The records by each separator by which the text can be split, and the stops of the others."""
+    found, stops = {}, []
+    for one in separators:
+        try:
+            found[one] = without_titles(split(text, one, where), header)
+        except Stop as stop:
+            stops.append(stop)
+    return found, stops
 
 
 def widths(records):
@@ -107,10 +118,12 @@ def header_line(candidates):
 
 def sheet(text, where, separator=None, header=1):
     """The table of a text. What separates fields is found where one separator alone gives a table."""
-    candidates = {one: without_titles(split(text, one, where), header) for one in ([separator] if separator else SEPARATORS)}
+    candidates, stops = candidates_of(text, where, [separator] if separator else SEPARATORS, header)
     fitting = [one for one, records in candidates.items() if fits(records)]
     if len(fitting) > 1:
         raise unreadable(where, f"both {' and '.join(SEPARATORS[one] for one in fitting)} separate fields here: say --separator")
+    if not fitting and stops and not any(len(record.fields) > 1 for records in candidates.values() for record in records):
+        raise stops[0]
     if not fitting:
         raise unreadable(where, misfit(candidates, header))
     records = candidates[fitting[0]]
