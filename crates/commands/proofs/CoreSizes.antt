@@ -14,14 +14,13 @@ use Rattle.row_model.specs.declared.graph.Why.TheVariants.{Flip, Row}
 use Rattle.row_model.specs.declared.TheConstants.{MAX_COLUMNS, MAX_ROWS}
 use Rattle.row_model.specs.Rows.{RowList}
 use Rattle.row_model.proofs.Ascending.{ascends_few, ascends_within}
-use Rattle.incompat_graph.specs.Laws.{CycleLengthLaw}
+use Rattle.odd_cycle.specs.Laws.{CycleLengthLaw}
 use Rattle.instance_model.specs.Instance.{plain, IsInstance}
 use Rattle.row_core.specs.Parts.{CoreParts}
 use Rattle.row_core.specs.Told.{TellsCore}
 use Rattle.row_core.specs.Texts.{TextValue, IsEntry, IsLine, IsInGrammar, Fits32, entries, kind_word, number_word, entry_text, line_text, counted_text, core_text}
 use Rattle.commands.specs.declared.TheConstants.{MAX_CORE_BYTES}
-use Rattle.commands.specs.Cores.{core_value}
-use Rattle.commands.specs.Cores.{CoreGrammarLaw}
+use Rattle.commands.specs.Cores.{core_value, CoreGrammarLaw}
 use Rattle.commands.proofs.Lengths.{IsColumn, IsCycleLine, IsRowReason, four_digits, six_digits, seven_digits, words_length, lines_length, few_lines}
 use Rattle.commands.proofs.Fits.{columns_within, cycle_lines}
 

@@ -14,7 +14,7 @@ use Rattle.row_model.specs.Cycles.{LeadTo, IsClosedWalk, IsOddCycle}
 use Rattle.row_model.specs.declared.TheConstants.{MAX_COLUMNS, MAX_ROWS}
 use Rattle.row_model.specs.Rows.{RowList}
 use Rattle.instance_model.specs.Laws.{FewColumnsLaw, FewRowsLaw}
-use Rattle.incompat_graph.specs.Laws.{CycleLengthLaw}
+use Rattle.odd_cycle.specs.Laws.{CycleLengthLaw}
 use Rattle.clone_map.specs.Laws.{SpansLaw}
 use Rattle.verdict_text.specs.Verdict.{SideValue, Claim, yes_claim, no_claim, VerdictValue}
 use Rattle.verdict_text.specs.Grammar.{Fits32, IsColumnCount, AreColumnCounts, IsSide, AreSides, IsLine, HasAdded, IsClaim, IsVerdict, side_count}

@@ -10,7 +10,7 @@ use Rattle.row_model.specs.declared.kind.Kind.TheVariants.{Matrix, Rows, Table, 
 use Rattle.row_model.specs.declared.TheConstants.{MAX_COLUMNS}
 use Rattle.row_model.specs.Rows.{RowList}
 use Rattle.instance_model.specs.Laws.{FewColumnsLaw, FewRowsLaw}
-use Rattle.incompat_graph.specs.Laws.{CycleLengthLaw}
+use Rattle.odd_cycle.specs.Laws.{CycleLengthLaw}
 use Rattle.clone_map.specs.Laws.{SpansLaw}
 use Rattle.commands.specs.declared.TheConstants.{MAX_VERDICT_BYTES}
 use Rattle.pq_tree.specs.Text.{tree_text}

@@ -7,7 +7,7 @@ ghost use Rattle.tree_meet.specs.Meets.{IsCommon, IsMeet, joint_rows};
 ghost use Rattle.commands.specs.Meetings.{head_text, TellsCommon, TellsApart, IsMeetingReply};
 
 use crate::{NoMemory, Reply};
-use incompat_graph::Cycle;
+use odd_cycle::Cycle;
 use pq_tree::PqTree;
 use row_core::Judge;
 use std::alloc::Global;

@@ -11,7 +11,7 @@ ghost use Rattle.commands.specs.Verdicts.{IsVerdictReply};
 
 use crate::verdict_laws::grammar_law;
 use crate::{NoMemory, Reply};
-use incompat_graph::Cycle;
+use odd_cycle::Cycle;
 use row_model::Kind;
 use std::alloc::Global;
 use verdict_text::{Columns, NoPart, Part, Verdict, Version, print};

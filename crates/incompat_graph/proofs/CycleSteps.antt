@@ -8,8 +8,8 @@ use Rattle.row_model.specs.declared.graph.Why.TheVariants.{Flip}
 use Rattle.row_model.specs.Graph.{pair, IsPair}
 use Rattle.row_model.specs.Cycles.{pair_of, IsClosedWalk, IsOdd, IsOddCycle}
 use Rattle.row_model.proofs.CycleLaws.{lead_line, closed_leads, cycle_from}
-use Rattle.incompat_graph.specs.Numbers.{Numbering, number_of, IsIndexed}
-use Rattle.incompat_graph.proofs.NumberLaws.{indexed_distinct}
+use Rattle.pair_classes.specs.Numbers.{Numbering, number_of, IsIndexed}
+use Rattle.pair_classes.proofs.NumberLaws.{indexed_distinct}
 use Rattle.incompat_graph.proofs.PathLaws.{IsFollowed, Follows, start, follows_more, follows_cut, follows_odd, follows_all}
 
 -- what stands past the end of a list of lines

@@ -12,8 +12,8 @@ use Rattle.incompat_graph.specs.declared.forest.Node.{Node}
 use Rattle.incompat_graph.specs.declared.forest.Conflict.{Conflict}
 use Rattle.incompat_graph.specs.declared.forest.Forest.{Forest}
 use Rattle.incompat_graph.specs.declared.neighbours.Neighbours.{Neighbours}
-use Rattle.incompat_graph.specs.Numbers.{number_of, IsIndexed}
-use Rattle.incompat_graph.specs.Marks.{Marking, is_marked}
+use Rattle.pair_classes.specs.Numbers.{number_of, IsIndexed}
+use Rattle.pair_classes.specs.Marks.{Marking, is_marked}
 use Rattle.incompat_graph.specs.Closing.{AreEnds}
 use Rattle.incompat_graph.specs.Neighbours.{AreNeighbours}
 use Rattle.incompat_graph.specs.Search.{pair_of_node, root_node, IsReached, IsSettled, IsForest, IsSearch, Grows, AreTaken, AreReachedFrom, ShowsConflict}

@@ -10,11 +10,11 @@ use Rattle.row_model.specs.Graph.{JoinedBy}
 use Rattle.row_model.proofs.CycleLaws.{joined_by_sym}
 use Rattle.incompat_graph.specs.declared.forest.Node.{Node}
 use Rattle.incompat_graph.specs.declared.forest.Forest.{Forest}
-use Rattle.incompat_graph.specs.Numbers.{Numbering, IsIndexed}
-use Rattle.incompat_graph.specs.Marks.{Marking}
+use Rattle.pair_classes.specs.Numbers.{Numbering, IsIndexed}
+use Rattle.pair_classes.specs.Marks.{Marking}
 use Rattle.incompat_graph.specs.Search.{pair_of_node, IsReached, Adds, Reaches, IsTree, AreJoined, IsSettled, IsForest, ShowsConflict, Grows, IsJoinedFrom, HasGrown, IsKept, HasStepped}
-use Rattle.incompat_graph.proofs.Items.{item_pushed, item_last, item_append, item_taken, item_take, item_at}
-use Rattle.incompat_graph.proofs.NumberLaws.{indexed_same}
+use Rattle.pair_classes.proofs.Items.{item_pushed, item_last, item_append, item_taken, item_take, item_at}
+use Rattle.pair_classes.proofs.NumberLaws.{indexed_same}
 
 not_not : (b : Bool) → not (not b) ≡ b
 not_not true = refl

@@ -1,14 +1,14 @@
 -- The lists of the rows that have each column, as they grow.
 use Rattle.std.proofs.Common.{◌≡◌, ◌≢◌, ◌∙◌, take, drop, sum_by, ℕ, ◌+◌, ◌-◌, ◌<◌, ◌≤◌, Vec, Global, List, [], ◌∷◌, ◌++◌, length, map, set, replicate, get_or, slice_get, Some, IsTrue, sym, ap, subst, inl, inr, arith, length-drop, get_or-set_same, get_or-set_other}
 use Rattle.std.proofs.lemmas.Bool.{cases_eq, cases_lt}
-use Rattle.std.proofs.lemmas.List.Sums.{sum_by-append, sum_by-cons, sum_by-take-le, sum_by-take-drop}
-use Rattle.std.proofs.lemmas.List.{take_more, take-take, drop-take, length-set, length-replicate, get_or-replicate, get_or-map, get_or-drop, get_or_past}
-use Rattle.std.proofs.lemmas.Option.{none-some, same_Some, slice_get_within, slice_get-get_or, get_or_from_slice_get}
+use Rattle.std.proofs.lemmas.List.Sums.{sum_by-take-le, sum_by-take-drop}
+use Rattle.std.proofs.lemmas.List.{take-take, drop-take, length-set, length-replicate, get_or-replicate, get_or-map, get_or-drop, get_or_past}
+use Rattle.std.proofs.lemmas.Option.{none-some, same_Some, slice_get_within, slice_get-get_or}
 use Rattle.column_order.specs.Orders.{has}
 use Rattle.row_model.specs.Graph.{row_at}
 use Rattle.row_model.specs.Rows.{RowList}
 use Rattle.incompat_graph.specs.Holders.{holders_of, AreHolders}
-use Rattle.incompat_graph.proofs.Items.{item_pushed, item_last, item_append, has_item, item_of}
+use Rattle.pair_classes.proofs.Items.{item_pushed, item_last, item_append, has_item, item_of}
 
 -- the lists within the vectors
 abbrev pub lists_of : List (Vec ℕ Global) → List (List ℕ)
@@ -102,14 +102,6 @@ module _ (m : RowList) (k : ℕ) (row : List ℕ) (done : ℕ) (lists lists' : L
               (found.0, (found.1.0, stays q found.1.0 (k + 1) found.0 found.1.1))
         ];
       }
-
--- the ones of a further row
-pub ones_more : (rows : List (List ℕ)) (k : ℕ) (row : List ℕ) → slice_get rows (k + 1 - 1) ≡ Some row → sum_by length (take (k + 1) rows) ≡ sum_by length (take k rows) + length row
-ones_more rows k row e =
-    let here : slice_get rows k ≡ Some row = subst (λ n. slice_get rows n ≡ Some row) (omega arith) e in
-    ap (sum_by length) (take_more rows k row (slice_get_within rows k row here))
-    ∙ sum_by-append length (take k rows) (get_or rows k row ∷ [])
-    ∙ ap (λ n. sum_by length (take k rows) + n) (sum_by-cons length (get_or rows k row) [] ∙ omega (arith, ap length (get_or_from_slice_get rows k row row here)))
 
 -- the ones of fewer rows
 pub ones_part : (rows : List (List ℕ)) (k n : ℕ) → k ≤ n → sum_by length (take k rows) ≤ sum_by length (take n rows)

@@ -1,16 +1,11 @@
-pub mod Items
-pub mod NumberLaws
 pub mod PathLaws
 pub mod CycleSteps
-pub mod MarkLaws
+pub mod MarkedOnes
 pub mod ForestLaws
 pub mod HolderLaws
 pub mod SearchLaws
 pub mod LeavingLaws
 pub mod TakenLaws
-pub mod EvenLaws
-pub mod UnionLaws
-pub mod ClassLaws
 pub mod AcrossLaws
 pub mod SettledLaws
 pub mod ClosingLaws
@@ -19,5 +14,4 @@ pub mod NearLaws
 pub mod CheckedLaws
 pub mod PartLaws
 pub mod OddCycles
-pub mod CycleLength
 pub mod RisingLaws

@@ -8,25 +8,15 @@ use Rattle.std.proofs.lemmas.List.Quantifiers.{all_pairs_push}
 use Rattle.std.proofs.lemmas.Option.{slice_get_within, get_or_from_slice_get}
 use Rattle.row_model.specs.declared.graph.Pair.{Pair}
 use Rattle.row_model.specs.declared.graph.Line.{Line}
-use Rattle.row_model.specs.Graph.{pair}
 use Rattle.row_model.specs.Cycles.{IsClosedWalk}
 use Rattle.row_model.proofs.CycleLaws.{cycle_from}
+use Rattle.row_model.proofs.Pairs.{cases_pair}
 use Rattle.incompat_graph.specs.Laws.{HasOddCycle, OddCycleLaw}
 use Rattle.incompat_graph.proofs.PathLaws.{Follows, follows_none, follows_more, follows_cut, follows_odd, follows_all}
 
 -- no two lines have the same pair
 abbrev IsDistinct : List Line → Type 0
 IsDistinct path = AllPairs (λ (x : Line) (y : Line). x.pair ≢ y.pair) path
-
-cases_pair : (v w : Pair) → (v ≡ w) ⊎ (v ≢ w)
-cases_pair v w =
-    elim (cases_eq v.a w.a) [
-      | inl e ↦ elim (cases_eq v.b w.b) [
-        | inl f ↦ inl (ap (λ a. pair a v.b) e ∙ ap (pair w.a) f)
-        | inr n ↦ inr (λ same. n (ap (λ (x : Pair). x.b) same))
-      ]
-      | inr n ↦ inr (λ same. n (ap (λ (x : Pair). x.a) same))
-    ]
 
 -- a line of the path has the pair
 record HasPair (path : List Line) (v : Pair) : Type 0 where

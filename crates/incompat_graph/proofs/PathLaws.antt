@@ -6,10 +6,10 @@ use Rattle.row_model.specs.declared.graph.Line.{Line}
 use Rattle.row_model.specs.Graph.{pair, IsPair}
 use Rattle.row_model.specs.Cycles.{pair_of, first_pair, LeadTo, IsClosedWalk, IsOdd, IsOddWalk}
 use Rattle.row_model.proofs.CycleLaws.{first_pushed, first_drop, first_take, lead_push, lead_take, lead_drop, lead_line, closed_from, closed_leads}
-use Rattle.incompat_graph.specs.Numbers.{Numbering, number_of, Renumbers, IsIndexed}
+use Rattle.pair_classes.specs.Numbers.{Numbering, number_of, Renumbers, IsIndexed}
 use Rattle.std.proofs.lemmas.Option.{same_Some, slice_get_within}
 use Rattle.std.proofs.lemmas.List.{length-append, length-take-le, length-drop, drop_all}
-use Rattle.incompat_graph.proofs.NumberLaws.{cases_pair}
+use Rattle.row_model.proofs.Pairs.{cases_pair}
 
 -- the pairs numbered after the first so many have lost their numbers, as far as the next so many, and the others keep theirs
 pub record IsCleared (old new : Numbering) (keep done : ℕ) : Type 0 where

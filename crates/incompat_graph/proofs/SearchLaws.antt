@@ -11,10 +11,10 @@ use Rattle.row_model.specs.Rows.{RowList}
 use Rattle.column_order.specs.Orders.{has}
 use Rattle.incompat_graph.specs.declared.forest.Node.{Node}
 use Rattle.incompat_graph.specs.declared.forest.Forest.{Forest}
-use Rattle.incompat_graph.specs.Marks.{Marking, is_marked, IsMarkedAt}
+use Rattle.pair_classes.specs.Marks.{Marking, is_marked, IsMarkedAt}
 use Rattle.incompat_graph.specs.Search.{IsReached, IsForest, IsReachedAlong, IsSpread, IsSearch, Grows, IsJoinedFrom, HasGrown, HasStepped}
 use Rattle.row_model.proofs.CycleLaws.{joined_more}
-use Rattle.incompat_graph.proofs.Items.{item_of, has_item}
+use Rattle.pair_classes.proofs.Items.{item_of, has_item}
 use Rattle.incompat_graph.proofs.ForestLaws.{reached_append, grown_there, grown_old, grown_reached, grown_refl, grown_trans}
 
 -- the pairs of b with the first columns of the row are reached

@@ -13,12 +13,12 @@ use Rattle.open_gaps.specs.Tables.{GapTable}
 use Rattle.incompat_graph.specs.declared.forest.Node.{Node}
 use Rattle.incompat_graph.specs.declared.forest.Forest.{Forest}
 use Rattle.incompat_graph.specs.declared.neighbours.Neighbours.{Neighbours}
-use Rattle.incompat_graph.specs.Numbers.{number_of}
-use Rattle.incompat_graph.specs.Marks.{Marking, is_marked}
+use Rattle.pair_classes.specs.Numbers.{number_of}
+use Rattle.pair_classes.specs.Marks.{Marking, is_marked}
 use Rattle.incompat_graph.specs.Neighbours.{AreNeighbours}
 use Rattle.incompat_graph.specs.Search.{root_node, IsReached, Plants, IsSettled, IsSearch, Grows, IsAcross, IsTaken, AreTaken, AreReachedFrom}
-use Rattle.incompat_graph.proofs.Items.{item_last}
-use Rattle.incompat_graph.proofs.NumberLaws.{same_pair}
+use Rattle.pair_classes.proofs.Items.{item_last}
+use Rattle.row_model.proofs.Pairs.{same_pair}
 use Rattle.incompat_graph.proofs.ForestLaws.{reached_grown, reached_node, reached_once, grows_refl, grows_trans}
 use Rattle.incompat_graph.proofs.SearchLaws.{further_row}
 use Rattle.incompat_graph.proofs.TakenLaws.{search_grown, all_taken_grown}

@@ -10,10 +10,10 @@ use Rattle.open_gaps.specs.Tables.{GapTable}
 use Rattle.incompat_graph.specs.declared.forest.Node.{Node}
 use Rattle.incompat_graph.specs.declared.forest.Forest.{Forest}
 use Rattle.incompat_graph.specs.declared.neighbours.Neighbours.{Neighbours}
-use Rattle.incompat_graph.specs.Marks.{Marking, is_marked}
+use Rattle.pair_classes.specs.Marks.{Marking, is_marked}
 use Rattle.incompat_graph.specs.Holders.{holders_of, AreHolders, without}
 use Rattle.incompat_graph.specs.Search.{IsReached, IsForest, IsSearch, Grows, HasLeft, AreAcross, IsTaken, AreTaken}
-use Rattle.incompat_graph.proofs.Items.{item_at}
+use Rattle.pair_classes.proofs.Items.{item_at}
 use Rattle.incompat_graph.proofs.ForestLaws.{reached_append, reached_grown, grows_refl, grows_trans, grown_item, grown_long}
 use Rattle.incompat_graph.proofs.SearchLaws.{node_pair}
 

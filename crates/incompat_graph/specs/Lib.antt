@@ -1,11 +1,7 @@
-pub mod Numbers
-pub mod Marks
-pub mod Tables
+pub mod MarkedOnes
 pub mod Holders
 pub mod Neighbours
 pub mod Search
 pub mod Closing
 pub mod Reasons
-pub mod Unions
-pub mod Classes
 pub mod Laws

@@ -12,9 +12,9 @@ use Rattle.open_gaps.specs.Tables.{GapTable}
 use Rattle.incompat_graph.specs.declared.forest.Node.{Node}
 use Rattle.incompat_graph.specs.declared.forest.Conflict.{Conflict}
 use Rattle.incompat_graph.specs.declared.forest.Forest.{Forest}
-use Rattle.incompat_graph.specs.Numbers.{IsIndexed}
+use Rattle.pair_classes.specs.Numbers.{IsIndexed}
 use Rattle.incompat_graph.specs.declared.neighbours.Neighbours.{Neighbours}
-use Rattle.incompat_graph.specs.Marks.{Marking, is_marked}
+use Rattle.pair_classes.specs.Marks.{Marking, is_marked}
 
 abbrev pub pair_of_node : Node → Pair
 pair_of_node node = node.pair

@@ -6,8 +6,8 @@ ghost use Rattle.row_model.specs.declared.graph.Why.TheVariants.{Row};
 ghost use Rattle.row_model.specs.Graph.{JoinedBy};
 ghost use Rattle.row_model.specs.Cycles.{first_pair, IsOddWalk, IsOddCycle};
 
-use crate::cycle::Cycle;
 use crate::sorted::{is_rising, sorted_pairs};
+use odd_cycle::Cycle;
 use row_model::{Line, Matrix, NoMemory, Pair, Why, joined_by};
 use std::alloc::Global;
 use step_count::{Ledger, Steps};

@@ -6,7 +6,7 @@ ghost use Rattle.incompat_graph.specs.Search.{IsTree, ShowsConflict};
 ghost use Rattle.incompat_graph.specs.Closing.{AreEnds, IsWayDown, IsWayUp};
 
 use crate::forest::{Conflict, Forest};
-use crate::walk::Walk;
+use odd_cycle::Walk;
 use row_model::{Line, NoMemory};
 use std::alloc::Global;
 

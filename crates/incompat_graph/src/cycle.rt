@@ -1,63 +1,14 @@
-// Odd cycles, and the odd cycle that a closed walk of odd length contains.
+// The odd cycle that a closed walk of odd length contains.
 ghost use Rattle.std.specs.Prelude.{◌≡◌, ◌⊎◌, ℕ, ◌+◌, ◌<◌, [], ◌∷◌, ◌++◌, take, length, IfOk, OnOk, ◌≤◌};
 ghost use Rattle.row_model.specs.declared.graph.Pair.{Pair};
 ghost use Rattle.row_model.specs.Graph.{IsPair};
-ghost use Rattle.row_model.specs.Cycles.{IsSimpleOdd, IsClosedWalk, IsOddCycle, pair_of};
-ghost use Rattle.incompat_graph.specs.Numbers.{IsIndexed, number_of};
+ghost use Rattle.row_model.specs.Cycles.{IsClosedWalk, IsOddCycle, pair_of};
+ghost use Rattle.pair_classes.specs.Numbers.{IsIndexed, number_of};
 
-use crate::numbers::PairNumbers;
-use crate::walk::Walk;
-use row_model::{Line, Lines, Matrix, NoMemory, Pair};
+use odd_cycle::{Cycle, Walk};
+use pair_classes::PairNumbers;
+use row_model::{Line, Matrix, NoMemory, Pair};
 use std::alloc::Global;
-use std::marker::Model;
-
-/// An odd number of lines, three or more, with no pair twice. Those that [`simple_cycle`] answers are an odd cycle in
-/// the incompatibility graph of its matrix: the reason of each line joins its pair to the pair of the next line, and
-/// the reason of the last line to the pair of the first.
-#[derive(Drop)]
-pub struct Cycle {
-    lines: Lines,
-}
-
-impl Model for Cycle {
-    ghost use Rattle.std.specs.Prelude.{List};
-    ghost use Rattle.row_model.specs.declared.graph.Line.{Line};
-    ghost use Rattle.row_model.specs.Cycles.{IsSimpleOdd};
-
-    ghost Value = { List Line };
-
-    ghost view = { λ cycle. cycle.lines };
-
-    ghost invariant = { λ cycle. IsSimpleOdd cycle.lines };
-}
-
-impl Cycle {
-    // A cycle of these lines.
-    pub(crate) fn from_lines(lines: Vec<Line>) -> Self
-        requires { IsSimpleOdd lines.items }
-        ensures { result ≡ lines.items }
-    {
-        Cycle {
-            lines: Lines::from_vec(lines),
-        }
-    }
-
-    /// The lines in their order.
-    pub fn lines(&self) -> &[Line]
-        ensures lines { result.now ≡ self.now }
-        ensures simple { IsSimpleOdd result.now }
-    {
-        self.lines.as_slice()
-    }
-
-    /// The lines in their order, without a copy.
-    pub fn into_lines(self) -> Lines
-        ensures lines { result ≡ self }
-        ensures simple { IsSimpleOdd result }
-    {
-        self.lines
-    }
-}
 
 /// An odd cycle of the matrix, which is looked for along a closed walk of odd length. Along a walk in the graph of the
 /// first rows it is one in that graph.
@@ -81,15 +32,12 @@ pub fn simple_cycle(alloc: Global, m: &Matrix, walk: &Walk) -> Result<Cycle, NoM
     for line in walk.lines() {
         let keep = place(&numbers, &path, line.pair);
         if (path.len() - keep) % 2 == 1 {
-            let lines = Lines::from_vec(path.split_off(keep)?);
-            return Ok(Cycle { lines });
+            return Ok(Cycle::from_lines(path.split_off(keep)?));
         }
         cut(&mut numbers, &mut path, keep);
         extend(&mut numbers, &mut path, *line)?;
     }
-    Ok(Cycle {
-        lines: Lines::from_vec(path),
-    })
+    Ok(Cycle::from_lines(path))
 }
 
 // The index of the line with this pair, or the length of the path where there is none.

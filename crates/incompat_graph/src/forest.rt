@@ -1,10 +1,10 @@
 // The pairs that the search has reached, each with the way by which it was reached.
 ghost use Rattle.std.specs.Prelude.{◌≡◌, ◌<◌, ◌≤◌, ℕ, List, [], length, IfOk, OnOk, MatchOption};
 ghost use Rattle.row_model.specs.Graph.{IsPair};
-ghost use Rattle.incompat_graph.specs.Numbers.{IsIndexed, number_of};
+ghost use Rattle.pair_classes.specs.Numbers.{IsIndexed, number_of};
 ghost use Rattle.incompat_graph.specs.Search.{pair_of_node, Adds, Plants, Reaches, IsForest, IsJoinedFrom, IsKept, HasStepped, ShowsConflict};
 
-use crate::numbers::PairNumbers;
+use pair_classes::PairNumbers;
 use row_model::{COLUMN_BOUND, Line, NoMemory, Pair, Why};
 use std::alloc::Global;
 

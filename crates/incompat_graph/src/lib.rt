@@ -5,17 +5,14 @@
 mod around;
 mod borders;
 mod checked;
-mod classes;
 mod closing;
 mod cycle;
 mod forest;
 mod holders;
 mod laws;
 mod links;
-mod marks;
 mod met;
 mod neighbours;
-mod numbers;
 mod part;
 mod quick;
 mod reason;
@@ -24,20 +21,17 @@ mod sample;
 mod search;
 mod shorter;
 mod sorted;
-mod unions;
-mod walk;
 mod ways;
 
-pub use classes::{Classes, even_classes};
-pub use cycle::{Cycle, simple_cycle};
-pub use laws::{cycle_length_law, odd_cycle_law};
-pub use marks::Marks;
+pub use cycle::simple_cycle;
+pub use laws::odd_cycle_law;
+pub use odd_cycle::{Cycle, Walk, cycle_length_law};
+pub use pair_classes::{Classes, Marks, even_classes};
 pub use quick::odd_cycle_along;
 pub use reason::joined;
 pub use row_model::NoMemory;
 pub use search::odd_walk;
 pub use shorter::shorter_cycle;
-pub use walk::Walk;
 
 #[cfg(test)]
 mod tests;

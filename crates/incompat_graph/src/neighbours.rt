@@ -7,7 +7,7 @@ ghost use Rattle.row_model.specs.Graph.{IsPair, JoinedBy};
 ghost use Rattle.open_gaps.specs.Gaps.{AreGaps};
 ghost use Rattle.open_gaps.specs.Tables.{GapTable};
 ghost use Rattle.incompat_graph.specs.declared.forest.Node.{Node};
-ghost use Rattle.incompat_graph.specs.Numbers.{IsIndexed};
+ghost use Rattle.pair_classes.specs.Numbers.{IsIndexed};
 ghost use Rattle.incompat_graph.specs.Search.{pair_of_node, IsForest, IsJoinedFrom, IsKept, HasGrown, HasStepped, HasCrossed, HasLeft, ShowsConflict};
 
 use crate::forest::{Conflict, Forest};

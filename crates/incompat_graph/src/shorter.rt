@@ -3,9 +3,9 @@ ghost use Rattle.std.specs.Prelude.{◌+◌, ◌≤◌, length, take, IfOk};
 ghost use Rattle.row_model.specs.Cycles.{IsOddCycle};
 
 use crate::checked::checked_cycle;
-use crate::cycle::Cycle;
 use crate::met::Met;
 use crate::part::lines_among;
+use odd_cycle::Cycle;
 use row_model::{Matrix, NoMemory};
 use std::alloc::Global;
 use step_count::{Ledger, Steps};

@@ -5,7 +5,7 @@ ghost use Rattle.row_model.specs.Cycles.{IsOddCycle};
 ghost use Rattle.row_core.specs.Cores.{AreRowNumbers, rows_at};
 ghost use Rattle.row_core.specs.Blamed.{whole_line, IsReasonWithin, AreReasonsWithin, AreMarked, with_mark, marked_from, IsBlamed};
 
-use incompat_graph::Cycle;
+use odd_cycle::Cycle;
 use row_model::{Line, Lines, NoMemory, Why};
 use std::alloc::Global;
 

@@ -2,7 +2,7 @@
 ghost use Rattle.std.specs.Prelude.{IfOk};
 ghost use Rattle.row_core.specs.Judges.{IsJudged};
 
-use incompat_graph::Cycle;
+use odd_cycle::Cycle;
 use pq_tree::PqTree;
 use row_model::{Matrix, NoMemory};
 use std::alloc::Global;

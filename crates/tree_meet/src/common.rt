@@ -5,7 +5,7 @@ ghost use Rattle.pq_tree.specs.PqTree.{column_count, outline};
 ghost use Rattle.tree_meet.specs.Meets.{IsMet};
 
 use crate::rows::{push_rows, tree_rows};
-use incompat_graph::Cycle;
+use odd_cycle::Cycle;
 use pq_tree::PqTree;
 use row_core::{Judge, Judged};
 use row_model::{MAX_COLUMNS, NoMemory};

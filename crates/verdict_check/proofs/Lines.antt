@@ -9,7 +9,7 @@ use Rattle.row_model.specs.declared.graph.Pair.{Pair}
 use Rattle.row_model.specs.declared.graph.Line.{Line}
 use Rattle.row_model.specs.Graph.{IsPair}
 use Rattle.row_model.proofs.Pairs.{same_pair, cases_pair}
-use Rattle.incompat_graph.specs.Marks.{Marking, is_marked, IsMarkedAt}
+use Rattle.pair_classes.specs.Marks.{Marking, is_marked, IsMarkedAt}
 use Rattle.verdict_check.specs.NoTests.{HasLine, PassesPair, PassesRepeat}
 use Rattle.verdict_check.specs.Found.{IsLeastFailing}
 

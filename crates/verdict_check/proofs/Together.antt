@@ -11,7 +11,7 @@ use Rattle.pq_tree.specs.Proper.{outline_of, forest, HasArities}
 use Rattle.pq_tree.specs.declared.Tree.{Tree}
 use Rattle.pq_tree.proofs.Nodes.{node_itself}
 use Rattle.tied_law.specs.Tied.{IsClosed, IsForward, IsInLine}
-use Rattle.incompat_graph.specs.Numbers.{Numbering}
+use Rattle.pair_classes.specs.Numbers.{Numbering}
 use Rattle.verdict_check.specs.Complete.{InRows, IsComplete, AreComplete, StandsAt, IsOutside, pair_at}
 use Rattle.verdict_check.proofs.HoldsSteps.{rest_at}
 use Rattle.verdict_check.proofs.GapPush.{long}

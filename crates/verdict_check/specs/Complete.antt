@@ -4,8 +4,8 @@ use Rattle.row_model.specs.declared.graph.Pair.{Pair}
 use Rattle.row_model.specs.Graph.{pair, Evenly}
 use Rattle.pq_tree.specs.Outline.{Outline, Forest, q_node, leaves}
 use Rattle.tied_law.specs.Tied.{IsNode, IsNodeOf, IsClosed, IsInLine}
-use Rattle.incompat_graph.specs.Numbers.{Numbering}
-use Rattle.incompat_graph.specs.Classes.{TellsClasses}
+use Rattle.pair_classes.specs.Numbers.{Numbering}
+use Rattle.pair_classes.specs.Classes.{TellsClasses}
 
 -- P holds of the walks of even length in whatever rows the classes tell
 abbrev pub InRows : Numbering → ((Pair → Pair → Type 0) → Type 0) → Type 0

@@ -12,10 +12,10 @@ ghost use Rattle.pq_tree.specs.Outline.{leaves, leaves_of};
 ghost use Rattle.pq_tree.specs.Proper.{outline_of, forest, HasArities, HaveArities};
 ghost use Rattle.pq_tree.specs.PqTree.{column_count, outline};
 ghost use Rattle.tied_law.specs.Tied.{AreTogether, AreInLine, IsClosed, IsInLine};
-ghost use Rattle.incompat_graph.specs.Classes.{TellsClasses};
+ghost use Rattle.pair_classes.specs.Classes.{TellsClasses};
 ghost use Rattle.verdict_check.specs.Complete.{InRows, IsComplete, AreComplete, StandsAt, IsOutside, pair_at};
 
-use incompat_graph::Classes;
+use pair_classes::Classes;
 use pq_tree::{PqTree, Tree};
 use row_model::{NoMemory, Pair};
 use std::alloc::Global;

@@ -5,7 +5,7 @@ ghost use Rattle.verdict_check.specs.NoTests.{PassesPair, PassesRepeat};
 ghost use Rattle.verdict_check.specs.Found.{IsLeastFailing};
 
 use crate::chains::{chains_of, least_in_chain};
-use incompat_graph::Marks;
+use pair_classes::Marks;
 use row_model::{Line, NoMemory};
 use std::alloc::Global;
 

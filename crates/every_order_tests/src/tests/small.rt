@@ -8,7 +8,7 @@ ghost use Rattle.row_model.specs.Rows.{IsRow};
 use crate::tests::plain::{all_orders, keeps_rows};
 use crate::tests::trees::{Listed, every_tree};
 use bound_tree::is_complete;
-use incompat_graph::{Classes, even_classes};
+use pair_classes::{Classes, even_classes};
 use pq_tree::PqTree;
 use row_model::{Matrix, NoMemory};
 use std::alloc::Global;

@@ -3,41 +3,29 @@ ghost use Rattle.std.specs.Prelude.{◌≤◌};
 ghost use Rattle.row_model.specs.Rows.{IsRow};
 
 use pq_tree::PqTree;
-use row_model::{COLUMN_BOUND, NoMemory};
+use row_model::COLUMN_BOUND;
 use std::alloc::Global;
-use std::process::Abort;
 use std::test::Fail;
 use verdict_check::tree_holds;
 
-// Asserts whether every frontier of the tree with this text keeps the row.
-fn assert_holds(
-    rt: &impl Abort,
-    alloc: Global,
-    text: &[u8],
-    c: u32,
-    row: &[u32],
-    holds: bool,
-) -> Result<(), NoMemory>
+// Whether every frontier of the tree with this text keeps the row.
+fn holds(alloc: Global, text: &[u8], c: u32, row: &[u32]) -> Result<bool, Fail>
     requires columns { (1 ≤ c) × (c ≤ COLUMN_BOUND) }
     requires row { IsRow c row.now }
 {
-    match PqTree::parse(alloc, text, c)? {
-        None => panic!(rt; "no tree has this text"),
-        Some(tree) => {
-            let answer = tree_holds(&tree, row);
-            assert_eq!(rt; answer, holds);
-        }
-    }
-    Ok(())
+    let tree = PqTree::parse(alloc, text, c)?.ok_or("a tree")?;
+    Ok(tree_holds(&tree, row))
 }
 
 #[test]
 fn a_run_of_a_q_node_holds_and_a_pair_of_a_p_node_does_not(rt: HostRuntime) -> Result<(), Fail> {
-    let alloc = rt.alloc();
-    assert_holds(&rt, alloc, b"[1 2 3]", 3, &[1, 2], true)?;
-    assert_holds(&rt, alloc, b"[1 2 3]", 3, &[1, 3], false)?;
-    assert_holds(&rt, alloc, b"(1 2 3)", 3, &[1, 2], false)?;
-    assert_holds(&rt, alloc, b"([1 2 3] 4)", 4, &[2, 3], true)?;
-    assert_holds(&rt, alloc, b"([1 2 3] 4)", 4, &[3, 4], false)?;
+    let answers = [
+        holds(rt.alloc(), b"[1 2 3]", 3, &[1, 2])?,
+        holds(rt.alloc(), b"[1 2 3]", 3, &[1, 3])?,
+        holds(rt.alloc(), b"(1 2 3)", 3, &[1, 2])?,
+        holds(rt.alloc(), b"([1 2 3] 4)", 4, &[2, 3])?,
+        holds(rt.alloc(), b"([1 2 3] 4)", 4, &[3, 4])?,
+    ];
+    assert_eq!(rt; answers, [true, false, false, true, false]);
     Ok(())
 }

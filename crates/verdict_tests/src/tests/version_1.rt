@@ -6,6 +6,7 @@ ghost use Rattle.instance_model.specs.Value.{instance_value};
 use graph_read::{Bigraph, Graph};
 use row_model::{Kind, Matrix};
 use std::alloc::Global;
+use std::process::Abort;
 use std::test::Fail;
 use verdict_check::{Checked, Instance, Reason, check};
 use verdict_text::parse;
@@ -141,103 +142,88 @@ fn chain(alloc: Global) -> Result<Instance, Fail>
     Ok(Instance::Proper(g))
 }
 
-fn judged(alloc: Global, instance: &Instance, text: &[u8]) -> Result<Checked, Fail>
+// Asserts what is said of each verdict.
+fn assert_judged(
+    rt: &impl Abort,
+    alloc: Global,
+    instance: &Instance,
+    rows: &[(&[u8], Checked)],
+) -> Result<(), Fail>
     requires { IsInstance (instance_value instance.now) }
 {
-    let v = parse(alloc, text)?.ok_or("a verdict")?;
-    let checked = check(alloc, instance, &v)?;
-    Ok(checked)
+    for i in 0..rows.len() {
+        let (text, wanted) = rows[i];
+        let v = parse(alloc, text)?.ok_or("a verdict")?;
+        let checked = check(alloc, instance, &v)?;
+        assert_eq!(rt; checked, wanted, "verdict {i}");
+    }
+    Ok(())
 }
 
 #[test]
 fn a_yes_is_judged_by_its_order_and_its_tree(rt: HostRuntime) -> Result<(), Fail> {
     let path = path(rt.alloc())?;
-    assert_eq!(rt; judged(rt.alloc(), &path, PATH)?, Checked::Valid);
-    assert_eq!(rt;
-        judged(rt.alloc(), &path, ANOTHER_KIND)?,
-        Checked::Invalid(Reason::Kind)
-    );
-    assert_eq!(rt;
-        judged(rt.alloc(), &path, ANOTHER_COLUMN)?,
-        Checked::Invalid(Reason::Columns)
-    );
-    assert_eq!(rt;
-        judged(rt.alloc(), &path, ANOTHER_ORDER)?,
-        Checked::Invalid(Reason::Order(1))
-    );
-    assert_eq!(rt;
-        judged(rt.alloc(), &path, ANOTHER_TREE)?,
-        Checked::Invalid(Reason::Tree(1, 1))
-    );
-    Ok(())
+    let rows = [
+        (PATH, Checked::Valid),
+        (ANOTHER_KIND, Checked::Invalid(Reason::Kind)),
+        (ANOTHER_COLUMN, Checked::Invalid(Reason::Columns)),
+        (ANOTHER_ORDER, Checked::Invalid(Reason::Order(1))),
+        (ANOTHER_TREE, Checked::Invalid(Reason::Tree(1, 1))),
+    ];
+    assert_judged(&rt, rt.alloc(), &path, &rows)
 }
 
 #[test]
 fn a_no_is_judged_by_its_cycle(rt: HostRuntime) -> Result<(), Fail> {
     let triangle = triangle(rt.alloc())?;
-    assert_eq!(rt; judged(rt.alloc(), &triangle, TRIANGLE)?, Checked::Valid);
-    assert_eq!(rt;
-        judged(rt.alloc(), &triangle, TWO_LINES)?,
-        Checked::Invalid(Reason::Length(2))
-    );
-    assert_eq!(rt;
-        judged(rt.alloc(), &triangle, ONE_COLUMN_TWICE)?,
-        Checked::Invalid(Reason::Pair(2))
-    );
-    assert_eq!(rt;
-        judged(rt.alloc(), &triangle, THERE_AND_BACK)?,
-        Checked::Invalid(Reason::Repeat(3))
-    );
-    assert_eq!(rt;
-        judged(rt.alloc(), &triangle, NO_ROW)?,
-        Checked::Invalid(Reason::Join(3))
-    );
-    Ok(())
+    let rows = [
+        (TRIANGLE, Checked::Valid),
+        (TWO_LINES, Checked::Invalid(Reason::Length(2))),
+        (ONE_COLUMN_TWICE, Checked::Invalid(Reason::Pair(2))),
+        (THERE_AND_BACK, Checked::Invalid(Reason::Repeat(3))),
+        (NO_ROW, Checked::Invalid(Reason::Join(3))),
+    ];
+    assert_judged(&rt, rt.alloc(), &triangle, &rows)
 }
 
 #[test]
 fn a_circular_order_is_judged_by_its_rotation(rt: HostRuntime) -> Result<(), Fail> {
     let circle = circle(rt.alloc())?;
-    assert_eq!(rt; judged(rt.alloc(), &circle, CIRCLE)?, Checked::Valid);
-    assert_eq!(rt;
-        judged(rt.alloc(), &circle, NO_CIRCLE)?,
-        Checked::Invalid(Reason::Order(1))
-    );
-    assert_eq!(rt;
-        judged(rt.alloc(), &circle, CIRCLE_ELSEWHERE)?,
-        Checked::Invalid(Reason::Tree(1, 2))
-    );
-    Ok(())
+    let rows = [
+        (CIRCLE, Checked::Valid),
+        (NO_CIRCLE, Checked::Invalid(Reason::Order(1))),
+        (CIRCLE_ELSEWHERE, Checked::Invalid(Reason::Tree(1, 2))),
+    ];
+    assert_judged(&rt, rt.alloc(), &circle, &rows)
 }
 
 #[test]
 fn two_sides_are_judged_one_after_the_other(rt: HostRuntime) -> Result<(), Fail> {
     let zigzag = zigzag(rt.alloc())?;
-    assert_eq!(rt; judged(rt.alloc(), &zigzag, TWO_SIDES)?, Checked::Valid);
-    assert_eq!(rt;
-        judged(rt.alloc(), &zigzag, ANOTHER_ORDER_2)?,
-        Checked::Invalid(Reason::Order(2))
-    );
-    assert_eq!(rt;
-        judged(rt.alloc(), &zigzag, ANOTHER_TREE_2)?,
-        Checked::Invalid(Reason::Tree(2, 2))
-    );
+    let rows = [
+        (TWO_SIDES, Checked::Valid),
+        (ANOTHER_ORDER_2, Checked::Invalid(Reason::Order(2))),
+        (ANOTHER_TREE_2, Checked::Invalid(Reason::Tree(2, 2))),
+    ];
+    assert_judged(&rt, rt.alloc(), &zigzag, &rows)
+}
+
+#[test]
+fn a_cycle_is_judged_on_its_side(rt: HostRuntime) -> Result<(), Fail> {
     let spider = spider(rt.alloc())?;
-    assert_eq!(rt; judged(rt.alloc(), &spider, SIDE_2)?, Checked::Valid);
-    assert_eq!(rt;
-        judged(rt.alloc(), &spider, SIDE_1)?,
-        Checked::Invalid(Reason::Join(1))
-    );
-    Ok(())
+    let rows = [
+        (SIDE_2, Checked::Valid),
+        (SIDE_1, Checked::Invalid(Reason::Join(1))),
+    ];
+    assert_judged(&rt, rt.alloc(), &spider, &rows)
 }
 
 #[test]
 fn intervals_are_judged_by_the_graph(rt: HostRuntime) -> Result<(), Fail> {
     let chain = chain(rt.alloc())?;
-    assert_eq!(rt; judged(rt.alloc(), &chain, INTERVALS)?, Checked::Valid);
-    assert_eq!(rt;
-        judged(rt.alloc(), &chain, OTHER_INTERVALS)?,
-        Checked::Invalid(Reason::Intervals)
-    );
-    Ok(())
+    let rows = [
+        (INTERVALS, Checked::Valid),
+        (OTHER_INTERVALS, Checked::Invalid(Reason::Intervals)),
+    ];
+    assert_judged(&rt, rt.alloc(), &chain, &rows)
 }

@@ -5,7 +5,7 @@ ghost use Rattle.instance_model.specs.Value.{instance_value};
 
 use super::version_1::spider;
 use graph_read::Bigraph;
-use incompat_graph::{Classes, even_classes};
+use pair_classes::{Classes, even_classes};
 use pq_tree::PqTree;
 use row_model::{Kind, Matrix, NoMemory};
 use std::alloc::Global;
@@ -119,139 +119,113 @@ fn fork(alloc: Global) -> Result<Instance, Fail>
     Ok(Instance::Doubly(g))
 }
 
-// Asserts what is said of a verdict with these lines after the first.
+// Asserts what is said of each verdict, told by its version, the lines after the first, and the answer that is wanted.
 fn assert_judged(
     rt: &impl Abort,
     alloc: Global,
     instance: &Instance,
-    version: &[u8],
-    lines: &[u8],
-    wanted: Checked,
+    rows: &[(&[u8], &[u8], Checked)],
 ) -> Result<(), Fail>
+    requires { IsInstance (instance_value instance.now) }
+{
+    for i in 0..rows.len() {
+        let (version, lines, wanted) = rows[i];
+        let checked = judged(alloc, instance, version, lines)?;
+        assert_eq!(rt; checked, wanted, "verdict {i}");
+    }
+    Ok(())
+}
+
+fn judged(alloc: Global, instance: &Instance, version: &[u8], lines: &[u8]) -> Result<Checked, Fail>
     requires { IsInstance (instance_value instance.now) }
 {
     let mut text = version.to_vec(alloc)?;
     text.extend_from_slice(lines)?;
     let v = parse(alloc, &text)?.ok_or("a verdict")?;
     let checked = check(alloc, instance, &v)?;
-    assert_eq!(rt; checked, wanted);
-    Ok(())
+    Ok(checked)
 }
 
 const INCOMPLETE: Checked = Checked::Invalid(Reason::Complete(1));
 
 #[test]
 fn a_tree_has_to_have_every_order(rt: HostRuntime) -> Result<(), Fail> {
-    let alloc = rt.alloc();
-    let i = plain(free(alloc)?);
-    assert_judged(&rt, alloc, &i, VERSION_2, STAR, Checked::Valid)?;
-    assert_judged(&rt, alloc, &i, VERSION_2, LINE, INCOMPLETE)?;
-    assert_judged(&rt, alloc, &i, VERSION_2, PAIR, INCOMPLETE)?;
-    Ok(())
-}
-
-#[test]
-fn version_1_asks_for_some_orders_alone(rt: HostRuntime) -> Result<(), Fail> {
-    let alloc = rt.alloc();
-    let i = plain(free(alloc)?);
-    assert_judged(&rt, alloc, &i, VERSION_1, STAR, Checked::Valid)?;
-    assert_judged(&rt, alloc, &i, VERSION_1, LINE, Checked::Valid)?;
-    assert_judged(&rt, alloc, &i, VERSION_1, PAIR, Checked::Valid)?;
-    Ok(())
+    let free = plain(free(rt.alloc())?);
+    let rows = [
+        (VERSION_2, STAR, Checked::Valid),
+        (VERSION_2, LINE, INCOMPLETE),
+        (VERSION_2, PAIR, INCOMPLETE),
+        (VERSION_1, STAR, Checked::Valid),
+        (VERSION_1, LINE, Checked::Valid),
+        (VERSION_1, PAIR, Checked::Valid),
+    ];
+    assert_judged(&rt, rt.alloc(), &free, &rows)
 }
 
 #[test]
 fn a_row_leaves_less_to_have(rt: HostRuntime) -> Result<(), Fail> {
-    let alloc = rt.alloc();
-    let i = plain(pair(alloc)?);
-    assert_judged(&rt, alloc, &i, VERSION_2, PAIR, Checked::Valid)?;
-    assert_judged(&rt, alloc, &i, VERSION_2, LINE, INCOMPLETE)?;
-    Ok(())
+    let pair = plain(pair(rt.alloc())?);
+    let rows = [
+        (VERSION_2, PAIR, Checked::Valid),
+        (VERSION_2, LINE, INCOMPLETE),
+    ];
+    assert_judged(&rt, rt.alloc(), &pair, &rows)
 }
 
 #[test]
 fn every_row_is_tested_before(rt: HostRuntime) -> Result<(), Fail> {
-    let alloc = rt.alloc();
-    let i = plain(path(alloc)?);
-    assert_judged(&rt, alloc, &i, VERSION_2, LINE, Checked::Valid)?;
-    assert_judged(
-        &rt,
-        alloc,
-        &i,
-        VERSION_2,
-        STAR,
-        Checked::Invalid(Reason::Tree(1, 1)),
-    )?;
-    assert_judged(
-        &rt,
-        alloc,
-        &i,
-        VERSION_2,
-        PAIR,
-        Checked::Invalid(Reason::Tree(1, 2)),
-    )?;
-    Ok(())
+    let path = plain(path(rt.alloc())?);
+    let rows = [
+        (VERSION_2, LINE, Checked::Valid),
+        (VERSION_2, STAR, Checked::Invalid(Reason::Tree(1, 1))),
+        (VERSION_2, PAIR, Checked::Invalid(Reason::Tree(1, 2))),
+        (VERSION_2, TRIANGLE, Checked::Invalid(Reason::Join(2))),
+    ];
+    assert_judged(&rt, rt.alloc(), &path, &rows)
 }
 
 #[test]
 fn a_no_is_judged_as_before(rt: HostRuntime) -> Result<(), Fail> {
-    let alloc = rt.alloc();
-    let i = plain(triangle(alloc)?);
-    assert_judged(&rt, alloc, &i, VERSION_2, TRIANGLE, Checked::Valid)?;
-    let j = plain(path(alloc)?);
+    let triangle = plain(triangle(rt.alloc())?);
     assert_judged(
         &rt,
-        alloc,
-        &j,
-        VERSION_2,
-        TRIANGLE,
-        Checked::Invalid(Reason::Join(2)),
-    )?;
-    Ok(())
+        rt.alloc(),
+        &triangle,
+        &[(VERSION_2, TRIANGLE, Checked::Valid)],
+    )
 }
 
 // The rows of the triangle, cut at column 1, are 001, 011 and 010.
 #[test]
 fn a_circle_by_its_cut_rows(rt: HostRuntime) -> Result<(), Fail> {
-    let alloc = rt.alloc();
-    let i = round(triangle(alloc)?);
-    assert_judged(&rt, alloc, &i, VERSION_2, RING_PAIR, Checked::Valid)?;
-    assert_judged(&rt, alloc, &i, VERSION_2, RING, INCOMPLETE)?;
-    assert_judged(&rt, alloc, &i, VERSION_1, RING, Checked::Valid)?;
-    Ok(())
+    let triangle = round(triangle(rt.alloc())?);
+    let rows = [
+        (VERSION_2, RING_PAIR, Checked::Valid),
+        (VERSION_2, RING, INCOMPLETE),
+        (VERSION_1, RING, Checked::Valid),
+    ];
+    assert_judged(&rt, rt.alloc(), &triangle, &rows)
 }
 
 #[test]
 fn the_second_side_by_its_own_rows(rt: HostRuntime) -> Result<(), Fail> {
-    let alloc = rt.alloc();
-    let i = fork(alloc)?;
-    assert_judged(&rt, alloc, &i, VERSION_2, FORK_STAR, Checked::Valid)?;
-    assert_judged(
-        &rt,
-        alloc,
-        &i,
-        VERSION_2,
-        FORK_LINE,
-        Checked::Invalid(Reason::Complete(2)),
-    )?;
-    assert_judged(&rt, alloc, &i, VERSION_1, FORK_LINE, Checked::Valid)?;
-    Ok(())
+    let fork = fork(rt.alloc())?;
+    let rows = [
+        (VERSION_2, FORK_STAR, Checked::Valid),
+        (VERSION_2, FORK_LINE, Checked::Invalid(Reason::Complete(2))),
+        (VERSION_1, FORK_LINE, Checked::Valid),
+    ];
+    assert_judged(&rt, rt.alloc(), &fork, &rows)
 }
 
 #[test]
 fn all_of_side_1_before_side_2(rt: HostRuntime) -> Result<(), Fail> {
-    let alloc = rt.alloc();
-    let i = spider(alloc)?;
-    assert_judged(&rt, alloc, &i, VERSION_2, SPIDER, INCOMPLETE)?;
-    assert_judged(
-        &rt,
-        alloc,
-        &i,
-        VERSION_1,
-        SPIDER,
-        Checked::Invalid(Reason::Order(2)),
-    )?;
-    Ok(())
+    let spider = spider(rt.alloc())?;
+    let rows = [
+        (VERSION_2, SPIDER, INCOMPLETE),
+        (VERSION_1, SPIDER, Checked::Invalid(Reason::Order(2))),
+    ];
+    assert_judged(&rt, rt.alloc(), &spider, &rows)
 }
 
 fn classes_counted<L: Ledger>(alloc: Global, m: &Matrix, blank: Blank) -> Result<Classes, NoMemory>
@@ -267,61 +241,67 @@ fn classes_of(alloc: Global, m: &Matrix) -> Result<Classes, NoMemory> {
     classes_counted::<Brand>(alloc, m, Blank::new(1))
 }
 
-// Asserts whether the tree stands for every order of the rows, as far as walks of even length tell.
+// Asserts of each tree whether it stands for every order of the rows, as far as walks of even length tell.
 fn assert_complete(
     rt: &impl Abort,
     alloc: Global,
     m: &Matrix,
-    text: &[u8],
-    holds: bool,
+    rows: &[(&[u8], bool)],
 ) -> Result<(), Fail> {
     let classes = classes_of(alloc, m)?;
-    let tree = PqTree::parse(alloc, text, m.columns())?.ok_or("a tree")?;
-    assert_eq!(rt; tree.columns(), classes.columns());
-    let answer = complete(alloc, &tree, &classes)?;
-    assert_eq!(rt; answer, holds);
+    for i in 0..rows.len() {
+        let (text, wanted) = rows[i];
+        let tree = PqTree::parse(alloc, text, m.columns())?.ok_or("a tree")?;
+        assert_eq!(rt; tree.columns(), classes.columns());
+        let answer = complete(alloc, &tree, &classes)?;
+        assert_eq!(rt; answer, wanted, "tree {i}");
+    }
     Ok(())
 }
 
 #[test]
 fn trees_without_rows(rt: HostRuntime) -> Result<(), Fail> {
-    let alloc = rt.alloc();
-    let m = free(alloc)?;
-    assert_complete(&rt, alloc, &m, b"(1 2 3)", true)?;
-    assert_complete(&rt, alloc, &m, b"[1 2 3]", false)?;
-    assert_complete(&rt, alloc, &m, b"((1 2) 3)", false)?;
-    Ok(())
+    let free = free(rt.alloc())?;
+    let rows = [
+        (b"(1 2 3)".as_slice(), true),
+        (b"[1 2 3]", false),
+        (b"((1 2) 3)", false),
+    ];
+    assert_complete(&rt, rt.alloc(), &free, &rows)
 }
 
 #[test]
 fn trees_and_one_row(rt: HostRuntime) -> Result<(), Fail> {
-    let alloc = rt.alloc();
-    let m = pair(alloc)?;
-    assert_complete(&rt, alloc, &m, b"((1 2) 3)", true)?;
-    assert_complete(&rt, alloc, &m, b"((1 3) 2)", false)?;
-    assert_complete(&rt, alloc, &m, b"[1 2 3]", false)?;
-    Ok(())
+    let pair = pair(rt.alloc())?;
+    let rows = [
+        (b"((1 2) 3)".as_slice(), true),
+        (b"((1 3) 2)", false),
+        (b"[1 2 3]", false),
+    ];
+    assert_complete(&rt, rt.alloc(), &pair, &rows)
 }
 
 #[test]
 fn trees_and_two_rows(rt: HostRuntime) -> Result<(), Fail> {
-    let alloc = rt.alloc();
-    let m = path(alloc)?;
-    assert_complete(&rt, alloc, &m, b"[1 2 3]", true)?;
-    assert_complete(&rt, alloc, &m, b"[3 2 1]", true)?;
-    assert_complete(&rt, alloc, &m, b"[2 1 3]", false)?;
-    Ok(())
+    let path = path(rt.alloc())?;
+    let rows = [
+        (b"[1 2 3]".as_slice(), true),
+        (b"[3 2 1]", true),
+        (b"[2 1 3]", false),
+    ];
+    assert_complete(&rt, rt.alloc(), &path, &rows)
 }
 
 // A tree with more frontiers than orders lacks none either.
 #[test]
 fn trees_with_too_many_frontiers(rt: HostRuntime) -> Result<(), Fail> {
-    let alloc = rt.alloc();
-    let m = long_path(alloc)?;
-    assert_complete(&rt, alloc, &m, b"[1 2 3 4]", true)?;
-    assert_complete(&rt, alloc, &m, b"(1 2 3 4)", true)?;
-    assert_complete(&rt, alloc, &m, b"[1 2 (3 4)]", true)?;
-    assert_complete(&rt, alloc, &m, b"((1 2) (3 4))", true)?;
-    assert_complete(&rt, alloc, &m, b"((1 3) 2 4)", false)?;
-    Ok(())
+    let long_path = long_path(rt.alloc())?;
+    let rows = [
+        (b"[1 2 3 4]".as_slice(), true),
+        (b"(1 2 3 4)", true),
+        (b"[1 2 (3 4)]", true),
+        (b"((1 2) (3 4))", true),
+        (b"((1 3) 2 4)", false),
+    ];
+    assert_complete(&rt, rt.alloc(), &long_path, &rows)
 }

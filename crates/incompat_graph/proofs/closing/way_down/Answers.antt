@@ -2,7 +2,7 @@ use Rattle.std.proofs.Common.{◌≡◌, ◌<◌, [], ◌∷◌, ◌++◌, lengt
 use Rattle.std.proofs.lemmas.Grind.{common_steps}
 use Rattle.std.proofs.lemmas.Option.{slice_get_read, slice_get_within}
 use Rattle.incompat_graph.specs.declared.forest.Node.{Node}
-use Rattle.incompat_graph.proofs.Items.{item_at}
+use Rattle.pair_classes.proofs.Items.{item_at}
 use Rattle.incompat_graph.proofs.ClosingLaws.{IsPartDown, part_down_none, part_down_more, part_down_all}
 use Rattle.incompat_graph.proofs.closing.way_down.Goals as goal
 

@@ -1,7 +1,7 @@
 use Rattle.std.proofs.Common.{◌≡◌, ◌+◌, ◌∷◌, [], ◌++◌, length, arith}
 use Rattle.std.proofs.lemmas.Grind.{common_steps}
 use Rattle.row_model.specs.Cycles.{pair_of}
-use Rattle.incompat_graph.proofs.NumberLaws.{indexed_push, indexed_few}
+use Rattle.pair_classes.proofs.NumberLaws.{indexed_push, indexed_few}
 use Rattle.incompat_graph.proofs.cycle.extend.Goals as goal
 
 pub returns : goal.returns

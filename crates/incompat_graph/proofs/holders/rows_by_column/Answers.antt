@@ -2,7 +2,8 @@ use Rattle.std.proofs.Common.{◌≡◌, ◌∙◌, ◌+◌, drop, length, slice
 use Rattle.std.proofs.lemmas.List.{length-map}
 use Rattle.row_model.specs.Graph.{row_at}
 use Rattle.incompat_graph.specs.Holders.{without}
-use Rattle.incompat_graph.proofs.HolderLaws.{lists_of, HoldersSoFar, holders_begin, holders_end, holders_more, further_same, further_member, further_there, ones_more, ones_part}
+use Rattle.incompat_graph.proofs.HolderLaws.{lists_of, HoldersSoFar, holders_begin, holders_end, holders_more, further_same, further_member, further_there, ones_part}
+use Rattle.pair_classes.proofs.RowOnes.{ones_more}
 use Rattle.incompat_graph.proofs.holders.rows_by_column.Goals as goal
 
 pub loop-i-init : goal.loop-i-init

@@ -2,7 +2,7 @@ use Rattle.std.proofs.Common.{◌≡◌, ◌∙◌, ◌≤◌, Some, length, sli
 use Rattle.std.proofs.lemmas.Option.{slice_get_read}
 use Rattle.row_model.specs.Graph.{IsPair}
 use Rattle.incompat_graph.specs.declared.forest.Node.{Node}
-use Rattle.incompat_graph.proofs.Items.{none_of}
+use Rattle.pair_classes.proofs.Items.{none_of}
 use Rattle.incompat_graph.proofs.ForestLaws.{grown_there}
 use Rattle.incompat_graph.proofs.LeavingLaws.{line_pair, line_from, crossed_found}
 use Rattle.incompat_graph.proofs.neighbours.cross.Goals as goal

@@ -1,7 +1,7 @@
 use Rattle.std.proofs.Common.{◌≡◌, ◌≤◌, Some, length, slice_get, refl, arith}
 use Rattle.std.proofs.lemmas.Option.{slice_get_read}
 use Rattle.incompat_graph.specs.declared.forest.Node.{Node}
-use Rattle.incompat_graph.proofs.Items.{none_of}
+use Rattle.pair_classes.proofs.Items.{none_of}
 use Rattle.incompat_graph.proofs.LeavingLaws.{flips, left_none, left_found}
 use Rattle.incompat_graph.proofs.neighbours.leave.Goals as goal
 

@@ -10,7 +10,7 @@ use Rattle.open_gaps.specs.Tables.{GapTable}
 use Rattle.incompat_graph.specs.declared.forest.Node.{Node}
 use Rattle.incompat_graph.specs.Holders.{holders_of}
 use Rattle.incompat_graph.specs.Search.{IsReached}
-use Rattle.incompat_graph.proofs.Items.{none_of}
+use Rattle.pair_classes.proofs.Items.{none_of}
 use Rattle.incompat_graph.proofs.HolderLaws.{lists_of, holder_at}
 use Rattle.incompat_graph.proofs.ForestLaws.{grown_item}
 use Rattle.incompat_graph.proofs.SearchLaws.{joined_front}

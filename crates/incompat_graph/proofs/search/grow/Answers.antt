@@ -1,7 +1,7 @@
 use Rattle.std.proofs.Common.{◌*◌, ◌<◌, ◌≤◌, length, subst, arith}
 use Rattle.incompat_graph.specs.Search.{pair_of_node}
-use Rattle.incompat_graph.proofs.Items.{none_of}
-use Rattle.incompat_graph.proofs.NumberLaws.{indexed_room, indexed_few}
+use Rattle.pair_classes.proofs.Items.{none_of}
+use Rattle.pair_classes.proofs.NumberLaws.{indexed_room, indexed_few}
 use Rattle.incompat_graph.proofs.TakenLaws.{growing_more, growing_all}
 use Rattle.incompat_graph.proofs.search.grow.Goals as goal
 

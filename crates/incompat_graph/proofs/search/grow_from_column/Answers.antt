@@ -1,7 +1,7 @@
 use Rattle.std.proofs.Common.{◌+◌, sym, subst, arith}
 use Rattle.row_model.specs.Graph.{pair}
 use Rattle.incompat_graph.specs.Neighbours.{AreNeighbours}
-use Rattle.incompat_graph.proofs.Items.{none_of}
+use Rattle.pair_classes.proofs.Items.{none_of}
 use Rattle.incompat_graph.proofs.SettledLaws.{grown_from_none, grown_from_tree, planted_search, planted_taken}
 use Rattle.incompat_graph.proofs.search.grow_from_column.Goals as goal
 

@@ -4,9 +4,9 @@ use Rattle.std.proofs.lemmas.Bool.{both_ways}
 use Rattle.column_order.specs.Orders.{has}
 use Rattle.row_model.specs.Graph.{pair, row_at, IsPair}
 use Rattle.incompat_graph.specs.declared.forest.Node.{Node}
-use Rattle.incompat_graph.specs.Marks.{is_marked}
-use Rattle.incompat_graph.proofs.Items.{held_some, none_of}
-use Rattle.incompat_graph.proofs.MarkLaws.{marked_again, marked_anew}
+use Rattle.pair_classes.specs.Marks.{is_marked}
+use Rattle.pair_classes.proofs.Items.{held_some, none_of}
+use Rattle.incompat_graph.proofs.MarkedOnes.{marked_again, marked_anew}
 use Rattle.incompat_graph.proofs.ForestLaws.{grown_refl, grown_there}
 use Rattle.incompat_graph.proofs.HolderLaws.{further_member}
 use Rattle.incompat_graph.proofs.SearchLaws.{IsSpreading, spreading_turned, next_pair, crossed, spreading_more, looked, spreading_all, further_row}

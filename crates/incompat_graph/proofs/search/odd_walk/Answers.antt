@@ -1,7 +1,7 @@
 use Rattle.std.proofs.Common.{◌*◌, ◌≤◌, MatchOption, take, sum_by, length, subst, zero-add, arith}
 use Rattle.row_model.specs.Graph.{HasOddWalk}
 use Rattle.row_model.specs.Cycles.{IsOddWalk}
-use Rattle.incompat_graph.proofs.MarkLaws.{within_bound}
+use Rattle.incompat_graph.proofs.MarkedOnes.{within_bound}
 use Rattle.incompat_graph.proofs.NearLaws.{near_none, price_bound}
 use Rattle.incompat_graph.proofs.search.odd_walk.Goals as goal
 

@@ -2,8 +2,8 @@ use Rattle.std.proofs.Common.{◌∙◌, ◌+◌, ◌-◌, ◌≤◌, take, sym,
 use Rattle.std.proofs.lemmas.Bool.{cases_eq}
 use Rattle.row_model.specs.Cycles.{IsOddWalk}
 use Rattle.incompat_graph.specs.Neighbours.{AreNeighbours}
-use Rattle.incompat_graph.proofs.Items.{none_of}
-use Rattle.incompat_graph.proofs.MarkLaws.{marked_within}
+use Rattle.pair_classes.proofs.Items.{none_of}
+use Rattle.incompat_graph.proofs.MarkedOnes.{marked_within}
 use Rattle.incompat_graph.proofs.EndLaws.{IsSearched, searched_none, searched_again, searched_more, searched_all}
 use Rattle.incompat_graph.proofs.search.search.Goals as goal
 

@@ -1,5 +1,5 @@
 use Rattle.std.proofs.Common.{◌+◌, ◌*◌, ◌-◌, ◌≤◌, drop}
-use Rattle.incompat_graph.specs.Marks.{marked_ones}
+use Rattle.incompat_graph.specs.MarkedOnes.{marked_ones}
 use Rattle.incompat_graph.proofs.EndLaws.{IsSearched}
 use Rattle.incompat_graph.proofs.search.search.Given as goal
 

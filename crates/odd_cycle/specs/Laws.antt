@@ -1,0 +1,8 @@
+-- How long an odd cycle is.
+use Rattle.std.specs.Prelude.{ℕ, ◌-◌, ◌*◌, ◌≤◌, List, length}
+use Rattle.row_model.specs.declared.graph.Line.{Line}
+use Rattle.row_model.specs.Cycles.{IsOddCycle}
+
+-- a cycle has no more lines than there are ordered pairs of distinct columns
+abbrev pub CycleLengthLaw : Type 0
+CycleLengthLaw = (c : ℕ) (rows : List (List ℕ)) (lines : List Line) → IsOddCycle c rows lines → length lines ≤ c * (c - 1)

@@ -1,0 +1,239 @@
+// The classes of pairs that walks of even length join.
+ghost use Rattle.std.specs.Prelude.{◌≡◌, ◌+◌, ◌*◌, ◌<◌, ◌≤◌, ℕ, List, length, take, sum_by, IsFalse, IfOk};
+ghost use Rattle.column_order.specs.Orders.{has};
+ghost use Rattle.row_model.specs.Graph.{pair, row_at, IsPair};
+ghost use Rattle.row_model.specs.Rows.{IsRow};
+ghost use Rattle.pair_classes.specs.Numbers.{place_of};
+ghost use Rattle.pair_classes.specs.Unions.{AreParents, AgreesInSets, AreEvenSets};
+ghost use Rattle.pair_classes.specs.Classes.{TellsClasses, AgreesWith, AgreesAlong, pair_of_place};
+
+use crate::numbers::PairNumbers;
+use crate::unions::{each_alone, flatten, unite};
+use row_model::{COLUMN_BOUND, Matrix, NoMemory, Pair};
+use std::alloc::Global;
+use std::marker::Model;
+use step_count::{Ledger, Steps};
+
+/// The classes of the ordered pairs of distinct columns. Those that [`even_classes`] answers tell which pairs a walk of
+/// even length joins in the incompatibility graph of its rows.
+#[derive(Drop)]
+pub struct Classes {
+    numbers: PairNumbers,
+}
+
+impl Model for Classes {
+    ghost use Rattle.pair_classes.specs.Numbers.{Numbering};
+
+    ghost Value = { Numbering };
+
+    ghost view = { λ classes. classes.numbers };
+}
+
+impl Classes {
+    ghost use Rattle.std.specs.Prelude.{◌≡◌, ◌↔◌, ℕ, List, IsTrue};
+    ghost use Rattle.row_model.specs.Graph.{IsPair, Evenly};
+    ghost use Rattle.pair_classes.specs.Classes.{TellsClasses};
+
+    /// The number of columns.
+    pub fn columns(&self) -> u32
+        ensures { result ≡ self.now.columns }
+    {
+        self.numbers.columns()
+    }
+
+    /// Whether two pairs are in one class. It takes no memory.
+    pub fn same(&self, v: Pair, w: Pair) -> bool
+        requires { IsPair self.now.columns v × IsPair self.now.columns w }
+        ensures { (c : ℕ) (rows : List (List ℕ)) → TellsClasses c rows self.now → IsTrue result ↔ Evenly c rows v w }
+    {
+        self.numbers.get(v) == self.numbers.get(w)
+    }
+}
+
+/// The classes of the pairs in the incompatibility graph of the first rows (McConnell, 2004): two pairs are in one
+/// class exactly where a walk of even length leads from the one to the other.
+///
+/// For each row and each column d that it lacks, all pairs (a,d) of the columns a of the row are in one class,
+/// and so are all pairs (d,a). The classes are the least that have these pairs together, so each row is read once
+/// for each column that it lacks.
+///
+/// With c columns and f ones in the first rows it counts at most 8c(f + 1) steps, where memory is refused too: a step
+/// for each look at a row and for each column that is read of it. It takes 4 bytes for each ordered pair of columns.
+///
+/// # Errors
+///
+/// `NoMemory`.
+pub fn even_classes<L: Ledger>(
+    alloc: Global,
+    m: &Matrix,
+    rows: u32,
+    steps: &mut Steps<L>,
+) -> Result<Classes, NoMemory>
+    requires { rows ≤ length m.now.rows }
+    ensures classes { IfOk result (TellsClasses m.now.columns (take rows m.now.rows)) }
+    ensures ticks { steps.new ≤ steps.old + 8 * m.now.columns * (sum_by length (take rows m.now.rows) + 1) }
+{
+    let columns = m.columns();
+    let mut parents = each_alone(alloc, columns * columns)?;
+    for k in 0..rows {
+        unite_along(m, k + 1, &mut parents, steps);
+    }
+    flatten(&mut parents);
+    Ok(Classes {
+        numbers: PairNumbers::from_entries(columns, parents),
+    })
+}
+
+// Unites the pairs of the columns of a row with each column that it lacks.
+fn unite_along<L: Ledger>(m: &Matrix, k: u32, parents: &mut [u32], steps: &mut Steps<L>)
+    requires row { (1 ≤ k) × (k ≤ length m.now.rows) }
+    requires parents { AreParents parents.old }
+    requires places { length parents.old ≡ m.now.columns * m.now.columns }
+    ensures parents { AreParents parents.new }
+    ensures labels { (label : ℕ → ℕ) → AgreesInSets label parents.new
+        → AgreesInSets label parents.old × AgreesAlong m.now.columns label (row_at m.now.rows k) }
+    ensures even { (rows : List (List ℕ)) → k ≤ length rows → row_at rows k ≡ row_at m.now.rows k
+        → AreEvenSets m.now.columns rows (pair_of_place m.now.columns) parents.old → AreEvenSets m.now.columns rows (pair_of_place m.now.columns) parents.new }
+    ensures ticks { steps.new ≤ steps.old + 3 * (m.now.columns * length (row_at m.now.rows k)) }
+{
+    let row = m.row(k);
+    if row.is_empty() {
+        return;
+    }
+    for d in 0..m.columns() {
+        if !m.has_counted(k, d + 1, steps) {
+            unite_with(m.columns(), row, d + 1, parents, steps);
+        }
+    }
+}
+
+// Unites all pairs (a,d) of the columns a of a row, and all pairs (d,a).
+fn unite_with<L: Ledger>(
+    columns: u32,
+    row: &[u32],
+    d: u32,
+    parents: &mut [u32],
+    steps: &mut Steps<L>,
+)
+    requires few { columns ≤ COLUMN_BOUND }
+    requires row { IsRow columns row.now × (1 ≤ length row.now) }
+    requires column { (1 ≤ d) × (d ≤ columns) × IsFalse (has row.now d) }
+    requires parents { AreParents parents.old }
+    requires places { length parents.old ≡ columns * columns }
+    ensures parents { AreParents parents.new }
+    ensures labels { (label : ℕ → ℕ) → AgreesInSets label parents.new → AgreesInSets label parents.old × AgreesWith columns label row.now d }
+    ensures even { (rows : List (List ℕ)) (k : ℕ) → 1 ≤ k → k ≤ length rows → row_at rows k ≡ row.now
+        → AreEvenSets columns rows (pair_of_place columns) parents.old → AreEvenSets columns rows (pair_of_place columns) parents.new }
+    ensures ticks { steps.new ≡ steps.old + 1 + length row.now }
+{
+    steps.tick();
+    let first = row[0];
+    for a in row {
+        steps.tick();
+        unite(parents, place(columns, first, d), place(columns, *a, d));
+        unite(parents, place(columns, d, first), place(columns, d, *a));
+    }
+}
+
+// The place of a pair in a table of so many columns.
+fn place(columns: u32, a: u32, b: u32) -> u32
+    requires few { columns ≤ COLUMN_BOUND }
+    requires pair { IsPair columns (pair a b) }
+    ensures place { result ≡ place_of columns (pair a b) }
+    ensures within { result < columns * columns }
+{
+    (a - 1) * columns + (b - 1)
+}
+
+#[cfg(test)]
+mod tests {
+    use super::*;
+    use row_model::is_pair;
+    use std::process::Abort;
+    use std::test::Fail;
+    use step_count::{Blank, Brand};
+
+    fn classes_counted<L: Ledger>(
+        alloc: Global,
+        m: &Matrix,
+        rows: u32,
+        blank: Blank,
+    ) -> Result<Classes, NoMemory>
+        requires name { blank.name ≡ L.name }
+        requires parts { blank.parts ≡ L.parts }
+        requires some { 0 < blank.parts }
+        requires rows { rows ≤ length m.now.rows }
+    {
+        let mut steps = Steps::<L>::new(blank);
+        even_classes(alloc, m, rows, &mut steps)
+    }
+
+    fn classes_of(alloc: Global, m: &Matrix) -> Result<Classes, NoMemory> {
+        classes_counted::<Brand>(alloc, m, m.rows(), Blank::new(1))
+    }
+
+    // The pairs of three columns.
+    const PAIRS: [Pair; 6] = [
+        Pair { a: 1, b: 2 },
+        Pair { a: 1, b: 3 },
+        Pair { a: 2, b: 3 },
+        Pair { a: 2, b: 1 },
+        Pair { a: 3, b: 1 },
+        Pair { a: 3, b: 2 },
+    ];
+
+    // Two of the pairs of three columns are in one class exactly where they have one number here.
+    fn assert_classes(rt: &impl Abort, classes: &Classes, numbers: [u32; 6]) {
+        assert_eq!(rt; classes.columns(), 3);
+        for i in 0..6 {
+            for k in 0..6 {
+                let v = PAIRS[i];
+                let w = PAIRS[k];
+                assert!(rt; is_pair(3, v) && is_pair(3, w));
+                assert_eq!(rt; classes.same(v, w), numbers[i] == numbers[k]);
+            }
+        }
+    }
+
+    // The row 110 lacks column 3, so (1,3) and (2,3) are in one class, and (3,1) and (3,2). The row 011 lacks column 1,
+    // so (2,1) and (3,1) are, and (1,2) and (1,3).
+    #[test]
+    fn two_rows_make_two_classes(rt: HostRuntime) -> Result<(), Fail> {
+        let mut m = Matrix::new(rt.alloc(), 3)?;
+        m.push_row(&[1, 2])?;
+        m.push_row(&[2, 3])?;
+        let classes = classes_of(rt.alloc(), &m)?;
+        assert_classes(&rt, &classes, [1, 1, 1, 2, 2, 2]);
+        Ok(())
+    }
+
+    // Only (1,3) and (2,3) are in one class, and (3,1) and (3,2).
+    #[test]
+    fn one_row_leaves_two_pairs_alone(rt: HostRuntime) -> Result<(), Fail> {
+        let mut m = Matrix::new(rt.alloc(), 3)?;
+        m.push_row(&[1, 2])?;
+        let classes = classes_of(rt.alloc(), &m)?;
+        assert_classes(&rt, &classes, [1, 2, 2, 3, 4, 4]);
+        Ok(())
+    }
+
+    #[test]
+    fn without_rows_each_pair_is_alone(rt: HostRuntime) -> Result<(), Fail> {
+        let m = Matrix::new(rt.alloc(), 3)?;
+        let classes = classes_of(rt.alloc(), &m)?;
+        assert_classes(&rt, &classes, [1, 2, 3, 4, 5, 6]);
+        Ok(())
+    }
+
+    // The row 101 lacks column 2, so (1,2) and (3,2) are in one class: the two classes of the rows 110 and 011 are one.
+    #[test]
+    fn three_rows_without_an_order_make_one_class(rt: HostRuntime) -> Result<(), Fail> {
+        let mut m = Matrix::new(rt.alloc(), 3)?;
+        m.push_row(&[1, 2])?;
+        m.push_row(&[2, 3])?;
+        m.push_row(&[1, 3])?;
+        let classes = classes_of(rt.alloc(), &m)?;
+        assert_classes(&rt, &classes, [1, 1, 1, 1, 1, 1]);
+        Ok(())
+    }
+}
