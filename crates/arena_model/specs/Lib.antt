@@ -1,3 +1,4 @@
 pub mod ChildLists
 pub mod Layout
 pub mod NamedTree
+pub mod RowLeaves

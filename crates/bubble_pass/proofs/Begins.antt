@@ -13,9 +13,10 @@ use Rattle.arena_model.proofs.Slots.{in_range}
 use Rattle.bubble_pass.specs.declared.climber.Stage.{Stage}
 use Rattle.bubble_pass.specs.declared.climber.Stage.TheVariants.{Unseen, Queued, Blocked, Top, InRun, Placed}
 use Rattle.bubble_pass.specs.declared.climber.Climber.{Climber}
-use Rattle.bubble_pass.specs.Climb.{most_nodes, indices, stage, IsSeen, parked_one, unseen_one, Climb, Queue, Reached, at_leaf, from_child}
+use Rattle.pq_arena.specs.RowNodes.{indices}
+use Rattle.bubble_pass.specs.Climb.{most_nodes, stage, IsSeen, parked_one, unseen_one, Climb, Queue, Reached, at_leaf, from_child}
 use Rattle.bubble_pass.specs.Moves.{Kept, Pushed, CanPush}
-use Rattle.bubble_pass.specs.Ends.{IsClear, AreLeaves, Begun}
+use Rattle.bubble_pass.specs.Ends.{IsClear, AreLeaves, IsQueueing}
 use Rattle.bubble_pass.proofs.Marks.{seen_by, set_here, set_there, entered_map, queue_pushed, unseen_room, sum_set}
 
 not_seen : (st : List Stage) (x : ℕ) (s : Stage) → stage st x ≡ Unseen → stage st x ≡ s → IsSeen s → ⊥
@@ -27,7 +28,7 @@ all_unseen (s ∷ ss) c =
     let a : unseen_one s ≡ 1 = ap unseen_one (c 0) in let r : sum_by unseen_one ss ≡ length ss = all_unseen ss (λ x. c (suc x)) in
     omega (arith, sum_by-cons unseen_one s ss)
 
-pub begun_none : (f : Layout) (w : Climber) → IsLayout f → IsClear f w → Begun f [] w
+pub begun_none : (f : Layout) (w : Climber) → IsLayout f → IsClear f w → IsQueueing f [] w
 begun_none f w h c = record {
   ready = record {
     kept = record {
@@ -108,8 +109,8 @@ climb_begun f row st n c u l used =
     widen _ (from_child k y m e p r) =
         from_child k y m e (set_there st n k Queued (λ q. subst (λ z. IsSeen z) (sym (subst (λ z. stage st z ≡ Placed m) q p) ∙ u) tt) ∙ p) (widen k r)
 
-pub begun_more : (f : Layout) (row : List ℕ) (w b : Climber) (n : NodeId) → IsLayout f → Begun f row w → occurs row n.index ≡ 0 → IsInUse f n.index →
-    Pushed w b n → Begun f (row ++ n.index ∷ []) b
+pub begun_more : (f : Layout) (row : List ℕ) (w b : Climber) (n : NodeId) → IsLayout f → IsQueueing f row w → occurs row n.index ≡ 0 → IsInUse f n.index →
+    Pushed w b n → IsQueueing f (row ++ n.index ∷ []) b
 begun_more f row w b n h g off used t =
     let st : List Stage = w.stages.items in
     let k : Kept f row w = g.ready.kept in
@@ -169,13 +170,13 @@ row_in row i lt = omega (arith, row_all row i lt (row_at row i), occurs_here (ro
 pub row_new : (row : List NodeId) (i : ℕ) → i < length row → ((x : ℕ) → occurs (indices row) x ≤ 1) → occurs (indices (take i row)) (row_at row i) ≡ 0
 row_new row i lt once = let o : occurs (indices row) (row_at row i) ≤ 1 = once (row_at row i) in omega (arith, row_all row i lt (row_at row i), occurs_here (row_at row i) [])
 
-pub leaf_in : (f : Layout) (row part : List ℕ) (w : Climber) → Begun f part w → AreLeaves f row → (x : ℕ) → 1 ≤ occurs row x → x < length w.stages.items
+pub leaf_in : (f : Layout) (row part : List ℕ) (w : Climber) → IsQueueing f part w → AreLeaves f row → (x : ℕ) → 1 ≤ occurs row x → x < length w.stages.items
 leaf_in f row part w b r x o = let l : x < length f.slots = in_range f x (r.used x o) in let e : length w.stages.items ≡ length f.slots = b.ready.kept.long in omega arith
 
-pub leaf_room : (f : Layout) (row part : List ℕ) (w : Climber) → Begun f part w → AreLeaves f row → (x : ℕ) → 1 ≤ occurs row x → occurs part x ≡ 0 → w.tail < length w.queue.items
+pub leaf_room : (f : Layout) (row part : List ℕ) (w : Climber) → IsQueueing f part w → AreLeaves f row → (x : ℕ) → 1 ≤ occurs row x → occurs part x ≡ 0 → w.tail < length w.queue.items
 leaf_room f row part w b r x o off = unseen_room w.stages.items w.queue.items w.head w.tail x b.ready.kept.queue (b.rest x off) (leaf_in f row part w b r x o)
 
-pub can_push : (f : Layout) (row part : List ℕ) (w : Climber) → Begun f part w → AreLeaves f row → (x : ℕ) → 1 ≤ occurs row x → occurs part x ≡ 0 → CanPush w x
+pub can_push : (f : Layout) (row part : List ℕ) (w : Climber) → IsQueueing f part w → AreLeaves f row → (x : ℕ) → 1 ≤ occurs row x → occurs part x ≡ 0 → CanPush w x
 can_push f row part w b r x o off = record {
   n_in = leaf_in f row part w b r x o;
   room = leaf_room f row part w b r x o off;

@@ -13,8 +13,8 @@ use Rattle.arena_model.specs.Layout.{Layout, children_at, IsAtOrAbove, here, dow
 use Rattle.arena_model.specs.NamedTree.{NamedTree, NamedTrees, named_tree, no_named, named_and, top_names, IsAt, AreAt, node_names, node_names_of, outline_named, outlines_named, outline_below}
 use Rattle.arena_model.proofs.Lists.{occurs_here, occurs_other, only_one}
 use Rattle.arena_model.proofs.Outlines.{leaf_times, named_below}
-use Rattle.bubble_pass.specs.Climb
-use Rattle.bubble_pass.specs.Found.{Meets}
+use Rattle.pq_arena.specs.RowNodes.{column_leaves}
+use Rattle.arena_model.specs.RowLeaves.{Meets}
 use Rattle.bubble_pass.specs.Fair.{AtMost}
 use Rattle.bubble_pass.proofs.Outlines.{At, at_node, leaf_in_row}
 use Rattle.bubble_pass.proofs.Sums.{shorter}
@@ -120,14 +120,14 @@ mutual
   ]
 
 -- no more nodes at or below n meet the row than the tree there counts
-pub at_most_met : (f : Layout) (row : List ℕ) (n : ℕ) → IsLayout f → IsInUse f n → IsRow f.columns row → AtMost f (Climb.leaves_of row) n (nodes_met row (outline_below f n))
+pub at_most_met : (f : Layout) (row : List ℕ) (n : ℕ) → IsLayout f → IsInUse f n → IsRow f.columns row → AtMost f (column_leaves row) n (nodes_met row (outline_below f n))
 at_most_met f row n h used r = λ xs once each.
     let t : At f n = at_node f n h used in
     let few : length xs ≤ length (met_names row t.it) = shorter xs (met_names row t.it) (λ z. elim (cases_lt 0 (occurs xs z)) [
       | inr l ↦ omega arith
       | inl o ↦
           let e = each z o in
-          let m : Meets f (Climb.leaves_of row) z = e.0 in
+          let m : Meets f (column_leaves row) z = e.0 in
           let i = leaf_in_row f row m.0 r m.1 in
           let k : 1 ≤ occurs (node_names t.it) z = named_below f.slots t.it z t.is (subst (λ v. IsAtOrAbove f.slots v z) (sym t.named) e.1) in
           let y : 1 ≤ occurs (met_names row t.it) z = met_has f row t.it z m.0 h t.is k i.0 i.1 m.2 in

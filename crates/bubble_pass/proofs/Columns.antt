@@ -3,7 +3,8 @@ use Rattle.std.proofs.Common.{◌≡◌, ℕ, zero, suc, ◌+◌, ◌-◌, ◌�
 use Rattle.row_model.specs.Rows.{Ascends}
 use Rattle.arena_model.specs.declared.Shape.TheVariants.{Leaf}
 use Rattle.arena_model.specs.Layout.{Layout, shape_at, IsLayout}
-use Rattle.bubble_pass.specs.Climb.{at, row_nodes}
+use Rattle.pq_arena.specs.RowNodes.{row_nodes}
+use Rattle.bubble_pass.specs.Climb.{at}
 use Rattle.bubble_pass.proofs.Begins.{row_at}
 
 pub nodes_length : (columns : List ℕ) → length (row_nodes columns) ≡ length columns

@@ -14,7 +14,8 @@ use Rattle.bubble_pass.specs.declared.climber.Stage.{Stage}
 use Rattle.bubble_pass.specs.declared.climber.Stage.TheVariants.{Unseen, Queued, Blocked, Top, InRun, Placed}
 use Rattle.bubble_pass.specs.declared.climber.Climber.{Climber}
 use Rattle.bubble_pass.specs.declared.chains.Chains.{Chains}
-use Rattle.bubble_pass.specs.Climb.{stage, at, indices, unseen_one}
+use Rattle.pq_arena.specs.RowNodes.{indices}
+use Rattle.bubble_pass.specs.Climb.{stage, at, unseen_one}
 use Rattle.bubble_pass.specs.Moves.{Kept}
 use Rattle.bubble_pass.specs.Ends.{AreLeaves}
 use Rattle.bubble_pass.specs.Chains.{is_under, chained, entry, AreLinked, number, Cut}

@@ -17,7 +17,8 @@ use Rattle.bubble_pass.specs.declared.climber.Stage.TheVariants.{Unseen, Queued,
 use Rattle.bubble_pass.specs.declared.climber.Climber.{Climber}
 use Rattle.bubble_pass.specs.Climb.{no_id, stage, at, IsSeen, IsOpen, parked_one, unseen_one, Inner}
 use Rattle.bubble_pass.specs.Moves.{Kept, Ready, Staged, near0, near1}
-use Rattle.bubble_pass.specs.Found.{Holds, Inside}
+use Rattle.arena_model.specs.RowLeaves.{Holds}
+use Rattle.bubble_pass.specs.Found.{Inside}
 use Rattle.bubble_pass.specs.Ends.{AreLeaves, IsOver, RunIs, CanGrow, Grown, OnlyOpen, OnlyRun}
 use Rattle.bubble_pass.proofs.Seats.{not_none, named_is, first, second}
 use Rattle.bubble_pass.proofs.Marks.{seen_by, seen_in, set_here, set_there, sum_set}

@@ -19,9 +19,11 @@ use Rattle.bubble_pass.specs.declared.labels.Label.{Label}
 use Rattle.bubble_pass.specs.declared.labels.Label.TheVariants.{Empty}
 use Rattle.bubble_pass.specs.declared.labels.Labels.{Labels}
 use Rattle.bubble_pass.specs.declared.tables.Tables.{Tables}
-use Rattle.bubble_pass.specs.Climb.{stage, at, indices, IsSeen, unseen_one}
+use Rattle.pq_arena.specs.RowNodes.{indices}
+use Rattle.bubble_pass.specs.Climb.{stage, at, IsSeen, unseen_one}
 use Rattle.bubble_pass.specs.Moves.{Kept, Staged}
-use Rattle.bubble_pass.specs.Found.{Holds, Meets, Inside}
+use Rattle.arena_model.specs.RowLeaves.{Holds, Meets}
+use Rattle.bubble_pass.specs.Found.{Inside}
 use Rattle.bubble_pass.specs.Fair.{AtMost}
 use Rattle.bubble_pass.specs.Ends.{AreLeaves, OnlyOpen, OnlyRun}
 use Rattle.bubble_pass.specs.Chains.{Linked, AreLinked, entry, number, OnlyCut}
@@ -29,7 +31,7 @@ use Rattle.bubble_pass.specs.Roots.{below, Descending, Descent, IsSmallest}
 use Rattle.bubble_pass.specs.Sweep.{label, full_one, partial_one, IsRight, IsPertinent, Ground, Place, Swept, IsQuiet, IsBlank}
 use Rattle.bubble_pass.specs.Tables.{node_at, seat_of, AreSized, KnownFrom, AreKept, AreClear}
 use Rattle.bubble_pass.specs.Marks.{Marks, placed_node, IsFollowed, tables_marks}
-use Rattle.bubble_pass.specs.Pass.{IsPertinentRoot, IsRightAt, AreMarked, FoundRoot, FoundInside}
+use Rattle.bubble_pass.specs.Pass.{IsPertinentNode, IsRightAt, AreMarked, FoundRoot, FoundInside}
 use Rattle.bubble_pass.proofs.Marks.{seen_by, seen_in, sum_set, unseen_not}
 use Rattle.bubble_pass.proofs.Fronts.{join_leads}
 use Rattle.bubble_pass.proofs.Splits.{FirstStep, first_step, root_above}
@@ -211,7 +213,7 @@ pub done_root : (f : Layout) (row : List ℕ) (t : Tables) → Done f row t → 
 done_root f row t d n p = let m = d.ground.meets n p.seen in root_above f n m.0 d.forest (d.is_row.below m.0 m.1) m.2
 
 -- a node that holds the row while no child of it does is the pertinent root
-pub pertinent_of : (f : Layout) (row : List ℕ) (r : ℕ) → IsLayout f → AreLeaves f row → IsSmallest f row r → IsPertinentRoot f row r
+pub pertinent_of : (f : Layout) (row : List ℕ) (r : ℕ) → IsLayout f → AreLeaves f row → IsSmallest f row r → IsPertinentNode f row r
 pertinent_of f row r h w s = record {
   holds = s.holds;
   least = λ n hn. elim (one_path f r n w.some.0 h (s.holds w.some.0 w.some.1) (hn w.some.0 w.some.1)) [
@@ -441,8 +443,8 @@ pass_fair f row t s0 s1 s2 q d under climb fill a most =
     let k : s1 ≤ s0 + 2 * (2 * a + 1) = climb a most in let n : t.labels.len ≤ a = done_few f row t q a d under most in omega arith
 
 -- a node that holds the row is at or above the pertinent root
-pub under_holder : (f : Layout) (row : List ℕ) (q r n : ℕ) → IsPertinentRoot f row r → Holds f row q → IsAtOrAbove f.slots r n → IsAtOrAbove f.slots q n
+pub under_holder : (f : Layout) (row : List ℕ) (q r n : ℕ) → IsPertinentNode f row r → Holds f row q → IsAtOrAbove f.slots r n → IsAtOrAbove f.slots q n
 under_holder f row q r n p h l = join_leads f.slots q r n (p.least q h) l
 
-pub inside_root : (f : Layout) (row : List ℕ) → IsLayout f → AreLeaves f row → (i : Inside f row) → IsPertinentRoot f row i.q
+pub inside_root : (f : Layout) (row : List ℕ) → IsLayout f → AreLeaves f row → (i : Inside f row) → IsPertinentNode f row i.q
 inside_root f row h w i = pertinent_of f row i.q h w (record { holds = i.holds; least = λ k o hk. inside_least f row k h i o hk })

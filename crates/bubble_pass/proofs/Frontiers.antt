@@ -14,8 +14,8 @@ use Rattle.pq_tree.specs.Outline.{IsFrontier, AreFrontiers}
 use Rattle.arena_model.specs.declared.Shape.TheVariants.{Leaf, P, Q}
 use Rattle.arena_model.specs.Layout.{Layout, shape_at, children_at, IsLayout}
 use Rattle.arena_model.specs.NamedTree.{NamedTree, NamedTrees, named_tree, no_named, named_and, top_name, top_names, IsAt, AreAt, outline_named, outlines_named, outline_at}
-use Rattle.bubble_pass.specs.Climb.{leaves_of}
-use Rattle.bubble_pass.specs.Found.{Fronts, FrontsOf, front_leaf, front_p, front_q, front_back, no_fronts, and_fronts, Keeps, Split}
+use Rattle.pq_arena.specs.RowNodes.{column_leaves}
+use Rattle.bubble_pass.specs.Found.{Fronts, FrontsOf, front_leaf, front_p, front_q, front_back, no_fronts, and_fronts, StandsTogether, Split}
 use Rattle.bubble_pass.proofs.Outlines.{At, at_node, leaf_in_row, row_occurs}
 
 map-swap : {A B : Type 0} (f : A → B) (xs : List A) (i j : ℕ) → map f (swap xs i j) ≡ swap (map f xs) i j
@@ -159,7 +159,7 @@ get_behind [] ys a = refl
 get_behind (w ∷ ws) ys a = get_behind ws ys a
 
 -- an order of columns that keeps the row is one of leaves that does
-kept_nodes : (f : Layout) (row nodes : List ℕ) → IsRow f.columns row → Orders.Keeps (columns_at nodes) row → Keeps nodes (leaves_of row)
+kept_nodes : (f : Layout) (row nodes : List ℕ) → IsRow f.columns row → Orders.Keeps (columns_at nodes) row → StandsTogether nodes (column_leaves row)
 kept_nodes f row nodes r k = λ ws xs ys zs a b c e oa oc.
     let i : ℕ = length ws in
     let j : ℕ = length (ws ++ a ∷ xs) in
@@ -179,11 +179,11 @@ kept_nodes f row nodes r k = λ ws xs ys zs a b c e oa oc.
     let long : l < length (columns_at nodes) = omega (arith, length-map nodes suc) in
     let has_b : IsTrue (has row (b + 1)) = subst (λ v. IsTrue (has row v)) cb
     (k i j l ij jl long (subst (λ v. IsTrue (has row v)) (sym ca) (leaf_in_row f row a r oa).1) (subst (λ v. IsTrue (has row v)) (sym cl) (leaf_in_row f row c r oc).1)) in
-    let q : occurs (leaves_of row) b ≡ occurs row (b + 1) = row_occurs f.columns 0 row b r in
+    let q : occurs (column_leaves row) b ≡ occurs row (b + 1) = row_occurs f.columns 0 row b r in
     omega (arith, occurs_from_has row (b + 1) has_b)
 
 -- where no order of the leaves keeps the row, no frontier does
-pub split_outline : (f : Layout) (row o : List ℕ) → IsLayout f → IsRow f.columns row → Split f (leaves_of row) → IsFrontier (outline_at f) o → Orders.Keeps o row → ⊥
+pub split_outline : (f : Layout) (row o : List ℕ) → IsLayout f → IsRow f.columns row → Split f (column_leaves row) → IsFrontier (outline_at f) o → Orders.Keeps o row → ⊥
 split_outline f row o h r s fr k =
     let t : At f f.root = at_node f f.root h h.root_used in
     let w : Front f (top_name t.it) o = front_of f t.it o h t.is (subst (λ z. IsFrontier z o) t.outline fr) in

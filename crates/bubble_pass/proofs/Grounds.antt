@@ -13,7 +13,8 @@ use Rattle.bubble_pass.specs.declared.climber.Stage.{Stage}
 use Rattle.bubble_pass.specs.declared.climber.Stage.TheVariants.{InRun, Placed}
 use Rattle.bubble_pass.specs.declared.climber.Climber.{Climber}
 use Rattle.bubble_pass.specs.declared.chains.Chains.{Chains}
-use Rattle.bubble_pass.specs.Climb.{stage, indices, IsSeen, IsOpen}
+use Rattle.pq_arena.specs.RowNodes.{indices}
+use Rattle.bubble_pass.specs.Climb.{stage, IsSeen, IsOpen}
 use Rattle.bubble_pass.specs.Moves.{Kept, Staged}
 use Rattle.bubble_pass.specs.Ends.{AreLeaves, RunIs}
 use Rattle.bubble_pass.specs.Chains.{Linked, is_under, chained}

@@ -11,7 +11,8 @@ use Rattle.bubble_pass.specs.declared.climber.Stage.{Stage}
 use Rattle.bubble_pass.specs.declared.climber.Stage.TheVariants.{Unseen, Queued, Blocked, Top, InRun, Placed}
 use Rattle.bubble_pass.specs.declared.climber.Climber.{Climber}
 use Rattle.bubble_pass.specs.declared.chains.Chains.{Chains}
-use Rattle.bubble_pass.specs.Climb.{most_nodes, no_id, stage, at, indices, Queue, unseen_one}
+use Rattle.pq_arena.specs.RowNodes.{indices}
+use Rattle.bubble_pass.specs.Climb.{most_nodes, no_id, stage, at, Queue, unseen_one}
 use Rattle.bubble_pass.specs.Moves.{Kept}
 use Rattle.bubble_pass.specs.Chains.{is_under, chained, entry, AreLinked, number, Linked, Hung, CanHang}
 use Rattle.bubble_pass.proofs.Marks.{seen_by, seen_in}

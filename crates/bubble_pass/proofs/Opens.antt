@@ -12,7 +12,7 @@ use Rattle.arena_model.proofs.Trees.{no_circle}
 use Rattle.bubble_pass.specs.declared.climber.Stage.{Stage}
 use Rattle.bubble_pass.specs.declared.climber.Stage.TheVariants.{Unseen, Queued, Blocked, Top, InRun, Placed}
 use Rattle.bubble_pass.specs.Climb.{stage, at, IsSeen, IsOpen, parked_one, Climb, Queue, Reached, at_leaf, from_child}
-use Rattle.bubble_pass.specs.Found.{Holds, Meets}
+use Rattle.arena_model.specs.RowLeaves.{Holds, Meets}
 use Rattle.bubble_pass.specs.Ends.{AreLeaves}
 use Rattle.bubble_pass.proofs.Marks.{seen_by, seen_in, sum_set, set_there}
 

@@ -18,23 +18,23 @@ use Rattle.arena_model.proofs.Lists.{occurs_here, occurs_other, occurs_same}
 use Rattle.arena_model.proofs.Slots.{used_by, children_times}
 use Rattle.arena_model.proofs.Trees.{TreeAt, tree_at, reached}
 use Rattle.arena_model.proofs.Outlines.{below_named, below_children, leaf_times, one_order, named_below}
-use Rattle.bubble_pass.specs.Climb.{leaves_of}
+use Rattle.pq_arena.specs.RowNodes.{column_leaves}
 use Rattle.bubble_pass.specs.Ends.{AreLeaves, IsFull}
-use Rattle.bubble_pass.specs.Found.{Holds}
+use Rattle.arena_model.specs.RowLeaves.{Holds}
 
 -- a column of the row is one more than the number of its leaf
-pub row_occurs : (c low : ℕ) (row : List ℕ) (x : ℕ) → Ascends c low row → occurs (leaves_of row) x ≡ occurs row (x + 1)
+pub row_occurs : (c low : ℕ) (row : List ℕ) (x : ℕ) → Ascends c low row → occurs (column_leaves row) x ≡ occurs row (x + 1)
 row_occurs c low [] x h = refl
 row_occurs c low (a ∷ row) x h =
-    let r : occurs (leaves_of row) x ≡ occurs row (x + 1) = row_occurs c a row x h.2 in
+    let r : occurs (column_leaves row) x ≡ occurs row (x + 1) = row_occurs c a row x h.2 in
     let some : low < a = h.0 in
     elim (cases_eq a (x + 1)) [
       | inl e ↦
-          let i : occurs ((a - 1) ∷ leaves_of row) x ≡ 1 + occurs (leaves_of row) x = subst (λ z. occurs (z ∷ leaves_of row) x ≡ 1 + occurs (leaves_of row) x) (let k : x ≡ a - 1 = omega arith in k) (occurs_same x (leaves_of row)) in
+          let i : occurs ((a - 1) ∷ column_leaves row) x ≡ 1 + occurs (column_leaves row) x = subst (λ z. occurs (z ∷ column_leaves row) x ≡ 1 + occurs (column_leaves row) x) (let k : x ≡ a - 1 = omega arith in k) (occurs_same x (column_leaves row)) in
           let j : occurs (a ∷ row) (x + 1) ≡ 1 + occurs row (x + 1) = subst (λ z. occurs (z ∷ row) (x + 1) ≡ 1 + occurs row (x + 1)) (sym e) (occurs_same (x + 1) row) in
           omega arith
       | inr ne ↦
-          let i : occurs ((a - 1) ∷ leaves_of row) x ≡ occurs (leaves_of row) x = occurs_other (a - 1) x (leaves_of row) (λ e. ne (omega arith)) in
+          let i : occurs ((a - 1) ∷ column_leaves row) x ≡ occurs (column_leaves row) x = occurs_other (a - 1) x (column_leaves row) (λ e. ne (omega arith)) in
           let j : occurs (a ∷ row) (x + 1) ≡ occurs row (x + 1) = occurs_other a (x + 1) row (λ e. ne (sym e)) in
           omega arith
     ]
@@ -56,34 +56,34 @@ row_once c low (b ∷ row) a h = elim (cases_eq a b) [
   | inr ne ↦ let r : occurs row a ≤ 1 = row_once c b row a h.2 in omega (arith, occurs_other b a row ne)
 ]
 
-pub leaf_in_row : (f : Layout) (row : List ℕ) (x : ℕ) → IsRow f.columns row → 1 ≤ occurs (leaves_of row) x → (x < f.columns) × IsTrue (has row (x + 1))
+pub leaf_in_row : (f : Layout) (row : List ℕ) (x : ℕ) → IsRow f.columns row → 1 ≤ occurs (column_leaves row) x → (x < f.columns) × IsTrue (has row (x + 1))
 leaf_in_row f row x h o =
-    let i : 1 ≤ occurs row (x + 1) = (let e : occurs (leaves_of row) x ≡ occurs row (x + 1) = row_occurs f.columns 0 row x h in omega arith) in
+    let i : 1 ≤ occurs row (x + 1) = (let e : occurs (column_leaves row) x ≡ occurs row (x + 1) = row_occurs f.columns 0 row x h in omega arith) in
     let b = row_bounds f.columns 0 row (x + 1) h i in
     ((let le : x + 1 ≤ f.columns = b.1 in omega arith), has_from_occurs row (x + 1) i)
 
-pub row_leaf : (f : Layout) (row : List ℕ) (a : ℕ) → IsRow f.columns row → IsTrue (has row a) → (1 ≤ occurs (leaves_of row) (a - 1)) × (1 ≤ a) × (a ≤ f.columns)
+pub row_leaf : (f : Layout) (row : List ℕ) (a : ℕ) → IsRow f.columns row → IsTrue (has row a) → (1 ≤ occurs (column_leaves row) (a - 1)) × (1 ≤ a) × (a ≤ f.columns)
 row_leaf f row a h o =
     let i : 1 ≤ occurs row a = occurs_from_has row a o in
     let b = row_bounds f.columns 0 row a h i in
     let lo : 0 < a = b.0 in
     let k : a - 1 + 1 ≡ a = omega arith in
-    let e : occurs (leaves_of row) (a - 1) ≡ occurs row a = row_occurs f.columns 0 row (a - 1) h ∙ ap (λ z. occurs row z) k in
+    let e : occurs (column_leaves row) (a - 1) ≡ occurs row a = row_occurs f.columns 0 row (a - 1) h ∙ ap (λ z. occurs row z) k in
     (omega arith, omega arith, b.1)
 
 -- the row's columns stand at leaves of the one tree
-pub row_leaves : (f : Layout) (row : List ℕ) → IsLayout f → IsOneTree f → IsRow f.columns row → row ≢ [] → AreLeaves f (leaves_of row)
+pub row_leaves : (f : Layout) (row : List ℕ) → IsLayout f → IsOneTree f → IsRow f.columns row → row ≢ [] → AreLeaves f (column_leaves row)
 row_leaves f row h one r some = record {
-  once = λ x. let e : occurs (leaves_of row) x ≡ occurs row (x + 1) = row_occurs f.columns 0 row x r in let o : occurs row (x + 1) ≤ 1 = row_once f.columns 0 row (x + 1) r in omega arith;
+  once = λ x. let e : occurs (column_leaves row) x ≡ occurs row (x + 1) = row_occurs f.columns 0 row x r in let o : occurs row (x + 1) ≤ 1 = row_once f.columns 0 row (x + 1) r in omega arith;
   used = λ x o. used_by f x (Leaf (x + 1)) (h.leaves x (leaf_in_row f row x r o).0);
   leaf = λ x o. (x + 1, h.leaves x (leaf_in_row f row x r o).0);
   below = λ x o. one x (used_by f x (Leaf (x + 1)) (h.leaves x (leaf_in_row f row x r o).0));
   some = first row some;
 }
   where
-    first : (row : List ℕ) → row ≢ [] → (x : ℕ) × (1 ≤ occurs (leaves_of row) x)
+    first : (row : List ℕ) → row ≢ [] → (x : ℕ) × (1 ≤ occurs (column_leaves row) x)
     first [] n = absurd (n refl)
-    first (a ∷ row) n = (a - 1, occurs_here (a - 1) (leaves_of row))
+    first (a ∷ row) n = (a - 1, occurs_here (a - 1) (column_leaves row))
 
 pub two_full : (f : Layout) → HasTwoEach f → IsFull f
 two_full f h = record {
@@ -118,14 +118,14 @@ has_below f n x h used lt l =
     subst (λ z. IsTrue (has (leaves z) (x + 1))) (sym t.outline) (has_from_occurs (leaves (outline_named t.it)) (x + 1) (omega arith))
 
 -- the tree at a node holds the row where the node does
-pub holds_outline : (f : Layout) (row : List ℕ) (n : ℕ) → IsLayout f → IsInUse f n → IsRow f.columns row → Holds f (leaves_of row) n → IsTrue (holds row (outline_below f n))
+pub holds_outline : (f : Layout) (row : List ℕ) (n : ℕ) → IsLayout f → IsInUse f n → IsRow f.columns row → Holds f (column_leaves row) n → IsTrue (holds row (outline_below f n))
 holds_outline f row n h used r hn = holds_from row (outline_below f n) (λ a o.
     let i = row_leaf f row a r o in
     let lo : 1 ≤ a = i.1 in let hi : a ≤ f.columns = i.2 in
     let k : a - 1 + 1 ≡ a = omega arith in
     subst (λ z. IsTrue (has (leaves (outline_below f n)) z)) k (has_below f n (a - 1) h used (omega arith) (hn (a - 1) i.0)))
 
-pub outline_holds : (f : Layout) (row : List ℕ) (n : ℕ) → IsLayout f → IsInUse f n → IsRow f.columns row → IsTrue (holds row (outline_below f n)) → Holds f (leaves_of row) n
+pub outline_holds : (f : Layout) (row : List ℕ) (n : ℕ) → IsLayout f → IsInUse f n → IsRow f.columns row → IsTrue (holds row (outline_below f n)) → Holds f (column_leaves row) n
 outline_holds f row n h used r o = λ x ox.
     let i = leaf_in_row f row x r ox in
     below_has f n x h used i.0 (holds_each row (outline_below f n) o (x + 1) i.1)
@@ -163,7 +163,7 @@ node_at_or_above f _ _ h used (down p k n o l) =
     let uk : IsInUse f k = h.used k (let a : occurs (children_at f p) k ≤ times_child f.slots k = children_times f p k in omega arith) in
     child_node f p k (outline_below f n) h used o (node_at_or_above f k n h uk l)
 
-none_holds : (f : Layout) (row ks : List ℕ) → IsLayout f → IsRow f.columns row → ((k : ℕ) → 1 ≤ occurs ks k → IsInUse f k × (Holds f (leaves_of row) k → ⊥)) → NoneHolds row (forest (map (outline_below f) ks))
+none_holds : (f : Layout) (row ks : List ℕ) → IsLayout f → IsRow f.columns row → ((k : ℕ) → 1 ≤ occurs ks k → IsInUse f k × (Holds f (column_leaves row) k → ⊥)) → NoneHolds row (forest (map (outline_below f) ks))
 none_holds f row [] h r no_one = tt
 none_holds f row (k ∷ ks) h r no_one = (
   elim (cases_Bool (holds row (outline_below f k))) [
@@ -174,8 +174,8 @@ none_holds f row (k ∷ ks) h r no_one = (
 )
 
 -- the tree at the pertinent root is the pertinent root of the tree
-pub root_outline : (f : Layout) (row : List ℕ) (q : ℕ) → IsLayout f → IsOneTree f → IsRow f.columns row → row ≢ [] → IsInUse f q → Holds f (leaves_of row) q →
-    ((k : ℕ) → 1 ≤ occurs (children_at f q) k → Holds f (leaves_of row) k → ⊥) → pertinent_root row (outline_at f) ≡ outline_below f q
+pub root_outline : (f : Layout) (row : List ℕ) (q : ℕ) → IsLayout f → IsOneTree f → IsRow f.columns row → row ≢ [] → IsInUse f q → Holds f (column_leaves row) q →
+    ((k : ℕ) → 1 ≤ occurs (children_at f q) k → Holds f (column_leaves row) k → ⊥) → pertinent_root row (outline_at f) ≡ outline_below f q
 root_outline f row q h one r some used holds_q least =
     let a = first row some in
     let at_root : IsAtOrAbove f.slots f.root q = one q used in

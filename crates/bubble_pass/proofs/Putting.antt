@@ -10,10 +10,11 @@ use Rattle.bubble_pass.specs.declared.chains.Chains.{Chains}
 use Rattle.bubble_pass.specs.declared.labels.Labels.{Labels}
 use Rattle.bubble_pass.specs.declared.tables.Seats.{Seats}
 use Rattle.bubble_pass.specs.declared.tables.Tables.{Tables}
-use Rattle.bubble_pass.specs.Climb.{stage, indices, IsSeen}
+use Rattle.pq_arena.specs.RowNodes.{indices}
+use Rattle.bubble_pass.specs.Climb.{stage, IsSeen}
 use Rattle.bubble_pass.specs.Chains.{entry}
 use Rattle.bubble_pass.specs.Sweep.{Noted}
-use Rattle.bubble_pass.specs.Tables.{node_at, seat_of, Swapped, CanSwap, AreInverse, AreSized, IsBlankAt, KnownFrom, AreKept, TouchedAt}
+use Rattle.bubble_pass.specs.Tables.{node_at, seat_of, Swapped, CanExchange, AreInverse, AreSized, IsBlankAt, KnownFrom, AreKept, TouchedAt}
 use Rattle.bubble_pass.proofs.Marks.{seen_in}
 use Rattle.bubble_pass.specs.Marks.{Marks, exchange, placed_node, first_of, next_of, IsFollowed, tables_marks, IsPut}
 
@@ -53,7 +54,7 @@ exchange_in old new x n lo ln lx = elim (cases_eq x.index old.index) [
 -- the nodes and times_child after the exchange
 pub record Exchanged (a b : Seats) (old new : NodeId) : Type 0 where
   pub inverse : AreInverse a
-  pub can : CanSwap a old new
+  pub can : CanExchange a old new
   pub swapped : Swapped a b old new
 
 node_swapped : (a b : Seats) (old new s : NodeId) → Exchanged a b old new → node_at b.nodes.items s ≡ exchange old new (node_at a.nodes.items s)
@@ -253,7 +254,7 @@ put_kept a a2 seats labels old new l p =
         let own : node_at a2.seats.nodes.items s ≡ s = ap (λ o. unwrap_or o s) (subst (λ v. entry a2.seats.nodes.items v ≡ None) e b.node) in
         ne (e ∙ ap (λ (v : NodeId). v.index) (sym own ∙ p.exchanged.inverse.there x))
 
-pub put_can : (t : Tables) (old new : NodeId) → AreKept t → IsSeen (stage t.climber.stages.items old.index) → IsSeen (stage t.climber.stages.items new.index) → CanSwap t.seats old new
+pub put_can : (t : Tables) (old new : NodeId) → AreKept t → IsSeen (stage t.climber.stages.items old.index) → IsSeen (stage t.climber.stages.items new.index) → CanExchange t.seats old new
 put_can t old new k so sn =
     let z : AreSized t (length t.climber.stages.items) = k.known.sized in
     let lo : old.index < length t.climber.stages.items = seen_in t.climber.stages.items old.index so in

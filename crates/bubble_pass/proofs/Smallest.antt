@@ -12,7 +12,8 @@ use Rattle.bubble_pass.specs.declared.climber.Stage.TheVariants.{Placed}
 use Rattle.bubble_pass.specs.declared.climber.Climber.{Climber}
 use Rattle.bubble_pass.specs.declared.chains.Chains.{Chains}
 use Rattle.bubble_pass.specs.Climb.{stage, Inner, Entered}
-use Rattle.bubble_pass.specs.Found.{Holds, Inside, Meets}
+use Rattle.arena_model.specs.RowLeaves.{Holds, Meets}
+use Rattle.bubble_pass.specs.Found.{Inside}
 use Rattle.bubble_pass.specs.Ends.{AreLeaves}
 use Rattle.bubble_pass.specs.Roots.{Descending, IsSmallest}
 use Rattle.bubble_pass.proofs.Marks.{seen_by}

@@ -19,7 +19,7 @@ use Rattle.bubble_pass.specs.declared.climber.Stage.TheVariants.{Unseen, Queued,
 use Rattle.bubble_pass.specs.declared.climber.Climber.{Climber}
 use Rattle.bubble_pass.specs.Climb.{stage, IsSeen, IsOpen, parked_one, Inner, Beside, before, behind, Climb, Reached, at_leaf, from_child}
 use Rattle.bubble_pass.specs.Moves.{Ready}
-use Rattle.bubble_pass.specs.Found.{Fronts, FrontsOf, front_leaf, front_p, front_q, front_back, no_fronts, and_fronts, Keeps, Split}
+use Rattle.bubble_pass.specs.Found.{Fronts, FrontsOf, front_leaf, front_p, front_q, front_back, no_fronts, and_fronts, StandsTogether, Split}
 use Rattle.bubble_pass.specs.Ends.{AreLeaves, IsFull}
 use Rattle.bubble_pass.proofs.Seats.{child_at, Last, last_split}
 use Rattle.bubble_pass.proofs.Marks.{seen_by}
@@ -122,7 +122,7 @@ between f zl zr us ks vs w h u below fs =
     single z _ (and_fronts _ _ o os v fk fs e) = subst (λ y. Fronts f z y) (sym (e ∙ ap (λ y. o ++ y) (no_parts f [] os fs (omega arith)) ∙ append-nil o)) fk
 
 -- a leaf of the row among ks keeps all of them there
-within_at : (f : Layout) (row ks o : List ℕ) (a b : ℕ) → Keeps o row → (m : Middle f ks o) → (1 ≤ occurs row m.l → ⊥) → (1 ≤ occurs row m.r → ⊥) →
+within_at : (f : Layout) (row ks o : List ℕ) (a b : ℕ) → StandsTogether o row → (m : Middle f ks o) → (1 ≤ occurs row m.l → ⊥) → (1 ≤ occurs row m.r → ⊥) →
     1 ≤ occurs m.m a → 1 ≤ occurs row a → 1 ≤ occurs o b → 1 ≤ occurs row b → 1 ≤ occurs m.m b
 within_at f row ks o a b keep m nl nr oa ra ob rb =
     let sa : SplitAt m.m a = split_at m.m a oa in
@@ -219,7 +219,7 @@ wider f row ks w o left right e mo = record {
 
 -- where an order keeps the row, it holds no leaf but below ks
 within : (f : Layout) (row : List ℕ) (st : List Stage) (q : ℕ) (ks o : List ℕ) (k a b : ℕ) → IsLayout f → AreLeaves f row → IsFull f → Over f row st → Hemmed f st q ks →
-    Fronts f f.root o → Keeps o row → 1 ≤ occurs ks k → 1 ≤ occurs row a → IsAtOrAbove f.slots k a → 1 ≤ occurs row b → (j : ℕ) × (1 ≤ occurs ks j) × IsAtOrAbove f.slots j b
+    Fronts f f.root o → StandsTogether o row → 1 ≤ occurs ks k → 1 ≤ occurs row a → IsAtOrAbove f.slots k a → 1 ≤ occurs row b → (j : ℕ) × (1 ≤ occurs ks j) × IsAtOrAbove f.slots j b
 within f row st q ks o k a b h w u v m fr keep ok ra la rb =
     let kid : 1 ≤ occurs (children_at f q) k = subst (λ z. 1 ≤ occurs z k) (sym m.kids_are)
     (omega (arith, occurs-append m.us (m.zl ∷ (ks ++ m.zr ∷ m.vs)) k, occurs-append ks (m.zr ∷ m.vs) k)) in
@@ -322,7 +322,7 @@ two_apart f row st y z h w u v m oz off hem = λ o fr keep.
     in_kids : (q : ℕ) (ks : List ℕ) (x : ℕ) → Hemmed f st q ks → 1 ≤ occurs ks x → 1 ≤ occurs (children_at f q) x
     in_kids q ks x m o = subst (λ v. 1 ≤ occurs v x) (sym m.kids_are) (omega (arith, occurs-append m.us (m.zl ∷ (ks ++ m.zr ∷ m.vs)) x, occurs-append ks (m.zr ∷ m.vs) x))
 
-    by_stage : (o : List ℕ) → Fronts f f.root o → Keeps o row → (k : ℕ) → stage st k ≡ Blocked → k ≢ z → IsAtOrAbove f.slots k z → (s : Stage) → stage st z ≡ s → IsOpen s → ⊥
+    by_stage : (o : List ℕ) → Fronts f f.root o → StandsTogether o row → (k : ℕ) → stage st k ≡ Blocked → k ≢ z → IsAtOrAbove f.slots k z → (s : Stage) → stage st z ≡ s → IsOpen s → ⊥
     by_stage o fr keep k kb ne kz Unseen e op = op
     by_stage o fr keep k kb ne kz Queued e op = v.no_queue z e
     by_stage o fr keep k kb ne kz Top e op = ne (top_alone f k z (v.climb.tops z e) kz)

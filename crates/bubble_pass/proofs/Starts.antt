@@ -17,7 +17,8 @@ use Rattle.bubble_pass.specs.declared.chains.Chains.{Chains}
 use Rattle.bubble_pass.specs.declared.labels.Label.{Label}
 use Rattle.bubble_pass.specs.declared.labels.Label.TheVariants.{Empty}
 use Rattle.bubble_pass.specs.declared.labels.Labels.{Labels}
-use Rattle.bubble_pass.specs.Climb.{most_nodes, no_id, at, indices}
+use Rattle.pq_arena.specs.RowNodes.{indices}
+use Rattle.bubble_pass.specs.Climb.{most_nodes, no_id, at}
 use Rattle.bubble_pass.specs.Chains.{number}
 use Rattle.bubble_pass.specs.Roots.{below}
 use Rattle.bubble_pass.specs.Ends.{AreLeaves}

@@ -14,7 +14,8 @@ use Rattle.bubble_pass.specs.declared.chains.Chains.{Chains}
 use Rattle.bubble_pass.specs.declared.labels.Label.{Label}
 use Rattle.bubble_pass.specs.declared.labels.Label.TheVariants.{Empty, Partial, Full}
 use Rattle.bubble_pass.specs.declared.labels.Labels.{Labels}
-use Rattle.bubble_pass.specs.Climb.{no_id, at, indices}
+use Rattle.pq_arena.specs.RowNodes.{indices}
+use Rattle.bubble_pass.specs.Climb.{no_id, at}
 use Rattle.bubble_pass.specs.Chains.{number}
 use Rattle.bubble_pass.specs.Roots.{below}
 use Rattle.bubble_pass.specs.Sweep.{label, full_one, Ground, IsPertinent, Place, Swept, Sweeping, IsQuiet, SameBefore, fulls_before}

@@ -18,7 +18,8 @@ use Rattle.bubble_pass.specs.declared.chains.Chains.{Chains}
 use Rattle.bubble_pass.specs.declared.labels.Label.{Label}
 use Rattle.bubble_pass.specs.declared.labels.Label.TheVariants.{Empty, Partial, Full}
 use Rattle.bubble_pass.specs.declared.labels.Labels.{Labels}
-use Rattle.bubble_pass.specs.Climb.{most_nodes, no_id, stage, at, indices, IsSeen}
+use Rattle.pq_arena.specs.RowNodes.{indices}
+use Rattle.bubble_pass.specs.Climb.{most_nodes, no_id, stage, at, IsSeen}
 use Rattle.bubble_pass.proofs.Linking.{turns_more, turn_of, exactly}
 use Rattle.bubble_pass.specs.Chains.{number}
 use Rattle.bubble_pass.specs.Roots.{below}

@@ -10,7 +10,8 @@ use Rattle.bubble_pass.specs.declared.climber.Climber.{Climber}
 use Rattle.bubble_pass.specs.declared.labels.Label.{Label}
 use Rattle.bubble_pass.specs.declared.labels.Label.TheVariants.{Empty}
 use Rattle.bubble_pass.specs.declared.tables.Tables.{Tables}
-use Rattle.bubble_pass.specs.Climb.{most_nodes, no_id, stage, at, indices, IsSeen, unseen_one}
+use Rattle.pq_arena.specs.RowNodes.{indices}
+use Rattle.bubble_pass.specs.Climb.{most_nodes, no_id, stage, at, IsSeen, unseen_one}
 use Rattle.bubble_pass.specs.Moves.{Pushed, CanPush}
 use Rattle.bubble_pass.specs.Tables.{node_at, seat_of, AreSized, IsBlankAt, KnownFrom, AreKept, Forgot, CanForget, AreClear, TouchedAt}
 use Rattle.bubble_pass.specs.Marks.{tables_marks, AreBlank}

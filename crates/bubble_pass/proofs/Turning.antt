@@ -14,10 +14,11 @@ use Rattle.bubble_pass.specs.declared.climber.Climber.{Climber}
 use Rattle.bubble_pass.specs.declared.climber.End.{End}
 use Rattle.bubble_pass.specs.declared.climber.End.TheVariants.{Node, Run, Apart}
 use Rattle.bubble_pass.proofs.Linking.{turns_more, turn_of, turn_new, exactly}
-use Rattle.bubble_pass.specs.Climb.{stage, at, indices, IsSeen, IsOpen, parked_one, unseen_one, Climb, Queue}
+use Rattle.pq_arena.specs.RowNodes.{indices}
+use Rattle.bubble_pass.specs.Climb.{stage, at, IsSeen, IsOpen, parked_one, unseen_one, Climb, Queue}
 use Rattle.bubble_pass.specs.Moves.{Kept, Turned, turned_up, turned_off}
-use Rattle.bubble_pass.specs.Found.{Holds}
-use Rattle.bubble_pass.specs.Ends.{AreLeaves, Begun, IsFlat, IsFound}
+use Rattle.arena_model.specs.RowLeaves.{Holds}
+use Rattle.bubble_pass.specs.Ends.{AreLeaves, IsQueueing, IsFlat, IsFound}
 use Rattle.bubble_pass.specs.Fair.{IsAbove, Counted, counted_none, counted_above, counted_below, Course, calm, ahead, doomed, Fair, AtMost}
 use Rattle.bubble_pass.proofs.Marks.{seen_by}
 use Rattle.bubble_pass.proofs.Opens.{reached_meets, one_child, apart, some_parked, parked_seen}
@@ -297,7 +298,7 @@ fair_turn f row r a b h rw t g =
     ]
 
 -- as the leaves are queued, all is calm
-pub fair_begun : (f : Layout) (row : List ℕ) (r : ℕ) (w : Climber) → IsLayout f → AreLeaves f row → Holds f row r → Begun f row w → Fair f r w
+pub fair_begun : (f : Layout) (row : List ℕ) (r : ℕ) (w : Climber) → IsLayout f → AreLeaves f row → Holds f row r → IsQueueing f row w → Fair f r w
 fair_begun f row r w h rw holds g =
     let in_row : (x : ℕ) → IsSeen (stage w.stages.items x) → 1 ≤ occurs row x =
     (λ x s. elim (cases_lt 0 (occurs row x)) [

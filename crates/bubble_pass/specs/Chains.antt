@@ -6,7 +6,8 @@ use Rattle.bubble_pass.specs.declared.climber.Stage.{Stage}
 use Rattle.bubble_pass.specs.declared.climber.Stage.TheVariants.{Unseen, Queued, Blocked, Top, InRun, Placed}
 use Rattle.bubble_pass.specs.declared.climber.Climber.{Climber}
 use Rattle.bubble_pass.specs.declared.chains.Chains.{Chains}
-use Rattle.bubble_pass.specs.Climb.{most_nodes, stage, indices}
+use Rattle.pq_arena.specs.RowNodes.{indices}
+use Rattle.bubble_pass.specs.Climb.{most_nodes, stage}
 
 -- whether a node at this stage is placed under m
 abbrev pub is_under : Stage → ℕ → Bool

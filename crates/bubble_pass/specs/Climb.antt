@@ -1,5 +1,5 @@
 -- How far each node has come in the climb, and what the climb keeps.
-use Rattle.std.specs.Prelude.{◌≡◌, ◌≢◌, ◌⊎◌, ℕ, ◌+◌, ◌*◌, ◌-◌, ◌≤◌, ◌<◌, List, ◌∷◌, ◌++◌, Some, slice_index_or, length, map, sum_by}
+use Rattle.std.specs.Prelude.{◌≡◌, ◌≢◌, ◌⊎◌, ℕ, ◌+◌, ◌*◌, ◌≤◌, ◌<◌, List, ◌∷◌, ◌++◌, Some, slice_index_or, length, sum_by}
 use Rattle.column_order.specs.declared.TheConstants.{COLUMN_BOUND}
 use Rattle.pq_arena.specs.declared.node.NodeId.{NodeId}
 use Rattle.arena_model.specs.declared.Shape.TheVariants.{Q}
@@ -16,18 +16,6 @@ most_nodes = 2 * COLUMN_BOUND + 4
 -- stands in lists for a node that is not there
 abbrev pub no_id : NodeId
 no_id = record { index = none }
-
--- the numbers of nodes
-abbrev pub indices : List NodeId → List ℕ
-indices ns = map (λ n. n.index) ns
-
--- the leaves of the columns of a row
-abbrev pub row_nodes : List ℕ → List NodeId
-row_nodes columns = map (λ a. record { index = a - 1 }) columns
-
--- their numbers
-abbrev pub leaves_of : List ℕ → List ℕ
-leaves_of columns = indices (row_nodes columns)
 
 -- the stage of node x
 abbrev pub stage : List Stage → ℕ → Stage

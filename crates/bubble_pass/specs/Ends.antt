@@ -15,7 +15,8 @@ use Rattle.bubble_pass.specs.declared.climber.End.TheVariants.{Node, Run, Apart}
 use Rattle.bubble_pass.specs.Climb.{stage, IsSeen, IsOpen}
 use Rattle.bubble_pass.specs.Fair.{Fair}
 use Rattle.bubble_pass.specs.Moves.{Kept, Ready, blocked_in, InReach}
-use Rattle.bubble_pass.specs.Found.{Holds, Inside, Split}
+use Rattle.arena_model.specs.RowLeaves.{Holds}
+use Rattle.bubble_pass.specs.Found.{Inside, Split}
 
 -- no node was seen
 pub record IsClear (f : Layout) (w : Climber) : Type 0 where
@@ -40,7 +41,7 @@ pub record IsFull (f : Layout) : Type 0 where
   pub of_q : (n : ℕ) → IsAtOrAbove f.slots f.root n → shape_at f n ≡ Some Q → 1 ≤ length (children_at f n)
 
 -- while the leaves are queued
-pub record Begun (f : Layout) (row : List ℕ) (w : Climber) : Type 0 where
+pub record IsQueueing (f : Layout) (row : List ℕ) (w : Climber) : Type 0 where
   pub ready : Ready f row w
   pub head : w.head ≡ 0
   pub parked : w.parked ≡ 0

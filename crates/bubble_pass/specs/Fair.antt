@@ -6,7 +6,7 @@ use Rattle.arena_model.specs.Layout.{Layout, children_at, IsAtOrAbove}
 use Rattle.bubble_pass.specs.declared.climber.Stage.TheVariants.{Blocked, Placed}
 use Rattle.bubble_pass.specs.declared.climber.Climber.{Climber}
 use Rattle.bubble_pass.specs.Climb.{stage, at, IsSeen, IsOpen}
-use Rattle.bubble_pass.specs.Found.{Meets}
+use Rattle.arena_model.specs.RowLeaves.{Meets}
 
 -- n is above r
 abbrev pub IsAbove : Layout → ℕ → ℕ → Type 0

@@ -2,15 +2,8 @@
 use Rattle.std.specs.Prelude.{◌≡◌, ℕ, ◌+◌, ◌≤◌, List, [], ◌∷◌, ◌++◌, Some, length, reverse}
 use Rattle.arena_model.specs.declared.Shape.TheVariants.{Leaf, P, Q}
 use Rattle.column_order.specs.Orders.{occurs}
-use Rattle.arena_model.specs.Layout.{Layout, shape_at, children_at, IsAtOrAbove}
-
--- each leaf of the row is n or below it
-abbrev pub Holds : Layout → List ℕ → ℕ → Type 0
-Holds f row n = (x : ℕ) → 1 ≤ occurs row x → IsAtOrAbove f.slots n x
-
--- some leaf of the row is n or below it
-abbrev pub Meets : Layout → List ℕ → ℕ → Type 0
-Meets f row n = (x : ℕ) × (1 ≤ occurs row x) × IsAtOrAbove f.slots n x
+use Rattle.arena_model.specs.Layout.{Layout, shape_at, children_at}
+use Rattle.arena_model.specs.RowLeaves.{Holds, Meets}
 
 -- only inner children of the Q-node q meet the row, in one run of two or more, and it holds the row
 pub record Inside (f : Layout) (row : List ℕ) : Type 0 where
@@ -41,9 +34,9 @@ mutual
     and_fronts : (k : ℕ) (ks o os w : List ℕ) → Fronts f k o → FrontsOf f ks os → w ≡ o ++ os → FrontsOf f (k ∷ ks) w
 
 -- no leaf outside the row stands between two of it
-abbrev pub Keeps : List ℕ → List ℕ → Type 0
-Keeps o row = (ws xs ys zs : List ℕ) (a b c : ℕ) → o ≡ ws ++ a ∷ (xs ++ b ∷ (ys ++ c ∷ zs)) → 1 ≤ occurs row a → 1 ≤ occurs row c → 1 ≤ occurs row b
+abbrev pub StandsTogether : List ℕ → List ℕ → Type 0
+StandsTogether o row = (ws xs ys zs : List ℕ) (a b c : ℕ) → o ≡ ws ++ a ∷ (xs ++ b ∷ (ys ++ c ∷ zs)) → 1 ≤ occurs row a → 1 ≤ occurs row c → 1 ≤ occurs row b
 
 -- no order of the leaves keeps the row
 abbrev pub Split : Layout → List ℕ → Type 0
-Split f row = (o : List ℕ) → Fronts f f.root o → Keeps o row → ⊥
+Split f row = (o : List ℕ) → Fronts f f.root o → StandsTogether o row → ⊥

@@ -5,7 +5,7 @@ use Rattle.bubble_pass.specs.declared.labels.Label.{Label}
 use Rattle.bubble_pass.specs.declared.labels.Label.TheVariants.{Empty}
 use Rattle.bubble_pass.specs.declared.tables.Tables.{Tables}
 use Rattle.bubble_pass.specs.declared.work.Work.TheInside.{Inside}
-use Rattle.bubble_pass.specs.Climb.{indices}
+use Rattle.pq_arena.specs.RowNodes.{indices}
 use Rattle.bubble_pass.specs.Chains.{entry, number}
 use Rattle.bubble_pass.specs.Sweep.{label}
 use Rattle.bubble_pass.specs.Tables.{AreKept, node_at, seat_of}
@@ -100,5 +100,5 @@ pub record AreBlank (w : Marks) : Type 0 where
   pub outside : w.inside ≡ false
 
 -- what always holds of the room
-pub record IsKept (a : Inside) : Type 0 where
+pub record IsWorkKept (a : Inside) : Type 0 where
   pub tables : AreKept a.tables

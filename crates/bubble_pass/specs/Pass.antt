@@ -7,13 +7,14 @@ use Rattle.arena_model.specs.Layout.{Layout, children_at, IsAtOrAbove}
 use Rattle.bubble_pass.specs.declared.labels.Label.TheVariants.{Empty}
 use Rattle.bubble_pass.specs.declared.tables.Found.{Found}
 use Rattle.bubble_pass.specs.declared.tables.Found.TheVariants.{Root, Inside, Split}
-use Rattle.bubble_pass.specs.Climb.{indices}
-use Rattle.bubble_pass.specs.Found.{Holds, Inside as IsInside, Split as IsSplit}
+use Rattle.pq_arena.specs.RowNodes.{indices}
+use Rattle.arena_model.specs.RowLeaves.{Holds}
+use Rattle.bubble_pass.specs.Found.{Inside as IsInside, Split as IsSplit}
 use Rattle.bubble_pass.specs.Sweep.{IsRight, full_one, partial_one}
 use Rattle.bubble_pass.specs.Marks.{Marks, label_at, fulls_at, partials_at, IsChain, AreBlank}
 
 -- r holds the row, and each node that does is r or above it
-pub record IsPertinentRoot (f : Layout) (row : List ℕ) (r : ℕ) : Type 0 where
+pub record IsPertinentNode (f : Layout) (row : List ℕ) (r : ℕ) : Type 0 where
   pub holds : Holds f row r
   pub least : (n : ℕ) → Holds f row n → IsAtOrAbove f.slots n r
 
@@ -44,7 +45,7 @@ pub record AreMarked (f : Layout) (row : List ℕ) (w : Marks) (q : ℕ) : Type 
 
 -- r is the pertinent root, no run of inner children holds the row, and the marks are those below r and of r
 pub record FoundRoot (f : Layout) (row : List ℕ) (w : Marks) (r : ℕ) : Type 0 where
-  pub root : IsPertinentRoot f row r
+  pub root : IsPertinentNode f row r
   pub no_run : IsInside f row → ⊥
   pub marked : AreMarked f row w r
   pub top : IsRight f row r (label_at w r)

@@ -4,9 +4,10 @@ use Rattle.column_order.specs.Orders.{occurs}
 use Rattle.arena_model.specs.Layout.{Layout, children_at, IsAtOrAbove}
 use Rattle.bubble_pass.specs.declared.climber.Climber.{Climber}
 use Rattle.bubble_pass.specs.declared.chains.Chains.{Chains}
-use Rattle.bubble_pass.specs.Climb.{stage, indices, IsOpen}
+use Rattle.pq_arena.specs.RowNodes.{indices}
+use Rattle.bubble_pass.specs.Climb.{stage, IsOpen}
 use Rattle.bubble_pass.specs.Moves.{Kept}
-use Rattle.bubble_pass.specs.Found.{Holds}
+use Rattle.arena_model.specs.RowLeaves.{Holds}
 use Rattle.bubble_pass.specs.Chains.{chained, entry, AreLinked, number, OnlyCut}
 
 -- the placed children of m

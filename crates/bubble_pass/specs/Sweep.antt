@@ -10,10 +10,11 @@ use Rattle.bubble_pass.specs.declared.chains.Chains.{Chains}
 use Rattle.bubble_pass.specs.declared.labels.Label.{Label}
 use Rattle.bubble_pass.specs.declared.labels.Label.TheVariants.{Empty, Partial, Full}
 use Rattle.bubble_pass.specs.declared.labels.Labels.{Labels}
-use Rattle.bubble_pass.specs.Climb.{most_nodes, stage, at, indices, IsSeen}
+use Rattle.pq_arena.specs.RowNodes.{indices}
+use Rattle.bubble_pass.specs.Climb.{most_nodes, stage, at, IsSeen}
 use Rattle.bubble_pass.specs.Chains.{number}
 use Rattle.bubble_pass.specs.Roots.{below}
-use Rattle.bubble_pass.specs.Found.{Meets}
+use Rattle.arena_model.specs.RowLeaves.{Meets}
 use Rattle.bubble_pass.specs.Ends.{AreLeaves, IsFull}
 use Rattle.pq_arena.specs.Looks.{node_named}
 use Rattle.arena_model.specs.ChildLists.{none}

@@ -27,7 +27,7 @@ pub record Swapped (a b : Seats) (old new : NodeId) : Type 0 where
   pub seats : b.seats.items ≡ set (set a.seats.items new.index (Some (seat_of a.seats.items old))) old.index (Some (seat_of a.seats.items new))
 
 -- the entries that exchanging places reads and writes are there
-pub record CanSwap (s : Seats) (old new : NodeId) : Type 0 where
+pub record CanExchange (s : Seats) (old new : NodeId) : Type 0 where
   pub old_in : old.index < length s.seats.items
   pub new_in : new.index < length s.seats.items
   pub old_seat : (seat_of s.seats.items old).index < length s.nodes.items

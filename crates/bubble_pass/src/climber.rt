@@ -1,12 +1,12 @@
 // The climb from the leaves of a row.
 ghost use Rattle.std.specs.Prelude.{◌≡◌, List, ℕ, ◌+◌, ◌*◌, ◌≤◌, ◌<◌, length, Some, None, true, false};
 ghost use Rattle.bubble_pass.specs.Climb.{stage, at, parked_one};
-ghost use Rattle.bubble_pass.specs.Ends.{IsClear, AreLeaves, IsFull, Begun, IsOver, GoesOn, Climbed, IsFlat, LeftOpen, IsFound, CanGrow, Grown, EndIs};
+ghost use Rattle.bubble_pass.specs.Ends.{IsClear, AreLeaves, IsFull, IsQueueing, IsOver, GoesOn, Climbed, IsFlat, LeftOpen, IsFound, CanGrow, Grown, EndIs};
 ghost use Rattle.bubble_pass.specs.Moves.{above_in, blocked_in, InReach, CanRise, CanPush, Pushed, CanFind, found, parked_as, beyond_in, Rose, Staged, Kept, Ready, Walkable, Walked, Turned};
 ghost use Rattle.pq_arena.specs.declared.node.NodeView.{NodeView};
-ghost use Rattle.bubble_pass.specs.Found.{Holds};
+ghost use Rattle.arena_model.specs.RowLeaves.{Holds};
 ghost use Rattle.bubble_pass.specs.Fair.{AtMost};
-ghost use Rattle.bubble_pass.specs.Climb.{leaves_of};
+ghost use Rattle.pq_arena.specs.RowNodes.{column_leaves};
 ghost use Rattle.row_model.specs.Rows.{IsRow};
 
 use pq_arena::{Arena, NodeId, NodeView};
@@ -205,7 +205,7 @@ impl Climber {
     pub fn climb<L: Ledger>(&mut self, arena: &Arena, steps: &mut Steps<L>)
         ghost leaves: { List ℕ }
         requires row { AreLeaves arena.now leaves }
-        requires begun { Begun arena.now leaves self.old }
+        requires begun { IsQueueing arena.now leaves self.old }
         ensures climbed { Climbed arena.now leaves self.new steps.old steps.new }
         ensures over { IsOver self.new }
     {
@@ -219,8 +219,8 @@ impl Climber {
     pub fn begin(&mut self, arena: &Arena, row: &[u32])
         requires columns { IsRow arena.now.columns row.now }
         requires clear { IsClear arena.now self.old }
-        requires row { AreLeaves arena.now (leaves_of row.now) }
-        ensures { Begun arena.now (leaves_of row.now) self.new }
+        requires row { AreLeaves arena.now (column_leaves row.now) }
+        ensures { IsQueueing arena.now (column_leaves row.now) self.new }
     {
         arena.layout_law();
         for column in row {
@@ -309,7 +309,7 @@ impl Climber {
     // Climbs from the leaves of the row to what holds it.
     pub fn find<L: Ledger>(&mut self, arena: &Arena, row: &[u32], steps: &mut Steps<L>) -> End
         ghost leaves: { List ℕ }
-        requires leaves { leaves ≡ leaves_of row.now }
+        requires leaves { leaves ≡ column_leaves row.now }
         requires columns { IsRow arena.now.columns row.now }
         requires clear { IsClear arena.now self.old }
         requires row { AreLeaves arena.now leaves }

@@ -5,7 +5,7 @@ ghost use Rattle.bubble_pass.specs.Moves.{found};
 ghost use Rattle.bubble_pass.specs.Chains.{number};
 ghost use Rattle.bubble_pass.specs.declared.labels.Label.TheVariants.{Empty};
 ghost use Rattle.bubble_pass.specs.Sweep.{Noted, Told, Added, CanTell, CanAdd, CanSettle, CanJudge, IsPertinent, IsBlank, IsIn, IsQuiet, SameBefore, full_in, other_in, Swept, Ground, IsRight, label as label_of, full_one, partial_one};
-ghost use Rattle.bubble_pass.specs.Climb.{leaves_of};
+ghost use Rattle.pq_arena.specs.RowNodes.{column_leaves};
 ghost use Rattle.row_model.specs.Rows.{IsRow};
 
 use crate::chains::Chains;
@@ -172,10 +172,10 @@ impl Labels {
     // The leaves of the row come first.
     pub fn start(&mut self, arena: &Arena, row: &[u32], climber: &Climber, chains: &Chains)
         requires columns { IsRow arena.now.columns row.now }
-        requires row { AreLeaves arena.now (leaves_of row.now) }
-        requires ground { Ground arena.now (leaves_of row.now) climber.now chains.now }
+        requires row { AreLeaves arena.now (column_leaves row.now) }
+        requires ground { Ground arena.now (column_leaves row.now) climber.now chains.now }
         requires blank { IsBlank arena.now self.old }
-        ensures swept { Swept arena.now (leaves_of row.now) climber.now self.new 0 }
+        ensures swept { Swept arena.now (column_leaves row.now) climber.now self.new 0 }
         ensures quiet { IsQuiet climber.now self.new }
     {
         arena.layout_law();
@@ -196,7 +196,7 @@ impl Labels {
         steps: &mut Steps<L>,
     )
         ghost leaves: { List ℕ }
-        requires leaves { leaves ≡ leaves_of row.now }
+        requires leaves { leaves ≡ column_leaves row.now }
         requires columns { IsRow arena.now.columns row.now }
         requires row { AreLeaves arena.now leaves }
         requires full { IsFull arena.now }

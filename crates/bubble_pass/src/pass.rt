@@ -5,7 +5,7 @@ ghost use Rattle.row_model.specs.Graph.{row_at};
 ghost use Rattle.pq_tree.specs.Outline.{IsFrontier};
 ghost use Rattle.pq_tree.specs.Amortised.{nodes_met, nodes_met_below_root};
 ghost use Rattle.arena_model.specs.NamedTree.{IsOneTree, HasTwoEach, outline_at};
-ghost use Rattle.bubble_pass.specs.Climb.{leaves_of};
+ghost use Rattle.pq_arena.specs.RowNodes.{column_leaves};
 ghost use Rattle.bubble_pass.specs.Marks.{size_of};
 ghost use Rattle.bubble_pass.specs.Pass.{IsAnswer, IsHeld};
 
@@ -35,7 +35,7 @@ pub fn bubble<L: Ledger>(
     requires some { row_at m.now.rows k ≢ [] }
     ensures arena { arena.new ≡ arena.old }
     ensures room { size_of work.new ≡ size_of work.old }
-    ensures answer { IsAnswer arena.old (leaves_of (row_at m.now.rows k)) work.new result }
+    ensures answer { IsAnswer arena.old (column_leaves (row_at m.now.rows k)) work.new result }
 
     // Split comes only where no frontier keeps the row.
     ensures split { result ≡ Found.Split → (o : List ℕ) → IsFrontier (outline_at arena.old) o →

@@ -2,14 +2,14 @@
 ghost use Rattle.std.specs.Prelude.{◌≡◌, ℕ, ◌+◌, ◌*◌, ◌≤◌, ◌<◌, length, set, replicate, IfOk, List, false, None, Some};
 ghost use Rattle.pq_arena.specs.declared.node.NodeId.{NodeId};
 ghost use Rattle.bubble_pass.specs.declared.labels.Label.TheVariants.{Empty};
-ghost use Rattle.bubble_pass.specs.Tables.{node_at, seat_of, Swapped, CanSwap, AreKept, Forgot, CanForget, AreClear, TouchedAt};
+ghost use Rattle.bubble_pass.specs.Tables.{node_at, seat_of, Swapped, CanExchange, AreKept, Forgot, CanForget, AreClear, TouchedAt};
 ghost use Rattle.bubble_pass.specs.Marks.{tables_marks, placed_node, IsPut};
 ghost use Rattle.bubble_pass.specs.Tables.{no_node};
 ghost use Rattle.bubble_pass.specs.Pass.{IsAnswer, IsHeld};
 ghost use Rattle.bubble_pass.specs.Fair.{AtMost};
-ghost use Rattle.bubble_pass.specs.Found.{Holds};
+ghost use Rattle.arena_model.specs.RowLeaves.{Holds};
 ghost use Rattle.bubble_pass.specs.Ends.{AreLeaves, IsFull};
-ghost use Rattle.bubble_pass.specs.Climb.{leaves_of};
+ghost use Rattle.pq_arena.specs.RowNodes.{column_leaves};
 ghost use Rattle.row_model.specs.Rows.{IsRow};
 
 use crate::chains::Chains;
@@ -61,7 +61,7 @@ impl Seats {
 
     // `old` and `new` exchange their places.
     pub fn swap(&mut self, old: NodeId, new: NodeId)
-        requires { CanSwap self.old old new }
+        requires { CanExchange self.old old new }
         ensures { Swapped self.old self.new old new }
     {
         let first = self.seat_of(old);
@@ -172,7 +172,7 @@ impl Tables {
     // Finds what holds the row, and labels the nodes below it.
     pub fn find<L: Ledger>(&mut self, arena: &Arena, row: &[u32], steps: &mut Steps<L>) -> Found
         ghost leaves: { List ℕ }
-        requires leaves { leaves ≡ leaves_of row.now }
+        requires leaves { leaves ≡ column_leaves row.now }
         requires columns { IsRow arena.now.columns row.now }
         requires clear { AreClear self.old (length arena.now.slots) }
         requires row { AreLeaves arena.now leaves }

@@ -2,13 +2,13 @@
 ghost use Rattle.std.specs.Prelude.{◌≡◌, ℕ, ◌+◌, ◌*◌, ◌≤◌, ◌<◌, ◌↔◌, IsTrue, length, set, IfOk, false};
 ghost use Rattle.pq_arena.specs.declared.node.NodeId.{NodeId};
 ghost use Rattle.bubble_pass.specs.declared.labels.Label.TheVariants.{Empty};
-ghost use Rattle.bubble_pass.specs.Climb.{indices};
+ghost use Rattle.pq_arena.specs.RowNodes.{indices};
 ghost use Rattle.bubble_pass.specs.Marks.{label_at, fulls_at, partials_at, first_of, next_of, size_of, IsPut, AreBlank};
 ghost use Rattle.bubble_pass.specs.Pass.{IsAnswer, IsHeld};
 ghost use Rattle.bubble_pass.specs.Fair.{AtMost};
-ghost use Rattle.bubble_pass.specs.Found.{Holds};
+ghost use Rattle.arena_model.specs.RowLeaves.{Holds};
 ghost use Rattle.bubble_pass.specs.Ends.{AreLeaves, IsFull};
-ghost use Rattle.bubble_pass.specs.Climb.{leaves_of};
+ghost use Rattle.pq_arena.specs.RowNodes.{column_leaves};
 ghost use Rattle.row_model.specs.Rows.{IsRow};
 
 use crate::chains::Chains;
@@ -39,11 +39,11 @@ impl Model for Work {
 
     ghost Value = { Marks };
 
-    ghost use Rattle.bubble_pass.specs.Marks.{marks_of, IsKept};
+    ghost use Rattle.bubble_pass.specs.Marks.{marks_of, IsWorkKept};
 
     ghost view = { marks_of };
 
-    ghost invariant = { IsKept };
+    ghost invariant = { IsWorkKept };
 }
 
 impl Work {
@@ -180,12 +180,12 @@ impl Work {
     ) -> Found
         requires size { size_of self.old ≡ length arena.now.slots }
         requires columns { IsRow arena.now.columns row.now }
-        requires leaves { AreLeaves arena.now (leaves_of row.now) }
+        requires leaves { AreLeaves arena.now (column_leaves row.now) }
         requires full { IsFull arena.now }
         ensures size { size_of self.new ≡ size_of self.old }
-        ensures answer { IsAnswer arena.now (leaves_of row.now) self.new result }
-        ensures ticks { (a : ℕ) → AtMost arena.now (leaves_of row.now) arena.now.root a → steps.new ≤ steps.old + 5 * a }
-        ensures fair { (q a : ℕ) → IsHeld result → Holds arena.now (leaves_of row.now) q → AtMost arena.now (leaves_of row.now) q a →
+        ensures answer { IsAnswer arena.now (column_leaves row.now) self.new result }
+        ensures ticks { (a : ℕ) → AtMost arena.now (column_leaves row.now) arena.now.root a → steps.new ≤ steps.old + 5 * a }
+        ensures fair { (q a : ℕ) → IsHeld result → Holds arena.now (column_leaves row.now) q → AtMost arena.now (column_leaves row.now) q a →
             steps.new ≤ steps.old + 7 * a + 2 }
     {
         let tables = &mut self.tables;

@@ -1,3 +1,2 @@
 mod Orders
 mod Sums
-pub mod Bits

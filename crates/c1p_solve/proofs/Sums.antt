@@ -5,9 +5,9 @@ use Rattle.std.proofs.lemmas.List.Sums.{sum_by_push}
 use Rattle.row_model.specs.Graph.{row_at}
 use Rattle.pq_tree.specs.Outline.{Outline}
 use Rattle.pq_tree.specs.Amortised.{weight}
-use Rattle.pq_plain.specs.Frugal.{IsFrugal}
-use Rattle.pq_plain.specs.declared.reducer.Step.{Step}
-use Rattle.pq_plain.specs.declared.reducer.Step.TheVariants.{Refused}
+use Rattle.template_theory.specs.Frugal.{IsFrugal}
+use Rattle.template_theory.specs.declared.reducer.Step.{Step}
+use Rattle.template_theory.specs.declared.reducer.Step.TheVariants.{Refused}
 use Rattle.c1p_solve.specs.Totals.{reduction_steps, search_steps}
 
 -- the ones of one row more

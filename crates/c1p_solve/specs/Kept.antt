@@ -9,6 +9,6 @@ abbrev pub session_within : Inside → SessionValue
 session_within s = record { matrix = s.matrix; tree = outline_at s.reducer }
 
 -- what is always true of the fields
-pub record IsKept (s : Inside) : Type 0 where
+pub record IsSessionKept (s : Inside) : Type 0 where
   pub columns : s.reducer.columns ≡ s.matrix.columns
   pub session : IsSession (session_within s)

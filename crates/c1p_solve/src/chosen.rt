@@ -9,7 +9,7 @@ use row_model::{Matrix, NoMemory};
 use row_reduce::ArenaReducer;
 use std::alloc::Global;
 use step_count::{Ledger, Steps};
-use total_work::weight_law;
+use template_theory::weight_law;
 
 /// The reducer by which matrices are solved.
 pub type Chosen = ArenaReducer;

@@ -10,6 +10,3 @@ pub use chosen::{Answered, Chosen, answer};
 pub use row_model::NoMemory;
 pub use session::{Session, Started, Taken};
 pub use solver::{Solved, solve};
-
-#[cfg(test)]
-mod tests;

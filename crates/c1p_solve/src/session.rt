@@ -14,21 +14,30 @@ ghost use Rattle.c1p_solve.specs.SessionTotals.{IsStartTotal, IsRowTotal};
 use crate::chosen::Chosen;
 use crate::solver::{conflict, reduce_all};
 use incompat_graph::Cycle;
-use pq_plain::{Reducer, Step};
 use pq_tree::PqTree;
 use row_model::{Matrix, NoMemory, ROW_BOUND};
 use std::alloc::Global;
 use std::marker::Model;
 use step_count::{Ledger, Steps};
-use total_work::weight_law;
+use template_theory::{Reducer, Step, weight_law};
 
 /// A matrix that has a valid order, and the reducer whose tree stands for all its valid orders. Further rows are
 /// taken as long as they leave one.
-#[derive(Drop)]
 pub struct Session {
     alloc: Global,
     matrix: Matrix,
     reducer: Chosen,
+}
+
+// By hand, since a derived drop is taken apart wherever a session lives over a `?`, which makes the proofs above slow.
+impl Drop for Session {
+    fn drop(self) {
+        let Session {
+            alloc: _alloc,
+            matrix: _matrix,
+            reducer: _reducer,
+        } = self;
+    }
 }
 
 impl Model for Session {
@@ -39,11 +48,11 @@ impl Model for Session {
 
     ghost coded = { session_code };
 
-    ghost use Rattle.c1p_solve.specs.Kept.{session_within, IsKept};
+    ghost use Rattle.c1p_solve.specs.Kept.{session_within, IsSessionKept};
 
     ghost view = { session_within };
 
-    ghost invariant = { IsKept };
+    ghost invariant = { IsSessionKept };
 }
 
 /// What became of the matrix of a new session.

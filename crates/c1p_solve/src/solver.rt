@@ -8,11 +8,11 @@ ghost use Rattle.c1p_solve.specs.Answers.{IsAnswer, IsReduction, LeavesTree};
 ghost use Rattle.c1p_solve.specs.Totals.{IsTotal, IsReductionTotal};
 
 use incompat_graph::{Cycle, odd_cycle_along};
-use pq_plain::{Reducer, Step};
 use pq_tree::PqTree;
 use row_model::{Matrix, NoMemory};
 use std::alloc::Global;
 use step_count::{Ledger, Steps};
+use template_theory::{Reducer, Step};
 
 /// The answer on a matrix.
 #[derive(Drop)]

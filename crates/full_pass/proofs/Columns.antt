@@ -12,21 +12,22 @@ use Rattle.arena_model.specs.Layout.{Layout, shape_at, IsLayout}
 use Rattle.arena_model.specs.NamedTree.{IsOneTree}
 use Rattle.arena_model.proofs.Lists.{occurs_other, occurs_same}
 use Rattle.arena_model.proofs.Slots.{used_by}
-use Rattle.full_pass.specs.Answer.{leaves_of, AreLeaves}
+use Rattle.pq_arena.specs.RowNodes.{column_leaves}
+use Rattle.full_pass.specs.Answer.{AreLeaves}
 
 -- a column of the row is one more than the number of its leaf
-pub row_occurs : (c low : ℕ) (row : List ℕ) (x : ℕ) → Ascends c low row → occurs (leaves_of row) x ≡ occurs row (x + 1)
+pub row_occurs : (c low : ℕ) (row : List ℕ) (x : ℕ) → Ascends c low row → occurs (column_leaves row) x ≡ occurs row (x + 1)
 row_occurs c low [] x h = refl
 row_occurs c low (a ∷ row) x h =
-    let r : occurs (leaves_of row) x ≡ occurs row (x + 1) = row_occurs c a row x h.2 in
+    let r : occurs (column_leaves row) x ≡ occurs row (x + 1) = row_occurs c a row x h.2 in
     let some : low < a = h.0 in
     elim (cases_eq a (x + 1)) [
       | inl e ↦
-          let i : occurs ((a - 1) ∷ leaves_of row) x ≡ 1 + occurs (leaves_of row) x = subst (λ z. occurs (z ∷ leaves_of row) x ≡ 1 + occurs (leaves_of row) x) (let k : x ≡ a - 1 = omega arith in k) (occurs_same x (leaves_of row)) in
+          let i : occurs ((a - 1) ∷ column_leaves row) x ≡ 1 + occurs (column_leaves row) x = subst (λ z. occurs (z ∷ column_leaves row) x ≡ 1 + occurs (column_leaves row) x) (let k : x ≡ a - 1 = omega arith in k) (occurs_same x (column_leaves row)) in
           let j : occurs (a ∷ row) (x + 1) ≡ 1 + occurs row (x + 1) = subst (λ z. occurs (z ∷ row) (x + 1) ≡ 1 + occurs row (x + 1)) (sym e) (occurs_same (x + 1) row) in
           omega arith
       | inr ne ↦
-          let i : occurs ((a - 1) ∷ leaves_of row) x ≡ occurs (leaves_of row) x = occurs_other (a - 1) x (leaves_of row) (λ e. ne (omega arith)) in
+          let i : occurs ((a - 1) ∷ column_leaves row) x ≡ occurs (column_leaves row) x = occurs_other (a - 1) x (column_leaves row) (λ e. ne (omega arith)) in
           let j : occurs (a ∷ row) (x + 1) ≡ occurs row (x + 1) = occurs_other a (x + 1) row (λ e. ne (sym e)) in
           omega arith
     ]
@@ -48,15 +49,15 @@ row_once c low (b ∷ row) a h = elim (cases_eq a b) [
   | inr ne ↦ let r : occurs row a ≤ 1 = row_once c b row a h.2 in omega (arith, occurs_other b a row ne)
 ]
 
-leaf_in_row : (f : Layout) (row : List ℕ) (x : ℕ) → IsRow f.columns row → 1 ≤ occurs (leaves_of row) x → x < f.columns
+leaf_in_row : (f : Layout) (row : List ℕ) (x : ℕ) → IsRow f.columns row → 1 ≤ occurs (column_leaves row) x → x < f.columns
 leaf_in_row f row x h o =
-    let i : 1 ≤ occurs row (x + 1) = (let e : occurs (leaves_of row) x ≡ occurs row (x + 1) = row_occurs f.columns 0 row x h in omega arith) in
+    let i : 1 ≤ occurs row (x + 1) = (let e : occurs (column_leaves row) x ≡ occurs row (x + 1) = row_occurs f.columns 0 row x h in omega arith) in
     let le : x + 1 ≤ f.columns = (row_bounds f.columns 0 row (x + 1) h i).1 in omega arith
 
 -- the row's columns stand at leaves of the one tree
-pub row_leaves : (f : Layout) (row : List ℕ) → IsLayout f → IsOneTree f → IsRow f.columns row → AreLeaves f (leaves_of row)
+pub row_leaves : (f : Layout) (row : List ℕ) → IsLayout f → IsOneTree f → IsRow f.columns row → AreLeaves f (column_leaves row)
 row_leaves f row h one r = record {
-  once = λ x. let e : occurs (leaves_of row) x ≡ occurs row (x + 1) = row_occurs f.columns 0 row x r in let o : occurs row (x + 1) ≤ 1 = row_once f.columns 0 row (x + 1) r in omega arith;
+  once = λ x. let e : occurs (column_leaves row) x ≡ occurs row (x + 1) = row_occurs f.columns 0 row x r in let o : occurs row (x + 1) ≤ 1 = row_once f.columns 0 row (x + 1) r in omega arith;
   leaf = λ x o. (x + 1, h.leaves x (leaf_in_row f row x r o));
   below = λ x o. one x (used_by f x (Leaf (x + 1)) (h.leaves x (leaf_in_row f row x r o)));
 }
@@ -73,25 +74,25 @@ column_in c low (a ∷ columns) (suc i) h l =
 pub leaf_index : (f : Layout) (n a : ℕ) → IsLayout f → shape_at f n ≡ Some (Leaf a) → n ≡ a - 1
 leaf_index f n a h s = let e : a ≡ n + 1 = (h.no_other_leaf n a s).0 in omega arith
 
-pub next_leaf : (row : List ℕ) (i : ℕ) → i < length row → leaves_of (drop i row) ≡ (get_or row i 0 - 1) ∷ leaves_of (drop (i + 1) row)
-next_leaf row i lt = ap leaves_of (drop-cons row i 0 lt) ∙ ap (λ z. (get_or row i 0 - 1) ∷ leaves_of (drop z row)) (let e : suc i ≡ i + 1 = omega arith in e)
+pub next_leaf : (row : List ℕ) (i : ℕ) → i < length row → column_leaves (drop i row) ≡ (get_or row i 0 - 1) ∷ column_leaves (drop (i + 1) row)
+next_leaf row i lt = ap column_leaves (drop-cons row i 0 lt) ∙ ap (λ z. (get_or row i 0 - 1) ∷ column_leaves (drop z row)) (let e : suc i ≡ i + 1 = omega arith in e)
 
-pub rest_none : (row : List ℕ) (i : ℕ) → length row ≤ i → leaves_of (drop i row) ≡ []
-rest_none row i le = ap leaves_of (drop_all i row le)
+pub rest_none : (row : List ℕ) (i : ℕ) → length row ≤ i → column_leaves (drop i row) ≡ []
+rest_none row i le = ap column_leaves (drop_all i row le)
 
-pub leaves_length : (row : List ℕ) → length (leaves_of row) ≡ length row
+pub leaves_length : (row : List ℕ) → length (column_leaves row) ≡ length row
 leaves_length [] = refl
 leaves_length (a ∷ row) = ap suc (leaves_length row)
 
 -- a leaf of the row has a column of the row, and the other way round
-pub leaf_has : (f : Layout) (row : List ℕ) (x a : ℕ) → IsLayout f → IsRow f.columns row → shape_at f x ≡ Some (Leaf a) → 1 ≤ occurs (leaves_of row) x → has row a ≡ true
+pub leaf_has : (f : Layout) (row : List ℕ) (x a : ℕ) → IsLayout f → IsRow f.columns row → shape_at f x ≡ Some (Leaf a) → 1 ≤ occurs (column_leaves row) x → has row a ≡ true
 leaf_has f row x a h r s o =
     let e : a ≡ x + 1 = (h.no_other_leaf x a s).0 in
-    let k : occurs (leaves_of row) x ≡ occurs row (x + 1) = row_occurs f.columns 0 row x r in
+    let k : occurs (column_leaves row) x ≡ occurs row (x + 1) = row_occurs f.columns 0 row x r in
     subst (λ z. has row z ≡ true) (sym e) (has_from_occurs row (x + 1) (omega arith))
 
-pub has_leaf : (f : Layout) (row : List ℕ) (x a : ℕ) → IsLayout f → IsRow f.columns row → shape_at f x ≡ Some (Leaf a) → has row a ≡ true → 1 ≤ occurs (leaves_of row) x
+pub has_leaf : (f : Layout) (row : List ℕ) (x a : ℕ) → IsLayout f → IsRow f.columns row → shape_at f x ≡ Some (Leaf a) → has row a ≡ true → 1 ≤ occurs (column_leaves row) x
 has_leaf f row x a h r s t =
     let e : a ≡ x + 1 = (h.no_other_leaf x a s).0 in
-    let k : occurs (leaves_of row) x ≡ occurs row (x + 1) = row_occurs f.columns 0 row x r in
+    let k : occurs (column_leaves row) x ≡ occurs row (x + 1) = row_occurs f.columns 0 row x r in
     let o : 1 ≤ occurs row (x + 1) = subst (λ z. 1 ≤ occurs row z) e (occurs_from_has row a t) in omega arith

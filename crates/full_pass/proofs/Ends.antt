@@ -10,7 +10,7 @@ use Rattle.full_pass.proofs.Shapes.{children_within, has_children}
 use Rattle.full_pass.specs.declared.entries.Entries.{Entries}
 use Rattle.full_pass.specs.Entries.{chain_at, first, hits, next}
 use Rattle.full_pass.proofs.Chained.{chained_length}
-use Rattle.full_pass.specs.Answer.{AreBelow, AreLeaves, IsGroup, IsKept, one_node, one_run}
+use Rattle.full_pass.specs.Answer.{AreBelow, AreLeaves, IsGroup, IsRowKept, one_node, one_run}
 use Rattle.full_pass.specs.Passing.{HasPart, InFirst, InMore, InRun, Pass, marks, runs, total}
 use Rattle.full_pass.proofs.Sums.{total_one, total_two}
 use Rattle.full_pass.proofs.Marks.{OneRun, cases_bool, marks_some, marks_two, one_run_of, runs_some, true_false}
@@ -76,7 +76,7 @@ under f row l h n m layout r p le part x o =
     ]
 
 pub end_run : (f : Layout) (row : List ℕ) (l : ℕ → Bool) (h : ℕ → ℕ) (n : ℕ) → IsLayout f → AreLeaves f row → Pass f row l h [] n → n ≤ 1 →
-    InRun f l [] → IsKept f row
+    InRun f l [] → IsRowKept f row
 end_run f row l h n layout r p le run =
     let q : ℕ = run.q in
     let s : length {A = ℕ} [] + total p.parts (length f.slots) ≤ n = p.sum in
@@ -89,7 +89,7 @@ end_run f row l h n layout r p le run =
     })
 
 pub end_first : (f : Layout) (row : List ℕ) (l : ℕ → Bool) (h : ℕ → ℕ) (n : ℕ) → IsLayout f → AreLeaves f row → Pass f row l h [] n → n ≤ 1 →
-    InFirst f l [] → IsKept f row
+    InFirst f l [] → IsRowKept f row
 end_first f row l h n layout r p le first =
     let part : HasPart f l [] first.p = first.ring.part in
     one_node part.child (p.filled part.child part.labelled) (λ x o.

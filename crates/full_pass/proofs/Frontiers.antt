@@ -20,7 +20,9 @@ use Rattle.arena_model.proofs.Slots.{children_times, some_inj}
 use Rattle.arena_model.proofs.Paths.{one_path, top_alone}
 use Rattle.arena_model.proofs.Trees.{TreeAt, tree_at}
 use Rattle.arena_model.proofs.Outlines.{apart_children, below_named}
-use Rattle.full_pass.specs.Answer.{AreBelow, AreLeaves, Holds, IsFullNode, IsKept, leaves_of, one_node, one_run}
+use Rattle.arena_model.specs.RowLeaves.{Holds}
+use Rattle.pq_arena.specs.RowNodes.{column_leaves}
+use Rattle.full_pass.specs.Answer.{AreBelow, AreLeaves, IsFullNode, IsRowKept, one_node, one_run}
 use Rattle.full_pass.specs.Passing.{runs}
 use Rattle.full_pass.proofs.Columns.{has_leaf, leaf_has, row_leaves}
 use Rattle.full_pass.proofs.Marks.{cases_bool, runs_some}
@@ -366,7 +368,7 @@ run_at f row l q us ks vs layout marked sh is below (named_tree n s ts) at e o f
         ]
 
 -- a row that the arena's value keeps is in one run of each frontier
-pub kept_frontiers : (f : Layout) (row : List ℕ) (l : ℕ → Bool) (y : ℕ) → IsLayout f → AreLeaves f row → 1 ≤ occurs row y → Marked f row l → IsKept f row →
+pub kept_frontiers : (f : Layout) (row : List ℕ) (l : ℕ → Bool) (y : ℕ) → IsLayout f → AreLeaves f row → 1 ≤ occurs row y → Marked f row l → IsRowKept f row →
     (t : NamedTree) (o : List ℕ) → IsAt f.slots t → top_name t ≡ f.root → IsFrontierOf t o → runs l false o ≤ 1
 kept_frontiers f row l y layout r oy marked (one_node n fills holds) =
     λ t o at named fr. node_frontiers f row l n y t o layout marked fills holds oy (r.below y oy) at named fr
@@ -411,16 +413,16 @@ between l (x ∷ xs) (suc i) (suc j) (suc k) h ij jk few mi mk = elim (cases_boo
 ]
 
 -- each frontier of the tree keeps a row that the arena's layout keeps
-pub kept_outline : (f : Layout) (row o : List ℕ) → IsLayout f → IsOneTree f → IsRow f.columns row → IsKept f (leaves_of row) → IsFrontier (outline_at f) o → Keeps o row
+pub kept_outline : (f : Layout) (row o : List ℕ) → IsLayout f → IsOneTree f → IsRow f.columns row → IsRowKept f (column_leaves row) → IsFrontier (outline_at f) o → Keeps o row
 kept_outline f [] o layout one r kept frontier = kept_empty o
 kept_outline f (a ∷ row) o layout one r kept frontier =
-    let marked : Marked f (leaves_of (a ∷ row)) (has (a ∷ row)) = record {
+    let marked : Marked f (column_leaves (a ∷ row)) (has (a ∷ row)) = record {
       into = λ y b s t. has_leaf f (a ∷ row) y b layout r s t;
       back = λ y b s i. leaf_has f (a ∷ row) y b layout r s i;
     } in
     let t : TreeAt f f.root = tree_at f f.root layout layout.root_used in
     let same : outline_at f ≡ outline_named t.it = ap (outline_below f) (sym t.named) ∙ below_named f t.it layout t.is in
     let one_run_of_row : runs (has (a ∷ row)) false o ≤ 1 =
-    kept_frontiers f (leaves_of (a ∷ row)) (has (a ∷ row)) (a - 1) layout (row_leaves f (a ∷ row) layout one r) (occurs_here (a - 1) (leaves_of row)) marked kept
+    kept_frontiers f (column_leaves (a ∷ row)) (has (a ∷ row)) (a - 1) layout (row_leaves f (a ∷ row) layout one r) (occurs_here (a - 1) (column_leaves row)) marked kept
     t.it o t.is t.named (subst (λ z. IsFrontier z o) same frontier) in
     λ i j k ij jk few mi mk. between (has (a ∷ row)) o i j k one_run_of_row ij jk few mi mk

@@ -7,7 +7,9 @@ use Rattle.arena_model.proofs.Slots.{used_by}
 use Rattle.arena_model.proofs.Lists.{occurs_here}
 use Rattle.full_pass.specs.declared.settled.Settled.{Settled}
 use Rattle.full_pass.specs.declared.settled.Settled.TheVariants.{Group, Kept, Open}
-use Rattle.full_pass.specs.Answer.{AreLeaves, leaves_of, IsFullNode, IsKept, IsLeafAt, IsSettled, one_node}
+use Rattle.pq_arena.specs.RowNodes.{column_leaves}
+use Rattle.arena_model.specs.RowLeaves.{IsLeafAt}
+use Rattle.full_pass.specs.Answer.{AreLeaves, IsFullNode, IsRowKept, IsSettled, one_node}
 use Rattle.full_pass.specs.Passing.{AreLinked, Chains, IsLast, IsRisen, Pass, Runs, marks, members_of, runs, total}
 use Rattle.full_pass.specs.declared.entries.Entries.{Entries}
 use Rattle.full_pass.specs.Entries.{AreReady, chain_at, far, first, hits, is_full, next, up}
@@ -80,7 +82,7 @@ settled f row w n (Group p) layout r le chains last =
 settled f row w n Open layout r le chains last = tt
 
 -- where the root is full all leaves are in the row
-pub root_kept : (f : Layout) (row : List ℕ) → AreLeaves f row → IsFullNode f row f.root → IsKept f row
+pub root_kept : (f : Layout) (row : List ℕ) → AreLeaves f row → IsFullNode f row f.root → IsRowKept f row
 root_kept f row r full = one_node f.root full r.below
 
 pub no_runs : (f : Layout) (l : ℕ → Bool) (far : ℕ → ℕ) (up : ℕ → Option NodeId) → ((x : ℕ) → l x ≡ false) → Runs f l far up
@@ -110,7 +112,7 @@ risen_last f row l h waiting n s r = r.0
 
 -- the next leaf of the row waits in front
 pub next_waits : (f : Layout) (row : List ℕ) (w : Entries) (i n x : ℕ) → IsLayout f → shape_at f x ≡ Some (Leaf (get_or row i 0)) → i < length row →
-    Pass f (leaves_of row) (is_full w) (hits w) (leaves_of (drop i row)) n → Pass f (leaves_of row) (is_full w) (hits w) (x ∷ leaves_of (drop (i + 1) row)) n
+    Pass f (column_leaves row) (is_full w) (hits w) (column_leaves (drop i row)) n → Pass f (column_leaves row) (is_full w) (hits w) (x ∷ column_leaves (drop (i + 1) row)) n
 next_waits f row w i n x layout sh lt pass =
-    subst (λ z. Pass f (leaves_of row) (is_full w) (hits w) (z ∷ leaves_of (drop (i + 1) row)) n) (sym (leaf_index f x (get_or row i 0) layout sh))
-    (subst (λ z. Pass f (leaves_of row) (is_full w) (hits w) z n) (next_leaf row i lt) pass)
+    subst (λ z. Pass f (column_leaves row) (is_full w) (hits w) (z ∷ column_leaves (drop (i + 1) row)) n) (sym (leaf_index f x (get_or row i 0) layout sh))
+    (subst (λ z. Pass f (column_leaves row) (is_full w) (hits w) z n) (next_leaf row i lt) pass)

@@ -1,4 +1,4 @@
--- The labelling of a node as a look at it shows its place.
+-- The labelling of a node as a look at it shows its place_shown.
 use Rattle.std.proofs.Common.{Bool, List, None, Option, Some, ap, arith, cond, eq-eqb, eqb, false, inl, inr, length, refl, subst, sym, true, ℕ, ◌++◌, ◌+◌, ◌-◌, ◌<◌, ◌∙◌, ◌∷◌, ◌≡◌, ◌≢◌, ◌≤◌, ◌⊎◌}
 use Rattle.std.proofs.lemmas.Bool.{cases_eq, ne_eqb}
 use Rattle.arena_model.specs.declared.Shape.TheVariants.{P, Q}
@@ -13,7 +13,7 @@ use Rattle.full_pass.specs.declared.entries.Entries.{Entries}
 use Rattle.full_pass.specs.declared.joins.Joined.{Joined}
 use Rattle.full_pass.specs.declared.joins.Joined.TheVariants.{Run, Wide}
 use Rattle.full_pass.specs.declared.joins.Place.TheVariants.{Ring as PlaceRing, Run as PlaceRun, Top as PlaceTop}
-use Rattle.full_pass.specs.Passing.{AreLinked, CanJoin, Chains, InRun, IsJoined, Pass, Runs, judged_as, marks, place, run_as}
+use Rattle.full_pass.specs.Passing.{AreLinked, CanJoin, Chains, InRun, IsJoined, Pass, Runs, judged_as, marks, place_shown, run_as}
 use Rattle.full_pass.specs.Entries.{AreReady, both, end_at, far, first, is_full, hits, mark_of, next, up}
 use Rattle.full_pass.specs.Answer.{IsFullNode}
 use Rattle.arena_model.specs.NamedTree.{IsOneTree}
@@ -29,11 +29,11 @@ use Rattle.column_order.proofs.Lists.{occurs-append}
 use Rattle.arena_model.specs.declared.TheConstants.{NODE_BOUND}
 use Rattle.full_pass.proofs.Shapes.{slots_few}
 
-pub runs_at : (f : Layout) (x : ℕ) (view : NodeView) → IsLayout f → ShowsNode f x view → PlaceRun ≡ place view.parent (side view 0) (side view 1) →
+pub runs_at : (f : Layout) (x : ℕ) (view : NodeView) → IsLayout f → ShowsNode f x view → PlaceRun ≡ place_shown view.parent (side view 0) (side view 1) →
     Running f x (side view 0) (side view 1)
 runs_at f x view h shows e = subst (λ z. Says f x (side view 0) (side view 1) z) (sym e) (says f x view h shows)
 
-pub rings_at : (f : Layout) (x : ℕ) (p : NodeId) (view : NodeView) → IsLayout f → ShowsNode f x view → PlaceRing p ≡ place view.parent (side view 0) (side view 1) →
+pub rings_at : (f : Layout) (x : ℕ) (p : NodeId) (view : NodeView) → IsLayout f → ShowsNode f x view → PlaceRing p ≡ place_shown view.parent (side view 0) (side view 1) →
     Ringed f x p.index
 rings_at f x p view h shows e = subst (λ z. Says f x (side view 0) (side view 1) z) (sym e) (says f x view h shows)
 
@@ -47,7 +47,7 @@ end_named w y x e = elim (cases_eq y none) [
 pub record FilledRun (f : Layout) (w w' : Entries) (x a b : ℕ) (view : NodeView) : Type 0 where
   pub layout : IsLayout f
   pub shows : ShowsNode f x view
-  pub at : PlaceRun ≡ place view.parent (side view 0) (side view 1)
+  pub at : PlaceRun ≡ place_shown view.parent (side view 0) (side view 1)
   pub runs : Runs f (is_full w) (far w) (up w)
   pub chains : Chains f (is_full w) (hits w) (first w) (next w)
   pub fresh : is_full w x ≡ false
@@ -186,7 +186,7 @@ joined_run f w w' x k a b view result d ke re row waiting n pass =
         ]) refl
 
 pub joined_ring : (f : Layout) (w w' : Entries) (x : ℕ) (p : NodeId) (view view' : NodeView) (result : Joined) (k : ℕ) → IsLayout f → ShowsNode f x view →
-    PlaceRing p ≡ place view.parent (side view 0) (side view 1) → ShowsNode f p.index view' → k ≡ hits w p.index + 1 →
+    PlaceRing p ≡ place_shown view.parent (side view 0) (side view 1) → ShowsNode f p.index view' → k ≡ hits w p.index + 1 →
     result ≡ judged_as p k view'.children →
     is_full w' x ≡ true → ((y : ℕ) → y ≢ x → is_full w' y ≡ is_full w y) → hits w' p.index ≡ hits w p.index + 1 → ((y : ℕ) → y ≢ p.index → hits w' y ≡ hits w y) →
     (row waiting : List ℕ) (n : ℕ) → Pass f row (is_full w) (hits w) (x ∷ waiting) n → IsJoined f row (is_full w') (hits w') waiting n result
@@ -199,11 +199,11 @@ joined_ring f w w' x p view view' result k h shows at shows' ke re now others hi
     (record { before = pass.fresh x (occurs_here x waiting); after = now; others = others }) hit same pass)
 
 pub ring_used : (f : Layout) (x : ℕ) (p : NodeId) (view : NodeView) → IsLayout f → ShowsNode f x view →
-    PlaceRing p ≡ place view.parent (side view 0) (side view 1) → IsInUse f p.index
+    PlaceRing p ≡ place_shown view.parent (side view 0) (side view 1) → IsInUse f p.index
 ring_used f x p view h shows at = let r = rings_at f x p view h shows at in used_by f p.index P r.sh
 
 pub hits_few : (f : Layout) (w : Entries) (x : ℕ) (p : NodeId) (view : NodeView) → IsLayout f → ShowsNode f x view →
-    PlaceRing p ≡ place view.parent (side view 0) (side view 1) → CanJoin f w x → hits w p.index ≤ NODE_BOUND
+    PlaceRing p ≡ place_shown view.parent (side view 0) (side view 1) → CanJoin f w x → hits w p.index ≤ NODE_BOUND
 hits_few f w x p view h shows at can =
     let r = rings_at f x p view h shows at in
     let c : hits w p.index ≡ marks (is_full w) (children_at f p.index) = can.pass.counts p.index r.sh in
@@ -215,7 +215,7 @@ hits_few f w x p view h shows at can =
 pub record FilledRing (f : Layout) (w w' : Entries) (x : ℕ) (p : NodeId) (view : NodeView) : Type 0 where
   pub layout : IsLayout f
   pub shows : ShowsNode f x view
-  pub at : PlaceRing p ≡ place view.parent (side view 0) (side view 1)
+  pub at : PlaceRing p ≡ place_shown view.parent (side view 0) (side view 1)
   pub linked : AreLinked f w
   pub fresh : is_full w x ≡ false
   pub now : is_full w' x ≡ true
@@ -237,15 +237,15 @@ joined_ring_linked f w w' x p view d ready =
 
 -- a full node without a node above it is the root
 pub joined_top : (f : Layout) (w : Entries) (x : ℕ) (view : NodeView) → IsLayout f → ShowsNode f x view →
-    PlaceTop ≡ place view.parent (side view 0) (side view 1) → IsOneTree f →
+    PlaceTop ≡ place_shown view.parent (side view 0) (side view 1) → IsOneTree f →
     (row waiting : List ℕ) (n : ℕ) → Pass f row (is_full w) (hits w) (x ∷ waiting) n → IsFullNode f row f.root
 joined_top f w x view h shows at one row waiting n pass =
     let apart : times_child f.slots x ≡ 0 = subst (λ z. Says f x (side view 0) (side view 1) z) (sym at) (says f x view h shows) in
     let e : f.root ≡ x = top_alone f f.root x apart (one x (pass.used x (occurs_here x waiting))) in
     subst (λ z. IsFullNode f row z) (sym e) (pass.fill x (occurs_here x waiting))
 
--- an end of the run of x is a child, so it has a place
-pub end_few : (f : Layout) (w : Entries) (x a b : ℕ) (view : NodeView) → IsLayout f → ShowsNode f x view → PlaceRun ≡ place view.parent (side view 0) (side view 1) →
+-- an end of the run of x is a child, so it has a place_shown
+pub end_few : (f : Layout) (w : Entries) (x a b : ℕ) (view : NodeView) → IsLayout f → ShowsNode f x view → PlaceRun ≡ place_shown view.parent (side view 0) (side view 1) →
     CanJoin f w x → a ≡ end_at w (side view 0) x → b ≡ end_at w (side view 1) x → (a < length f.slots) × (b < length f.slots)
 end_few f w x a b view h shows at can ea eb =
     let r : Running f x (side view 0) (side view 1) = runs_at f x view h shows at in

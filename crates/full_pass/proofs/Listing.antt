@@ -5,7 +5,7 @@ use Rattle.column_order.specs.Orders.{occurs}
 use Rattle.column_order.proofs.Lists.{occurs-append}
 use Rattle.arena_model.proofs.Lists.{occurs_here}
 use Rattle.pq_arena.specs.declared.node.NodeId.{NodeId}
-use Rattle.full_pass.specs.Answer.{indices}
+use Rattle.pq_arena.specs.RowNodes.{indices}
 use Rattle.full_pass.specs.Entries.{chained}
 
 -- the next node of the chain is one of it

@@ -12,7 +12,7 @@ use Rattle.arena_model.proofs.Slots.{children_times, in_range, placed_in, some_i
 use Rattle.full_pass.specs.declared.joins.Place.{Place}
 use Rattle.full_pass.specs.declared.joins.Place.TheVariants.{Ring as PlaceRing, Run as PlaceRun, Top as PlaceTop}
 use Rattle.full_pass.specs.declared.entries.Entries.{Entries}
-use Rattle.full_pass.specs.Passing.{place}
+use Rattle.full_pass.specs.Passing.{place_shown}
 use Rattle.full_pass.specs.Entries.{is_full, mark_of}
 use Rattle.full_pass.proofs.Marks.{bit}
 use Rattle.column_order.specs.Orders.{occurs}
@@ -42,51 +42,51 @@ pub record Running (f : Layout) (x : ℕ) (a b : Option NodeId) : Type 0 where
   pub is : children_at f q ≡ us ++ x ∷ vs
   pub near : ((a ≡ node_named (last_or us none)) × (b ≡ node_named (head_or vs none))) ⊎ ((a ≡ node_named (head_or vs none)) × (b ≡ node_named (last_or us none)))
 
--- what each place says
+-- what each place_shown says
 abbrev pub Says : Layout → ℕ → Option NodeId → Option NodeId → Place → Type 0
 Says f x a b PlaceTop = times_child f.slots x ≡ 0
 Says f x a b PlaceRun = Running f x a b
 Says f x a b (PlaceRing p) = Ringed f x p.index
 
 ring_says : (f : Layout) (x p : ℕ) (a b parent : Option NodeId) (u v : ℕ) → Ringed f x p → p ≢ none → u ≢ none → v ≢ none →
-    parent ≡ node_named p → a ≡ node_named u → b ≡ node_named v → Says f x a b (place parent a b)
+    parent ≡ node_named p → a ≡ node_named u → b ≡ node_named v → Says f x a b (place_shown parent a b)
 ring_says f x p a b parent u v r np nu nv ep ea eb =
     subst (λ z. Says f x a b z)
-    (sym (ap (λ z. place z a b) (ep ∙ named_some p np) ∙ ap (λ z. place (Some (id_of p)) z b) (ea ∙ named_some u nu)
-    ∙ ap (λ z. place (Some (id_of p)) (Some (id_of u)) z) (eb ∙ named_some v nv))) r
+    (sym (ap (λ z. place_shown z a b) (ep ∙ named_some p np) ∙ ap (λ z. place_shown (Some (id_of p)) z b) (ea ∙ named_some u nu)
+    ∙ ap (λ z. place_shown (Some (id_of p)) (Some (id_of u)) z) (eb ∙ named_some v nv))) r
 
--- a place in a run: the parent is shown at an end alone
+-- a place_shown in a run: the parent is shown at an end alone
 run_says : (f : Layout) (x q u v : ℕ) (a b parent : Option NodeId) → Running f x a b → q ≢ none →
-    parent ≡ node_named (end_parent q u v) → ((a ≡ node_named u) × (b ≡ node_named v)) ⊎ ((a ≡ node_named v) × (b ≡ node_named u)) → Says f x a b (place parent a b)
+    parent ≡ node_named (end_parent q u v) → ((a ≡ node_named u) × (b ≡ node_named v)) ⊎ ((a ≡ node_named v) × (b ≡ node_named u)) → Says f x a b (place_shown parent a b)
 run_says f x q u v a b parent r nq ep near = elim (cases_eq u none) [
   | inl eu ↦
       let par : parent ≡ Some (id_of q) = ep ∙ ap (λ w. node_named (end_parent q w v)) eu ∙ named_some q nq in
       let nu : node_named u ≡ None = ap node_named eu in
       elim near [
-        | inl e ↦ as_run (ap (λ z. place z a b) par ∙ ap (λ z. place (Some (id_of q)) z b) (e.0 ∙ nu))
-        | inr e ↦ as_run (ap (λ z. place z a b) par ∙ ap (λ z. place (Some (id_of q)) a z) (e.1 ∙ nu) ∙ none_last a)
+        | inl e ↦ as_run (ap (λ z. place_shown z a b) par ∙ ap (λ z. place_shown (Some (id_of q)) z b) (e.0 ∙ nu))
+        | inr e ↦ as_run (ap (λ z. place_shown z a b) par ∙ ap (λ z. place_shown (Some (id_of q)) a z) (e.1 ∙ nu) ∙ none_last a)
       ]
   | inr nu ↦ elim (cases_eq v none) [
     | inl ev ↦
         let par : parent ≡ Some (id_of q) = ep ∙ ap (λ w. node_named (end_parent q u w)) ev ∙ ap (λ t. node_named (cond (t || true) q none)) (ne_eqb u none nu) ∙ named_some q nq in
         let nv : node_named v ≡ None = ap node_named ev in
         elim near [
-          | inl e ↦ as_run (ap (λ z. place z a b) par ∙ ap (λ z. place (Some (id_of q)) a z) (e.1 ∙ nv) ∙ none_last a)
-          | inr e ↦ as_run (ap (λ z. place z a b) par ∙ ap (λ z. place (Some (id_of q)) z b) (e.0 ∙ nv))
+          | inl e ↦ as_run (ap (λ z. place_shown z a b) par ∙ ap (λ z. place_shown (Some (id_of q)) a z) (e.1 ∙ nv) ∙ none_last a)
+          | inr e ↦ as_run (ap (λ z. place_shown z a b) par ∙ ap (λ z. place_shown (Some (id_of q)) z b) (e.0 ∙ nv))
         ]
     | inr nv ↦
         let par : parent ≡ None = ep ∙ ap (λ t. node_named (cond (t || eqb v none) q none)) (ne_eqb u none nu) ∙ ap (λ t. node_named (cond (false || t) q none)) (ne_eqb v none nv) in
         elim near [
-          | inl e ↦ as_run (ap (λ z. place z a b) par ∙ ap (λ z. place None z b) (e.0 ∙ named_some u nu))
-          | inr e ↦ as_run (ap (λ z. place z a b) par ∙ ap (λ z. place None z b) (e.0 ∙ named_some v nv))
+          | inl e ↦ as_run (ap (λ z. place_shown z a b) par ∙ ap (λ z. place_shown None z b) (e.0 ∙ named_some u nu))
+          | inr e ↦ as_run (ap (λ z. place_shown z a b) par ∙ ap (λ z. place_shown None z b) (e.0 ∙ named_some v nv))
         ]
   ]
 ]
   where
-    as_run : place parent a b ≡ PlaceRun → Says f x a b (place parent a b)
+    as_run : place_shown parent a b ≡ PlaceRun → Says f x a b (place_shown parent a b)
     as_run e = subst (λ z. Says f x a b z) (sym e) r
 
-    none_last : (a : Option NodeId) → place (Some (id_of q)) a None ≡ PlaceRun
+    none_last : (a : Option NodeId) → place_shown (Some (id_of q)) a None ≡ PlaceRun
     none_last None = refl
     none_last (Some y) = refl
 
@@ -94,7 +94,7 @@ abbrev pub side : NodeView → ℕ → Option NodeId
 side view i = get_or view.near i None
 
 pub says : (f : Layout) (x : ℕ) (view : NodeView) → IsLayout f → ShowsNode f x view →
-    Says f x (side view 0) (side view 1) (place view.parent (side view 0) (side view 1))
+    Says f x (side view 0) (side view 1) (place_shown view.parent (side view 0) (side view 1))
 says f x view h shows =
     let a : Option NodeId = side view 0 in
     let b : Option NodeId = side view 1 in
@@ -128,7 +128,7 @@ says f x view h shows =
           ]
       | inr l ↦
           let e = shows.top (omega arith) in
-          subst (λ z. Says f x a b z) (sym (ap (λ z. place z a b) e.0 ∙ ap (λ z. place None z b) (ap (λ z. get_or z 0 None) e.1))) (omega arith)
+          subst (λ z. Says f x a b z) (sym (ap (λ z. place_shown z a b) e.0 ∙ ap (λ z. place_shown None z b) (ap (λ z. get_or z 0 None) e.1))) (omega arith)
     ]
   where
     head_child : (us vs : List ℕ) → 1 ≤ occurs (us ++ x ∷ vs) (head_or vs (head_or us x))

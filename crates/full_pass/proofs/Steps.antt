@@ -9,7 +9,8 @@ use Rattle.arena_model.proofs.Lists.{occurs_here, occurs_other, occurs_same}
 use Rattle.arena_model.proofs.Slots.{children_times, in_range, some_inj, used_by}
 use Rattle.arena_model.proofs.Paths.{one_parent}
 use Rattle.full_pass.specs.declared.joins.Joined.TheVariants.{First, More, Whole}
-use Rattle.full_pass.specs.Answer.{IsFullNode, IsLeafAt}
+use Rattle.arena_model.specs.RowLeaves.{IsLeafAt}
+use Rattle.full_pass.specs.Answer.{IsFullNode}
 use Rattle.full_pass.specs.Passing.{HasPart, InRing, InRun, IsJoined, Pass, judged_as, marks, runs, total}
 use Rattle.full_pass.proofs.Sums.{total_with}
 use Rattle.full_pass.proofs.Marks.{OneMore, bit, cases_bool, marks_all, marks_le, marks_with, runs_same, runs_with, true_false}

@@ -8,7 +8,8 @@ use Rattle.pq_arena.specs.Looks.{node_named}
 use Rattle.arena_model.specs.Layout.{IsAtOrAbove, IsInUse, IsLayout, Layout, children_at, down, here, shape_at, times_child}
 use Rattle.arena_model.proofs.Lists.{SplitAt, last_or-append, occurs_here, occurs_last, occurs_other, occurs_same, split_at}
 use Rattle.arena_model.proofs.Slots.{children_times, in_range, some_inj, used_by}
-use Rattle.full_pass.specs.Answer.{IsFullNode, IsLeafAt}
+use Rattle.arena_model.specs.RowLeaves.{IsLeafAt}
+use Rattle.full_pass.specs.Answer.{IsFullNode}
 use Rattle.full_pass.specs.Passing.{HasPart, Pass, Runs, runs, total}
 use Rattle.full_pass.specs.Entries.{both}
 use Rattle.full_pass.proofs.Sums.{total_with}

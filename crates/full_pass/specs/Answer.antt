@@ -1,39 +1,15 @@
 -- The rows that a tree keeps as it is, and the rows that gather some children of one P-node.
-use Rattle.std.specs.Prelude.{◌≡◌, ℕ, ◌-◌, ◌≤◌, ◌<◌, List, ◌++◌, length, map, Some}
-use Rattle.pq_arena.specs.declared.node.NodeId.{NodeId}
-use Rattle.arena_model.specs.declared.Shape.TheVariants.{Leaf, P, Q}
+use Rattle.std.specs.Prelude.{◌≡◌, ℕ, ◌≤◌, ◌<◌, List, ◌++◌, length, Some}
+use Rattle.arena_model.specs.declared.Shape.TheVariants.{P, Q}
 use Rattle.arena_model.specs.Layout.{Layout, shape_at, children_at, IsAtOrAbove}
 use Rattle.column_order.specs.Orders.{occurs}
 use Rattle.full_pass.specs.declared.settled.Settled.{Settled}
 use Rattle.full_pass.specs.declared.settled.Settled.TheVariants.{Kept, Group, Open}
-
--- the numbers of nodes
-abbrev pub indices : List NodeId → List ℕ
-indices ns = map (λ n. n.index) ns
-
--- the leaves of the columns of a row
-abbrev pub row_nodes : List ℕ → List NodeId
-row_nodes columns = map (λ a. record { index = a - 1 }) columns
-
--- their numbers
-abbrev pub leaves_of : List ℕ → List ℕ
-leaves_of columns = indices (row_nodes columns)
-
--- x is a leaf
-abbrev pub IsLeafAt : Layout → ℕ → Type 0
-IsLeafAt f x = (a : ℕ) × (shape_at f x ≡ Some (Leaf a))
+use Rattle.arena_model.specs.RowLeaves.{Holds, Meets, IsLeafAt}
 
 -- each leaf at or below n is in the row
 abbrev pub IsFullNode : Layout → List ℕ → ℕ → Type 0
 IsFullNode f row n = (x : ℕ) → IsLeafAt f x → IsAtOrAbove f.slots n x → 1 ≤ occurs row x
-
--- each leaf of the row is n or below it
-abbrev pub Holds : Layout → List ℕ → ℕ → Type 0
-Holds f row n = (x : ℕ) → 1 ≤ occurs row x → IsAtOrAbove f.slots n x
-
--- some leaf of the row is n or below it
-abbrev pub Meets : Layout → List ℕ → ℕ → Type 0
-Meets f row n = (x : ℕ) × (1 ≤ occurs row x) × IsAtOrAbove f.slots n x
 
 -- the leaves of the row are those at or below these nodes
 pub record AreBelow (f : Layout) (row : List ℕ) (ks : List ℕ) : Type 0 where
@@ -41,9 +17,9 @@ pub record AreBelow (f : Layout) (row : List ℕ) (ks : List ℕ) : Type 0 where
   pub covers : (x : ℕ) → 1 ≤ occurs row x → (k : ℕ) × (1 ≤ occurs ks k) × IsAtOrAbove f.slots k x
 
 -- the leaves of the row are those at or below one node, or below a run of children of a Q-node
-pub data IsKept (f : Layout) (row : List ℕ) : Type 0 where
-  one_node : (n : ℕ) → IsFullNode f row n → Holds f row n → IsKept f row
-  one_run : (q : ℕ) (us ks vs : List ℕ) → shape_at f q ≡ Some Q → children_at f q ≡ us ++ (ks ++ vs) → AreBelow f row ks → IsKept f row
+pub data IsRowKept (f : Layout) (row : List ℕ) : Type 0 where
+  one_node : (n : ℕ) → IsFullNode f row n → Holds f row n → IsRowKept f row
+  one_run : (q : ℕ) (us ks vs : List ℕ) → shape_at f q ≡ Some Q → children_at f q ≡ us ++ (ks ++ vs) → AreBelow f row ks → IsRowKept f row
 
 -- The leaves of the row are those at or below the members, which are some children of the P-node p, each once, two or
 -- more and not all. No leaf of the row is at or below another child.
@@ -58,7 +34,7 @@ pub record IsGroup (f : Layout) (row : List ℕ) (p : ℕ) (members : List ℕ) 
 
 -- what each answer says, with the members of the last group
 abbrev pub IsSettled : Layout → List ℕ → List ℕ → Settled → Type 0
-IsSettled f row members Kept = IsKept f row
+IsSettled f row members Kept = IsRowKept f row
 IsSettled f row members (Group p) = IsGroup f row p.index members
 IsSettled f row members Open = Unit {0}
 

@@ -23,12 +23,12 @@ run_as pairs None = Run pairs
 run_as pairs (Some q) = cond (eqb pairs 0) (Run pairs) (Wide pairs q)
 
 -- where a node stands, by the parent and the neighbours that it shows
-abbrev pub place : Option NodeId → Option NodeId → Option NodeId → Place
-place None None b = PlaceTop
-place None (Some a) b = PlaceRun
-place (Some p) None b = PlaceRun
-place (Some p) (Some a) None = PlaceRun
-place (Some p) (Some a) (Some b) = PlaceRing p
+abbrev pub place_shown : Option NodeId → Option NodeId → Option NodeId → Place
+place_shown None None b = PlaceTop
+place_shown None (Some a) b = PlaceRun
+place_shown (Some p) None b = PlaceRun
+place_shown (Some p) (Some a) None = PlaceRun
+place_shown (Some p) (Some a) (Some b) = PlaceRing p
 
 -- what a labelled child of the P-node p did, of whose children so many are labelled
 abbrev pub judged_as : NodeId → ℕ → ℕ → Joined

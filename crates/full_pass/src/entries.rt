@@ -1,7 +1,7 @@
 // What a pass holds of each node.
 ghost use Rattle.std.specs.Prelude.{◌≡◌, ◌≢◌, ℕ, ◌+◌, ◌≤◌, ◌<◌, length, take, true, false, IfOk};
 ghost use Rattle.column_order.specs.Orders.{occurs};
-ghost use Rattle.full_pass.specs.Answer.{indices};
+ghost use Rattle.pq_arena.specs.RowNodes.{indices};
 ghost use Rattle.full_pass.specs.Entries.{entry, is_full, mark_of, hits, far, up, first, next, end_at, both, chain_at, AreReady};
 
 use pq_arena::NodeId;

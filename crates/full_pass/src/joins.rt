@@ -1,7 +1,7 @@
 // The labelling of one full node.
 ghost use Rattle.std.specs.Prelude.{◌≡◌, ℕ, ◌+◌, ◌*◌, ◌≤◌, List, ◌∷◌};
 ghost use Rattle.full_pass.specs.Entries.{is_full, hits};
-ghost use Rattle.full_pass.specs.Passing.{run_as, place, judged_as, AreLinked, Pass, CanJoin, IsJoined, CanRise, IsRisen};
+ghost use Rattle.full_pass.specs.Passing.{run_as, place_shown, judged_as, AreLinked, Pass, CanJoin, IsJoined, CanRise, IsRisen};
 
 use crate::entries::Entries;
 use crate::settled::Settled;
@@ -38,7 +38,7 @@ pub enum Joined {
 
 // Where a node stands that shows this parent and these neighbours.
 fn place_of(parent: Option<NodeId>, a: Option<NodeId>, b: Option<NodeId>) -> Place
-    ensures { result ≡ place parent a b }
+    ensures { result ≡ place_shown parent a b }
 {
     match parent {
         None => match a {

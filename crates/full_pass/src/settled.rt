@@ -5,7 +5,8 @@ ghost use Rattle.row_model.specs.Graph.{row_at};
 ghost use Rattle.row_model.specs.Rows.{IsRow};
 ghost use Rattle.pq_tree.specs.Outline.{IsFrontier};
 ghost use Rattle.arena_model.specs.NamedTree.{IsOneTree, outline_at};
-ghost use Rattle.full_pass.specs.Answer.{indices, leaves_of, IsSettled};
+ghost use Rattle.pq_arena.specs.RowNodes.{indices, column_leaves};
+ghost use Rattle.full_pass.specs.Answer.{IsSettled};
 ghost use Rattle.full_pass.specs.Entries.{AreReady};
 ghost use Rattle.full_pass.specs.Passing.{members_of};
 
@@ -42,7 +43,7 @@ pub fn settle<L: Ledger>(
     requires room { work.old.size ≡ length arena.now.slots }
     requires row { (1 ≤ k) × (k ≤ length m.now.rows) }
     ensures room { work.new.size ≡ work.old.size }
-    ensures settled { IsSettled arena.now (leaves_of (row_at m.now.rows k)) (indices work.new.members) result }
+    ensures settled { IsSettled arena.now (column_leaves (row_at m.now.rows k)) (indices work.new.members) result }
     ensures kept { result ≡ Settled.Kept → (o : List ℕ) → IsFrontier (outline_at arena.now) o →
         Keeps o (row_at m.now.rows k) }
     ensures steps { steps.new ≤ steps.old + 4 * length (row_at m.now.rows k) }
@@ -61,7 +62,7 @@ pub fn run<L: Ledger>(
     requires row { IsRow arena.now.columns row.now }
     requires ready { AreReady entries.old (length arena.now.slots) }
     ensures ready { AreReady entries.new (length arena.now.slots) }
-    ensures settled { IsSettled arena.now (leaves_of row.now) (members_of entries.new result) result }
+    ensures settled { IsSettled arena.now (column_leaves row.now) (members_of entries.new result) result }
     ensures ticks { steps.new ≤ steps.old + 4 * length row.now }
 {
     arena.layout_law();

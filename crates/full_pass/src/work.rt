@@ -4,7 +4,8 @@ ghost use Rattle.column_order.specs.Orders.{Keeps};
 ghost use Rattle.row_model.specs.Rows.{IsRow};
 ghost use Rattle.pq_tree.specs.Outline.{IsFrontier};
 ghost use Rattle.arena_model.specs.NamedTree.{IsOneTree, outline_at};
-ghost use Rattle.full_pass.specs.Answer.{indices, leaves_of, IsSettled};
+ghost use Rattle.pq_arena.specs.RowNodes.{indices, column_leaves};
+ghost use Rattle.full_pass.specs.Answer.{IsSettled};
 
 use crate::entries::Entries;
 use crate::settled::{Settled, run};
@@ -27,11 +28,11 @@ impl Model for FullWork {
 
     ghost Value = { Room };
 
-    ghost use Rattle.full_pass.specs.View.{room_of, IsKept};
+    ghost use Rattle.full_pass.specs.View.{room_of, IsFullWorkKept};
 
     ghost view = { room_of };
 
-    ghost invariant = { IsKept };
+    ghost invariant = { IsFullWorkKept };
 }
 
 impl FullWork {
@@ -78,7 +79,7 @@ impl FullWork {
         requires row { IsRow arena.now.columns row.now }
         requires room { self.old.size ≡ length arena.now.slots }
         ensures room { self.new.size ≡ self.old.size }
-        ensures settled { IsSettled arena.now (leaves_of row.now) (indices self.new.members) result }
+        ensures settled { IsSettled arena.now (column_leaves row.now) (indices self.new.members) result }
         ensures kept { result ≡ Settled.Kept → (o : List ℕ) → IsFrontier (outline_at arena.now) o → Keeps o row.now }
         ensures steps { steps.new ≤ steps.old + 4 * length row.now }
     {

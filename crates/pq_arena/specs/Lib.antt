@@ -4,3 +4,4 @@ pub mod Looks
 pub mod View
 pub mod Start
 pub mod Arities
+pub mod RowNodes

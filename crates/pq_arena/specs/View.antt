@@ -9,5 +9,5 @@ abbrev pub layout_of : Inside → Layout
 layout_of a = layout_read (links a.nodes.items) (heads a.nodes.items) a.root a.spare a.count a.columns
 
 -- its nodes stand for it
-pub record IsKept (a : Inside) : Type 0 where
+pub record IsArenaKept (a : Inside) : Type 0 where
   pub stands : StandsFor (links a.nodes.items) (heads a.nodes.items) a.root a.spare a.count a.columns (layout_of a)

@@ -47,11 +47,11 @@ impl Model for Arena {
 
     ghost Value = { Layout };
 
-    ghost use Rattle.pq_arena.specs.View.{layout_of, IsKept};
+    ghost use Rattle.pq_arena.specs.View.{layout_of, IsArenaKept};
 
     ghost view = { layout_of };
 
-    ghost invariant = { IsKept };
+    ghost invariant = { IsArenaKept };
 }
 
 impl Arena {
@@ -333,6 +333,3 @@ fn inner_node(shape: Shape, children: Vec<Tree>) -> Tree
         Shape::Leaf(_) => unreachable!(),
     }
 }
-
-#[cfg(test)]
-mod tests;

@@ -5,19 +5,21 @@ use Rattle.pq_tree.specs.Outline.{Outline, Forest, q_node, no_tree}
 use Rattle.pq_tree.specs.Proper.{outline_of}
 use Rattle.pq_tree.specs.Forests.{forest, back}
 use Rattle.pq_tree.specs.declared.Tree.{Tree}
-use Rattle.pq_plain.specs.Templates.{Partial, Label, IsSpan, run_full}
-use Rattle.pq_plain.specs.Chosen.{IsRootOfQ, root_q1, root_q2, root_q3}
-use Rattle.pq_plain.specs.Cuts.{Finds, IsSpanCut}
-use Rattle.pq_plain.specs.Found.{HasRootLabels}
+use Rattle.template_theory.specs.Templates.{Partial, Label, IsTwoSidedRun, run_full}
+use Rattle.template_theory.specs.Chosen.{IsRootOfQ, root_q1, root_q2, root_q3}
+use Rattle.pq_plain.specs.Cuts.{IsSpanCut}
+use Rattle.template_theory.specs.Outcomes.{Finds}
+use Rattle.template_theory.specs.Outcomes.{HasRootLabels}
 use Rattle.pq_plain.specs.Seen.{outlines, label_seen}
 use Rattle.pq_plain.specs.declared.label.Label.{Label as Marked}
 use Rattle.pq_plain.specs.declared.at_root.Span.{Span as Places}
-use Rattle.pq_plain.proofs.Computed.{Span, at_span, span_seen}
-use Rattle.pq_plain.proofs.Meaning.{span_parts}
-use Rattle.pq_plain.proofs.NoOrder.{root_q_failed}
-use Rattle.pq_plain.proofs.QPatterns.{run_span, rear_span}
-use Rattle.pq_plain.proofs.RootTemplates.{root_q_is}
-use Rattle.pq_plain.proofs.Sound.{labels_sound, lowest_root_q}
+use Rattle.template_theory.proofs.Computed.{Span, at_span}
+use Rattle.pq_plain.proofs.Places.{span_seen}
+use Rattle.template_theory.proofs.Meaning.{span_parts}
+use Rattle.template_theory.proofs.NoOrder.{root_q_failed}
+use Rattle.template_theory.proofs.QPatterns.{run_span, rear_span}
+use Rattle.template_theory.proofs.RootTemplates.{root_q_is}
+use Rattle.template_theory.proofs.Sound.{labels_sound, lowest_root_q}
 
 -- cut as a span
 q_of_span : (xs : List Outline) (ps : List Label) (s : Places) → IsSpanCut xs ps (Some s) → HasRootLabels (q_node (forest xs)) ps → (o : Option Outline) →
@@ -31,7 +33,7 @@ q_of_span xs ps s cut r None e =
     (span_parts r.0 cut (labels_sound r.0 (forest xs) ps r.1.0.1 r.1.1 r.3)) (lowest_root_q r.0 (forest xs) r.2) (sym e)
 
 -- no span
-no_q : (ts : Forest) (ps : List Label) → ((es fs gs : Forest) (h k : Option Partial) → IsSpan ts ps es h fs k gs → ⊥) → (u : Outline) → IsRootOfQ ts ps u → ⊥
+no_q : (ts : Forest) (ps : List Label) → ((es fs gs : Forest) (h k : Option Partial) → IsTwoSidedRun ts ps es h fs k gs → ⊥) → (u : Outline) → IsRootOfQ ts ps u → ⊥
 no_q ts ps none u (root_q1 s) = none no_tree ts no_tree None None (run_span (run_full s))
 no_q ts ps none u (root_q2 x v q s) =
     elim q.pattern [ inl r ↦ none q.es q.fs no_tree q.h None (run_span r) | inr r ↦ none no_tree (back q.fs) (back q.es) None q.h (rear_span r) ]

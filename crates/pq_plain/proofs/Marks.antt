@@ -1,7 +1,7 @@
 -- Lists of labels, one label more at a time.
 use Rattle.std.proofs.Common.{◌≡◌, ◌∙◌, ◌+◌, ◌<◌, ◌≤◌, ℕ, List, [], ◌∷◌, ◌++◌, map, take, length, get_or, refl, sym, ap, arith, length-append}
 use Rattle.std.proofs.lemmas.List.{map_more, length-map}
-use Rattle.pq_plain.specs.Labels.{Label, empty_label, full_label, partial_label, partials}
+use Rattle.template_theory.specs.Labels.{Label, empty_label, full_label, partial_label, partials}
 use Rattle.pq_plain.specs.Seen.{outlines, label_seen, empties, fulls}
 use Rattle.pq_plain.specs.declared.label.Label.{Label as Marked}
 use Rattle.pq_tree.specs.Forests.{count}

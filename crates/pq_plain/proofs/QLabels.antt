@@ -8,17 +8,18 @@ use Rattle.pq_tree.specs.Proper.{outline_of}
 use Rattle.pq_tree.specs.Forests.{forest, join, back}
 use Rattle.pq_tree.proofs.Forests.{forest_reverse}
 use Rattle.pq_tree.specs.declared.Tree.{Tree}
-use Rattle.pq_plain.specs.Labels.{Partial, Label, empty_label, full_label, partial_label, partials, first_of}
-use Rattle.pq_plain.proofs.Computed.{all_full, one_more, run_of, at_q, at_run, first_some, q_label}
+use Rattle.template_theory.specs.Labels.{Partial, Label, empty_label, full_label, partial_label, partials, first_of}
+use Rattle.template_theory.proofs.Computed.{all_full, one_more, run_of, at_q, at_run, first_some, q_label}
 use Rattle.pq_plain.specs.Seen.{outlines, halves_seen, label_seen, empties, fulls}
 use Rattle.pq_plain.specs.declared.label.Halves.{Halves}
 use Rattle.pq_plain.specs.declared.label.Label.{Label as Marked}
 use Rattle.pq_plain.specs.declared.label.Run.{Run as Places}
 use Rattle.pq_plain.proofs.Counted.{no_partial, last_of_one}
-use Rattle.pq_plain.proofs.NodeTemplates.{from_front, from_rear}
-use Rattle.pq_plain.specs.Cuts.{Finds, run_label, IsRunCut, IsLabelFromEnd}
-use Rattle.pq_plain.specs.Chosen.{IsLabelOfQ}
-use Rattle.pq_plain.specs.Templates.{IsRun}
+use Rattle.template_theory.proofs.NodeTemplates.{from_front, from_rear}
+use Rattle.pq_plain.specs.Cuts.{run_label, IsRunCut, IsLabelFromEnd}
+use Rattle.template_theory.specs.Outcomes.{Finds}
+use Rattle.template_theory.specs.Chosen.{IsLabelOfQ}
+use Rattle.template_theory.specs.Templates.{IsRun}
 use Rattle.pq_plain.proofs.Cutting.{run_few, run_gives, no_label_from_ends}
 
 pub no_halves : (all : List Halves) (hs : List Partial) → length all ≡ 0 → map halves_seen all ≡ hs → hs ≡ []

@@ -17,15 +17,15 @@ use Rattle.tied_law.specs.Tied.{IsTied}
 use Rattle.column_order.proofs.Counts.{order_once}
 use Rattle.tied_law.proofs.Exact.{tied_law}
 use Rattle.pq_plain.specs.Found.{IsStep, IsFound}
-use Rattle.pq_plain.specs.Refused.{IsRefused}
-use Rattle.pq_plain.proofs.Finding.{replaced_node}
+use Rattle.template_theory.specs.Refused.{IsRefused}
+use Rattle.template_theory.proofs.Finding.{replaced_node}
 use Rattle.pq_tree.specs.Nodes.{holds}
-use Rattle.pq_plain.specs.Reduced.{IsReduced, no_column, by_template}
-use Rattle.pq_plain.specs.declared.reducer.Step.{Step}
-use Rattle.pq_plain.specs.declared.reducer.Step.TheVariants.{Taken, Refused}
+use Rattle.template_theory.specs.Reduced.{IsReduced, no_column, by_template}
+use Rattle.template_theory.specs.declared.reducer.Step.{Step}
+use Rattle.template_theory.specs.declared.reducer.Step.TheVariants.{Taken, Refused}
 use Rattle.pq_plain.specs.declared.search.Found.{Found}
 use Rattle.pq_plain.specs.declared.search.Found.TheVariants.{Columns, Root}
-use Rattle.pq_plain.proofs.Steps.{row_held, kept, reduce_refused}
+use Rattle.template_theory.proofs.Steps.{row_held, kept, reduce_refused}
 use Rattle.pq_tree.proofs.Turnings.{equivalent_refl}
 use Rattle.pq_plain.proofs.Hits.{hits_part}
 

@@ -12,17 +12,17 @@ use Rattle.pq_tree.specs.Proper.{outline_of, IsTree}
 use Rattle.pq_tree.specs.declared.Tree.{Tree, Leaf, P, Q}
 use Rattle.pq_tree.proofs.Forests.{count_forest}
 use Rattle.pq_tree.proofs.Shown.{outline_of-Leaf, outline_of-P, outline_of-Q}
-use Rattle.pq_plain.specs.Templates.{Label}
+use Rattle.template_theory.specs.Templates.{Label}
 use Rattle.pq_plain.specs.Seen.{outlines, label_seen, labels_seen}
 use Rattle.pq_plain.specs.AtRoot.{outcome_seen}
-use Rattle.pq_plain.specs.Reduced.{IsLabelOfLeaf, IsLabel, AreLabels}
-use Rattle.pq_plain.specs.Found.{IsLabelFound, AreLabelsFound, IsLowest, HasRootLabels, IsRootFound}
+use Rattle.template_theory.specs.Reduced.{IsLabelOfLeaf, IsLabel, AreLabels}
+use Rattle.template_theory.specs.Outcomes.{IsLabelFound, AreLabelsFound, IsLowest, HasRootLabels, IsRootFound}
 use Rattle.pq_plain.specs.declared.label.Label.{Label as Marked}
 use Rattle.pq_plain.specs.declared.at_root.Outcome.{Outcome}
-use Rattle.pq_plain.proofs.Failed.{labels_long}
-use Rattle.pq_plain.proofs.Finding.{p_found, q_found, p_root_found, q_root_found, leaf_in_row}
-use Rattle.pq_plain.specs.Cuts.{Finds}
-use Rattle.pq_plain.specs.Chosen.{IsLabelOfP, IsLabelOfQ, IsRootOfP, IsRootOfQ}
+use Rattle.template_theory.proofs.Failed.{labels_long}
+use Rattle.template_theory.proofs.Finding.{p_found, q_found, p_root_found, q_root_found, leaf_in_row}
+use Rattle.template_theory.specs.Outcomes.{Finds}
+use Rattle.template_theory.specs.Chosen.{IsLabelOfP, IsLabelOfQ, IsRootOfP, IsRootOfQ}
 
 labels_size : (row : List ℕ) (xs : List Outline) (ps : List Label) → AreLabels row (forest xs) ps → length ps ≡ length xs
 labels_size row xs ps h = labels_long row (forest xs) ps h ∙ count_forest xs

@@ -2,16 +2,11 @@
 use Rattle.std.specs.Prelude.{◌-◌, List, take, drop, reverse, Option, Some, None}
 use Rattle.pq_tree.specs.Outline.{Outline, Forest, no_tree, tree_and}
 use Rattle.pq_tree.specs.Forests.{forest, back}
-use Rattle.pq_plain.specs.Templates.{Partial, Label, empty_label, full_label, partial_label, q2, IsRun, IsSpan}
-use Rattle.pq_plain.specs.Chosen.{IsLabelOfQ}
-use Rattle.pq_plain.specs.Labels.{partials, first_of}
+use Rattle.template_theory.specs.Templates.{Partial, Label, empty_label, full_label, partial_label, q2, IsRun, IsTwoSidedRun}
+use Rattle.template_theory.specs.Chosen.{IsLabelOfQ}
+use Rattle.template_theory.specs.Labels.{partials, first_of}
 use Rattle.pq_plain.specs.declared.label.Run.{Run}
 use Rattle.pq_plain.specs.declared.at_root.Span.{Span}
-
--- the value that was found has the property; where none was found, no value has it
-abbrev pub Finds : {X : Type 0} → (X → Type 0) → Option X → Type 0
-Finds F (Some x) = F x
-Finds F None = (x : _) → F x → ⊥
 
 -- where the children of a Q-node read empty, at most one partial, full, they are cut there
 abbrev pub IsRunCut : List Outline → List Label → Option Run → Type 0
@@ -21,9 +16,9 @@ IsRunCut ts ps None = (es : Forest) (h : Option Partial) (fs : Forest) → IsRun
 -- where they read empty, at most one partial, full, at most one partial, empty
 abbrev pub IsSpanCut : List Outline → List Label → Option Span → Type 0
 IsSpanCut ts ps (Some s) =
-    IsSpan (forest ts) ps (forest (take s.before ts)) (first_of (partials (take s.full_from ps))) (forest (take (s.full_to - s.full_from) (drop s.full_from ts)))
+    IsTwoSidedRun (forest ts) ps (forest (take s.before ts)) (first_of (partials (take s.full_from ps))) (forest (take (s.full_to - s.full_from) (drop s.full_from ts)))
     (first_of (partials (drop s.full_from ps))) (forest (drop s.behind ts))
-IsSpanCut ts ps None = (es fs gs : Forest) (h k : Option Partial) → IsSpan (forest ts) ps es h fs k gs → ⊥
+IsSpanCut ts ps None = (es fs gs : Forest) (h k : Option Partial) → IsTwoSidedRun (forest ts) ps es h fs k gs → ⊥
 
 -- the label of a Q-node with these children from one end: full by Q1, empty, or partial by Q2
 abbrev pub run_label : Forest → Option Partial → Forest → Label

@@ -1,41 +1,17 @@
 -- What the program finds in a tree, and makes of it.
-use Rattle.std.specs.Prelude.{◌≡◌, ℕ, ◌+◌, ◌<◌, cond, List, [], ◌∷◌, length, Option, Some, None, IsTrue}
+use Rattle.std.specs.Prelude.{◌≡◌, ℕ, ◌+◌, ◌<◌, cond, List, [], ◌∷◌, length}
 use Rattle.column_order.specs.Orders.{has}
 use Rattle.pq_tree.specs.Outline.{Outline, Forest, leaves, leaves_of}
 use Rattle.pq_tree.specs.Forests.{join}
 use Rattle.pq_tree.specs.Outline.{tree_and}
-use Rattle.pq_tree.specs.Proper.{IsTree}
-use Rattle.pq_tree.specs.Nodes.{children, IsNode, IsNodeOf, holds, NoneHolds}
-use Rattle.pq_plain.specs.Templates.{Label}
-use Rattle.pq_plain.specs.Reduced.{IsLabel, AreLabels, IsRootMade, IsReplaced}
-use Rattle.pq_plain.specs.Refused.{IsUnfit, IsStuck, IsRefused}
-use Rattle.pq_plain.specs.declared.reducer.Step.{Step}
-use Rattle.pq_plain.specs.declared.reducer.Step.TheVariants.{Taken, Refused}
+use Rattle.pq_tree.specs.Nodes.{children, IsNodeOf, NoneHolds}
+use Rattle.template_theory.specs.Reduced.{IsRootMade, IsReplaced}
+use Rattle.template_theory.specs.Refused.{IsStuck, IsRefused}
+use Rattle.template_theory.specs.Outcomes.{IsLowest}
+use Rattle.template_theory.specs.declared.reducer.Step.{Step}
+use Rattle.template_theory.specs.declared.reducer.Step.TheVariants.{Taken, Refused}
 use Rattle.pq_plain.specs.declared.search.Found.{Found}
 use Rattle.pq_plain.specs.declared.search.Found.TheVariants.{Columns, Root}
-
--- the label of a tree below the pertinent root; none, where at some node no template fits
-abbrev pub IsLabelFound : List ℕ → Outline → Option Label → Type 0
-IsLabelFound row t (Some x) = IsLabel row t x
-IsLabelFound row t None = (z : Outline) × IsNode z t × IsUnfit row z
-
--- so the labels of trees
-abbrev pub AreLabelsFound : List ℕ → Forest → Option (List Label) → Type 0
-AreLabelsFound row ts (Some ps) = AreLabels row ts ps
-AreLabelsFound row ts None = (z : Outline) × IsNodeOf z ts × IsUnfit row z
-
--- x holds the whole row, and none of its children does
-abbrev pub IsLowest : List ℕ → Outline → Type 0
-IsLowest row x = IsTrue (holds row x) × NoneHolds row (children x)
-
--- the labels of the children of a pertinent root x, for some row
-abbrev pub HasRootLabels : Outline → List Label → Type 0
-HasRootLabels x ps = (row : List ℕ) × IsTree x × IsLowest row x × AreLabels row (children x) ps
-
--- what the pertinent root x becomes; nothing, where at it or at some node below no template fits
-abbrev pub IsRootFound : List ℕ → Outline → Option Outline → Type 0
-IsRootFound row x (Some y) = IsRootMade row x y
-IsRootFound row x None = IsStuck row x
 
 -- the pertinent root x became y, or no template fits there and it is unchanged
 abbrev pub IsRootStep : List ℕ → Outline → Outline → Step → Type 0

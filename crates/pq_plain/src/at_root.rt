@@ -5,11 +5,12 @@ ghost use Rattle.std.specs.Option.{option_to_list};
 ghost use Rattle.pq_tree.specs.Outline.{Outline, p_node, q_node};
 ghost use Rattle.pq_tree.specs.Proper.{outline_of, IsTree};
 ghost use Rattle.pq_tree.specs.Forests.{forest};
-ghost use Rattle.pq_plain.specs.Templates.{p2, p4, p6, q3, line, line_if, under};
-ghost use Rattle.pq_plain.specs.Labels.{empty_trees, full_trees, partials};
-ghost use Rattle.pq_plain.specs.Chosen.{IsRootOfP, IsRootOfQ};
-ghost use Rattle.pq_plain.specs.Cuts.{Finds, IsSpanCut};
-ghost use Rattle.pq_plain.specs.Found.{IsLowest, HasRootLabels, IsRootFound};
+ghost use Rattle.template_theory.specs.Templates.{p2, p4, p6, q3, line, line_if, under};
+ghost use Rattle.template_theory.specs.Labels.{empty_trees, full_trees, partials};
+ghost use Rattle.template_theory.specs.Chosen.{IsRootOfP, IsRootOfQ};
+ghost use Rattle.pq_plain.specs.Cuts.{IsSpanCut};
+ghost use Rattle.template_theory.specs.Outcomes.{Finds};
+ghost use Rattle.template_theory.specs.Outcomes.{IsLowest, HasRootLabels, IsRootFound};
 ghost use Rattle.pq_plain.specs.Seen.{outlines, halves_seen, label_seen, labels_seen};
 ghost use Rattle.pq_plain.specs.AtRoot.{outcome_seen, p_made, q_made, PartialsAt};
 

@@ -2,13 +2,14 @@
 ghost use Rattle.std.specs.Prelude.{◌≡◌, ◌≤◌, map, length, reverse, IfOk, option_map, option_and_then, Some};
 ghost use Rattle.std.specs.List.Sorted.{IsNonDecreasing};
 ghost use Rattle.pq_tree.specs.Proper.{outline_of};
-ghost use Rattle.pq_plain.specs.Templates.{p3, p5, q2};
+ghost use Rattle.template_theory.specs.Templates.{p3, p5, q2};
 ghost use Rattle.pq_tree.specs.Forests.{back};
-ghost use Rattle.pq_plain.specs.Reduced.{IsLabelOfLeaf};
-ghost use Rattle.pq_plain.specs.Found.{IsLabelFound, AreLabelsFound};
-ghost use Rattle.pq_plain.specs.Labels.{partials, first_of};
-ghost use Rattle.pq_plain.specs.Chosen.{IsLabelOfP, IsLabelOfQ};
-ghost use Rattle.pq_plain.specs.Cuts.{Finds, run_label, IsLabelFromEnd};
+ghost use Rattle.template_theory.specs.Reduced.{IsLabelOfLeaf};
+ghost use Rattle.template_theory.specs.Outcomes.{IsLabelFound, AreLabelsFound};
+ghost use Rattle.template_theory.specs.Labels.{partials, first_of};
+ghost use Rattle.template_theory.specs.Chosen.{IsLabelOfP, IsLabelOfQ};
+ghost use Rattle.pq_plain.specs.Cuts.{run_label, IsLabelFromEnd};
+ghost use Rattle.template_theory.specs.Outcomes.{Finds};
 ghost use Rattle.pq_plain.specs.Seen.{outlines, halves_seen, label_seen, labels_seen};
 
 use crate::children::{back_copied, empty_children, full_children, partial_children, star_of};

@@ -2,7 +2,7 @@
 ghost use Rattle.std.specs.Prelude.{◌≡◌, ◌≤◌, ◌<◌, ◌+◌, ◌-◌, ◌^◌, List, [], ◌∷◌, map, length, IfSome, option_map};
 ghost use Rattle.pq_tree.specs.Outline.{Outline};
 ghost use Rattle.pq_tree.specs.Forests.{forest};
-ghost use Rattle.pq_plain.specs.Labels.{partials};
+ghost use Rattle.template_theory.specs.Labels.{partials};
 ghost use Rattle.pq_plain.specs.Cuts.{IsRunCut};
 ghost use Rattle.pq_plain.specs.Seen.{label_seen, empties, fulls, empty_front, full_front, cut_front};
 

@@ -4,12 +4,12 @@ ghost use Rattle.pq_tree.specs.Proper.{outline_of, universal, IsProper};
 ghost use Rattle.pq_tree.specs.Propositions.{IsProper-prop};
 ghost use Rattle.tied_law.specs.Tied.{IsTied};
 
-use crate::reducer::{Reducer, Step};
 use crate::search::{Found, reduce_tree};
 use pq_tree::{PqTree, Tree};
 use row_model::{COLUMN_BOUND, Matrix, NoMemory};
 use std::alloc::Global;
 use step_count::{Ledger, Steps};
+use template_theory::{Reducer, Step};
 
 /// A reducer whose tree owns its nodes. A row costs at most a few walks over the tree: the pertinent root, the
 /// smallest node that holds the row, is found in one walk; its new subtree is made of copies, and takes its place

@@ -4,14 +4,15 @@ ghost use Rattle.std.specs.List.Sorted.{IsNonDecreasing};
 ghost use Rattle.column_order.specs.Orders.{occurs};
 ghost use Rattle.pq_tree.specs.Proper.{outline_of, IsTree, AreTrees};
 ghost use Rattle.pq_plain.specs.Seen.{outlines};
-ghost use Rattle.pq_plain.specs.Found.{hits, IsLowest, IsRootStep, IsFound, IsFoundBelow, IsFoundIn};
+ghost use Rattle.pq_plain.specs.Found.{hits, IsRootStep, IsFound, IsFoundBelow, IsFoundIn};
+ghost use Rattle.template_theory.specs.Outcomes.{IsLowest};
 
 use crate::at_root::{Outcome, reduce_root};
-use crate::reducer::Step;
 use pq_tree::Tree;
 use row_model::{NoMemory, row_has};
 use std::alloc::Global;
 use std::mem;
+use template_theory::Step;
 
 // What a search for the pertinent root found in a tree.
 #[derive(Drop)]

@@ -245,6 +245,3 @@ impl PqTree {
         }
     }
 }
-
-#[cfg(test)]
-mod tests;

@@ -3,7 +3,7 @@ use Rattle.std.proofs.Common.{◌≡◌, inl, inr, Bool, List, [], ◌∷◌, �
 use Rattle.std.proofs.lemmas.List.{reverse-append}
 use Rattle.pq_tree.specs.Outline.{Outline, Forest, no_tree, tree_and}
 use Rattle.pq_tree.specs.Forests.{join, back}
-use Rattle.pq_plain.specs.Templates.{Partial, Label, empty_label, full_label, partial_label, IsSorted, none_sorted, to_empty, to_full, to_partial, AreAllFull, AreAllEmpty, IsRun, run_full, run_partial, run_more, IsTail, tail_empty, tail_partial, tail_more, IsSpan, span_tail, span_partial, span_more, IsP1, IsP2, IsP3, IsP4, IsP5, IsP6, IsQ1, IsQ2, IsQ3}
+use Rattle.template_theory.specs.Templates.{Partial, Label, empty_label, full_label, partial_label, IsSorted, none_sorted, to_empty, to_full, to_partial, AreAllFull, AreAllEmpty, IsRun, run_full, run_partial, run_more, IsTail, tail_empty, tail_partial, tail_more, IsTwoSidedRun, span_tail, span_partial, span_more, IsP1, IsP2, IsP3, IsP4, IsP5, IsP6, IsQ1, IsQ2, IsQ3}
 
 -- the trees are alike, but where the label is partial
 abbrev pub Agree : Forest → Forest → List Label → Type 0
@@ -96,13 +96,13 @@ tail_moved (tail_more r) no_tree a = absurd a
 tail_moved (tail_more {t = t} {fs = fs} {gs = gs} {ps = ps} {k = k} r) (tree_and u us) a =
     subst (λ z. IsTail (tree_and z us) (full_label ∷ ps) (tree_and t fs) k gs) a.0 (tail_more (tail_moved r us a.1))
 
-span_moved : {ts es fs gs : Forest} {ps : List Label} {h k : Option Partial} → IsSpan ts ps es h fs k gs → (us : Forest) → Agree ts us ps → IsSpan us ps es h fs k gs
+span_moved : {ts es fs gs : Forest} {ps : List Label} {h k : Option Partial} → IsTwoSidedRun ts ps es h fs k gs → (us : Forest) → Agree ts us ps → IsTwoSidedRun us ps es h fs k gs
 span_moved (span_tail r) us a = span_tail (tail_moved r us a)
 span_moved (span_partial r) no_tree a = absurd a
 span_moved (span_partial r) (tree_and u us) a = span_partial (tail_moved r us a)
 span_moved (span_more r) no_tree a = absurd a
 span_moved (span_more {t = t} {es = es} {fs = fs} {gs = gs} {ps = ps} {h = h} {k = k} r) (tree_and u us) a =
-    subst (λ z. IsSpan (tree_and z us) (empty_label ∷ ps) (tree_and t es) h fs k gs) a.0 (span_more (span_moved r us a.1))
+    subst (λ z. IsTwoSidedRun (tree_and z us) (empty_label ∷ ps) (tree_and t es) h fs k gs) a.0 (span_more (span_moved r us a.1))
 
 -- so each template stands over both or over neither, with the same replacement
 pub p1_moved : (ts us : Forest) (ps : List Label) → Agree ts us ps → IsP1 ts ps → IsP1 us ps

@@ -5,9 +5,9 @@ use Rattle.std.proofs.lemmas.Bool.{cases_lt}
 use Rattle.column_order.specs.Orders.{occurs}
 use Rattle.pq_tree.specs.Outline.{Outline, Forest, p_node, q_node, tree_and}
 use Rattle.pq_tree.specs.Forests.{forest}
-use Rattle.pq_plain.specs.Templates.{Partial, Label, empty_label, full_label, partial_label, AreAllFull}
-use Rattle.pq_plain.specs.Chosen.{IsLabelOfP, IsLabelOfQ, by_p1, by_p3, by_p5, by_q1, by_q2}
-use Rattle.pq_plain.specs.Reduced.{IsLabel, AreLabels, IsTurned}
+use Rattle.template_theory.specs.Templates.{Partial, Label, empty_label, full_label, partial_label, AreAllFull}
+use Rattle.template_theory.specs.Chosen.{IsLabelOfP, IsLabelOfQ, by_p1, by_p3, by_p5, by_q1, by_q2}
+use Rattle.template_theory.specs.Reduced.{IsLabel, AreLabels, IsTurned}
 use Rattle.arena_model.specs.declared.Shape.TheVariants.{Leaf, P, Q}
 use Rattle.arena_model.specs.Layout.{Slot, Layout, slot, shape_at, children_at, IsLayout, IsInUse, IsAtOrAbove}
 use Rattle.arena_model.specs.NamedTree.{IsAt, outline_below, HasTwoEach}
@@ -15,7 +15,7 @@ use Rattle.arena_model.proofs.Lists.{occurs_here}
 use Rattle.arena_model.proofs.Paths.{above_step, one_path}
 use Rattle.arena_model.proofs.Trees.{TreeAt, tree_at, at_same, reached, name_used}
 use Rattle.arena_model.proofs.Outlines.{below_named}
-use Rattle.bubble_pass.specs.Climb.{leaves_of}
+use Rattle.pq_arena.specs.RowNodes.{column_leaves}
 use Rattle.bubble_pass.specs.declared.labels.Label.{Label as Mark}
 use Rattle.bubble_pass.specs.declared.labels.Label.TheVariants.{Empty, Partial as Partly, Full}
 use Rattle.bubble_pass.specs.Marks.{Marks, label_at}
@@ -24,7 +24,7 @@ use Rattle.template_model.specs.Standing.{mark_of, child_trees, AreShapesAt, IsS
 use Rattle.template_model.specs.Treated.{IsTreated, StandsForPartial}
 use Rattle.row_reduce.specs.declared.template.Template.{Template}
 use Rattle.row_reduce.specs.declared.template.Template.TheVariants.{L1, P1, P2, P3, P4, P5, P6, Q1, Q2, Q3}
-use Rattle.row_reduce.specs.Fits.{Fits}
+use Rattle.row_reduce.specs.Fits.{TemplateFits}
 use Rattle.row_reduce.specs.Becomes.{IsSame, IsMade}
 use Rattle.row_reduce.specs.Applying.{IsStanding, IsAnswered, AreApplied}
 use Rattle.row_reduce.proofs.Agree.{Agree, agree_same, p3_moved, p5_moved, q2_moved}
@@ -175,10 +175,10 @@ q_label f row n ps x h e labels of y t = subst (λ z. IsLabel row z y) (sym (bel
 
 -- the answer of a template below the pertinent root
 pub answered : (t : Template) {f g h : Layout} {v w u : Marks} {row ds : List ℕ} {place : ℕ → ℕ} {n a : ℕ} {c : ChildrenNow f v row g w (children_at f n) (map place (children_at f n))} →
-    AtAnswer f g h v w u row ds place n a c → Fits t f v n false c.ps → IsMade t g h w u n a c.ps → IsAnswered f v row h u n a
+    AtAnswer f g h v w u row ds place n a c → TemplateFits t f v n false c.ps → IsMade t g h w u n a c.ps → IsAnswered f v row h u n a
 answered L1 {f = f} {row = row} {n = n} s fit made =
     full_answer s (subst (λ z. IsLabel row z full_label) (sym (below_leaf f n fit.0.0 s.at.layout fit.0.1))
-    (inl (full_leaf f row n fit.0.0 s.at.layout s.at.is_row fit.0.1 (subst (λ z. IsRight f (leaves_of row) n z) fit.1 s.at.right.own), refl))) fit.1 made (same_leaf s fit.0.0 fit.0.1)
+    (inl (full_leaf f row n fit.0.0 s.at.layout s.at.is_row fit.0.1 (subst (λ z. IsRight f (column_leaves row) n z) fit.1 s.at.right.own), refl))) fit.1 made (same_leaf s fit.0.0 fit.0.1)
 answered P1 {f = f} {row = row} {n = n} {c = c} s fit made =
     full_answer s (subst (λ z. IsLabel row z full_label) (sym (below_p f n s.at.layout fit.0)) (c.ps, full_label, c.labels, by_p1 fit.1, refl))
     (full_mark s.at (λ b e. absurd (let z : Some P ≡ Some (Leaf b) = sym fit.0 ∙ e in cc)) fit.1) made (same_p s fit.0 fit.1)

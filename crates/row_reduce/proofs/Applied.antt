@@ -3,13 +3,13 @@ use Rattle.std.proofs.Common.{◌≡◌, ◌≢◌, inl, inr, ℕ, ◌+◌, ◌*
 use Rattle.std.proofs.lemmas.Bool.{cases_eq, cases_lt}
 use Rattle.column_order.specs.Orders.{occurs}
 use Rattle.pq_tree.specs.Forests.{forest}
-use Rattle.pq_plain.specs.Templates.{Label, empty_label}
+use Rattle.template_theory.specs.Templates.{Label, empty_label}
 use Rattle.arena_model.specs.ChildLists.{none}
 use Rattle.arena_model.specs.Layout.{Layout, shape_at, children_at, IsLayout, IsAtOrAbove}
 use Rattle.arena_model.specs.NamedTree.{outline_below}
 use Rattle.arena_model.proofs.Paths.{top_alone, above_step}
 use Rattle.arena_model.proofs.Trees.{no_circle}
-use Rattle.bubble_pass.specs.Climb.{leaves_of}
+use Rattle.pq_arena.specs.RowNodes.{column_leaves}
 use Rattle.bubble_pass.specs.declared.labels.Label.TheVariants.{Empty}
 use Rattle.bubble_pass.specs.Marks.{Marks, label_at}
 use Rattle.bubble_pass.specs.Pass.{IsRightAt, node_in}
@@ -18,7 +18,7 @@ use Rattle.template_model.specs.Standing.{mark_of, child_trees, AreShapesAt, IsR
 use Rattle.template_model.specs.Treated.{IsTreated}
 use Rattle.row_reduce.specs.declared.template.Template.{Template}
 use Rattle.row_reduce.specs.declared.template.Template.TheVariants.{L1, P1, P2, P3, P4, P5, P6, Q1, Q2, Q3}
-use Rattle.row_reduce.specs.Fits.{Fits, IsFit}
+use Rattle.row_reduce.specs.Fits.{TemplateFits, IsFit}
 use Rattle.row_reduce.specs.Becomes.{Becomes, Stands}
 use Rattle.row_reduce.specs.Applying.{IsStanding, IsAnswered, placed, AreApplied}
 use Rattle.row_reduce.specs.Ground.{IsGround}
@@ -47,7 +47,7 @@ child_now {f = f} {g = g} {v = v} {w = w} {row = row} {q = q} {i = i} {place = p
       let lk : IsAtOrAbove f.slots q k = above_step f.slots q n k l o in
       record {
         label = empty_label;
-        is = empty_is f row k s.ground.layout s.ground.is_row stands.used (subst (λ z. IsRight f (leaves_of row) k z) e (right_child s.ground n k l o));
+        is = empty_is f row k s.ground.layout s.ground.is_row stands.used (subst (λ z. IsRight f (column_leaves row) k z) e (right_child s.ground n k l o));
         marked = sym e;
         kept = ap (label_at w) own ∙ s.applied.labels k stands;
         shape = λ h z. absurd (cc);
@@ -75,7 +75,7 @@ children_now {f = f} {g = g} {v = v} {w = w} {row = row} {place = place} s n sta
 
 -- a pattern that stands over the first trees stands over what has come in their place
 pub fits_moved : (t : Template) (root : Bool) (f g : Layout) (v w : Marks) (n : ℕ) (ps : List Label) → shape_at g n ≡ shape_at f n → label_at w n ≡ label_at v n →
-    Agree (child_trees f n) (child_trees g n) ps → Fits t f v n root ps → Fits t g w n root ps
+    Agree (child_trees f n) (child_trees g n) ps → TemplateFits t f v n root ps → TemplateFits t g w n root ps
 fits_moved L1 root f g v w n ps e l a fit = ((fit.0.0, e ∙ fit.0.1), l ∙ fit.1)
 fits_moved P1 root f g v w n ps e l a fit = (e ∙ fit.0, p1_moved (child_trees f n) (child_trees g n) ps a fit.1)
 fits_moved P2 root f g v w n ps e l a fit = (e ∙ fit.0, (fit.1.0, p2_moved root (child_trees f n) (child_trees g n) ps fit.1.0 a fit.1.1))

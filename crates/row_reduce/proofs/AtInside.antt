@@ -10,30 +10,31 @@ use Rattle.pq_tree.specs.Outline.{Outline, Forest}
 use Rattle.pq_tree.specs.Forests.{forest, back}
 use Rattle.pq_tree.specs.Nodes.{IsPertinentRoot}
 use Rattle.pq_tree.proofs.Forests.{map-reverse}
-use Rattle.pq_plain.specs.Templates.{Partial, Label, AreAllFull, IsRun, run_full, run_partial, run_more, IsQ3}
-use Rattle.pq_plain.specs.Chosen.{IsRootOfQ, root_q1, root_q2, root_q3}
-use Rattle.pq_plain.specs.Refused.{IsRefused, IsUnfitRoot}
-use Rattle.pq_plain.specs.Reduced.{IsRootMade, IsReduced}
-use Rattle.pq_plain.specs.Laws.{RootTurnedLaw}
+use Rattle.template_theory.specs.Templates.{Partial, Label, AreAllFull, IsRun, run_full, run_partial, run_more, IsQ3}
+use Rattle.template_theory.specs.Chosen.{IsRootOfQ, root_q1, root_q2, root_q3}
+use Rattle.template_theory.specs.Refused.{IsRefused, IsUnfitRoot}
+use Rattle.template_theory.specs.Reduced.{IsRootMade, IsReduced}
+use Rattle.template_theory.specs.Laws.{RootTurnedLaw}
 use Rattle.arena_model.specs.Layout.{Layout, children_at, times_child, IsLayout, here, down}
 use Rattle.arena_model.specs.NamedTree.{outline_below, outline_at}
 use Rattle.arena_model.proofs.Lists.{occurs_here, occurs_same}
 use Rattle.arena_model.proofs.Paths.{one_path, above_ends, at_once, by}
 use Rattle.arena_model.proofs.Slots.{children_times}
 use Rattle.arena_model.proofs.Outlines.{apart_children}
-use Rattle.bubble_pass.specs.Climb.{leaves_of}
+use Rattle.pq_arena.specs.RowNodes.{column_leaves}
 use Rattle.bubble_pass.specs.declared.labels.Label.{Label as Mark}
 use Rattle.bubble_pass.specs.declared.labels.Label.TheVariants.{Empty, Partial as Partly, Full}
-use Rattle.bubble_pass.specs.Found.{Holds, Meets, Inside}
+use Rattle.arena_model.specs.RowLeaves.{Holds, Meets}
+use Rattle.bubble_pass.specs.Found.{Inside}
 use Rattle.bubble_pass.specs.Marks.{Marks, label_at}
 use Rattle.bubble_pass.specs.Pass.{node_in}
 use Rattle.bubble_pass.specs.Sweep.{IsRight}
-use Rattle.template_model.specs.Standing.{mark_of, child_trees, AreMarkedAs, AreShapesAt, IsInRun, IsReadyInside}
-use Rattle.template_model.specs.Treated.{IsReplacedAt, StandsFor}
+use Rattle.template_model.specs.Standing.{mark_of, child_trees, AreMarkedAs, AreShapesAt, IsInMarkedRun, IsReadyInside}
+use Rattle.template_model.specs.Treated.{IsReplacedAt, StandsForTree}
 use Rattle.template_model.proofs.Replaced.{child_used}
 use Rattle.row_reduce.specs.declared.template.Template.{Template}
 use Rattle.row_reduce.specs.declared.template.Template.TheVariants.{Q3}
-use Rattle.row_reduce.specs.Fits.{Fits}
+use Rattle.row_reduce.specs.Fits.{TemplateFits}
 use Rattle.row_reduce.specs.Deciding.{IsLabelled}
 use Rattle.row_reduce.specs.Decided.{AreDecided, IsStopped, template_in}
 use Rattle.row_reduce.specs.Outcome.{AtFoundInside}
@@ -82,16 +83,16 @@ another (a ∷ b ∷ ks) k l one = elim (cases_eq a k) [
 pub inside_least : {f : Layout} {v : Marks} {row : List ℕ} (s : AtFoundInside f v row) → IsPertinentRoot row (outline_at f) (outline_below f s.found.run.q)
 inside_least {f = f} {row = row} s = root_is f row run.q s.ground.layout s.ground.one s.ground.is_row s.ground.used run.holds no_child
   where
-    run : Inside f (leaves_of row)
+    run : Inside f (column_leaves row)
     run = s.found.run
 
     run_once : (x : ℕ) → occurs run.ks x ≤ 1
     run_once x = let o : occurs (children_at f run.q) x ≤ 1 = once f run.q x s.ground.layout in omega (arith, in_run s x)
 
-    no_child : (k : ℕ) → 1 ≤ occurs (children_at f run.q) k → Holds f (leaves_of row) k → ⊥
+    no_child : (k : ℕ) → 1 ≤ occurs (children_at f run.q) k → Holds f (column_leaves row) k → ⊥
     no_child k o holds =
         let j = another run.ks k run.some run_once in
-        let m : Meets f (leaves_of row) j.0 = run.meet j.0 j.1 in
+        let m : Meets f (column_leaves row) j.0 = run.meet j.0 j.1 in
         let oj : 1 ≤ occurs (children_at f run.q) j.0 = (let i : 1 ≤ occurs run.ks j.0 = j.1 in omega (arith, in_run s j.0)) in
         elim (one_path f k j.0 m.0 s.ground.layout (holds m.0 m.1) m.2) [
           | inl p ↦ apart_children f run.q k j.0 s.ground.layout o oj p (λ e. j.2 (sym e))
@@ -141,7 +142,7 @@ outer_empty {f = f} {v = v} {row = row} s k o = elim (is_empty (label_at v k)) [
   | inl e ↦ e
   | inr some ↦
       let ok : 1 ≤ occurs (children_at f s.found.run.q) k = omega (arith, in_run s k) in
-      let m = meets_row f (leaves_of row) k (label_at v k) s.ground.layout s.ground.two (child_used f s.found.run.q k s.ground.layout ok) (right_child s.ground s.found.run.q k (here s.found.run.q) ok) some in
+      let m = meets_row f (column_leaves row) k (label_at v k) s.ground.layout s.ground.two (child_used f s.found.run.q k s.ground.layout ok) (right_child s.ground s.found.run.q k (here s.found.run.q) ok) some in
       absurd (s.found.run.miss k o (m.0, m.2, m.1))
 ]
 
@@ -149,8 +150,8 @@ outer_empty {f = f} {v = v} {row = row} s k o = elim (is_empty (label_at v k)) [
 pub run_labelled : {f : Layout} {v : Marks} {row : List ℕ} (s : AtFoundInside f v row) → (k : ℕ) → 1 ≤ occurs s.found.run.ks k → label_at v k ≢ Empty
 run_labelled {f = f} {v = v} {row = row} s k o e =
     let ok : 1 ≤ occurs (children_at f s.found.run.q) k = omega (arith, in_run s k) in
-    let m : Meets f (leaves_of row) k = s.found.run.meet k o in
-    let miss = subst (λ z. IsRight f (leaves_of row) k z) e (right_child s.ground s.found.run.q k (here s.found.run.q) ok) in
+    let m : Meets f (column_leaves row) k = s.found.run.meet k o in
+    let miss = subst (λ z. IsRight f (column_leaves row) k z) e (right_child s.ground s.found.run.q k (here s.found.run.q) ok) in
     miss m.0 m.2 m.1
 
 -- labels that end with an empty one are not all full
@@ -240,7 +241,7 @@ no_run_back {f = f} {v = v} s ps m es fs h r =
     ∙ ap (λ z. reverse (map (label_at v) x.1) ++ z ∷ []) x.3 in
     some_label s ps m (marked_back Empty ps (run_end r (reverse (map (label_at v) x.1)) marks))
 
-no_root : {f : Layout} {v : Marks} {row : List ℕ} (s : AtFoundInside f v row) → (ps : List Label) → AreMarkedAs f v s.found.run.q ps → (Fits Q3 f v s.found.run.q true ps → ⊥) →
+no_root : {f : Layout} {v : Marks} {row : List ℕ} (s : AtFoundInside f v row) → (ps : List Label) → AreMarkedAs f v s.found.run.q ps → (TemplateFits Q3 f v s.found.run.q true ps → ⊥) →
     (u : Outline) → IsRootOfQ (child_trees f s.found.run.q) ps u → ⊥
 no_root s ps m lacks _ (root_q1 x) = no_q1 s ps m x
 no_root s ps m lacks _ (root_q2 h u x i) = elim x.pattern [ inl r ↦ no_run s ps m x.es x.fs x.h r | inr r ↦ no_run_back s ps m x.es x.fs x.h r ]
@@ -248,7 +249,7 @@ no_root s ps m lacks _ (root_q3 u x) = lacks (s.found.run.is_q, (u, x))
 
 -- where templates stand below the Q-node, and Q3 doesn't at it, no template reduces the tree
 pub refused_inside : {f : Layout} {v : Marks} {row : List ℕ} (ts : List Template) (s : AtFoundInside f v row) → AreDecided f v None ts (length v.nodes) →
-    ((ps : List Label) → AreMarkedAs f v s.found.run.q ps → Fits Q3 f v s.found.run.q true ps → ⊥) → IsRefused row (outline_at f)
+    ((ps : List Label) → AreMarkedAs f v s.found.run.q ps → TemplateFits Q3 f v s.found.run.q true ps → ⊥) → IsRefused row (outline_at f)
 refused_inside {f = f} {v = v} {row = row} ts s d lacks =
     let c : Labels f v row (children_at f s.found.run.q) = inside_kids ts s d in (
       outline_below f s.found.run.q,
@@ -332,7 +333,7 @@ map_long place [] = refl
 map_long place (k ∷ ks) = omega (arith, map_long place ks)
 
 -- the run as it stands then, with the answer of any of its nodes
-pub run_now : {f g : Layout} {v w : Marks} {row : List ℕ} {place : ℕ → ℕ} (r : InsideNow f g v w row place) → (k : ℕ) → 1 ≤ occurs r.found.found.run.ks k → IsInRun g w r.found.found.run.q (place k)
+pub run_now : {f g : Layout} {v w : Marks} {row : List ℕ} {place : ℕ → ℕ} (r : InsideNow f g v w row place) → (k : ℕ) → 1 ≤ occurs r.found.found.run.ks k → IsInMarkedRun g w r.found.found.run.q (place k)
 run_now {f = f} {g = g} {v = v} {w = w} {row = row} {place = place} r k o = record {
   us = map place run.us;
   ks = map place run.ks;
@@ -348,7 +349,7 @@ run_now {f = f} {g = g} {v = v} {w = w} {row = row} {place = place} r k o = reco
   behind = all_map (λ x. label_at w x ≡ Empty) place run.vs (λ j oj. (inside_child r j (omega (arith, in_run r.found j))).kept ∙ outer_empty r.found j (omega arith));
 }
   where
-    run : Inside f (leaves_of row)
+    run : Inside f (column_leaves row)
     run = r.found.found.run
 
 pub inside_ready : {f g : Layout} {v w : Marks} {row : List ℕ} {place : ℕ → ℕ} (r : InsideNow f g v w row place) → (k : ℕ) → 1 ≤ occurs r.found.found.run.ks k → IsReadyInside g w (place k)
@@ -361,13 +362,13 @@ inside_ready {f = f} {g = g} r k o = record {
   run = run_now r k o;
 }
 
-pub inside_stands : {f g : Layout} {v w : Marks} {row : List ℕ} {place : ℕ → ℕ} (r : InsideNow f g v w row place) → ((ps : List Label) → AreMarkedAs f v r.found.found.run.q ps → Fits Q3 f v r.found.found.run.q true ps) →
+pub inside_stands : {f g : Layout} {v w : Marks} {row : List ℕ} {place : ℕ → ℕ} (r : InsideNow f g v w row place) → ((ps : List Label) → AreMarkedAs f v r.found.found.run.q ps → TemplateFits Q3 f v r.found.found.run.q true ps) →
     Stands Q3 g w r.found.found.run.q true
 inside_stands r fit = stands_now Q3 true r.step r.found.found.run.q (inside_standing r) (inside_children r) fit
 
 -- Q3 at the Q-node makes the reduced tree
 pub reduced_inside : {f g : Layout} {v w : Marks} {row : List ℕ} {place : ℕ → ℕ} (h : Layout) → RootTurnedLaw → (r : InsideNow f g v w row place) → IsLayout h → IsReplacedAt g h r.found.found.run.q r.found.found.run.q →
-    ((ps : List Label) → AreMarkedAs g w r.found.found.run.q ps → AreShapesAt g w (children_at g r.found.found.run.q) ps → (u : Outline) × IsQ3 true (child_trees g r.found.found.run.q) ps u × StandsFor h r.found.found.run.q u) →
+    ((ps : List Label) → AreMarkedAs g w r.found.found.run.q ps → AreShapesAt g w (children_at g r.found.found.run.q) ps → (u : Outline) × IsQ3 true (child_trees g r.found.found.run.q) ps u × StandsForTree h r.found.found.run.q u) →
     IsReduced row (outline_at f) (outline_at h)
 reduced_inside {f = f} {g = g} {v = v} {w = w} {row = row} {place = place} h law r hl replaced becomes =
     law row (outline_at f) (outline_below f q) made.0 (outline_below h q) (outline_at h) (inside_least r.found)
@@ -384,7 +385,7 @@ reduced_inside {f = f} {g = g} {v = v} {w = w} {row = row} {place = place} h law
     e : map place (children_at f q) ≡ children_at g q
     e = sym (r.step.applied.children q (inside_standing r))
 
-    made : (u : Outline) × IsQ3 true (child_trees g q) c.ps u × StandsFor h q u
+    made : (u : Outline) × IsQ3 true (child_trees g q) c.ps u × StandsForTree h q u
     made = becomes c.ps (subst (λ z. map mark_of c.ps ≡ map (label_at w) z) e c.marked_now) (subst (λ z. AreShapesAt g w z c.ps) e c.shapes)
 
     agree : Agree (child_trees f q) (child_trees g q) c.ps

@@ -4,9 +4,9 @@ use Rattle.std.proofs.lemmas.Bool.{cases_eq, cases_lt, ne_eqb}
 use Rattle.column_order.specs.Orders.{occurs}
 use Rattle.pq_tree.specs.Forests.{forest}
 use Rattle.pq_tree.specs.Nodes.{IsPertinentRoot}
-use Rattle.pq_plain.specs.Reduced.{IsReduced}
-use Rattle.pq_plain.specs.Refused.{IsRefused, IsStuck, IsUnfitRoot}
-use Rattle.pq_plain.specs.Laws.{RootTurnedLaw}
+use Rattle.template_theory.specs.Reduced.{IsReduced}
+use Rattle.template_theory.specs.Refused.{IsRefused, IsStuck, IsUnfitRoot}
+use Rattle.template_theory.specs.Laws.{RootTurnedLaw}
 use Rattle.arena_model.specs.ChildLists.{with_replaced}
 use Rattle.arena_model.specs.Layout.{Layout, children_at, IsInUse, IsLayout, IsAtOrAbove, here}
 use Rattle.arena_model.specs.NamedTree.{outline_below, outline_at}
@@ -14,7 +14,7 @@ use Rattle.arena_model.proofs.Lists.{occurs_here}
 use Rattle.arena_model.proofs.Paths.{above_ends, one_parent, at_once, by}
 use Rattle.arena_model.proofs.Trees.{no_circle}
 use Rattle.pq_arena.specs.declared.node.NodeId.{NodeId}
-use Rattle.bubble_pass.specs.Climb.{leaves_of}
+use Rattle.pq_arena.specs.RowNodes.{column_leaves}
 use Rattle.bubble_pass.specs.declared.labels.Label.TheVariants.{Empty}
 use Rattle.bubble_pass.specs.Marks.{Marks, label_at}
 use Rattle.bubble_pass.specs.Pass.{IsRightAt, node_in}
@@ -50,7 +50,7 @@ kids {f = f} {v = v} {row = row} s n l of = labels_built f v row (children_at f 
   | inr some ↦ of k o some
 ])
 
-pub at_node : {f : Layout} {v : Marks} {row : List ℕ} {q : ℕ} → IsGround f v row q → (n : ℕ) → label_at v n ≢ Empty → AreRight f (leaves_of row) (label_at v) n → (c : Labels f v row (children_at f n)) → AtNode f v row n c.ps
+pub at_node : {f : Layout} {v : Marks} {row : List ℕ} {q : ℕ} → IsGround f v row q → (n : ℕ) → label_at v n ≢ Empty → AreRight f (column_leaves row) (label_at v) n → (c : Labels f v row (children_at f n)) → AtNode f v row n c.ps
 at_node s n some right c = record {
   layout = s.layout;
   two = s.two;
@@ -97,17 +97,17 @@ pub least : {f : Layout} {v : Marks} {row : List ℕ} {q : ℕ} → AtFoundRoot 
 least {f = f} {row = row} {q = q} s = root_is f row q s.ground.layout s.ground.one s.ground.is_row s.ground.used s.found.root.holds
     (λ k o h. no_circle f.slots q k (s.ground.layout.grounds q) o (s.found.root.least k h))
 
-pub first_leaf : (row : List ℕ) → row ≢ [] → (x : ℕ) × (1 ≤ occurs (leaves_of row) x)
+pub first_leaf : (row : List ℕ) → row ≢ [] → (x : ℕ) × (1 ≤ occurs (column_leaves row) x)
 first_leaf [] n = absurd (n refl)
-first_leaf (a ∷ row) n = (a - 1, occurs_here (a - 1) (leaves_of row))
+first_leaf (a ∷ row) n = (a - 1, occurs_here (a - 1) (column_leaves row))
 
 pub root_some : {f : Layout} {v : Marks} {row : List ℕ} {q : ℕ} → AtFoundRoot f v row q → label_at v q ≢ Empty
 root_some {f = f} {row = row} {q = q} s e =
     let x = first_leaf row s.some in
-    let miss : IsRight f (leaves_of row) q Empty = subst (λ z. IsRight f (leaves_of row) q z) e s.found.top in
+    let miss : IsRight f (column_leaves row) q Empty = subst (λ z. IsRight f (column_leaves row) q z) e s.found.top in
     miss x.0 (s.found.root.holds x.0 x.1) x.1
 
-pub root_right : {f : Layout} {v : Marks} {row : List ℕ} {q : ℕ} → AtFoundRoot f v row q → AreRight f (leaves_of row) (label_at v) q
+pub root_right : {f : Layout} {v : Marks} {row : List ℕ} {q : ℕ} → AtFoundRoot f v row q → AreRight f (column_leaves row) (label_at v) q
 root_right {q = q} s = record { used = s.ground.used; own = s.found.top; of_children = λ k o. right_child s.ground q k (here q) o }
 
 -- the root is the last of the nodes
@@ -183,7 +183,7 @@ refused {f = f} {v = v} {row = row} root s stop = (outline_below f root.index, l
     stuck = elim (cases_eq (node_in v stop.i) root.index) [
       | inl e ↦
           let some : label_at v (node_in v stop.i) ≢ Empty = node_labelled s.ground stop.i stop.some in
-          let right : AreRight f (leaves_of row) (label_at v) (node_in v stop.i) = subst (λ z. AreRight f (leaves_of row) (label_at v) z) (sym e) (root_right s) in
+          let right : AreRight f (column_leaves row) (label_at v) (node_in v stop.i) = subst (λ z. AreRight f (column_leaves row) (label_at v) z) (sym e) (root_right s) in
           inl (subst (λ z. IsUnfitRoot row (outline_below f z)) e
           (unfit_root (at_node s.ground (node_in v stop.i) some right c) (subst (λ z. IsChoice f v (node_in v stop.i) z None) (top_is root (node_in v stop.i) e) stop.none)))
       | inr ne ↦
@@ -281,7 +281,7 @@ reduced t {f = f} {g = g} {v = v} {w = w} {row = row} {q = q} {place = place} h 
     node = at_node r.found.ground q (root_some r.found) (root_right r.found) kids_now
 
     leaf : IsLeafIn row f q
-    leaf b e = full_leaf f row q b r.found.ground.layout r.found.ground.is_row e (subst (λ z. IsRight f (leaves_of row) q z) (leaf_fits node b e) r.found.found.top)
+    leaf b e = full_leaf f row q b r.found.ground.layout r.found.ground.is_row e (subst (λ z. IsRight f (column_leaves row) q z) (leaf_fits node b e) r.found.found.top)
 
     root : AtRoot f g h v w u row q a c.ps
     root = record {

@@ -5,9 +5,9 @@ use Rattle.column_order.specs.Orders.{occurs}
 use Rattle.pq_tree.specs.Outline.{Outline, Forest, q_node}
 use Rattle.pq_tree.specs.Forests.{forest, join, back}
 use Rattle.pq_tree.proofs.Forests.{map-reverse, forest_append, forest_reverse, back-back}
-use Rattle.pq_plain.specs.Templates.{Label, empty_label, full_label, none_sorted, to_empty, to_full, AreAllFull, AreAllEmpty, IsRun, run_full, run_partial, run_more, IsTail, tail_empty, tail_more, IsSpan, span_tail, span_more, IsQ2}
-use Rattle.pq_plain.specs.Chosen.{IsRootOfQ, root_q1, root_q2, root_q3}
-use Rattle.pq_plain.specs.Reduced.{IsLabel, AreLabels}
+use Rattle.template_theory.specs.Templates.{Label, empty_label, full_label, none_sorted, to_empty, to_full, AreAllFull, AreAllEmpty, IsRun, run_full, run_partial, run_more, IsTail, tail_empty, tail_more, IsTwoSidedRun, span_tail, span_more, IsQ2}
+use Rattle.template_theory.specs.Chosen.{IsRootOfQ, root_q1, root_q2, root_q3}
+use Rattle.template_theory.specs.Reduced.{IsLabel, AreLabels}
 use Rattle.arena_model.proofs.Lists.{occurs_here}
 use Rattle.bubble_pass.specs.declared.labels.Label.{Label as Mark}
 use Rattle.bubble_pass.specs.declared.labels.Label.TheVariants.{Empty, Partial as Partly, Full}
@@ -55,7 +55,7 @@ tail_for : (F : ℕ → Outline) (ks vs : List ℕ) → IsTail (trees_at F (ks +
 tail_for F [] vs = tail_empty (all_empty_for F vs)
 tail_for F (k ∷ ks) vs = tail_more (tail_for F ks vs)
 
-span_for : (F : ℕ → Outline) (us ks vs : List ℕ) → IsSpan (trees_at F (us ++ (ks ++ vs))) (block_labels us ks vs) (trees_at F us) None (trees_at F ks) None (trees_at F vs)
+span_for : (F : ℕ → Outline) (us ks vs : List ℕ) → IsTwoSidedRun (trees_at F (us ++ (ks ++ vs))) (block_labels us ks vs) (trees_at F us) None (trees_at F ks) None (trees_at F vs)
 span_for F [] ks vs = span_tail (tail_for F ks vs)
 span_for F (u ∷ us) ks vs = span_more (span_for F us ks vs)
 

@@ -6,7 +6,7 @@ use Rattle.row_model.specs.Rows.{IsRow}
 use Rattle.arena_model.specs.Layout.{Layout, IsInUse, IsLayout, IsAtOrAbove, here, down}
 use Rattle.arena_model.specs.declared.Shape.TheVariants.{Q}
 use Rattle.arena_model.specs.NamedTree.{IsOneTree, HasTwoEach}
-use Rattle.bubble_pass.specs.Climb.{leaves_of}
+use Rattle.pq_arena.specs.RowNodes.{column_leaves}
 use Rattle.bubble_pass.specs.declared.labels.Label.TheVariants.{Empty}
 use Rattle.bubble_pass.specs.Fair.{AtMost}
 use Rattle.bubble_pass.specs.Marks.{Marks, label_at, size_of}
@@ -33,7 +33,7 @@ used_above : (f : Layout) (n x : ℕ) → IsLayout f → IsAtOrAbove f.slots n x
 used_above f _ _ h (here n) used = used
 used_above f _ _ h (down n k x o l) used = parent_used f n k h o
 
-pub at_found_root : {f : Layout} {v : Marks} {row : List ℕ} → IsMarkedRow f v row → (q : ℕ) → FoundRoot f (leaves_of row) v q → AtFoundRoot f v row q
+pub at_found_root : {f : Layout} {v : Marks} {row : List ℕ} → IsMarkedRow f v row → (q : ℕ) → FoundRoot f (column_leaves row) v q → AtFoundRoot f v row q
 at_found_root {f = f} {row = row} s q found = record {
   ground = record {
     layout = s.layout;
@@ -48,10 +48,10 @@ at_found_root {f = f} {row = row} s q found = record {
   some = s.some;
 }
   where
-    leaf_used : (x : ℕ) → 1 ≤ occurs (leaves_of row) x → IsInUse f x
+    leaf_used : (x : ℕ) → 1 ≤ occurs (column_leaves row) x → IsInUse f x
     leaf_used x o e = let l = row_leaf_at f row s.layout s.is_row x o in let z : None ≡ Some _ = sym e ∙ l.1 in cc
 
-pub at_found_inside : {f : Layout} {v : Marks} {row : List ℕ} → IsMarkedRow f v row → FoundInside f (leaves_of row) v → AtFoundInside f v row
+pub at_found_inside : {f : Layout} {v : Marks} {row : List ℕ} → IsMarkedRow f v row → FoundInside f (column_leaves row) v → AtFoundInside f v row
 at_found_inside s found = record {
   found = found;
   ground = record {
@@ -80,23 +80,23 @@ most_below : (f : Layout) (row : List ℕ) (q a : ℕ) → IsAtOrAbove f.slots f
 most_below f row q a l most = λ xs once these. most xs once (λ x o. let t = these x o in (t.0, join_paths f.slots f.root q x l t.1))
 
 -- no more nodes are labelled than meet the row at or below the pertinent root
-pub root_few_below : {f : Layout} {v : Marks} {row : List ℕ} {q : ℕ} (a : ℕ) → AtFoundRoot f v row q → AtMost f (leaves_of row) q a → length v.nodes ≤ a
+pub root_few_below : {f : Layout} {v : Marks} {row : List ℕ} {q : ℕ} (a : ℕ) → AtFoundRoot f v row q → AtMost f (column_leaves row) q a → length v.nodes ≤ a
 root_few_below {f = f} {v = v} {row = row} {q = q} a s most = nodes_few a s.ground right most
   where
-    right : (n : ℕ) → label_at v n ≢ Empty → IsRight f (leaves_of row) n (label_at v n)
+    right : (n : ℕ) → label_at v n ≢ Empty → IsRight f (column_leaves row) n (label_at v n)
     right n some = elim (cases_eq n q) [
-      | inl e ↦ subst (λ z. IsRight f (leaves_of row) z (label_at v z)) (sym e) s.found.top
+      | inl e ↦ subst (λ z. IsRight f (column_leaves row) z (label_at v z)) (sym e) s.found.top
       | inr ne ↦ s.ground.marked.right n (labelled_below s.ground n some) ne
     ]
 
-pub root_few : {f : Layout} {v : Marks} {row : List ℕ} {q : ℕ} (a : ℕ) → AtFoundRoot f v row q → AtMost f (leaves_of row) f.root a → length v.nodes ≤ a
-root_few {f = f} {row = row} {q = q} a s most = root_few_below a s (most_below f (leaves_of row) q a (s.ground.one q s.ground.used) most)
+pub root_few : {f : Layout} {v : Marks} {row : List ℕ} {q : ℕ} (a : ℕ) → AtFoundRoot f v row q → AtMost f (column_leaves row) f.root a → length v.nodes ≤ a
+root_few {f = f} {row = row} {q = q} a s most = root_few_below a s (most_below f (column_leaves row) q a (s.ground.one q s.ground.used) most)
 
-pub inside_few_below : {f : Layout} {v : Marks} {row : List ℕ} (a : ℕ) (s : AtFoundInside f v row) → AtMost f (leaves_of row) s.found.run.q a → length v.nodes ≤ a
+pub inside_few_below : {f : Layout} {v : Marks} {row : List ℕ} (a : ℕ) (s : AtFoundInside f v row) → AtMost f (column_leaves row) s.found.run.q a → length v.nodes ≤ a
 inside_few_below {f = f} {v = v} {row = row} a s most = nodes_few a s.ground right most
   where
-    right : (n : ℕ) → label_at v n ≢ Empty → IsRight f (leaves_of row) n (label_at v n)
+    right : (n : ℕ) → label_at v n ≢ Empty → IsRight f (column_leaves row) n (label_at v n)
     right n some = s.ground.marked.right n (labelled_below s.ground n some) (λ e. some (ap (label_at v) e ∙ s.found.top))
 
-pub inside_few : {f : Layout} {v : Marks} {row : List ℕ} (a : ℕ) → AtFoundInside f v row → AtMost f (leaves_of row) f.root a → length v.nodes ≤ a
-inside_few {f = f} {row = row} a s most = inside_few_below a s (most_below f (leaves_of row) s.found.run.q a (s.ground.one s.found.run.q s.ground.used) most)
+pub inside_few : {f : Layout} {v : Marks} {row : List ℕ} (a : ℕ) → AtFoundInside f v row → AtMost f (column_leaves row) f.root a → length v.nodes ≤ a
+inside_few {f = f} {row = row} a s most = inside_few_below a s (most_below f (column_leaves row) s.found.run.q a (s.ground.one s.found.run.q s.ground.used) most)

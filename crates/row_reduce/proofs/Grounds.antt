@@ -13,7 +13,7 @@ use Rattle.arena_model.proofs.Lists.{occurs_here, occurs_other, occurs_same}
 use Rattle.arena_model.proofs.Paths.{above_step}
 use Rattle.arena_model.proofs.Trees.{TreeAt, tree_at, reached, no_circle}
 use Rattle.arena_model.proofs.Outlines.{named_below}
-use Rattle.bubble_pass.specs.Climb.{leaves_of}
+use Rattle.pq_arena.specs.RowNodes.{column_leaves}
 use Rattle.bubble_pass.specs.declared.labels.Label.{Label as Mark}
 use Rattle.bubble_pass.specs.declared.labels.Label.TheVariants.{Empty, Partial, Full}
 use Rattle.bubble_pass.specs.Marks.{Marks, label_at}
@@ -45,12 +45,12 @@ pub labelled_below : {f : Layout} {v : Marks} {row : List ℕ} {q : ℕ} → IsG
 labelled_below {f = f} {q = q} s n some = elim (below_cases f q n s.layout s.used) [ inl l ↦ l | inr lacks ↦ absurd (some (s.marked.outside n lacks)) ]
 
 -- the label of a child of a node at or below the pertinent root is right
-pub right_child : {f : Layout} {v : Marks} {row : List ℕ} {q : ℕ} → IsGround f v row q → (n k : ℕ) → IsAtOrAbove f.slots q n → 1 ≤ occurs (children_at f n) k → IsRight f (leaves_of row) k (label_at v k)
+pub right_child : {f : Layout} {v : Marks} {row : List ℕ} {q : ℕ} → IsGround f v row q → (n k : ℕ) → IsAtOrAbove f.slots q n → 1 ≤ occurs (children_at f n) k → IsRight f (column_leaves row) k (label_at v k)
 right_child {f = f} {q = q} s n k l o = s.marked.right k (above_step f.slots q n k l o)
     (λ e. no_circle f.slots n k (s.layout.grounds n) o (subst (λ z. IsAtOrAbove f.slots z n) (sym e) l))
 
 -- the labels at a labelled node below the pertinent root and at its children are right
-pub right_at : {f : Layout} {v : Marks} {row : List ℕ} {q : ℕ} → IsGround f v row q → (n : ℕ) → label_at v n ≢ Empty → n ≢ q → AreRight f (leaves_of row) (label_at v) n
+pub right_at : {f : Layout} {v : Marks} {row : List ℕ} {q : ℕ} → IsGround f v row q → (n : ℕ) → label_at v n ≢ Empty → n ≢ q → AreRight f (column_leaves row) (label_at v) n
 right_at {f = f} {q = q} s n some ne =
     let l : IsAtOrAbove f.slots q n = labelled_below s n some in
     record {
@@ -60,22 +60,22 @@ right_at {f = f} {q = q} s n some ne =
     }
 
 -- each number of a row is a leaf
-pub row_leaf_at : (f : Layout) (row : List ℕ) → IsLayout f → IsRow f.columns row → (x : ℕ) → 1 ≤ occurs (leaves_of row) x → (a : ℕ) × (shape_at f x ≡ Some (Leaf a))
+pub row_leaf_at : (f : Layout) (row : List ℕ) → IsLayout f → IsRow f.columns row → (x : ℕ) → 1 ≤ occurs (column_leaves row) x → (a : ℕ) × (shape_at f x ≡ Some (Leaf a))
 row_leaf_at f row layout is_row x o =
-    let e : occurs (leaves_of row) x ≡ occurs row (x + 1) = row_occurs f.columns 0 row x is_row in
+    let e : occurs (column_leaves row) x ≡ occurs row (x + 1) = row_occurs f.columns 0 row x is_row in
     let w = row_within f.columns row is_row (x + 1) (has_from_occurs row (x + 1) (omega arith)) in
     let le : x + 1 ≤ f.columns = w.1 in
     (x + 1, layout.leaves x (omega arith))
 
-pub row_leaf : {f : Layout} {v : Marks} {row : List ℕ} {q : ℕ} → IsGround f v row q → (x : ℕ) → 1 ≤ occurs (leaves_of row) x → (a : ℕ) × (shape_at f x ≡ Some (Leaf a))
+pub row_leaf : {f : Layout} {v : Marks} {row : List ℕ} {q : ℕ} → IsGround f v row q → (x : ℕ) → 1 ≤ occurs (column_leaves row) x → (a : ℕ) × (shape_at f x ≡ Some (Leaf a))
 row_leaf {f = f} {row = row} s x o = row_leaf_at f row s.layout s.is_row x o
 
 -- a node above a labelled one, below the pertinent root, is labelled
 pub above_labelled : {f : Layout} {v : Marks} {row : List ℕ} {q : ℕ} → IsGround f v row q → (k n : ℕ) → IsAtOrAbove f.slots q k → k ≢ q → n ≢ q → IsAtOrAbove f.slots k n → label_at v n ≢ Empty → label_at v k ≢ Empty
 above_labelled {f = f} {v = v} {row = row} {q = q} s k n lk nk nn l some e =
-    let r : AreRight f (leaves_of row) (label_at v) n = right_at s n some nn in
-    let m = meets_row f (leaves_of row) n (label_at v n) s.layout s.two r.used r.own some in
-    let miss : IsRight f (leaves_of row) k Empty = subst (λ z. IsRight f (leaves_of row) k z) e (s.marked.right k lk nk) in
+    let r : AreRight f (column_leaves row) (label_at v) n = right_at s n some nn in
+    let m = meets_row f (column_leaves row) n (label_at v n) s.layout s.two r.used r.own some in
+    let miss : IsRight f (column_leaves row) k Empty = subst (λ z. IsRight f (column_leaves row) k z) e (s.marked.right k lk nk) in
     miss m.0 (join_paths f.slots k n m.0 l m.1) m.2
 
 occurs_get : (xs : List ℕ) (i d : ℕ) → i < length xs → 1 ≤ occurs xs (get_or xs i d)

@@ -8,24 +8,24 @@ use Rattle.pq_tree.specs.Amortised.{nodes_met, nodes_met_below_root}
 use Rattle.pq_tree.specs.Outline.{Outline}
 use Rattle.pq_tree.specs.Forests.{forest}
 use Rattle.pq_tree.specs.Nodes.{IsPertinentRoot}
-use Rattle.pq_plain.specs.Laws.{RootTurnedLaw}
-use Rattle.pq_plain.specs.Templates.{empty_label, full_label, IsP2}
-use Rattle.pq_plain.specs.Chosen.{root_p2}
-use Rattle.pq_plain.specs.Reduced.{IsLabel, AreLabels, IsRootMade, IsReduced}
-use Rattle.pq_plain.specs.declared.reducer.Step.TheVariants.{Taken}
+use Rattle.template_theory.specs.Laws.{RootTurnedLaw}
+use Rattle.template_theory.specs.Templates.{empty_label, full_label, IsP2}
+use Rattle.template_theory.specs.Chosen.{root_p2}
+use Rattle.template_theory.specs.Reduced.{IsLabel, AreLabels, IsRootMade, IsReduced}
+use Rattle.template_theory.specs.declared.reducer.Step.TheVariants.{Taken}
 use Rattle.arena_model.specs.declared.Shape.TheVariants.{P}
 use Rattle.arena_model.specs.Layout.{Layout, children_at, IsInUse, IsLayout, IsAtOrAbove, here, down}
 use Rattle.arena_model.specs.NamedTree.{outline_below, outline_at, HasTwoEach}
 use Rattle.arena_model.proofs.Lists.{occurs_here}
 use Rattle.arena_model.proofs.Slots.{used_by}
 use Rattle.pq_arena.specs.declared.node.NodeId.{NodeId}
-use Rattle.bubble_pass.specs.Climb.{leaves_of, indices}
+use Rattle.pq_arena.specs.RowNodes.{column_leaves, indices}
 use Rattle.bubble_pass.specs.declared.labels.Label.TheVariants.{Full}
 use Rattle.bubble_pass.specs.Fair.{AtMost}
 use Rattle.bubble_pass.specs.Sweep.{IsRight}
 use Rattle.full_pass.specs.Answer.{IsGroup}
 use Rattle.template_model.specs.Standing.{child_trees}
-use Rattle.template_model.specs.Treated.{IsReplacedAt, StandsFor}
+use Rattle.template_model.specs.Treated.{IsReplacedAt, StandsForTree}
 use Rattle.template_model.proofs.Replaced.{child_used, join_paths}
 use Rattle.templates_p.specs.Members.{AreMembers, member_labels}
 use Rattle.row_reduce.specs.Outcome.{IsOutcome}
@@ -41,14 +41,14 @@ use Rattle.row_reduce.proofs.RowDone.{MetLaw, IsRowOver, row_over_arena, met_mos
 pub group_members : (f : Layout) (row : List ℕ) (n : ℕ) (ms : List ℕ) → IsGroup f row n ms → AreMembers f n ms
 group_members f row n ms g = record { is_p = g.is_p; once = g.once; child = g.child; two = g.two; not_all = g.not_all }
 
-module _ (f : Layout) (row : List ℕ) (n : ℕ) (ms : List ℕ) (s : IsAsked f row) (g : IsGroup f (leaves_of row) n ms) where
+module _ (f : Layout) (row : List ℕ) (n : ℕ) (ms : List ℕ) (s : IsAsked f row) (g : IsGroup f (column_leaves row) n ms) where
   pub used : IsInUse f n
   used = used_by f n P g.is_p
 
   child_in : (k : ℕ) → 1 ≤ occurs (children_at f n) k → IsInUse f k
   child_in k o = child_used f n k s.layout o
 
-  full : (k : ℕ) → 1 ≤ occurs ms k → IsRight f (leaves_of row) k Full
+  full : (k : ℕ) → 1 ≤ occurs ms k → IsRight f (column_leaves row) k Full
   full k o x a l e = g.below.filled k o x (a, e) l
 
   pub is_root : IsPertinentRoot row (outline_at f) (outline_below f n)
@@ -69,13 +69,13 @@ module _ (f : Layout) (row : List ℕ) (n : ℕ) (ms : List ℕ) (s : IsAsked f 
   made u is = subst (λ z. IsRootMade row z u) (sym (below_p f n s.layout g.is_p)) (member_labels ms (children_at f n), labels (children_at f n) (λ k o. o), root_p2 u is)
 
   pub group_reduced : (h : Layout) → RootTurnedLaw → IsLayout h → IsReplacedAt f h n n →
-      ((u : Outline) × IsP2 true (child_trees f n) (member_labels ms (children_at f n)) u × StandsFor h n u) → IsReduced row (outline_at f) (outline_at h)
+      ((u : Outline) × IsP2 true (child_trees f n) (member_labels ms (children_at f n)) u × StandsForTree h n u) → IsReduced row (outline_at f) (outline_at h)
   group_reduced h law hl r p2 =
       law row (outline_at f) (outline_below f n) p2.0 (outline_below h n) (outline_at h) is_root (made p2.0 p2.1) p2.2
       (replaced_whole (record { f_layout = s.layout; h_layout = hl; used = used; root = r.root; outside = r.outside }) (s.one n used))
 
   -- no more members than nodes that meet the row
-  pub few_members : (top a : ℕ) → IsAtOrAbove f.slots top n → AtMost f (leaves_of row) top a → length ms ≤ a
+  pub few_members : (top a : ℕ) → IsAtOrAbove f.slots top n → AtMost f (column_leaves row) top a → length ms ≤ a
   few_members top a l few = few ms g.once (λ k o. (full_meets s k (child_in k (g.child k o)) (full k o), join_paths f.slots top n k l (down n k k (g.child k o) (here k))))
 
 asked : {f : Layout} {c : ℕ} {rows : List (List ℕ)} {k : ℕ} {row : List ℕ} → IsRowOver f c rows k row → HasTwoEach f → row_at rows k ≢ [] → IsAsked f (row_at rows k)
@@ -84,14 +84,14 @@ asked {rows = rows} {k = k} s two some = let x = first_leaf (row_at rows k) some
 
 -- the row of a group is taken
 pub group_taken : {f : Layout} {c : ℕ} {rows : List (List ℕ)} {k : ℕ} {row : List ℕ} → IsRowOver f c rows k row → HasTwoEach f → row_at rows k ≢ [] → RootTurnedLaw → (n : ℕ) (ms : List ℕ) →
-    IsGroup f (leaves_of (row_at rows k)) n ms → (h : Layout) → IsLayout h → IsReplacedAt f h n n →
-    ((u : Outline) × IsP2 true (child_trees f n) (member_labels ms (children_at f n)) u × StandsFor h n u) → IsOutcome (row_at rows k) f h Taken
+    IsGroup f (column_leaves (row_at rows k)) n ms → (h : Layout) → IsLayout h → IsReplacedAt f h n n →
+    ((u : Outline) × IsP2 true (child_trees f n) (member_labels ms (children_at f n)) u × StandsForTree h n u) → IsOutcome (row_at rows k) f h Taken
 group_taken {f = f} {rows = rows} {k = k} s two some law n ms g h hl r p2 =
     (group_reduced f (row_at rows k) n ms (asked s two some) g h law hl r p2, r.one, r.columns)
 
 -- the steps of the full pass and of P2
 pub group_total : {f : Layout} {c : ℕ} {rows : List (List ℕ)} {k : ℕ} {row : List ℕ} → MetLaw → IsRowOver f c rows k row → HasTwoEach f → row_at rows k ≢ [] → (n : ℕ) (ms : List NodeId) →
-    IsGroup f (leaves_of (row_at rows k)) n (indices ms) → (few : length (row_at rows k) ≤ nodes_met (row_at rows k) (outline_at f)) → (s0 s1 s2 : ℕ) →
+    IsGroup f (column_leaves (row_at rows k)) n (indices ms) → (few : length (row_at rows k) ≤ nodes_met (row_at rows k) (outline_at f)) → (s0 s1 s2 : ℕ) →
     s1 ≤ s0 + 4 * length (row_at rows k) → s2 ≡ s1 + 2 * length ms + 2 → s2 ≤ s0 + 256 * (nodes_met (row_at rows k) (outline_at f) + 1)
 group_total {f = f} {rows = rows} {k = k} law s two some n ms g few s0 s1 s2 x y =
     let a : length (indices ms) ≤ nodes_met (row_at rows k) (outline_at f) =
@@ -101,7 +101,7 @@ group_total {f = f} {rows = rows} {k = k} law s two some n ms g few s0 s1 s2 x y
 
 -- and counted below the root
 pub group_below : {f : Layout} {c : ℕ} {rows : List (List ℕ)} {k : ℕ} {row : List ℕ} → MetLaw → IsRowOver f c rows k row → HasTwoEach f → row_at rows k ≢ [] → (n : ℕ) (ms : List NodeId) →
-    IsGroup f (leaves_of (row_at rows k)) n (indices ms) → (s0 s1 s2 : ℕ) →
+    IsGroup f (column_leaves (row_at rows k)) n (indices ms) → (s0 s1 s2 : ℕ) →
     s1 ≤ s0 + 4 * length (row_at rows k) → s2 ≡ s1 + 2 * length ms + 2 → s2 ≤ s0 + 4 * length (row_at rows k) + 252 * (nodes_met_below_root (row_at rows k) (outline_at f) + 1)
 group_below {f = f} {rows = rows} {k = k} law s two some n ms g s0 s1 s2 x y =
     let a : length (indices ms) ≤ nodes_met_below_root (row_at rows k) (outline_at f) =

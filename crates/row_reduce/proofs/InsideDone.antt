@@ -2,21 +2,21 @@
 use Rattle.std.proofs.Common.{◌≡◌, ◌≢◌, ℕ, ◌+◌, ◌-◌, ◌*◌, ◌≤◌, ◌<◌, true, false, List, [], ◌∷◌, map, length, take, sum_by, None, All, refl, sym, ap, subst, ◌∙◌, arith}
 use Rattle.std.proofs.lemmas.List.Elements.{All-cons}
 use Rattle.column_order.specs.Orders.{occurs}
-use Rattle.pq_plain.specs.Templates.{Label}
-use Rattle.pq_plain.specs.Laws.{RootTurnedLaw}
-use Rattle.pq_plain.specs.Refused.{IsRefused}
-use Rattle.pq_plain.specs.declared.reducer.Step.TheVariants.{Taken}
+use Rattle.template_theory.specs.Templates.{Label}
+use Rattle.template_theory.specs.Laws.{RootTurnedLaw}
+use Rattle.template_theory.specs.Refused.{IsRefused}
+use Rattle.template_theory.specs.declared.reducer.Step.TheVariants.{Taken}
 use Rattle.arena_model.specs.Layout.{Layout, children_at, IsLayout}
 use Rattle.arena_model.specs.NamedTree.{outline_at}
 use Rattle.arena_model.proofs.Lists.{occurs_here}
 use Rattle.pq_arena.specs.declared.node.NodeId.{NodeId}
-use Rattle.bubble_pass.specs.Climb.{indices, leaves_of}
+use Rattle.pq_arena.specs.RowNodes.{indices, column_leaves}
 use Rattle.bubble_pass.specs.Found.{Inside}
 use Rattle.bubble_pass.specs.declared.labels.Label.TheVariants.{Empty}
 use Rattle.bubble_pass.specs.Marks.{Marks, label_at, size_of}
 use Rattle.bubble_pass.specs.Pass.{node_in}
 use Rattle.bubble_pass.specs.Sweep.{full_one, partial_one}
-use Rattle.template_model.specs.Standing.{AreMarkedAs, IsInRun, IsReadyInside}
+use Rattle.template_model.specs.Standing.{AreMarkedAs, IsInMarkedRun, IsReadyInside}
 use Rattle.template_model.specs.Treated.{IsTreated, IsReplacedAt}
 use Rattle.row_reduce.specs.declared.template.Template.{Template}
 use Rattle.row_reduce.specs.declared.template.Template.TheVariants.{Q3}
@@ -41,7 +41,7 @@ all_of P [] of = λ i d l. absurd (omega arith)
 all_of P (k ∷ ks) of = All-cons P k ks (of k (occurs_here k ks)) (all_of P ks (λ x o. of x (omega arith)))
 
 -- the run as the pass left it, with any of its nodes
-run_first : {f : Layout} {v : Marks} {row : List ℕ} (s : AtFoundInside f v row) → (k : ℕ) → 1 ≤ occurs s.found.run.ks k → IsInRun f v s.found.run.q k
+run_first : {f : Layout} {v : Marks} {row : List ℕ} (s : AtFoundInside f v row) → (k : ℕ) → 1 ≤ occurs s.found.run.ks k → IsInMarkedRun f v s.found.run.q k
 run_first {f = f} {v = v} {row = row} s k o = record {
   us = run.us;
   ks = run.ks;
@@ -57,21 +57,21 @@ run_first {f = f} {v = v} {row = row} s k o = record {
   behind = all_of (λ x. label_at v x ≡ Empty) run.vs (λ j oj. outer_empty s j (omega arith));
 }
   where
-    run : Inside f (leaves_of row)
+    run : Inside f (column_leaves row)
     run = s.found.run
 
 -- the last of the labelled nodes is one of the run
-pub last_first : {f : Layout} {v : Marks} {row : List ℕ} (xs : List NodeId) → indices xs ≡ v.nodes → (s : AtFoundInside f v row) → (x : ℕ) → x ≡ node_in v (length xs - 1) → IsInRun f v s.found.run.q x
+pub last_first : {f : Layout} {v : Marks} {row : List ℕ} (xs : List NodeId) → indices xs ≡ v.nodes → (s : AtFoundInside f v row) → (x : ℕ) → x ≡ node_in v (length xs - 1) → IsInMarkedRun f v s.found.run.q x
 last_first {f = f} {v = v} xs e s x is =
     let r : LastInRun f v s.found.run.q s.found.run.ks = last_in_run s in
     let at : x ≡ node_in v (length v.nodes - 1) = is ∙ ap (λ n. node_in v (n - 1)) (items_long v xs e) in
-    subst (λ z. IsInRun f v s.found.run.q z) (sym at) (run_first s (node_in v (length v.nodes - 1)) r.in_run)
+    subst (λ z. IsInMarkedRun f v s.found.run.q z) (sym at) (run_first s (node_in v (length v.nodes - 1)) r.in_run)
 
 pub some_items : {f : Layout} {v : Marks} {row : List ℕ} (xs : List NodeId) → indices xs ≡ v.nodes → AtFoundInside f v row → 1 ≤ length xs
 some_items {f = f} {v = v} xs e s = let r : LastInRun f v s.found.run.q s.found.run.ks = last_in_run s in let some : 1 ≤ length v.nodes = r.some in omega (arith, items_long v xs e)
 
 -- Q3 may be asked for there
-pub can_ask : {f : Layout} {v : Marks} {row : List ℕ} (s : AtFoundInside f v row) → (x : ℕ) → IsInRun f v s.found.run.q x → CanAskQ3 f v x true
+pub can_ask : {f : Layout} {v : Marks} {row : List ℕ} (s : AtFoundInside f v row) → (x : ℕ) → IsInMarkedRun f v s.found.run.q x → CanAskQ3 f v x true
 can_ask s x run = record {
   at = λ no. absurd (no (s.found.inside, refl));
   inside = λ _. record {
@@ -170,10 +170,10 @@ abbrev run_step : {f g h : Layout} {v w u : Marks} {row : List ℕ} {ts : List T
     InsideNow f h v u row (placed place (node_in v (length v.nodes - 1)) a)
 run_step s = record { found = s.last.found; step = run_at s }
 
-run_in : {f g h : Layout} {v w u : Marks} {row : List ℕ} {ts : List Template} {place : ℕ → ℕ} {t : Template} {n a : ℕ} (s : RunTurn f g h v w u row ts place t n a) → IsInRun h u s.last.found.found.run.q a
+run_in : {f g h : Layout} {v w u : Marks} {row : List ℕ} {ts : List Template} {place : ℕ → ℕ} {t : Template} {n a : ℕ} (s : RunTurn f g h v w u row ts place t n a) → IsInMarkedRun h u s.last.found.found.run.q a
 run_in {f = f} {h = h} {v = v} {u = u} {place = place} {a = a} s =
     let r : LastInRun f v s.last.found.found.run.q s.last.found.found.run.ks = last_in_run s.last.found in
-    subst (λ z. IsInRun h u s.last.found.found.run.q z) (placed_here place (node_in v (length v.nodes - 1)) a) (run_now (run_step s) (node_in v (length v.nodes - 1)) r.in_run)
+    subst (λ z. IsInMarkedRun h u s.last.found.found.run.q z) (placed_here place (node_in v (length v.nodes - 1)) a) (run_now (run_step s) (node_in v (length v.nodes - 1)) r.in_run)
 
 is_meant : {f g h : Layout} {v w u : Marks} {row : List ℕ} {ts : List Template} {place : ℕ → ℕ} {t : Template} {n a : ℕ} → RunTurn f g h v w u row ts place t n a → IsRunMeant u true
 is_meant s = ((run_step s).step.applied.inside ∙ s.last.found.found.inside, refl)
@@ -196,13 +196,13 @@ run_stands {f = f} {h = h} {v = v} {u = u} s = record {
 
 -- then the row is taken
 pub run_taken : {f g h : Layout} {v w u : Marks} {row : List ℕ} {ts : List Template} {place : ℕ → ℕ} {t : Template} {n a : ℕ} → RunTurn f g h v w u row ts place t n a → RootTurnedLaw →
-    (k : Layout) → IsLayout k → (IsRunMeant u true → (q : ℕ) → IsInRun h u q a → IsReplacedAt h k q q) → (IsRunMeant u true → (q : ℕ) → IsInRun h u q a → BecomesQ3 h k u q q) → IsOutcome row f k Taken
+    (k : Layout) → IsLayout k → (IsRunMeant u true → (q : ℕ) → IsInMarkedRun h u q a → IsReplacedAt h k q q) → (IsRunMeant u true → (q : ℕ) → IsInMarkedRun h u q a → BecomesQ3 h k u q q) → IsOutcome row f k Taken
 run_taken {f = f} {h = h} {u = u} {a = a} s law k hk replaced becomes =
     let r : IsReplacedAt h k s.last.found.found.run.q s.last.found.found.run.q = replaced (is_meant s) s.last.found.found.run.q (run_in s) in
     (reduced_inside k law (run_step s) hk r (becomes (is_meant s) s.last.found.found.run.q (run_in s)), r.one, r.columns ∙ (run_step s).step.applied.columns)
 
 pub run_room : {f g h : Layout} {v w u : Marks} {row : List ℕ} {ts : List Template} {place : ℕ → ℕ} {t : Template} {n a : ℕ} → RunTurn f g h v w u row ts place t n a →
-    (k : Layout) (x : Marks) → (IsRunMeant u true → (q : ℕ) → IsInRun h u q a → AreKeptBelow h k u x q) → size_of x ≡ size_of v
+    (k : Layout) (x : Marks) → (IsRunMeant u true → (q : ℕ) → IsInMarkedRun h u q a → AreKeptBelow h k u x q) → size_of x ≡ size_of v
 run_room s k x kept = (kept (is_meant s) s.last.found.found.run.q (run_in s)).room ∙ (run_step s).step.applied.room
 
 -- the Q-node has as many labelled children as before
@@ -219,9 +219,9 @@ run_counts {f = f} {g = g} {h = h} {v = v} {w = w} {u = u} {row = row} {place = 
     omega arith
 
 pub run_ticks : {f g h : Layout} {v w u : Marks} {row : List ℕ} {ts : List Template} {place : ℕ → ℕ} {t : Template} {n a : ℕ} → RunTurn f g h v w u row ts place t n a → (xs : List NodeId) (x : ℕ) → indices xs ≡ v.nodes → x ≡ node_in v (length xs - 1) →
-    (s0 s1 s2 s3 s4 s5 : ℕ) → s1 ≤ s0 + sum_by (λ n. 25 * (labelled_at v n + 1)) v.nodes → (IsRunMeant v true → (q : ℕ) → IsInRun f v q x → s2 ≤ s1 + 4 * (labelled_in v (children_at f q) + 1)) →
+    (s0 s1 s2 s3 s4 s5 : ℕ) → s1 ≤ s0 + sum_by (λ n. 25 * (labelled_at v n + 1)) v.nodes → (IsRunMeant v true → (q : ℕ) → IsInMarkedRun f v q x → s2 ≤ s1 + 4 * (labelled_in v (children_at f q) + 1)) →
     s3 ≤ s2 + sum_by (λ n. 64 * (labelled_at v n + 1)) (take (length xs - 1) v.nodes) → s4 ≤ s3 + 64 * (labelled_at w n + 1) →
-    (IsRunMeant u true → (q : ℕ) → IsInRun h u q a → s5 ≤ s4 + 64 * (labelled_in u (children_at h q) + 1)) → s5 ≤ s0 + 178 * length v.nodes + 68
+    (IsRunMeant u true → (q : ℕ) → IsInMarkedRun h u q a → s5 ≤ s4 + 64 * (labelled_in u (children_at h q) + 1)) → s5 ≤ s0 + 178 * length v.nodes + 68
 run_ticks {f = f} {h = h} {v = v} {w = w} {u = u} {n = n} s xs x e is s0 s1 s2 s3 s4 s5 a b c d m =
     let q : ℕ = s.last.found.found.run.q in
     let b' : s2 ≤ s1 + 4 * (labelled_in v (children_at f q) + 1) = b (s.last.found.found.inside, refl) q (last_first xs e s.last.found x is) in

@@ -7,9 +7,9 @@ use Rattle.row_model.specs.Rows.{IsRow}
 use Rattle.pq_tree.specs.Outline.{q_node}
 use Rattle.pq_tree.specs.Forests.{forest}
 use Rattle.pq_tree.proofs.Turnings.{equivalent_refl}
-use Rattle.pq_plain.specs.Templates.{empty_label, full_label}
-use Rattle.pq_plain.specs.Chosen.{by_p1, by_q1, IsRootOfQ, root_p1, root_q1}
-use Rattle.pq_plain.specs.Reduced.{IsLabel, AreLabels, IsRootMade, IsReduced, no_column, by_template}
+use Rattle.template_theory.specs.Templates.{empty_label, full_label}
+use Rattle.template_theory.specs.Chosen.{by_p1, by_q1, IsRootOfQ, root_p1, root_q1}
+use Rattle.template_theory.specs.Reduced.{IsLabel, AreLabels, IsRootMade, IsReduced, no_column, by_template}
 use Rattle.arena_model.specs.declared.Shape.{Shape}
 use Rattle.arena_model.specs.declared.Shape.TheVariants.{Leaf, P, Q}
 use Rattle.arena_model.specs.Layout.{Layout, shape_at, children_at, times_child, IsGrounded, grounded, IsInUse, IsLayout, MayHaveChildren, IsAtOrAbove, here, down}
@@ -18,11 +18,11 @@ use Rattle.arena_model.proofs.Lists.{occurs_here, occurs_same, only_one}
 use Rattle.arena_model.proofs.Slots.{children_times}
 use Rattle.arena_model.proofs.Paths.{one_path}
 use Rattle.arena_model.proofs.Outlines.{apart_children}
-use Rattle.bubble_pass.specs.Climb.{leaves_of}
+use Rattle.pq_arena.specs.RowNodes.{column_leaves}
 use Rattle.bubble_pass.specs.declared.labels.Label.TheVariants.{Full}
-use Rattle.bubble_pass.specs.Found.{Holds, Meets}
+use Rattle.arena_model.specs.RowLeaves.{Holds, Meets}
 use Rattle.bubble_pass.specs.Sweep.{IsRight}
-use Rattle.full_pass.specs.Answer.{IsKept, one_node, one_run, IsSettled}
+use Rattle.full_pass.specs.Answer.{IsRowKept, one_node, one_run, IsSettled}
 use Rattle.full_pass.specs.declared.settled.Settled.TheVariants.{Kept}
 use Rattle.template_model.specs.Standing.{child_trees}
 use Rattle.template_model.proofs.Replaced.{child_used, parent_used, stays}
@@ -40,18 +40,18 @@ pub record IsAsked (f : Layout) (row : List ℕ) : Type 0 where
   pub two : HasTwoEach f
   pub is_row : IsRow f.columns row
   pub leaf : ℕ
-  pub in_row : 1 ≤ occurs (leaves_of row) leaf
+  pub in_row : 1 ≤ occurs (column_leaves row) leaf
 
 -- the leaves of the row are those below neighbouring children ks of the Q-node q
 record IsBlock (f : Layout) (row : List ℕ) (q : ℕ) (us ks vs : List ℕ) : Type 0 where
   is_q : shape_at f q ≡ Some Q
   children : children_at f q ≡ us ++ (ks ++ vs)
-  full : (k : ℕ) → 1 ≤ occurs ks k → IsRight f (leaves_of row) k Full
-  covers : (x : ℕ) → 1 ≤ occurs (leaves_of row) x → (k : ℕ) × (1 ≤ occurs ks k) × IsAtOrAbove f.slots k x
+  full : (k : ℕ) → 1 ≤ occurs ks k → IsRight f (column_leaves row) k Full
+  covers : (x : ℕ) → 1 ≤ occurs (column_leaves row) x → (k : ℕ) × (1 ≤ occurs ks k) × IsAtOrAbove f.slots k x
 
 -- a node whose leaves are all in the row is labelled full
 full_by : (f : Layout) (row : List ℕ) (n : ℕ) → IsLayout f → IsRow f.columns row → ((k : ℕ) → 1 ≤ occurs (children_at f n) k → IsLabel row (outline_below f k) full_label) →
-    (o : Option Shape) → shape_at f n ≡ o → IsInUse f n → IsRight f (leaves_of row) n Full → IsLabel row (outline_below f n) full_label
+    (o : Option Shape) → shape_at f n ≡ o → IsInUse f n → IsRight f (column_leaves row) n Full → IsLabel row (outline_below f n) full_label
 full_by f row n h r of None e used right = absurd (used e)
 full_by f row n h r of (Some (Leaf a)) e used right = subst (λ z. IsLabel row z full_label) (sym (below_leaf f n a h e)) (inl (full_leaf f row n a h r e right, refl))
 full_by f row n h r of (Some P) e used right = subst (λ z. IsLabel row z full_label) (sym (below_p f n h e))
@@ -59,11 +59,11 @@ full_by f row n h r of (Some P) e used right = subst (λ z. IsLabel row z full_l
 full_by f row n h r of (Some Q) e used right = subst (λ z. IsLabel row z full_label) (sym (below_q f n h e))
     (labels_for full_label (children_at f n), full_label, labels_each row (outline_below f) full_label (children_at f n) of, by_q1 (all_full_for (outline_below f) (children_at f n)), refl)
 
-full_from : (f : Layout) (row : List ℕ) (n : ℕ) → IsLayout f → IsRow f.columns row → IsGrounded f.slots n → IsInUse f n → IsRight f (leaves_of row) n Full → IsLabel row (outline_below f n) full_label
+full_from : (f : Layout) (row : List ℕ) (n : ℕ) → IsLayout f → IsRow f.columns row → IsGrounded f.slots n → IsInUse f n → IsRight f (column_leaves row) n Full → IsLabel row (outline_below f n) full_label
 full_from f row _ h r (grounded n below) used right =
     full_by f row n h r (λ k o. full_from f row k h r (below k o) (child_used f n k h o) (λ x a l e. right x a (down n k x o l) e)) (shape_at f n) refl used right
 
-pub full_is : (f : Layout) (row : List ℕ) (n : ℕ) → IsLayout f → IsRow f.columns row → IsInUse f n → IsRight f (leaves_of row) n Full → IsLabel row (outline_below f n) full_label
+pub full_is : (f : Layout) (row : List ℕ) (n : ℕ) → IsLayout f → IsRow f.columns row → IsInUse f n → IsRight f (column_leaves row) n Full → IsLabel row (outline_below f n) full_label
 full_is f row n h r used right = full_from f row n h r (h.grounds n) used right
 
 -- a node above one in use is in use
@@ -71,11 +71,11 @@ top_used : (f : Layout) (n x : ℕ) → IsLayout f → IsAtOrAbove f.slots n x �
 top_used f _ _ h (here n) used = used
 top_used f _ _ h (down n k x o l) used = parent_used f n k h o
 
-holder_used : {f : Layout} {row : List ℕ} → IsAsked f row → (n : ℕ) → Holds f (leaves_of row) n → IsInUse f n
+holder_used : {f : Layout} {row : List ℕ} → IsAsked f row → (n : ℕ) → Holds f (column_leaves row) n → IsInUse f n
 holder_used {f = f} {row = row} s n holds = top_used f n s.leaf s.layout (holds s.leaf s.in_row) (leaf_used f row s.leaf s.layout s.is_row s.in_row)
 
 -- a full node meets the row
-pub full_meets : {f : Layout} {row : List ℕ} → IsAsked f row → (k : ℕ) → IsInUse f k → IsRight f (leaves_of row) k Full → Meets f (leaves_of row) k
+pub full_meets : {f : Layout} {row : List ℕ} → IsAsked f row → (k : ℕ) → IsInUse f k → IsRight f (column_leaves row) k Full → Meets f (column_leaves row) k
 full_meets {f = f} s k used right = let l : LeafBelow f k = leaf_below f k s.layout s.two used in (l.x, right l.x l.column l.below l.leaf, l.below)
 
 once : (f : Layout) (n k : ℕ) → IsLayout f → occurs (children_at f n) k ≤ 1
@@ -106,18 +106,18 @@ both_above f n a b x h oa ob la lb ne = elim (one_path f a b x h la lb) [
 
 -- where two children of n are full, none holds the row
 pub none_holds : {f : Layout} {row : List ℕ} → IsAsked f row → (n : ℕ) (ks : List ℕ) → 2 ≤ length ks → ((x : ℕ) → occurs ks x ≤ 1) →
-    ((k : ℕ) → 1 ≤ occurs ks k → (1 ≤ occurs (children_at f n) k) × IsRight f (leaves_of row) k Full) → (k : ℕ) → 1 ≤ occurs (children_at f n) k → Holds f (leaves_of row) k → ⊥
+    ((k : ℕ) → 1 ≤ occurs ks k → (1 ≤ occurs (children_at f n) k) × IsRight f (column_leaves row) k Full) → (k : ℕ) → 1 ≤ occurs (children_at f n) k → Holds f (column_leaves row) k → ⊥
 none_holds {f = f} {row = row} s n ks l one full k o holds =
     let j = another ks k l one in
     let c = full j.0 j.1 in
-    let m : Meets f (leaves_of row) j.0 = full_meets s j.0 (child_used f n j.0 s.layout c.0) c.1 in
+    let m : Meets f (column_leaves row) j.0 = full_meets s j.0 (child_used f n j.0 s.layout c.0) c.1 in
     both_above f n j.0 k m.0 s.layout c.0 o m.2 (holds m.0 m.1) j.2
 
-full_child : (f : Layout) (row : List ℕ) (n k : ℕ) → IsRight f (leaves_of row) n Full → 1 ≤ occurs (children_at f n) k → IsRight f (leaves_of row) k Full
+full_child : (f : Layout) (row : List ℕ) (n k : ℕ) → IsRight f (column_leaves row) n Full → 1 ≤ occurs (children_at f n) k → IsRight f (column_leaves row) k Full
 full_child f row n k right o = λ x a l e. right x a (down n k x o l) e
 
 -- where the pertinent root stays as it is, the tree does
-stays_whole : {f : Layout} {row : List ℕ} → IsAsked f row → (q : ℕ) → IsInUse f q → Holds f (leaves_of row) q → ((k : ℕ) → 1 ≤ occurs (children_at f q) k → Holds f (leaves_of row) k → ⊥) →
+stays_whole : {f : Layout} {row : List ℕ} → IsAsked f row → (q : ℕ) → IsInUse f q → Holds f (column_leaves row) q → ((k : ℕ) → 1 ≤ occurs (children_at f q) k → Holds f (column_leaves row) k → ⊥) →
     IsRootMade row (outline_below f q) (outline_below f q) → IsReduced row (outline_at f) (outline_at f)
 stays_whole {f = f} {row = row} s q used holds least made =
     by_template (outline_below f q) (outline_below f q) (outline_at f) (root_is f row q s.layout s.one s.is_row used holds least) made (replaced_whole same (s.one q used)) (equivalent_refl (outline_at f))
@@ -126,16 +126,16 @@ stays_whole {f = f} {row = row} s q used holds least made =
     same = let r = stays f q s.layout s.one s.two used in record { f_layout = s.layout; h_layout = s.layout; used = used; root = r.root; outside = r.outside }
 
 -- a node that the row fills, and that holds it
-filled_node : {f : Layout} {row : List ℕ} → IsAsked f row → (n : ℕ) → IsRight f (leaves_of row) n Full → Holds f (leaves_of row) n → IsReduced row (outline_at f) (outline_at f)
+filled_node : {f : Layout} {row : List ℕ} → IsAsked f row → (n : ℕ) → IsRight f (column_leaves row) n Full → Holds f (column_leaves row) n → IsReduced row (outline_at f) (outline_at f)
 filled_node {f = f} {row = row} s n full holds = stays_whole s n used holds (least (shape_at f n) refl) (made (shape_at f n) refl)
   where
     used : IsInUse f n
     used = holder_used s n holds
 
-    two_each : 2 ≤ length (children_at f n) → (k : ℕ) → 1 ≤ occurs (children_at f n) k → Holds f (leaves_of row) k → ⊥
+    two_each : 2 ≤ length (children_at f n) → (k : ℕ) → 1 ≤ occurs (children_at f n) k → Holds f (column_leaves row) k → ⊥
     two_each l = none_holds s n (children_at f n) l (λ x. once f n x s.layout) (λ k o. (o, full_child f row n k full o))
 
-    least : (o : Option Shape) → shape_at f n ≡ o → (k : ℕ) → 1 ≤ occurs (children_at f n) k → Holds f (leaves_of row) k → ⊥
+    least : (o : Option Shape) → shape_at f n ≡ o → (k : ℕ) → 1 ≤ occurs (children_at f n) k → Holds f (column_leaves row) k → ⊥
     least None e k ok holds_k = used e
     least (Some (Leaf a)) e k ok holds_k = absurd (let z : 1 ≤ occurs [] k = subst (λ v. 1 ≤ occurs v k) (subst (λ v. MayHaveChildren v (children_at f n)) e (s.layout.children_fit n)) ok in omega arith)
     least (Some P) e k ok holds_k = two_each (s.two n (inl e)) k ok holds_k
@@ -160,10 +160,10 @@ filled_children {f = f} {row = row} s q us ks vs b l = stays_whole s q used hold
     count : (k : ℕ) → occurs (children_at f q) k ≡ occurs us k + occurs ks k + occurs vs k
     count k = ap (λ z. occurs z k) b.children ∙ omega (arith, occurs-append us (ks ++ vs) k, occurs-append ks vs k)
 
-    holds : Holds f (leaves_of row) q
+    holds : Holds f (column_leaves row) q
     holds x o = let k = b.covers x o in let ok : 1 ≤ occurs ks k.0 = k.1 in down q k.0 x (omega (arith, count k.0)) k.2
 
-    least : (k : ℕ) → 1 ≤ occurs (children_at f q) k → Holds f (leaves_of row) k → ⊥
+    least : (k : ℕ) → 1 ≤ occurs (children_at f q) k → Holds f (column_leaves row) k → ⊥
     least = none_holds s q ks l (λ x. let z : occurs (children_at f q) x ≤ 1 = once f q x s.layout in omega (arith, count x)) (λ k o. (omega (arith, count k), b.full k o))
 
     empty : (k : ℕ) → 1 ≤ occurs us k + occurs vs k → IsLabel row (outline_below f k) empty_label
@@ -197,7 +197,7 @@ filled_block s q us [] vs b = absurd (let k = b.covers s.leaf s.in_row in let o 
 filled_block {f = f} s q us (k ∷ []) vs b = filled_node s k (b.full k (occurs_here k [])) (λ x o. let j = b.covers x o in subst (λ z. IsAtOrAbove f.slots z x) (only_one j.0 k j.1) j.2)
 filled_block s q us (j ∷ k ∷ ks) vs b = filled_children s q us (j ∷ k ∷ ks) vs b (omega arith)
 
-kept_by : {f : Layout} {row : List ℕ} → IsAsked f row → IsKept f (leaves_of row) → IsReduced row (outline_at f) (outline_at f)
+kept_by : {f : Layout} {row : List ℕ} → IsAsked f row → IsRowKept f (column_leaves row) → IsReduced row (outline_at f) (outline_at f)
 kept_by s (one_node n full holds) = filled_node s n (λ x a l e. full x (a, e) l) holds
 kept_by s (one_run q us ks vs is_q children below) = filled_block s q us ks vs (record {
   is_q = is_q;
@@ -207,7 +207,7 @@ kept_by s (one_run q us ks vs is_q children below) = filled_block s q us ks vs (
 })
 
 -- where the full pass says that the tree keeps the row, the tree is its own reduction by the row
-pub kept_reduced : (f : Layout) (row ms : List ℕ) → IsLayout f → IsOneTree f → HasTwoEach f → IsRow f.columns row → IsSettled f (leaves_of row) ms Kept → IsReduced row (outline_at f) (outline_at f)
+pub kept_reduced : (f : Layout) (row ms : List ℕ) → IsLayout f → IsOneTree f → HasTwoEach f → IsRow f.columns row → IsSettled f (column_leaves row) ms Kept → IsReduced row (outline_at f) (outline_at f)
 kept_reduced f [] ms h one two r kept = no_column refl (equivalent_refl (outline_at f))
 kept_reduced f (a ∷ row) ms h one two r kept =
-    kept_by {row = a ∷ row} (record { layout = h; one = one; two = two; is_row = r; leaf = a - 1; in_row = occurs_here (a - 1) (leaves_of row) }) kept
+    kept_by {row = a ∷ row} (record { layout = h; one = one; two = two; is_row = r; leaf = a - 1; in_row = occurs_here (a - 1) (column_leaves row) }) kept

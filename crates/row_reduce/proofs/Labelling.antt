@@ -5,17 +5,17 @@ use Rattle.row_model.specs.Rows.{IsRow}
 use Rattle.pq_tree.specs.Outline.{Outline, Forest, leaf, p_node, q_node, no_tree, tree_and}
 use Rattle.pq_tree.specs.Forests.{forest}
 use Rattle.pq_tree.proofs.Turnings.{are_equivalent_refl}
-use Rattle.pq_plain.specs.Templates.{Partial, Label, empty_label, full_label, partial_label, IsP3, IsP5, IsQ2, AreAllFull}
-use Rattle.pq_plain.specs.Chosen.{IsLabelOfP, IsLabelOfQ, p_empty, by_p1, by_p3, by_p5, q_empty, by_q1, by_q2, IsRootOfP, IsRootOfQ, root_p1, root_p2, root_p4, root_p6, root_q1, root_q2, root_q3}
-use Rattle.pq_plain.specs.Reduced.{IsLabel, AreLabels, IsTurned}
-use Rattle.pq_plain.specs.Refused.{IsUnfit, IsUnfitRoot}
+use Rattle.template_theory.specs.Templates.{Partial, Label, empty_label, full_label, partial_label, IsP3, IsP5, IsQ2, AreAllFull}
+use Rattle.template_theory.specs.Chosen.{IsLabelOfP, IsLabelOfQ, p_empty, by_p1, by_p3, by_p5, q_empty, by_q1, by_q2, IsRootOfP, IsRootOfQ, root_p1, root_p2, root_p4, root_p6, root_q1, root_q2, root_q3}
+use Rattle.template_theory.specs.Reduced.{IsLabel, AreLabels, IsTurned}
+use Rattle.template_theory.specs.Refused.{IsUnfit, IsUnfitRoot}
 use Rattle.arena_model.specs.declared.Shape.{Shape}
 use Rattle.arena_model.specs.declared.Shape.TheVariants.{Leaf, P, Q}
 use Rattle.arena_model.specs.Layout.{Layout, shape_at, children_at, IsLayout, MayHaveChildren, IsInUse, IsAtOrAbove}
 use Rattle.arena_model.specs.NamedTree.{outline_below, HasTwoEach}
 use Rattle.arena_model.proofs.Lists.{occurs_here}
 use Rattle.arena_model.proofs.Outlines.{below_children, first_step}
-use Rattle.bubble_pass.specs.Climb.{leaves_of}
+use Rattle.pq_arena.specs.RowNodes.{column_leaves}
 use Rattle.bubble_pass.specs.declared.labels.Label.{Label as Mark}
 use Rattle.bubble_pass.specs.declared.labels.Label.TheVariants.{Empty, Partial as Partly, Full}
 use Rattle.bubble_pass.specs.Marks.{Marks, label_at}
@@ -23,7 +23,7 @@ use Rattle.bubble_pass.specs.Sweep.{IsRight}
 use Rattle.template_model.specs.Standing.{mark_of, child_trees, AreMarkedAs}
 use Rattle.row_reduce.specs.declared.template.Template.{Template}
 use Rattle.row_reduce.specs.declared.template.Template.TheVariants.{L1, P1, P2, P3, P4, P5, P6, Q1, Q2, Q3}
-use Rattle.row_reduce.specs.Fits.{Fits, IsChoice}
+use Rattle.row_reduce.specs.Fits.{TemplateFits, IsChoice}
 use Rattle.row_reduce.specs.Deciding.{IsLabelled}
 use Rattle.row_reduce.proofs.Leaves.{full_leaf, empty_is}
 use Rattle.row_reduce.proofs.Marking.{AreMarked, AreRight, marked_as, marked_at, all_full, full_marks, empty_marks, none_empty, full_children, not_all_full, not_all_empty}
@@ -33,8 +33,8 @@ pub record AtNode (f : Layout) (v : Marks) (row : List ℕ) (n : ℕ) (ps : List
   pub layout : IsLayout f
   pub two : HasTwoEach f
   pub is_row : IsRow f.columns row
-  pub leaves : (x : ℕ) → 1 ≤ occurs (leaves_of row) x → (a : ℕ) × (shape_at f x ≡ Some (Leaf a))
-  pub right : AreRight f (leaves_of row) (label_at v) n
+  pub leaves : (x : ℕ) → 1 ≤ occurs (column_leaves row) x → (a : ℕ) × (shape_at f x ≡ Some (Leaf a))
+  pub right : AreRight f (column_leaves row) (label_at v) n
   pub some : label_at v n ≢ Empty
   pub labels : AreLabels row (child_trees f n) ps
   pub marked : AreMarkedAs f v n ps
@@ -64,7 +64,7 @@ full_mark {f = f} {v = v} {row = row} {n = n} {ps = ps} c inner s = by (label_at
   where
     by : (m : Mark) → label_at v n ≡ m → label_at v n ≡ Full
     by Empty e = absurd (c.some e)
-    by Partly e = absurd (not_all_full f (leaves_of row) (label_at v) n c.right inner e (marked_at (label_at v) Full (children_at f n) ps c.marked (full_marks s refl refl)))
+    by Partly e = absurd (not_all_full f (column_leaves row) (label_at v) n c.right inner e (marked_at (label_at v) Full (children_at f n) ps c.marked (full_marks s refl refl)))
     by Full e = e
 
 -- the mark of a node whose children are not all full is partial
@@ -74,7 +74,7 @@ partial_mark {f = f} {v = v} {row = row} {n = n} {ps = ps} c other = by (label_a
     by : (m : Mark) → label_at v n ≡ m → label_at v n ≡ Partly
     by Empty e = absurd (c.some e)
     by Partly e = e
-    by Full e = absurd (other (marked_as (label_at v) Full (children_at f n) ps c.marked (full_children f (leaves_of row) (label_at v) n c.layout c.two c.right e)))
+    by Full e = absurd (other (marked_as (label_at v) Full (children_at f n) ps c.marked (full_children f (column_leaves row) (label_at v) n c.layout c.two c.right e)))
 
 pub not_full_p3 : (root : Bool) (ts : Forest) (ps : List Label) (x : Partial) → IsP3 root ts ps x → AreMarked Full ps → ⊥
 not_full_p3 root ts ps x p all = let e : tree_and p.e p.es ≡ no_tree = (none_empty p.pattern all).0 in cc
@@ -88,11 +88,11 @@ not_full_q2 f v n ps x m q all = q.not_full (all_full (outline_below f) (label_a
 not_true : IsTrue false → ⊥
 not_true e = cc
 
-pub labelled : (t : Template) {f : Layout} {v : Marks} {row : List ℕ} {n : ℕ} {ps : List Label} → AtNode f v row n ps → Fits t f v n false ps → IsLabelled f v row n
+pub labelled : (t : Template) {f : Layout} {v : Marks} {row : List ℕ} {n : ℕ} {ps : List Label} → AtNode f v row n ps → TemplateFits t f v n false ps → IsLabelled f v row n
 labelled L1 {f = f} {v = v} {row = row} {n = n} c fit = record {
   label = full_label;
   is = subst (λ z. IsLabel row z full_label) (sym (below_leaf f n fit.0.0 c.layout fit.0.1))
-      (inl (full_leaf f row n fit.0.0 c.layout c.is_row fit.0.1 (subst (λ z. IsRight f (leaves_of row) n z) fit.1 c.right.own), refl));
+      (inl (full_leaf f row n fit.0.0 c.layout c.is_row fit.0.1 (subst (λ z. IsRight f (column_leaves row) n z) fit.1 c.right.own), refl));
   marked = sym fit.1;
 }
 labelled P1 {f = f} {row = row} {n = n} {ps = ps} c fit = record {
@@ -142,17 +142,17 @@ leaf_fits {f = f} {v = v} {row = row} {n = n} c a s = by (label_at v n) refl
     by Empty e = absurd (c.some e)
     by Full e = e
     by Partly e =
-        let cut : IsRight f (leaves_of row) n Partly = subst (λ z. IsRight f (leaves_of row) n z) e c.right.own in
+        let cut : IsRight f (column_leaves row) n Partly = subst (λ z. IsRight f (column_leaves row) n z) e c.right.own in
         let i = cut.0 in let o = cut.1 in
         let same : o.0 ≡ i.0 = itself o.0 o.2 ∙ sym (itself i.0 i.1) in
-        let z : occurs (leaves_of row) o.0 ≡ 0 = o.4 in
-        let y : 1 ≤ occurs (leaves_of row) o.0 = subst (λ z. 1 ≤ occurs (leaves_of row) z) (sym same) i.2 in
+        let z : occurs (column_leaves row) o.0 ≡ 0 = o.4 in
+        let y : 1 ≤ occurs (column_leaves row) o.0 = subst (λ z. 1 ≤ occurs (column_leaves row) z) (sym same) i.2 in
         absurd (omega arith)
 
 no_label_p : {f : Layout} {v : Marks} {row : List ℕ} {n : ℕ} {ps : List Label} → AtNode f v row n ps → IsChoice f v n false None → shape_at f n ≡ Some P →
     (x : Label) → IsLabelOfP (child_trees f n) ps x → ⊥
 no_label_p {f = f} {v = v} {row = row} {n = n} {ps = ps} c none s _ (p_empty e) =
-    not_all_empty f (leaves_of row) (label_at v) n c.layout c.two c.right (p_inner f n s) c.leaves c.some (marked_at (label_at v) Empty (children_at f n) ps c.marked (empty_marks e refl refl))
+    not_all_empty f (column_leaves row) (label_at v) n c.layout c.two c.right (p_inner f n s) c.leaves c.some (marked_at (label_at v) Empty (children_at f n) ps c.marked (empty_marks e refl refl))
 no_label_p {ps = ps} c none s _ (by_p1 x) = none P1 ps c.marked (s, x)
 no_label_p {ps = ps} c none s _ (by_p3 h x) = none P3 ps c.marked (s, (h, x))
 no_label_p {ps = ps} c none s _ (by_p5 h x) = none P5 ps c.marked (s, (h, x))
@@ -160,7 +160,7 @@ no_label_p {ps = ps} c none s _ (by_p5 h x) = none P5 ps c.marked (s, (h, x))
 no_label_q : {f : Layout} {v : Marks} {row : List ℕ} {n : ℕ} {ps : List Label} → AtNode f v row n ps → IsChoice f v n false None → shape_at f n ≡ Some Q →
     (x : Label) → IsLabelOfQ (child_trees f n) ps x → ⊥
 no_label_q {f = f} {v = v} {row = row} {n = n} {ps = ps} c none s _ (q_empty e) =
-    not_all_empty f (leaves_of row) (label_at v) n c.layout c.two c.right (q_inner f n s) c.leaves c.some (marked_at (label_at v) Empty (children_at f n) ps c.marked (empty_marks e refl refl))
+    not_all_empty f (column_leaves row) (label_at v) n c.layout c.two c.right (q_inner f n s) c.leaves c.some (marked_at (label_at v) Empty (children_at f n) ps c.marked (empty_marks e refl refl))
 no_label_q {ps = ps} c none s _ (by_q1 x) = none Q1 ps c.marked (s, x)
 no_label_q {ps = ps} c none s _ (by_q2 h x) = none Q2 ps c.marked (s, (h, x))
 
@@ -215,9 +215,9 @@ labels_built f v row (k ∷ ks) of =
     }
 
 -- a node that the row misses has its label
-pub missed : (f : Layout) (v : Marks) (row : List ℕ) (k : ℕ) → IsLayout f → IsRow f.columns row → IsInUse f k → IsRight f (leaves_of row) k (label_at v k) → label_at v k ≡ Empty → IsLabelled f v row k
+pub missed : (f : Layout) (v : Marks) (row : List ℕ) (k : ℕ) → IsLayout f → IsRow f.columns row → IsInUse f k → IsRight f (column_leaves row) k (label_at v k) → label_at v k ≡ Empty → IsLabelled f v row k
 missed f v row k h r used right e = record {
   label = empty_label;
-  is = empty_is f row k h r used (subst (λ z. IsRight f (leaves_of row) k z) e right);
+  is = empty_is f row k h r used (subst (λ z. IsRight f (column_leaves row) k z) e right);
   marked = sym e;
 }

@@ -5,9 +5,9 @@ use Rattle.column_order.specs.Orders.{occurs, has}
 use Rattle.column_order.proofs.Lists.{has_from_occurs, lacks_from_occurs, occurs-append}
 use Rattle.row_model.specs.Rows.{Ascends, IsRow}
 use Rattle.pq_tree.specs.Outline.{Forest}
-use Rattle.pq_plain.specs.Templates.{Label, empty_label, AreAllEmpty, none_sorted, to_empty}
-use Rattle.pq_plain.specs.Chosen.{p_empty, q_empty}
-use Rattle.pq_plain.specs.Reduced.{IsLabel, AreLabels}
+use Rattle.template_theory.specs.Templates.{Label, empty_label, AreAllEmpty, none_sorted, to_empty}
+use Rattle.template_theory.specs.Chosen.{p_empty, q_empty}
+use Rattle.template_theory.specs.Reduced.{IsLabel, AreLabels}
 use Rattle.arena_model.specs.declared.Shape.{Shape}
 use Rattle.arena_model.specs.declared.Shape.TheVariants.{Leaf, P, Q}
 use Rattle.arena_model.specs.Layout.{Layout, shape_at, children_at, IsGrounded, grounded, IsInUse, IsLayout, IsAtOrAbove, here, down}
@@ -15,24 +15,24 @@ use Rattle.arena_model.specs.NamedTree.{NamedTree, NamedTrees, named_tree, no_na
 use Rattle.arena_model.proofs.Lists.{occurs_here, occurs_same, occurs_other}
 use Rattle.arena_model.proofs.Trees.{TreeAt, tree_at, reached}
 use Rattle.arena_model.proofs.Outlines.{below_named}
-use Rattle.bubble_pass.specs.Climb.{leaves_of}
+use Rattle.pq_arena.specs.RowNodes.{column_leaves}
 use Rattle.bubble_pass.specs.declared.labels.Label.TheVariants.{Empty, Full}
 use Rattle.bubble_pass.specs.Sweep.{IsRight}
 use Rattle.template_model.proofs.Replaced.{child_used}
 
 -- a column of the row is one more than the number of its leaf
-pub row_occurs : (c low : ℕ) (row : List ℕ) (x : ℕ) → Ascends c low row → occurs (leaves_of row) x ≡ occurs row (x + 1)
+pub row_occurs : (c low : ℕ) (row : List ℕ) (x : ℕ) → Ascends c low row → occurs (column_leaves row) x ≡ occurs row (x + 1)
 row_occurs c low [] x h = refl
 row_occurs c low (a ∷ row) x h =
-    let r : occurs (leaves_of row) x ≡ occurs row (x + 1) = row_occurs c a row x h.2 in
+    let r : occurs (column_leaves row) x ≡ occurs row (x + 1) = row_occurs c a row x h.2 in
     let some : low < a = h.0 in
     elim (cases_eq a (x + 1)) [
       | inl e ↦
-          let i : occurs ((a - 1) ∷ leaves_of row) x ≡ 1 + occurs (leaves_of row) x = subst (λ z. occurs (z ∷ leaves_of row) x ≡ 1 + occurs (leaves_of row) x) (let k : x ≡ a - 1 = omega arith in k) (occurs_same x (leaves_of row)) in
+          let i : occurs ((a - 1) ∷ column_leaves row) x ≡ 1 + occurs (column_leaves row) x = subst (λ z. occurs (z ∷ column_leaves row) x ≡ 1 + occurs (column_leaves row) x) (let k : x ≡ a - 1 = omega arith in k) (occurs_same x (column_leaves row)) in
           let j : occurs (a ∷ row) (x + 1) ≡ 1 + occurs row (x + 1) = subst (λ z. occurs (z ∷ row) (x + 1) ≡ 1 + occurs row (x + 1)) (sym e) (occurs_same (x + 1) row) in
           omega arith
       | inr ne ↦
-          let i : occurs ((a - 1) ∷ leaves_of row) x ≡ occurs (leaves_of row) x = occurs_other (a - 1) x (leaves_of row) (λ e. ne (omega arith)) in
+          let i : occurs ((a - 1) ∷ column_leaves row) x ≡ occurs (column_leaves row) x = occurs_other (a - 1) x (column_leaves row) (λ e. ne (omega arith)) in
           let j : occurs (a ∷ row) (x + 1) ≡ occurs row (x + 1) = occurs_other a (x + 1) row (λ e. ne (sym e)) in
           omega arith
     ]
@@ -71,11 +71,11 @@ record Empties (row : List ℕ) (ts : Forest) : Type 0 where
 
 mutual
   empty_named : (f : Layout) (row : List ℕ) (t : NamedTree) → IsLayout f → IsRow f.columns row → IsAt f.slots t →
-      ((x : ℕ) → 1 ≤ occurs (node_names t) x → occurs (leaves_of row) x ≡ 0) → IsLabel row (outline_named t) empty_label
+      ((x : ℕ) → 1 ≤ occurs (node_names t) x → occurs (column_leaves row) x ≡ 0) → IsLabel row (outline_named t) empty_label
   empty_named f row (named_tree n (Leaf a) ts) h r i miss =
       let l = h.no_other_leaf n a (ap (λ c. c.shape) i.0) in
       let e : a ≡ n + 1 = l.0 in
-      let z : occurs (leaves_of row) n ≡ 0 = miss n (occurs_here n (node_names_of ts)) in
+      let z : occurs (column_leaves row) n ≡ 0 = miss n (occurs_here n (node_names_of ts)) in
       let o : occurs row (n + 1) ≡ 0 = sym (row_occurs f.columns 0 row n r) ∙ z in
       inr (lacks_from_occurs row a (subst (λ y. occurs row y ≡ 0) (sym e) o), refl)
   empty_named f row (named_tree n P ts) h r i miss =
@@ -86,7 +86,7 @@ mutual
       (s.ps, empty_label, s.labels, q_empty s.all, refl)
 
   empties_named : (f : Layout) (row : List ℕ) (ts : NamedTrees) → IsLayout f → IsRow f.columns row → AreAt f.slots ts →
-      ((x : ℕ) → 1 ≤ occurs (node_names_of ts) x → occurs (leaves_of row) x ≡ 0) → Empties row (outlines_named ts)
+      ((x : ℕ) → 1 ≤ occurs (node_names_of ts) x → occurs (column_leaves row) x ≡ 0) → Empties row (outlines_named ts)
   empties_named f row no_named h r i miss = record { ps = []; labels = tt; all = none_sorted }
   empties_named f row (named_and t ts) h r i miss =
       let s : Empties row (outlines_named ts) = empties_named f row ts h r i.1 (λ x o. miss x (omega (arith, occurs-append (node_names t) (node_names_of ts) x))) in
@@ -97,20 +97,20 @@ mutual
       }
 
 -- the tree at a node that the row misses has the empty label
-pub empty_is : (f : Layout) (row : List ℕ) (k : ℕ) → IsLayout f → IsRow f.columns row → IsInUse f k → IsRight f (leaves_of row) k Empty → IsLabel row (outline_below f k) empty_label
+pub empty_is : (f : Layout) (row : List ℕ) (k : ℕ) → IsLayout f → IsRow f.columns row → IsInUse f k → IsRight f (column_leaves row) k Empty → IsLabel row (outline_below f k) empty_label
 empty_is f row k h r used right =
     let t : TreeAt f k = tree_at f k h used in
     subst (λ z. IsLabel row z empty_label) (sym (ap (outline_below f) (sym t.named) ∙ below_named f t.it h t.is))
-    (empty_named f row t.it h r t.is (λ x o. elim (cases_lt 0 (occurs (leaves_of row) x)) [
+    (empty_named f row t.it h r t.is (λ x o. elim (cases_lt 0 (occurs (column_leaves row) x)) [
       | inl l ↦ absurd (right x (subst (λ z. IsAtOrAbove f.slots z x) t.named (reached f.slots t.it x t.is o)) l)
       | inr l ↦ omega arith
     ]))
 
 -- a full leaf has its column in the row
-pub full_leaf : (f : Layout) (row : List ℕ) (n a : ℕ) → IsLayout f → IsRow f.columns row → shape_at f n ≡ Some (Leaf a) → IsRight f (leaves_of row) n Full → IsTrue (has row a)
+pub full_leaf : (f : Layout) (row : List ℕ) (n a : ℕ) → IsLayout f → IsRow f.columns row → shape_at f n ≡ Some (Leaf a) → IsRight f (column_leaves row) n Full → IsTrue (has row a)
 full_leaf f row n a h r e right =
     let l = h.no_other_leaf n a e in
     let q : a ≡ n + 1 = l.0 in
-    let o : 1 ≤ occurs (leaves_of row) n = right n a (here n) e in
-    let z : occurs (leaves_of row) n ≡ occurs row (n + 1) = row_occurs f.columns 0 row n r in
+    let o : 1 ≤ occurs (column_leaves row) n = right n a (here n) e in
+    let z : occurs (column_leaves row) n ≡ occurs row (n + 1) = row_occurs f.columns 0 row n r in
     has_from_occurs row a (subst (λ y. 1 ≤ occurs row y) (sym q) (omega arith))

@@ -6,7 +6,7 @@ use Rattle.std.proofs.lemmas.List.Sums.{sum_by-cons}
 use Rattle.arena_model.specs.ChildLists.{none}
 use Rattle.arena_model.specs.Layout.{Layout, children_at, IsLayout}
 use Rattle.pq_arena.specs.declared.node.NodeId.{NodeId}
-use Rattle.bubble_pass.specs.Climb.{indices}
+use Rattle.pq_arena.specs.RowNodes.{indices}
 use Rattle.bubble_pass.specs.declared.labels.Label.{Label as Mark}
 use Rattle.bubble_pass.specs.Marks.{Marks, label_at, fulls_at, partials_at}
 use Rattle.bubble_pass.specs.Pass.{IsRightAt, node_in}

@@ -16,8 +16,8 @@ use Rattle.arena_model.specs.NamedTree.{NamedTree, top_name, IsAt, node_names, o
 use Rattle.arena_model.proofs.Lists.{occurs_here, occurs_other}
 use Rattle.arena_model.proofs.Trees.{TreeAt, tree_at, reached}
 use Rattle.arena_model.proofs.Outlines.{below_named, below_children, leaf_times, named_below, first_step}
-use Rattle.bubble_pass.specs.Climb.{leaves_of}
-use Rattle.bubble_pass.specs.Found.{Holds}
+use Rattle.pq_arena.specs.RowNodes.{column_leaves}
+use Rattle.arena_model.specs.RowLeaves.{Holds}
 use Rattle.template_model.proofs.Replaced.{child_used}
 use Rattle.row_reduce.proofs.Leaves.{row_occurs}
 
@@ -47,25 +47,25 @@ has_below f n x h used lt l =
     let o : 1 ≤ occurs (node_names t.it) x = named_below f.slots t.it x t.is (subst (λ z. IsAtOrAbove f.slots z x) (sym t.named) l) in
     subst (λ z. IsTrue (has (leaves z) (x + 1))) (sym t.outline) (has_from_occurs (leaves (outline_named t.it)) (x + 1) (omega arith))
 
-row_leaf_of : (f : Layout) (row : List ℕ) (a : ℕ) → IsRow f.columns row → IsTrue (has row a) → (1 ≤ occurs (leaves_of row) (a - 1)) × (1 ≤ a) × (a ≤ f.columns)
+row_leaf_of : (f : Layout) (row : List ℕ) (a : ℕ) → IsRow f.columns row → IsTrue (has row a) → (1 ≤ occurs (column_leaves row) (a - 1)) × (1 ≤ a) × (a ≤ f.columns)
 row_leaf_of f row a r o =
     let i : 1 ≤ occurs row a = occurs_from_has row a o in
     let b = row_within f.columns row r a o in
     let lo : 1 ≤ a = b.0 in
     let k : a - 1 + 1 ≡ a = omega arith in
-    let e : occurs (leaves_of row) (a - 1) ≡ occurs row a = row_occurs f.columns 0 row (a - 1) r ∙ ap (λ z. occurs row z) k in
+    let e : occurs (column_leaves row) (a - 1) ≡ occurs row a = row_occurs f.columns 0 row (a - 1) r ∙ ap (λ z. occurs row z) k in
     (omega arith, lo, b.1)
 
-holds_outline : (f : Layout) (row : List ℕ) (n : ℕ) → IsLayout f → IsInUse f n → IsRow f.columns row → Holds f (leaves_of row) n → IsTrue (holds row (outline_below f n))
+holds_outline : (f : Layout) (row : List ℕ) (n : ℕ) → IsLayout f → IsInUse f n → IsRow f.columns row → Holds f (column_leaves row) n → IsTrue (holds row (outline_below f n))
 holds_outline f row n h used r hn = holds_from row (outline_below f n) (λ a o.
     let i = row_leaf_of f row a r o in
     let lo : 1 ≤ a = i.1 in let hi : a ≤ f.columns = i.2 in
     let k : a - 1 + 1 ≡ a = omega arith in
     subst (λ z. IsTrue (has (leaves (outline_below f n)) z)) k (has_below f n (a - 1) h used (omega arith) (hn (a - 1) i.0)))
 
-outline_holds : (f : Layout) (row : List ℕ) (n : ℕ) → IsLayout f → IsInUse f n → IsRow f.columns row → IsTrue (holds row (outline_below f n)) → Holds f (leaves_of row) n
+outline_holds : (f : Layout) (row : List ℕ) (n : ℕ) → IsLayout f → IsInUse f n → IsRow f.columns row → IsTrue (holds row (outline_below f n)) → Holds f (column_leaves row) n
 outline_holds f row n h used r o = λ x ox.
-    let e : occurs (leaves_of row) x ≡ occurs row (x + 1) = row_occurs f.columns 0 row x r in
+    let e : occurs (column_leaves row) x ≡ occurs row (x + 1) = row_occurs f.columns 0 row x r in
     let i : IsTrue (has row (x + 1)) = has_from_occurs row (x + 1) (omega arith) in
     let b = row_within f.columns row r (x + 1) i in
     let le : x + 1 ≤ f.columns = b.1 in
@@ -121,7 +121,7 @@ node_below_it f p n h used l ne = elim (first_step f.slots p n l) [
   | inr s ↦ node_of_children f p n s.0 (outline_below f n) h used s.1 (node_at_or_above f s.0 n h (child_used f p s.0 h s.1) s.2)
 ]
 
-none_holds : (f : Layout) (row ks : List ℕ) → IsLayout f → IsRow f.columns row → ((k : ℕ) → 1 ≤ occurs ks k → IsInUse f k × (Holds f (leaves_of row) k → ⊥)) → NoneHolds row (forest (map (outline_below f) ks))
+none_holds : (f : Layout) (row ks : List ℕ) → IsLayout f → IsRow f.columns row → ((k : ℕ) → 1 ≤ occurs ks k → IsInUse f k × (Holds f (column_leaves row) k → ⊥)) → NoneHolds row (forest (map (outline_below f) ks))
 none_holds f row [] h r nothing = tt
 none_holds f row (k ∷ ks) h r nothing = (
   elim (cases_Bool (holds row (outline_below f k))) [
@@ -131,8 +131,8 @@ none_holds f row (k ∷ ks) h r nothing = (
   none_holds f row ks h r (λ j o. nothing j (omega arith)),
 )
 
-pub root_is : (f : Layout) (row : List ℕ) (q : ℕ) → IsLayout f → IsOneTree f → IsRow f.columns row → IsInUse f q → Holds f (leaves_of row) q →
-    ((k : ℕ) → 1 ≤ occurs (children_at f q) k → Holds f (leaves_of row) k → ⊥) → IsPertinentRoot row (outline_at f) (outline_below f q)
+pub root_is : (f : Layout) (row : List ℕ) (q : ℕ) → IsLayout f → IsOneTree f → IsRow f.columns row → IsInUse f q → Holds f (column_leaves row) q →
+    ((k : ℕ) → 1 ≤ occurs (children_at f q) k → Holds f (column_leaves row) k → ⊥) → IsPertinentRoot row (outline_at f) (outline_below f q)
 root_is f row q h one r used holds_q least = record {
   node = node_at_or_above f f.root q h h.root_used (one q used);
   whole = holds_outline f row q h used r holds_q;

@@ -8,18 +8,18 @@ use Rattle.pq_tree.specs.Forests.{forest, trees, join, back}
 use Rattle.pq_tree.specs.Equivalent.{IsEquivalent, AreEquivalent}
 use Rattle.pq_tree.proofs.Forests.{forest-trees, forest_append, forest_reverse, map-reverse}
 use Rattle.pq_tree.proofs.Turnings.{equivalent_refl}
-use Rattle.pq_plain.specs.Templates.{Partial, Label, partial_label, line}
-use Rattle.pq_plain.specs.Chosen.{IsRootOfP, IsRootOfQ, root_p1, root_p2, root_p4, root_p6, root_q1, root_q2, root_q3}
-use Rattle.pq_plain.specs.Reduced.{AreLabels, IsTurned, IsRootMade}
+use Rattle.template_theory.specs.Templates.{Partial, Label, partial_label, line}
+use Rattle.template_theory.specs.Chosen.{IsRootOfP, IsRootOfQ, root_p1, root_p2, root_p4, root_p6, root_q1, root_q2, root_q3}
+use Rattle.template_theory.specs.Reduced.{AreLabels, IsTurned, IsRootMade}
 use Rattle.arena_model.specs.declared.Shape.TheVariants.{Leaf, P, Q}
 use Rattle.arena_model.specs.Layout.{Layout, shape_at, IsLayout}
 use Rattle.arena_model.specs.NamedTree.{outline_below}
 use Rattle.bubble_pass.specs.Marks.{Marks}
 use Rattle.template_model.specs.Standing.{child_trees, IsShapeAt}
-use Rattle.template_model.specs.Treated.{StandsFor, StandsForPartial}
+use Rattle.template_model.specs.Treated.{StandsForTree, StandsForPartial}
 use Rattle.row_reduce.specs.declared.template.Template.{Template}
 use Rattle.row_reduce.specs.declared.template.Template.TheVariants.{L1, P1, P2, P3, P4, P5, P6, Q1, Q2, Q3}
-use Rattle.row_reduce.specs.Fits.{Fits}
+use Rattle.row_reduce.specs.Fits.{TemplateFits}
 use Rattle.row_reduce.specs.Becomes.{IsMade, IsSame}
 use Rattle.row_reduce.proofs.Agree.{Agree, agree_sym, agree_same, p2_moved, p4_moved, p6_moved, q2_moved, q3_moved}
 use Rattle.row_reduce.proofs.Labelling.{below_p, below_q, below_leaf}
@@ -80,7 +80,7 @@ same_tree {f = f} {g = g} {h = h} {q = q} {a = a} s made e =
 not_false : IsFalse true → ⊥
 not_false e = cc
 
-p_made : {f g h : Layout} {v w u : Marks} {row : List ℕ} {q a : ℕ} {ps : List Label} → AtRoot f g h v w u row q a ps → shape_at f q ≡ Some P → (x : Outline) → IsRootOfP (child_trees f q) ps x → StandsFor h a x → RootMade f row q h a
+p_made : {f g h : Layout} {v w u : Marks} {row : List ℕ} {q a : ℕ} {ps : List Label} → AtRoot f g h v w u row q a ps → shape_at f q ≡ Some P → (x : Outline) → IsRootOfP (child_trees f q) ps x → StandsForTree h a x → RootMade f row q h a
 p_made {f = f} {row = row} {q = q} {ps = ps} s e x by st = record {
   tree = x;
   made = subst (λ z. IsRootMade row z x) (sym (below_p f q s.f_layout e)) (ps, s.labels, by);
@@ -98,7 +98,7 @@ q_made {f = f} {row = row} {q = q} {ps = ps} s e x by st = record {
 abbrev pub IsLeafIn : List ℕ → Layout → ℕ → Type 0
 IsLeafIn row f q = (b : ℕ) → shape_at f q ≡ Some (Leaf b) → IsTrue (has row b)
 
-pub root_made : (t : Template) {f g h : Layout} {v w u : Marks} {row : List ℕ} {q a : ℕ} {ps : List Label} → AtRoot f g h v w u row q a ps → IsLeafIn row f q → Fits t f v q true ps → IsMade t g h w u q a ps → RootMade f row q h a
+pub root_made : (t : Template) {f g h : Layout} {v w u : Marks} {row : List ℕ} {q a : ℕ} {ps : List Label} → AtRoot f g h v w u row q a ps → IsLeafIn row f q → TemplateFits t f v q true ps → IsMade t g h w u q a ps → RootMade f row q h a
 root_made L1 {f = f} {g = g} {h = h} {row = row} {q = q} {a = a} s m fit made = record {
   tree = leaf fit.0.0;
   made = subst (λ z. IsRootMade row z (leaf fit.0.0)) (sym (below_leaf f q fit.0.0 s.f_layout fit.0.1)) (m fit.0.0 fit.0.1, refl);

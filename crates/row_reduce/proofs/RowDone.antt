@@ -14,13 +14,13 @@ use Rattle.pq_tree.proofs.Nodes.{holds_above, pertinent_root_is, pertinent_root_
 use Rattle.pq_tree.specs.Proper.{IsProper}
 use Rattle.pq_tree.proofs.Turnings.{equivalent_refl}
 use Rattle.tied_law.specs.Tied.{IsTied}
-use Rattle.pq_plain.specs.Reduced.{no_column}
-use Rattle.pq_plain.specs.declared.reducer.Step.TheVariants.{Taken}
+use Rattle.template_theory.specs.Reduced.{no_column}
+use Rattle.template_theory.specs.declared.reducer.Step.TheVariants.{Taken}
 use Rattle.arena_model.specs.Layout.{Layout, IsLayout, IsInUse}
 use Rattle.arena_model.specs.NamedTree.{IsOneTree, HasTwoEach, outline_at, outline_below}
 use Rattle.arena_model.proofs.Lists.{few_once, occurs_here}
 use Rattle.arena_model.proofs.Slots.{in_range}
-use Rattle.bubble_pass.specs.Climb.{leaves_of}
+use Rattle.pq_arena.specs.RowNodes.{column_leaves}
 use Rattle.bubble_pass.specs.Fair.{AtMost}
 use Rattle.bubble_pass.specs.Marks.{Marks, size_of}
 use Rattle.bubble_pass.specs.Pass.{FoundRoot, FoundInside}
@@ -101,10 +101,10 @@ nodes_room {f = f} {v = v} {q = q} s = few_once v.nodes (length f.slots) s.marke
 
 -- no more nodes meet a row than the tree counts
 abbrev pub MetLaw : Type 0
-MetLaw = (f : Layout) (row : List ℕ) (n : ℕ) → IsLayout f → IsInUse f n → IsRow f.columns row → AtMost f (leaves_of row) n (nodes_met row (outline_below f n))
+MetLaw = (f : Layout) (row : List ℕ) (n : ℕ) → IsLayout f → IsInUse f n → IsRow f.columns row → AtMost f (column_leaves row) n (nodes_met row (outline_below f n))
 
 pub met_most : {f : Layout} {c : ℕ} {rows : List (List ℕ)} {k : ℕ} {row : List ℕ} → MetLaw → IsRowOver f c rows k row →
-    AtMost f (leaves_of (row_at rows k)) f.root (nodes_met (row_at rows k) (outline_at f))
+    AtMost f (column_leaves (row_at rows k)) f.root (nodes_met (row_at rows k) (outline_at f))
 met_most {f = f} {rows = rows} {k = k} law s = law f (row_at rows k) f.root s.layout s.layout.root_used (subst (λ z. IsRow z (row_at rows k)) (sym s.columns) (is_row_at s))
 
 pub row_over_arena : {f : Layout} {c : ℕ} {rows : List (List ℕ)} {k : ℕ} {row : List ℕ} → IsRowOver f c rows k row → IsRow f.columns (row_at rows k)
@@ -122,9 +122,9 @@ pertinent_is c row t x proper some r =
 
 -- no more nodes at or below the pertinent root meet the row than the tree counts there
 pub met_below : {f : Layout} {c : ℕ} {rows : List (List ℕ)} {k : ℕ} {row : List ℕ} → MetLaw → IsRowOver f c rows k row → row_at rows k ≢ [] → (q : ℕ) → IsInUse f q →
-    IsPertinentRoot (row_at rows k) (outline_at f) (outline_below f q) → AtMost f (leaves_of (row_at rows k)) q (nodes_met_below_root (row_at rows k) (outline_at f))
+    IsPertinentRoot (row_at rows k) (outline_at f) (outline_below f q) → AtMost f (column_leaves (row_at rows k)) q (nodes_met_below_root (row_at rows k) (outline_at f))
 met_below {f = f} {c = c} {rows = rows} {k = k} law s some q used r =
-    subst (λ z. AtMost f (leaves_of (row_at rows k)) q (nodes_met (row_at rows k) z)) (sym (pertinent_is c (row_at rows k) (outline_at f) (outline_below f q) s.proper some r))
+    subst (λ z. AtMost f (column_leaves (row_at rows k)) q (nodes_met (row_at rows k) z)) (sym (pertinent_is c (row_at rows k) (outline_at f) (outline_below f q) s.proper some r))
     (law f (row_at rows k) q s.layout used (row_over_arena s))
 
 pub root_below : {f : Layout} {v : Marks} {c : ℕ} {rows : List (List ℕ)} {k : ℕ} {row : List ℕ} {q : ℕ} → MetLaw → IsRowOver f c rows k row → AtFoundRoot f v (row_at rows k) q → (s0 s1 s2 : ℕ) →
@@ -142,22 +142,22 @@ inside_below {f = f} {v = v} {rows = rows} {k = k} law s found s0 s1 s2 x y =
     omega arith
 
 -- what the pass has found in the arena, which it leaves as it is
-pub root_found : {f : Layout} {v : Marks} {row : List ℕ} (g : Layout) → IsMarkedRow f v row → g ≡ f → (q : ℕ) → FoundRoot f (leaves_of row) v q → AtFoundRoot g v row q
+pub root_found : {f : Layout} {v : Marks} {row : List ℕ} (g : Layout) → IsMarkedRow f v row → g ≡ f → (q : ℕ) → FoundRoot f (column_leaves row) v q → AtFoundRoot g v row q
 root_found {v = v} {row = row} g s e q found = subst (λ z. AtFoundRoot z v row q) (sym e) (at_found_root s q found)
 
-pub inside_found : {f : Layout} {v : Marks} {row : List ℕ} (g : Layout) → IsMarkedRow f v row → g ≡ f → FoundInside f (leaves_of row) v → AtFoundInside g v row
+pub inside_found : {f : Layout} {v : Marks} {row : List ℕ} (g : Layout) → IsMarkedRow f v row → g ≡ f → FoundInside f (column_leaves row) v → AtFoundInside g v row
 inside_found {v = v} {row = row} g s e found = subst (λ z. AtFoundInside z v row) (sym e) (at_found_inside s found)
 
-pub root_total : {f : Layout} {v : Marks} {row : List ℕ} {q : ℕ} (a : ℕ) → AtFoundRoot f v row q → AtMost f (leaves_of row) f.root a → (s0 s1 s2 : ℕ) → s1 ≤ s0 + 24 * (a + 1) → s2 ≤ s1 + 178 * length v.nodes →
+pub root_total : {f : Layout} {v : Marks} {row : List ℕ} {q : ℕ} (a : ℕ) → AtFoundRoot f v row q → AtMost f (column_leaves row) f.root a → (s0 s1 s2 : ℕ) → s1 ≤ s0 + 24 * (a + 1) → s2 ≤ s1 + 178 * length v.nodes →
     s2 ≤ s0 + 252 * (a + 1)
 root_total {v = v} a s most s0 s1 s2 x y = let few : length v.nodes ≤ a = root_few a s most in omega arith
 
-pub inside_total : {f : Layout} {v : Marks} {row : List ℕ} (a : ℕ) → AtFoundInside f v row → AtMost f (leaves_of row) f.root a → (s0 s1 s2 : ℕ) → s1 ≤ s0 + 24 * (a + 1) → s2 ≤ s1 + (178 * length v.nodes + 68) →
+pub inside_total : {f : Layout} {v : Marks} {row : List ℕ} (a : ℕ) → AtFoundInside f v row → AtMost f (column_leaves row) f.root a → (s0 s1 s2 : ℕ) → s1 ≤ s0 + 24 * (a + 1) → s2 ≤ s1 + (178 * length v.nodes + 68) →
     s2 ≤ s0 + 252 * (a + 1)
 inside_total {v = v} a s most s0 s1 s2 x y = let few : length v.nodes ≤ a = inside_few a s most in omega arith
 
 -- a row that the full pass says to keep leaves the tree as it is
-pub kept_taken : {f : Layout} {c : ℕ} {rows : List (List ℕ)} {k : ℕ} {row : List ℕ} → IsRowOver f c rows k row → HasTwoEach f → (members : List ℕ) → IsSettled f (leaves_of (row_at rows k)) members Kept →
+pub kept_taken : {f : Layout} {c : ℕ} {rows : List (List ℕ)} {k : ℕ} {row : List ℕ} → IsRowOver f c rows k row → HasTwoEach f → (members : List ℕ) → IsSettled f (column_leaves (row_at rows k)) members Kept →
     IsOutcome (row_at rows k) f f Taken
 kept_taken {f = f} {rows = rows} {k = k} s two members settled = (kept_reduced f (row_at rows k) members s.layout s.one two (row_over_arena s) settled, s.one, refl)
 

@@ -2,9 +2,9 @@
 use Rattle.std.proofs.Common.{◌≡◌, ℕ, ◌+◌, ◌*◌, List, length, sym, ap, subst, ◌∙◌, arith}
 use Rattle.row_model.specs.Graph.{row_at}
 use Rattle.pq_tree.specs.Proper.{universal, IsProper}
-use Rattle.pq_plain.specs.Reduced.{IsReduced}
-use Rattle.pq_plain.specs.declared.reducer.Step.{Step}
-use Rattle.pq_plain.specs.declared.reducer.Step.TheVariants.{Taken, Refused}
+use Rattle.template_theory.specs.Reduced.{IsReduced}
+use Rattle.template_theory.specs.declared.reducer.Step.{Step}
+use Rattle.template_theory.specs.declared.reducer.Step.TheVariants.{Taken, Refused}
 use Rattle.arena_model.specs.Layout.{Layout, IsLayout}
 use Rattle.arena_model.specs.NamedTree.{IsOneTree, outline_at}
 use Rattle.row_reduce.specs.Outcome.{IsRowOutcome}

@@ -13,11 +13,11 @@ use Rattle.pq_tree.specs.Proper.{IsProper}
 use Rattle.pq_tree.proofs.Frontiers.{leaves_are_frontier}
 use Rattle.tied_law.specs.Tied.{IsTied}
 use Rattle.tied_law.proofs.Exact.{tied_law}
-use Rattle.pq_plain.specs.Laws.{KeptLaw, DecidedLaw, RefusedLaw}
-use Rattle.pq_plain.specs.Reduced.{IsReduced}
-use Rattle.pq_plain.specs.Refused.{IsRefused}
-use Rattle.pq_plain.specs.declared.reducer.Step.{Step}
-use Rattle.pq_plain.specs.declared.reducer.Step.TheVariants.{Taken, Refused}
+use Rattle.template_theory.specs.Laws.{KeptLaw, DecidedLaw, RefusedLaw}
+use Rattle.template_theory.specs.Reduced.{IsReduced}
+use Rattle.template_theory.specs.Refused.{IsRefused}
+use Rattle.template_theory.specs.declared.reducer.Step.{Step}
+use Rattle.template_theory.specs.declared.reducer.Step.TheVariants.{Taken, Refused}
 use Rattle.arena_model.specs.Layout.{Layout}
 use Rattle.arena_model.specs.NamedTree.{outline_at}
 use Rattle.row_reduce.specs.Outcome.{IsOutcome, IsRowOutcome}

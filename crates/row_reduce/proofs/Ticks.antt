@@ -9,7 +9,7 @@ use Rattle.arena_model.specs.Layout.{Layout, children_at, times_child, IsLayout,
 use Rattle.arena_model.proofs.Lists.{occurs_here, occurs_same, occurs_other, SplitAt, split_at}
 use Rattle.arena_model.proofs.Slots.{children_times}
 use Rattle.arena_model.proofs.Paths.{one_parent}
-use Rattle.bubble_pass.specs.Climb.{leaves_of}
+use Rattle.pq_arena.specs.RowNodes.{column_leaves}
 use Rattle.bubble_pass.specs.Fair.{AtMost}
 use Rattle.bubble_pass.specs.declared.labels.Label.{Label as Mark}
 use Rattle.bubble_pass.specs.declared.labels.Label.TheVariants.{Empty, Partial, Full}
@@ -171,11 +171,11 @@ children_few_inside {f = f} {v = v} {row = row} {q = q} s e =
     omega (arith, labelled_length v (children_at f q))
 
 -- where each label is right, the labelled nodes are no more than the nodes at and below q that meet the row
-pub nodes_few : {f : Layout} {v : Marks} {row : List ℕ} {q : ℕ} (a : ℕ) → IsGround f v row q → ((n : ℕ) → label_at v n ≢ Empty → IsRight f (leaves_of row) n (label_at v n)) → AtMost f (leaves_of row) q a → length v.nodes ≤ a
+pub nodes_few : {f : Layout} {v : Marks} {row : List ℕ} {q : ℕ} (a : ℕ) → IsGround f v row q → ((n : ℕ) → label_at v n ≢ Empty → IsRight f (column_leaves row) n (label_at v n)) → AtMost f (column_leaves row) q a → length v.nodes ≤ a
 nodes_few {f = f} {v = v} {row = row} {q = q} a s right most = most v.nodes s.marked.once (λ x o.
     let some : label_at v x ≢ Empty = s.marked.listed x o in
     let l : IsAtOrAbove f.slots q x = labelled_below s x some in
-    let m = meets_row f (leaves_of row) x (label_at v x) s.layout s.two (below_used f q x s.layout s.used l) (right x some) some in
+    let m = meets_row f (column_leaves row) x (label_at v x) s.layout s.two (below_used f q x s.layout s.used l) (right x some) some in
     ((m.0, m.2, m.1), l))
 
 asked : (v : Marks) (ns : List ℕ) → sum_by (λ x. 25 * (labelled_at v x + 1)) ns ≡ 25 * (sum_by (λ n. labelled_at v n) ns + length ns)

@@ -3,7 +3,7 @@ use Rattle.std.specs.Prelude.{◌≡◌, ℕ, List, length}
 use Rattle.row_model.specs.Rows.{IsRow}
 use Rattle.arena_model.specs.Layout.{Layout, IsInUse, IsLayout}
 use Rattle.arena_model.specs.NamedTree.{IsOneTree, HasTwoEach}
-use Rattle.bubble_pass.specs.Climb.{leaves_of}
+use Rattle.pq_arena.specs.RowNodes.{column_leaves}
 use Rattle.bubble_pass.specs.Marks.{Marks, size_of}
 use Rattle.bubble_pass.specs.Pass.{AreMarked}
 
@@ -15,4 +15,4 @@ pub record IsGround (f : Layout) (v : Marks) (row : List ℕ) (q : ℕ) : Type 0
   pub is_row : IsRow f.columns row
   pub room : size_of v ≡ length f.slots
   pub used : IsInUse f q
-  pub marked : AreMarked f (leaves_of row) v q
+  pub marked : AreMarked f (column_leaves row) v q

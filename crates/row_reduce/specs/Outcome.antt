@@ -4,13 +4,13 @@ use Rattle.column_order.specs.Orders.{HasValidOrder}
 use Rattle.row_model.specs.Graph.{row_at, HasConflict}
 use Rattle.pq_tree.specs.Proper.{IsProper}
 use Rattle.tied_law.specs.Tied.{IsTied}
-use Rattle.pq_plain.specs.Reduced.{IsReduced}
-use Rattle.pq_plain.specs.Refused.{IsRefused}
-use Rattle.pq_plain.specs.declared.reducer.Step.{Step}
-use Rattle.pq_plain.specs.declared.reducer.Step.TheVariants.{Taken, Refused}
+use Rattle.template_theory.specs.Reduced.{IsReduced}
+use Rattle.template_theory.specs.Refused.{IsRefused}
+use Rattle.template_theory.specs.declared.reducer.Step.{Step}
+use Rattle.template_theory.specs.declared.reducer.Step.TheVariants.{Taken, Refused}
 use Rattle.arena_model.specs.Layout.{Layout}
 use Rattle.arena_model.specs.NamedTree.{IsOneTree, outline_at}
-use Rattle.bubble_pass.specs.Climb.{leaves_of}
+use Rattle.pq_arena.specs.RowNodes.{column_leaves}
 use Rattle.bubble_pass.specs.Marks.{Marks}
 use Rattle.bubble_pass.specs.Pass.{FoundRoot, FoundInside}
 use Rattle.row_reduce.specs.Ground.{IsGround}
@@ -23,12 +23,12 @@ IsOutcome row f g Refused = IsRefused row (outline_at f) × (g ≡ f)
 -- the pass has found the pertinent root q
 pub record AtFoundRoot (f : Layout) (v : Marks) (row : List ℕ) (q : ℕ) : Type 0 where
   pub ground : IsGround f v row q
-  pub found : FoundRoot f (leaves_of row) v q
+  pub found : FoundRoot f (column_leaves row) v q
   pub some : row ≢ []
 
 -- the pass has found a run of inner children of a Q-node
 pub record AtFoundInside (f : Layout) (v : Marks) (row : List ℕ) : Type 0 where
-  pub found : FoundInside f (leaves_of row) v
+  pub found : FoundInside f (column_leaves row) v
   pub ground : IsGround f v row found.run.q
   pub some : row ≢ []
 

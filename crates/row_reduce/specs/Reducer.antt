@@ -11,7 +11,7 @@ abbrev pub arena_of : Inside → Layout
 arena_of a = a.arena
 
 -- a proper tree, and room for the nodes of the arena
-pub record IsKept (a : Inside) : Type 0 where
+pub record IsReducerKept (a : Inside) : Type 0 where
   pub one : IsOneTree a.arena
   pub proper : IsProper a.arena.columns (outline_at a.arena)
   pub full : a.full.size ≡ length a.arena.slots

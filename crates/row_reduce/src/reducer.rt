@@ -5,8 +5,8 @@ ghost use Rattle.row_model.specs.Graph.{row_at, HasConflict};
 ghost use Rattle.pq_tree.specs.Amortised.{nodes_met, nodes_met_below_root};
 ghost use Rattle.pq_tree.specs.Proper.{universal, IsProper};
 ghost use Rattle.tied_law.specs.Tied.{IsTied};
-ghost use Rattle.pq_plain.specs.Reduced.{IsReduced};
-ghost use Rattle.pq_plain.specs.Frugal.{IsFrugal};
+ghost use Rattle.template_theory.specs.Reduced.{IsReduced};
+ghost use Rattle.template_theory.specs.Frugal.{IsFrugal};
 ghost use Rattle.arena_model.specs.NamedTree.{outline_at};
 
 use crate::pace::Pace;
@@ -15,14 +15,13 @@ use crate::template::Template;
 use bubble_pass::Work;
 use full_pass::FullWork;
 use pq_arena::Arena;
-use pq_plain::{Reducer, Step};
 use pq_tree::PqTree;
 use row_model::{COLUMN_BOUND, Matrix, NoMemory};
 use std::alloc::Global;
 use std::marker::Model;
 use step_count::{Ledger, Steps};
+use template_theory::{Reducer, Step, ticks_law};
 use tied_law::{equivalent_law, universal_law};
-use total_work::ticks_law;
 
 /// A reducer whose tree stands in an arena. Each row is reduced in place, and looks at no more nodes than
 /// the row meets, up to a factor. A refused row changes nothing: the templates of all nodes are chosen
@@ -30,7 +29,6 @@ use total_work::ticks_law;
 ///
 /// [`new`](ArenaReducer::new) takes all memory that rows need, and [`tree`](Reducer::tree)
 /// that of the tree that it gives.
-#[derive(Drop)]
 pub struct ArenaReducer {
     arena: Arena,
     pace: Pace,
@@ -39,16 +37,29 @@ pub struct ArenaReducer {
     chosen: Vec<Template>,
 }
 
+// By hand, since a derived drop is taken apart wherever a reducer lives over a `?`, which makes the proofs above slow.
+impl Drop for ArenaReducer {
+    fn drop(self) {
+        let ArenaReducer {
+            arena: _arena,
+            pace: _pace,
+            full: _full,
+            work: _work,
+            chosen: _chosen,
+        } = self;
+    }
+}
+
 impl Model for ArenaReducer {
     ghost use Rattle.arena_model.specs.Layout.{Layout};
 
     ghost Value = { Layout };
 
-    ghost use Rattle.row_reduce.specs.Reducer.{arena_of, IsKept};
+    ghost use Rattle.row_reduce.specs.Reducer.{arena_of, IsReducerKept};
 
     ghost view = { arena_of };
 
-    ghost invariant = { IsKept };
+    ghost invariant = { IsReducerKept };
 }
 
 impl ArenaReducer {

@@ -15,9 +15,9 @@ use crate::template::Template;
 use bubble_pass::{Found, Work, bubble, met_law};
 use full_pass::{FullWork, Settled, settle};
 use pq_arena::{Arena, NodeId};
-use pq_plain::{Step, reduce_law, turned_law};
 use row_model::Matrix;
 use step_count::{Ledger, Steps};
+use template_theory::{Step, reduce_law, turned_law};
 use templates_p::apply_p2_to;
 use templates_q::{apply_q3, fits_q3};
 

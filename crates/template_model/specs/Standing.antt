@@ -3,7 +3,7 @@ use Rattle.std.specs.Prelude.{◌≡◌, ◌≢◌, ◌⊎◌, ℕ, ◌≤◌, t
 use Rattle.column_order.specs.Orders.{occurs}
 use Rattle.pq_tree.specs.Outline.{Forest}
 use Rattle.pq_tree.specs.Proper.{forest}
-use Rattle.pq_plain.specs.Templates.{Partial, Label, empty_label, full_label, partial_label}
+use Rattle.template_theory.specs.Templates.{Partial, Label, empty_label, full_label, partial_label}
 use Rattle.arena_model.specs.declared.Shape.TheVariants.{Q}
 use Rattle.arena_model.specs.Layout.{Layout, shape_at, children_at, IsInUse}
 use Rattle.arena_model.specs.NamedTree.{outline_below, IsOneTree, HasTwoEach}
@@ -58,7 +58,7 @@ pub record IsReady (f : Layout) (w : Marks) (n : ℕ) : Type 0 where
   pub right : IsRightAt f w n
 
 -- the node n is one of a run ks of marked inner children of the Q-node q, which has no other marked child
-pub record IsInRun (f : Layout) (w : Marks) (q n : ℕ) : Type 0 where
+pub record IsInMarkedRun (f : Layout) (w : Marks) (q n : ℕ) : Type 0 where
   pub us : List ℕ
   pub ks : List ℕ
   pub vs : List ℕ
@@ -79,4 +79,4 @@ pub record IsReadyInside (f : Layout) (w : Marks) (n : ℕ) : Type 0 where
   pub room : size_of w ≡ length f.slots
   pub inside : w.inside ≡ true
   pub q : ℕ
-  pub run : IsInRun f w q n
+  pub run : IsInMarkedRun f w q n

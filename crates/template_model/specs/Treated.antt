@@ -4,8 +4,8 @@ use Rattle.column_order.specs.Orders.{occurs}
 use Rattle.arena_model.specs.declared.Shape.TheVariants.{Leaf}
 use Rattle.pq_tree.specs.Outline.{Outline}
 use Rattle.pq_tree.specs.Equivalent.{IsEquivalent}
-use Rattle.pq_plain.specs.Templates.{Partial, partial_label}
-use Rattle.pq_plain.specs.Reduced.{IsTurned}
+use Rattle.template_theory.specs.Templates.{Partial, partial_label}
+use Rattle.template_theory.specs.Reduced.{IsTurned}
 use Rattle.arena_model.specs.ChildLists.{with_replaced}
 use Rattle.arena_model.specs.Layout.{Layout, shape_at, children_at, IsAtOrAbove, IsInUse}
 use Rattle.arena_model.specs.NamedTree.{outline_below, IsOneTree, HasTwoEach}
@@ -49,8 +49,8 @@ pub record IsTreated (f g : Layout) (v w : Marks) (n a : ℕ) : Type 0 where
   pub marks : AreKeptAt f g v w n a
 
 -- the tree at a is u, up to turning
-abbrev pub StandsFor : Layout → ℕ → Outline → Type 0
-StandsFor g a u = IsEquivalent u (outline_below g a)
+abbrev pub StandsForTree : Layout → ℕ → Outline → Type 0
+StandsForTree g a u = IsEquivalent u (outline_below g a)
 
 -- the Q-node a stands for the partial x, its trees turned
 pub record StandsForPartial (g : Layout) (w : Marks) (a : ℕ) (x : Partial) : Type 0 where

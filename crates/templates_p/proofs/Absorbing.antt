@@ -13,7 +13,7 @@ use Rattle.arena_model.proofs.Slots.{in_range, used_by, children_same, children_
 use Rattle.arena_model.proofs.Paths.{above_step, above_kept, one_parent, other_top}
 use Rattle.arena_model.proofs.Trees.{no_circle}
 use Rattle.bubble_pass.specs.declared.labels.Label.TheVariants.{Empty}
-use Rattle.bubble_pass.specs.Climb.{indices}
+use Rattle.pq_arena.specs.RowNodes.{indices}
 use Rattle.bubble_pass.specs.Marks.{Marks, label_at, size_of, exchange}
 use Rattle.template_model.specs.Treated.{IsTreated}
 use Rattle.templates_p.specs.Steps.{IsSameAt}

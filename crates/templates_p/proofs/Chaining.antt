@@ -9,11 +9,11 @@ use Rattle.arena_model.proofs.Slots.{children_times, in_range}
 use Rattle.pq_arena.specs.declared.node.NodeId.{NodeId}
 use Rattle.bubble_pass.specs.declared.labels.Label.{Label as Mark}
 use Rattle.bubble_pass.specs.declared.labels.Label.TheVariants.{Empty}
-use Rattle.bubble_pass.specs.Climb.{indices}
+use Rattle.pq_arena.specs.RowNodes.{indices}
 use Rattle.bubble_pass.specs.Marks.{Marks, label_at, fulls_at, partials_at, size_of, first_of, next_of, IsFollowed}
 use Rattle.bubble_pass.specs.Pass.{IsRightAt}
 use Rattle.template_model.specs.Standing.{IsReady}
-use Rattle.templates_p.specs.Sorts.{fulls, empties, partials}
+use Rattle.templates_p.specs.Sorts.{full_nodes, empty_nodes, partial_nodes}
 use Rattle.templates_p.specs.Steps.{HasChildWith, Searching}
 use Rattle.templates_p.proofs.Framing.{same_length}
 use Rattle.templates_p.proofs.Sorting.{all_sorted, fulls_length, partials_length, full_label_of, partial_label_of, no_empty, not_full_empty, not_empty_partial}
@@ -27,26 +27,26 @@ in_room f w n k h r o = let l : k < length f.slots = in_range f k (h.used k (let
 
 -- the chain has each full and each partial child once
 pub chain_times : (f : Layout) (w : Marks) (n k : ℕ) → IsLayout f → (r : IsRightAt f w n) →
-    occurs (indices r.chain) k ≡ occurs (fulls w (children_at f n)) k + occurs (partials w (children_at f n)) k
+    occurs (indices r.chain) k ≡ occurs (full_nodes w (children_at f n)) k + occurs (partial_nodes w (children_at f n)) k
 chain_times f w n k h r =
     let ks : List ℕ = children_at f n in
     let one : occurs (indices r.chain) k ≤ 1 = r.once k in
     let once : occurs ks k ≤ 1 = child_once f n k h in
-    let all : occurs ks k ≡ occurs (fulls w ks) k + occurs (empties w ks) k + occurs (partials w ks) k = all_sorted w ks k in
+    let all : occurs ks k ≡ occurs (full_nodes w ks) k + occurs (empty_nodes w ks) k + occurs (partial_nodes w ks) k = all_sorted w ks k in
     elim (cases_lt 0 (occurs (indices r.chain) k)) [
       | inl l ↦
           let c : 1 ≤ occurs ks k = r.child k l in
-          let z : occurs (empties w ks) k ≡ 0 = no_empty w ks k (r.labelled k l) in omega arith
+          let z : occurs (empty_nodes w ks) k ≡ 0 = no_empty w ks k (r.labelled k l) in omega arith
       | inr l ↦
           let out : (label_at w k ≡ Empty → ⊥) → occurs ks k ≡ 0 = (λ ne. elim (cases_lt 0 (occurs ks k)) [
             | inl c ↦ absurd (let q : 1 ≤ occurs (indices r.chain) k = r.all k c ne in omega arith)
             | inr c ↦ omega arith
           ]) in
-          let a : occurs (fulls w ks) k ≡ 0 = elim (cases_lt 0 (occurs (fulls w ks) k)) [
+          let a : occurs (full_nodes w ks) k ≡ 0 = elim (cases_lt 0 (occurs (full_nodes w ks) k)) [
             | inl c ↦ let q : occurs ks k ≡ 0 = out (λ e. not_full_empty (label_at w k) (full_label_of w ks k c) e) in omega arith
             | inr c ↦ omega arith
           ] in
-          let b : occurs (partials w ks) k ≡ 0 = elim (cases_lt 0 (occurs (partials w ks) k)) [
+          let b : occurs (partial_nodes w ks) k ≡ 0 = elim (cases_lt 0 (occurs (partial_nodes w ks) k)) [
             | inl c ↦ let q : occurs ks k ≡ 0 = out (λ e. not_empty_partial (label_at w k) e (partial_label_of w ks k c)) in omega arith
             | inr c ↦ omega arith
           ] in omega arith
@@ -59,11 +59,11 @@ indices_length (x ∷ xs) = omega (arith, indices_length xs)
 pub chain_length : (f : Layout) (w : Marks) (n : ℕ) → IsLayout f → (r : IsRightAt f w n) → length r.chain ≡ fulls_at w n + partials_at w n
 chain_length f w n h r =
     let ks : List ℕ = children_at f n in
-    let a : length (fulls w ks ++ partials w ks) ≡ length (indices r.chain) = same_length (indices r.chain) (fulls w ks ++ partials w ks)
-    (λ k. chain_times f w n k h r ∙ sym (occurs-append (fulls w ks) (partials w ks) k)) in
-    let b : fulls_at w n ≡ length (fulls w ks) = r.full ∙ sym (fulls_length w ks) in
-    let c : partials_at w n ≡ length (partials w ks) = r.partial ∙ sym (partials_length w ks) in
-    omega (arith, length-append (fulls w ks) (partials w ks), indices_length r.chain)
+    let a : length (full_nodes w ks ++ partial_nodes w ks) ≡ length (indices r.chain) = same_length (indices r.chain) (full_nodes w ks ++ partial_nodes w ks)
+    (λ k. chain_times f w n k h r ∙ sym (occurs-append (full_nodes w ks) (partial_nodes w ks) k)) in
+    let b : fulls_at w n ≡ length (full_nodes w ks) = r.full ∙ sym (fulls_length w ks) in
+    let c : partials_at w n ≡ length (partial_nodes w ks) = r.partial ∙ sym (partials_length w ks) in
+    omega (arith, length-append (full_nodes w ks) (partial_nodes w ks), indices_length r.chain)
 
 -- there are no more of them than nodes
 pub chain_few : (f : Layout) (w : Marks) (n : ℕ) → IsLayout f → (r : IsRightAt f w n) → fulls_at w n + partials_at w n ≤ 65540

@@ -7,10 +7,10 @@ use Rattle.arena_model.specs.declared.Shape.TheVariants.{P}
 use Rattle.arena_model.specs.Layout.{Layout, shape_at, children_at}
 use Rattle.arena_model.specs.NamedTree.{outline_below}
 use Rattle.bubble_pass.specs.Marks.{Marks}
-use Rattle.pq_plain.specs.Templates.{Partial, Label, IsSorted, none_sorted, to_full, p2, p3, p4, p5, p6}
+use Rattle.template_theory.specs.Templates.{Partial, Label, IsSorted, none_sorted, to_full, p2, p3, p4, p5, p6}
 use Rattle.template_model.specs.Standing.{child_trees, AreMarkedAs, IsReady}
 use Rattle.templates_p.specs.declared.sight.Sight.{Sight}
-use Rattle.templates_p.specs.Sorts.{fulls, empties, partials, IsSeenAs, AllAreFull, AreFullAndEmpty, HasPartials}
+use Rattle.templates_p.specs.Sorts.{full_nodes, empty_nodes, partial_nodes, IsSeenAs, AllAreFull, AreFullAndEmpty, HasPartials}
 use Rattle.templates_p.specs.Fits.{FitsP1, FitsP2, FitsP3, FitsP4, FitsP5, FitsP6}
 use Rattle.templates_p.proofs.Sorting.{held, sorted_unique, sort, count_map, held_length, fulls_length, partials_length, all_counted}
 
@@ -45,17 +45,17 @@ double (x ∷ y ∷ z ∷ xs) e = absurd (omega arith)
 -- what is known of the children of a P-node
 record Known (f : Layout) (w : Marks) (n : ℕ) (s : Sight) (ps : List Label) : Type 0 where
   shape : shape_at f n ≡ Some P
-  sorted : IsSorted (child_trees f n) ps (forest (map (outline_below f) (empties w (children_at f n)))) (forest (map (outline_below f) (fulls w (children_at f n)))) (held ps)
-  full : s.full ≡ length (fulls w (children_at f n))
+  sorted : IsSorted (child_trees f n) ps (forest (map (outline_below f) (empty_nodes w (children_at f n)))) (forest (map (outline_below f) (full_nodes w (children_at f n)))) (held ps)
+  full : s.full ≡ length (full_nodes w (children_at f n))
   partial : s.partial ≡ length (held ps)
-  empty : s.children ≡ s.full + length (empties w (children_at f n)) + s.partial
+  empty : s.children ≡ s.full + length (empty_nodes w (children_at f n)) + s.partial
 
 known : (f : Layout) (w : Marks) (n : ℕ) (s : Sight) (ps : List Label) → IsReady f w n → IsSeenAs f w n (Some s) → AreMarkedAs f w n ps → Known f w n s ps
 known f w n s ps h seen marked =
     let ks : List ℕ = children_at f n in
-    let a : s.full ≡ length (fulls w ks) = seen.1 ∙ h.right.full ∙ sym (fulls_length w ks) in
-    let b : s.partial ≡ length (partials w ks) = seen.2 ∙ h.right.partial ∙ sym (partials_length w ks) in
-    let c : length (held ps) ≡ length (partials w ks) = held_length w ks ps marked in
+    let a : s.full ≡ length (full_nodes w ks) = seen.1 ∙ h.right.full ∙ sym (fulls_length w ks) in
+    let b : s.partial ≡ length (partial_nodes w ks) = seen.2 ∙ h.right.partial ∙ sym (partials_length w ks) in
+    let c : length (held ps) ≡ length (partial_nodes w ks) = held_length w ks ps marked in
     let d : s.children ≡ length ks = seen.3 in
     record {
       shape = seen.0;
@@ -75,16 +75,16 @@ p1_decided f w n (Some s) ps h seen m =
     let ks : List ℕ = children_at f n in (
       λ z. (
         k.shape,
-        let a : length (empties w ks) ≡ 0 = (let b : s.partial ≡ 0 = z.0 in let c : s.full ≡ s.children = z.1 in omega (arith, k.empty)) in
+        let a : length (empty_nodes w ks) ≡ 0 = (let b : s.partial ≡ 0 = z.0 in let c : s.full ≡ s.children = z.1 in omega (arith, k.empty)) in
             let c : held ps ≡ [] = nothing (held ps) (sym k.partial ∙ z.0) in
-            let d : IsSorted ts ps no_tree (forest (map o (fulls w ks))) [] =
-            subst (λ es. IsSorted ts ps es (forest (map o (fulls w ks))) []) (none_of o (empties w ks) a)
-            (subst (λ hs. IsSorted ts ps (forest (map o (empties w ks))) (forest (map o (fulls w ks))) hs) c k.sorted) in
+            let d : IsSorted ts ps no_tree (forest (map o (full_nodes w ks))) [] =
+            subst (λ es. IsSorted ts ps es (forest (map o (full_nodes w ks))) []) (none_of o (empty_nodes w ks) a)
+            (subst (λ hs. IsSorted ts ps (forest (map o (empty_nodes w ks))) (forest (map o (full_nodes w ks))) hs) c k.sorted) in
             subst (λ fs. IsSorted ts ps no_tree fs []) (full_is d) d,
       ),
       λ z. let u = sorted_unique k.sorted z.1 in (
         k.partial ∙ ap (λ hs. length hs) u.2,
-        let a : length (empties w ks) ≡ 0 = sym (count_map o (empties w ks)) ∙ ap count u.0 in
+        let a : length (empty_nodes w ks) ≡ 0 = sym (count_map o (empty_nodes w ks)) ∙ ap count u.0 in
             let b : s.partial ≡ 0 = k.partial ∙ ap (λ hs. length hs) u.2 in
             omega (arith, k.empty),
       ),
@@ -100,23 +100,23 @@ two_decided f w n (Some s) ps h seen m =
     let o : ℕ → Outline = outline_below f in
     let ks : List ℕ = children_at f n in (
       λ z.
-          let a : 1 ≤ length (fulls w ks) = (let c : 1 ≤ s.full = z.1 in omega (arith, k.full)) in
-          let b : 1 ≤ length (empties w ks) = (let c : s.full < s.children = z.2 in let d : s.partial ≡ 0 = z.0 in omega (arith, k.empty)) in
+          let a : 1 ≤ length (full_nodes w ks) = (let c : 1 ≤ s.full = z.1 in omega (arith, k.full)) in
+          let b : 1 ≤ length (empty_nodes w ks) = (let c : s.full < s.children = z.2 in let d : s.partial ≡ 0 = z.0 in omega (arith, k.empty)) in
           let c : held ps ≡ [] = nothing (held ps) (sym k.partial ∙ z.0) in
-          let e = some_of o (empties w ks) b in
-          let t = some_of o (fulls w ks) a in (
+          let e = some_of o (empty_nodes w ks) b in
+          let t = some_of o (full_nodes w ks) a in (
             k.shape,
             e.0,
             e.1,
             t.0,
             t.1,
-            subst (λ x. IsSorted ts ps (tree_and e.0 e.1) x []) t.2 (subst (λ x. IsSorted ts ps x (forest (map o (fulls w ks))) []) e.2
-                (subst (λ hs. IsSorted ts ps (forest (map o (empties w ks))) (forest (map o (fulls w ks))) hs) c k.sorted)),
+            subst (λ x. IsSorted ts ps (tree_and e.0 e.1) x []) t.2 (subst (λ x. IsSorted ts ps x (forest (map o (full_nodes w ks))) []) e.2
+                (subst (λ hs. IsSorted ts ps (forest (map o (empty_nodes w ks))) (forest (map o (full_nodes w ks))) hs) c k.sorted)),
           ),
       λ z.
           let u = sorted_unique k.sorted z.5 in
-          let a : length (empties w ks) ≡ count (tree_and z.1 z.2) = sym (count_map o (empties w ks)) ∙ ap count u.0 in
-          let b : length (fulls w ks) ≡ count (tree_and z.3 z.4) = sym (count_map o (fulls w ks)) ∙ ap count u.1 in
+          let a : length (empty_nodes w ks) ≡ count (tree_and z.1 z.2) = sym (count_map o (empty_nodes w ks)) ∙ ap count u.0 in
+          let b : length (full_nodes w ks) ≡ count (tree_and z.3 z.4) = sym (count_map o (full_nodes w ks)) ∙ ap count u.1 in
           let c : s.partial ≡ 0 = k.partial ∙ ap (λ hs. length hs) u.2 in
           (c, omega (arith, k.full), omega (arith, k.empty)),
     )
@@ -159,10 +159,10 @@ one_decided f w n (Some s) ps h seen m =
     let ks : List ℕ = children_at f n in (
       λ z. let x = single (held ps) (sym k.partial ∙ z) in (
         k.shape,
-        forest (map o (empties w ks)),
+        forest (map o (empty_nodes w ks)),
         x.0,
-        forest (map o (fulls w ks)),
-        subst (λ hs. IsSorted (child_trees f n) ps (forest (map o (empties w ks))) (forest (map o (fulls w ks))) hs) x.1 k.sorted,
+        forest (map o (full_nodes w ks)),
+        subst (λ hs. IsSorted (child_trees f n) ps (forest (map o (empty_nodes w ks))) (forest (map o (full_nodes w ks))) hs) x.1 k.sorted,
       ),
       λ z. k.partial ∙ ap (λ hs. length hs) (sorted_unique k.sorted z.4).2,
     )
@@ -190,8 +190,8 @@ p6_decided f w n root (Some s) ps h seen m =
     let k : Known f w n s ps = known f w n s ps h seen m in
     let o : ℕ → Outline = outline_below f in
     let ks : List ℕ = children_at f n in
-    let es : Forest = forest (map o (empties w ks)) in
-    let fs : Forest = forest (map o (fulls w ks)) in (
+    let es : Forest = forest (map o (empty_nodes w ks)) in
+    let fs : Forest = forest (map o (full_nodes w ks)) in (
       λ z. let x = double (held ps) (sym k.partial ∙ z.1) in (
         k.shape,
         (

@@ -13,10 +13,10 @@ use Rattle.arena_model.specs.NamedTree.{outline_below, HasTwoEach}
 use Rattle.arena_model.proofs.Lists.{occurs_here, only_one}
 use Rattle.bubble_pass.specs.declared.labels.Label.TheVariants.{Empty, Partial as Partly}
 use Rattle.bubble_pass.specs.Marks.{Marks, label_at}
-use Rattle.pq_plain.specs.Templates.{Partial, Label, IsSorted, star, line, under, IsP4}
+use Rattle.template_theory.specs.Templates.{Partial, Label, IsSorted, star, line, under, IsP4}
 use Rattle.template_model.specs.Standing.{child_trees, AreMarkedAs, AreShapesAt, IsShapeAt}
-use Rattle.template_model.specs.Treated.{StandsFor}
-use Rattle.templates_p.specs.Sorts.{fulls, empties, partials}
+use Rattle.template_model.specs.Treated.{StandsForTree}
+use Rattle.templates_p.specs.Sorts.{full_nodes, empty_nodes, partial_nodes}
 use Rattle.templates_p.specs.Steps.{IsSameAt, HasGroup}
 use Rattle.templates_p.specs.Lines.{IsShapeTo, IsAbsorbed}
 use Rattle.templates_p.proofs.Sorting.{held, sorted_unique, sort, held_length, AreShapes, held_shapes, all_sorted, all_counted, partial_times, not_full_empty, not_empty_partial, empty_label_of}
@@ -74,10 +74,10 @@ only_member (x ∷ z ∷ xs) y e o = absurd (omega arith)
 
 -- what is known of the children where one is partial
 pub record OnePartial (f : Layout) (v : Marks) (n h : ℕ) (es : Forest) (x : Partial) (fs : Forest) : Type 0 where
-  pub only : partials v (children_at f n) ≡ h ∷ []
+  pub only : partial_nodes v (children_at f n) ≡ h ∷ []
   pub shape : IsShapeAt f v h x
-  pub empty : forest (map (outline_below f) (empties v (children_at f n))) ≡ es
-  pub full : forest (map (outline_below f) (fulls v (children_at f n))) ≡ fs
+  pub empty : forest (map (outline_below f) (empty_nodes v (children_at f n))) ≡ es
+  pub full : forest (map (outline_below f) (full_nodes v (children_at f n))) ≡ fs
 
 the_shape : (f : Layout) (v : Marks) (h : ℕ) (x : Partial) (ks : List ℕ) (hs : List Partial) → ks ≡ h ∷ [] → hs ≡ x ∷ [] → AreShapes f v ks hs → IsShapeAt f v h x
 the_shape f v h x ks hs e q s =
@@ -88,11 +88,11 @@ pub one_partial : (f : Layout) (v : Marks) (n h : ℕ) (ps : List Label) (es : F
 one_partial f v n h ps es x fs m s p o l =
     let ks : List ℕ = children_at f n in
     let u = sorted_unique (sort (outline_below f) v ks ps m) p in
-    let one : length (partials v ks) ≡ 1 = sym (held_length v ks ps m) ∙ ap (λ hs. length hs) u.2 in
-    let only : partials v ks ≡ h ∷ [] = only_member (partials v ks) h one (subst (λ z. 1 ≤ z) (sym (partial_times v ks h l)) o) in
+    let one : length (partial_nodes v ks) ≡ 1 = sym (held_length v ks ps m) ∙ ap (λ hs. length hs) u.2 in
+    let only : partial_nodes v ks ≡ h ∷ [] = only_member (partial_nodes v ks) h one (subst (λ z. 1 ≤ z) (sym (partial_times v ks h l)) o) in
     record {
       only = only;
-      shape = the_shape f v h x (partials v ks) (held ps) only u.2 (held_shapes f v ks ps m s);
+      shape = the_shape f v h x (partial_nodes v ks) (held ps) only u.2 (held_shapes f v ks ps m s);
       empty = u.0;
       full = u.1;
     }
@@ -111,48 +111,48 @@ join_none (tree_and t ts) = ap (tree_and t) (join_none ts)
 
 -- P4 where no child is full
 pub p4_plain : (f : Layout) (v : Marks) (n h : ℕ) (ps : List Label) (u : Outline) → IsLayout f → HasTwoEach f → shape_at f n ≡ Some P → AreMarkedAs f v n ps → AreShapesAt f v (children_at f n) ps →
-    1 ≤ occurs (children_at f n) h → label_at v h ≡ Partly → fulls v (children_at f n) ≡ [] → IsP4 true (child_trees f n) ps u → StandsFor f n u
+    1 ≤ occurs (children_at f n) h → label_at v h ≡ Partly → full_nodes v (children_at f n) ≡ [] → IsP4 true (child_trees f n) ps u → StandsForTree f n u
 p4_plain f v n h ps u lay two is_p m s o l none p =
     let ks : List ℕ = children_at f n in
     let k : OnePartial f v n h p.es p.h p.fs = one_partial f v n h ps p.es p.h p.fs m s p.pattern o l in
     let no_fs : p.fs ≡ no_tree = sym k.full ∙ ap (λ xs. forest (map (outline_below f) xs)) none in
-    let many : 1 ≤ length (empties v ks) = (let t : 2 ≤ length ks = two n (inl is_p) in let a : length (fulls v ks) ≡ 0 = ap (λ xs. length xs) none in let b : length (partials v ks) ≡ 1 = ap (λ xs. length xs) k.only in
+    let many : 1 ≤ length (empty_nodes v ks) = (let t : 2 ≤ length ks = two n (inl is_p) in let a : length (full_nodes v ks) ≡ 0 = ap (λ xs. length xs) none in let b : length (partial_nodes v ks) ≡ 1 = ap (λ xs. length xs) k.only in
     omega (arith, all_counted v ks)) in
     let q : IsEquivalent (q_node (join (line p.h) (star p.fs))) (outline_below f h) =
     subst (λ ts. IsEquivalent (q_node (join (line p.h) (star ts))) (outline_below f h)) (sym no_fs)
     (subst (λ ts. IsEquivalent (q_node ts) (outline_below f h)) (sym (join_none (line p.h))) (shape_stands f v h p.h lay k.shape)) in
-    subst (λ t. IsEquivalent t (outline_below f n)) (sym (p.becomes ∙ under_some p.es (q_node (join (line p.h) (star p.fs))) (outline_below f) (empties v ks) k.empty many))
-    (p_stands f n (h ∷ empties v ks) (tree_and (q_node (join (line p.h) (star p.fs))) p.es) lay is_p
-    (λ j. let a : occurs (fulls v ks) j ≡ 0 = ap (λ xs. occurs xs j) none in let b : occurs (partials v ks) j ≡ occurs (h ∷ []) j = ap (λ xs. occurs xs j) k.only in omega (arith, all_sorted v ks j))
-    (q, subst (λ ts. AreEquivalent ts (map (outline_below f) (empties v ks))) k.empty (are_same (outline_below f) (outline_below f) (empties v ks) (λ j i. refl))))
+    subst (λ t. IsEquivalent t (outline_below f n)) (sym (p.becomes ∙ under_some p.es (q_node (join (line p.h) (star p.fs))) (outline_below f) (empty_nodes v ks) k.empty many))
+    (p_stands f n (h ∷ empty_nodes v ks) (tree_and (q_node (join (line p.h) (star p.fs))) p.es) lay is_p
+    (λ j. let a : occurs (full_nodes v ks) j ≡ 0 = ap (λ xs. occurs xs j) none in let b : occurs (partial_nodes v ks) j ≡ occurs (h ∷ []) j = ap (λ xs. occurs xs j) k.only in omega (arith, all_sorted v ks j))
+    (q, subst (λ ts. AreEquivalent ts (map (outline_below f) (empty_nodes v ks))) k.empty (are_same (outline_below f) (outline_below f) (empty_nodes v ks) (λ j i. refl))))
 
 -- P4 where some are
 pub p4_becomes : (f g i : Layout) (v w x : Marks) (n h y end a : ℕ) (ps : List Label) (u : Outline) → IsLayout i → AreMarkedAs f v n ps → AreShapesAt f v (children_at f n) ps →
     1 ≤ occurs (children_at f n) h → label_at v h ≡ Partly → HasGroup f v g w n y → ((z : Partial) → IsShapeAt g w h z → IsShapeTo g w h z end) → IsAbsorbed g w i x n h y end a →
-    IsP4 true (child_trees f n) ps u → StandsFor i a u
+    IsP4 true (child_trees f n) ps u → StandsForTree i a u
 p4_becomes f g i v w x n h y end a ps u lay m s o l grp to b p =
     let ks : List ℕ = children_at f n in
     let k : OnePartial f v n h p.es p.h p.fs = one_partial f v n h ps p.es p.h p.fs m s p.pattern o l in
     let t : Outline = q_node (join (line p.h) (star p.fs)) in
-    let in_h : 1 ≤ occurs (partials v ks) h = subst (λ xs. 1 ≤ occurs xs h) (sym k.only) (occurs_here h []) in
+    let in_h : 1 ≤ occurs (partial_nodes v ks) h = subst (λ xs. 1 ≤ occurs xs h) (sym k.only) (occurs_here h []) in
     let q : IsEquivalent t (outline_below i h) = absorbed_stands g i w x n h y end a p.h (star p.fs) lay (to p.h ((grp.others h (omega arith)).shape p.h k.shape)) b
     (subst (λ ts. AreEquivalent (star ts) (outline_below g y ∷ [])) k.full grp.tree) in
     elim b.place [
       | inl c ↦
-          let bag : (j : ℕ) → occurs (h ∷ empties v ks) j ≡ occurs (children_at i n) j = (λ j. let d : occurs (children_at i n) j + occurs (y ∷ []) j ≡ occurs (children_at g n) j = c.3 j in
-          let e : occurs (partials v ks) j ≡ occurs (h ∷ []) j = ap (λ xs. occurs xs j) k.only in omega (arith, grp.children j)) in
-          let many : 1 ≤ length (empties v ks) = (let d : 2 ≤ length (children_at i n) = c.2 in let e : length (children_at i n) ≡ length (h ∷ empties v ks) = same_length (h ∷ empties v ks) (children_at i n) bag in omega arith) in
-          let kept : (j : ℕ) → 1 ≤ occurs (empties v ks) j → outline_below i j ≡ outline_below f j = (λ j o'.
+          let bag : (j : ℕ) → occurs (h ∷ empty_nodes v ks) j ≡ occurs (children_at i n) j = (λ j. let d : occurs (children_at i n) j + occurs (y ∷ []) j ≡ occurs (children_at g n) j = c.3 j in
+          let e : occurs (partial_nodes v ks) j ≡ occurs (h ∷ []) j = ap (λ xs. occurs xs j) k.only in omega (arith, grp.children j)) in
+          let many : 1 ≤ length (empty_nodes v ks) = (let d : 2 ≤ length (children_at i n) = c.2 in let e : length (children_at i n) ≡ length (h ∷ empty_nodes v ks) = same_length (h ∷ empty_nodes v ks) (children_at i n) bag in omega arith) in
+          let kept : (j : ℕ) → 1 ≤ occurs (empty_nodes v ks) j → outline_below i j ≡ outline_below f j = (λ j o'.
           let is : label_at v j ≡ Empty = empty_label_of v ks j o' in
           let e : IsSameAt f v g w j = grp.others j (omega arith) in
           let nh : j ≢ h = (λ z. not_empty_partial (label_at v j) is (ap (label_at v) z ∙ l)) in
           let ny : j ≢ y = (λ z. not_full_empty (label_at w j) (ap (label_at w) z ∙ grp.label) (e.label ∙ is)) in
           (c.4 j (omega (arith, grp.children j)) nh ny).tree ∙ e.tree) in
-          subst (λ z. StandsFor i z u) (sym c.0) (subst (λ z. IsEquivalent z (outline_below i n)) (sym (p.becomes ∙ under_some p.es t (outline_below f) (empties v ks) k.empty many))
-          (p_stands i n (h ∷ empties v ks) (tree_and t p.es) lay c.1 bag
-          (q, subst (λ ts. AreEquivalent ts (map (outline_below i) (empties v ks))) k.empty (are_same (outline_below f) (outline_below i) (empties v ks) kept))))
+          subst (λ z. StandsForTree i z u) (sym c.0) (subst (λ z. IsEquivalent z (outline_below i n)) (sym (p.becomes ∙ under_some p.es t (outline_below f) (empty_nodes v ks) k.empty many))
+          (p_stands i n (h ∷ empty_nodes v ks) (tree_and t p.es) lay c.1 bag
+          (q, subst (λ ts. AreEquivalent ts (map (outline_below i) (empty_nodes v ks))) k.empty (are_same (outline_below f) (outline_below i) (empty_nodes v ks) kept))))
       | inr c ↦
-          let none : (j : ℕ) → occurs (empties v ks) j ≡ 0 = (λ j. let e : occurs (partials v ks) j ≡ occurs (h ∷ []) j = ap (λ xs. occurs xs j) k.only in
+          let none : (j : ℕ) → occurs (empty_nodes v ks) j ≡ 0 = (λ j. let e : occurs (partial_nodes v ks) j ≡ occurs (h ∷ []) j = ap (λ xs. occurs xs j) k.only in
           let d : occurs (children_at g n) j ≡ occurs (h ∷ y ∷ []) j = c.1 j in omega (arith, grp.children j)) in
-          subst (λ z. StandsFor i z u) (sym c.0) (subst (λ z. IsEquivalent z (outline_below i h)) (sym (p.becomes ∙ under_none p.es t (outline_below f) (empties v ks) k.empty none)) q)
+          subst (λ z. StandsForTree i z u) (sym c.0) (subst (λ z. IsEquivalent z (outline_below i h)) (sym (p.becomes ∙ under_none p.es t (outline_below f) (empty_nodes v ks) k.empty none)) q)
     ]

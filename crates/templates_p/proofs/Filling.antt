@@ -18,11 +18,11 @@ use Rattle.arena_model.proofs.Trees.{no_circle}
 use Rattle.pq_arena.specs.declared.node.NodeId.{NodeId}
 use Rattle.bubble_pass.specs.declared.labels.Label.TheVariants.{Empty, Partial as Partly}
 use Rattle.bubble_pass.specs.Marks.{Marks, label_at, size_of}
-use Rattle.pq_plain.specs.Templates.{Partial, star, p5}
+use Rattle.template_theory.specs.Templates.{Partial, star, p5}
 use Rattle.template_model.specs.Standing.{IsShapeAt, IsReady}
 use Rattle.template_model.specs.Treated.{IsTreated, StandsForPartial}
 use Rattle.templates_p.specs.Fits.{StandsP5}
-use Rattle.templates_p.specs.Sorts.{fulls, empties, partials}
+use Rattle.templates_p.specs.Sorts.{full_nodes, empty_nodes, partial_nodes}
 use Rattle.templates_p.specs.Steps.{IsSameAt, IsGathered, HasGroup, CanGather}
 use Rattle.templates_p.specs.Lines.{IsShapeTo, IsAbsorbed}
 use Rattle.templates_p.specs.Parts.{IsParted, IsLineFor, CanFill, IsFilled, CanLift}
@@ -39,9 +39,9 @@ use Rattle.templates_p.proofs.Lining.{line_stands, AreEnds, parted_line, rest_ba
 -- where the node stands then: at n, over h and the empty children, or it is h where there are none
 abbrev pub IsLeft : Layout → Marks → Layout → Marks → ℕ → ℕ → ℕ → Type 0
 IsLeft f v i x n h a =
-    ((a ≡ n) × (shape_at i n ≡ Some P) × ((k : ℕ) → occurs (children_at i n) k ≡ occurs (h ∷ empties v (children_at f n)) k) ×
-    ((k : ℕ) → 1 ≤ occurs (empties v (children_at f n)) k → IsSameAt f v i x k))
-    ⊎ ((a ≡ h) × ((k : ℕ) → occurs (empties v (children_at f n)) k ≡ 0))
+    ((a ≡ n) × (shape_at i n ≡ Some P) × ((k : ℕ) → occurs (children_at i n) k ≡ occurs (h ∷ empty_nodes v (children_at f n)) k) ×
+    ((k : ℕ) → 1 ≤ occurs (empty_nodes v (children_at f n)) k → IsSameAt f v i x k))
+    ⊎ ((a ≡ h) × ((k : ℕ) → occurs (empty_nodes v (children_at f n)) k ≡ 0))
 
 -- the partial child h of n, which stands for p, has the full children at its full end
 pub record HasLine (f : Layout) (v : Marks) (i : Layout) (x : Marks) (n h end a : ℕ) (p : Partial) (fs : Forest) : Type 0 where
@@ -49,12 +49,12 @@ pub record HasLine (f : Layout) (v : Marks) (i : Layout) (x : Marks) (n h end a 
   pub line : IsLineFor i x (children_at i h) end p.e (join p.f (star fs))
   pub place : IsLeft f v i x n h a
 
-no_fulls : (f : Layout) (v : Marks) (n : ℕ) (fs : Forest) → forest (map (outline_below f) (fulls v (children_at f n))) ≡ fs → fulls v (children_at f n) ≡ [] → fs ≡ no_tree
+no_fulls : (f : Layout) (v : Marks) (n : ℕ) (fs : Forest) → forest (map (outline_below f) (full_nodes v (children_at f n))) ≡ fs → full_nodes v (children_at f n) ≡ [] → fs ≡ no_tree
 no_fulls f v n fs e q = sym e ∙ ap (λ xs. forest (map (outline_below f) xs)) q
 
 -- where no child is full
 plain_line : (f : Layout) (v : Marks) (n h end : ℕ) (es : Forest) (p : Partial) (fs : Forest) → shape_at f n ≡ Some P → OnePartial f v n h es p fs →
-    fulls v (children_at f n) ≡ [] → IsShapeTo f v h p end → HasLine f v f v n h end n p fs
+    full_nodes v (children_at f n) ≡ [] → IsShapeTo f v h p end → HasLine f v f v n h end n p fs
 plain_line f v n h end es p fs is_p k none s =
     let ks : List ℕ = children_at f n in
     record {
@@ -64,8 +64,8 @@ plain_line f v n h end es p fs is_p k none s =
       place = inl (
         refl,
         is_p,
-        (λ j. let a : occurs (fulls v ks) j ≡ 0 = ap (λ xs. occurs xs j) none in
-            let b : occurs (partials v ks) j ≡ occurs (h ∷ []) j = ap (λ xs. occurs xs j) k.only in omega (arith, all_sorted v ks j)),
+        (λ j. let a : occurs (full_nodes v ks) j ≡ 0 = ap (λ xs. occurs xs j) none in
+            let b : occurs (partial_nodes v ks) j ≡ occurs (h ∷ []) j = ap (λ xs. occurs xs j) k.only in omega (arith, all_sorted v ks j)),
         (λ j o. record { label = refl; tree = refl; shape = λ h x. x }),
       );
     }
@@ -75,7 +75,7 @@ group_line : (f g i : Layout) (v w x : Marks) (n h y end a : ℕ) (es : Forest) 
     HasGroup f v g w n y → IsShapeTo g w h p end → IsAbsorbed g w i x n h y end a → HasLine f v i x n h end a p fs
 group_line f g i v w x n h y end a es p fs k l grp s b =
     let ks : List ℕ = children_at f n in
-    let one : (j : ℕ) → occurs (partials v ks) j ≡ occurs (h ∷ []) j = (λ j. ap (λ xs. occurs xs j) k.only) in
+    let one : (j : ℕ) → occurs (partial_nodes v ks) j ≡ occurs (h ∷ []) j = (λ j. ap (λ xs. occurs xs j) k.only) in
     record {
       is_q = b.shape;
       line = absorbed_line g i w x n h y end a p (star fs) s b grp.label (subst (λ ts. AreEquivalent (star ts) (outline_below g y ∷ [])) k.full grp.tree);
@@ -90,7 +90,7 @@ group_line f g i v w x n h y end a es p fs k l grp s b =
       ];
     }
   where
-    both : (j : ℕ) → 1 ≤ occurs (empties v (children_at f n)) j → (1 ≤ occurs (children_at g n) j → j ≢ h → j ≢ y → IsSameAt g w i x j) → IsSameAt f v i x j
+    both : (j : ℕ) → 1 ≤ occurs (empty_nodes v (children_at f n)) j → (1 ≤ occurs (children_at g n) j → j ≢ h → j ≢ y → IsSameAt g w i x j) → IsSameAt f v i x j
     both j o c =
         let is : label_at v j ≡ Empty = empty_label_of v (children_at f n) j o in
         let e : IsSameAt f v g w j = grp.others j (omega arith) in
@@ -114,11 +114,11 @@ pub p5_partial : (f : Layout) (w : Marks) (n h : ℕ) → (s : StandsP5 f w n) �
     OnePartial f w n h s.3.1.1.es s.3.1.1.h s.3.1.1.fs
 p5_partial f w n h s o l = one_partial f w n h s.0 s.3.1.1.es s.3.1.1.h s.3.1.1.fs s.1 s.2 s.3.1.1.pattern o l
 
-pub p5_one : (f : Layout) (w : Marks) (n : ℕ) → StandsP5 f w n → length (partials w (children_at f n)) ≡ 1
+pub p5_one : (f : Layout) (w : Marks) (n : ℕ) → StandsP5 f w n → length (partial_nodes w (children_at f n)) ≡ 1
 p5_one f w n s = partial_count f w n s.0 s.3.1.1.es s.3.1.1.fs (s.3.1.1.h ∷ []) s.1 s.3.1.1.pattern
 
 pub p5_can_gather : (f : Layout) (w : Marks) (n : ℕ) → IsReady f w n → StandsP5 f w n → CanGather f w n
-p5_can_gather f w n r s = can_gather f w n r s.3.0 (let e : length (partials w (children_at f n)) ≡ 1 = p5_one f w n s in omega arith)
+p5_can_gather f w n r s = can_gather f w n r s.3.0 (let e : length (partial_nodes w (children_at f n)) ≡ 1 = p5_one f w n s in omega arith)
 
 -- the partial child once the full children were gathered
 pub gathered_shape : (f g : Layout) (v w : Marks) (n h : ℕ) (group : Option NodeId) (es : Forest) (p : Partial) (fs : Forest) → OnePartial f v n h es p fs →
@@ -176,7 +176,7 @@ pub p5_top : (f i : Layout) (v x : Marks) (n h end a : ℕ) (es : Forest) (p : P
 p5_top f i v x n h end a es p fs k b is apart = elim b.place [
   | inl q ↦ absurd (apart (sym q.0 ∙ is))
   | inr q ↦
-      let none : es ≡ no_tree = sym k.empty ∙ ap (λ xs. forest (map (outline_below f) xs)) (empty_none (empties v (children_at f n)) q.1) in
+      let none : es ≡ no_tree = sym k.empty ∙ ap (λ xs. forest (map (outline_below f) xs)) (empty_none (empty_nodes v (children_at f n)) q.1) in
       subst (λ z. StandsForPartial i x z (p5 es p fs)) (sym is) (subst (λ ts. StandsForPartial i x h (p5 ts p fs)) (sym none)
       (line_stands i x h b.line.es b.line.fs p.e (join p.f (star fs)) b.is_q (elim b.line.sides [ inl c ↦ inl c.1 | inr c ↦ inr c.1 ])
       (line_long f i v x h end p (join p.f (star fs)) k.shape b.line) b.line.some b.line.empty b.line.full b.line.empty_trees b.line.full_trees))
@@ -187,8 +187,8 @@ pub record StaysAt (f : Layout) (v : Marks) (i : Layout) (x : Marks) (n h a : �
   pub node : a ≡ n
   pub is_p : shape_at i n ≡ Some P
   pub is_q : shape_at i h ≡ Some Q
-  pub bag : (k : ℕ) → occurs (children_at i n) k ≡ occurs (h ∷ empties v (children_at f n)) k
-  pub same : (k : ℕ) → 1 ≤ occurs (empties v (children_at f n)) k → IsSameAt f v i x k
+  pub bag : (k : ℕ) → occurs (children_at i n) k ≡ occurs (h ∷ empty_nodes v (children_at f n)) k
+  pub same : (k : ℕ) → 1 ≤ occurs (empty_nodes v (children_at f n)) k → IsSameAt f v i x k
 
 stays_at : (f i : Layout) (v x : Marks) (n h end a : ℕ) (p : Partial) (fs : Forest) → HasLine f v i x n h end a p fs → a ≢ h → StaysAt f v i x n h a
 stays_at f i v x n h end a p fs b ne = elim b.place [
@@ -209,13 +209,13 @@ other_end end l = elim (cases_eq end 1) [
 
 module _ (f i : Layout) (v x : Marks) (n h a : ℕ) (li : IsLayout i) (one : IsOneTree i) (two : HasTwoEach i) (s : StaysAt f v i x n h a) where
   line_in : 1 ≤ occurs (children_at i n) h
-  line_in = omega (arith, s.bag h, occurs_here h (empties v (children_at f n)))
+  line_in = omega (arith, s.bag h, occurs_here h (empty_nodes v (children_at f n)))
 
-  rest_is : (k : ℕ) → occurs (empties v (children_at f n)) k ≡ occurs (without (children_at i n) h) k
-  rest_is = rest_bag (children_at i n) (empties v (children_at f n)) h s.bag (child_once i n h li)
+  rest_is : (k : ℕ) → occurs (empty_nodes v (children_at f n)) k ≡ occurs (without (children_at i n) h) k
+  rest_is = rest_bag (children_at i n) (empty_nodes v (children_at f n)) h s.bag (child_once i n h li)
 
   rest_empty : (k : ℕ) → 1 ≤ occurs (without (children_at i n) h) k → label_at x k ≡ Empty
-  rest_empty k o = let o' : 1 ≤ occurs (empties v (children_at f n)) k = omega (arith, rest_is k) in (s.same k o').label ∙ empty_label_of v (children_at f n) k o'
+  rest_empty k o = let o' : 1 ≤ occurs (empty_nodes v (children_at f n)) k = omega (arith, rest_is k) in (s.same k o').label ∙ empty_label_of v (children_at f n) k o'
 
   pub can_lift : size_of x ≡ length i.slots → CanLift i x n h
   can_lift room = record {
@@ -238,6 +238,6 @@ module _ (f i : Layout) (v x : Marks) (n h a : ℕ) (li : IsLayout i) (one : IsO
   p5_lifted j y full es p fs small lj k b parted =
       subst (λ ts. StandsForPartial j y h (p5 ts p fs)) k.empty
       (parted_line i j x y n h (1 - full) full (without (children_at i n) h) (children_at i h) li lj line_of parted rest_empty
-      (outline_below f) (empties v (children_at f n)) rest_is
-      (λ c o. (s.same c (let o' : 1 ≤ occurs (empties v (children_at f n)) c = omega (arith, rest_is c) in o')).tree)
+      (outline_below f) (empty_nodes v (children_at f n)) rest_is
+      (λ c o. (s.same c (let o' : 1 ≤ occurs (empty_nodes v (children_at f n)) c = omega (arith, rest_is c) in o')).tree)
       p.e (join p.f (star fs)) b.line (other_end full small))

@@ -10,11 +10,11 @@ use Rattle.arena_model.proofs.Slots.{used_by}
 use Rattle.arena_model.proofs.Trees.{no_circle}
 use Rattle.bubble_pass.specs.declared.labels.Label.TheVariants.{Empty, Partial as Partly}
 use Rattle.bubble_pass.specs.Marks.{Marks, label_at, size_of}
-use Rattle.pq_plain.specs.Templates.{Partial, Label, IsSorted}
+use Rattle.template_theory.specs.Templates.{Partial, Label, IsSorted}
 use Rattle.template_model.specs.Standing.{child_trees, AreMarkedAs, IsShapeAt, IsReady}
 use Rattle.template_model.specs.Treated.{IsTreated}
 use Rattle.templates_p.specs.Fits.{StandsP4}
-use Rattle.templates_p.specs.Sorts.{partials}
+use Rattle.templates_p.specs.Sorts.{partial_nodes}
 use Rattle.templates_p.specs.Steps.{HasGroup, HasChildWith, CanGather}
 use Rattle.templates_p.specs.Lines.{CanAbsorb}
 use Rattle.templates_p.proofs.Sorting.{sorted_unique, sort, held_length, all_sorted, partial_label_of, not_full_partial}
@@ -27,14 +27,14 @@ some_member (x ∷ xs) l = (x, occurs_here x xs)
 
 -- some children have this label pattern, of which one is partial
 pub partial_count : (f : Layout) (w : Marks) (n : ℕ) (ps : List Label) (es fs : Forest) (hs : List Partial) → AreMarkedAs f w n ps → IsSorted (child_trees f n) ps es fs hs →
-    length (partials w (children_at f n)) ≡ length hs
+    length (partial_nodes w (children_at f n)) ≡ length hs
 partial_count f w n ps es fs hs m p =
     sym (held_length w (children_at f n) ps m) ∙ ap (λ zs. length zs) (sorted_unique (sort (outline_below f) w (children_at f n) ps m) p).2
 
-pub partial_child : (f : Layout) (w : Marks) (n : ℕ) → IsLayout f → IsReady f w n → 1 ≤ length (partials w (children_at f n)) → HasChildWith f w n Partly n
+pub partial_child : (f : Layout) (w : Marks) (n : ℕ) → IsLayout f → IsReady f w n → 1 ≤ length (partial_nodes w (children_at f n)) → HasChildWith f w n Partly n
 partial_child f w n h r l =
-    let k = some_member (partials w (children_at f n)) l in
-    let o : 1 ≤ occurs (partials w (children_at f n)) k.0 = k.1 in
+    let k = some_member (partial_nodes w (children_at f n)) l in
+    let o : 1 ≤ occurs (partial_nodes w (children_at f n)) k.0 = k.1 in
     let c : 1 ≤ occurs (children_at f n) k.0 = omega (arith, all_sorted w (children_at f n) k.0) in
     record {
       ready = r;
@@ -45,11 +45,11 @@ partial_child f w n h r l =
       marked = λ q. (let z : Partly ≡ Empty = q in cc);
     }
 
-pub p4_one : (f : Layout) (w : Marks) (n : ℕ) → StandsP4 f w n → length (partials w (children_at f n)) ≡ 1
+pub p4_one : (f : Layout) (w : Marks) (n : ℕ) → StandsP4 f w n → length (partial_nodes w (children_at f n)) ≡ 1
 p4_one f w n s = partial_count f w n s.0 s.3.1.1.es s.3.1.1.fs (s.3.1.1.h ∷ []) s.1 s.3.1.1.pattern
 
 pub p4_can_gather : (f : Layout) (w : Marks) (n : ℕ) → IsReady f w n → StandsP4 f w n → CanGather f w n
-p4_can_gather f w n r s = can_gather f w n r s.3.0 (let e : length (partials w (children_at f n)) ≡ 1 = p4_one f w n s in omega arith)
+p4_can_gather f w n r s = can_gather f w n r s.3.0 (let e : length (partial_nodes w (children_at f n)) ≡ 1 = p4_one f w n s in omega arith)
 
 pub p4_shape : (f : Layout) (w : Marks) (n h : ℕ) → (s : StandsP4 f w n) → 1 ≤ occurs (children_at f n) h → label_at w h ≡ Partly →
     OnePartial f w n h s.3.1.1.es s.3.1.1.h s.3.1.1.fs
@@ -66,14 +66,14 @@ same_room f g v w n a lf lg r t =
 -- the line after the full children were gathered
 pub line_shape : (f g : Layout) (v w : Marks) (n h y : ℕ) (es : Forest) (x : Partial) (fs : Forest) → OnePartial f v n h es x fs → HasGroup f v g w n y → IsShapeAt g w h x
 line_shape f g v w n h y es x fs k grp =
-    let o : 1 ≤ occurs (partials v (children_at f n)) h = subst (λ xs. 1 ≤ occurs xs h) (sym k.only) (occurs_here h []) in
+    let o : 1 ≤ occurs (partial_nodes v (children_at f n)) h = subst (λ xs. 1 ≤ occurs xs h) (sym k.only) (occurs_here h []) in
     (grp.others h (omega arith)).shape x k.shape
 
 pub can_absorb : (f g : Layout) (v w : Marks) (n h y : ℕ) (es : Forest) (x : Partial) (fs : Forest) → IsLayout f → IsLayout g → IsReady f v n → IsTreated f g v w n n →
     OnePartial f v n h es x fs → label_at v h ≡ Partly → HasGroup f v g w n y → CanAbsorb g w n h y
 can_absorb f g v w n h y es x fs lf lg r t k l grp =
     let ks : List ℕ = children_at f n in
-    let o : 1 ≤ occurs (partials v ks) h = subst (λ xs. 1 ≤ occurs xs h) (sym k.only) (occurs_here h []) in
+    let o : 1 ≤ occurs (partial_nodes v ks) h = subst (λ xs. 1 ≤ occurs xs h) (sym k.only) (occurs_here h []) in
     let label : label_at w h ≡ Partly = (grp.others h (omega arith)).label ∙ l in
     record {
       one = t.arena.one;

@@ -17,12 +17,12 @@ use Rattle.arena_model.proofs.Paths.{other_top}
 use Rattle.arena_model.proofs.Trees.{no_circle}
 use Rattle.pq_arena.specs.declared.node.NodeId.{NodeId}
 use Rattle.bubble_pass.specs.declared.labels.Label.TheVariants.{Empty, Partial as Partly, Full}
-use Rattle.bubble_pass.specs.Climb.{indices}
+use Rattle.pq_arena.specs.RowNodes.{indices}
 use Rattle.bubble_pass.specs.Marks.{Marks, label_at, fulls_at, partials_at, size_of, first_of, next_of, IsFollowed}
-use Rattle.pq_plain.specs.Templates.{star}
+use Rattle.template_theory.specs.Templates.{star}
 use Rattle.template_model.specs.Standing.{IsReady}
 use Rattle.template_model.specs.Treated.{IsTreated}
-use Rattle.templates_p.specs.Sorts.{fulls, empties, partials, full_then}
+use Rattle.templates_p.specs.Sorts.{full_nodes, empty_nodes, partial_nodes, full_then}
 use Rattle.templates_p.specs.Steps.{CanMove, Moved, moved_under, without_all, onto, Gathering, HasGroup, CanGather, IsSameAt, HasChildWith}
 use Rattle.templates_p.proofs.Rebuilt.{IsRebuilt, IsWritten, child_used}
 use Rattle.templates_p.proofs.Remarked.{AreRemarked, is_answer, is_full, swapped_self, replaced_self, treated}
@@ -44,11 +44,11 @@ gather_start f g w n x left next start now h r m e q t = record {
   length = omega (arith, chain_length f w n h r.right);
 }
 
-fulls_snoc : (w : Marks) (xs : List ℕ) (x : ℕ) → fulls w (xs ++ x ∷ []) ≡ fulls w xs ++ full_then (label_at w x) x []
+fulls_snoc : (w : Marks) (xs : List ℕ) (x : ℕ) → full_nodes w (xs ++ x ∷ []) ≡ full_nodes w xs ++ full_then (label_at w x) x []
 fulls_snoc w [] x = refl
 fulls_snoc w (y ∷ xs) x = ap (full_then (label_at w y) y) (fulls_snoc w xs x) ∙ front (label_at w y)
   where
-    front : (l : _) → full_then l y (fulls w xs ++ full_then (label_at w x) x []) ≡ full_then l y (fulls w xs) ++ full_then (label_at w x) x []
+    front : (l : _) → full_then l y (full_nodes w xs ++ full_then (label_at w x) x []) ≡ full_then l y (full_nodes w xs) ++ full_then (label_at w x) x []
     front Empty = refl
     front Partly = refl
     front Full = refl
@@ -59,9 +59,9 @@ indices_snoc xs x = map-append (λ n. n.index) xs (x ∷ [])
 -- the next child of the chain is a child, and was not passed
 pub record IsNext (f : Layout) (w : Marks) (n : ℕ) (passed : List NodeId) (x : NodeId) : Type 0 where
   pub child : 1 ≤ occurs (children_at f n) x.index
-  pub new : occurs (fulls w (indices passed)) x.index ≡ 0
+  pub new : occurs (full_nodes w (indices passed)) x.index ≡ 0
 
-fulls_less : (w : Marks) (xs : List ℕ) (k : ℕ) → occurs (fulls w xs) k ≤ occurs xs k
+fulls_less : (w : Marks) (xs : List ℕ) (k : ℕ) → occurs (full_nodes w xs) k ≤ occurs xs k
 fulls_less w xs k = omega (arith, all_sorted w xs k)
 
 pub gather_next : (f g : Layout) (w : Marks) (n x left : ℕ) (next : Option NodeId) (start now : ℕ) (y : NodeId) → IsLayout f →
@@ -72,7 +72,7 @@ gather_next f g w n x left next start now y h s l e = elim (ahead_of w next s.re
       let o : 1 ≤ occurs (indices s.rest) y.index = subst (λ rs. 1 ≤ occurs (indices rs) y.index) (sym r)
       (subst (λ t. 1 ≤ occurs (indices (z ∷ zs)) t) (ap (λ t. t.index) same) (occurs_here z.index (indices zs))) in
       let ks : List ℕ = children_at f n in
-      let a : occurs (indices s.passed) y.index + occurs (indices s.rest) y.index ≡ occurs (fulls w ks) y.index + occurs (partials w ks) y.index = s.all y.index in
+      let a : occurs (indices s.passed) y.index + occurs (indices s.rest) y.index ≡ occurs (full_nodes w ks) y.index + occurs (partial_nodes w ks) y.index = s.all y.index in
       let once : occurs ks y.index ≤ 1 = child_once f n y.index h in
       record {
         child = omega (arith, all_sorted w ks y.index);
@@ -82,7 +82,7 @@ gather_next f g w n x left next start now y h s l e = elim (ahead_of w next s.re
 
 pub gather_on : (f g g' : Layout) (w : Marks) (n x left left' : ℕ) (next next' : Option NodeId) (start now now' : ℕ) (y : NodeId) →
     (s : Gathering f g w n x left next start now) → 1 ≤ left → next ≡ Some y → left' + 1 ≡ left → next' ≡ next_of w y → now' ≤ now + 2 →
-    Moved f g' n x (fulls w (indices (s.passed ++ y ∷ []))) → Gathering f g' w n x left' next' start now'
+    Moved f g' n x (full_nodes w (indices (s.passed ++ y ∷ []))) → Gathering f g' w n x left' next' start now'
 gather_on f g g' w n x left left' next next' start now now' y s l e m q t moved = elim (ahead_of w next s.rest s.followed (let c : left ≡ length s.rest = s.count in omega arith)) [
   | ahead z zs r p i ↦
       let same : z ≡ y = some_same z y (sym p ∙ e) in
@@ -92,7 +92,7 @@ gather_on f g g' w n x left left' next next' start now now' y s l e m q t moved 
         rest = zs;
         followed = subst (λ o. IsFollowed w o zs) (ap (next_of w) same ∙ sym q) i;
         count = let c : left ≡ length s.rest = s.count in omega arith;
-        all = λ k. let a : occurs (indices s.passed) k + occurs (indices s.rest) k ≡ occurs (fulls w (children_at f n)) k + occurs (partials w (children_at f n)) k = s.all k in
+        all = λ k. let a : occurs (indices s.passed) k + occurs (indices s.rest) k ≡ occurs (full_nodes w (children_at f n)) k + occurs (partial_nodes w (children_at f n)) k = s.all k in
             let b : occurs (indices s.rest) k ≡ occurs (y.index ∷ indices zs) k = ap (λ rs. occurs (indices rs) k) r ∙ ap (λ t. occurs (t.index ∷ indices zs) k) same in
             let c : occurs (indices (s.passed ++ y ∷ [])) k ≡ occurs (indices s.passed) k + occurs (y.index ∷ []) k =
             ap (λ zs. occurs zs k) (indices_snoc s.passed y) ∙ occurs-append (indices s.passed) (y.index ∷ []) k in
@@ -105,13 +105,13 @@ gather_on f g g' w n x left left' next next' start now now' y s l e m q t moved 
 
 -- a full child was passed: it has moved
 pub passed_full : (f g : Layout) (w : Marks) (n x : ℕ) (passed : List NodeId) (y : NodeId) → IsLayout g → shape_at f n ≡ Some P →
-    Moved f g n x (fulls w (indices passed)) → IsNext f w n passed y → label_at w y.index ≡ Full →
-    Moved f (moved_under g n x y.index) n x (fulls w (indices (passed ++ y ∷ [])))
+    Moved f g n x (full_nodes w (indices passed)) → IsNext f w n passed y → label_at w y.index ≡ Full →
+    Moved f (moved_under g n x y.index) n x (full_nodes w (indices (passed ++ y ∷ [])))
 passed_full f g w n x passed y h is_p m i e =
-    let can : CanMove g n x y.index = can_move f g n x (fulls w (indices passed)) y.index is_p m i.child i.new in
+    let can : CanMove g n x y.index = can_move f g n x (full_nodes w (indices passed)) y.index is_p m i.child i.new in
     subst (λ ds. Moved f (moved_under g n x y.index) n x ds)
-    (sym (ap (fulls w) (indices_snoc passed y) ∙ fulls_snoc w (indices passed) y.index ∙ ap (λ l. fulls w (indices passed) ++ full_then l y.index []) e))
-    (moved_one f g n x (fulls w (indices passed)) y.index m can (ready_to_put g n x y.index h can))
+    (sym (ap (full_nodes w) (indices_snoc passed y) ∙ fulls_snoc w (indices passed) y.index ∙ ap (λ l. full_nodes w (indices passed) ++ full_then l y.index []) e))
+    (moved_one f g n x (full_nodes w (indices passed)) y.index m can (ready_to_put g n x y.index h can))
 
 append_nil : (xs : List ℕ) → xs ++ [] ≡ xs
 append_nil [] = refl
@@ -119,9 +119,9 @@ append_nil (x ∷ xs) = ap (λ ys. x ∷ ys) (append_nil xs)
 
 -- another child was passed: nothing moves
 pub passed_other : (f g : Layout) (w : Marks) (n x : ℕ) (passed : List NodeId) (y : NodeId) →
-    Moved f g n x (fulls w (indices passed)) → (label_at w y.index ≡ Full → ⊥) → Moved f g n x (fulls w (indices (passed ++ y ∷ [])))
+    Moved f g n x (full_nodes w (indices passed)) → (label_at w y.index ≡ Full → ⊥) → Moved f g n x (full_nodes w (indices (passed ++ y ∷ [])))
 passed_other f g w n x passed y m ne = subst (λ ds. Moved f g n x ds)
-    (sym (ap (fulls w) (indices_snoc passed y) ∙ fulls_snoc w (indices passed) y.index ∙ ap (λ zs. fulls w (indices passed) ++ zs) (none (label_at w y.index) refl) ∙ append_nil (fulls w (indices passed)))) m
+    (sym (ap (full_nodes w) (indices_snoc passed y) ∙ fulls_snoc w (indices passed) y.index ∙ ap (λ zs. full_nodes w (indices passed) ++ zs) (none (label_at w y.index) refl) ∙ append_nil (full_nodes w (indices passed)))) m
   where
     none : (l : _) → label_at w y.index ≡ l → full_then l y.index [] ≡ []
     none Empty e = refl
@@ -131,26 +131,26 @@ passed_other f g w n x passed y m ne = subst (λ ds. Moved f g n x ds)
 -- at the end of the walk the full children have moved
 pub record AllMoved (f g : Layout) (w : Marks) (n x : ℕ) (ds : List ℕ) : Type 0 where
   pub moved : Moved f g n x ds
-  pub all : (k : ℕ) → occurs ds k ≡ occurs (fulls w (children_at f n)) k
+  pub all : (k : ℕ) → occurs ds k ≡ occurs (full_nodes w (children_at f n)) k
 
 pub gather_end : (f g : Layout) (w : Marks) (n x left : ℕ) (next : Option NodeId) (start now : ℕ) → (s : Gathering f g w n x left next start now) → left ≡ 0 →
-    AllMoved f g w n x (fulls w (indices s.passed))
+    AllMoved f g w n x (full_nodes w (indices s.passed))
 gather_end f g w n x left next start now s e = record {
   moved = s.moved;
   all = λ k.
       let ks : List ℕ = children_at f n in
       let none : occurs (indices s.rest) k ≡ 0 = nil s.rest k (let c : left ≡ length s.rest = s.count in omega arith) in
-      let a : occurs (indices s.passed) k + occurs (indices s.rest) k ≡ occurs (fulls w ks) k + occurs (partials w ks) k = s.all k in
-      elim (cases_lt 0 (occurs (fulls w ks) k)) [
+      let a : occurs (indices s.passed) k + occurs (indices s.rest) k ≡ occurs (full_nodes w ks) k + occurs (partial_nodes w ks) k = s.all k in
+      elim (cases_lt 0 (occurs (full_nodes w ks) k)) [
         | inl l ↦
             let is : label_at w k ≡ Full = full_label_of w ks k l in
-            let b : occurs (fulls w (indices s.passed)) k ≡ occurs (indices s.passed) k = full_times w (indices s.passed) k is in
-            let c : occurs (partials w ks) k ≡ 0 = no_partial w ks k (not_full_partial (label_at w k) is) in omega arith
-        | inr l ↦ elim (cases_lt 0 (occurs (fulls w (indices s.passed)) k)) [
+            let b : occurs (full_nodes w (indices s.passed)) k ≡ occurs (indices s.passed) k = full_times w (indices s.passed) k is in
+            let c : occurs (partial_nodes w ks) k ≡ 0 = no_partial w ks k (not_full_partial (label_at w k) is) in omega arith
+        | inr l ↦ elim (cases_lt 0 (occurs (full_nodes w (indices s.passed)) k)) [
           | inl m ↦
               let is : label_at w k ≡ Full = full_label_of w (indices s.passed) k m in
-              let b : occurs (fulls w (indices s.passed)) k ≡ occurs (indices s.passed) k = full_times w (indices s.passed) k is in
-              let c : occurs (partials w ks) k ≡ 0 = no_partial w ks k (not_full_partial (label_at w k) is) in omega arith
+              let b : occurs (full_nodes w (indices s.passed)) k ≡ occurs (indices s.passed) k = full_times w (indices s.passed) k is in
+              let c : occurs (partial_nodes w ks) k ≡ 0 = no_partial w ks k (not_full_partial (label_at w k) is) in omega arith
           | inr m ↦ omega arith
         ]
       ];
@@ -169,24 +169,24 @@ gathering_some f g w n x left next start now s l e = never_none w s.rest (subst 
 
 -- whatever the label, a child was passed
 pub passed_one : (f g g' : Layout) (w : Marks) (n x : ℕ) (passed : List NodeId) (y : NodeId) → IsLayout g → shape_at f n ≡ Some P →
-    Moved f g n x (fulls w (indices passed)) → IsNext f w n passed y → (label_at w y.index ≡ Full → g' ≡ moved_under g n x y.index) → (label_at w y.index ≢ Full → g' ≡ g) →
-    Moved f g' n x (fulls w (indices (passed ++ y ∷ [])))
+    Moved f g n x (full_nodes w (indices passed)) → IsNext f w n passed y → (label_at w y.index ≡ Full → g' ≡ moved_under g n x y.index) → (label_at w y.index ≢ Full → g' ≡ g) →
+    Moved f g' n x (full_nodes w (indices (passed ++ y ∷ [])))
 passed_one f g g' w n x passed y h is_p m i full other = go (label_at w y.index) refl
   where
-    kept : label_at w y.index ≢ Full → Moved f g' n x (fulls w (indices (passed ++ y ∷ [])))
-    kept ne = subst (λ z. Moved f z n x (fulls w (indices (passed ++ y ∷ [])))) (sym (other ne)) (passed_other f g w n x passed y m ne)
+    kept : label_at w y.index ≢ Full → Moved f g' n x (full_nodes w (indices (passed ++ y ∷ [])))
+    kept ne = subst (λ z. Moved f z n x (full_nodes w (indices (passed ++ y ∷ [])))) (sym (other ne)) (passed_other f g w n x passed y m ne)
 
-    go : (l : _) → label_at w y.index ≡ l → Moved f g' n x (fulls w (indices (passed ++ y ∷ [])))
+    go : (l : _) → label_at w y.index ≡ l → Moved f g' n x (full_nodes w (indices (passed ++ y ∷ [])))
     go Empty e = kept (λ q. not_full_empty (label_at w y.index) q e)
     go Partly e = kept (λ q. not_full_partial (label_at w y.index) q e)
-    go Full e = subst (λ z. Moved f z n x (fulls w (indices (passed ++ y ∷ [])))) (sym (full e)) (passed_full f g w n x passed y h is_p m i e)
+    go Full e = subst (λ z. Moved f z n x (full_nodes w (indices (passed ++ y ∷ [])))) (sym (full e)) (passed_full f g w n x passed y h is_p m i e)
 
 -- one full child
 pub one_full : (f : Layout) (w : Marks) (n : ℕ) → IsLayout f → IsReady f w n → fulls_at w n ≡ 1 → HasChildWith f w n Full n
 one_full f w n h r e =
-    let a : length (fulls w (children_at f n)) ≡ fulls_at w n = fulls_length w (children_at f n) ∙ sym r.right.full in
-    let k = some_member (fulls w (children_at f n)) (omega arith) in
-    let o : 1 ≤ occurs (fulls w (children_at f n)) k.0 = k.1 in
+    let a : length (full_nodes w (children_at f n)) ≡ fulls_at w n = fulls_length w (children_at f n) ∙ sym r.right.full in
+    let k = some_member (full_nodes w (children_at f n)) (omega arith) in
+    let o : 1 ≤ occurs (full_nodes w (children_at f n)) k.0 = k.1 in
     let c : 1 ≤ occurs (children_at f n) k.0 = omega (arith, all_sorted w (children_at f n) k.0) in
     record {
       ready = r;
@@ -202,8 +202,8 @@ only_member [] y e o = absurd (omega arith)
 only_member (x ∷ []) y e o = ap (λ z. z ∷ []) (sym (only_one y x o))
 only_member (x ∷ z ∷ xs) y e o = absurd (omega arith)
 
-pub no_full_child : (f : Layout) (w : Marks) (n : ℕ) → IsReady f w n → fulls_at w n ≡ 0 → fulls w (children_at f n) ≡ []
-no_full_child f w n r e = nil (fulls w (children_at f n)) (fulls_length w (children_at f n) ∙ sym r.right.full ∙ e)
+pub no_full_child : (f : Layout) (w : Marks) (n : ℕ) → IsReady f w n → fulls_at w n ≡ 0 → full_nodes w (children_at f n) ≡ []
+no_full_child f w n r e = nil (full_nodes w (children_at f n)) (fulls_length w (children_at f n) ∙ sym r.right.full ∙ e)
   where
     nil : (xs : List ℕ) → length xs ≡ 0 → xs ≡ []
     nil [] e = refl
@@ -212,12 +212,12 @@ no_full_child f w n r e = nil (fulls w (children_at f n)) (fulls_length w (child
 pub one_made : (f : Layout) (w : Marks) (n y : ℕ) → IsReady f w n → shape_at f n ≡ Some P → fulls_at w n ≡ 1 → 1 ≤ occurs (children_at f n) y → label_at w y ≡ Full →
     HasGroup f w f w n y
 one_made f w n y r is_p e o l =
-    let a : length (fulls w (children_at f n)) ≡ 1 = fulls_length w (children_at f n) ∙ sym r.right.full ∙ e in
-    let in_full : 1 ≤ occurs (fulls w (children_at f n)) y = subst (λ z. 1 ≤ z) (sym (full_times w (children_at f n) y l)) o in
-    let is : fulls w (children_at f n) ≡ y ∷ [] = only_member (fulls w (children_at f n)) y a in_full in
+    let a : length (full_nodes w (children_at f n)) ≡ 1 = fulls_length w (children_at f n) ∙ sym r.right.full ∙ e in
+    let in_full : 1 ≤ occurs (full_nodes w (children_at f n)) y = subst (λ z. 1 ≤ z) (sym (full_times w (children_at f n) y l)) o in
+    let is : full_nodes w (children_at f n) ≡ y ∷ [] = only_member (full_nodes w (children_at f n)) y a in_full in
     record {
       shape = is_p;
-      children = λ k. all_sorted w (children_at f n) k ∙ ap (λ xs. occurs xs k + occurs (empties w (children_at f n)) k + occurs (partials w (children_at f n)) k) is;
+      children = λ k. all_sorted w (children_at f n) k ∙ ap (λ xs. occurs xs k + occurs (empty_nodes w (children_at f n)) k + occurs (partial_nodes w (children_at f n)) k) is;
       label = l;
       tree = subst (λ xs. AreEquivalent (star (forest (map (outline_below f) xs))) (outline_below f y ∷ [])) (sym is)
           (are_same (outline_below f) (outline_below f) (y ∷ []) (λ k q. refl));
@@ -266,12 +266,12 @@ pub record CanGroup (f : Layout) (v : Marks) (n : ℕ) : Type 0 where
   pub room : size_of v ≡ length f.slots
   pub used : IsInUse f n
   pub is_p : shape_at f n ≡ Some P
-  pub many : 2 ≤ length (fulls v (children_at f n))
-  pub more : length (fulls v (children_at f n)) < length (children_at f n)
+  pub many : 2 ≤ length (full_nodes v (children_at f n))
+  pub more : length (full_nodes v (children_at f n)) < length (children_at f n)
 
 pub can_group : (f : Layout) (v : Marks) (n : ℕ) → CanGather f v n → 2 ≤ fulls_at v n → CanGroup f v n
 can_group f v n c many =
-    let e : fulls_at v n ≡ length (fulls v (children_at f n)) = c.ready.right.full ∙ sym (fulls_length v (children_at f n)) in
+    let e : fulls_at v n ≡ length (full_nodes v (children_at f n)) = c.ready.right.full ∙ sym (fulls_length v (children_at f n)) in
     record {
       one = c.ready.one;
       two = c.ready.two;
@@ -304,27 +304,27 @@ module _ (f g : Layout) (v : Marks) (n x : ℕ) (ds : List ℕ) (h : IsLayout f)
   other_slot : (m : ℕ) → m ≢ n → m ≢ x → slot (grouped g n x).slots m ≡ slot f.slots m
   other_slot m p q = get_or-set_other g.slots n m _ spare_slot p ∙ a.moved.others m p q
 
-  in_group : (k : ℕ) → occurs (children_at (grouped g n x) x) k ≡ occurs (fulls v (children_at f n)) k
+  in_group : (k : ℕ) → occurs (children_at (grouped g n x) x) k ≡ occurs (full_nodes v (children_at f n)) k
   in_group k = ap (λ ks. occurs ks k) group_children ∙ (let z : occurs (onto ds []) k ≡ occurs ds k + 0 = onto_has ds [] k in
-      let y : occurs ds k ≡ occurs (fulls v (children_at f n)) k = a.all k in omega arith)
+      let y : occurs ds k ≡ occurs (full_nodes v (children_at f n)) k = a.all k in omega arith)
 
-  full_child : (k : ℕ) → 1 ≤ occurs (fulls v (children_at f n)) k → 1 ≤ occurs (children_at f n) k
+  full_child : (k : ℕ) → 1 ≤ occurs (full_nodes v (children_at f n)) k → 1 ≤ occurs (children_at f n) k
   full_child k o = omega (arith, all_sorted v (children_at f n) k)
 
   not_group : (k : ℕ) → 1 ≤ occurs (children_at f n) k → k ≢ x
   not_group k o e = child_used f n k h o (subst (λ z. shape_at f z ≡ None) (sym e) a.moved.fresh)
 
-  left_children : (k : ℕ) → occurs (without_all (children_at f n) ds) k ≡ occurs (empties v (children_at f n)) k + occurs (partials v (children_at f n)) k
+  left_children : (k : ℕ) → occurs (without_all (children_at f n) ds) k ≡ occurs (empty_nodes v (children_at f n)) k + occurs (partial_nodes v (children_at f n)) k
   left_children k =
       let ks : List ℕ = children_at f n in
-      elim (cases_lt 0 (occurs (fulls v ks) k)) [
+      elim (cases_lt 0 (occurs (full_nodes v ks) k)) [
         | inl l ↦
             let is = full_label_of v ks k l in
             let z : occurs (without_all ks ds) k ≡ 0 = all_gone ks ds k (subst (λ y. 1 ≤ y) (sym (a.all k)) l) in
-            let e : occurs (empties v ks) k ≡ 0 = no_empty v ks k (not_full_empty (label_at v k) is) in
-            let p : occurs (partials v ks) k ≡ 0 = no_partial v ks k (not_full_partial (label_at v k) is) in
+            let e : occurs (empty_nodes v ks) k ≡ 0 = no_empty v ks k (not_full_empty (label_at v k) is) in
+            let p : occurs (partial_nodes v ks) k ≡ 0 = no_partial v ks k (not_full_partial (label_at v k) is) in
             omega arith
-        | inr l ↦ let y : occurs (fulls v ks) k ≡ 0 = omega arith in
+        | inr l ↦ let y : occurs (full_nodes v ks) k ≡ 0 = omega arith in
             let z : occurs (without_all ks ds) k ≡ occurs ks k = all_kept ks ds k (a.all k ∙ y) in
             omega (arith, all_sorted v ks k)
       ]
@@ -333,18 +333,18 @@ module _ (f g : Layout) (v : Marks) (n x : ℕ) (ds : List ℕ) (h : IsLayout f)
   some_left : 1 ≤ length (without_all (children_at f n) ds)
   some_left =
       let ks : List ℕ = children_at f n in
-      let l : length (fulls v ks) < length ks = c.more in
-      let m : 1 ≤ length (empties v ks ++ partials v ks) = omega (arith, all_counted v ks, length-append (empties v ks) (partials v ks)) in
-      let k = some_member (empties v ks ++ partials v ks) m in
-      some_length (without_all ks ds) k.0 (omega (arith, k.1, left_children k.0, occurs-append (empties v ks) (partials v ks) k.0))
+      let l : length (full_nodes v ks) < length ks = c.more in
+      let m : 1 ≤ length (empty_nodes v ks ++ partial_nodes v ks) = omega (arith, all_counted v ks, length-append (empty_nodes v ks) (partial_nodes v ks)) in
+      let k = some_member (empty_nodes v ks ++ partial_nodes v ks) m in
+      some_length (without_all ks ds) k.0 (omega (arith, k.1, left_children k.0, occurs-append (empty_nodes v ks) (partial_nodes v ks) k.0))
 
   group_length : 2 ≤ length (children_at (grouped g n x) x)
   group_length =
-      let q : length (fulls v (children_at f n)) ≡ length (children_at (grouped g n x) x) = same_length (children_at (grouped g n x) x) (fulls v (children_at f n)) in_group in
+      let q : length (full_nodes v (children_at f n)) ≡ length (children_at (grouped g n x) x) = same_length (children_at (grouped g n x) x) (full_nodes v (children_at f n)) in_group in
       omega (arith, c.many)
 
   under_node : (k : ℕ) → 1 ≤ occurs (children_at f n) k → IsAtOrAbove (grouped g n x).slots n k
-  under_node k o = elim (cases_lt 0 (occurs (fulls v (children_at f n)) k)) [
+  under_node k o = elim (cases_lt 0 (occurs (full_nodes v (children_at f n)) k)) [
     | inl l ↦ down n x k (subst (λ ks. 1 ≤ occurs ks x) (sym node_children) (occurs_here x (without_all (children_at f n) ds)))
         (down x k k (subst (λ y. 1 ≤ y) (sym (in_group k)) l) (here k))
     | inr l ↦ down n k k (subst (λ ks. 1 ≤ occurs ks k) (sym node_children)
@@ -427,7 +427,7 @@ module _ (f g : Layout) (v : Marks) (n x : ℕ) (ds : List ℕ) (h : IsLayout f)
       is_answer refl,
       (
         is_full group_label (λ k o.
-            let l : 1 ≤ occurs (fulls v (children_at f n)) k = subst (λ y. 1 ≤ y) (in_group k) o in
+            let l : 1 ≤ occurs (full_nodes v (children_at f n)) k = subst (λ y. 1 ≤ y) (in_group k) o in
             let o' : 1 ≤ occurs (children_at f n) k = full_child k l in
             (neither n x k (λ e. not_self k o' e) (not_group k o'), full_label_of v (children_at f n) k l)),
         tt,
@@ -453,10 +453,10 @@ module _ (f g : Layout) (v : Marks) (n x : ℕ) (ds : List ℕ) (h : IsLayout f)
     shape = node_shape;
     children = λ k. ap (λ ks. occurs ks k) node_children ∙ (let z = left_children k in omega (arith, left_children k));
     label = group_label;
-    tree = subst (λ ts. AreEquivalent ts (outline_below (grouped g n x) x ∷ [])) (sym (star_many (outline_below f) (fulls v (children_at f n)) c.many)) (
-      p_stands (grouped g n x) x (fulls v (children_at f n)) (forest (map (outline_below f) (fulls v (children_at f n)))) hg group_shape
+    tree = subst (λ ts. AreEquivalent ts (outline_below (grouped g n x) x ∷ [])) (sym (star_many (outline_below f) (full_nodes v (children_at f n)) c.many)) (
+      p_stands (grouped g n x) x (full_nodes v (children_at f n)) (forest (map (outline_below f) (full_nodes v (children_at f n)))) hg group_shape
           (λ k. sym (in_group k))
-          (are_same (outline_below f) (outline_below (grouped g n x)) (fulls v (children_at f n)) (λ k o. (child_same k (full_child k o)).tree)),
+          (are_same (outline_below f) (outline_below (grouped g n x)) (full_nodes v (children_at f n)) (λ k o. (child_same k (full_child k o)).tree)),
       tt,
     );
     others = λ k o. child_same k (omega (arith, all_sorted v (children_at f n) k));

@@ -16,10 +16,10 @@ use Rattle.arena_model.proofs.Lists.{occurs_here}
 use Rattle.pq_arena.specs.declared.node.NodeId.{NodeId}
 use Rattle.bubble_pass.specs.declared.labels.Label.TheVariants.{Empty}
 use Rattle.bubble_pass.specs.Marks.{Marks, label_at}
-use Rattle.pq_plain.specs.Templates.{Partial, Label, star, line, under, IsP6}
+use Rattle.template_theory.specs.Templates.{Partial, Label, star, line, under, IsP6}
 use Rattle.template_model.specs.Standing.{child_trees, AreMarkedAs, AreShapesAt, IsShapeAt}
-use Rattle.template_model.specs.Treated.{StandsFor}
-use Rattle.templates_p.specs.Sorts.{empties, partials}
+use Rattle.template_model.specs.Treated.{StandsForTree}
+use Rattle.templates_p.specs.Sorts.{empty_nodes, partial_nodes}
 use Rattle.templates_p.specs.Steps.{IsSameAt}
 use Rattle.templates_p.specs.Lines.{IsShapeTo}
 use Rattle.templates_p.specs.Merging.{laid_on, IsMerged}
@@ -149,7 +149,7 @@ module _ (g i j : Layout) (w x : Marks) (n p q end other a : ℕ) (y : Option No
   unfolding behind
   second_is = line_is (outline_below i) m.second.es m.second.fs t m.second.empty_trees m.second.full_trees
 
-  -- read from either end it stands for the trees of both partials, the full ones inside
+  -- read from either end it stands for the trees of both partial_nodes, the full ones inside
   pub line_stands : (fs : Forest) → AreEquivalent fs (map (outline_below g) (listed y)) → IsEquivalent (q_node (join (line s) (join fs (back (line t))))) (outline_below j p)
   line_stands fs e = joined_stands j p (outline_below g) (outline_below i) (outline_below g) front behind (listed y) (line s) (line t) fs m.layout m.merged.shape line_sides first_is second_is e
       front_tree behind_tree listed_tree
@@ -169,15 +169,15 @@ over_none es t o (x ∷ xs) e l = absurd (let z : occurs (x ∷ xs) x ≡ 0 = l 
 -- P6 applied
 pub p6_becomes : (f g i j : Layout) (v w x : Marks) (n p q end other a : ℕ) (y : Option NodeId) (ps : List Label) (u : Outline) → IsLayout j → AreMarkedAs f v n ps → AreShapesAt f v (children_at f n) ps →
     AreReady f v g w n p q y → ((z : Partial) → IsShapeAt g w p z → IsShapeTo g w p z end) → IsLengthened g i w n p end y → ((z : Partial) → IsShapeAt i w q z → IsShapeTo i w q z other) →
-    IsMerged i w j x n p q a (laid_on end (oriented (1 - other) (children_at i q)) (children_at i p)) → IsP6 true (child_trees f n) ps u → StandsFor j a u
+    IsMerged i w j x n p q a (laid_on end (oriented (1 - other) (children_at i q)) (children_at i p)) → IsP6 true (child_trees f n) ps u → StandsForTree j a u
 p6_becomes f g i j v w x n p q end other a y ps u lay m s r to l to_other b six =
     let ks : List ℕ = children_at f n in
     let found : AreFound f v n p q = r.found in
     let d : ArePartials f v n p q six.es six.fs six.h six.k = are_partials f v n p q ps six.es six.fs six.h six.k m s six.pattern found.p_child found.q_child found.p_label found.q_label (λ e. found.apart (sym e)) in
     let t : Outline = q_node (join (line six.h) (join (star six.fs) (back (line six.k)))) in
     let gathered : AreGathered f v g w n y = r.gathered in
-    let q_in : 1 ≤ occurs (partials v ks) q = r.q_in in
-    let p_in : 1 ≤ occurs (partials v ks) p = r.p_in in
+    let q_in : 1 ≤ occurs (partial_nodes v ks) q = r.q_in in
+    let p_in : 1 ≤ occurs (partial_nodes v ks) p = r.p_in in
     let z : IsMergedLine g i j w x n p q end other a y d.x d.y = record {
       layout = lay;
       first = to d.x ((gathered.others p (omega arith)).shape d.x d.first);
@@ -197,21 +197,21 @@ p6_becomes f g i j v w x n p q end other a y ps u lay m s r to l to_other b six 
     ] in
     elim b.place [
       | inl c ↦
-          let bag : (k : ℕ) → occurs (p ∷ empties v ks) k ≡ occurs (children_at j n) k = (λ k. let e : occurs (children_at j n) k + occurs (q ∷ []) k ≡ occurs (children_at i n) k = c.3 k in
+          let bag : (k : ℕ) → occurs (p ∷ empty_nodes v ks) k ≡ occurs (children_at j n) k = (λ k. let e : occurs (children_at j n) k + occurs (q ∷ []) k ≡ occurs (children_at i n) k = c.3 k in
           omega (arith, gathered.children k, l.bag k, d.only k)) in
-          let many : 1 ≤ length (empties v ks) = (let e : 2 ≤ length (children_at j n) = c.2 in let e' : length (children_at j n) ≡ length (p ∷ empties v ks) = same_length (p ∷ empties v ks) (children_at j n) bag in omega arith) in
-          let kept : (k : ℕ) → 1 ≤ occurs (empties v ks) k → outline_below j k ≡ outline_below f k = (λ k o.
+          let many : 1 ≤ length (empty_nodes v ks) = (let e : 2 ≤ length (children_at j n) = c.2 in let e' : length (children_at j n) ≡ length (p ∷ empty_nodes v ks) = same_length (p ∷ empty_nodes v ks) (children_at j n) bag in omega arith) in
+          let kept : (k : ℕ) → 1 ≤ occurs (empty_nodes v ks) k → outline_below j k ≡ outline_below f k = (λ k o.
           let is : label_at v k ≡ Empty = empty_label_of v ks k o in
           let e : IsSameAt f v g w k = gathered.others k (omega arith) in
           let np : k ≢ p = (λ i'. not_empty_partial (label_at v k) is (ap (label_at v) i' ∙ found.p_label)) in
           let nq : k ≢ q = (λ i'. not_empty_partial (label_at v k) is (ap (label_at v) i' ∙ found.q_label)) in
-          let in_i : 1 ≤ occurs (children_at j n) k = (let b' : occurs (p ∷ empties v ks) k ≡ occurs (children_at j n) k = bag k in omega arith) in
+          let in_i : 1 ≤ occurs (children_at j n) k = (let b' : occurs (p ∷ empty_nodes v ks) k ≡ occurs (children_at j n) k = bag k in omega arith) in
           let in_c : occurs (children_at j n) k + occurs (q ∷ []) k ≡ occurs (children_at i n) k = c.3 k in
           (c.4 k (omega arith) np nq).tree ∙ (l.same k (omega (arith, l.bag k)) np).tree ∙ e.tree) in
-          subst (λ o. StandsFor j o u) (sym c.0) (subst (λ o. IsEquivalent o (outline_below j n)) (sym (six.becomes ∙ over_some six.es t (outline_below f) (empties v ks) d.empty many))
-          (p_stands j n (p ∷ empties v ks) (tree_and t six.es) lay c.1 bag
-          (stands, subst (λ ts. AreEquivalent ts (map (outline_below j) (empties v ks))) d.empty (are_same (outline_below f) (outline_below j) (empties v ks) kept))))
+          subst (λ o. StandsForTree j o u) (sym c.0) (subst (λ o. IsEquivalent o (outline_below j n)) (sym (six.becomes ∙ over_some six.es t (outline_below f) (empty_nodes v ks) d.empty many))
+          (p_stands j n (p ∷ empty_nodes v ks) (tree_and t six.es) lay c.1 bag
+          (stands, subst (λ ts. AreEquivalent ts (map (outline_below j) (empty_nodes v ks))) d.empty (are_same (outline_below f) (outline_below j) (empty_nodes v ks) kept))))
       | inr c ↦
-          let none : (k : ℕ) → occurs (empties v ks) k ≡ 0 = (λ k. let e : occurs (children_at i n) k ≡ occurs (p ∷ q ∷ []) k = c.1 k in omega (arith, gathered.children k, l.bag k, d.only k)) in
-          subst (λ o. StandsFor j o u) (sym c.0) (subst (λ o. IsEquivalent o (outline_below j p)) (sym (six.becomes ∙ over_none six.es t (outline_below f) (empties v ks) d.empty none)) stands)
+          let none : (k : ℕ) → occurs (empty_nodes v ks) k ≡ 0 = (λ k. let e : occurs (children_at i n) k ≡ occurs (p ∷ q ∷ []) k = c.1 k in omega (arith, gathered.children k, l.bag k, d.only k)) in
+          subst (λ o. StandsForTree j o u) (sym c.0) (subst (λ o. IsEquivalent o (outline_below j p)) (sym (six.becomes ∙ over_none six.es t (outline_below f) (empty_nodes v ks) d.empty none)) stands)
     ]

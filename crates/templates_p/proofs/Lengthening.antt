@@ -14,10 +14,10 @@ use Rattle.arena_model.proofs.Slots.{used_by}
 use Rattle.pq_arena.specs.declared.node.NodeId.{NodeId}
 use Rattle.bubble_pass.specs.declared.labels.Label.TheVariants.{Partial as Partly, Full}
 use Rattle.bubble_pass.specs.Marks.{Marks, label_at, size_of}
-use Rattle.pq_plain.specs.Templates.{star}
+use Rattle.template_theory.specs.Templates.{star}
 use Rattle.template_model.specs.Treated.{IsTreated}
 use Rattle.template_model.proofs.Unchanged.{unchanged}
-use Rattle.templates_p.specs.Sorts.{fulls, empties, partials}
+use Rattle.templates_p.specs.Sorts.{full_nodes, empty_nodes, partial_nodes}
 use Rattle.templates_p.specs.Steps.{IsSameAt, IsGathered}
 use Rattle.templates_p.specs.Lines.{put_in, CanAbsorb, IsAbsorbed}
 use Rattle.templates_p.specs.Merging.{put_in_if, CanPutInIf}
@@ -40,15 +40,15 @@ same_then f g i u v w k s t = record { label = t.label ∙ s.label; tree = t.tre
 -- what the full children of n have become, whether there was none or some
 pub record AreGathered (f : Layout) (v : Marks) (g : Layout) (w : Marks) (n : ℕ) (y : Option NodeId) : Type 0 where
   pub shape : shape_at g n ≡ Some P
-  pub children : (k : ℕ) → occurs (children_at g n) k ≡ occurs (listed y) k + occurs (empties v (children_at f n)) k + occurs (partials v (children_at f n)) k
+  pub children : (k : ℕ) → occurs (children_at g n) k ≡ occurs (listed y) k + occurs (empty_nodes v (children_at f n)) k + occurs (partial_nodes v (children_at f n)) k
   pub full : (k : ℕ) → 1 ≤ occurs (listed y) k → label_at w k ≡ Full
-  pub trees : AreEquivalent (star (forest (map (outline_below f) (fulls v (children_at f n))))) (map (outline_below g) (listed y))
-  pub others : (k : ℕ) → 1 ≤ occurs (empties v (children_at f n)) k + occurs (partials v (children_at f n)) k → IsSameAt f v g w k
+  pub trees : AreEquivalent (star (forest (map (outline_below f) (full_nodes v (children_at f n))))) (map (outline_below g) (listed y))
+  pub others : (k : ℕ) → 1 ≤ occurs (empty_nodes v (children_at f n)) k + occurs (partial_nodes v (children_at f n)) k → IsSameAt f v g w k
 
-none_gathered : (f : Layout) (v : Marks) (n : ℕ) → shape_at f n ≡ Some P → fulls v (children_at f n) ≡ [] → AreGathered f v f v n None
+none_gathered : (f : Layout) (v : Marks) (n : ℕ) → shape_at f n ≡ Some P → full_nodes v (children_at f n) ≡ [] → AreGathered f v f v n None
 none_gathered f v n is_p none = record {
   shape = is_p;
-  children = λ k. let z : occurs (fulls v (children_at f n)) k ≡ 0 = ap (λ xs. occurs xs k) none in omega (arith, all_sorted v (children_at f n) k);
+  children = λ k. let z : occurs (full_nodes v (children_at f n)) k ≡ 0 = ap (λ xs. occurs xs k) none in omega (arith, all_sorted v (children_at f n) k);
   full = λ k o. absurd (omega arith);
   trees = subst (λ xs. AreEquivalent (star (forest (map (outline_below f) xs))) []) (sym none) tt;
   others = λ k o. same_self f v k;

@@ -14,15 +14,15 @@ use Rattle.arena_model.specs.NamedTree.{outline_below, IsOneTree, HasTwoEach}
 use Rattle.arena_model.proofs.Lists.{occurs_here}
 use Rattle.arena_model.proofs.Slots.{in_range, used_by}
 use Rattle.pq_arena.specs.declared.node.NodeId.{NodeId}
-use Rattle.bubble_pass.specs.Climb.{indices}
+use Rattle.pq_arena.specs.RowNodes.{indices}
 use Rattle.bubble_pass.specs.declared.labels.Label.{Label as Mark}
 use Rattle.bubble_pass.specs.declared.labels.Label.TheVariants.{Empty, Full}
 use Rattle.bubble_pass.specs.Marks.{Marks, label_at}
-use Rattle.pq_plain.specs.Templates.{Label, empty_label, full_label, IsSorted, IsP2, p2}
+use Rattle.template_theory.specs.Templates.{Label, empty_label, full_label, IsSorted, IsP2, p2}
 use Rattle.template_model.specs.Standing.{mark_of, child_trees}
-use Rattle.template_model.specs.Treated.{IsReplacedAt, StandsFor}
+use Rattle.template_model.specs.Treated.{IsReplacedAt, StandsForTree}
 use Rattle.templates_p.specs.Members.{AreMembers, member_labels}
-use Rattle.templates_p.specs.Sorts.{fulls, empties, partials}
+use Rattle.templates_p.specs.Sorts.{full_nodes, empty_nodes, partial_nodes}
 use Rattle.templates_p.specs.Steps.{Moved, CanMove, moved_under}
 use Rattle.templates_p.proofs.Rebuilt.{child_used, replaced_at}
 use Rattle.templates_p.proofs.Sorting.{held, sort, held_length, count_map, all_counted, full_label_of, full_times}
@@ -96,7 +96,7 @@ module _ (f : Layout) (n : ℕ) (members : List ℕ) (h : IsLayout f) (m : AreMe
       by true t = occurs_from_has members k t
       by false t = absurd (let z : Full ≡ Empty = sym e ∙ marked_at (length f.slots) members k (child_in k o) ∙ ap (λ b. cond b Full Empty) t in cc)
 
-  pub all_members : (k : ℕ) → occurs members k ≡ occurs (fulls marks (children_at f n)) k
+  pub all_members : (k : ℕ) → occurs members k ≡ occurs (full_nodes marks (children_at f n)) k
   all_members k =
       let ks : List ℕ = children_at f n in
       let once : occurs members k ≤ 1 = m.once k in
@@ -104,20 +104,20 @@ module _ (f : Layout) (n : ℕ) (members : List ℕ) (h : IsLayout f) (m : AreMe
       elim (cases_lt 0 (occurs members k)) [
         | inl l ↦
             let o : 1 ≤ occurs ks k = m.child k l in
-            let e : occurs (fulls marks ks) k ≡ occurs ks k = full_times marks ks k (member_full k l) in
+            let e : occurs (full_nodes marks ks) k ≡ occurs ks k = full_times marks ks k (member_full k l) in
             omega arith
-        | inr l ↦ elim (cases_lt 0 (occurs (fulls marks ks) k)) [
+        | inr l ↦ elim (cases_lt 0 (occurs (full_nodes marks ks) k)) [
           | inl o ↦
               let is : label_at marks k ≡ Full = full_label_of marks ks k o in
-              let e : occurs (fulls marks ks) k ≡ occurs ks k = full_times marks ks k is in
+              let e : occurs (full_nodes marks ks) k ≡ occurs ks k = full_times marks ks k is in
               let q : 1 ≤ occurs members k = full_member k (omega arith) is in
               absurd (omega arith)
           | inr o ↦ omega arith
         ]
       ]
 
-  fulls_many : length (fulls marks (children_at f n)) ≡ length members
-  fulls_many = same_length members (fulls marks (children_at f n)) all_members
+  fulls_many : length (full_nodes marks (children_at f n)) ≡ length members
+  fulls_many = same_length members (full_nodes marks (children_at f n)) all_members
 
   can : IsOneTree f → HasTwoEach f → CanGroup f marks n
   can one two = record {
@@ -130,22 +130,22 @@ module _ (f : Layout) (n : ℕ) (members : List ℕ) (h : IsLayout f) (m : AreMe
     more = let l : length members < length (children_at f n) = m.not_all in omega (arith, fulls_many);
   }
 
-  no_partials : length (partials marks (children_at f n)) ≡ 0
+  no_partials : length (partial_nodes marks (children_at f n)) ≡ 0
   no_partials = sym (held_length marks (children_at f n) (member_labels members (children_at f n)) are_marked) ∙ ap (λ hs. length hs) (none_held members (children_at f n))
 
   -- P2 stands at n by these labels
   made : IsP2 true (child_trees f n) (member_labels members (children_at f n))
-      (p2 (forest (map (outline_below f) (empties marks (children_at f n)))) (forest (map (outline_below f) (fulls marks (children_at f n)))))
+      (p2 (forest (map (outline_below f) (empty_nodes marks (children_at f n)))) (forest (map (outline_below f) (full_nodes marks (children_at f n)))))
   made =
       let ks : List ℕ = children_at f n in
       let o : ℕ → Outline = outline_below f in
       let l : length members < length ks = m.not_all in
       let t : 2 ≤ length members = m.two in
-      two_sorts (child_trees f n) (forest (map o (empties marks ks))) (forest (map o (fulls marks ks))) (member_labels members ks)
-      (subst (λ hs. IsSorted (child_trees f n) (member_labels members ks) (forest (map o (empties marks ks))) (forest (map o (fulls marks ks))) hs)
+      two_sorts (child_trees f n) (forest (map o (empty_nodes marks ks))) (forest (map o (full_nodes marks ks))) (member_labels members ks)
+      (subst (λ hs. IsSorted (child_trees f n) (member_labels members ks) (forest (map o (empty_nodes marks ks))) (forest (map o (full_nodes marks ks))) hs)
       (none_held members ks) (sort o marks ks (member_labels members ks) are_marked))
-      (omega (arith, count_map o (empties marks ks), all_counted marks ks, fulls_many, no_partials))
-      (omega (arith, count_map o (fulls marks ks), fulls_many))
+      (omega (arith, count_map o (empty_nodes marks ks), all_counted marks ks, fulls_many, no_partials))
+      (omega (arith, count_map o (full_nodes marks ks), fulls_many))
 
   -- the members have moved to x, and x is put in front of the other children
   module _ (g : Layout) (x : NodeId) (hg : IsLayout (grouped g n x.index)) (one : IsOneTree f) (two : HasTwoEach f) (moved : Moved f g n x.index members) where
@@ -155,12 +155,12 @@ module _ (f : Layout) (n : ℕ) (members : List ℕ) (h : IsLayout f) (m : AreMe
     pub members_replaced : IsReplacedAt f (grouped g n x.index) n n
     members_replaced = replaced_at f (grouped g n x.index) n n (n ∷ x.index ∷ []) (group_rebuilt f g marks n x.index members h hg (can one two) all_moved) one two
 
-    pub members_become : (u : Outline) × IsP2 true (child_trees f n) (member_labels members (children_at f n)) u × StandsFor (grouped g n x.index) n u
+    pub members_become : (u : Outline) × IsP2 true (child_trees f n) (member_labels members (children_at f n)) u × StandsForTree (grouped g n x.index) n u
     members_become = (
-      p2 (forest (map (outline_below f) (empties marks (children_at f n)))) (forest (map (outline_below f) (fulls marks (children_at f n)))),
+      p2 (forest (map (outline_below f) (empty_nodes marks (children_at f n)))) (forest (map (outline_below f) (full_nodes marks (children_at f n)))),
       made,
       p2_becomes f (grouped g n x.index) marks (full_marked marks x.index) n (Some x) (member_labels members (children_at f n))
-          (p2 (forest (map (outline_below f) (empties marks (children_at f n)))) (forest (map (outline_below f) (fulls marks (children_at f n))))) hg
+          (p2 (forest (map (outline_below f) (empty_nodes marks (children_at f n)))) (forest (map (outline_below f) (full_nodes marks (children_at f n))))) hg
           (group_made f g marks n x.index members h hg (can one two) all_moved) are_marked made,
     )
 

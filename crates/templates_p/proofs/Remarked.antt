@@ -12,7 +12,7 @@ use Rattle.arena_model.proofs.Paths.{above_step}
 use Rattle.pq_arena.specs.declared.node.NodeId.{NodeId}
 use Rattle.bubble_pass.specs.declared.labels.Label.{Label}
 use Rattle.bubble_pass.specs.declared.labels.Label.TheVariants.{Empty, Partial, Full}
-use Rattle.bubble_pass.specs.Climb.{indices}
+use Rattle.pq_arena.specs.RowNodes.{indices}
 use Rattle.bubble_pass.specs.Marks.{Marks, label_at, fulls_at, partials_at, size_of, IsChain, exchange}
 use Rattle.bubble_pass.specs.Pass.{IsRightAt}
 use Rattle.bubble_pass.specs.Sweep.{IsRight, full_one, partial_one}

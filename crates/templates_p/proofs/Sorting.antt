@@ -11,9 +11,9 @@ use Rattle.bubble_pass.specs.declared.labels.Label.{Label as Mark}
 use Rattle.bubble_pass.specs.declared.labels.Label.TheVariants.{Empty, Partial as Partly, Full}
 use Rattle.bubble_pass.specs.Marks.{Marks, label_at}
 use Rattle.bubble_pass.specs.Sweep.{full_one, partial_one}
-use Rattle.pq_plain.specs.Templates.{Partial, Label, empty_label, full_label, partial_label, IsSorted, none_sorted, to_empty, to_full, to_partial}
+use Rattle.template_theory.specs.Templates.{Partial, Label, empty_label, full_label, partial_label, IsSorted, none_sorted, to_empty, to_full, to_partial}
 use Rattle.template_model.specs.Standing.{mark_of, IsShapeAt, AreShapesAt}
-use Rattle.templates_p.specs.Sorts.{full_then, empty_then, partial_then, fulls, empties, partials}
+use Rattle.templates_p.specs.Sorts.{full_then, empty_then, partial_then, full_nodes, empty_nodes, partial_nodes}
 
 -- what the partial ones of the labels become
 abbrev pub held : List Label → List Partial
@@ -50,12 +50,12 @@ sort_step o k E F T (partial_label h) ps hs Full e s = absurd (cc)
 
 -- the children sort into the empty ones, the full ones and what the partial ones become
 pub sort : (o : ℕ → Outline) (w : Marks) (ks : List ℕ) (ps : List Label) → map mark_of ps ≡ map (label_at w) ks →
-    IsSorted (forest (map o ks)) ps (forest (map o (empties w ks))) (forest (map o (fulls w ks))) (held ps)
+    IsSorted (forest (map o ks)) ps (forest (map o (empty_nodes w ks))) (forest (map o (full_nodes w ks))) (held ps)
 sort o w [] [] e = none_sorted
 sort o w [] (x ∷ ps) e = absurd (cc)
 sort o w (k ∷ ks) [] e = absurd (cc)
 sort o w (k ∷ ks) (x ∷ ps) e =
-    sort_step o k (empties w ks) (fulls w ks) (forest (map o ks)) x ps (held ps) (label_at w k)
+    sort_step o k (empty_nodes w ks) (full_nodes w ks) (forest (map o ks)) x ps (held ps) (label_at w k)
     (cons_head (mark_of x) (label_at w k) (map mark_of ps) (map (label_at w) ks) e)
     (sort o w ks ps (cons_tail (mark_of x) (label_at w k) (map mark_of ps) (map (label_at w) ks) e))
 
@@ -74,12 +74,12 @@ held_step k ks (partial_label p) ps Empty e h = absurd (cc)
 held_step k ks (partial_label p) ps Partly e h = omega arith
 held_step k ks (partial_label p) ps Full e h = absurd (cc)
 
-pub held_length : (w : Marks) (ks : List ℕ) (ps : List Label) → map mark_of ps ≡ map (label_at w) ks → length (held ps) ≡ length (partials w ks)
+pub held_length : (w : Marks) (ks : List ℕ) (ps : List Label) → map mark_of ps ≡ map (label_at w) ks → length (held ps) ≡ length (partial_nodes w ks)
 held_length w [] [] e = refl
 held_length w [] (x ∷ ps) e = absurd (cc)
 held_length w (k ∷ ks) [] e = absurd (cc)
 held_length w (k ∷ ks) (x ∷ ps) e =
-    held_step k (partials w ks) x ps (label_at w k) (cons_head (mark_of x) (label_at w k) (map mark_of ps) (map (label_at w) ks) e)
+    held_step k (partial_nodes w ks) x ps (label_at w k) (cons_head (mark_of x) (label_at w k) (map mark_of ps) (map (label_at w) ks) e)
     (held_length w ks ps (cons_tail (mark_of x) (label_at w k) (map mark_of ps) (map (label_at w) ks) e))
 
 -- each of the nodes stands as its Q-shape
@@ -102,12 +102,12 @@ shape_step f w k ks js (partial_label p) ps Partly e s h = (s.0, h s.1)
 shape_step f w k ks js (partial_label p) ps Full e s h = absurd (cc)
 
 pub held_shapes : (f : Layout) (w : Marks) (ks : List ℕ) (ps : List Label) → map mark_of ps ≡ map (label_at w) ks → AreShapesAt f w ks ps →
-    AreShapes f w (partials w ks) (held ps)
+    AreShapes f w (partial_nodes w ks) (held ps)
 held_shapes f w [] [] e s = tt
 held_shapes f w [] (x ∷ ps) e s = absurd s
 held_shapes f w (k ∷ ks) [] e s = absurd s
 held_shapes f w (k ∷ ks) (x ∷ ps) e s =
-    shape_step f w k (partials w ks) ks x ps (label_at w k) (cons_head (mark_of x) (label_at w k) (map mark_of ps) (map (label_at w) ks) e) s
+    shape_step f w k (partial_nodes w ks) ks x ps (label_at w k) (cons_head (mark_of x) (label_at w k) (map mark_of ps) (map (label_at w) ks) e) s
     (held_shapes f w ks ps (cons_tail (mark_of x) (label_at w k) (map mark_of ps) (map (label_at w) ks) e))
 
 full_step : (k : ℕ) (ks : List ℕ) (l : Mark) → length (full_then l k ks) ≡ full_one l + length ks
@@ -120,13 +120,13 @@ partial_step k ks Empty = omega arith
 partial_step k ks Partly = omega arith
 partial_step k ks Full = omega arith
 
-pub fulls_length : (w : Marks) (ks : List ℕ) → length (fulls w ks) ≡ sum_by (λ k. full_one (label_at w k)) ks
+pub fulls_length : (w : Marks) (ks : List ℕ) → length (full_nodes w ks) ≡ sum_by (λ k. full_one (label_at w k)) ks
 fulls_length w [] = refl
-fulls_length w (k ∷ ks) = omega (arith, full_step k (fulls w ks) (label_at w k), fulls_length w ks, sum_by-cons (λ k. full_one (label_at w k)) k ks)
+fulls_length w (k ∷ ks) = omega (arith, full_step k (full_nodes w ks) (label_at w k), fulls_length w ks, sum_by-cons (λ k. full_one (label_at w k)) k ks)
 
-pub partials_length : (w : Marks) (ks : List ℕ) → length (partials w ks) ≡ sum_by (λ k. partial_one (label_at w k)) ks
+pub partials_length : (w : Marks) (ks : List ℕ) → length (partial_nodes w ks) ≡ sum_by (λ k. partial_one (label_at w k)) ks
 partials_length w [] = refl
-partials_length w (k ∷ ks) = omega (arith, partial_step k (partials w ks) (label_at w k), partials_length w ks, sum_by-cons (λ k. partial_one (label_at w k)) k ks)
+partials_length w (k ∷ ks) = omega (arith, partial_step k (partial_nodes w ks) (label_at w k), partials_length w ks, sum_by-cons (λ k. partial_one (label_at w k)) k ks)
 
 all_step : (k x : ℕ) (F E H : List ℕ) (l : Mark) →
     occurs (full_then l k F) x + occurs (empty_then l k E) x + occurs (partial_then l k H) x ≡ occurs (k ∷ []) x + (occurs F x + occurs E x + occurs H x)
@@ -135,9 +135,9 @@ all_step k x F E H Partly = omega arith
 all_step k x F E H Full = omega arith
 
 -- each child is full, empty or partial
-pub all_sorted : (w : Marks) (ks : List ℕ) (x : ℕ) → occurs ks x ≡ occurs (fulls w ks) x + occurs (empties w ks) x + occurs (partials w ks) x
+pub all_sorted : (w : Marks) (ks : List ℕ) (x : ℕ) → occurs ks x ≡ occurs (full_nodes w ks) x + occurs (empty_nodes w ks) x + occurs (partial_nodes w ks) x
 all_sorted w [] x = refl
-all_sorted w (k ∷ ks) x = omega (arith, all_sorted w ks x, all_step k x (fulls w ks) (empties w ks) (partials w ks) (label_at w k))
+all_sorted w (k ∷ ks) x = omega (arith, all_sorted w ks x, all_step k x (full_nodes w ks) (empty_nodes w ks) (partial_nodes w ks) (label_at w k))
 
 count_step : (k : ℕ) (F E H : List ℕ) (l : Mark) →
     length (full_then l k F) + length (empty_then l k E) + length (partial_then l k H) ≡ 1 + (length F + length E + length H)
@@ -145,9 +145,9 @@ count_step k F E H Empty = omega arith
 count_step k F E H Partly = omega arith
 count_step k F E H Full = omega arith
 
-pub all_counted : (w : Marks) (ks : List ℕ) → length ks ≡ length (fulls w ks) + length (empties w ks) + length (partials w ks)
+pub all_counted : (w : Marks) (ks : List ℕ) → length ks ≡ length (full_nodes w ks) + length (empty_nodes w ks) + length (partial_nodes w ks)
 all_counted w [] = refl
-all_counted w (k ∷ ks) = omega (arith, all_counted w ks, count_step k (fulls w ks) (empties w ks) (partials w ks) (label_at w k))
+all_counted w (k ∷ ks) = omega (arith, all_counted w ks, count_step k (full_nodes w ks) (empty_nodes w ks) (partial_nodes w ks) (label_at w k))
 
 full_of : (w : Marks) (k x : ℕ) (F : List ℕ) (l : Mark) → label_at w k ≡ l → 1 ≤ occurs (full_then l k F) x → (1 ≤ occurs F x → label_at w x ≡ Full) → label_at w x ≡ Full
 full_of w k x F Empty e o h = h o
@@ -157,9 +157,9 @@ full_of w k x F Full e o h = elim (cases_eq x k) [
   | inr ne ↦ h (subst (λ z. 1 ≤ z) (occurs_other k x F ne) o)
 ]
 
-pub full_label_of : (w : Marks) (ks : List ℕ) (x : ℕ) → 1 ≤ occurs (fulls w ks) x → label_at w x ≡ Full
+pub full_label_of : (w : Marks) (ks : List ℕ) (x : ℕ) → 1 ≤ occurs (full_nodes w ks) x → label_at w x ≡ Full
 full_label_of w [] x o = absurd (omega arith)
-full_label_of w (k ∷ ks) x o = full_of w k x (fulls w ks) (label_at w k) refl o (λ q. full_label_of w ks x q)
+full_label_of w (k ∷ ks) x o = full_of w k x (full_nodes w ks) (label_at w k) refl o (λ q. full_label_of w ks x q)
 
 empty_of : (w : Marks) (k x : ℕ) (F : List ℕ) (l : Mark) → label_at w k ≡ l → 1 ≤ occurs (empty_then l k F) x → (1 ≤ occurs F x → label_at w x ≡ Empty) → label_at w x ≡ Empty
 empty_of w k x F Full e o h = h o
@@ -169,9 +169,9 @@ empty_of w k x F Empty e o h = elim (cases_eq x k) [
   | inr ne ↦ h (subst (λ z. 1 ≤ z) (occurs_other k x F ne) o)
 ]
 
-pub empty_label_of : (w : Marks) (ks : List ℕ) (x : ℕ) → 1 ≤ occurs (empties w ks) x → label_at w x ≡ Empty
+pub empty_label_of : (w : Marks) (ks : List ℕ) (x : ℕ) → 1 ≤ occurs (empty_nodes w ks) x → label_at w x ≡ Empty
 empty_label_of w [] x o = absurd (omega arith)
-empty_label_of w (k ∷ ks) x o = empty_of w k x (empties w ks) (label_at w k) refl o (λ q. empty_label_of w ks x q)
+empty_label_of w (k ∷ ks) x o = empty_of w k x (empty_nodes w ks) (label_at w k) refl o (λ q. empty_label_of w ks x q)
 
 partial_of : (w : Marks) (k x : ℕ) (F : List ℕ) (l : Mark) → label_at w k ≡ l → 1 ≤ occurs (partial_then l k F) x → (1 ≤ occurs F x → label_at w x ≡ Partly) → label_at w x ≡ Partly
 partial_of w k x F Full e o h = h o
@@ -181,18 +181,18 @@ partial_of w k x F Partly e o h = elim (cases_eq x k) [
   | inr ne ↦ h (subst (λ z. 1 ≤ z) (occurs_other k x F ne) o)
 ]
 
-pub partial_label_of : (w : Marks) (ks : List ℕ) (x : ℕ) → 1 ≤ occurs (partials w ks) x → label_at w x ≡ Partly
+pub partial_label_of : (w : Marks) (ks : List ℕ) (x : ℕ) → 1 ≤ occurs (partial_nodes w ks) x → label_at w x ≡ Partly
 partial_label_of w [] x o = absurd (omega arith)
-partial_label_of w (k ∷ ks) x o = partial_of w k x (partials w ks) (label_at w k) refl o (λ q. partial_label_of w ks x q)
+partial_label_of w (k ∷ ks) x o = partial_of w k x (partial_nodes w ks) (label_at w k) refl o (λ q. partial_label_of w ks x q)
 
-pub no_full : (w : Marks) (ks : List ℕ) (x : ℕ) → (label_at w x ≡ Full → ⊥) → occurs (fulls w ks) x ≡ 0
-no_full w ks x ne = elim (cases_lt 0 (occurs (fulls w ks) x)) [ inl l ↦ absurd (ne (full_label_of w ks x l)) | inr l ↦ omega arith ]
+pub no_full : (w : Marks) (ks : List ℕ) (x : ℕ) → (label_at w x ≡ Full → ⊥) → occurs (full_nodes w ks) x ≡ 0
+no_full w ks x ne = elim (cases_lt 0 (occurs (full_nodes w ks) x)) [ inl l ↦ absurd (ne (full_label_of w ks x l)) | inr l ↦ omega arith ]
 
-pub no_empty : (w : Marks) (ks : List ℕ) (x : ℕ) → (label_at w x ≡ Empty → ⊥) → occurs (empties w ks) x ≡ 0
-no_empty w ks x ne = elim (cases_lt 0 (occurs (empties w ks) x)) [ inl l ↦ absurd (ne (empty_label_of w ks x l)) | inr l ↦ omega arith ]
+pub no_empty : (w : Marks) (ks : List ℕ) (x : ℕ) → (label_at w x ≡ Empty → ⊥) → occurs (empty_nodes w ks) x ≡ 0
+no_empty w ks x ne = elim (cases_lt 0 (occurs (empty_nodes w ks) x)) [ inl l ↦ absurd (ne (empty_label_of w ks x l)) | inr l ↦ omega arith ]
 
-pub no_partial : (w : Marks) (ks : List ℕ) (x : ℕ) → (label_at w x ≡ Partly → ⊥) → occurs (partials w ks) x ≡ 0
-no_partial w ks x ne = elim (cases_lt 0 (occurs (partials w ks) x)) [ inl l ↦ absurd (ne (partial_label_of w ks x l)) | inr l ↦ omega arith ]
+pub no_partial : (w : Marks) (ks : List ℕ) (x : ℕ) → (label_at w x ≡ Partly → ⊥) → occurs (partial_nodes w ks) x ≡ 0
+no_partial w ks x ne = elim (cases_lt 0 (occurs (partial_nodes w ks) x)) [ inl l ↦ absurd (ne (partial_label_of w ks x l)) | inr l ↦ omega arith ]
 
 pub apart_marks : (a b : Mark) (l : Mark) → l ≡ a → l ≡ b → a ≡ b
 apart_marks a b l e q = sym e ∙ q
@@ -207,20 +207,20 @@ pub not_empty_partial : (l : Mark) → l ≡ Empty → l ≡ Partly → ⊥
 not_empty_partial l e q = let z : Empty ≡ Partly = sym e ∙ q in cc
 
 -- a full node is among the full ones as often as among all
-pub full_times : (w : Marks) (ks : List ℕ) (x : ℕ) → label_at w x ≡ Full → occurs (fulls w ks) x ≡ occurs ks x
+pub full_times : (w : Marks) (ks : List ℕ) (x : ℕ) → label_at w x ≡ Full → occurs (full_nodes w ks) x ≡ occurs ks x
 full_times w ks x e =
-    let a : occurs (empties w ks) x ≡ 0 = no_empty w ks x (not_full_empty (label_at w x) e) in
-    let b : occurs (partials w ks) x ≡ 0 = no_partial w ks x (not_full_partial (label_at w x) e) in
+    let a : occurs (empty_nodes w ks) x ≡ 0 = no_empty w ks x (not_full_empty (label_at w x) e) in
+    let b : occurs (partial_nodes w ks) x ≡ 0 = no_partial w ks x (not_full_partial (label_at w x) e) in
     omega (arith, all_sorted w ks x)
 
-pub empty_times : (w : Marks) (ks : List ℕ) (x : ℕ) → label_at w x ≡ Empty → occurs (empties w ks) x ≡ occurs ks x
+pub empty_times : (w : Marks) (ks : List ℕ) (x : ℕ) → label_at w x ≡ Empty → occurs (empty_nodes w ks) x ≡ occurs ks x
 empty_times w ks x e =
-    let a : occurs (fulls w ks) x ≡ 0 = no_full w ks x (λ q. not_full_empty (label_at w x) q e) in
-    let b : occurs (partials w ks) x ≡ 0 = no_partial w ks x (not_empty_partial (label_at w x) e) in
+    let a : occurs (full_nodes w ks) x ≡ 0 = no_full w ks x (λ q. not_full_empty (label_at w x) q e) in
+    let b : occurs (partial_nodes w ks) x ≡ 0 = no_partial w ks x (not_empty_partial (label_at w x) e) in
     omega (arith, all_sorted w ks x)
 
-pub partial_times : (w : Marks) (ks : List ℕ) (x : ℕ) → label_at w x ≡ Partly → occurs (partials w ks) x ≡ occurs ks x
+pub partial_times : (w : Marks) (ks : List ℕ) (x : ℕ) → label_at w x ≡ Partly → occurs (partial_nodes w ks) x ≡ occurs ks x
 partial_times w ks x e =
-    let a : occurs (fulls w ks) x ≡ 0 = no_full w ks x (λ q. not_full_partial (label_at w x) q e) in
-    let b : occurs (empties w ks) x ≡ 0 = no_empty w ks x (λ q. not_empty_partial (label_at w x) q e) in
+    let a : occurs (full_nodes w ks) x ≡ 0 = no_full w ks x (λ q. not_full_partial (label_at w x) q e) in
+    let b : occurs (empty_nodes w ks) x ≡ 0 = no_empty w ks x (λ q. not_empty_partial (label_at w x) q e) in
     omega (arith, all_sorted w ks x)

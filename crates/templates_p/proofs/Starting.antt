@@ -18,11 +18,11 @@ use Rattle.arena_model.proofs.Slots.{some_none, in_range, used_by, children_same
 use Rattle.arena_model.proofs.Trees.{no_circle}
 use Rattle.bubble_pass.specs.declared.labels.Label.TheVariants.{Empty, Full}
 use Rattle.bubble_pass.specs.Marks.{Marks, label_at, size_of}
-use Rattle.pq_plain.specs.Templates.{Partial, Label, star, p3, IsP3}
+use Rattle.template_theory.specs.Templates.{Partial, Label, star, p3, IsP3}
 use Rattle.template_model.specs.Standing.{child_trees, AreMarkedAs, IsReady}
 use Rattle.template_model.specs.Treated.{IsTreated, StandsForPartial}
 use Rattle.templates_p.specs.Fits.{StandsP3}
-use Rattle.templates_p.specs.Sorts.{fulls, empties, partials}
+use Rattle.templates_p.specs.Sorts.{full_nodes, empty_nodes, partial_nodes}
 use Rattle.templates_p.specs.Steps.{HasGroup, CanGather}
 use Rattle.templates_p.specs.Lines.{CanHandOver}
 use Rattle.templates_p.specs.Parts.{IsParted, IsStarted, IsLineFor, CanLift}
@@ -261,21 +261,21 @@ p3_can_gather f w n r s =
     let ks : List ℕ = children_at f n in
     let three = s.3.1.1 in
     let u = sorted_unique (sort o w ks s.0 s.1) three.pattern in
-    let a : length (empties w ks) ≡ count (tree_and three.e three.es) = sym (count_map o (empties w ks)) ∙ ap count u.0 in
+    let a : length (empty_nodes w ks) ≡ count (tree_and three.e three.es) = sym (count_map o (empty_nodes w ks)) ∙ ap count u.0 in
     can_gather f w n r s.3.0 (omega arith)
 
 -- some child is full
-pub p3_full : (f : Layout) (w : Marks) (n : ℕ) → StandsP3 f w n → fulls w (children_at f n) ≡ [] → ⊥
+pub p3_full : (f : Layout) (w : Marks) (n : ℕ) → StandsP3 f w n → full_nodes w (children_at f n) ≡ [] → ⊥
 p3_full f w n s none =
     let three = s.3.1.1 in
     let u = sorted_unique (sort (outline_below f) w (children_at f n) s.0 s.1) three.pattern in
-    no_trees (outline_below f) (fulls w (children_at f n)) three.f three.fs none u.1
+    no_trees (outline_below f) (full_nodes w (children_at f n)) three.f three.fs none u.1
 
 -- no child is partial
-pub p3_no_partial : (f : Layout) (w : Marks) (n : ℕ) → StandsP3 f w n → (k : ℕ) → occurs (partials w (children_at f n)) k ≡ 0
+pub p3_no_partial : (f : Layout) (w : Marks) (n : ℕ) → StandsP3 f w n → (k : ℕ) → occurs (partial_nodes w (children_at f n)) k ≡ 0
 p3_no_partial f w n s k =
     let u = sorted_unique (sort (outline_below f) w (children_at f n) s.0 s.1) s.3.1.1.pattern in
-    occurs_none (partials w (children_at f n)) k (sym (held_length w (children_at f n) s.0 s.1) ∙ ap (λ hs. length hs) u.2)
+    occurs_none (partial_nodes w (children_at f n)) k (sym (held_length w (children_at f n) s.0 s.1) ∙ ap (λ hs. length hs) u.2)
 
 pub can_start : (f g : Layout) (v w : Marks) (n y : ℕ) → IsTreated f g v w n n → HasGroup f v g w n y → CanHandOver g n y
 can_start f g v w n y t grp = record {
@@ -284,24 +284,24 @@ can_start f g v w n y t grp = record {
   above = t.arena.one n (used_by g n P grp.shape);
 }
 
-module _ (f g g' : Layout) (v w : Marks) (n y q : ℕ) (lg : IsLayout g) (grp : HasGroup f v g w n y) (no_partial : (k : ℕ) → occurs (partials v (children_at f n)) k ≡ 0) (s : IsStarted g g' n y q) where
+module _ (f g g' : Layout) (v w : Marks) (n y q : ℕ) (lg : IsLayout g) (grp : HasGroup f v g w n y) (no_partial : (k : ℕ) → occurs (partial_nodes v (children_at f n)) k ≡ 0) (s : IsStarted g g' n y q) where
   in_node : 1 ≤ occurs (children_at g n) y
   in_node = omega (arith, grp.children y, occurs_here y [])
 
-  bag : (k : ℕ) → occurs (children_at g n) k ≡ occurs (y ∷ empties v (children_at f n)) k
+  bag : (k : ℕ) → occurs (children_at g n) k ≡ occurs (y ∷ empty_nodes v (children_at f n)) k
   bag k = omega (arith, grp.children k, no_partial k)
 
   line : IsLineOf g n q (without (children_at g' n) q) (children_at g' q)
   line = started_line g g' n y q lg grp.shape in_node s
 
-  rest_of : (k : ℕ) → occurs (empties v (children_at f n)) k ≡ occurs (without (children_at g' n) q) k
-  rest_of k = rest_bag (children_at g n) (empties v (children_at f n)) y bag (child_once g n y lg) k ∙ ap (λ zs. occurs zs k) (sym (rest_is g g' n y q lg grp.shape in_node s))
+  rest_of : (k : ℕ) → occurs (empty_nodes v (children_at f n)) k ≡ occurs (without (children_at g' n) q) k
+  rest_of k = rest_bag (children_at g n) (empty_nodes v (children_at f n)) y bag (child_once g n y lg) k ∙ ap (λ zs. occurs zs k) (sym (rest_is g g' n y q lg grp.shape in_node s))
 
-  in_empty : (k : ℕ) → 1 ≤ occurs (without (children_at g' n) q) k → 1 ≤ occurs (empties v (children_at f n)) k
+  in_empty : (k : ℕ) → 1 ≤ occurs (without (children_at g' n) q) k → 1 ≤ occurs (empty_nodes v (children_at f n)) k
   in_empty k o = omega (arith, rest_of k)
 
   rest_empty : (k : ℕ) → 1 ≤ occurs (without (children_at g' n) q) k → label_at w k ≡ Empty
-  rest_empty k o = let i : 1 ≤ occurs (empties v (children_at f n)) k = in_empty k o in (grp.others k (omega arith)).label ∙ empty_label_of v (children_at f n) k i
+  rest_empty k o = let i : 1 ≤ occurs (empty_nodes v (children_at f n)) k = in_empty k o in (grp.others k (omega arith)).label ∙ empty_label_of v (children_at f n) k i
 
   pub started_can_lift : HasTwoEach g → size_of w ≡ length g'.slots → CanLift g' w n q
   started_can_lift two room = record {
@@ -319,7 +319,7 @@ module _ (f g g' : Layout) (v w : Marks) (n y q : ℕ) (lg : IsLayout g) (grp : 
   p3_treated i x end li one two p = parted_treated g i w x n q end (without (children_at g' n) q) (children_at g' q) lg li line
       (started_parted g g' i w x n y q end (without (children_at g' n) q) (children_at g' q) s p) rest_empty one two
 
-  line_for : IsLineFor g w (children_at g' q) 1 no_tree (star (forest (map (outline_below f) (fulls v (children_at f n)))))
+  line_for : IsLineFor g w (children_at g' q) 1 no_tree (star (forest (map (outline_below f) (full_nodes v (children_at f n)))))
   line_for = record {
     es = [];
     fs = y ∷ [];
@@ -337,11 +337,11 @@ module _ (f g g' : Layout) (v w : Marks) (n y q : ℕ) (lg : IsLayout g) (grp : 
       let o : ℕ → Outline = outline_below f in
       let ks : List ℕ = children_at f n in
       let u = sorted_unique (sort o v ks ps marked) three.pattern in
-      let es : Forest = forest (map o (empties v ks)) in
-      let fs : Forest = forest (map o (fulls v ks)) in
+      let es : Forest = forest (map o (empty_nodes v ks)) in
+      let fs : Forest = forest (map o (full_nodes v ks)) in
       let base : StandsForPartial i x q (record { e = join (star es) no_tree; f = star fs }) =
       parted_line g i w x n q 0 1 (without (children_at g' n) q) (children_at g' q) lg li line (started_parted g g' i w x n y q 0 (without (children_at g' n) q) (children_at g' q) s p) rest_empty
-      o (empties v ks) rest_of (λ k r. let c : 1 ≤ occurs (empties v ks) k = in_empty k r in (grp.others k (omega arith)).tree) no_tree (star fs) line_for (inl (refl, refl)) in
+      o (empty_nodes v ks) rest_of (λ k r. let c : 1 ≤ occurs (empty_nodes v ks) k = in_empty k r in (grp.others k (omega arith)).tree) no_tree (star fs) line_for (inl (refl, refl)) in
       let plain : StandsForPartial i x q (p3 es fs) = subst (λ ts. StandsForPartial i x q (record { e = ts; f = star fs })) (join_none (star es)) base in
       subst (λ t. StandsForPartial i x q t) (sym three.becomes)
       (subst (λ ts. StandsForPartial i x q (p3 ts (tree_and three.f three.fs))) u.0 (subst (λ ts. StandsForPartial i x q (p3 es ts)) u.1 plain))

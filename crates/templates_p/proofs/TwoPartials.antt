@@ -12,11 +12,11 @@ use Rattle.arena_model.proofs.Slots.{used_by}
 use Rattle.pq_arena.specs.declared.node.NodeId.{NodeId}
 use Rattle.bubble_pass.specs.declared.labels.Label.TheVariants.{Empty, Partial as Partly}
 use Rattle.bubble_pass.specs.Marks.{Marks, label_at}
-use Rattle.pq_plain.specs.Templates.{Partial, Label, IsSorted}
+use Rattle.template_theory.specs.Templates.{Partial, Label, IsSorted}
 use Rattle.template_model.specs.Standing.{child_trees, AreMarkedAs, AreShapesAt, IsShapeAt, IsReady}
 use Rattle.template_model.specs.Treated.{IsTreated}
 use Rattle.templates_p.specs.Fits.{StandsP6}
-use Rattle.templates_p.specs.Sorts.{fulls, empties, partials}
+use Rattle.templates_p.specs.Sorts.{full_nodes, empty_nodes, partial_nodes}
 use Rattle.templates_p.specs.Steps.{HasChildWith, CanGather, IsGathered}
 use Rattle.templates_p.specs.Merging.{CanMerge}
 use Rattle.templates_p.proofs.Sorting.{held, sorted_unique, sort, held_length, AreShapes, held_shapes, all_sorted, partial_times, partial_label_of, not_full_partial}
@@ -57,11 +57,11 @@ other_member (x ∷ y ∷ xs) a l once = elim (cases_eq x a) [
 ]
 
 -- another child is partial
-pub other_partial : (f : Layout) (w : Marks) (n a : ℕ) → IsLayout f → IsReady f w n → 2 ≤ length (partials w (children_at f n)) → HasChildWith f w n Partly a
+pub other_partial : (f : Layout) (w : Marks) (n a : ℕ) → IsLayout f → IsReady f w n → 2 ≤ length (partial_nodes w (children_at f n)) → HasChildWith f w n Partly a
 other_partial f w n a h r l =
     let ks : List ℕ = children_at f n in
-    let m = other_member (partials w ks) a l (λ k. let c : occurs ks k ≤ 1 = child_once f n k h in omega (arith, all_sorted w ks k)) in
-    let o : 1 ≤ occurs (partials w ks) m.0 = m.1 in
+    let m = other_member (partial_nodes w ks) a l (λ k. let c : occurs ks k ≤ 1 = child_once f n k h in omega (arith, all_sorted w ks k)) in
+    let o : 1 ≤ occurs (partial_nodes w ks) m.0 = m.1 in
     record {
       ready = r;
       k = m.0;
@@ -71,16 +71,16 @@ other_partial f w n a h r l =
       marked = λ q. (let z : Partly ≡ Empty = q in cc);
     }
 
--- the children p and q of n are its partial ones, and stand for the partials h and k in one order or the other
+-- the children p and q of n are its partial ones, and stand for the partial_nodes h and k in one order or the other
 pub record ArePartials (f : Layout) (v : Marks) (n p q : ℕ) (es fs : Forest) (h k : Partial) : Type 0 where
   pub x : Partial
   pub y : Partial
   pub order : ((x ≡ h) × (y ≡ k)) ⊎ ((x ≡ k) × (y ≡ h))
   pub first : IsShapeAt f v p x
   pub second : IsShapeAt f v q y
-  pub only : (j : ℕ) → occurs (partials v (children_at f n)) j ≡ occurs (p ∷ q ∷ []) j
-  pub empty : forest (map (outline_below f) (empties v (children_at f n))) ≡ es
-  pub full : forest (map (outline_below f) (fulls v (children_at f n))) ≡ fs
+  pub only : (j : ℕ) → occurs (partial_nodes v (children_at f n)) j ≡ occurs (p ∷ q ∷ []) j
+  pub empty : forest (map (outline_below f) (empty_nodes v (children_at f n))) ≡ es
+  pub full : forest (map (outline_below f) (full_nodes v (children_at f n))) ≡ fs
 
 shapes_of : (f : Layout) (v : Marks) (a b : ℕ) (h k : Partial) (ks : List ℕ) (hs : List Partial) → ks ≡ a ∷ b ∷ [] → hs ≡ h ∷ k ∷ [] → AreShapes f v ks hs → IsShapeAt f v a h × IsShapeAt f v b k
 shapes_of f v a b h k ks hs e q s =
@@ -91,20 +91,20 @@ pub are_partials : (f : Layout) (v : Marks) (n p q : ℕ) (ps : List Label) (es 
 are_partials f v n p q ps es fs h k m s pat op oq lp lq ne =
     let ks : List ℕ = children_at f n in
     let u = sorted_unique (sort (outline_below f) v ks ps m) pat in
-    let two : length (partials v ks) ≡ 2 = sym (held_length v ks ps m) ∙ ap (λ hs. length hs) u.2 in
-    let all : AreShapes f v (partials v ks) (held ps) = held_shapes f v ks ps m s in
-    elim (two_of (partials v ks) p q two (subst (λ z. 1 ≤ z) (sym (partial_times v ks p lp)) op) (subst (λ z. 1 ≤ z) (sym (partial_times v ks q lq)) oq) ne) [
-      | inl e ↦ let t = shapes_of f v p q h k (partials v ks) (held ps) e u.2 all in
+    let two : length (partial_nodes v ks) ≡ 2 = sym (held_length v ks ps m) ∙ ap (λ hs. length hs) u.2 in
+    let all : AreShapes f v (partial_nodes v ks) (held ps) = held_shapes f v ks ps m s in
+    elim (two_of (partial_nodes v ks) p q two (subst (λ z. 1 ≤ z) (sym (partial_times v ks p lp)) op) (subst (λ z. 1 ≤ z) (sym (partial_times v ks q lq)) oq) ne) [
+      | inl e ↦ let t = shapes_of f v p q h k (partial_nodes v ks) (held ps) e u.2 all in
           record { x = h; y = k; order = inl (refl, refl); first = t.0; second = t.1; only = λ j. ap (λ xs. occurs xs j) e; empty = u.0; full = u.1 }
-      | inr e ↦ let t = shapes_of f v q p h k (partials v ks) (held ps) e u.2 all in
+      | inr e ↦ let t = shapes_of f v q p h k (partial_nodes v ks) (held ps) e u.2 all in
           record { x = k; y = h; order = inr (refl, refl); first = t.1; second = t.0; only = λ j. ap (λ xs. occurs xs j) e ∙ omega arith; empty = u.0; full = u.1 }
     ]
 
-pub p6_two : (f : Layout) (w : Marks) (n : ℕ) → StandsP6 f w n → length (partials w (children_at f n)) ≡ 2
+pub p6_two : (f : Layout) (w : Marks) (n : ℕ) → StandsP6 f w n → length (partial_nodes w (children_at f n)) ≡ 2
 p6_two f w n s = partial_count f w n s.0 s.3.1.1.es s.3.1.1.fs (s.3.1.1.h ∷ s.3.1.1.k ∷ []) s.1 s.3.1.1.pattern
 
 pub p6_can_gather : (f : Layout) (w : Marks) (n : ℕ) → IsReady f w n → StandsP6 f w n → CanGather f w n
-p6_can_gather f w n r s = can_gather f w n r s.3.0 (let e : length (partials w (children_at f n)) ≡ 2 = p6_two f w n s in omega arith)
+p6_can_gather f w n r s = can_gather f w n r s.3.0 (let e : length (partial_nodes w (children_at f n)) ≡ 2 = p6_two f w n s in omega arith)
 
 -- two children were found that are partial
 pub record AreFound (f : Layout) (w : Marks) (n p q : ℕ) : Type 0 where
@@ -121,8 +121,8 @@ p6_partials f w n p q s a = are_partials f w n p q s.0 s.3.1.1.es s.3.1.1.fs s.3
 pub record AreReady (f : Layout) (v : Marks) (g : Layout) (w : Marks) (n p q : ℕ) (y : Option NodeId) : Type 0 where
   pub found : AreFound f v n p q
   pub gathered : AreGathered f v g w n y
-  pub p_in : 1 ≤ occurs (partials v (children_at f n)) p
-  pub q_in : 1 ≤ occurs (partials v (children_at f n)) q
+  pub p_in : 1 ≤ occurs (partial_nodes v (children_at f n)) p
+  pub q_in : 1 ≤ occurs (partial_nodes v (children_at f n)) q
   pub shape : (x : Partial) × IsShapeAt g w p x
   pub other_shape : (x : Partial) × IsShapeAt g w q x
   pub can : CanLengthen g w n p q y
@@ -135,8 +135,8 @@ are_ready f g v w n p q y lf lg r s op lp oq lq ne t b =
     let ks : List ℕ = children_at f n in
     let d : ArePartials f v n p q s.3.1.1.es s.3.1.1.fs s.3.1.1.h s.3.1.1.k = p6_partials f v n p q s a in
     let c : AreGathered f v g w n y = are_gathered f g v w n y s.3.0 b in
-    let p_in : 1 ≤ occurs (partials v ks) p = subst (λ z. 1 ≤ z) (sym (partial_times v ks p a.p_label)) a.p_child in
-    let q_in : 1 ≤ occurs (partials v ks) q = subst (λ z. 1 ≤ z) (sym (partial_times v ks q a.q_label)) a.q_child in
+    let p_in : 1 ≤ occurs (partial_nodes v ks) p = subst (λ z. 1 ≤ z) (sym (partial_times v ks p a.p_label)) a.p_child in
+    let q_in : 1 ≤ occurs (partial_nodes v ks) q = subst (λ z. 1 ≤ z) (sym (partial_times v ks q a.q_label)) a.q_child in
     let same_p = c.others p (omega arith) in
     let same_q = c.others q (omega arith) in
     let shape : IsShapeAt g w p d.x = same_p.shape d.x d.first in

@@ -26,19 +26,19 @@ partial_then Partial k ks = k ∷ ks
 partial_then Full k ks = ks
 
 -- the full ones of the nodes, in their order
-abbrev pub fulls : Marks → List ℕ → List ℕ
-fulls w [] = []
-fulls w (k ∷ ks) = full_then (label_at w k) k (fulls w ks)
+abbrev pub full_nodes : Marks → List ℕ → List ℕ
+full_nodes w [] = []
+full_nodes w (k ∷ ks) = full_then (label_at w k) k (full_nodes w ks)
 
 -- the empty ones of the nodes, in their order
-abbrev pub empties : Marks → List ℕ → List ℕ
-empties w [] = []
-empties w (k ∷ ks) = empty_then (label_at w k) k (empties w ks)
+abbrev pub empty_nodes : Marks → List ℕ → List ℕ
+empty_nodes w [] = []
+empty_nodes w (k ∷ ks) = empty_then (label_at w k) k (empty_nodes w ks)
 
 -- the partial ones of the nodes, in their order
-abbrev pub partials : Marks → List ℕ → List ℕ
-partials w [] = []
-partials w (k ∷ ks) = partial_then (label_at w k) k (partials w ks)
+abbrev pub partial_nodes : Marks → List ℕ → List ℕ
+partial_nodes w [] = []
+partial_nodes w (k ∷ ks) = partial_then (label_at w k) k (partial_nodes w ks)
 
 -- what was seen of the node n: its numbers of children where it is a P-node, and nothing of another node
 abbrev pub IsSeenAs : Layout → Marks → ℕ → Option Sight → Type 0

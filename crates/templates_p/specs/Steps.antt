@@ -10,11 +10,11 @@ use Rattle.arena_model.specs.NamedTree.{outline_below}
 use Rattle.pq_arena.specs.declared.node.NodeId.{NodeId}
 use Rattle.bubble_pass.specs.declared.labels.Label.{Label as Mark}
 use Rattle.bubble_pass.specs.declared.labels.Label.TheVariants.{Empty, Full}
-use Rattle.bubble_pass.specs.Climb.{indices}
+use Rattle.pq_arena.specs.RowNodes.{indices}
 use Rattle.bubble_pass.specs.Marks.{Marks, label_at, fulls_at, partials_at, IsFollowed}
-use Rattle.pq_plain.specs.Templates.{Partial, star}
+use Rattle.template_theory.specs.Templates.{Partial, star}
 use Rattle.template_model.specs.Standing.{IsShapeAt, IsReady}
-use Rattle.templates_p.specs.Sorts.{fulls, empties, partials}
+use Rattle.templates_p.specs.Sorts.{full_nodes, empty_nodes, partial_nodes}
 
 -- the node k has the label, the tree and the Q-shape that it had
 pub record IsSameAt (f : Layout) (v : Marks) (g : Layout) (w : Marks) (k : ℕ) : Type 0 where
@@ -85,8 +85,8 @@ pub record Gathering (f g : Layout) (w : Marks) (n x left : ℕ) (next : Option 
   pub rest : List NodeId
   pub followed : IsFollowed w next rest
   pub count : left ≡ length rest
-  pub all : (k : ℕ) → occurs (indices passed) k + occurs (indices rest) k ≡ occurs (fulls w (children_at f n)) k + occurs (partials w (children_at f n)) k
-  pub moved : Moved f g n x (fulls w (indices passed))
+  pub all : (k : ℕ) → occurs (indices passed) k + occurs (indices rest) k ≡ occurs (full_nodes w (children_at f n)) k + occurs (partial_nodes w (children_at f n)) k
+  pub moved : Moved f g n x (full_nodes w (indices passed))
   pub ticks : now ≤ start + 2 * length passed + 1
   pub length : length passed + length rest ≡ fulls_at w n + partials_at w n
 
@@ -94,14 +94,14 @@ pub record Gathering (f g : Layout) (w : Marks) (n x left : ℕ) (next : Option 
 -- as it was.
 pub record HasGroup (f : Layout) (v : Marks) (g : Layout) (w : Marks) (n y : ℕ) : Type 0 where
   pub shape : shape_at g n ≡ Some P
-  pub children : (k : ℕ) → occurs (children_at g n) k ≡ occurs (y ∷ []) k + occurs (empties v (children_at f n)) k + occurs (partials v (children_at f n)) k
+  pub children : (k : ℕ) → occurs (children_at g n) k ≡ occurs (y ∷ []) k + occurs (empty_nodes v (children_at f n)) k + occurs (partial_nodes v (children_at f n)) k
   pub label : label_at w y ≡ Full
-  pub tree : AreEquivalent (star (forest (map (outline_below f) (fulls v (children_at f n))))) (outline_below g y ∷ [])
-  pub others : (k : ℕ) → 1 ≤ occurs (empties v (children_at f n)) k + occurs (partials v (children_at f n)) k → IsSameAt f v g w k
+  pub tree : AreEquivalent (star (forest (map (outline_below f) (full_nodes v (children_at f n))))) (outline_below g y ∷ [])
+  pub others : (k : ℕ) → 1 ≤ occurs (empty_nodes v (children_at f n)) k + occurs (partial_nodes v (children_at f n)) k → IsSameAt f v g w k
 
 -- what became of the full children of n: nothing where there is none
 abbrev pub IsGathered : Layout → Marks → Layout → Marks → ℕ → Option NodeId → Type 0
-IsGathered f v g w n None = (fulls v (children_at f n) ≡ []) × (g ≡ f) × (w ≡ v)
+IsGathered f v g w n None = (full_nodes v (children_at f n) ≡ []) × (g ≡ f) × (w ≡ v)
 IsGathered f v g w n (Some y) = HasGroup f v g w n y.index
 
 -- some child of the P-node n is not full

@@ -2,7 +2,7 @@
 ghost use Rattle.std.specs.Prelude.{ℕ, ◌+◌, ◌*◌, ◌≤◌, List, false};
 ghost use Rattle.arena_model.specs.Layout.{children_at};
 ghost use Rattle.bubble_pass.specs.Marks.{fulls_at, partials_at};
-ghost use Rattle.pq_plain.specs.Templates.{Partial, Label, IsP3, IsP5};
+ghost use Rattle.template_theory.specs.Templates.{Partial, Label, IsP3, IsP5};
 ghost use Rattle.template_model.specs.Standing.{IsReady, AreMarkedAs, AreShapesAt, child_trees};
 ghost use Rattle.template_model.specs.Treated.{IsTreated, StandsForPartial};
 ghost use Rattle.templates_p.specs.Fits.{StandsP3, StandsP5};

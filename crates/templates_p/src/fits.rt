@@ -1,7 +1,7 @@
 // Whether a template fits at a node, by the labels of its children.
 ghost use Rattle.std.specs.Prelude.{◌≡◌, ◌↔◌, ℕ, ◌+◌, ◌*◌, ◌≤◌, List, IsTrue};
 ghost use Rattle.bubble_pass.specs.Marks.{fulls_at, partials_at};
-ghost use Rattle.pq_plain.specs.Templates.{Label};
+ghost use Rattle.template_theory.specs.Templates.{Label};
 ghost use Rattle.template_model.specs.Standing.{IsReady, AreMarkedAs};
 ghost use Rattle.templates_p.specs.Fits.{FitsL1, FitsP1, FitsP2, FitsP3, FitsP4, FitsP5, FitsP6};
 

@@ -1,13 +1,13 @@
 // The template that only groups the full children.
 ghost use Rattle.std.specs.Prelude.{◌≡◌, ℕ, ◌+◌, ◌*◌, ◌≤◌, List, length, true};
-ghost use Rattle.bubble_pass.specs.Climb.{indices};
+ghost use Rattle.pq_arena.specs.RowNodes.{indices};
 ghost use Rattle.bubble_pass.specs.Marks.{fulls_at, partials_at};
-ghost use Rattle.pq_plain.specs.Templates.{Label, IsP2};
+ghost use Rattle.template_theory.specs.Templates.{Label, IsP2};
 ghost use Rattle.pq_tree.specs.Outline.{Outline};
 ghost use Rattle.arena_model.specs.Layout.{children_at};
 ghost use Rattle.arena_model.specs.NamedTree.{IsOneTree, HasTwoEach};
 ghost use Rattle.template_model.specs.Standing.{IsReady, AreMarkedAs, AreShapesAt, child_trees};
-ghost use Rattle.template_model.specs.Treated.{IsTreated, IsReplacedAt, StandsFor};
+ghost use Rattle.template_model.specs.Treated.{IsTreated, IsReplacedAt, StandsForTree};
 ghost use Rattle.templates_p.specs.Fits.{StandsP2};
 ghost use Rattle.templates_p.specs.Members.{AreMembers, member_labels};
 
@@ -30,7 +30,7 @@ pub fn apply_p2<L: Ledger>(
     requires stands { StandsP2 arena.old work.old node.index }
     ensures treated { IsTreated arena.old arena.new work.old work.new node.index result.index }
     ensures becomes { (ps : List Label) (u : Outline) → AreMarkedAs arena.old work.old node.index ps →
-        AreShapesAt arena.old work.old (children_at arena.old node.index) ps → IsP2 true (child_trees arena.old node.index) ps u → StandsFor arena.new result.index u }
+        AreShapesAt arena.old work.old (children_at arena.old node.index) ps → IsP2 true (child_trees arena.old node.index) ps u → StandsForTree arena.new result.index u }
     ensures ticks { steps.new ≤ steps.old + 64 * (fulls_at work.old node.index + partials_at work.old node.index + 1) }
 {
     let _group = gather(arena, work, node, steps);
@@ -53,7 +53,7 @@ pub fn apply_p2_to<L: Ledger>(
     requires members { AreMembers arena.old node.index (indices members.now) }
     ensures replaced { IsReplacedAt arena.old arena.new node.index node.index }
     ensures becomes { (u : Outline) × IsP2 true (child_trees arena.old node.index) (member_labels (indices members.now) (children_at arena.old node.index)) u ×
-        StandsFor arena.new node.index u }
+        StandsForTree arena.new node.index u }
     ensures ticks { steps.new ≡ steps.old + 2 * length members.now + 2 }
 {
     arena.layout_law();

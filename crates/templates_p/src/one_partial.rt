@@ -1,11 +1,11 @@
 // The templates of one partial child.
 ghost use Rattle.std.specs.Prelude.{◌≡◌, ℕ, ◌+◌, ◌*◌, ◌≤◌, List, true};
 ghost use Rattle.bubble_pass.specs.Marks.{fulls_at, partials_at};
-ghost use Rattle.pq_plain.specs.Templates.{Label, IsP4};
+ghost use Rattle.template_theory.specs.Templates.{Label, IsP4};
 ghost use Rattle.pq_tree.specs.Outline.{Outline};
 ghost use Rattle.arena_model.specs.Layout.{children_at};
 ghost use Rattle.template_model.specs.Standing.{IsReady, AreMarkedAs, AreShapesAt, child_trees};
-ghost use Rattle.template_model.specs.Treated.{IsTreated, StandsFor};
+ghost use Rattle.template_model.specs.Treated.{IsTreated, StandsForTree};
 ghost use Rattle.templates_p.specs.Fits.{StandsP4};
 
 use crate::group::{child_with, gather};
@@ -28,7 +28,7 @@ pub fn apply_p4<L: Ledger>(
     requires stands { StandsP4 arena.old work.old node.index }
     ensures treated { IsTreated arena.old arena.new work.old work.new node.index result.index }
     ensures becomes { (ps : List Label) (u : Outline) → AreMarkedAs arena.old work.old node.index ps →
-        AreShapesAt arena.old work.old (children_at arena.old node.index) ps → IsP4 true (child_trees arena.old node.index) ps u → StandsFor arena.new result.index u }
+        AreShapesAt arena.old work.old (children_at arena.old node.index) ps → IsP4 true (child_trees arena.old node.index) ps u → StandsForTree arena.new result.index u }
     ensures ticks { steps.new ≤ steps.old + 64 * (fulls_at work.old node.index + partials_at work.old node.index + 1) }
 {
     arena.layout_law();

@@ -16,11 +16,11 @@ use Rattle.pq_tree.specs.Forests.{forest, trees, join, back}
 use Rattle.pq_tree.specs.Equivalent.{IsEquivalent}
 use Rattle.pq_tree.proofs.Forests.{map-reverse, forest_append, forest_reverse, forest-trees}
 use Rattle.pq_tree.proofs.Turnings.{are_equivalent_refl}
-use Rattle.pq_plain.specs.Templates.{Partial, Label, IsSpan, IsQ3, line_if, q3}
+use Rattle.template_theory.specs.Templates.{Partial, Label, IsTwoSidedRun, IsQ3, line_if, q3}
 use Rattle.bubble_pass.specs.declared.labels.Label.TheVariants.{Empty, Full}
 use Rattle.bubble_pass.specs.Marks.{Marks, label_at}
 use Rattle.template_model.specs.Standing.{child_trees, IsShapeAt, AreMarkedAs}
-use Rattle.template_model.specs.Treated.{StandsFor}
+use Rattle.template_model.specs.Treated.{StandsForTree}
 use Rattle.templates_q.specs.declared.stretch.PassedSpan.{PassedSpan}
 use Rattle.templates_q.specs.Walk.{AreChildren, AreAll}
 use Rattle.templates_q.specs.Fits.{FitsQ2}
@@ -96,7 +96,7 @@ q_read e q ks h iq (inr c) = inr (below_children e q Q h iq ∙ ap (λ z. q_node
 
 -- so laid, the Q-node is what Q3 makes of it
 pub q3_at : (H : ℕ → Partial → Type 0) (f e : Layout) (w : Marks) (q : ℕ) (es ps fs ls gs : List ℕ) (ls' : List Label) → IsLayout e → shape_at e q ≡ Some Q → children_at f q ≡ es ++ (ps ++ (fs ++ (ls ++ gs))) →
-    (FitsQ2 f q ls' → ⊥) → shape_at f q ≡ Some Q → (m : MadeSpan H (outline_below f) w es ps fs ls gs ls') → AreLaid f e q es fs gs m.h m.k → (u : Outline) × IsQ3 true (child_trees f q) ls' u × StandsFor e q u
+    (FitsQ2 f q ls' → ⊥) → shape_at f q ≡ Some Q → (m : MadeSpan H (outline_below f) w es ps fs ls gs ls') → AreLaid f e q es fs gs m.h m.k → (u : Outline) × IsQ3 true (child_trees f q) ls' u × StandsForTree e q u
 q3_at H f e w q es ps fs ls gs ls' he iq is lacks fq m a =
     let o = outline_below f in
     let ts : Forest = q3 (forest (map o es)) m.h (forest (map o fs)) m.k (forest (map o gs)) in (
@@ -108,7 +108,7 @@ q3_at H f e w q es ps fs ls gs ls' he iq is lacks fq m a =
         fs = forest (map o fs);
         k = m.k;
         gs = forest (map o gs);
-        pattern = subst (λ z. IsSpan (forest (map o z)) ls' (forest (map o es)) m.h (forest (map o fs)) m.k (forest (map o gs))) (sym is) m.span;
+        pattern = subst (λ z. IsTwoSidedRun (forest (map o z)) ls' (forest (map o es)) m.h (forest (map o fs)) m.k (forest (map o gs))) (sym is) m.span;
         not_q2 = λ x i. lacks (fq, x, i);
         becomes = refl;
       },
@@ -197,7 +197,7 @@ q3_becomes f e w q s r hf he alone o lacks rs m shapes = by (front_place f w q s
         ∙ ap (λ z. reverse r.passed.rest ++ (z ++ (reverse r.passed.fs ++ (reverse r.passed.ps ++ reverse r.us)))) (single r.passed.ls r.passed.one_more)
         ∙ ap (λ z. reverse r.passed.rest ++ (r.passed.ls ++ (reverse r.passed.fs ++ (z ++ reverse r.us)))) (single r.passed.ps r.passed.one)
 
-    by : AreChildren f q (r.us ++ (r.passed.ps ++ (r.passed.fs ++ (r.passed.ls ++ r.passed.rest)))) → (u : Outline) × IsQ3 true (child_trees f q) rs u × StandsFor e q u
+    by : AreChildren f q (r.us ++ (r.passed.ps ++ (r.passed.fs ++ (r.passed.ls ++ r.passed.rest)))) → (u : Outline) × IsQ3 true (child_trees f q) rs u × StandsForTree e q u
     by (inl i) =
         let c = r.passed in
         let d = made_span (IsShapeAt f w) (outline_below f) w r.us c.ps c.fs c.ls c.rest rs alone.before c.first c.one c.full c.last c.one_more alone.behind (m ∙ ap (map (label_at w)) i)

@@ -12,16 +12,16 @@ use Rattle.arena_model.specs.Layout.{Layout, shape_at, children_at}
 use Rattle.arena_model.specs.NamedTree.{outline_below}
 use Rattle.arena_model.proofs.Lists.{occurs_here, occurs_other}
 use Rattle.pq_arena.specs.declared.node.NodeId.{NodeId}
-use Rattle.pq_plain.specs.Templates.{Label, IsSpan, q3}
+use Rattle.template_theory.specs.Templates.{Label, IsTwoSidedRun, q3}
 use Rattle.pq_tree.specs.Outline.{q_node}
 use Rattle.pq_tree.specs.Forests.{forest}
 use Rattle.bubble_pass.specs.declared.labels.Label.{Label as Mark}
 use Rattle.bubble_pass.specs.declared.labels.Label.TheVariants.{Empty, Partial as Partly, Full}
-use Rattle.bubble_pass.specs.Climb.{indices}
+use Rattle.pq_arena.specs.RowNodes.{indices}
 use Rattle.bubble_pass.specs.Marks.{Marks, label_at, first_of, IsFollowed}
 use Rattle.bubble_pass.specs.Pass.{IsRightAt}
 use Rattle.bubble_pass.specs.Sweep.{full_one, partial_one}
-use Rattle.template_model.specs.Standing.{AreMarkedAs, IsInRun}
+use Rattle.template_model.specs.Standing.{AreMarkedAs, IsInMarkedRun}
 use Rattle.templates_q.specs.declared.stretch.PassedSpan.{PassedSpan}
 use Rattle.templates_q.specs.Walk.{AreChildren, AreAll, EndsWithout}
 use Rattle.templates_q.specs.Lines.{AreCounted, IsFullFirst}
@@ -163,7 +163,7 @@ line_fits3 f w q ps is_q m line lacks =
         fs = forest (map o l.fs);
         k = r.k;
         gs = forest (map o l.gs);
-        pattern = subst (λ z. IsSpan (forest (map o z)) ps (forest (map o l.es)) r.h (forest (map o l.fs)) r.k (forest (map o l.gs))) (sym l.is) r.span;
+        pattern = subst (λ z. IsTwoSidedRun (forest (map o z)) ps (forest (map o l.es)) r.h (forest (map o l.fs)) r.k (forest (map o l.gs))) (sym l.is) r.span;
         not_q2 = λ x i. lacks (is_q, x, i);
         becomes = refl;
       },
@@ -273,7 +273,7 @@ pub all_marked : (w : Marks) (ks : List ℕ) → All (λ x. label_at w x ≢ Emp
 all_marked w [] a = tt
 all_marked w (k ∷ ks) a = (All-head (λ x. label_at w x ≢ Empty) k ks a, all_marked w ks (All-tail (λ x. label_at w x ≢ Empty) k ks a))
 
-pub run_block : (f : Layout) (w : Marks) (q n : ℕ) → IsInRun f w q n → IsBlock w (children_at f q)
+pub run_block : (f : Layout) (w : Marks) (q n : ℕ) → IsInMarkedRun f w q n → IsBlock w (children_at f q)
 run_block f w q n r = record {
   us = r.us;
   run = r.ks;
@@ -375,7 +375,7 @@ no_front w ks b some l = by b.us b.is b.before some
     by [] e a s = omega arith
     by (u ∷ us) e a s = block_not_empty w (u ∷ (us ++ (b.run ++ b.vs))) (subst (IsBlock w) e b) (front_empty_all w u (us ++ (b.run ++ b.vs)) a.0 (subst (IsFullFirst w) e l))
 
-pub run_not2 : (f : Layout) (w : Marks) (q n : ℕ) (ps : List Label) → IsInRun f w q n → AreMarkedAs f w q ps → FitsQ2 f q ps → ⊥
+pub run_not2 : (f : Layout) (w : Marks) (q n : ℕ) (ps : List Label) → IsInMarkedRun f w q n → AreMarkedAs f w q ps → FitsQ2 f q ps → ⊥
 unfolding run_block block_turned
 run_not2 f w q n ps r m fits =
     let b = run_block f w q n r in
@@ -384,7 +384,7 @@ run_not2 f w q n ps r m fits =
       | inr l ↦ no_front w (reverse (children_at f q)) (block_turned w (children_at f q) b) (let s : 1 ≤ length r.vs = r.right in omega (arith, length-reverse r.vs)) l.line
     ]
 
-pub run_marked : (f : Layout) (w : Marks) (q n : ℕ) → IsInRun f w q n → IsMarkedChild f w q n
+pub run_marked : (f : Layout) (w : Marks) (q n : ℕ) → IsInMarkedRun f w q n → IsMarkedChild f w q n
 run_marked f w q n r = record {
   is_q = r.is_q;
   child = subst (λ z. 1 ≤ occurs z n) (sym r.children) (let o : 1 ≤ occurs r.ks n = r.one_of in omega (arith, occurs-append r.us (r.ks ++ r.vs) n, occurs-append r.ks r.vs n));
@@ -406,7 +406,7 @@ no_start w ks b some l = by b.us b.is b.before some
     by [] e a s = omega arith
     by (u ∷ us) e a s = let n : BeginsLabelled w (u ∷ (us ++ (b.run ++ b.vs))) = subst (BeginsLabelled w) e l in n a.0
 
-pub run_inner : (f : Layout) (w : Marks) (q n : ℕ) (vs : List ℕ) → IsInRun f w q n → AreChildren f q vs → BeginsLabelled w vs → ⊥
+pub run_inner : (f : Layout) (w : Marks) (q n : ℕ) (vs : List ℕ) → IsInMarkedRun f w q n → AreChildren f q vs → BeginsLabelled w vs → ⊥
 unfolding run_block block_turned
 run_inner f w q n vs r (inl e) l = no_start w (children_at f q) (run_block f w q n r) r.left (subst (BeginsLabelled w) (sym e) l)
 run_inner f w q n vs r (inr e) l =

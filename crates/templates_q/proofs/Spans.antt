@@ -3,7 +3,7 @@ use Rattle.std.proofs.Common.{◌≡◌, ℕ, ◌≤◌, List, [], ◌∷◌, �
 use Rattle.std.proofs.lemmas.List.{length-reverse}
 use Rattle.pq_tree.specs.Outline.{Outline, Forest}
 use Rattle.pq_tree.specs.Forests.{forest}
-use Rattle.pq_plain.specs.Templates.{Partial, Label, empty_label, full_label, partial_label, IsTail, tail_empty, tail_partial, tail_more, IsSpan, span_tail, span_partial, span_more}
+use Rattle.template_theory.specs.Templates.{Partial, Label, empty_label, full_label, partial_label, IsTail, tail_empty, tail_partial, tail_more, IsTwoSidedRun, span_tail, span_partial, span_more}
 use Rattle.bubble_pass.specs.declared.labels.Label.{Label as Mark}
 use Rattle.bubble_pass.specs.declared.labels.Label.TheVariants.{Empty, Partial as Partly, Full}
 use Rattle.bubble_pass.specs.Marks.{Marks, label_at}
@@ -193,7 +193,7 @@ tail_front w (x ∷ ks) (tail_partial s) m = front_partial w x ks (sym (cons_hea
 tail_front w [] (tail_more r) m = tt
 tail_front w (x ∷ ks) (tail_more r) m = front_full w x ks (sym (cons_head _ _ _ _ m)) (tail_line w ks r (cons_tail _ _ _ _ m))
 
-pub span_line : (w : Marks) (ks : List ℕ) {ts es fs gs : Forest} {ps : List Label} {h k : Option Partial} → IsSpan ts ps es h fs k gs → map mark_of ps ≡ map (label_at w) ks → SpanLine w ks
+pub span_line : (w : Marks) (ks : List ℕ) {ts es fs gs : Forest} {ps : List Label} {h k : Option Partial} → IsTwoSidedRun ts ps es h fs k gs → map mark_of ps ≡ map (label_at w) ks → SpanLine w ks
 span_line w ks (span_tail r) m = tail_front w ks r m
 span_line w [] (span_partial r) m = tt
 span_line w (x ∷ ks) (span_partial r) m = front_partial w x ks (sym (cons_head _ _ _ _ m)) (tail_line w ks r (cons_tail _ _ _ _ m))
@@ -224,7 +224,7 @@ made_tail H o w (x ∷ fs) ls gs (partial_label h ∷ ps) a b one c m q = absurd
 pub record MadeSpan (H : ℕ → Partial → Type 0) (o : ℕ → Outline) (w : Marks) (es xs fs ls gs : List ℕ) (ps : List Label) : Type 0 where
   pub h : Option Partial
   pub k : Option Partial
-  pub span : IsSpan (forest (map o (es ++ (xs ++ (fs ++ (ls ++ gs)))))) ps (forest (map o es)) h (forest (map o fs)) k (forest (map o gs))
+  pub span : IsTwoSidedRun (forest (map o (es ++ (xs ++ (fs ++ (ls ++ gs)))))) ps (forest (map o es)) h (forest (map o fs)) k (forest (map o gs))
   pub first : IsPart H w xs h
   pub last : IsPart H w ls k
 

@@ -19,7 +19,7 @@ use Rattle.bubble_pass.specs.declared.labels.Label.TheVariants.{Empty, Partial, 
 use Rattle.bubble_pass.specs.Marks.{Marks, label_at, size_of}
 use Rattle.templates_q.specs.declared.walk.ChildGap.{ChildGap}
 use Rattle.templates_q.specs.declared.walk.Passed.{Passed}
-use Rattle.templates_q.specs.Walk.{AreChildren, AreAll, IsChildGap, IsFirst, IsPassed, EndsWithout, IsInRoom, if_full, if_partial, full_in, partial_in}
+use Rattle.templates_q.specs.Walk.{AreChildren, AreAll, IsChildGap, IsFirst, IsPassed, EndsWithout, IsInRoom, if_full, if_partial, node_if_full, node_if_partial}
 use Rattle.templates_q.proofs.Lines.{all_append}
 use Rattle.templates_q.proofs.Lists.{occurs_reverse, head_reverse, reverse_split}
 
@@ -142,7 +142,7 @@ step_past f q us vs x from view next h u sh g back on = record {
 }
 
 -- which node a label gives
-pub full_known : (w : Marks) (o : Option NodeId) (x : NodeId) → full_in w o ≡ Some x → (o ≡ Some x) × (label_at w x.index ≡ Full)
+pub full_known : (w : Marks) (o : Option NodeId) (x : NodeId) → node_if_full w o ≡ Some x → (o ≡ Some x) × (label_at w x.index ≡ Full)
 full_known w None x e = absurd (cc)
 full_known w (Some y) x e = by (label_at w y.index) refl e
   where
@@ -151,7 +151,7 @@ full_known w (Some y) x e = by (label_at w y.index) refl e
     by Partial k e = absurd (cc)
     by Full k e = (e, ap (λ z. label_at w z.index) (sym (some_eq y x e)) ∙ k)
 
-pub partial_known : (w : Marks) (o : Option NodeId) (x : NodeId) → partial_in w o ≡ Some x → (o ≡ Some x) × (label_at w x.index ≡ Partial)
+pub partial_known : (w : Marks) (o : Option NodeId) (x : NodeId) → node_if_partial w o ≡ Some x → (o ≡ Some x) × (label_at w x.index ≡ Partial)
 partial_known w None x e = absurd (cc)
 partial_known w (Some y) x e = by (label_at w y.index) refl e
   where
@@ -161,18 +161,18 @@ partial_known w (Some y) x e = by (label_at w y.index) refl e
     by Full k e = absurd (cc)
 
 -- where no full, or no partial, node comes next
-pub stops_full : (f : Layout) (w : Marks) (q : ℕ) (us vs : List ℕ) (gap : ChildGap) → IsLayout f → IsChildGap f q us vs gap → full_in w gap.next ≡ None → EndsWithout Full w vs
+pub stops_full : (f : Layout) (w : Marks) (q : ℕ) (us vs : List ℕ) (gap : ChildGap) → IsLayout f → IsChildGap f q us vs gap → node_if_full w gap.next ≡ None → EndsWithout Full w vs
 stops_full f w q us [] gap h g e = tt
 stops_full f w q us (x ∷ vs) gap h g e = λ k.
     let u : IsInUse f x = child_used f q x h (next_child f q us vs x gap g) in
-    let i : full_in w (Some (let n : NodeId = record { index = x } in n)) ≡ None = ap (full_in w) (sym (g.next ∙ is_named f x h u)) ∙ e in
+    let i : node_if_full w (Some (let n : NodeId = record { index = x } in n)) ≡ None = ap (node_if_full w) (sym (g.next ∙ is_named f x h u)) ∙ e in
     let j : if_full Full (let n : NodeId = record { index = x } in n) ≡ None = ap (λ l. if_full l (let n : NodeId = record { index = x } in n)) (sym k) ∙ i in cc
 
-pub stops_partial : (f : Layout) (w : Marks) (q : ℕ) (us vs : List ℕ) (gap : ChildGap) → IsLayout f → IsChildGap f q us vs gap → partial_in w gap.next ≡ None → EndsWithout Partial w vs
+pub stops_partial : (f : Layout) (w : Marks) (q : ℕ) (us vs : List ℕ) (gap : ChildGap) → IsLayout f → IsChildGap f q us vs gap → node_if_partial w gap.next ≡ None → EndsWithout Partial w vs
 stops_partial f w q us [] gap h g e = tt
 stops_partial f w q us (x ∷ vs) gap h g e = λ k.
     let u : IsInUse f x = child_used f q x h (next_child f q us vs x gap g) in
-    let i : partial_in w (Some (let n : NodeId = record { index = x } in n)) ≡ None = ap (partial_in w) (sym (g.next ∙ is_named f x h u)) ∙ e in
+    let i : node_if_partial w (Some (let n : NodeId = record { index = x } in n)) ≡ None = ap (node_if_partial w) (sym (g.next ∙ is_named f x h u)) ∙ e in
     let j : if_partial Partial (let n : NodeId = record { index = x } in n) ≡ None = ap (λ l. if_partial l (let n : NodeId = record { index = x } in n)) (sym k) ∙ i in cc
 
 -- at the start nothing is passed

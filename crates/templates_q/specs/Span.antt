@@ -2,7 +2,7 @@
 use Rattle.std.specs.Prelude.{◌≡◌, ◌≢◌, ℕ, ◌+◌, ◌≤◌, Bool, true, List, [], ◌∷◌, ◌++◌, length, Option, Some, None, sum_by}
 use Rattle.column_order.specs.Orders.{occurs}
 use Rattle.pq_tree.specs.Outline.{Outline}
-use Rattle.pq_plain.specs.Templates.{Label, IsQ3}
+use Rattle.template_theory.specs.Templates.{Label, IsQ3}
 use Rattle.arena_model.specs.declared.Shape.TheVariants.{Leaf, Q}
 use Rattle.arena_model.specs.Layout.{Layout, shape_at, children_at, IsAtOrAbove}
 use Rattle.pq_arena.specs.declared.node.NodeId.{NodeId}
@@ -11,8 +11,8 @@ use Rattle.bubble_pass.specs.declared.labels.Label.TheVariants.{Empty, Partial, 
 use Rattle.bubble_pass.specs.Marks.{Marks, label_at, size_of}
 use Rattle.bubble_pass.specs.Pass.{IsRightAt}
 use Rattle.bubble_pass.specs.Sweep.{IsRight, full_one, partial_one}
-use Rattle.template_model.specs.Standing.{child_trees, AreMarkedAs, AreShapesAt, IsReady, IsInRun, IsReadyInside}
-use Rattle.template_model.specs.Treated.{IsOutside, StandsFor}
+use Rattle.template_model.specs.Standing.{child_trees, AreMarkedAs, AreShapesAt, IsReady, IsInMarkedRun, IsReadyInside}
+use Rattle.template_model.specs.Treated.{IsOutside, StandsForTree}
 use Rattle.templates_q.specs.declared.walk.ChildGap.{ChildGap}
 use Rattle.templates_q.specs.declared.walk.Passed.{Passed}
 use Rattle.templates_q.specs.declared.stretch.PassedSpan.{PassedSpan}
@@ -127,7 +127,7 @@ pub record StandsQ3 (f : Layout) (w : Marks) (n : ℕ) : Type 0 where
 -- Q3 stands at n, or at the Q-node whose run has n
 pub record CanApplyQ3 (f : Layout) (w : Marks) (n : ℕ) : Type 0 where
   pub at : (IsRunMeant w true → ⊥) → StandsQ3 f w n
-  pub inside : IsRunMeant w true → (q : ℕ) × IsInRun f w q n × StandsQ3 f w q
+  pub inside : IsRunMeant w true → (q : ℕ) × IsInMarkedRun f w q n × StandsQ3 f w q
 
 -- The marks v have become w: each node outside of q keeps its label, its counts and its chain, and labels below q that were
 -- right for a row of leaves are right below q. Nothing is said of the label of q itself.
@@ -144,4 +144,4 @@ pub record AreKeptBelow (f g : Layout) (v w : Marks) (q : ℕ) : Type 0 where
 -- what Q3 makes of n stands at a, up to turning, whatever labels the children of n have with their marks and shapes
 abbrev pub BecomesQ3 : Layout → Layout → Marks → ℕ → ℕ → Type 0
 BecomesQ3 f g v n a = (ps : List Label) → AreMarkedAs f v n ps → AreShapesAt f v (children_at f n) ps →
-    (u : Outline) × IsQ3 true (child_trees f n) ps u × StandsFor g a u
+    (u : Outline) × IsQ3 true (child_trees f n) ps u × StandsForTree g a u

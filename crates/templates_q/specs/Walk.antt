@@ -62,11 +62,11 @@ if_partial Partial x = Some x
 if_partial Full x = None
 
 -- this node, if it is full
-abbrev pub full_in : Marks → Option NodeId → Option NodeId
-full_in w None = None
-full_in w (Some x) = if_full (label_at w x.index) x
+abbrev pub node_if_full : Marks → Option NodeId → Option NodeId
+node_if_full w None = None
+node_if_full w (Some x) = if_full (label_at w x.index) x
 
 -- this node, if it is partial
-abbrev pub partial_in : Marks → Option NodeId → Option NodeId
-partial_in w None = None
-partial_in w (Some x) = if_partial (label_at w x.index) x
+abbrev pub node_if_partial : Marks → Option NodeId → Option NodeId
+node_if_partial w None = None
+node_if_partial w (Some x) = if_partial (label_at w x.index) x

@@ -1,7 +1,7 @@
 // Q1.
 ghost use Rattle.std.specs.Prelude.{◌≡◌, ℕ, ◌+◌, ◌*◌, ◌≤◌, ◌↔◌, IsTrue, List};
 ghost use Rattle.bubble_pass.specs.Marks.{fulls_at, partials_at};
-ghost use Rattle.pq_plain.specs.Templates.{Label};
+ghost use Rattle.template_theory.specs.Templates.{Label};
 ghost use Rattle.template_model.specs.Standing.{IsReady, AreMarkedAs};
 ghost use Rattle.templates_q.specs.Fits.{FitsQ1};
 

@@ -2,7 +2,7 @@
 ghost use Rattle.std.specs.Prelude.{◌≡◌, ℕ, ◌+◌, ◌*◌, ◌≤◌, ◌↔◌, IsTrue, List, [], length, None};
 ghost use Rattle.bubble_pass.specs.Marks.{fulls_at, partials_at, size_of};
 ghost use Rattle.arena_model.specs.Layout.{children_at};
-ghost use Rattle.pq_plain.specs.Templates.{Partial, Label, IsQ2};
+ghost use Rattle.template_theory.specs.Templates.{Partial, Label, IsQ2};
 ghost use Rattle.template_model.specs.Standing.{IsReady, AreMarkedAs, AreShapesAt, child_trees};
 ghost use Rattle.template_model.specs.Treated.{IsTreated, StandsForPartial};
 ghost use Rattle.templates_q.specs.Walk.{IsChildGap};

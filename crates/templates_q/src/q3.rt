@@ -6,8 +6,8 @@ ghost use Rattle.arena_model.specs.NamedTree.{HasTwoEach, IsOneTree};
 ghost use Rattle.arena_model.specs.declared.Shape.TheVariants.{Q};
 ghost use Rattle.bubble_pass.specs.Marks.{fulls_at, partials_at, size_of};
 ghost use Rattle.pq_arena.specs.Looks.{ShowsNode};
-ghost use Rattle.pq_plain.specs.Templates.{Label, Partial};
-ghost use Rattle.template_model.specs.Standing.{IsReady, IsReadyInside, IsInRun, IsShapeAt, AreMarkedAs};
+ghost use Rattle.template_theory.specs.Templates.{Label, Partial};
+ghost use Rattle.template_model.specs.Standing.{IsReady, IsReadyInside, IsInMarkedRun, IsShapeAt, AreMarkedAs};
 ghost use Rattle.template_model.specs.Treated.{IsTreated, IsReplacedAt};
 ghost use Rattle.templates_q.specs.Fits.{FitsQ3};
 ghost use Rattle.templates_q.specs.Opening.{AreOpened, AreShaped, CanOpen, CanOpenCounted, IsOpenedAt};
@@ -52,9 +52,9 @@ fn has_q3<L: Ledger>(
 // Whether Q3 fits at the Q-node that has `node` in its run.
 fn has_q3_around<L: Ledger>(arena: &Arena, work: &Work, node: NodeId, steps: &mut Steps<L>) -> bool
     requires { IsReadyInside arena.now work.now node.index }
-    ensures fits { (q : ℕ) → IsInRun arena.now work.now q node.index → (ps : List Label) → AreMarkedAs arena.now work.now q ps →
+    ensures fits { (q : ℕ) → IsInMarkedRun arena.now work.now q node.index → (ps : List Label) → AreMarkedAs arena.now work.now q ps →
         (IsTrue result ↔ FitsQ3 arena.now q true ps) }
-    ensures ticks { (q : ℕ) → IsInRun arena.now work.now q node.index → steps.new ≤ steps.old + 2 * labelled_in work.now (children_at arena.now q) }
+    ensures ticks { (q : ℕ) → IsInMarkedRun arena.now work.now q node.index → steps.new ≤ steps.old + 2 * labelled_in work.now (children_at arena.now q) }
 {
     arena.layout_law();
     let seen = stretch_around(arena, work, node, steps);
@@ -76,10 +76,10 @@ pub fn fits_q3<L: Ledger>(
     requires { CanAskQ3 arena.now work.now node.index root }
     ensures fits { (IsRunMeant work.now root → ⊥) → (ps : List Label) → AreMarkedAs arena.now work.now node.index ps →
         (IsTrue result ↔ FitsQ3 arena.now node.index root ps) }
-    ensures run { IsRunMeant work.now root → (q : ℕ) → IsInRun arena.now work.now q node.index → (ps : List Label) → AreMarkedAs arena.now work.now q ps →
+    ensures run { IsRunMeant work.now root → (q : ℕ) → IsInMarkedRun arena.now work.now q node.index → (ps : List Label) → AreMarkedAs arena.now work.now q ps →
         (IsTrue result ↔ FitsQ3 arena.now q true ps) }
     ensures ticks { (IsRunMeant work.now root → ⊥) → steps.new ≤ steps.old + 4 * (fulls_at work.now node.index + partials_at work.now node.index + 1) }
-    ensures run_ticks { IsRunMeant work.now root → (q : ℕ) → IsInRun arena.now work.now q node.index →
+    ensures run_ticks { IsRunMeant work.now root → (q : ℕ) → IsInMarkedRun arena.now work.now q node.index →
         steps.new ≤ steps.old + 4 * (labelled_in work.now (children_at arena.now q) + 1) }
 {
     if !root {
@@ -177,12 +177,12 @@ fn apply_around<L: Ledger>(
     steps: &mut Steps<L>,
 ) -> NodeId
     requires ready { IsReadyInside arena.old work.now node.index }
-    requires stands { (q : ℕ) × IsInRun arena.old work.now q node.index × StandsQ3 arena.old work.now q }
-    ensures replaced { (q : ℕ) → IsInRun arena.old work.now q node.index → IsReplacedAt arena.old arena.new q q }
-    ensures kept { (q : ℕ) → IsInRun arena.old work.now q node.index → AreKeptBelow arena.old arena.new work.now work.now q }
-    ensures child { (q : ℕ) → IsInRun arena.old work.now q node.index → 1 ≤ occurs (children_at arena.new q) result.index }
-    ensures becomes { (q : ℕ) → IsInRun arena.old work.now q node.index → BecomesQ3 arena.old arena.new work.now q q }
-    ensures ticks { (q : ℕ) → IsInRun arena.old work.now q node.index → steps.new ≤ steps.old + 64 * (labelled_in work.now (children_at arena.old q) + 1) }
+    requires stands { (q : ℕ) × IsInMarkedRun arena.old work.now q node.index × StandsQ3 arena.old work.now q }
+    ensures replaced { (q : ℕ) → IsInMarkedRun arena.old work.now q node.index → IsReplacedAt arena.old arena.new q q }
+    ensures kept { (q : ℕ) → IsInMarkedRun arena.old work.now q node.index → AreKeptBelow arena.old arena.new work.now work.now q }
+    ensures child { (q : ℕ) → IsInMarkedRun arena.old work.now q node.index → 1 ≤ occurs (children_at arena.new q) result.index }
+    ensures becomes { (q : ℕ) → IsInMarkedRun arena.old work.now q node.index → BecomesQ3 arena.old arena.new work.now q q }
+    ensures ticks { (q : ℕ) → IsInMarkedRun arena.old work.now q node.index → steps.new ≤ steps.old + 64 * (labelled_in work.now (children_at arena.old q) + 1) }
 {
     arena.layout_law();
     let seen = stretch_around(arena, work, node, steps);
@@ -211,12 +211,12 @@ pub fn apply_q3<L: Ledger>(
     ensures work { work.new ≡ work.old }
     ensures treated { (IsRunMeant work.old true → ⊥) → IsTreated arena.old arena.new work.old work.new node.index result.index }
     ensures becomes { (IsRunMeant work.old true → ⊥) → BecomesQ3 arena.old arena.new work.old node.index result.index }
-    ensures replaced { IsRunMeant work.old true → (q : ℕ) → IsInRun arena.old work.old q node.index → IsReplacedAt arena.old arena.new q q }
-    ensures kept { IsRunMeant work.old true → (q : ℕ) → IsInRun arena.old work.old q node.index → AreKeptBelow arena.old arena.new work.old work.new q }
-    ensures child { IsRunMeant work.old true → (q : ℕ) → IsInRun arena.old work.old q node.index → 1 ≤ occurs (children_at arena.new q) result.index }
-    ensures run_becomes { IsRunMeant work.old true → (q : ℕ) → IsInRun arena.old work.old q node.index → BecomesQ3 arena.old arena.new work.old q q }
+    ensures replaced { IsRunMeant work.old true → (q : ℕ) → IsInMarkedRun arena.old work.old q node.index → IsReplacedAt arena.old arena.new q q }
+    ensures kept { IsRunMeant work.old true → (q : ℕ) → IsInMarkedRun arena.old work.old q node.index → AreKeptBelow arena.old arena.new work.old work.new q }
+    ensures child { IsRunMeant work.old true → (q : ℕ) → IsInMarkedRun arena.old work.old q node.index → 1 ≤ occurs (children_at arena.new q) result.index }
+    ensures run_becomes { IsRunMeant work.old true → (q : ℕ) → IsInMarkedRun arena.old work.old q node.index → BecomesQ3 arena.old arena.new work.old q q }
     ensures ticks { (IsRunMeant work.old true → ⊥) → steps.new ≤ steps.old + 64 * (fulls_at work.old node.index + partials_at work.old node.index + 1) }
-    ensures run_ticks { IsRunMeant work.old true → (q : ℕ) → IsInRun arena.old work.old q node.index →
+    ensures run_ticks { IsRunMeant work.old true → (q : ℕ) → IsInMarkedRun arena.old work.old q node.index →
         steps.new ≤ steps.old + 64 * (labelled_in work.old (children_at arena.old q) + 1) }
 {
     if work.inside() {

@@ -3,7 +3,7 @@ ghost use Rattle.std.specs.Prelude.{◌≡◌, ◌≢◌, ℕ, ◌+◌, ◌≤�
 ghost use Rattle.arena_model.specs.Layout.{IsInUse};
 ghost use Rattle.bubble_pass.specs.Marks.{size_of};
 ghost use Rattle.bubble_pass.specs.declared.labels.Label.TheVariants.{Full, Partial};
-ghost use Rattle.templates_q.specs.Walk.{IsChildGap, IsPassed, IsFirst, full_in, partial_in, IsInRoom, EndsWithout};
+ghost use Rattle.templates_q.specs.Walk.{IsChildGap, IsPassed, IsFirst, node_if_full, node_if_partial, IsInRoom, EndsWithout};
 
 use bubble_pass::{Label, Work};
 use pq_arena::{Arena, NodeId, NodeView};
@@ -27,7 +27,7 @@ pub struct Passed {
 // This node, if it is full.
 pub fn full_at(work: &Work, n: Option<NodeId>) -> Option<NodeId>
     requires { IsInRoom work.now n }
-    ensures { result ≡ full_in work.now n }
+    ensures { result ≡ node_if_full work.now n }
 {
     match n {
         Some(x) => match work.label(x) {
@@ -41,7 +41,7 @@ pub fn full_at(work: &Work, n: Option<NodeId>) -> Option<NodeId>
 // This node, if it is partial.
 pub fn partial_at(work: &Work, n: Option<NodeId>) -> Option<NodeId>
     requires { IsInRoom work.now n }
-    ensures { result ≡ partial_in work.now n }
+    ensures { result ≡ node_if_partial work.now n }
 {
     match n {
         Some(x) => match work.label(x) {

@@ -1,5 +1,5 @@
 use Rattle.std.proofs.Common.{◌≡◌, ℕ, ◌+◌, length, drop, List, arith, subst}
-use Rattle.full_pass.specs.Answer.{leaves_of}
+use Rattle.pq_arena.specs.RowNodes.{column_leaves}
 use Rattle.full_pass.specs.Entries.{is_full, hits}
 use Rattle.full_pass.specs.Passing.{Pass, IsLast}
 use Rattle.full_pass.proofs.Columns.{column_in, row_leaves, rest_none, leaves_length}
@@ -10,9 +10,9 @@ pub loop-column-init : goal.loop-column-init
 loop-column-init g c = record {
   going = record {
     linked = none_linked c.args.arena.now c.begin.new.self (c.begin.ensures.ready (length c.args.arena.now.slots) c.requires.ready) c.begin.ensures.full c.begin.ensures.hits;
-    pass = subst (λ z. Pass c.args.arena.now (leaves_of c.args.row.now) (is_full c.begin.new.self) (hits c.begin.new.self) (leaves_of c.args.row.now) z)
+    pass = subst (λ z. Pass c.args.arena.now (column_leaves c.args.row.now) (is_full c.begin.new.self) (hits c.begin.new.self) (column_leaves c.args.row.now) z)
         (leaves_length c.args.row.now)
-        (start c.args.arena.now (leaves_of c.args.row.now) (is_full c.begin.new.self) (hits c.begin.new.self) c.layout_law.ensures
+        (start c.args.arena.now (column_leaves c.args.row.now) (is_full c.begin.new.self) (hits c.begin.new.self) c.layout_law.ensures
         (row_leaves c.args.arena.now c.args.row.now c.layout_law.ensures c.requires.tree c.requires.row) c.begin.ensures.full c.begin.ensures.hits);
     answer = tt;
   };
@@ -29,39 +29,39 @@ pub rise-requires : goal.rise-requires
 rise-requires g c = record {
   one = c.requires.tree;
   linked = c.loop-column.invariant.going.linked;
-  row = leaves_of c.args.row.now;
-  waiting = leaves_of (drop (c.loop-column.column-index + 1) c.args.row.now);
+  row = column_leaves c.args.row.now;
+  waiting = column_leaves (drop (c.loop-column.column-index + 1) c.args.row.now);
   pass = next_waits c.args.arena.now c.args.row.now c.loop-column.entries c.loop-column.column-index c.loop-column.parts c.leaf.result.index
       c.layout_law.ensures c.leaf.ensures c.loop-column-test.true c.loop-column.invariant.going.pass;
 }
 
 pub returns-in-None-clause-settled : goal.returns-in-None-clause-settled
 returns-in-None-clause-settled g c =
-    root_kept c.args.arena.now (leaves_of c.args.row.now) (row_leaves c.args.arena.now c.args.row.now c.layout_law.ensures c.requires.tree c.requires.row)
-    (c.in-None.ensures.risen (leaves_of c.args.row.now) (leaves_of (drop (c.loop-column.column-index + 1) c.args.row.now))
+    root_kept c.args.arena.now (column_leaves c.args.row.now) (row_leaves c.args.arena.now c.args.row.now c.layout_law.ensures c.requires.tree c.requires.row)
+    (c.in-None.ensures.risen (column_leaves c.args.row.now) (column_leaves (drop (c.loop-column.column-index + 1) c.args.row.now))
     (next_waits c.args.arena.now c.args.row.now c.loop-column.entries c.loop-column.column-index c.loop-column.parts c.leaf.result.index
     c.layout_law.ensures c.leaf.ensures c.loop-column-test.true c.loop-column.invariant.going.pass))
 
 pub loop-column-preserved : goal.loop-column-preserved
 loop-column-preserved g c =
-    let rest : List ℕ = leaves_of (drop (c.loop-column.column-index + 1) c.args.row.now) in
-    let risen = c.in-Some.ensures.risen (leaves_of c.args.row.now) rest
+    let rest : List ℕ = column_leaves (drop (c.loop-column.column-index + 1) c.args.row.now) in
+    let risen = c.in-Some.ensures.risen (column_leaves c.args.row.now) rest
     (next_waits c.args.arena.now c.args.row.now c.loop-column.entries c.loop-column.column-index c.loop-column.parts c.leaf.result.index
     c.layout_law.ensures c.leaf.ensures c.loop-column-test.true c.loop-column.invariant.going.pass) in
     record {
       going = record {
         linked = c.in-Some.ensures.linked;
-        pass = risen_pass c.args.arena.now (leaves_of c.args.row.now) (is_full c.rise.new.entries) (hits c.rise.new.entries) rest c.rise.new.parts c.in-Some.settled risen;
-        answer = risen_last c.args.arena.now (leaves_of c.args.row.now) (is_full c.rise.new.entries) (hits c.rise.new.entries) rest c.rise.new.parts c.in-Some.settled risen;
+        pass = risen_pass c.args.arena.now (column_leaves c.args.row.now) (is_full c.rise.new.entries) (hits c.rise.new.entries) rest c.rise.new.parts c.in-Some.settled risen;
+        answer = risen_last c.args.arena.now (column_leaves c.args.row.now) (is_full c.rise.new.entries) (hits c.rise.new.entries) rest c.rise.new.parts c.in-Some.settled risen;
       };
       ticks = omega (arith, c.loop-column.invariant.ticks, c.in-Some.ensures.ticks);
     }
 
 pub returns-then-parts-eq1-clause-settled : goal.returns-then-parts-eq1-clause-settled
 returns-then-parts-eq1-clause-settled g c =
-    settled c.args.arena.now (leaves_of c.args.row.now) c.loop-column.entries c.loop-column.parts c.loop-column.last c.layout_law.ensures
+    settled c.args.arena.now (column_leaves c.args.row.now) c.loop-column.entries c.loop-column.parts c.loop-column.last c.layout_law.ensures
     (row_leaves c.args.arena.now c.args.row.now c.layout_law.ensures c.requires.tree c.requires.row)
     (let one : c.loop-column.parts ≡ 1 = c.if-parts-eq1.true in omega arith)
     c.loop-column.invariant.going.linked.chains
-    (subst (λ z. IsLast c.args.arena.now (leaves_of c.args.row.now) (is_full c.loop-column.entries) (hits c.loop-column.entries) z c.loop-column.parts c.loop-column.last)
+    (subst (λ z. IsLast c.args.arena.now (column_leaves c.args.row.now) (is_full c.loop-column.entries) (hits c.loop-column.entries) z c.loop-column.parts c.loop-column.last)
     (rest_none c.args.row.now c.loop-column.column-index c.loop-column-test.false) c.loop-column.invariant.going.answer)

@@ -1,5 +1,5 @@
 use Rattle.std.proofs.Common.{◌≡◌, map, take}
-use Rattle.pq_plain.specs.Labels.{empty_trees}
+use Rattle.template_theory.specs.Labels.{empty_trees}
 use Rattle.pq_plain.specs.Seen.{outlines, label_seen}
 use Rattle.pq_plain.proofs.children.empty_children.Given as goal
 

@@ -1,9 +1,9 @@
 use Rattle.std.proofs.Common.{◌≡◌, ◌≢◌, List, [], length, sym, subst, rules, arith}
-use Rattle.bubble_pass.specs.Climb.{indices, leaves_of}
+use Rattle.pq_arena.specs.RowNodes.{indices, column_leaves}
 use Rattle.full_pass.specs.Answer.{IsGroup}
 use Rattle.pq_arena.specs.declared.node.NodeId.{NodeId}
 use Rattle.row_model.specs.Graph.{row_at}
-use Rattle.pq_plain.specs.declared.reducer.Step.TheVariants.{Taken}
+use Rattle.template_theory.specs.declared.reducer.Step.TheVariants.{Taken}
 use Rattle.row_reduce.proofs.Taking.{row_outcome}
 use Rattle.row_reduce.proofs.GroupDone.{group_taken, group_total, group_below}
 use Rattle.row_reduce.proofs.RowDone.{row_over, some_column, few_columns, empty_taken, at_row, kept_taken, kept_total, open_total}
@@ -37,8 +37,8 @@ returns-in-Group-clause-outcome g c =
     let s = (row_over c.layout_law.ensures c.requires.tree c.requires.columns c.requires.proper c.requires.row c.requires.tied c.row.ensures.row c.row.ensures.ascending) in
     let ms : List NodeId = c.members.result.now in
     let some : row_at c.args.m.now.rows c.args.k ≢ [] = some_column s (search rules) in
-    let group : IsGroup c.args.arena.now (leaves_of (row_at c.args.m.now.rows c.args.k)) c.in-Group.node.index (indices ms) =
-    subst (λ xs. IsGroup c.args.arena.now (leaves_of (row_at c.args.m.now.rows c.args.k)) c.in-Group.node.index (indices xs)) (sym c.members.ensures) c.in-Group.ensures.settled in
+    let group : IsGroup c.args.arena.now (column_leaves (row_at c.args.m.now.rows c.args.k)) c.in-Group.node.index (indices ms) =
+    subst (λ xs. IsGroup c.args.arena.now (column_leaves (row_at c.args.m.now.rows c.args.k)) c.in-Group.node.index (indices xs)) (sym c.members.ensures) c.in-Group.ensures.settled in
     row_outcome c.args.arena.now c.apply_p2_to.new.arena Taken c.reduce_law.ensures.kept c.reduce_law.ensures.refused (at_row s)
     (group_taken s c.arities_law.ensures some c.turned_law.ensures.root c.in-Group.node.index (indices ms) group c.apply_p2_to.new.arena c.layout_law-in-Group.ensures c.apply_p2_to.ensures.replaced c.apply_p2_to.ensures.becomes)
 
@@ -47,8 +47,8 @@ returns-in-Group-clause-ticks g c =
     let s = (row_over c.layout_law.ensures c.requires.tree c.requires.columns c.requires.proper c.requires.row c.requires.tied c.row.ensures.row c.row.ensures.ascending) in
     let ms : List NodeId = c.members.result.now in
     let some : row_at c.args.m.now.rows c.args.k ≢ [] = some_column s (search rules) in
-    let group : IsGroup c.args.arena.now (leaves_of (row_at c.args.m.now.rows c.args.k)) c.in-Group.node.index (indices ms) =
-    subst (λ xs. IsGroup c.args.arena.now (leaves_of (row_at c.args.m.now.rows c.args.k)) c.in-Group.node.index (indices xs)) (sym c.members.ensures) c.in-Group.ensures.settled in
+    let group : IsGroup c.args.arena.now (column_leaves (row_at c.args.m.now.rows c.args.k)) c.in-Group.node.index (indices ms) =
+    subst (λ xs. IsGroup c.args.arena.now (column_leaves (row_at c.args.m.now.rows c.args.k)) c.in-Group.node.index (indices xs)) (sym c.members.ensures) c.in-Group.ensures.settled in
     group_total c.met_law.ensures s c.arities_law.ensures some c.in-Group.node.index ms group (few_columns c.met_law.ensures s) _ _ _ c.settle.ensures.steps c.apply_p2_to.ensures.ticks
 
 pub returns-in-Group-clause-below : goal.returns-in-Group-clause-below
@@ -56,6 +56,6 @@ returns-in-Group-clause-below g c = λ e.
     let s = (row_over c.layout_law.ensures c.requires.tree c.requires.columns c.requires.proper c.requires.row c.requires.tied c.row.ensures.row c.row.ensures.ascending) in
     let ms : List NodeId = c.members.result.now in
     let some : row_at c.args.m.now.rows c.args.k ≢ [] = some_column s (search rules) in
-    let group : IsGroup c.args.arena.now (leaves_of (row_at c.args.m.now.rows c.args.k)) c.in-Group.node.index (indices ms) =
-    subst (λ xs. IsGroup c.args.arena.now (leaves_of (row_at c.args.m.now.rows c.args.k)) c.in-Group.node.index (indices xs)) (sym c.members.ensures) c.in-Group.ensures.settled in
+    let group : IsGroup c.args.arena.now (column_leaves (row_at c.args.m.now.rows c.args.k)) c.in-Group.node.index (indices ms) =
+    subst (λ xs. IsGroup c.args.arena.now (column_leaves (row_at c.args.m.now.rows c.args.k)) c.in-Group.node.index (indices xs)) (sym c.members.ensures) c.in-Group.ensures.settled in
     group_below c.met_law.ensures s c.arities_law.ensures some c.in-Group.node.index ms group _ _ _ c.settle.ensures.steps c.apply_p2_to.ensures.ticks

@@ -1,7 +1,7 @@
 use Rattle.std.proofs.Common.{refl, subst, ◌∙◌, arith}
 use Rattle.arena_model.specs.Layout.{Layout}
 use Rattle.row_model.specs.Graph.{row_at}
-use Rattle.pq_plain.specs.declared.reducer.Step.TheVariants.{Refused}
+use Rattle.template_theory.specs.declared.reducer.Step.TheVariants.{Refused}
 use Rattle.row_reduce.specs.Outcome.{IsOutcome}
 use Rattle.row_reduce.proofs.Taking.{split_refused, row_outcome}
 use Rattle.row_reduce.proofs.Finding.{at_found_root, at_found_inside}

@@ -1,11 +1,11 @@
 use Rattle.std.proofs.Common.{◌-◌, ◌≤◌, ℕ, [], length, sym, subst, arith}
 use Rattle.arena_model.specs.declared.Shape.TheVariants.{P}
 use Rattle.arena_model.specs.Layout.{Layout, StandsAlone, IsLayout, taken}
-use Rattle.bubble_pass.specs.Climb.{indices}
+use Rattle.pq_arena.specs.RowNodes.{indices}
 use Rattle.bubble_pass.specs.Marks.{Marks}
 use Rattle.template_model.specs.Treated.{IsTreated}
 use Rattle.template_model.proofs.Spare.{five_spare}
-use Rattle.templates_p.specs.Sorts.{fulls}
+use Rattle.templates_p.specs.Sorts.{full_nodes}
 use Rattle.templates_p.specs.Steps.{Moved, HasGroup}
 use Rattle.templates_p.proofs.Moving.{moved_none, can_move}
 use Rattle.templates_p.proofs.Chaining.{chain_few, in_room}
@@ -38,7 +38,7 @@ pub take_in-requires-clause-moves : goal.take_in-requires-clause-moves
 take_in-requires-clause-moves g c =
     let i = gather_next c.args.arena.now c.loop-left.arena c.args.work.now c.args.node.index c.take-group.result.index c.loop-left.left c.loop-left.next _ _ c.in-Some.child
     c.layout_law.ensures c.loop-left.invariant (omega (arith, c.loop-left-test.true)) c.in-Some.is in
-    can_move c.args.arena.now c.loop-left.arena c.args.node.index c.take-group.result.index (fulls c.args.work.now (indices c.loop-left.invariant.passed)) c.in-Some.child.index
+    can_move c.args.arena.now c.loop-left.arena c.args.node.index c.take-group.result.index (full_nodes c.args.work.now (indices c.loop-left.invariant.passed)) c.in-Some.child.index
     c.requires.can.is_p c.loop-left.invariant.moved i.child i.new
 
 pub take_in-requires-clause-room : goal.take_in-requires-clause-room
@@ -74,7 +74,7 @@ returns-clause-treated g c =
     let a = gather_end f c.loop-left.arena v n x c.loop-left.left c.loop-left.next _ _ c.loop-left.invariant (omega (arith, c.loop-left-test.false)) in
     subst (λ z. IsTreated f z v c.mark.new.self n n) (sym c.attach.ensures.changed)
     (subst (λ z. IsTreated f (grouped c.loop-left.arena n x) v z n n) (sym c.mark.ensures)
-    (group_treated f c.loop-left.arena v n x (fulls v (indices c.loop-left.invariant.passed)) c.layout_law.ensures (subst IsLayout c.attach.ensures.changed c.layout_law-3.ensures) (can_group f v n c.requires.can c.requires.many) a))
+    (group_treated f c.loop-left.arena v n x (full_nodes v (indices c.loop-left.invariant.passed)) c.layout_law.ensures (subst IsLayout c.attach.ensures.changed c.layout_law-3.ensures) (can_group f v n c.requires.can c.requires.many) a))
 
 pub returns-clause-made : goal.returns-clause-made
 returns-clause-made g c =
@@ -85,4 +85,4 @@ returns-clause-made g c =
     let a = gather_end f c.loop-left.arena v n x c.loop-left.left c.loop-left.next _ _ c.loop-left.invariant (omega (arith, c.loop-left-test.false)) in
     subst (λ z. HasGroup f v z c.mark.new.self n x) (sym c.attach.ensures.changed)
     (subst (λ z. HasGroup f v (grouped c.loop-left.arena n x) z n x) (sym c.mark.ensures)
-    (group_made f c.loop-left.arena v n x (fulls v (indices c.loop-left.invariant.passed)) c.layout_law.ensures (subst IsLayout c.attach.ensures.changed c.layout_law-3.ensures) (can_group f v n c.requires.can c.requires.many) a))
+    (group_made f c.loop-left.arena v n x (full_nodes v (indices c.loop-left.invariant.passed)) c.layout_law.ensures (subst IsLayout c.attach.ensures.changed c.layout_law-3.ensures) (can_group f v n c.requires.can c.requires.many) a))

@@ -5,10 +5,10 @@ use Rattle.arena_model.specs.Layout.{Layout, IsLayout, IsAtOrAbove, StandsAlone,
 use Rattle.arena_model.proofs.Slots.{used_by}
 use Rattle.pq_arena.specs.declared.node.NodeId.{NodeId}
 use Rattle.pq_tree.specs.Outline.{Outline}
-use Rattle.bubble_pass.specs.Climb.{indices}
-use Rattle.pq_plain.specs.Templates.{IsP2}
+use Rattle.pq_arena.specs.RowNodes.{indices}
+use Rattle.template_theory.specs.Templates.{IsP2}
 use Rattle.template_model.specs.Standing.{child_trees}
-use Rattle.template_model.specs.Treated.{IsReplacedAt, StandsFor}
+use Rattle.template_model.specs.Treated.{IsReplacedAt, StandsForTree}
 use Rattle.template_model.proofs.Spare.{five_spare}
 use Rattle.templates_p.specs.Members.{member_labels}
 use Rattle.templates_p.specs.Steps.{Moved, moved_under}
@@ -101,6 +101,6 @@ returns-clause-becomes g c =
     let n : ℕ = c.args.node.index in
     let x : NodeId = c.take-group.result in
     let ms : List NodeId = c.args.members.now in
-    subst (λ z. (u : Outline) × IsP2 true (child_trees f n) (member_labels (indices ms) (children_at f n)) u × StandsFor z n u) (sym c.attach-2.ensures.changed)
+    subst (λ z. (u : Outline) × IsP2 true (child_trees f n) (member_labels (indices ms) (children_at f n)) u × StandsForTree z n u) (sym c.attach-2.ensures.changed)
     (members_become f n (indices ms) c.layout_law.ensures c.requires.members c.loop-member.arena x (subst IsLayout c.attach-2.ensures.changed c.layout_law-3.ensures) c.requires.one c.requires.two
     (subst (λ ks. Moved f c.loop-member.arena n x.index (indices ks)) (take_all c.loop-member.member-index ms c.loop-member-test.false) c.loop-member.invariant.moved))

@@ -1,5 +1,5 @@
 use Rattle.std.proofs.Common.{◌≡◌, ◌+◌, ◌*◌, take}
-use Rattle.bubble_pass.specs.Climb.{indices}
+use Rattle.pq_arena.specs.RowNodes.{indices}
 use Rattle.templates_p.specs.Steps.{Moved}
 use Rattle.templates_p.proofs.grouped.apply_p2_to.Given as goal
 

@@ -1,5 +1,5 @@
 use Rattle.std.proofs.Common.{sym, subst, arith}
-use Rattle.template_model.specs.Treated.{StandsFor}
+use Rattle.template_model.specs.Treated.{StandsForTree}
 use Rattle.templates_p.proofs.Composing.{composed}
 use Rattle.templates_p.proofs.Ending.{p4_plain, p4_becomes}
 use Rattle.templates_p.proofs.FullEnd.{partial_child, p4_one, p4_can_gather, p4_shape, same_room, line_shape, can_absorb}
@@ -37,6 +37,6 @@ returns-in-Some-clause-becomes g c = λ ps u m s p. p4_becomes c.args.arena.now 
     c.layout_law-in-Some-2.ensures m s c.child_with-line.ensures.child c.child_with-line.ensures.labelled c.in-Some.ensures.gathered c.full_end-end.ensures.end c.absorb-top.ensures.absorbed p
 
 pub returns-in-None-clause-becomes : goal.returns-in-None-clause-becomes
-returns-in-None-clause-becomes g c = λ ps u m s p. subst (λ z. StandsFor z c.args.node.index u) (sym c.in-None.ensures.gathered.1)
+returns-in-None-clause-becomes g c = λ ps u m s p. subst (λ z. StandsForTree z c.args.node.index u) (sym c.in-None.ensures.gathered.1)
     (p4_plain c.args.arena.now c.args.work.now c.args.node.index c.child_with-line.result.index ps u c.layout_law.ensures c.requires.ready.two c.requires.stands.3.0 m s
     c.child_with-line.ensures.child c.child_with-line.ensures.labelled c.in-None.ensures.gathered.0 p)

@@ -2,7 +2,7 @@ use Rattle.std.proofs.Common.{◌≡◌, ℕ, ◌+◌, ◌*◌, ◌≤◌, [], �
 use Rattle.arena_model.specs.Layout.{Layout, children_at, IsLayout}
 use Rattle.arena_model.proofs.Paths.{one_parent}
 use Rattle.bubble_pass.specs.Marks.{Marks}
-use Rattle.template_model.specs.Standing.{IsInRun}
+use Rattle.template_model.specs.Standing.{IsInMarkedRun}
 use Rattle.templates_q.specs.Walk.{AreChildren}
 use Rattle.templates_q.specs.Span.{StandsQ3, labelled_in}
 use Rattle.templates_q.proofs.Spanning.{run_marked, run_inner}
@@ -11,7 +11,7 @@ use Rattle.templates_q.proofs.Done.{all_shaped, q3_done}
 use Rattle.templates_q.proofs.q3.apply_around.Goals as goal
 
 -- the Q-node of the run is known by its child
-standing : (f : Layout) (w : Marks) (n q : ℕ) → IsLayout f → (q : ℕ) × IsInRun f w q n × StandsQ3 f w q → IsInRun f w q n → StandsQ3 f w q
+standing : (f : Layout) (w : Marks) (n q : ℕ) → IsLayout f → (q : ℕ) × IsInMarkedRun f w q n × StandsQ3 f w q → IsInMarkedRun f w q n → StandsQ3 f w q
 standing f w n q h st run = subst (StandsQ3 f w) (one_parent f st.0 q n h (run_marked f w st.0 n st.1).child (run_marked f w q n run).child) st.2
 
 pub stretch_around-seen-requires-clause-child : goal.stretch_around-seen-requires-clause-child

@@ -1,5 +1,5 @@
 use Rattle.std.proofs.Common.{◌<◌, ◌≤◌, get_or, subst, sym, ◌∙◌, arith}
-use Rattle.bubble_pass.specs.Climb.{row_nodes}
+use Rattle.pq_arena.specs.RowNodes.{row_nodes}
 use Rattle.bubble_pass.proofs.Columns.{nodes_length, column_in, leaf_index, leaf_or}
 use Rattle.bubble_pass.proofs.Starts.{start_none, start_can, start_more, start_end, start_quiet}
 use Rattle.bubble_pass.proofs.labels.Labels.start.Goals as goal

@@ -1,5 +1,5 @@
 use Rattle.std.proofs.Common.{◌-◌, length}
-use Rattle.bubble_pass.specs.Climb.{row_nodes}
+use Rattle.pq_arena.specs.RowNodes.{row_nodes}
 use Rattle.bubble_pass.specs.Sweep.{Starting}
 use Rattle.bubble_pass.proofs.labels.Labels.start.Given as goal
 

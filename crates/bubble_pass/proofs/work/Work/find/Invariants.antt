@@ -1,5 +1,5 @@
-use Rattle.bubble_pass.specs.Climb.{leaves_of}
+use Rattle.pq_arena.specs.RowNodes.{column_leaves}
 use Rattle.bubble_pass.proofs.work.Work.find.Given as goal
 
 abbrev pub ghost-find : goal.ghost-find
-ghost-find g a = leaves_of a.row.now
+ghost-find g a = column_leaves a.row.now

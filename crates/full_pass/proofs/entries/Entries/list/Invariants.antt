@@ -1,5 +1,5 @@
 use Rattle.std.proofs.Common.{◌≡◌, ◌-◌, ◌++◌, length, take}
-use Rattle.full_pass.specs.Answer.{indices}
+use Rattle.pq_arena.specs.RowNodes.{indices}
 use Rattle.full_pass.specs.Entries.{hits, next, chained, chain_at}
 use Rattle.full_pass.proofs.entries.Entries.list.Given as goal
 

@@ -1,5 +1,6 @@
 use Rattle.std.proofs.Common.{◌≡◌, ◌≤◌, ◌<◌, length, ap, sym, subst, arith}
-use Rattle.full_pass.specs.Answer.{leaves_of, IsGroup}
+use Rattle.pq_arena.specs.RowNodes.{column_leaves}
+use Rattle.full_pass.specs.Answer.{IsGroup}
 use Rattle.full_pass.specs.Entries.{hits}
 use Rattle.full_pass.proofs.Ends.{group_few, group_within}
 use Rattle.full_pass.proofs.Frontiers.{kept_outline}
@@ -8,7 +9,7 @@ use Rattle.full_pass.proofs.work.FullWork.pass.Goals as goal
 pub list-self-inside-requires-clause-room : goal.list-self-inside-requires-clause-room
 list-self-inside-requires-clause-room g c =
     let a : hits c.run.new.entries c.in-Group.p.index ≤ length c.args.arena.now.slots =
-    group_few c.args.arena.now (leaves_of c.args.row.now) c.run.new.entries c.in-Group.p.index c.layout_law.ensures c.in-Group.ensures.settled in
+    group_few c.args.arena.now (column_leaves c.args.row.now) c.run.new.entries c.in-Group.p.index c.layout_law.ensures c.in-Group.ensures.settled in
     let b : length c.self.inside.entries.entries.items ≤ length c.self.inside.members.items = c.self.invariant.room in
     let d : length c.self.inside.entries.entries.items ≡ c.args.self.now.size = ap (λ r. r.size) c.self.view_is in
     omega (arith, c.requires.room)
@@ -16,12 +17,12 @@ list-self-inside-requires-clause-room g c =
 pub list-self-inside-requires-clause-all : goal.list-self-inside-requires-clause-all
 list-self-inside-requires-clause-all g c = λ k o.
     let a : k < length c.args.arena.now.slots =
-    group_within c.args.arena.now (leaves_of c.args.row.now) c.run.new.entries c.in-Group.p.index k c.layout_law.ensures c.in-Group.ensures.settled o in
+    group_within c.args.arena.now (column_leaves c.args.row.now) c.run.new.entries c.in-Group.p.index k c.layout_law.ensures c.in-Group.ensures.settled o in
     subst (λ z. k < z) (sym c.in-Group.ensures.ready.size) a
 
 pub returns-in-Group-clause-settled : goal.returns-in-Group-clause-settled
 returns-in-Group-clause-settled g c =
-    subst (λ z. IsGroup c.args.arena.now (leaves_of c.args.row.now) c.in-Group.p.index z) (sym c.list-self-inside.ensures.members) c.in-Group.ensures.settled
+    subst (λ z. IsGroup c.args.arena.now (column_leaves c.args.row.now) c.in-Group.p.index z) (sym c.list-self-inside.ensures.members) c.in-Group.ensures.settled
 
 pub returns-in-Kept-clause-kept : goal.returns-in-Kept-clause-kept
 returns-in-Kept-clause-kept g c = λ e o frontier.

@@ -1,12 +1,12 @@
 use Rattle.std.proofs.Common.{◌≡◌, sym, ap, subst, ◌∙◌}
 use Rattle.std.specs.List.{length_refill}
-use Rattle.pq_plain.specs.Reduced.{IsReduced}
-use Rattle.pq_plain.specs.declared.reducer.Step.TheVariants.{Taken}
+use Rattle.template_theory.specs.Reduced.{IsReduced}
+use Rattle.template_theory.specs.declared.reducer.Step.TheVariants.{Taken}
 use Rattle.row_model.specs.Graph.{row_at}
 use Rattle.arena_model.specs.Layout.{Layout}
 use Rattle.arena_model.specs.NamedTree.{outline_at}
 use Rattle.pq_tree.proofs.Equivalent.{tree_from_proper}
-use Rattle.pq_plain.specs.Frugal.{IsFrugal}
+use Rattle.template_theory.specs.Frugal.{IsFrugal}
 use Rattle.row_reduce.proofs.Frugality.{row_frugal}
 use Rattle.row_reduce.proofs.Staying.{StaysTree, row_reduced, reducer_kept}
 use Rattle.row_reduce.proofs.reducer.ArenaReducer.reduce_row.Goals as goal

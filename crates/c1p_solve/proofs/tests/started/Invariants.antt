@@ -1,4 +1,0 @@
-use Rattle.c1p_solve.proofs.tests.started.Given as goal
-
-abbrev pub ghosts-start_counted : goal.ghosts-start_counted
-ghosts-start_counted a = record { name = a.blank.name; parts = a.blank.parts }

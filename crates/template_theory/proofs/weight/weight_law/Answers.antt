@@ -1,0 +1,7 @@
+use Rattle.template_theory.proofs.WeightReduced.{reduced_law, met_law}
+use Rattle.template_theory.proofs.WeightTurned.{equivalent_weight}
+use Rattle.template_theory.proofs.WeightStart.{universal_weight}
+use Rattle.template_theory.proofs.weight.weight_law.Goals as goal
+
+pub returns : goal.returns
+returns c = record { reduced = reduced_law; met = met_law; turned = equivalent_weight; universal = universal_weight }
