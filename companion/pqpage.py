@@ -29,6 +29,10 @@ from pqparts.texts import bytes_of, decoded
 
 KINDS = ["matrix", "rows", "table", "clones", "circular", "convex", "doubly", "proper", "robinson"]
 INTERRUPTED = 130
+# The endings of the files of a report: those that a reader looks at, and the texts of the proof.
+SHOWN = ["json", "csv", "svg", "html"]
+CORES = ["core", *(f"core{number}" for number in range(2, MOST_CORES + 1))]
+PROOF = ["in", "verdict", "rows", "agreed", *CORES]
 
 
 def version():
@@ -71,12 +75,17 @@ def read(words):
     return question, content
 
 
+def spoken(question, words):
+    """What the things and the rows are called: the user's words, else the question's own."""
+    return words.things or question.called[0], words.rows or question.called[1]
+
+
 def found(words):
     """The question, what pq found, and what is told besides."""
     question, content = read(words)
     path = found_program(words.pq)
     finding = asked(Program(path), question, words.trust, words.rare_first, words.cores)
-    told = report.Told(os.path.basename(words.file), report.sum_of(content), sum_of_program(path), version(), words.things, words.rows, words.title, words.date,
+    told = report.Told(os.path.basename(words.file), report.sum_of(content), sum_of_program(path), version(), *spoken(question, words), words.title, words.date,
                        question.notes, question.warnings)
     return question, finding, told
 
@@ -98,8 +107,7 @@ def look(words):
     for note in question.notes:
         print(note)
     for number, side in enumerate(question.sides, 1):
-        spoken = Words(question.kind, words.things, words.rows)
-        things, rows = spoken.of_side(number)
+        things, rows = Words(question.kind, *spoken(question, words)).of_side(number)
         print(f"{len(side.things)} {things} to put in order: {side.things[0]} .. {side.things[-1]}")
         print(f"{len(side.shown())} {rows}{f': {side.names[0]} .. {side.names[-1]}' if side.names else ''}")
     for warning in question.warnings:
@@ -145,7 +153,7 @@ def files_of(question, finding, told, name):
         for number, text in enumerate(found_no.core_texts, 1):
             made["core" if number == 1 else f"core{number}"] = text
         made["agreed"] = found_no.agreed_text
-    value = report.report_value(question, finding, told)
+    value = {**report.report_value(question, finding, told), "files": sorted([*made, *SHOWN])}
     made["json"] = as_json(value).encode("utf-8", "surrogateescape")
     made["csv"] = report.ordered_table(question, finding).encode("utf-8", "surrogateescape")
     pictures = list(report.pictures_of(question, finding))
@@ -158,9 +166,13 @@ def write_report(words):
     """Writes the page, the picture, the table in order, the dictionary and the texts of the proof."""
     question, finding, told = found(words)
     warn(question)
-    write_all({f"{words.out}.{ending}": content for ending, content in files_of(question, finding, told, os.path.basename(words.out)).items()})
-    spoken = Words(question.kind, words.things, words.rows)
-    print(f"{answer_lines(question, finding, spoken)[0]} The page is {words.out}.html")
+    made = files_of(question, finding, told, os.path.basename(words.out))
+    write_all({f"{words.out}.{ending}": content for ending, content in made.items()})
+    # what an older report of this name has besides
+    for ending in PROOF:
+        if ending not in made and os.path.exists(f"{words.out}.{ending}"):
+            os.remove(f"{words.out}.{ending}")
+    print(f"{answer_lines(question, finding, Words(question.kind, told.things, told.rows))[0]} The page is {words.out}.html")
     return status_of(finding, words)
 
 
@@ -203,9 +215,8 @@ def again(words):
     stem = words.file.removesuffix(".json")
     try:
         value = json.loads(bytes_of(words.file).decode("utf-8", "surrogateescape"))
-        content, verdict_text, agreed_text = (text_beside(stem, ending) for ending in ("in", "verdict", "agreed"))
-        endings = ["core", *(f"core{number}" for number in range(2, MOST_CORES + 1))]
-        core_texts = [text for text in (text_beside(stem, ending) for ending in endings) if text is not None]
+        content, verdict_text, agreed_text = (text_beside(stem, ending) if ending in value["files"] else None for ending in ("in", "verdict", "agreed"))
+        core_texts = [text_beside(stem, ending) for ending in CORES if ending in value["files"]]
         question, finding, told = report.again_of(value, content, verdict_text, core_texts, agreed_text)
         program = Program(found_program(words.pq))
         judge_again(program, question, finding)
@@ -300,7 +311,7 @@ def asking_words(part):
     part.add_argument("--pq", metavar="PATH", help="the program; else $PQ, the pq of this checkout, or the one on the PATH")
     part.add_argument("--trust", type=words_of_marks, default=[], metavar="NAME,..", help="after a no: rows that are taken first")
     part.add_argument("--rare-first", action="store_true", help="after a no: take rows with few marks first")
-    part.add_argument("--cores", type=int, default=MOST_CORES, metavar="N", help=f"after a no: at most so many cores, {MOST_CORES} if left out")
+    part.add_argument("--cores", type=int, choices=range(MOST_CORES + 1), default=MOST_CORES, metavar="N", help=f"after a no: at most so many cores, {MOST_CORES} if left out")
     part.add_argument("--status", action="store_true", help="the status is 1 for a no")
     part.add_argument("--title", help="the title of the page")
     part.add_argument("--date", help="the date on the page; else it has none")

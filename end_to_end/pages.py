@@ -1,7 +1,8 @@
-"""The commands of README.md and docs/: each runs as the page shows it, and prints what stands under it.
+"""The commands of README.md, docs/ and companion/: each runs as the page shows it, and prints what stands under it.
 
 In a page a command stands in an indented block, after `$ `. What it prints, on standard output and standard error, stands in the lines below it,
-up to the next command or the end of the block. Commands run by a shell, page by page, in a folder that has the examples and the program `pq`.
+up to the next command or the end of the block. Commands run by a shell, page by page, in a folder that has the examples, the companion and the
+program `pq`.
 """
 
 import os
@@ -17,7 +18,7 @@ SECONDS = 60
 def pages():
     """The pages, by their names in the repository."""
     docs = sorted(name for name in os.listdir(os.path.join(HOME, "docs")) if name.endswith(".md"))
-    return ["README.md", *(os.path.join("docs", name) for name in docs)]
+    return ["README.md", *(os.path.join("docs", name) for name in docs), os.path.join("companion", "README.md")]
 
 
 def commands(page):
@@ -38,6 +39,8 @@ def commands(page):
 def page_problems(page, folder, program):
     """Each command of a page with what is wrong with it, or None. The folder is new."""
     shutil.copytree(os.path.join(HOME, "examples"), os.path.join(folder, "examples"))
+    shutil.copytree(os.path.join(HOME, "companion"), os.path.join(folder, "companion"), ignore=shutil.ignore_patterns("__pycache__"))
+    shutil.copy(os.path.join(HOME, "VERSION"), folder)
     shutil.copy(program, os.path.join(folder, "pq"))
     for command, shown in commands(page):
         done = subprocess.run(["bash", "-c", command], stdout=subprocess.PIPE, stderr=subprocess.STDOUT, cwd=folder, timeout=SECONDS, check=False)

@@ -28,7 +28,8 @@ def found_program(given=None):
         return os.path.abspath(path)
     own = os.path.join(CHECKOUT, "pq")
     if os.access(own, os.X_OK):
-        if not os.path.exists(os.path.join(CHECKOUT, "crates", "pq", "out", "pq")):
+        is_script = os.path.exists(os.path.join(CHECKOUT, "scripts", "build.py"))
+        if is_script and not os.path.exists(os.path.join(CHECKOUT, "crates", "pq", "out", "pq")):
             print(f"pqpage: pq isn't built yet: its first call proves and builds it, {MINUTES} on four processors", file=sys.stderr, flush=True)
         return own
     path = shutil.which("pq")

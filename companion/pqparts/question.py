@@ -37,6 +37,8 @@ class Question:
     warnings: list = field(default_factory=list)
     # of `robinson`: the distances as whole numbers, for the picture
     distances: list = None
+    # what the things and the rows are called where the user has no other words, or None
+    called: tuple = (None, None)
 
     def too_large(self):
         """What is past a limit of pq, or None. Of a file that only pq can judge nothing is known here."""

@@ -42,7 +42,7 @@ class Axis:
         seen = {}
         for name, place in zip(self.names, self.places):
             if not name:
-                raise unreadable(self.where, f"{self.word} {place} has no name")
+                raise unreadable(self.where, f"{self.word} {place} has no name: name it, or say --header N if the header is line N")
             if name in seen:
                 raise unreadable(self.where, f"{self.word}s {seen[name]} and {place} have the same name {name!r}: name one of them otherwise")
             seen[name] = place
@@ -172,6 +172,7 @@ def wide_question(text, where, reading):
     rows = [[at for at, is_present in enumerate(row, 1) if is_present] for row in across]
     question = question_of(reading, things.names, rows, others.names, "rows")
     question.notes, question.warnings = [*table.notes, reading.marks.said(), f"the {reading.order} are to be put in order"], table.warnings
+    question.called = ("columns", "lines") if reading.order == "columns" else ("lines", "columns")
     return question
 
 
