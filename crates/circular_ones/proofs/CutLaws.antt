@@ -7,7 +7,7 @@ use Rattle.column_order.specs.Orders.{has, place, IsOrder, Keeps, IsValidOrder, 
 use Rattle.column_order.proofs.Lists.{at_place, occurs-append}
 use Rattle.column_order.proofs.Counts.{order_length, order_has}
 use Rattle.circular_ones.specs.Circular.{complement, cut_row, cut_rows, IsCircularOrder, IsRotation, BeginsWithOne}
-use Rattle.circular_ones.specs.Laws.{CutLaw, RotationLaw, TurnedLaw, ExistsLaw}
+use Rattle.circular_ones.specs.Laws.{CutLaw, RotationLaw, TurnedLaw, CircularExistsLaw}
 use Rattle.circular_ones.proofs.Rotations.{opposite_back, together_turned, keeps_rest}
 use Rattle.circular_ones.proofs.Complements.{complement_opposite}
 use Rattle.circular_ones.proofs.Turns.{turned_at}
@@ -76,7 +76,7 @@ turned_exactly c rows o turned t = (
   λ h. circular_turned c rows turned o (rotation_back o turned t.rotation) (valid_circular c rows turned h),
 )
 
-pub exists_exactly : ExistsLaw
+pub exists_exactly : CircularExistsLaw
 exists_exactly c rows = (λ h. there h.0 h.1, λ h. (h.0, valid_circular c rows h.0 h.1))
   where
     there : (o : List ℕ) → IsCircularOrder c rows o → HasValidOrder c (cut_rows c rows)

@@ -23,5 +23,5 @@ TurnedLaw =
     IsCircularOrder c rows o ↔ IsValidOrder c (cut_rows c rows) turned
 
 -- a circular order exists exactly where the cut rows have a valid order
-abbrev pub ExistsLaw : Type 0
-ExistsLaw = (c : ℕ) (rows : List (List ℕ)) → HasCircularOrder c rows ↔ HasValidOrder c (cut_rows c rows)
+abbrev pub CircularExistsLaw : Type 0
+CircularExistsLaw = (c : ℕ) (rows : List (List ℕ)) → HasCircularOrder c rows ↔ HasValidOrder c (cut_rows c rows)

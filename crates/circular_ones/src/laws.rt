@@ -1,5 +1,5 @@
 // Circular orders and the valid orders of the cut rows.
-ghost use Rattle.circular_ones.specs.Laws.{CutLaw, RotationLaw, TurnedLaw, ExistsLaw};
+ghost use Rattle.circular_ones.specs.Laws.{CutLaw, RotationLaw, TurnedLaw, CircularExistsLaw};
 
 /// Circular orders of rows and valid orders of the cut rows (Tucker, 1971).
 ///
@@ -10,5 +10,5 @@ pub fn circular_law()
     ensures cut { CutLaw }
     ensures rotation { RotationLaw }
     ensures turned { TurnedLaw }
-    ensures exists { ExistsLaw }
+    ensures exists { CircularExistsLaw }
 {}

@@ -9,7 +9,7 @@ use Rattle.column_order.proofs.Lists.{at_place}
 use Rattle.column_order.proofs.Counts.{order_has, order_length}
 use Rattle.row_model.specs.declared.TheConstants.{MAX_COLUMNS}
 use Rattle.row_model.specs.declared.lists.Interval.{Interval}
-use Rattle.graph_read.specs.Graphs.{GraphValue}
+use Rattle.graph_model.specs.Graphs.{GraphValue}
 use Rattle.proper_interval.specs.Models.{interval_of}
 use Rattle.proper_interval.specs.Formula.{vertex_at, interval_at, AreIntervals}
 use Rattle.verdict_text.specs.Numbered.{numbered}

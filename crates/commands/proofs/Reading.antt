@@ -11,7 +11,7 @@ use Rattle.matrix_read.specs.Sparse.{sparse}
 use Rattle.matrix_read.specs.Table.{table}
 use Rattle.matrix_read.specs.Clones.{clones}
 use Rattle.matrix_read.specs.Limits.{IsWithinLimits, LimitsLaw}
-use Rattle.matrix_read.specs.Refusals.{RefusesLong}
+use Rattle.text_lines.specs.FirstRefusal.{RefusesLong}
 use Rattle.graph_read.specs.GraphFiles.{bigraph, graph}
 use Rattle.graph_read.specs.DistanceFiles.{distances}
 use Rattle.graph_read.specs.FileLaws.{BigraphLaw, GraphLaw, DistancesLaw}

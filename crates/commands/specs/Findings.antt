@@ -1,6 +1,6 @@
 -- What is found of the bytes of a unit model.
 use Rattle.std.specs.Prelude.{◌≡◌, ◌≢◌, ℕ, ◌<◌, ◌≤◌, List, ◌++◌, length, codes}
-use Rattle.graph_read.specs.Graphs.{GraphValue}
+use Rattle.graph_model.specs.Graphs.{GraphValue}
 use Rattle.unit_model.specs.Models.{IsUnitModel}
 use Rattle.unit_model.specs.Text.{UnitValue, IsUnit, unit_text}
 use Rattle.commands.specs.declared.TheConstants.{MAX_VERDICT_BYTES}

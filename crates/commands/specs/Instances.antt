@@ -16,7 +16,7 @@ use Rattle.instance_model.specs.Instance.{InstanceValue, plain, circular, convex
 use Rattle.instance_model.specs.Value.{instance_value}
 use Rattle.instance_model.specs.declared.instance.Instance.{Instance}
 use Rattle.instance_model.specs.declared.instance.Instance.TheVariants as instance
-use Rattle.graph_read.specs.declared.graph.Graph.{Graph}
+use Rattle.graph_model.specs.declared.graph.Graph.{Graph}
 
 -- what is made of a value that was read, or the refusal
 abbrev pub map_read : {A B : Type 0} → (A → B) → Read A → Read B

@@ -7,10 +7,10 @@ ghost use Rattle.commands.specs.Instances.{map_read, IfRead};
 ghost use Rattle.commands.specs.TreeFiles.{end_length, without_end, tree_file};
 
 use crate::{NoMemory, TREE_CODE};
-use matrix_read::without_mark;
 use pq_tree::PqTree;
 use row_model::{Read, Refusal};
 use std::alloc::Global;
+use text_lines::without_mark;
 
 /// The tree over 1 to c in the bytes of a file that is not too long, or their refusal.
 ///

@@ -1,14 +1,14 @@
 // The check of a unit model.
 ghost use Rattle.std.specs.Prelude.{◌≡◌, ◌⊎◌, List, ℕ, IfOk};
 ghost use Rattle.pq_io.specs.Whole.{IsWhole};
-ghost use Rattle.graph_read.specs.Graphs.{GraphValue};
+ghost use Rattle.graph_model.specs.Graphs.{GraphValue};
 ghost use Rattle.instance_model.specs.Instance.{proper, instance_kind, IsInstance};
 ghost use Rattle.instance_model.specs.Value.{instance_value};
 ghost use Rattle.commands.specs.Findings.{IsFinding, IsFindingReply};
 
 use crate::finding::Finding;
 use crate::{MAX_VERDICT_BYTES, NoMemory, Reply, graph_law};
-use graph_read::Graph;
+use graph_model::Graph;
 use instance_model::Instance;
 use pq_io::Whole;
 use row_model::Kind;

@@ -3,9 +3,9 @@ ghost use Rattle.std.specs.Prelude.{◌≡◌, ◌≤◌, [], ◌∷◌, option_
 ghost use Rattle.commands.specs.Words.{texts, Solve, command_of, check_of, extend_of, core_of, check_core_of, check_unit_of, numbered_of, gen_of, meet_of, list_of, kind_of, extended_kind_of, number_in, are_both_input, IsExtended, IsInGrammar};
 ghost use Rattle.commands.specs.Task.{command_seen};
 
-use matrix_read::{Numeral, number};
 use order_list::MAX_ORDERS;
 use row_model::{Kind, MAX_COLUMNS, MAX_ROWS};
+use text_lines::{Numeral, number};
 
 /// What the words ask for.
 #[derive(Clone, Copy)]

@@ -7,7 +7,7 @@ use Rattle.column_order.specs.Orders.{has, IsOrder, Keeps, IsValidOrder}
 use Rattle.column_order.proofs.Lists.{has_at}
 use Rattle.column_order.proofs.Counts.{order_within}
 use Rattle.row_model.proofs.Filtered.{has_filtered}
-use Rattle.graph_read.specs.Graphs.{BigraphValue, IsBigraph, has_edge}
+use Rattle.graph_model.specs.Graphs.{BigraphValue, IsBigraph, has_edge}
 use Rattle.convex_bipartite.specs.Sides.{right_rows, xs_among}
 use Rattle.convex_bipartite.specs.Convex.{IsConvexOnRight, IsConvexOnLeft, RightLaw, LeftLaw}
 

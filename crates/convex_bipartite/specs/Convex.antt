@@ -1,7 +1,7 @@
 -- Orders of a side of a bipartite graph in which the neighbours of each vertex of the other side are consecutive (Glover, 1967).
 use Rattle.std.specs.Prelude.{◌↔◌, ℕ, ◌<◌, ◌≤◌, List, length, slice_index, IsTrue}
 use Rattle.column_order.specs.Orders.{IsOrder, IsValidOrder}
-use Rattle.graph_read.specs.Graphs.{BigraphValue, IsBigraph, has_edge}
+use Rattle.graph_model.specs.Graphs.{BigraphValue, IsBigraph, has_edge}
 use Rattle.convex_bipartite.specs.Sides.{left_rows, right_rows}
 
 -- an order of the right side: where an x has edges to two ys, it has one to each y between them

@@ -2,7 +2,7 @@
 use Rattle.std.specs.Prelude.{ℕ, List, map}
 use Rattle.std.specs.List.{range_with_len}
 use Rattle.row_model.specs.Rows.{RowList, columns_where}
-use Rattle.graph_read.specs.Graphs.{BigraphValue, has_edge}
+use Rattle.graph_model.specs.Graphs.{BigraphValue, has_edge}
 
 -- a column for each y, and as row x the ys that x has an edge to
 abbrev pub left_rows : BigraphValue → RowList

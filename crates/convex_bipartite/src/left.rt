@@ -2,7 +2,7 @@
 ghost use Rattle.std.specs.Prelude.{◌≡◌, IfOk};
 ghost use Rattle.convex_bipartite.specs.Sides.{left_rows};
 
-use graph_read::Bigraph;
+use graph_model::Bigraph;
 use row_model::{Matrix, NoMemory};
 use std::alloc::Global;
 

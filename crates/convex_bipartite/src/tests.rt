@@ -1,6 +1,6 @@
 // Small graphs, worked by hand.
 use super::*;
-use graph_read::Bigraph;
+use graph_model::Bigraph;
 use std::test::Fail;
 
 #[test]

@@ -7,12 +7,12 @@ use Rattle.row_model.specs.declared.refusal.Refusal.{Refusal}
 use Rattle.row_model.specs.declared.refusal.Read.TheVariants as read
 use Rattle.row_model.specs.declared.TheConstants.{MAX_FILE_BYTES}
 use Rattle.row_model.specs.declared.code.TheConstants.{LIMIT, COUNT, GRAMMAR, RANGE, SYMMETRY}
-use Rattle.matrix_read.specs.Lines.{NumberedLine, without_mark, lines_of, filled_lines}
-use Rattle.matrix_read.specs.Words.{words_of, numeral_of}
-use Rattle.matrix_read.specs.declared.words.Numeral.{Numeral}
-use Rattle.matrix_read.specs.declared.words.Numeral.TheVariants.{Value, TooLarge, NotDigits}
-use Rattle.graph_read.specs.declared.TheConstants.{ITEM_BOUND}
-use Rattle.graph_read.specs.Distances.{distance, IsDistances}
+use Rattle.text_lines.specs.Lines.{NumberedLine, without_mark, lines_of, filled_lines}
+use Rattle.text_lines.specs.Words.{words_of, numeral_of}
+use Rattle.text_lines.specs.declared.words.Numeral.{Numeral}
+use Rattle.text_lines.specs.declared.words.Numeral.TheVariants.{Value, TooLarge, NotDigits}
+use Rattle.graph_model.specs.declared.TheConstants.{ITEM_BOUND}
+use Rattle.graph_model.specs.Distances.{distance, IsDistances}
 use Rattle.graph_read.specs.DistanceSteps.{distance_then, numbers_behind, is_symmetric_at, is_row_at, table_with_row, row_behind, rows_then, table_behind}
 use Rattle.graph_read.specs.DistanceFiles.{distances, distances_lines}
 use Rattle.row_model.proofs.Limits.{too_long, short_enough}

@@ -8,13 +8,13 @@ use Rattle.row_model.specs.Rows.{IsRow}
 use Rattle.row_model.specs.declared.code.TheConstants.{SYMMETRY, RANGE}
 use Rattle.row_model.proofs.Ascending.{row_within}
 use Rattle.row_model.proofs.Filtered.{has_filtered, filtered_row}
-use Rattle.matrix_read.specs.Lines.{NumberedLine}
-use Rattle.matrix_read.specs.Rows.{columns_among}
-use Rattle.matrix_read.specs.Words.{words_of}
+use Rattle.text_lines.specs.Lines.{NumberedLine}
+use Rattle.text_lines.specs.Rows.{columns_among}
+use Rattle.text_lines.specs.Words.{words_of}
 use Rattle.graph_read.specs.declared.edges.Edge.{Edge}
 use Rattle.graph_read.specs.declared.edges.Shape.TheVariants.{Plain}
 use Rattle.graph_read.specs.declared.numbers.NumberPair.{NumberPair}
-use Rattle.graph_read.specs.Graphs.{has_edge}
+use Rattle.graph_model.specs.Graphs.{has_edge}
 use Rattle.graph_read.specs.Numbers.{is_within, value_of, two_numbers}
 use Rattle.graph_read.specs.Edges.{both_ways, ends_from, lists_from, edge_named, edge_before, edges_of, unless_loop}
 use Rattle.graph_read.proofs.ListLemmas.{length-lists_from}

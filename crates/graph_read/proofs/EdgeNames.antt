@@ -3,10 +3,10 @@ use Rattle.std.proofs.Common.{◌≡◌, ◌∙◌, ℕ, ◌≤◌, Bool, true, 
 use Rattle.std.proofs.lemmas.Bool.{ne_eqb}
 use Rattle.column_order.specs.Orders.{has}
 use Rattle.row_model.specs.declared.code.TheConstants.{RANGE, SYMMETRY}
-use Rattle.matrix_read.specs.Lines.{NumberedLine}
-use Rattle.matrix_read.specs.Words.{words_of}
-use Rattle.matrix_read.specs.declared.words.Numeral.{Numeral}
-use Rattle.matrix_read.specs.declared.words.Numeral.TheVariants.{Value, TooLarge, NotDigits}
+use Rattle.text_lines.specs.Lines.{NumberedLine}
+use Rattle.text_lines.specs.Words.{words_of}
+use Rattle.text_lines.specs.declared.words.Numeral.{Numeral}
+use Rattle.text_lines.specs.declared.words.Numeral.TheVariants.{Value, TooLarge, NotDigits}
 use Rattle.graph_read.specs.declared.edges.Edge.{Edge}
 use Rattle.graph_read.specs.declared.edges.Shape.{Shape}
 use Rattle.graph_read.specs.declared.edges.Shape.TheVariants.{Bipartite, Plain}

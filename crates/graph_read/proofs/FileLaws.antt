@@ -3,12 +3,12 @@ use Rattle.std.proofs.Common.{◌≡◌, ◌∙◌, ℕ, ◌≤◌, ◌||◌, Li
 use Rattle.std.proofs.lemmas.List.Elements.{All-from_recursion}
 use Rattle.column_order.specs.Orders.{has}
 use Rattle.row_model.specs.declared.refusal.Read.TheVariants as read
-use Rattle.matrix_read.specs.Refusals.{filled_of}
-use Rattle.matrix_read.specs.Words.{words_of}
-use Rattle.graph_read.specs.declared.TheConstants.{LEFT_BOUND}
+use Rattle.text_lines.specs.FirstRefusal.{filled_of}
+use Rattle.text_lines.specs.Words.{words_of}
+use Rattle.graph_model.specs.declared.TheConstants.{LEFT_BOUND}
 use Rattle.graph_read.specs.declared.edges.Shape.{Shape}
 use Rattle.graph_read.specs.declared.edges.Shape.TheVariants.{Bipartite, Plain}
-use Rattle.graph_read.specs.Graphs.{BigraphValue, GraphValue}
+use Rattle.graph_model.specs.Graphs.{BigraphValue, GraphValue}
 use Rattle.graph_read.specs.Edges.{both_ways, ends_from, edges_of, lists_from}
 use Rattle.graph_read.specs.GraphFiles.{bigraph, graph}
 use Rattle.graph_read.specs.FileLaws.{names_edge, IsEdgeLine, WritesBigraph, IsBigraphFile, BigraphLaw, IsPairLine, WritesGraph, IsGraphFile, GraphLaw, IsDistancesFile, DistancesLaw}
@@ -17,7 +17,7 @@ use Rattle.graph_read.proofs.EdgeNames.{lines_name}
 use Rattle.graph_read.proofs.Named.{sizes_written, size_written, edge_lines_of, pair_lines_of}
 use Rattle.graph_read.proofs.Ranges.{bigraph_from, bigraph_range, graph_from, graph_range, distances_from}
 use Rattle.row_model.specs.declared.TheConstants.{MAX_ITEMS}
-use Rattle.graph_read.specs.Distances.{DistancesValue}
+use Rattle.graph_model.specs.Distances.{DistancesValue}
 use Rattle.graph_read.specs.DistanceFiles.{items_named, distances, distances_behind, distances_lines}
 use Rattle.graph_read.specs.DistanceSteps.{distances_with}
 use Rattle.graph_read.specs.Numbers.{one_number}

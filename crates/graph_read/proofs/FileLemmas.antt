@@ -5,11 +5,11 @@ use Rattle.row_model.specs.declared.refusal.Read.TheVariants as read
 use Rattle.row_model.specs.declared.TheConstants.{MAX_FILE_BYTES}
 use Rattle.row_model.specs.declared.code.TheConstants.{LIMIT}
 use Rattle.row_model.specs.declared.refusal.Refusal.{Refusal}
-use Rattle.matrix_read.specs.Lines.{NumberedLine, without_mark, lines_of, filled_lines}
-use Rattle.graph_read.specs.Graphs.{IsBigraph, IsGraph}
+use Rattle.text_lines.specs.Lines.{NumberedLine, without_mark, lines_of, filled_lines}
+use Rattle.graph_model.specs.Graphs.{IsBigraph, IsGraph}
 use Rattle.column_order.specs.declared.TheConstants.{COLUMN_BOUND}
-use Rattle.matrix_read.specs.Rows.{refused_or}
-use Rattle.graph_read.specs.declared.TheConstants.{LEFT_BOUND}
+use Rattle.text_lines.specs.Rows.{refused_or}
+use Rattle.graph_model.specs.declared.TheConstants.{LEFT_BOUND}
 use Rattle.graph_read.specs.Edges.{left_of, right_of, both_ways, lists_from, edges_of, edge_refusal, lists_of_lines}
 use Rattle.graph_read.specs.declared.edges.Edge.{Edge}
 use Rattle.graph_read.specs.declared.edges.Shape.TheVariants.{Plain}

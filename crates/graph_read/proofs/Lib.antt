@@ -1,4 +1,3 @@
-pub mod GraphLemmas
 pub mod ListLemmas
 pub mod PlaceLemmas
 pub mod BitLemmas

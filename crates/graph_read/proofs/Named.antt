@@ -4,10 +4,10 @@ use Rattle.std.proofs.lemmas.Bool.{and_parts, ltb-false}
 use Rattle.std.specs.List.{AllByRecursion}
 use Rattle.row_model.specs.declared.TheConstants.{MAX_COLUMNS, MAX_ITEMS}
 use Rattle.row_model.specs.declared.code.TheConstants.{RANGE, LIMIT, SYMMETRY}
-use Rattle.matrix_read.specs.Lines.{NumberedLine}
-use Rattle.matrix_read.specs.Words.{words_of, numeral_of}
-use Rattle.matrix_read.specs.declared.words.Numeral.{Numeral}
-use Rattle.matrix_read.specs.declared.words.Numeral.TheVariants.{Value, TooLarge, NotDigits}
+use Rattle.text_lines.specs.Lines.{NumberedLine}
+use Rattle.text_lines.specs.Words.{words_of, numeral_of}
+use Rattle.text_lines.specs.declared.words.Numeral.{Numeral}
+use Rattle.text_lines.specs.declared.words.Numeral.TheVariants.{Value, TooLarge, NotDigits}
 use Rattle.graph_read.specs.declared.edges.Edge.{Edge}
 use Rattle.graph_read.specs.declared.edges.Shape.{Shape}
 use Rattle.graph_read.specs.declared.edges.Shape.TheVariants.{Bipartite, Plain}

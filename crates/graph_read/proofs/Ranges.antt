@@ -7,19 +7,19 @@ use Rattle.row_model.specs.declared.refusal.Read.{Read}
 use Rattle.row_model.specs.declared.refusal.Read.TheVariants as read
 use Rattle.row_model.specs.declared.TheConstants.{MAX_COLUMNS, MAX_FILE_BYTES, MAX_ITEMS}
 use Rattle.row_model.specs.declared.code.TheConstants.{RANGE, LIMIT}
-use Rattle.matrix_read.specs.Lines.{NumberedLine}
+use Rattle.text_lines.specs.Lines.{NumberedLine}
 use Rattle.std.proofs.lemmas.List.Elements.{All-from_recursion}
 use Rattle.row_model.specs.Rows.{IsRow}
 use Rattle.graph_read.specs.Edges.{both_ways, lists_from}
-use Rattle.matrix_read.specs.Refusals.{filled_of}
-use Rattle.matrix_read.specs.Rows.{refused_or}
+use Rattle.text_lines.specs.FirstRefusal.{filled_of}
+use Rattle.text_lines.specs.Rows.{refused_or}
 use Rattle.column_order.specs.declared.TheConstants.{COLUMN_BOUND}
-use Rattle.graph_read.specs.declared.TheConstants.{LEFT_BOUND}
-use Rattle.matrix_read.specs.Words.{words_of, numeral_of}
-use Rattle.matrix_read.specs.declared.words.Numeral.{Numeral}
-use Rattle.matrix_read.specs.declared.words.Numeral.TheVariants.{Value, TooLarge, NotDigits}
-use Rattle.graph_read.specs.Graphs.{BigraphValue, IsBigraph, GraphValue, IsGraph}
-use Rattle.graph_read.specs.Distances.{DistancesValue}
+use Rattle.graph_model.specs.declared.TheConstants.{LEFT_BOUND}
+use Rattle.text_lines.specs.Words.{words_of, numeral_of}
+use Rattle.text_lines.specs.declared.words.Numeral.{Numeral}
+use Rattle.text_lines.specs.declared.words.Numeral.TheVariants.{Value, TooLarge, NotDigits}
+use Rattle.graph_model.specs.Graphs.{BigraphValue, IsBigraph, GraphValue, IsGraph}
+use Rattle.graph_model.specs.Distances.{DistancesValue}
 use Rattle.row_model.specs.Limits.{within_length}
 use Rattle.graph_read.specs.Numbers.{is_number, is_zero, is_past, value_of, both_numbers, two_numbers, if_number, one_number}
 use Rattle.graph_read.specs.Edges.{left_of, right_of, edges_of, edge_refusal, lists_of_lines, sides_named, vertices_named}

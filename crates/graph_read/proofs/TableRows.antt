@@ -4,11 +4,11 @@ use Rattle.std.proofs.lemmas.Bool.{and_from, leb-true, leb-false}
 use Rattle.std.proofs.lemmas.List.{append-nil, take_all, take_at, drop_at, drop-take, take-append-drop, length-take-le, get_or-take}
 use Rattle.row_model.specs.declared.refusal.Refusal.{Refusal}
 use Rattle.row_model.specs.declared.code.TheConstants.{COUNT, SYMMETRY}
-use Rattle.matrix_read.specs.Lines.{NumberedLine}
-use Rattle.matrix_read.specs.Words.{words_of, numeral_of}
-use Rattle.matrix_read.specs.declared.words.Numeral.{Numeral}
-use Rattle.matrix_read.specs.declared.words.Numeral.TheVariants.{Value, TooLarge, NotDigits}
-use Rattle.graph_read.specs.Distances.{distance, IsDistances}
+use Rattle.text_lines.specs.Lines.{NumberedLine}
+use Rattle.text_lines.specs.Words.{words_of, numeral_of}
+use Rattle.text_lines.specs.declared.words.Numeral.{Numeral}
+use Rattle.text_lines.specs.declared.words.Numeral.TheVariants.{Value, TooLarge, NotDigits}
+use Rattle.graph_model.specs.Distances.{distance, IsDistances}
 use Rattle.graph_read.specs.DistanceSteps.{distance_then, numbers_behind, is_symmetric_at, is_row_at, table_with_row, row_behind, rows_then, table_behind}
 use Rattle.graph_read.proofs.DistanceLemmas.{table_step, table_whole, row_here}
 use Rattle.graph_read.proofs.PlaceLemmas.{row_within, place_within}

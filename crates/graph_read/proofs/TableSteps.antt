@@ -1,5 +1,5 @@
 -- The table that is read number after number is the table of the rows, and so is its first refusal.
-use Rattle.std.proofs.Common.{◌≡◌, ◌∙◌, inl, inr, ℕ, zero, suc, ◌+◌, ◌-◌, ◌*◌, ◌<◌, ◌≤◌, ◌==◌, ◌&&◌, Bool, true, false, if◌then◌else◌, nat_le, List, [], ◌∷◌, ◌++◌, length, map, take, get_or, refl, sym, ap, arith, Option, Some, None, Result, Ok, Err, append_assoc, length-append, eq-eqb, eqb-true}
+use Rattle.std.proofs.Common.{◌≡◌, ◌∙◌, inl, inr, ℕ, zero, suc, ◌+◌, ◌-◌, ◌*◌, ◌<◌, ◌≤◌, ◌==◌, ◌&&◌, Bool, true, false, if◌then◌else◌, nat_le, List, [], ◌∷◌, ◌++◌, length, map, take, get_or, refl, sym, ap, arith, Option, Some, None, Result, Ok, Err, append_assoc, length-append, eq-eqb}
 use Rattle.std.proofs.Math.ListN.{get_or-append}
 use Rattle.std.proofs.lemmas.Bool.{cases_eq, ne_eqb, leb-false}
 use Rattle.std.proofs.lemmas.List.{append-nil, take_at, length-map, map-append, get_or-append_right}
@@ -7,14 +7,14 @@ use Rattle.std.proofs.lemmas.List.Folds.{concat-append}
 use Rattle.std.specs.List.{AllByRecursion, concat}
 use Rattle.row_model.proofs.PieceLemmas.{AllByRecursion-push}
 use Rattle.row_model.specs.declared.refusal.Refusal.{Refusal}
-use Rattle.row_model.specs.declared.code.TheConstants.{COUNT, GRAMMAR, RANGE, SYMMETRY}
-use Rattle.matrix_read.specs.Lines.{NumberedLine}
-use Rattle.matrix_read.specs.Rows.{refusal_or, first_refusal, refused_or}
-use Rattle.matrix_read.specs.Sparse.{code_or}
-use Rattle.matrix_read.specs.Words.{words_of, numeral_of}
-use Rattle.matrix_read.specs.declared.words.Numeral.{Numeral}
-use Rattle.matrix_read.specs.declared.words.Numeral.TheVariants.{Value, TooLarge, NotDigits}
-use Rattle.graph_read.specs.Distances.{distance}
+use Rattle.row_model.specs.declared.code.TheConstants.{COUNT, SYMMETRY}
+use Rattle.text_lines.specs.Lines.{NumberedLine}
+use Rattle.text_lines.specs.Rows.{refusal_or, first_refusal, refused_or}
+use Rattle.text_lines.specs.Rows.{code_or}
+use Rattle.text_lines.specs.Words.{words_of, numeral_of}
+use Rattle.text_lines.specs.declared.words.Numeral.{Numeral}
+use Rattle.text_lines.specs.declared.words.Numeral.TheVariants.{Value, TooLarge, NotDigits}
+use Rattle.graph_model.specs.Distances.{distance}
 use Rattle.graph_read.specs.Numbers.{value_of}
 use Rattle.graph_read.specs.DistanceRows.{distance_code, distances_code, distances_in, rows_in, is_mirrored, is_next, entries_code, next_row_code}
 use Rattle.graph_read.specs.DistanceSteps.{distance_then, numbers_behind, is_symmetric_at, is_row_at, table_with_row, row_behind, rows_then, table_behind, distances_with, row_refused}

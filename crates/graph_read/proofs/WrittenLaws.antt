@@ -7,17 +7,17 @@ use Rattle.column_order.specs.Orders.{has}
 use Rattle.row_model.specs.Rows.{IsRow}
 use Rattle.row_model.specs.declared.refusal.Read.TheVariants as read
 use Rattle.row_model.specs.declared.TheConstants.{MAX_COLUMNS}
-use Rattle.matrix_read.specs.Lines.{NumberedLine}
-use Rattle.matrix_read.specs.Words.{words_of}
-use Rattle.matrix_read.specs.Rows.{columns_among, refused_or}
-use Rattle.matrix_read.specs.declared.words.Numeral.TheVariants.{Value}
+use Rattle.text_lines.specs.Lines.{NumberedLine}
+use Rattle.text_lines.specs.Words.{words_of}
+use Rattle.text_lines.specs.Rows.{columns_among, refused_or}
+use Rattle.text_lines.specs.declared.words.Numeral.TheVariants.{Value}
 use Rattle.graph_read.specs.declared.edges.Edge.{Edge}
 use Rattle.graph_read.specs.declared.edges.Shape.{Shape}
 use Rattle.graph_read.specs.declared.edges.Shape.TheVariants.{Bipartite, Plain}
-use Rattle.graph_read.specs.Graphs.{has_edge}
+use Rattle.graph_model.specs.Graphs.{has_edge}
 use Rattle.graph_read.specs.Numbers.{is_within, two_numbers, one_number}
 use Rattle.graph_read.specs.Edges.{both_ways, ends_from, lists_from, edge_named, edges_of, edge_refusal, sides_named, vertices_named}
-use Rattle.graph_read.specs.Graphs.{BigraphValue, GraphValue}
+use Rattle.graph_model.specs.Graphs.{BigraphValue, GraphValue}
 use Rattle.graph_read.specs.GraphFiles.{bigraph, graph, bigraph_with, bigraph_behind, bigraph_lines, graph_with, graph_behind, graph_lines}
 use Rattle.graph_read.specs.FileLaws.{IsEdgeLine, IsPairLine, names_edge, IsBigraphFile, IsGraphFile}
 use Rattle.graph_read.proofs.EdgeLemmas.{ends_either}

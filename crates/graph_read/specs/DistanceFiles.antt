@@ -7,11 +7,11 @@ use Rattle.row_model.specs.declared.refusal.Read.TheVariants as read
 use Rattle.row_model.specs.Limits.{within_length}
 use Rattle.row_model.specs.declared.TheConstants.{MAX_ITEMS}
 use Rattle.row_model.specs.declared.code.TheConstants.{EMPTY, GRAMMAR, COUNT, RANGE, LIMIT}
-use Rattle.matrix_read.specs.Lines.{NumberedLine, without_mark, lines_of, filled_lines}
-use Rattle.matrix_read.specs.Rows.{first_refusal, refused_or}
-use Rattle.matrix_read.specs.Words.{words_of}
-use Rattle.matrix_read.specs.declared.words.Numeral.{Numeral}
-use Rattle.graph_read.specs.Distances.{DistancesValue}
+use Rattle.text_lines.specs.Lines.{NumberedLine, without_mark, lines_of, filled_lines}
+use Rattle.text_lines.specs.Rows.{first_refusal, refused_or}
+use Rattle.text_lines.specs.Words.{words_of}
+use Rattle.text_lines.specs.declared.words.Numeral.{Numeral}
+use Rattle.graph_model.specs.Distances.{DistancesValue}
 use Rattle.graph_read.specs.DistanceRows.{rows_in, next_row_code}
 use Rattle.graph_read.specs.Numbers.{is_zero, is_past, value_of, one_number}
 

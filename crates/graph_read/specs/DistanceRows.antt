@@ -1,11 +1,11 @@
 -- The row of distances that a line writes, and the code by which it is refused.
 use Rattle.std.specs.Prelude.{ℕ, zero, suc, ◌==◌, ◌&&◌, nat_le, Bool, true, List, [], ◌∷◌, length, map, slice_index_or, if◌then◌else◌, Option, Some, None}
 use Rattle.row_model.specs.declared.code.TheConstants.{GRAMMAR, COUNT, RANGE, SYMMETRY}
-use Rattle.matrix_read.specs.Lines.{NumberedLine}
-use Rattle.matrix_read.specs.Sparse.{code_or}
-use Rattle.matrix_read.specs.Words.{words_of, numeral_of}
-use Rattle.matrix_read.specs.declared.words.Numeral.{Numeral}
-use Rattle.matrix_read.specs.declared.words.Numeral.TheVariants.{Value, TooLarge, NotDigits}
+use Rattle.text_lines.specs.Lines.{NumberedLine}
+use Rattle.text_lines.specs.Rows.{code_or}
+use Rattle.text_lines.specs.Words.{words_of, numeral_of}
+use Rattle.text_lines.specs.declared.words.Numeral.{Numeral}
+use Rattle.text_lines.specs.declared.words.Numeral.TheVariants.{Value, TooLarge, NotDigits}
 use Rattle.graph_read.specs.Numbers.{value_of}
 
 -- the code by which a word is refused as a distance, if it is: a distance is a number of 64 bits

@@ -4,11 +4,11 @@ use Rattle.row_model.specs.declared.refusal.Refusal.{Refusal}
 use Rattle.row_model.specs.declared.refusal.Read.{Read}
 use Rattle.row_model.specs.declared.refusal.Read.TheVariants as read
 use Rattle.row_model.specs.declared.code.TheConstants.{GRAMMAR, COUNT, RANGE, SYMMETRY}
-use Rattle.matrix_read.specs.Lines.{NumberedLine}
-use Rattle.matrix_read.specs.Words.{words_of, numeral_of}
-use Rattle.matrix_read.specs.declared.words.Numeral.{Numeral}
-use Rattle.matrix_read.specs.declared.words.Numeral.TheVariants.{Value, TooLarge, NotDigits}
-use Rattle.graph_read.specs.Distances.{DistancesValue, distance}
+use Rattle.text_lines.specs.Lines.{NumberedLine}
+use Rattle.text_lines.specs.Words.{words_of, numeral_of}
+use Rattle.text_lines.specs.declared.words.Numeral.{Numeral}
+use Rattle.text_lines.specs.declared.words.Numeral.TheVariants.{Value, TooLarge, NotDigits}
+use Rattle.graph_model.specs.Distances.{DistancesValue, distance}
 
 -- a distance behind others, or the code of its refusal: a number of 64 bits
 abbrev pub distance_then : Numeral → (ℕ → Result (List ℕ) ℕ) → Result (List ℕ) ℕ

@@ -5,11 +5,11 @@ use Rattle.row_model.specs.declared.refusal.Refusal.{Refusal}
 use Rattle.row_model.specs.declared.refusal.Read.{Read}
 use Rattle.row_model.specs.declared.TheConstants.{MAX_COLUMNS}
 use Rattle.row_model.specs.declared.code.TheConstants.{GRAMMAR, RANGE, SYMMETRY, LIMIT}
-use Rattle.matrix_read.specs.Words.{words_of}
-use Rattle.matrix_read.specs.Lines.{NumberedLine}
-use Rattle.matrix_read.specs.Rows.{columns_among, first_refusal, refused_or}
+use Rattle.text_lines.specs.Words.{words_of}
+use Rattle.text_lines.specs.Lines.{NumberedLine}
+use Rattle.text_lines.specs.Rows.{columns_among, first_refusal, refused_or}
 use Rattle.graph_read.specs.Numbers.{is_zero, is_past, is_within, value_of, two_numbers}
-use Rattle.matrix_read.specs.declared.words.Numeral.{Numeral}
+use Rattle.text_lines.specs.declared.words.Numeral.{Numeral}
 use Rattle.graph_read.specs.declared.numbers.NumberPair.{NumberPair}
 use Rattle.graph_read.specs.declared.edges.Edge.{Edge}
 use Rattle.graph_read.specs.declared.edges.Shape.{Shape}

@@ -2,16 +2,16 @@
 use Rattle.std.specs.Prelude.{◌≡◌, ◌≢◌, ◌↔◌, ℕ, ◌+◌, ◌*◌, ◌≤◌, ◌||◌, Bool, false, List, [], ◌∷◌, length, map, slice_get, slice_range, Some, All}
 use Rattle.row_model.specs.declared.refusal.Read.TheVariants as read
 use Rattle.row_model.specs.declared.TheConstants.{MAX_COLUMNS, MAX_FILE_BYTES, MAX_ITEMS}
-use Rattle.matrix_read.specs.Lines.{NumberedLine}
-use Rattle.matrix_read.specs.Refusals.{filled_of}
-use Rattle.matrix_read.specs.Words.{words_of, numeral_of}
-use Rattle.matrix_read.specs.declared.words.Numeral.TheVariants.{Value}
-use Rattle.graph_read.specs.Graphs.{has_edge, BigraphValue, IsBigraph, GraphValue, IsGraph}
-use Rattle.graph_read.specs.Distances.{DistancesValue, IsDistances}
+use Rattle.text_lines.specs.Lines.{NumberedLine}
+use Rattle.text_lines.specs.FirstRefusal.{filled_of}
+use Rattle.text_lines.specs.Words.{words_of, numeral_of}
+use Rattle.text_lines.specs.declared.words.Numeral.TheVariants.{Value}
+use Rattle.graph_model.specs.Graphs.{has_edge, BigraphValue, IsBigraph, GraphValue, IsGraph}
+use Rattle.graph_model.specs.Distances.{DistancesValue, IsDistances}
 use Rattle.graph_read.specs.Numbers.{are_values, one_number, two_numbers}
 use Rattle.graph_read.specs.GraphFiles.{bigraph, graph}
 use Rattle.graph_read.specs.DistanceFiles.{distances}
-use Rattle.graph_read.specs.declared.TheConstants.{LEFT_BOUND}
+use Rattle.graph_model.specs.declared.TheConstants.{LEFT_BOUND}
 
 -- whether some line is exactly the two numbers x and y
 abbrev pub names_edge : List NumberedLine → ℕ → ℕ → Bool

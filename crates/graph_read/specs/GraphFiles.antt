@@ -5,9 +5,9 @@ use Rattle.row_model.specs.Rows.{RowList}
 use Rattle.row_model.specs.declared.refusal.Read.{Read}
 use Rattle.row_model.specs.declared.refusal.Read.TheVariants as read
 use Rattle.row_model.specs.declared.code.TheConstants.{EMPTY}
-use Rattle.matrix_read.specs.Lines.{NumberedLine, without_mark, lines_of, filled_lines}
-use Rattle.matrix_read.specs.Words.{words_of}
-use Rattle.graph_read.specs.Graphs.{BigraphValue, GraphValue}
+use Rattle.text_lines.specs.Lines.{NumberedLine, without_mark, lines_of, filled_lines}
+use Rattle.text_lines.specs.Words.{words_of}
+use Rattle.graph_model.specs.Graphs.{BigraphValue, GraphValue}
 use Rattle.graph_read.specs.Numbers.{one_number, two_numbers}
 use Rattle.graph_read.specs.Edges.{left_of, right_of, edges_of, lists_of, lists_of_lines, sides_named, vertices_named}
 use Rattle.graph_read.specs.declared.edges.Shape.{Shape}

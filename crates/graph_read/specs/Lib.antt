@@ -1,6 +1,3 @@
-pub mod Graphs
-pub mod Distances
-pub mod Inside
 pub mod Numbers
 pub mod Edges
 pub mod Places

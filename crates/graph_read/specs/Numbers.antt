@@ -1,8 +1,8 @@
 -- Words as numbers, and the one or two numbers of a line.
 use Rattle.std.specs.Prelude.{ℕ, ◌==◌, ◌&&◌, not, nat_lt, Bool, true, false, List, [], ◌∷◌, if◌then◌else◌, Option, Some, None}
-use Rattle.matrix_read.specs.Words.{numeral_of}
-use Rattle.matrix_read.specs.declared.words.Numeral.{Numeral}
-use Rattle.matrix_read.specs.declared.words.Numeral.TheVariants.{Value, TooLarge, NotDigits}
+use Rattle.text_lines.specs.Words.{numeral_of}
+use Rattle.text_lines.specs.declared.words.Numeral.{Numeral}
+use Rattle.text_lines.specs.declared.words.Numeral.TheVariants.{Value, TooLarge, NotDigits}
 use Rattle.graph_read.specs.declared.numbers.NumberPair.{NumberPair}
 
 -- whether a word is digits

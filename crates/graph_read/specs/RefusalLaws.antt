@@ -3,9 +3,9 @@ use Rattle.std.specs.Prelude.{◌≡◌, ◌<◌, ◌≤◌, ℕ, List, ◌∷�
 use Rattle.row_model.specs.declared.refusal.Read.TheVariants as read
 use Rattle.row_model.specs.declared.TheConstants.{MAX_FILE_BYTES}
 use Rattle.row_model.specs.declared.code.TheConstants.{COUNT}
-use Rattle.matrix_read.specs.Lines.{NumberedLine}
-use Rattle.matrix_read.specs.Refusals.{NoLineRefused, HeadRefusals, TakesLines, filled_of}
-use Rattle.matrix_read.specs.Words.{words_of}
+use Rattle.text_lines.specs.Lines.{NumberedLine}
+use Rattle.text_lines.specs.FirstRefusal.{NoLineRefused, HeadRefusals, TakesLines, filled_of}
+use Rattle.text_lines.specs.Words.{words_of}
 use Rattle.graph_read.specs.Numbers.{one_number, two_numbers}
 use Rattle.graph_read.specs.DistanceFiles.{items_named, row_line, table_written, distances}
 use Rattle.graph_read.specs.Edges.{edge_code, sides_named, vertices_named}

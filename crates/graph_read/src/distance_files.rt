@@ -1,17 +1,17 @@
 // The reader of distances.
-ghost use Rattle.std.specs.Prelude.{◌≡◌, ◌+◌, ◌-◌, ◌*◌, ◌<◌, ◌≤◌, [], length, drop, Ok, Err, IfSome, IfOk, IfErr, IfNone};
-ghost use Rattle.matrix_read.specs.Lines.{lines_of, filled_lines};
-ghost use Rattle.matrix_read.specs.Words.{words_of};
+ghost use Rattle.std.specs.Prelude.{◌≡◌, ◌+◌, ◌-◌, ◌*◌, ◌<◌, ◌≤◌, [], length, drop, Ok, Err, IfSome, IfOk, IfNone};
+ghost use Rattle.text_lines.specs.Lines.{lines_of, filled_lines};
+ghost use Rattle.text_lines.specs.Words.{words_of};
 ghost use Rattle.graph_read.specs.Numbers.{one_number};
 ghost use Rattle.graph_read.specs.DistanceFiles.{items_named, distances};
 ghost use Rattle.graph_read.specs.DistanceSteps.{numbers_behind, is_row_at, table_with_row, row_behind, table_behind};
 
-use crate::distances::Distances;
 use crate::graph_files::refusal;
 use crate::numbers::{is_past, is_zero, one_number, value_of};
-use matrix_read::{Numeral, next_filled_line, next_number, without_mark};
+use graph_model::Distances;
 use row_model::{MAX_FILE_BYTES, MAX_ITEMS, NoMemory, Read, Refusal, code};
 use std::alloc::Global;
+use text_lines::{Numeral, next_filled_line, next_number, without_mark};
 
 // The number of items that a first line gives, or the code of its refusal.
 fn items_in(line: &[u8]) -> Result<u32, u8>

@@ -1,14 +1,14 @@
 // The lines of edges of a text, one after another.
 ghost use Rattle.std.specs.Prelude.{◌≡◌, ◌+◌, ◌<◌, ◌≤◌, ◌∷◌, [], length, drop, slice_range, IfOk, IfSome, IfNone};
-ghost use Rattle.matrix_read.specs.Lines.{lines_of, filled_lines};
-ghost use Rattle.matrix_read.specs.Words.{words_of};
+ghost use Rattle.text_lines.specs.Lines.{lines_of, filled_lines};
+ghost use Rattle.text_lines.specs.Words.{words_of};
 ghost use Rattle.graph_read.specs.Numbers.{two_numbers};
 ghost use Rattle.graph_read.specs.Edges.{left_of, right_of, edge_named};
 
 use crate::edges::{Edge, Shape, edge_between, edge_in};
 use crate::numbers::NumberPair;
-use matrix_read::{FilledLine, LineSpan, Numeral, next_filled_line, plain_pair};
 use row_model::MAX_FILE_BYTES;
+use text_lines::{FilledLine, LineSpan, Numeral, next_filled_line, plain_pair};
 
 /// A line that is not blank, and the edge that it names.
 #[derive(Clone, Copy)]

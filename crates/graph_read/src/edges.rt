@@ -1,6 +1,6 @@
 // The edges that lines name, and the sides that they go between.
 ghost use Rattle.std.specs.Prelude.{◌≡◌, ◌≤◌, Some, IfOk, IsTrue};
-ghost use Rattle.matrix_read.specs.Words.{words_of};
+ghost use Rattle.text_lines.specs.Words.{words_of};
 ghost use Rattle.graph_read.specs.Numbers.{is_number, one_number, two_numbers};
 ghost use Rattle.graph_read.specs.Edges.{left_of, right_of, edge_named, sides_named, vertices_named};
 

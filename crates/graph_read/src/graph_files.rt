@@ -2,14 +2,12 @@
 ghost use Rattle.std.specs.Prelude.{◌≡◌, ◌≤◌, IfOk};
 ghost use Rattle.graph_read.specs.GraphFiles.{bigraph, graph};
 
-use crate::LEFT_BOUND;
-use crate::bigraph::Bigraph;
 use crate::edges::{sides_in, vertices_in};
-use crate::graph::Graph;
 use crate::read_lists::read_lists;
-use matrix_read::{next_filled_line, without_mark};
+use graph_model::{Bigraph, Graph, LEFT_BOUND};
 use row_model::{MAX_FILE_BYTES, NoMemory, Read, Refusal, code};
 use std::alloc::Global;
+use text_lines::{next_filled_line, without_mark};
 
 /// Reads a bipartite graph from the bytes of a file: a line with the sizes of the two sides, and a line for each edge.
 ///

@@ -1,10 +1,6 @@
-// What files give, in the words of graphs and of tables, and the bounds by their numerals. A call stands for its
-// clauses.
-ghost use Rattle.std.specs.Prelude.{◌≡◌};
+// What files give, in the words of graphs and of tables. A call stands for its clauses.
 ghost use Rattle.graph_read.specs.FileLaws.{BigraphLaw, GraphLaw, DistancesLaw};
 ghost use Rattle.graph_read.specs.RefusalLaws.{BigraphRefusals, GraphRefusals, DistancesRefusals};
-
-use crate::{ITEM_BOUND, LEFT_BOUND};
 
 /// What the readers give, in the words of graphs and of tables.
 ///
@@ -31,12 +27,4 @@ pub fn refusal_laws()
     ensures bigraph { BigraphRefusals }
     ensures graph { GraphRefusals }
     ensures distances { DistancesRefusals }
-{
-    matrix_read::refusal_laws();
-}
-
-/// The values of the constants of this crate, by their numerals.
-pub fn values_law()
-    ensures left { LEFT_BOUND ≡ 131072 }
-    ensures items { ITEM_BOUND ≡ 4096 }
 {}

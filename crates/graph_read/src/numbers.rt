@@ -1,9 +1,9 @@
 // Words as numbers, and the one or two numbers of a line.
-ghost use Rattle.std.specs.Prelude.{◌≡◌, length};
-ghost use Rattle.matrix_read.specs.Words.{words_of};
+ghost use Rattle.std.specs.Prelude.{◌≡◌};
+ghost use Rattle.text_lines.specs.Words.{words_of};
 ghost use Rattle.graph_read.specs.Numbers.{is_number, is_zero, is_past, is_within, value_of, both_numbers, two_numbers, if_number, one_number};
 
-use matrix_read::{Numeral, next_number};
+use text_lines::{Numeral, next_number};
 
 /// Two numbers that stand in a line, each of digits.
 #[derive(Clone, Copy)]

@@ -8,8 +8,8 @@ ghost use Rattle.graph_read.specs.declared.edges.Edge.{Edge};
 ghost use Rattle.graph_read.specs.Edges.{left_of, right_of, ways, lists_from};
 ghost use Rattle.graph_read.specs.Places.{place_of, ArePlaces};
 
-use crate::LEFT_BOUND;
 use crate::edges::{Edge, Shape};
+use graph_model::LEFT_BOUND;
 use row_model::{COLUMN_BOUND, Matrix, NoMemory};
 use std::alloc::Global;
 

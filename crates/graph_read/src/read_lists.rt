@@ -1,15 +1,15 @@
 // The lists of neighbours that lines of edges give.
 ghost use Rattle.std.specs.Prelude.{◌≡◌, ◌+◌, ◌*◌, ◌<◌, ◌≤◌, [], length, drop, Some, None, IfOk, IfSome, IfNone, OnOk};
 ghost use Rattle.std.specs.List.{All};
-ghost use Rattle.matrix_read.specs.Lines.{lines_of, filled_lines};
+ghost use Rattle.text_lines.specs.Lines.{lines_of, filled_lines};
 ghost use Rattle.graph_read.specs.Edges.{left_of, right_of, ways, edges_of, edge_refusal, lists_of_lines};
 ghost use Rattle.graph_read.specs.Places.{ArePlaces};
 
-use crate::LEFT_BOUND;
 use crate::edge_lines::next_edge;
 use crate::edges::Shape;
 use crate::ordered::put_in_order;
 use crate::places::{lists_at, push_edge};
+use graph_model::LEFT_BOUND;
 use row_model::{COLUMN_BOUND, MAX_FILE_BYTES, Matrix, NoMemory, Read, Refusal};
 use std::alloc::Global;
 

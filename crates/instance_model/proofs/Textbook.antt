@@ -4,7 +4,7 @@ use Rattle.circular_ones.specs.Laws as circle
 use Rattle.convex_bipartite.specs.Convex.{RightLaw, LeftLaw}
 use Rattle.proper_interval.specs.Laws.{UmbrellaLaw}
 use Rattle.robinson_balls.specs.Laws.{RobinsonLaw}
-use Rattle.graph_read.specs.Graphs.{BigraphValue, IsBigraph}
+use Rattle.graph_model.specs.Graphs.{BigraphValue, IsBigraph}
 use Rattle.instance_model.specs.Instance.{plain, circular, convex, doubly, proper, robinson, IsOrderOfSide, rows_of_side}
 use Rattle.instance_model.specs.Laws.{IsValidFor, DerivedLaw, ValidLaw, ExistsLaw}
 
@@ -12,7 +12,7 @@ use Rattle.instance_model.specs.Laws.{IsValidFor, DerivedLaw, ValidLaw, ExistsLa
 pub record KindLaws : Type 0 where
   pub cut : circle.CutLaw
   pub turned : circle.TurnedLaw
-  pub round : circle.ExistsLaw
+  pub round : circle.CircularExistsLaw
   pub right : RightLaw
   pub left : LeftLaw
   pub umbrella : UmbrellaLaw

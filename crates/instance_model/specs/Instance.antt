@@ -5,8 +5,8 @@ use Rattle.row_model.specs.declared.TheConstants.{MAX_COLUMNS, MAX_ROWS, MAX_ITE
 use Rattle.row_model.specs.declared.kind.Kind.{Kind}
 use Rattle.row_model.specs.declared.kind.Kind.TheVariants as kind
 use Rattle.row_model.specs.Rows.{RowList}
-use Rattle.graph_read.specs.Graphs.{BigraphValue, IsBigraph, GraphValue, IsGraph}
-use Rattle.graph_read.specs.Distances.{DistancesValue, IsDistances}
+use Rattle.graph_model.specs.Graphs.{BigraphValue, IsBigraph, GraphValue, IsGraph}
+use Rattle.graph_model.specs.Distances.{DistancesValue, IsDistances}
 use Rattle.circular_ones.specs.Circular.{IsCircularOrder, cut}
 use Rattle.convex_bipartite.specs.Sides.{left_rows, right_rows}
 use Rattle.convex_bipartite.specs.Convex.{IsConvexOnRight, IsConvexOnLeft}

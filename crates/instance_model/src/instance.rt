@@ -5,7 +5,7 @@ ghost use Rattle.instance_model.specs.Value.{instance_value};
 
 use circular_ones::cut_rows;
 use convex_bipartite::{columns_of, rows_of};
-use graph_read::{Bigraph, Distances, Graph};
+use graph_model::{Bigraph, Distances, Graph};
 use proper_interval::closed_rows;
 use robinson_balls::balls;
 use row_model::{Kind, MAX_ROWS, Matrix, NoMemory};

@@ -1,6 +1,6 @@
 // Small instances, worked by hand.
 use super::*;
-use graph_read::{Bigraph, Distances, Graph};
+use graph_model::{Bigraph, Distances, Graph};
 use row_model::{Kind, Matrix};
 use std::test::Fail;
 

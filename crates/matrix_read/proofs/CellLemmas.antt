@@ -10,12 +10,12 @@ use Rattle.column_order.specs.Orders.{has}
 use Rattle.row_model.proofs.Ascending.{row_within}
 use Rattle.row_model.proofs.Filtered.{has_filtered, filtered_row}
 use Rattle.row_model.specs.declared.refusal.Refusal.{Refusal}
-use Rattle.matrix_read.specs.Lines.{is_blank_byte, is_blank}
-use Rattle.matrix_read.specs.Words.{blank_len}
+use Rattle.text_lines.specs.Lines.{is_blank_byte, is_blank}
+use Rattle.text_lines.specs.Words.{blank_len}
 use Rattle.matrix_read.specs.Cells.{without_last_blanks, trimmed, cells, is_present, record_row}
 use Rattle.matrix_read.specs.Table.{record_code, record_refusal}
 use Rattle.matrix_read.specs.Names.{has_twice}
-use Rattle.matrix_read.specs.Rows.{refusal_or}
+use Rattle.text_lines.specs.Rows.{refusal_or}
 use Rattle.matrix_read.specs.TableLaws.{NamesLaw, RowLaw, TrimmedLaw, AreTold, RefusalLaw}
 
 -- no name is equal to a later one

@@ -9,9 +9,9 @@ use Rattle.row_model.specs.declared.refusal.Refusal.{Refusal}
 use Rattle.row_model.specs.declared.refusal.Read.TheVariants as answer
 use Rattle.row_model.specs.declared.TheConstants.{MAX_ROWS, MAX_FILE_BYTES}
 use Rattle.row_model.specs.declared.code.TheConstants.{EMPTY, TWICE, LIMIT, SHAPE}
-use Rattle.matrix_read.specs.Lines.{without_mark}
+use Rattle.text_lines.specs.Lines.{without_mark}
 use Rattle.matrix_read.specs.Names.{has_twice}
-use Rattle.matrix_read.specs.Rows.{refused_or}
+use Rattle.text_lines.specs.Rows.{refused_or}
 use Rattle.matrix_read.specs.Clones.{reading, array_at, count, column_of, probes_of, names_code, first_refused, names_row, clone_row, clone_rows, head_code, clone_matrix, unless_refused, matrix_of, if_shaped, if_read, clones}
 use Rattle.matrix_read.specs.CloneRows.{values_of, IsCloneRow, IsCloneFile, CloneLaw}
 use Rattle.matrix_read.specs.CloneRefusals.{HasValue, HasShape, AreFew, AreWithin, NoCloneRefused, CloneRefusals}

@@ -18,8 +18,8 @@ use Rattle.std.proofs.lemmas.Str.{IsUtf8-from_is_utf8, is_utf8-from_IsUtf8}
 use Rattle.std.proofs.lemmas.Bool.{lt-ltb, le-ltb, ne_eqb, cases_lt, false≢true}
 use Rattle.row_model.specs.declared.TheConstants.{MAX_COLUMNS, MAX_ROWS, MAX_FILE_BYTES}
 use Rattle.row_model.specs.declared.code.TheConstants.{EMPTY, TWICE, LIMIT}
-use Rattle.matrix_read.specs.Lines.{without_mark}
-use Rattle.matrix_read.specs.Rows.{refused_or}
+use Rattle.text_lines.specs.Lines.{without_mark}
+use Rattle.text_lines.specs.Rows.{refused_or}
 use Rattle.row_model.proofs.Filtered.{filtered_row}
 use Rattle.row_model.proofs.Limits.{too_long, short_enough}
 use Rattle.matrix_read.specs.Clones.{reading, array_at, is_probe, column_of, probes_of, names_code, clone_row, head_code, matrix_of, if_read, clones}

@@ -12,7 +12,7 @@ use Rattle.row_model.specs.declared.refusal.Refusal.{Refusal}
 use Rattle.row_model.specs.declared.refusal.Read.TheVariants as answer
 use Rattle.row_model.specs.declared.TheConstants.{MAX_COLUMNS, MAX_ROWS}
 use Rattle.row_model.specs.declared.code.TheConstants.{EMPTY, RANGE, TWICE, LIMIT}
-use Rattle.matrix_read.specs.Rows.{refused_or}
+use Rattle.text_lines.specs.Rows.{refused_or}
 use Rattle.matrix_read.specs.Clones.{array_at, count, is_probe, column_of, probes_of, names_code, first_refused, names_row, clone_row, clone_rows, head_code, clone_matrix, unless_refused, if_shaped, if_read}
 use Rattle.matrix_read.specs.Names.{has_twice}
 use Rattle.matrix_read.specs.CloneRows.{values_of, IsCloneRow, IsMatrixOf}

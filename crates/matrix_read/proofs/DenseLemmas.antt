@@ -7,12 +7,12 @@ use Rattle.row_model.specs.Rows.{IsRow, columns_where}
 use Rattle.row_model.specs.declared.refusal.Read.TheVariants as read
 use Rattle.row_model.specs.declared.TheConstants.{MAX_COLUMNS, MAX_ROWS, MAX_FILE_BYTES}
 use Rattle.row_model.specs.declared.code.TheConstants.{GRAMMAR, COUNT, LIMIT}
-use Rattle.matrix_read.specs.Lines.{NumberedLine, is_blank, is_blank_byte, filled_lines, lines_of, without_mark}
+use Rattle.text_lines.specs.Lines.{NumberedLine, is_blank, is_blank_byte, filled_lines, lines_of, without_mark}
 use Rattle.row_model.proofs.Limits.{too_long, short_enough}
-use Rattle.matrix_read.proofs.RowLemmas.{first_refusal-later}
+use Rattle.text_lines.proofs.FirstRefused.{first_refusal-later}
 use Rattle.matrix_read.specs.Dense.{is_digit, is_foreign_byte, digits_of, width_of, digit_row, digit_rows, first_code, row_code, read_lines, dense}
 use Rattle.matrix_read.specs.DenseSteps.{rows_or_refusal}
-use Rattle.matrix_read.specs.Rows.{refusal_or, refused_or, first_refusal}
+use Rattle.text_lines.specs.Rows.{refusal_or, refused_or, first_refusal}
 use Rattle.matrix_read.proofs.PlaceLemmas.{places_from, places_columns}
 
 -- the first line of all

@@ -16,7 +16,7 @@ use Rattle.matrix_read.specs.Clones.{are_strings, text_of, texts_of, strings_of,
 use Rattle.row_model.specs.declared.refusal.Read.TheVariants as answer
 use Rattle.row_model.specs.declared.code.TheConstants.{JSON}
 use Rattle.matrix_read.specs.CloneNames.{array_strings, member_probes, clone_names, array_clones, clones_of, file_names, with_string, names_refused, row_of_clone, matrix_of_names, matrix_named}
-use Rattle.matrix_read.specs.Rows.{refusal_or, refused_or}
+use Rattle.text_lines.specs.Rows.{refusal_or, refused_or}
 use Rattle.matrix_read.proofs.JsonLemmas.{pick, converted_some, converted_object, converted_array}
 
 -- a value that is mapped

@@ -2,8 +2,8 @@
 use Rattle.std.proofs.Common.{◌≡◌, ℕ, suc, ◌+◌, not, Bool, true, false, List, [], ◌∷◌, length, drop, if◌then◌else◌, ap, refl, arith}
 use Rattle.std.proofs.lemmas.Bool.{and_parts, lt-ltb, le-ltb, le-leb, lt-leb, ne_eqb}
 use Rattle.row_model.specs.declared.TheConstants.{MAX_COLUMNS, MAX_ROWS}
-use Rattle.matrix_read.specs.Lines.{is_blank_byte, is_blank}
-use Rattle.matrix_read.specs.Words.{blank_len}
+use Rattle.text_lines.specs.Lines.{is_blank_byte, is_blank}
+use Rattle.text_lines.specs.Words.{blank_len}
 use Rattle.matrix_read.specs.Cells.{without_last_blanks, trimmed, is_empty}
 use Rattle.matrix_read.specs.TableLaws.{HeaderNamesLaw, HeaderLaw, RecordLaw}
 use Rattle.matrix_read.proofs.CellLemmas.{all_dropped}

@@ -1,5 +1,3 @@
-pub mod LineLemmas
-pub mod WordLemmas
 pub mod PlaceLemmas
 pub mod RowLemmas
 pub mod DenseLemmas
@@ -22,8 +20,4 @@ pub mod JsonLemmas
 pub mod FileLemmas
 pub mod CloneCauses
 pub mod RefusalLemmas
-pub mod TextLemmas
 pub mod MarkLemmas
-pub mod FeedLemmas
-pub mod FewDigits
-pub mod PlainLemmas

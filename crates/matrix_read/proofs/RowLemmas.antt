@@ -6,28 +6,11 @@ use Rattle.std.proofs.lemmas.List.{append-nil}
 use Rattle.row_model.specs.Rows.{RowList, columns_where}
 use Rattle.row_model.specs.declared.refusal.Read.{Read}
 use Rattle.row_model.specs.declared.refusal.Read.TheVariants as read
-use Rattle.matrix_read.specs.Lines.{NumberedLine}
-use Rattle.matrix_read.specs.Rows.{numbered_lines, first_refusal, refused_or, columns_among}
+use Rattle.text_lines.specs.Lines.{NumberedLine}
+use Rattle.text_lines.specs.Rows.{first_refusal, refused_or, columns_among}
 use Rattle.row_model.proofs.Columns.{columns_same}
 use Rattle.matrix_read.proofs.PlaceLemmas.{places_from, places_columns}
-
-pub numbered_step : (number : ℕ) (line : List ℕ) (lines : List (List ℕ)) → numbered_lines number (line ∷ lines) ≡ record { number = number; text = line } ∷ numbered_lines (number + 1) lines
-unfolding numbered_lines
-numbered_step number line lines = refl
-
-pub numbered_none : (number : ℕ) (lines : List (List ℕ)) → lines ≡ [] → numbered_lines number lines ≡ []
-unfolding numbered_lines
-numbered_none number lines is = rw is refl
-
--- one line less, which is refused or not
-module _ (code_of : ℕ → List ℕ → Option ℕ) (before : ℕ) (line : NumberedLine) (lines : List NumberedLine) where
-  pub first_refusal-here : (code : ℕ) → code_of before line.text ≡ Some code → first_refusal code_of before (line ∷ lines) ≡ Some (record { code = code; line = line.number })
-  unfolding first_refusal
-  first_refusal-here code h = rw h refl
-
-  pub first_refusal-later : code_of before line.text ≡ None → first_refusal code_of before (line ∷ lines) ≡ first_refusal code_of (before + 1) lines
-  unfolding first_refusal
-  first_refusal-later h = rw h refl
+use Rattle.text_lines.proofs.FirstRefused.{first_refusal-here, first_refusal-later}
 
 module _ (code_of : ℕ → List ℕ → Option ℕ) (row_from : List ℕ → List ℕ) (c : ℕ) where
   -- the answer, where these rows stand before the lines

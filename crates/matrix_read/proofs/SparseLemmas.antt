@@ -9,13 +9,13 @@ use Rattle.row_model.specs.Rows.{IsRow}
 use Rattle.row_model.specs.declared.refusal.Read.TheVariants as read
 use Rattle.row_model.specs.declared.TheConstants.{MAX_ROWS, MAX_FILE_BYTES}
 use Rattle.row_model.specs.declared.code.TheConstants.{LIMIT}
-use Rattle.matrix_read.specs.Lines.{is_blank, lines_of, without_mark}
-use Rattle.matrix_read.specs.Words.{words_of, only_word, blank_len, word_len, number_of, IsFirstNumber}
-use Rattle.matrix_read.specs.declared.words.Numeral.{Numeral}
-use Rattle.matrix_read.specs.declared.words.Numeral.TheVariants.{Value}
+use Rattle.text_lines.specs.Lines.{is_blank, lines_of, without_mark}
+use Rattle.text_lines.specs.Words.{words_of, only_word, blank_len, word_len, number_of, IsFirstNumber}
+use Rattle.text_lines.specs.declared.words.Numeral.{Numeral}
+use Rattle.text_lines.specs.declared.words.Numeral.TheVariants.{Value}
 use Rattle.matrix_read.specs.Sparse.{column_code, words_code, line_code, width_given, row_named, columns_named, named_rows, sparse_lines, sparse, further}
-use Rattle.matrix_read.specs.Rows.{numbered_lines}
-use Rattle.matrix_read.proofs.WordLemmas.{word_step, no_word, number_some, number_written}
+use Rattle.text_lines.specs.Rows.{numbered_lines}
+use Rattle.text_lines.proofs.WordLemmas.{word_step, no_word, number_some, number_written}
 use Rattle.row_model.proofs.Filtered.{filtered_row}
 use Rattle.row_model.proofs.RowLemmas.{row_where}
 use Rattle.row_model.proofs.Limits.{too_long, short_enough}

@@ -12,8 +12,8 @@ use Rattle.row_model.specs.declared.refusal.Read.{Read}
 use Rattle.row_model.specs.declared.refusal.Read.TheVariants as read
 use Rattle.row_model.specs.declared.TheConstants.{MAX_ROWS, MAX_FILE_BYTES}
 use Rattle.row_model.specs.declared.code.TheConstants.{GRAMMAR, LIMIT, CSV}
-use Rattle.matrix_read.specs.Lines.{is_blank_byte, is_blank}
-use Rattle.matrix_read.specs.Rows.{refusal_or, refused_or}
+use Rattle.text_lines.specs.Lines.{is_blank_byte, is_blank}
+use Rattle.text_lines.specs.Rows.{refusal_or, refused_or}
 use Rattle.row_model.proofs.Filtered.{filtered_row}
 use Rattle.row_model.proofs.Limits.{too_long, short_enough}
 use Rattle.matrix_read.proofs.PlaceLemmas.{places_from, places_columns}

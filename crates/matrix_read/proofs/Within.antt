@@ -8,8 +8,8 @@ use Rattle.row_model.specs.declared.TheConstants.{MAX_ROWS, MAX_FILE_BYTES}
 use Rattle.row_model.specs.declared.code.TheConstants.{LIMIT}
 use Rattle.row_model.specs.Rows.{RowList}
 use Rattle.matrix_read.specs.Limits.{IsWithinLimits}
-use Rattle.matrix_read.specs.Lines.{NumberedLine}
-use Rattle.matrix_read.specs.Rows.{refusal_or, refused_or, first_refusal}
+use Rattle.text_lines.specs.Lines.{NumberedLine}
+use Rattle.text_lines.specs.Rows.{refusal_or, refused_or, first_refusal}
 use Rattle.row_model.specs.Limits.{within_length}
 
 -- a matrix is read of bytes within the limit of the length alone

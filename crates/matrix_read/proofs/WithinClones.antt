@@ -7,7 +7,7 @@ use Rattle.row_model.specs.declared.refusal.Read.TheVariants as read
 use Rattle.row_model.specs.declared.TheConstants.{MAX_COLUMNS, MAX_ROWS}
 use Rattle.row_model.specs.declared.code.TheConstants.{EMPTY, TWICE, LIMIT}
 use Rattle.row_model.specs.Rows.{RowList}
-use Rattle.matrix_read.specs.Lines.{without_mark}
+use Rattle.text_lines.specs.Lines.{without_mark}
 use Rattle.matrix_read.specs.Names.{has_twice}
 use Rattle.matrix_read.specs.Clones.{reading, array_at, count, probes_of, first_refused, clone_rows, head_code, clone_matrix, unless_refused, matrix_of, if_shaped, if_read, clones}
 use Rattle.matrix_read.proofs.CloneLemmas.{some_if}

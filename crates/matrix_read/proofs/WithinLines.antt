@@ -9,9 +9,9 @@ use Rattle.row_model.specs.declared.refusal.Read.TheVariants as read
 use Rattle.row_model.specs.declared.TheConstants.{MAX_COLUMNS, MAX_ROWS}
 use Rattle.row_model.specs.declared.code.TheConstants.{GRAMMAR, RANGE, COUNT, LIMIT}
 use Rattle.row_model.specs.Rows.{RowList}
-use Rattle.matrix_read.specs.Lines.{NumberedLine, is_blank, lines_of, filled_lines, without_mark}
-use Rattle.matrix_read.specs.Words.{words_of, only_word, number_of}
-use Rattle.matrix_read.specs.Rows.{numbered_lines, refusal_or, refused_or, first_refusal}
+use Rattle.text_lines.specs.Lines.{NumberedLine, is_blank, lines_of, filled_lines, without_mark}
+use Rattle.text_lines.specs.Words.{words_of, only_word, number_of}
+use Rattle.text_lines.specs.Rows.{numbered_lines, refusal_or, refused_or, first_refusal}
 use Rattle.matrix_read.specs.Dense.{dense, read_lines, digit_rows, digit_row, first_code, row_code, width_of, is_foreign_byte}
 use Rattle.matrix_read.specs.Sparse.{sparse, sparse_lines, further, named_rows, rows_behind, width_given, width_of_number, line_code, words_code, row_named}
 use Rattle.matrix_read.proofs.DenseLemmas.{filled_first, some_digit}

@@ -11,7 +11,7 @@ use Rattle.row_model.specs.declared.code.TheConstants.{EMPTY, GRAMMAR, TWICE, LI
 use Rattle.row_model.specs.Rows.{RowList}
 use Rattle.matrix_read.specs.Names.{has_twice}
 use Rattle.matrix_read.specs.Cells.{trimmed, cells, is_foreign_cell, record_row}
-use Rattle.matrix_read.specs.Rows.{refusal_or}
+use Rattle.text_lines.specs.Rows.{refusal_or}
 use Rattle.matrix_read.specs.Table.{names_of, header_code, record_code, record_refusal, read_records, table}
 use Rattle.matrix_read.specs.TableSteps.{header_read, with_records}
 use Rattle.matrix_read.proofs.TableLemmas.{records_read}

@@ -7,14 +7,14 @@ use Rattle.column_order.specs.Orders.{has}
 use Rattle.row_model.specs.Rows.{Ascends, IsRow}
 use Rattle.row_model.specs.declared.refusal.Read.TheVariants as read
 use Rattle.row_model.specs.declared.TheConstants.{MAX_COLUMNS, MAX_ROWS}
-use Rattle.matrix_read.specs.Lines.{without_mark, without_return, line_parts, lines_of, is_blank, filled_lines}
+use Rattle.text_lines.specs.Lines.{without_mark, without_return, line_parts, lines_of, is_blank, filled_lines}
 use Rattle.matrix_read.specs.Dense.{is_digit, is_foreign_byte, digits_of, width_of, digit_row, first_code, row_code, digit_rows, read_lines}
 use Rattle.matrix_read.specs.DenseSteps.{rows_or_refusal}
-use Rattle.matrix_read.specs.Rows.{first_refusal, refused_or}
+use Rattle.text_lines.specs.Rows.{first_refusal, refused_or}
 use Rattle.row_model.proofs.Ascending.{lacks_low}
 use Rattle.matrix_read.specs.Written.{digits_from, digits_text, DenseLaw}
-use Rattle.matrix_read.proofs.LineLemmas.{filled_here}
-use Rattle.matrix_read.proofs.RowLemmas.{first_refusal-later}
+use Rattle.text_lines.proofs.LineLemmas.{filled_here}
+use Rattle.text_lines.proofs.FirstRefused.{first_refusal-later}
 use Rattle.matrix_read.proofs.DenseLemmas.{ones_from, ones_columns, first_line_taken, dense_short}
 
 -- only digits

@@ -16,12 +16,12 @@ use Rattle.column_order.specs.declared.TheConstants.{COLUMN_BOUND}
 use Rattle.row_model.specs.Rows.{Ascends}
 use Rattle.row_model.specs.declared.refusal.Read.TheVariants as read
 use Rattle.row_model.specs.declared.TheConstants.{MAX_COLUMNS, MAX_ROWS}
-use Rattle.matrix_read.specs.Lines.{NumberedLine, before_first, is_blank_byte, without_mark, without_return, line_parts, lines_of}
-use Rattle.matrix_read.specs.Words.{begins_word, words_of, only_word, number_after, number_of}
-use Rattle.matrix_read.specs.Rows.{numbered_lines, first_refusal, refused_or, columns_among}
+use Rattle.text_lines.specs.Lines.{NumberedLine, before_first, is_blank_byte, without_mark, without_return, line_parts, lines_of}
+use Rattle.text_lines.specs.Words.{begins_word, words_of, only_word, number_after, number_of}
+use Rattle.text_lines.specs.Rows.{numbered_lines, first_refusal, refused_or, columns_among}
 use Rattle.matrix_read.specs.Sparse.{column_code, width_of_number, words_code, line_code, columns_named, row_named, named_rows, width_given, sparse_lines}
 use Rattle.matrix_read.specs.WrittenRows.{spaced, named_line, named_text, Names, NameAll, FurtherLaw, SparseLaw}
-use Rattle.matrix_read.proofs.WordLemmas.{words_of_blank, words_of_last, words_of_more, numeral_value, number_some}
+use Rattle.text_lines.proofs.WordLemmas.{words_of_blank, words_of_last, words_of_more, numeral_value, number_some}
 use Rattle.row_model.proofs.Columns.{columns_same, columns_row}
 use Rattle.matrix_read.proofs.SparseLemmas.{sparse_short, further_short, first_taken, line_taken, words_next, words_end}
 

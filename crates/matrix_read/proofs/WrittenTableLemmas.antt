@@ -13,7 +13,7 @@ use Rattle.row_model.specs.Rows.{Ascends, IsRow}
 use Rattle.row_model.specs.declared.refusal.Read.TheVariants as read
 use Rattle.row_model.specs.declared.TheConstants.{MAX_COLUMNS, MAX_ROWS}
 use Rattle.row_model.specs.declared.code.TheConstants.{CSV}
-use Rattle.matrix_read.specs.Rows.{refused_or}
+use Rattle.text_lines.specs.Rows.{refused_or}
 use Rattle.matrix_read.specs.Cells.{trimmed, is_foreign_cell, record_row}
 use Rattle.matrix_read.specs.Table.{names_of, header_code, record_code, record_refusal, read_records}
 use Rattle.matrix_read.specs.TableSteps.{header_read, with_records}

@@ -4,8 +4,8 @@ use Rattle.std.specs.Char.{is_ascii_digit}
 use Rattle.std.specs.List.{list_all}
 use Rattle.std.specs.Str.{bytes_eq}
 use Rattle.row_model.specs.Rows.{columns_where}
-use Rattle.matrix_read.specs.Lines.{is_blank}
-use Rattle.matrix_read.specs.Words.{blank_len}
+use Rattle.text_lines.specs.Lines.{is_blank}
+use Rattle.text_lines.specs.Words.{blank_len}
 
 -- the bytes up to the last that is no space or tab
 abbrev pub without_last_blanks : List ℕ → List ℕ

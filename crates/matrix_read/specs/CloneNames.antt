@@ -12,7 +12,7 @@ use Rattle.row_model.specs.declared.refusal.Read.TheVariants as answer
 use Rattle.row_model.specs.declared.code.TheConstants.{SHAPE}
 use Rattle.matrix_read.specs.declared.clone_names.CloneNames.{CloneNames}
 use Rattle.matrix_read.specs.Names.{bytes_of}
-use Rattle.matrix_read.specs.Rows.{refusal_or, refused_or}
+use Rattle.text_lines.specs.Rows.{refusal_or, refused_or}
 use Rattle.matrix_read.specs.Clones.{strings_of, array_at, probes_of, names_code, names_row, head_code, unless_refused}
 
 -- the strings of an array of strings; another value has none

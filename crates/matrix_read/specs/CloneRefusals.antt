@@ -5,11 +5,11 @@ use Rattle.row_model.specs.declared.refusal.Refusal.{Refusal}
 use Rattle.row_model.specs.declared.refusal.Read.TheVariants as read
 use Rattle.row_model.specs.declared.TheConstants.{MAX_COLUMNS, MAX_ROWS, MAX_FILE_BYTES}
 use Rattle.row_model.specs.declared.code.TheConstants.{EMPTY, TWICE, LIMIT, JSON, SHAPE}
-use Rattle.matrix_read.specs.Lines.{without_mark}
+use Rattle.text_lines.specs.Lines.{without_mark}
 use Rattle.matrix_read.specs.Names.{has_twice}
 use Rattle.matrix_read.specs.Clones.{reading, array_at, probes_of, names_code, clone_rows, clones}
 use Rattle.matrix_read.specs.CloneRows.{values_of}
-use Rattle.matrix_read.specs.Refusals.{RefusesLong}
+use Rattle.text_lines.specs.FirstRefusal.{RefusesLong}
 
 -- bytes within the limit of their length that are read as this value
 pub record HasValue (bytes : List ℕ) (value : Data) : Type 0 where

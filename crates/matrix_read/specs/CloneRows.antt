@@ -9,7 +9,7 @@ use Rattle.row_model.specs.declared.refusal.Read.TheVariants as read
 use Rattle.row_model.specs.declared.TheConstants.{MAX_FILE_BYTES}
 use Rattle.matrix_read.specs.Limits.{IsWithinLimits}
 use Rattle.matrix_read.specs.Clones.{reading, array_at, is_probe, probes_of, clones}
-use Rattle.matrix_read.specs.Lines.{without_mark}
+use Rattle.text_lines.specs.Lines.{without_mark}
 use Rattle.matrix_read.specs.Names.{has_twice}
 
 -- the items of an array as a list

@@ -12,9 +12,9 @@ use Rattle.row_model.specs.declared.refusal.Read.{Read}
 use Rattle.row_model.specs.declared.refusal.Read.TheVariants as answer
 use Rattle.row_model.specs.declared.TheConstants.{MAX_COLUMNS, MAX_ROWS}
 use Rattle.row_model.specs.declared.code.TheConstants.{EMPTY, RANGE, TWICE, LIMIT, JSON, SHAPE}
-use Rattle.matrix_read.specs.Lines.{without_mark}
+use Rattle.text_lines.specs.Lines.{without_mark}
 use Rattle.matrix_read.specs.Names.{has_twice}
-use Rattle.matrix_read.specs.Rows.{refusal_or, refused_or, columns_among}
+use Rattle.text_lines.specs.Rows.{refusal_or, refused_or, columns_among}
 
 -- the value that `serde_json` reads; bytes that are no UTF-8 have none
 abbrev pub reading : List ℕ → Option Data

@@ -7,8 +7,8 @@ use Rattle.row_model.specs.declared.refusal.Read.{Read}
 use Rattle.row_model.specs.declared.refusal.Read.TheVariants as read
 use Rattle.row_model.specs.declared.TheConstants.{MAX_COLUMNS, MAX_ROWS}
 use Rattle.row_model.specs.declared.code.TheConstants.{EMPTY, GRAMMAR, COUNT, LIMIT}
-use Rattle.matrix_read.specs.Lines.{is_blank_byte, without_mark, lines_of, filled_lines, NumberedLine}
-use Rattle.matrix_read.specs.Rows.{refusal_or, first_refusal, refused_or}
+use Rattle.text_lines.specs.Lines.{is_blank_byte, without_mark, lines_of, filled_lines, NumberedLine}
+use Rattle.text_lines.specs.Rows.{refusal_or, first_refusal, refused_or}
 
 -- 0 or 1
 abbrev pub is_digit : ℕ → Bool

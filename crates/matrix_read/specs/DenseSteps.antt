@@ -2,8 +2,8 @@
 use Rattle.std.specs.Prelude.{ℕ, List}
 use Rattle.row_model.specs.Rows.{RowList}
 use Rattle.row_model.specs.declared.refusal.Read.{Read}
-use Rattle.matrix_read.specs.Lines.{NumberedLine}
-use Rattle.matrix_read.specs.Rows.{first_refusal, refused_or}
+use Rattle.text_lines.specs.Lines.{NumberedLine}
+use Rattle.text_lines.specs.Rows.{first_refusal, refused_or}
 use Rattle.matrix_read.specs.Dense.{row_code, digit_matrix}
 
 -- the matrix of lines each of which is a row of this width, or their first refusal

@@ -1,6 +1,3 @@
-pub mod Lines
-pub mod Words
-pub mod Rows
 pub mod Dense
 pub mod DenseSteps
 pub mod Written
@@ -19,5 +16,4 @@ pub mod Limits
 pub mod CloneNames
 pub mod CloneRows
 pub mod CloneRefusals
-pub mod TextLaws
 pub mod Marks

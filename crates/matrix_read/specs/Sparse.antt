@@ -6,19 +6,14 @@ use Rattle.row_model.specs.declared.refusal.Read.{Read}
 use Rattle.row_model.specs.declared.refusal.Read.TheVariants as read
 use Rattle.row_model.specs.declared.TheConstants.{MAX_COLUMNS, MAX_ROWS}
 use Rattle.row_model.specs.declared.code.TheConstants.{EMPTY, GRAMMAR, RANGE, LIMIT}
-use Rattle.matrix_read.specs.Lines.{without_mark, lines_of, NumberedLine}
-use Rattle.matrix_read.specs.Words.{words_of, only_word, number_after, number_of}
-use Rattle.matrix_read.specs.Rows.{numbered_lines, first_refusal, refused_or, columns_among}
+use Rattle.text_lines.specs.Lines.{without_mark, lines_of, NumberedLine}
+use Rattle.text_lines.specs.Words.{words_of, only_word, number_after, number_of}
+use Rattle.text_lines.specs.Rows.{code_or, numbered_lines, first_refusal, refused_or, columns_among}
 
 -- the code by which a word that writes this number is refused as one of the columns 1 to c, if it is
 abbrev pub column_code : ℕ → Option ℕ → Option ℕ
 column_code c None = Some GRAMMAR
 column_code c (Some n) = if nat_le 1 n && nat_le n c then None else Some RANGE
-
--- a code, or what follows
-abbrev pub code_or : Option ℕ → Option ℕ → Option ℕ
-code_or (Some code) rest = Some code
-code_or None rest = rest
 
 -- the code of the first word that is refused as a column, if there is one
 unfoldable pub words_code : ℕ → List (List ℕ) → Option ℕ

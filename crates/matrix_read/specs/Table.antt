@@ -10,7 +10,7 @@ use Rattle.row_model.specs.declared.refusal.Read.{Read}
 use Rattle.row_model.specs.declared.refusal.Read.TheVariants as read
 use Rattle.row_model.specs.declared.TheConstants.{MAX_COLUMNS, MAX_ROWS}
 use Rattle.row_model.specs.declared.code.TheConstants.{EMPTY, GRAMMAR, TWICE, LIMIT, CSV}
-use Rattle.matrix_read.specs.Rows.{refusal_or, refused_or}
+use Rattle.text_lines.specs.Rows.{refusal_or, refused_or}
 use Rattle.matrix_read.specs.Names.{has_twice}
 use Rattle.matrix_read.specs.Cells.{cells, is_empty, is_foreign_cell, record_row}
 

@@ -6,11 +6,11 @@ use Rattle.csv.specs.Writing.{default_writer, row_text}
 use Rattle.column_order.specs.Orders.{has}
 use Rattle.row_model.specs.Rows.{IsRow}
 use Rattle.row_model.specs.declared.code.TheConstants.{EMPTY, GRAMMAR, TWICE, LIMIT, CSV}
-use Rattle.matrix_read.specs.Refusals.{RefusesLong}
+use Rattle.text_lines.specs.FirstRefusal.{RefusesLong}
 use Rattle.row_model.specs.declared.refusal.Refusal.{Refusal}
 use Rattle.row_model.specs.declared.refusal.Read.TheVariants as read
 use Rattle.row_model.specs.declared.TheConstants.{MAX_COLUMNS, MAX_ROWS, MAX_FILE_BYTES}
-use Rattle.matrix_read.specs.Lines.{is_blank, is_blank_byte}
+use Rattle.text_lines.specs.Lines.{is_blank, is_blank_byte}
 use Rattle.matrix_read.specs.Cells.{trimmed, cells, is_present, is_foreign_cell, record_row}
 use Rattle.matrix_read.specs.Table.{names_of, header_code, record_code, record_refusal, table_matrix, table}
 use Rattle.matrix_read.specs.Names.{has_twice}

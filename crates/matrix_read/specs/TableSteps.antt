@@ -6,7 +6,7 @@ use Rattle.row_model.specs.declared.refusal.Read.{Read}
 use Rattle.row_model.specs.declared.refusal.Read.TheVariants as read
 use Rattle.row_model.specs.declared.TheConstants.{MAX_ROWS}
 use Rattle.row_model.specs.declared.code.TheConstants.{CSV}
-use Rattle.matrix_read.specs.Rows.{refusal_or, refused_or}
+use Rattle.text_lines.specs.Rows.{refusal_or, refused_or}
 use Rattle.matrix_read.specs.Cells.{cells, record_row}
 use Rattle.matrix_read.specs.Table.{header_code, record_refusal}
 

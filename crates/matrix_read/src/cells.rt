@@ -2,11 +2,11 @@
 ghost use Rattle.std.specs.Prelude.{◌≡◌, ◌==◌, not, ◌+◌, ◌<◌, ◌≤◌, ◌↔◌, ◌∷◌, length, drop, map, false, Some, IsNone, IfSome, IsTrue};
 ghost use Rattle.std.specs.Int.{from_bool};
 ghost use Rattle.csv.specs.Records.{field_at, fields_of};
-ghost use Rattle.matrix_read.specs.Lines.{is_blank_byte};
+ghost use Rattle.text_lines.specs.Lines.{is_blank_byte};
 ghost use Rattle.matrix_read.specs.Cells.{without_last_blanks, trimmed, is_absent, is_cross, is_present, is_foreign_cell};
 
-use crate::words::{all_digits, count_blanks};
 use csv::ByteRecord;
+use text_lines::{all_digits, count_blanks};
 
 /// The field at a place, from 0, without the spaces and tabs at both ends.
 pub fn trimmed_field(fields: &ByteRecord, place: usize) -> &[u8]

@@ -9,12 +9,12 @@ ghost use Rattle.matrix_read.specs.CloneRows.{CloneLaw};
 ghost use Rattle.matrix_read.specs.Names.{has_twice, bytes_of};
 
 use crate::clone_names::{CloneNames, names_in};
-use crate::lines::without_mark;
 use crate::rows::{refused, take_marked};
 use indexmap::IndexSet;
 use json::Scratch;
 use row_model::{MAX_COLUMNS, MAX_FILE_BYTES, MAX_ROWS, Matrix, NoMemory, Read, code};
 use std::alloc::Global;
+use text_lines::without_mark;
 
 /// Reads a matrix from the bytes of a clone file: one value in JSON, an object with the arrays `probes` and `clones`.
 ///
@@ -74,10 +74,9 @@ fn matrix_of(
     if probes.len() > MAX_COLUMNS as usize {
         return Ok(refused(code::LIMIT, 0));
     }
-    match names_of(alloc, probes) {
-        Err(e) => Err(e),
-        Ok(None) => Ok(refused(code::TWICE, 0)),
-        Ok(Some(names)) => {
+    match names_of(alloc, probes)? {
+        None => Ok(refused(code::TWICE, 0)),
+        Some(names) => {
             if clones.len() > MAX_ROWS as usize {
                 return Ok(refused(code::LIMIT, 0));
             }
@@ -174,10 +173,8 @@ fn row_in(
     let Some(list) = clone else {
         return Err(code::SHAPE);
     };
-    match mark_names(list, names, marks) {
-        Err(code) => Err(code),
-        Ok(()) => Ok(take_marked(marks, columns)),
-    }
+    mark_names(list, names, marks)?;
+    Ok(take_marked(marks, columns))
 }
 
 // Marks the column of each string. Column 1 has the first mark. The error is the code of a string that is no probe.

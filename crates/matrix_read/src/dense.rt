@@ -1,15 +1,15 @@
 // A matrix as lines of digits.
-ghost use Rattle.std.specs.Prelude.{◌≡◌, ◌+◌, ◌-◌, ◌^◌, ◌<◌, ◌≤◌, ◌↔◌, ◌⊎◌, ◌==◌, ℕ, slice_set, slice_index_or, [], length, take, Some, None, IsNone, IfOk, IfErr, IfSome, IsTrue};
+ghost use Rattle.std.specs.Prelude.{◌≡◌, ◌+◌, ◌-◌, ◌^◌, ◌<◌, ◌≤◌, ◌↔◌, ◌==◌, slice_set, slice_index_or, [], length, take, Some, None, IsNone, IfOk, IfErr, IfSome, IsTrue};
 ghost use Rattle.std.specs.List.{list_any, list_all};
 ghost use Rattle.row_model.specs.Rows.{columns_where};
-ghost use Rattle.matrix_read.specs.Lines.{lines_of, filled_lines};
+ghost use Rattle.text_lines.specs.Lines.{lines_of, filled_lines};
 ghost use Rattle.matrix_read.specs.Dense.{is_digit, is_foreign_byte, width_of, digit_row, row_code, read_lines, dense};
 ghost use Rattle.matrix_read.specs.DenseSteps.{rows_or_refusal};
 ghost use Rattle.matrix_read.specs.Written.{DenseLaw};
 
-use crate::lines::{next_filled_line, without_mark};
 use row_model::{MAX_COLUMNS, MAX_FILE_BYTES, MAX_ROWS, Matrix, NoMemory, Read, Refusal, code};
 use std::alloc::Global;
+use text_lines::{next_filled_line, without_mark};
 
 /// Reads a matrix from the bytes of a file: lines of the digits 0 and 1, between which spaces and tabs may stand.
 ///

@@ -1,27 +1,16 @@
-// What lines and words are, and what the readers refuse. A call stands for its clauses alone.
+// What the readers refuse. A call stands for its clauses alone.
 ghost use Rattle.matrix_read.specs.Limits.{LimitsLaw};
 ghost use Rattle.matrix_read.specs.CloneRefusals.{CloneRefusals};
-ghost use Rattle.matrix_read.specs.Refusals.{FirstLineLaw, DenseRefusals, SparseRefusals, FurtherRefusals};
+ghost use Rattle.text_lines.specs.FirstRefusal.{FirstLineLaw};
+ghost use Rattle.matrix_read.specs.Refusals.{DenseRefusals, SparseRefusals, FurtherRefusals};
 ghost use Rattle.matrix_read.specs.TableLaws.{TableRefusals};
-ghost use Rattle.matrix_read.specs.TextLaws.{LinesLaw, LineNumbersLaw, WordsLaw};
-
-/// What a line is, which number it has, and what a word is.
-///
-/// Lines end with line feeds, and bytes after the last line feed are a line too. One carriage return at the end of a
-/// line is no part of it. Each line counts in the numbers of lines, a blank one too where blank lines are passed over.
-/// Words are the longest runs of bytes other than spaces and tabs.
-pub fn text_laws()
-    ensures lines { LinesLaw }
-    ensures numbers { LineNumbersLaw }
-    ensures words { WordsLaw }
-{}
 
 /// What [`read_dense`](crate::read_dense), [`read_rows`](crate::read_rows), [`read_more`](crate::read_more),
 /// [`read_table`](crate::read_table) and [`read_clones`](crate::read_clones) refuse, and what they read where nothing
 /// is refused.
 ///
 /// Among lines that are judged one after another the first that is refused gives the refusal, by its number and its
-/// code; [`text_laws`] says which number a line has, and [`table_laws`](crate::table_laws) which headers and records
+/// code; [`text_laws`](crate::text_laws) says which number a line has, and [`table_laws`](crate::table_laws) which headers and records
 /// are refused by which code. Before it come a file past the limit of its length, a file without a line, and the line
 /// that a file begins with. Of a table the same is said of records, and of a clone file of clones, before which come
 /// bytes without a value, a value of another shape, the probes, and the number of clones. A file in which nothing is

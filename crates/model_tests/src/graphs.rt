@@ -1,7 +1,7 @@
 // Graphs that the tests share.
 ghost use Rattle.std.specs.Prelude.{◌≡◌, IfOk};
 
-use graph_read::Graph;
+use graph_model::Graph;
 use row_model::NoMemory;
 use std::alloc::Global;
 

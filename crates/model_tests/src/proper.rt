@@ -1,6 +1,6 @@
 // The path of four vertices, worked by hand.
 use crate::graphs::path;
-use graph_read::Graph;
+use graph_model::Graph;
 use proper_interval::{closed_rows, fits, intervals, umbrella_law};
 use row_model::{Interval, Intervals, NoMemory, is_order};
 use std::alloc::Global;

@@ -2,7 +2,7 @@
 ghost use Rattle.std.specs.Prelude.{◌≤◌};
 
 use crate::graphs::path;
-use graph_read::Graph;
+use graph_model::Graph;
 use proper_interval::{closed_rows, umbrella_law};
 use row_model::{Interval, Intervals, NoMemory, is_order};
 use std::alloc::Global;

@@ -12,7 +12,7 @@ use Rattle.row_model.specs.Graph.{row_at}
 use Rattle.row_model.proofs.Ascending.{row_within}
 use Rattle.row_model.proofs.Filtered.{has_filtered, filtered_row, range_more}
 use Rattle.row_model.proofs.RowLemmas.{row_where, has-inserted}
-use Rattle.graph_read.specs.Graphs.{GraphValue, IsGraph, has_edge, below}
+use Rattle.graph_model.specs.Graphs.{GraphValue, IsGraph, has_edge, below}
 use Rattle.proper_interval.specs.Umbrellas.{is_in_closed, closed_row, closed_to, closed_of}
 use Rattle.proper_interval.specs.Laws.{ClosedCountLaw, ClosedRowLaw}
 

@@ -7,7 +7,7 @@ use Rattle.row_model.specs.declared.lists.Interval.{Interval}
 use Rattle.column_order.specs.Orders.{place}
 use Rattle.column_order.proofs.Lists.{at_place}
 use Rattle.column_order.proofs.Counts.{order_has, order_length}
-use Rattle.graph_read.specs.Graphs.{GraphValue, IsGraph, has_edge}
+use Rattle.graph_model.specs.Graphs.{GraphValue, IsGraph, has_edge}
 use Rattle.proper_interval.specs.Umbrellas.{IsUmbrellaOrder}
 use Rattle.proper_interval.specs.Models.{IsVertex, interval_of, EndsInOrder, ShareNumber, ContainsInterval}
 use Rattle.proper_interval.specs.Formula.{vertex_at, IsReach, AreIntervals, interval_at}

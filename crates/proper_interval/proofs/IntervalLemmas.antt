@@ -9,7 +9,7 @@ use Rattle.row_model.specs.Rows.{IsRow}
 use Rattle.row_model.specs.declared.lists.Interval.{Interval}
 use Rattle.row_model.proofs.Ascending.{row_within}
 use Rattle.row_model.proofs.PieceLemmas.{ascends_rises}
-use Rattle.graph_read.specs.Graphs.{GraphValue, IsGraph, has_edge}
+use Rattle.graph_model.specs.Graphs.{GraphValue, IsGraph, has_edge}
 use Rattle.proper_interval.specs.Models.{ShareNumber, EndsInOrder, IsVertex, IsProperModel, interval_of}
 use Rattle.proper_interval.specs.Fitting.{AreApart, IsProperPair, PairFits, FitsLater}
 

@@ -7,7 +7,7 @@ use Rattle.column_order.specs.Orders.{place, IsOrder}
 use Rattle.column_order.proofs.Lists.{has_at, place_at}
 use Rattle.column_order.proofs.Counts.{order_length, order_once, order_within}
 use Rattle.row_model.specs.declared.lists.Interval.{Interval}
-use Rattle.graph_read.specs.Graphs.{GraphValue, has_edge}
+use Rattle.graph_model.specs.Graphs.{GraphValue, has_edge}
 use Rattle.proper_interval.specs.Formula.{vertex_at, SameOrAdjacent, IsReach, AreIntervals, interval_at}
 
 module _ (g : GraphValue) (o : List ℕ) where

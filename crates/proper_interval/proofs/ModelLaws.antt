@@ -5,7 +5,7 @@ use Rattle.row_model.specs.declared.lists.Interval.{Interval}
 use Rattle.column_order.specs.Orders.{place}
 use Rattle.column_order.proofs.Lists.{has_at, place_at}
 use Rattle.column_order.proofs.Counts.{order_once, order_within}
-use Rattle.graph_read.specs.Graphs.{GraphValue, has_edge}
+use Rattle.graph_model.specs.Graphs.{GraphValue, has_edge}
 use Rattle.proper_interval.specs.Umbrellas.{IsUmbrellaOrder}
 use Rattle.proper_interval.specs.Models.{IsVertex, IsProperModel, interval_of}
 use Rattle.proper_interval.specs.Laws.{ModelLaw, OneListLaw, ProperLaw}

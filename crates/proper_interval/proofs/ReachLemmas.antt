@@ -11,7 +11,7 @@ use Rattle.row_model.proofs.Ascending.{row_within}
 use Rattle.row_model.specs.Positions.{position_of, ArePositions, IsSpan}
 use Rattle.row_model.specs.declared.lists.Interval.{Interval}
 use Rattle.row_model.specs.declared.lists.Span.{Span}
-use Rattle.graph_read.specs.Graphs.{GraphValue, IsGraph}
+use Rattle.graph_model.specs.Graphs.{GraphValue, IsGraph}
 use Rattle.proper_interval.specs.Models.{IsVertex, interval_of}
 use Rattle.proper_interval.specs.Formula.{vertex_at, IsReach, AreIntervals, interval_at}
 use Rattle.proper_interval.specs.Reaches.{ArePositionsOf, IsFarthest, IsIntervalBy}

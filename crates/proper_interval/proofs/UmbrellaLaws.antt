@@ -7,7 +7,7 @@ use Rattle.std.specs.List.{Contains}
 use Rattle.column_order.specs.Orders.{place, IsOrder, Keeps}
 use Rattle.column_order.proofs.Lists.{has_at, at_place, place_at}
 use Rattle.column_order.proofs.Counts.{order_once, order_within, order_has}
-use Rattle.graph_read.specs.Graphs.{GraphValue, IsGraph, has_edge}
+use Rattle.graph_model.specs.Graphs.{GraphValue, IsGraph, has_edge}
 use Rattle.proper_interval.specs.Umbrellas.{closed_row, closed_to, IsUmbrellaOrder}
 use Rattle.proper_interval.specs.Laws.{UmbrellaLaw}
 use Rattle.proper_interval.proofs.ClosedLemmas.{closed_cases, closed_edge, closed_self}

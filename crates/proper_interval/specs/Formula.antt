@@ -1,7 +1,7 @@
 -- The intervals that an umbrella order gives (Roberts, 1969). Positions count from 1.
 use Rattle.std.specs.Prelude.{◌≡◌, ◌⊎◌, ℕ, ◌+◌, ◌-◌, ◌*◌, ◌≤◌, List, length, slice_index, IsTrue}
 use Rattle.row_model.specs.declared.lists.Interval.{Interval}
-use Rattle.graph_read.specs.Graphs.{GraphValue, has_edge}
+use Rattle.graph_model.specs.Graphs.{GraphValue, has_edge}
 use Rattle.proper_interval.specs.Models.{interval_of}
 
 -- the vertex at a position

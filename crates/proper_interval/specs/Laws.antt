@@ -4,7 +4,7 @@ use Rattle.column_order.specs.Orders.{has, IsValidOrder, HasValidOrder}
 use Rattle.row_model.specs.Rows.{IsRow}
 use Rattle.row_model.specs.Graph.{row_at}
 use Rattle.row_model.specs.declared.lists.Interval.{Interval}
-use Rattle.graph_read.specs.Graphs.{GraphValue, IsGraph, has_edge}
+use Rattle.graph_model.specs.Graphs.{GraphValue, IsGraph, has_edge}
 use Rattle.proper_interval.specs.Umbrellas.{closed_to, closed_of, IsUmbrellaOrder}
 use Rattle.proper_interval.specs.Models.{IsVertex, IsProperModel}
 use Rattle.proper_interval.specs.Formula.{AreIntervals}

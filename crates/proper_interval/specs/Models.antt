@@ -1,7 +1,7 @@
 -- Models of a graph by intervals of whole numbers (Roberts, 1969).
 use Rattle.std.specs.Prelude.{◌≡◌, ◌≢◌, ◌↔◌, ℕ, ◌-◌, ◌≤◌, List, length, slice_index_or, IsTrue}
 use Rattle.row_model.specs.declared.lists.Interval.{Interval}
-use Rattle.graph_read.specs.Graphs.{GraphValue, has_edge}
+use Rattle.graph_model.specs.Graphs.{GraphValue, has_edge}
 
 -- a vertex of the graph
 abbrev pub IsVertex : GraphValue → ℕ → Type 0

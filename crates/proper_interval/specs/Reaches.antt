@@ -3,7 +3,7 @@ use Rattle.std.specs.Prelude.{◌≡◌, ◌⊎◌, ℕ, ◌-◌, ◌≤◌, Lis
 use Rattle.column_order.specs.Orders.{has, IsOrder}
 use Rattle.row_model.specs.Positions.{position_of, ArePositions}
 use Rattle.row_model.specs.declared.lists.Interval.{Interval}
-use Rattle.graph_read.specs.Graphs.{GraphValue}
+use Rattle.graph_model.specs.Graphs.{GraphValue}
 use Rattle.proper_interval.specs.Formula.{interval_at}
 
 -- positions of the vertices in some order

@@ -3,7 +3,7 @@ use Rattle.std.specs.Prelude.{ℕ, Bool, ◌==◌, ◌||◌, ◌<◌, List, leng
 use Rattle.std.specs.List.{range_with_len}
 use Rattle.column_order.specs.Orders.{IsOrder}
 use Rattle.row_model.specs.Rows.{RowList, columns_where}
-use Rattle.graph_read.specs.Graphs.{GraphValue, has_edge}
+use Rattle.graph_model.specs.Graphs.{GraphValue, has_edge}
 
 -- whether a vertex is v or one of its neighbours
 abbrev pub is_in_closed : GraphValue → ℕ → ℕ → Bool

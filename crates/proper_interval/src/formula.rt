@@ -6,7 +6,7 @@ ghost use Rattle.proper_interval.specs.Models.{IsProperModel};
 ghost use Rattle.proper_interval.specs.Formula.{AreIntervals, interval_at};
 ghost use Rattle.proper_interval.specs.Reaches.{ArePositionsOf, IsFarthest, IsIntervalBy};
 
-use graph_read::Graph;
+use graph_model::Graph;
 use row_model::{COLUMN_BOUND, Interval, Intervals, NoMemory, positions, span_of};
 use std::alloc::Global;
 

@@ -4,7 +4,7 @@ ghost use Rattle.row_model.specs.Rows.{IsRow};
 ghost use Rattle.proper_interval.specs.Models.{EndsInOrder, ShareNumber, ContainsInterval, IsProperModel};
 ghost use Rattle.proper_interval.specs.Fitting.{AreApart, IsProperPair, FitsLater};
 
-use graph_read::Graph;
+use graph_model::Graph;
 use row_model::Interval;
 
 /// Whether a list of intervals, vertex by vertex, is a proper model of the graph (Roberts, 1969).

@@ -1,9 +1,9 @@
 // The closed rows of a graph.
 ghost use Rattle.std.specs.Prelude.{◌≡◌, ◌≤◌, length, IfOk, OnOk};
-ghost use Rattle.graph_read.specs.Graphs.{below, IsGraph};
+ghost use Rattle.graph_model.specs.Graphs.{below, IsGraph};
 ghost use Rattle.proper_interval.specs.Umbrellas.{closed_row, closed_of};
 
-use graph_read::Graph;
+use graph_model::Graph;
 use row_model::{Matrix, NoMemory};
 use std::alloc::Global;
 

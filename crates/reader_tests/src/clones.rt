@@ -1,69 +1,56 @@
 // Clones that name their probes.
+use crate::told::matrix_told;
 use matrix_read::read_clones;
-use row_model::{Read, Refusal};
 use std::test::Fail;
 
 #[test]
 fn clones_are_rows_over_the_probes(rt: HostRuntime) -> Result<(), Fail> {
-    let text = b"{\"probes\":[\"a\",\"b\",\"c\",\"d\",\"e\"],\"clones\":[\
+    let cases: [(&[u8], &str); 12] = [
+        (
+            b"{\"probes\":[\"a\",\"b\",\"c\",\"d\",\"e\"],\"clones\":[\
         {\"name\":\"k1\",\"probes\":[\"b\",\"a\"]},{\"name\":\"k2\",\"probes\":[\"b\",\"c\"]},\
-        {\"name\":\"k3\",\"probes\":[]},{\"name\":\"k4\",\"probes\":[\"d\"]}]}";
-    let Read::Ok(matrix) = read_clones(rt.alloc(), text)? else {
-        panic!(rt; "refused");
-    };
-    assert_eq!(rt; matrix.columns(), 5);
-    assert_eq!(rt; matrix.rows(), 4);
-    assert_eq!(rt; matrix.row(1), [1, 2].as_slice());
-    assert_eq!(rt; matrix.row(2), [2, 3].as_slice());
-    assert_eq!(rt; matrix.row(3), [].as_slice());
-    assert_eq!(rt; matrix.row(4), [4].as_slice());
-    Ok(())
-}
-
-#[test]
-fn a_probe_that_is_named_twice_counts_once(rt: HostRuntime) -> Result<(), Fail> {
-    let text =
-        b"\xEF\xBB\xBF{\"clones\":[{\"probes\":[\"b\",\"\\u0062\"]}],\"probes\":[],\"probes\":[\"a\",\"b\"]}";
-    let Read::Ok(matrix) = read_clones(rt.alloc(), text)? else {
-        panic!(rt; "refused");
-    };
-    assert_eq!(rt; matrix.columns(), 2);
-    assert_eq!(rt; matrix.rows(), 1);
-    assert_eq!(rt; matrix.row(1), [2].as_slice());
-    Ok(())
-}
-
-#[test]
-fn the_first_refusal_counts(rt: HostRuntime) -> Result<(), Fail> {
-    let cases: [(&[u8], u8, u32); 10] = [
-        (b"{", 9, 0),
-        (b"\"\xFF\"", 9, 0),
-        (b"[]", 10, 0),
-        (b"{\"probes\":[\"a\",1],\"clones\":[]}", 10, 0),
-        (b"{\"probes\":[],\"clones\":{}}", 10, 0),
-        (b"{\"probes\":[],\"clones\":[1]}", 1, 0),
-        (b"{\"probes\":[\"a\",\"b\",\"a\"],\"clones\":[1]}", 5, 0),
+        {\"name\":\"k3\",\"probes\":[]},{\"name\":\"k4\",\"probes\":[\"d\"]}]}",
+            "5: [ 1 2 ] [ 2 3 ] [ ] [ 4 ]",
+        ),
+        // A probe that is named twice counts once, and of two lists of probes the last counts.
+        (
+            b"\xEF\xBB\xBF{\"clones\":[{\"probes\":[\"b\",\"\\u0062\"]}],\"probes\":[],\"probes\":[\"a\",\"b\"]}",
+            "2: [ 2 ]",
+        ),
+        // The first refusal counts.
+        (b"{", "refused 9 in line 0"),
+        (b"\"\xFF\"", "refused 9 in line 0"),
+        (b"[]", "refused 10 in line 0"),
+        (
+            b"{\"probes\":[\"a\",1],\"clones\":[]}",
+            "refused 10 in line 0",
+        ),
+        (b"{\"probes\":[],\"clones\":{}}", "refused 10 in line 0"),
+        (b"{\"probes\":[],\"clones\":[1]}", "refused 1 in line 0"),
+        (
+            b"{\"probes\":[\"a\",\"b\",\"a\"],\"clones\":[1]}",
+            "refused 5 in line 0",
+        ),
         (
             b"{\"probes\":[\"a\"],\"clones\":[{\"probes\":[\"b\",1]}]}",
-            10,
-            1,
+            "refused 10 in line 1",
         ),
         (
             b"{\"probes\":[\"a\"],\"clones\":[{\"probes\":[\"a\"]},{\"probes\":[\"b\"]}]}",
-            4,
-            2,
+            "refused 4 in line 2",
         ),
         (
             b"{\"probes\":[\"a\"],\"clones\":[{\"probes\":[\"a\"]},[\"a\"]]}",
-            10,
-            2,
+            "refused 10 in line 2",
         ),
     ];
-    for (text, code, line) in cases {
-        match read_clones(rt.alloc(), text)? {
-            Read::Ok(_) => panic!(rt; "a matrix in place of {code}, {line}"),
-            Read::Refused(refusal) => assert_eq!(rt; refusal, Refusal { code, line }),
-        }
+    for (text, wanted) in cases {
+        let read = read_clones(rt.alloc(), text)?;
+        assert_eq!(rt;
+            matrix_told(rt.alloc(), &read)?.as_str(),
+            wanted,
+            "{text:?}"
+        );
     }
     Ok(())
 }

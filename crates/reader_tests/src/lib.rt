@@ -6,6 +6,8 @@ mod clones;
 #[cfg(test)]
 mod dense;
 #[cfg(test)]
+mod graph_files;
+#[cfg(test)]
 mod graphs;
 #[cfg(test)]
 mod lines;
@@ -15,5 +17,7 @@ mod plain;
 mod sparse;
 #[cfg(test)]
 mod table;
+#[cfg(test)]
+mod told;
 #[cfg(test)]
 mod words;

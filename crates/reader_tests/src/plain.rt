@@ -1,5 +1,5 @@
 // Lines in the plainest form.
-use matrix_read::{PlainPair, plain_pair};
+use text_lines::{PlainPair, plain_pair};
 
 #[test]
 fn a_pair_is_two_numbers_and_a_line_feed(rt: HostRuntime) {
@@ -11,10 +11,21 @@ fn a_pair_is_two_numbers_and_a_line_feed(rt: HostRuntime) {
             next,
         })
     };
-    assert_eq!(rt; plain_pair(text, 0), found(12, 7, 5));
-    assert_eq!(rt; plain_pair(text, 5), found(0, 7, 11));
-    assert_eq!(rt; plain_pair(text, 11), found(123456789, 1, 23));
-    assert_eq!(rt; plain_pair(text, 23), None);
+    let pairs = [
+        plain_pair(text, 0),
+        plain_pair(text, 5),
+        plain_pair(text, 11),
+        plain_pair(text, 23),
+    ];
+    assert_eq!(rt;
+        pairs,
+        [
+            found(12, 7, 5),
+            found(0, 7, 11),
+            found(123456789, 1, 23),
+            None
+        ]
+    );
 }
 
 #[test]

@@ -10,7 +10,7 @@ use Rattle.commands.specs.Instances.{instance_of}
 use Rattle.commands.specs.Words.{Solve, Check, Extend, Gen, Meet, ListOrders, UnitModel, CheckUnit, Core, CheckCore}
 use Rattle.reply_laws.specs.Replies.{Replies}
 use Rattle.verdict_text.specs.Grammar.{IsVerdict}
-use Rattle.graph_read.specs.Graphs.{GraphValue}
+use Rattle.graph_model.specs.Graphs.{GraphValue}
 use Rattle.commands.specs.Verdicts.{IsClaimOf, status_of}
 use Rattle.reply_laws.specs.Solve.{NoStatusLaw, YesStatusLaw, OrdersLaw}
 use Rattle.reply_laws.specs.Check.{CheckLaw, AgreedLaw}

@@ -5,7 +5,7 @@ use Rattle.row_model.specs.declared.kind.Kind.{Kind}
 use Rattle.row_model.specs.declared.kind.Kind.TheVariants.{Proper}
 use Rattle.row_model.specs.declared.lists.Interval.{Interval}
 use Rattle.row_model.specs.declared.refusal.Read.TheVariants as read
-use Rattle.graph_read.specs.Graphs.{GraphValue, IsGraph}
+use Rattle.graph_model.specs.Graphs.{GraphValue, IsGraph}
 use Rattle.proper_interval.specs.Models.{IsProperModel}
 use Rattle.proper_interval.specs.Laws.{ModelLaw}
 use Rattle.verdict_text.specs.Verdict.{SideValue, YesValue, Claim, yes_claim, no_claim}

@@ -4,7 +4,7 @@ use Rattle.std.specs.Prelude.{IsSomeAnd}
 use Rattle.std.proofs.lemmas.Bool.{cases_eq}
 use Rattle.row_model.specs.declared.kind.Kind.TheVariants.{Proper}
 use Rattle.row_model.specs.declared.refusal.Read.TheVariants as read
-use Rattle.graph_read.specs.Graphs.{GraphValue}
+use Rattle.graph_model.specs.Graphs.{GraphValue}
 use Rattle.unit_model.specs.Models.{IsUnitModel}
 use Rattle.unit_model.specs.Text.{UnitValue}
 use Rattle.unit_model.specs.Laws.{UnitLaw, OneUnitLaw, TextLengthLaw}

@@ -11,7 +11,7 @@ use Rattle.verdict_text.specs.Grammar.{IsVerdict}
 use Rattle.verdict_text.specs.Text.{verdict_text}
 use Rattle.row_model.specs.declared.kind.Kind.TheVariants.{Proper}
 use Rattle.matrix_read.specs.Sparse.{further}
-use Rattle.graph_read.specs.Graphs.{GraphValue}
+use Rattle.graph_model.specs.Graphs.{GraphValue}
 use Rattle.instance_model.specs.Instance.{InstanceValue, plain, proper, IsSideOf, HasTextbookOrder, derived_matrix}
 use Rattle.verdict_check.specs.YesTests.{HasSide}
 use Rattle.verdict_check.specs.Truth.{IsTrueVerdict}

@@ -8,7 +8,7 @@ use Rattle.matrix_read.specs.Sparse.{further}
 use Rattle.instance_model.specs.Instance.{InstanceValue, plain, derived_matrix, proper}
 use Rattle.commands.specs.Words.{Command, Solve, Check, Extend, Gen, Meet, ListOrders, UnitModel, CheckUnit, Core, CheckCore}
 use Rattle.row_model.specs.declared.kind.Kind.TheVariants.{Proper}
-use Rattle.graph_read.specs.Graphs.{GraphValue}
+use Rattle.graph_model.specs.Graphs.{GraphValue}
 use Rattle.commands.specs.Instances.{instance_of}
 use Rattle.commands.specs.Verdicts.{IsVerdictReply}
 use Rattle.commands.specs.Judgements.{IsJudgementReply}

@@ -7,7 +7,7 @@ use Rattle.column_order.specs.Orders.{has, place, IsOrder, Keeps}
 use Rattle.column_order.proofs.Lists.{has_cases, has_at, at_place}
 use Rattle.column_order.proofs.Counts.{order_within, order_has}
 use Rattle.row_model.proofs.Filtered.{has_filtered}
-use Rattle.graph_read.specs.Distances.{DistancesValue, IsDistances}
+use Rattle.graph_model.specs.Distances.{DistancesValue, IsDistances}
 use Rattle.robinson_balls.specs.Balls.{between, ball, radii, balls_round, balls_to, IsRobinsonOrder}
 use Rattle.robinson_balls.specs.Laws.{RobinsonLaw}
 use Rattle.robinson_balls.proofs.Radii.{radii_have}

@@ -7,7 +7,7 @@ use Rattle.column_order.proofs.Lists.{has_cases}
 use Rattle.row_model.specs.Rows.{Ascends}
 use Rattle.row_model.proofs.Ascending.{row_within}
 use Rattle.row_model.proofs.Filtered.{filtered_row}
-use Rattle.graph_read.specs.Distances.{DistancesValue}
+use Rattle.graph_model.specs.Distances.{DistancesValue}
 use Rattle.robinson_balls.specs.declared.neighbours.Neighbour.{Neighbour}
 use Rattle.robinson_balls.specs.Balls.{between, ball}
 use Rattle.robinson_balls.specs.Neighbours.{with_item}

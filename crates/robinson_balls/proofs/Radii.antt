@@ -7,8 +7,8 @@ use Rattle.std.specs.List.{filter, range_with_len}
 use Rattle.column_order.specs.Orders.{has}
 use Rattle.column_order.proofs.Lists.{has_cases, has_head, has_tail}
 use Rattle.row_model.proofs.Filtered.{has_filter, range_has}
-use Rattle.graph_read.specs.Distances.{DistancesValue}
-use Rattle.robinson_balls.specs.Balls.{between, distances_of, greatest, radii}
+use Rattle.graph_model.specs.Distances.{DistancesValue}
+use Rattle.robinson_balls.specs.Balls.{between, distances_from, greatest, radii}
 use Rattle.robinson_balls.proofs.Rising.{Rises, rises_lower}
 
 greatest_le : (xs : List ℕ) (a : ℕ) → IsTrue (has xs a) → a ≤ greatest xs
@@ -54,15 +54,15 @@ filter_only p (x ∷ xs) a h = at (filter_only p xs a) (p x) refl h
 -- each distance of an item is a radius
 pub radii_have : (d : DistancesValue) (x z : ℕ) → 1 ≤ z → z ≤ d.items → IsTrue (has (radii d x) (between d x z))
 radii_have d x z l u =
-    let far = greatest (distances_of d x) in
-    let told : IsTrue (has (distances_of d x) (between d x z)) = map_has (between d x) (range_with_len 1 d.items) z (range_has d.items 1 z l (omega (arith, u))) in
-    has_filter (has (distances_of d x)) (range_with_len 0 (far + 1)) (between d x z)
-    (range_has (far + 1) 0 (between d x z) (omega arith) (omega (arith, greatest_le (distances_of d x) (between d x z) told))) ∙ told
+    let far = greatest (distances_from d x) in
+    let told : IsTrue (has (distances_from d x) (between d x z)) = map_has (between d x) (range_with_len 1 d.items) z (range_has d.items 1 z l (omega (arith, u))) in
+    has_filter (has (distances_from d x)) (range_with_len 0 (far + 1)) (between d x z)
+    (range_has (far + 1) 0 (between d x z) (omega arith) (omega (arith, greatest_le (distances_from d x) (between d x z) told))) ∙ told
 
 -- and each radius is one
 pub radii_only : (d : DistancesValue) (x a : ℕ) → IsTrue (has (radii d x) a) → (z : ℕ) × (1 ≤ z) × (z ≤ d.items) × (between d x z ≡ a)
 radii_only d x a h =
-    let found = map_only (between d x) (range_with_len 1 d.items) a (filter_only (has (distances_of d x)) (range_with_len 0 (greatest (distances_of d x) + 1)) a h) in
+    let found = map_only (between d x) (range_with_len 1 d.items) a (filter_only (has (distances_from d x)) (range_with_len 0 (greatest (distances_from d x) + 1)) a h) in
     let range = range_only d.items 1 found.0 found.1 in
     (found.0, range.0, omega (arith, range.1), found.2)
 
@@ -77,7 +77,7 @@ rises_filter p (suc n) low =
     ]
 
 pub radii_rise : (d : DistancesValue) (x : ℕ) → Rises 0 (radii d x)
-radii_rise d x = rises_filter (has (distances_of d x)) (greatest (distances_of d x) + 1) 0
+radii_rise d x = rises_filter (has (distances_from d x)) (greatest (distances_from d x) + 1) 0
 
 filter_or : (p q : ℕ → Bool) (xs : List ℕ) → length (filter (λ a. p a || q a) xs) ≤ length (filter p xs) + length (filter q xs)
 filter_or p q [] = omega arith
@@ -113,4 +113,4 @@ filter_few (y ∷ ys) n low =
 
 -- an item has at most as many radii as there are items
 pub few_radii : (d : DistancesValue) (x : ℕ) → length (radii d x) ≤ d.items
-few_radii d x = omega (arith, filter_few (distances_of d x) (greatest (distances_of d x) + 1) 0, length-map-range_with_len (between d x) 1 d.items)
+few_radii d x = omega (arith, filter_few (distances_from d x) (greatest (distances_from d x) + 1) 0, length-map-range_with_len (between d x) 1 d.items)

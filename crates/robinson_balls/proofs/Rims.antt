@@ -9,7 +9,7 @@ use Rattle.std.specs.List.Sorted.{IsNonDecreasingBy}
 use Rattle.column_order.specs.Orders.{has}
 use Rattle.column_order.proofs.Lists.{has_cases, has_head, has_tail}
 use Rattle.row_model.proofs.Filtered.{range_more}
-use Rattle.graph_read.specs.Distances.{DistancesValue}
+use Rattle.graph_model.specs.Distances.{DistancesValue}
 use Rattle.robinson_balls.specs.declared.neighbours.Neighbour.{Neighbour}
 use Rattle.robinson_balls.specs.Balls.{between, radii}
 use Rattle.robinson_balls.specs.Neighbours.{neighbour, AreNeighbours, EndsBall, GoesOn}

@@ -7,9 +7,9 @@ use Rattle.std.proofs.lemmas.List.Kept.{AllPairs-cons}
 use Rattle.std.specs.List.{Contains}
 use Rattle.column_order.specs.Orders.{has}
 use Rattle.column_order.proofs.Lists.{has_head, has_tail}
-use Rattle.graph_read.specs.Distances.{DistancesValue}
+use Rattle.graph_model.specs.Distances.{DistancesValue}
 use Rattle.robinson_balls.specs.Balls.{ball, radii, balls_round, balls_to}
-use Rattle.robinson_balls.specs.Laws.{Round, IsRound, IsBefore, BallsLaw}
+use Rattle.robinson_balls.specs.Laws.{Round, IsRound, IsRoundBefore, BallsLaw}
 use Rattle.robinson_balls.proofs.BallLaws.{map_has}
 use Rattle.robinson_balls.proofs.Radii.{radii_rise, radii_have, radii_only}
 use Rattle.robinson_balls.proofs.Rising.{Rises, rises_lower}
@@ -43,13 +43,13 @@ pairs_append R (x ∷ xs) ys h k c =
     (All-append (R x) xs ys (λ j d l. h 0 (suc j) d (omega arith) (omega (arith, l))) (c 0 x (omega arith)))
     (pairs_append R xs ys (λ i j d l u. h (suc i) (suc j) d (omega (arith, l)) (omega (arith, u))) k (λ i d l. c (suc i) d (omega (arith, l))))
 
-later : (x s : ℕ) (ss : List ℕ) → Rises (suc s) ss → All (IsBefore (round x s)) (map (round x) ss)
-later x s [] h = All-nil (IsBefore (round x s))
-later x s (t ∷ ss) h = All-cons (IsBefore (round x s)) (round x t) (map (round x) ss) (inr (refl, omega (arith, h.0))) (later x s ss (rises_lower (suc s) (suc t) ss (omega (arith, h.0)) h.1))
+later : (x s : ℕ) (ss : List ℕ) → Rises (suc s) ss → All (IsRoundBefore (round x s)) (map (round x) ss)
+later x s [] h = All-nil (IsRoundBefore (round x s))
+later x s (t ∷ ss) h = All-cons (IsRoundBefore (round x s)) (round x t) (map (round x) ss) (inr (refl, omega (arith, h.0))) (later x s ss (rises_lower (suc s) (suc t) ss (omega (arith, h.0)) h.1))
 
-one_centre : (x low : ℕ) (ss : List ℕ) → Rises low ss → AllPairs IsBefore (map (round x) ss)
+one_centre : (x low : ℕ) (ss : List ℕ) → Rises low ss → AllPairs IsRoundBefore (map (round x) ss)
 one_centre x low [] h = λ i j d l u. absurd (omega (arith, u))
-one_centre x low (s ∷ ss) h = AllPairs-cons IsBefore (round x s) (map (round x) ss) (later x s ss h.1) (one_centre x (suc s) ss h.1)
+one_centre x low (s ∷ ss) h = AllPairs-cons IsRoundBefore (round x s) (map (round x) ss) (later x s ss h.1) (one_centre x (suc s) ss h.1)
 
 low_centres : (d : DistancesValue) (n m : ℕ) → n ≤ m → All (λ (r : Round). r.centre ≤ m) (rounds_to d n)
 low_centres d zero m l = All-nil (λ (r : Round). r.centre ≤ m)
@@ -57,11 +57,11 @@ low_centres d (suc n) m l =
     All-append (λ (r : Round). r.centre ≤ m) (rounds_to d n) (map (round (suc n)) (radii d (suc n))) (low_centres d n m (omega (arith, l)))
     (All-map (λ (r : Round). r.centre ≤ m) (round (suc n)) (radii d (suc n)) (λ k s u. l))
 
-in_order : (d : DistancesValue) (n : ℕ) → AllPairs IsBefore (rounds_to d n)
+in_order : (d : DistancesValue) (n : ℕ) → AllPairs IsRoundBefore (rounds_to d n)
 in_order d zero = λ i j e l u. absurd (omega (arith, u))
 in_order d (suc n) =
-    pairs_append IsBefore (rounds_to d n) (map (round (suc n)) (radii d (suc n))) (in_order d n) (one_centre (suc n) 0 (radii d (suc n)) (radii_rise d (suc n)))
-    (λ i r l. All-map (IsBefore (get_or (rounds_to d n) i r)) (round (suc n)) (radii d (suc n)) (λ k s u. inl (omega (arith, low_centres d n n (omega arith) i r l))))
+    pairs_append IsRoundBefore (rounds_to d n) (map (round (suc n)) (radii d (suc n))) (in_order d n) (one_centre (suc n) 0 (radii d (suc n)) (radii_rise d (suc n)))
+    (λ i r l. All-map (IsRoundBefore (get_or (rounds_to d n) i r)) (round (suc n)) (radii d (suc n)) (λ k s u. inl (omega (arith, low_centres d n n (omega arith) i r l))))
 
 rounds_only : (x : ℕ) (ss : List ℕ) (r : Round) → Contains (map (round x) ss) r → (s : ℕ) × IsTrue (has ss s) × (round x s ≡ r)
 rounds_only x [] r h = absurd (omega (arith, h.1))

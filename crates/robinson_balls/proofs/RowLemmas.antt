@@ -4,8 +4,8 @@ use Rattle.std.proofs.lemmas.Nat.{mul-le}
 use Rattle.std.proofs.lemmas.List.{length-map}
 use Rattle.row_model.specs.declared.TheConstants.{ROW_BOUND}
 use Rattle.row_model.specs.Rows.{RowList}
-use Rattle.graph_read.specs.declared.TheConstants.{ITEM_BOUND}
-use Rattle.graph_read.specs.Distances.{DistancesValue}
+use Rattle.graph_model.specs.declared.TheConstants.{ITEM_BOUND}
+use Rattle.graph_model.specs.Distances.{DistancesValue}
 use Rattle.robinson_balls.specs.Balls.{ball, radii, balls_round, balls_to}
 use Rattle.robinson_balls.specs.Laws.{FewBallsLaw}
 use Rattle.robinson_balls.proofs.Radii.{few_radii}

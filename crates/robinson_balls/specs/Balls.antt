@@ -3,7 +3,7 @@ use Rattle.std.specs.Prelude.{ℕ, zero, suc, ◌+◌, ◌++◌, ◌<◌, ◌≤
 use Rattle.std.specs.List.{filter, range_with_len}
 use Rattle.column_order.specs.Orders.{has, IsOrder}
 use Rattle.row_model.specs.Rows.{RowList, columns_where}
-use Rattle.graph_read.specs.Distances.{DistancesValue, distance}
+use Rattle.graph_model.specs.Distances.{DistancesValue, distance}
 
 -- the distance of two items
 abbrev pub between : DistancesValue → ℕ → ℕ → ℕ
@@ -14,8 +14,8 @@ abbrev pub ball : DistancesValue → ℕ → ℕ → List ℕ
 ball d x radius = columns_where d.items (λ y. nat_le (between d x y) radius)
 
 -- the distances of x from all items, itself included, item after item
-abbrev pub distances_of : DistancesValue → ℕ → List ℕ
-distances_of d x = map (between d x) (range_with_len 1 d.items)
+abbrev pub distances_from : DistancesValue → ℕ → List ℕ
+distances_from d x = map (between d x) (range_with_len 1 d.items)
 
 -- the greatest number of a list, or 0
 abbrev pub greatest : List ℕ → ℕ
@@ -24,7 +24,7 @@ greatest (x ∷ xs) = max x (greatest xs)
 
 -- the radii round x: the numbers that are a distance of x from some item, each once and in rising order
 abbrev pub radii : DistancesValue → ℕ → List ℕ
-radii d x = filter (has (distances_of d x)) (range_with_len 0 (greatest (distances_of d x) + 1))
+radii d x = filter (has (distances_from d x)) (range_with_len 0 (greatest (distances_from d x) + 1))
 
 -- the balls round x, in rising order of their radii
 abbrev pub balls_round : DistancesValue → ℕ → List (List ℕ)

@@ -1,7 +1,7 @@
 -- What the balls say of the Robinson orders.
 use Rattle.std.specs.Prelude.{◌≡◌, ◌⊎◌, ◌↔◌, ◌*◌, ◌<◌, ◌≤◌, List, ℕ, length, map, Contains, AllPairs}
 use Rattle.column_order.specs.Orders.{IsValidOrder}
-use Rattle.graph_read.specs.Distances.{DistancesValue, IsDistances}
+use Rattle.graph_model.specs.Distances.{DistancesValue, IsDistances}
 use Rattle.robinson_balls.specs.Balls.{between, ball, balls_to, balls_of, IsRobinsonOrder}
 
 -- a centre and a radius
@@ -17,12 +17,12 @@ pub record IsRound (d : DistancesValue) (r : Round) : Type 0 where
   pub radius : between d r.centre item ≡ r.radius
 
 -- the first centre is below the second, or the centres are equal and the first radius is below the second
-abbrev pub IsBefore : Round → Round → Type 0
-IsBefore a b = (a.centre < b.centre) ⊎ ((a.centre ≡ b.centre) × (a.radius < b.radius))
+abbrev pub IsRoundBefore : Round → Round → Type 0
+IsRoundBefore a b = (a.centre < b.centre) ⊎ ((a.centre ≡ b.centre) × (a.radius < b.radius))
 
 -- all centres with all their radii, each once, centre after centre and for each centre in rising order of the radii
 pub record AreRounds (d : DistancesValue) (rounds : List Round) : Type 0 where
-  pub order : AllPairs IsBefore rounds
+  pub order : AllPairs IsRoundBefore rounds
   pub every : (r : Round) → Contains rounds r ↔ IsRound d r
 
 -- the rows are the balls of these centres and radii

@@ -2,7 +2,7 @@
 use Rattle.std.specs.Prelude.{ℕ, ◌+◌, ◌<◌, ◌≤◌, ◌==◌, nat_lt, if◌then◌else◌, List, [], ◌∷◌, length, map, slice_index_or}
 use Rattle.std.specs.List.{range_with_len}
 use Rattle.std.specs.List.Sorted.{IsPermutation, IsNonDecreasingBy}
-use Rattle.graph_read.specs.Distances.{DistancesValue}
+use Rattle.graph_model.specs.Distances.{DistancesValue}
 use Rattle.robinson_balls.specs.declared.neighbours.Neighbour.{Neighbour}
 use Rattle.robinson_balls.specs.Balls.{between}
 

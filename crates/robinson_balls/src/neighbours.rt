@@ -2,7 +2,7 @@
 ghost use Rattle.std.specs.Prelude.{◌<◌, ◌≤◌, length, IsTrue, IsFalse, OnOk};
 ghost use Rattle.robinson_balls.specs.Neighbours.{AreNeighbours, EndsBall, GoesOn};
 
-use graph_read::Distances;
+use graph_model::Distances;
 use row_model::NoMemory;
 
 // An item, and its distance from a centre.

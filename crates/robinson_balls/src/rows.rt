@@ -5,7 +5,7 @@ ghost use Rattle.robinson_balls.specs.Balls.{balls_of, balls_round};
 ghost use Rattle.robinson_balls.specs.Neighbours.{with_item};
 
 use crate::neighbours::{Neighbour, ends_ball, list_neighbours};
-use graph_read::Distances;
+use graph_model::Distances;
 use row_model::{Matrix, NoMemory, ROW_BOUND};
 use std::alloc::Global;
 

@@ -1,6 +1,6 @@
 // Small tables, worked by hand.
 use super::*;
-use graph_read::Distances;
+use graph_model::Distances;
 use std::test::Fail;
 
 #[test]

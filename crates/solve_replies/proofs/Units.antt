@@ -5,7 +5,7 @@ use Rattle.std.specs.List.{AllByRecursion}
 use Rattle.column_order.specs.Orders.{IsValidOrder}
 use Rattle.row_model.specs.declared.lists.Interval.{Interval}
 use Rattle.row_model.specs.declared.TheConstants.{MAX_COLUMNS}
-use Rattle.graph_read.specs.Graphs.{GraphValue, IsGraph}
+use Rattle.graph_model.specs.Graphs.{GraphValue, IsGraph}
 use Rattle.proper_interval.specs.Umbrellas.{closed_to}
 use Rattle.unit_model.specs.Models.{IsUnitModel, lefts_of}
 use Rattle.unit_model.specs.Rule.{AreLeftEnds}

@@ -1,6 +1,6 @@
 -- The unit model of a graph, and the reply that tells it.
 use Rattle.std.specs.Prelude.{◌≡◌, ℕ, List, slice_get, IsSomeAnd}
-use Rattle.graph_read.specs.Graphs.{GraphValue}
+use Rattle.graph_model.specs.Graphs.{GraphValue}
 use Rattle.unit_model.specs.Models.{IsUnitModel}
 use Rattle.unit_model.specs.Rule.{AreLeftEnds}
 use Rattle.unit_model.specs.Text.{UnitValue, IsUnit, unit_text}

@@ -1,7 +1,7 @@
 // The reply with the unit model of a graph.
 ghost use Rattle.std.specs.Prelude.{◌≡◌, ◌≤◌, ◌⊎◌, IfOk};
 ghost use Rattle.row_model.specs.declared.TheConstants.{MAX_COLUMNS};
-ghost use Rattle.graph_read.specs.Graphs.{GraphValue};
+ghost use Rattle.graph_model.specs.Graphs.{GraphValue};
 ghost use Rattle.column_order.specs.Orders.{IsValidOrder};
 ghost use Rattle.proper_interval.specs.Umbrellas.{closed_to};
 ghost use Rattle.instance_model.specs.Instance.{proper, instance_kind, IsInstance};
@@ -14,7 +14,7 @@ ghost use Rattle.solve_replies.specs.Models.{IsModelOf, TellsModel, TellsByClaim
 use crate::NoMemory;
 use crate::verdicts::verdict_on;
 use commands::{Reply, graph_law, printed};
-use graph_read::Graph;
+use graph_model::Graph;
 use instance_model::Instance;
 use proper_interval::umbrella_law;
 use row_model::{Interval, Kind};

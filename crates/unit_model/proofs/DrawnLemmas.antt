@@ -5,13 +5,13 @@ use Rattle.std.proofs.lemmas.Bool.{cases_eq, cases_lt, cases_Bool, both_ways}
 use Rattle.std.proofs.lemmas.List.{length-set, get_or-replicate, get_or_past, length-replicate}
 use Rattle.column_order.specs.Orders.{has, place}
 use Rattle.column_order.proofs.Lists.{has_cases, has_head}
-use Rattle.graph_read.specs.Graphs.{GraphValue, IsGraph}
+use Rattle.graph_model.specs.Graphs.{GraphValue, IsGraph}
 use Rattle.proper_interval.specs.Models.{IsVertex}
 use Rattle.proper_interval.specs.Umbrellas.{IsUmbrellaOrder}
 use Rattle.unit_model.specs.Models.{at_vertex, DifferByAtMost}
 use Rattle.unit_model.specs.Walks.{IsDistance, IsFirstOf}
 use Rattle.unit_model.specs.Rule.{put_before, IsNext, IsFirstNeighbour, IsGrown, begun, put, IsBase, IsLeftEnd}
-use Rattle.unit_model.specs.Drawing.{Joined, IsFirstBefore, IsLinkedList}
+use Rattle.unit_model.specs.Drawing.{IsNeighbour, IsFirstBefore, IsLinkedList}
 use Rattle.unit_model.proofs.PutLemmas.{put_place, put_before_it, put_after_it, put_has_new, put_has_old, put_has_cases}
 use Rattle.unit_model.proofs.LinkLemmas.{vertex_written, vertex_kept, one_linked, put_linked}
 use Rattle.unit_model.proofs.WalkLemmas.{IsCut, vertex, place_is, back, one_distance, first_itself, no_distance, first_as, distance_as, layers_rise, joined_from, first_joined}
@@ -26,7 +26,7 @@ pub record IsDone (g : GraphValue) (o lefts : List ℕ) (i base : ℕ) : Type 0 
   pub bound : base ≤ (i + 1) * rise
   pub ends : (j : ℕ) → j < i → IsLeftEnd g o (get_or o j 0) (at_vertex lefts (get_or o j 0))
   pub low : (j : ℕ) → j < i → at_vertex lefts (get_or o j 0) + g.vertices < base
-  pub near : (j k : ℕ) → j < k → k < i → DifferByAtMost g.vertices (at_vertex lefts (get_or o j 0)) (at_vertex lefts (get_or o k 0)) ↔ Joined g (get_or o j 0) (get_or o k 0)
+  pub near : (j k : ℕ) → j < k → k < i → DifferByAtMost g.vertices (at_vertex lefts (get_or o j 0)) (at_vertex lefts (get_or o k 0)) ↔ IsNeighbour g (get_or o j 0) (get_or o k 0)
 
 -- what is known of a vertex of the component at hand
 pub record IsLayered (g : GraphValue) (o levels : List ℕ) (base f v : ℕ) : Type 0 where
@@ -57,7 +57,7 @@ pub record IsDrawn (g : GraphValue) (o levels before lefts : List ℕ) (s i : �
   pub same : (j k t : ℕ) → s ≤ j → j < k → k < i → IsDistance g (get_or o s 0) (get_or o j 0) t → IsDistance g (get_or o s 0) (get_or o k 0) t →
       place list (get_or o j 0) < place list (get_or o k 0)
   pub next : (j k t : ℕ) → s ≤ j → j < k → k < i → IsDistance g (get_or o s 0) (get_or o j 0) t → IsDistance g (get_or o s 0) (get_or o k 0) (t + 1) →
-      (place list (get_or o k 0) < place list (get_or o j 0)) ↔ Joined g (get_or o j 0) (get_or o k 0)
+      (place list (get_or o k 0) < place list (get_or o j 0)) ↔ IsNeighbour g (get_or o j 0) (get_or o k 0)
 
 -- a level that is written is no less small
 small_set : (levels : List ℕ) (v level i : ℕ) → v - 1 < length levels → ((w : ℕ) → at_vertex levels w ≤ i * rise) → level ≤ (i + 1) * rise → (w : ℕ) → at_vertex (set levels (v - 1) level) w ≤ (i + 1) * rise
@@ -241,12 +241,12 @@ module _ (g : GraphValue) (o : List ℕ) (h : IsGraph g) (r : IsUmbrellaOrder g 
           ))
         ] in
         let stands = (d.next (place o u) j u_layered.layer u_from first_then b
-        (subst (λ z. IsDistance g (get_or o s 0) z u_layered.layer) (sym u_back) u_layered.distance) dj).1 (subst (λ z. Joined g z (get_or o j 0)) (sym u_back) joined) in
+        (subst (λ z. IsDistance g (get_or o s 0) z u_layered.layer) (sym u_back) u_layered.distance) dj).1 (subst (λ z. IsNeighbour g z (get_or o j 0)) (sym u_back) joined) in
         before_new (get_or o j 0) (d.there j a b) (subst (λ z. place d.list (get_or o j 0) < place d.list z) u_back stands)
 
     -- of the layer before, those stand after it that are its neighbours
     next_new : (j : ℕ) → s ≤ j → j < i → IsDistance g (get_or o s 0) (get_or o j 0) u_layered.layer →
-        (place (put_before (get_or o i 0) u d.list) (get_or o i 0) < place (put_before (get_or o i 0) u d.list) (get_or o j 0)) ↔ Joined g (get_or o j 0) (get_or o i 0)
+        (place (put_before (get_or o i 0) u d.list) (get_or o i 0) < place (put_before (get_or o i 0) u d.list) (get_or o j 0)) ↔ IsNeighbour g (get_or o j 0) (get_or o i 0)
     next_new j a b dj =
         let lj : j < length o = omega (arith, b, l) in
         let at_j = place_is g o h r j lj in
@@ -285,7 +285,7 @@ module _ (g : GraphValue) (o : List ℕ) (h : IsGraph g) (r : IsUmbrellaOrder g 
         ]
 
     next_more : (j k t : ℕ) → s ≤ j → j < k → k < i + 1 → IsDistance g (get_or o s 0) (get_or o j 0) t → IsDistance g (get_or o s 0) (get_or o k 0) (t + 1) →
-        (place (put_before (get_or o i 0) u d.list) (get_or o k 0) < place (put_before (get_or o i 0) u d.list) (get_or o j 0)) ↔ Joined g (get_or o j 0) (get_or o k 0)
+        (place (put_before (get_or o i 0) u d.list) (get_or o k 0) < place (put_before (get_or o i 0) u d.list) (get_or o j 0)) ↔ IsNeighbour g (get_or o j 0) (get_or o k 0)
     next_more j k t a b c dj dk =
         elim (cases_lt k i) [
           | inl m ↦
@@ -296,7 +296,7 @@ module _ (g : GraphValue) (o : List ℕ) (h : IsGraph g) (r : IsUmbrellaOrder g 
               let last : k ≡ i = omega arith in
               let dk' = subst (λ z. IsDistance g (get_or o s 0) (get_or o z 0) (t + 1)) last dk in
               let layer : t ≡ u_layered.layer = omega (arith, one_distance g o h r (get_or o s 0) (get_or o i 0) (t + 1) (u_layered.layer + 1) dk' v_distance) in
-              subst (λ z. (place (put_before (get_or o i 0) u d.list) (get_or o z 0) < place (put_before (get_or o i 0) u d.list) (get_or o j 0)) ↔ Joined g (get_or o j 0) (get_or o z 0)) (sym last)
+              subst (λ z. (place (put_before (get_or o i 0) u d.list) (get_or o z 0) < place (put_before (get_or o i 0) u d.list) (get_or o j 0)) ↔ IsNeighbour g (get_or o j 0) (get_or o z 0)) (sym last)
               (next_new j a (omega (arith, b, last)) (subst (IsDistance g (get_or o s 0) (get_or o j 0)) layer dj))
         ]
 

@@ -6,13 +6,13 @@ use Rattle.std.proofs.lemmas.List.Elements.{All-from_get_or}
 use Rattle.column_order.specs.Orders.{has, place}
 use Rattle.column_order.proofs.Lists.{at_place, place-inj}
 use Rattle.column_order.proofs.Counts.{order_length}
-use Rattle.graph_read.specs.Graphs.{GraphValue, IsGraph}
+use Rattle.graph_model.specs.Graphs.{GraphValue, IsGraph}
 use Rattle.proper_interval.specs.Models.{IsVertex}
 use Rattle.proper_interval.specs.Umbrellas.{IsUmbrellaOrder}
 use Rattle.unit_model.specs.Models.{at_vertex, DifferByAtMost, IsUnitModel}
 use Rattle.unit_model.specs.Walks.{IsDistance, IsFirstOf}
 use Rattle.unit_model.specs.Rule.{HasLayers, IsBase, base_first, base_next, IsLeftEnd, AreLeftEnds}
-use Rattle.unit_model.specs.Drawing.{Joined, IsNumbered}
+use Rattle.unit_model.specs.Drawing.{IsNeighbour, IsNumbered}
 use Rattle.unit_model.proofs.DrawnLemmas.{IsDone, IsLayered, IsDrawn}
 use Rattle.unit_model.proofs.WalkLemmas.{IsCut, vertex, place_is, back, turned, cut_whole, cut_walk, one_first, first_itself, layers_rise, layers_next, layer_joined}
 
@@ -142,7 +142,7 @@ module _ (g : GraphValue) (o : List ℕ) (h : IsGraph g) (r : IsUmbrellaOrder g 
     low_base = omega (arith, last_layered.level)
 
     -- two vertices of the component
-    near_new : (j k : ℕ) → s ≤ j → j < k → k < i → DifferByAtMost g.vertices (at_vertex more (get_or o j 0)) (at_vertex more (get_or o k 0)) ↔ Joined g (get_or o j 0) (get_or o k 0)
+    near_new : (j k : ℕ) → s ≤ j → j < k → k < i → DifferByAtMost g.vertices (at_vertex more (get_or o j 0)) (at_vertex more (get_or o k 0)) ↔ IsNeighbour g (get_or o j 0) (get_or o k 0)
     near_new j k a b c =
         let bj : j < i = omega (arith, b, c) in
         let ak : s ≤ k = omega (arith, a, b) in
@@ -180,14 +180,14 @@ module _ (g : GraphValue) (o : List ℕ) (h : IsGraph g) (r : IsUmbrellaOrder g 
           ]
         ]
 
-    near_all : (j k : ℕ) → j < k → k < i → DifferByAtMost g.vertices (at_vertex more (get_or o j 0)) (at_vertex more (get_or o k 0)) ↔ Joined g (get_or o j 0) (get_or o k 0)
+    near_all : (j k : ℕ) → j < k → k < i → DifferByAtMost g.vertices (at_vertex more (get_or o j 0)) (at_vertex more (get_or o k 0)) ↔ IsNeighbour g (get_or o j 0) (get_or o k 0)
     near_all j k b c =
         elim (cases_lt k s) [
           | inl lk ↦
               let lj : j < s = omega (arith, lk, b) in
               let old = d.done.near j k b lk in
-              subst (λ x. DifferByAtMost g.vertices x (at_vertex more (get_or o k 0)) ↔ Joined g (get_or o j 0) (get_or o k 0)) (sym (left_old j lj))
-              (subst (λ x. DifferByAtMost g.vertices (at_vertex lefts (get_or o j 0)) x ↔ Joined g (get_or o j 0) (get_or o k 0)) (sym (left_old k lk)) old)
+              subst (λ x. DifferByAtMost g.vertices x (at_vertex more (get_or o k 0)) ↔ IsNeighbour g (get_or o j 0) (get_or o k 0)) (sym (left_old j lj))
+              (subst (λ x. DifferByAtMost g.vertices (at_vertex lefts (get_or o j 0)) x ↔ IsNeighbour g (get_or o j 0) (get_or o k 0)) (sym (left_old k lk)) old)
           | inr ak ↦ elim (cases_lt j s) [
             | inl lj ↦
                 let lo : j < length o = omega (arith, lj, ak, c, d.inside) in

@@ -9,10 +9,10 @@ use Rattle.row_model.specs.Rows.{IsRow}
 use Rattle.row_model.specs.Positions.{position_of, ArePositions, IsSpan}
 use Rattle.row_model.specs.declared.lists.Span.{Span}
 use Rattle.row_model.proofs.Ascending.{row_within}
-use Rattle.graph_read.specs.Graphs.{GraphValue, IsGraph}
+use Rattle.graph_model.specs.Graphs.{GraphValue, IsGraph}
 use Rattle.proper_interval.specs.Models.{IsVertex}
 use Rattle.proper_interval.specs.Umbrellas.{IsUmbrellaOrder}
-use Rattle.unit_model.specs.Drawing.{Joined, HasNoneBefore, IsFirstBefore}
+use Rattle.unit_model.specs.Drawing.{IsNeighbour, HasNoneBefore, IsFirstBefore}
 use Rattle.unit_model.proofs.WalkLemmas.{vertex, back, turned}
 
 pub on_none : (o : Option ℕ) {P : Type 0} → P → IfNone o P
@@ -24,10 +24,10 @@ module _ (g : GraphValue) (o : List ℕ) (h : IsGraph g) (r : IsUmbrellaOrder g 
   row_is : get_or g.neighbours (get_or o i 0 - 1) [] ≡ row
   row_is = get_or_from_slice_get g.neighbours (get_or o i 0 - 1) row [] its
 
-  joined_from_row : (w : ℕ) → IsTrue (has row w) → Joined g w (get_or o i 0)
+  joined_from_row : (w : ℕ) → IsTrue (has row w) → IsNeighbour g w (get_or o i 0)
   joined_from_row w t = turned g o h r (get_or o i 0) w (vertex g o h r i l) (row_within g.vertices row ascends w t) (ap (λ xs. has xs w) row_is ∙ t)
 
-  row_from_joined : (w : ℕ) → IsVertex g w → Joined g w (get_or o i 0) → IsTrue (has row w)
+  row_from_joined : (w : ℕ) → IsVertex g w → IsNeighbour g w (get_or o i 0) → IsTrue (has row w)
   row_from_joined w vw e = ap (λ xs. has xs w) (sym row_is) ∙ turned g o h r w (get_or o i 0) vw (vertex g o h r i l) e
 
   position_is : (w : ℕ) → IsVertex g w → position_of positions w ≡ place o w + 1
@@ -49,7 +49,7 @@ module _ (g : GraphValue) (o : List ℕ) (h : IsGraph g) (r : IsUmbrellaOrder g 
     pub first_some : 1 ≤ span.first
     first_some = omega (arith, first_place)
 
-    least : (w : ℕ) → IsVertex g w → Joined g w (get_or o i 0) → place o s.from ≤ place o w
+    least : (w : ℕ) → IsVertex g w → IsNeighbour g w (get_or o i 0) → place o s.from ≤ place o w
     least w vw e = omega (arith, first_place, (s.whole w (row_from_joined w vw e)).0, position_is w vw)
 
     pub first_is : span.first - 1 < i → IsFirstBefore g o i (get_or o (span.first - 1) 0) (get_or o i 0)

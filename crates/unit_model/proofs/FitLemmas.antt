@@ -8,10 +8,10 @@ use Rattle.column_order.specs.Orders.{has}
 use Rattle.column_order.proofs.Lists.{has_head}
 use Rattle.row_model.specs.Rows.{Ascends, IsRow}
 use Rattle.row_model.proofs.Ascending.{lacks_low}
-use Rattle.graph_read.specs.Graphs.{GraphValue, IsGraph, has_edge}
+use Rattle.graph_model.specs.Graphs.{GraphValue, IsGraph, has_edge}
 use Rattle.proper_interval.specs.Models.{IsVertex}
 use Rattle.unit_model.specs.Models.{IsUnitModel, DifferByAtMost, at_vertex}
-use Rattle.unit_model.specs.Fitting.{FitsLater, AreApart}
+use Rattle.unit_model.specs.Fitting.{EndFitsLater, EndsAreApart}
 
 -- what is known where the neighbours up to some are passed: the left ends before a place fit, and the rest of the neighbours
 -- has those that the vertex has from there on
@@ -52,7 +52,7 @@ ahead : (lefts : List ℕ) (m at : ℕ) (neighbours rest : List ℕ) (v from to 
 ahead lefts m at neighbours rest v from to p e l = elim p.tight [ inl t ↦ omega arith | inr t ↦ omega (arith, t, p.ascends.0, e) ]
 
 pub passed_one : (lefts : List ℕ) (m at : ℕ) (neighbours rest : List ℕ) (v from to : ℕ) → IsPassed lefts m at neighbours (v ∷ rest) from → v ≡ to + 1 → at < to →
-    AreApart (get_or lefts at 0) m lefts from to → DifferByAtMost m (get_or lefts at 0) (get_or lefts to 0) → IsPassed lefts m at neighbours rest (to + 1)
+    EndsAreApart (get_or lefts at 0) m lefts from to → DifferByAtMost m (get_or lefts at 0) (get_or lefts to 0) → IsPassed lefts m at neighbours rest (to + 1)
 passed_one lefts m at neighbours rest v from to p e l apart near =
     let on : from ≤ to = ahead lefts m at neighbours rest v from to p e l in
     record {
@@ -95,12 +95,12 @@ passed_skip lefts m at neighbours rest v from to p e l =
     }
 
 -- where all later left ends fit, those before the next neighbour are apart and that of the neighbour is near
-pub apart_before : (lefts : List ℕ) (m at : ℕ) (neighbours rest : List ℕ) (v from to : ℕ) → IsPassed lefts m at neighbours (v ∷ rest) from → v ≡ to + 1 → FitsLater lefts m at neighbours →
-    AreApart (get_or lefts at 0) m lefts from to
+pub apart_before : (lefts : List ℕ) (m at : ℕ) (neighbours rest : List ℕ) (v from to : ℕ) → IsPassed lefts m at neighbours (v ∷ rest) from → v ≡ to + 1 → EndFitsLater lefts m at neighbours →
+    EndsAreApart (get_or lefts at 0) m lefts from to
 apart_before lefts m at neighbours rest v from to p e f i a b d =
     both_ways (has neighbours (i + 1)) (lacks_before lefts m at neighbours rest v from i p a (omega (arith, b, e))) ((f i (omega (arith, a, p.after)) (omega (arith, b, e, p.ascends.1))).0 d)
 
-pub near_there : (lefts : List ℕ) (m at : ℕ) (neighbours rest : List ℕ) (v from to : ℕ) → IsPassed lefts m at neighbours (v ∷ rest) from → v ≡ to + 1 → at < to → FitsLater lefts m at neighbours →
+pub near_there : (lefts : List ℕ) (m at : ℕ) (neighbours rest : List ℕ) (v from to : ℕ) → IsPassed lefts m at neighbours (v ∷ rest) from → v ≡ to + 1 → at < to → EndFitsLater lefts m at neighbours →
     DifferByAtMost m (get_or lefts at 0) (get_or lefts to 0)
 near_there lefts m at neighbours rest v from to p e l f =
     let on : from ≤ to = ahead lefts m at neighbours rest v from to p e l in
@@ -108,11 +108,11 @@ near_there lefts m at neighbours rest v from to p e l f =
     (f to l (omega (arith, e, p.ascends.1))).1 (ap (has neighbours) (sym next) ∙ has_next lefts m at neighbours rest v from p (omega (arith, e, on)))
 
 -- and those after all neighbours are apart
-pub apart_after : (lefts : List ℕ) (m at : ℕ) (neighbours : List ℕ) (from : ℕ) → IsPassed lefts m at neighbours [] from → FitsLater lefts m at neighbours → AreApart (get_or lefts at 0) m lefts from (length lefts)
+pub apart_after : (lefts : List ℕ) (m at : ℕ) (neighbours : List ℕ) (from : ℕ) → IsPassed lefts m at neighbours [] from → EndFitsLater lefts m at neighbours → EndsAreApart (get_or lefts at 0) m lefts from (length lefts)
 apart_after lefts m at neighbours from p f i a b d =
     both_ways (has neighbours (i + 1)) (p.same (i + 1) (omega (arith, a))) ((f i (omega (arith, a, p.after)) b).0 d)
 
-pub all_fit : (lefts : List ℕ) (m at : ℕ) (neighbours : List ℕ) (from : ℕ) → IsPassed lefts m at neighbours [] from → AreApart (get_or lefts at 0) m lefts from (length lefts) → FitsLater lefts m at neighbours
+pub all_fit : (lefts : List ℕ) (m at : ℕ) (neighbours : List ℕ) (from : ℕ) → IsPassed lefts m at neighbours [] from → EndsAreApart (get_or lefts at 0) m lefts from (length lefts) → EndFitsLater lefts m at neighbours
 all_fit lefts m at neighbours from p apart i a b =
     elim (cases_lt i from) [
       | inl k ↦ p.fit i a k
@@ -120,7 +120,7 @@ all_fit lefts m at neighbours from p apart i a b =
     ]
 
 -- a unit model fits at each vertex
-pub model_fits : (g : GraphValue) (m : ℕ) (lefts : List ℕ) → IsUnitModel g m lefts → (k : ℕ) → k < g.vertices → FitsLater lefts m k (get_or g.neighbours k [])
+pub model_fits : (g : GraphValue) (m : ℕ) (lefts : List ℕ) → IsUnitModel g m lefts → (k : ℕ) → k < g.vertices → EndFitsLater lefts m k (get_or g.neighbours k [])
 model_fits g m lefts u k l i a b =
     let at_k : k + 1 - 1 ≡ k = omega arith in
     let at_i : i + 1 - 1 ≡ i = omega arith in
@@ -129,7 +129,7 @@ model_fits g m lefts u k l i a b =
     (subst (λ y. DifferByAtMost m (get_or lefts (k + 1 - 1) 0) (get_or lefts y 0) ↔ IsTrue (has (get_or g.neighbours (k + 1 - 1) []) (i + 1))) at_i one)
 
 -- and what fits at each vertex is a unit model
-pub model_from : (g : GraphValue) (m : ℕ) (lefts : List ℕ) → IsGraph g → 1 ≤ m → length lefts ≡ g.vertices → ((k : ℕ) → k < g.vertices → FitsLater lefts m k (get_or g.neighbours k [])) → IsUnitModel g m lefts
+pub model_from : (g : GraphValue) (m : ℕ) (lefts : List ℕ) → IsGraph g → 1 ≤ m → length lefts ≡ g.vertices → ((k : ℕ) → k < g.vertices → EndFitsLater lefts m k (get_or g.neighbours k [])) → IsUnitModel g m lefts
 model_from g m lefts h some count fits = record {
   positive = some;
   count = count;
@@ -181,8 +181,8 @@ or_none false t e = (refl, e)
 
 -- what is known where the left ends up to a place are compared
 pub record AreCompared (left m : ℕ) (lefts : List ℕ) (from to i : ℕ) (near : Bool) : Type 0 where
-  pub none : near ≡ false → AreApart left m lefts from i
-  pub some : near ≡ true → AreApart left m lefts from i → ⊥
+  pub none : near ≡ false → EndsAreApart left m lefts from i
+  pub some : near ≡ true → EndsAreApart left m lefts from i → ⊥
   pub start : to < from → i ≡ from
 
 pub compared_none : (left m : ℕ) (lefts : List ℕ) (from to : ℕ) → AreCompared left m lefts from to from false
@@ -206,7 +206,7 @@ compared_more left m lefts from to i near least most a b low high fits c = recor
   start = λ l. absurd (omega (arith, l, a, b));
 }
 
-pub compared_all : (left m : ℕ) (lefts : List ℕ) (from to i : ℕ) (near : Bool) → from ≤ i → (from ≤ to → i ≤ to) → to ≤ i → AreCompared left m lefts from to i near → IsTrue (not near) ↔ AreApart left m lefts from to
+pub compared_all : (left m : ℕ) (lefts : List ℕ) (from to i : ℕ) (near : Bool) → from ≤ i → (from ≤ to → i ≤ to) → to ≤ i → AreCompared left m lefts from to i near → IsTrue (not near) ↔ EndsAreApart left m lefts from to
 compared_all left m lefts from to i false a end b c = (λ t j k l. c.none refl j k (omega (arith, l, b)), λ apart. refl)
 compared_all left m lefts from to i true a end b c = (
   λ t. absurd (cc),
@@ -218,13 +218,13 @@ compared_all left m lefts from to i true a end b c = (
 
 -- of left ends that ascend, the first behind a place is the nearest to that there
 pub apart_ahead : (lefts : List ℕ) (m at from to : ℕ) → IsNonDecreasing lefts → at < from → to ≤ length lefts → (DifferByAtMost m (get_or lefts at 0) (get_or lefts from 0) → ⊥) →
-    AreApart (get_or lefts at 0) m lefts from to
+    EndsAreApart (get_or lefts at 0) m lefts from to
 apart_ahead lefts m at from to up l e far i a b d =
     let low : get_or lefts at 0 ≤ get_or lefts from 0 = up at from 0 (omega arith) (omega (arith, a, b, e)) in
     let high : get_or lefts from 0 ≤ get_or lefts i 0 = up from i 0 a (omega (arith, b, e)) in
     far (omega (arith, low), omega (arith, high, d.1))
 
 pub apart_by_first : (lefts : List ℕ) (m at from to : ℕ) (near : Bool) → IsNonDecreasing lefts → at < from → from < to → to ≤ length lefts →
-    (IsTrue near ↔ DifferByAtMost m (get_or lefts at 0) (get_or lefts from 0)) → IsTrue (not near) ↔ AreApart (get_or lefts at 0) m lefts from to
+    (IsTrue near ↔ DifferByAtMost m (get_or lefts at 0) (get_or lefts from 0)) → IsTrue (not near) ↔ EndsAreApart (get_or lefts at 0) m lefts from to
 apart_by_first lefts m at from to true up l k e h = (λ t. absurd (cc), λ apart. absurd (apart from (omega arith) k (h.0 refl)))
 apart_by_first lefts m at from to false up l k e h = (λ t. apart_ahead lefts m at from to up l e (λ d. both_ways false refl (h.1 d)), λ apart. refl)

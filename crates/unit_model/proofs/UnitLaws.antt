@@ -3,7 +3,7 @@ use Rattle.std.proofs.Common.{◌≡◌, ◌∙◌, ℕ, ◌+◌, ◌-◌, List,
 use Rattle.std.proofs.lemmas.Bool.{cases_lt}
 use Rattle.std.proofs.lemmas.List.{get_or-map, length-map}
 use Rattle.row_model.specs.declared.lists.Interval.{Interval}
-use Rattle.graph_read.specs.Graphs.{GraphValue}
+use Rattle.graph_model.specs.Graphs.{GraphValue}
 use Rattle.proper_interval.specs.Models.{IsVertex, IsProperModel, ShareNumber, ContainsInterval, interval_of}
 use Rattle.proper_interval.specs.Laws.{ModelLaw}
 use Rattle.unit_model.specs.Models.{IsUnitModel, DifferByAtMost, at_vertex}

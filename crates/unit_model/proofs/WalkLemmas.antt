@@ -4,15 +4,15 @@ use Rattle.std.proofs.lemmas.Bool.{cases_eq, cases_lt}
 use Rattle.column_order.specs.Orders.{place}
 use Rattle.column_order.proofs.Lists.{has_at, at_place, place_at, place-inj}
 use Rattle.column_order.proofs.Counts.{order_once, order_within, order_has}
-use Rattle.graph_read.specs.Graphs.{GraphValue, IsGraph}
+use Rattle.graph_model.specs.Graphs.{GraphValue, IsGraph}
 use Rattle.proper_interval.specs.Models.{IsVertex}
 use Rattle.proper_interval.specs.Umbrellas.{IsUmbrellaOrder}
 use Rattle.unit_model.specs.Walks.{Walks, IsDistance, IsFirstOf}
-use Rattle.unit_model.specs.Drawing.{Joined, HasNoneBefore, IsFirstBefore}
+use Rattle.unit_model.specs.Drawing.{IsNeighbour, HasNoneBefore, IsFirstBefore}
 
 -- no edge leads from before a place of the order to it or past it
 abbrev pub IsCut : GraphValue → List ℕ → ℕ → Type 0
-IsCut g o i = (x y : ℕ) → IsVertex g x → IsVertex g y → place o x < i → Joined g x y → place o y < i
+IsCut g o i = (x y : ℕ) → IsVertex g x → IsVertex g y → place o x < i → IsNeighbour g x y → place o y < i
 
 module _ (g : GraphValue) (o : List ℕ) (h : IsGraph g) (r : IsUmbrellaOrder g o) where
   pub vertex : (i : ℕ) → i < length o → IsVertex g (get_or o i 0)
@@ -24,16 +24,16 @@ module _ (g : GraphValue) (o : List ℕ) (h : IsGraph g) (r : IsUmbrellaOrder g 
   pub back : (v : ℕ) → IsVertex g v → (place o v < length o) × (get_or o (place o v) 0 ≡ v)
   back v s = at_place o v (order_has g.vertices o r.order v s.0 s.1)
 
-  pub turned : (a b : ℕ) → IsVertex g a → IsVertex g b → Joined g a b → Joined g b a
+  pub turned : (a b : ℕ) → IsVertex g a → IsVertex g b → IsNeighbour g a b → IsNeighbour g b a
   turned a b va vb e = h.symmetric b a vb.0 va.0 ∙ e
 
   -- an edge covers all between its ends
-  pub covers : (u v w : ℕ) → IsVertex g u → IsVertex g v → IsVertex g w → place o u < place o v → place o v < place o w → Joined g u w → Joined g u v × Joined g v w
+  pub covers : (u v w : ℕ) → IsVertex g u → IsVertex g v → IsVertex g w → place o u < place o v → place o v < place o w → IsNeighbour g u w → IsNeighbour g u v × IsNeighbour g v w
   covers u v w vu vv vw a b e =
       let bu = back u vu in
       let bv = back v vv in
       let bw = back w vw in
-      let outer : Joined g (get_or o (place o u) 0) (get_or o (place o w) 0) = rw (bu.1, bw.1) e in
+      let outer : IsNeighbour g (get_or o (place o u) 0) (get_or o (place o w) 0) = rw (bu.1, bw.1) e in
       let inner = r.under (place o u) (place o v) (place o w) a b bw.0 outer in
       (rw (bu.1, bv.1) at inner.0, rw (bv.1, bw.1) at inner.1)
 
@@ -46,7 +46,7 @@ module _ (g : GraphValue) (o : List ℕ) (h : IsGraph g) (r : IsUmbrellaOrder g 
       elim (cases_lt (place o y) (place o w)) [
         | inr l ↦ let s = reaches f w vw a j y t.1.0 l t.1.1 in (s.0, (omega (arith, s.1.0), s.1.1))
         | inl l ↦ elim (cases_eq (place o w) (place o x)) [
-          | inl e ↦ (suc j, (omega arith, (y, (t.1.0, t.1.1, subst (λ z. Joined g y z) (sym (place-inj o w x e)) t.1.2))))
+          | inl e ↦ (suc j, (omega arith, (y, (t.1.0, t.1.1, subst (λ z. IsNeighbour g y z) (sym (place-inj o w x e)) t.1.2))))
           | inr n ↦ (suc j, (omega arith, (y, (t.1.0, t.1.1, (covers y w x t.1.0 vw vx l (omega (arith, b, n)) t.1.2).0))))
         ]
       ]
@@ -64,7 +64,7 @@ module _ (g : GraphValue) (o : List ℕ) (h : IsGraph g) (r : IsUmbrellaOrder g 
         | inr k ↦ elim (cases_eq (place o y) i) [
           | inl s ↦
               let same : y ≡ v = place-inj o y v (omega (arith, s, at)) in
-              absurd (omega (arith, l, none x vx (subst (λ z. Joined g x z) same e)))
+              absurd (omega (arith, l, none x vx (subst (λ z. IsNeighbour g x z) same e)))
           | inr n ↦ absurd (omega (arith, l, none x vx (covers x v y vx vv vy (omega (arith, l, at)) (omega (arith, k, n, at)) e).0))
         ]
       ]
@@ -118,11 +118,11 @@ module _ (g : GraphValue) (o : List ℕ) (h : IsGraph g) (r : IsUmbrellaOrder g 
       let before = reaches f a va (first.first a 0 va refl) t b vb l db.walk in
       omega (arith, before.1.0, da.least before.0 before.1.1)
 
-  pub layers_next : (f a b s t : ℕ) → IsVertex g a → IsDistance g f a s → IsDistance g f b t → Joined g a b → t ≤ s + 1
+  pub layers_next : (f a b s t : ℕ) → IsVertex g a → IsDistance g f a s → IsDistance g f b t → IsNeighbour g a b → t ≤ s + 1
   layers_next f a b s t va da db e = omega (arith, db.least (suc s) (a, (va, da.walk, e)))
 
   -- the vertices of a layer are adjacent
-  pub layer_joined : (f a b t : ℕ) → IsVertex g a → IsVertex g b → IsFirstOf g o f a → IsDistance g f a t → IsDistance g f b t → place o a < place o b → Joined g a b
+  pub layer_joined : (f a b t : ℕ) → IsVertex g a → IsVertex g b → IsFirstOf g o f a → IsDistance g f a t → IsDistance g f b t → place o a < place o b → IsNeighbour g a b
   layer_joined f a b zero va vb first da db l = absurd (omega (arith, l, ap (place o) (sym da.walk ∙ db.walk)))
   layer_joined f a b (suc t) va vb first da db l =
       let w = db.walk.0 in
@@ -133,15 +133,15 @@ module _ (g : GraphValue) (o : List ℕ) (h : IsGraph g) (r : IsUmbrellaOrder g 
       ]
 
   -- after the first neighbour of a vertex, all vertices before it are its neighbours
-  pub joined_from : (i u v b : ℕ) → IsVertex g v → place o v ≡ i → IsFirstBefore g o i u v → IsVertex g b → place o u ≤ place o b → place o b < i → Joined g b v
+  pub joined_from : (i u v b : ℕ) → IsVertex g v → place o v ≡ i → IsFirstBefore g o i u v → IsVertex g b → place o u ≤ place o b → place o b < i → IsNeighbour g b v
   joined_from i u v b vv at e vb l k =
       elim (cases_eq (place o u) (place o b)) [
-        | inl s ↦ subst (λ z. Joined g z v) (place-inj o u b s) e.joined
+        | inl s ↦ subst (λ z. IsNeighbour g z v) (place-inj o u b s) e.joined
         | inr n ↦ (covers u b v e.vertex vb vv (omega (arith, l, n)) (omega (arith, k, at)) e.joined).1
       ]
 
   -- a vertex of its layer is a neighbour of its first neighbour
-  pub first_joined : (i u v f a t : ℕ) → IsVertex g v → place o v ≡ i → IsFirstBefore g o i u v → IsVertex g a → place o a < i → IsFirstOf g o f a → IsDistance g f a (t + 1) → IsDistance g f u t → Joined g u a
+  pub first_joined : (i u v f a t : ℕ) → IsVertex g v → place o v ≡ i → IsFirstBefore g o i u v → IsVertex g a → place o a < i → IsFirstOf g o f a → IsDistance g f a (t + 1) → IsDistance g f u t → IsNeighbour g u a
   first_joined i u v f a t vv at e va k first da du =
       elim (cases_lt (place o u) (place o a)) [
         | inl l ↦ (covers u a v e.vertex va vv l (omega (arith, k, at)) e.joined).0

@@ -1,24 +1,24 @@
 -- What is kept of the order while the left ends are found.
 use Rattle.std.specs.Prelude.{◌≡◌, ℕ, suc, ◌+◌, ◌≤◌, ◌<◌, List, [], ◌∷◌, length, IsTrue}
 use Rattle.column_order.specs.Orders.{has, occurs, place, IsWithin}
-use Rattle.graph_read.specs.Graphs.{GraphValue, has_edge}
+use Rattle.graph_model.specs.Graphs.{GraphValue, has_edge}
 use Rattle.proper_interval.specs.Models.{IsVertex}
 use Rattle.unit_model.specs.Models.{at_vertex}
 
 -- the two vertices are adjacent
-abbrev pub Joined : GraphValue → ℕ → ℕ → Type 0
-Joined g u v = IsTrue (has_edge g.neighbours u v)
+abbrev pub IsNeighbour : GraphValue → ℕ → ℕ → Type 0
+IsNeighbour g u v = IsTrue (has_edge g.neighbours u v)
 
 -- a vertex has no neighbour before a place of the order
 abbrev pub HasNoneBefore : GraphValue → List ℕ → ℕ → ℕ → Type 0
-HasNoneBefore g o i v = (w : ℕ) → IsVertex g w → Joined g w v → i ≤ place o w
+HasNoneBefore g o i v = (w : ℕ) → IsVertex g w → IsNeighbour g w v → i ≤ place o w
 
 -- u is the first neighbour of v in the order, and it stands before a place
 pub record IsFirstBefore (g : GraphValue) (o : List ℕ) (i u v : ℕ) : Type 0 where
   pub vertex : IsVertex g u
-  pub joined : Joined g u v
+  pub joined : IsNeighbour g u v
   pub before : place o u < i
-  pub first : (w : ℕ) → IsVertex g w → Joined g w v → place o u ≤ place o w
+  pub first : (w : ℕ) → IsVertex g w → IsNeighbour g w v → place o u ≤ place o w
 
 -- each number of the list has the one before it in the list
 abbrev pub IsLinked : List ℕ → ℕ → List ℕ → Type 0

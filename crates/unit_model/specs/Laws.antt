@@ -1,6 +1,6 @@
 -- What unit models say of the umbrella orders (Roberts, 1969), and what is said of their texts.
 use Rattle.std.specs.Prelude.{◌≡◌, ◌≤◌, ℕ, List, length}
-use Rattle.graph_read.specs.Graphs.{GraphValue, IsGraph}
+use Rattle.graph_model.specs.Graphs.{GraphValue, IsGraph}
 use Rattle.proper_interval.specs.Umbrellas.{IsUmbrellaOrder}
 use Rattle.unit_model.specs.Models.{IsUnitModel}
 use Rattle.unit_model.specs.Text.{UnitValue, IsUnit, unit_text}

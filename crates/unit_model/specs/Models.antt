@@ -1,7 +1,7 @@
 -- Models of a graph by intervals of one length (Roberts, 1969).
 use Rattle.std.specs.Prelude.{◌≡◌, ◌≢◌, ◌↔◌, ℕ, ◌+◌, ◌-◌, ◌≤◌, List, length, map, slice_index, IsTrue}
 use Rattle.row_model.specs.declared.lists.Interval.{Interval}
-use Rattle.graph_read.specs.Graphs.{GraphValue, has_edge}
+use Rattle.graph_model.specs.Graphs.{GraphValue, has_edge}
 use Rattle.proper_interval.specs.Models.{IsVertex}
 
 -- the number of a vertex, as its left end, where a list has one for each vertex in turn

@@ -2,7 +2,7 @@
 -- of its component.
 use Rattle.std.specs.Prelude.{◌≡◌, ◌⊎◌, ℕ, ◌+◌, ◌-◌, ◌*◌, ◌≤◌, ◌<◌, ◌==◌, false, if◌then◌else◌, List, [], ◌∷◌, length, IsTrue}
 use Rattle.column_order.specs.Orders.{has, place}
-use Rattle.graph_read.specs.Graphs.{GraphValue, has_edge}
+use Rattle.graph_model.specs.Graphs.{GraphValue, has_edge}
 use Rattle.proper_interval.specs.Models.{IsVertex}
 use Rattle.unit_model.specs.Models.{at_vertex}
 use Rattle.unit_model.specs.Walks.{IsDistance, IsFirstOf}

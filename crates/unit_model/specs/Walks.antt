@@ -1,7 +1,7 @@
 -- Walks and distances in a graph, and the components by an order of the vertices.
 use Rattle.std.specs.Prelude.{◌≡◌, ℕ, zero, suc, ◌≤◌, List, IsTrue}
 use Rattle.column_order.specs.Orders.{place}
-use Rattle.graph_read.specs.Graphs.{GraphValue, has_edge}
+use Rattle.graph_model.specs.Graphs.{GraphValue, has_edge}
 use Rattle.proper_interval.specs.Models.{IsVertex}
 
 -- there is a walk of so many edges from the first vertex to the second

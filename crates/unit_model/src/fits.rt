@@ -3,9 +3,9 @@ ghost use Rattle.std.specs.Prelude.{◌≡◌, ◌≢◌, ◌↔◌, ◌+◌, �
 ghost use Rattle.std.specs.List.Sorted.{IsNonDecreasing};
 ghost use Rattle.row_model.specs.Rows.{IsRow};
 ghost use Rattle.unit_model.specs.Models.{IsUnitModel, DifferByAtMost};
-ghost use Rattle.unit_model.specs.Fitting.{FitsLater, AreApart};
+ghost use Rattle.unit_model.specs.Fitting.{EndFitsLater, EndsAreApart};
 
-use graph_read::Graph;
+use graph_model::Graph;
 
 /// Whether left ends, vertex by vertex, and a length are a unit model of the graph (Roberts, 1969).
 ///
@@ -47,7 +47,7 @@ fn fits_later(lefts: &[u64], ascending: bool, length: u64, at: usize, neighbours
     requires ascending { IsTrue ascending → IsNonDecreasing lefts.now }
     requires at { at < count_of lefts.now }
     requires neighbours { IsRow (count_of lefts.now) neighbours.now }
-    ensures { IsTrue result ↔ FitsLater lefts.now length at neighbours.now }
+    ensures { IsTrue result ↔ EndFitsLater lefts.now length at neighbours.now }
 {
     let left = lefts[at];
     let mut from = at + 1;
@@ -71,7 +71,7 @@ fn are_apart(lefts: &[u64], ascending: bool, length: u64, at: usize, from: usize
     requires later { at < from }
     requires within { to ≤ count_of lefts.now }
     requires ascending { IsTrue ascending → IsNonDecreasing lefts.now }
-    ensures { IsTrue result ↔ AreApart (slice_index lefts.now at) length lefts.now from to }
+    ensures { IsTrue result ↔ EndsAreApart (slice_index lefts.now at) length lefts.now from to }
 {
     if from >= to {
         return true;
@@ -86,7 +86,7 @@ fn are_apart(lefts: &[u64], ascending: bool, length: u64, at: usize, from: usize
 // them, so that several are compared at once.
 fn is_alone(left: u64, length: u64, lefts: &[u64], from: usize, to: usize) -> bool
     requires { to ≤ count_of lefts.now }
-    ensures { IsTrue result ↔ AreApart left length lefts.now from to }
+    ensures { IsTrue result ↔ EndsAreApart left length lefts.now from to }
 {
     let least = left.saturating_sub(length);
     let most = left.saturating_add(length);

@@ -1,14 +1,14 @@
 // The unit model that an umbrella order gives.
 ghost use Rattle.std.specs.Prelude.{◌≡◌, ◌≤◌, ◌<◌, ◌+◌, ◌^◌, ℕ, length, slice_index, All, IfOk, IfSome, IfNone};
 ghost use Rattle.row_model.specs.Positions.{ArePositions};
-ghost use Rattle.graph_read.specs.Graphs.{IsGraph};
+ghost use Rattle.graph_model.specs.Graphs.{IsGraph};
 ghost use Rattle.proper_interval.specs.Umbrellas.{IsUmbrellaOrder};
 ghost use Rattle.unit_model.specs.Models.{IsUnitModel, lefts_of};
 ghost use Rattle.unit_model.specs.Rule.{AreLeftEnds};
 ghost use Rattle.unit_model.specs.Drawing.{IsFirstBefore, HasNoneBefore};
 
 use crate::drawing::Drawing;
-use graph_read::Graph;
+use graph_model::Graph;
 use row_model::{Interval, Intervals, NoMemory, positions, span_of};
 use std::alloc::Global;
 

@@ -6,7 +6,7 @@ use Rattle.row_model.specs.declared.kind.Kind.TheVariants.{Clones}
 use Rattle.row_model.specs.declared.graph.Line.{Line}
 use Rattle.row_model.specs.declared.lists.Interval.{Interval}
 use Rattle.row_model.specs.Rows.{RowList}
-use Rattle.graph_read.specs.Graphs.{GraphValue}
+use Rattle.graph_model.specs.Graphs.{GraphValue}
 use Rattle.proper_interval.specs.Models.{IsProperModel}
 use Rattle.verdict_text.specs.Grammar.{IsClaim, IsVerdict}
 use Rattle.verdict_text.specs.declared.verdict.Version.{Version}

@@ -3,7 +3,7 @@ use Rattle.std.proofs.Common.{◌≡◌, ℕ, zero, suc, ◌-◌, ◌≤◌, Lis
 use Rattle.std.specs.Prelude.{IsSomeAnd}
 use Rattle.std.proofs.lemmas.Option.{none-some, same_Some}
 use Rattle.row_model.specs.Rows.{RowList}
-use Rattle.graph_read.specs.Graphs.{BigraphValue}
+use Rattle.graph_model.specs.Graphs.{BigraphValue}
 use Rattle.pq_tree.specs.Outline.{Outline}
 use Rattle.pq_tree.specs.Proper.{IsProper}
 use Rattle.verdict_text.specs.Grammar.{IsSide, AreSides}

@@ -1,6 +1,6 @@
 // The tests of what a kind adds to a yes: intervals, or places and contigs.
 ghost use Rattle.std.specs.Prelude.{◌↔◌, IfOk, IsTrue};
-ghost use Rattle.graph_read.specs.Graphs.{GraphValue};
+ghost use Rattle.graph_model.specs.Graphs.{GraphValue};
 ghost use Rattle.verdict_text.specs.Grammar.{HasAdded};
 ghost use Rattle.verdict_text.specs.Value.{yes_value};
 ghost use Rattle.instance_model.specs.Instance.{instance_kind, instance_columns, proper};

@@ -9,7 +9,7 @@ ghost use Rattle.verdict_check.specs.YesTests.{PassesOrder, PassesYes};
 ghost use Rattle.verdict_check.specs.Found.{Finds};
 
 use crate::outcome::Reason;
-use graph_read::Graph;
+use graph_model::Graph;
 use proper_interval::{fits, intervals};
 use row_model::{Interval, NoMemory};
 use std::alloc::Global;

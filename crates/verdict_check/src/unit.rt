@@ -2,7 +2,7 @@
 ghost use Rattle.std.specs.Prelude.{◌≡◌, ◌≢◌, ◌↔◌};
 ghost use Rattle.unit_model.specs.Models.{IsUnitModel};
 
-use graph_read::Graph;
+use graph_model::Graph;
 use unit_model::{UnitText, unit_fits};
 
 /// What comes of judging a unit model.

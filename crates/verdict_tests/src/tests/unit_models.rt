@@ -1,5 +1,5 @@
 // Unit models of the path of four vertices, worked by hand.
-use graph_read::Graph;
+use graph_model::Graph;
 use std::test::Fail;
 use unit_model::UnitText;
 use verdict_check::{UnitChecked, check_unit};

@@ -3,7 +3,7 @@ ghost use Rattle.std.specs.Prelude.{IfOk};
 ghost use Rattle.instance_model.specs.Instance.{IsInstance};
 ghost use Rattle.instance_model.specs.Value.{instance_value};
 
-use graph_read::{Bigraph, Graph};
+use graph_model::{Bigraph, Graph};
 use row_model::{Kind, Matrix};
 use std::alloc::Global;
 use std::process::Abort;

@@ -4,7 +4,7 @@ ghost use Rattle.instance_model.specs.Instance.{IsInstance};
 ghost use Rattle.instance_model.specs.Value.{instance_value};
 
 use super::version_1::spider;
-use graph_read::Bigraph;
+use graph_model::Bigraph;
 use pair_classes::{Classes, even_classes};
 use pq_tree::PqTree;
 use row_model::{Kind, Matrix, NoMemory};

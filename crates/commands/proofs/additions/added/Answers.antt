@@ -1,4 +1,4 @@
-use Rattle.graph_read.specs.Graphs.{IsGraph}
+use Rattle.graph_model.specs.Graphs.{IsGraph}
 use Rattle.proper_interval.specs.Umbrellas.{closed_of}
 use Rattle.instance_model.specs.Instance.{proper}
 use Rattle.instance_model.specs.Laws.{IsValidFor}

@@ -3,7 +3,7 @@ use Rattle.pq_tree.specs.Outline.{Outline}
 use Rattle.pq_tree.specs.Proper.{IsProper}
 use Rattle.pq_tree.specs.Text.{tree_text}
 use Rattle.pq_tree.specs.PqTree.{column_count, outline}
-use Rattle.matrix_read.specs.Lines.{without_mark}
+use Rattle.text_lines.specs.Lines.{without_mark}
 use Rattle.commands.specs.TreeFiles.{without_end}
 use Rattle.commands.proofs.Files.{parsed_tree, parsed_none}
 use Rattle.commands.proofs.tree_file.tree_in.Goals as goal

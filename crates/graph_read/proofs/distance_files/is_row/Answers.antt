@@ -1,6 +1,6 @@
 use Rattle.std.proofs.Common.{◌≡◌, ◌≢◌, ◌-◌, ◌==◌, suc, sym, arith}
 use Rattle.std.proofs.lemmas.Bool.{ne_eqb, and_right}
-use Rattle.graph_read.specs.Distances.{distance}
+use Rattle.graph_model.specs.Distances.{distance}
 use Rattle.graph_read.specs.DistanceSteps.{is_symmetric_at}
 use Rattle.graph_read.proofs.DistanceLemmas.{not_symmetric}
 use Rattle.graph_read.proofs.distance_files.is_row.Goals as goal

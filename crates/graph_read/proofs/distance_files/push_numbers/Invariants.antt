@@ -1,5 +1,5 @@
 use Rattle.std.proofs.Common.{◌≡◌, ◌≤◌, ◌-◌, drop, length}
-use Rattle.matrix_read.specs.Words.{words_of}
+use Rattle.text_lines.specs.Words.{words_of}
 use Rattle.graph_read.specs.DistanceSteps.{numbers_behind}
 use Rattle.graph_read.proofs.distance_files.push_numbers.Given as goal
 

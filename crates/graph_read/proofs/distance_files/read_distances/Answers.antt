@@ -1,6 +1,6 @@
 use Rattle.std.proofs.Common.{◌≡◌, ◌∙◌, ◌+◌, ap, sym, arith, drop}
 use Rattle.row_model.specs.declared.refusal.Read.TheVariants as read
-use Rattle.matrix_read.specs.Lines.{lines_of, filled_lines}
+use Rattle.text_lines.specs.Lines.{lines_of, filled_lines}
 use Rattle.graph_read.specs.DistanceFiles.{distances, distances_lines, distances_behind}
 use Rattle.graph_read.specs.DistanceSteps.{distances_with}
 use Rattle.graph_read.proofs.DistanceLemmas.{distances_long, distances_short, are_distances}

@@ -1,6 +1,6 @@
 use Rattle.std.proofs.Common.{◌≡◌, ◌∙◌, ◌+◌, ap, sym, arith, drop}
 use Rattle.row_model.specs.declared.refusal.Read.TheVariants as read
-use Rattle.matrix_read.specs.Lines.{lines_of, filled_lines}
+use Rattle.text_lines.specs.Lines.{lines_of, filled_lines}
 use Rattle.graph_read.specs.Edges.{right_of, lists_of_lines}
 use Rattle.graph_read.specs.GraphFiles.{graph, graph_with, graph_behind, graph_lines}
 use Rattle.graph_read.proofs.ListLemmas.{are_lists}

@@ -3,4 +3,4 @@ use Rattle.graph_read.proofs.TableRefusals.{distances_refusals}
 use Rattle.graph_read.proofs.laws.refusal_laws.Goals as goal
 
 pub returns : goal.returns
-returns c = record { bigraph = bigraph_refusals c.refusal_laws.ensures.first; graph = graph_refusals c.refusal_laws.ensures.first; distances = distances_refusals c.refusal_laws.ensures.first }
+returns c = record { bigraph = bigraph_refusals; graph = graph_refusals; distances = distances_refusals }

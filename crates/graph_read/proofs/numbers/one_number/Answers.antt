@@ -1,5 +1,5 @@
 use Rattle.std.proofs.Common.{◌≡◌, ◌∙◌, ◌∷◌, [], ap, sym}
-use Rattle.matrix_read.specs.Words.{words_of}
+use Rattle.text_lines.specs.Words.{words_of}
 use Rattle.graph_read.specs.Numbers.{one_number, if_number}
 use Rattle.graph_read.proofs.numbers.one_number.Goals as goal
 

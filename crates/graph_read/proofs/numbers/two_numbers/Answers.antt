@@ -1,5 +1,5 @@
 use Rattle.std.proofs.Common.{◌≡◌, ◌∙◌, ◌∷◌, [], ap, sym}
-use Rattle.matrix_read.specs.Words.{words_of, numeral_of}
+use Rattle.text_lines.specs.Words.{words_of, numeral_of}
 use Rattle.graph_read.specs.Numbers.{two_numbers, both_numbers}
 use Rattle.graph_read.proofs.numbers.two_numbers.Goals as goal
 

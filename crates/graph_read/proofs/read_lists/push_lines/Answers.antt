@@ -1,7 +1,7 @@
 use Rattle.std.proofs.Common.{◌≡◌, ◌∙◌, ◌+◌, ◌*◌, ◌<◌, ◌∷◌, ◌++◌, [], drop, sym, ap, refl, append_assoc}
 use Rattle.std.proofs.lemmas.List.{append-nil}
 use Rattle.std.proofs.lemmas.List.Elements.{All-nil}
-use Rattle.matrix_read.specs.Lines.{lines_of, filled_lines}
+use Rattle.text_lines.specs.Lines.{lines_of, filled_lines}
 use Rattle.graph_read.specs.Edges.{left_of, right_of, edges_of, edge_refusal}
 use Rattle.graph_read.proofs.EdgeSteps.{no_refusal, edge_stop, edge_step, edges_step}
 use Rattle.graph_read.proofs.PlaceLemmas.{places_none}

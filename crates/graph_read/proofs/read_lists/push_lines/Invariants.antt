@@ -1,6 +1,6 @@
 use Rattle.std.proofs.Common.{◌≡◌, ◌<◌, ◌≤◌, ◌+◌, ◌*◌, ◌-◌, ◌++◌, List, drop, length}
 use Rattle.std.specs.List.{All}
-use Rattle.matrix_read.specs.Lines.{lines_of, filled_lines}
+use Rattle.text_lines.specs.Lines.{lines_of, filled_lines}
 use Rattle.graph_read.specs.declared.edges.Edge.{Edge}
 use Rattle.graph_read.specs.Edges.{left_of, right_of, edges_of, edge_refusal, ways}
 use Rattle.graph_read.specs.Places.{ArePlaces}

@@ -1,7 +1,7 @@
 use Rattle.std.proofs.Common.{◌≡◌, ◌+◌, drop, sym, ap, arith, None, Some}
 use Rattle.std.proofs.lemmas.Nat.{mul-le}
-use Rattle.matrix_read.specs.Lines.{lines_of, filled_lines}
-use Rattle.matrix_read.specs.Rows.{refused_or}
+use Rattle.text_lines.specs.Lines.{lines_of, filled_lines}
+use Rattle.text_lines.specs.Rows.{refused_or}
 use Rattle.graph_read.specs.Edges.{left_of, right_of, ways, edges_of, edge_refusal, lists_of}
 use Rattle.graph_read.specs.Places.{ArePlaces}
 use Rattle.graph_read.proofs.ListLemmas.{lists_read}

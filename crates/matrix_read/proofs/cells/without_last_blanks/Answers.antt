@@ -1,5 +1,5 @@
 use Rattle.std.proofs.Common.{◌≡◌, ◌-◌, suc, arith, sym, ◌∙◌, true, false, get_or}
-use Rattle.matrix_read.specs.Lines.{is_blank_byte}
+use Rattle.text_lines.specs.Lines.{is_blank_byte}
 use Rattle.matrix_read.proofs.TableLemmas.{kept_before, dropped_before}
 use Rattle.matrix_read.proofs.cells.without_last_blanks.Goals as goal
 

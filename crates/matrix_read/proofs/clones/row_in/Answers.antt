@@ -1,6 +1,6 @@
 use Rattle.std.proofs.Common.{◌≡◌, ◌∙◌, if◌then◌else◌, Bool, Some, None, sym, ap, map, length}
 use Rattle.row_model.specs.declared.code.TheConstants.{RANGE}
-use Rattle.matrix_read.specs.Rows.{columns_among}
+use Rattle.text_lines.specs.Rows.{columns_among}
 use Rattle.matrix_read.specs.Clones.{column_of, names_code}
 use Rattle.matrix_read.specs.CloneNames.{names_view, row_of_clone}
 use Rattle.matrix_read.specs.Names.{bytes_of}
@@ -8,8 +8,8 @@ use Rattle.matrix_read.proofs.RowLemmas.{marked_is}
 use Rattle.matrix_read.proofs.CloneLemmas.{length-bytes}
 use Rattle.matrix_read.proofs.clones.row_in.Goals as goal
 
-pub returns-in-Ok-clause-row : goal.returns-in-Ok-clause-row
-returns-in-Ok-clause-row c =
+pub returns-clause-row : goal.returns-clause-row
+returns-clause-row c =
     let keys = c.args.names.now.keys in
     let probes = bytes_of keys in
     let marks = c.mark_names.new.marks in
@@ -18,9 +18,9 @@ returns-in-Ok-clause-row c =
     let numbers = map (column_of probes) (bytes_of list) in
     let same : length marks ≡ length c.args.marks.now = c.mark_names.auto.marks in
     let width : length marks ≡ length probes = same ∙ c.requires.marks ∙ sym (length-bytes keys) in (
-      ap (names_code probes) view ∙ ap (λ (b : Bool). if b then None else Some RANGE) c.in-Ok.ensures.named,
+      ap (names_code probes) view ∙ ap (λ (b : Bool). if b then None else Some RANGE) c.in_ok-mark_names.ensures.named,
       c.take_marked.ensures.columns
-          ∙ marked_is marks numbers (λ j lt. c.in-Ok.ensures.marks j (rw same at lt))
+          ∙ marked_is marks numbers (λ j lt. c.in_ok-mark_names.ensures.marks j (rw same at lt))
           ∙ ap (λ n. columns_among n numbers) width
           ∙ sym (ap (row_of_clone probes) view),
     )

@@ -1,6 +1,6 @@
 use Rattle.std.proofs.Common.{◌≡◌, ◌∷◌, ◌++◌, [], length, slice_range, drop, ◌+◌, sym, ap, ◌∙◌, refl, Some, None, List, ℕ}
 use Rattle.row_model.specs.Rows.{RowList}
-use Rattle.matrix_read.specs.Lines.{lines_of, filled_lines}
+use Rattle.text_lines.specs.Lines.{lines_of, filled_lines}
 use Rattle.matrix_read.specs.Dense.{row_code, digit_row}
 use Rattle.matrix_read.proofs.RowLemmas.{answer_after, answer_stop, answer_step, answer_end}
 use Rattle.matrix_read.proofs.DenseLemmas.{row_ascends, row_code-width}

@@ -1,5 +1,5 @@
 use Rattle.std.proofs.Common.{◌≡◌, ap, sym, ◌∙◌}
-use Rattle.matrix_read.specs.Lines.{lines_of, filled_lines}
+use Rattle.text_lines.specs.Lines.{lines_of, filled_lines}
 use Rattle.matrix_read.specs.Dense.{dense, read_lines}
 use Rattle.matrix_read.specs.DenseSteps.{rows_or_refusal}
 use Rattle.matrix_read.proofs.DenseLemmas.{dense_long, dense_short}

@@ -1,4 +1,5 @@
-use Rattle.matrix_read.proofs.RefusalLemmas.{first_line_law, dense_refusals, sparse_refusals, further_refusals}
+use Rattle.text_lines.proofs.FirstRefused.{first_line_law}
+use Rattle.matrix_read.proofs.RefusalLemmas.{dense_refusals, sparse_refusals, further_refusals}
 use Rattle.matrix_read.proofs.CloneCauses.{clone_refusals}
 use Rattle.matrix_read.proofs.TableLemmas.{table_refusals}
 use Rattle.matrix_read.proofs.laws.refusal_laws.Goals as goal

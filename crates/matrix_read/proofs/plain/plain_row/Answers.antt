@@ -1,13 +1,13 @@
 use Rattle.std.proofs.Common.{◌≡◌, ◌∙◌, ◌<◌, ◌+◌, ◌∷◌, ◌++◌, [], List, ℕ, length, take, drop, set, sym, ap, refl, arith}
 use Rattle.std.proofs.lemmas.List.{append-nil}
 use Rattle.row_model.specs.Rows.{IsRow}
-use Rattle.matrix_read.specs.Lines.{first_line, without_return}
-use Rattle.matrix_read.specs.Words.{words_of, IsFirstNumber}
-use Rattle.matrix_read.specs.declared.words.Numeral.TheVariants.{Value}
+use Rattle.text_lines.specs.Lines.{first_line, without_return}
+use Rattle.text_lines.specs.Words.{words_of, IsFirstNumber}
+use Rattle.text_lines.specs.declared.words.Numeral.TheVariants.{Value}
 use Rattle.matrix_read.specs.Sparse.{columns_named, words_code, row_named}
-use Rattle.matrix_read.proofs.TextLemmas.{no_words}
+use Rattle.text_lines.proofs.TextLemmas.{no_words}
 use Rattle.matrix_read.proofs.SparseLemmas.{code_behind, columns_behind, one_more_column, row_listed, words_end}
-use Rattle.matrix_read.proofs.PlainLemmas.{some_digits, space_len, space_return, space_number, feed_len, feed_return, feed_number, lines_behind}
+use Rattle.text_lines.proofs.PlainLemmas.{some_digits, space_len, space_return, space_number, feed_len, feed_return, feed_number, lines_behind}
 use Rattle.matrix_read.proofs.plain.plain_row.Goals as goal
 
 pub loop-last-preserved : goal.loop-last-preserved

@@ -1,7 +1,7 @@
 use Rattle.std.proofs.Common.{◌≡◌, ◌≤◌, ◌+◌, ◌-◌, ◌++◌, List, ℕ, drop, take, length}
 use Rattle.row_model.specs.Rows.{Ascends}
-use Rattle.matrix_read.specs.Lines.{line_len, first_line, without_return}
-use Rattle.matrix_read.specs.Words.{words_of}
+use Rattle.text_lines.specs.Lines.{line_len, first_line, without_return}
+use Rattle.text_lines.specs.Words.{words_of}
 use Rattle.matrix_read.specs.Sparse.{words_code, columns_named}
 use Rattle.matrix_read.proofs.plain.plain_row.Given as goal
 

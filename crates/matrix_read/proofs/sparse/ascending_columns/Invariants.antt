@@ -1,6 +1,6 @@
 use Rattle.std.proofs.Common.{◌≡◌, ◌≤◌, ◌-◌, ◌++◌, List, ℕ, drop, take, length}
 use Rattle.row_model.specs.Rows.{Ascends}
-use Rattle.matrix_read.specs.Words.{words_of}
+use Rattle.text_lines.specs.Words.{words_of}
 use Rattle.matrix_read.specs.Sparse.{words_code, columns_named}
 use Rattle.matrix_read.proofs.sparse.ascending_columns.Given as goal
 

@@ -1,10 +1,11 @@
 use Rattle.std.proofs.Common.{◌≡◌, ◌∷◌, ◌++◌, ◌+◌, [], List, ℕ, length, drop, sym, ◌∙◌, ap, arith, Some, None}
 use Rattle.row_model.specs.Rows.{RowList}
-use Rattle.matrix_read.specs.Lines.{line_len, first_line, without_return, lines_of, NumberedLine}
-use Rattle.matrix_read.specs.Rows.{numbered_lines}
+use Rattle.text_lines.specs.Lines.{line_len, first_line, without_return, lines_of, NumberedLine}
+use Rattle.text_lines.specs.Rows.{numbered_lines}
 use Rattle.matrix_read.specs.Sparse.{line_code, row_named}
-use Rattle.matrix_read.proofs.LineLemmas.{lines_split, no_lines}
-use Rattle.matrix_read.proofs.RowLemmas.{numbered_step, numbered_none, answer_after, answer_stop, answer_step, answer_end}
+use Rattle.text_lines.proofs.LineLemmas.{lines_split, no_lines}
+use Rattle.text_lines.proofs.FirstRefused.{numbered_step, numbered_none}
+use Rattle.matrix_read.proofs.RowLemmas.{answer_after, answer_stop, answer_step, answer_end}
 use Rattle.matrix_read.proofs.SparseLemmas.{row_ascends}
 use Rattle.matrix_read.proofs.sparse.push_rows.Goals as goal
 

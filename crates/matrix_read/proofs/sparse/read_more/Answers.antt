@@ -1,6 +1,6 @@
 use Rattle.std.proofs.Common.{◌≡◌, ap, sym, ◌∙◌}
-use Rattle.matrix_read.specs.Lines.{lines_of}
-use Rattle.matrix_read.specs.Rows.{numbered_lines}
+use Rattle.text_lines.specs.Lines.{lines_of}
+use Rattle.text_lines.specs.Rows.{numbered_lines}
 use Rattle.matrix_read.specs.Sparse.{further, named_rows}
 use Rattle.matrix_read.proofs.SparseLemmas.{further_long, further_short}
 use Rattle.matrix_read.proofs.sparse.read_more.Goals as goal

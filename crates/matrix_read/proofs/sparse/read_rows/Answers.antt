@@ -1,10 +1,10 @@
 use Rattle.std.proofs.Common.{◌≡◌, ◌∷◌, slice_range, drop, ap, sym, ◌∙◌, refl, arith}
-use Rattle.matrix_read.specs.Lines.{lines_of}
-use Rattle.matrix_read.specs.Rows.{numbered_lines}
+use Rattle.text_lines.specs.Lines.{lines_of}
+use Rattle.text_lines.specs.Rows.{numbered_lines}
 use Rattle.matrix_read.specs.Sparse.{sparse, sparse_lines}
-use Rattle.matrix_read.proofs.RowLemmas.{numbered_none}
-use Rattle.matrix_read.proofs.LineLemmas.{lines_step, no_lines}
-use Rattle.matrix_read.proofs.WordLemmas.{to_end}
+use Rattle.text_lines.proofs.FirstRefused.{numbered_none}
+use Rattle.text_lines.proofs.LineLemmas.{lines_step, no_lines}
+use Rattle.text_lines.proofs.WordLemmas.{to_end}
 use Rattle.matrix_read.proofs.SparseLemmas.{sparse_long, sparse_short, first_refused, first_taken}
 use Rattle.matrix_read.proofs.sparse.read_rows.Goals as goal
 

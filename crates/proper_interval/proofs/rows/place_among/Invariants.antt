@@ -1,5 +1,5 @@
 use Rattle.std.proofs.Common.{◌≡◌, ◌+◌, drop}
-use Rattle.graph_read.specs.Graphs.{below}
+use Rattle.graph_model.specs.Graphs.{below}
 use Rattle.proper_interval.proofs.rows.place_among.Given as goal
 
 abbrev pub invariant-loop-i : goal.invariant-loop-i

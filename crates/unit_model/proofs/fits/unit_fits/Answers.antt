@@ -1,6 +1,6 @@
 use Rattle.std.proofs.Common.{ℕ, [], get_or, refl, sym, arith, below_more, subst}
 use Rattle.std.proofs.lemmas.Bool.{iff_false}
-use Rattle.unit_model.specs.Fitting.{FitsLater}
+use Rattle.unit_model.specs.Fitting.{EndFitsLater}
 use Rattle.unit_model.proofs.FitLemmas.{model_fits, model_from, row_there}
 use Rattle.unit_model.proofs.fits.unit_fits.Goals as goal
 
@@ -14,7 +14,7 @@ returns-then-not-fits_later c =
     let k = c.loop-before.before in
     let row = row_there g.neighbours k c.neighbours.result.now c.neighbours.ensures.list in (
       λ t. absurd (cc),
-      λ m. absurd (iff_false c.fits_later.ensures c.if-not-fits_later.true (subst (FitsLater lefts c.args.length k) (sym row) (model_fits g c.args.length lefts m k (omega arith)))),
+      λ m. absurd (iff_false c.fits_later.ensures c.if-not-fits_later.true (subst (EndFitsLater lefts c.args.length k) (sym row) (model_fits g c.args.length lefts m k (omega arith)))),
     )
 
 pub loop-before-preserved : goal.loop-before-preserved
@@ -23,7 +23,7 @@ loop-before-preserved c =
     let lefts = c.args.lefts.now in
     let k = c.loop-before.before in
     let row = row_there g.neighbours k c.neighbours.result.now c.neighbours.ensures.list in
-    below_more (λ (i : ℕ). FitsLater lefts c.args.length i (get_or g.neighbours i [])) k c.loop-before.invariant (subst (FitsLater lefts c.args.length k) row (c.fits_later.ensures.0 c.if-not-fits_later.false))
+    below_more (λ (i : ℕ). EndFitsLater lefts c.args.length i (get_or g.neighbours i [])) k c.loop-before.invariant (subst (EndFitsLater lefts c.args.length k) row (c.fits_later.ensures.0 c.if-not-fits_later.false))
 
 pub returns : goal.returns
 returns c = (

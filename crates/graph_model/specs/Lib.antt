@@ -1,0 +1,3 @@
+pub mod Graphs
+pub mod Distances
+pub mod Inside

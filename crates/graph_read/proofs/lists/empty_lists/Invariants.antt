@@ -1,7 +1,0 @@
-use Rattle.std.proofs.Common.{◌≡◌, [], replicate}
-use Rattle.graph_read.proofs.lists.empty_lists.Given as goal
-
-abbrev pub invariant-loop-i : goal.invariant-loop-i
-invariant-loop-i l = record {
-  empty : l.lists ≡ (record { columns = l.columns; rows = replicate l._i [] });
-}

@@ -1,6 +1,0 @@
-use Rattle.std.proofs.Common.{◌≡◌, drop}
-use Rattle.matrix_read.specs.Words.{number_after}
-use Rattle.matrix_read.proofs.words.long_number.Given as goal
-
-abbrev pub invariant-loop-b : goal.invariant-loop-b
-invariant-loop-b l = number_after l.value (drop l.b-index l.word) ≡ number_after 0 l.word

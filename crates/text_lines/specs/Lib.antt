@@ -1,0 +1,5 @@
+pub mod Lines
+pub mod Words
+pub mod Rows
+pub mod FirstRefusal
+pub mod TextLaws
