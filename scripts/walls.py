@@ -5,8 +5,8 @@ Usage: scripts/walls.py
 
 1. A crate's proofs are its own: no crate cites the proofs of another crate of this repository, but of those at the bottom, whose
    definitions everything shares. What a crate above needs of any other crate is a public law of it.
-2. Work is counted where it is done: outside tests no code but that of the step counter, of the replies for which something is solved
-   and of the program that times the bubble pass makes a counter of its own.
+2. Work is counted where it is done: outside tests no code but that of the step counter, of the replies for which something is solved,
+   of the program that times the bubble pass and of the example of a library makes a counter of its own.
 3. Reducing a row looks at no more nodes than its steps count: outside tests no code of the crates that reduce a row in place names
    one of the calls that go over a whole arena without a step, but for the reducer's `tree`.
 4. Reducing a row takes no memory: outside tests no code of these crates or of the arena takes an allocator out of a vector, and a call
@@ -27,7 +27,7 @@ import sys
 HOME = os.path.dirname(os.path.dirname(os.path.abspath(__file__)))
 # The crates whose definitions everything shares; docs/DECISIONS.md says why they offer their lemmas too.
 SHARED_PROOFS = {"column_order", "plain_text", "row_model", "pair_classes", "text_lines", "pq_tree", "tied_law", "template_theory", "arena_model", "template_model"}
-COUNTERS = {"step_count", "commands", "solve_replies", "bubble_bench"}
+COUNTERS = {"step_count", "commands", "solve_replies", "bubble_bench", "order_example"}
 STEPPED = ["bubble_pass", "full_pass", "templates_p", "templates_q", "row_reduce"]
 WITHOUT_MEMORY = ["pq_arena"] + STEPPED
 WHOLE_TREE = ("crates/row_reduce/src/reducer.rt", "tree")
