@@ -19,7 +19,7 @@ import signal
 import sys
 
 from pqparts import cells, report
-from pqparts.finding import MOST_CORES, asked, cycle_over, judge_cycle
+from pqparts.finding import MOST_CORES, asked, cycle_over, judge_cycle, rows_of
 from pqparts.others import clones_question, distances_question, graph_of_edges, plain_question
 from pqparts.program import CHECKOUT, Program, found_program
 from pqparts.spoken import Words, answer_lines
@@ -233,9 +233,8 @@ def again(words):
 
 
 def judge_again(program, question, finding):
-    """Has pq judge each text of a report. What is said of the rows is judged over the rows that pq itself derives from the file."""
+    """Has pq judge each text of a report."""
     program.judge(["check", question.kind], question.content, finding.verdict_text)
-    same_rows(program, question, finding)
     contradiction = finding.contradiction
     if contradiction is None:
         return
@@ -247,17 +246,8 @@ def judge_again(program, question, finding):
         left = [place for place in left if place not in gone]
     program.judge(["check", "rows"], side.as_rows(contradiction.agreed), contradiction.agreed_text)
     for one in contradiction.aside:
-        places = sorted({row for _, _, row in one.cycle if row is not None})
+        places = rows_of(one.cycle)
         judge_cycle(program, side, places, cycle_over(one.cycle, places))
-
-
-def same_rows(program, question, finding):
-    """Stops where the rows that a report names aren't those of its exact file."""
-    reading = Reading(question.kind)
-    plain = plain_question(question.content, "the file for pq", reading)
-    for mine, its in zip(question.sides, plain.sides):
-        if mine.rows != its.rows or len(mine.things) != len(its.things):
-            raise Stop(NOT_PROVED, "the rows of the report are not those of its file")
 
 
 def answer(path, **given):

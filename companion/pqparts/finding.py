@@ -126,11 +126,16 @@ def last_told(session):
 
 
 def refused(program, side, agreed, place, cycle):
-    """A row that is set aside, after `pq` judged its cycle over the rows that agree so far and itself."""
-    places = [*agreed, place]
-    judge_cycle(program, side, places, cycle)
-    lines = placed(cycle, places)
-    return SetAside(place, sorted({row for _, _, row in lines if row not in (None, place)}), lines)
+    """A row that is set aside, after `pq` judged its cycle over the rows that it names."""
+    lines = placed(cycle, [*agreed, place])
+    named = rows_of(lines)
+    judge_cycle(program, side, named, cycle_over(lines, named))
+    return SetAside(place, [row for row in named if row != place], lines)
+
+
+def rows_of(lines):
+    """The places of the rows that the lines of a cycle name, ascending."""
+    return sorted({row for _, _, row in lines if row is not None})
 
 
 def judge_cycle(program, side, places, cycle):

@@ -7,10 +7,12 @@ import io
 from dataclasses import dataclass, field
 
 from .finding import Contradiction, Finding, SetAside
+from .others import plain_question
 from .pictures import pictures_of, safe, seated
 from .program import core_of, verdict_of
-from .question import Question, Side
+from .question import Side
 from .spoken import Words, answer_lines, steps
+from .tables import Reading
 from .trees import blocks, free_leaves, nested, tree_of
 
 FORM = "pqpage 1"
@@ -50,7 +52,7 @@ def cycle_value(side, cycle):
 def side_value(side, tree, order):
     """The answer for one side of a yes."""
     root = tree_of(tree)
-    return {"order": [side.things[number - 1] for number in order], "tree": nested(root, side.things), "blocks": blocks(root, side.things),
+    return {"order": [side.things[number - 1] for number in order], "tree": nested(root, side.things), "tree in numbers": tree, "blocks": blocks(root, side.things),
             "free": [side.things[leaf - 1] for leaf in free_leaves(root)]}
 
 
@@ -87,10 +89,10 @@ def contradiction_value(question, finding):
 
 def kept_value(question, finding, told):
     """What is kept of a report so that it can be made again: all that is no text of `pq`."""
-    sides = [{"things": side.things, "rows": side.rows, "names": side.names, "whole": side.whole} for side in question.sides]
+    sides = [{"things": side.things, "rows": side.names} for side in question.sides]
     found = finding.contradiction
     aside = [] if found is None else [{"row": one.row, "others": one.others, "cycle": [list(step) for step in one.cycle]} for one in found.aside]
-    return {"form": FORM, "kind": question.kind, "sides": sides, "distances": question.distances, "agreed": found.agreed if found else [], "aside": aside,
+    return {"form": FORM, "kind": question.kind, "names": sides, "agreed": found.agreed if found else [], "aside": aside,
             "told": told.__dict__}
 
 
@@ -102,15 +104,18 @@ def report_value(question, finding, told):
 
 
 def again_of(value, content, verdict_text, core_texts, agreed_text):
-    """The question, the finding and what is told, from a report's dictionary and the texts beside it."""
+    """The question, the finding and what is told, from a report's dictionary and the texts beside it. The rows are those of the exact file."""
     kept = value["kept"]
-    sides = [Side(one["things"], one["rows"], one["names"], one["whole"]) for one in kept["sides"]]
-    question = Question(kept["kind"], content, sides, distances=kept["distances"])
+    question = plain_question(content, "the file for pq", Reading(kept["kind"]))
+    if [(len(side.things), len(side.rows)) for side in question.sides] != [(len(one["things"]), len(one["rows"])) for one in kept["names"]]:
+        raise ValueError("there are not as many names as things and rows")
+    for side, names in zip(question.sides, kept["names"]):
+        side.things, side.names = names["things"], names["rows"]
     finding = Finding(verdict_text)
     if agreed_text is not None:
         aside = [SetAside(one["row"], one["others"], [tuple(step) for step in one["cycle"]]) for one in kept["aside"]]
         found = Contradiction(finding.verdict.side, core_texts=core_texts, agreed=kept["agreed"], agreed_text=agreed_text, aside=aside)
-        found.cores = placed_cores(sides[found.side - 1], core_texts)
+        found.cores = placed_cores(question.sides[found.side - 1], core_texts)
         finding.contradiction = found
     told = Told(**kept["told"])
     return question, finding, told

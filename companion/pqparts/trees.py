@@ -2,6 +2,8 @@
 
 from dataclasses import dataclass
 
+MOST_DEPTH, MOST_SENTENCES = 100, 200
+
 
 @dataclass
 class Node:
@@ -40,7 +42,9 @@ def tree_of(text):
 
 
 def nested(tree, names):
-    """The tree with names, as lists within dictionaries. Deep trees are no matter of the stack."""
+    """The tree with names, as lists within dictionaries; None of a tree that is too deep for that."""
+    if any(depth > MOST_DEPTH for _, depth in inner_nodes(tree)):
+        return None
     results, left = [], [(tree, False)]
     while left:
         node, is_done = left.pop()
@@ -94,8 +98,8 @@ def in_words(tree, names, things):
         return [f"Nothing is fixed: the {things} may stand in any order."]
     first = said(root, names)
     found = [f"The whole: {first}."]
-    found += [f"Within {listed([names[leaf - 1] for leaf in node.leaves()], 6)}: {said(node, names)}." for node, _ in inner]
-    return found
+    found += [f"Within {listed([names[leaf - 1] for leaf in node.leaves()], 6)}: {said(node, names)}." for node, _ in inner[:MOST_SENTENCES]]
+    return found + ([f"There are {len(inner) - MOST_SENTENCES} blocks more."] if len(inner) > MOST_SENTENCES else [])
 
 
 def blocks(tree, names):
