@@ -6,7 +6,7 @@ Usage: scripts/gate_times.py rt ci            prints what the command prints, an
 
 Seconds are of the processor, by looks at the prover's processes five times a second: of each process the last look counts, so some tenths
 of a second of each are missing. From and to are minutes of the run. The longest chain is that of crates which stand on one another whose
-proofs took the longest together, by the clock: with any number of processors the run can't be shorter. The status is the command's.
+proofs took the most together: with any number of processors, one to a crate, the run can't be shorter. The status is the command's.
 """
 
 import os
@@ -88,14 +88,14 @@ def together(looks):
 
 
 def longest_chain(found):
-    """The chain of crates, lowest first, whose proofs took the longest together by the clock, and their minutes."""
+    """The chain of crates, lowest first, whose proofs took the most together, and the seconds of the processor that they took."""
     crates, chains = build.stands_on(), {}
 
     def chain(name):
         if name not in chains:
             below = max((chain(one) for one in crates[name]), default=(0.0, []))
-            _, first, last = found.get((name, "proof"), (0.0, 0.0, 0.0))
-            chains[name] = (below[0] + last - first, below[1] + [name] * (last > first))
+            seconds = found.get((name, "proof"), (0.0, 0.0, 0.0))[0]
+            chains[name] = (below[0] + seconds, below[1] + [name] * (seconds > 0))
         return chains[name]
 
     return max(chain(name) for name in crates)
@@ -117,7 +117,7 @@ def table(found, minutes, processor):
     length, chain = longest_chain(found)
     told = subprocess.run(["git", "rev-parse", "--short", "HEAD"], cwd=build.HOME, capture_output=True, text=True, check=False).stdout.strip()
     return rows + ["", f"Measured at commit {told} on {len(os.sched_getaffinity(0))} processors: {minutes:.0f} minutes by the clock, "
-                   f"{processor / 60:.0f} of the processors. The longest chain of proofs, {length / 60:.0f} minutes: {', '.join(f'`{one}`' for one in chain)}."]
+                   f"{processor / 60:.0f} of the processors. The longest chain of proofs, {length:.0f} seconds: {', '.join(f'`{one}`' for one in chain)}."]
 
 
 def write(lines):
