@@ -13,5 +13,3 @@ pub use laws::circular_law;
 pub use row_model::NoMemory;
 pub use turn::turned;
 
-#[cfg(test)]
-mod tests;

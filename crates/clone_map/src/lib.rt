@@ -12,6 +12,3 @@ mod places;
 pub use laws::place_laws;
 pub use placed::{Placed, place};
 pub use row_model::NoMemory;
-
-#[cfg(test)]
-mod tests;

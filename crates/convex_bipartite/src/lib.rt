@@ -13,5 +13,3 @@ pub use left::rows_of;
 pub use right::columns_of;
 pub use row_model::NoMemory;
 
-#[cfg(test)]
-mod tests;

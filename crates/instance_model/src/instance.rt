@@ -35,6 +35,7 @@ impl Instance {
         ensures kind { result ≡ instance_kind (instance_value self.now) }
         ensures formed { IsWellFormed (instance_value self.now) }
     {
+        // A call of a graph or a table tells contracts what it keeps.
         match self {
             Instance::Plain(kind, _) => *kind,
             Instance::Circular(_) => Kind::Circular,

@@ -15,8 +15,6 @@
 
 mod instance;
 mod laws;
-#[cfg(test)]
-mod tests;
 
 pub use instance::Instance;
 pub use laws::{derived_sizes_law, textbook_law};

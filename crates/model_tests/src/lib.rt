@@ -1,8 +1,13 @@
-//! Tests of the proper models and of the unit models of graphs, on small graphs that were worked by hand.
+//! Tests of the derived rows of each kind, of the places of clones, and of the proper and the unit models of graphs, on
+//! small instances that were worked by hand.
 #![tactic(auto)]
 
 #[cfg(test)]
+mod clones;
+#[cfg(test)]
 mod graphs;
+#[cfg(test)]
+mod kinds;
 #[cfg(test)]
 mod proper;
 #[cfg(test)]

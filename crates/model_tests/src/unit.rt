@@ -1,93 +1,60 @@
 // The path of four vertices, the triangle and two vertices without an edge, worked by hand.
-ghost use Rattle.std.specs.Prelude.{◌≤◌};
-
-use crate::graphs::path;
-use graph_model::Graph;
-use proper_interval::{closed_rows, umbrella_law};
-use row_model::{Interval, Intervals, NoMemory, is_order};
+use crate::graphs::{ends_told, is_umbrella, path};
+use graph_read::read_graph;
+use row_model::{NoMemory, Read};
 use std::alloc::Global;
 use std::test::Fail;
 use unit_model::{model, parse_unit, print_unit, unit_fits};
 
-// The unit model of an order, if it is an umbrella order.
-fn model_if_umbrella(
-    alloc: Global,
-    g: &Graph,
-    order: &[u32],
-) -> Result<Option<Intervals>, NoMemory> {
-    let rows = closed_rows(alloc, g)?;
-    if !is_order(alloc, g.vertices(), order)? || !rows.keeps(order)? {
+// The unit model of an order, if it is an umbrella order of the graph of a file.
+fn model_told(alloc: Global, bytes: &[u8], order: &[u32]) -> Result<Option<String>, NoMemory> {
+    let Read::Ok(graph) = read_graph(alloc, bytes)? else {
+        return Ok(None);
+    };
+    if !is_umbrella(alloc, &graph, order)? {
         return Ok(None);
     }
-    umbrella_law();
-    Ok(Some(model(alloc, g, order)?))
-}
-
-fn interval_from(left: u64, length: u32) -> Interval
-    requires { left ≤ 1000 }
-{
-    Interval {
-        left,
-        right: left + u64::from(length),
-    }
+    let list = model(alloc, &graph, order)?;
+    Ok(Some(ends_told(alloc, &list)?))
 }
 
 #[test]
-fn a_path_goes_up_by_layers(rt: HostRuntime) -> Result<(), Fail> {
-    let graph = path(rt.alloc())?;
-    let Some(forth) = model_if_umbrella(rt.alloc(), &graph, &[1, 2, 3, 4])? else {
-        panic!(rt; "no umbrella order");
-    };
-    let Some(back) = model_if_umbrella(rt.alloc(), &graph, &[4, 3, 2, 1])? else {
-        panic!(rt; "no umbrella order");
-    };
-    let a = interval_from(3, 4);
-    let b = interval_from(6, 4);
-    let c = interval_from(9, 4);
-    let d = interval_from(12, 4);
-    assert_eq!(rt; forth.as_slice(), [a, b, c, d].as_slice());
-    assert_eq!(rt; back.as_slice(), [d, c, b, a].as_slice());
-    Ok(())
-}
-
-#[test]
-fn a_layer_stands_together(rt: HostRuntime) -> Result<(), Fail> {
-    let mut triangle = Graph::new(rt.alloc(), 3)?;
-    triangle.add_edge(1, 2)?;
-    triangle.add_edge(1, 3)?;
-    triangle.add_edge(2, 3)?;
-    let Some(model) = model_if_umbrella(rt.alloc(), &triangle, &[1, 2, 3])? else {
-        panic!(rt; "no umbrella order");
-    };
-    let list = [
-        interval_from(2, 3),
-        interval_from(3, 3),
-        interval_from(4, 3),
+fn models_go_up_by_layers(rt: HostRuntime) -> Result<(), Fail> {
+    let cases: [(&[u8], &[u32], &str); 4] = [
+        (
+            b"4\n1 2\n2 3\n3 4\n",
+            &[1, 2, 3, 4],
+            " 3 to 7 6 to 10 9 to 13 12 to 16",
+        ),
+        (
+            b"4\n1 2\n2 3\n3 4\n",
+            &[4, 3, 2, 1],
+            " 12 to 16 9 to 13 6 to 10 3 to 7",
+        ),
+        // A layer stands together.
+        (b"3\n1 2\n1 3\n2 3\n", &[1, 2, 3], " 2 to 5 3 to 6 4 to 7"),
+        // Components lie apart.
+        (b"2\n", &[1, 2], " 0 to 2 4 to 6"),
     ];
-    assert_eq!(rt; model.as_slice(), list.as_slice());
-    Ok(())
-}
-
-#[test]
-fn components_lie_apart(rt: HostRuntime) -> Result<(), Fail> {
-    let apart = Graph::new(rt.alloc(), 2)?;
-    let Some(model) = model_if_umbrella(rt.alloc(), &apart, &[1, 2])? else {
-        panic!(rt; "no umbrella order");
-    };
-    assert_eq!(rt;
-        model.as_slice(),
-        [interval_from(0, 2), interval_from(4, 2)].as_slice()
-    );
+    for (bytes, order, wanted) in cases {
+        let told = model_told(rt.alloc(), bytes, order)?;
+        assert_eq!(rt; told.as_deref(), Some(wanted), "{bytes:?} {order:?}");
+    }
     Ok(())
 }
 
 #[test]
 fn left_ends_may_move_within_the_length(rt: HostRuntime) -> Result<(), Fail> {
     let graph = path(rt.alloc())?;
-    assert!(rt; unit_fits(&graph, &[3, 6, 9, 13], 4));
-    assert!(rt; !unit_fits(&graph, &[3, 6, 9, 14], 4));
-    assert!(rt; !unit_fits(&graph, &[3, 6, 9, 10], 4));
-    assert!(rt; !unit_fits(&graph, &[3, 6, 9, 13], 0));
+    for (last, length, wanted) in [
+        (13, 4, true),
+        (14, 4, false),
+        (10, 4, false),
+        (13, 0, false),
+    ] {
+        let found = unit_fits(&graph, &[3, 6, 9, last], length);
+        assert_eq!(rt; found, wanted, "{last} {length}");
+    }
     Ok(())
 }
 
@@ -97,8 +64,7 @@ fn a_text_is_read_back(rt: HostRuntime) -> Result<(), Fail> {
     let Some(unit) = parse_unit(rt.alloc(), bytes)? else {
         panic!(rt; "no unit text");
     };
-    assert_eq!(rt; unit.vertices(), 2);
-    assert_eq!(rt; unit.length(), 2);
+    assert_eq!(rt; (unit.vertices(), unit.length()), (2, 2));
     assert_eq!(rt; unit.lefts(), [0, 4].as_slice());
     let mut text = Vec::new(rt.alloc());
     print_unit(&unit, &mut text)?;
@@ -107,19 +73,24 @@ fn a_text_is_read_back(rt: HostRuntime) -> Result<(), Fail> {
 }
 
 #[test]
-fn other_texts_are_refused(rt: HostRuntime) -> Result<(), Fail> {
-    let texts: [&[u8]; 6] = [
-        b"pq-unit 1\nvertices 1\nlength 1\nunit 1 0\nend",
-        b"pq-unit 1\nvertices 1\nlength 1\nunit 2 0\nend\n",
-        b"pq-unit 1\nvertices 1\nlength 1\nunit 1 00\nend\n",
-        b"pq-unit 1\nvertices 1\nlength 18446744073709551616\nunit 1 0\nend\n",
-        b"pq-unit 1\nvertices 0\nlength 1\nend\n",
-        b"pq-unit 1\nvertices 1\nlength 1\nunit 1 0\nend\n\n",
+fn unit_texts_and_others(rt: HostRuntime) -> Result<(), Fail> {
+    let cases: [(&[u8], bool); 7] = [
+        (
+            b"pq-unit 1\nvertices 1\nlength 0\nunit 1 18446744073709551615\nend\n",
+            true,
+        ),
+        (b"pq-unit 1\nvertices 1\nlength 1\nunit 1 0\nend", false),
+        (b"pq-unit 1\nvertices 1\nlength 1\nunit 2 0\nend\n", false),
+        (b"pq-unit 1\nvertices 1\nlength 1\nunit 1 00\nend\n", false),
+        (
+            b"pq-unit 1\nvertices 1\nlength 18446744073709551616\nunit 1 0\nend\n",
+            false,
+        ),
+        (b"pq-unit 1\nvertices 0\nlength 1\nend\n", false),
+        (b"pq-unit 1\nvertices 1\nlength 1\nunit 1 0\nend\n\n", false),
     ];
-    for text in texts {
-        assert!(rt; parse_unit(rt.alloc(), text)?.is_none());
+    for (text, wanted) in cases {
+        assert_eq!(rt; parse_unit(rt.alloc(), text)?.is_some(), wanted, "{text:?}");
     }
-    let largest = b"pq-unit 1\nvertices 1\nlength 0\nunit 1 18446744073709551615\nend\n";
-    assert!(rt; parse_unit(rt.alloc(), largest)?.is_some());
     Ok(())
 }

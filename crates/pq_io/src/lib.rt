@@ -20,8 +20,6 @@ mod real_sink;
 mod retried;
 mod shelf;
 mod sink;
-#[cfg(test)]
-mod tests;
 mod writing;
 
 pub use error::{ChooseError, Failed, ReadFail, WriteFault};

@@ -28,8 +28,8 @@ impl<W: Write> Model for RealSink<W> {
 }
 
 impl<W: Write> RealSink<W> {
-    // A stream with no faults so far.
-    fn over(stream: W) -> Self
+    /// A stream with no faults so far.
+    pub fn over(stream: W) -> Self
         ensures contents { result.contents ≡ W.contents stream }
         ensures faults { result.faults ≡ 0 }
     {
@@ -76,69 +76,6 @@ impl<W: Write> Sink for RealSink<W> {
             _ => {
                 self.faults = self.faults.saturating_add(1);
                 Err(Failed)
-            }
-        }
-    }
-}
-
-#[cfg(test)]
-mod tests {
-    use super::*;
-    use std::io;
-
-    // Takes at most so many bytes in a write, and then may not be flushed. So many calls are interrupted first.
-    #[derive(Drop)]
-    struct FakeStream {
-        most: usize,
-        can_flush: bool,
-        interruptions: u32,
-    }
-
-    impl FakeStream {
-        fn interrupted(&mut self) -> io::Result<()> {
-            if self.interruptions == 0 {
-                return Ok(());
-            }
-            self.interruptions -= 1;
-            Err(io::Error::from(io::ErrorKind::Interrupted))
-        }
-    }
-
-    impl Write for FakeStream {
-        fn write(&mut self, buf: &[u8]) -> io::Result<usize> {
-            self.interrupted()?;
-            Ok(buf.len().min(self.most))
-        }
-
-        fn flush(&mut self) -> io::Result<()> {
-            self.interrupted()?;
-            if self.can_flush {
-                Ok(())
-            } else {
-                Err(io::Error::from(io::ErrorKind::StorageFull))
-            }
-        }
-    }
-
-    #[test]
-    fn a_write_fails_where_nothing_is_taken_or_flushed(rt: HostRuntime) {
-        for (most, can_flush, outcome) in [
-            (9, true, Ok(3)),
-            (2, true, Ok(2)),
-            (0, true, Err(Failed)),
-            (9, false, Err(Failed)),
-        ] {
-            for interruptions in [0, 1, 2] {
-                let mut sink = RealSink::over(FakeStream {
-                    most,
-                    can_flush,
-                    interruptions,
-                });
-                assert_eq!(rt;
-                    sink.write(b"abc"),
-                    outcome,
-                    "{most} {can_flush} {interruptions}"
-                );
             }
         }
     }

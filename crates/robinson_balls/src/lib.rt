@@ -12,5 +12,3 @@ pub use laws::{balls_law, robinson_law};
 pub use row_model::NoMemory;
 pub use rows::balls;
 
-#[cfg(test)]
-mod tests;

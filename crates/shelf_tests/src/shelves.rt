@@ -1,5 +1,8 @@
 // What no clause says: that calls succeed, what comes after a failure in mid-stream, and the real files.
-use super::*;
+use pq_io::{
+    ChooseError, MemShelf, MemSink, NeverShelf, NeverSink, ReadFail, RealShelf, Shelf, Whole,
+    WriteFault, read_all, write_all,
+};
 use std::alloc::Global;
 use std::fs;
 use std::test::Fail;
