@@ -2,8 +2,8 @@ use Rattle.std.proofs.Common.{◌≡◌, ◌+◌, ◌∷◌, ◌++◌, [], ℕ, 
 use Rattle.std.proofs.lemmas.Grind.{common_steps}
 use Rattle.row_model.specs.Rows.{IsRow}
 use Rattle.reducer_tests.proofs.Rows.{row_more, row_wider}
-use Rattle.reducer_tests.proofs.tests.both.marked_columns.Goals as goal
-use Rattle.reducer_tests.proofs.tests.both.marked_columns.Goals.{then-marked+in_ok-push, else-marked}
+use Rattle.reducer_tests.proofs.tests.marks.marked_columns.Goals as goal
+use Rattle.reducer_tests.proofs.tests.marks.marked_columns.Goals.{then-marked+in_ok-push, else-marked}
 
 pub loop-before-preserved : goal.loop-before-preserved
 loop-before-preserved c =
