@@ -4,19 +4,20 @@ ghost use Rattle.std.specs.Prelude.{◌≡◌, ◌<◌, ◌≤◌};
 mod answers;
 mod bounds;
 mod calls;
+mod cases;
 mod fronts;
 mod full;
-mod large;
 mod passes;
 mod pictures;
 mod plain;
 mod random;
-mod rows;
 mod splices;
 mod universal;
 mod walks;
 
-use large::{chain, lines, nest, star};
+use bounds::star;
+use cases::all_cases;
+use full::all_full_cases;
 use random::random_trees;
 use splices::{all_splices, neighbours, taken_and_given_back};
 use std::test::Fail;
@@ -47,25 +48,19 @@ fn neighbours_after_each_call(rt: HostRuntime) -> Result<(), Fail> {
 }
 
 #[test]
-fn a_p_node_of_2048_columns(rt: HostRuntime) -> Result<(), Fail> {
+fn rows_that_are_worked_out_by_hand(rt: HostRuntime) -> Result<(), Fail> {
+    all_cases::<Brand>(&rt, rt.alloc(), Blank::new(1))?;
+    Ok(())
+}
+
+#[test]
+fn the_steps_of_a_row_under_one_p_node(rt: HostRuntime) -> Result<(), Fail> {
     star::<Brand>(&rt, rt.alloc(), Blank::new(1))?;
     Ok(())
 }
 
 #[test]
-fn a_chain_of_2048_columns(rt: HostRuntime) -> Result<(), Fail> {
-    chain::<Brand>(&rt, rt.alloc(), Blank::new(1))?;
-    Ok(())
-}
-
-#[test]
-fn a_nest_of_2047_p_nodes(rt: HostRuntime) -> Result<(), Fail> {
-    nest::<Brand>(&rt, rt.alloc(), Blank::new(1))?;
-    Ok(())
-}
-
-#[test]
-fn a_nest_of_1024_q_nodes(rt: HostRuntime) -> Result<(), Fail> {
-    lines::<Brand>(&rt, rt.alloc(), Blank::new(1))?;
+fn full_passes_that_are_worked_out_by_hand(rt: HostRuntime) -> Result<(), Fail> {
+    all_full_cases::<Brand>(&rt, rt.alloc(), Blank::new(1))?;
     Ok(())
 }

@@ -1,6 +1,8 @@
-mod alone;
+mod answers;
 mod both;
 mod drawn;
+mod marks;
+mod searches;
+mod sessions;
 mod small;
-mod texts;
 mod worked;

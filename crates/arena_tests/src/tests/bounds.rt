@@ -1,5 +1,5 @@
 // The steps of a pass over the universal tree.
-ghost use Rattle.std.specs.Prelude.{◌≡◌, ◌+◌, ◌*◌, ◌≤◌, length};
+ghost use Rattle.std.specs.Prelude.{◌≡◌, ◌+◌, ◌*◌, ◌≤◌, ◌<◌, length};
 ghost use Rattle.column_order.specs.declared.TheConstants.{COLUMN_BOUND};
 
 use super::passes::is_row;
@@ -8,17 +8,17 @@ use pq_arena::Arena;
 use row_model::{Matrix, NoMemory};
 use std::alloc::Global;
 use std::process::Abort;
-use step_count::{Ledger, Steps};
+use step_count::{Blank, Ledger, Steps};
 
-/// The pass over a row of so many columns under one P-node. Only the root and the leaves of the row meet it, so the
-/// bound on the steps tells nothing of the other columns.
-pub fn ask_star<L: Ledger>(
+// The pass over a row of so many columns under one P-node. Only the root and the leaves of the row meet it, so the
+// bound on the steps tells nothing of the other columns.
+fn ask_star<L: Ledger>(
     rt: &impl Abort,
     alloc: Global,
     columns: u32,
     row: &[u32],
     steps: &mut Steps<L>,
-) -> Result<Found, NoMemory>
+) -> Result<bool, NoMemory>
     requires from { 2 ≤ columns }
     requires to { columns ≤ COLUMN_BOUND }
     ensures { steps.new ≤ steps.old + 24 * (length row.now + 2) }
@@ -31,5 +31,18 @@ pub fn ask_star<L: Ledger>(
     let mut work = Work::new(alloc, columns)?;
     assert!(rt; arena.has_two_each());
     arena.layout_law();
-    Ok(bubble(&mut arena, &m, 1, &mut work, steps))
+    let root = arena.root();
+    let found = bubble(&mut arena, &m, 1, &mut work, steps);
+    Ok(matches!(found, Found::Root(r) if r.index() == root.index()))
+}
+
+/// A row of two columns among 2,048.
+pub fn star<L: Ledger>(rt: &impl Abort, alloc: Global, blank: Blank) -> Result<(), NoMemory>
+    requires name { blank.name ≡ L.name }
+    requires parts { blank.parts ≡ L.parts }
+    requires some { 0 < blank.parts }
+{
+    let mut steps = Steps::<L>::new(blank);
+    assert!(rt; ask_star(rt, alloc, 2048, &[5, 77], &mut steps)?);
+    Ok(())
 }

@@ -1,14 +1,14 @@
 // Full passes over a few rows in turn, on trees that are built by calls.
 ghost use Rattle.std.specs.Prelude.{◌≡◌, ◌<◌};
 
+use super::passes::is_row;
 use super::splices::put_together;
 use full_pass::{FullWork, Settled, settle};
 use pq_arena::{Arena, NodeId};
 use row_model::{Matrix, NoMemory};
 use std::alloc::Global;
 use std::process::Abort;
-use std::test::Fail;
-use step_count::{Blank, Brand, Ledger, Steps};
+use step_count::{Blank, Ledger, Steps};
 
 // The full pass over row `k`, once all its conditions were seen to hold.
 fn settle_row<L: Ledger>(
@@ -28,25 +28,93 @@ fn settle_row<L: Ledger>(
     settle(arena, m, k, work, steps)
 }
 
-fn assert_kept(rt: &impl Abort, settled: Settled) {
-    assert!(rt; matches!(settled, Settled::Kept));
+// What a pass has to say: after a group, the node at this place, the one that was put together or the root, and how many
+// members there are.
+#[derive(Clone, Copy, Drop)]
+enum Wanted {
+    Kept,
+    Open,
+    Group(usize, usize),
 }
 
-fn assert_open(rt: &impl Abort, settled: Settled) {
-    assert!(rt; matches!(settled, Settled::Open));
+// A tree of five columns, of which the first few stand under a node of their own, and the rows that it is asked for.
+#[derive(Clone, Copy, Drop)]
+struct Case {
+    is_line: bool,
+    last: u32,
+    questions: &'static [(&'static [u32], Wanted)],
 }
 
-// The pass ended at `node` with so many members.
-fn assert_group(rt: &impl Abort, settled: Settled, node: NodeId, work: &FullWork, count: usize) {
-    match settled {
-        Settled::Group(p) => assert_eq!(rt; p.index(), node.index()),
-        Settled::Kept | Settled::Open => assert!(rt; false),
+const CASES: [Case; 2] = [
+    // The tree ([1 2 3 4] 5).
+    Case {
+        is_line: true,
+        last: 4,
+        questions: &[
+            (&[2, 3], Wanted::Kept),
+            (&[1, 2], Wanted::Kept),
+            (&[4, 5], Wanted::Open),
+            (&[1, 3], Wanted::Open),
+            (&[1, 2, 3, 4], Wanted::Kept),
+            (&[1, 2, 3, 4, 5], Wanted::Kept),
+        ],
+    },
+    // The tree ((1 2 3) 4 5).
+    Case {
+        is_line: false,
+        last: 3,
+        questions: &[
+            (&[1, 3], Wanted::Group(0, 2)),
+            (&[1, 2, 3, 5], Wanted::Group(1, 2)),
+            (&[3, 4], Wanted::Open),
+            (&[1, 2, 3], Wanted::Kept),
+            (&[5], Wanted::Kept),
+        ],
+    },
+];
+
+// The pass said what is wanted.
+fn assert_settled(
+    rt: &impl Abort,
+    nodes: [NodeId; 2],
+    members: usize,
+    settled: Settled,
+    wanted: Wanted,
+) {
+    match (settled, wanted) {
+        (Settled::Kept, Wanted::Kept) | (Settled::Open, Wanted::Open) => {}
+        (Settled::Group(p), Wanted::Group(place, count)) => {
+            assert!(rt; place < 2);
+            assert_eq!(rt; p.index(), nodes[place].index());
+            assert_eq!(rt; members, count);
+        }
+        _ => assert!(rt; false),
     }
-    assert_eq!(rt; work.members().len(), count);
 }
 
-// The tree ([1 2 3 4] 5).
-fn line_beside_a_leaf<L: Ledger>(
+// Makes the tree, and asks for each row in turn.
+fn one_full_case<L: Ledger>(
+    rt: &impl Abort,
+    alloc: Global,
+    case: &Case,
+    steps: &mut Steps<L>,
+) -> Result<(), NoMemory> {
+    let mut arena = Arena::new(alloc, 5)?;
+    let node = put_together(rt, &mut arena, case.is_line, case.last, steps);
+    let nodes = [node, arena.root()];
+    let mut work = FullWork::new(alloc, 5)?;
+    for (row, wanted) in case.questions {
+        assert!(rt; is_row(5, row));
+        let mut m = Matrix::new(alloc, 5)?;
+        m.push_row(row)?;
+        let settled = settle_row(rt, &arena, &m, 1, &mut work, steps);
+        assert_settled(rt, nodes, work.members().len(), settled, *wanted);
+    }
+    Ok(())
+}
+
+/// Each tree is made and asked.
+pub fn all_full_cases<L: Ledger>(
     rt: &impl Abort,
     alloc: Global,
     blank: Blank,
@@ -56,64 +124,8 @@ fn line_beside_a_leaf<L: Ledger>(
     requires some { 0 < blank.parts }
 {
     let mut steps = Steps::<L>::new(blank);
-    let mut arena = Arena::new(alloc, 5)?;
-    put_together(rt, &mut arena, true, 4, &mut steps);
-    let mut m = Matrix::new(alloc, 5)?;
-    m.push_row(&[2, 3])?;
-    m.push_row(&[1, 2])?;
-    m.push_row(&[4, 5])?;
-    m.push_row(&[1, 3])?;
-    m.push_row(&[1, 2, 3, 4])?;
-    m.push_row(&[1, 2, 3, 4, 5])?;
-    let mut work = FullWork::new(alloc, 5)?;
-    assert_kept(rt, settle_row(rt, &arena, &m, 1, &mut work, &mut steps));
-    assert_kept(rt, settle_row(rt, &arena, &m, 2, &mut work, &mut steps));
-    assert_open(rt, settle_row(rt, &arena, &m, 3, &mut work, &mut steps));
-    assert_open(rt, settle_row(rt, &arena, &m, 4, &mut work, &mut steps));
-    assert_kept(rt, settle_row(rt, &arena, &m, 5, &mut work, &mut steps));
-    assert_kept(rt, settle_row(rt, &arena, &m, 6, &mut work, &mut steps));
-    Ok(())
-}
-
-// The tree ((1 2 3) 4 5).
-fn group_beside_two_leaves<L: Ledger>(
-    rt: &impl Abort,
-    alloc: Global,
-    blank: Blank,
-) -> Result<(), NoMemory>
-    requires name { blank.name ≡ L.name }
-    requires parts { blank.parts ≡ L.parts }
-    requires some { 0 < blank.parts }
-{
-    let mut steps = Steps::<L>::new(blank);
-    let mut arena = Arena::new(alloc, 5)?;
-    let inner = put_together(rt, &mut arena, false, 3, &mut steps);
-    let root = arena.root();
-    let mut m = Matrix::new(alloc, 5)?;
-    m.push_row(&[1, 3])?;
-    m.push_row(&[1, 2, 3, 5])?;
-    m.push_row(&[3, 4])?;
-    m.push_row(&[1, 2, 3])?;
-    m.push_row(&[5])?;
-    let mut work = FullWork::new(alloc, 5)?;
-    let settled = settle_row(rt, &arena, &m, 1, &mut work, &mut steps);
-    assert_group(rt, settled, inner, &work, 2);
-    let settled = settle_row(rt, &arena, &m, 2, &mut work, &mut steps);
-    assert_group(rt, settled, root, &work, 2);
-    assert_open(rt, settle_row(rt, &arena, &m, 3, &mut work, &mut steps));
-    assert_kept(rt, settle_row(rt, &arena, &m, 4, &mut work, &mut steps));
-    assert_kept(rt, settle_row(rt, &arena, &m, 5, &mut work, &mut steps));
-    Ok(())
-}
-
-#[test]
-fn a_line_of_four_beside_a_fifth(rt: HostRuntime) -> Result<(), Fail> {
-    line_beside_a_leaf::<Brand>(&rt, rt.alloc(), Blank::new(1))?;
-    Ok(())
-}
-
-#[test]
-fn three_columns_under_one_node_beside_two(rt: HostRuntime) -> Result<(), Fail> {
-    group_beside_two_leaves::<Brand>(&rt, rt.alloc(), Blank::new(1))?;
+    for case in &CASES {
+        one_full_case(rt, alloc, case, &mut steps)?;
+    }
     Ok(())
 }

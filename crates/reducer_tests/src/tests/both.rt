@@ -6,14 +6,16 @@ ghost use Rattle.arena_model.specs.NamedTree.{outline_at};
 ghost use Rattle.pq_plain.specs.Plain.{plain_columns, plain_outline};
 ghost use Rattle.reducer_tests.specs.Follows.{Follows};
 
+use super::marks::{marked_columns, text_of};
 use column_order::COLUMN_BOUND;
-use pq_plain::{PlainReducer, Reducer, Step};
+use pq_plain::PlainReducer;
 use row_model::{Matrix, NoMemory, ROW_BOUND};
 use row_reduce::ArenaReducer;
 use std::alloc::Global;
 use std::process::Abort;
 use std::test::Fail;
 use step_count::{Ledger, Steps};
+use template_theory::{Reducer, Step};
 
 // The reducers, the rows that both took, and the text of the canonical tree of both.
 #[derive(Drop)]
@@ -32,7 +34,7 @@ pub fn begin(alloc: Global, columns: u32) -> Result<Both<PlainReducer, ArenaRedu
 {
     let first = PlainReducer::new(alloc, columns)?;
     let second = ArenaReducer::new(alloc, columns)?;
-    let text = text_of(alloc, &first)?;
+    let text = text_of(alloc, &first.tree(alloc)?)?;
     Ok(Both {
         matrix: Matrix::new(alloc, columns)?,
         first,
@@ -58,14 +60,31 @@ impl<A: Reducer, B: Reducer> Both<A, B> {
         assert_eq!(rt; marks.len(), self.matrix.columns() as usize);
         let row = marked_columns(alloc, marks)?;
         let step = self.reduce(rt, &row, steps)?;
-        let text = text_of(alloc, &self.first)?;
-        let other = text_of(alloc, &self.second)?;
+        self.compare(rt, alloc, &row, step)?;
+        Ok(step)
+    }
+
+    // The trees are the same, and those from before the row where it was refused.
+    fn compare(
+        &mut self,
+        rt: &impl Abort,
+        alloc: Global,
+        row: &[u32],
+        step: Step,
+    ) -> Result<(), NoMemory>
+        requires first { Follows self.old.matrix (A.columns self.old.first) (A.outline self.old.first) }
+        requires second { Follows self.old.matrix (B.columns self.old.second) (B.outline self.old.second) }
+        ensures first { OnOk result (Follows self.new.matrix (A.columns self.new.first) (A.outline self.new.first)) }
+        ensures second { OnOk result (Follows self.new.matrix (B.columns self.new.second) (B.outline self.new.second)) }
+    {
+        let text = text_of(alloc, &self.first.tree(alloc)?)?;
+        let other = text_of(alloc, &self.second.tree(alloc)?)?;
         assert_eq!(rt; text.as_slice(), other.as_slice(), "after {row:?}");
         if step == Step::Refused {
             assert_eq!(rt; text.as_slice(), self.text.as_slice(), "after {row:?}");
         }
         self.text = text;
-        Ok(step)
+        Ok(())
     }
 
     // Reduces both by a row, which stays in the matrix where they take it.
@@ -107,25 +126,4 @@ fn reduce_last<R: Reducer, L: Ledger>(
     ensures columns { R.columns reducer.new ≡ R.columns reducer.old }
 {
     reducer.reduce(m, m.rows(), steps)
-}
-
-// The text of the canonical tree.
-fn text_of<R: Reducer>(alloc: Global, reducer: &R) -> Result<Vec<u8>, NoMemory> {
-    let mut text = Vec::new(alloc);
-    reducer.tree(alloc)?.print(&mut text)?;
-    Ok(text)
-}
-
-// The columns that are marked, in ascending order.
-fn marked_columns(alloc: Global, marks: &[bool]) -> Result<Vec<u32>, NoMemory>
-    requires { length marks.now ≤ COLUMN_BOUND }
-    ensures { IfOk result (λ row. IsRow (length marks.now) row.items) }
-{
-    let mut row = Vec::new(alloc);
-    for (before, marked) in marks.iter().enumerate() {
-        if *marked {
-            row.push(before as u32 + 1)?;
-        }
-    }
-    Ok(row)
 }

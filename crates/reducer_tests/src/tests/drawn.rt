@@ -1,13 +1,13 @@
 // Matrices of up to twelve columns that are drawn from a number.
 ghost use Rattle.std.specs.Prelude.{◌≡◌, ◌<◌, ◌≤◌, length, IfOk};
 
-use crate::tests::both::begin;
-use pq_plain::Step;
+use super::both::begin;
 use row_model::NoMemory;
 use std::alloc::Global;
 use std::process::Abort;
 use std::test::Fail;
 use step_count::{Blank, Brand, Ledger, Steps};
+use template_theory::Step;
 
 const MATRICES: u32 = 2000;
 

@@ -1,27 +1,19 @@
 // Every matrix of at most four columns and at most four rows.
 ghost use Rattle.std.specs.Prelude.{◌≡◌, ◌<◌, ◌≤◌};
 
-use crate::tests::both::begin;
+use super::both::begin;
+use super::marks::mark_bits;
 use std::alloc::Global;
 use std::process::Abort;
 use std::test::Fail;
 use step_count::{Blank, Brand, Ledger, Steps};
-
-// Marks the columns at the ones of a number in base two, the lowest digit first.
-fn mark_digits(number: u32, marks: &mut [bool]) {
-    let mut rest = number;
-    for mark in marks {
-        *mark = rest % 2 == 1;
-        rest /= 2;
-    }
-}
 
 // Gives the reducers rows in turn, each by the number that marks it.
 fn agree_on<L: Ledger>(
     rt: &impl Abort,
     alloc: Global,
     columns: u32,
-    numbers: &[u32],
+    numbers: &[u64],
     steps: &mut Steps<L>,
 ) -> Result<(), Fail>
     requires { (1 ≤ columns) × (columns ≤ 4) }
@@ -29,7 +21,7 @@ fn agree_on<L: Ledger>(
     let mut both = begin(alloc, columns)?;
     let mut marks = vec![in alloc; false; columns as usize]?;
     for number in numbers {
-        mark_digits(*number, &mut marks);
+        mark_bits(*number, &mut marks);
         both.take(rt, alloc, &marks, steps)?;
     }
     Ok(())
@@ -44,7 +36,7 @@ fn agree_on_lists<L: Ledger>(
 ) -> Result<(), Fail>
     requires { (1 ≤ columns) × (columns ≤ 4) }
 {
-    let rows = 1u32 << columns;
+    let rows = 1u64 << columns;
     for a in 0..rows {
         for b in 0..rows {
             for c in 0..rows {

@@ -8,4 +8,4 @@ returns g c =
     let row = c.args.row.now in
     let only : c.push_row.new.self.rows ≡ row ∷ [] =
     ap (λ (m : RowList). m.rows) c.in_ok-push_row.ensures.ok ∙ ap (λ (m : RowList). m.rows ++ row ∷ []) c.in_ok-m.ensures in
-    star_bound c.push_row.new.self.rows row c.args.columns _ _ _ only c.in_ok-arena.ensures.tree c.requires.from c.bubble.ensures.steps
+    star_bound c.push_row.new.self.rows row c.args.columns _ _ _ only c.in_ok-arena.ensures.tree c.requires.from c.bubble-found.ensures.steps
