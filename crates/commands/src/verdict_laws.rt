@@ -3,8 +3,8 @@ ghost use Rattle.commands.specs.Cores.{CoreGrammarLaw};
 ghost use Rattle.commands.specs.Verdicts.{GrammarLaw, LengthLaw, AddedLaw, PassedLaw};
 
 use clone_map::place_laws;
-use instance_model::{derived_sizes_law, textbook_law};
 use odd_cycle::cycle_length_law;
+use instance_model::{derived_sizes_law, textbook_law};
 use verdict_check::solved_laws;
 
 /// A verdict of an instance is in the grammar, and its text has no more bytes than a verdict that is judged.

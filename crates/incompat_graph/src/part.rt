@@ -1,12 +1,12 @@
 // Lines that are looked for in a small part of a matrix.
-ghost use Rattle.std.specs.Prelude.{◌≡◌, ◌+◌, ◌*◌, ◌≤◌, length, sum_by, IfOk, IfSome};
+ghost use Rattle.std.specs.Prelude.{◌+◌, ◌*◌, ◌≤◌, length, sum_by, IfOk, IsTrue};
 ghost use Rattle.row_model.specs.Rows.{IsRow};
 
-use crate::cycle::simple_cycle;
-use crate::search::odd_walk;
+use odd_cycle::Cycle;
 use row_model::{Line, Matrix, NoMemory, Pair, Why};
 use std::alloc::Global;
 use step_count::{Ledger, Steps};
+use walk_search::{odd_walk, simple_cycle};
 
 /// The most columns of a part.
 const MOST_COLUMNS: usize = 256;
@@ -26,33 +26,64 @@ pub fn lines_among<L: Ledger>(
 ) -> Result<Vec<Line>, NoMemory>
     ensures ticks { steps.new + left.new ≤ steps.old + left.old }
 {
-    let mut found = Vec::new(alloc);
     if columns.is_empty() || columns.len() > MOST_COLUMNS || rows.len() > MOST_ROWS {
-        return Ok(found);
+        return Ok(Vec::new(alloc));
     }
     let part = part_of(alloc, m, rows, columns, left, steps)?;
-    let Some(price) = price_of(&part) else {
-        return Ok(found);
+    if !pays(&part, left) {
+        return Ok(Vec::new(alloc));
+    }
+    match cycle_of(alloc, &part, steps)? {
+        Some(cycle) => lines_of(alloc, cycle.lines(), rows, columns),
+        None => Ok(Vec::new(alloc)),
+    }
+}
+
+// Takes the most steps of a search in the matrix from those that are left, and tells whether they are enough.
+fn pays(m: &Matrix, left: &mut u64) -> bool
+    ensures paid { IsTrue result → left.new + sum_by length m.now.rows * (2 * m.now.columns + 1) ≤ left.old }
+    ensures less { left.new ≤ left.old }
+{
+    let Some(price) = m.ones().checked_mul(2 * u64::from(m.columns()) + 1) else {
+        return false;
     };
-    let Some(rest) = left.checked_sub(price) else {
-        return Ok(found);
-    };
-    *left = rest;
-    if let Some(walk) = odd_walk(alloc, &part, part.rows(), steps)? {
-        for line in simple_cycle(alloc, &part, &walk)?.lines() {
-            if let Some(line) = line_of(*line, rows, columns) {
-                found.push(line)?;
-            }
+    match left.checked_sub(price) {
+        Some(rest) => {
+            *left = rest;
+            true
+        }
+        None => false,
+    }
+}
+
+// An odd cycle of the matrix, if it has one.
+fn cycle_of<L: Ledger>(
+    alloc: Global,
+    m: &Matrix,
+    steps: &mut Steps<L>,
+) -> Result<Option<Cycle>, NoMemory>
+    ensures ticks { steps.new ≤ steps.old + sum_by length m.now.rows * (2 * m.now.columns + 1) }
+{
+    match odd_walk(alloc, m, m.rows(), steps)? {
+        Some(walk) => Ok(Some(simple_cycle(alloc, m, &walk)?)),
+        None => Ok(None),
+    }
+}
+
+// The lines in the matrix of lines in the part.
+fn lines_of(
+    alloc: Global,
+    lines: &[Line],
+    rows: &[u32],
+    columns: &[u32],
+) -> Result<Vec<Line>, NoMemory> {
+    let mut found = Vec::new(alloc);
+    for line in lines {
+        if let Some(line) = line_of(*line, rows, columns) {
+            found.push(line)?;
         }
     }
     Ok(found)
-}
-
-// The most steps of a search in a matrix, if they fit.
-fn price_of(m: &Matrix) -> Option<u64>
-    ensures { IfSome result (λ price. price ≡ sum_by length m.now.rows * (2 * m.now.columns + 1)) }
-{
-    m.ones().checked_mul(2 * u64::from(m.columns()) + 1)
 }
 
 // The part of the matrix in these rows and columns, which are numbered by their positions, from 1. It ends before the

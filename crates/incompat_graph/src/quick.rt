@@ -7,12 +7,10 @@ ghost use Rattle.row_model.specs.Cycles.{IsOddCycle};
 use crate::around::walk_around;
 use crate::borders::met_at_borders;
 use crate::checked::checked_cycle;
-use crate::cycle::simple_cycle;
 use crate::links::odd_links;
 use crate::part::lines_among;
 use crate::repeats::without_repeats;
 use crate::sample::{Sample, sample_of};
-use crate::search::walk_across;
 use crate::shorter::shorter_cycle;
 use crate::ways::Front;
 use odd_cycle::Cycle;
@@ -20,6 +18,7 @@ use open_gaps::OpenGaps;
 use row_model::{Matrix, NoMemory, positions};
 use std::alloc::Global;
 use step_count::{Ledger, Steps};
+use walk_search::{simple_cycle, walk_across};
 
 /// The most steps of an attempt.
 const MOST_STEPS: u64 = 16_777_216;

@@ -1,12 +1,12 @@
 // A shorter odd cycle among the rows and columns that a cycle meets.
-ghost use Rattle.std.specs.Prelude.{◌+◌, ◌≤◌, length, take, IfOk};
+ghost use Rattle.std.specs.Prelude.{◌+◌, ◌≤◌, length, take, IfOk, IfSome};
 ghost use Rattle.row_model.specs.Cycles.{IsOddCycle};
 
 use crate::checked::checked_cycle;
 use crate::met::Met;
 use crate::part::lines_among;
 use odd_cycle::Cycle;
-use row_model::{Matrix, NoMemory};
+use row_model::{Line, Matrix, NoMemory};
 use std::alloc::Global;
 use step_count::{Ledger, Steps};
 
@@ -38,13 +38,29 @@ pub fn shorter_cycle<L: Ledger>(
     if cycle.lines().len() > FEW_LINES {
         return Ok(cycle);
     }
-    let mut met = Met::new(alloc);
-    met.add_lines(cycle.lines())?;
-    met.settle();
-    let mut left = most;
-    let lines = lines_among(alloc, m, &met.rows, &met.columns, &mut left, steps)?;
-    match checked_cycle(alloc, m, rows, lines, &mut left, steps)? {
+    match cycle_among(alloc, m, rows, cycle.lines(), most, steps)? {
         Some(found) if found.lines().len() < cycle.lines().len() => Ok(found),
         _ => Ok(cycle),
     }
+}
+
+// An odd cycle of the first rows, which is looked for among the rows and columns that the lines meet.
+fn cycle_among<L: Ledger>(
+    alloc: Global,
+    m: &Matrix,
+    rows: u32,
+    lines: &[Line],
+    most: u64,
+    steps: &mut Steps<L>,
+) -> Result<Option<Cycle>, NoMemory>
+    requires rows { rows ≤ length m.now.rows }
+    ensures cycle { IfOk result (λ found. IfSome found (IsOddCycle m.now.columns (take rows m.now.rows))) }
+    ensures ticks { steps.new ≤ steps.old + most }
+{
+    let mut met = Met::new(alloc);
+    met.add_lines(lines)?;
+    met.settle();
+    let mut left = most;
+    let found = lines_among(alloc, m, &met.rows, &met.columns, &mut left, steps)?;
+    checked_cycle(alloc, m, rows, found, &mut left, steps)
 }

@@ -26,7 +26,7 @@ abbrev pub table_within : Inside → GapTable
 table_within t = record { order = t.order.items; gaps = t.gaps.items }
 
 -- an order of columns, the position of each, and as many gaps as positions
-pub record IsKept (t : Inside) : Type 0 where
+pub record HasEachGap (t : Inside) : Type 0 where
   pub few : length t.order.items ≤ COLUMN_BOUND
   pub order : IsOrder (length t.order.items) t.order.items
   pub positions : ArePositions t.order.items t.positions.items

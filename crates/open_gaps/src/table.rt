@@ -27,11 +27,11 @@ impl Model for OpenGaps {
 
     ghost Value = { GapTable };
 
-    ghost use Rattle.open_gaps.specs.Tables.{table_within, IsKept};
+    ghost use Rattle.open_gaps.specs.Tables.{table_within, HasEachGap};
 
     ghost view = { table_within };
 
-    ghost invariant = { IsKept };
+    ghost invariant = { HasEachGap };
 }
 
 impl OpenGaps {

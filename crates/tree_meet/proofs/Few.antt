@@ -5,7 +5,7 @@ use Rattle.column_order.proofs.Counts.{order_length}
 use Rattle.pq_tree.specs.Outline.{Outline, Forest, leaf, p_node, q_node, no_tree, tree_and, leaves, leaves_of}
 use Rattle.pq_tree.specs.Forests.{count}
 use Rattle.pq_tree.specs.Proper.{HasArities, HaveArities, IsProper}
-use Rattle.tree_meet.specs.TreeRows.{pairs_from, neighbours, groups, groups_of, row_of, rows_of_tree}
+use Rattle.tree_meet.specs.TreeRows.{pairs_from, neighbours, groups, groups_of, row_of_group, rows_of_tree}
 
 pairs_few : (t : Outline) (us : Forest) → length (pairs_from t us) ≡ count us
 pairs_few t no_tree = refl
@@ -28,4 +28,4 @@ mutual
       omega (arith, groups_few t h.0, groups_of_few ts h.1, length-append (groups t) (groups_of ts), length-append (leaves t) (leaves_of ts))
 
 pub rows_few : (c : ℕ) (t : Outline) → IsProper c t → length (rows_of_tree c t) + 2 ≤ c + c
-rows_few c t proper = omega (arith, groups_few t proper.0, order_length c (leaves t) proper.1, length-map (groups t) (row_of c))
+rows_few c t proper = omega (arith, groups_few t proper.0, order_length c (leaves t) proper.1, length-map (groups t) (row_of_group c))

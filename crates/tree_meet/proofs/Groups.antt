@@ -6,7 +6,7 @@ use Rattle.column_order.proofs.Lists.{has_append_left, has_append_right, has_app
 use Rattle.row_model.proofs.Filtered.{has_filtered, filtered_row}
 use Rattle.row_model.proofs.Ascending.{row_within}
 use Rattle.pq_tree.specs.Outline.{Outline, Forest, leaf, p_node, q_node, no_tree, tree_and, leaves, leaves_of}
-use Rattle.tree_meet.specs.TreeRows.{pairs_from, neighbours, groups, groups_of, row_of}
+use Rattle.tree_meet.specs.TreeRows.{pairs_from, neighbours, groups, groups_of, row_of_group}
 
 -- each column of the one list is in the other
 abbrev pub IsPart : List ℕ → List ℕ → Type 0
@@ -64,11 +64,11 @@ module _ (l : List ℕ) where
         (groups_of_part ts (λ a i. h a (has_append_right (leaves t) (leaves_of ts) a i)))
 
 -- the row of a group has exactly its columns
-pub row_has : (c : ℕ) (g : List ℕ) (a : ℕ) → IsWithin c g → IsTrue (has g a) → IsTrue (has (row_of c g) a)
+pub row_has : (c : ℕ) (g : List ℕ) (a : ℕ) → IsWithin c g → IsTrue (has g a) → IsTrue (has (row_of_group c g) a)
 row_has c g a within h = let w = within a h in has_filtered (has g) c a w.0 w.1 ∙ h
 
-pub row_lacks : (c : ℕ) (g : List ℕ) (a : ℕ) → 1 ≤ a → a ≤ c → IsFalse (has g a) → IsFalse (has (row_of c g) a)
+pub row_lacks : (c : ℕ) (g : List ℕ) (a : ℕ) → 1 ≤ a → a ≤ c → IsFalse (has g a) → IsFalse (has (row_of_group c g) a)
 row_lacks c g a from to h = has_filtered (has g) c a from to ∙ h
 
-pub has_in_row : (c : ℕ) (g : List ℕ) (a : ℕ) → IsTrue (has (row_of c g) a) → IsTrue (has g a)
-has_in_row c g a h = let w = row_within c (row_of c g) (filtered_row (has g) c) a h in sym (has_filtered (has g) c a w.0 w.1) ∙ h
+pub has_in_row : (c : ℕ) (g : List ℕ) (a : ℕ) → IsTrue (has (row_of_group c g) a) → IsTrue (has g a)
+has_in_row c g a h = let w = row_within c (row_of_group c g) (filtered_row (has g) c) a h in sym (has_filtered (has g) c a w.0 w.1) ∙ h

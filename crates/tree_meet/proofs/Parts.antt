@@ -6,14 +6,14 @@ use Rattle.std.specs.declared.alloc.Global.{Global}
 use Rattle.std.proofs.lemmas.Bool.{cases_eq, ne_eqb}
 use Rattle.std.proofs.lemmas.List.{get_or-set_same, get_or-set_other, get_or-map, get_or-replicate, map-set, length-map, length-set, length-replicate, take_more, take_all}
 use Rattle.std.proofs.lemmas.List.Elements.{filter-append}
-use Rattle.tree_meet.specs.Marks.{lists_of, list_at, is_at, Adds, ArePartsBy}
+use Rattle.tree_meet.specs.Marks.{lists_of, list_at, is_at, AddsWhere, ArePartsBy}
 
 abbrev items : Vec ℕ Global → List ℕ
 items list = list.items
 
 -- the list at an index grew by a column
 pub adds_one : (old new : List (Vec ℕ Global)) (at x : ℕ) (v w : Vec ℕ Global) → at < length old → v ≡ get_or old at v → w.items ≡ v.items ++ x ∷ [] →
-    new ≡ set old at w → Adds (is_at at) x old new
+    new ≡ set old at w → AddsWhere (is_at at) x old new
 adds_one old new at x v w l e p s =
     let m : lists_of new ≡ set (lists_of old) at w.items = ap lists_of s ∙ map-set items old at w in
     let was : list_at old at ≡ v.items = get_or-map items old at v [] l ∙ ap items (sym e) in (
@@ -44,7 +44,7 @@ module _ (test : ℕ → ℕ → Bool) (marks row : List ℕ) (count : ℕ) wher
 
   -- one column more
   pub parts_more : (old new : List (Vec ℕ Global)) (k : ℕ) → k < length row → ArePartsBy test marks (take k row) count old →
-      Adds (test (get_or marks (get_or row k 0) 0)) (get_or row k 0) old new → ArePartsBy test marks (take (k + 1) row) count new
+      AddsWhere (test (get_or marks (get_or row k 0) 0)) (get_or row k 0) old new → ArePartsBy test marks (take (k + 1) row) count new
   parts_more old new k l p a =
       let x = get_or row k 0 in (
         a.0 ∙ p.0,

@@ -17,7 +17,7 @@ use Rattle.tied_law.proofs.Bridge.{alike_eq, evenly_eq, last_row_closed, closed_
 use Rattle.tied_law.proofs.Alike.{Alike, frontier_bound}
 use Rattle.tied_law.proofs.Exact.{order_rises}
 use Rattle.tied_law.proofs.Exact.{tied_law}
-use Rattle.tree_meet.specs.TreeRows.{groups, row_of, rows_of_tree}
+use Rattle.tree_meet.specs.TreeRows.{groups, row_of_group, rows_of_tree}
 use Rattle.tree_meet.proofs.Groups.{IsPart, each, all_map, map_all, groups_part, row_has, row_lacks, has_in_row}
 use Rattle.tree_meet.proofs.Closed.{IsGroup, bound_by_groups, groups_closed}
 
@@ -39,7 +39,7 @@ module _ (c : ℕ) (l : List ℕ) (whole : IsOrder c l) where
   part_within g h a i = order_within c l whole a (h a i)
 
   -- a group is closed where its row is
-  group_closed : (R : Pair → Pair → Type 0) (g : List ℕ) → IsPart g l × IsClosed R l (row_of c g) → IsClosed R l g
+  group_closed : (R : Pair → Pair → Type 0) (g : List ℕ) → IsPart g l × IsClosed R l (row_of_group c g) → IsClosed R l g
   group_closed R g h a b d i j k n =
       let w = order_within c l whole d k in
       h.1 a b d (row_has c g a (part_within g h.0) i) (row_has c g b (part_within g h.0) j) k (row_lacks c g d w.0 w.1 n)
@@ -55,12 +55,12 @@ rows_bind c t proper =
     let R : Pair → Pair → Type 0 = Evenly c (rows_of_tree c t) in
     let parts : AllByRecursion (λ g. IsPart g l) (groups t) = groups_part l t (λ a i. i) in
     let sub : AllByRecursion (λ row. IsPart row l) (rows_of_tree c t) =
-    map_all (λ row. IsPart row l) (row_of c) (groups t)
-    (each (λ g. IsPart g l) (λ g. IsPart (row_of c g) l) (λ g h a i. h a (has_in_row c g a i)) (groups t) parts) in
-    let rows : AllByRecursion (λ g. IsClosed R l (row_of c g)) (groups t) =
-    all_map (IsClosed R l) (row_of c) (groups t) (rows_closed c l proper.1 [] (rows_of_tree c t) sub) in
+    map_all (λ row. IsPart row l) (row_of_group c) (groups t)
+    (each (λ g. IsPart g l) (λ g. IsPart (row_of_group c g) l) (λ g h a i. h a (has_in_row c g a i)) (groups t) parts) in
+    let rows : AllByRecursion (λ g. IsClosed R l (row_of_group c g)) (groups t) =
+    all_map (IsClosed R l) (row_of_group c) (groups t) (rows_closed c l proper.1 [] (rows_of_tree c t) sub) in
     bound_by_groups R (evenly_eq c (rows_of_tree c t)) l t proper.0 (order_once c l proper.1) (λ a i. i)
-    (each (λ g. IsPart g l × IsClosed R l (row_of c g)) (IsClosed R l) (group_closed c l proper.1 R) (groups t) (zip_all (λ g. IsPart g l) (λ g. IsClosed R l (row_of c g)) (groups t) parts rows))
+    (each (λ g. IsPart g l × IsClosed R l (row_of_group c g)) (IsClosed R l) (group_closed c l proper.1 R) (groups t) (zip_all (λ g. IsPart g l) (λ g. IsClosed R l (row_of_group c g)) (groups t) parts rows))
 
 -- each frontier keeps the row of each group
 rows_kept : (c : ℕ) (t : Outline) → IsProper c t → (f : List ℕ) → IsFrontier t f → All (Keeps f) (rows_of_tree c t)
@@ -72,12 +72,12 @@ rows_kept c t proper f h =
     let own : IsGroup R l l = (λ a i. i, λ a b d i j k n. absurd (both_ways (has l d) n k)) in
     let closed : AllByRecursion (IsGroup R l) (groups t) = groups_closed R (alike_eq (place f)) l t own bound in
     All-from_recursion (Keeps f) (rows_of_tree c t)
-    (map_all (Keeps f) (row_of c) (groups t)
-    (each (IsGroup R l) (λ g. Keeps f (row_of c g))
-    (λ g k. closed_keeps f (row_of c g) once
+    (map_all (Keeps f) (row_of_group c) (groups t)
+    (each (IsGroup R l) (λ g. Keeps f (row_of_group c g))
+    (λ g k. closed_keeps f (row_of_group c g) once
     (λ a b d i j m n.
     k.1 a b d (has_in_row c g a i) (has_in_row c g b j) (sym (frontier_has t f d h) ∙ m)
-    (false_from_ne_true (has g d) (λ y. both_ways (has (row_of c g) d) n (row_has c g d (part_within c l proper.1 g k.0) y)))))
+    (false_from_ne_true (has g d) (λ y. both_ways (has (row_of_group c g) d) n (row_has c g d (part_within c l proper.1 g k.0) y)))))
     (groups t) closed))
 
 pub tied_to_rows : (c : ℕ) (t : Outline) → IsProper c t → IsTied c (rows_of_tree c t) t

@@ -11,7 +11,7 @@ use Rattle.row_model.proofs.Columns.{columns_same}
 use Rattle.row_model.proofs.Filtered.{filtered_row}
 use Rattle.pq_tree.specs.Outline.{Outline, leaf, leaves, leaves_of}
 use Rattle.pq_tree.specs.Forests.{forest}
-use Rattle.tree_meet.specs.TreeRows.{pairs_from, neighbours, groups, groups_of, row_of}
+use Rattle.tree_meet.specs.TreeRows.{pairs_from, neighbours, groups, groups_of, row_of_group}
 use Rattle.tree_meet.specs.Marks.{AreMarkedByTree, lists_of, is_at, is_near, ArePartsBy}
 use Rattle.tree_meet.proofs.Groups.{has_in_row}
 use Rattle.tree_meet.proofs.Marked.{marks_range, marks_tell_one, marks_tell_pair}
@@ -25,7 +25,7 @@ filter_filter p q (x ∷ xs) =
     ]
 
 -- the columns of a row that pass a test are the row of a group, where the test tells them
-part_row : (c : ℕ) (all group row : List ℕ) (p : ℕ → Bool) → row ≡ row_of c all → ((a : ℕ) → (has all a && p a) ≡ has group a) → filter p row ≡ row_of c group
+part_row : (c : ℕ) (all group row : List ℕ) (p : ℕ → Bool) → row ≡ row_of_group c all → ((a : ℕ) → (has all a && p a) ≡ has group a) → filter p row ≡ row_of_group c group
 part_row c all group row p e tell =
     ap (filter p) e ∙ filter_filter p (has all) (range_with_len 1 c) ∙ columns_same c (λ a. has all a && p a) (has group) (λ j _. tell (j + 1))
 
@@ -48,34 +48,34 @@ neighbours_at d (t ∷ us) i h =
     let e : suc i ≡ i + 1 = omega arith in
     subst (λ n. get_or (pairs_from t (forest us)) i [] ≡ leaves (get_or (t ∷ us) i d) ++ leaves (get_or (t ∷ us) n d)) e (pairs_from_at d t us i (omega arith))
 
-module _ (c : ℕ) (marks row : List ℕ) (ts : List Outline) (is : row ≡ row_of c (leaves_of (forest ts)))
+module _ (c : ℕ) (marks row : List ℕ) (ts : List Outline) (is : row ≡ row_of_group c (leaves_of (forest ts)))
     (marked : AreMarkedByTree marks 0 (forest ts)) (once : (a : ℕ) → occurs (leaves_of (forest ts)) a ≤ 1) where
   d : Outline
   d = leaf 0
 
   -- the parts are the rows of the trees
-  pub parts_rows : (lists : List (Vec ℕ Global)) → ArePartsBy is_at marks row (length ts) lists → lists_of lists ≡ map (λ t. row_of c (leaves t)) ts
+  pub parts_rows : (lists : List (Vec ℕ Global)) → ArePartsBy is_at marks row (length ts) lists → lists_of lists ≡ map (λ t. row_of_group c (leaves t)) ts
   parts_rows lists h =
-      ext_get_or [] (lists_of lists) (map (λ t. row_of c (leaves t)) ts)
-      (length-map lists (λ (list : Vec ℕ Global). list.items) ∙ h.0 ∙ sym (length-map ts (λ t. row_of c (leaves t))))
+      ext_get_or [] (lists_of lists) (map (λ t. row_of_group c (leaves t)) ts)
+      (length-map lists (λ (list : Vec ℕ Global). list.items) ∙ h.0 ∙ sym (length-map ts (λ t. row_of_group c (leaves t))))
       (λ i l.
       let within : i < length ts = omega (arith, l, length-map lists (λ (list : Vec ℕ Global). list.items), h.0) in
       h.1 i within ∙
       part_row c (leaves_of (forest ts)) (leaves (get_or ts i d)) row (λ a. is_at (get_or marks a 0) i) is (marks_tell_one marks ts d marked once i within) ∙
-      sym (get_or-map (λ t. row_of c (leaves t)) ts i d [] within))
+      sym (get_or-map (λ t. row_of_group c (leaves t)) ts i d [] within))
 
   -- and the pairs those of each two neighbours
-  pub pairs_rows : (lists : List (Vec ℕ Global)) → ArePartsBy is_near marks row (length ts - 1) lists → lists_of lists ≡ map (row_of c) (neighbours (forest ts))
+  pub pairs_rows : (lists : List (Vec ℕ Global)) → ArePartsBy is_near marks row (length ts - 1) lists → lists_of lists ≡ map (row_of_group c) (neighbours (forest ts))
   pairs_rows lists h =
-      ext_get_or [] (lists_of lists) (map (row_of c) (neighbours (forest ts)))
-      (length-map lists (λ (list : Vec ℕ Global). list.items) ∙ h.0 ∙ sym (length-map (neighbours (forest ts)) (row_of c) ∙ neighbours_count ts))
+      ext_get_or [] (lists_of lists) (map (row_of_group c) (neighbours (forest ts)))
+      (length-map lists (λ (list : Vec ℕ Global). list.items) ∙ h.0 ∙ sym (length-map (neighbours (forest ts)) (row_of_group c) ∙ neighbours_count ts))
       (λ i l.
       let within : i < length ts - 1 = omega (arith, l, length-map lists (λ (list : Vec ℕ Global). list.items), h.0) in
       h.1 i within ∙
       part_row c (leaves_of (forest ts)) (leaves (get_or ts i d) ++ leaves (get_or ts (i + 1) d)) row (λ a. is_near (get_or marks a 0) i) is (marks_tell_pair marks ts d marked once i (omega arith)) ∙
       sym (
-      get_or-map (row_of c) (neighbours (forest ts)) i [] [] (omega (arith, within, neighbours_count ts)) ∙
-      ap (row_of c) (neighbours_at d ts i (omega arith))
+      get_or-map (row_of_group c) (neighbours (forest ts)) i [] [] (omega (arith, within, neighbours_count ts)) ∙
+      ap (row_of_group c) (neighbours_at d ts i (omega arith))
       ))
 
   -- the marks of the columns of the row are those of the trees
@@ -86,7 +86,7 @@ module _ (c : ℕ) (marks row : List ℕ) (ts : List Outline) (is : row ≡ row_
       (within a k, omega (arith, (marks_range marks 0 ts marked a k).1))
 
 -- each row of a group is a row
-pub group_rows : (c : ℕ) (gs : List (List ℕ)) → AllByRecursion (IsRow c) (map (row_of c) gs)
+pub group_rows : (c : ℕ) (gs : List (List ℕ)) → AllByRecursion (IsRow c) (map (row_of_group c) gs)
 group_rows c [] = tt
 group_rows c (g ∷ gs) = (filtered_row (has g) c, group_rows c gs)
 

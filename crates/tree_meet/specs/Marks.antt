@@ -28,8 +28,8 @@ abbrev pub is_near : ℕ → ℕ → Bool
 is_near mark i = (mark == i) || (mark == i + 1)
 
 -- each of the lists at whose index the test passes has one column more
-abbrev pub Adds : (ℕ → Bool) → ℕ → List (Vec ℕ Global) → List (Vec ℕ Global) → Type 0
-Adds test column old new =
+abbrev pub AddsWhere : (ℕ → Bool) → ℕ → List (Vec ℕ Global) → List (Vec ℕ Global) → Type 0
+AddsWhere test column old new =
     (length new ≡ length old)
     × ((i : ℕ) → i < length old → list_at new i ≡ list_at old i ++ (if test i then column ∷ [] else []))
 

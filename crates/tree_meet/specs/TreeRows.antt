@@ -28,9 +28,9 @@ abbrev mutual
   groups_of (tree_and t ts) = groups t ++ groups_of ts
 
 -- the columns of a group in ascending order
-abbrev pub row_of : ℕ → List ℕ → List ℕ
-row_of c group = columns_where c (has group)
+abbrev pub row_of_group : ℕ → List ℕ → List ℕ
+row_of_group c group = columns_where c (has group)
 
 -- the rows of a tree over 1 to c: one for each of its groups
 abbrev pub rows_of_tree : ℕ → Outline → List (List ℕ)
-rows_of_tree c t = map (row_of c) (groups t)
+rows_of_tree c t = map (row_of_group c) (groups t)

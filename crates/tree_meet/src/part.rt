@@ -2,7 +2,7 @@
 
 ghost use Rattle.std.specs.Prelude.{◌≡◌, ◌<◌, ◌≤◌, ℕ, [], length, replicate, slice_index, IfOk, OnOk, IsTrue};
 ghost use Rattle.column_order.specs.Orders.{has};
-ghost use Rattle.tree_meet.specs.Marks.{lists_of, is_at, is_near, Adds, ArePartsBy};
+ghost use Rattle.tree_meet.specs.Marks.{lists_of, is_at, is_near, AddsWhere, ArePartsBy};
 
 use row_model::NoMemory;
 use std::alloc::Global;
@@ -56,7 +56,7 @@ fn empty_lists(alloc: Global, count: usize) -> Result<Vec<Vec<u32>>, NoMemory>
 // Adds a column to the list at an index.
 fn add_at(lists: &mut Vec<Vec<u32>>, at: usize, column: u32) -> Result<(), NoMemory>
     requires { at < length lists.old.items }
-    ensures { OnOk result (Adds (is_at at) column lists.old.items lists.new.items) }
+    ensures { OnOk result (AddsWhere (is_at at) column lists.old.items lists.new.items) }
 {
     let list = &mut lists[at];
     list.push(column)?;
@@ -66,7 +66,7 @@ fn add_at(lists: &mut Vec<Vec<u32>>, at: usize, column: u32) -> Result<(), NoMem
 // Adds a column to the list at an index and to the one before it, where there are such lists.
 fn add_near(lists: &mut Vec<Vec<u32>>, at: usize, column: u32) -> Result<(), NoMemory>
     requires { at ≤ length lists.old.items }
-    ensures { OnOk result (Adds (is_near at) column lists.old.items lists.new.items) }
+    ensures { OnOk result (AddsWhere (is_near at) column lists.old.items lists.new.items) }
 {
     if at > 0 {
         add_at(lists, at - 1, column)?;

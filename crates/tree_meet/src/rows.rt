@@ -10,7 +10,7 @@ ghost use Rattle.row_model.specs.Rows.{IsRow};
 ghost use Rattle.pq_tree.specs.Outline.{leaves, leaves_of};
 ghost use Rattle.pq_tree.specs.PqTree.{column_count, outline};
 ghost use Rattle.pq_tree.specs.Proper.{outline_of, forest};
-ghost use Rattle.tree_meet.specs.TreeRows.{groups, groups_of, row_of, rows_of_tree};
+ghost use Rattle.tree_meet.specs.TreeRows.{groups, groups_of, row_of_group, rows_of_tree};
 ghost use Rattle.tree_meet.specs.Marks.{lists_of};
 
 use crate::mark::mark_trees;
@@ -59,7 +59,7 @@ pub fn push_rows(alloc: Global, tree: &PqTree, m: &mut Matrix) -> Result<(), NoM
 
 // All columns of a tree, which are the row of its leaves.
 fn all_columns(alloc: Global, tree: &PqTree) -> Result<Vec<u32>, NoMemory>
-    ensures row { IfOk result (λ row. row.items ≡ row_of (column_count tree.now) (leaves (outline tree.now))) }
+    ensures row { IfOk result (λ row. row.items ≡ row_of_group (column_count tree.now) (leaves (outline tree.now))) }
     ensures count { IfOk result (λ row. length row.items ≡ column_count tree.now) }
 {
     let mut columns = Vec::with_capacity(alloc, tree.columns() as usize)?;
@@ -78,7 +78,7 @@ fn push_tree(
     marks: &mut [usize],
     m: &mut Matrix,
 ) -> Result<(), NoMemory>
-    requires row { row.now ≡ row_of m.old.columns (leaves (outline_of tree.now)) }
+    requires row { row.now ≡ row_of_group m.old.columns (leaves (outline_of tree.now)) }
     requires within { IsWithin m.old.columns (leaves (outline_of tree.now)) }
     requires once { (a : ℕ) → occurs (leaves (outline_of tree.now)) a ≤ 1 }
     requires marks { length marks.old ≡ m.old.columns + 1 }
@@ -117,13 +117,13 @@ fn push_trees(
     marks: &mut [usize],
     m: &mut Matrix,
 ) -> Result<(), NoMemory>
-    requires rows { lists_of rows.now ≡ map (λ t. row_of m.old.columns (leaves t)) (map outline_of trees.now) }
+    requires rows { lists_of rows.now ≡ map (λ t. row_of_group m.old.columns (leaves t)) (map outline_of trees.now) }
     requires within { IsWithin m.old.columns (leaves_of (forest (map outline_of trees.now))) }
     requires once { (a : ℕ) → occurs (leaves_of (forest (map outline_of trees.now))) a ≤ 1 }
     requires marks { length marks.old ≡ m.old.columns + 1 }
     requires room { length m.old.rows + length (groups_of (forest (map outline_of trees.now))) ≤ ROW_BOUND }
     ensures { OnOk result (m.new ≡ record m.old {
-      rows = m.old.rows ++ map (row_of m.old.columns) (groups_of (forest (map outline_of trees.now)));
+      rows = m.old.rows ++ map (row_of_group m.old.columns) (groups_of (forest (map outline_of trees.now)));
     }) }
 {
     for (i, tree) in trees.iter().enumerate() {

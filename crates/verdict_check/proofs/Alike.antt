@@ -8,7 +8,7 @@ use Rattle.row_model.specs.declared.graph.Why.TheVariants.{Flip, Row}
 use Rattle.row_model.specs.Graph.{pair, Joined, Evenly}
 use Rattle.row_model.proofs.Walks.{evenly-refl, evenly-sym, evenly-trans}
 use Rattle.tied_law.specs.Tied.{IsClosed}
-use Rattle.verdict_check.specs.Complete.{StandsAt, IsOutside, pair_at}
+use Rattle.verdict_check.specs.Complete.{RunsFrom, IsOutside, pair_at}
 use Rattle.verdict_check.proofs.Places.{stands_has, has_stands, outside_has, outside_lacks}
 
 -- a relation that puts pairs into classes
@@ -30,7 +30,7 @@ abbrev pub AlikeUpTo : (Pair → Pair → Type 0) → List ℕ → ℕ → ℕ �
 AlikeUpTo R l first last to =
     (x y i : ℕ) → first ≤ x → x < to → first ≤ y → y < to → i < length l → IsOutside first last i → R (pair_at l x i) (pair_at l y i)
 
-module _ (R : Pair → Pair → Type 0) (l xs : List ℕ) (s : ℕ) (h : StandsAt l s xs) where
+module _ (R : Pair → Pair → Type 0) (l xs : List ℕ) (s : ℕ) (h : RunsFrom l s xs) where
   pub closed_from : AlikeUpTo R l s (s + length xs) (s + length xs) → IsClosed R l xs
   closed_from alike = λ a b d ha hb hd hn.
       let x = has_stands l xs s a h ha in

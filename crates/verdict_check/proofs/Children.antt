@@ -13,7 +13,7 @@ use Rattle.pq_tree.specs.declared.Tree.{Tree, P, Q}
 use Rattle.pq_tree.proofs.Forests.{forest_append, arities_join_right, leaves_of-join}
 use Rattle.pq_tree.proofs.Shown.{outline_of-P, outline_of-Q, leaves_of_node, front_more}
 use Rattle.tied_law.specs.Tied.{IsForward}
-use Rattle.verdict_check.specs.Complete.{StandsAt}
+use Rattle.verdict_check.specs.Complete.{RunsFrom}
 use Rattle.verdict_check.proofs.HoldsSteps.{rest_at}
 use Rattle.verdict_check.proofs.Places.{stands_left, stands_right}
 
@@ -70,13 +70,13 @@ module _ (ts : List Tree) (i : ℕ) (child : Tree) (lt : i < length ts) (is : ch
       let next : HaveArities (tree_and (outline_of child) (forest (map outline_of (drop (i + 1) ts)))) = subst HaveArities (rest_at ts i child lt is) rest in
       next.0
 
-module _ (l : List ℕ) (ts : List Tree) (s i at : ℕ) (child : Tree) (lt : i < length ts) (is : child ≡ get_or ts i child) (h : StandsAt l s (columns_of ts)) (e : at ≡ s + length (columns_of (take i ts))) where
+module _ (l : List ℕ) (ts : List Tree) (s i at : ℕ) (child : Tree) (lt : i < length ts) (is : child ≡ get_or ts i child) (h : RunsFrom l s (columns_of ts)) (e : at ≡ s + length (columns_of (take i ts))) where
   -- where the columns of a child stand
-  pub child_stands : StandsAt l at (leaves (outline_of child))
+  pub child_stands : RunsFrom l at (leaves (outline_of child))
   child_stands =
-      subst (λ n. StandsAt l n (leaves (outline_of child))) (sym e)
+      subst (λ n. RunsFrom l n (leaves (outline_of child))) (sym e)
       (stands_left l (leaves (outline_of child)) (columns_of (drop (i + 1) ts)) (s + length (columns_of (take i ts)))
-      (stands_right l (columns_of (take i ts)) (leaves (outline_of child) ++ columns_of (drop (i + 1) ts)) s (subst (StandsAt l s) (around ts i child lt is) h)))
+      (stands_right l (columns_of (take i ts)) (leaves (outline_of child) ++ columns_of (drop (i + 1) ts)) s (subst (RunsFrom l s) (around ts i child lt is) h)))
 
   -- where the next child begins
   pub next_at : at + length (leaves (outline_of child)) ≡ s + length (columns_of (take (i + 1) ts))

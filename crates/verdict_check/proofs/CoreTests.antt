@@ -19,7 +19,7 @@ use Rattle.row_core.specs.Laws.{BlameLaw}
 use Rattle.row_core.specs.Texts.{TextValue}
 use Rattle.verdict_check.specs.Tests.{numbers}
 use Rattle.verdict_check.specs.NoTests.{HasLine, pair_after, PassesLength, PassesPair, PassesRepeat}
-use Rattle.verdict_check.specs.Core.{line_tests, core_tests, order_of, PassesOrder, PassesCoreJoin, PassesCore, IsAcceptedCore, NamesCoreLaw, ToldCoreLaw}
+use Rattle.verdict_check.specs.Core.{line_tests, core_tests, order_without, PassesCoreOrder, PassesCoreJoin, PassesCore, IsAcceptedCore, NamesCoreLaw, ToldCoreLaw}
 use Rattle.verdict_check.specs.Accepted.{IsFirstFailing}
 use Rattle.verdict_check.specs.Found.{IsLeastFailing, Finds}
 use Rattle.verdict_check.specs.declared.core_outcome.CoreReason.{CoreReason}
@@ -110,15 +110,15 @@ module _ (m : RowList) (kind : Kind) (t : TextValue) where
       none = blame m t.parts.rows t.parts.lines walk among;
       others = λ k h.
           let there = at_place t.parts.rows k h in
-          let passed : PassesOrder m t.parts (get_or t.parts.rows (place t.parts.rows k) 0) = item_of_all (PassesCore m kind t) reason.Order t.parts.rows (place t.parts.rows k) 0 split.0 there.0 in
-          (order_of t.parts k, subst (PassesOrder m t.parts) there.1 passed);
+          let passed : PassesCoreOrder m t.parts (get_or t.parts.rows (place t.parts.rows k) 0) = item_of_all (PassesCore m kind t) reason.Order t.parts.rows (place t.parts.rows k) 0 split.0 there.0 in
+          (order_without t.parts k, subst (PassesCoreOrder m t.parts) there.1 passed);
     }
 
 pub names_core : BlameLaw → NamesCoreLaw
 names_core blame m kind t accepted = names m kind t accepted blame
 
 -- the order of a row that is told is the one at its place
-told_order : (m : RowList) (parts : CoreParts) → TellsCore m parts → (i : ℕ) → i < length parts.rows → PassesOrder m parts (get_or parts.rows i 0)
+told_order : (m : RowList) (parts : CoreParts) → TellsCore m parts → (i : ℕ) → i < length parts.rows → PassesCoreOrder m parts (get_or parts.rows i 0)
 told_order m parts h i l =
     let at : place parts.rows (get_or parts.rows i 0) ≡ i = place_at parts.rows (row_once (length m.rows) parts.rows h.core.rows) i l in
     subst (λ n. IsValidOrder m.columns (rows_at m.rows (but (get_or parts.rows i 0) parts.rows)) (get_or parts.orders n [])) (sym at) (h.orders i l).valid
@@ -221,11 +221,11 @@ here_joined m rows lines i d next l e h =
 
 -- the order of the row at an index
 pub order_here : (m : RowList) (parts : CoreParts) (i : ℕ) (rows o : List ℕ) → AreRowNumbers (length m.rows) parts.rows → i < length parts.rows → rows ≡ parts.rows
-    → slice_get parts.orders (i + 1 - 1) ≡ Some o → IsValidOrder m.columns (rows_at m.rows (but (get_or rows i 0) rows)) o ↔ PassesOrder m parts (get_or parts.rows i 0)
+    → slice_get parts.orders (i + 1 - 1) ≡ Some o → IsValidOrder m.columns (rows_at m.rows (but (get_or rows i 0) rows)) o ↔ PassesCoreOrder m parts (get_or parts.rows i 0)
 order_here m parts i rows o numbers l e g =
     let at : place parts.rows (get_or parts.rows i 0) ≡ i = place_at parts.rows (row_once (length m.rows) parts.rows numbers) i l in
     let found : get_or parts.orders i [] ≡ o = ap (λ n. get_or parts.orders n []) (omega arith) ∙ get_or_from_slice_get parts.orders (i + 1 - 1) o [] g in
-    let same : order_of parts (get_or parts.rows i 0) ≡ o = ap (λ n. get_or parts.orders n []) at ∙ found in (
+    let same : order_without parts (get_or parts.rows i 0) ≡ o = ap (λ n. get_or parts.orders n []) at ∙ found in (
       λ v. subst (IsValidOrder m.columns (rows_at m.rows (but (get_or parts.rows i 0) parts.rows))) (sym same) (subst (λ xs. IsValidOrder m.columns (rows_at m.rows (but (get_or xs i 0) xs)) o) e v),
       λ v. subst (λ xs. IsValidOrder m.columns (rows_at m.rows (but (get_or xs i 0) xs)) o) (sym e) (subst (IsValidOrder m.columns (rows_at m.rows (but (get_or parts.rows i 0) parts.rows))) same v),
     )

@@ -6,7 +6,8 @@ use Rattle.pq_tree.specs.Proper.{HasArities, HaveArities}
 use Rattle.verdict_check.specs.declared.gaps.LeafGap.{LeafGap}
 use Rattle.verdict_check.specs.declared.gaps.LeafGap.TheVariants.{P, Q}
 use Rattle.verdict_check.specs.Gaps.{LiesWithin}
-use Rattle.verdict_check.specs.HoldsWalk.{meets, misses, meeting, resumes, is_gapped, is_split, are_split}
+use Rattle.pq_tree.specs.Nodes.{meets}
+use Rattle.verdict_check.specs.HoldsWalk.{misses, meeting, resumes, is_gapped, is_split, are_split}
 use Rattle.verdict_check.proofs.HoldsLists.{meets_left, meets_right}
 use Rattle.verdict_check.proofs.HoldsSplit.{split_leaf, split_p, split_q, split_none, split_and, meeting_head, meeting_tail}
 use Rattle.verdict_check.proofs.GapLines.{Line, Fit, last, fit_parts, None, IsRun, Amid, run_left, run_right, run_parts, amid_parts, amid_left, crossed, mixed_ends}

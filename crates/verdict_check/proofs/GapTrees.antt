@@ -7,7 +7,8 @@ use Rattle.pq_tree.specs.Proper.{count, HasArities, HaveArities}
 use Rattle.verdict_check.specs.declared.gaps.LeafGap.{LeafGap}
 use Rattle.verdict_check.specs.declared.gaps.LeafGap.TheVariants.{P, Q}
 use Rattle.verdict_check.specs.Gaps.{depth, LiesWithin, gaps, gaps_of}
-use Rattle.verdict_check.specs.HoldsWalk.{meets, misses}
+use Rattle.pq_tree.specs.Nodes.{meets}
+use Rattle.verdict_check.specs.HoldsWalk.{misses}
 use Rattle.verdict_check.proofs.GapLines.{Line, columns_of, columns_of-append, Joins, Fit, last, fit_join, All, None, Opens, opens_more, all_last_any, all_parts, Deep, DeepAfter, deep_join, deep_after_join}
 
 abbrev mutual

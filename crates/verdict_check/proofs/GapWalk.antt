@@ -7,7 +7,8 @@ use Rattle.pq_tree.specs.Proper.{HasArities, HaveArities}
 use Rattle.verdict_check.specs.declared.gaps.LeafGap.{LeafGap}
 use Rattle.verdict_check.specs.declared.gaps.LeafGap.TheVariants.{P, Q}
 use Rattle.verdict_check.specs.Gaps.{depth, LiesWithin}
-use Rattle.verdict_check.specs.HoldsWalk.{meets, misses, meeting, resumes, is_gapped, is_split, are_split}
+use Rattle.pq_tree.specs.Nodes.{meets}
+use Rattle.verdict_check.specs.HoldsWalk.{misses, meeting, resumes, is_gapped, is_split, are_split}
 use Rattle.verdict_check.proofs.HoldsLists.{meets-append, none_append, meets_cases}
 use Rattle.verdict_check.proofs.HoldsSplit.{split_p, split_q, split_and, meeting_head, meeting_tail}
 use Rattle.verdict_check.proofs.GapLines.{Line, Joins, Fit, last, fit_join, None, none_fits, none_last, ended_fits}

@@ -8,7 +8,7 @@ use Rattle.pq_tree.proofs.Frontiers.{leaves_are_frontier}
 use Rattle.verdict_check.specs.declared.gaps.LeafGap.{LeafGap}
 use Rattle.verdict_check.specs.declared.gaps.LeafGap.TheVariants.{P}
 use Rattle.verdict_check.specs.Gaps.{depth, LiesWithin, AreWithin, gap_at, gaps}
-use Rattle.verdict_check.specs.HoldsWalk.{meets}
+use Rattle.pq_tree.specs.Nodes.{meets}
 use Rattle.verdict_check.proofs.HoldsLists.{meets_has}
 use Rattle.verdict_check.proofs.HoldsExact.{split_law}
 use Rattle.verdict_check.proofs.GapLines.{columns_of}

@@ -8,7 +8,8 @@ use Rattle.pq_tree.specs.Outline.{Outline, leaves, IsFrontier}
 use Rattle.pq_tree.specs.Proper.{IsProper}
 use Rattle.pq_tree.proofs.Frontiers.{frontier_occurs}
 use Rattle.verdict_check.specs.Holds.{IsStretch, IsStretchRow}
-use Rattle.verdict_check.specs.HoldsWalk.{meets, is_split}
+use Rattle.pq_tree.specs.Nodes.{meets}
+use Rattle.verdict_check.specs.HoldsWalk.{is_split}
 use Rattle.verdict_check.proofs.HoldsLists.{meets_has, meets_same, none_whole, whole_keeps, segment_whole, breaks_not_keeps}
 use Rattle.verdict_check.proofs.HoldsFrontiers.{frontier_has}
 use Rattle.verdict_check.proofs.HoldsSplit.{Broken, split_breaks}

@@ -7,7 +7,8 @@ use Rattle.std.specs.List.{concat}
 use Rattle.column_order.specs.Orders.{has}
 use Rattle.pq_tree.specs.Outline.{Outline, Forest, leaf, p_node, q_node, no_tree, tree_and, leaves, leaves_of, IsFrontier, AreFrontiers}
 use Rattle.pq_tree.proofs.Frontiers.{frontier_occurs, leaves_are_frontier}
-use Rattle.verdict_check.specs.HoldsWalk.{meets, misses}
+use Rattle.pq_tree.specs.Nodes.{meets}
+use Rattle.verdict_check.specs.HoldsWalk.{misses}
 use Rattle.verdict_check.proofs.HoldsLists.{Rises, Falls, mixed, rises_turned, falls_turned, has_same}
 
 pub frontier_has : (t : Outline) (f : List ℕ) (a : ℕ) → IsFrontier t f → has f a ≡ has (leaves t) a

@@ -4,7 +4,8 @@ use Rattle.std.proofs.lemmas.Bool.{cases_Bool, cases_lt, both_ways, not-true, or
 use Rattle.std.proofs.lemmas.List.{reverse-append, get_or_append_left, get_or-append-add}
 use Rattle.column_order.specs.Orders.{has, occurs, Keeps}
 use Rattle.column_order.proofs.Lists.{has_cases, has_head, has_tail, has-occurs, has_append_left, has_append_right, occurs-append, apart}
-use Rattle.verdict_check.specs.HoldsWalk.{meets, misses}
+use Rattle.pq_tree.specs.Nodes.{meets}
+use Rattle.verdict_check.specs.HoldsWalk.{misses}
 
 pub has_same : (xs ys : List ℕ) (a : ℕ) → occurs xs a ≡ occurs ys a → has xs a ≡ has ys a
 has_same xs ys a e = has-occurs xs a ∙ ap (ltb 0) e ∙ sym (has-occurs ys a)

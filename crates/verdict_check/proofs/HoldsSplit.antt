@@ -9,7 +9,8 @@ use Rattle.column_order.proofs.Lists.{has_head, has_append_left}
 use Rattle.pq_tree.specs.Outline.{Outline, Forest, leaf, p_node, q_node, no_tree, tree_and, leaves, leaves_of, IsFrontier, AreFrontiers}
 use Rattle.pq_tree.specs.Proper.{count, HasArities, HaveArities}
 use Rattle.pq_tree.proofs.Frontiers.{leaves_are_frontier}
-use Rattle.verdict_check.specs.HoldsWalk.{meets, misses, meeting, resumes, is_gapped, is_split, are_split}
+use Rattle.pq_tree.specs.Nodes.{meets}
+use Rattle.verdict_check.specs.HoldsWalk.{misses, meeting, resumes, is_gapped, is_split, are_split}
 use Rattle.verdict_check.proofs.HoldsLists.{Rises, Breaks, misses_has, none_has, misses_cases, meets_left, meets_right, rises_from, rises_left, rises_right, falls_then, then_rises, breaks_left, breaks_right}
 use Rattle.verdict_check.proofs.HoldsFrontiers.{own, own_joined, own_frontiers, Rising, Falling, rising, falling}
 

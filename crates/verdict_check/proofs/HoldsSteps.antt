@@ -10,7 +10,8 @@ use Rattle.pq_tree.specs.Outline.{Outline, Forest, leaf, p_node, q_node, no_tree
 use Rattle.pq_tree.specs.Proper.{outline_of, forest}
 use Rattle.pq_tree.specs.declared.Tree.{Tree, P, Q}
 use Rattle.pq_tree.proofs.Shown.{outline_of-P, outline_of-Q}
-use Rattle.verdict_check.specs.HoldsWalk.{meets, misses, meeting, are_split, IsShare, IsSum, gapped_behind}
+use Rattle.pq_tree.specs.Nodes.{meets}
+use Rattle.verdict_check.specs.HoldsWalk.{misses, meeting, are_split, IsShare, IsSum, gapped_behind}
 use Rattle.verdict_check.specs.declared.holds.Children.{Children}
 use Rattle.verdict_check.specs.declared.holds.LineSoFar.{LineSoFar}
 use Rattle.verdict_check.specs.declared.holds.LineSoFar.TheVariants.{Before, Ended}

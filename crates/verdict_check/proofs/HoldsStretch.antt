@@ -6,31 +6,12 @@ use Rattle.column_order.proofs.Lists.{has_append_left, has_append_right, has_app
 use Rattle.pq_tree.specs.Outline.{Outline, Forest, leaf, p_node, q_node, no_tree, tree_and, leaves, leaves_of}
 use Rattle.pq_tree.specs.Proper.{forest, trees}
 use Rattle.pq_tree.proofs.Shown.{leaves_of-append}
-use Rattle.pq_tree.specs.Nodes.{IsNode, IsNodeOf}
+use Rattle.pq_tree.specs.Nodes.{IsNodeOf, meets}
 use Rattle.verdict_check.specs.Holds.{IsStretch}
-use Rattle.verdict_check.specs.HoldsWalk.{meets, misses, meeting, resumes, is_gapped, is_split, are_split}
+use Rattle.verdict_check.specs.HoldsWalk.{misses, meeting, resumes, is_gapped, is_split, are_split}
 use Rattle.verdict_check.proofs.HoldsLists.{none_has, all_has, meets_cases, none_append, all_append}
 use Rattle.verdict_check.proofs.HoldsSplit.{split_p, split_q, split_and, meeting_head, meeting_tail}
-
--- a tree is a node of itself
-pub node_itself : (t : Outline) → IsNode t t
-node_itself (leaf a) = refl
-node_itself (p_node ts) = inl refl
-node_itself (q_node ts) = inl refl
-
-mutual
-  pub node_within : (x t : Outline) → IsNode x t → (a : ℕ) → IsTrue (has (leaves x) a) → IsTrue (has (leaves t) a)
-  node_within x (leaf b) n a h = subst (λ y. IsTrue (has (leaves y) a)) n h
-  node_within x (p_node ts) n a h = elim n [ inl e ↦ subst (λ y. IsTrue (has (leaves y) a)) e h | inr k ↦ nodes_within x ts k a h ]
-  node_within x (q_node ts) n a h = elim n [ inl e ↦ subst (λ y. IsTrue (has (leaves y) a)) e h | inr k ↦ nodes_within x ts k a h ]
-
-  pub nodes_within : (x : Outline) (ts : Forest) → IsNodeOf x ts → (a : ℕ) → IsTrue (has (leaves x) a) → IsTrue (has (leaves_of ts) a)
-  nodes_within x no_tree n a h = absurd n
-  nodes_within x (tree_and t ts) n a h =
-      elim n [
-        | inl k ↦ has_append_left (leaves t) (leaves_of ts) a (node_within x t k a h)
-        | inr k ↦ has_append_right (leaves t) (leaves_of ts) a (nodes_within x ts k a h)
-      ]
+use Rattle.pq_tree.proofs.Nodes.{node_itself, node_within, nodes_within}
 
 pub three_parts : (us vs ws : List Outline) → leaves_of (forest (us ++ (vs ++ ws))) ≡ leaves_of (forest us) ++ (leaves_of (forest vs) ++ leaves_of (forest ws))
 three_parts us vs ws = leaves_of-append us (vs ++ ws) ∙ ap (λ x. leaves_of (forest us) ++ x) (leaves_of-append vs ws)

@@ -6,13 +6,13 @@ use Rattle.column_order.specs.Orders.{has, occurs, place, IsOrder}
 use Rattle.column_order.proofs.Lists.{at_place, has_at, place_at}
 use Rattle.column_order.proofs.Counts.{order_once, order_within}
 use Rattle.row_model.specs.Graph.{IsPair}
-use Rattle.verdict_check.specs.Complete.{StandsAt, IsOutside, pair_at}
+use Rattle.verdict_check.specs.Complete.{RunsFrom, IsOutside, pair_at}
 
 -- the first and the last of columns that stand in the line
-pub stands_left : (l xs ys : List ℕ) (s : ℕ) → StandsAt l s (xs ++ ys) → StandsAt l s xs
+pub stands_left : (l xs ys : List ℕ) (s : ℕ) → RunsFrom l s (xs ++ ys) → RunsFrom l s xs
 stands_left l xs ys s h = record { before = h.before; after = ys ++ h.after; line_is = h.line_is ∙ ap (λ z. h.before ++ z) (append_assoc xs ys h.after); start_is = h.start_is }
 
-pub stands_right : (l xs ys : List ℕ) (s : ℕ) → StandsAt l s (xs ++ ys) → StandsAt l (s + length xs) ys
+pub stands_right : (l xs ys : List ℕ) (s : ℕ) → RunsFrom l s (xs ++ ys) → RunsFrom l (s + length xs) ys
 stands_right l xs ys s h =
     record {
       before = h.before ++ xs;
@@ -21,28 +21,28 @@ stands_right l xs ys s h =
       start_is = length-append h.before xs ∙ ap (λ n. n + length xs) h.start_is;
     }
 
-pub stands_long : (l xs : List ℕ) (s : ℕ) → StandsAt l s xs → s + length xs ≤ length l
+pub stands_long : (l xs : List ℕ) (s : ℕ) → RunsFrom l s xs → s + length xs ≤ length l
 stands_long l xs s h = omega (arith, ap length h.line_is, length-append h.before (xs ++ h.after), length-append xs h.after, h.start_is)
 
-at_index : (l xs : List ℕ) (s k : ℕ) → StandsAt l s xs → k < length xs → get_or l (s + k) 0 ≡ get_or xs k 0
+at_index : (l xs : List ℕ) (s k : ℕ) → RunsFrom l s xs → k < length xs → get_or l (s + k) 0 ≡ get_or xs k 0
 at_index l xs s k h lt =
     ap (λ z. get_or z (s + k) 0) h.line_is ∙ ap (λ n. get_or (h.before ++ (xs ++ h.after)) (n + k) 0) (sym h.start_is) ∙ get_or-append-add h.before (xs ++ h.after) k 0 ∙ get_or_append_left xs h.after 0 k lt
 
 -- what stands at an index of theirs is one of the columns
-pub stands_has : (l xs : List ℕ) (s i : ℕ) → StandsAt l s xs → s ≤ i → i < s + length xs → IsTrue (has xs (get_or l i 0))
+pub stands_has : (l xs : List ℕ) (s i : ℕ) → RunsFrom l s xs → s ≤ i → i < s + length xs → IsTrue (has xs (get_or l i 0))
 stands_has l xs s i h a b =
     let e : s + (i - s) ≡ i = omega arith in
     let lt : i - s < length xs = omega arith in
     subst (λ j. IsTrue (has xs (get_or l j 0))) e (subst (λ x. IsTrue (has xs x)) (sym (at_index l xs s (i - s) h lt)) (has_at xs (i - s) lt))
 
 -- each of the columns stands at an index of theirs
-pub has_stands : (l xs : List ℕ) (s a : ℕ) → StandsAt l s xs → IsTrue (has xs a) → (i : ℕ) × (s ≤ i) × (i < s + length xs) × (get_or l i 0 ≡ a)
+pub has_stands : (l xs : List ℕ) (s a : ℕ) → RunsFrom l s xs → IsTrue (has xs a) → (i : ℕ) × (s ≤ i) × (i < s + length xs) × (get_or l i 0 ≡ a)
 has_stands l xs s a h t =
     let p = at_place xs a t in
     (s + place xs a, omega arith, omega (arith, p.0), at_index l xs s (place xs a) h p.0 ∙ p.1)
 
 -- each other column of the line stands at an index outside
-pub outside_has : (l xs : List ℕ) (s d : ℕ) → StandsAt l s xs → IsTrue (has l d) → IsFalse (has xs d) → (i : ℕ) × (i < length l) × IsOutside s (s + length xs) i × (get_or l i 0 ≡ d)
+pub outside_has : (l xs : List ℕ) (s d : ℕ) → RunsFrom l s xs → IsTrue (has l d) → IsFalse (has xs d) → (i : ℕ) × (i < length l) × IsOutside s (s + length xs) i × (get_or l i 0 ≡ d)
 outside_has l xs s d h t f =
     let p = at_place l d t in
     let i = place l d in
@@ -57,7 +57,7 @@ outside_has l xs s d h t f =
     ]
 
 -- what stands outside is none of the columns
-pub outside_lacks : (l xs : List ℕ) (s i : ℕ) → ((a : ℕ) → occurs l a ≤ 1) → StandsAt l s xs → i < length l → IsOutside s (s + length xs) i → IsFalse (has xs (get_or l i 0))
+pub outside_lacks : (l xs : List ℕ) (s i : ℕ) → ((a : ℕ) → occurs l a ≤ 1) → RunsFrom l s xs → i < length l → IsOutside s (s + length xs) i → IsFalse (has xs (get_or l i 0))
 outside_lacks l xs s i once h lt o =
     elim (cases_Bool (has xs (get_or l i 0))) [
       | inl t ↦

@@ -12,7 +12,7 @@ use Rattle.pq_tree.specs.declared.Tree.{Tree}
 use Rattle.pq_tree.proofs.Nodes.{node_itself}
 use Rattle.tied_law.specs.Tied.{IsClosed, IsForward, IsInLine}
 use Rattle.pair_classes.specs.Numbers.{Numbering}
-use Rattle.verdict_check.specs.Complete.{InRows, IsComplete, AreComplete, StandsAt, IsOutside, pair_at}
+use Rattle.verdict_check.specs.Complete.{InRows, IsComplete, AreComplete, RunsFrom, IsOutside, pair_at}
 use Rattle.verdict_check.proofs.HoldsSteps.{rest_at}
 use Rattle.verdict_check.proofs.GapPush.{long}
 use Rattle.verdict_check.proofs.Places.{stands_left, stands_right, stands_has, has_stands}
@@ -43,12 +43,12 @@ child_complete R l ts i child lt is h =
 
 -- the pair of the columns at the two ends of the node goes forward past a child, and so does each pair of a column of it or before it
 -- and one behind it
-module _ (l : List ℕ) (ts : List Tree) (s i next : ℕ) (h : StandsAt l s (columns_of ts)) (e : next ≡ s + length (columns_of (take (i + 1) ts))) where
-  first_stand : StandsAt l s (columns_of (take (i + 1) ts))
-  first_stand = stands_left l (columns_of (take (i + 1) ts)) (columns_of (drop (i + 1) ts)) s (subst (StandsAt l s) (columns_parted ts (i + 1)) h)
+module _ (l : List ℕ) (ts : List Tree) (s i next : ℕ) (h : RunsFrom l s (columns_of ts)) (e : next ≡ s + length (columns_of (take (i + 1) ts))) where
+  first_stand : RunsFrom l s (columns_of (take (i + 1) ts))
+  first_stand = stands_left l (columns_of (take (i + 1) ts)) (columns_of (drop (i + 1) ts)) s (subst (RunsFrom l s) (columns_parted ts (i + 1)) h)
 
-  pub last_stand : StandsAt l next (columns_of (drop (i + 1) ts))
-  last_stand = subst (λ n. StandsAt l n (columns_of (drop (i + 1) ts))) (sym e) (stands_right l (columns_of (take (i + 1) ts)) (columns_of (drop (i + 1) ts)) s (subst (StandsAt l s) (columns_parted ts (i + 1)) h))
+  pub last_stand : RunsFrom l next (columns_of (drop (i + 1) ts))
+  last_stand = subst (λ n. RunsFrom l n (columns_of (drop (i + 1) ts))) (sym e) (stands_right l (columns_of (take (i + 1) ts)) (columns_of (drop (i + 1) ts)) s (subst (RunsFrom l s) (columns_parted ts (i + 1)) h))
 
   pub last_end : s + length (columns_of ts) ≡ next + length (columns_of (drop (i + 1) ts))
   last_end = omega (arith, e, ap length (columns_parted ts (i + 1)), length-append (columns_of (take (i + 1) ts)) (columns_of (drop (i + 1) ts)))
@@ -59,7 +59,7 @@ module _ (l : List ℕ) (ts : List Tree) (s i next : ℕ) (h : StandsAt l s (col
       (forward_across (forest (map outline_of (take (i + 1) ts))) (forest (map outline_of (drop (i + 1) ts))) (get_or l x 0) (get_or l y 0)
       (stands_has l (columns_of (take (i + 1) ts)) s x first_stand a (omega (arith, b, e))) (stands_has l (columns_of (drop (i + 1) ts)) next y last_stand d (omega (arith, f, last_end))))
 
-module _ (t : Numbering) (l : List ℕ) (ts : List Tree) (s i at end : ℕ) (child : Tree) (lt : i < length ts) (is : child ≡ get_or ts i child) (h : StandsAt l s (columns_of ts)) (e : at ≡ s + length (columns_of (take i ts))) (end_is : end ≡ s + length (columns_of ts)) where
+module _ (t : Numbering) (l : List ℕ) (ts : List Tree) (s i at end : ℕ) (child : Tree) (lt : i < length ts) (is : child ≡ get_or ts i child) (h : RunsFrom l s (columns_of ts)) (e : at ≡ s + length (columns_of (take i ts))) (end_is : end ≡ s + length (columns_of ts)) where
   -- the columns so far with those of one child more
   pub together_more : (gap done : Bool) → HasArities (outline_of child) → ((a : ℕ) → occurs l a ≤ 1) → InRows t (λ R. AlikeUpTo R l s end at) →
       InRows t (λ R. IsTrue gap ↔ (s < at → (j : ℕ) → j < length l → IsOutside s end j → R (pair_at l (at - 1) j) (pair_at l at j))) → gap ≡ true →
@@ -97,7 +97,7 @@ module _ (t : Numbering) (l : List ℕ) (ts : List Tree) (s i at end : ℕ) (chi
       let R = Evenly c rows in
       let ref = pair_at l s (end - 1) in
       let after = forest (map outline_of (drop (i + 1) ts)) in
-      let behind : StandsAt l (at + length (leaves (outline_of child))) (leaves_of after) = last_stand l ts s i (at + length (leaves (outline_of child))) h (next_at l ts s i at child lt is h e) in
+      let behind : RunsFrom l (at + length (leaves (outline_of child))) (leaves_of after) = last_stand l ts s i (at + length (leaves (outline_of child))) h (next_at l ts s i at child lt is h e) in
       let ends : s + length (columns_of ts) ≡ at + length (leaves (outline_of child)) + length (leaves_of after) = last_end l ts s i (at + length (leaves (outline_of child))) h (next_at l ts s i at child lt is h e) in
       let stands = child_stands l ts s i at child lt is h e in
       let cross : (v : Pair) → IsTrue (has (leaves (outline_of child)) v.a) → IsTrue (has (leaves_of after) v.b) → R ref v =
@@ -119,7 +119,7 @@ module _ (t : Numbering) (l : List ℕ) (ts : List Tree) (s i at end : ℕ) (chi
   )
 
 -- all children
-pub together_all : (t : Numbering) (l : List ℕ) (ts : List Tree) (s i at end : ℕ) → length ts ≤ i → StandsAt l s (columns_of ts) → at ≡ s + length (columns_of (take i ts)) → end ≡ s + length (columns_of ts) →
+pub together_all : (t : Numbering) (l : List ℕ) (ts : List Tree) (s i at end : ℕ) → length ts ≤ i → RunsFrom l s (columns_of ts) → at ≡ s + length (columns_of (take i ts)) → end ≡ s + length (columns_of ts) →
     InRows t (λ R. AlikeUpTo R l s end at) → InRows t (λ R. AreComplete R l (forest (map outline_of (drop i ts))) → AreComplete R l (forest (map outline_of ts))) →
     InRows t (λ R. IsTrue true ↔ (AreComplete R l (forest (map outline_of ts)) × IsClosed R l (columns_of ts)))
 together_all t l ts s i at end big h e end_is alike rest = λ c rows tells. (

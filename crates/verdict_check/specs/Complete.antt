@@ -22,7 +22,7 @@ AreComplete R line ts =
     ((x : Outline) → IsNodeOf x ts → IsClosed R line (leaves x)) × ((us : Forest) → IsNodeOf (q_node us) ts → IsInLine R us)
 
 -- the columns stand in the line from this index on, one after another
-pub record StandsAt (line : List ℕ) (start : ℕ) (xs : List ℕ) : Type 0 where
+pub record RunsFrom (line : List ℕ) (start : ℕ) (xs : List ℕ) : Type 0 where
   pub before : List ℕ
   pub after : List ℕ
   pub line_is : line ≡ before ++ (xs ++ after)

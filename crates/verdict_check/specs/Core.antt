@@ -25,12 +25,12 @@ abbrev pub core_tests : TextValue → List CoreReason
 core_tests t = reason.Kind ∷ reason.Columns ∷ reason.Rows ∷ (map reason.Order t.parts.rows ++ line_tests (length t.parts.lines))
 
 -- the order of the row of this number
-abbrev pub order_of : CoreParts → ℕ → List ℕ
-order_of parts k = slice_index_or parts.orders (place parts.rows k) []
+abbrev pub order_without : CoreParts → ℕ → List ℕ
+order_without parts k = slice_index_or parts.orders (place parts.rows k) []
 
 -- `order R`: the order of row R is valid for the other rows
-abbrev pub PassesOrder : RowList → CoreParts → ℕ → Type 0
-PassesOrder m parts k = IsValidOrder m.columns (rows_at m.rows (but k parts.rows)) (order_of parts k)
+abbrev pub PassesCoreOrder : RowList → CoreParts → ℕ → Type 0
+PassesCoreOrder m parts k = IsValidOrder m.columns (rows_at m.rows (but k parts.rows)) (order_without parts k)
 
 -- `join I`: the reason of line I is a flip or one of the rows, and joins its pair to that of the next line, and the last line's to that
 -- of the first
@@ -43,7 +43,7 @@ abbrev pub PassesCore : RowList → Kind → TextValue → CoreReason → Type 0
 PassesCore m kind t reason.Kind = t.kind ≡ kind
 PassesCore m kind t reason.Columns = t.columns ≡ m.columns
 PassesCore m kind t reason.Rows = AreRowNumbers (length m.rows) t.parts.rows
-PassesCore m kind t (reason.Order k) = PassesOrder m t.parts k
+PassesCore m kind t (reason.Order k) = PassesCoreOrder m t.parts k
 PassesCore m kind t (reason.Length count) = PassesLength t.parts.lines
 PassesCore m kind t (reason.Pair n) = PassesPair m.columns t.parts.lines n
 PassesCore m kind t (reason.Repeat n) = PassesRepeat t.parts.lines n

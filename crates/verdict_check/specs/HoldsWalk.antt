@@ -2,16 +2,12 @@
 use Rattle.std.specs.Prelude.{◌≡◌, ◌↔◌, IsFalse, ℕ, ◌+◌, Bool, true, false, not, ◌||◌, ◌&&◌, nat_le, if◌then◌else◌, List, [], ◌∷◌}
 use Rattle.column_order.specs.Orders.{has, Keeps}
 use Rattle.pq_tree.specs.Outline.{Outline, Forest, leaf, p_node, q_node, no_tree, tree_and, leaves, leaves_of, IsFrontier}
+use Rattle.pq_tree.specs.Nodes.{meets}
 use Rattle.pq_tree.specs.Proper.{IsProper}
 use Rattle.verdict_check.specs.declared.holds.Children.{Children}
 use Rattle.verdict_check.specs.declared.holds.LineSoFar.{LineSoFar}
 use Rattle.verdict_check.specs.declared.holds.LineSoFar.TheVariants.{Before, Whole, Ended, Gapped}
 use Rattle.verdict_check.specs.declared.holds.Share.{Share}
-
--- whether the row has one of the columns
-abbrev pub meets : List ℕ → List ℕ → Bool
-meets row [] = false
-meets row (a ∷ xs) = has row a || meets row xs
 
 -- whether the row misses one of the columns
 abbrev pub misses : List ℕ → List ℕ → Bool

@@ -13,7 +13,7 @@ ghost use Rattle.pq_tree.specs.Proper.{outline_of, forest, HasArities, HaveAriti
 ghost use Rattle.pq_tree.specs.PqTree.{column_count, outline};
 ghost use Rattle.tied_law.specs.Tied.{AreTogether, AreInLine, IsClosed, IsInLine};
 ghost use Rattle.pair_classes.specs.Classes.{TellsClasses};
-ghost use Rattle.verdict_check.specs.Complete.{InRows, IsComplete, AreComplete, StandsAt, IsOutside, pair_at};
+ghost use Rattle.verdict_check.specs.Complete.{InRows, IsComplete, AreComplete, RunsFrom, IsOutside, pair_at};
 
 use pair_classes::Classes;
 use pq_tree::{PqTree, Tree};
@@ -44,7 +44,7 @@ pub fn complete(alloc: Global, tree: &PqTree, classes: &Classes) -> Result<bool,
 fn is_complete_at(tree: &Tree, line: &[u32], start: usize, classes: &Classes) -> bool
     requires proper { HasArities (outline_of tree.now) }
     requires line { IsOrder classes.now.columns line.now }
-    requires place { StandsAt line.now start (leaves (outline_of tree.now)) }
+    requires place { RunsFrom line.now start (leaves (outline_of tree.now)) }
     ensures { InRows classes.now (λ R. IsTrue result ↔ IsComplete R line.now (outline_of tree.now)) }
 {
     match tree {
@@ -62,7 +62,7 @@ fn is_complete_at(tree: &Tree, line: &[u32], start: usize, classes: &Classes) ->
 fn are_together_at(children: &[Tree], line: &[u32], start: usize, classes: &Classes) -> bool
     requires proper { HaveArities (forest (map outline_of children.now)) }
     requires line { IsOrder classes.now.columns line.now }
-    requires place { StandsAt line.now start (leaves_of (forest (map outline_of children.now))) }
+    requires place { RunsFrom line.now start (leaves_of (forest (map outline_of children.now))) }
     ensures { InRows classes.now (λ R. IsTrue result ↔
         (AreComplete R line.now (forest (map outline_of children.now)) × IsClosed R line.now (leaves_of (forest (map outline_of children.now))))) }
 {
@@ -83,7 +83,7 @@ fn are_together_at(children: &[Tree], line: &[u32], start: usize, classes: &Clas
 /// Whether the children of one node stand in line.
 fn are_in_line_at(children: &[Tree], line: &[u32], start: usize, classes: &Classes) -> bool
     requires line { IsOrder classes.now.columns line.now }
-    requires place { StandsAt line.now start (leaves_of (forest (map outline_of children.now))) }
+    requires place { RunsFrom line.now start (leaves_of (forest (map outline_of children.now))) }
     ensures { InRows classes.now (λ R. IsTrue result ↔ IsInLine R (forest (map outline_of children.now))) }
 {
     let end = start + leaf_counts(children);

@@ -2,15 +2,17 @@ use Rattle.std.proofs.Common.{◌≡◌, ◌%◌, Some, length, take, get_or, sl
 use Rattle.std.proofs.lemmas.Bool.{eqb-true}
 use Rattle.std.proofs.lemmas.Option.{slice_get-get_or}
 use Rattle.row_model.specs.declared.graph.Line.{Line}
-use Rattle.incompat_graph.proofs.CycleSteps.{blank}
+use Rattle.row_model.specs.declared.graph.Why.TheVariants.{Flip}
+use Rattle.row_model.specs.Graph.{pair}
 use Rattle.incompat_graph.proofs.CheckedLaws.{led_more, led_all}
 use Rattle.incompat_graph.proofs.checked.is_odd_walk.Goals as goal
 
 pub loop-i-preserved : goal.loop-i-preserved
 loop-i-preserved g c =
     let lines = c.args.lines.now in
-    let line : Line = get_or lines c.loop-i.i blank in
-    let at : slice_get lines c.loop-i.i ≡ Some line = slice_get-get_or lines c.loop-i.i blank c.loop-i-test.true in
+    let past : Line = record { pair = pair 0 0; why = Flip } in
+    let line : Line = get_or lines c.loop-i.i past in
+    let at : slice_get lines c.loop-i.i ≡ Some line = slice_get-get_or lines c.loop-i.i past c.loop-i-test.true in
     record {
       led = led_more c.args.m.now.columns (take c.args.rows c.args.m.now.rows) lines c.loop-i.i line c.pair_behind.result at c.loop-i.invariant.led c.pair_behind.ensures (c.leads_to.ensures.joined c.if-not-leads_to.false);
       ticks = omega (arith, c.loop-i.invariant.ticks, c.leads_to.ensures.ticks);

@@ -3,7 +3,7 @@ use Rattle.column_order.specs.Orders.{IsValidOrder}
 use Rattle.column_order.proofs.Counts.{order_length}
 use Rattle.row_model.proofs.CycleLaws.{closed_more}
 use Rattle.open_gaps.specs.Gaps.{AreGaps}
-use Rattle.incompat_graph.proofs.NearLaws.{along_bound, tried_bound}
+use Rattle.incompat_graph.proofs.StepBounds.{along_bound, tried_bound}
 use Rattle.incompat_graph.proofs.quick.any_cycle.Goals as goal
 
 pub quick_cycle-requires-clause-columns : goal.quick_cycle-requires-clause-columns

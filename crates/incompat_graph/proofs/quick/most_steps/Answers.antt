@@ -1,5 +1,5 @@
 use Rattle.std.proofs.Common.{◌≡◌, ◌*◌, ◌+◌, ◌≤◌, ap, length, take, sum_by, arith}
-use Rattle.incompat_graph.proofs.NearLaws.{attempt_bound}
+use Rattle.incompat_graph.proofs.StepBounds.{attempt_bound}
 use Rattle.incompat_graph.proofs.quick.most_steps.Goals as goal
 
 pub returns-clause-ones : goal.returns-clause-ones

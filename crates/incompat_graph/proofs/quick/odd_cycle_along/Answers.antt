@@ -1,6 +1,6 @@
 use Rattle.std.proofs.Common.{length, take, sum_by, arith}
 use Rattle.row_model.proofs.CycleLaws.{closed_more}
-use Rattle.incompat_graph.proofs.NearLaws.{twice_bound}
+use Rattle.incompat_graph.proofs.StepBounds.{twice_bound}
 use Rattle.incompat_graph.proofs.quick.odd_cycle_along.Goals as goal
 
 pub returns-in_err-cycle-clause-ticks : goal.returns-in_err-cycle-clause-ticks

@@ -11,7 +11,7 @@ use Rattle.pq_tree.specs.Outline.{Outline, leaves, leaves_of}
 use Rattle.tree_meet.specs.Marks.{lists_of}
 use Rattle.pq_tree.specs.Proper.{outline_of, forest}
 use Rattle.pq_tree.specs.declared.Tree.TheViews.{the_lemmas}
-use Rattle.tree_meet.specs.TreeRows.{neighbours, groups_of, row_of}
+use Rattle.tree_meet.specs.TreeRows.{neighbours, groups_of, row_of_group}
 use Rattle.tree_meet.proofs.Walked.{row_marks, group_rows, neighbours_count}
 use Rattle.tree_meet.proofs.Fronts.{node_leaves, groups_P, groups_Q, groups_more, child_has, child_occurs, outlines_more}
 use Rattle.tree_meet.proofs.Steps.{node_parts, node_pairs, with_rows, after_leaf, after_P, after_Q, after_child, child_row}
@@ -57,7 +57,7 @@ pub push_tree-parts_of-requires : goal.push_tree-parts_of-requires
 push_tree-parts_of-requires t c a h =
     let ts = map outline_of c.deref.result.now in
     let e = node_leaves c.args.tree.now c.in-P.children c.deref.result.now (inl c.in-P.is) c.deref.ensures.value in
-    let r = row_marks c.args.m.now.columns c.mark_trees.new.marks c.args.row.now ts (c.requires.row ∙ ap (row_of c.args.m.now.columns) e) c.mark_trees.ensures
+    let r = row_marks c.args.m.now.columns c.mark_trees.new.marks c.args.row.now ts (c.requires.row ∙ ap (row_of_group c.args.m.now.columns) e) c.mark_trees.ensures
     (λ b. subst (λ (l : List ℕ). occurs l b ≤ 1) e (c.requires.once b))
     (λ b k. omega (arith, (c.requires.within b (subst (λ (l : List ℕ). IsTrue (has l b)) (sym e) k)).1, c.requires.marks, c.mark_trees.auto.marks)) a h in
     (r.0, omega (arith, r.1, length-map c.deref.result.now outline_of, c.len.ensures, c.deref.ensures.len))
@@ -66,7 +66,7 @@ pub push_tree-pairs_of-requires : goal.push_tree-pairs_of-requires
 push_tree-pairs_of-requires t c a h =
     let ts = map outline_of c.deref-in-Q.result.now in
     let e = node_leaves c.args.tree.now c.in-Q.children c.deref-in-Q.result.now (inr c.in-Q.is) c.deref-in-Q.ensures.value in
-    let r = row_marks c.args.m.now.columns c.mark_trees-in-Q.new.marks c.args.row.now ts (c.requires.row ∙ ap (row_of c.args.m.now.columns) e) c.mark_trees-in-Q.ensures
+    let r = row_marks c.args.m.now.columns c.mark_trees-in-Q.new.marks c.args.row.now ts (c.requires.row ∙ ap (row_of_group c.args.m.now.columns) e) c.mark_trees-in-Q.ensures
     (λ b. subst (λ (l : List ℕ). occurs l b ≤ 1) e (c.requires.once b))
     (λ b k. omega (arith, (c.requires.within b (subst (λ (l : List ℕ). IsTrue (has l b)) (sym e) k)).1, c.requires.marks, c.mark_trees-in-Q.auto.marks)) a h in
     (r.0, omega (arith, r.1, length-map c.deref-in-Q.result.now outline_of, c.len-in-Q.ensures, c.deref-in-Q.ensures.len, c.saturating_sub.ensures))
@@ -75,7 +75,7 @@ pub push_tree-parts_of-requires-in-Q : goal.push_tree-parts_of-requires-in-Q
 push_tree-parts_of-requires-in-Q t c a h =
     let ts = map outline_of c.deref-in-Q.result.now in
     let e = node_leaves c.args.tree.now c.in-Q.children c.deref-in-Q.result.now (inr c.in-Q.is) c.deref-in-Q.ensures.value in
-    let r = row_marks c.args.m.now.columns c.mark_trees-in-Q.new.marks c.args.row.now ts (c.requires.row ∙ ap (row_of c.args.m.now.columns) e) c.mark_trees-in-Q.ensures
+    let r = row_marks c.args.m.now.columns c.mark_trees-in-Q.new.marks c.args.row.now ts (c.requires.row ∙ ap (row_of_group c.args.m.now.columns) e) c.mark_trees-in-Q.ensures
     (λ b. subst (λ (l : List ℕ). occurs l b ≤ 1) e (c.requires.once b))
     (λ b k. omega (arith, (c.requires.within b (subst (λ (l : List ℕ). IsTrue (has l b)) (sym e) k)).1, c.requires.marks, c.mark_trees-in-Q.auto.marks)) a h in
     (r.0, omega (arith, r.1, length-map c.deref-in-Q.result.now outline_of, c.len-in-Q-2.ensures, c.deref-in-Q.ensures.len))
@@ -210,7 +210,7 @@ push_tree-returns-in_ok-parts-in-Q t c =
     let n = c.push_row-in-Q.new.self in
     let ts = c.deref-in-Q-3.result.now in
     let count : c.saturating_sub.result ≡ length ts - 1 = omega (arith, c.saturating_sub.ensures, c.len-in-Q.ensures, c.deref-in-Q-3.ensures.len) in
-    let near : lists_of c.deref-in-Q-2.result.now ≡ map (row_of m.columns) (neighbours (forest (map outline_of ts))) =
+    let near : lists_of c.deref-in-Q-2.result.now ≡ map (row_of_group m.columns) (neighbours (forest (map outline_of ts))) =
     node_pairs m.columns c.mark_trees-in-Q.new.marks c.args.row.now c.args.tree.now c.in-Q.children c.deref-in-Q.result.now ts (inr c.in-Q.is, c.deref-in-Q.ensures.value) c.deref-in-Q-3.ensures.value
     c.requires.row c.requires.once c.mark_trees-in-Q.ensures c.saturating_sub.result m.columns c.in_ok-pairs_of-in-Q.field-0.items c.deref-in-Q-2.result.now count refl c.in_ok-pairs_of-in-Q.ensures c.deref-in-Q-2.ensures.value in
     on_ok_weaker c.push_trees-in-Q.result
@@ -226,12 +226,12 @@ push_trees-push_tree-requires t c =
     let x = c.index-trees-i.result in
     let front = map outline_of (take i ts) in
     let columns : c.loop-i.m.columns ≡ m.columns = ap (λ (x : RowList). x.columns) c.loop-i.invariant in
-    let rows : c.loop-i.m.rows ≡ m.rows ++ map (row_of m.columns) (groups_of (forest front)) = ap (λ (x : RowList). x.rows) c.loop-i.invariant in
-    let row : c.deref.result.now ≡ row_of m.columns (leaves (outline_of x)) =
+    let rows : c.loop-i.m.rows ≡ m.rows ++ map (row_of_group m.columns) (groups_of (forest front)) = ap (λ (x : RowList). x.rows) c.loop-i.invariant in
+    let row : c.deref.result.now ≡ row_of_group m.columns (leaves (outline_of x)) =
     c.deref.ensures.value ∙ child_row m.columns ts c.args.rows.now i x c.index-rows-i.result c.loop-i-test.true c.index-trees-i.is c.index-rows-i.is c.requires.rows in (
       search (rules, the_lemmas),
       (
-        row ∙ ap (λ (n : ℕ). row_of n (leaves (outline_of x))) (sym columns),
+        row ∙ ap (λ (n : ℕ). row_of_group n (leaves (outline_of x))) (sym columns),
         (
           λ a h. let w = c.requires.within a (child_has ts i x c.loop-i-test.true c.index-trees-i.is a h) in (w.0, omega (arith, w.1, columns)),
           (
@@ -242,8 +242,8 @@ push_trees-push_tree-requires t c =
                 arith,
                 c.requires.room,
                 ap (λ (l : List (List ℕ)). length l) rows,
-                length-append m.rows (map (row_of m.columns) (groups_of (forest front))),
-                length-map (groups_of (forest front)) (row_of m.columns),
+                length-append m.rows (map (row_of_group m.columns) (groups_of (forest front))),
+                length-map (groups_of (forest front)) (row_of_group m.columns),
                 groups_more ts i x c.loop-i-test.true c.index-trees-i.is,
               ),
             ),
@@ -255,5 +255,5 @@ push_trees-push_tree-requires t c =
 pub push_trees-loop-i-preserved : goal.push_trees-loop-i-preserved
 push_trees-loop-i-preserved t c =
     let ts = c.args.trees.now in
-    subst (λ (x : List Outline). c.push_tree.new.m ≡ with_rows c.args.m.now (map (row_of c.args.m.now.columns) (groups_of (forest x)))) (sym (outlines_more ts c.loop-i.i c.index-trees-i.result c.loop-i-test.true c.index-trees-i.is))
+    subst (λ (x : List Outline). c.push_tree.new.m ≡ with_rows c.args.m.now (map (row_of_group c.args.m.now.columns) (groups_of (forest x)))) (sym (outlines_more ts c.loop-i.i c.index-trees-i.result c.loop-i-test.true c.index-trees-i.is))
     (after_child c.args.m.now c.loop-i.m c.push_tree.new.m (map outline_of (take c.loop-i.i ts)) (outline_of c.index-trees-i.result) c.loop-i.invariant c.in_ok-push_tree.ensures)

@@ -5,7 +5,7 @@ use Rattle.column_order.proofs.Counts.{order_within}
 use Rattle.pq_tree.specs.Outline.{Outline, leaves}
 use Rattle.pq_tree.specs.Proper.{outline_of, IsProper}
 use Rattle.pq_tree.specs.PqTree.{column_count, outline}
-use Rattle.tree_meet.specs.TreeRows.{groups, row_of}
+use Rattle.tree_meet.specs.TreeRows.{groups, row_of_group}
 use Rattle.tree_meet.proofs.Few.{rows_few}
 use Rattle.tree_meet.proofs.rows.push_rows.Goals as goal
 
@@ -21,4 +21,4 @@ push_tree-requires-clause-room c =
     let n = column_count c.args.tree.now in
     let t = outline c.args.tree.now in
     let few = rows_few n t c.args.tree.now.proper in
-    omega (arith, c.requires.room, few, length-map (groups t) (row_of n), ap (λ (x : Outline). length (groups x)) c.root.ensures)
+    omega (arith, c.requires.room, few, length-map (groups t) (row_of_group n), ap (λ (x : Outline). length (groups x)) c.root.ensures)

@@ -1,6 +1,6 @@
 use Rattle.std.proofs.Common.{◌<◌, length, get_or, ap, arith, below_more}
 use Rattle.std.proofs.lemmas.Bool.{both_ways}
-use Rattle.verdict_check.specs.Core.{PassesOrder, PassesCore}
+use Rattle.verdict_check.specs.Core.{PassesCoreOrder, PassesCore}
 use Rattle.verdict_check.specs.declared.core_outcome.CoreReason.TheVariants as reason
 use Rattle.verdict_check.proofs.CoreTests.{finds_item, all_items, order_here}
 use Rattle.verdict_check.proofs.core_check.first_bad_order.Goals as goal
@@ -24,7 +24,7 @@ loop-i-preserved c =
     let parts = c.args.t.now.parts in
     let within : c.loop-i.i < length parts.rows = omega (arith, ap length c.rows-k-items.ensures.rows, c.loop-i-test.true) in
     let here = order_here c.args.m.now parts c.loop-i.i c.rows.result.now c.order.result.now c.requires.rows within c.rows.ensures.rows c.order.ensures in
-    below_more (λ k. PassesOrder c.args.m.now parts (get_or parts.rows k 0)) c.loop-i.i c.loop-i.invariant (here.0 (c.in_ok-keeps_others.ensures.0 c.if-not-branch.false))
+    below_more (λ k. PassesCoreOrder c.args.m.now parts (get_or parts.rows k 0)) c.loop-i.i c.loop-i.invariant (here.0 (c.in_ok-keeps_others.ensures.0 c.if-not-branch.false))
 
 pub returns : goal.returns
 returns c kind =

@@ -8,7 +8,7 @@ use Rattle.tied_law.specs.Tied.{IsInLine}
 use Rattle.pq_tree.specs.Proper.{outline_of, forest, HasArities}
 use Rattle.pq_tree.proofs.Shown.{outline_of-Leaf}
 use Rattle.row_model.specs.Graph.{Evenly}
-use Rattle.verdict_check.specs.Complete.{IsComplete, StandsAt}
+use Rattle.verdict_check.specs.Complete.{IsComplete, RunsFrom}
 use Rattle.verdict_check.proofs.GapPush.{long}
 use Rattle.verdict_check.proofs.Places.{stands_long}
 use Rattle.verdict_check.proofs.Alike.{evenly_sorts}
@@ -98,18 +98,18 @@ pub is_complete_at-are_together_at-requires : goal.is_complete_at-are_together_a
 is_complete_at-are_together_at-requires t c =
     let same = outline_p c.args.tree.now c.in-P.children c.deref.result.now c.in-P.is c.deref.ensures.value in
     let proper : HasArities (p_node (forest (map outline_of c.deref.result.now))) = subst HasArities same c.requires.proper in
-    (search (rules, the_lemmas), (proper.1, (c.requires.line, subst (λ o. StandsAt c.args.line.now c.args.start (leaves o)) same c.requires.place)))
+    (search (rules, the_lemmas), (proper.1, (c.requires.line, subst (λ o. RunsFrom c.args.line.now c.args.start (leaves o)) same c.requires.place)))
 
 pub is_complete_at-are_together_at-requires-in-Q : goal.is_complete_at-are_together_at-requires-in-Q
 is_complete_at-are_together_at-requires-in-Q t c =
     let same = outline_q c.args.tree.now c.in-Q.children c.deref-in-Q.result.now c.in-Q.is c.deref-in-Q.ensures.value in
     let proper : HasArities (q_node (forest (map outline_of c.deref-in-Q.result.now))) = subst HasArities same c.requires.proper in
-    (search (rules, the_lemmas), (proper.1, (c.requires.line, subst (λ o. StandsAt c.args.line.now c.args.start (leaves o)) same c.requires.place)))
+    (search (rules, the_lemmas), (proper.1, (c.requires.line, subst (λ o. RunsFrom c.args.line.now c.args.start (leaves o)) same c.requires.place)))
 
 pub is_complete_at-are_in_line_at-requires-clause-place : goal.is_complete_at-are_in_line_at-requires-clause-place
 is_complete_at-are_in_line_at-requires-clause-place t c =
     let same = outline_q c.args.tree.now c.in-Q.children c.deref-then-are_together_at.result.now c.in-Q.is c.deref-then-are_together_at.ensures.value in
-    subst (λ o. StandsAt c.args.line.now c.args.start (leaves o)) same c.requires.place
+    subst (λ o. RunsFrom c.args.line.now c.args.start (leaves o)) same c.requires.place
 
 pub is_complete_at-returns-in-Leaf : goal.is_complete_at-returns-in-Leaf
 is_complete_at-returns-in-Leaf t c = λ k rows tells. (

@@ -1,5 +1,0 @@
-use Rattle.incompat_graph.proofs.PathLaws.{IsCleared}
-use Rattle.incompat_graph.proofs.cycle.cut.Given as goal
-
-abbrev pub invariant-loop-line : goal.invariant-loop-line
-invariant-loop-line l = IsCleared l.fn.numbers l.numbers l.keep l.line-index

@@ -1,7 +1,0 @@
-// A law of closed walks.
-ghost use Rattle.incompat_graph.specs.Laws.{OddCycleLaw};
-
-/// A closed walk of odd length contains an odd cycle.
-pub fn odd_cycle_law()
-    ensures { OddCycleLaw }
-{}

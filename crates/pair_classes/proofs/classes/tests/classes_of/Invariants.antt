@@ -1,4 +1,0 @@
-use Rattle.pair_classes.proofs.classes.tests.classes_of.Given as goal
-
-abbrev pub ghosts-classes_counted : goal.ghosts-classes_counted
-ghosts-classes_counted a = record { name = a.blank.name; parts = a.blank.parts }

@@ -1,0 +1,14 @@
+pub mod PathLaws
+pub mod CycleSteps
+pub mod MarkedOnes
+pub mod ForestLaws
+pub mod HolderLaws
+pub mod SearchLaws
+pub mod LeavingLaws
+pub mod TakenLaws
+pub mod AcrossLaws
+pub mod SettledLaws
+pub mod ClosingLaws
+pub mod EndLaws
+pub mod NearLaws
+pub mod OddCycles

@@ -1,0 +1,8 @@
+use Rattle.walk_search.proofs.ClosingLaws.{IsPartUp}
+use Rattle.walk_search.proofs.closing.add_way_up.Given as goal
+
+abbrev pub invariant-loop-at : goal.invariant-loop-at
+invariant-loop-at l = IsPartUp l.forest l.fn.from l.at l.fn.lines.items l.lines.items
+
+abbrev pub decreases-loop-at : goal.decreases-loop-at
+decreases-loop-at l = l.at

@@ -1,0 +1,186 @@
+use Rattle.std.proofs.Common.{◌≡◌, ◌∙◌, ℕ, ◌+◌, ◌≤◌, false, Some, List, length, take, drop, slice_get, IsTrue, refl, ap, sym, subst, arith}
+use Rattle.std.proofs.lemmas.Option.{slice_get_read, slice_get_within}
+use Rattle.std.proofs.lemmas.Bool.{both_ways}
+use Rattle.column_order.specs.Orders.{has}
+use Rattle.row_model.specs.Graph.{pair, row_at, IsPair}
+use Rattle.walk_search.specs.declared.forest.Node.{Node}
+use Rattle.walk_search.specs.MarkedOnes.{marked_ones}
+use Rattle.pair_classes.proofs.Items.{held_some, none_of}
+use Rattle.walk_search.proofs.MarkedOnes.{marked_again, marked_anew}
+use Rattle.walk_search.proofs.ForestLaws.{grown_refl, grown_there}
+use Rattle.walk_search.proofs.HolderLaws.{further_member}
+use Rattle.walk_search.proofs.SearchLaws.{IsSpreading, spreading_turned, next_pair, crossed, spreading_more, looked, spreading_all, further_row}
+use Rattle.walk_search.proofs.search.look.Given as given
+use Rattle.walk_search.proofs.search.look.Goals as goal
+use Rattle.walk_search.proofs.search.look.Goals.{After-mark, After-member_counted-column}
+
+-- what is known where a node is taken and a further row is looked at: the node stands at its index, its pair is within the tables, the
+-- row is one of those that are searched, and has the pair's first column
+record Looks (g : given.Over) (c : After-mark g) : Type 0 where
+  there : slice_get c.args.forest.now.nodes.items c.args.from ≡ Some c.index-node.result.now
+  from_1 : 1 ≤ c.index-node.result.now.pair.b
+  to_last : c.index-node.result.now.pair.b ≤ c.args.marks.now.columns
+  behind : row_at (drop c.args.near.now.first c.args.m.now.rows) c.args.further ≡ row_at c.args.m.now.rows (c.args.near.now.first + c.args.further)
+  searched : row_at (take (c.args.near.now.first + c.args.marks.now.rows) c.args.m.now.rows) (c.args.near.now.first + c.args.further)
+      ≡ row_at (drop c.args.near.now.first c.args.m.now.rows) c.args.further
+  within : c.args.near.now.first + c.args.further ≤ length (take (c.args.near.now.first + c.args.marks.now.rows) c.args.m.now.rows)
+  held : IsTrue (has (row_at (drop c.args.near.now.first c.args.m.now.rows) c.args.further) c.index-node.result.now.pair.a)
+
+looks : (g : given.Over) (c : After-mark g) → Looks g c
+looks g c =
+    let nodes = c.args.forest.now.nodes.items in
+    let node : Node = c.index-node.result.now in
+    let there : slice_get nodes c.args.from ≡ Some node = slice_get_read nodes (length nodes) c.args.from node refl c.requires.from.1 c.index-node.ensures in
+    let here = (c.requires.search.is_forest.indexed.pairs c.args.from node there).0 in
+    let row = further_row c.args.m.now.rows c.args.near.now.first c.args.marks.now.rows c.args.further c.requires.search.few c.requires.row.0 c.requires.row.1 in
+    record {
+      there = there;
+      from_1 = here.b_from;
+      to_last = omega (arith, here.b_to, c.requires.search.is_forest.columns, c.requires.search.columns);
+      behind = row.0;
+      searched = row.1;
+      within = row.2;
+      held = (c.requires.node node there).0;
+    }
+
+-- a first look at a row for a column counts its ones, of which there are some
+first_look : (g : given.Over) (c : After-mark g) → c.mark.result ≡ false →
+    (marked_ones (drop c.args.near.now.first c.args.m.now.rows) c.mark.new.self
+    ≡ marked_ones (drop c.args.near.now.first c.args.m.now.rows) c.args.marks.now + length (row_at c.args.m.now.rows (c.args.near.now.first + c.args.further)))
+    × (1 ≤ length (row_at c.args.m.now.rows (c.args.near.now.first + c.args.further)))
+first_look g c new =
+    let rest = drop c.args.near.now.first c.args.m.now.rows in
+    let node : Node = c.index-node.result.now in
+    let k = looks g c in
+    let ones = marked_anew rest c.args.marks.now c.mark.new.self c.args.further node.pair.b c.mark.ensures.after c.requires.row.0 c.requires.row.1 k.from_1 k.to_last (sym c.mark.ensures.before ∙ new) in
+    let some = held_some (row_at rest c.args.further) node.pair.a k.held in
+    (omega (arith, ones, ap length k.behind), omega (arith, some, ap length k.behind))
+
+pub returns-then-mark-clause-found : goal.returns-then-mark-clause-found
+returns-then-mark-clause-found g c =
+    let m = c.args.m.now in
+    let old = c.args.forest.now in
+    let node : Node = c.index-node.result.now in
+    let k = looks g (goal.at.returns-then-mark-clause-found g c).After-mark in
+    let was = sym c.mark.ensures.before ∙ c.if-mark.true in
+    let same = grown_refl m.columns (take (c.args.near.now.first + c.args.marks.now.rows) m.rows) old c.requires.search.is_forest in
+    looked m c.args.near.now.first c.args.marks.now c.mark.new.self old old c.args.from c.args.further node c.requires.search k.there c.requires.row.0 c.requires.row.1 c.mark.ensures.after same
+    (c.requires.search.spread c.args.further node.pair.b c.requires.row.0 c.requires.row.1 k.from_1 was)
+
+pub returns-then-has_counted-clause-found : goal.returns-then-has_counted-clause-found
+returns-then-has_counted-clause-found g c =
+    let m = c.args.m.now in
+    let old = c.args.forest.now in
+    let node : Node = c.index-node.result.now in
+    let k = looks g (goal.at.returns-then-has_counted-clause-found g c).After-mark in
+    let held = row_at (drop c.args.near.now.first m.rows) c.args.further in
+    let held_b : IsTrue (has held node.pair.b) = ap (λ (r : List ℕ). has r node.pair.b) k.behind ∙ sym c.has_counted.ensures.has ∙ c.if-has_counted.true in
+    let same = grown_refl m.columns (take (c.args.near.now.first + c.args.marks.now.rows) m.rows) old c.requires.search.is_forest in
+    looked m c.args.near.now.first c.args.marks.now c.mark.new.self old old c.args.from c.args.further node c.requires.search k.there c.requires.row.0 c.requires.row.1 c.mark.ensures.after same
+    (λ n. absurd (both_ways (has held node.pair.b) n held_b))
+
+-- the column that is read is the next one of the row
+read_next : (g : given.Over) (c : After-member_counted-column g) → slice_get (row_at (drop c.args.near.now.first c.args.m.now.rows) c.args.further) c.loop-i.i ≡ Some c.member_counted-column.result
+read_next g c =
+    let first = c.args.near.now.first in
+    further_member c.args.m.now.rows first c.args.further (first + c.args.further) c.loop-i.i c.member_counted-column.result c.requires.row.0 refl c.member_counted-column.ensures.member
+
+pub loop-i-preserved-then-column-node : goal.loop-i-preserved-then-column-node
+loop-i-preserved-then-column-node g c =
+    let m = c.args.m.now in
+    let first = c.args.near.now.first in
+    let node : Node = c.index-node.result.now in
+    let k = looks g (goal.at.loop-i-preserved-then-column-node g c).After-mark in
+    let at = read_next g (goal.at.loop-i-preserved-then-column-node g c).After-member_counted-column in
+    record {
+      spreading = spreading_turned m.columns (take (first + c.args.marks.now.rows) m.rows) (row_at (drop first m.rows) c.args.further) c.args.forest.now c.loop-i.forest node c.args.from c.loop-i.i c.member_counted-column.result
+          c.loop-i.invariant.spreading k.there at c.if-column-node.true (c.requires.node node k.there).1;
+      ticks = omega arith;
+    }
+
+pub step-requires-clause-from : goal.step-requires-clause-from
+step-requires-clause-from g c =
+    let m = c.args.m.now in
+    let node : Node = c.index-node.result.now in
+    let k = looks g (goal.at.step-requires-clause-from g c).After-mark in
+    slice_get_within c.loop-i.forest.nodes.items c.args.from node
+    (grown_there m.columns (take (c.args.near.now.first + c.args.marks.now.rows) m.rows) c.args.forest.now c.loop-i.forest c.args.from node c.loop-i.invariant.spreading.grown k.there)
+
+pub step-requires-clause-pair : goal.step-requires-clause-pair
+step-requires-clause-pair g c =
+    let m = c.args.m.now in
+    let first = c.args.near.now.first in
+    let node : Node = c.index-node.result.now in
+    let k = looks g (goal.at.step-requires-clause-pair g c).After-mark in
+    let at = read_next g (goal.at.step-requires-clause-pair g c).After-member_counted-column in
+    let lacks_b = ap (λ (r : List ℕ). has r node.pair.b) k.behind ∙ sym c.has_counted.ensures.has ∙ c.if-has_counted.false in
+    let next = next_pair m.columns (take (first + c.args.marks.now.rows) m.rows) (row_at (drop first m.rows) c.args.further) c.args.forest.now c.loop-i.forest node c.args.from c.loop-i.i c.member_counted-column.result
+    c.loop-i.invariant.spreading k.there at c.member_counted-column.ensures.range (first + c.args.further) (omega (arith, c.requires.row.0)) k.within k.searched k.held lacks_b c.if-column-node.false in
+    subst (λ n. IsPair n (pair node.pair.b c.member_counted-column.result)) (sym c.loop-i.invariant.spreading.grown.is_forest.columns) next
+
+pub returns-in-Some-clause-found : goal.returns-in-Some-clause-found
+returns-in-Some-clause-found g c =
+    let m = c.args.m.now in
+    let first = c.args.near.now.first in
+    let node : Node = c.index-node.result.now in
+    let k = looks g (goal.at.returns-in-Some-clause-found g c).After-mark in
+    let at = read_next g (goal.at.returns-in-Some-clause-found g c).After-member_counted-column in
+    let lacks_b = ap (λ (r : List ℕ). has r node.pair.b) k.behind ∙ sym c.has_counted.ensures.has ∙ c.if-has_counted.false in
+    let next = crossed m.columns (take (first + c.args.marks.now.rows) m.rows) (row_at (drop first m.rows) c.args.further) c.args.forest.now c.loop-i.forest node c.args.from c.loop-i.i c.member_counted-column.result
+    c.loop-i.invariant.spreading k.there at c.member_counted-column.ensures.range (first + c.args.further) (omega (arith, c.requires.row.0)) k.within k.searched k.held lacks_b c.if-column-node.false in
+    rw c.in-Some.is at (c.in_ok-conflict.ensures.stepped m.columns (take (first + c.args.marks.now.rows) m.rows) c.loop-i.invariant.spreading.grown.is_forest (omega (arith, c.loop-i.invariant.spreading.grown.root, c.requires.from.0)) next)
+
+pub loop-i-preserved : goal.loop-i-preserved
+loop-i-preserved g c =
+    let m = c.args.m.now in
+    let first = c.args.near.now.first in
+    let node : Node = c.index-node.result.now in
+    let k = looks g (goal.at.loop-i-preserved g c).After-mark in
+    let at = read_next g (goal.at.loop-i-preserved g c).After-member_counted-column in
+    let lacks_b = ap (λ (r : List ℕ). has r node.pair.b) k.behind ∙ sym c.has_counted.ensures.has ∙ c.if-has_counted.false in
+    let next = crossed m.columns (take (first + c.args.marks.now.rows) m.rows) (row_at (drop first m.rows) c.args.further) c.args.forest.now c.loop-i.forest node c.args.from c.loop-i.i c.member_counted-column.result
+    c.loop-i.invariant.spreading k.there at c.member_counted-column.ensures.range (first + c.args.further) (omega (arith, c.requires.row.0)) k.within k.searched k.held lacks_b c.if-column-node.false in
+    let none = none_of c.in_ok-conflict.field-0 c.in_default.not-Some in
+    let stepped = rw none at (c.in_ok-conflict.ensures.stepped m.columns (take (first + c.args.marks.now.rows) m.rows) c.loop-i.invariant.spreading.grown.is_forest (omega (arith, c.loop-i.invariant.spreading.grown.root, c.requires.from.0)) next) in
+    record {
+      spreading = spreading_more m.columns (take (first + c.args.marks.now.rows) m.rows) (row_at (drop first m.rows) c.args.further) c.args.forest.now c.loop-i.forest node c.args.from c.loop-i.i c.member_counted-column.result
+          c.loop-i.invariant.spreading k.there at c.step.new.self stepped;
+      ticks = omega arith;
+    }
+
+pub returns-clause-found : goal.returns-clause-found
+returns-clause-found g c =
+    let m = c.args.m.now in
+    let first = c.args.near.now.first in
+    let old = c.args.forest.now in
+    let node : Node = c.index-node.result.now in
+    let k = looks g (goal.at.returns-clause-found g c).After-mark in
+    let held = row_at (drop first m.rows) c.args.further in
+    let graph = take (first + c.args.marks.now.rows) m.rows in
+    let all : c.loop-i.i ≡ length held = omega (arith, ap length k.behind) in
+    let spread = subst (IsSpreading m.columns graph held old c.loop-i.forest node) all c.loop-i.invariant.spreading in
+    looked m first c.args.marks.now c.mark.new.self old c.loop-i.forest c.args.from c.args.further node c.requires.search k.there c.requires.row.0 c.requires.row.1 c.mark.ensures.after spread.grown
+    (λ n. spreading_all m.columns graph held old c.loop-i.forest node spread)
+
+pub returns-then-mark-clause-ticks : goal.returns-then-mark-clause-ticks
+returns-then-mark-clause-ticks g c =
+    let node : Node = c.index-node.result.now in
+    let k = looks g (goal.at.returns-then-mark-clause-ticks g c).After-mark in
+    let was = sym c.mark.ensures.before ∙ c.if-mark.true in
+    let ones = marked_again (drop c.args.near.now.first c.args.m.now.rows) c.args.marks.now c.mark.new.self c.args.further node.pair.b c.mark.ensures.after c.requires.row.0 c.requires.row.1 k.from_1 k.to_last was in
+    omega (arith, ones)
+
+pub returns-then-has_counted-clause-ticks : goal.returns-then-has_counted-clause-ticks
+returns-then-has_counted-clause-ticks g c = omega (arith, first_look g (goal.at.returns-then-has_counted-clause-ticks g c).After-mark c.if-mark.false)
+
+pub returns-in_err-conflict-clause-ticks : goal.returns-in_err-conflict-clause-ticks
+returns-in_err-conflict-clause-ticks g c = omega (arith, first_look g (goal.at.returns-in_err-conflict-clause-ticks g c).After-mark c.if-mark.false)
+
+pub returns-in-Some-clause-ticks : goal.returns-in-Some-clause-ticks
+returns-in-Some-clause-ticks g c = omega (arith, first_look g (goal.at.returns-in-Some-clause-ticks g c).After-mark c.if-mark.false)
+
+pub returns-clause-ticks : goal.returns-clause-ticks
+returns-clause-ticks g c = omega (arith, first_look g (goal.at.returns-clause-ticks g c).After-mark c.if-mark.false)
+
+pub overflow_add-row : goal.overflow_add-row
+overflow_add-row g c = omega (arith, c.requires.search.few, c.requires.search.small)

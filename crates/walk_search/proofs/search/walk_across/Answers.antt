@@ -1,0 +1,40 @@
+use Rattle.std.proofs.Common.{◌≡◌, ◌+◌, ◌-◌, ◌≤◌, take, refl, subst, arith}
+use Rattle.row_model.specs.Graph.{HasOddWalk}
+use Rattle.row_model.specs.Cycles.{IsOddWalk}
+use Rattle.row_model.proofs.Walks.{conflict_odd}
+use Rattle.walk_search.proofs.NearLaws.{near_along, across_bound}
+use Rattle.walk_search.proofs.search.walk_across.Goals as goal
+
+pub search-requires-clause-near : goal.search-requires-clause-near
+search-requires-clause-near g c =
+    near_along c.args.m.now c.args.k c.args.gaps.order c.args.gaps c.in_ok-holders.holders c.requires.order refl c.requires.gaps c.in_ok-holders.ensures.holders
+
+pub returns-clause-walk : goal.returns-clause-walk
+returns-clause-walk g c =
+    let up : c.args.k - 1 + 1 ≡ c.args.k = omega arith in
+    let walk : IsOddWalk c.args.m.now.columns (take (c.args.k - 1 + 1) c.args.m.now.rows) c.in-Some.walk = rw c.in-Some.is at c.in_ok-walk.ensures.found in
+    subst (λ n. IsOddWalk c.args.m.now.columns (take n c.args.m.now.rows) c.in-Some.walk) up walk
+
+pub unreachable-requires : goal.unreachable-requires
+unreachable-requires g c =
+    let up : c.args.k - 1 + 1 ≡ c.args.k = omega arith in
+    let none : HasOddWalk c.args.m.now.columns (take (c.args.k - 1 + 1) c.args.m.now.rows) → ⊥ = rw c.in-None.is at c.in_ok-walk.ensures.found in
+    subst (λ n. HasOddWalk c.args.m.now.columns (take n c.args.m.now.rows) → ⊥) up none ((conflict_odd c.args.m.now.columns (take c.args.k c.args.m.now.rows)).1 c.requires.refused)
+
+pub returns-in_err-holders-clause-ticks : goal.returns-in_err-holders-clause-ticks
+returns-in_err-holders-clause-ticks g c =
+    let p = c.requires.refused.is_pair in
+    let some : 1 ≤ c.args.m.now.columns = omega (arith, p.a_from, p.a_to) in
+    across_bound c.args.m.now.rows c.args.m.now.columns c.args.k c.args.steps.now c.rows_by_column.new.steps c.rows_by_column.new.steps some c.requires.row.0 (omega arith) (omega arith)
+
+pub returns-in_err-walk-clause-ticks : goal.returns-in_err-walk-clause-ticks
+returns-in_err-walk-clause-ticks g c =
+    let p = c.requires.refused.is_pair in
+    let some : 1 ≤ c.args.m.now.columns = omega (arith, p.a_from, p.a_to) in
+    across_bound c.args.m.now.rows c.args.m.now.columns c.args.k c.args.steps.now c.rows_by_column.new.steps c.search.new.steps some c.requires.row.0 (omega arith) (omega arith)
+
+pub returns-clause-ticks : goal.returns-clause-ticks
+returns-clause-ticks g c =
+    let p = c.requires.refused.is_pair in
+    let some : 1 ≤ c.args.m.now.columns = omega (arith, p.a_from, p.a_to) in
+    across_bound c.args.m.now.rows c.args.m.now.columns c.args.k c.args.steps.now c.rows_by_column.new.steps c.search.new.steps some c.requires.row.0 (omega arith) (omega arith)
