@@ -81,6 +81,9 @@ module _ (bytes : List ℕ) where
   unfolding distances
   distances_short h = short_enough bytes (distances_lines (filled_lines 1 (lines_of (without_mark bytes)))) h
 
+  pub distances_text : (text : List ℕ) → length bytes ≤ MAX_FILE_BYTES → text ≡ without_mark bytes → distances bytes ≡ distances_lines (filled_lines 1 (lines_of text))
+  distances_text text h is = distances_short h ∙ ap (λ t. distances_lines (filled_lines 1 (lines_of t))) (sym is)
+
 -- the first rows of a table are symmetric with a zero diagonal
 pub record IsFit (n x : ℕ) (values : List ℕ) : Type 0 where
   pub whole : length values ≡ x * n

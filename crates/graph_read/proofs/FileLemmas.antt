@@ -28,6 +28,9 @@ module _ (limit : ℕ) (bytes : List ℕ) where
   unfolding bigraph
   bigraph_short h = short_enough bytes (bigraph_lines limit (filled_lines 1 (lines_of (without_mark bytes)))) h
 
+  pub bigraph_text : (text : List ℕ) → length bytes ≤ MAX_FILE_BYTES → text ≡ without_mark bytes → bigraph limit bytes ≡ bigraph_lines limit (filled_lines 1 (lines_of text))
+  bigraph_text text h is = bigraph_short h ∙ ap (λ t. bigraph_lines limit (filled_lines 1 (lines_of t))) (sym is)
+
 -- the bipartite graph of lists that were read
 module _ (shape : Shape) (m : RowList) (h : AreLists shape m) where
   pub bigraph_read : read.Ok (record { left = length m.rows; right = m.columns; neighbours = m.rows }) ≡ bigraph_with shape (read.Ok m)
@@ -49,6 +52,9 @@ module _ (bytes : List ℕ) where
   pub graph_short : length bytes ≤ MAX_FILE_BYTES → graph bytes ≡ graph_lines (filled_lines 1 (lines_of (without_mark bytes)))
   unfolding graph
   graph_short h = short_enough bytes (graph_lines (filled_lines 1 (lines_of (without_mark bytes)))) h
+
+  pub graph_text : (text : List ℕ) → length bytes ≤ MAX_FILE_BYTES → text ≡ without_mark bytes → graph bytes ≡ graph_lines (filled_lines 1 (lines_of text))
+  graph_text text h is = graph_short h ∙ ap (λ t. graph_lines (filled_lines 1 (lines_of t))) (sym is)
 
 -- the graph of lists that were read
 pub graph_read : (shape : Shape) (m : RowList) → AreLists shape m → right_of shape ≡ left_of shape → read.Ok (record { vertices = m.columns; neighbours = m.rows }) ≡ graph_with shape (read.Ok m)

@@ -17,7 +17,9 @@ pub mod WithinLines
 pub mod WithinTable
 pub mod WithinClones
 pub mod JsonLemmas
+pub mod MemberLemmas
 pub mod FileLemmas
+pub mod FrontLemmas
 pub mod CloneCauses
 pub mod RefusalLemmas
 pub mod MarkLemmas

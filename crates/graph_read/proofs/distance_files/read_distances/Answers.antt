@@ -1,9 +1,9 @@
-use Rattle.std.proofs.Common.{◌≡◌, ◌∙◌, ◌+◌, ap, sym, arith, drop}
+use Rattle.std.proofs.Common.{◌∙◌, ◌+◌, ap, sym, arith, drop}
 use Rattle.row_model.specs.declared.refusal.Read.TheVariants as read
 use Rattle.text_lines.specs.Lines.{lines_of, filled_lines}
-use Rattle.graph_read.specs.DistanceFiles.{distances, distances_lines, distances_behind}
+use Rattle.graph_read.specs.DistanceFiles.{distances_lines, distances_behind}
 use Rattle.graph_read.specs.DistanceSteps.{distances_with}
-use Rattle.graph_read.proofs.DistanceLemmas.{distances_long, distances_short, are_distances}
+use Rattle.graph_read.proofs.DistanceLemmas.{distances_long, distances_text, are_distances}
 use Rattle.graph_read.proofs.TableSteps.{read_behind}
 use Rattle.graph_read.proofs.distance_files.read_distances.Goals as goal
 
@@ -12,16 +12,14 @@ returns-then-bytes-gt-MAX_FILE_BYTES c = ap (λ r. read.Refused r) c.refusal.ens
 
 pub returns-in_default : goal.returns-in_default
 returns-in_default c =
-    let whole : distances c.args.bytes.now ≡ distances_lines (filled_lines 1 (lines_of c.without_mark-text.result.now)) =
-    distances_short c.args.bytes.now c.if-bytes-gt-MAX_FILE_BYTES.false ∙ ap (λ text. distances_lines (filled_lines 1 (lines_of text))) (sym c.without_mark-text.ensures.text) in
+    let whole = distances_text c.args.bytes.now c.without_mark-text.result.now c.if-bytes-gt-MAX_FILE_BYTES.false c.without_mark-text.ensures.text in
     ap (λ r. read.Refused r) c.refusal-in_default.ensures ∙ sym (whole ∙ ap distances_lines c.in_default.ensures.none)
 
 pub returns-in-Err : goal.returns-in-Err
 returns-in-Err c =
     let first = c.in-Some.first in
     let rest = filled_lines (first.number + 1) (lines_of (drop first.span.next c.without_mark-text.result.now)) in
-    let whole : distances c.args.bytes.now ≡ distances_lines (filled_lines 1 (lines_of c.without_mark-text.result.now)) =
-    distances_short c.args.bytes.now c.if-bytes-gt-MAX_FILE_BYTES.false ∙ ap (λ text. distances_lines (filled_lines 1 (lines_of text))) (sym c.without_mark-text.ensures.text) in
+    let whole = distances_text c.args.bytes.now c.without_mark-text.result.now c.if-bytes-gt-MAX_FILE_BYTES.false c.without_mark-text.ensures.text in
     ap (λ r. read.Refused r) c.refusal-in-Err.ensures ∙ sym (whole ∙ ap distances_lines c.in-Some.ensures.line ∙ ap (λ n. distances_behind first.number n rest) (sym c.in-Err.ensures.items))
 
 pub of_values-requires : goal.of_values-requires
@@ -33,8 +31,7 @@ pub returns-in-Some-2 : goal.returns-in-Some-2
 returns-in-Some-2 c =
     let first = c.in-Some.first in
     let rest = filled_lines (first.number + 1) (lines_of (drop first.span.next c.without_mark-text.result.now)) in
-    let whole : distances c.args.bytes.now ≡ distances_lines (filled_lines 1 (lines_of c.without_mark-text.result.now)) =
-    distances_short c.args.bytes.now c.if-bytes-gt-MAX_FILE_BYTES.false ∙ ap (λ text. distances_lines (filled_lines 1 (lines_of text))) (sym c.without_mark-text.ensures.text) in
+    let whole = distances_text c.args.bytes.now c.without_mark-text.result.now c.if-bytes-gt-MAX_FILE_BYTES.false c.without_mark-text.ensures.text in
     let refused = rw c.in-Some-2.is at c.in_ok-refusal.ensures.refused in
     sym (whole ∙ ap distances_lines c.in-Some.ensures.line ∙ ap (λ n. distances_behind first.number n rest) (sym c.in-Ok.ensures.items) ∙ read_behind c.in-Ok.n rest first.number ∙ ap (distances_with c.in-Ok.n) refused)
 
@@ -42,8 +39,7 @@ pub returns-in-None : goal.returns-in-None
 returns-in-None c =
     let first = c.in-Some.first in
     let rest = filled_lines (first.number + 1) (lines_of (drop first.span.next c.without_mark-text.result.now)) in
-    let whole : distances c.args.bytes.now ≡ distances_lines (filled_lines 1 (lines_of c.without_mark-text.result.now)) =
-    distances_short c.args.bytes.now c.if-bytes-gt-MAX_FILE_BYTES.false ∙ ap (λ text. distances_lines (filled_lines 1 (lines_of text))) (sym c.without_mark-text.ensures.text) in
+    let whole = distances_text c.args.bytes.now c.without_mark-text.result.now c.if-bytes-gt-MAX_FILE_BYTES.false c.without_mark-text.ensures.text in
     let table = rw c.in-None.is at c.in_ok-refusal.ensures.table in
     ap (λ d. read.Ok d) c.of_values.ensures
     ∙ sym (whole ∙ ap distances_lines c.in-Some.ensures.line ∙ ap (λ n. distances_behind first.number n rest) (sym c.in-Ok.ensures.items) ∙ read_behind c.in-Ok.n rest first.number ∙ ap (distances_with c.in-Ok.n) table)

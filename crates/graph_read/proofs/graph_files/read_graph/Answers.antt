@@ -2,9 +2,9 @@ use Rattle.std.proofs.Common.{◌≡◌, ◌∙◌, ◌+◌, ap, sym, arith, dro
 use Rattle.row_model.specs.declared.refusal.Read.TheVariants as read
 use Rattle.text_lines.specs.Lines.{lines_of, filled_lines}
 use Rattle.graph_read.specs.Edges.{right_of, lists_of_lines}
-use Rattle.graph_read.specs.GraphFiles.{graph, graph_with, graph_behind, graph_lines}
+use Rattle.graph_read.specs.GraphFiles.{graph_with, graph_behind, graph_lines}
 use Rattle.graph_read.proofs.ListLemmas.{are_lists}
-use Rattle.graph_read.proofs.FileLemmas.{graph_long, graph_short, graph_read, is_graph}
+use Rattle.graph_read.proofs.FileLemmas.{graph_long, graph_text, graph_read, is_graph}
 use Rattle.graph_read.proofs.graph_files.read_graph.Goals as goal
 
 pub returns-then-bytes-gt-MAX_FILE_BYTES : goal.returns-then-bytes-gt-MAX_FILE_BYTES
@@ -12,24 +12,21 @@ returns-then-bytes-gt-MAX_FILE_BYTES c = ap (λ r. read.Refused r) c.refusal.ens
 
 pub returns-in_default : goal.returns-in_default
 returns-in_default c =
-    let whole : graph c.args.bytes.now ≡ graph_lines (filled_lines 1 (lines_of c.without_mark-text.result.now)) =
-    graph_short c.args.bytes.now c.if-bytes-gt-MAX_FILE_BYTES.false ∙ ap (λ text. graph_lines (filled_lines 1 (lines_of text))) (sym c.without_mark-text.ensures.text) in
+    let whole = graph_text c.args.bytes.now c.without_mark-text.result.now c.if-bytes-gt-MAX_FILE_BYTES.false c.without_mark-text.ensures.text in
     ap (λ r. read.Refused r) c.refusal-in_default.ensures ∙ sym (whole ∙ ap graph_lines c.in_default.ensures.none)
 
 pub returns-in-Err : goal.returns-in-Err
 returns-in-Err c =
     let first = c.in-Some.first in
     let rest = filled_lines (first.number + 1) (lines_of (drop first.span.next c.without_mark-text.result.now)) in
-    let whole : graph c.args.bytes.now ≡ graph_lines (filled_lines 1 (lines_of c.without_mark-text.result.now)) =
-    graph_short c.args.bytes.now c.if-bytes-gt-MAX_FILE_BYTES.false ∙ ap (λ text. graph_lines (filled_lines 1 (lines_of text))) (sym c.without_mark-text.ensures.text) in
+    let whole = graph_text c.args.bytes.now c.without_mark-text.result.now c.if-bytes-gt-MAX_FILE_BYTES.false c.without_mark-text.ensures.text in
     ap (λ r. read.Refused r) c.refusal-in-Err.ensures ∙ sym (whole ∙ ap graph_lines c.in-Some.ensures.line ∙ ap (λ vertices. graph_behind first.number vertices rest) (sym c.in-Err.ensures.vertices))
 
 pub returns-in-Refused : goal.returns-in-Refused
 returns-in-Refused c =
     let first = c.in-Some.first in
     let rest = filled_lines (first.number + 1) (lines_of (drop first.span.next c.without_mark-text.result.now)) in
-    let whole : graph c.args.bytes.now ≡ graph_lines (filled_lines 1 (lines_of c.without_mark-text.result.now)) =
-    graph_short c.args.bytes.now c.if-bytes-gt-MAX_FILE_BYTES.false ∙ ap (λ text. graph_lines (filled_lines 1 (lines_of text))) (sym c.without_mark-text.ensures.text) in
+    let whole = graph_text c.args.bytes.now c.without_mark-text.result.now c.if-bytes-gt-MAX_FILE_BYTES.false c.without_mark-text.ensures.text in
     let refused : read.Refused c.in-Refused.refusal ≡ lists_of_lines c.in-Ok.shape rest = sym c.in-Refused.is ∙ c.in_ok-refusal-in-Ok.ensures in
     sym (whole ∙ ap graph_lines c.in-Some.ensures.line ∙ ap (λ vertices. graph_behind first.number vertices rest) (sym c.in-Ok.ensures.vertices) ∙ ap (graph_with c.in-Ok.shape) (sym refused))
 
@@ -44,8 +41,7 @@ pub returns-in-Ok-2 : goal.returns-in-Ok-2
 returns-in-Ok-2 c =
     let first = c.in-Some.first in
     let rest = filled_lines (first.number + 1) (lines_of (drop first.span.next c.without_mark-text.result.now)) in
-    let whole : graph c.args.bytes.now ≡ graph_lines (filled_lines 1 (lines_of c.without_mark-text.result.now)) =
-    graph_short c.args.bytes.now c.if-bytes-gt-MAX_FILE_BYTES.false ∙ ap (λ text. graph_lines (filled_lines 1 (lines_of text))) (sym c.without_mark-text.ensures.text) in
+    let whole = graph_text c.args.bytes.now c.without_mark-text.result.now c.if-bytes-gt-MAX_FILE_BYTES.false c.without_mark-text.ensures.text in
     let made : read.Ok c.in-Ok-2.lists ≡ lists_of_lines c.in-Ok.shape rest = sym c.in-Ok-2.is ∙ c.in_ok-refusal-in-Ok.ensures in
     ap (λ g. read.Ok g) c.of_lists.ensures
     ∙ graph_read c.in-Ok.shape c.in-Ok-2.lists (are_lists c.in-Ok.shape rest c.in-Ok-2.lists made) (ap right_of c.in-Ok.ensures.square)

@@ -1,38 +1,31 @@
-use Rattle.std.proofs.Common.{◌≡◌, ◌-◌, [], ◌∷◌, length, false, true, Some, option_and_then, sym, ap, ◌∙◌, arith}
+use Rattle.std.proofs.Common.{◌≡◌, ◌-◌, length, Some, option_and_then, sym, ap, ◌∙◌, arith}
 use Rattle.json.specs.Json.{parse_map}
 use Rattle.json.specs.Reads.{token_of}
-use Rattle.json.proofs.Grammar.{left_some}
 use Rattle.serde_json.specs.Data.{array}
 use Rattle.matrix_read.specs.Clones.{strings_of}
-use Rattle.matrix_read.specs.JsonSteps.{value_at, items_at, behind, opens_array}
+use Rattle.matrix_read.specs.JsonSteps.{value_at, items_at}
 use Rattle.matrix_read.specs.CloneNames.{array_strings}
-use Rattle.matrix_read.proofs.JsonLemmas.{nothing_at_front, array_at_front}
-use Rattle.matrix_read.proofs.FileLemmas.{fused, kind_at_front, array_token}
+use Rattle.matrix_read.proofs.FileLemmas.{fused}
+use Rattle.matrix_read.proofs.FrontLemmas.{no_token, begins_array, passed_value}
 use Rattle.matrix_read.proofs.clone_names.read_names.Goals as goal
 
 pub returns-in_err-token-clause-err : goal.returns-in_err-token-clause-err
 returns-in_err-token-clause-err c refused =
-    let empty : c.args.reader.now ≡ [] = grind arith in
-    ap (value_at c.args.depth) empty ∙ nothing_at_front c.args.depth
+    no_token c.args.depth c.args.reader.now (grind arith)
 
 pub returns-then-not-opens_array-clause-ok : goal.returns-then-not-opens_array-clause-ok
 returns-then-not-opens_array-clause-ok c =
     let d = c.args.depth in
     let rest = c.pass_value.new.reader in
-    let first : c.args.reader.now ≡ token_of c.in_ok-token.token ∷ c.next.new.self = grind arith in
-    let other : opens_array (token_of c.in_ok-token.token) ≡ false = sym c.if-not-opens_array.ensures in
-    let x = left_some (value_at d c.args.reader.now) rest (ap (λ ts. behind (value_at d ts)) first ∙ c.in_ok-pass_value.ensures.value) in
-    let kind = kind_at_front d (token_of c.in_ok-token.token) c.next.new.self rest x.0 (ap (value_at d) (sym first) ∙ x.1) in
-    ap (parse_map array_strings) x.1 ∙ ap (λ list. Some (option_and_then strings_of list, rest)) (kind.list other)
+    let x = passed_value d c.args.reader.now (token_of c.in_ok-token.token) c.next.new.self (grind arith) rest c.in_ok-pass_value.ensures.value in
+    ap (parse_map array_strings) x.1 ∙ ap (λ list. Some (option_and_then strings_of list, rest)) (x.2.list (sym c.if-not-opens_array.ensures))
 
 pub returns-clause-ok : goal.returns-clause-ok
 returns-clause-ok c =
     let d = c.args.depth in
     let s = c.next.new.self in
-    let first : c.args.reader.now ≡ token_of c.in_ok-token.token ∷ s = grind arith in
-    let opened : opens_array (token_of c.in_ok-token.token) ≡ true = sym c.if-not-opens_array.ensures in
     let same : value_at d c.args.reader.now ≡ parse_map array (items_at (d - 1) (length s) s) =
-    ap (value_at d) (first ∙ ap (λ t. t ∷ s) (array_token (token_of c.in_ok-token.token) opened)) ∙ array_at_front d s (omega (arith, c.requires)) in
+    begins_array d c.args.reader.now (token_of c.in_ok-token.token) s (grind arith) (omega (arith, c.requires)) (sym c.if-not-opens_array.ensures) in
     let named : parse_map array_strings (value_at d c.args.reader.now) ≡ parse_map strings_of (items_at (d - 1) (length s) s) =
     ap (parse_map array_strings) same ∙ fused array array_strings (items_at (d - 1) (length s) s) in
     rw named c.read_strings.ensures.ok
@@ -41,8 +34,5 @@ pub returns-clause-err : goal.returns-clause-err
 returns-clause-err c refused =
     let d = c.args.depth in
     let s = c.next.new.self in
-    let first : c.args.reader.now ≡ token_of c.in_ok-token.token ∷ s = grind arith in
-    let opened : opens_array (token_of c.in_ok-token.token) ≡ true = sym c.if-not-opens_array.ensures in
-    ap (value_at d) (first ∙ ap (λ t. t ∷ s) (array_token (token_of c.in_ok-token.token) opened))
-    ∙ array_at_front d s (omega (arith, c.requires))
+    begins_array d c.args.reader.now (token_of c.in_ok-token.token) s (grind arith) (omega (arith, c.requires)) (sym c.if-not-opens_array.ensures)
     ∙ ap (parse_map array) (c.read_strings.ensures.err refused)
