@@ -8,5 +8,5 @@ abbrev pub orders_within : Inside → OrderList
 orders_within l = record { columns = l.columns; orders = cut l.count l.columns l.numbers.items; more = l.more }
 
 -- what is always true of the fields
-abbrev pub IsKept : Inside → Type 0
-IsKept l = length l.numbers.items ≡ l.count * l.columns
+abbrev pub IsOrdersKept : Inside → Type 0
+IsOrdersKept l = length l.numbers.items ≡ l.count * l.columns

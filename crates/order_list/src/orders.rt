@@ -22,11 +22,11 @@ impl Model for Orders {
 
     ghost Value = { OrderList };
 
-    ghost use Rattle.order_list.specs.Held.{orders_within, IsKept};
+    ghost use Rattle.order_list.specs.Held.{orders_within, IsOrdersKept};
 
     ghost view = { orders_within };
 
-    ghost invariant = { IsKept };
+    ghost invariant = { IsOrdersKept };
 }
 
 impl Orders {
