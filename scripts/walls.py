@@ -26,7 +26,7 @@ import sys
 
 HOME = os.path.dirname(os.path.dirname(os.path.abspath(__file__)))
 # The crates whose definitions everything shares; docs/DECISIONS.md says why they offer their lemmas too.
-SHARED_PROOFS = {"column_order", "plain_text", "row_model", "pq_tree", "tied_law", "arena_model", "template_model"}
+SHARED_PROOFS = {"column_order", "plain_text", "text_parts", "row_model", "pq_tree", "tied_law", "arena_model", "template_model"}
 COUNTERS = {"step_count", "commands", "solve_replies", "bubble_bench"}
 STEPPED = ["bubble_pass", "full_pass", "templates_p", "templates_q", "row_reduce"]
 WITHOUT_MEMORY = ["pq_arena"] + STEPPED
