@@ -27,7 +27,7 @@ PROMISED = ("crates/reply_laws/specs/Promise.antt", "IsPromised")
 # The crates whose laws say what replies mean.
 LAWS = ["pq_cli", "one_text"]
 # The types whose cases tell the commands, the kinds of files and the instances apart.
-COMMANDS = ("crates/commands/specs/Words.antt", "Command")
+COMMANDS = ("crates/command_input/specs/Words.antt", "Command")
 KINDS = ("crates/row_model/src/kind.rt", "Kind")
 INSTANCES = ("crates/instance_model/specs/Instance.antt", "InstanceValue")
 PLAIN = "plain"

@@ -14,6 +14,9 @@ Usage: scripts/walls.py
 5. Every function of the end-to-end checks, the benches and the scripts is called: a check that does not run is none.
 6. The pages name what stands: each call, type and law in the second column of docs/CONTRACTS.md is one of the crate in the first; README
    names each crate and each clause of the top call; and one of the two names each public law.
+7. The house has floors: crates.txt lists each crate under the heading of its floor, after all those that it stands on, so no crate stands
+   on one of a higher floor. As the floor of the search stands above that of the checks, `check` makes no search.
+8. A name has one meaning: no name of a crate's definitions stands twice in it, or in a crate that it stands on as well.
 
 Each line that breaks a rule is printed. The last line is `N passed, N failed`; the status is 0 where nothing failed.
 """
@@ -24,9 +27,11 @@ import os
 import re
 import sys
 
+import build
+
 HOME = os.path.dirname(os.path.dirname(os.path.abspath(__file__)))
 # The crates whose definitions everything shares; docs/DECISIONS.md says why they offer their lemmas too.
-SHARED_PROOFS = {"column_order", "plain_text", "row_model", "pair_classes", "text_lines", "pq_tree", "tied_law", "template_theory", "arena_model", "template_model"}
+SHARED_PROOFS = {"column_order", "plain_text", "text_parts", "row_model", "pair_classes", "text_lines", "pq_tree", "tied_law", "template_theory", "arena_model", "template_model"}
 COUNTERS = {"step_count", "commands", "solve_replies", "bubble_bench", "order_example"}
 STEPPED = ["bubble_pass", "full_pass", "templates_p", "templates_q", "row_reduce"]
 WITHOUT_MEMORY = ["pq_arena"] + STEPPED
@@ -44,6 +49,9 @@ NAMED = re.compile(r"`([\w:]+)`")
 ITEM = re.compile(r"\b(?:fn|struct|enum|trait|type) (\w+)")
 # a law by its name, and no module of that name
 LAW = re.compile(r"\b(?<!mod )\w+_laws?\b(?!::)")
+# a heading of crates.txt, and the start of a definition, with its name
+FLOOR = re.compile(r"^# \d+\. \S")
+DEFINED = re.compile(r"^(?:(?:pub|abbrev|unfoldable|record|data) +)+([^\s:(){}]+)\s*(?:\([^)]*\)\s*)*:")
 
 
 def crates():
@@ -175,10 +183,51 @@ def untold(names):
                 yield f"{place}: no page tells of {law}"
 
 
+def upward_edges():
+    """Where crates.txt lists a crate outside a floor, or before one that it stands on."""
+    has_floor, listed, lines = False, set(), list(numbered(os.path.join(HOME, "crates.txt")))
+    known = set(crates())
+    for place, line in lines:
+        has_floor = has_floor or bool(FLOOR.match(line))
+        name, colon, below = line.split("#")[0].partition(":")
+        if not colon:
+            continue
+        if not has_floor:
+            yield f"{place}: {name} is on no floor"
+        for one in below.split():
+            if one in known and one not in listed:
+                yield f"{place}: {name} stands on {one}, which is above it"
+        listed.add(name.strip())
+
+
+def defined(crate):
+    """Each name that a crate's definitions define, with where it stands."""
+    for path in files(os.path.join("crates", crate, "specs"), ".antt"):
+        for place, line in numbered(path):
+            found = DEFINED.match(line)
+            if found:
+                yield found[1], place
+
+
+def names_with_two_meanings():
+    """The names of definitions that stand twice in a crate, or in one and in another that it stands on."""
+    own, below = {}, build.stands_on()
+    for crate in below:
+        own[crate] = {}
+        for name, place in defined(crate):
+            if name in own[crate]:
+                yield f"{place}: {name} stands at {own[crate][name]} too"
+            own[crate][name] = place
+        for one in below[crate]:
+            for name in sorted(own[crate].keys() & own.get(one, {}).keys()):
+                yield f"{own[crate][name]}: {name} stands at {own[one][name]} too, and {crate} stands on {one}"
+
+
 def main():
     names = crates()
     failed = 0
-    rules = [foreign_proofs(names), own_counters(names), uncounted_walks(), hidden_memory(), idle_functions(), itertools.chain(unknown_contracts(names), untold(names))]
+    rules = [foreign_proofs(names), own_counters(names), uncounted_walks(), hidden_memory(), idle_functions(), itertools.chain(unknown_contracts(names), untold(names)),
+             upward_edges(), names_with_two_meanings()]
     for broken in rules:
         found = list(broken)
         failed += bool(found)

@@ -1,14 +1,2 @@
-pub mod Reading
-pub mod Sizes
-pub mod PlainKinds
-pub mod Shown
-pub mod Lengths
-pub mod AddedIntervals
-pub mod AddedFits
-pub mod Fits
-pub mod Short
 pub mod Solved
-pub mod NoOrders
-pub mod CoreSizes
-pub mod Files
 pub mod Parts

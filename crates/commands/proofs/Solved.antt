@@ -1,7 +1,8 @@
 -- What `solve` wrote is the text of a verdict that passes each test, within the limit of bytes.
-use Rattle.std.proofs.Common.{◌≡◌, ℕ, ◌-◌, List, Option, Some, None, refl, sym, subst}
+use Rattle.std.proofs.Common.{arith, ◌≡◌, ℕ, ◌-◌, List, Option, Some, None, refl, sym, subst}
 use Rattle.std.specs.Prelude.{slice_get, IsSomeAnd}
 use Rattle.row_model.specs.declared.kind.Kind.{Kind}
+use Rattle.row_model.specs.declared.kind.Kind.TheVariants.{Matrix, Rows, Table, Circular, Convex, Doubly, Proper, Robinson, Clones}
 use Rattle.row_model.specs.Rows.{RowList}
 use Rattle.graph_model.specs.Graphs.{GraphValue, IsGraph}
 use Rattle.proper_interval.specs.Models.{IsProperModel}
@@ -14,32 +15,37 @@ use Rattle.instance_model.specs.Laws.{ValidLaw}
 use Rattle.verdict_check.specs.Laws.{IsSolvedSide, YesLaw, NoLaw}
 use Rattle.verdict_check.specs.Truth.{IsTrueAddedTo, IsTrueAdded}
 use Rattle.verdict_check.specs.Accepted.{IsAccepted}
-use Rattle.commands.specs.Verdicts.{ShowsSide, ShowsSides, AddsToMatrix, Adds, IsClaimOf, IsVerdictOf, IsVerdictReply, LengthLaw}
+use Rattle.verdict_replies.specs.Verdicts.{ShowsSide, ShowsSides, AddsToMatrix, AddsToOrder, IsClaimOf, IsVerdictOf, IsVerdictReply, LengthLaw}
 use Rattle.commands.specs.Judgements.{HasVerdict}
-use Rattle.commands.proofs.PlainKinds.{plain_cases}
-use Rattle.commands.proofs.Sizes.{first_side}
 
 -- what a matrix adds to its side is true
 true_to_matrix : (kind : Kind) (m : RowList) (value : YesValue) (side : Option SideValue) → IsPlainKind kind → IsSomeAnd side (λ s. AddsToMatrix kind m s.order value.added)
     → IsSomeAnd side (IsTrueAddedTo kind m.rows value)
 true_to_matrix kind m value None h adds = absurd adds
-true_to_matrix kind m value (Some side) h adds =
-    plain_cases (λ k. AddsToMatrix k m side.order value.added → IsTrueAddedTo k m.rows value side) (λ a. tt) (λ a. tt) (λ a. tt) (λ a. (a.1, a.2)) kind h adds
+true_to_matrix Matrix m value (Some side) h adds = tt
+true_to_matrix Rows m value (Some side) h adds = tt
+true_to_matrix Table m value (Some side) h adds = tt
+true_to_matrix Clones m value (Some side) h adds = (adds.1, adds.2)
+true_to_matrix Circular m value (Some side) h adds = absurd h
+true_to_matrix Convex m value (Some side) h adds = absurd h
+true_to_matrix Doubly m value (Some side) h adds = absurd h
+true_to_matrix Proper m value (Some side) h adds = absurd h
+true_to_matrix Robinson m value (Some side) h adds = absurd h
 
 -- the intervals of a graph are a proper model
-true_model : ValidLaw → IntervalsLaw → (g : GraphValue) (value : YesValue) (side : Option SideValue) → IsGraph g → IsSomeAnd side (ShowsSide (proper g) 1) → IsSomeAnd side (λ s. Adds (proper g) s.order value.added)
+true_model : ValidLaw → IntervalsLaw → (g : GraphValue) (value : YesValue) (side : Option SideValue) → IsGraph g → IsSomeAnd side (ShowsSide (proper g) 1) → IsSomeAnd side (λ s. AddsToOrder (proper g) s.order value.added)
     → IsProperModel g value.added.intervals
 true_model valid_textbook intervals_fit g value None formed shows adds = absurd adds
 true_model valid_textbook intervals_fit g value (Some side) formed shows adds =
-    intervals_fit g side.order value.added.intervals formed (valid_textbook (proper g) 1 side.order formed (first_side (proper g)) shows.order) adds.0
+    intervals_fit g side.order value.added.intervals formed (valid_textbook (proper g) 1 side.order formed (omega arith, omega arith) shows.order) adds.0
 
-pub added_true : ValidLaw → IntervalsLaw → (i : InstanceValue) (value : YesValue) → IsInstance i → IsWellFormed i → ShowsSides i value.sides → IsSomeAnd (slice_get value.sides 0) (λ side. Adds i side.order value.added)
+pub added_true : ValidLaw → IntervalsLaw → (i : InstanceValue) (value : YesValue) → IsInstance i → IsWellFormed i → ShowsSides i value.sides → IsSomeAnd (slice_get value.sides 0) (λ side. AddsToOrder i side.order value.added)
     → IsTrueAdded i value
 added_true valid models (plain kind m) value h formed shows adds = true_to_matrix kind m value (slice_get value.sides 0) h.0 adds
 added_true valid models (circular m) value h formed shows adds = tt
 added_true valid models (convex g) value h formed shows adds = tt
 added_true valid models (doubly g) value h formed shows adds = tt
-added_true valid models (proper g) value h formed shows adds = true_model valid models g value (slice_get value.sides 0) formed (shows.each 1 (first_side (proper g))) adds
+added_true valid models (proper g) value h formed shows adds = true_model valid models g value (slice_get value.sides 0) formed (shows.each 1 (omega arith, omega arith)) adds
 added_true valid models (robinson d) value h formed shows adds = tt
 
 module _ (valid_textbook : ValidLaw) (models : IntervalsLaw) (yes_law : YesLaw) (no_law : NoLaw) (i : InstanceValue) (h : IsInstance i) (formed : IsWellFormed i) where

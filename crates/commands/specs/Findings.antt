@@ -3,13 +3,10 @@ use Rattle.std.specs.Prelude.{◌≡◌, ◌≢◌, ℕ, ◌<◌, ◌≤◌, Lis
 use Rattle.graph_model.specs.Graphs.{GraphValue}
 use Rattle.unit_model.specs.Models.{IsUnitModel}
 use Rattle.unit_model.specs.Text.{UnitValue, IsUnit, unit_text}
-use Rattle.commands.specs.declared.TheConstants.{MAX_VERDICT_BYTES}
+use Rattle.verdict_replies.specs.declared.TheConstants.{MAX_VERDICT_BYTES}
+use Rattle.verdict_replies.specs.Units.{IsUnitOf}
 use Rattle.commands.specs.declared.finding.Finding.{Finding}
 use Rattle.commands.specs.declared.finding.Finding.TheVariants as finding
-
--- a unit model as a text has it is one of the graph
-abbrev pub IsUnitOf : GraphValue → UnitValue → Type 0
-IsUnitOf g t = (t.vertices ≡ g.vertices) × IsUnitModel g t.size t.lefts
 
 -- the bytes are within the limit, and the text of a unit model of which P holds
 abbrev pub HasUnit : List ℕ → (UnitValue → Type 0) → Type 0

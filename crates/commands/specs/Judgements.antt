@@ -8,7 +8,7 @@ use Rattle.instance_model.specs.Instance.{InstanceValue}
 use Rattle.verdict_check.specs.Accepted.{IsAccepted, FailsFirst}
 use Rattle.verdict_check.specs.declared.outcome.Reason.{Reason}
 use Rattle.verdict_check.specs.declared.outcome.Reason.TheVariants as reason
-use Rattle.commands.specs.declared.TheConstants.{MAX_VERDICT_BYTES}
+use Rattle.verdict_replies.specs.declared.TheConstants.{MAX_VERDICT_BYTES}
 use Rattle.commands.specs.declared.judgement.Judgement.{Judgement}
 use Rattle.commands.specs.declared.judgement.Judgement.TheVariants as judgement
 

@@ -1,10 +1,5 @@
-pub mod Words
-pub mod Task
-pub mod Instances
-pub mod Verdicts
-pub mod Cores
 pub mod Judgements
 pub mod CoreJudgements
 pub mod Findings
 pub mod Meetings
-pub mod TreeFiles
+pub mod Passed

@@ -6,20 +6,21 @@ use Rattle.row_model.specs.declared.graph.Line.{Line}
 use Rattle.pq_tree.specs.Outline.{Outline, leaves, IsFrontier}
 use Rattle.pq_tree.specs.Proper.{IsProper}
 use Rattle.pq_tree.specs.Canonical.{IsCanonical}
-use Rattle.verdict_text.specs.Text.{side_text, counted_cycle}
+use Rattle.verdict_text.specs.Text.{side_text}
+use Rattle.text_parts.specs.Text.{counted_cycle}
 use Rattle.verdict_text.specs.Verdict.{SideValue}
 use Rattle.tree_meet.specs.TreeRows.{rows_of_tree}
 use Rattle.tree_meet.specs.Meets.{IsCommon, joint_rows}
 
 -- the first three lines: the number of columns, and the numbers of rows of both trees
-abbrev pub head_of : ℕ → ℕ → ℕ → List ℕ
-head_of columns first second =
+abbrev pub meet_head_of : ℕ → ℕ → ℕ → List ℕ
+meet_head_of columns first second =
     codes "pq-meet 1\ncolumns " ++ (decimal columns ++
     (codes "\nrows " ++ (decimal first ++ (codes " " ++ (decimal second ++ codes "\n")))))
 
 -- the same of two trees over 1 to c
-abbrev pub head_text : ℕ → Outline → Outline → List ℕ
-head_text c t u = head_of c (length (rows_of_tree c t)) (length (rows_of_tree c u))
+abbrev pub meet_head : ℕ → Outline → Outline → List ℕ
+meet_head c t u = meet_head_of c (length (rows_of_tree c t)) (length (rows_of_tree c u))
 
 -- a canonical tree over 1 to c with exactly the common frontiers of two trees, and its leaves from left to right
 pub record ShowsCommon (c : ℕ) (t u : Outline) (side : SideValue) : Type 0 where
@@ -33,7 +34,7 @@ pub record TellsCommon (c : ℕ) (t u : Outline) (text : List ℕ) : Type 0 wher
   pub some : (o : List ℕ) × IsCommon t u o
   pub side : SideValue
   pub shows : ShowsCommon c t u side
-  pub text_is : text ≡ head_text c t u ++ (codes "answer yes\n" ++ (side_text side ++ codes "end\n"))
+  pub text_is : text ≡ meet_head c t u ++ (codes "answer yes\n" ++ (side_text side ++ codes "end\n"))
 
 -- No: no frontier is common, and the text tells an odd cycle of the rows of the first tree followed by those of the
 -- second.
@@ -41,7 +42,7 @@ pub record TellsApart (c : ℕ) (t u : Outline) (text : List ℕ) : Type 0 where
   pub none : (o : List ℕ) → IsCommon t u o → ⊥
   pub lines : List Line
   pub cycle : IsOddCycle c (joint_rows c t u) lines
-  pub text_is : text ≡ head_text c t u ++ (codes "answer no\n" ++ (counted_cycle lines ++ codes "end\n"))
+  pub text_is : text ≡ meet_head c t u ++ (codes "answer no\n" ++ (counted_cycle lines ++ codes "end\n"))
 
 -- the status and the text tell what two trees share
 abbrev pub IsMeetingReply : ℕ → Outline → Outline → ℕ → List ℕ → Type 0

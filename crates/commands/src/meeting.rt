@@ -4,12 +4,12 @@ ghost use Rattle.row_model.specs.declared.TheConstants.{MAX_COLUMNS};
 ghost use Rattle.row_model.specs.Cycles.{IsOddCycle};
 ghost use Rattle.pq_tree.specs.PqTree.{column_count, outline};
 ghost use Rattle.tree_meet.specs.Meets.{IsCommon, IsMeet, joint_rows};
-ghost use Rattle.commands.specs.Meetings.{head_text, TellsCommon, TellsApart, IsMeetingReply};
+ghost use Rattle.commands.specs.Meetings.{meet_head, TellsCommon, TellsApart, IsMeetingReply};
 
 use crate::{NoMemory, Reply};
 use odd_cycle::Cycle;
 use pq_tree::PqTree;
-use row_core::Judge;
+use row_judge::Judge;
 use std::alloc::Global;
 use step_count::{Blank, Brand, Ledger, Steps};
 use tree_meet::{Met, meet, row_count};
@@ -123,7 +123,7 @@ fn print_head(
     requires same { column_count second.now ≡ column_count first.now }
     requires few { column_count first.now ≤ MAX_COLUMNS }
     ensures { OnOk result (text.new.items
-        ≡ text.old.items ++ head_text (column_count first.now) (outline first.now) (outline second.now)) }
+        ≡ text.old.items ++ meet_head (column_count first.now) (outline first.now) (outline second.now)) }
 {
     let columns = first.columns();
     let rows = row_count(first);

@@ -1,29 +1,9 @@
-// What holds of the text of a verdict on an instance, and of that of a core.
-ghost use Rattle.commands.specs.Cores.{CoreGrammarLaw};
-ghost use Rattle.commands.specs.Verdicts.{GrammarLaw, LengthLaw, AddedLaw, PassedLaw};
+// What a check finds of the verdict that `solve` tells.
+ghost use Rattle.commands.specs.Passed.{AddedLaw, PassedLaw};
 
-use clone_map::place_laws;
-use odd_cycle::cycle_length_law;
-use instance_model::{derived_sizes_law, textbook_law};
+use instance_model::textbook_law;
 use verdict_check::solved_laws;
-
-/// A verdict of an instance is in the grammar, and its text has no more bytes than a verdict that is judged.
-pub fn grammar_law()
-    ensures grammar { GrammarLaw }
-    ensures length { LengthLaw }
-{
-    derived_sizes_law();
-    cycle_length_law();
-    place_laws();
-}
-
-/// What is told of a core of a matrix within the limits of files is in the grammar, and its text has no more bytes than
-/// one that is judged.
-pub fn core_grammar_law()
-    ensures { CoreGrammarLaw }
-{
-    cycle_length_law();
-}
+use verdict_replies::grammar_law;
 
 /// A verdict of an instance passes each test of a check; and what it adds to the order of the first side is true.
 pub fn passed_law()

@@ -3,7 +3,7 @@ use Rattle.std.proofs.Common.{◌≡◌, ◌∙◌, ℕ, List, sym, ap}
 use Rattle.row_model.specs.Rows.{RowList}
 use Rattle.pq_tree.specs.Outline.{Outline, leaves}
 use Rattle.canonical_tree.specs.Laws.{CanonicalTreeLaw}
-use Rattle.row_core.specs.Told.{IsOrderWithout}
+use Rattle.core_text.specs.Told.{IsOrderWithout}
 use Rattle.one_text.specs.Laws.{OneOrderLaw}
 
 pub one_order : CanonicalTreeLaw → OneOrderLaw

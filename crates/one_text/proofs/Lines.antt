@@ -2,15 +2,15 @@
 use Rattle.std.proofs.Common.{◌≡◌, ◌∙◌, ℕ, zero, suc, ◌-◌, List, [], ◌∷◌, ◌++◌, refl, sym, ap, subst, append_assoc}
 use Rattle.std.specs.Prelude.{slice_get, IsSomeAnd, flat_map, codes}
 use Rattle.row_model.specs.declared.kind.Kind.{Kind}
-use Rattle.verdict_text.specs.Numbered.{numbered}
+use Rattle.text_parts.specs.Numbered.{numbered}
 use Rattle.verdict_text.specs.Text.{kind_line, columns_line, side_text, added_text, claim_text, head_text, verdict_text}
 use Rattle.verdict_text.specs.Verdict.{SideValue, Claim, yes_claim, no_claim, VerdictValue}
 use Rattle.verdict_check.specs.YesTests.{HasSide}
 use Rattle.reply_laws.specs.Solve.{IsYesAnd}
 use Rattle.solve_replies.specs.Sessions.{Outcome, outcome_text, session_text}
-use Rattle.commands.specs.Meetings as meetings
+use Rattle.commands.specs.Meetings.{meet_head}
 use Rattle.one_text.specs.Told.{on_side, at_end, in_meeting}
-use Rattle.one_text.specs.Laws.{HasLines, LinesLaw}
+use Rattle.one_text.specs.Laws.{HasLines, ToldLinesLaw}
 
 -- lines of a text stand in it behind other bytes, and before other bytes
 behind : (other text lines : List ℕ) → HasLines text lines → HasLines (other ++ text) lines
@@ -53,7 +53,7 @@ in_shared head side =
     let end = side_text side ++ codes "end\n" in
     behind head (codes "answer yes\n" ++ end) (side_text side) (behind (codes "answer yes\n") end (side_text side) (first (side_text side) (codes "end\n")))
 
-pub lines_law : LinesLaw
+pub lines_law : ToldLinesLaw
 lines_law text (on_side s) side h = subst (λ t. HasLines t (side_text side)) (sym h.2) (in_verdict h.0 s side h.3)
 lines_law text at_end side h = subst (λ t. HasLines t (side_text side)) (sym h.3) (in_session h.0 h.1 h.2 side)
-lines_law text in_meeting side h = subst (λ t. HasLines t (side_text side)) (sym h.3) (in_shared (meetings.head_text h.0 h.1 h.2) side)
+lines_law text in_meeting side h = subst (λ t. HasLines t (side_text side)) (sym h.3) (in_shared (meet_head h.0 h.1 h.2) side)

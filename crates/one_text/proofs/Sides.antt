@@ -12,10 +12,10 @@ use Rattle.pq_tree.specs.Proper.{IsProper}
 use Rattle.pq_tree.specs.Canonical.{IsCanonical}
 use Rattle.verdict_text.specs.Verdict.{SideValue, Claim, yes_claim, no_claim}
 use Rattle.verdict_check.specs.YesTests.{HasSide}
-use Rattle.commands.specs.Words.{Solve}
-use Rattle.commands.specs.Instances.{instance_of}
+use Rattle.command_input.specs.Words.{Solve}
+use Rattle.command_input.specs.Instances.{instance_of}
 use Rattle.reply_laws.specs.Replies.{Replies}
-use Rattle.commands.specs.Verdicts.{ShowsAllOrders, IsClaimOf, status_of, IsVerdictReply}
+use Rattle.verdict_replies.specs.Verdicts.{ShowsAllOrders, IsClaimOf, status_of, IsVerdictReply}
 use Rattle.reply_laws.specs.Solve.{IsYesAnd}
 use Rattle.one_text.specs.Told.{on_side, SolvesSide, TellsAt}
 

@@ -10,7 +10,7 @@ use Rattle.verdict_text.specs.Text.{verdict_text}
 use Rattle.instance_model.specs.Instance.{InstanceValue, plain, circular, convex, doubly, proper, robinson, IsSideOf, IsTextbookOrder, derived_matrix}
 use Rattle.instance_model.specs.Laws.{IsValidFor, AreTextbookOrders}
 use Rattle.verdict_check.specs.YesTests.{HasSide}
-use Rattle.commands.specs.Verdicts.{ShowsSide, IsClaimOf}
+use Rattle.verdict_replies.specs.Verdicts.{ShowsSide, IsClaimOf}
 use Rattle.reply_laws.specs.Solve.{IsYesAnd, ShowsTextbookOrders, OrdersLaw}
 use Rattle.tree_meet.specs.Laws.{CommonRowsLaw}
 use Rattle.reply_laws.specs.Meet.{MeetTextLaw}

@@ -3,7 +3,7 @@ use Rattle.std.specs.Prelude.{◌≡◌, ◌↔◌, ◌++◌, ℕ, List}
 use Rattle.row_model.specs.Rows.{RowList}
 use Rattle.pq_tree.specs.Outline.{Outline, leaves}
 use Rattle.canonical_tree.specs.Laws.{IsCanonicalOver, HasOrdersOf}
-use Rattle.row_core.specs.Told.{IsOrderWithout}
+use Rattle.core_text.specs.Told.{IsOrderWithout}
 use Rattle.verdict_text.specs.Verdict.{SideValue}
 use Rattle.verdict_text.specs.Text.{side_text}
 use Rattle.instance_model.specs.Instance.{InstanceValue, circular, IsTextbookOrder}
@@ -27,8 +27,8 @@ abbrev pub HasLines : List ℕ → List ℕ → Type 0
 HasLines text lines = (before : List ℕ) × (after : List ℕ) × (text ≡ before ++ (lines ++ after))
 
 -- where a text tells a tree and an order, it has their lines in it
-abbrev pub LinesLaw : Type 0
-LinesLaw = (text : List ℕ) (spot : Spot) (side : SideValue) → TellsAt text spot side → HasLines text (side_text side)
+abbrev pub ToldLinesLaw : Type 0
+ToldLinesLaw = (text : List ℕ) (spot : Spot) (side : SideValue) → TellsAt text spot side → HasLines text (side_text side)
 
 -- the matrices have the same valid orders
 abbrev pub HaveSameOrders : RowList → RowList → Type 0

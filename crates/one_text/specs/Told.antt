@@ -12,10 +12,10 @@ use Rattle.pq_tree.specs.Outline.{Outline}
 use Rattle.tree_meet.specs.Meets.{joint_rows}
 use Rattle.verdict_text.specs.Verdict.{SideValue}
 use Rattle.verdict_text.specs.Text.{side_text}
-use Rattle.commands.specs.Meetings.{head_text}
+use Rattle.commands.specs.Meetings.{meet_head}
 use Rattle.verdict_check.specs.YesTests.{HasSide}
-use Rattle.commands.specs.Words.{Solve, Extend, Meet}
-use Rattle.commands.specs.Instances.{instance_of}
+use Rattle.command_input.specs.Words.{Solve, Extend, Meet}
+use Rattle.command_input.specs.Instances.{instance_of}
 use Rattle.reply_laws.specs.Replies.{Replies}
 use Rattle.reply_laws.specs.Solve.{TellsYes}
 use Rattle.reply_laws.specs.Meet.{WriteTrees}
@@ -87,7 +87,7 @@ TellsEnd text side = (kind : Kind) × (c : ℕ) × (outcomes : List Outcome) × 
 
 -- the text is that of what two trees share, with this tree and this order
 abbrev pub TellsMeeting : List ℕ → SideValue → Type 0
-TellsMeeting text side = (c : ℕ) × (t : Outline) × (u : Outline) × (text ≡ head_text c t u ++ (codes "answer yes\n" ++ (side_text side ++ codes "end\n")))
+TellsMeeting text side = (c : ℕ) × (t : Outline) × (u : Outline) × (text ≡ meet_head c t u ++ (codes "answer yes\n" ++ (side_text side ++ codes "end\n")))
 
 -- the text tells this tree and this order at the spot, by the lines `side_text side`
 abbrev pub TellsAt : List ℕ → Spot → SideValue → Type 0

@@ -5,14 +5,14 @@
 //! `core` prints for each row of a core. The functions here have no body: their contracts are the laws.
 #![tactic(auto)]
 
-ghost use Rattle.one_text.specs.Laws.{CanonicalTextLaw, LinesLaw, SameTextLaw, TextbookTextLaw, OneOrderLaw};
+ghost use Rattle.one_text.specs.Laws.{CanonicalTextLaw, ToldLinesLaw, SameTextLaw, TextbookTextLaw, OneOrderLaw};
 
 /// A reply with status 0 tells the canonical tree of the orders that it is about, and its leaves from left to right,
 /// and has the two lines that say so. So two replies about the same orders tell the same tree and the same order; and
 /// two replies to `solve` do, where their sides have the same textbook orders and neither instance is circular.
 pub fn one_text_law()
     ensures canonical { CanonicalTextLaw }
-    ensures lines { LinesLaw }
+    ensures lines { ToldLinesLaw }
     ensures same { SameTextLaw }
     ensures textbook { TextbookTextLaw }
 {

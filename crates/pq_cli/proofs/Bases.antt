@@ -6,8 +6,8 @@ use Rattle.row_model.specs.declared.refusal.Refusal.{Refusal}
 use Rattle.row_model.specs.declared.refusal.Read.TheVariants as read
 use Rattle.matrix_read.specs.Sparse.{further}
 use Rattle.instance_model.specs.Instance.{InstanceValue, plain, instance_kind}
-use Rattle.commands.specs.Words.{Extend}
-use Rattle.commands.specs.Instances.{instance_of}
+use Rattle.command_input.specs.Words.{Extend}
+use Rattle.command_input.specs.Instances.{instance_of}
 use Rattle.reply_laws.specs.Replies.{refused_at, refused_behind, refusal_of}
 
 -- an instance of a kind that holds a matrix is that matrix, of that kind

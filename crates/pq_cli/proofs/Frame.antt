@@ -6,14 +6,14 @@ use Rattle.pq_io.specs.Faults.{Rose}
 use Rattle.row_model.specs.declared.refusal.Refusal.{Refusal}
 use Rattle.row_model.specs.declared.refusal.Read.{Read}
 use Rattle.row_model.specs.declared.refusal.Read.TheVariants as read
-use Rattle.commands.specs.Words.{Command, files_of}
+use Rattle.command_input.specs.Words.{Command, files_of}
 use Rattle.pq_cli.specs.Reading.{OnlyReads, IsStopAt, ReadsFile}
 use Rattle.reply_laws.specs.Replies.{refusable, refusal_of, Replies}
 use Rattle.pq_cli.specs.Runs.{AllTold, WhereFirstTold, EndsAtRefusal, StopsAt, RunsCommand}
 use Rattle.pq_cli.specs.Stops.{stop_status}
 use Rattle.pq_cli.specs.declared.stop.Stop.{Stop}
 use Rattle.pq_cli.specs.declared.stop.Stop.TheVariants as stop
-use Rattle.commands.specs.declared.reply.Reply.{Reply}
+use Rattle.verdict_replies.specs.declared.reply.Reply.{Reply}
 
 -- the facts about the bytes that a shelf tells, at those that it told
 pub where_told : (P : List ℕ → Type 0) (told : Option (List ℕ)) (bytes : List ℕ) → IfSome told P → told ≡ Some bytes → P bytes

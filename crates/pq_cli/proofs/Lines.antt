@@ -1,6 +1,6 @@
 -- The lines that tell of what stood in the way.
 use Rattle.std.proofs.Common.{◌≡◌, ℕ, List, Option, Some, refl, arith, subst}
-use Rattle.commands.specs.Words.{Command}
+use Rattle.command_input.specs.Words.{Command}
 use Rattle.pq_cli.specs.Runs.{ForCommand, EndsAtRefusal, StopsAt, failure_line, IsLineOf}
 use Rattle.pq_cli.specs.Stops.{stop_status}
 use Rattle.pq_cli.specs.declared.stop.Stop.{Stop}

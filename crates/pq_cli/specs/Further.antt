@@ -4,7 +4,7 @@ use Rattle.row_model.specs.Rows.{RowList}
 use Rattle.row_model.specs.declared.TheConstants.{MAX_ROWS}
 use Rattle.row_model.specs.declared.refusal.Read.{Read}
 use Rattle.matrix_read.specs.Sparse.{further}
-use Rattle.commands.specs.Instances.{IfRead}
+use Rattle.command_input.specs.Instances.{IfRead}
 
 -- further rows are over so many columns, and within the limit of rows
 pub record AreFurther (c : ℕ) (m : RowList) : Type 0 where

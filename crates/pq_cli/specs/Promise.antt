@@ -2,7 +2,7 @@
 use Rattle.std.specs.Prelude.{◌≡◌, ◌≢◌, ◌⊎◌, ℕ, List, Option, None}
 use Rattle.std.specs.Io.KnownBytes.{Appends}
 use Rattle.pq_io.specs.Faults.{Rose}
-use Rattle.commands.specs.Words.{Command}
+use Rattle.command_input.specs.Words.{Command}
 use Rattle.reply_laws.specs.Replies.{refusal_of}
 use Rattle.pq_cli.specs.Runs.{WhereTold, WritesReply}
 use Rattle.reply_laws.specs.Promise.{IsPromised}

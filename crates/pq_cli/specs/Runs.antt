@@ -6,7 +6,7 @@ use Rattle.std.specs.Fmt.{decimal}
 use Rattle.pq_io.specs.Faults.{Rose}
 use Rattle.pq_io.specs.Sink.{AppendsPrefix}
 use Rattle.row_model.specs.declared.refusal.Refusal.{Refusal}
-use Rattle.commands.specs.Words.{Command, files_of}
+use Rattle.command_input.specs.Words.{Command, files_of}
 use Rattle.reply_laws.specs.Replies.{refusable, refusal_of, Replies}
 use Rattle.pq_cli.specs.Reading.{OnlyReads}
 use Rattle.pq_cli.specs.Stops.{reply_status}
@@ -14,7 +14,7 @@ use Rattle.pq_cli.specs.declared.stop.Stop.{Stop}
 use Rattle.pq_cli.specs.declared.stop.Stop.TheVariants as stop
 use Rattle.pq_cli.specs.declared.stop.Failure.{Failure}
 use Rattle.pq_cli.specs.declared.stop.Failure.TheVariants as failure
-use Rattle.commands.specs.declared.reply.Reply.{Reply}
+use Rattle.verdict_replies.specs.declared.reply.Reply.{Reply}
 
 -- the files of these names have these bytes, as a shelf tells them
 abbrev pub AllTold : (List ℕ → Option (List ℕ)) → List (List ℕ) → List (List ℕ) → Type 0

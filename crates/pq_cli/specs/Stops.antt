@@ -4,7 +4,7 @@ use Rattle.pq_cli.specs.declared.stop.Stop.{Stop}
 use Rattle.pq_cli.specs.declared.stop.Stop.TheVariants as stop
 use Rattle.pq_cli.specs.declared.stop.Failure.{Failure}
 use Rattle.pq_cli.specs.declared.stop.Failure.TheVariants as failure
-use Rattle.commands.specs.declared.reply.Reply.{Reply}
+use Rattle.verdict_replies.specs.declared.reply.Reply.{Reply}
 
 -- the status of what stood in the way
 abbrev pub stop_status : Stop → ℕ

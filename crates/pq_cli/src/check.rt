@@ -1,5 +1,5 @@
 // `check`: the test of a verdict on an instance.
-ghost use Rattle.commands.specs.Words.{Check};
+ghost use Rattle.command_input.specs.Words.{Check};
 ghost use Rattle.pq_cli.specs.Runs.{RunsCommand};
 
 use crate::check::verdict_file::VerdictFile;

@@ -1,6 +1,6 @@
 // The commands: from what the words ask for to a reply.
-ghost use Rattle.commands.specs.Words.{IsInGrammar};
-ghost use Rattle.commands.specs.Task.{command_seen};
+ghost use Rattle.command_input.specs.Words.{IsInGrammar};
+ghost use Rattle.command_input.specs.Task.{command_seen};
 ghost use Rattle.pq_cli.specs.Runs.{RunsCommand};
 
 use crate::check::check_file;

@@ -1,5 +1,5 @@
 // `core`: the rows of a matrix that are to blame.
-ghost use Rattle.commands.specs.Words.{Core, IsExtended};
+ghost use Rattle.command_input.specs.Words.{Core, IsExtended};
 ghost use Rattle.pq_cli.specs.Runs.{RunsCommand};
 
 use crate::input::instance_file::InstanceFile;

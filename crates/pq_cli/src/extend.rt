@@ -1,5 +1,5 @@
 // `extend`: further rows, taken in turn after those of a matrix.
-ghost use Rattle.commands.specs.Words.{Extend, IsExtended};
+ghost use Rattle.command_input.specs.Words.{Extend, IsExtended};
 ghost use Rattle.pq_cli.specs.Runs.{RunsCommand};
 
 use crate::extend::further_file::FurtherFile;

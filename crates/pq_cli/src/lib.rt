@@ -12,9 +12,9 @@
 #![tactic(auto)]
 
 ghost use Rattle.std.specs.Prelude.{◌≡◌};
-ghost use Rattle.commands.specs.declared.TheConstants.{MAX_CORE_BYTES, MAX_VERDICT_BYTES};
+ghost use Rattle.verdict_replies.specs.declared.TheConstants.{MAX_CORE_BYTES, MAX_VERDICT_BYTES};
 ghost use Rattle.solve_replies.specs.declared.TheConstants.{MAX_EXPLAINED};
-ghost use Rattle.commands.specs.declared.TheConstants.{TREE_CODE};
+ghost use Rattle.command_input.specs.declared.TheConstants.{TREE_CODE};
 
 mod check;
 mod command;

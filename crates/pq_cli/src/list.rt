@@ -1,7 +1,7 @@
 // `list`: the first valid orders of a matrix.
 ghost use Rattle.std.specs.Prelude.{◌≤◌};
 ghost use Rattle.order_list.specs.declared.TheConstants.{MAX_ORDERS};
-ghost use Rattle.commands.specs.Words.{ListOrders, IsExtended};
+ghost use Rattle.command_input.specs.Words.{ListOrders, IsExtended};
 ghost use Rattle.pq_cli.specs.Runs.{RunsCommand};
 
 use crate::input::instance_file::InstanceFile;

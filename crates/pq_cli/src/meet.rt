@@ -1,7 +1,7 @@
 // `meet`: the orders that two trees share.
 ghost use Rattle.std.specs.Prelude.{◌≡◌, ◌≤◌};
 ghost use Rattle.row_model.specs.declared.TheConstants.{MAX_COLUMNS};
-ghost use Rattle.commands.specs.Words.{Meet};
+ghost use Rattle.command_input.specs.Words.{Meet};
 ghost use Rattle.pq_cli.specs.Runs.{RunsCommand};
 
 use crate::input::read_file;

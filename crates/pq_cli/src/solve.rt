@@ -1,5 +1,5 @@
 // `solve`: the verdict on an instance.
-ghost use Rattle.commands.specs.Words.{Solve};
+ghost use Rattle.command_input.specs.Words.{Solve};
 ghost use Rattle.pq_cli.specs.Runs.{RunsCommand};
 
 use crate::input::instance_file::InstanceFile;

@@ -1,6 +1,6 @@
 // The top call: one command, from the words to the status.
 ghost use Rattle.std.specs.Prelude.{◌≡◌, ◌⊎◌, ◌↔◌, ◌≤◌, IfNone, IfOk, IfErr, IsNone, List, ℕ};
-ghost use Rattle.commands.specs.Words.{texts, command_of};
+ghost use Rattle.command_input.specs.Words.{texts, command_of};
 ghost use Rattle.pq_cli.specs.Runs.{ForCommand, TakesFiles, WritesOut, CountsWrites, Offers, IsLineOf, failure_line};
 ghost use Rattle.pq_cli.specs.Stops.{run_status, failure_status};
 ghost use Rattle.pq_cli.specs.Promise.{NothingFails, Completes, KeepsPromise};

@@ -1,5 +1,5 @@
 // `unit`: the unit model of a graph.
-ghost use Rattle.commands.specs.Words.{UnitModel};
+ghost use Rattle.command_input.specs.Words.{UnitModel};
 ghost use Rattle.pq_cli.specs.Runs.{RunsCommand};
 
 use crate::input::instance_file::InstanceFile;

@@ -1,5 +1,5 @@
 // `check-unit`: the test of a unit model on a graph.
-ghost use Rattle.commands.specs.Words.{CheckUnit};
+ghost use Rattle.command_input.specs.Words.{CheckUnit};
 ghost use Rattle.pq_cli.specs.Runs.{RunsCommand};
 
 use crate::check::verdict_file::VerdictFile;

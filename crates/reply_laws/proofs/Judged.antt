@@ -12,8 +12,9 @@ use Rattle.verdict_check.specs.declared.outcome.Reason.{Reason}
 use Rattle.verdict_check.specs.Laws.{TrueLaw}
 use Rattle.commands.specs.Judgements.{HasVerdict, IsJudgement, IsJudgementReply, judgement_status, judgement_text}
 use Rattle.reply_laws.specs.Replies.{Replies}
-use Rattle.commands.specs.Verdicts.{IsVerdictReply, PassedLaw}
-use Rattle.commands.specs.Instances.{instance_of, InstanceLaw}
+use Rattle.verdict_replies.specs.Verdicts.{IsVerdictReply}
+use Rattle.commands.specs.Passed.{PassedLaw}
+use Rattle.command_input.specs.Instances.{instance_of, InstanceLaw}
 use Rattle.reply_laws.specs.Check.{CheckLaw, ValidStatusLaw, SolvedLaw, AgreedLaw}
 use Rattle.commands.specs.declared.judgement.Judgement.{Judgement}
 use Rattle.commands.specs.declared.judgement.Judgement.TheVariants as judgement

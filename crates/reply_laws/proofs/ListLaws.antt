@@ -5,7 +5,7 @@ use Rattle.row_model.specs.Rows.{RowList}
 use Rattle.row_model.specs.declared.kind.Kind.{Kind}
 use Rattle.row_model.specs.declared.refusal.Read.TheVariants as read
 use Rattle.instance_model.specs.Instance.{plain, derived_matrix}
-use Rattle.commands.specs.Instances.{instance_of}
+use Rattle.command_input.specs.Instances.{instance_of}
 use Rattle.reply_laws.specs.Lists.{ListStatusLaw, ListLaw, NoListLaw}
 use Rattle.solve_replies.specs.Lists.{IsListText, IsListReply}
 use Rattle.reply_laws.specs.Replies.{Replies}

@@ -3,10 +3,10 @@ use Rattle.std.proofs.Common.{◌≡◌, ◌∙◌, ℕ, ◌≤◌, List, [], �
 use Rattle.row_model.specs.declared.TheConstants.{MAX_COLUMNS}
 use Rattle.row_model.specs.declared.refusal.Read.TheVariants as read
 use Rattle.pq_tree.specs.Outline.{Outline}
-use Rattle.commands.specs.Words.{Meet}
+use Rattle.command_input.specs.Words.{Meet}
 use Rattle.reply_laws.specs.Replies.{Replies}
 use Rattle.commands.specs.Meetings.{IsMeetingReply}
-use Rattle.commands.specs.TreeFiles.{TreeFileLaw}
+use Rattle.command_input.specs.TreeFiles.{TreeFileLaw}
 use Rattle.reply_laws.specs.Meet.{WriteTrees, MeetStatusLaw, MeetTextLaw}
 
 same_tree : (t u : Outline) → read.Ok t ≡ read.Ok u → t ≡ u

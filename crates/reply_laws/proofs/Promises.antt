@@ -6,12 +6,12 @@ use Rattle.verdict_text.specs.Verdict.{Claim, yes_claim, no_claim, VerdictValue}
 use Rattle.row_model.specs.declared.refusal.Read.TheVariants as read
 use Rattle.row_model.specs.Rows.{RowList}
 use Rattle.instance_model.specs.Instance.{InstanceValue, HasTextbookOrder, plain, proper}
-use Rattle.commands.specs.Instances.{instance_of}
-use Rattle.commands.specs.Words.{Solve, Check, Extend, Gen, Meet, ListOrders, UnitModel, CheckUnit, Core, CheckCore}
+use Rattle.command_input.specs.Instances.{instance_of}
+use Rattle.command_input.specs.Words.{Solve, Check, Extend, Gen, Meet, ListOrders, UnitModel, CheckUnit, Core, CheckCore}
 use Rattle.reply_laws.specs.Replies.{Replies}
 use Rattle.verdict_text.specs.Grammar.{IsVerdict}
 use Rattle.graph_model.specs.Graphs.{GraphValue}
-use Rattle.commands.specs.Verdicts.{IsClaimOf, status_of}
+use Rattle.verdict_replies.specs.Verdicts.{IsClaimOf, status_of}
 use Rattle.reply_laws.specs.Solve.{NoStatusLaw, YesStatusLaw, OrdersLaw}
 use Rattle.reply_laws.specs.Check.{CheckLaw, AgreedLaw}
 use Rattle.reply_laws.specs.Extend.{SessionLaw, BaseLaw}

@@ -3,7 +3,7 @@ use Rattle.std.proofs.Common.{◌≡◌, ◌∙◌, List, ℕ, sym}
 use Rattle.row_model.specs.declared.kind.Kind.{Kind}
 use Rattle.row_model.specs.declared.refusal.Read.TheVariants as read
 use Rattle.instance_model.specs.Instance.{InstanceValue}
-use Rattle.commands.specs.Instances.{instance_of}
+use Rattle.command_input.specs.Instances.{instance_of}
 
 same_value : (i j : InstanceValue) → read.Ok i ≡ read.Ok j → i ≡ j
 same_value i j e = cc

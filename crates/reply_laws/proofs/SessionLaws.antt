@@ -11,11 +11,10 @@ use Rattle.row_model.specs.declared.refusal.Read.{Read}
 use Rattle.row_model.specs.declared.refusal.Read.TheVariants as read
 use Rattle.matrix_read.specs.Sparse.{further}
 use Rattle.instance_model.specs.Instance.{plain, derived_matrix}
-use Rattle.commands.specs.Instances.{instance_of}
+use Rattle.command_input.specs.Instances.{instance_of}
 use Rattle.reply_laws.specs.Extend.{IsAcceptedAt, IsRefusedAt, KeepsAccepted, ShowsSession, ExtendStatusLaw, SessionLaw, BaseLaw}
 use Rattle.reply_laws.specs.Replies.{Replies}
-use Rattle.solve_replies.specs.Sessions.{IsSessionText, IsExtensionReply, OutcomesLaw}
-use Rattle.solve_replies.specs.Sessions.{Outcome, accepted, refused, IsOutcome, matrix_after, refusals_after, AreOutcomes, matrix_at_end}
+use Rattle.solve_replies.specs.Sessions.{IsSessionText, IsExtensionReply, OutcomesLaw, Outcome, accepted, refused, IsOutcome, matrix_after, refusals_after, AreOutcomes, matrix_at_end}
 use Rattle.reply_laws.proofs.Reading.{same_read}
 
 -- an order keeps rows and one more where it keeps each of them

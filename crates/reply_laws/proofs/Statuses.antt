@@ -13,10 +13,11 @@ use Rattle.pq_tree.specs.Outline.{IsFrontier}
 use Rattle.instance_model.specs.Instance.{InstanceValue, plain, circular, convex, doubly, proper, robinson, IsSideOf, HasTextbookOrder, derived_matrix, IsInstance, IsWellFormed}
 use Rattle.instance_model.specs.Laws.{IsValidFor, AreTextbookOrders, DerivedLaw, ValidLaw, ExistsLaw}
 use Rattle.verdict_check.specs.YesTests.{HasSide}
-use Rattle.commands.specs.Words.{Solve}
-use Rattle.commands.specs.Instances.{instance_of, InstanceLaw}
+use Rattle.command_input.specs.Words.{Solve}
+use Rattle.command_input.specs.Instances.{instance_of, InstanceLaw}
 use Rattle.reply_laws.specs.Replies.{Replies}
-use Rattle.commands.specs.Verdicts.{ShowsAllOrders, ShowsSide, HasOrder, IsClaimOf, status_of, IsVerdictReply, AddedLaw}
+use Rattle.verdict_replies.specs.Verdicts.{ShowsAllOrders, ShowsSide, HasOrder, IsClaimOf, status_of, IsVerdictReply}
+use Rattle.commands.specs.Passed.{AddedLaw}
 use Rattle.reply_laws.specs.Solve.{NoStatusLaw, YesStatusLaw, IsYesAnd, TellsYes, ShowsTextbookOrders, OrdersLaw, NoModelStatusLaw, PrintedModelLaw}
 use Rattle.reply_laws.proofs.Reading.{same_read}
 

@@ -5,17 +5,16 @@ use Rattle.row_model.specs.declared.kind.Kind.{Kind}
 use Rattle.row_model.specs.declared.refusal.Read.TheVariants as read
 use Rattle.row_model.specs.Rows.{RowList}
 use Rattle.instance_model.specs.Instance.{plain, IsInstance}
-use Rattle.row_core.specs.Laws.{OneCoreLaw}
-use Rattle.row_core.specs.Texts.{TextValue}
+use Rattle.core_text.specs.Laws.{OneCoreLaw}
+use Rattle.core_text.specs.Texts.{TextValue}
 use Rattle.verdict_check.specs.Core.{PassesCore, IsAcceptedCore, FailsCoreFirst, NamesCoreLaw, ToldCoreLaw}
 use Rattle.verdict_check.specs.declared.core_outcome.CoreReason.{CoreReason}
-use Rattle.commands.specs.Instances.{instance_of, InstanceLaw}
+use Rattle.command_input.specs.Instances.{instance_of, InstanceLaw}
 use Rattle.reply_laws.specs.Replies.{Replies}
-use Rattle.commands.specs.Cores.{core_value, IsCoreText}
+use Rattle.verdict_replies.specs.Cores.{core_value, IsCoreText, CoreGrammarLaw}
 use Rattle.solve_replies.specs.Cores.{IsCoreReply}
 use Rattle.commands.specs.CoreJudgements.{HasCoreText, IsCoreJudgement, IsCoreJudgementReply, core_judgement_status, core_judgement_text}
 use Rattle.reply_laws.specs.Core.{CoreStatusLaw, NoCoreLaw, CoreWrittenLaw, CoreBelievedLaw, CoreValidLaw, CoreAgreedLaw}
-use Rattle.commands.specs.Cores.{CoreGrammarLaw}
 use Rattle.commands.specs.declared.core_judgement.CoreJudgement.{CoreJudgement}
 use Rattle.commands.specs.declared.core_judgement.CoreJudgement.TheVariants as judgement
 

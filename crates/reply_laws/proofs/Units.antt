@@ -11,17 +11,17 @@ use Rattle.unit_model.specs.Laws.{UnitLaw, OneUnitLaw, TextLengthLaw}
 use Rattle.verdict_text.specs.Verdict.{SideValue, Claim, yes_claim, no_claim, VerdictValue}
 use Rattle.verdict_text.specs.Text.{verdict_text}
 use Rattle.instance_model.specs.Instance.{InstanceValue, proper}
-use Rattle.commands.specs.Words.{UnitModel}
-use Rattle.commands.specs.Instances.{instance_of, InstanceLaw}
+use Rattle.command_input.specs.Words.{UnitModel}
+use Rattle.command_input.specs.Instances.{instance_of, InstanceLaw}
 use Rattle.reply_laws.specs.Replies.{Replies}
-use Rattle.commands.specs.Verdicts.{status_of}
+use Rattle.verdict_replies.specs.Verdicts.{status_of}
 use Rattle.reply_laws.specs.Solve.{NoStatusLaw}
 use Rattle.solve_replies.specs.Models.{HasUnitModel, TellsUnit, TellsModel, TellsByClaim, IsModelReply}
-use Rattle.commands.specs.Findings.{IsUnitOf}
-use Rattle.reply_laws.specs.Units.{UnitStatusLaw, PrintedUnitLaw, NoUnitLaw}
+use Rattle.verdict_replies.specs.Units.{IsUnitOf}
 use Rattle.commands.specs.Findings.{HasUnit, IsFinding, finding_text, finding_status, IsFindingReply}
+use Rattle.reply_laws.specs.Units.{UnitStatusLaw, PrintedUnitLaw, NoUnitLaw}
 use Rattle.reply_laws.specs.UnitChecks.{UnitCheckLaw, UnitAgreedLaw}
-use Rattle.commands.specs.declared.TheConstants.{MAX_VERDICT_BYTES}
+use Rattle.verdict_replies.specs.declared.TheConstants.{MAX_VERDICT_BYTES}
 use Rattle.commands.specs.declared.finding.Finding.{Finding}
 use Rattle.commands.specs.declared.finding.Finding.TheVariants as finding
 use Rattle.reply_laws.proofs.Reading.{same_read}

@@ -8,8 +8,8 @@ use Rattle.verdict_text.specs.Text.{verdict_text}
 use Rattle.instance_model.specs.Instance.{InstanceValue}
 use Rattle.verdict_check.specs.Accepted.{IsAccepted}
 use Rattle.verdict_check.specs.Truth.{IsTrueVerdict}
-use Rattle.commands.specs.Words.{Solve, Check}
-use Rattle.commands.specs.Instances.{instance_of}
+use Rattle.command_input.specs.Words.{Solve, Check}
+use Rattle.command_input.specs.Instances.{instance_of}
 use Rattle.commands.specs.Judgements.{HasVerdict}
 use Rattle.reply_laws.specs.Replies.{Replies}
 

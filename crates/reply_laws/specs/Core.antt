@@ -5,11 +5,11 @@ use Rattle.row_model.specs.declared.kind.Kind.{Kind}
 use Rattle.row_model.specs.declared.refusal.Read.TheVariants as read
 use Rattle.row_model.specs.Rows.{RowList}
 use Rattle.instance_model.specs.Instance.{plain}
-use Rattle.row_core.specs.Cores.{IsCore}
-use Rattle.row_core.specs.Texts.{TextValue, IsInGrammar, core_text}
+use Rattle.core_text.specs.Cores.{IsCore}
+use Rattle.core_text.specs.Texts.{TextValue, IsInGrammar, core_text}
 use Rattle.verdict_check.specs.Core.{IsAcceptedCore}
-use Rattle.commands.specs.Words.{Solve, Core, CheckCore}
-use Rattle.commands.specs.Instances.{instance_of}
+use Rattle.command_input.specs.Words.{Solve, Core, CheckCore}
+use Rattle.command_input.specs.Instances.{instance_of}
 use Rattle.commands.specs.CoreJudgements.{HasCoreText}
 use Rattle.reply_laws.specs.Replies.{Replies}
 

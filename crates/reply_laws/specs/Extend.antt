@@ -9,8 +9,8 @@ use Rattle.matrix_read.specs.Sparse.{further}
 use Rattle.pq_tree.specs.Outline.{IsFrontier}
 use Rattle.verdict_text.specs.Verdict.{SideValue}
 use Rattle.instance_model.specs.Instance.{plain}
-use Rattle.commands.specs.Words.{Solve, Extend}
-use Rattle.commands.specs.Instances.{instance_of}
+use Rattle.command_input.specs.Words.{Solve, Extend}
+use Rattle.command_input.specs.Instances.{instance_of}
 use Rattle.reply_laws.specs.Replies.{Replies}
 use Rattle.solve_replies.specs.Sessions.{Outcome, accepted, refused, session_text}
 

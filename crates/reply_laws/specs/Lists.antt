@@ -5,8 +5,8 @@ use Rattle.row_model.specs.Rows.{RowList}
 use Rattle.row_model.specs.declared.kind.Kind.{Kind}
 use Rattle.row_model.specs.declared.refusal.Read.TheVariants as read
 use Rattle.instance_model.specs.Instance.{plain}
-use Rattle.commands.specs.Words.{Solve, ListOrders}
-use Rattle.commands.specs.Instances.{instance_of}
+use Rattle.command_input.specs.Words.{Solve, ListOrders}
+use Rattle.command_input.specs.Instances.{instance_of}
 use Rattle.solve_replies.specs.Lists.{IsListText}
 use Rattle.reply_laws.specs.Replies.{Replies}
 

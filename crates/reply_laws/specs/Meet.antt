@@ -3,8 +3,8 @@ use Rattle.std.specs.Prelude.{◌≡◌, ◌↔◌, ℕ, ◌≤◌, List, [], �
 use Rattle.row_model.specs.declared.TheConstants.{MAX_COLUMNS, MAX_FILE_BYTES}
 use Rattle.pq_tree.specs.Outline.{Outline}
 use Rattle.tree_meet.specs.Meets.{IsCommon}
-use Rattle.commands.specs.Words.{Meet}
-use Rattle.commands.specs.TreeFiles.{WritesTree}
+use Rattle.command_input.specs.Words.{Meet}
+use Rattle.command_input.specs.TreeFiles.{WritesTree}
 use Rattle.commands.specs.Meetings.{TellsCommon, TellsApart}
 use Rattle.reply_laws.specs.Replies.{Replies}
 

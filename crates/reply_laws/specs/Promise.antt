@@ -16,15 +16,15 @@ use Rattle.instance_model.specs.Instance.{InstanceValue, plain, proper, IsSideOf
 use Rattle.verdict_check.specs.YesTests.{HasSide}
 use Rattle.verdict_check.specs.Truth.{IsTrueVerdict}
 use Rattle.pq_tree.specs.Outline.{Outline}
-use Rattle.commands.specs.Words.{Command, Solve, Check, Extend, Gen, Meet, ListOrders, UnitModel, CheckUnit, Core, CheckCore}
-use Rattle.commands.specs.Instances.{instance_of}
+use Rattle.command_input.specs.Words.{Command, Solve, Check, Extend, Gen, Meet, ListOrders, UnitModel, CheckUnit, Core, CheckCore}
+use Rattle.command_input.specs.Instances.{instance_of}
 use Rattle.reply_laws.specs.Solve.{TellsYes, ShowsTextbookOrders}
 use Rattle.solve_replies.specs.Models.{HasUnitModel, TellsUnit}
-use Rattle.commands.specs.Findings.{IsUnitOf}
+use Rattle.verdict_replies.specs.Units.{IsUnitOf}
 use Rattle.commands.specs.Findings.{HasUnit}
 use Rattle.solve_replies.specs.Lists.{IsListText}
 use Rattle.solve_replies.specs.Summaries.{IsSummary}
-use Rattle.commands.specs.TreeFiles.{tree_file}
+use Rattle.command_input.specs.TreeFiles.{tree_file}
 use Rattle.commands.specs.Meetings.{IsMeetingReply}
 use Rattle.reply_laws.specs.Replies.{Replies}
 use Rattle.reply_laws.specs.Extend.{ShowsSession}
@@ -59,7 +59,7 @@ abbrev pub IsSolved : InstanceValue → ℕ → List ℕ → Type 0
 IsSolved i status text = ((status ≡ 0) × SaysYes i text) ⊎ ((status ≡ 1) × SaysNo i text)
 
 -- A verdict is judged: whatever `solve` wrote on the same bytes is valid, and nothing untrue of the instance is.
-pub record IsJudged (kind : Kind) (bytes : List ℕ) (i : InstanceValue) (given : List ℕ) (status : ℕ) (text : List ℕ) : Type 0 where
+pub record IsCheckPromise (kind : Kind) (bytes : List ℕ) (i : InstanceValue) (given : List ℕ) (status : ℕ) (text : List ℕ) : Type 0 where
   pub accepts : (file : List ℕ) (found : ℕ) → Replies (Solve kind file) (bytes ∷ []) found given → (status ≡ 0) × (text ≡ codes "valid\n")
   pub believes : status ≡ 0 → (v : VerdictValue) × IsVerdict v × (given ≡ verdict_text v) × IsTrueVerdict i v
 
@@ -96,7 +96,7 @@ IsListed kind m count status text = ((status ≡ 0) × HasValidOrder m.columns m
 -- What each command promises of its status and text, for what is in its files.
 abbrev pub IsPromised : Command → List (List ℕ) → ℕ → List ℕ → Type 0
 IsPromised (Solve kind _) (bytes ∷ []) status text = (i : InstanceValue) × (instance_of kind bytes ≡ read.Ok i) × IsSolved i status text
-IsPromised (Check kind _ _) (bytes ∷ given ∷ []) status text = (i : InstanceValue) × (instance_of kind bytes ≡ read.Ok i) × IsJudged kind bytes i given status text
+IsPromised (Check kind _ _) (bytes ∷ given ∷ []) status text = (i : InstanceValue) × (instance_of kind bytes ≡ read.Ok i) × IsCheckPromise kind bytes i given status text
 IsPromised (Extend kind _ _) (bytes ∷ given ∷ []) status text =
     (m : RowList) × (n : RowList) × (instance_of kind bytes ≡ read.Ok (plain kind m)) × (further m.columns given ≡ read.Ok n) × IsExtendedBy kind m n.rows status text
 IsPromised (Core kind _) (bytes ∷ []) status text = (m : RowList) × (instance_of kind bytes ≡ read.Ok (plain kind m)) × IsBlamedFor kind m status text

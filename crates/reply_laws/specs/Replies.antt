@@ -6,18 +6,18 @@ use Rattle.row_model.specs.declared.refusal.Read.{Read}
 use Rattle.row_model.specs.declared.refusal.Read.TheVariants as read
 use Rattle.matrix_read.specs.Sparse.{further}
 use Rattle.instance_model.specs.Instance.{InstanceValue, plain, derived_matrix, proper}
-use Rattle.commands.specs.Words.{Command, Solve, Check, Extend, Gen, Meet, ListOrders, UnitModel, CheckUnit, Core, CheckCore}
+use Rattle.command_input.specs.Words.{Command, Solve, Check, Extend, Gen, Meet, ListOrders, UnitModel, CheckUnit, Core, CheckCore}
 use Rattle.row_model.specs.declared.kind.Kind.TheVariants.{Proper}
 use Rattle.graph_model.specs.Graphs.{GraphValue}
-use Rattle.commands.specs.Instances.{instance_of}
-use Rattle.commands.specs.Verdicts.{IsVerdictReply}
+use Rattle.command_input.specs.Instances.{instance_of}
+use Rattle.verdict_replies.specs.Verdicts.{IsVerdictReply}
 use Rattle.commands.specs.Judgements.{IsJudgementReply}
 use Rattle.solve_replies.specs.Sessions.{IsExtensionReply}
 use Rattle.solve_replies.specs.Cores.{IsCoreReply}
 use Rattle.commands.specs.CoreJudgements.{IsCoreJudgementReply}
 use Rattle.solve_replies.specs.Summaries.{IsSummary}
 use Rattle.pq_tree.specs.Outline.{Outline}
-use Rattle.commands.specs.TreeFiles.{tree_file}
+use Rattle.command_input.specs.TreeFiles.{tree_file}
 use Rattle.commands.specs.Meetings.{IsMeetingReply}
 use Rattle.solve_replies.specs.Lists.{IsListReply}
 use Rattle.solve_replies.specs.Models.{IsModelReply}

@@ -13,8 +13,8 @@ use Rattle.verdict_text.specs.Text.{verdict_text}
 use Rattle.instance_model.specs.Instance.{InstanceValue, proper, IsSideOf, IsTextbookOrder, HasTextbookOrder}
 use Rattle.instance_model.specs.Laws.{AreTextbookOrders}
 use Rattle.verdict_check.specs.YesTests.{HasSide}
-use Rattle.commands.specs.Words.{Solve}
-use Rattle.commands.specs.Instances.{instance_of}
+use Rattle.command_input.specs.Words.{Solve}
+use Rattle.command_input.specs.Instances.{instance_of}
 use Rattle.reply_laws.specs.Replies.{Replies}
 
 -- the status of a reply is 1 exactly where the instance in the file has no textbook order

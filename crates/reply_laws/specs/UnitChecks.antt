@@ -4,9 +4,9 @@ use Rattle.row_model.specs.declared.kind.Kind.TheVariants.{Proper}
 use Rattle.row_model.specs.declared.refusal.Read.TheVariants as read
 use Rattle.graph_model.specs.Graphs.{GraphValue}
 use Rattle.instance_model.specs.Instance.{proper}
-use Rattle.commands.specs.Words.{UnitModel, CheckUnit}
-use Rattle.commands.specs.Instances.{instance_of}
-use Rattle.commands.specs.Findings.{IsUnitOf}
+use Rattle.command_input.specs.Words.{UnitModel, CheckUnit}
+use Rattle.command_input.specs.Instances.{instance_of}
+use Rattle.verdict_replies.specs.Units.{IsUnitOf}
 use Rattle.commands.specs.Findings.{HasUnit}
 use Rattle.reply_laws.specs.Replies.{Replies}
 

@@ -4,8 +4,8 @@ use Rattle.row_model.specs.declared.kind.Kind.TheVariants.{Proper}
 use Rattle.row_model.specs.declared.refusal.Read.TheVariants as read
 use Rattle.graph_model.specs.Graphs.{GraphValue}
 use Rattle.instance_model.specs.Instance.{proper}
-use Rattle.commands.specs.Words.{Solve, UnitModel}
-use Rattle.commands.specs.Instances.{instance_of}
+use Rattle.command_input.specs.Words.{Solve, UnitModel}
+use Rattle.command_input.specs.Instances.{instance_of}
 use Rattle.solve_replies.specs.Models.{HasUnitModel, TellsUnit}
 use Rattle.reply_laws.specs.Replies.{Replies}
 

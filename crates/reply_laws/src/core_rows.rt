@@ -2,7 +2,7 @@
 ghost use Rattle.reply_laws.specs.Core.{CoreStatusLaw, CoreWrittenLaw, NoCoreLaw, CoreBelievedLaw, CoreValidLaw, CoreAgreedLaw};
 
 use commands::{core_grammar_law, instance_law};
-use row_core::one_core;
+use core_text::one_core;
 use verdict_check::core_laws;
 
 /// The status of a reply to `core` is 0 exactly where the matrix has no valid order, and then the rows that are written

@@ -1,16 +1,5 @@
-pub mod Masked
 pub mod Numbers
 pub mod Marks
 pub mod Whole
-pub mod OrderLemmas
 pub mod Parts
 pub mod Told
-pub mod Chains
-pub mod Items
-pub mod LoopLaws
-pub mod NumberLoop
-pub mod KindLaws
-pub mod LineLaws
-pub mod EntryLaws
-pub mod CoreLaws
-pub mod PrintLaws

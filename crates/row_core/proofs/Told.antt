@@ -1,9 +1,9 @@
 -- What is found of a set of rows without each of them makes a core.
-use Rattle.std.proofs.Common.{◌≡◌, ◌∙◌, ℕ, ◌+◌, ◌-◌, ◌*◌, ◌<◌, ◌≤◌, List, [], ◌∷◌, ◌++◌, length, take, drop, get_or, IsTrue, refl, sym, ap, subst, inl, inr, arith}
+use Rattle.std.proofs.Common.{◌≡◌, ◌∙◌, ℕ, ◌+◌, ◌*◌, ◌<◌, ◌≤◌, List, [], ◌∷◌, ◌++◌, length, take, drop, get_or, sym, ap, subst, inl, inr, arith}
 use Rattle.std.proofs.lemmas.Bool.{cases_eq}
 use Rattle.std.proofs.lemmas.List.{get_or_append_left, get_or_push, length_push}
 use Rattle.std.proofs.Math.Nat.{mul-le-mul_right}
-use Rattle.column_order.specs.Orders.{has, place, IsValidOrder}
+use Rattle.column_order.specs.Orders.{place, IsValidOrder}
 use Rattle.column_order.proofs.Lists.{at_place}
 use Rattle.row_model.specs.declared.graph.Line.{Line}
 use Rattle.row_model.specs.Cycles.{IsOddCycle}
@@ -12,11 +12,11 @@ use Rattle.pq_tree.specs.Outline.{IsFrontier, leaves}
 use Rattle.pq_tree.specs.Proper.{IsProper}
 use Rattle.pq_tree.specs.PqTree.{outline}
 use Rattle.pq_tree.specs.declared.PqTree.{PqTree}
-use Rattle.row_core.specs.Judges.{IsTreeOfOrders}
-use Rattle.row_core.specs.Cores.{AreRowNumbers, rows_at, but}
-use Rattle.row_core.specs.Told.{IsOrderWithout, AreAmong, TellsCore}
+use Rattle.row_judge.specs.Judges.{IsTreeOfOrders}
+use Rattle.core_text.specs.Cores.{AreRowNumbers, rows_at, but}
+use Rattle.core_text.specs.Told.{IsOrderWithout, AreAmong, TellsCore}
 use Rattle.row_core.specs.Blamed.{part_at}
-use Rattle.row_core.proofs.Masked.{blame_law}
+use Rattle.core_text.specs.Laws.{BlameLaw}
 use Rattle.row_core.proofs.Numbers.{but_at}
 
 -- the order of a tree of all valid orders of the rows but one
@@ -48,13 +48,13 @@ orders_more m set others o orders new i t a l e found is frontier more count bef
 )
 
 -- rows that are to blame, with an order without each of them
-pub tells_core : (m : RowList) (rows : List ℕ) (orders : List (List ℕ)) (lines : List Line) → AreRowNumbers (length m.rows) rows → IsOddCycle m.columns m.rows lines → AreAmong rows lines
+pub tells_core : BlameLaw → (m : RowList) (rows : List ℕ) (orders : List (List ℕ)) (lines : List Line) → AreRowNumbers (length m.rows) rows → IsOddCycle m.columns m.rows lines → AreAmong rows lines
     → length orders ≡ length rows → ((i : ℕ) → i < length rows → IsOrderWithout m rows (get_or rows i 0) (get_or orders i [])) → TellsCore m (record { rows = rows; orders = orders; lines = lines })
-tells_core m rows orders lines a cycle among count each =
+tells_core law m rows orders lines a cycle among count each =
     record {
       core = record {
         rows = a;
-        none = blame_law m rows lines (record { closed = cycle.closed; odd = cycle.simple.odd }) among;
+        none = law m rows lines (record { closed = cycle.closed; odd = cycle.simple.odd }) among;
         others = λ k h.
             let there = at_place rows k h in
             let o : List ℕ = get_or orders (place rows k) [] in

@@ -1,7 +1,6 @@
 -- A cycle of a part of a matrix as one of the whole matrix.
-use Rattle.std.proofs.Common.{◌≡◌, ◌≢◌, ◌∙◌, ℕ, zero, suc, ◌+◌, ◌-◌, ◌<◌, ◌≤◌, Bool, false, List, [], ◌∷◌, length, map, get_or, IsTrue, AllPairs, refl, sym, ap, subst, inl, inr, arith}
+use Rattle.std.proofs.Common.{◌≡◌, ◌≢◌, ◌∙◌, ℕ, ◌+◌, ◌-◌, ◌<◌, ◌≤◌, Bool, false, List, [], ◌∷◌, length, map, get_or, refl, sym, ap, subst, inl, inr, arith}
 use Rattle.std.proofs.lemmas.List.{length-map, get_or-map}
-use Rattle.std.specs.List.{AllByRecursion}
 use Rattle.row_model.specs.declared.graph.Pair.{Pair}
 use Rattle.row_model.specs.declared.graph.Line.{Line}
 use Rattle.row_model.specs.declared.graph.Why.{Why}
@@ -9,8 +8,8 @@ use Rattle.row_model.specs.declared.graph.Why.TheVariants.{Flip, Row}
 use Rattle.row_model.specs.Graph.{row_at, Crosses, JoinedBy}
 use Rattle.row_model.specs.Cycles.{first_pair, LeadTo, IsClosedWalk, IsSimpleOdd, IsOddCycle}
 use Rattle.row_model.specs.Rows.{RowList}
-use Rattle.row_core.specs.Cores.{AreRowNumbers, rows_at}
-use Rattle.row_core.specs.Told.{IsAmong, AreAmong}
+use Rattle.core_text.specs.Cores.{AreRowNumbers, rows_at}
+use Rattle.core_text.specs.Told.{IsAmong, AreAmong}
 use Rattle.row_core.specs.Blamed.{whole_why, whole_line, IsReasonWithin, AreReasonsWithin, IsMarked, AreMarked, marked_from, IsBlamed}
 use Rattle.row_core.specs.declared.blamed.Blamed.{Blamed}
 use Rattle.row_core.proofs.Numbers.{within_at}

@@ -1,15 +1,14 @@
 -- How a set of rows narrows to those that a cycle names.
-use Rattle.std.specs.Prelude.{◌≡◌, ℕ, ◌+◌, ◌-◌, ◌<◌, ◌≤◌, Bool, true, false, List, [], ◌∷◌, ◌++◌, take, drop, length, slice_index, slice_index_or, slice_set, if◌then◌else◌, IsTrue}
+use Rattle.std.specs.Prelude.{◌≡◌, ℕ, ◌+◌, ◌-◌, ◌<◌, ◌≤◌, Bool, true, false, List, [], ◌∷◌, length, slice_index, slice_index_or, slice_set, if◌then◌else◌, IsTrue}
 use Rattle.std.specs.List.{AllByRecursion}
-use Rattle.column_order.specs.Orders.{IsValidOrder}
 use Rattle.row_model.specs.declared.graph.Line.{Line}
 use Rattle.row_model.specs.declared.graph.Why.{Why}
 use Rattle.row_model.specs.declared.graph.Why.TheVariants.{Flip, Row}
 use Rattle.row_model.specs.Cycles.{IsOddCycle}
 use Rattle.row_model.specs.Rows.{RowList}
-use Rattle.row_core.specs.Judges.{IsTreeOfOrders}
-use Rattle.row_core.specs.Cores.{AreRowNumbers, rows_at, but}
-use Rattle.row_core.specs.Told.{AreAmong, IsOrderWithout}
+use Rattle.row_judge.specs.Judges.{IsTreeOfOrders}
+use Rattle.core_text.specs.Cores.{AreRowNumbers, rows_at}
+use Rattle.core_text.specs.Told.{AreAmong, IsOrderWithout}
 use Rattle.row_core.specs.declared.blamed.Blamed.{Blamed}
 use Rattle.row_core.specs.declared.part.Finding.{Finding}
 use Rattle.row_core.specs.declared.part.Finding.TheVariants as finding

@@ -1,12 +1,2 @@
-pub mod Judges
-pub mod Cores
-pub mod Parts
-pub mod Told
-pub mod Laws
-pub mod Orders
-pub mod Kept
 pub mod Blamed
-pub mod Texts
-pub mod Reading
-pub mod Seen
-pub mod KeptText
+pub mod Cored

@@ -2,7 +2,7 @@
 ghost use Rattle.std.specs.Prelude.{◌≡◌, ◌≤◌, length, map, IfOk};
 ghost use Rattle.row_model.specs.Rows.{RowList};
 ghost use Rattle.row_model.specs.Cycles.{IsOddCycle};
-ghost use Rattle.row_core.specs.Cores.{AreRowNumbers, rows_at};
+ghost use Rattle.core_text.specs.Cores.{AreRowNumbers, rows_at};
 ghost use Rattle.row_core.specs.Blamed.{whole_line, IsReasonWithin, AreReasonsWithin, AreMarked, with_mark, marked_from, IsBlamed};
 
 use odd_cycle::Cycle;

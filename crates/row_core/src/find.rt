@@ -1,15 +1,16 @@
 // The search for a core.
-ghost use Rattle.std.specs.Prelude.{◌≡◌, ◌≤◌, length, IfOk};
+ghost use Rattle.std.specs.Prelude.{◌≡◌, length, IfOk};
 ghost use Rattle.std.specs.List.{range_with_len};
-ghost use Rattle.row_core.specs.Told.{IsCored, TellsCore};
+ghost use Rattle.row_core.specs.Cored.{IsCored};
+ghost use Rattle.core_text.specs.Told.{TellsCore};
 ghost use Rattle.row_core.specs.Blamed.{IsBlamed};
 
 use crate::blamed::{Blamed, blame};
-use crate::core_parts::Core;
-use crate::judge::{Judge, Judged};
 use crate::others::{Tried, each_left_out};
 use crate::shrink::shrunk;
+use core_text::{Core, blame_law};
 use pq_tree::PqTree;
+use row_judge::{Judge, Judged};
 use row_model::{Matrix, NoMemory};
 use std::alloc::Global;
 use step_count::{Ledger, Steps};
@@ -72,6 +73,7 @@ fn core_among<J: Judge, L: Ledger>(
     requires { IsBlamed m.now blamed }
     ensures { IfOk result (TellsCore m.now) }
 {
+    blame_law();
     let mut blamed = blamed;
     'rounds: loop {
         match each_left_out(alloc, judge, m, &blamed, steps)? {

@@ -3,9 +3,9 @@ ghost use Rattle.std.specs.Prelude.{IfOk};
 ghost use Rattle.row_core.specs.Blamed.{IsBlamed, IsTried};
 
 use crate::blamed::Blamed;
-use crate::judge::Judge;
-use crate::orders::Orders;
 use crate::part::{Finding, judged, without};
+use core_text::Orders;
+use row_judge::Judge;
 use row_model::{Matrix, NoMemory};
 use std::alloc::Global;
 use step_count::{Ledger, Steps};

@@ -1,11 +1,11 @@
 // Parts of a matrix, and what a judge says of them.
 ghost use Rattle.std.specs.Prelude.{◌≡◌, ◌≤◌, ◌++◌, length, take, drop, IfOk};
-ghost use Rattle.row_core.specs.Cores.{AreRowNumbers};
+ghost use Rattle.core_text.specs.Cores.{AreRowNumbers};
 ghost use Rattle.row_core.specs.Blamed.{part_at, IsFinding};
 
 use crate::blamed::{Blamed, blame};
-use crate::judge::{Judge, Judged};
 use pq_tree::PqTree;
+use row_judge::{Judge, Judged};
 use row_model::{Matrix, NoMemory};
 use std::alloc::Global;
 use step_count::{Ledger, Steps};

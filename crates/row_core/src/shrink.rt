@@ -3,8 +3,8 @@ ghost use Rattle.std.specs.Prelude.{◌≤◌, length, IfOk};
 ghost use Rattle.row_core.specs.Blamed.{IsBlamed};
 
 use crate::blamed::Blamed;
-use crate::judge::Judge;
 use crate::part::{Finding, judged, without};
+use row_judge::Judge;
 use row_model::{Matrix, NoMemory};
 use std::alloc::Global;
 use step_count::{Ledger, Steps};

@@ -5,7 +5,7 @@ use Rattle.row_model.specs.declared.kind.Kind.{Kind}
 use Rattle.row_model.specs.Rows.{RowList}
 use Rattle.verdict_text.specs.Verdict.{Claim, yes_claim, no_claim}
 use Rattle.instance_model.specs.Instance.{InstanceValue, plain, instance_kind}
-use Rattle.commands.specs.Verdicts.{IsClaimOf, status_of, IsVerdictReply}
+use Rattle.verdict_replies.specs.Verdicts.{IsClaimOf, status_of, IsVerdictReply}
 
 -- the instance is that matrix
 pub plain_of : (kind k : Kind) (i : InstanceValue) (m : RowList) → i ≡ plain k m → instance_kind i ≡ kind → i ≡ plain kind m

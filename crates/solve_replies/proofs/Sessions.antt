@@ -8,11 +8,10 @@ use Rattle.pq_tree.specs.PqTree.{outline}
 use Rattle.pq_tree.specs.Proper.{IsProper}
 use Rattle.pq_tree.specs.declared.PqTree.{PqTree}
 use Rattle.c1p_solve.specs.Answers.{HasAllOrders}
-use Rattle.verdict_text.specs.Numbered.{numbered}
+use Rattle.text_parts.specs.Numbered.{numbered}
 use Rattle.verdict_text.specs.Text.{kind_line, columns_line, side_text}
-use Rattle.commands.specs.Verdicts.{ShowsAllOrders}
-use Rattle.solve_replies.specs.Sessions.{IsSessionText}
-use Rattle.solve_replies.specs.Sessions.{Outcome, accepted, refused, IsOutcome, matrix_after, refusals_after, AreOutcomes, matrix_at_end, outcome_text, session_text}
+use Rattle.verdict_replies.specs.Verdicts.{ShowsAllOrders}
+use Rattle.solve_replies.specs.Sessions.{IsSessionText, Outcome, accepted, refused, IsOutcome, matrix_after, refusals_after, AreOutcomes, matrix_at_end, outcome_text, session_text}
 use Rattle.solve_replies.specs.Taking.{refusals_at_end, HasTakenOne, HasTaken, HasEnded}
 
 -- a tree of all orders, with its leaves

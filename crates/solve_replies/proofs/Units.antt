@@ -12,7 +12,7 @@ use Rattle.unit_model.specs.Rule.{AreLeftEnds}
 use Rattle.unit_model.specs.Text.{UnitValue, IsEnd}
 use Rattle.verdict_text.specs.Verdict.{SideValue}
 use Rattle.instance_model.specs.Instance.{proper}
-use Rattle.commands.specs.Verdicts.{ShowsSide}
+use Rattle.verdict_replies.specs.Verdicts.{ShowsSide}
 use Rattle.solve_replies.specs.Models.{IsModelOf}
 
 -- the unit model that is made of intervals

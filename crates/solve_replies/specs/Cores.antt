@@ -4,8 +4,8 @@ use Rattle.column_order.specs.Orders.{HasValidOrder}
 use Rattle.row_model.specs.declared.kind.Kind.{Kind}
 use Rattle.row_model.specs.Rows.{RowList}
 use Rattle.instance_model.specs.Instance.{plain}
-use Rattle.commands.specs.Verdicts.{IsVerdictReply}
-use Rattle.commands.specs.Cores.{IsCoreText}
+use Rattle.verdict_replies.specs.Verdicts.{IsVerdictReply}
+use Rattle.verdict_replies.specs.Cores.{IsCoreText}
 
 -- the status and the text tell a core of a matrix that has no valid order; of one that has, the text is that of `solve`
 abbrev pub IsCoreReply : Kind → RowList → ℕ → List ℕ → Type 0

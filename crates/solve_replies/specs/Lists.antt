@@ -5,9 +5,10 @@ use Rattle.column_order.specs.Orders.{IsValidOrder, HasValidOrder}
 use Rattle.row_model.specs.Rows.{RowList}
 use Rattle.row_model.specs.declared.kind.Kind.{Kind}
 use Rattle.order_list.specs.First.{AreFirst, HasOther}
-use Rattle.verdict_text.specs.Text.{kind_line, columns_line, number_word}
+use Rattle.verdict_text.specs.Text.{kind_line, columns_line}
+use Rattle.text_parts.specs.Text.{number_word}
 use Rattle.instance_model.specs.Instance.{plain}
-use Rattle.commands.specs.Verdicts.{IsVerdictReply}
+use Rattle.verdict_replies.specs.Verdicts.{IsVerdictReply}
 
 -- `order N1 N2` and so on
 abbrev pub order_line : List ℕ → List ℕ

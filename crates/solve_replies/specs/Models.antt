@@ -8,8 +8,8 @@ use Rattle.verdict_text.specs.Verdict.{Claim, yes_claim, no_claim, VerdictValue}
 use Rattle.verdict_text.specs.Grammar.{IsVerdict}
 use Rattle.verdict_text.specs.Text.{verdict_text}
 use Rattle.instance_model.specs.Instance.{proper}
-use Rattle.commands.specs.Findings.{IsUnitOf}
-use Rattle.commands.specs.Verdicts.{IsVerdictOf}
+use Rattle.verdict_replies.specs.Units.{IsUnitOf}
+use Rattle.verdict_replies.specs.Verdicts.{IsVerdictOf}
 
 -- the graph has a unit model
 abbrev pub HasUnitModel : GraphValue → Type 0

@@ -7,11 +7,12 @@ use Rattle.row_model.specs.Rows.{RowList}
 use Rattle.row_model.specs.declared.graph.Line.{Line}
 use Rattle.row_model.specs.declared.kind.Kind.{Kind}
 use Rattle.c1p_solve.specs.Sessions.{with_row}
-use Rattle.verdict_text.specs.Numbered.{numbered}
-use Rattle.verdict_text.specs.Text.{kind_line, columns_line, side_text, counted_cycle}
+use Rattle.text_parts.specs.Numbered.{numbered}
+use Rattle.verdict_text.specs.Text.{kind_line, columns_line, side_text}
+use Rattle.text_parts.specs.Text.{counted_cycle}
 use Rattle.verdict_text.specs.Verdict.{SideValue}
 use Rattle.instance_model.specs.Instance.{plain}
-use Rattle.commands.specs.Verdicts.{ShowsAllOrders, IsVerdictReply}
+use Rattle.verdict_replies.specs.Verdicts.{ShowsAllOrders, IsVerdictReply}
 use Rattle.solve_replies.specs.declared.TheConstants.{MAX_EXPLAINED}
 
 -- what becomes of a further row: it is accepted, or it is refused, for the first refusals with the lines of an odd

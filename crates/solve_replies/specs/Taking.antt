@@ -3,10 +3,10 @@ use Rattle.std.specs.Prelude.{◌≡◌, ℕ, List, [], ◌∷◌, ◌++◌, Som
 use Rattle.row_model.specs.Rows.{RowList}
 use Rattle.c1p_solve.specs.declared.session.Taken.{Taken}
 use Rattle.c1p_solve.specs.declared.session.Taken.TheVariants as taken
-use Rattle.verdict_text.specs.Numbered.{numbered}
+use Rattle.text_parts.specs.Numbered.{numbered}
 use Rattle.verdict_text.specs.Text.{side_text}
 use Rattle.verdict_text.specs.Verdict.{SideValue}
-use Rattle.commands.specs.Verdicts.{ShowsAllOrders}
+use Rattle.verdict_replies.specs.Verdicts.{ShowsAllOrders}
 use Rattle.solve_replies.specs.Sessions.{Outcome, accepted, refused, IsOutcome, matrix_after, refusals_after, AreOutcomes, matrix_at_end, outcome_text}
 
 -- what became of a row

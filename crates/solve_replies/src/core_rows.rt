@@ -4,19 +4,21 @@ ghost use Rattle.column_order.specs.Orders.{HasValidOrder};
 ghost use Rattle.row_model.specs.Rows.{RowList};
 ghost use Rattle.instance_model.specs.Instance.{plain, instance_kind, IsInstance};
 ghost use Rattle.instance_model.specs.Value.{instance_value};
-ghost use Rattle.row_core.specs.Told.{TellsCore, IsCored};
-ghost use Rattle.commands.specs.Words.{IsExtended};
-ghost use Rattle.commands.specs.Verdicts.{IsVerdictReply};
-ghost use Rattle.commands.specs.Cores.{IsCoreText};
+ghost use Rattle.core_text.specs.Told.{TellsCore};
+ghost use Rattle.row_core.specs.Cored.{IsCored};
+ghost use Rattle.command_input.specs.Words.{IsExtended};
+ghost use Rattle.verdict_replies.specs.Verdicts.{IsVerdictReply};
+ghost use Rattle.verdict_replies.specs.Cores.{IsCoreText};
 ghost use Rattle.solve_replies.specs.Cores.{IsCoreReply};
 
 use crate::{NoMemory, Solver, verdict_reply};
-use commands::{Reply, core_grammar_law};
+use core_text::{CoreText, print_core};
 use instance_model::Instance;
-use row_core::{CoreText, Cored, find_core, print_core};
+use row_core::{Cored, find_core};
 use row_model::{Kind, Matrix};
 use std::alloc::Global;
 use step_count::{Blank, Brand, Ledger, Steps};
+use verdict_replies::{Reply, core_grammar_law};
 
 /// The reply on a matrix: a core; or, where the matrix has a valid order, what `solve` replies.
 ///

@@ -7,10 +7,10 @@ ghost use Rattle.solve_replies.specs.Sessions.{IsExtensionReply};
 use crate::NoMemory;
 use crate::session::session_reply;
 use c1p_solve::{Session, Started};
-use commands::{Reply, no_reply};
 use row_model::{Kind, Matrix};
 use std::alloc::Global;
 use step_count::{Blank, Brand, Ledger, Steps};
+use verdict_replies::{Reply, no_reply};
 
 /// The reply on a matrix and further rows over its columns: what became of each of them, and the tree of the rows that
 /// were accepted. Where the matrix itself has no valid order, it is the reply of `solve`.

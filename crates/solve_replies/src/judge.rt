@@ -1,7 +1,7 @@
 // The solver of the program, as the crates that ask for one see it.
 use c1p_solve::{Answered, Solved, answer};
-use row_core::{Judge, Judged, NoMemory};
-use row_model::Matrix;
+use row_judge::{Judge, Judged};
+use row_model::{Matrix, NoMemory};
 use std::alloc::Global;
 use step_count::{Ledger, Steps};
 

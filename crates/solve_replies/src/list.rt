@@ -9,12 +9,12 @@ ghost use Rattle.solve_replies.specs.Lists.{IsListText, IsListReply};
 use crate::list_text::printed_list;
 use crate::{NoMemory, solve_matrix};
 use c1p_solve::Solved;
-use commands::{Reply, no_reply};
 use order_list::first;
 use pq_tree::PqTree;
 use row_model::{Kind, Matrix};
 use std::alloc::Global;
 use step_count::{Blank, Brand};
+use verdict_replies::{Reply, no_reply};
 
 /// The reply on a matrix: its first valid orders. Where it has none, it is the reply of `solve`.
 ///

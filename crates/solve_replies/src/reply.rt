@@ -3,13 +3,13 @@ ghost use Rattle.std.specs.Prelude.{◌≡◌, ◌⊎◌, IfOk};
 ghost use Rattle.instance_model.specs.Instance.{IsInstance};
 ghost use Rattle.instance_model.specs.Value.{instance_value};
 ghost use Rattle.verdict_text.specs.Value.{claim_of};
-ghost use Rattle.commands.specs.Verdicts.{IsVerdictReply, status_of};
+ghost use Rattle.verdict_replies.specs.Verdicts.{IsVerdictReply, status_of};
 
 use crate::NoMemory;
 use crate::verdicts::verdict_on;
-use commands::{Reply, printed};
 use instance_model::Instance;
 use std::alloc::Global;
+use verdict_replies::{Reply, printed};
 use verdict_text::Part;
 
 /// The reply on an instance: the text of the verdict, and its status.

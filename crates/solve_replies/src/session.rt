@@ -7,11 +7,11 @@ ghost use Rattle.solve_replies.specs.Taking.{outcome_of, HasTakenOne, HasTaken, 
 
 use crate::{MAX_EXPLAINED, NoMemory};
 use c1p_solve::{Session, Taken};
-use commands::Reply;
 use plain_text::push_number;
 use row_model::{Kind, Matrix, ROW_BOUND};
 use std::alloc::Global;
 use step_count::{Ledger, Steps};
+use verdict_replies::Reply;
 use verdict_text::{Columns, print_cycle, print_side, print_subject};
 
 /// The reply of a session that takes further rows.

@@ -7,9 +7,9 @@ use crate::draws::generate;
 use crate::nodes::{Nodes, count_nodes};
 use crate::{NoMemory, solve_matrix};
 use c1p_solve::Solved;
-use commands::Reply;
 use std::alloc::Global;
 use step_count::{Blank, Brand};
+use verdict_replies::Reply;
 
 /// The reply with the summary of the matrix that a number draws.
 ///

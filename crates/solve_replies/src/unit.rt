@@ -8,18 +8,19 @@ ghost use Rattle.instance_model.specs.Instance.{proper, instance_kind, IsInstanc
 ghost use Rattle.instance_model.specs.Value.{instance_value};
 ghost use Rattle.verdict_text.specs.Value.{verdict_value};
 ghost use Rattle.unit_model.specs.Models.{lefts_of};
-ghost use Rattle.commands.specs.Verdicts.{IsVerdictOf};
+ghost use Rattle.verdict_replies.specs.Verdicts.{IsVerdictOf};
 ghost use Rattle.solve_replies.specs.Models.{IsModelOf, TellsModel, TellsByClaim, IsModelReply};
 
 use crate::NoMemory;
 use crate::verdicts::verdict_on;
-use commands::{Reply, graph_law, printed};
+use command_input::graph_law;
 use graph_model::Graph;
 use instance_model::Instance;
 use proper_interval::umbrella_law;
 use row_model::{Interval, Kind};
 use std::alloc::Global;
 use unit_model::{UnitText, model, print_unit};
+use verdict_replies::{Reply, printed};
 use verdict_text::{Part, Verdict};
 
 /// The reply on a graph: the text of its unit model, or the verdict which shows that there is none.

@@ -6,15 +6,15 @@ ghost use Rattle.verdict_text.specs.Grammar.{IsVerdict, AreColumnCounts};
 ghost use Rattle.verdict_text.specs.Value.{column_counts, yes_value, claim_of, verdict_value};
 ghost use Rattle.instance_model.specs.Instance.{instance_columns, derived_matrix, IsInstance, IsWellFormed};
 ghost use Rattle.instance_model.specs.Value.{instance_value};
-ghost use Rattle.commands.specs.Verdicts.{IsClaimOf, IsVerdictOf};
+ghost use Rattle.verdict_replies.specs.Verdicts.{IsClaimOf, IsVerdictOf};
 
 use crate::NoMemory;
 use crate::sides::solve_side;
 use c1p_solve::Solved;
-use commands::{added, grammar_law, no};
 use instance_model::Instance;
 use pq_tree::PqTree;
 use std::alloc::Global;
+use verdict_replies::{added, grammar_law, no};
 use verdict_text::{Columns, Part, Verdict, Version, YesPart};
 
 /// The verdict on an instance, of version 2: the tree of a yes stands for every order.

@@ -11,7 +11,7 @@ use Rattle.pq_tree.specs.declared.PqTree.{PqTree}
 use Rattle.pq_tree.proofs.Frontiers.{frontier_occurs}
 use Rattle.pq_tree.proofs.AllOrders.{all_orders}
 use Rattle.canonical_tree.specs.Laws.{CanonicalTreeLaw, OneShapeLaw}
-use Rattle.row_core.specs.Judges.{IsTreeOfOrders}
+use Rattle.row_judge.specs.Judges.{IsTreeOfOrders}
 use Rattle.tree_meet.specs.TreeRows.{rows_of_tree}
 use Rattle.tree_meet.specs.Meets.{IsCommon, IsMeet, joint_rows}
 use Rattle.tree_meet.specs.Laws.{EitherFirstLaw, UniversalMeetLaw}

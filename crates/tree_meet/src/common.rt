@@ -7,7 +7,7 @@ ghost use Rattle.tree_meet.specs.Meets.{IsMet};
 use crate::rows::{push_rows, tree_rows};
 use odd_cycle::Cycle;
 use pq_tree::PqTree;
-use row_core::{Judge, Judged};
+use row_judge::{Judge, Judged};
 use row_model::{MAX_COLUMNS, NoMemory};
 use std::alloc::Global;
 use step_count::{Ledger, Steps};

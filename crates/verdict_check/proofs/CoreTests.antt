@@ -12,11 +12,11 @@ use Rattle.row_model.specs.Graph.{JoinedBy}
 use Rattle.row_model.specs.Cycles.{IsOddWalk}
 use Rattle.row_model.specs.Rows.{RowList}
 use Rattle.row_model.proofs.Ascending.{row_once}
-use Rattle.row_core.specs.Parts.{CoreParts}
-use Rattle.row_core.specs.Cores.{AreRowNumbers, rows_at, but, IsCore}
-use Rattle.row_core.specs.Told.{IsAmong, AreAmong, TellsCore}
-use Rattle.row_core.specs.Laws.{BlameLaw}
-use Rattle.row_core.specs.Texts.{TextValue}
+use Rattle.core_text.specs.Parts.{CoreParts}
+use Rattle.core_text.specs.Cores.{AreRowNumbers, rows_at, but, IsCore}
+use Rattle.core_text.specs.Told.{IsAmong, AreAmong, TellsCore}
+use Rattle.core_text.specs.Laws.{BlameLaw}
+use Rattle.core_text.specs.Texts.{TextValue}
 use Rattle.verdict_check.specs.Tests.{numbers}
 use Rattle.verdict_check.specs.NoTests.{HasLine, pair_after, PassesLength, PassesPair, PassesRepeat}
 use Rattle.verdict_check.specs.Core.{line_tests, core_tests, order_without, PassesCoreOrder, PassesCoreJoin, PassesCore, IsAcceptedCore, NamesCoreLaw, ToldCoreLaw}

@@ -10,7 +10,7 @@ use Rattle.row_model.specs.Graph.{row_at}
 use Rattle.row_model.specs.Rows.{Ascends, RowList}
 use Rattle.row_model.specs.Positions.{ArePositions}
 use Rattle.row_model.proofs.PieceLemmas.{above_low, ascends_rises}
-use Rattle.row_core.specs.Cores.{AreRowNumbers, rows_at, but}
+use Rattle.core_text.specs.Cores.{AreRowNumbers, rows_at, but}
 
 -- of numbers from an index on, the first and the others
 pub ascends_here : (n low : ℕ) (rows : List ℕ) (i d : ℕ) → i < length rows → Ascends n low (drop i rows) → (low < get_or rows i d) × (get_or rows i d ≤ n) × Ascends n (get_or rows i d) (drop (i + 1) rows)

@@ -6,10 +6,10 @@ use Rattle.row_model.specs.declared.kind.Kind.{Kind}
 use Rattle.row_model.specs.declared.graph.Line.{Line}
 use Rattle.row_model.specs.Rows.{RowList}
 use Rattle.row_model.specs.Graph.{JoinedBy}
-use Rattle.row_core.specs.Parts.{CoreParts}
-use Rattle.row_core.specs.Cores.{AreRowNumbers, rows_at, but, IsCore}
-use Rattle.row_core.specs.Told.{IsAmong, TellsCore}
-use Rattle.row_core.specs.Texts.{TextValue}
+use Rattle.core_text.specs.Parts.{CoreParts}
+use Rattle.core_text.specs.Cores.{AreRowNumbers, rows_at, but, IsCore}
+use Rattle.core_text.specs.Told.{IsAmong, TellsCore}
+use Rattle.core_text.specs.Texts.{TextValue}
 use Rattle.verdict_check.specs.Tests.{numbers}
 use Rattle.verdict_check.specs.NoTests.{HasLine, pair_after, PassesLength, PassesPair, PassesRepeat}
 use Rattle.verdict_check.specs.Accepted.{IsFirstFailing}

@@ -1,7 +1,7 @@
 // The lines in chains by the first columns of their pairs.
 ghost use Rattle.std.specs.Prelude.{◌≡◌, ◌≢◌, ℕ, ◌+◌, ◌<◌, ◌≤◌, length, slice_index_or, All, IfOk};
 ghost use Rattle.row_model.specs.declared.graph.Line.{Line};
-ghost use Rattle.verdict_text.specs.Grammar.{Fits32};
+ghost use Rattle.text_parts.specs.Grammar.{Fits32};
 ghost use Rattle.verdict_check.specs.NoTests.{PassesPair, PassesRepeat};
 ghost use Rattle.verdict_check.specs.Chains.{AreChains};
 

@@ -2,9 +2,10 @@
 ghost use Rattle.std.specs.Prelude.{◌↔◌, ◌≡◌, ◌≤◌, ◌<◌, ℕ, length, map, IsTrue, IfOk, slice_index, option_map};
 ghost use Rattle.std.specs.List.Sorted.{IsNonDecreasing};
 ghost use Rattle.column_order.specs.Orders.{IsValidOrder};
-ghost use Rattle.row_core.specs.Cores.{AreRowNumbers, rows_at, but};
-ghost use Rattle.row_core.specs.Told.{IsAmong};
-ghost use Rattle.row_core.specs.Texts.{IsInGrammar, Fits32};
+ghost use Rattle.core_text.specs.Cores.{AreRowNumbers, rows_at, but};
+ghost use Rattle.core_text.specs.Told.{IsAmong};
+ghost use Rattle.core_text.specs.Texts.{IsInGrammar};
+ghost use Rattle.text_parts.specs.Grammar.{Fits32};
 ghost use Rattle.verdict_check.specs.Found.{IsLeastFailing, Finds};
 ghost use Rattle.verdict_check.specs.Core.{line_tests, core_tests, PassesCoreJoin, PassesCore, IsAcceptedCore, FailsCoreFirst, NamesCoreLaw, ToldCoreLaw};
 ghost use Rattle.verdict_check.specs.declared.core_outcome.CoreReason.{CoreReason};
@@ -13,7 +14,7 @@ ghost use Rattle.verdict_check.specs.declared.core_outcome.CoreChecked.TheVarian
 use crate::core_outcome::{CoreChecked, CoreReason};
 use crate::cycle::{first_bad_pair, is_odd_length, next_pair};
 use crate::repeats::first_repeat;
-use row_core::{CoreText, blame_law};
+use core_text::{CoreText, blame_law};
 use row_model::{
     Kind, Line, Matrix, NoMemory, Why, is_kept, is_order, joined_by, positions, row_has,
 };

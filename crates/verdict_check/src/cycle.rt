@@ -1,7 +1,7 @@
 // The tests of a no, on the lines of its cycle.
 ghost use Rattle.std.specs.Prelude.{◌↔◌, ◌≡◌, ◌+◌, ◌<◌, length, IsTrue, IfOk};
 ghost use Rattle.row_model.specs.declared.graph.Pair.{Pair};
-ghost use Rattle.verdict_text.specs.Grammar.{Fits32};
+ghost use Rattle.text_parts.specs.Grammar.{Fits32};
 ghost use Rattle.verdict_check.specs.Tests.{no_tests};
 ghost use Rattle.verdict_check.specs.NoTests.{pair_after, PassesLength, PassesPair, PassesJoin, PassesNo};
 ghost use Rattle.verdict_check.specs.Found.{IsLeastFailing, Finds};

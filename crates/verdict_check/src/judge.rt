@@ -1,6 +1,7 @@
 // All tests of a verdict, in their order.
 ghost use Rattle.std.specs.Prelude.{◌≡◌, ◌↔◌, length, IsTrue, IfOk};
-ghost use Rattle.verdict_text.specs.Grammar.{Fits32, IsClaim, IsVerdict};
+ghost use Rattle.text_parts.specs.Grammar.{Fits32};
+ghost use Rattle.verdict_text.specs.Grammar.{IsClaim, IsVerdict};
 ghost use Rattle.verdict_text.specs.Verdict.{yes_claim};
 ghost use Rattle.verdict_text.specs.Value.{column_counts, yes_value, verdict_value};
 ghost use Rattle.instance_model.specs.Instance.{instance_kind, instance_columns, derived_matrix, IsInstance, IsSideOf, IsWellFormed};

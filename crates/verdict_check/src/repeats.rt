@@ -1,6 +1,6 @@
 // The first line whose pair stands on an earlier one.
 ghost use Rattle.std.specs.Prelude.{ℕ, ◌≤◌, length, IfOk};
-ghost use Rattle.verdict_text.specs.Grammar.{Fits32};
+ghost use Rattle.text_parts.specs.Grammar.{Fits32};
 ghost use Rattle.verdict_check.specs.NoTests.{PassesPair, PassesRepeat};
 ghost use Rattle.verdict_check.specs.Found.{IsLeastFailing};
 

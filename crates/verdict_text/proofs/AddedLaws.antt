@@ -17,12 +17,16 @@ use Rattle.row_model.specs.declared.lists.Span.{Span}
 use Rattle.row_model.specs.declared.kind.Kind.{Kind}
 use Rattle.row_model.specs.declared.kind.Kind.TheVariants.{Matrix, Rows, Table, Circular, Convex, Doubly, Proper, Robinson, Clones}
 use Rattle.verdict_text.specs.Verdict.{AddedValue, no_added}
-use Rattle.verdict_text.specs.Text.{number_word, ends_text, place_text, interval_line, contig_line, place_line, places_text, contigs_text, added_text}
-use Rattle.verdict_text.specs.Grammar.{max_number, max_end, IsInterval, IsPlace, IsSpan, Fits32, HasAdded}
-use Rattle.verdict_text.specs.Numbered.{numbered, numbered_at}
-use Rattle.verdict_text.specs.Reading.{interval_at, ends_at, where_at, place_at, contig_at, counted_at, placed_at, added_at, or_else, as_nowhere, as_place}
-use Rattle.verdict_text.proofs.Chains.{Takes, small, large, after_number, after_word, after_index, at_number, at_word, at_index}
-use Rattle.verdict_text.proofs.NumberedLaws.{numbered-flat_map, numbered_take, numbered_again, numbered_none, counted_take, counted_again}
+use Rattle.text_parts.specs.Text.{number_word}
+use Rattle.verdict_text.specs.Text.{ends_text, place_text, interval_line, contig_line, place_line, places_text, contigs_text, added_text}
+use Rattle.text_parts.specs.Grammar.{max_number, Fits32}
+use Rattle.verdict_text.specs.Grammar.{max_end, IsInterval, IsPlace, HasFittingEnds, HasAdded}
+use Rattle.text_parts.specs.Numbered.{numbered, numbered_at}
+use Rattle.verdict_text.specs.Reading.{interval_at, ends_at, where_at, place_at, contig_at, placed_at, added_at, as_nowhere, as_place}
+use Rattle.text_parts.specs.Reading.{counted_at, or_else}
+use Rattle.text_parts.proofs.Chains.{Takes, small, after_number, after_word, at_number, at_word}
+use Rattle.verdict_text.proofs.IndexLaws.{large, after_index, at_index}
+use Rattle.text_parts.proofs.NumberedLaws.{numbered-flat_map, numbered_take, numbered_again, numbered_none, counted_take, counted_again}
 
 -- the text of a span
 abbrev pub span_text : Span → List ℕ
@@ -61,7 +65,7 @@ interval_again i v rest l h =
 ends_regroup : (s : Span) (rest : List ℕ) → span_text s ++ rest ≡ 32 ∷ (decimal s.first ++ (32 ∷ (decimal s.last ++ (10 ∷ rest))))
 ends_regroup s rest = simp append_assoc
 
-pub ends_takes : (bytes : List ℕ) (s : Span) (rest : List ℕ) → ends_at bytes ≡ Some (s, rest) → Takes span_text IsSpan bytes s rest
+pub ends_takes : (bytes : List ℕ) (s : Span) (rest : List ℕ) → ends_at bytes ≡ Some (s, rest) → Takes span_text HasFittingEnds bytes s rest
 unfolding ends_at
 ends_takes bytes s rest h =
     let b = after_word _ (32 ∷ []) bytes (s, rest) h in
@@ -71,12 +75,12 @@ ends_takes bytes s rest h =
     let g = after_word _ (10 ∷ []) f.1 (s, rest) f.4 in
     let made : Span = record { first = d.0; last = f.0 } in
     let p = some_pair_parts made s g.0 rest g.2 in record {
-      good = subst IsSpan p.0 (d.2, f.2);
+      good = subst HasFittingEnds p.0 (d.2, f.2);
       front = b.1 ∙ ap (λ x. 32 ∷ x) (d.3 ∙ ap (λ x. decimal d.0 ++ x) (e.1 ∙ ap (λ x. 32 ∷ x) (f.3 ∙ ap (λ x. decimal f.0 ++ x) (g.1 ∙ ap (λ x. 10 ∷ x) p.1))))
           ∙ sym (ends_regroup made rest) ∙ ap (λ w. span_text w ++ rest) p.0;
     }
 
-pub ends_again : (s : Span) (rest : List ℕ) → IsSpan s → ends_at (span_text s ++ rest) ≡ Some (s, rest)
+pub ends_again : (s : Span) (rest : List ℕ) → HasFittingEnds s → ends_at (span_text s ++ rest) ≡ Some (s, rest)
 unfolding ends_at
 ends_again s rest h =
     ap ends_at (ends_regroup s rest)
@@ -86,14 +90,14 @@ ends_again s rest h =
     ∙ at_number _ max_number s.last (10 ∷ rest) small h.1 refl
     ∙ at_word _ (10 ∷ []) rest
 
-pub contig_takes : (i : ℕ) (bytes : List ℕ) (s : Span) (rest : List ℕ) → contig_at i bytes ≡ Some (s, rest) → Takes contig_line IsSpan bytes s rest
+pub contig_takes : (i : ℕ) (bytes : List ℕ) (s : Span) (rest : List ℕ) → contig_at i bytes ≡ Some (s, rest) → Takes contig_line HasFittingEnds bytes s rest
 unfolding contig_at
 contig_takes i bytes s rest h =
     let a = after_word ends_at (codes "contig") bytes (s, rest) h in
     let t = ends_takes a.0 s rest a.2 in
     record { good = t.good; front = a.1 ∙ ap (λ x. codes "contig" ++ x) t.front }
 
-pub contig_again : (i : ℕ) (s : Span) (rest : List ℕ) → i ≤ max_number → IsSpan s → contig_at i (contig_line s ++ rest) ≡ Some (s, rest)
+pub contig_again : (i : ℕ) (s : Span) (rest : List ℕ) → i ≤ max_number → HasFittingEnds s → contig_at i (contig_line s ++ rest) ≡ Some (s, rest)
 unfolding contig_at
 contig_again i s rest l h = at_word ends_at (codes "contig") (span_text s ++ rest) ∙ ends_again s rest h
 
@@ -176,7 +180,7 @@ ends_long first last h k =
     let b = decimal_nonempty last (omega (arith, k)) in
     omega (arith, length-append (decimal first) (number_word last ++ 10 ∷ []), length-append (decimal last) (10 ∷ []))
 
-contig_long : (s : Span) → IsSpan s → 11 ≤ length (contig_line s)
+contig_long : (s : Span) → HasFittingEnds s → 11 ≤ length (contig_line s)
 contig_long s h = omega (arith, ends_long s.first s.last h.0 h.1)
 
 place_long : (i : ℕ) (w : Place) → i ≤ max_number → IsPlace w → 12 ≤ length (place_line i w)
@@ -196,7 +200,7 @@ pub places_none : (n : ℕ) (bytes : List ℕ) → n ≤ max_number → length b
 places_none n bytes k h = numbered_none place_at place_line IsPlace 12 place_takes place_long n bytes k h
 
 pub contigs_none : (n : ℕ) (bytes : List ℕ) → n ≤ max_number → length bytes < n * 11 → numbered_at contig_at 1 n bytes ≡ None
-contigs_none n bytes k h = numbered_none contig_at (λ i. contig_line) IsSpan 11 contig_takes (λ i x l. contig_long x) n bytes k h
+contigs_none n bytes k h = numbered_none contig_at (λ i. contig_line) HasFittingEnds 11 contig_takes (λ i x l. contig_long x) n bytes k h
 
 -- what a kind adds
 pub record AddedIs (kind : Kind) (columns bytes : List ℕ) (x : AddedValue) (rest : List ℕ) : Type 0 where
@@ -220,7 +224,7 @@ placed_take columns bytes x rest h =
     option_and_then_some _ (counted_at (codes "places ") place_at bytes) (x, rest) h (λ y e k.
     option_and_then_some _ (counted_at (codes "contigs ") contig_at y.1) (x, rest) k (λ z f m.
     let ps = counted_take (codes "places ") place_at place_line IsPlace place_takes bytes y.0 y.1 e in
-    let ss = counted_take (codes "contigs ") contig_at (λ i. contig_line) IsSpan contig_takes y.1 z.0 z.1 f in
+    let ss = counted_take (codes "contigs ") contig_at (λ i. contig_line) HasFittingEnds contig_takes y.1 z.0 z.1 f in
     let made : AddedValue = record { intervals = []; places = y.0; contigs = z.0 } in
     let p = some_pair_parts made x z.1 rest m in
     subst (λ w. AddedIs Clones columns bytes w rest) p.0 (record {
@@ -262,13 +266,13 @@ added_takes Proper c bytes x rest h =
     }))
 added_takes Clones c bytes x rest h = placed_take (c ∷ []) bytes x rest h
 
-placed_again : (ps : List Place) (ss : List Span) (rest : List ℕ) → Fits32 (length ps) → AllByRecursion IsPlace ps → Fits32 (length ss) → AllByRecursion IsSpan ss
+placed_again : (ps : List Place) (ss : List Span) (rest : List ℕ) → Fits32 (length ps) → AllByRecursion IsPlace ps → Fits32 (length ss) → AllByRecursion HasFittingEnds ss
     → placed_at (codes "places " ++ (decimal (length ps) ++ (10 ∷ (numbered place_line 1 ps ++ (codes "contigs " ++ (decimal (length ss) ++ (10 ∷ (numbered (λ i. contig_line) 1 ss ++ rest)))))))) ≡ Some (record { intervals = []; places = ps; contigs = ss }, rest)
 unfolding placed_at
 placed_again ps ss rest few places few' contigs =
     let next : List ℕ = codes "contigs " ++ (decimal (length ss) ++ (10 ∷ (numbered (λ i. contig_line) 1 ss ++ rest))) in
     ap (option_and_then _) (counted_again (codes "places ") place_at place_line IsPlace place_again ps next few places)
-    ∙ ap (option_and_then _) (counted_again (codes "contigs ") contig_at (λ i. contig_line) IsSpan contig_again ss rest few' contigs)
+    ∙ ap (option_and_then _) (counted_again (codes "contigs ") contig_at (λ i. contig_line) HasFittingEnds contig_again ss rest few' contigs)
 
 abbrev with_intervals : List Interval → AddedValue → AddedValue
 with_intervals v x = record { intervals = v; places = x.places; contigs = x.contigs }

@@ -12,7 +12,7 @@ use Rattle.verdict_text.specs.Verdict.{SideValue, AddedValue, no_added, YesValue
 use Rattle.verdict_text.specs.Text.{side_text, added_text, claim_text, cycle_text}
 use Rattle.verdict_text.specs.Grammar.{side_count, AreColumnCounts, AreSides, HasAdded, IsClaim}
 use Rattle.verdict_text.specs.Reading.{yes_at, side_at, added_at, as_yes, yes_or_no, claim_at, no_at}
-use Rattle.verdict_text.proofs.Chains.{after_word, at_word}
+use Rattle.text_parts.proofs.Chains.{after_word, at_word}
 use Rattle.verdict_text.proofs.SideLaws.{side_takes, side_again}
 use Rattle.verdict_text.proofs.AddedLaws.{added_takes, added_again}
 use Rattle.verdict_text.proofs.CycleLaws.{no_takes, no_again}

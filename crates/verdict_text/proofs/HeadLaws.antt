@@ -1,46 +1,25 @@
 -- The first three lines: the version, the kind and the columns.
-use Rattle.std.proofs.Common.{◌≡◌, ◌∙◌, ℕ, zero, suc, false, List, [], ◌∷◌, ◌++◌, length, Some, None, refl, sym, ap, arith, inl, inr, subst, codes, eqb}
+use Rattle.std.proofs.Common.{◌≡◌, ◌∙◌, ℕ, zero, suc, List, [], ◌∷◌, ◌++◌, length, Some, None, refl, sym, ap, subst, codes}
 use Rattle.std.specs.Prelude.{option_and_then, flat_map}
-use Rattle.std.specs.Fmt.{decimal}
 use Rattle.std.proofs.lemmas.List.{append_assoc}
-use Rattle.std.proofs.lemmas.Bool.{ne_eqb}
-use Rattle.std.proofs.lemmas.Option.{none-some, some_pair_parts, option_and_then_some}
+use Rattle.std.proofs.lemmas.Option.{some_pair_parts, option_and_then_some}
 use Rattle.plain_text.specs.Numbers.{NoDigitFirst}
 use Rattle.plain_text.specs.Words.{word_at}
-use Rattle.plain_text.proofs.NumberLaws.{chosen}
 use Rattle.plain_text.proofs.WordLaws.{word_takes}
-use Rattle.row_model.specs.declared.TheConstants.{MAX_COLUMNS}
 use Rattle.row_model.specs.declared.kind.Kind.{Kind}
-use Rattle.verdict_text.specs.Text.{version_line, kind_word, kind_line, columns_line, number_word, head_text}
-use Rattle.verdict_text.specs.Grammar.{side_count, AreColumnCounts, IsColumnCount}
-use Rattle.verdict_text.specs.Numbered.{with_first}
-use Rattle.verdict_text.specs.Reading.{version_at, with_version, or_else, kind_at, kind_from, all_kinds, kind_columns_at, columns_at, column_count_at, head_at}
+use Rattle.verdict_text.specs.Text.{version_line, kind_line, columns_line, head_text}
+use Rattle.text_parts.specs.Text.{kind_word, number_word}
+use Rattle.verdict_text.specs.Grammar.{side_count, AreColumnCounts}
+use Rattle.text_parts.specs.Numbered.{with_first}
+use Rattle.verdict_text.specs.Reading.{version_at, with_version, kind_columns_at, columns_at, head_at}
+use Rattle.text_parts.specs.Reading.{or_else, kind_at, kind_from, all_kinds, column_count_at}
 use Rattle.verdict_text.specs.declared.verdict.Version.{Version}
 use Rattle.verdict_text.specs.declared.verdict.Version.TheVariants.{One, Two}
 use Rattle.verdict_text.proofs.PrintLaws.{subject_pieces}
-use Rattle.verdict_text.proofs.KindLaws.{kind_takes, kind_again}
-use Rattle.verdict_text.proofs.Chains.{Takes, after_number, after_word, at_number, at_word, some_number}
-
-count_takes : (bytes : List ℕ) (c : ℕ) (rest : List ℕ) → column_count_at bytes ≡ Some (c, rest) → Takes number_word IsColumnCount bytes c rest
-unfolding column_count_at
-count_takes bytes c rest h =
-    let a = after_word _ (32 ∷ []) bytes (c, rest) h in
-    let b = after_number _ MAX_COLUMNS a.0 (c, rest) (omega arith) a.2 in
-    elim (chosen (eqb b.0 0) _ _ _ b.4) [
-      | inl z ↦ absurd (none-some _ z.1)
-      | inr z ↦
-          let p = some_pair_parts b.0 c b.1 rest z.1 in
-          record {
-            good = subst IsColumnCount p.0 (some_number b.0 z.0, b.2);
-            front = a.1 ∙ ap (λ y. 32 ∷ y) (b.3 ∙ ap (λ n. decimal n ++ b.1) p.0 ∙ ap (λ y. decimal c ++ y) p.1);
-          }
-    ]
-
-count_again : (c : ℕ) (rest : List ℕ) → IsColumnCount c → NoDigitFirst rest → column_count_at (number_word c ++ rest) ≡ Some (c, rest)
-unfolding column_count_at
-count_again c rest h s =
-    let z : eqb c 0 ≡ false = ne_eqb c 0 (λ e. omega (arith, h.0)) in
-    at_word _ (32 ∷ []) (decimal c ++ rest) ∙ at_number _ MAX_COLUMNS c rest (omega arith) h.1 s ∙ rw z refl
+use Rattle.text_parts.proofs.KindLaws.{kind_takes, kind_again}
+use Rattle.text_parts.proofs.Chains.{after_word, at_word}
+use Rattle.text_parts.proofs.CountLaws.{count_takes, count_again}
+use Rattle.text_parts.proofs.WordLaws.{words_stop}
 
 record AreRead (n : ℕ) (bytes : List ℕ) (cs : List ℕ) (rest : List ℕ) : Type 0 where
   each : AreColumnCounts cs
@@ -63,10 +42,6 @@ columns_take (suc n) bytes cs rest h =
       all = ap suc r.all;
       front = l.front ∙ ap (λ z. number_word x.0 ++ z) (r.front ∙ ap (λ z. flat_map number_word y.0 ++ z) p.1) ∙ sym (append_assoc (number_word x.0) (flat_map number_word y.0) rest);
     })))
-
-pub words_stop : (cs : List ℕ) (rest : List ℕ) → NoDigitFirst rest → NoDigitFirst (flat_map number_word cs ++ rest)
-words_stop [] rest s = s
-words_stop (c ∷ cs) rest s = refl
 
 columns_again : (cs : List ℕ) (rest : List ℕ) → AreColumnCounts cs → NoDigitFirst rest → columns_at (length cs) (flat_map number_word cs ++ rest) ≡ Some (cs, rest)
 unfolding columns_at

@@ -1,11 +1,7 @@
 pub mod PrintLaws
-pub mod Chains
-pub mod NumberedLaws
-pub mod LoopLaws
-pub mod KindLaws
+pub mod IndexLaws
 pub mod CycleLaws
 pub mod HeadLaws
-pub mod NumberLoop
 pub mod TreeLaws
 pub mod SideLaws
 pub mod AddedLaws

@@ -1,17 +1,13 @@
 -- One side of a yes: its tree and its order.
-use Rattle.std.proofs.Common.{◌≡◌, ◌∙◌, ◌+◌, ◌%◌, ◌^◌, ◌<◌, ◌≤◌, ℕ, zero, suc, false, List, [], ◌∷◌, ◌++◌, length, take, drop, Some, None, refl, sym, ap, arith, inl, inr, subst, codes, eqb, length-append}
+use Rattle.std.proofs.Common.{◌≡◌, ◌∙◌, ◌+◌, ◌%◌, ◌^◌, ◌<◌, ◌≤◌, ℕ, suc, false, List, [], ◌∷◌, ◌++◌, length, take, drop, Some, refl, sym, ap, arith, inl, inr, subst, codes, eqb}
 use Rattle.std.specs.Prelude.{option_and_then, flat_map}
-use Rattle.std.specs.List.{AllByRecursion}
 use Rattle.std.specs.Fmt.{decimal}
 use Rattle.std.proofs.lemmas.List.{append_assoc, take-append-drop}
 use Rattle.std.proofs.Math.Seq.{drop-append_seam, take-append_seam}
 use Rattle.std.proofs.lemmas.Bool.{ne_eqb}
 use Rattle.std.proofs.lemmas.Option.{none-some, some_pair_parts, option_and_then_some}
 use Rattle.std.proofs.lemmas.Fmt.{decimal_by_steps}
-use Rattle.plain_text.specs.Numbers.{number_at}
-use Rattle.plain_text.specs.Words.{word_at}
 use Rattle.plain_text.proofs.NumberLaws.{chosen}
-use Rattle.plain_text.proofs.WordLaws.{word_takes, word_again}
 use Rattle.column_order.proofs.Counts.{in_range, within_none}
 use Rattle.column_order.specs.Orders.{occurs}
 use Rattle.column_order.proofs.Lists.{occurs-append}
@@ -19,56 +15,16 @@ use Rattle.pq_tree.specs.Outline.{Outline, Forest, leaf, p_node, q_node, no_tree
 use Rattle.pq_tree.specs.Proper.{IsProper}
 use Rattle.pq_tree.specs.Text.{tree_text, forest_text, spaced_text}
 use Rattle.pq_tree.specs.Reading.{tree_of}
-use Rattle.pq_tree.proofs.Found.{tree_of_found}
-use Rattle.pq_tree.proofs.Found.{within}
+use Rattle.pq_tree.proofs.Found.{tree_of_found, within}
 use Rattle.pq_tree.proofs.Again.{tree_of_proper, head_one}
 use Rattle.verdict_text.specs.Verdict.{SideValue}
-use Rattle.verdict_text.specs.Text.{side_text, number_word}
-use Rattle.verdict_text.specs.Grammar.{max_number, IsSide, Fits32}
-use Rattle.verdict_text.specs.Numbered.{with_first}
-use Rattle.verdict_text.specs.Reading.{numbers_at, after_space, tree_at, with_bytes, line_len, side_at}
-use Rattle.verdict_text.proofs.HeadLaws.{words_stop}
-use Rattle.verdict_text.proofs.Chains.{Takes, small, after_number, after_word, at_number, at_word, some_number}
-
-record AreNumbers (bytes : List ℕ) (ns : List ℕ) (rest : List ℕ) : Type 0 where
-  each : AllByRecursion Fits32 ns
-  front : bytes ≡ flat_map number_word ns ++ rest
-
-numbers_take : (n : ℕ) (bytes : List ℕ) (ns : List ℕ) (rest : List ℕ) → numbers_at n bytes ≡ Some (ns, rest) → AreNumbers bytes ns rest
-unfolding numbers_at
-numbers_take zero bytes ns rest h =
-    let e' = some_pair_parts [] ns bytes rest h in
-    subst (λ l. AreNumbers bytes l rest) e'.0 (record { each = tt; front = e'.1 })
-numbers_take (suc n) bytes ns rest h =
-    (elim (word_at (32 ∷ []) bytes) as (λ o. word_at (32 ∷ []) bytes ≡ o → after_space o bytes (λ space. option_and_then (λ x. option_and_then (with_first x.0) (numbers_at n x.1)) (number_at max_number space)) ≡ Some (ns, rest) → AreNumbers bytes ns rest) [
-      | None ↦ λ e k. let e' = some_pair_parts [] ns bytes rest k in subst (λ l. AreNumbers bytes l rest) e'.0 (record { each = tt; front = e'.1 })
-      | Some space ↦ λ e k.
-          let a = after_number _ max_number space (ns, rest) small k in
-          option_and_then_some (with_first a.0) (numbers_at n a.1) (ns, rest) a.4 (λ y f m.
-          let r = numbers_take n a.1 y.0 y.1 f in
-          let e' = some_pair_parts (a.0 ∷ y.0) ns y.1 rest m in
-          subst (λ l. AreNumbers bytes l rest) e'.0 (record {
-            each = (a.2, r.each);
-            front = word_takes (32 ∷ []) bytes space e ∙ ap (λ z. 32 ∷ z) (a.3 ∙ ap (λ z. decimal a.0 ++ z) (r.front ∙ ap (λ z. flat_map number_word y.0 ++ z) e'.1) ∙ sym (append_assoc (decimal a.0) (flat_map number_word y.0) rest));
-          }))
-    ]) refl h
-
--- no space at the front of a line feed
-feed_stops : (rest : List ℕ) → word_at (32 ∷ []) (10 ∷ rest) ≡ None
-unfolding word_at
-feed_stops rest = refl
-
-numbers_again : (n : ℕ) (ns : List ℕ) (rest : List ℕ) → length ns < n → AllByRecursion Fits32 ns → numbers_at n (flat_map number_word ns ++ (10 ∷ rest)) ≡ Some (ns, 10 ∷ rest)
-unfolding numbers_at
-numbers_again zero ns rest l h = absurd (omega arith)
-numbers_again (suc n) [] rest l h = ap (λ o. after_space o (10 ∷ rest) (λ space. option_and_then (λ x. option_and_then (with_first x.0) (numbers_at n x.1)) (number_at max_number space))) (feed_stops rest)
-numbers_again (suc n) (k ∷ ns) rest l h =
-    let bytes : List ℕ = 32 ∷ (decimal k ++ (flat_map number_word ns ++ (10 ∷ rest))) in
-    let text : flat_map number_word (k ∷ ns) ++ (10 ∷ rest) ≡ bytes = ap (λ z. 32 ∷ z) (append_assoc (decimal k) (flat_map number_word ns) (10 ∷ rest)) in
-    ap (numbers_at (suc n)) text
-    ∙ ap (λ o. after_space o bytes (λ space. option_and_then (λ x. option_and_then (with_first x.0) (numbers_at n x.1)) (number_at max_number space))) (word_again (32 ∷ []) (decimal k ++ (flat_map number_word ns ++ (10 ∷ rest))))
-    ∙ at_number _ max_number k (flat_map number_word ns ++ (10 ∷ rest)) small h.0 (words_stop ns (10 ∷ rest) refl)
-    ∙ ap (option_and_then (with_first k)) (numbers_again n ns rest (omega arith) h.1)
+use Rattle.verdict_text.specs.Text.{side_text}
+use Rattle.text_parts.specs.Text.{number_word}
+use Rattle.verdict_text.specs.Grammar.{IsSide}
+use Rattle.text_parts.specs.Reading.{numbers_at}
+use Rattle.verdict_text.specs.Reading.{tree_at, with_bytes, line_len, side_at}
+use Rattle.text_parts.proofs.Chains.{Takes, after_word, at_word, some_number}
+use Rattle.text_parts.proofs.WordLaws.{numbers_take, numbers_again, words_long}
 
 -- a text with no line feed in it
 HasNoFeed : List ℕ → Type 0
@@ -149,10 +105,6 @@ tree_again c t rest l h =
 
 side_regroup : (s : SideValue) (rest : List ℕ) → side_text s ++ rest ≡ codes "tree " ++ (tree_text s.tree ++ (codes "\norder" ++ (flat_map number_word s.order ++ (10 ∷ rest))))
 side_regroup s rest = simp append_assoc
-
-words_long : (ns rest : List ℕ) → length ns < length (flat_map number_word ns ++ (10 ∷ rest))
-words_long [] rest = omega arith
-words_long (n ∷ ns) rest = omega (arith, words_long ns rest, length-append (decimal n) (flat_map number_word ns), length-append (flat_map number_word ns) (10 ∷ rest), length-append (flat_map number_word (n ∷ ns)) (10 ∷ rest))
 
 pub side_takes : (c : ℕ) (bytes : List ℕ) (s : SideValue) (rest : List ℕ) → c < 2 ^ 64 → side_at c bytes ≡ Some (s, rest) → Takes side_text (IsSide c) bytes s rest
 unfolding side_at

@@ -10,7 +10,7 @@ use Rattle.verdict_text.specs.Grammar.{IsVerdict}
 use Rattle.verdict_text.specs.Reading.{head_at, claim_at, verdict_of}
 use Rattle.verdict_text.proofs.HeadLaws.{head_takes, head_again}
 use Rattle.verdict_text.proofs.ClaimLaws.{claim_takes, claim_again}
-use Rattle.verdict_text.proofs.Chains.{after_word, at_word}
+use Rattle.text_parts.proofs.Chains.{after_word, at_word}
 
 no_more : (xs : List ℕ) → length xs ≡ 0 → xs ≡ []
 no_more [] h = refl

@@ -1,30 +1,19 @@
 -- The verdicts that the grammar of the text has.
 use Rattle.std.specs.Prelude.{◌≡◌, ◌≤◌, ℕ, List, [], ◌∷◌, length}
 use Rattle.std.specs.List.{AllByRecursion}
-use Rattle.row_model.specs.declared.TheConstants.{MAX_COLUMNS}
 use Rattle.row_model.specs.declared.kind.Kind.{Kind}
 use Rattle.row_model.specs.declared.kind.Kind.TheVariants.{Doubly, Proper, Clones}
-use Rattle.row_model.specs.declared.graph.Line.{Line}
-use Rattle.row_model.specs.declared.graph.Why.{Why}
-use Rattle.row_model.specs.declared.graph.Why.TheVariants.{Flip, Row}
 use Rattle.row_model.specs.declared.lists.Interval.{Interval}
 use Rattle.row_model.specs.declared.lists.Place.{Place}
 use Rattle.row_model.specs.declared.lists.Place.TheVariants.{Nowhere, At}
 use Rattle.row_model.specs.declared.lists.Span.{Span}
 use Rattle.pq_tree.specs.Proper.{IsProper}
 use Rattle.verdict_text.specs.Verdict.{SideValue, AddedValue, Claim, yes_claim, no_claim, VerdictValue}
-
--- the greatest count, column, row or position: the greatest number of 32 bits
-abbrev pub max_number : ℕ
-max_number = 4294967295
+use Rattle.text_parts.specs.Grammar.{Fits32, IsColumnCount, IsLine}
 
 -- the greatest end of an interval: the greatest number of 64 bits
 abbrev pub max_end : ℕ
 max_end = 18446744073709551615
-
--- a count, a column, a row or a position
-abbrev pub Fits32 : ℕ → Type 0
-Fits32 n = n ≤ max_number
 
 -- an end of an interval
 abbrev pub Fits64 : ℕ → Type 0
@@ -34,10 +23,6 @@ Fits64 n = n ≤ max_end
 abbrev pub side_count : Kind → ℕ
 side_count Doubly = 2
 side_count kind = 1
-
--- a number of columns
-abbrev pub IsColumnCount : ℕ → Type 0
-IsColumnCount c = (1 ≤ c) × (c ≤ MAX_COLUMNS)
 
 -- numbers of columns
 abbrev pub AreColumnCounts : List ℕ → Type 0
@@ -64,23 +49,14 @@ IsPlace Nowhere = Unit {0}
 IsPlace (At first last) = Fits32 first × Fits32 last
 
 -- a span whose ends fit the grammar
-abbrev pub IsSpan : Span → Type 0
-IsSpan span = Fits32 span.first × Fits32 span.last
+abbrev pub HasFittingEnds : Span → Type 0
+HasFittingEnds span = Fits32 span.first × Fits32 span.last
 
 -- what a kind adds: an interval for each column, or places and contigs, or nothing
 abbrev pub HasAdded : Kind → List ℕ → AddedValue → Type 0
 HasAdded Proper columns added = (length added.intervals ∷ [] ≡ columns) × AllByRecursion IsInterval added.intervals × (added.places ≡ []) × (added.contigs ≡ [])
-HasAdded Clones columns added = (added.intervals ≡ []) × Fits32 (length added.places) × AllByRecursion IsPlace added.places × Fits32 (length added.contigs) × AllByRecursion IsSpan added.contigs
+HasAdded Clones columns added = (added.intervals ≡ []) × Fits32 (length added.places) × AllByRecursion IsPlace added.places × Fits32 (length added.contigs) × AllByRecursion HasFittingEnds added.contigs
 HasAdded kind columns added = (added.intervals ≡ []) × (added.places ≡ []) × (added.contigs ≡ [])
-
--- a reason that is a flip, or whose row fits the grammar
-abbrev pub IsReason : Why → Type 0
-IsReason Flip = Unit {0}
-IsReason (Row k) = Fits32 k
-
--- a line of a cycle
-abbrev pub IsLine : Line → Type 0
-IsLine line = Fits32 line.pair.a × Fits32 line.pair.b × IsReason line.why
 
 -- a yes with the sides of the columns and what the kind adds, or a no with one of the kind's sides
 abbrev pub IsClaim : Kind → List ℕ → Claim → Type 0

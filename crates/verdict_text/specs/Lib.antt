@@ -1,5 +1,4 @@
 pub mod Verdict
-pub mod Numbered
 pub mod Text
 pub mod Grammar
 pub mod Value

@@ -1,16 +1,12 @@
 -- What the readers of the program give.
-use Rattle.std.specs.Prelude.{◌≡◌, ℕ, List, Option, Some, None, Result, Ok, Err}
+use Rattle.std.specs.Prelude.{ℕ, List}
 use Rattle.std.specs.Borrow.{Bor}
-use Rattle.std.specs.declared.vec.Vec.{Vec}
-use Rattle.std.specs.declared.alloc.Global.{Global}
 use Rattle.row_model.specs.declared.kind.Kind.{Kind}
 use Rattle.pq_tree.specs.Outline.{Outline}
 use Rattle.pq_tree.specs.PqTree.{outline}
 use Rattle.pq_tree.specs.declared.PqTree.{PqTree}
 use Rattle.verdict_text.specs.Verdict.{SideValue, AddedValue, YesValue, Claim, no_claim}
 use Rattle.verdict_text.specs.Value.{column_counts, side_value, added_value, yes_value, claim_of}
-use Rattle.verdict_text.specs.declared.read.Stop.{Stop}
-use Rattle.verdict_text.specs.declared.read.Stop.TheVariants as stop
 use Rattle.verdict_text.specs.declared.verdict.Columns.{Columns}
 use Rattle.verdict_text.specs.declared.verdict.Version.{Version}
 use Rattle.verdict_text.specs.declared.verdict.Side.{Side}
@@ -18,16 +14,6 @@ use Rattle.verdict_text.specs.declared.verdict.Added.{Added}
 use Rattle.verdict_text.specs.declared.verdict.YesPart.{YesPart}
 use Rattle.verdict_text.specs.declared.verdict.NoPart.{NoPart}
 use Rattle.verdict_text.specs.declared.verdict.Part.{Part}
-
--- a stop says that nothing is to be read, unless memory ran out
-abbrev pub Stops : {Y : Type 0} → Stop → Option Y → Type 0
-Stops stop.NoMemory read = Unit {0}
-Stops stop.Outside read = read ≡ None
-
--- what a reader returned, as a view shows it, is what is to be read, unless memory ran out
-abbrev pub Gives : {X Y : Type 0} → (X → Y) → Result X Stop → Option Y → Type 0
-Gives view (Ok x) read = read ≡ Some (view x)
-Gives view (Err e) read = Stops e read
 
 -- the version, the kind, the numbers of columns, and the bytes after them
 abbrev pub head_seen : (Version × Kind × Columns × Bor (List ℕ)) → ((Version × Kind × List ℕ) × List ℕ)
@@ -40,10 +26,6 @@ columns_seen x = (column_counts x.0, x.1.now)
 -- the outline of the tree, and the bytes after it
 abbrev pub tree_seen : (PqTree × Bor (List ℕ)) → (Outline × List ℕ)
 tree_seen x = (outline x.0, x.1.now)
-
--- the numbers, and the bytes after them
-abbrev pub numbers_seen : (Vec ℕ Global × Bor (List ℕ)) → (List ℕ × List ℕ)
-numbers_seen x = (x.0.items, x.1.now)
 
 -- what the side says, and the bytes after it
 abbrev pub side_seen : (Side × Bor (List ℕ)) → (SideValue × List ℕ)

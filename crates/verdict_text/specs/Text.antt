@@ -2,40 +2,23 @@
 use Rattle.std.specs.Prelude.{ℕ, List, [], ◌∷◌, ◌++◌, length, flat_map, codes}
 use Rattle.std.specs.Fmt.{decimal}
 use Rattle.row_model.specs.declared.kind.Kind.{Kind}
-use Rattle.row_model.specs.declared.kind.Kind.TheVariants.{Matrix, Rows, Table, Circular, Convex, Doubly, Proper, Robinson, Clones}
+use Rattle.row_model.specs.declared.kind.Kind.TheVariants.{Proper, Clones}
 use Rattle.row_model.specs.declared.graph.Line.{Line}
-use Rattle.row_model.specs.declared.graph.Why.{Why}
-use Rattle.row_model.specs.declared.graph.Why.TheVariants.{Flip, Row}
 use Rattle.row_model.specs.declared.lists.Interval.{Interval}
 use Rattle.row_model.specs.declared.lists.Place.{Place}
 use Rattle.row_model.specs.declared.lists.Place.TheVariants.{Nowhere, At}
 use Rattle.row_model.specs.declared.lists.Span.{Span}
 use Rattle.pq_tree.specs.Text.{tree_text}
-use Rattle.verdict_text.specs.Numbered.{numbered}
+use Rattle.text_parts.specs.Numbered.{numbered}
 use Rattle.verdict_text.specs.declared.verdict.Version.{Version}
 use Rattle.verdict_text.specs.declared.verdict.Version.TheVariants as versions
 use Rattle.verdict_text.specs.Verdict.{SideValue, AddedValue, Claim, yes_claim, no_claim, VerdictValue}
+use Rattle.text_parts.specs.Text.{kind_word, number_word, counted_cycle}
 
 -- `pq-verdict 1` or `pq-verdict 2`
 abbrev pub version_line : Version → List ℕ
 version_line versions.One = codes "pq-verdict 1\n"
 version_line versions.Two = codes "pq-verdict 2\n"
-
--- the word of a kind
-abbrev pub kind_word : Kind → List ℕ
-kind_word Matrix = codes "matrix"
-kind_word Rows = codes "rows"
-kind_word Table = codes "table"
-kind_word Circular = codes "circular"
-kind_word Convex = codes "convex"
-kind_word Doubly = codes "doubly"
-kind_word Proper = codes "proper"
-kind_word Robinson = codes "robinson"
-kind_word Clones = codes "clones"
-
--- a number after a space
-abbrev pub number_word : ℕ → List ℕ
-number_word n = 32 ∷ decimal n
 
 -- `kind K`
 abbrev pub kind_line : Kind → List ℕ
@@ -83,19 +66,6 @@ abbrev pub added_text : Kind → AddedValue → List ℕ
 added_text Proper added = numbered interval_line 1 added.intervals
 added_text Clones added = places_text added.places ++ contigs_text added.contigs
 added_text kind added = []
-
--- the reason for which the pair of a line is joined to the next
-abbrev pub why_text : Why → List ℕ
-why_text Flip = codes " flip\n"
-why_text (Row k) = codes " row " ++ (decimal k ++ 10 ∷ [])
-
--- `A B flip` or `A B row N`
-abbrev pub cycle_line : Line → List ℕ
-cycle_line line = decimal line.pair.a ++ (number_word line.pair.b ++ why_text line.why)
-
--- `cycle L` and L lines
-abbrev pub counted_cycle : List Line → List ℕ
-counted_cycle lines = codes "cycle " ++ (decimal (length lines) ++ (10 ∷ flat_map cycle_line lines))
 
 -- `side S`, `cycle L` and L lines
 abbrev pub cycle_text : ℕ → List Line → List ℕ

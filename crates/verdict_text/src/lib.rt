@@ -34,11 +34,13 @@ mod read;
 mod verdict;
 mod write;
 
-use crate::read::{Stop, read_verdict};
+use crate::read::read_verdict;
 pub use row_model::NoMemory;
 use std::alloc::Global;
+use text_parts::Stop;
+pub use text_parts::print_cycle;
 pub use verdict::{Columns, NoPart, Part, Verdict, Version, YesPart};
-pub use write::{print, print_cycle, print_side, print_subject};
+pub use write::{print, print_side, print_subject};
 
 /// The verdict of which the bytes are the text; none where the bytes are outside the grammar.
 ///

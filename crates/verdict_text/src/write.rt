@@ -1,17 +1,19 @@
 #![tactic(auto, unfolding(crate::specs::Value::side_value))]
 // The text of a verdict, line by line.
-ghost use Rattle.std.specs.Prelude.{◌≡◌, ◌∷◌, ◌++◌, [], length, flat_map, OnOk, OnErr};
+ghost use Rattle.std.specs.Prelude.{◌≡◌, ◌++◌, flat_map, OnOk, OnErr};
 ghost use Rattle.plain_text.specs.Pieces.{Extends};
-ghost use Rattle.verdict_text.specs.Numbered.{numbered};
+ghost use Rattle.text_parts.specs.Numbered.{numbered};
 ghost use Rattle.pq_tree.specs.PqTree.{outline};
-ghost use Rattle.verdict_text.specs.Text.{version_line, kind_word, kind_line, columns_line, counted_cycle, head_text, number_word, side_text, interval_line, ends_text, place_text, place_line, contig_line, places_text, contigs_text, added_text, why_text, cycle_line, cycle_text, claim_text, verdict_text};
+ghost use Rattle.verdict_text.specs.Text.{version_line, kind_line, columns_line, head_text, side_text, interval_line, ends_text, place_text, place_line, contig_line, places_text, contigs_text, added_text, cycle_text, claim_text, verdict_text};
+ghost use Rattle.text_parts.specs.Text.{number_word};
 ghost use Rattle.verdict_text.specs.Value.{column_counts, side_value, sides_value, yes_value, claim_of, verdict_value};
 
 use crate::NoMemory;
 use crate::verdict::{Columns, NoPart, Part, Side, Sides, Verdict, Version, YesPart};
 use plain_text::push_number;
 use pq_tree::PqTree;
-use row_model::{Interval, Kind, Line, Place, Span, Why};
+use row_model::{Interval, Kind, Place, Span};
+use text_parts::{print_cycle, push, push_word, push_words, word_of};
 
 /// Appends the text of a verdict.
 ///
@@ -67,50 +69,6 @@ pub fn print_subject(kind: Kind, columns: Columns, text: &mut Vec<u8>) -> Result
     push(text, b"\ncolumns")?;
     push_columns(columns, text)?;
     push(text, b"\n")?;
-    Ok(())
-}
-
-// The word of a kind.
-pub fn word_of(kind: Kind) -> &'static [u8]
-    ensures { result.now ≡ kind_word kind }
-{
-    match kind {
-        Kind::Matrix => b"matrix",
-        Kind::Rows => b"rows",
-        Kind::Table => b"table",
-        Kind::Circular => b"circular",
-        Kind::Convex => b"convex",
-        Kind::Doubly => b"doubly",
-        Kind::Proper => b"proper",
-        Kind::Robinson => b"robinson",
-        Kind::Clones => b"clones",
-    }
-}
-
-fn push(text: &mut Vec<u8>, bytes: &[u8]) -> Result<(), NoMemory>
-    ensures ok { OnOk result (text.new.items ≡ text.old.items ++ bytes.now) }
-    ensures err { OnErr result (text.new.items ≡ text.old.items) }
-{
-    text.extend_from_slice(bytes)
-}
-
-// A number after a space.
-fn push_word(n: u64, text: &mut Vec<u8>) -> Result<(), NoMemory>
-    ensures ok { OnOk result (text.new.items ≡ text.old.items ++ number_word n) }
-    ensures err { OnErr result (Extends text.old.items text.new.items) }
-{
-    push(text, b" ")?;
-    push_number(text, n)?;
-    Ok(())
-}
-
-fn push_words(numbers: &[u32], text: &mut Vec<u8>) -> Result<(), NoMemory>
-    ensures ok { OnOk result (text.new.items ≡ text.old.items ++ flat_map number_word numbers.now) }
-    ensures err { OnErr result (Extends text.old.items text.new.items) }
-{
-    for n in numbers {
-        push_word(u64::from(*n), text)?;
-    }
     Ok(())
 }
 
@@ -322,58 +280,4 @@ fn push_no(no: &NoPart, text: &mut Vec<u8>) -> Result<(), NoMemory>
     push(text, b"\n")?;
     print_cycle(no.lines.as_slice(), text)?;
     Ok(())
-}
-
-/// Appends the line `cycle L` and the L lines of a cycle.
-///
-/// # Errors
-///
-/// `NoMemory`. What `text` held is still its front.
-pub fn print_cycle(lines: &[Line], text: &mut Vec<u8>) -> Result<(), NoMemory>
-    ensures ok { OnOk result (text.new.items ≡ text.old.items ++ counted_cycle lines.now) }
-    ensures err { OnErr result (Extends text.old.items text.new.items) }
-{
-    push(text, b"cycle ")?;
-    push_number(text, lines.len() as u64)?;
-    push(text, b"\n")?;
-    push_cycle(lines, text)?;
-    Ok(())
-}
-
-fn push_cycle(lines: &[Line], text: &mut Vec<u8>) -> Result<(), NoMemory>
-    ensures ok { OnOk result (text.new.items ≡ text.old.items ++ flat_map cycle_line lines.now) }
-    ensures err { OnErr result (Extends text.old.items text.new.items) }
-{
-    for line in lines {
-        push_line(line, text)?;
-    }
-    Ok(())
-}
-
-fn push_line(line: &Line, text: &mut Vec<u8>) -> Result<(), NoMemory>
-    ensures ok { OnOk result (text.new.items ≡ text.old.items ++ cycle_line line.now) }
-    ensures err { OnErr result (Extends text.old.items text.new.items) }
-{
-    push_number(text, u64::from(line.pair.a))?;
-    push_word(u64::from(line.pair.b), text)?;
-    push_why(line.why, text)?;
-    Ok(())
-}
-
-fn push_why(why: Why, text: &mut Vec<u8>) -> Result<(), NoMemory>
-    ensures ok { OnOk result (text.new.items ≡ text.old.items ++ why_text why) }
-    ensures err { OnErr result (Extends text.old.items text.new.items) }
-{
-    match why {
-        Why::Flip => {
-            push(text, b" flip\n")?;
-            Ok(())
-        }
-        Why::Row(k) => {
-            push(text, b" row ")?;
-            push_number(text, u64::from(k))?;
-            push(text, b"\n")?;
-            Ok(())
-        }
-    }
 }

@@ -11,7 +11,7 @@ use std::alloc::Global;
 pub struct VerdictFile;
 
 impl FileForm for VerdictFile {
-    ghost use Rattle.commands.specs.declared.TheConstants.{MAX_VERDICT_BYTES};
+    ghost use Rattle.verdict_replies.specs.declared.TheConstants.{MAX_VERDICT_BYTES};
     ghost use Rattle.pq_cli.specs.Reading.{ReadsBytes, IsRead};
 
     type Value = Whole;

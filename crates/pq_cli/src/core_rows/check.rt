@@ -1,5 +1,5 @@
 // `check-core`: the test of a core on a matrix.
-ghost use Rattle.commands.specs.Words.{CheckCore, IsExtended};
+ghost use Rattle.command_input.specs.Words.{CheckCore, IsExtended};
 ghost use Rattle.pq_cli.specs.Runs.{RunsCommand};
 
 use crate::core_rows::text_file::TextFile;

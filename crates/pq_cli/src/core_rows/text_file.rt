@@ -11,7 +11,7 @@ use std::alloc::Global;
 pub struct TextFile;
 
 impl FileForm for TextFile {
-    ghost use Rattle.commands.specs.declared.TheConstants.{MAX_CORE_BYTES};
+    ghost use Rattle.verdict_replies.specs.declared.TheConstants.{MAX_CORE_BYTES};
     ghost use Rattle.pq_cli.specs.Reading.{ReadsBytes, IsRead};
 
     type Value = Whole;

@@ -16,7 +16,7 @@ pub struct InstanceFile {
 
 impl FileForm for InstanceFile {
     ghost use Rattle.row_model.specs.declared.TheConstants.{MAX_FILE_BYTES};
-    ghost use Rattle.commands.specs.Instances.{ReadsInstance, HoldsInstance};
+    ghost use Rattle.command_input.specs.Instances.{ReadsInstance, HoldsInstance};
 
     type Value = Instance;
 

@@ -21,7 +21,7 @@ pub struct TreeFile {
 
 impl FileForm for TreeFile {
     ghost use Rattle.row_model.specs.declared.TheConstants.{MAX_FILE_BYTES};
-    ghost use Rattle.commands.specs.TreeFiles.{ReadsTree, HoldsTree};
+    ghost use Rattle.command_input.specs.TreeFiles.{ReadsTree, HoldsTree};
 
     type Value = PqTree;
 

@@ -1,28 +1,17 @@
 // The first three lines of a verdict: its version, its kind and its columns.
-ghost use Rattle.std.specs.Prelude.{◌≡◌, option_map, IfOk};
+ghost use Rattle.std.specs.Prelude.{◌≡◌, IfOk};
 ghost use Rattle.plain_text.specs.Rest.{with_rest};
-ghost use Rattle.verdict_text.specs.Grammar.{side_count, AreColumnCounts, IsColumnCount};
-ghost use Rattle.verdict_text.specs.Reading.{version_at, kind_from, kind_at, column_count_at, kind_columns_at, head_at};
-ghost use Rattle.verdict_text.specs.Seen.{Gives, columns_seen, head_seen};
+ghost use Rattle.verdict_text.specs.Grammar.{side_count, AreColumnCounts};
+ghost use Rattle.verdict_text.specs.Reading.{version_at, kind_columns_at, head_at};
+ghost use Rattle.text_parts.specs.Seen.{Gives};
+ghost use Rattle.verdict_text.specs.Seen.{columns_seen, head_seen};
 ghost use Rattle.verdict_text.specs.Value.{column_counts};
 
-use super::{Stop, after};
 use crate::verdict::{Columns, Version};
-use crate::write::{line_of, word_of};
-use plain_text::{after_word, number};
-use row_model::{Kind, MAX_COLUMNS};
-
-const KINDS: [Kind; 9] = [
-    Kind::Matrix,
-    Kind::Rows,
-    Kind::Table,
-    Kind::Circular,
-    Kind::Convex,
-    Kind::Doubly,
-    Kind::Proper,
-    Kind::Robinson,
-    Kind::Clones,
-];
+use crate::write::line_of;
+use plain_text::after_word;
+use row_model::Kind;
+use text_parts::{Stop, after, read_column_count, read_kind};
 
 #[tactic(auto, unfolding(crate::specs::Reading::head_at))]
 pub fn read_head(bytes: &[u8]) -> Result<(Version, Kind, Columns, &[u8]), Stop>
@@ -51,28 +40,6 @@ fn read_version(bytes: &[u8]) -> Result<(Version, &[u8]), Stop>
     }
 }
 
-#[tactic(auto, unfolding(crate::specs::Reading::kind_at))]
-fn read_kind(bytes: &[u8]) -> Result<(Kind, &[u8]), Stop>
-    ensures { Gives with_rest result (kind_at bytes.now) }
-{
-    match kind_among(bytes, &KINDS) {
-        None => Err(Stop::Outside),
-        Some(x) => Ok(x),
-    }
-}
-
-// The first of some kinds whose word stands at the front.
-fn kind_among<'a>(bytes: &'a [u8], kinds: &[Kind]) -> Option<(Kind, &'a [u8])>
-    ensures { option_map with_rest result ≡ kind_from kinds.now bytes.now }
-{
-    for kind in kinds {
-        if let Some(rest) = after_word(bytes, word_of(*kind)) {
-            return Some((*kind, rest));
-        }
-    }
-    None
-}
-
 #[tactic(auto, unfolding(crate::specs::Reading::kind_columns_at, crate::specs::Reading::columns_at))]
 fn read_columns(kind: Kind, bytes: &[u8]) -> Result<(Columns, &[u8]), Stop>
     ensures value { Gives columns_seen result (kind_columns_at kind bytes.now) }
@@ -94,24 +61,6 @@ fn read_columns(kind: Kind, bytes: &[u8]) -> Result<(Columns, &[u8]), Stop>
         | Kind::Clones => {
             let (c, rest) = read_column_count(bytes)?;
             Ok((Columns::One(c), rest))
-        }
-    }
-}
-
-// A number of columns, after a space.
-#[tactic(auto, unfolding(crate::specs::Reading::column_count_at))]
-fn read_column_count(bytes: &[u8]) -> Result<(u32, &[u8]), Stop>
-    ensures value { Gives with_rest result (column_count_at bytes.now) }
-    ensures columns { IfOk result (λ x. IsColumnCount x.0) }
-{
-    let space = after(bytes, b" ")?;
-    match number(space, u64::from(MAX_COLUMNS)) {
-        None => Err(Stop::Outside),
-        Some((c, rest)) => {
-            if c == 0 {
-                return Err(Stop::Outside);
-            }
-            Ok((c as u32, rest))
         }
     }
 }

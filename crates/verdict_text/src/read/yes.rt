@@ -2,17 +2,20 @@
 ghost use Rattle.std.specs.Prelude.{◌≡◌, ◌≤◌, length, codes};
 ghost use Rattle.plain_text.specs.Rest.{with_rest};
 ghost use Rattle.verdict_text.specs.Grammar.{AreColumnCounts};
-ghost use Rattle.verdict_text.specs.Numbered.{numbered_at};
-ghost use Rattle.verdict_text.specs.Reading.{yes_at, side_at, tree_at, line_len, numbers_at, added_at, placed_at, interval_at, counted_at, place_at, where_at, contig_at, ends_at};
-ghost use Rattle.verdict_text.specs.Seen.{Gives, yes_seen, side_seen, tree_seen, numbers_seen, added_seen};
+ghost use Rattle.text_parts.specs.Numbered.{numbered_at};
+ghost use Rattle.verdict_text.specs.Reading.{yes_at, side_at, tree_at, line_len, added_at, placed_at, interval_at, place_at, where_at, contig_at, ends_at};
+ghost use Rattle.text_parts.specs.Reading.{counted_at};
+ghost use Rattle.text_parts.specs.Seen.{Gives};
+ghost use Rattle.verdict_text.specs.Seen.{yes_seen, side_seen, tree_seen, added_seen};
 ghost use Rattle.verdict_text.specs.Value.{column_counts};
 
-use super::{Stop, after, after_index, read_end, read_number, room};
+use super::{after_index, read_end};
 use crate::verdict::{Added, Columns, Side, Sides, YesPart};
 use plain_text::after_word;
 use pq_tree::PqTree;
 use row_model::{COLUMN_BOUND, Interval, Intervals, Kind, Place, Places, Span, Spans};
 use std::alloc::Global;
+use text_parts::{Stop, after, read_number, read_numbers, room};
 
 // The fewest bytes of a line of each kind.
 const LEAST_INTERVAL: usize = 15;
@@ -86,20 +89,6 @@ fn line_length(bytes: &[u8]) -> usize
         }
     }
     bytes.len()
-}
-
-// The numbers at the front, each after a space.
-fn read_numbers(alloc: Global, bytes: &[u8]) -> Result<(Vec<u32>, &[u8]), Stop>
-    ensures { Gives numbers_seen result (numbers_at (length bytes.now) bytes.now) }
-{
-    let mut numbers = Vec::new(alloc);
-    let mut rest = bytes;
-    'numbers: while let Some(space) = after_word(rest, b" ") {
-        let (n, after) = read_number(space)?;
-        numbers.push(n)?;
-        rest = after;
-    }
-    Ok((numbers, rest))
 }
 
 // What a kind with one side of c columns adds.
@@ -176,7 +165,7 @@ fn read_placed(alloc: Global, bytes: &[u8]) -> Result<(Added, &[u8]), Stop>
     Ok((added, rest))
 }
 
-#[tactic(auto, unfolding(crate::specs::Reading::counted_at))]
+#[tactic(auto, unfolding(text_parts::specs::Reading::counted_at))]
 fn read_places(alloc: Global, bytes: &[u8]) -> Result<(Places, &[u8]), Stop>
     ensures { Gives with_rest result (counted_at (codes "places ") place_at bytes.now) }
 {
@@ -220,7 +209,7 @@ fn read_where(bytes: &[u8]) -> Result<(Place, &[u8]), Stop>
     }
 }
 
-#[tactic(auto, unfolding(crate::specs::Reading::counted_at))]
+#[tactic(auto, unfolding(text_parts::specs::Reading::counted_at))]
 fn read_contigs(alloc: Global, bytes: &[u8]) -> Result<(Spans, &[u8]), Stop>
     ensures { Gives with_rest result (counted_at (codes "contigs ") contig_at bytes.now) }
 {

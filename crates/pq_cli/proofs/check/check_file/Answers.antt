@@ -1,10 +1,10 @@
 use Rattle.std.proofs.Common.{[], ◌∷◌, refl, sym, ap, arith}
 use Rattle.instance_model.specs.Value.{instance_value}
-use Rattle.commands.specs.Words.{Check}
-use Rattle.commands.specs.Instances.{ReadsInstance, HoldsInstance}
+use Rattle.command_input.specs.Words.{Check}
+use Rattle.command_input.specs.Instances.{ReadsInstance, HoldsInstance}
 use Rattle.pq_cli.specs.Reading.{ReadsBytes, IsRead}
 use Rattle.reply_laws.specs.Replies.{refused_at, Replies}
-use Rattle.commands.specs.declared.TheConstants.{MAX_VERDICT_BYTES}
+use Rattle.verdict_replies.specs.declared.TheConstants.{MAX_VERDICT_BYTES}
 use Rattle.pq_cli.proofs.Frame.{first_stops, second_stops, memory_after_two, reply_after_two}
 use Rattle.pq_cli.proofs.check.check_file.Goals as goal
 

@@ -1,5 +1,5 @@
 use Rattle.std.proofs.Common.{refl, inl}
-use Rattle.commands.specs.Words.{Gen}
+use Rattle.command_input.specs.Words.{Gen}
 use Rattle.reply_laws.specs.Replies.{Replies}
 use Rattle.pq_cli.proofs.Frame.{reply_alone}
 use Rattle.pq_cli.proofs.command.perform.Goals as goal

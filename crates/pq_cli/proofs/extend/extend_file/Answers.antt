@@ -1,7 +1,7 @@
 use Rattle.std.proofs.Common.{ℕ, [], ◌∷◌, refl, sym, ap, arith}
 use Rattle.instance_model.specs.Value.{instance_value}
-use Rattle.commands.specs.Words.{Extend}
-use Rattle.commands.specs.Instances.{ReadsInstance, HoldsInstance}
+use Rattle.command_input.specs.Words.{Extend}
+use Rattle.command_input.specs.Instances.{ReadsInstance, HoldsInstance}
 use Rattle.pq_cli.specs.Further.{ReadsFurther, HoldsFurther}
 use Rattle.reply_laws.specs.Replies.{refused_at, Replies}
 use Rattle.pq_cli.proofs.Frame.{first_stops, second_stops, memory_after_two, reply_after_two}

@@ -1,7 +1,7 @@
 use Rattle.std.proofs.Common.{◌≡◌, ℕ, [], ◌∷◌, ◌∙◌, refl, sym, ap, subst, arith}
 use Rattle.pq_tree.specs.PqTree.{column_count, outline}
-use Rattle.commands.specs.Words.{Meet}
-use Rattle.commands.specs.TreeFiles.{tree_file, ReadsTree, HoldsTree}
+use Rattle.command_input.specs.Words.{Meet}
+use Rattle.command_input.specs.TreeFiles.{tree_file, ReadsTree, HoldsTree}
 use Rattle.commands.specs.Meetings.{IsMeetingReply}
 use Rattle.reply_laws.specs.Replies.{refused_at, refused_of_two, Replies}
 use Rattle.pq_cli.proofs.Frame.{first_stops, second_stops, memory_after_two, reply_after_two}

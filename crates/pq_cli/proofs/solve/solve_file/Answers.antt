@@ -1,7 +1,7 @@
 use Rattle.std.proofs.Common.{[], refl, sym, ap, arith}
 use Rattle.instance_model.specs.Value.{instance_value}
-use Rattle.commands.specs.Words.{Solve}
-use Rattle.commands.specs.Instances.{ReadsInstance, HoldsInstance}
+use Rattle.command_input.specs.Words.{Solve}
+use Rattle.command_input.specs.Instances.{ReadsInstance, HoldsInstance}
 use Rattle.reply_laws.specs.Replies.{refused_at, Replies}
 use Rattle.pq_cli.proofs.Frame.{first_stops, memory_after_one, reply_after_one}
 use Rattle.pq_cli.proofs.solve.solve_file.Goals as goal

@@ -1,6 +1,6 @@
 use Rattle.std.proofs.lemmas.Result.{err_from_is_err_and}
-use Rattle.commands.specs.Words.{texts, command_of}
-use Rattle.commands.specs.Task.{command_seen}
+use Rattle.command_input.specs.Words.{texts, command_of}
+use Rattle.command_input.specs.Task.{command_seen}
 use Rattle.pq_cli.proofs.Lines.{line_of_stop}
 use Rattle.pq_cli.proofs.top.decide.Goals as goal
 

@@ -1,4 +1,4 @@
-use Rattle.commands.specs.Words.{texts, command_of}
+use Rattle.command_input.specs.Words.{texts, command_of}
 use Rattle.pq_cli.specs.Stops.{failure_status}
 use Rattle.pq_cli.proofs.Promises.{reply_low, failure_low, complete, promise}
 use Rattle.pq_cli.proofs.top.run.Goals as goal

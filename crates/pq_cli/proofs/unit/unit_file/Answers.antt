@@ -1,8 +1,8 @@
 use Rattle.std.proofs.Common.{◌∙◌, [], refl, sym, ap, arith}
 use Rattle.row_model.specs.declared.kind.Kind.TheVariants.{Proper}
 use Rattle.row_model.specs.declared.refusal.Read.TheVariants as read
-use Rattle.commands.specs.Words.{UnitModel}
-use Rattle.commands.specs.Instances.{ReadsInstance, HoldsInstance}
+use Rattle.command_input.specs.Words.{UnitModel}
+use Rattle.command_input.specs.Instances.{ReadsInstance, HoldsInstance}
 use Rattle.reply_laws.specs.Replies.{refused_at, Replies}
 use Rattle.pq_cli.proofs.Frame.{first_stops, memory_after_one, reply_after_one}
 use Rattle.pq_cli.proofs.unit.unit_file.Goals as goal

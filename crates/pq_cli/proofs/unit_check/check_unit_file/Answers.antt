@@ -1,11 +1,11 @@
 use Rattle.std.proofs.Common.{◌∙◌, [], ◌∷◌, refl, sym, ap, arith}
 use Rattle.row_model.specs.declared.kind.Kind.TheVariants.{Proper}
 use Rattle.row_model.specs.declared.refusal.Read.TheVariants as read
-use Rattle.commands.specs.Words.{CheckUnit}
-use Rattle.commands.specs.Instances.{ReadsInstance, HoldsInstance}
+use Rattle.command_input.specs.Words.{CheckUnit}
+use Rattle.command_input.specs.Instances.{ReadsInstance, HoldsInstance}
 use Rattle.pq_cli.specs.Reading.{ReadsBytes, IsRead}
 use Rattle.reply_laws.specs.Replies.{refused_at, Replies}
-use Rattle.commands.specs.declared.TheConstants.{MAX_VERDICT_BYTES}
+use Rattle.verdict_replies.specs.declared.TheConstants.{MAX_VERDICT_BYTES}
 use Rattle.pq_cli.proofs.Frame.{first_stops, second_stops, memory_after_two, reply_after_two}
 use Rattle.pq_cli.proofs.unit_check.check_unit_file.Goals as goal
 

@@ -1,7 +1,6 @@
-use Rattle.std.proofs.Common.{◌≡◌, ◌∙◌, length, ap, sym, arith}
+use Rattle.std.proofs.Common.{length, ap, arith}
 use Rattle.row_core.proofs.Marks.{few_marked}
 use Rattle.row_core.proofs.Whole.{blamed_marked}
-use Rattle.row_core.specs.Blamed.{marked_from, AreMarked}
 use Rattle.row_core.proofs.blamed.blame.Goals as goal
 
 pub returns-clause-blamed : goal.returns-clause-blamed

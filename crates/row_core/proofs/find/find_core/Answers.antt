@@ -1,7 +1,7 @@
-use Rattle.std.proofs.Common.{◌≡◌, ◌∙◌, length, subst, sym, ap}
+use Rattle.std.proofs.Common.{◌≡◌, ◌∙◌, length, subst, sym}
 use Rattle.std.specs.List.{range_with_len}
 use Rattle.row_model.specs.Cycles.{IsOddCycle}
-use Rattle.row_core.specs.Cores.{AreRowNumbers, rows_at}
+use Rattle.core_text.specs.Cores.{AreRowNumbers, rows_at}
 use Rattle.row_core.proofs.Numbers.{ascends_all, rows_at_all}
 use Rattle.row_core.proofs.Whole.{reasons_within}
 use Rattle.row_core.proofs.find.find_core.Goals as goal

@@ -1,6 +1,5 @@
-use Rattle.std.proofs.Common.{◌≡◌, ◌∙◌, ◌+◌, ◌<◌, ◌++◌, length, take, drop, subst, sym, ap, arith}
-use Rattle.row_core.specs.Cores.{AreRowNumbers}
-use Rattle.row_core.specs.Judges.{IsTreeOfOrders}
+use Rattle.std.proofs.Common.{◌≡◌, ◌∙◌, ◌+◌, ◌<◌, ◌++◌, length, take, drop, ap, arith}
+use Rattle.row_judge.specs.Judges.{IsTreeOfOrders}
 use Rattle.row_core.specs.Blamed.{part_at}
 use Rattle.row_core.proofs.Numbers.{ascends_without}
 use Rattle.row_core.proofs.Told.{orders_more}

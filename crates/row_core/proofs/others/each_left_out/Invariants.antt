@@ -1,5 +1,5 @@
 use Rattle.std.proofs.Common.{◌≡◌, ◌<◌, ℕ, [], length, get_or}
-use Rattle.row_core.specs.Told.{IsOrderWithout}
+use Rattle.core_text.specs.Told.{IsOrderWithout}
 use Rattle.row_core.proofs.others.each_left_out.Given as goal
 
 abbrev pub invariant-loop-i : goal.invariant-loop-i

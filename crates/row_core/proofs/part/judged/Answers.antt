@@ -1,8 +1,3 @@
-use Rattle.std.proofs.Common.{◌≡◌, length, ap, sym, subst}
-use Rattle.row_model.specs.Rows.{RowList}
-use Rattle.row_model.specs.Cycles.{IsOddCycle}
-use Rattle.row_core.specs.Cores.{rows_at}
-use Rattle.row_core.specs.Blamed.{part_at}
 use Rattle.row_core.proofs.Whole.{reasons_within}
 use Rattle.row_core.proofs.part.judged.Goals as goal
 

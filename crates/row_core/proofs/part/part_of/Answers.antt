@@ -1,8 +1,6 @@
-use Rattle.std.proofs.Common.{◌≡◌, ◌∙◌, ◌+◌, ◌∷◌, [], ◌++◌, length, map, get_or, take, ap, sym, arith}
-use Rattle.std.proofs.lemmas.List.{length-map, map_more, length-take-le, take_all}
-use Rattle.std.proofs.lemmas.Option.{get_or_from_slice_get}
+use Rattle.std.proofs.Common.{length, take, ap, arith}
+use Rattle.std.proofs.lemmas.List.{length-map, length-take-le}
 use Rattle.row_model.specs.Graph.{row_at}
-use Rattle.row_model.specs.Rows.{RowList}
 use Rattle.row_model.proofs.Ascending.{ascends_few}
 use Rattle.row_core.proofs.Numbers.{within_at}
 use Rattle.row_core.proofs.Parts.{part_more}

@@ -1,4 +1,4 @@
-use Rattle.std.proofs.Common.{◌≡◌, ◌∙◌, ◌+◌, ◌-◌, ◌*◌, ◌<◌, ◌≤◌, ◌++◌, length, take, drop, ap, sym, subst, arith}
+use Rattle.std.proofs.Common.{◌∙◌, ◌+◌, ◌≤◌, ◌++◌, length, take, drop, ap, sym, subst, arith}
 use Rattle.row_core.proofs.Numbers.{ascends_without, length-without}
 use Rattle.row_core.proofs.Told.{lexical, lexical_second}
 use Rattle.row_core.specs.Blamed.{IsBlamed}

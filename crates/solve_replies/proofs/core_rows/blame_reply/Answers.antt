@@ -1,9 +1,10 @@
 use Rattle.std.proofs.Common.{◌≡◌, ◌∙◌, refl, sym, ap, subst, inl, inr}
 use Rattle.instance_model.specs.Instance.{plain, IsInstance}
 use Rattle.instance_model.specs.Value.{instance_value}
-use Rattle.row_core.specs.Told.{TellsCore, IsCored}
-use Rattle.row_core.specs.Texts.{TextValue}
-use Rattle.commands.specs.Cores.{IsCoreText}
+use Rattle.core_text.specs.Told.{TellsCore}
+use Rattle.row_core.specs.Cored.{IsCored}
+use Rattle.core_text.specs.Texts.{TextValue}
+use Rattle.verdict_replies.specs.Cores.{IsCoreText}
 use Rattle.solve_replies.proofs.Cores.{plain_of}
 use Rattle.solve_replies.proofs.core_rows.blame_reply.Goals as goal
 

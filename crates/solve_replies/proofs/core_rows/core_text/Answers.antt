@@ -1,6 +1,6 @@
 use Rattle.std.proofs.Common.{◌≡◌, ◌∙◌, ◌++◌, ◌≤◌, ap, subst}
-use Rattle.row_core.specs.Texts.{TextValue, core_text}
-use Rattle.commands.specs.Cores.{core_value}
+use Rattle.core_text.specs.Texts.{TextValue, core_text}
+use Rattle.verdict_replies.specs.Cores.{core_value}
 use Rattle.solve_replies.proofs.core_rows.core_text.Goals as goal
 
 pub returns : goal.returns

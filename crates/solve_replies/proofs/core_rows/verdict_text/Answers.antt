@@ -1,5 +1,5 @@
 use Rattle.std.proofs.Common.{subst}
-use Rattle.commands.specs.Verdicts.{IsVerdictReply}
+use Rattle.verdict_replies.specs.Verdicts.{IsVerdictReply}
 use Rattle.solve_replies.proofs.Cores.{yes_reply}
 use Rattle.solve_replies.proofs.core_rows.verdict_text.Goals as goal
 

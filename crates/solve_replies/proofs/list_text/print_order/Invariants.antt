@@ -1,5 +1,5 @@
 use Rattle.std.proofs.Common.{◌≡◌, ◌++◌, take, flat_map}
-use Rattle.verdict_text.specs.Text.{number_word}
+use Rattle.text_parts.specs.Text.{number_word}
 use Rattle.solve_replies.proofs.list_text.print_order.Given as goal
 
 abbrev pub invariant-loop-column : goal.invariant-loop-column

@@ -2,7 +2,7 @@ use Rattle.std.proofs.Common.{length, subst, ap, arith}
 use Rattle.row_model.specs.Rows.{RowList}
 use Rattle.pq_tree.specs.Proper.{IsProper}
 use Rattle.pq_tree.specs.PqTree.{column_count, outline}
-use Rattle.row_core.specs.Judges.{IsJudged}
+use Rattle.row_judge.specs.Judges.{IsJudged}
 use Rattle.tree_meet.proofs.Few.{rows_few}
 use Rattle.tree_meet.proofs.Joint.{met_tree, met_apart, joined_columns, joined_rows}
 use Rattle.tree_meet.proofs.common.meet.Goals as goal

@@ -1,6 +1,6 @@
 use Rattle.std.proofs.Common.{◌↔◌, drop}
 use Rattle.row_model.specs.Rows.{Ascends}
-use Rattle.row_core.specs.Cores.{AreRowNumbers}
+use Rattle.core_text.specs.Cores.{AreRowNumbers}
 use Rattle.verdict_check.proofs.core_check.are_row_numbers.Given as goal
 
 -- the numbers are right where those that are left are

@@ -1,5 +1,5 @@
 use Rattle.verdict_text.specs.Text.{verdict_text}
-use Rattle.verdict_text.proofs.PrintLaws.{joined}
+use Rattle.text_parts.proofs.PrintLaws.{joined}
 use Rattle.verdict_text.proofs.write.print.Goals as goal
 
 pub returns-clause-ok : goal.returns-clause-ok

@@ -1,4 +1,4 @@
-use Rattle.verdict_text.proofs.PrintLaws.{on_err, extends_after}
+use Rattle.text_parts.proofs.PrintLaws.{on_err, extends_after}
 use Rattle.verdict_text.proofs.write.push_contig_lines.Goals as goal
 
 pub returns-in_err-push_contig-clause-err : goal.returns-in_err-push_contig-clause-err

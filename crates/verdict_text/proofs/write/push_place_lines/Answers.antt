@@ -1,6 +1,6 @@
 use Rattle.std.proofs.Common.{refl}
 use Rattle.verdict_text.specs.Text.{place_line}
-use Rattle.verdict_text.proofs.PrintLaws.{numbered_more, on_err, extends_after}
+use Rattle.text_parts.proofs.PrintLaws.{numbered_more, on_err, extends_after}
 use Rattle.verdict_text.proofs.write.push_place_lines.Goals as goal
 
 pub loop-i-preserved : goal.loop-i-preserved

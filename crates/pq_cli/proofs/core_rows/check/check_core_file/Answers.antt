@@ -1,10 +1,10 @@
 use Rattle.std.proofs.Common.{[], ◌∷◌, ◌∙◌, refl, sym, ap, arith}
 use Rattle.row_model.specs.declared.refusal.Read.TheVariants as read
-use Rattle.commands.specs.Words.{CheckCore}
-use Rattle.commands.specs.Instances.{ReadsInstance, HoldsInstance}
+use Rattle.command_input.specs.Words.{CheckCore}
+use Rattle.command_input.specs.Instances.{ReadsInstance, HoldsInstance}
 use Rattle.pq_cli.specs.Reading.{ReadsBytes, IsRead}
 use Rattle.reply_laws.specs.Replies.{refused_at, Replies}
-use Rattle.commands.specs.declared.TheConstants.{MAX_CORE_BYTES}
+use Rattle.verdict_replies.specs.declared.TheConstants.{MAX_CORE_BYTES}
 use Rattle.pq_cli.proofs.Frame.{first_stops, second_stops, memory_after_two, reply_after_two}
 use Rattle.pq_cli.proofs.core_rows.check.check_core_file.Goals as goal
 

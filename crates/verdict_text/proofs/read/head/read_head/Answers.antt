@@ -1,7 +1,7 @@
 use Rattle.std.proofs.Common.{refl}
 use Rattle.std.proofs.lemmas.Result.{err_from_is_err_and}
 use Rattle.verdict_text.specs.Reading.{head_at}
-use Rattle.verdict_text.proofs.LoopLaws.{stops}
+use Rattle.text_parts.proofs.LoopLaws.{stops}
 use Rattle.verdict_text.proofs.read.head.read_head.Goals as goal
 
 pub returns-clause-value : goal.returns-clause-value

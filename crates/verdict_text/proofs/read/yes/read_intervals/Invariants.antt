@@ -1,7 +1,7 @@
 use Rattle.std.proofs.Common.{◌≡◌, ◌-◌, ◌+◌}
-use Rattle.verdict_text.specs.Numbered.{numbered_at}
+use Rattle.text_parts.specs.Numbered.{numbered_at}
 use Rattle.verdict_text.specs.Reading.{interval_at}
-use Rattle.verdict_text.proofs.LoopLaws.{before_items}
+use Rattle.text_parts.proofs.LoopLaws.{before_items}
 use Rattle.verdict_text.proofs.read.yes.read_intervals.Given as goal
 
 abbrev pub invariant-lines : goal.invariant-lines

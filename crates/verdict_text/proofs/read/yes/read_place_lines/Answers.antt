@@ -2,7 +2,7 @@ use Rattle.std.proofs.Common.{arith}
 use Rattle.std.proofs.lemmas.Result.{err_from_is_err_and}
 use Rattle.verdict_text.specs.Reading.{place_at}
 use Rattle.verdict_text.proofs.AddedLaws.{places_none}
-use Rattle.verdict_text.proofs.LoopLaws.{stops, outside, numbered_step, numbered_stop, numbered_end}
+use Rattle.text_parts.proofs.LoopLaws.{stops, outside, numbered_step, numbered_stop, numbered_end}
 use Rattle.verdict_text.proofs.read.yes.read_place_lines.Goals as goal
 
 pub lines-preserved : goal.lines-preserved

@@ -1,0 +1,4 @@
+pub mod Words
+pub mod Task
+pub mod Instances
+pub mod TreeFiles

@@ -1,0 +1,26 @@
+// What is read of the file of an instance.
+ghost use Rattle.command_input.specs.Instances.{InstanceLaw, LongLaw, OnlyGraphLaw};
+
+use graph_read::edge_laws;
+use matrix_read::limits_law;
+
+/// Each instance in the bytes of a file is within the limits of files.
+pub fn instance_law()
+    ensures { InstanceLaw }
+{
+    limits_law();
+    edge_laws();
+}
+
+/// Bytes past the limit are refused, whatever the kind.
+pub fn long_law()
+    ensures { LongLaw }
+{
+    matrix_read::refusal_laws();
+    graph_read::refusal_laws();
+}
+
+/// An instance of the kind `proper` is a graph.
+pub fn graph_law()
+    ensures { OnlyGraphLaw }
+{}

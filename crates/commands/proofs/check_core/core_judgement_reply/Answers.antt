@@ -1,0 +1,17 @@
+use Rattle.std.proofs.Common.{◌∙◌, sym, ap}
+use Rattle.instance_model.specs.Instance.{plain, instance_kind}
+use Rattle.instance_model.specs.Value.{instance_value}
+use Rattle.commands.proofs.check_core.core_judgement_reply.Goals as goal
+
+pub returns-clause-reply : goal.returns-clause-reply
+returns-clause-reply c = λ bytes whole.
+    let is = ap instance_value c.in-Plain.is in (
+      c.in-Plain.m,
+      is ∙ ap (λ k. plain k c.in-Plain.m) (sym (ap instance_kind is) ∙ c.requires.of_kind),
+      record {
+        judgement = c.in_ok-judgement.judgement;
+        holds = c.in_ok-judgement.ensures bytes whole;
+        status_is = c.status.ensures;
+        text_is = rw c.into_bytes.ensures.value c.in_ok-text.ensures.ok;
+      },
+    )

@@ -1,0 +1,18 @@
+use Rattle.std.proofs.Common.{ap}
+use Rattle.instance_model.specs.Value.{instance_value}
+use Rattle.commands.proofs.check_unit.finding_reply.Goals as goal
+
+pub returns-clause-reply : goal.returns-clause-reply
+returns-clause-reply c = (
+  c.in-Proper.graph,
+  ap instance_value c.in-Proper.is,
+  λ bytes whole. record {
+    finding = c.in_ok-finding.finding;
+    holds = c.in_ok-finding.ensures bytes whole;
+    status_is = c.status.ensures;
+    text_is = rw c.into_bytes.ensures.value c.in_ok-text.ensures.ok;
+  },
+)
+
+pub unreachable-requires : goal.unreachable-requires
+unreachable-requires c = c.graph_law.ensures c.args.instance.now c.requires.within c.requires.kind c.in_default.not-Proper

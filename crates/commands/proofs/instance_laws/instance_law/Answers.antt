@@ -1,5 +1,0 @@
-use Rattle.commands.proofs.Reading.{instance_read}
-use Rattle.commands.proofs.instance_laws.instance_law.Goals as goal
-
-pub returns : goal.returns
-returns c = let edges = c.edge_laws.ensures in instance_read c.limits_law.ensures edges.bigraph edges.graph edges.distances

@@ -1,5 +1,0 @@
-use Rattle.commands.proofs.CoreSizes.{grammar_law}
-use Rattle.commands.proofs.verdict_laws.core_grammar_law.Goals as goal
-
-pub returns : goal.returns
-returns c = grammar_law c.cycle_length_law.ensures

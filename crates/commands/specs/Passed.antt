@@ -1,0 +1,23 @@
+-- A verdict that is true of an instance passes each test of a check.
+use Rattle.std.specs.Prelude.{ℕ, List, slice_get, IsSomeAnd}
+use Rattle.verdict_text.specs.Verdict.{YesValue}
+use Rattle.instance_model.specs.Instance.{InstanceValue, IsInstance, IsWellFormed}
+use Rattle.verdict_check.specs.Accepted.{IsAccepted}
+use Rattle.verdict_check.specs.Truth.{IsTrueAdded}
+use Rattle.commands.specs.Judgements.{HasVerdict}
+use Rattle.verdict_replies.specs.Verdicts.{ShowsSides, AddsToOrder, IsVerdictReply}
+
+-- what such a verdict adds to the order of its first side is true of the instance
+abbrev pub AddedLaw : Type 0
+AddedLaw =
+    (i : InstanceValue) (value : YesValue) → IsInstance i → IsWellFormed i →
+    ShowsSides i value.sides →
+    IsSomeAnd (slice_get value.sides 0) (λ side. AddsToOrder i side.order value.added) →
+    IsTrueAdded i value
+
+-- the text of a reply is that of a verdict that passes each test, within the limit of bytes
+abbrev pub PassedLaw : Type 0
+PassedLaw =
+    (i : InstanceValue) (status : ℕ) (text : List ℕ) → IsInstance i → IsWellFormed i →
+    IsVerdictReply i status text →
+    HasVerdict text (IsAccepted i)

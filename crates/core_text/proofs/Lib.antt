@@ -1,0 +1,5 @@
+pub mod Masked
+pub mod OrderLemmas
+pub mod EntryLaws
+pub mod CoreLaws
+pub mod PrintLaws

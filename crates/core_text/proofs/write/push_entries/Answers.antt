@@ -1,0 +1,12 @@
+use Rattle.std.proofs.Common.{◌≡◌, ◌∙◌, length, ap, sym, arith}
+use Rattle.core_text.proofs.PrintLaws.{counted_entries}
+use Rattle.core_text.proofs.write.push_entries.Goals as goal
+
+pub returns-clause-ok : goal.returns-clause-ok
+returns-clause-ok c =
+    let p = c.args.t.now.parts in
+    let rows : c.t.inside.rows.items ≡ p.rows = ap (λ v. v.parts.rows) c.t.view_is in
+    let orders : c.t.inside.orders ≡ p.orders = ap (λ v. v.parts.orders) c.t.view_is in
+    let each : length p.orders ≡ length p.rows = sym (ap length orders) ∙ c.t.invariant ∙ ap length rows in
+    let count : c.len.result ≡ length p.rows = omega (arith, c.len.ensures, ap length rows, c.t.inside.rows.ok.0) in
+    counted_entries _ _ _ _ p.rows p.orders c.len.result each count c.in_ok-push_number.ensures.ok c.in_ok-push.ensures.ok c.in_ok-push_each_entry.ensures.ok

@@ -1,0 +1,11 @@
+use Rattle.std.proofs.Common.{◌≡◌, ◌∙◌, ap}
+use Rattle.text_parts.specs.Text.{kind_word}
+use Rattle.core_text.proofs.PrintLaws.{five}
+use Rattle.core_text.proofs.write.push_head.Goals as goal
+
+pub returns-clause-ok : goal.returns-clause-ok
+returns-clause-ok c =
+    let word : c.word_of.result.now ≡ kind_word c.args.t.now.kind = c.word_of.ensures ∙ ap (λ v. kind_word v.kind) c.t.view_is in
+    let columns : c.t.inside.columns ≡ c.args.t.now.columns = ap (λ v. v.columns) c.t.view_is in
+    let number : c.from.result ≡ c.args.t.now.columns = c.from.ensures ∙ columns in
+    five _ _ _ _ _ _ _ _ _ _ _ c.in_ok-push.ensures.ok (rw word at c.in_ok-push-2.ensures.ok) c.in_ok-push-3.ensures.ok (rw number at c.in_ok-push_word.ensures.ok) c.in_ok-push-4.ensures.ok

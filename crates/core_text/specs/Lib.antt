@@ -1,0 +1,10 @@
+pub mod Cores
+pub mod Parts
+pub mod Told
+pub mod Laws
+pub mod Orders
+pub mod Kept
+pub mod Texts
+pub mod KeptText
+pub mod Reading
+pub mod Seen

@@ -1,0 +1,12 @@
+-- What a search for a core finds.
+use Rattle.column_order.specs.Orders.{HasValidOrder}
+use Rattle.row_model.specs.Rows.{RowList}
+use Rattle.row_judge.specs.Judges.{IsTreeOfOrders}
+use Rattle.row_core.specs.declared.find.Cored.{Cored}
+use Rattle.row_core.specs.declared.find.Cored.TheVariants as cored
+use Rattle.core_text.specs.Told.{TellsCore}
+
+-- the tree of all valid orders, where there is one, and else a core
+abbrev pub IsCored : RowList → Cored → Type 0
+IsCored m (cored.Has t) = IsTreeOfOrders m t × HasValidOrder m.columns m.rows
+IsCored m (cored.Core core) = TellsCore m core × (HasValidOrder m.columns m.rows → ⊥)

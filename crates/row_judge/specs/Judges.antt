@@ -1,0 +1,22 @@
+-- What a judge's answer says of a matrix.
+use Rattle.std.specs.Prelude.{◌≡◌, ◌↔◌, ℕ, List}
+use Rattle.column_order.specs.Orders.{IsValidOrder, HasValidOrder}
+use Rattle.row_model.specs.Rows.{RowList}
+use Rattle.row_model.specs.Cycles.{IsOddCycle}
+use Rattle.pq_tree.specs.Outline.{IsFrontier}
+use Rattle.pq_tree.specs.Canonical.{IsCanonical}
+use Rattle.pq_tree.specs.PqTree.{column_count, outline}
+use Rattle.pq_tree.specs.declared.PqTree.{PqTree}
+use Rattle.row_judge.specs.declared.Judged.{Judged}
+use Rattle.row_judge.specs.declared.Judged.TheVariants.{Yes, No}
+
+-- the tree is canonical, and its frontiers are exactly the valid orders of the matrix
+pub record IsTreeOfOrders (m : RowList) (t : PqTree) : Type 0 where
+  pub columns : column_count t ≡ m.columns
+  pub canonical : IsCanonical (outline t)
+  pub orders : (o : List ℕ) → IsFrontier (outline t) o ↔ IsValidOrder m.columns m.rows o
+
+-- yes with the tree of all valid orders, of which there is one, or no with an odd cycle, where there is no valid order
+abbrev pub IsJudged : RowList → Judged → Type 0
+IsJudged m (Yes t) = IsTreeOfOrders m t × HasValidOrder m.columns m.rows
+IsJudged m (No cycle) = IsOddCycle m.columns m.rows cycle × (HasValidOrder m.columns m.rows → ⊥)

@@ -1,0 +1,9 @@
+pub mod PrintLaws
+pub mod Chains
+pub mod NumberedLaws
+pub mod LoopLaws
+pub mod KindLaws
+pub mod NumberLoop
+pub mod WordLaws
+pub mod CountLaws
+pub mod LineLaws

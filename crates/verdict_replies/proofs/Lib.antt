@@ -1,0 +1,10 @@
+pub mod Sizes
+pub mod PlainKinds
+pub mod Shown
+pub mod Lengths
+pub mod AddedIntervals
+pub mod AddedFits
+pub mod Fits
+pub mod Short
+pub mod NoOrders
+pub mod CoreSizes
