@@ -535,6 +535,24 @@ def as_a_module():
     return None if (json.loads(printed.stdout), status) == (value, 2) and value["order"][0] == "Grave 3" else f"{value} {status} {printed}"
 
 
+def one_version():
+    """The version stands in one file, and the companion, the line to cite and the changes tell the same."""
+    version = read_text("VERSION").strip()
+    told = [called_version(), re.search(r"^version: (.*)$", read_text("CITATION.cff"), re.M)[1], re.search(r"^## (.*)$", read_text("CHANGELOG.md"), re.M)[1]]
+    return None if told == [version] * 3 else f"{version} {told}"
+
+
+def called_version():
+    """What `pqpage --version` prints."""
+    return run(["--version"]).stdout.decode().strip()
+
+
+def read_text(name):
+    """The text of a file of the repository."""
+    with open(os.path.join(HOME, name), encoding="utf-8") as stream:
+        return stream.read()
+
+
 # --- with other programs, where they are there ---
 
 R_TRIAL = """source("{folder}/pq.R")
@@ -623,7 +641,7 @@ def on_a_screen():
 
 def problems():
     """Each check with what is wrong, or None."""
-    for check in (dialects, refusals, wrong_words, warnings, reports, all_kinds, hostile_names, changed_bytes, faults, stopped, as_a_module, in_r, on_a_screen):
+    for check in (dialects, refusals, wrong_words, warnings, reports, all_kinds, hostile_names, changed_bytes, faults, stopped, as_a_module, one_version, in_r, on_a_screen):
         yield f"companion: {check.__doc__}", check()
 
 
