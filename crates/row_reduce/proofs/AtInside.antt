@@ -15,11 +15,10 @@ use Rattle.template_theory.specs.Chosen.{IsRootOfQ, root_q1, root_q2, root_q3}
 use Rattle.template_theory.specs.Refused.{IsRefused, IsUnfitRoot}
 use Rattle.template_theory.specs.Reduced.{IsRootMade, IsReduced}
 use Rattle.template_theory.specs.Laws.{RootTurnedLaw}
-use Rattle.arena_model.specs.Layout.{Layout, children_at, times_child, IsLayout, here, down}
+use Rattle.arena_model.specs.Layout.{Layout, children_at, IsLayout, here, down}
 use Rattle.arena_model.specs.NamedTree.{outline_below, outline_at}
-use Rattle.arena_model.proofs.Lists.{occurs_here, occurs_same}
+use Rattle.arena_model.proofs.Lists.{occurs_here}
 use Rattle.arena_model.proofs.Paths.{one_path, above_ends, at_once, by}
-use Rattle.arena_model.proofs.Slots.{children_times}
 use Rattle.arena_model.proofs.Outlines.{apart_children}
 use Rattle.pq_arena.specs.RowNodes.{column_leaves}
 use Rattle.bubble_pass.specs.declared.labels.Label.{Label as Mark}
@@ -50,34 +49,16 @@ use Rattle.row_reduce.proofs.Grounds.{is_empty, right_child, right_at, node_labe
 use Rattle.row_reduce.proofs.Pertinent.{root_is, node_below_it}
 use Rattle.row_reduce.proofs.AtRoot.{kids, kids_at, at_node, labels_up, outer_stands, exchanged}
 use Rattle.row_reduce.proofs.Ending.{replaced_whole}
+use Rattle.row_reduce.proofs.Kept.{once, another}
 
 whole : (xs : List ℕ) → take (length xs) xs ≡ xs
 whole [] = refl
 whole (x ∷ xs) = ap (λ z. x ∷ z) (whole xs)
 
-once : (f : Layout) (n k : ℕ) → IsLayout f → occurs (children_at f n) k ≤ 1
-once f n k h = let a : occurs (children_at f n) k ≤ times_child f.slots k = children_times f n k in let b : times_child f.slots k ≤ 1 = h.once k in omega arith
-
 -- where a child of the run stands among the children
 pub in_run : {f : Layout} {v : Marks} {row : List ℕ} (s : AtFoundInside f v row) (k : ℕ) →
     occurs (children_at f s.found.run.q) k ≡ occurs s.found.run.us k + occurs s.found.run.ks k + occurs s.found.run.vs k
 in_run s k = ap (λ z. occurs z k) s.found.run.kids_are ∙ omega (arith, occurs-append s.found.run.us (s.found.run.ks ++ s.found.run.vs) k, occurs-append s.found.run.ks s.found.run.vs k)
-
--- of two or more nodes that stand once, one is not k
-another : (ks : List ℕ) (k : ℕ) → 2 ≤ length ks → ((x : ℕ) → occurs ks x ≤ 1) → (j : ℕ) × (1 ≤ occurs ks j) × (j ≢ k)
-another [] k l one = absurd (omega arith)
-another (a ∷ []) k l one = absurd (omega arith)
-another (a ∷ b ∷ ks) k l one = elim (cases_eq a k) [
-  | inl e ↦ (
-    b,
-    (let o : 1 ≤ occurs (b ∷ ks) b = occurs_here b ks in omega arith),
-    λ q.
-        let z : occurs (a ∷ b ∷ ks) a ≤ 1 = one a in
-        let y : 1 ≤ occurs (b ∷ ks) a = subst (λ x. 1 ≤ occurs (b ∷ ks) x) (q ∙ sym e) (occurs_here b ks) in
-        absurd (omega (arith, occurs_same a (b ∷ ks))),
-  )
-  | inr ne ↦ (a, occurs_here a (b ∷ ks), ne)
-]
 
 -- the Q-node holds the row, and none of its children does
 pub inside_least : {f : Layout} {v : Marks} {row : List ℕ} (s : AtFoundInside f v row) → IsPertinentRoot row (outline_at f) (outline_below f s.found.run.q)

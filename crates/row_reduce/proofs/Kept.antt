@@ -78,11 +78,11 @@ holder_used {f = f} {row = row} s n holds = top_used f n s.leaf s.layout (holds 
 pub full_meets : {f : Layout} {row : List ℕ} → IsAsked f row → (k : ℕ) → IsInUse f k → IsRight f (column_leaves row) k Full → Meets f (column_leaves row) k
 full_meets {f = f} s k used right = let l : LeafBelow f k = leaf_below f k s.layout s.two used in (l.x, right l.x l.column l.below l.leaf, l.below)
 
-once : (f : Layout) (n k : ℕ) → IsLayout f → occurs (children_at f n) k ≤ 1
+pub once : (f : Layout) (n k : ℕ) → IsLayout f → occurs (children_at f n) k ≤ 1
 once f n k h = let a : occurs (children_at f n) k ≤ times_child f.slots k = children_times f n k in let b : times_child f.slots k ≤ 1 = h.once k in omega arith
 
 -- of two nodes or more that stand once, one is not k
-another : (ks : List ℕ) (k : ℕ) → 2 ≤ length ks → ((x : ℕ) → occurs ks x ≤ 1) → (j : ℕ) × (1 ≤ occurs ks j) × (j ≢ k)
+pub another : (ks : List ℕ) (k : ℕ) → 2 ≤ length ks → ((x : ℕ) → occurs ks x ≤ 1) → (j : ℕ) × (1 ≤ occurs ks j) × (j ≢ k)
 another [] k l one = absurd (omega arith)
 another (a ∷ []) k l one = absurd (omega arith)
 another (a ∷ b ∷ ks) k l one = elim (cases_eq a k) [

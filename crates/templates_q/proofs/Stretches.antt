@@ -1,7 +1,7 @@
 -- Walks over the labelled children around one of them.
 use Rattle.std.proofs.Common.{◌≡◌, ◌≢◌, inl, inr, ℕ, ◌+◌, ◌≤◌, ◌<◌, List, [], ◌∷◌, ◌++◌, length, Option, Some, None, refl, sym, ap, subst, ◌∙◌, arith, length-append, append_assoc, reverse}
 use Rattle.std.specs.Prelude.{slice_index_or}
-use Rattle.std.proofs.lemmas.List.{length-reverse, append-nil, reverse-reverse, reverse-append}
+use Rattle.std.proofs.lemmas.List.{append-nil, reverse-reverse, reverse-append}
 use Rattle.arena_model.specs.ChildLists.{head_or, none}
 use Rattle.arena_model.specs.Layout.{Layout, children_at, IsLayout}
 use Rattle.arena_model.proofs.Lists.{last_or-append, last_reverse, reverse_cons, SplitAt, split_at}
@@ -19,7 +19,7 @@ use Rattle.templates_q.specs.Walk.{AreChildren, IsChildGap, IsFirst, IsPassed, E
 use Rattle.templates_q.specs.Span.{labelled_in, if_labelled, labelled_one, BeginsEmpty, EndsEmpty, BeginsLabelled, AreLabelled, ArePassed, IsMarkedChild, IsStart, IsSpanPassed}
 use Rattle.templates_q.proofs.Lists.{head_reverse, reverse_split}
 use Rattle.templates_q.proofs.Lines.{fulls_append, partials_append, fulls_cons, partials_cons, sum_reverse, count_full, count_partial}
-use Rattle.templates_q.proofs.Walks.{child_used, children_few, is_named, next_child, next_is}
+use Rattle.templates_q.proofs.Walks.{child_used, fewer_before, is_named, next_child, next_is}
 
 -- the labelled ones of two lists, and of a list that is turned
 pub labelled_append : (w : Marks) (xs ys : List ℕ) → labelled_in w (xs ++ ys) ≡ labelled_in w xs + labelled_in w ys
@@ -117,17 +117,7 @@ more_passed f w q us vs n gap gap' x h p e k over =
 -- fewer children are passed than there are nodes
 pub few_passed : (f : Layout) (w : Marks) (q : ℕ) (us vs : List ℕ) (n : ℕ) (gap : ChildGap) (x : NodeId) → IsLayout f →
     ArePassed f w q us vs (record { count = n; gap = gap }) → gap.next ≡ Some x → n < length f.slots
-few_passed f w q us vs n gap x h p e =
-    let i = next_is f q (us ++ p.ks) p.rest gap x h p.gap e in
-    let c : length p.ks ≡ n = p.count in
-    let few : length (children_at f q) ≤ length f.slots = children_few f q h in
-    let all : length ((us ++ p.ks) ++ p.rest) ≡ length us + length p.ks + length p.rest = omega (arith, length-append (us ++ p.ks) p.rest, length-append us p.ks) in
-    let one : length p.rest ≡ length i.rest + 1 = ap length i.is ∙ (omega arith) in
-    let is : length (children_at f q) ≡ length ((us ++ p.ks) ++ p.rest) = read p.gap.children in omega arith
-  where
-    read : AreChildren f q ((us ++ p.ks) ++ p.rest) → length (children_at f q) ≡ length ((us ++ p.ks) ++ p.rest)
-    read (inl e) = ap length e
-    read (inr e) = ap length e ∙ length-reverse ((us ++ p.ks) ++ p.rest)
+few_passed f w q us vs n gap x h p e = let c : length p.ks ≡ n = p.count in let few : length p.ks < length f.slots = fewer_before f q us p.ks p.rest gap x h p.gap e in omega arith
 
 -- the place at one side of the child x, as a walk away from x has it
 pub record IsAside (f : Layout) (q : ℕ) (x : NodeId) (gap : ChildGap) : Type 0 where

@@ -202,20 +202,23 @@ passed_more l f w q us vs n gap gap' x h p e k over =
       gap = subst (λ z. IsChildGap f q z i.rest gap') (append_assoc us p.ks (x.index ∷ [])) (over q (us ++ p.ks) i.rest i.first);
     }
 
+-- fewer children stand before a child than there are nodes
+pub fewer_before : (f : Layout) (q : ℕ) (us ks rest : List ℕ) (gap : ChildGap) (x : NodeId) → IsLayout f → IsChildGap f q (us ++ ks) rest gap → gap.next ≡ Some x → length ks < length f.slots
+fewer_before f q us ks rest gap x h g e =
+    let i = next_is f q (us ++ ks) rest gap x h g e in
+    let few : length (children_at f q) ≤ length f.slots = children_few f q h in
+    let all : length ((us ++ ks) ++ rest) ≡ length us + length ks + length rest = omega (arith, length-append (us ++ ks) rest, length-append us ks) in
+    let one : length rest ≡ length i.rest + 1 = ap length i.is ∙ (omega arith) in
+    let is : length (children_at f q) ≡ length ((us ++ ks) ++ rest) = read g.children in omega arith
+  where
+    read : AreChildren f q ((us ++ ks) ++ rest) → length (children_at f q) ≡ length ((us ++ ks) ++ rest)
+    read (inl e) = ap length e
+    read (inr e) = ap length e ∙ length-reverse ((us ++ ks) ++ rest)
+
 -- fewer children are passed than there are nodes
 pub passed_few : (l : Mark) (f : Layout) (w : Marks) (q : ℕ) (us vs : List ℕ) (n : ℕ) (gap : ChildGap) (x : NodeId) → IsLayout f →
     IsPassed l f w q us vs (record { count = n; gap = gap }) → gap.next ≡ Some x → n < length f.slots
-passed_few l f w q us vs n gap x h p e =
-    let i = next_is f q (us ++ p.ks) p.rest gap x h p.gap e in
-    let c : length p.ks ≡ n = p.count in
-    let few : length (children_at f q) ≤ length f.slots = children_few f q h in
-    let all : length ((us ++ p.ks) ++ p.rest) ≡ length us + length p.ks + length p.rest = omega (arith, length-append (us ++ p.ks) p.rest, length-append us p.ks) in
-    let one : length p.rest ≡ length i.rest + 1 = ap length i.is ∙ (omega arith) in
-    let is : length (children_at f q) ≡ length ((us ++ p.ks) ++ p.rest) = read p.gap.children in omega arith
-  where
-    read : AreChildren f q ((us ++ p.ks) ++ p.rest) → length (children_at f q) ≡ length ((us ++ p.ks) ++ p.rest)
-    read (inl e) = ap length e
-    read (inr e) = ap length e ∙ length-reverse ((us ++ p.ks) ++ p.rest)
+passed_few l f w q us vs n gap x h p e = let c : length p.ks ≡ n = p.count in let few : length p.ks < length f.slots = fewer_before f q us p.ks p.rest gap x h p.gap e in omega arith
 
 -- the place in front of the first child of a Q-node, and the one in front of its last
 pub front_gap : (f : Layout) (n : ℕ) (view : NodeView) → ShowsNode f n view → view.shape ≡ Q → IsChildGap f n [] (children_at f n) (record { before = None; next = slice_index_or view.ends 0 None })

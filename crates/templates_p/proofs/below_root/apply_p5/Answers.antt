@@ -1,11 +1,9 @@
-use Rattle.std.proofs.Common.{ℕ, sym, subst, arith, ◌∙◌}
-use Rattle.arena_model.specs.Layout.{Layout}
-use Rattle.bubble_pass.specs.Marks.{Marks}
+use Rattle.std.proofs.Common.{sym, subst, arith, ◌∙◌}
 use Rattle.template_model.specs.Treated.{IsTreated, StandsForPartial}
 use Rattle.templates_p.proofs.Composing.{composed}
-use Rattle.templates_p.proofs.Ending.{OnePartial, one_partial}
+use Rattle.templates_p.proofs.Ending.{one_partial}
 use Rattle.templates_p.proofs.FullEnd.{partial_child, same_room}
-use Rattle.templates_p.proofs.Filling.{p5_one, p5_can_gather, p5_partial, gathered_shape, can_fill, filled_line, p5_top, StaysAt, p5_stays, can_lift, lift_treated, p5_lifted}
+use Rattle.templates_p.proofs.Filling.{p5_one, p5_can_gather, p5_partial, gathered_shape, can_fill, filled_line, p5_top, p5_stays, can_lift, lift_treated, p5_lifted}
 use Rattle.templates_p.proofs.below_root.apply_p5.Goals as goal
 
 pub child_with-line-requires : goal.child_with-line-requires
@@ -32,85 +30,41 @@ fill_line-top-requires-clause-can g c =
 
 pub lift_line-requires-clause-can : goal.lift_line-requires-clause-can
 lift_line-requires-clause-can g c =
-    let f : Layout = c.args.arena.now in
-    let h : Layout = c.gather-group.new.arena in
-    let i : Layout = c.fill_line-top.new.arena in
-    let v : Marks = c.args.work.now in
-    let w : Marks = c.gather-group.new.work in
-    let x : Marks = c.fill_line-top.new.work in
-    let n : ℕ = c.args.node.index in
-    let q : ℕ = c.child_with-line.result.index in
-    let a : ℕ = c.fill_line-top.result.index in
-    let s : StaysAt f v i x n q a = p5_stays f h i v w x n q c.full_end-end.result a c.gather-group.result c.requires.stands c.child_with-line.ensures.child c.child_with-line.ensures.labelled
+    let s = p5_stays _ _ _ _ _ _ _ _ _ _ _ c.requires.stands c.child_with-line.ensures.child c.child_with-line.ensures.labelled
     c.gather-group.ensures.gathered c.full_end-end.ensures.end c.fill_line-top.ensures.filled (λ e. c.if-index.false (c.index.ensures ∙ e ∙ sym c.index-2.ensures)) in
-    can_lift f i v x n q a c.layout_law-3.ensures c.fill_line-top.ensures.treated.arena.one c.fill_line-top.ensures.treated.arena.two s
-    (same_room f i v x n a c.layout_law.ensures c.layout_law-3.ensures c.requires.ready.room
-    (composed f h i v w x n a c.layout_law.ensures c.layout_law-2.ensures c.layout_law-3.ensures c.gather-group.ensures.treated c.fill_line-top.ensures.treated))
+    can_lift _ _ _ _ _ _ _ c.layout_law-3.ensures c.fill_line-top.ensures.treated.arena.one c.fill_line-top.ensures.treated.arena.two s
+    (same_room _ _ _ _ _ _ c.layout_law.ensures c.layout_law-3.ensures c.requires.ready.room
+    (composed _ _ _ _ _ _ _ _ c.layout_law.ensures c.layout_law-2.ensures c.layout_law-3.ensures c.gather-group.ensures.treated c.fill_line-top.ensures.treated))
 
 pub returns-then-index-clause-treated : goal.returns-then-index-clause-treated
 returns-then-index-clause-treated g c =
-    let f : Layout = c.args.arena.now in
-    let h : Layout = c.gather-group.new.arena in
-    let i : Layout = c.fill_line-top.new.arena in
-    let v : Marks = c.args.work.now in
-    let w : Marks = c.gather-group.new.work in
-    let x : Marks = c.fill_line-top.new.work in
-    let n : ℕ = c.args.node.index in
-    let q : ℕ = c.child_with-line.result.index in
-    let a : ℕ = c.fill_line-top.result.index in
-    composed f h i v w x n a c.layout_law.ensures c.layout_law-2.ensures c.layout_law-3.ensures c.gather-group.ensures.treated c.fill_line-top.ensures.treated
+    composed _ _ _ _ _ _ _ _ c.layout_law.ensures c.layout_law-2.ensures c.layout_law-3.ensures c.gather-group.ensures.treated c.fill_line-top.ensures.treated
 
 pub returns-then-index-clause-becomes : goal.returns-then-index-clause-becomes
 returns-then-index-clause-becomes g c = λ ps z marked shapes five.
-    let f : Layout = c.args.arena.now in
-    let h : Layout = c.gather-group.new.arena in
-    let i : Layout = c.fill_line-top.new.arena in
-    let v : Marks = c.args.work.now in
-    let w : Marks = c.gather-group.new.work in
-    let x : Marks = c.fill_line-top.new.work in
-    let n : ℕ = c.args.node.index in
-    let q : ℕ = c.child_with-line.result.index in
-    let a : ℕ = c.fill_line-top.result.index in
-    let k : OnePartial f v n q five.es five.h five.fs = one_partial f v n q ps five.es five.h five.fs marked shapes five.pattern c.child_with-line.ensures.child c.child_with-line.ensures.labelled in
-    let b = filled_line f h i v w x n q c.full_end-end.result a c.gather-group.result five.es five.h five.fs c.requires.stands.3.0 k c.child_with-line.ensures.labelled
+    let k = one_partial _ _ _ _ ps five.es five.h five.fs marked shapes five.pattern c.child_with-line.ensures.child c.child_with-line.ensures.labelled in
+    let b = filled_line _ _ _ _ _ _ _ _ _ _ _ five.es five.h five.fs c.requires.stands.3.0 k c.child_with-line.ensures.labelled
     c.gather-group.ensures.gathered c.full_end-end.ensures.end c.fill_line-top.ensures.filled in
-    subst (λ t. StandsForPartial i x a t) (sym five.becomes)
-    (p5_top f i v x n q c.full_end-end.result a five.es five.h five.fs k b (sym c.index.ensures ∙ c.if-index.true ∙ c.index-2.ensures) (λ e. c.child_with-line.ensures.other (sym e)))
+    subst (λ t. StandsForPartial c.fill_line-top.new.arena c.fill_line-top.new.work c.fill_line-top.result.index t) (sym five.becomes)
+    (p5_top _ _ _ _ _ _ _ _ five.es five.h five.fs k b (sym c.index.ensures ∙ c.if-index.true ∙ c.index-2.ensures) (λ e. c.child_with-line.ensures.other (sym e)))
 
 pub returns-clause-treated : goal.returns-clause-treated
 returns-clause-treated g c =
-    let f : Layout = c.args.arena.now in
-    let h : Layout = c.gather-group.new.arena in
-    let i : Layout = c.fill_line-top.new.arena in
-    let v : Marks = c.args.work.now in
-    let w : Marks = c.gather-group.new.work in
-    let x : Marks = c.fill_line-top.new.work in
-    let n : ℕ = c.args.node.index in
-    let q : ℕ = c.child_with-line.result.index in
-    let a : ℕ = c.fill_line-top.result.index in
-    let s : StaysAt f v i x n q a = p5_stays f h i v w x n q c.full_end-end.result a c.gather-group.result c.requires.stands c.child_with-line.ensures.child c.child_with-line.ensures.labelled
+    let s = p5_stays _ _ _ _ _ _ _ _ _ _ _ c.requires.stands c.child_with-line.ensures.child c.child_with-line.ensures.labelled
     c.gather-group.ensures.gathered c.full_end-end.ensures.end c.fill_line-top.ensures.filled (λ e. c.if-index.false (c.index.ensures ∙ e ∙ sym c.index-2.ensures)) in
-    composed f i c.lift_line.new.arena v x c.lift_line.new.work n q c.layout_law.ensures c.layout_law-3.ensures c.layout_law-4.ensures
-    (subst (λ z. IsTreated f i v x n z) s.node (composed f h i v w x n a c.layout_law.ensures c.layout_law-2.ensures c.layout_law-3.ensures c.gather-group.ensures.treated c.fill_line-top.ensures.treated))
-    (lift_treated f i v x n q a c.layout_law-3.ensures c.fill_line-top.ensures.treated.arena.one c.fill_line-top.ensures.treated.arena.two s
-    c.lift_line.new.arena c.lift_line.new.work _ c.layout_law-4.ensures c.lift_line.ensures.parted)
+    composed _ _ _ _ _ _ _ _ c.layout_law.ensures c.layout_law-3.ensures c.layout_law-4.ensures
+    (subst (λ z. IsTreated c.args.arena.now c.fill_line-top.new.arena c.args.work.now c.fill_line-top.new.work c.args.node.index z) s.node
+    (composed _ _ _ _ _ _ _ _ c.layout_law.ensures c.layout_law-2.ensures c.layout_law-3.ensures c.gather-group.ensures.treated c.fill_line-top.ensures.treated))
+    (lift_treated _ _ _ _ _ _ _ c.layout_law-3.ensures c.fill_line-top.ensures.treated.arena.one c.fill_line-top.ensures.treated.arena.two s
+    _ _ _ c.layout_law-4.ensures c.lift_line.ensures.parted)
 
 pub returns-clause-becomes : goal.returns-clause-becomes
 returns-clause-becomes g c = λ ps z marked shapes five.
-    let f : Layout = c.args.arena.now in
-    let h : Layout = c.gather-group.new.arena in
-    let i : Layout = c.fill_line-top.new.arena in
-    let v : Marks = c.args.work.now in
-    let w : Marks = c.gather-group.new.work in
-    let x : Marks = c.fill_line-top.new.work in
-    let n : ℕ = c.args.node.index in
-    let q : ℕ = c.child_with-line.result.index in
-    let a : ℕ = c.fill_line-top.result.index in
-    let s : StaysAt f v i x n q a = p5_stays f h i v w x n q c.full_end-end.result a c.gather-group.result c.requires.stands c.child_with-line.ensures.child c.child_with-line.ensures.labelled
+    let s = p5_stays _ _ _ _ _ _ _ _ _ _ _ c.requires.stands c.child_with-line.ensures.child c.child_with-line.ensures.labelled
     c.gather-group.ensures.gathered c.full_end-end.ensures.end c.fill_line-top.ensures.filled (λ e. c.if-index.false (c.index.ensures ∙ e ∙ sym c.index-2.ensures)) in
-    let k : OnePartial f v n q five.es five.h five.fs = one_partial f v n q ps five.es five.h five.fs marked shapes five.pattern c.child_with-line.ensures.child c.child_with-line.ensures.labelled in
-    let b = filled_line f h i v w x n q c.full_end-end.result a c.gather-group.result five.es five.h five.fs c.requires.stands.3.0 k c.child_with-line.ensures.labelled
+    let k = one_partial _ _ _ _ ps five.es five.h five.fs marked shapes five.pattern c.child_with-line.ensures.child c.child_with-line.ensures.labelled in
+    let b = filled_line _ _ _ _ _ _ _ _ _ _ _ five.es five.h five.fs c.requires.stands.3.0 k c.child_with-line.ensures.labelled
     c.gather-group.ensures.gathered c.full_end-end.ensures.end c.fill_line-top.ensures.filled in
-    subst (λ t. StandsForPartial c.lift_line.new.arena c.lift_line.new.work q t) (sym five.becomes)
-    (p5_lifted f i v x n q a c.layout_law-3.ensures c.fill_line-top.ensures.treated.arena.one c.fill_line-top.ensures.treated.arena.two s
-    c.lift_line.new.arena c.lift_line.new.work c.full_end-end.result five.es five.h five.fs c.full_end-end.ensures.small c.layout_law-4.ensures k b c.lift_line.ensures.parted)
+    subst (λ t. StandsForPartial c.lift_line.new.arena c.lift_line.new.work c.child_with-line.result.index t) (sym five.becomes)
+    (p5_lifted _ _ _ _ _ _ _ c.layout_law-3.ensures c.fill_line-top.ensures.treated.arena.one c.fill_line-top.ensures.treated.arena.two s
+    _ _ _ five.es five.h five.fs c.full_end-end.ensures.small c.layout_law-4.ensures k b c.lift_line.ensures.parted)
