@@ -6,6 +6,7 @@ use row_model::{
     COLUMN_BOUND, Interval, Intervals, Kind, Line, Lines, Pair, Place, Places, Span, Spans, Why,
 };
 use std::alloc::Global;
+use std::process::Abort;
 use std::test::Fail;
 use verdict_text::{Columns, NoPart, Part, Verdict, Version, YesPart, parse, print};
 
@@ -34,95 +35,121 @@ fn printed(alloc: Global, v: &Verdict) -> Result<Vec<u8>, Fail> {
     Ok(text)
 }
 
-fn read_and_printed(alloc: Global, text: &[u8]) -> Result<Vec<u8>, Fail> {
+// Asserts that a text is read, and printed as it was.
+fn assert_read(rt: &impl Abort, alloc: Global, text: &[u8]) -> Result<(), Fail> {
     let v = parse(alloc, text)?.ok_or("a verdict")?;
-    printed(alloc, &v)
+    assert_eq!(rt; printed(alloc, &v)?.as_slice(), text);
+    Ok(())
+}
+
+// Asserts that a verdict is printed as this text, which is read and printed as it was.
+fn assert_printed(rt: &impl Abort, alloc: Global, v: &Verdict, text: &[u8]) -> Result<(), Fail> {
+    assert_eq!(rt; printed(alloc, v)?.as_slice(), text);
+    assert_read(rt, alloc, text)
 }
 
 #[test]
 fn intervals_of_a_path(rt: HostRuntime) -> Result<(), Fail> {
     let alloc = rt.alloc();
-    let mut intervals = Intervals::new(alloc);
-    for (left, right) in [(5, 11), (10, 17), (15, 23), (20, 24)] {
-        intervals.push(Interval { left, right })?;
-    }
-    let order = [1, 2, 3, 4].to_vec(alloc)?;
     let tree = tree(alloc, b"[1 2 3 4]", 4)?;
-    let yes = YesPart::one(
-        tree,
-        order,
-        intervals,
-        Places::new(alloc),
-        Spans::new(alloc),
-    );
+    let order = [1, 2, 3, 4].to_vec(alloc)?;
+    let intervals = vec![in alloc;
+        Interval { left: 5, right: 11 },
+        Interval {
+            left: 10,
+            right: 17
+        },
+        Interval {
+            left: 15,
+            right: 23
+        },
+        Interval {
+            left: 20,
+            right: 24
+        },
+    ]?;
     let v = Verdict {
         version: Version::One,
         kind: Kind::Proper,
         columns: Columns::One(4),
-        part: Part::Yes(yes),
+        part: Part::Yes(YesPart::one(
+            tree,
+            order,
+            Intervals::from_vec(intervals),
+            Places::new(alloc),
+            Spans::new(alloc),
+        )),
     };
-    assert_eq!(rt; printed(alloc, &v)?.as_slice(), PATH);
-    assert_eq!(rt; read_and_printed(alloc, PATH)?.as_slice(), PATH);
-    Ok(())
+    assert_printed(&rt, alloc, &v, PATH)
 }
 
 #[test]
 fn places_and_contigs_of_clones(rt: HostRuntime) -> Result<(), Fail> {
     let alloc = rt.alloc();
-    let mut places = Places::new(alloc);
-    places.push(Place::At { first: 1, last: 2 })?;
-    places.push(Place::At { first: 2, last: 3 })?;
-    places.push(Place::Nowhere)?;
-    places.push(Place::At { first: 4, last: 4 })?;
-    let mut contigs = Spans::new(alloc);
-    for (first, last) in [(1, 3), (4, 4), (5, 5)] {
-        contigs.push(Span { first, last })?;
-    }
-    let order = [1, 2, 3, 4, 5].to_vec(alloc)?;
     let tree = tree(alloc, b"([1 2 3] 4 5)", 5)?;
-    let yes = YesPart::one(tree, order, Intervals::new(alloc), places, contigs);
+    let order = [1, 2, 3, 4, 5].to_vec(alloc)?;
+    let places = vec![in alloc;
+        Place::At { first: 1, last: 2 },
+        Place::At { first: 2, last: 3 },
+        Place::Nowhere,
+        Place::At { first: 4, last: 4 },
+    ]?;
+    let contigs = vec![in alloc;
+        Span { first: 1, last: 3 },
+        Span { first: 4, last: 4 },
+        Span { first: 5, last: 5 },
+    ]?;
     let v = Verdict {
         version: Version::Two,
         kind: Kind::Clones,
         columns: Columns::One(5),
-        part: Part::Yes(yes),
+        part: Part::Yes(YesPart::one(
+            tree,
+            order,
+            Intervals::new(alloc),
+            Places::from_vec(places),
+            Spans::from_vec(contigs),
+        )),
     };
-    assert_eq!(rt; printed(alloc, &v)?.as_slice(), CLONES);
-    assert_eq!(rt; read_and_printed(alloc, CLONES)?.as_slice(), CLONES);
-    Ok(())
+    assert_printed(&rt, alloc, &v, CLONES)
+}
+
+fn line(a: u32, b: u32, row: u32) -> Line {
+    Line {
+        pair: Pair { a, b },
+        why: Why::Row(row),
+    }
 }
 
 #[test]
 fn cycle_of_a_triangle(rt: HostRuntime) -> Result<(), Fail> {
     let alloc = rt.alloc();
-    let mut lines = Lines::new(alloc);
-    for (a, b, row) in [(1, 3, 1), (3, 2, 3), (2, 1, 2)] {
-        let pair = Pair { a, b };
-        lines.push(Line {
-            pair,
-            why: Why::Row(row),
-        })?;
-    }
+    let lines = vec![in alloc; line(1, 3, 1), line(3, 2, 3), line(2, 1, 2)]?;
     let v = Verdict {
         version: Version::One,
         kind: Kind::Matrix,
         columns: Columns::One(3),
-        part: Part::No(NoPart { side: 1, lines }),
+        part: Part::No(NoPart {
+            side: 1,
+            lines: Lines::from_vec(lines),
+        }),
     };
-    assert_eq!(rt; printed(alloc, &v)?.as_slice(), TRIANGLE);
-    assert_eq!(rt; read_and_printed(alloc, TRIANGLE)?.as_slice(), TRIANGLE);
-    Ok(())
+    assert_printed(&rt, alloc, &v, TRIANGLE)
+}
+
+// A yes with two sides of two columns, of whose orders none is left out.
+fn both_sides(alloc: Global) -> Result<YesPart, Fail> {
+    let first = tree(alloc, b"(1 2)", 2)?;
+    let first_order = [1, 2].to_vec(alloc)?;
+    let second = tree(alloc, b"(1 2)", 2)?;
+    let second_order = [1, 2].to_vec(alloc)?;
+    Ok(YesPart::two(first, first_order, second, second_order))
 }
 
 #[test]
 fn two_sides(rt: HostRuntime) -> Result<(), Fail> {
     let alloc = rt.alloc();
-    let yes = YesPart::two(
-        tree(alloc, b"(1 2)", 2)?,
-        [1, 2].to_vec(alloc)?,
-        tree(alloc, b"(1 2)", 2)?,
-        [1, 2].to_vec(alloc)?,
-    );
+    let yes = both_sides(alloc)?;
     assert_eq!(rt; yes.sides(), 2);
     let v = Verdict {
         version: Version::Two,
@@ -130,12 +157,14 @@ fn two_sides(rt: HostRuntime) -> Result<(), Fail> {
         columns: Columns::Two(2, 2),
         part: Part::Yes(yes),
     };
-    assert_eq!(rt; printed(alloc, &v)?.as_slice(), BOTH_SIDES);
-    assert_eq!(rt; read_and_printed(alloc, BOTH_SIDES)?.as_slice(), BOTH_SIDES);
+    assert_printed(&rt, alloc, &v, BOTH_SIDES)
+}
+
+#[test]
+fn a_cycle_of_side_2(rt: HostRuntime) -> Result<(), Fail> {
     let no =
         b"pq-verdict 2\nkind doubly\ncolumns 3 4\nanswer no\nside 2\ncycle 2\n1 3 flip\n3 1 flip\nend\n";
-    assert_eq!(rt; read_and_printed(alloc, no)?.as_slice(), no.as_slice());
-    Ok(())
+    assert_read(&rt, rt.alloc(), no)
 }
 
 #[test]
@@ -178,7 +207,7 @@ fn the_first_line_tells_the_version(rt: HostRuntime) -> Result<(), Fail> {
     ] {
         let v = parse(alloc, text)?.ok_or("a verdict")?;
         assert_eq!(rt; v.version, version);
-        assert_eq!(rt; printed(alloc, &v)?.as_slice(), text);
+        assert_read(&rt, alloc, text)?;
     }
     Ok(())
 }

@@ -142,6 +142,15 @@ fn chain(alloc: Global) -> Result<Instance, Fail>
     Ok(Instance::Proper(g))
 }
 
+// What is said of the verdict with this text.
+pub fn judged(alloc: Global, instance: &Instance, text: &[u8]) -> Result<Checked, Fail>
+    requires { IsInstance (instance_value instance.now) }
+{
+    let v = parse(alloc, text)?.ok_or("a verdict")?;
+    let checked = check(alloc, instance, &v)?;
+    Ok(checked)
+}
+
 // Asserts what is said of each verdict.
 fn assert_judged(
     rt: &impl Abort,
@@ -153,8 +162,7 @@ fn assert_judged(
 {
     for i in 0..rows.len() {
         let (text, wanted) = rows[i];
-        let v = parse(alloc, text)?.ok_or("a verdict")?;
-        let checked = check(alloc, instance, &v)?;
+        let checked = judged(alloc, instance, text)?;
         assert_eq!(rt; checked, wanted, "verdict {i}");
     }
     Ok(())

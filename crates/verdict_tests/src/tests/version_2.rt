@@ -3,7 +3,7 @@ ghost use Rattle.std.specs.Prelude.{◌≡◌, ◌<◌, ◌≤◌, IfOk, length}
 ghost use Rattle.instance_model.specs.Instance.{IsInstance};
 ghost use Rattle.instance_model.specs.Value.{instance_value};
 
-use super::version_1::spider;
+use super::version_1::{judged, spider};
 use graph_model::Bigraph;
 use pair_classes::{Classes, even_classes};
 use pq_tree::PqTree;
@@ -12,8 +12,7 @@ use std::alloc::Global;
 use std::process::Abort;
 use std::test::Fail;
 use step_count::{Blank, Brand, Ledger, Steps};
-use verdict_check::{Checked, Instance, Reason, check, complete};
-use verdict_text::parse;
+use verdict_check::{Checked, Instance, Reason, complete};
 
 const VERSION_1: &[u8] = b"pq-verdict 1\n";
 
@@ -130,20 +129,24 @@ fn assert_judged(
 {
     for i in 0..rows.len() {
         let (version, lines, wanted) = rows[i];
-        let checked = judged(alloc, instance, version, lines)?;
+        let checked = judged_lines(alloc, instance, version, lines)?;
         assert_eq!(rt; checked, wanted, "verdict {i}");
     }
     Ok(())
 }
 
-fn judged(alloc: Global, instance: &Instance, version: &[u8], lines: &[u8]) -> Result<Checked, Fail>
+// What is said of the verdict of this version with these lines after the first.
+fn judged_lines(
+    alloc: Global,
+    instance: &Instance,
+    version: &[u8],
+    lines: &[u8],
+) -> Result<Checked, Fail>
     requires { IsInstance (instance_value instance.now) }
 {
     let mut text = version.to_vec(alloc)?;
     text.extend_from_slice(lines)?;
-    let v = parse(alloc, &text)?.ok_or("a verdict")?;
-    let checked = check(alloc, instance, &v)?;
-    Ok(checked)
+    judged(alloc, instance, &text)
 }
 
 const INCOMPLETE: Checked = Checked::Invalid(Reason::Complete(1));
@@ -241,6 +244,20 @@ fn classes_of(alloc: Global, m: &Matrix) -> Result<Classes, NoMemory> {
     classes_counted::<Brand>(alloc, m, Blank::new(1))
 }
 
+// Whether the tree with this text stands for every order, as far as the classes tell.
+fn is_complete(
+    rt: &impl Abort,
+    alloc: Global,
+    m: &Matrix,
+    classes: &Classes,
+    text: &[u8],
+) -> Result<bool, Fail> {
+    let tree = PqTree::parse(alloc, text, m.columns())?.ok_or("a tree")?;
+    assert_eq!(rt; tree.columns(), classes.columns());
+    let answer = complete(alloc, &tree, classes)?;
+    Ok(answer)
+}
+
 // Asserts of each tree whether it stands for every order of the rows, as far as walks of even length tell.
 fn assert_complete(
     rt: &impl Abort,
@@ -251,9 +268,7 @@ fn assert_complete(
     let classes = classes_of(alloc, m)?;
     for i in 0..rows.len() {
         let (text, wanted) = rows[i];
-        let tree = PqTree::parse(alloc, text, m.columns())?.ok_or("a tree")?;
-        assert_eq!(rt; tree.columns(), classes.columns());
-        let answer = complete(alloc, &tree, &classes)?;
+        let answer = is_complete(rt, alloc, m, &classes, text)?;
         assert_eq!(rt; answer, wanted, "tree {i}");
     }
     Ok(())
