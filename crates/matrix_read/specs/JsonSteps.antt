@@ -1,8 +1,9 @@
 -- JSON as a list of tokens that is read from its front.
-use Rattle.std.specs.Prelude.{ℕ, List, Bool, false, true, Option, Some, None, option_map}
+use Rattle.std.specs.Prelude.{◌≡◌, ℕ, List, Bool, false, true, Option, Some, None, option_map}
 use Rattle.json.specs.Token.{Token, begin_object, begin_array, string}
 use Rattle.json.specs.Json.{value, items, members}
 use Rattle.serde_json.specs.Data.{Data, Items, Members}
+use Rattle.serde_json.specs.Find.{get, as_array}
 use Rattle.serde_json.specs.Read.{of_json, of_items, of_members, converted}
 
 -- the value at the front, which nests so deep at most, and the tokens behind it
@@ -35,3 +36,15 @@ opens_array token = false
 abbrev pub opens_object : Token → Bool
 opens_object begin_object = true
 opens_object token = false
+
+-- the value at the front is no array, and these tokens stand behind it
+pub record IsNoArray (depth : ℕ) (tokens rest : List Token) : Type 0 where
+  pub value : Data
+  pub is : value_at depth tokens ≡ Some (value, rest)
+  pub list : as_array value ≡ None
+
+-- the value at the front is no object, and these tokens stand behind it
+pub record IsNoObject (depth : ℕ) (tokens rest : List Token) : Type 0 where
+  pub value : Data
+  pub is : value_at depth tokens ≡ Some (value, rest)
+  pub members : (key : List ℕ) → get key value ≡ None

@@ -1,11 +1,11 @@
 // What a clone file names: the probes, and the probes of each clone. All else is passed over,
 // and nothing is kept of it.
-ghost use Rattle.std.specs.Prelude.{◌≡◌, ◌<◌, ◌≤◌, length, Some, None, Err, IfOk, OnOk, option_map};
+ghost use Rattle.std.specs.Prelude.{◌≡◌, ◌<◌, ◌≤◌, ◌-◌, true, false, length, Some, None, Err, IfOk, OnOk, OnErr, option_map};
 ghost use Rattle.json.specs.Json.{parse_map};
 ghost use Rattle.json.specs.Reads.{token_of};
-ghost use Rattle.serde_json.specs.Data.{no_members};
+ghost use Rattle.serde_json.specs.Data.{array, object, no_members};
 ghost use Rattle.matrix_read.specs.Clones.{reading, strings_of, probes_of};
-ghost use Rattle.matrix_read.specs.JsonSteps.{value_at, items_at, members_at, string_in, opens_array, opens_object};
+ghost use Rattle.matrix_read.specs.JsonSteps.{value_at, items_at, members_at, string_in, opens_array, opens_object, IsNoArray, IsNoObject};
 ghost use Rattle.matrix_read.specs.CloneNames.{array_strings, member_probes, clone_names, array_clones, file_names, member_names, with_string, names_view, clones_view, list_view, file_view};
 
 use crate::passing::{pass, pass_value};
@@ -102,9 +102,7 @@ fn read_file<'a>(
     ensures ok { IfOk result (λ names. parse_map file_names (value_at depth reader.old) ≡ Some (file_view names, reader.new)) }
     ensures err { result ≡ Err NoNames.NotJson → value_at depth reader.old ≡ None }
 {
-    let token = reader.next().ok_or(Invalid)?;
-    if !opens_object(token) {
-        pass_value(token, reader, depth)?;
+    if !enters_object(reader, depth)? {
         return Ok(CloneNames {
             probes: None,
             clones: None,
@@ -148,9 +146,7 @@ fn read_clones<'a>(
     ensures shorter { OnOk result (length reader.new < length reader.old) }
     ensures err { result ≡ Err NoNames.NotJson → value_at depth reader.old ≡ None }
 {
-    let token = reader.next().ok_or(Invalid)?;
-    if !opens_array(token) {
-        pass_value(token, reader, depth)?;
+    if !enters_array(reader, depth)? {
         return Ok(None);
     }
     let clones = read_clone_items(alloc, reader, depth - 1)?;
@@ -187,9 +183,7 @@ fn read_clone<'a>(
     ensures shorter { OnOk result (length reader.new < length reader.old) }
     ensures err { result ≡ Err NoNames.NotJson → value_at depth reader.old ≡ None }
 {
-    let token = reader.next().ok_or(Invalid)?;
-    if !opens_object(token) {
-        pass_value(token, reader, depth)?;
+    if !enters_object(reader, depth)? {
         return Ok(None);
     }
     read_probes(alloc, reader, depth - 1)
@@ -228,9 +222,7 @@ fn read_names<'a>(
     ensures shorter { OnOk result (length reader.new < length reader.old) }
     ensures err { result ≡ Err NoNames.NotJson → value_at depth reader.old ≡ None }
 {
-    let token = reader.next().ok_or(Invalid)?;
-    if !opens_array(token) {
-        pass_value(token, reader, depth)?;
+    if !enters_array(reader, depth)? {
         return Ok(None);
     }
     read_strings(alloc, reader, depth - 1)
@@ -280,6 +272,42 @@ fn string_in<'a>(token: Token<'a>) -> Option<&'a str>
         Token::String(text) => Some(text),
         _ => None,
     }
+}
+
+// Takes the token that begins an array, if the next value is one; any other value is passed over.
+fn enters_array(reader: &mut Reader<'_>, depth: usize) -> Result<bool, Invalid>
+    requires { 1 ≤ depth }
+    ensures entered { IfOk result (λ yes. yes ≡ true → value_at depth reader.old ≡ parse_map array (items_at (depth - 1) (length reader.new) reader.new)) }
+    ensures passed { IfOk result (λ yes. yes ≡ false → IsNoArray depth reader.old reader.new) }
+    ensures shorter { OnOk result (length reader.new < length reader.old) }
+    ensures err { OnErr result (value_at depth reader.old ≡ None) }
+{
+    let Some(token) = reader.next() else {
+        return Err(Invalid);
+    };
+    if opens_array(token) {
+        return Ok(true);
+    }
+    pass_value(token, reader, depth)?;
+    Ok(false)
+}
+
+// Takes the token that begins an object, if the next value is one; any other value is passed over.
+fn enters_object(reader: &mut Reader<'_>, depth: usize) -> Result<bool, Invalid>
+    requires { 1 ≤ depth }
+    ensures entered { IfOk result (λ yes. yes ≡ true → value_at depth reader.old ≡ parse_map object (members_at (depth - 1) (length reader.new) no_members reader.new)) }
+    ensures passed { IfOk result (λ yes. yes ≡ false → IsNoObject depth reader.old reader.new) }
+    ensures shorter { OnOk result (length reader.new < length reader.old) }
+    ensures err { OnErr result (value_at depth reader.old ≡ None) }
+{
+    let Some(token) = reader.next() else {
+        return Err(Invalid);
+    };
+    if opens_object(token) {
+        return Ok(true);
+    }
+    pass_value(token, reader, depth)?;
+    Ok(false)
 }
 
 // Whether a token begins an array.

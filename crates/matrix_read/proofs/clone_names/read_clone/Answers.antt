@@ -1,39 +1,25 @@
-use Rattle.std.proofs.Common.{◌≡◌, ◌-◌, length, codes, Some, option_and_then, sym, ap, ◌∙◌, arith}
+use Rattle.std.proofs.Common.{◌≡◌, ◌-◌, length, codes, Some, option_and_then, ap, ◌∙◌}
 use Rattle.json.specs.Json.{parse_map}
-use Rattle.json.specs.Reads.{token_of}
 use Rattle.serde_json.specs.Data.{object, no_members}
 use Rattle.serde_json.specs.Find.{as_array}
 use Rattle.matrix_read.specs.Clones.{strings_of, probes_of}
-use Rattle.matrix_read.specs.JsonSteps.{value_at, members_at}
 use Rattle.matrix_read.specs.CloneNames.{member_probes}
+use Rattle.matrix_read.specs.JsonSteps.{value_at, members_at}
 use Rattle.matrix_read.proofs.FileLemmas.{fused}
-use Rattle.matrix_read.proofs.FrontLemmas.{no_token, begins_object, passed_value}
 use Rattle.matrix_read.proofs.clone_names.read_clone.Goals as goal
 
-pub returns-in_err-token-clause-err : goal.returns-in_err-token-clause-err
-returns-in_err-token-clause-err c refused =
-    no_token c.args.depth c.args.reader.now (grind arith)
-
-pub returns-then-not-opens_object-clause-ok : goal.returns-then-not-opens_object-clause-ok
-returns-then-not-opens_object-clause-ok c =
-    let d = c.args.depth in
-    let rest = c.pass_value.new.reader in
-    let x = passed_value d c.args.reader.now (token_of c.in_ok-token.token) c.next.new.self (grind arith) rest c.in_ok-pass_value.ensures.value in
-    ap (parse_map probes_of) x.1 ∙ ap (λ found. Some (option_and_then strings_of (option_and_then as_array found), rest)) (x.2.members (sym c.if-not-opens_object.ensures) (codes "probes"))
+pub returns-then-not-branch-clause-ok : goal.returns-then-not-branch-clause-ok
+returns-then-not-branch-clause-ok c =
+    let x = c.in_ok-enters_object.ensures.passed c.if-not-branch.true in
+    ap (parse_map probes_of) x.is
+    ∙ ap (λ found. Some (option_and_then strings_of (option_and_then as_array found), c.enters_object.new.reader)) (x.members (codes "probes"))
 
 pub returns-clause-ok : goal.returns-clause-ok
 returns-clause-ok c =
-    let d = c.args.depth in
-    let s = c.next.new.self in
-    let same : value_at d c.args.reader.now ≡ parse_map object (members_at (d - 1) (length s) no_members s) =
-    begins_object d c.args.reader.now (token_of c.in_ok-token.token) s (grind arith) (omega (arith, c.requires)) (sym c.if-not-opens_object.ensures) in
-    let named : parse_map probes_of (value_at d c.args.reader.now) ≡ parse_map member_probes (members_at (d - 1) (length s) no_members s) =
-    ap (parse_map probes_of) same ∙ fused object probes_of (members_at (d - 1) (length s) no_members s) in
+    let rest = c.enters_object.new.reader in
+    let named : parse_map probes_of (value_at c.args.depth c.args.reader.now) ≡ parse_map member_probes (members_at (c.args.depth - 1) (length rest) no_members rest) =
+    ap (parse_map probes_of) (c.in_ok-enters_object.ensures.entered c.if-not-branch.false) ∙ fused object probes_of _ in
     rw named c.read_probes.ensures.ok
 
 pub returns-clause-err : goal.returns-clause-err
-returns-clause-err c refused =
-    let d = c.args.depth in
-    let s = c.next.new.self in
-    begins_object d c.args.reader.now (token_of c.in_ok-token.token) s (grind arith) (omega (arith, c.requires)) (sym c.if-not-opens_object.ensures)
-    ∙ ap (parse_map object) (c.read_probes.ensures.err refused)
+returns-clause-err c refused = c.in_ok-enters_object.ensures.entered c.if-not-branch.false ∙ ap (parse_map object) (c.read_probes.ensures.err refused)
