@@ -1,192 +1,169 @@
 // Runs over circular orders, graphs and distances.
-use crate::tests::{FIRST_LINES, outcome_with, solved_as};
+use crate::runs::{
+    Checked, FIRST_LINES, Solved, Stopped, first_misjudged, first_unsolved, first_unstopped,
+    is_checked, is_left, outcome_of,
+};
+use pq_io::NoMemory;
 use std::alloc::Global;
-use std::process::Abort;
 use std::test::Fail;
 
-// Checks a verdict on a file of a kind, in both versions by what stands after its first line, and compares
-// the line with what is wanted.
-fn judged_as(
-    rt: &impl Abort,
-    alloc: Global,
-    kind: &str,
-    file: &[u8],
-    rest: &[u8],
-    line: &[u8],
-) -> Result<(), Fail> {
-    let words = ["check", kind, "matrix", "verdict"];
-    for first in FIRST_LINES {
-        let mut verdict = first.to_vec(alloc)?;
-        verdict.extend_from_slice(rest)?;
-        let checked = outcome_with(alloc, &words, file, &verdict, 100, 100)?;
-        assert_eq!(rt; checked.out.bytes(), line);
-        assert_eq!(rt;
-            checked.status,
-            if line == b"valid\n".as_slice() { 0 } else { 1 }
-        );
-    }
+// Files with an order.
+const SOLVED: &[Solved] = &[
+    (
+        "circular",
+        b"110\n011\n101\n",
+        b"pq-verdict 2\nkind circular\ncolumns 3\nanswer yes\ntree (1 (2 3))\norder 1 2 3\nend\n",
+    ),
+    (
+        "convex",
+        b"2 3\n1 1\n1 3\n2 2\n2 3\n",
+        b"pq-verdict 2\nkind convex\ncolumns 3\nanswer yes\ntree [1 3 2]\norder 1 3 2\nend\n",
+    ),
+    (
+        "doubly",
+        b"2 2\n1 1\n1 2\n2 2\n",
+        b"pq-verdict 2\nkind doubly\ncolumns 2 2\nanswer yes\ntree (1 2)\norder 1 2\ntree (1 2)\norder 1 2\nend\n",
+    ),
+    (
+        "proper",
+        b"4\n1 2\n2 3\n3 4\n",
+        b"pq-verdict 2\nkind proper\ncolumns 4\nanswer yes\ntree [1 2 3 4]\norder 1 2 3 4\ninterval 1 5 11\ninterval 2 10 17\ninterval 3 15 23\ninterval 4 20 24\nend\n",
+    ),
+    (
+        "robinson",
+        b"3\n0 1 2\n1 0 1\n2 1 0\n",
+        b"pq-verdict 2\nkind robinson\ncolumns 3\nanswer yes\ntree [1 2 3]\norder 1 2 3\nend\n",
+    ),
+    (
+        "robinson",
+        b"3\n0 1 1\n1 0 1\n1 1 0\n",
+        b"pq-verdict 2\nkind robinson\ncolumns 3\nanswer yes\ntree (1 2 3)\norder 1 2 3\nend\n",
+    ),
+];
+
+#[test]
+fn files_with_an_order(rt: HostRuntime) -> Result<(), Fail> {
+    assert_eq!(rt; first_unsolved(rt.alloc(), SOLVED)?, None);
     Ok(())
 }
 
-// Solves a file of a kind that has no order: the verdict is of version 2, goes on as is wanted, and ends with some odd
-// cycle, which a check accepts. It accepts the cycle that is given, too.
-fn unsolved_as(
-    rt: &impl Abort,
-    alloc: Global,
-    kind: &str,
-    file: &[u8],
-    head: &[u8],
-    cycle: &[u8],
-) -> Result<(), Fail> {
-    let words = ["solve", kind, "matrix"];
-    let solved = outcome_with(alloc, &words, file, b"", 1000, 100)?;
-    assert_eq!(rt; solved.status, 1);
+// A kind, the bytes of a file, the verdict of no up to its cycle and without its first line, and a cycle that shows it.
+type Unsolved = (&'static str, &'static [u8], &'static [u8], &'static [u8]);
+
+// Files without an order. In the last, the ball of two neighbours and itself lies round each item of a cycle of four: row 11 is
+// that of item 4, and has 1, 3 and 4.
+const UNSOLVED: &[Unsolved] = &[
+    (
+        "circular",
+        b"0110\n0011\n0101\n",
+        b"kind circular\ncolumns 4\nanswer no\nside 1\n",
+        b"cycle 3\n2 4 row 1\n4 3 row 3\n3 2 row 2\nend\n",
+    ),
+    (
+        "doubly",
+        b"4 3\n1 1\n2 1\n1 2\n3 2\n1 3\n4 3\n",
+        b"kind doubly\ncolumns 3 4\nanswer no\nside 2\n",
+        b"cycle 7\n1 3 row 1\n3 2 row 2\n2 1 row 3\n4 2 row 1\n1 4 row 2\n4 3 row 3\n3 1 flip\nend\n",
+    ),
+    (
+        "proper",
+        b"4\n1 2\n1 3\n1 4\n",
+        b"kind proper\ncolumns 4\nanswer no\nside 1\n",
+        b"cycle 7\n1 3 row 2\n3 2 row 3\n2 1 row 4\n4 2 row 2\n1 4 row 3\n4 3 row 4\n3 1 flip\nend\n",
+    ),
+    (
+        "robinson",
+        b"4\n0 1 2 1\n1 0 1 2\n2 1 0 1\n1 2 1 0\n",
+        b"kind robinson\ncolumns 4\nanswer no\nside 1\n",
+        b"cycle 3\n1 2 row 11\n2 3 row 2\n3 1 row 8\nend\n",
+    ),
+];
+
+// Whether `solve` answers no of version 2, up to its cycle as is wanted, and a check accepts it, and the given cycle.
+fn is_unsolved(alloc: Global, file: &Unsolved) -> Result<bool, NoMemory> {
+    let (kind, bytes, head, cycle) = *file;
+    let solved = outcome_of(alloc, &["solve", kind, "matrix"], bytes, b"")?;
     let Some(rest) = solved
         .out
         .bytes()
         .strip_prefix(b"pq-verdict 2\n".as_slice())
     else {
-        panic!(rt; "the verdict is of another version");
+        return Ok(false);
     };
-    assert!(rt; rest.starts_with(head));
-    judged_as(rt, alloc, kind, file, rest, b"valid\n")?;
-    let mut given = head.to_vec(alloc)?;
-    given.extend_from_slice(cycle)?;
-    judged_as(rt, alloc, kind, file, &given, b"valid\n")
+    let is_no = rest.starts_with(head) && is_left(&solved, 1, solved.out.bytes(), b"");
+    Ok(
+        is_no
+            && is_valid(alloc, kind, bytes, rest, b"")?
+            && is_valid(alloc, kind, bytes, head, cycle)?,
+    )
 }
 
-// A file of a kind is refused.
-fn refused_as(
-    rt: &impl Abort,
+// Whether a check accepts the verdict with these lines behind its first line, in both versions.
+fn is_valid(
     alloc: Global,
     kind: &str,
     file: &[u8],
-    err: &[u8],
-) -> Result<(), Fail> {
-    let words = ["solve", kind, "matrix"];
-    let refused = outcome_with(alloc, &words, file, b"", 1000, 100)?;
-    assert_eq!(rt; refused.status, 3);
-    assert!(rt; refused.out.bytes().is_empty());
-    assert_eq!(rt; refused.err.bytes(), err);
+    head: &[u8],
+    cycle: &[u8],
+) -> Result<bool, NoMemory> {
+    let mut rest = head.to_vec(alloc)?;
+    rest.extend_from_slice(cycle)?;
+    let first = is_checked(alloc, kind, file, FIRST_LINES[0], &rest, b"valid\n")?;
+    let second = is_checked(alloc, kind, file, FIRST_LINES[1], &rest, b"valid\n")?;
+    Ok(first && second)
+}
+
+// The first file that is answered otherwise.
+fn first_ordered(alloc: Global, files: &[Unsolved]) -> Result<Option<usize>, NoMemory> {
+    for (i, file) in files.iter().enumerate() {
+        if !is_unsolved(alloc, file)? {
+            return Ok(Some(i));
+        }
+    }
+    Ok(None)
+}
+
+// Which odd cycle is printed is free.
+#[test]
+fn files_without_an_order(rt: HostRuntime) -> Result<(), Fail> {
+    assert_eq!(rt; first_ordered(rt.alloc(), UNSOLVED)?, None);
     Ok(())
 }
 
-#[test]
-fn circular_orders(rt: HostRuntime) -> Result<(), Fail> {
-    solved_as(
-        &rt,
-        rt.alloc(),
-        "circular",
-        b"110\n011\n101\n",
-        b"pq-verdict 2\nkind circular\ncolumns 3\nanswer yes\ntree (1 (2 3))\norder 1 2 3\nend\n",
-    )?;
-    unsolved_as(
-        &rt,
-        rt.alloc(),
-        "circular",
-        b"0110\n0011\n0101\n",
-        b"kind circular\ncolumns 4\nanswer no\nside 1\n",
-        b"cycle 3\n2 4 row 1\n4 3 row 3\n3 2 row 2\nend\n",
-    )
-}
+// The last interval lies inside the one before it.
+const JUDGED: &[Checked] = &[(
+    "proper",
+    b"4\n1 2\n2 3\n3 4\n",
+    b"kind proper\ncolumns 4\nanswer yes\ntree [1 2 3 4]\norder 1 2 3 4\ninterval 1 5 10\ninterval 2 10 15\ninterval 3 15 20\ninterval 4 20 20\nend\n",
+    b"invalid intervals\n",
+)];
 
 #[test]
-fn convex_orders_of_one_side(rt: HostRuntime) -> Result<(), Fail> {
-    solved_as(
-        &rt,
-        rt.alloc(),
-        "convex",
-        b"2 3\n1 1\n1 3\n2 2\n2 3\n",
-        b"pq-verdict 2\nkind convex\ncolumns 3\nanswer yes\ntree [1 3 2]\norder 1 3 2\nend\n",
-    )
+fn intervals_are_judged(rt: HostRuntime) -> Result<(), Fail> {
+    assert_eq!(rt; first_misjudged(rt.alloc(), JUDGED)?, None);
+    Ok(())
 }
 
-#[test]
-fn convex_orders_of_both_sides(rt: HostRuntime) -> Result<(), Fail> {
-    solved_as(
-        &rt,
-        rt.alloc(),
-        "doubly",
-        b"2 2\n1 1\n1 2\n2 2\n",
-        b"pq-verdict 2\nkind doubly\ncolumns 2 2\nanswer yes\ntree (1 2)\norder 1 2\ntree (1 2)\norder 1 2\nend\n",
-    )?;
-    unsolved_as(
-        &rt,
-        rt.alloc(),
-        "doubly",
-        b"4 3\n1 1\n2 1\n1 2\n3 2\n1 3\n4 3\n",
-        b"kind doubly\ncolumns 3 4\nanswer no\nside 2\n",
-        b"cycle 7\n1 3 row 1\n3 2 row 2\n2 1 row 3\n4 2 row 1\n1 4 row 2\n4 3 row 3\n3 1 flip\nend\n",
-    )
-}
-
-#[test]
-fn umbrella_orders_with_intervals(rt: HostRuntime) -> Result<(), Fail> {
-    let path = b"4\n1 2\n2 3\n3 4\n";
-    solved_as(
-        &rt,
-        rt.alloc(),
-        "proper",
-        path,
-        b"pq-verdict 2\nkind proper\ncolumns 4\nanswer yes\ntree [1 2 3 4]\norder 1 2 3 4\ninterval 1 5 11\ninterval 2 10 17\ninterval 3 15 23\ninterval 4 20 24\nend\n",
-    )?;
-    // The last interval lies inside the one before it.
-    judged_as(
-        &rt,
-        rt.alloc(),
-        "proper",
-        path,
-        b"kind proper\ncolumns 4\nanswer yes\ntree [1 2 3 4]\norder 1 2 3 4\ninterval 1 5 10\ninterval 2 10 15\ninterval 3 15 20\ninterval 4 20 20\nend\n",
-        b"invalid intervals\n",
-    )?;
-    unsolved_as(
-        &rt,
-        rt.alloc(),
-        "proper",
-        b"4\n1 2\n1 3\n1 4\n",
-        b"kind proper\ncolumns 4\nanswer no\nside 1\n",
-        b"cycle 7\n1 3 row 2\n3 2 row 3\n2 1 row 4\n4 2 row 2\n1 4 row 3\n4 3 row 4\n3 1 flip\nend\n",
-    )?;
-    refused_as(
-        &rt,
-        rt.alloc(),
-        "proper",
+// An edge from a vertex to itself, and distances that are not the same both ways.
+const STOPPED: &[Stopped] = &[
+    (
+        &["solve", "proper", "matrix"],
         b"2\n1 1\n",
+        b"",
+        3,
         b"pq: refused 1 code 6 line 2\n",
-    )
-}
+    ),
+    (
+        &["solve", "robinson", "matrix"],
+        b"3\n0 1 2\n1 0 1\n2 2 0\n",
+        b"",
+        3,
+        b"pq: refused 1 code 6 line 4\n",
+    ),
+];
 
 #[test]
-fn robinson_orders(rt: HostRuntime) -> Result<(), Fail> {
-    solved_as(
-        &rt,
-        rt.alloc(),
-        "robinson",
-        b"3\n0 1 2\n1 0 1\n2 1 0\n",
-        b"pq-verdict 2\nkind robinson\ncolumns 3\nanswer yes\ntree [1 2 3]\norder 1 2 3\nend\n",
-    )?;
-    solved_as(
-        &rt,
-        rt.alloc(),
-        "robinson",
-        b"3\n0 1 1\n1 0 1\n1 1 0\n",
-        b"pq-verdict 2\nkind robinson\ncolumns 3\nanswer yes\ntree (1 2 3)\norder 1 2 3\nend\n",
-    )?;
-    // Round each item of a cycle of four lies the ball of its two neighbours and itself: row 11 is that of
-    // item 4, and has 1, 3 and 4.
-    unsolved_as(
-        &rt,
-        rt.alloc(),
-        "robinson",
-        b"4\n0 1 2 1\n1 0 1 2\n2 1 0 1\n1 2 1 0\n",
-        b"kind robinson\ncolumns 4\nanswer no\nside 1\n",
-        b"cycle 3\n1 2 row 11\n2 3 row 2\n3 1 row 8\nend\n",
-    )?;
-    refused_as(
-        &rt,
-        rt.alloc(),
-        "robinson",
-        b"3\n0 1 2\n1 0 1\n2 2 0\n",
-        b"pq: refused 1 code 6 line 4\n",
-    )
+fn files_that_are_no_graph(rt: HostRuntime) -> Result<(), Fail> {
+    assert_eq!(rt; first_unstopped(rt.alloc(), STOPPED)?, None);
+    Ok(())
 }

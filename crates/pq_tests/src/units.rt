@@ -1,108 +1,140 @@
 // Runs of `unit` and `check-unit`.
-use crate::tests::outcome_with;
-use std::alloc::Global;
-use std::process::Abort;
+use crate::runs::{Reply, Stopped, first_other, first_unstopped, is_solved_alike};
 use std::test::Fail;
 
-const PATH: &[u8] = b"4\n1 2\n2 3\n3 4\n";
+// The unit models of a path, of a triangle and of two vertices apart, each found and judged.
+const FOUND: &[Reply] = &[
+    (
+        &["unit", "matrix"],
+        b"4\n1 2\n2 3\n3 4\n",
+        b"",
+        0,
+        b"pq-unit 1\nvertices 4\nlength 4\nunit 1 3\nunit 2 6\nunit 3 9\nunit 4 12\nend\n",
+    ),
+    (
+        &["check-unit", "matrix", "verdict"],
+        b"4\n1 2\n2 3\n3 4\n",
+        b"pq-unit 1\nvertices 4\nlength 4\nunit 1 3\nunit 2 6\nunit 3 9\nunit 4 12\nend\n",
+        0,
+        b"valid\n",
+    ),
+    (
+        &["unit", "matrix"],
+        b"3\n1 2\n1 3\n2 3\n",
+        b"",
+        0,
+        b"pq-unit 1\nvertices 3\nlength 3\nunit 1 2\nunit 2 3\nunit 3 4\nend\n",
+    ),
+    (
+        &["check-unit", "matrix", "verdict"],
+        b"3\n1 2\n1 3\n2 3\n",
+        b"pq-unit 1\nvertices 3\nlength 3\nunit 1 2\nunit 2 3\nunit 3 4\nend\n",
+        0,
+        b"valid\n",
+    ),
+    (
+        &["unit", "matrix"],
+        b"2\n",
+        b"",
+        0,
+        b"pq-unit 1\nvertices 2\nlength 2\nunit 1 0\nunit 2 4\nend\n",
+    ),
+    (
+        &["check-unit", "matrix", "verdict"],
+        b"2\n",
+        b"pq-unit 1\nvertices 2\nlength 2\nunit 1 0\nunit 2 4\nend\n",
+        0,
+        b"valid\n",
+    ),
+];
 
-// Finds the unit model of a graph, compares the text with what is wanted, and has it checked.
-fn unit_as(rt: &impl Abort, alloc: Global, graph: &[u8], text: &[u8]) -> Result<(), Fail> {
-    let found = outcome_with(alloc, &["unit", "matrix"], graph, b"", 1000, 100)?;
-    assert_eq!(rt; found.out.bytes(), text);
-    assert_eq!(rt; found.status, 0);
-    assert!(rt; found.err.bytes().is_empty());
-    judged_as(rt, alloc, graph, text, b"valid\n")
-}
-
-// Checks a unit model of a graph, and compares the line with what is wanted.
-fn judged_as(
-    rt: &impl Abort,
-    alloc: Global,
-    graph: &[u8],
-    text: &[u8],
-    line: &[u8],
-) -> Result<(), Fail> {
-    let words = ["check-unit", "matrix", "verdict"];
-    let checked = outcome_with(alloc, &words, graph, text, 100, 100)?;
-    assert_eq!(rt; checked.out.bytes(), line);
-    assert_eq!(rt;
-        checked.status,
-        if line == b"valid\n".as_slice() { 0 } else { 1 }
-    );
-    assert!(rt; checked.err.bytes().is_empty());
+#[test]
+fn unit_models_are_found(rt: HostRuntime) -> Result<(), Fail> {
+    assert_eq!(rt; first_other(rt.alloc(), FOUND)?, None);
     Ok(())
 }
 
-// The words end with this status, before anything is written.
-fn stopped_as(
-    rt: &impl Abort,
-    alloc: Global,
-    words: &[&str],
-    graph: &[u8],
-    status: u8,
-    err: &[u8],
-) -> Result<(), Fail> {
-    let done = outcome_with(alloc, words, graph, b"", 100, 100)?;
-    assert_eq!(rt; done.status, status);
-    assert!(rt; done.out.bytes().is_empty());
-    assert_eq!(rt; done.err.bytes(), err);
+// A left end that moves within the length, and past it, and what is no unit model.
+const JUDGED: &[Reply] = &[
+    (
+        &["check-unit", "matrix", "verdict"],
+        b"4\n1 2\n2 3\n3 4\n",
+        b"pq-unit 1\nvertices 4\nlength 4\nunit 1 3\nunit 2 6\nunit 3 9\nunit 4 13\nend\n",
+        0,
+        b"valid\n",
+    ),
+    (
+        &["check-unit", "matrix", "verdict"],
+        b"4\n1 2\n2 3\n3 4\n",
+        b"pq-unit 1\nvertices 4\nlength 4\nunit 1 3\nunit 2 6\nunit 3 9\nunit 4 14\nend\n",
+        1,
+        b"invalid model\n",
+    ),
+    (
+        &["check-unit", "matrix", "verdict"],
+        b"4\n1 2\n2 3\n3 4\n",
+        b"",
+        1,
+        b"invalid text\n",
+    ),
+    (
+        &["check-unit", "matrix", "verdict"],
+        b"4\n1 2\n2 3\n3 4\n",
+        b"pq-unit 1\nvertices 2\nlength 2\nunit 1 0\nunit 2 4\nend\n",
+        1,
+        b"invalid vertices\n",
+    ),
+    (
+        &["check-unit", "matrix", "verdict"],
+        b"1\n",
+        b"pq-unit 1\nvertices 1\nlength 0\nunit 1 0\nend\n",
+        1,
+        b"invalid model\n",
+    ),
+];
+
+#[test]
+fn unit_models_are_judged(rt: HostRuntime) -> Result<(), Fail> {
+    assert_eq!(rt; first_other(rt.alloc(), JUDGED)?, None);
     Ok(())
 }
 
-#[test]
-fn the_unit_model_of_a_path(rt: HostRuntime) -> Result<(), Fail> {
-    let text = b"pq-unit 1\nvertices 4\nlength 4\nunit 1 3\nunit 2 6\nunit 3 9\nunit 4 12\nend\n";
-    unit_as(&rt, rt.alloc(), PATH, text)
-}
-
-#[test]
-fn the_unit_model_of_a_triangle(rt: HostRuntime) -> Result<(), Fail> {
-    let text = b"pq-unit 1\nvertices 3\nlength 3\nunit 1 2\nunit 2 3\nunit 3 4\nend\n";
-    unit_as(&rt, rt.alloc(), b"3\n1 2\n1 3\n2 3\n", text)
-}
-
-#[test]
-fn the_unit_model_of_two_vertices_apart(rt: HostRuntime) -> Result<(), Fail> {
-    let text = b"pq-unit 1\nvertices 2\nlength 2\nunit 1 0\nunit 2 4\nend\n";
-    unit_as(&rt, rt.alloc(), b"2\n", text)
-}
-
-#[test]
-fn a_left_end_may_move_within_the_length(rt: HostRuntime) -> Result<(), Fail> {
-    let within = b"pq-unit 1\nvertices 4\nlength 4\nunit 1 3\nunit 2 6\nunit 3 9\nunit 4 13\nend\n";
-    judged_as(&rt, rt.alloc(), PATH, within, b"valid\n")?;
-    let past = b"pq-unit 1\nvertices 4\nlength 4\nunit 1 3\nunit 2 6\nunit 3 9\nunit 4 14\nend\n";
-    judged_as(&rt, rt.alloc(), PATH, past, b"invalid model\n")
-}
-
-#[test]
-fn what_is_no_unit_model_is_told(rt: HostRuntime) -> Result<(), Fail> {
-    judged_as(&rt, rt.alloc(), PATH, b"", b"invalid text\n")?;
-    let fewer = b"pq-unit 1\nvertices 2\nlength 2\nunit 1 0\nunit 2 4\nend\n";
-    judged_as(&rt, rt.alloc(), PATH, fewer, b"invalid vertices\n")?;
-    let none = b"pq-unit 1\nvertices 1\nlength 0\nunit 1 0\nend\n";
-    judged_as(&rt, rt.alloc(), b"1\n", none, b"invalid model\n")
-}
-
+// The reply on a star, which has no unit model, is that of `solve`.
 #[test]
 fn a_star_has_no_unit_model(rt: HostRuntime) -> Result<(), Fail> {
     let star = b"4\n1 2\n1 3\n1 4\n";
-    let words = ["solve", "proper", "matrix"];
-    let solved = outcome_with(rt.alloc(), &words, star, b"", 1000, 100)?;
-    let found = outcome_with(rt.alloc(), &["unit", "matrix"], star, b"", 1000, 100)?;
-    assert_eq!(rt; found.status, 1);
-    assert_eq!(rt; found.out.bytes(), solved.out.bytes());
+    assert!(rt; is_solved_alike(rt.alloc(), &["unit", "matrix"], "proper", star, b"")?);
     Ok(())
 }
 
+// Files and words that are refused.
+const STOPPED: &[Stopped] = &[
+    (
+        &["unit", "matrix"],
+        b"",
+        b"",
+        3,
+        b"pq: refused 1 code 1 line 0\n",
+    ),
+    (
+        &["check-unit", "matrix", "verdict"],
+        b"",
+        b"",
+        3,
+        b"pq: refused 1 code 1 line 0\n",
+    ),
+    (&["unit"], b"4\n1 2\n2 3\n3 4\n", b"", 2, b"pq: words\n"),
+    (
+        &["check-unit", "-", "-"],
+        b"4\n1 2\n2 3\n3 4\n",
+        b"",
+        2,
+        b"pq: words\n",
+    ),
+];
+
 #[test]
 fn words_and_files_are_refused(rt: HostRuntime) -> Result<(), Fail> {
-    let refused = b"pq: refused 1 code 1 line 0\n";
-    let words = b"pq: words\n";
-    stopped_as(&rt, rt.alloc(), &["unit", "matrix"], b"", 3, refused)?;
-    let check = ["check-unit", "matrix", "verdict"];
-    stopped_as(&rt, rt.alloc(), &check, b"", 3, refused)?;
-    stopped_as(&rt, rt.alloc(), &["unit"], PATH, 2, words)?;
-    stopped_as(&rt, rt.alloc(), &["check-unit", "-", "-"], PATH, 2, words)
+    assert_eq!(rt; first_unstopped(rt.alloc(), STOPPED)?, None);
+    Ok(())
 }
