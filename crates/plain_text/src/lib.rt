@@ -20,19 +20,3 @@ pub fn push_number(text: &mut Vec<u8>, n: u64) -> Result<(), NoMemory>
     let mut buffer = Buffer::new();
     text.extend_from_slice(buffer.format(n).as_bytes())
 }
-
-#[cfg(test)]
-mod tests {
-    use super::*;
-    use std::test::Fail;
-
-    #[test]
-    fn plain_numbers(rt: HostRuntime) -> Result<(), Fail> {
-        let mut text = Vec::new(rt.alloc());
-        push_number(&mut text, 0)?;
-        push_number(&mut text, 1024)?;
-        push_number(&mut text, 18_446_744_073_709_551_615)?;
-        assert_eq!(rt; text.as_slice(), b"0102418446744073709551615".as_slice());
-        Ok(())
-    }
-}

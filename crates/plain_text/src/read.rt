@@ -68,18 +68,3 @@ pub fn after_word<'a>(bytes: &'a [u8], word: &[u8]) -> Option<&'a [u8]>
 {
     bytes.strip_prefix(word)
 }
-
-#[cfg(test)]
-mod tests {
-    use super::*;
-
-    #[test]
-    fn numbers_and_words_at_the_front(rt: HostRuntime) {
-        assert_eq!(rt; number(b"1024 x", 1024), Some((1024, b" x".as_slice())));
-        assert_eq!(rt; number(b"1025", 1024), None);
-        assert_eq!(rt; number(b"007", 9), Some((0, b"07".as_slice())));
-        assert_eq!(rt; number(b"18446744073709551616", u64::MAX), None);
-        assert_eq!(rt; after_word(b"order 1", b"order "), Some(b"1".as_slice()));
-        assert_eq!(rt; after_word(b"orde", b"order "), None);
-    }
-}

@@ -111,23 +111,3 @@ impl<T: Copy> ListOf<T> {
         &self.items
     }
 }
-
-#[cfg(test)]
-mod tests {
-    use super::*;
-    use std::test::Fail;
-
-    #[test]
-    fn what_is_pushed_comes_last(rt: HostRuntime) -> Result<(), Fail> {
-        let first = Span { first: 1, last: 3 };
-        let second = Span { first: 5, last: 5 };
-        let mut spans = Spans::with_capacity(rt.alloc(), 2)?;
-        spans.push(first)?;
-        spans.push(second)?;
-        assert_eq!(rt; spans.as_slice(), [first, second].as_slice());
-        assert!(rt; Spans::new(rt.alloc()).as_slice().is_empty());
-        let taken_over = Spans::from_vec(vec![in rt.alloc(); first; 2]?);
-        assert_eq!(rt; taken_over.as_slice(), [first, first].as_slice());
-        Ok(())
-    }
-}

@@ -86,30 +86,3 @@ pub fn is_kept(positions: &[u32], row: &[u32]) -> bool
         Some(span) => (span.last - span.first) as usize + 1 == row.len(),
     }
 }
-
-#[cfg(test)]
-mod tests {
-    use super::*;
-    use std::test::Fail;
-
-    #[test]
-    fn an_order_has_each_column_once(rt: HostRuntime) -> Result<(), Fail> {
-        assert!(rt; is_order(rt.alloc(), 3, &[2, 3, 1])?);
-        assert!(rt; !is_order(rt.alloc(), 3, &[2, 1, 2])?);
-        assert!(rt; !is_order(rt.alloc(), 3, &[2, 1])?);
-        assert!(rt; !is_order(rt.alloc(), 3, &[2, 4, 1])?);
-        Ok(())
-    }
-
-    #[test]
-    fn a_row_spans_positions_of_an_order(rt: HostRuntime) -> Result<(), Fail> {
-        let positions = positions(rt.alloc(), &[2, 3, 1])?;
-        assert_eq!(rt; positions.as_slice(), [3, 1, 2].as_slice());
-        assert_eq!(rt;
-            span_of(&positions, &[1, 2]),
-            Some(Span { first: 1, last: 3 })
-        );
-        assert_eq!(rt; span_of(&positions, &[]), None);
-        Ok(())
-    }
-}
