@@ -12,4 +12,3 @@ pub use cut::cut_rows;
 pub use laws::circular_law;
 pub use row_model::NoMemory;
 pub use turn::turned;
-

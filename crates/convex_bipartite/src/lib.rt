@@ -12,4 +12,3 @@ pub use laws::convex_law;
 pub use left::rows_of;
 pub use right::columns_of;
 pub use row_model::NoMemory;
-

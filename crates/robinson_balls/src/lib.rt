@@ -11,4 +11,3 @@ mod rows;
 pub use laws::{balls_law, robinson_law};
 pub use row_model::NoMemory;
 pub use rows::balls;
-

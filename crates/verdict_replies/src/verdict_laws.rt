@@ -3,8 +3,8 @@ ghost use Rattle.verdict_replies.specs.Cores.{CoreGrammarLaw};
 ghost use Rattle.verdict_replies.specs.Verdicts.{GrammarLaw, LengthLaw};
 
 use clone_map::place_laws;
-use odd_cycle::cycle_length_law;
 use instance_model::derived_sizes_law;
+use odd_cycle::cycle_length_law;
 
 /// A verdict of an instance is in the grammar, and its text has no more bytes than a verdict that is judged.
 pub fn grammar_law()
