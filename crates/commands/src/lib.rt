@@ -1,12 +1,13 @@
-//! The commands of the program `pq`, as far as they need no solver of their own: what the words of a command line ask for
-//! and how the bytes of a file are read (`command_input`), the verdict that `solve` tells (`verdict_replies`), and the
-//! replies of the commands that judge and of `meet`.
+//! The commands of the program `pq`, as far as they need no solver of their own: what the words of a command line ask
+//! for and how the bytes of a file are read (`command_input`), the verdict that `solve` tells (`verdict_replies`), and
+//! the replies of the commands that judge and of `meet`.
 //!
 //! `check` on a verdict, `check-core` on a core of a matrix and `check-unit` on a unit model of a graph reply one line,
 //! `valid`, or `invalid` with the first that keeps the bytes of the second file from it. They take the judges of
 //! `verdict_check`. A verdict that `solve` tells passes each test ([`passed_law`]).
 //!
-//! The orders that two trees of `meet` stand for are found by any solver that keeps to the trait `Judge` of `row_judge`.
+//! The orders that two trees of `meet` stand for are found by any solver that keeps to the trait `Judge` of
+//! `row_judge`.
 #![tactic(auto)]
 
 ghost use Rattle.std.specs.Prelude.{◌≡◌};

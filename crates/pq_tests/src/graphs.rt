@@ -50,8 +50,8 @@ fn files_with_an_order(rt: HostRuntime) -> Result<(), Fail> {
 // A kind, the bytes of a file, the verdict of no up to its cycle and without its first line, and a cycle that shows it.
 type Unsolved = (&'static str, &'static [u8], &'static [u8], &'static [u8]);
 
-// Files without an order. In the last, the ball of two neighbours and itself lies round each item of a cycle of four: row 11 is
-// that of item 4, and has 1, 3 and 4.
+// Files without an order. In the last, round each item of a cycle of four lies the ball of its two neighbours and
+// itself: row 11 is that of item 4, and has 1, 3 and 4.
 const UNSOLVED: &[Unsolved] = &[
     (
         "circular",

@@ -60,8 +60,8 @@ fn matrices_with_a_valid_order(rt: HostRuntime) -> Result<(), Fail> {
     Ok(())
 }
 
-// Whether lines are an odd cycle of a matrix: their number is odd and at least 3, no pair comes twice, and the reason of
-// each line joins its pair to that of the next line, and that of the last to the first.
+// Whether lines are an odd cycle of a matrix: their number is odd and at least 3, no pair comes twice, and the reason
+// of each line joins its pair to that of the next line, and that of the last to the first.
 fn is_odd_cycle(m: &Matrix, lines: &[Line]) -> bool {
     for (i, line) in lines.iter().enumerate() {
         let next = lines[(i + 1) % lines.len()];

@@ -1,5 +1,5 @@
-//! The reply that tells a verdict on an instance, as `solve` gives it: what the verdict says of the instance, that it is
-//! in the grammar, and that its text is short enough to be judged. The same of the text of a core.
+//! The reply that tells a verdict on an instance, as `solve` gives it: what the verdict says of the instance, that
+//! it is in the grammar, and that its text is short enough to be judged. The same of the text of a core.
 //!
 //! What a solver found is taken as it is handed in, and printed.
 #![tactic(auto)]
