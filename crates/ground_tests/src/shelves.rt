@@ -115,7 +115,7 @@ fn a_real_file_is_read_whole(rt: HostRuntime) -> Result<(), Fail> {
     let alloc = rt.alloc();
     let program = "/proc/self/exe";
     let want = Whole::Bytes(fs::read(&rt, program)?);
-    let mut shelf = RealShelf::new(alloc, rt);
+    let mut shelf = RealShelf::new(rt);
     shelf.choose(alloc, program)?;
     assert_eq!(rt; read_all(alloc, &mut shelf, 1 << 32)? == want, true);
     for missing in ["", "/proc/self/missing", "/proc/self/exe/below"] {

@@ -1,7 +1,7 @@
 //! The program `pq`: the words, files and streams of the system, handed to the top call.
 #![tactic(auto)]
 
-use pq_cli::run;
+use pq_cli::run_real;
 use pq_io::{RealShelf, RealSink, write_all};
 use std::env::FillError;
 use std::process::ExitCode;
@@ -60,7 +60,7 @@ fn main(rt: HostRuntime) -> ExitCode {
             return ExitCode::from(6);
         }
     };
-    let mut files = RealShelf::new(alloc, rt);
-    let status = run(alloc, &words, &mut files, &mut out, &mut err);
+    let mut files = RealShelf::new(rt);
+    let status = run_real(alloc, &words, &mut files, &mut out, &mut err);
     ExitCode::from(status)
 }

@@ -3,3 +3,4 @@ pub mod Reading
 pub mod Further
 pub mod Runs
 pub mod Promise
+pub mod Real

@@ -1,7 +1,8 @@
--- What the reading of one file gives. A shelf is seen by the bytes of its files, the names that it was asked for, and
+-- What the reading of one file gives. A shelf is seen by what was taken of its files, the bytes that it tells of them, and
 -- its count of faults.
-use Rattle.std.specs.Prelude.{◌≡◌, ◌≢◌, ◌⊎◌, ⊤, ℕ, ◌≤◌, List, [], ◌∷◌, ◌++◌, Option, IfSome, Result, Ok, Err, IfOk, IfErr}
+use Rattle.std.specs.Prelude.{◌≡◌, ◌≢◌, ◌⊎◌, ⊤, ℕ, ◌≤◌, true, List, [], ◌∷◌, ◌++◌, Option, IfSome, Result, Ok, Err, IfOk, IfErr}
 use Rattle.pq_io.specs.Faults.{Rose}
+use Rattle.pq_io.specs.Taken.{Taken}
 use Rattle.pq_io.specs.Whole.{IsWhole}
 use Rattle.pq_io.specs.declared.reading.Whole.{Whole}
 use Rattle.row_model.specs.declared.refusal.Read.{Read}
@@ -10,9 +11,15 @@ use Rattle.pq_cli.specs.Stops.{read_status}
 use Rattle.pq_cli.specs.declared.stop.Stop.{Stop}
 use Rattle.pq_cli.specs.declared.stop.Stop.TheVariants as stop
 
--- one name was asked for, or none where memory was refused
-abbrev pub AsksOne : List (List ℕ) → List (List ℕ) → List ℕ → ℕ → Type 0
-AsksOne before after name status = (after ≡ before ++ name ∷ []) ⊎ ((after ≡ before) × (status ≡ 6))
+-- These may be the bytes of a file of which this was taken: they begin with what was handed out, and are no more where a
+-- read said that no more come.
+pub record FitsTaken (t : Taken) (bytes : List ℕ) : Type 0 where
+  pub begins : (rest : List ℕ) × (bytes ≡ t.bytes ++ rest)
+  pub whole : t.ended ≡ true → bytes ≡ t.bytes
+
+-- one file was taken, or none where memory was refused
+abbrev pub TakesOne : List Taken → List Taken → Taken → ℕ → Type 0
+TakesOne before after t status = (after ≡ before ++ t ∷ []) ⊎ ((after ≡ before) × (status ≡ 6))
 
 -- A shelf was only read, with this status: its files stay as they are. The count of faults never falls; it rose where
 -- the status is 4, and changed nowhere else.
@@ -34,16 +41,31 @@ IsReadStop (stop.Refused _ _) = ⊥
 IsReadStop stop.ReadFault = ⊤
 IsReadStop stop.NoMemory = ⊤
 
--- The file of a name was read, the one of this number. A value is how its bytes are read, and a refusal is how they are
--- refused, where the shelf tells them; and `holds` holds of both, whatever the bytes.
-pub record ReadsFile {S V : Type 0} (content : S → List ℕ → Option (List ℕ)) (asked : S → List (List ℕ)) (faults : S → ℕ) (old new : S) (name : List ℕ) (which : ℕ)
-    (reads : List ℕ → Read V → Type 0) (holds : Read V → Type 0) (result : Result V Stop) : Type 0 where
-  pub asks : AsksOne (asked old) (asked new) name (read_status result)
+-- The file of a name was read, the one of this number, of which this was taken. A value is how the file's bytes are read, and a
+-- refusal is how they are refused; and `holds` holds of both, whatever the bytes. Where the shelf tells the bytes, they
+-- are what was taken.
+pub record ReadsAs {S V : Type 0} (content : S → List ℕ → Option (List ℕ)) (taken : S → List Taken) (faults : S → ℕ) (old new : S) (name : List ℕ) (which : ℕ)
+    (reads : List ℕ → Read V → Type 0) (holds : Read V → Type 0) (result : Result V Stop) (t : Taken) : Type 0 where
+  pub asks : TakesOne (taken old) (taken new) t (read_status result)
+  pub named : t.name ≡ name
+  pub told : IfSome (content old name) (FitsTaken t)
   pub shelf : OnlyReads content faults old new (read_status result)
-  pub value : IfOk result (λ value. IfSome (content old name) (λ bytes. reads bytes (read.Ok value)))
-  pub refused : IfErr result (λ s. IfSome (content old name) (λ bytes. IsStopAt which (reads bytes) s))
+  pub value : IfOk result (λ value. (bytes : List ℕ) → FitsTaken t bytes → reads bytes (read.Ok value))
+  pub refused : IfErr result (λ s. (bytes : List ℕ) → FitsTaken t bytes → IsStopAt which (reads bytes) s)
   pub holds_of_value : IfOk result (λ value. holds (read.Ok value))
   pub holds_of_refusal : IfErr result (IsStopAt which holds)
+
+-- the file of a name was read, the one of this number
+abbrev pub ReadsFile : {S V : Type 0} → (S → List ℕ → Option (List ℕ)) → (S → List Taken) → (S → ℕ) → S → S → List ℕ → ℕ → (List ℕ → Read V → Type 0) → (Read V → Type 0) → Result V Stop → Type 0
+ReadsFile content taken faults old new name which reads holds result = (t : Taken) × ReadsAs content taken faults old new name which reads holds result t
+
+-- the bytes of the file of a name were read, up to a limit
+pub record ReadsWhole {S : Type 0} (content : S → List ℕ → Option (List ℕ)) (taken : S → List Taken) (faults : S → ℕ) (old new : S) (name : List ℕ) (limit : ℕ)
+    (result : Result Whole Stop) (t : Taken) : Type 0 where
+  pub asks : TakesOne (taken old) (taken new) t (read_status result)
+  pub named : t.name ≡ name
+  pub told : IfSome (content old name) (FitsTaken t)
+  pub whole : IfOk result (λ whole. (bytes : List ℕ) → FitsTaken t bytes → IsWhole limit bytes whole)
 
 -- the value that was read of the file with this number, or its refusal
 abbrev pub value_of : {V : Type 0} → ℕ → Read V → Result V Stop

@@ -1,14 +1,15 @@
--- What a run asks for, reads and writes. A shelf is seen by the bytes of its files, the names that it was asked for,
+-- What a run takes, reads and writes. A shelf is seen by what was taken of its files, the bytes that it tells of them,
 -- and its count of faults.
-use Rattle.std.specs.Prelude.{◌≡◌, ◌≢◌, ◌⊎◌, ⊤, ℕ, ◌-◌, ◌<◌, ◌≤◌, List, [], ◌∷◌, ◌++◌, take, length, Option, Some, None, IfSome, Result, IfOk, IfErr, codes}
+use Rattle.std.specs.Prelude.{◌≡◌, ◌≢◌, ◌⊎◌, ⊤, ℕ, ◌-◌, ◌<◌, ◌≤◌, List, [], ◌∷◌, ◌++◌, take, drop, map, length, Option, Some, None, IfSome, Result, IfOk, IfErr, codes}
 use Rattle.std.specs.Io.KnownBytes.{Appends}
 use Rattle.std.specs.Fmt.{decimal}
 use Rattle.pq_io.specs.Faults.{Rose}
+use Rattle.pq_io.specs.Taken.{Taken}
 use Rattle.pq_io.specs.Sink.{AppendsPrefix}
 use Rattle.row_model.specs.declared.refusal.Refusal.{Refusal}
 use Rattle.command_input.specs.Words.{Command, files_of}
 use Rattle.reply_laws.specs.Replies.{refusable, refusal_of, Replies}
-use Rattle.pq_cli.specs.Reading.{OnlyReads}
+use Rattle.pq_cli.specs.Reading.{FitsTaken, OnlyReads}
 use Rattle.pq_cli.specs.Stops.{reply_status}
 use Rattle.pq_cli.specs.declared.stop.Stop.{Stop}
 use Rattle.pq_cli.specs.declared.stop.Stop.TheVariants as stop
@@ -16,61 +17,78 @@ use Rattle.pq_cli.specs.declared.stop.Failure.{Failure}
 use Rattle.pq_cli.specs.declared.stop.Failure.TheVariants as failure
 use Rattle.verdict_replies.specs.declared.reply.Reply.{Reply}
 
--- the files of these names have these bytes, as a shelf tells them
-abbrev pub AllTold : (List ℕ → Option (List ℕ)) → List (List ℕ) → List (List ℕ) → Type 0
-AllTold told [] [] = ⊤
-AllTold told [] (_ ∷ _) = ⊥
-AllTold told (_ ∷ _) [] = ⊥
-AllTold told (name ∷ names) (bytes ∷ files) = (told name ≡ Some bytes) × AllTold told names files
+-- these may be the bytes of the files that were taken
+abbrev pub AllFit : List Taken → List (List ℕ) → Type 0
+AllFit [] [] = ⊤
+AllFit [] (_ ∷ _) = ⊥
+AllFit (_ ∷ _) [] = ⊥
+AllFit (t ∷ ts) (bytes ∷ files) = FitsTaken t bytes × AllFit ts files
 
--- a fact about the bytes of a command's files, where a shelf tells them
-abbrev pub WhereTold : (List ℕ → Option (List ℕ)) → Command → (List (List ℕ) → Type 0) → Type 0
-WhereTold told command P = (files : List (List ℕ)) → AllTold told (files_of command) files → P files
+-- a fact about the bytes of the files that were taken
+abbrev pub OfTaken : List Taken → (List (List ℕ) → Type 0) → Type 0
+OfTaken ts P = (files : List (List ℕ)) → AllFit ts files → P files
 
--- the same of its first n files
-abbrev pub WhereFirstTold : (List ℕ → Option (List ℕ)) → Command → ℕ → (List (List ℕ) → Type 0) → Type 0
-WhereFirstTold told command n P = (files : List (List ℕ)) → AllTold told (take n (files_of command)) files → P files
+-- where a shelf tells the bytes of a file, they are what was taken of it
+abbrev pub AgreesWith : (List ℕ → Option (List ℕ)) → List Taken → Type 0
+AgreesWith told [] = ⊤
+AgreesWith told (t ∷ ts) = IfSome (told t.name) (FitsTaken t) × AgreesWith told ts
+
+-- the names of the files that were taken
+abbrev pub names_taken : List Taken → List (List ℕ)
+names_taken ts = map (λ t. t.name) ts
+
+-- what was taken since
+abbrev pub taken_since : List Taken → List Taken → List Taken
+taken_since before after = drop (length before) after
 
 -- what stands for the command of the words, if they have one
 abbrev pub ForCommand : Option Command → (Command → Type 0) → Type 0
 ForCommand command P = IfSome command P
 
--- The first n files of a command were asked for and no other name: one or more where a file can't be read, and all of
--- them where there is a reply. A later file was asked for only where those before it are not refused.
-pub record AsksInTurn (told : List ℕ → Option (List ℕ)) (command : Command) (before after : List (List ℕ)) (status n : ℕ) : Type 0 where
-  pub few : n ≤ length (files_of command)
-  pub names : after ≡ before ++ take n (files_of command)
-  pub on_fault : status ≡ 4 → 0 < n
-  pub on_reply : status ≡ 0 ⊎ status ≡ 1 ⊎ status ≡ 5 → n ≡ length (files_of command)
-  pub in_turn : 1 < n → WhereFirstTold told command (n - 1) (λ files. refusal_of command files ≡ None)
+-- These files of a command were taken, its first ones, and no other: one or more where a file can't be read, and all of
+-- them where there is a reply. A later file was taken only where those before it are not refused.
+pub record TakesInTurn (told : List ℕ → Option (List ℕ)) (command : Command) (ts : List Taken) (status : ℕ) : Type 0 where
+  pub few : length ts ≤ length (files_of command)
+  pub names : names_taken ts ≡ take (length ts) (files_of command)
+  pub agree : AgreesWith told ts
+  pub on_fault : status ≡ 4 → 0 < length ts
+  pub on_reply : status ≡ 0 ⊎ status ≡ 1 ⊎ status ≡ 5 → length ts ≡ length (files_of command)
+  pub in_turn : 1 < length ts → OfTaken (take (length ts - 1) ts) (λ files. refusal_of command files ≡ None)
 
 -- The file of this number, counted from 1, is the first of the command's files that is refused, and this is its
--- refusal. It is one of those that may be refused, and the last that was asked for.
-pub record EndsAtRefusal (told : List ℕ → Option (List ℕ)) (command : Command) (before after : List (List ℕ)) (which : ℕ) (refusal : Refusal) : Type 0 where
+-- refusal. It is one of those that may be refused, and the last that was taken.
+pub record EndsAtRefusal (command : Command) (ts : List Taken) (which : ℕ) (refusal : Refusal) : Type 0 where
   pub from : 1 ≤ which
   pub to : which ≤ refusable command
-  pub last : after ≡ before ++ take which (files_of command)
-  pub first : WhereFirstTold told command which (λ files. refusal_of command files ≡ Some (which, refusal))
+  pub last : length ts ≡ which
+  pub first : OfTaken ts (λ files. refusal_of command files ≡ Some (which, refusal))
 
 -- a refusal is the one at which the reading of the command's files ends
-abbrev pub StopsAt : (List ℕ → Option (List ℕ)) → Command → List (List ℕ) → List (List ℕ) → Stop → Type 0
-StopsAt told command before after (stop.Refused which refusal) = EndsAtRefusal told command before after which refusal
-StopsAt told command before after stop.ReadFault = ⊤
-StopsAt told command before after stop.NoMemory = ⊤
+abbrev pub StopsAt : Command → List Taken → Stop → Type 0
+StopsAt command ts (stop.Refused which refusal) = EndsAtRefusal command ts which refusal
+StopsAt command ts stop.ReadFault = ⊤
+StopsAt command ts stop.NoMemory = ⊤
 
--- the files of a command were asked for in turn and only read, and the status 3 comes where one of them is refused
-pub record TakesFiles {S : Type 0} (content : S → List ℕ → Option (List ℕ)) (asked : S → List (List ℕ)) (faults : S → ℕ) (old new : S) (command : Command) (status : ℕ) : Type 0 where
-  pub asks : (n : ℕ) × AsksInTurn (content old) command (asked old) (asked new) status n
+-- the files of a command were taken in turn and only read, and the status 3 comes where one of them is refused
+pub record TakesThese {S : Type 0} (content : S → List ℕ → Option (List ℕ)) (taken : S → List Taken) (faults : S → ℕ) (old new : S) (command : Command) (status : ℕ) (ts : List Taken) : Type 0 where
+  pub takes : taken new ≡ taken old ++ ts
+  pub asks : TakesInTurn (content old) command ts status
   pub shelf : OnlyReads content faults old new status
-  pub refused : status ≡ 3 → (which : ℕ) × (refusal : Refusal) × EndsAtRefusal (content old) command (asked old) (asked new) which refusal
+  pub refused : status ≡ 3 → (which : ℕ) × (refusal : Refusal) × EndsAtRefusal command ts which refusal
 
--- A command ran up to its reply, which has status 0 or 1 and is one to the bytes of its files; or something stood in
--- its way.
-pub record RunsCommand {S : Type 0} (content : S → List ℕ → Option (List ℕ)) (asked : S → List (List ℕ)) (faults : S → ℕ) (old new : S) (command : Command) (result : Result Reply Stop) : Type 0 where
-  pub files : TakesFiles content asked faults old new command (reply_status result)
-  pub stop : IfErr result (StopsAt (content old) command (asked old) (asked new))
+abbrev pub TakesFiles : {S : Type 0} → (S → List ℕ → Option (List ℕ)) → (S → List Taken) → (S → ℕ) → S → S → Command → ℕ → Type 0
+TakesFiles content taken faults old new command status = TakesThese content taken faults old new command status (taken_since (taken old) (taken new))
+
+-- A command ran up to its reply, which has status 0 or 1 and is one to the bytes of the files that were taken; or
+-- something stood in its way.
+pub record RunsOver {S : Type 0} (content : S → List ℕ → Option (List ℕ)) (taken : S → List Taken) (faults : S → ℕ) (old new : S) (command : Command) (result : Result Reply Stop) (ts : List Taken) : Type 0 where
+  pub files : TakesThese content taken faults old new command (reply_status result) ts
+  pub stop : IfErr result (StopsAt command ts)
   pub status : IfOk result (λ reply. (reply.status ≡ 0) ⊎ (reply.status ≡ 1))
-  pub reply : IfOk result (λ reply. WhereTold (content old) command (λ files. Replies command files reply.status reply.text.items))
+  pub reply : IfOk result (λ reply. OfTaken ts (λ files. Replies command files reply.status reply.text.items))
+
+abbrev pub RunsCommand : {S : Type 0} → (S → List ℕ → Option (List ℕ)) → (S → List Taken) → (S → ℕ) → S → S → Command → Result Reply Stop → Type 0
+RunsCommand content taken faults old new command result = RunsOver content taken faults old new command result (taken_since (taken old) (taken new))
 
 -- a reply was written whole, and the status is its
 abbrev pub WritesReply : Command → List (List ℕ) → ℕ → Option (List ℕ) → Option (List ℕ) → Type 0
@@ -82,9 +100,9 @@ WritesPart command files before after = (status : ℕ) × (text : List ℕ) × R
 
 -- What was written with this status is the reply to a command over these files: all of it with the status of the reply,
 -- or some first bytes of it with status 5.
-pub record WritesOut (told : List ℕ → Option (List ℕ)) (command : Command) (before after : Option (List ℕ)) (status : ℕ) : Type 0 where
-  pub whole : (status ≡ 0) ⊎ (status ≡ 1) → WhereTold told command (λ files. WritesReply command files status before after)
-  pub cut_short : status ≡ 5 → WhereTold told command (λ files. WritesPart command files before after)
+pub record WritesOut (ts : List Taken) (command : Command) (before after : Option (List ℕ)) (status : ℕ) : Type 0 where
+  pub whole : (status ≡ 0) ⊎ (status ≡ 1) → OfTaken ts (λ files. WritesReply command files status before after)
+  pub cut_short : status ≡ 5 → OfTaken ts (λ files. WritesPart command files before after)
 
 -- a sink's count of faults never falls; it rose where the status is 5, and changed nowhere else
 pub record CountsWrites (before after status : ℕ) : Type 0 where
@@ -115,10 +133,10 @@ failure_line (failure.Stopped s) = stop_line s
 failure_line failure.WriteFault = codes "pq: write fault\n"
 
 -- The line that goes with a status which is no reply's. Status 3 tells which file is refused and how.
-pub record IsLineOf (told : List ℕ → Option (List ℕ)) (command : Option Command) (before after : List (List ℕ)) (status : ℕ) (line : List ℕ) : Type 0 where
+pub record IsLineOf (command : Option Command) (ts : List Taken) (status : ℕ) (line : List ℕ) : Type 0 where
   pub words : status ≡ 2 → line ≡ codes "pq: words\n"
   pub refused : status ≡ 3 → (which : ℕ) × (refusal : Refusal) × (line ≡ refused_line which refusal)
-      × ForCommand command (λ c. EndsAtRefusal told c before after which refusal)
+      × ForCommand command (λ c. EndsAtRefusal c ts which refusal)
   pub read_fault : status ≡ 4 → line ≡ codes "pq: read fault\n"
   pub write_fault : status ≡ 5 → line ≡ codes "pq: write fault\n"
   pub no_memory : status ≡ 6 → line ≡ codes "pq: no memory\n"

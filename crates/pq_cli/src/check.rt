@@ -25,7 +25,7 @@ pub fn check_file<F: Shelf>(
     verdict: &str,
     files: &mut F,
 ) -> Result<Reply, Stop>
-    ensures { RunsCommand F.content F.asked F.faults files.old files.new
+    ensures { RunsCommand F.content F.taken F.faults files.old files.new
         (Check kind file.now verdict.now) result }
 {
     let instance = read_file(alloc, &InstanceFile { kind }, 1, file, files)?;

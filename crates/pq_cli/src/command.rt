@@ -25,7 +25,7 @@ use std::alloc::Global;
 /// What stood in the way of the reply.
 pub fn perform<F: Shelf>(alloc: Global, task: &Task<'_>, files: &mut F) -> Result<Reply, Stop>
     requires { IsInGrammar (command_seen task.now) }
-    ensures { RunsCommand F.content F.asked F.faults files.old files.new (command_seen task.now)
+    ensures { RunsCommand F.content F.taken F.faults files.old files.new (command_seen task.now)
         result }
 {
     match task {

@@ -26,7 +26,7 @@ pub fn core_file<F: Shelf>(
     files: &mut F,
 ) -> Result<Reply, Stop>
     requires { IsExtended kind }
-    ensures { RunsCommand F.content F.asked F.faults files.old files.new (Core kind file.now) result }
+    ensures { RunsCommand F.content F.taken F.faults files.old files.new (Core kind file.now) result }
 {
     let instance = read_file(alloc, &InstanceFile { kind }, 1, file, files)?;
     Ok(blame_reply(alloc, kind, &instance)?)

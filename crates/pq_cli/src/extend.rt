@@ -28,7 +28,7 @@ pub fn extend_file<F: Shelf>(
     files: &mut F,
 ) -> Result<Reply, Stop>
     requires { IsExtended kind }
-    ensures { RunsCommand F.content F.asked F.faults files.old files.new
+    ensures { RunsCommand F.content F.taken F.faults files.old files.new
         (Extend kind file.now rows.now) result }
 {
     let Instance::Plain(_, base) = read_file(alloc, &InstanceFile { kind }, 1, file, files)? else {

@@ -1,8 +1,9 @@
 // The files of a command: each is read whole, and its bytes by the form that it should have.
 ghost use Rattle.std.specs.Prelude.{◌≡◌, ◌≤◌, ◌^◌, List, ℕ, IsOk, IfOk, IfErr, IfSome};
 ghost use Rattle.row_model.specs.declared.code.TheConstants.{LIMIT};
+ghost use Rattle.pq_io.specs.Taken.{Taken};
 ghost use Rattle.pq_io.specs.Whole.{IsWhole};
-ghost use Rattle.pq_cli.specs.Reading.{AsksOne, OnlyReads, IsReadStop, ReadsFile, value_of};
+ghost use Rattle.pq_cli.specs.Reading.{OnlyReads, IsReadStop, ReadsFile, ReadsWhole, value_of};
 ghost use Rattle.pq_cli.specs.Stops.{read_status};
 
 use crate::NoMemory;
@@ -57,7 +58,7 @@ pub fn read_file<F: Shelf, V: Drop, R: FileForm<Value = V>>(
     files: &mut F,
 ) -> Result<V, Stop>
     requires { R.MAX_BYTES ≤ 2 ^ 32 }
-    ensures { ReadsFile F.content F.asked F.faults files.old files.new name.now which
+    ensures { ReadsFile F.content F.taken F.faults files.old files.new name.now which
         (R.reads form.now) (R.holds form.now) result }
 {
     let whole = read_bytes(alloc, name, R::MAX_BYTES, files)?;
@@ -87,10 +88,8 @@ pub fn too_long() -> Refusal
 // The bytes of the file of this name, up to a limit.
 fn read_bytes<F: Shelf>(alloc: Global, name: &str, limit: u64, files: &mut F) -> Result<Whole, Stop>
     requires { limit ≤ 2 ^ 32 }
-    ensures asks { AsksOne (F.asked files.old) (F.asked files.new) name.now (read_status result) }
+    ensures whole { (t : Taken) × ReadsWhole F.content F.taken F.faults files.old files.new name.now limit result t }
     ensures shelf { OnlyReads F.content F.faults files.old files.new (read_status result) }
-    ensures whole { IfOk result (λ whole.
-        IfSome (F.content files.old name.now) (λ bytes. IsWhole limit bytes whole)) }
     ensures stop { IfErr result IsReadStop }
 {
     match files.choose(alloc, name) {

@@ -23,6 +23,7 @@ mod extend;
 mod input;
 mod list;
 mod meet;
+mod real;
 mod report;
 mod solve;
 mod stop;
@@ -31,13 +32,15 @@ mod unit;
 mod unit_check;
 
 pub use commands::{MAX_CORE_BYTES, MAX_VERDICT_BYTES, TREE_CODE, tree_file_law};
+pub use real::{own_law, run_real, told_law};
 pub use reply_laws::{
     check_law, core_judgement_law, core_law, extend_law, list_law, meet_law, model_law,
     promise_law, reply_law, solved_law, unit_check_law, unit_reply_law,
 };
 pub use row_model::NoMemory;
 pub use solve_replies::{MAX_EXPLAINED, generate, generated_law};
-pub use top::run;
+pub use stop::{Failure, Stop};
+pub use top::{decide, run};
 
 /// The values of the constants.
 pub fn values_law()

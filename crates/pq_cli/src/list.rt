@@ -28,7 +28,7 @@ pub fn list_file<F: Shelf>(
 ) -> Result<Reply, Stop>
     requires kind { IsExtended kind }
     requires count { (1 ≤ count) × (count ≤ MAX_ORDERS) }
-    ensures { RunsCommand F.content F.asked F.faults files.old files.new
+    ensures { RunsCommand F.content F.taken F.faults files.old files.new
         (ListOrders kind file.now count) result }
 {
     let Instance::Plain(_, matrix) = read_file(alloc, &InstanceFile { kind }, 1, file, files)?

@@ -27,7 +27,7 @@ pub fn meet_files<F: Shelf>(
     files: &mut F,
 ) -> Result<Reply, Stop>
     requires { (1 ≤ columns) × (columns ≤ MAX_COLUMNS) }
-    ensures { RunsCommand F.content F.asked F.faults files.old files.new
+    ensures { RunsCommand F.content F.taken F.faults files.old files.new
         (Meet columns first.now second.now) result }
 {
     let form = TreeFile { columns };

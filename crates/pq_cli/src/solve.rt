@@ -22,7 +22,7 @@ pub fn solve_file<F: Shelf>(
     file: &str,
     files: &mut F,
 ) -> Result<Reply, Stop>
-    ensures { RunsCommand F.content F.asked F.faults files.old files.new (Solve kind file.now)
+    ensures { RunsCommand F.content F.taken F.faults files.old files.new (Solve kind file.now)
         result }
 {
     let instance = read_file(alloc, &InstanceFile { kind }, 1, file, files)?;

@@ -1,7 +1,7 @@
 // The top call: one command, from the words to the status.
 ghost use Rattle.std.specs.Prelude.{◌≡◌, ◌⊎◌, ◌↔◌, ◌≤◌, IfNone, IfOk, IfErr, IsNone, List, ℕ};
 ghost use Rattle.command_input.specs.Words.{texts, command_of};
-ghost use Rattle.pq_cli.specs.Runs.{ForCommand, TakesFiles, WritesOut, CountsWrites, Offers, IsLineOf, failure_line};
+ghost use Rattle.pq_cli.specs.Runs.{ForCommand, TakesFiles, taken_since, WritesOut, CountsWrites, Offers, IsLineOf, failure_line};
 ghost use Rattle.pq_cli.specs.Stops.{run_status, failure_status};
 ghost use Rattle.pq_cli.specs.Promise.{NothingFails, Completes, KeepsPromise};
 
@@ -58,11 +58,11 @@ pub fn run<F: Shelf, O: Sink, E: Sink>(
 
     // The files are read in turn, and a file that can't be read or is refused gives the status.
     ensures files { ForCommand (command_of (texts words.now)) (λ c.
-        TakesFiles F.content F.asked F.faults files.old files.new c result) }
+        TakesFiles F.content F.taken F.faults files.old files.new c result) }
 
     // What is written is a reply to the bytes of the files.
     ensures output { ForCommand (command_of (texts words.now)) (λ c.
-        WritesOut (F.content files.old) c (O.written out.old) (O.written out.new) result) }
+        WritesOut (taken_since (F.taken files.old) (F.taken files.new)) c (O.written out.old) (O.written out.new) result) }
     ensures write_fault { CountsWrites (O.faults out.old) (O.faults out.new) result }
     ensures unwritten { (result ≡ 2) ⊎ (result ≡ 3) ⊎ (result ≡ 4) ⊎ (result ≡ 6)
         → out.new ≡ out.old }
@@ -73,8 +73,8 @@ pub fn run<F: Shelf, O: Sink, E: Sink>(
     // What stands in the way is told of.
     ensures quiet { (result ≡ 0) ⊎ (result ≡ 1) → err.new ≡ err.old }
     ensures line { 2 ≤ result → (line : List ℕ)
-        × IsLineOf (F.content files.old) (command_of (texts words.now)) (F.asked files.old)
-        (F.asked files.new) result line
+        × IsLineOf (command_of (texts words.now))
+        (taken_since (F.taken files.old) (F.taken files.new)) result line
         × Offers (E.written err.old) (E.written err.new) (E.faults err.old) (E.faults err.new)
         line }
 
@@ -83,11 +83,11 @@ pub fn run<F: Shelf, O: Sink, E: Sink>(
     ensures complete { ForCommand (command_of (texts words.now)) (λ c.
         NothingFails (F.faults files.old) (F.faults files.new) (O.faults out.old)
         (O.faults out.new) result
-        → Completes (F.content files.old) c (O.written out.old) (O.written out.new) result) }
+        → Completes (taken_since (F.taken files.old) (F.taken files.new)) c (O.written out.old) (O.written out.new) result) }
     ensures promise { ForCommand (command_of (texts words.now)) (λ c.
         NothingFails (F.faults files.old) (F.faults files.new) (O.faults out.old)
         (O.faults out.new) result
-        → KeepsPromise (F.content files.old) c (O.written out.old) (O.written out.new) result) }
+        → KeepsPromise (taken_since (F.taken files.old) (F.taken files.new)) c (O.written out.old) (O.written out.new) result) }
 {
     promise_law();
     match decide(alloc, words, files, out) {
@@ -99,8 +99,13 @@ pub fn run<F: Shelf, O: Sink, E: Sink>(
     }
 }
 
-// The run but for its line on `err`, on which nothing here can depend: the status of a reply that was written whole.
-fn decide<F: Shelf, O: Sink>(
+/// Does what [`run`] does but for its line on the sink of errors, which this call isn't handed: so no status, and nothing
+/// that is read or written, depends on it. It answers the status of a reply that was written whole.
+///
+/// # Errors
+///
+/// Why there is no such reply. [`run`] writes the line of the failure, and answers its status.
+pub fn decide<F: Shelf, O: Sink>(
     alloc: Global,
     words: &[String],
     files: &mut F,
@@ -109,17 +114,17 @@ fn decide<F: Shelf, O: Sink>(
     ensures words { (run_status result ≡ 2) ↔ IsNone (command_of (texts words.now)) }
     ensures unread { IfNone (command_of (texts words.now)) (files.new ≡ files.old) }
     ensures files { ForCommand (command_of (texts words.now)) (λ c.
-        TakesFiles F.content F.asked F.faults files.old files.new c (run_status result)) }
+        TakesFiles F.content F.taken F.faults files.old files.new c (run_status result)) }
     ensures output { ForCommand (command_of (texts words.now)) (λ c.
-        WritesOut (F.content files.old) c (O.written out.old) (O.written out.new)
+        WritesOut (taken_since (F.taken files.old) (F.taken files.new)) c (O.written out.old) (O.written out.new)
         (run_status result)) }
     ensures write_fault { CountsWrites (O.faults out.old) (O.faults out.new) (run_status result) }
     ensures unwritten { (run_status result ≡ 2) ⊎ (run_status result ≡ 3) ⊎ (run_status result ≡ 4)
         ⊎ (run_status result ≡ 6) → out.new ≡ out.old }
     ensures status { IfOk result (λ status. (status ≡ 0) ⊎ (status ≡ 1)) }
     ensures line { IfErr result (λ failure.
-        IsLineOf (F.content files.old) (command_of (texts words.now)) (F.asked files.old)
-        (F.asked files.new) (failure_status failure) (failure_line failure)) }
+        IsLineOf (command_of (texts words.now))
+        (taken_since (F.taken files.old) (F.taken files.new)) (failure_status failure) (failure_line failure)) }
 {
     let Some(task) = task_of(words) else {
         return Err(Failure::Words);

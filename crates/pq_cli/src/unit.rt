@@ -17,7 +17,7 @@ use std::alloc::Global;
 ///
 /// What stood in the way of the reply.
 pub fn unit_file<F: Shelf>(alloc: Global, file: &str, files: &mut F) -> Result<Reply, Stop>
-    ensures { RunsCommand F.content F.asked F.faults files.old files.new (UnitModel file.now)
+    ensures { RunsCommand F.content F.taken F.faults files.old files.new (UnitModel file.now)
         result }
 {
     let form = InstanceFile { kind: Kind::Proper };

@@ -22,7 +22,7 @@ pub fn check_unit_file<F: Shelf>(
     unit: &str,
     files: &mut F,
 ) -> Result<Reply, Stop>
-    ensures { RunsCommand F.content F.asked F.faults files.old files.new
+    ensures { RunsCommand F.content F.taken F.faults files.old files.new
         (CheckUnit file.now unit.now) result }
 {
     let form = InstanceFile { kind: Kind::Proper };

@@ -1,7 +1,7 @@
 //! A run of `gen 7 6 4`, which is stored with what it writes: the same bytes, whichever compiler has built it.
 #![tactic(auto)]
 
-use pq_cli::run;
+use pq_cli::run_real;
 use pq_io::{NoMemory, RealShelf, RealSink};
 use std::alloc::Global;
 use std::process::ExitCode;
@@ -22,7 +22,7 @@ fn main(rt: HostRuntime) -> ExitCode {
     let Ok(words) = words_of(alloc) else {
         return ExitCode::from(6);
     };
-    let mut files = RealShelf::new(alloc, rt);
-    let status = run(alloc, &words, &mut files, &mut out, &mut err);
+    let mut files = RealShelf::new(rt);
+    let status = run_real(alloc, &words, &mut files, &mut out, &mut err);
     ExitCode::from(status)
 }

@@ -10,4 +10,5 @@ pub mod RealShelf
 pub mod RealSink
 pub mod Shelf
 pub mod Sink
+pub mod Taken
 pub mod Whole

@@ -1,5 +1,5 @@
 -- How a shelf in memory keeps what it holds.
-use Rattle.std.specs.Prelude.{ℕ, ◌<◌, ◌≤◌, List, length, map, drop, string_bytes, option_map, IfSome}
+use Rattle.std.specs.Prelude.{ℕ, ◌<◌, ◌≤◌, List, length, drop, option_map, IfSome}
 use Rattle.pq_io.specs.NamedFiles.{Held}
 use Rattle.pq_io.specs.MemFile.{named_files, bytes_at}
 use Rattle.pq_io.specs.declared.mem_shelf.MemFile.{MemFile}
@@ -19,7 +19,7 @@ abbrev pub held : Inside → Held
 held shelf = record {
   files = named_files shelf.files.items;
   left = option_map (left_at shelf.files.items) shelf.chosen;
-  asked = map string_bytes shelf.asked.items;
+  taken = shelf.history.files;
   piece = shelf.piece;
   failing = shelf.failing.items;
   calls = shelf.calls;

@@ -1,13 +1,14 @@
 -- What a shelf that never fails holds.
 use Rattle.std.specs.Prelude.{◌≡◌, ℕ, List, [], Option, Some, if◌then◌else◌, unwrap_or}
+use Rattle.pq_io.specs.Taken.{Taken}
 use Rattle.pq_io.specs.NamedFiles.{NamedFile, content_of}
 use Rattle.pq_io.specs.declared.never_shelf.NeverShelf.TheInside.{Inside}
 
--- its files in the order in which they were added, the bytes left of the chosen one, and the names asked for
+-- its files in the order in which they were added, the bytes left of the chosen one, and the files taken
 pub record Kept : Type 0 where
   pub files : List NamedFile
   pub left : Option (List ℕ)
-  pub asked : List (List ℕ)
+  pub taken : List Taken
 
 -- the bytes of the last file with this name, or none where there is no such file
 abbrev pub content_or_empty : List NamedFile → List ℕ → List ℕ
@@ -18,7 +19,7 @@ abbrev pub kept : Inside → Kept
 kept shelf = record {
   files = shelf.shelf.files;
   left = if shelf.is_missing then Some [] else shelf.shelf.left;
-  asked = shelf.shelf.asked;
+  taken = shelf.history.files;
 }
 
 -- no call of the shelf below is to fail

@@ -1,8 +1,10 @@
 -- What contracts see of the files of the system.
-use Rattle.std.specs.Prelude.{ℕ, Bool, List}
+use Rattle.std.specs.Prelude.{ℕ, Bool, List, Option}
+use Rattle.pq_io.specs.Taken.{Taken}
 
--- the names asked for, whether a file is chosen, and how many calls have failed
+-- the files taken, whether a file is chosen, what its reader tells is left of it, and how many calls have failed
 pub record Asked : Type 0 where
-  pub asked : List (List ℕ)
+  pub taken : List Taken
   pub has_chosen : Bool
+  pub left : Option (List ℕ)
   pub faults : ℕ

@@ -1,14 +1,8 @@
 -- What the choice of a file does to a shelf.
-use Rattle.std.specs.Prelude.{◌≡◌, ⊤, ℕ, ◌≤◌, Bool, true, false, List, [], ◌∷◌, ◌++◌, Result, Ok, Err}
+use Rattle.std.specs.Prelude.{◌≡◌, ⊤, ℕ, ◌≤◌, Bool, true, false, Result, Ok, Err}
 use Rattle.pq_io.specs.Faults.{Rose, one_more}
 use Rattle.pq_io.specs.declared.error.ChooseError.{ChooseError}
 use Rattle.pq_io.specs.declared.error.ChooseError.TheVariants as choice
-
--- the name joins the names asked for, but where memory was refused
-abbrev pub Asks : {T : Type 0} → List (List ℕ) → List (List ℕ) → List ℕ → Result T ChooseError → Type 0
-Asks old new name (Ok _) = new ≡ old ++ name ∷ []
-Asks old new name (Err choice.Failed) = new ≡ old ++ name ∷ []
-Asks old new name (Err choice.NoMemory) = new ≡ old
 
 -- `Failed` comes only where the count rose
 abbrev pub FailsOnlyIfRose : {T : Type 0} → ℕ → ℕ → Result T ChooseError → Type 0

@@ -1,7 +1,8 @@
 -- What the reading of a whole file gives.
-use Rattle.std.specs.Prelude.{◌≡◌, ⊤, ℕ, ◌<◌, ◌≤◌, List, length, vec_len, Option, Result, Ok, Err}
-use Rattle.std.specs.Io.KnownBytes.{IsAtEnd}
+use Rattle.std.specs.Prelude.{◌≡◌, ⊤, ℕ, ◌<◌, ◌≤◌, Bool, true, List, length, vec_len, Option, Result, Ok, Err, IfOk}
+use Rattle.std.specs.Io.KnownBytes.{Consumes, IsAtEnd}
 use Rattle.pq_io.specs.Faults.{Rose}
+use Rattle.pq_io.specs.Taken.{Taken, handed_out}
 use Rattle.pq_io.specs.declared.reading.Whole.{Whole}
 use Rattle.pq_io.specs.declared.reading.Whole.TheVariants as whole
 use Rattle.pq_io.specs.declared.error.ReadFail.{ReadFail}
@@ -38,3 +39,19 @@ ChangedOnlyIfFault before now (Err fail.NoMemory) = now ≡ before
 pub record HasReadCause {T : Type 0} (before now : ℕ) (result : Result T ReadFail) : Type 0 where
   pub later : before ≤ now
   pub failed : FaultsOnlyIfRose before now result
+
+-- what was read is what was handed out: all of it up to the end, or that it is more than the limit
+abbrev pub IsHandedOut : ℕ → List ℕ → Bool → Whole → Type 0
+IsHandedOut limit piece ended (whole.Bytes read) = (read.items ≡ piece) × (ended ≡ true)
+IsHandedOut limit piece ended whole.TooLong = limit < length piece
+
+-- reads handed out this piece of the last file, and came to its end where `ended`
+pub record HandsOutPart (left_old left_new : Option (List ℕ)) (old new : List Taken) (piece : List ℕ) (ended : Bool) : Type 0 where
+  pub taken : new ≡ handed_out piece ended old
+  pub consumed : Consumes left_old left_new piece
+  pub end : ended ≡ true → IsAtEnd left_new
+
+-- the reads of a whole file handed out what was read of it, or some bytes where one failed
+abbrev pub HandsOutWhole : ℕ → Option (List ℕ) → Option (List ℕ) → List Taken → List Taken → Result Whole ReadFail → Type 0
+HandsOutWhole limit left_old left_new old new result =
+    (piece : List ℕ) × (ended : Bool) × HandsOutPart left_old left_new old new piece ended × IfOk result (IsHandedOut limit piece ended)

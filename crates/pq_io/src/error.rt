@@ -13,7 +13,7 @@ pub struct Failed;
 pub enum ChooseError {
     /// The file is missing, or it could not be opened. The shelf counted a fault.
     Failed,
-    /// Memory was refused. The shelf asked for no file.
+    /// Memory was refused. The shelf doesn't tell of the name.
     NoMemory,
 }
 

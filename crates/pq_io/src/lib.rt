@@ -10,6 +10,7 @@
 #![tactic(auto)]
 
 mod error;
+mod history;
 mod mem_shelf;
 mod mem_sink;
 mod never_shelf;

@@ -3,10 +3,12 @@ ghost use Rattle.std.specs.Prelude.{◌≡◌, ◌≢◌, ◌<◌, ◌≤◌, �
 ghost use Rattle.std.specs.Io.{ReadsAtMost};
 ghost use Rattle.std.specs.Io.KnownBytes.{ReadConsumes};
 ghost use Rattle.pq_io.specs.Faults.{HasCause, ChangedOnlyIfFailed, one_more, count_after, is_to_fail};
-ghost use Rattle.pq_io.specs.Shelf.{Asks, HasChoiceCause, ChangedOnlyIfNotFound, FailsExactly, count_after_choice};
+ghost use Rattle.pq_io.specs.Taken.{Asks, HandsOut};
+ghost use Rattle.pq_io.specs.Shelf.{HasChoiceCause, ChangedOnlyIfNotFound, FailsExactly, count_after_choice};
 ghost use Rattle.pq_io.specs.NamedFiles.{content_of};
 ghost use Rattle.pq_io.specs.MemFile.{bytes_at, has_name, IsNamedByNone};
 
+use crate::history::History;
 use crate::{ChooseError, Failed, NoMemory, Shelf};
 use std::alloc::Global;
 use std::marker::Model;
@@ -35,7 +37,7 @@ pub struct MemShelf {
     alloc: Global,
     files: Vec<MemFile>,
     chosen: Option<Place>,
-    asked: Vec<String>,
+    history: History,
     piece: usize,
     failing: Vec<u64>,
     calls: u64,
@@ -57,13 +59,13 @@ impl Model for MemShelf {
 impl MemShelf {
     /// A shelf with no files and no faults, which has asked for none. A read gives as many bytes as there is room for.
     pub fn new(alloc: Global) -> Self
-        ensures { result ≡ record { files = []; left = None; asked = []; piece = 2 ^ 64 - 1; failing = []; calls = 0; faults = 0 } }
+        ensures { result ≡ record { files = []; left = None; taken = []; piece = 2 ^ 64 - 1; failing = []; calls = 0; faults = 0 } }
     {
         MemShelf {
             alloc,
             files: Vec::new(alloc),
             chosen: None,
-            asked: Vec::new(alloc),
+            history: History::new(),
             piece: usize::MAX,
             failing: Vec::new(alloc),
             calls: 0,
@@ -120,7 +122,7 @@ impl Shelf for MemShelf {
 
     ghost faults = { λ shelf. shelf.faults };
 
-    ghost asked = { λ shelf. shelf.asked };
+    ghost taken = { λ shelf. shelf.taken };
 
     ghost has_chosen = { λ shelf. is_some shelf.left };
 
@@ -129,7 +131,7 @@ impl Shelf for MemShelf {
         ensures chosen { OnOk result (IsTrue (is_some self.new.left)) }
         ensures left { OnOk result (self.new.left ≡ content_of self.old.files name.now) }
         ensures none_chosen { OnErr result (is_some self.new.left ≡ false) }
-        ensures asked { Asks self.old.asked self.new.asked name.now result }
+        ensures asked { Asks self.old.taken self.new.taken name.now result }
         ensures cause { HasChoiceCause self.old.faults self.new.faults result }
         ensures told { ChangedOnlyIfNotFound self.old.faults self.new.faults result }
         ensures content { (other : List ℕ) → content_of self.new.files other ≡ content_of self.old.files other }
@@ -137,11 +139,11 @@ impl Shelf for MemShelf {
         ensures fails { FailsExactly (is_to_fail self.old.failing (one_more self.old.calls) || is_none (content_of self.old.files name.now)) result }
         ensures calls { self.new.calls ≡ one_more self.old.calls }
         ensures count { self.new.faults ≡ count_after_choice self.old.faults result }
-        ensures kept { self.new ≡ record self.old { left = self.new.left; asked = self.new.asked; calls = self.new.calls; faults = self.new.faults } }
+        ensures kept { self.new ≡ record self.old { left = self.new.left; taken = self.new.taken; calls = self.new.calls; faults = self.new.faults } }
     {
         self.calls = self.calls.saturating_add(1);
         self.chosen = None;
-        self.asked.push(String::from_str(self.alloc, name)?)?;
+        self.history.ask(name.as_bytes());
         if self.failing.contains(&self.calls) {
             self.faults = self.faults.saturating_add(1);
             return Err(ChooseError::Failed);
@@ -164,14 +166,14 @@ impl Shelf for MemShelf {
         ensures cause { HasCause self.old.faults self.new.faults result }
         ensures told { ChangedOnlyIfFailed self.old.faults self.new.faults result }
         ensures chosen { IsTrue (is_some self.new.left) }
-        ensures asked { self.new.asked ≡ self.old.asked }
+        ensures taken { HandsOut self.old.taken self.new.taken result buf.new }
         ensures content { (other : List ℕ) → content_of self.new.files other ≡ content_of self.old.files other }
 
         ensures fails { is_err result ≡ is_to_fail self.old.failing (one_more self.old.calls) }
         ensures calls { self.new.calls ≡ one_more self.old.calls }
         ensures count { self.new.faults ≡ count_after self.old.faults result }
         ensures given { IfOk result (λ n. IfSome self.old.left (λ bytes. n ≡ min (length bytes) (min (length buf.old) self.old.piece))) }
-        ensures kept { self.new ≡ record self.old { left = self.new.left; calls = self.new.calls; faults = self.new.faults } }
+        ensures kept { self.new ≡ record self.old { left = self.new.left; taken = self.new.taken; calls = self.new.calls; faults = self.new.faults } }
     {
         self.calls = self.calls.saturating_add(1);
         if self.failing.contains(&self.calls) {
@@ -188,6 +190,7 @@ impl Shelf for MemShelf {
             buf,
         );
         place.read += n;
+        self.history.hand_out(&buf[..n]);
         Ok(n)
     }
 }

@@ -3,6 +3,7 @@ ghost use Rattle.std.specs.Prelude.{◌≡◌, ◌≢◌, ℕ, List, [], Some, N
 ghost use Rattle.pq_io.specs.NamedFiles.{content_of};
 ghost use Rattle.pq_io.specs.NeverShelf.{content_or_empty};
 
+use crate::history::History;
 use crate::{ChooseError, Failed, MemShelf, NoMemory, Shelf};
 use std::alloc::Global;
 use std::marker::Model;
@@ -13,6 +14,7 @@ use std::marker::Model;
 #[derive(Drop)]
 pub struct NeverShelf {
     shelf: MemShelf,
+    history: History,
     // Whether the chosen file is one that was never added.
     is_missing: bool,
 }
@@ -32,10 +34,11 @@ impl Model for NeverShelf {
 impl NeverShelf {
     /// A shelf with no files, which has asked for none.
     pub fn new(alloc: Global) -> Self
-        ensures { result ≡ record { files = []; left = None; asked = [] } }
+        ensures { result ≡ record { files = []; left = None; taken = [] } }
     {
         NeverShelf {
             shelf: MemShelf::new(alloc),
+            history: History::new(),
             is_missing: false,
         }
     }
@@ -64,7 +67,7 @@ impl Shelf for NeverShelf {
 
     ghost faults = { λ _. 0 };
 
-    ghost asked = { λ shelf. shelf.asked };
+    ghost taken = { λ shelf. shelf.taken };
 
     ghost has_chosen = { λ shelf. is_some shelf.left };
 
@@ -72,17 +75,24 @@ impl Shelf for NeverShelf {
         let outcome = self.shelf.choose(alloc, name);
         self.is_missing = matches!(outcome, Err(ChooseError::Failed));
         match outcome {
-            Ok(()) | Err(ChooseError::Failed) => Ok(()),
+            Ok(()) | Err(ChooseError::Failed) => {
+                self.history.ask(name.as_bytes());
+                Ok(())
+            }
             Err(ChooseError::NoMemory) => Err(ChooseError::NoMemory),
         }
     }
 
     fn read(&mut self, buf: &mut [u8]) -> Result<usize, Failed> {
         if self.is_missing {
+            self.history.hand_out(&buf[..0]);
             return Ok(0);
         }
         match self.shelf.read(buf) {
-            Ok(n) => Ok(n),
+            Ok(n) => {
+                self.history.hand_out(&buf[..n]);
+                Ok(n)
+            }
             Err(Failed) => unreachable!(),
         }
     }

@@ -1,7 +1,8 @@
 // A file as a whole.
-ghost use Rattle.std.specs.Prelude.{◌≡◌, ◌≤◌, ◌+◌, ◌^◌, ℕ, List, take, drop, vec_len, IfOk, IfSome, IsTrue};
-ghost use Rattle.std.specs.Io.KnownBytes.{Consumes, IsAtEnd};
-ghost use Rattle.pq_io.specs.Whole.{IsWhole, IsAtMost, LeavesNone, HasReadCause, ChangedOnlyIfFault};
+ghost use Rattle.std.specs.Prelude.{◌≡◌, ◌≤◌, ◌+◌, ◌^◌, ℕ, List, take, drop, vec_len, IfOk, OnErr, IfSome, IsTrue};
+ghost use Rattle.std.specs.Io.KnownBytes.{Consumes, IsAtEnd, Keeps};
+ghost use Rattle.pq_io.specs.Whole.{IsWhole, IsAtMost, LeavesNone, HasReadCause, ChangedOnlyIfFault, HandsOutWhole};
+ghost use Rattle.pq_io.specs.Taken.{HandsOutPiece};
 
 use crate::{ReadFail, Shelf};
 use std::alloc::Global;
@@ -34,7 +35,7 @@ pub fn read_all<F: Shelf>(alloc: Global, shelf: &mut F, limit: u64) -> Result<Wh
     ensures cause { HasReadCause (F.faults shelf.old) (F.faults shelf.new) result }
     ensures told { ChangedOnlyIfFault (F.faults shelf.old) (F.faults shelf.new) result }
     ensures chosen { IsTrue (F.has_chosen shelf.new) }
-    ensures asked { F.asked shelf.new ≡ F.asked shelf.old }
+    ensures taken { HandsOutWhole limit (F.left shelf.old) (F.left shelf.new) (F.taken shelf.old) (F.taken shelf.new) result }
     ensures content { (other : List ℕ) → F.content shelf.new other ≡ F.content shelf.old other }
 {
     let mut bytes = Vec::new(alloc);
@@ -62,10 +63,11 @@ fn read_on<F: Shelf>(shelf: &mut F, bytes: &mut Vec<u8>, filled: usize) -> Resul
     ensures room { IfOk result (λ n. filled + n ≤ vec_len bytes.new) }
     ensures read { IfOk result (λ n. Consumes (F.left shelf.old) (F.left shelf.new) (take n (drop filled bytes.new.items))) }
     ensures end { IfOk result (λ n. n ≡ 0 → IsAtEnd (F.left shelf.new)) }
+    ensures kept { OnErr result (Keeps (F.left shelf.old) (F.left shelf.new)) }
     ensures cause { HasReadCause (F.faults shelf.old) (F.faults shelf.new) result }
     ensures told { ChangedOnlyIfFault (F.faults shelf.old) (F.faults shelf.new) result }
     ensures chosen { IsTrue (F.has_chosen shelf.new) }
-    ensures asked { F.asked shelf.new ≡ F.asked shelf.old }
+    ensures taken { HandsOutPiece filled (F.taken shelf.old) (F.taken shelf.new) result bytes.new.items }
     ensures content { (other : List ℕ) → F.content shelf.new other ≡ F.content shelf.old other }
 {
     if filled == bytes.len() {

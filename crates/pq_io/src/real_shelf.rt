@@ -2,8 +2,11 @@
 ghost use Rattle.std.specs.Prelude.{◌≡◌, [], None, false, length, IsTrue, OnOk, OnErr, ◌<◌};
 ghost use Rattle.std.specs.Io.{ReadsAtMost};
 ghost use Rattle.pq_io.specs.Faults.{HasCause, ChangedOnlyIfFailed, count_after};
-ghost use Rattle.pq_io.specs.Shelf.{Asks, HasChoiceCause, ChangedOnlyIfNotFound, count_after_choice};
+ghost use Rattle.std.specs.Io.KnownBytes.{ReadConsumes};
+ghost use Rattle.pq_io.specs.Shelf.{HasChoiceCause, ChangedOnlyIfNotFound, count_after_choice};
+ghost use Rattle.pq_io.specs.Taken.{Asks, HandsOut};
 
+use crate::history::History;
 use crate::retried::read_retried;
 use crate::{ChooseError, Failed, Shelf};
 use std::alloc::Global;
@@ -27,32 +30,29 @@ enum Chosen<File, Reader> {
 pub struct RealShelf<R: Files + Input> {
     runtime: R,
     chosen: Chosen<R::File, R::Reader>,
-    asked: Vec<String>,
-    alloc: Global,
+    history: History,
     faults: u64,
 }
 
 impl<R: Files + Input> Model for RealShelf<R> {
-    ghost use Rattle.std.specs.Prelude.{map, string_bytes};
     ghost use Rattle.pq_io.specs.RealShelf.{Asked};
 
     ghost Value = { Asked };
 
-    ghost use Rattle.pq_io.specs.Chosen.{is_chosen};
+    ghost use Rattle.pq_io.specs.Chosen.{is_chosen, left_of};
 
-    ghost view = { λ shelf. record { asked = map string_bytes shelf.asked.items; has_chosen = is_chosen shelf.chosen; faults = shelf.faults } };
+    ghost view = { λ shelf. record { taken = shelf.history.files; has_chosen = is_chosen shelf.chosen; left = left_of R.File.remaining R.Reader.remaining shelf.chosen; faults = shelf.faults } };
 }
 
 impl<R: Files + Input> RealShelf<R> {
-    /// A shelf that has asked for no file, with no faults so far. `alloc` serves the list of the names asked for.
-    pub fn new(alloc: Global, runtime: R) -> Self
-        ensures { result ≡ record { asked = []; has_chosen = false; faults = 0 } }
+    /// A shelf that has asked for no file, with no faults so far.
+    pub fn new(runtime: R) -> Self
+        ensures { result ≡ record { taken = []; has_chosen = false; left = None; faults = 0 } }
     {
         RealShelf {
             runtime,
             chosen: Chosen::Nothing,
-            asked: Vec::new(alloc),
-            alloc,
+            history: History::new(),
             faults: 0,
         }
     }
@@ -65,7 +65,7 @@ impl<R: Files + Input + Drop> Shelf for RealShelf<R> {
 
     ghost faults = { λ shelf. shelf.faults };
 
-    ghost asked = { λ shelf. shelf.asked };
+    ghost taken = { λ shelf. shelf.taken };
 
     ghost has_chosen = { λ shelf. shelf.has_chosen };
 
@@ -73,32 +73,27 @@ impl<R: Files + Input + Drop> Shelf for RealShelf<R> {
     fn choose(&mut self, _alloc: Global, name: &str) -> Result<(), ChooseError>
         ensures chosen { OnOk result (IsTrue self.new.has_chosen) }
         ensures none_chosen { OnErr result (self.new.has_chosen ≡ false) }
-        ensures asked { Asks self.old.asked self.new.asked name.now result }
+        ensures asked { Asks self.old.taken self.new.taken name.now result }
         ensures cause { HasChoiceCause self.old.faults self.new.faults result }
         ensures told { ChangedOnlyIfNotFound self.old.faults self.new.faults result }
 
         ensures count { self.new.faults ≡ count_after_choice self.old.faults result }
     {
         self.chosen = Chosen::Nothing;
-        let asked = String::from_str(self.alloc, name)?;
         if name == "-" {
-            self.asked.push(asked)?;
+            self.history.ask(name.as_bytes());
             self.chosen = Chosen::Input(self.runtime.reader());
             return Ok(());
         }
-        let opened = match fs::open(&self.runtime, name) {
-            Err(error) if error.kind() == ErrorKind::OutOfMemory => {
-                return Err(ChooseError::NoMemory);
-            }
-            opened => opened,
-        };
-        self.asked.push(asked)?;
-        match opened {
+        match fs::open(&self.runtime, name) {
             Ok(file) => {
+                self.history.ask(name.as_bytes());
                 self.chosen = Chosen::File(file);
                 Ok(())
             }
+            Err(error) if error.kind() == ErrorKind::OutOfMemory => Err(ChooseError::NoMemory),
             Err(_) => {
+                self.history.ask(name.as_bytes());
                 self.faults = self.faults.saturating_add(1);
                 Err(ChooseError::Failed)
             }
@@ -113,8 +108,9 @@ impl<R: Files + Input + Drop> Shelf for RealShelf<R> {
         ensures cause { HasCause self.old.faults self.new.faults result }
         ensures told { ChangedOnlyIfFailed self.old.faults self.new.faults result }
         ensures chosen { IsTrue self.new.has_chosen }
-        ensures asked { self.new.asked ≡ self.old.asked }
+        ensures taken { HandsOut self.old.taken self.new.taken result buf.new }
 
+        ensures given { ReadConsumes self.old.left self.new.left result buf.new }
         ensures count { self.new.faults ≡ count_after self.old.faults result }
     {
         let outcome = match &mut self.chosen {
@@ -122,9 +118,15 @@ impl<R: Files + Input + Drop> Shelf for RealShelf<R> {
             Chosen::Input(reader) => read_retried(reader, buf),
             Chosen::File(file) => read_retried(file, buf),
         };
-        if outcome.is_err() {
-            self.faults = self.faults.saturating_add(1);
+        match outcome {
+            Ok(n) => {
+                self.history.hand_out(&buf[..n]);
+                Ok(n)
+            }
+            Err(_) => {
+                self.faults = self.faults.saturating_add(1);
+                Err(Failed)
+            }
         }
-        outcome.map_err(|_| Failed)
     }
 }

@@ -1,21 +1,23 @@
 // Standard output and standard error.
-ghost use Rattle.std.specs.Prelude.{◌≡◌, ◌<◌, None, length, take, IfOk};
-ghost use Rattle.std.specs.Io.KnownBytes.{Appends};
+ghost use Rattle.std.specs.Prelude.{◌≡◌, ◌<◌, [], Some, length, take, IfOk};
+ghost use Rattle.std.specs.Io.KnownBytes.{Appends, WriteAppends};
 ghost use Rattle.pq_io.specs.Faults.{HasCause, ChangedOnlyIfFailed, count_after};
 ghost use Rattle.pq_io.specs.Sink.{TakesSome};
 
+use crate::history::Sent;
 use crate::retried::{flush_retried, write_retried};
 use crate::{Failed, Sink};
 use std::io::{Stderr, Stdout, Write};
 use std::marker::Model;
 
-/// Standard output or standard error, flushed in each write. As a sink it tells no bytes.
+/// Standard output or standard error, flushed in each write. It tells the bytes of all writes that its stream took.
 ///
-/// Contracts see it as the bytes that its stream tells, and the count of its faults. The
+/// Contracts see it as these bytes, the bytes that the stream itself tells, and the count of its faults. The
 /// streams of the system tell none.
 #[derive(Drop)]
 pub struct RealSink<W: Write> {
     stream: W,
+    sent: Sent,
     faults: u64,
 }
 
@@ -24,22 +26,28 @@ impl<W: Write> Model for RealSink<W> {
 
     ghost Value = { Stream };
 
-    ghost view = { λ sink. record { contents = W.contents sink.stream; faults = sink.faults } };
+    ghost view = { λ sink. record { sent = sink.sent.bytes; contents = W.contents sink.stream; faults = sink.faults } };
 }
 
 impl<W: Write> RealSink<W> {
     /// A stream with no faults so far.
     pub fn over(stream: W) -> Self
+        ensures sent { result.sent ≡ [] }
         ensures contents { result.contents ≡ W.contents stream }
         ensures faults { result.faults ≡ 0 }
     {
-        RealSink { stream, faults: 0 }
+        RealSink {
+            stream,
+            sent: Sent::new(),
+            faults: 0,
+        }
     }
 }
 
 impl RealSink<Stdout> {
     /// Standard output, with no faults so far.
     pub fn output(stream: Stdout) -> Self
+        ensures sent { result.sent ≡ [] }
         ensures faults { result.faults ≡ 0 }
     {
         RealSink::over(stream)
@@ -49,6 +57,7 @@ impl RealSink<Stdout> {
 impl RealSink<Stderr> {
     /// Standard error, with no faults so far.
     pub fn error(stream: Stderr) -> Self
+        ensures sent { result.sent ≡ [] }
         ensures faults { result.faults ≡ 0 }
     {
         RealSink::over(stream)
@@ -56,7 +65,7 @@ impl RealSink<Stderr> {
 }
 
 impl<W: Write> Sink for RealSink<W> {
-    ghost written = { λ _. None };
+    ghost written = { λ sink. Some sink.sent };
 
     ghost faults = { λ sink. sink.faults };
 
@@ -65,6 +74,7 @@ impl<W: Write> Sink for RealSink<W> {
     fn write(&mut self, piece: &[u8]) -> Result<usize, Failed>
         requires { 0 < length piece.now }
         ensures bound { IfOk result (TakesSome piece.now) }
+        ensures bytes { WriteAppends (Some self.old.sent) (Some self.new.sent) result piece.now }
         ensures cause { HasCause self.old.faults self.new.faults result }
         ensures told { ChangedOnlyIfFailed self.old.faults self.new.faults result }
 
@@ -72,7 +82,10 @@ impl<W: Write> Sink for RealSink<W> {
         ensures count { self.new.faults ≡ count_after self.old.faults result }
     {
         match write_retried(&mut self.stream, piece) {
-            Ok(n) if n > 0 && flush_retried(&mut self.stream).is_ok() => Ok(n),
+            Ok(n) if n > 0 && flush_retried(&mut self.stream).is_ok() => {
+                self.sent.add(&piece[..n]);
+                Ok(n)
+            }
             _ => {
                 self.faults = self.faults.saturating_add(1);
                 Err(Failed)

@@ -3,7 +3,8 @@ ghost use Rattle.std.specs.Prelude.{◌≡◌, ◌<◌, List, ℕ, Bool, false, 
 ghost use Rattle.std.specs.Io.{ReadsAtMost};
 ghost use Rattle.std.specs.Io.KnownBytes.{ReadConsumes};
 ghost use Rattle.pq_io.specs.Faults.{HasCause, ChangedOnlyIfFailed};
-ghost use Rattle.pq_io.specs.Shelf.{Asks, HasChoiceCause, ChangedOnlyIfNotFound};
+ghost use Rattle.pq_io.specs.Shelf.{HasChoiceCause, ChangedOnlyIfNotFound};
+ghost use Rattle.pq_io.specs.Taken.{Taken, Asks, HandsOut};
 
 use crate::{ChooseError, Failed};
 use std::alloc::Global;
@@ -21,8 +22,8 @@ pub trait Shelf {
     /// How many calls have failed: a count that never falls, and that stands still at 2^64 - 1.
     ghost faults: { Self → ℕ };
 
-    /// The names for which `choose` was called, in their order.
-    ghost asked: { Self → List (List ℕ) };
+    /// The names for which `choose` was called, in their order, each with the bytes that reads handed out.
+    ghost taken: { Self → List Taken };
 
     /// Whether a file is chosen.
     ghost has_chosen: { Self → Bool };
@@ -37,7 +38,7 @@ pub trait Shelf {
         ensures chosen { OnOk result (IsTrue (has_chosen self.new)) }
         ensures left { OnOk result (left self.new ≡ content self.old name.now) }
         ensures none_chosen { OnErr result (has_chosen self.new ≡ false) }
-        ensures asked { Asks (asked self.old) (asked self.new) name.now result }
+        ensures asked { Asks (taken self.old) (taken self.new) name.now result }
         ensures cause { HasChoiceCause (faults self.old) (faults self.new) result }
         ensures told { ChangedOnlyIfNotFound (faults self.old) (faults self.new) result }
         ensures content { (other : List ℕ) → content self.new other ≡ content self.old other };
@@ -56,6 +57,6 @@ pub trait Shelf {
         ensures cause { HasCause (faults self.old) (faults self.new) result }
         ensures told { ChangedOnlyIfFailed (faults self.old) (faults self.new) result }
         ensures chosen { IsTrue (has_chosen self.new) }
-        ensures asked { asked self.new ≡ asked self.old }
+        ensures taken { HandsOut (taken self.old) (taken self.new) result buf.new }
         ensures content { (other : List ℕ) → content self.new other ≡ content self.old other };
 }

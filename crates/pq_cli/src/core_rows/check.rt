@@ -24,7 +24,7 @@ pub fn check_core_file<F: Shelf>(
     files: &mut F,
 ) -> Result<Reply, Stop>
     requires { IsExtended kind }
-    ensures { RunsCommand F.content F.asked F.faults files.old files.new
+    ensures { RunsCommand F.content F.taken F.faults files.old files.new
         (CheckCore kind file.now core.now) result }
 {
     let instance = read_file(alloc, &InstanceFile { kind }, 1, file, files)?;

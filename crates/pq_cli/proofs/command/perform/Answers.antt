@@ -9,5 +9,5 @@ unfolding Replies
 returns-in_ok-summary_reply-in-Gen g c =
     let reply = c.in_ok-summary_reply-in-Gen.ensures in
     rw c.in-Gen.is
-    (reply_alone g.F.Shelf.content g.F.Shelf.asked g.F.Shelf.faults c.args.files.now (Gen c.in-Gen.seed c.in-Gen.columns c.in-Gen.rows) refl c.in_ok-summary_reply-in-Gen.field-0 (inl reply.status)
+    (reply_alone g.F.Shelf.content g.F.Shelf.taken g.F.Shelf.faults c.args.files.now (Gen c.in-Gen.seed c.in-Gen.columns c.in-Gen.rows) refl c.in_ok-summary_reply-in-Gen.field-0 (inl reply.status)
     (reply.status, reply.summary))

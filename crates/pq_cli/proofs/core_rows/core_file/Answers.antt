@@ -8,19 +8,19 @@ use Rattle.pq_cli.proofs.core_rows.core_file.Goals as goal
 
 pub returns-in_err-instance : goal.returns-in_err-instance
 returns-in_err-instance g c =
-    first_stops g.F.Shelf.content g.F.Shelf.asked g.F.Shelf.faults c.args.files.now c.read_file.new.files (Core c.args.kind c.args.file.now) c.args.file.now []
+    first_stops g.F.Shelf.content g.F.Shelf.taken g.F.Shelf.faults c.args.files.now c.read_file.new.files (Core c.args.kind c.args.file.now) c.args.file.now []
     (ReadsInstance c.args.kind) (HoldsInstance c.args.kind) refl c.in_err-instance.field-0.0 c.in_err-instance.ensures
     (λ refusal held. (omega arith, λ bytes made. ap (refused_at 1) (sym made))) c.from_residual.result c.from_residual.ensures.1
 
 pub returns-in_err-blame_reply : goal.returns-in_err-blame_reply
 returns-in_err-blame_reply g c =
-    memory_after_one g.F.Shelf.content g.F.Shelf.asked g.F.Shelf.faults c.args.files.now c.read_file.new.files (Core c.args.kind c.args.file.now) c.args.file.now
+    memory_after_one g.F.Shelf.content g.F.Shelf.taken g.F.Shelf.faults c.args.files.now c.read_file.new.files (Core c.args.kind c.args.file.now) c.args.file.now
     (ReadsInstance c.args.kind) (HoldsInstance c.args.kind) c.in_ok-instance.instance refl c.in_ok-instance.ensures c.from_residual-in_err-blame_reply.result
     c.from_residual-in_err-blame_reply.ensures.1
 
 pub returns : goal.returns
 unfolding Replies
 returns g c =
-    reply_after_one g.F.Shelf.content g.F.Shelf.asked g.F.Shelf.faults c.args.files.now c.read_file.new.files (Core c.args.kind c.args.file.now) c.args.file.now
+    reply_after_one g.F.Shelf.content g.F.Shelf.taken g.F.Shelf.faults c.args.files.now c.read_file.new.files (Core c.args.kind c.args.file.now) c.args.file.now
     (ReadsInstance c.args.kind) (HoldsInstance c.args.kind) c.in_ok-instance.instance refl c.in_ok-instance.ensures c.in_ok-blame_reply.field-0 c.in_ok-blame_reply.ensures.status
     (λ bytes made. let here = c.in_ok-blame_reply.ensures.reply in (here.0, sym made ∙ ap read.Ok here.1, here.2))

@@ -10,7 +10,7 @@ use Rattle.pq_cli.proofs.extend.extend_file.Goals as goal
 
 pub returns-in_err-base : goal.returns-in_err-base
 returns-in_err-base g c =
-    first_stops g.F.Shelf.content g.F.Shelf.asked g.F.Shelf.faults c.args.files.now c.read_file.new.files (Extend c.args.kind c.args.file.now c.args.rows.now) c.args.file.now
+    first_stops g.F.Shelf.content g.F.Shelf.taken g.F.Shelf.faults c.args.files.now c.read_file.new.files (Extend c.args.kind c.args.file.now c.args.rows.now) c.args.file.now
     (c.args.rows.now ∷ []) (ReadsInstance c.args.kind) (HoldsInstance c.args.kind) refl c.in_err-base.field-0.0 c.in_err-base.ensures
     (λ refusal held. (omega arith, λ bytes made. ap (refused_at 1) (sym made))) c.from_residual.result c.from_residual.ensures.1
 
@@ -18,9 +18,9 @@ pub returns-in_err-further : goal.returns-in_err-further
 returns-in_err-further g c =
     let kind = c.args.kind in
     let m = c.in-Plain.base in
-    let of_kind = c.in_ok-base.ensures.holds_of_value.1 in
+    let of_kind = c.in_ok-base.ensures.1.holds_of_value.1 in
     let n : ℕ = c.columns-columns.result in
-    second_stops g.F.Shelf.content g.F.Shelf.asked g.F.Shelf.faults c.args.files.now c.read_file.new.files c.read_file-2.new.files (Extend kind c.args.file.now c.args.rows.now)
+    second_stops g.F.Shelf.content g.F.Shelf.taken g.F.Shelf.faults c.args.files.now c.read_file.new.files c.read_file-2.new.files (Extend kind c.args.file.now c.args.rows.now)
     c.args.file.now c.args.rows.now (ReadsInstance kind) (HoldsInstance kind) c.in_ok-base.field-0 (ReadsFurther n) (HoldsFurther n) refl c.in_ok-base.ensures
     (λ bytes made. ap (refused_at 1) (sym made)) c.in_err-further.field-0.0 c.in_err-further.ensures
     (λ refusal held. (
@@ -35,7 +35,7 @@ pub returns-in_err-extension_reply : goal.returns-in_err-extension_reply
 returns-in_err-extension_reply g c =
     let kind = c.args.kind in
     let n : ℕ = c.columns-columns.result in
-    memory_after_two g.F.Shelf.content g.F.Shelf.asked g.F.Shelf.faults c.args.files.now c.read_file.new.files c.read_file-2.new.files (Extend kind c.args.file.now c.args.rows.now)
+    memory_after_two g.F.Shelf.content g.F.Shelf.taken g.F.Shelf.faults c.args.files.now c.read_file.new.files c.read_file-2.new.files (Extend kind c.args.file.now c.args.rows.now)
     c.args.file.now c.args.rows.now (ReadsInstance kind) (HoldsInstance kind) c.in_ok-base.field-0 (ReadsFurther n) (HoldsFurther n) refl c.in_ok-base.ensures
     (λ bytes made. ap (refused_at 1) (sym made)) c.in_ok-further.further c.in_ok-further.ensures c.from_residual-in_err-extension_reply.result c.from_residual-in_err-extension_reply.ensures.1
 
@@ -44,9 +44,9 @@ unfolding Replies
 returns g c =
     let kind = c.args.kind in
     let m = c.in-Plain.base in
-    let of_kind = c.in_ok-base.ensures.holds_of_value.1 in
+    let of_kind = c.in_ok-base.ensures.1.holds_of_value.1 in
     let n : ℕ = c.columns-columns.result in
-    reply_after_two g.F.Shelf.content g.F.Shelf.asked g.F.Shelf.faults c.args.files.now c.read_file.new.files c.read_file-2.new.files (Extend kind c.args.file.now c.args.rows.now)
+    reply_after_two g.F.Shelf.content g.F.Shelf.taken g.F.Shelf.faults c.args.files.now c.read_file.new.files c.read_file-2.new.files (Extend kind c.args.file.now c.args.rows.now)
     c.args.file.now c.args.rows.now (ReadsInstance kind) (HoldsInstance kind) c.in_ok-base.field-0 (ReadsFurther n) (HoldsFurther n) refl c.in_ok-base.ensures
     (λ bytes made. ap (refused_at 1) (sym made)) c.in_ok-further.further c.in_ok-further.ensures c.in_ok-extension_reply.field-0 c.in_ok-extension_reply.ensures.status
     (λ bytes given made over. (

@@ -10,14 +10,14 @@ use Rattle.pq_cli.proofs.meet.meet_files.Goals as goal
 pub returns-in_err-one : goal.returns-in_err-one
 returns-in_err-one g c =
     let n : ℕ = c.args.columns in
-    first_stops g.F.Shelf.content g.F.Shelf.asked g.F.Shelf.faults c.args.files.now c.read_file.new.files (Meet n c.args.first.now c.args.second.now) c.args.first.now
+    first_stops g.F.Shelf.content g.F.Shelf.taken g.F.Shelf.faults c.args.files.now c.read_file.new.files (Meet n c.args.first.now c.args.second.now) c.args.first.now
     (c.args.second.now ∷ []) (ReadsTree n) (HoldsTree n) refl c.in_err-one.field-0.0 c.in_err-one.ensures
     (λ refusal held. (omega arith, λ bytes made. ap (refused_at 1) (sym made))) c.from_residual.result c.from_residual.ensures.1
 
 pub returns-in_err-other : goal.returns-in_err-other
 returns-in_err-other g c =
     let n : ℕ = c.args.columns in
-    second_stops g.F.Shelf.content g.F.Shelf.asked g.F.Shelf.faults c.args.files.now c.read_file.new.files c.read_file-2.new.files (Meet n c.args.first.now c.args.second.now)
+    second_stops g.F.Shelf.content g.F.Shelf.taken g.F.Shelf.faults c.args.files.now c.read_file.new.files c.read_file-2.new.files (Meet n c.args.first.now c.args.second.now)
     c.args.first.now c.args.second.now (ReadsTree n) (HoldsTree n) c.in_ok-one.one (ReadsTree n) (HoldsTree n) refl c.in_ok-one.ensures
     (λ bytes made. ap (refused_at 1) (sym made)) c.in_err-other.field-0.0 c.in_err-other.ensures
     (λ refusal held. (omega arith, λ bytes given made over. ap (λ x. refused_of_two x (tree_file n given)) (sym made) ∙ ap (refused_at 2) (sym over)))
@@ -26,7 +26,7 @@ returns-in_err-other g c =
 pub returns-in_err-meeting_reply : goal.returns-in_err-meeting_reply
 returns-in_err-meeting_reply g c =
     let n : ℕ = c.args.columns in
-    memory_after_two g.F.Shelf.content g.F.Shelf.asked g.F.Shelf.faults c.args.files.now c.read_file.new.files c.read_file-2.new.files (Meet n c.args.first.now c.args.second.now)
+    memory_after_two g.F.Shelf.content g.F.Shelf.taken g.F.Shelf.faults c.args.files.now c.read_file.new.files c.read_file-2.new.files (Meet n c.args.first.now c.args.second.now)
     c.args.first.now c.args.second.now (ReadsTree n) (HoldsTree n) c.in_ok-one.one (ReadsTree n) (HoldsTree n) refl c.in_ok-one.ensures
     (λ bytes made. ap (refused_at 1) (sym made)) c.in_ok-other.other c.in_ok-other.ensures c.from_residual-in_err-meeting_reply.result c.from_residual-in_err-meeting_reply.ensures.1
 
@@ -34,8 +34,8 @@ pub returns : goal.returns
 unfolding Replies
 returns g c =
     let n : ℕ = c.args.columns in
-    let columns : column_count c.in_ok-one.one ≡ n = c.in_ok-one.ensures.holds_of_value in
-    reply_after_two g.F.Shelf.content g.F.Shelf.asked g.F.Shelf.faults c.args.files.now c.read_file.new.files c.read_file-2.new.files (Meet n c.args.first.now c.args.second.now)
+    let columns : column_count c.in_ok-one.one ≡ n = c.in_ok-one.ensures.1.holds_of_value in
+    reply_after_two g.F.Shelf.content g.F.Shelf.taken g.F.Shelf.faults c.args.files.now c.read_file.new.files c.read_file-2.new.files (Meet n c.args.first.now c.args.second.now)
     c.args.first.now c.args.second.now (ReadsTree n) (HoldsTree n) c.in_ok-one.one (ReadsTree n) (HoldsTree n) refl c.in_ok-one.ensures
     (λ bytes made. ap (refused_at 1) (sym made)) c.in_ok-other.other c.in_ok-other.ensures c.in_ok-meeting_reply.field-0 c.in_ok-meeting_reply.ensures.status
     (λ bytes given made over. (

@@ -1,5 +1,6 @@
-use Rattle.std.proofs.Common.{◌≡◌, ◌-◌, ◌≤◌, ◌+◌, ◌^◌, ℕ, List, take, IsTrue, vec_len}
+use Rattle.std.proofs.Common.{◌≡◌, ◌-◌, ◌≤◌, ◌+◌, ◌^◌, ℕ, List, take, IsTrue, vec_len, false}
 use Rattle.std.specs.Io.KnownBytes.{Consumes}
+use Rattle.pq_io.specs.Taken.{handed_out}
 use Rattle.pq_io.proofs.reading.read_all.Given as goal
 
 abbrev pub invariant-loop-filled : goal.invariant-loop-filled
@@ -9,7 +10,7 @@ invariant-loop-filled g l = record {
   so_far : Consumes (g.F.Shelf.left l.initial.shelf) (g.F.Shelf.left l.shelf) (take l.filled l.bytes.items);
   told : g.F.Shelf.faults l.shelf ≡ g.F.Shelf.faults l.initial.shelf;
   chosen : IsTrue (g.F.Shelf.has_chosen l.shelf);
-  asked : g.F.Shelf.asked l.shelf ≡ g.F.Shelf.asked l.initial.shelf;
+  taken : g.F.Shelf.taken l.shelf ≡ handed_out (take l.filled l.bytes.items) false (g.F.Shelf.taken l.initial.shelf);
   content : (other : List ℕ) → g.F.Shelf.content l.shelf other ≡ g.F.Shelf.content l.initial.shelf other;
 }
 

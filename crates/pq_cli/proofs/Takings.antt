@@ -1,0 +1,78 @@
+-- What is taken of one file.
+use Rattle.std.proofs.Common.{◌≡◌, ℕ, Bool, true, false, List, [], ◌∷◌, ◌++◌, length, Option, Some, None, IfSome, inl, inr, arith, subst, sym, ◌∙◌, ap, append-nil, refl}
+use Rattle.std.specs.Prelude.{Ok}
+use Rattle.std.proofs.lemmas.List.{length-append}
+use Rattle.std.specs.Io.KnownBytes.{Consumes, IsAtEnd}
+use Rattle.pq_io.specs.Taken.{Taken, asked_for, handed_out}
+use Rattle.pq_io.specs.Whole.{IsWhole, IsAtMost, IsHandedOut, HandsOutPart}
+use Rattle.pq_io.specs.declared.reading.Whole.{Whole}
+use Rattle.pq_io.specs.declared.reading.Whole.TheVariants as whole
+use Rattle.row_model.specs.declared.refusal.Read.{Read}
+use Rattle.row_model.specs.declared.refusal.Read.TheVariants as read
+use Rattle.pq_cli.specs.Reading.{FitsTaken, OnlyReads, ReadsAs, ReadsWhole, value_of}
+use Rattle.pq_cli.proofs.Frame.{reads_done}
+
+-- a file that was asked for, and then handed out a piece
+abbrev pub took : List ℕ → List ℕ → Bool → Taken
+took name piece ended = record { name = name; bytes = piece; ended = ended }
+
+asked_on : (name piece : List ℕ) (ended : Bool) (ts : List Taken) → handed_out piece ended (asked_for name ts) ≡ ts ++ took name piece ended ∷ []
+asked_on name piece ended [] = refl
+asked_on name piece ended (t ∷ []) = refl
+asked_on name piece ended (t ∷ u ∷ ts) = ap (λ us. t ∷ us) (asked_on name piece ended (u ∷ ts))
+
+-- of nothing any bytes may be
+pub nothing_fits : (told : Option (List ℕ)) (name : List ℕ) → IfSome told (FitsTaken (took name [] false))
+nothing_fits None name = tt
+nothing_fits (Some bytes) name = record { begins = (bytes, refl); whole = λ e. absurd (cc) }
+
+-- what was consumed fits the bytes that are told
+consumed_fits : (told left : Option (List ℕ)) (name piece : List ℕ) (ended : Bool) → Consumes told left piece → (ended ≡ true → IsAtEnd left) → IfSome told (FitsTaken (took name piece ended))
+consumed_fits None left name piece ended p end = tt
+consumed_fits (Some bytes) None name piece ended p end = absurd p
+consumed_fits (Some bytes) (Some rest) name piece ended p end =
+    record { begins = (rest, p); whole = λ e. p ∙ ap (λ l. piece ++ l) (end e) ∙ append-nil piece }
+
+pub part_taken : (told left_mid left_new : Option (List ℕ)) (before mid after : List Taken) (name piece : List ℕ) (ended : Bool) → mid ≡ asked_for name before → left_mid ≡ told
+    → HandsOutPart left_mid left_new mid after piece ended → (after ≡ before ++ took name piece ended ∷ []) × IfSome told (FitsTaken (took name piece ended))
+part_taken told left_mid left_new before mid after name piece ended asked chosen part = (
+  part.taken ∙ ap (handed_out piece ended) asked ∙ asked_on name piece ended before,
+  consumed_fits told left_new name piece ended (subst (λ l. Consumes l left_new piece) chosen part.consumed) part.end,
+)
+
+-- what was handed out whole is read whole
+pub handed_whole : (limit : ℕ) (name piece : List ℕ) (ended : Bool) (w : Whole) → IsHandedOut limit piece ended w → IsAtMost limit w → (bytes : List ℕ) → FitsTaken (took name piece ended) bytes → IsWhole limit bytes w
+handed_whole limit name piece ended (whole.Bytes items) h most bytes f =
+    let same = f.whole h.1 ∙ sym h.0 in
+    (sym same, omega (arith, most, ap length same))
+handed_whole limit name piece ended whole.TooLong h most bytes f = omega (arith, h, ap length f.begins.1, length-append piece f.begins.0)
+
+-- a file that was read whole, and then by its form
+module _ {S V : Type 0} (content : S → List ℕ → Option (List ℕ)) (taken : S → List Taken) (faults : S → ℕ) (old new : S) (name : List ℕ) (limit which : ℕ) (reads : List ℕ → Read V → Type 0) (holds : Read V → Type 0)
+    (w : Whole) (t : Taken) (one : ReadsWhole content taken faults old new name limit (Ok w) t) (only : OnlyReads content faults old new 0) where
+  begun : taken new ≡ taken old ++ t ∷ []
+  begun = elim one.asks [ inl first ↦ first | inr none ↦ absurd (omega (arith, none.1)) ]
+
+  pub read_by_form : (made : Read V) → ((bytes : List ℕ) → IsWhole limit bytes w → reads bytes made) → holds made → ReadsAs content taken faults old new name which reads holds (value_of which made) t
+  read_by_form (read.Ok value) judged held =
+      record {
+        asks = inl begun;
+        named = one.named;
+        told = one.told;
+        shelf = only;
+        value = λ bytes f. judged bytes (one.whole bytes f);
+        refused = tt;
+        holds_of_value = held;
+        holds_of_refusal = tt;
+      }
+  read_by_form (read.Refused refusal) judged held =
+      record {
+        asks = inl begun;
+        named = one.named;
+        told = one.told;
+        shelf = reads_done content taken faults old new 3 (λ e. omega arith) only;
+        value = tt;
+        refused = λ bytes f. (refl, judged bytes (one.whole bytes f));
+        holds_of_value = tt;
+        holds_of_refusal = (refl, held);
+      }
