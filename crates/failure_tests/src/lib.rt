@@ -8,3 +8,5 @@ mod devices;
 mod failures;
 #[cfg(test)]
 mod limits;
+#[cfg(test)]
+mod real_edge;

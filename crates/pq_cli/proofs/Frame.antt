@@ -11,7 +11,8 @@ use Rattle.row_model.specs.declared.refusal.Read.TheVariants as read
 use Rattle.command_input.specs.Words.{Command, files_of}
 use Rattle.pq_cli.specs.Reading.{FitsTaken, OnlyReads, IsStopAt, ReadsFile}
 use Rattle.reply_laws.specs.Replies.{refusable, refusal_of, Replies}
-use Rattle.pq_cli.specs.Runs.{OfTaken, AgreesWith, names_taken, taken_since, EndsAtRefusal, StopsAt, RunsOver, RunsCommand}
+use Rattle.pq_cli.specs.Runs.{OfTaken, AgreesWith, taken_since, EndsAtRefusal, StopsAt, RunsOver, RunsCommand}
+use Rattle.pq_cli.specs.Real.{names_taken}
 use Rattle.pq_cli.specs.Stops.{stop_status}
 use Rattle.pq_cli.specs.declared.stop.Stop.{Stop}
 use Rattle.pq_cli.specs.declared.stop.Stop.TheVariants as stop

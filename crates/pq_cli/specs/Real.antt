@@ -4,6 +4,10 @@ use Rattle.pq_io.specs.Taken.{Taken}
 use Rattle.command_input.specs.Words.{Command}
 use Rattle.reply_laws.specs.Replies.{Replies}
 
+-- the names of the files that were taken
+abbrev pub names_taken : List Taken → List (List ℕ)
+names_taken ts = map (λ t. t.name) ts
+
 -- the bytes that were handed out
 abbrev pub bytes_taken : List Taken → List (List ℕ)
 bytes_taken ts = map (λ t. t.bytes) ts

@@ -33,10 +33,6 @@ abbrev pub AgreesWith : (List ℕ → Option (List ℕ)) → List Taken → Type
 AgreesWith told [] = ⊤
 AgreesWith told (t ∷ ts) = IfSome (told t.name) (FitsTaken t) × AgreesWith told ts
 
--- the names of the files that were taken
-abbrev pub names_taken : List Taken → List (List ℕ)
-names_taken ts = map (λ t. t.name) ts
-
 -- what was taken since
 abbrev pub taken_since : List Taken → List Taken → List Taken
 taken_since before after = drop (length before) after
@@ -49,7 +45,7 @@ ForCommand command P = IfSome command P
 -- them where there is a reply. A later file was taken only where those before it are not refused.
 pub record TakesInTurn (told : List ℕ → Option (List ℕ)) (command : Command) (ts : List Taken) (status : ℕ) : Type 0 where
   pub few : length ts ≤ length (files_of command)
-  pub names : names_taken ts ≡ take (length ts) (files_of command)
+  pub names : map (λ t. t.name) ts ≡ take (length ts) (files_of command)
   pub agree : AgreesWith told ts
   pub on_fault : status ≡ 4 → 0 < length ts
   pub on_reply : status ≡ 0 ⊎ status ≡ 1 ⊎ status ≡ 5 → length ts ≡ length (files_of command)

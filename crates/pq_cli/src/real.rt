@@ -3,8 +3,8 @@ ghost use Rattle.std.specs.Prelude.{◌≡◌, ◌⊎◌, ◌≢◌, ◌≤◌, 
 ghost use Rattle.command_input.specs.Words.{texts, command_of};
 ghost use Rattle.reply_laws.specs.Replies.{refusal_of};
 ghost use Rattle.pq_io.specs.Taken.{Taken};
-ghost use Rattle.pq_cli.specs.Runs.{ForCommand, AllFit, OfTaken, AgreesWith, names_taken, taken_since};
-ghost use Rattle.pq_cli.specs.Real.{bytes_taken, AllTold, RepliesTo};
+ghost use Rattle.pq_cli.specs.Runs.{ForCommand, AllFit, OfTaken, AgreesWith, taken_since};
+ghost use Rattle.pq_cli.specs.Real.{names_taken, bytes_taken, AllTold, RepliesTo};
 
 use crate::top::run;
 use pq_io::{RealShelf, RealSink};

@@ -6,7 +6,7 @@
 //!
 //! [`MemShelf`] and [`MemSink`] lie in memory and tell their bytes; their calls fail, and move few bytes at a time,
 //! where that is asked for. [`NeverShelf`] and [`NeverSink`] never fail. [`RealShelf`] and [`RealSink`] are the files
-//! and the streams of the system, of which no bytes can be told.
+//! and the streams of the system; they tell what was read and what was taken, in a history that proofs alone see.
 #![tactic(auto)]
 
 mod error;

@@ -23,9 +23,10 @@ enum Chosen<File, Reader> {
     File(File),
 }
 
-/// The files of the system, of which `-` is standard input. It tells no bytes.
+/// The files of the system, of which `-` is standard input. What they hold nobody can tell beforehand.
 ///
-/// Contracts see it as the names asked for, whether a file is chosen, and the count of faults.
+/// Contracts see it as what its reads handed out for each name asked for, whether a file is chosen, what the file chosen
+/// has left where its own type tells it, and the count of faults.
 #[derive(Drop)]
 pub struct RealShelf<R: Files + Input> {
     runtime: R,

@@ -22,8 +22,7 @@ returns-in-Err-NoMemory-read_all-clause-whole g c =
 pub returns-in-Ok-read_all-clause-whole : goal.returns-in-Ok-read_all-clause-whole
 returns-in-Ok-read_all-clause-whole g c =
     let handed = c.in-Ok-read_all.ensures.taken in
-    let part = part_taken _ _ _ _ _ _ _ _ _ c.in-Ok.ensures.asked c.in-Ok.ensures.left handed.2 in
-    (
+    let part = part_taken _ _ _ _ _ _ _ _ _ c.in-Ok.ensures.asked c.in-Ok.ensures.left handed.2 in (
       took c.args.name.now handed.0 handed.1,
       record { asks = inl part.0; named = refl; told = part.1; whole = handed_whole _ _ _ _ _ handed.3 c.in-Ok-read_all.ensures.within },
     )

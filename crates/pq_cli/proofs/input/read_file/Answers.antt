@@ -9,5 +9,5 @@ returns g c =
     rw c.value_of.ensures (
       one.0,
       read_by_form g.F.Shelf.content g.F.Shelf.taken g.F.Shelf.faults c.args.files.now c.read_bytes.new.files c.args.name.now _ c.args.which _ _ c.in_ok-whole.whole one.0 one.1 c.in_ok-whole.ensures.shelf
-      c.in_ok-read.field-0 (λ bytes w. c.in_ok-read.ensures.reads bytes (subst (λ n. IsWhole n bytes c.in_ok-whole.whole) c.MAX_BYTES.ensures w)) c.in_ok-read.ensures.holds,
+          c.in_ok-read.field-0 (λ bytes w. c.in_ok-read.ensures.reads bytes (subst (λ n. IsWhole n bytes c.in_ok-whole.whole) c.MAX_BYTES.ensures w)) c.in_ok-read.ensures.holds,
     )
