@@ -26,6 +26,10 @@ joins o row = sum_below (length o - 1) (λ i. both row (slice_index o i) (slice_
 abbrev pub rows_with : List (List ℕ) → List ℕ → ℕ → ℕ → ℕ
 rows_with rows numbers x y = sum_below (length numbers) (λ j. both (numbered rows numbers j) x y)
 
+-- how many pairs of neighbours of the order the numbered rows have together
+abbrev pub joins_of_all : List (List ℕ) → List ℕ → List ℕ → ℕ
+joins_of_all rows numbers o = sum_below (length o - 1) (λ i. rows_with rows numbers (slice_index o i) (slice_index o (suc i)))
+
 -- how many pairs of neighbours an order has in the numbered rows, at most: in each row one fewer than it has columns
 abbrev pub most_joins : List (List ℕ) → List ℕ → ℕ
 most_joins rows numbers = sum_below (length numbers) (λ j. length (numbered rows numbers j) - 1)

@@ -61,8 +61,8 @@ impl Others {
     }
 }
 
-// Whether the rows are so many that a look at each two columns takes less than each order at each row. Else the looks at
-// the rows are at most about as many as two columns each.
+// Whether the rows are so many that a look at each two columns takes less than each order at each row. Where they are
+// not, these looks are about as many as pairs of columns, at most.
 fn are_many(columns: u32, rows: &[u32]) -> bool {
     columns <= MAX_COLUMNS && rows.len().saturating_mul(rows.len()) > columns as usize
 }

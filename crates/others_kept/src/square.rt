@@ -18,7 +18,8 @@ pub(crate) fn beginnings(
     requires within { (j : ℕ) (d : Span) → j < length spans.now → LiesIn columns (slice_index_or spans.now j d) }
     ensures square { IfOk result (λ counts. length counts.items ≡ columns * columns) }
     ensures cells { IfOk result (λ counts. (a b : ℕ) (d : Span) → a < columns → b < columns
-        → slice_index counts.items (a * columns + b) ≡ sum_below (length spans.now) (λ j. begins a b (slice_index_or spans.now j d))) }
+        → slice_index counts.items (a * columns + b)
+        ≡ sum_below (length spans.now) (λ j. begins a b (slice_index_or spans.now j d))) }
 {
     let size = columns * columns;
     let mut counts = vec![in alloc; 0; size]?;
@@ -36,7 +37,8 @@ fn begin(counts: &mut Vec<u32>, columns: usize, span: Span)
     requires room { (a b : ℕ) → a < columns → b < columns → slice_index counts.old.items (a * columns + b) ≤ 2 ^ 24 }
     ensures square { length counts.new.items ≡ columns * columns }
     ensures cells { (a b : ℕ) → a < columns → b < columns
-        → slice_index counts.new.items (a * columns + b) ≡ slice_index counts.old.items (a * columns + b) + begins a b span }
+        → slice_index counts.new.items (a * columns + b)
+        ≡ slice_index counts.old.items (a * columns + b) + begins a b span }
 {
     let from = span.first as usize - 1;
     for place in from..span.last as usize {
@@ -52,7 +54,8 @@ pub(crate) fn add_up(counts: &mut Vec<u32>, columns: usize)
         → sum_below (suc a) (λ s. slice_index counts.old.items (s * columns + b)) ≤ 2 ^ 24 }
     ensures square { length counts.new.items ≡ columns * columns }
     ensures cells { (a b : ℕ) → a < columns → b < columns
-        → slice_index counts.new.items (a * columns + b) ≡ sum_below (suc a) (λ s. slice_index counts.old.items (s * columns + b)) }
+        → slice_index counts.new.items (a * columns + b)
+        ≡ sum_below (suc a) (λ s. slice_index counts.old.items (s * columns + b)) }
 {
     for i in columns..counts.len() {
         counts[i] += counts[i - columns];

@@ -1,10 +1,9 @@
 // Several rows, counted by the columns that lie together in them.
-ghost use Rattle.std.specs.Prelude.{◌≡◌, ◌↔◌, ◌-◌, ◌^◌, ◌<◌, ◌≤◌, ℕ, length, drop, slice_index, IsTrue, IfOk};
+ghost use Rattle.std.specs.Prelude.{◌≡◌, ◌↔◌, ◌-◌, ◌^◌, ◌<◌, ◌≤◌, ℕ, length, drop, IsTrue, IfOk};
 ghost use Rattle.column_order.specs.Orders.{IsOrder, Keeps};
 ghost use Rattle.row_model.specs.Rows.{IsRow, RowList};
-ghost use Rattle.std.proofs.Common.{suc};
 ghost use Rattle.others_kept.specs.Others.{numbered, IsValidForOthers};
-ghost use Rattle.others_kept.specs.Counts.{sum_below, rows_with, AreCounts};
+ghost use Rattle.others_kept.specs.Counts.{rows_with, joins_of_all, AreCounts};
 
 use crate::joins::{joins, most, most_of_all};
 use crate::spans::spans;
@@ -46,8 +45,8 @@ impl Table {
         })
     }
 
-    // Whether the list is an order of the columns that keeps the numbered rows but the one at an index, which is not the
-    // first. The table is that of the rows behind the first.
+    // Whether the list is an order of the columns that keeps the numbered rows but the one at an index, which is not
+    // the first. The table is that of the rows behind the first.
     pub(crate) fn keeps_others(
         &self,
         alloc: Global,
@@ -75,7 +74,7 @@ impl Table {
     fn joins_of_all(&self, m: &Matrix, rows: &[u32], order: &[u32]) -> u64
         requires counts { AreCounts m.now (drop 1 rows.now) self.now }
         requires order { IsOrder m.now.columns order.now }
-        ensures joins { result ≡ sum_below (length order.now - 1) (λ i. rows_with m.now.rows (drop 1 rows.now) (slice_index order.now i) (slice_index order.now (suc i))) }
+        ensures joins { result ≡ joins_of_all m.now.rows (drop 1 rows.now) order.now }
         ensures few { result < 2 ^ 62 }
     {
         let columns = m.columns();
