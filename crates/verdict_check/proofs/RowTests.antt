@@ -1,15 +1,13 @@
 -- The tests of the rows of a core and of their orders.
-use Rattle.std.proofs.Common.{◌≡◌, ◌↔◌, ◌∙◌, ℕ, zero, suc, ◌+◌, ◌-◌, ◌<◌, ◌≤◌, List, [], ◌∷◌, ◌++◌, length, take, drop, get_or, slice_get, Bool, Some, IsTrue, refl, sym, ap, subst, arith, eq-eqb}
+use Rattle.std.proofs.Common.{◌≡◌, ◌↔◌, ◌∙◌, ℕ, zero, suc, ◌+◌, ◌<◌, ◌≤◌, List, [], ◌∷◌, ◌++◌, length, take, drop, get_or, refl, sym, ap, subst, arith, eq-eqb}
 use Rattle.std.specs.List.{All, AllByRecursion}
 use Rattle.std.specs.List.Sorted.{IsNonDecreasing}
 use Rattle.std.proofs.lemmas.Bool.{ne_eqb}
-use Rattle.std.proofs.lemmas.Option.{get_or_from_slice_get}
-use Rattle.column_order.proofs.Counts.{order_length}
 use Rattle.column_order.specs.Orders.{Keeps, IsOrder, IsValidOrder}
 use Rattle.row_model.specs.Graph.{row_at}
 use Rattle.row_model.specs.Rows.{Ascends, RowList}
-use Rattle.row_model.specs.Positions.{ArePositions}
 use Rattle.row_model.proofs.PieceLemmas.{above_low, ascends_rises}
+use Rattle.others_kept.specs.Others.{KeepsOthers, IsValidForOthers}
 use Rattle.core_text.specs.Cores.{AreRowNumbers, rows_at, but}
 
 -- of numbers from an index on, the first and the others
@@ -81,10 +79,6 @@ rows_all : (Q : List ℕ → Type 0) (rows : List (List ℕ)) (xs : List ℕ) �
 rows_all Q rows [] h = tt
 rows_all Q rows (x ∷ xs) h = (h 0 [] (omega arith), rows_all Q rows xs (λ k d l. h (suc k) d (omega arith)))
 
--- each number but the one at an index has a row that the order keeps
-abbrev pub KeepsOthers : List (List ℕ) → List ℕ → ℕ → List ℕ → ℕ → Type 0
-KeepsOthers rows set i o count = (j : ℕ) → j < count → (j ≡ i → ⊥) → Keeps o (row_at rows (get_or set j 0))
-
 -- leaving out a number that is not above the low end leaves all
 but_low : (n low k : ℕ) (set : List ℕ) → Ascends n low set → k ≤ low → but k set ≡ set
 but_low n low k [] h l = refl
@@ -102,7 +96,7 @@ but_at n low (a ∷ set) (suc i) h l =
 but_without : (n : ℕ) (set : List ℕ) (i : ℕ) → AreRowNumbers n set → i < length set → but (get_or set i 0) set ≡ without i set
 but_without n set i h l = but_at n 0 set i h l ∙ without-parts i set l
 
-pub valid_others : (m : RowList) (set : List ℕ) (i : ℕ) (o : List ℕ) → AreRowNumbers (length m.rows) set → i < length set → IsOrder m.columns o → KeepsOthers m.rows set i o (length set) →
+valid_others : (m : RowList) (set : List ℕ) (i : ℕ) (o : List ℕ) → AreRowNumbers (length m.rows) set → i < length set → IsOrder m.columns o → KeepsOthers m.rows set i o (length set) →
     IsValidOrder m.columns (rows_at m.rows (but (get_or set i 0) set)) o
 valid_others m set i o h l order kept =
     record {
@@ -111,22 +105,14 @@ valid_others m set i o h l order kept =
           (subst (AllByRecursion (λ k. Keeps o (row_at m.rows k))) (sym (but_without (length m.rows) set i h l)) (each_other (λ k. Keeps o (row_at m.rows k)) i set kept));
     }
 
-pub others_valid : (m : RowList) (set : List ℕ) (i : ℕ) (o : List ℕ) → AreRowNumbers (length m.rows) set → i < length set → IsValidOrder m.columns (rows_at m.rows (but (get_or set i 0) set)) o →
+others_valid : (m : RowList) (set : List ℕ) (i : ℕ) (o : List ℕ) → AreRowNumbers (length m.rows) set → i < length set → IsValidOrder m.columns (rows_at m.rows (but (get_or set i 0) set)) o →
     KeepsOthers m.rows set i o (length set)
 others_valid m set i o h l v =
     other_each (λ k. Keeps o (row_at m.rows k)) i set
     (subst (AllByRecursion (λ k. Keeps o (row_at m.rows k))) (but_without (length m.rows) set i h l) (rows_all (Keeps o) m.rows (but (get_or set i 0) set) v.kept))
 
--- positions that are read again
-module _ (columns : ℕ) (order positions now : List ℕ) (is : IsOrder columns order) (are : ArePositions order positions) (same : now ≡ positions) where
-  are_now : ArePositions order now
-  are_now = subst (ArePositions order) (sym same) are
-
-  pub long : columns ≡ length now
-  long = sym (are_now.columns ∙ order_length columns order is)
-
-  pub kept_row : (rows : List (List ℕ)) (k : ℕ) (row : List ℕ) (kept : Bool) → ((o : List ℕ) → IsOrder (length now) o → ArePositions o now → IsTrue kept ↔ Keeps o row)
-      → slice_get rows (k - 1) ≡ Some row → IsTrue kept ↔ Keeps order (row_at rows k)
-  kept_row rows k row kept h e =
-      let found : row_at rows k ≡ row = get_or_from_slice_get rows (k - 1) row [] e in
-      rw found (h order (subst (λ n. IsOrder n order) long is) are_now)
+-- an order that is valid for the other rows is one that keeps each of them
+pub others_are : (m : RowList) (set : List ℕ) (i : ℕ) (o : List ℕ) → AreRowNumbers (length m.rows) set → i < length set →
+    IsValidForOthers m set i o ↔ IsValidOrder m.columns (rows_at m.rows (but (get_or set i 0) set)) o
+others_are m set i o h l =
+    (λ v. valid_others m set i o h l v.order v.kept, λ v. record { order = v.order; kept = others_valid m set i o h l v })

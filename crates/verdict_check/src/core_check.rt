@@ -1,8 +1,7 @@
 // The judge of the text of a core.
-ghost use Rattle.std.specs.Prelude.{◌↔◌, ◌≡◌, ◌≤◌, ◌<◌, ℕ, length, map, IsTrue, IfOk, slice_index, option_map};
+ghost use Rattle.std.specs.Prelude.{◌↔◌, ◌≡◌, ◌≤◌, ℕ, length, map, IsTrue, IfOk, option_map};
 ghost use Rattle.std.specs.List.Sorted.{IsNonDecreasing};
-ghost use Rattle.column_order.specs.Orders.{IsValidOrder};
-ghost use Rattle.core_text.specs.Cores.{AreRowNumbers, rows_at, but};
+ghost use Rattle.core_text.specs.Cores.{AreRowNumbers};
 ghost use Rattle.core_text.specs.Told.{IsAmong};
 ghost use Rattle.core_text.specs.Texts.{IsInGrammar};
 ghost use Rattle.text_parts.specs.Grammar.{Fits32};
@@ -15,16 +14,16 @@ use crate::core_outcome::{CoreChecked, CoreReason};
 use crate::cycle::{first_bad_pair, is_odd_length, next_pair};
 use crate::repeats::first_repeat;
 use core_text::{CoreText, blame_law};
-use row_model::{
-    Kind, Line, Matrix, NoMemory, Why, is_kept, is_order, joined_by, positions, row_has,
-};
+use others_kept::Others;
+use row_model::{Kind, Line, Matrix, NoMemory, Why, joined_by, row_has};
 use std::alloc::Global;
 
 /// Judges the text of a core of a matrix: valid exactly where it passes each test, else
 /// invalid with the first that fails.
 ///
-/// The text is within the grammar. With k rows of f ones together it takes about k(c + f) looks at the matrix for the
-/// orders, c being the number of columns.
+/// The text is within the grammar. The orders take a look at each of their columns and at each one of the rows, and
+/// about c² looks besides, c being the number of columns, or k(c + f) with k rows of f ones where c is above
+/// `MAX_COLUMNS`.
 ///
 /// # Errors
 ///
@@ -105,36 +104,17 @@ fn first_bad_order(alloc: Global, m: &Matrix, t: &CoreText) -> Result<Option<u32
     requires rows { AreRowNumbers (length m.now.rows) t.now.parts.rows }
     ensures { IfOk result (λ found. (kind : Kind) → Finds (PassesCore m.now kind t.now) (map CoreReason.Order t.now.parts.rows) (option_map CoreReason.Order found)) }
 {
-    for (i, k) in t.rows().iter().enumerate() {
-        if !keeps_others(alloc, m, t.rows(), i, t.order(i as u32 + 1))? {
+    let rows = t.rows();
+    if rows.is_empty() {
+        return Ok(None);
+    }
+    let others = Others::new(alloc, m, rows, t.order(1))?;
+    for (i, k) in rows.iter().enumerate() {
+        if !others.are_kept(alloc, m, rows, i, t.order(i as u32 + 1))? {
             return Ok(Some(*k));
         }
     }
     Ok(None)
-}
-
-// Whether the list is an order of the columns that keeps the rows but the one at an index.
-fn keeps_others(
-    alloc: Global,
-    m: &Matrix,
-    rows: &[u32],
-    i: usize,
-    order: &[u32],
-) -> Result<bool, NoMemory>
-    requires rows { AreRowNumbers (length m.now.rows) rows.now }
-    requires within { i < length rows.now }
-    ensures { IfOk result (λ yes. IsTrue yes ↔ IsValidOrder m.now.columns (rows_at m.now.rows (but (slice_index rows.now i) rows.now)) order.now) }
-{
-    if !is_order(alloc, m.columns(), order)? {
-        return Ok(false);
-    }
-    let positions = positions(alloc, order)?;
-    for (j, k) in rows.iter().enumerate() {
-        if j != i && !is_kept(&positions, m.row(*k)) {
-            return Ok(false);
-        }
-    }
-    Ok(true)
 }
 
 // The first test that the lines of the cycle fail.

@@ -6,9 +6,9 @@ use Rattle.row_model.specs.Graph.{row_at}
 use Rattle.row_model.specs.Rows.{IsRow}
 use Rattle.column_order.proofs.Lists.{has_at}
 use Rattle.row_model.proofs.Ascending.{ascends_within}
-use Rattle.verdict_check.proofs.RowTests.{valid_others, others_valid, long, kept_row}
-use Rattle.verdict_check.proofs.core_check.keeps_others.Goals as goal
-use Rattle.verdict_check.proofs.core_check.keeps_others.Goals.{else-j-i-via-then-j-i+else-not-is_kept, else-j-i-via-else-j-i}
+use Rattle.others_kept.proofs.EachRow.{long, kept_row}
+use Rattle.others_kept.proofs.each.keeps_others.Goals as goal
+use Rattle.others_kept.proofs.each.keeps_others.Goals.{else-j-i-via-then-j-i+else-not-is_kept, else-j-i-via-else-j-i}
 
 pub positions-requires-clause-order : goal.positions-requires-clause-order
 positions-requires-clause-order c =
@@ -36,8 +36,7 @@ returns-then-not-is_kept c =
     let k = kept_row c.args.m.now.columns c.args.order.now c.in_ok-positions.positions.items c.deref.result.now is c.in_ok-positions.ensures c.deref.ensures.value c.args.m.now.rows
     (get_or c.args.rows.now c.loop-j.j 0) c.row.result.now c.is_kept.result c.is_kept.ensures c.row.ensures.row in (
       λ h. absurd (both_ways _ refl h),
-      λ v. absurd (both_ways c.is_kept.result c.if-not-is_kept.true (k.1 (others_valid c.args.m.now c.args.rows.now c.args.i c.args.order.now c.requires.rows c.requires.within v c.loop-j.j c.loop-j-test.true
-          (λ e. omega (arith, e, c.if-j-i.true))))),
+      λ v. absurd (both_ways c.is_kept.result c.if-not-is_kept.true (k.1 (v.kept c.loop-j.j c.loop-j-test.true (λ e. omega (arith, e, c.if-j-i.true))))),
     )
 
 pub loop-j-preserved : goal.loop-j-preserved
@@ -54,6 +53,6 @@ loop-j-preserved c =
 pub returns : goal.returns
 returns c =
     let is = subst (λ n. IsOrder n c.args.order.now) c.columns.ensures.columns (c.in_ok-is_order.ensures.0 c.if-not-branch.false) in (
-      λ t. valid_others c.args.m.now c.args.rows.now c.args.i c.args.order.now c.requires.rows c.requires.within is (λ j l n. c.loop-j.invariant j (omega (arith, l, c.loop-j-test.false)) n),
+      λ t. record { order = is; kept = λ j l n. c.loop-j.invariant j (omega (arith, l, c.loop-j-test.false)) n },
       λ v. refl,
     )
