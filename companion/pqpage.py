@@ -13,6 +13,7 @@ the proof did not check. From a script: `pqpage.answer(path, order="columns")` g
 """
 
 import argparse
+import errno
 import json
 import os
 import signal
@@ -23,12 +24,18 @@ from pqparts.finding import MOST_CORES, asked, cycle_over, judge_cycle, rows_of
 from pqparts.others import clones_question, distances_question, graph_of_edges, plain_question
 from pqparts.program import CHECKOUT, Program, found_program
 from pqparts.spoken import Words, answer_lines
-from pqparts.stops import NOT_PROVED, NOT_READABLE, READ_FAULT, WORDS, WRITE_FAULT, Stop
+from pqparts.stops import NO_MEMORY, NOT_PROVED, NOT_READABLE, READ_FAULT, WORDS, WRITE_FAULT, Stop
 from pqparts.tables import FIRST, NONE, Reading, long_question, wide_question, words_of_marks
 from pqparts.texts import bytes_of, decoded
 
 KINDS = ["matrix", "rows", "table", "clones", "circular", "convex", "doubly", "proper", "robinson"]
 INTERRUPTED = 130
+# Words on how a file is read, and for each form of a file those that say something about it.
+SAYING = ["order", "header", "separator", "encoding", "line_names", "drop", "marks", "absent", "value", "digits"]
+FORMS = {"plain": "a file of pq as it is", "graph": "a list of edges", "long": "a long table", "distances": "distances", "json": "clones in JSON", "wide": "a wide table"}
+SAID = {"plain": [], "graph": ["header", "separator", "encoding", "drop"], "long": ["header", "separator", "encoding", "drop", "value"],
+        "distances": ["header", "separator", "encoding", "line_names", "drop", "digits"], "json": ["encoding", "drop"],
+        "wide": ["order", "header", "separator", "encoding", "line_names", "drop", "marks", "absent"]}
 # The endings of the files of a report: those that a reader looks at, and the texts of the proof.
 SHOWN = ["json", "csv", "svg", "html"]
 CORES = ["core", *(f"core{number}" for number in range(2, MOST_CORES + 1))]
@@ -41,13 +48,46 @@ def version():
         return stream.read().strip()
 
 
+def form_of(words):
+    """How the words say that a file is read; None of a wide table or JSON."""
+    asked = [form for form in ("plain", "graph", "long", "distances") if getattr(words, form)]
+    if len(asked) > 1:
+        raise Stop(WORDS, f"--{asked[0]} and --{asked[1]} say two things: which is the file?")
+    return asked[0] if asked else None
+
+
+def fitting(words, form):
+    """Stops where a word can't be meant, or says nothing about a file of this form."""
+    if words.header is not None and words.header < (0 if form == "graph" else 1):
+        raise Stop(WORDS, f"--header {words.header}: lines count from 1")
+    if words.digits is not None and words.digits < 0:
+        raise Stop(WORDS, f"--digits {words.digits}: there are no fewer than 0")
+    if words.separator is not None and (len(words.separator) != 1 or words.separator in '"\r\n'):
+        raise Stop(WORDS, f"--separator {words.separator!r}: one character separates fields")
+    if words.long and (len(words.long) != 2 or words.long[0] == words.long[1]):
+        raise Stop(WORDS, "--long needs two names of the header, as in --long clone,probe")
+    wrong = [mark for mark in words.marks if mark.startswith(">") and cells.number(mark[1:]) is None]
+    if wrong:
+        raise Stop(WORDS, f"--marks {wrong[0]!r}: a number stands behind >")
+    if form == "distances" and words.kind not in (None, "robinson"):
+        raise Stop(WORDS, f"distances can be asked about as robinson, not as {words.kind}")
+    for name in SAYING:
+        if getattr(words, name) not in (None, []) and name not in SAID[form] and not (form == "long" and words.value and name in ("marks", "absent")):
+            raise Stop(WORDS, f"--{name.replace('_', '-')} says nothing about {FORMS[form]}")
+
+
 def question_of(content, where, words):
     """The question that a file asks, by the user's words."""
+    form = form_of(words)
+    if form:
+        fitting(words, form)
     reading = Reading(words.kind, words.order, words.header, words.separator, words.line_names, words.drop, cells.Marks(words.marks, words.absent), words.long,
                       words.value, words.digits)
     if words.plain:
         return plain_question(content, where, reading)
     text, encoding = decoded(content, where, words.encoding)
+    if not form:
+        fitting(words, "json" if is_json(text) else "wide")
     if words.graph:
         question = graph_of_edges(text, where, reading)
     else:
@@ -86,7 +126,7 @@ def found(words):
     path = found_program(words.pq)
     finding = asked(Program(path), question, words.trust, words.rare_first, words.cores)
     told = report.Told(os.path.basename(words.file), report.sum_of(content), sum_of_program(path), version(), *spoken(question, words), words.title, words.date,
-                       question.notes, question.warnings)
+                       words.cores, question.notes, question.warnings)
     return question, finding, told
 
 
@@ -101,9 +141,17 @@ def tell(line):
     print(f"pqpage: {line}", file=sys.stderr, flush=True)
 
 
+def read_here(words):
+    """The question of a file that is read without pq."""
+    question, _ = read(words)
+    if not question.sides:
+        raise Stop(NOT_READABLE, f"{words.file}: this is no file of the kind {words.kind}: pq solve {words.kind} {words.file} says which line is wrong")
+    return question
+
+
 def look(words):
     """Tells what would be read, and what looks wrong."""
-    question, _ = read(words)
+    question = read_here(words)
     for note in question.notes:
         print(note)
     for number, side in enumerate(question.sides, 1):
@@ -156,14 +204,14 @@ def files_of(question, finding, told, name):
     value = {**report.report_value(question, finding, told), "files": sorted([*made, *SHOWN])}
     made["json"] = as_json(value).encode("utf-8", "surrogateescape")
     made["csv"] = report.ordered_table(question, finding).encode("utf-8", "surrogateescape")
-    pictures = list(report.pictures_of(question, finding))
-    made["svg"] = (pictures[0][1] if pictures else "").encode("utf-8", "replace")
+    made["svg"] = next(report.pictures_of(question, finding))[1].encode("utf-8", "replace")
     made["html"] = report.page(question, finding, told, name).encode("utf-8", "replace")
     return made
 
 
 def write_report(words):
     """Writes the page, the picture, the table in order, the dictionary and the texts of the proof."""
+    named_out(words)
     question, finding, told = found(words)
     warn(question)
     made = files_of(question, finding, told, os.path.basename(words.out))
@@ -181,21 +229,31 @@ def write_all(contents):
     made = []
     try:
         for path, content in contents.items():
+            if os.path.exists(path) and not os.path.isfile(path):
+                raise Stop(WRITE_FAULT, f"{path}: there is a folder or a device of this name")
             made.append(path)
             with open(f"{path}.new", "wb") as stream:
                 stream.write(content)
         for path in made:
             os.replace(f"{path}.new", path)
     except OSError as error:
+        raise Stop(WRITE_FAULT, f"{made[-1]}: {error.strerror}") from error
+    finally:
         for path in made:
             if os.path.exists(f"{path}.new"):
                 os.remove(f"{path}.new")
-        raise Stop(WRITE_FAULT, f"{error.filename or made[-1]}: {error.strerror}") from error
+
+
+def named_out(words):
+    """Stops where the name of what is to be written is none."""
+    if words.out == "-" or not os.path.basename(words.out):
+        raise Stop(WORDS, f"{words.out!r} is no name of a file to write")
 
 
 def convert(words):
     """Writes the exact file for pq, and the names."""
-    question, _ = read(words)
+    named_out(words)
+    question = read_here(words)
     warn(question)
     names = {"kind": question.kind, "sides": [{"things": side.things, "rows": side.names} for side in question.sides], "read": question.notes}
     stem = words.out.removesuffix(".in")
@@ -222,8 +280,8 @@ def again(words):
         judge_again(program, question, finding)
         made = files_of(question, finding, told, os.path.basename(stem))
     except Stop as stop:
-        raise Stop(NOT_PROVED if stop.status == NOT_READABLE else stop.status, str(stop)) from stop
-    except (ValueError, KeyError, TypeError, AttributeError, IndexError) as error:
+        raise Stop(NOT_PROVED if stop.status in (WORDS, NOT_READABLE) else stop.status, str(stop)) from stop
+    except (ValueError, KeyError, TypeError, AttributeError, IndexError, RecursionError) as error:
         raise Stop(NOT_PROVED, f"{words.file}: this is not a whole report of pqpage: {error}") from error
     for ending, wanted in made.items():
         if text_beside(stem, ending) != wanted:
@@ -328,23 +386,41 @@ def parser():
     return top
 
 
-def main(given):
+def ended(given):
+    """Runs the command that the words name, up to the last byte of its output."""
+    if sys.stdout is None:
+        raise Stop(WRITE_FAULT, "standard output is closed")
     try:
         words = parser().parse_args(given)
-        return words.run(words)
+    except SystemExit:
+        # of -h and --version; wrong words are a Stop
+        sys.stdout.flush()
+        return 0
+    status = words.run(words)
+    sys.stdout.flush()
+    return status
+
+
+def main(given):
+    """The status of a call. What stops it is told in one line."""
+    try:
+        return ended(given)
     except Stop as stop:
         tell(stop)
         return stop.status
     except MemoryError:
         tell("no memory")
-        return 6
+        return NO_MEMORY
     except BrokenPipeError:
         os.dup2(os.open(os.devnull, os.O_WRONLY), sys.stdout.fileno())
         tell("standard output was closed")
         return WRITE_FAULT
     except OSError as error:
         tell(error)
-        return WRITE_FAULT if error.errno == 28 else READ_FAULT
+        if error.errno != errno.ENOSPC:
+            return READ_FAULT
+        os.dup2(os.open(os.devnull, os.O_WRONLY), sys.stdout.fileno())
+        return WRITE_FAULT
     except KeyboardInterrupt:
         tell("stopped")
         return INTERRUPTED

@@ -235,7 +235,7 @@ def warnings():
         with open(path, "wb") as stream:
             stream.write(text)
         status, out, _ = called(["look", path, "--order", "columns", "--header", "2"])
-    wanted = ["'Sum' is named like", "'Y' is full of years", "'G 1' has a mark in every cell", "1 blank columns at the end", "1 blank lines", "line 2; the lines before it", "semicolon"]
+    wanted = ["'Sum' is named like", "'Y' is full of years", "'G 1' has a mark in every cell", "blank columns at the end, which are left out: 1", "blank lines, which are left out: 1", "line 2; the lines before it", "semicolon"]
     lacks = [one for one in wanted if one not in out]
     return None if status == 0 and not lacks else f"{status} {out!r} lacks {lacks}"
 
