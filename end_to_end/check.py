@@ -15,6 +15,7 @@ nothing failed.
 """
 
 import concurrent.futures
+import itertools
 import os
 import shutil
 import subprocess
@@ -23,6 +24,7 @@ import tempfile
 
 import all_kinds
 import companion
+import companion_kinds
 import first_call
 import forgeries
 import meetings
@@ -156,7 +158,7 @@ def without_folders():
 
 # The checks that tell each name with its problem, by the words that pick them.
 FURTHER = {"forgeries": lambda: forgeries.compared(Limits()), "trees": other_trees.compared, "hostile": hostile_problems,
-           "first_call": first_call.problems, "try": tries.problems, "companion": companion.problems}
+           "first_call": first_call.problems, "try": tries.problems, "companion": lambda: itertools.chain(companion.problems(), companion_kinds.problems())}
 FURTHER["meetings"] = meetings.compared
 PARTS = ["cases", "pages", "answers", *FURTHER]
 

@@ -195,7 +195,7 @@ def pictures_of(question, finding):
             yield "An interval for each vertex: two vertices have an edge exactly where their intervals overlap.", interval_picture(side, order, verdict.intervals, "the intervals")
         else:
             contigs = verdict.contigs if question.kind == "clones" else ()
-            more = " Green: the contigs, each a stretch that clones hold together." if contigs else ""
+            more = " Green: the contigs, each a stretch that clones tie together, or a single probe." if contigs else ""
             yield f"The table in order{', the other side' if number == 2 else ''}. {TREE}{more}", table_picture(side, order, "the table in order", tree_of(tree), contigs=contigs)
 
 
