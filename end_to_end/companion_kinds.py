@@ -65,7 +65,7 @@ def frontiers(tree):
 
 def counted(page):
     """The numbers of orders that a page tells."""
-    return [int(text) for text in re.findall(r"<li>There (?:is|are) (\d+) orders?", page)]
+    return [int(text) for text in re.findall(r"<p>There (?:is|are) (\d+) orders?", page)]
 
 
 def drawn_rows(draw, things, most):
@@ -80,13 +80,14 @@ def trees_and_counts():
         for _ in range(60):
             things = [f"C{at}" for at in range(draw.randint(2, 5))]
             rows = drawn_rows(draw, things, 4)
-            value, page, _ = report(folder, table(things, rows), ["--order", "columns"])
+            value, page, body = report(folder, table(things, rows), ["--order", "columns"])
             told = value if value["answer"] == "yes" else value["agree"]
             kept = rows if value["answer"] == "yes" else [rows[int(name[1:])] for name in told["rows"]]
             wanted = {tuple(things[at] for at in order) for order in orders_of(len(things), [{things.index(one) for one in row} for row in kept])}
             blocks = [set(block["members"]) for block in told["blocks"]]
             split = [block for block in blocks for order in wanted if len(block) != max(map(order.index, block)) - min(map(order.index, block)) + 1]
-            problem = first_of([differs("tree", wanted, frontiers(told["tree"])), differs("count", [len(wanted)], counted(page)), differs("blocks that are split", [], split)])
+            problem = first_of([differs("tree", wanted, frontiers(told["tree"])), differs("count", [len(wanted)], counted(page)), differs("blocks that are split", [], split),
+                                differs("rows of the table", [*seen(pictures_on(page)[0])[1], *(one["row"] for one in value.get("set aside", []))], [row[0] for row in body[1:]])])
             if problem:
                 return f"{things} {rows}: {problem}"
     return None
@@ -258,7 +259,7 @@ def distances():
                 wanted = {one + other: real.get(one + other, real.get(other + one, 0)) for one in order for other in order}
                 shade = {rect.find(f"{SVG}title").text: int(re.match(r"rgb\((\d+)", rect.get("fill"))[1]) for rect in pictures_on(page)[0].iter(f"{SVG}rect")}
                 by_name = [shade[name] for name in ("Aa and Aa: 0.00000", "Bb and Cc: 0.00001", "Aa and Bb: 1.25000", "Aa and Cc: 1.26000")]
-                problem = first_of([differs("middle", "Bb", order[1]), differs("table", wanted, table_said), differs("shades", sorted(set(by_name)), by_name)])
+                problem = first_of([differs("middle", "Bb", order[1]), differs("lines", order, [row[0] for row in body[1:]]), differs("table", wanted, table_said), differs("shades", sorted(set(by_name)), by_name)])
                 if problem:
                     return problem
         value, page, _ = report(folder, b",a,b\na,0,1.0004\nb,1,0\n", ["--distances", "--digits", "2"])
@@ -357,7 +358,14 @@ def warned():
         told = ["blank columns are left out: 3", "blank lines, which are left out: 1", "the header is line 2", "semicolon", "read as utf-8"]
         lacks = [text for text in told if text not in page or text not in " ".join(value["read"])]
         named = ["'Summe'" in text for text in (errors, value["warnings"][0], page.replace("&#x27;", "'"))]
-        return differs("status", 0, status) or differs("untold", [], lacks) or differs("warned", [True] * 3, named)
+        turned = called(["look", path, "--order", "lines", "--header", "2"])
+        with open(path, "wb") as stream:
+            stream.write(b",a,b,c\nx,1,,1\nAnzahl,1,1,\nJahr,1987,2001,\nz,1,1,1\n")
+        lines = re.findall("^warning: (.*)$", called(["look", path, "--order", "columns"])[1], re.M)
+        wanted = ["the line 'Anzahl' is named like", "the line 'Jahr' is named like", "the line 'z' has a mark in every cell"]
+        full = [f"the column {name!r} has a mark in every cell" in " ".join(lines) for name in "abc"]
+        return first_of([differs("status", 0, status), differs("untold", [], lacks), differs("warned", [True] * 3, named), differs("of lines", (0, True), (turned[0], "'Summe'" in turned[1])),
+                         differs("lines", [], [text for text in wanted if not any(line.startswith(text) for line in lines)]), differs("full", [True, False, False], full)])
 
 
 # --- how a call ends ---

@@ -11,7 +11,7 @@ from .others import MOST_DIGITS, plain_question
 from .pictures import pictures_of, safe, seated
 from .program import core_of, verdict_of
 from .question import with_point
-from .spoken import Words, answer_lines, steps
+from .spoken import Words, answer_lines, fixed_lines, steps
 from .tables import Reading
 from .trees import blocks, free_leaves, nested, tree_of
 
@@ -193,9 +193,10 @@ def page(question, finding, told, name):
     drawn = "".join(f"<figure>\n{picture}<figcaption>{safe(caption)}</figcaption>\n</figure>\n" for caption, picture in pictures_of(question, finding))
     answer = answer_lines(question, finding, words)
     parts = [f"<h1>{safe(title)}</h1>", f'<p class="small">{safe(told.date)}</p>' if told.date else "",
-             section("The answer", f"<p>{safe(words.question())}</p>" if told.title else "", f'<p class="answer">{safe(answer[0])}</p>', listed_items(answer[1:]),
+             section("The answer", f"<p>{safe(words.question())}</p>" if told.title else "", f'<p class="answer">{safe(answer[0])}</p>', *(f"<p>{safe(line)}</p>" for line in answer[1:]),
                      free_text(finding, question.sides[0])),
              section("The picture", drawn),
+             section("What is fixed" if finding.verdict.is_yes else "What is fixed by those that agree", listed_items(fixed_lines(question, finding, words))),
              contradiction_part(question, finding, told, words),
              section("What was read", listed_items([*counted(question, words), *told.notes]), warned(told.warnings)),
              section("For a paper", *(f"<p>{safe(text)}</p>" for text in paper(question, finding, told, words))),

@@ -44,27 +44,42 @@ def orders_of(tree, is_circle=False):
     return found
 
 
-def answer_lines(question, finding, words):
-    """The answer as sentences."""
+def trees_of(question, finding, words):
+    """Each tree of an answer with its side and what its things are called: of a no that of the rows that agree."""
     verdict = finding.verdict
-    if not verdict.is_yes:
+    if verdict.is_yes:
+        return [(side, tree_of(tree), words.of_side(number)[0]) for number, (side, tree) in enumerate(zip(question.sides, verdict.trees), 1)]
+    agreed = verdict_of(finding.contradiction.agreed_text)
+    return [(question.sides[verdict.side - 1], tree_of(agreed.trees[0]), words.of_side(verdict.side)[0])]
+
+
+def answer_lines(question, finding, words):
+    """The answer as sentences: yes or no, of a no how many agree, and how many orders there are."""
+    verdict, of_which = finding.verdict, ""
+    if verdict.is_yes and len(question.sides) == 2:
+        found = [f"Yes: there are such orders of the {words.things} and of the {words.rows}."]
+    elif verdict.is_yes:
+        found = [f"Yes: there is such an order of the {words.things}."]
+    else:
         things, rows = words.of_side(verdict.side)
-        found = [f"No: there is no such order of the {things}."]
         kept, aside = len(finding.contradiction.agreed), len(finding.contradiction.aside)
-        found.append(f"Taken in turn, {kept} of the {rows} agree, and {aside} {'was' if aside == 1 else 'were'} set aside, each since it contradicts some that were taken before it.")
-        return found + fixed(question.sides[verdict.side - 1], tree_of(verdict_of(finding.contradiction.agreed_text).trees[0]), things, f" in which the {kept} agree")
-    found = [f"Yes: there are such orders of the {words.things} and of the {words.rows}." if len(question.sides) == 2 else f"Yes: there is such an order of the {words.things}."]
-    for number, (side, tree) in enumerate(zip(question.sides, map(tree_of, verdict.trees)), 1):
-        found += fixed(side, tree, words.of_side(number)[0])
+        found = [f"No: there is no such order of the {things}.",
+                 f"Taken in turn, {kept} of the {rows} agree, and {aside} {'was' if aside == 1 else 'were'} set aside, each since it contradicts some that were taken before it."]
+        of_which = f" in which the {kept} agree"
+    for side, tree, things in trees_of(question, finding, words):
+        count = orders_of(tree, side.is_circle)
+        said = "There is 1 order" if count == 1 else f"There are {'a thousand million million or more' if count is None else count} orders"
+        found.append(f"{said} of the {things}{of_which}{', rotations not counted' if side.is_circle else ''}.")
     return found
 
 
-def fixed(side, tree, things, of_which=""):
-    """What a tree fixes, and how many orders that leaves."""
-    count = orders_of(tree, side.is_circle)
-    said = "There is 1 order" if count == 1 else f"There are {'a thousand million million or more' if count is None else count} orders"
-    turned = [f"Each order below may be begun at any other of the {things}, round the circle."] if side.is_circle else []
-    return [*turned, *in_words(tree, side.things, things), f"{said} of the {things}{of_which}{', rotations not counted' if side.is_circle else ''}."]
+def fixed_lines(question, finding, words):
+    """What the trees fix, as sentences."""
+    found = []
+    for side, tree, things in trees_of(question, finding, words):
+        found += [f"Each order below may be begun at any other of the {things}, round the circle."] if side.is_circle else []
+        found += in_words(tree, side.things, things)
+    return found
 
 
 def steps(cycle, things, rows):
