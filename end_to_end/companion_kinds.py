@@ -9,8 +9,8 @@ import re
 import subprocess
 import tempfile
 
-from companion import SECONDS, SVG, called, orders_of, pictures_on, run, seen
-from program import PROGRAM
+from companion import SCRIPT, SECONDS, SVG, called, orders_of, pictures_on, seen
+from program import HOME, PROGRAM
 
 SEED = 45
 
@@ -368,6 +368,15 @@ def warned():
                          differs("lines", [], [text for text in wanted if not any(line.startswith(text) for line in lines)]), differs("full", [True, False, False], full)])
 
 
+def picture_of_the_start():
+    """The picture on the page docs/START.md is the one that its command makes."""
+    with tempfile.TemporaryDirectory() as folder:
+        content = open(os.path.join(HOME, "examples", "graves.csv"), "rb").read()
+        report(folder, content, ["--order", "columns"])
+        made, shown = (open(path, "rb").read() for path in (os.path.join(folder, "out.svg"), os.path.join(HOME, "examples", "graves.svg")))
+    return differs("picture", shown, made)
+
+
 # --- how a call ends ---
 
 def ends():
@@ -377,7 +386,7 @@ def ends():
         path, out = os.path.join(folder, "t"), os.path.join(folder, "out")
         with open(path, "wb") as stream:
             stream.write(b",a,b\nx,1,\ny,,1\n")
-        call = f"'{os.path.join(os.path.dirname(os.path.abspath(called.__globals__['SCRIPT'])), 'pqpage')}'"
+        call = f"'{SCRIPT}'"
         shell = [("{call} look {path} --order columns > /dev/full", 5), ("{call} json {path} --order columns >&-", 5), ("{call} look {path} --order columns >&-", 5),
                  ("{call} look - --order columns <&-", 4), ("{call} look - --order columns < {path} > {folder}/said", 0), ("{call} -h > /dev/full", 5),
                  ("{call} look {folder}/none --order columns", 4), ("{call} report {path} {folder}/pipe --order columns", 5)]
@@ -417,7 +426,7 @@ def no_reports(folder, path, out):
 
 def problems():
     """Each check with what is wrong, or None."""
-    for check in (trees_and_counts, free_things, circles, reasons, trusted, clones, intervals, distances, two_sides, dropped_and_counted, words_that_say_nothing, warned, ends):
+    for check in (trees_and_counts, free_things, circles, reasons, trusted, clones, intervals, distances, two_sides, dropped_and_counted, words_that_say_nothing, warned, picture_of_the_start, ends):
         try:
             problem = check()
         except AssertionError as error:
