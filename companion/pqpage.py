@@ -32,7 +32,8 @@ KINDS = ["matrix", "rows", "table", "clones", "circular", "convex", "doubly", "p
 INTERRUPTED = 130
 # Words on how a file is read, and for each form of a file those that say something about it.
 SAYING = ["order", "header", "separator", "encoding", "line_names", "drop", "marks", "absent", "value", "digits"]
-FORMS = {"plain": "a file of pq as it is", "graph": "a list of edges", "long": "a long table", "distances": "distances", "json": "clones in JSON", "wide": "a wide table"}
+FORMS = {"plain": "a file of pq as it is", "graph": "a list of edges", "long": "a long table", "distances": "distances", "json": "clones in JSON",
+         "wide": "a wide table"}
 SAID = {"plain": [], "graph": ["header", "separator", "encoding", "drop"], "long": ["header", "separator", "encoding", "drop", "value"],
         "distances": ["header", "separator", "encoding", "line_names", "drop", "digits"], "json": ["encoding", "drop"],
         "wide": ["order", "header", "separator", "encoding", "line_names", "drop", "marks", "absent"]}
@@ -81,7 +82,8 @@ def question_of(content, where, words):
     form = form_of(words)
     if form:
         fitting(words, form)
-    reading = Reading(words.kind, words.order, words.header, words.separator, words.line_names, words.drop, cells.Marks(words.marks, words.absent), words.long,
+    reading = Reading(words.kind, words.order, words.header, words.separator, words.line_names, words.drop, cells.Marks(words.marks, words.absent),
+                      words.long,
                       words.value, words.digits)
     if words.plain:
         return plain_question(content, where, reading)
@@ -124,8 +126,12 @@ def found(words):
     """The question, what pq found, and what is told besides."""
     question, content = read(words)
     path = found_program(words.pq)
-    finding = asked(Program(path), question, words.trust, words.rare_first, words.cores)
-    told = report.Told(os.path.basename(words.file), report.sum_of(content), sum_of_program(path), version(), *spoken(question, words), words.title, words.date,
+    try:
+        finding = asked(Program(path), question, words.trust, words.rare_first, words.cores)
+    except (ValueError, KeyError, TypeError, AttributeError, IndexError) as error:
+        raise Stop(NOT_PROVED, f"{path}: what it wrote is no text of this version of pq") from error
+    told = report.Told(os.path.basename(words.file), report.sum_of(content), sum_of_program(path), version(), *spoken(question, words), words.title,
+                       words.date,
                        words.cores, question.notes, question.warnings)
     return question, finding, told
 
@@ -145,7 +151,8 @@ def read_here(words):
     """The question of a file that is read without pq."""
     question, _ = read(words)
     if not question.sides:
-        raise Stop(NOT_READABLE, f"{words.file}: this is no file of the kind {words.kind}: pq solve {words.kind} {words.file} says which line is wrong")
+        raise Stop(NOT_READABLE,
+                   f"{words.file}: this is no file of the kind {words.kind}: pq solve {words.kind} {words.file} says which line is wrong")
     return question
 
 
@@ -273,7 +280,8 @@ def again(words):
     stem = words.file.removesuffix(".json")
     try:
         value = json.loads(bytes_of(words.file).decode("utf-8", "surrogateescape"))
-        content, verdict_text, agreed_text = (text_beside(stem, ending) if ending in value["files"] else None for ending in ("in", "verdict", "agreed"))
+        content, verdict_text, agreed_text = (text_beside(stem, ending) if ending in value["files"] else None
+                                              for ending in ("in", "verdict", "agreed"))
         core_texts = [text_beside(stem, ending) for ending in CORES if ending in value["files"]]
         question, finding, told = report.again_of(value, content, verdict_text, core_texts, agreed_text)
         program = Program(found_program(words.pq))
@@ -336,14 +344,16 @@ def reading_words(part):
     part.add_argument("file", metavar="FILE", help="the table; - is standard input")
     part.add_argument("--kind", choices=KINDS, help="what is asked; else rows for tables, clones for JSON, robinson for distances, proper for graphs")
     part.add_argument("--order", choices=["lines", "columns"], help="of a wide table: what is to be put in order")
-    part.add_argument("--long", type=lambda text: text.split(","), metavar="ROW,THING", help="a long table: a line for each row and thing, by these two columns")
+    part.add_argument("--long", type=lambda text: text.split(","), metavar="ROW,THING",
+                      help="a long table: a line for each row and thing, by these two columns")
     part.add_argument("--value", metavar="COLUMN", help="of a long table: the column that says whether a line counts")
     part.add_argument("--distances", action="store_true", help="a table of distances")
     part.add_argument("--digits", type=int, metavar="N", help="of distances: round to so many digits behind the point; else all are kept")
     part.add_argument("--graph", action="store_true", help="a list of edges, two names a line")
     part.add_argument("--plain", action="store_true", help="a file of pq as it is, of the kind that --kind says")
     part.add_argument("--header", type=int, metavar="N", help="the line of the header; of a list of edges 0 where there is none")
-    part.add_argument("--separator", metavar="C", type=lambda text: "\t" if text in ("tab", "\\t") else text, help="what separates fields, where more than one could; tab for a tab")
+    part.add_argument("--separator", metavar="C", type=lambda text: "\t" if text in ("tab", "\\t") else text,
+                      help="what separates fields, where more than one could; tab for a tab")
     part.add_argument("--encoding", help="the encoding; else UTF-8, by its mark UTF-16, and what is neither is Windows-1252")
     part.add_argument("--line-names", choices=[FIRST, NONE], help="whether the first column has the names of the lines")
     part.add_argument("--drop", action="append", default=[], metavar="NAME", help="leave out a line or a column")
@@ -359,7 +369,8 @@ def asking_words(part):
     part.add_argument("--pq", metavar="PATH", help="the program; else $PQ, the pq of this checkout, or the one on the PATH")
     part.add_argument("--trust", type=words_of_marks, default=[], metavar="NAME,..", help="after a no: rows that are taken first")
     part.add_argument("--rare-first", action="store_true", help="after a no: take rows with few marks first")
-    part.add_argument("--cores", type=int, choices=range(MOST_CORES + 1), default=MOST_CORES, metavar="N", help=f"after a no: at most so many cores, {MOST_CORES} if left out")
+    part.add_argument("--cores", type=int, choices=range(MOST_CORES + 1), default=MOST_CORES, metavar="N",
+                      help=f"after a no: at most so many cores, {MOST_CORES} if left out")
     part.add_argument("--status", action="store_true", help="the status is 1 for a no")
     part.add_argument("--title", help="the title of the page")
     part.add_argument("--date", help="the date on the page; else it has none")
@@ -370,7 +381,8 @@ def parser():
     top = Parser(prog="pqpage", description=__doc__, formatter_class=argparse.RawDescriptionHelpFormatter)
     top.add_argument("--version", action="version", version=version())
     parts = top.add_subparsers(dest="command", metavar="COMMAND", required=True, parser_class=Parser)
-    for name, run, says in [("look", look, "what would be read"), ("json", write_json, "the answer with names"), ("report", write_report, "a page with its proof"),
+    for name, run, says in [("look", look, "what would be read"), ("json", write_json, "the answer with names"),
+                            ("report", write_report, "a page with its proof"),
                             ("convert", convert, "the exact file for pq")]:
         part = parts.add_parser(name, help=says, description=says)
         reading_words(part)

@@ -86,8 +86,10 @@ def trees_and_counts():
             wanted = {tuple(things[at] for at in order) for order in orders_of(len(things), [{things.index(one) for one in row} for row in kept])}
             blocks = [set(block["members"]) for block in told["blocks"]]
             split = [block for block in blocks for order in wanted if len(block) != max(map(order.index, block)) - min(map(order.index, block)) + 1]
-            problem = first_of([differs("tree", wanted, frontiers(told["tree"])), differs("count", [len(wanted)], counted(page)), differs("blocks that are split", [], split),
-                                differs("rows of the table", [*seen(pictures_on(page)[0])[1], *(one["row"] for one in value.get("set aside", []))], [row[0] for row in body[1:]])])
+            problem = first_of([differs("tree", wanted, frontiers(told["tree"])), differs("count", [len(wanted)], counted(page)),
+                                differs("blocks that are split", [], split),
+                                differs("rows of the table", [*seen(pictures_on(page)[0])[1], *(one["row"] for one in value.get("set aside", []))],
+                                        [row[0] for row in body[1:]])])
             if problem:
                 return f"{things} {rows}: {problem}"
     return None
@@ -98,9 +100,11 @@ def free_things():
     with tempfile.TemporaryDirectory() as folder:
         value, page, _ = report(folder, table("abcde", ["ab", "bc"]), ["--order", "columns"])
         grey = [text.find(f"{SVG}title").text for text in pictures_on(page)[0].iter(f"{SVG}text") if text.get("fill") == "#888888"]
-        problem = first_of([differs("free", ["d", "e"], sorted(value["free"])), differs("grey", ["d", "e"], sorted(grey)), differs("line", True, "Tied to none of the others" in page)])
+        problem = first_of([differs("free", ["d", "e"], sorted(value["free"])), differs("grey", ["d", "e"], sorted(grey)),
+                            differs("line", True, "Tied to none of the others" in page)])
         ring, circle, _ = report(folder, table("abcde", ["ab", "bc", "cd", "de", "ae"]), ["--order", "columns", "--kind", "circular"])
-        return problem or differs("free round a circle", ([], False), (ring["free"], "Tied to none of the others:" in circle or 'fill="#888888"' in circle))
+        return problem or differs("free round a circle", ([], False),
+                                  (ring["free"], "Tied to none of the others:" in circle or 'fill="#888888"' in circle))
 
 
 def circles():
@@ -112,7 +116,8 @@ def circles():
             rows = drawn_rows(draw, things, 5)
             value, page, body = report(folder, table(things, rows), ["--order", "columns", "--kind", "circular"])
             orders = [order for order in itertools.permutations(things[1:])
-                      if all(sum((one in row) != (other in row) for one, other in zip((things[0], *order), (*order, things[0]))) <= 2 for row in rows)]
+                      if all(sum((one in row) != (other in row) for one, other in zip((things[0], *order), (*order, things[0]))) <= 2
+                             for row in rows)]
             members = {f"R{at}": row for at, row in enumerate(rows)}
             turned = {name: set(things) - row if things[0] in row else row for name, row in members.items()}
             if value["answer"] == "yes":
@@ -157,7 +162,7 @@ def cycles_problem(value, members):
 
 
 def reasons():
-    """After a no each cycle is odd and follows, and the rows blamed are those that it names; no two cores share a row, and the cores are files of their own."""
+    """After a no each cycle is odd and follows, and the rows blamed are those that it names; no two cores share a row."""
     draw = random.Random(SEED)
     with tempfile.TemporaryDirectory() as folder:
         for _ in range(40):
@@ -170,7 +175,8 @@ def reasons():
             said = [f"<p>Core {number}: {', '.join(core['rows'])}.</p>" in page for number, core in enumerate(value["cores"], 1)]
             aside = [one["row"] for one in value["set aside"]]
             cored = [name for core in value["cores"] for name in core["rows"]]
-            problem = first_of([cycles_problem(value, members), differs("cores on the page", [True] * len(said), said), differs("rows in two cores", sorted(set(cored)), sorted(cored)),
+            problem = first_of([cycles_problem(value, members), differs("cores on the page", [True] * len(said), said),
+                                differs("rows in two cores", sorted(set(cored)), sorted(cored)),
                                 differs("rows set aside in the table", aside, [row[0] for row in body if row[-1] == "yes"])])
             if problem:
                 return f"{rows}: {problem}"
@@ -196,7 +202,7 @@ def trusted():
 # --- clones, intervals, distances, two sides ---
 
 def clones():
-    """Contigs are stretches that clones tie together, or single probes, places are first and last, and green bars lie under the contigs; by a plain program."""
+    """Contigs are stretches that clones tie together, or single probes; places are first and last; green bars are the contigs."""
     draw = random.Random(SEED)
     with tempfile.TemporaryDirectory() as folder:
         for _ in range(20):
@@ -215,7 +221,8 @@ def clones():
             heads = sorted(float(text.get("x")) for text in picture.iter(f"{SVG}text") if text.get("transform"))
             green = [(float(rect.get("x")), float(rect.get("width"))) for rect in picture.iter(f"{SVG}rect") if rect.get("fill") == "#2e7d32"]
             bars = [[order[at] for at, head in enumerate(heads) if begin <= head <= begin + width] for begin, width in green]
-            problem = first_of([differs("places", places, value["places"]), differs("bars", value["contigs"], bars), differs("contigs", contigs, value["contigs"])])
+            problem = first_of([differs("places", places, value["places"]), differs("bars", value["contigs"], bars),
+                                differs("contigs", contigs, value["contigs"])])
             if problem:
                 return f"{held} {order}: {problem}"
     return None
@@ -232,9 +239,11 @@ def intervals():
             value, page, _ = report(folder, content.encode(), ["--graph", "--header", "0"])
             picture = pictures_on(page)[0]
             names = {float(text.get("y")): text.find(f"{SVG}title").text for text in picture.iter(f"{SVG}text")}
-            drawn = {names[float(rect.get("y")) + 12]: (float(rect.get("x")), float(rect.get("x")) + float(rect.get("width"))) for rect in picture.iter(f"{SVG}rect")}
+            drawn = {names[float(rect.get("y")) + 12]: (float(rect.get("x")), float(rect.get("x")) + float(rect.get("width")))
+                     for rect in picture.iter(f"{SVG}rect")}
             for found in (value["intervals"], drawn):
-                meet = {frozenset(pair) for pair in itertools.combinations(points, 2) if found[pair[0]][0] <= found[pair[1]][1] and found[pair[1]][0] <= found[pair[0]][1]}
+                meet = {frozenset(pair) for pair in itertools.combinations(points, 2) if found[pair[0]][0] <= found[pair[1]][1]
+                        and found[pair[1]][0] <= found[pair[0]][1]}
                 if sorted(found) != sorted(points) or meet != edges:
                     return f"{sorted(map(sorted, edges))}: {found}"
     return None
@@ -257,14 +266,17 @@ def distances():
                 real = {"CcAa": 1.26, "CcBb": 0.00001, "AaBb": 1.25}
                 table_said = {body[0][column] + row[0]: float(row[column]) for row in body[1:] for column in (1, 2, 3)}
                 wanted = {one + other: real.get(one + other, real.get(other + one, 0)) for one in order for other in order}
-                shade = {rect.find(f"{SVG}title").text: int(re.match(r"rgb\((\d+)", rect.get("fill"))[1]) for rect in pictures_on(page)[0].iter(f"{SVG}rect")}
+                shade = {rect.find(f"{SVG}title").text: int(re.match(r"rgb\((\d+)", rect.get("fill"))[1])
+                         for rect in pictures_on(page)[0].iter(f"{SVG}rect")}
                 by_name = [shade[name] for name in ("Aa and Aa: 0.00000", "Bb and Cc: 0.00001", "Aa and Bb: 1.25000", "Aa and Cc: 1.26000")]
-                problem = first_of([differs("middle", "Bb", order[1]), differs("lines", order, [row[0] for row in body[1:]]), differs("table", wanted, table_said), differs("shades", sorted(set(by_name)), by_name)])
+                problem = first_of([differs("middle", "Bb", order[1]), differs("lines", order, [row[0] for row in body[1:]]),
+                                    differs("table", wanted, table_said), differs("shades", sorted(set(by_name)), by_name)])
                 if problem:
                     return problem
         value, page, _ = report(folder, b",a,b\na,0,1.0004\nb,1,0\n", ["--distances", "--digits", "2"])
         note = "the table isn't symmetric: b and a differ most, by 0.0004"
-        kept = report(folder, b"0,1.000000000000000000000000000000001\n1.000000000000000000000000000000001,0\n", ["--distances", "--digits", "3"])[2][2][1]
+        kept = report(folder, b"0,1.000000000000000000000000000000001\n1.000000000000000000000000000000001,0\n",
+                      ["--distances", "--digits", "3"])[2][2][1]
         return differs("note", True, note in value["read"]) or differs("rounded", "1.000", kept) or too_many_digits(folder)
 
 
@@ -290,13 +302,19 @@ def two_sides():
             value, page, _ = report(folder, table(things, rows), ["--order", "columns", "--kind", "doubly"])
             names = [f"R{at}" for at in range(len(rows))]
             across = [{name for name, row in zip(names, rows) if thing in row} for thing in things]
-            wanted = [{tuple(side[at] for at in order) for order in orders_of(len(side), [{side.index(one) for one in row} for row in over])} for side, over in ((things, rows), (names, across))]
+            members = [dict(zip(names, rows)), dict(zip(things, across))]
+            wanted = [{tuple(side[at] for at in order) for order in orders_of(len(side), [{side.index(one) for one in row} for row in over])}
+                      for side, over in ((things, rows), (names, across))]
             if value["answer"] == "yes":
                 given = [frontiers(one["tree"]) for one in (value, value["other side"])]
-                shown = [seen(picture)[0] for picture in pictures_on(page)]
-                problem = differs("orders", wanted, given) or differs("pictures", [value["order"], value["other side"]["order"]], shown)
+                shown = [seen(picture) for picture in pictures_on(page)]
+                drawn = [{name: {order[at] for part in parts for at in part} for name, parts in lines.items()} for order, lines in shown]
+                problem = first_of([differs("orders", wanted, given),
+                                    differs("pictures", [value["order"], value["other side"]["order"]], [order for order, _ in shown]),
+                                    differs("marks", members, drawn)])
             else:
-                problem = differs("orders of the side", set(), wanted[value["side"] - 1])
+                number = value["side"] - 1
+                problem = differs("orders of the side", set(), wanted[number]) or cycles_problem(value, members[number])
             if problem:
                 return f"{rows}: {problem}"
     return None
@@ -309,8 +327,10 @@ def dropped_and_counted():
     clone = b'{"probes": ["a", "b", "c"], "clones": [{"name": "k", "probes": ["b", "a"]}, {"name": "l", "probes": ["c"]}]}'
     far = b",a,b,c\na,0,1,2\nb,1,0,3\nc,2,3,0\n"
     cases = [(clone, ["--kind", "rows", "--drop", "a"], b"2\n1\n2\n"), (clone, ["--kind", "rows", "--drop", "l"], b"3\n1 2\n"),
-             (b"r,t,n\nx,a,1\nx,b,0\ny,b,2\n", ["--long", "r,t", "--value", "n"], b"2\n1\n2\n"), (b"r,t,n\nx,a,1\nx,b,0\ny,b,2\n", ["--long", "r,t"], b"2\n1 2\n2\n"),
-             (b"r,t\nx,a\nx,b\ny,b\n", ["--long", "r,t", "--drop", "a"], b"1\n1\n1\n"), (b"r,t\nx,a\nx,b\ny,b\n", ["--long", "r,t", "--drop", "x"], b"2\n2\n"),
+             (b"r,t,n\nx,a,1\nx,b,0\ny,b,2\n", ["--long", "r,t", "--value", "n"], b"2\n1\n2\n"),
+             (b"r,t,n\nx,a,1\nx,b,0\ny,b,2\n", ["--long", "r,t"], b"2\n1 2\n2\n"),
+             (b"r,t\nx,a\nx,b\ny,b\n", ["--long", "r,t", "--drop", "a"], b"1\n1\n1\n"),
+             (b"r,t\nx,a\nx,b\ny,b\n", ["--long", "r,t", "--drop", "x"], b"2\n2\n"),
              (far, ["--distances", "--drop", "b"], b"2\n0 2\n2 0\n"), (b"a,b\nb,c\nd\n", ["--graph", "--header", "0", "--drop", "a"], b"3\n1 2\n"),
              (b"x,a\ny,b\n", ["--graph", "--header", "0", "--kind", "convex", "--drop", "x"], b"1 2\n1 2\n")]
     with tempfile.TemporaryDirectory() as folder:
@@ -329,9 +349,12 @@ def dropped_and_counted():
 def words_that_say_nothing():
     """Words that say nothing about a file, or two things, end with status 2 and a line that names them."""
     wide, long, far = ["--order", "columns"], ["--long", "r,t"], ["--distances"]
-    cases = [([*wide, "--digits", "2"], "--digits"), ([*wide, "--value", "r"], "--value"), ([*long, "--order", "lines"], "--order"), ([*long, "--marks", "x"], "--marks"),
-             ([*far, "--marks", "x"], "--marks"), ([*far, "--kind", "rows"], "rows"), ([*far, *long], "--distances"), (["--graph", "--header", "0", "--plain", "--kind", "rows"], "--graph"),
-             ([*wide, "--header", "0"], "--header"), ([*far, "--digits", "-1"], "--digits"), ([*wide, "--separator", "ab"], "--separator"), (["--long", "r"], "--long"),
+    cases = [([*wide, "--digits", "2"], "--digits"), ([*wide, "--value", "r"], "--value"), ([*long, "--order", "lines"], "--order"),
+             ([*long, "--marks", "x"], "--marks"),
+             ([*far, "--marks", "x"], "--marks"), ([*far, "--kind", "rows"], "rows"), ([*far, *long], "--distances"),
+             (["--graph", "--header", "0", "--plain", "--kind", "rows"], "--graph"),
+             ([*wide, "--header", "0"], "--header"), ([*far, "--digits", "-1"], "--digits"), ([*wide, "--separator", "ab"], "--separator"),
+             (["--long", "r"], "--long"),
              (["--long", "r,r"], "--long"), ([*wide, "--marks", ">a"], "'>a'"), (["--plain", "--kind", "rows", "--header", "2"], "--header")]
     with tempfile.TemporaryDirectory() as folder:
         path = os.path.join(folder, "t")
@@ -364,8 +387,10 @@ def warned():
         lines = re.findall("^warning: (.*)$", called(["look", path, "--order", "columns"])[1], re.M)
         wanted = ["the line 'Anzahl' is named like", "the line 'Jahr' is named like", "the line 'z' has a mark in every cell"]
         full = [f"the column {name!r} has a mark in every cell" in " ".join(lines) for name in "abc"]
-        return first_of([differs("status", 0, status), differs("untold", [], lacks), differs("warned", [True] * 3, named), differs("of lines", (0, True), (turned[0], "'Summe'" in turned[1])),
-                         differs("lines", [], [text for text in wanted if not any(line.startswith(text) for line in lines)]), differs("full", [True, False, False], full)])
+        return first_of([differs("status", 0, status), differs("untold", [], lacks), differs("warned", [True] * 3, named),
+                         differs("of lines", (0, True), (turned[0], "'Summe'" in turned[1])),
+                         differs("lines", [], [text for text in wanted if not any(line.startswith(text) for line in lines)]),
+                         differs("full", [True, False, False], full)])
 
 
 def picture_of_the_start():
@@ -387,17 +412,19 @@ def ends():
         with open(path, "wb") as stream:
             stream.write(b",a,b\nx,1,\ny,,1\n")
         call = f"'{SCRIPT}'"
-        shell = [("{call} look {path} --order columns > /dev/full", 5), ("{call} json {path} --order columns >&-", 5), ("{call} look {path} --order columns >&-", 5),
-                 ("{call} look - --order columns <&-", 4), ("{call} look - --order columns < {path} > {folder}/said", 0), ("{call} -h > /dev/full", 5),
+        shell = [("{call} look {path} --order columns > /dev/full", 5), ("{call} json {path} --order columns >&-", 5),
+                 ("{call} look {path} --order columns >&-", 5),
+                 ("{call} look - --order columns <&-", 4), ("{call} look - --order columns < {path} > {folder}/said", 0),
+                 ("{call} -h > /dev/full", 5),
                  ("{call} look {folder}/none --order columns", 4), ("{call} report {path} {folder}/pipe --order columns", 5)]
-        os.mkfifo(f"{out}.never")
-        os.mkfifo(os.path.join(folder, "pipe.in"))
+        os.mkfifo(os.path.join(folder, "pipe.html"))
         for line, wanted in shell:
-            done = subprocess.run(line.format(call=call, path=path, folder=folder), shell=True, capture_output=True, timeout=SECONDS, env={**plain, "PQ": PROGRAM}, check=False)
+            done = subprocess.run(line.format(call=call, path=path, folder=folder), shell=True, capture_output=True, timeout=SECONDS,
+                                  env={**plain, "PQ": PROGRAM}, check=False)
             if done.returncode != wanted or done.stderr.count(b"\n") != (wanted != 0):
                 return f"{line}: {done}"
         left = [name for name in os.listdir(folder) if name.endswith(".new")]
-        if left or not os.path.exists(os.path.join(folder, "pipe.in")):
+        if left or not os.path.exists(os.path.join(folder, "pipe.html")):
             return f"left: {left}"
         return differs("reports", None, no_reports(folder, path, out))
 
@@ -409,8 +436,10 @@ def no_reports(folder, path, out):
     with open(f"{out}.json", encoding="utf-8") as stream:
         good = stream.read()
     value = json.loads(good)
-    spoilt = ["", "{", "[]", "7", "[" * 100000, "{}", good[:-20], json.dumps({**value, "kept": {**value["kept"], "form": "pqpage 1"}}), json.dumps({**value, "files": []}),
-              json.dumps({**value, "kept": {**value["kept"], "names": []}}), json.dumps({**value, "kept": {**value["kept"], "digits": -1}}), json.dumps({**value, "kept": None})]
+    spoilt = ["", "{", "[]", "7", "[" * 100000, "{}", good[:-20], json.dumps({**value, "kept": {**value["kept"], "form": "pqpage 1"}}),
+              json.dumps({**value, "files": []}),
+              json.dumps({**value, "kept": {**value["kept"], "names": []}}), json.dumps({**value, "kept": {**value["kept"], "digits": -1}}),
+              json.dumps({**value, "kept": None})]
     for text in spoilt:
         with open(f"{out}.json", "w", encoding="utf-8") as stream:
             stream.write(text)
@@ -424,9 +453,40 @@ def no_reports(folder, path, out):
     return None if status == 7 else f"without its picture: {status}"
 
 
+LIAR = """#!/bin/sh
+# answers as pq does but for one command, and may find everything valid
+case $1 in {judge}) echo valid;; {command}) said=$("{pq}" "$@"); status=$?; printf '%s\\n' "$said" | sed '{edit}'; exit $status;; *) exec "{pq}" "$@";; esac
+"""
+# A file of rows, the command that lies, and what it says otherwise.
+LIES = [("4\n1 2\n2 3\n3 4\n", "solve", "s/^order 1 2 3/order 1 3 2/"), ("3\n1 2\n2 3\n1 3\n1 3\n", "core", "s/^row 1$/row 4/"),
+        ("3\n1 2\n2 3\n1 3\n", "extend", "s/row 1$/row 2/"), ("3\n1 2\n2 3\n1 3\n", "solve", "s/^order 1 2 3/order 1 3 2/")]
+
+
+def lies():
+    """Lies of a program are found out where it judges itself rightly, and by `again` where it finds them valid."""
+    with tempfile.TemporaryDirectory() as folder:
+        path, out, liar = (os.path.join(folder, name) for name in ("t", "out", "liar"))
+        honest = os.path.join(folder, "honest")
+        for content, command, edit in LIES:
+            for name, text in ((path, content), (liar, LIAR.format(judge="check|check-core", command=command, edit=edit, pq=PROGRAM)),
+                               (honest, LIAR.format(judge="none", command=command, edit=edit, pq=PROGRAM))):
+                with open(name, "w", encoding="utf-8") as stream:
+                    stream.write(text)
+            os.chmod(liar, 0o755)
+            os.chmod(honest, 0o755)
+            judged = called(["report", path, out, "--plain", "--kind", "rows", "--pq", honest])
+            made = called(["report", path, out, "--plain", "--kind", "rows", "--pq", liar])
+            lied = called(["again", f"{out}.json", "--pq", liar])
+            found = called(["again", f"{out}.json", "--pq", PROGRAM])
+            if (judged[0], made[0], lied[0], found[0]) != (7, 0, 0, 7) or "did not check" not in found[2]:
+                return f"{command} {content!r}: {judged} {made} {lied} {found}"
+    return None
+
+
 def problems():
     """Each check with what is wrong, or None."""
-    for check in (trees_and_counts, free_things, circles, reasons, trusted, clones, intervals, distances, two_sides, dropped_and_counted, words_that_say_nothing, warned, picture_of_the_start, ends):
+    for check in (trees_and_counts, free_things, circles, reasons, trusted, clones, intervals, distances, two_sides, dropped_and_counted,
+                  words_that_say_nothing, warned, picture_of_the_start, ends, lies):
         try:
             problem = check()
         except AssertionError as error:

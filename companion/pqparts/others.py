@@ -108,7 +108,8 @@ def named_square(found, where, reading):
     if any(len(row) != len(body) for row in rows):
         raise unreadable(where, f"the table isn't square: {len(body)} lines and {len(rows[0])} columns of distances")
     if has_names == FIRST and names != records[0].fields[1:]:
-        raise unreadable(where, f"the names at the head ({', '.join(records[0].fields[1:4])}, ..) are not those at the side ({', '.join(names[:3])}, ..)")
+        raise unreadable(where, f"the names at the head ({', '.join(records[0].fields[1:4])}, ..) are not those at the side "
+                                f"({', '.join(names[:3])}, ..)")
     twice = first_twice(names)
     if twice is not None or not all(names):
         raise unreadable(where, "an item has no name" if twice is None else f"two items are named {twice!r}")
@@ -159,7 +160,8 @@ def refuse_unequal(whole, names, where, lines):
     for at, row in enumerate(whole):
         for other in range(at):
             if row[other] != whole[other][at]:
-                raise unreadable(where, f"line {lines[at]}: the distances of {names[at]} and {names[other]} differ both ways: mend them, or round by --digits N")
+                raise unreadable(where, f"line {lines[at]}: the distances of {names[at]} and {names[other]} differ both ways: mend them, or round "
+                                        "by --digits N")
 
 
 def graph_of_edges(text, where, reading):
@@ -173,7 +175,8 @@ def graph_of_edges(text, where, reading):
         left, right = names[0], names[1] if len(names) == 2 else None
         if others is lefts and left == right:
             raise unreadable(where, f"line {number}: an edge from {left!r} to itself")
-        ends = [side.setdefault(name, len(side) + 1) for side, name in ((lefts, left), (others, right)) if name is not None and name not in reading.drop]
+        kept = [(side, name) for side, name in ((lefts, left), (others, right)) if name is not None and name not in reading.drop]
+        ends = [side.setdefault(name, len(side) + 1) for side, name in kept]
         if len(ends) == 2:
             edge = (min(ends), max(ends)) if others is lefts else tuple(ends)
             twice += edge in edges

@@ -13,7 +13,8 @@ INK, FIXED, FREE, PALE = "#1f4e79", "#333333", "#b06000", "#888888"
 
 def clean(text):
     """A text in which every character may stand in XML."""
-    return "".join(one if one in "\t\n\r" or 0x20 <= ord(one) <= 0xD7FF or 0xE000 <= ord(one) <= 0xFFFD or ord(one) > 0xFFFF else "\ufffd" for one in text)
+    return "".join(one if one in "\t\n\r" or 0x20 <= ord(one) <= 0xD7FF or 0xE000 <= ord(one) <= 0xFFFD or ord(one) > 0xFFFF else "\ufffd"
+                   for one in text)
 
 
 def safe(text):
@@ -72,7 +73,8 @@ class Drawing:
         """The names over their columns, those that stand free in grey."""
         if self.cell > 4:
             for place, name in enumerate(names):
-                self.text(self.x(place) + self.cell * 3 // 4, self.top - 6, short(name), fill=PALE if place in free else "#000", turned=True, title=name)
+                self.text(self.x(place) + self.cell * 3 // 4, self.top - 6, short(name), fill=PALE if place in free else "#000", turned=True,
+                          title=name)
 
     def row_name(self, name):
         """The name of the present line."""
@@ -151,7 +153,8 @@ def interval_picture(side, order, intervals, title):
         left, right = intervals[number - 1]
         name = side.things[number - 1]
         drawing.row_name(name)
-        drawing.parts.append(f'<rect x="{drawing.left + left * scale:.2f}" y="{drawing.y}" width="{max((right - left) * scale, 1):.2f}" height="{drawing.line - 2}" '
+        drawing.parts.append(f'<rect x="{drawing.left + left * scale:.2f}" y="{drawing.y}" width="{max((right - left) * scale, 1):.2f}" '
+                             f'height="{drawing.line - 2}" '
                              f'fill="{INK}"><title>{safe(f"{name}: {left} to {right}")}</title></rect>')
         drawing.y += drawing.line
     return drawing.whole(title)
@@ -178,7 +181,8 @@ def distance_picture(side, order, question, title):
 
 
 # What the bars below a picture and the grey names mean.
-TREE = ("Below: dark bars are blocks whose parts keep their order, up to turning the block round; dashed bars are blocks whose parts may change places. "
+TREE = ("Below: dark bars are blocks whose parts keep their order, up to turning the block round; dashed bars are blocks whose parts may change "
+        "places. "
         "A grey name is tied to none of the others.")
 
 
@@ -190,13 +194,16 @@ def pictures_of(question, finding):
         return
     for number, (side, tree, order) in enumerate(zip(question.sides, verdict.trees, verdict.orders), 1):
         if question.kind == "robinson":
-            yield "The table in order: the darker a cell, the nearer its two items.", distance_picture(side, order, question, "the table in order")
+            yield ("The table in order: the darker a cell, the nearer its two items.",
+                   distance_picture(side, order, question, "the table in order"))
         elif question.kind == "proper":
-            yield "An interval for each vertex: two vertices have an edge exactly where their intervals overlap.", interval_picture(side, order, verdict.intervals, "the intervals")
+            yield ("An interval for each vertex: two vertices have an edge exactly where their intervals overlap.",
+                   interval_picture(side, order, verdict.intervals, "the intervals"))
         else:
             contigs = verdict.contigs if question.kind == "clones" else ()
             more = " Green: the contigs, each a stretch that clones tie together, or a single probe." if contigs else ""
-            yield f"The table in order{', the other side' if number == 2 else ''}. {TREE}{more}", table_picture(side, order, "the table in order", tree_of(tree), contigs=contigs)
+            yield (f"The table in order{', the other side' if number == 2 else ''}. {TREE}{more}",
+                   table_picture(side, order, "the table in order", tree_of(tree), contigs=contigs))
 
 
 def pictures_of_a_no(question, found):

@@ -53,7 +53,8 @@ def cycle_value(side, cycle):
 def side_value(side, tree, order):
     """The answer for one side of a yes."""
     root = tree_of(tree)
-    return {"order": [side.things[number - 1] for number in order], "tree": nested(root, side.things), "tree in numbers": tree, "blocks": blocks(root, side.things),
+    return {"order": [side.things[number - 1] for number in order], "tree": nested(root, side.things), "tree in numbers": tree,
+            "blocks": blocks(root, side.things),
             "free": [side.things[leaf - 1] for leaf in free_leaves(root, side.is_circle)]}
 
 
@@ -82,9 +83,11 @@ def contradiction_value(question, finding):
     side = question.sides[found.side - 1]
     agreed = verdict_of(found.agreed_text)
     turned = named(side, side.complements())
-    return {**({"complements": turned} if turned else {}), "cores": [{"rows": named(side, core["rows"]), "cycle": cycle_value(side, core["cycle"])} for core in found.cores],
+    return {**({"complements": turned} if turned else {}),
+            "cores": [{"rows": named(side, core["rows"]), "cycle": cycle_value(side, core["cycle"])} for core in found.cores],
             "agree": {"rows": named(side, found.agreed), **side_value(side, agreed.trees[0], agreed.orders[0])},
-            "set aside": [{"row": side.names[one.row], "contradicts": named(side, one.others), "cycle": cycle_value(side, one.cycle)} for one in found.aside]}
+            "set aside": [{"row": side.names[one.row], "contradicts": named(side, one.others), "cycle": cycle_value(side, one.cycle)}
+                          for one in found.aside]}
 
 
 def kept_value(question, finding, told):
@@ -98,7 +101,8 @@ def kept_value(question, finding, told):
 
 def report_value(question, finding, told):
     """The whole dictionary of a report."""
-    return {"question": Words(question.kind, told.things, told.rows).question(), **answer_value(question, finding), "warnings": told.warnings, "read": told.notes,
+    return {"question": Words(question.kind, told.things, told.rows).question(), **answer_value(question, finding), "warnings": told.warnings,
+            "read": told.notes,
             "sums": {"source": told.source_sum, "in": sum_of(question.content), "verdict": sum_of(finding.verdict_text), "pq": told.program_sum},
             "kept": kept_value(question, finding, told)}
 
@@ -159,20 +163,24 @@ def ordered_table(question, finding):
     names = [side.things[number - 1] for number in order]
     if question.kind == "robinson" and verdict.is_yes:
         writer.writerow(["", *names])
-        writer.writerows([side.things[one - 1], *(with_point(question.distances[one - 1][other - 1], question.digits) for other in order)] for one in order)
+        writer.writerows([side.things[one - 1], *(with_point(question.distances[one - 1][other - 1], question.digits) for other in order)]
+                         for one in order)
         return out.getvalue()
     aside = [] if found is None else [one.row for one in found.aside]
     writer.writerow(["", *names, *(["set aside"] if found else [])])
     shown = seated(side, order, None if verdict.is_yes else found.agreed)
     for row in [at for _, at in shown] + aside:
         members = set(side.shown()[row])
-        writer.writerow([side.names[row], *("1" if number in members else "" for number in order), *(["yes" if row in aside else ""] if found else [])])
+        writer.writerow([side.names[row], *("1" if number in members else "" for number in order),
+                         *(["yes" if row in aside else ""] if found else [])])
     return out.getvalue()
 
 
-STYLE = """body{font-family:sans-serif;max-width:60rem;margin:2rem auto;padding:0 1rem;line-height:1.45}h1{font-size:1.5rem}h2{font-size:1.15rem;margin-top:2rem}
-figure{margin:1rem 0;overflow-x:auto}figcaption{color:#555}.answer{font-size:1.1rem}.warning{color:#a04000}.small{color:#555;font-size:.85rem;overflow-wrap:anywhere}
-code{background:#f3f3f3;padding:0 .2rem}@media print{body{margin:0;max-width:none}figure{overflow:visible;break-inside:avoid}svg{max-width:100%;height:auto}}"""
+STYLE = """body{font-family:sans-serif;max-width:60rem;margin:2rem auto;padding:0 1rem;line-height:1.45}
+h1{font-size:1.5rem}h2{font-size:1.15rem;margin-top:2rem}figure{margin:1rem 0;overflow-x:auto}figcaption{color:#555}
+.answer{font-size:1.1rem}.warning{color:#a04000}.small{color:#555;font-size:.85rem;overflow-wrap:anywhere}
+code{background:#f3f3f3;padding:0 .2rem}
+@media print{body{margin:0;max-width:none}figure{overflow:visible;break-inside:avoid}svg{max-width:100%;height:auto}}"""
 
 
 def listed_items(items, kind="ul"):
@@ -190,13 +198,16 @@ def page(question, finding, told, name):
     """The page: what was read, the answer, the picture, what contradicts what, words for a paper, and how to check."""
     words = Words(question.kind, told.things, told.rows)
     title = told.title or f"{told.source}: {words.question()}"
-    drawn = "".join(f"<figure>\n{picture}<figcaption>{safe(caption)}</figcaption>\n</figure>\n" for caption, picture in pictures_of(question, finding))
+    drawn = "".join(f"<figure>\n{picture}<figcaption>{safe(caption)}</figcaption>\n</figure>\n"
+                    for caption, picture in pictures_of(question, finding))
     answer = answer_lines(question, finding, words)
     parts = [f"<h1>{safe(title)}</h1>", f'<p class="small">{safe(told.date)}</p>' if told.date else "",
-             section("The answer", f"<p>{safe(words.question())}</p>" if told.title else "", f'<p class="answer">{safe(answer[0])}</p>', *(f"<p>{safe(line)}</p>" for line in answer[1:]),
+             section("The answer", f"<p>{safe(words.question())}</p>" if told.title else "", f'<p class="answer">{safe(answer[0])}</p>',
+                     *(f"<p>{safe(line)}</p>" for line in answer[1:]),
                      free_text(finding, question.sides[0])),
              section("The picture", drawn),
-             section("What is fixed" if finding.verdict.is_yes else "What is fixed by those that agree", listed_items(fixed_lines(question, finding, words))),
+             section("What is fixed" if finding.verdict.is_yes else "What is fixed by those that agree",
+                     listed_items(fixed_lines(question, finding, words))),
              contradiction_part(question, finding, told, words),
              section("What was read", listed_items([*counted(question, words), *told.notes]), warned(told.warnings)),
              section("For a paper", *(f"<p>{safe(text)}</p>" for text in paper(question, finding, told, words))),
@@ -236,9 +247,10 @@ def contradiction_part(question, finding, told, words):
     side = question.sides[found.side - 1].cut()
     rows = words.of_side(found.side)[1]
     reasons = [f"{side.names[one.row]}: contradicts {', '.join(named(side, one.others))}" for one in found.aside]
-    turned = (f"<p>Round a circle the marks of a row stand together exactly where those that it lacks do. So each row with a mark at {safe(side.things[0])} "
-              "is replaced here by its complement.</p>" if question.sides[found.side - 1].complements() else "")
-    return (section("What contradicts what", turned, *cores_part(side, found, told, rows)) + section(f"{rows.capitalize()} set aside, in the order in which they came", listed_items(reasons))
+    turned = ("<p>Round a circle the marks of a row stand together exactly where those that it lacks do. So each row with a mark at "
+              f"{safe(side.things[0])} is replaced here by its complement.</p>") if question.sides[found.side - 1].complements() else ""
+    return (section("What contradicts what", turned, *cores_part(side, found, told, rows))
+            + section(f"{rows.capitalize()} set aside, in the order in which they came", listed_items(reasons))
             + section(f"{rows.capitalize()} that agree", f"<p>{safe(', '.join(named(side, found.agreed)))}</p>" if found.agreed else ""))
 
 
@@ -265,10 +277,12 @@ def paper(question, finding, told, words):
     result = ("Such an order exists; the PQ-tree of the answer stands for exactly all such orders."
               if yes else "No such order exists; an odd cycle of the incompatibility graph shows it.")
     version = told.version
-    return [f"We asked: {words.question()} {result} The answer was computed with Sulgyabet (pq, version {version}), whose solver is formally verified: "
-            "what it answers is proved to be right for the exact file that it reads. The page, its names and its picture are made by a companion program that is not proved.",
-            f"The verdict was judged by a second call of pq, which makes no search, and found valid. The file of {len(question.sides[0].things)} {things} and "
-            f"{len(question.sides[0].rows)} {rows}, the verdict and the sums given below allow anyone to judge it again."]
+    side = question.sides[0]
+    return [f"We asked: {words.question()} {result} The answer was computed with Sulgyabet (pq, version {version}), whose solver is formally "
+            "verified: what it answers is proved to be right for the exact file that it reads. The page, its names and its picture are made by "
+            "a companion program that is not proved.",
+            "The verdict was judged by a second call of pq, which makes no search, and found valid. The file of "
+            f"{len(side.things)} {things} and {len(side.rows)} {rows}, the verdict and the sums given below allow anyone to judge it again."]
 
 
 def checks(question, finding, name):
@@ -282,5 +296,6 @@ def checks(question, finding, name):
 
 def sums(question, finding, told):
     """The sums of the files."""
-    rows = [("the file that was read", told.source_sum), ("the exact file for pq (.in)", sum_of(question.content)), ("the verdict", sum_of(finding.verdict_text)), ("pq", told.program_sum)]
+    rows = [("the file that was read", told.source_sum), ("the exact file for pq (.in)", sum_of(question.content)),
+            ("the verdict", sum_of(finding.verdict_text)), ("pq", told.program_sum)]
     return "".join(f'<p class="small">SHA-256 of {safe(what)}: {safe(told_sum)}</p>' for what, told_sum in rows)

@@ -12,7 +12,8 @@ class Words:
     """What the reader calls the things that are put in order and the rows."""
 
     def __init__(self, kind, things=None, rows=None):
-        own = {"clones": ("probes", "clones"), "proper": ("vertices", "neighbourhoods"), "robinson": ("items", "balls"), "convex": ("right side", "left side"),
+        own = {"clones": ("probes", "clones"), "proper": ("vertices", "neighbourhoods"), "robinson": ("items", "balls"),
+               "convex": ("right side", "left side"),
                "doubly": ("right side", "left side")}.get(kind, ("columns", "rows"))
         self.kind, self.things, self.rows = kind, things or own[0], rows or own[1]
 
@@ -28,7 +29,8 @@ class Words:
             "convex": f"Is there an order of the {things} in which the neighbours of each of the {rows} stand together?",
             "doubly": f"Are there orders of the {things} and of the {rows} in which the neighbours of each of the others stand together?",
             "proper": f"Is there an order of the {things} in which an edge between two implies edges from both to all between them?",
-            "robinson": f"Is there an order of the {things} in which, of any three, the outer two are at least as far apart as the middle one is from either?",
+            "robinson": f"Is there an order of the {things} in which, of any three, the outer two are at least as far apart as the middle one is "
+                        "from either?",
         }.get(self.kind, f"Is there an order of the {things} in which those of each of the {rows} stand together?")
 
 
@@ -64,7 +66,8 @@ def answer_lines(question, finding, words):
         things, rows = words.of_side(verdict.side)
         kept, aside = len(finding.contradiction.agreed), len(finding.contradiction.aside)
         found = [f"No: there is no such order of the {things}.",
-                 f"Taken in turn, {kept} of the {rows} agree, and {aside} {'was' if aside == 1 else 'were'} set aside, each since it contradicts some that were taken before it."]
+                 f"Taken in turn, {kept} of the {rows} agree, and {aside} {'was' if aside == 1 else 'were'} set aside, each since it contradicts "
+                 "some that were taken before it."]
         of_which = f" in which the {kept} agree"
     for side, tree, things in trees_of(question, finding, words):
         count = orders_of(tree, side.is_circle)

@@ -91,7 +91,8 @@ def has_no_line_names(body, where, reading):
     if reading.line_names is not None:
         return reading.line_names == NONE
     if all(reading.marks.judge(record.fields[0]) != cells.UNKNOWN for record in body):
-        raise unreadable(where, "the first column has marks alone, so it may be one of cells: say --line-names none, or --line-names first if these are names")
+        raise unreadable(where, "the first column has marks alone, so it may be one of cells: say --line-names none, or --line-names first if "
+                                "these are names")
     return False
 
 
@@ -117,7 +118,9 @@ def judged(table, marks):
         verdicts = [marks.judge(cell) for cell in row]
         if cells.UNKNOWN in verdicts:
             at = verdicts.index(cells.UNKNOWN)
-            raise unreadable(table.where, f"line {place} ({name}), column {table.columns.places[at]} ({table.columns.names[at]}): the cell {row[at]!r} is neither a mark "
+            raise unreadable(table.where,
+                             f"line {place} ({name}), column {table.columns.places[at]} ({table.columns.names[at]}): the cell {row[at]!r} is "
+                             "neither a mark "
                              f"nor blank: say --marks {row[at]!r},.. if it counts, --absent {row[at]!r} if not, or --drop the column or the line")
         found.append([verdict == cells.PRESENT for verdict in verdicts])
     return found
@@ -158,7 +161,8 @@ def kept_of(things, rows, names, drop, where):
         raise unreadable(where, "nothing is left after --drop")
     place = {number: at for at, number in enumerate(kept, 1)}
     chosen = [at for at, name in enumerate(names) if name not in drop]
-    return [things[number - 1] for number in kept], [[place[number] for number in rows[at] if number in place] for at in chosen], [names[at] for at in chosen]
+    left = [[place[number] for number in rows[at] if number in place] for at in chosen]
+    return [things[number - 1] for number in kept], left, [names[at] for at in chosen]
 
 
 def told_drop(drop):
@@ -201,7 +205,8 @@ def long_question(text, where, reading):
     asked = [*reading.long, *([reading.value] if reading.value else [])]
     for name in asked:
         if header.count(name) != 1:
-            raise unreadable(where, f"line {found.records[0].line}: {'no column' if name not in header else 'more than one column'} {name!r} in the header ({', '.join(header)})")
+            raise unreadable(where, f"line {found.records[0].line}: {'no column' if name not in header else 'more than one column'} {name!r} in "
+                                    f"the header ({', '.join(header)})")
     row_at, thing_at, *value_at = (header.index(name) for name in asked)
     things, rows, twice = {}, {}, 0
     for record in found.records[1:]:
@@ -214,7 +219,8 @@ def long_question(text, where, reading):
         number = things.setdefault(thing, len(things) + 1)
         verdict = reading.marks.judge(record.fields[value_at[0]]) if value_at else cells.PRESENT
         if verdict == cells.UNKNOWN:
-            raise unreadable(where, f"line {record.line}: the value {record.fields[value_at[0]]!r} is neither a mark nor blank: say --marks or --absent")
+            raise unreadable(where, f"line {record.line}: the value {record.fields[value_at[0]]!r} is neither a mark nor blank: say --marks or "
+                                    "--absent")
         if verdict == cells.PRESENT:
             twice += number in members
             members.add(number)

@@ -104,7 +104,8 @@ def in_words(tree, names, things):
 
 def blocks(tree, names):
     """The inner nodes below the root: the names of each, and whether its parts only turn or may change places."""
-    return [{"members": [names[leaf - 1] for leaf in node.leaves()], "fixed": node.is_turning, "depth": depth} for node, depth in inner_nodes(tree) if depth]
+    return [{"members": [names[leaf - 1] for leaf in node.leaves()], "fixed": node.is_turning, "depth": depth}
+            for node, depth in inner_nodes(tree) if depth]
 
 
 def free_leaves(tree, is_circle=False):
