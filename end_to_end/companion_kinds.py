@@ -1,6 +1,7 @@
 """What the companion says of each kind: trees, counts of orders, intervals, contigs, distances, cycles and reasons, by plain programs and by hand."""
 
 import csv
+import hashlib
 import itertools
 import json
 import os
@@ -175,12 +176,56 @@ def reasons():
             said = [f"<p>Core {number}: {', '.join(core['rows'])}.</p>" in page for number, core in enumerate(value["cores"], 1)]
             aside = [one["row"] for one in value["set aside"]]
             cored = [name for core in value["cores"] for name in core["rows"]]
-            problem = first_of([cycles_problem(value, members), differs("cores on the page", [True] * len(said), said),
+            lines = [f"<li>{one['row']}: contradicts {', '.join(one['contradicts'])}</li>" in page for one in value["set aside"]]
+            agree = f"<p>{', '.join(value['agree']['rows'])}</p>" in page and sorted([*value["agree"]["rows"], *aside]) == sorted(members)
+            problem = first_of([cycles_problem(value, members), differs("lines of the page", (True, True), (all(lines), agree)),
+                                numbers_problem(page), differs("cores on the page", [True] * len(said), said),
                                 differs("rows in two cores", sorted(set(cored)), sorted(cored)),
                                 differs("rows set aside in the table", aside, [row[0] for row in body if row[-1] == "yes"])])
             if problem:
                 return f"{rows}: {problem}"
     return None
+
+
+def numbers_problem(page):
+    """What is wrong with the numbers in the picture of the core, or None: each stands where its step says that a row lacks something."""
+    steps = re.findall(r"<li>(.*?)</li>", re.search(r"<ol>(.*?)</ol>", page)[1])
+    wanted = {(number, *found.groups()) for number, found in enumerate((re.search(r"(\w+) has \w+ and \w+ and lacks (\w+), so", step)
+                                                                        for step in steps), 1) if found}
+    texts = list(pictures_on(page)[1].iter(f"{SVG}text"))
+    heads = {float(text.get("x")) - 10: text.find(f"{SVG}title").text for text in texts if text.get("transform")}
+    names = {float(text.get("y")): text.find(f"{SVG}title").text for text in texts if text.get("text-anchor") == "end"}
+    given = {(int(text.text), names[float(text.get("y"))], heads[float(text.get("x"))]) for text in texts if text.get("fill") == "#a00000"}
+    return differs("numbers", wanted, given)
+
+
+def bars_and_words():
+    """The bars of the tree lie under their blocks, dark where the parts keep their order, and the words say the same; by hand."""
+    with tempfile.TemporaryDirectory() as folder:
+        value, page, _ = report(folder, table("abcde", ["ab", "bc", "abcd"]), ["--order", "columns"])
+        picture, order = pictures_on(page)[0], value["order"]
+        heads = sorted(float(text.get("x")) for text in picture.iter(f"{SVG}text") if text.get("transform"))
+        bars = {"#333333": [], "#b06000": []}
+        for rect in picture.iter(f"{SVG}rect"):
+            begin, end = float(rect.get("x")), float(rect.get("x")) + float(rect.get("width"))
+            bars.get(rect.get("fill"), []).append("".join(sorted(name for name, head in zip(order, heads) if begin <= head <= end)))
+        given = ({fill: sorted(found) for fill, found in bars.items()},
+                 sorted(("".join(sorted(block["members"])), block["fixed"]) for block in value["blocks"]))
+        wanted = ({"#333333": ["abc"], "#b06000": ["abcd", "abcde"]}, [("abc", True), ("abcd", False)])
+        words = re.findall(r"<li>(Within .*?)</li>", page)
+        turns = [re.fullmatch(r"Within (a, b, c|c, b, a): 3 parts stand in this order, up to turning it round: (a; b; c|c; b; a)\.",
+                              line) is not None for line in words]
+        return differs("bars and blocks", wanted, given) or differs("words", (2, 1), (len(words), sum(turns)))
+
+
+def sums_of_files():
+    """The page and the dictionary tell the sums of the file, of the exact file, of the verdict, and of the program."""
+    with tempfile.TemporaryDirectory() as folder:
+        value, page, _ = report(folder, table("abc", ["ab", "bc"]), ["--order", "columns"])
+        files = {"source": "t", "in": "out.in", "verdict": "out.verdict", "pq": PROGRAM}
+        wanted = {name: hashlib.sha256(open(os.path.join(folder, path), "rb").read()).hexdigest() for name, path in files.items()}
+        shown = re.findall(r"SHA-256 of [^:]*: ([0-9a-f]{64})", page)
+        return differs("sums", (wanted, list(wanted.values())), (value["sums"], shown))
 
 
 def trusted():
@@ -273,7 +318,7 @@ def distances():
                                     differs("table", wanted, table_said), differs("shades", sorted(set(by_name)), by_name)])
                 if problem:
                     return problem
-        value, page, _ = report(folder, b",a,b\na,0,1.0004\nb,1,0\n", ["--distances", "--digits", "2"])
+        value, page, _ = report(folder, b",a,b,c\na,0,1.0004,2\nb,1,0,1.0001\nc,2,1,0\n", ["--distances", "--digits", "2"])
         note = "the table isn't symmetric: b and a differ most, by 0.0004"
         kept = report(folder, b"0,1.000000000000000000000000000000001\n1.000000000000000000000000000000001,0\n",
                       ["--distances", "--digits", "3"])[2][2][1]
@@ -331,6 +376,7 @@ def dropped_and_counted():
              (b"r,t,n\nx,a,1\nx,b,0\ny,b,2\n", ["--long", "r,t"], b"2\n1 2\n2\n"),
              (b"r,t\nx,a\nx,b\ny,b\n", ["--long", "r,t", "--drop", "a"], b"1\n1\n1\n"),
              (b"r,t\nx,a\nx,b\ny,b\n", ["--long", "r,t", "--drop", "x"], b"2\n2\n"),
+             (b",a,b\nx,2,3\ny,\"2,5\",1\n", ["--order", "columns", "--marks", ">2"], b"2\n2\n1\n"),
              (far, ["--distances", "--drop", "b"], b"2\n0 2\n2 0\n"), (b"a,b\nb,c\nd\n", ["--graph", "--header", "0", "--drop", "a"], b"3\n1 2\n"),
              (b"x,a\ny,b\n", ["--graph", "--header", "0", "--kind", "convex", "--drop", "x"], b"1 2\n1 2\n")]
     with tempfile.TemporaryDirectory() as folder:
@@ -455,7 +501,9 @@ def no_reports(folder, path, out):
 
 LIAR = """#!/bin/sh
 # answers as pq does but for one command, and may find everything valid
-case $1 in {judge}) echo valid;; {command}) said=$("{pq}" "$@"); status=$?; printf '%s\\n' "$said" | sed '{edit}'; exit $status;; *) exec "{pq}" "$@";; esac
+case $1 in {judge}) echo valid;; {command}) said=$("{pq}" "$@"); status=$?
+printf '%s\\n' "$said" | sed '{edit}'; exit $status;;
+*) exec "{pq}" "$@";; esac
 """
 # A file of rows, the command that lies, and what it says otherwise.
 LIES = [("4\n1 2\n2 3\n3 4\n", "solve", "s/^order 1 2 3/order 1 3 2/"), ("3\n1 2\n2 3\n1 3\n1 3\n", "core", "s/^row 1$/row 4/"),
@@ -485,7 +533,8 @@ def lies():
 
 def problems():
     """Each check with what is wrong, or None."""
-    for check in (trees_and_counts, free_things, circles, reasons, trusted, clones, intervals, distances, two_sides, dropped_and_counted,
+    for check in (trees_and_counts, free_things, circles, reasons, bars_and_words, sums_of_files, trusted, clones, intervals, distances, two_sides,
+                  dropped_and_counted,
                   words_that_say_nothing, warned, picture_of_the_start, ends, lies):
         try:
             problem = check()
