@@ -166,9 +166,11 @@ def reasons():
     """After a no each cycle is odd and follows, and the rows blamed are those that it names; no two cores share a row."""
     draw = random.Random(SEED)
     with tempfile.TemporaryDirectory() as folder:
-        for _ in range(40):
-            things = [f"C{at}" for at in range(5)]
-            rows = [row for row in drawn_rows(draw, things, 4) + drawn_rows(draw, things, 8) if row]
+        things = [f"C{at}" for at in range(5)]
+        for number in range(40):
+            # first all pairs, of which many are set aside
+            drawn = [row for row in drawn_rows(draw, things, 4) + drawn_rows(draw, things, 8) if row]
+            rows = drawn if number else [set(pair) for pair in itertools.combinations(things, 2)]
             value, page, body = report(folder, table(things, rows), ["--order", "columns"])
             if value["answer"] == "yes":
                 continue
