@@ -13,6 +13,7 @@ the proof did not check. From a script: `pqpage.answer(path, order="columns")` g
 """
 
 import argparse
+import errno
 import json
 import os
 import signal
@@ -23,12 +24,19 @@ from pqparts.finding import MOST_CORES, asked, cycle_over, judge_cycle, rows_of
 from pqparts.others import clones_question, distances_question, graph_of_edges, plain_question
 from pqparts.program import CHECKOUT, Program, found_program
 from pqparts.spoken import Words, answer_lines
-from pqparts.stops import NOT_PROVED, NOT_READABLE, READ_FAULT, WORDS, WRITE_FAULT, Stop
+from pqparts.stops import NO_MEMORY, NOT_PROVED, NOT_READABLE, READ_FAULT, WORDS, WRITE_FAULT, Stop
 from pqparts.tables import FIRST, NONE, Reading, long_question, wide_question, words_of_marks
 from pqparts.texts import bytes_of, decoded
 
 KINDS = ["matrix", "rows", "table", "clones", "circular", "convex", "doubly", "proper", "robinson"]
 INTERRUPTED = 130
+# Words on how a file is read, and for each form of a file those that say something about it.
+SAYING = ["order", "header", "separator", "encoding", "line_names", "drop", "marks", "absent", "value", "digits"]
+FORMS = {"plain": "a file of pq as it is", "graph": "a list of edges", "long": "a long table", "distances": "distances", "json": "clones in JSON",
+         "wide": "a wide table"}
+SAID = {"plain": [], "graph": ["header", "separator", "encoding", "drop"], "long": ["header", "separator", "encoding", "drop", "value"],
+        "distances": ["header", "separator", "encoding", "line_names", "drop", "digits"], "json": ["encoding", "drop"],
+        "wide": ["order", "header", "separator", "encoding", "line_names", "drop", "marks", "absent"]}
 # The endings of the files of a report: those that a reader looks at, and the texts of the proof.
 SHOWN = ["json", "csv", "svg", "html"]
 CORES = ["core", *(f"core{number}" for number in range(2, MOST_CORES + 1))]
@@ -41,13 +49,47 @@ def version():
         return stream.read().strip()
 
 
+def form_of(words):
+    """How the words say that a file is read; None of a wide table or JSON."""
+    asked = [form for form in ("plain", "graph", "long", "distances") if getattr(words, form)]
+    if len(asked) > 1:
+        raise Stop(WORDS, f"--{asked[0]} and --{asked[1]} say two things: which is the file?")
+    return asked[0] if asked else None
+
+
+def fitting(words, form):
+    """Stops where a word can't be meant, or says nothing about a file of this form."""
+    if words.header is not None and words.header < (0 if form == "graph" else 1):
+        raise Stop(WORDS, f"--header {words.header}: lines count from 1")
+    if words.digits is not None and words.digits < 0:
+        raise Stop(WORDS, f"--digits {words.digits}: there are no fewer than 0")
+    if words.separator is not None and (len(words.separator) != 1 or words.separator in '"\r\n'):
+        raise Stop(WORDS, f"--separator {words.separator!r}: one character separates fields")
+    if words.long and (len(words.long) != 2 or words.long[0] == words.long[1]):
+        raise Stop(WORDS, "--long needs two names of the header, as in --long clone,probe")
+    wrong = [mark for mark in words.marks if mark.startswith(">") and cells.number(mark[1:]) is None]
+    if wrong:
+        raise Stop(WORDS, f"--marks {wrong[0]!r}: a number stands behind >")
+    if form == "distances" and words.kind not in (None, "robinson"):
+        raise Stop(WORDS, f"distances can be asked about as robinson, not as {words.kind}")
+    for name in SAYING:
+        if getattr(words, name) not in (None, []) and name not in SAID[form] and not (form == "long" and words.value and name in ("marks", "absent")):
+            raise Stop(WORDS, f"--{name.replace('_', '-')} says nothing about {FORMS[form]}")
+
+
 def question_of(content, where, words):
     """The question that a file asks, by the user's words."""
-    reading = Reading(words.kind, words.order, words.header, words.separator, words.line_names, words.drop, cells.Marks(words.marks, words.absent), words.long,
+    form = form_of(words)
+    if form:
+        fitting(words, form)
+    reading = Reading(words.kind, words.order, words.header, words.separator, words.line_names, words.drop, cells.Marks(words.marks, words.absent),
+                      words.long,
                       words.value, words.digits)
     if words.plain:
         return plain_question(content, where, reading)
     text, encoding = decoded(content, where, words.encoding)
+    if not form:
+        fitting(words, "json" if is_json(text) else "wide")
     if words.graph:
         question = graph_of_edges(text, where, reading)
     else:
@@ -84,9 +126,13 @@ def found(words):
     """The question, what pq found, and what is told besides."""
     question, content = read(words)
     path = found_program(words.pq)
-    finding = asked(Program(path), question, words.trust, words.rare_first, words.cores)
-    told = report.Told(os.path.basename(words.file), report.sum_of(content), sum_of_program(path), version(), *spoken(question, words), words.title, words.date,
-                       question.notes, question.warnings)
+    try:
+        finding = asked(Program(path), question, words.trust, words.rare_first, words.cores)
+    except (ValueError, KeyError, TypeError, AttributeError, IndexError) as error:
+        raise Stop(NOT_PROVED, f"{path}: what it wrote is no text of this version of pq") from error
+    told = report.Told(os.path.basename(words.file), report.sum_of(content), sum_of_program(path), version(), *spoken(question, words), words.title,
+                       words.date,
+                       words.cores, question.notes, question.warnings)
     return question, finding, told
 
 
@@ -101,9 +147,18 @@ def tell(line):
     print(f"pqpage: {line}", file=sys.stderr, flush=True)
 
 
+def read_here(words):
+    """The question of a file that is read without pq."""
+    question, _ = read(words)
+    if not question.sides:
+        raise Stop(NOT_READABLE,
+                   f"{words.file}: this is no file of the kind {words.kind}: pq solve {words.kind} {words.file} says which line is wrong")
+    return question
+
+
 def look(words):
     """Tells what would be read, and what looks wrong."""
-    question, _ = read(words)
+    question = read_here(words)
     for note in question.notes:
         print(note)
     for number, side in enumerate(question.sides, 1):
@@ -156,14 +211,14 @@ def files_of(question, finding, told, name):
     value = {**report.report_value(question, finding, told), "files": sorted([*made, *SHOWN])}
     made["json"] = as_json(value).encode("utf-8", "surrogateescape")
     made["csv"] = report.ordered_table(question, finding).encode("utf-8", "surrogateescape")
-    pictures = list(report.pictures_of(question, finding))
-    made["svg"] = (pictures[0][1] if pictures else "").encode("utf-8", "replace")
+    made["svg"] = next(report.pictures_of(question, finding))[1].encode("utf-8", "replace")
     made["html"] = report.page(question, finding, told, name).encode("utf-8", "replace")
     return made
 
 
 def write_report(words):
     """Writes the page, the picture, the table in order, the dictionary and the texts of the proof."""
+    named_out(words)
     question, finding, told = found(words)
     warn(question)
     made = files_of(question, finding, told, os.path.basename(words.out))
@@ -181,21 +236,31 @@ def write_all(contents):
     made = []
     try:
         for path, content in contents.items():
+            if os.path.exists(path) and not os.path.isfile(path):
+                raise Stop(WRITE_FAULT, f"{path}: there is a folder or a device of this name")
             made.append(path)
             with open(f"{path}.new", "wb") as stream:
                 stream.write(content)
         for path in made:
             os.replace(f"{path}.new", path)
     except OSError as error:
+        raise Stop(WRITE_FAULT, f"{made[-1]}: {error.strerror}") from error
+    finally:
         for path in made:
             if os.path.exists(f"{path}.new"):
                 os.remove(f"{path}.new")
-        raise Stop(WRITE_FAULT, f"{error.filename or made[-1]}: {error.strerror}") from error
+
+
+def named_out(words):
+    """Stops where the name of what is to be written is none."""
+    if words.out == "-" or not os.path.basename(words.out):
+        raise Stop(WORDS, f"{words.out!r} is no name of a file to write")
 
 
 def convert(words):
     """Writes the exact file for pq, and the names."""
-    question, _ = read(words)
+    named_out(words)
+    question = read_here(words)
     warn(question)
     names = {"kind": question.kind, "sides": [{"things": side.things, "rows": side.names} for side in question.sides], "read": question.notes}
     stem = words.out.removesuffix(".in")
@@ -215,15 +280,16 @@ def again(words):
     stem = words.file.removesuffix(".json")
     try:
         value = json.loads(bytes_of(words.file).decode("utf-8", "surrogateescape"))
-        content, verdict_text, agreed_text = (text_beside(stem, ending) if ending in value["files"] else None for ending in ("in", "verdict", "agreed"))
+        content, verdict_text, agreed_text = (text_beside(stem, ending) if ending in value["files"] else None
+                                              for ending in ("in", "verdict", "agreed"))
         core_texts = [text_beside(stem, ending) for ending in CORES if ending in value["files"]]
         question, finding, told = report.again_of(value, content, verdict_text, core_texts, agreed_text)
         program = Program(found_program(words.pq))
         judge_again(program, question, finding)
         made = files_of(question, finding, told, os.path.basename(stem))
     except Stop as stop:
-        raise Stop(NOT_PROVED if stop.status == NOT_READABLE else stop.status, str(stop)) from stop
-    except (ValueError, KeyError, TypeError, AttributeError, IndexError) as error:
+        raise Stop(NOT_PROVED if stop.status in (WORDS, NOT_READABLE) else stop.status, str(stop)) from stop
+    except (ValueError, KeyError, TypeError, AttributeError, IndexError, RecursionError) as error:
         raise Stop(NOT_PROVED, f"{words.file}: this is not a whole report of pqpage: {error}") from error
     for ending, wanted in made.items():
         if text_beside(stem, ending) != wanted:
@@ -278,14 +344,16 @@ def reading_words(part):
     part.add_argument("file", metavar="FILE", help="the table; - is standard input")
     part.add_argument("--kind", choices=KINDS, help="what is asked; else rows for tables, clones for JSON, robinson for distances, proper for graphs")
     part.add_argument("--order", choices=["lines", "columns"], help="of a wide table: what is to be put in order")
-    part.add_argument("--long", type=lambda text: text.split(","), metavar="ROW,THING", help="a long table: a line for each row and thing, by these two columns")
+    part.add_argument("--long", type=lambda text: text.split(","), metavar="ROW,THING",
+                      help="a long table: a line for each row and thing, by these two columns")
     part.add_argument("--value", metavar="COLUMN", help="of a long table: the column that says whether a line counts")
     part.add_argument("--distances", action="store_true", help="a table of distances")
     part.add_argument("--digits", type=int, metavar="N", help="of distances: round to so many digits behind the point; else all are kept")
     part.add_argument("--graph", action="store_true", help="a list of edges, two names a line")
     part.add_argument("--plain", action="store_true", help="a file of pq as it is, of the kind that --kind says")
     part.add_argument("--header", type=int, metavar="N", help="the line of the header; of a list of edges 0 where there is none")
-    part.add_argument("--separator", metavar="C", type=lambda text: "\t" if text in ("tab", "\\t") else text, help="what separates fields, where more than one could; tab for a tab")
+    part.add_argument("--separator", metavar="C", type=lambda text: "\t" if text in ("tab", "\\t") else text,
+                      help="what separates fields, where more than one could; tab for a tab")
     part.add_argument("--encoding", help="the encoding; else UTF-8, by its mark UTF-16, and what is neither is Windows-1252")
     part.add_argument("--line-names", choices=[FIRST, NONE], help="whether the first column has the names of the lines")
     part.add_argument("--drop", action="append", default=[], metavar="NAME", help="leave out a line or a column")
@@ -301,7 +369,8 @@ def asking_words(part):
     part.add_argument("--pq", metavar="PATH", help="the program; else $PQ, the pq of this checkout, or the one on the PATH")
     part.add_argument("--trust", type=words_of_marks, default=[], metavar="NAME,..", help="after a no: rows that are taken first")
     part.add_argument("--rare-first", action="store_true", help="after a no: take rows with few marks first")
-    part.add_argument("--cores", type=int, choices=range(MOST_CORES + 1), default=MOST_CORES, metavar="N", help=f"after a no: at most so many cores, {MOST_CORES} if left out")
+    part.add_argument("--cores", type=int, choices=range(MOST_CORES + 1), default=MOST_CORES, metavar="N",
+                      help=f"after a no: at most so many cores, {MOST_CORES} if left out")
     part.add_argument("--status", action="store_true", help="the status is 1 for a no")
     part.add_argument("--title", help="the title of the page")
     part.add_argument("--date", help="the date on the page; else it has none")
@@ -312,7 +381,8 @@ def parser():
     top = Parser(prog="pqpage", description=__doc__, formatter_class=argparse.RawDescriptionHelpFormatter)
     top.add_argument("--version", action="version", version=version())
     parts = top.add_subparsers(dest="command", metavar="COMMAND", required=True, parser_class=Parser)
-    for name, run, says in [("look", look, "what would be read"), ("json", write_json, "the answer with names"), ("report", write_report, "a page with its proof"),
+    for name, run, says in [("look", look, "what would be read"), ("json", write_json, "the answer with names"),
+                            ("report", write_report, "a page with its proof"),
                             ("convert", convert, "the exact file for pq")]:
         part = parts.add_parser(name, help=says, description=says)
         reading_words(part)
@@ -328,23 +398,41 @@ def parser():
     return top
 
 
-def main(given):
+def ended(given):
+    """Runs the command that the words name, up to the last byte of its output."""
+    if sys.stdout is None:
+        raise Stop(WRITE_FAULT, "standard output is closed")
     try:
         words = parser().parse_args(given)
-        return words.run(words)
+    except SystemExit:
+        # of -h and --version; wrong words are a Stop
+        sys.stdout.flush()
+        return 0
+    status = words.run(words)
+    sys.stdout.flush()
+    return status
+
+
+def main(given):
+    """The status of a call. What stops it is told in one line."""
+    try:
+        return ended(given)
     except Stop as stop:
         tell(stop)
         return stop.status
     except MemoryError:
         tell("no memory")
-        return 6
+        return NO_MEMORY
     except BrokenPipeError:
         os.dup2(os.open(os.devnull, os.O_WRONLY), sys.stdout.fileno())
         tell("standard output was closed")
         return WRITE_FAULT
     except OSError as error:
         tell(error)
-        return WRITE_FAULT if error.errno == 28 else READ_FAULT
+        if error.errno != errno.ENOSPC:
+            return READ_FAULT
+        os.dup2(os.open(os.devnull, os.O_WRONLY), sys.stdout.fileno())
+        return WRITE_FAULT
     except KeyboardInterrupt:
         tell("stopped")
         return INTERRUPTED

@@ -10,11 +10,13 @@ what is said of changed ones with a plain checker; bounds what hostile files cos
 Usage: end_to_end/check.py [PART ..]   after `rt ci` or `./pq`, which leave the program in crates/pq/out/pq
 
 PARTs pick some of the checks: `cases` (files and streams), `pages`, `answers` (of small instances, at the limits, of `gen`, of sessions, of lists, of
-unit models and of cores), `forgeries`, `trees`, `meetings`, `hostile`, `first_call`, `try`, `companion`; default all. The last line is `N passed, N failed`; the status is 0 where
+unit models and of cores), `forgeries`, `trees`, `meetings`, `hostile`, `first_call`, `try`, `companion`; default all.
+The last line is `N passed, N failed`; the status is 0 where
 nothing failed.
 """
 
 import concurrent.futures
+import itertools
 import os
 import shutil
 import subprocess
@@ -23,6 +25,7 @@ import tempfile
 
 import all_kinds
 import companion
+import companion_kinds
 import first_call
 import forgeries
 import meetings
@@ -156,7 +159,8 @@ def without_folders():
 
 # The checks that tell each name with its problem, by the words that pick them.
 FURTHER = {"forgeries": lambda: forgeries.compared(Limits()), "trees": other_trees.compared, "hostile": hostile_problems,
-           "first_call": first_call.problems, "try": tries.problems, "companion": companion.problems}
+           "first_call": first_call.problems, "try": tries.problems,
+           "companion": lambda: itertools.chain(companion.problems(), companion_kinds.problems())}
 FURTHER["meetings"] = meetings.compared
 PARTS = ["cases", "pages", "answers", *FURTHER]
 

@@ -33,7 +33,8 @@ SECONDS = 120
 SEED, DIALECTS = 44, 500
 SVG = "{http://www.w3.org/2000/svg}"
 # Names that would be markup, or break lines, quotes or the direction of a text, if a page took them as they are.
-HOSTILE = ["<script>alert(1)</script>", "a&b;&amp;", "\"quoted\" 'single'", "\u202eright to left\u202c", "x" * 10000, "comma, semicolon; tab", "ends with \\", "<!--", "]]>",
+HOSTILE = ["<script>alert(1)</script>", "a&b;&amp;", "\"quoted\" 'single'", "\u202eright to left\u202c", "x" * 10000, "comma, semicolon; tab",
+           "ends with \\", "<!--", "]]>",
            "\u0001control", "=1+1", "Grave\u00a07"]
 
 
@@ -114,7 +115,8 @@ def as_text(draw, table):
     """A table as a text, with what separates its fields."""
     separator = draw.choice([",", ";", "\t", "|"])
     out = io.StringIO()
-    csv.writer(out, delimiter=separator, lineterminator=draw.choice(["\n", "\r\n"]), quoting=draw.choice([csv.QUOTE_MINIMAL, csv.QUOTE_ALL])).writerows(table)
+    csv.writer(out, delimiter=separator, lineterminator=draw.choice(["\n", "\r\n"]),
+               quoting=draw.choice([csv.QUOTE_MINIMAL, csv.QUOTE_ALL])).writerows(table)
     return out.getvalue(), separator
 
 
@@ -177,30 +179,44 @@ def spoilt():
     """Files that can't be read as they are: the bytes, the words, and what the line names."""
     wide = ["--order", "columns"]
     table = b"Type,G 1,G 2\nBowl,1,\nJar,,1\n"
-    yield from ((table.replace(b"Bowl,1,", cells), wide, "line 2") for cells in (b"Bowl,yes,", b"Bowl,NA,", b"Bowl,1.0,", b"Bowl,?,", b"Bowl,-1,", b"Bowl,1e3,", b"Bowl,TRUE,"))
+    yield from ((table.replace(b"Bowl,1,", cells), wide, "line 2")
+                for cells in (b"Bowl,yes,", b"Bowl,NA,", b"Bowl,1.0,", b"Bowl,?,", b"Bowl,-1,", b"Bowl,1e3,", b"Bowl,TRUE,"))
     yield from ((table.replace(b"Bowl,1,", cells), wide, "line 2 ") for cells in (b"Bowl,1", b"Bowl,1,,", b"Bowl"))
-    yield from [(b"", wide, "nothing"), (b"\n\n", wide, "nothing"), (b"Type,G 1\n", wide, "no line"), (b"abc\ndef\n", wide, "two fields"), (b"PK\x03\x04rest", wide, "zip"),
+    yield from [(b"", wide, "nothing"), (b"\n\n", wide, "nothing"), (b"Type,G 1\n", wide, "no line"), (b"abc\ndef\n", wide, "two fields"),
+                (b"PK\x03\x04rest", wide, "zip"),
                 (b"\x1f\x8bzzz", wide, "gzip"), (b"%PDF-1.5", wide, "PDF"), (b"\xd0\xcf\x11\xe0", wide, "xls"), (b"T\0y\0", wide, "zero bytes")]
-    yield from [(table.replace(b"Jar", b"Bowl"), wide, "lines 2 and 3"), (table.replace(b"G 2", b"G 1"), wide, "columns 2 and 3"), (table.replace(b"G 2", b""), wide, "column 3"),
-                (table.replace(b"Jar", b""), wide, "line 3"), (b"A title\n" + table, wide, "--header 2"), (b"A title;\n\n" + table, wide, "--header 3"),
-                (b"a,b\n1,0\n0,1\n", wide, "--line-names"), (table, [*wide, "--drop", "none"], "'none'"), (table, [*wide, "--drop", "Bowl", "--drop", "Jar"], "nothing is left"),
-                (b"T,\"G 1\nBowl,1\n", wide, "quote"), (b"Type;a,b;c\nx;1,0;1\n", wide, "--separator"), (table, [*wide, "--encoding", "nowhere"], "nowhere"),
-                (table.replace(b"Bowl", b"B\xfcwl"), [*wide, "--encoding", "utf-8"], "utf-8"), (table.replace(b"G 2", b"Total"), [*wide, "--strict"], "'Total'"),
+    yield from [(table.replace(b"Jar", b"Bowl"), wide, "lines 2 and 3"), (table.replace(b"G 2", b"G 1"), wide, "columns 2 and 3"),
+                (table.replace(b"G 2", b""), wide, "column 3"),
+                (table.replace(b"Jar", b""), wide, "line 3"), (b"A title\n" + table, wide, "--header 2"),
+                (b"A title;\n\n" + table, wide, "--header 3"),
+                (b"a,b\n1,0\n0,1\n", wide, "--line-names"), (table, [*wide, "--drop", "none"], "'none'"),
+                (table, [*wide, "--drop", "Bowl", "--drop", "Jar"], "nothing is left"),
+                (b"T,\"G 1\nBowl,1\n", wide, "quote"), (b"Type;a,b;c\nx;1,0;1\n", wide, "--separator"),
+                (table, [*wide, "--encoding", "nowhere"], "nowhere"),
+                (table.replace(b"Bowl", b"B\xfcwl"), [*wide, "--encoding", "utf-8"], "utf-8"),
+                (table.replace(b"G 2", b"Total"), [*wide, "--strict"], "'Total'"),
                 (table.replace(b"Jar,,1", b"Jar,1,1"), [*wide, "--strict"], "'G 1'"), (b"T,G,Y\nB,,1987\nJ,1,2004\n", [*wide, "--strict"], "'Y'")]
     long = ["--long", "row,thing"]
-    yield from [(b"row,other\na,b\n", long, "'thing'"), (b"row,row\na,b\n", long, "'row'"), (b"row,thing\n,b\n", long, "line 2"), (b"row,thing\na,\n", long, "thing"),
+    yield from [(b"row,other\na,b\n", long, "'thing'"), (b"row,row\na,b\n", long, "'row'"), (b"row,thing\n,b\n", long, "line 2"),
+                (b"row,thing\na,\n", long, "thing"),
                 (b"row,thing,n\na,b,maybe\n", [*long, "--value", "n"], "line 2"), (b"row,thing\na,b\n", [*long, "--value", "n"], "'n'")]
-    yield from [(b"{", [], "JSON"), (b"{}", [], "probes"), (b'{"probes": ["a", "a"], "clones": []}', [], "'a'"), (b'{"probes": ["a"], "clones": [{"probes": ["b"]}]}', [], "clone 1"),
-                (b'{"probes": ["a"], "clones": [{"name": "k"}]}', [], "clone 1"), (b'{"probes": [1], "clones": []}', [], "probes"), (b'{"probes": [], "clones": [7]}', [], "clone 1"),
+    yield from [(b"{", [], "JSON"), (b"{}", [], "probes"), (b'{"probes": ["a", "a"], "clones": []}', [], "'a'"),
+                (b'{"probes": ["a"], "clones": [{"probes": ["b"]}]}', [], "clone 1"),
+                (b'{"probes": ["a"], "clones": [{"name": "k"}]}', [], "clone 1"), (b'{"probes": [1], "clones": []}', [], "probes"),
+                (b'{"probes": [], "clones": [7]}', [], "clone 1"),
                 (b'{"probes": ["a"], "clones": [{"name": "k", "probes": []}, {"name": "k", "probes": []}]}', [], "'k'")]
     far = ["--distances"]
-    yield from [(b"0,1\n1,nan\n", far, "line 2"), (b"0,-1\n-1,0\n", far, "line 1"), (b",a,b\na,1,0.5\nb,0.5,1\n", far, "similarities"), (b",a,b\na,0,1\nb,2,0\n", far, "line 3"),
-                (b",a,b\na,0,1\nc,1,0\n", far, "names"), (b",a,a\na,0,1\na,1,0\n", far, "'a'"), (b"0,1,2\n1,0,1\n", far, "square"), (b",a,b\na,0,\nb,1,0\n", far, "line 2"),
+    yield from [(b"0,1\n1,nan\n", far, "line 2"), (b"0,-1\n-1,0\n", far, "line 1"), (b",a,b\na,1,0.5\nb,0.5,1\n", far, "similarities"),
+                (b",a,b\na,0,1\nb,2,0\n", far, "line 3"),
+                (b",a,b\na,0,1\nc,1,0\n", far, "names"), (b",a,a\na,0,1\na,1,0\n", far, "'a'"), (b"0,1,2\n1,0,1\n", far, "square"),
+                (b",a,b\na,0,\nb,1,0\n", far, "line 2"),
                 (b",a,b\na,0,0.1234567890123456789\nb,0.1234567890123456789,0\n", far, "--digits"),
-                (b"," + b",".join(b"i%d" % at for at in range(257)) + b"\n" + b"".join(b"i%d" % at + b",0" * 257 + b"\n" for at in range(257)), far, "256")]
+                (b"," + b",".join(b"i%d" % at for at in range(257)) + b"\n" + b"".join(b"i%d" % at + b",0" * 257 + b"\n" for at in range(257)), far,
+                 "256")]
     edges = ["--graph", "--header", "0"]
     yield from [(b"a,b,c\n", edges, "line 1"), (b"a,a\n", edges, "line 1"), (b"\n", edges, "no edge")]
-    yield from [(b"012\n", ["--plain", "--kind", "matrix"], "line 1"), (b"2\n1 3\n", ["--plain", "--kind", "rows"], "line 2"), (b"{", ["--plain", "--kind", "clones"], "JSON")]
+    yield from [(b"012\n", ["--plain", "--kind", "matrix"], "line 1"), (b"2\n1 3\n", ["--plain", "--kind", "rows"], "line 2"),
+                (b"{", ["--plain", "--kind", "clones"], "JSON")]
 
 
 def refusals():
@@ -219,7 +235,8 @@ def refusals():
 def wrong_words():
     """Wrong words end with status 2, one line, and nothing written."""
     table = os.path.join(HOME, "examples", "graves.csv")
-    for words in ([], ["report"], ["look", table], ["look", table, "--order", "rows"], ["look", table, "--graph"], ["look", table, "--plain"], ["json", table, "--kind", "robinson", "--order", "lines"],
+    for words in ([], ["report"], ["look", table], ["look", table, "--order", "rows"], ["look", table, "--graph"], ["look", table, "--plain"],
+                  ["json", table, "--kind", "robinson", "--order", "lines"],
                   ["solve", table], ["look", table, "--none"]):
         status, out, errors = called(words)
         if status != 2 or errors.count("\n") != 1 or out:
@@ -235,7 +252,8 @@ def warnings():
         with open(path, "wb") as stream:
             stream.write(text)
         status, out, _ = called(["look", path, "--order", "columns", "--header", "2"])
-    wanted = ["'Sum' is named like", "'Y' is full of years", "'G 1' has a mark in every cell", "1 blank columns at the end", "1 blank lines", "line 2; the lines before it", "semicolon"]
+    wanted = ["'Sum' is named like", "'Y' is full of years", "'G 1' has a mark in every cell", "blank columns at the end, which are left out: 1",
+              "blank lines, which are left out: 1", "line 2; the lines before it", "semicolon"]
     lacks = [one for one in wanted if one not in out]
     return None if status == 0 and not lacks else f"{status} {out!r} lacks {lacks}"
 
@@ -293,7 +311,8 @@ def steps_of(page):
     """The steps that a page reads aloud, each as two statements and the row between them."""
     text = re.search(r"<ol>(.*?)</ol>", page, re.S)
     for item in re.findall(r"<li>(.*?)</li>", text[1] if text else "", re.S):
-        yield re.fullmatch(r"(\w+) stands (before|after) (\w+); (?:(\w+) has (\w+) and (\w+) and lacks (\w+), so|turned round:) (\w+) stands (before|after) (\w+)\.", item).groups()
+        yield re.fullmatch(r"(\w+) stands (before|after) (\w+); (?:(\w+) has (\w+) and (\w+) and lacks (\w+), so|turned round:) (\w+) stands "
+                           r"(before|after) (\w+)\.", item).groups()
 
 
 def steps_problem(page, members):
@@ -312,7 +331,8 @@ def steps_problem(page, members):
             fits = now == next_
         else:
             # the row holds two things and not the third, so the two lie on one side of it
-            fits = {has, also} <= members[row] and lacks not in members[row] and lacks in now and lacks in next_ and (now.index(lacks) == next_.index(lacks)) and {*now, *next_} == {has, also, lacks}
+            fits = {has, also} <= members[row] and lacks not in members[row] and {*now, *next_} == {has, also, lacks}
+            fits = fits and lacks in now and lacks in next_ and now.index(lacks) == next_.index(lacks)
         if not fits:
             return f"step {number + 1} doesn't follow: {steps[number]}"
     return None
@@ -324,7 +344,8 @@ def report_problem(columns, rows, folder):
     members = {name: {things[at] for at in row} for name, row in zip(names, rows)}
     path, out = os.path.join(folder, "t.csv"), os.path.join(folder, "out")
     with open(path, "w", encoding="utf-8") as stream:
-        stream.write(",".join(["", *things]) + "\n" + "".join(",".join([name, *("1" if at in row else "0" for at in range(columns))]) + "\n" for name, row in zip(names, rows)))
+        stream.write(",".join(["", *things]) + "\n" + "".join(",".join([name, *("1" if at in row else "0" for at in range(columns))]) + "\n"
+                                                              for name, row in zip(names, rows)))
     status, _, errors = called(["report", path, out, "--order", "columns", "--pq", PROGRAM])
     if status:
         return f"status {status} {errors}"
@@ -390,10 +411,13 @@ def reports():
 
 def all_kinds():
     """Each kind of file gives a page, a yes and a no, whose proof is valid again."""
-    no = {"matrix": b"110\n011\n101\n", "rows": b"3\n1 2\n2 3\n1 3\n", "table": b"t,a,b,c\nr,1,1,\ns,,1,1\nu,1,,1\n", "circular": b"11000\n10100\n10010\n01100\n", "convex": b"3 3\n1 1\n1 2\n2 2\n2 3\n3 1\n3 3\n",
-          "clones": b'{"probes": ["a", "b", "c"], "clones": [{"probes": ["a", "b"]}, {"probes": ["b", "c"]}, {"probes": ["a", "c"]}]}', "doubly": b"3 3\n1 1\n1 2\n2 2\n2 3\n3 1\n3 3\n",
+    no = {"matrix": b"110\n011\n101\n", "rows": b"3\n1 2\n2 3\n1 3\n", "table": b"t,a,b,c\nr,1,1,\ns,,1,1\nu,1,,1\n",
+          "circular": b"11000\n10100\n10010\n01100\n", "convex": b"3 3\n1 1\n1 2\n2 2\n2 3\n3 1\n3 3\n",
+          "clones": b'{"probes": ["a", "b", "c"], "clones": [{"probes": ["a", "b"]}, {"probes": ["b", "c"]}, {"probes": ["a", "c"]}]}',
+          "doubly": b"3 3\n1 1\n1 2\n2 2\n2 3\n3 1\n3 3\n",
           "proper": b"4\n1 2\n1 3\n1 4\n", "robinson": b"4\n0 1 1 1\n1 0 2 2\n1 2 0 2\n1 2 2 0\n"}
-    yes = {"matrix": "nested.txt", "rows": "chain.txt", "table": "graves.csv", "clones": "map.json", "circular": "ring.txt", "convex": "jobs.txt", "doubly": "path.txt", "proper": "overlaps.txt",
+    yes = {"matrix": "nested.txt", "rows": "chain.txt", "table": "graves.csv", "clones": "map.json", "circular": "ring.txt", "convex": "jobs.txt",
+           "doubly": "path.txt", "proper": "overlaps.txt",
            "robinson": "distances.txt"}
     with tempfile.TemporaryDirectory() as folder:
         path, out = os.path.join(folder, "f"), os.path.join(folder, "out")
@@ -419,7 +443,8 @@ def hostile_names():
         with open(path, "w", encoding="utf-8", newline="") as stream:
             writer = csv.writer(stream)
             writer.writerow(["", *HOSTILE])
-            writer.writerows([f"row {name}", *("1" if at in (number, number + 1) else "" for at in range(len(HOSTILE)))] for number, name in enumerate(HOSTILE))
+            writer.writerows([f"row {name}", *("1" if at in (number, number + 1) else "" for at in range(len(HOSTILE)))] for number,
+                             name in enumerate(HOSTILE))
         status, _, errors = called(["report", path, out, "--order", "columns", "--title", "<b>T</b>", "--things", "<i>", "--pq", PROGRAM])
         if status:
             return f"{status} {errors}"
@@ -427,7 +452,8 @@ def hostile_names():
         root = ElementTree.fromstring(page.replace("<!DOCTYPE html>", ""))
         names = {element.tag.rpartition("}")[2] for element in root.iter()}
         attributes = {name for element in root.iter() for name in element.attrib}
-        known = {"html", "head", "meta", "title", "style", "body", "h1", "h2", "p", "ul", "ol", "li", "figure", "figcaption", "svg", "rect", "text", "code", "div"}
+        known = {"html", "head", "meta", "title", "style", "body", "h1", "h2", "p", "ul", "ol", "li", "figure", "figcaption", "svg", "rect", "text",
+                 "code", "div"}
         if not names <= known or any(name.startswith("on") or name in ("href", "src") for name in attributes):
             return f"{names - known} {attributes}"
         heads = {text.find(f"{SVG}title").text for text in pictures_on(page)[0].iter(f"{SVG}text") if text.find(f"{SVG}title") is not None}
@@ -488,13 +514,16 @@ def faults():
         old = f"{out}.html"
         with open(old, "w", encoding="utf-8") as stream:
             stream.write("old")
-        tried = [(["report", table, out, *words, "--pq", "nowhere"], 4), (["report", chain, out, "--plain", "--kind", "rows", "--pq", os.path.join(folder, "solve")], 7),
-                 (["report", ring, out, "--plain", "--kind", "rows", "--pq", os.path.join(folder, "core")], 7), (["report", table, out, *words, "--pq", "/bin/true"], 7),
+        tried = [(["report", table, out, *words, "--pq", "nowhere"], 4),
+                 (["report", chain, out, "--plain", "--kind", "rows", "--pq", os.path.join(folder, "solve")], 7),
+                 (["report", ring, out, "--plain", "--kind", "rows", "--pq", os.path.join(folder, "core")], 7),
+                 (["report", table, out, *words, "--pq", "/bin/true"], 7),
                  (["report", os.path.join(folder, "none"), out, *words, "--pq", PROGRAM], 4), (["report", folder, out, *words, "--pq", PROGRAM], 4),
                  (["report", table, os.path.join(folder, "none", "out"), *words, "--pq", PROGRAM], 5)]
         for given, wanted in tried:
             done = run(given)
-            if done.returncode != wanted or done.stderr.count(b"\n") != 1 or b"Traceback" in done.stderr or open(old, encoding="utf-8").read() != "old":
+            is_left = open(old, encoding="utf-8").read() == "old"
+            if done.returncode != wanted or done.stderr.count(b"\n") != 1 or b"Traceback" in done.stderr or not is_left:
                 return f"{given}: {done.returncode} {done.stderr}"
         for name in ("json", "look"):
             with open("/dev/full", "wb") as full:
@@ -511,7 +540,8 @@ def stopped():
         with open(slow, "w", encoding="utf-8") as stream:
             stream.write(f"#!/bin/sh\ntouch '{folder}/begun'\nexec sleep 30\n")
         os.chmod(slow, 0o755)
-        process = subprocess.Popen([SCRIPT, "report", os.path.join(HOME, "examples", "graves.csv"), os.path.join(folder, "out"), "--order", "columns", "--pq", slow], stderr=subprocess.PIPE,
+        process = subprocess.Popen([SCRIPT, "report", os.path.join(HOME, "examples", "graves.csv"), os.path.join(folder, "out"), "--order",
+                                    "columns", "--pq", slow], stderr=subprocess.PIPE,
                                    start_new_session=True, preexec_fn=lambda: signal.signal(signal.SIGINT, signal.default_int_handler))
         end = time.monotonic() + SECONDS
         while not os.path.exists(os.path.join(folder, "begun")) and time.monotonic() < end:
@@ -519,7 +549,8 @@ def stopped():
         os.killpg(process.pid, signal.SIGINT)
         errors = process.communicate(timeout=20)[1]
         left = sorted(os.listdir(folder))
-    return None if process.returncode == 130 and errors == b"pqpage: stopped\n" and left == ["begun", "slow"] else f"{process.returncode} {errors} {left}"
+    return None if process.returncode == 130 and errors == b"pqpage: stopped\n" and left == ["begun",
+                                                                                             "slow"] else f"{process.returncode} {errors} {left}"
 
 
 def as_a_module():
@@ -538,7 +569,8 @@ def as_a_module():
 def one_version():
     """The version stands in one file, and the companion, the line to cite and the changes tell the same."""
     version = read_text("VERSION").strip()
-    told = [called_version(), re.search(r"^version: (.*)$", read_text("CITATION.cff"), re.M)[1], re.search(r"^## (.*)$", read_text("CHANGELOG.md"), re.M)[1]]
+    told = [called_version(), re.search(r"^version: (.*)$", read_text("CITATION.cff"), re.M)[1],
+            re.search(r"^## (.*)$", read_text("CHANGELOG.md"), re.M)[1]]
     return None if told == [version] * 3 else f"{version} {told}"
 
 
@@ -623,7 +655,8 @@ def on_a_screen():
     with tempfile.TemporaryDirectory() as folder:
         out, shot = os.path.join(folder, "out"), os.path.join(folder, "shot.png")
         called(["report", os.path.join(HOME, "examples", "graves.csv"), out, "--order", "columns", "--pq", PROGRAM])
-        subprocess.run([browser, "--headless", "--no-sandbox", "--disable-gpu", "--hide-scrollbars", f"--user-data-dir={folder}/own", f"--screenshot={shot}", "--window-size=400,400", f"file://{out}.svg"],
+        subprocess.run([browser, "--headless", "--no-sandbox", "--disable-gpu", "--hide-scrollbars", f"--user-data-dir={folder}/own",
+                        f"--screenshot={shot}", "--window-size=400,400", f"file://{out}.svg"],
                        capture_output=True, timeout=SECONDS, check=False)
         lines, depth = pixels(open(shot, "rb").read())
         picture = ElementTree.parse(f"{out}.svg").getroot()
@@ -641,7 +674,8 @@ def on_a_screen():
 
 def problems():
     """Each check with what is wrong, or None."""
-    for check in (dialects, refusals, wrong_words, warnings, reports, all_kinds, hostile_names, changed_bytes, faults, stopped, as_a_module, one_version, in_r, on_a_screen):
+    for check in (dialects, refusals, wrong_words, warnings, reports, all_kinds, hostile_names, changed_bytes, faults, stopped, as_a_module,
+                  one_version, in_r, on_a_screen):
         yield f"companion: {check.__doc__}", check()
 
 

@@ -6,6 +6,7 @@ from decimal import Decimal, InvalidOperation
 
 PRESENT, ABSENT, UNKNOWN = "present", "absent", "unknown"
 DIGITS = re.compile(r"[0-9]+")
+NUMBER = re.compile(r"[+-]?([0-9]+([.,][0-9]*)?|[.,][0-9]+)([eE][+-]?[0-9]+)?")
 # Names of columns and lines that are hardly finds.
 LIKE_A_SUM = re.compile(r"(grand )?totals?|sums?|summen?|gesamt|insgesamt|anzahl|count|counts|n|id|nr\.?|no\.?|nummer|number|somme|suma|totale?|"
                         r"years?|jahre?|datum|dates?|datierung|ann[eé]e", re.I)
@@ -14,10 +15,9 @@ LIKE_A_SUM = re.compile(r"(grand )?totals?|sums?|summen?|gesamt|insgesamt|anzahl
 def number(text):
     """A number as people write it, with a point or a comma, or None."""
     try:
-        found = Decimal(text.replace(",", ".", 1) if text.count(",") == 1 and "." not in text else text)
+        return Decimal(text.replace(",", ".")) if NUMBER.fullmatch(text) else None
     except InvalidOperation:
         return None
-    return found if found.is_finite() else None
 
 
 @dataclass

@@ -3,7 +3,7 @@
 from dataclasses import dataclass, field
 
 from .program import Cycle, core_of, session_of, verdict_of
-from .stops import NOT_READABLE, Stop
+from .stops import NOT_PROVED, NOT_READABLE, Stop
 
 MOST_CORES = 20
 
@@ -44,11 +44,9 @@ class Finding:
 
 def trusted_order(count, names, trust, is_rare_first, rows):
     """The order in which rows are tried: those of trusted names first, then as in the file, or the rare ones first."""
-    unknown = [name for name in trust if name not in names]
-    if unknown:
-        raise Stop(NOT_READABLE, f"--trust: there is no row {unknown[0]!r}")
-    first = [names.index(name) for name in trust]
-    rest = [place for place in range(count) if place not in set(first)]
+    first = list(dict.fromkeys(names.index(name) for name in trust if name in names))
+    trusted = set(first)
+    rest = [place for place in range(count) if place not in trusted]
     return first + (sorted(rest, key=lambda place: len(rows[place])) if is_rare_first else rest)
 
 
@@ -57,9 +55,14 @@ def asked(program, question, trust=(), is_rare_first=False, most_cores=MOST_CORE
     past = question.too_large()
     if past:
         raise Stop(NOT_READABLE, past)
+    unknown = [name for name in trust if not any(name in side.names for side in question.sides)]
+    if unknown:
+        raise Stop(NOT_READABLE, f"--trust: there is no row {unknown[0]!r}")
     finding = Finding(program.solve(question.kind, question.content))
     verdict = finding.verdict
-    if not verdict.is_yes and question.sides:
+    if not question.sides:
+        raise Stop(NOT_READABLE, "pq reads this file, and pqpage can't name what is in it")
+    if not verdict.is_yes:
         side = question.sides[verdict.side - 1]
         found = Contradiction(verdict.side)
         find_cores(program, side, found, most_cores)
@@ -110,6 +113,8 @@ def set_aside(program, side, order, found):
         waiting = waiting[done:]
     found.agreed = sorted(agreed)
     found.agreed_text = program.solve("rows", side.as_rows(found.agreed))
+    if not verdict_of(found.agreed_text).is_yes:
+        raise Stop(NOT_PROVED, "the rows that pq took one after another have no order")
 
 
 def further(side, places):

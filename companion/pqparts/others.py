@@ -3,16 +3,18 @@
 import csv
 import io
 import json
-from decimal import Decimal
+from decimal import MAX_EMAX, MAX_PREC, MIN_EMIN, Context
 
 from . import cells
-from .question import (Question, bipartite_question, circular_question, distance_question, graph_question, rows_question)
+from .question import Question, bipartite_question, circular_question, distance_question, graph_question, rows_question
 from .stops import WORDS, Stop, unreadable
-from .tables import FIRST, NONE, clone_question
+from .tables import FIRST, NONE, clone_question, kept_of, question_of, told_drop
 from .texts import sheet
 
 MOST_DIGITS = 18
 MOST_DISTANCE = 2**64 - 1
+# No digit is lost; differences are told with 60 digits.
+EXACT, ROUGH = Context(prec=MAX_PREC, Emax=MAX_EMAX, Emin=MIN_EMIN), Context(prec=60, Emax=MAX_EMAX, Emin=MIN_EMIN)
 
 
 def clones_question(text, where, reading):
@@ -22,6 +24,8 @@ def clones_question(text, where, reading):
     except (ValueError, RecursionError) as error:
         raise unreadable(where, f"no JSON: {error}") from error
     probes, clones = (value.get("probes"), value.get("clones")) if isinstance(value, dict) else (None, None)
+    if not is_text(value):
+        raise unreadable(where, "a name in it has half a character, an escape from \\ud800 to \\udfff alone")
     if not is_names(probes) or not isinstance(clones, list):
         raise unreadable(where, 'no object with a list of names "probes" and a list "clones"')
     twice = first_twice(probes)
@@ -41,10 +45,18 @@ def clones_question(text, where, reading):
     twice = first_twice(names)
     if twice is not None:
         raise unreadable(where, f"two clones are named {twice!r}: name one of them otherwise")
-    kept = [at for at, name in enumerate(names) if name not in reading.drop]
-    question = (rows_question if reading.kind == "rows" else clone_question)(probes, [rows[at] for at in kept], [names[at] for at in kept])
-    question.notes = [f"left out by --drop: {', '.join(reading.drop)}"] if reading.drop else []
+    question = question_of(reading, *kept_of(probes, rows, names, reading.drop, where), "clones")
+    question.notes = told_drop(reading.drop)
     return question
+
+
+def is_text(value):
+    """Whether a value of JSON can be written as UTF-8: escapes can make halves of characters."""
+    try:
+        json.dumps(value, ensure_ascii=False).encode()
+    except UnicodeEncodeError:
+        return False
+    return True
 
 
 def is_names(value):
@@ -68,13 +80,13 @@ def distances_question(text, where, reading):
     names, rows, lines = named_square(found, where, reading)
     values = [[distance_of(cell, where, lines[at], names, at, other) for other, cell in enumerate(row)] for at, row in enumerate(rows)]
     shift = digits_of(values, where, reading.digits)
-    whole = [[int((value.scaleb(shift)).to_integral_value()) for value in row] for row in values]
+    whole = [[int(value.scaleb(shift, EXACT).to_integral_value()) for value in row] for row in values]
     notes = [*found.notes, f"distances are taken with {shift} digits behind the point"]
     worst = asymmetry(values)
     if worst[0]:
-        notes.append(f"the table isn't symmetric: {names[worst[1]]} and {names[worst[2]]} differ most, by {worst[0]}")
+        notes.append(f"the table isn't symmetric: {names[worst[1]]} and {names[worst[2]]} differ most, by {worst[0]:g}")
     refuse_unequal(whole, names, where, lines)
-    question = distance_question(names, whole, lambda reach: str(Decimal(reach).scaleb(-shift)))
+    question = distance_question(names, whole, shift)
     question.notes = notes
     return question
 
@@ -96,13 +108,18 @@ def named_square(found, where, reading):
     if any(len(row) != len(body) for row in rows):
         raise unreadable(where, f"the table isn't square: {len(body)} lines and {len(rows[0])} columns of distances")
     if has_names == FIRST and names != records[0].fields[1:]:
-        raise unreadable(where, f"the names at the head ({', '.join(records[0].fields[1:4])}, ..) are not those at the side ({', '.join(names[:3])}, ..)")
+        raise unreadable(where, f"the names at the head ({', '.join(records[0].fields[1:4])}, ..) are not those at the side "
+                                f"({', '.join(names[:3])}, ..)")
     twice = first_twice(names)
     if twice is not None or not all(names):
         raise unreadable(where, "an item has no name" if twice is None else f"two items are named {twice!r}")
+    unknown = [name for name in reading.drop if name not in names]
+    if unknown:
+        raise unreadable(where, f"there is no item {unknown[0]!r} to drop")
     kept = [at for at, name in enumerate(names) if name not in reading.drop]
-    if reading.drop:
-        found.notes.append(f"left out by --drop: {', '.join(reading.drop)}")
+    if not kept:
+        raise unreadable(where, "nothing is left after --drop")
+    found.notes += told_drop(reading.drop)
     return [names[at] for at in kept], [[rows[at][other] for other in kept] for at in kept], [body[at].line for at in kept]
 
 
@@ -124,17 +141,17 @@ def distance_of(cell, where, line, names, at, other):
 
 def digits_of(values, where, asked):
     """How many digits behind the point are kept: as many as were asked for, or all."""
-    present = max((-value.normalize().as_tuple().exponent for row in values for value in row), default=0)
+    present = max((-value.normalize(EXACT).as_tuple().exponent for row in values for value in row), default=0)
     shift = max(present, 0) if asked is None else asked
     most = max((value for row in values for value in row), default=0)
-    if shift > MOST_DIGITS or most.scaleb(shift) > MOST_DISTANCE:
+    if shift > MOST_DIGITS or most.scaleb(shift, EXACT) > MOST_DISTANCE:
         raise unreadable(where, f"distances with {shift} digits behind the point don't fit into 64 bits: say --digits N, N as many as matter")
     return shift
 
 
 def asymmetry(values):
     """The greatest difference of a distance from that of the other way, with where it stands."""
-    found = [(abs(values[at][other] - values[other][at]), at, other) for at in range(len(values)) for other in range(at)]
+    found = [(ROUGH.abs(ROUGH.subtract(values[at][other], values[other][at])), at, other) for at in range(len(values)) for other in range(at)]
     return max(found, key=lambda one: one[0], default=(0, 0, 0))
 
 
@@ -143,35 +160,53 @@ def refuse_unequal(whole, names, where, lines):
     for at, row in enumerate(whole):
         for other in range(at):
             if row[other] != whole[other][at]:
-                raise unreadable(where, f"line {lines[at]}: the distances of {names[at]} and {names[other]} differ both ways: mend them, or round by --digits N")
+                raise unreadable(where, f"line {lines[at]}: the distances of {names[at]} and {names[other]} differ both ways: mend them, or round "
+                                        "by --digits N")
 
 
 def graph_of_edges(text, where, reading):
     """A graph from a list of edges: two names a line; a name alone is a vertex. The first line is a header where --header says so."""
     if reading.header is None:
         raise Stop(WORDS, "a list of edges needs --header 0, or --header N where line N names the columns: a first line could be either")
-    separator = reading.separator or next((one for one in ("\t", ";", ",") if one in text), " ")
-    lines = [(number, [part for part in (cell.strip() for cell in row) if part])
-             for number, row in enumerate(csv.reader(io.StringIO(text, newline=""), delimiter=separator, skipinitialspace=True), 1) if number > reading.header]
+    kind = reading.kind or "proper"
     lefts, rights, edges, twice = {}, {}, set(), 0
-    right_side = lefts if (reading.kind or "proper") == "proper" else rights
-    for number, names in lines:
-        if len(names) > 2:
-            raise unreadable(where, f"line {number} has {len(names)} names, and an edge has two")
-        if names:
-            left = lefts.setdefault(names[0], len(lefts) + 1)
-        if len(names) == 2:
-            right = right_side.setdefault(names[1], len(right_side) + 1)
-            if right_side is lefts and left == right:
-                raise unreadable(where, f"line {number}: an edge from {names[0]!r} to itself")
-            edge = (min(left, right), max(left, right)) if right_side is lefts else (left, right)
+    others = lefts if kind == "proper" else rights
+    for number, names in lines_of_edges(text, where, reading):
+        left, right = names[0], names[1] if len(names) == 2 else None
+        if others is lefts and left == right:
+            raise unreadable(where, f"line {number}: an edge from {left!r} to itself")
+        kept = [(side, name) for side, name in ((lefts, left), (others, right)) if name is not None and name not in reading.drop]
+        ends = [side.setdefault(name, len(side) + 1) for side, name in kept]
+        if len(ends) == 2:
+            edge = (min(ends), max(ends)) if others is lefts else tuple(ends)
             twice += edge in edges
             edges.add(edge)
-    if not lefts or not right_side:
-        raise unreadable(where, "there is no edge in it")
-    question = edges_question(reading.kind or "proper", list(lefts), list(rights), edges)
-    question.notes = [f"{twice} edges are named more than once"] if twice else []
+    if not lefts or not others:
+        raise unreadable(where, "nothing is left after --drop" if reading.drop else "there is no edge in it")
+    question = edges_question(kind, list(lefts), list(rights), edges)
+    question.notes = ([f"edges that are named more than once: {twice}"] if twice else []) + told_drop(reading.drop)
     return question
+
+
+def lines_of_edges(text, where, reading):
+    """The lines of a list of edges that have a name, each with its number and its one or two names. What is to be dropped has to be there."""
+    separator = reading.separator or next((one for one in ("\t", ";", ",") if one in text), " ")
+    reader = csv.reader(io.StringIO(text, newline=""), delimiter=separator, skipinitialspace=True, strict=True)
+    found, known = [], set()
+    try:
+        for row in reader:
+            names = [part for part in (cell.strip() for cell in row) if part]
+            if len(names) > 2 and reader.line_num > reading.header:
+                raise unreadable(where, f"line {reader.line_num} has {len(names)} names, and an edge has two")
+            if names and reader.line_num > reading.header:
+                found.append((reader.line_num, names))
+                known.update(names)
+    except csv.Error as error:
+        raise unreadable(where, f"line {reader.line_num}: {error}: see whether each quote is closed") from error
+    unknown = [name for name in reading.drop if name not in known]
+    if unknown:
+        raise unreadable(where, f"there is no vertex {unknown[0]!r} to drop")
+    return found
 
 
 def edges_question(kind, lefts, rights, edges):

@@ -2,6 +2,9 @@
 
 from html import escape
 
+from .program import verdict_of
+from .question import with_point
+from .spoken import lacking
 from .trees import free_leaves, inner_nodes, tree_of
 
 MOST_ROWS, MOST_LEVELS, MOST_LETTERS = 2000, 40, 28
@@ -10,7 +13,8 @@ INK, FIXED, FREE, PALE = "#1f4e79", "#333333", "#b06000", "#888888"
 
 def clean(text):
     """A text in which every character may stand in XML."""
-    return "".join(one if one in "\t\n\r" or 0x20 <= ord(one) <= 0xD7FF or 0xE000 <= ord(one) <= 0xFFFD or ord(one) > 0xFFFF else "\ufffd" for one in text)
+    return "".join(one if one in "\t\n\r" or 0x20 <= ord(one) <= 0xD7FF or 0xE000 <= ord(one) <= 0xFFFD or ord(one) > 0xFFFF else "\ufffd"
+                   for one in text)
 
 
 def safe(text):
@@ -69,7 +73,8 @@ class Drawing:
         """The names over their columns, those that stand free in grey."""
         if self.cell > 4:
             for place, name in enumerate(names):
-                self.text(self.x(place) + self.cell * 3 // 4, self.top - 6, short(name), fill=PALE if place in free else "#000", turned=True, title=name)
+                self.text(self.x(place) + self.cell * 3 // 4, self.top - 6, short(name), fill=PALE if place in free else "#000", turned=True,
+                          title=name)
 
     def row_name(self, name):
         """The name of the present line."""
@@ -98,7 +103,7 @@ def table_picture(side, order, title, tree=None, chosen=None, marks=None, contig
     shown = rows[:MOST_ROWS]
     names = [side.things[number - 1] for number in order]
     drawing = Drawing(len(order), len(shown), names, [side.names[row] for _, row in shown])
-    free = {order.index(leaf) for leaf in free_leaves(tree)} if tree else ()
+    free = {order.index(leaf) for leaf in free_leaves(tree, side.is_circle)} if tree else ()
     drawing.heads(names, free)
     place = {number: at for at, number in enumerate(order)}
     for places, row in shown:
@@ -148,14 +153,16 @@ def interval_picture(side, order, intervals, title):
         left, right = intervals[number - 1]
         name = side.things[number - 1]
         drawing.row_name(name)
-        drawing.parts.append(f'<rect x="{drawing.left + left * scale:.2f}" y="{drawing.y}" width="{max((right - left) * scale, 1):.2f}" height="{drawing.line - 2}" '
+        drawing.parts.append(f'<rect x="{drawing.left + left * scale:.2f}" y="{drawing.y}" width="{max((right - left) * scale, 1):.2f}" '
+                             f'height="{drawing.line - 2}" '
                              f'fill="{INK}"><title>{safe(f"{name}: {left} to {right}")}</title></rect>')
         drawing.y += drawing.line
     return drawing.whole(title)
 
 
-def distance_picture(side, order, distances, title):
+def distance_picture(side, order, question, title):
     """The ordered table of distances in shades, near ones dark."""
+    distances = question.distances
     ranks = {value: at for at, value in enumerate(sorted({value for row in distances for value in row}))}
     names = [side.things[number - 1] for number in order]
     drawing = Drawing(len(order), len(order), names, names)
@@ -167,39 +174,50 @@ def distance_picture(side, order, distances, title):
         for place, other in enumerate(order):
             value = distances[number - 1][other - 1]
             shade = 40 + 215 * ranks[value] // max(len(ranks) - 1, 1)
-            drawing.rect(place, place, f"{side.things[number - 1]} and {side.things[other - 1]}: {value}", fill=f"rgb({shade},{shade},{min(shade + 30, 255)})", height=drawing.cell - 1)
+            title_here = f"{side.things[number - 1]} and {side.things[other - 1]}: {with_point(value, question.digits)}"
+            drawing.rect(place, place, title_here, fill=f"rgb({shade},{shade},{min(shade + 30, 255)})", height=drawing.cell - 1)
         drawing.y += drawing.cell
     return drawing.whole(title)
+
+
+# What the bars below a picture and the grey names mean.
+TREE = ("Below: dark bars are blocks whose parts keep their order, up to turning the block round; dashed bars are blocks whose parts may change "
+        "places. "
+        "A grey name is tied to none of the others.")
 
 
 def pictures_of(question, finding):
     """The pictures of an answer, each with its caption."""
     verdict = finding.verdict
-    if verdict.is_yes:
-        for number, (side, tree, order) in enumerate(zip(question.sides, verdict.trees, verdict.orders), 1):
-            contigs = verdict.contigs if question.kind == "clones" else ()
-            if question.kind == "robinson":
-                yield "The table in order", distance_picture(side, order, question.distances, "the table in order")
-            elif question.kind == "proper":
-                yield "The intervals", interval_picture(side, order, verdict.intervals, "the intervals")
-            else:
-                yield f"The table in order{' (the other side)' if number == 2 else ''}", table_picture(side, order, "the table in order", tree_of(tree), contigs=contigs)
-    elif finding.contradiction:
+    if not verdict.is_yes:
         yield from pictures_of_a_no(question, finding.contradiction)
+        return
+    for number, (side, tree, order) in enumerate(zip(question.sides, verdict.trees, verdict.orders), 1):
+        if question.kind == "robinson":
+            yield ("The table in order: the darker a cell, the nearer its two items.",
+                   distance_picture(side, order, question, "the table in order"))
+        elif question.kind == "proper":
+            yield ("An interval for each vertex: two vertices have an edge exactly where their intervals overlap.",
+                   interval_picture(side, order, verdict.intervals, "the intervals"))
+        else:
+            contigs = verdict.contigs if question.kind == "clones" else ()
+            more = " Green: the contigs, each a stretch that clones tie together, or a single probe." if contigs else ""
+            yield (f"The table in order{', the other side' if number == 2 else ''}. {TREE}{more}",
+                   table_picture(side, order, "the table in order", tree_of(tree), contigs=contigs))
 
 
 def pictures_of_a_no(question, found):
     """The rows that agree, in their order, and the first core with the steps of its cycle."""
-    from .program import verdict_of
-    from .spoken import lacking
-
-    side = question.sides[found.side - 1]
-    plain = type(side)(side.things, side.rows, side.names)
+    side = question.sides[found.side - 1].cut()
     agreed = verdict_of(found.agreed_text)
-    yield "The rows that agree, in order", table_picture(plain, agreed.orders[0], "the rows that agree, in order", tree_of(agreed.trees[0]), found.agreed)
+    order = agreed.orders[0]
+    yield f"What agrees, in order. {TREE}", table_picture(side, order, "what agrees, in order", tree_of(agreed.trees[0]), found.agreed)
     if found.cores:
-        core = found.cores[0]
-        marks = {}
+        core, marks = found.cores[0], {}
         for number, row, column in lacking(core["cycle"]):
             marks.setdefault(row, []).append((number, column))
-        yield "Rows that contradict one another, with the steps of the cycle", table_picture(plain, agreed.orders[0], "a core", None, core["rows"], marks)
+        named = {number for one, other, _ in core["cycle"] for number in (one, other)}.union(*(side.rows[row] for row in core["rows"]))
+        caption = "The first core. A number in red stands where its step below says that something is lacking."
+        if len(named) < len(order):
+            caption += " What has no mark here and stands in no step is left out."
+        yield caption, table_picture(side, [number for number in order if number in named], "the first core", None, core["rows"], marks)

@@ -13,8 +13,10 @@ from .stops import NO_MEMORY, NOT_PROVED, NOT_READABLE, READ_FAULT, WRITE_FAULT,
 CHECKOUT = os.path.dirname(os.path.dirname(os.path.dirname(os.path.abspath(__file__))))
 MINUTES = "about 15 minutes"
 # What pq's codes of refusals mean; the page docs/FORMATS.md says it at length.
-CODES = {1: "nothing to read, or no column", 2: "a byte, a word or a cell outside the format", 3: "a wrong number of entries or lines", 4: "a number or a name outside its range",
-         5: "a name that occurs twice", 6: "a loop, a diagonal that is not zero, or distances that differ both ways", 7: "past a limit", 8: "a record of another length than the header",
+CODES = {1: "nothing to read, or no column", 2: "a byte, a word or a cell outside the format", 3: "a wrong number of entries or lines",
+         4: "a number or a name outside its range",
+         5: "a name that occurs twice", 6: "a loop, a diagonal that is not zero, or distances that differ both ways", 7: "past a limit",
+         8: "a record of another length than the header",
          9: "no JSON", 10: "JSON of another shape", 12: "no tree over the columns"}
 
 

@@ -15,10 +15,21 @@ class Side:
     names: list
     # of `circular`: the rows as they were read, without those that were turned into their complements
     whole: list = None
+    is_circle: bool = False
 
     def shown(self):
         """The rows as a reader knows them."""
         return self.whole if self.whole is not None else self.rows
+
+    def complements(self):
+        """The places of the rows that were turned into their complements."""
+        return [] if self.whole is None else [place for place, row in enumerate(self.rows) if row != self.whole[place]]
+
+    def cut(self):
+        """The same side as an answer no speaks of it: with the rows that were asked about, complements named as such."""
+        turned = set(self.complements())
+        names = [f"the complement of {name}" if place in turned else name for place, name in enumerate(self.names)]
+        return Side(self.things, self.rows, names, is_circle=self.is_circle)
 
     def as_rows(self, chosen=None):
         """The bytes of a file of the kind `rows` with these rows, or with all."""
@@ -35,8 +46,9 @@ class Question:
     sides: list
     notes: list = field(default_factory=list)
     warnings: list = field(default_factory=list)
-    # of `robinson`: the distances as whole numbers, for the picture
+    # of `robinson`: the distances as whole numbers, for the picture, and how many of their digits stand behind the point
     distances: list = None
+    digits: int = 0
     # what the things and the rows are called where the user has no other words, or None
     called: tuple = (None, None)
 
@@ -67,7 +79,7 @@ def circular_question(things, rows, names):
     count = len(things)
     cut = [sorted(set(range(1, count + 1)) - set(row)) if 1 in row else row for row in rows]
     lines = ("".join("1" if column in kept else "0" for column in range(1, count + 1)) + "\n" for kept in map(set, rows))
-    return Question("circular", "".join(lines).encode(), [Side(things, cut, names, rows)])
+    return Question("circular", "".join(lines).encode(), [Side(things, cut, names, rows, True)])
 
 
 def transposed(count, rows):
@@ -95,7 +107,8 @@ def graph_question(names, edges):
         near[left - 1].add(right)
         near[right - 1].add(left)
     text = "".join(f"{left} {right}\n" for left, right in sorted(edges))
-    return Question("proper", f"{len(names)}\n{text}".encode(), [Side(names, [sorted(row) for row in near], names)])
+    side = Side(names, [sorted(row) for row in near], [f"{name} and its neighbours" for name in names])
+    return Question("proper", f"{len(names)}\n{text}".encode(), [side])
 
 
 def balls(distances):
@@ -105,9 +118,14 @@ def balls(distances):
             yield item, reach, [other for other, distance in enumerate(row, 1) if distance <= reach]
 
 
-def distance_question(names, distances, spoken=str):
+def with_point(value, digits):
+    """A whole number as a decimal with so many digits behind the point."""
+    return f"{value // 10**digits}.{value % 10**digits:0{digits}}" if digits else str(value)
+
+
+def distance_question(names, distances, digits=0):
     """A Robinson order of a table of distances: the balls are the rows."""
     found = list(balls(distances))
     text = "".join(" ".join(map(str, row)) + "\n" for row in distances)
-    side = Side(names, [ball for _, _, ball in found], [f"{names[item]} and all within {spoken(reach)}" for item, reach, _ in found])
-    return Question("robinson", f"{len(names)}\n{text}".encode(), [side], distances=distances)
+    side = Side(names, [ball for _, _, ball in found], [f"{names[item]} and all within {with_point(reach, digits)}" for item, reach, _ in found])
+    return Question("robinson", f"{len(names)}\n{text}".encode(), [side], distances=distances, digits=digits)

@@ -72,7 +72,7 @@ def wide(text, where, reading):
         raise unreadable(where, "there is a header and no line below it")
     last = max(at for record in found.records for at, cell in enumerate(record.fields) if cell) + 1
     if last < len(header.fields):
-        found.notes.append(f"{len(header.fields) - last} blank columns at the end are left out")
+        found.notes.append(f"blank columns at the end, which are left out: {len(header.fields) - last}")
     blank = [at for at in range(1, last) if not any(record.fields[at] for record in found.records)]
     if blank:
         found.notes.append(f"blank columns are left out: {', '.join(str(at + 1) for at in blank)}")
@@ -91,7 +91,8 @@ def has_no_line_names(body, where, reading):
     if reading.line_names is not None:
         return reading.line_names == NONE
     if all(reading.marks.judge(record.fields[0]) != cells.UNKNOWN for record in body):
-        raise unreadable(where, "the first column has marks alone, so it may be one of cells: say --line-names none, or --line-names first if these are names")
+        raise unreadable(where, "the first column has marks alone, so it may be one of cells: say --line-names none, or --line-names first if "
+                                "these are names")
     return False
 
 
@@ -102,8 +103,7 @@ def dropped(table, reading):
         if name not in known:
             raise unreadable(table.where, f"there is no column and no line {name!r} to drop")
     lines, columns = table.lines.without(reading.drop), table.columns.without(reading.drop)
-    if reading.drop:
-        table.notes.append(f"left out by --drop: {', '.join(reading.drop)}")
+    table.notes += told_drop(reading.drop)
     if not lines or not columns:
         raise unreadable(table.where, "nothing is left after --drop")
     return Table(table.where, Axis("line", [table.lines.names[at] for at in lines], [table.lines.places[at] for at in lines], table.where),
@@ -118,7 +118,9 @@ def judged(table, marks):
         verdicts = [marks.judge(cell) for cell in row]
         if cells.UNKNOWN in verdicts:
             at = verdicts.index(cells.UNKNOWN)
-            raise unreadable(table.where, f"line {place} ({name}), column {table.columns.places[at]} ({table.columns.names[at]}): the cell {row[at]!r} is neither a mark "
+            raise unreadable(table.where,
+                             f"line {place} ({name}), column {table.columns.places[at]} ({table.columns.names[at]}): the cell {row[at]!r} is "
+                             "neither a mark "
                              f"nor blank: say --marks {row[at]!r},.. if it counts, --absent {row[at]!r} if not, or --drop the column or the line")
         found.append([verdict == cells.PRESENT for verdict in verdicts])
     return found
@@ -149,6 +151,25 @@ def question_of(reading, things, rows, names, default):
     raise Stop(WORDS, f"a table can be asked about as rows, circular, convex, doubly or clones, not as {kind}")
 
 
+def kept_of(things, rows, names, drop, where):
+    """The things, the rows and their names that are left without those of the names that are dropped; each of these has to be there."""
+    unknown = [name for name in drop if name not in set(things) | set(names)]
+    if unknown:
+        raise unreadable(where, f"there is no column and no row {unknown[0]!r} to drop")
+    kept = [number for number, thing in enumerate(things, 1) if thing not in drop]
+    if drop and not kept:
+        raise unreadable(where, "nothing is left after --drop")
+    place = {number: at for at, number in enumerate(kept, 1)}
+    chosen = [at for at, name in enumerate(names) if name not in drop]
+    left = [[place[number] for number in rows[at] if number in place] for at in chosen]
+    return [things[number - 1] for number in kept], left, [names[at] for at in chosen]
+
+
+def told_drop(drop):
+    """The note on what was dropped."""
+    return [f"left out by --drop: {', '.join(drop)}"] if drop else []
+
+
 def clone_question(probes, rows, names):
     """Probes and clones as the JSON that `pq` reads."""
     question = rows_question(probes, rows, names)
@@ -160,7 +181,8 @@ def clone_question(probes, rows, names):
 def wide_question(text, where, reading):
     """The question of a wide table. Which way round it lies changes the answer, so it has to be said."""
     if reading.order not in ("lines", "columns"):
-        raise Stop(WORDS, "a wide table needs --order lines or --order columns: which of the two are to be put in order?")
+        raise Stop(WORDS, "a wide table needs --order lines or --order columns: which of the two are to be put in order? "
+                          "Other tables need --long, --distances or --graph")
     table = dropped(wide(text, where, reading), reading)
     table.lines.named_twice()
     table.columns.named_twice()
@@ -183,7 +205,8 @@ def long_question(text, where, reading):
     asked = [*reading.long, *([reading.value] if reading.value else [])]
     for name in asked:
         if header.count(name) != 1:
-            raise unreadable(where, f"line {found.records[0].line}: {'no column' if name not in header else 'more than one column'} {name!r} in the header ({', '.join(header)})")
+            raise unreadable(where, f"line {found.records[0].line}: {'no column' if name not in header else 'more than one column'} {name!r} in "
+                                    f"the header ({', '.join(header)})")
     row_at, thing_at, *value_at = (header.index(name) for name in asked)
     things, rows, twice = {}, {}, 0
     for record in found.records[1:]:
@@ -196,18 +219,18 @@ def long_question(text, where, reading):
         number = things.setdefault(thing, len(things) + 1)
         verdict = reading.marks.judge(record.fields[value_at[0]]) if value_at else cells.PRESENT
         if verdict == cells.UNKNOWN:
-            raise unreadable(where, f"line {record.line}: the value {record.fields[value_at[0]]!r} is neither a mark nor blank: say --marks or --absent")
+            raise unreadable(where, f"line {record.line}: the value {record.fields[value_at[0]]!r} is neither a mark nor blank: say --marks or "
+                                    "--absent")
         if verdict == cells.PRESENT:
             twice += number in members
             members.add(number)
     if not things:
         raise unreadable(where, f"no line names a {reading.long[1]}")
-    names = [name for name in rows if name not in reading.drop]
-    question = question_of(reading, list(things), [sorted(rows[name]) for name in names], names, "rows")
+    kept = kept_of(list(things), [sorted(members) for members in rows.values()], list(rows), reading.drop, where)
+    question = question_of(reading, *kept, "rows")
     others = [name for name in header if name not in asked]
     question.notes = [*found.notes, *([f"columns that are not read: {', '.join(others)}"] if others else []),
-                      *([f"{twice} lines say what an earlier line says"] if twice else []),
-                      *([f"left out by --drop: {', '.join(reading.drop)}"] if reading.drop else [])]
+                      *([f"lines that say what an earlier line says: {twice}"] if twice else []), *told_drop(reading.drop)]
     return question
 
 

@@ -20,6 +20,8 @@ def bytes_of(path):
     """The bytes of a file; of `-` those of standard input."""
     try:
         if path == "-":
+            if sys.stdin is None:
+                raise Stop(READ_FAULT, "standard input is closed")
             return sys.stdin.buffer.read()
         with open(path, "rb") as stream:
             return stream.read()
@@ -132,7 +134,7 @@ def sheet(text, where, separator=None, header=1):
     if header > 1:
         notes.append(f"the header is line {header}; the lines before it are left out")
     if any(record.fields for record in blank):
-        notes.append(f"{len(blank)} blank lines are left out")
+        notes.append(f"blank lines, which are left out: {len(blank)}")
     return Sheet(where, [record for record in records if not record.is_blank()], notes)
 
 
@@ -144,7 +146,7 @@ def misfit(candidates, header):
     most, records = max(candidates.items(), key=lambda one: sum(len(record.fields) for record in one[1]))
     filled = [record for record in records if record.fields]
     if not filled:
-        return "there is nothing in it"
+        return "there is nothing in it" if header == 1 else f"there is nothing in it from line {header} on"
     if max(len(record.fields) for record in filled) < 2:
         return "no line has two fields that are separated by a semicolon, a comma or a tab"
     wanted = len(filled[0].fields)

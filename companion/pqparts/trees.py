@@ -104,11 +104,12 @@ def in_words(tree, names, things):
 
 def blocks(tree, names):
     """The inner nodes below the root: the names of each, and whether its parts only turn or may change places."""
-    return [{"members": [names[leaf - 1] for leaf in node.leaves()], "fixed": node.is_turning, "depth": depth} for node, depth in inner_nodes(tree) if depth]
+    return [{"members": [names[leaf - 1] for leaf in node.leaves()], "fixed": node.is_turning, "depth": depth}
+            for node, depth in inner_nodes(tree) if depth]
 
 
-def free_leaves(tree):
-    """The leaves right below a root whose children may be permuted: nothing ties them to the others."""
-    if tree.leaf is not None or tree.is_turning:
+def free_leaves(tree, is_circle=False):
+    """The leaves right below a root whose children may be permuted: nothing ties them to the others. Round a circle the tree doesn't tell."""
+    if tree.leaf is not None or tree.is_turning or is_circle:
         return []
     return [child.leaf for child in tree.children if child.leaf is not None]
