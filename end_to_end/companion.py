@@ -612,6 +612,28 @@ def in_r():
     return None if done.stdout == R_SAYS and done.returncode == 0 else f"{done}"
 
 
+def many_files():
+    """The two lines of docs/SCRIPTS.md for many files, on this machine as the only host: statuses come back, and what failed runs again."""
+    if shutil.which("parallel") is None:
+        return passed_over("parallel")
+    first, second = re.findall(r"^    (parallel .*)$", read_text(os.path.join("docs", "SCRIPTS.md")), re.M)
+    with tempfile.TemporaryDirectory() as folder:
+        os.mkdir(os.path.join(folder, "many"))
+        shutil.copy(PROGRAM, os.path.join(folder, "pq"))
+        for name, text in {"1": "110\n011\n", "2": "110\n011\n101\n", "3": "1a\n"}.items():
+            with open(os.path.join(folder, "many", f"{name}.txt"), "w", encoding="utf-8") as stream:
+                stream.write(text)
+        # without another host nothing is sent and nothing comes back
+        here = re.sub(r"--sshlogin \S+|--basefile \S+|--transferfile \S+|--return \S+|--cleanup", "", first)
+        subprocess.run(["sh", "-c", here], cwd=folder, capture_output=True, timeout=SECONDS, check=False)
+        with open(os.path.join(folder, "many", "3.txt"), "w", encoding="utf-8") as stream:
+            stream.write("11\n")
+        before = [open(os.path.join(folder, "many", f"{name}.txt.status"), encoding="utf-8").read() for name in "123"]
+        subprocess.run(["sh", "-c", second], cwd=folder, capture_output=True, timeout=SECONDS, check=False)
+        after = [open(os.path.join(folder, "many", f"{name}.txt.status"), encoding="utf-8").read() for name in "123"]
+    return None if (before, after) == (["0\n", "1\n", "3\n"], ["0\n", "1\n", "0\n"]) else f"{before} {after}"
+
+
 def passed_over(command):
     """Tells that a check was passed over for want of a program."""
     print(f"passed over: {command} is not here, so nothing was tried with it")
@@ -675,7 +697,7 @@ def on_a_screen():
 def problems():
     """Each check with what is wrong, or None."""
     for check in (dialects, refusals, wrong_words, warnings, reports, all_kinds, hostile_names, changed_bytes, faults, stopped, as_a_module,
-                  one_version, in_r, on_a_screen):
+                  one_version, in_r, on_a_screen, many_files):
         yield f"companion: {check.__doc__}", check()
 
 
