@@ -24,7 +24,12 @@ from cores import CYCLE, FOUR, ORDERS, core_text
 from program import HOME, PROGRAM
 
 COLUMNS = 2_048
+MOST_ROWS = 131_072
+# The columns of the rows that are all alike: with the line's end 128 bytes, so that as many rows as there may be fill a file.
+ALIKE = 127
 MOST_SECONDS = 5
+# How much longer twice as much may take.
+MOST_GROWTH = 2.2
 MOST_TIMES = 12
 # The program, the C library and the room for one read, or the small program that starts it.
 BASE_BYTES = 16 << 20
@@ -227,10 +232,10 @@ def write_whole(file, content):
         stream.truncate(len(content))
 
 
-def measured(words, content):
+def measured(words, content, given=None):
     """A run of the program over a file as its last word: its status, its output, its errors, and its cost. Of `meet` the first tree stands on standard
     input, of other commands a matrix."""
-    given = {"meet": TREE, "check-core": FOUR}.get(words[0], MATRIX)
+    given = given or {"meet": TREE, "check-core": FOUR}.get(words[0], MATRIX)
     with tempfile.TemporaryDirectory() as folder:
         file, cost = os.path.join(folder, "file"), os.path.join(folder, "cost")
         write_whole(file, content)
@@ -239,6 +244,31 @@ def measured(words, content):
         with open(cost, encoding="utf-8") as stream:
             status, seconds, peak = stream.read().split()
     return (int(status), done.stdout, done.stderr), Cost(float(seconds), int(peak))
+
+
+def rows_alike(count):
+    """A matrix of so many rows that are all alike, and a text of a core that names all of them. Each order is valid for all rows; the cycle is
+    none, since the rows join no two of its pairs."""
+    row = b"1" * (ALIKE - 1) + b"0\n"
+    order = b" ".join(b"%d" % column for column in range(1, ALIKE + 1))
+    entries = b"".join(b"row %d\nwithout %s\n" % (number, order) for number in range(1, count + 1))
+    text = b"pq-core 1\nkind matrix\ncolumns %d\ncore %d\n%scycle 3\n1 2 row 1\n2 3 row 1\n3 1 row 1\nend\n" % (ALIKE, count, entries)
+    return row * count, text
+
+
+def many_orders_problem():
+    """What is wrong with how long the orders of a core are judged, or None: those of as many rows as a file has room for within the bound, and
+    twice as many in about twice the time."""
+    seconds = []
+    for count in (MOST_ROWS // 2, MOST_ROWS):
+        matrix, text = rows_alike(count)
+        given, cost = measured(["check-core", "matrix", "-"], text, matrix)
+        print(f"a core of {count} rows that are all alike: {cost.seconds:.2f} seconds, {cost.peak} bytes at the peak for {len(matrix)} and {len(text)}", flush=True)
+        problem = difference(given, (1, b"invalid join 1\n", b"")) or cost.problem(len(matrix) + len(text), BASE_BYTES)
+        if problem:
+            return problem
+        seconds.append(cost.seconds)
+    return None if seconds[1] <= MOST_GROWTH * seconds[0] else f"{seconds[1]:.2f} seconds after {seconds[0]:.2f}"
 
 
 def difference(given, wanted):
@@ -283,6 +313,7 @@ def hostile_problems():
         times = f", {cost.peak / len(content):.2f} times" if len(content) > LIMIT // 2 else ""
         print(f"{name}: status {given[0]}, {cost.seconds:.2f} seconds, {cost.peak} bytes at the peak for {len(content)}{times}", flush=True)
         yield f"hostile: {name}", difference(given, wanted) or cost.problem(len(content), beside)
+    yield "hostile: the orders of a core of the most rows", many_orders_problem()
 
 
 def main():
