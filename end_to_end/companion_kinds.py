@@ -442,7 +442,7 @@ def warned():
 
 
 def picture_of_the_start():
-    """The picture on the page docs/START.md is the one that its command makes."""
+    """The picture that companion/README.md shows is the one that its command makes."""
     with tempfile.TemporaryDirectory() as folder:
         content = open(os.path.join(HOME, "examples", "graves.csv"), "rb").read()
         report(folder, content, ["--order", "columns"])

@@ -4,7 +4,7 @@
 Usage: end_to_end/hostile.py          after `rt ci` or `./pq`, which leave the program in crates/pq/out/pq
 
 It prints a line for each file, with what the program took on it. The bound on memory is twelve times the bytes beside what the program itself
-takes; README allows more for files that are full of small values.
+takes; docs/EVIDENCE.md allows more for files that are full of small values.
 
 A text of a core may be as long as twelve verdicts. Those of the greatest length, and the one that is a byte longer, are hollow: zeros behind
 a front, for which the disk keeps no bytes. The full ones have the length of a verdict.
@@ -33,7 +33,7 @@ MOST_GROWTH = 2.2
 MOST_TIMES = 12
 # The program, the C library and the room for one read, or the small program that starts it.
 BASE_BYTES = 16 << 20
-# What README allows beside the bytes of files that are full of small values.
+# What docs/EVIDENCE.md allows beside the bytes of files that are full of small values.
 CROWDED_BYTES = 256 << 20
 COST = os.path.join(HOME, "end_to_end", "cost.py")
 MATRIX = b"110\n011\n"

@@ -32,6 +32,8 @@ KINDS = ("crates/row_model/src/kind.rt", "Kind")
 INSTANCES = ("crates/instance_model/specs/Instance.antt", "InstanceValue")
 PLAIN = "plain"
 FIRST = ("Solve", "Matrix")
+# The kind of the file of a command that takes no word for it.
+OWN_KINDS = {"UnitModel": "Proper", "CheckUnit": "Proper"}
 # The words of the cases that are named otherwise.
 WORDS = {"ListOrders": "list", "UnitModel": "unit"}
 
@@ -156,7 +158,8 @@ def cases(path, name):
 
 
 def others(command, kind):
-    """The cases that a command does not meet, or a command with a kind."""
+    """The cases that a command does not meet, or a command with a kind. The files of some commands are of one kind alone."""
+    kind = kind or OWN_KINDS.get(command)
     left_out = set(cases(*COMMANDS)) - {command}
     if kind:
         instances = cases(*INSTANCES)

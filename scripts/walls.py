@@ -12,8 +12,9 @@ Usage: scripts/walls.py
 4. Reducing a row takes no memory: outside tests no code of these crates or of the arena takes an allocator out of a vector, and a call
    that is handed none has no other.
 5. Every function of the end-to-end checks, the benches and the scripts is called: a check that does not run is none.
-6. The pages name what stands: each call, type and law in the second column of docs/CONTRACTS.md is one of the crate in the first; README
-   names each crate and each clause of the top call; and one of the two names each public law.
+6. The pages name what there is: each call, type and law in the second column of docs/CONTRACTS.md is one of the crate in the first;
+   docs/HOUSE.md has each crate on its floor, as crates.txt has it; docs/PROMISES.md names each clause of the top call; and README.md or a
+   page of docs/ names each public law. What scripts write into a page between two marks doesn't count.
 7. The house has floors: crates.txt lists each crate under the heading of its floor, after all those that it stands on, so no crate stands
    on one of a higher floor. As the floor of the search stands above that of the checks, `check` makes no search.
 8. A name has one meaning: no name of a crate's definitions stands twice in it, or in a crate that it stands on as well.
@@ -38,6 +39,8 @@ WITHOUT_MEMORY = ["pq_arena"] + STEPPED
 WHOLE_TREE = ("crates/row_reduce/src/reducer.rt", "tree")
 PYTHON = ["end_to_end", "bench", "scripts"]
 CONTRACTS = os.path.join("docs", "CONTRACTS.md")
+PROMISES = os.path.join("docs", "PROMISES.md")
+HOUSE = os.path.join("docs", "HOUSE.md")
 TOP = os.path.join("crates", "pq_cli", "src", "top.rt")
 
 CITED = re.compile(r"Rattle\.([a-z0-9_]+)\.proofs\b|\b([a-z0-9_]+)::proofs::")
@@ -46,11 +49,15 @@ FUNCTION = re.compile(r"\bfn (\w+)")
 WALK = re.compile(r"\b(to_tree|is_one_tree|has_two_each)\b")
 ALLOCATOR = re.compile(r"\ballocator\(")
 NAMED = re.compile(r"`([\w:]+)`")
+# a part of a page that a script writes
+WRITTEN = re.compile(r"^<!-- Begin of .*?^<!-- End of ", re.S | re.M)
 ITEM = re.compile(r"\b(?:fn|struct|enum|trait|type) (\w+)")
 # a law by its name, and no module of that name
 LAW = re.compile(r"\b(?<!mod )\w+_laws?\b(?!::)")
-# a heading of crates.txt, and the start of a definition, with its name
-FLOOR = re.compile(r"^# \d+\. \S")
+# a heading of a floor, a crate that docs/HOUSE.md describes, one that crates.txt lists, and the start of a definition, with its name
+FLOOR = re.compile(r"^#+ (\d+)\. \S")
+HOUSE_CRATE = re.compile(r"^\| `(\w+)` \|")
+LISTED_CRATE = re.compile(r"^(\w+):")
 DEFINED = re.compile(r"^(?:(?:pub|abbrev|unfoldable|record|data) +)+([^\s:(){}]+)\s*(?:\([^)]*\)\s*)*:")
 
 
@@ -156,6 +163,11 @@ def text_of(path):
         return stream.read()
 
 
+def pages():
+    """The pages of the repository, by their names in it."""
+    return ["README.md", *(os.path.relpath(path, HOME) for path in files("docs", ".md"))]
+
+
 def unknown_contracts(names):
     """What the page of contracts names and its crate lacks."""
     items = {name: {found for _, line in code(name) for found in ITEM.findall(line)} for name in names}
@@ -169,18 +181,34 @@ def unknown_contracts(names):
                     yield f"{place}: {' and '.join(here)} has no {name}"
 
 
+def floors(path, crate):
+    """The crates of each floor, in their order: in a file with a heading for each floor, what the pattern finds in the lines below it."""
+    found, floor = {}, None
+    for _, line in numbered(os.path.join(HOME, path)):
+        heading = FLOOR.match(line)
+        if heading:
+            floor = found.setdefault(heading[1], [])
+        elif floor is not None:
+            floor += crate.findall(line)
+    return found
+
+
 def untold(names):
     """The crates, the clauses of the top call and the public laws that the pages lack."""
-    told = set(NAMED.findall(text_of("README.md")))
+    house, listed = floors(HOUSE, HOUSE_CRATE), floors("crates.txt", LISTED_CRATE)
+    for floor in sorted(house.keys() | listed.keys(), key=int):
+        if house.get(floor) != listed.get(floor):
+            yield f"{HOUSE}: floor {floor} has {house.get(floor)}, and crates.txt {listed.get(floor)}"
     contract = re.search(r"^pub fn run\b.*?^\{", text_of(TOP), re.S | re.M)[0]
-    for name in [*names, *re.findall(r"^ +ensures (\w+)", contract, re.M)]:
-        if name not in told:
-            yield f"README.md: does not name {name}"
-    told.update(NAMED.findall(text_of(CONTRACTS)))
+    promised = set(NAMED.findall(text_of(PROMISES)))
+    for name in re.findall(r"^ +ensures (\w+)", contract, re.M):
+        if name not in promised:
+            yield f"{PROMISES}: does not name {name}"
+    told = {name for page in pages() for name in NAMED.findall(WRITTEN.sub("", text_of(page)))}
     for place, line in (found for name in names for found in code(name)):
         for law in LAW.findall(line) if "src/lib.rt:" in place else []:
             if law not in told:
-                yield f"{place}: no page tells of {law}"
+                yield f"{place}: no page names {law}"
 
 
 def upward_edges():
