@@ -7,10 +7,13 @@ Usage: scripts/definitions.py                    compares the page with the sour
        scripts/definitions.py COMMAND [KIND]     prints the list of one command, such as `solve matrix` or `gen`
 
 A definition is followed by the words that it cites, through the `use` lines of its file. Each file stands below those that it cites, so a
-reader who begins at the top meets no word that was not told before. Lines are counted without comments, blank lines and `use` lines.
+reader who begins at the top meets no word before its definition. Lines are counted without comments, blank lines and `use` lines.
 
 Of one command and kind, what the others alone meet is left out: equations whose left side names another case of `Command`, of `Kind` or of
-`InstanceValue`, and of the grammar of words what makes other commands alone.
+`InstanceValue`, and of the grammar of words what makes other commands alone. The files of `unit` and `check-unit` are of one kind, graphs.
+
+The clauses themselves are not counted: those of `run`, and those of the traits `Shelf` and `Sink` with the definitions that these alone
+cite.
 """
 
 import functools
