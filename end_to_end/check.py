@@ -40,7 +40,7 @@ from hostile import hostile_problems
 from kinds import KIND_CASES, SOLVED
 from limits import AT_LIMITS
 from listing import LIST_CASES, REFUTED as UNLISTED, list_problem, refused_problem, small_trees
-from pages import loose_commands, page_problems, pages
+from pages import blank_problems, loose_commands, page_problems, pages
 from program import HOME, PROGRAM, SECONDS, run, run_over
 from cores import CORE_CASES, core_problems
 from sessions import SESSION_CASES, drawn, extend_problem, gen_problem, sessions
@@ -127,6 +127,10 @@ def on_pages(report, top, program):
         for command, problem in page_problems(page, folder, program):
             report.tell(f"{page}: {command}", problem)
         report.tell(f"{page}: commands that are not run", difference("lines", [], loose_commands(page)))
+    folder = os.path.join(top, "blanks")
+    os.mkdir(folder)
+    for command, problem in blank_problems(folder, program):
+        report.tell(f"recipes on a table with blanks: {command}", problem)
 
 
 def side_by_side(report, tried):
