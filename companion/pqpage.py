@@ -22,7 +22,8 @@ import sys
 from pqparts import cells, report
 from pqparts.finding import MOST_CORES, asked, cycle_over, judge_cycle, rows_of
 from pqparts.others import clones_question, distances_question, graph_of_edges, plain_question
-from pqparts.program import CHECKOUT, Program, found_program
+from pqparts.library import calls
+from pqparts.program import CHECKOUT
 from pqparts.spoken import Words, answer_lines
 from pqparts.stops import NO_MEMORY, NOT_PROVED, NOT_READABLE, READ_FAULT, WORDS, WRITE_FAULT, Stop
 from pqparts.tables import FIRST, NONE, Reading, long_question, wide_question, words_of_marks
@@ -125,12 +126,12 @@ def spoken(question, words):
 def found(words):
     """The question, what pq found, and what is told besides."""
     question, content = read(words)
-    path = found_program(words.pq)
+    pq = calls(words.pq)
     try:
-        finding = asked(Program(path), question, words.trust, words.rare_first, words.cores)
+        finding = asked(pq, question, words.trust, words.rare_first, words.cores)
     except (ValueError, KeyError, TypeError, AttributeError, IndexError) as error:
-        raise Stop(NOT_PROVED, f"{path}: what it wrote is no text of this version of pq") from error
-    told = report.Told(os.path.basename(words.file), report.sum_of(content), sum_of_program(path), version(), *spoken(question, words), words.title,
+        raise Stop(NOT_PROVED, f"{pq.path}: what it wrote is no text of this version of pq") from error
+    told = report.Told(os.path.basename(words.file), report.sum_of(content), sum_of_program(pq.path), version(), *spoken(question, words), words.title,
                        words.date,
                        words.cores, question.notes, question.warnings)
     return question, finding, told
@@ -284,7 +285,7 @@ def again(words):
                                               for ending in ("in", "verdict", "agreed"))
         core_texts = [text_beside(stem, ending) for ending in CORES if ending in value["files"]]
         question, finding, told = report.again_of(value, content, verdict_text, core_texts, agreed_text)
-        program = Program(found_program(words.pq))
+        program = calls(words.pq)
         judge_again(program, question, finding)
         made = files_of(question, finding, told, os.path.basename(stem))
     except Stop as stop:

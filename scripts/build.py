@@ -152,12 +152,13 @@ class Toolchain:
 
 
 class House:
-    """The crates of the repository that the program needs, and what is built of each."""
+    """The crates of the repository that the program needs, or another top, and what is built of each."""
 
-    def __init__(self):
+    def __init__(self, top=PROGRAM):
+        self.top = top
         self.listed = lines_of_list()
         self.crates = stands_on()
-        self.names = needed(self.crates, PROGRAM)
+        self.names = needed(self.crates, top)
         self.toolchain = Toolchain()
         self.begun = time.time()
         self.texts, self.stamps = {}, {}
@@ -189,7 +190,7 @@ class House:
 
     def keep(self, crate):
         """Puts a crate that was built in its place, and notes of which texts it was built, unless they changed since the call began."""
-        if crate == PROGRAM:
+        if crate == self.top:
             return
         os.rename(self.new_rlib(crate), self.rlib(crate))
         if sum_of_texts(crate) != self.texts[crate]:
@@ -208,7 +209,13 @@ class House:
         found += ["--jobs", str(jobs)]
         if crate == PROGRAM:
             return [*found, "--toolchain", kit("toolchain"), "--backend", "llvm", "-o", made(f"{PROGRAM}.o")]
+        if crate == self.top:
+            return [*found, "--toolchain", kit("toolchain"), "--crate-type", "staticlib", "-o", self.archive()]
         return [*found, "--statements", "-o", self.new_rlib(crate)]
+
+    def archive(self):
+        """Where the static library of the top lies, where that is a library for other languages."""
+        return os.path.join(folder_of(self.top), "out", f"lib{self.top}.a")
 
     def link(self):
         """Links the program, which takes the place of an older one at once."""
@@ -315,11 +322,13 @@ def in_minutes(seconds):
 def build(house, running, words):
     """Builds the crates, and says which one could not be built, or None."""
     plan = Plan(house.crates, house.names)
-    built = {one for one in house.names if one != PROGRAM and house.is_built(one)}
+    built = {one for one in house.names if one != house.top and house.is_built(one)}
     waiting = set(house.names) - built
-    if len(waiting) > 1:
+    if len(waiting) > 1 and house.top == PROGRAM:
         told = shlex.join(words) if words else "WORDS"
         tell(f"pq: the program is proved before its first run, {in_minutes(plan.left(waiting, []))}; at once, not proved: {shlex.quote(os.path.relpath(TRY))} {told}")
+    elif len(waiting) > 1:
+        tell(f"pq: the library is proved first, {in_minutes(plan.left(waiting, []))}")
     while len(built) < len(house.names):
         ready = plan.ready(waiting, built)
         free = processors() - sum(one.jobs for one in running)
@@ -354,18 +363,19 @@ def end(running):
         one.stop()
 
 
-def build_all(words):
-    """Builds the program, and gives the status. What still runs at the end is ended, whatever the end is."""
+def build_all(words, top=PROGRAM, finish=House.link):
+    """Builds the program, or another top, and gives the status. What still runs at the end is ended, whatever the end is."""
     running = []
     try:
         os.makedirs(made("statements"), exist_ok=True)
         # what a call left that was killed
         shutil.rmtree(made("new"), ignore_errors=True)
         os.makedirs(made("new", str(os.getpid())))
-        house = House()
+        house = House(top)
+        os.makedirs(os.path.join(folder_of(top), "out"), exist_ok=True)
         failed = build(house, running, words)
         if not failed:
-            house.link()
+            finish(house)
     except OSError as error:
         told = "the toolchain of Rattle is missing" if error.filename == "rt" else "the program could not be built"
         tell(f"pq: {told}: {error}")

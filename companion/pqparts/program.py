@@ -8,7 +8,7 @@ import sys
 import tempfile
 from dataclasses import dataclass, field
 
-from .stops import NO_MEMORY, NOT_PROVED, NOT_READABLE, READ_FAULT, WRITE_FAULT, Stop
+from .stops import NO_MEMORY, NOT_PROVED, NOT_READABLE, READ_FAULT, WORDS, WRITE_FAULT, Refusal, Stop
 
 CHECKOUT = os.path.dirname(os.path.dirname(os.path.dirname(os.path.abspath(__file__))))
 MINUTES = "about 15 minutes"
@@ -169,26 +169,27 @@ def session_of(text):
     return Session(taken, cycles, tree, order)
 
 
-class Program:
-    """Calls of `pq` over files with these bytes, each with its status."""
+def cycle_in(text):
+    """The cycle that a text tells, of whatever form it is."""
+    lines = Lines(text)
+    while lines.peek() != "cycle":
+        lines.next()
+    return lines.read_cycle()
 
-    def __init__(self, path):
-        self.path = path
 
-    def call(self, words, *contents):
-        """The status and the output of a call whose last words are files with these bytes. A fault of `pq` stops the call."""
-        with tempfile.TemporaryDirectory() as folder:
-            names = [os.path.join(folder, str(at)) for at in range(len(contents))]
-            for name, content in zip(names, contents):
-                with open(name, "wb") as stream:
-                    stream.write(content)
-            try:
-                done = subprocess.run([self.path, *words, *names], stdin=subprocess.DEVNULL, capture_output=True, check=False)
-            except OSError as error:
-                raise Stop(READ_FAULT, f"{self.path}: {error.strerror}") from error
-        if done.returncode not in (0, 1):
-            raise fault(done)
-        return done.returncode, done.stdout
+class Calls:
+    """Calls of `pq`. A class of calls says how one is made: `run`, and `path`, the file of what is run."""
+
+    def run(self, words, contents, after):
+        """The status, the reply and the line of a call of these words, files with these bytes, and further words."""
+        raise NotImplementedError
+
+    def call(self, words, *contents, after=()):
+        """The status and the reply of a call of these words, files with these bytes, and further words. A fault of `pq` stops the call."""
+        status, text, line = self.run(words, contents, after)
+        if status not in (0, 1):
+            raise fault(status, line)
+        return status, text
 
     def solve(self, kind, content):
         """The text of a verdict that was judged to be valid."""
@@ -203,12 +204,31 @@ class Program:
             raise Stop(NOT_PROVED, f"the proof did not check: {' '.join(words)} says {said.decode(errors='replace').strip()}")
 
 
-def fault(done):
+class Program(Calls):
+    """Calls of the program."""
+
+    def __init__(self, path):
+        self.path = path
+
+    def run(self, words, contents, after):
+        with tempfile.TemporaryDirectory() as folder:
+            names = [os.path.join(folder, str(at)) for at in range(len(contents))]
+            for name, content in zip(names, contents):
+                with open(name, "wb") as stream:
+                    stream.write(content)
+            try:
+                done = subprocess.run([self.path, *words, *names, *after], stdin=subprocess.DEVNULL, capture_output=True, check=False)
+            except OSError as error:
+                raise Stop(READ_FAULT, f"{self.path}: {error.strerror}") from error
+        return done.returncode, done.stdout, done.stderr.decode(errors="replace").strip().split("\n")[-1]
+
+
+def fault(status, line):
     """The stop for a call of `pq` that gave no answer."""
-    line = done.stderr.decode(errors="replace").strip().split("\n")[-1]
-    refused = re.fullmatch(r"pq: refused \d code (\d+) line (\d+)", line)
+    refused = re.fullmatch(r"pq: refused (\d) code (\d+) line (\d+)", line)
     if refused:
-        at = f", line {refused[2]}" if refused[2] != "0" else ""
-        return Stop(NOT_READABLE, f"{line}: {CODES.get(int(refused[1]), 'refused')}{at}")
-    known = {4: READ_FAULT, 5: WRITE_FAULT, 6: NO_MEMORY}
-    return Stop(known.get(done.returncode, READ_FAULT), line or f"pq ended with status {done.returncode}")
+        which, code, at = map(int, refused.groups())
+        said = f"{line}: {CODES.get(code, 'refused')}" + (f", line {at}" if at else "")
+        return Stop(NOT_READABLE, said, Refusal(which, code, at))
+    known = {2: WORDS, 4: READ_FAULT, 5: WRITE_FAULT, 6: NO_MEMORY}
+    return Stop(known.get(status, READ_FAULT), line or f"pq ended with status {status}")

@@ -92,6 +92,13 @@ impl MemSink {
     {
         &self.bytes
     }
+
+    /// How many writes have failed.
+    pub fn faults(&self) -> u64
+        ensures { result ≡ self.now.faults }
+    {
+        self.faults
+    }
 }
 
 impl Sink for MemSink {

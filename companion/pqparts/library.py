@@ -1,0 +1,75 @@
+"""The solver in this process, by the library that scripts/library.py builds."""
+
+import ctypes
+import os
+
+from .program import CHECKOUT, Calls, Program, found_program
+from .stops import READ_FAULT, Stop
+
+POINTERS = 64
+NAMES = ["1", "2"]
+# A reply that is longer makes a second call, with as much room as any reply takes.
+FIRST_ROOM, MORE, LINE_ROOM = 1 << 16, 16, 64
+
+
+class Bytes(ctypes.Structure):
+    """Bytes that the library reads."""
+
+    _fields_ = [("at", ctypes.c_char_p), ("length", ctypes.c_size_t)]
+
+
+class Room(ctypes.Structure):
+    """Room in which the library writes, and how much it wrote."""
+
+    _fields_ = [("at", ctypes.c_void_p), ("room", ctypes.c_size_t), ("length", ctypes.c_size_t)]
+
+
+def bytes_of(content):
+    """Bytes as the library reads them."""
+    return Bytes(content, len(content))
+
+
+class Library(Calls):
+    """Calls of the library. Several threads may call at a time."""
+
+    def __init__(self, path):
+        self.path = path
+        try:
+            self.entry = ctypes.CDLL(path).pq_run
+        except (OSError, AttributeError) as error:
+            raise Stop(READ_FAULT, f"{path}: this is no library of pq: {error}") from error
+        self.entry.argtypes = [Bytes, Bytes, Bytes, ctypes.POINTER(Room), ctypes.POINTER(Room)]
+        self.entry.restype = ctypes.c_uint8
+
+    def run(self, words, contents, after):
+        asked = [*words, *NAMES[: len(contents)], *after]
+        if any("\n" in word or "\r" in word for word in asked):
+            return 2, b"", "pq: words"
+        text = "".join(f"{word}\n" for word in asked).encode("utf-8", "surrogateescape")
+        first, second = [*map(bytes, contents), b"", b""][:2]
+        room = FIRST_ROOM
+        while True:
+            reply, line = ctypes.create_string_buffer(room), ctypes.create_string_buffer(LINE_ROOM)
+            answer, why = Room(ctypes.addressof(reply), room, 0), Room(ctypes.addressof(line), LINE_ROOM, 0)
+            status = self.entry(bytes_of(text), bytes_of(first), bytes_of(second), ctypes.byref(answer), ctypes.byref(why))
+            if status == POINTERS:
+                raise ValueError("the library was handed pointers that overlap")
+            if status != 5:
+                return status, reply.raw[: answer.length], line.raw[: why.length].decode().strip()
+            room *= MORE
+
+
+def own_library():
+    """The path of the library: that which $PQ_LIBRARY names, else the one of this checkout; None where there is none."""
+    asked = os.environ.get("PQ_LIBRARY")
+    if asked:
+        return os.path.abspath(asked)
+    own = os.path.join(CHECKOUT, "dist", "libpq.so")
+    return own if os.path.exists(own) else None
+
+
+def calls(program=None):
+    """How `pq` is called: by the program that is named, here or as $PQ; else by the library where it is there, else by the program."""
+    named = program or os.environ.get("PQ")
+    path = None if named else own_library()
+    return Program(found_program(program)) if path is None else Library(path)

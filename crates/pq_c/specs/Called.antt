@@ -1,0 +1,42 @@
+-- What a run over two files in memory leaves.
+use Rattle.std.specs.Prelude.{◌≡◌, ◌⊎◌, ◌≤◌, ◌++◌, ℕ, List, [], codes, Option, Some, IfNone, IsNone}
+use Rattle.row_model.specs.declared.refusal.Refusal.{Refusal}
+use Rattle.command_input.specs.Words.{Command}
+use Rattle.reply_laws.specs.Replies.{Replies, refusable, refusal_of}
+use Rattle.reply_laws.specs.Promise.{IsPromised}
+use Rattle.pq_cli.specs.Runs.{ForCommand, refused_line}
+use Rattle.pq_c.specs.Given.{OfFirst, OfFiles}
+
+-- some first bytes of a reply to a command over these files
+abbrev pub BeginsReply : Command → List ℕ → List (List ℕ) → Type 0
+BeginsReply command text files = (status : ℕ) × (rest : List ℕ) × Replies command files status (text ++ rest)
+
+-- the file of this number, counted from 1, is the first of the command's files that is refused, and this is its refusal
+pub record IsRefusedAt (first second : List ℕ) (command : Command) (which : ℕ) (refusal : Refusal) : Type 0 where
+  pub from : 1 ≤ which
+  pub to : which ≤ refusable command
+  pub first_one : OfFirst which first second command (λ files. refusal_of command files ≡ Some (which, refusal))
+
+-- the line that goes with a status which is no reply's; status 3 tells which file is refused and how
+pub record IsLineFor (command : Option Command) (first second : List ℕ) (status : ℕ) (line : List ℕ) : Type 0 where
+  pub outside : status ≡ 2 → line ≡ codes "pq: words\n"
+  pub refused : status ≡ 3 → (which : ℕ) × (refusal : Refusal) × (line ≡ refused_line which refusal)
+      × ForCommand command (λ c. IsRefusedAt first second c which refusal)
+  pub read_fault : status ≡ 4 → line ≡ codes "pq: read fault\n"
+  pub write_fault : status ≡ 5 → line ≡ codes "pq: write fault\n"
+  pub no_memory : status ≡ 6 → line ≡ codes "pq: no memory\n"
+
+-- A run of a command over the two files left this status, text and line; there is no command where the words are outside
+-- the grammar. On 0 and 1 the text is a reply that keeps the promise of the command, on 3 a file is refused, and on 5 the
+-- text has some first bytes of a reply. The line is there whole, or not at all.
+pub record IsRunOf (command : Option Command) (first second : List ℕ) (status : ℕ) (text line : List ℕ) : Type 0 where
+  pub grammar : status ≡ 2 → IsNone command
+  pub outside : IfNone command ((status ≡ 2) ⊎ (status ≡ 6))
+  pub range : status ≤ 6
+  pub reply : (status ≡ 0) ⊎ (status ≡ 1) → ForCommand command (λ c. OfFiles first second c (λ files. Replies c files status text))
+  pub promise : (status ≡ 0) ⊎ (status ≡ 1) → ForCommand command (λ c. OfFiles first second c (λ files. IsPromised c files status text))
+  pub refused : status ≡ 3 → ForCommand command (λ c. (which : ℕ) × (refusal : Refusal) × IsRefusedAt first second c which refusal)
+  pub cut_short : status ≡ 5 → ForCommand command (λ c. OfFiles first second c (BeginsReply c text))
+  pub unwritten : (status ≡ 2) ⊎ (status ≡ 3) ⊎ (status ≡ 4) ⊎ (status ≡ 6) → text ≡ []
+  pub quiet : (status ≡ 0) ⊎ (status ≡ 1) → line ≡ []
+  pub said : 2 ≤ status → (line ≡ []) ⊎ IsLineFor command first second status line

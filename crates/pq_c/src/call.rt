@@ -1,0 +1,46 @@
+// What C calls.
+ghost use Rattle.std.specs.Prelude.{◌≡◌, ◌≤◌, length, take};
+ghost use Rattle.std.specs.Str.{IsUtf8};
+ghost use Rattle.std.specs.Str.Lines.{lines};
+ghost use Rattle.command_input.specs.Words.{command_of};
+ghost use Rattle.pq_c.specs.Called.{IsRunOf};
+
+use crate::over::run_bytes;
+use std::alloc::Global;
+
+/// Does what the words ask for, as the program does, one word a line, over files of the names `1` and `2`. The reply goes
+/// to the front of `out`, and the line that tells what stood in its way to the front of `err`; `written` and `told` are
+/// their lengths. The status is that of the program.
+///
+/// | Status | Meaning |
+/// |---|---|
+/// | 0, 1 | the reply is there whole |
+/// | 2 | the words are outside the grammar, or no UTF-8 |
+/// | 3 | a file is refused; the line says which, and why |
+/// | 4 | the words name another file than `1` and `2` |
+/// | 5 | `out` has too little room, and has some first bytes of the reply: call again with more |
+/// | 6 | memory is refused |
+///
+/// A line has at most 56 bytes. It is left out where `err` has less room than it takes.
+#[unsafe(no_mangle)]
+pub extern "C" fn pq_c_run(
+    alloc: Global,
+    words: &[u8],
+    first: &[u8],
+    second: &[u8],
+    out: &mut [u8],
+    written: &mut usize,
+    err: &mut [u8],
+    told: &mut usize,
+) -> u8
+    ensures lengths { (length out.new ≡ length out.old) × (length err.new ≡ length err.old) }
+    ensures room { (written.new ≤ length out.new) × (told.new ≤ length err.new) }
+    ensures no_text { (IsUtf8 words.now → ⊥) → result ≡ 2 }
+    ensures run { IsUtf8 words.now → IsRunOf (command_of (lines words.now)) first.now second.now result
+        (take written.new out.new) (take told.new err.new) }
+{
+    let left = run_bytes(alloc, words, first, second, out, err);
+    *written = left.written;
+    *told = left.told;
+    left.status
+}

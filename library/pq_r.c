@@ -1,0 +1,11 @@
+/* The call for R's `.C`, which passes each argument by its address: bytes as raw vectors, lengths as doubles. */
+#include "pq.h"
+
+void pq_r_run(uint8_t *words, double *words_length, uint8_t *first, double *first_length, uint8_t *second, double *second_length,
+              uint8_t *reply, double *reply_length, uint8_t *line, double *line_length, int *status) {
+    struct pq_bytes asked = {words, (size_t)*words_length}, one = {first, (size_t)*first_length}, other = {second, (size_t)*second_length};
+    struct pq_room answer = {reply, (size_t)*reply_length, 0}, why = {line, (size_t)*line_length, 0};
+    *status = pq_run(asked, one, other, &answer, &why);
+    *reply_length = (double)answer.length;
+    *line_length = (double)why.length;
+}
