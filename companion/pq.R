@@ -6,8 +6,9 @@
 #   m[found$rows, found$columns]
 #   pq_core(m)                # after a no: rows that contradict one another, of which none can be left out
 #
-# pq is found as by pqpage: the argument `pq`, else the variable PQ, else the pq of this checkout, else the one on the PATH.
-# Each answer was judged by a second call of pq. This file itself isn't proved.
+# The argument `pq` is the path of the program, or of the library libpq.so that scripts/library.py builds. Without it that is the program
+# which the variable PQ names; else the library, where PQ_LIBRARY names one or this checkout has it; else the pq of this checkout, or the
+# one on the PATH. Each answer was judged by a second call of pq. This file itself isn't proved.
 
 pq_home <- local({
   file <- NULL
@@ -15,22 +16,50 @@ pq_home <- local({
   if (is.null(file)) NULL else dirname(dirname(normalizePath(file)))
 })
 
-# The path of pq.
+# The path of pq: of the program, or of the library.
 pq_program <- function() {
-  own <- if (is.null(pq_home)) "" else file.path(pq_home, "pq")
-  found <- if (nzchar(Sys.getenv("PQ"))) Sys.getenv("PQ") else if (file.exists(own)) own else unname(Sys.which("pq"))
-  if (!nzchar(found)) stop("there is no pq: give its path, or set PQ")
-  found
+  own <- function(...) if (is.null(pq_home)) "" else file.path(pq_home, ...)
+  found <- c(Sys.getenv("PQ"), Sys.getenv("PQ_LIBRARY"), own("dist", "libpq.so"), own("pq"), unname(Sys.which("pq")))
+  named <- nzchar(found) & (seq_along(found) <= 2 | file.exists(found))
+  if (!any(named)) stop("there is no pq: give its path, or set PQ")
+  found[named][1]
 }
 
-# A call of pq: its lines and its status. A fault of pq is an error with pq's own line.
-pq_call <- function(pq, words) {
+# A call of pq over files with these bytes, whose names follow the words: the bytes of its reply, its lines and its status. A fault of pq is
+# an error with pq's own line.
+pq_call <- function(pq, words, files) {
+  ask <- if (grepl("\\.so$", pq)) pq_by_library else pq_by_program
+  said <- ask(pq, words, files)
+  if (!said$status %in% c(0L, 1L)) stop(if (nzchar(said$line)) said$line else paste("pq ended with status", said$status))
+  text <- rawToChar(said$reply)
+  list(reply = said$reply, lines = if (nzchar(text)) strsplit(text, "\n", fixed = TRUE)[[1]] else character(), status = said$status)
+}
+
+# A call of the library.
+pq_by_library <- function(path, words, files) {
+  if (!is.loaded("pq_r_run")) dyn.load(path)
+  if (any(grepl("[\r\n]", words))) return(list(status = 2L, reply = raw(), line = "pq: words"))
+  text <- charToRaw(paste0(c(words, c("1", "2")[seq_along(files)]), "\n", collapse = ""))
+  given <- c(files, list(raw(), raw()))[1:2]
+  room <- 65536
+  repeat {
+    found <- .C("pq_r_run", text, as.double(length(text)), given[[1]], as.double(length(given[[1]])), given[[2]],
+                as.double(length(given[[2]])), reply = raw(room), written = as.double(room), line = raw(64), told = as.double(64), status = 0L)
+    if (found$status != 5L) break
+    room <- room * 16
+  }
+  list(status = found$status, reply = found$reply[seq_len(found$written)], line = sub("\n$", "", rawToChar(found$line[seq_len(found$told)])))
+}
+
+# A call of the program.
+pq_by_program <- function(path, words, files) {
+  names <- vapply(files, function(bytes) { name <- tempfile(); writeBin(bytes, name); name }, "")
+  out <- tempfile()
   errors <- tempfile()
-  on.exit(unlink(errors))
-  lines <- suppressWarnings(system2(pq, shQuote(words), stdout = TRUE, stderr = errors))
-  status <- if (is.null(attr(lines, "status"))) 0L else attr(lines, "status")
-  if (!status %in% c(0L, 1L)) stop(paste(c(readLines(errors, warn = FALSE), paste("pq ended with status", status))[1], collapse = " "))
-  list(lines = as.character(lines), status = status)
+  on.exit(unlink(c(names, out, errors)))
+  status <- suppressWarnings(system2(path, shQuote(c(words, names)), stdout = out, stderr = errors))
+  line <- c(readLines(errors, warn = FALSE), "")[1]
+  list(status = status, reply = readBin(out, "raw", file.size(out)), line = line)
 }
 
 # The ones of a matrix as TRUE and FALSE.
@@ -42,24 +71,15 @@ pq_ones <- function(m) {
   m > 0
 }
 
-# The matrix as a file of pq: each row names its columns.
+# The matrix as the bytes of a file of pq: each row names its columns.
 pq_file <- function(ones) {
-  path <- tempfile(fileext = ".rows")
   rows <- if (nrow(ones) == 0) character() else apply(ones, 1, function(row) paste(which(row), collapse = " "))
-  out <- file(path, "wb")
-  on.exit(close(out))
-  cat(paste0(c(ncol(ones), rows), "\n"), file = out, sep = "")
-  path
+  charToRaw(paste0(c(ncol(ones), rows), "\n", collapse = ""))
 }
 
 # Stops unless pq judges a text valid.
-pq_judge <- function(pq, command, file, lines) {
-  text <- tempfile()
-  on.exit(unlink(text))
-  out <- file(text, "wb")
-  cat(paste0(lines, "\n"), file = out, sep = "")
-  close(out)
-  said <- pq_call(pq, c(command, "rows", file, text))
+pq_judge <- function(pq, command, file, reply) {
+  said <- pq_call(pq, c(command, "rows"), list(file, reply))
   if (!identical(said$lines, "valid")) stop(paste("the proof did not check:", paste(said$lines, collapse = " ")))
 }
 
@@ -74,9 +94,8 @@ pq_numbers <- function(lines, word) {
 pq_order <- function(m, pq = pq_program()) {
   ones <- pq_ones(m)
   file <- pq_file(ones)
-  on.exit(unlink(file))
-  said <- pq_call(pq, c("solve", "rows", file))
-  pq_judge(pq, "check", file, said$lines)
+  said <- pq_call(pq, c("solve", "rows"), list(file))
+  pq_judge(pq, "check", file, said$reply)
   if (said$status == 1L) {
     at <- grep("^cycle ", said$lines)
     return(list(answer = "no", cycle = said$lines[seq(at + 1, length(said$lines) - 1)]))
@@ -97,13 +116,12 @@ pq_order <- function(m, pq = pq_program()) {
 pq_core <- function(m, pq = pq_program()) {
   ones <- pq_ones(m)
   file <- pq_file(ones)
-  on.exit(unlink(file))
-  said <- pq_call(pq, c("core", "rows", file))
+  said <- pq_call(pq, c("core", "rows"), list(file))
   if (said$status == 1L) {
-    pq_judge(pq, "check", file, said$lines)
+    pq_judge(pq, "check", file, said$reply)
     return(NULL)
   }
-  pq_judge(pq, "check-core", file, said$lines)
+  pq_judge(pq, "check-core", file, said$reply)
   rows <- as.integer(sub("^row ", "", grep("^row [0-9]+$", said$lines, value = TRUE)))
   if (is.null(rownames(m))) rows else stats::setNames(rows, rownames(m)[rows])
 }

@@ -600,15 +600,15 @@ cat(inherits(try(pq_order(m), silent = TRUE), "try-error"), pq_order(matrix(0, 0
 R_SAYS = "yes|2|4|1|3|5|3|2|1|G2|G4|G1|G3|G5|([2 4 1 3] 5)\nTRUE|ser_permutation|list\nno|a|b|c|e\nTRUE|(1 2 3)\n"
 
 
-def in_r():
-    """The functions for R give the orders and the cores."""
+def in_r(pq=PROGRAM):
+    """The functions for R give the orders and the cores, over the program or over the library."""
     if shutil.which("Rscript") is None:
         return passed_over("Rscript")
     with tempfile.TemporaryDirectory() as folder:
         path = os.path.join(folder, "trial.R")
         with open(path, "w", encoding="utf-8") as stream:
             stream.write(R_TRIAL.format(folder=FOLDER))
-        done = subprocess.run(["Rscript", path], capture_output=True, text=True, timeout=SECONDS, env={**os.environ, "PQ": PROGRAM}, check=False)
+        done = subprocess.run(["Rscript", path], capture_output=True, text=True, timeout=SECONDS, env={**os.environ, "PQ": pq}, check=False)
     return None if done.stdout == R_SAYS and done.returncode == 0 else f"{done}"
 
 

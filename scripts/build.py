@@ -188,6 +188,22 @@ class House:
         path = self.stamp_file(crate)
         return os.path.exists(path) and text_of(path).decode() == self.stamps[crate]
 
+    def take_over(self, crate):
+        """Whether the gate left a library of the crate that is newer than all that it is built of, which is then taken."""
+        left = os.path.join(folder_of(crate), "out", "rlib", f"{crate}.rlib")
+        if not os.path.exists(os.path.join(left, "format")) or os.path.getmtime(os.path.join(left, "format")) < self.newest(crate):
+            return False
+        shutil.rmtree(self.rlib(crate), ignore_errors=True)
+        shutil.copytree(left, self.rlib(crate), copy_function=os.link)
+        with open(self.stamp_file(crate), "w", encoding="utf-8") as stream:
+            stream.write(self.stamps[crate])
+        return True
+
+    def newest(self, crate):
+        """When the newest file was written of those that the crate is built of, or that a crate below is."""
+        files = [path for one in needed(self.crates, crate) for path in sources(one)]
+        return max(map(os.path.getmtime, [LISTED, *files]))
+
     def keep(self, crate):
         """Puts a crate that was built in its place, and notes of which texts it was built, unless they changed since the call began."""
         if crate == self.top:
@@ -210,12 +226,12 @@ class House:
         if crate == PROGRAM:
             return [*found, "--toolchain", kit("toolchain"), "--backend", "llvm", "-o", made(f"{PROGRAM}.o")]
         if crate == self.top:
-            return [*found, "--toolchain", kit("toolchain"), "--crate-type", "staticlib", "-o", self.archive()]
+            return [*found, *self.as_top()]
         return [*found, "--statements", "-o", self.new_rlib(crate)]
 
-    def archive(self):
-        """Where the static library of the top lies, where that is a library for other languages."""
-        return os.path.join(folder_of(self.top), "out", f"lib{self.top}.a")
+    def as_top(self):
+        """The words by which another top than the program is built."""
+        raise NotImplementedError
 
     def link(self):
         """Links the program, which takes the place of an older one at once."""
@@ -322,7 +338,10 @@ def in_minutes(seconds):
 def build(house, running, words):
     """Builds the crates, and says which one could not be built, or None."""
     plan = Plan(house.crates, house.names)
-    built = {one for one in house.names if one != house.top and house.is_built(one)}
+    built = set()
+    for one in house.names:
+        if one != house.top and (house.is_built(one) or built.issuperset(house.crates[one]) and house.take_over(one)):
+            built.add(one)
     waiting = set(house.names) - built
     if len(waiting) > 1 and house.top == PROGRAM:
         told = shlex.join(words) if words else "WORDS"
@@ -363,7 +382,7 @@ def end(running):
         one.stop()
 
 
-def build_all(words, top=PROGRAM, finish=House.link):
+def build_all(words, house_of=House, finish=House.link):
     """Builds the program, or another top, and gives the status. What still runs at the end is ended, whatever the end is."""
     running = []
     try:
@@ -371,8 +390,8 @@ def build_all(words, top=PROGRAM, finish=House.link):
         # what a call left that was killed
         shutil.rmtree(made("new"), ignore_errors=True)
         os.makedirs(made("new", str(os.getpid())))
-        house = House(top)
-        os.makedirs(os.path.join(folder_of(top), "out"), exist_ok=True)
+        house = house_of()
+        os.makedirs(os.path.join(folder_of(house.top), "out"), exist_ok=True)
         failed = build(house, running, words)
         if not failed:
             finish(house)

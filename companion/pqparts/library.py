@@ -42,11 +42,14 @@ class Library(Calls):
         self.entry.restype = ctypes.c_uint8
 
     def run(self, words, contents, after):
-        asked = [*words, *NAMES[: len(contents)], *after]
+        return self.ask([*words, *NAMES[: len(contents)], *after], *contents)
+
+    def ask(self, asked, first=b"", second=b""):
+        """The status, the reply and the line of a run of words that name the files `1` and `2` themselves."""
         if any("\n" in word or "\r" in word for word in asked):
             return 2, b"", "pq: words"
         text = "".join(f"{word}\n" for word in asked).encode("utf-8", "surrogateescape")
-        first, second = [*map(bytes, contents), b"", b""][:2]
+        first, second = bytes(first), bytes(second)
         room = FIRST_ROOM
         while True:
             reply, line = ctypes.create_string_buffer(room), ctypes.create_string_buffer(LINE_ROOM)
