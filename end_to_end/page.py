@@ -1,0 +1,210 @@
+"""Builds the page, and compares its solver with the library on drawn runs, and what it says of drawn tables with what the companion says,
+sentence by sentence and picture by picture, in node; and uses the page in a browser as a reader would. A line says which tool is missing."""
+
+import contextlib
+import http.server
+import json
+import os
+import shutil
+import signal
+import subprocess
+import sys
+import tempfile
+import threading
+from xml.etree import ElementTree
+
+from drawn_runs import runs
+from drawn_tables import tables
+from program import HOME
+from streams import difference
+
+sys.path.insert(0, os.path.join(HOME, "companion"))
+
+from pqparts import cells  # noqa: E402
+from pqparts.finding import asked  # noqa: E402
+from pqparts.library import Library  # noqa: E402
+from pqparts.pictures import pictures_of  # noqa: E402
+from pqparts.spoken import Words, answer_lines, fixed_lines, steps  # noqa: E402
+from pqparts.stops import Stop  # noqa: E402
+from pqparts.tables import Reading, wide_question  # noqa: E402
+from pqparts.texts import decoded  # noqa: E402
+
+SEED, RUNS, TABLES, SECONDS = 46, 2000, 500, 300
+HERE = os.path.join(HOME, "end_to_end")
+SVG = "{http://www.w3.org/2000/svg}"
+TOOLS = ["clang-16", "wasm-ld-16", "wasm-opt"]
+
+
+def passed_over(tools):
+    """Tells that checks were passed over for want of programs."""
+    print(f"passed over: {', '.join(tools)} not here, so the page was not tried with it")
+
+
+def said_of(library, content, how):
+    """What the companion says of a table: the question, the answer, and the pictures; or why it can't be read."""
+    try:
+        text, encoding = decoded(content, "table", None)
+        marks = cells.Marks(how["marks"]["present"], how["marks"]["absent"])
+        question = wide_question(text, "table", Reading(how["kind"], how["order"], how["header"], how["separator"], how["lineNames"], how["drop"], marks))
+        question.notes.insert(0, f"table: read as {encoding}")
+        finding = asked(library, question)
+    except Stop as stop:
+        return {"stop": str(stop)}
+    words, side = Words(question.kind, *question.called), question.sides[0]
+    cores = finding.contradiction.cores if finding.contradiction else []
+    return {"content": question.content.decode("latin1"), "notes": question.notes, "warnings": question.warnings, "question": words.question(),
+            "answer": answer_lines(question, finding, words), "fixed": fixed_lines(question, finding, words),
+            "pictures": [list(one) for one in pictures_of(question, finding)],
+            "steps": list(steps(cores[0]["cycle"], side.things, side.cut().names)) if cores else []}
+
+
+def in_node(folder, library):
+    """The page's solver on drawn runs, and its parts on drawn tables."""
+    if shutil.which("node") is None:
+        passed_over(["node"])
+        return
+    drawn = runs(SEED, RUNS, lambda words, first: library.ask(words, first)[1])
+    found = tables(SEED, TABLES)
+    cases, answers = os.path.join(folder, "cases.json"), os.path.join(folder, "answers.json")
+    with open(cases, "w", encoding="utf-8") as stream:
+        json.dump({"runs": [[words, first.decode("latin1"), second.decode("latin1")] for words, first, second in drawn],
+                   "tables": [[content.decode("latin1"), how] for content, how in found]}, stream)
+    done = subprocess.run(["node", os.path.join(HERE, "page_in_node.js"), os.path.join(folder, "pq.html"), cases, answers], capture_output=True,
+                          text=True, timeout=SECONDS, check=False)
+    yield "the page in node", difference("status", 0, done.returncode) and done.stderr
+    if done.returncode:
+        return
+    with open(answers, encoding="utf-8") as stream:
+        got = json.load(stream)
+    for number, (run, answer) in enumerate(zip(drawn, got["runs"])):
+        status, reply, line = library.ask(*run)
+        yield f"the page's solver, run {number}", difference(f"answer to {run}", [status, reply.decode("latin1"), line], answer)
+    for number, (table, answer) in enumerate(zip(found, got["tables"])):
+        wanted = said_of(library, *table)
+        yield f"the page on table {number}", difference(f"what is said of {table}", wanted, answer)
+    kinds = {("stop" if "stop" in one else one["answer"][0][:3]) for one in got["tables"]}
+    yield "the drawn tables", difference("answers", {"stop", "Yes", "No:"}, kinds)
+
+
+# A table whose lines contradict one another, and one whose answer takes some time.
+NO = "type,a,b,c,d\nP,1,1,,\nQ,,1,1,\nR,1,,1,\nS,,,1,1\n"
+PLAIN = "3\n1 2\n2 3\n"
+
+
+def long_rows():
+    """A file that takes the solver seconds: many rows over many columns, the last of which contradict those before."""
+    columns, lines = 1024, ["1024"]
+    lines += [" ".join(map(str, range(first, first + 40))) for first in range(1, columns - 40)] * 20
+    return "\n".join([*lines, "1 500 1000", "2 500 999"]) + "\n"
+
+
+class Seen(http.server.BaseHTTPRequestHandler):
+    """Takes what the browser sends."""
+
+    def do_POST(self):
+        self.server.found = json.loads(self.rfile.read(int(self.headers["Content-Length"])))
+        self.send_response(204)
+        self.end_headers()
+        self.server.has_come.set()
+
+    def log_message(self, *_):
+        """Tells nothing."""
+
+
+@contextlib.contextmanager
+def listener():
+    """A server on this machine that waits for what the browser sends."""
+    with http.server.HTTPServer(("127.0.0.1", 0), Seen) as server:
+        server.found, server.has_come = None, threading.Event()
+        thread = threading.Thread(target=server.serve_forever)
+        thread.start()
+        try:
+            yield server
+        finally:
+            server.shutdown()
+            thread.join()
+
+
+def driven(folder, address):
+    """The page with the script in it that uses it, by its path."""
+    with open(os.path.join(folder, "pq.html"), encoding="utf-8") as stream:
+        text = stream.read()
+    with open(os.path.join(HERE, "page_driver.js"), encoding="utf-8") as stream:
+        driver = stream.read()
+    run = json.dumps({"no": NO, "plain": PLAIN, "long": long_rows()})
+    path = os.path.join(folder, "driven.html")
+    with open(path, "w", encoding="utf-8") as stream:
+        stream.write(text.replace("</body>", f'<script id="run" type="text/plain" data-to="{address}">{run}</script><script>{driver}</script></body>'))
+    return path
+
+
+def in_browser(folder, library):
+    """The page in a browser: what is said of the example, of a dropped file and of a file that can't be read, and that the button stops."""
+    browser = shutil.which("chromium") or shutil.which("chromium-browser")
+    if browser is None:
+        passed_over(["chromium"])
+        return
+    with listener() as server:
+        path = driven(folder, f"http://127.0.0.1:{server.server_port}/")
+        words = [browser, "--headless", "--no-sandbox", "--disable-gpu", f"--user-data-dir={folder}/own", "--remote-debugging-port=0", f"file://{path}"]
+        running = subprocess.Popen(words, stdin=subprocess.DEVNULL, stdout=subprocess.DEVNULL, stderr=subprocess.DEVNULL, start_new_session=True)
+        try:
+            has_come = server.has_come.wait(SECONDS)
+        finally:
+            os.killpg(running.pid, signal.SIGKILL)
+            running.wait()
+    yield "the page in a browser", None if has_come and "failed" not in server.found else f"it ended without an answer: {server.found}"
+    if has_come and "failed" not in server.found:
+        yield from seen_problems(server.found, library)
+
+
+EXAMPLE = "type,Grave 1,Grave 2,Grave 3,Grave 4,Grave 5\nBeaker,3,,1,,\nBowl,x,,,2,0\nJar,,1,,1,\nFibula,,4,,,1\n"
+
+
+def seen_problems(found, library):
+    """What was seen in the browser."""
+    how = {"kind": "rows", "order": "columns", "header": 1, "separator": None, "lineNames": None, "drop": [], "marks": {"present": [], "absent": []}}
+    yield "a table without the way round", difference("said", "Say first which of the two are to be put in order: the columns or the lines.",
+                                                      found["unsaid"]["said"])
+    for name, text in (("example", EXAMPLE), ("no", NO)):
+        wanted = said_of(library, text.encode(), how)
+        yield f"{name}: the answer", difference("said", wanted["answer"][0], found[name]["said"])
+        missing = [line for line in [*wanted["answer"][1:], *wanted["fixed"], *wanted["steps"]] if line not in found[name]["answer"]]
+        yield f"{name}: its sentences", difference("lines that are missing", [], missing)
+        yield f"{name}: its pictures", difference("pictures", list(map(taken_apart, (one for _, one in wanted["pictures"]))), list(map(taken_apart, found[name]["pictures"])))
+    yield "the core by name", None if "Core 1: P, Q, R." in found["no"]["answer"] else found["no"]["answer"]
+    yield "the judge's word", None if "no search: valid." in found["example"]["answer"] else found["example"]["answer"]
+    yield from saved_problems(found["saved"], library)
+    yield "a cell that is no mark", None if "'?'" in found["unread"]["said"] else found["unread"]["said"]
+    yield "the button that stops", difference("said", ("Stopped.", True), (found["stopped"]["said"], found["stopped"]["isReady"]))
+    yield "a file of pq after a stop", difference("said", "Yes: there is such an order.", found["plain"]["said"])
+
+
+def saved_problems(saved, library):
+    """The files that the page saves are the question, and a verdict on it that is valid."""
+    status, reply, _ = library.ask(["check", "rows", "1", "2"], saved["question.in"].encode(), saved["verdict.txt"].encode())
+    yield "the files that are saved", difference("judgement", (0, b"valid\n"), (status, reply))
+
+
+def taken_apart(picture):
+    """The bars and the words of a picture, with where they stand."""
+    root = ElementTree.fromstring(picture)
+    bars = [(one.get("x"), one.get("y"), one.get("width"), one.get("fill"), one[0].text) for one in root.iter(f"{SVG}rect")]
+    return sorted(bars), sorted((one.get("x"), one.get("y"), one.text) for one in root.iter(f"{SVG}text"))
+
+
+def problems():
+    """All checks of the page, which is built first."""
+    without = [tool for tool in TOOLS if shutil.which(tool) is None]
+    if without:
+        passed_over(without)
+        return
+    with tempfile.TemporaryDirectory() as folder:
+        for name in ("library", "page"):
+            done = subprocess.run([sys.executable, os.path.join(HOME, "scripts", f"{name}.py"), folder], capture_output=True, text=True, check=False)
+            yield f"scripts/{name}.py", difference("status", 0, done.returncode) and done.stderr
+            if done.returncode:
+                return
+        library = Library(os.path.join(folder, "libpq.so"))
+        yield from in_node(folder, library)
+        yield from in_browser(folder, library)

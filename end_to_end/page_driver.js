@@ -1,0 +1,59 @@
+// Uses the page as a reader would, and sends what was seen as JSON to the check, which has put this into the page.
+"use strict";
+
+const pause = (milliseconds) => new Promise((done) => setTimeout(done, milliseconds));
+const until = async (test) => {
+  for (let turn = 0; turn < 1200 && !test(); turn++) await pause(50);
+};
+const isIdle = () => $("go").disabled === false && !$("said").textContent.endsWith("…");
+const seen = () => ({ said: $("said").textContent, answer: $("answer").innerText, pictures: [...document.querySelectorAll("#answer svg")].map((one) => one.outerHTML) });
+
+// The answer after a click on the button.
+async function answered() {
+  $("go").click();
+  await until(isIdle);
+  return seen();
+}
+
+function written(text, order) {
+  $("text").value = text;
+  $("text").dispatchEvent(new Event("input"));
+  document.querySelectorAll("input[name=order]").forEach((one) => (one.checked = one.value === order));
+}
+
+async function dropped(name, text, order) {
+  const given = new DataTransfer();
+  given.items.add(new File([text], name));
+  document.querySelectorAll("input[name=order]").forEach((one) => (one.checked = one.value === order));
+  document.dispatchEvent(new DragEvent("drop", { dataTransfer: given }));
+  await until(() => $("from").textContent === `from ${name}`);
+}
+
+async function savedFiles() {
+  const links = [...document.querySelectorAll("#answer a[download]")];
+  return Object.fromEntries(await Promise.all(links.map(async (one) => [one.download, await (await fetch(one.href)).text()])));
+}
+
+async function tried(run) {
+  const found = { unsaid: await answered() };
+  written($("text").value, "columns");
+  found.example = await answered();
+  found.saved = await savedFiles();
+  await dropped("no.csv", run.no, "columns");
+  found.no = await answered();
+  written("type,a,b\nP,1,?\nQ,1,1\n", "columns");
+  found.unread = await answered();
+  $("kind").value = "file of rows";
+  written(run.long, null);
+  $("go").click();
+  await until(() => !$("stop").disabled);
+  await pause(20);
+  $("stop").click();
+  found.stopped = { ...seen(), isReady: !$("go").disabled };
+  written(run.plain, null);
+  found.plain = await answered();
+  return found;
+}
+
+const sent = (found) => fetch($("run").dataset.to, { method: "POST", mode: "no-cors", body: JSON.stringify(found) });
+tried(JSON.parse($("run").textContent)).then(sent, (error) => sent({ failed: `${error}` }));

@@ -1,0 +1,40 @@
+// Runs the parts of the page that need no browser, in node: `node page_in_node.js PAGE CASES ANSWERS`. A case is a run of the solver that is
+// in the page, or a table with how it is read.
+"use strict";
+
+const fs = require("fs"), vm = require("vm");
+const [page_file, cases, answers] = process.argv.slice(2);
+const text = fs.readFileSync(page_file, "utf8"), within = (id) => text.match(new RegExp(`<script id="${id}"[^>]*>([^]*?)</script>`))[1];
+const NAMES = "solverOf, tableQuestion, asked, answerLines, fixedLines, picturesOf, questionSaid, stepsOf, cutNames";
+vm.runInThisContext(`${within("parts")}\nglobalThis.page = { ${NAMES} };`);
+const run = page.solverOf(new WebAssembly.Module(Buffer.from(within("solver"), "base64")));
+const latin = (bytes) => Buffer.from(bytes).toString("latin1");
+
+function ran([words, first, second]) {
+  const { status, reply, line } = run(words, Buffer.from(first, "latin1"), Buffer.from(second, "latin1"));
+  return [status, latin(reply), line];
+}
+
+async function said([bytes, reading]) {
+  try {
+    const question = page.tableQuestion(Buffer.from(bytes, "latin1"), "table", reading);
+    const finding = await page.asked(async (...words) => run(...words), question), [side] = question.sides;
+    const core = finding.contradiction && finding.contradiction.cores[0];
+    return {
+      content: latin(question.content), notes: question.notes, warnings: question.warnings, question: page.questionSaid(question),
+      answer: page.answerLines(question, finding), fixed: page.fixedLines(question, finding), pictures: page.picturesOf(question, finding),
+      steps: core ? page.stepsOf(core.cycle, side.things, page.cutNames(side)) : [],
+    };
+  } catch (stop) {
+    if (stop.constructor.name !== "Stop") throw stop;
+    return { stop: stop.message };
+  }
+}
+
+async function main() {
+  const { runs, tables } = JSON.parse(fs.readFileSync(cases, "utf8")), found = [];
+  for (const one of tables) found.push(await said(one));
+  fs.writeFileSync(answers, JSON.stringify({ runs: runs.map(ran), tables: found }));
+}
+
+main();
