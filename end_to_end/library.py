@@ -4,7 +4,7 @@ threads, by the typed calls of Python, and from R where R is there."""
 import concurrent.futures
 import ctypes
 import os
-import shutil
+import re
 import subprocess
 import sys
 import tempfile
@@ -106,6 +106,25 @@ def stopped(call, status, refusal):
     return "it did not stop"
 
 
+EXAMPLE = os.path.join("examples", "call.c")
+SAYS = b"0\npq-verdict 2\nkind matrix\ncolumns 3\nanswer yes\ntree [1 2 3]\norder 1 2 3\nend\n"
+
+
+def in_c(folder):
+    """The example in C: the page shows it, and, built by the line of the page, it prints the answer."""
+    with open(os.path.join(HOME, EXAMPLE), encoding="utf-8") as stream:
+        example = stream.read()
+    with open(os.path.join(HOME, "docs", "LIBRARY.md"), encoding="utf-8") as stream:
+        page = stream.read()
+    if "".join(f"    {line}".rstrip() + "\n" for line in example.splitlines()) not in page:
+        return f"docs/LIBRARY.md doesn't show {EXAMPLE}"
+    built = os.path.join(folder, "call")
+    line = re.search(r"`(cc [^`]*) -o call`", page)[1].replace("$PWD/", "").replace("dist", folder)
+    subprocess.run(f"{line} -o {built}", shell=True, cwd=HOME, check=True)
+    done = subprocess.run([built], capture_output=True, check=False)
+    return difference("what it prints", SAYS, done.stdout)
+
+
 def problems():
     """All checks of the library, which is built first."""
     with tempfile.TemporaryDirectory() as folder:
@@ -118,3 +137,4 @@ def problems():
         yield from pointer_problems(library)
         yield from typed_problems(library)
         yield "pq.R over the library", in_r(library.path)
+        yield "the example in C", in_c(folder)

@@ -1,16 +1,14 @@
 """Builds the page, and compares its solver with the library on drawn runs, and what it says of drawn tables with what the companion says,
 sentence by sentence and picture by picture, in node; and uses the page in a browser as a reader would. A line says which tool is missing."""
 
-import contextlib
-import http.server
 import json
 import os
 import shutil
 import signal
+import socket
 import subprocess
 import sys
 import tempfile
-import threading
 from xml.etree import ElementTree
 
 from drawn_runs import runs
@@ -98,31 +96,17 @@ def long_rows():
     return "\n".join([*lines, "1 500 1000", "2 500 999"]) + "\n"
 
 
-class Seen(http.server.BaseHTTPRequestHandler):
-    """Takes what the browser sends."""
-
-    def do_POST(self):
-        self.server.found = json.loads(self.rfile.read(int(self.headers["Content-Length"])))
-        self.send_response(204)
-        self.end_headers()
-        self.server.has_come.set()
-
-    def log_message(self, *_):
-        """Tells nothing."""
-
-
-@contextlib.contextmanager
-def listener():
-    """A server on this machine that waits for what the browser sends."""
-    with http.server.HTTPServer(("127.0.0.1", 0), Seen) as server:
-        server.found, server.has_come = None, threading.Event()
-        thread = threading.Thread(target=server.serve_forever)
-        thread.start()
-        try:
-            yield server
-        finally:
-            server.shutdown()
-            thread.join()
+def received(listening):
+    """What the browser sends: the body of the one request that comes, as JSON; None where none comes in time."""
+    try:
+        taken, _ = listening.accept()
+        with taken, taken.makefile("rb") as stream:
+            heads = dict(line.decode("latin1").lower().strip().split(": ", 1) for line in iter(stream.readline, b"\r\n") if b": " in line)
+            found = json.loads(stream.read(int(heads["content-length"])))
+            taken.sendall(b"HTTP/1.1 204 No Content\r\n\r\n")
+            return found
+    except TimeoutError:
+        return None
 
 
 def driven(folder, address):
@@ -144,18 +128,20 @@ def in_browser(folder, library):
     if browser is None:
         passed_over(["chromium"])
         return
-    with listener() as server:
-        path = driven(folder, f"http://127.0.0.1:{server.server_port}/")
+    with socket.create_server(("127.0.0.1", 0)) as listening:
+        listening.settimeout(SECONDS)
+        path = driven(folder, f"http://127.0.0.1:{listening.getsockname()[1]}/")
         words = [browser, "--headless", "--no-sandbox", "--disable-gpu", f"--user-data-dir={folder}/own", "--remote-debugging-port=0", f"file://{path}"]
         running = subprocess.Popen(words, stdin=subprocess.DEVNULL, stdout=subprocess.DEVNULL, stderr=subprocess.DEVNULL, start_new_session=True)
         try:
-            has_come = server.has_come.wait(SECONDS)
+            found = received(listening)
         finally:
             os.killpg(running.pid, signal.SIGKILL)
             running.wait()
-    yield "the page in a browser", None if has_come and "failed" not in server.found else f"it ended without an answer: {server.found}"
-    if has_come and "failed" not in server.found:
-        yield from seen_problems(server.found, library)
+    is_whole = found is not None and "failed" not in found
+    yield "the page in a browser", None if is_whole else f"it ended without an answer: {found}"
+    if is_whole:
+        yield from seen_problems(found, library)
 
 
 EXAMPLE = "type,Grave 1,Grave 2,Grave 3,Grave 4,Grave 5\nBeaker,3,,1,,\nBowl,x,,,2,0\nJar,,1,,1,\nFibula,,4,,,1\n"

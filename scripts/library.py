@@ -12,6 +12,7 @@ import os
 import shutil
 import subprocess
 import sys
+import tempfile
 
 import build
 
@@ -35,10 +36,11 @@ class Archive(build.House):
 
     def __init__(self):
         super().__init__(CRATE)
+        self.folder = tempfile.TemporaryDirectory()
 
     def as_top(self):
-        keeping_toolchain(self.toolchain.path("toolchain"))
-        return ["--toolchain", made("toolchain"), "--crate-type", "staticlib", "-o", made("new.a")]
+        keep_modules(self.toolchain.path("toolchain"), self.folder.name)
+        return ["--toolchain", self.folder.name, "--crate-type", "staticlib", "-o", made("new.a")]
 
     def is_whole(self):
         """Whether the archive and the module are there, of the texts as they are."""
@@ -53,15 +55,14 @@ class Archive(build.House):
                 stream.write(self.stamps[crate])
 
 
-def keeping_toolchain(toolchain):
-    """A folder like the toolchain's, whose compiler keeps the module."""
-    shutil.rmtree(made("toolchain"), ignore_errors=True)
-    os.makedirs(made("toolchain", "bin"))
-    os.symlink(os.path.join(toolchain, "lib"), made("toolchain", "lib"))
+def keep_modules(toolchain, folder):
+    """Makes a folder like the toolchain's, whose compiler keeps the module."""
+    os.makedirs(os.path.join(folder, "bin"), exist_ok=True)
+    os.symlink(os.path.join(toolchain, "lib"), os.path.join(folder, "lib"))
     for name in os.listdir(os.path.join(toolchain, "bin")):
         if name != "clang":
-            os.symlink(os.path.join(toolchain, "bin", name), made("toolchain", "bin", name))
-    keeper = made("toolchain", "bin", "clang")
+            os.symlink(os.path.join(toolchain, "bin", name), os.path.join(folder, "bin", name))
+    keeper = os.path.join(folder, "bin", "clang")
     with open(keeper, "w", encoding="utf-8") as stream:
         stream.write(KEEPER.format(module=made("module.bc"), clang=os.path.join(toolchain, "bin", "clang")))
     os.chmod(keeper, 0o755)

@@ -57,7 +57,7 @@ LAW = re.compile(r"\b(?<!mod )\w+_laws?\b(?!::)")
 # a heading of a floor, a crate that docs/HOUSE.md describes, one that crates.txt lists, and the start of a definition, with its name
 FLOOR = re.compile(r"^#+ (\d+)\. \S")
 HOUSE_CRATE = re.compile(r"^\| `(\w+)` \|")
-LISTED_CRATE = re.compile(r"^(\w+):")
+LISTED_CRATE = re.compile(r"^(\w+)(?: staticlib)?:")
 DEFINED = re.compile(r"^(?:(?:pub|abbrev|unfoldable|record|data) +)+([^\s:(){}]+)\s*(?:\([^)]*\)\s*)*:")
 
 

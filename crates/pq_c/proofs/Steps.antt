@@ -1,20 +1,18 @@
 -- From what a run over a shelf and sinks in memory says to what the caller knows of its bytes.
-use Rattle.std.proofs.Common.{◌≡◌, ◌≢◌, ◌⊎◌, ◌∙◌, ◌++◌, ℕ, zero, suc, ◌≤◌, ◌<◌, List, [], length, take, drop, map, Option, Some, None, IfSome, inl, inr, sym, ap, subst, refl, arith}
+use Rattle.std.proofs.Common.{◌≡◌, ◌≢◌, ◌⊎◌, ◌∙◌, ◌++◌, ℕ, zero, suc, ◌≤◌, List, [], length, take, drop, Option, Some, None, inl, inr, sym, ap, subst, refl, arith}
 use Rattle.std.proofs.Math.Path.{fun_ext}
 use Rattle.row_model.specs.declared.refusal.Refusal.{Refusal}
 use Rattle.std.proofs.Math.Seq.{take-length}
 use Rattle.std.proofs.lemmas.List.{take-append-drop, append_assoc}
 use Rattle.std.specs.Prelude.{◌↔◌, IsNone, IfNone}
 use Rattle.pq_io.specs.Taken.{Taken}
-use Rattle.pq_io.specs.Faults.{Rose}
 use Rattle.command_input.specs.Words.{Command, files_of}
-use Rattle.reply_laws.specs.Replies.{Replies, refusal_of}
+use Rattle.reply_laws.specs.Replies.{Replies}
 use Rattle.reply_laws.specs.Promise.{IsPromised, PromiseLaw}
-use Rattle.pq_cli.specs.Reading.{FitsTaken}
 use Rattle.pq_cli.specs.Runs.{ForCommand, AllFit, AgreesWith, OfTaken, taken_since, TakesFiles, TakesInTurn, WritesOut, EndsAtRefusal, IsLineOf, Offers}
 use Rattle.pq_cli.specs.Real.{names_taken, AllTold}
-use Rattle.pq_c.specs.Given.{given, OfFirst, OfFiles}
-use Rattle.pq_c.specs.Called.{BeginsReply, IsRefusedAt, IsLineFor, IsRunOf}
+use Rattle.pq_c.specs.Given.{given, OfFiles}
+use Rattle.pq_c.specs.Called.{BeginsReply, IsFirstRefused, IsLineFor, IsRunOf}
 
 -- a status that is none of a run without a reply
 is_reply : (status : ℕ) → status ≤ 6 → ((status ≡ 2) ⊎ (status ≡ 3) ⊎ (status ≡ 4) ⊎ (status ≡ 6) → ⊥) → (status ≡ 0) ⊎ (status ≡ 1) ⊎ (status ≡ 5)
@@ -67,12 +65,12 @@ module _ (law : ToldLaw) (told : List ℕ → Option (List ℕ)) (first second :
       holds files (fits c ts status (length (files_of c)) asks (asks.on_reply replied) files
       (subst (λ ns. AllTold (given first second) ns files) (sym (take-length (files_of c))) all))
 
-  pub refused_at : (c : Command) (ts : List Taken) (status which : ℕ) (refusal : Refusal) → TakesInTurn told c ts status → EndsAtRefusal c ts which refusal → IsRefusedAt first second c which refusal
+  pub refused_at : (c : Command) (ts : List Taken) (status which : ℕ) (refusal : Refusal) → TakesInTurn told c ts status → EndsAtRefusal c ts which refusal → IsFirstRefused first second c which refusal
   refused_at c ts status which refusal asks ends =
       record { from = ends.from; to = ends.to; first_one = λ files all. ends.first files (fits c ts status which asks ends.last files all) }
 
   with_files : (found : Option Command) (ts : List Taken) (status which : ℕ) (refusal : Refusal) → ForCommand found (λ c. TakesInTurn told c ts status) → ForCommand found (λ c. EndsAtRefusal c ts which refusal)
-      → ForCommand found (λ c. IsRefusedAt first second c which refusal)
+      → ForCommand found (λ c. IsFirstRefused first second c which refusal)
   with_files None ts status which refusal takes ends = tt
   with_files (Some c) ts status which refusal takes ends = refused_at c ts status which refusal takes ends
 
@@ -110,7 +108,7 @@ module _ (law : ToldLaw) (told : List ℕ → Option (List ℕ)) (first second :
 
   refusal_there : (found : Option Command) (ts : List Taken) (status : ℕ) → ForCommand found (λ c. TakesInTurn told c ts status)
       → ForCommand found (λ c. status ≡ 3 → (which : ℕ) × (refusal : Refusal) × EndsAtRefusal c ts which refusal)
-      → status ≡ 3 → ForCommand found (λ c. (which : ℕ) × (refusal : Refusal) × IsRefusedAt first second c which refusal)
+      → status ≡ 3 → ForCommand found (λ c. (which : ℕ) × (refusal : Refusal) × IsFirstRefused first second c which refusal)
   refusal_there None ts status takes refused three = tt
   refusal_there (Some c) ts status takes refused three = let r = refused three in (r.0, r.1, refused_at c ts status r.0 r.1 takes r.2)
 

@@ -12,7 +12,7 @@ abbrev pub BeginsReply : Command → List ℕ → List (List ℕ) → Type 0
 BeginsReply command text files = (status : ℕ) × (rest : List ℕ) × Replies command files status (text ++ rest)
 
 -- the file of this number, counted from 1, is the first of the command's files that is refused, and this is its refusal
-pub record IsRefusedAt (first second : List ℕ) (command : Command) (which : ℕ) (refusal : Refusal) : Type 0 where
+pub record IsFirstRefused (first second : List ℕ) (command : Command) (which : ℕ) (refusal : Refusal) : Type 0 where
   pub from : 1 ≤ which
   pub to : which ≤ refusable command
   pub first_one : OfFirst which first second command (λ files. refusal_of command files ≡ Some (which, refusal))
@@ -21,7 +21,7 @@ pub record IsRefusedAt (first second : List ℕ) (command : Command) (which : �
 pub record IsLineFor (command : Option Command) (first second : List ℕ) (status : ℕ) (line : List ℕ) : Type 0 where
   pub outside : status ≡ 2 → line ≡ codes "pq: words\n"
   pub refused : status ≡ 3 → (which : ℕ) × (refusal : Refusal) × (line ≡ refused_line which refusal)
-      × ForCommand command (λ c. IsRefusedAt first second c which refusal)
+      × ForCommand command (λ c. IsFirstRefused first second c which refusal)
   pub read_fault : status ≡ 4 → line ≡ codes "pq: read fault\n"
   pub write_fault : status ≡ 5 → line ≡ codes "pq: write fault\n"
   pub no_memory : status ≡ 6 → line ≡ codes "pq: no memory\n"
@@ -35,7 +35,7 @@ pub record IsRunOf (command : Option Command) (first second : List ℕ) (status 
   pub range : status ≤ 6
   pub reply : (status ≡ 0) ⊎ (status ≡ 1) → ForCommand command (λ c. OfFiles first second c (λ files. Replies c files status text))
   pub promise : (status ≡ 0) ⊎ (status ≡ 1) → ForCommand command (λ c. OfFiles first second c (λ files. IsPromised c files status text))
-  pub refused : status ≡ 3 → ForCommand command (λ c. (which : ℕ) × (refusal : Refusal) × IsRefusedAt first second c which refusal)
+  pub refused : status ≡ 3 → ForCommand command (λ c. (which : ℕ) × (refusal : Refusal) × IsFirstRefused first second c which refusal)
   pub cut_short : status ≡ 5 → ForCommand command (λ c. OfFiles first second c (BeginsReply c text))
   pub unwritten : (status ≡ 2) ⊎ (status ≡ 3) ⊎ (status ≡ 4) ⊎ (status ≡ 6) → text ≡ []
   pub quiet : (status ≡ 0) ⊎ (status ≡ 1) → line ≡ []

@@ -1,6 +1,6 @@
-use Rattle.std.proofs.Common.{◌≡◌, ◌∙◌, ap, subst, take, length, drop, List, Some, ℕ}
+use Rattle.std.proofs.Common.{◌≡◌, ◌∙◌, ap, subst, take, Some}
 use Rattle.std.specs.Str.Lines.{lines}
-use Rattle.command_input.specs.Words.{Command, texts, command_of}
+use Rattle.command_input.specs.Words.{texts, command_of}
 use Rattle.pq_io.specs.NamedFiles.{content_of, Held}
 use Rattle.pq_cli.specs.Runs.{ForCommand, WritesOut, Offers, taken_since}
 use Rattle.pq_c.specs.Called.{IsRunOf}
