@@ -4,20 +4,20 @@ ghost use Rattle.std.specs.Io.KnownBytes.{Appends, WriteAppends};
 ghost use Rattle.pq_io.specs.Faults.{HasCause, ChangedOnlyIfFailed, count_after};
 ghost use Rattle.pq_io.specs.Sink.{TakesSome};
 
-use crate::history::Sent;
+use crate::history::Noted;
 use crate::retried::{flush_retried, write_retried};
 use crate::{Failed, Sink};
 use std::io::{Stderr, Stdout, Write};
 use std::marker::Model;
 
-/// Standard output or standard error, flushed in each write. It tells the bytes of all writes that its stream took.
+/// Standard output or standard error, flushed in each write. It tells the bytes of all writes that it answered as done.
 ///
 /// Contracts see it as these bytes, the bytes that the stream itself tells, and the count of its faults. The
 /// streams of the system tell none.
 #[derive(Drop)]
 pub struct RealSink<W: Write> {
     stream: W,
-    sent: Sent,
+    sent: Noted,
     faults: u64,
 }
 
@@ -38,7 +38,7 @@ impl<W: Write> RealSink<W> {
     {
         RealSink {
             stream,
-            sent: Sent::new(),
+            sent: Noted::new(),
             faults: 0,
         }
     }
@@ -69,8 +69,9 @@ impl<W: Write> Sink for RealSink<W> {
 
     ghost faults = { λ sink. sink.faults };
 
-    /// What the stream tells grew by the bytes that were taken. The count rises by one at each failure. A write that a
-    /// signal interrupted is made again.
+    /// The stream took the bytes that are told, where it tells its own. The count rises by one at each failure, and a
+    /// write that a signal interrupted is made again. Where the flush fails the stream may have taken bytes, which the
+    /// sink doesn't tell.
     fn write(&mut self, piece: &[u8]) -> Result<usize, Failed>
         requires { 0 < length piece.now }
         ensures bound { IfOk result (TakesSome piece.now) }
