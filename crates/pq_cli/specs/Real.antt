@@ -12,6 +12,6 @@ names_taken ts = map (λ t. t.name) ts
 abbrev pub bytes_taken : List Taken → List (List ℕ)
 bytes_taken ts = map (λ t. t.bytes) ts
 
--- what a stream took is a reply to these files
+-- what was sent to a stream is a reply to these files
 abbrev pub RepliesTo : Command → ℕ → List ℕ → List ℕ → List (List ℕ) → Type 0
 RepliesTo command status before after files = (text : List ℕ) × Replies command files status text × (after ≡ before ++ text)
