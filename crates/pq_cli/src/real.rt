@@ -26,7 +26,7 @@ pub fn run_real<R: Files + Input + Drop>(
     out: &mut RealSink<Stdout>,
     err: &mut RealSink<Stderr>,
 ) -> u8
-    // In two words, of what was read and sent.
+    // Shortly: what was read, and what was sent.
     ensures reply { (result ≡ 0) ⊎ (result ≡ 1) → ForCommand (command_of (texts words.now)) (λ c.
         OfTaken (taken_since files.old.taken files.new.taken)
         (RepliesTo c result out.old.sent out.new.sent)) }
