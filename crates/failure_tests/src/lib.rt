@@ -1,5 +1,5 @@
 //! Runs of the top call over devices in memory that fail, that give and take few bytes at a time, and that never fail,
-//! and over files at their limits. The crate has no running code.
+//! over files at their limits, and over the shelf of the system at files that are played. The crate has no running code.
 #![tactic(auto)]
 
 #[cfg(test)]
@@ -8,5 +8,7 @@ mod devices;
 mod failures;
 #[cfg(test)]
 mod limits;
+#[cfg(test)]
+mod played;
 #[cfg(test)]
 mod real_edge;

@@ -1,353 +1,458 @@
-// Runs over the shelf of the system's files, at a runtime of the tests: its files and standard input give listed pieces, are
-// interrupted, and fail.
+// Runs over the shelf of the system's files, at a runtime of the tests: its files tell their bytes, and give them in
+// pieces, are interrupted and fail as is listed.
 use crate::devices::texts_of;
+use crate::played::{Playing, Script, Step};
 use pq_cli::run;
 use pq_io::{MemSink, NoMemory, RealShelf};
-use std::alloc::{Allocator, Global};
-use std::fs::{Files, Metadata, OpenFile, OpenOptions};
-use std::io::{self, BufRead, Error, ErrorKind, Input, Lines, Read, Seek, SeekFrom, Write};
+use std::alloc::Global;
 use std::test::Fail;
 
-// What a read gives.
-#[derive(Clone, Copy)]
-enum Given {
-    // These bytes, as many as there is room for; the others come with the next reads.
-    Bytes(&'static [u8]),
-    // A signal interrupts it, and it has to be made again.
-    Interrupted,
-    // It fails.
-    Fault,
-}
-
-// A file that gives what is listed, and then no more bytes.
-#[derive(Drop)]
-struct Played {
-    given: &'static [Given],
-    rest: &'static [u8],
-}
-
-impl Played {
-    fn of(given: &'static [Given]) -> Played {
-        Played { given, rest: &[] }
-    }
-
-    // Takes the next of the list, and says how many bytes are there now.
-    fn step(&mut self) -> io::Result<usize> {
-        let Some((next, others)) = self.given.split_first() else {
-            return Ok(0);
-        };
-        self.given = others;
-        match *next {
-            Given::Bytes(bytes) => {
-                self.rest = bytes;
-                Ok(bytes.len())
-            }
-            Given::Interrupted => Err(Error::from(ErrorKind::Interrupted)),
-            Given::Fault => Err(Error::from(ErrorKind::Other)),
-        }
-    }
-}
-
-impl Read for Played {
-    fn read(&mut self, buf: &mut [u8]) -> io::Result<usize> {
-        if self.rest.is_empty() {
-            self.step()?;
-        }
-        let n = self.rest.len().min(buf.len());
-        buf[..n].copy_from_slice(&self.rest[..n]);
-        self.rest = &self.rest[n..];
-        Ok(n)
-    }
-}
-
-impl BufRead for Played {
-    fn fill_buf(&mut self) -> io::Result<&[u8]> {
-        if self.rest.is_empty() {
-            self.step()?;
-        }
-        Ok(self.rest)
-    }
-
-    fn consume(&mut self, amount: usize) {
-        self.rest = &self.rest[amount.min(self.rest.len())..];
-    }
-}
-
-// The answer to all that a run never asks for.
-fn unsupported() -> Error {
-    Error::from(ErrorKind::Unsupported)
-}
-
-impl Write for Played {
-    fn write(&mut self, _buf: &[u8]) -> io::Result<usize> {
-        Err(unsupported())
-    }
-
-    fn flush(&mut self) -> io::Result<()> {
-        Err(unsupported())
-    }
-}
-
-impl Seek for Played {
-    fn seek(&mut self, _to: SeekFrom) -> io::Result<u64> {
-        Err(unsupported())
-    }
-}
-
-impl OpenFile for Played {
-    fn metadata(&self) -> io::Result<Metadata> {
-        Err(unsupported())
-    }
-
-    fn set_len(&self, _size: u64) -> io::Result<()> {
-        Err(unsupported())
-    }
-
-    fn sync_all(&self) -> io::Result<()> {
-        Err(unsupported())
-    }
-
-    fn sync_data(&self) -> io::Result<()> {
-        Err(unsupported())
-    }
-}
-
-// The files by their names, and what standard input gives. Any other name is no file.
-#[derive(Drop)]
-struct Playing {
-    first: &'static [Given],
-    second: &'static [Given],
-    input: &'static [Given],
-}
-
-impl Files for Playing {
-    type File = Played;
-
-    type Dir = Played;
-
-    fn open_file(&self, how: &OpenOptions, path: &str) -> io::Result<Played> {
-        how.check()?;
-        match path {
-            "first" => Ok(Played::of(self.first)),
-            "second" => Ok(Played::of(self.second)),
-            _ => Err(Error::from(ErrorKind::NotFound)),
-        }
-    }
-
-    fn open_dir(&self, _path: &str) -> io::Result<Played> {
-        Err(unsupported())
-    }
-
-    fn metadata(&self, _path: &str) -> io::Result<Metadata> {
-        Err(unsupported())
-    }
-
-    fn symlink_metadata(&self, _path: &str) -> io::Result<Metadata> {
-        Err(unsupported())
-    }
-
-    fn copy(&self, _from: &str, _to: &str) -> io::Result<u64> {
-        Err(unsupported())
-    }
-
-    fn rename(&self, _from: &str, _to: &str) -> io::Result<()> {
-        Err(unsupported())
-    }
-
-    fn remove_file(&self, _path: &str) -> io::Result<()> {
-        Err(unsupported())
-    }
-
-    fn create_dir(&self, _path: &str) -> io::Result<()> {
-        Err(unsupported())
-    }
-
-    fn remove_dir(&self, _path: &str) -> io::Result<()> {
-        Err(unsupported())
-    }
-
-    fn remove_dir_all<B: Allocator>(&self, _alloc: B, _path: &str) -> io::Result<()> {
-        Err(unsupported())
-    }
-}
-
-impl Input for Playing {
-    type Reader = Played;
-
-    fn read_line<A: Allocator + Clone>(&self, _buf: &mut String<A>) -> io::Result<usize> {
-        Err(unsupported())
-    }
-
-    fn lines<A: Allocator>(&self, alloc: A) -> Lines<Played, A> {
-        self.reader().lines(alloc)
-    }
-
-    fn reader(&self) -> Played {
-        Played::of(self.input)
-    }
-}
-
 // What is run over these files, and what it leaves: the status, the text, and the line of what stood in its way.
-struct Case {
-    words: &'static [&'static str],
-    first: &'static [Given],
-    second: &'static [Given],
-    input: &'static [Given],
+#[derive(Clone, Copy)]
+struct Row<'a> {
+    what: &'a str,
+    words: &'a [&'a str],
+    files: Playing<'a>,
     status: u8,
-    out: &'static [u8],
-    err: &'static [u8],
+    out: &'a [u8],
+    err: &'a [u8],
 }
+
+// Whether a row leaves what it should.
+fn is_left(alloc: Global, row: Row<'_>) -> Result<bool, NoMemory> {
+    let texts = texts_of(alloc, row.words)?;
+    let mut files = RealShelf::new(row.files);
+    let (mut out, mut err) = (MemSink::new(alloc), MemSink::new(alloc));
+    out.reserve(1000)?;
+    err.reserve(1000)?;
+    let status = run(alloc, &texts, &mut files, &mut out, &mut err);
+    Ok(status == row.status && out.bytes() == row.out && err.bytes() == row.err)
+}
+
+const SOLVE: &[&str] = &["solve", "matrix", "first"];
+
+const CHECK: &[&str] = &["check", "matrix", "first", "second"];
 
 const ANSWER: &[u8] =
     b"pq-verdict 2\nkind matrix\ncolumns 3\nanswer yes\ntree [1 2 3]\norder 1 2 3\nend\n";
 
-const CHAIN: &[Given] = &[Given::Bytes(b"110\n011\n")];
+const READ_FAULT: &[u8] = b"pq: read fault\n";
+
+const NO_MEMORY: &[u8] = b"pq: no memory\n";
+
+const NONE: Script<'static> = Script {
+    bytes: b"",
+    steps: &[],
+};
+
+const CHAIN_BYTES: &[u8] = b"110\n011\n";
+
+const CHAIN: Script<'static> = Script {
+    bytes: CHAIN_BYTES,
+    steps: &[],
+};
 
 // The same bytes in pieces, with interruptions before, between and behind them.
-const IN_PIECES: &[Given] = &[
-    Given::Interrupted,
-    Given::Bytes(b"1"),
-    Given::Interrupted,
-    Given::Interrupted,
-    Given::Bytes(b"10\n0"),
-    Given::Bytes(b"11"),
-    Given::Bytes(b"\n"),
-    Given::Interrupted,
-];
+const IN_PIECES: Script<'static> = Script {
+    bytes: CHAIN_BYTES,
+    steps: &[
+        Step::Interrupted,
+        Step::UpTo(1),
+        Step::Interrupted,
+        Step::Interrupted,
+        Step::UpTo(4),
+        Step::UpTo(2),
+        Step::UpTo(1),
+        Step::Interrupted,
+    ],
+};
 
-const CASES: &[Case] = &[
-    Case {
-        words: &["solve", "matrix", "first"],
-        first: CHAIN,
-        second: &[],
-        input: &[],
+const VERDICT: Script<'static> = Script {
+    bytes: ANSWER,
+    steps: &[Step::Interrupted, Step::UpTo(9)],
+};
+
+// A file that fails at once, or behind its first two bytes.
+const FAILS: Script<'static> = Script {
+    bytes: ANSWER,
+    steps: &[Step::Fault],
+};
+
+const BREAKS_OFF: Script<'static> = Script {
+    bytes: ANSWER,
+    steps: &[Step::UpTo(2), Step::Fault],
+};
+
+const ONE_FILE: &[Row<'static>] = &[
+    Row {
+        what: "a file at once",
+        words: SOLVE,
+        files: Playing {
+            first: CHAIN,
+            second: NONE,
+            input: NONE,
+        },
         status: 0,
         out: ANSWER,
         err: b"",
     },
-    Case {
-        words: &["solve", "matrix", "first"],
-        first: IN_PIECES,
-        second: &[],
-        input: &[],
+    Row {
+        what: "a file in pieces",
+        words: SOLVE,
+        files: Playing {
+            first: IN_PIECES,
+            second: NONE,
+            input: NONE,
+        },
         status: 0,
         out: ANSWER,
         err: b"",
     },
-    Case {
+    Row {
+        what: "standard input in pieces",
         words: &["solve", "matrix", "-"],
-        first: &[],
-        second: &[],
-        input: IN_PIECES,
+        files: Playing {
+            first: NONE,
+            second: NONE,
+            input: IN_PIECES,
+        },
         status: 0,
         out: ANSWER,
         err: b"",
     },
-    // A file that fails behind its first bytes is no file of these bytes.
-    Case {
-        words: &["solve", "matrix", "first"],
-        first: &[Given::Bytes(b"110\n011\n"), Given::Fault],
-        second: &[],
-        input: &[],
-        status: 4,
-        out: b"",
-        err: b"pq: read fault\n",
-    },
-    Case {
-        words: &["solve", "matrix", "-"],
-        first: &[],
-        second: &[],
-        input: &[Given::Fault],
-        status: 4,
-        out: b"",
-        err: b"pq: read fault\n",
-    },
-    Case {
-        words: &["solve", "matrix", "third"],
-        first: CHAIN,
-        second: CHAIN,
-        input: CHAIN,
-        status: 4,
-        out: b"",
-        err: b"pq: read fault\n",
-    },
-    // What comes behind the end is not read.
-    Case {
-        words: &["solve", "matrix", "first"],
-        first: &[Given::Bytes(b"110\n011\n"), Given::Bytes(b""), Given::Fault],
-        second: &[],
-        input: &[],
+    Row {
+        what: "nothing is read behind the end",
+        words: SOLVE,
+        files: Playing {
+            first: Script {
+                bytes: CHAIN_BYTES,
+                steps: &[Step::UpTo(8), Step::UpTo(1), Step::Fault],
+            },
+            second: NONE,
+            input: NONE,
+        },
         status: 0,
         out: ANSWER,
         err: b"",
     },
-    Case {
-        words: &["solve", "matrix", "first"],
-        first: &[Given::Bytes(b"110\n"), Given::Bytes(b"02")],
-        second: &[],
-        input: &[],
+    Row {
+        what: "a refused file in pieces",
+        words: SOLVE,
+        files: Playing {
+            first: Script {
+                bytes: b"110\n02",
+                steps: &[Step::UpTo(4)],
+            },
+            second: NONE,
+            input: NONE,
+        },
         status: 3,
         out: b"",
         err: b"pq: refused 1 code 2 line 2\n",
     },
-    // The second file is asked for behind the first, and one by its own name.
-    Case {
-        words: &["check", "matrix", "first", "second"],
-        first: IN_PIECES,
-        second: &[Given::Bytes(ANSWER)],
-        input: &[],
-        status: 0,
-        out: b"valid\n",
-        err: b"",
-    },
-    Case {
-        words: &["check", "matrix", "-", "second"],
-        first: &[],
-        second: &[Given::Interrupted, Given::Bytes(ANSWER)],
-        input: CHAIN,
-        status: 0,
-        out: b"valid\n",
-        err: b"",
-    },
-    Case {
-        words: &["check", "matrix", "first", "-"],
-        first: CHAIN,
-        second: &[],
-        input: &[Given::Bytes(b"pq"), Given::Fault],
+];
+
+const UNREAD: &[Row<'static>] = &[
+    Row {
+        what: "a fault behind the last byte",
+        words: SOLVE,
+        files: Playing {
+            first: Script {
+                bytes: CHAIN_BYTES,
+                steps: &[Step::UpTo(8), Step::Fault],
+            },
+            second: NONE,
+            input: NONE,
+        },
         status: 4,
         out: b"",
-        err: b"pq: read fault\n",
+        err: READ_FAULT,
     },
-    Case {
+    Row {
+        what: "a fault of standard input",
+        words: &["solve", "matrix", "-"],
+        files: Playing {
+            first: NONE,
+            second: NONE,
+            input: FAILS,
+        },
+        status: 4,
+        out: b"",
+        err: READ_FAULT,
+    },
+    Row {
+        what: "no file of this name",
+        words: &["solve", "matrix", "third"],
+        files: Playing {
+            first: CHAIN,
+            second: CHAIN,
+            input: CHAIN,
+        },
+        status: 4,
+        out: b"",
+        err: READ_FAULT,
+    },
+    Row {
+        what: "no second file of this name",
+        words: &["check", "matrix", "first", "third"],
+        files: Playing {
+            first: CHAIN,
+            second: VERDICT,
+            input: VERDICT,
+        },
+        status: 4,
+        out: b"",
+        err: READ_FAULT,
+    },
+    Row {
+        what: "an opening without memory",
+        words: &["solve", "matrix", "unopened"],
+        files: Playing {
+            first: CHAIN,
+            second: CHAIN,
+            input: CHAIN,
+        },
+        status: 6,
+        out: b"",
+        err: NO_MEMORY,
+    },
+    Row {
+        what: "a second opening without memory",
+        words: &["check", "matrix", "first", "unopened"],
+        files: Playing {
+            first: CHAIN,
+            second: VERDICT,
+            input: VERDICT,
+        },
+        status: 6,
+        out: b"",
+        err: NO_MEMORY,
+    },
+];
+
+const TWO_FILES: &[Row<'static>] = &[
+    Row {
+        what: "each file by its name",
+        words: CHECK,
+        files: Playing {
+            first: IN_PIECES,
+            second: VERDICT,
+            input: FAILS,
+        },
+        status: 0,
+        out: b"valid\n",
+        err: b"",
+    },
+    Row {
+        what: "the names the other way round",
+        words: &["check", "matrix", "second", "first"],
+        files: Playing {
+            first: VERDICT,
+            second: IN_PIECES,
+            input: FAILS,
+        },
+        status: 0,
+        out: b"valid\n",
+        err: b"",
+    },
+    Row {
+        what: "standard input first",
+        words: &["check", "matrix", "-", "second"],
+        files: Playing {
+            first: FAILS,
+            second: VERDICT,
+            input: CHAIN,
+        },
+        status: 0,
+        out: b"valid\n",
+        err: b"",
+    },
+    Row {
+        what: "standard input second",
+        words: &["check", "matrix", "first", "-"],
+        files: Playing {
+            first: CHAIN,
+            second: FAILS,
+            input: VERDICT,
+        },
+        status: 0,
+        out: b"valid\n",
+        err: b"",
+    },
+    Row {
+        what: "one name twice",
+        words: &["meet", "3", "first", "first"],
+        files: Playing {
+            first: Script {
+                bytes: b"[1 2 3]\n",
+                steps: &[Step::UpTo(3)],
+            },
+            second: FAILS,
+            input: FAILS,
+        },
+        status: 0,
+        out: b"pq-meet 1\ncolumns 3\nrows 3 3\nanswer yes\ntree [1 2 3]\norder 1 2 3\nend\n",
+        err: b"",
+    },
+    Row {
+        what: "a fault of a second file",
+        words: CHECK,
+        files: Playing {
+            first: CHAIN,
+            second: BREAKS_OFF,
+            input: VERDICT,
+        },
+        status: 4,
+        out: b"",
+        err: READ_FAULT,
+    },
+    Row {
+        what: "a fault of standard input as the second file",
+        words: &["check", "matrix", "first", "-"],
+        files: Playing {
+            first: CHAIN,
+            second: VERDICT,
+            input: BREAKS_OFF,
+        },
+        status: 4,
+        out: b"",
+        err: READ_FAULT,
+    },
+    Row {
+        what: "a refused second file",
         words: &["extend", "matrix", "first", "second"],
-        first: CHAIN,
-        second: &[Given::Bytes(b"9")],
-        input: &[],
+        files: Playing {
+            first: CHAIN,
+            second: Script {
+                bytes: b"9",
+                steps: &[],
+            },
+            input: NONE,
+        },
         status: 3,
         out: b"",
         err: b"pq: refused 2 code 4 line 1\n",
     },
 ];
 
-// Whether a case leaves what it should.
-fn is_left(alloc: Global, case: &Case) -> Result<bool, NoMemory> {
-    let texts = texts_of(alloc, case.words)?;
-    let mut files = RealShelf::new(Playing {
-        first: case.first,
-        second: case.second,
-        input: case.input,
-    });
-    let (mut out, mut err) = (MemSink::new(alloc), MemSink::new(alloc));
-    out.reserve(1000)?;
-    err.reserve(1000)?;
-    let status = run(alloc, &texts, &mut files, &mut out, &mut err);
-    Ok(status == case.status && out.bytes() == case.out && err.bytes() == case.err)
+// A run of one file of many bytes.
+fn row_of_many<'a>(
+    what: &'a str,
+    words: &'a [&'a str],
+    first: Script<'a>,
+    status: u8,
+    out: &'a [u8],
+    err: &'a [u8],
+) -> Row<'a> {
+    Row {
+        what,
+        words,
+        files: Playing {
+            first,
+            second: NONE,
+            input: NONE,
+        },
+        status,
+        out,
+        err,
+    }
 }
 
 #[test]
-fn files_in_pieces_and_with_faults(rt: HostRuntime) -> Result<(), Fail> {
-    for (row, case) in CASES.iter().enumerate() {
-        assert!(rt; is_left(rt.alloc(), case)?, "row {row}");
+fn one_file(rt: HostRuntime) -> Result<(), Fail> {
+    for row in ONE_FILE {
+        assert!(rt; is_left(rt.alloc(), *row)?, "{}", row.what);
+    }
+    Ok(())
+}
+
+#[test]
+fn files_that_are_not_read(rt: HostRuntime) -> Result<(), Fail> {
+    for row in UNREAD {
+        assert!(rt; is_left(rt.alloc(), *row)?, "{}", row.what);
+    }
+    Ok(())
+}
+
+#[test]
+fn two_files(rt: HostRuntime) -> Result<(), Fail> {
+    for row in TWO_FILES {
+        assert!(rt; is_left(rt.alloc(), *row)?, "{}", row.what);
+    }
+    Ok(())
+}
+
+// A text of one line many times and another at its end.
+fn text_of(alloc: Global, line: &[u8], times: usize, last: &[u8]) -> Result<Vec<u8>, NoMemory> {
+    let mut text = Vec::new(alloc);
+    for _ in 0..times {
+        text.extend_from_slice(line)?;
+    }
+    text.extend_from_slice(last)?;
+    Ok(text)
+}
+
+// A buffer has 16 KiB at first, and these files have 20,000 bytes.
+#[test]
+fn files_of_more_than_one_buffer(rt: HostRuntime) -> Result<(), Fail> {
+    let bytes = text_of(rt.alloc(), b"110\n", 4999, b"011\n")?;
+    let foreign = text_of(rt.alloc(), b"110\n", 4999, b"012\n")?;
+    let pieces = [Step::UpTo(7000), Step::Interrupted, Step::UpTo(9384)];
+    let at_once = Script {
+        bytes: &bytes,
+        steps: &[],
+    };
+    let in_pieces = Script {
+        bytes: &bytes,
+        steps: &pieces,
+    };
+    let refused = Script {
+        bytes: &foreign,
+        steps: &pieces,
+    };
+    for row in [
+        row_of_many("at once", SOLVE, at_once, 0, ANSWER, b""),
+        row_of_many("in pieces", SOLVE, in_pieces, 0, ANSWER, b""),
+        row_of_many(
+            "refused in its last line",
+            SOLVE,
+            refused,
+            3,
+            b"",
+            b"pq: refused 1 code 2 line 5000\n",
+        ),
+    ] {
+        assert!(rt; is_left(rt.alloc(), row)?, "{}", row.what);
+    }
+    Ok(())
+}
+
+#[test]
+fn files_at_the_limit_and_past_it(rt: HostRuntime) -> Result<(), Fail> {
+    let one = b"pq-verdict 2\nkind rows\ncolumns 1\nanswer yes\ntree 1\norder 1\nend\n";
+    let words = ["solve", "rows", "first"];
+    let blank = vec![in rt.alloc(); b' '; 16_777_215]?;
+    let bytes = text_of(rt.alloc(), b"1\n", 1, &blank)?;
+    let at_the_limit = Script {
+        bytes: bytes.get(..16_777_216).unwrap_or(b""),
+        steps: &[],
+    };
+    let past_it = Script {
+        bytes: &bytes,
+        steps: &[],
+    };
+    for row in [
+        row_of_many("at the limit", &words, at_the_limit, 0, one, b""),
+        row_of_many(
+            "past it",
+            &words,
+            past_it,
+            3,
+            b"",
+            b"pq: refused 1 code 7 line 0\n",
+        ),
+    ] {
+        assert!(rt; is_left(rt.alloc(), row)?, "{}", row.what);
     }
     Ok(())
 }

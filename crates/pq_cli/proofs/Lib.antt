@@ -4,3 +4,4 @@ pub mod Bases
 pub mod Promises
 pub mod Takings
 mod RealLaws
+mod ToldFiles

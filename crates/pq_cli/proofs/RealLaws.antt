@@ -5,7 +5,8 @@ use Rattle.command_input.specs.Words.{Command}
 use Rattle.reply_laws.specs.Replies.{refusal_of}
 use Rattle.pq_cli.specs.Reading.{FitsTaken}
 use Rattle.pq_cli.specs.Runs.{ForCommand, AllFit, OfTaken, AgreesWith, taken_since, WritesOut, TakesFiles}
-use Rattle.pq_cli.specs.Real.{names_taken, bytes_taken, AllTold, RepliesTo}
+use Rattle.pq_cli.specs.Real.{names_taken, bytes_taken, RepliesTo}
+use Rattle.pq_cli.specs.Told.{AllTold}
 
 pub own_fits : (ts : List Taken) → AllFit ts (bytes_taken ts)
 own_fits [] = tt

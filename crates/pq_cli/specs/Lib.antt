@@ -4,3 +4,4 @@ pub mod Further
 pub mod Runs
 pub mod Promise
 pub mod Real
+pub mod Told

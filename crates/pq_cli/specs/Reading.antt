@@ -42,8 +42,8 @@ IsReadStop stop.ReadFault = ⊤
 IsReadStop stop.NoMemory = ⊤
 
 -- The file of a name was read, the one of this number, of which this was taken. A value is how the file's bytes are read, and a
--- refusal is how they are refused; and `holds` holds of both, whatever the bytes. Where the shelf tells the bytes, they
--- are what was taken.
+-- refusal is how they are refused; and `holds` holds of both, whatever the bytes. Where the shelf tells the bytes, what
+-- was taken fits them.
 pub record ReadsAs {S V : Type 0} (content : S → List ℕ → Option (List ℕ)) (taken : S → List Taken) (faults : S → ℕ) (old new : S) (name : List ℕ) (which : ℕ)
     (reads : List ℕ → Read V → Type 0) (holds : Read V → Type 0) (result : Result V Stop) (t : Taken) : Type 0 where
   pub asks : TakesOne (taken old) (taken new) t (read_status result)

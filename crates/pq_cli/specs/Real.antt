@@ -1,5 +1,5 @@
 -- What is said of the files and streams of the system.
-use Rattle.std.specs.Prelude.{◌≡◌, ⊤, ℕ, List, [], ◌∷◌, ◌++◌, map, Option, Some}
+use Rattle.std.specs.Prelude.{◌≡◌, ℕ, List, ◌++◌, map}
 use Rattle.pq_io.specs.Taken.{Taken}
 use Rattle.command_input.specs.Words.{Command}
 use Rattle.reply_laws.specs.Replies.{Replies}
@@ -12,13 +12,6 @@ names_taken ts = map (λ t. t.name) ts
 abbrev pub bytes_taken : List Taken → List (List ℕ)
 bytes_taken ts = map (λ t. t.bytes) ts
 
--- the files of these names have these bytes, as a shelf tells them
-abbrev pub AllTold : (List ℕ → Option (List ℕ)) → List (List ℕ) → List (List ℕ) → Type 0
-AllTold told [] [] = ⊤
-AllTold told [] (_ ∷ _) = ⊥
-AllTold told (_ ∷ _) [] = ⊥
-AllTold told (name ∷ names) (bytes ∷ files) = (told name ≡ Some bytes) × AllTold told names files
-
--- what a stream took is a reply to these files
+-- what was sent to a stream is a reply to these files
 abbrev pub RepliesTo : Command → ℕ → List ℕ → List ℕ → List (List ℕ) → Type 0
 RepliesTo command status before after files = (text : List ℕ) × Replies command files status text × (after ≡ before ++ text)

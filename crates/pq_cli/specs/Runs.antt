@@ -1,6 +1,7 @@
 -- What a run takes, reads and writes. A shelf is seen by what was taken of its files, the bytes that it tells of them,
 -- and its count of faults.
 use Rattle.std.specs.Prelude.{◌≡◌, ◌≢◌, ◌⊎◌, ⊤, ℕ, ◌-◌, ◌<◌, ◌≤◌, List, [], ◌∷◌, ◌++◌, take, drop, map, length, Option, Some, None, IfSome, Result, IfOk, IfErr, codes}
+use Rattle.std.specs.List.{AllZip}
 use Rattle.std.specs.Io.KnownBytes.{Appends}
 use Rattle.std.specs.Fmt.{decimal}
 use Rattle.pq_io.specs.Faults.{Rose}
@@ -19,16 +20,13 @@ use Rattle.verdict_replies.specs.declared.reply.Reply.{Reply}
 
 -- these may be the bytes of the files that were taken
 abbrev pub AllFit : List Taken → List (List ℕ) → Type 0
-AllFit [] [] = ⊤
-AllFit [] (_ ∷ _) = ⊥
-AllFit (_ ∷ _) [] = ⊥
-AllFit (t ∷ ts) (bytes ∷ files) = FitsTaken t bytes × AllFit ts files
+AllFit ts files = AllZip FitsTaken ts files
 
 -- a fact about the bytes of the files that were taken
 abbrev pub OfTaken : List Taken → (List (List ℕ) → Type 0) → Type 0
 OfTaken ts P = (files : List (List ℕ)) → AllFit ts files → P files
 
--- where a shelf tells the bytes of a file, they are what was taken of it
+-- where a shelf tells the bytes of a file, what was taken of it fits them
 abbrev pub AgreesWith : (List ℕ → Option (List ℕ)) → List Taken → Type 0
 AgreesWith told [] = ⊤
 AgreesWith told (t ∷ ts) = IfSome (told t.name) (FitsTaken t) × AgreesWith told ts

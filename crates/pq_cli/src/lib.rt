@@ -32,7 +32,7 @@ mod unit;
 mod unit_check;
 
 pub use commands::{MAX_CORE_BYTES, MAX_VERDICT_BYTES, TREE_CODE, tree_file_law};
-pub use real::{own_law, run_real, told_law};
+pub use real::{own_law, run_real, told_files_law, told_law};
 pub use reply_laws::{
     check_law, core_judgement_law, core_law, extend_law, list_law, meet_law, model_law,
     promise_law, reply_law, solved_law, unit_check_law, unit_reply_law,

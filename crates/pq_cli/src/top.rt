@@ -99,12 +99,12 @@ pub fn run<F: Shelf, O: Sink, E: Sink>(
     }
 }
 
-/// Does what [`run`] does but for its line on the sink of errors, which this call isn't handed: so no status, and nothing
-/// that is read or written, depends on it. It answers the status of a reply that was written whole.
+/// What [`run`] does before its line on the sink of errors, which this call isn't handed. It answers the status of a reply
+/// that was written whole.
 ///
 /// # Errors
 ///
-/// Why there is no such reply. [`run`] writes the line of the failure, and answers its status.
+/// Why there is no such reply. The body of [`run`] is this call; for a failure it offers the line, and answers the status.
 pub fn decide<F: Shelf, O: Sink>(
     alloc: Global,
     words: &[String],

@@ -10,5 +10,6 @@ pub mod RealShelf
 pub mod RealSink
 pub mod Shelf
 pub mod Sink
+pub mod Source
 pub mod Taken
 pub mod Whole

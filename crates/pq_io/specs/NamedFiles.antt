@@ -13,8 +13,8 @@ abbrev pub content_of : List NamedFile → List ℕ → Option (List ℕ)
 content_of files name = fold (λ found file. if bytes_eq file.name name then Some file.bytes else found) None files
 
 -- what a shelf in memory holds: its files in the order in which they were added, the bytes left of the chosen one,
--- the files taken, the greatest number of bytes a read, the numbers of the calls that are to fail, and how many calls there
--- were and have failed
+-- what was taken of the files, the greatest number of bytes a read, the numbers of the calls that are to fail, and how
+-- many calls there were and have failed
 pub record Held : Type 0 where
   pub files : List NamedFile
   pub left : Option (List ℕ)

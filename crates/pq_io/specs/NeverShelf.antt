@@ -4,7 +4,7 @@ use Rattle.pq_io.specs.Taken.{Taken}
 use Rattle.pq_io.specs.NamedFiles.{NamedFile, content_of}
 use Rattle.pq_io.specs.declared.never_shelf.NeverShelf.TheInside.{Inside}
 
--- its files in the order in which they were added, the bytes left of the chosen one, and the files taken
+-- its files in the order in which they were added, the bytes left of the chosen one, and what was taken of the files
 pub record Kept : Type 0 where
   pub files : List NamedFile
   pub left : Option (List ℕ)

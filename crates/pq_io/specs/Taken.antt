@@ -3,7 +3,7 @@ use Rattle.std.specs.Prelude.{◌≡◌, ◌==◌, ℕ, Bool, false, List, [], �
 use Rattle.pq_io.specs.declared.error.ChooseError.{ChooseError}
 use Rattle.pq_io.specs.declared.error.ChooseError.TheVariants as choice
 
--- the name that was asked for, the bytes that reads handed out, and whether a read then said that no more come
+-- the name that was asked for, the bytes that reads handed out up to its end, and whether a read said that no more come
 pub record Taken : Type 0 where
   pub name : List ℕ
   pub bytes : List ℕ

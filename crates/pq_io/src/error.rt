@@ -13,7 +13,7 @@ pub struct Failed;
 pub enum ChooseError {
     /// The file is missing, or it could not be opened. The shelf counted a fault.
     Failed,
-    /// Memory was refused. The shelf doesn't tell of the name.
+    /// Memory was refused. The name doesn't join those that the shelf was asked for.
     NoMemory,
 }
 

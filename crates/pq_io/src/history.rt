@@ -1,28 +1,36 @@
-// What was written and read so far, which only clauses see. It takes no memory and no time.
+// What was written, opened and read so far, which only clauses see. It takes no memory and no time.
 ghost use Rattle.std.specs.Prelude.{◌≡◌, ℕ, List, [], ◌++◌, ◌==◌, length};
 ghost use Rattle.std.specs.Borrow.{ftrue};
 ghost use Rattle.pq_io.specs.Taken.{Taken, asked_for, handed_out};
 
 use std::marker::{Model, PhantomData};
 
-/// The bytes that were sent.
+/// Bytes that were noted: those that were sent, or a name.
 #[derive(Drop)]
-pub struct Sent {
+pub struct Noted {
     marker: PhantomData<u8>,
     pub ghost bytes: { List ℕ },
 }
 
-impl Model for Sent {
+impl Model for Noted {
     ghost also_owns = { λ _. ftrue };
 }
 
-impl Sent {
-    pub(crate) fn new() -> Sent
+impl Noted {
+    pub(crate) fn new() -> Noted
         ensures { result.bytes ≡ [] }
     {
-        Sent {
+        Noted {
             marker: PhantomData,
         }
+    }
+
+    pub(crate) fn of(bytes: &[u8]) -> Noted
+        ensures { result.bytes ≡ bytes.now }
+    {
+        let mut noted = Noted::new();
+        noted.add(bytes);
+        noted
     }
 
     pub(crate) fn add(&mut self, _piece: &[u8])
@@ -30,7 +38,7 @@ impl Sent {
     {}
 }
 
-/// The names that were asked for, each with the bytes that were read.
+/// The names that were asked for, each with the bytes that reads handed out.
 #[derive(Drop)]
 pub struct History {
     marker: PhantomData<u8>,

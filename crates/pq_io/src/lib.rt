@@ -6,9 +6,11 @@
 //!
 //! [`MemShelf`] and [`MemSink`] lie in memory and tell their bytes; their calls fail, and move few bytes at a time,
 //! where that is asked for. [`NeverShelf`] and [`NeverSink`] never fail. [`RealShelf`] and [`RealSink`] are the files
-//! and the streams of the system; they tell what was read and what was taken, in a history that proofs alone see.
+//! and the streams of the system; they tell what their reads handed out and what they answered as written, in a history
+//! that proofs alone see.
 #![tactic(auto)]
 
+mod chosen;
 mod error;
 mod history;
 mod mem_shelf;

@@ -29,8 +29,9 @@ struct Place {
 
 /// A shelf in memory, whose calls fail where that is asked for. A name that is added again has its last bytes.
 ///
-/// Contracts see it as its files, the bytes left of the chosen one, the names asked for, the greatest number of bytes a
-/// read, the numbers of the calls that are to fail, and the counts of calls and of faults. The calls of `choose` and of
+/// Contracts see it as its files, the bytes left of the chosen one, the names asked for with what reads handed out of
+/// each, the greatest number of bytes a read, the numbers of the calls that are to fail, and the counts of calls and of
+/// faults. The calls of `choose` and of
 /// `read` are numbered together, from 1; the count stands still at 2^64 - 1.
 #[derive(Drop)]
 pub struct MemShelf {

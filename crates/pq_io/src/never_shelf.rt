@@ -10,7 +10,8 @@ use std::marker::Model;
 
 /// A shelf in memory of which no call fails. A name that was never added is an empty file.
 ///
-/// Contracts see it as its files, the bytes left of the chosen one, and the names asked for.
+/// Contracts see it as its files, the bytes left of the chosen one, and the names asked for with what reads handed out of
+/// each.
 #[derive(Drop)]
 pub struct NeverShelf {
     shelf: MemShelf,

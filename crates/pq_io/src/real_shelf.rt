@@ -1,32 +1,25 @@
 // The files of the system.
-ghost use Rattle.std.specs.Prelude.{◌≡◌, [], None, false, length, IsTrue, OnOk, OnErr, ◌<◌};
+ghost use Rattle.std.specs.Prelude.{◌≡◌, [], None, Some, false, length, IsTrue, OnOk, OnErr, ◌<◌};
 ghost use Rattle.std.specs.Io.{ReadsAtMost};
 ghost use Rattle.pq_io.specs.Faults.{HasCause, ChangedOnlyIfFailed, count_after};
 ghost use Rattle.std.specs.Io.KnownBytes.{ReadConsumes};
 ghost use Rattle.pq_io.specs.Shelf.{HasChoiceCause, ChangedOnlyIfNotFound, count_after_choice};
+ghost use Rattle.pq_io.specs.Source.{source_of};
 ghost use Rattle.pq_io.specs.Taken.{Asks, HandsOut};
 
+use crate::chosen::{Chosen, choose_by};
 use crate::history::History;
 use crate::retried::read_retried;
 use crate::{ChooseError, Failed, Shelf};
 use std::alloc::Global;
-use std::fs;
-use std::io::{ErrorKind, Read};
+use std::io::Read;
 use std::marker::Model;
 use std::rt::Files;
 
-// What is chosen.
-#[derive(Drop)]
-enum Chosen<File, Reader> {
-    Nothing,
-    Input(Reader),
-    File(File),
-}
-
 /// The files of the system, of which `-` is standard input. What they hold nobody can tell beforehand.
 ///
-/// Contracts see it as what its reads handed out for each name asked for, whether a file is chosen, what the file chosen
-/// has left where its own type tells it, and the count of faults.
+/// Contracts see it as what its reads handed out for each name asked for, whether a file is chosen, where its bytes come
+/// from, what it has left where its own type tells it, and the count of faults.
 #[derive(Drop)]
 pub struct RealShelf<R: Files + Input> {
     runtime: R,
@@ -40,15 +33,15 @@ impl<R: Files + Input> Model for RealShelf<R> {
 
     ghost Value = { Asked };
 
-    ghost use Rattle.pq_io.specs.Chosen.{is_chosen, left_of};
+    ghost use Rattle.pq_io.specs.Chosen.{is_chosen, source_chosen, left_of};
 
-    ghost view = { λ shelf. record { taken = shelf.history.files; has_chosen = is_chosen shelf.chosen; left = left_of R.File.remaining R.Reader.remaining shelf.chosen; faults = shelf.faults } };
+    ghost view = { λ shelf. record { taken = shelf.history.files; has_chosen = is_chosen shelf.chosen; source = source_chosen shelf.chosen; left = left_of R.File.remaining R.Reader.remaining shelf.chosen; faults = shelf.faults } };
 }
 
 impl<R: Files + Input> RealShelf<R> {
     /// A shelf that has asked for no file, with no faults so far.
     pub fn new(runtime: R) -> Self
-        ensures { result ≡ record { taken = []; has_chosen = false; left = None; faults = 0 } }
+        ensures { result ≡ record { taken = []; has_chosen = false; source = None; left = None; faults = 0 } }
     {
         RealShelf {
             runtime,
@@ -70,7 +63,8 @@ impl<R: Files + Input + Drop> Shelf for RealShelf<R> {
 
     ghost has_chosen = { λ shelf. shelf.has_chosen };
 
-    /// The count rises by one at each failure. Where the opening lacks memory, the answer is `NoMemory`.
+    /// `-` chooses standard input, any other name the file of that name, in place of what was chosen before. The count
+    /// rises by one at each failure. Where the opening lacks memory, the answer is `NoMemory`.
     fn choose(&mut self, _alloc: Global, name: &str) -> Result<(), ChooseError>
         ensures chosen { OnOk result (IsTrue self.new.has_chosen) }
         ensures none_chosen { OnErr result (self.new.has_chosen ≡ false) }
@@ -78,26 +72,22 @@ impl<R: Files + Input + Drop> Shelf for RealShelf<R> {
         ensures cause { HasChoiceCause self.old.faults self.new.faults result }
         ensures told { ChangedOnlyIfNotFound self.old.faults self.new.faults result }
 
+        ensures source { OnOk result (self.new.source ≡ Some (source_of name.now)) }
         ensures count { self.new.faults ≡ count_after_choice self.old.faults result }
     {
         self.chosen = Chosen::Nothing;
-        if name == "-" {
-            self.history.ask(name.as_bytes());
-            self.chosen = Chosen::Input(self.runtime.reader());
-            return Ok(());
-        }
-        match fs::open(&self.runtime, name) {
-            Ok(file) => {
+        match choose_by(&self.runtime, name) {
+            Ok(chosen) => {
                 self.history.ask(name.as_bytes());
-                self.chosen = Chosen::File(file);
+                self.chosen = chosen;
                 Ok(())
             }
-            Err(error) if error.kind() == ErrorKind::OutOfMemory => Err(ChooseError::NoMemory),
-            Err(_) => {
+            Err(ChooseError::Failed) => {
                 self.history.ask(name.as_bytes());
                 self.faults = self.faults.saturating_add(1);
                 Err(ChooseError::Failed)
             }
+            Err(ChooseError::NoMemory) => Err(ChooseError::NoMemory),
         }
     }
 
@@ -112,12 +102,13 @@ impl<R: Files + Input + Drop> Shelf for RealShelf<R> {
         ensures taken { HandsOut self.old.taken self.new.taken result buf.new }
 
         ensures given { ReadConsumes self.old.left self.new.left result buf.new }
+        ensures source { self.new.source ≡ self.old.source }
         ensures count { self.new.faults ≡ count_after self.old.faults result }
     {
         let outcome = match &mut self.chosen {
             Chosen::Nothing => unreachable!(),
             Chosen::Input(reader) => read_retried(reader, buf),
-            Chosen::File(file) => read_retried(file, buf),
+            Chosen::File(opened) => read_retried(&mut opened.file, buf),
         };
         match outcome {
             Ok(n) => {

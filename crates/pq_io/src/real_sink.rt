@@ -1,23 +1,25 @@
 // Standard output and standard error.
-ghost use Rattle.std.specs.Prelude.{◌≡◌, ◌<◌, [], Some, length, take, IfOk};
-ghost use Rattle.std.specs.Io.KnownBytes.{Appends, WriteAppends};
+ghost use Rattle.std.specs.Prelude.{◌≡◌, ◌<◌, [], Some, length, take, IfOk, OnOk};
+ghost use Rattle.std.specs.Io.{WritesAtMost};
+ghost use Rattle.std.specs.Io.KnownBytes.{Appends, Keeps, WriteAppends};
 ghost use Rattle.pq_io.specs.Faults.{HasCause, ChangedOnlyIfFailed, count_after};
 ghost use Rattle.pq_io.specs.Sink.{TakesSome};
 
-use crate::history::Sent;
+use crate::history::Noted;
 use crate::retried::{flush_retried, write_retried};
 use crate::{Failed, Sink};
-use std::io::{Stderr, Stdout, Write};
+use std::io::{self, Stderr, Stdout, Write};
 use std::marker::Model;
 
-/// Standard output or standard error, flushed in each write. It tells the bytes of all writes that its stream took.
+/// Standard output or standard error, flushed behind each write. It tells the bytes of all writes that it answered as done.
 ///
-/// Contracts see it as these bytes, the bytes that the stream itself tells, and the count of its faults. The
-/// streams of the system tell none.
+/// Contracts see it as these bytes, those that were written since the last flush, the bytes that the stream itself tells,
+/// and the count of its faults. The streams of the system tell none.
 #[derive(Drop)]
 pub struct RealSink<W: Write> {
     stream: W,
-    sent: Sent,
+    sent: Noted,
+    unflushed: Noted,
     faults: u64,
 }
 
@@ -26,7 +28,7 @@ impl<W: Write> Model for RealSink<W> {
 
     ghost Value = { Stream };
 
-    ghost view = { λ sink. record { sent = sink.sent.bytes; contents = W.contents sink.stream; faults = sink.faults } };
+    ghost view = { λ sink. record { sent = sink.sent.bytes; unflushed = sink.unflushed.bytes; contents = W.contents sink.stream; faults = sink.faults } };
 }
 
 impl<W: Write> RealSink<W> {
@@ -38,9 +40,34 @@ impl<W: Write> RealSink<W> {
     {
         RealSink {
             stream,
-            sent: Sent::new(),
+            sent: Noted::new(),
+            unflushed: Noted::new(),
             faults: 0,
         }
+    }
+
+    // One write and the flush behind it.
+    fn write_through(&mut self, piece: &[u8]) -> io::Result<usize>
+        ensures bound { WritesAtMost result piece.now }
+        ensures bytes { IfOk result (λ n. Appends self.old.contents self.new.contents (take n piece.now)) }
+        ensures flushed { OnOk result (self.new.unflushed ≡ []) }
+        ensures kept { self.new ≡ record self.old { unflushed = self.new.unflushed; contents = self.new.contents } }
+    {
+        let n = write_retried(&mut self.stream, piece)?;
+        self.unflushed.add(&piece[..n]);
+        self.flush()?;
+        Ok(n)
+    }
+
+    // Has the stream pass on what was written since the last flush. That its call does so no clause of it can say.
+    fn flush(&mut self) -> io::Result<()>
+        ensures bytes { Keeps self.old.contents self.new.contents }
+        ensures flushed { OnOk result (self.new.unflushed ≡ []) }
+        ensures kept { self.new ≡ record self.old { unflushed = self.new.unflushed; contents = self.new.contents } }
+    {
+        flush_retried(&mut self.stream)?;
+        self.unflushed = Noted::new();
+        Ok(())
     }
 }
 
@@ -69,8 +96,9 @@ impl<W: Write> Sink for RealSink<W> {
 
     ghost faults = { λ sink. sink.faults };
 
-    /// What the stream tells grew by the bytes that were taken. The count rises by one at each failure. A write that a
-    /// signal interrupted is made again.
+    /// The stream took the bytes that are told, where it tells its own. The count rises by one at each failure, and a
+    /// write that a signal interrupted is made again. Where the flush fails the stream may have taken bytes, which the
+    /// sink doesn't tell.
     fn write(&mut self, piece: &[u8]) -> Result<usize, Failed>
         requires { 0 < length piece.now }
         ensures bound { IfOk result (TakesSome piece.now) }
@@ -79,10 +107,11 @@ impl<W: Write> Sink for RealSink<W> {
         ensures told { ChangedOnlyIfFailed self.old.faults self.new.faults result }
 
         ensures sent { IfOk result (λ n. Appends self.old.contents self.new.contents (take n piece.now)) }
+        ensures flushed { OnOk result (self.new.unflushed ≡ []) }
         ensures count { self.new.faults ≡ count_after self.old.faults result }
     {
-        match write_retried(&mut self.stream, piece) {
-            Ok(n) if n > 0 && flush_retried(&mut self.stream).is_ok() => {
+        match self.write_through(piece) {
+            Ok(n) if n > 0 => {
                 self.sent.add(&piece[..n]);
                 Ok(n)
             }

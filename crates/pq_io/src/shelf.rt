@@ -22,7 +22,8 @@ pub trait Shelf {
     /// How many calls have failed: a count that never falls, and that stands still at 2^64 - 1.
     ghost faults: { Self → ℕ };
 
-    /// The names for which `choose` was called, in their order, each with the bytes that reads handed out.
+    /// The names that were asked for, in their order, each with the bytes that reads handed out of its file. A call of
+    /// `choose` that answers `NoMemory` asks for none.
     ghost taken: { Self → List Taken };
 
     /// Whether a file is chosen.
@@ -33,7 +34,7 @@ pub trait Shelf {
     /// # Errors
     ///
     /// `Failed` where the file is missing or can't be opened, which counts a fault, and
-    /// `NoMemory`. No file is chosen then.
+    /// `NoMemory`, where the name doesn't join those asked for. No file is chosen then.
     fn choose(&mut self, alloc: Global, name: &str) -> Result<(), ChooseError>
         ensures chosen { OnOk result (IsTrue (has_chosen self.new)) }
         ensures left { OnOk result (left self.new ≡ content self.old name.now) }

@@ -25,12 +25,12 @@ use denote.Triple.Entry.{on_entry}
 use denote.Triple.Spec.{Meets, triple_of}
 use denote.Triple.Table.{entered}
 use denote.Triple.Walked.{says, Stays, stay_ref, walk_of, AllGo, Goes-ref, Walks, ends_at, walked, walk_Meets}
-use Rattle.pq_io.specs.declared.history.Sent.{Sent}
-use Rattle.pq_io.specs.contracts.history.Sent as T
-use Rattle.pq_io.specs.contracts.history.Sent.add.Key.{name as #it}
-use Rattle.pq_io.specs.contracts.history.Sent.add as it
-use Rattle.pq_io.proofs.history.Sent.add.Statement as stated
-use Rattle.pq_io.proofs.history.Sent.add.Code as code
+use Rattle.pq_io.specs.declared.history.Noted.{Noted}
+use Rattle.pq_io.specs.contracts.history.Noted as T
+use Rattle.pq_io.specs.contracts.history.Noted.add.Key.{name as #it}
+use Rattle.pq_io.specs.contracts.history.Noted.add as it
+use Rattle.pq_io.proofs.history.Noted.add.Statement as stated
+use Rattle.pq_io.proofs.history.Noted.add.Code as code
 use denote.Ref.{Bor}
 use denote.Builtin.{u8}
 use denote.Exit.{yes}
@@ -39,18 +39,18 @@ use denote.Triple.Walked.{stay_none_slice, Goes-none_slice}
 use Rattle.std.proofs.Common.{◌<◌, ◌^◌, length}
 
 abbrev Arg : Type 0
-Arg = MutBor Sent × (Bor (List ℕ) × Unit {0})
+Arg = MutBor Noted × (Bor (List ℕ) × Unit {0})
 
 abbrev stayed : Stays (it.ended).signature.params (it.ended).kept
 stayed = (stay_ref (0 ∷ []) tt (plain (λ _. T.the_row)), (stay_none_slice (1 ∷ []) tt (plain (λ _. u8)) yes, tt))
 
-module _ {M : Type 1} {𝓤 : Ura M} (𝓛 : Logic 𝓤) (at_mem : Memory → SProp 𝓤) (run : Routine → Fun 𝓤) (κ κ' : Lft) (q q' : Share) (b o : ℕ) (γ : GName) (h : Sent) (s : Bor (List ℕ)) where
+module _ {M : Type 1} {𝓤 : Ura M} (𝓛 : Logic 𝓤) (at_mem : Memory → SProp 𝓤) (run : Routine → Fun 𝓤) (κ κ' : Lft) (q q' : Share) (b o : ℕ) (γ : GName) (h : Noted) (s : Bor (List ℕ)) where
   open 𝓛 use {H, A}
 
   abbrev x : Arg
   x = (record { ref_ptr = (b, o); ghost_name = γ; now = h }, (s, tt))
 
-  abbrev h' : Sent
+  abbrev h' : Noted
   h' = record { marker = h.marker; bytes = h.bytes ++ s.now }
 
   abbrev at : List Val × (List Val × Unit {0})

@@ -21,17 +21,17 @@ use denote.Triple.Entry.{on_entry}
 use denote.Triple.Spec.{Meets, triple_of}
 use denote.Triple.Table.{entered}
 use denote.Triple.Walked.{says, ends_at, walked, walk_Meets}
-use Rattle.pq_io.specs.declared.history.Sent.{Sent}
-use Rattle.pq_io.specs.contracts.history.Sent as T
-use Rattle.pq_io.specs.contracts.history.Sent.new.Key.{name as #it}
-use Rattle.pq_io.specs.contracts.history.Sent.new as it
-use Rattle.pq_io.proofs.history.Sent.new.Statement as stated
-use Rattle.pq_io.proofs.history.Sent.new.Code as code
+use Rattle.pq_io.specs.declared.history.Noted.{Noted}
+use Rattle.pq_io.specs.contracts.history.Noted as T
+use Rattle.pq_io.specs.contracts.history.Noted.new.Key.{name as #it}
+use Rattle.pq_io.specs.contracts.history.Noted.new as it
+use Rattle.pq_io.proofs.history.Noted.new.Statement as stated
+use Rattle.pq_io.proofs.history.Noted.new.Code as code
 
 abbrev v : Val
 v = vstruct (vcons (vstruct vnil) vnil)
 
-abbrev r : Sent
+abbrev r : Noted
 r = record { marker = record {}; bytes = [] }
 
 meets : {M : Type 1} {𝓤 : Ura M} (𝓛 : Logic 𝓤) → (at_mem : Memory → SProp 𝓤) (run : Routine → Fun 𝓤) (𝓣 : Tables 𝓤 𝓛.H)

@@ -1,0 +1,56 @@
+// What a name stands for: standard input, or a file of the system.
+ghost use Rattle.std.specs.Prelude.{◌≡◌, Some, IfOk};
+ghost use Rattle.pq_io.specs.Source.{source_of};
+ghost use Rattle.pq_io.specs.Chosen.{source_chosen};
+
+use crate::ChooseError;
+use crate::history::Noted;
+use std::fs;
+use std::io::{self, ErrorKind};
+use std::rt::Files;
+
+/// What is chosen.
+#[derive(Drop)]
+pub enum Chosen<File, Reader> {
+    Nothing,
+    Input(Reader),
+    File(Opened<File>),
+}
+
+/// A file, and the name by which it was opened.
+#[derive(Drop)]
+pub struct Opened<File> {
+    pub file: File,
+    name: Noted,
+}
+
+/// What stands behind a name.
+///
+/// # Errors
+///
+/// The file is missing or can't be opened, or the opening lacks memory.
+pub fn choose_by<R: Files + Input>(
+    runtime: &R,
+    name: &str,
+) -> Result<Chosen<R::File, R::Reader>, ChooseError>
+    ensures { IfOk result (λ chosen. source_chosen chosen ≡ Some (source_of name.now)) }
+{
+    if name == "-" {
+        return Ok(Chosen::Input(runtime.reader()));
+    }
+    match open_by(runtime, name) {
+        Ok(opened) => Ok(Chosen::File(opened)),
+        Err(error) if error.kind() == ErrorKind::OutOfMemory => Err(ChooseError::NoMemory),
+        Err(_) => Err(ChooseError::Failed),
+    }
+}
+
+// Opens the file of a name, and notes the name. That these are one and the same no clause of the system's call can say.
+fn open_by<R: Files>(runtime: &R, name: &str) -> io::Result<Opened<R::File>>
+    ensures { IfOk result (λ opened. opened.name.bytes ≡ name.now) }
+{
+    Ok(Opened {
+        file: fs::open(runtime, name)?,
+        name: Noted::of(name.as_bytes()),
+    })
+}
