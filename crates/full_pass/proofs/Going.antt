@@ -10,7 +10,9 @@ use Rattle.full_pass.specs.declared.settled.Settled.TheVariants.{Group, Kept, Op
 use Rattle.pq_arena.specs.RowNodes.{column_leaves}
 use Rattle.arena_model.specs.RowLeaves.{IsLeafAt}
 use Rattle.full_pass.specs.Answer.{AreLeaves, IsFullNode, IsRowKept, IsSettled, one_node}
-use Rattle.full_pass.specs.Passing.{AreLinked, Chains, IsLast, IsRisen, Pass, Runs, marks, members_of, runs, total}
+use Rattle.full_pass.specs.declared.joins.Detail.{Detail}
+use Rattle.full_pass.specs.declared.joins.Detail.TheVariants.{Counts as DetailCounts, Runs as DetailRuns}
+use Rattle.full_pass.specs.Passing.{AreLinked, AreRunsKept, Chains, IsLast, IsRisen, Pass, Runs, marks, members_of, runs, total}
 use Rattle.full_pass.specs.declared.entries.Entries.{Entries}
 use Rattle.full_pass.specs.Entries.{AreReady, chain_at, far, first, hits, is_full, next, up}
 use Rattle.full_pass.proofs.Chained.{chained_length, no_chains}
@@ -91,11 +93,16 @@ no_runs f l far up none_yet = record {
   ups = λ q a us vs sh is t. absurd (true_false (l a) t (none_yet a));
 }
 
+runs_kept : (f : Layout) (w : Entries) (detail : Detail) → ((x : ℕ) → is_full w x ≡ false) → AreRunsKept f w detail
+runs_kept f w DetailCounts none_yet = tt
+runs_kept f w DetailRuns none_yet = no_runs f (is_full w) (far w) (up w) none_yet
+
 -- no node is labelled
-pub none_linked : (f : Layout) (w : Entries) → AreReady w (length f.slots) → ((x : ℕ) → is_full w x ≡ false) → ((x : ℕ) → hits w x ≡ 0) → AreLinked f w
-none_linked f w ready none_yet no_hits = record {
+pub none_linked : (f : Layout) (w : Entries) (detail : Detail) → AreReady w (length f.slots) → ((x : ℕ) → is_full w x ≡ false) → ((x : ℕ) → hits w x ≡ 0) →
+    AreLinked f w detail
+none_linked f w detail ready none_yet no_hits = record {
   ready = ready;
-  runs = no_runs f (is_full w) (far w) (up w) none_yet;
+  runs = runs_kept f w detail none_yet;
   chains = no_chains f (is_full w) (hits w) (first w) (next w) none_yet no_hits;
 }
 

@@ -7,7 +7,6 @@ use Rattle.full_pass.specs.declared.entries.Entries.{Entries}
 -- stands for the entry of a node that has none
 abbrev pub no_entry : Entry
 no_entry = record {
-  label = 0;
   seen = 0;
   hits = 0;
   first = record { index = 0 };
@@ -20,9 +19,13 @@ no_entry = record {
 abbrev pub entry : Entries → ℕ → Entry
 entry w x = slice_index_or w.entries.items x no_entry
 
+-- the label of node x
+abbrev pub label : Entries → ℕ → ℕ
+label w x = slice_index_or w.labels.items x 0
+
 -- whether x is labelled full
 abbrev pub is_full : Entries → ℕ → Bool
-is_full w x = eqb (entry w x).label w.stamp
+is_full w x = eqb (label w x) w.stamp
 
 -- how many children of x are labelled, where x is a P-node
 abbrev pub hits : Entries → ℕ → ℕ
@@ -69,9 +72,10 @@ chained (suc n) next x = x ∷ chained n next (next x)
 abbrev pub chain_at : Entries → ℕ → List ℕ
 chain_at w p = chained (hits w p) (next w) (first w p)
 
--- there are n entries, and their stamps are of this pass or older
+-- there are n labels and entries, and their stamps are of this pass or older
 pub record AreReady (w : Entries) (n : ℕ) : Type 0 where
   pub size : length w.entries.items ≡ n
+  pub labels : length w.labels.items ≡ n
   pub some : 1 ≤ w.stamp
-  pub old_label : (x : ℕ) → (entry w x).label ≤ w.stamp
+  pub old_label : (x : ℕ) → label w x ≤ w.stamp
   pub old_seen : (x : ℕ) → (entry w x).seen ≤ w.stamp

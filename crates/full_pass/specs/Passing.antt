@@ -14,6 +14,8 @@ use Rattle.full_pass.specs.declared.joins.Place.{Place}
 use Rattle.full_pass.specs.declared.joins.Place.TheVariants.{Top as PlaceTop, Run as PlaceRun, Ring as PlaceRing}
 use Rattle.full_pass.specs.declared.settled.Settled.{Settled}
 use Rattle.full_pass.specs.declared.settled.Settled.TheVariants.{Kept, Group, Open}
+use Rattle.full_pass.specs.declared.joins.Detail.{Detail}
+use Rattle.full_pass.specs.declared.joins.Detail.TheVariants.{Counts as DetailCounts, Runs as DetailRuns}
 use Rattle.full_pass.specs.Answer.{IsFullNode}
 use Rattle.full_pass.specs.Entries.{is_full, hits, far, up, first, next, chained, chain_at, AreReady}
 
@@ -134,32 +136,37 @@ abbrev pub Chains : Layout → (ℕ → Bool) → (ℕ → ℕ) → (ℕ → ℕ
 Chains f l h first next =
     (p k : ℕ) → shape_at f p ≡ Some P → occurs (chained (h p) next (first p)) k ≡ cond (l k) (occurs (children_at f p) k) 0
 
--- the entries fit the nodes, and the runs and the chains hang together
-pub record AreLinked (f : Layout) (w : Entries) : Type 0 where
+-- the runs of a pass that keeps them hang together
+abbrev pub AreRunsKept : Layout → Entries → Detail → Type 0
+AreRunsKept f w DetailCounts = Unit {0}
+AreRunsKept f w DetailRuns = Runs f (is_full w) (far w) (up w)
+
+-- the entries fit the nodes, and the chains hang together, and so do the runs where the pass keeps them
+pub record AreLinked (f : Layout) (w : Entries) (detail : Detail) : Type 0 where
   pub ready : AreReady w (length f.slots)
-  pub runs : Runs f (is_full w) (far w) (up w)
+  pub runs : AreRunsKept f w detail
   pub chains : Chains f (is_full w) (hits w) (first w) (next w)
 
 -- x is full and waits
-pub record CanJoin (f : Layout) (w : Entries) (x : ℕ) : Type 0 where
+pub record CanJoin (f : Layout) (w : Entries) (detail : Detail) (x : ℕ) : Type 0 where
   pub one : IsOneTree f
-  pub linked : AreLinked f w
+  pub linked : AreLinked f w detail
   pub row : List ℕ
   pub waiting : List ℕ
   pub n : ℕ
   pub pass : Pass f row (is_full w) (hits w) (x ∷ waiting) n
 
 -- x is full and waits, and open_count counts the parts
-pub record CanRise (f : Layout) (w : Entries) (x open_count : ℕ) : Type 0 where
+pub record CanRise (f : Layout) (w : Entries) (detail : Detail) (x open_count : ℕ) : Type 0 where
   pub one : IsOneTree f
-  pub linked : AreLinked f w
+  pub linked : AreLinked f w detail
   pub row : List ℕ
   pub waiting : List ℕ
   pub pass : Pass f row (is_full w) (hits w) (x ∷ waiting) open_count
 
 -- what the loop over the row keeps
-pub record Going (f : Layout) (row : List ℕ) (w : Entries) (waiting : List ℕ) (open_count : ℕ) (last : Settled) : Type 0 where
-  pub linked : AreLinked f w
+pub record Going (f : Layout) (row : List ℕ) (w : Entries) (detail : Detail) (waiting : List ℕ) (open_count : ℕ) (last : Settled) : Type 0 where
+  pub linked : AreLinked f w detail
   pub pass : Pass f row (is_full w) (hits w) waiting open_count
   pub answer : IsLast f row (is_full w) (hits w) waiting open_count last
 

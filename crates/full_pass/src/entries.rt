@@ -2,17 +2,15 @@
 ghost use Rattle.std.specs.Prelude.{◌≡◌, ◌≢◌, ℕ, ◌+◌, ◌≤◌, ◌<◌, length, take, true, false, IfOk};
 ghost use Rattle.column_order.specs.Orders.{occurs};
 ghost use Rattle.pq_arena.specs.RowNodes.{indices};
-ghost use Rattle.full_pass.specs.Entries.{entry, is_full, mark_of, hits, far, up, first, next, end_at, both, chain_at, AreReady};
+ghost use Rattle.full_pass.specs.Entries.{label, entry, is_full, mark_of, hits, far, up, first, next, end_at, both, chain_at, AreReady};
 
 use pq_arena::NodeId;
 use row_model::NoMemory;
 use std::alloc::Global;
 
-// What a pass holds of one node. The node is labelled full where `label` is the stamp of the pass, and `hits` and
-// `first` are of this pass where `seen` is.
+// What a pass holds of one node besides its label: `hits` and `first` are of this pass where `seen` is its stamp.
 #[derive(Clone, Copy)]
 pub struct Entry {
-    pub label: u32,
     pub seen: u32,
     // How many children of the node, which is a P-node, are labelled, and the one that was labelled last.
     pub hits: u32,
@@ -32,20 +30,21 @@ pub struct Side {
     pub end: NodeId,
 }
 
-// An entry for each node, and the stamp of the pass.
+// A label and an entry for each node, and the stamp of the pass. A node is labelled full where its label is the stamp.
 #[derive(Drop)]
 pub struct Entries {
+    pub labels: Vec<u32>,
     pub entries: Vec<Entry>,
     pub stamp: u32,
+    // Whether both end children of some Q-node showed it in a pass that counts.
+    pub may_fill: bool,
 }
 
 // An entry of no pass.
 fn blank_entry() -> Entry
-    ensures label { result.label ≡ 0 }
-    ensures seen { result.seen ≡ 0 }
+    ensures { result.seen ≡ 0 }
 {
     Entry {
-        label: 0,
         seen: 0,
         hits: 0,
         first: NodeId::default(),
@@ -61,8 +60,10 @@ impl Entries {
         ensures { IfOk result (λ w. AreReady w nodes) }
     {
         Ok(Entries {
+            labels: vec![in alloc; 0; nodes]?,
             entries: vec![in alloc; blank_entry(); nodes]?,
             stamp: 1,
+            may_fill: false,
         })
     }
 
@@ -73,28 +74,53 @@ impl Entries {
         ensures full { (x : ℕ) → is_full self.new x ≡ false }
         ensures hits { (x : ℕ) → hits self.new x ≡ 0 }
     {
+        self.may_fill = false;
         if self.stamp == u32::MAX {
-            self.clear();
+            self.clear_labels();
+            self.clear_entries();
             self.stamp = 1;
         } else {
             self.stamp += 1;
         }
     }
 
+    // Each label is 0.
+    fn clear_labels(&mut self)
+        ensures length { length self.new.labels.items ≡ length self.old.labels.items }
+        ensures label { (x : ℕ) → label self.new x ≡ 0 }
+        ensures entries { self.new.entries ≡ self.old.entries }
+    {
+        for label in self.labels.iter_mut() {
+            *label = 0;
+        }
+    }
+
     // Each stamp of the entries is 0.
-    fn clear(&mut self)
+    fn clear_entries(&mut self)
         ensures length { length self.new.entries.items ≡ length self.old.entries.items }
-        ensures label { (x : ℕ) → (entry self.new x).label ≡ 0 }
         ensures seen { (x : ℕ) → (entry self.new x).seen ≡ 0 }
+        ensures labels { self.new.labels ≡ self.old.labels }
     {
         for entry in self.entries.iter_mut() {
             *entry = blank_entry();
         }
     }
 
+    // 1 where the neighbour is labelled, else 0.
+    pub fn mark_at(&self, near: Option<NodeId>) -> usize
+        requires { 1 ≤ self.now.stamp }
+        ensures mark { result ≡ mark_of self.now near }
+        ensures small { result ≤ 1 }
+    {
+        match near {
+            None => 0,
+            Some(n) => { if self.is_full(n) { 1 } else { 0 } }
+        }
+    }
+
     // What the run of `x` has on the side of this neighbour.
     pub fn beside(&self, near: Option<NodeId>, x: NodeId) -> Side
-        requires { 1 ≤ self.now.stamp }
+        requires { AreReady self.now (length self.now.entries.items) }
         ensures mark { result.mark ≡ mark_of self.now near }
         ensures small { result.mark ≤ 1 }
         ensures end { result.end.index ≡ end_at self.now near x.index }
@@ -120,12 +146,12 @@ impl Entries {
         ensures { result ≡ is_full self.now x.index }
     {
         let at = x.index() as usize;
-        at < self.entries.len() && self.entries[at].label == self.stamp
+        at < self.labels.len() && self.labels[at] == self.stamp
     }
 
     // The other end of the run that the labelled node `n` is an end of.
     fn far_of(&self, n: NodeId) -> NodeId
-        requires some { 1 ≤ self.now.stamp }
+        requires ready { AreReady self.now (length self.now.entries.items) }
         requires full { is_full self.now n.index ≡ true }
         ensures { result.index ≡ far self.now n.index }
     {
@@ -182,23 +208,70 @@ impl Entries {
         }
     }
 
-    // `x` is labelled, and showed this node above it.
-    pub fn fill(&mut self, x: NodeId, above: Option<NodeId>)
-        requires { x.index < length self.old.entries.items }
+    // `x` is labelled.
+    pub fn fill(&mut self, x: NodeId)
+        requires { x.index < length self.old.labels.items }
         ensures ready { (n : ℕ) → AreReady self.old n → AreReady self.new n }
         ensures here { is_full self.new x.index ≡ true }
         ensures others { (y : ℕ) → y ≢ x.index → is_full self.new y ≡ is_full self.old y }
+        ensures far { (y : ℕ) → far self.new y ≡ far self.old y }
+        ensures hits { (y : ℕ) → hits self.new y ≡ hits self.old y }
+        ensures first { (y : ℕ) → first self.new y ≡ first self.old y }
+        ensures next { (y : ℕ) → next self.new y ≡ next self.old y }
+        ensures up { (y : ℕ) → up self.new y ≡ up self.old y }
+    {
+        self.labels[x.index() as usize] = self.stamp;
+    }
+
+    // `x` showed this node above it.
+    pub fn note(&mut self, x: NodeId, above: Option<NodeId>)
+        requires { x.index < length self.old.entries.items }
+        ensures ready { (n : ℕ) → AreReady self.old n → AreReady self.new n }
         ensures up { up self.new x.index ≡ above }
         ensures ups { (y : ℕ) → y ≢ x.index → up self.new y ≡ up self.old y }
+        ensures full { (y : ℕ) → is_full self.new y ≡ is_full self.old y }
         ensures far { (y : ℕ) → far self.new y ≡ far self.old y }
         ensures hits { (y : ℕ) → hits self.new y ≡ hits self.old y }
         ensures first { (y : ℕ) → first self.new y ≡ first self.old y }
         ensures next { (y : ℕ) → next self.new y ≡ next self.old y }
     {
-        let stamp = self.stamp;
         let entry = &mut self.entries[x.index() as usize];
-        entry.label = stamp;
         entry.up = above;
+    }
+
+    // A child of a Q-node showed that node above it, or none.
+    pub fn show(&mut self, above: Option<NodeId>)
+        ensures ready { (n : ℕ) → AreReady self.old n → AreReady self.new n }
+        ensures full { (y : ℕ) → is_full self.new y ≡ is_full self.old y }
+        ensures hits { (y : ℕ) → hits self.new y ≡ hits self.old y }
+        ensures first { (y : ℕ) → first self.new y ≡ first self.old y }
+        ensures next { (y : ℕ) → next self.new y ≡ next self.old y }
+    {
+        if let Some(q) = above {
+            let at = q.index() as usize;
+            if at < self.entries.len() {
+                self.see(at);
+            }
+        }
+    }
+
+    // The Q-node at this place is seen, for the first time in this pass or again.
+    fn see(&mut self, at: usize)
+        requires { at < length self.old.entries.items }
+        ensures ready { (n : ℕ) → AreReady self.old n → AreReady self.new n }
+        ensures full { (y : ℕ) → is_full self.new y ≡ is_full self.old y }
+        ensures hits { (y : ℕ) → hits self.new y ≡ hits self.old y }
+        ensures first { (y : ℕ) → first self.new y ≡ first self.old y }
+        ensures next { (y : ℕ) → next self.new y ≡ next self.old y }
+    {
+        if self.entries[at].seen == self.stamp {
+            self.may_fill = true;
+            return;
+        }
+        let stamp = self.stamp;
+        let entry = &mut self.entries[at];
+        entry.seen = stamp;
+        entry.hits = 0;
     }
 
     // How many children of the P-node `p` are labelled.

@@ -9,6 +9,7 @@
 
 mod entries;
 mod joins;
+mod pace;
 mod settled;
 mod work;
 

@@ -9,7 +9,7 @@ use Rattle.full_pass.proofs.settled.run.Goals as goal
 pub loop-column-init : goal.loop-column-init
 loop-column-init g c = record {
   going = record {
-    linked = none_linked c.args.arena.now c.begin.new.self (c.begin.ensures.ready (length c.args.arena.now.slots) c.requires.ready) c.begin.ensures.full c.begin.ensures.hits;
+    linked = none_linked c.args.arena.now c.begin.new.self c.args.detail (c.begin.ensures.ready (length c.args.arena.now.slots) c.requires.ready) c.begin.ensures.full c.begin.ensures.hits;
     pass = subst (λ z. Pass c.args.arena.now (column_leaves c.args.row.now) (is_full c.begin.new.self) (hits c.begin.new.self) (column_leaves c.args.row.now) z)
         (leaves_length c.args.row.now)
         (start c.args.arena.now (column_leaves c.args.row.now) (is_full c.begin.new.self) (hits c.begin.new.self) c.layout_law.ensures
