@@ -1,4 +1,4 @@
-use Rattle.std.proofs.Common.{◌≡◌, ◌≢◌, List, [], length, sym, subst, rules, arith}
+use Rattle.std.proofs.Common.{◌≡◌, ◌≢◌, List, [], length, sym, subst, rules}
 use Rattle.pq_arena.specs.RowNodes.{indices, column_leaves}
 use Rattle.full_pass.specs.Answer.{IsGroup}
 use Rattle.pq_arena.specs.declared.node.NodeId.{NodeId}
