@@ -1,4 +1,4 @@
-// The labelling of one full node.
+// The labelling of one full node in a pass that keeps runs.
 ghost use Rattle.std.specs.Prelude.{◌≡◌, ℕ, ◌+◌, ◌*◌, ◌≤◌, List, ◌∷◌};
 ghost use Rattle.full_pass.specs.Entries.{is_full, hits};
 ghost use Rattle.full_pass.specs.Passing.{run_as, place_shown, judged_as, AreLinked, Pass, CanJoin, IsJoined, CanRise, IsRisen};
@@ -7,15 +7,6 @@ use crate::entries::Entries;
 use crate::settled::Settled;
 use pq_arena::{Arena, NodeId};
 use step_count::{Ledger, Steps};
-
-// What a pass keeps besides the labels.
-#[derive(Clone, Copy)]
-pub enum Detail {
-    // Numbers of labelled children of P-nodes. Such a pass is quick, and does not see that a Q-node is full.
-    Counts,
-    // The ends of runs of labelled children of Q-nodes too, by which it sees that.
-    Runs,
-}
 
 // Where a node stands.
 #[derive(Clone, Copy)]
@@ -46,7 +37,7 @@ pub enum Joined {
 }
 
 // Where a node stands that shows this parent and these neighbours.
-fn place_of(parent: Option<NodeId>, a: Option<NodeId>, b: Option<NodeId>) -> Place
+pub fn place_of(parent: Option<NodeId>, a: Option<NodeId>, b: Option<NodeId>) -> Place
     ensures { result ≡ place_shown parent a b }
 {
     match parent {
@@ -93,19 +84,13 @@ fn judged(p: NodeId, hits: u32, children: u32) -> Joined
     }
 }
 
-// Labels the full node `x`, and keeps so much of it.
-fn join<L: Ledger>(
-    arena: &Arena,
-    entries: &mut Entries,
-    detail: Detail,
-    x: NodeId,
-    steps: &mut Steps<L>,
-) -> Joined
-    requires { CanJoin arena.now entries.old detail x.index }
+// Labels the full node `x`.
+fn join<L: Ledger>(arena: &Arena, entries: &mut Entries, x: NodeId, steps: &mut Steps<L>) -> Joined
+    requires { CanJoin arena.now entries.old x.index }
     ensures joined { (row waiting : List ℕ) (n : ℕ) →
         Pass arena.now row (is_full entries.old) (hits entries.old) (x.index ∷ waiting) n →
         IsJoined arena.now row (is_full entries.new) (hits entries.new) waiting n result }
-    ensures linked { AreLinked arena.now entries.new detail }
+    ensures linked { AreLinked arena.now entries.new }
     ensures ticks { steps.new ≤ steps.old + 2 }
 {
     arena.layout_law();
@@ -114,23 +99,15 @@ fn join<L: Ledger>(
     let near1 = view.near[1];
     match place_of(view.parent, near0, near1) {
         Place::Top => Joined::Top,
-        Place::Run => match detail {
-            Detail::Counts => {
-                let pairs = entries.mark_at(near0) + entries.mark_at(near1);
-                entries.fill(x);
-                entries.show(view.parent);
-                Joined::Run(pairs)
-            }
-            Detail::Runs => {
-                let a = entries.beside(near0, x);
-                let b = entries.beside(near1, x);
-                entries.fill(x);
-                entries.note(x, view.parent);
-                entries.link(a.end, b.end);
-                let above = entries.above(a.end, b.end);
-                run_judged(a.mark + b.mark, above)
-            }
-        },
+        Place::Run => {
+            let a = entries.beside(near0, x);
+            let b = entries.beside(near1, x);
+            entries.fill(x);
+            entries.note(x, view.parent);
+            entries.link(a.end, b.end);
+            let above = entries.above(a.end, b.end);
+            run_judged(a.mark + b.mark, above)
+        }
         Place::Ring(p) => {
             let children = arena.look(p, steps).children;
             entries.fill(x);
@@ -145,21 +122,20 @@ fn join<L: Ledger>(
 pub fn rise<L: Ledger>(
     arena: &Arena,
     entries: &mut Entries,
-    detail: Detail,
     x: NodeId,
     parts: &mut usize,
     steps: &mut Steps<L>,
 ) -> Option<Settled>
-    requires { CanRise arena.now entries.old detail x.index parts.old }
+    requires { CanRise arena.now entries.old x.index parts.old }
     ensures risen { (row waiting : List ℕ) →
         Pass arena.now row (is_full entries.old) (hits entries.old) (x.index ∷ waiting) parts.old →
         IsRisen arena.now row (is_full entries.new) (hits entries.new) waiting parts.new result }
-    ensures linked { AreLinked arena.now entries.new detail }
+    ensures linked { AreLinked arena.now entries.new }
     ensures ticks { steps.new + 2 * parts.new ≤ steps.old + 2 * parts.old + 2 }
 {
     let mut x = x;
     loop {
-        match join(arena, entries, detail, x, steps) {
+        match join(arena, entries, x, steps) {
             Joined::Top => return None,
             Joined::Run(pairs) => {
                 *parts -= pairs;

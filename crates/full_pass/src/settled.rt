@@ -10,8 +10,9 @@ ghost use Rattle.full_pass.specs.Answer.{IsSettled};
 ghost use Rattle.full_pass.specs.Entries.{AreReady};
 ghost use Rattle.full_pass.specs.Passing.{members_of};
 
+use crate::count::count;
 use crate::entries::Entries;
-use crate::joins::{Detail, rise};
+use crate::joins::rise;
 use crate::pace::Pace;
 use crate::work::FullWork;
 use pq_arena::{Arena, NodeId};
@@ -68,22 +69,30 @@ pub fn run_both<L: Ledger>(
     ensures settled { IsSettled arena.now (column_leaves row.now) (members_of entries.new result) result }
     ensures ticks { steps.new ≤ steps.old + 8 * length row.now }
 {
-    let counted = run(arena, row, entries, Detail::Counts, steps);
-    let is_open = matches!(counted, Settled::Open);
-    if !is_open || !entries.may_fill || !pace.is_next() {
-        return counted;
+    entries.begin();
+    let stamp = entries.stamp;
+    let counted = count(
+        arena,
+        row,
+        &mut entries.labels,
+        &mut entries.tallies,
+        stamp,
+        steps,
+    );
+    let is_open = matches!(counted.settled, Settled::Open);
+    if !is_open || !counted.may_fill || !pace.is_next() {
+        return counted.settled;
     }
-    let settled = run(arena, row, entries, Detail::Runs, steps);
+    let settled = run(arena, row, entries, steps);
     pace.note(settled);
     settled
 }
 
-// The pass over the row with these columns that keeps so much.
+// The pass over the row with these columns that keeps runs.
 fn run<L: Ledger>(
     arena: &Arena,
     row: &[u32],
     entries: &mut Entries,
-    detail: Detail,
     steps: &mut Steps<L>,
 ) -> Settled
     requires tree { IsOneTree arena.now }
@@ -98,14 +107,7 @@ fn run<L: Ledger>(
     let mut parts = row.len();
     let mut last = Settled::Open;
     for column in row {
-        match rise(
-            arena,
-            entries,
-            detail,
-            arena.leaf(*column),
-            &mut parts,
-            steps,
-        ) {
+        match rise(arena, entries, arena.leaf(*column), &mut parts, steps) {
             Some(settled) => last = settled,
             None => return Settled::Kept,
         }

@@ -61,7 +61,7 @@ impl FullWork {
         requires { columns ≤ COLUMN_BOUND }
         ensures { IsTrue result ↔ (self.now.size ≡ 2 * columns + 4) }
     {
-        self.entries.entries.len() == 2 * columns as usize + 4
+        self.entries.tallies.len() == 2 * columns as usize + 4
     }
 
     /// After [`Settled::Group`] the full children of its node, each once, in no stated order.

@@ -5,7 +5,7 @@ use Rattle.full_pass.proofs.joins.rise.Given as goal
 
 abbrev pub invariant-loop-pairs : goal.invariant-loop-pairs
 invariant-loop-pairs g l = record {
-  linked : AreLinked l.arena l.entries l.fn.detail;
+  linked : AreLinked l.arena l.entries;
   pass : (row waiting : List ℕ) → Pass l.arena row (is_full l.fn.entries) (hits l.fn.entries) (l.fn.x.index ∷ waiting) l.fn.parts →
       Pass l.arena row (is_full l.entries) (hits l.entries) (l.x.index ∷ waiting) l.parts;
   ticks : l.steps + 2 * l.parts ≤ l.fn.steps + 2 * l.fn.parts;
