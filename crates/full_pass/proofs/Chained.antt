@@ -6,7 +6,7 @@ use Rattle.arena_model.specs.declared.Shape.TheVariants.{P, Q}
 use Rattle.arena_model.specs.Layout.{Layout, shape_at, children_at, times_child, IsLayout}
 use Rattle.arena_model.proofs.Lists.{occurs_here, occurs_same, occurs_other}
 use Rattle.arena_model.proofs.Slots.{children_times, some_inj}
-use Rattle.full_pass.specs.Entries.{chained}
+use Rattle.full_pass.specs.Tallies.{chained}
 use Rattle.full_pass.specs.Passing.{Chains}
 use Rattle.full_pass.proofs.Marks.{OneMore}
 use Rattle.full_pass.proofs.Steps.{no_child}

@@ -10,9 +10,11 @@ use Rattle.full_pass.specs.declared.settled.Settled.TheVariants.{Group, Kept, Op
 use Rattle.pq_arena.specs.RowNodes.{column_leaves}
 use Rattle.arena_model.specs.RowLeaves.{IsLeafAt}
 use Rattle.full_pass.specs.Answer.{AreLeaves, IsFullNode, IsRowKept, IsSettled, one_node}
-use Rattle.full_pass.specs.Passing.{AreLinked, Chains, IsLast, IsRisen, Pass, Runs, marks, members_of, runs, total}
+use Rattle.full_pass.specs.Passing.{AreCounted, AreLinked, Chains, IsLast, IsRisen, Pass, Runs, marks, members_in, runs, total}
+use Rattle.full_pass.specs.declared.tallies.Tally.{Tally}
+use Rattle.full_pass.specs.Tallies.{AreStamped, first_in, full_in, hits_in, next_in}
 use Rattle.full_pass.specs.declared.entries.Entries.{Entries}
-use Rattle.full_pass.specs.Entries.{AreReady, chain_at, far, first, hits, is_full, next, up}
+use Rattle.full_pass.specs.Entries.{AreReady, far, first, hits, is_full, next, up}
 use Rattle.full_pass.proofs.Chained.{chained_length, no_chains}
 use Rattle.full_pass.proofs.Columns.{leaf_index, next_leaf}
 use Rattle.full_pass.proofs.Sums.{total_zero}
@@ -69,17 +71,17 @@ risen_pass f row l h waiting n Kept r = r.0.0
 risen_pass f row l h waiting n (Group p) r = r.0.0
 risen_pass f row l h waiting n Open r = absurd (r.1 refl)
 
-pub settled : (f : Layout) (row : List ℕ) (w : Entries) (n : ℕ) (s : Settled) → IsLayout f → AreLeaves f row → n ≤ 1 →
-    Chains f (is_full w) (hits w) (first w) (next w) → IsLast f row (is_full w) (hits w) [] n s → IsSettled f row (members_of w s) s
-settled f row w n Kept layout r le chains last = elim last.1 [
-  | inl run ↦ end_run f row (is_full w) (hits w) n layout r last.0 le run
-  | inr one ↦ end_first f row (is_full w) (hits w) n layout r last.0 le one
+pub settled : (f : Layout) (row : List ℕ) (l : ℕ → Bool) (tallies : List Tally) (stamp n : ℕ) (s : Settled) → IsLayout f → AreLeaves f row → n ≤ 1 →
+    Chains f l (hits_in tallies stamp) (first_in tallies) (next_in tallies) → IsLast f row l (hits_in tallies stamp) [] n s → IsSettled f row (members_in tallies stamp s) s
+settled f row l tallies stamp n Kept layout r le chains last = elim last.1 [
+  | inl run ↦ end_run f row l (hits_in tallies stamp) n layout r last.0 le run
+  | inr one ↦ end_first f row l (hits_in tallies stamp) n layout r last.0 le one
 ]
-settled f row w n (Group p) layout r le chains last =
-    end_more f row (is_full w) (hits w) n p.index (chain_at w p.index) layout r last.0 le last.1
-    (chained_length (hits w p.index) (next w) (first w p.index))
+settled f row l tallies stamp n (Group p) layout r le chains last =
+    end_more f row l (hits_in tallies stamp) n p.index (members_in tallies stamp (Group p)) layout r last.0 le last.1
+    (chained_length (hits_in tallies stamp p.index) (next_in tallies) (first_in tallies p.index))
     (λ k. chains p.index k last.1.ring.is_p)
-settled f row w n Open layout r le chains last = tt
+settled f row l tallies stamp n Open layout r le chains last = tt
 
 -- where the root is full all leaves are in the row
 pub root_kept : (f : Layout) (row : List ℕ) → AreLeaves f row → IsFullNode f row f.root → IsRowKept f row
@@ -111,8 +113,16 @@ pub risen_last : (f : Layout) (row : List ℕ) (l : ℕ → Bool) (h : ℕ → �
 risen_last f row l h waiting n s r = r.0
 
 -- the next leaf of the row waits in front
-pub next_waits : (f : Layout) (row : List ℕ) (w : Entries) (i n x : ℕ) → IsLayout f → shape_at f x ≡ Some (Leaf (get_or row i 0)) → i < length row →
-    Pass f (column_leaves row) (is_full w) (hits w) (column_leaves (drop i row)) n → Pass f (column_leaves row) (is_full w) (hits w) (x ∷ column_leaves (drop (i + 1) row)) n
-next_waits f row w i n x layout sh lt pass =
-    subst (λ z. Pass f (column_leaves row) (is_full w) (hits w) (z ∷ column_leaves (drop (i + 1) row)) n) (sym (leaf_index f x (get_or row i 0) layout sh))
-    (subst (λ z. Pass f (column_leaves row) (is_full w) (hits w) z n) (next_leaf row i lt) pass)
+pub next_waits : (f : Layout) (row : List ℕ) (l : ℕ → Bool) (h : ℕ → ℕ) (i n x : ℕ) → IsLayout f → shape_at f x ≡ Some (Leaf (get_or row i 0)) → i < length row →
+    Pass f (column_leaves row) l h (column_leaves (drop i row)) n → Pass f (column_leaves row) l h (x ∷ column_leaves (drop (i + 1) row)) n
+next_waits f row l h i n x layout sh lt pass =
+    subst (λ z. Pass f (column_leaves row) l h (z ∷ column_leaves (drop (i + 1) row)) n) (sym (leaf_index f x (get_or row i 0) layout sh))
+    (subst (λ z. Pass f (column_leaves row) l h z n) (next_leaf row i lt) pass)
+
+-- the pass that counts begins
+pub none_counted : (f : Layout) (labels : List ℕ) (tallies : List Tally) (stamp : ℕ) → AreStamped labels tallies stamp (length f.slots) →
+    ((x : ℕ) → full_in labels stamp x ≡ false) → ((x : ℕ) → hits_in tallies stamp x ≡ 0) → AreCounted f labels tallies stamp
+none_counted f labels tallies stamp ready none_yet no_hits = record {
+  ready = ready;
+  chains = no_chains f (full_in labels stamp) (hits_in tallies stamp) (first_in tallies) (next_in tallies) none_yet no_hits;
+}

@@ -11,10 +11,12 @@ use Rattle.arena_model.proofs.Slots.{children_times, in_range, some_none, used_b
 use Rattle.arena_model.proofs.Lists.{occurs_here}
 use Rattle.full_pass.specs.declared.entries.Entries.{Entries}
 use Rattle.full_pass.specs.declared.joins.Joined.{Joined}
-use Rattle.full_pass.specs.declared.joins.Joined.TheVariants.{Run, Wide}
+use Rattle.full_pass.specs.declared.count.Added.TheVariants.{First as AddedFirst, More as AddedMore, Whole as AddedWhole}
+use Rattle.full_pass.specs.declared.joins.Joined.TheVariants.{First, More, Run, Whole, Wide}
 use Rattle.full_pass.specs.declared.joins.Place.TheVariants.{Ring as PlaceRing, Run as PlaceRun, Top as PlaceTop}
-use Rattle.full_pass.specs.Passing.{AreLinked, CanJoin, Chains, InRun, IsJoined, Pass, Runs, judged_as, marks, place_shown, run_as}
+use Rattle.full_pass.specs.Passing.{AreLinked, CanJoin, Chains, InRun, IsJoined, Pass, Runs, added_as, as_joined, judged_as, marks, place_shown, run_as}
 use Rattle.full_pass.specs.Entries.{AreReady, both, end_at, far, first, is_full, hits, mark_of, next, up}
+use Rattle.full_pass.specs.Tallies.{mark_in}
 use Rattle.full_pass.specs.Answer.{IsFullNode}
 use Rattle.arena_model.specs.NamedTree.{IsOneTree}
 use Rattle.arena_model.proofs.Paths.{top_alone}
@@ -43,22 +45,26 @@ end_named w y x e = elim (cases_eq y none) [
   | inr ne ↦ ap (λ z. end_at w z x) (named_some y ne)
 ]
 
--- what the labelling of a child of a Q-node did
-pub record FilledRun (f : Layout) (w w' : Entries) (x a b : ℕ) (view : NodeView) : Type 0 where
+-- what the labelling of a child of a Q-node did to the labels l and the numbers h
+pub record CountedRun (f : Layout) (l l' : ℕ → Bool) (h h' : ℕ → ℕ) (x : ℕ) (view : NodeView) : Type 0 where
   pub layout : IsLayout f
   pub shows : ShowsNode f x view
   pub at : PlaceRun ≡ place_shown view.parent (side view 0) (side view 1)
-  pub runs : Runs f (is_full w) (far w) (up w)
+  pub fresh : l x ≡ false
+  pub ends_none : l none ≡ false
+  pub now : l' x ≡ true
+  pub others : (y : ℕ) → y ≢ x → l' y ≡ l y
+  pub same : (y : ℕ) → h' y ≡ h y
+
+-- and to the runs
+pub record FilledRun (f : Layout) (w w' : Entries) (x a b : ℕ) (view : NodeView) : Type 0 where
+  pub counted : CountedRun f (is_full w) (is_full w') (hits w) (hits w') x view
   pub chains : Chains f (is_full w) (hits w) (first w) (next w)
-  pub fresh : is_full w x ≡ false
-  pub ends_none : is_full w none ≡ false
-  pub a_is : a ≡ end_at w (side view 0) x
-  pub b_is : b ≡ end_at w (side view 1) x
-  pub now : is_full w' x ≡ true
-  pub others : (y : ℕ) → y ≢ x → is_full w' y ≡ is_full w y
-  pub same : (y : ℕ) → hits w' y ≡ hits w y
   pub firsts : (y : ℕ) → first w' y ≡ first w y
   pub nexts : (y : ℕ) → next w' y ≡ next w y
+  pub runs : Runs f (is_full w) (far w) (up w)
+  pub a_is : a ≡ end_at w (side view 0) x
+  pub b_is : b ≡ end_at w (side view 1) x
   pub up_now : up w' x ≡ view.parent
   pub ups : (y : ℕ) → y ≢ x → up w' y ≡ up w y
   pub tied : Tied (far w) (far w') a b
@@ -73,63 +79,79 @@ pub record Side (f : Layout) (w w' : Entries) (x a b q : ℕ) (us vs : List ℕ)
 pub joined_side : (f : Layout) (w w' : Entries) (x a b : ℕ) (view : NodeView) → FilledRun f w w' x a b view →
     (r : Running f x (side view 0) (side view 1)) → Side f w w' x a b r.q r.us r.vs ⊎ Side f w w' x b a r.q r.us r.vs
 joined_side f w w' x a b view d r =
-    let spot : Spot f x r.q r.us r.vs = record { layout = d.layout; sh = r.sh; is = r.is } in
-    let more : OneMore (is_full w) (is_full w') x = record { before = d.fresh; after = d.now; others = d.others } in
+    let spot : Spot f x r.q r.us r.vs = record { layout = d.counted.layout; sh = r.sh; is = r.is } in
+    let more : OneMore (is_full w) (is_full w') x = record { before = d.counted.fresh; after = d.counted.now; others = d.counted.others } in
     elim r.near [
       | inl e ↦ inl (record {
         spot = spot;
         more = more;
-        left = d.a_is ∙ ap (λ z. end_at w z x) e.0 ∙ end_named w (last_or r.us none) x d.ends_none;
-        right = d.b_is ∙ ap (λ z. end_at w z x) e.1 ∙ end_named w (head_or r.vs none) x d.ends_none;
+        left = d.a_is ∙ ap (λ z. end_at w z x) e.0 ∙ end_named w (last_or r.us none) x d.counted.ends_none;
+        right = d.b_is ∙ ap (λ z. end_at w z x) e.1 ∙ end_named w (head_or r.vs none) x d.counted.ends_none;
       })
       | inr e ↦ inr (record {
         spot = spot;
         more = more;
-        left = d.b_is ∙ ap (λ z. end_at w z x) e.1 ∙ end_named w (last_or r.us none) x d.ends_none;
-        right = d.a_is ∙ ap (λ z. end_at w z x) e.0 ∙ end_named w (head_or r.vs none) x d.ends_none;
+        left = d.b_is ∙ ap (λ z. end_at w z x) e.1 ∙ end_named w (last_or r.us none) x d.counted.ends_none;
+        right = d.a_is ∙ ap (λ z. end_at w z x) e.0 ∙ end_named w (head_or r.vs none) x d.counted.ends_none;
       })
     ]
 
 up_shown : (f : Layout) (w w' : Entries) (x a b : ℕ) (view : NodeView) → FilledRun f w w' x a b view →
     (m : ℕ) (ps ws : List ℕ) → shape_at f m ≡ Some Q → children_at f m ≡ ps ++ x ∷ ws → up w' x ≡ node_named (end_parent m (last_or ps none) (head_or ws none))
-up_shown f w w' x a b view d m ps ws sh is = d.up_now ∙ (d.shows.run m ps ws sh is).0
+up_shown f w w' x a b view d m ps ws sh is = d.up_now ∙ (d.counted.shows.run m ps ws sh is).0
 
 pub joined_runs : (f : Layout) (w w' : Entries) (x a b : ℕ) (view : NodeView) → FilledRun f w w' x a b view → Runs f (is_full w') (far w') (up w')
-joined_runs f w w' x a b view d = let r : Running f x (side view 0) (side view 1) = runs_at f x view d.layout d.shows d.at in
+joined_runs f w w' x a b view d = let r : Running f x (side view 0) (side view 1) = runs_at f x view d.counted.layout d.counted.shows d.counted.at in
     elim (joined_side f w w' x a b view d r) [
-      | inl s ↦ runs_linked f (is_full w) (is_full w') (far w) (far w') (up w) (up w') x r.q a b r.us r.vs s.spot s.more d.ends_none d.runs s.left s.right d.tied d.ups
+      | inl s ↦ runs_linked f (is_full w) (is_full w') (far w) (far w') (up w) (up w') x r.q a b r.us r.vs s.spot s.more d.counted.ends_none d.runs s.left s.right d.tied d.ups
           (up_shown f w w' x a b view d)
-      | inr s ↦ runs_linked f (is_full w) (is_full w') (far w) (far w') (up w) (up w') x r.q b a r.us r.vs s.spot s.more d.ends_none d.runs s.left s.right
+      | inr s ↦ runs_linked f (is_full w) (is_full w') (far w) (far w') (up w) (up w') x r.q b a r.us r.vs s.spot s.more d.counted.ends_none d.runs s.left s.right
           (tied_back (far w) (far w') a b d.tied) d.ups (up_shown f w w' x a b view d)
     ]
 
--- the runs and the chains hang together again
-pub joined_linked : (f : Layout) (w w' : Entries) (x a b : ℕ) (view : NodeView) → FilledRun f w w' x a b view → AreReady w' (length f.slots) → AreLinked f w'
-joined_linked f w w' x a b view d ready =
-    let r : Running f x (side view 0) (side view 1) = runs_at f x view d.layout d.shows d.at in
-    record {
-      ready = ready;
-      runs = joined_runs f w w' x a b view d;
-      chains = chains_run f (is_full w) (is_full w') (hits w) (hits w') (first w) (first w') (next w) (next w') x r.q d.layout r.sh
-          (subst (λ z. 1 ≤ occurs z x) (sym r.is) (omega (arith, occurs-append r.us (x ∷ r.vs) x, occurs_here x r.vs)))
-          (record { before = d.fresh; after = d.now; others = d.others }) d.chains d.same d.firsts d.nexts;
-    }
+child_of_run : (f : Layout) (x : ℕ) (a b : Option NodeId) → (r : Running f x a b) → 1 ≤ occurs (children_at f r.q) x
+child_of_run f x a b r = subst (λ z. 1 ≤ occurs z x) (sym r.is) (omega (arith, occurs-append r.us (x ∷ r.vs) x, occurs_here x r.vs))
 
-two_marks : (f : Layout) (w : Entries) (x k : ℕ) (view : NodeView) → is_full w none ≡ false → (r : Running f x (side view 0) (side view 1)) →
-    k ≡ mark_of w (side view 0) + mark_of w (side view 1) → bit (is_full w (last_or r.us none)) + bit (is_full w (head_or r.vs none)) ≡ k
-two_marks f w x k view ln r ke =
-    let last : ℕ = bit (is_full w (last_or r.us none)) in
-    let head : ℕ = bit (is_full w (head_or r.vs none)) in
+-- the chains hang together again
+pub counted_chains : (f : Layout) (l l' : ℕ → Bool) (h h' first first' next next' : ℕ → ℕ) (x : ℕ) (view : NodeView) → CountedRun f l l' h h' x view →
+    Chains f l h first next → ((y : ℕ) → first' y ≡ first y) → ((y : ℕ) → next' y ≡ next y) → Chains f l' h' first' next'
+counted_chains f l l' h h' first first' next next' x view d chains firsts nexts =
+    let r : Running f x (side view 0) (side view 1) = runs_at f x view d.layout d.shows d.at in
+    chains_run f l l' h h' first first' next next' x r.q d.layout r.sh (child_of_run f x (side view 0) (side view 1) r)
+    (record { before = d.fresh; after = d.now; others = d.others }) chains d.same firsts nexts
+
+-- so do the runs
+pub joined_linked : (f : Layout) (w w' : Entries) (x a b : ℕ) (view : NodeView) → FilledRun f w w' x a b view → AreReady w' (length f.slots) → AreLinked f w'
+joined_linked f w w' x a b view d ready = record {
+  ready = ready;
+  runs = joined_runs f w w' x a b view d;
+  chains = counted_chains f (is_full w) (is_full w') (hits w) (hits w') (first w) (first w') (next w) (next w') x view d.counted d.chains d.firsts d.nexts;
+}
+
+two_marks : (f : Layout) (l : ℕ → Bool) (x k : ℕ) (view : NodeView) → l none ≡ false → (r : Running f x (side view 0) (side view 1)) →
+    k ≡ mark_in l (side view 0) + mark_in l (side view 1) → bit (l (last_or r.us none)) + bit (l (head_or r.vs none)) ≡ k
+two_marks f l x k view ln r ke =
+    let last : ℕ = bit (l (last_or r.us none)) in
+    let head : ℕ = bit (l (head_or r.vs none)) in
     elim r.near [
       | inl e ↦
-          let a : mark_of w (side view 0) ≡ last = ap (mark_of w) e.0 ∙ mark_named w (last_or r.us none) ln in
-          let b : mark_of w (side view 1) ≡ head = ap (mark_of w) e.1 ∙ mark_named w (head_or r.vs none) ln in
+          let a : mark_in l (side view 0) ≡ last = ap (mark_in l) e.0 ∙ mark_named l (last_or r.us none) ln in
+          let b : mark_in l (side view 1) ≡ head = ap (mark_in l) e.1 ∙ mark_named l (head_or r.vs none) ln in
           omega arith
       | inr e ↦
-          let a : mark_of w (side view 0) ≡ head = ap (mark_of w) e.0 ∙ mark_named w (head_or r.vs none) ln in
-          let b : mark_of w (side view 1) ≡ last = ap (mark_of w) e.1 ∙ mark_named w (last_or r.us none) ln in
+          let a : mark_in l (side view 0) ≡ head = ap (mark_in l) e.0 ∙ mark_named l (head_or r.vs none) ln in
+          let b : mark_in l (side view 1) ≡ last = ap (mark_in l) e.1 ∙ mark_named l (last_or r.us none) ln in
           omega arith
     ]
+
+-- x was labelled beside so many
+pub counted_run : (f : Layout) (l l' : ℕ → Bool) (h h' : ℕ → ℕ) (x k : ℕ) (view : NodeView) → CountedRun f l l' h h' x view →
+    k ≡ mark_in l (side view 0) + mark_in l (side view 1) →
+    (row waiting : List ℕ) (n : ℕ) → Pass f row l h (x ∷ waiting) n → IsJoined f row l' h' waiting n (Run k)
+counted_run f l l' h h' x k view d ke row waiting n pass =
+    let r : Running f x (side view 0) (side view 1) = runs_at f x view d.layout d.shows d.at in
+    subst (λ z. (z ≤ n) × Pass f row l' h' waiting (n - z) × InRun f l' waiting) (two_marks f l x k view d.ends_none r ke)
+    (pass_run f row l l' h h' x r.q r.us r.vs waiting n d.layout r.sh r.is (record { before = d.fresh; after = d.now; others = d.others }) d.same pass)
 
 -- all children of q are labelled where both ends of the run of x showed a node above
 wide_at : (f : Layout) (w w' : Entries) (x k a b : ℕ) (p : NodeId) (view : NodeView) → (d : FilledRun f w w' x a b view) →
@@ -137,7 +159,7 @@ wide_at : (f : Layout) (w w' : Entries) (x k a b : ℕ) (p : NodeId) (view : Nod
     (r : Running f x (side view 0) (side view 1)) →
     (p.index ≡ r.q) × ((y : ℕ) → 1 ≤ occurs (children_at f r.q) y → is_full w' y ≡ true)
 wide_at f w w' x k a b p view d ke some e r =
-    let two : bit (is_full w (last_or r.us none)) + bit (is_full w (head_or r.vs none)) ≡ k = two_marks f w x k view d.ends_none r ke in
+    let two : bit (is_full w (last_or r.us none)) + bit (is_full w (head_or r.vs none)) ≡ k = two_marks f (is_full w) x k view d.counted.ends_none r ke in
     let some' : 1 ≤ bit (is_full w (last_or r.us none)) + bit (is_full w (head_or r.vs none)) = omega arith in
     let bo : Both (up w' a) (up w' b) p = both_are (up w' a) (up w' b) p e in
     let na : up w' a ≢ None = (λ n. some_none p (sym bo.a_is ∙ n)) in
@@ -146,14 +168,14 @@ wide_at f w w' x k a b p view d ke some e r =
     (λ m y ps ws sh is t. now.ups m y ps ws sh is t) in
     elim (joined_side f w w' x a b view d r) [
       | inl s ↦ (
-        child_shows f (is_full w') (far w') (up w') r.q a p d.layout r.sh now
-            (left_child f (is_full w) (is_full w') (far w) (up w) x r.q a r.us r.vs s.spot s.more d.ends_none d.runs s.left) bo.a_is,
-        all_labelled f (is_full w) (is_full w') (far w) (up w) (up w') x r.q a b r.us r.vs s.spot s.more d.ends_none d.runs s.left s.right ups na bo.b_is some',
+        child_shows f (is_full w') (far w') (up w') r.q a p d.counted.layout r.sh now
+            (left_child f (is_full w) (is_full w') (far w) (up w) x r.q a r.us r.vs s.spot s.more d.counted.ends_none d.runs s.left) bo.a_is,
+        all_labelled f (is_full w) (is_full w') (far w) (up w) (up w') x r.q a b r.us r.vs s.spot s.more d.counted.ends_none d.runs s.left s.right ups na bo.b_is some',
       )
       | inr s ↦ (
-        child_shows f (is_full w') (far w') (up w') r.q a p d.layout r.sh now
-            (right_child f (is_full w) (is_full w') (far w) (up w) x r.q a r.us r.vs s.spot s.more d.ends_none d.runs s.right) bo.a_is,
-        all_labelled f (is_full w) (is_full w') (far w) (up w) (up w') x r.q b a r.us r.vs s.spot s.more d.ends_none d.runs s.left s.right ups bo.b_is na some',
+        child_shows f (is_full w') (far w') (up w') r.q a p d.counted.layout r.sh now
+            (right_child f (is_full w) (is_full w') (far w) (up w) x r.q a r.us r.vs s.spot s.more d.counted.ends_none d.runs s.right) bo.a_is,
+        all_labelled f (is_full w) (is_full w') (far w) (up w) (up w') x r.q b a r.us r.vs s.spot s.more d.counted.ends_none d.runs s.left s.right ups bo.b_is na some',
       )
     ]
 
@@ -161,13 +183,10 @@ pub joined_run : (f : Layout) (w w' : Entries) (x k a b : ℕ) (view : NodeView)
     k ≡ mark_of w (side view 0) + mark_of w (side view 1) → result ≡ run_as k (both (up w' a) (up w' b)) →
     (row waiting : List ℕ) (n : ℕ) → Pass f row (is_full w) (hits w) (x ∷ waiting) n → IsJoined f row (is_full w') (hits w') waiting n result
 joined_run f w w' x k a b view result d ke re row waiting n pass =
-    let r : Running f x (side view 0) (side view 1) = runs_at f x view d.layout d.shows d.at in
-    let two : bit (is_full w (last_or r.us none)) + bit (is_full w (head_or r.vs none)) ≡ k = two_marks f w x k view d.ends_none r ke in
-    let done = subst (λ z. (z ≤ n) × Pass f row (is_full w') (hits w') waiting (n - z) × InRun f (is_full w') waiting) two
-    (pass_run f row (is_full w) (is_full w') (hits w) (hits w') x r.q r.us r.vs waiting n d.layout r.sh r.is
-    (record { before = d.fresh; after = d.now; others = d.others }) d.same pass) in
-    let o : 1 ≤ occurs (children_at f r.q) x = subst (λ z. 1 ≤ occurs z x) (sym r.is) (omega (arith, occurs-append r.us (x ∷ r.vs) x, occurs_here x r.vs)) in
-    let u = above f row (is_full w) (is_full w') (hits w) x r.q waiting n pass (record { before = d.fresh; after = d.now; others = d.others }) o in
+    let r : Running f x (side view 0) (side view 1) = runs_at f x view d.counted.layout d.counted.shows d.counted.at in
+    let done = counted_run f (is_full w) (is_full w') (hits w) (hits w') x k view d.counted ke row waiting n pass in
+    let o : 1 ≤ occurs (children_at f r.q) x = child_of_run f x (side view 0) (side view 1) r in
+    let u = above f row (is_full w) (is_full w') (hits w) x r.q waiting n pass (record { before = d.counted.fresh; after = d.counted.now; others = d.counted.others }) o in
     subst (λ z. IsJoined f row (is_full w') (hits w') waiting n z) (sym re) (by (both (up w' a) (up w' b)) refl r done o u.not_yet u.rest)
   where
     by : (m : Option NodeId) → both (up w' a) (up w' b) ≡ m → (r : Running f x (side view 0) (side view 1)) →
@@ -180,67 +199,76 @@ joined_run f w w' x k a b view result d ke re row waiting n pass =
           | false ↦ λ z.
               let nz : k ≢ 0 = (λ q. true_false (eqb k 0) (eq-eqb k 0 q) z) in
               let wide = wide_at f w w' x k a b p view d ke (omega arith) e r in
-              let c = close f row (is_full w') (hits w') r.q waiting (n - k) d.layout done.1 r.sh
-              (record { not_full = ny; not_waiting = nw; child = x; is_child = o; labelled = d.now }) wide.1 in
+              let c = close f row (is_full w') (hits w') r.q waiting (n - k) d.counted.layout done.1 r.sh
+              (record { not_full = ny; not_waiting = nw; child = x; is_child = o; labelled = d.counted.now }) wide.1 in
               (done.0, omega arith, subst (λ y. Pass f row (is_full w') (hits w') (y ∷ waiting) (n - k)) (sym wide.0) c)
         ]) refl
 
-pub joined_ring : (f : Layout) (w w' : Entries) (x : ℕ) (p : NodeId) (view view' : NodeView) (result : Joined) (k : ℕ) → IsLayout f → ShowsNode f x view →
-    PlaceRing p ≡ place_shown view.parent (side view 0) (side view 1) → ShowsNode f p.index view' → k ≡ hits w p.index + 1 →
-    result ≡ judged_as p k view'.children →
-    is_full w' x ≡ true → ((y : ℕ) → y ≢ x → is_full w' y ≡ is_full w y) → hits w' p.index ≡ hits w p.index + 1 → ((y : ℕ) → y ≢ p.index → hits w' y ≡ hits w y) →
-    (row waiting : List ℕ) (n : ℕ) → Pass f row (is_full w) (hits w) (x ∷ waiting) n → IsJoined f row (is_full w') (hits w') waiting n result
-joined_ring f w w' x p view view' result k h shows at shows' ke re now others hit same row waiting n pass =
-    let r : Ringed f x p.index = rings_at f x p view h shows at in
-    let e : result ≡ judged_as p (hits w p.index + 1) (length (children_at f p.index)) =
-    re ∙ ap (λ z. judged_as p z view'.children) ke ∙ ap (λ z. judged_as p (hits w p.index + 1) z) (shown_count_is f p.index view' shows' r.sh) in
-    subst (λ z. IsJoined f row (is_full w') (hits w') waiting n z) (sym e)
-    (pass_ring f row (is_full w) (is_full w') (hits w) (hits w') x p r.us r.vs waiting n h r.sh r.is
-    (record { before = pass.fresh x (occurs_here x waiting); after = now; others = others }) hit same pass)
+-- what the labelling of a child of the P-node p did to the labels l and the numbers h
+pub record CountedRing (f : Layout) (l l' : ℕ → Bool) (h h' : ℕ → ℕ) (x : ℕ) (p : NodeId) (view : NodeView) : Type 0 where
+  pub layout : IsLayout f
+  pub shows : ShowsNode f x view
+  pub at : PlaceRing p ≡ place_shown view.parent (side view 0) (side view 1)
+  pub now : l' x ≡ true
+  pub others : (y : ℕ) → y ≢ x → l' y ≡ l y
+  pub hit : h' p.index ≡ h p.index + 1
+  pub same : (y : ℕ) → y ≢ p.index → h' y ≡ h y
+
+-- p has so many labelled children of all that a look at it shows
+pub joined_ring : (f : Layout) (l l' : ℕ → Bool) (h h' : ℕ → ℕ) (x : ℕ) (p : NodeId) (view view' : NodeView) (k : ℕ) → CountedRing f l l' h h' x p view →
+    ShowsNode f p.index view' → k ≡ h p.index + 1 →
+    (row waiting : List ℕ) (n : ℕ) → Pass f row l h (x ∷ waiting) n → IsJoined f row l' h' waiting n (judged_as p k view'.children)
+joined_ring f l l' h h' x p view view' k d shows' ke row waiting n pass =
+    let r : Ringed f x p.index = rings_at f x p view d.layout d.shows d.at in
+    let e : judged_as p k view'.children ≡ judged_as p (h p.index + 1) (length (children_at f p.index)) =
+    ap (λ z. judged_as p z view'.children) ke ∙ ap (λ z. judged_as p (h p.index + 1) z) (shown_count_is f p.index view' shows' r.sh) in
+    subst (λ z. IsJoined f row l' h' waiting n z) (sym e)
+    (pass_ring f row l l' h h' x p r.us r.vs waiting n d.layout r.sh r.is
+    (record { before = pass.fresh x (occurs_here x waiting); after = d.now; others = d.others }) d.hit d.same pass)
 
 pub ring_used : (f : Layout) (x : ℕ) (p : NodeId) (view : NodeView) → IsLayout f → ShowsNode f x view →
     PlaceRing p ≡ place_shown view.parent (side view 0) (side view 1) → IsInUse f p.index
 ring_used f x p view h shows at = let r = rings_at f x p view h shows at in used_by f p.index P r.sh
 
-pub hits_few : (f : Layout) (w : Entries) (x : ℕ) (p : NodeId) (view : NodeView) → IsLayout f → ShowsNode f x view →
-    PlaceRing p ≡ place_shown view.parent (side view 0) (side view 1) → CanJoin f w x → hits w p.index ≤ NODE_BOUND
-hits_few f w x p view h shows at can =
-    let r = rings_at f x p view h shows at in
-    let c : hits w p.index ≡ marks (is_full w) (children_at f p.index) = can.pass.counts p.index r.sh in
-    let m : marks (is_full w) (children_at f p.index) ≤ length (children_at f p.index) = marks_le (is_full w) (children_at f p.index) in
-    let k : length (children_at f p.index) ≤ NODE_BOUND = children_few f p.index h in
+pub hits_few : (f : Layout) (row : List ℕ) (l : ℕ → Bool) (h : ℕ → ℕ) (waiting : List ℕ) (n x : ℕ) (p : NodeId) (view : NodeView) → IsLayout f → ShowsNode f x view →
+    PlaceRing p ≡ place_shown view.parent (side view 0) (side view 1) → Pass f row l h waiting n → h p.index ≤ NODE_BOUND
+hits_few f row l h waiting n x p view layout shows at pass =
+    let r = rings_at f x p view layout shows at in
+    let c : h p.index ≡ marks l (children_at f p.index) = pass.counts p.index r.sh in
+    let m : marks l (children_at f p.index) ≤ length (children_at f p.index) = marks_le l (children_at f p.index) in
+    let k : length (children_at f p.index) ≤ NODE_BOUND = children_few f p.index layout in
     omega arith
 
--- what the labelling of a child of the P-node p did
-pub record FilledRing (f : Layout) (w w' : Entries) (x : ℕ) (p : NodeId) (view : NodeView) : Type 0 where
-  pub layout : IsLayout f
-  pub shows : ShowsNode f x view
-  pub at : PlaceRing p ≡ place_shown view.parent (side view 0) (side view 1)
-  pub linked : AreLinked f w
-  pub fresh : is_full w x ≡ false
-  pub now : is_full w' x ≡ true
-  pub others : (y : ℕ) → y ≢ x → is_full w' y ≡ is_full w y
-  pub hung : Hung (hits w) (hits w') (first w) (first w') (next w) (next w') x p.index
-  pub fars : (y : ℕ) → far w' y ≡ far w y
-  pub ups : (y : ℕ) → y ≢ x → up w' y ≡ up w y
+child_of_ring : (f : Layout) (x p : ℕ) → Ringed f x p → 1 ≤ occurs (children_at f p) x
+child_of_ring f x p r = subst (λ z. 1 ≤ occurs z x) (sym r.is) (omega (arith, occurs-append r.us (x ∷ r.vs) x, occurs_here x r.vs))
 
-pub joined_ring_linked : (f : Layout) (w w' : Entries) (x : ℕ) (p : NodeId) (view : NodeView) → FilledRing f w w' x p view → AreReady w' (length f.slots) → AreLinked f w'
-joined_ring_linked f w w' x p view d ready =
+-- the chains hang together again where x was hung
+pub ring_chains : (f : Layout) (l l' : ℕ → Bool) (h h' first first' next next' : ℕ → ℕ) (x : ℕ) (p : NodeId) (view : NodeView) → CountedRing f l l' h h' x p view → l x ≡ false →
+    Chains f l h first next → Hung h h' first first' next next' x p.index → Chains f l' h' first' next'
+ring_chains f l l' h h' first first' next next' x p view d fresh chains hung =
     let r : Ringed f x p.index = rings_at f x p view d.layout d.shows d.at in
-    let o : 1 ≤ occurs (children_at f p.index) x = subst (λ z. 1 ≤ occurs z x) (sym r.is) (omega (arith, occurs-append r.us (x ∷ r.vs) x, occurs_here x r.vs)) in
-    let more : OneMore (is_full w) (is_full w') x = record { before = d.fresh; after = d.now; others = d.others } in
+    chains_ring f l l' h h' first first' next next' x p.index d.layout r.sh (child_of_ring f x p.index r)
+    (record { before = fresh; after = d.now; others = d.others }) chains hung
+
+-- so do the runs
+pub joined_ring_linked : (f : Layout) (w w' : Entries) (x : ℕ) (p : NodeId) (view : NodeView) → CountedRing f (is_full w) (is_full w') (hits w) (hits w') x p view →
+    is_full w x ≡ false → AreLinked f w → Hung (hits w) (hits w') (first w) (first w') (next w) (next w') x p.index →
+    ((y : ℕ) → far w' y ≡ far w y) → ((y : ℕ) → y ≢ x → up w' y ≡ up w y) → AreReady w' (length f.slots) → AreLinked f w'
+joined_ring_linked f w w' x p view d fresh linked hung fars ups ready =
+    let r : Ringed f x p.index = rings_at f x p view d.layout d.shows d.at in
     record {
       ready = ready;
-      runs = runs_apart f (is_full w) (is_full w') (far w) (far w') (up w) (up w') x p.index d.layout r.sh o more d.linked.runs d.fars d.ups;
-      chains = chains_ring f (is_full w) (is_full w') (hits w) (hits w') (first w) (first w') (next w) (next w') x p.index d.layout r.sh o more d.linked.chains d.hung;
+      runs = runs_apart f (is_full w) (is_full w') (far w) (far w') (up w) (up w') x p.index d.layout r.sh (child_of_ring f x p.index r)
+          (record { before = fresh; after = d.now; others = d.others }) linked.runs fars ups;
+      chains = ring_chains f (is_full w) (is_full w') (hits w) (hits w') (first w) (first w') (next w) (next w') x p view d fresh linked.chains hung;
     }
 
 -- a full node without a node above it is the root
-pub joined_top : (f : Layout) (w : Entries) (x : ℕ) (view : NodeView) → IsLayout f → ShowsNode f x view →
+pub joined_top : (f : Layout) (l : ℕ → Bool) (h : ℕ → ℕ) (x : ℕ) (view : NodeView) → IsLayout f → ShowsNode f x view →
     PlaceTop ≡ place_shown view.parent (side view 0) (side view 1) → IsOneTree f →
-    (row waiting : List ℕ) (n : ℕ) → Pass f row (is_full w) (hits w) (x ∷ waiting) n → IsFullNode f row f.root
-joined_top f w x view h shows at one row waiting n pass =
-    let apart : times_child f.slots x ≡ 0 = subst (λ z. Says f x (side view 0) (side view 1) z) (sym at) (says f x view h shows) in
+    (row waiting : List ℕ) (n : ℕ) → Pass f row l h (x ∷ waiting) n → IsFullNode f row f.root
+joined_top f l h x view layout shows at one row waiting n pass =
+    let apart : times_child f.slots x ≡ 0 = subst (λ z. Says f x (side view 0) (side view 1) z) (sym at) (says f x view layout shows) in
     let e : f.root ≡ x = top_alone f f.root x apart (one x (pass.used x (occurs_here x waiting))) in
     subst (λ z. IsFullNode f row z) (sym e) (pass.fill x (occurs_here x waiting))
 
@@ -281,3 +309,12 @@ tied_by far far' a b eb ea others = record {
     | inr ne ↦ ea ne
   ];
 }
+
+-- what a child of a P-node did is the same in both passes
+pub as_judged : (p : NodeId) (n children : ℕ) → as_joined (added_as p n children) ≡ judged_as p n children
+as_judged p n children = by (eqb n 1) (eqb n children)
+  where
+    by : (a b : Bool) → as_joined (cond a AddedFirst (cond b (AddedWhole p) (AddedMore p))) ≡ cond a First (cond b (Whole p) (More p))
+    by true b = refl
+    by false true = refl
+    by false false = refl

@@ -6,7 +6,7 @@ use Rattle.column_order.proofs.Lists.{occurs-append}
 use Rattle.arena_model.proofs.Lists.{occurs_here}
 use Rattle.pq_arena.specs.declared.node.NodeId.{NodeId}
 use Rattle.pq_arena.specs.RowNodes.{indices}
-use Rattle.full_pass.specs.Entries.{chained}
+use Rattle.full_pass.specs.Tallies.{chained}
 
 -- the next node of the chain is one of it
 pub listed_here : (c done : List ℕ) (n i : ℕ) (next : ℕ → ℕ) (x : ℕ) → i < n → c ≡ done ++ chained (n - i) next x → 1 ≤ occurs c x

@@ -1,5 +1,5 @@
 -- Where a node stands, by what a look at it shows.
-use Rattle.std.proofs.Common.{List, None, Option, Some, [], ap, arith, cond, eqb, false, get_or, inl, inr, length, refl, subst, sym, true, ℕ, ◌++◌, ◌<◌, ◌||◌, ◌∙◌, ◌∷◌, ◌≡◌, ◌≢◌, ◌≤◌, ◌⊎◌}
+use Rattle.std.proofs.Common.{Bool, List, None, Option, Some, [], ap, arith, cond, eqb, false, get_or, inl, inr, length, refl, subst, sym, true, ℕ, ◌++◌, ◌<◌, ◌||◌, ◌∙◌, ◌∷◌, ◌≡◌, ◌≢◌, ◌≤◌, ◌⊎◌}
 use Rattle.std.proofs.lemmas.Bool.{cases_eq, cases_lt, ne_eqb}
 use Rattle.arena_model.specs.declared.Shape.TheVariants.{P, Q}
 use Rattle.pq_arena.specs.declared.node.NodeId.{NodeId}
@@ -11,9 +11,8 @@ use Rattle.arena_model.proofs.Lists.{SplitAt, occurs_here, occurs_last, split_at
 use Rattle.arena_model.proofs.Slots.{children_times, in_range, placed_in, some_inj, used_by}
 use Rattle.full_pass.specs.declared.joins.Place.{Place}
 use Rattle.full_pass.specs.declared.joins.Place.TheVariants.{Ring as PlaceRing, Run as PlaceRun, Top as PlaceTop}
-use Rattle.full_pass.specs.declared.entries.Entries.{Entries}
 use Rattle.full_pass.specs.Passing.{place_shown}
-use Rattle.full_pass.specs.Entries.{is_full, mark_of}
+use Rattle.full_pass.specs.Tallies.{mark_in}
 use Rattle.full_pass.proofs.Marks.{bit}
 use Rattle.column_order.specs.Orders.{occurs}
 use Rattle.column_order.proofs.Lists.{occurs-append}
@@ -140,10 +139,10 @@ says f x view h shows =
     last_child [] vs = occurs_last vs x
     last_child (u ∷ us) vs = omega (arith, occurs-append (u ∷ us) (x ∷ vs) (last_or us u), occurs_last us u)
 
-pub mark_named : (w : Entries) (y : ℕ) → is_full w none ≡ false → mark_of w (node_named y) ≡ bit (is_full w y)
-mark_named w y e = elim (cases_eq y none) [
-  | inl q ↦ ap (λ z. mark_of w (node_named z)) q ∙ sym (ap bit e) ∙ ap (λ z. bit (is_full w z)) (sym q)
-  | inr ne ↦ ap (λ z. mark_of w z) (named_some y ne)
+pub mark_named : (l : ℕ → Bool) (y : ℕ) → l none ≡ false → mark_in l (node_named y) ≡ bit (l y)
+mark_named l y e = elim (cases_eq y none) [
+  | inl q ↦ ap (λ z. mark_in l (node_named z)) q ∙ sym (ap bit e) ∙ ap (λ z. bit (l z)) (sym q)
+  | inr ne ↦ ap (λ z. mark_in l z) (named_some y ne)
 ]
 
 -- the number of children that a look shows

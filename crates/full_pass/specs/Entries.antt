@@ -1,53 +1,50 @@
 -- What the entries of a pass say of each node.
-use Rattle.std.specs.Prelude.{zero, suc, ◌≡◌, ℕ, ◌≤◌, Bool, cond, eqb, List, [], ◌∷◌, length, Option, Some, None, slice_index_or}
+use Rattle.std.specs.Prelude.{◌≡◌, ℕ, Bool, cond, List, length, Option, Some, None, slice_index_or}
 use Rattle.pq_arena.specs.declared.node.NodeId.{NodeId}
-use Rattle.full_pass.specs.declared.entries.Entry.{Entry}
+use Rattle.full_pass.specs.declared.tallies.Tally.{Tally}
+use Rattle.full_pass.specs.declared.entries.End.{End}
 use Rattle.full_pass.specs.declared.entries.Entries.{Entries}
+use Rattle.full_pass.specs.Tallies.{tally_in, full_in, hits_in, first_in, next_in, mark_in, chained, AreStamped}
 
--- stands for the entry of a node that has none
-abbrev pub no_entry : Entry
-no_entry = record {
-  label = 0;
-  seen = 0;
-  hits = 0;
-  first = record { index = 0 };
-  next = record { index = 0 };
-  far = record { index = 0 };
-  up = None;
-}
+-- the label of node x
+abbrev pub label : Entries → ℕ → ℕ
+label w x = slice_index_or w.labels.items x 0
 
--- the entry of node x
-abbrev pub entry : Entries → ℕ → Entry
-entry w x = slice_index_or w.entries.items x no_entry
+-- the tally of node x
+abbrev pub tally : Entries → ℕ → Tally
+tally w x = tally_in w.tallies.items x
 
 -- whether x is labelled full
 abbrev pub is_full : Entries → ℕ → Bool
-is_full w x = eqb (entry w x).label w.stamp
+is_full w x = full_in w.labels.items w.stamp x
 
 -- how many children of x are labelled, where x is a P-node
 abbrev pub hits : Entries → ℕ → ℕ
-hits w x = cond (eqb (entry w x).seen w.stamp) (entry w x).hits 0
+hits w x = hits_in w.tallies.items w.stamp x
 
 -- the child of the P-node x that was labelled last
 abbrev pub first : Entries → ℕ → ℕ
-first w x = (entry w x).first.index
+first w x = first_in w.tallies.items x
 
 -- the child of the same P-node that was labelled before x
 abbrev pub next : Entries → ℕ → ℕ
-next w x = (entry w x).next.index
+next w x = next_in w.tallies.items x
+
+-- stands for the end of a node that has none
+abbrev pub no_end : End
+no_end = record { far = record { index = 0 }; up = None }
 
 -- the other end of the run that x is an end of
 abbrev pub far : Entries → ℕ → ℕ
-far w x = (entry w x).far.index
+far w x = (slice_index_or w.ends.items x no_end).far.index
 
 -- the node above x, where x showed it
 abbrev pub up : Entries → ℕ → Option NodeId
-up w x = (entry w x).up
+up w x = (slice_index_or w.ends.items x no_end).up
 
 -- 1 for a node that is labelled, else 0
 abbrev pub mark_of : Entries → Option NodeId → ℕ
-mark_of w None = 0
-mark_of w (Some x) = cond (is_full w x.index) 1 0
+mark_of w near = mark_in (is_full w) near
 
 -- the end that the run of x has at this neighbour
 abbrev pub end_at : Entries → Option NodeId → ℕ → ℕ
@@ -60,18 +57,11 @@ both None b = None
 both (Some a) None = None
 both (Some a) (Some b) = Some a
 
--- so many nodes, from x on each followed by the next
-abbrev pub chained : ℕ → (ℕ → ℕ) → ℕ → List ℕ
-chained zero next x = []
-chained (suc n) next x = x ∷ chained n next (next x)
-
 -- the labelled children of the P-node p, the last that was labelled in front
 abbrev pub chain_at : Entries → ℕ → List ℕ
 chain_at w p = chained (hits w p) (next w) (first w p)
 
--- there are n entries, and their stamps are of this pass or older
+-- there are labels, tallies and ends for n nodes, and their stamps are of this pass or older
 pub record AreReady (w : Entries) (n : ℕ) : Type 0 where
-  pub size : length w.entries.items ≡ n
-  pub some : 1 ≤ w.stamp
-  pub old_label : (x : ℕ) → (entry w x).label ≤ w.stamp
-  pub old_seen : (x : ℕ) → (entry w x).seen ≤ w.stamp
+  pub stamped : AreStamped w.labels.items w.tallies.items w.stamp n
+  pub ends : length w.ends.items ≡ n

@@ -8,6 +8,9 @@ use Rattle.arena_model.specs.NamedTree.{IsOneTree}
 use Rattle.pq_arena.specs.declared.node.NodeId.{NodeId}
 use Rattle.pq_arena.specs.Looks.{node_named}
 use Rattle.full_pass.specs.declared.entries.Entries.{Entries}
+use Rattle.full_pass.specs.declared.count.Added.{Added}
+use Rattle.full_pass.specs.declared.count.Added.TheVariants.{Top as AddedTop, Run as AddedRun, First as AddedFirst, More as AddedMore, Whole as AddedWhole}
+use Rattle.full_pass.specs.declared.tallies.Tally.{Tally}
 use Rattle.full_pass.specs.declared.joins.Joined.{Joined}
 use Rattle.full_pass.specs.declared.joins.Joined.TheVariants.{Top, Run, Wide, First, More, Whole}
 use Rattle.full_pass.specs.declared.joins.Place.{Place}
@@ -15,7 +18,8 @@ use Rattle.full_pass.specs.declared.joins.Place.TheVariants.{Top as PlaceTop, Ru
 use Rattle.full_pass.specs.declared.settled.Settled.{Settled}
 use Rattle.full_pass.specs.declared.settled.Settled.TheVariants.{Kept, Group, Open}
 use Rattle.full_pass.specs.Answer.{IsFullNode}
-use Rattle.full_pass.specs.Entries.{is_full, hits, far, up, first, next, chained, chain_at, AreReady}
+use Rattle.full_pass.specs.Entries.{is_full, hits, far, up, first, next, AreReady}
+use Rattle.full_pass.specs.Tallies.{full_in, hits_in, first_in, next_in, chained, AreStamped}
 
 -- what a labelled child of a Q-node did, with so many labelled neighbours, whose run shows this node at both ends
 abbrev pub run_as : ℕ → Option NodeId → Joined
@@ -33,6 +37,18 @@ place_shown (Some p) (Some a) (Some b) = PlaceRing p
 -- what a labelled child of the P-node p did, of whose children so many are labelled
 abbrev pub judged_as : NodeId → ℕ → ℕ → Joined
 judged_as p n children = cond (eqb n 1) First (cond (eqb n children) (Whole p) (More p))
+
+-- the same in a pass that counts
+abbrev pub added_as : NodeId → ℕ → ℕ → Added
+added_as p n children = cond (eqb n 1) AddedFirst (cond (eqb n children) (AddedWhole p) (AddedMore p))
+
+-- what a node did in a pass that counts, as one of what it may do in a pass that keeps runs
+abbrev pub as_joined : Added → Joined
+as_joined AddedTop = Top
+as_joined (AddedRun pairs) = Run pairs
+as_joined AddedFirst = First
+as_joined (AddedMore p) = More p
+as_joined (AddedWhole p) = Whole p
 
 -- how many of the list are labelled
 abbrev pub marks : (ℕ → Bool) → List ℕ → ℕ
@@ -118,6 +134,10 @@ IsJoined f row l h waiting n First = Pass f row l h waiting n × InFirst f l wai
 IsJoined f row l h waiting n (More p) = (1 ≤ n) × Pass f row l h waiting (n - 1) × InMore f l waiting p.index
 IsJoined f row l h waiting n (Whole p) = (1 ≤ n) × Pass f row l h (p.index ∷ waiting) (n - 1)
 
+-- the same in a pass that counts
+abbrev pub IsAdded : Layout → List ℕ → (ℕ → Bool) → (ℕ → ℕ) → List ℕ → ℕ → Added → Type 0
+IsAdded f row l h waiting n added = IsJoined f row l h waiting n (as_joined added)
+
 -- what holds of the answer that the last labelled node gives where no other part is left
 abbrev pub IsLast : Layout → List ℕ → (ℕ → Bool) → (ℕ → ℕ) → List ℕ → ℕ → Settled → Type 0
 IsLast f row l h waiting n Kept = Pass f row l h waiting n × (InRun f l waiting ⊎ InFirst f l waiting)
@@ -140,7 +160,27 @@ pub record AreLinked (f : Layout) (w : Entries) : Type 0 where
   pub runs : Runs f (is_full w) (far w) (up w)
   pub chains : Chains f (is_full w) (hits w) (first w) (next w)
 
+-- the labels and tallies of a pass that counts fit the nodes, and the chains hang together
+pub record AreCounted (f : Layout) (labels : List ℕ) (tallies : List Tally) (stamp : ℕ) : Type 0 where
+  pub ready : AreStamped labels tallies stamp (length f.slots)
+  pub chains : Chains f (full_in labels stamp) (hits_in tallies stamp) (first_in tallies) (next_in tallies)
+
 -- x is full and waits
+pub record CanAdd (f : Layout) (l : ℕ → Bool) (h : ℕ → ℕ) (x : ℕ) : Type 0 where
+  pub one : IsOneTree f
+  pub row : List ℕ
+  pub waiting : List ℕ
+  pub n : ℕ
+  pub pass : Pass f row l h (x ∷ waiting) n
+
+-- x is full and waits, and open_count counts the parts
+pub record CanClimb (f : Layout) (l : ℕ → Bool) (h : ℕ → ℕ) (x open_count : ℕ) : Type 0 where
+  pub one : IsOneTree f
+  pub row : List ℕ
+  pub waiting : List ℕ
+  pub pass : Pass f row l h (x ∷ waiting) open_count
+
+-- x is full and waits, in a pass that keeps runs
 pub record CanJoin (f : Layout) (w : Entries) (x : ℕ) : Type 0 where
   pub one : IsOneTree f
   pub linked : AreLinked f w
@@ -163,8 +203,17 @@ pub record Going (f : Layout) (row : List ℕ) (w : Entries) (waiting : List ℕ
   pub pass : Pass f row (is_full w) (hits w) waiting open_count
   pub answer : IsLast f row (is_full w) (hits w) waiting open_count last
 
+-- what the loop over the row keeps in a pass that counts
+pub record Counting (f : Layout) (row : List ℕ) (labels : List ℕ) (tallies : List Tally) (stamp : ℕ) (waiting : List ℕ) (open_count : ℕ) (last : Settled) : Type 0 where
+  pub counted : AreCounted f labels tallies stamp
+  pub pass : Pass f row (full_in labels stamp) (hits_in tallies stamp) waiting open_count
+  pub answer : IsLast f row (full_in labels stamp) (hits_in tallies stamp) waiting open_count last
+
 -- the labelled children of the P-node that the answer names
+abbrev pub members_in : List Tally → ℕ → Settled → List ℕ
+members_in tallies stamp Kept = []
+members_in tallies stamp (Group p) = chained (hits_in tallies stamp p.index) (next_in tallies) (first_in tallies p.index)
+members_in tallies stamp Open = []
+
 abbrev pub members_of : Entries → Settled → List ℕ
-members_of w Kept = []
-members_of w (Group p) = chain_at w p.index
-members_of w Open = []
+members_of w s = members_in w.tallies.items w.stamp s

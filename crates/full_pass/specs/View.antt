@@ -11,10 +11,10 @@ pub record Room : Type 0 where
 
 -- what contracts see of the room
 abbrev pub room_of : Inside → Room
-room_of a = record { size = length a.entries.entries.items; members = take a.count a.members.items }
+room_of a = record { size = length a.entries.tallies.items; members = take a.count a.members.items }
 
 -- what always holds of the room
 pub record IsFullWorkKept (a : Inside) : Type 0 where
-  pub ready : AreReady a.entries (length a.entries.entries.items)
-  pub room : length a.entries.entries.items ≤ length a.members.items
+  pub ready : AreReady a.entries (length a.entries.tallies.items)
+  pub room : length a.entries.tallies.items ≤ length a.members.items
   pub count : a.count ≤ length a.members.items

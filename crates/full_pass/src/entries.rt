@@ -2,23 +2,16 @@
 ghost use Rattle.std.specs.Prelude.{◌≡◌, ◌≢◌, ℕ, ◌+◌, ◌≤◌, ◌<◌, length, take, true, false, IfOk};
 ghost use Rattle.column_order.specs.Orders.{occurs};
 ghost use Rattle.pq_arena.specs.RowNodes.{indices};
-ghost use Rattle.full_pass.specs.Entries.{entry, is_full, mark_of, hits, far, up, first, next, end_at, both, chain_at, AreReady};
+ghost use Rattle.full_pass.specs.Entries.{label, tally, is_full, mark_of, hits, far, up, first, next, end_at, both, chain_at, AreReady};
 
+use crate::tallies::{Tally, fill, hit, hits_at, is_labelled};
 use pq_arena::NodeId;
 use row_model::NoMemory;
 use std::alloc::Global;
 
-// What a pass holds of one node. The node is labelled full where `label` is the stamp of the pass, and `hits` and
-// `first` are of this pass where `seen` is.
+// What a pass that keeps runs holds of one node besides.
 #[derive(Clone, Copy)]
-pub struct Entry {
-    pub label: u32,
-    pub seen: u32,
-    // How many children of the node, which is a P-node, are labelled, and the one that was labelled last.
-    pub hits: u32,
-    pub first: NodeId,
-    // The child of the same P-node that was labelled before this one.
-    pub next: NodeId,
+pub struct End {
     // The other end of the run of labelled children of a Q-node that this node is an end of.
     pub far: NodeId,
     // The node above this one, where it showed that.
@@ -32,24 +25,30 @@ pub struct Side {
     pub end: NodeId,
 }
 
-// An entry for each node, and the stamp of the pass.
+// What a pass holds of each node, and its stamp. A node is labelled full where its label is the stamp.
 #[derive(Drop)]
 pub struct Entries {
-    pub entries: Vec<Entry>,
+    pub labels: Vec<u32>,
+    pub tallies: Vec<Tally>,
+    pub ends: Vec<End>,
     pub stamp: u32,
 }
 
-// An entry of no pass.
-fn blank_entry() -> Entry
-    ensures label { result.label ≡ 0 }
-    ensures seen { result.seen ≡ 0 }
+// A tally of no pass.
+fn blank_tally() -> Tally
+    ensures { result.seen ≡ 0 }
 {
-    Entry {
-        label: 0,
+    Tally {
         seen: 0,
         hits: 0,
         first: NodeId::default(),
         next: NodeId::default(),
+    }
+}
+
+// An end of no run.
+fn no_end() -> End {
+    End {
         far: NodeId::default(),
         up: None,
     }
@@ -61,40 +60,56 @@ impl Entries {
         ensures { IfOk result (λ w. AreReady w nodes) }
     {
         Ok(Entries {
-            entries: vec![in alloc; blank_entry(); nodes]?,
+            labels: vec![in alloc; 0; nodes]?,
+            tallies: vec![in alloc; blank_tally(); nodes]?,
+            ends: vec![in alloc; no_end(); nodes]?,
             stamp: 1,
         })
     }
 
     // No node is labelled any more.
     pub fn begin(&mut self)
-        requires { AreReady self.old (length self.old.entries.items) }
+        requires { AreReady self.old (length self.old.tallies.items) }
         ensures ready { (n : ℕ) → AreReady self.old n → AreReady self.new n }
         ensures full { (x : ℕ) → is_full self.new x ≡ false }
         ensures hits { (x : ℕ) → hits self.new x ≡ 0 }
     {
         if self.stamp == u32::MAX {
-            self.clear();
+            self.clear_labels();
+            self.clear_tallies();
             self.stamp = 1;
         } else {
             self.stamp += 1;
         }
     }
 
-    // Each stamp of the entries is 0.
-    fn clear(&mut self)
-        ensures length { length self.new.entries.items ≡ length self.old.entries.items }
-        ensures label { (x : ℕ) → (entry self.new x).label ≡ 0 }
-        ensures seen { (x : ℕ) → (entry self.new x).seen ≡ 0 }
+    // Each label is 0.
+    fn clear_labels(&mut self)
+        ensures length { length self.new.labels.items ≡ length self.old.labels.items }
+        ensures label { (x : ℕ) → label self.new x ≡ 0 }
+        ensures tallies { self.new.tallies ≡ self.old.tallies }
+        ensures ends { self.new.ends ≡ self.old.ends }
     {
-        for entry in self.entries.iter_mut() {
-            *entry = blank_entry();
+        for label in self.labels.iter_mut() {
+            *label = 0;
+        }
+    }
+
+    // Each stamp of the tallies is 0.
+    fn clear_tallies(&mut self)
+        ensures length { length self.new.tallies.items ≡ length self.old.tallies.items }
+        ensures seen { (x : ℕ) → (tally self.new x).seen ≡ 0 }
+        ensures labels { self.new.labels ≡ self.old.labels }
+        ensures ends { self.new.ends ≡ self.old.ends }
+    {
+        for tally in self.tallies.iter_mut() {
+            *tally = blank_tally();
         }
     }
 
     // What the run of `x` has on the side of this neighbour.
     pub fn beside(&self, near: Option<NodeId>, x: NodeId) -> Side
-        requires { 1 ≤ self.now.stamp }
+        requires { AreReady self.now (length self.now.tallies.items) }
         ensures mark { result.mark ≡ mark_of self.now near }
         ensures small { result.mark ≤ 1 }
         ensures end { result.end.index ≡ end_at self.now near x.index }
@@ -119,23 +134,22 @@ impl Entries {
         requires { 1 ≤ self.now.stamp }
         ensures { result ≡ is_full self.now x.index }
     {
-        let at = x.index() as usize;
-        at < self.entries.len() && self.entries[at].label == self.stamp
+        is_labelled(&self.labels, self.stamp, x)
     }
 
     // The other end of the run that the labelled node `n` is an end of.
     fn far_of(&self, n: NodeId) -> NodeId
-        requires some { 1 ≤ self.now.stamp }
+        requires ready { AreReady self.now (length self.now.tallies.items) }
         requires full { is_full self.now n.index ≡ true }
         ensures { result.index ≡ far self.now n.index }
     {
-        self.entries[n.index() as usize].far
+        self.ends[n.index() as usize].far
     }
 
     // `a` and `b` are the ends of a run.
     pub fn link(&mut self, a: NodeId, b: NodeId)
-        requires a { a.index < length self.old.entries.items }
-        requires b { b.index < length self.old.entries.items }
+        requires a { a.index < length self.old.ends.items }
+        requires b { b.index < length self.old.ends.items }
         ensures ready { (n : ℕ) → AreReady self.old n → AreReady self.new n }
         ensures b { far self.new b.index ≡ a.index }
         ensures a { a.index ≢ b.index → far self.new a.index ≡ b.index }
@@ -152,89 +166,95 @@ impl Entries {
 
     // The run that ends at `a` ends at `b` too.
     fn set_far(&mut self, a: NodeId, b: NodeId)
-        requires { a.index < length self.old.entries.items }
-        ensures ready { (n : ℕ) → AreReady self.old n → AreReady self.new n }
-        ensures length { length self.new.entries.items ≡ length self.old.entries.items }
+        requires { a.index < length self.old.ends.items }
         ensures a { far self.new a.index ≡ b.index }
         ensures others { (y : ℕ) → y ≢ a.index → far self.new y ≡ far self.old y }
-        ensures full { (y : ℕ) → is_full self.new y ≡ is_full self.old y }
-        ensures hits { (y : ℕ) → hits self.new y ≡ hits self.old y }
-        ensures first { (y : ℕ) → first self.new y ≡ first self.old y }
-        ensures next { (y : ℕ) → next self.new y ≡ next self.old y }
         ensures up { (y : ℕ) → up self.new y ≡ up self.old y }
+        ensures length { length self.new.ends.items ≡ length self.old.ends.items }
+        ensures labels { self.new.labels ≡ self.old.labels }
+        ensures tallies { self.new.tallies ≡ self.old.tallies }
+        ensures stamp { self.new.stamp ≡ self.old.stamp }
     {
-        let entry = &mut self.entries[a.index() as usize];
-        entry.far = b;
+        let end = &mut self.ends[a.index() as usize];
+        end.far = b;
     }
 
     // The node above both, where both showed one.
     pub fn above(&self, a: NodeId, b: NodeId) -> Option<NodeId>
-        requires a { a.index < length self.now.entries.items }
-        requires b { b.index < length self.now.entries.items }
+        requires a { a.index < length self.now.ends.items }
+        requires b { b.index < length self.now.ends.items }
         ensures { result ≡ both (up self.now a.index) (up self.now b.index) }
     {
-        match self.entries[a.index() as usize].up {
+        match self.ends[a.index() as usize].up {
             None => None,
-            Some(q) => match self.entries[b.index() as usize].up {
+            Some(q) => match self.ends[b.index() as usize].up {
                 None => None,
                 Some(_) => Some(q),
             },
         }
     }
 
-    // `x` is labelled, and showed this node above it.
-    pub fn fill(&mut self, x: NodeId, above: Option<NodeId>)
-        requires { x.index < length self.old.entries.items }
+    // `x` is labelled.
+    pub fn fill(&mut self, x: NodeId)
+        requires { x.index < length self.old.labels.items }
         ensures ready { (n : ℕ) → AreReady self.old n → AreReady self.new n }
         ensures here { is_full self.new x.index ≡ true }
         ensures others { (y : ℕ) → y ≢ x.index → is_full self.new y ≡ is_full self.old y }
+        ensures far { (y : ℕ) → far self.new y ≡ far self.old y }
+        ensures hits { (y : ℕ) → hits self.new y ≡ hits self.old y }
+        ensures first { (y : ℕ) → first self.new y ≡ first self.old y }
+        ensures next { (y : ℕ) → next self.new y ≡ next self.old y }
+        ensures up { (y : ℕ) → up self.new y ≡ up self.old y }
+    {
+        let stamp = self.stamp;
+        fill(&mut self.labels, stamp, x);
+    }
+
+    // `x` showed this node above it.
+    pub fn note(&mut self, x: NodeId, above: Option<NodeId>)
+        requires { x.index < length self.old.ends.items }
+        ensures ready { (n : ℕ) → AreReady self.old n → AreReady self.new n }
         ensures up { up self.new x.index ≡ above }
         ensures ups { (y : ℕ) → y ≢ x.index → up self.new y ≡ up self.old y }
+        ensures full { (y : ℕ) → is_full self.new y ≡ is_full self.old y }
         ensures far { (y : ℕ) → far self.new y ≡ far self.old y }
         ensures hits { (y : ℕ) → hits self.new y ≡ hits self.old y }
         ensures first { (y : ℕ) → first self.new y ≡ first self.old y }
         ensures next { (y : ℕ) → next self.new y ≡ next self.old y }
     {
-        let stamp = self.stamp;
-        let entry = &mut self.entries[x.index() as usize];
-        entry.label = stamp;
-        entry.up = above;
+        let end = &mut self.ends[x.index() as usize];
+        end.up = above;
     }
 
     // How many children of the P-node `p` are labelled.
     pub fn hits_at(&self, p: NodeId) -> u32
-        requires { p.index < length self.now.entries.items }
+        requires { p.index < length self.now.tallies.items }
         ensures { result ≡ hits self.now p.index }
     {
-        let entry = &self.entries[p.index() as usize];
-        if entry.seen == self.stamp {
-            entry.hits
-        } else {
-            0
-        }
+        hits_at(&self.tallies, self.stamp, p)
     }
 
     // The child of the P-node `p` that was labelled last.
     pub fn first_of(&self, p: NodeId) -> NodeId
-        requires { p.index < length self.now.entries.items }
+        requires { p.index < length self.now.tallies.items }
         ensures { result.index ≡ first self.now p.index }
     {
-        self.entries[p.index() as usize].first
+        self.tallies[p.index() as usize].first
     }
 
     // The child of the same P-node that was labelled before `x`.
     pub fn next_of(&self, x: NodeId) -> NodeId
-        requires { x.index < length self.now.entries.items }
+        requires { x.index < length self.now.tallies.items }
         ensures { result.index ≡ next self.now x.index }
     {
-        self.entries[x.index() as usize].next
+        self.tallies[x.index() as usize].next
     }
 
     // Writes the labelled children of the P-node `p`, and says how many there are.
     pub fn list(&self, p: NodeId, members: &mut Vec<NodeId>) -> usize
-        requires p { p.index < length self.now.entries.items }
+        requires p { p.index < length self.now.tallies.items }
         requires room { hits self.now p.index ≤ length members.old.items }
-        requires all { (k : ℕ) → 1 ≤ occurs (chain_at self.now p.index) k → k < length self.now.entries.items }
+        requires all { (k : ℕ) → 1 ≤ occurs (chain_at self.now p.index) k → k < length self.now.tallies.items }
         ensures length { length members.new.items ≡ length members.old.items }
         ensures count { result ≤ length members.old.items }
         ensures members { indices (take result members.new.items) ≡ chain_at self.now p.index }
@@ -250,8 +270,8 @@ impl Entries {
 
     // `x` is labelled too among the children of the P-node `p`. Says how many are.
     pub fn hit(&mut self, p: NodeId, x: NodeId) -> u32
-        requires p { p.index < length self.old.entries.items }
-        requires x { x.index < length self.old.entries.items }
+        requires p { p.index < length self.old.tallies.items }
+        requires x { x.index < length self.old.tallies.items }
         requires few { hits self.old p.index < 4294967295 }
         ensures ready { (n : ℕ) → AreReady self.old n → AreReady self.new n }
         ensures result { result ≡ hits self.old p.index + 1 }
@@ -265,47 +285,7 @@ impl Entries {
         ensures far { (y : ℕ) → far self.new y ≡ far self.old y }
         ensures up { (y : ℕ) → up self.new y ≡ up self.old y }
     {
-        let before = self.first_of(p);
-        let count = self.hits_at(p) + 1;
-        self.set_next(x, before);
-        self.set_hits(p, count, x);
-        count
-    }
-
-    // `before` follows `x` in the chain of labelled children of their P-node.
-    fn set_next(&mut self, x: NodeId, before: NodeId)
-        requires { x.index < length self.old.entries.items }
-        ensures ready { (n : ℕ) → AreReady self.old n → AreReady self.new n }
-        ensures length { length self.new.entries.items ≡ length self.old.entries.items }
-        ensures next { next self.new x.index ≡ before.index }
-        ensures nexts { (y : ℕ) → y ≢ x.index → next self.new y ≡ next self.old y }
-        ensures hits { (y : ℕ) → hits self.new y ≡ hits self.old y }
-        ensures first { (y : ℕ) → first self.new y ≡ first self.old y }
-        ensures full { (y : ℕ) → is_full self.new y ≡ is_full self.old y }
-        ensures far { (y : ℕ) → far self.new y ≡ far self.old y }
-        ensures up { (y : ℕ) → up self.new y ≡ up self.old y }
-    {
-        let entry = &mut self.entries[x.index() as usize];
-        entry.next = before;
-    }
-
-    // So many children of the P-node `p` are labelled, and `x` was the last.
-    fn set_hits(&mut self, p: NodeId, count: u32, x: NodeId)
-        requires { p.index < length self.old.entries.items }
-        ensures ready { (n : ℕ) → AreReady self.old n → AreReady self.new n }
-        ensures here { hits self.new p.index ≡ count }
-        ensures others { (y : ℕ) → y ≢ p.index → hits self.new y ≡ hits self.old y }
-        ensures first { first self.new p.index ≡ x.index }
-        ensures firsts { (y : ℕ) → y ≢ p.index → first self.new y ≡ first self.old y }
-        ensures next { (y : ℕ) → next self.new y ≡ next self.old y }
-        ensures full { (y : ℕ) → is_full self.new y ≡ is_full self.old y }
-        ensures far { (y : ℕ) → far self.new y ≡ far self.old y }
-        ensures up { (y : ℕ) → up self.new y ≡ up self.old y }
-    {
         let stamp = self.stamp;
-        let entry = &mut self.entries[p.index() as usize];
-        entry.seen = stamp;
-        entry.hits = count;
-        entry.first = x;
+        hit(&mut self.tallies, stamp, p, x)
     }
 }

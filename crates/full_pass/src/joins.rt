@@ -1,4 +1,4 @@
-// The labelling of one full node.
+// The labelling of one full node in a pass that keeps runs.
 ghost use Rattle.std.specs.Prelude.{◌≡◌, ℕ, ◌+◌, ◌*◌, ◌≤◌, List, ◌∷◌};
 ghost use Rattle.full_pass.specs.Entries.{is_full, hits};
 ghost use Rattle.full_pass.specs.Passing.{run_as, place_shown, judged_as, AreLinked, Pass, CanJoin, IsJoined, CanRise, IsRisen};
@@ -37,7 +37,7 @@ pub enum Joined {
 }
 
 // Where a node stands that shows this parent and these neighbours.
-fn place_of(parent: Option<NodeId>, a: Option<NodeId>, b: Option<NodeId>) -> Place
+pub fn place_of(parent: Option<NodeId>, a: Option<NodeId>, b: Option<NodeId>) -> Place
     ensures { result ≡ place_shown parent a b }
 {
     match parent {
@@ -102,14 +102,15 @@ fn join<L: Ledger>(arena: &Arena, entries: &mut Entries, x: NodeId, steps: &mut 
         Place::Run => {
             let a = entries.beside(near0, x);
             let b = entries.beside(near1, x);
-            entries.fill(x, view.parent);
+            entries.fill(x);
+            entries.note(x, view.parent);
             entries.link(a.end, b.end);
             let above = entries.above(a.end, b.end);
             run_judged(a.mark + b.mark, above)
         }
         Place::Ring(p) => {
             let children = arena.look(p, steps).children;
-            entries.fill(x, None);
+            entries.fill(x);
             let hits = entries.hit(p, x);
             judged(p, hits, children)
         }

@@ -2,14 +2,18 @@
 //! the row, and at the P-nodes above them, and at no other node. It finds the rows that every frontier keeps already,
 //! and those that are some children of one P-node. Most rows of a long list are one of these.
 //!
-//! The pass labels full nodes from the leaves up. Each label joins a run of labelled children of a Q-node, whose two
-//! ends name each other, or adds to the number of labelled children of a P-node. What the labels form is counted in
-//! parts: where one part is left, it is the row.
+//! A pass labels full nodes from the leaves up. Each label joins a run of labelled children of a Q-node, or adds to the
+//! number of labelled children of a P-node. What the labels form is counted in parts: where one part is left, it is the
+//! row. The first pass only counts, and sees no full Q-node. Where it leaves the row open, and both end children of a
+//! Q-node showed that node, a second pass lets the two ends of each run name each other, and sees where one is full.
 #![tactic(auto)]
 
+mod count;
 mod entries;
 mod joins;
+mod pace;
 mod settled;
+mod tallies;
 mod work;
 
 pub use settled::{Settled, settle};

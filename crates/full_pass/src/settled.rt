@@ -10,8 +10,10 @@ ghost use Rattle.full_pass.specs.Answer.{IsSettled};
 ghost use Rattle.full_pass.specs.Entries.{AreReady};
 ghost use Rattle.full_pass.specs.Passing.{members_of};
 
+use crate::count::count;
 use crate::entries::Entries;
 use crate::joins::rise;
+use crate::pace::Pace;
 use crate::work::FullWork;
 use pq_arena::{Arena, NodeId};
 use row_model::Matrix;
@@ -46,13 +48,48 @@ pub fn settle<L: Ledger>(
     ensures settled { IsSettled arena.now (column_leaves (row_at m.now.rows k)) (indices work.new.members) result }
     ensures kept { result ≡ Settled.Kept → (o : List ℕ) → IsFrontier (outline_at arena.now) o →
         Keeps o (row_at m.now.rows k) }
-    ensures steps { steps.new ≤ steps.old + 4 * length (row_at m.now.rows k) }
+    ensures steps { steps.new ≤ steps.old + 8 * length (row_at m.now.rows k) }
 {
     work.pass(arena, m.row(k), steps)
 }
 
-// The pass over the row with these columns.
-pub fn run<L: Ledger>(
+// A pass that counts over the row with these columns. Where that leaves the row open, and a Q-node may be full, a pass
+// that keeps runs goes on.
+pub fn run_both<L: Ledger>(
+    arena: &Arena,
+    row: &[u32],
+    entries: &mut Entries,
+    pace: &mut Pace,
+    steps: &mut Steps<L>,
+) -> Settled
+    requires tree { IsOneTree arena.now }
+    requires row { IsRow arena.now.columns row.now }
+    requires ready { AreReady entries.old (length arena.now.slots) }
+    ensures ready { AreReady entries.new (length arena.now.slots) }
+    ensures settled { IsSettled arena.now (column_leaves row.now) (members_of entries.new result) result }
+    ensures ticks { steps.new ≤ steps.old + 8 * length row.now }
+{
+    entries.begin();
+    let stamp = entries.stamp;
+    let counted = count(
+        arena,
+        row,
+        &mut entries.labels,
+        &mut entries.tallies,
+        stamp,
+        steps,
+    );
+    let is_open = matches!(counted.settled, Settled::Open);
+    if !is_open || !counted.may_fill || !pace.is_next() {
+        return counted.settled;
+    }
+    let settled = run(arena, row, entries, steps);
+    pace.note(settled);
+    settled
+}
+
+// The pass over the row with these columns that keeps runs.
+fn run<L: Ledger>(
     arena: &Arena,
     row: &[u32],
     entries: &mut Entries,

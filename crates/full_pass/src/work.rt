@@ -8,7 +8,8 @@ ghost use Rattle.pq_arena.specs.RowNodes.{indices, column_leaves};
 ghost use Rattle.full_pass.specs.Answer.{IsSettled};
 
 use crate::entries::Entries;
-use crate::settled::{Settled, run};
+use crate::pace::Pace;
+use crate::settled::{Settled, run_both};
 use pq_arena::{Arena, NodeId};
 use row_model::{COLUMN_BOUND, NoMemory};
 use std::alloc::Global;
@@ -19,6 +20,7 @@ use step_count::{Ledger, Steps};
 #[derive(Drop)]
 pub struct FullWork {
     entries: Entries,
+    pace: Pace,
     members: Vec<NodeId>,
     count: usize,
 }
@@ -48,6 +50,7 @@ impl FullWork {
         let size = 2 * columns as usize + 4;
         Ok(FullWork {
             entries: Entries::new(alloc, size)?,
+            pace: Pace::new(),
             members: vec![in alloc; NodeId::default(); size]?,
             count: 0,
         })
@@ -58,7 +61,7 @@ impl FullWork {
         requires { columns ≤ COLUMN_BOUND }
         ensures { IsTrue result ↔ (self.now.size ≡ 2 * columns + 4) }
     {
-        self.entries.entries.len() == 2 * columns as usize + 4
+        self.entries.tallies.len() == 2 * columns as usize + 4
     }
 
     /// After [`Settled::Group`] the full children of its node, each once, in no stated order.
@@ -68,7 +71,7 @@ impl FullWork {
         &self.members[..self.count]
     }
 
-    // The pass over the row with these columns.
+    // The passes over the row with these columns.
     pub(crate) fn pass<L: Ledger>(
         &mut self,
         arena: &Arena,
@@ -81,10 +84,10 @@ impl FullWork {
         ensures room { self.new.size ≡ self.old.size }
         ensures settled { IsSettled arena.now (column_leaves row.now) (indices self.new.members) result }
         ensures kept { result ≡ Settled.Kept → (o : List ℕ) → IsFrontier (outline_at arena.now) o → Keeps o row.now }
-        ensures steps { steps.new ≤ steps.old + 4 * length row.now }
+        ensures steps { steps.new ≤ steps.old + 8 * length row.now }
     {
         arena.layout_law();
-        match run(arena, row, &mut self.entries, steps) {
+        match run_both(arena, row, &mut self.entries, &mut self.pace, steps) {
             Settled::Kept => Settled::Kept,
             Settled::Group(p) => {
                 self.count = self.entries.list(p, &mut self.members);

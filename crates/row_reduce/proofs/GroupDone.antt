@@ -35,7 +35,7 @@ use Rattle.row_reduce.proofs.Kept.{IsAsked, full_is, full_meets, none_holds}
 use Rattle.row_reduce.proofs.Labelling.{below_p}
 use Rattle.row_reduce.proofs.Leaves.{empty_is}
 use Rattle.row_reduce.proofs.Pertinent.{root_is}
-use Rattle.row_reduce.proofs.RowDone.{MetLaw, IsRowOver, row_over_arena, met_most, met_below}
+use Rattle.row_reduce.proofs.RowDone.{MetLaw, IsRowOver, row_over_arena, met_most, met_below, few_below}
 
 -- the full pass found a group of children of the P-node n
 pub group_members : (f : Layout) (row : List ℕ) (n : ℕ) (ms : List ℕ) → IsGroup f row n ms → AreMembers f n ms
@@ -92,7 +92,7 @@ group_taken {f = f} {rows = rows} {k = k} s two some law n ms g h hl r p2 =
 -- the steps of the full pass and of P2
 pub group_total : {f : Layout} {c : ℕ} {rows : List (List ℕ)} {k : ℕ} {row : List ℕ} → MetLaw → IsRowOver f c rows k row → HasTwoEach f → row_at rows k ≢ [] → (n : ℕ) (ms : List NodeId) →
     IsGroup f (column_leaves (row_at rows k)) n (indices ms) → (few : length (row_at rows k) ≤ nodes_met (row_at rows k) (outline_at f)) → (s0 s1 s2 : ℕ) →
-    s1 ≤ s0 + 4 * length (row_at rows k) → s2 ≡ s1 + 2 * length ms + 2 → s2 ≤ s0 + 256 * (nodes_met (row_at rows k) (outline_at f) + 1)
+    s1 ≤ s0 + 8 * length (row_at rows k) → s2 ≡ s1 + 2 * length ms + 2 → s2 ≤ s0 + 256 * (nodes_met (row_at rows k) (outline_at f) + 1)
 group_total {f = f} {rows = rows} {k = k} law s two some n ms g few s0 s1 s2 x y =
     let a : length (indices ms) ≤ nodes_met (row_at rows k) (outline_at f) =
     few_members f (row_at rows k) n (indices ms) (asked s two some) g f.root (nodes_met (row_at rows k) (outline_at f)) (s.one n (used_by f n P g.is_p)) (met_most law s) in
@@ -102,10 +102,10 @@ group_total {f = f} {rows = rows} {k = k} law s two some n ms g few s0 s1 s2 x y
 -- and counted below the root
 pub group_below : {f : Layout} {c : ℕ} {rows : List (List ℕ)} {k : ℕ} {row : List ℕ} → MetLaw → IsRowOver f c rows k row → HasTwoEach f → row_at rows k ≢ [] → (n : ℕ) (ms : List NodeId) →
     IsGroup f (column_leaves (row_at rows k)) n (indices ms) → (s0 s1 s2 : ℕ) →
-    s1 ≤ s0 + 4 * length (row_at rows k) → s2 ≡ s1 + 2 * length ms + 2 → s2 ≤ s0 + 4 * length (row_at rows k) + 252 * (nodes_met_below_root (row_at rows k) (outline_at f) + 1)
+    s1 ≤ s0 + 8 * length (row_at rows k) → s2 ≡ s1 + 2 * length ms + 2 → s2 ≤ s0 + 4 * length (row_at rows k) + 252 * (nodes_met_below_root (row_at rows k) (outline_at f) + 1)
 group_below {f = f} {rows = rows} {k = k} law s two some n ms g s0 s1 s2 x y =
     let a : length (indices ms) ≤ nodes_met_below_root (row_at rows k) (outline_at f) =
     few_members f (row_at rows k) n (indices ms) (asked s two some) g n (nodes_met_below_root (row_at rows k) (outline_at f)) (here n)
     (met_below law s some n (used_by f n P g.is_p) (is_root f (row_at rows k) n (indices ms) (asked s two some) g)) in
     let b : length (indices ms) ≡ length ms = length-map ms (λ m. m.index) in
-    omega arith
+    omega (arith, few_below s)

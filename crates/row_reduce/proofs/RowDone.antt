@@ -32,7 +32,7 @@ use Rattle.row_reduce.proofs.AtRoot.{least}
 use Rattle.row_reduce.proofs.AtInside.{inside_least}
 use Rattle.row_reduce.proofs.Grounds.{labelled_below}
 use Rattle.row_reduce.proofs.Kept.{kept_reduced}
-use Rattle.row_reduce.proofs.RowLength.{row_few}
+use Rattle.row_reduce.proofs.RowLength.{row_few, row_few_below}
 use Rattle.full_pass.specs.Answer.{IsSettled}
 use Rattle.full_pass.specs.declared.settled.Settled.TheVariants.{Kept}
 use Rattle.row_reduce.proofs.Taking.{AtRow}
@@ -128,14 +128,14 @@ met_below {f = f} {c = c} {rows = rows} {k = k} law s some q used r =
     (law f (row_at rows k) q s.layout used (row_over_arena s))
 
 pub root_below : {f : Layout} {v : Marks} {c : ℕ} {rows : List (List ℕ)} {k : ℕ} {row : List ℕ} {q : ℕ} → MetLaw → IsRowOver f c rows k row → AtFoundRoot f v (row_at rows k) q → (s0 s1 s2 : ℕ) →
-    s1 ≤ s0 + 24 * (2 * nodes_met_below_root (row_at rows k) (outline_at f) + 1) → s2 ≤ s1 + 178 * length v.nodes → s2 ≤ s0 + 252 * (nodes_met_below_root (row_at rows k) (outline_at f) + 1)
+    s1 ≤ s0 + 24 * (2 * nodes_met_below_root (row_at rows k) (outline_at f) + 1) → s2 ≤ s1 + 178 * length v.nodes → s2 ≤ s0 + 248 * (nodes_met_below_root (row_at rows k) (outline_at f) + 1)
 root_below {f = f} {v = v} {rows = rows} {k = k} {q = q} law s found s0 s1 s2 x y =
     let few : length v.nodes ≤ nodes_met_below_root (row_at rows k) (outline_at f) =
     root_few_below (nodes_met_below_root (row_at rows k) (outline_at f)) found (met_below law s found.some q found.ground.used (least found)) in
     omega arith
 
 pub inside_below : {f : Layout} {v : Marks} {c : ℕ} {rows : List (List ℕ)} {k : ℕ} {row : List ℕ} → MetLaw → IsRowOver f c rows k row → AtFoundInside f v (row_at rows k) → (s0 s1 s2 : ℕ) →
-    s1 ≤ s0 + 24 * (2 * nodes_met_below_root (row_at rows k) (outline_at f) + 1) → s2 ≤ s1 + (178 * length v.nodes + 68) → s2 ≤ s0 + 252 * (nodes_met_below_root (row_at rows k) (outline_at f) + 1)
+    s1 ≤ s0 + 24 * (2 * nodes_met_below_root (row_at rows k) (outline_at f) + 1) → s2 ≤ s1 + (178 * length v.nodes + 68) → s2 ≤ s0 + 248 * (nodes_met_below_root (row_at rows k) (outline_at f) + 1)
 inside_below {f = f} {v = v} {rows = rows} {k = k} law s found s0 s1 s2 x y =
     let few : length v.nodes ≤ nodes_met_below_root (row_at rows k) (outline_at f) =
     inside_few_below (nodes_met_below_root (row_at rows k) (outline_at f)) found (met_below law s found.some found.found.run.q found.ground.used (inside_least found)) in
@@ -149,11 +149,11 @@ pub inside_found : {f : Layout} {v : Marks} {row : List ℕ} (g : Layout) → Is
 inside_found {v = v} {row = row} g s e found = subst (λ z. AtFoundInside z v row) (sym e) (at_found_inside s found)
 
 pub root_total : {f : Layout} {v : Marks} {row : List ℕ} {q : ℕ} (a : ℕ) → AtFoundRoot f v row q → AtMost f (column_leaves row) f.root a → (s0 s1 s2 : ℕ) → s1 ≤ s0 + 24 * (a + 1) → s2 ≤ s1 + 178 * length v.nodes →
-    s2 ≤ s0 + 252 * (a + 1)
+    s2 ≤ s0 + 248 * (a + 1)
 root_total {v = v} a s most s0 s1 s2 x y = let few : length v.nodes ≤ a = root_few a s most in omega arith
 
 pub inside_total : {f : Layout} {v : Marks} {row : List ℕ} (a : ℕ) → AtFoundInside f v row → AtMost f (column_leaves row) f.root a → (s0 s1 s2 : ℕ) → s1 ≤ s0 + 24 * (a + 1) → s2 ≤ s1 + (178 * length v.nodes + 68) →
-    s2 ≤ s0 + 252 * (a + 1)
+    s2 ≤ s0 + 248 * (a + 1)
 inside_total {v = v} a s most s0 s1 s2 x y = let few : length v.nodes ≤ a = inside_few a s most in omega arith
 
 -- a row that the full pass says to keep leaves the tree as it is
@@ -166,11 +166,24 @@ pub few_columns : {f : Layout} {c : ℕ} {rows : List (List ℕ)} {k : ℕ} {row
 few_columns {f = f} {rows = rows} {k = k} law s = row_few f (row_at rows k) (nodes_met (row_at rows k) (outline_at f)) s.layout s.one (row_over_arena s) (met_most law s)
 
 -- the steps of the full pass
-pub kept_total : {f : Layout} {c : ℕ} {rows : List (List ℕ)} {k : ℕ} {row : List ℕ} → MetLaw → IsRowOver f c rows k row → (s0 s1 : ℕ) → s1 ≤ s0 + 4 * length (row_at rows k) →
+pub kept_total : {f : Layout} {c : ℕ} {rows : List (List ℕ)} {k : ℕ} {row : List ℕ} → MetLaw → IsRowOver f c rows k row → (s0 s1 : ℕ) → s1 ≤ s0 + 8 * length (row_at rows k) →
     s1 ≤ s0 + 256 * (nodes_met (row_at rows k) (outline_at f) + 1)
 kept_total law s s0 s1 x = omega (arith, few_columns law s)
 
 -- and of the templates behind it
-pub open_total : {f : Layout} {c : ℕ} {rows : List (List ℕ)} {k : ℕ} {row : List ℕ} → MetLaw → IsRowOver f c rows k row → (s0 s1 s2 : ℕ) → s1 ≤ s0 + 4 * length (row_at rows k) →
-    s2 ≤ s1 + 252 * (nodes_met (row_at rows k) (outline_at f) + 1) → s2 ≤ s0 + 256 * (nodes_met (row_at rows k) (outline_at f) + 1)
+pub open_total : {f : Layout} {c : ℕ} {rows : List (List ℕ)} {k : ℕ} {row : List ℕ} → MetLaw → IsRowOver f c rows k row → (s0 s1 s2 : ℕ) → s1 ≤ s0 + 8 * length (row_at rows k) →
+    s2 ≤ s1 + 248 * (nodes_met (row_at rows k) (outline_at f) + 1) → s2 ≤ s0 + 256 * (nodes_met (row_at rows k) (outline_at f) + 1)
 open_total law s s0 s1 s2 x y = omega (arith, few_columns law s)
+
+-- counted at and below the pertinent root
+pub few_below : {f : Layout} {c : ℕ} {rows : List (List ℕ)} {k : ℕ} {row : List ℕ} → IsRowOver f c rows k row → length (row_at rows k) ≤ nodes_met_below_root (row_at rows k) (outline_at f)
+few_below {f = f} {c = c} {rows = rows} {k = k} s = row_few_below c (row_at rows k) (outline_at f) (is_row_at s) s.proper
+
+pub kept_below : {f : Layout} {c : ℕ} {rows : List (List ℕ)} {k : ℕ} {row : List ℕ} → IsRowOver f c rows k row → (s0 s1 : ℕ) → s1 ≤ s0 + 8 * length (row_at rows k) →
+    s1 ≤ s0 + 4 * length (row_at rows k) + 252 * (nodes_met_below_root (row_at rows k) (outline_at f) + 1)
+kept_below s s0 s1 x = omega (arith, few_below s)
+
+pub open_below : {f : Layout} {c : ℕ} {rows : List (List ℕ)} {k : ℕ} {row : List ℕ} → IsRowOver f c rows k row → (s0 s1 s2 : ℕ) → s1 ≤ s0 + 8 * length (row_at rows k) →
+    s2 ≤ s1 + 248 * (nodes_met_below_root (row_at rows k) (outline_at f) + 1) →
+    s2 ≤ s0 + 4 * length (row_at rows k) + 252 * (nodes_met_below_root (row_at rows k) (outline_at f) + 1)
+open_below s s0 s1 s2 x y = omega (arith, few_below s)

@@ -24,7 +24,7 @@ use Rattle.row_reduce.proofs.Grounds.{labelled_below}
 use Rattle.template_model.proofs.Replaced.{below_used}
 
 -- a list each of whose nodes stands in another as often is no longer
-shorter : (xs ys : List ℕ) → ((z : ℕ) → occurs xs z ≤ occurs ys z) → length xs ≤ length ys
+pub shorter : (xs ys : List ℕ) → ((z : ℕ) → occurs xs z ≤ occurs ys z) → length xs ≤ length ys
 shorter [] ys less = omega arith
 shorter (x ∷ xs) ys less =
     let here_in : 1 ≤ occurs ys x = (let a : occurs (x ∷ xs) x ≤ occurs ys x = less x in omega (arith, occurs_here x xs)) in

@@ -10,7 +10,6 @@
 mod apply;
 mod choose;
 mod decide;
-mod pace;
 mod reducer;
 mod rows;
 mod template;

@@ -9,7 +9,6 @@ ghost use Rattle.template_theory.specs.Reduced.{IsReduced};
 ghost use Rattle.template_theory.specs.Frugal.{IsFrugal};
 ghost use Rattle.arena_model.specs.NamedTree.{outline_at};
 
-use crate::pace::Pace;
 use crate::rows::reduce_arena;
 use crate::template::Template;
 use bubble_pass::Work;
@@ -31,7 +30,6 @@ use tied_law::{equivalent_law, universal_law};
 /// that of the tree that it gives.
 pub struct ArenaReducer {
     arena: Arena,
-    pace: Pace,
     full: FullWork,
     work: Work,
     chosen: Vec<Template>,
@@ -42,7 +40,6 @@ impl Drop for ArenaReducer {
     fn drop(self) {
         let ArenaReducer {
             arena: _arena,
-            pace: _pace,
             full: _full,
             work: _work,
             chosen: _chosen,
@@ -82,7 +79,6 @@ impl ArenaReducer {
         let chosen = vec![in alloc; Template::L1; 2 * columns as usize + 4]?;
         Ok(ArenaReducer {
             arena,
-            pace: Pace::new(),
             full,
             work,
             chosen,
@@ -121,7 +117,6 @@ impl ArenaReducer {
         self.arena.layout_law();
         let step = reduce_arena(
             &mut self.arena,
-            &mut self.pace,
             &mut self.full,
             &mut self.work,
             &mut self.chosen,

@@ -10,7 +10,6 @@ ghost use Rattle.row_reduce.specs.Outcome.{IsOutcome, IsRowOutcome, AtFoundRoot,
 
 use crate::apply::{apply_chosen, apply_one};
 use crate::decide::decide;
-use crate::pace::Pace;
 use crate::template::Template;
 use bubble_pass::{Found, Work, bubble, met_law};
 use full_pass::{FullWork, Settled, settle};
@@ -26,7 +25,6 @@ use templates_q::{apply_q3, fits_q3};
 // in one look at each full node.
 pub fn reduce_arena<L: Ledger>(
     arena: &mut Arena,
-    pace: &mut Pace,
     full: &mut FullWork,
     work: &mut Work,
     chosen: &mut [Template],
@@ -56,25 +54,15 @@ pub fn reduce_arena<L: Ledger>(
     if m.row(k).is_empty() {
         return Step::Taken;
     }
-    if !pace.is_full_pass_first() {
-        return reduce_by_templates(arena, work, chosen, m, k, steps);
-    }
     match settle(arena, m, k, full, steps) {
-        Settled::Kept => {
-            pace.settled();
-            Step::Taken
-        }
+        Settled::Kept => Step::Taken,
         Settled::Group(node) => {
-            pace.settled();
             turned_law();
             apply_p2_to(arena, node, full.members(), steps);
             arena.layout_law();
             Step::Taken
         }
-        Settled::Open => {
-            pace.was_in_vain();
-            reduce_by_templates(arena, work, chosen, m, k, steps)
-        }
+        Settled::Open => reduce_by_templates(arena, work, chosen, m, k, steps),
     }
 }
 
@@ -97,9 +85,9 @@ fn reduce_by_templates<L: Ledger>(
     requires some { row_at m.now.rows k ≢ [] }
     ensures outcome { IsRowOutcome m.now.columns m.now.rows k arena.old arena.new result }
     ensures room { size_of work.new ≡ size_of work.old }
-    ensures ticks { steps.new ≤ steps.old + 252 * (nodes_met (row_at m.now.rows k) (outline_at arena.old) + 1) }
+    ensures ticks { steps.new ≤ steps.old + 248 * (nodes_met (row_at m.now.rows k) (outline_at arena.old) + 1) }
     ensures below { result ≡ Step.Taken →
-        steps.new ≤ steps.old + 252 * (nodes_met_below_root (row_at m.now.rows k) (outline_at arena.old) + 1) }
+        steps.new ≤ steps.old + 248 * (nodes_met_below_root (row_at m.now.rows k) (outline_at arena.old) + 1) }
 {
     arena.layout_law();
     arena.arities_law();

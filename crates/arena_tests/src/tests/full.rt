@@ -45,7 +45,7 @@ struct Case {
     questions: &'static [(&'static [u32], Wanted)],
 }
 
-const CASES: [Case; 2] = [
+const CASES: [Case; 3] = [
     // The tree ([1 2 3 4] 5).
     Case {
         is_line: true,
@@ -69,6 +69,20 @@ const CASES: [Case; 2] = [
             (&[3, 4], Wanted::Open),
             (&[1, 2, 3], Wanted::Kept),
             (&[5], Wanted::Kept),
+        ],
+    },
+    // The tree ([1 2 3] 4 5). Where the Q-node is a member, its ends show that it may be full.
+    Case {
+        is_line: true,
+        last: 3,
+        questions: &[
+            (&[1, 2, 3, 4], Wanted::Group(1, 2)),
+            (&[1, 3], Wanted::Open),
+            (&[1, 2, 3, 5], Wanted::Group(1, 2)),
+            (&[1, 3, 4], Wanted::Open),
+            (&[1, 2, 3, 4, 5], Wanted::Kept),
+            (&[1, 2, 4], Wanted::Open),
+            (&[4, 5], Wanted::Group(1, 2)),
         ],
     },
 ];

@@ -31,7 +31,7 @@ rise-requires g c = record {
   linked = c.loop-column.invariant.going.linked;
   row = column_leaves c.args.row.now;
   waiting = column_leaves (drop (c.loop-column.column-index + 1) c.args.row.now);
-  pass = next_waits c.args.arena.now c.args.row.now c.loop-column.entries c.loop-column.column-index c.loop-column.parts c.leaf.result.index
+  pass = next_waits c.args.arena.now c.args.row.now (is_full c.loop-column.entries) (hits c.loop-column.entries) c.loop-column.column-index c.loop-column.parts c.leaf.result.index
       c.layout_law.ensures c.leaf.ensures c.loop-column-test.true c.loop-column.invariant.going.pass;
 }
 
@@ -39,14 +39,14 @@ pub returns-in-None-clause-settled : goal.returns-in-None-clause-settled
 returns-in-None-clause-settled g c =
     root_kept c.args.arena.now (column_leaves c.args.row.now) (row_leaves c.args.arena.now c.args.row.now c.layout_law.ensures c.requires.tree c.requires.row)
     (c.in-None.ensures.risen (column_leaves c.args.row.now) (column_leaves (drop (c.loop-column.column-index + 1) c.args.row.now))
-    (next_waits c.args.arena.now c.args.row.now c.loop-column.entries c.loop-column.column-index c.loop-column.parts c.leaf.result.index
+    (next_waits c.args.arena.now c.args.row.now (is_full c.loop-column.entries) (hits c.loop-column.entries) c.loop-column.column-index c.loop-column.parts c.leaf.result.index
     c.layout_law.ensures c.leaf.ensures c.loop-column-test.true c.loop-column.invariant.going.pass))
 
 pub loop-column-preserved : goal.loop-column-preserved
 loop-column-preserved g c =
     let rest : List ℕ = column_leaves (drop (c.loop-column.column-index + 1) c.args.row.now) in
     let risen = c.in-Some.ensures.risen (column_leaves c.args.row.now) rest
-    (next_waits c.args.arena.now c.args.row.now c.loop-column.entries c.loop-column.column-index c.loop-column.parts c.leaf.result.index
+    (next_waits c.args.arena.now c.args.row.now (is_full c.loop-column.entries) (hits c.loop-column.entries) c.loop-column.column-index c.loop-column.parts c.leaf.result.index
     c.layout_law.ensures c.leaf.ensures c.loop-column-test.true c.loop-column.invariant.going.pass) in
     record {
       going = record {
@@ -59,7 +59,7 @@ loop-column-preserved g c =
 
 pub returns-then-parts-eq1-clause-settled : goal.returns-then-parts-eq1-clause-settled
 returns-then-parts-eq1-clause-settled g c =
-    settled c.args.arena.now (column_leaves c.args.row.now) c.loop-column.entries c.loop-column.parts c.loop-column.last c.layout_law.ensures
+    settled c.args.arena.now (column_leaves c.args.row.now) (is_full c.loop-column.entries) c.loop-column.entries.tallies.items c.loop-column.entries.stamp c.loop-column.parts c.loop-column.last c.layout_law.ensures
     (row_leaves c.args.arena.now c.args.row.now c.layout_law.ensures c.requires.tree c.requires.row)
     (let one : c.loop-column.parts ≡ 1 = c.if-parts-eq1.true in omega arith)
     c.loop-column.invariant.going.linked.chains

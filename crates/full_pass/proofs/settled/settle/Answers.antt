@@ -9,5 +9,5 @@ returns-clause-kept g c = λ e o frontier.
 
 pub returns-clause-steps : goal.returns-clause-steps
 returns-clause-steps g c =
-    subst (λ r. c.pass.new.steps ≤ c.args.steps.now + 4 * length r)
+    subst (λ r. c.pass.new.steps ≤ c.args.steps.now + 8 * length r)
     (sym (get_or_from_slice_get c.args.m.now.rows (c.args.k - 1) c.row.result.now [] c.row.ensures.row)) c.pass.ensures.steps

@@ -1,4 +1,4 @@
-use Rattle.std.proofs.Common.{◌≡◌, ◌≢◌, List, [], length, sym, subst, rules, arith}
+use Rattle.std.proofs.Common.{◌≡◌, ◌≢◌, List, [], length, sym, subst, rules}
 use Rattle.pq_arena.specs.RowNodes.{indices, column_leaves}
 use Rattle.full_pass.specs.Answer.{IsGroup}
 use Rattle.pq_arena.specs.declared.node.NodeId.{NodeId}
@@ -6,7 +6,7 @@ use Rattle.row_model.specs.Graph.{row_at}
 use Rattle.template_theory.specs.declared.reducer.Step.TheVariants.{Taken}
 use Rattle.row_reduce.proofs.Taking.{row_outcome}
 use Rattle.row_reduce.proofs.GroupDone.{group_taken, group_total, group_below}
-use Rattle.row_reduce.proofs.RowDone.{row_over, some_column, few_columns, empty_taken, at_row, kept_taken, kept_total, open_total}
+use Rattle.row_reduce.proofs.RowDone.{row_over, some_column, few_columns, empty_taken, at_row, kept_taken, kept_total, kept_below, open_total, open_below}
 use Rattle.row_reduce.proofs.rows.reduce_arena.Goals as goal
 
 pub returns-then-is_empty-clause-outcome : goal.returns-then-is_empty-clause-outcome
@@ -23,13 +23,16 @@ returns-in-Kept-clause-outcome g c =
 pub returns-in-Kept-clause-ticks : goal.returns-in-Kept-clause-ticks
 returns-in-Kept-clause-ticks g c = kept_total c.met_law.ensures (row_over c.layout_law.ensures c.requires.tree c.requires.columns c.requires.proper c.requires.row c.requires.tied c.row.ensures.row c.row.ensures.ascending) _ _ c.settle.ensures.steps
 
+pub returns-in-Kept-clause-below : goal.returns-in-Kept-clause-below
+returns-in-Kept-clause-below g c = λ e. kept_below (row_over c.layout_law.ensures c.requires.tree c.requires.columns c.requires.proper c.requires.row c.requires.tied c.row.ensures.row c.row.ensures.ascending) _ _ c.settle.ensures.steps
+
 pub returns-in-Open : goal.returns-in-Open
 returns-in-Open g c = record {
-  outcome = c.reduce_by_templates-in-Open.ensures.outcome;
-  room = c.reduce_by_templates-in-Open.ensures.room;
+  outcome = c.reduce_by_templates.ensures.outcome;
+  room = c.reduce_by_templates.ensures.room;
   full = c.settle.ensures.room;
-  ticks = open_total c.met_law.ensures (row_over c.layout_law.ensures c.requires.tree c.requires.columns c.requires.proper c.requires.row c.requires.tied c.row.ensures.row c.row.ensures.ascending) _ _ _ c.settle.ensures.steps c.reduce_by_templates-in-Open.ensures.ticks;
-  below = λ e. let t = c.reduce_by_templates-in-Open.ensures.below e in let u = c.settle.ensures.steps in omega (arith, t, u);
+  ticks = open_total c.met_law.ensures (row_over c.layout_law.ensures c.requires.tree c.requires.columns c.requires.proper c.requires.row c.requires.tied c.row.ensures.row c.row.ensures.ascending) _ _ _ c.settle.ensures.steps c.reduce_by_templates.ensures.ticks;
+  below = λ e. open_below (row_over c.layout_law.ensures c.requires.tree c.requires.columns c.requires.proper c.requires.row c.requires.tied c.row.ensures.row c.row.ensures.ascending) _ _ _ c.settle.ensures.steps (c.reduce_by_templates.ensures.below e);
 }
 
 pub returns-in-Group-clause-outcome : goal.returns-in-Group-clause-outcome

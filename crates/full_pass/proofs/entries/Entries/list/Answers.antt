@@ -1,7 +1,8 @@
 use Rattle.std.proofs.Common.{◌+◌, ◌-◌, ◌++◌, take, set, ap, sym, ◌∙◌, arith}
 use Rattle.std.proofs.lemmas.List.{length-set}
 use Rattle.pq_arena.specs.RowNodes.{indices}
-use Rattle.full_pass.specs.Entries.{hits, next, chained, chain_at}
+use Rattle.full_pass.specs.Entries.{hits, next, chain_at}
+use Rattle.full_pass.specs.Tallies.{chained}
 use Rattle.full_pass.proofs.Listing.{listed_here, listed_next}
 use Rattle.full_pass.proofs.entries.Entries.list.Goals as goal
 

@@ -1,6 +1,7 @@
 use Rattle.std.proofs.Common.{◌≡◌, ◌-◌, ◌++◌, length, take}
 use Rattle.pq_arena.specs.RowNodes.{indices}
-use Rattle.full_pass.specs.Entries.{hits, next, chained, chain_at}
+use Rattle.full_pass.specs.Entries.{hits, next, chain_at}
+use Rattle.full_pass.specs.Tallies.{chained}
 use Rattle.full_pass.proofs.entries.Entries.list.Given as goal
 
 abbrev pub invariant-loop-i : goal.invariant-loop-i

@@ -8,17 +8,17 @@ use Rattle.full_pass.proofs.work.FullWork.pass.Goals as goal
 
 pub list-self-inside-requires-clause-room : goal.list-self-inside-requires-clause-room
 list-self-inside-requires-clause-room g c =
-    let a : hits c.run.new.entries c.in-Group.p.index ≤ length c.args.arena.now.slots =
-    group_few c.args.arena.now (column_leaves c.args.row.now) c.run.new.entries c.in-Group.p.index c.layout_law.ensures c.in-Group.ensures.settled in
-    let b : length c.self.inside.entries.entries.items ≤ length c.self.inside.members.items = c.self.invariant.room in
-    let d : length c.self.inside.entries.entries.items ≡ c.args.self.now.size = ap (λ r. r.size) c.self.view_is in
+    let a : hits c.run_both.new.entries c.in-Group.p.index ≤ length c.args.arena.now.slots =
+    group_few c.args.arena.now (column_leaves c.args.row.now) c.run_both.new.entries c.in-Group.p.index c.layout_law.ensures c.in-Group.ensures.settled in
+    let b : length c.self.inside.entries.tallies.items ≤ length c.self.inside.members.items = c.self.invariant.room in
+    let d : length c.self.inside.entries.tallies.items ≡ c.args.self.now.size = ap (λ r. r.size) c.self.view_is in
     omega (arith, c.requires.room)
 
 pub list-self-inside-requires-clause-all : goal.list-self-inside-requires-clause-all
 list-self-inside-requires-clause-all g c = λ k o.
     let a : k < length c.args.arena.now.slots =
-    group_within c.args.arena.now (column_leaves c.args.row.now) c.run.new.entries c.in-Group.p.index k c.layout_law.ensures c.in-Group.ensures.settled o in
-    subst (λ z. k < z) (sym c.in-Group.ensures.ready.size) a
+    group_within c.args.arena.now (column_leaves c.args.row.now) c.run_both.new.entries c.in-Group.p.index k c.layout_law.ensures c.in-Group.ensures.settled o in
+    subst (λ z. k < z) (sym c.in-Group.ensures.ready.stamped.size) a
 
 pub returns-in-Group-clause-settled : goal.returns-in-Group-clause-settled
 returns-in-Group-clause-settled g c =

@@ -1,0 +1,185 @@
+// The pass that only counts.
+ghost use Rattle.std.specs.Prelude.{◌≡◌, ℕ, ◌+◌, ◌*◌, ◌≤◌, List, ◌∷◌, length, false};
+ghost use Rattle.row_model.specs.Rows.{IsRow};
+ghost use Rattle.arena_model.specs.NamedTree.{IsOneTree};
+ghost use Rattle.pq_arena.specs.RowNodes.{column_leaves};
+ghost use Rattle.full_pass.specs.Answer.{IsSettled};
+ghost use Rattle.full_pass.specs.Tallies.{full_in, hits_in, AreStamped};
+ghost use Rattle.full_pass.specs.Passing.{added_as, members_in, AreCounted, CanAdd, CanClimb, Pass, IsAdded, IsRisen};
+
+use crate::joins::{Place, place_of};
+use crate::settled::Settled;
+use crate::tallies::{Tally, fill, hit, mark, show};
+use pq_arena::{Arena, NodeId};
+use step_count::{Ledger, Steps};
+
+// What a node did that was labelled.
+#[derive(Clone, Copy)]
+pub enum Added {
+    // It is the root, and was not labelled.
+    Top,
+    // It is a child of a Q-node, beside so many labelled ones.
+    Run(usize),
+    // It is the first labelled child of a P-node.
+    First,
+    // It is a further child of this P-node, and others are not labelled.
+    More(NodeId),
+    // It is the last child of this P-node.
+    Whole(NodeId),
+}
+
+// What a pass that counts found.
+#[derive(Clone, Copy)]
+pub struct Counted {
+    pub settled: Settled,
+    // Whether both end children of some Q-node showed it, so that the node may be full.
+    pub may_fill: bool,
+}
+
+// What a child of the P-node `p` did, of whose children so many are labelled.
+fn judged(p: NodeId, hits: u32, children: u32) -> Added
+    ensures { result ≡ added_as p hits children }
+{
+    if hits == 1 {
+        Added::First
+    } else if hits == children {
+        Added::Whole(p)
+    } else {
+        Added::More(p)
+    }
+}
+
+// Labels the full node `x`.
+fn add<L: Ledger>(
+    arena: &Arena,
+    labels: &mut [u32],
+    tallies: &mut [Tally],
+    stamp: u32,
+    x: NodeId,
+    may_fill: &mut bool,
+    steps: &mut Steps<L>,
+) -> Added
+    requires counted { AreCounted arena.now labels.old tallies.old stamp }
+    requires waits { CanAdd arena.now (full_in labels.old stamp) (hits_in tallies.old stamp) x.index }
+    ensures added { (row waiting : List ℕ) (n : ℕ) →
+        Pass arena.now row (full_in labels.old stamp) (hits_in tallies.old stamp) (x.index ∷ waiting) n →
+        IsAdded arena.now row (full_in labels.new stamp) (hits_in tallies.new stamp) waiting n result }
+    ensures counted { AreCounted arena.now labels.new tallies.new stamp }
+    ensures ticks { steps.new ≤ steps.old + 2 }
+{
+    arena.layout_law();
+    let view = arena.look(x, steps);
+    let near0 = view.near[0];
+    let near1 = view.near[1];
+    match place_of(view.parent, near0, near1) {
+        Place::Top => Added::Top,
+        Place::Run => {
+            let pairs = mark(labels, stamp, near0) + mark(labels, stamp, near1);
+            fill(labels, stamp, x);
+            show(tallies, stamp, view.parent, may_fill);
+            Added::Run(pairs)
+        }
+        Place::Ring(p) => {
+            fill(labels, stamp, x);
+            let hits = hit(tallies, stamp, p, x);
+            let children = arena.look(p, steps).children;
+            judged(p, hits, children)
+        }
+    }
+}
+
+// Labels `x` and the nodes that get full by it, with `parts` for the number of parts. Gives the answer if no other part
+// is left, and none where the root is full.
+fn climb<L: Ledger>(
+    arena: &Arena,
+    labels: &mut [u32],
+    tallies: &mut [Tally],
+    stamp: u32,
+    x: NodeId,
+    may_fill: &mut bool,
+    parts: &mut usize,
+    steps: &mut Steps<L>,
+) -> Option<Settled>
+    requires counted { AreCounted arena.now labels.old tallies.old stamp }
+    requires waits { CanClimb arena.now (full_in labels.old stamp) (hits_in tallies.old stamp) x.index parts.old }
+    ensures risen { (row waiting : List ℕ) →
+        Pass arena.now row (full_in labels.old stamp) (hits_in tallies.old stamp) (x.index ∷ waiting) parts.old →
+        IsRisen arena.now row (full_in labels.new stamp) (hits_in tallies.new stamp) waiting parts.new result }
+    ensures counted { AreCounted arena.now labels.new tallies.new stamp }
+    ensures ticks { steps.new + 2 * parts.new ≤ steps.old + 2 * parts.old + 2 }
+{
+    let mut x = x;
+    loop {
+        match add(arena, labels, tallies, stamp, x, may_fill, steps) {
+            Added::Top => return None,
+            Added::Run(pairs) => {
+                *parts -= pairs;
+                return Some(Settled::Kept);
+            }
+            Added::First => return Some(Settled::Kept),
+            Added::More(p) => {
+                *parts -= 1;
+                return Some(Settled::Group(p));
+            }
+            Added::Whole(p) => {
+                *parts -= 1;
+                x = p;
+            }
+        }
+    }
+}
+
+// The pass over the row with these columns. No node has the label `stamp` before.
+pub fn count<L: Ledger>(
+    arena: &Arena,
+    row: &[u32],
+    labels: &mut [u32],
+    tallies: &mut [Tally],
+    stamp: u32,
+    steps: &mut Steps<L>,
+) -> Counted
+    requires tree { IsOneTree arena.now }
+    requires row { IsRow arena.now.columns row.now }
+    requires ready { AreStamped labels.old tallies.old stamp (length arena.now.slots) }
+    requires full { (x : ℕ) → full_in labels.old stamp x ≡ false }
+    requires hits { (x : ℕ) → hits_in tallies.old stamp x ≡ 0 }
+    ensures ready { AreStamped labels.new tallies.new stamp (length arena.now.slots) }
+    ensures settled { IsSettled arena.now (column_leaves row.now) (members_in tallies.new stamp result.settled) result.settled }
+    ensures ticks { steps.new ≤ steps.old + 4 * length row.now }
+{
+    arena.layout_law();
+    let mut may_fill = false;
+    let mut parts = row.len();
+    let mut last = Settled::Open;
+    for column in row {
+        match climb(
+            arena,
+            labels,
+            tallies,
+            stamp,
+            arena.leaf(*column),
+            &mut may_fill,
+            &mut parts,
+            steps,
+        ) {
+            Some(settled) => last = settled,
+            None => {
+                return Counted {
+                    settled: Settled::Kept,
+                    may_fill,
+                };
+            }
+        }
+    }
+    if parts == 1 {
+        Counted {
+            settled: last,
+            may_fill,
+        }
+    } else {
+        Counted {
+            settled: Settled::Open,
+            may_fill,
+        }
+    }
+}
