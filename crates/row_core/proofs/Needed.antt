@@ -1,5 +1,5 @@
 -- Rows that are needed: without any one of them the others have a valid order.
-use Rattle.std.proofs.Common.{◌≡◌, ◌≢◌, ◌∙◌, ℕ, zero, suc, ◌+◌, ◌-◌, ◌<◌, ◌≤◌, Bool, true, false, List, [], ◌∷◌, ◌++◌, ◌⊎◌, length, take, drop, map, get_or, IsTrue, refl, sym, ap, subst, inl, inr, arith, eq-eqb}
+use Rattle.std.proofs.Common.{◌≡◌, ◌≢◌, ◌∙◌, ℕ, zero, suc, ◌+◌, ◌-◌, ◌<◌, ◌≤◌, Bool, false, List, [], ◌∷◌, ◌++◌, ◌⊎◌, length, take, drop, map, get_or, IsTrue, refl, sym, ap, subst, inl, inr, arith, eq-eqb}
 use Rattle.std.proofs.lemmas.Bool.{both_ways, cases_Bool, cases_eq, ne_eqb}
 use Rattle.std.proofs.lemmas.List.{length-map, get_or-map, length-append, get_or_append_left, get_or-append_right, get_or-drop, drop_at, take_at, length-drop, length-take-le, take-append-drop, take-take, drop-take, take-map}
 use Rattle.column_order.specs.Orders.{has, place, Keeps, IsValidOrder, HasValidOrder}
@@ -7,7 +7,7 @@ use Rattle.column_order.proofs.Lists.{has_cases, has_head, has_tail, has_append_
 use Rattle.row_model.specs.Graph.{row_at}
 use Rattle.row_model.specs.Rows.{RowList}
 use Rattle.core_text.specs.Cores.{AreRowNumbers, rows_at, but}
-use Rattle.row_core.specs.Blamed.{turned, marked_from, AreNeeded}
+use Rattle.row_core.specs.Blamed.{rotated, marked_from, AreNeeded}
 use Rattle.row_core.proofs.Numbers.{but_at}
 
 -- each number of the first list is in the second
@@ -167,15 +167,15 @@ last_needed m marks b n q none before some =
           | inr r ↦ has_append_left (take n q) (take (b - n) (drop n q)) y r
         ])
 
--- the numbers that are marked of those after the first n, and the first n, are in the turned list
-front_in : (marks : List Bool) (n : ℕ) (q : List ℕ) → AreIn (marked_from marks n (drop n q) ++ take n q) (turned n q)
+-- the numbers that are marked of those after the first n, and the first n, are in the rotated list
+front_in : (marks : List Bool) (n : ℕ) (q : List ℕ) → AreIn (marked_from marks n (drop n q) ++ take n q) (rotated n q)
 front_in marks n q y h = elim (has_append_cases (marked_from marks n (drop n q)) (take n q) y h) [
   | inl l ↦ has_append_left (drop n q) (take n q) y (marked_in marks n (drop n q) y l)
   | inr r ↦ has_append_right (drop n q) (take n q) y r
 ]
 
 -- the first n stay needed, and the last that is marked of the others is needed too
-pub needed_marked : (m : RowList) (marks : List Bool) (b n : ℕ) (q : List ℕ) → n ≤ length q → AreNeeded m (turned n q) (length q - n) → AreMarkedBelow marks (b + 1) → HasValidOrder m.columns (take b (rows_at m.rows q))
+pub needed_marked : (m : RowList) (marks : List Bool) (b n : ℕ) (q : List ℕ) → n ≤ length q → AreNeeded m (rotated n q) (length q - n) → AreMarkedBelow marks (b + 1) → HasValidOrder m.columns (take b (rows_at m.rows q))
     → AreNeeded m (marked_from marks n (drop n q) ++ take n q) (length (marked_from marks n (drop n q)) - 1)
 needed_marked m marks b n q within needed none before i from inside = elim (cases_less i (length marked)) [
   | inl l ↦
@@ -187,12 +187,12 @@ needed_marked m marks b n q within needed none before i from inside = elim (case
       let size : length (drop n q) ≡ length q - n = length-drop n q in
       let here : get_or (marked ++ take n q) i 0 ≡ get_or (take n q) (i - length marked) 0 = get_or-append_right marked (take n q) (length marked) i 0 refl u in
       let back : place - (length q - n) ≡ i - length marked = omega arith in
-      let there : get_or (turned n q) place 0 ≡ get_or (take n q) (i - length marked) 0 =
+      let there : get_or (rotated n q) place 0 ≡ get_or (take n q) (i - length marked) 0 =
       get_or-append_right (drop n q) (take n q) (length q - n) place 0 size (omega arith) ∙ ap (λ k. get_or (take n q) k 0) back in
-      let fits : place < length (turned n q) =
+      let fits : place < length (rotated n q) =
       omega (arith, size, u, inside, length-append (drop n q) (take n q), length-append marked (take n q), length-take-le n q within) in
       subst (λ x. HasValidOrder m.columns (rows_at m.rows (but x (marked ++ take n q)))) (there ∙ sym here)
-      (needed_few m (get_or (turned n q) place 0) (marked ++ take n q) (turned n q) (front_in marks n q) (needed place (omega arith) fits))
+      (needed_few m (get_or (rotated n q) place 0) (marked ++ take n q) (rotated n q) (front_in marks n q) (needed place (omega arith) fits))
 ]
   where
     marked : List ℕ
@@ -237,15 +237,15 @@ needed_more m i set h needed j from inside = elim (cases_eq j i) [
   | inr n ↦ needed j (omega (arith, from, n)) inside
 ]
 
--- the others, with those after the index first, are turned back
-pub turned_back : (i : ℕ) (set : List ℕ) → i < length set → turned (length set - (i + 1)) (drop (i + 1) set ++ take i set) ≡ take i set ++ drop (i + 1) set
-turned_back i set l =
+-- the others, with those after the index first, are rotated back
+pub rotated_back : (i : ℕ) (set : List ℕ) → i < length set → rotated (length set - (i + 1)) (drop (i + 1) set ++ take i set) ≡ take i set ++ drop (i + 1) set
+rotated_back i set l =
     let size : length (drop (i + 1) set) ≡ length set - (i + 1) = length-drop (i + 1) set in
     ap (λ xs. xs ++ take (length set - (i + 1)) (drop (i + 1) set ++ take i set)) (drop_at (drop (i + 1) set) (take i set) (length set - (i + 1)) size)
     ∙ ap (λ xs. take i set ++ xs) (take_at (drop (i + 1) set) (take i set) (length set - (i + 1)) size)
 
-pub turned_others : (i n : ℕ) (set list : List ℕ) → i < length set → list ≡ drop (i + 1) set ++ take i set → n ≡ length set - (i + 1) → turned n list ≡ take i set ++ drop (i + 1) set
-turned_others i n set list l e s = ap (λ k. turned k list) s ∙ ap (turned (length set - (i + 1))) e ∙ turned_back i set l
+pub rotated_others : (i n : ℕ) (set list : List ℕ) → i < length set → list ≡ drop (i + 1) set ++ take i set → n ≡ length set - (i + 1) → rotated n list ≡ take i set ++ drop (i + 1) set
+rotated_others i n set list l e s = ap (λ k. rotated k list) s ∙ ap (rotated (length set - (i + 1))) e ∙ rotated_back i set l
 
 pub length-others : (i : ℕ) (set : List ℕ) → i < length set → length (take i set ++ drop (i + 1) set) + 1 ≡ length set
 length-others i set l = omega (arith, length-append (take i set) (drop (i + 1) set), length-take-le i set (omega (arith, l)), length-drop (i + 1) set)

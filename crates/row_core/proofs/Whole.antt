@@ -14,7 +14,7 @@ use Rattle.pq_tree.specs.declared.PqTree.{PqTree}
 use Rattle.row_judge.specs.Judges.{IsTreeOfOrders}
 use Rattle.core_text.specs.Cores.{AreRowNumbers, rows_at}
 use Rattle.core_text.specs.Told.{IsAmong, AreAmong}
-use Rattle.row_core.specs.Blamed.{AreEachWithin, part_at, turned, whole_why, whole_line, IsReasonWithin, AreReasonsWithin, IsMarked, AreMarked, marked_from, IsBlamed}
+use Rattle.row_core.specs.Blamed.{AreEachWithin, part_at, rotated, whole_why, whole_line, IsReasonWithin, AreReasonsWithin, IsMarked, AreMarked, marked_from, IsBlamed}
 use Rattle.row_core.specs.declared.blamed.Blamed.{Blamed}
 use Rattle.core_text.specs.Laws.{BlameLaw}
 use Rattle.pq_tree.specs.Proper.{columns}
@@ -114,49 +114,49 @@ all_among_marked : (n : ℕ) (set : List ℕ) (marks : List Bool) (lines : List 
 all_among_marked n set marks [] l w h = tt
 all_among_marked n set marks (line ∷ lines) l w h = (among_marked n set marks line.why l w.0 h.0, all_among_marked n set marks lines l w.1 h.1)
 
--- a list and what it is when it is turned have the same numbers
-pub turned_in : (n : ℕ) (list : List ℕ) → AreIn (turned n list) list
-turned_in n list k h = subst (λ xs. IsTrue (has xs k)) (take-append-drop n list) (elim (has_append_cases (drop n list) (take n list) k h) [
+-- a list and what it is when it is rotated have the same numbers
+pub rotated_in : (n : ℕ) (list : List ℕ) → AreIn (rotated n list) list
+rotated_in n list k h = subst (λ xs. IsTrue (has xs k)) (take-append-drop n list) (elim (has_append_cases (drop n list) (take n list) k h) [
   | inl f ↦ has_append_right (take n list) (drop n list) k f
   | inr f ↦ has_append_left (take n list) (drop n list) k f
 ])
 
-pub in_turned : (n : ℕ) (list : List ℕ) → AreIn list (turned n list)
-in_turned n list k h = elim (has_append_cases (take n list) (drop n list) k (subst (λ xs. IsTrue (has xs k)) (sym (take-append-drop n list)) h)) [
+pub in_rotated : (n : ℕ) (list : List ℕ) → AreIn list (rotated n list)
+in_rotated n list k h = elim (has_append_cases (take n list) (drop n list) k (subst (λ xs. IsTrue (has xs k)) (sym (take-append-drop n list)) h)) [
   | inl f ↦ has_append_right (drop n list) (take n list) k f
   | inr f ↦ has_append_left (drop n list) (take n list) k f
 ]
 
-pub length-turned : (n : ℕ) (list : List ℕ) → length (turned n list) ≡ length list
-length-turned n list = omega (arith, length-append (drop n list) (take n list), length-drop n list, length-take n list)
+pub length-rotated : (n : ℕ) (list : List ℕ) → length (rotated n list) ≡ length list
+length-rotated n list = omega (arith, length-append (drop n list) (take n list), length-drop n list, length-take n list)
 
--- the tree of all valid orders of the rows of a list is that of the turned list
-pub tree_turned : (m : RowList) (n : ℕ) (list : List ℕ) (t : PqTree) → IsTreeOfOrders (part_at m list) t → IsTreeOfOrders (part_at m (turned n list)) t
-tree_turned m n list t h = record {
+-- the tree of all valid orders of the rows of a list is that of the rotated list
+pub tree_rotated : (m : RowList) (n : ℕ) (list : List ℕ) (t : PqTree) → IsTreeOfOrders (part_at m list) t → IsTreeOfOrders (part_at m (rotated n list)) t
+tree_rotated m n list t h = record {
   columns = h.columns;
   canonical = h.canonical;
   orders = λ o. (
-    λ f. valid_few m.columns m.rows (turned n list) list o (turned_in n list) ((h.orders o).0 f),
-    λ v. (h.orders o).1 (valid_few m.columns m.rows list (turned n list) o (in_turned n list) v),
+    λ f. valid_few m.columns m.rows (rotated n list) list o (rotated_in n list) ((h.orders o).0 f),
+    λ v. (h.orders o).1 (valid_few m.columns m.rows list (rotated n list) o (in_rotated n list) v),
   );
 }
 
--- each number of a list that ascends as soon as it is turned is one of 1 to the bound
-pub within_turned : (bound n : ℕ) (list : List ℕ) → AreRowNumbers bound (turned n list) → AreEachWithin bound list
-within_turned bound n list a i d l =
-    let there = at_place (turned n list) (get_or list i d) (in_turned n list (get_or list i d) (subst (λ k. IsTrue (has list k)) (get_or_default list i 0 d l) (has_at list i l))) in
-    let within = within_at bound 0 (turned n list) (place (turned n list) (get_or list i d)) 0 a there.0 in
+-- each number of a list that ascends as soon as it is rotated is one of 1 to the bound
+pub within_rotated : (bound n : ℕ) (list : List ℕ) → AreRowNumbers bound (rotated n list) → AreEachWithin bound list
+within_rotated bound n list a i d l =
+    let there = at_place (rotated n list) (get_or list i d) (in_rotated n list (get_or list i d) (subst (λ k. IsTrue (has list k)) (get_or_default list i 0 d l) (has_at list i l))) in
+    let within = within_at bound 0 (rotated n list) (place (rotated n list) (get_or list i d)) 0 a there.0 in
     subst (λ k. (1 ≤ k) × (k ≤ bound)) there.1 (omega (arith, within.0), within.1)
 
 -- the rows that are marked, and the first n, are to blame
 pub blamed_marked : (m : RowList) (n : ℕ) (list : List ℕ) (marks : List Bool) (lines : List Line) (blamed : Blamed) → n ≤ length list → blamed.rows.items ≡ marked_from marks n (drop n list) ++ take n list
     → blamed.untried ≤ length blamed.rows.items → blamed.lines ≡ map (whole_line list) lines
-    → AreReasonsWithin (length list) lines → AreMarked marks lines → AreRowNumbers (length m.rows) (turned n list) → IsOddCycle m.columns (rows_at m.rows list) lines → IsBlamed m blamed
+    → AreReasonsWithin (length list) lines → AreMarked marks lines → AreRowNumbers (length m.rows) (rotated n list) → IsOddCycle m.columns (rows_at m.rows list) lines → IsBlamed m blamed
 blamed_marked m n list marks lines blamed l rows few whole within marked a cycle =
     record {
       rows = rw rows (ascends_marked_front (length m.rows) 0 n marks (drop n list) (take n list) a);
       few = few;
-      cycle = rw whole (cycle_whole m list lines (within_turned (length m.rows) n list a) cycle);
+      cycle = rw whole (cycle_whole m list lines (within_rotated (length m.rows) n list a) cycle);
       among = rw (rows, whole) (all_among_marked n list marks lines l within marked);
     }
 

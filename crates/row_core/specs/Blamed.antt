@@ -63,8 +63,8 @@ marked_from marks i [] = []
 marked_from marks i (k ∷ set) = if slice_index_or marks i false then k ∷ marked_from marks (i + 1) set else marked_from marks (i + 1) set
 
 -- the numbers from place n on, and then those before it
-abbrev pub turned : ℕ → List ℕ → List ℕ
-turned n list = drop n list ++ take n list
+abbrev pub rotated : ℕ → List ℕ → List ℕ
+rotated n list = drop n list ++ take n list
 
 -- rows of a matrix, and an odd cycle that has no other rows as reasons; so they have no valid order together
 pub record IsBlamed (m : RowList) (blamed : Blamed) : Type 0 where

@@ -5,7 +5,7 @@ ghost use Rattle.row_model.specs.Rows.{RowList};
 ghost use Rattle.row_model.specs.Cycles.{IsOddCycle};
 ghost use Rattle.row_judge.specs.Judges.{IsFirstConflict};
 ghost use Rattle.core_text.specs.Cores.{AreRowNumbers, rows_at};
-ghost use Rattle.row_core.specs.Blamed.{part_at, turned, whole_line, IsReasonWithin, AreReasonsWithin, AreMarked, with_mark, marked_from, IsBlamed, AreNeeded};
+ghost use Rattle.row_core.specs.Blamed.{part_at, rotated, whole_line, IsReasonWithin, AreReasonsWithin, AreMarked, with_mark, marked_from, IsBlamed, AreNeeded};
 
 use odd_cycle::Cycle;
 use row_model::{Line, Lines, NoMemory, Why};
@@ -32,12 +32,12 @@ pub fn blame(alloc: Global, list: &[u32], needed: usize, cycle: &Cycle) -> Resul
     requires within { AreReasonsWithin (length list.now) cycle.now }
     requires needed { needed ≤ length list.now }
     ensures blamed { IfOk result (λ blamed. (m : RowList)
-        → AreRowNumbers (length m.rows) (turned needed list.now)
+        → AreRowNumbers (length m.rows) (rotated needed list.now)
         → IsOddCycle m.columns (rows_at m.rows list.now) cycle.now
         → IsBlamed m blamed) }
     ensures needed { IfOk result (λ blamed. (m : RowList)
-        → AreRowNumbers (length m.rows) (turned needed list.now)
-        → AreNeeded m (turned needed list.now) (length list.now - needed)
+        → AreRowNumbers (length m.rows) (rotated needed list.now)
+        → AreNeeded m (rotated needed list.now) (length list.now - needed)
         → IsFirstConflict (part_at m list.now) cycle.now
         → AreNeeded m blamed.rows.items blamed.untried) }
     ensures few { IfOk result (λ blamed. length blamed.rows.items ≤ length list.now) }

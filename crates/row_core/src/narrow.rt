@@ -3,7 +3,7 @@ ghost use Rattle.std.specs.Prelude.{◌≡◌, ◌+◌, ◌-◌, ◌≤◌, IfOk
 ghost use Rattle.row_core.specs.Blamed.{IsBlamed, IsNarrowed, AreNeeded};
 
 use crate::blamed::Blamed;
-use crate::part::{Finding, judged, push_leaves, turned_without};
+use crate::part::{Finding, judged, push_leaves, rotated_without};
 use core_text::Orders;
 use row_judge::Judge;
 use row_model::{Lines, Matrix, NoMemory};
@@ -49,7 +49,7 @@ pub fn all_tried<J: Judge, L: Ledger>(
     'rounds: while blamed.untried > 0 {
         let last = blamed.untried - 1;
         let needed = blamed.rows.len() - blamed.untried;
-        let others = turned_without(alloc, &blamed.rows, last)?;
+        let others = rotated_without(alloc, &blamed.rows, last)?;
         match judged(alloc, judge, m, &others, needed, steps)? {
             Finding::Ordered(tree) => {
                 push_leaves(alloc, &mut orders, tree)?;

@@ -3,7 +3,7 @@ ghost use Rattle.std.specs.Prelude.{◌≡◌, ◌+◌, ◌-◌, ◌<◌, ◌≤
 ghost use Rattle.pq_tree.specs.Outline.{IsFrontier, leaves};
 ghost use Rattle.pq_tree.specs.PqTree.{outline};
 ghost use Rattle.core_text.specs.Cores.{AreRowNumbers};
-ghost use Rattle.row_core.specs.Blamed.{AreEachWithin, part_at, turned, AreNeeded, IsFinding, IsNeededFinding};
+ghost use Rattle.row_core.specs.Blamed.{AreEachWithin, part_at, rotated, AreNeeded, IsFinding, IsNeededFinding};
 
 use crate::blamed::{Blamed, blame};
 use core_text::Orders;
@@ -32,10 +32,10 @@ pub fn judged<J: Judge, L: Ledger>(
     steps: &mut Steps<L>,
 ) -> Result<Finding, NoMemory>
     requires needed { needed ≤ length list.now }
-    requires rows { AreRowNumbers (length m.now.rows) (turned needed list.now) }
-    ensures finding { IfOk result (IsFinding m.now (turned needed list.now) needed) }
+    requires rows { AreRowNumbers (length m.now.rows) (rotated needed list.now) }
+    ensures finding { IfOk result (IsFinding m.now (rotated needed list.now) needed) }
     ensures in_turn { IsTrue J.in_turn
-        → AreNeeded m.now (turned needed list.now) (length list.now - needed)
+        → AreNeeded m.now (rotated needed list.now) (length list.now - needed)
         → IfOk result (IsNeededFinding m.now) }
     ensures asked { J.asked judge.new ≤ J.asked judge.old + 1 }
 {
@@ -79,7 +79,7 @@ pub fn without(alloc: Global, list: &[u32], i: usize) -> Result<Vec<u32>, NoMemo
 }
 
 /// The numbers of the list after an index, and then those before it.
-pub fn turned_without(alloc: Global, list: &[u32], i: usize) -> Result<Vec<u32>, NoMemory>
+pub fn rotated_without(alloc: Global, list: &[u32], i: usize) -> Result<Vec<u32>, NoMemory>
     requires { i < length list.now }
     ensures { IfOk result (λ rest. rest.items ≡ drop (i + 1) list.now ++ take i list.now) }
 {

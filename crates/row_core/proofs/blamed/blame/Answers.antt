@@ -1,6 +1,6 @@
-use Rattle.std.proofs.Common.{◌≡◌, ◌∙◌, ◌-◌, ◌≤◌, ◌++◌, ℕ, false, length, take, drop, map, get_or, ap, sym, subst, arith}
+use Rattle.std.proofs.Common.{◌≡◌, ◌∙◌, ◌-◌, ◌++◌, length, take, drop, ap, sym, subst, arith}
 use Rattle.std.proofs.lemmas.List.{length-append, length-take-le, length-drop}
-use Rattle.row_core.specs.Blamed.{AreMarked, AreNeeded, AreReasonsWithin, marked_from, whole_line}
+use Rattle.row_core.specs.Blamed.{AreNeeded, marked_from}
 use Rattle.row_core.proofs.Marks.{few_marked}
 use Rattle.row_core.proofs.Needed.{needed_marked}
 use Rattle.row_core.proofs.Whole.{blamed_marked, marked_below}

@@ -1,4 +1,4 @@
-use Rattle.std.proofs.Common.{◌≡◌, ◌+◌, ◌-◌, ◌<◌, ◌≤◌, IsTrue, length}
+use Rattle.std.proofs.Common.{◌+◌, ◌-◌, ◌<◌, ◌≤◌, IsTrue, length}
 use Rattle.row_core.specs.Blamed.{IsBlamed, AreNeeded, AreTold}
 use Rattle.row_core.proofs.narrow.all_tried.Given as goal
 

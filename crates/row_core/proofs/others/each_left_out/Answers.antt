@@ -5,7 +5,7 @@ use Rattle.core_text.specs.Cores.{AreRowNumbers}
 use Rattle.core_text.specs.Told.{IsOrderWithout}
 use Rattle.pq_tree.specs.Outline.{leaves}
 use Rattle.pq_tree.specs.PqTree.{outline}
-use Rattle.row_core.specs.Blamed.{turned}
+use Rattle.row_core.specs.Blamed.{rotated}
 use Rattle.row_core.proofs.Needed.{length-others, needed_valid}
 use Rattle.row_core.proofs.Numbers.{ascends_without}
 use Rattle.row_core.proofs.Told.{order_without, order_more}
@@ -38,8 +38,8 @@ loop-i-preserved g c =
     let l : i < length set = omega arith in
     let t = c.in-Ordered.tree in
     let list : c.deref-in-loop-i.result.now ≡ take i set ++ drop (i + 1) set = c.deref-in-loop-i.ensures.value ∙ c.in_ok-others.ensures ∙ ap (λ xs. take i xs ++ drop (i + 1) xs) c.deref.ensures.value in
-    let turned_is : turned 0 c.deref-in-loop-i.result.now ≡ take i set ++ drop (i + 1) set = append-nil c.deref-in-loop-i.result.now ∙ list in
-    let found = rw (c.in-Ordered.is, turned_is) at c.in_ok-tree.ensures.finding in
+    let rotated_is : rotated 0 c.deref-in-loop-i.result.now ≡ take i set ++ drop (i + 1) set = append-nil c.deref-in-loop-i.result.now ∙ list in
+    let found = rw (c.in-Ordered.is, rotated_is) at c.in_ok-tree.ensures.finding in
     let pushed = c.in_ok-push_leaves-in-Ordered.ensures in
     let one : IsOrderWithout m set (get_or set i 0) (leaves (outline t)) = order_without m set (take i set ++ drop (i + 1) set) (leaves (outline t)) i t c.requires.rows l refl found refl pushed.frontier in
     let more = order_more m set (leaves (outline t)) c.loop-i.orders c.push_leaves.new.orders i one pushed.ok c.loop-i.invariant.count c.loop-i.invariant.orders in
@@ -52,6 +52,6 @@ returns-in-Refused-clause-tried g c =
     let i = c.loop-i.i in
     let l : i < length set = omega arith in
     let list : c.deref-in-loop-i.result.now ≡ take i set ++ drop (i + 1) set = c.deref-in-loop-i.ensures.value ∙ c.in_ok-others.ensures ∙ ap (λ xs. take i xs ++ drop (i + 1) xs) c.deref.ensures.value in
-    let turned_is : turned 0 c.deref-in-loop-i.result.now ≡ take i set ++ drop (i + 1) set = append-nil c.deref-in-loop-i.result.now ∙ list in
-    let found = rw (c.in-Refused.is, turned_is) at c.in_ok-tree.ensures.finding in
+    let rotated_is : rotated 0 c.deref-in-loop-i.result.now ≡ take i set ++ drop (i + 1) set = append-nil c.deref-in-loop-i.result.now ∙ list in
+    let found = rw (c.in-Refused.is, rotated_is) at c.in_ok-tree.ensures.finding in
     (found.0, omega (arith, found.2, length-others i set l), λ needed. found.1 (needed_valid m i set c.requires.rows l (needed i (omega arith) l)))

@@ -1,4 +1,4 @@
-use Rattle.std.proofs.Common.{◌≡◌, ◌∙◌, refl, sym, ap, subst, inl, inr}
+use Rattle.std.proofs.Common.{◌∙◌, refl, sym, ap, subst, inl, inr}
 use Rattle.instance_model.specs.Instance.{plain, IsInstance}
 use Rattle.instance_model.specs.Value.{instance_value}
 use Rattle.core_text.specs.Told.{TellsCore}

@@ -1,7 +1,6 @@
-use Rattle.std.proofs.Common.{◌≡◌, ◌∙◌, ◌≤◌, List, ℕ, refl, sym, subst}
+use Rattle.std.proofs.Common.{◌≤◌, refl, subst}
 use Rattle.column_order.specs.Orders.{HasValidOrder}
 use Rattle.c1p_solve.specs.Answers.{HasAllOrders}
-use Rattle.instance_model.specs.Instance.{InstanceValue, plain, derived_matrix, instance_columns}
 use Rattle.instance_model.specs.Value.{instance_value}
 use Rattle.pq_tree.specs.Outline.{leaves}
 use Rattle.pq_tree.specs.Proper.{IsProper}
