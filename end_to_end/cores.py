@@ -120,9 +120,34 @@ def forged_cores():
             yield columns, rows, text
 
 
+def drawn_order(rng, columns, rows):
+    """An order that keeps the rows, most often, and else any order."""
+    kept = sorted(valid_orders(columns, rows))
+    return list(rng.choice(kept)) if kept and rng.random() < 0.9 else rng.sample(range(1, columns + 1), columns)
+
+
+def drawn_texts():
+    """Texts of rows with drawn orders, and the matrix of each, from a fixed seed: the rows and the cycle of a core that `core` found, with one row more
+    or without one, and as they are."""
+    rng = random.Random(20261129)
+    for columns, rows in itertools.islice(core_matrices(), 5, 205):
+        found = parsed(run(["core", "matrix", "-"], dense(columns, rows)).stdout)
+        if not found:
+            continue
+        core, cycle = {row for row, _ in found[2]}, [f"{a} {b} " + ("flip" if row is None else f"row {row}") for a, b, row in found[3]]
+        for named in (core, core | {rng.randint(1, len(rows))}, core - {rng.randint(1, len(rows))}):
+            entries = []
+            for row in sorted(named):
+                order = drawn_order(rng, columns, [rows[other - 1] for other in named - {row}])
+                entries += [f"row {row}", "without " + " ".join(map(str, order))]
+            yield columns, rows, core_text(f"core {len(named)}", *entries, f"cycle {len(cycle)}", *cycle, columns=columns)
+
+
 def core_problems():
     """What the commands answer on matrices and on texts of cores: names and problems."""
     for columns, rows in core_matrices():
         yield f"core {columns} {rows}", core_problem, (columns, rows)
     for number, (columns, rows, text) in enumerate(forged_cores()):
         yield f"check-core, text {number}", forged_problem, (columns, rows, text)
+    for number, (columns, rows, text) in enumerate(drawn_texts()):
+        yield f"check-core, drawn text {number}", forged_problem, (columns, rows, text)

@@ -12,6 +12,7 @@ a front, for which the disk keeps no bytes. The full ones have the length of a v
 
 import itertools
 import os
+import random
 import subprocess
 import sys
 import tempfile
@@ -30,6 +31,11 @@ ALIKE = 127
 MOST_SECONDS = 5
 # How much longer twice as much may take.
 MOST_GROWTH = 2.2
+# How long `core` may take where it needs each row of a ring, and how much longer than `solve` it may take where it needs three rows of very many,
+# beside the start of two programs.
+RING_SECONDS = 1
+MOST_SOLVES = 3
+START_SECONDS = 0.02
 MOST_TIMES = 12
 # The program, the C library and the room for one read, or the small program that starts it.
 BASE_BYTES = 16 << 20
@@ -271,6 +277,52 @@ def many_orders_problem():
     return None if seconds[1] <= MOST_GROWTH * seconds[0] else f"{seconds[1]:.2f} seconds after {seconds[0]:.2f}"
 
 
+def rows_file(rows):
+    """A file of kind `rows` over the most columns."""
+    return b"%d\n" % COLUMNS + b"".join(b" ".join(b"%d" % column for column in row) + b"\n" for row in rows)
+
+
+def ring():
+    """As many rows of two columns as there are columns, of which each other is needed for a contradiction."""
+    return rows_file([(column, column + 1) for column in range(1, COLUMNS)] + [(1, COLUMNS)])
+
+
+def late_contradictions():
+    """As many rows as there may be, each with what they are; the last three contradict one another, and no other row is needed for it."""
+    rng = random.Random(20261129)
+    starts = [rng.randint(1, COLUMNS - 20) for _ in range(MOST_ROWS - 3)]
+    yield "sparse rows", rows_file([range(start, start + rng.randint(2, 20)) for start in starts] + [(1, 2), (2, 3), (1, 3)])
+    nest = [range(1, 2 + number % 30) for number in range(MOST_ROWS - 3)]
+    yield "nested rows", rows_file(nest + [(COLUMNS - 1, COLUMNS), (COLUMNS - 2, COLUMNS), (COLUMNS - 2, COLUMNS - 1)])
+
+
+def core_count(given):
+    """How many rows the text of a core names, or None where there is none."""
+    lines = given[1].split(b"\n", 4)
+    return int(lines[3].split()[1]) if given[0] == 0 and lines[3].startswith(b"core ") else None
+
+
+def ring_problem():
+    """What is wrong with the core of a ring, or with how long it takes, or None."""
+    given, cost = measured(["core", "rows"], ring())
+    print(f"core of a ring of {COLUMNS} columns: {cost.seconds:.2f} seconds, {cost.peak} bytes at the peak", flush=True)
+    if core_count(given) != COLUMNS:
+        return f"{given[0]}, {given[1][:100]}"
+    return None if cost.seconds <= RING_SECONDS else f"{cost.seconds:.2f} seconds"
+
+
+def late_problem(what, content):
+    """What is wrong with the core of rows of which the last three contradict one another, or with how long it takes, or None."""
+    given, cost = measured(["core", "rows"], content)
+    _, solved = measured(["solve", "rows"], content)
+    print(f"core of {what}: {cost.seconds:.2f} seconds, and {solved.seconds:.2f} to solve them, {cost.peak} bytes at the peak for {len(content)}", flush=True)
+    if core_count(given) != 3:
+        return f"{given[0]}, {given[1][:100]}"
+    if cost.seconds > MOST_SOLVES * solved.seconds + START_SECONDS:
+        return f"{cost.seconds:.2f} seconds, and {solved.seconds:.2f} to solve them"
+    return cost.problem(len(content), BASE_BYTES)
+
+
 def difference(given, wanted):
     """How the status, the output and the errors differ from those that are wanted, or None. The wanted output is left out where it is free."""
     given = [one[:200] if isinstance(one, bytes) else one for one in given]
@@ -314,6 +366,9 @@ def hostile_problems():
         print(f"{name}: status {given[0]}, {cost.seconds:.2f} seconds, {cost.peak} bytes at the peak for {len(content)}{times}", flush=True)
         yield f"hostile: {name}", difference(given, wanted) or cost.problem(len(content), beside)
     yield "hostile: the orders of a core of the most rows", many_orders_problem()
+    yield "hostile: the core of a ring", ring_problem()
+    for what, content in late_contradictions():
+        yield f"hostile: the core of {what}", late_problem(what, content)
 
 
 def main():

@@ -9,6 +9,7 @@ use Rattle.pq_tree.specs.Canonical.{IsCanonical}
 use Rattle.pq_tree.specs.PqTree.{column_count, outline}
 use Rattle.pq_tree.specs.declared.PqTree.{PqTree}
 use Rattle.tied_law.specs.Tied.{IsTied}
+use Rattle.row_judge.specs.Judges.{IsFirstConflict}
 use Rattle.c1p_solve.specs.declared.solver.Solved.{Solved}
 use Rattle.c1p_solve.specs.declared.solver.Solved.TheVariants.{Yes, No}
 
@@ -42,3 +43,13 @@ IsReduction m t (Some cycle) = IsOddCycle m.columns m.rows cycle × (HasValidOrd
 abbrev pub LeavesTree : RowList → Outline → Solved → Type 0
 LeavesTree m t (Yes _) = IsTied m.columns m.rows t
 LeavesTree m t (No _) = StandsBefore m t
+
+-- the cycle of a no is one of the rows up to the first that leaves no valid order with those before it
+abbrev pub IsInTurn : RowList → Solved → Type 0
+IsInTurn m (Yes _) = Unit {0}
+IsInTurn m (No cycle) = IsFirstConflict m cycle
+
+-- so is the cycle after a row that is refused
+abbrev pub IsReducedInTurn : RowList → Option (List Line) → Type 0
+IsReducedInTurn m None = Unit {0}
+IsReducedInTurn m (Some cycle) = IsFirstConflict m cycle

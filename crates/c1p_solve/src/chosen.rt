@@ -1,7 +1,7 @@
 // The answer by the reducer that the programs use.
 ghost use Rattle.std.specs.Prelude.{◌≡◌, IfOk};
 ghost use Rattle.arena_model.specs.NamedTree.{outline_at};
-ghost use Rattle.c1p_solve.specs.Answers.{IsAnswer, LeavesTree};
+ghost use Rattle.c1p_solve.specs.Answers.{IsAnswer, LeavesTree, IsInTurn};
 ghost use Rattle.c1p_solve.specs.Totals.{IsTotal};
 
 use crate::solver::{Solved, solve};
@@ -39,6 +39,7 @@ pub fn answer<L: Ledger>(
     steps: &mut Steps<L>,
 ) -> Result<Answered, NoMemory>
     ensures solved { IfOk result (λ a. IsAnswer m.now a.solved) }
+    ensures in_turn { IfOk result (λ a. IsInTurn m.now a.solved) }
     ensures reducer { IfOk result (λ a. LeavesTree m.now (outline_at a.reducer) a.solved) }
     ensures columns { IfOk result (λ a. a.reducer.columns ≡ m.now.columns) }
     ensures total { IfOk result (λ a. IsTotal m.now (outline_at a.reducer) steps.old steps.new a.solved) }

@@ -4,7 +4,7 @@ ghost use Rattle.row_model.specs.Graph.{HasConflict};
 ghost use Rattle.row_model.specs.Cycles.{IsOddCycle};
 ghost use Rattle.pq_tree.specs.Amortised.{weight};
 ghost use Rattle.tied_law.specs.Tied.{IsTied};
-ghost use Rattle.c1p_solve.specs.Answers.{IsAnswer, IsReduction, LeavesTree};
+ghost use Rattle.c1p_solve.specs.Answers.{IsAnswer, IsReduction, LeavesTree, IsInTurn, IsReducedInTurn};
 ghost use Rattle.c1p_solve.specs.Totals.{IsTotal, IsReductionTotal};
 
 use incompat_graph::{Cycle, odd_cycle_along};
@@ -20,7 +20,8 @@ pub enum Solved {
     /// There is a valid order. The tree is canonical and tied to all rows, so its frontiers are
     /// exactly the valid orders.
     Yes(PqTree),
-    /// There is none, as this odd cycle of the incompatibility graph shows.
+    /// There is none, as this odd cycle of the incompatibility graph shows. None of its rows comes after the first one
+    /// up to which the rows have no valid order.
     No(Cycle),
 }
 
@@ -46,6 +47,7 @@ pub fn solve<R: Reducer, L: Ledger>(
     requires columns { R.columns reducer.old ≡ m.now.columns }
     requires tied { IsTied m.now.columns [] (R.outline reducer.old) }
     ensures answer { IfOk result (IsAnswer m.now) }
+    ensures in_turn { IfOk result (IsInTurn m.now) }
     ensures reducer { IfOk result (LeavesTree m.now (R.outline reducer.new)) }
     ensures columns { R.columns reducer.new ≡ R.columns reducer.old }
     ensures total { IsTrue R.frugal → weight (R.outline reducer.old) ≤ m.now.columns → IfOk result (IsTotal m.now (R.outline reducer.new) steps.old steps.new) }
@@ -67,6 +69,7 @@ pub(crate) fn reduce_all<R: Reducer, L: Ledger>(
     requires columns { R.columns reducer.old ≡ m.now.columns }
     requires tied { IsTied m.now.columns [] (R.outline reducer.old) }
     ensures reduction { IfOk result (IsReduction m.now (R.outline reducer.new)) }
+    ensures in_turn { IfOk result (IsReducedInTurn m.now) }
     ensures columns { R.columns reducer.new ≡ R.columns reducer.old }
     ensures total { IsTrue R.frugal → weight (R.outline reducer.old) ≤ m.now.columns → IfOk result (IsReductionTotal m.now (R.outline reducer.new) steps.old steps.new) }
 {
@@ -93,6 +96,7 @@ pub(crate) fn conflict<R: Reducer, L: Ledger>(
     requires tied { IsTied m.now.columns (take (k - 1) m.now.rows) (R.outline reducer.now) }
     requires conflict { HasConflict m.now.columns (take k m.now.rows) }
     ensures cycle { IfOk result (IsOddCycle m.now.columns m.now.rows) }
+    ensures first_rows { IfOk result (IsOddCycle m.now.columns (take k m.now.rows)) }
     ensures ticks { steps.new ≤ steps.old + 8 * m.now.columns * (sum_by length (take k m.now.rows) + 1) }
 {
     let tree = reducer.tree(alloc)?;

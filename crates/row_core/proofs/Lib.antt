@@ -1,5 +1,6 @@
 pub mod Numbers
 pub mod Marks
+pub mod Needed
 pub mod Whole
 pub mod Parts
 pub mod Told

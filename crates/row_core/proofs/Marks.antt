@@ -115,3 +115,30 @@ has_marked marks i (suc j) (k ∷ set) l h =
       | true ↦ has_tail k (get_or set j 0) (marked_from marks (i + 1) set) later
       | false ↦ later
     ]
+
+-- at a place that is not marked by a reason within n there is no mark
+unmarked : (n : ℕ) (marks : List Bool) (why : Why) (j : ℕ) → IsReasonWithin n why → n ≤ j → get_or marks j false ≡ false → get_or (with_mark marks why) j false ≡ false
+unmarked n marks Flip j w l h = h
+unmarked n marks (Row i) j w l h = get_or-set_other marks (i - 1) j true false (λ e. absurd (omega (arith, e, w.0, w.1, l))) ∙ h
+
+within_push : (n : ℕ) (lines : List Line) (line : Line) → AreReasonsWithin n (lines ++ line ∷ []) → AreReasonsWithin n lines × IsReasonWithin n line.why
+within_push n [] line h = (tt, h.0)
+within_push n (l ∷ lines) line h = let rest = within_push n lines line h.1 in ((h.0, rest.0), rest.1)
+
+-- one line more marks no place past its reasons
+pub unmarked_more : (marks new : List Bool) (lines : List Line) (i : ℕ) (d : Line) → new ≡ with_mark marks (get_or lines i d).why → i < length lines
+    → ((n : ℕ) → AreReasonsWithin n (take i lines) → (j : ℕ) → n ≤ j → get_or marks j false ≡ false)
+    → (n : ℕ) → AreReasonsWithin n (take (i + 1) lines) → (j : ℕ) → n ≤ j → get_or new j false ≡ false
+unmarked_more marks new lines i d e l before n w j u =
+    let parts = within_push n (take i lines) (get_or lines i d) (subst (AreReasonsWithin n) (take_more lines i d l) w) in
+    ap (λ ms. get_or ms j false) e ∙ unmarked n marks (get_or lines i d).why j parts.1 u (before n parts.0 j u)
+
+-- the marked numbers ascend, with numbers behind them
+pub ascends_marked_front : (n low i : ℕ) (marks : List Bool) (set back : List ℕ) → Ascends n low (set ++ back) → Ascends n low (marked_from marks i set ++ back)
+ascends_marked_front n low i marks [] back h = h
+ascends_marked_front n low i marks (k ∷ set) back h =
+    let rest : Ascends n k (marked_from marks (i + 1) set ++ back) = ascends_marked_front n k (i + 1) marks set back h.2 in
+    elim (get_or marks i false) as (λ b. Ascends n low (cond b (k ∷ marked_from marks (i + 1) set) (marked_from marks (i + 1) set) ++ back)) [
+      | true ↦ (h.0, h.1, rest)
+      | false ↦ ascends_lower n low k (marked_from marks (i + 1) set ++ back) (omega (arith, h.0)) rest
+    ]

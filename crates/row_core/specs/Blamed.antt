@@ -1,5 +1,6 @@
 -- How a set of rows narrows to those that a cycle names.
-use Rattle.std.specs.Prelude.{◌≡◌, ℕ, ◌+◌, ◌-◌, ◌<◌, ◌≤◌, Bool, true, false, List, [], ◌∷◌, length, slice_index, slice_index_or, slice_set, if◌then◌else◌, IsTrue}
+use Rattle.std.specs.Prelude.{◌≡◌, ℕ, ◌+◌, ◌-◌, ◌<◌, ◌≤◌, Bool, true, false, List, [], ◌∷◌, ◌++◌, length, take, drop, slice_index, slice_index_or, slice_set, if◌then◌else◌, IsTrue, All}
+use Rattle.column_order.specs.Orders.{HasValidOrder}
 use Rattle.std.specs.List.{AllByRecursion}
 use Rattle.row_model.specs.declared.graph.Line.{Line}
 use Rattle.row_model.specs.declared.graph.Why.{Why}
@@ -7,13 +8,18 @@ use Rattle.row_model.specs.declared.graph.Why.TheVariants.{Flip, Row}
 use Rattle.row_model.specs.Cycles.{IsOddCycle}
 use Rattle.row_model.specs.Rows.{RowList}
 use Rattle.row_judge.specs.Judges.{IsTreeOfOrders}
-use Rattle.core_text.specs.Cores.{AreRowNumbers, rows_at}
+use Rattle.core_text.specs.Cores.{AreRowNumbers, rows_at, but}
 use Rattle.core_text.specs.Told.{AreAmong, IsOrderWithout}
 use Rattle.row_core.specs.declared.blamed.Blamed.{Blamed}
+use Rattle.row_core.specs.declared.narrow.Narrowed.{Narrowed}
 use Rattle.row_core.specs.declared.part.Finding.{Finding}
 use Rattle.row_core.specs.declared.part.Finding.TheVariants as finding
 use Rattle.row_core.specs.declared.others.Tried.{Tried}
 use Rattle.row_core.specs.declared.others.Tried.TheVariants as tried
+
+-- each number is one of 1 to n
+abbrev pub AreEachWithin : ℕ → List ℕ → Type 0
+AreEachWithin n list = All (λ k. (1 ≤ k) × (k ≤ n)) list
 
 -- the part of a matrix in these rows, which are numbered by their places
 abbrev pub part_at : RowList → List ℕ → RowList
@@ -56,22 +62,51 @@ abbrev pub marked_from : List Bool → ℕ → List ℕ → List ℕ
 marked_from marks i [] = []
 marked_from marks i (k ∷ set) = if slice_index_or marks i false then k ∷ marked_from marks (i + 1) set else marked_from marks (i + 1) set
 
+-- the numbers from place n on, and then those before it
+abbrev pub rotated : ℕ → List ℕ → List ℕ
+rotated n list = drop n list ++ take n list
+
 -- rows of a matrix, and an odd cycle that has no other rows as reasons; so they have no valid order together
 pub record IsBlamed (m : RowList) (blamed : Blamed) : Type 0 where
   pub rows : AreRowNumbers (length m.rows) blamed.rows.items
+  pub few : blamed.untried ≤ length blamed.rows.items
   pub cycle : IsOddCycle m.columns m.rows blamed.lines
   pub among : AreAmong blamed.rows.items blamed.lines
 
--- rows of which there are fewer than n
-abbrev pub IsBlamedBelow : ℕ → RowList → Blamed → Type 0
-IsBlamedBelow n m blamed = IsBlamed m blamed × (length blamed.rows.items < n)
+-- each of the rows from some place on is needed: without it the others have a valid order
+abbrev pub AreNeeded : RowList → List ℕ → ℕ → Type 0
+AreNeeded m set from = (i : ℕ) → from ≤ i → i < length set → HasValidOrder m.columns (rows_at m.rows (but (slice_index set i) set))
 
--- the tree of all valid orders of the rows of the set, or those of them that are to blame
-abbrev pub IsFinding : RowList → List ℕ → Finding → Type 0
-IsFinding m set (finding.Ordered t) = IsTreeOfOrders (part_at m set) t
-IsFinding m set (finding.Refused blamed) = IsBlamed m blamed × (length blamed.rows.items ≤ length set)
+-- The tree of all valid orders of the rows of the set; or those of them that are to blame, as many at least as are needed, and with one
+-- more that is not untried, where any is untried.
+abbrev pub IsFinding : RowList → List ℕ → ℕ → Finding → Type 0
+IsFinding m set needed (finding.Ordered t) = IsTreeOfOrders (part_at m set) t
+IsFinding m set needed (finding.Refused blamed) =
+    IsBlamed m blamed ×
+    (HasValidOrder m.columns (rows_at m.rows set) → ⊥) ×
+    (length blamed.rows.items ≤ length set) ×
+    (needed ≤ length blamed.rows.items) ×
+    (blamed.untried ≡ length blamed.rows.items - needed - 1)
 
--- an order without each row of the set, or fewer rows that are to blame
+-- of those that are to blame the rows that are not untried are needed
+abbrev pub IsNeededFinding : RowList → Finding → Type 0
+IsNeededFinding m (finding.Ordered t) = Unit {0}
+IsNeededFinding m (finding.Refused blamed) = AreNeeded m blamed.rows.items blamed.untried
+
+-- So many orders are told: the last is valid for the rows but that at a place, the one before it for those but the next, and so on.
+pub record AreTold (m : RowList) (set : List ℕ) (from told : ℕ) (orders : List (List ℕ)) : Type 0 where
+  pub count : length orders ≡ told
+  pub inside : from + told ≤ length set
+  pub each : (i : ℕ) → i < told → IsOrderWithout m set (slice_index set (from + i)) (slice_index_or orders (told - 1 - i) [])
+
+-- rows of a matrix, an odd cycle that has no other rows as reasons, and orders without the first rows
+pub record IsNarrowed (m : RowList) (found : Narrowed) : Type 0 where
+  pub rows : AreRowNumbers (length m.rows) found.rows.items
+  pub cycle : IsOddCycle m.columns m.rows found.lines
+  pub among : AreAmong found.rows.items found.lines
+  pub orders : AreTold m found.rows.items 0 found.told found.orders
+
+-- an order without each row of the set; or fewer rows that are to blame, and not each row of the set is needed
 abbrev pub IsTried : RowList → List ℕ → Tried → Type 0
 IsTried m set (tried.Orders orders) = (length orders ≡ length set) × ((i : ℕ) → i < length set → IsOrderWithout m set (slice_index set i) (slice_index_or orders i []))
-IsTried m set (tried.Fewer blamed needed) = IsBlamedBelow (length set) m blamed
+IsTried m set (tried.Fewer blamed) = IsBlamed m blamed × (length blamed.rows.items < length set) × (AreNeeded m set 0 → ⊥)

@@ -1,4 +1,5 @@
 -- What a search for a core finds.
+use Rattle.std.specs.Prelude.{ℕ, ◌+◌, ◌*◌, length}
 use Rattle.column_order.specs.Orders.{HasValidOrder}
 use Rattle.row_model.specs.Rows.{RowList}
 use Rattle.row_judge.specs.Judges.{IsTreeOfOrders}
@@ -10,3 +11,9 @@ use Rattle.core_text.specs.Told.{TellsCore}
 abbrev pub IsCored : RowList → Cored → Type 0
 IsCored m (cored.Has t) = IsTreeOfOrders m t × HasValidOrder m.columns m.rows
 IsCored m (cored.Core core) = TellsCore m core × (HasValidOrder m.columns m.rows → ⊥)
+
+-- the most judgements of a judge that goes through the rows in turn: one where there is an order, and else one and two for each row of
+-- the core
+abbrev pub judgements_of : Cored → ℕ
+judgements_of (cored.Has t) = 1
+judgements_of (cored.Core core) = 2 * length core.rows + 1

@@ -1,13 +1,13 @@
 // The search for a core.
-ghost use Rattle.std.specs.Prelude.{◌≡◌, length, IfOk};
+ghost use Rattle.std.specs.Prelude.{◌≡◌, ◌+◌, ◌-◌, ◌*◌, ◌≤◌, IfOk, IsTrue, length};
 ghost use Rattle.std.specs.List.{range_with_len};
-ghost use Rattle.row_core.specs.Cored.{IsCored};
 ghost use Rattle.core_text.specs.Told.{TellsCore};
-ghost use Rattle.row_core.specs.Blamed.{IsBlamed};
+ghost use Rattle.row_core.specs.Blamed.{IsBlamed, AreNeeded};
+ghost use Rattle.row_core.specs.Cored.{IsCored, judgements_of};
 
 use crate::blamed::{Blamed, blame};
+use crate::narrow::{Narrowed, all_tried};
 use crate::others::{Tried, each_left_out};
-use crate::shrink::shrunk;
 use core_text::{Core, blame_law};
 use pq_tree::PqTree;
 use row_judge::{Judge, Judged};
@@ -29,6 +29,9 @@ pub enum Cored {
 /// The order that is told of a row of the core has the leaves, from left to right, of the canonical tree of all valid
 /// orders of the others, so there is one such order. Which of several cores is found is free.
 ///
+/// A judge that goes through the rows in turn is asked once where there is a valid order, and else at most twice for
+/// each row of the core and once more.
+///
 /// # Errors
 ///
 /// `NoMemory`.
@@ -38,13 +41,15 @@ pub fn find_core<J: Judge, L: Ledger>(
     m: &Matrix,
     steps: &mut Steps<L>,
 ) -> Result<Cored, NoMemory>
-    ensures { IfOk result (IsCored m.now) }
+    ensures cored { IfOk result (IsCored m.now) }
+    ensures asked { IsTrue J.in_turn → IfOk result (λ found. J.asked judge.new ≤ J.asked judge.old + judgements_of found) }
 {
+    blame_law();
     match judge.judge(alloc, m, steps)? {
         Judged::Yes(tree) => Ok(Cored::Has(tree)),
         Judged::No(cycle) => {
             let all = all_rows(alloc, m)?;
-            let blamed = blame(alloc, &all, &cycle)?;
+            let blamed = blame(alloc, &all, 0, &cycle)?;
             let core = core_among(alloc, judge, m, blamed, steps)?;
             Ok(Cored::Core(core))
         }
@@ -62,7 +67,8 @@ fn all_rows(alloc: Global, m: &Matrix) -> Result<Vec<u32>, NoMemory>
     Ok(all)
 }
 
-// A core among rows that are to blame. Each round leaves fewer of them, or finds that none can be left out.
+// A core among rows that are to blame. A judge that goes through the rows in turn leaves no row that can be left out,
+// so the first round is the last one.
 fn core_among<J: Judge, L: Ledger>(
     alloc: Global,
     judge: &mut J,
@@ -70,17 +76,21 @@ fn core_among<J: Judge, L: Ledger>(
     blamed: Blamed,
     steps: &mut Steps<L>,
 ) -> Result<Core, NoMemory>
-    requires { IsBlamed m.now blamed }
-    ensures { IfOk result (TellsCore m.now) }
+    requires blamed { IsBlamed m.now blamed }
+    requires needed { IsTrue J.in_turn → AreNeeded m.now blamed.rows.items blamed.untried }
+    ensures core { IfOk result (TellsCore m.now) }
+    ensures asked { IsTrue J.in_turn → IfOk result (λ core. J.asked judge.new + (length blamed.rows.items - blamed.untried) ≤ J.asked judge.old + 2 * length core.rows + 1) }
 {
     blame_law();
     let mut blamed = blamed;
     'rounds: loop {
-        match each_left_out(alloc, judge, m, &blamed, steps)? {
-            Tried::Orders(orders) => return Ok(Core::of(blamed.rows, orders, blamed.lines)),
-            Tried::Fewer(fewer, needed) => {
-                blamed = shrunk(alloc, judge, m, fewer, needed, steps)?;
+        let set = all_tried(alloc, judge, m, blamed, steps)?;
+        match each_left_out(alloc, judge, m, &set, steps)? {
+            Tried::Orders(orders) => {
+                let Narrowed { rows, lines, .. } = set;
+                return Ok(Core::of(rows, orders, lines));
             }
+            Tried::Fewer(fewer) => blamed = fewer,
         }
     }
 }

@@ -1,9 +1,10 @@
 // An order of the others for each row of a set.
-ghost use Rattle.std.specs.Prelude.{IfOk};
-ghost use Rattle.row_core.specs.Blamed.{IsBlamed, IsTried};
+ghost use Rattle.std.specs.Prelude.{◌≡◌, ◌+◌, ◌≤◌, IfOk, length};
+ghost use Rattle.row_core.specs.Blamed.{IsNarrowed, IsTried};
 
 use crate::blamed::Blamed;
-use crate::part::{Finding, judged, without};
+use crate::narrow::Narrowed;
+use crate::part::{Finding, judged, push_leaves, without};
 use core_text::Orders;
 use row_judge::Judge;
 use row_model::{Matrix, NoMemory};
@@ -15,27 +16,32 @@ use step_count::{Ledger, Steps};
 pub enum Tried {
     /// An order of the others for each row.
     Orders(Orders),
-    /// Fewer rows that are to blame, since one of the set can be left out. So many first rows of the set cannot.
-    Fewer(Blamed, usize),
+    /// Fewer rows that are to blame, since one of the set can be left out.
+    Fewer(Blamed),
 }
 
-/// Leaves out each row of a set in turn, up to the first that can be left out.
+/// Leaves out each row of a set in turn for which there is no order yet, up to the first that can be left out.
 pub fn each_left_out<J: Judge, L: Ledger>(
     alloc: Global,
     judge: &mut J,
     m: &Matrix,
-    blamed: &Blamed,
+    set: &Narrowed,
     steps: &mut Steps<L>,
 ) -> Result<Tried, NoMemory>
-    requires { IsBlamed m.now blamed.now }
-    ensures { IfOk result (IsTried m.now blamed.now.rows.items) }
+    requires { IsNarrowed m.now set.now }
+    ensures tried { IfOk result (IsTried m.now set.now.rows.items) }
+    ensures asked { IfOk result (λ _. J.asked judge.new ≤ J.asked judge.old + length set.now.rows.items) }
 {
     let mut orders = Orders::new(alloc);
-    for i in 0..blamed.rows.len() {
-        let others = without(alloc, &blamed.rows, i, i + 1)?;
-        match judged(alloc, judge, m, &others, steps)? {
-            Finding::Ordered(tree) => orders.push(&tree.frontier(alloc)?)?,
-            Finding::Refused(fewer) => return Ok(Tried::Fewer(fewer, i)),
+    for i in 0..set.rows.len() {
+        if i < set.told {
+            orders.push(set.orders.get(set.told - 1 - i))?;
+            continue;
+        }
+        let others = without(alloc, &set.rows, i)?;
+        match judged(alloc, judge, m, &others, 0, steps)? {
+            Finding::Ordered(tree) => push_leaves(alloc, &mut orders, tree)?,
+            Finding::Refused(fewer) => return Ok(Tried::Fewer(fewer)),
         }
     }
     Ok(Tried::Orders(orders))

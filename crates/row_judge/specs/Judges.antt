@@ -1,7 +1,8 @@
 -- What a judge's answer says of a matrix.
-use Rattle.std.specs.Prelude.{◌≡◌, ◌↔◌, ℕ, List}
+use Rattle.std.specs.Prelude.{◌≡◌, ◌↔◌, ℕ, ◌+◌, List, take}
 use Rattle.column_order.specs.Orders.{IsValidOrder, HasValidOrder}
 use Rattle.row_model.specs.Rows.{RowList}
+use Rattle.row_model.specs.declared.graph.Line.{Line}
 use Rattle.row_model.specs.Cycles.{IsOddCycle}
 use Rattle.pq_tree.specs.Outline.{IsFrontier}
 use Rattle.pq_tree.specs.Canonical.{IsCanonical}
@@ -20,3 +21,14 @@ pub record IsTreeOfOrders (m : RowList) (t : PqTree) : Type 0 where
 abbrev pub IsJudged : RowList → Judged → Type 0
 IsJudged m (Yes t) = IsTreeOfOrders m t × HasValidOrder m.columns m.rows
 IsJudged m (No cycle) = IsOddCycle m.columns m.rows cycle × (HasValidOrder m.columns m.rows → ⊥)
+
+-- an odd cycle of the rows up to the first that leaves no valid order with those before it
+pub record IsFirstConflict (m : RowList) (lines : List Line) : Type 0 where
+  pub before : ℕ
+  pub order : HasValidOrder m.columns (take before m.rows)
+  pub cycle : IsOddCycle m.columns (take (before + 1) m.rows) lines
+
+-- a cycle that is told is such a one
+abbrev pub IsJudgedInTurn : RowList → Judged → Type 0
+IsJudgedInTurn m (Yes t) = Unit {0}
+IsJudgedInTurn m (No cycle) = IsFirstConflict m cycle

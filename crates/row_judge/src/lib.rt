@@ -1,8 +1,8 @@
 //! What is asked of a solver of the consecutive-ones problem.
 #![tactic(auto)]
 
-ghost use Rattle.std.specs.Prelude.{IfOk};
-ghost use Rattle.row_judge.specs.Judges.{IsJudged};
+ghost use Rattle.std.specs.Prelude.{◌+◌, ◌≤◌, ℕ, Bool, IfOk, IsTrue};
+ghost use Rattle.row_judge.specs.Judges.{IsJudged, IsJudgedInTurn};
 
 use odd_cycle::Cycle;
 use pq_tree::PqTree;
@@ -22,6 +22,13 @@ pub enum Judged {
 
 /// A solver of the consecutive-ones problem, seen by its answers alone.
 pub trait Judge {
+    /// How often it was asked, as it counts: a judgement adds no more than one.
+    ghost asked: { Self → ℕ };
+
+    /// Whether it tells that it goes through the rows in turn: then the cycle of a `No` is one of the rows up to the
+    /// first that leaves no valid order with those before it.
+    ghost in_turn: { Bool };
+
     /// Judges a matrix: `No` comes exactly where it has no valid order.
     ///
     /// # Errors
@@ -33,5 +40,7 @@ pub trait Judge {
         m: &Matrix,
         steps: &mut Steps<L>,
     ) -> Result<Judged, NoMemory>
-        ensures { IfOk result (IsJudged m.now) };
+        ensures judged { IfOk result (IsJudged m.now) }
+        ensures in_turn { IsTrue in_turn → IfOk result (IsJudgedInTurn m.now) }
+        ensures asked { asked self.new ≤ asked self.old + 1 };
 }

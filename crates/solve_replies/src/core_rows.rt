@@ -1,23 +1,29 @@
 // The reply with the rows of a matrix that are to blame.
-ghost use Rattle.std.specs.Prelude.{◌≡◌, ◌⊎◌, ◌<◌, ◌≤◌, IfOk};
-ghost use Rattle.column_order.specs.Orders.{HasValidOrder};
+ghost use Rattle.std.specs.Prelude.{◌≡◌, ◌⊎◌, ◌<◌, ◌≤◌, IfOk, All};
+ghost use Rattle.column_order.specs.Orders.{HasValidOrder, IsWithin};
 ghost use Rattle.row_model.specs.Rows.{RowList};
 ghost use Rattle.instance_model.specs.Instance.{plain, instance_kind, IsInstance};
 ghost use Rattle.instance_model.specs.Value.{instance_value};
 ghost use Rattle.core_text.specs.Told.{TellsCore};
+ghost use Rattle.row_judge.specs.Judges.{IsTreeOfOrders};
 ghost use Rattle.row_core.specs.Cored.{IsCored};
 ghost use Rattle.command_input.specs.Words.{IsExtended};
 ghost use Rattle.verdict_replies.specs.Verdicts.{IsVerdictReply};
 ghost use Rattle.verdict_replies.specs.Cores.{IsCoreText};
 ghost use Rattle.solve_replies.specs.Cores.{IsCoreReply};
 
-use crate::{NoMemory, Solver, verdict_reply};
+use crate::reply::told;
+use crate::verdicts::yes_on;
+use crate::{NoMemory, Solver};
 use core_text::{CoreText, print_core};
+use exact_tree::exact_law;
 use instance_model::Instance;
+use pq_tree::PqTree;
 use row_core::{Cored, find_core};
 use row_model::{Kind, Matrix};
 use std::alloc::Global;
 use step_count::{Blank, Brand, Ledger, Steps};
+use tied_law::leaves_law;
 use verdict_replies::{Reply, core_grammar_law};
 
 /// The reply on a matrix: a core; or, where the matrix has a valid order, what `solve` replies.
@@ -40,8 +46,8 @@ pub fn blame_reply(alloc: Global, kind: Kind, instance: &Instance) -> Result<Rep
             let text = core_text(alloc, m, &CoreText::new(kind, m.columns(), core))?;
             Ok(Reply { status: 0, text })
         }
-        Cored::Has(_) => {
-            let text = verdict_text(alloc, instance)?;
+        Cored::Has(tree) => {
+            let text = yes_text(alloc, instance, m, tree)?;
             Ok(Reply { status: 1, text })
         }
     }
@@ -73,10 +79,33 @@ fn core_text(alloc: Global, m: &Matrix, core: &CoreText) -> Result<Vec<u8>, NoMe
     Ok(text)
 }
 
-// The text of the verdict on a matrix that has a valid order.
-fn verdict_text(alloc: Global, instance: &Instance) -> Result<Vec<u8>, NoMemory>
-    requires { IsInstance (instance_value instance.now) }
-    ensures { IfOk result (λ text. (kind : Kind) (m : RowList) → instance_value instance.now ≡ plain kind m → HasValidOrder m.columns m.rows → IsVerdictReply (plain kind m) 0 text.items) }
+// The text of the verdict on a matrix whose valid orders are those of a tree.
+fn yes_text(
+    alloc: Global,
+    instance: &Instance,
+    m: &Matrix,
+    tree: PqTree,
+) -> Result<Vec<u8>, NoMemory>
+    requires within { IsInstance (instance_value instance.now) }
+    requires matrix { (kind : Kind) × (instance_value instance.now ≡ plain kind m.now) }
+    requires orders { IsTreeOfOrders m.now tree }
+    ensures { IfOk result (λ text. (kind : Kind) → instance_value instance.now ≡ plain kind m.now → IsVerdictReply (plain kind m.now) 0 text.items) }
 {
-    Ok(verdict_reply(alloc, instance)?.text)
+    exact_law();
+    leaves_law();
+    all_within(m);
+    // A matrix has a column.
+    let _columns = m.columns();
+    let verdict = yes_on(alloc, instance, tree)?;
+    Ok(told(alloc, &verdict)?.text)
+}
+
+// Each row of a matrix has no other columns than those of the matrix. Nothing is computed: the rows are gone through for
+// what is known of each.
+fn all_within(m: &Matrix)
+    ensures { All (IsWithin m.now.columns) m.now.rows }
+{
+    for before in 0..m.rows() {
+        let _row = m.row(before + 1);
+    }
 }

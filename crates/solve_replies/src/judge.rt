@@ -10,6 +10,12 @@ use step_count::{Ledger, Steps};
 pub struct Solver;
 
 impl Judge for Solver {
+    ghost use Rattle.std.specs.Prelude.{true};
+
+    ghost asked = { λ _. 0 };
+
+    ghost in_turn = { true };
+
     fn judge<L: Ledger>(
         &mut self,
         alloc: Global,

@@ -1,16 +1,17 @@
 // The reply on an instance.
 ghost use Rattle.std.specs.Prelude.{◌≡◌, ◌⊎◌, IfOk};
-ghost use Rattle.instance_model.specs.Instance.{IsInstance};
+ghost use Rattle.instance_model.specs.Instance.{InstanceValue, IsInstance};
 ghost use Rattle.instance_model.specs.Value.{instance_value};
-ghost use Rattle.verdict_text.specs.Value.{claim_of};
-ghost use Rattle.verdict_replies.specs.Verdicts.{IsVerdictReply, status_of};
+ghost use Rattle.verdict_text.specs.Grammar.{IsVerdict};
+ghost use Rattle.verdict_text.specs.Value.{claim_of, verdict_value};
+ghost use Rattle.verdict_replies.specs.Verdicts.{IsVerdictOf, IsVerdictReply, status_of};
 
 use crate::NoMemory;
 use crate::verdicts::verdict_on;
 use instance_model::Instance;
 use std::alloc::Global;
 use verdict_replies::{Reply, printed};
-use verdict_text::Part;
+use verdict_text::{Part, Verdict};
 
 /// The reply on an instance: the text of the verdict, and its status.
 ///
@@ -24,7 +25,18 @@ pub fn verdict_reply(alloc: Global, instance: &Instance) -> Result<Reply, NoMemo
     ensures status { IfOk result (λ reply. (reply.status ≡ 0) ⊎ (reply.status ≡ 1)) }
 {
     let verdict = verdict_on(alloc, instance)?;
-    let text = printed(alloc, &verdict)?;
+    told(alloc, &verdict)
+}
+
+// The text of a verdict, and the status that goes with it.
+pub fn told(alloc: Global, verdict: &Verdict) -> Result<Reply, NoMemory>
+    requires { IsVerdict (verdict_value verdict.now) }
+    ensures reply { IfOk result (λ reply. (i : InstanceValue)
+        → IsVerdictOf i (verdict_value verdict.now)
+        → IsVerdictReply i reply.status reply.text.items) }
+    ensures status { IfOk result (λ reply. (reply.status ≡ 0) ⊎ (reply.status ≡ 1)) }
+{
+    let text = printed(alloc, verdict)?;
     Ok(Reply {
         status: status(&verdict.part),
         text,

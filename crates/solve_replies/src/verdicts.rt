@@ -4,7 +4,7 @@ ghost use Rattle.c1p_solve.specs.Answers.{IsAnswer};
 ghost use Rattle.verdict_text.specs.Verdict.{yes_claim};
 ghost use Rattle.verdict_text.specs.Grammar.{IsVerdict, AreColumnCounts};
 ghost use Rattle.verdict_text.specs.Value.{column_counts, yes_value, claim_of, verdict_value};
-ghost use Rattle.instance_model.specs.Instance.{instance_columns, derived_matrix, IsInstance, IsWellFormed};
+ghost use Rattle.instance_model.specs.Instance.{instance_columns, instance_kind, derived_matrix, IsInstance, IsWellFormed};
 ghost use Rattle.instance_model.specs.Value.{instance_value};
 ghost use Rattle.verdict_replies.specs.Verdicts.{IsClaimOf, IsVerdictOf};
 
@@ -13,6 +13,7 @@ use crate::sides::solve_side;
 use c1p_solve::Solved;
 use instance_model::Instance;
 use pq_tree::PqTree;
+use row_model::Kind;
 use std::alloc::Global;
 use verdict_replies::{added, grammar_law, no};
 use verdict_text::{Columns, Part, Verdict, Version, YesPart};
@@ -28,15 +29,45 @@ pub fn verdict_on(alloc: Global, instance: &Instance) -> Result<Verdict, NoMemor
     ensures holds { IfOk result (λ verdict.
         IsVerdictOf (instance_value instance.now) (verdict_value verdict)) }
 {
-    grammar_law();
     let kind = instance.kind();
     let part = part_on(alloc, instance)?;
-    Ok(Verdict {
+    Ok(verdict_with(instance, kind, part))
+}
+
+/// The verdict on an instance of one side, of which the tree stands for every order.
+///
+/// # Errors
+///
+/// `NoMemory`.
+pub fn yes_on(alloc: Global, instance: &Instance, tree: PqTree) -> Result<Verdict, NoMemory>
+    requires judged { IsInstance (instance_value instance.now) }
+    requires sides { length (instance_columns (instance_value instance.now)) ≡ 1 }
+    requires orders { IsAnswer (derived_matrix (instance_value instance.now) 1) (Solved.Yes tree) }
+    ensures grammar { IfOk result (λ verdict. IsVerdict (verdict_value verdict)) }
+    ensures holds { IfOk result (λ verdict.
+        IsVerdictOf (instance_value instance.now) (verdict_value verdict)) }
+{
+    let kind = instance.kind();
+    let yes = one_sided(alloc, instance, tree)?;
+    Ok(verdict_with(instance, kind, Part::Yes(yes)))
+}
+
+// The verdict on an instance of a kind of which this is found.
+fn verdict_with(instance: &Instance, kind: Kind, part: Part) -> Verdict
+    requires judged { IsInstance (instance_value instance.now) }
+    requires formed { IsWellFormed (instance_value instance.now) }
+    requires kind { kind ≡ instance_kind (instance_value instance.now) }
+    requires claim { IsClaimOf (instance_value instance.now) (claim_of part) }
+    ensures grammar { IsVerdict (verdict_value result) }
+    ensures holds { IsVerdictOf (instance_value instance.now) (verdict_value result) }
+{
+    grammar_law();
+    Verdict {
         version: Version::Two,
         kind,
         columns: columns_of(instance),
         part,
-    })
+    }
 }
 
 // The number of columns of each side.

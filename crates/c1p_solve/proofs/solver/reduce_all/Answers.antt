@@ -30,6 +30,9 @@ returns-in-Refused-clause-reduction g c =
       },
     )
 
+pub returns-in-Refused-clause-in_turn : goal.returns-in-Refused-clause-in_turn
+returns-in-Refused-clause-in_turn g c = record { before = c.loop-taken.taken; order = c.loop-taken.invariant.order; cycle = c.in_ok-conflict-in-Refused.ensures.first_rows }
+
 pub returns-clause-total : goal.returns-clause-total
 returns-clause-total g c =
     λ f h. all_taken c.args.m.now.columns c.args.m.now.rows c.loop-taken.taken (weight (g.R.Reducer.outline c.loop-taken.reducer)) c.args.steps.now c.loop-taken.steps

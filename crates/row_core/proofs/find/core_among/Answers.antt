@@ -4,9 +4,19 @@ use Rattle.row_core.proofs.Told.{tells_core}
 use Rattle.row_core.proofs.find.core_among.Goals as goal
 
 pub of-requires-clause-ascending : goal.of-requires-clause-ascending
-of-requires-clause-ascending g c = increasing (length c.args.m.now.rows) 0 c.rounds.blamed.rows.items c.rounds.invariant.rows
+of-requires-clause-ascending g c = increasing (length c.args.m.now.rows) 0 c.in_ok-set.set.rows.items c.in_ok-set.ensures.narrowed.rows
 
-pub returns-in-Orders : goal.returns-in-Orders
-returns-in-Orders g c =
-    let tried = rw c.in-Orders.is at c.in_ok-orders.ensures in
-    rw c.of.ensures (tells_core c.blame_law.ensures c.args.m.now c.rounds.blamed.rows.items c.in-Orders.orders c.rounds.blamed.lines c.rounds.invariant.rows c.rounds.invariant.cycle c.rounds.invariant.among tried.0 tried.1)
+pub returns-in-Orders-clause-core : goal.returns-in-Orders-clause-core
+returns-in-Orders-clause-core g c =
+    let tried = rw c.in-Orders.is at c.in_ok-orders.ensures.tried in
+    let set = c.in_ok-set.ensures.narrowed in
+    rw c.of.ensures (tells_core c.blame_law.ensures c.args.m.now c.in_ok-set.set.rows.items c.in-Orders.orders c.in_ok-set.set.lines set.rows set.cycle set.among tried.0 tried.1)
+
+pub rounds-preserved : goal.rounds-preserved
+rounds-preserved g c =
+    let tried = rw c.in-Fewer.is at c.in_ok-orders.ensures.tried in
+    record {
+      blamed = tried.0;
+      needed = λ turn. absurd (tried.2 (c.in_ok-set.ensures.needed turn (c.rounds.invariant.needed turn)));
+      asked = λ turn. absurd (tried.2 (c.in_ok-set.ensures.needed turn (c.rounds.invariant.needed turn)));
+    }

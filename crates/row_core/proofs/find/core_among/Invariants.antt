@@ -1,9 +1,14 @@
-use Rattle.std.proofs.Common.{length}
-use Rattle.row_core.specs.Blamed.{IsBlamed}
+use Rattle.std.proofs.Common.{◌+◌, ◌-◌, ◌≤◌, IsTrue, length}
+use Rattle.row_core.specs.Blamed.{IsBlamed, AreNeeded}
 use Rattle.row_core.proofs.find.core_among.Given as goal
 
 abbrev pub invariant-rounds : goal.invariant-rounds
-invariant-rounds g l = IsBlamed l.m l.blamed
+invariant-rounds g l = record {
+  blamed : IsBlamed l.m l.blamed;
+  needed : IsTrue g.J.Judge.in_turn → AreNeeded l.m l.blamed.rows.items l.blamed.untried;
+  asked : IsTrue g.J.Judge.in_turn →
+      g.J.Judge.asked l.judge + (length l.fn.blamed.rows.items - l.fn.blamed.untried) ≤ g.J.Judge.asked l.fn.judge + (length l.blamed.rows.items - l.blamed.untried);
+}
 
 abbrev pub decreases-rounds : goal.decreases-rounds
 decreases-rounds g l = length l.blamed.rows.items

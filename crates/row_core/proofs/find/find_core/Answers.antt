@@ -1,23 +1,48 @@
-use Rattle.std.proofs.Common.{◌≡◌, ◌∙◌, length, subst, sym}
+use Rattle.std.proofs.Common.{◌≡◌, ◌∙◌, length, subst, sym, arith}
+use Rattle.std.proofs.lemmas.List.{append-nil}
 use Rattle.std.specs.List.{range_with_len}
 use Rattle.row_model.specs.Cycles.{IsOddCycle}
+use Rattle.row_judge.specs.Judges.{IsFirstConflict}
 use Rattle.core_text.specs.Cores.{AreRowNumbers, rows_at}
+use Rattle.row_core.specs.Blamed.{part_at, rotated}
 use Rattle.row_core.proofs.Numbers.{ascends_all, rows_at_all}
-use Rattle.row_core.proofs.Whole.{reasons_within}
+use Rattle.row_core.proofs.Whole.{reasons_within, some_blamed, part_all, length-rotated}
 use Rattle.row_core.proofs.find.find_core.Goals as goal
 
-pub blame-requires : goal.blame-requires
-blame-requires g c =
+pub blame-requires-clause-within : goal.blame-requires-clause-within
+blame-requires-clause-within g c =
     let m = c.args.m.now in
-    let judgement = rw c.in-No.is at c.in_ok-tree.ensures in
+    let judgement = rw c.in-No.is at c.in_ok-tree.ensures.judged in
     let all : c.deref.result.now ≡ range_with_len 1 (length m.rows) = c.deref.ensures.value ∙ c.in_ok-all-in-No.ensures in
     let cycle : IsOddCycle m.columns (rows_at m.rows (range_with_len 1 (length m.rows))) c.in-No.cycle = subst (λ rows. IsOddCycle m.columns rows c.in-No.cycle) (sym (rows_at_all m.rows)) judgement.0 in
     rw all (reasons_within m.columns m.rows (range_with_len 1 (length m.rows)) c.in-No.cycle cycle.closed)
 
-pub core_among-requires : goal.core_among-requires
-core_among-requires g c =
+pub core_among-requires-clause-blamed : goal.core_among-requires-clause-blamed
+core_among-requires-clause-blamed g c =
     let m = c.args.m.now in
-    let judgement = rw c.in-No.is at c.in_ok-tree.ensures in
+    let judgement = rw c.in-No.is at c.in_ok-tree.ensures.judged in
     let all : c.deref.result.now ≡ range_with_len 1 (length m.rows) = c.deref.ensures.value ∙ c.in_ok-all-in-No.ensures in
     let cycle : IsOddCycle m.columns (rows_at m.rows (range_with_len 1 (length m.rows))) c.in-No.cycle = subst (λ rows. IsOddCycle m.columns rows c.in-No.cycle) (sym (rows_at_all m.rows)) judgement.0 in
-    c.in_ok-blamed-in-No.ensures.blamed m (subst (AreRowNumbers (length m.rows)) (sym all) (ascends_all (length m.rows))) (subst (λ xs. IsOddCycle m.columns (rows_at m.rows xs) c.in-No.cycle) (sym all) cycle)
+    let straight : rotated 0 c.deref.result.now ≡ range_with_len 1 (length m.rows) = append-nil c.deref.result.now ∙ all in
+    c.in_ok-blamed-in-No.ensures.blamed m (subst (AreRowNumbers (length m.rows)) (sym straight) (ascends_all (length m.rows))) (subst (λ xs. IsOddCycle m.columns (rows_at m.rows xs) c.in-No.cycle) (sym all) cycle)
+
+pub core_among-requires-clause-needed : goal.core_among-requires-clause-needed
+core_among-requires-clause-needed g c = λ turn.
+    let m = c.args.m.now in
+    let all : c.deref.result.now ≡ range_with_len 1 (length m.rows) = c.deref.ensures.value ∙ c.in_ok-all-in-No.ensures in
+    let straight : rotated 0 c.deref.result.now ≡ range_with_len 1 (length m.rows) = append-nil c.deref.result.now ∙ all in
+    let first = rw c.in-No.is at (c.in_ok-tree.ensures.in_turn turn) in
+    c.in_ok-blamed-in-No.ensures.needed m (subst (AreRowNumbers (length m.rows)) (sym straight) (ascends_all (length m.rows)))
+    (λ i from inside. absurd (omega (arith, from, inside, length-rotated 0 c.deref.result.now)))
+    (subst (λ xs. IsFirstConflict (part_at m xs) c.in-No.cycle) (sym all) (subst (λ n. IsFirstConflict n c.in-No.cycle) (sym (part_all m)) first))
+
+pub returns-in_ok-core-in-No-clause-asked : goal.returns-in_ok-core-in-No-clause-asked
+returns-in_ok-core-in-No-clause-asked g c = λ turn.
+    let m = c.args.m.now in
+    let judgement = rw c.in-No.is at c.in_ok-tree.ensures.judged in
+    let all : c.deref.result.now ≡ range_with_len 1 (length m.rows) = c.deref.ensures.value ∙ c.in_ok-all-in-No.ensures in
+    let cycle : IsOddCycle m.columns (rows_at m.rows (range_with_len 1 (length m.rows))) c.in-No.cycle = subst (λ rows. IsOddCycle m.columns rows c.in-No.cycle) (sym (rows_at_all m.rows)) judgement.0 in
+    let straight : rotated 0 c.deref.result.now ≡ range_with_len 1 (length m.rows) = append-nil c.deref.result.now ∙ all in
+    let blamed = c.in_ok-blamed-in-No.ensures.blamed m (subst (AreRowNumbers (length m.rows)) (sym straight) (ascends_all (length m.rows))) (subst (λ xs. IsOddCycle m.columns (rows_at m.rows xs) c.in-No.cycle) (sym all) cycle) in
+    let some = some_blamed c.blame_law.ensures m c.in_ok-blamed-in-No.blamed.rows.items c.in_ok-blamed-in-No.blamed.lines blamed.cycle blamed.among in
+    omega (arith, some, c.in_ok-blamed-in-No.ensures.more.1, c.in_ok-core-in-No.ensures.asked turn, c.judge.ensures.asked)

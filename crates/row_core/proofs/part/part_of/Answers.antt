@@ -1,26 +1,22 @@
 use Rattle.std.proofs.Common.{length, take, ap, arith}
 use Rattle.std.proofs.lemmas.List.{length-map, length-take-le}
 use Rattle.row_model.specs.Graph.{row_at}
-use Rattle.row_model.proofs.Ascending.{ascends_few}
-use Rattle.row_core.proofs.Numbers.{within_at}
 use Rattle.row_core.proofs.Parts.{part_more}
 use Rattle.row_core.proofs.part.part_of.Goals as goal
 
 pub row-requires : goal.row-requires
-row-requires c =
-    let r = within_at (length c.args.m.now.rows) 0 c.args.set.now c.loop-k.k-index 0 c.requires c.loop-k-test.true in
-    (omega (arith, r.0), r.1)
+row-requires c = c.requires.within c.loop-k.k-index 0 c.loop-k-test.true
 
 pub push_row-requires-clause-room : goal.push_row-requires-clause-room
 push_row-requires-clause-room c =
-    let taken = take c.loop-k.k-index c.args.set.now in
+    let taken = take c.loop-k.k-index c.args.list.now in
     omega (
       arith,
       c.loop-k-test.true,
       ap length c.loop-k.invariant.rows,
       length-map taken (row_at c.args.m.now.rows),
-      length-take-le c.loop-k.k-index c.args.set.now (omega (arith, c.loop-k-test.true)),
-      ascends_few (length c.args.m.now.rows) 0 c.args.set.now c.requires,
+      length-take-le c.loop-k.k-index c.args.list.now (omega (arith, c.loop-k-test.true)),
+      c.requires.few,
       c.columns.ensures.few_rows,
     )
 

@@ -1,4 +1,4 @@
-use Rattle.std.proofs.Common.{◌≡◌, ◌∙◌, refl, sym, ap, subst, inl, inr}
+use Rattle.std.proofs.Common.{◌∙◌, refl, sym, ap, subst, inl, inr}
 use Rattle.instance_model.specs.Instance.{plain, IsInstance}
 use Rattle.instance_model.specs.Value.{instance_value}
 use Rattle.core_text.specs.Told.{TellsCore}
@@ -21,8 +21,8 @@ core_text-requires-clause-tells c =
     let found = subst (IsCored c.in-Plain.m) c.in-Core.is c.in_ok-core.ensures in
     subst (λ (t : TextValue). TellsCore c.in-Plain.m t.parts) (sym c.new-in-Core.ensures) found.0
 
-pub returns-in-Core-clause-reply : goal.returns-in-Core-clause-reply
-returns-in-Core-clause-reply c =
+pub returns-in_ok-text-in-Core-clause-reply : goal.returns-in_ok-text-in-Core-clause-reply
+returns-in_ok-text-in-Core-clause-reply c =
     let found = subst (IsCored c.in-Plain.m) c.in-Core.is c.in_ok-core.ensures in (
       c.in-Plain.m,
       plain_of c.args.kind c.in-Plain.field-0 (instance_value c.args.instance.now) c.in-Plain.m (ap instance_value c.in-Plain.is) c.requires.of_kind,
@@ -33,8 +33,8 @@ returns-in-Core-clause-reply c =
       ),
     )
 
-pub returns-clause-reply : goal.returns-clause-reply
-returns-clause-reply c =
+pub returns-in_ok-text-in-Has-clause-reply : goal.returns-in_ok-text-in-Has-clause-reply
+returns-in_ok-text-in-Has-clause-reply c =
     let found = subst (IsCored c.in-Plain.m) c.in-Has.is c.in_ok-core.ensures in
     let is = plain_of c.args.kind c.in-Plain.field-0 (instance_value c.args.instance.now) c.in-Plain.m (ap instance_value c.in-Plain.is) c.requires.of_kind in
-    (c.in-Plain.m, is, inr (found.1, refl, c.in_ok-text-in-Has.ensures c.args.kind c.in-Plain.m is found.1))
+    (c.in-Plain.m, is, inr (found.1, refl, c.in_ok-text-in-Has.ensures c.args.kind is))

@@ -21,7 +21,7 @@ returns-in-Yes g c =
     met_tree n t u c.args.first.now.proper second c.push_rows.new.m
     (joined_columns n (column_count c.args.second.now) t u c.in_ok-m.m c.push_rows.new.m c.in_ok-m.ensures c.in_ok-push_rows.ensures)
     (joined_rows n (column_count c.args.second.now) t u c.in_ok-m.m c.push_rows.new.m c.requires.same c.in_ok-m.ensures c.in_ok-push_rows.ensures)
-    c.in-Yes.tree (subst (IsJudged c.push_rows.new.m) c.in-Yes.is c.in_ok-tree.ensures)
+    c.in-Yes.tree (subst (IsJudged c.push_rows.new.m) c.in-Yes.is c.in_ok-tree.ensures.judged)
 
 pub returns : goal.returns
 returns g c =
@@ -32,4 +32,4 @@ returns g c =
     met_apart n t u c.args.first.now.proper second c.push_rows.new.m
     (joined_columns n (column_count c.args.second.now) t u c.in_ok-m.m c.push_rows.new.m c.in_ok-m.ensures c.in_ok-push_rows.ensures)
     (joined_rows n (column_count c.args.second.now) t u c.in_ok-m.m c.push_rows.new.m c.requires.same c.in_ok-m.ensures c.in_ok-push_rows.ensures)
-    c.in-No.cycle (subst (IsJudged c.push_rows.new.m) c.in-No.is c.in_ok-tree.ensures)
+    c.in-No.cycle (subst (IsJudged c.push_rows.new.m) c.in-No.is c.in_ok-tree.ensures.judged)

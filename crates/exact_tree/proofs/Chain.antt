@@ -1,0 +1,52 @@
+-- The universal tree reduced by rows in turn.
+use Rattle.std.proofs.Common.{◌≡◌, ◌∙◌, ℕ, zero, suc, ◌+◌, ◌-◌, ◌<◌, ◌≤◌, List, [], ◌∷◌, ◌++◌, length, take, get_or, refl, sym, ap, subst, arith}
+use Rattle.std.specs.Prelude.{All}
+use Rattle.std.proofs.lemmas.List.{take_more, take_all}
+use Rattle.std.proofs.lemmas.List.Elements.{All-take}
+use Rattle.column_order.specs.Orders.{IsWithin, Keeps, HasValidOrder}
+use Rattle.pq_tree.specs.Outline.{Outline, leaves}
+use Rattle.pq_tree.specs.Proper.{IsProper, universal}
+use Rattle.tied_law.specs.Tied.{IsTied}
+use Rattle.tied_law.specs.Laws.{TiedLaw, LeavesLaw, UniversalLaw, EquivalentLaw}
+use Rattle.canonical_tree.specs.Laws.{HasOrdersOf, OneShapeLaw}
+use Rattle.template_theory.specs.Laws.{KeptLaw, ExistsLaw}
+
+-- a proper tree that is tied to the rows
+pub record HasTree (c : ℕ) (rows : List (List ℕ)) : Type 0 where
+  pub tree : Outline
+  pub proper : IsProper c tree
+  pub tied : IsTied c rows tree
+
+-- the first rows of rows that have a valid order have a tree
+first_tree : UniversalLaw → KeptLaw → ExistsLaw → (c : ℕ) (rows : List (List ℕ)) → 1 ≤ c → All (IsWithin c) rows → HasValidOrder c rows → (k : ℕ) → HasTree c (take k rows)
+first_tree start kept exists c rows some within valid zero = let u = start c some in record { tree = universal c; proper = u.0; tied = u.1 }
+first_tree start kept exists c rows some within valid (suc k) = go (first_tree start kept exists c rows some within valid k) (length rows - k) refl
+  where
+    go : HasTree c (take k rows) → (d : ℕ) → length rows - k ≡ d → HasTree c (take (suc k) rows)
+    go before zero e =
+        let same : take k rows ≡ take (suc k) rows = take_all k rows (omega (arith, e)) ∙ sym (take_all (suc k) rows (omega (arith, e))) in
+        subst (HasTree c) same before
+    go before (suc d) e =
+        let inside : k < length rows = omega (arith, e) in
+        let next : k + 1 ≡ suc k = omega arith in
+        let row : List ℕ = get_or rows k [] in
+        let more : take k rows ++ row ∷ [] ≡ take (suc k) rows = sym (take_more rows k [] inside) ∙ ap (λ n. take n rows) next in
+        let front : HasValidOrder c (take k rows ++ row ∷ []) =
+        (valid.0, record { order = valid.1.order; kept = subst (All (Keeps valid.0)) (sym more) (All-take (Keeps valid.0) (suc k) rows valid.1.kept) }) in
+        let reduced = (exists c (take k rows) row before.tree before.proper before.tied (within k [] inside)).1 front in
+        let after = kept c (take k rows) row before.tree reduced.0 before.proper before.tied (within k [] inside) reduced.1 in
+        subst (HasTree c) more (record { tree = reduced.0; proper = after.0; tied = after.1 })
+
+-- so have all rows
+pub tree_of_rows : UniversalLaw → KeptLaw → ExistsLaw → (c : ℕ) (rows : List (List ℕ)) → 1 ≤ c → All (IsWithin c) rows → HasValidOrder c rows → HasTree c rows
+tree_of_rows start kept exists c rows some within valid =
+    subst (HasTree c) (take_all (length rows) rows (omega arith)) (first_tree start kept exists c rows some within valid (length rows))
+
+-- a proper tree with the frontiers of that tree is tied to the rows, too
+pub exact : UniversalLaw → KeptLaw → ExistsLaw → TiedLaw → LeavesLaw → EquivalentLaw → OneShapeLaw → (c : ℕ) (rows : List (List ℕ)) (t : Outline) → 1 ≤ c → All (IsWithin c) rows → IsProper c t → HasOrdersOf c rows t → IsTied c rows t
+exact start kept exists tied columns turned shape c rows t some within proper orders =
+    let valid : HasValidOrder c rows = (leaves t, (orders (leaves t)).0 (columns t)) in
+    let there = tree_of_rows start kept exists c rows some within valid in
+    let frontiers = tied c rows there.tree there.proper.1 there.tied in
+    let alike = shape c there.tree t there.proper proper (λ o. (λ f. (orders o).1 ((frontiers o).0 f), λ f. (frontiers o).1 ((orders o).0 f))) in
+    (turned c rows there.tree t alike).1.0 there.tied

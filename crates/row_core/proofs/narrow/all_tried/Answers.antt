@@ -1,0 +1,105 @@
+use Rattle.std.proofs.Common.{◌≡◌, ◌∙◌, ◌+◌, ◌-◌, ◌<◌, ◌++◌, length, take, drop, ap, sym, subst, refl, arith}
+use Rattle.std.proofs.lemmas.List.{length-append, length-drop, length-take-le}
+use Rattle.core_text.specs.Cores.{AreRowNumbers}
+use Rattle.core_text.specs.Told.{IsOrderWithout}
+use Rattle.pq_tree.specs.Outline.{leaves}
+use Rattle.pq_tree.specs.PqTree.{outline}
+use Rattle.row_core.specs.Blamed.{IsBlamed, AreNeeded, AreTold}
+use Rattle.row_core.specs.declared.blamed.Blamed.{Blamed}
+use Rattle.row_core.proofs.Needed.{needed_others, needed_more, rotated_others, length-others}
+use Rattle.row_core.proofs.Numbers.{ascends_without}
+use Rattle.row_core.proofs.Told.{order_without, told_more, none_told}
+use Rattle.row_core.proofs.narrow.all_tried.Goals.{in-Ordered+in_ok-push_leaves-in-Ordered, in-Refused}
+use Rattle.row_core.proofs.narrow.all_tried.Goals as goal
+
+pub judged-requires-clause-rows : goal.judged-requires-clause-rows
+judged-requires-clause-rows g c =
+    let set = c.rounds.blamed.rows.items in
+    let i = c.rounds.blamed.untried - 1 in
+    let l : i < length set = omega (arith, c.rounds-test.true, c.rounds.invariant.blamed.few) in
+    let list : c.deref-in-rounds.result.now ≡ drop (i + 1) set ++ take i set = c.deref-in-rounds.ensures.value ∙ c.in_ok-others.ensures ∙ ap (λ xs. drop (i + 1) xs ++ take i xs) c.deref.ensures.value in
+    let size : c.len.result - c.rounds.blamed.untried ≡ length set - (i + 1) = omega (arith, c.len.ensures, c.rounds.blamed.rows.ok, c.rounds-test.true) in
+    subst (AreRowNumbers (length c.args.m.now.rows)) (sym (rotated_others i _ set _ l list size))
+    (ascends_without (length c.args.m.now.rows) 0 i (i + 1) set (omega arith) c.rounds.invariant.blamed.rows)
+
+pub rounds-smaller : goal.rounds-smaller
+rounds-smaller g c =
+    let set = c.rounds.blamed.rows.items in
+    let i = c.rounds.blamed.untried - 1 in
+    let l : i < length set = omega (arith, c.rounds-test.true, c.rounds.invariant.blamed.few) in
+    let list : c.deref-in-rounds.result.now ≡ drop (i + 1) set ++ take i set = c.deref-in-rounds.ensures.value ∙ c.in_ok-others.ensures ∙ ap (λ xs. drop (i + 1) xs ++ take i xs) c.deref.ensures.value in
+    let size : c.len.result - c.rounds.blamed.untried ≡ length set - (i + 1) = omega (arith, c.len.ensures, c.rounds.blamed.rows.ok, c.rounds-test.true) in
+    let rotated_is = rotated_others i _ set _ l list size in
+    elim c.match-branch-3.branch [
+      | in-Ordered+in_ok-push_leaves-in-Ordered w ↦ omega (arith, ap (λ (b : Blamed). b.untried) w.blamed-is, c.rounds-test.true)
+      | in-Refused w ↦
+          let found = rw (w.in-Refused.is, rotated_is) at c.in_ok-tree.ensures.finding in
+          omega (arith, found.2, found.4, ap (λ (b : Blamed). b.untried) w.blamed-is, c.rounds-test.true, length-others i set l, size)
+    ]
+
+pub rounds-preserved : goal.rounds-preserved
+rounds-preserved g c =
+    let m = c.args.m.now in
+    let set = c.rounds.blamed.rows.items in
+    let i = c.rounds.blamed.untried - 1 in
+    let next : i + 1 ≡ c.rounds.blamed.untried = omega (arith, c.rounds-test.true) in
+    let l : i < length set = omega (arith, c.rounds-test.true, c.rounds.invariant.blamed.few) in
+    let list : c.deref-in-rounds.result.now ≡ drop (i + 1) set ++ take i set = c.deref-in-rounds.ensures.value ∙ c.in_ok-others.ensures ∙ ap (λ xs. drop (i + 1) xs ++ take i xs) c.deref.ensures.value in
+    let size : c.len.result - c.rounds.blamed.untried ≡ length set - (i + 1) = omega (arith, c.len.ensures, c.rounds.blamed.rows.ok, c.rounds-test.true) in
+    let rotated_is = rotated_others i _ set _ l list size in
+    elim c.match-branch-3.branch [
+      | in-Ordered+in_ok-push_leaves-in-Ordered w ↦
+          let t = w.in-Ordered.tree in
+          let found = rw (w.in-Ordered.is, rotated_is) at c.in_ok-tree.ensures.finding in
+          let pushed = w.in_ok-push_leaves-in-Ordered.ensures in
+          let one : IsOrderWithout m set _ (leaves (outline t)) = order_without m set (take i set ++ drop (i + 1) set) (leaves (outline t)) i t c.rounds.invariant.blamed.rows l refl found refl pushed.frontier in
+          let before : AreTold m set (i + 1) c.rounds.told c.rounds.orders = subst (λ k. AreTold m set k c.rounds.told c.rounds.orders) (sym next) c.rounds.invariant.orders in
+          let untried = ap (λ (b : Blamed). b.untried) w.blamed-is in
+          let same = ap (λ (b : Blamed). length b.rows.items) w.blamed-is in
+          let more = told_more m set c.rounds.orders w.push_leaves.new.orders (leaves (outline t)) i c.rounds.told l one pushed.ok before in
+          record {
+            blamed = subst (IsBlamed m) (sym w.blamed-is) (record {
+              rows = c.rounds.invariant.blamed.rows;
+              few = omega (arith, l);
+              cycle = c.rounds.invariant.blamed.cycle;
+              among = c.rounds.invariant.blamed.among;
+            });
+            few = omega (arith, same, c.rounds.invariant.few);
+            orders = rw (w.blamed-is, w.told-is, w.orders-is) more;
+            needed = λ turn start.
+                let there : AreNeeded m set (i + 1) = subst (AreNeeded m set) (sym next) (c.rounds.invariant.needed turn start) in
+                subst (λ (b : Blamed). AreNeeded m b.rows.items b.untried) (sym w.blamed-is) (needed_more m i set (leaves (outline t), one.valid) there);
+            asked = λ some. omega (arith, same, untried, next, l, c.judged.ensures.asked, c.rounds.invariant.asked c.rounds-test.true);
+            asked_most = omega (arith, same, untried, next, l, c.judged.ensures.asked, c.rounds.invariant.asked c.rounds-test.true);
+          }
+      | in-Refused w ↦
+          let found = rw (w.in-Refused.is, rotated_is) at c.in_ok-tree.ensures.finding in
+          let untried = ap (λ (b : Blamed). b.untried) w.blamed-is in
+          let same = ap (λ (b : Blamed). length b.rows.items) w.blamed-is in
+          let shorter = length-others i set l in
+          let size_list = ap length list in
+          record {
+            blamed = subst (IsBlamed m) (sym w.blamed-is) found.0;
+            few = omega (arith, same, found.2, shorter, c.rounds.invariant.few);
+            orders = rw (w.blamed-is, w.told-is, w.orders-is, w.new-orders-in-Refused.ensures) (none_told m w.in-Refused.fewer.rows.items w.in-Refused.fewer.untried found.0.few);
+            needed = λ turn start.
+                let there : AreNeeded m set (i + 1) = subst (AreNeeded m set) (sym next) (c.rounds.invariant.needed turn start) in
+                let left = needed_others m i set l there in
+                let from : length c.deref-in-rounds.result.now - (c.len.result - c.rounds.blamed.untried) ≡ i =
+                omega (arith, size, l, size_list, length-append (drop (i + 1) set) (take i set), length-drop (i + 1) set, length-take-le i set (omega (arith, l))) in
+                let fewer = rw w.in-Refused.is at (c.in_ok-tree.ensures.in_turn turn (rw (rotated_is, from) left)) in
+                subst (λ (b : Blamed). AreNeeded m b.rows.items b.untried) (sym w.blamed-is) fewer;
+            asked = λ some. omega (arith, some, same, untried, next, l, size, found.3, found.4, c.judged.ensures.asked, c.rounds.invariant.asked c.rounds-test.true);
+            asked_most = omega (arith, same, untried, next, l, size, found.3, found.4, c.judged.ensures.asked, c.rounds.invariant.asked c.rounds-test.true);
+          }
+    ]
+
+pub returns-clause-narrowed : goal.returns-clause-narrowed
+returns-clause-narrowed g c =
+    let none : c.rounds.blamed.untried ≡ 0 = omega (arith, c.rounds-test.false) in
+    record {
+      rows = c.rounds.invariant.blamed.rows;
+      cycle = c.rounds.invariant.blamed.cycle;
+      among = c.rounds.invariant.blamed.among;
+      orders = subst (λ k. AreTold c.args.m.now c.rounds.blamed.rows.items k c.rounds.told c.rounds.orders) none c.rounds.invariant.orders;
+    }
