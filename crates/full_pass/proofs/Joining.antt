@@ -11,10 +11,10 @@ use Rattle.arena_model.proofs.Slots.{children_times, in_range, some_none, used_b
 use Rattle.arena_model.proofs.Lists.{occurs_here}
 use Rattle.full_pass.specs.declared.entries.Entries.{Entries}
 use Rattle.full_pass.specs.declared.joins.Joined.{Joined}
-use Rattle.full_pass.specs.declared.count.Added.TheVariants.{First as AddedFirst, More as AddedMore, Whole as AddedWhole}
-use Rattle.full_pass.specs.declared.joins.Joined.TheVariants.{First, More, Run, Whole, Wide}
+use Rattle.full_pass.specs.declared.added.Added.TheVariants.{Run}
+use Rattle.full_pass.specs.declared.joins.Joined.TheVariants.{Plain, Wide}
 use Rattle.full_pass.specs.declared.joins.Place.TheVariants.{Ring as PlaceRing, Run as PlaceRun, Top as PlaceTop}
-use Rattle.full_pass.specs.Passing.{AreLinked, CanJoin, Chains, InRun, IsJoined, Pass, Runs, added_as, as_joined, judged_as, marks, place_shown, run_as}
+use Rattle.full_pass.specs.Passing.{AreLinked, CanJoin, Chains, InRun, IsAdded, IsJoined, Pass, Runs, judged_as, marks, place_shown, run_as}
 use Rattle.full_pass.specs.Entries.{AreReady, both, end_at, far, first, is_full, hits, mark_of, next, up}
 use Rattle.full_pass.specs.Tallies.{mark_in}
 use Rattle.full_pass.specs.Answer.{IsFullNode}
@@ -147,7 +147,7 @@ two_marks f l x k view ln r ke =
 -- x was labelled beside so many
 pub counted_run : (f : Layout) (l l' : ℕ → Bool) (h h' : ℕ → ℕ) (x k : ℕ) (view : NodeView) → CountedRun f l l' h h' x view →
     k ≡ mark_in l (side view 0) + mark_in l (side view 1) →
-    (row waiting : List ℕ) (n : ℕ) → Pass f row l h (x ∷ waiting) n → IsJoined f row l' h' waiting n (Run k)
+    (row waiting : List ℕ) (n : ℕ) → Pass f row l h (x ∷ waiting) n → IsAdded f row l' h' waiting n (Run k)
 counted_run f l l' h h' x k view d ke row waiting n pass =
     let r : Running f x (side view 0) (side view 1) = runs_at f x view d.layout d.shows d.at in
     subst (λ z. (z ≤ n) × Pass f row l' h' waiting (n - z) × InRun f l' waiting) (two_marks f l x k view d.ends_none r ke)
@@ -194,7 +194,7 @@ joined_run f w w' x k a b view result d ke re row waiting n pass =
         is_full w' r.q ≡ false → occurs waiting r.q ≡ 0 → IsJoined f row (is_full w') (hits w') waiting n (run_as k m)
     by None e r done o ny nw = done
     by (Some p) e r done o ny nw =
-        (elim (eqb k 0) as (λ t. eqb k 0 ≡ t → IsJoined f row (is_full w') (hits w') waiting n (cond t (Run k) (Wide k p))) [
+        (elim (eqb k 0) as (λ t. eqb k 0 ≡ t → IsJoined f row (is_full w') (hits w') waiting n (cond t (Plain (Run k)) (Wide k p))) [
           | true ↦ λ _. done
           | false ↦ λ z.
               let nz : k ≢ 0 = (λ q. true_false (eqb k 0) (eq-eqb k 0 q) z) in
@@ -217,12 +217,12 @@ pub record CountedRing (f : Layout) (l l' : ℕ → Bool) (h h' : ℕ → ℕ) (
 -- p has so many labelled children of all that a look at it shows
 pub joined_ring : (f : Layout) (l l' : ℕ → Bool) (h h' : ℕ → ℕ) (x : ℕ) (p : NodeId) (view view' : NodeView) (k : ℕ) → CountedRing f l l' h h' x p view →
     ShowsNode f p.index view' → k ≡ h p.index + 1 →
-    (row waiting : List ℕ) (n : ℕ) → Pass f row l h (x ∷ waiting) n → IsJoined f row l' h' waiting n (judged_as p k view'.children)
+    (row waiting : List ℕ) (n : ℕ) → Pass f row l h (x ∷ waiting) n → IsAdded f row l' h' waiting n (judged_as p k view'.children)
 joined_ring f l l' h h' x p view view' k d shows' ke row waiting n pass =
     let r : Ringed f x p.index = rings_at f x p view d.layout d.shows d.at in
     let e : judged_as p k view'.children ≡ judged_as p (h p.index + 1) (length (children_at f p.index)) =
     ap (λ z. judged_as p z view'.children) ke ∙ ap (λ z. judged_as p (h p.index + 1) z) (shown_count_is f p.index view' shows' r.sh) in
-    subst (λ z. IsJoined f row l' h' waiting n z) (sym e)
+    subst (λ z. IsAdded f row l' h' waiting n z) (sym e)
     (pass_ring f row l l' h h' x p r.us r.vs waiting n d.layout r.sh r.is
     (record { before = pass.fresh x (occurs_here x waiting); after = d.now; others = d.others }) d.hit d.same pass)
 
@@ -309,12 +309,3 @@ tied_by far far' a b eb ea others = record {
     | inr ne ↦ ea ne
   ];
 }
-
--- what a child of a P-node did is the same in both passes
-pub as_judged : (p : NodeId) (n children : ℕ) → as_joined (added_as p n children) ≡ judged_as p n children
-as_judged p n children = by (eqb n 1) (eqb n children)
-  where
-    by : (a b : Bool) → as_joined (cond a AddedFirst (cond b (AddedWhole p) (AddedMore p))) ≡ cond a First (cond b (Whole p) (More p))
-    by true b = refl
-    by false true = refl
-    by false false = refl

@@ -8,10 +8,10 @@ use Rattle.arena_model.specs.Layout.{IsAtOrAbove, IsInUse, IsLayout, Layout, chi
 use Rattle.arena_model.proofs.Lists.{occurs_here, occurs_other, occurs_same}
 use Rattle.arena_model.proofs.Slots.{children_times, in_range, some_inj, used_by}
 use Rattle.arena_model.proofs.Paths.{one_parent}
-use Rattle.full_pass.specs.declared.joins.Joined.TheVariants.{First, More, Whole}
+use Rattle.full_pass.specs.declared.added.Added.TheVariants.{First, More, Whole}
 use Rattle.arena_model.specs.RowLeaves.{IsLeafAt}
 use Rattle.full_pass.specs.Answer.{IsFullNode}
-use Rattle.full_pass.specs.Passing.{HasPart, InRing, InRun, IsJoined, Pass, judged_as, marks, runs, total}
+use Rattle.full_pass.specs.Passing.{HasPart, InRing, InRun, IsAdded, Pass, judged_as, marks, runs, total}
 use Rattle.full_pass.proofs.Sums.{total_with}
 use Rattle.full_pass.proofs.Marks.{OneMore, bit, cases_bool, marks_all, marks_le, marks_with, runs_same, runs_with, true_false}
 use Rattle.column_order.specs.Orders.{occurs}
@@ -200,7 +200,7 @@ whole_fills f row l p sh filled all = λ x leaf way. by_way p x sh all leaf way
 pub pass_ring : (f : Layout) (row : List ℕ) (l l' : ℕ → Bool) (h h' : ℕ → ℕ) (x : ℕ) (node : NodeId) (us vs waiting : List ℕ) (n : ℕ) → IsLayout f →
     shape_at f node.index ≡ Some P → children_at f node.index ≡ us ++ x ∷ vs → OneMore l l' x →
     h' node.index ≡ h node.index + 1 → ((y : ℕ) → y ≢ node.index → h' y ≡ h y) → Pass f row l h (x ∷ waiting) n →
-    IsJoined f row l' h' waiting n (judged_as node (h node.index + 1) (length (children_at f node.index)))
+    IsAdded f row l' h' waiting n (judged_as node (h node.index + 1) (length (children_at f node.index)))
 pass_ring f row l l' h h' x node us vs waiting n layout sh is more here_hits same pass =
     let p : ℕ = node.index in
     let at : 1 ≤ occurs (us ++ x ∷ vs) x = omega (arith, occurs-append us (x ∷ vs) x, occurs_here x vs) in
@@ -239,7 +239,7 @@ pass_ring f row l l' h h' x node us vs waiting n layout sh is more here_hits sam
     let whole_children : h p + 1 ≡ length (children_at f p) → (k : ℕ) → 1 ≤ occurs (children_at f p) k → l' k ≡ true =
     (λ e k ok. marks_all l' (children_at f p) k (omega arith) ok) in
     (elim (eqb (h p + 1) 1) as (λ b. eqb (h p + 1) 1 ≡ b →
-    IsJoined f row l' h' waiting n (cond b First (cond (eqb (h p + 1) (length (children_at f p))) (Whole node) (More node)))) [
+    IsAdded f row l' h' waiting n (cond b First (cond (eqb (h p + 1) (length (children_at f p))) (Whole node) (More node)))) [
       | true ↦ λ e.
           let one : h p + 1 ≡ 1 = eqb-true (h p + 1) 1 e in
           let g' : ℕ → ℕ = changed pass.parts p (pass.parts p + 1) in
@@ -274,7 +274,7 @@ pass_ring f row l l' h h' x node us vs waiting n layout sh is more here_hits sam
           let ne1 : h p + 1 ≢ 1 = ne_of (h p + 1) 1 e in
           let old : 1 ≤ pass.parts p = pass.p_parts p sh up.not_full up.not_waiting (omega arith) in
           (elim (eqb (h p + 1) (length (children_at f p))) as (λ b. eqb (h p + 1) (length (children_at f p)) ≡ b →
-          IsJoined f row l' h' waiting n (cond b (Whole node) (More node))) [
+          IsAdded f row l' h' waiting n (cond b (Whole node) (More node))) [
             | true ↦ λ e2.
                 let eq : h p + 1 ≡ length (children_at f p) = eqb-true (h p + 1) (length (children_at f p)) e2 in
                 let all = whole_children eq in

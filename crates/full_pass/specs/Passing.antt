@@ -8,11 +8,13 @@ use Rattle.arena_model.specs.NamedTree.{IsOneTree}
 use Rattle.pq_arena.specs.declared.node.NodeId.{NodeId}
 use Rattle.pq_arena.specs.Looks.{node_named}
 use Rattle.full_pass.specs.declared.entries.Entries.{Entries}
-use Rattle.full_pass.specs.declared.count.Added.{Added}
-use Rattle.full_pass.specs.declared.count.Added.TheVariants.{Top as AddedTop, Run as AddedRun, First as AddedFirst, More as AddedMore, Whole as AddedWhole}
+use Rattle.full_pass.specs.declared.added.Added.{Added}
+use Rattle.full_pass.specs.declared.added.Added.TheVariants.{Top, Run, First, More, Whole}
+use Rattle.full_pass.specs.declared.added.Next.{Next}
+use Rattle.full_pass.specs.declared.added.Next.TheVariants.{Ended, Above}
 use Rattle.full_pass.specs.declared.tallies.Tally.{Tally}
 use Rattle.full_pass.specs.declared.joins.Joined.{Joined}
-use Rattle.full_pass.specs.declared.joins.Joined.TheVariants.{Top, Run, Wide, First, More, Whole}
+use Rattle.full_pass.specs.declared.joins.Joined.TheVariants.{Plain, Wide}
 use Rattle.full_pass.specs.declared.joins.Place.{Place}
 use Rattle.full_pass.specs.declared.joins.Place.TheVariants.{Top as PlaceTop, Run as PlaceRun, Ring as PlaceRing}
 use Rattle.full_pass.specs.declared.settled.Settled.{Settled}
@@ -23,8 +25,8 @@ use Rattle.full_pass.specs.Tallies.{full_in, hits_in, first_in, next_in, chained
 
 -- what a labelled child of a Q-node did, with so many labelled neighbours, whose run shows this node at both ends
 abbrev pub run_as : ℕ → Option NodeId → Joined
-run_as pairs None = Run pairs
-run_as pairs (Some q) = cond (eqb pairs 0) (Run pairs) (Wide pairs q)
+run_as pairs None = Plain (Run pairs)
+run_as pairs (Some q) = cond (eqb pairs 0) (Plain (Run pairs)) (Wide pairs q)
 
 -- where a node stands, by the parent and the neighbours that it shows
 abbrev pub place_shown : Option NodeId → Option NodeId → Option NodeId → Place
@@ -35,20 +37,8 @@ place_shown (Some p) (Some a) None = PlaceRun
 place_shown (Some p) (Some a) (Some b) = PlaceRing p
 
 -- what a labelled child of the P-node p did, of whose children so many are labelled
-abbrev pub judged_as : NodeId → ℕ → ℕ → Joined
+abbrev pub judged_as : NodeId → ℕ → ℕ → Added
 judged_as p n children = cond (eqb n 1) First (cond (eqb n children) (Whole p) (More p))
-
--- the same in a pass that counts
-abbrev pub added_as : NodeId → ℕ → ℕ → Added
-added_as p n children = cond (eqb n 1) AddedFirst (cond (eqb n children) (AddedWhole p) (AddedMore p))
-
--- what a node did in a pass that counts, as one of what it may do in a pass that keeps runs
-abbrev pub as_joined : Added → Joined
-as_joined AddedTop = Top
-as_joined (AddedRun pairs) = Run pairs
-as_joined AddedFirst = First
-as_joined (AddedMore p) = More p
-as_joined (AddedWhole p) = Whole p
 
 -- how many of the list are labelled
 abbrev pub marks : (ℕ → Bool) → List ℕ → ℕ
@@ -126,17 +116,17 @@ pub record InMore (f : Layout) (l : ℕ → Bool) (waiting : List ℕ) (p : ℕ)
   pub not_all : marks l (children_at f p) < length (children_at f p)
 
 -- what is known once a node was labelled and `waiting` are left
-abbrev pub IsJoined : Layout → List ℕ → (ℕ → Bool) → (ℕ → ℕ) → List ℕ → ℕ → Joined → Type 0
-IsJoined f row l h waiting n Top = IsFullNode f row f.root
-IsJoined f row l h waiting n (Run pairs) = (pairs ≤ n) × Pass f row l h waiting (n - pairs) × InRun f l waiting
-IsJoined f row l h waiting n (Wide pairs p) = (pairs ≤ n) × (1 ≤ pairs) × Pass f row l h (p.index ∷ waiting) (n - pairs)
-IsJoined f row l h waiting n First = Pass f row l h waiting n × InFirst f l waiting
-IsJoined f row l h waiting n (More p) = (1 ≤ n) × Pass f row l h waiting (n - 1) × InMore f l waiting p.index
-IsJoined f row l h waiting n (Whole p) = (1 ≤ n) × Pass f row l h (p.index ∷ waiting) (n - 1)
-
--- the same in a pass that counts
 abbrev pub IsAdded : Layout → List ℕ → (ℕ → Bool) → (ℕ → ℕ) → List ℕ → ℕ → Added → Type 0
-IsAdded f row l h waiting n added = IsJoined f row l h waiting n (as_joined added)
+IsAdded f row l h waiting n Top = IsFullNode f row f.root
+IsAdded f row l h waiting n (Run pairs) = (pairs ≤ n) × Pass f row l h waiting (n - pairs) × InRun f l waiting
+IsAdded f row l h waiting n First = Pass f row l h waiting n × InFirst f l waiting
+IsAdded f row l h waiting n (More p) = (1 ≤ n) × Pass f row l h waiting (n - 1) × InMore f l waiting p.index
+IsAdded f row l h waiting n (Whole p) = (1 ≤ n) × Pass f row l h (p.index ∷ waiting) (n - 1)
+
+-- the same in a pass that keeps runs
+abbrev pub IsJoined : Layout → List ℕ → (ℕ → Bool) → (ℕ → ℕ) → List ℕ → ℕ → Joined → Type 0
+IsJoined f row l h waiting n (Plain added) = IsAdded f row l h waiting n added
+IsJoined f row l h waiting n (Wide pairs p) = (pairs ≤ n) × (1 ≤ pairs) × Pass f row l h (p.index ∷ waiting) (n - pairs)
 
 -- what holds of the answer that the last labelled node gives where no other part is left
 abbrev pub IsLast : Layout → List ℕ → (ℕ → Bool) → (ℕ → ℕ) → List ℕ → ℕ → Settled → Type 0
@@ -148,6 +138,25 @@ IsLast f row l h waiting n Open = Unit {0}
 abbrev pub IsRisen : Layout → List ℕ → (ℕ → Bool) → (ℕ → ℕ) → List ℕ → ℕ → Option Settled → Type 0
 IsRisen f row l h waiting n None = IsFullNode f row f.root
 IsRisen f row l h waiting n (Some s) = IsLast f row l h waiting n s × (Open ≢ s)
+
+-- where the pass goes on: the answer if no other part is left, or a further node that is full
+abbrev pub IsNext : Layout → List ℕ → (ℕ → Bool) → (ℕ → ℕ) → List ℕ → ℕ → Next → Type 0
+IsNext f row l h waiting n (Ended s) = IsRisen f row l h waiting n s
+IsNext f row l h waiting n (Above p) = Pass f row l h (p.index ∷ waiting) n
+
+-- there are no more parts than before, and fewer where a further node is full
+abbrev pub AreFewer : Next → ℕ → ℕ → Type 0
+AreFewer (Ended s) before n = n ≤ before
+AreFewer (Above p) before n = n + 1 ≤ before
+
+-- a node was labelled in some pass
+pub record WasAdded (n : ℕ) (added : Added) : Type 0 where
+  pub f : Layout
+  pub row : List ℕ
+  pub l : ℕ → Bool
+  pub h : ℕ → ℕ
+  pub waiting : List ℕ
+  pub is : IsAdded f row l h waiting n added
 
 -- each P-node has its labelled children in a chain, each once
 abbrev pub Chains : Layout → (ℕ → Bool) → (ℕ → ℕ) → (ℕ → ℕ) → (ℕ → ℕ) → Type 0

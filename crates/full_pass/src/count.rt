@@ -5,28 +5,14 @@ ghost use Rattle.arena_model.specs.NamedTree.{IsOneTree};
 ghost use Rattle.pq_arena.specs.RowNodes.{column_leaves};
 ghost use Rattle.full_pass.specs.Answer.{IsSettled};
 ghost use Rattle.full_pass.specs.Tallies.{full_in, hits_in, AreStamped};
-ghost use Rattle.full_pass.specs.Passing.{added_as, members_in, AreCounted, CanAdd, CanClimb, Pass, IsAdded, IsRisen};
+ghost use Rattle.full_pass.specs.Passing.{members_in, AreCounted, CanAdd, CanClimb, Pass, IsAdded, IsRisen};
 
+use crate::added::{Added, Next, after, judged};
 use crate::joins::{Place, place_of};
 use crate::settled::Settled;
 use crate::tallies::{Tally, fill, hit, mark, show};
 use pq_arena::{Arena, NodeId};
 use step_count::{Ledger, Steps};
-
-// What a node did that was labelled.
-#[derive(Clone, Copy)]
-pub enum Added {
-    // It is the root, and was not labelled.
-    Top,
-    // It is a child of a Q-node, beside so many labelled ones.
-    Run(usize),
-    // It is the first labelled child of a P-node.
-    First,
-    // It is a further child of this P-node, and others are not labelled.
-    More(NodeId),
-    // It is the last child of this P-node.
-    Whole(NodeId),
-}
 
 // What a pass that counts found.
 #[derive(Clone, Copy)]
@@ -34,19 +20,6 @@ pub struct Counted {
     pub settled: Settled,
     // Whether both end children of some Q-node showed it, so that the node may be full.
     pub may_fill: bool,
-}
-
-// What a child of the P-node `p` did, of whose children so many are labelled.
-fn judged(p: NodeId, hits: u32, children: u32) -> Added
-    ensures { result ≡ added_as p hits children }
-{
-    if hits == 1 {
-        Added::First
-    } else if hits == children {
-        Added::Whole(p)
-    } else {
-        Added::More(p)
-    }
 }
 
 // Labels the full node `x`.
@@ -110,21 +83,10 @@ fn climb<L: Ledger>(
 {
     let mut x = x;
     loop {
-        match add(arena, labels, tallies, stamp, x, may_fill, steps) {
-            Added::Top => return None,
-            Added::Run(pairs) => {
-                *parts -= pairs;
-                return Some(Settled::Kept);
-            }
-            Added::First => return Some(Settled::Kept),
-            Added::More(p) => {
-                *parts -= 1;
-                return Some(Settled::Group(p));
-            }
-            Added::Whole(p) => {
-                *parts -= 1;
-                x = p;
-            }
+        let added = add(arena, labels, tallies, stamp, x, may_fill, steps);
+        match after(added, parts) {
+            Next::Ended(settled) => return settled,
+            Next::Above(p) => x = p,
         }
     }
 }

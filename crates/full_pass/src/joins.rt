@@ -1,8 +1,9 @@
 // The labelling of one full node in a pass that keeps runs.
 ghost use Rattle.std.specs.Prelude.{◌≡◌, ℕ, ◌+◌, ◌*◌, ◌≤◌, List, ◌∷◌};
 ghost use Rattle.full_pass.specs.Entries.{is_full, hits};
-ghost use Rattle.full_pass.specs.Passing.{run_as, place_shown, judged_as, AreLinked, Pass, CanJoin, IsJoined, CanRise, IsRisen};
+ghost use Rattle.full_pass.specs.Passing.{run_as, place_shown, AreLinked, Pass, CanJoin, IsJoined, CanRise, IsRisen};
 
+use crate::added::{Added, Next, after, judged};
 use crate::entries::Entries;
 use crate::settled::Settled;
 use pq_arena::{Arena, NodeId};
@@ -19,21 +20,13 @@ pub enum Place {
     Ring(NodeId),
 }
 
-// What a node did that was labelled.
+// What a node did that was labelled in a pass that keeps runs.
 #[derive(Clone, Copy)]
 pub enum Joined {
-    // It is the root, and was not labelled.
-    Top,
-    // It is a child of a Q-node, beside so many labelled ones.
-    Run(usize),
+    // What it does in any pass.
+    Plain(Added),
     // It is a child of this Q-node, all of whose children are labelled, beside so many.
     Wide(usize, NodeId),
-    // It is the first labelled child of a P-node.
-    First,
-    // It is a further child of this P-node, and others are not labelled.
-    More(NodeId),
-    // It is the last child of this P-node.
-    Whole(NodeId),
 }
 
 // Where a node stands that shows this parent and these neighbours.
@@ -60,27 +53,14 @@ fn run_judged(pairs: usize, above: Option<NodeId>) -> Joined
     ensures { result ≡ run_as pairs above }
 {
     match above {
-        None => Joined::Run(pairs),
+        None => Joined::Plain(Added::Run(pairs)),
         Some(q) => {
             if pairs == 0 {
-                Joined::Run(pairs)
+                Joined::Plain(Added::Run(pairs))
             } else {
                 Joined::Wide(pairs, q)
             }
         }
-    }
-}
-
-// What a child of the P-node `p` did, of whose children so many are labelled.
-fn judged(p: NodeId, hits: u32, children: u32) -> Joined
-    ensures { result ≡ judged_as p hits children }
-{
-    if hits == 1 {
-        Joined::First
-    } else if hits == children {
-        Joined::Whole(p)
-    } else {
-        Joined::More(p)
     }
 }
 
@@ -98,7 +78,7 @@ fn join<L: Ledger>(arena: &Arena, entries: &mut Entries, x: NodeId, steps: &mut 
     let near0 = view.near[0];
     let near1 = view.near[1];
     match place_of(view.parent, near0, near1) {
-        Place::Top => Joined::Top,
+        Place::Top => Joined::Plain(Added::Top),
         Place::Run => {
             let a = entries.beside(near0, x);
             let b = entries.beside(near1, x);
@@ -112,7 +92,7 @@ fn join<L: Ledger>(arena: &Arena, entries: &mut Entries, x: NodeId, steps: &mut 
             let children = arena.look(p, steps).children;
             entries.fill(x);
             let hits = entries.hit(p, x);
-            judged(p, hits, children)
+            Joined::Plain(judged(p, hits, children))
         }
     }
 }
@@ -136,23 +116,13 @@ pub fn rise<L: Ledger>(
     let mut x = x;
     loop {
         match join(arena, entries, x, steps) {
-            Joined::Top => return None,
-            Joined::Run(pairs) => {
-                *parts -= pairs;
-                return Some(Settled::Kept);
-            }
+            Joined::Plain(added) => match after(added, parts) {
+                Next::Ended(settled) => return settled,
+                Next::Above(p) => x = p,
+            },
             Joined::Wide(pairs, q) => {
                 *parts -= pairs;
                 x = q;
-            }
-            Joined::First => return Some(Settled::Kept),
-            Joined::More(p) => {
-                *parts -= 1;
-                return Some(Settled::Group(p));
-            }
-            Joined::Whole(p) => {
-                *parts -= 1;
-                x = p;
             }
         }
     }

@@ -8,6 +8,7 @@
 //! Q-node showed that node, a second pass lets the two ends of each run name each other, and sees where one is full.
 #![tactic(auto)]
 
+mod added;
 mod count;
 mod entries;
 mod joins;

@@ -3,11 +3,11 @@ use Rattle.arena_model.specs.declared.TheConstants.{NODE_BOUND}
 use Rattle.arena_model.specs.ChildLists.{none}
 use Rattle.arena_model.proofs.Lists.{occurs_here}
 use Rattle.arena_model.proofs.Slots.{in_range}
-use Rattle.full_pass.specs.Passing.{IsAdded, IsJoined}
+use Rattle.full_pass.specs.Passing.{IsAdded}
 use Rattle.full_pass.specs.Tallies.{first_in, full_in, hits_in, mark_in, next_in}
 use Rattle.full_pass.proofs.Shapes.{slots_few}
 use Rattle.full_pass.proofs.Places.{side}
-use Rattle.full_pass.proofs.Joining.{as_judged, counted_chains, counted_run, hits_few, joined_ring, joined_top, ring_chains, ring_used}
+use Rattle.full_pass.proofs.Joining.{counted_chains, counted_run, hits_few, joined_ring, joined_top, ring_chains, ring_used}
 use Rattle.full_pass.proofs.count.add.Goals as goal
 
 pub hit-hits-requires-clause-p : goal.hit-hits-requires-clause-p
@@ -66,8 +66,6 @@ returns-in-Run-clause-counted g c = record {
 pub returns-in-Ring-clause-added : goal.returns-in-Ring-clause-added
 returns-in-Ring-clause-added g c = λ row waiting n pass.
     subst (λ z. IsAdded c.args.arena.now row (full_in c.fill-in-Ring.new.labels c.args.stamp) (hits_in c.hit-hits.new.tallies c.args.stamp) waiting n z) (sym c.judged.ensures)
-    (subst (λ z. IsJoined c.args.arena.now row (full_in c.fill-in-Ring.new.labels c.args.stamp) (hits_in c.hit-hits.new.tallies c.args.stamp) waiting n z)
-    (sym (as_judged c.in-Ring.p c.hit-hits.result c.look-children.result.children))
     (joined_ring c.args.arena.now (full_in c.args.labels.now c.args.stamp) (full_in c.fill-in-Ring.new.labels c.args.stamp) (hits_in c.args.tallies.now c.args.stamp) (hits_in c.hit-hits.new.tallies c.args.stamp)
     c.args.x.index c.in-Ring.p c.look-view.result c.look-children.result c.hit-hits.result
     (record {
@@ -79,7 +77,7 @@ returns-in-Ring-clause-added g c = λ row waiting n pass.
       hit = c.hit-hits.ensures.here;
       same = c.hit-hits.ensures.others;
     })
-    c.look-children.ensures.shows c.hit-hits.ensures.result row waiting n pass))
+    c.look-children.ensures.shows c.hit-hits.ensures.result row waiting n pass)
 
 pub returns-in-Ring-clause-counted : goal.returns-in-Ring-clause-counted
 returns-in-Ring-clause-counted g c = record {

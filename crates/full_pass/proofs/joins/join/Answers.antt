@@ -4,7 +4,7 @@ use Rattle.arena_model.specs.ChildLists.{none}
 use Rattle.arena_model.proofs.Lists.{occurs_here}
 use Rattle.arena_model.proofs.Slots.{in_range}
 use Rattle.full_pass.specs.Entries.{is_full, hits, far, mark_of, AreReady}
-use Rattle.full_pass.specs.Passing.{run_as, IsJoined}
+use Rattle.full_pass.specs.Passing.{run_as, IsAdded}
 use Rattle.full_pass.proofs.Shapes.{slots_few}
 use Rattle.full_pass.proofs.Places.{side}
 use Rattle.full_pass.proofs.Joining.{joined_run, joined_linked, joined_ring, joined_ring_linked, joined_top, end_few, tied_by, ring_used, hits_few}
@@ -113,7 +113,7 @@ returns-in-Run-clause-linked g c =
 
 pub returns-in-Ring-clause-joined : goal.returns-in-Ring-clause-joined
 returns-in-Ring-clause-joined g c = λ row waiting n pass.
-    subst (λ z. IsJoined c.args.arena.now row (is_full c.hit-hits.new.self) (hits c.hit-hits.new.self) waiting n z) (sym c.judged.ensures)
+    subst (λ z. IsAdded c.args.arena.now row (is_full c.hit-hits.new.self) (hits c.hit-hits.new.self) waiting n z) (sym c.judged.ensures)
     (joined_ring c.args.arena.now (is_full c.args.entries.now) (is_full c.hit-hits.new.self) (hits c.args.entries.now) (hits c.hit-hits.new.self)
     c.args.x.index c.in-Ring.p c.look-view.result c.look-children.result c.hit-hits.result
     (record {
