@@ -9,7 +9,7 @@
 ghost use Rattle.core_size.specs.Laws.{NarrowsLaw, CoreSizeLaw};
 
 use template_theory::{reduce_law, template_law};
-use tied_law::{equivalent_law, tied_law as frontiers_law, universal_law};
+use tied_law::{equivalent_law, universal_law};
 
 /// A row that is taken lets the slack of the tree fall, or turns nodes of it and no more.
 pub fn narrows_law()
@@ -25,6 +25,6 @@ pub fn core_size_law()
     narrows_law();
     reduce_law();
     universal_law();
-    frontiers_law();
+    tied_law::tied_law();
     equivalent_law();
 }
