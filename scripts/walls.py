@@ -32,7 +32,7 @@ import build
 
 HOME = os.path.dirname(os.path.dirname(os.path.abspath(__file__)))
 # The crates whose definitions everything shares; docs/DECISIONS.md says why they offer their lemmas too.
-SHARED_PROOFS = {"column_order", "plain_text", "text_parts", "row_model", "pair_classes", "text_lines", "pq_tree", "tied_law", "template_theory", "arena_model", "template_model"}
+SHARED_PROOFS = {"column_order", "plain_text", "text_parts", "row_model", "pair_classes", "text_lines", "pq_tree", "tied_law", "template_theory", "row_core", "arena_model", "template_model"}
 COUNTERS = {"step_count", "commands", "solve_replies", "bubble_bench", "order_example"}
 STEPPED = ["bubble_pass", "full_pass", "templates_p", "templates_q", "row_reduce"]
 WITHOUT_MEMORY = ["pq_arena"] + STEPPED

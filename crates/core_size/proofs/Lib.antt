@@ -1,0 +1,5 @@
+pub mod Turns
+pub mod Cuts
+pub mod Roots
+pub mod Narrowed
+pub mod Sizes
