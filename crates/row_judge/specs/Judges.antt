@@ -1,5 +1,5 @@
 -- What a judge's answer says of a matrix.
-use Rattle.std.specs.Prelude.{◌≡◌, ◌↔◌, ℕ, List}
+use Rattle.std.specs.Prelude.{◌≡◌, ◌↔◌, ⊤, ℕ, List}
 use Rattle.column_order.specs.Orders.{IsValidOrder, HasValidOrder}
 use Rattle.row_model.specs.Rows.{RowList}
 use Rattle.row_model.specs.Cycles.{IsOddCycle}
@@ -7,6 +7,7 @@ use Rattle.pq_tree.specs.Outline.{IsFrontier}
 use Rattle.pq_tree.specs.Canonical.{IsCanonical}
 use Rattle.pq_tree.specs.PqTree.{column_count, outline}
 use Rattle.pq_tree.specs.declared.PqTree.{PqTree}
+use Rattle.odd_cycle.specs.Short.{IsShort}
 use Rattle.row_judge.specs.declared.Judged.{Judged}
 use Rattle.row_judge.specs.declared.Judged.TheVariants.{Yes, No}
 
@@ -20,3 +21,8 @@ pub record IsTreeOfOrders (m : RowList) (t : PqTree) : Type 0 where
 abbrev pub IsJudged : RowList → Judged → Type 0
 IsJudged m (Yes t) = IsTreeOfOrders m t × HasValidOrder m.columns m.rows
 IsJudged m (No cycle) = IsOddCycle m.columns m.rows cycle × (HasValidOrder m.columns m.rows → ⊥)
+
+-- the odd cycle of a no has at most one flip, and at most half as many lines as there are ordered pairs, and one
+abbrev pub HasShortCycle : ℕ → Judged → Type 0
+HasShortCycle c (Yes t) = ⊤
+HasShortCycle c (No cycle) = IsShort c cycle

@@ -28,6 +28,7 @@ returns-in-Refused-clause-reduction g c =
         before = rw before c.loop-taken.invariant.order;
         refused = refused;
       },
+      c.in_ok-conflict-in-Refused.ensures.short,
     )
 
 pub returns-clause-total : goal.returns-clause-total
