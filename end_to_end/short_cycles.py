@@ -1,5 +1,5 @@
-"""Cycles of drawn matrices without a valid order, as `solve` and `extend` print them: none has two flips, or more lines than half the
-ordered pairs and one."""
+"""Cycles of drawn matrices without a valid order, as `solve`, `extend` and `core` print them: none has two flips, or more lines than half
+the ordered pairs and one."""
 
 import itertools
 import random
@@ -10,8 +10,8 @@ from program import run, run_over
 from sessions import cycle_lines
 
 GROUPS = 20
-# The cycles of a group that each of the two commands prints.
-CYCLES = 50
+# The cycles of a group that each of the three commands prints.
+CYCLES = 40
 
 
 def drawn_rows(rng, columns, count):
@@ -53,11 +53,23 @@ def refused_cycles(rng):
                 rows = rows + [row]
 
 
+def blamed_cycles(rng):
+    """The columns, rows and printed cycles of drawn matrices that have a core."""
+    while True:
+        columns = rng.randint(4, 12)
+        rows = drawn_rows(rng, columns, rng.randint(4, 16))
+        done = run(["core", "matrix", "-"], dense(columns, rows))
+        if done.returncode == 0:
+            lines = done.stdout.decode().split("\n")
+            start = next(number for number, line in enumerate(lines) if line.startswith("cycle "))
+            yield columns, rows, lines[start + 1:-2]
+
+
 def group_problem(seed):
     """What is wrong with some cycle of a group, or None."""
     rng = random.Random(seed)
-    cycles = itertools.chain(itertools.islice(solved_cycles(rng), CYCLES), itertools.islice(refused_cycles(rng), CYCLES))
-    for columns, rows, lines in cycles:
+    drawn = [itertools.islice(cycles(rng), CYCLES) for cycles in (solved_cycles, refused_cycles, blamed_cycles)]
+    for columns, rows, lines in itertools.chain(*drawn):
         problem = printed_problem(columns, rows, lines)
         if problem:
             return f"{columns} columns, rows {rows}: {problem}"
