@@ -17,7 +17,7 @@ import os
 import sys
 
 import definitions
-from cycles import cycle_problem
+from cycles import printed_problem
 from program import HEADER, run, run_over
 from trees import lines_problem
 
@@ -84,7 +84,7 @@ def answer_problem(instance, status, text):
     if not without or body[0] != f"side {without[0]}" or body[1] != f"cycle {len(body) - 2}":
         return f"{body[:2]}, sides without an order {without}"
     side = instance.sides[without[0] - 1]
-    return cycle_problem(side.columns, side.rows, body[2:])
+    return printed_problem(side.columns, side.rows, body[2:])
 
 
 def problem(instance):

@@ -235,6 +235,7 @@ FORGED = [
     claims("a column past the last", cycle("1 3 row 1", "3 4 row 3", "4 1 row 2"), "invalid pair 2"),
     claims("a column 0", cycle("0 3 row 1", "3 2 row 3", "2 1 row 2"), "invalid pair 1"),
     claims("a pair of one column", cycle("1 3 row 1", "3 2 row 3", "2 2 row 2"), "invalid pair 3"),
+    claims("two flips, more than `solve` writes", cycle("1 2 row 3", "2 3 flip", "3 2 row 1", "1 3 flip", "3 1 row 2"), "valid"),
     claims("a pair that comes twice", cycle("1 3 flip", "3 1 flip", "1 3 row 1", "3 2 row 3", "2 1 row 2"), "invalid repeat 3"),
     claims("a row past the last", cycle("1 3 row 1", "3 2 row 3", "2 1 row 9"), "invalid join 3"),
     claims("a row 0", cycle("1 3 row 0", "3 2 row 3", "2 1 row 2"), "invalid join 1"),

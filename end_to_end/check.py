@@ -10,7 +10,8 @@ what is said of changed ones with a plain checker; bounds what hostile files cos
 Usage: end_to_end/check.py [PART ..]   after `rt ci` or `./pq`, which leave the program in crates/pq/out/pq
 
 PARTs pick some of the checks: `cases` (files and streams), `pages`, `answers` (of small instances, at the limits, of `gen`, of sessions, of lists, of
-unit models and of cores), `forgeries`, `trees`, `meetings`, `hostile`, `first_call`, `try`, `companion`, `library`, `page`; default all.
+unit models, of cores and of drawn cycles), `forgeries`, `trees`, `meetings`, `hostile`, `first_call`, `try`, `companion`, `library`,
+`page`; default all.
 The last line is `N passed, N failed`; the status is 0 where
 nothing failed.
 """
@@ -32,6 +33,7 @@ import library
 import meetings
 import other_trees
 import page
+import short_cycles
 import tries
 import units
 from cases import CASES, REFUTED
@@ -161,6 +163,7 @@ def without_folders():
         yield f"list {content}", refused_problem, (content,)
     yield from units.checks()
     yield from core_problems()
+    yield from short_cycles.checks()
 
 
 # The checks that tell each name with its problem, by the words that pick them.

@@ -35,3 +35,13 @@ def cycle_problem(columns, rows, lines):
         if not joined(rows, pairs[place], pairs[(place + 1) % len(pairs)], why):
             return f"join {place + 1}"
     return None
+
+
+def printed_problem(columns, rows, lines):
+    """What is wrong with an odd cycle that the program prints, which has at most one flip and c(c - 1)/2 + 1 lines, or None."""
+    flips = sum(line.endswith(" flip") for line in lines)
+    if flips > 1:
+        return f"{flips} flips"
+    if 2 * len(lines) > columns * (columns - 1) + 2:
+        return f"{len(lines)} lines"
+    return cycle_problem(columns, rows, lines)

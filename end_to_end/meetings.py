@@ -10,7 +10,7 @@ import re
 import tempfile
 
 from cases import LIMIT, case, count, outside
-from cycles import cycle_problem
+from cycles import printed_problem
 from forgeries import Folder
 from kinds import MARK
 from other_trees import every_tree, in_pieces
@@ -136,7 +136,7 @@ def meeting_problem(columns, first, second, given):
     body = lines[4:-2]
     if shares:
         return lines_problem(*body, lambda found: found == shares) if len(body) == 2 else f"{body}"
-    return "the length" if body[0] != f"cycle {len(body) - 1}" else cycle_problem(columns, rows[0] + rows[1], body[1:])
+    return "the length" if body[0] != f"cycle {len(body) - 1}" else printed_problem(columns, rows[0] + rows[1], body[1:])
 
 
 def read_tree(columns, content):

@@ -8,7 +8,7 @@ import random
 
 from all_kinds import dense
 from cases import CHAIN, LIMIT, TRIANGLE, case, outside
-from cycles import cycle_problem
+from cycles import printed_problem
 from definitions import valid_orders
 from kinds import MARK, lines
 from program import run, run_over
@@ -163,7 +163,7 @@ def row_problem(columns, rows, row, number, refusals, text):
     found = cycle_lines(text)
     if (found is not None) != (word == "no" and refusals < EXPLAINED):
         return f"row {number}: cycle {found}"
-    return cycle_problem(columns, rows + [row], found) if found is not None else None
+    return printed_problem(columns, rows + [row], found) if found is not None else None
 
 
 def session_problem(columns, base, further, status, out):

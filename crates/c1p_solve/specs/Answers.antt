@@ -10,6 +10,7 @@ use Rattle.pq_tree.specs.PqTree.{column_count, outline}
 use Rattle.pq_tree.specs.declared.PqTree.{PqTree}
 use Rattle.tied_law.specs.Tied.{IsTied}
 use Rattle.row_judge.specs.Judges.{IsFirstConflict}
+use Rattle.odd_cycle.specs.Short.{IsShort}
 use Rattle.c1p_solve.specs.declared.solver.Solved.{Solved}
 use Rattle.c1p_solve.specs.declared.solver.Solved.TheVariants.{Yes, No}
 
@@ -20,10 +21,10 @@ pub record HasAllOrders (m : RowList) (t : PqTree) : Type 0 where
   pub tied : IsTied m.columns m.rows (outline t)
   pub orders : (o : List ℕ) → IsFrontier (outline t) o ↔ IsValidOrder m.columns m.rows o
 
--- yes with the tree of all valid orders, or no with an odd cycle, where there is no valid order
+-- yes with the tree of all valid orders, or no with a short odd cycle, where there is no valid order
 abbrev pub IsAnswer : RowList → Solved → Type 0
 IsAnswer m (Yes t) = HasAllOrders m t × HasValidOrder m.columns m.rows
-IsAnswer m (No cycle) = IsOddCycle m.columns m.rows cycle × (HasValidOrder m.columns m.rows → ⊥)
+IsAnswer m (No cycle) = IsOddCycle m.columns m.rows cycle × (HasValidOrder m.columns m.rows → ⊥) × IsShort m.columns cycle
 
 -- the tree is tied to the rows before the first row k for which the rows 1 to k have no valid order
 pub record StandsBefore (m : RowList) (t : Outline) : Type 0 where
@@ -34,10 +35,10 @@ pub record StandsBefore (m : RowList) (t : Outline) : Type 0 where
   pub before : HasValidOrder m.columns (take (k - 1) m.rows)
   pub refused : HasValidOrder m.columns (take k m.rows) → ⊥
 
--- the tree is tied to all rows, which have a valid order, or an odd cycle shows that they have none
+-- the tree is tied to all rows, which have a valid order, or a short odd cycle shows that they have none
 abbrev pub IsReduction : RowList → Outline → Option (List Line) → Type 0
 IsReduction m t None = IsTied m.columns m.rows t × HasValidOrder m.columns m.rows
-IsReduction m t (Some cycle) = IsOddCycle m.columns m.rows cycle × (HasValidOrder m.columns m.rows → ⊥) × StandsBefore m t
+IsReduction m t (Some cycle) = IsOddCycle m.columns m.rows cycle × (HasValidOrder m.columns m.rows → ⊥) × StandsBefore m t × IsShort m.columns cycle
 
 -- where an answer leaves the reducer's tree
 abbrev pub LeavesTree : RowList → Outline → Solved → Type 0

@@ -3,6 +3,7 @@ ghost use Rattle.std.specs.Prelude.{◌≡◌, ◌+◌, ◌-◌, ◌*◌, ◌≤
 ghost use Rattle.row_model.specs.Graph.{HasConflict};
 ghost use Rattle.row_model.specs.Cycles.{IsOddCycle};
 ghost use Rattle.pq_tree.specs.Amortised.{weight};
+ghost use Rattle.odd_cycle.specs.Short.{IsShort};
 ghost use Rattle.tied_law.specs.Tied.{IsTied};
 ghost use Rattle.c1p_solve.specs.Answers.{IsAnswer, IsReduction, LeavesTree, IsInTurn, IsReducedInTurn};
 ghost use Rattle.c1p_solve.specs.Totals.{IsTotal, IsReductionTotal};
@@ -20,8 +21,8 @@ pub enum Solved {
     /// There is a valid order. The tree is canonical and tied to all rows, so its frontiers are
     /// exactly the valid orders.
     Yes(PqTree),
-    /// There is none, as this odd cycle of the incompatibility graph shows. None of its rows comes after the first one
-    /// up to which the rows have no valid order.
+    /// There is none, as this odd cycle of the incompatibility graph shows. It has at most one flip, and with c columns at
+    /// most c(c - 1)/2 + 1 lines. None of its rows comes after the first one up to which the rows have no valid order.
     No(Cycle),
 }
 
@@ -97,6 +98,7 @@ pub(crate) fn conflict<R: Reducer, L: Ledger>(
     requires conflict { HasConflict m.now.columns (take k m.now.rows) }
     ensures cycle { IfOk result (IsOddCycle m.now.columns m.now.rows) }
     ensures first_rows { IfOk result (IsOddCycle m.now.columns (take k m.now.rows)) }
+    ensures short { IfOk result (IsShort m.now.columns) }
     ensures ticks { steps.new ≤ steps.old + 8 * m.now.columns * (sum_by length (take k m.now.rows) + 1) }
 {
     let tree = reducer.tree(alloc)?;

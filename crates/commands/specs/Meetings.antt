@@ -10,6 +10,7 @@ use Rattle.verdict_text.specs.Text.{side_text}
 use Rattle.text_parts.specs.Text.{counted_cycle}
 use Rattle.verdict_text.specs.Verdict.{SideValue}
 use Rattle.tree_meet.specs.TreeRows.{rows_of_tree}
+use Rattle.odd_cycle.specs.Short.{IsShort}
 use Rattle.tree_meet.specs.Meets.{IsCommon, joint_rows}
 
 -- the first three lines: the number of columns, and the numbers of rows of both trees
@@ -36,12 +37,13 @@ pub record TellsCommon (c : ℕ) (t u : Outline) (text : List ℕ) : Type 0 wher
   pub shows : ShowsCommon c t u side
   pub text_is : text ≡ meet_head c t u ++ (codes "answer yes\n" ++ (side_text side ++ codes "end\n"))
 
--- No: no frontier is common, and the text tells an odd cycle of the rows of the first tree followed by those of the
--- second.
+-- No: no frontier is common, and the text tells a short odd cycle of the rows of the first tree followed by those of
+-- the second.
 pub record TellsApart (c : ℕ) (t u : Outline) (text : List ℕ) : Type 0 where
   pub none : (o : List ℕ) → IsCommon t u o → ⊥
   pub lines : List Line
   pub cycle : IsOddCycle c (joint_rows c t u) lines
+  pub short : IsShort c lines
   pub text_is : text ≡ meet_head c t u ++ (codes "answer no\n" ++ (counted_cycle lines ++ codes "end\n"))
 
 -- the status and the text tell what two trees share

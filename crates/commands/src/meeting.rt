@@ -3,6 +3,7 @@ ghost use Rattle.std.specs.Prelude.{◌≡◌, ◌⊎◌, ◌<◌, ◌≤◌, �
 ghost use Rattle.row_model.specs.declared.TheConstants.{MAX_COLUMNS};
 ghost use Rattle.row_model.specs.Cycles.{IsOddCycle};
 ghost use Rattle.pq_tree.specs.PqTree.{column_count, outline};
+ghost use Rattle.odd_cycle.specs.Short.{IsShort};
 ghost use Rattle.tree_meet.specs.Meets.{IsCommon, IsMeet, joint_rows};
 ghost use Rattle.commands.specs.Meetings.{meet_head, TellsCommon, TellsApart, IsMeetingReply};
 
@@ -101,6 +102,7 @@ fn apart_text(
     requires few { column_count first.now ≤ MAX_COLUMNS }
     requires cycle { IsOddCycle (column_count first.now)
         (joint_rows (column_count first.now) (outline first.now) (outline second.now)) cycle.now }
+    requires short { IsShort (column_count first.now) cycle.now }
     requires none { (o : List ℕ) → IsCommon (outline first.now) (outline second.now) o → ⊥ }
     ensures { IfOk result (λ text.
         TellsApart (column_count first.now) (outline first.now) (outline second.now) text.items) }

@@ -1,4 +1,3 @@
 pub mod StepBounds
 pub mod CheckedLaws
 pub mod PartLaws
-pub mod RisingLaws

@@ -1,19 +1,18 @@
 // Odd cycles that are looked at line by line.
-ghost use Rattle.std.specs.Prelude.{◌≡◌, ◌≢◌, ℕ, ◌+◌, ◌*◌, ◌<◌, ◌≤◌, take, drop, length, AllPairs, IfOk, IfSome, IsTrue};
-ghost use Rattle.row_model.specs.declared.graph.Line.{Line};
+ghost use Rattle.std.specs.Prelude.{◌≡◌, ℕ, ◌+◌, ◌*◌, ◌<◌, ◌≤◌, take, drop, length, IfOk, IfSome, IsTrue};
 ghost use Rattle.row_model.specs.declared.graph.Pair.{Pair};
 ghost use Rattle.row_model.specs.declared.graph.Why.TheVariants.{Row};
 ghost use Rattle.row_model.specs.Graph.{JoinedBy};
 ghost use Rattle.row_model.specs.Cycles.{first_pair, IsOddWalk, IsOddCycle};
+ghost use Rattle.odd_cycle.specs.Short.{IsShort};
 
-use crate::sorted::{is_rising, sorted_pairs};
-use odd_cycle::Cycle;
+use odd_cycle::{Cycle, is_folded, short_cycle_law};
 use row_model::{Line, Matrix, NoMemory, Pair, Why, joined_by};
 use std::alloc::Global;
 use step_count::{Ledger, Steps};
 
-/// The cycle of these lines, if they are an odd cycle of the first rows. As many steps must be left as three for each
-/// line. It takes room for each line.
+/// The cycle of these lines, if they are an odd cycle of the first rows, and folded: no line but the last is a flip, and
+/// no two columns come twice before it. As many steps must be left as three for each line. It takes room for each line.
 pub fn checked_cycle<L: Ledger>(
     alloc: Global,
     m: &Matrix,
@@ -24,6 +23,7 @@ pub fn checked_cycle<L: Ledger>(
 ) -> Result<Option<Cycle>, NoMemory>
     requires { rows ≤ length m.now.rows }
     ensures cycle { IfOk result (λ found. IfSome found (IsOddCycle m.now.columns (take rows m.now.rows))) }
+    ensures short { IfOk result (λ found. IfSome found (IsShort m.now.columns)) }
     ensures ticks { steps.new + left.new ≤ steps.old + left.old }
 {
     let count = lines.len() as u64;
@@ -31,7 +31,8 @@ pub fn checked_cycle<L: Ledger>(
         return Ok(None);
     }
     *left -= 3 * count;
-    if !is_odd_walk(m, rows, &lines, steps) || !are_distinct(alloc, &lines)? {
+    short_cycle_law();
+    if !is_odd_walk(m, rows, &lines, steps) || !is_folded(alloc, &lines)? {
         return Ok(None);
     }
     Ok(Some(Cycle::from_lines(lines)))
@@ -87,12 +88,4 @@ fn pair_behind(lines: &[Line], i: usize) -> Pair
     } else {
         lines[0].pair
     }
-}
-
-// Whether no pair comes twice.
-fn are_distinct(alloc: Global, lines: &[Line]) -> Result<bool, NoMemory>
-    ensures { IfOk result (λ yes. IsTrue yes → AllPairs (λ earlier later. earlier.pair ≢ later.pair) lines.now) }
-{
-    let pairs = sorted_pairs(alloc, lines)?;
-    Ok(is_rising(&pairs))
 }

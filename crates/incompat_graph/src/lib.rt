@@ -28,10 +28,9 @@ mod quick;
 mod repeats;
 mod sample;
 mod shorter;
-mod sorted;
 mod ways;
 
-pub use odd_cycle::{Cycle, Walk, cycle_length_law};
+pub use odd_cycle::{Cycle, Walk, cycle_length_law, short_cycle_law};
 pub use pair_classes::{Classes, Marks, even_classes};
 pub use quick::odd_cycle_along;
 pub use row_model::NoMemory;

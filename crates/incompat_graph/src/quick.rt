@@ -3,6 +3,7 @@ ghost use Rattle.std.specs.Prelude.{◌≡◌, ◌+◌, ◌*◌, ◌-◌, ◌≤
 ghost use Rattle.column_order.specs.Orders.{IsValidOrder};
 ghost use Rattle.row_model.specs.Graph.{HasConflict};
 ghost use Rattle.row_model.specs.Cycles.{IsOddCycle};
+ghost use Rattle.odd_cycle.specs.Short.{IsShort};
 
 use crate::around::walk_around;
 use crate::borders::met_at_borders;
@@ -24,7 +25,8 @@ use walk_search::{simple_cycle, walk_across};
 const MOST_STEPS: u64 = 16_777_216;
 
 /// A short odd cycle of a matrix of which the rows 1 to `k` have no valid order, where an order is known that is valid
-/// for the rows before row `k`. Its reasons are flips and rows from 1 to `k`.
+/// for the rows before row `k`. Its reasons are flips and rows from 1 to `k`. It has at most one flip, and with c columns
+/// at most c(c - 1)/2 + 1 lines.
 ///
 /// It is looked for among the columns that stand near a place of the order where row `k` begins or ends, and then along
 /// ways from a few columns of row `k` and a few that the row lacks, which keeps no table of each
@@ -51,6 +53,7 @@ pub fn odd_cycle_along<L: Ledger>(
     requires refused { HasConflict m.now.columns (take k m.now.rows) }
     ensures cycle { IfOk result (IsOddCycle m.now.columns m.now.rows) }
     ensures first_rows { IfOk result (IsOddCycle m.now.columns (take k m.now.rows)) }
+    ensures short { IfOk result (IsShort m.now.columns) }
     ensures ticks { steps.new ≤ steps.old + 8 * m.now.columns * (sum_by length (take k m.now.rows) + 1) }
 {
     let most = most_steps(m, k);
@@ -73,6 +76,7 @@ fn any_cycle<L: Ledger>(
     requires refused { HasConflict m.now.columns (take k m.now.rows) }
     requires most { most ≤ m.now.columns * (sum_by length (take k m.now.rows) + 1) }
     ensures cycle { IfOk result (IsOddCycle m.now.columns (take k m.now.rows)) }
+    ensures short { IfOk result (IsShort m.now.columns) }
     ensures ticks { steps.new ≤ steps.old + 4 * m.now.columns * (sum_by length (take k m.now.rows) + 1) }
 {
     let gaps = OpenGaps::new(alloc, m, k - 1, order, steps)?;
@@ -120,6 +124,7 @@ pub(crate) fn quick_cycle<L: Ledger>(
     requires order { IsValidOrder m.now.columns (take (k - 1) m.now.rows) order.now }
     requires columns { length gaps.now.order ≡ m.now.columns }
     ensures found { IfOk result (λ found. IfSome found (IsOddCycle m.now.columns (take k m.now.rows))) }
+    ensures short { IfOk result (λ found. IfSome found (IsShort m.now.columns)) }
     ensures ticks { steps.new ≤ steps.old + most }
 {
     let Some(mut left) = most.checked_sub(u64::from(m.columns())) else {
@@ -151,6 +156,7 @@ fn near_cycle<L: Ledger>(
     requires row { k ≤ length front.now.m.now.rows }
     requires columns { length front.now.gaps.now.order ≡ front.now.m.now.columns }
     ensures found { IfOk result (λ found. IfSome found (IsOddCycle front.now.m.now.columns (take k front.now.m.now.rows))) }
+    ensures short { IfOk result (λ found. IfSome found (IsShort front.now.m.now.columns)) }
     ensures ticks { steps.new + left.new ≤ steps.old + left.old }
 {
     let met = met_at_borders(alloc, front, k, order, &sample.borders)?;
@@ -170,6 +176,7 @@ fn far_cycle<L: Ledger>(
     requires row { k ≤ length front.now.m.now.rows }
     requires columns { length front.now.gaps.now.order ≡ front.now.m.now.columns }
     ensures found { IfOk result (λ found. IfSome found (IsOddCycle front.now.m.now.columns (take k front.now.m.now.rows))) }
+    ensures short { IfOk result (λ found. IfSome found (IsShort front.now.m.now.columns)) }
     ensures ticks { steps.new + left.new ≤ steps.old + left.old }
 {
     let links = odd_links(alloc, front, sample, left, steps)?;

@@ -1,40 +1,69 @@
-// Closed walks in which no pair comes twice.
+// Closed walks that are folded.
 ghost use Rattle.std.specs.Prelude.{◌≤◌, length};
 
-use crate::sorted::sorted_pairs;
-use row_model::{Line, NoMemory, Pair};
+use odd_cycle::{lesser_first, sorted_columns, turned_if};
+use row_model::{Line, NoMemory, Pair, Why};
 use std::alloc::Global;
 
-/// Of a closed walk of odd length a part that is one too and in which no pair comes twice.
-///
-/// A pair that comes twice cuts the walk into two closed walks, one of which is odd. So the lines are followed until a
-/// pair comes again: the lines since then are the part where they are odd in number, and else they are left out.
+/// Of a closed walk of odd length a short one, as [`short_cycle`](odd_cycle::short_cycle) folds it: a flip is left out
+/// by turning what is behind it, and the walk is cut where two columns come again. No table of each pair of columns is
+/// kept.
 pub fn without_repeats(alloc: Global, lines: &[Line]) -> Result<Vec<Line>, NoMemory> {
-    let pairs = sorted_pairs(alloc, lines)?;
-    let mut places = vec![in alloc; 0; pairs.len()]?;
+    let columns = sorted_columns(alloc, lines)?;
+    let mut places = vec![in alloc; 0; columns.len()]?;
     let mut path: Vec<Line> = Vec::new(alloc);
+    let mut turned = false;
     for line in lines {
-        if let Ok(number) = pairs.binary_search(&line.pair)
+        let v = turned_if(line.pair, turned);
+        if line.why == Why::Flip {
+            turned = !turned;
+        } else if let Ok(number) = columns.binary_search(&lesser_first(v))
             && number < places.len()
         {
-            let keep = place_on(&path, places[number], line.pair);
-            if (path.len() - keep) % 2 == 1 {
-                return Ok(path.split_off(keep)?);
+            let keep = place_on(&path, places[number], v);
+            let back = stands_turned(&path, keep, v);
+            if ((path.len() - keep) % 2 == 1) != back {
+                let part = path.split_off(keep)?;
+                return closed(part, v, back);
             }
+            turned = turned != back;
             path.truncate(keep);
             places[number] = path.len();
-            path.push(*line)?;
+            path.push(Line {
+                pair: turned_if(v, back),
+                ..*line
+            })?;
         }
     }
-    Ok(path)
+    let end = match lines.first() {
+        Some(line) => turned_if(line.pair, turned),
+        None => return Ok(path),
+    };
+    closed(path, end, turned)
 }
 
-// The place, where the path has the pair there, and else the length of the path.
+// The place, where the path has the two columns there, and else the length of the path.
 fn place_on(path: &[Line], place: usize, v: Pair) -> usize
     ensures { result ≤ length path.now }
 {
     match path.get(place) {
-        Some(line) if line.pair == v => place,
+        Some(line) if lesser_first(line.pair) == lesser_first(v) => place,
         _ => path.len(),
     }
+}
+
+// Whether the path has the pair turned at this place.
+fn stands_turned(path: &[Line], place: usize, v: Pair) -> bool {
+    path.get(place).is_some_and(|line| line.pair != v)
+}
+
+// The path, with a flip from its end where that is its first pair turned.
+fn closed(mut path: Vec<Line>, end: Pair, turned: bool) -> Result<Vec<Line>, NoMemory> {
+    if turned {
+        path.push(Line {
+            pair: end,
+            why: Why::Flip,
+        })?;
+    }
+    Ok(path)
 }

@@ -1,6 +1,7 @@
 // A shorter odd cycle among the rows and columns that a cycle meets.
 ghost use Rattle.std.specs.Prelude.{◌+◌, ◌≤◌, length, take, IfOk, IfSome};
 ghost use Rattle.row_model.specs.Cycles.{IsOddCycle};
+ghost use Rattle.odd_cycle.specs.Short.{IsShort};
 
 use crate::checked::checked_cycle;
 use crate::met::Met;
@@ -13,7 +14,8 @@ use step_count::{Ledger, Steps};
 /// The most lines of a cycle that is searched again.
 const FEW_LINES: usize = 128;
 
-/// An odd cycle of the first rows that is no longer than this one.
+/// An odd cycle of the first rows that is no longer than this one. Where this one has at most one flip and, with c
+/// columns, at most c(c - 1)/2 + 1 lines, so has that one.
 ///
 /// The rows and columns that a short cycle meets are searched once more by themselves, which mostly finds a cycle of a
 /// few lines. A cycle of more than 128 lines stays as it is, and so does one that `most` steps are too few for.
@@ -33,6 +35,7 @@ pub fn shorter_cycle<L: Ledger>(
     requires cycle { IsOddCycle m.now.columns (take rows m.now.rows) cycle }
     ensures cycle { IfOk result (IsOddCycle m.now.columns (take rows m.now.rows)) }
     ensures length { IfOk result (λ found. length found ≤ length cycle) }
+    ensures short { IsShort m.now.columns cycle → IfOk result (IsShort m.now.columns) }
     ensures ticks { steps.new ≤ steps.old + most }
 {
     if cycle.lines().len() > FEW_LINES {
@@ -55,6 +58,7 @@ fn cycle_among<L: Ledger>(
 ) -> Result<Option<Cycle>, NoMemory>
     requires rows { rows ≤ length m.now.rows }
     ensures cycle { IfOk result (λ found. IfSome found (IsOddCycle m.now.columns (take rows m.now.rows))) }
+    ensures short { IfOk result (λ found. IfSome found (IsShort m.now.columns)) }
     ensures ticks { steps.new ≤ steps.old + most }
 {
     let mut met = Met::new(alloc);

@@ -94,6 +94,25 @@ fn flip(a: u32, b: u32) -> Line {
     }
 }
 
+// From (1,2) by row 3 to (2,3), over to (3,2), by row 1 to (1,3), over to (3,1), and by row 2 back to (1,2). No pair comes
+// twice, but two lines are flips. With the pair between these turned, the rows lead from (1,2) to (2,3) to (3,1).
+#[test]
+fn two_flips_are_left_out(rt: HostRuntime) -> Result<(), Fail> {
+    let m = triangle(rt.alloc())?;
+    let walk = vec![in rt.alloc();
+        line(1, 2, 3),
+        flip(2, 3),
+        line(3, 2, 1),
+        flip(1, 3),
+        line(3, 1, 2),
+    ]?;
+    let lines = without_repeats(rt.alloc(), &walk)?;
+    assert_eq!(rt; lines.as_slice(), [line(1, 2, 3), line(2, 3, 1), line(3, 1, 2)].as_slice());
+    assert!(rt; is_cycle(rt.alloc(), &m, lines)?);
+    assert!(rt; !is_cycle(rt.alloc(), &m, walk)?);
+    Ok(())
+}
+
 // From (1,2) over to (2,1) and back, and then round the triangle.
 #[test]
 fn a_pair_that_comes_twice_is_left_out(rt: HostRuntime) -> Result<(), Fail> {

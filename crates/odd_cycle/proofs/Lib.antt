@@ -1,1 +1,6 @@
-pub mod CycleLength
+mod CycleLength
+mod FoldLaws
+mod FoldSteps
+mod PairLaws
+mod RisingLaws
+mod ShortLaws

@@ -28,13 +28,13 @@ use Rattle.reply_laws.specs.Promise.{IsNoAnd, TellsNo, IsCycleOf, SaysYes, SaysN
 solved : (i : InstanceValue) (claim : Claim) (status : ℕ) (text : List ℕ) → status ≡ status_of claim → IsClaimOf i claim → (status ≡ 0 → SaysYes i text) → (status ≡ 1 → HasTextbookOrder i → ⊥)
     → (IsNoAnd claim (IsCycleOf i) → TellsNo text (IsCycleOf i)) → IsSolved i status text
 solved i (yes_claim value) status text is true at_zero at_one tells = inl (is, at_zero is)
-solved i (no_claim s lines) status text is true at_zero at_one tells = inr (is, record { none = at_one is; cycle = tells (true.0.side, true.1) })
+solved i (no_claim s lines) status text is true at_zero at_one tells = inr (is, record { none = at_one is; cycle = tells (true.0.side, true.1, true.2) })
 
 -- a no of a graph tells a cycle
 unit_no : (g : GraphValue) (verdict : VerdictValue) (claim : Claim) (text : List ℕ) → IsVerdict verdict → IsClaimOf (proper g) claim → TellsByClaim g verdict claim 1 text
     → (IsNoAnd claim (IsCycleOf (proper g)) → IsNoAnd verdict.claim (IsCycleOf (proper g))) → TellsNo text (IsCycleOf (proper g))
 unit_no g verdict (yes_claim value) text grammar true tells same = absurd (omega (arith, tells.0))
-unit_no g verdict (no_claim s lines) text grammar true tells same = (verdict, grammar, tells.1, same (true.0.side, true.1))
+unit_no g verdict (no_claim s lines) text grammar true tells same = (verdict, grammar, tells.1, same (true.0.side, true.1, true.2))
 
 module _ (status_law : UnitStatusLaw) (printed_law : PrintedUnitLaw) (check_law : UnitCheckLaw) (agreed_law : UnitAgreedLaw) where
   unit_promised : (file bytes : List ℕ) (status : ℕ) (text : List ℕ) → Replies (UnitModel file) (bytes ∷ []) status text → IsPromised (UnitModel file) (bytes ∷ []) status text

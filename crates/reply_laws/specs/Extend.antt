@@ -7,6 +7,7 @@ use Rattle.row_model.specs.declared.kind.Kind.{Kind}
 use Rattle.row_model.specs.declared.refusal.Read.TheVariants as read
 use Rattle.matrix_read.specs.Sparse.{further}
 use Rattle.pq_tree.specs.Outline.{IsFrontier}
+use Rattle.odd_cycle.specs.Short.{IsShort}
 use Rattle.verdict_text.specs.Verdict.{SideValue}
 use Rattle.instance_model.specs.Instance.{plain}
 use Rattle.command_input.specs.Words.{Solve, Extend}
@@ -29,7 +30,7 @@ pub record KeepsAccepted (m : RowList) (rows : List (List ℕ)) (outcomes : List
 
 -- What the text of a session shows. Each further row has an outcome. The frontiers of the tree at its end are exactly
 -- the valid orders of the matrix that keep each accepted row, and the order is one of them. No valid order that keeps
--- the accepted rows before a refused row keeps that one.
+-- the accepted rows before a refused row keeps that one. Each cycle that is printed is short.
 pub record ShowsSession (kind : Kind) (m : RowList) (rows : List (List ℕ)) (text : List ℕ) : Type 0 where
   pub outcomes : List Outcome
   pub side : SideValue
@@ -38,6 +39,7 @@ pub record ShowsSession (kind : Kind) (m : RowList) (rows : List (List ℕ)) (te
   pub orders : (o : List ℕ) → IsFrontier side.tree o ↔ KeepsAccepted m rows outcomes (length rows) o
   pub order : KeepsAccepted m rows outcomes (length rows) side.order
   pub refusals : (i : ℕ) (row o : List ℕ) → IsRefusedAt rows outcomes i row → KeepsAccepted m rows outcomes i o → Keeps o row → ⊥
+  pub cycles : (i : ℕ) (lines : List Line) → slice_get outcomes i ≡ Some (refused (Some lines)) → IsShort m.columns lines
 
 -- a reply to `extend` has status 0 exactly where the matrix in the first file has a valid order, and else status 1
 abbrev pub ExtendStatusLaw : Type 0

@@ -6,6 +6,7 @@ use Rattle.row_model.specs.Cycles.{IsOddCycle}
 use Rattle.row_model.specs.declared.graph.Line.{Line}
 use Rattle.row_model.specs.declared.kind.Kind.{Kind}
 use Rattle.row_model.specs.declared.refusal.Read.TheVariants as read
+use Rattle.odd_cycle.specs.Short.{IsShort}
 use Rattle.verdict_text.specs.Verdict.{Claim, yes_claim, no_claim, VerdictValue}
 use Rattle.verdict_text.specs.Grammar.{IsVerdict}
 use Rattle.verdict_text.specs.Text.{verdict_text}
@@ -39,9 +40,9 @@ IsNoAnd (no_claim side lines) P = P side lines
 abbrev pub TellsNo : List ℕ → (ℕ → List Line → Type 0) → Type 0
 TellsNo text P = (v : VerdictValue) × IsVerdict v × (text ≡ verdict_text v) × IsNoAnd v.claim P
 
--- a side of the instance, and a simple odd cycle of the incompatibility graph of its derived rows
+-- a side of the instance, and a simple odd cycle of the incompatibility graph of its derived rows, which is short
 abbrev pub IsCycleOf : InstanceValue → ℕ → List Line → Type 0
-IsCycleOf i s lines = IsSideOf i s × IsOddCycle (derived_matrix i s).columns (derived_matrix i s).rows lines
+IsCycleOf i s lines = IsSideOf i s × IsOddCycle (derived_matrix i s).columns (derived_matrix i s).rows lines × IsShort (derived_matrix i s).columns lines
 
 -- Yes: there is a textbook order, and the text tells a tree for each side, whose frontiers are exactly the textbook
 -- orders of the side, of a circular instance up to rotation.
@@ -49,7 +50,7 @@ pub record SaysYes (i : InstanceValue) (text : List ℕ) : Type 0 where
   pub exists : HasTextbookOrder i
   pub orders : TellsYes text (λ value. (s : ℕ) → IsSideOf i s → HasSide value s (ShowsTextbookOrders i s))
 
--- no: there is no textbook order, and the text tells a simple odd cycle
+-- no: there is no textbook order, and the text tells a simple odd cycle, which is short
 pub record SaysNo (i : InstanceValue) (text : List ℕ) : Type 0 where
   pub none : HasTextbookOrder i → ⊥
   pub cycle : TellsNo text (IsCycleOf i)

@@ -1,5 +1,5 @@
 -- What a judge's answer says of a matrix.
-use Rattle.std.specs.Prelude.{◌≡◌, ◌↔◌, ℕ, ◌+◌, List, take}
+use Rattle.std.specs.Prelude.{◌≡◌, ◌↔◌, ⊤, ℕ, ◌+◌, List, take}
 use Rattle.column_order.specs.Orders.{IsValidOrder, HasValidOrder}
 use Rattle.row_model.specs.Rows.{RowList}
 use Rattle.row_model.specs.declared.graph.Line.{Line}
@@ -8,6 +8,7 @@ use Rattle.pq_tree.specs.Outline.{IsFrontier}
 use Rattle.pq_tree.specs.Canonical.{IsCanonical}
 use Rattle.pq_tree.specs.PqTree.{column_count, outline}
 use Rattle.pq_tree.specs.declared.PqTree.{PqTree}
+use Rattle.odd_cycle.specs.Short.{IsShort}
 use Rattle.row_judge.specs.declared.Judged.{Judged}
 use Rattle.row_judge.specs.declared.Judged.TheVariants.{Yes, No}
 
@@ -32,3 +33,8 @@ pub record IsFirstConflict (m : RowList) (lines : List Line) : Type 0 where
 abbrev pub IsJudgedInTurn : RowList → Judged → Type 0
 IsJudgedInTurn m (Yes t) = Unit {0}
 IsJudgedInTurn m (No cycle) = IsFirstConflict m cycle
+
+-- the odd cycle of a no has at most one flip, and at most half as many lines as there are ordered pairs, and one
+abbrev pub HasShortCycle : ℕ → Judged → Type 0
+HasShortCycle c (Yes t) = ⊤
+HasShortCycle c (No cycle) = IsShort c cycle

@@ -1,12 +1,15 @@
 //! What is asked of a solver of the consecutive-ones problem.
 #![tactic(auto)]
 
+mod short;
+
 ghost use Rattle.std.specs.Prelude.{◌+◌, ◌≤◌, ℕ, Bool, IfOk, IsTrue};
 ghost use Rattle.row_judge.specs.Judges.{IsJudged, IsJudgedInTurn};
 
 use odd_cycle::Cycle;
 use pq_tree::PqTree;
 use row_model::{Matrix, NoMemory};
+pub use short::judged_short;
 use std::alloc::Global;
 use step_count::{Ledger, Steps};
 

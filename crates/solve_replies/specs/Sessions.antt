@@ -6,6 +6,7 @@ use Rattle.row_model.specs.Cycles.{IsOddCycle}
 use Rattle.row_model.specs.Rows.{RowList}
 use Rattle.row_model.specs.declared.graph.Line.{Line}
 use Rattle.row_model.specs.declared.kind.Kind.{Kind}
+use Rattle.odd_cycle.specs.Short.{IsShort}
 use Rattle.c1p_solve.specs.Sessions.{with_row}
 use Rattle.text_parts.specs.Numbered.{numbered}
 use Rattle.verdict_text.specs.Text.{kind_line, columns_line, side_text}
@@ -21,10 +22,10 @@ pub data Outcome : Type 0 where
   accepted : Outcome
   refused : (cycle : Option (List Line)) → Outcome
 
--- What explains a refusal by these rows, after so many others: an odd cycle of them where it is among the first, and
+-- What explains a refusal by these rows, after so many others: a short odd cycle of them where it is among the first, and
 -- nothing later.
 abbrev pub IsExplained : RowList → ℕ → Option (List Line) → Type 0
-IsExplained m refusals (Some lines) = (refusals < MAX_EXPLAINED) × IsOddCycle m.columns m.rows lines
+IsExplained m refusals (Some lines) = (refusals < MAX_EXPLAINED) × IsOddCycle m.columns m.rows lines × IsShort m.columns lines
 IsExplained m refusals None = MAX_EXPLAINED ≤ refusals
 
 -- What becomes of a row after those of the matrix, where so many were refused before it: it is accepted where they have

@@ -13,6 +13,7 @@ use Rattle.pq_tree.proofs.AllOrders.{all_orders}
 use Rattle.canonical_tree.specs.Laws.{CanonicalTreeLaw, OneShapeLaw}
 use Rattle.row_judge.specs.Judges.{IsTreeOfOrders}
 use Rattle.tree_meet.specs.TreeRows.{rows_of_tree}
+use Rattle.odd_cycle.specs.Short.{IsShort}
 use Rattle.tree_meet.specs.Meets.{IsCommon, IsMeet, joint_rows}
 use Rattle.tree_meet.specs.Laws.{EitherFirstLaw, UniversalMeetLaw}
 use Rattle.tree_meet.proofs.Groups.{left_all, right_all}
@@ -58,11 +59,12 @@ module _ (c : ℕ) (t u : Outline) (first : IsProper c t) (second : IsProper c u
     )
 
     -- a judge's cycle is one of the rows of both trees, which share no frontier
-    pub met_apart : (cycle : List Line) → IsOddCycle m.columns m.rows cycle × (HasValidOrder m.columns m.rows → ⊥) →
-        IsOddCycle c (joint_rows c t u) cycle × ((o : List ℕ) → IsCommon t u o → ⊥)
-    met_apart cycle h = (
+    pub met_apart : (cycle : List Line) → IsOddCycle m.columns m.rows cycle × (HasValidOrder m.columns m.rows → ⊥) → IsShort m.columns cycle →
+        IsOddCycle c (joint_rows c t u) cycle × ((o : List ℕ) → IsCommon t u o → ⊥) × IsShort c cycle
+    met_apart cycle h short = (
       subst (λ n. IsOddCycle n (joint_rows c t u) cycle) columns (subst (λ (x : List (List ℕ)). IsOddCycle m.columns x cycle) rows h.0),
       λ o k. h.1 (o, (valid o).1 k),
+      subst (λ n. IsShort n cycle) columns short,
     )
 
 pub either_first : CanonicalTreeLaw → EitherFirstLaw

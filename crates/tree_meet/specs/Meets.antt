@@ -5,6 +5,7 @@ use Rattle.pq_tree.specs.Outline.{Outline, IsFrontier}
 use Rattle.pq_tree.specs.Canonical.{IsCanonical}
 use Rattle.pq_tree.specs.PqTree.{column_count, outline}
 use Rattle.pq_tree.specs.declared.PqTree.{PqTree}
+use Rattle.odd_cycle.specs.Short.{IsShort}
 use Rattle.tree_meet.specs.TreeRows.{rows_of_tree}
 use Rattle.tree_meet.specs.declared.common.Met.{Met}
 use Rattle.tree_meet.specs.declared.common.Met.TheVariants.{Tree, Apart}
@@ -23,8 +24,8 @@ pub record IsMeet (c : ℕ) (t u : Outline) (v : PqTree) : Type 0 where
   pub canonical : IsCanonical (outline v)
   pub common : (o : List ℕ) → IsFrontier (outline v) o ↔ IsCommon t u o
 
--- the tree of all common frontiers, of which there is one, or an odd cycle of the rows of both trees, where there is
--- none
+-- the tree of all common frontiers, of which there is one, or a short odd cycle of the rows of both trees, where
+-- there is none
 abbrev pub IsMet : ℕ → Outline → Outline → Met → Type 0
 IsMet c t u (Tree v) = IsMeet c t u v × ((o : List ℕ) × IsCommon t u o)
-IsMet c t u (Apart cycle) = IsOddCycle c (joint_rows c t u) cycle × ((o : List ℕ) → IsCommon t u o → ⊥)
+IsMet c t u (Apart cycle) = IsOddCycle c (joint_rows c t u) cycle × ((o : List ℕ) → IsCommon t u o → ⊥) × IsShort c cycle

@@ -7,7 +7,7 @@ ghost use Rattle.tree_meet.specs.Meets.{IsMet};
 use crate::rows::{push_rows, tree_rows};
 use odd_cycle::Cycle;
 use pq_tree::PqTree;
-use row_judge::{Judge, Judged};
+use row_judge::{Judge, Judged, judged_short};
 use row_model::{MAX_COLUMNS, NoMemory};
 use std::alloc::Global;
 use step_count::{Ledger, Steps};
@@ -18,7 +18,8 @@ pub enum Met {
     /// The canonical tree whose frontiers are exactly the common frontiers, of which there is one.
     Tree(PqTree),
     /// No frontier is common, as an odd cycle shows in the incompatibility graph (McConnell, 2004) of the rows of the
-    /// first tree followed by those of the second.
+    /// first tree followed by those of the second. It has at most one flip, and with c columns at most c(c - 1)/2 + 1
+    /// lines.
     Apart(Cycle),
 }
 
@@ -40,7 +41,7 @@ pub fn meet<J: Judge, L: Ledger>(
 {
     let mut m = tree_rows(alloc, first)?;
     push_rows(alloc, second, &mut m)?;
-    match judge.judge(alloc, &m, steps)? {
+    match judged_short(alloc, judge, &m, steps)? {
         Judged::Yes(tree) => Ok(Met::Tree(tree)),
         Judged::No(cycle) => Ok(Met::Apart(cycle)),
     }

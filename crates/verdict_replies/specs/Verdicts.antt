@@ -11,6 +11,7 @@ use Rattle.proper_interval.specs.Formula.{AreIntervals}
 use Rattle.pq_tree.specs.Outline.{IsFrontier, leaves}
 use Rattle.pq_tree.specs.Proper.{IsProper}
 use Rattle.pq_tree.specs.Canonical.{IsCanonical}
+use Rattle.odd_cycle.specs.Short.{IsShort}
 use Rattle.tied_law.specs.Tied.{IsTied}
 use Rattle.verdict_text.specs.Verdict.{SideValue, AddedValue, Claim, yes_claim, no_claim, VerdictValue}
 use Rattle.verdict_text.specs.declared.verdict.Version.TheVariants.{Two}
@@ -69,11 +70,11 @@ pub record IsFirstWithout (i : InstanceValue) (s : ℕ) : Type 0 where
   pub none : HasOrder i s → ⊥
 
 -- What is claimed is true of the instance. Yes: its sides, each of which shows the valid orders of its derived matrix,
--- and what the kind adds to the order of the first. No: the first side that has none, and an odd cycle of its
--- incompatibility graph, which shows it.
+-- and what the kind adds to the order of the first. No: the first side that has none, and a short odd cycle of
+-- its incompatibility graph, which shows it.
 abbrev pub IsClaimOf : InstanceValue → Claim → Type 0
 IsClaimOf i (yes_claim value) = ShowsSides i value.sides × IsSomeAnd (slice_get value.sides 0) (λ side. AddsToOrder i side.order value.added)
-IsClaimOf i (no_claim s lines) = IsFirstWithout i s × IsOddCycle (derived_matrix i s).columns (derived_matrix i s).rows lines
+IsClaimOf i (no_claim s lines) = IsFirstWithout i s × IsOddCycle (derived_matrix i s).columns (derived_matrix i s).rows lines × IsShort (derived_matrix i s).columns lines
 
 -- a verdict on an instance is of version 2, and true of it
 pub record IsVerdictOf (i : InstanceValue) (v : VerdictValue) : Type 0 where

@@ -1,5 +1,4 @@
 pub mod PathLaws
-pub mod CycleSteps
 pub mod MarkedOnes
 pub mod ForestLaws
 pub mod HolderLaws

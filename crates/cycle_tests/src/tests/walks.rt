@@ -4,6 +4,7 @@ ghost use Rattle.row_model.specs.Graph.{HasOddWalk};
 ghost use Rattle.row_model.specs.Cycles.{IsOddWalk};
 
 use incompat_graph::{Cycle, Walk, joined, odd_walk, simple_cycle};
+use odd_cycle::is_folded;
 use row_model::{Line, Matrix, NoMemory, Pair, Why, joined_by};
 use std::alloc::Global;
 use std::process::Abort;
@@ -45,9 +46,10 @@ fn cycle_of(alloc: Global, m: &Matrix) -> Result<Option<Cycle>, NoMemory> {
 }
 
 // Each line's reason joins its pair to the next, the last to the first; the lines are odd in
-// number, and no pair comes twice.
+// number, and no pair comes twice. At most one line is a flip.
 fn assert_cycle(rt: &impl Abort, m: &Matrix, lines: &[Line]) {
     assert!(rt; lines.len() % 2 == 1);
+    assert!(rt; lines.iter().filter(|line| line.why == Why::Flip).count() <= 1);
     for i in 0..lines.len() {
         let next = if i + 1 < lines.len() { i + 1 } else { 0 };
         assert!(rt; joined_by(m, lines[i].pair, lines[next].pair, lines[i].why));
@@ -139,6 +141,32 @@ fn three_blocks_and_a_row_across(rt: HostRuntime) -> Result<(), Fail> {
     assert!(rt; walk_of(rt.alloc(), &m, 3)?.is_none());
     let cycle = cycle_of(rt.alloc(), &m)?.ok_or("no cycle")?;
     assert_cycle(&rt, &m, cycle.lines());
+    Ok(())
+}
+
+fn row_line(a: u32, b: u32, row: u32) -> Line {
+    Line {
+        pair: pair(a, b),
+        why: Why::Row(row),
+    }
+}
+
+fn flip(a: u32, b: u32) -> Line {
+    Line {
+        pair: pair(a, b),
+        why: Why::Flip,
+    }
+}
+
+// What is folded has no flip but a last one, and no two columns twice before it.
+#[test]
+fn lines_that_are_folded(rt: HostRuntime) -> Result<(), Fail> {
+    let folded = [row_line(1, 2, 3), row_line(2, 3, 1), flip(2, 1)];
+    assert!(rt; is_folded(rt.alloc(), &folded)?);
+    let turned = [row_line(1, 2, 3), row_line(2, 3, 1), row_line(3, 2, 1)];
+    assert!(rt; !is_folded(rt.alloc(), &turned)?);
+    let flips = [row_line(1, 2, 3), flip(2, 3), row_line(3, 1, 1), flip(2, 1)];
+    assert!(rt; !is_folded(rt.alloc(), &flips)?);
     Ok(())
 }
 

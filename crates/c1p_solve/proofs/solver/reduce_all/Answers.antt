@@ -28,6 +28,7 @@ returns-in-Refused-clause-reduction g c =
         before = rw before c.loop-taken.invariant.order;
         refused = refused;
       },
+      c.in_ok-conflict-in-Refused.ensures.short,
     )
 
 pub returns-in-Refused-clause-in_turn : goal.returns-in-Refused-clause-in_turn

@@ -2,7 +2,7 @@ use Rattle.std.proofs.Common.{length, subst, ap, arith}
 use Rattle.row_model.specs.Rows.{RowList}
 use Rattle.pq_tree.specs.Proper.{IsProper}
 use Rattle.pq_tree.specs.PqTree.{column_count, outline}
-use Rattle.row_judge.specs.Judges.{IsJudged}
+use Rattle.row_judge.specs.Judges.{HasShortCycle, IsJudged}
 use Rattle.tree_meet.proofs.Few.{rows_few}
 use Rattle.tree_meet.proofs.Joint.{met_tree, met_apart, joined_columns, joined_rows}
 use Rattle.tree_meet.proofs.common.meet.Goals as goal
@@ -32,4 +32,4 @@ returns g c =
     met_apart n t u c.args.first.now.proper second c.push_rows.new.m
     (joined_columns n (column_count c.args.second.now) t u c.in_ok-m.m c.push_rows.new.m c.in_ok-m.ensures c.in_ok-push_rows.ensures)
     (joined_rows n (column_count c.args.second.now) t u c.in_ok-m.m c.push_rows.new.m c.requires.same c.in_ok-m.ensures c.in_ok-push_rows.ensures)
-    c.in-No.cycle (subst (IsJudged c.push_rows.new.m) c.in-No.is c.in_ok-tree.ensures.judged)
+    c.in-No.cycle (subst (IsJudged c.push_rows.new.m) c.in-No.is c.in_ok-tree.ensures.judged) (subst (HasShortCycle c.push_rows.new.m.columns) c.in-No.is c.in_ok-tree.ensures.short)

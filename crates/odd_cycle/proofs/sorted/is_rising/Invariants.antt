@@ -1,7 +1,7 @@
 use Rattle.std.proofs.Common.{◌≡◌, Less}
 use Rattle.std.specs.List.{AllAdjacentBelow}
-use Rattle.incompat_graph.proofs.RisingLaws.{pair_cmp}
-use Rattle.incompat_graph.proofs.sorted.is_rising.Given as goal
+use Rattle.odd_cycle.proofs.RisingLaws.{pair_cmp}
+use Rattle.odd_cycle.proofs.sorted.is_rising.Given as goal
 
 -- each pair so far is less than the next
 abbrev pub invariant-loop-i : goal.invariant-loop-i

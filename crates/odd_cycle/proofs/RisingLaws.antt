@@ -12,8 +12,8 @@ use Rattle.std.proofs.lemmas.Map.Keys.{sorted_from_all_adjacent, Less-from_sorte
 use Rattle.std.proofs.lemmas.Map.Made.{AllPairs-from_IsDistinct, IsDistinct-from_AllPairs}
 use Rattle.row_model.specs.declared.graph.Pair.{Pair}
 use Rattle.row_model.specs.declared.graph.Line.{Line}
-use Rattle.row_model.specs.Cycles.{pair_of}
 use Rattle.row_model.proofs.Pairs.{same_pair}
+use Rattle.odd_cycle.specs.Short.{columns_of}
 
 -- the order of pairs: by their first columns, and by their second ones where these are the same
 abbrev pub pair_cmp : Pair → Pair → Ordering
@@ -62,12 +62,12 @@ apart_from_rising pairs up i j d low m same =
     let never : Less ≡ Equal = sym less ∙ tied in
     absurd (cc)
 
--- lines whose pairs are distinct in some order have distinct pairs
-pub apart_by_pairs : (lines : List Line) (pairs : List Pair) → IsPermutation (map pair_of lines) pairs → AllPairs (λ v w. v ≢ w) pairs →
-    AllPairs (λ (x : Line) (y : Line). x.pair ≢ y.pair) lines
-apart_by_pairs lines pairs p apart i j d low m same =
-    let own = map pair_of lines in
+-- lines whose columns are distinct in some order have distinct columns
+pub apart_by_columns : (lines : List Line) (pairs : List Pair) → IsPermutation (map columns_of lines) pairs → AllPairs (λ v w. v ≢ w) pairs →
+    AllPairs (λ (x : Line) (y : Line). columns_of x ≢ columns_of y) lines
+apart_by_columns lines pairs p apart i j d low m same =
+    let own = map columns_of lines in
     let moved : IsDistinct (eq_by_cmp pair_cmp) pairs = IsDistinct-from_AllPairs tied_are_same pairs apart in
     let distinct : IsDistinct (eq_by_cmp pair_cmp) own = IsDistinct-IsPermutation (eq_by_cmp pair_cmp) (eq_by_cmp_equiv pair_order).symm pairs own (IsPermutation-sym own pairs p) moved in
-    AllPairs-from_IsDistinct tied_are_same own distinct i j d.pair low (omega (arith, m, length-map lines pair_of))
-    (get_or-map pair_of lines i d d.pair (omega arith) ∙ same ∙ sym (get_or-map pair_of lines j d d.pair m))
+    AllPairs-from_IsDistinct tied_are_same own distinct i j d.pair low (omega (arith, m, length-map lines columns_of))
+    (get_or-map columns_of lines i d d.pair (omega arith) ∙ same ∙ sym (get_or-map columns_of lines j d d.pair m))

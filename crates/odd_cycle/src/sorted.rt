@@ -1,18 +1,19 @@
-// The pairs of lines in rising order.
+// The columns of lines in rising order.
 ghost use Rattle.std.specs.Prelude.{◌≢◌, map, AllPairs, IfOk, IsTrue};
 ghost use Rattle.std.specs.List.Sorted.{IsPermutation};
-ghost use Rattle.row_model.specs.Cycles.{pair_of};
+ghost use Rattle.odd_cycle.specs.Short.{columns_of};
 
+use crate::pairs::lesser_first;
 use row_model::{Line, NoMemory, Pair};
 use std::alloc::Global;
 
-/// The pairs of the lines, one for each line, in rising order.
-pub fn sorted_pairs(alloc: Global, lines: &[Line]) -> Result<Vec<Pair>, NoMemory>
-    ensures { IfOk result (λ pairs. IsPermutation (map pair_of lines.now) pairs.items) }
+/// The columns of the lines, one pair for each line, with its lesser column first, in rising order.
+pub fn sorted_columns(alloc: Global, lines: &[Line]) -> Result<Vec<Pair>, NoMemory>
+    ensures { IfOk result (λ pairs. IsPermutation (map columns_of lines.now) pairs.items) }
 {
     let mut pairs = Vec::with_capacity(alloc, lines.len())?;
     for line in lines {
-        pairs.push(line.pair)?;
+        pairs.push(lesser_first(line.pair))?;
     }
     pairs.sort_unstable();
     Ok(pairs)

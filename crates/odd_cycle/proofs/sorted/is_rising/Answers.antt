@@ -2,8 +2,8 @@ use Rattle.std.proofs.Common.{◌≡◌, ◌∙◌, ◌-◌, Less, get_or, sym, 
 use Rattle.std.proofs.lemmas.List.{get_or_default}
 use Rattle.std.proofs.lemmas.List.Sorted.{all_adjacent_more}
 use Rattle.row_model.specs.declared.graph.Pair.{Pair}
-use Rattle.incompat_graph.proofs.RisingLaws.{pair_cmp, less_from_not_le, apart_from_rising}
-use Rattle.incompat_graph.proofs.sorted.is_rising.Goals as goal
+use Rattle.odd_cycle.proofs.RisingLaws.{pair_cmp, less_from_not_le, apart_from_rising}
+use Rattle.odd_cycle.proofs.sorted.is_rising.Goals as goal
 
 pub loop-i-preserved : goal.loop-i-preserved
 loop-i-preserved c =

@@ -1,5 +1,5 @@
-use Rattle.walk_search.proofs.PathLaws.{IsCleared}
-use Rattle.walk_search.proofs.cycle.cut.Given as goal
+use Rattle.odd_cycle.proofs.FoldLaws.{IsCleared}
+use Rattle.odd_cycle.proofs.fold.cut.Given as goal
 
 abbrev pub invariant-loop-line : goal.invariant-loop-line
 invariant-loop-line l = IsCleared l.fn.numbers l.numbers l.keep l.line-index
