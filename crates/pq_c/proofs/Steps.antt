@@ -1,5 +1,5 @@
 -- From what a run over a shelf and sinks in memory says to what the caller knows of its bytes.
-use Rattle.std.proofs.Common.{◌≡◌, ◌≢◌, ◌⊎◌, ◌∙◌, ◌++◌, ℕ, zero, suc, ◌≤◌, List, [], length, take, drop, Option, Some, None, inl, inr, sym, ap, subst, refl, arith}
+use Rattle.std.proofs.Common.{◌≡◌, ◌≢◌, ◌⊎◌, ◌∙◌, ◌++◌, ℕ, zero, suc, ◌≤◌, List, [], length, take, drop, Option, Some, None, inl, inr, sym, ap, subst, refl, arith, IfSome}
 use Rattle.std.proofs.Math.Path.{fun_ext}
 use Rattle.row_model.specs.declared.refusal.Refusal.{Refusal}
 use Rattle.std.proofs.Math.Seq.{take-length}
@@ -9,7 +9,7 @@ use Rattle.pq_io.specs.Taken.{Taken}
 use Rattle.command_input.specs.Words.{Command, files_of}
 use Rattle.reply_laws.specs.Replies.{Replies}
 use Rattle.reply_laws.specs.Promise.{IsPromised, PromiseLaw}
-use Rattle.pq_cli.specs.Runs.{ForCommand, AllFit, AgreesWith, OfTaken, taken_since, TakesFiles, TakesInTurn, WritesOut, EndsAtRefusal, IsLineOf, Offers}
+use Rattle.pq_cli.specs.Runs.{AllFit, AgreesWith, OfTaken, taken_since, TakesFiles, TakesInTurn, WritesOut, EndsAtRefusal, IsLineOf, Offers}
 use Rattle.pq_cli.specs.Real.{names_taken, AllTold}
 use Rattle.pq_c.specs.Given.{given, OfFiles}
 use Rattle.pq_c.specs.Called.{BeginsReply, IsFirstRefused, IsLineFor, IsRunOf}
@@ -39,13 +39,13 @@ abbrev pub ToldLaw : Type 0
 ToldLaw = (told : List ℕ → Option (List ℕ)) (ts : List Taken) (files : List (List ℕ)) → AgreesWith told ts → AllTold told (names_taken ts) files → AllFit ts files
 
 module _ {S : Type 0} (content : S → List ℕ → Option (List ℕ)) (taken : S → List Taken) (faults : S → ℕ) (old new : S) where
-  pub asked : (found : Option Command) (status : ℕ) → ForCommand found (λ c. TakesFiles content taken faults old new c status)
-      → ForCommand found (λ c. TakesInTurn (content old) c (taken_since (taken old) (taken new)) status)
+  pub asked : (found : Option Command) (status : ℕ) → IfSome found (λ c. TakesFiles content taken faults old new c status)
+      → IfSome found (λ c. TakesInTurn (content old) c (taken_since (taken old) (taken new)) status)
   asked None status takes = tt
   asked (Some c) status takes = takes.asks
 
-  pub refusing : (found : Option Command) (status : ℕ) → ForCommand found (λ c. TakesFiles content taken faults old new c status)
-      → ForCommand found (λ c. status ≡ 3 → (which : ℕ) × (refusal : Refusal) × EndsAtRefusal c (taken_since (taken old) (taken new)) which refusal)
+  pub refusing : (found : Option Command) (status : ℕ) → IfSome found (λ c. TakesFiles content taken faults old new c status)
+      → IfSome found (λ c. status ≡ 3 → (which : ℕ) × (refusal : Refusal) × EndsAtRefusal c (taken_since (taken old) (taken new)) which refusal)
   refusing None status takes = tt
   refusing (Some c) status takes = takes.refused
 
@@ -69,12 +69,12 @@ module _ (law : ToldLaw) (told : List ℕ → Option (List ℕ)) (first second :
   refused_at c ts status which refusal asks ends =
       record { from = ends.from; to = ends.to; first_one = λ files all. ends.first files (fits c ts status which asks ends.last files all) }
 
-  with_files : (found : Option Command) (ts : List Taken) (status which : ℕ) (refusal : Refusal) → ForCommand found (λ c. TakesInTurn told c ts status) → ForCommand found (λ c. EndsAtRefusal c ts which refusal)
-      → ForCommand found (λ c. IsFirstRefused first second c which refusal)
+  with_files : (found : Option Command) (ts : List Taken) (status which : ℕ) (refusal : Refusal) → IfSome found (λ c. TakesInTurn told c ts status) → IfSome found (λ c. EndsAtRefusal c ts which refusal)
+      → IfSome found (λ c. IsFirstRefused first second c which refusal)
   with_files None ts status which refusal takes ends = tt
   with_files (Some c) ts status which refusal takes ends = refused_at c ts status which refusal takes ends
 
-  pub line_for : (found : Option Command) (ts : List Taken) (status : ℕ) (line : List ℕ) → IsLineOf found ts status line → ForCommand found (λ c. TakesInTurn told c ts status)
+  pub line_for : (found : Option Command) (ts : List Taken) (status : ℕ) (line : List ℕ) → IsLineOf found ts status line → IfSome found (λ c. TakesInTurn told c ts status)
       → IsLineFor found first second status line
   line_for found ts status line is takes =
       record {
@@ -85,8 +85,8 @@ module _ (law : ToldLaw) (told : List ℕ → Option (List ℕ)) (first second :
         no_memory = is.no_memory;
       }
 
-  pub reply : (found : Option Command) (ts : List Taken) (status : ℕ) (text : List ℕ) → ForCommand found (λ c. TakesInTurn told c ts status) → ForCommand found (λ c. WritesOut ts c (Some []) (Some text) status)
-      → (status ≡ 0) ⊎ (status ≡ 1) → ForCommand found (λ c. OfFiles first second c (λ files. Replies c files status text))
+  pub reply : (found : Option Command) (ts : List Taken) (status : ℕ) (text : List ℕ) → IfSome found (λ c. TakesInTurn told c ts status) → IfSome found (λ c. WritesOut ts c (Some []) (Some text) status)
+      → (status ≡ 0) ⊎ (status ≡ 1) → IfSome found (λ c. OfFiles first second c (λ files. Replies c files status text))
   reply None ts status text takes written either = tt
   reply (Some c) ts status text takes written either =
       of_files c ts status _ takes (elim either [ inl none ↦ inl none | inr one ↦ inr (inl one) ])
@@ -101,28 +101,28 @@ module _ (law : ToldLaw) (told : List ℕ → Option (List ℕ)) (first second :
       let m = w.3.0 in
       (w.0, drop n text ++ drop m w.1, subst (λ t. Replies c files w.0 t) (sym (take-append-drop m w.1) ∙ ap (λ t. t ++ drop m w.1) (sym w.3.2 ∙ sym (take-append-drop n text)) ∙ append_assoc (take n text) (drop n text) (drop m w.1)) w.2)
 
-  pub cut_short : (found : Option Command) (ts : List Taken) (status n : ℕ) (text : List ℕ) → ForCommand found (λ c. TakesInTurn told c ts status) → ForCommand found (λ c. WritesOut ts c (Some []) (Some text) status)
-      → (status ≡ 0) ⊎ (status ≡ 1) ⊎ (status ≡ 5) → ForCommand found (λ c. OfFiles first second c (BeginsReply c (take n text)))
+  pub cut_short : (found : Option Command) (ts : List Taken) (status n : ℕ) (text : List ℕ) → IfSome found (λ c. TakesInTurn told c ts status) → IfSome found (λ c. WritesOut ts c (Some []) (Some text) status)
+      → (status ≡ 0) ⊎ (status ≡ 1) ⊎ (status ≡ 5) → IfSome found (λ c. OfFiles first second c (BeginsReply c (take n text)))
   cut_short None ts status n text takes written replied = tt
   cut_short (Some c) ts status n text takes written replied = of_files c ts status _ takes replied (λ files fit. begins c ts status n text written replied files fit)
 
-  refusal_there : (found : Option Command) (ts : List Taken) (status : ℕ) → ForCommand found (λ c. TakesInTurn told c ts status)
-      → ForCommand found (λ c. status ≡ 3 → (which : ℕ) × (refusal : Refusal) × EndsAtRefusal c ts which refusal)
-      → status ≡ 3 → ForCommand found (λ c. (which : ℕ) × (refusal : Refusal) × IsFirstRefused first second c which refusal)
+  refusal_there : (found : Option Command) (ts : List Taken) (status : ℕ) → IfSome found (λ c. TakesInTurn told c ts status)
+      → IfSome found (λ c. status ≡ 3 → (which : ℕ) × (refusal : Refusal) × EndsAtRefusal c ts which refusal)
+      → status ≡ 3 → IfSome found (λ c. (which : ℕ) × (refusal : Refusal) × IsFirstRefused first second c which refusal)
   refusal_there None ts status takes refused three = tt
   refusal_there (Some c) ts status takes refused three = let r = refused three in (r.0, r.1, refused_at c ts status r.0 r.1 takes r.2)
 
-  promised : PromiseLaw → (found : Option Command) (status : ℕ) (text : List ℕ) → ForCommand found (λ c. OfFiles first second c (λ files. Replies c files status text))
-      → ForCommand found (λ c. OfFiles first second c (λ files. IsPromised c files status text))
+  promised : PromiseLaw → (found : Option Command) (status : ℕ) (text : List ℕ) → IfSome found (λ c. OfFiles first second c (λ files. Replies c files status text))
+      → IfSome found (λ c. OfFiles first second c (λ files. IsPromised c files status text))
   promised keeps None status text replied = tt
   promised keeps (Some c) status text replied = λ files all. keeps c files status text (replied files all)
 
   -- what a run left
   module _ (keeps : PromiseLaw) (found : Option Command) (ts : List Taken) (status faults : ℕ) (text said line : List ℕ)
       (words : (status ≡ 2) ↔ IsNone found) (range : status ≤ 6)
-      (takes : ForCommand found (λ c. TakesInTurn told c ts status))
-      (refused : ForCommand found (λ c. status ≡ 3 → (which : ℕ) × (refusal : Refusal) × EndsAtRefusal c ts which refusal))
-      (written : ForCommand found (λ c. WritesOut ts c (Some []) (Some text) status))
+      (takes : IfSome found (λ c. TakesInTurn told c ts status))
+      (refused : IfSome found (λ c. status ≡ 3 → (which : ℕ) × (refusal : Refusal) × EndsAtRefusal c ts which refusal))
+      (written : IfSome found (λ c. WritesOut ts c (Some []) (Some text) status))
       (unwritten : (status ≡ 2) ⊎ (status ≡ 3) ⊎ (status ≡ 4) ⊎ (status ≡ 6) → text ≡ [])
       (quiet : (status ≡ 0) ⊎ (status ≡ 1) → said ≡ [])
       (offered : 2 ≤ status → (l : List ℕ) × IsLineOf found ts status l × Offers (Some []) (Some said) 0 faults l)
@@ -152,7 +152,7 @@ module _ (law : ToldLaw) (told : List ℕ → Option (List ℕ)) (first second :
       reply = reply found ts status text takes written;
       promise = λ either. promised keeps found status text (reply found ts status text takes written either);
       refused = refusal_there found ts status takes refused;
-      cut_short = λ five. subst (λ t. ForCommand found (λ c. OfFiles first second c (BeginsReply c t))) (take-length text)
+      cut_short = λ five. subst (λ t. IfSome found (λ c. OfFiles first second c (BeginsReply c t))) (take-length text)
           (cut_short found ts status (length text) text takes written (inr (inr five)));
       unwritten = unwritten;
       quiet = no_line;

@@ -1,10 +1,10 @@
 -- What a run over two files in memory leaves.
-use Rattle.std.specs.Prelude.{◌≡◌, ◌⊎◌, ◌≤◌, ◌++◌, ℕ, List, [], codes, Option, Some, IfNone, IsNone}
+use Rattle.std.specs.Prelude.{◌≡◌, ◌⊎◌, ◌≤◌, ◌++◌, ℕ, List, [], codes, Option, Some, IfNone, IsNone, IfSome}
 use Rattle.row_model.specs.declared.refusal.Refusal.{Refusal}
 use Rattle.command_input.specs.Words.{Command}
 use Rattle.reply_laws.specs.Replies.{Replies, refusable, refusal_of}
 use Rattle.reply_laws.specs.Promise.{IsPromised}
-use Rattle.pq_cli.specs.Runs.{ForCommand, refused_line}
+use Rattle.pq_cli.specs.Runs.{refused_line}
 use Rattle.pq_c.specs.Given.{OfFirst, OfFiles}
 
 -- some first bytes of a reply to a command over these files
@@ -21,7 +21,7 @@ pub record IsFirstRefused (first second : List ℕ) (command : Command) (which :
 pub record IsLineFor (command : Option Command) (first second : List ℕ) (status : ℕ) (line : List ℕ) : Type 0 where
   pub outside : status ≡ 2 → line ≡ codes "pq: words\n"
   pub refused : status ≡ 3 → (which : ℕ) × (refusal : Refusal) × (line ≡ refused_line which refusal)
-      × ForCommand command (λ c. IsFirstRefused first second c which refusal)
+      × IfSome command (λ c. IsFirstRefused first second c which refusal)
   pub read_fault : status ≡ 4 → line ≡ codes "pq: read fault\n"
   pub write_fault : status ≡ 5 → line ≡ codes "pq: write fault\n"
   pub no_memory : status ≡ 6 → line ≡ codes "pq: no memory\n"
@@ -33,10 +33,10 @@ pub record IsRunOf (command : Option Command) (first second : List ℕ) (status 
   pub grammar : status ≡ 2 → IsNone command
   pub outside : IfNone command ((status ≡ 2) ⊎ (status ≡ 6))
   pub range : status ≤ 6
-  pub reply : (status ≡ 0) ⊎ (status ≡ 1) → ForCommand command (λ c. OfFiles first second c (λ files. Replies c files status text))
-  pub promise : (status ≡ 0) ⊎ (status ≡ 1) → ForCommand command (λ c. OfFiles first second c (λ files. IsPromised c files status text))
-  pub refused : status ≡ 3 → ForCommand command (λ c. (which : ℕ) × (refusal : Refusal) × IsFirstRefused first second c which refusal)
-  pub cut_short : status ≡ 5 → ForCommand command (λ c. OfFiles first second c (BeginsReply c text))
+  pub reply : (status ≡ 0) ⊎ (status ≡ 1) → IfSome command (λ c. OfFiles first second c (λ files. Replies c files status text))
+  pub promise : (status ≡ 0) ⊎ (status ≡ 1) → IfSome command (λ c. OfFiles first second c (λ files. IsPromised c files status text))
+  pub refused : status ≡ 3 → IfSome command (λ c. (which : ℕ) × (refusal : Refusal) × IsFirstRefused first second c which refusal)
+  pub cut_short : status ≡ 5 → IfSome command (λ c. OfFiles first second c (BeginsReply c text))
   pub unwritten : (status ≡ 2) ⊎ (status ≡ 3) ⊎ (status ≡ 4) ⊎ (status ≡ 6) → text ≡ []
   pub quiet : (status ≡ 0) ⊎ (status ≡ 1) → line ≡ []
   pub said : 2 ≤ status → (line ≡ []) ⊎ IsLineFor command first second status line

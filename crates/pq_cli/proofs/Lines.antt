@@ -1,8 +1,8 @@
 -- The lines that tell of what stood in the way.
-use Rattle.std.proofs.Common.{◌≡◌, List, Option, Some, refl, arith, subst}
+use Rattle.std.proofs.Common.{◌≡◌, List, Option, Some, refl, arith, subst, IfSome}
 use Rattle.pq_io.specs.Taken.{Taken}
 use Rattle.command_input.specs.Words.{Command}
-use Rattle.pq_cli.specs.Runs.{ForCommand, EndsAtRefusal, StopsAt, failure_line, IsLineOf}
+use Rattle.pq_cli.specs.Runs.{EndsAtRefusal, StopsAt, failure_line, IsLineOf}
 use Rattle.pq_cli.specs.Stops.{stop_status}
 use Rattle.pq_cli.specs.declared.stop.Stop.{Stop}
 use Rattle.pq_cli.specs.declared.stop.Stop.TheVariants as stop
@@ -14,7 +14,7 @@ pub line_of_stop : (found : Option Command) (command : Command) (ts : List Taken
 line_of_stop found command ts (stop.Refused which refusal) is ends =
     record {
       words = λ s. absurd (omega arith);
-      refused = λ s. (which, refusal, refl, subst (λ f. ForCommand f (λ c. EndsAtRefusal c ts which refusal)) is ends);
+      refused = λ s. (which, refusal, refl, subst (λ f. IfSome f (λ c. EndsAtRefusal c ts which refusal)) is ends);
       read_fault = λ s. absurd (omega arith);
       write_fault = λ s. absurd (omega arith);
       no_memory = λ s. absurd (omega arith);

@@ -1,11 +1,11 @@
 -- What a run promises where nothing fails.
-use Rattle.std.proofs.Common.{◌≡◌, ◌≢◌, ◌⊎◌, ◌↔◌, ℕ, ◌≤◌, List, [], ◌∷◌, Option, Some, None, inl, inr, refl, ◌∙◌, ap, arith}
+use Rattle.std.proofs.Common.{◌≡◌, ◌≢◌, ◌⊎◌, ◌↔◌, ℕ, ◌≤◌, List, [], ◌∷◌, Option, Some, None, inl, inr, refl, ◌∙◌, ap, arith, IfSome}
 use Rattle.std.specs.Prelude.{IsNone}
 use Rattle.std.proofs.lemmas.Bool.{cases_eq}
 use Rattle.command_input.specs.Words.{Command, Solve, Check, Extend, Gen, Meet, ListOrders, UnitModel, CheckUnit, Core, CheckCore}
 use Rattle.reply_laws.specs.Replies.{refused_at, refused_behind, refused_of_two, refusal_of, Replies}
 use Rattle.pq_io.specs.Taken.{Taken}
-use Rattle.pq_cli.specs.Runs.{AllFit, taken_since, ForCommand, TakesFiles, WritesOut, CountsWrites}
+use Rattle.pq_cli.specs.Runs.{AllFit, taken_since, TakesFiles, WritesOut, CountsWrites}
 use Rattle.command_input.specs.TreeFiles.{tree_file}
 use Rattle.pq_cli.specs.Stops.{stop_status, failure_status}
 use Rattle.pq_cli.specs.Promise.{NothingFails, WhereWellFormed, Completes, KeepsPromise}
@@ -112,14 +112,14 @@ module _ {S : Type 0} (content : S → List ℕ → Option (List ℕ)) (taken : 
                 absurd (cc)
           ]
 
-  pub complete : (found : Option Command) → ForCommand found (λ c. TakesFiles content taken faults old new c status) → ForCommand found (λ c. WritesOut ts c before after status)
+  pub complete : (found : Option Command) → IfSome found (λ c. TakesFiles content taken faults old new c status) → IfSome found (λ c. WritesOut ts c before after status)
       → CountsWrites writes_before writes_after status → status ≤ 6 → ((status ≡ 2) ↔ IsNone found)
-      → ForCommand found (λ c. NothingFails (faults old) (faults new) writes_before writes_after status → Completes ts c before after status)
+      → IfSome found (λ c. NothingFails (faults old) (faults new) writes_before writes_after status → Completes ts c before after status)
   complete None takes written counted most words = tt
   complete (Some c) takes written counted most words = completed c takes written counted most (λ e. let none : IsNone (Some c) = words.0 e in absurd (cc))
 
   pub promise : PromiseLaw → (found : Option Command)
-      → ForCommand found (λ c. NothingFails (faults old) (faults new) writes_before writes_after status → Completes ts c before after status)
-      → ForCommand found (λ c. NothingFails (faults old) (faults new) writes_before writes_after status → KeepsPromise ts c before after status)
+      → IfSome found (λ c. NothingFails (faults old) (faults new) writes_before writes_after status → Completes ts c before after status)
+      → IfSome found (λ c. NothingFails (faults old) (faults new) writes_before writes_after status → KeepsPromise ts c before after status)
   promise law None ended = tt
   promise law (Some c) ended = λ nothing files f none. let reply = (ended nothing).reply files f none in (reply.0, reply.2, law c files status reply.0 reply.1)

@@ -4,7 +4,7 @@ use Rattle.pq_io.specs.Taken.{Taken}
 use Rattle.command_input.specs.Words.{Command}
 use Rattle.reply_laws.specs.Replies.{refusal_of}
 use Rattle.pq_cli.specs.Reading.{FitsTaken}
-use Rattle.pq_cli.specs.Runs.{ForCommand, AllFit, OfTaken, AgreesWith, taken_since, WritesOut, TakesFiles}
+use Rattle.pq_cli.specs.Runs.{AllFit, OfTaken, AgreesWith, taken_since, WritesOut, TakesFiles}
 use Rattle.pq_cli.specs.Real.{names_taken, bytes_taken, RepliesTo}
 use Rattle.pq_cli.specs.Told.{AllTold}
 
@@ -18,14 +18,14 @@ told_fits told [] (bytes ∷ files) agree all = absurd all
 told_fits told (t ∷ ts) [] agree all = absurd all
 told_fits told (t ∷ ts) (bytes ∷ files) agree all = (subst (λ found. IfSome found (FitsTaken t)) all.0 agree.0, told_fits told ts files agree.1 all.1)
 
-pub replies : (found : Option Command) (ts : List Taken) (before after : List ℕ) (status : ℕ) → ForCommand found (λ c. WritesOut ts c (Some before) (Some after) status) → (status ≡ 0) ⊎ (status ≡ 1)
-    → ForCommand found (λ c. OfTaken ts (RepliesTo c status before after))
+pub replies : (found : Option Command) (ts : List Taken) (before after : List ℕ) (status : ℕ) → IfSome found (λ c. WritesOut ts c (Some before) (Some after) status) → (status ≡ 0) ⊎ (status ≡ 1)
+    → IfSome found (λ c. OfTaken ts (RepliesTo c status before after))
 replies None ts before after status written either = tt
 replies (Some c) ts before after status written either = written.whole either
 
 module _ {S : Type 0} (content : S → List ℕ → Option (List ℕ)) (taken : S → List Taken) (faults : S → ℕ) (old new : S) where
-  pub refused : (found : Option Command) (status : ℕ) → ForCommand found (λ c. TakesFiles content taken faults old new c status) → status ≡ 3
-      → ForCommand found (λ c. OfTaken (taken_since (taken old) (taken new)) (λ files. refusal_of c files ≢ None))
+  pub refused : (found : Option Command) (status : ℕ) → IfSome found (λ c. TakesFiles content taken faults old new c status) → status ≡ 3
+      → IfSome found (λ c. OfTaken (taken_since (taken old) (taken new)) (λ files. refusal_of c files ≢ None))
   refused None status takes three = tt
   refused (Some c) status takes three = λ files f none.
       let ends = takes.refused three in

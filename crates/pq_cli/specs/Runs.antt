@@ -35,10 +35,6 @@ AgreesWith told (t ∷ ts) = IfSome (told t.name) (FitsTaken t) × AgreesWith to
 abbrev pub taken_since : List Taken → List Taken → List Taken
 taken_since before after = drop (length before) after
 
--- what stands for the command of the words, if they have one
-abbrev pub ForCommand : Option Command → (Command → Type 0) → Type 0
-ForCommand command P = IfSome command P
-
 -- These files of a command were taken, its first ones, and no other: one or more where a file can't be read, and all of
 -- them where there is a reply. A later file was taken only where those before it are not refused.
 pub record TakesInTurn (told : List ℕ → Option (List ℕ)) (command : Command) (ts : List Taken) (status : ℕ) : Type 0 where
@@ -130,7 +126,7 @@ failure_line failure.WriteFault = codes "pq: write fault\n"
 pub record IsLineOf (command : Option Command) (ts : List Taken) (status : ℕ) (line : List ℕ) : Type 0 where
   pub words : status ≡ 2 → line ≡ codes "pq: words\n"
   pub refused : status ≡ 3 → (which : ℕ) × (refusal : Refusal) × (line ≡ refused_line which refusal)
-      × ForCommand command (λ c. EndsAtRefusal c ts which refusal)
+      × IfSome command (λ c. EndsAtRefusal c ts which refusal)
   pub read_fault : status ≡ 4 → line ≡ codes "pq: read fault\n"
   pub write_fault : status ≡ 5 → line ≡ codes "pq: write fault\n"
   pub no_memory : status ≡ 6 → line ≡ codes "pq: no memory\n"

@@ -1,9 +1,9 @@
 // The top call over the files and streams of the system, and laws on what a shelf keeps of its files.
-ghost use Rattle.std.specs.Prelude.{◌≡◌, ◌⊎◌, ◌≢◌, ◌≤◌, ◌↔◌, List, ℕ, Option, None, Some, IfNone, IsNone};
+ghost use Rattle.std.specs.Prelude.{◌≡◌, ◌⊎◌, ◌≢◌, ◌≤◌, ◌↔◌, List, ℕ, Option, None, Some, IfNone, IsNone, IfSome};
 ghost use Rattle.command_input.specs.Words.{Command, texts, command_of};
 ghost use Rattle.reply_laws.specs.Replies.{refusal_of};
 ghost use Rattle.pq_io.specs.Taken.{Taken};
-ghost use Rattle.pq_cli.specs.Runs.{ForCommand, AllFit, OfTaken, AgreesWith, TakesFiles, taken_since, WritesOut, CountsWrites, Offers, IsLineOf};
+ghost use Rattle.pq_cli.specs.Runs.{AllFit, OfTaken, AgreesWith, TakesFiles, taken_since, WritesOut, CountsWrites, Offers, IsLineOf};
 ghost use Rattle.pq_cli.specs.Promise.{NothingFails, Completes, KeepsPromise};
 ghost use Rattle.pq_cli.specs.Real.{names_taken, bytes_taken, RepliesTo};
 ghost use Rattle.pq_cli.specs.Told.{AllTold, CompletesOverTold, KeepsPromiseOverTold};
@@ -27,19 +27,19 @@ pub fn run_real<R: Files + Input + Drop>(
     err: &mut RealSink<Stderr>,
 ) -> u8
     // Shortly: what was read, and what was sent.
-    ensures reply { (result ≡ 0) ⊎ (result ≡ 1) → ForCommand (command_of (texts words.now)) (λ c.
+    ensures reply { (result ≡ 0) ⊎ (result ≡ 1) → IfSome (command_of (texts words.now)) (λ c.
         OfTaken (taken_since files.old.taken files.new.taken)
         (RepliesTo c result out.old.sent out.new.sent)) }
-    ensures refused { result ≡ 3 → ForCommand (command_of (texts words.now)) (λ c.
+    ensures refused { result ≡ 3 → IfSome (command_of (texts words.now)) (λ c.
         OfTaken (taken_since files.old.taken files.new.taken) (λ taken. refusal_of c taken ≢ None)) }
 
     // The clauses of `run`, where a shelf tells no bytes of its files, and a sink tells what it was sent.
     ensures words { (result ≡ 2) ↔ IsNone (command_of (texts words.now)) }
     ensures unread { IfNone (command_of (texts words.now)) (files.new ≡ files.old) }
-    ensures files { ForCommand (command_of (texts words.now)) (λ c.
+    ensures files { IfSome (command_of (texts words.now)) (λ c.
         TakesFiles (λ _ _. None) (λ shelf. shelf.taken) (λ shelf. shelf.faults) files.old files.new c
         result) }
-    ensures output { ForCommand (command_of (texts words.now)) (λ c.
+    ensures output { IfSome (command_of (texts words.now)) (λ c.
         WritesOut (taken_since files.old.taken files.new.taken) c (Some out.old.sent)
         (Some out.new.sent) result) }
     ensures write_fault { CountsWrites out.old.faults out.new.faults result }
@@ -51,11 +51,11 @@ pub fn run_real<R: Files + Input + Drop>(
         × IsLineOf (command_of (texts words.now)) (taken_since files.old.taken files.new.taken) result
         line
         × Offers (Some err.old.sent) (Some err.new.sent) err.old.faults err.new.faults line }
-    ensures complete { ForCommand (command_of (texts words.now)) (λ c.
+    ensures complete { IfSome (command_of (texts words.now)) (λ c.
         NothingFails files.old.faults files.new.faults out.old.faults out.new.faults result
         → Completes (taken_since files.old.taken files.new.taken) c (Some out.old.sent)
         (Some out.new.sent) result) }
-    ensures promise { ForCommand (command_of (texts words.now)) (λ c.
+    ensures promise { IfSome (command_of (texts words.now)) (λ c.
         NothingFails files.old.faults files.new.faults out.old.faults out.new.faults result
         → KeepsPromise (taken_since files.old.taken files.new.taken) c (Some out.old.sent)
         (Some out.new.sent) result) }

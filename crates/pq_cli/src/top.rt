@@ -1,7 +1,7 @@
 // The top call: one command, from the words to the status.
-ghost use Rattle.std.specs.Prelude.{◌≡◌, ◌⊎◌, ◌↔◌, ◌≤◌, IfNone, IfOk, IfErr, IsNone, List, ℕ};
+ghost use Rattle.std.specs.Prelude.{◌≡◌, ◌⊎◌, ◌↔◌, ◌≤◌, IfNone, IfOk, IfErr, IsNone, List, ℕ, IfSome};
 ghost use Rattle.command_input.specs.Words.{texts, command_of};
-ghost use Rattle.pq_cli.specs.Runs.{ForCommand, TakesFiles, taken_since, WritesOut, CountsWrites, Offers, IsLineOf, failure_line};
+ghost use Rattle.pq_cli.specs.Runs.{TakesFiles, taken_since, WritesOut, CountsWrites, Offers, IsLineOf, failure_line};
 ghost use Rattle.pq_cli.specs.Stops.{run_status, failure_status};
 ghost use Rattle.pq_cli.specs.Promise.{NothingFails, Completes, KeepsPromise};
 
@@ -57,11 +57,11 @@ pub fn run<F: Shelf, O: Sink, E: Sink>(
     ensures unread { IfNone (command_of (texts words.now)) (files.new ≡ files.old) }
 
     // The files are read in turn, and a file that can't be read or is refused gives the status.
-    ensures files { ForCommand (command_of (texts words.now)) (λ c.
+    ensures files { IfSome (command_of (texts words.now)) (λ c.
         TakesFiles F.content F.taken F.faults files.old files.new c result) }
 
     // What is written is a reply to the bytes of the files.
-    ensures output { ForCommand (command_of (texts words.now)) (λ c.
+    ensures output { IfSome (command_of (texts words.now)) (λ c.
         WritesOut (taken_since (F.taken files.old) (F.taken files.new)) c (O.written out.old) (O.written out.new) result) }
     ensures write_fault { CountsWrites (O.faults out.old) (O.faults out.new) result }
     ensures unwritten { (result ≡ 2) ⊎ (result ≡ 3) ⊎ (result ≡ 4) ⊎ (result ≡ 6)
@@ -80,11 +80,11 @@ pub fn run<F: Shelf, O: Sink, E: Sink>(
 
     // Unless a read or a write fails or memory is refused, a refused file is told as refused, and well-formed files are
     // answered: an instance is solved exactly, and a verdict on it judged truly.
-    ensures complete { ForCommand (command_of (texts words.now)) (λ c.
+    ensures complete { IfSome (command_of (texts words.now)) (λ c.
         NothingFails (F.faults files.old) (F.faults files.new) (O.faults out.old)
         (O.faults out.new) result
         → Completes (taken_since (F.taken files.old) (F.taken files.new)) c (O.written out.old) (O.written out.new) result) }
-    ensures promise { ForCommand (command_of (texts words.now)) (λ c.
+    ensures promise { IfSome (command_of (texts words.now)) (λ c.
         NothingFails (F.faults files.old) (F.faults files.new) (O.faults out.old)
         (O.faults out.new) result
         → KeepsPromise (taken_since (F.taken files.old) (F.taken files.new)) c (O.written out.old) (O.written out.new) result) }
@@ -113,9 +113,9 @@ pub fn decide<F: Shelf, O: Sink>(
 ) -> Result<u8, Failure>
     ensures words { (run_status result ≡ 2) ↔ IsNone (command_of (texts words.now)) }
     ensures unread { IfNone (command_of (texts words.now)) (files.new ≡ files.old) }
-    ensures files { ForCommand (command_of (texts words.now)) (λ c.
+    ensures files { IfSome (command_of (texts words.now)) (λ c.
         TakesFiles F.content F.taken F.faults files.old files.new c (run_status result)) }
-    ensures output { ForCommand (command_of (texts words.now)) (λ c.
+    ensures output { IfSome (command_of (texts words.now)) (λ c.
         WritesOut (taken_since (F.taken files.old) (F.taken files.new)) c (O.written out.old) (O.written out.new)
         (run_status result)) }
     ensures write_fault { CountsWrites (O.faults out.old) (O.faults out.new) (run_status result) }

@@ -3,7 +3,7 @@
 
 mod short;
 
-ghost use Rattle.std.specs.Prelude.{◌+◌, ◌≤◌, ℕ, Bool, IfOk, IsTrue};
+ghost use Rattle.std.specs.Prelude.{◌+◌, ◌≤◌, ℕ, Bool, false, IfOk, IsTrue};
 ghost use Rattle.row_judge.specs.Judges.{IsJudged, IsJudgedInTurn};
 
 use odd_cycle::Cycle;
@@ -26,11 +26,11 @@ pub enum Judged {
 /// A solver of the consecutive-ones problem, seen by its answers alone.
 pub trait Judge {
     /// How often it was asked, as it counts: a judgement adds no more than one.
-    ghost asked: { Self → ℕ };
+    ghost asked: { Self → ℕ } = { λ _. 0 };
 
     /// Whether it tells that it goes through the rows in turn: then the cycle of a `No` is one of the rows up to the
     /// first that leaves no valid order with those before it.
-    ghost in_turn: { Bool };
+    ghost in_turn: { Bool } = { false };
 
     /// Judges a matrix: `No` comes exactly where it has no valid order.
     ///

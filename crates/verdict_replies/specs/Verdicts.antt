@@ -37,7 +37,7 @@ ShowsSide i s side = ShowsAllOrders (derived_matrix i s) side
 -- each side of the instance shows its orders, and there are no other sides
 pub record ShowsSides (i : InstanceValue) (sides : List SideValue) : Type 0 where
   pub count : length sides ≡ length (instance_columns i)
-  pub each : (s : ℕ) → IsSideOf i s → IsSomeAnd (slice_get sides (s - 1)) (ShowsSide i s)
+  pub each : (s : ℕ) → IsSideOf i s → IsSomeAnd (slice_get sides (s - 1)) (ShowsAllOrders (derived_matrix i s))
 
 -- nothing is added
 abbrev pub AddsNothing : AddedValue → Type 0
@@ -66,8 +66,8 @@ HasOrder i s = HasValidOrder (derived_matrix i s).columns (derived_matrix i s).r
 -- the first side whose derived matrix has no valid order
 pub record IsFirstWithout (i : InstanceValue) (s : ℕ) : Type 0 where
   pub side : IsSideOf i s
-  pub before : (earlier : ℕ) → 1 ≤ earlier → earlier < s → HasOrder i earlier
-  pub none : HasOrder i s → ⊥
+  pub before : (earlier : ℕ) → 1 ≤ earlier → earlier < s → HasValidOrder (derived_matrix i earlier).columns (derived_matrix i earlier).rows
+  pub none : HasValidOrder (derived_matrix i s).columns (derived_matrix i s).rows → ⊥
 
 -- What is claimed is true of the instance. Yes: its sides, each of which shows the valid orders of its derived matrix,
 -- and what the kind adds to the order of the first. No: the first side that has none, and a short odd cycle of

@@ -1,8 +1,8 @@
-use Rattle.std.proofs.Common.{◌≡◌, ◌∙◌, ap, subst, take, Some}
+use Rattle.std.proofs.Common.{◌≡◌, ◌∙◌, ap, subst, take, Some, IfSome}
 use Rattle.std.specs.Str.Lines.{lines}
 use Rattle.command_input.specs.Words.{texts, command_of}
 use Rattle.pq_io.specs.NamedFiles.{content_of, Held}
-use Rattle.pq_cli.specs.Runs.{ForCommand, WritesOut, Offers, taken_since}
+use Rattle.pq_cli.specs.Runs.{WritesOut, Offers, taken_since}
 use Rattle.pq_c.specs.Called.{IsRunOf}
 use Rattle.pq_c.proofs.Steps.{asked, refusing, handed}
 use Rattle.pq_c.proofs.over.run_text.Goals as goal
@@ -20,7 +20,7 @@ returns-clause-run c =
     let line = take c.handed_over.result.told c.handed_over.new.err in
     let takes = asked (λ (shelf : Held) name. content_of shelf.files name) (λ (shelf : Held). shelf.taken) (λ (shelf : Held). shelf.faults) old new found status run.files in
     let refused = refusing (λ (shelf : Held) name. content_of shelf.files name) (λ (shelf : Held). shelf.taken) (λ (shelf : Held). shelf.faults) old new found status run.files in
-    let written = subst (λ b. ForCommand found (λ k. WritesOut ts k (Some b) (Some c.run-status.new.out.bytes) status)) c.in_ok-reply.ensures.bytes run.output in
+    let written = subst (λ b. IfSome found (λ k. WritesOut ts k (Some b) (Some c.run-status.new.out.bytes) status)) c.in_ok-reply.ensures.bytes run.output in
     let words : found ≡ command_of (lines c.args.text.now) = ap (λ ws. command_of (texts ws)) c.deref.ensures.value ∙ ap command_of c.in_ok-words.ensures in
     subst (λ f. IsRunOf f first second c.handed_over.result.status (take c.handed_over.result.written c.handed_over.new.out) line) words
     (handed c.told_law.ensures (content_of old.files) first second c.in_ok-files.ensures.files c.promise_law.ensures found ts status c.run-status.new.err.faults c.run-status.new.out.bytes c.run-status.new.err.bytes line
