@@ -42,7 +42,7 @@ pub fn apply_one<L: Ledger>(
     }
 }
 
-// As `apply_one`. A full leaf, where nothing changes, takes no call.
+// As `apply_one`. A full leaf, where nothing changes, is told apart first.
 fn apply_at<L: Ledger>(
     template: Template,
     arena: &mut Arena,
