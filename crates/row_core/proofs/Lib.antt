@@ -3,4 +3,5 @@ pub mod Marks
 pub mod Needed
 pub mod Whole
 pub mod Parts
+pub mod Rounds
 pub mod Told

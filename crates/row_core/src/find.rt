@@ -30,7 +30,8 @@ pub enum Cored {
 /// orders of the others, so there is one such order. Which of several cores is found is free.
 ///
 /// A judge that goes through the rows in turn is asked once where there is a valid order, and else at most twice for
-/// each row of the core and once more.
+/// each row of the core and once more. Any other judge is asked at most (n + 1)(2n + 1) + 1 times, n being the number
+/// of rows.
 ///
 /// # Errors
 ///
@@ -43,6 +44,7 @@ pub fn find_core<J: Judge, L: Ledger>(
 ) -> Result<Cored, NoMemory>
     ensures cored { IfOk result (IsCored m.now) }
     ensures asked { IsTrue J.in_turn → IfOk result (λ found. J.asked judge.new ≤ J.asked judge.old + judgements_of found) }
+    ensures most { IfOk result (λ _. J.asked judge.new ≤ J.asked judge.old + ((length m.now.rows + 1) * (2 * length m.now.rows + 1) + 1)) }
 {
     blame_law();
     match judge.judge(alloc, m, steps)? {
@@ -80,6 +82,7 @@ fn core_among<J: Judge, L: Ledger>(
     requires needed { IsTrue J.in_turn → AreNeeded m.now blamed.rows.items blamed.untried }
     ensures core { IfOk result (TellsCore m.now) }
     ensures asked { IsTrue J.in_turn → IfOk result (λ core. J.asked judge.new + (length blamed.rows.items - blamed.untried) ≤ J.asked judge.old + 2 * length core.rows + 1) }
+    ensures most { IfOk result (λ _. J.asked judge.new ≤ J.asked judge.old + (length blamed.rows.items + 1) * (2 * length blamed.rows.items + 1)) }
 {
     blame_law();
     let mut blamed = blamed;

@@ -1,6 +1,7 @@
-use Rattle.std.proofs.Common.{length}
+use Rattle.std.proofs.Common.{length, arith}
 use Rattle.row_core.proofs.Numbers.{increasing}
 use Rattle.row_core.proofs.Told.{tells_core}
+use Rattle.row_core.proofs.Rounds.{one_round, last_round}
 use Rattle.row_core.proofs.find.core_among.Goals as goal
 
 pub of-requires-clause-ascending : goal.of-requires-clause-ascending
@@ -19,4 +20,12 @@ rounds-preserved g c =
       blamed = tried.0;
       needed = λ turn. absurd (tried.2 (c.in_ok-set.ensures.needed turn (c.rounds.invariant.needed turn)));
       asked = λ turn. absurd (tried.2 (c.in_ok-set.ensures.needed turn (c.rounds.invariant.needed turn)));
+      few = omega (arith, tried.1, c.in_ok-set.ensures.few, c.rounds.invariant.few);
+      most = one_round _ _ _ _ (length c.args.blamed.rows.items) _ (omega (arith, tried.1, c.in_ok-set.ensures.few))
+          (omega (arith, c.in_ok-set.ensures.asked, c.in_ok-set.ensures.few, c.in_ok-orders.ensures.asked, c.rounds.invariant.few)) c.rounds.invariant.most;
     }
+
+pub returns-in-Orders-clause-most : goal.returns-in-Orders-clause-most
+returns-in-Orders-clause-most g c =
+    last_round _ _ _ _ (length c.args.blamed.rows.items)
+    (omega (arith, c.in_ok-set.ensures.asked, c.in_ok-set.ensures.few, c.in_ok-orders.ensures.asked, c.rounds.invariant.few)) c.rounds.invariant.most

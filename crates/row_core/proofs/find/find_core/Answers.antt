@@ -1,6 +1,8 @@
-use Rattle.std.proofs.Common.{◌≡◌, ◌∙◌, length, subst, sym, arith}
+use Rattle.std.proofs.Common.{◌≡◌, ◌∙◌, ◌≤◌, ap, length, subst, sym, arith}
 use Rattle.std.proofs.lemmas.List.{append-nil}
+use Rattle.std.proofs.lemmas.List.FromFn.{length-range_with_len}
 use Rattle.std.specs.List.{range_with_len}
+use Rattle.row_core.proofs.Rounds.{all_rounds}
 use Rattle.row_model.specs.Cycles.{IsOddCycle}
 use Rattle.row_judge.specs.Judges.{IsFirstConflict}
 use Rattle.core_text.specs.Cores.{AreRowNumbers, rows_at}
@@ -46,3 +48,10 @@ returns-in_ok-core-in-No-clause-asked g c = λ turn.
     let blamed = c.in_ok-blamed-in-No.ensures.blamed m (subst (AreRowNumbers (length m.rows)) (sym straight) (ascends_all (length m.rows))) (subst (λ xs. IsOddCycle m.columns (rows_at m.rows xs) c.in-No.cycle) (sym all) cycle) in
     let some = some_blamed c.blame_law.ensures m c.in_ok-blamed-in-No.blamed.rows.items c.in_ok-blamed-in-No.blamed.lines blamed.cycle blamed.among in
     omega (arith, some, c.in_ok-blamed-in-No.ensures.more.1, c.in_ok-core-in-No.ensures.asked turn, c.judge.ensures.asked)
+
+pub returns-in_ok-core-in-No-clause-most : goal.returns-in_ok-core-in-No-clause-most
+returns-in_ok-core-in-No-clause-most g c =
+    let m = c.args.m.now in
+    let all : c.deref.result.now ≡ range_with_len 1 (length m.rows) = c.deref.ensures.value ∙ c.in_ok-all-in-No.ensures in
+    let few : length c.in_ok-blamed-in-No.blamed.rows.items ≤ length m.rows = omega (arith, c.in_ok-blamed-in-No.ensures.few, ap length all, length-range_with_len 1 (length m.rows)) in
+    all_rounds _ _ _ (length c.in_ok-blamed-in-No.blamed.rows.items) (length m.rows) few c.judge.ensures.asked c.in_ok-core-in-No.ensures.most
