@@ -10,7 +10,7 @@
 //! 2. **Along ways.** From a pair of a column of row k and one that it lacks a way goes on from the end of a row to the
 //!    end of the next, by rows that have one column of the pair and lack the other (`ways`). Pairs whose ways end at one
 //!    pair are linked. Where links and row k close an odd circle (`links`), the ways themselves are a closed walk of odd
-//!    length (`around`), and a pair that comes twice cuts it shorter (`repeats`).
+//!    length (`around`), and two columns that come again, in either order, cut it shorter (`repeats`).
 //!
 //! What a short cycle meets (`met`) is searched once more as a part of its own, for a still shorter one (`shorter`).
 //!

@@ -107,7 +107,10 @@ fn two_flips_are_left_out(rt: HostRuntime) -> Result<(), Fail> {
         line(3, 1, 2),
     ]?;
     let lines = without_repeats(rt.alloc(), &walk)?;
-    assert_eq!(rt; lines.as_slice(), [line(1, 2, 3), line(2, 3, 1), line(3, 1, 2)].as_slice());
+    assert_eq!(rt;
+        lines.as_slice(),
+        [line(1, 2, 3), line(2, 3, 1), line(3, 1, 2)].as_slice()
+    );
     assert!(rt; is_cycle(rt.alloc(), &m, lines)?);
     assert!(rt; !is_cycle(rt.alloc(), &m, walk)?);
     Ok(())

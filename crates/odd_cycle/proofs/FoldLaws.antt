@@ -1,23 +1,23 @@
 -- Paths of lines into which a closed walk folds.
-use Rattle.std.proofs.Common.{◌≡◌, ◌≢◌, ◌⊎◌, ◌∙◌, ℕ, ◌+◌, ◌-◌, ◌%◌, ◌<◌, ◌≤◌, Bool, true, false, not, List, [], ◌∷◌, ◌++◌, length, take, drop, slice_get, Some, All, Contains, refl, sym, ap, subst, inl, inr, arith}
+use Rattle.std.proofs.Common.{◌≡◌, ◌≢◌, ◌⊎◌, ◌∙◌, ℕ, ◌+◌, ◌-◌, ◌%◌, ◌<◌, ◌≤◌, Bool, true, false, not, List, [], ◌∷◌, ◌++◌, length, take, drop, slice_get, Some, All, refl, sym, ap, subst, inl, inr, arith}
 use Rattle.std.proofs.lemmas.Bool.{cases_eq}
-use Rattle.std.proofs.lemmas.List.{length-append, length-take-le, length-drop, drop_all, take_all, append-nil}
-use Rattle.std.proofs.lemmas.List.Elements.{All-take, All-drop, All-push}
-use Rattle.std.proofs.lemmas.Option.{same_Some, slice_get_within, get_or_from_slice_get}
+use Rattle.std.proofs.lemmas.List.{length-append, length-take-le, drop_all, append-nil}
+use Rattle.std.proofs.lemmas.List.Elements.{All-push}
+use Rattle.std.proofs.lemmas.Option.{same_Some, slice_get_within}
 use Rattle.row_model.specs.declared.graph.Pair.{Pair}
 use Rattle.row_model.specs.declared.graph.Line.{Line}
 use Rattle.row_model.specs.declared.graph.Why.{Why}
 use Rattle.row_model.specs.declared.graph.Why.TheVariants.{Flip, Row}
 use Rattle.row_model.specs.Graph.{pair, IsPair, JoinedBy}
 use Rattle.row_model.specs.Cycles.{first_pair, LeadTo, IsClosedWalk, IsOdd, IsOddWalk}
-use Rattle.row_model.proofs.CycleLaws.{first_pushed, first_drop, first_take, lead_push, lead_take, lead_drop, lead_line, closed_from, closed_leads}
+use Rattle.row_model.proofs.CycleLaws.{first_pushed, first_drop, first_take, lead_push, lead_take, lead_line, closed_from, closed_leads}
 use Rattle.row_model.proofs.Pairs.{cases_pair}
 use Rattle.pair_classes.specs.Numbers.{Numbering, number_of, Renumbers, IsIndexed}
 use Rattle.pair_classes.proofs.NumberLaws.{indexed_distinct}
-use Rattle.odd_cycle.specs.Fold.{closing, differ, IsPlaceOf, TellsTurned}
-use Rattle.odd_cycle.specs.Short.{flip_of, flips, one_if, turned_if, lesser_first, columns_of, IsStraight, IsFolded, IsNamedBy}
-use Rattle.odd_cycle.proofs.PairLaws.{turned_pair, turned_if_pair, lesser_pair, columns_turned_if, turned_twice, flipped, joined_turned_if}
-use Rattle.odd_cycle.proofs.ShortLaws.{flips-append, no_flips_take, no_flips_drop}
+use Rattle.odd_cycle.specs.Fold.{closing, differ}
+use Rattle.odd_cycle.specs.Short.{flips, one_if, turned_if, columns_of, IsStraight, IsFolded, IsNamedBy}
+use Rattle.odd_cycle.proofs.PairLaws.{turned_pair, turned_if_pair, turned_twice, flipped, joined_turned_if}
+use Rattle.odd_cycle.proofs.ShortLaws.{no_flips_drop}
 
 -- the pairs numbered after the first so many have lost their numbers, as far as the next so many, and the others keep theirs
 pub record IsCleared (old new : Numbering) (keep done : ℕ) : Type 0 where

@@ -1,5 +1,5 @@
 -- The step by which a line with a row is taken into the path.
-use Rattle.std.proofs.Common.{◌≡◌, ◌≢◌, ◌⊎◌, ◌∙◌, ℕ, ◌+◌, ◌-◌, ◌%◌, ◌<◌, ◌≤◌, Bool, true, false, List, [], ◌∷◌, ◌++◌, length, take, drop, get_or, slice_get, Some, All, refl, inl, inr, sym, ap, subst, arith}
+use Rattle.std.proofs.Common.{◌≡◌, ◌∙◌, ℕ, ◌+◌, ◌-◌, ◌%◌, ◌<◌, ◌≤◌, Bool, true, false, List, [], ◌∷◌, ◌++◌, length, take, drop, get_or, slice_get, Some, All, refl, inl, inr, sym, ap, subst, arith}
 use Rattle.std.proofs.lemmas.List.{take_all, length-drop}
 use Rattle.std.proofs.lemmas.List.Elements.{All-take, All-drop, All-push}
 use Rattle.std.proofs.lemmas.Option.{slice_get_within, slice_get-get_or, get_or_from_slice_get}
@@ -7,15 +7,15 @@ use Rattle.row_model.specs.declared.graph.Pair.{Pair}
 use Rattle.row_model.specs.declared.graph.Line.{Line}
 use Rattle.row_model.specs.declared.graph.Why.TheVariants.{Row}
 use Rattle.row_model.specs.Graph.{pair, IsPair}
-use Rattle.row_model.specs.Cycles.{first_pair, LeadTo, IsClosedWalk, IsOdd, IsOddWalk}
+use Rattle.row_model.specs.Cycles.{LeadTo, IsClosedWalk, IsOdd, IsOddWalk}
 use Rattle.row_model.proofs.CycleLaws.{first_drop, lead_line, lead_drop, closed_leads}
 use Rattle.pair_classes.specs.Numbers.{Numbering, number_of, IsIndexed}
 use Rattle.pair_classes.proofs.Items.{item_at}
 use Rattle.odd_cycle.specs.Fold.{closing, differ, IsPlaceOf, TellsTurned}
-use Rattle.odd_cycle.specs.Short.{flip_of, flips, one_if, turned_if, lesser_first, columns_of, IsShort, IsFolded, IsNamedBy}
+use Rattle.odd_cycle.specs.Short.{flip_of, one_if, turned_if, lesser_first, columns_of, IsFolded, IsNamedBy}
 use Rattle.odd_cycle.proofs.PairLaws.{turned_if_pair, lesser_pair, columns_turned_if}
-use Rattle.odd_cycle.proofs.ShortLaws.{flips-append, no_flips_take, short_cycle_law}
-use Rattle.odd_cycle.proofs.FoldLaws.{IsKept, Follows, start, next, line_turned, turned_both, leads_here, follows_row, follows_cut, follows_all, closes, folded_closed, named_closed, straight_from}
+use Rattle.odd_cycle.proofs.ShortLaws.{flips-append, no_flips_take}
+use Rattle.odd_cycle.proofs.FoldLaws.{IsKept, Follows, start, line_turned, turned_both, leads_here, follows_row, follows_cut, follows_all, closes, folded_closed, named_closed, straight_from}
 
 -- the line at an index
 pub line_there : (walk items : List Line) (done : ℕ) (d : Line) → items ≡ walk → done < length items → slice_get walk done ≡ Some (get_or items done d)

@@ -2,8 +2,7 @@
 use Rattle.std.proofs.Common.{◌≡◌, ◌≢◌, ◌⊎◌, ◌∙◌, ℕ, ◌<◌, ◌≤◌, Bool, true, false, not, nat_lt, if◌then◌else◌, List, refl, inl, inr, sym, ap, subst, arith}
 use Rattle.std.proofs.lemmas.Bool.{cases_Bool, ltb-true, ltb-false}
 use Rattle.row_model.specs.declared.graph.Pair.{Pair}
-use Rattle.row_model.specs.declared.graph.Why.{Why}
-use Rattle.row_model.specs.declared.graph.Why.TheVariants.{Flip, Row}
+use Rattle.row_model.specs.declared.graph.Why.TheVariants.{Row}
 use Rattle.row_model.specs.Graph.{IsPair, Crosses, JoinedBy, turned}
 use Rattle.row_model.proofs.Pairs.{same_pair}
 use Rattle.odd_cycle.specs.Short.{turned_if, lesser_first}

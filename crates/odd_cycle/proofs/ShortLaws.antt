@@ -1,5 +1,5 @@
 -- Folded closed walks of odd length are short odd cycles.
-use Rattle.std.proofs.Common.{◌≡◌, ◌≢◌, ◌∙◌, ℕ, ◌+◌, ◌-◌, ◌*◌, ◌<◌, ◌≤◌, zero, suc, List, [], ◌∷◌, ◌++◌, length, take, drop, get_or, slice_get, Some, All, AllPairs, refl, inl, inr, sym, ap, subst, arith}
+use Rattle.std.proofs.Common.{◌≡◌, ◌≢◌, ◌∙◌, ℕ, ◌+◌, ◌<◌, ◌≤◌, zero, suc, List, [], ◌∷◌, ◌++◌, length, take, drop, get_or, All, AllPairs, refl, inl, inr, sym, ap, subst, arith}
 use Rattle.std.proofs.lemmas.Bool.{cases_eq}
 use Rattle.std.proofs.lemmas.List.{length-append, drop_all, get_or_append_left, get_or_default}
 use Rattle.std.proofs.lemmas.List.Quantifiers.{all_pairs_push}
@@ -13,7 +13,7 @@ use Rattle.row_model.proofs.CycleLaws.{lead_line, closed_leads, odd_long, cycle_
 use Rattle.row_model.proofs.Pairs.{same_pair}
 use Rattle.pair_classes.proofs.Items.{item_last}
 use Rattle.odd_cycle.specs.Laws.{ShortCycleLaw}
-use Rattle.odd_cycle.specs.Short.{flip_of, flips, IsShort, lesser_first, columns_of, IsStraight, IsFolded}
+use Rattle.odd_cycle.specs.Short.{flip_of, flips, IsShort, lesser_first, columns_of, IsStraight}
 use Rattle.odd_cycle.proofs.PairLaws.{columns_turned, never_turned}
 use Rattle.odd_cycle.proofs.CycleLength.{blank, lines_pairs, half_length}
 

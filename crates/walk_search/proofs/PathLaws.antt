@@ -1,11 +1,11 @@
 -- Paths of lines with no pair twice.
-use Rattle.std.proofs.Common.{◌≡◌, ◌≢◌, ◌⊎◌, ◌∙◌, ℕ, ◌+◌, ◌-◌, ◌%◌, ◌<◌, ◌≤◌, List, [], ◌∷◌, ◌++◌, length, take, drop, slice_get, Some, refl, sym, ap, subst, inl, inr, arith}
+use Rattle.std.proofs.Common.{◌≡◌, ◌∙◌, ℕ, ◌+◌, ◌-◌, ◌%◌, List, [], ◌∷◌, ◌++◌, length, take, drop, slice_get, Some, refl, sym, ap, subst, arith}
 use Rattle.row_model.specs.declared.graph.Pair.{Pair}
 use Rattle.row_model.specs.declared.graph.Line.{Line}
-use Rattle.row_model.specs.Graph.{pair, IsPair}
-use Rattle.row_model.specs.Cycles.{pair_of, first_pair, LeadTo, IsClosedWalk, IsOdd, IsOddWalk}
+use Rattle.row_model.specs.Graph.{pair}
+use Rattle.row_model.specs.Cycles.{first_pair, LeadTo, IsClosedWalk, IsOdd, IsOddWalk}
 use Rattle.row_model.proofs.CycleLaws.{first_pushed, first_drop, first_take, lead_push, lead_take, lead_drop, lead_line, closed_from, closed_leads}
-use Rattle.std.proofs.lemmas.Option.{same_Some, slice_get_within}
+use Rattle.std.proofs.lemmas.Option.{slice_get_within}
 use Rattle.std.proofs.lemmas.List.{length-append, length-take-le, length-drop, drop_all}
 
 -- the first pair of a walk

@@ -1,6 +1,6 @@
-use Rattle.std.proofs.Common.{◌≡◌, inl, inr, sym, subst, List}
+use Rattle.std.proofs.Common.{inl, inr, sym, subst, List}
 use Rattle.row_model.specs.declared.graph.Line.{Line}
-use Rattle.odd_cycle.specs.Short.{flips, IsStraight, IsFolded}
+use Rattle.odd_cycle.specs.Short.{IsStraight}
 use Rattle.odd_cycle.proofs.RisingLaws.{apart_by_columns}
 use Rattle.odd_cycle.proofs.folded.is_folded.Goals as goal
 
