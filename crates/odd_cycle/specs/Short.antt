@@ -1,5 +1,5 @@
 -- How few flips and lines an odd cycle needs.
-use Rattle.std.specs.Prelude.{◌≡◌, ◌≢◌, ◌⊎◌, ℕ, ◌+◌, ◌-◌, ◌*◌, ◌≤◌, nat_lt, if◌then◌else◌, Bool, true, false, List, [], ◌∷◌, ◌++◌, length, sum_by, AllPairs, Contains}
+use Rattle.std.specs.Prelude.{◌≡◌, ◌≢◌, ◌⊎◌, ℕ, ◌+◌, ◌-◌, ◌*◌, ◌≤◌, nat_lt, if◌then◌else◌, Bool, true, false, List, [], ◌∷◌, ◌++◌, length, AllPairs, Contains}
 use Rattle.row_model.specs.declared.graph.Pair.{Pair}
 use Rattle.row_model.specs.declared.graph.Line.{Line}
 use Rattle.row_model.specs.declared.graph.Why.{Why}
@@ -13,7 +13,8 @@ flip_of (Row k) = 0
 
 -- the number of lines that are flips
 abbrev pub flips : List Line → ℕ
-flips lines = sum_by (λ line. flip_of line.why) lines
+flips [] = 0
+flips (line ∷ lines) = flip_of line.why + flips lines
 
 -- at most one line is a flip, and there are at most c(c - 1)/2 + 1 lines
 pub record IsShort (c : ℕ) (lines : List Line) : Type 0 where
