@@ -79,8 +79,8 @@ fn one_judgement_of_an_order(rt: HostRuntime) -> Result<(), Fail> {
     Ok(())
 }
 
-// The whole ring, the five parts without one row, and no more: four of the parts show that their row is needed, and give
-// its order.
+// The whole ring, the five parts without one row, and no more: four of the parts show that their row is needed, and
+// give its order.
 #[test]
 fn six_judgements_of_a_ring_of_five(rt: HostRuntime) -> Result<(), Fail> {
     let mut m = chain(rt.alloc())?;
