@@ -1,11 +1,12 @@
 #!/usr/bin/env python3
-"""Measures how the time of `solve`, `check` and `extend` grows with the size of a matrix, and prints an exponent for each series and command.
+"""Measures how the time of `solve`, `check`, `extend` and `core` grows with the size of a matrix, and prints an exponent for each series and command.
 
 Usage: bench/growth.py     after `./pq` has built the program
 
 The size is the number of columns, rows and ones together; the time is the processor's, the least of some rounds, less that of a file of
 one column. The exponent is the slope of the logarithm of the time over that of the size: 1 is linear. `check` judges what `solve` wrote;
-`extend` takes the first half of the rows as its base and the others as further rows, so on a no its last row alone is refused.
+`extend` takes the first half of the rows as its base and the others as further rows, so on a no its last row alone is refused. `core` needs all
+rows of the no.
 Files are made from a fixed seed in a temporary folder. Points below a millisecond count for nothing.
 """
 
@@ -82,7 +83,7 @@ def calls(folder, columns, rows, status):
     with open(verdict, "wb") as stream:
         subprocess.run([PROGRAM, "solve", "rows", file], stdout=stream, check=False)
     return {"solve": (["solve", "rows", file], status), "check": (["check", "rows", file, verdict], 0),
-            "extend": (["extend", "rows", base, further], 0)}
+            "extend": (["extend", "rows", base, further], 0), "core": (["core", "rows", file], 1 - status)}
 
 
 def seconds(folder, columns, rows, status):

@@ -33,7 +33,7 @@ MOST_SECONDS = 5
 MOST_GROWTH = 2.2
 # How long `core` may take where it needs each row of a ring, and how much longer than `solve` it may take where it needs three rows of very many,
 # beside the start of two programs.
-RING_SECONDS = 1
+RING_SECONDS = 2
 MOST_SOLVES = 3
 START_SECONDS = 0.02
 MOST_TIMES = 12

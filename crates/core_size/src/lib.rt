@@ -1,9 +1,9 @@
 //! A core over c columns has at most 2c - 3 rows.
 //!
-//! Each row of a core narrows the orders that those before it leave, else the others could do without it. And a tree can
-//! be narrowed no more often than its slack says, which is 2c - 3 for the universal tree of c columns: each reduction by a
-//! template of Booth and Lueker (1976) that changes more than the turn of nodes lets the slack fall. The functions here
-//! have no body: their contracts are the laws.
+//! Each row of a core narrows the orders that those before it leave, else the others could do without it. And a tree
+//! can be narrowed no more often than its slack says, which is 2c - 3 for the universal tree of c columns: each
+//! reduction by a template of Booth and Lueker (1976) that changes more than the turn of nodes lets the slack fall. The
+//! functions here have no body: their contracts are the laws.
 #![tactic(auto)]
 
 ghost use Rattle.core_size.specs.Laws.{NarrowsLaw, CoreSizeLaw};

@@ -16,8 +16,8 @@ use std::alloc::Global;
 pub struct Blamed {
     /// The rows, from 1, in strictly ascending order.
     pub rows: Vec<u32>,
-    /// How many of the first of them are still to be left out, to see whether they are needed. The others are needed, if
-    /// the judge goes through the rows in turn.
+    /// How many of the first of them are still to be left out, to see whether they are needed. The others are needed,
+    /// if the judge goes through the rows in turn.
     pub untried: usize,
     /// The lines of the cycle.
     pub lines: Lines,

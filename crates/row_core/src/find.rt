@@ -43,8 +43,10 @@ pub fn find_core<J: Judge, L: Ledger>(
     steps: &mut Steps<L>,
 ) -> Result<Cored, NoMemory>
     ensures cored { IfOk result (IsCored m.now) }
-    ensures asked { IsTrue J.in_turn → IfOk result (λ found. J.asked judge.new ≤ J.asked judge.old + judgements_of found) }
-    ensures most { IfOk result (λ _. J.asked judge.new ≤ J.asked judge.old + ((length m.now.rows + 1) * (2 * length m.now.rows + 1) + 1)) }
+    ensures asked { IsTrue J.in_turn
+        → IfOk result (λ found. J.asked judge.new ≤ J.asked judge.old + judgements_of found) }
+    ensures most { IfOk result (λ _. J.asked judge.new
+        ≤ J.asked judge.old + ((length m.now.rows + 1) * (2 * length m.now.rows + 1) + 1)) }
 {
     blame_law();
     match judge.judge(alloc, m, steps)? {
@@ -81,8 +83,11 @@ fn core_among<J: Judge, L: Ledger>(
     requires blamed { IsBlamed m.now blamed }
     requires needed { IsTrue J.in_turn → AreNeeded m.now blamed.rows.items blamed.untried }
     ensures core { IfOk result (TellsCore m.now) }
-    ensures asked { IsTrue J.in_turn → IfOk result (λ core. J.asked judge.new + (length blamed.rows.items - blamed.untried) ≤ J.asked judge.old + 2 * length core.rows + 1) }
-    ensures most { IfOk result (λ _. J.asked judge.new ≤ J.asked judge.old + (length blamed.rows.items + 1) * (2 * length blamed.rows.items + 1)) }
+    ensures asked { IsTrue J.in_turn
+        → IfOk result (λ core. J.asked judge.new + (length blamed.rows.items - blamed.untried)
+        ≤ J.asked judge.old + 2 * length core.rows + 1) }
+    ensures most { IfOk result (λ _. J.asked judge.new
+        ≤ J.asked judge.old + (length blamed.rows.items + 1) * (2 * length blamed.rows.items + 1)) }
 {
     blame_law();
     let mut blamed = blamed;

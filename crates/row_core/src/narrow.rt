@@ -10,7 +10,7 @@ use row_model::{Lines, Matrix, NoMemory};
 use std::alloc::Global;
 use step_count::{Ledger, Steps};
 
-/// Rows that are to blame, of which each was left out.
+/// Rows that are to blame, of which none is still to be left out.
 #[derive(Drop)]
 pub struct Narrowed {
     /// The rows, from 1, in strictly ascending order.
@@ -41,7 +41,8 @@ pub fn all_tried<J: Judge, L: Ledger>(
     ensures needed { IsTrue J.in_turn
         → AreNeeded m.now blamed.rows.items blamed.untried
         → IfOk result (λ found. AreNeeded m.now found.rows.items 0) }
-    ensures asked { IfOk result (λ found. J.asked judge.new + (length blamed.rows.items - blamed.untried) ≤ J.asked judge.old + length found.rows.items + 1) }
+    ensures asked { IfOk result (λ found. J.asked judge.new + (length blamed.rows.items - blamed.untried)
+        ≤ J.asked judge.old + length found.rows.items + 1) }
 {
     let mut blamed = blamed;
     let mut told = 0;

@@ -89,7 +89,9 @@ fn yes_text(
     requires within { IsInstance (instance_value instance.now) }
     requires matrix { (kind : Kind) × (instance_value instance.now ≡ plain kind m.now) }
     requires orders { IsTreeOfOrders m.now tree }
-    ensures { IfOk result (λ text. (kind : Kind) → instance_value instance.now ≡ plain kind m.now → IsVerdictReply (plain kind m.now) 0 text.items) }
+    ensures { IfOk result (λ text. (kind : Kind)
+        → instance_value instance.now ≡ plain kind m.now
+        → IsVerdictReply (plain kind m.now) 0 text.items) }
 {
     exact_law();
     leaves_law();
@@ -100,8 +102,8 @@ fn yes_text(
     Ok(told(alloc, &verdict)?.text)
 }
 
-// Each row of a matrix has no other columns than those of the matrix. Nothing is computed: the rows are gone through for
-// what is known of each.
+// Each row of a matrix has no other columns than those of the matrix. Nothing is computed: the rows are gone through
+// for what is known of each.
 fn all_within(m: &Matrix)
     ensures { All (IsWithin m.now.columns) m.now.rows }
 {

@@ -1,0 +1,95 @@
+// A solver that counts how often it is asked, and what a core costs it.
+ghost use Rattle.std.specs.Prelude.{◌≡◌, ◌<◌, length, IfOk};
+ghost use Rattle.row_core.specs.Cored.{IsCored};
+
+use c1p_solve::{Answered, Solved, answer};
+use row_core::{Cored, find_core};
+use row_judge::{Judge, Judged};
+use row_model::{Matrix, NoMemory};
+use std::alloc::Global;
+use std::test::Fail;
+use step_count::{Blank, Brand, Ledger, Steps};
+
+#[derive(Drop)]
+struct Counting {
+    asked: u64,
+}
+
+impl Judge for Counting {
+    ghost use Rattle.std.specs.Prelude.{true};
+
+    ghost asked = { λ s. s.asked };
+
+    ghost in_turn = { true };
+
+    fn judge<L: Ledger>(
+        &mut self,
+        alloc: Global,
+        m: &Matrix,
+        steps: &mut Steps<L>,
+    ) -> Result<Judged, NoMemory> {
+        self.asked = self.asked.saturating_add(1);
+        let Answered { solved, .. } = answer(alloc, m, steps)?;
+        match solved {
+            Solved::Yes(tree) => Ok(Judged::Yes(tree)),
+            Solved::No(cycle) => Ok(Judged::No(cycle)),
+        }
+    }
+}
+
+fn counted<L: Ledger>(
+    alloc: Global,
+    judge: &mut Counting,
+    m: &Matrix,
+    blank: Blank,
+) -> Result<Cored, NoMemory>
+    requires name { blank.name ≡ L.name }
+    requires parts { blank.parts ≡ L.parts }
+    requires some { 0 < blank.parts }
+{
+    let mut steps = Steps::<L>::new(blank);
+    find_core(alloc, judge, m, &mut steps)
+}
+
+// What is found of a matrix, and how often the solver was asked.
+fn found(alloc: Global, m: &Matrix) -> Result<(Cored, u64), NoMemory> {
+    let mut judge = Counting { asked: 0 };
+    let cored = counted::<Brand>(alloc, &mut judge, m, Blank::new(1))?;
+    Ok((cored, judge.asked))
+}
+
+// A row of each two neighbours of five columns.
+fn chain(alloc: Global) -> Result<Matrix, NoMemory>
+    ensures { IfOk result (λ m. (m.columns ≡ 5) × (length m.rows ≡ 4)) }
+{
+    let mut m = Matrix::new(alloc, 5)?;
+    m.push_row(&[1, 2])?;
+    m.push_row(&[2, 3])?;
+    m.push_row(&[3, 4])?;
+    m.push_row(&[4, 5])?;
+    Ok(m)
+}
+
+#[test]
+fn one_judgement_of_an_order(rt: HostRuntime) -> Result<(), Fail> {
+    let m = chain(rt.alloc())?;
+    let (cored, asked) = found(rt.alloc(), &m)?;
+    assert!(rt; matches!(&cored, Cored::Has(_)));
+    assert_eq!(rt; asked, 1);
+    Ok(())
+}
+
+// The whole ring, the five parts without one row, and no more: four of the parts show that their row is needed, and
+// give its order.
+#[test]
+fn six_judgements_of_a_ring_of_five(rt: HostRuntime) -> Result<(), Fail> {
+    let mut m = chain(rt.alloc())?;
+    m.push_row(&[1, 5])?;
+    let (cored, asked) = found(rt.alloc(), &m)?;
+    match &cored {
+        Cored::Core(core) => assert_eq!(rt; core.rows().len(), 5),
+        Cored::Has(_) => assert!(rt; false),
+    }
+    assert_eq!(rt; asked, 6);
+    Ok(())
+}
