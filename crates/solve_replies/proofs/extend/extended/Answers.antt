@@ -1,4 +1,4 @@
-use Rattle.std.proofs.Common.{◌≡◌, ℕ, List, Result, Ok, Err, inl, sym, subst}
+use Rattle.std.proofs.Common.{◌≡◌, Result, Ok, Err, inl, sym, subst}
 use Rattle.std.specs.Prelude.{IfOk}
 use Rattle.std.proofs.lemmas.Result.{IfOk-weaker}
 use Rattle.column_order.specs.Orders.{HasValidOrder}
