@@ -83,7 +83,6 @@ pub fn run_both<L: Ledger>(
     if !is_open || !counted.may_fill || !pace.is_next() {
         return counted.settled;
     }
-    let _ = run(arena, row, entries, steps);
     let settled = run(arena, row, entries, steps);
     pace.note(settled);
     settled
