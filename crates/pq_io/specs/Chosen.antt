@@ -1,5 +1,5 @@
 -- What is chosen of the files of the system.
-use Rattle.std.specs.Prelude.{ℕ, Bool, true, false, List, Option, None, Some}
+use Rattle.std.specs.Prelude.{ℕ, Bool, true, false, List, [], Option, None, Some}
 use Rattle.pq_io.specs.Source.{Source, StandardInput, FileOf}
 use Rattle.pq_io.specs.declared.chosen.Chosen.{Chosen}
 use Rattle.pq_io.specs.declared.chosen.Chosen.TheVariants as chosen
@@ -19,5 +19,11 @@ source_chosen (chosen.File opened) = Some (FileOf opened.name.bytes)
 -- what the reader of the chosen file tells is left of it
 abbrev pub left_of : {File Reader : Type 0} → (File → Option (List ℕ)) → (Reader → Option (List ℕ)) → Chosen File Reader → Option (List ℕ)
 left_of file reader chosen.Nothing = None
-left_of file reader (chosen.Input input) = reader input
-left_of file reader (chosen.File opened) = file opened.file
+left_of file reader (chosen.Input begun) = reader begun.reader
+left_of file reader (chosen.File opened) = file opened.begun.reader
+
+-- the bytes that the chosen file gave since it was chosen
+abbrev pub given_of : {File Reader : Type 0} → Chosen File Reader → List ℕ
+given_of chosen.Nothing = []
+given_of (chosen.Input begun) = begun.given.bytes
+given_of (chosen.File opened) = opened.begun.given.bytes

@@ -1,9 +1,10 @@
 // What a name stands for: standard input, or a file of the system.
-ghost use Rattle.std.specs.Prelude.{◌≡◌, Some, IfOk};
+ghost use Rattle.std.specs.Prelude.{◌≡◌, [], Some, IfOk};
 ghost use Rattle.pq_io.specs.Source.{source_of};
-ghost use Rattle.pq_io.specs.Chosen.{source_chosen};
+ghost use Rattle.pq_io.specs.Chosen.{source_chosen, given_of};
 
 use crate::ChooseError;
+use crate::begun::Begun;
 use crate::history::Noted;
 use std::fs;
 use std::io::{self, ErrorKind};
@@ -13,14 +14,14 @@ use std::rt::Files;
 #[derive(Drop)]
 pub enum Chosen<File, Reader> {
     Nothing,
-    Input(Reader),
+    Input(Begun<Reader>),
     File(Opened<File>),
 }
 
-/// A file, and the name by which it was opened.
+/// A file that was begun, and the name by which it was opened.
 #[derive(Drop)]
 pub struct Opened<File> {
-    pub file: File,
+    pub begun: Begun<File>,
     name: Noted,
 }
 
@@ -33,10 +34,11 @@ pub fn choose_by<R: Files + Input>(
     runtime: &R,
     name: &str,
 ) -> Result<Chosen<R::File, R::Reader>, ChooseError>
-    ensures { IfOk result (λ chosen. source_chosen chosen ≡ Some (source_of name.now)) }
+    ensures source { IfOk result (λ chosen. source_chosen chosen ≡ Some (source_of name.now)) }
+    ensures unread { IfOk result (λ chosen. given_of chosen ≡ []) }
 {
     if name == "-" {
-        return Ok(Chosen::Input(runtime.reader()));
+        return Ok(Chosen::Input(Begun::of(runtime.reader())));
     }
     match open_by(runtime, name) {
         Ok(opened) => Ok(Chosen::File(opened)),
@@ -47,10 +49,11 @@ pub fn choose_by<R: Files + Input>(
 
 // Opens the file of a name, and notes the name. That these are one and the same no clause of the system's call can say.
 fn open_by<R: Files>(runtime: &R, name: &str) -> io::Result<Opened<R::File>>
-    ensures { IfOk result (λ opened. opened.name.bytes ≡ name.now) }
+    ensures name { IfOk result (λ opened. opened.name.bytes ≡ name.now) }
+    ensures unread { IfOk result (λ opened. opened.begun.given.bytes ≡ []) }
 {
     Ok(Opened {
-        file: fs::open(runtime, name)?,
+        begun: Begun::of(fs::open(runtime, name)?),
         name: Noted::of(name.as_bytes()),
     })
 }

@@ -10,8 +10,10 @@
 //! that proofs alone see.
 #![tactic(auto)]
 
+mod begun;
 mod chosen;
 mod error;
+mod flushed;
 mod history;
 mod mem_shelf;
 mod mem_sink;

@@ -1,5 +1,5 @@
 // The files of the system.
-ghost use Rattle.std.specs.Prelude.{◌≡◌, [], None, Some, false, length, IsTrue, OnOk, OnErr, ◌<◌};
+ghost use Rattle.std.specs.Prelude.{◌≡◌, [], ◌++◌, None, Some, false, length, take, IsTrue, IfOk, OnOk, OnErr, ◌<◌};
 ghost use Rattle.std.specs.Io.{ReadsAtMost};
 ghost use Rattle.pq_io.specs.Faults.{HasCause, ChangedOnlyIfFailed, count_after};
 ghost use Rattle.std.specs.Io.KnownBytes.{ReadConsumes};
@@ -9,7 +9,6 @@ ghost use Rattle.pq_io.specs.Taken.{Asks, HandsOut};
 
 use crate::chosen::{Chosen, choose_by};
 use crate::history::History;
-use crate::retried::read_retried;
 use crate::{ChooseError, Failed, Shelf};
 use std::alloc::Global;
 use std::io::Read;
@@ -19,7 +18,7 @@ use std::rt::Files;
 /// The files of the system, of which `-` is standard input. What they hold nobody can tell beforehand.
 ///
 /// Contracts see it as what its reads handed out for each name asked for, whether a file is chosen, where its bytes come
-/// from, what it has left where its own type tells it, and the count of faults.
+/// from, what it gave since it was chosen, what it has left where its own type tells it, and the count of faults.
 #[derive(Drop)]
 pub struct RealShelf<R: Files + Input> {
     runtime: R,
@@ -33,15 +32,15 @@ impl<R: Files + Input> Model for RealShelf<R> {
 
     ghost Value = { Asked };
 
-    ghost use Rattle.pq_io.specs.Chosen.{is_chosen, source_chosen, left_of};
+    ghost use Rattle.pq_io.specs.Chosen.{is_chosen, source_chosen, given_of, left_of};
 
-    ghost view = { λ shelf. record { taken = shelf.history.files; has_chosen = is_chosen shelf.chosen; source = source_chosen shelf.chosen; left = left_of R.File.remaining R.Reader.remaining shelf.chosen; faults = shelf.faults } };
+    ghost view = { λ shelf. record { taken = shelf.history.files; has_chosen = is_chosen shelf.chosen; source = source_chosen shelf.chosen; given = given_of shelf.chosen; left = left_of R.File.remaining R.Reader.remaining shelf.chosen; faults = shelf.faults } };
 }
 
 impl<R: Files + Input> RealShelf<R> {
     /// A shelf that has asked for no file, with no faults so far.
     pub fn new(runtime: R) -> Self
-        ensures { result ≡ record { taken = []; has_chosen = false; source = None; left = None; faults = 0 } }
+        ensures { result ≡ record { taken = []; has_chosen = false; source = None; given = []; left = None; faults = 0 } }
     {
         RealShelf {
             runtime,
@@ -73,6 +72,7 @@ impl<R: Files + Input + Drop> Shelf for RealShelf<R> {
         ensures told { ChangedOnlyIfNotFound self.old.faults self.new.faults result }
 
         ensures source { OnOk result (self.new.source ≡ Some (source_of name.now)) }
+        ensures unread { OnOk result (self.new.given ≡ []) }
         ensures count { self.new.faults ≡ count_after_choice self.old.faults result }
     {
         self.chosen = Chosen::Nothing;
@@ -102,13 +102,15 @@ impl<R: Files + Input + Drop> Shelf for RealShelf<R> {
         ensures taken { HandsOut self.old.taken self.new.taken result buf.new }
 
         ensures given { ReadConsumes self.old.left self.new.left result buf.new }
+        ensures noted { IfOk result (λ n. self.new.given ≡ self.old.given ++ take n buf.new) }
+        ensures unnoted { OnErr result (self.new.given ≡ self.old.given) }
         ensures source { self.new.source ≡ self.old.source }
         ensures count { self.new.faults ≡ count_after self.old.faults result }
     {
         let outcome = match &mut self.chosen {
             Chosen::Nothing => unreachable!(),
-            Chosen::Input(reader) => read_retried(reader, buf),
-            Chosen::File(opened) => read_retried(&mut opened.file, buf),
+            Chosen::Input(begun) => begun.read(buf),
+            Chosen::File(opened) => opened.begun.read(buf),
         };
         match outcome {
             Ok(n) => {

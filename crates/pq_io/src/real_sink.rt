@@ -1,12 +1,12 @@
 // Standard output and standard error.
 ghost use Rattle.std.specs.Prelude.{◌≡◌, ◌<◌, [], Some, length, take, IfOk, OnOk};
 ghost use Rattle.std.specs.Io.{WritesAtMost};
-ghost use Rattle.std.specs.Io.KnownBytes.{Appends, Keeps, WriteAppends};
+ghost use Rattle.std.specs.Io.KnownBytes.{Appends, WriteAppends};
 ghost use Rattle.pq_io.specs.Faults.{HasCause, ChangedOnlyIfFailed, count_after};
-ghost use Rattle.pq_io.specs.Sink.{TakesSome};
+ghost use Rattle.pq_io.specs.Sink.{TakesSome, AppendsPrefix};
 
+use crate::flushed::Flushed;
 use crate::history::Noted;
-use crate::retried::{flush_retried, write_retried};
 use crate::{Failed, Sink};
 use std::io::{self, Stderr, Stdout, Write};
 use std::marker::Model;
@@ -17,9 +17,8 @@ use std::marker::Model;
 /// and the count of its faults. The streams of the system tell none.
 #[derive(Drop)]
 pub struct RealSink<W: Write> {
-    stream: W,
+    stream: Flushed<W>,
     sent: Noted,
-    unflushed: Noted,
     faults: u64,
 }
 
@@ -28,7 +27,7 @@ impl<W: Write> Model for RealSink<W> {
 
     ghost Value = { Stream };
 
-    ghost view = { λ sink. record { sent = sink.sent.bytes; unflushed = sink.unflushed.bytes; contents = W.contents sink.stream; faults = sink.faults } };
+    ghost view = { λ sink. record { sent = sink.sent.bytes; unflushed = sink.stream.waiting.bytes; contents = W.contents sink.stream.stream; faults = sink.faults } };
 }
 
 impl<W: Write> RealSink<W> {
@@ -39,9 +38,8 @@ impl<W: Write> RealSink<W> {
         ensures faults { result.faults ≡ 0 }
     {
         RealSink {
-            stream,
+            stream: Flushed::over(stream),
             sent: Noted::new(),
-            unflushed: Noted::new(),
             faults: 0,
         }
     }
@@ -50,24 +48,13 @@ impl<W: Write> RealSink<W> {
     fn write_through(&mut self, piece: &[u8]) -> io::Result<usize>
         ensures bound { WritesAtMost result piece.now }
         ensures bytes { IfOk result (λ n. Appends self.old.contents self.new.contents (take n piece.now)) }
+        ensures part { AppendsPrefix self.old.contents self.new.contents piece.now }
         ensures flushed { OnOk result (self.new.unflushed ≡ []) }
         ensures kept { self.new ≡ record self.old { unflushed = self.new.unflushed; contents = self.new.contents } }
     {
-        let n = write_retried(&mut self.stream, piece)?;
-        self.unflushed.add(&piece[..n]);
-        self.flush()?;
+        let n = self.stream.write(piece)?;
+        self.stream.flush()?;
         Ok(n)
-    }
-
-    // Has the stream pass on what was written since the last flush. That its call does so no clause of it can say.
-    fn flush(&mut self) -> io::Result<()>
-        ensures bytes { Keeps self.old.contents self.new.contents }
-        ensures flushed { OnOk result (self.new.unflushed ≡ []) }
-        ensures kept { self.new ≡ record self.old { unflushed = self.new.unflushed; contents = self.new.contents } }
-    {
-        flush_retried(&mut self.stream)?;
-        self.unflushed = Noted::new();
-        Ok(())
     }
 }
 
@@ -97,8 +84,8 @@ impl<W: Write> Sink for RealSink<W> {
     ghost faults = { λ sink. sink.faults };
 
     /// The stream took the bytes that are told, where it tells its own. The count rises by one at each failure, and a
-    /// write that a signal interrupted is made again. Where the flush fails the stream may have taken bytes, which the
-    /// sink doesn't tell.
+    /// write that a signal interrupted is made again. Where the flush fails the stream may have taken a first part of the
+    /// piece, which the sink doesn't tell.
     fn write(&mut self, piece: &[u8]) -> Result<usize, Failed>
         requires { 0 < length piece.now }
         ensures bound { IfOk result (TakesSome piece.now) }
@@ -107,6 +94,7 @@ impl<W: Write> Sink for RealSink<W> {
         ensures told { ChangedOnlyIfFailed self.old.faults self.new.faults result }
 
         ensures sent { IfOk result (λ n. Appends self.old.contents self.new.contents (take n piece.now)) }
+        ensures part { AppendsPrefix self.old.contents self.new.contents piece.now }
         ensures flushed { OnOk result (self.new.unflushed ≡ []) }
         ensures count { self.new.faults ≡ count_after self.old.faults result }
     {
