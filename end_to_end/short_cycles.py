@@ -11,7 +11,7 @@ from sessions import cycle_lines
 
 GROUPS = 20
 # The cycles of a group that each of the three commands prints.
-CYCLES = 40
+CYCLES = 50
 
 
 def drawn_rows(rng, columns, count):

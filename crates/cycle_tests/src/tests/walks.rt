@@ -163,6 +163,8 @@ fn flip(a: u32, b: u32) -> Line {
 fn lines_that_are_folded(rt: HostRuntime) -> Result<(), Fail> {
     let folded = [row_line(1, 2, 3), row_line(2, 3, 1), flip(2, 1)];
     assert!(rt; is_folded(rt.alloc(), &folded)?);
+    let falling = [row_line(3, 2, 1), row_line(2, 1, 3), flip(1, 3)];
+    assert!(rt; is_folded(rt.alloc(), &falling)?);
     let turned = [row_line(1, 2, 3), row_line(2, 3, 1), row_line(3, 2, 1)];
     assert!(rt; !is_folded(rt.alloc(), &turned)?);
     let flips = [row_line(1, 2, 3), flip(2, 3), row_line(3, 1, 1), flip(2, 1)];
