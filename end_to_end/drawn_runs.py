@@ -6,6 +6,8 @@ KINDS = ["matrix", "circular", "rows", "table", "clones", "convex", "doubly", "p
 PLAIN = ["matrix", "rows", "table"]
 JUNK = b"01 2\n\t,\r\xff([x"
 SIZES = (1, 6)
+# A run whose reply is longer than the room that is tried first.
+LONG = (["list", "rows", "1", "2000"], b"2000\n", b"")
 
 
 def size(draw):

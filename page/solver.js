@@ -1,7 +1,8 @@
 // Runs of the solver, a WebAssembly module without imports. Each run has an instance of its own: its memory goes with it.
 "use strict";
 
-const LINE_ROOM = 64, FIRST_ROOM = 65536, MORE = 16;
+// A reply that is longer makes another run, with more room; few are.
+const LINE_ROOM = 64, FIRST_ROOM = 1 << 24, MORE = 16;
 
 // What runs the solver of a module: `run(words, first, second)` gives the status, the reply as bytes, and the line.
 function solverOf(module) {
