@@ -8,9 +8,10 @@ import re
 import subprocess
 import sys
 import tempfile
+import threading
 
 from companion import in_r
-from drawn_runs import LONG, runs
+from drawn_runs import LONG, deep_runs, runs
 from program import HOME, PROGRAM
 from streams import difference
 
@@ -21,6 +22,8 @@ from pqparts.library import FIRST_ROOM, POINTERS, Bytes, Library, Room, bytes_of
 from pqparts.program import Calls  # noqa: E402
 
 SEED, RUNS = 45, 2000
+# The stack that a thread has to have, as pq.h says.
+STACK = 2 << 20
 
 
 def by_program(words, first, second, folder):
@@ -60,12 +63,15 @@ def long_problems(library):
 
 
 def thread_problems(library):
-    """The same runs by several threads at a time, a library's call beside another."""
-    drawn = runs(SEED + 1, RUNS, lambda words, first: by_library(library, words, first)[1])
+    """The same runs by several threads at a time, a library's call beside another, on the stack that pq.h asks for."""
+    drawn = [*runs(SEED + 1, RUNS, lambda words, first: by_library(library, words, first)[1]), *deep_runs()]
     wanted = [library.ask(*one) for one in drawn]
+    before = threading.stack_size(STACK)
     with concurrent.futures.ThreadPoolExecutor(8) as pool:
-        for number, (one, other) in enumerate(zip(wanted, pool.map(lambda one: library.ask(*one), drawn))):
-            yield f"library in threads, run {number}", difference("answer", one, other)
+        answers = list(pool.map(lambda one: library.ask(*one), drawn))
+    threading.stack_size(before)
+    for number, (one, other) in enumerate(zip(wanted, answers)):
+        yield f"library in threads, run {number}", None if one == other else f"{drawn[number]}: {one} and {other}"[:2000]
 
 
 def answered(library, words, reply_room, line_room):

@@ -6,7 +6,13 @@ const until = async (test) => {
   for (let turn = 0; turn < 1200 && !test(); turn++) await pause(50);
 };
 const isIdle = () => $("go").disabled === false && !$("said").textContent.endsWith("…");
-const seen = () => ({ said: $("said").textContent, answer: $("answer").innerText, pictures: [...document.querySelectorAll("#answer svg")].map((one) => one.outerHTML) });
+let ends = 0;
+const terminate = Worker.prototype.terminate;
+Worker.prototype.terminate = function () {
+  ends += 1;
+  terminate.call(this);
+};
+const seen = () => ({ isOpen: $("reading").open, said: $("said").textContent, answer: $("answer").innerText, pictures: [...document.querySelectorAll("#answer svg")].map((one) => one.outerHTML) });
 
 // The answer after a click on the button.
 async function answered() {
@@ -34,8 +40,25 @@ async function savedFiles() {
   return Object.fromEntries(await Promise.all(links.map(async (one) => [one.download, await (await fetch(one.href)).text()])));
 }
 
+// What answers runs in a worker, made of the page's own parts.
+function answering({ data: { solver, runs } }) {
+  const run = solverOf(new WebAssembly.Module(solver)), bytes = (text) => Uint8Array.from(text, (one) => one.charCodeAt(0));
+  const latin = (found) => Array.from(found, (one) => String.fromCharCode(one)).join("");
+  postMessage(runs.map(([words, first, second]) => {
+    const { status, reply, line } = run(words, bytes(first), bytes(second));
+    return [status, latin(reply), line];
+  }));
+}
+
+const inWorker = (runs) => new Promise((done, failed) => {
+  const own = new Worker(URL.createObjectURL(new Blob([$("parts").textContent, `\nonmessage = ${answering};`], { type: "text/javascript" })));
+  own.onmessage = ({ data }) => done(data);
+  own.onerror = (event) => failed(event.message);
+  own.postMessage({ solver, runs });
+});
+
 async function tried(run) {
-  const found = { unsaid: await answered() };
+  const found = { runs: await inWorker(run.runs), unsaid: await answered() };
   written($("text").value, "columns");
   found.example = await answered();
   found.saved = await savedFiles();
@@ -48,8 +71,9 @@ async function tried(run) {
   $("go").click();
   await until(() => !$("stop").disabled);
   await pause(20);
+  ends = 0;
   $("stop").click();
-  found.stopped = { ...seen(), isReady: !$("go").disabled };
+  found.stopped = { ...seen(), isReady: !$("go").disabled, ends };
   written(run.plain, null);
   found.plain = await answered();
   return found;
