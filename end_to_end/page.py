@@ -12,7 +12,7 @@ import tempfile
 from xml.etree import ElementTree
 
 from drawn_runs import LONG, deep_runs, runs
-from drawn_tables import tables
+from drawn_tables import many_lines, tables
 from program import HOME
 from streams import difference
 
@@ -89,7 +89,7 @@ def in_node(folder, library):
         passed_over(["node"])
         return
     drawn = [*runs(SEED, RUNS, lambda words, first: library.ask(words, first)[1]), LONG]
-    found = tables(SEED, TABLES)
+    found = [*tables(SEED, TABLES), many_lines()]
     cases, answers = os.path.join(folder, "cases.json"), os.path.join(folder, "answers.json")
     with open(cases, "w", encoding="utf-8") as stream:
         json.dump({"runs": as_json(drawn), "deep": as_json(deep_runs()), "tables": [[content.decode("latin1"), how] for content, how in found]}, stream)
@@ -106,7 +106,7 @@ def in_node(folder, library):
     for number, (table, answer) in enumerate(zip(found, got["tables"])):
         answer.pop("judged", None)
         wanted = said_of(library.path, *table)
-        yield f"the page on table {number}", difference(f"what is said of {table}", wanted, answer)
+        yield f"the page on table {number}", None if wanted == answer else f"{table}: {wanted} and {answer}"[:4000]
     kinds = {("stop" if "stop" in one else one["answer"][0][:3]) for one in got["tables"]}
     yield "the drawn tables", difference("answers", {"stop", "Yes", "No:"}, kinds)
 
@@ -125,8 +125,14 @@ def distrust_problems(answers):
     yield "a judge who says no", difference("what is said", {True}, {line.startswith("the proof did not check: check ") for line in said})
 
 
-# A table whose lines contradict one another, and one whose answer takes some time.
-NO = "type,a,b,c,d\nP,1,1,,\nQ,,1,1,\nR,1,,1,\nS,,,1,1\n"
+# A table whose lines contradict one another; one for which each field of how it is read has a word; names that are no HTML here; a file of
+# pq; and one whose answer takes some time.
+NO = "type,a,b,c,d\nGr\u00fcn,1,1,,\nQ,,1,1,\nR,1,,1,\nS,,,1,1\n"
+READ = "Finds of 1960\ntype,x;a;b;c;d\nP,1;y;y;n;y\nQ,1;n;y;y;n\nR,1;n;?;y;n\nS,1;y;n;n;y\n"
+FIELDS = {"kind": "circular table", "header": "2", "separator": ";", "line-names": "first", "marks": "y, z", "absent": "n, ?", "drop": "d"}
+FIELDS_READ = {"kind": "circular", "order": "lines", "header": 2, "separator": ";", "lineNames": "first", "drop": ["d"],
+               "marks": {"present": ["y", "z"], "absent": ["n", "?"]}}
+HOSTILE = 'type,<img src=x onerror=ends=99>,"</title></svg><script>ends=99</script>",&lt;\n"<b>\'""",1,1,\n&amp;,,1,1\n'
 PLAIN = "3\n1 2\n2 3\n"
 
 
@@ -150,16 +156,21 @@ def received(listening):
         return None
 
 
+def text_of(value):
+    """A value as JSON that may stand within a script."""
+    return json.dumps(value).replace("<", "\\u003c")
+
+
 def driven(folder, address, drawn):
     """The page with the script in it that uses it, by its path."""
     with open(os.path.join(folder, "pq.html"), encoding="utf-8") as stream:
         text = stream.read()
     with open(os.path.join(HERE, "page_driver.js"), encoding="utf-8") as stream:
         driver = stream.read()
-    run = json.dumps({"no": NO, "plain": PLAIN, "long": long_rows(), "runs": as_json(drawn)}).replace("<", "\\u003c")
+    run = {"no": NO, "plain": PLAIN, "long": long_rows(), "runs": as_json(drawn), "read": READ, "fields": FIELDS, "hostile": HOSTILE}
     path = os.path.join(folder, "driven.html")
     with open(path, "w", encoding="utf-8") as stream:
-        stream.write(text.replace("</body>", f'<script id="run" type="text/plain" data-to="{address}">{run}</script><script>{driver}</script></body>'))
+        stream.write(text.replace("</body>", f'<script id="run" type="text/plain" data-to="{address}">{text_of(run)}</script><script>{driver}</script></body>'))
     return path
 
 
@@ -196,14 +207,17 @@ def seen_problems(found, library):
     how = {"kind": "rows", "order": "columns", "header": 1, "separator": None, "lineNames": None, "drop": [], "marks": {"present": [], "absent": []}}
     yield "a table without the way round", difference("said", "Say first which of the two are to be put in order: the columns or the lines.",
                                                       found["unsaid"]["said"])
-    for name, text in (("example", EXAMPLE), ("no", NO)):
-        wanted = said_of(library.path, text.encode(), how)
+    for name, text, read in (("example", EXAMPLE, how), ("no", NO, how), ("fields", READ, FIELDS_READ), ("hostile", HOSTILE, how)):
+        wanted = said_of(library.path, text.encode(), read)
         yield f"{name}: the answer", difference("said", wanted["answer"][0], found[name]["said"])
-        missing = [line for line in [*wanted["answer"][1:], *wanted["fixed"], *wanted["steps"]] if line not in found[name]["answer"]]
+        lines = [wanted["question"], *wanted["answer"][1:], *wanted["fixed"], *wanted["steps"], *wanted["notes"][1:], *wanted["warnings"]]
+        missing = [line for line in lines if line not in found[name]["answer"]]
         yield f"{name}: its sentences", difference("lines that are missing", [], missing)
         drawn = [taken_apart(one) for _, one in wanted["pictures"]]
         yield f"{name}: its pictures", difference("pictures", drawn, list(map(taken_apart, found[name]["pictures"])))
-    yield "the core by name", None if "Core 1: P, Q, R." in found["no"]["answer"] else found["no"]["answer"]
+    for line in ("Core 1: Gr\u00fcn, Q, R.", "R: contradicts Gr\u00fcn, Q", "no.csv: read as cp1252"):
+        yield f"of a no: {line}", None if line in found["no"]["answer"] else found["no"]["answer"]
+    yield "names that are no HTML", difference("runs of theirs", 0, found["hostile"]["ends"] // 99)
     yield "the judge's word", None if "no search: valid." in found["example"]["answer"] else found["example"]["answer"]
     yield from saved_problems(found["saved"], library)
     yield "a cell that is no mark", None if "'?'" in found["unread"]["said"] else found["unread"]["said"]

@@ -12,7 +12,10 @@ Worker.prototype.terminate = function () {
   ends += 1;
   terminate.call(this);
 };
-const seen = () => ({ isOpen: $("reading").open, said: $("said").textContent, answer: $("answer").innerText, pictures: [...document.querySelectorAll("#answer svg")].map((one) => one.outerHTML) });
+const seen = () => ({
+  ends, isOpen: $("reading").open, said: $("said").textContent, answer: $("answer").innerText,
+  pictures: [...document.querySelectorAll("#answer svg")].map((one) => one.outerHTML),
+});
 
 // The answer after a click on the button.
 async function answered() {
@@ -27,12 +30,23 @@ function written(text, order) {
   document.querySelectorAll("input[name=order]").forEach((one) => (one.checked = one.value === order));
 }
 
+// Drops a file with these bytes, each a character of the text.
 async function dropped(name, text, order) {
   const given = new DataTransfer();
-  given.items.add(new File([text], name));
+  given.items.add(new File([Uint8Array.from(text, (one) => one.charCodeAt(0))], name));
   document.querySelectorAll("input[name=order]").forEach((one) => (one.checked = one.value === order));
   document.dispatchEvent(new DragEvent("drop", { dataTransfer: given }));
   await until(() => $("from").textContent === `from ${name}`);
+}
+
+// The answer where each field of how the table is read has a word, which are taken away again.
+async function withFields(fields, text, order) {
+  const before = Object.keys(fields).map((id) => [id, $(id).value]);
+  for (const [id, value] of Object.entries(fields)) $(id).value = value;
+  written(text, order);
+  const found = await answered();
+  for (const [id, value] of before) $(id).value = value;
+  return found;
 }
 
 async function savedFiles() {
@@ -64,6 +78,9 @@ async function tried(run) {
   found.saved = await savedFiles();
   await dropped("no.csv", run.no, "columns");
   found.no = await answered();
+  found.fields = await withFields(run.fields, run.read, "lines");
+  written(run.hostile, "columns");
+  found.hostile = await answered();
   written("type,a,b\nP,1,?\nQ,1,1\n", "columns");
   found.unread = await answered();
   $("kind").value = "file of rows";
@@ -73,7 +90,7 @@ async function tried(run) {
   await pause(20);
   ends = 0;
   $("stop").click();
-  found.stopped = { ...seen(), isReady: !$("go").disabled, ends };
+  found.stopped = { ...seen(), isReady: !$("go").disabled };
   written(run.plain, null);
   found.plain = await answered();
   return found;
