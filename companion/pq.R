@@ -41,12 +41,12 @@ pq_by_library <- function(path, words, files) {
   if (any(grepl("[\r\n]", words))) return(list(status = 2L, reply = raw(), line = "pq: words"))
   text <- charToRaw(paste0(c(words, c("1", "2")[seq_along(files)]), "\n", collapse = ""))
   given <- c(files, list(raw(), raw()))[1:2]
-  room <- 65536
+  room <- 2^20
   repeat {
     found <- .C("pq_r_run", text, as.double(length(text)), given[[1]], as.double(length(given[[1]])), given[[2]],
                 as.double(length(given[[2]])), reply = raw(room), written = as.double(room), line = raw(64), told = as.double(64), status = 0L)
     if (found$status != 5L) break
-    room <- room * 16
+    room <- room * 8
   }
   list(status = found$status, reply = found$reply[seq_len(found$written)], line = sub("\n$", "", rawToChar(found$line[seq_len(found$told)])))
 }

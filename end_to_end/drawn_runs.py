@@ -6,6 +6,9 @@ KINDS = ["matrix", "circular", "rows", "table", "clones", "convex", "doubly", "p
 PLAIN = ["matrix", "rows", "table"]
 JUNK = b"01 2\n\t,\r\xff([x"
 SIZES = (1, 6)
+COLUMNS = 2048
+# A run whose reply is longer than the room that is tried first.
+LONG = (["list", "rows", "1", "5500"], b"800\n", b"")
 
 
 def size(draw):
@@ -123,3 +126,11 @@ def runs(seed, count, solve):
     """So many runs of this seed."""
     draw = random.Random(seed)
     return [run(draw, solve) for _ in range(count)]
+
+
+def deep_runs():
+    """Runs that take the most stack: trees as deep as there may be columns, and an order with nothing fixed."""
+    nested = "".join(" ".join(map(str, range(1, end))) + "\n" for end in range(3, COLUMNS + 1))
+    rows, tree = f"{COLUMNS}\n{nested}".encode(), b"(" * (COLUMNS - 1) + b"1" + b"".join(b" %d)" % leaf for leaf in range(2, COLUMNS + 1)) + b"\n"
+    return [(["list", "rows", "1", "3"], b"%d\n" % COLUMNS, b""), (["list", "rows", "1", "3"], rows, b""),
+            (["extend", "rows", "1", "2"], rows, b"1 3\n"), (["meet", str(COLUMNS), "1", "2"], tree, tree)]

@@ -3,7 +3,7 @@ stand twice, cells that are no marks. Each comes with how it is to be read."""
 
 import random
 
-NAMES = ["Beaker", "Bowl", "Krug, klein", 'the "big" one', "Fibel", "Gefäß", "Total", "n", "pot\nlid", "1960", "jar", "Ürne", "x", "A;B", " knife "]
+NAMES = ["Beaker", "Bowl", "Krug, klein", 'the "big" one', "Fibel", "Gefäß", "Total", "n", "pot\nlid", "1960", "jar", "Ürne", "x", "A;B", " knife ", "<b>&'c'"]
 CELLS = ["", "", "", "1", "1", "x", "0", "2"]
 ODD = ["?", "(1)", "1,5", "-"]
 
@@ -52,6 +52,12 @@ def table(draw):
         text = text[:at] + draw.choice(["", '"', separator, "\n"]) + text[at + 1:]
     encoding = draw.choice(["utf-8", "utf-8", "utf-8-sig", "cp1252", "utf-16"])
     return text.encode(encoding, "replace"), reading(draw, 2 if title and draw.random() < 0.8 else 1)
+
+
+def many_lines():
+    """A table with almost as many lines as pq takes, and how it is to be read."""
+    lines = "".join(f"T{number},{'1' if number % 2 else ''},1,{'' if number % 2 else '1'}\n" for number in range(131000))
+    return f"type,a,b,c\n{lines}".encode(), reading(random.Random(1), 1) | {"kind": "rows", "order": "columns", "drop": []}
 
 
 def reading(draw, header):

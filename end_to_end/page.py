@@ -11,8 +11,8 @@ import sys
 import tempfile
 from xml.etree import ElementTree
 
-from drawn_runs import runs
-from drawn_tables import tables
+from drawn_runs import LONG, deep_runs, runs
+from drawn_tables import many_lines, tables
 from program import HOME
 from streams import difference
 
@@ -38,8 +38,21 @@ def passed_over(tools):
     print(f"passed over: {', '.join(tools)} not here, so the page was not tried with it")
 
 
-def said_of(library, content, how):
-    """What the companion says of a table: the question, the answer, and the pictures; or why it can't be read."""
+class Kept(Library):
+    """The library, which keeps what it was asked: the words, and the files as they stand in JSON."""
+
+    def __init__(self, path):
+        super().__init__(path)
+        self.runs = []
+
+    def ask(self, asked, first=b"", second=b""):
+        self.runs.append([asked, first.decode("latin1"), second.decode("latin1")])
+        return super().ask(asked, first, second)
+
+
+def said_of(path, content, how):
+    """What the companion says of a table: the question, the answer, the pictures, and what it asked; or why it can't be read."""
+    library = Kept(path)
     try:
         text, encoding = decoded(content, "table", None)
         marks = cells.Marks(how["marks"]["present"], how["marks"]["absent"])
@@ -53,7 +66,21 @@ def said_of(library, content, how):
     return {"content": question.content.decode("latin1"), "notes": question.notes, "warnings": question.warnings, "question": words.question(),
             "answer": answer_lines(question, finding, words), "fixed": fixed_lines(question, finding, words),
             "pictures": [list(one) for one in pictures_of(question, finding)],
-            "steps": list(steps(cores[0]["cycle"], side.things, side.cut().names)) if cores else []}
+            "steps": list(steps(cores[0]["cycle"], side.things, side.cut().names)) if cores else [], "runs": library.runs}
+
+
+def as_json(drawn):
+    """Runs as they stand in JSON."""
+    return [[words, first.decode("latin1"), second.decode("latin1")] for words, first, second in drawn]
+
+
+def run_problems(place, library, drawn, answers):
+    """The answers to drawn runs that do not equal those of the library."""
+    yield f"the runs {place}", difference("how many answers", len(drawn), len(answers))
+    for number, (run, answer) in enumerate(zip(drawn, answers)):
+        status, reply, line = library.ask(*run)
+        is_same = answer == [status, reply.decode("latin1"), line]
+        yield f"the page's solver {place}, run {number}", None if is_same else f"{run}: {(status, reply, line)} and {answer}"[:2000]
 
 
 def in_node(folder, library):
@@ -61,12 +88,11 @@ def in_node(folder, library):
     if shutil.which("node") is None:
         passed_over(["node"])
         return
-    drawn = runs(SEED, RUNS, lambda words, first: library.ask(words, first)[1])
-    found = tables(SEED, TABLES)
+    drawn = [*runs(SEED, RUNS, lambda words, first: library.ask(words, first)[1]), LONG]
+    found = [*tables(SEED, TABLES), many_lines()]
     cases, answers = os.path.join(folder, "cases.json"), os.path.join(folder, "answers.json")
     with open(cases, "w", encoding="utf-8") as stream:
-        json.dump({"runs": [[words, first.decode("latin1"), second.decode("latin1")] for words, first, second in drawn],
-                   "tables": [[content.decode("latin1"), how] for content, how in found]}, stream)
+        json.dump({"runs": as_json(drawn), "deep": as_json(deep_runs()), "tables": [[content.decode("latin1"), how] for content, how in found]}, stream)
     done = subprocess.run(["node", os.path.join(HERE, "page_in_node.js"), os.path.join(folder, "pq.html"), cases, answers], capture_output=True,
                           text=True, timeout=SECONDS, check=False)
     yield "the page in node", difference("status", 0, done.returncode) and done.stderr
@@ -74,18 +100,39 @@ def in_node(folder, library):
         return
     with open(answers, encoding="utf-8") as stream:
         got = json.load(stream)
-    for number, (run, answer) in enumerate(zip(drawn, got["runs"])):
-        status, reply, line = library.ask(*run)
-        yield f"the page's solver, run {number}", difference(f"answer to {run}", [status, reply.decode("latin1"), line], answer)
+    yield from run_problems("in node", library, drawn, got["runs"])
+    yield from deep_problems(library, got["deep"])
+    yield from distrust_problems(got["tables"])
     for number, (table, answer) in enumerate(zip(found, got["tables"])):
-        wanted = said_of(library, *table)
-        yield f"the page on table {number}", difference(f"what is said of {table}", wanted, answer)
+        answer.pop("judged", None)
+        wanted = said_of(library.path, *table)
+        yield f"the page on table {number}", None if wanted == answer else f"{table}: {wanted} and {answer}"[:4000]
     kinds = {("stop" if "stop" in one else one["answer"][0][:3]) for one in got["tables"]}
     yield "the drawn tables", difference("answers", {"stop", "Yes", "No:"}, kinds)
 
 
-# A table whose lines contradict one another, and one whose answer takes some time.
-NO = "type,a,b,c,d\nP,1,1,,\nQ,,1,1,\nR,1,,1,\nS,,,1,1\n"
+def deep_problems(library, answers):
+    """Runs that take the most stack: each has the right answer, or none, with the reason."""
+    for number, (run, answer) in enumerate(zip(deep_runs(), answers)):
+        status, reply, line = library.ask(*run)
+        is_right = answer in ([status, reply.decode("latin1"), line], "this browser has too little room for the solver on this file")
+        yield f"the page's solver on deep run {number}", None if is_right else f"{answer}"[:2000]
+
+
+def distrust_problems(answers):
+    """Where a judge says of every text that it is not valid, the page gives no answer."""
+    said = {one["judged"] for one in answers if "stop" not in one}
+    yield "a judge who says no", difference("what is said", {True}, {line.startswith("the proof did not check: check ") for line in said})
+
+
+# A table whose lines contradict one another; one for which each field of how it is read has a word; names that are no HTML here; a file of
+# pq; and one whose answer takes some time.
+NO = "type,a,b,c,d\nGr\u00fcn,1,1,,\nQ,,1,1,\nR,1,,1,\nS,,,1,1\n"
+READ = "Finds of 1960\ntype,x;a;b;c;d\nP,1;y;y;n;y\nQ,1;n;y;y;n\nR,1;n;?;y;n\nS,1;y;n;n;y\n"
+FIELDS = {"kind": "circular table", "header": "2", "separator": ";", "line-names": "first", "marks": "y, z", "absent": "n, ?", "drop": "d"}
+FIELDS_READ = {"kind": "circular", "order": "lines", "header": 2, "separator": ";", "lineNames": "first", "drop": ["d"],
+               "marks": {"present": ["y", "z"], "absent": ["n", "?"]}}
+HOSTILE = 'type,<img src=x onerror=ends=99>,"</title></svg><script>ends=99</script>",&lt;\n"<b>\'""",1,1,\n&amp;,,1,1\n'
 PLAIN = "3\n1 2\n2 3\n"
 
 
@@ -109,28 +156,35 @@ def received(listening):
         return None
 
 
-def driven(folder, address):
+def text_of(value):
+    """A value as JSON that may stand within a script."""
+    return json.dumps(value).replace("<", "\\u003c")
+
+
+def driven(folder, address, drawn):
     """The page with the script in it that uses it, by its path."""
     with open(os.path.join(folder, "pq.html"), encoding="utf-8") as stream:
         text = stream.read()
     with open(os.path.join(HERE, "page_driver.js"), encoding="utf-8") as stream:
         driver = stream.read()
-    run = json.dumps({"no": NO, "plain": PLAIN, "long": long_rows()})
+    run = {"no": NO, "plain": PLAIN, "long": long_rows(), "runs": as_json(drawn), "read": READ, "fields": FIELDS, "hostile": HOSTILE}
     path = os.path.join(folder, "driven.html")
     with open(path, "w", encoding="utf-8") as stream:
-        stream.write(text.replace("</body>", f'<script id="run" type="text/plain" data-to="{address}">{run}</script><script>{driver}</script></body>'))
+        stream.write(text.replace("</body>", f'<script id="run" type="text/plain" data-to="{address}">{text_of(run)}</script><script>{driver}</script></body>'))
     return path
 
 
 def in_browser(folder, library):
-    """The page in a browser: what is said of the example, of a dropped file and of a file that can't be read, and that the button stops."""
+    """The page in a browser: its solver on drawn runs; what is said of the example, of a dropped file and of a file that can't be read; and
+    that the button stops."""
     browser = shutil.which("chromium") or shutil.which("chromium-browser")
     if browser is None:
         passed_over(["chromium"])
         return
+    drawn = runs(SEED + 1, RUNS, lambda words, first: library.ask(words, first)[1])
     with socket.create_server(("127.0.0.1", 0)) as listening:
         listening.settimeout(SECONDS)
-        path = driven(folder, f"http://127.0.0.1:{listening.getsockname()[1]}/")
+        path = driven(folder, f"http://127.0.0.1:{listening.getsockname()[1]}/", drawn)
         words = [browser, "--headless", "--no-sandbox", "--disable-gpu", f"--user-data-dir={folder}/own", "--remote-debugging-port=0", f"file://{path}"]
         running = subprocess.Popen(words, stdin=subprocess.DEVNULL, stdout=subprocess.DEVNULL, stderr=subprocess.DEVNULL, start_new_session=True)
         try:
@@ -141,6 +195,7 @@ def in_browser(folder, library):
     is_whole = found is not None and "failed" not in found
     yield "the page in a browser", None if is_whole else f"it ended without an answer: {found}"
     if is_whole:
+        yield from run_problems("in a browser", library, drawn, found["runs"])
         yield from seen_problems(found, library)
 
 
@@ -152,17 +207,23 @@ def seen_problems(found, library):
     how = {"kind": "rows", "order": "columns", "header": 1, "separator": None, "lineNames": None, "drop": [], "marks": {"present": [], "absent": []}}
     yield "a table without the way round", difference("said", "Say first which of the two are to be put in order: the columns or the lines.",
                                                       found["unsaid"]["said"])
-    for name, text in (("example", EXAMPLE), ("no", NO)):
-        wanted = said_of(library, text.encode(), how)
+    for name, text, read in (("example", EXAMPLE, how), ("no", NO, how), ("fields", READ, FIELDS_READ), ("hostile", HOSTILE, how)):
+        wanted = said_of(library.path, text.encode(), read)
         yield f"{name}: the answer", difference("said", wanted["answer"][0], found[name]["said"])
-        missing = [line for line in [*wanted["answer"][1:], *wanted["fixed"], *wanted["steps"]] if line not in found[name]["answer"]]
+        lines = [wanted["question"], *wanted["answer"][1:], *wanted["fixed"], *wanted["steps"], *wanted["notes"][1:], *wanted["warnings"]]
+        missing = [line for line in lines if line not in found[name]["answer"]]
         yield f"{name}: its sentences", difference("lines that are missing", [], missing)
-        yield f"{name}: its pictures", difference("pictures", list(map(taken_apart, (one for _, one in wanted["pictures"]))), list(map(taken_apart, found[name]["pictures"])))
-    yield "the core by name", None if "Core 1: P, Q, R." in found["no"]["answer"] else found["no"]["answer"]
+        drawn = [taken_apart(one) for _, one in wanted["pictures"]]
+        yield f"{name}: its pictures", difference("pictures", drawn, list(map(taken_apart, found[name]["pictures"])))
+    for line in ("Core 1: Gr\u00fcn, Q, R.", "R: contradicts Gr\u00fcn, Q", "no.csv: read as cp1252"):
+        yield f"of a no: {line}", None if line in found["no"]["answer"] else found["no"]["answer"]
+    yield "names that are no HTML", difference("runs of theirs", 0, found["hostile"]["ends"] // 99)
     yield "the judge's word", None if "no search: valid." in found["example"]["answer"] else found["example"]["answer"]
     yield from saved_problems(found["saved"], library)
     yield "a cell that is no mark", None if "'?'" in found["unread"]["said"] else found["unread"]["said"]
-    yield "the button that stops", difference("said", ("Stopped.", True), (found["stopped"]["said"], found["stopped"]["isReady"]))
+    yield "the fields that it names", None if "field under" in found["unread"]["answer"] and found["unread"]["isOpen"] else found["unread"]["answer"]
+    stopped = found["stopped"]
+    yield "the button that stops", difference("said", ("Stopped.", True, 1), (stopped["said"], stopped["isReady"], stopped["ends"]))
     yield "a file of pq after a stop", difference("said", "Yes: there is such an order.", found["plain"]["said"])
 
 

@@ -6,7 +6,16 @@ const until = async (test) => {
   for (let turn = 0; turn < 1200 && !test(); turn++) await pause(50);
 };
 const isIdle = () => $("go").disabled === false && !$("said").textContent.endsWith("…");
-const seen = () => ({ said: $("said").textContent, answer: $("answer").innerText, pictures: [...document.querySelectorAll("#answer svg")].map((one) => one.outerHTML) });
+let ends = 0;
+const terminate = Worker.prototype.terminate;
+Worker.prototype.terminate = function () {
+  ends += 1;
+  terminate.call(this);
+};
+const seen = () => ({
+  ends, isOpen: $("reading").open, said: $("said").textContent, answer: $("answer").innerText,
+  pictures: [...document.querySelectorAll("#answer svg")].map((one) => one.outerHTML),
+});
 
 // The answer after a click on the button.
 async function answered() {
@@ -21,12 +30,23 @@ function written(text, order) {
   document.querySelectorAll("input[name=order]").forEach((one) => (one.checked = one.value === order));
 }
 
+// Drops a file with these bytes, each a character of the text.
 async function dropped(name, text, order) {
   const given = new DataTransfer();
-  given.items.add(new File([text], name));
+  given.items.add(new File([Uint8Array.from(text, (one) => one.charCodeAt(0))], name));
   document.querySelectorAll("input[name=order]").forEach((one) => (one.checked = one.value === order));
   document.dispatchEvent(new DragEvent("drop", { dataTransfer: given }));
   await until(() => $("from").textContent === `from ${name}`);
+}
+
+// The answer where each field of how the table is read has a word, which are taken away again.
+async function withFields(fields, text, order) {
+  const before = Object.keys(fields).map((id) => [id, $(id).value]);
+  for (const [id, value] of Object.entries(fields)) $(id).value = value;
+  written(text, order);
+  const found = await answered();
+  for (const [id, value] of before) $(id).value = value;
+  return found;
 }
 
 async function savedFiles() {
@@ -34,13 +54,33 @@ async function savedFiles() {
   return Object.fromEntries(await Promise.all(links.map(async (one) => [one.download, await (await fetch(one.href)).text()])));
 }
 
+// What answers runs in a worker, made of the page's own parts.
+function answering({ data: { solver, runs } }) {
+  const run = solverOf(new WebAssembly.Module(solver)), bytes = (text) => Uint8Array.from(text, (one) => one.charCodeAt(0));
+  const latin = (found) => Array.from(found, (one) => String.fromCharCode(one)).join("");
+  postMessage(runs.map(([words, first, second]) => {
+    const { status, reply, line } = run(words, bytes(first), bytes(second));
+    return [status, latin(reply), line];
+  }));
+}
+
+const inWorker = (runs) => new Promise((done, failed) => {
+  const own = new Worker(URL.createObjectURL(new Blob([$("parts").textContent, `\nonmessage = ${answering};`], { type: "text/javascript" })));
+  own.onmessage = ({ data }) => done(data);
+  own.onerror = (event) => failed(event.message);
+  own.postMessage({ solver, runs });
+});
+
 async function tried(run) {
-  const found = { unsaid: await answered() };
+  const found = { runs: await inWorker(run.runs), unsaid: await answered() };
   written($("text").value, "columns");
   found.example = await answered();
   found.saved = await savedFiles();
   await dropped("no.csv", run.no, "columns");
   found.no = await answered();
+  found.fields = await withFields(run.fields, run.read, "lines");
+  written(run.hostile, "columns");
+  found.hostile = await answered();
   written("type,a,b\nP,1,?\nQ,1,1\n", "columns");
   found.unread = await answered();
   $("kind").value = "file of rows";
@@ -48,6 +88,7 @@ async function tried(run) {
   $("go").click();
   await until(() => !$("stop").disabled);
   await pause(20);
+  ends = 0;
   $("stop").click();
   found.stopped = { ...seen(), isReady: !$("go").disabled };
   written(run.plain, null);

@@ -15,15 +15,26 @@ function ran([words, first, second]) {
   return [status, latin(reply), line];
 }
 
+// What keeps each run that it makes.
+const keeping = (runs) => async (words, first, second) => {
+  runs.push([words, latin(first ?? []), latin(second ?? [])]);
+  return run(words, first, second);
+};
+
+// Runs whose judges say of every text that it is not valid.
+const distrusting = async (words, ...files) =>
+  words[0].startsWith("check") ? { status: 1, reply: Buffer.from("invalid text\n"), line: "" } : run(words, ...files);
+
 async function said([bytes, reading]) {
   try {
-    const question = page.tableQuestion(Buffer.from(bytes, "latin1"), "table", reading);
-    const finding = await page.asked(async (...words) => run(...words), question), [side] = question.sides;
+    const question = page.tableQuestion(Buffer.from(bytes, "latin1"), "table", reading), runs = [];
+    const finding = await page.asked(keeping(runs), question), [side] = question.sides;
     const core = finding.contradiction && finding.contradiction.cores[0];
     return {
       content: latin(question.content), notes: question.notes, warnings: question.warnings, question: page.questionSaid(question),
       answer: page.answerLines(question, finding), fixed: page.fixedLines(question, finding), pictures: page.picturesOf(question, finding),
-      steps: core ? page.stepsOf(core.cycle, side.things, page.cutNames(side)) : [],
+      steps: core ? page.stepsOf(core.cycle, side.things, page.cutNames(side)) : [], runs,
+      judged: await page.asked(distrusting, question).then(() => "an answer", (stop) => stop.message),
     };
   } catch (stop) {
     if (stop.constructor.name !== "Stop") throw stop;
@@ -31,10 +42,20 @@ async function said([bytes, reading]) {
   }
 }
 
+// What a run gives for which the stack may be too small: its answer, or why there is none.
+function ranDeep(one) {
+  try {
+    return ran(one);
+  } catch (stop) {
+    if (stop.constructor.name !== "Stop") throw stop;
+    return stop.message.split(",")[0];
+  }
+}
+
 async function main() {
-  const { runs, tables } = JSON.parse(fs.readFileSync(cases, "utf8")), found = [];
+  const { runs, deep, tables } = JSON.parse(fs.readFileSync(cases, "utf8")), found = [];
   for (const one of tables) found.push(await said(one));
-  fs.writeFileSync(answers, JSON.stringify({ runs: runs.map(ran), tables: found }));
+  fs.writeFileSync(answers, JSON.stringify({ runs: runs.map(ran), deep: deep.map(ranDeep), tables: found }));
 }
 
 main();

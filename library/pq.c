@@ -19,8 +19,10 @@ static int is_sound(const void *at, size_t length) {
     return length == 0 || (at != NULL && (uintptr_t)at + length >= (uintptr_t)at);
 }
 
+/* Whether a place lies in both; none lies in a span without bytes. */
 static int meet(struct span one, struct span other) {
-    return one.begin < other.end && other.begin < one.end;
+    uintptr_t begin = one.begin > other.begin ? one.begin : other.begin, end = one.end < other.end ? one.end : other.end;
+    return begin < end;
 }
 
 /* Whether each span from `from` on meets none before it. */

@@ -28,7 +28,7 @@ struct pq_room {
    The result is the program's status: 0 and 1 with a reply; 2 the words are outside the grammar; 3 a file is refused; 4 the words name
    another file than 1 and 2; 5 the reply has too little room, so call again with more; 6 memory is refused. Or it is PQ_POINTERS.
 
-   Nothing is kept between calls, so threads may call at a time. */
+   Nothing is kept between calls, so threads may call at a time. A thread that calls needs a stack of 2 MiB, which those of Linux have. */
 uint8_t pq_run(struct pq_bytes words, struct pq_bytes first, struct pq_bytes second, struct pq_room *reply, struct pq_room *line);
 
 #endif

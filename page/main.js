@@ -4,6 +4,9 @@
 const $ = (id) => document.getElementById(id);
 const solver = Uint8Array.from(atob($("solver").textContent), (one) => one.charCodeAt(0));
 const code = URL.createObjectURL(new Blob([$("parts").textContent, $("worker").textContent], { type: "text/javascript" }));
+const MOST_SHOWN = 200000, MOST_LISTED = 1000;
+const NOT_SHOWN = "The file is used whole, and not shown here: it is long, or no text.";
+const OF_WORDS = "A word that begins with -- is a field under “How the table is read”.";
 let worker = null, file = null;
 
 const element = (name, text, ...children) => {
@@ -12,7 +15,15 @@ const element = (name, text, ...children) => {
   made.append(...children);
   return made;
 };
-const list = (items, kind = "ul") => (items.length ? [element(kind, "", ...items.map((one) => element("li", one)))] : []);
+const hasWord = (text) => / --[a-z]/.test(text);
+
+// A list, of which the end is left out where it is very long.
+function list(items, kind = "ul") {
+  if (!items.length) return [];
+  const rest = items.length - MOST_LISTED, more = rest > 0 ? [element("p", `and ${rest} more`)] : [];
+  return [element(kind, "", ...items.slice(0, MOST_LISTED).map((one) => element("li", one))), ...more];
+}
+
 const section = (title, ...parts) => (parts.length ? [element("h2", title), ...parts] : []);
 const wordsIn = (id) => $(id).value.split(",").map((one) => one.trim()).filter((one) => one);
 
@@ -21,16 +32,17 @@ function reading() {
   const order = document.querySelector("input[name=order]:checked");
   return {
     kind: $("kind").value === "circular table" ? "circular" : "rows", order: order ? order.value : null, header: Math.max(1, Number($("header").value) || 1),
-    separator: null, lineNames: $("line-names").value || null, drop: wordsIn("drop"), marks: { present: wordsIn("marks"), absent: wordsIn("absent") },
+    separator: $("separator").value || null, lineNames: $("line-names").value || null, drop: wordsIn("drop"), marks: { present: wordsIn("marks"), absent: wordsIn("absent") },
   };
 }
 
-// A link by which some bytes are saved.
+// A line with a link by which some bytes are saved.
 function saved([name, bytes]) {
-  const link = element("a", name);
+  const link = element("a", name), line = element("p", "", "Save ", link);
   link.href = URL.createObjectURL(new Blob([bytes]));
   link.download = name;
-  return link;
+  line.className = "saved";
+  return line;
 }
 
 // The core by name, and the steps that show it.
@@ -51,15 +63,22 @@ function figure([caption, picture]) {
 
 function show(shown) {
   $("said").textContent = shown.answer[0];
-  const warnings = list(shown.warnings);
+  const warnings = list(shown.warnings), hints = shown.warnings.some(hasWord) ? [element("p", OF_WORDS)] : [];
   warnings.forEach((one) => one.classList.add("warning"));
   $("answer").replaceChildren(
     element("p", shown.question), ...shown.answer.slice(1).map((line) => element("p", line)),
     element("p", "The verdict was judged by a second run of the solver, which makes no search: valid."),
     ...section("The picture", ...shown.pictures.map(figure)), ...section("What is fixed", ...list(shown.fixed)),
     ...section("What contradicts what", ...coresShown(shown)), ...section(`The ${shown.rows} set aside`, ...list(shown.aside)),
-    ...section("What was read", ...list([...shown.counted, ...shown.notes]), ...warnings),
-    ...section("To check it", ...shown.files.map((one) => element("p", "", "Save ", saved(one))), ...shown.commands.map((one) => element("code", one))));
+    ...section("What was read", ...list([...shown.counted, ...shown.notes]), ...warnings, ...hints),
+    ...section("To check it", ...shown.files.map(saved), ...shown.commands.map((one) => element("code", one))));
+}
+
+// A question without an answer: why, and where the fields are that it names.
+function stopped(text) {
+  if (!hasWord(text)) return;
+  $("reading").open = true;
+  $("answer").replaceChildren(element("p", OF_WORDS));
 }
 
 function ended(text) {
@@ -81,16 +100,28 @@ function go() {
   worker.onmessage = ({ data }) => {
     ended(data.stop);
     if (data.shown) show(data.shown);
+    else stopped(data.stop);
   };
   worker.onerror = (event) => ended(`this page failed: ${event.message}`);
   const bytes = file ? file.bytes : new TextEncoder().encode($("text").value);
   worker.postMessage({ solver, bytes, where: file ? file.name : "the table", kind: isTable ? null : kind.replace("file of ", ""), reading: reading() });
 }
 
+// The text of a file as it is read, or none where it is long or no text.
+function shownText(bytes) {
+  try {
+    return bytes.length > MOST_SHOWN ? "" : decoded(bytes, "the file")[0];
+  } catch {
+    return "";
+  }
+}
+
 // A file's bytes are kept as they are; the box shows them, and what is written there takes their place.
 async function take(given) {
-  file = { name: given.name, bytes: new Uint8Array(await given.arrayBuffer()) };
-  $("text").value = new TextDecoder().decode(file.bytes);
+  const bytes = new Uint8Array(await given.arrayBuffer());
+  file = { name: given.name, bytes };
+  $("text").value = shownText(bytes);
+  $("text").placeholder = $("text").value ? "" : NOT_SHOWN;
   $("from").textContent = `from ${given.name}`;
 }
 
@@ -98,11 +129,12 @@ $("go").onclick = go;
 $("stop").onclick = () => ended("Stopped.");
 $("text").oninput = () => {
   file = null;
-  $("from").textContent = "";
+  $("from").textContent = $("file").value = $("text").placeholder = "";
 };
 $("file").onchange = () => $("file").files[0] && take($("file").files[0]);
 document.ondragover = (event) => event.preventDefault();
 document.ondrop = (event) => {
+  if (!event.dataTransfer.files[0]) return;
   event.preventDefault();
-  if (event.dataTransfer.files[0]) take(event.dataTransfer.files[0]);
+  take(event.dataTransfer.files[0]);
 };

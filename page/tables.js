@@ -19,8 +19,8 @@ function meets(cell, mark) {
 
 // Whether a cell counts. Without words of the user's: as in a `table` of pq, x and whole numbers above 0 count.
 function judge(cell, marks) {
+  if (cell === "" || marks.absent.includes(cell) || /^0+$/.test(cell)) return ABSENT;
   const isDigits = /^[0-9]+$/.test(cell);
-  if (cell === "" || marks.absent.includes(cell) || (isDigits && /^0+$/.test(cell))) return ABSENT;
   if (!marks.present.length) return cell === "x" || cell === "X" || isDigits ? PRESENT : UNKNOWN;
   if (marks.present.some((one) => meets(cell, one))) return PRESENT;
   return marks.present.some((one) => one.startsWith(">")) && numberOf(cell) !== null ? ABSENT : UNKNOWN;
@@ -54,7 +54,7 @@ function wide(text, where, reading) {
   const found = sheet(text, where, reading.separator, reading.header);
   const [header, ...body] = found.records;
   if (!body.length) throw unreadable(where, "there is a header and no line below it");
-  const last = Math.max(...found.records.map((record) => record.fields.reduce((most, cell, at) => (cell ? at + 1 : most), 0)));
+  const last = greatest(found.records.map((record) => record.fields.findLastIndex((cell) => cell) + 1));
   if (last < header.fields.length) found.notes.push(`blank columns at the end, which are left out: ${header.fields.length - last}`);
   const blank = [];
   for (let at = 1; at < last; at++) if (!found.records.some((record) => record.fields[at])) blank.push(at);
@@ -141,8 +141,9 @@ function questionOf(kind, things, rows, names) {
     return { kind, content: asRows(side), sides: [side], notes: [], warnings: [], called: [null, null] };
   }
   const all = things.map((_, at) => at + 1);
-  const cut = rows.map((row) => (row.includes(1) ? all.filter((one) => !row.includes(one)) : row));
-  const lines = rows.map((row) => `${all.map((one) => (row.includes(one) ? "1" : "0")).join("")}\n`);
+  const sets = rows.map((row) => new Set(row));
+  const cut = rows.map((row, at) => (sets[at].has(1) ? all.filter((one) => !sets[at].has(one)) : row));
+  const lines = sets.map((row) => `${all.map((one) => (row.has(one) ? "1" : "0")).join("")}\n`);
   return { kind, content: bytesOf(lines.join("")), sides: [{ things, rows: cut, names, whole: rows, isCircle: true }], notes: [], warnings: [], called: [null, null] };
 }
 

@@ -19,7 +19,12 @@ const WITHOUT_CHARACTER = [0x81, 0x8d, 0x8f, 0x90, 0x9d];
 const BLANKS = "[\\t-\\r\\x1c- \\x85\\xa0\\u1680\\u2000-\\u200a\\u2028\\u2029\\u202f\\u205f\\u3000]";
 const AT_ENDS = new RegExp(`^${BLANKS}+|${BLANKS}+$`, "g");
 
-const stripped = (text) => text.replace(AT_ENDS, "");
+const isPlain = (code) => code > 32 && code < 127;
+// A text without the blanks at its ends. Most have none, which is seen at once.
+const stripped = (text) =>
+  text === "" || (isPlain(text.charCodeAt(0)) && isPlain(text.charCodeAt(text.length - 1))) ? text : text.replace(AT_ENDS, "");
+// The greatest of these numbers, of which there may be more than a call takes; 0 where there are none.
+const greatest = (numbers) => numbers.reduce((most, one) => Math.max(most, one), 0);
 const begins = (bytes, start) => start.every((byte, at) => bytes[at] === byte);
 
 // A text in quotes, as Python writes it.
@@ -179,7 +184,7 @@ function misfit(candidates, header) {
   for (const one of candidates.keys()) if (most === null || weight(candidates.get(one)) > weight(candidates.get(most))) most = one;
   const filled = candidates.get(most).filter((one) => one.fields.length);
   if (!filled.length) return header === 1 ? "there is nothing in it" : `there is nothing in it from line ${header} on`;
-  if (Math.max(...filled.map((one) => one.fields.length)) < 2) return "no line has two fields that are separated by a semicolon, a comma or a tab";
+  if (greatest(filled.map((one) => one.fields.length)) < 2) return "no line has two fields that are separated by a semicolon, a comma or a tab";
   const wanted = filled[0].fields.length, record = filled.find((one) => one.fields.length !== wanted);
   return `line ${record.line} has ${record.fields.length} fields and line ${filled[0].line} has ${wanted} (separated by ${SEPARATORS.get(most) ?? most}): mend that line, or say --header N if the header is line N`;
 }

@@ -1,15 +1,16 @@
 """The solver in this process, by the library that scripts/library.py builds."""
 
 import ctypes
+import mmap
 import os
 
 from .program import CHECKOUT, Calls, Program, found_program
-from .stops import READ_FAULT, Stop
+from .stops import NO_MEMORY, READ_FAULT, Stop
 
 POINTERS = 64
 NAMES = ["1", "2"]
-# A reply that is longer makes a second call, with as much room as any reply takes.
-FIRST_ROOM, MORE, LINE_ROOM = 1 << 16, 16, 64
+# Room takes no memory before it is written to. A reply that is longer makes another call, with more room; few are.
+FIRST_ROOM, MORE, LINE_ROOM = 1 << 24, 16, 64
 
 
 class Bytes(ctypes.Structure):
@@ -27,6 +28,19 @@ class Room(ctypes.Structure):
 def bytes_of(content):
     """Bytes as the library reads them."""
     return Bytes(content, len(content))
+
+
+def memory_of(room):
+    """A piece of memory with so many bytes."""
+    try:
+        return mmap.mmap(-1, room)
+    except (OSError, OverflowError) as error:
+        raise Stop(NO_MEMORY, "pq: no memory") from error
+
+
+def room_in(memory):
+    """The room in a piece of memory."""
+    return Room(ctypes.addressof(ctypes.c_char.from_buffer(memory)), len(memory), 0)
 
 
 class Library(Calls):
@@ -52,13 +66,13 @@ class Library(Calls):
         first, second = bytes(first), bytes(second)
         room = FIRST_ROOM
         while True:
-            reply, line = ctypes.create_string_buffer(room), ctypes.create_string_buffer(LINE_ROOM)
-            answer, why = Room(ctypes.addressof(reply), room, 0), Room(ctypes.addressof(line), LINE_ROOM, 0)
+            reply, line = memory_of(room), ctypes.create_string_buffer(LINE_ROOM)
+            answer, why = room_in(reply), room_in(line)
             status = self.entry(bytes_of(text), bytes_of(first), bytes_of(second), ctypes.byref(answer), ctypes.byref(why))
             if status == POINTERS:
                 raise ValueError("the library was handed pointers that overlap")
             if status != 5:
-                return status, reply.raw[: answer.length], line.raw[: why.length].decode().strip()
+                return status, reply[: answer.length], line.raw[: why.length].decode().strip()
             room *= MORE
 
 
