@@ -15,7 +15,7 @@ use Rattle.verdict_replies.specs.Verdicts.{IsClaimOf, status_of}
 use Rattle.reply_laws.specs.Solve.{NoStatusLaw, YesStatusLaw, OrdersLaw}
 use Rattle.reply_laws.specs.Check.{CheckLaw, AgreedLaw}
 use Rattle.reply_laws.specs.Extend.{SessionLaw, BaseLaw}
-use Rattle.reply_laws.specs.Core.{CoreWrittenLaw, NoCoreLaw, CoreBelievedLaw, CoreAgreedLaw}
+use Rattle.reply_laws.specs.Core.{NoCoreLaw, CoreBelievedLaw, CoreAgreedLaw}
 use Rattle.reply_laws.specs.Lists.{NoListLaw}
 use Rattle.reply_laws.proofs.Reading.{same_read}
 use Rattle.solve_replies.specs.Models.{TellsByClaim}
@@ -114,14 +114,14 @@ module _ (no_law : NoStatusLaw) (yes_law : YesStatusLaw) (orders_law : OrdersLaw
         ],
       )
 
-  core_promised : CoreWrittenLaw → NoCoreLaw → (kind : Kind) (file bytes : List ℕ) (status : ℕ) (text : List ℕ) → Replies (Core kind file) (bytes ∷ []) status text → IsPromised (Core kind file) (bytes ∷ []) status text
+  core_promised : NoCoreLaw → (kind : Kind) (file bytes : List ℕ) (status : ℕ) (text : List ℕ) → Replies (Core kind file) (bytes ∷ []) status text → IsPromised (Core kind file) (bytes ∷ []) status text
   unfolding Replies
-  core_promised written none kind file bytes status text reply =
+  core_promised none kind file bytes status text reply =
       let with_status : (k : ℕ) → status ≡ k → Replies (Core kind file) (bytes ∷ []) k text = λ k is. subst (λ s. Replies (Core kind file) (bytes ∷ []) s text) is reply in (
         reply.0,
         reply.1,
         elim reply.2 [
-          | inl core ↦ inl (core.1, core.0, written kind file bytes text reply.0 reply.1 (with_status 0 core.1))
+          | inl core ↦ inl (core.1, core.0, core.2)
           | inr order ↦ inr (order.1, said_yes kind bytes text reply.0 reply.1 (none kind file [] bytes text (with_status 1 order.1)))
         ],
       )
@@ -169,7 +169,6 @@ pub record KnownReplies : Type 0 where
   pub agreed : AgreedLaw
   pub session : SessionLaw
   pub base : BaseLaw
-  pub core : CoreWrittenLaw
   pub no_core : NoCoreLaw
   pub core_believed : CoreBelievedLaw
   pub core_agreed : CoreAgreedLaw
@@ -194,7 +193,7 @@ module _ (no_law : NoStatusLaw) (yes_law : YesStatusLaw) (orders_law : OrdersLaw
   promise_law (Extend kind file rows) (bytes ∷ given ∷ []) status text reply = extend_promised no_law yes_law orders_law known.session known.base kind file rows bytes given status text reply
   promise_law (Extend kind file rows) (bytes ∷ given ∷ more ∷ files) status text reply = reply
   promise_law (Core kind file) [] status text reply = reply
-  promise_law (Core kind file) (bytes ∷ []) status text reply = core_promised no_law yes_law orders_law known.core known.no_core kind file bytes status text reply
+  promise_law (Core kind file) (bytes ∷ []) status text reply = core_promised no_law yes_law orders_law known.no_core kind file bytes status text reply
   promise_law (Core kind file) (bytes ∷ more ∷ files) status text reply = reply
   promise_law (CheckCore kind file core) [] status text reply = reply
   promise_law (CheckCore kind file core) (bytes ∷ []) status text reply = reply

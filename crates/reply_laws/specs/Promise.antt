@@ -21,6 +21,7 @@ use Rattle.command_input.specs.Words.{Command, Solve, Check, Extend, Gen, Meet, 
 use Rattle.command_input.specs.Instances.{instance_of}
 use Rattle.reply_laws.specs.Solve.{TellsYes, ShowsTextbookOrders}
 use Rattle.solve_replies.specs.Models.{HasUnitModel, TellsUnit}
+use Rattle.verdict_replies.specs.Cores.{IsCoreText}
 use Rattle.verdict_replies.specs.Units.{IsUnitOf}
 use Rattle.commands.specs.Findings.{HasUnit}
 use Rattle.solve_replies.specs.Lists.{IsListText}
@@ -80,9 +81,10 @@ pub record IsUnitJudged (g : GraphValue) (bytes given : List ℕ) (status : ℕ)
 abbrev pub IsExtendedBy : Kind → RowList → List (List ℕ) → ℕ → List ℕ → Type 0
 IsExtendedBy kind m rows status text = ((status ≡ 0) × HasValidOrder m.columns m.rows × ShowsSession kind m rows text) ⊎ ((status ≡ 1) × SaysNo (plain kind m) text)
 
--- The rows to blame: with status 0 there is no valid order, and the text names rows that are a core; or yes with status 1.
+-- The rows to blame: with status 0 there is no valid order, and the text tells a core, with a short cycle; or yes with
+-- status 1.
 abbrev pub IsBlamedFor : Kind → RowList → ℕ → List ℕ → Type 0
-IsBlamedFor kind m status text = ((status ≡ 0) × (HasValidOrder m.columns m.rows → ⊥) × NamesCore m text) ⊎ ((status ≡ 1) × SaysYes (plain kind m) text)
+IsBlamedFor kind m status text = ((status ≡ 0) × (HasValidOrder m.columns m.rows → ⊥) × IsCoreText kind m text) ⊎ ((status ≡ 1) × SaysYes (plain kind m) text)
 
 -- A core is judged: whatever `core` wrote with status 0 on the same bytes is valid, and nothing is that doesn't name a
 -- core.

@@ -11,6 +11,7 @@ use Rattle.row_model.specs.Graph.{row_at, Crosses, JoinedBy}
 use Rattle.row_model.specs.Cycles.{first_pair, LeadTo, IsClosedWalk, IsSimpleOdd, IsOddCycle}
 use Rattle.row_model.specs.Rows.{RowList}
 use Rattle.pq_tree.specs.declared.PqTree.{PqTree}
+use Rattle.odd_cycle.specs.Short.{flip_of, flips, IsShort}
 use Rattle.row_judge.specs.Judges.{IsTreeOfOrders}
 use Rattle.core_text.specs.Cores.{AreRowNumbers, rows_at}
 use Rattle.core_text.specs.Told.{IsAmong, AreAmong}
@@ -93,6 +94,22 @@ simple_whole set lines h =
 pub cycle_whole : (m : RowList) (set : List ℕ) (lines : List Line) → AreEachWithin (length m.rows) set → IsOddCycle m.columns (rows_at m.rows set) lines → IsOddCycle m.columns m.rows (map (whole_line set) lines)
 cycle_whole m set lines a h = record { closed = closed_whole m.columns m.rows set lines a h.closed; simple = simple_whole set lines h.simple }
 
+-- no reason becomes a flip, and none that is one ceases to be one
+flip_whole : (set : List ℕ) (why : Why) → flip_of (whole_why set why) ≡ flip_of why
+flip_whole set Flip = refl
+flip_whole set (Row i) = refl
+
+flips_whole : (set : List ℕ) (lines : List Line) → flips (map (whole_line set) lines) ≡ flips lines
+flips_whole set [] = refl
+flips_whole set (line ∷ lines) = omega (arith, flip_whole set line.why, flips_whole set lines)
+
+-- a short cycle stays one
+short_whole : (c : ℕ) (set : List ℕ) (lines : List Line) → IsShort c lines → IsShort c (map (whole_line set) lines)
+short_whole c set lines h = record {
+  one_flip = omega (arith, flips_whole set lines, h.one_flip);
+  half = omega (arith, length-map lines (whole_line set), h.half);
+}
+
 -- what is marked is among the first n numbers, or among the marked ones of the others
 among_marked : (n : ℕ) (set : List ℕ) (marks : List Bool) (why : Why) → n ≤ length set → IsReasonWithin (length set) why → IsMarked marks why → IsAmong (marked_from marks n (drop n set) ++ take n set) (whole_why set why)
 among_marked n set marks Flip l w h = tt
@@ -151,12 +168,14 @@ within_rotated bound n list a i d l =
 -- the rows that are marked, and the first n, are to blame
 pub blamed_marked : (m : RowList) (n : ℕ) (list : List ℕ) (marks : List Bool) (lines : List Line) (blamed : Blamed) → n ≤ length list → blamed.rows.items ≡ marked_from marks n (drop n list) ++ take n list
     → blamed.untried ≤ length blamed.rows.items → blamed.lines ≡ map (whole_line list) lines
-    → AreReasonsWithin (length list) lines → AreMarked marks lines → AreRowNumbers (length m.rows) (rotated n list) → IsOddCycle m.columns (rows_at m.rows list) lines → IsBlamed m blamed
-blamed_marked m n list marks lines blamed l rows few whole within marked a cycle =
+    → AreReasonsWithin (length list) lines → AreMarked marks lines → AreRowNumbers (length m.rows) (rotated n list) → IsOddCycle m.columns (rows_at m.rows list) lines
+    → IsShort m.columns lines → IsBlamed m blamed
+blamed_marked m n list marks lines blamed l rows few whole within marked a cycle short =
     record {
       rows = rw rows (ascends_marked_front (length m.rows) 0 n marks (drop n list) (take n list) a);
       few = few;
       cycle = rw whole (cycle_whole m list lines (within_rotated (length m.rows) n list a) cycle);
+      short = rw whole (short_whole m.columns list lines short);
       among = rw (rows, whole) (all_among_marked n list marks lines l within marked);
     }
 

@@ -7,6 +7,7 @@ use Rattle.row_model.specs.declared.graph.Why.{Why}
 use Rattle.row_model.specs.declared.graph.Why.TheVariants.{Flip, Row}
 use Rattle.row_model.specs.Cycles.{IsOddCycle}
 use Rattle.row_model.specs.Rows.{RowList}
+use Rattle.odd_cycle.specs.Short.{IsShort}
 use Rattle.row_judge.specs.Judges.{IsTreeOfOrders}
 use Rattle.core_text.specs.Cores.{AreRowNumbers, rows_at, but}
 use Rattle.core_text.specs.Told.{AreAmong, IsOrderWithout}
@@ -66,11 +67,12 @@ marked_from marks i (k ∷ set) = if slice_index_or marks i false then k ∷ mar
 abbrev pub rotated : ℕ → List ℕ → List ℕ
 rotated n list = drop n list ++ take n list
 
--- rows of a matrix, and an odd cycle that has no other rows as reasons; so they have no valid order together
+-- rows of a matrix, and a short odd cycle that has no other rows as reasons; so they have no valid order together
 pub record IsBlamed (m : RowList) (blamed : Blamed) : Type 0 where
   pub rows : AreRowNumbers (length m.rows) blamed.rows.items
   pub few : blamed.untried ≤ length blamed.rows.items
   pub cycle : IsOddCycle m.columns m.rows blamed.lines
+  pub short : IsShort m.columns blamed.lines
   pub among : AreAmong blamed.rows.items blamed.lines
 
 -- each of the rows from some place on is needed: without it the others have a valid order
@@ -99,10 +101,11 @@ pub record AreTold (m : RowList) (set : List ℕ) (from told : ℕ) (orders : Li
   pub inside : from + told ≤ length set
   pub each : (i : ℕ) → i < told → IsOrderWithout m set (slice_index set (from + i)) (slice_index_or orders (told - 1 - i) [])
 
--- rows of a matrix, an odd cycle that has no other rows as reasons, and orders without the first rows
+-- rows of a matrix, a short odd cycle that has no other rows as reasons, and orders without the first rows
 pub record IsNarrowed (m : RowList) (found : Narrowed) : Type 0 where
   pub rows : AreRowNumbers (length m.rows) found.rows.items
   pub cycle : IsOddCycle m.columns m.rows found.lines
+  pub short : IsShort m.columns found.lines
   pub among : AreAmong found.rows.items found.lines
   pub orders : AreTold m found.rows.items 0 found.told found.orders
 

@@ -3,6 +3,7 @@ ghost use Rattle.std.specs.Prelude.{◌≡◌, ◌≤◌, ◌+◌, ◌-◌, ℕ,
 ghost use Rattle.std.specs.Prelude.{◌++◌};
 ghost use Rattle.row_model.specs.Rows.{RowList};
 ghost use Rattle.row_model.specs.Cycles.{IsOddCycle};
+ghost use Rattle.odd_cycle.specs.Short.{IsShort};
 ghost use Rattle.row_judge.specs.Judges.{IsFirstConflict};
 ghost use Rattle.core_text.specs.Cores.{AreRowNumbers, rows_at};
 ghost use Rattle.row_core.specs.Blamed.{part_at, rotated, whole_line, IsReasonWithin, AreReasonsWithin, AreMarked, with_mark, marked_from, IsBlamed, AreNeeded};
@@ -34,6 +35,7 @@ pub fn blame(alloc: Global, list: &[u32], needed: usize, cycle: &Cycle) -> Resul
     ensures blamed { IfOk result (λ blamed. (m : RowList)
         → AreRowNumbers (length m.rows) (rotated needed list.now)
         → IsOddCycle m.columns (rows_at m.rows list.now) cycle.now
+        → IsShort m.columns cycle.now
         → IsBlamed m blamed) }
     ensures needed { IfOk result (λ blamed. (m : RowList)
         → AreRowNumbers (length m.rows) (rotated needed list.now)

@@ -1,6 +1,7 @@
 // The search for a core.
 ghost use Rattle.std.specs.Prelude.{◌≡◌, ◌+◌, ◌-◌, ◌*◌, ◌≤◌, IfOk, IsTrue, length};
 ghost use Rattle.std.specs.List.{range_with_len};
+ghost use Rattle.odd_cycle.specs.Short.{IsShort};
 ghost use Rattle.core_text.specs.Told.{TellsCore};
 ghost use Rattle.row_core.specs.Blamed.{IsBlamed, AreNeeded};
 ghost use Rattle.row_core.specs.Cored.{IsCored, judgements_of};
@@ -10,7 +11,7 @@ use crate::narrow::{Narrowed, all_tried};
 use crate::others::{Tried, each_left_out};
 use core_text::{Core, blame_law};
 use pq_tree::PqTree;
-use row_judge::{Judge, Judged};
+use row_judge::{Judge, Judged, judged_short};
 use row_model::{Matrix, NoMemory};
 use std::alloc::Global;
 use step_count::{Ledger, Steps};
@@ -28,6 +29,8 @@ pub enum Cored {
 ///
 /// The order that is told of a row of the core has the leaves, from left to right, of the canonical tree of all valid
 /// orders of the others, so there is one such order. Which of several cores is found is free.
+/// The odd cycle that is told has at most one flip, and with c columns at most c(c - 1)/2 + 1 lines, whatever cycles the
+/// judge has.
 ///
 /// A judge that goes through the rows in turn is asked once where there is a valid order, and else at most twice for
 /// each row of the core and once more. Any other judge is asked at most (n + 1)(2n + 1) + 1 times, n being the number
@@ -49,7 +52,7 @@ pub fn find_core<J: Judge, L: Ledger>(
         ≤ J.asked judge.old + ((length m.now.rows + 1) * (2 * length m.now.rows + 1) + 1)) }
 {
     blame_law();
-    match judge.judge(alloc, m, steps)? {
+    match judged_short(alloc, judge, m, steps)? {
         Judged::Yes(tree) => Ok(Cored::Has(tree)),
         Judged::No(cycle) => {
             let all = all_rows(alloc, m)?;
@@ -83,6 +86,7 @@ fn core_among<J: Judge, L: Ledger>(
     requires blamed { IsBlamed m.now blamed }
     requires needed { IsTrue J.in_turn → AreNeeded m.now blamed.rows.items blamed.untried }
     ensures core { IfOk result (TellsCore m.now) }
+    ensures short { IfOk result (λ core. IsShort m.now.columns core.lines) }
     ensures asked { IsTrue J.in_turn
         → IfOk result (λ core. J.asked judge.new + (length blamed.rows.items - blamed.untried)
         ≤ J.asked judge.old + 2 * length core.rows + 1) }

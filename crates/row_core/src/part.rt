@@ -8,7 +8,7 @@ ghost use Rattle.row_core.specs.Blamed.{AreEachWithin, part_at, rotated, AreNeed
 use crate::blamed::{Blamed, blame};
 use core_text::Orders;
 use pq_tree::PqTree;
-use row_judge::{Judge, Judged};
+use row_judge::{Judge, Judged, judged_short};
 use row_model::{Matrix, NoMemory};
 use std::alloc::Global;
 use step_count::{Ledger, Steps};
@@ -40,7 +40,7 @@ pub fn judged<J: Judge, L: Ledger>(
     ensures asked { J.asked judge.new ≤ J.asked judge.old + 1 }
 {
     let part = part_of(alloc, m, list)?;
-    match judge.judge(alloc, &part, steps)? {
+    match judged_short(alloc, judge, &part, steps)? {
         Judged::Yes(tree) => Ok(Finding::Ordered(tree)),
         Judged::No(cycle) => Ok(Finding::Refused(blame(alloc, list, needed, &cycle)?)),
     }

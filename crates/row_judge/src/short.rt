@@ -1,8 +1,8 @@
 // What a judge says, with a short cycle.
-ghost use Rattle.std.specs.Prelude.{IfOk};
+ghost use Rattle.std.specs.Prelude.{◌+◌, ◌≤◌, ℕ, List, IfOk, IsTrue};
 ghost use Rattle.row_model.specs.Cycles.{IsOddCycle};
 ghost use Rattle.odd_cycle.specs.Short.{IsShort};
-ghost use Rattle.row_judge.specs.Judges.{HasShortCycle, IsJudged};
+ghost use Rattle.row_judge.specs.Judges.{HasShortCycle, IsJudged, IsJudgedInTurn};
 
 use crate::{Judge, Judged};
 use odd_cycle::{Cycle, is_folded, short_cycle, short_cycle_law};
@@ -12,6 +12,7 @@ use step_count::{Ledger, Steps};
 
 /// What a judge says of a matrix. The odd cycle of a no has at most one flip, and with c columns at most c(c - 1)/2 + 1
 /// lines: where that of the judge is not folded already, it is [folded](odd_cycle::short_cycle).
+/// It stays a cycle of the rows up to the first that leaves no valid order, where that of the judge is one.
 ///
 /// # Errors
 ///
@@ -24,6 +25,8 @@ pub fn judged_short<J: Judge, L: Ledger>(
 ) -> Result<Judged, NoMemory>
     ensures judged { IfOk result (IsJudged m.now) }
     ensures short { IfOk result (HasShortCycle m.now.columns) }
+    ensures in_turn { IsTrue J.in_turn → IfOk result (IsJudgedInTurn m.now) }
+    ensures asked { J.asked judge.new ≤ J.asked judge.old + 1 }
 {
     match judge.judge(alloc, m, steps)? {
         Judged::Yes(tree) => Ok(Judged::Yes(tree)),
@@ -31,10 +34,11 @@ pub fn judged_short<J: Judge, L: Ledger>(
     }
 }
 
-// The cycle itself where it is folded, and else the one into which it folds.
+// The cycle itself where it is folded, and else the one into which it folds. It is a cycle of each list of rows of which
+// the first one is one.
 fn shortened(alloc: Global, m: &Matrix, cycle: Cycle) -> Result<Cycle, NoMemory>
     requires { IsOddCycle m.now.columns m.now.rows cycle }
-    ensures cycle { IfOk result (IsOddCycle m.now.columns m.now.rows) }
+    ensures cycle { (rows : List (List ℕ)) → IsOddCycle m.now.columns rows cycle → IfOk result (IsOddCycle m.now.columns rows) }
     ensures short { IfOk result (IsShort m.now.columns) }
 {
     short_cycle_law();

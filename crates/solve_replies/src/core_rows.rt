@@ -4,6 +4,7 @@ ghost use Rattle.column_order.specs.Orders.{HasValidOrder, IsWithin};
 ghost use Rattle.row_model.specs.Rows.{RowList};
 ghost use Rattle.instance_model.specs.Instance.{plain, instance_kind, IsInstance};
 ghost use Rattle.instance_model.specs.Value.{instance_value};
+ghost use Rattle.odd_cycle.specs.Short.{IsShort};
 ghost use Rattle.core_text.specs.Told.{TellsCore};
 ghost use Rattle.row_judge.specs.Judges.{IsTreeOfOrders};
 ghost use Rattle.row_core.specs.Cored.{IsCored};
@@ -69,6 +70,7 @@ fn core_text(alloc: Global, m: &Matrix, core: &CoreText) -> Result<Vec<u8>, NoMe
     requires columns { core.now.columns ≡ m.now.columns }
     requires within { IsInstance (plain core.now.kind m.now) }
     requires tells { TellsCore m.now core.now.parts }
+    requires short { IsShort m.now.columns core.now.parts.lines }
     ensures { IfOk result (λ text. IsCoreText core.now.kind m.now text.items) }
 {
     core_grammar_law();

@@ -9,7 +9,6 @@ returns c =
       agreed = c.solved_law.ensures.agreed;
       session = c.extend_law.ensures.session;
       base = c.extend_law.ensures.base;
-      core = c.core_law.ensures.written;
       no_core = c.core_law.ensures.none;
       core_believed = c.core_judgement_law.ensures.believed;
       core_agreed = c.core_judgement_law.ensures.agreed;

@@ -7,14 +7,14 @@ use Rattle.row_core.proofs.Whole.{blamed_marked, marked_below}
 use Rattle.row_core.proofs.blamed.blame.Goals as goal
 
 pub returns-clause-blamed : goal.returns-clause-blamed
-returns-clause-blamed c = λ m a cycle.
+returns-clause-blamed c = λ m a cycle short.
     let marks = c.in_ok-marks.marks.items in
     let rows : c.extend_from_slice.new.self.items ≡ marked_from marks c.args.needed (drop c.args.needed c.args.list.now) ++ take c.args.needed c.args.list.now =
     c.in_ok-extend_from_slice.ensures.items ∙ ap (λ xs. xs ++ take c.args.needed c.args.list.now) (c.in_ok-rows.ensures ∙ ap (λ ms. marked_from ms c.args.needed (drop c.args.needed c.args.list.now)) c.deref.ensures.value) in
     let untried : c.saturating_sub-untried.result ≡ length (marked_from marks c.args.needed (drop c.args.needed c.args.list.now)) - 1 =
     omega (arith, c.saturating_sub-untried.ensures, c.len.ensures, c.in_ok-rows.rows.ok, ap length (c.in_ok-rows.ensures ∙ ap (λ ms. marked_from ms c.args.needed (drop c.args.needed c.args.list.now)) c.deref.ensures.value)) in
     blamed_marked m c.args.needed c.args.list.now marks c.args.cycle.now _ c.requires.needed rows (omega (arith, untried, ap length rows, length-append (marked_from marks c.args.needed (drop c.args.needed c.args.list.now)) (take c.args.needed c.args.list.now))) (rw c.lines-2.ensures.lines at c.in_ok-lines.ensures) c.requires.within
-    (rw c.lines.ensures.lines at c.in_ok-marks.ensures.marked) a cycle
+    (rw c.lines.ensures.lines at c.in_ok-marks.ensures.marked) a cycle short
 
 pub returns-clause-needed : goal.returns-clause-needed
 returns-clause-needed c = λ m a needed first.

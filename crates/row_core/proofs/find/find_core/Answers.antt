@@ -4,7 +4,7 @@ use Rattle.std.proofs.lemmas.List.FromFn.{length-range_with_len}
 use Rattle.std.specs.List.{range_with_len}
 use Rattle.row_core.proofs.Rounds.{all_rounds}
 use Rattle.row_model.specs.Cycles.{IsOddCycle}
-use Rattle.row_judge.specs.Judges.{IsFirstConflict}
+use Rattle.row_judge.specs.Judges.{HasShortCycle, IsFirstConflict}
 use Rattle.core_text.specs.Cores.{AreRowNumbers, rows_at}
 use Rattle.row_core.specs.Blamed.{part_at, rotated}
 use Rattle.row_core.proofs.Numbers.{ascends_all, rows_at_all}
@@ -23,10 +23,11 @@ pub core_among-requires-clause-blamed : goal.core_among-requires-clause-blamed
 core_among-requires-clause-blamed g c =
     let m = c.args.m.now in
     let judgement = rw c.in-No.is at c.in_ok-tree.ensures.judged in
+    let short = subst (HasShortCycle m.columns) c.in-No.is c.in_ok-tree.ensures.short in
     let all : c.deref.result.now ≡ range_with_len 1 (length m.rows) = c.deref.ensures.value ∙ c.in_ok-all-in-No.ensures in
     let cycle : IsOddCycle m.columns (rows_at m.rows (range_with_len 1 (length m.rows))) c.in-No.cycle = subst (λ rows. IsOddCycle m.columns rows c.in-No.cycle) (sym (rows_at_all m.rows)) judgement.0 in
     let straight : rotated 0 c.deref.result.now ≡ range_with_len 1 (length m.rows) = append-nil c.deref.result.now ∙ all in
-    c.in_ok-blamed-in-No.ensures.blamed m (subst (AreRowNumbers (length m.rows)) (sym straight) (ascends_all (length m.rows))) (subst (λ xs. IsOddCycle m.columns (rows_at m.rows xs) c.in-No.cycle) (sym all) cycle)
+    c.in_ok-blamed-in-No.ensures.blamed m (subst (AreRowNumbers (length m.rows)) (sym straight) (ascends_all (length m.rows))) (subst (λ xs. IsOddCycle m.columns (rows_at m.rows xs) c.in-No.cycle) (sym all) cycle) short
 
 pub core_among-requires-clause-needed : goal.core_among-requires-clause-needed
 core_among-requires-clause-needed g c = λ turn.
@@ -42,16 +43,17 @@ pub returns-in_ok-core-in-No-clause-asked : goal.returns-in_ok-core-in-No-clause
 returns-in_ok-core-in-No-clause-asked g c = λ turn.
     let m = c.args.m.now in
     let judgement = rw c.in-No.is at c.in_ok-tree.ensures.judged in
+    let short = subst (HasShortCycle m.columns) c.in-No.is c.in_ok-tree.ensures.short in
     let all : c.deref.result.now ≡ range_with_len 1 (length m.rows) = c.deref.ensures.value ∙ c.in_ok-all-in-No.ensures in
     let cycle : IsOddCycle m.columns (rows_at m.rows (range_with_len 1 (length m.rows))) c.in-No.cycle = subst (λ rows. IsOddCycle m.columns rows c.in-No.cycle) (sym (rows_at_all m.rows)) judgement.0 in
     let straight : rotated 0 c.deref.result.now ≡ range_with_len 1 (length m.rows) = append-nil c.deref.result.now ∙ all in
-    let blamed = c.in_ok-blamed-in-No.ensures.blamed m (subst (AreRowNumbers (length m.rows)) (sym straight) (ascends_all (length m.rows))) (subst (λ xs. IsOddCycle m.columns (rows_at m.rows xs) c.in-No.cycle) (sym all) cycle) in
+    let blamed = c.in_ok-blamed-in-No.ensures.blamed m (subst (AreRowNumbers (length m.rows)) (sym straight) (ascends_all (length m.rows))) (subst (λ xs. IsOddCycle m.columns (rows_at m.rows xs) c.in-No.cycle) (sym all) cycle) short in
     let some = some_blamed c.blame_law.ensures m c.in_ok-blamed-in-No.blamed.rows.items c.in_ok-blamed-in-No.blamed.lines blamed.cycle blamed.among in
-    omega (arith, some, c.in_ok-blamed-in-No.ensures.more.1, c.in_ok-core-in-No.ensures.asked turn, c.judge.ensures.asked)
+    omega (arith, some, c.in_ok-blamed-in-No.ensures.more.1, c.in_ok-core-in-No.ensures.asked turn, c.judged_short.ensures.asked)
 
 pub returns-in_ok-core-in-No-clause-most : goal.returns-in_ok-core-in-No-clause-most
 returns-in_ok-core-in-No-clause-most g c =
     let m = c.args.m.now in
     let all : c.deref.result.now ≡ range_with_len 1 (length m.rows) = c.deref.ensures.value ∙ c.in_ok-all-in-No.ensures in
     let few : length c.in_ok-blamed-in-No.blamed.rows.items ≤ length m.rows = omega (arith, c.in_ok-blamed-in-No.ensures.few, ap length all, length-range_with_len 1 (length m.rows)) in
-    all_rounds _ _ _ (length c.in_ok-blamed-in-No.blamed.rows.items) (length m.rows) few c.judge.ensures.asked c.in_ok-core-in-No.ensures.most
+    all_rounds _ _ _ (length c.in_ok-blamed-in-No.blamed.rows.items) (length m.rows) few c.judged_short.ensures.asked c.in_ok-core-in-No.ensures.most

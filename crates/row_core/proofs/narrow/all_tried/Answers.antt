@@ -62,6 +62,7 @@ rounds-preserved g c =
               rows = c.rounds.invariant.blamed.rows;
               few = omega (arith, l);
               cycle = c.rounds.invariant.blamed.cycle;
+              short = c.rounds.invariant.blamed.short;
               among = c.rounds.invariant.blamed.among;
             });
             few = omega (arith, same, c.rounds.invariant.few);
@@ -100,6 +101,7 @@ returns-clause-narrowed g c =
     record {
       rows = c.rounds.invariant.blamed.rows;
       cycle = c.rounds.invariant.blamed.cycle;
+      short = c.rounds.invariant.blamed.short;
       among = c.rounds.invariant.blamed.among;
       orders = subst (λ k. AreTold c.args.m.now c.rounds.blamed.rows.items k c.rounds.told c.rounds.orders) none c.rounds.invariant.orders;
     }

@@ -1,5 +1,6 @@
-use Rattle.std.proofs.Common.{length, arith}
+use Rattle.std.proofs.Common.{rules, length, arith}
 use Rattle.row_model.proofs.Ascending.{ascends_few}
+use Rattle.odd_cycle.specs.Short.{IsShort}
 use Rattle.row_core.specs.Blamed.{rotated}
 use Rattle.row_core.proofs.Needed.{some_valid_few}
 use Rattle.row_core.proofs.Whole.{reasons_within, within_rotated, length-rotated, in_rotated, tree_rotated}
@@ -25,8 +26,9 @@ pub returns-clause-finding : goal.returns-clause-finding
 returns-clause-finding g c =
     let m = c.args.m.now in
     let judgement = rw (c.in-No.is, c.in_ok-part.ensures) at c.in_ok-tree.ensures.judged in
+    let short : IsShort m.columns c.in-No.cycle = search rules in
     let e = c.in_ok-blame-in-No.ensures in (
-      e.blamed m c.requires.rows judgement.0,
+      e.blamed m c.requires.rows judgement.0 short,
       λ h. judgement.1 (some_valid_few m.columns m.rows c.args.list.now (rotated c.args.needed c.args.list.now) (in_rotated c.args.needed c.args.list.now) h),
       omega (arith, e.few, length-rotated c.args.needed c.args.list.now),
       e.more.0,

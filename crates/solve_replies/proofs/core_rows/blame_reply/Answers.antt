@@ -1,6 +1,7 @@
 use Rattle.std.proofs.Common.{◌∙◌, refl, sym, ap, subst, inl, inr}
 use Rattle.instance_model.specs.Instance.{plain, IsInstance}
 use Rattle.instance_model.specs.Value.{instance_value}
+use Rattle.odd_cycle.specs.Short.{IsShort}
 use Rattle.core_text.specs.Told.{TellsCore}
 use Rattle.row_core.specs.Cored.{IsCored}
 use Rattle.core_text.specs.Texts.{TextValue}
@@ -20,6 +21,11 @@ pub core_text-requires-clause-tells : goal.core_text-requires-clause-tells
 core_text-requires-clause-tells c =
     let found = subst (IsCored c.in-Plain.m) c.in-Core.is c.in_ok-core.ensures in
     subst (λ (t : TextValue). TellsCore c.in-Plain.m t.parts) (sym c.new-in-Core.ensures) found.0
+
+pub core_text-requires-clause-short : goal.core_text-requires-clause-short
+core_text-requires-clause-short c =
+    let found = subst (IsCored c.in-Plain.m) c.in-Core.is c.in_ok-core.ensures in
+    subst (λ (t : TextValue). IsShort c.in-Plain.m.columns t.parts.lines) (sym c.new-in-Core.ensures) found.2
 
 pub returns-in_ok-text-in-Core-clause-reply : goal.returns-in_ok-text-in-Core-clause-reply
 returns-in_ok-text-in-Core-clause-reply c =

@@ -12,5 +12,6 @@ returns c =
       parts = t.parts;
       grammar = (c.core_grammar_law.ensures t.kind c.args.m.now t.parts c.requires.within some c.requires.tells).0;
       tells = c.requires.tells;
+      short = c.requires.short;
       text_is = c.in_ok-print_core.ensures.ok ∙ ap (λ xs. xs ++ core_text t) c.new-text.ensures.items ∙ ap core_text same;
     }
