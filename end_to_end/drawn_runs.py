@@ -110,7 +110,8 @@ def run(draw, solve):
     if command == "check-unit":
         return ["check-unit", "1", "2"], first, spoilt(draw, solve(["unit", "1"], first))
     if command == "other":
-        return draw.choice([["solve", kind, "3"], ["solve", kind], [], ["unit", "1", ""], ["list", kind, "1", "0"], ["solve", kind, "é"]]), first, b""
+        others = [["solve", kind, "3"], ["solve", kind], [], ["unit", "1", ""], ["list", kind, "1", "0"], ["solve", kind, "é"]]
+        return draw.choice([*others, [f"solve\n{kind}", "1"], ["solve", f"{kind}\r", "1"]]), first, b""
     if command == "extend":
         rows = file_of(draw, kind) if kind != "rows" else "".join(members(draw, 6) + "\n" for _ in range(4))
         return ["extend", kind, "1", "2"], first, spoilt(draw, rows.encode())
