@@ -104,7 +104,7 @@ def in_node(folder, library):
     yield from deep_problems(library, got["deep"])
     yield from distrust_problems(got["tables"])
     for number, (table, answer) in enumerate(zip(found, got["tables"])):
-        answer.pop("judged", None)
+        answer = {name: value for name, value in answer.items() if name not in ("judged", "faults")}
         wanted = said_of(library.path, *table)
         yield f"the page on table {number}", None if wanted == answer else f"{table}: {wanted} and {answer}"[:4000]
     kinds = {("stop" if "stop" in one else one["answer"][0][:3]) for one in got["tables"]}
@@ -120,7 +120,9 @@ def deep_problems(library, answers):
 
 
 def distrust_problems(answers):
-    """Where a judge says of every text that it is not valid, the page gives no answer."""
+    """Where a judge says of every text that it is not valid, or a run ends with a fault, the page gives no answer."""
+    faults = {line for one in answers if "stop" not in one for line in one["faults"]}
+    yield "runs that fail", difference("what is said", {f"fault {status}" for status in range(2, 7)}, faults)
     said = {one["judged"] for one in answers if "stop" not in one}
     yield "a judge who says no", difference("what is said", {True}, {line.startswith("the proof did not check: check ") for line in said})
 
