@@ -1,8 +1,10 @@
 """Builds the page, and compares its solver with the library on drawn runs, and what it says of drawn tables with what the companion says,
 sentence by sentence and picture by picture, in node; and uses the page in a browser as a reader would. A line says which tool is missing."""
 
+import ctypes
 import json
 import os
+import random
 import shutil
 import signal
 import socket
@@ -81,6 +83,32 @@ def run_problems(place, library, drawn, answers):
         status, reply, line = library.ask(*run)
         is_same = answer == [status, reply.decode("latin1"), line]
         yield f"the page's solver {place}, run {number}", None if is_same else f"{run}: {(status, reply, line)} and {answer}"[:2000]
+
+
+class Halves(ctypes.Structure):
+    """A number of 128 bits by its halves, as C hands it over."""
+
+    _fields_ = [("low", ctypes.c_uint64), ("high", ctypes.c_uint64)]
+
+
+def halves(number):
+    """The last 128 bits of a number."""
+    return Halves(number % 2**64, number // 2**64 % 2**64)
+
+
+def helper_problems(folder):
+    """The products and shifts of 128 bits in C, as this machine's compiler makes them, on drawn numbers."""
+    built = os.path.join(folder, "helpers.so")
+    subprocess.run(["cc", "-O2", "-fPIC", "-shared", os.path.join(HOME, "library", "helpers.c"), "-o", built], check=True)
+    helpers, draw = ctypes.CDLL(built), random.Random(SEED)
+    for name, takes, wanted in [("__multi3", Halves, lambda one, other: one * other), ("__lshrti3", ctypes.c_int, lambda one, bits: one >> bits),
+                                ("__ashlti3", ctypes.c_int, lambda one, bits: one << bits)]:
+        call = getattr(helpers, name)
+        call.argtypes, call.restype = [Halves, takes], Halves
+        pairs = [(draw.getrandbits(draw.randint(1, 128)), draw.getrandbits(draw.randint(1, 128) if takes is Halves else 7)) for _ in range(RUNS)]
+        wrong = [(one, other) for one, other in pairs
+                 if bytes(call(halves(one), halves(other) if takes is Halves else other)) != bytes(halves(wanted(one, other)))]
+        yield f"helpers.c: {name}", difference("wrong on", [], wrong[:3])
 
 
 def in_node(folder, library):
@@ -255,5 +283,6 @@ def problems():
             if done.returncode:
                 return
         library = Library(os.path.join(folder, "libpq.so"))
+        yield from helper_problems(folder)
         yield from in_node(folder, library)
         yield from in_browser(folder, library)
