@@ -7,8 +7,8 @@
 #   pq_core(m)                # after a no: rows that contradict one another, of which none can be left out
 #
 # The argument `pq` is the path of the program, or of the library libpq.so that scripts/library.py builds. Without it that is the program
-# which the variable PQ names; else the library, where PQ_LIBRARY names one or this checkout has it; else the pq of this checkout, or the
-# one on the PATH. Each answer was judged by a second call of pq. This file itself isn't proved.
+# which the variable PQ names; else the library, where PQ_LIBRARY names one, or this checkout or what was handed out has it; else the pq of
+# this checkout, or the one on the PATH. Each answer was judged by a second call of pq. This file itself isn't proved.
 
 pq_home <- local({
   file <- NULL
@@ -19,7 +19,7 @@ pq_home <- local({
 # The path of pq: of the program, or of the library.
 pq_program <- function() {
   own <- function(...) if (is.null(pq_home)) "" else file.path(pq_home, ...)
-  found <- c(Sys.getenv("PQ"), Sys.getenv("PQ_LIBRARY"), own("dist", "libpq.so"), own("pq"), unname(Sys.which("pq")))
+  found <- c(Sys.getenv("PQ"), Sys.getenv("PQ_LIBRARY"), own("dist", "libpq.so"), own("libpq.so"), own("pq"), unname(Sys.which("pq")))
   named <- nzchar(found) & (seq_along(found) <= 2 | file.exists(found))
   if (!any(named)) stop("there is no pq: give its path, or set PQ")
   found[named][1]

@@ -597,8 +597,9 @@ cat(pq_order(n)$answer, names(pq_core(n)), sep = "|"); cat("\\n")
 m[1, 1] <- NA
 cat(inherits(try(pq_order(m), silent = TRUE), "try-error"), pq_order(matrix(0, 0, 3))$tree, sep = "|"); cat("\\n")
 cat(length(pq_core(outer(1:600, 1:600, function(row, column) (column - row) %% 600 < 2)))); cat("\\n")
+cat(conditionMessage(tryCatch(pq_call(pq_program(), "solve", list()), error = identity)), "\\n")
 """
-R_SAYS = "yes|2|4|1|3|5|3|2|1|G2|G4|G1|G3|G5|([2 4 1 3] 5)\nTRUE|ser_permutation|list\nno|a|b|c|e\nTRUE|(1 2 3)\n600\n"
+R_SAYS = "yes|2|4|1|3|5|3|2|1|G2|G4|G1|G3|G5|([2 4 1 3] 5)\nTRUE|ser_permutation|list\nno|a|b|c|e\nTRUE|(1 2 3)\n600\npq: words \n"
 
 
 def in_r(pq=PROGRAM):

@@ -38,11 +38,19 @@ def table(draw, columns, rows):
     return "\n".join(lines) + "\n"
 
 
+def number(draw):
+    """A number, about the greatest that JSON may have here."""
+    digits = draw.choice(["17976931348623157", "17976931348623158", "17976931348623159", str(draw.randint(1, 10 ** 20))])
+    behind = "".join(draw.choice("0123456789") for _ in range(draw.randint(0, 24)))
+    return f"{digits}{behind}e{draw.choice([300, 308, 308, 309, 309]) - len(digits) - len(behind)}"
+
+
 def clones(draw, columns, rows):
-    """Probes and clones in JSON."""
+    """Probes and clones in JSON, with a number beside them."""
     probes = ", ".join(f'"p{k}"' for k in range(columns))
     each = [", ".join(f'"p{k}"' for k in range(columns) if draw.random() < 0.5) for _ in range(rows)]
-    return f'{{"probes": [{probes}], "clones": [' + ", ".join(f'{{"name": "c{k}", "probes": [{one}]}}' for k, one in enumerate(each)) + "]}\n"
+    listed = ", ".join(f'{{"name": "c{k}", "probes": [{one}]}}' for k, one in enumerate(each))
+    return f'{{"length": {number(draw)}, "probes": [{probes}], "clones": [{listed}]}}\n'
 
 
 def edges(draw, head, most, other):
@@ -110,7 +118,8 @@ def run(draw, solve):
     if command == "check-unit":
         return ["check-unit", "1", "2"], first, spoilt(draw, solve(["unit", "1"], first))
     if command == "other":
-        return draw.choice([["solve", kind, "3"], ["solve", kind], [], ["unit", "1", ""], ["list", kind, "1", "0"], ["solve", kind, "é"]]), first, b""
+        others = [["solve", kind, "3"], ["solve", kind], [], ["unit", "1", ""], ["list", kind, "1", "0"], ["solve", kind, "é"]]
+        return draw.choice([*others, [f"solve\n{kind}", "1"], ["solve", f"{kind}\r", "1"]]), first, b""
     if command == "extend":
         rows = file_of(draw, kind) if kind != "rows" else "".join(members(draw, 6) + "\n" for _ in range(4))
         return ["extend", kind, "1", "2"], first, spoilt(draw, rows.encode())

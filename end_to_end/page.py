@@ -1,8 +1,10 @@
 """Builds the page, and compares its solver with the library on drawn runs, and what it says of drawn tables with what the companion says,
 sentence by sentence and picture by picture, in node; and uses the page in a browser as a reader would. A line says which tool is missing."""
 
+import ctypes
 import json
 import os
+import random
 import shutil
 import signal
 import socket
@@ -83,6 +85,32 @@ def run_problems(place, library, drawn, answers):
         yield f"the page's solver {place}, run {number}", None if is_same else f"{run}: {(status, reply, line)} and {answer}"[:2000]
 
 
+class Halves(ctypes.Structure):
+    """A number of 128 bits by its halves, as C hands it over."""
+
+    _fields_ = [("low", ctypes.c_uint64), ("high", ctypes.c_uint64)]
+
+
+def halves(number):
+    """The last 128 bits of a number."""
+    return Halves(number % 2**64, number // 2**64 % 2**64)
+
+
+def helper_problems(folder):
+    """The products and shifts of 128 bits in C, as this machine's compiler makes them, on drawn numbers."""
+    built = os.path.join(folder, "helpers.so")
+    subprocess.run(["cc", "-O2", "-fPIC", "-shared", os.path.join(HOME, "library", "helpers.c"), "-o", built], check=True)
+    helpers, draw = ctypes.CDLL(built), random.Random(SEED)
+    for name, takes, wanted in [("__multi3", Halves, lambda one, other: one * other), ("__lshrti3", ctypes.c_int, lambda one, bits: one >> bits),
+                                ("__ashlti3", ctypes.c_int, lambda one, bits: one << bits)]:
+        call = getattr(helpers, name)
+        call.argtypes, call.restype = [Halves, takes], Halves
+        pairs = [(draw.getrandbits(draw.randint(1, 128)), draw.getrandbits(draw.randint(1, 128) if takes is Halves else 7)) for _ in range(RUNS)]
+        wrong = [(one, other) for one, other in pairs
+                 if bytes(call(halves(one), halves(other) if takes is Halves else other)) != bytes(halves(wanted(one, other)))]
+        yield f"helpers.c: {name}", difference("wrong on", [], wrong[:3])
+
+
 def in_node(folder, library):
     """The page's solver on drawn runs, and its parts on drawn tables."""
     if shutil.which("node") is None:
@@ -104,7 +132,7 @@ def in_node(folder, library):
     yield from deep_problems(library, got["deep"])
     yield from distrust_problems(got["tables"])
     for number, (table, answer) in enumerate(zip(found, got["tables"])):
-        answer.pop("judged", None)
+        answer = {name: value for name, value in answer.items() if name not in ("judged", "faults")}
         wanted = said_of(library.path, *table)
         yield f"the page on table {number}", None if wanted == answer else f"{table}: {wanted} and {answer}"[:4000]
     kinds = {("stop" if "stop" in one else one["answer"][0][:3]) for one in got["tables"]}
@@ -120,7 +148,9 @@ def deep_problems(library, answers):
 
 
 def distrust_problems(answers):
-    """Where a judge says of every text that it is not valid, the page gives no answer."""
+    """Where a judge says of every text that it is not valid, or a run ends with a fault, the page gives no answer."""
+    faults = {line for one in answers if "stop" not in one for line in one["faults"]}
+    yield "runs that fail", difference("what is said", {f"fault {status}" for status in range(2, 7)}, faults)
     said = {one["judged"] for one in answers if "stop" not in one}
     yield "a judge who says no", difference("what is said", {True}, {line.startswith("the proof did not check: check ") for line in said})
 
@@ -253,5 +283,6 @@ def problems():
             if done.returncode:
                 return
         library = Library(os.path.join(folder, "libpq.so"))
+        yield from helper_problems(folder)
         yield from in_node(folder, library)
         yield from in_browser(folder, library)

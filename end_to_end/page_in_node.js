@@ -25,6 +25,12 @@ const keeping = (runs) => async (words, first, second) => {
 const distrusting = async (words, ...files) =>
   words[0].startsWith("check") ? { status: 1, reply: Buffer.from("invalid text\n"), line: "" } : run(words, ...files);
 
+// Runs that all end with a fault.
+const failing = (status) => async () => ({ status, reply: new Uint8Array(), line: `fault ${status}` });
+
+// Why there is no answer to a question by these runs.
+const stopOf = (ask, question) => page.asked(ask, question).then(() => "an answer", (stop) => stop.message);
+
 async function said([bytes, reading]) {
   try {
     const question = page.tableQuestion(Buffer.from(bytes, "latin1"), "table", reading), runs = [];
@@ -34,7 +40,7 @@ async function said([bytes, reading]) {
       content: latin(question.content), notes: question.notes, warnings: question.warnings, question: page.questionSaid(question),
       answer: page.answerLines(question, finding), fixed: page.fixedLines(question, finding), pictures: page.picturesOf(question, finding),
       steps: core ? page.stepsOf(core.cycle, side.things, page.cutNames(side)) : [], runs,
-      judged: await page.asked(distrusting, question).then(() => "an answer", (stop) => stop.message),
+      judged: await stopOf(distrusting, question), faults: await Promise.all([2, 3, 4, 5, 6].map((status) => stopOf(failing(status), question))),
     };
   } catch (stop) {
     if (stop.constructor.name !== "Stop") throw stop;

@@ -1,38 +1,4 @@
-/* What compilers take from a C library, for the WebAssembly module. Not proved. */
-typedef __SIZE_TYPE__ size;
-
-void *memcpy(void *restrict to, const void *restrict from, size count) {
-    unsigned char *at = to;
-    const unsigned char *byte = from;
-    while (count--) *at++ = *byte++;
-    return to;
-}
-
-void *memmove(void *to, const void *from, size count) {
-    unsigned char *at = to;
-    const unsigned char *byte = from;
-    if (at < byte) return memcpy(to, from, count);
-    while (count--) at[count] = byte[count];
-    return to;
-}
-
-void *memset(void *to, int value, size count) {
-    unsigned char *at = to;
-    while (count--) *at++ = (unsigned char)value;
-    return to;
-}
-
-int memcmp(const void *one, const void *other, size count) {
-    const unsigned char *a = one, *b = other;
-    for (size i = 0; i < count; i++)
-        if (a[i] != b[i]) return a[i] < b[i] ? -1 : 1;
-    return 0;
-}
-
-int bcmp(const void *one, const void *other, size count) {
-    return memcmp(one, other, count);
-}
-
+/* Products and shifts of 128 bits, which the compiler takes from a library. Not proved. */
 typedef unsigned long long u64;
 typedef unsigned __int128 u128;
 

@@ -5,6 +5,10 @@
 #include <stddef.h>
 #include <stdint.h>
 
+#ifdef __cplusplus
+extern "C" {
+#endif
+
 /* Bytes to be read. `at` may be null where `length` is 0. */
 struct pq_bytes {
     const uint8_t *at;
@@ -30,5 +34,9 @@ struct pq_room {
 
    Nothing is kept between calls, so threads may call at a time. A thread that calls needs a stack of 2 MiB, which those of Linux have. */
 uint8_t pq_run(struct pq_bytes words, struct pq_bytes first, struct pq_bytes second, struct pq_room *reply, struct pq_room *line);
+
+#ifdef __cplusplus
+}
+#endif
 
 #endif

@@ -8,9 +8,7 @@ Whoever has this checkout, the toolchain and the same versions of the tools make
 the sum of each file (SHA-256). The status is 0; 1 where files differ; 70 where something is missing or not proved.
 """
 
-import gzip
 import hashlib
-import io
 import os
 import shutil
 import subprocess
@@ -51,16 +49,14 @@ def names_in(folder):
 
 
 def packed(folder, name):
-    """The files of a folder in one archive, the same for the same files."""
-    found = io.BytesIO()
-    with tarfile.open(fileobj=found, mode="w") as archive:
+    """The files of a folder in one archive, the same for the same files: not compressed, since that differs from one Python to another."""
+    with tarfile.open(path(name), mode="w", format=tarfile.USTAR_FORMAT) as archive:
         for one in subprocess.run(["git", "ls-files", folder], cwd=HOME, stdout=subprocess.PIPE, text=True, check=True).stdout.splitlines():
             entry = archive.gettarinfo(os.path.join(HOME, one), one)
             entry.mtime, entry.uid, entry.gid, entry.uname, entry.gname = 0, 0, 0, "", ""
+            entry.mode = 0o755 if entry.mode & 0o100 else 0o644
             with open(os.path.join(HOME, one), "rb") as stream:
                 archive.addfile(entry, stream)
-    with open(path(name), "wb") as stream:
-        stream.write(gzip.compress(found.getvalue(), mtime=0))
 
 
 def release():
@@ -76,7 +72,7 @@ def release():
     os.chmod(path("libpq.so"), 0o755)
     for name in COPIED:
         shutil.copyfile(os.path.join(HOME, name), path(os.path.basename(name)))
-    packed("companion", "companion.tar.gz")
+    packed("companion", "companion.tar")
     lines = [f"# {version(words)}" for words in TOOLS] + [f"{sum_of(path(name))}  {name}" for name in names_in(DIST)]
     with open(path(SUMS), "w", encoding="utf-8") as stream:
         stream.write("\n".join(lines) + "\n")

@@ -77,12 +77,12 @@ class Library(Calls):
 
 
 def own_library():
-    """The path of the library: that which $PQ_LIBRARY names, else the one of this checkout; None where there is none."""
+    """The path of the library: that which $PQ_LIBRARY names, else the one of this checkout, or of what was handed out; None where there is none."""
     asked = os.environ.get("PQ_LIBRARY")
     if asked:
         return os.path.abspath(asked)
-    own = os.path.join(CHECKOUT, "dist", "libpq.so")
-    return own if os.path.exists(own) else None
+    own = (os.path.join(CHECKOUT, *names, "libpq.so") for names in (["dist"], []))
+    return next((path for path in own if os.path.exists(path)), None)
 
 
 def calls(program=None):
