@@ -3,7 +3,8 @@ stand twice, cells that are no marks. Each comes with how it is to be read."""
 
 import random
 
-NAMES = ["Beaker", "Bowl", "Krug, klein", 'the "big" one', "Fibel", "Gefäß", "Total", "n", "pot\nlid", "1960", "jar", "Ürne", "x", "A;B", " knife ", "<b>&'c'"]
+NAMES = ["Beaker", "Bowl", "Krug, klein", 'the "big" one', "Fibel", "Gefäß", "Total", "n", "pot\nlid", "1960", "jar", "Ürne", "x",
+         "A;B", " knife ", "<b>&'c'"]
 CELLS = ["", "", "", "1", "1", "x", "0", "2"]
 ODD = ["?", "(1)", "1,5", "-"]
 

@@ -45,7 +45,8 @@ def compared(library, words, first, second):
     with tempfile.TemporaryDirectory() as folder:
         wanted = by_program(words, first, second, folder)
     got = by_library(library, words, first, second)
-    return next((f"{words} {first!r} {second!r}: {problem}" for problem in map(difference, ["status", "reply", "line"], wanted, got) if problem), None)
+    return next((f"{words} {first!r} {second!r}: {problem}"[:2000] for problem in map(difference, ["status", "reply", "line"], wanted, got) if problem),
+                None)
 
 
 def drawn_problems(library):
