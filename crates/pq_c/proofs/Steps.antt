@@ -10,7 +10,8 @@ use Rattle.command_input.specs.Words.{Command, files_of}
 use Rattle.reply_laws.specs.Replies.{Replies}
 use Rattle.reply_laws.specs.Promise.{IsPromised, PromiseLaw}
 use Rattle.pq_cli.specs.Runs.{AllFit, AgreesWith, OfTaken, taken_since, TakesFiles, TakesInTurn, WritesOut, EndsAtRefusal, IsLineOf, Offers}
-use Rattle.pq_cli.specs.Real.{names_taken, AllTold}
+use Rattle.pq_cli.specs.Real.{names_taken}
+use Rattle.pq_cli.specs.Told.{AllTold}
 use Rattle.pq_c.specs.Given.{given, OfFiles}
 use Rattle.pq_c.specs.Called.{BeginsReply, IsFirstRefused, IsLineFor, IsRunOf}
 

@@ -2,7 +2,7 @@
 use Rattle.std.specs.Prelude.{ℕ, List, take, Option, Some, None, if◌then◌else◌, codes}
 use Rattle.std.specs.Str.{bytes_eq}
 use Rattle.command_input.specs.Words.{Command, files_of}
-use Rattle.pq_cli.specs.Real.{AllTold}
+use Rattle.pq_cli.specs.Told.{AllTold}
 
 -- the bytes of the two files, whose names are `1` and `2`
 abbrev pub given : List ℕ → List ℕ → List ℕ → Option (List ℕ)
