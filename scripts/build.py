@@ -189,9 +189,10 @@ class House:
         return os.path.exists(path) and text_of(path).decode() == self.stamps[crate]
 
     def take_over(self, crate):
-        """Whether the gate left a library of the crate that is newer than all that it is built of, which is then taken."""
+        """Whether the gate left a library of the crate after all that it is built of was written; it is then taken. The gate makes the
+        folder anew in each run, also where it keeps what is in it."""
         left = os.path.join(folder_of(crate), "out", "rlib", f"{crate}.rlib")
-        if not os.path.exists(os.path.join(left, "format")) or os.path.getmtime(os.path.join(left, "format")) < self.newest(crate):
+        if not os.path.exists(os.path.join(left, "format")) or os.path.getmtime(left) < self.newest(crate):
             return False
         shutil.rmtree(self.rlib(crate), ignore_errors=True)
         shutil.copytree(left, self.rlib(crate), copy_function=os.link)
