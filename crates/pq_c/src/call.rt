@@ -17,11 +17,11 @@ use std::alloc::Global;
 /// | 0, 1 | the reply is there whole |
 /// | 2 | the words are outside the grammar, or no UTF-8 |
 /// | 3 | a file is refused; the line says which, and why |
-/// | 4 | the words name another file than `1` and `2` |
-/// | 5 | `out` has too little room, and has some first bytes of the reply: call again with more |
+/// | 4 | a file can't be read, as where the words name another than `1` and `2` |
+/// | 5 | some first bytes of the reply are there, as where `out` has too little room: call again with more |
 /// | 6 | memory is refused |
 ///
-/// A line has at most 56 bytes. It is left out where `err` has less room than it takes.
+/// When 4, 5 and 6 come has no clause. A line is left out where `err` has less room than it takes; 64 bytes are enough.
 #[unsafe(no_mangle)]
 pub extern "C" fn pq_c_run(
     alloc: Global,
