@@ -2,16 +2,13 @@
 ghost use Rattle.command_input.specs.Words.{Check};
 ghost use Rattle.pq_cli.specs.Runs.{RunsCommand};
 
-use crate::check::verdict_file::VerdictFile;
 use crate::input::instance_file::InstanceFile;
-use crate::input::read_file;
+use crate::input::{read_file, read_text};
 use crate::stop::Stop;
-use commands::{Reply, judgement_reply};
+use commands::{MAX_VERDICT_BYTES, Reply, judgement_reply};
 use pq_io::Shelf;
 use row_model::Kind;
 use std::alloc::Global;
-
-pub mod verdict_file;
 
 /// Judges the verdict in one file on the instance in another.
 ///
@@ -29,6 +26,6 @@ pub fn check_file<F: Shelf>(
         (Check kind file.now verdict.now) result }
 {
     let instance = read_file(alloc, &InstanceFile { kind }, 1, file, files)?;
-    let bytes = read_file(alloc, &VerdictFile, 2, verdict, files)?;
+    let bytes = read_text(alloc, MAX_VERDICT_BYTES, verdict, files)?;
     Ok(judgement_reply(alloc, &instance, &bytes)?)
 }

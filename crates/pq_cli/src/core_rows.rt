@@ -12,7 +12,6 @@ use solve_replies::blame_reply;
 use std::alloc::Global;
 
 pub mod check;
-pub mod text_file;
 
 /// Finds the rows of the matrix in a file that are to blame.
 ///

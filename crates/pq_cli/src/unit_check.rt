@@ -2,11 +2,10 @@
 ghost use Rattle.command_input.specs.Words.{CheckUnit};
 ghost use Rattle.pq_cli.specs.Runs.{RunsCommand};
 
-use crate::check::verdict_file::VerdictFile;
 use crate::input::instance_file::InstanceFile;
-use crate::input::read_file;
+use crate::input::{read_file, read_text};
 use crate::stop::Stop;
-use commands::{Reply, finding_reply};
+use commands::{MAX_VERDICT_BYTES, Reply, finding_reply};
 use pq_io::Shelf;
 use row_model::Kind;
 use std::alloc::Global;
@@ -27,6 +26,6 @@ pub fn check_unit_file<F: Shelf>(
 {
     let form = InstanceFile { kind: Kind::Proper };
     let instance = read_file(alloc, &form, 1, file, files)?;
-    let bytes = read_file(alloc, &VerdictFile, 2, unit, files)?;
+    let bytes = read_text(alloc, MAX_VERDICT_BYTES, unit, files)?;
     Ok(finding_reply(alloc, &instance, &bytes)?)
 }

@@ -2,11 +2,10 @@
 ghost use Rattle.command_input.specs.Words.{CheckCore, IsExtended};
 ghost use Rattle.pq_cli.specs.Runs.{RunsCommand};
 
-use crate::core_rows::text_file::TextFile;
 use crate::input::instance_file::InstanceFile;
-use crate::input::read_file;
+use crate::input::{read_file, read_text};
 use crate::stop::Stop;
-use commands::{Reply, core_judgement_reply};
+use commands::{MAX_CORE_BYTES, Reply, core_judgement_reply};
 use pq_io::Shelf;
 use row_model::Kind;
 use std::alloc::Global;
@@ -28,6 +27,6 @@ pub fn check_core_file<F: Shelf>(
         (CheckCore kind file.now core.now) result }
 {
     let instance = read_file(alloc, &InstanceFile { kind }, 1, file, files)?;
-    let bytes = read_file(alloc, &TextFile, 2, core, files)?;
+    let bytes = read_text(alloc, MAX_CORE_BYTES, core, files)?;
     Ok(core_judgement_reply(alloc, kind, &instance, &bytes)?)
 }

@@ -16,21 +16,21 @@ returns-in_err-instance g c =
 
 pub returns-in_err-bytes : goal.returns-in_err-bytes
 returns-in_err-bytes g c =
-    second_stops g.F.Shelf.content g.F.Shelf.taken g.F.Shelf.faults c.args.files.now c.read_file.new.files c.read_file-2.new.files (Check c.args.kind c.args.file.now c.args.verdict.now)
+    second_stops g.F.Shelf.content g.F.Shelf.taken g.F.Shelf.faults c.args.files.now c.read_file.new.files c.read_text.new.files (Check c.args.kind c.args.file.now c.args.verdict.now)
     c.args.file.now c.args.verdict.now (ReadsInstance c.args.kind) (HoldsInstance c.args.kind) c.in_ok-instance.instance (ReadsBytes MAX_VERDICT_BYTES) IsRead refl c.in_ok-instance.ensures
     (λ bytes made. ap (refused_at 1) (sym made)) c.in_err-bytes.field-0.0 c.in_err-bytes.ensures (λ refusal held. absurd held) c.from_residual-in_err-bytes.result
     c.from_residual-in_err-bytes.ensures.1
 
 pub returns-in_err-judgement_reply : goal.returns-in_err-judgement_reply
 returns-in_err-judgement_reply g c =
-    memory_after_two g.F.Shelf.content g.F.Shelf.taken g.F.Shelf.faults c.args.files.now c.read_file.new.files c.read_file-2.new.files (Check c.args.kind c.args.file.now c.args.verdict.now)
+    memory_after_two g.F.Shelf.content g.F.Shelf.taken g.F.Shelf.faults c.args.files.now c.read_file.new.files c.read_text.new.files (Check c.args.kind c.args.file.now c.args.verdict.now)
     c.args.file.now c.args.verdict.now (ReadsInstance c.args.kind) (HoldsInstance c.args.kind) c.in_ok-instance.instance (ReadsBytes MAX_VERDICT_BYTES) IsRead refl c.in_ok-instance.ensures
     (λ bytes made. ap (refused_at 1) (sym made)) c.in_ok-bytes.bytes c.in_ok-bytes.ensures c.from_residual-in_err-judgement_reply.result c.from_residual-in_err-judgement_reply.ensures.1
 
 pub returns : goal.returns
 unfolding Replies
 returns g c =
-    reply_after_two g.F.Shelf.content g.F.Shelf.taken g.F.Shelf.faults c.args.files.now c.read_file.new.files c.read_file-2.new.files (Check c.args.kind c.args.file.now c.args.verdict.now)
+    reply_after_two g.F.Shelf.content g.F.Shelf.taken g.F.Shelf.faults c.args.files.now c.read_file.new.files c.read_text.new.files (Check c.args.kind c.args.file.now c.args.verdict.now)
     c.args.file.now c.args.verdict.now (ReadsInstance c.args.kind) (HoldsInstance c.args.kind) c.in_ok-instance.instance (ReadsBytes MAX_VERDICT_BYTES) IsRead refl c.in_ok-instance.ensures
     (λ bytes made. ap (refused_at 1) (sym made)) c.in_ok-bytes.bytes c.in_ok-bytes.ensures c.in_ok-judgement_reply.field-0 c.in_ok-judgement_reply.ensures.status
     (λ bytes given made whole. (instance_value c.in_ok-instance.instance, sym made, c.in_ok-judgement_reply.ensures.reply given whole))

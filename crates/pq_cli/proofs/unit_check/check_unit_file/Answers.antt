@@ -17,13 +17,13 @@ returns-in_err-instance g c =
 
 pub returns-in_err-bytes : goal.returns-in_err-bytes
 returns-in_err-bytes g c =
-    second_stops g.F.Shelf.content g.F.Shelf.taken g.F.Shelf.faults c.args.files.now c.read_file.new.files c.read_file-2.new.files (CheckUnit c.args.file.now c.args.unit.now) c.args.file.now c.args.unit.now
+    second_stops g.F.Shelf.content g.F.Shelf.taken g.F.Shelf.faults c.args.files.now c.read_file.new.files c.read_text.new.files (CheckUnit c.args.file.now c.args.unit.now) c.args.file.now c.args.unit.now
     (ReadsInstance Proper) (HoldsInstance Proper) c.in_ok-instance.instance (ReadsBytes MAX_VERDICT_BYTES) IsRead refl c.in_ok-instance.ensures (λ bytes made. ap (refused_at 1) (sym made))
     c.in_err-bytes.field-0.0 c.in_err-bytes.ensures (λ refusal held. absurd held) c.from_residual-in_err-bytes.result c.from_residual-in_err-bytes.ensures.1
 
 pub returns-in_err-finding_reply : goal.returns-in_err-finding_reply
 returns-in_err-finding_reply g c =
-    memory_after_two g.F.Shelf.content g.F.Shelf.taken g.F.Shelf.faults c.args.files.now c.read_file.new.files c.read_file-2.new.files (CheckUnit c.args.file.now c.args.unit.now) c.args.file.now
+    memory_after_two g.F.Shelf.content g.F.Shelf.taken g.F.Shelf.faults c.args.files.now c.read_file.new.files c.read_text.new.files (CheckUnit c.args.file.now c.args.unit.now) c.args.file.now
     c.args.unit.now (ReadsInstance Proper) (HoldsInstance Proper) c.in_ok-instance.instance (ReadsBytes MAX_VERDICT_BYTES) IsRead refl c.in_ok-instance.ensures (λ bytes made. ap (refused_at 1) (sym made))
     c.in_ok-bytes.bytes c.in_ok-bytes.ensures c.from_residual-in_err-finding_reply.result c.from_residual-in_err-finding_reply.ensures.1
 
@@ -31,7 +31,7 @@ pub returns : goal.returns
 unfolding Replies
 returns g c =
     let found = c.in_ok-finding_reply.ensures.reply in
-    reply_after_two g.F.Shelf.content g.F.Shelf.taken g.F.Shelf.faults c.args.files.now c.read_file.new.files c.read_file-2.new.files (CheckUnit c.args.file.now c.args.unit.now) c.args.file.now
+    reply_after_two g.F.Shelf.content g.F.Shelf.taken g.F.Shelf.faults c.args.files.now c.read_file.new.files c.read_text.new.files (CheckUnit c.args.file.now c.args.unit.now) c.args.file.now
     c.args.unit.now (ReadsInstance Proper) (HoldsInstance Proper) c.in_ok-instance.instance (ReadsBytes MAX_VERDICT_BYTES) IsRead refl c.in_ok-instance.ensures (λ bytes made. ap (refused_at 1) (sym made))
     c.in_ok-bytes.bytes c.in_ok-bytes.ensures c.in_ok-finding_reply.field-0 c.in_ok-finding_reply.ensures.status
     (λ bytes given read_so whole. (found.0, sym read_so ∙ ap read.Ok found.1, found.2 given whole))
