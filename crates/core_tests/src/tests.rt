@@ -2,7 +2,7 @@
 ghost use Rattle.std.specs.Prelude.{◌≡◌, ◌<◌, length, IfOk};
 ghost use Rattle.row_core.specs.Cored.{IsCored};
 
-use c1p_solve::{Answered, Solved, answer};
+use c1p_solve::answer;
 use row_core::{Cored, find_core};
 use row_judge::{Judge, Judged};
 use row_model::{Matrix, NoMemory};
@@ -29,11 +29,7 @@ impl Judge for Counting {
         steps: &mut Steps<L>,
     ) -> Result<Judged, NoMemory> {
         self.asked = self.asked.saturating_add(1);
-        let Answered { solved, .. } = answer(alloc, m, steps)?;
-        match solved {
-            Solved::Yes(tree) => Ok(Judged::Yes(tree)),
-            Solved::No(cycle) => Ok(Judged::No(cycle)),
-        }
+        Ok(answer(alloc, m, steps)?.solved)
     }
 }
 

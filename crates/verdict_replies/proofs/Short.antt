@@ -22,22 +22,11 @@ use Rattle.verdict_text.specs.Text.{version_line, kind_line, columns_line, side_
 use Rattle.text_parts.specs.Text.{kind_word, number_word, cycle_line}
 use Rattle.instance_model.specs.Instance.{InstanceValue, instance_kind, IsSideOf, derived_matrix, IsInstance, IsWellFormed}
 use Rattle.verdict_replies.specs.Verdicts.{ShowsAllOrders, ShowsSides, AddsToOrder, IsClaimOf, IsVerdictOf}
-use Rattle.verdict_replies.proofs.Lengths.{IsColumn, four_digits, seven_digits, words_length, tree_length, lines_length}
+use Rattle.verdict_replies.proofs.Lengths.{IsColumn, four_digits, seven_digits, words_length, tree_length, lines_length, short_word}
 use Rattle.verdict_replies.proofs.Sizes.{first_side}
 use Rattle.verdict_replies.proofs.Shown.{one_or_two, one_shown, two_shown}
 use Rattle.verdict_replies.proofs.AddedFits.{adds_short}
 use Rattle.verdict_replies.proofs.Fits.{order_columns, cycle_of_side, few_cycle}
-
-short_word : (kind : Kind) → length (kind_word kind) ≤ 8
-short_word Matrix = omega arith
-short_word Rows = omega arith
-short_word Table = omega arith
-short_word Circular = omega arith
-short_word Convex = omega arith
-short_word Doubly = omega arith
-short_word Proper = omega arith
-short_word Robinson = omega arith
-short_word Clones = omega arith
 
 few_sides : (kind : Kind) → side_count kind ≤ 2
 few_sides Matrix = omega arith
