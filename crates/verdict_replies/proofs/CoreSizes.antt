@@ -1,5 +1,5 @@
 -- What is told of a core of a matrix within the limits is in the grammar, and within the limit of bytes.
-use Rattle.std.proofs.Common.{◌≡◌, ℕ, suc, ◌+◌, ◌*◌, ◌<◌, ◌≤◌, List, [], ◌∷◌, ◌++◌, length, get_or, codes, refl, arith}
+use Rattle.std.proofs.Common.{◌≡◌, ℕ, suc, ◌+◌, ◌*◌, ◌<◌, ◌≤◌, List, [], ◌∷◌, ◌++◌, length, get_or, codes, arith}
 use Rattle.std.specs.Prelude.{flat_map}
 use Rattle.std.specs.List.{AllByRecursion, zip}
 use Rattle.std.specs.Fmt.{decimal}
@@ -7,10 +7,6 @@ use Rattle.std.proofs.lemmas.List.{length-append}
 use Rattle.column_order.proofs.Counts.{order_length, order_within}
 use Rattle.column_order.proofs.Lists.{has_at}
 use Rattle.row_model.specs.declared.kind.Kind.{Kind}
-use Rattle.row_model.specs.declared.kind.Kind.TheVariants.{Matrix, Rows, Table, Circular, Convex, Doubly, Proper, Robinson, Clones}
-use Rattle.row_model.specs.declared.graph.Line.{Line}
-use Rattle.row_model.specs.declared.graph.Why.{Why}
-use Rattle.row_model.specs.declared.graph.Why.TheVariants.{Flip, Row}
 use Rattle.row_model.specs.declared.TheConstants.{MAX_COLUMNS, MAX_ROWS}
 use Rattle.row_model.specs.Rows.{RowList}
 use Rattle.row_model.proofs.Ascending.{ascends_few, ascends_within}
@@ -19,11 +15,10 @@ use Rattle.instance_model.specs.Instance.{plain, IsInstance}
 use Rattle.core_text.specs.Parts.{CoreParts}
 use Rattle.core_text.specs.Told.{TellsCore}
 use Rattle.core_text.specs.Texts.{IsEntry, IsInGrammar, entries, entry_text, core_text}
-use Rattle.text_parts.specs.Grammar.{IsLine, Fits32}
 use Rattle.text_parts.specs.Text.{kind_word, number_word, cycle_line, counted_text}
 use Rattle.verdict_replies.specs.declared.TheConstants.{MAX_CORE_BYTES}
 use Rattle.verdict_replies.specs.Cores.{core_value, CoreGrammarLaw}
-use Rattle.verdict_replies.proofs.Lengths.{IsColumn, IsCycleLine, four_digits, six_digits, seven_digits, words_length, lines_length, short_word, few_lines}
+use Rattle.verdict_replies.proofs.Lengths.{IsColumn, IsCycleLine, four_digits, six_digits, seven_digits, words_length, lines_length, small_kind, few_lines}
 use Rattle.verdict_replies.proofs.Fits.{columns_within, columns_fit, cycle_lines, lines_fit}
 
 -- a row of a matrix within the limits, and an order of its columns
@@ -127,7 +122,7 @@ module _ (cycle_length : CycleLengthLaw) (kind : Kind) (m : RowList) (parts : Co
         few_cycle,
         first,
         second,
-        short_word kind,
+        small_kind kind,
         four_digits m.columns few_columns,
         length-append (codes "pq-core 1\nkind ") (kind_word kind ++ (codes "\ncolumns " ++ (decimal m.columns ++ (codes "\ncore " ++ rest)))),
         length-append (kind_word kind) (codes "\ncolumns " ++ (decimal m.columns ++ (codes "\ncore " ++ rest))),

@@ -16,6 +16,7 @@ use Rattle.row_model.specs.declared.TheConstants.{MAX_COLUMNS, MAX_ROWS}
 use Rattle.pq_tree.specs.Outline.{Outline, Forest, leaf, p_node, q_node, no_tree, tree_and, leaves, leaves_of}
 use Rattle.pq_tree.specs.Proper.{HasArities, HaveArities, count}
 use Rattle.pq_tree.specs.Text.{tree_text, forest_text, spaced_text}
+use Rattle.verdict_text.specs.Grammar.{side_count}
 use Rattle.text_parts.specs.Text.{kind_word, number_word, why_text, cycle_line}
 
 -- a number of columns has at most four digits, one of rows at most six, one up to 9,999,999 at most seven
@@ -28,17 +29,17 @@ six_digits n le = length-decimal-le 6 n (omega arith) (omega arith) (omega arith
 pub seven_digits : (n : ℕ) → n ≤ 9999999 → length (decimal n) ≤ 7
 seven_digits n le = length-decimal-le 7 n (omega arith) (omega arith) (omega arith)
 
--- the word of a kind has at most eight letters
-pub short_word : (kind : Kind) → length (kind_word kind) ≤ 8
-short_word Matrix = omega arith
-short_word Rows = omega arith
-short_word Table = omega arith
-short_word Circular = omega arith
-short_word Convex = omega arith
-short_word Doubly = omega arith
-short_word Proper = omega arith
-short_word Robinson = omega arith
-short_word Clones = omega arith
+-- a kind has a word of at most eight letters, and at most two sides
+pub small_kind : (kind : Kind) → (length (kind_word kind) ≤ 8) × (side_count kind ≤ 2)
+small_kind Matrix = (omega arith, omega arith)
+small_kind Rows = (omega arith, omega arith)
+small_kind Table = (omega arith, omega arith)
+small_kind Circular = (omega arith, omega arith)
+small_kind Convex = (omega arith, omega arith)
+small_kind Doubly = (omega arith, omega arith)
+small_kind Proper = (omega arith, omega arith)
+small_kind Robinson = (omega arith, omega arith)
+small_kind Clones = (omega arith, omega arith)
 
 -- a column of the greatest matrix
 abbrev pub IsColumn : ℕ → Type 0
