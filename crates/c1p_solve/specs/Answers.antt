@@ -11,8 +11,8 @@ use Rattle.pq_tree.specs.declared.PqTree.{PqTree}
 use Rattle.tied_law.specs.Tied.{IsTied}
 use Rattle.row_judge.specs.Judges.{IsFirstConflict}
 use Rattle.odd_cycle.specs.Short.{IsShort}
-use Rattle.c1p_solve.specs.declared.solver.Solved.{Solved}
-use Rattle.c1p_solve.specs.declared.solver.Solved.TheVariants.{Yes, No}
+use Rattle.row_judge.specs.declared.Judged.{Judged}
+use Rattle.row_judge.specs.declared.Judged.TheVariants.{Yes, No}
 
 -- the tree is canonical and tied to all rows of the matrix, and its frontiers are exactly the valid orders
 pub record HasAllOrders (m : RowList) (t : PqTree) : Type 0 where
@@ -22,7 +22,7 @@ pub record HasAllOrders (m : RowList) (t : PqTree) : Type 0 where
   pub orders : (o : List ℕ) → IsFrontier (outline t) o ↔ IsValidOrder m.columns m.rows o
 
 -- yes with the tree of all valid orders, or no with a short odd cycle, where there is no valid order
-abbrev pub IsAnswer : RowList → Solved → Type 0
+abbrev pub IsAnswer : RowList → Judged → Type 0
 IsAnswer m (Yes t) = HasAllOrders m t × HasValidOrder m.columns m.rows
 IsAnswer m (No cycle) = IsOddCycle m.columns m.rows cycle × (HasValidOrder m.columns m.rows → ⊥) × IsShort m.columns cycle
 
@@ -41,12 +41,12 @@ IsReduction m t None = IsTied m.columns m.rows t × HasValidOrder m.columns m.ro
 IsReduction m t (Some cycle) = IsOddCycle m.columns m.rows cycle × (HasValidOrder m.columns m.rows → ⊥) × StandsBefore m t × IsShort m.columns cycle
 
 -- where an answer leaves the reducer's tree
-abbrev pub LeavesTree : RowList → Outline → Solved → Type 0
+abbrev pub LeavesTree : RowList → Outline → Judged → Type 0
 LeavesTree m t (Yes _) = IsTied m.columns m.rows t
 LeavesTree m t (No _) = StandsBefore m t
 
 -- the cycle of a no is one of the rows up to the first that leaves no valid order with those before it
-abbrev pub IsInTurn : RowList → Solved → Type 0
+abbrev pub IsInTurn : RowList → Judged → Type 0
 IsInTurn m (Yes _) = Unit {0}
 IsInTurn m (No cycle) = IsFirstConflict m cycle
 

@@ -3,7 +3,6 @@ use Rattle.std.specs.Prelude.{ℕ, ◌+◌, ◌*◌, ◌≤◌, Some, None, List
 use Rattle.row_model.specs.Rows.{RowList}
 use Rattle.pq_tree.specs.Outline.{Outline}
 use Rattle.pq_tree.specs.Amortised.{nodes_met, weight}
-use Rattle.c1p_solve.specs.Sessions.{SessionValue}
 use Rattle.c1p_solve.specs.Totals.{search_steps, IsYesTotal, IsNoTotal}
 use Rattle.c1p_solve.specs.declared.session.Started.{Started}
 use Rattle.c1p_solve.specs.declared.session.Started.TheVariants as started

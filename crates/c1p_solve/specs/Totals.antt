@@ -5,8 +5,8 @@ use Rattle.row_model.specs.Rows.{RowList}
 use Rattle.row_model.specs.declared.graph.Line.{Line}
 use Rattle.pq_tree.specs.Outline.{Outline}
 use Rattle.pq_tree.specs.Amortised.{weight}
-use Rattle.c1p_solve.specs.declared.solver.Solved.{Solved}
-use Rattle.c1p_solve.specs.declared.solver.Solved.TheVariants.{Yes, No}
+use Rattle.row_judge.specs.declared.Judged.{Judged}
+use Rattle.row_judge.specs.declared.Judged.TheVariants.{Yes, No}
 
 -- the most steps in which a frugal reducer of c columns takes these rows in turn, or takes all but the last and refuses that
 abbrev pub reduction_steps : ℕ → List (List ℕ) → ℕ
@@ -31,7 +31,7 @@ pub record IsNoTotal (m : RowList) (s n : ℕ) : Type 0 where
   pub total : n ≤ s + reduction_steps m.columns (take k m.rows) + search_steps m.columns (take k m.rows)
 
 -- the total of an answer that leaves the tree t
-abbrev pub IsTotal : RowList → Outline → ℕ → ℕ → Solved → Type 0
+abbrev pub IsTotal : RowList → Outline → ℕ → ℕ → Judged → Type 0
 IsTotal m t s n (Yes _) = IsYesTotal m t s n
 IsTotal m t s n (No _) = IsNoTotal m s n
 

@@ -4,7 +4,8 @@ ghost use Rattle.arena_model.specs.NamedTree.{outline_at};
 ghost use Rattle.c1p_solve.specs.Answers.{IsAnswer, LeavesTree, IsInTurn};
 ghost use Rattle.c1p_solve.specs.Totals.{IsTotal};
 
-use crate::solver::{Solved, solve};
+use crate::Solved;
+use crate::solver::solve;
 use row_model::{Matrix, NoMemory};
 use row_reduce::ArenaReducer;
 use std::alloc::Global;

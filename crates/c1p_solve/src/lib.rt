@@ -7,6 +7,7 @@ mod session;
 mod solver;
 
 pub use chosen::{Answered, Chosen, answer};
+pub use row_judge::Judged as Solved;
 pub use row_model::NoMemory;
 pub use session::{Session, Started, Taken};
-pub use solver::{Solved, solve};
+pub use solver::solve;

@@ -8,26 +8,18 @@ ghost use Rattle.tied_law.specs.Tied.{IsTied};
 ghost use Rattle.c1p_solve.specs.Answers.{IsAnswer, IsReduction, LeavesTree, IsInTurn, IsReducedInTurn};
 ghost use Rattle.c1p_solve.specs.Totals.{IsTotal, IsReductionTotal};
 
+use crate::Solved;
 use incompat_graph::{Cycle, odd_cycle_along};
-use pq_tree::PqTree;
 use row_model::{Matrix, NoMemory};
 use std::alloc::Global;
 use step_count::{Ledger, Steps};
 use template_theory::{Reducer, Step};
 
-/// The answer on a matrix.
-#[derive(Drop)]
-pub enum Solved {
-    /// There is a valid order. The tree is canonical and tied to all rows, so its frontiers are
-    /// exactly the valid orders.
-    Yes(PqTree),
-    /// There is none, as this odd cycle of the incompatibility graph shows. It has at most one flip, and with c columns at
-    /// most c(c - 1)/2 + 1 lines. None of its rows comes after the first one up to which the rows have no valid order.
-    No(Cycle),
-}
-
 /// Solves a matrix by a reducer whose tree is universal over its columns, or any other tree that is tied to no rows:
 /// its frontiers are all orders of the columns.
+///
+/// The tree of a `Yes` is canonical and tied to all rows. The cycle of a `No` has at most one flip, and with c columns at
+/// most c(c - 1)/2 + 1 lines. None of its rows comes after the first one up to which the rows have no valid order.
 ///
 /// After `Yes` the reducer's tree is tied to all rows of the matrix. After `No` it is tied to the rows before the first
 /// one up to which the rows have no valid order.

@@ -1,5 +1,6 @@
 -- The command that the code reads from the words.
-use Rattle.command_input.specs.Words.{Command, Solve, Check, Extend, Gen, Meet, ListOrders, UnitModel, CheckUnit, Core, CheckCore}
+use Rattle.std.specs.Prelude.{◌≡◌, Option, option_map, IfSome}
+use Rattle.command_input.specs.Words.{Command, Solve, Check, Extend, Gen, Meet, ListOrders, UnitModel, CheckUnit, Core, CheckCore, IsInGrammar}
 use Rattle.command_input.specs.declared.words.Task.{Task}
 use Rattle.command_input.specs.declared.words.Task.TheVariants as task
 
@@ -15,3 +16,7 @@ command_seen (task.Meet columns first second) = Meet columns first.now second.no
 command_seen (task.ListOrders kind file count) = ListOrders kind file.now count
 command_seen (task.UnitModel file) = UnitModel file.now
 command_seen (task.CheckUnit file unit) = CheckUnit file.now unit.now
+
+-- a task stands for a command that the words ask for, within the grammar; or for neither
+abbrev pub IsTaskOf : Option Task → Option Command → Type 0
+IsTaskOf task command = (option_map command_seen task ≡ command) × IfSome task (λ t. IsInGrammar (command_seen t))

@@ -1,7 +1,7 @@
 // The words of the command line.
 ghost use Rattle.std.specs.Prelude.{◌≡◌, ◌≤◌, [], ◌∷◌, option_map, IfSome};
 ghost use Rattle.command_input.specs.Words.{texts, Solve, command_of, check_of, extend_of, core_of, check_core_of, check_unit_of, numbered_command_of, gen_of, meet_of, list_of, kind_of, extended_kind_of, number_in, are_both_input, IsExtended, IsInGrammar};
-ghost use Rattle.command_input.specs.Task.{command_seen};
+ghost use Rattle.command_input.specs.Task.{command_seen, IsTaskOf};
 
 use order_list::MAX_ORDERS;
 use row_model::{Kind, MAX_COLUMNS, MAX_ROWS};
@@ -112,8 +112,7 @@ pub fn task_of(words: &[String]) -> Option<Task<'_>>
 
 // What two words ask for.
 fn two_words<'a>(verb: &str, file: &'a str) -> Option<Task<'a>>
-    ensures task { option_map command_seen result ≡ command_of (verb.now ∷ file.now ∷ []) }
-    ensures taken { IfSome result (λ task. IsInGrammar (command_seen task)) }
+    ensures { IsTaskOf result (command_of (verb.now ∷ file.now ∷ [])) }
 {
     match verb {
         "unit" => Some(Task::UnitModel { file }),
@@ -123,9 +122,7 @@ fn two_words<'a>(verb: &str, file: &'a str) -> Option<Task<'a>>
 
 // What three words ask for.
 fn three_words<'a>(verb: &str, first: &'a str, second: &'a str) -> Option<Task<'a>>
-    ensures task { option_map command_seen result ≡ command_of
-        (verb.now ∷ first.now ∷ second.now ∷ []) }
-    ensures taken { IfSome result (λ task. IsInGrammar (command_seen task)) }
+    ensures { IsTaskOf result (command_of (verb.now ∷ first.now ∷ second.now ∷ [])) }
 {
     match verb {
         "solve" => solve_of(first, second),
@@ -137,8 +134,7 @@ fn three_words<'a>(verb: &str, first: &'a str, second: &'a str) -> Option<Task<'
 
 // `solve` with these words.
 fn solve_of<'a>(kind: &str, file: &'a str) -> Option<Task<'a>>
-    ensures task { option_map command_seen result ≡ option_map (λ k. Solve k file.now) (kind_of kind.now) }
-    ensures taken { IfSome result (λ task. IsInGrammar (command_seen task)) }
+    ensures { IsTaskOf result (option_map (λ k. Solve k file.now) (kind_of kind.now)) }
 {
     let kind = kind_of(kind)?;
     Some(Task::Solve { kind, file })
@@ -146,8 +142,7 @@ fn solve_of<'a>(kind: &str, file: &'a str) -> Option<Task<'a>>
 
 // `core` with these words.
 fn core_of<'a>(kind: &str, file: &'a str) -> Option<Task<'a>>
-    ensures task { option_map command_seen result ≡ core_of kind.now file.now }
-    ensures taken { IfSome result (λ task. IsInGrammar (command_seen task)) }
+    ensures { IsTaskOf result (core_of kind.now file.now) }
 {
     let kind = extended_kind_of(kind)?;
     Some(Task::Core { kind, file })
@@ -155,9 +150,7 @@ fn core_of<'a>(kind: &str, file: &'a str) -> Option<Task<'a>>
 
 // What four words ask for.
 fn four_words<'a>(verb: &str, first: &'a str, second: &'a str, third: &'a str) -> Option<Task<'a>>
-    ensures task { option_map command_seen result ≡ command_of
-        (verb.now ∷ first.now ∷ second.now ∷ third.now ∷ []) }
-    ensures taken { IfSome result (λ task. IsInGrammar (command_seen task)) }
+    ensures { IsTaskOf result (command_of (verb.now ∷ first.now ∷ second.now ∷ third.now ∷ [])) }
 {
     match verb {
         "check" => check_of(first, second, third),
@@ -174,8 +167,7 @@ fn numbered_command_of<'a>(
     second: &'a str,
     third: &'a str,
 ) -> Option<Task<'a>>
-    ensures task { option_map command_seen result ≡ numbered_command_of verb.now first.now second.now third.now }
-    ensures taken { IfSome result (λ task. IsInGrammar (command_seen task)) }
+    ensures { IsTaskOf result (numbered_command_of verb.now first.now second.now third.now) }
 {
     match verb {
         "gen" => gen_of(first, second, third),
@@ -187,8 +179,7 @@ fn numbered_command_of<'a>(
 
 // `check` with these words.
 fn check_of<'a>(kind: &str, file: &'a str, verdict: &'a str) -> Option<Task<'a>>
-    ensures task { option_map command_seen result ≡ check_of kind.now file.now verdict.now }
-    ensures taken { IfSome result (λ task. IsInGrammar (command_seen task)) }
+    ensures { IsTaskOf result (check_of kind.now file.now verdict.now) }
 {
     if are_both_input(file, verdict) {
         return None;
@@ -203,8 +194,7 @@ fn check_of<'a>(kind: &str, file: &'a str, verdict: &'a str) -> Option<Task<'a>>
 
 // `extend` with these words.
 fn extend_of<'a>(kind: &str, file: &'a str, rows: &'a str) -> Option<Task<'a>>
-    ensures task { option_map command_seen result ≡ extend_of kind.now file.now rows.now }
-    ensures taken { IfSome result (λ task. IsInGrammar (command_seen task)) }
+    ensures { IsTaskOf result (extend_of kind.now file.now rows.now) }
 {
     if are_both_input(file, rows) {
         return None;
@@ -215,8 +205,7 @@ fn extend_of<'a>(kind: &str, file: &'a str, rows: &'a str) -> Option<Task<'a>>
 
 // `check-core` with these words.
 fn check_core_of<'a>(kind: &str, file: &'a str, core: &'a str) -> Option<Task<'a>>
-    ensures task { option_map command_seen result ≡ check_core_of kind.now file.now core.now }
-    ensures taken { IfSome result (λ task. IsInGrammar (command_seen task)) }
+    ensures { IsTaskOf result (check_core_of kind.now file.now core.now) }
 {
     if are_both_input(file, core) {
         return None;
@@ -227,8 +216,7 @@ fn check_core_of<'a>(kind: &str, file: &'a str, core: &'a str) -> Option<Task<'a
 
 // `gen` with these words.
 fn gen_of(seed: &str, columns: &str, rows: &str) -> Option<Task<'static>>
-    ensures task { option_map command_seen result ≡ gen_of seed.now columns.now rows.now }
-    ensures taken { IfSome result (λ task. IsInGrammar (command_seen task)) }
+    ensures { IsTaskOf result (gen_of seed.now columns.now rows.now) }
 {
     let seed = number_in(0, u64::MAX, seed)?;
     let columns = number_in(1, u64::from(MAX_COLUMNS), columns)? as u32;
@@ -242,8 +230,7 @@ fn gen_of(seed: &str, columns: &str, rows: &str) -> Option<Task<'static>>
 
 // `meet` with these words.
 fn meet_of<'a>(columns: &str, first: &'a str, second: &'a str) -> Option<Task<'a>>
-    ensures task { option_map command_seen result ≡ meet_of columns.now first.now second.now }
-    ensures taken { IfSome result (λ task. IsInGrammar (command_seen task)) }
+    ensures { IsTaskOf result (meet_of columns.now first.now second.now) }
 {
     if are_both_input(first, second) {
         return None;
@@ -258,8 +245,7 @@ fn meet_of<'a>(columns: &str, first: &'a str, second: &'a str) -> Option<Task<'a
 
 // `list` with these words.
 fn list_of<'a>(kind: &str, file: &'a str, count: &str) -> Option<Task<'a>>
-    ensures task { option_map command_seen result ≡ list_of kind.now file.now count.now }
-    ensures taken { IfSome result (λ task. IsInGrammar (command_seen task)) }
+    ensures { IsTaskOf result (list_of kind.now file.now count.now) }
 {
     let kind = extended_kind_of(kind)?;
     let count = number_in(1, u64::from(MAX_ORDERS), count)? as u32;
@@ -268,8 +254,7 @@ fn list_of<'a>(kind: &str, file: &'a str, count: &str) -> Option<Task<'a>>
 
 // `check-unit` with these words.
 fn check_unit_of<'a>(file: &'a str, unit: &'a str) -> Option<Task<'a>>
-    ensures task { option_map command_seen result ≡ check_unit_of file.now unit.now }
-    ensures taken { IfSome result (λ task. IsInGrammar (command_seen task)) }
+    ensures { IsTaskOf result (check_unit_of file.now unit.now) }
 {
     if are_both_input(file, unit) {
         return None;

@@ -2,7 +2,7 @@
 ghost use Rattle.std.specs.Prelude.{◌≡◌, ◌<◌, length, IfOk};
 ghost use Rattle.row_core.specs.Cored.{IsCored};
 
-use c1p_solve::{Answered, Solved, answer};
+use c1p_solve::answer;
 use row_core::{Cored, find_core};
 use row_judge::{Judge, Judged};
 use row_model::{Matrix, NoMemory};
@@ -29,11 +29,7 @@ impl Judge for Counting {
         steps: &mut Steps<L>,
     ) -> Result<Judged, NoMemory> {
         self.asked = self.asked.saturating_add(1);
-        let Answered { solved, .. } = answer(alloc, m, steps)?;
-        match solved {
-            Solved::Yes(tree) => Ok(Judged::Yes(tree)),
-            Solved::No(cycle) => Ok(Judged::No(cycle)),
-        }
+        Ok(answer(alloc, m, steps)?.solved)
     }
 }
 
@@ -75,6 +71,14 @@ fn found(alloc: Global, m: &Matrix) -> Result<(Cored, u64), NoMemory> {
     Ok((cored, judge.asked))
 }
 
+// How many rows a core has, where there is one.
+fn rows_of(cored: &Cored) -> Option<usize> {
+    match cored {
+        Cored::Core(core) => Some(core.rows().len()),
+        Cored::Has(_) => None,
+    }
+}
+
 // A row of each two neighbours of five columns.
 fn chain(alloc: Global) -> Result<Matrix, NoMemory>
     ensures { IfOk result (λ m. (m.columns ≡ 5) × (length m.rows ≡ 4)) }
@@ -103,10 +107,7 @@ fn six_judgements_of_a_ring_of_five(rt: HostRuntime) -> Result<(), Fail> {
     let mut m = chain(rt.alloc())?;
     m.push_row(&[1, 5])?;
     let (cored, asked) = found(rt.alloc(), &m)?;
-    match &cored {
-        Cored::Core(core) => assert_eq!(rt; core.rows().len(), 5),
-        Cored::Has(_) => assert!(rt; false),
-    }
+    assert_eq!(rt; rows_of(&cored), Some(5));
     assert_eq!(rt; asked, 6);
     Ok(())
 }
@@ -119,9 +120,7 @@ fn a_core_by_a_solver_that_tells_nothing(rt: HostRuntime) -> Result<(), Fail> {
     let mut judge = Silent {
         other: Counting { asked: 0 },
     };
-    match &counted::<Brand, Silent>(rt.alloc(), &mut judge, &m, Blank::new(1))? {
-        Cored::Core(core) => assert_eq!(rt; core.rows().len(), 5),
-        Cored::Has(_) => assert!(rt; false),
-    }
+    let cored = counted::<Brand, Silent>(rt.alloc(), &mut judge, &m, Blank::new(1))?;
+    assert_eq!(rt; rows_of(&cored), Some(5));
     Ok(())
 }

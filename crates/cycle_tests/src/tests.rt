@@ -1,2 +1,3 @@
 mod classes;
+mod three;
 mod walks;

@@ -83,39 +83,32 @@ module _ {S : Type 0} (content : S → List ℕ → Option (List ℕ)) (taken : 
 
     -- a stop at the last of them, or for memory behind them
     stopped : (s : Stop) → OnlyReads content faults old new (stop_status s) → ((s ≡ stop.NoMemory) ⊎ (0 < length ts)) → StopsAt c ts s → RunsCommand content taken faults old new c (Err s)
-    stopped (stop.Refused which refusal) reads at ends = over (Err (stop.Refused which refusal)) (record {
+    stopped s reads at ends = over (Err s) (record {
       files = record {
         takes = takes;
-        asks = record { few = few; names = names; agree = told; on_fault = λ e. absurd (omega arith); on_reply = λ e. absurd (grind arith); in_turn = earlier };
+        asks = record { few = few; names = names; agree = told; on_fault = fault s at; on_reply = λ e. absurd (no_reply s e); in_turn = earlier };
         shelf = reads;
-        refused = λ e. (which, refusal, ends);
+        refused = refused s ends;
       };
       stop = ends;
       status = tt;
       reply = tt;
     })
-    stopped stop.ReadFault reads at ends = over (Err stop.ReadFault) (record {
-      files = record {
-        takes = takes;
-        asks = record { few = few; names = names; agree = told; on_fault = λ e. elim at [ inl full ↦ absurd (cc) | inr here ↦ here ]; on_reply = λ e. absurd (grind arith); in_turn = earlier };
-        shelf = reads;
-        refused = λ e. absurd (omega arith);
-      };
-      stop = tt;
-      status = tt;
-      reply = tt;
-    })
-    stopped stop.NoMemory reads at ends = over (Err stop.NoMemory) (record {
-      files = record {
-        takes = takes;
-        asks = record { few = few; names = names; agree = told; on_fault = λ e. absurd (omega arith); on_reply = λ e. absurd (grind arith); in_turn = earlier };
-        shelf = reads;
-        refused = λ e. absurd (omega arith);
-      };
-      stop = tt;
-      status = tt;
-      reply = tt;
-    })
+      where
+        fault : (s : Stop) → ((s ≡ stop.NoMemory) ⊎ (0 < length ts)) → stop_status s ≡ 4 → 0 < length ts
+        fault (stop.Refused which refusal) at e = absurd (omega arith)
+        fault stop.ReadFault at e = elim at [ inl full ↦ absurd (cc) | inr here ↦ here ]
+        fault stop.NoMemory at e = absurd (omega arith)
+
+        no_reply : (s : Stop) → (stop_status s ≡ 0) ⊎ (stop_status s ≡ 1) ⊎ (stop_status s ≡ 5) → ⊥
+        no_reply (stop.Refused which refusal) e = grind arith
+        no_reply stop.ReadFault e = grind arith
+        no_reply stop.NoMemory e = grind arith
+
+        refused : (s : Stop) → StopsAt c ts s → stop_status s ≡ 3 → (which : ℕ) × (refusal : Refusal) × EndsAtRefusal c ts which refusal
+        refused (stop.Refused which refusal) ends e = (which, refusal, ends)
+        refused stop.ReadFault ends e = absurd (omega arith)
+        refused stop.NoMemory ends e = absurd (omega arith)
 
     -- a reply behind all files
     replied : (reply : Reply) → length ts ≡ length (files_of c) → OnlyReads content faults old new reply.status → (reply.status ≡ 0) ⊎ (reply.status ≡ 1)

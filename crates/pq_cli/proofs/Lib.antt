@@ -3,5 +3,6 @@ pub mod Lines
 pub mod Bases
 pub mod Promises
 pub mod Takings
+pub mod Says
 mod RealLaws
 mod ToldFiles

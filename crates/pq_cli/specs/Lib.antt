@@ -5,3 +5,4 @@ pub mod Runs
 pub mod Promise
 pub mod Real
 pub mod Told
+pub mod Over

@@ -1,10 +1,12 @@
 -- What the reading of one file gives. A shelf is seen by what was taken of its files, the bytes that it tells of them, and
 -- its count of faults.
-use Rattle.std.specs.Prelude.{◌≡◌, ◌≢◌, ◌⊎◌, ⊤, ℕ, ◌≤◌, true, List, [], ◌∷◌, ◌++◌, Option, IfSome, Result, Ok, Err, IfOk, IfErr}
+use Rattle.std.specs.Prelude.{◌≡◌, ◌≢◌, ◌⊎◌, ⊤, ℕ, ◌<◌, ◌≤◌, true, List, [], ◌∷◌, ◌++◌, length, Option, IfSome, Result, Ok, Err, IfOk, IfErr}
 use Rattle.pq_io.specs.Faults.{Rose}
 use Rattle.pq_io.specs.Taken.{Taken}
 use Rattle.pq_io.specs.Whole.{IsWhole}
 use Rattle.pq_io.specs.declared.reading.Whole.{Whole}
+use Rattle.row_model.specs.declared.TheConstants.{MAX_FILE_BYTES}
+use Rattle.row_model.specs.declared.code.TheConstants.{LIMIT}
 use Rattle.row_model.specs.declared.refusal.Read.{Read}
 use Rattle.row_model.specs.declared.refusal.Read.TheVariants as read
 use Rattle.pq_cli.specs.Stops.{read_status}
@@ -58,6 +60,11 @@ pub record ReadsAs {S V : Type 0} (content : S → List ℕ → Option (List ℕ
 -- the file of a name was read, the one of this number
 abbrev pub ReadsFile : {S V : Type 0} → (S → List ℕ → Option (List ℕ)) → (S → List Taken) → (S → ℕ) → S → S → List ℕ → ℕ → (List ℕ → Read V → Type 0) → (Read V → Type 0) → Result V Stop → Type 0
 ReadsFile content taken faults old new name which reads holds result = (t : Taken) × ReadsAs content taken faults old new name which reads holds result t
+
+-- a file of more bytes than there may be is refused as too long, and `holds` holds of that
+pub record RefusesLong {V : Type 0} (reads : List ℕ → Read V → Type 0) (holds : Read V → Type 0) : Type 0 where
+  pub long : (bytes : List ℕ) → MAX_FILE_BYTES < length bytes → reads bytes (read.Refused (record { code = LIMIT; line = 0 }))
+  pub held : holds (read.Refused (record { code = LIMIT; line = 0 }))
 
 -- the bytes of the file of a name were read, up to a limit
 pub record ReadsWhole {S : Type 0} (content : S → List ℕ → Option (List ℕ)) (taken : S → List Taken) (faults : S → ℕ) (old new : S) (name : List ℕ) (limit : ℕ)

@@ -1,21 +1,27 @@
 // The commands: from what the words ask for to a reply.
-ghost use Rattle.command_input.specs.Words.{IsInGrammar};
+ghost use Rattle.std.specs.Prelude.{◌≡◌, ◌⊎◌, ◌≤◌, IfOk};
+ghost use Rattle.row_model.specs.Rows.{RowList};
+ghost use Rattle.order_list.specs.declared.TheConstants.{MAX_ORDERS};
+ghost use Rattle.instance_model.specs.Instance.{plain};
+ghost use Rattle.instance_model.specs.Value.{instance_value};
+ghost use Rattle.command_input.specs.Words.{IsInGrammar, IsExtended};
+ghost use Rattle.command_input.specs.Instances.{IsInstanceOf};
+ghost use Rattle.solve_replies.specs.Lists.{IsListReply};
 ghost use Rattle.command_input.specs.Task.{command_seen};
 ghost use Rattle.pq_cli.specs.Runs.{RunsCommand};
 
-use crate::check::check_file;
-use crate::core_rows::check::check_core_file;
-use crate::core_rows::core_file;
 use crate::extend::extend_file;
-use crate::list::list_file;
 use crate::meet::meet_files;
-use crate::solve::solve_file;
+use crate::over::{over_both, over_instance};
 use crate::stop::Stop;
-use crate::unit::unit_file;
-use crate::unit_check::check_unit_file;
-use commands::{Reply, Task};
+use commands::{
+    MAX_CORE_BYTES, MAX_VERDICT_BYTES, Reply, Task, core_judgement_reply, finding_reply,
+    judgement_reply,
+};
+use instance_model::Instance;
 use pq_io::Shelf;
-use solve_replies::summary_reply;
+use row_model::{Kind, NoMemory};
+use solve_replies::{blame_reply, list_reply, summary_reply, unit_reply, verdict_reply};
 use std::alloc::Global;
 
 /// Does what the words ask for, up to the reply.
@@ -28,28 +34,66 @@ pub fn perform<F: Shelf>(alloc: Global, task: &Task<'_>, files: &mut F) -> Resul
     ensures { RunsCommand F.content F.taken F.faults files.old files.new (command_seen task.now)
         result }
 {
-    match task {
-        Task::Solve { kind, file } => solve_file(alloc, *kind, file, files),
+    match *task {
+        Task::Solve { kind, file } => {
+            over_instance(alloc, kind, file, files, |i| verdict_reply(alloc, &i))
+        }
         Task::Check {
             kind,
             file,
             verdict,
-        } => check_file(alloc, *kind, file, verdict, files),
-        Task::Extend { kind, file, rows } => extend_file(alloc, *kind, file, rows, files),
-        Task::Core { kind, file } => core_file(alloc, *kind, file, files),
-        Task::CheckCore { kind, file, core } => { check_core_file(alloc, *kind, file, core, files) }
+        } => {
+            let reply = |i, text| judgement_reply(alloc, &i, &text);
+            over_both(alloc, kind, file, MAX_VERDICT_BYTES, verdict, files, reply)
+        }
+        Task::Extend { kind, file, rows } => extend_file(alloc, kind, file, rows, files),
+        Task::Core { kind, file } => {
+            over_instance(alloc, kind, file, files, |i| blame_reply(alloc, kind, &i))
+        }
+        Task::CheckCore { kind, file, core } => {
+            let reply = |i, text| core_judgement_reply(alloc, kind, &i, &text);
+            over_both(alloc, kind, file, MAX_CORE_BYTES, core, files, reply)
+        }
         Task::Gen {
             seed,
             columns,
             rows,
-        } => Ok(summary_reply(alloc, *seed, *columns, *rows)?),
+        } => Ok(summary_reply(alloc, seed, columns, rows)?),
         Task::Meet {
             columns,
             first,
             second,
-        } => meet_files(alloc, *columns, first, second, files),
-        Task::ListOrders { kind, file, count } => list_file(alloc, *kind, file, *count, files),
-        Task::UnitModel { file } => unit_file(alloc, file, files),
-        Task::CheckUnit { file, unit } => check_unit_file(alloc, file, unit, files),
+        } => meet_files(alloc, columns, first, second, files),
+        Task::ListOrders { kind, file, count } => {
+            let reply = |i| orders_reply(alloc, kind, &i, count);
+            over_instance(alloc, kind, file, files, reply)
+        }
+        Task::UnitModel { file } => {
+            over_instance(alloc, Kind::Proper, file, files, |i| unit_reply(alloc, &i))
+        }
+        Task::CheckUnit { file, unit } => {
+            let kind = Kind::Proper;
+            let reply = |i, text| finding_reply(alloc, &i, &text);
+            over_both(alloc, kind, file, MAX_VERDICT_BYTES, unit, files, reply)
+        }
     }
+}
+
+// The first orders of the matrix in an instance.
+fn orders_reply(
+    alloc: Global,
+    kind: Kind,
+    instance: &Instance,
+    count: u32,
+) -> Result<Reply, NoMemory>
+    requires instance { IsInstanceOf kind instance.now }
+    requires kind { IsExtended kind }
+    requires count { (1 ≤ count) × (count ≤ MAX_ORDERS) }
+    ensures reply { IfOk result (λ reply. (m : RowList) × (instance_value instance.now ≡ plain kind m) × IsListReply kind m count reply.status reply.text.items) }
+    ensures status { IfOk result (λ reply. (reply.status ≡ 0) ⊎ (reply.status ≡ 1)) }
+{
+    let Instance::Plain(_, matrix) = instance else {
+        unreachable!()
+    };
+    list_reply(alloc, kind, matrix, count)
 }

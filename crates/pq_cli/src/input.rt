@@ -1,31 +1,26 @@
 // The files of a command: each is read whole, and its bytes by the form that it should have.
-ghost use Rattle.std.specs.Prelude.{◌≡◌, ◌≤◌, ◌^◌, List, ℕ, IsOk, IfOk, IfErr, IfSome};
+ghost use Rattle.std.specs.Prelude.{◌≡◌, ◌≤◌, ◌^◌, List, ℕ, length, IsOk, IfOk, IfErr, IfSome};
+ghost use Rattle.row_model.specs.declared.TheConstants.{MAX_FILE_BYTES};
 ghost use Rattle.row_model.specs.declared.code.TheConstants.{LIMIT};
 ghost use Rattle.pq_io.specs.Taken.{Taken};
 ghost use Rattle.pq_io.specs.Whole.{IsWhole};
-ghost use Rattle.pq_cli.specs.Reading.{OnlyReads, IsReadStop, ReadsFile, ReadsWhole, value_of};
+ghost use Rattle.pq_cli.specs.Reading.{OnlyReads, IsReadStop, RefusesLong, ReadsFile, ReadsWhole, ReadsBytes, IsRead, value_of};
 ghost use Rattle.pq_cli.specs.Stops.{read_status};
 
 use crate::NoMemory;
 use crate::stop::Stop;
 use pq_io::{ChooseError, ReadFail, Shelf, Whole, read_all};
-use row_model::{Read, Refusal, code};
+use row_model::{MAX_FILE_BYTES, Read, Refusal, code};
 use std::alloc::Global;
 
 pub mod instance_file;
 
-/// The form that a file of a command should have.
+/// The form that a file of a command should have. It has [`MAX_FILE_BYTES`] bytes at most.
 pub trait FileForm {
     ghost use Rattle.row_model.specs.declared.refusal.Read.{Read};
 
     /// What is read of the file.
     type Value: Drop;
-
-    /// The most bytes that are read.
-    const MAX_BYTES: u64;
-
-    /// The same, for clauses.
-    ghost MAX_BYTES: { ℕ };
 
     /// The bytes are read so: as a value, or with their first refusal.
     ghost reads: { Self → List ℕ → Read Self.Value → Type 0 };
@@ -37,12 +32,15 @@ pub trait FileForm {
     ///
     /// # Errors
     ///
-    /// Memory is refused. A file that is too long takes none.
-    fn read(&self, alloc: Global, whole: Whole) -> Result<Read<Self::Value>, NoMemory>
+    /// Memory is refused.
+    fn read(&self, alloc: Global, bytes: &[u8]) -> Result<Read<Self::Value>, NoMemory>
         ensures reads { IfOk result (λ made.
-            (bytes : List ℕ) → IsWhole MAX_BYTES bytes whole → reads self.now bytes made) }
-        ensures holds { IfOk result (holds self.now) }
-        ensures long { whole ≡ Whole.TooLong → IsOk result };
+            length bytes.now ≤ MAX_FILE_BYTES → reads self.now bytes.now made) }
+        ensures holds { IfOk result (holds self.now) };
+
+    /// A file that is too long is refused as such.
+    fn long_law(&self)
+        ensures { RefusesLong (reads self.now) (holds self.now) };
 }
 
 /// What is in the file of this name, which has this number among those of the command.
@@ -57,12 +55,50 @@ pub fn read_file<F: Shelf, V: Drop, R: FileForm<Value = V>>(
     name: &str,
     files: &mut F,
 ) -> Result<V, Stop>
-    requires { R.MAX_BYTES ≤ 2 ^ 32 }
     ensures { ReadsFile F.content F.taken F.faults files.old files.new name.now which
         (R.reads form.now) (R.holds form.now) result }
 {
-    let whole = read_bytes(alloc, name, R::MAX_BYTES, files)?;
-    value_of(which, form.read(alloc, whole)?)
+    let whole = read_bytes(alloc, name, MAX_FILE_BYTES, files)?;
+    value_of(which, read_whole(alloc, form, &whole)?)
+}
+
+/// The bytes of the file of this name, the second of the command, or that they are more than a limit. It is never refused.
+///
+/// # Errors
+///
+/// The file can't be read, or memory is refused.
+pub fn read_text<F: Shelf>(
+    alloc: Global,
+    limit: u64,
+    name: &str,
+    files: &mut F,
+) -> Result<Whole, Stop>
+    requires { limit ≤ 2 ^ 32 }
+    ensures { ReadsFile F.content F.taken F.faults files.old files.new name.now 2 (ReadsBytes limit)
+        IsRead result }
+{
+    let whole = read_bytes(alloc, name, limit, files)?;
+    value_of(2, Read::Ok(whole))
+}
+
+// What is read of a file, by its form. One that is too long takes no memory.
+fn read_whole<V: Drop, R: FileForm<Value = V>>(
+    alloc: Global,
+    form: &R,
+    whole: &Whole,
+) -> Result<Read<V>, NoMemory>
+    ensures reads { IfOk result (λ made.
+        (bytes : List ℕ) → IsWhole MAX_FILE_BYTES bytes whole.now → R.reads form.now bytes made) }
+    ensures holds { IfOk result (R.holds form.now) }
+    ensures long { whole.now ≡ Whole.TooLong → IsOk result }
+{
+    match whole {
+        Whole::Bytes(bytes) => form.read(alloc, bytes),
+        Whole::TooLong => {
+            form.long_law();
+            Ok(Read::Refused(too_long()))
+        }
+    }
 }
 
 // The value that was read of the file with this number, or its refusal.
@@ -75,8 +111,8 @@ fn value_of<V: Drop>(which: u8, read: Read<V>) -> Result<V, Stop>
     }
 }
 
-/// The refusal of a file with more bytes than there may be.
-pub fn too_long() -> Refusal
+// The refusal of a file with more bytes than there may be.
+fn too_long() -> Refusal
     ensures { result ≡ record { code = LIMIT; line = 0 } }
 {
     Refusal {

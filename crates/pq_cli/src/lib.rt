@@ -4,11 +4,11 @@
 //! another, so that what it does is a matter of values: `run` says which files were asked for, and that what was
 //! written is a reply to their bytes.
 //!
-//! Each command but `gen`, which has no files, has a room here, which takes its files and has a crate below reply:
-//! `solve`, `check`, `extend`, `list`, `meet`, `unit`, `core_rows` for `core` and `check-core`, and `unit_check` for
-//! `check-unit`. What the rooms share is how a file is read by the form that it should have (`input`), what may stand
-//! in the way (`stop`), and the frame of a command that ran, which is one record. The words are read by `commands`,
-//! and `reply_laws` says what the replies mean.
+//! Each command is a case of `perform` (`command`). Most go over the file of an instance, and some over that of a text
+//! too, which is judged (`over`); `extend` and `meet` take their files themselves, and `gen` has none. A crate below
+//! makes the reply of what was read. How a file is read by the form that it should have is in `input`, what may stand in
+//! the way in `stop`, and the frame of a command that ran is one record. The words are read by `commands`, and
+//! `reply_laws` says what the replies mean.
 #![tactic(auto)]
 
 ghost use Rattle.std.specs.Prelude.{◌≡◌};
@@ -16,20 +16,15 @@ ghost use Rattle.verdict_replies.specs.declared.TheConstants.{MAX_CORE_BYTES, MA
 ghost use Rattle.solve_replies.specs.declared.TheConstants.{MAX_EXPLAINED};
 ghost use Rattle.command_input.specs.declared.TheConstants.{TREE_CODE};
 
-mod check;
 mod command;
-mod core_rows;
 mod extend;
 mod input;
-mod list;
 mod meet;
+mod over;
 mod real;
 mod report;
-mod solve;
 mod stop;
 mod top;
-mod unit;
-mod unit_check;
 
 pub use commands::{MAX_CORE_BYTES, MAX_VERDICT_BYTES, TREE_CODE, tree_file_law};
 pub use real::{own_law, run_real, told_files_law, told_law};

@@ -58,11 +58,21 @@ impl History {
         }
     }
 
-    pub(crate) fn ask(&mut self, _name: &[u8])
-        ensures { self.new.files ≡ asked_for _name.now self.old.files }
-    {}
+    pub(crate) fn ask(&mut self, name: &[u8])
+        ensures { self.new.files ≡ asked_for name.now self.old.files }
+    {
+        self.becomes(name);
+    }
 
-    pub(crate) fn hand_out(&mut self, _piece: &[u8])
-        ensures { self.new.files ≡ handed_out _piece.now (length _piece.now == 0) self.old.files }
+    pub(crate) fn hand_out(&mut self, piece: &[u8])
+        ensures { self.new.files ≡ handed_out piece.now (length piece.now == 0) self.old.files }
+    {
+        self.becomes(piece);
+    }
+
+    // The files are what the caller picks, in view of the bytes.
+    fn becomes(&mut self, _bytes: &[u8])
+        ghost files: { List Taken }
+        ensures { self.new.files ≡ files }
     {}
 }

@@ -2,7 +2,6 @@
 use Rattle.std.proofs.Common.{◌≡◌, ◌∙◌, ◌↔◌, ◌+◌, ◌-◌, ℕ, Bool, List, [], ◌∷◌, ◌++◌, take, flat_map, slice_get, Some, IsTrue, codes, sym, ap, inl, inr, append_assoc, append-nil}
 use Rattle.std.proofs.lemmas.Grind.{flat_map-append}
 use Rattle.std.proofs.lemmas.List.Elements.{All-weaker}
-use Rattle.column_order.specs.Orders.{IsValidOrder}
 use Rattle.row_model.proofs.Pushed.{take_next}
 use Rattle.row_model.specs.Rows.{RowList}
 use Rattle.row_model.specs.declared.kind.Kind.{Kind}

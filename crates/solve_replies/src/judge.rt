@@ -1,5 +1,5 @@
 // The solver of the program, as the crates that ask for one see it.
-use c1p_solve::{Answered, Solved, answer};
+use c1p_solve::answer;
 use row_judge::{Judge, Judged};
 use row_model::{Matrix, NoMemory};
 use std::alloc::Global;
@@ -22,10 +22,6 @@ impl Judge for Solver {
         m: &Matrix,
         steps: &mut Steps<L>,
     ) -> Result<Judged, NoMemory> {
-        let Answered { solved, .. } = answer(alloc, m, steps)?;
-        match solved {
-            Solved::Yes(tree) => Ok(Judged::Yes(tree)),
-            Solved::No(cycle) => Ok(Judged::No(cycle)),
-        }
+        Ok(answer(alloc, m, steps)?.solved)
     }
 }

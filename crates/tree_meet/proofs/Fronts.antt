@@ -1,5 +1,5 @@
 -- The children of a node of the program, and the first of them.
-use Rattle.std.proofs.Common.{◌≡◌, ◌⊎◌, ◌∙◌, ℕ, zero, suc, ◌+◌, ◌<◌, ◌≤◌, List, [], ◌∷◌, ◌++◌, length, map, take, get_or, IsTrue, sym, ap, subst, arith, length-append}
+use Rattle.std.proofs.Common.{◌≡◌, ◌⊎◌, ◌∙◌, ℕ, zero, suc, ◌+◌, ◌-◌, ◌<◌, ◌≤◌, List, [], ◌∷◌, ◌++◌, length, map, take, get_or, IsTrue, sym, ap, subst, arith, length-append}
 use Rattle.std.proofs.lemmas.List.{get_or-map, length-map, length-take-le, map_more, take_all}
 use Rattle.std.specs.declared.vec.Vec.{Vec}
 use Rattle.std.specs.declared.alloc.Global.{Global}
@@ -11,7 +11,7 @@ use Rattle.pq_tree.specs.declared.Tree.{Tree, Leaf, P, Q}
 use Rattle.pq_tree.proofs.Forests.{count_forest}
 use Rattle.pq_tree.proofs.Shown.{outline_of-Leaf, outline_of-P, outline_of-Q, leaves_of_node, front_more}
 use Rattle.tree_meet.specs.TreeRows.{neighbours, groups, groups_of}
-use Rattle.tree_meet.proofs.Walked.{tree_part, groups_push}
+use Rattle.tree_meet.proofs.Walked.{tree_part, groups_push, neighbours_count}
 
 -- the leaves of a leaf, and of a node over some children
 pub leaf_leaves : (t : Tree) (a : ℕ) → t ≡ Leaf a → leaves (outline_of t) ≡ a ∷ []
@@ -66,6 +66,16 @@ pub groups_Q : (t : Tree) (v : Vec Tree Global) (ts : List Tree) → t ≡ Q v �
 groups_Q t v ts h e =
     ap (λ x. groups (outline_of x)) h ∙ ap groups (outline_of-Q v) ∙
     ap (λ (xs : List Tree). leaves_of (forest (map outline_of xs)) ∷ (neighbours (forest (map outline_of xs)) ++ groups_of (forest (map outline_of xs)))) (sym e)
+
+-- how many they are: between the children of a Q-node there is one more for each two neighbours
+pub count_P : (t : Tree) (v : Vec Tree Global) (ts : List Tree) → t ≡ P v → ts ≡ v.items → length (groups (outline_of t)) ≡ 1 + length (groups_of (forest (map outline_of ts)))
+count_P t v ts h e = omega (arith, ap (λ (l : List (List ℕ)). length l) (groups_P t v ts h e))
+
+pub count_Q : (t : Tree) (v : Vec Tree Global) (ts : List Tree) → t ≡ Q v → ts ≡ v.items →
+    length (groups (outline_of t)) ≡ 1 + ((length ts - 1) + length (groups_of (forest (map outline_of ts))))
+count_Q t v ts h e =
+    let F = forest (map outline_of ts) in
+    omega (arith, ap (λ (l : List (List ℕ)). length l) (groups_Q t v ts h e), length-append (neighbours F) (groups_of F), neighbours_count (map outline_of ts), length-map ts outline_of)
 
 pub groups_leaf : (t : Tree) (a : ℕ) → t ≡ Leaf a → groups (outline_of t) ≡ []
 groups_leaf t a e = ap (λ x. groups (outline_of x)) e ∙ ap groups (outline_of-Leaf a)

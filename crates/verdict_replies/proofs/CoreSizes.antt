@@ -1,5 +1,5 @@
 -- What is told of a core of a matrix within the limits is in the grammar, and within the limit of bytes.
-use Rattle.std.proofs.Common.{◌≡◌, ℕ, suc, ◌+◌, ◌*◌, ◌<◌, ◌≤◌, List, [], ◌∷◌, ◌++◌, length, get_or, codes, refl, arith}
+use Rattle.std.proofs.Common.{◌≡◌, ℕ, suc, ◌+◌, ◌*◌, ◌<◌, ◌≤◌, List, [], ◌∷◌, ◌++◌, length, get_or, codes, arith}
 use Rattle.std.specs.Prelude.{flat_map}
 use Rattle.std.specs.List.{AllByRecursion, zip}
 use Rattle.std.specs.Fmt.{decimal}
@@ -7,10 +7,6 @@ use Rattle.std.proofs.lemmas.List.{length-append}
 use Rattle.column_order.proofs.Counts.{order_length, order_within}
 use Rattle.column_order.proofs.Lists.{has_at}
 use Rattle.row_model.specs.declared.kind.Kind.{Kind}
-use Rattle.row_model.specs.declared.kind.Kind.TheVariants.{Matrix, Rows, Table, Circular, Convex, Doubly, Proper, Robinson, Clones}
-use Rattle.row_model.specs.declared.graph.Line.{Line}
-use Rattle.row_model.specs.declared.graph.Why.{Why}
-use Rattle.row_model.specs.declared.graph.Why.TheVariants.{Flip, Row}
 use Rattle.row_model.specs.declared.TheConstants.{MAX_COLUMNS, MAX_ROWS}
 use Rattle.row_model.specs.Rows.{RowList}
 use Rattle.row_model.proofs.Ascending.{ascends_few, ascends_within}
@@ -19,12 +15,11 @@ use Rattle.instance_model.specs.Instance.{plain, IsInstance}
 use Rattle.core_text.specs.Parts.{CoreParts}
 use Rattle.core_text.specs.Told.{TellsCore}
 use Rattle.core_text.specs.Texts.{IsEntry, IsInGrammar, entries, entry_text, core_text}
-use Rattle.text_parts.specs.Grammar.{IsLine, Fits32}
 use Rattle.text_parts.specs.Text.{kind_word, number_word, cycle_line, counted_text}
 use Rattle.verdict_replies.specs.declared.TheConstants.{MAX_CORE_BYTES}
 use Rattle.verdict_replies.specs.Cores.{core_value, CoreGrammarLaw}
-use Rattle.verdict_replies.proofs.Lengths.{IsColumn, IsCycleLine, four_digits, six_digits, seven_digits, words_length, lines_length, few_lines}
-use Rattle.verdict_replies.proofs.Fits.{columns_within, cycle_lines}
+use Rattle.verdict_replies.proofs.Lengths.{IsColumn, IsCycleLine, four_digits, six_digits, seven_digits, words_length, lines_length, small_kind, few_lines}
+use Rattle.verdict_replies.proofs.Fits.{columns_within, columns_fit, cycle_lines, lines_fit}
 
 -- a row of a matrix within the limits, and an order of its columns
 pub record IsNear (entry : (ℕ × List ℕ)) : Type 0 where
@@ -43,10 +38,6 @@ zip_few : (rows : List ℕ) (orders : List (List ℕ)) → length (zip rows orde
 zip_few [] orders = omega arith
 zip_few (k ∷ rows) [] = omega arith
 zip_few (k ∷ rows) (o ∷ orders) = omega (arith, zip_few rows orders)
-
-columns_fit : (row : List ℕ) → AllByRecursion IsColumn row → AllByRecursion Fits32 row
-columns_fit [] h = tt
-columns_fit (x ∷ xs) h = (omega (arith, h.0), columns_fit xs h.1)
 
 entries_fit : (es : List (ℕ × List ℕ)) → AllByRecursion IsNear es → AllByRecursion IsEntry es
 entries_fit [] h = tt
@@ -70,25 +61,6 @@ entry_short e h =
 entries_short : (es : List (ℕ × List ℕ)) → AllByRecursion IsNear es → length (flat_map entry_text es) ≤ 10259 * length es
 entries_short [] h = omega arith
 entries_short (e ∷ es) h = omega (arith, entry_short e h.0, entries_short es h.1, length-append (entry_text e) (flat_map entry_text es))
-
-line_fits : (line : Line) (why : Why) → line.why ≡ why → IsCycleLine line → IsLine line
-line_fits line Flip e h = (omega (arith, h.0.a_to), omega (arith, h.0.b_to), rw e tt)
-line_fits line (Row k) e h = let few : k ≤ MAX_ROWS = rw e at h.1 in (omega (arith, h.0.a_to), omega (arith, h.0.b_to), rw e (omega (arith, few)))
-
-lines_fit : (lines : List Line) → AllByRecursion IsCycleLine lines → AllByRecursion IsLine lines
-lines_fit [] h = tt
-lines_fit (line ∷ lines) h = (line_fits line line.why refl h.0, lines_fit lines h.1)
-
-short_word : (kind : Kind) → length (kind_word kind) ≤ 8
-short_word Matrix = omega arith
-short_word Rows = omega arith
-short_word Table = omega arith
-short_word Circular = omega arith
-short_word Convex = omega arith
-short_word Doubly = omega arith
-short_word Proper = omega arith
-short_word Robinson = omega arith
-short_word Clones = omega arith
 
 -- items with their number
 counted_short : {A : Type 0} (text : A → List ℕ) (items : List A) (size : ℕ) → length items ≤ 9999999 → length (flat_map text items) ≤ size → length (counted_text text items) ≤ 8 + size
@@ -150,7 +122,7 @@ module _ (cycle_length : CycleLengthLaw) (kind : Kind) (m : RowList) (parts : Co
         few_cycle,
         first,
         second,
-        short_word kind,
+        small_kind kind,
         four_digits m.columns few_columns,
         length-append (codes "pq-core 1\nkind ") (kind_word kind ++ (codes "\ncolumns " ++ (decimal m.columns ++ (codes "\ncore " ++ rest)))),
         length-append (kind_word kind) (codes "\ncolumns " ++ (decimal m.columns ++ (codes "\ncore " ++ rest))),

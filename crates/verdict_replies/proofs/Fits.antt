@@ -31,7 +31,7 @@ pub columns_within : (row : List ℕ) → ((a : ℕ) → IsTrue (has row a) → 
 columns_within [] h = tt
 columns_within (x ∷ xs) h = (h x (has_head x xs), columns_within xs (λ a k. h a (has_tail x a xs k)))
 
-columns_fit : (row : List ℕ) → AllByRecursion IsColumn row → AllByRecursion Fits32 row
+pub columns_fit : (row : List ℕ) → AllByRecursion IsColumn row → AllByRecursion Fits32 row
 columns_fit [] h = tt
 columns_fit (x ∷ xs) h = (omega (arith, h.0), columns_fit xs h.1)
 
@@ -55,7 +55,7 @@ line_fits : (line : Line) (why : Why) → line.why ≡ why → IsCycleLine line 
 line_fits line Flip e h = (omega (arith, h.0.a_to), omega (arith, h.0.b_to), rw e tt)
 line_fits line (Row k) e h = let few : k ≤ MAX_ROWS = rw e at h.1 in (omega (arith, h.0.a_to), omega (arith, h.0.b_to), rw e (omega (arith, few)))
 
-lines_fit : (lines : List Line) → AllByRecursion IsCycleLine lines → AllByRecursion IsLine lines
+pub lines_fit : (lines : List Line) → AllByRecursion IsCycleLine lines → AllByRecursion IsLine lines
 lines_fit [] h = tt
 lines_fit (line ∷ lines) h = (line_fits line line.why refl h.0, lines_fit lines h.1)
 

@@ -6,6 +6,8 @@ use Rattle.std.specs.Fmt.{decimal}
 use Rattle.std.proofs.lemmas.List.{length-append}
 use Rattle.std.proofs.lemmas.Fmt.{length-decimal-le}
 use Rattle.std.proofs.Math.Nat.{mul-le-mul_left}
+use Rattle.row_model.specs.declared.kind.Kind.{Kind}
+use Rattle.row_model.specs.declared.kind.Kind.TheVariants.{Matrix, Rows, Table, Circular, Convex, Doubly, Proper, Robinson, Clones}
 use Rattle.row_model.specs.declared.graph.Line.{Line}
 use Rattle.row_model.specs.declared.graph.Why.{Why}
 use Rattle.row_model.specs.declared.graph.Why.TheVariants.{Flip, Row}
@@ -14,7 +16,8 @@ use Rattle.row_model.specs.declared.TheConstants.{MAX_COLUMNS, MAX_ROWS}
 use Rattle.pq_tree.specs.Outline.{Outline, Forest, leaf, p_node, q_node, no_tree, tree_and, leaves, leaves_of}
 use Rattle.pq_tree.specs.Proper.{HasArities, HaveArities, count}
 use Rattle.pq_tree.specs.Text.{tree_text, forest_text, spaced_text}
-use Rattle.text_parts.specs.Text.{number_word, why_text, cycle_line}
+use Rattle.verdict_text.specs.Grammar.{side_count}
+use Rattle.text_parts.specs.Text.{kind_word, number_word, why_text, cycle_line}
 
 -- a number of columns has at most four digits, one of rows at most six, one up to 9,999,999 at most seven
 pub four_digits : (n : ℕ) → n ≤ MAX_COLUMNS → length (decimal n) ≤ 4
@@ -25,6 +28,18 @@ six_digits n le = length-decimal-le 6 n (omega arith) (omega arith) (omega arith
 
 pub seven_digits : (n : ℕ) → n ≤ 9999999 → length (decimal n) ≤ 7
 seven_digits n le = length-decimal-le 7 n (omega arith) (omega arith) (omega arith)
+
+-- a kind has a word of at most eight letters, and at most two sides
+pub small_kind : (kind : Kind) → (length (kind_word kind) ≤ 8) × (side_count kind ≤ 2)
+small_kind Matrix = (omega arith, omega arith)
+small_kind Rows = (omega arith, omega arith)
+small_kind Table = (omega arith, omega arith)
+small_kind Circular = (omega arith, omega arith)
+small_kind Convex = (omega arith, omega arith)
+small_kind Doubly = (omega arith, omega arith)
+small_kind Proper = (omega arith, omega arith)
+small_kind Robinson = (omega arith, omega arith)
+small_kind Clones = (omega arith, omega arith)
 
 -- a column of the greatest matrix
 abbrev pub IsColumn : ℕ → Type 0

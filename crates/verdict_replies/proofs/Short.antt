@@ -5,8 +5,6 @@ use Rattle.std.specs.List.{AllByRecursion}
 use Rattle.std.specs.Fmt.{decimal}
 use Rattle.std.proofs.lemmas.List.{length-append}
 use Rattle.column_order.proofs.Counts.{order_length}
-use Rattle.row_model.specs.declared.kind.Kind.{Kind}
-use Rattle.row_model.specs.declared.kind.Kind.TheVariants.{Matrix, Rows, Table, Circular, Convex, Doubly, Proper, Robinson, Clones}
 use Rattle.row_model.specs.declared.TheConstants.{MAX_COLUMNS}
 use Rattle.row_model.specs.Rows.{RowList}
 use Rattle.instance_model.specs.Laws.{FewColumnsLaw, FewRowsLaw}
@@ -17,38 +15,16 @@ use Rattle.pq_tree.specs.Text.{tree_text}
 use Rattle.verdict_text.specs.Verdict.{SideValue, AddedValue, Claim, yes_claim, no_claim, VerdictValue}
 use Rattle.verdict_text.specs.declared.verdict.Version.{Version}
 use Rattle.verdict_text.specs.declared.verdict.Version.TheVariants.{One, Two}
-use Rattle.verdict_text.specs.Grammar.{AreColumnCounts, side_count, IsVerdict}
+use Rattle.verdict_text.specs.Grammar.{AreColumnCounts, IsVerdict}
 use Rattle.verdict_text.specs.Text.{version_line, kind_line, columns_line, side_text, cycle_text, added_text, claim_text, head_text, verdict_text}
 use Rattle.text_parts.specs.Text.{kind_word, number_word, cycle_line}
 use Rattle.instance_model.specs.Instance.{InstanceValue, instance_kind, IsSideOf, derived_matrix, IsInstance, IsWellFormed}
 use Rattle.verdict_replies.specs.Verdicts.{ShowsAllOrders, ShowsSides, AddsToOrder, IsClaimOf, IsVerdictOf}
-use Rattle.verdict_replies.proofs.Lengths.{IsColumn, four_digits, seven_digits, words_length, tree_length, lines_length}
+use Rattle.verdict_replies.proofs.Lengths.{IsColumn, four_digits, seven_digits, words_length, tree_length, lines_length, small_kind}
 use Rattle.verdict_replies.proofs.Sizes.{first_side}
 use Rattle.verdict_replies.proofs.Shown.{one_or_two, one_shown, two_shown}
 use Rattle.verdict_replies.proofs.AddedFits.{adds_short}
 use Rattle.verdict_replies.proofs.Fits.{order_columns, cycle_of_side, few_cycle}
-
-short_word : (kind : Kind) → length (kind_word kind) ≤ 8
-short_word Matrix = omega arith
-short_word Rows = omega arith
-short_word Table = omega arith
-short_word Circular = omega arith
-short_word Convex = omega arith
-short_word Doubly = omega arith
-short_word Proper = omega arith
-short_word Robinson = omega arith
-short_word Clones = omega arith
-
-few_sides : (kind : Kind) → side_count kind ≤ 2
-few_sides Matrix = omega arith
-few_sides Rows = omega arith
-few_sides Table = omega arith
-few_sides Circular = omega arith
-few_sides Convex = omega arith
-few_sides Doubly = omega arith
-few_sides Proper = omega arith
-few_sides Robinson = omega arith
-few_sides Clones = omega arith
 
 counted_columns : (columns : List ℕ) → AreColumnCounts columns → AllByRecursion IsColumn columns
 counted_columns [] h = tt
@@ -63,8 +39,7 @@ head_short v within =
     omega (
       arith,
       short_line v.version,
-      short_word v.kind,
-      few_sides v.kind,
+      small_kind v.kind,
       within.sides,
       words_length v.columns (counted_columns v.columns within.columns),
       length-append (version_line v.version) (kind_line v.kind ++ columns_line v.columns),

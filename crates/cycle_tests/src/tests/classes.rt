@@ -1,6 +1,7 @@
 // Classes of the pairs of three columns.
 ghost use Rattle.std.specs.Prelude.{◌≡◌, ◌<◌, ◌≤◌, length};
 
+use super::three::{chain, triangle};
 use incompat_graph::{Classes, even_classes};
 use row_model::{Matrix, NoMemory, Pair, is_pair};
 use std::alloc::Global;
@@ -54,10 +55,7 @@ fn assert_classes(rt: &impl Abort, classes: &Classes, numbers: [u32; 6]) {
 // so (2,1) and (3,1) are, and (1,2) and (1,3).
 #[test]
 fn two_rows_make_two_classes(rt: HostRuntime) -> Result<(), Fail> {
-    let mut m = Matrix::new(rt.alloc(), 3)?;
-    m.push_row(&[1, 2])?;
-    m.push_row(&[2, 3])?;
-    let classes = classes_of(rt.alloc(), &m)?;
+    let classes = classes_of(rt.alloc(), &chain(rt.alloc())?)?;
     assert_classes(&rt, &classes, [1, 1, 1, 2, 2, 2]);
     Ok(())
 }
@@ -83,11 +81,7 @@ fn without_rows_each_pair_is_alone(rt: HostRuntime) -> Result<(), Fail> {
 // The row 101 lacks column 2, so (1,2) and (3,2) are in one class: the two classes of the rows 110 and 011 are one.
 #[test]
 fn three_rows_without_an_order_make_one_class(rt: HostRuntime) -> Result<(), Fail> {
-    let mut m = Matrix::new(rt.alloc(), 3)?;
-    m.push_row(&[1, 2])?;
-    m.push_row(&[2, 3])?;
-    m.push_row(&[1, 3])?;
-    let classes = classes_of(rt.alloc(), &m)?;
+    let classes = classes_of(rt.alloc(), &triangle(rt.alloc())?)?;
     assert_classes(&rt, &classes, [1, 1, 1, 1, 1, 1]);
     Ok(())
 }

@@ -3,6 +3,7 @@ ghost use Rattle.std.specs.Prelude.{◌≡◌, ◌+◌, ◌<◌, ◌≤◌, leng
 ghost use Rattle.row_model.specs.Graph.{HasOddWalk};
 ghost use Rattle.row_model.specs.Cycles.{IsOddWalk};
 
+use super::three::{chain, triangle};
 use incompat_graph::{Cycle, Walk, joined, odd_walk, simple_cycle};
 use odd_cycle::is_folded;
 use row_model::{Line, Matrix, NoMemory, Pair, Why, joined_by};
@@ -61,15 +62,6 @@ fn assert_cycle(rt: &impl Abort, m: &Matrix, lines: &[Line]) {
 
 fn pair(a: u32, b: u32) -> Pair {
     Pair { a, b }
-}
-
-// The rows 110, 011 and 101 ask of each two of three columns to be neighbours.
-fn triangle(alloc: Global) -> Result<Matrix, NoMemory> {
-    let mut m = Matrix::new(alloc, 3)?;
-    m.push_row(&[1, 2])?;
-    m.push_row(&[2, 3])?;
-    m.push_row(&[1, 3])?;
-    Ok(m)
 }
 
 #[test]
@@ -174,9 +166,6 @@ fn lines_that_are_folded(rt: HostRuntime) -> Result<(), Fail> {
 
 #[test]
 fn a_matrix_with_a_valid_order(rt: HostRuntime) -> Result<(), Fail> {
-    let mut m = Matrix::new(rt.alloc(), 3)?;
-    m.push_row(&[1, 2])?;
-    m.push_row(&[2, 3])?;
-    assert!(rt; cycle_of(rt.alloc(), &m)?.is_none());
+    assert!(rt; cycle_of(rt.alloc(), &chain(rt.alloc())?)?.is_none());
     Ok(())
 }

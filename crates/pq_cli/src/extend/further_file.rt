@@ -3,10 +3,9 @@ ghost use Rattle.std.specs.Prelude.{◌≤◌};
 ghost use Rattle.column_order.specs.declared.TheConstants.{COLUMN_BOUND};
 
 use crate::NoMemory;
-use crate::input::{FileForm, too_long};
+use crate::input::FileForm;
 use matrix_read::{limits_law, read_more, refusal_laws};
-use pq_io::Whole;
-use row_model::{MAX_FILE_BYTES, Matrix, Read};
+use row_model::{Matrix, Read};
 use std::alloc::Global;
 
 /// The file of further rows over the columns of a matrix.
@@ -19,25 +18,20 @@ pub struct FurtherFile {
 }
 
 impl FileForm for FurtherFile {
-    ghost use Rattle.row_model.specs.declared.TheConstants.{MAX_FILE_BYTES};
     ghost use Rattle.pq_cli.specs.Further.{ReadsFurther, HoldsFurther};
 
     type Value = Matrix;
-
-    const MAX_BYTES: u64 = MAX_FILE_BYTES;
-
-    ghost MAX_BYTES = { MAX_FILE_BYTES };
 
     ghost reads = { λ file. ReadsFurther file.columns };
 
     ghost holds = { λ file. HoldsFurther file.columns };
 
-    fn read(&self, alloc: Global, whole: Whole) -> Result<Read<Matrix>, NoMemory> {
-        let Whole::Bytes(bytes) = whole else {
-            refusal_laws();
-            return Ok(Read::Refused(too_long()));
-        };
+    fn read(&self, alloc: Global, bytes: &[u8]) -> Result<Read<Matrix>, NoMemory> {
         limits_law();
-        read_more(alloc, &bytes, self.columns)
+        read_more(alloc, bytes, self.columns)
+    }
+
+    fn long_law(&self) {
+        refusal_laws();
     }
 }

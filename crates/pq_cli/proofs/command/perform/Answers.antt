@@ -1,8 +1,87 @@
-use Rattle.std.proofs.Common.{refl, inl}
-use Rattle.command_input.specs.Words.{Gen}
+use Rattle.std.proofs.Common.{◌≡◌, ℕ, List, refl, inl, sym, arith, rules}
+use Rattle.pq_io.specs.Whole.{IsWhole}
+use Rattle.row_model.specs.Rows.{RowList}
+use Rattle.row_model.specs.declared.kind.Kind.TheVariants.{Proper}
+use Rattle.instance_model.specs.Instance.{plain, proper}
+use Rattle.instance_model.specs.Value.{instance_value}
+use Rattle.command_input.specs.Words.{Solve, Check, Core, CheckCore, Gen, ListOrders, UnitModel, CheckUnit}
+use Rattle.commands.specs.Judgements.{IsJudgementReply}
+use Rattle.commands.specs.CoreJudgements.{IsCoreJudgementReply}
+use Rattle.commands.specs.Findings.{IsFindingReply}
+use Rattle.verdict_replies.specs.Verdicts.{IsVerdictReply}
+use Rattle.verdict_replies.specs.declared.TheConstants.{MAX_VERDICT_BYTES, MAX_CORE_BYTES}
+use Rattle.solve_replies.specs.Cores.{IsCoreReply}
+use Rattle.solve_replies.specs.Lists.{IsListReply}
+use Rattle.solve_replies.specs.Models.{IsModelReply}
 use Rattle.reply_laws.specs.Replies.{Replies}
 use Rattle.pq_cli.proofs.Frame.{reply_alone}
+use Rattle.pq_cli.proofs.Says.{read_as, says_of_one, says_of_both}
 use Rattle.pq_cli.proofs.command.perform.Goals as goal
+
+pub returns-in-Solve : goal.returns-in-Solve
+unfolding Replies
+returns-in-Solve g c =
+    let kind = c.in-Solve.kind in
+    let command = Solve kind c.in-Solve.file.now in
+    rw c.in-Solve.is (c.over_instance.ensures command (record { files = refl; may = omega arith; first = λ bytes. refl }) (λ i made held told.
+    says_of_one command kind i (λ reply. IsVerdictReply (instance_value i) reply.status reply.text.items) made (search rules) (search rules) (λ reply bytes is read. (instance_value i, sym read, is))))
+
+pub returns-in-Core : goal.returns-in-Core
+unfolding Replies
+returns-in-Core g c =
+    let kind = c.in-Core.kind in
+    let command = Core kind c.in-Core.file.now in
+    rw c.in-Core.is (c.over_instance-in-Core.ensures command (record { files = refl; may = omega arith; first = λ bytes. refl }) (λ i made held told.
+    says_of_one command kind i (λ reply. (m : RowList) × (instance_value i ≡ plain kind m) × IsCoreReply kind m reply.status reply.text.items) made (search rules) (search rules)
+    (λ reply bytes is read. (is.0, read_as kind bytes i (plain kind is.0) read is.1, is.2))))
+
+pub returns-in-ListOrders : goal.returns-in-ListOrders
+unfolding Replies
+returns-in-ListOrders g c =
+    let kind = c.in-ListOrders.kind in
+    let count : ℕ = c.in-ListOrders.count in
+    let command = ListOrders kind c.in-ListOrders.file.now count in
+    rw c.in-ListOrders.is (c.over_instance-in-ListOrders.ensures command (record { files = refl; may = omega arith; first = λ bytes. refl }) (λ i made held told.
+    says_of_one command kind i (λ reply. (m : RowList) × (instance_value i ≡ plain kind m) × IsListReply kind m count reply.status reply.text.items) made (search rules) (search rules)
+    (λ reply bytes is read. (is.0, read_as kind bytes i (plain kind is.0) read is.1, is.2))))
+
+pub returns-in-UnitModel : goal.returns-in-UnitModel
+unfolding Replies
+returns-in-UnitModel g c =
+    let command = UnitModel c.in-UnitModel.file.now in
+    rw c.in-UnitModel.is (c.over_instance-in-UnitModel.ensures command (record { files = refl; may = omega arith; first = λ bytes. refl }) (λ i made held told.
+    says_of_one command Proper i (λ reply. (g : _) × (instance_value i ≡ proper g) × IsModelReply g reply.status reply.text.items) made (search rules) (search rules)
+    (λ reply bytes is read. (is.0, read_as Proper bytes i (proper is.0) read is.1, is.2))))
+
+pub returns-in-Check : goal.returns-in-Check
+unfolding Replies
+returns-in-Check g c =
+    let kind = c.in-Check.kind in
+    let command = Check kind c.in-Check.file.now c.in-Check.verdict.now in
+    rw c.in-Check.is (c.over_both.ensures command (record { files = refl; may = omega arith; first = λ bytes. refl }) (λ i w made held told.
+    says_of_both command kind i (λ reply. (bytes : List ℕ) → IsWhole MAX_VERDICT_BYTES bytes w → IsJudgementReply (instance_value i) bytes reply.status reply.text.items) MAX_VERDICT_BYTES w made (search rules)
+    (search rules) (λ reply bytes text is read whole. (instance_value i, sym read, is text whole))))
+
+pub returns-in-CheckCore : goal.returns-in-CheckCore
+unfolding Replies
+returns-in-CheckCore g c =
+    let kind = c.in-CheckCore.kind in
+    let command = CheckCore kind c.in-CheckCore.file.now c.in-CheckCore.core.now in
+    rw c.in-CheckCore.is (c.over_both-in-CheckCore.ensures command (record { files = refl; may = omega arith; first = λ bytes. refl }) (λ i w made held told.
+    says_of_both command kind i
+    (λ reply. (bytes : List ℕ) → IsWhole MAX_CORE_BYTES bytes w → (m : RowList) × (instance_value i ≡ plain kind m) × IsCoreJudgementReply kind m bytes reply.status reply.text.items) MAX_CORE_BYTES w made
+    (search rules) (search rules) (λ reply bytes text is read whole.
+    let found = is text whole in
+    (found.0, read_as kind bytes i (plain kind found.0) read found.1, found.2))))
+
+pub returns-in-CheckUnit : goal.returns-in-CheckUnit
+unfolding Replies
+returns-in-CheckUnit g c =
+    let command = CheckUnit c.in-CheckUnit.file.now c.in-CheckUnit.unit.now in
+    rw c.in-CheckUnit.is (c.over_both-in-CheckUnit.ensures command (record { files = refl; may = omega arith; first = λ bytes. refl }) (λ i w made held told.
+    says_of_both command Proper i
+    (λ reply. (g : _) × (instance_value i ≡ proper g) × ((bytes : List ℕ) → IsWhole MAX_VERDICT_BYTES bytes w → IsFindingReply g bytes reply.status reply.text.items)) MAX_VERDICT_BYTES w made
+    (search rules) (search rules) (λ reply bytes text is read whole. (is.0, read_as Proper bytes i (proper is.0) read is.1, is.2 text whole))))
 
 pub returns-in_ok-summary_reply-in-Gen : goal.returns-in_ok-summary_reply-in-Gen
 unfolding Replies

@@ -1,5 +1,3 @@
-use Rattle.std.proofs.Common.{subst}
-use Rattle.pq_io.specs.Whole.{IsWhole}
 use Rattle.pq_cli.proofs.Takings.{read_by_form}
 use Rattle.pq_cli.proofs.input.read_file.Goals as goal
 
@@ -9,5 +7,5 @@ returns g c =
     rw c.value_of.ensures (
       one.0,
       read_by_form g.F.Shelf.content g.F.Shelf.taken g.F.Shelf.faults c.args.files.now c.read_bytes.new.files c.args.name.now _ c.args.which _ _ c.in_ok-whole.whole one.0 one.1 c.in_ok-whole.ensures.shelf
-          c.in_ok-read.field-0 (λ bytes w. c.in_ok-read.ensures.reads bytes (subst (λ n. IsWhole n bytes c.in_ok-whole.whole) c.MAX_BYTES.ensures w)) c.in_ok-read.ensures.holds,
+          c.in_ok-read_whole.field-0 c.in_ok-read_whole.ensures.reads c.in_ok-read_whole.ensures.holds,
     )

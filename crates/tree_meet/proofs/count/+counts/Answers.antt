@@ -1,10 +1,6 @@
-use Rattle.std.proofs.Common.{rules, ℕ, List, length, map, refl, sym, ap, arith, length-append}
-use Rattle.std.proofs.lemmas.List.{length-map}
-use Rattle.pq_tree.specs.Proper.{outline_of, forest}
+use Rattle.std.proofs.Common.{rules, ℕ, List, length, refl, sym, ap, arith}
 use Rattle.pq_tree.specs.declared.Tree.TheViews.{the_lemmas}
-use Rattle.tree_meet.specs.TreeRows.{neighbours, groups_of}
-use Rattle.tree_meet.proofs.Walked.{neighbours_count}
-use Rattle.tree_meet.proofs.Fronts.{groups_P, groups_Q, groups_leaf, groups_more, groups_more_exact, arities_P, arities_Q, child_arities}
+use Rattle.tree_meet.proofs.Fronts.{count_P, count_Q, groups_leaf, groups_more, groups_more_exact, arities_P, arities_Q, child_arities}
 use Rattle.tree_meet.proofs.count.+counts.Goals as goal
 
 pub count_tree-count_trees-requires : goal.count_tree-count_trees-requires
@@ -12,44 +8,38 @@ count_tree-count_trees-requires t c = (
   search (rules, the_lemmas),
   (
     arities_P c.args.tree.now c.in-P.children c.deref.result.now c.in-P.is c.deref.ensures.value c.requires.arities,
-    omega (arith, c.requires.few, ap (λ (l : List (List ℕ)). length l) (groups_P c.args.tree.now c.in-P.children c.deref.result.now c.in-P.is c.deref.ensures.value)),
+    omega (arith, c.requires.few, count_P c.args.tree.now c.in-P.children c.deref.result.now c.in-P.is c.deref.ensures.value),
   ),
 )
 
 pub count_tree-overflow_add-result : goal.count_tree-overflow_add-result
 count_tree-overflow_add-result t c =
-    omega (arith, c.requires.few, c.count_trees.ensures, ap (λ (l : List (List ℕ)). length l) (groups_P c.args.tree.now c.in-P.children c.deref.result.now c.in-P.is c.deref.ensures.value))
+    omega (arith, c.requires.few, c.count_trees.ensures, count_P c.args.tree.now c.in-P.children c.deref.result.now c.in-P.is c.deref.ensures.value)
 
 pub count_tree-overflow_cast-result : goal.count_tree-overflow_cast-result
 count_tree-overflow_cast-result t c =
     let ts = c.in-Q.children.items in
-    let F = forest (map outline_of ts) in
     omega (
       arith,
       c.requires.few,
       c.len.ensures,
       (arities_Q c.args.tree.now c.in-Q.children ts c.in-Q.is refl c.requires.arities).0,
-      ap (λ (l : List (List ℕ)). length l) (groups_Q c.args.tree.now c.in-Q.children ts c.in-Q.is refl),
-      length-append (neighbours F) (groups_of F),
-      neighbours_count (map outline_of ts),
-      length-map ts outline_of,
+      count_Q c.args.tree.now c.in-Q.children ts c.in-Q.is refl,
     )
 
 pub count_tree-count_trees-requires-in-Q : goal.count_tree-count_trees-requires-in-Q
 count_tree-count_trees-requires-in-Q t c =
-    let ts = c.deref-in-Q.result.now in
-    let F = forest (map outline_of ts) in (
+    let ts = c.deref-in-Q.result.now in (
       search (rules, the_lemmas),
       (
         (arities_Q c.args.tree.now c.in-Q.children ts c.in-Q.is c.deref-in-Q.ensures.value c.requires.arities).1,
-        omega (arith, c.requires.few, ap (λ (l : List (List ℕ)). length l) (groups_Q c.args.tree.now c.in-Q.children ts c.in-Q.is c.deref-in-Q.ensures.value), length-append (neighbours F) (groups_of F)),
+        omega (arith, c.requires.few, count_Q c.args.tree.now c.in-Q.children ts c.in-Q.is c.deref-in-Q.ensures.value),
       ),
     )
 
 pub count_tree-overflow_add-result-in-Q : goal.count_tree-overflow_add-result-in-Q
 count_tree-overflow_add-result-in-Q t c =
     let ts = c.deref-in-Q.result.now in
-    let F = forest (map outline_of ts) in
     omega (
       arith,
       c.requires.few,
@@ -57,10 +47,7 @@ count_tree-overflow_add-result-in-Q t c =
       c.deref-in-Q.ensures.len,
       c.count_trees-in-Q.ensures,
       (arities_Q c.args.tree.now c.in-Q.children ts c.in-Q.is c.deref-in-Q.ensures.value c.requires.arities).0,
-      ap (λ (l : List (List ℕ)). length l) (groups_Q c.args.tree.now c.in-Q.children ts c.in-Q.is c.deref-in-Q.ensures.value),
-      length-append (neighbours F) (groups_of F),
-      neighbours_count (map outline_of ts),
-      length-map ts outline_of,
+      count_Q c.args.tree.now c.in-Q.children ts c.in-Q.is c.deref-in-Q.ensures.value,
     )
 
 pub count_tree-returns-in-Leaf : goal.count_tree-returns-in-Leaf
@@ -68,22 +55,18 @@ count_tree-returns-in-Leaf t c = sym (ap (λ (l : List (List ℕ)). length l) (g
 
 pub count_tree-returns-in-P : goal.count_tree-returns-in-P
 count_tree-returns-in-P t c =
-    omega (arith, c.count_trees.ensures, ap (λ (l : List (List ℕ)). length l) (groups_P c.args.tree.now c.in-P.children c.deref.result.now c.in-P.is c.deref.ensures.value))
+    omega (arith, c.count_trees.ensures, count_P c.args.tree.now c.in-P.children c.deref.result.now c.in-P.is c.deref.ensures.value)
 
 pub count_tree-returns-in-Q : goal.count_tree-returns-in-Q
 count_tree-returns-in-Q t c =
     let ts = c.deref-in-Q.result.now in
-    let F = forest (map outline_of ts) in
     omega (
       arith,
       c.len.ensures,
       c.deref-in-Q.ensures.len,
       c.count_trees-in-Q.ensures,
       (arities_Q c.args.tree.now c.in-Q.children ts c.in-Q.is c.deref-in-Q.ensures.value c.requires.arities).0,
-      ap (λ (l : List (List ℕ)). length l) (groups_Q c.args.tree.now c.in-Q.children ts c.in-Q.is c.deref-in-Q.ensures.value),
-      length-append (neighbours F) (groups_of F),
-      neighbours_count (map outline_of ts),
-      length-map ts outline_of,
+      count_Q c.args.tree.now c.in-Q.children ts c.in-Q.is c.deref-in-Q.ensures.value,
     )
 
 pub count_trees-count_tree-count-requires : goal.count_trees-count_tree-count-requires

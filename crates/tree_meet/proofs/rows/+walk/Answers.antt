@@ -12,8 +12,8 @@ use Rattle.tree_meet.specs.Marks.{lists_of}
 use Rattle.pq_tree.specs.Proper.{outline_of, forest}
 use Rattle.pq_tree.specs.declared.Tree.TheViews.{the_lemmas}
 use Rattle.tree_meet.specs.TreeRows.{neighbours, groups_of, row_of_group}
-use Rattle.tree_meet.proofs.Walked.{row_marks, group_rows, neighbours_count}
-use Rattle.tree_meet.proofs.Fronts.{node_leaves, groups_P, groups_Q, groups_more, child_has, child_occurs, outlines_more}
+use Rattle.tree_meet.proofs.Walked.{row_marks, group_rows}
+use Rattle.tree_meet.proofs.Fronts.{node_leaves, count_P, count_Q, groups_more, child_has, child_occurs, outlines_more}
 use Rattle.tree_meet.proofs.Steps.{node_parts, node_pairs, with_rows, after_leaf, after_P, after_Q, after_child, child_row}
 use Rattle.tree_meet.proofs.rows.+walk.Goals as goal
 
@@ -23,7 +23,7 @@ push_tree-push_row-requires-clause-row t c =
 
 pub push_tree-push_row-requires-clause-room : goal.push_tree-push_row-requires-clause-room
 push_tree-push_row-requires-clause-room t c =
-    omega (arith, c.requires.room, ap (λ (l : List (List ℕ)). length l) (groups_P c.args.tree.now c.in-P.children c.in-P.children.items c.in-P.is refl))
+    omega (arith, c.requires.room, count_P c.args.tree.now c.in-P.children c.in-P.children.items c.in-P.is refl)
 
 pub push_tree-mark_trees-requires-clause-within : goal.push_tree-mark_trees-requires-clause-within
 push_tree-mark_trees-requires-clause-within t c a h =
@@ -41,7 +41,7 @@ push_tree-push_row-requires-in-Q-clause-row t c =
 
 pub push_tree-push_row-requires-in-Q-clause-room : goal.push_tree-push_row-requires-in-Q-clause-room
 push_tree-push_row-requires-in-Q-clause-room t c =
-    omega (arith, c.requires.room, ap (λ (l : List (List ℕ)). length l) (groups_Q c.args.tree.now c.in-Q.children c.in-Q.children.items c.in-Q.is refl))
+    omega (arith, c.requires.room, count_Q c.args.tree.now c.in-Q.children c.in-Q.children.items c.in-Q.is refl)
 
 pub push_tree-mark_trees-requires-in-Q-clause-within : goal.push_tree-mark_trees-requires-in-Q-clause-within
 push_tree-mark_trees-requires-in-Q-clause-within t c a h =
@@ -104,7 +104,7 @@ push_tree-push_trees-requires t c =
                 c.requires.room,
                 ap (λ (l : List (List ℕ)). length l) rows,
                 length-append m.rows (c.args.row.now ∷ []),
-                ap (λ (l : List (List ℕ)). length l) (groups_P c.args.tree.now c.in-P.children ts c.in-P.is c.deref-in-P.ensures.value),
+                count_P c.args.tree.now c.in-P.children ts c.in-P.is c.deref-in-P.ensures.value,
               ),
             ),
           ),
@@ -135,12 +135,8 @@ push_tree-push_lists-requires-clause-room t c =
       c.requires.room,
       ap (λ (l : List (List ℕ)). length l) rows,
       length-append m.rows (c.args.row.now ∷ []),
-      ap (λ (l : List (List ℕ)). length l) (groups_Q c.args.tree.now c.in-Q.children ts c.in-Q.is c.deref-in-Q.ensures.value),
-      length-append (neighbours (forest (map outline_of ts))) (groups_of (forest (map outline_of ts))),
-      neighbours_count (map outline_of ts),
-      length-map ts outline_of,
+      count_Q c.args.tree.now c.in-Q.children ts c.in-Q.is c.deref-in-Q.ensures.value,
       c.in_ok-pairs_of-in-Q.ensures.0,
-      c.deref-in-Q-2.ensures.value,
       ap (λ (l : List (Vec ℕ Global)). length l) c.deref-in-Q-2.ensures.value,
       c.saturating_sub.ensures,
       c.len-in-Q.ensures,
@@ -178,10 +174,7 @@ push_tree-push_trees-requires-in-Q t c =
                 ap (λ (l : List (List ℕ)). length l) more,
                 length-append n.rows (lists_of c.deref-in-Q-2.result.now),
                 length-map c.deref-in-Q-2.result.now (λ (list : Vec ℕ Global). list.items),
-                ap (λ (l : List (List ℕ)). length l) (groups_Q c.args.tree.now c.in-Q.children ts c.in-Q.is c.deref-in-Q-3.ensures.value),
-                length-append (neighbours (forest (map outline_of ts))) (groups_of (forest (map outline_of ts))),
-                neighbours_count (map outline_of ts),
-                length-map ts outline_of,
+                count_Q c.args.tree.now c.in-Q.children ts c.in-Q.is c.deref-in-Q-3.ensures.value,
                 c.in_ok-pairs_of-in-Q.ensures.0,
                 ap (λ (l : List (Vec ℕ Global)). length l) c.deref-in-Q-2.ensures.value,
                 c.saturating_sub.ensures,

@@ -1,0 +1,33 @@
+-- What each command over the file of an instance replies, by what its call makes of the instance.
+use Rattle.std.proofs.Common.{◌≡◌, ◌⊎◌, ◌∙◌, ℕ, List, [], ◌∷◌, sym, ap}
+use Rattle.std.specs.Prelude.{Result, Ok, Err, IfOk}
+use Rattle.pq_io.specs.Whole.{IsWhole}
+use Rattle.pq_io.specs.declared.reading.Whole.{Whole}
+use Rattle.row_model.specs.declared.kind.Kind.{Kind}
+use Rattle.row_model.specs.declared.refusal.Read.TheVariants as read
+use Rattle.instance_model.specs.declared.instance.Instance.{Instance}
+use Rattle.instance_model.specs.Instance.{InstanceValue}
+use Rattle.instance_model.specs.Value.{instance_value}
+use Rattle.command_input.specs.Words.{Command}
+use Rattle.command_input.specs.Instances.{instance_of, ReadsInstance}
+use Rattle.reply_laws.specs.Replies.{Replies}
+use Rattle.verdict_replies.specs.declared.reply.Reply.{Reply}
+use Rattle.pq_cli.specs.Over.{RepliesWhere}
+
+-- the instance that a file is read as, by another name
+pub read_as : (kind : Kind) (bytes : List ℕ) (i : Instance) (v : InstanceValue) → ReadsInstance kind bytes (read.Ok i) → instance_value i ≡ v → instance_of kind bytes ≡ read.Ok v
+read_as kind bytes i v made e = sym made ∙ ap read.Ok e
+
+-- what was made has the status of a reply, and Q holds of it
+module _ {E : Type 0} (command : Command) (kind : Kind) (i : Instance) (Q : Reply → Type 0) where
+  pub says_of_one : (made : Result Reply E) → IfOk made (λ reply. (reply.status ≡ 0) ⊎ (reply.status ≡ 1)) → IfOk made Q
+      → ((reply : Reply) (bytes : List ℕ) → Q reply → ReadsInstance kind bytes (read.Ok i) → Replies command (bytes ∷ []) reply.status reply.text.items)
+      → IfOk made (RepliesWhere command (λ files. (bytes : List ℕ) × (files ≡ bytes ∷ []) × ReadsInstance kind bytes (read.Ok i)))
+  says_of_one (Ok reply) status holds says = record { status = status; says = λ files f. rw f.1 (says reply f.0 holds f.2) }
+  says_of_one (Err e) status holds says = tt
+
+  pub says_of_both : (limit : ℕ) (w : Whole) (made : Result Reply E) → IfOk made (λ reply. (reply.status ≡ 0) ⊎ (reply.status ≡ 1)) → IfOk made Q
+      → ((reply : Reply) (bytes text : List ℕ) → Q reply → ReadsInstance kind bytes (read.Ok i) → IsWhole limit text w → Replies command (bytes ∷ text ∷ []) reply.status reply.text.items)
+      → IfOk made (RepliesWhere command (λ files. (bytes : List ℕ) × (text : List ℕ) × (files ≡ bytes ∷ text ∷ []) × ReadsInstance kind bytes (read.Ok i) × IsWhole limit text w))
+  says_of_both limit w (Ok reply) status holds says = record { status = status; says = λ files f. rw f.2 (says reply f.0 f.1 holds f.3 f.4) }
+  says_of_both limit w (Err e) status holds says = tt

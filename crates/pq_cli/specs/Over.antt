@@ -1,0 +1,35 @@
+-- Commands over the file of an instance: the files that they name, and what their replies have to be.
+use Rattle.std.specs.Prelude.{◌≡◌, ◌⊎◌, ℕ, ◌≤◌, List, [], ◌∷◌, Result, IfOk}
+use Rattle.pq_io.specs.Whole.{IsWhole}
+use Rattle.pq_io.specs.declared.reading.Whole.{Whole}
+use Rattle.row_model.specs.declared.kind.Kind.{Kind}
+use Rattle.row_model.specs.declared.refusal.Read.TheVariants as read
+use Rattle.instance_model.specs.declared.instance.Instance.{Instance}
+use Rattle.command_input.specs.Words.{Command, files_of}
+use Rattle.command_input.specs.Instances.{instance_of, ReadsInstance, IsInstanceOf}
+use Rattle.reply_laws.specs.Replies.{refusable, refused_at, refusal_of, Replies}
+use Rattle.verdict_replies.specs.declared.reply.Reply.{Reply}
+
+-- a command names these files, of which the first is that of an instance of this kind
+pub record IsOverInstance (command : Command) (kind : Kind) (names : List (List ℕ)) : Type 0 where
+  pub files : files_of command ≡ names
+  pub may : 1 ≤ refusable command
+  pub first : (bytes : List ℕ) → refusal_of command (bytes ∷ []) ≡ refused_at 1 (instance_of kind bytes)
+
+-- a reply has the status of one, and is a reply to a command over the files of which P holds
+pub record RepliesWhere (command : Command) (P : List (List ℕ) → Type 0) (reply : Reply) : Type 0 where
+  pub status : (reply.status ≡ 0) ⊎ (reply.status ≡ 1)
+  pub says : (files : List (List ℕ)) → P files → Replies command files reply.status reply.text.items
+
+-- what a call makes of an instance is a reply to a command over the file of the instance
+abbrev pub RepliesToInstance : {E : Type 0} → Command → Kind → (Instance → Result Reply E → Type 0) → Type 0
+RepliesToInstance command kind makes =
+    (i : Instance) (made : _) → IsInstanceOf kind i → makes i made
+    → IfOk made (RepliesWhere command (λ files. (bytes : List ℕ) × (files ≡ bytes ∷ []) × ReadsInstance kind bytes (read.Ok i)))
+
+-- what a call makes of an instance and a text of this limit is a reply to a command over the files of both
+abbrev pub RepliesToBoth : {E : Type 0} → Command → Kind → ℕ → (Instance → Whole → Result Reply E → Type 0) → Type 0
+RepliesToBoth command kind limit makes =
+    (i : Instance) (w : Whole) (made : _) → IsInstanceOf kind i → makes i w made
+    → IfOk made (RepliesWhere command (λ files.
+    (bytes : List ℕ) × (text : List ℕ) × (files ≡ bytes ∷ text ∷ []) × ReadsInstance kind bytes (read.Ok i) × IsWhole limit text w))
