@@ -1,6 +1,6 @@
 -- A node that splits a row: some frontier of the tree breaks the row.
 use Rattle.std.proofs.Common.{◌≡◌, ◌∙◌, ℕ, ◌+◌, ◌≤◌, false, cond, leb, ◌||◌, ◌&&◌, List, [], ◌∷◌, ◌++◌, IsTrue, IsFalse, IsPermutation, refl, sym, ap, subst, inl, inr, arith}
-use Rattle.std.proofs.lemmas.Bool.{cases_Bool, both_ways, or_cases, and_parts, leb-true, cond-true, cond-false}
+use Rattle.std.proofs.lemmas.Bool.{cases_Bool, both_ways, or_cases, and_parts, leb-true}
 use Rattle.std.proofs.lemmas.List.Folds.{concat-append}
 use Rattle.std.proofs.lemmas.List.Sorted.{IsPermutation-refl, IsPermutation-cons, IsPermutation-sym, IsPermutation-middle}
 use Rattle.std.specs.List.{concat}
@@ -11,6 +11,7 @@ use Rattle.pq_tree.specs.Proper.{count, HasArities, HaveArities}
 use Rattle.pq_tree.proofs.Frontiers.{leaves_are_frontier}
 use Rattle.pq_tree.specs.Nodes.{meets}
 use Rattle.verdict_check.specs.HoldsWalk.{misses, meeting, resumes, is_gapped, is_split, are_split}
+use Rattle.verdict_check.proofs.HoldsCases.{resumes_missed, resumes_whole, gapped_none, gapped_part, gapped_whole}
 use Rattle.verdict_check.proofs.HoldsLists.{Rises, Breaks, misses_has, none_has, misses_cases, meets_left, meets_right, rises_from, rises_left, rises_right, falls_then, then_rises, breaks_left, breaks_right}
 use Rattle.verdict_check.proofs.HoldsFrontiers.{own, own_joined, own_frontiers, Rising, Falling, rising, falling}
 
@@ -159,9 +160,9 @@ crowded row (tree_and t ts) h l m =
               middle = leaves t;
               rest = concat w.last;
               parts = concat-append w.first (leaves t ∷ w.last);
-              front_meets = w.first_meets;
-              middle_misses = none_misses row t h.0 k;
-              rest_meets = w.last_meets;
+              front_is = w.first_meets;
+              middle_is = none_misses row t h.0 k;
+              rest_is = w.last_meets;
             };
           }
     ]
@@ -172,7 +173,7 @@ resumes_rises row (tree_and t ts) h =
     elim (cases_Bool (misses row (leaves t))) [
       | inl n ↦
           let k : IsTrue (meets row (leaves t) || meets row (leaves_of ts)) =
-          sym (cond-true (misses row (leaves t)) (meets row (leaves t) || meets row (leaves_of ts)) (resumes row ts) n) ∙ h in
+          sym (resumes_missed row t ts n) ∙ h in
           elim (or_cases (meets row (leaves t)) (meets row (leaves_of ts)) k) [
             | inl m ↦
                 let r : Rising row t = rising row t m n in
@@ -185,7 +186,7 @@ resumes_rises row (tree_and t ts) h =
                 }
           ]
       | inr n ↦
-          let k : IsTrue (resumes row ts) = sym (cond-false (misses row (leaves t)) (meets row (leaves t) || meets row (leaves_of ts)) (resumes row ts) n) ∙ h in
+          let k : IsTrue (resumes row ts) = sym (resumes_whole row t ts n) ∙ h in
           let r : LineRising row ts = resumes_rises row ts k in
           record {
             orders = leaves t ∷ r.orders;
@@ -199,11 +200,9 @@ gap_breaks row no_tree h = absurd (both_ways false refl h)
 gap_breaks row (tree_and t ts) h =
     elim (cases_Bool (meets row (leaves t))) [
       | inl m ↦
-          let g : IsTrue (cond (misses row (leaves t)) (meets row (leaves_of ts)) (resumes row ts)) =
-          sym (cond-true (meets row (leaves t)) (cond (misses row (leaves t)) (meets row (leaves_of ts)) (resumes row ts)) (is_gapped row ts) m) ∙ h in
           elim (cases_Bool (misses row (leaves t))) [
             | inl n ↦
-                let k : IsTrue (meets row (leaves_of ts)) = sym (cond-true (misses row (leaves t)) (meets row (leaves_of ts)) (resumes row ts) n) ∙ g in
+                let k : IsTrue (meets row (leaves_of ts)) = sym (gapped_part row t ts m n) ∙ h in
                 let r : Falling row t = falling row t m n in
                 record {
                   orders = r.order ∷ own ts;
@@ -211,7 +210,7 @@ gap_breaks row (tree_and t ts) h =
                   breaks = falls_then row r.order (concat (own ts)) r.falls (sym (ap (meets row) (own_joined ts)) ∙ k);
                 }
             | inr n ↦
-                let k : IsTrue (resumes row ts) = sym (cond-false (misses row (leaves t)) (meets row (leaves_of ts)) (resumes row ts) n) ∙ g in
+                let k : IsTrue (resumes row ts) = sym (gapped_whole row t ts m n) ∙ h in
                 let r : LineRising row ts = resumes_rises row ts k in
                 record {
                   orders = leaves t ∷ r.orders;
@@ -221,7 +220,7 @@ gap_breaks row (tree_and t ts) h =
           ]
       | inr m ↦
           let k : IsTrue (is_gapped row ts) =
-          sym (cond-false (meets row (leaves t)) (cond (misses row (leaves t)) (meets row (leaves_of ts)) (resumes row ts)) (is_gapped row ts) m) ∙ h in
+          sym (gapped_none row t ts m) ∙ h in
           let r : LineBroken row ts = gap_breaks row ts k in
           record {
             orders = leaves t ∷ r.orders;

@@ -1,14 +1,15 @@
 -- A row that no node splits has the columns of a stretch of the tree.
-use Rattle.std.proofs.Common.{◌≡◌, ◌⊎◌, ◌∙◌, ℕ, ◌<◌, ◌≤◌, false, not, cond, leb, ◌||◌, ◌&&◌, List, [], ◌∷◌, ◌++◌, IsTrue, IsFalse, refl, sym, ap, subst, inl, inr, arith}
-use Rattle.std.proofs.lemmas.Bool.{cases_Bool, both_ways, or_cases, or_parts, or_from, and_cases, leb-false, cond-true, cond-false, false_from_ne_true}
+use Rattle.std.proofs.Common.{◌≡◌, ◌⊎◌, ◌∙◌, ℕ, ◌<◌, ◌≤◌, false, not, leb, ◌||◌, ◌&&◌, List, [], ◌∷◌, ◌++◌, IsTrue, IsFalse, refl, sym, ap, subst, inl, inr, arith}
+use Rattle.std.proofs.lemmas.Bool.{cases_Bool, both_ways, or_cases, or_parts, or_from, and_cases, leb-false, false_from_ne_true}
 use Rattle.column_order.specs.Orders.{has, occurs}
 use Rattle.column_order.proofs.Lists.{has_append_left, has_append_right, has_append_cases, occurs-append, apart, apart'}
 use Rattle.pq_tree.specs.Outline.{Outline, Forest, leaf, p_node, q_node, no_tree, tree_and, leaves, leaves_of}
 use Rattle.pq_tree.specs.Proper.{forest, trees}
 use Rattle.pq_tree.proofs.Shown.{leaves_of-append}
-use Rattle.pq_tree.specs.Nodes.{IsNodeOf, meets}
+use Rattle.pq_tree.specs.Nodes.{IsNode, IsNodeOf, meets}
 use Rattle.verdict_check.specs.Holds.{IsStretch}
 use Rattle.verdict_check.specs.HoldsWalk.{misses, meeting, resumes, is_gapped, is_split, are_split}
+use Rattle.verdict_check.proofs.HoldsCases.{resumes_missed, resumes_whole, gapped_none, gapped_part, gapped_whole}
 use Rattle.verdict_check.proofs.HoldsLists.{none_has, all_has, meets_cases, none_append, all_append}
 use Rattle.verdict_check.proofs.HoldsSplit.{split_p, split_q, split_and, meeting_head, meeting_tail}
 use Rattle.pq_tree.proofs.Nodes.{node_itself, node_within, nodes_within}
@@ -52,21 +53,20 @@ record HeldOf (row : List ℕ) (ts : Forest) : Type 0 where
   stretch : IsStretchOf columns ts
   same : (a : ℕ) → IsTrue (has (leaves_of ts) a) → has row a ≡ has columns a
 
-held_p : (row : List ℕ) (ts : Forest) → HeldOf row ts → Held row (p_node ts)
-held_p row ts h =
+-- a stretch of some trees is one of a tree that has their nodes
+held_above : (row : List ℕ) (t : Outline) (ts : Forest) → leaves t ≡ leaves_of ts → ((x : Outline) → IsNodeOf x ts → IsNode x t) → HeldOf row ts → Held row t
+held_above row t ts e up h =
     record {
       columns = h.columns;
-      stretch = elim h.stretch [ inl n ↦ inl (n.0, inr n.1, n.2) | inr r ↦ inr (r.0, r.1, r.2, inr r.3, r.4) ];
-      same = h.same;
+      stretch = elim h.stretch [ inl n ↦ inl (n.0, up n.0 n.1, n.2) | inr r ↦ inr (r.0, r.1, r.2, up (q_node (forest (r.0 ++ (r.1 ++ r.2)))) r.3, r.4) ];
+      same = λ a k. h.same a (sym (ap (λ xs. has xs a) e) ∙ k);
     }
 
+held_p : (row : List ℕ) (ts : Forest) → HeldOf row ts → Held row (p_node ts)
+held_p row ts h = held_above row (p_node ts) ts refl (λ x n. inr n) h
+
 held_q : (row : List ℕ) (ts : Forest) → HeldOf row ts → Held row (q_node ts)
-held_q row ts h =
-    record {
-      columns = h.columns;
-      stretch = elim h.stretch [ inl n ↦ inl (n.0, inr n.1, n.2) | inr r ↦ inr (r.0, r.1, r.2, inr r.3, r.4) ];
-      same = h.same;
-    }
+held_q row ts h = held_above row (q_node ts) ts refl (λ x n. inr n) h
 
 held_first : (row : List ℕ) (t : Outline) (ts : Forest) → ((a : ℕ) → occurs (leaves t ++ leaves_of ts) a ≤ 1) → Held row t → IsFalse (meets row (leaves_of ts)) →
     HeldOf row (tree_and t ts)
@@ -132,7 +132,7 @@ front_run row (tree_and t ts) h =
     elim (cases_Bool (misses row (leaves t))) [
       | inl n ↦
           let k : IsFalse (meets row (leaves t) || meets row (leaves_of ts)) =
-          sym (cond-true (misses row (leaves t)) (meets row (leaves t) || meets row (leaves_of ts)) (resumes row ts) n) ∙ h in
+          sym (resumes_missed row t ts n) ∙ h in
           let e = or_parts (meets row (leaves t)) (meets row (leaves_of ts)) k in (
             [],
             t ∷ trees ts,
@@ -141,7 +141,7 @@ front_run row (tree_and t ts) h =
             none_append row (leaves t) (leaves_of (forest (trees ts))) e.0 (subst (λ x. IsFalse (meets row (leaves_of x))) (forest_trees ts) e.1),
           )
       | inr n ↦
-          let k : IsFalse (resumes row ts) = sym (cond-false (misses row (leaves t)) (meets row (leaves t) || meets row (leaves_of ts)) (resumes row ts) n) ∙ h in
+          let k : IsFalse (resumes row ts) = sym (resumes_whole row t ts n) ∙ h in
           let r = front_run row ts k in (t ∷ r.0, r.1, ap (tree_and t) r.2, all_append row (leaves t) (leaves_of (forest r.0)) n r.3, r.4)
     ]
 
@@ -239,17 +239,15 @@ mutual
       let e = or_parts (is_split row t) (are_split row ts) (sym (split_and row t ts) ∙ s) in
       elim (cases_Bool (meets row (leaves t))) [
         | inl k ↦
-            let b : IsFalse (cond (misses row (leaves t)) (meets row (leaves_of ts)) (resumes row ts)) =
-            sym (cond-true (meets row (leaves t)) (cond (misses row (leaves t)) (meets row (leaves_of ts)) (resumes row ts)) (is_gapped row ts) k) ∙ g in
             elim (cases_Bool (misses row (leaves t))) [
               | inl n ↦
                   inl (held_first row t ts once (held row t (once_left (leaves t) (leaves_of ts) once) k e.0)
-                  (sym (cond-true (misses row (leaves t)) (meets row (leaves_of ts)) (resumes row ts) n) ∙ b))
-              | inr n ↦ inr (run_here row t ts n (sym (cond-false (misses row (leaves t)) (meets row (leaves_of ts)) (resumes row ts) n) ∙ b))
+                  (sym (gapped_part row t ts k n) ∙ g))
+              | inr n ↦ inr (run_here row t ts n (sym (gapped_whole row t ts k n) ∙ g))
             ]
         | inr k ↦
             let b : IsFalse (is_gapped row ts) =
-            sym (cond-false (meets row (leaves t)) (cond (misses row (leaves t)) (meets row (leaves_of ts)) (resumes row ts)) (is_gapped row ts) k) ∙ g in
+            sym (gapped_none row t ts k) ∙ g in
             elim (in_line row ts (once_right (leaves t) (leaves_of ts) once) b (meets_rest row (leaves t) (leaves_of ts) k m) e.1) [
               | inl h ↦ inl (held_later row t ts once k h)
               | inr r ↦ inr (run_later row t ts k r)
