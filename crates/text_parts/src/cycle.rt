@@ -2,19 +2,16 @@
 ghost use Rattle.std.specs.Prelude.{◌≡◌, ◌++◌, flat_map, OnOk, OnErr};
 ghost use Rattle.plain_text.specs.Pieces.{Extends};
 ghost use Rattle.plain_text.specs.Rest.{with_rest};
-ghost use Rattle.text_parts.specs.Numbered.{numbered_at};
 ghost use Rattle.text_parts.specs.Reading.{counted_at, line_at, why_at, row_reason_at};
 ghost use Rattle.text_parts.specs.Seen.{Gives};
 ghost use Rattle.text_parts.specs.Text.{counted_cycle, cycle_line, why_text};
 
-use crate::numbers::{after, push, push_word, read_number, room};
+use crate::lines::{LineForm, read_counted};
+use crate::numbers::{after, push, push_word, read_number};
 use crate::stop::Stop;
 use plain_text::{after_word, push_number};
 use row_model::{Line, Lines, NoMemory, Pair, Why};
 use std::alloc::Global;
-
-// The fewest bytes of a line.
-const LEAST_LINE: usize = 9;
 
 /// Appends the line `cycle L` and the L lines of a cycle.
 ///
@@ -70,12 +67,32 @@ fn push_why(why: Why, text: &mut Vec<u8>) -> Result<(), NoMemory>
     }
 }
 
+// A line of a cycle, which has no number.
+struct CycleLine;
+
+impl LineForm for CycleLine {
+    ghost use Rattle.text_parts.specs.Reading.{line_at as cycle_line_at};
+
+    type Item = Line;
+
+    const LEAST: usize = 9;
+
+    ghost LEAST = { 9 };
+
+    ghost line_at = { cycle_line_at };
+
+    fn read(_: u32, bytes: &[u8]) -> Result<(Line, &[u8]), Stop> {
+        read_line(bytes)
+    }
+
+    fn room_law() {}
+}
+
 /// A word, and behind it the number of lines and the lines of a cycle.
 ///
 /// # Errors
 ///
 /// `Stop::Outside` where the bytes do not begin so; `Stop::NoMemory`.
-#[tactic(auto, unfolding(crate::specs::Reading::counted_at))]
 pub fn read_cycle<'a>(
     alloc: Global,
     word: &[u8],
@@ -83,24 +100,7 @@ pub fn read_cycle<'a>(
 ) -> Result<(Lines, &'a [u8]), Stop>
     ensures { Gives with_rest result (counted_at word.now line_at bytes.now) }
 {
-    let rest = after(bytes, word)?;
-    let (count, rest) = read_number(rest)?;
-    let rest = after(rest, b"\n")?;
-    read_lines(alloc, count, rest)
-}
-
-fn read_lines(alloc: Global, count: u32, bytes: &[u8]) -> Result<(Lines, &[u8]), Stop>
-    ensures { Gives with_rest result (numbered_at line_at 1 count bytes.now) }
-{
-    let room = room(count, LEAST_LINE, bytes)?;
-    let mut lines = Lines::with_capacity(alloc, room)?;
-    let mut rest = bytes;
-    'lines: for _ in 0..count {
-        let (line, after) = read_line(rest)?;
-        lines.push(line)?;
-        rest = after;
-    }
-    Ok((lines, rest))
+    read_counted::<CycleLine>(alloc, word, bytes)
 }
 
 #[tactic(auto, unfolding(crate::specs::Reading::line_at))]
