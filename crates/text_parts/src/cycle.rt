@@ -1,17 +1,45 @@
 // The lines of a cycle, both ways.
-ghost use Rattle.std.specs.Prelude.{◌≡◌, ◌++◌, flat_map, OnOk, OnErr};
+ghost use Rattle.std.specs.Prelude.{◌≡◌, ◌++◌, OnOk, OnErr};
 ghost use Rattle.plain_text.specs.Pieces.{Extends};
 ghost use Rattle.plain_text.specs.Rest.{with_rest};
 ghost use Rattle.text_parts.specs.Reading.{counted_at, line_at, why_at, row_reason_at};
 ghost use Rattle.text_parts.specs.Seen.{Gives};
 ghost use Rattle.text_parts.specs.Text.{counted_cycle, cycle_line, why_text};
 
-use crate::lines::{LineForm, read_counted};
+use crate::lines::{LineForm, print_counted, read_counted};
 use crate::numbers::{after, push, push_word, read_number};
 use crate::stop::Stop;
 use plain_text::{after_word, push_number};
 use row_model::{Line, Lines, NoMemory, Pair, Why};
 use std::alloc::Global;
+
+// A line of a cycle, which has no number.
+struct CycleLine;
+
+impl LineForm for CycleLine {
+    ghost use Rattle.text_parts.specs.Reading.{line_at as cycle_line_at};
+    ghost use Rattle.text_parts.specs.Text.{cycle_line};
+
+    type Item = Line;
+
+    const LEAST: usize = 9;
+
+    ghost LEAST = { 9 };
+
+    ghost line_text = { λ _ line. cycle_line line };
+
+    ghost line_at = { cycle_line_at };
+
+    fn print(_: u64, line: Line, text: &mut Vec<u8>) -> Result<(), NoMemory> {
+        push_line(line, text)
+    }
+
+    fn read(_: u32, bytes: &[u8]) -> Result<(Line, &[u8]), Stop> {
+        read_line(bytes)
+    }
+
+    fn room_law() {}
+}
 
 /// Appends the line `cycle L` and the L lines of a cycle.
 ///
@@ -22,25 +50,11 @@ pub fn print_cycle(lines: &[Line], text: &mut Vec<u8>) -> Result<(), NoMemory>
     ensures ok { OnOk result (text.new.items ≡ text.old.items ++ counted_cycle lines.now) }
     ensures err { OnErr result (Extends text.old.items text.new.items) }
 {
-    push(text, b"cycle ")?;
-    push_number(text, lines.len() as u64)?;
-    push(text, b"\n")?;
-    push_cycle(lines, text)?;
-    Ok(())
+    print_counted::<CycleLine>(b"cycle ", lines, text)
 }
 
-fn push_cycle(lines: &[Line], text: &mut Vec<u8>) -> Result<(), NoMemory>
-    ensures ok { OnOk result (text.new.items ≡ text.old.items ++ flat_map cycle_line lines.now) }
-    ensures err { OnErr result (Extends text.old.items text.new.items) }
-{
-    for line in lines {
-        push_line(line, text)?;
-    }
-    Ok(())
-}
-
-fn push_line(line: &Line, text: &mut Vec<u8>) -> Result<(), NoMemory>
-    ensures ok { OnOk result (text.new.items ≡ text.old.items ++ cycle_line line.now) }
+fn push_line(line: Line, text: &mut Vec<u8>) -> Result<(), NoMemory>
+    ensures ok { OnOk result (text.new.items ≡ text.old.items ++ cycle_line line) }
     ensures err { OnErr result (Extends text.old.items text.new.items) }
 {
     push_number(text, u64::from(line.pair.a))?;
@@ -65,27 +79,6 @@ fn push_why(why: Why, text: &mut Vec<u8>) -> Result<(), NoMemory>
             Ok(())
         }
     }
-}
-
-// A line of a cycle, which has no number.
-struct CycleLine;
-
-impl LineForm for CycleLine {
-    ghost use Rattle.text_parts.specs.Reading.{line_at as cycle_line_at};
-
-    type Item = Line;
-
-    const LEAST: usize = 9;
-
-    ghost LEAST = { 9 };
-
-    ghost line_at = { cycle_line_at };
-
-    fn read(_: u32, bytes: &[u8]) -> Result<(Line, &[u8]), Stop> {
-        read_line(bytes)
-    }
-
-    fn room_law() {}
 }
 
 /// A word, and behind it the number of lines and the lines of a cycle.
