@@ -17,9 +17,6 @@ use std::alloc::Global;
 struct CycleLine;
 
 impl LineForm for CycleLine {
-    ghost use Rattle.text_parts.specs.Reading.{line_at as cycle_line_at};
-    ghost use Rattle.text_parts.specs.Text.{cycle_line};
-
     type Item = Line;
 
     const LEAST: usize = 9;
@@ -28,14 +25,28 @@ impl LineForm for CycleLine {
 
     ghost line_text = { λ _ line. cycle_line line };
 
-    ghost line_at = { cycle_line_at };
+    ghost line_at = { line_at };
 
     fn print(_: u64, line: Line, text: &mut Vec<u8>) -> Result<(), NoMemory> {
-        push_line(line, text)
+        push_number(text, u64::from(line.pair.a))?;
+        push_word(u64::from(line.pair.b), text)?;
+        push_why(line.why, text)?;
+        Ok(())
     }
 
+    #[tactic(auto, unfolding(crate::specs::Reading::line_at))]
     fn read(_: u32, bytes: &[u8]) -> Result<(Line, &[u8]), Stop> {
-        read_line(bytes)
+        let (a, rest) = read_number(bytes)?;
+        let rest = after(rest, b" ")?;
+        let (b, rest) = read_number(rest)?;
+        let (why, rest) = read_why(rest)?;
+        Ok((
+            Line {
+                pair: Pair { a, b },
+                why,
+            },
+            rest,
+        ))
     }
 
     fn room_law() {}
@@ -51,16 +62,6 @@ pub fn print_cycle(lines: &[Line], text: &mut Vec<u8>) -> Result<(), NoMemory>
     ensures err { OnErr result (Extends text.old.items text.new.items) }
 {
     print_counted::<CycleLine>(b"cycle ", lines, text)
-}
-
-fn push_line(line: Line, text: &mut Vec<u8>) -> Result<(), NoMemory>
-    ensures ok { OnOk result (text.new.items ≡ text.old.items ++ cycle_line line) }
-    ensures err { OnErr result (Extends text.old.items text.new.items) }
-{
-    push_number(text, u64::from(line.pair.a))?;
-    push_word(u64::from(line.pair.b), text)?;
-    push_why(line.why, text)?;
-    Ok(())
 }
 
 fn push_why(why: Why, text: &mut Vec<u8>) -> Result<(), NoMemory>
@@ -94,23 +95,6 @@ pub fn read_cycle<'a>(
     ensures { Gives with_rest result (counted_at word.now line_at bytes.now) }
 {
     read_counted::<CycleLine>(alloc, word, bytes)
-}
-
-#[tactic(auto, unfolding(crate::specs::Reading::line_at))]
-fn read_line(bytes: &[u8]) -> Result<(Line, &[u8]), Stop>
-    ensures { Gives with_rest result (line_at 0 bytes.now) }
-{
-    let (a, rest) = read_number(bytes)?;
-    let rest = after(rest, b" ")?;
-    let (b, rest) = read_number(rest)?;
-    let (why, rest) = read_why(rest)?;
-    Ok((
-        Line {
-            pair: Pair { a, b },
-            why,
-        },
-        rest,
-    ))
 }
 
 #[tactic(auto, unfolding(crate::specs::Reading::why_at))]

@@ -16,9 +16,6 @@ use text_parts::{LineForm, Stop, after, push, push_word, read_number};
 pub(crate) struct IntervalLine;
 
 impl LineForm for IntervalLine {
-    ghost use Rattle.verdict_text.specs.Reading.{interval_at};
-    ghost use Rattle.verdict_text.specs.Text.{interval_line};
-
     type Item = Interval;
 
     const LEAST: usize = 15;
@@ -30,48 +27,32 @@ impl LineForm for IntervalLine {
     ghost line_at = { interval_at };
 
     fn print(i: u64, interval: Interval, text: &mut Vec<u8>) -> Result<(), NoMemory> {
-        push_interval(i, interval, text)
+        push(text, b"interval ")?;
+        push_number(text, i)?;
+        push_word(interval.left, text)?;
+        push_word(interval.right, text)?;
+        push(text, b"\n")?;
+        Ok(())
     }
 
+    #[tactic(auto, unfolding(crate::specs::Reading::interval_at))]
     fn read(i: u32, bytes: &[u8]) -> Result<(Interval, &[u8]), Stop> {
-        read_interval(i, bytes)
+        let rest = after_index(bytes, b"interval ", i)?;
+        let rest = after(rest, b" ")?;
+        let (left, rest) = read_end(rest)?;
+        let rest = after(rest, b" ")?;
+        let (right, rest) = read_end(rest)?;
+        let rest = after(rest, b"\n")?;
+        Ok((Interval { left, right }, rest))
     }
 
     fn room_law() {}
-}
-
-#[tactic(auto, unfolding(crate::specs::Reading::interval_at))]
-fn read_interval(i: u32, bytes: &[u8]) -> Result<(Interval, &[u8]), Stop>
-    ensures { Gives with_rest result (interval_at i bytes.now) }
-{
-    let rest = after_index(bytes, b"interval ", i)?;
-    let rest = after(rest, b" ")?;
-    let (left, rest) = read_end(rest)?;
-    let rest = after(rest, b" ")?;
-    let (right, rest) = read_end(rest)?;
-    let rest = after(rest, b"\n")?;
-    Ok((Interval { left, right }, rest))
-}
-
-fn push_interval(i: u64, interval: Interval, text: &mut Vec<u8>) -> Result<(), NoMemory>
-    ensures ok { OnOk result (text.new.items ≡ text.old.items ++ interval_line i interval) }
-    ensures err { OnErr result (Extends text.old.items text.new.items) }
-{
-    push(text, b"interval ")?;
-    push_number(text, i)?;
-    push_word(interval.left, text)?;
-    push_word(interval.right, text)?;
-    push(text, b"\n")?;
-    Ok(())
 }
 
 // The line of a clone's place.
 pub(crate) struct PlaceLine;
 
 impl LineForm for PlaceLine {
-    ghost use Rattle.verdict_text.specs.Reading.{place_at};
-    ghost use Rattle.verdict_text.specs.Text.{place_line};
-
     type Item = Place;
 
     const LEAST: usize = 12;
@@ -83,22 +64,19 @@ impl LineForm for PlaceLine {
     ghost line_at = { place_at };
 
     fn print(i: u64, place: Place, text: &mut Vec<u8>) -> Result<(), NoMemory> {
-        push_place(i, place, text)
+        push(text, b"place ")?;
+        push_number(text, i)?;
+        push_place_ends(place, text)?;
+        Ok(())
     }
 
+    #[tactic(auto, unfolding(crate::specs::Reading::place_at))]
     fn read(i: u32, bytes: &[u8]) -> Result<(Place, &[u8]), Stop> {
-        read_place(i, bytes)
+        let rest = after_index(bytes, b"place ", i)?;
+        read_where(rest)
     }
 
     fn room_law() {}
-}
-
-#[tactic(auto, unfolding(crate::specs::Reading::place_at))]
-fn read_place(i: u32, bytes: &[u8]) -> Result<(Place, &[u8]), Stop>
-    ensures { Gives with_rest result (place_at i bytes.now) }
-{
-    let rest = after_index(bytes, b"place ", i)?;
-    read_where(rest)
 }
 
 fn read_where(bytes: &[u8]) -> Result<(Place, &[u8]), Stop>
@@ -111,16 +89,6 @@ fn read_where(bytes: &[u8]) -> Result<(Place, &[u8]), Stop>
             Ok((Place::At { first, last }, rest))
         }
     }
-}
-
-fn push_place(i: u64, place: Place, text: &mut Vec<u8>) -> Result<(), NoMemory>
-    ensures ok { OnOk result (text.new.items ≡ text.old.items ++ place_line i place) }
-    ensures err { OnErr result (Extends text.old.items text.new.items) }
-{
-    push(text, b"place ")?;
-    push_number(text, i)?;
-    push_place_ends(place, text)?;
-    Ok(())
 }
 
 fn push_place_ends(place: Place, text: &mut Vec<u8>) -> Result<(), NoMemory>
@@ -150,9 +118,6 @@ fn push_ends(first: u32, last: u32, text: &mut Vec<u8>) -> Result<(), NoMemory>
 pub(crate) struct ContigLine;
 
 impl LineForm for ContigLine {
-    ghost use Rattle.verdict_text.specs.Reading.{contig_at};
-    ghost use Rattle.verdict_text.specs.Text.{contig_line};
-
     type Item = Span;
 
     const LEAST: usize = 11;
@@ -164,22 +129,18 @@ impl LineForm for ContigLine {
     ghost line_at = { contig_at };
 
     fn print(_: u64, contig: Span, text: &mut Vec<u8>) -> Result<(), NoMemory> {
-        push_contig(contig, text)
+        push(text, b"contig")?;
+        push_ends(contig.first, contig.last, text)?;
+        Ok(())
     }
 
+    #[tactic(auto, unfolding(crate::specs::Reading::contig_at))]
     fn read(_: u32, bytes: &[u8]) -> Result<(Span, &[u8]), Stop> {
-        read_contig(bytes)
+        let rest = after(bytes, b"contig")?;
+        read_ends(rest)
     }
 
     fn room_law() {}
-}
-
-#[tactic(auto, unfolding(crate::specs::Reading::contig_at))]
-fn read_contig(bytes: &[u8]) -> Result<(Span, &[u8]), Stop>
-    ensures { Gives with_rest result (contig_at 0 bytes.now) }
-{
-    let rest = after(bytes, b"contig")?;
-    read_ends(rest)
 }
 
 // The two ends of a span, and the end of the line.
@@ -193,13 +154,4 @@ fn read_ends(bytes: &[u8]) -> Result<(Span, &[u8]), Stop>
     let (last, rest) = read_number(rest)?;
     let rest = after(rest, b"\n")?;
     Ok((Span { first, last }, rest))
-}
-
-fn push_contig(contig: Span, text: &mut Vec<u8>) -> Result<(), NoMemory>
-    ensures ok { OnOk result (text.new.items ≡ text.old.items ++ contig_line contig) }
-    ensures err { OnErr result (Extends text.old.items text.new.items) }
-{
-    push(text, b"contig")?;
-    push_ends(contig.first, contig.last, text)?;
-    Ok(())
 }
