@@ -1,13 +1,20 @@
 -- What the walk over trees says, by what the row has of the first tree.
-use Rattle.std.proofs.Common.{◌≡◌, ◌∙◌, ℕ, ◌||◌, List, IsTrue, IsFalse, cond}
-use Rattle.std.proofs.lemmas.Bool.{cond-true, cond-false}
+use Rattle.std.proofs.Common.{◌≡◌, ◌⊎◌, ◌∙◌, ℕ, ◌||◌, List, IsTrue, IsFalse, sym, cond}
+use Rattle.std.proofs.lemmas.Bool.{or_cases, or_parts, cond-true, cond-false}
 use Rattle.pq_tree.specs.Outline.{Outline, Forest, tree_and, leaves, leaves_of}
 use Rattle.pq_tree.specs.Nodes.{meets}
 use Rattle.verdict_check.specs.HoldsWalk.{misses, resumes, is_gapped}
 
 -- the row misses a column of it
-pub resumes_missed : (row : List ℕ) (t : Outline) (ts : Forest) → IsTrue (misses row (leaves t)) → resumes row (tree_and t ts) ≡ (meets row (leaves t) || meets row (leaves_of ts))
+resumes_missed : (row : List ℕ) (t : Outline) (ts : Forest) → IsTrue (misses row (leaves t)) → resumes row (tree_and t ts) ≡ (meets row (leaves t) || meets row (leaves_of ts))
 resumes_missed row t ts n = cond-true (misses row (leaves t)) (meets row (leaves t) || meets row (leaves_of ts)) (resumes row ts) n
+
+-- and then it has a column of it or of a later one
+pub resumes_at : (row : List ℕ) (t : Outline) (ts : Forest) → IsTrue (misses row (leaves t)) → IsTrue (resumes row (tree_and t ts)) → IsTrue (meets row (leaves t)) ⊎ IsTrue (meets row (leaves_of ts))
+resumes_at row t ts n h = or_cases (meets row (leaves t)) (meets row (leaves_of ts)) (sym (resumes_missed row t ts n) ∙ h)
+
+pub resumes_none : (row : List ℕ) (t : Outline) (ts : Forest) → IsTrue (misses row (leaves t)) → IsFalse (resumes row (tree_and t ts)) → IsFalse (meets row (leaves t)) × IsFalse (meets row (leaves_of ts))
+resumes_none row t ts n h = or_parts (meets row (leaves t)) (meets row (leaves_of ts)) (sym (resumes_missed row t ts n) ∙ h)
 
 -- the row has each column of it
 pub resumes_whole : (row : List ℕ) (t : Outline) (ts : Forest) → IsFalse (misses row (leaves t)) → resumes row (tree_and t ts) ≡ resumes row ts

@@ -11,7 +11,7 @@ use Rattle.pq_tree.specs.Proper.{count, HasArities, HaveArities}
 use Rattle.pq_tree.proofs.Frontiers.{leaves_are_frontier}
 use Rattle.pq_tree.specs.Nodes.{meets}
 use Rattle.verdict_check.specs.HoldsWalk.{misses, meeting, resumes, is_gapped, is_split, are_split}
-use Rattle.verdict_check.proofs.HoldsCases.{resumes_missed, resumes_whole, gapped_none, gapped_part, gapped_whole}
+use Rattle.verdict_check.proofs.HoldsCases.{resumes_at, resumes_whole, gapped_none, gapped_part, gapped_whole}
 use Rattle.verdict_check.proofs.HoldsLists.{Rises, Breaks, misses_has, none_has, misses_cases, meets_left, meets_right, rises_from, rises_left, rises_right, falls_then, then_rises, breaks_left, breaks_right}
 use Rattle.verdict_check.proofs.HoldsFrontiers.{own, own_joined, own_frontiers, Rising, Falling, rising, falling}
 
@@ -172,9 +172,7 @@ resumes_rises row no_tree h = absurd (both_ways false refl h)
 resumes_rises row (tree_and t ts) h =
     elim (cases_Bool (misses row (leaves t))) [
       | inl n ↦
-          let k : IsTrue (meets row (leaves t) || meets row (leaves_of ts)) =
-          sym (resumes_missed row t ts n) ∙ h in
-          elim (or_cases (meets row (leaves t)) (meets row (leaves_of ts)) k) [
+          elim (resumes_at row t ts n h) [
             | inl m ↦
                 let r : Rising row t = rising row t m n in
                 record { orders = r.order ∷ own ts; frontiers = (r.frontier, own_frontiers ts); rises = rises_left row r.order (concat (own ts)) r.rises }
@@ -219,8 +217,7 @@ gap_breaks row (tree_and t ts) h =
                 }
           ]
       | inr m ↦
-          let k : IsTrue (is_gapped row ts) =
-          sym (gapped_none row t ts m) ∙ h in
+          let k : IsTrue (is_gapped row ts) = sym (gapped_none row t ts m) ∙ h in
           let r : LineBroken row ts = gap_breaks row ts k in
           record {
             orders = leaves t ∷ r.orders;

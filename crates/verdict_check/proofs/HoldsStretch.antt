@@ -1,5 +1,5 @@
 -- A row that no node splits has the columns of a stretch of the tree.
-use Rattle.std.proofs.Common.{◌≡◌, ◌⊎◌, ◌∙◌, ℕ, ◌<◌, ◌≤◌, false, not, leb, ◌||◌, ◌&&◌, List, [], ◌∷◌, ◌++◌, IsTrue, IsFalse, refl, sym, ap, subst, inl, inr, arith}
+use Rattle.std.proofs.Common.{◌≡◌, ◌⊎◌, ◌∙◌, ℕ, ◌<◌, ◌≤◌, false, not, leb, ◌&&◌, List, [], ◌∷◌, ◌++◌, IsTrue, IsFalse, refl, sym, ap, subst, inl, inr, arith}
 use Rattle.std.proofs.lemmas.Bool.{cases_Bool, both_ways, or_cases, or_parts, or_from, and_cases, leb-false, false_from_ne_true}
 use Rattle.column_order.specs.Orders.{has, occurs}
 use Rattle.column_order.proofs.Lists.{has_append_left, has_append_right, has_append_cases, occurs-append, apart, apart'}
@@ -9,7 +9,7 @@ use Rattle.pq_tree.proofs.Shown.{leaves_of-append}
 use Rattle.pq_tree.specs.Nodes.{IsNode, IsNodeOf, meets}
 use Rattle.verdict_check.specs.Holds.{IsStretch}
 use Rattle.verdict_check.specs.HoldsWalk.{misses, meeting, resumes, is_gapped, is_split, are_split}
-use Rattle.verdict_check.proofs.HoldsCases.{resumes_missed, resumes_whole, gapped_none, gapped_part, gapped_whole}
+use Rattle.verdict_check.proofs.HoldsCases.{resumes_none, resumes_whole, gapped_none, gapped_part, gapped_whole}
 use Rattle.verdict_check.proofs.HoldsLists.{none_has, all_has, meets_cases, none_append, all_append}
 use Rattle.verdict_check.proofs.HoldsSplit.{split_p, split_q, split_and, meeting_head, meeting_tail}
 use Rattle.pq_tree.proofs.Nodes.{node_itself, node_within, nodes_within}
@@ -103,7 +103,7 @@ held_all row t n =
       same = λ a h. all_has row (leaves t) a n h ∙ sym h;
     }
 
-no_meeting : (row : List ℕ) (ts : Forest) → meeting row ts ≡ 0 → IsFalse (meets row (leaves_of ts))
+pub no_meeting : (row : List ℕ) (ts : Forest) → meeting row ts ≡ 0 → IsFalse (meets row (leaves_of ts))
 no_meeting row no_tree e = refl
 no_meeting row (tree_and t ts) e =
     elim (cases_Bool (meets row (leaves t))) [
@@ -131,9 +131,7 @@ front_run row no_tree h = ([], [], refl, refl, refl)
 front_run row (tree_and t ts) h =
     elim (cases_Bool (misses row (leaves t))) [
       | inl n ↦
-          let k : IsFalse (meets row (leaves t) || meets row (leaves_of ts)) =
-          sym (resumes_missed row t ts n) ∙ h in
-          let e = or_parts (meets row (leaves t)) (meets row (leaves_of ts)) k in (
+          let e = resumes_none row t ts n h in (
             [],
             t ∷ trees ts,
             ap (tree_and t) (forest_trees ts),
@@ -203,7 +201,7 @@ once_left xs ys once a = omega (arith, once a, occurs-append xs ys a)
 once_right : (xs ys : List ℕ) → ((a : ℕ) → occurs (xs ++ ys) a ≤ 1) → (a : ℕ) → occurs ys a ≤ 1
 once_right xs ys once a = omega (arith, once a, occurs-append xs ys a)
 
-meets_rest : (row xs ys : List ℕ) → IsFalse (meets row xs) → IsTrue (meets row (xs ++ ys)) → IsTrue (meets row ys)
+pub meets_rest : (row xs ys : List ℕ) → IsFalse (meets row xs) → IsTrue (meets row (xs ++ ys)) → IsTrue (meets row ys)
 meets_rest row xs ys n m = elim (meets_cases row xs ys m) [ inl k ↦ absurd (both_ways (meets row xs) n k) | inr k ↦ k ]
 
 mutual
@@ -246,8 +244,7 @@ mutual
               | inr n ↦ inr (run_here row t ts n (sym (gapped_whole row t ts k n) ∙ g))
             ]
         | inr k ↦
-            let b : IsFalse (is_gapped row ts) =
-            sym (gapped_none row t ts k) ∙ g in
+            let b : IsFalse (is_gapped row ts) = sym (gapped_none row t ts k) ∙ g in
             elim (in_line row ts (once_right (leaves t) (leaves_of ts) once) b (meets_rest row (leaves t) (leaves_of ts) k m) e.1) [
               | inl h ↦ inl (held_later row t ts once k h)
               | inr r ↦ inr (run_later row t ts k r)
