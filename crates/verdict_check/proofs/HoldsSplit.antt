@@ -104,16 +104,22 @@ pub record Broken (row : List ℕ) (t : Outline) : Type 0 where
   pub frontier : IsFrontier t order
   pub breaks : Breaks row order
 
--- one frontier of each tree, which joined break the row, or rise
-record LineBroken (row : List ℕ) (ts : Forest) : Type 0 where
+-- one frontier of each tree, of which something holds when they are joined
+record Lined (P : List ℕ → Type 0) (ts : Forest) : Type 0 where
   orders : List (List ℕ)
   frontiers : AreFrontiers ts orders
-  breaks : Breaks row (concat orders)
+  holds : P (concat orders)
 
-record LineRising (row : List ℕ) (ts : Forest) : Type 0 where
-  orders : List (List ℕ)
-  frontiers : AreFrontiers ts orders
-  rises : Rises row (concat orders)
+-- one tree more before them
+lined_later : (P Q : List ℕ → Type 0) (t : Outline) (ts : Forest) → ((f : List ℕ) → P f → Q (leaves t ++ f)) → Lined P ts → Lined Q (tree_and t ts)
+lined_later P Q t ts more l = record { orders = leaves t ∷ l.orders; frontiers = (leaves_are_frontier t, l.frontiers); holds = more (concat l.orders) l.holds }
+
+-- frontiers that joined break the row, or rise
+abbrev LineBroken : List ℕ → Forest → Type 0
+LineBroken row ts = Lined (Breaks row) ts
+
+abbrev LineRising : List ℕ → Forest → Type 0
+LineRising row ts = Lined (Rises row) ts
 
 -- the row misses a column of one of the trees
 crowded : (row : List ℕ) (ts : Forest) → HaveArities ts → 2 ≤ meeting row ts → IsTrue (misses row (leaves_of ts)) → Broken row (p_node ts)
@@ -175,22 +181,15 @@ resumes_rises row (tree_and t ts) h =
           elim (resumes_at row t ts n h) [
             | inl m ↦
                 let r : Rising row t = rising row t m n in
-                record { orders = r.order ∷ own ts; frontiers = (r.frontier, own_frontiers ts); rises = rises_left row r.order (concat (own ts)) r.rises }
+                record { orders = r.order ∷ own ts; frontiers = (r.frontier, own_frontiers ts); holds = rises_left row r.order (concat (own ts)) r.rises }
             | inr m ↦
                 record {
                   orders = own (tree_and t ts);
                   frontiers = own_frontiers (tree_and t ts);
-                  rises = rises_from row (leaves t) (concat (own ts)) n (sym (ap (meets row) (own_joined ts)) ∙ m);
+                  holds = rises_from row (leaves t) (concat (own ts)) n (sym (ap (meets row) (own_joined ts)) ∙ m);
                 }
           ]
-      | inr n ↦
-          let k : IsTrue (resumes row ts) = sym (resumes_whole row t ts n) ∙ h in
-          let r : LineRising row ts = resumes_rises row ts k in
-          record {
-            orders = leaves t ∷ r.orders;
-            frontiers = (leaves_are_frontier t, r.frontiers);
-            rises = rises_right row (leaves t) (concat r.orders) r.rises;
-          }
+      | inr n ↦ lined_later (Rises row) (Rises row) t ts (λ f r. rises_right row (leaves t) f r) (resumes_rises row ts (sym (resumes_whole row t ts n) ∙ h))
     ]
 
 gap_breaks : (row : List ℕ) (ts : Forest) → IsTrue (is_gapped row ts) → LineBroken row ts
@@ -205,32 +204,18 @@ gap_breaks row (tree_and t ts) h =
                 record {
                   orders = r.order ∷ own ts;
                   frontiers = (r.frontier, own_frontiers ts);
-                  breaks = falls_then row r.order (concat (own ts)) r.falls (sym (ap (meets row) (own_joined ts)) ∙ k);
+                  holds = falls_then row r.order (concat (own ts)) r.falls (sym (ap (meets row) (own_joined ts)) ∙ k);
                 }
-            | inr n ↦
-                let k : IsTrue (resumes row ts) = sym (gapped_whole row t ts m n) ∙ h in
-                let r : LineRising row ts = resumes_rises row ts k in
-                record {
-                  orders = leaves t ∷ r.orders;
-                  frontiers = (leaves_are_frontier t, r.frontiers);
-                  breaks = then_rises row (leaves t) (concat r.orders) m r.rises;
-                }
+            | inr n ↦ lined_later (Rises row) (Breaks row) t ts (λ f r. then_rises row (leaves t) f m r) (resumes_rises row ts (sym (gapped_whole row t ts m n) ∙ h))
           ]
-      | inr m ↦
-          let k : IsTrue (is_gapped row ts) = sym (gapped_none row t ts m) ∙ h in
-          let r : LineBroken row ts = gap_breaks row ts k in
-          record {
-            orders = leaves t ∷ r.orders;
-            frontiers = (leaves_are_frontier t, r.frontiers);
-            breaks = breaks_right row (leaves t) (concat r.orders) r.breaks;
-          }
+      | inr m ↦ lined_later (Breaks row) (Breaks row) t ts (λ f r. breaks_right row (leaves t) f r) (gap_breaks row ts (sym (gapped_none row t ts m) ∙ h))
     ]
 
 over_p : (row : List ℕ) (ts : Forest) → LineBroken row ts → Broken row (p_node ts)
-over_p row ts r = record { order = concat r.orders; frontier = (r.orders, r.orders, r.frontiers, IsPermutation-refl r.orders, refl); breaks = r.breaks }
+over_p row ts r = record { order = concat r.orders; frontier = (r.orders, r.orders, r.frontiers, IsPermutation-refl r.orders, refl); breaks = r.holds }
 
 over_q : (row : List ℕ) (ts : Forest) → LineBroken row ts → Broken row (q_node ts)
-over_q row ts r = record { order = concat r.orders; frontier = (r.orders, r.frontiers, inl refl); breaks = r.breaks }
+over_q row ts r = record { order = concat r.orders; frontier = (r.orders, r.frontiers, inl refl); breaks = r.holds }
 
 -- where a node of the tree splits the row, a frontier breaks it
 mutual
@@ -255,12 +240,6 @@ mutual
       elim (or_cases (is_split row t) (are_split row ts) (sym (split_and row t ts) ∙ s)) [
         | inl k ↦
             let r : Broken row t = split_breaks row t h.0 k in
-            record { orders = r.order ∷ own ts; frontiers = (r.frontier, own_frontiers ts); breaks = breaks_left row r.order (concat (own ts)) r.breaks }
-        | inr k ↦
-            let r : LineBroken row ts = splits_break row ts h.1 k in
-            record {
-              orders = leaves t ∷ r.orders;
-              frontiers = (leaves_are_frontier t, r.frontiers);
-              breaks = breaks_right row (leaves t) (concat r.orders) r.breaks;
-            }
+            record { orders = r.order ∷ own ts; frontiers = (r.frontier, own_frontiers ts); holds = breaks_left row r.order (concat (own ts)) r.breaks }
+        | inr k ↦ lined_later (Breaks row) (Breaks row) t ts (λ f r. breaks_right row (leaves t) f r) (splits_break row ts h.1 k)
       ]
