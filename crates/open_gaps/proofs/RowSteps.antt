@@ -2,7 +2,7 @@
 use Rattle.std.proofs.Common.{◌≡◌, ◌⊎◌, ◌∙◌, ℕ, ◌+◌, ◌-◌, ◌<◌, ◌≤◌, Bool, true, false, cond, ltb, List, [], ◌∷◌, ◌++◌, length, get_or, take, replicate, slice_index, slice_index_or, IsTrue, refl, sym, ap, subst, inl, inr, arith}
 use Rattle.std.specs.Prelude.{All, Some, slice_get, sum_by}
 use Rattle.std.proofs.lemmas.Bool.{cases_lt, ltb-true, ltb-false}
-use Rattle.std.proofs.lemmas.List.{take_all, take_more, get_or-take, get_or-replicate, length-take-le}
+use Rattle.std.proofs.lemmas.List.{take_all, take_more, get_or-take, get_or-replicate, length-replicate, length-take-le}
 use Rattle.std.proofs.lemmas.List.Elements.{All-get_or}
 use Rattle.std.proofs.lemmas.List.Sums.{sum_by-append, sum_by-cons}
 use Rattle.std.proofs.lemmas.Option.{get_or_from_slice_get}
@@ -97,10 +97,15 @@ gaps_start o gaps all q d w =
     }
 
 -- gaps over which no row was taken
-pub fresh_gaps : (c : ℕ) (fresh : Gap) (gaps : List Gap) (o : List ℕ) → gaps ≡ replicate c fresh → c ≤ fresh.last → fresh.first ≡ 0 → length o ≡ c → AreGaps [] o gaps
-fresh_gaps c fresh gaps o e last first n = gaps_start o gaps (λ q d l.
-    let is : slice_index_or gaps q d ≡ fresh = ap (λ (v : List Gap). slice_index_or v q d) e ∙ get_or-replicate c q fresh d (omega (arith, l, n)) in
-    subst (λ (x : Gap). (length o ≤ x.last) × (x.first ≡ 0)) (sym is) (omega (arith, n, last), first))
+pub fresh_gaps : (columns count c : ℕ) (fresh : Gap) (gaps : List Gap) → gaps ≡ replicate count fresh → fresh ≡ record { last = columns; last_row = 0; first = 0; first_row = 0 } → columns ≡ c → count ≡ c →
+    (length gaps ≡ c) × ((o : List ℕ) → IsOrder c o → AreGaps [] o gaps)
+fresh_gaps columns count c fresh gaps e begun all many = (
+  omega (arith, ap (λ (l : List Gap). length l) e, length-replicate count fresh, many),
+  λ o order. gaps_start o gaps (λ q d l.
+      let n = order_length c o order in
+      let is : slice_index_or gaps q d ≡ fresh = ap (λ (v : List Gap). slice_index_or v q d) e ∙ get_or-replicate count q fresh d (omega (arith, l, n, many)) in
+      subst (λ (x : Gap). (length o ≤ x.last) × (x.first ≡ 0)) (sym is) (omega (arith, n, all, ap (λ (g : Gap). g.last) begun), ap (λ (g : Gap). g.first) begun)),
+)
 
 pub next_rows : (rows : List (List ℕ)) (k : ℕ) (row : List ℕ) → k < length rows → slice_get rows (k + 1 - 1) ≡ Some row → take (k + 1) rows ≡ take k rows ++ row ∷ []
 next_rows rows k row l found =

@@ -53,16 +53,11 @@ impl OpenGaps {
         ensures gaps { IfOk result (λ t. AreGaps (take rows m.now.rows) order.now t.gaps) }
         ensures ticks { steps.new ≤ steps.old + sum_by length (take rows m.now.rows) }
     {
-        let columns = m.columns();
+        // A matrix has few enough columns for positions.
+        let _columns = m.columns();
         let positions = positions(alloc, order)?;
         let gaps = gaps_of(alloc, m, rows, &positions, steps)?;
-        let mut kept = Vec::with_capacity(alloc, columns as usize)?;
-        kept.extend_from_slice(order)?;
-        Ok(OpenGaps {
-            order: kept,
-            positions,
-            gaps,
-        })
+        Self::of_parts(alloc, order, positions, gaps)
     }
 
     /// The gaps of an order, as all rows leave them open. No step is counted.
@@ -75,13 +70,29 @@ impl OpenGaps {
         ensures order { IfOk result (λ t. t.order ≡ order.now) }
         ensures gaps { IfOk result (λ t. AreGaps m.now.rows order.now t.gaps) }
     {
-        let columns = m.columns();
+        // A matrix has few enough columns for positions.
+        let _columns = m.columns();
         let positions = positions(alloc, order)?;
         let gaps = gaps_of_all(alloc, m, &positions)?;
-        let mut copy = Vec::with_capacity(alloc, columns as usize)?;
-        copy.extend_from_slice(order)?;
+        Self::of_parts(alloc, order, positions, gaps)
+    }
+
+    // An order, copied, with the position of each of its columns and its gaps.
+    fn of_parts(
+        alloc: Global,
+        order: &[u32],
+        positions: Vec<u32>,
+        gaps: Vec<Gap>,
+    ) -> Result<Self, NoMemory>
+        requires order { IsOrder (length order.now) order.now }
+        requires few { length order.now ≤ COLUMN_BOUND }
+        requires positions { ArePositions order.now positions.items }
+        requires gaps { length gaps.items ≡ length order.now }
+        ensures order { IfOk result (λ t. t.order ≡ order.now) }
+        ensures gaps { IfOk result (λ t. t.gaps ≡ gaps.items) }
+    {
         Ok(OpenGaps {
-            order: copy,
+            order: order.to_vec(alloc)?,
             positions,
             gaps,
         })

@@ -1,19 +1,15 @@
-use Rattle.std.proofs.Common.{◌≡◌, ◌∙◌, List, length, replicate, ap, sym, arith}
-use Rattle.std.proofs.lemmas.List.{length-replicate}
+use Rattle.std.proofs.Common.{◌∙◌, length, sym, arith}
 use Rattle.column_order.proofs.Counts.{order_length}
-use Rattle.open_gaps.specs.declared.gap.Gap.{Gap}
 use Rattle.open_gaps.proofs.RowSteps.{fresh_gaps, gaps_next, span_within, order_here, row_here, ones_next}
 use Rattle.open_gaps.proofs.table.gaps_of.Goals as goal
 
 pub loop-k-init : goal.loop-k-init
 loop-k-init g c =
-    let items : c.in_ok-gaps.gaps.items ≡ replicate c.columns-2.result c.uncovered.result = c.in_ok-gaps.ensures.items_if_clones_equal (λ y e. e) in
+    let begun = fresh_gaps c.columns.result c.columns-2.result c.args.m.now.columns c.uncovered.result c.in_ok-gaps.gaps.items (c.in_ok-gaps.ensures.items_if_clones_equal (λ y e. e)) c.uncovered.ensures
+    c.columns.ensures.columns c.columns-2.ensures.columns in
     record {
-      len = omega (arith, ap (λ (l : List Gap). length l) items, length-replicate c.columns-2.result c.uncovered.result, c.columns-2.ensures.columns);
-      gaps = λ o valid are.
-          fresh_gaps c.columns-2.result c.uncovered.result c.in_ok-gaps.gaps.items o items
-          (omega (arith, ap (λ (g : Gap). g.last) c.uncovered.ensures, c.columns.ensures.columns, c.columns-2.ensures.columns)) (ap (λ (g : Gap). g.first) c.uncovered.ensures)
-          (omega (arith, order_length c.args.m.now.columns o valid.order, c.columns-2.ensures.columns));
+      len = begun.0;
+      gaps = λ o valid are. begun.1 o valid.order;
       ticks = omega arith;
     }
 
