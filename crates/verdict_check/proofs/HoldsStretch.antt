@@ -68,17 +68,23 @@ held_p row ts h = held_above row (p_node ts) ts refl (λ x n. inr n) h
 held_q : (row : List ℕ) (ts : Forest) → HeldOf row ts → Held row (q_node ts)
 held_q row ts h = held_above row (q_node ts) ts refl (λ x n. inr n) h
 
+-- of two lists the row has the columns of a part of the first, and none of the second
+first_alone : (row xs ys part : List ℕ) → ((a : ℕ) → IsTrue (has part a) → IsTrue (has ys a) → ⊥) → ((a : ℕ) → IsTrue (has xs a) → has row a ≡ has part a) → IsFalse (meets row ys) →
+    (a : ℕ) → IsTrue (has xs a) ⊎ IsTrue (has ys a) → has row a ≡ has part a
+first_alone row xs ys part other same n a k =
+    elim k [
+      | inl x ↦ same a x
+      | inr y ↦ none_has row ys a n y ∙ sym (false_from_ne_true (has part a) (λ z. other a z y))
+    ]
+
 held_first : (row : List ℕ) (t : Outline) (ts : Forest) → ((a : ℕ) → occurs (leaves t ++ leaves_of ts) a ≤ 1) → Held row t → IsFalse (meets row (leaves_of ts)) →
     HeldOf row (tree_and t ts)
 held_first row t ts once h n =
+    let other = λ (a : ℕ) (z : IsTrue (has h.columns a)). both_ways (has (leaves_of ts) a) (apart (leaves t) (leaves_of ts) a (once a) (stretch_within h.columns t h.stretch a z)) in
     record {
       columns = h.columns;
       stretch = elim h.stretch [ inl n ↦ inl (n.0, inl n.1, n.2) | inr r ↦ inr (r.0, r.1, r.2, inl r.3, r.4) ];
-      same = λ a k. elim (has_append_cases (leaves t) (leaves_of ts) a k) [
-        | inl y ↦ h.same a y
-        | inr y ↦ none_has row (leaves_of ts) a n y ∙ sym (false_from_ne_true (has h.columns a)
-            (λ z. both_ways (has (leaves_of ts) a) (apart (leaves t) (leaves_of ts) a (once a) (stretch_within h.columns t h.stretch a z)) y))
-      ];
+      same = λ a k. first_alone row (leaves t) (leaves_of ts) h.columns other h.same n a (has_append_cases (leaves t) (leaves_of ts) a k);
     }
 
 held_later : (row : List ℕ) (t : Outline) (ts : Forest) → ((a : ℕ) → occurs (leaves t ++ leaves_of ts) a ≤ 1) → IsFalse (meets row (leaves t)) → HeldOf row ts →
@@ -87,12 +93,13 @@ held_later row t ts once n h =
     record {
       columns = h.columns;
       stretch = elim h.stretch [ inl n ↦ inl (n.0, inr n.1, n.2) | inr r ↦ inr (r.0, r.1, r.2, inr r.3, r.4) ];
-      same = λ a k. elim (has_append_cases (leaves t) (leaves_of ts) a k) [
-        | inl y ↦ none_has row (leaves t) a n y ∙ sym (false_from_ne_true (has h.columns a)
-            (λ z. both_ways (has (leaves t) a) (apart' (leaves t) (leaves_of ts) a (once a) (stretches_within h.columns ts h.stretch a z)) y))
-        | inr y ↦ h.same a y
-      ];
+      same = λ a k. first_alone row (leaves_of ts) (leaves t) h.columns
+          (λ a z. both_ways (has (leaves t) a) (apart' (leaves t) (leaves_of ts) a (once a) (stretches_within h.columns ts h.stretch a z)))
+          h.same n a (turned (has_append_cases (leaves t) (leaves_of ts) a k));
     }
+  where
+    turned : {A B : Type 0} → A ⊎ B → B ⊎ A
+    turned e = elim e [ inl x ↦ inr x | inr y ↦ inl y ]
 
 -- a row that misses no column of the tree
 held_all : (row : List ℕ) (t : Outline) → IsFalse (misses row (leaves t)) → Held row t
