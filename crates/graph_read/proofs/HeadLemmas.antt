@@ -1,5 +1,6 @@
 -- A file is read by its lines that are not blank, where it is not too long.
 use Rattle.std.proofs.Common.{◌≡◌, ◌∙◌, ℕ, ◌+◌, ◌≤◌, List, [], ◌∷◌, length, drop, Option, Result, Ok, Err, refl, sym, ap, inl, inr}
+use Rattle.std.proofs.lemmas.Bool.{cases_lt}
 use Rattle.row_model.specs.declared.refusal.Refusal.{Refusal}
 use Rattle.row_model.specs.declared.refusal.Read.{Read}
 use Rattle.row_model.specs.declared.refusal.Read.TheVariants as read
@@ -69,6 +70,23 @@ module _ {V H : Type 0} (file : List ℕ → Read V) (lines : List NumberedLine 
     bad_head = λ bytes head later code short e is. behind_head bytes head later (Err code) short e is ∙ bad_head head.number code later;
     bad_line = λ bytes head later h refusal short e is of. behind_head bytes head later (Ok h) short e is ∙ bad_line head.number h later refusal of;
   }
+
+  -- what each value has that the file gives
+  pub given : (P : List NumberedLine → V → Type 0) →
+      ((head : NumberedLine) (later : List NumberedLine) (found : Result H ℕ) (v : V) → head_in head.text ≡ found → behind head.number found later ≡ read.Ok v → P (head ∷ later) v) →
+      (bytes : List ℕ) (v : V) → file bytes ≡ read.Ok v → (length bytes ≤ MAX_FILE_BYTES) × P (filled_of bytes) v
+  given P each bytes v h =
+      elim (cases_lt MAX_FILE_BYTES (length bytes)) [
+        | inl long ↦ absurd (not_refused (sym (r.long bytes long) ∙ h))
+        | inr short ↦ (short, by_lines (filled_of bytes) (sym (r.short bytes short) ∙ h))
+      ]
+    where
+      not_refused : {refusal : Refusal} → read.Refused refusal ≡ read.Ok v → ⊥
+      not_refused e = absurd (cc)
+
+      by_lines : (ls : List NumberedLine) → lines ls ≡ read.Ok v → P ls v
+      by_lines [] k = absurd (not_refused (sym r.none ∙ k))
+      by_lines (head ∷ later) k = each head later (head_in head.text) v refl (sym (first head later) ∙ k)
 
   -- a file with a first line
   at_head : (bytes text line : List ℕ) (number next : ℕ) (found : Result H ℕ) → IsHead bytes text line number next → found ≡ head_in line → file bytes ≡ behind number found (rest_of text number next)
