@@ -41,9 +41,9 @@ module _ (c : ℕ) (rows : List (List ℕ)) (o : List ℕ) (valid : IsValidOrder
   pub row_keeps : (k : ℕ) → 1 ≤ k → k ≤ length rows → Keeps o (row_at rows k)
   row_keeps k from to = valid.kept (k - 1) [] (omega (arith, from, to))
 
-  -- a gap that is open for a column behind it is open for each column farther behind
-  pub open_behind : (q p r : ℕ) → q + 1 < p → p ≤ r → r < length o → IsOpen rows o q p → IsOpen rows o q r
-  open_behind q p r l m u h =
+  -- a row that opens a gap for one column opens it for another, if it has the one where it has the other
+  open_too : (q p r : ℕ) (h : IsOpen rows o q p) → (IsTrue (has (row_at rows h.0) (slice_index o r)) → IsTrue (has (row_at rows h.0) (slice_index o p))) → IsOpen rows o q r
+  open_too q p r h both =
       let opens = h.1 in (
         h.0,
         record {
@@ -51,32 +51,24 @@ module _ (c : ℕ) (rows : List (List ℕ)) (o : List ℕ) (valid : IsValidOrder
           to = opens.to;
           low = opens.low;
           high = opens.high;
-          lacks = false_from_ne_true (has (row_at rows h.0) (slice_index o r)) (λ t.
-              elim (cases_eq p r) [
-                | inl e ↦ both_ways (has (row_at rows h.0) (slice_index o p)) opens.lacks (subst (λ i. IsTrue (has (row_at rows h.0) (slice_index o i))) (sym e) t)
-                | inr n ↦
-                    both_ways (has (row_at rows h.0) (slice_index o p)) opens.lacks
-                    (row_keeps h.0 opens.from opens.to (q + 1) p r l (omega arith) u opens.high t)
-              ]);
+          lacks = false_from_ne_true (has (row_at rows h.0) (slice_index o r)) (λ t. both_ways (has (row_at rows h.0) (slice_index o p)) opens.lacks (both t));
         },
       )
+
+  -- a gap that is open for a column behind it is open for each column farther behind
+  pub open_behind : (q p r : ℕ) → q + 1 < p → p ≤ r → r < length o → IsOpen rows o q p → IsOpen rows o q r
+  open_behind q p r l m u h =
+      open_too q p r h (λ t.
+      elim (cases_eq p r) [
+        | inl e ↦ subst (λ i. IsTrue (has (row_at rows h.0) (slice_index o i))) (sym e) t
+        | inr n ↦ row_keeps h.0 h.1.from h.1.to (q + 1) p r l (omega arith) u h.1.high t
+      ])
 
   -- and one that is open for a column before it is open for each column farther before
   pub open_before : (q p r : ℕ) → r ≤ p → p < q → q + 1 < length o → IsOpen rows o q p → IsOpen rows o q r
   open_before q p r m l u h =
-      let opens = h.1 in (
-        h.0,
-        record {
-          from = opens.from;
-          to = opens.to;
-          low = opens.low;
-          high = opens.high;
-          lacks = false_from_ne_true (has (row_at rows h.0) (slice_index o r)) (λ t.
-              elim (cases_eq r p) [
-                | inl e ↦ both_ways (has (row_at rows h.0) (slice_index o p)) opens.lacks (subst (λ i. IsTrue (has (row_at rows h.0) (slice_index o i))) e t)
-                | inr n ↦
-                    both_ways (has (row_at rows h.0) (slice_index o p)) opens.lacks
-                    (row_keeps h.0 opens.from opens.to r p q (omega arith) l (omega arith) t opens.low)
-              ]);
-        },
-      )
+      open_too q p r h (λ t.
+      elim (cases_eq r p) [
+        | inl e ↦ subst (λ i. IsTrue (has (row_at rows h.0) (slice_index o i))) e t
+        | inr n ↦ row_keeps h.0 h.1.from h.1.to r p q (omega arith) l (omega arith) t h.1.low
+      ])

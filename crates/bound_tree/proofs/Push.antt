@@ -89,16 +89,19 @@ node_end t v ts s n end ns h e k m f =
     f ∙ get_or_default ns (n - 1) end 0 (omega (arith, l, m, starts_length s (forest (map outline_of ts)))) ∙ ap (λ x. get_or x (n - 1) 0) k ∙ ap (λ i. get_or (starts s (forest (map outline_of ts))) (i - 1) 0) l ∙ starts_last s (forest (map outline_of ts)) ∙
     ap (λ i. s + i) (sym (node_length t v ts h e))
 
+-- a node over its children: their stretches, and those of the node itself
+over : (u : Outline) (s : ℕ) (ts : List Tree) (own : List ℕ → List Stretch) (ns : List ℕ) (old all new : List Stretch) → stretches s u ≡ stretches_of s (forest (map outline_of ts)) ++ own (starts s (forest (map outline_of ts))) →
+    ns ≡ starts s (forest (map outline_of ts)) → all ≡ old ++ stretches_of s (forest (map outline_of ts)) → new ≡ all ++ own ns → new ≡ old ++ stretches s u
+over u s ts own ns old all new e k h w =
+    w ∙ ap (λ x. x ++ own ns) h ∙ append_assoc old (stretches_of s (forest (map outline_of ts))) (own ns) ∙
+    ap (λ x. old ++ x) (ap (λ y. stretches_of s (forest (map outline_of ts)) ++ own y) k ∙ sym e)
+
 pub over_P : (t : Tree) (v : Vec Tree Global) (ts : List Tree) (s : ℕ) (ns : List ℕ) (old all new : List Stretch) → t ≡ P v → ts ≡ v.items → ns ≡ starts s (forest (map outline_of ts)) →
     all ≡ old ++ stretches_of s (forest (map outline_of ts)) → new ≡ all ++ whole_stretches ns → new ≡ old ++ stretches s (outline_of t)
 over_P t v ts s ns old all new e f k h w =
-    let o : outline_of t ≡ p_node (forest (map outline_of ts)) = ap outline_of e ∙ outline_of-P v ∙ ap (λ x. p_node (forest (map outline_of x))) (sym f) in
-    w ∙ ap (λ x. x ++ whole_stretches ns) h ∙ append_assoc old (stretches_of s (forest (map outline_of ts))) (whole_stretches ns) ∙
-    ap (λ x. old ++ x) (ap (λ y. stretches_of s (forest (map outline_of ts)) ++ whole_stretches y) k ∙ ap (stretches s) (sym o))
+    over (outline_of t) s ts whole_stretches ns old all new (ap (stretches s) (ap outline_of e ∙ outline_of-P v ∙ ap (λ x. p_node (forest (map outline_of x))) (sym f))) k h w
 
 pub over_Q : (t : Tree) (v : Vec Tree Global) (ts : List Tree) (s : ℕ) (ns : List ℕ) (old all new : List Stretch) → t ≡ Q v → ts ≡ v.items → ns ≡ starts s (forest (map outline_of ts)) →
     all ≡ old ++ stretches_of s (forest (map outline_of ts)) → new ≡ all ++ near_stretches ns → new ≡ old ++ stretches s (outline_of t)
 over_Q t v ts s ns old all new e f k h w =
-    let o : outline_of t ≡ q_node (forest (map outline_of ts)) = ap outline_of e ∙ outline_of-Q v ∙ ap (λ x. q_node (forest (map outline_of x))) (sym f) in
-    w ∙ ap (λ x. x ++ near_stretches ns) h ∙ append_assoc old (stretches_of s (forest (map outline_of ts))) (near_stretches ns) ∙
-    ap (λ x. old ++ x) (ap (λ y. stretches_of s (forest (map outline_of ts)) ++ near_stretches y) k ∙ ap (stretches s) (sym o))
+    over (outline_of t) s ts near_stretches ns old all new (ap (stretches s) (ap outline_of e ∙ outline_of-Q v ∙ ap (λ x. q_node (forest (map outline_of x))) (sym f))) k h w

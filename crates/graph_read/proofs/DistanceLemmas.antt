@@ -4,18 +4,14 @@ use Rattle.std.proofs.lemmas.Bool.{cases_eq, cases_lt, and_left, and_right, and_
 use Rattle.std.proofs.lemmas.List.{append-nil}
 use Rattle.std.proofs.Math.ListN.{get_or-append}
 use Rattle.row_model.specs.declared.refusal.Refusal.{Refusal}
-use Rattle.row_model.specs.declared.refusal.Read.TheVariants as read
-use Rattle.row_model.specs.declared.TheConstants.{MAX_FILE_BYTES}
-use Rattle.row_model.specs.declared.code.TheConstants.{LIMIT, COUNT, GRAMMAR, RANGE, SYMMETRY}
-use Rattle.text_lines.specs.Lines.{NumberedLine, without_mark, lines_of, filled_lines}
+use Rattle.row_model.specs.declared.code.TheConstants.{COUNT, GRAMMAR, RANGE, SYMMETRY}
+use Rattle.text_lines.specs.Lines.{NumberedLine}
 use Rattle.text_lines.specs.Words.{words_of, numeral_of}
 use Rattle.text_lines.specs.declared.words.Numeral.{Numeral}
 use Rattle.text_lines.specs.declared.words.Numeral.TheVariants.{Value, TooLarge, NotDigits}
 use Rattle.graph_model.specs.declared.TheConstants.{ITEM_BOUND}
 use Rattle.graph_model.specs.Distances.{distance, IsDistances}
 use Rattle.graph_read.specs.DistanceSteps.{distance_then, numbers_behind, is_symmetric_at, is_row_at, table_with_row, row_behind, rows_then, table_behind}
-use Rattle.graph_read.specs.DistanceFiles.{distances, distances_lines}
-use Rattle.row_model.proofs.Limits.{too_long, short_enough}
 use Rattle.graph_read.proofs.PlaceLemmas.{place_within}
 
 -- where a row is not symmetric
@@ -71,18 +67,6 @@ module _ (n x : ℕ) (values line : List ℕ) where
 
   pub row_here : x < n → row_behind n x values line ≡ table_with_row n (length values + n) (x + 1) (numbers_behind values (words_of line))
   row_here lt = rw (lt-leb n x lt) refl
-
-module _ (bytes : List ℕ) where
-  pub distances_long : MAX_FILE_BYTES < length bytes → distances bytes ≡ read.Refused (record { code = LIMIT; line = 0 })
-  unfolding distances
-  distances_long h = too_long bytes (distances_lines (filled_lines 1 (lines_of (without_mark bytes)))) h
-
-  pub distances_short : length bytes ≤ MAX_FILE_BYTES → distances bytes ≡ distances_lines (filled_lines 1 (lines_of (without_mark bytes)))
-  unfolding distances
-  distances_short h = short_enough bytes (distances_lines (filled_lines 1 (lines_of (without_mark bytes)))) h
-
-  pub distances_text : (text : List ℕ) → length bytes ≤ MAX_FILE_BYTES → text ≡ without_mark bytes → distances bytes ≡ distances_lines (filled_lines 1 (lines_of text))
-  distances_text text h is = distances_short h ∙ ap (λ t. distances_lines (filled_lines 1 (lines_of t))) (sym is)
 
 -- the first rows of a table are symmetric with a zero diagonal
 pub record IsFit (n x : ℕ) (values : List ℕ) : Type 0 where

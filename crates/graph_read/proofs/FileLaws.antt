@@ -21,7 +21,8 @@ use Rattle.graph_model.specs.Distances.{DistancesValue}
 use Rattle.graph_read.specs.DistanceFiles.{items_named, distances, distances_behind, distances_lines}
 use Rattle.graph_read.specs.DistanceSteps.{distances_with}
 use Rattle.graph_read.specs.Numbers.{one_number}
-use Rattle.graph_read.proofs.DistanceLemmas.{are_distances, distances_short}
+use Rattle.graph_read.proofs.DistanceLemmas.{are_distances}
+use Rattle.graph_read.proofs.HeadLemmas.{distances_reads}
 use Rattle.graph_read.proofs.Named.{items_written}
 use Rattle.graph_read.proofs.TableRows.{rows_given, table_taken}
 use Rattle.graph_read.proofs.TableSteps.{read_behind}
@@ -87,7 +88,7 @@ written_distances bytes d file =
     let w = file.writes in
     let some : 1 ≤ d.items = file.distances.items.0 in
     let items : items_named (one_number (words_of w.first.text)) ≡ Ok d.items = rw (w.size, ne_eqb d.items 0 (λ e. absurd (omega arith)), le-ltb MAX_ITEMS d.items file.items) refl in
-    distances_short bytes file.short
+    distances_reads.short bytes file.short
     ∙ ap distances_lines w.are
     ∙ ap (λ n. distances_behind w.first.number n w.later) items
     ∙ read_behind d.items w.later w.first.number

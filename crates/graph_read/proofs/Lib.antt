@@ -3,6 +3,7 @@ pub mod PlaceLemmas
 pub mod BitLemmas
 pub mod EdgeSteps
 pub mod EdgeLemmas
+pub mod HeadLemmas
 pub mod FileLemmas
 pub mod DistanceLemmas
 pub mod TableRows

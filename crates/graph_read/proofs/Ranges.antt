@@ -1,9 +1,8 @@
 -- What is known of each graph and each table of distances that a file gives.
-use Rattle.std.proofs.Common.{◌≡◌, ◌∙◌, ℕ, zero, suc, ◌≤◌, Bool, true, false, if◌then◌else◌, ◌||◌, ◌&&◌, nat_lt, List, [], ◌∷◌, length, refl, sym, ap, arith, subst, Option, Some, None, Result, Ok, Err}
+use Rattle.std.proofs.Common.{◌≡◌, ◌∙◌, ℕ, zero, suc, ◌≤◌, Bool, true, false, if◌then◌else◌, ◌||◌, ◌&&◌, List, [], ◌∷◌, length, refl, sym, ap, arith, subst, Option, Some, None, Result, Ok, Err}
 use Rattle.std.proofs.lemmas.Bool.{and_parts, or_parts, ltb-false}
 use Rattle.row_model.specs.Rows.{RowList}
 use Rattle.row_model.specs.declared.refusal.Refusal.{Refusal}
-use Rattle.row_model.specs.declared.refusal.Read.{Read}
 use Rattle.row_model.specs.declared.refusal.Read.TheVariants as read
 use Rattle.row_model.specs.declared.TheConstants.{MAX_COLUMNS, MAX_FILE_BYTES, MAX_ITEMS}
 use Rattle.row_model.specs.declared.code.TheConstants.{RANGE, LIMIT}
@@ -20,7 +19,6 @@ use Rattle.text_lines.specs.declared.words.Numeral.{Numeral}
 use Rattle.text_lines.specs.declared.words.Numeral.TheVariants.{Value, TooLarge, NotDigits}
 use Rattle.graph_model.specs.Graphs.{BigraphValue, IsBigraph, GraphValue, IsGraph}
 use Rattle.graph_model.specs.Distances.{DistancesValue}
-use Rattle.row_model.specs.Limits.{within_length}
 use Rattle.graph_read.specs.Numbers.{is_number, is_zero, is_past, value_of, both_numbers, two_numbers, if_number, one_number}
 use Rattle.graph_read.specs.Edges.{left_of, right_of, edges_of, edge_refusal, lists_of_lines, sides_named, vertices_named}
 use Rattle.graph_read.specs.GraphFiles.{bigraph, bigraph_with, bigraph_behind, bigraph_lines, graph, graph_with, graph_behind, graph_lines}
@@ -29,20 +27,10 @@ use Rattle.graph_read.specs.DistanceSteps.{table_behind, distances_with}
 use Rattle.graph_read.specs.declared.edges.Shape.{Shape}
 use Rattle.graph_read.specs.declared.edges.Shape.TheVariants.{Bipartite, Plain}
 use Rattle.graph_read.proofs.ListLemmas.{length-lists_from, lists_from-rows}
+use Rattle.graph_read.specs.RefusalLaws.{sides_head, vertices_head, items_head}
+use Rattle.graph_read.proofs.HeadLemmas.{bigraph_reads, graph_reads, distances_reads, given}
 use Rattle.graph_read.proofs.FileLemmas.{is_graph}
 use Rattle.graph_read.proofs.TableSteps.{read_behind}
-
--- a file that gives a value is within the limit of its length
-record ReadInside {T : Type 0} (bytes : List ℕ) (inside : Read T) (value : T) : Type 0 where
-  short : length bytes ≤ MAX_FILE_BYTES
-  read_as : inside ≡ read.Ok value
-
-length_within : {T : Type 0} (bytes : List ℕ) (inside : Read T) (value : T) → within_length bytes inside ≡ read.Ok value → ReadInside bytes inside value
-length_within bytes inside value h = by_length (nat_lt MAX_FILE_BYTES (length bytes)) refl h
-  where
-    by_length : (long : Bool) → nat_lt MAX_FILE_BYTES (length bytes) ≡ long → (if long then read.Refused (record { code = LIMIT; line = 0 }) else inside) ≡ read.Ok value → ReadInside bytes inside value
-    by_length true e k = absurd (cc)
-    by_length false e k = record { short = ltb-false MAX_FILE_BYTES (length bytes) e; read_as = k }
 
 -- a number of digits that is not 0 and not past a limit
 pub number_within : (limit : ℕ) (n : Numeral) → is_number n ≡ true → is_zero n ≡ false → is_past limit n ≡ false → (1 ≤ value_of n) × (value_of n ≤ limit)
@@ -167,15 +155,8 @@ module _ (limit : ℕ) (g : BigraphValue) (first : NumberedLine) (later : List N
       no_plain : IsBipartite (Plain n) → ⊥
       no_plain k = k
 
-lines_bigraph : (limit : ℕ) (g : BigraphValue) (lines : List NumberedLine) → bigraph_lines limit lines ≡ read.Ok g → BigraphRead limit lines g
-lines_bigraph limit g [] h = absurd (cc)
-lines_bigraph limit g (first ∷ later) h = headed limit g first later (sides_named limit (two_numbers (words_of first.text))) refl h
-
 pub bigraph_from : (limit : ℕ) (g : BigraphValue) (bytes : List ℕ) → bigraph limit bytes ≡ read.Ok g → (length bytes ≤ MAX_FILE_BYTES) × BigraphRead limit (filled_of bytes) g
-unfolding bigraph
-bigraph_from limit g bytes h =
-    let inside = length_within bytes (bigraph_lines limit (filled_of bytes)) g h in
-    (inside.short, lines_bigraph limit g (filled_of bytes) inside.read_as)
+bigraph_from limit g bytes h = given (bigraph limit) (bigraph_lines limit) bigraph_behind (sides_head limit) (bigraph_reads limit) (λ head later. refl) (BigraphRead limit) (λ head later found v e k. headed limit v head later found e k) bytes g h
 
 -- what is known of it
 pub record BigraphRange (limit : ℕ) (g : BigraphValue) : Type 0 where
@@ -223,15 +204,8 @@ module _ (g : GraphValue) (first : NumberedLine) (later : List NumberedLine) whe
       let v = vertices_within (words_of first.text) shape e in
       listed_plain v.vertices (e ∙ ap (λ s. Ok s) v.is) v.some v.few (edge_refusal (Plain v.vertices) later) refl (ap (λ s. graph_behind first.number (Ok s) later) (sym v.is) ∙ h)
 
-lines_graph : (g : GraphValue) (lines : List NumberedLine) → graph_lines lines ≡ read.Ok g → GraphRead lines g
-lines_graph g [] h = absurd (cc)
-lines_graph g (first ∷ later) h = headed_plain g first later (vertices_named (one_number (words_of first.text))) refl h
-
 pub graph_from : (g : GraphValue) (bytes : List ℕ) → graph bytes ≡ read.Ok g → (length bytes ≤ MAX_FILE_BYTES) × GraphRead (filled_of bytes) g
-unfolding graph
-graph_from g bytes h =
-    let inside = length_within bytes (graph_lines (filled_of bytes)) g h in
-    (inside.short, lines_graph g (filled_of bytes) inside.read_as)
+graph_from g bytes h = given graph graph_lines graph_behind vertices_head graph_reads (λ head later. refl) GraphRead (λ head later found v e k. headed_plain v head later found e k) bytes g h
 
 -- what is known of it
 pub record GraphRange (g : GraphValue) : Type 0 where
@@ -267,12 +241,5 @@ module _ (d : DistancesValue) (first : NumberedLine) (later : List NumberedLine)
   headed_items (Err code) e h = absurd (cc)
   headed_items (Ok n) e h = tabled n e (items_within (words_of first.text) n e) (table_behind n 0 [] later) refl (sym (read_behind n later first.number) ∙ h)
 
-lines_distances : (d : DistancesValue) (lines : List NumberedLine) → distances_lines lines ≡ read.Ok d → DistancesRead lines d
-lines_distances d [] h = absurd (cc)
-lines_distances d (first ∷ later) h = headed_items d first later (items_named (one_number (words_of first.text))) refl h
-
 pub distances_from : (d : DistancesValue) (bytes : List ℕ) → distances bytes ≡ read.Ok d → (length bytes ≤ MAX_FILE_BYTES) × DistancesRead (filled_of bytes) d
-unfolding distances
-distances_from d bytes h =
-    let inside = length_within bytes (distances_lines (filled_of bytes)) d h in
-    (inside.short, lines_distances d (filled_of bytes) inside.read_as)
+distances_from d bytes h = given distances distances_lines distances_behind items_head distances_reads (λ head later. refl) DistancesRead (λ head later found v e k. headed_items v head later found e k) bytes d h

@@ -21,7 +21,7 @@ use Rattle.graph_model.specs.Graphs.{BigraphValue, GraphValue}
 use Rattle.graph_read.specs.GraphFiles.{bigraph, graph, bigraph_with, bigraph_behind, bigraph_lines, graph_with, graph_behind, graph_lines}
 use Rattle.graph_read.specs.FileLaws.{IsEdgeLine, IsPairLine, names_edge, IsBigraphFile, IsGraphFile}
 use Rattle.graph_read.proofs.EdgeLemmas.{ends_either}
-use Rattle.graph_read.proofs.FileLemmas.{bigraph_short, graph_short}
+use Rattle.graph_read.proofs.HeadLemmas.{bigraph_reads, graph_reads}
 use Rattle.graph_read.proofs.EdgeNames.{lines_name}
 use Rattle.graph_read.proofs.EdgeSteps.{no_refusal, edge_step}
 use Rattle.graph_read.proofs.PlaceLemmas.{row_among}
@@ -80,7 +80,7 @@ written_bigraph limit bytes g file =
     lists_same g.left g.right edges g.neighbours is.lists is.ascending (λ x y px lx py ly. w.edges x y px lx py ly ∙ sym (lines_name x y px py shape w.later none)) in
     let sides : sides_named limit (two_numbers (words_of w.first.text)) ≡ Ok shape =
     rw (w.sizes, ne_eqb g.left 0 (λ e. absurd (omega (arith, is.left.0))), ne_eqb g.right 0 (λ e. absurd (omega (arith, is.right.0))), le-ltb limit g.left file.left, le-ltb MAX_COLUMNS g.right file.right) refl in
-    bigraph_short limit bytes file.short
+    (bigraph_reads limit).short bytes file.short
     ∙ ap (bigraph_lines limit) w.are
     ∙ ap (λ s. bigraph_behind w.first.number s w.later) sides
     ∙ ap (λ refusal. bigraph_with shape (refused_or refusal (record { columns = g.right; rows = lists_from 1 g.left g.right edges }))) none
@@ -101,7 +101,7 @@ written_graph bytes g file =
     ∙ sym (ends_either u v edges)) in
     let vertices : vertices_named (one_number (words_of w.first.text)) ≡ Ok (Plain n) =
     rw (w.size, ne_eqb n 0 (λ e. absurd (omega (arith, is.vertices.0))), le-ltb MAX_COLUMNS n file.vertices) refl in
-    graph_short bytes file.short
+    graph_reads.short bytes file.short
     ∙ ap graph_lines w.are
     ∙ ap (λ s. graph_behind w.first.number s w.later) vertices
     ∙ ap (λ refusal. graph_with (Plain n) (refused_or refusal (record { columns = n; rows = lists_from 1 n n (both_ways edges) }))) none

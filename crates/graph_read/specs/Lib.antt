@@ -7,3 +7,4 @@ pub mod DistanceSteps
 pub mod DistanceFiles
 pub mod FileLaws
 pub mod RefusalLaws
+pub mod Heads

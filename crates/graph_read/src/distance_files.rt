@@ -6,12 +6,12 @@ ghost use Rattle.graph_read.specs.Numbers.{one_number};
 ghost use Rattle.graph_read.specs.DistanceFiles.{items_named, distances};
 ghost use Rattle.graph_read.specs.DistanceSteps.{numbers_behind, is_row_at, table_with_row, row_behind, table_behind};
 
-use crate::graph_files::refusal;
+use crate::heads::{head_of, refusal};
 use crate::numbers::{is_past, is_zero, one_number, value_of};
 use graph_model::Distances;
 use row_model::{MAX_FILE_BYTES, MAX_ITEMS, NoMemory, Read, Refusal, code};
 use std::alloc::Global;
-use text_lines::{Numeral, next_filled_line, next_number, without_mark};
+use text_lines::{Numeral, next_filled_line, next_number};
 
 // The number of items that a first line gives, or the code of its refusal.
 fn items_in(line: &[u8]) -> Result<u32, u8>
@@ -162,19 +162,16 @@ fn push_rows(
 pub fn read_distances(alloc: Global, bytes: &[u8]) -> Result<Read<Distances>, NoMemory>
     ensures { IfOk result (λ read. read ≡ distances bytes.now) }
 {
-    if bytes.len() as u64 > MAX_FILE_BYTES {
-        return Ok(Read::Refused(refusal(code::LIMIT, 0)));
-    }
-    let text = without_mark(bytes);
-    let Some(first) = next_filled_line(text, 0, 0) else {
-        return Ok(Read::Refused(refusal(code::EMPTY, 0)));
+    let head = match head_of(bytes) {
+        Err(refusal) => return Ok(Read::Refused(refusal)),
+        Ok(head) => head,
     };
-    let n = match items_in(&text[first.span.start..first.span.end]) {
-        Err(code) => return Ok(Read::Refused(refusal(code, first.number))),
+    let n = match items_in(head.line) {
+        Err(code) => return Ok(Read::Refused(refusal(code, head.number))),
         Ok(n) => n,
     };
     let mut values = Vec::new(alloc);
-    match push_rows(text, first.span.next, first.number, n as usize, &mut values)? {
+    match push_rows(head.text, head.next, head.number, n as usize, &mut values)? {
         Some(refusal) => Ok(Read::Refused(refusal)),
         None => Ok(Read::Ok(Distances::of_values(n, values))),
     }

@@ -3,11 +3,11 @@ ghost use Rattle.std.specs.Prelude.{◌≡◌, ◌≤◌, IfOk};
 ghost use Rattle.graph_read.specs.GraphFiles.{bigraph, graph};
 
 use crate::edges::{sides_in, vertices_in};
+use crate::heads::{head_of, refusal};
 use crate::read_lists::read_lists;
 use graph_model::{Bigraph, Graph, LEFT_BOUND};
-use row_model::{MAX_FILE_BYTES, NoMemory, Read, Refusal, code};
+use row_model::{NoMemory, Read};
 use std::alloc::Global;
-use text_lines::{next_filled_line, without_mark};
 
 /// Reads a bipartite graph from the bytes of a file: a line with the sizes of the two sides, and a line for each edge.
 ///
@@ -33,16 +33,13 @@ pub fn read_bigraph(alloc: Global, bytes: &[u8], left_limit: u32) -> Result<Read
     requires { left_limit ≤ LEFT_BOUND }
     ensures { IfOk result (λ read. read ≡ bigraph left_limit bytes.now) }
 {
-    if bytes.len() as u64 > MAX_FILE_BYTES {
-        return Ok(Read::Refused(refusal(code::LIMIT, 0)));
-    }
-    let text = without_mark(bytes);
-    let Some(first) = next_filled_line(text, 0, 0) else {
-        return Ok(Read::Refused(refusal(code::EMPTY, 0)));
+    let head = match head_of(bytes) {
+        Err(refusal) => return Ok(Read::Refused(refusal)),
+        Ok(head) => head,
     };
-    match sides_in(left_limit, &text[first.span.start..first.span.end]) {
-        Err(code) => Ok(Read::Refused(refusal(code, first.number))),
-        Ok(shape) => match read_lists(alloc, shape, text, first.span.next, first.number)? {
+    match sides_in(left_limit, head.line) {
+        Err(code) => Ok(Read::Refused(refusal(code, head.number))),
+        Ok(shape) => match read_lists(alloc, shape, head.text, head.next, head.number)? {
             Read::Refused(refusal) => Ok(Read::Refused(refusal)),
             Read::Ok(lists) => Ok(Read::Ok(Bigraph::of_lists(alloc, lists))),
         },
@@ -70,25 +67,15 @@ pub fn read_bigraph(alloc: Global, bytes: &[u8], left_limit: u32) -> Result<Read
 pub fn read_graph(alloc: Global, bytes: &[u8]) -> Result<Read<Graph>, NoMemory>
     ensures { IfOk result (λ read. read ≡ graph bytes.now) }
 {
-    if bytes.len() as u64 > MAX_FILE_BYTES {
-        return Ok(Read::Refused(refusal(code::LIMIT, 0)));
-    }
-    let text = without_mark(bytes);
-    let Some(first) = next_filled_line(text, 0, 0) else {
-        return Ok(Read::Refused(refusal(code::EMPTY, 0)));
+    let head = match head_of(bytes) {
+        Err(refusal) => return Ok(Read::Refused(refusal)),
+        Ok(head) => head,
     };
-    match vertices_in(&text[first.span.start..first.span.end]) {
-        Err(code) => Ok(Read::Refused(refusal(code, first.number))),
-        Ok(shape) => match read_lists(alloc, shape, text, first.span.next, first.number)? {
+    match vertices_in(head.line) {
+        Err(code) => Ok(Read::Refused(refusal(code, head.number))),
+        Ok(shape) => match read_lists(alloc, shape, head.text, head.next, head.number)? {
             Read::Refused(refusal) => Ok(Read::Refused(refusal)),
             Read::Ok(lists) => Ok(Read::Ok(Graph::of_lists(alloc, lists))),
         },
     }
-}
-
-/// The refusal of this code at this line.
-pub fn refusal(code: u8, line: u32) -> Refusal
-    ensures { result ≡ record { code = code; line = line } }
-{
-    Refusal { code, line }
 }

@@ -8,6 +8,7 @@ mod distance_files;
 mod edge_lines;
 mod edges;
 mod graph_files;
+mod heads;
 mod laws;
 mod numbers;
 mod ordered;

@@ -35,25 +35,31 @@ impl Instance {
         ensures kind { result ≡ instance_kind (instance_value self.now) }
         ensures formed { IsWellFormed (instance_value self.now) }
     {
-        // A call of a graph or a table tells contracts what it keeps.
+        self.formed();
         match self {
             Instance::Plain(kind, _) => *kind,
             Instance::Circular(_) => Kind::Circular,
-            Instance::Convex(graph) => {
-                graph.left();
-                Kind::Convex
-            }
-            Instance::Doubly(graph) => {
-                graph.left();
-                Kind::Doubly
+            Instance::Convex(_) => Kind::Convex,
+            Instance::Doubly(_) => Kind::Doubly,
+            Instance::Proper(_) => Kind::Proper,
+            Instance::Robinson(_) => Kind::Robinson,
+        }
+    }
+
+    // What a graph or a table keeps, which a call of it tells contracts.
+    fn formed(&self)
+        ensures { IsWellFormed (instance_value self.now) }
+    {
+        match self {
+            Instance::Plain(_, _) | Instance::Circular(_) => {}
+            Instance::Convex(graph) | Instance::Doubly(graph) => {
+                let _left = graph.left();
             }
             Instance::Proper(graph) => {
-                graph.vertices();
-                Kind::Proper
+                let _vertices = graph.vertices();
             }
             Instance::Robinson(distances) => {
-                distances.items();
-                Kind::Robinson
+                let _items = distances.items();
             }
         }
     }

@@ -13,9 +13,11 @@
 //!   either; the balls round each item, in rising order of their radii.
 #![tactic(auto)]
 
+mod derived;
 mod instance;
 mod laws;
 
+pub use derived::Derived;
 pub use instance::Instance;
 pub use laws::{derived_sizes_law, textbook_law};
 pub use row_model::NoMemory;

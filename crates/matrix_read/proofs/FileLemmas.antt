@@ -58,28 +58,12 @@ pub kind_at_front : (depth : ℕ) (t : Token) (ts r : List Token) (d : Data) →
 kind_at_front depth t ts r d e = kind_with _ _ t ts r d (sym (ap (converted of_json) (value_is depth (t ∷ ts))) ∙ e)
 
 pub array_token : (t : Token) → opens_array t ≡ true → t ≡ Token.begin_array
-array_token Token.begin_object h = absurd (cc)
-array_token Token.end_object h = absurd (cc)
 array_token Token.begin_array h = refl
-array_token Token.end_array h = absurd (cc)
-array_token (Token.key s) h = absurd (cc)
-array_token (Token.string s) h = absurd (cc)
-array_token (Token.number s) h = absurd (cc)
-array_token (Token.boolean b) h = absurd (cc)
-array_token Token.null h = absurd (cc)
-array_token Token.bad h = absurd (cc)
+array_token other h = absurd (cc)
 
 pub object_token : (t : Token) → opens_object t ≡ true → t ≡ Token.begin_object
 object_token Token.begin_object h = refl
-object_token Token.end_object h = absurd (cc)
-object_token Token.begin_array h = absurd (cc)
-object_token Token.end_array h = absurd (cc)
-object_token (Token.key s) h = absurd (cc)
-object_token (Token.string s) h = absurd (cc)
-object_token (Token.number s) h = absurd (cc)
-object_token (Token.boolean b) h = absurd (cc)
-object_token Token.null h = absurd (cc)
-object_token Token.bad h = absurd (cc)
+object_token other h = absurd (cc)
 
 -- items behind items
 abbrev pub joined : Items → Items → Items

@@ -87,6 +87,9 @@ module _ (bytes : List ℕ) where
   unfolding sparse
   sparse_short h = short_enough bytes _ h
 
+  pub sparse_text : (text : List ℕ) → length bytes ≤ MAX_FILE_BYTES → text ≡ without_mark bytes → sparse bytes ≡ sparse_lines (numbered_lines 1 (lines_of text))
+  sparse_text text h is = sparse_short h ∙ ap (λ t. sparse_lines (numbered_lines 1 (lines_of t))) (sym is)
+
   pub further_long : (c : ℕ) → MAX_FILE_BYTES < length bytes → further c bytes ≡ read.Refused (record { code = LIMIT; line = 0 })
   unfolding further
   further_long c h = too_long bytes _ h

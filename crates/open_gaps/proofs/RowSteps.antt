@@ -1,13 +1,16 @@
 -- The gaps of an order with one row more.
-use Rattle.std.proofs.Common.{◌≡◌, ◌⊎◌, ◌∙◌, ℕ, ◌+◌, ◌-◌, ◌<◌, ◌≤◌, Bool, true, false, cond, ltb, List, [], ◌∷◌, ◌++◌, length, get_or, take, slice_index, slice_index_or, IsTrue, refl, sym, ap, subst, inl, inr, arith}
+use Rattle.std.proofs.Common.{◌≡◌, ◌⊎◌, ◌∙◌, ℕ, ◌+◌, ◌-◌, ◌<◌, ◌≤◌, Bool, true, false, cond, ltb, List, [], ◌∷◌, ◌++◌, length, get_or, take, replicate, slice_index, slice_index_or, IsTrue, refl, sym, ap, subst, inl, inr, arith}
 use Rattle.std.specs.Prelude.{All, Some, slice_get, sum_by}
 use Rattle.std.proofs.lemmas.Bool.{cases_lt, ltb-true, ltb-false}
-use Rattle.std.proofs.lemmas.List.{take_all, take_more, get_or-take, length-take-le}
+use Rattle.std.proofs.lemmas.List.{take_all, take_more, get_or-take, get_or-replicate, length-replicate, length-take-le}
 use Rattle.std.proofs.lemmas.List.Elements.{All-get_or}
 use Rattle.std.proofs.lemmas.List.Sums.{sum_by-append, sum_by-cons}
 use Rattle.std.proofs.lemmas.Option.{get_or_from_slice_get}
 use Rattle.std.specs.Prelude.{Option, None, MatchOption, IfSome}
-use Rattle.column_order.specs.Orders.{has, Keeps, AreEnds, IsOrder, IsValidOrder}
+use Rattle.column_order.specs.Orders.{has, Keeps, AreEnds, IsOrder, IsWithin, IsValidOrder}
+use Rattle.column_order.proofs.Counts.{order_length}
+use Rattle.row_model.specs.Rows.{Ascends}
+use Rattle.row_model.proofs.Ascending.{row_within}
 use Rattle.row_model.specs.declared.lists.Span.{Span}
 use Rattle.row_model.specs.Positions.{ArePositions, IsSpan, IsSpanInOrder}
 use Rattle.column_order.proofs.Lists.{at_place}
@@ -86,12 +89,23 @@ gaps_empty rows o row gaps e old q d w =
           left_more rows o row q (slice_index_or gaps q d).first (slice_index_or gaps q d).first_row (old q d w).left (λ p a h. absurd (none (slice_index o q) h.0));
     }
 
-pub gaps_start : (o : List ℕ) (gaps : List Gap) → ((q : ℕ) (d : Gap) → q < length o → (length o ≤ (slice_index_or gaps q d).last) × ((slice_index_or gaps q d).first ≡ 0)) → AreGaps [] o gaps
+gaps_start : (o : List ℕ) (gaps : List Gap) → ((q : ℕ) (d : Gap) → q < length o → (length o ≤ (slice_index_or gaps q d).last) × ((slice_index_or gaps q d).first ≡ 0)) → AreGaps [] o gaps
 gaps_start o gaps all q d w =
     record {
       right = right_start o q (slice_index_or gaps q d).last (slice_index_or gaps q d).last_row (all q d (omega (arith, w))).0;
       left = subst (λ x. IsLeftEnd [] o q x (slice_index_or gaps q d).first_row) (sym (all q d (omega (arith, w))).1) (left_start o q (slice_index_or gaps q d).first_row);
     }
+
+-- gaps over which no row was taken
+pub fresh_gaps : (columns count c : ℕ) (fresh : Gap) (gaps : List Gap) → gaps ≡ replicate count fresh → fresh ≡ record { last = columns; last_row = 0; first = 0; first_row = 0 } → columns ≡ c → count ≡ c →
+    (length gaps ≡ c) × ((o : List ℕ) → IsOrder c o → AreGaps [] o gaps)
+fresh_gaps columns count c fresh gaps e begun all many = (
+  omega (arith, ap (λ (l : List Gap). length l) e, length-replicate count fresh, many),
+  λ o order. gaps_start o gaps (λ q d l.
+      let n = order_length c o order in
+      let is : slice_index_or gaps q d ≡ fresh = ap (λ (v : List Gap). slice_index_or v q d) e ∙ get_or-replicate count q fresh d (omega (arith, l, n, many)) in
+      subst (λ (x : Gap). (length o ≤ x.last) × (x.first ≡ 0)) (sym is) (omega (arith, n, all, ap (λ (g : Gap). g.last) begun), ap (λ (g : Gap). g.first) begun)),
+)
 
 pub next_rows : (rows : List (List ℕ)) (k : ℕ) (row : List ℕ) → k < length rows → slice_get rows (k + 1 - 1) ≡ Some row → take (k + 1) rows ≡ take k rows ++ row ∷ []
 next_rows rows k row l found =
@@ -137,6 +151,15 @@ pub in_order : (n : ℕ) (o positions row : List ℕ) (r : Option Span) → IsOr
     → IfSome r (λ span. (o : List ℕ) → IsOrder n o → ArePositions o positions → IsSpanInOrder o row span) → MatchOption r (row ≡ []) (IsSpanInOrder o row)
 in_order n o positions row None order are least spans = least
 in_order n o positions row (Some s) order are least spans = spans o order are
+
+module _ (c : ℕ) (o positions : List ℕ) (order : IsOrder c o) (are : ArePositions o positions) where
+  -- an order of the columns is one of as many as there are positions
+  pub order_here : IsOrder (length positions) o
+  order_here = subst (λ k. IsOrder k o) (sym (are.columns ∙ order_length c o order)) order
+
+  -- each column of a row has a position
+  pub row_here : (row : List ℕ) → Ascends c 0 row → IsWithin (length positions) row
+  row_here row rising a h = let r = row_within c row rising a h in (r.0, omega (arith, r.1, are.columns, order_length c o order))
 
 -- an order that is valid for all rows
 pub valid_all : (c : ℕ) (rows : List (List ℕ)) (o : List ℕ) → IsValidOrder c rows o → IsValidOrder c (take (length rows) rows) o

@@ -1,5 +1,5 @@
 -- Steps from a column to the next one in the order.
-use Rattle.std.proofs.Common.{◌≡◌, ◌≢◌, ◌∙◌, ℕ, ◌+◌, ◌-◌, ◌<◌, List, length, get_or, slice_index, IsTrue, sym, ap, subst, arith}
+use Rattle.std.proofs.Common.{◌≡◌, ◌≢◌, ◌∙◌, ℕ, ◌+◌, ◌-◌, ◌<◌, List, length, slice_index, IsTrue, sym, ap, subst, arith}
 use Rattle.column_order.specs.Orders.{has, place, IsOrder}
 use Rattle.column_order.proofs.Counts.{order_has}
 use Rattle.column_order.proofs.Lists.{at_place}

@@ -53,16 +53,11 @@ impl OpenGaps {
         ensures gaps { IfOk result (λ t. AreGaps (take rows m.now.rows) order.now t.gaps) }
         ensures ticks { steps.new ≤ steps.old + sum_by length (take rows m.now.rows) }
     {
-        let columns = m.columns();
+        // A matrix has few enough columns for positions.
+        let _columns = m.columns();
         let positions = positions(alloc, order)?;
         let gaps = gaps_of(alloc, m, rows, &positions, steps)?;
-        let mut kept = Vec::with_capacity(alloc, columns as usize)?;
-        kept.extend_from_slice(order)?;
-        Ok(OpenGaps {
-            order: kept,
-            positions,
-            gaps,
-        })
+        Self::of_parts(alloc, order, positions, gaps)
     }
 
     /// The gaps of an order, as all rows leave them open. No step is counted.
@@ -75,13 +70,29 @@ impl OpenGaps {
         ensures order { IfOk result (λ t. t.order ≡ order.now) }
         ensures gaps { IfOk result (λ t. AreGaps m.now.rows order.now t.gaps) }
     {
-        let columns = m.columns();
+        // A matrix has few enough columns for positions.
+        let _columns = m.columns();
         let positions = positions(alloc, order)?;
         let gaps = gaps_of_all(alloc, m, &positions)?;
-        let mut copy = Vec::with_capacity(alloc, columns as usize)?;
-        copy.extend_from_slice(order)?;
+        Self::of_parts(alloc, order, positions, gaps)
+    }
+
+    // An order, copied, with the position of each of its columns and its gaps.
+    fn of_parts(
+        alloc: Global,
+        order: &[u32],
+        positions: Vec<u32>,
+        gaps: Vec<Gap>,
+    ) -> Result<Self, NoMemory>
+        requires order { IsOrder (length order.now) order.now }
+        requires few { length order.now ≤ COLUMN_BOUND }
+        requires positions { ArePositions order.now positions.items }
+        requires gaps { length gaps.items ≡ length order.now }
+        ensures order { IfOk result (λ t. t.order ≡ order.now) }
+        ensures gaps { IfOk result (λ t. t.gaps ≡ gaps.items) }
+    {
         Ok(OpenGaps {
-            order: copy,
+            order: order.to_vec(alloc)?,
             positions,
             gaps,
         })
@@ -174,24 +185,25 @@ fn line_to(b: u32, d: u32, row: u32) -> Line
 }
 
 // The first and the last position, from 1, of a row in the order of these positions, or `None` where it has no column.
-// A step is counted for each column.
+fn span_in_order(row: &[u32], positions: &[u32]) -> Option<Span>
+    requires { IsWithin (length positions.now) row.now }
+    ensures { (o : List ℕ) → IsOrder (length positions.now) o → ArePositions o positions.now
+        → MatchOption result (row.now ≡ []) (IsSpanInOrder o row.now) }
+{
+    span_of(positions, row)
+}
+
+// The same, where a step is counted for each column.
 fn span_counted<L: Ledger>(row: &[u32], positions: &[u32], steps: &mut Steps<L>) -> Option<Span>
     requires { IsWithin (length positions.now) row.now }
     ensures span { (o : List ℕ) → IsOrder (length positions.now) o → ArePositions o positions.now
         → MatchOption result (row.now ≡ []) (IsSpanInOrder o row.now) }
     ensures ticks { steps.new ≡ steps.old + length row.now }
 {
-    let mut span = Span {
-        first: u32::MAX,
-        last: 0,
-    };
-    for column in row {
+    for _ in row {
         steps.tick();
-        let position = positions[*column as usize - 1];
-        span.first = span.first.min(position);
-        span.last = span.last.max(position);
     }
-    if row.is_empty() { None } else { Some(span) }
+    span_in_order(row, positions)
 }
 
 // The gaps of the order of these positions, which is valid for all rows.
@@ -203,7 +215,7 @@ fn gaps_of_all(alloc: Global, m: &Matrix, positions: &[u32]) -> Result<Vec<Gap>,
 {
     let mut gaps = vec![in alloc; uncovered(m.columns()); m.columns() as usize]?;
     for k in 0..m.rows() {
-        take_row(&mut gaps, span_of(positions, m.row(k + 1)), k + 1);
+        take_row(&mut gaps, span_in_order(m.row(k + 1), positions), k + 1);
     }
     Ok(gaps)
 }

@@ -77,10 +77,10 @@ joined_rests columns x [] [] = refl
 joined_rests columns x [] (q ∷ qs) = ap (λ f. f ∷ map (λ g. (columns ++ x ∷ []) ++ g) qs) (append_assoc columns (x ∷ []) q) ∙ ap (λ z. (columns ++ x ∷ q) ∷ z) (joined_rests columns x [] qs)
 joined_rests columns x (r ∷ rs) qs = ap (λ z. (columns ++ r) ∷ z) (joined_rests columns x rs qs)
 
--- the same set in other words
-pub gains_same : (S T : List ℕ → Type 0) (columns : List ℕ) (limit : ℕ) (a b : OrderList) → ((f : List ℕ) → S f → T f) → ((f : List ℕ) → T f → S f) →
-    Gains S columns limit a b → Gains T columns limit a b
-gains_same S T columns limit a b there back g =
+-- a set with more members, where each of these is among the lists or comes later
+gains_wider : (S T : List ℕ → Type 0) (columns : List ℕ) (limit : ℕ) (a b : OrderList) → ((f : List ℕ) → S f → T f) → (g : Gains S columns limit a b) →
+    ((f : List ℕ) → T f → IsAmong f g.rests ⊎ (IsTrue b.more × AllBefore g.rests f)) → Gains T columns limit a b
+gains_wider S T columns limit a b there g each =
     record {
       rests = g.rests;
       width = g.width;
@@ -88,9 +88,14 @@ gains_same S T columns limit a b there back g =
       few = g.few;
       members = all_weaker S T there g.rests g.members;
       rising = g.rising;
-      each = λ f t. g.each f (back f t);
+      each = each;
       other = λ more. let o = g.other more in (o.0, o.1, there o.1 o.2, o.3);
     }
+
+-- the same set in other words
+pub gains_same : (S T : List ℕ → Type 0) (columns : List ℕ) (limit : ℕ) (a b : OrderList) → ((f : List ℕ) → S f → T f) → ((f : List ℕ) → T f → S f) →
+    Gains S columns limit a b → Gains T columns limit a b
+gains_same S T columns limit a b there back g = gains_wider S T columns limit a b there g (λ f t. g.each f (back f t))
 
 pub ready_same : (S T : List ℕ → Type 0) (columns : List ℕ) (limit : ℕ) (a : OrderList) → ((f : List ℕ) → T f → S f) → IsReady S columns limit a → IsReady T columns limit a
 ready_same S T columns limit a back r = record { fresh = r.fresh; few = r.few; wide = λ f t. r.wide f (back f t) }
@@ -218,17 +223,7 @@ gains_all S columns limit from a b all g = gains_same (Below S from) S columns l
 
 -- the list is full: what is left comes later
 pub gains_stopped : (S : List ℕ → Type 0) (columns : List ℕ) (limit from : ℕ) (a b : OrderList) → (S [] → ⊥) → IsTrue b.more → Gains (Below S from) columns limit a b → Gains S columns limit a b
-gains_stopped S columns limit from a b some full g =
-    record {
-      rests = g.rests;
-      width = g.width;
-      orders = g.orders;
-      few = g.few;
-      members = all_weaker (Below S from) S (λ f s. s.1) g.rests g.members;
-      rising = g.rising;
-      each = each;
-      other = λ more. let o = g.other more in (o.0, o.1, o.2.1, o.3);
-    }
+gains_stopped S columns limit from a b some full g = gains_wider (Below S from) S columns limit a b (λ f s. s.1) g each
   where
     each : (f : List ℕ) → S f → IsAmong f g.rests ⊎ (IsTrue b.more × AllBefore g.rests f)
     each [] s = absurd (some s)

@@ -1,7 +1,8 @@
 -- From the spans of rows to the number of rows that have two columns.
-use Rattle.std.proofs.Common.{◌≡◌, ◌≢◌, ◌∙◌, ℕ, zero, suc, min, max, ◌+◌, ◌*◌, ◌-◌, ◌<◌, ◌≤◌, Bool, true, false, cond, ◌&&◌, eqb, leb, List, [], ◌∷◌, ◌++◌, length, drop, get_or, IsFalse, refl, sym, ap, subst, inl, inr, arith, length-append, length-drop}
+use Rattle.std.proofs.Common.{◌≡◌, ◌≢◌, ◌↔◌, ◌∙◌, ℕ, zero, suc, min, max, ◌+◌, ◌*◌, ◌-◌, ◌<◌, ◌≤◌, Bool, true, false, cond, ◌&&◌, eqb, leb, List, [], ◌∷◌, ◌++◌, length, drop, get_or, slice_get, Some, IsFalse, refl, sym, ap, subst, inl, inr, arith, length-append, length-drop}
 use Rattle.std.proofs.lemmas.Bool.{cases_eq, cases_lt, cond-false, lt-ltb, le-ltb, and_left, and_right}
 use Rattle.std.proofs.lemmas.List.{get_or-drop}
+use Rattle.std.proofs.lemmas.Option.{get_or_from_slice_get}
 use Rattle.column_order.specs.Orders.{has, place, IsOrder, Keeps}
 use Rattle.column_order.proofs.Lists.{at_place, place-inj}
 use Rattle.column_order.proofs.Counts.{order_has, order_length}
@@ -10,7 +11,7 @@ use Rattle.row_model.specs.Positions.{position_of, ArePositions}
 use Rattle.row_model.specs.Rows.{IsRow, RowList}
 use Rattle.row_model.specs.declared.lists.Span.{Span}
 use Rattle.others_kept.specs.Others.{numbered, KeepsOthers, IsValidForOthers}
-use Rattle.others_kept.specs.Counts.{sum_below, both, joins, rows_with, within_span, LiesIn, IsSpanOf, begins, reaches, cell, AreCounts}
+use Rattle.others_kept.specs.Counts.{sum_below, both, joins, joins_of_all, rows_with, within_span, LiesIn, IsSpanOf, begins, reaches, cell, AreCounts}
 use Rattle.others_kept.specs.declared.table.Table.{Table}
 use Rattle.others_kept.proofs.Sums.{sum_below-same, sum_below-swap, sum_below-bound, others_equal, equal_others}
 use Rattle.others_kept.proofs.Squares.{reaches_sum}
@@ -167,7 +168,7 @@ module _ (m : RowList) (numbers : List ℕ) (t : Table) (h : AreCounts m (drop 1
   own_most : length (r (i - 1)) - 1 ≡ length own - 1
   own_most = ap (λ (xs : List ℕ). length xs - 1) own_is
 
-  pub judged_valid : joins o first ≡ length first - 1 → total + (length own - 1) ≡ t.wanted + joins o own → IsValidForOthers m numbers i o
+  judged_valid : joins o first ≡ length first - 1 → total + (length own - 1) ≡ t.wanted + joins o own → IsValidForOthers m numbers i o
   judged_valid one rest =
       let sums : sum_below count (λ j. joins o (r j)) + (length (r (i - 1)) - 1) ≡ sum_below count (λ j. length (r j) - 1) + joins o (r (i - 1)) =
       omega (arith, rest, total_is, wanted_is, own_joins, own_most) in
@@ -180,7 +181,7 @@ module _ (m : RowList) (numbers : List ℕ) (t : Table) (h : AreCounts m (drop 1
           let within : j < length (drop 1 numbers) = omega (arith, length-drop 1 numbers, l) in
           subst (Keeps o) (later j) ((joins_kept m.columns o order (r j) (h.rows j within)).0 (equal j within (λ e. n (omega (arith, e, from)))))
 
-  pub valid_judged : IsValidForOthers m numbers i o → (joins o first ≡ length first - 1) × (total + (length own - 1) ≡ t.wanted + joins o own)
+  valid_judged : IsValidForOthers m numbers i o → (joins o first ≡ length first - 1) × (total + (length own - 1) ≡ t.wanted + joins o own)
   valid_judged v =
       let equal = equal_others count (i - 1) (λ j. joins o (r j)) (λ j. length (r j) - 1) (omega (arith, count_is, from, to)) each in (
         (joins_kept m.columns o order first row_first).1 (subst (Keeps o) is_first (v.kept 0 (omega (arith, to)) (λ e. omega (arith, e, from)))),
@@ -191,3 +192,15 @@ module _ (m : RowList) (numbers : List ℕ) (t : Table) (h : AreCounts m (drop 1
       each j l n =
           (joins_kept m.columns o order (r j) (h.rows j l)).1
           (subst (Keeps o) (sym (later j)) (v.kept (suc j) (omega (arith, length-drop 1 numbers, l)) (λ e. n (omega (arith, e)))))
+
+-- an order is valid for the others exactly where both counts are right
+pub counts_exactly : (m : RowList) (numbers : List ℕ) (t : Table) → AreCounts m (drop 1 numbers) t → (c : ℕ) (o : List ℕ) → c ≡ m.columns → IsOrder c o → (i : ℕ) → 1 ≤ i → i < length numbers
+    → (first own : List ℕ) → slice_get m.rows (get_or numbers 0 0 - 1) ≡ Some first → slice_get m.rows (get_or numbers i 0 - 1) ≡ Some own → IsRow m.columns first
+    → ((joins o first ≡ length first - 1) × (joins_of_all m.rows (drop 1 numbers) o + (length own - 1) ≡ t.wanted + joins o own)) ↔ IsValidForOthers m numbers i o
+counts_exactly m numbers t h c o columns order i from to first own at_first at_own row_first =
+    let is : IsOrder m.columns o = subst (λ n. IsOrder n o) columns order in
+    let is_first : numbered m.rows numbers 0 ≡ first = get_or_from_slice_get m.rows (get_or numbers 0 0 - 1) first [] at_first in
+    let is_own : numbered m.rows numbers i ≡ own = get_or_from_slice_get m.rows (get_or numbers i 0 - 1) own [] at_own in (
+      λ both. judged_valid m numbers t h o is i from to first own is_first is_own row_first both.0 both.1,
+      λ v. valid_judged m numbers t h o is i from to first own is_first is_own row_first v,
+    )

@@ -10,6 +10,7 @@ use Rattle.column_order.proofs.Lists.{occurs-append, occurs-concat}
 use Rattle.pq_tree.specs.Outline.{Outline, Forest, leaf, p_node, q_node, no_tree, tree_and, leaves, leaves_of, IsFrontier, AreFrontiers}
 use Rattle.pq_tree.specs.Proper.{forest}
 use Rattle.pq_tree.specs.Equivalent.{IsEquivalent, AreEquivalent}
+use Rattle.pq_tree.proofs.Turnings.{equivalent_sym}
 
 pub occurs-permutation : (fs gs : List (List ℕ)) (a : ℕ) → IsPermutation fs gs → occurs (concat gs) a ≡ occurs (concat fs) a
 occurs-permutation fs gs a h = occurs-concat gs a ∙ sum_by-IsPermutation (λ f. occurs f a) fs gs h ∙ sym (occurs-concat fs a)
@@ -157,31 +158,5 @@ mutual
   all_kept (tree_and t ts) (u ∷ us) h [] k = absurd k
   all_kept (tree_and t ts) (u ∷ us) h (f ∷ fs) k = (kept t u h.0 f k.0, all_kept ts us h.1 fs k.1)
 
-mutual
-  pub had : (t u : Outline) → IsEquivalent t u → (f : List ℕ) → IsFrontier u f → IsFrontier t f
-  had (leaf a) u h f k = subst (λ x. IsFrontier x f) h k
-  had (p_node ts) u h f k =
-      let n : IsFrontier (p_node (forest h.1)) f = subst (λ x. IsFrontier x f) h.4 k in
-      let m = permuted h.1 h.0 n.0 (IsPermutation-sym h.0 h.1 h.3) n.2 in
-      (m.0, n.1, all_had ts h.0 h.2 m.0 m.1, IsPermutation-trans m.0 n.0 n.1 (IsPermutation-sym n.0 m.0 m.2) n.3, n.4)
-  had (q_node ts) u h f k =
-      elim h.2 [
-        | inl e ↦
-            let n : IsFrontier (q_node (forest h.0)) f = subst (λ x. IsFrontier x f) e k in
-            (n.0, all_had ts h.0 h.1 n.0 n.1, n.2)
-        | inr e ↦
-            let n : IsFrontier (q_node (forest (reverse h.0))) f = subst (λ x. IsFrontier x f) e k in
-            let r : AreFrontiers (forest h.0) (reverse n.0) = subst (λ x. AreFrontiers (forest x) (reverse n.0)) (reverse-reverse h.0) (reversed (reverse h.0) n.0 n.1) in
-            (reverse n.0, all_had ts h.0 h.1 (reverse n.0) r, either_way f n.0 n.2)
-      ]
-
-  all_had : (ts : Forest) (us : List Outline) → AreEquivalent ts us → (fs : List (List ℕ)) → AreFrontiers (forest us) fs → AreFrontiers ts fs
-  all_had no_tree [] h [] k = tt
-  all_had no_tree [] h (f ∷ fs) k = absurd k
-  all_had no_tree (u ∷ us) h fs k = absurd h
-  all_had (tree_and t ts) [] h fs k = absurd h
-  all_had (tree_and t ts) (u ∷ us) h [] k = absurd k
-  all_had (tree_and t ts) (u ∷ us) h (f ∷ fs) k = (had t u h.0 f k.0, all_had ts us h.1 fs k.1)
-
 pub same_frontiers : (t u : Outline) → IsEquivalent t u → (f : List ℕ) → IsFrontier t f ↔ IsFrontier u f
-same_frontiers t u h f = (kept t u h f, had t u h f)
+same_frontiers t u h f = (kept t u h f, kept u t (equivalent_sym t u h) f)

@@ -3,6 +3,7 @@ use Rattle.std.proofs.Common.{◌≡◌, ◌≢◌, ◌∙◌, ◌+◌, ◌<◌,
 use Rattle.std.proofs.lemmas.Bool.{cases_eq, ne_eqb, le-leb, and_right}
 use Rattle.std.proofs.lemmas.List.{map-append, append_assoc, append-nil, reverse-append, length-map, length-append}
 use Rattle.std.proofs.Math.ListN.{length-set}
+use Rattle.std.proofs.Math.Bool.{or-true, or-false}
 use Rattle.column_order.specs.Orders.{has}
 use Rattle.column_order.proofs.Lists.{has-append}
 use Rattle.pq_tree.specs.Outline.{Outline, leaf, leaves_of}
@@ -15,24 +16,16 @@ use Rattle.pq_tree.specs.declared.parse.Parser.{Parser}
 use Rattle.pq_tree.specs.declared.Tree.{Tree, Leaf}
 use Rattle.pq_tree.proofs.Shown.{outline_of-Leaf, leaves_of-append}
 
-or_false : (b : Bool) → (b || false) ≡ b
-or_false true = refl
-or_false false = refl
-
-or_true : (b : Bool) → (b || true) ≡ true
-or_true true = refl
-or_true false = refl
-
 mark_step : (marks : List Bool) (n j : ℕ) → n < length marks → get_or (set marks n true) j false ≡ (get_or marks j false || (eqb n j || false))
 mark_step marks n j h =
     elim (cases_eq n j) [
       | inl e ↦
           ap (λ k. get_or (set marks n true) k false) (sym e) ∙ get_or-set_same marks n true false h
-          ∙ sym (ap (λ b. get_or marks j false || (b || false)) (eq-eqb n j e) ∙ or_true (get_or marks j false))
+          ∙ sym (ap (λ b. get_or marks j false || (b || false)) (eq-eqb n j e) ∙ or-true (get_or marks j false))
       | inr d ↦
           let other : j ≢ n = λ e. d (sym e) in
           get_or-set_other marks n j true false other
-          ∙ sym (ap (λ b. get_or marks j false || (b || false)) (ne_eqb n j d) ∙ or_false (get_or marks j false))
+          ∙ sym (ap (λ b. get_or marks j false || (b || false)) (ne_eqb n j d) ∙ or-false (get_or marks j false))
     ]
 
 -- one leaf more

@@ -1,6 +1,6 @@
 -- Turning a tree is an equivalence, and a tree may be turned at the place of a node.
 use Rattle.std.proofs.Common.{◌≡◌, ◌∙◌, ◌<◌, ℕ, zero, suc, List, [], ◌∷◌, ◌++◌, reverse, length, set, get_or, IsPermutation, refl, sym, ap, subst, inl, inr, arith}
-use Rattle.std.proofs.lemmas.List.{reverse-append, reverse-reverse, length-set}
+use Rattle.std.proofs.lemmas.List.{reverse-append, reverse-reverse}
 use Rattle.std.proofs.lemmas.List.Edits.{swap_is}
 use Rattle.std.proofs.lemmas.List.Sorted.{IsPermutation-refl, IsPermutation-sym, IsPermutation-trans, length_permutation}
 use Rattle.std.specs.List.Sorted.{apply_swaps, SwapsInRange}

@@ -103,26 +103,23 @@ module _ (g : GraphValue) (o : List ℕ) (list : List Interval) (h : IsGraph g) 
       let up : (g.vertices + 1) * i ≤ (g.vertices + 1) * at.0 = mul-le-mul_left (g.vertices + 1) at.1.0.from in
       subst EndsInOrder (sym at.1.1) (omega (arith, up))
 
-  meet_there : (i j : ℕ) → 1 ≤ i → i < j → j ≤ g.vertices → ShareNumber (there i) (there j) ↔ IsTrue (has_edge g.neighbours (vertex_at o i) (vertex_at o j))
+  -- two intervals meet exactly where there is an edge, and neither contains the other
+  two_there : (i j : ℕ) → 1 ≤ i → i < j → j ≤ g.vertices → (ShareNumber (there i) (there j) ↔ IsTrue (has_edge g.neighbours (vertex_at o i) (vertex_at o j))) ×
+      (ContainsInterval (there i) (there j) → ⊥) × (ContainsInterval (there j) (there i) → ⊥)
   unfolding there
-  meet_there i j l ij jn =
+  two_there i j l ij jn =
       let a = f.each i l (omega arith) in
       let b = f.each j (omega arith) jn in
       let n = g.vertices in
       let rise = rises i j a.0 b.0 l ij jn a.1.0 b.1.0 in
       rw (a.1.1, b.1.1) (
-        λ t. reach_edge i j a.0 l ij jn a.1.0 (share_within n i j a.0 b.0 ij jn a.1.0.from b.1.0.from rise t),
-        λ e. within_share n i j a.0 b.0 ij jn a.1.0.from b.1.0.from rise (edge_reach i j a.0 ij jn a.1.0 e),
+        (
+          λ t. reach_edge i j a.0 l ij jn a.1.0 (share_within n i j a.0 b.0 ij jn a.1.0.from b.1.0.from rise t),
+          λ e. within_share n i j a.0 b.0 ij jn a.1.0.from b.1.0.from rise (edge_reach i j a.0 ij jn a.1.0 e),
+        ),
+        first_lacks n i j a.0 b.0 ij jn a.1.0.from b.1.0.from rise,
+        second_lacks n i j a.0 b.0 ij jn a.1.0.from b.1.0.from rise,
       )
-
-  proper_there : (i j : ℕ) → 1 ≤ i → i < j → j ≤ g.vertices → (ContainsInterval (there i) (there j) → ⊥) × (ContainsInterval (there j) (there i) → ⊥)
-  unfolding there
-  proper_there i j l ij jn =
-      let a = f.each i l (omega arith) in
-      let b = f.each j (omega arith) jn in
-      let n = g.vertices in
-      let rise = rises i j a.0 b.0 l ij jn a.1.0 b.1.0 in
-      rw (a.1.1, b.1.1) (first_lacks n i j a.0 b.0 ij jn a.1.0.from b.1.0.from rise, second_lacks n i j a.0 b.0 ij jn a.1.0.from b.1.0.from rise)
 
   -- each vertex stands at a position
   record Stands (v : ℕ) : Type 0 where
@@ -145,9 +142,9 @@ module _ (g : GraphValue) (o : List ℕ) (list : List Interval) (h : IsGraph g) 
       rw (← p.is, ← q.is) (elim (cases_order p.at q.at) [
         | inl e ↦ absurd (n (sym p.is ∙ ap (vertex_at o) e ∙ q.is))
         | inr c ↦ elim c [
-          | inl before ↦ meet_there p.at q.at p.from before q.to
+          | inl before ↦ (two_there p.at q.at p.from before q.to).0
           | inr after ↦
-              let back = meet_there q.at p.at q.from after p.to in
+              let back = (two_there q.at p.at q.from after p.to).0 in
               let turned = h.symmetric (vertex_at o p.at) (vertex_at o q.at) (omega (arith, ra.0, p.is)) (omega (arith, rb.0, q.is)) in
               (λ t. turned ∙ back.0 (turn t), λ e. turn (back.1 (sym turned ∙ e)))
         ]
@@ -161,8 +158,8 @@ module _ (g : GraphValue) (o : List ℕ) (list : List Interval) (h : IsGraph g) 
       rw (← p.is, ← q.is) (λ t. elim (cases_order p.at q.at) [
         | inl e ↦ ap (λ i. interval_of list (vertex_at o i)) e
         | inr c ↦ elim c [
-          | inl before ↦ absurd ((proper_there p.at q.at p.from before q.to).0 t)
-          | inr after ↦ absurd ((proper_there q.at p.at q.from after p.to).1 t)
+          | inl before ↦ absurd ((two_there p.at q.at p.from before q.to).1 t)
+          | inr after ↦ absurd ((two_there q.at p.at q.from after p.to).2 t)
         ]
       ])
 

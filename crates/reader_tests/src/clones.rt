@@ -1,6 +1,5 @@
 // Clones that name their probes.
-use crate::told::matrix_told;
-use matrix_read::read_clones;
+use crate::told::{Form, assert_read};
 use std::test::Fail;
 
 #[test]
@@ -44,13 +43,5 @@ fn clones_are_rows_over_the_probes(rt: HostRuntime) -> Result<(), Fail> {
             "refused 10 in line 2",
         ),
     ];
-    for (text, wanted) in cases {
-        let read = read_clones(rt.alloc(), text)?;
-        assert_eq!(rt;
-            matrix_told(rt.alloc(), &read)?.as_str(),
-            wanted,
-            "{text:?}"
-        );
-    }
-    Ok(())
+    assert_read(&rt, rt.alloc(), Form::Clones, &cases)
 }

@@ -1,5 +1,5 @@
 // Lines of digits.
-use crate::told::matrix_told;
+use crate::told::{Form, assert_read};
 use matrix_read::read_dense;
 use row_model::{MAX_ROWS, Read, Refusal};
 use std::test::Fail;
@@ -22,15 +22,7 @@ fn lines_of_digits_are_rows(rt: HostRuntime) -> Result<(), Fail> {
         (b"10\r\r\n", "refused 2 in line 1"),
         (b"11\n1\xEF\n", "refused 2 in line 2"),
     ];
-    for (text, wanted) in cases {
-        let read = read_dense(rt.alloc(), text)?;
-        assert_eq!(rt;
-            matrix_told(rt.alloc(), &read)?.as_str(),
-            wanted,
-            "{text:?}"
-        );
-    }
-    Ok(())
+    assert_read(&rt, rt.alloc(), Form::Dense, &cases)
 }
 
 #[test]

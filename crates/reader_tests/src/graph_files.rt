@@ -1,6 +1,5 @@
 // Files of graphs, bipartite graphs and distances.
-use crate::told::{bigraph_told, distances_told, graph_told};
-use graph_read::{LEFT_BOUND, read_bigraph, read_distances, read_graph};
+use crate::told::{Form, assert_read};
 use std::test::Fail;
 
 #[test]
@@ -34,15 +33,7 @@ fn bipartite_graphs_are_read(rt: HostRuntime) -> Result<(), Fail> {
         (b"0 18446744073709551616\n", "refused 4 in line 1"),
         (b"2 3\n3 1\n", "refused 4 in line 2"),
     ];
-    for (text, wanted) in cases {
-        let read = read_bigraph(rt.alloc(), text, LEFT_BOUND)?;
-        assert_eq!(rt;
-            bigraph_told(rt.alloc(), &read)?.as_str(),
-            wanted,
-            "{text:?}"
-        );
-    }
-    Ok(())
+    assert_read(&rt, rt.alloc(), Form::Bigraph, &cases)
 }
 
 #[test]
@@ -63,11 +54,7 @@ fn graphs_are_read(rt: HostRuntime) -> Result<(), Fail> {
         (b"2\n\n1 3\n1\n", "refused 4 in line 3"),
         (b"2\n3 x\n", "refused 2 in line 2"),
     ];
-    for (text, wanted) in cases {
-        let read = read_graph(rt.alloc(), text)?;
-        assert_eq!(rt; graph_told(rt.alloc(), &read)?.as_str(), wanted, "{text:?}");
-    }
-    Ok(())
+    assert_read(&rt, rt.alloc(), Form::Graph, &cases)
 }
 
 #[test]
@@ -83,13 +70,5 @@ fn distances_are_read(rt: HostRuntime) -> Result<(), Fail> {
         (b"2\n0 x\n", "refused 2 in line 2"),
         (b"2\n1\n", "refused 3 in line 2"),
     ];
-    for (text, wanted) in cases {
-        let read = read_distances(rt.alloc(), text)?;
-        assert_eq!(rt;
-            distances_told(rt.alloc(), &read)?.as_str(),
-            wanted,
-            "{text:?}"
-        );
-    }
-    Ok(())
+    assert_read(&rt, rt.alloc(), Form::Distances, &cases)
 }

@@ -1,6 +1,5 @@
 // Lines that name columns.
-use crate::told::matrix_told;
-use matrix_read::{read_more, read_rows};
+use crate::told::{Form, assert_read};
 use std::test::Fail;
 
 #[test]
@@ -37,15 +36,7 @@ fn lines_behind_the_first_name_their_columns(rt: HostRuntime) -> Result<(), Fail
         (b"2\n1\n1 2\n1 3\n", "refused 4 in line 4"),
         (b"2\n1\n4294967297 2\n", "refused 4 in line 3"),
     ];
-    for (text, wanted) in cases {
-        let read = read_rows(rt.alloc(), text)?;
-        assert_eq!(rt;
-            matrix_told(rt.alloc(), &read)?.as_str(),
-            wanted,
-            "{text:?}"
-        );
-    }
-    Ok(())
+    assert_read(&rt, rt.alloc(), Form::Rows, &cases)
 }
 
 #[test]
@@ -54,13 +45,5 @@ fn further_rows_begin_with_the_first_line(rt: HostRuntime) -> Result<(), Fail> {
         (b"1 3\n1 2 3\n", "3: [ 1 3 ] [ 1 2 3 ]"),
         (b"1 4\n", "refused 4 in line 1"),
     ];
-    for (text, wanted) in cases {
-        let read = read_more(rt.alloc(), text, 3)?;
-        assert_eq!(rt;
-            matrix_told(rt.alloc(), &read)?.as_str(),
-            wanted,
-            "{text:?}"
-        );
-    }
-    Ok(())
+    assert_read(&rt, rt.alloc(), Form::More, &cases)
 }

@@ -1,6 +1,5 @@
 // Tables of cells.
-use crate::told::matrix_told;
-use matrix_read::read_table;
+use crate::told::{Form, assert_read};
 use std::test::Fail;
 
 #[test]
@@ -23,13 +22,5 @@ fn crosses_and_numbers_mark_columns(rt: HostRuntime) -> Result<(), Fail> {
         (b"t,a, a\t\nx,1,y\nz\n", "refused 8 in line 0"),
         (b"t,,\n\nr,x,x\r\rq,2x,\n", "refused 2 in line 3"),
     ];
-    for (text, wanted) in cases {
-        let read = read_table(rt.alloc(), text)?;
-        assert_eq!(rt;
-            matrix_told(rt.alloc(), &read)?.as_str(),
-            wanted,
-            "{text:?}"
-        );
-    }
-    Ok(())
+    assert_read(&rt, rt.alloc(), Form::Table, &cases)
 }

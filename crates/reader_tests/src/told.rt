@@ -1,64 +1,108 @@
-// What is read, in words: a value by its rows, or the code and the line of a refusal.
+// What is read from a file, in words: a value by its rows, or the code and the line of a refusal.
 use graph_model::{Bigraph, Distances, Graph};
-use row_model::{Matrix, NoMemory, Read, Refusal};
+use graph_read::{LEFT_BOUND, read_bigraph, read_distances, read_graph};
+use matrix_read::{read_clones, read_dense, read_more, read_rows, read_table};
+use row_model::{Matrix, NoMemory, Read};
 use std::alloc::Global;
+use std::process::Abort;
+use std::test::Fail;
 
-pub fn matrix_told(alloc: Global, read: &Read<Matrix>) -> Result<String, NoMemory> {
-    match read {
-        Read::Refused(refusal) => refusal_told(alloc, refusal),
-        Read::Ok(matrix) => {
-            let mut text = format!(in alloc; "{}:", matrix.columns())?;
-            for k in 0..matrix.rows() {
-                push_list(&mut text, matrix.row(k + 1))?;
-            }
-            Ok(text)
-        }
+// As what a file is read.
+#[derive(Clone, Copy)]
+pub enum Form {
+    Dense,
+    Rows,
+    // Further rows of three columns.
+    More,
+    Table,
+    Clones,
+    Graph,
+    Bigraph,
+    Distances,
+}
+
+// Asserts of each text what is read from it.
+pub fn assert_read(
+    rt: &impl Abort,
+    alloc: Global,
+    form: Form,
+    cases: &[(&[u8], &str)],
+) -> Result<(), Fail> {
+    for i in 0..cases.len() {
+        let (text, wanted) = cases[i];
+        let told = text_told(alloc, form, text)?;
+        assert_eq!(rt; told.as_str(), wanted, "{text:?}");
+    }
+    Ok(())
+}
+
+fn text_told(alloc: Global, form: Form, text: &[u8]) -> Result<String, NoMemory> {
+    match form {
+        Form::Dense => read_told(alloc, &read_dense(alloc, text)?),
+        Form::Rows => read_told(alloc, &read_rows(alloc, text)?),
+        Form::More => read_told(alloc, &read_more(alloc, text, 3)?),
+        Form::Table => read_told(alloc, &read_table(alloc, text)?),
+        Form::Clones => read_told(alloc, &read_clones(alloc, text)?),
+        Form::Graph => read_told(alloc, &read_graph(alloc, text)?),
+        Form::Bigraph => read_told(alloc, &read_bigraph(alloc, text, LEFT_BOUND)?),
+        Form::Distances => read_told(alloc, &read_distances(alloc, text)?),
     }
 }
 
-pub fn graph_told(alloc: Global, read: &Read<Graph>) -> Result<String, NoMemory> {
+fn read_told<T: Told>(alloc: Global, read: &Read<T>) -> Result<String, NoMemory> {
     match read {
-        Read::Refused(refusal) => refusal_told(alloc, refusal),
-        Read::Ok(graph) => {
-            let mut text = format!(in alloc; "{}:", graph.vertices())?;
-            for v in 0..graph.vertices() {
-                push_list(&mut text, graph.neighbours(v + 1))?;
-            }
-            Ok(text)
+        Read::Refused(refusal) => {
+            format!(in alloc; "refused {} in line {}", refusal.code, refusal.line)
         }
+        Read::Ok(value) => value.told(alloc),
     }
 }
 
-pub fn bigraph_told(alloc: Global, read: &Read<Bigraph>) -> Result<String, NoMemory> {
-    match read {
-        Read::Refused(refusal) => refusal_told(alloc, refusal),
-        Read::Ok(graph) => {
-            let mut text = format!(in alloc; "{} to {}:", graph.left(), graph.right())?;
-            for x in 0..graph.left() {
-                push_list(&mut text, graph.neighbours(x + 1))?;
-            }
-            Ok(text)
+// A value that is told by its sizes and its rows.
+trait Told {
+    fn told(&self, alloc: Global) -> Result<String, NoMemory>;
+}
+
+impl Told for Matrix {
+    fn told(&self, alloc: Global) -> Result<String, NoMemory> {
+        let mut text = format!(in alloc; "{}:", self.columns())?;
+        for k in 0..self.rows() {
+            push_list(&mut text, self.row(k + 1))?;
         }
+        Ok(text)
     }
 }
 
-pub fn distances_told(alloc: Global, read: &Read<Distances>) -> Result<String, NoMemory> {
-    match read {
-        Read::Refused(refusal) => refusal_told(alloc, refusal),
-        Read::Ok(distances) => {
-            let mut text = format!(in alloc; "{}:", distances.items())?;
-            for x in 0..distances.items() {
-                for y in 0..distances.items() {
-                    push_number(&mut text, distances.at(x + 1, y + 1))?;
-                }
-            }
-            Ok(text)
+impl Told for Graph {
+    fn told(&self, alloc: Global) -> Result<String, NoMemory> {
+        let mut text = format!(in alloc; "{}:", self.vertices())?;
+        for v in 0..self.vertices() {
+            push_list(&mut text, self.neighbours(v + 1))?;
         }
+        Ok(text)
     }
 }
 
-fn refusal_told(alloc: Global, refusal: &Refusal) -> Result<String, NoMemory> {
-    format!(in alloc; "refused {} in line {}", refusal.code, refusal.line)
+impl Told for Bigraph {
+    fn told(&self, alloc: Global) -> Result<String, NoMemory> {
+        let mut text = format!(in alloc; "{} to {}:", self.left(), self.right())?;
+        for x in 0..self.left() {
+            push_list(&mut text, self.neighbours(x + 1))?;
+        }
+        Ok(text)
+    }
+}
+
+impl Told for Distances {
+    fn told(&self, alloc: Global) -> Result<String, NoMemory> {
+        let mut text = format!(in alloc; "{}:", self.items())?;
+        for x in 0..self.items() {
+            for y in 0..self.items() {
+                push_number(&mut text, self.at(x + 1, y + 1))?;
+            }
+        }
+        Ok(text)
+    }
 }
 
 fn push_list(text: &mut String, list: &[u32]) -> Result<(), NoMemory> {

@@ -1,7 +1,8 @@
 -- Columns that were seen in a list.
-use Rattle.std.proofs.Common.{◌≡◌, ◌≢◌, ◌⊎◌, ◌∙◌, ℕ, ◌+◌, ◌-◌, ◌<◌, ◌≤◌, Bool, true, false, cond, ◌||◌, List, [], ◌∷◌, ◌++◌, length, take, drop, get_or, set, refl, sym, ap, inl, inr, arith, length-set, get_or-set_same, get_or-set_other, eq-eqb}
+use Rattle.std.proofs.Common.{◌≡◌, ◌≢◌, ◌⊎◌, ◌∙◌, ℕ, ◌+◌, ◌-◌, ◌<◌, ◌≤◌, Bool, true, false, cond, List, [], ◌∷◌, ◌++◌, length, take, drop, get_or, set, refl, sym, ap, inl, inr, arith, length-set, get_or-set_same, get_or-set_other, eq-eqb}
 use Rattle.std.proofs.lemmas.Bool.{cases_eq, ne_eqb, both_ways}
 use Rattle.std.proofs.lemmas.List.{take_more, take-append-drop, get_or_default}
+use Rattle.std.proofs.Math.Bool.{or-true, or-false}
 use Rattle.column_order.specs.Orders.{has, occurs, IsOrder, IsWithin}
 use Rattle.column_order.proofs.Lists.{has-append, has_append_cases, has_cases, occurs-append, has_at, has_from_occurs, occurs_from_has}
 use Rattle.column_order.proofs.Counts.{order_once, order_within}
@@ -42,10 +43,10 @@ module _ (c : ℕ) (seen : List Bool) (list : List ℕ) (i : ℕ) (lt : i < leng
         long = length-set seen (x - 1) true ∙ h.long;
         marked = λ a al au.
             elim (cases_eq a x) [
-              | inl e ↦ rw (e, get_or-set_same seen (x - 1) true false (omega (arith, h.long)), has-append (take i list) (x ∷ []) x, eq-eqb x x refl) (sym (or_true (has (take i list) x)))
+              | inl e ↦ rw (e, get_or-set_same seen (x - 1) true false (omega (arith, h.long)), has-append (take i list) (x ∷ []) x, eq-eqb x x refl) (sym (or-true (has (take i list) x)))
               | inr n ↦
                   get_or-set_other seen (x - 1) (a - 1) true false (omega arith) ∙ h.marked a al au
-                  ∙ sym (has-append (take i list) (x ∷ []) a ∙ rw (ne_eqb x a (λ e. n (sym e))) (or_false (has (take i list) a)))
+                  ∙ sym (has-append (take i list) (x ∷ []) a ∙ rw (ne_eqb x a (λ e. n (sym e))) (or-false (has (take i list) a)))
             ];
         inside = λ a k. elim (has_append_cases (take i list) (x ∷ []) a k) [
           | inl t ↦ h.inside a t
@@ -56,14 +57,6 @@ module _ (c : ℕ) (seen : List Bool) (list : List ℕ) (i : ℕ) (lt : i < leng
           | inr n ↦ omega (arith, occurs-append (take i list) (x ∷ []) a, another x a n, h.once a)
         ];
       })
-    where
-      or_true : (b : Bool) → (b || true) ≡ true
-      or_true true = refl
-      or_true false = refl
-
-      or_false : (b : Bool) → (b || false) ≡ b
-      or_false true = refl
-      or_false false = refl
 
   -- a column that was seen comes twice
   pub seen_twice : 1 ≤ get_or list i 0 → get_or list i 0 ≤ c → get_or seen (get_or list i 0 - 1) false ≡ true → IsOrder c list → ⊥

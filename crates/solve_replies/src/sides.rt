@@ -6,7 +6,7 @@ ghost use Rattle.instance_model.specs.Value.{instance_value};
 
 use crate::NoMemory;
 use c1p_solve::{Answered, Solved, answer};
-use instance_model::Instance;
+use instance_model::{Derived, Instance};
 use row_model::Matrix;
 use std::alloc::Global;
 use step_count::{Blank, Brand, Ledger, Steps};
@@ -21,13 +21,8 @@ pub fn solve_side(alloc: Global, instance: &Instance, side: u8) -> Result<Solved
     requires side { IsSideOf (instance_value instance.now) side }
     ensures { IfOk result (IsAnswer (derived_matrix (instance_value instance.now) side)) }
 {
-    match instance {
-        Instance::Plain(_, m) => solve_matrix::<Brand>(alloc, m, Blank::new(1)),
-        _ => {
-            let derived = instance.derived(alloc, side)?;
-            solve_matrix::<Brand>(alloc, &derived, Blank::new(1))
-        }
-    }
+    let derived = Derived::of(alloc, instance, side)?;
+    solve_matrix::<Brand>(alloc, derived.matrix(), Blank::new(1))
 }
 
 /// The answer on a matrix. The counter of steps begins at the blank.

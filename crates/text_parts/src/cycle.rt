@@ -1,20 +1,56 @@
 // The lines of a cycle, both ways.
-ghost use Rattle.std.specs.Prelude.{◌≡◌, ◌++◌, flat_map, OnOk, OnErr};
+ghost use Rattle.std.specs.Prelude.{◌≡◌, ◌++◌, OnOk, OnErr};
 ghost use Rattle.plain_text.specs.Pieces.{Extends};
 ghost use Rattle.plain_text.specs.Rest.{with_rest};
-ghost use Rattle.text_parts.specs.Numbered.{numbered_at};
 ghost use Rattle.text_parts.specs.Reading.{counted_at, line_at, why_at, row_reason_at};
 ghost use Rattle.text_parts.specs.Seen.{Gives};
 ghost use Rattle.text_parts.specs.Text.{counted_cycle, cycle_line, why_text};
 
-use crate::numbers::{after, push, push_word, read_number, room};
+use crate::lines::{LineForm, print_counted, read_counted};
+use crate::numbers::{after, push, push_word, read_number};
 use crate::stop::Stop;
 use plain_text::{after_word, push_number};
 use row_model::{Line, Lines, NoMemory, Pair, Why};
 use std::alloc::Global;
 
-// The fewest bytes of a line.
-const LEAST_LINE: usize = 9;
+// A line of a cycle, which has no number.
+struct CycleLine;
+
+impl LineForm for CycleLine {
+    type Item = Line;
+
+    const LEAST: usize = 9;
+
+    ghost LEAST = { 9 };
+
+    ghost line_text = { λ _ line. cycle_line line };
+
+    ghost line_at = { line_at };
+
+    fn print(_: u64, line: Line, text: &mut Vec<u8>) -> Result<(), NoMemory> {
+        push_number(text, u64::from(line.pair.a))?;
+        push_word(u64::from(line.pair.b), text)?;
+        push_why(line.why, text)?;
+        Ok(())
+    }
+
+    #[tactic(auto, unfolding(crate::specs::Reading::line_at))]
+    fn read(_: u32, bytes: &[u8]) -> Result<(Line, &[u8]), Stop> {
+        let (a, rest) = read_number(bytes)?;
+        let rest = after(rest, b" ")?;
+        let (b, rest) = read_number(rest)?;
+        let (why, rest) = read_why(rest)?;
+        Ok((
+            Line {
+                pair: Pair { a, b },
+                why,
+            },
+            rest,
+        ))
+    }
+
+    fn room_law() {}
+}
 
 /// Appends the line `cycle L` and the L lines of a cycle.
 ///
@@ -25,31 +61,7 @@ pub fn print_cycle(lines: &[Line], text: &mut Vec<u8>) -> Result<(), NoMemory>
     ensures ok { OnOk result (text.new.items ≡ text.old.items ++ counted_cycle lines.now) }
     ensures err { OnErr result (Extends text.old.items text.new.items) }
 {
-    push(text, b"cycle ")?;
-    push_number(text, lines.len() as u64)?;
-    push(text, b"\n")?;
-    push_cycle(lines, text)?;
-    Ok(())
-}
-
-fn push_cycle(lines: &[Line], text: &mut Vec<u8>) -> Result<(), NoMemory>
-    ensures ok { OnOk result (text.new.items ≡ text.old.items ++ flat_map cycle_line lines.now) }
-    ensures err { OnErr result (Extends text.old.items text.new.items) }
-{
-    for line in lines {
-        push_line(line, text)?;
-    }
-    Ok(())
-}
-
-fn push_line(line: &Line, text: &mut Vec<u8>) -> Result<(), NoMemory>
-    ensures ok { OnOk result (text.new.items ≡ text.old.items ++ cycle_line line.now) }
-    ensures err { OnErr result (Extends text.old.items text.new.items) }
-{
-    push_number(text, u64::from(line.pair.a))?;
-    push_word(u64::from(line.pair.b), text)?;
-    push_why(line.why, text)?;
-    Ok(())
+    print_counted::<CycleLine>(b"cycle ", lines, text)
 }
 
 fn push_why(why: Why, text: &mut Vec<u8>) -> Result<(), NoMemory>
@@ -75,7 +87,6 @@ fn push_why(why: Why, text: &mut Vec<u8>) -> Result<(), NoMemory>
 /// # Errors
 ///
 /// `Stop::Outside` where the bytes do not begin so; `Stop::NoMemory`.
-#[tactic(auto, unfolding(crate::specs::Reading::counted_at))]
 pub fn read_cycle<'a>(
     alloc: Global,
     word: &[u8],
@@ -83,41 +94,7 @@ pub fn read_cycle<'a>(
 ) -> Result<(Lines, &'a [u8]), Stop>
     ensures { Gives with_rest result (counted_at word.now line_at bytes.now) }
 {
-    let rest = after(bytes, word)?;
-    let (count, rest) = read_number(rest)?;
-    let rest = after(rest, b"\n")?;
-    read_lines(alloc, count, rest)
-}
-
-fn read_lines(alloc: Global, count: u32, bytes: &[u8]) -> Result<(Lines, &[u8]), Stop>
-    ensures { Gives with_rest result (numbered_at line_at 1 count bytes.now) }
-{
-    let room = room(count, LEAST_LINE, bytes)?;
-    let mut lines = Lines::with_capacity(alloc, room)?;
-    let mut rest = bytes;
-    'lines: for _ in 0..count {
-        let (line, after) = read_line(rest)?;
-        lines.push(line)?;
-        rest = after;
-    }
-    Ok((lines, rest))
-}
-
-#[tactic(auto, unfolding(crate::specs::Reading::line_at))]
-fn read_line(bytes: &[u8]) -> Result<(Line, &[u8]), Stop>
-    ensures { Gives with_rest result (line_at 0 bytes.now) }
-{
-    let (a, rest) = read_number(bytes)?;
-    let rest = after(rest, b" ")?;
-    let (b, rest) = read_number(rest)?;
-    let (why, rest) = read_why(rest)?;
-    Ok((
-        Line {
-            pair: Pair { a, b },
-            why,
-        },
-        rest,
-    ))
+    read_counted::<CycleLine>(alloc, word, bytes)
 }
 
 #[tactic(auto, unfolding(crate::specs::Reading::why_at))]

@@ -6,11 +6,13 @@
 
 mod cycle;
 mod kinds;
+mod lines;
 mod numbers;
 mod stop;
 
 pub use cycle::{print_cycle, read_cycle};
 pub use kinds::{read_kind, word_of};
+pub use lines::{LineForm, print_counted, print_lines, read_counted, read_lines};
 pub use numbers::{
     after, push, push_word, push_words, read_column_count, read_number, read_numbers, room,
 };

@@ -12,8 +12,8 @@ use Rattle.proper_interval.specs.Umbrellas.{IsUmbrellaOrder}
 use Rattle.unit_model.specs.Models.{at_vertex, DifferByAtMost, IsUnitModel}
 use Rattle.unit_model.specs.Walks.{IsDistance, IsFirstOf}
 use Rattle.unit_model.specs.Rule.{HasLayers, IsBase, base_first, base_next, IsLeftEnd, AreLeftEnds}
-use Rattle.unit_model.specs.Drawing.{IsNeighbour, IsNumbered}
-use Rattle.unit_model.proofs.DrawnLemmas.{IsDone, IsLayered, IsDrawn}
+use Rattle.unit_model.specs.Drawing.{IsNeighbour, IsNumbered, IsLinkedList}
+use Rattle.unit_model.proofs.DrawnLemmas.{IsDone, IsLayered, IsDrawn, linked_here}
 use Rattle.unit_model.proofs.WalkLemmas.{IsCut, vertex, place_is, back, turned, cut_whole, cut_walk, one_first, first_itself, layers_rise, layers_next, layer_joined}
 
 -- left ends of one layer, of neighbouring layers and of layers further apart
@@ -214,6 +214,12 @@ module _ (g : GraphValue) (o : List ℕ) (h : IsGraph g) (r : IsUmbrellaOrder g 
       near = near_all;
     }
 
+-- what is to be shown of the left ends of all vertices
+pub record AreDrawn (g : GraphValue) (o lefts : List ℕ) : Type 0 where
+  pub ends : AreLeftEnds g o lefts
+  pub near : IsUnitModel g g.vertices lefts
+  pub low : All (λ left. left < 2 ^ 63) lefts
+
 module _ (g : GraphValue) (o : List ℕ) (h : IsGraph g) (r : IsUmbrellaOrder g o) where
   -- nothing is done yet
   pub none_done : (lefts : List ℕ) → length lefts ≡ g.vertices → IsDone g o lefts 0 0
@@ -231,7 +237,7 @@ module _ (g : GraphValue) (o : List ℕ) (h : IsGraph g) (r : IsUmbrellaOrder g 
   pub base_none : 0 < length o → IsBase g o (get_or o 0 0) 0
   base_none l = base_first (get_or o 0 0) (first_itself g o h r 0 (get_or o 0 0) (vertex g o h r 0 l) (place_is g o h r 0 l) cut_none) (place_is g o h r 0 l)
 
-  pub done_all : (levels before lefts : List ℕ) (s i : ℕ) (d : IsDrawn g o levels before lefts s i) → length o ≡ i → (more : List ℕ) → IsNumbered levels lefts more d.list → (base : ℕ) × IsDone g o more (length o) base
+  done_all : (levels before lefts : List ℕ) (s i : ℕ) (d : IsDrawn g o levels before lefts s i) → length o ≡ i → (more : List ℕ) → IsNumbered levels lefts more d.list → (base : ℕ) × IsDone g o more (length o) base
   done_all levels before lefts s i d all more numbered =
       let cut : IsCut g o i = subst (IsCut g o) all (cut_whole g o h r) in
       let base = at_vertex levels (get_or o (i - 1) 0) + 2 * g.vertices in
@@ -239,13 +245,13 @@ module _ (g : GraphValue) (o : List ℕ) (h : IsGraph g) (r : IsUmbrellaOrder g 
 
   -- all is done
   module _ (lefts : List ℕ) (base : ℕ) (d : IsDone g o lefts (length o) base) where
-    pub all_ends : AreLeftEnds g o lefts
+    all_ends : AreLeftEnds g o lefts
     all_ends = record {
       count = d.long;
       each = λ v vv. let b = back g o h r v vv in subst (λ z. IsLeftEnd g o z (at_vertex lefts z)) b.1 (d.ends (place o v) b.0);
     }
 
-    pub all_near : IsUnitModel g g.vertices lefts
+    all_near : IsUnitModel g g.vertices lefts
     all_near = record {
       positive = h.vertices.0;
       count = d.long;
@@ -261,7 +267,7 @@ module _ (g : GraphValue) (o : List ℕ) (h : IsGraph g) (r : IsUmbrellaOrder g 
           ];
     }
 
-    pub all_low : All (λ left. left < 2 ^ 63) lefts
+    all_low : All (λ left. left < 2 ^ 63) lefts
     all_low = All-from_get_or (λ left. left < 2 ^ 63) lefts 0 (λ k l.
         let v = k + 1 in
         let vv : IsVertex g v = (omega arith, omega (arith, l, d.long)) in
@@ -269,3 +275,12 @@ module _ (g : GraphValue) (o : List ℕ) (h : IsGraph g) (r : IsUmbrellaOrder g 
         let at : v - 1 ≡ k = omega arith in
         let low = d.low (place o v) b.0 in
         omega (arith, low, ap (at_vertex lefts) b.1, ap (λ m. get_or lefts m 0) at, d.bound, order_length g.vertices o r.order, h.vertices.1))
+
+  -- so the walk to the end of the order gives every left end
+  pub all_drawn : (levels before lefts : List ℕ) (s i : ℕ) (d : IsDrawn g o levels before lefts s i) → length o ≤ i → (more : List ℕ)
+      → ((list : List ℕ) → IsLinkedList before (length lefts) (get_or o s 0) (length o - s) list → IsNumbered levels lefts more list) → AreDrawn g o more
+  all_drawn levels before lefts s i d end more numbers =
+      let all : length o ≡ i = omega (arith, end, d.inside) in
+      let linked = rw (← all) at (linked_here g o levels before lefts s i d) in
+      let done = done_all levels before lefts s i d all more (numbers d.list linked) in
+      record { ends = all_ends more done.0 done.1; near = all_near more done.0 done.1; low = all_low more done.0 done.1 }

@@ -205,15 +205,11 @@ pub one_unit : OneUnitLaw
 one_unit t u h k e = same_Some t u (sym (unit_again t h) ∙ ap unit_of e ∙ unit_again u k)
 
 -- how long a text is
+digits_long : (i end : ℕ) → i ≤ MAX_COLUMNS → IsEnd end → (length (decimal i) ≤ 4) × (length (decimal end) ≤ 20)
+digits_long i end l k = (length-decimal-le 4 i (omega arith) (omega arith) (omega arith), length-decimal-le 20 end (omega arith) (omega arith) (omega arith))
+
 line_long : (i left : ℕ) → i ≤ MAX_COLUMNS → IsEnd left → length (left_line i left) ≤ 31
-line_long i left l k =
-    omega (
-      arith,
-      length-decimal-le 4 i (omega arith) (omega arith) (omega arith),
-      length-decimal-le 20 left (omega arith) (omega arith) (omega arith),
-      length-append (decimal i) (32 ∷ (decimal left ++ 10 ∷ [])),
-      length-append (decimal left) (10 ∷ []),
-    )
+line_long i left l k = omega (arith, digits_long i left l k, length-append (decimal i) (32 ∷ (decimal left ++ 10 ∷ [])), length-append (decimal left) (10 ∷ []))
 
 lines_long : (i : ℕ) (lefts : List ℕ) → i + length lefts ≤ suc MAX_COLUMNS → AllByRecursion IsEnd lefts → length (left_lines i lefts) ≤ 31 * length lefts
 lines_long i [] l h = omega arith
@@ -222,13 +218,7 @@ lines_long i (left ∷ lefts) l h =
 
 head_long : (vertices size : ℕ) → vertices ≤ MAX_COLUMNS → IsEnd size → length (unit_head vertices size) ≤ 52
 head_long vertices size l k =
-    omega (
-      arith,
-      length-decimal-le 4 vertices (omega arith) (omega arith) (omega arith),
-      length-decimal-le 20 size (omega arith) (omega arith) (omega arith),
-      length-append (decimal vertices) (codes "\nlength " ++ (decimal size ++ 10 ∷ [])),
-      length-append (decimal size) (10 ∷ []),
-    )
+    omega (arith, digits_long vertices size l k, length-append (decimal vertices) (codes "\nlength " ++ (decimal size ++ 10 ∷ [])), length-append (decimal size) (10 ∷ []))
 
 pub text_long : TextLengthLaw
 unfolding unit_text

@@ -6,12 +6,12 @@ use Rattle.std.specs.declared.alloc.Global.{Global}
 use Rattle.column_order.specs.Orders.{has}
 use Rattle.column_order.proofs.Lists.{has_append_cases, has_append_right}
 use Rattle.row_model.specs.Graph.{pair}
-use Rattle.pq_tree.specs.Outline.{Forest, p_node, q_node, no_tree, tree_and, leaves, leaves_of}
+use Rattle.pq_tree.specs.Outline.{Forest, no_tree, tree_and, leaves, leaves_of}
 use Rattle.pq_tree.specs.Forests.{join}
 use Rattle.pq_tree.specs.Proper.{outline_of, forest, HasArities, HaveArities}
 use Rattle.pq_tree.specs.declared.Tree.{Tree, P, Q}
 use Rattle.pq_tree.proofs.Forests.{forest_append, arities_join_right, leaves_of-join}
-use Rattle.pq_tree.proofs.Shown.{outline_of-P, outline_of-Q, leaves_of_node, front_more}
+use Rattle.pq_tree.proofs.Shown.{leaves_of_node, front_more}
 use Rattle.tied_law.specs.Tied.{IsForward}
 use Rattle.verdict_check.specs.Complete.{RunsFrom}
 use Rattle.verdict_check.proofs.HoldsSteps.{rest_at}
@@ -33,13 +33,6 @@ columns_parted ts i = ap leaves_of (parted ts i) ∙ leaves_of-join (forest (map
 -- the columns of a node over its children
 pub node_columns : (t : Tree) (v : Vec Tree Global) (ts : List Tree) → (t ≡ P v) ⊎ (t ≡ Q v) → ts ≡ v.items → leaves (outline_of t) ≡ columns_of ts
 node_columns t v ts h s = leaves_of_node t v h ∙ ap (λ x. leaves_of (forest (map outline_of x))) (sym s)
-
--- the outline of a node over its children
-pub outline_p : (t : Tree) (v : Vec Tree Global) (ts : List Tree) → t ≡ P v → ts ≡ v.items → outline_of t ≡ p_node (forest (map outline_of ts))
-outline_p t v ts e s = ap outline_of e ∙ outline_of-P v ∙ ap (λ x. p_node (forest (map outline_of x))) (sym s)
-
-pub outline_q : (t : Tree) (v : Vec Tree Global) (ts : List Tree) → t ≡ Q v → ts ≡ v.items → outline_of t ≡ q_node (forest (map outline_of ts))
-outline_q t v ts e s = ap outline_of e ∙ outline_of-Q v ∙ ap (λ x. q_node (forest (map outline_of x))) (sym s)
 
 -- a pair goes forward from one of the first trees to one of the others
 pub forward_across : (us vs : Forest) (a b : ℕ) → IsTrue (has (leaves_of us) a) → IsTrue (has (leaves_of vs) b) → IsForward (join us vs) (pair a b)

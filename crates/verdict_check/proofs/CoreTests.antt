@@ -12,6 +12,7 @@ use Rattle.row_model.specs.Graph.{JoinedBy}
 use Rattle.row_model.specs.Cycles.{IsOddWalk}
 use Rattle.row_model.specs.Rows.{RowList}
 use Rattle.row_model.proofs.Ascending.{row_once}
+use Rattle.others_kept.specs.Others.{IsValidForOthers}
 use Rattle.core_text.specs.Parts.{CoreParts}
 use Rattle.core_text.specs.Cores.{AreRowNumbers, rows_at, but, IsCore}
 use Rattle.core_text.specs.Told.{IsAmong, AreAmong, TellsCore}
@@ -20,15 +21,14 @@ use Rattle.core_text.specs.Texts.{TextValue}
 use Rattle.verdict_check.specs.Tests.{numbers}
 use Rattle.verdict_check.specs.NoTests.{HasLine, pair_after, PassesLength, PassesPair, PassesRepeat}
 use Rattle.verdict_check.specs.Core.{line_tests, core_tests, order_without, PassesCoreOrder, PassesCoreJoin, PassesCore, IsAcceptedCore, NamesCoreLaw, ToldCoreLaw}
-use Rattle.verdict_check.specs.Accepted.{IsFirstFailing}
 use Rattle.verdict_check.specs.Found.{IsLeastFailing, Finds}
 use Rattle.verdict_check.specs.declared.core_outcome.CoreReason.{CoreReason}
 use Rattle.verdict_check.specs.declared.core_outcome.CoreReason.TheVariants as reason
-use Rattle.verdict_check.specs.declared.core_outcome.CoreChecked.{CoreChecked}
 use Rattle.verdict_check.specs.declared.core_outcome.CoreChecked.TheVariants.{Valid, Invalid}
-use Rattle.verdict_check.proofs.First.{finds_here, finds_next, finds_after, finds_part, finds_each, all_parts, all_after, all_each, each_all, one_first, never_both}
+use Rattle.verdict_check.proofs.First.{finds_here, finds_next, finds_after, finds_part, finds_each, all_parts, all_after, all_each, each_all, Words}
 use Rattle.verdict_check.proofs.Closed.{joins_close, cycle_joins, cycle_pairs, cycle_repeats}
 use Rattle.verdict_check.proofs.Lines.{line_has, has_line}
+use Rattle.verdict_check.proofs.RowTests.{others_are}
 
 -- of tests of the items of a list, the first that fails is known
 pub finds_item : {A : Type 0} (P : CoreReason → Type 0) (f : A → CoreReason) (xs : List A) (i : ℕ) (d : A) → i < length xs
@@ -145,21 +145,9 @@ told_core m kind parts h =
       ),
     )
 
--- what is said of a text by what is found
-abbrev pub said_of : Option CoreReason → CoreChecked
-said_of None = Valid
-said_of (Some r) = Invalid r
-
-pub said_valid : (Q : CoreReason → Type 0) (xs : List CoreReason) (o : Option CoreReason) → Finds Q xs o → (said_of o ≡ Valid) ↔ AllByRecursion Q xs
-said_valid Q xs None f = (λ e. f, λ h. refl)
-said_valid Q xs (Some r) f = (λ e. absurd (cc), λ h. absurd (never_both Q xs r f h))
-
-pub said_invalid : (Q : CoreReason → Type 0) (xs : List CoreReason) (o : Option CoreReason) → Finds Q xs o → (r : CoreReason) → (said_of o ≡ Invalid r) ↔ IsFirstFailing Q xs r
-said_invalid Q xs None f r = (λ e. absurd (cc), λ h. absurd (never_both Q xs r h f))
-said_invalid Q xs (Some q) f r = (λ e. subst (IsFirstFailing Q xs) (same_reason q r e) f, λ h. ap Invalid (one_first Q xs q r f h))
-  where
-    same_reason : (q r : CoreReason) → Invalid q ≡ Invalid r → q ≡ r
-    same_reason q r e = cc
+-- what is said of the text of a core
+pub core_words : Words Valid Invalid
+core_words = record { apart = λ r e. absurd (cc); same = λ q r e. cc }
 
 -- the tests of the lines, one after another
 module _ (m : RowList) (kind : Kind) (t : TextValue) where
@@ -220,7 +208,7 @@ here_joined m rows lines i d next l e h =
     subst (λ v. JoinedBy m.columns m.rows (get_or lines i d).pair v (get_or lines i d).why) (sym (e (get_or lines i d).pair)) both.1
 
 -- the order of the row at an index
-pub order_here : (m : RowList) (parts : CoreParts) (i : ℕ) (rows o : List ℕ) → AreRowNumbers (length m.rows) parts.rows → i < length parts.rows → rows ≡ parts.rows
+order_here : (m : RowList) (parts : CoreParts) (i : ℕ) (rows o : List ℕ) → AreRowNumbers (length m.rows) parts.rows → i < length parts.rows → rows ≡ parts.rows
     → slice_get parts.orders (i + 1 - 1) ≡ Some o → IsValidOrder m.columns (rows_at m.rows (but (get_or rows i 0) rows)) o ↔ PassesCoreOrder m parts (get_or parts.rows i 0)
 order_here m parts i rows o numbers l e g =
     let at : place parts.rows (get_or parts.rows i 0) ≡ i = place_at parts.rows (row_once (length m.rows) parts.rows numbers) i l in
@@ -229,6 +217,14 @@ order_here m parts i rows o numbers l e g =
       λ v. subst (IsValidOrder m.columns (rows_at m.rows (but (get_or parts.rows i 0) parts.rows))) (sym same) (subst (λ xs. IsValidOrder m.columns (rows_at m.rows (but (get_or xs i 0) xs)) o) e v),
       λ v. subst (λ xs. IsValidOrder m.columns (rows_at m.rows (but (get_or xs i 0) xs)) o) (sym e) (subst (IsValidOrder m.columns (rows_at m.rows (but (get_or parts.rows i 0) parts.rows))) same v),
     )
+
+-- the order of the row at an index keeps the other rows exactly where the test of the row is passed
+pub order_tested : (m : RowList) (parts : CoreParts) (i : ℕ) (rows o : List ℕ) → AreRowNumbers (length m.rows) parts.rows → i < length rows → rows ≡ parts.rows
+    → slice_get parts.orders (i + 1 - 1) ≡ Some o → IsValidForOthers m rows i o ↔ PassesCoreOrder m parts (get_or parts.rows i 0)
+order_tested m parts i rows o numbers l e g =
+    let here = order_here m parts i rows o numbers (omega (arith, ap length e, l)) e g in
+    let others = others_are m rows i o (subst (AreRowNumbers (length m.rows)) (sym e) numbers) l in
+    (λ v. here.0 (others.0 v), λ p. others.1 (here.1 p))
 
 -- the tests before those of the lines, one after another
 module _ (m : RowList) (kind : Kind) (t : TextValue) where

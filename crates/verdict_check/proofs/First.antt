@@ -8,8 +8,6 @@ use Rattle.std.proofs.lemmas.List.{map-append}
 use Rattle.verdict_check.specs.Tests.{numbers}
 use Rattle.verdict_check.specs.Accepted.{IsFirstFailing}
 use Rattle.verdict_check.specs.Found.{IsLeastFailing, Finds}
-use Rattle.verdict_check.specs.declared.outcome.Reason.{Reason}
-use Rattle.verdict_check.specs.declared.outcome.Checked.{Checked}
 use Rattle.verdict_check.specs.declared.outcome.Checked.TheVariants.{Valid, Invalid}
 
 -- the first test fails
@@ -173,18 +171,24 @@ one_first P xs r r' f f' = same_first P f.passed f.later f'.passed f'.later r r'
 pub never_both : {R : Type 0} (P : R → Type 0) (xs : List R) (r : R) → IsFirstFailing P xs r → AllByRecursion P xs → ⊥
 never_both P xs r f h = f.fails (all_at P f.passed f.later r (subst (AllByRecursion P) f.order h))
 
--- what is said of a verdict by what is found
-abbrev pub said : Option Reason → Checked
-said None = Valid
-said (Some r) = Invalid r
+-- a word for texts that pass each test, and one for each test that fails
+pub record Words {R C : Type 0} (valid : C) (invalid : R → C) : Type 0 where
+  pub apart : (r : R) → invalid r ≡ valid → ⊥
+  pub same : (q r : R) → invalid q ≡ invalid r → q ≡ r
 
-pub said_valid : (P : Reason → Type 0) (xs : List Reason) (o : Option Reason) → Finds P xs o → (said o ≡ Valid) ↔ AllByRecursion P xs
-said_valid P xs None f = (λ e. f, λ h. refl)
-said_valid P xs (Some r) f = (λ e. absurd (cc), λ h. absurd (never_both P xs r f h))
+-- what is said by what is found
+abbrev pub said : {R C : Type 0} → C → (R → C) → Option R → C
+said valid invalid None = valid
+said valid invalid (Some r) = invalid r
 
-pub said_invalid : (P : Reason → Type 0) (xs : List Reason) (o : Option Reason) → Finds P xs o → (r : Reason) → (said o ≡ Invalid r) ↔ IsFirstFailing P xs r
-said_invalid P xs None f r = (λ e. absurd (cc), λ h. absurd (never_both P xs r h f))
-said_invalid P xs (Some q) f r = (λ e. subst (IsFirstFailing P xs) (same_reason q r e) f, λ h. ap Invalid (one_first P xs q r f h))
-  where
-    same_reason : (q r : Reason) → Invalid q ≡ Invalid r → q ≡ r
-    same_reason q r e = cc
+pub said_valid : {R C : Type 0} {valid : C} {invalid : R → C} → Words valid invalid → (P : R → Type 0) (xs : List R) (o : Option R) → Finds P xs o → (said valid invalid o ≡ valid) ↔ AllByRecursion P xs
+said_valid w P xs None f = (λ e. f, λ h. refl)
+said_valid w P xs (Some r) f = (λ e. absurd (w.apart r e), λ h. absurd (never_both P xs r f h))
+
+pub said_invalid : {R C : Type 0} {valid : C} {invalid : R → C} → Words valid invalid → (P : R → Type 0) (xs : List R) (o : Option R) → Finds P xs o → (r : R) → (said valid invalid o ≡ invalid r) ↔ IsFirstFailing P xs r
+said_invalid w P xs None f r = (λ e. absurd (w.apart r (sym e)), λ h. absurd (never_both P xs r h f))
+said_invalid {invalid = invalid} w P xs (Some q) f r = (λ e. subst (IsFirstFailing P xs) (w.same q r e) f, λ h. ap invalid (one_first P xs q r f h))
+
+-- what is said of a verdict
+pub verdict_words : Words Valid Invalid
+verdict_words = record { apart = λ r e. absurd (cc); same = λ q r e. cc }

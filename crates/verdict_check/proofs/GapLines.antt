@@ -1,5 +1,6 @@
 -- Columns in a line, each with the gap before it: what a row has of them.
 use Rattle.std.proofs.Common.{◌≡◌, ◌⊎◌, ◌∙◌, ℕ, ◌≤◌, Bool, true, false, List, [], ◌∷◌, ◌++◌, IsTrue, IsFalse, refl, sym, ap, subst, inl, inr, arith}
+use Rattle.std.specs.List.{AllByRecursion}
 use Rattle.std.proofs.lemmas.Bool.{cases_Bool}
 use Rattle.column_order.specs.Orders.{has}
 use Rattle.verdict_check.specs.declared.gaps.LeafGap.{LeafGap}
@@ -41,30 +42,27 @@ pub fit_parts : (row : List ℕ) (o : ℕ) (p : Bool) (xs ys : Line) → Fit row
 fit_parts row o p [] ys h = (tt, h)
 fit_parts row o p (x ∷ xs) ys h = let r = fit_parts row o (has row x.0) xs ys h.1 in ((h.0, r.0), r.1)
 
+-- what holds of each column with its gap holds of those of each part
+parts_of : (P : (ℕ × LeafGap) → Type 0) (xs ys : Line) → AllByRecursion P (xs ++ ys) → AllByRecursion P xs × AllByRecursion P ys
+parts_of P [] ys h = (tt, h)
+parts_of P (x ∷ xs) ys h = let r = parts_of P xs ys h.1 in ((h.0, r.0), r.1)
+
+joined : (P : (ℕ × LeafGap) → Type 0) (xs ys : Line) → AllByRecursion P xs → AllByRecursion P ys → AllByRecursion P (xs ++ ys)
+joined P [] ys h k = k
+joined P (x ∷ xs) ys h k = (h.0, joined P xs ys h.1 k)
+
 -- the row has every column, or none
 abbrev pub All : List ℕ → Line → Type 0
-All row [] = Unit {0}
-All row (x ∷ xs) = IsTrue (has row x.0) × All row xs
+All row = AllByRecursion (λ x. IsTrue (has row x.0))
 
 abbrev pub None : List ℕ → Line → Type 0
-None row [] = Unit {0}
-None row (x ∷ xs) = IsFalse (has row x.0) × None row xs
+None row = AllByRecursion (λ x. IsFalse (has row x.0))
 
 pub all_parts : (row : List ℕ) (xs ys : Line) → All row (xs ++ ys) → All row xs × All row ys
-all_parts row [] ys h = (tt, h)
-all_parts row (x ∷ xs) ys h = let r = all_parts row xs ys h.1 in ((h.0, r.0), r.1)
-
-pub all_join : (row : List ℕ) (xs ys : Line) → All row xs → All row ys → All row (xs ++ ys)
-all_join row [] ys h k = k
-all_join row (x ∷ xs) ys h k = (h.0, all_join row xs ys h.1 k)
+all_parts row xs ys h = parts_of (λ x. IsTrue (has row x.0)) xs ys h
 
 pub none_parts : (row : List ℕ) (xs ys : Line) → None row (xs ++ ys) → None row xs × None row ys
-none_parts row [] ys h = (tt, h)
-none_parts row (x ∷ xs) ys h = let r = none_parts row xs ys h.1 in ((h.0, r.0), r.1)
-
-pub none_join : (row : List ℕ) (xs ys : Line) → None row xs → None row ys → None row (xs ++ ys)
-none_join row [] ys h k = k
-none_join row (x ∷ xs) ys h k = (h.0, none_join row xs ys h.1 k)
+none_parts row xs ys h = parts_of (λ x. IsFalse (has row x.0)) xs ys h
 
 -- the first gap, where there is a column
 abbrev pub Opens : LeafGap → Line → Type 0
@@ -174,8 +172,7 @@ crossed row o p g (x ∷ xs) e f h n some =
 
 -- each gap lies at this depth or deeper
 abbrev pub Deep : ℕ → Line → Type 0
-Deep d [] = Unit {0}
-Deep d (x ∷ xs) = (d ≤ depth x.1) × Deep d xs
+Deep d = AllByRecursion (λ x. d ≤ depth x.1)
 
 -- each gap but the first
 abbrev pub DeepAfter : ℕ → Line → Type 0
@@ -183,8 +180,7 @@ DeepAfter d [] = Unit {0}
 DeepAfter d (x ∷ xs) = Deep d xs
 
 pub deep_join : (d : ℕ) (xs ys : Line) → Deep d xs → Deep d ys → Deep d (xs ++ ys)
-deep_join d [] ys h k = k
-deep_join d (x ∷ xs) ys h k = (h.0, deep_join d xs ys h.1 k)
+deep_join d xs ys h k = joined (λ x. d ≤ depth x.1) xs ys h k
 
 deep_tail : (d : ℕ) (xs : Line) → Deep d xs → DeepAfter d xs
 deep_tail d [] h = tt

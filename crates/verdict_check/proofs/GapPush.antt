@@ -8,10 +8,10 @@ use Rattle.std.specs.declared.alloc.Global.{Global}
 use Rattle.pq_tree.specs.Outline.{Outline, Forest, leaf, p_node, q_node, no_tree, tree_and, leaves, leaves_of}
 use Rattle.pq_tree.specs.Proper.{outline_of, forest, count, HasArities, HaveArities}
 use Rattle.pq_tree.specs.declared.Tree.{Tree, P, Q}
-use Rattle.pq_tree.proofs.Shown.{outline_of-P, outline_of-Q}
 use Rattle.verdict_check.specs.declared.gaps.LeafGap.{LeafGap}
 use Rattle.verdict_check.specs.declared.gaps.LeafGap.TheVariants.{P as gap_P, Q as gap_Q}
 use Rattle.verdict_check.specs.Gaps.{gaps, gaps_of}
+use Rattle.verdict_check.proofs.HoldsSteps.{outline_p, outline_q}
 
 -- the gap before the child of an index
 abbrev pub gap_before : ℕ → LeafGap → LeafGap → LeafGap
@@ -96,35 +96,34 @@ swapped d = omega arith
 count_trees : (ts : List Tree) → count (forest (map outline_of ts)) ≡ length ts
 count_trees ts = count_forest (map outline_of ts) ∙ length-map ts outline_of
 
+node_children : (t : Tree) (ts : List Tree) (depth : ℕ) → 2 ≤ count (forest (map outline_of ts)) → HaveArities (forest (map outline_of ts)) → leaves (outline_of t) ≡ leaves_of (forest (map outline_of ts)) →
+    depth + length (leaves (outline_of t)) < 2 ^ 32 → (2 ≤ length ts) × (HaveArities (forest (map outline_of ts)) × (depth + 1 + length (leaves_of (forest (map outline_of ts))) ≤ 2 ^ 32))
+node_children t ts depth two h e l = (omega (arith, two, count_trees ts), (h, omega (arith, ap length e, l)))
+
 pub node_children_P : (t : Tree) (v : Vec Tree Global) (ts : List Tree) (depth : ℕ) → t ≡ P v → ts ≡ v.items → HasArities (outline_of t) → depth + length (leaves (outline_of t)) < 2 ^ 32 →
     (2 ≤ length ts) × (HaveArities (forest (map outline_of ts)) × (depth + 1 + length (leaves_of (forest (map outline_of ts))) ≤ 2 ^ 32))
 node_children_P t v ts depth e s h l =
-    let o : outline_of t ≡ p_node (forest (map outline_of ts)) = ap outline_of e ∙ outline_of-P v ∙ ap (λ x. p_node (forest (map outline_of x))) (sym s) in
-    let a : HasArities (p_node (forest (map outline_of ts))) = subst HasArities o h in
-    let n : length (leaves (outline_of t)) ≡ length (leaves_of (forest (map outline_of ts))) = ap (λ x. length (leaves x)) o in
-    (omega (arith, a.0, count_trees ts), (a.1, omega (arith, n, l)))
+    let a : HasArities (p_node (forest (map outline_of ts))) = subst HasArities (outline_p t v ts e s) h in
+    node_children t ts depth a.0 a.1 (ap leaves (outline_p t v ts e s)) l
 
 pub node_children_Q : (t : Tree) (v : Vec Tree Global) (ts : List Tree) (depth : ℕ) → t ≡ Q v → ts ≡ v.items → HasArities (outline_of t) → depth + length (leaves (outline_of t)) < 2 ^ 32 →
     (2 ≤ length ts) × (HaveArities (forest (map outline_of ts)) × (depth + 1 + length (leaves_of (forest (map outline_of ts))) ≤ 2 ^ 32))
 node_children_Q t v ts depth e s h l =
-    let o : outline_of t ≡ q_node (forest (map outline_of ts)) = ap outline_of e ∙ outline_of-Q v ∙ ap (λ x. q_node (forest (map outline_of x))) (sym s) in
-    let a : HasArities (q_node (forest (map outline_of ts))) = subst HasArities o h in
-    let n : length (leaves (outline_of t)) ≡ length (leaves_of (forest (map outline_of ts))) = ap (λ x. length (leaves x)) o in
-    (omega (arith, a.0, count_trees ts), (a.1, omega (arith, n, l)))
+    let a : HasArities (q_node (forest (map outline_of ts))) = subst HasArities (outline_q t v ts e s) h in
+    node_children t ts depth (omega (arith, a.0)) a.1 (ap leaves (outline_q t v ts e s)) l
 
 pub depth_of : (t : Tree) (depth : ℕ) → HasArities (outline_of t) → depth + length (leaves (outline_of t)) < 2 ^ 32 → depth + 1 < 2 ^ 32
 depth_of t depth h l = omega (arith, l, long (outline_of t) h)
 
+over : {E : Type 0} (t : Tree) (ts : List Tree) (g s : LeafGap) (d : ℕ) (old new : List LeafGap) (r : Result (Unit {0}) E) → gaps g d (outline_of t) ≡ gaps_of g s (1 + d) (forest (map outline_of ts)) →
+    OnOk r (new ≡ old ++ gaps_of g s (d + 1) (forest (map outline_of ts))) → OnOk r (new ≡ old ++ gaps g d (outline_of t))
+over t ts g s d old new (Ok u) e h = h ∙ ap (λ n. old ++ gaps_of g s n (forest (map outline_of ts))) (swapped d) ∙ ap (λ x. old ++ x) (sym e)
+over t ts g s d old new (Err u) e h = tt
+
 pub over_P : {E : Type 0} (t : Tree) (v : Vec Tree Global) (ts : List Tree) (g : LeafGap) (d : ℕ) (old new : List LeafGap) (r : Result (Unit {0}) E) → t ≡ P v → ts ≡ v.items →
     OnOk r (new ≡ old ++ gaps_of g (gap_P d) (d + 1) (forest (map outline_of ts))) → OnOk r (new ≡ old ++ gaps g d (outline_of t))
-over_P t v ts g d old new (Ok u) e s h =
-    h ∙ ap (λ n. old ++ gaps_of g (gap_P d) n (forest (map outline_of ts))) (swapped d) ∙
-    ap (λ x. old ++ gaps g d x) (sym (ap outline_of e ∙ outline_of-P v ∙ ap (λ x. p_node (forest (map outline_of x))) (sym s)))
-over_P t v ts g d old new (Err u) e s h = tt
+over_P t v ts g d old new r e s h = over t ts g (gap_P d) d old new r (ap (gaps g d) (outline_p t v ts e s)) h
 
 pub over_Q : {E : Type 0} (t : Tree) (v : Vec Tree Global) (ts : List Tree) (g : LeafGap) (d : ℕ) (old new : List LeafGap) (r : Result (Unit {0}) E) → t ≡ Q v → ts ≡ v.items →
     OnOk r (new ≡ old ++ gaps_of g (gap_Q d) (d + 1) (forest (map outline_of ts))) → OnOk r (new ≡ old ++ gaps g d (outline_of t))
-over_Q t v ts g d old new (Ok u) e s h =
-    h ∙ ap (λ n. old ++ gaps_of g (gap_Q d) n (forest (map outline_of ts))) (swapped d) ∙
-    ap (λ x. old ++ gaps g d x) (sym (ap outline_of e ∙ outline_of-Q v ∙ ap (λ x. q_node (forest (map outline_of x))) (sym s)))
-over_Q t v ts g d old new (Err u) e s h = tt
+over_Q t v ts g d old new r e s h = over t ts g (gap_Q d) d old new r (ap (gaps g d) (outline_q t v ts e s)) h

@@ -1,6 +1,6 @@
 -- Where one depth parts the gaps within a run from those at its ends, no node splits the run.
-use Rattle.std.proofs.Common.{◌≡◌, ◌∙◌, ℕ, ◌+◌, ◌<◌, ◌≤◌, Bool, true, false, cond, ◌||◌, ◌&&◌, leb, List, IsTrue, IsFalse, refl, sym, inl, inr, arith}
-use Rattle.std.proofs.lemmas.Bool.{cases_Bool, both_ways, or_cases, or_from, and_parts, leb-true, cond-true, cond-false, false_from_ne_true}
+use Rattle.std.proofs.Common.{◌≡◌, ◌∙◌, ℕ, ◌+◌, ◌<◌, ◌≤◌, Bool, true, false, ◌&&◌, leb, List, IsTrue, IsFalse, refl, sym, inl, inr, arith}
+use Rattle.std.proofs.lemmas.Bool.{cases_Bool, both_ways, or_from, and_parts, leb-true, false_from_ne_true}
 use Rattle.pq_tree.specs.Outline.{Outline, Forest, leaf, p_node, q_node, no_tree, tree_and, leaves, leaves_of}
 use Rattle.pq_tree.specs.Proper.{HasArities, HaveArities}
 use Rattle.verdict_check.specs.declared.gaps.LeafGap.{LeafGap}
@@ -8,6 +8,7 @@ use Rattle.verdict_check.specs.declared.gaps.LeafGap.TheVariants.{P, Q}
 use Rattle.verdict_check.specs.Gaps.{LiesWithin}
 use Rattle.pq_tree.specs.Nodes.{meets}
 use Rattle.verdict_check.specs.HoldsWalk.{misses, meeting, resumes, is_gapped, is_split, are_split}
+use Rattle.verdict_check.proofs.HoldsCases.{resumes_at, resumes_whole, gapped_none, gapped_part, gapped_whole}
 use Rattle.verdict_check.proofs.HoldsLists.{meets_left, meets_right}
 use Rattle.verdict_check.proofs.HoldsSplit.{split_leaf, split_p, split_q, split_none, split_and, meeting_head, meeting_tail}
 use Rattle.verdict_check.proofs.GapLines.{Line, Fit, last, fit_parts, None, IsRun, Amid, run_left, run_right, run_parts, amid_parts, amid_left, crossed, mixed_ends}
@@ -49,15 +50,13 @@ resumes_meets row no_tree r = r
 resumes_meets row (tree_and t ts) r =
     elim (cases_Bool (misses row (leaves t))) [
       | inl n ↦
-          let c : IsTrue (meets row (leaves t) || meets row (leaves_of ts)) =
-          sym (cond-true (misses row (leaves t)) (meets row (leaves t) || meets row (leaves_of ts)) (resumes row ts) n) ∙ r in
-          elim (or_cases (meets row (leaves t)) (meets row (leaves_of ts)) c) [
+          elim (resumes_at row t ts n r) [
             | inl y ↦ meets_left row (leaves t) (leaves_of ts) y
             | inr y ↦ meets_right row (leaves t) (leaves_of ts) y
           ]
       | inr n ↦
           meets_right row (leaves t) (leaves_of ts)
-          (resumes_meets row ts (sym (cond-false (misses row (leaves t)) (meets row (leaves t) || meets row (leaves_of ts)) (resumes row ts) n) ∙ r))
+          (resumes_meets row ts (sym (resumes_whole row t ts n) ∙ r))
     ]
 
 -- children of a Q-node at depth k, after others of which the row has the last column
@@ -69,17 +68,15 @@ resumes_not row o k p (tree_and t ts) e h f a r =
     let fits = fit_parts row o p xs ys f in
     elim (cases_Bool (misses row (leaves t))) [
       | inl n ↦
-          let c : IsTrue (meets row (leaves t) || meets row (leaves_of ts)) =
-          sym (cond-true (misses row (leaves t)) (meets row (leaves t) || meets row (leaves_of ts)) (resumes row ts) n) ∙ r in
           let m : IsTrue (meets row (leaves t)) = elim (amid_parts row xs ys a) [
             | inl z ↦ absurd (not_all row (Q k) (1 + k) t n z.0)
-            | inr z ↦ elim (or_cases (meets row (leaves t)) (meets row (leaves_of ts)) c) [ inl y ↦ y | inr y ↦ absurd (not_nones row (Q k) (Q k) (1 + k) ts y z) ]
+            | inr z ↦ elim (resumes_at row t ts n r) [ inl y ↦ y | inr y ↦ absurd (not_nones row (Q k) (Q k) (1 + k) ts y z) ]
           ] in
           let deep : 1 + k ≤ o = part_of row o p (Q k) (1 + k) t fits.0 m n in
           let high : o ≤ k = crossed row o p (Q k) xs e fits.0 (amid_left row xs ys a) (opens (Q k) (1 + k) t h.0) (not_none row (Q k) (1 + k) t m) in
           omega (arith, deep, high)
       | inr n ↦
-          let c : IsTrue (resumes row ts) = sym (cond-false (misses row (leaves t)) (meets row (leaves t) || meets row (leaves_of ts)) (resumes row ts) n) ∙ r in
+          let c : IsTrue (resumes row ts) = sym (resumes_whole row t ts n) ∙ r in
           let all = all_of row (Q k) (1 + k) t n in
           elim (amid_parts row xs ys a) [
             | inl z ↦ resumes_not row o k (last row p xs) ts (last_all row p (Q k) (1 + k) t h.0 all) h.1 fits.1 z.1 c
@@ -96,16 +93,14 @@ gapped_not row o k p g (tree_and t ts) h f a r =
     let fits = fit_parts row o p xs ys f in
     elim (cases_Bool (meets row (leaves t))) [
       | inl m ↦
-          let b : IsTrue (cond (misses row (leaves t)) (meets row (leaves_of ts)) (resumes row ts)) =
-          sym (cond-true (meets row (leaves t)) (cond (misses row (leaves t)) (meets row (leaves_of ts)) (resumes row ts)) (is_gapped row ts) m) ∙ r in
           elim (cases_Bool (misses row (leaves t))) [
             | inl n ↦
-                let c : IsTrue (meets row (leaves_of ts)) = sym (cond-true (misses row (leaves t)) (meets row (leaves_of ts)) (resumes row ts) n) ∙ b in
+                let c : IsTrue (meets row (leaves_of ts)) = sym (gapped_part row t ts m n) ∙ r in
                 let deep : 1 + k ≤ o = part_of row o p g (1 + k) t fits.0 m n in
                 let high : o ≤ k = goes_over row o p g (Q k) (1 + k) t ts h.1 f a m c in
                 omega (arith, deep, high)
             | inr n ↦
-                let c : IsTrue (resumes row ts) = sym (cond-false (misses row (leaves t)) (meets row (leaves_of ts)) (resumes row ts) n) ∙ b in
+                let c : IsTrue (resumes row ts) = sym (gapped_whole row t ts m n) ∙ r in
                 elim (run_parts row p xs ys a) [
                   | inl z ↦ absurd (not_none row g (1 + k) t m z.0)
                   | inr z ↦ elim z [
@@ -116,7 +111,7 @@ gapped_not row o k p g (tree_and t ts) h f a r =
           ]
       | inr n ↦
           gapped_not row o k (last row p xs) (Q k) ts h.1 fits.1 (run_right row xs ys a)
-          (sym (cond-false (meets row (leaves t)) (cond (misses row (leaves t)) (meets row (leaves_of ts)) (resumes row ts)) (is_gapped row ts) n) ∙ r)
+          (sym (gapped_none row t ts n) ∙ r)
     ]
 
 mutual

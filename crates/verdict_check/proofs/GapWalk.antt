@@ -1,6 +1,6 @@
 -- No node of a tree splits a run exactly where one depth parts the gaps within the run from those at its ends.
-use Rattle.std.proofs.Common.{◌≡◌, ◌∙◌, ℕ, ◌+◌, ◌<◌, ◌≤◌, Bool, true, false, cond, ◌||◌, ◌&&◌, leb, List, ◌++◌, IsTrue, IsFalse, refl, sym, subst, inl, inr, arith}
-use Rattle.std.proofs.lemmas.Bool.{cases_Bool, both_ways, or_parts, and_cases, leb-false, cond-true, cond-false}
+use Rattle.std.proofs.Common.{◌≡◌, ◌∙◌, ℕ, ◌+◌, ◌<◌, ◌≤◌, Bool, true, false, ◌&&◌, leb, List, ◌++◌, IsTrue, IsFalse, refl, sym, subst, inl, inr, arith}
+use Rattle.std.proofs.lemmas.Bool.{cases_Bool, both_ways, or_parts, and_cases, leb-false}
 use Rattle.column_order.specs.Orders.{has}
 use Rattle.pq_tree.specs.Outline.{Outline, Forest, leaf, p_node, q_node, no_tree, tree_and, leaves, leaves_of}
 use Rattle.pq_tree.specs.Proper.{HasArities, HaveArities}
@@ -9,25 +9,16 @@ use Rattle.verdict_check.specs.declared.gaps.LeafGap.TheVariants.{P, Q}
 use Rattle.verdict_check.specs.Gaps.{depth, LiesWithin}
 use Rattle.pq_tree.specs.Nodes.{meets}
 use Rattle.verdict_check.specs.HoldsWalk.{misses, meeting, resumes, is_gapped, is_split, are_split}
-use Rattle.verdict_check.proofs.HoldsLists.{meets-append, none_append, meets_cases}
+use Rattle.verdict_check.proofs.HoldsCases.{resumes_none, resumes_whole, gapped_none, gapped_part, gapped_whole}
+use Rattle.verdict_check.proofs.HoldsLists.{meets-append, none_append}
 use Rattle.verdict_check.proofs.HoldsSplit.{split_p, split_q, split_and, meeting_head, meeting_tail}
+use Rattle.verdict_check.proofs.HoldsStretch.{no_meeting, meets_rest}
 use Rattle.verdict_check.proofs.GapLines.{Line, Joins, Fit, last, fit_join, None, none_fits, none_last, ended_fits}
 use Rattle.verdict_check.proofs.GapTrees.{line, line_of, all_of, none_of, alls_of, nones_of, opens_of, last_all, all_fits, alls_fit}
 
 -- a depth, of at least k, that parts the gaps
 abbrev pub Parts : List ℕ → ℕ → Line → Type 0
 Parts row k xs = (o : ℕ) × (k ≤ o) × Fit row o false xs
-
-no_meeting : (row : List ℕ) (ts : Forest) → meeting row ts ≡ 0 → IsFalse (meets row (leaves_of ts))
-no_meeting row no_tree e = refl
-no_meeting row (tree_and t ts) e =
-    elim (cases_Bool (meets row (leaves t))) [
-      | inl k ↦ absurd (omega (arith, meeting_head row t ts k))
-      | inr k ↦ none_append row (leaves t) (leaves_of ts) k (no_meeting row ts (omega (arith, meeting_tail row t ts k)))
-    ]
-
-meets_rest : (row xs ys : List ℕ) → IsFalse (meets row xs) → IsTrue (meets row (xs ++ ys)) → IsTrue (meets row ys)
-meets_rest row xs ys n m = elim (meets_cases row xs ys m) [ inl k ↦ absurd (both_ways (meets row xs) n k) | inr k ↦ k ]
 
 -- trees of which the row has no column, after others
 rest_fits : (row : List ℕ) (o : ℕ) (p : Bool) (s : LeafGap) (d : ℕ) (ts : Forest) → HaveArities ts → depth s ≤ o → None row (line_of s s d ts) → Fit row o p (line_of s s d ts)
@@ -59,12 +50,10 @@ front_fits row o d s no_tree h l m w r = tt
 front_fits row o d s (tree_and t ts) h l m w r =
     elim (cases_Bool (misses row (leaves t))) [
       | inl n ↦
-          let k : IsFalse (meets row (leaves t) || meets row (leaves_of ts)) =
-          sym (cond-true (misses row (leaves t)) (meets row (leaves t) || meets row (leaves_of ts)) (resumes row ts) n) ∙ r in
-          let e = or_parts (meets row (leaves t)) (meets row (leaves_of ts)) k in
+          let e = resumes_none row t ts n r in
           rest_fits row o true s d (tree_and t ts) h m (nones_of row s s d (tree_and t ts) (none_append row (leaves t) (leaves_of ts) e.0 e.1))
       | inr n ↦
-          let k : IsFalse (resumes row ts) = sym (cond-false (misses row (leaves t)) (meets row (leaves t) || meets row (leaves_of ts)) (resumes row ts) n) ∙ r in
+          let k : IsFalse (resumes row ts) = sym (resumes_whole row t ts n) ∙ r in
           let all = all_of row s d t n in
           fit_join row o true (line s d t) (line_of s s d ts) (all_fits row o true s d t h.0 l w all)
           (subst (λ b. Fit row o b (line_of s s d ts)) (sym (last_all row true s d t h.0 all)) (front_fits row o d s ts h.1 l m w k))
@@ -114,12 +103,10 @@ mutual
       let e = or_parts (is_split row t) (are_split row ts) (sym (split_and row t ts) ∙ u) in
       elim (cases_Bool (meets row (leaves t))) [
         | inl y ↦
-            let b : IsFalse (cond (misses row (leaves t)) (meets row (leaves_of ts)) (resumes row ts)) =
-            sym (cond-true (meets row (leaves t)) (cond (misses row (leaves t)) (meets row (leaves_of ts)) (resumes row ts)) (is_gapped row ts) y) ∙ c in
             elim (cases_Bool (misses row (leaves t))) [
               | inl n ↦
                   first_parts row k g (Q k) (1 + k) t ts h.1 (omega arith) (parts row k g t h.0 l y e.0)
-                  (sym (cond-true (misses row (leaves t)) (meets row (leaves_of ts)) (resumes row ts) n) ∙ b)
+                  (sym (gapped_part row t ts y n) ∙ c)
               | inr n ↦
                   let all = all_of row g (1 + k) t n in (
                     k,
@@ -127,12 +114,11 @@ mutual
                     fit_join row k false (line g (1 + k) t) (line_of (Q k) (Q k) (1 + k) ts) (all_fits row k false g (1 + k) t h.0 (omega arith) l all)
                         (subst (λ z. Fit row k z (line_of (Q k) (Q k) (1 + k) ts)) (sym (last_all row false g (1 + k) t h.0 all))
                         (front_fits row k (1 + k) (Q k) ts h.1 (omega arith) (omega arith) (omega arith)
-                        (sym (cond-false (misses row (leaves t)) (meets row (leaves_of ts)) (resumes row ts) n) ∙ b))),
+                        (sym (gapped_whole row t ts y n) ∙ c))),
                   )
             ]
         | inr y ↦
-            let b : IsFalse (is_gapped row ts) =
-            sym (cond-false (meets row (leaves t)) (cond (misses row (leaves t)) (meets row (leaves_of ts)) (resumes row ts)) (is_gapped row ts) y) ∙ c in
+            let b : IsFalse (is_gapped row ts) = sym (gapped_none row t ts y) ∙ c in
             later_parts row k g (Q k) (1 + k) t ts y (in_line row k (Q k) ts h.1 (omega arith) b (meets_rest row (leaves t) (leaves_of ts) y m) e.1)
       ]
 

@@ -10,16 +10,12 @@ use Rattle.pq_tree.specs.Proper.{forest}
 use Rattle.pq_tree.proofs.Frontiers.{frontiers_occur, occurs-permutation}
 use Rattle.pq_tree.specs.Nodes.{IsNode, IsNodeOf}
 use Rattle.verdict_check.specs.Holds.{IsStretch}
-use Rattle.verdict_check.proofs.HoldsLists.{Segment, has_same}
+use Rattle.verdict_check.proofs.HoldsLists.{Thirds, thirds_left, thirds_right, Any, Segment, has_same}
 use Rattle.verdict_check.proofs.HoldsFrontiers.{frontier_has}
 
 -- a frontier of the node x is a part of the list
-record NodePart (f : List ℕ) (x : Outline) : Type 0 where
-  front : List ℕ
-  order : List ℕ
-  rest : List ℕ
-  parts : f ≡ front ++ (order ++ rest)
-  frontier : IsFrontier x order
+abbrev NodePart : List ℕ → Outline → Type 0
+NodePart f x = Thirds Any (IsFrontier x) Any f
 
 -- so of one of the lists
 record FoundPart (fs : List (List ℕ)) (x : Outline) : Type 0 where
@@ -28,27 +24,13 @@ record FoundPart (fs : List (List ℕ)) (x : Outline) : Type 0 where
   part : NodePart one x
 
 here : (x t : Outline) (f : List ℕ) → x ≡ t → IsFrontier t f → NodePart f x
-here x t f e h = record { front = []; order = f; rest = []; parts = sym (append-nil f); frontier = subst (λ y. IsFrontier y f) (sym e) h }
+here x t f e h = record { front = []; middle = f; rest = []; parts = sym (append-nil f); front_is = tt; middle_is = subst (λ y. IsFrontier y f) (sym e) h; rest_is = tt }
 
 part_left : (f g : List ℕ) (x : Outline) → NodePart f x → NodePart (f ++ g) x
-part_left f g x p =
-    record {
-      front = p.front;
-      order = p.order;
-      rest = p.rest ++ g;
-      parts = ap (λ y. y ++ g) p.parts ∙ append_assoc p.front (p.order ++ p.rest) g ∙ ap (λ y. p.front ++ y) (append_assoc p.order p.rest g);
-      frontier = p.frontier;
-    }
+part_left f g x p = thirds_left Any (IsFrontier x) Any f g (λ xs h. tt) p
 
 part_right : (f g : List ℕ) (x : Outline) → NodePart g x → NodePart (f ++ g) x
-part_right f g x p =
-    record {
-      front = f ++ p.front;
-      order = p.order;
-      rest = p.rest;
-      parts = ap (λ y. f ++ y) p.parts ∙ sym (append_assoc f p.front (p.order ++ p.rest));
-      frontier = p.frontier;
-    }
+part_right f g x p = thirds_right Any (IsFrontier x) Any f g (λ xs h. tt) p
 
 in_concat_at : (gs : List (List ℕ)) (f : List ℕ) (x : Outline) (k : ℕ) → k < length gs → get_or gs k f ≡ f → NodePart f x → NodePart (concat gs) x
 in_concat_at [] f x k l e p = absurd (omega arith)
@@ -136,7 +118,9 @@ run_part us vs ws f h =
             middle = concat s.first;
             rest = concat s.last;
             parts = e ∙ ap concat all ∙ three_joined r.first s.first s.last;
-            same = has_vs;
+            front_is = tt;
+            middle_is = has_vs;
+            rest_is = tt;
           }
       | inr e ↦
           record {
@@ -144,12 +128,14 @@ run_part us vs ws f h =
             middle = concat (reverse s.first);
             rest = concat (reverse r.first);
             parts = e ∙ ap (λ x. concat (reverse x)) all ∙ three_turned r.first s.first s.last;
-            same = λ a. turned_has s.first a ∙ has_vs a;
+            front_is = tt;
+            middle_is = λ a. turned_has s.first a ∙ has_vs a;
+            rest_is = tt;
           }
     ]
 
 -- a part of a part
-deeper : (f : List ℕ) (x : Outline) (xs : List ℕ) (p : NodePart f x) → Segment p.order xs → Segment f xs
+deeper : (f : List ℕ) (x : Outline) (xs : List ℕ) (p : NodePart f x) → Segment p.middle xs → Segment f xs
 deeper f x xs p s =
     record {
       front = p.front ++ s.front;
@@ -159,7 +145,9 @@ deeper f x xs p s =
           p.parts ∙ ap (λ y. p.front ++ (y ++ p.rest)) s.parts ∙
           ap (λ y. p.front ++ y) (append_assoc s.front (s.middle ++ s.rest) p.rest ∙ ap (λ y. s.front ++ y) (append_assoc s.middle s.rest p.rest)) ∙
           sym (append_assoc p.front s.front (s.middle ++ (s.rest ++ p.rest)));
-      same = s.same;
+      front_is = tt;
+      middle_is = s.middle_is;
+      rest_is = tt;
     }
 
 pub stretch_segment : (xs : List ℕ) (t : Outline) (f : List ℕ) → IsStretch xs t → IsFrontier t f → Segment f xs
@@ -167,9 +155,9 @@ stretch_segment xs t f s h =
     elim s [
       | inl n ↦
           let p : NodePart f n.0 = node_part n.0 t f n.1 h in
-          record { front = p.front; middle = p.order; rest = p.rest; parts = p.parts; same = λ a. frontier_has n.0 p.order a p.frontier ∙ sym (ap (λ x. has x a) n.2) }
+          record { front = p.front; middle = p.middle; rest = p.rest; parts = p.parts; front_is = tt; middle_is = λ a. frontier_has n.0 p.middle a p.middle_is ∙ sym (ap (λ x. has x a) n.2); rest_is = tt }
       | inr r ↦
           let q : Outline = q_node (forest (r.0 ++ (r.1 ++ r.2))) in
           let p : NodePart f q = node_part q t f r.3 h in
-          subst (Segment f) (sym r.4) (deeper f q (leaves_of (forest r.1)) p (run_part r.0 r.1 r.2 p.order p.frontier))
+          subst (Segment f) (sym r.4) (deeper f q (leaves_of (forest r.1)) p (run_part r.0 r.1 r.2 p.middle p.middle_is))
     ]

@@ -1,6 +1,6 @@
 -- A node that splits a row: some frontier of the tree breaks the row.
 use Rattle.std.proofs.Common.{◌≡◌, ◌∙◌, ℕ, ◌+◌, ◌≤◌, false, cond, leb, ◌||◌, ◌&&◌, List, [], ◌∷◌, ◌++◌, IsTrue, IsFalse, IsPermutation, refl, sym, ap, subst, inl, inr, arith}
-use Rattle.std.proofs.lemmas.Bool.{cases_Bool, both_ways, or_cases, and_parts, leb-true, cond-true, cond-false}
+use Rattle.std.proofs.lemmas.Bool.{cases_Bool, both_ways, or_cases, and_parts, leb-true}
 use Rattle.std.proofs.lemmas.List.Folds.{concat-append}
 use Rattle.std.proofs.lemmas.List.Sorted.{IsPermutation-refl, IsPermutation-cons, IsPermutation-sym, IsPermutation-middle}
 use Rattle.std.specs.List.{concat}
@@ -11,6 +11,7 @@ use Rattle.pq_tree.specs.Proper.{count, HasArities, HaveArities}
 use Rattle.pq_tree.proofs.Frontiers.{leaves_are_frontier}
 use Rattle.pq_tree.specs.Nodes.{meets}
 use Rattle.verdict_check.specs.HoldsWalk.{misses, meeting, resumes, is_gapped, is_split, are_split}
+use Rattle.verdict_check.proofs.HoldsCases.{resumes_at, resumes_whole, gapped_none, gapped_part, gapped_whole}
 use Rattle.verdict_check.proofs.HoldsLists.{Rises, Breaks, misses_has, none_has, misses_cases, meets_left, meets_right, rises_from, rises_left, rises_right, falls_then, then_rises, breaks_left, breaks_right}
 use Rattle.verdict_check.proofs.HoldsFrontiers.{own, own_joined, own_frontiers, Rising, Falling, rising, falling}
 
@@ -103,16 +104,22 @@ pub record Broken (row : List ℕ) (t : Outline) : Type 0 where
   pub frontier : IsFrontier t order
   pub breaks : Breaks row order
 
--- one frontier of each tree, which joined break the row, or rise
-record LineBroken (row : List ℕ) (ts : Forest) : Type 0 where
+-- one frontier of each tree, of which something holds when they are joined
+record Lined (P : List ℕ → Type 0) (ts : Forest) : Type 0 where
   orders : List (List ℕ)
   frontiers : AreFrontiers ts orders
-  breaks : Breaks row (concat orders)
+  holds : P (concat orders)
 
-record LineRising (row : List ℕ) (ts : Forest) : Type 0 where
-  orders : List (List ℕ)
-  frontiers : AreFrontiers ts orders
-  rises : Rises row (concat orders)
+-- one tree more before them
+lined_later : (P Q : List ℕ → Type 0) (t : Outline) (ts : Forest) → ((f : List ℕ) → P f → Q (leaves t ++ f)) → Lined P ts → Lined Q (tree_and t ts)
+lined_later P Q t ts more l = record { orders = leaves t ∷ l.orders; frontiers = (leaves_are_frontier t, l.frontiers); holds = more (concat l.orders) l.holds }
+
+-- frontiers that joined break the row, or rise
+abbrev LineBroken : List ℕ → Forest → Type 0
+LineBroken row ts = Lined (Breaks row) ts
+
+abbrev LineRising : List ℕ → Forest → Type 0
+LineRising row ts = Lined (Rises row) ts
 
 -- the row misses a column of one of the trees
 crowded : (row : List ℕ) (ts : Forest) → HaveArities ts → 2 ≤ meeting row ts → IsTrue (misses row (leaves_of ts)) → Broken row (p_node ts)
@@ -159,9 +166,9 @@ crowded row (tree_and t ts) h l m =
               middle = leaves t;
               rest = concat w.last;
               parts = concat-append w.first (leaves t ∷ w.last);
-              front_meets = w.first_meets;
-              middle_misses = none_misses row t h.0 k;
-              rest_meets = w.last_meets;
+              front_is = w.first_meets;
+              middle_is = none_misses row t h.0 k;
+              rest_is = w.last_meets;
             };
           }
     ]
@@ -171,27 +178,18 @@ resumes_rises row no_tree h = absurd (both_ways false refl h)
 resumes_rises row (tree_and t ts) h =
     elim (cases_Bool (misses row (leaves t))) [
       | inl n ↦
-          let k : IsTrue (meets row (leaves t) || meets row (leaves_of ts)) =
-          sym (cond-true (misses row (leaves t)) (meets row (leaves t) || meets row (leaves_of ts)) (resumes row ts) n) ∙ h in
-          elim (or_cases (meets row (leaves t)) (meets row (leaves_of ts)) k) [
+          elim (resumes_at row t ts n h) [
             | inl m ↦
                 let r : Rising row t = rising row t m n in
-                record { orders = r.order ∷ own ts; frontiers = (r.frontier, own_frontiers ts); rises = rises_left row r.order (concat (own ts)) r.rises }
+                record { orders = r.order ∷ own ts; frontiers = (r.frontier, own_frontiers ts); holds = rises_left row r.order (concat (own ts)) r.rises }
             | inr m ↦
                 record {
                   orders = own (tree_and t ts);
                   frontiers = own_frontiers (tree_and t ts);
-                  rises = rises_from row (leaves t) (concat (own ts)) n (sym (ap (meets row) (own_joined ts)) ∙ m);
+                  holds = rises_from row (leaves t) (concat (own ts)) n (sym (ap (meets row) (own_joined ts)) ∙ m);
                 }
           ]
-      | inr n ↦
-          let k : IsTrue (resumes row ts) = sym (cond-false (misses row (leaves t)) (meets row (leaves t) || meets row (leaves_of ts)) (resumes row ts) n) ∙ h in
-          let r : LineRising row ts = resumes_rises row ts k in
-          record {
-            orders = leaves t ∷ r.orders;
-            frontiers = (leaves_are_frontier t, r.frontiers);
-            rises = rises_right row (leaves t) (concat r.orders) r.rises;
-          }
+      | inr n ↦ lined_later (Rises row) (Rises row) t ts (λ f r. rises_right row (leaves t) f r) (resumes_rises row ts (sym (resumes_whole row t ts n) ∙ h))
     ]
 
 gap_breaks : (row : List ℕ) (ts : Forest) → IsTrue (is_gapped row ts) → LineBroken row ts
@@ -199,42 +197,25 @@ gap_breaks row no_tree h = absurd (both_ways false refl h)
 gap_breaks row (tree_and t ts) h =
     elim (cases_Bool (meets row (leaves t))) [
       | inl m ↦
-          let g : IsTrue (cond (misses row (leaves t)) (meets row (leaves_of ts)) (resumes row ts)) =
-          sym (cond-true (meets row (leaves t)) (cond (misses row (leaves t)) (meets row (leaves_of ts)) (resumes row ts)) (is_gapped row ts) m) ∙ h in
           elim (cases_Bool (misses row (leaves t))) [
             | inl n ↦
-                let k : IsTrue (meets row (leaves_of ts)) = sym (cond-true (misses row (leaves t)) (meets row (leaves_of ts)) (resumes row ts) n) ∙ g in
+                let k : IsTrue (meets row (leaves_of ts)) = sym (gapped_part row t ts m n) ∙ h in
                 let r : Falling row t = falling row t m n in
                 record {
                   orders = r.order ∷ own ts;
                   frontiers = (r.frontier, own_frontiers ts);
-                  breaks = falls_then row r.order (concat (own ts)) r.falls (sym (ap (meets row) (own_joined ts)) ∙ k);
+                  holds = falls_then row r.order (concat (own ts)) r.falls (sym (ap (meets row) (own_joined ts)) ∙ k);
                 }
-            | inr n ↦
-                let k : IsTrue (resumes row ts) = sym (cond-false (misses row (leaves t)) (meets row (leaves_of ts)) (resumes row ts) n) ∙ g in
-                let r : LineRising row ts = resumes_rises row ts k in
-                record {
-                  orders = leaves t ∷ r.orders;
-                  frontiers = (leaves_are_frontier t, r.frontiers);
-                  breaks = then_rises row (leaves t) (concat r.orders) m r.rises;
-                }
+            | inr n ↦ lined_later (Rises row) (Breaks row) t ts (λ f r. then_rises row (leaves t) f m r) (resumes_rises row ts (sym (gapped_whole row t ts m n) ∙ h))
           ]
-      | inr m ↦
-          let k : IsTrue (is_gapped row ts) =
-          sym (cond-false (meets row (leaves t)) (cond (misses row (leaves t)) (meets row (leaves_of ts)) (resumes row ts)) (is_gapped row ts) m) ∙ h in
-          let r : LineBroken row ts = gap_breaks row ts k in
-          record {
-            orders = leaves t ∷ r.orders;
-            frontiers = (leaves_are_frontier t, r.frontiers);
-            breaks = breaks_right row (leaves t) (concat r.orders) r.breaks;
-          }
+      | inr m ↦ lined_later (Breaks row) (Breaks row) t ts (λ f r. breaks_right row (leaves t) f r) (gap_breaks row ts (sym (gapped_none row t ts m) ∙ h))
     ]
 
 over_p : (row : List ℕ) (ts : Forest) → LineBroken row ts → Broken row (p_node ts)
-over_p row ts r = record { order = concat r.orders; frontier = (r.orders, r.orders, r.frontiers, IsPermutation-refl r.orders, refl); breaks = r.breaks }
+over_p row ts r = record { order = concat r.orders; frontier = (r.orders, r.orders, r.frontiers, IsPermutation-refl r.orders, refl); breaks = r.holds }
 
 over_q : (row : List ℕ) (ts : Forest) → LineBroken row ts → Broken row (q_node ts)
-over_q row ts r = record { order = concat r.orders; frontier = (r.orders, r.frontiers, inl refl); breaks = r.breaks }
+over_q row ts r = record { order = concat r.orders; frontier = (r.orders, r.frontiers, inl refl); breaks = r.holds }
 
 -- where a node of the tree splits the row, a frontier breaks it
 mutual
@@ -259,12 +240,6 @@ mutual
       elim (or_cases (is_split row t) (are_split row ts) (sym (split_and row t ts) ∙ s)) [
         | inl k ↦
             let r : Broken row t = split_breaks row t h.0 k in
-            record { orders = r.order ∷ own ts; frontiers = (r.frontier, own_frontiers ts); breaks = breaks_left row r.order (concat (own ts)) r.breaks }
-        | inr k ↦
-            let r : LineBroken row ts = splits_break row ts h.1 k in
-            record {
-              orders = leaves t ∷ r.orders;
-              frontiers = (leaves_are_frontier t, r.frontiers);
-              breaks = breaks_right row (leaves t) (concat r.orders) r.breaks;
-            }
+            record { orders = r.order ∷ own ts; frontiers = (r.frontier, own_frontiers ts); holds = breaks_left row r.order (concat (own ts)) r.breaks }
+        | inr k ↦ lined_later (Breaks row) (Breaks row) t ts (λ f r. breaks_right row (leaves t) f r) (splits_break row ts h.1 k)
       ]

@@ -102,13 +102,18 @@ share_leaf row a found e =
       split_is = sym (split_leaf row a);
     }
 
+-- the outline of a node over its children
+pub outline_p : (t : Tree) (v : Vec Tree Global) (ts : List Tree) → t ≡ P v → ts ≡ v.items → outline_of t ≡ p_node (forest (map outline_of ts))
+outline_p t v ts e s = ap outline_of e ∙ outline_of-P v ∙ ap (λ x. p_node (forest (map outline_of x))) (sym s)
+
+pub outline_q : (t : Tree) (v : Vec Tree Global) (ts : List Tree) → t ≡ Q v → ts ≡ v.items → outline_of t ≡ q_node (forest (map outline_of ts))
+outline_q t v ts e s = ap outline_of e ∙ outline_of-Q v ∙ ap (λ x. q_node (forest (map outline_of x))) (sym s)
+
 pub share_over_P : (row : List ℕ) (t : Tree) (v : Vec Tree Global) (ts : List Tree) (s : Share) → t ≡ P v → ts ≡ v.items → IsShare row (p_node (forest (map outline_of ts))) s → IsShare row (outline_of t) s
-share_over_P row t v ts s e i h =
-    subst (λ x. IsShare row x s) (sym (ap outline_of e ∙ outline_of-P v ∙ ap (λ x. p_node (forest (map outline_of x))) (sym i))) h
+share_over_P row t v ts s e i h = subst (λ x. IsShare row x s) (sym (outline_p t v ts e i)) h
 
 pub share_over_Q : (row : List ℕ) (t : Tree) (v : Vec Tree Global) (ts : List Tree) (s : Share) → t ≡ Q v → ts ≡ v.items → IsShare row (q_node (forest (map outline_of ts))) s → IsShare row (outline_of t) s
-share_over_Q row t v ts s e i h =
-    subst (λ x. IsShare row x s) (sym (ap outline_of e ∙ outline_of-Q v ∙ ap (λ x. q_node (forest (map outline_of x))) (sym i))) h
+share_over_Q row t v ts s e i h = subst (λ x. IsShare row x s) (sym (outline_q t v ts e i)) h
 
 -- before the first child, at a child, and behind the last
 pub sum_start : (row : List ℕ) (ts : Forest) → IsSum row ts ts (record { meeting = 0; misses = false; split = false; line = Before })

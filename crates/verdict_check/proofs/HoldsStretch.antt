@@ -1,14 +1,15 @@
 -- A row that no node splits has the columns of a stretch of the tree.
-use Rattle.std.proofs.Common.{◌≡◌, ◌⊎◌, ◌∙◌, ℕ, ◌<◌, ◌≤◌, false, not, cond, leb, ◌||◌, ◌&&◌, List, [], ◌∷◌, ◌++◌, IsTrue, IsFalse, refl, sym, ap, subst, inl, inr, arith}
-use Rattle.std.proofs.lemmas.Bool.{cases_Bool, both_ways, or_cases, or_parts, or_from, and_cases, leb-false, cond-true, cond-false, false_from_ne_true}
+use Rattle.std.proofs.Common.{◌≡◌, ◌⊎◌, ◌∙◌, ℕ, ◌<◌, ◌≤◌, false, not, leb, ◌&&◌, List, [], ◌∷◌, ◌++◌, IsTrue, IsFalse, refl, sym, ap, subst, inl, inr, arith}
+use Rattle.std.proofs.lemmas.Bool.{cases_Bool, both_ways, or_cases, or_parts, or_from, and_cases, leb-false, false_from_ne_true}
 use Rattle.column_order.specs.Orders.{has, occurs}
 use Rattle.column_order.proofs.Lists.{has_append_left, has_append_right, has_append_cases, occurs-append, apart, apart'}
 use Rattle.pq_tree.specs.Outline.{Outline, Forest, leaf, p_node, q_node, no_tree, tree_and, leaves, leaves_of}
 use Rattle.pq_tree.specs.Proper.{forest, trees}
 use Rattle.pq_tree.proofs.Shown.{leaves_of-append}
-use Rattle.pq_tree.specs.Nodes.{IsNodeOf, meets}
+use Rattle.pq_tree.specs.Nodes.{IsNode, IsNodeOf, meets}
 use Rattle.verdict_check.specs.Holds.{IsStretch}
 use Rattle.verdict_check.specs.HoldsWalk.{misses, meeting, resumes, is_gapped, is_split, are_split}
+use Rattle.verdict_check.proofs.HoldsCases.{resumes_none, resumes_whole, gapped_none, gapped_part, gapped_whole}
 use Rattle.verdict_check.proofs.HoldsLists.{none_has, all_has, meets_cases, none_append, all_append}
 use Rattle.verdict_check.proofs.HoldsSplit.{split_p, split_q, split_and, meeting_head, meeting_tail}
 use Rattle.pq_tree.proofs.Nodes.{node_itself, node_within, nodes_within}
@@ -52,33 +53,38 @@ record HeldOf (row : List ℕ) (ts : Forest) : Type 0 where
   stretch : IsStretchOf columns ts
   same : (a : ℕ) → IsTrue (has (leaves_of ts) a) → has row a ≡ has columns a
 
-held_p : (row : List ℕ) (ts : Forest) → HeldOf row ts → Held row (p_node ts)
-held_p row ts h =
+-- a stretch of some trees is one of a tree that has their nodes
+held_above : (row : List ℕ) (t : Outline) (ts : Forest) → leaves t ≡ leaves_of ts → ((x : Outline) → IsNodeOf x ts → IsNode x t) → HeldOf row ts → Held row t
+held_above row t ts e up h =
     record {
       columns = h.columns;
-      stretch = elim h.stretch [ inl n ↦ inl (n.0, inr n.1, n.2) | inr r ↦ inr (r.0, r.1, r.2, inr r.3, r.4) ];
-      same = h.same;
+      stretch = elim h.stretch [ inl n ↦ inl (n.0, up n.0 n.1, n.2) | inr r ↦ inr (r.0, r.1, r.2, up (q_node (forest (r.0 ++ (r.1 ++ r.2)))) r.3, r.4) ];
+      same = λ a k. h.same a (sym (ap (λ xs. has xs a) e) ∙ k);
     }
 
+held_p : (row : List ℕ) (ts : Forest) → HeldOf row ts → Held row (p_node ts)
+held_p row ts h = held_above row (p_node ts) ts refl (λ x n. inr n) h
+
 held_q : (row : List ℕ) (ts : Forest) → HeldOf row ts → Held row (q_node ts)
-held_q row ts h =
-    record {
-      columns = h.columns;
-      stretch = elim h.stretch [ inl n ↦ inl (n.0, inr n.1, n.2) | inr r ↦ inr (r.0, r.1, r.2, inr r.3, r.4) ];
-      same = h.same;
-    }
+held_q row ts h = held_above row (q_node ts) ts refl (λ x n. inr n) h
+
+-- of two lists the row has the columns of a part of the first, and none of the second
+first_alone : (row xs ys part : List ℕ) → ((a : ℕ) → IsTrue (has part a) → IsTrue (has ys a) → ⊥) → ((a : ℕ) → IsTrue (has xs a) → has row a ≡ has part a) → IsFalse (meets row ys) →
+    (a : ℕ) → IsTrue (has xs a) ⊎ IsTrue (has ys a) → has row a ≡ has part a
+first_alone row xs ys part other same n a k =
+    elim k [
+      | inl x ↦ same a x
+      | inr y ↦ none_has row ys a n y ∙ sym (false_from_ne_true (has part a) (λ z. other a z y))
+    ]
 
 held_first : (row : List ℕ) (t : Outline) (ts : Forest) → ((a : ℕ) → occurs (leaves t ++ leaves_of ts) a ≤ 1) → Held row t → IsFalse (meets row (leaves_of ts)) →
     HeldOf row (tree_and t ts)
 held_first row t ts once h n =
+    let other = λ (a : ℕ) (z : IsTrue (has h.columns a)). both_ways (has (leaves_of ts) a) (apart (leaves t) (leaves_of ts) a (once a) (stretch_within h.columns t h.stretch a z)) in
     record {
       columns = h.columns;
       stretch = elim h.stretch [ inl n ↦ inl (n.0, inl n.1, n.2) | inr r ↦ inr (r.0, r.1, r.2, inl r.3, r.4) ];
-      same = λ a k. elim (has_append_cases (leaves t) (leaves_of ts) a k) [
-        | inl y ↦ h.same a y
-        | inr y ↦ none_has row (leaves_of ts) a n y ∙ sym (false_from_ne_true (has h.columns a)
-            (λ z. both_ways (has (leaves_of ts) a) (apart (leaves t) (leaves_of ts) a (once a) (stretch_within h.columns t h.stretch a z)) y))
-      ];
+      same = λ a k. first_alone row (leaves t) (leaves_of ts) h.columns other h.same n a (has_append_cases (leaves t) (leaves_of ts) a k);
     }
 
 held_later : (row : List ℕ) (t : Outline) (ts : Forest) → ((a : ℕ) → occurs (leaves t ++ leaves_of ts) a ≤ 1) → IsFalse (meets row (leaves t)) → HeldOf row ts →
@@ -87,12 +93,13 @@ held_later row t ts once n h =
     record {
       columns = h.columns;
       stretch = elim h.stretch [ inl n ↦ inl (n.0, inr n.1, n.2) | inr r ↦ inr (r.0, r.1, r.2, inr r.3, r.4) ];
-      same = λ a k. elim (has_append_cases (leaves t) (leaves_of ts) a k) [
-        | inl y ↦ none_has row (leaves t) a n y ∙ sym (false_from_ne_true (has h.columns a)
-            (λ z. both_ways (has (leaves t) a) (apart' (leaves t) (leaves_of ts) a (once a) (stretches_within h.columns ts h.stretch a z)) y))
-        | inr y ↦ h.same a y
-      ];
+      same = λ a k. first_alone row (leaves_of ts) (leaves t) h.columns
+          (λ a z. both_ways (has (leaves t) a) (apart' (leaves t) (leaves_of ts) a (once a) (stretches_within h.columns ts h.stretch a z)))
+          h.same n a (turned (has_append_cases (leaves t) (leaves_of ts) a k));
     }
+  where
+    turned : {A B : Type 0} → A ⊎ B → B ⊎ A
+    turned e = elim e [ inl x ↦ inr x | inr y ↦ inl y ]
 
 -- a row that misses no column of the tree
 held_all : (row : List ℕ) (t : Outline) → IsFalse (misses row (leaves t)) → Held row t
@@ -103,7 +110,7 @@ held_all row t n =
       same = λ a h. all_has row (leaves t) a n h ∙ sym h;
     }
 
-no_meeting : (row : List ℕ) (ts : Forest) → meeting row ts ≡ 0 → IsFalse (meets row (leaves_of ts))
+pub no_meeting : (row : List ℕ) (ts : Forest) → meeting row ts ≡ 0 → IsFalse (meets row (leaves_of ts))
 no_meeting row no_tree e = refl
 no_meeting row (tree_and t ts) e =
     elim (cases_Bool (meets row (leaves t))) [
@@ -131,9 +138,7 @@ front_run row no_tree h = ([], [], refl, refl, refl)
 front_run row (tree_and t ts) h =
     elim (cases_Bool (misses row (leaves t))) [
       | inl n ↦
-          let k : IsFalse (meets row (leaves t) || meets row (leaves_of ts)) =
-          sym (cond-true (misses row (leaves t)) (meets row (leaves t) || meets row (leaves_of ts)) (resumes row ts) n) ∙ h in
-          let e = or_parts (meets row (leaves t)) (meets row (leaves_of ts)) k in (
+          let e = resumes_none row t ts n h in (
             [],
             t ∷ trees ts,
             ap (tree_and t) (forest_trees ts),
@@ -141,7 +146,7 @@ front_run row (tree_and t ts) h =
             none_append row (leaves t) (leaves_of (forest (trees ts))) e.0 (subst (λ x. IsFalse (meets row (leaves_of x))) (forest_trees ts) e.1),
           )
       | inr n ↦
-          let k : IsFalse (resumes row ts) = sym (cond-false (misses row (leaves t)) (meets row (leaves t) || meets row (leaves_of ts)) (resumes row ts) n) ∙ h in
+          let k : IsFalse (resumes row ts) = sym (resumes_whole row t ts n) ∙ h in
           let r = front_run row ts k in (t ∷ r.0, r.1, ap (tree_and t) r.2, all_append row (leaves t) (leaves_of (forest r.0)) n r.3, r.4)
     ]
 
@@ -203,7 +208,7 @@ once_left xs ys once a = omega (arith, once a, occurs-append xs ys a)
 once_right : (xs ys : List ℕ) → ((a : ℕ) → occurs (xs ++ ys) a ≤ 1) → (a : ℕ) → occurs ys a ≤ 1
 once_right xs ys once a = omega (arith, once a, occurs-append xs ys a)
 
-meets_rest : (row xs ys : List ℕ) → IsFalse (meets row xs) → IsTrue (meets row (xs ++ ys)) → IsTrue (meets row ys)
+pub meets_rest : (row xs ys : List ℕ) → IsFalse (meets row xs) → IsTrue (meets row (xs ++ ys)) → IsTrue (meets row ys)
 meets_rest row xs ys n m = elim (meets_cases row xs ys m) [ inl k ↦ absurd (both_ways (meets row xs) n k) | inr k ↦ k ]
 
 mutual
@@ -239,17 +244,14 @@ mutual
       let e = or_parts (is_split row t) (are_split row ts) (sym (split_and row t ts) ∙ s) in
       elim (cases_Bool (meets row (leaves t))) [
         | inl k ↦
-            let b : IsFalse (cond (misses row (leaves t)) (meets row (leaves_of ts)) (resumes row ts)) =
-            sym (cond-true (meets row (leaves t)) (cond (misses row (leaves t)) (meets row (leaves_of ts)) (resumes row ts)) (is_gapped row ts) k) ∙ g in
             elim (cases_Bool (misses row (leaves t))) [
               | inl n ↦
                   inl (held_first row t ts once (held row t (once_left (leaves t) (leaves_of ts) once) k e.0)
-                  (sym (cond-true (misses row (leaves t)) (meets row (leaves_of ts)) (resumes row ts) n) ∙ b))
-              | inr n ↦ inr (run_here row t ts n (sym (cond-false (misses row (leaves t)) (meets row (leaves_of ts)) (resumes row ts) n) ∙ b))
+                  (sym (gapped_part row t ts k n) ∙ g))
+              | inr n ↦ inr (run_here row t ts n (sym (gapped_whole row t ts k n) ∙ g))
             ]
         | inr k ↦
-            let b : IsFalse (is_gapped row ts) =
-            sym (cond-false (meets row (leaves t)) (cond (misses row (leaves t)) (meets row (leaves_of ts)) (resumes row ts)) (is_gapped row ts) k) ∙ g in
+            let b : IsFalse (is_gapped row ts) = sym (gapped_none row t ts k) ∙ g in
             elim (in_line row ts (once_right (leaves t) (leaves_of ts) once) b (meets_rest row (leaves t) (leaves_of ts) k m) e.1) [
               | inl h ↦ inl (held_later row t ts once k h)
               | inr r ↦ inr (run_later row t ts k r)

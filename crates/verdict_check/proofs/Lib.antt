@@ -1,5 +1,6 @@
 pub mod HoldsLists
 pub mod HoldsFrontiers
+pub mod HoldsCases
 pub mod HoldsSplit
 pub mod HoldsStretch
 pub mod HoldsSegments

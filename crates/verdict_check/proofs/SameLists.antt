@@ -1,5 +1,5 @@
 -- `==` on lists of intervals, of places and of spans.
-use Rattle.std.proofs.Common.{◌≡◌, ◌∙◌, ℕ, Bool, eqb, eqb-true, eq-eqb, List, refl, ap}
+use Rattle.std.proofs.Common.{◌≡◌, ◌∙◌, ℕ, Bool, eqb, eqb-true, eq-eqb, List, ◌&&◌, refl, sym, ap}
 use Rattle.std.proofs.lemmas.Bool.{and_parts, and_from}
 use Rattle.std.specs.Bool.{Decides}
 use Rattle.std.specs.Cmp.Lexicographic.{pointwise}
@@ -21,25 +21,21 @@ same_place (At f l) (At g m) = (
   λ e. (let firsts : f ≡ g = cc in let lasts : l ≡ m = cc in and_from (eqb f g) (eqb l m) (eq-eqb f g firsts) (eq-eqb l m lasts)),
 )
 
-same_span : (a b : Span) → Decides (span.eq-value.it a b) (a ≡ b)
-same_span a b = (
+-- values that two numbers make
+same_two : {A : Type 0} (make : ℕ → ℕ → A) (one two : A → ℕ) → ((x : A) → make (one x) (two x) ≡ x) → (a b : A) → Decides (eqb (one a) (one b) && eqb (two a) (two b)) (a ≡ b)
+same_two make one two made a b = (
   λ e. (
-      let p = and_parts (eqb a.first b.first) (eqb a.last b.last) e in
-      let make : ℕ → ℕ → Span = λ first last. record { first = first; last = last } in
-      ap (λ n. make n a.last) (eqb-true a.first b.first p.0) ∙ ap (make b.first) (eqb-true a.last b.last p.1)
+      let p = and_parts (eqb (one a) (one b)) (eqb (two a) (two b)) e in
+      sym (made a) ∙ ap (λ n. make n (two a)) (eqb-true (one a) (one b) p.0) ∙ ap (make (one b)) (eqb-true (two a) (two b) p.1) ∙ made b
       ),
-  λ e. and_from (eqb a.first b.first) (eqb a.last b.last) (eq-eqb a.first b.first (ap (λ (s : Span). s.first) e)) (eq-eqb a.last b.last (ap (λ (s : Span). s.last) e)),
+  λ e. and_from (eqb (one a) (one b)) (eqb (two a) (two b)) (eq-eqb (one a) (one b) (ap one e)) (eq-eqb (two a) (two b) (ap two e)),
 )
 
+same_span : (a b : Span) → Decides (span.eq-value.it a b) (a ≡ b)
+same_span a b = same_two (λ first last. record { first = first; last = last }) (λ (s : Span). s.first) (λ (s : Span). s.last) (λ s. refl) a b
+
 same_interval : (a b : Interval) → Decides (interval.eq-value.it a b) (a ≡ b)
-same_interval a b = (
-  λ e. (
-      let p = and_parts (eqb a.left b.left) (eqb a.right b.right) e in
-      let make : ℕ → ℕ → Interval = λ left right. record { left = left; right = right } in
-      ap (λ n. make n a.right) (eqb-true a.left b.left p.0) ∙ ap (make b.left) (eqb-true a.right b.right p.1)
-      ),
-  λ e. and_from (eqb a.left b.left) (eqb a.right b.right) (eq-eqb a.left b.left (ap (λ (s : Interval). s.left) e)) (eq-eqb a.right b.right (ap (λ (s : Interval). s.right) e)),
-)
+same_interval a b = same_two (λ left right. record { left = left; right = right }) (λ (s : Interval). s.left) (λ (s : Interval). s.right) (λ s. refl) a b
 
 -- from the clause of `==`, whether two lists of intervals are equal
 pub same_intervals : (a b : List Interval) (r : Bool) → r ≡ pointwise interval.eq-value.it a b → Decides r (a ≡ b)

@@ -16,7 +16,7 @@ use crate::added::added_fault;
 use crate::cycle::cycle_fault;
 use crate::outcome::Reason;
 use crate::side::sides_fault;
-use instance_model::Instance;
+use instance_model::{Derived, Instance};
 use row_model::{Kind, NoMemory};
 use std::alloc::Global;
 use verdict_text::{Columns, NoPart, Part, Verdict, Version, YesPart};
@@ -88,9 +88,6 @@ fn no_fault(alloc: Global, instance: &Instance, no: &NoPart) -> Result<Option<Re
     requires lines { Fits32 (length no.now.lines) }
     ensures { IfOk result (Finds (PassesNo (derived_matrix (instance_value instance.now) no.now.side) no.now.lines) (no_tests (length no.now.lines))) }
 {
-    let lines = no.lines.as_slice();
-    match instance {
-        Instance::Plain(_, matrix) => cycle_fault(alloc, matrix, lines),
-        _ => cycle_fault(alloc, &instance.derived(alloc, no.side)?, lines),
-    }
+    let derived = Derived::of(alloc, instance, no.side)?;
+    cycle_fault(alloc, derived.matrix(), no.lines.as_slice())
 }

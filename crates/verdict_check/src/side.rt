@@ -17,7 +17,7 @@ use crate::gaps::Gaps;
 use crate::outcome::Reason;
 use bound_tree::is_complete;
 use circular_ones::{circular_law, turned};
-use instance_model::{Instance, textbook_law};
+use instance_model::{Derived, Instance, textbook_law};
 use pq_tree::PqTree;
 use row_model::{Matrix, NoMemory, is_order};
 use std::alloc::Global;
@@ -43,7 +43,7 @@ pub fn sides_fault(
     Ok(None)
 }
 
-// The first test that a side fails. The derived matrix is made once, for the order and the tree.
+// The first test that a side fails. The derived matrix is made at most once, for the order and the tree.
 fn side_fault(
     alloc: Global,
     version: Version,
@@ -57,13 +57,8 @@ fn side_fault(
     requires sides { AreSides (instance_columns (instance_value instance.now)) (yes_value yes.now).sides }
     ensures { IfOk result (Finds (PassesYes (instance_value instance.now) (yes_value yes.now)) (side_tests version side (derived_matrix (instance_value instance.now) side))) }
 {
-    match instance {
-        Instance::Plain(_, matrix) => derived_fault(alloc, version, instance, side, matrix, yes),
-        _ => {
-            let derived = instance.derived(alloc, side)?;
-            derived_fault(alloc, version, instance, side, &derived, yes)
-        }
-    }
+    let derived = Derived::of(alloc, instance, side)?;
+    derived_fault(alloc, version, instance, side, derived.matrix(), yes)
 }
 
 // The first test that a side with this derived matrix fails: its order, then its tree by each row, and in

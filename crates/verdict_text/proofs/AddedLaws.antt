@@ -15,7 +15,7 @@ use Rattle.row_model.specs.declared.lists.Place.{Place}
 use Rattle.row_model.specs.declared.lists.Place.TheVariants.{Nowhere, At}
 use Rattle.row_model.specs.declared.lists.Span.{Span}
 use Rattle.row_model.specs.declared.kind.Kind.{Kind}
-use Rattle.row_model.specs.declared.kind.Kind.TheVariants.{Matrix, Rows, Table, Circular, Convex, Doubly, Proper, Robinson, Clones}
+use Rattle.row_model.specs.declared.kind.Kind.TheVariants.{Proper, Clones}
 use Rattle.verdict_text.specs.Verdict.{AddedValue, no_added}
 use Rattle.text_parts.specs.Text.{number_word}
 use Rattle.verdict_text.specs.Text.{ends_text, place_text, interval_line, contig_line, place_line, places_text, contigs_text, added_text}
@@ -234,27 +234,6 @@ placed_take columns bytes x rest h =
     })))
 
 pub added_takes : (kind : Kind) (c : ℕ) (bytes : List ℕ) (x : AddedValue) (rest : List ℕ) → added_at kind c bytes ≡ Some (x, rest) → AddedIs kind (c ∷ []) bytes x rest
-added_takes Matrix c bytes x rest h =
-    let p = some_pair_parts no_added x bytes rest h in
-    subst (λ w. AddedIs Matrix (c ∷ []) bytes w rest) p.0 (record { fits = (refl, refl, refl); front = p.1 })
-added_takes Rows c bytes x rest h =
-    let p = some_pair_parts no_added x bytes rest h in
-    subst (λ w. AddedIs Rows (c ∷ []) bytes w rest) p.0 (record { fits = (refl, refl, refl); front = p.1 })
-added_takes Table c bytes x rest h =
-    let p = some_pair_parts no_added x bytes rest h in
-    subst (λ w. AddedIs Table (c ∷ []) bytes w rest) p.0 (record { fits = (refl, refl, refl); front = p.1 })
-added_takes Circular c bytes x rest h =
-    let p = some_pair_parts no_added x bytes rest h in
-    subst (λ w. AddedIs Circular (c ∷ []) bytes w rest) p.0 (record { fits = (refl, refl, refl); front = p.1 })
-added_takes Convex c bytes x rest h =
-    let p = some_pair_parts no_added x bytes rest h in
-    subst (λ w. AddedIs Convex (c ∷ []) bytes w rest) p.0 (record { fits = (refl, refl, refl); front = p.1 })
-added_takes Doubly c bytes x rest h =
-    let p = some_pair_parts no_added x bytes rest h in
-    subst (λ w. AddedIs Doubly (c ∷ []) bytes w rest) p.0 (record { fits = (refl, refl, refl); front = p.1 })
-added_takes Robinson c bytes x rest h =
-    let p = some_pair_parts no_added x bytes rest h in
-    subst (λ w. AddedIs Robinson (c ∷ []) bytes w rest) p.0 (record { fits = (refl, refl, refl); front = p.1 })
 added_takes Proper c bytes x rest h =
     option_and_then_some _ (numbered_at interval_at 1 c bytes) (x, rest) h (λ y e k.
     let vs = numbered_take interval_at interval_line IsInterval interval_takes 1 c bytes y.0 y.1 e in
@@ -265,6 +244,9 @@ added_takes Proper c bytes x rest h =
       front = vs.front ∙ ap (λ w. numbered interval_line 1 y.0 ++ w) p.1;
     }))
 added_takes Clones c bytes x rest h = placed_take (c ∷ []) bytes x rest h
+added_takes kind c bytes x rest h =
+    let p = some_pair_parts no_added x bytes rest h in
+    subst (λ w. AddedIs kind (c ∷ []) bytes w rest) p.0 (record { fits = (refl, refl, refl); front = p.1 })
 
 placed_again : (ps : List Place) (ss : List Span) (rest : List ℕ) → Fits32 (length ps) → AllByRecursion IsPlace ps → Fits32 (length ss) → AllByRecursion HasFittingEnds ss
     → placed_at (codes "places " ++ (decimal (length ps) ++ (10 ∷ (numbered place_line 1 ps ++ (codes "contigs " ++ (decimal (length ss) ++ (10 ∷ (numbered (λ i. contig_line) 1 ss ++ rest)))))))) ≡ Some (record { intervals = []; places = ps; contigs = ss }, rest)
@@ -286,16 +268,10 @@ unfolding head_of
 same_head m n e = ap head_of e
 
 pub added_again : (kind : Kind) (c : ℕ) (x : AddedValue) (rest : List ℕ) → c ≤ COLUMN_BOUND → HasAdded kind (c ∷ []) x → added_at kind c (added_text kind x ++ rest) ≡ Some (x, rest)
-added_again Matrix c x rest l h = rw (h.0, h.1, h.2) refl
-added_again Rows c x rest l h = rw (h.0, h.1, h.2) refl
-added_again Table c x rest l h = rw (h.0, h.1, h.2) refl
-added_again Circular c x rest l h = rw (h.0, h.1, h.2) refl
-added_again Convex c x rest l h = rw (h.0, h.1, h.2) refl
-added_again Doubly c x rest l h = rw (h.0, h.1, h.2) refl
-added_again Robinson c x rest l h = rw (h.0, h.1, h.2) refl
 added_again Proper c x rest l h =
     let count : length x.intervals ≡ c = same_head (length x.intervals) c h.0 in
     let read : numbered_at interval_at 1 c (numbered interval_line 1 x.intervals ++ rest) ≡ Some (x.intervals, rest) =
     ap (λ n. numbered_at interval_at 1 n (numbered interval_line 1 x.intervals ++ rest)) (sym count) ∙ numbered_again interval_at interval_line IsInterval max_number interval_again 1 x.intervals rest (omega (arith, count, l)) h.1 in
     ap (option_and_then _) read ∙ rw (h.2, h.3) refl
 added_again Clones c x rest l h = ap placed_at (placed_regroup x.places x.contigs rest) ∙ placed_again x.places x.contigs rest h.1 h.2 h.3 h.4 ∙ ap (λ v. Some (with_intervals v x, rest)) (sym h.0)
+added_again kind c x rest l h = rw (h.0, h.1, h.2) refl

@@ -30,6 +30,7 @@ ghost use Rattle.verdict_text.specs.Grammar.{IsVerdict};
 ghost use Rattle.verdict_text.specs.Text.{verdict_text};
 ghost use Rattle.verdict_text.specs.Value.{verdict_value};
 
+mod lines;
 mod read;
 mod verdict;
 mod write;

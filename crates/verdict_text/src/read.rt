@@ -61,7 +61,7 @@ fn read_part(
 }
 
 // An end of an interval.
-fn read_end(bytes: &[u8]) -> Result<(u64, &[u8]), Stop>
+pub(crate) fn read_end(bytes: &[u8]) -> Result<(u64, &[u8]), Stop>
     ensures { Gives with_rest result (number_at max_end bytes.now) }
 {
     match number(bytes, u64::MAX) {
@@ -72,7 +72,7 @@ fn read_end(bytes: &[u8]) -> Result<(u64, &[u8]), Stop>
 
 // The bytes after a word and a given number.
 #[tactic(auto, unfolding(crate::specs::Reading::index_at))]
-fn after_index<'a>(bytes: &'a [u8], word: &[u8], i: u32) -> Result<&'a [u8], Stop>
+pub(crate) fn after_index<'a>(bytes: &'a [u8], word: &[u8], i: u32) -> Result<&'a [u8], Stop>
     ensures { Gives rest_of result (index_at word.now i bytes.now) }
 {
     let first = after(bytes, word)?;

@@ -2,18 +2,18 @@
 // The text of a verdict, line by line.
 ghost use Rattle.std.specs.Prelude.{◌≡◌, ◌++◌, flat_map, OnOk, OnErr};
 ghost use Rattle.plain_text.specs.Pieces.{Extends};
-ghost use Rattle.text_parts.specs.Numbered.{numbered};
 ghost use Rattle.pq_tree.specs.PqTree.{outline};
-ghost use Rattle.verdict_text.specs.Text.{version_line, kind_line, columns_line, head_text, side_text, interval_line, ends_text, place_text, place_line, contig_line, places_text, contigs_text, added_text, cycle_text, claim_text, verdict_text};
+ghost use Rattle.verdict_text.specs.Text.{version_line, kind_line, columns_line, head_text, side_text, contigs_text, added_text, cycle_text, claim_text, verdict_text};
 ghost use Rattle.text_parts.specs.Text.{number_word};
 ghost use Rattle.verdict_text.specs.Value.{column_counts, side_value, sides_value, yes_value, claim_of, verdict_value};
 
 use crate::NoMemory;
+use crate::lines::{ContigLine, IntervalLine, PlaceLine};
 use crate::verdict::{Columns, NoPart, Part, Side, Sides, Verdict, Version, YesPart};
 use plain_text::push_number;
 use pq_tree::PqTree;
-use row_model::{Interval, Kind, Place, Span};
-use text_parts::{print_cycle, push, push_word, push_words, word_of};
+use row_model::{Kind, Span};
+use text_parts::{print_counted, print_cycle, print_lines, push, push_words, word_of};
 
 /// Appends the text of a verdict.
 ///
@@ -148,9 +148,9 @@ fn push_added(kind: Kind, yes: &YesPart, text: &mut Vec<u8>) -> Result<(), NoMem
     ensures err { OnErr result (Extends text.old.items text.new.items) }
 {
     match kind {
-        Kind::Proper => push_intervals(yes.intervals(), text),
+        Kind::Proper => print_lines::<IntervalLine>(yes.intervals(), text),
         Kind::Clones => {
-            push_places(yes.places(), text)?;
+            print_counted::<PlaceLine>(b"places ", yes.places(), text)?;
             push_contigs(yes.contigs(), text)?;
             Ok(())
         }
@@ -164,110 +164,11 @@ fn push_added(kind: Kind, yes: &YesPart, text: &mut Vec<u8>) -> Result<(), NoMem
     }
 }
 
-fn push_intervals(intervals: &[Interval], text: &mut Vec<u8>) -> Result<(), NoMemory>
-    ensures ok { OnOk result (text.new.items ≡ text.old.items ++ numbered interval_line 1 intervals.now) }
-    ensures err { OnErr result (Extends text.old.items text.new.items) }
-{
-    for (i, interval) in intervals.iter().enumerate() {
-        push_interval(i as u64 + 1, interval, text)?;
-    }
-    Ok(())
-}
-
-fn push_interval(i: u64, interval: &Interval, text: &mut Vec<u8>) -> Result<(), NoMemory>
-    ensures ok { OnOk result (text.new.items ≡ text.old.items ++ interval_line i interval.now) }
-    ensures err { OnErr result (Extends text.old.items text.new.items) }
-{
-    push(text, b"interval ")?;
-    push_number(text, i)?;
-    push_word(interval.left, text)?;
-    push_word(interval.right, text)?;
-    push(text, b"\n")?;
-    Ok(())
-}
-
-fn push_places(places: &[Place], text: &mut Vec<u8>) -> Result<(), NoMemory>
-    ensures ok { OnOk result (text.new.items ≡ text.old.items ++ places_text places.now) }
-    ensures err { OnErr result (Extends text.old.items text.new.items) }
-{
-    push(text, b"places ")?;
-    push_number(text, places.len() as u64)?;
-    push(text, b"\n")?;
-    push_place_lines(places, text)?;
-    Ok(())
-}
-
-fn push_place_lines(places: &[Place], text: &mut Vec<u8>) -> Result<(), NoMemory>
-    ensures ok { OnOk result (text.new.items ≡ text.old.items ++ numbered place_line 1 places.now) }
-    ensures err { OnErr result (Extends text.old.items text.new.items) }
-{
-    for (i, place) in places.iter().enumerate() {
-        push_place(i as u64 + 1, *place, text)?;
-    }
-    Ok(())
-}
-
-fn push_place(i: u64, place: Place, text: &mut Vec<u8>) -> Result<(), NoMemory>
-    ensures ok { OnOk result (text.new.items ≡ text.old.items ++ place_line i place) }
-    ensures err { OnErr result (Extends text.old.items text.new.items) }
-{
-    push(text, b"place ")?;
-    push_number(text, i)?;
-    push_place_ends(place, text)?;
-    Ok(())
-}
-
-fn push_place_ends(place: Place, text: &mut Vec<u8>) -> Result<(), NoMemory>
-    ensures ok { OnOk result (text.new.items ≡ text.old.items ++ place_text place) }
-    ensures err { OnErr result (Extends text.old.items text.new.items) }
-{
-    match place {
-        Place::Nowhere => {
-            push(text, b" none\n")?;
-            Ok(())
-        }
-        Place::At { first, last } => push_ends(first, last, text),
-    }
-}
-
-fn push_ends(first: u32, last: u32, text: &mut Vec<u8>) -> Result<(), NoMemory>
-    ensures ok { OnOk result (text.new.items ≡ text.old.items ++ ends_text first last) }
-    ensures err { OnErr result (Extends text.old.items text.new.items) }
-{
-    push_word(u64::from(first), text)?;
-    push_word(u64::from(last), text)?;
-    push(text, b"\n")?;
-    Ok(())
-}
-
 fn push_contigs(contigs: &[Span], text: &mut Vec<u8>) -> Result<(), NoMemory>
     ensures ok { OnOk result (text.new.items ≡ text.old.items ++ contigs_text contigs.now) }
     ensures err { OnErr result (Extends text.old.items text.new.items) }
 {
-    push(text, b"contigs ")?;
-    push_number(text, contigs.len() as u64)?;
-    push(text, b"\n")?;
-    push_contig_lines(contigs, text)?;
-    Ok(())
-}
-
-fn push_contig_lines(contigs: &[Span], text: &mut Vec<u8>) -> Result<(), NoMemory>
-    ensures ok { OnOk result (text.new.items ≡ text.old.items ++ flat_map contig_line contigs.now) }
-    ensures err { OnErr result (Extends text.old.items text.new.items) }
-{
-    for contig in contigs {
-        push_contig(contig, text)?;
-    }
-    Ok(())
-}
-
-fn push_contig(contig: &Span, text: &mut Vec<u8>) -> Result<(), NoMemory>
-    ensures ok { OnOk result (text.new.items ≡ text.old.items ++ contig_line contig.now) }
-    ensures err { OnErr result (Extends text.old.items text.new.items) }
-{
-    push(text, b"contig")?;
-    push_ends(contig.first, contig.last, text)?;
-    Ok(())
+    print_counted::<ContigLine>(b"contigs ", contigs, text)
 }
 
 // A side without an order, and its cycle.

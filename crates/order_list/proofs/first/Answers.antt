@@ -15,18 +15,16 @@ read_on-requires-clause-ready c =
     c.new-found.ensures ∙ ap (λ n. record { columns = n; orders = []; more = false }) c.columns.ensures in
     root_ready (column_count tree) (outline tree) c.root.result _ _ tree.proper c.root.ensures refl refl c.in_ok-columns.columns.items c.args.count c.new-found.result c.in_ok-columns.ensures.items start
 
-pub returns-clause-first : goal.returns-clause-first
-returns-clause-first c =
+pub returns : goal.returns
+returns c =
     let tree = c.args.tree.now in
     let start : c.new-found.result ≡ record { columns = column_count tree; orders = []; more = false } =
     c.new-found.ensures ∙ ap (λ n. record { columns = n; orders = []; more = false }) c.columns.ensures in
-    whole_first (column_count tree) (outline tree) c.root.result _ _ tree.proper c.root.ensures refl refl c.in_ok-columns.columns.items c.args.count c.new-found.result c.in_ok-columns.ensures.items start
-    c.read_on.new.found c.in_ok-read_on.ensures.found
-
-pub returns-clause-more : goal.returns-clause-more
-returns-clause-more c =
-    let tree = c.args.tree.now in
-    let start : c.new-found.result ≡ record { columns = column_count tree; orders = []; more = false } =
-    c.new-found.ensures ∙ ap (λ n. record { columns = n; orders = []; more = false }) c.columns.ensures in
-    whole_more (column_count tree) (outline tree) c.root.result _ _ tree.proper c.root.ensures refl refl c.in_ok-columns.columns.items c.args.count c.new-found.result c.in_ok-columns.ensures.items start
-    c.read_on.new.found c.in_ok-read_on.ensures.found
+    record {
+      first =
+          whole_first (column_count tree) (outline tree) c.root.result _ _ tree.proper c.root.ensures refl refl c.in_ok-columns.columns.items c.args.count c.new-found.result c.in_ok-columns.ensures.items start
+          c.read_on.new.found c.in_ok-read_on.ensures.found;
+      more =
+          whole_more (column_count tree) (outline tree) c.root.result _ _ tree.proper c.root.ensures refl refl c.in_ok-columns.columns.items c.args.count c.new-found.result c.in_ok-columns.ensures.items start
+          c.read_on.new.found c.in_ok-read_on.ensures.found;
+    }

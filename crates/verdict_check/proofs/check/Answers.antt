@@ -4,23 +4,23 @@ use Rattle.instance_model.specs.Value.{instance_value}
 use Rattle.verdict_check.specs.Found.{Finds}
 use Rattle.verdict_check.specs.Accepted.{Passes}
 use Rattle.verdict_check.specs.Tests.{tests}
-use Rattle.verdict_check.proofs.First.{said_valid, said_invalid}
+use Rattle.verdict_check.proofs.First.{said_valid, said_invalid, verdict_words}
 use Rattle.verdict_check.proofs.check.Goals as goal
 
 pub returns-in-None-clause-invalid : goal.returns-in-None-clause-invalid
 returns-in-None-clause-invalid c =
     let i = instance_value c.args.instance.now in
     let v = verdict_value c.args.v.now in
-    said_invalid (Passes i v) (tests i v) None (subst (Finds (Passes i v) (tests i v)) c.in-None.is c.in_ok-first_failing.ensures)
+    said_invalid verdict_words (Passes i v) (tests i v) None (subst (Finds (Passes i v) (tests i v)) c.in-None.is c.in_ok-first_failing.ensures)
 
 pub returns-in-Some-clause-valid : goal.returns-in-Some-clause-valid
 returns-in-Some-clause-valid c =
     let i = instance_value c.args.instance.now in
     let v = verdict_value c.args.v.now in
-    said_valid (Passes i v) (tests i v) (Some c.in-Some.reason) (subst (Finds (Passes i v) (tests i v)) c.in-Some.is c.in_ok-first_failing.ensures)
+    said_valid verdict_words (Passes i v) (tests i v) (Some c.in-Some.reason) (subst (Finds (Passes i v) (tests i v)) c.in-Some.is c.in_ok-first_failing.ensures)
 
 pub returns-in-Some-clause-invalid : goal.returns-in-Some-clause-invalid
 returns-in-Some-clause-invalid c =
     let i = instance_value c.args.instance.now in
     let v = verdict_value c.args.v.now in
-    said_invalid (Passes i v) (tests i v) (Some c.in-Some.reason) (subst (Finds (Passes i v) (tests i v)) c.in-Some.is c.in_ok-first_failing.ensures)
+    said_invalid verdict_words (Passes i v) (tests i v) (Some c.in-Some.reason) (subst (Finds (Passes i v) (tests i v)) c.in-Some.is c.in_ok-first_failing.ensures)

@@ -1,48 +1,34 @@
-use Rattle.std.proofs.Common.{◌≡◌, ◌∙◌, ◌+◌, ap, sym, arith, drop}
+use Rattle.std.proofs.Common.{◌≡◌, ◌∙◌, Ok, Err, ap, sym, arith}
 use Rattle.row_model.specs.declared.refusal.Read.TheVariants as read
-use Rattle.text_lines.specs.Lines.{lines_of, filled_lines}
 use Rattle.graph_read.specs.Edges.{right_of, lists_of_lines}
-use Rattle.graph_read.specs.GraphFiles.{graph_with, graph_behind, graph_lines}
+use Rattle.graph_read.specs.GraphFiles.{graph_with, graph_lines, graph}
+use Rattle.graph_read.proofs.HeadLemmas.{graph_reads, headless, rest_of, graph_at}
 use Rattle.graph_read.proofs.ListLemmas.{are_lists}
-use Rattle.graph_read.proofs.FileLemmas.{graph_long, graph_text, graph_read, is_graph}
+use Rattle.graph_read.proofs.FileLemmas.{graph_read, is_graph}
 use Rattle.graph_read.proofs.graph_files.read_graph.Goals as goal
 
-pub returns-then-bytes-gt-MAX_FILE_BYTES : goal.returns-then-bytes-gt-MAX_FILE_BYTES
-returns-then-bytes-gt-MAX_FILE_BYTES c = ap (λ r. read.Refused r) c.refusal.ensures ∙ sym (graph_long c.args.bytes.now c.if-bytes-gt-MAX_FILE_BYTES.true)
-
-pub returns-in_default : goal.returns-in_default
-returns-in_default c =
-    let whole = graph_text c.args.bytes.now c.without_mark-text.result.now c.if-bytes-gt-MAX_FILE_BYTES.false c.without_mark-text.ensures.text in
-    ap (λ r. read.Refused r) c.refusal-in_default.ensures ∙ sym (whole ∙ ap graph_lines c.in_default.ensures.none)
-
 pub returns-in-Err : goal.returns-in-Err
-returns-in-Err c =
-    let first = c.in-Some.first in
-    let rest = filled_lines (first.number + 1) (lines_of (drop first.span.next c.without_mark-text.result.now)) in
-    let whole = graph_text c.args.bytes.now c.without_mark-text.result.now c.if-bytes-gt-MAX_FILE_BYTES.false c.without_mark-text.ensures.text in
-    ap (λ r. read.Refused r) c.refusal-in-Err.ensures ∙ sym (whole ∙ ap graph_lines c.in-Some.ensures.line ∙ ap (λ vertices. graph_behind first.number vertices rest) (sym c.in-Err.ensures.vertices))
+returns-in-Err c = headless graph graph_lines graph_reads c.args.bytes.now c.in-Err.refusal c.in-Err.ensures.refused
+
+pub returns-in-Err-vertices_in : goal.returns-in-Err-vertices_in
+returns-in-Err-vertices_in c = ap (λ r. read.Refused r) c.refusal.ensures ∙ sym (graph_at _ _ _ _ _ (Err c.in-Err-vertices_in.code) c.in-Ok.ensures.head c.in-Err-vertices_in.ensures.vertices)
 
 pub returns-in-Refused : goal.returns-in-Refused
 returns-in-Refused c =
-    let first = c.in-Some.first in
-    let rest = filled_lines (first.number + 1) (lines_of (drop first.span.next c.without_mark-text.result.now)) in
-    let whole = graph_text c.args.bytes.now c.without_mark-text.result.now c.if-bytes-gt-MAX_FILE_BYTES.false c.without_mark-text.ensures.text in
-    let refused : read.Refused c.in-Refused.refusal ≡ lists_of_lines c.in-Ok.shape rest = sym c.in-Refused.is ∙ c.in_ok-refusal-in-Ok.ensures in
-    sym (whole ∙ ap graph_lines c.in-Some.ensures.line ∙ ap (λ vertices. graph_behind first.number vertices rest) (sym c.in-Ok.ensures.vertices) ∙ ap (graph_with c.in-Ok.shape) (sym refused))
+    let shape = c.in-Ok-vertices_in.shape in
+    let lists : read.Refused c.in-Refused.refusal ≡ lists_of_lines shape (rest_of c.in-Ok.head.text.now c.in-Ok.head.number c.in-Ok.head.next) = sym c.in-Refused.is ∙ c.in_ok-refusal-in-Ok-vertices_in.ensures in
+    sym (graph_at _ _ _ _ _ (Ok shape) c.in-Ok.ensures.head c.in-Ok-vertices_in.ensures.vertices ∙ ap (graph_with shape) (sym lists))
 
 pub of_lists-requires : goal.of_lists-requires
 of_lists-requires c =
-    let first = c.in-Some.first in
-    let rest = filled_lines (first.number + 1) (lines_of (drop first.span.next c.without_mark-text.result.now)) in
-    let made : read.Ok c.in-Ok-2.lists ≡ lists_of_lines c.in-Ok.shape rest = sym c.in-Ok-2.is ∙ c.in_ok-refusal-in-Ok.ensures in
-    is_graph c.in-Ok.shape _ rest c.in-Ok-2.lists c.in-Ok.ensures.square c.in-Ok.ensures.range.0 (omega (arith, c.in-Ok.ensures.range.1)) made
+    let shape = c.in-Ok-vertices_in.shape in
+    let lists : read.Ok c.in-Ok-2.lists ≡ lists_of_lines shape (rest_of c.in-Ok.head.text.now c.in-Ok.head.number c.in-Ok.head.next) = sym c.in-Ok-2.is ∙ c.in_ok-refusal-in-Ok-vertices_in.ensures in
+    is_graph shape _ _ c.in-Ok-2.lists c.in-Ok-vertices_in.ensures.square c.in-Ok-vertices_in.ensures.range.0 (omega (arith, c.in-Ok-vertices_in.ensures.range.1)) lists
 
 pub returns-in-Ok-2 : goal.returns-in-Ok-2
 returns-in-Ok-2 c =
-    let first = c.in-Some.first in
-    let rest = filled_lines (first.number + 1) (lines_of (drop first.span.next c.without_mark-text.result.now)) in
-    let whole = graph_text c.args.bytes.now c.without_mark-text.result.now c.if-bytes-gt-MAX_FILE_BYTES.false c.without_mark-text.ensures.text in
-    let made : read.Ok c.in-Ok-2.lists ≡ lists_of_lines c.in-Ok.shape rest = sym c.in-Ok-2.is ∙ c.in_ok-refusal-in-Ok.ensures in
+    let shape = c.in-Ok-vertices_in.shape in
+    let lists : read.Ok c.in-Ok-2.lists ≡ lists_of_lines shape (rest_of c.in-Ok.head.text.now c.in-Ok.head.number c.in-Ok.head.next) = sym c.in-Ok-2.is ∙ c.in_ok-refusal-in-Ok-vertices_in.ensures in
     ap (λ g. read.Ok g) c.of_lists.ensures
-    ∙ graph_read c.in-Ok.shape c.in-Ok-2.lists (are_lists c.in-Ok.shape rest c.in-Ok-2.lists made) (ap right_of c.in-Ok.ensures.square)
-    ∙ sym (whole ∙ ap graph_lines c.in-Some.ensures.line ∙ ap (λ vertices. graph_behind first.number vertices rest) (sym c.in-Ok.ensures.vertices) ∙ ap (graph_with c.in-Ok.shape) (sym made))
+    ∙ graph_read shape c.in-Ok-2.lists (are_lists shape _ c.in-Ok-2.lists lists) (ap right_of c.in-Ok-vertices_in.ensures.square)
+    ∙ sym (graph_at _ _ _ _ _ (Ok shape) c.in-Ok.ensures.head c.in-Ok-vertices_in.ensures.vertices ∙ ap (graph_with shape) (sym lists))

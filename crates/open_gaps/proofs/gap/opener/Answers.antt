@@ -1,4 +1,4 @@
-use Rattle.std.proofs.Common.{◌<◌, length, arith}
+use Rattle.std.proofs.Common.{arith}
 use Rattle.open_gaps.proofs.gap.opener.Goals as goal
 
 pub returns-then-gap-p : goal.returns-then-gap-p

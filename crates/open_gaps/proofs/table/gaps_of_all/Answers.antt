@@ -1,56 +1,39 @@
-use Rattle.std.proofs.Common.{◌≡◌, ◌∙◌, ◌<◌, ◌≤◌, List, length, replicate, slice_index_or, refl, ap, sym, subst, arith}
-use Rattle.std.proofs.lemmas.List.{get_or-replicate, length-replicate, take_all}
-use Rattle.column_order.specs.Orders.{IsOrder}
+use Rattle.std.proofs.Common.{◌∙◌, ◌<◌, length, sym, subst, arith}
+use Rattle.std.proofs.lemmas.List.{take_all}
 use Rattle.column_order.proofs.Counts.{order_length}
-use Rattle.row_model.proofs.Ascending.{row_within}
-use Rattle.open_gaps.specs.declared.gap.Gap.{Gap}
 use Rattle.open_gaps.specs.Gaps.{AreGaps}
-use Rattle.open_gaps.proofs.RowSteps.{gaps_start, gaps_next, span_within, in_order, valid_all}
+use Rattle.open_gaps.proofs.RowSteps.{fresh_gaps, gaps_next, span_within, order_here, row_here, valid_all}
 use Rattle.open_gaps.proofs.table.gaps_of_all.Goals as goal
 
 pub loop-k-init : goal.loop-k-init
 loop-k-init c =
-    let fresh : Gap = record { last = c.columns.result; last_row = 0; first = 0; first_row = 0 } in
-    let items : c.in_ok-gaps.gaps.items ≡ replicate c.columns-2.result fresh = c.in_ok-gaps.ensures.items_if_clones_equal (λ y e. e) ∙ ap (replicate c.columns-2.result) c.uncovered.ensures in
+    let begun = fresh_gaps c.columns.result c.columns-2.result c.args.m.now.columns c.uncovered.result c.in_ok-gaps.gaps.items (c.in_ok-gaps.ensures.items_if_clones_equal (λ y e. e)) c.uncovered.ensures
+    c.columns.ensures.columns c.columns-2.ensures.columns in
     record {
-      len = omega (arith, ap (λ (l : List Gap). length l) items, length-replicate c.columns-2.result fresh, c.columns-2.ensures.columns);
-      gaps = λ o valid are. gaps_start o c.in_ok-gaps.gaps.items (λ q d l.
-          let n : length o ≡ c.args.m.now.columns = order_length c.args.m.now.columns o valid.order in
-          let is : slice_index_or c.in_ok-gaps.gaps.items q d ≡ fresh = ap (λ (v : List Gap). slice_index_or v q d) items ∙ get_or-replicate c.columns-2.result q fresh d (omega (arith, l, n, c.columns-2.ensures.columns)) in
-          let whole : length o ≤ c.columns.result = omega (arith, n, c.columns.ensures.columns) in
-          subst (λ (x : Gap). (length o ≤ x.last) × (x.first ≡ 0)) (sym is) (whole, refl));
+      len = begun.0;
+      gaps = λ o valid are. begun.1 o valid.order;
     }
 
-pub span_of-requires : goal.span_of-requires
-span_of-requires c =
-    λ a h.
-    let r = row_within c.args.m.now.columns c.row.result.now c.row.ensures.ascending a h in
-    (r.0, omega (arith, r.1, c.requires.2.columns, order_length c.args.m.now.columns c.requires.0 c.requires.1.order))
+pub span_in_order-requires : goal.span_in_order-requires
+span_in_order-requires c =
+    row_here c.args.m.now.columns c.requires.0 c.args.positions.now c.requires.1.order c.requires.2 c.row.result.now c.row.ensures.ascending
 
 pub take_row-requires : goal.take_row-requires
 take_row-requires c =
-    let o = c.requires.0 in
-    let n : length o ≡ c.args.m.now.columns = order_length c.args.m.now.columns o c.requires.1.order in
-    let m : c.args.m.now.columns ≡ length c.args.positions.now = sym (c.requires.2.columns ∙ n) in
     record {
-      within = span_within (length c.loop-k.gaps.items) o c.row.result.now c.span_of.result (n ∙ sym c.loop-k.invariant.len)
-          (in_order (length c.args.positions.now) o c.args.positions.now c.row.result.now c.span_of.result (subst (λ k. IsOrder k o) m c.requires.1.order) c.requires.2
-          c.span_of.ensures.least c.span_of.ensures.spans);
+      within = span_within (length c.loop-k.gaps.items) c.requires.0 c.row.result.now c.span_in_order.result (order_length c.args.m.now.columns c.requires.0 c.requires.1.order ∙ sym c.loop-k.invariant.len)
+          (c.span_in_order.ensures c.requires.0 (order_here c.args.m.now.columns c.requires.0 c.args.positions.now c.requires.1.order c.requires.2) c.requires.2);
     }
 
 pub loop-k-preserved : goal.loop-k-preserved
 loop-k-preserved c =
     let rows = c.args.m.now.rows in
-    let k = c.loop-k.k in
-    let row = c.row.result.now in
+    let l : c.loop-k.k < length rows = omega (arith, c.loop-k-test.true, c.rows-k-end.ensures) in
     record {
       len = c.take_row.ensures.len ∙ c.loop-k.invariant.len;
       gaps = λ o valid are.
-          let n : length o ≡ c.args.m.now.columns = order_length c.args.m.now.columns o valid.order in
-          let m : c.args.m.now.columns ≡ length c.args.positions.now = sym (are.columns ∙ n) in
-          let l : k < length rows = omega (arith, c.loop-k-test.true, c.rows-k-end.ensures) in
-          gaps_next rows (length rows) k c.args.m.now.columns o row (valid_all c.args.m.now.columns rows o valid) l (omega arith) c.row.ensures.row c.span_of.result c.loop-k.gaps.items c.take_row.new.gaps.items
-          (in_order (length c.args.positions.now) o c.args.positions.now row c.span_of.result (subst (λ i. IsOrder i o) m valid.order) are c.span_of.ensures.least c.span_of.ensures.spans)
+          gaps_next rows (length rows) c.loop-k.k c.args.m.now.columns o c.row.result.now (valid_all c.args.m.now.columns rows o valid) l (omega arith) c.row.ensures.row c.span_in_order.result c.loop-k.gaps.items
+          c.take_row.new.gaps.items (c.span_in_order.ensures o (order_here c.args.m.now.columns o c.args.positions.now valid.order are) are)
           c.take_row.ensures.none c.take_row.ensures.inside c.take_row.ensures.outside (c.loop-k.invariant.gaps o valid are);
     }
 

@@ -1,4 +1,4 @@
-use Rattle.std.proofs.Common.{◌≡◌, ◌∙◌, ◌+◌, ◌-◌, ◌*◌, ◌≤◌, [], length, IsTrue, sym, subst, arith, inl, inr}
+use Rattle.std.proofs.Common.{◌≡◌, ◌∙◌, ◌+◌, ◌-◌, ◌*◌, ◌≤◌, [], length, IsTrue, sym, subst, arith, rules, inl, inr}
 use Rattle.std.proofs.Math.Nat.{mul-le-mul_left}
 use Rattle.std.proofs.lemmas.Bool.{both_ways, cases_eq, eq-eqb}
 use Rattle.std.proofs.lemmas.Option.{get_or_from_slice_get}
@@ -33,33 +33,23 @@ loop-d-preserved g c =
           record { along = subst (λ x. IsUnitingAlong columns k row c.args.parents.now x d) (sym w.parents-is) next; counted = omega (arith, w.steps-is, c.has_counted.ensures.ticks, c.loop-d.invariant.counted) }
     ]
 
-pub returns-clause-labels : goal.returns-clause-labels
-returns-clause-labels g c =
-    let row = c.row-row.result.now in
-    let k = c.args.k in
-    let is : row_at c.args.m.now.rows k ≡ row = get_or_from_slice_get c.args.m.now.rows (k - 1) row [] c.row-row.ensures.row in
-    let end : c.loop-d.d ≡ c.args.m.now.columns = omega (arith, c.columns-d-end.ensures.columns, c.loop-d-test.false, c.loop-d.auto.d-end) in
-    let all : IsUnitingAlong c.args.m.now.columns k row c.args.parents.now c.loop-d.parents c.args.m.now.columns = subst (IsUnitingAlong c.args.m.now.columns k row c.args.parents.now c.loop-d.parents) end c.loop-d.invariant.along in
-    λ label u. (let r = all.labels label u in (r.0, subst (AgreesAlong c.args.m.now.columns label) (sym is) r.1))
-
-pub returns-clause-even : goal.returns-clause-even
-returns-clause-even g c =
-    let row = c.row-row.result.now in
-    let k = c.args.k in
-    let is : row_at c.args.m.now.rows k ≡ row = get_or_from_slice_get c.args.m.now.rows (k - 1) row [] c.row-row.ensures.row in
-    λ rows l e s. c.loop-d.invariant.along.even rows l (e ∙ is) s
-
-pub returns-clause-ticks : goal.returns-clause-ticks
-returns-clause-ticks g c =
+pub returns : goal.returns
+returns g c =
     let row = c.row-row.result.now in
     let k = c.args.k in
     let is : row_at c.args.m.now.rows k ≡ row = get_or_from_slice_get c.args.m.now.rows (k - 1) row [] c.row-row.ensures.row in
     let columns = c.args.m.now.columns in
     let end : c.loop-d.d ≡ columns = omega (arith, c.columns-d-end.ensures.columns, c.loop-d-test.false, c.loop-d.auto.d-end) in
+    let all : IsUnitingAlong columns k row c.args.parents.now c.loop-d.parents columns = subst (IsUnitingAlong columns k row c.args.parents.now c.loop-d.parents) end c.loop-d.invariant.along in
     let count : c.loop-d.steps ≤ c.args.steps.now + columns * (2 + length row) = subst (λ n. c.loop-d.steps ≤ c.args.steps.now + n * (2 + length row)) end c.loop-d.invariant.counted in
     let some : 1 ≤ length row = elim (cases_eq (length row) 0) [
       | inl e ↦ absurd (both_ways c.is_empty.result c.if-is_empty.false (c.is_empty.ensures ∙ eq-eqb (length row) 0 e))
       | inr n ↦ omega (arith, n)
     ] in
     let long : columns * 1 ≤ columns * length row = mul-le-mul_left columns some in
-    subst (λ r. c.loop-d.steps ≤ c.args.steps.now + 3 * (columns * length r)) (sym is) (omega (arith, count, long))
+    record {
+      parents = search rules;
+      labels = λ label u. (let r = all.labels label u in (r.0, subst (AgreesAlong columns label) (sym is) r.1));
+      even = λ rows l e s. c.loop-d.invariant.along.even rows l (e ∙ is) s;
+      ticks = subst (λ r. c.loop-d.steps ≤ c.args.steps.now + 3 * (columns * length r)) (sym is) (omega (arith, count, long));
+    }

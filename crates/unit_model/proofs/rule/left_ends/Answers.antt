@@ -5,7 +5,7 @@ use Rattle.unit_model.specs.Models.{at_vertex}
 use Rattle.unit_model.proofs.LinkLemmas.{vertex_read}
 use Rattle.unit_model.proofs.WalkLemmas.{vertex, place_is, cut_there}
 use Rattle.unit_model.proofs.DrawnLemmas.{none_small, linked_here, drawn_begin, drawn_put}
-use Rattle.unit_model.proofs.FinishLemmas.{next_base, drawn_done, none_done, cut_none, base_none, done_all, all_ends, all_near, all_low}
+use Rattle.unit_model.proofs.FinishLemmas.{next_base, drawn_done, none_done, cut_none, base_none, all_drawn}
 use Rattle.unit_model.proofs.rule.left_ends.Goals.{in-Some, in-None}
 use Rattle.unit_model.proofs.rule.left_ends.Goals as goal
 
@@ -130,36 +130,15 @@ number-requires-2-clause-low c = λ v.
 
 pub returns-clause-ends : goal.returns-clause-ends
 returns-clause-ends c =
-    let g = c.args.g.now in
-    let o = c.args.order.now in
-    let h = c.vertices.ensures.graph in
-    let d = c.loop-i.invariant in
-    let all : length o ≡ c.loop-i.i = omega (arith, c.loop-i-test.false, d.inside) in
-    let linked = rw (← all) at (linked_here g o c.loop-i.drawing.levels.items c.loop-i.drawing.before.items c.loop-i.drawing.lefts.items c.loop-i.start c.loop-i.i d) in
-    let numbered = c.number-2.ensures.lefts d.list linked in
-    let all_done = done_all g o h c.requires c.loop-i.drawing.levels.items c.loop-i.drawing.before.items c.loop-i.drawing.lefts.items c.loop-i.start c.loop-i.i d all c.number-2.new.self.lefts.items numbered in
-    all_ends g o h c.requires c.number-2.new.self.lefts.items all_done.0 all_done.1
+    (all_drawn c.args.g.now c.args.order.now c.vertices.ensures.graph c.requires c.loop-i.drawing.levels.items c.loop-i.drawing.before.items c.loop-i.drawing.lefts.items c.loop-i.start c.loop-i.i
+    c.loop-i.invariant c.loop-i-test.false c.number-2.new.self.lefts.items c.number-2.ensures.lefts).ends
 
 pub returns-clause-model : goal.returns-clause-model
 returns-clause-model c =
-    let g = c.args.g.now in
-    let o = c.args.order.now in
-    let h = c.vertices.ensures.graph in
-    let d = c.loop-i.invariant in
-    let all : length o ≡ c.loop-i.i = omega (arith, c.loop-i-test.false, d.inside) in
-    let linked = rw (← all) at (linked_here g o c.loop-i.drawing.levels.items c.loop-i.drawing.before.items c.loop-i.drawing.lefts.items c.loop-i.start c.loop-i.i d) in
-    let numbered = c.number-2.ensures.lefts d.list linked in
-    let all_done = done_all g o h c.requires c.loop-i.drawing.levels.items c.loop-i.drawing.before.items c.loop-i.drawing.lefts.items c.loop-i.start c.loop-i.i d all c.number-2.new.self.lefts.items numbered in
-    all_near g o h c.requires c.number-2.new.self.lefts.items all_done.0 all_done.1
+    (all_drawn c.args.g.now c.args.order.now c.vertices.ensures.graph c.requires c.loop-i.drawing.levels.items c.loop-i.drawing.before.items c.loop-i.drawing.lefts.items c.loop-i.start c.loop-i.i
+    c.loop-i.invariant c.loop-i-test.false c.number-2.new.self.lefts.items c.number-2.ensures.lefts).near
 
 pub returns-clause-low : goal.returns-clause-low
 returns-clause-low c =
-    let g = c.args.g.now in
-    let o = c.args.order.now in
-    let h = c.vertices.ensures.graph in
-    let d = c.loop-i.invariant in
-    let all : length o ≡ c.loop-i.i = omega (arith, c.loop-i-test.false, d.inside) in
-    let linked = rw (← all) at (linked_here g o c.loop-i.drawing.levels.items c.loop-i.drawing.before.items c.loop-i.drawing.lefts.items c.loop-i.start c.loop-i.i d) in
-    let numbered = c.number-2.ensures.lefts d.list linked in
-    let all_done = done_all g o h c.requires c.loop-i.drawing.levels.items c.loop-i.drawing.before.items c.loop-i.drawing.lefts.items c.loop-i.start c.loop-i.i d all c.number-2.new.self.lefts.items numbered in
-    all_low g o h c.requires c.number-2.new.self.lefts.items all_done.0 all_done.1
+    (all_drawn c.args.g.now c.args.order.now c.vertices.ensures.graph c.requires c.loop-i.drawing.levels.items c.loop-i.drawing.before.items c.loop-i.drawing.lefts.items c.loop-i.start c.loop-i.i
+    c.loop-i.invariant c.loop-i-test.false c.number-2.new.self.lefts.items c.number-2.ensures.lefts).low

@@ -12,7 +12,8 @@ use Rattle.verdict_check.specs.Complete.{IsComplete, RunsFrom}
 use Rattle.verdict_check.proofs.GapPush.{long}
 use Rattle.verdict_check.proofs.Places.{stands_long}
 use Rattle.verdict_check.proofs.Alike.{evenly_sorts}
-use Rattle.verdict_check.proofs.Children.{columns_of, outline_p, outline_q, child_long, child_arities, child_stands, next_at, next_within}
+use Rattle.verdict_check.proofs.HoldsSteps.{outline_p, outline_q}
+use Rattle.verdict_check.proofs.Children.{columns_of, child_long, child_arities, child_stands, next_at, next_within}
 use Rattle.verdict_check.proofs.CompleteNodes.{leaf_complete, p_complete, q_complete}
 use Rattle.verdict_check.proofs.Together.{together_more, rest_more, apart_fails, child_fails, together_all}
 use Rattle.verdict_check.proofs.every_order.+complete.Goals as goal

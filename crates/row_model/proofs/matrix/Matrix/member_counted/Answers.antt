@@ -1,4 +1,4 @@
-use Rattle.std.proofs.Common.{◌≡◌, ◌-◌, ◌<◌, [], length, slice_get, slice_index_or, Some, arith, sym, ap}
+use Rattle.std.proofs.Common.{◌-◌, ◌<◌, [], length, slice_index_or, arith, ap}
 use Rattle.std.proofs.lemmas.Option.{get_or_from_slice_get}
 use Rattle.column_order.proofs.Lists.{has_at}
 use Rattle.row_model.proofs.Ascending.{row_within}

@@ -1,8 +1,0 @@
-use Rattle.std.proofs.Common.{◌≡◌, ◌-◌, ◌+◌}
-use Rattle.text_parts.specs.Numbered.{numbered_at}
-use Rattle.verdict_text.specs.Reading.{interval_at}
-use Rattle.text_parts.proofs.LoopLaws.{before_items}
-use Rattle.verdict_text.proofs.read.yes.read_intervals.Given as goal
-
-abbrev pub invariant-lines : goal.invariant-lines
-invariant-lines l = before_items l.intervals (numbered_at interval_at (l.i + 1) (l.count - l.i) l.rest) ≡ numbered_at interval_at 1 l.count l.bytes
