@@ -35,6 +35,13 @@ pub and_then_none : {X Y : Type 0} (f : X → Option Y) (o : Option X) → optio
 and_then_none f None e = inl refl
 and_then_none f (Some x) e = inr (x, refl, e)
 
+pub after_none : {X Y : Type 0} (f : X → Y) (o : Option X) → option_and_then (λ x. Some (f x)) o ≡ None → o ≡ None
+after_none f None e = refl
+after_none f (Some x) e = absurd (some_none (f x) e)
+  where
+    some_none : {Y : Type 0} (y : Y) → Some y ≡ None → ⊥
+    some_none y e = cc
+
 pub first_none : {X : Type 0} (o k : Option X) → first_some o k ≡ None → (o ≡ None) × (k ≡ None)
 first_none (Some x) k e = cc
 first_none None k e = (refl, e)
@@ -90,13 +97,7 @@ some_empty_column row ts ps (more_labelled {t = t} {ts = us} (labelled_partial h
 run_falls : (row : List ℕ) (ts : Forest) (ps : List Label) → AreLabelled row ts ps → HaveArities ts → run_of ts ps ≡ None → Falls row ts
 run_falls row ts ps none_labelled c e = cc
 run_falls row ts ps (more_labelled {t = t} {ts = us} {ps = qs} (labelled_empty k) m) c e =
-    elim (and_then_none (λ r. Some (one_more t r)) (run_of us qs) e) [
-      | inl n ↦ let w : Falls row us = run_falls row us qs m c.1 n in record { v = w.v; forward = inr w.forward; from_full = w.from_full; to_empty = w.to_empty }
-      | inr n ↦ none_some (one_more t n.0) n.2
-    ]
-  where
-    none_some : (r : Run) → Some r ≡ None → Falls row (tree_and t us)
-    none_some r e = cc
+    let w : Falls row us = run_falls row us qs m c.1 (after_none (one_more t) (run_of us qs) e) in record { v = w.v; forward = inr w.forward; from_full = w.from_full; to_empty = w.to_empty }
 run_falls row ts ps (more_labelled {t = t} {ts = us} {ps = qs} (labelled_full k) m) c e =
     let w : (d : ℕ) × IsTrue (has (leaves_of us) d) × IsFalse (has row d) = some_empty_column row us qs m c.1 (cond_none (all_full qs) (record { before = no_tree; middle = []; behind = tree_and t us }) e) in
     let l : (a : ℕ) × IsTrue (has (leaves t) a) = some_leaf t c.0 in

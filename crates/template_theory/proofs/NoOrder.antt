@@ -17,13 +17,13 @@ use Rattle.pq_tree.specs.Nodes.{IsNode, IsNodeOf}
 use Rattle.pq_tree.proofs.Forests.{has_join_cases, some_leaf}
 use Rattle.row_model.proofs.Walks.{joined-append, conflict_from, evenly-mono}
 use Rattle.template_theory.specs.Labels.{Partial, Label, empty_trees, full_trees, partials, first_of}
-use Rattle.template_theory.proofs.Computed.{root_p, Tail, Span, all_empty, full_more, before_more, begins, tail_of, span_of, root_q, at_span, p_outcome, q_outcome}
+use Rattle.template_theory.proofs.Computed.{root_p, all_empty, full_more, before_more, begins, tail_of, span_of, root_q, at_span, p_outcome, q_outcome}
 use Rattle.template_theory.proofs.Lines.{IsParted, parted_occurs, has_parted_cases, closed_right}
 use Rattle.template_theory.proofs.BelowRoot.{AreEmpty, AreFull}
 use Rattle.template_theory.proofs.Conflicts.{three_partial, hole}
 use Rattle.template_theory.proofs.NodeTemplates.{sort}
 use Rattle.template_theory.proofs.RootTemplates.{span_is, p_outcome_some, q_outcome_some}
-use Rattle.template_theory.proofs.Failed.{Crossed, and_then_none, no_value, labels_long, cond_none, AllOutside, labels_failed, in_left, in_right, forward_first}
+use Rattle.template_theory.proofs.Failed.{Crossed, and_then_none, after_none, no_value, labels_long, cond_none, AllOutside, labels_failed, in_left, in_right, forward_first}
 use Rattle.template_theory.proofs.Meaning.{labelled_empty, labelled_full, labelled_partial, AreLabelled, none_labelled, more_labelled, ArePartial, no_partial, a_partial, IsAtMostOne, no_such, one_such, Misses, AllMiss, IsRoot, miss_right, miss_after, SpanParts, span_parts, parts}
 use Rattle.template_theory.proofs.Sound.{labels_sound, lowest_root_p, lowest_root_q, node_arities, node_occurs}
 use Rattle.template_theory.specs.Refused.{IsUnfitRoot, IsStuck, IsRefused}
@@ -46,6 +46,10 @@ pub record Climbs (row : List ℕ) (ts : Forest) : Type 0 where
   pub from_empty : IsFalse (has row v.a)
   pub to_full : IsTrue (has row v.b)
 
+-- behind a further tree
+abbrev later_climbs : {row : List ℕ} {ts : Forest} (t : Outline) → Climbs row ts → Climbs row (tree_and t ts)
+later_climbs t w = record { v = w.v; forward = inr w.forward; from_empty = w.from_empty; to_full = w.to_full }
+
 tail_climbs : (row : List ℕ) (ts : Forest) (ps : List Label) → AreLabelled row ts ps → HaveArities ts → tail_of ts ps ≡ None → Climbs row ts
 tail_climbs row ts ps none_labelled c e = cc
 tail_climbs row ts ps (more_labelled {t = t} {ts = us} {ps = qs} (labelled_empty k) m) c e =
@@ -53,13 +57,7 @@ tail_climbs row ts ps (more_labelled {t = t} {ts = us} {ps = qs} (labelled_empty
     let l : (a : ℕ) × IsTrue (has (leaves t) a) = some_leaf t c.0 in
     record { v = pair l.0 w.0; forward = inl (l.1, w.1); from_empty = k l.0 l.1; to_full = w.2 }
 tail_climbs row ts ps (more_labelled {t = t} {ts = us} {ps = qs} (labelled_full k) m) c e =
-    elim (and_then_none (λ r. Some (full_more t r)) (tail_of us qs) e) [
-      | inl n ↦ let w : Climbs row us = tail_climbs row us qs m c.1 n in record { v = w.v; forward = inr w.forward; from_empty = w.from_empty; to_full = w.to_full }
-      | inr n ↦ some_none (full_more t n.0) n.2
-    ]
-  where
-    some_none : (r : Tail) → Some r ≡ None → Climbs row (tree_and t us)
-    some_none r x = cc
+    later_climbs t (tail_climbs row us qs m c.1 (after_none (full_more t) (tail_of us qs) e))
 tail_climbs row ts ps (more_labelled {t = t} {ts = us} {ps = qs} (labelled_partial h k) m) c e =
     let w : (g : ℕ) × IsTrue (has (leaves_of us) g) × IsTrue (has row g) = some_full_column row us qs m c.1 (cond_none (all_empty qs) (record { middle = no_tree; right = h ∷ []; behind = us }) e) in
     record { v = pair k.some_empty.0 w.0; forward = inl (in_left row t h k k.some_empty.0 k.some_empty.1, w.1); from_empty = k.empty k.some_empty.0 k.some_empty.1; to_full = w.2 }
@@ -74,41 +72,14 @@ pub record HasHole (row : List ℕ) (ts : Forest) : Type 0 where
 span_hole : (row : List ℕ) (ts : Forest) (ps : List Label) → AreLabelled row ts ps → HaveArities ts → span_of ts ps ≡ None → HasHole row ts
 span_hole row ts ps none_labelled c e = cc
 span_hole row ts ps (more_labelled {t = t} {ts = us} {ps = qs} (labelled_empty k) m) c e =
-    elim (and_then_none (λ r. Some (before_more t r)) (span_of us qs) e) [
-      | inl n ↦
-          let w : HasHole row us = span_hole row us qs m c.1 n in
-          record { f = w.f; up = record { v = w.up.v; forward = inr w.up.forward; from_empty = w.up.from_empty; to_full = w.up.to_full }; before = inr w.before; full = w.full }
-      | inr n ↦ some_none (before_more t n.0) n.2
-    ]
-  where
-    some_none : (r : Span) → Some r ≡ None → HasHole row (tree_and t us)
-    some_none r x = cc
+    let w : HasHole row us = span_hole row us qs m c.1 (after_none (before_more t) (span_of us qs) e) in record { f = w.f; up = later_climbs t w.up; before = inr w.before; full = w.full }
 span_hole row ts ps (more_labelled {t = t} {ts = us} {ps = qs} (labelled_full k) m) c e =
-    elim (and_then_none (λ r. Some (begins [] (full_more t r))) (tail_of us qs) e) [
-      | inl n ↦
-          let w : Climbs row us = tail_climbs row us qs m c.1 n in
-          let l : (a : ℕ) × IsTrue (has (leaves t) a) = some_leaf t c.0 in
-          record { f = l.0; up = record { v = w.v; forward = inr w.forward; from_empty = w.from_empty; to_full = w.to_full }; before = inl (l.1, forward_first us w.v w.forward); full = k l.0 l.1 }
-      | inr n ↦ some_none (begins [] (full_more t n.0)) n.2
-    ]
-  where
-    some_none : (r : Span) → Some r ≡ None → HasHole row (tree_and t us)
-    some_none r x = cc
+    let w : Climbs row us = tail_climbs row us qs m c.1 (after_none (λ r. begins [] (full_more t r)) (tail_of us qs) e) in
+    let l : (a : ℕ) × IsTrue (has (leaves t) a) = some_leaf t c.0 in
+    record { f = l.0; up = later_climbs t w; before = inl (l.1, forward_first us w.v w.forward); full = k l.0 l.1 }
 span_hole row ts ps (more_labelled {t = t} {ts = us} {ps = qs} (labelled_partial h k) m) c e =
-    elim (and_then_none (λ r. Some (begins (h ∷ []) r)) (tail_of us qs) e) [
-      | inl n ↦
-          let w : Climbs row us = tail_climbs row us qs m c.1 n in
-          record {
-            f = k.some_full.0;
-            up = record { v = w.v; forward = inr w.forward; from_empty = w.from_empty; to_full = w.to_full };
-            before = inl (in_right row t h k k.some_full.0 k.some_full.1, forward_first us w.v w.forward);
-            full = k.full k.some_full.0 k.some_full.1;
-          }
-      | inr n ↦ some_none (begins (h ∷ []) n.0) n.2
-    ]
-  where
-    some_none : (r : Span) → Some r ≡ None → HasHole row (tree_and t us)
-    some_none r x = cc
+    let w : Climbs row us = tail_climbs row us qs m c.1 (after_none (begins (h ∷ [])) (tail_of us qs) e) in
+    record { f = k.some_full.0; up = later_climbs t w; before = inl (in_right row t h k k.some_full.0 k.some_full.1, forward_first us w.v w.forward); full = k.full k.some_full.0 k.some_full.1 }
 
 module _ (row : List ℕ) where
   -- the pertinent root's only child that meets the row would hold it
