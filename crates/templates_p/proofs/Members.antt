@@ -25,7 +25,7 @@ use Rattle.templates_p.specs.Members.{AreMembers, member_labels}
 use Rattle.templates_p.specs.Sorts.{full_nodes, empty_nodes, partial_nodes}
 use Rattle.templates_p.specs.Steps.{Moved, CanMove, moved_under}
 use Rattle.templates_p.proofs.Rebuilt.{child_used, replaced_at}
-use Rattle.templates_p.proofs.Sorting.{held, sort, held_length, count_map, all_counted, full_label_of, full_times}
+use Rattle.templates_p.proofs.Sorting.{held, sort, held_length, count_map, all_counted, sorted_label, fulls, sorted_times}
 use Rattle.templates_p.proofs.Framing.{same_length}
 use Rattle.templates_p.proofs.Moving.{can_move, ready_to_put, moved_one}
 use Rattle.templates_p.proofs.Chaining.{child_once}
@@ -104,12 +104,12 @@ module _ (f : Layout) (n : ℕ) (members : List ℕ) (h : IsLayout f) (m : AreMe
       elim (cases_lt 0 (occurs members k)) [
         | inl l ↦
             let o : 1 ≤ occurs ks k = m.child k l in
-            let e : occurs (full_nodes marks ks) k ≡ occurs ks k = full_times marks ks k (member_full k l) in
+            let e : occurs (full_nodes marks ks) k ≡ occurs ks k = sorted_times fulls marks ks k (member_full k l) in
             omega arith
         | inr l ↦ elim (cases_lt 0 (occurs (full_nodes marks ks) k)) [
           | inl o ↦
-              let is : label_at marks k ≡ Full = full_label_of marks ks k o in
-              let e : occurs (full_nodes marks ks) k ≡ occurs ks k = full_times marks ks k is in
+              let is : label_at marks k ≡ Full = sorted_label fulls marks ks k o in
+              let e : occurs (full_nodes marks ks) k ≡ occurs ks k = sorted_times fulls marks ks k is in
               let q : 1 ≤ occurs members k = full_member k (omega arith) is in
               absurd (omega arith)
           | inr o ↦ omega arith

@@ -23,54 +23,44 @@ full_end-end-requires-clause-room g c = same_room c.args.arena.now c.gather-grou
 
 pub full_end-end-requires-clause-shape : goal.full_end-end-requires-clause-shape
 full_end-end-requires-clause-shape g c =
-    let r = are_ready c.args.arena.now c.gather-group.new.arena c.args.work.now c.gather-group.new.work c.args.node.index c.child_with-first.result.index c.child_with-second.result.index c.gather-group.result
-    c.layout_law.ensures c.layout_law-2.ensures c.requires.ready c.requires.stands c.child_with-first.ensures.child c.child_with-first.ensures.labelled
+    let r = are_ready _ _ _ _ _ _ _ _ c.layout_law.ensures c.layout_law-2.ensures c.requires.ready c.requires.stands c.child_with-first.ensures.child c.child_with-first.ensures.labelled
     c.child_with-second.ensures.child c.child_with-second.ensures.labelled c.child_with-second.ensures.other c.gather-group.ensures.treated c.gather-group.ensures.gathered in
     r.shape
 
 pub lengthen-requires-clause-can : goal.lengthen-requires-clause-can
 lengthen-requires-clause-can g c =
-    let r = are_ready c.args.arena.now c.gather-group.new.arena c.args.work.now c.gather-group.new.work c.args.node.index c.child_with-first.result.index c.child_with-second.result.index c.gather-group.result
-    c.layout_law.ensures c.layout_law-2.ensures c.requires.ready c.requires.stands c.child_with-first.ensures.child c.child_with-first.ensures.labelled
+    let r = are_ready _ _ _ _ _ _ _ _ c.layout_law.ensures c.layout_law-2.ensures c.requires.ready c.requires.stands c.child_with-first.ensures.child c.child_with-first.ensures.labelled
     c.child_with-second.ensures.child c.child_with-second.ensures.labelled c.child_with-second.ensures.other c.gather-group.ensures.treated c.gather-group.ensures.gathered in
     can_put_in_if c.gather-group.new.arena c.gather-group.new.work c.args.node.index c.child_with-first.result.index c.child_with-second.result.index c.gather-group.result r.can
 
 pub full_end-other_end-requires-clause-room : goal.full_end-other_end-requires-clause-room
 full_end-other_end-requires-clause-room g c =
-    let r = are_ready c.args.arena.now c.gather-group.new.arena c.args.work.now c.gather-group.new.work c.args.node.index c.child_with-first.result.index c.child_with-second.result.index c.gather-group.result
-    c.layout_law.ensures c.layout_law-2.ensures c.requires.ready c.requires.stands c.child_with-first.ensures.child c.child_with-first.ensures.labelled
+    let r = are_ready _ _ _ _ _ _ _ _ c.layout_law.ensures c.layout_law-2.ensures c.requires.ready c.requires.stands c.child_with-first.ensures.child c.child_with-first.ensures.labelled
     c.child_with-second.ensures.child c.child_with-second.ensures.labelled c.child_with-second.ensures.other c.gather-group.ensures.treated c.gather-group.ensures.gathered in
-    let l = lengthened c.gather-group.new.arena c.lengthen.new.arena c.gather-group.new.work
-    c.args.node.index c.child_with-first.result.index c.child_with-second.result.index c.full_end-end.result c.gather-group.result c.layout_law-2.ensures c.layout_law-3.ensures r.can c.lengthen.ensures.put in
+    let l = lengthened _ _ _ _ _ _ _ _ c.layout_law-2.ensures c.layout_law-3.ensures r.can c.lengthen.ensures.put in
     same_room c.gather-group.new.arena c.lengthen.new.arena c.gather-group.new.work c.gather-group.new.work c.args.node.index c.args.node.index
     c.layout_law-2.ensures c.layout_law-3.ensures r.can.room l.treated
 
 pub full_end-other_end-requires-clause-shape : goal.full_end-other_end-requires-clause-shape
 full_end-other_end-requires-clause-shape g c =
-    let r = are_ready c.args.arena.now c.gather-group.new.arena c.args.work.now c.gather-group.new.work c.args.node.index c.child_with-first.result.index c.child_with-second.result.index c.gather-group.result
-    c.layout_law.ensures c.layout_law-2.ensures c.requires.ready c.requires.stands c.child_with-first.ensures.child c.child_with-first.ensures.labelled
+    let r = are_ready _ _ _ _ _ _ _ _ c.layout_law.ensures c.layout_law-2.ensures c.requires.ready c.requires.stands c.child_with-first.ensures.child c.child_with-first.ensures.labelled
     c.child_with-second.ensures.child c.child_with-second.ensures.labelled c.child_with-second.ensures.other c.gather-group.ensures.treated c.gather-group.ensures.gathered in
-    let l = lengthened c.gather-group.new.arena c.lengthen.new.arena c.gather-group.new.work
-    c.args.node.index c.child_with-first.result.index c.child_with-second.result.index c.full_end-end.result c.gather-group.result c.layout_law-2.ensures c.layout_law-3.ensures r.can c.lengthen.ensures.put in
+    let l = lengthened _ _ _ _ _ _ _ _ c.layout_law-2.ensures c.layout_law-3.ensures r.can c.lengthen.ensures.put in
     (r.other_shape.0, (l.same c.child_with-second.result.index r.can.other c.child_with-second.ensures.other).shape r.other_shape.0 r.other_shape.1)
 
 pub merge-top-requires-clause-can : goal.merge-top-requires-clause-can
 merge-top-requires-clause-can g c =
-    let r = are_ready c.args.arena.now c.gather-group.new.arena c.args.work.now c.gather-group.new.work c.args.node.index c.child_with-first.result.index c.child_with-second.result.index c.gather-group.result
-    c.layout_law.ensures c.layout_law-2.ensures c.requires.ready c.requires.stands c.child_with-first.ensures.child c.child_with-first.ensures.labelled
+    let r = are_ready _ _ _ _ _ _ _ _ c.layout_law.ensures c.layout_law-2.ensures c.requires.ready c.requires.stands c.child_with-first.ensures.child c.child_with-first.ensures.labelled
     c.child_with-second.ensures.child c.child_with-second.ensures.labelled c.child_with-second.ensures.other c.gather-group.ensures.treated c.gather-group.ensures.gathered in
-    let l = lengthened c.gather-group.new.arena c.lengthen.new.arena c.gather-group.new.work
-    c.args.node.index c.child_with-first.result.index c.child_with-second.result.index c.full_end-end.result c.gather-group.result c.layout_law-2.ensures c.layout_law-3.ensures r.can c.lengthen.ensures.put in
+    let l = lengthened _ _ _ _ _ _ _ _ c.layout_law-2.ensures c.layout_law-3.ensures r.can c.lengthen.ensures.put in
     can_merge c.gather-group.new.arena c.lengthen.new.arena c.gather-group.new.work c.args.node.index c.child_with-first.result.index c.child_with-second.result.index c.full_end-end.result c.gather-group.result
     c.layout_law-2.ensures c.layout_law-3.ensures r.can r.other_shape.0 r.other_shape.1 l
 
 pub returns-clause-treated : goal.returns-clause-treated
 returns-clause-treated g c =
-    let r = are_ready c.args.arena.now c.gather-group.new.arena c.args.work.now c.gather-group.new.work c.args.node.index c.child_with-first.result.index c.child_with-second.result.index c.gather-group.result
-    c.layout_law.ensures c.layout_law-2.ensures c.requires.ready c.requires.stands c.child_with-first.ensures.child c.child_with-first.ensures.labelled
+    let r = are_ready _ _ _ _ _ _ _ _ c.layout_law.ensures c.layout_law-2.ensures c.requires.ready c.requires.stands c.child_with-first.ensures.child c.child_with-first.ensures.labelled
     c.child_with-second.ensures.child c.child_with-second.ensures.labelled c.child_with-second.ensures.other c.gather-group.ensures.treated c.gather-group.ensures.gathered in
-    let l = lengthened c.gather-group.new.arena c.lengthen.new.arena c.gather-group.new.work
-    c.args.node.index c.child_with-first.result.index c.child_with-second.result.index c.full_end-end.result c.gather-group.result c.layout_law-2.ensures c.layout_law-3.ensures r.can c.lengthen.ensures.put in
+    let l = lengthened _ _ _ _ _ _ _ _ c.layout_law-2.ensures c.layout_law-3.ensures r.can c.lengthen.ensures.put in
     composed c.args.arena.now c.lengthen.new.arena c.merge-top.new.arena c.args.work.now c.gather-group.new.work c.merge-top.new.work c.args.node.index c.merge-top.result.index
     c.layout_law.ensures c.layout_law-3.ensures c.layout_law-4.ensures
     (composed c.args.arena.now c.gather-group.new.arena c.lengthen.new.arena c.args.work.now c.gather-group.new.work c.gather-group.new.work c.args.node.index c.args.node.index
@@ -78,11 +68,9 @@ returns-clause-treated g c =
 
 pub returns-clause-becomes : goal.returns-clause-becomes
 returns-clause-becomes g c = λ ps u m s p.
-    let r = are_ready c.args.arena.now c.gather-group.new.arena c.args.work.now c.gather-group.new.work c.args.node.index c.child_with-first.result.index c.child_with-second.result.index c.gather-group.result
-    c.layout_law.ensures c.layout_law-2.ensures c.requires.ready c.requires.stands c.child_with-first.ensures.child c.child_with-first.ensures.labelled
+    let r = are_ready _ _ _ _ _ _ _ _ c.layout_law.ensures c.layout_law-2.ensures c.requires.ready c.requires.stands c.child_with-first.ensures.child c.child_with-first.ensures.labelled
     c.child_with-second.ensures.child c.child_with-second.ensures.labelled c.child_with-second.ensures.other c.gather-group.ensures.treated c.gather-group.ensures.gathered in
-    let l = lengthened c.gather-group.new.arena c.lengthen.new.arena c.gather-group.new.work
-    c.args.node.index c.child_with-first.result.index c.child_with-second.result.index c.full_end-end.result c.gather-group.result c.layout_law-2.ensures c.layout_law-3.ensures r.can c.lengthen.ensures.put in
+    let l = lengthened _ _ _ _ _ _ _ _ c.layout_law-2.ensures c.layout_law-3.ensures r.can c.lengthen.ensures.put in
     p6_becomes c.args.arena.now c.gather-group.new.arena c.lengthen.new.arena c.merge-top.new.arena c.args.work.now c.gather-group.new.work c.merge-top.new.work
     c.args.node.index c.child_with-first.result.index c.child_with-second.result.index c.full_end-end.result c.full_end-other_end.result c.merge-top.result.index c.gather-group.result ps u
     c.layout_law-4.ensures m s r c.full_end-end.ensures.end l c.full_end-other_end.ensures.end c.merge-top.ensures.merged p

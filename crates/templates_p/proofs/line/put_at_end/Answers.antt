@@ -3,7 +3,7 @@ use Rattle.arena_model.specs.declared.Shape.TheVariants.{Q}
 use Rattle.arena_model.specs.ChildLists.{put_on}
 use Rattle.arena_model.specs.Layout.{Layout, StandsAlone, IsAtOrAbove, children_at, shape_at, with_children}
 use Rattle.templates_p.proofs.Absorbing.{ready_to_end}
-use Rattle.templates_p.proofs.merge.put_at_end.Goals as goal
+use Rattle.templates_p.proofs.line.put_at_end.Goals as goal
 
 pub detach-requires : goal.detach-requires
 detach-requires g c = (c.args.node.index, c.requires.can.is_p, c.requires.can.child)
