@@ -5,7 +5,7 @@ use Rattle.template_model.proofs.Spare.{five_spare}
 use Rattle.templates_p.proofs.Composing.{composed}
 use Rattle.templates_p.proofs.FullEnd.{same_room}
 use Rattle.templates_p.proofs.Starting.{p3_can_gather, p3_full, p3_no_partial, can_start, started_can_lift, p3_treated, p3_becomes, same_slots}
-use Rattle.templates_p.proofs.below_root.apply_p3.Goals as goal
+use Rattle.templates_p.proofs.apply.apply_p3.Goals as goal
 
 pub gather-requires : goal.gather-requires
 gather-requires g c = p3_can_gather c.args.arena.now c.args.work.now c.args.node.index c.requires.ready c.requires.stands

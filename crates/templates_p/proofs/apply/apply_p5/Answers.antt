@@ -4,7 +4,7 @@ use Rattle.templates_p.proofs.Composing.{composed}
 use Rattle.templates_p.proofs.Ending.{one_partial}
 use Rattle.templates_p.proofs.FullEnd.{partial_child, same_room}
 use Rattle.templates_p.proofs.Filling.{p5_one, p5_can_gather, p5_partial, gathered_shape, can_fill, filled_line, p5_top, p5_stays, can_lift, lift_treated, p5_lifted}
-use Rattle.templates_p.proofs.below_root.apply_p5.Goals as goal
+use Rattle.templates_p.proofs.apply.apply_p5.Goals as goal
 
 pub child_with-line-requires : goal.child_with-line-requires
 child_with-line-requires g c = partial_child c.args.arena.now c.args.work.now c.args.node.index c.layout_law.ensures c.requires.ready

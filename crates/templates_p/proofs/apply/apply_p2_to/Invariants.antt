@@ -1,7 +1,7 @@
 use Rattle.std.proofs.Common.{◌≡◌, ◌+◌, ◌*◌, take}
 use Rattle.pq_arena.specs.RowNodes.{indices}
 use Rattle.templates_p.specs.Steps.{Moved}
-use Rattle.templates_p.proofs.grouped.apply_p2_to.Given as goal
+use Rattle.templates_p.proofs.apply.apply_p2_to.Given as goal
 
 abbrev pub invariant-loop-member : goal.invariant-loop-member
 invariant-loop-member g l = record {

@@ -4,7 +4,7 @@ use Rattle.templates_p.proofs.FullEnd.{partial_child, same_room}
 use Rattle.templates_p.proofs.Lengthening.{can_put_in_if, lengthened}
 use Rattle.templates_p.proofs.TwoPartials.{other_partial, p6_two, p6_can_gather, are_ready, can_merge}
 use Rattle.templates_p.proofs.Joined.{p6_becomes}
-use Rattle.templates_p.proofs.two_partials.apply_p6.Goals as goal
+use Rattle.templates_p.proofs.apply.apply_p6.Goals as goal
 
 pub child_with-first-requires : goal.child_with-first-requires
 child_with-first-requires g c = partial_child c.args.arena.now c.args.work.now c.args.node.index c.layout_law.ensures c.requires.ready

@@ -1,5 +1,5 @@
 use Rattle.templates_p.proofs.Becoming.{p2_can_gather, p2_becomes}
-use Rattle.templates_p.proofs.grouped.apply_p2.Goals as goal
+use Rattle.templates_p.proofs.apply.apply_p2.Goals as goal
 
 pub gather-group-requires : goal.gather-group-requires
 gather-group-requires g c = p2_can_gather c.args.arena.now c.args.work.now c.args.node.index c.requires.ready c.requires.stands

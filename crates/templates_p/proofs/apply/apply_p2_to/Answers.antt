@@ -15,7 +15,7 @@ use Rattle.templates_p.specs.Steps.{Moved, moved_under}
 use Rattle.templates_p.proofs.Moving.{moved_none, ready_to_put}
 use Rattle.templates_p.proofs.Grouping.{ready_to_group}
 use Rattle.templates_p.proofs.Members.{next_moves, next_moved, members_replaced, members_become}
-use Rattle.templates_p.proofs.grouped.apply_p2_to.Goals as goal
+use Rattle.templates_p.proofs.apply.apply_p2_to.Goals as goal
 
 pub take-group-requires-clause-some : goal.take-group-requires-clause-some
 take-group-requires-clause-some g c = omega (arith, five_spare c.args.arena.now c.layout_law.ensures c.requires.one c.requires.two)

@@ -3,7 +3,7 @@ use Rattle.template_model.specs.Treated.{StandsForTree}
 use Rattle.templates_p.proofs.Composing.{composed}
 use Rattle.templates_p.proofs.Ending.{p4_plain, p4_becomes}
 use Rattle.templates_p.proofs.FullEnd.{partial_child, p4_one, p4_can_gather, p4_shape, same_room, line_shape, can_absorb}
-use Rattle.templates_p.proofs.one_partial.apply_p4.Goals as goal
+use Rattle.templates_p.proofs.apply.apply_p4.Goals as goal
 
 pub child_with-line-requires : goal.child_with-line-requires
 child_with-line-requires g c = partial_child c.args.arena.now c.args.work.now c.args.node.index c.layout_law.ensures c.requires.ready
