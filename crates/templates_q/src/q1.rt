@@ -1,8 +1,7 @@
 // Q1.
-ghost use Rattle.std.specs.Prelude.{◌≡◌, ℕ, ◌+◌, ◌*◌, ◌≤◌, ◌↔◌, IsTrue, List};
+ghost use Rattle.std.specs.Prelude.{◌≡◌, ◌+◌, ◌*◌, ◌≤◌};
 ghost use Rattle.bubble_pass.specs.Marks.{fulls_at, partials_at};
-ghost use Rattle.template_theory.specs.Templates.{Label};
-ghost use Rattle.template_model.specs.Standing.{IsReady, AreMarkedAs};
+ghost use Rattle.template_model.specs.Standing.{IsReady, Tells};
 ghost use Rattle.templates_q.specs.Fits.{FitsQ1};
 
 use crate::walk::{ChildGap, past_fulls};
@@ -21,7 +20,7 @@ pub fn fits_q1<L: Ledger>(
     steps: &mut Steps<L>,
 ) -> bool
     requires { IsReady arena.now work.now node.index }
-    ensures fits { (ps : List Label) → AreMarkedAs arena.now work.now node.index ps → (IsTrue result ↔ FitsQ1 arena.now node.index ps) }
+    ensures fits { Tells arena.now work.now node.index (FitsQ1 arena.now node.index) result }
     ensures ticks { steps.new ≤ steps.old + 4 * (fulls_at work.now node.index + partials_at work.now node.index + 1) }
 {
     let _anywhere = root;
