@@ -9,7 +9,8 @@ use Rattle.column_order.proofs.Lists.{has_from_occurs, occurs_from_has, occurs-a
 use Rattle.pq_tree.specs.Outline.{Outline, Forest, no_tree, tree_and}
 use Rattle.pq_tree.specs.Proper.{forest, count}
 use Rattle.arena_model.specs.declared.Shape.TheVariants.{P}
-use Rattle.arena_model.specs.Layout.{Layout, children_at, IsLayout}
+use Rattle.arena_model.specs.ChildLists.{without}
+use Rattle.arena_model.specs.Layout.{Layout, shape_at, children_at, with_children, IsLayout, IsAtOrAbove, StandsAlone}
 use Rattle.arena_model.specs.NamedTree.{outline_below, IsOneTree, HasTwoEach}
 use Rattle.arena_model.proofs.Lists.{occurs_here}
 use Rattle.arena_model.proofs.Slots.{in_range, used_by}
@@ -190,6 +191,20 @@ pub next_moves : (f g : Layout) (n x : ℕ) (ms : List NodeId) (i : ℕ) (d : No
     CanMove g n x (get_or ms i d).index
 next_moves f g n x ms i d l m moved =
     can_move f g n x (indices (take i ms)) (get_or ms i d).index m.is_p moved (m.child (get_or ms i d).index (in_list ms i d l)) (not_before ms i d l m.once)
+
+-- what holds in g, where it was taken from n
+pub record IsReadyIn (g : Layout) (x c : ℕ) : Type 0 where
+  pub to : shape_at g x ≡ Some P
+  pub alone : StandsAlone g c
+  pub no_way : IsAtOrAbove g.slots c x → ⊥
+
+pub member_ready : (f h g : Layout) (n x : ℕ) (ms : List NodeId) (i : ℕ) (d : NodeId) → IsLayout h → i < length ms → AreMembers f n (indices ms) → Moved f h n x (indices (take i ms)) →
+    ((p : ℕ) → shape_at h p ≡ Some P → 1 ≤ occurs (children_at h p) (get_or ms i d).index → g ≡ with_children h p (without (children_at h p) (get_or ms i d).index)) → IsReadyIn g x (get_or ms i d).index
+member_ready f h g n x ms i d lh l m moved taken =
+    let y : ℕ = (get_or ms i d).index in
+    let can : CanMove h n x y = next_moves f h n x ms i d l m moved in
+    let r = ready_to_put h n x y lh can in
+    subst (λ z. IsReadyIn z x y) (sym (taken n can.from can.child)) (record { to = r.to; alone = r.alone; no_way = r.no_way })
 
 -- it has moved
 pub next_moved : (f g : Layout) (n x : ℕ) (ms : List NodeId) (i : ℕ) (d : NodeId) → i < length ms → AreMembers f n (indices ms) → IsLayout g → Moved f g n x (indices (take i ms)) →

@@ -1,7 +1,7 @@
 use Rattle.std.proofs.Common.{◌≡◌, ◌≤◌, ◌+◌, ℕ, true, List, [], ◌∷◌, length, take, get_or, ap, sym, subst, ◌∙◌, arith}
 use Rattle.std.proofs.lemmas.List.{take_all}
 use Rattle.arena_model.specs.declared.Shape.TheVariants.{P}
-use Rattle.arena_model.specs.Layout.{Layout, IsLayout, IsAtOrAbove, StandsAlone, children_at, shape_at, taken, with_children}
+use Rattle.arena_model.specs.Layout.{Layout, IsLayout, StandsAlone, children_at, taken, with_children}
 use Rattle.arena_model.proofs.Slots.{used_by}
 use Rattle.pq_arena.specs.declared.node.NodeId.{NodeId}
 use Rattle.pq_tree.specs.Outline.{Outline}
@@ -12,9 +12,9 @@ use Rattle.template_model.specs.Treated.{IsReplacedAt, StandsForTree}
 use Rattle.template_model.proofs.Spare.{five_spare}
 use Rattle.templates_p.specs.Members.{member_labels}
 use Rattle.templates_p.specs.Steps.{Moved, moved_under}
-use Rattle.templates_p.proofs.Moving.{moved_none, ready_to_put}
+use Rattle.templates_p.proofs.Moving.{moved_none}
 use Rattle.templates_p.proofs.Grouping.{ready_to_group}
-use Rattle.templates_p.proofs.Members.{next_moves, next_moved, members_replaced, members_become}
+use Rattle.templates_p.proofs.Members.{next_moves, next_moved, members_replaced, members_become, member_ready}
 use Rattle.templates_p.proofs.apply.apply_p2_to.Goals as goal
 
 pub take-group-requires-clause-some : goal.take-group-requires-clause-some
@@ -41,29 +41,18 @@ detach-requires g c =
 
 pub attach-requires-clause-p : goal.attach-requires-clause-p
 attach-requires-clause-p g c =
-    let x : ℕ = c.take-group.result.index in
-    let can = next_moves c.args.arena.now c.loop-member.arena c.args.node.index x c.args.members.now c.loop-member.member-index (record { index = 0 })
-    c.loop-member-test.true c.requires.members c.loop-member.invariant.moved in
-    let r = ready_to_put c.loop-member.arena c.args.node.index x (get_or c.args.members.now c.loop-member.member-index (record { index = 0 })).index c.layout_law-in-loop-member.ensures can in
-    ap (λ z. shape_at z x) (c.detach.ensures.changed c.args.node.index can.from can.child) ∙ r.to
+    (member_ready _ _ _ c.args.node.index c.take-group.result.index c.args.members.now c.loop-member.member-index (record { index = 0 }) c.layout_law-in-loop-member.ensures c.loop-member-test.true c.requires.members
+    c.loop-member.invariant.moved c.detach.ensures.changed).to
 
 pub attach-requires-clause-n : goal.attach-requires-clause-n
 attach-requires-clause-n g c =
-    let x : ℕ = c.take-group.result.index in
-    let y : NodeId = get_or c.args.members.now c.loop-member.member-index (record { index = 0 }) in
-    let can = next_moves c.args.arena.now c.loop-member.arena c.args.node.index x c.args.members.now c.loop-member.member-index (record { index = 0 })
-    c.loop-member-test.true c.requires.members c.loop-member.invariant.moved in
-    let r = ready_to_put c.loop-member.arena c.args.node.index x y.index c.layout_law-in-loop-member.ensures can in
-    subst (λ z. StandsAlone z y.index) (sym (c.detach.ensures.changed c.args.node.index can.from can.child)) r.alone
+    (member_ready _ _ _ c.args.node.index c.take-group.result.index c.args.members.now c.loop-member.member-index (record { index = 0 }) c.layout_law-in-loop-member.ensures c.loop-member-test.true c.requires.members
+    c.loop-member.invariant.moved c.detach.ensures.changed).alone
 
 pub attach-requires-clause-apart : goal.attach-requires-clause-apart
 attach-requires-clause-apart g c =
-    let x : ℕ = c.take-group.result.index in
-    let y : NodeId = get_or c.args.members.now c.loop-member.member-index (record { index = 0 }) in
-    let can = next_moves c.args.arena.now c.loop-member.arena c.args.node.index x c.args.members.now c.loop-member.member-index (record { index = 0 })
-    c.loop-member-test.true c.requires.members c.loop-member.invariant.moved in
-    let r = ready_to_put c.loop-member.arena c.args.node.index x y.index c.layout_law-in-loop-member.ensures can in
-    subst (λ (z : Layout). IsAtOrAbove z.slots y.index x → ⊥) (sym (c.detach.ensures.changed c.args.node.index can.from can.child)) r.no_way
+    (member_ready _ _ _ c.args.node.index c.take-group.result.index c.args.members.now c.loop-member.member-index (record { index = 0 }) c.layout_law-in-loop-member.ensures c.loop-member-test.true c.requires.members
+    c.loop-member.invariant.moved c.detach.ensures.changed).no_way
 
 pub loop-member-preserved : goal.loop-member-preserved
 loop-member-preserved g c =
