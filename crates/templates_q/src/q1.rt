@@ -4,7 +4,7 @@ ghost use Rattle.bubble_pass.specs.Marks.{fulls_at, partials_at};
 ghost use Rattle.template_model.specs.Standing.{IsReady, Tells};
 ghost use Rattle.templates_q.specs.Fits.{FitsQ1};
 
-use crate::walk::{ChildGap, past_fulls};
+use crate::walk::{ChildGap, Wanted, pass};
 use bubble_pass::Work;
 use pq_arena::{Arena, NodeId, Shape};
 use step_count::{Ledger, Steps};
@@ -32,7 +32,10 @@ pub fn fits_q1<L: Ledger>(
                 before: None,
                 next: view.ends[0],
             };
-            past_fulls(arena, work, start, steps).gap.next.is_none()
+            pass(arena, work, Wanted::Fulls, start, steps)
+                .gap
+                .next
+                .is_none()
         }
         Shape::Leaf(_) | Shape::P => false,
     }

@@ -12,7 +12,7 @@ ghost use Rattle.pq_arena.specs.Looks.{ShowsNode};
 ghost use Rattle.arena_model.specs.declared.Shape.TheVariants.{Q};
 
 use crate::splice::splice_in;
-use crate::walk::{ChildGap, past_fulls, past_partial};
+use crate::walk::{ChildGap, Wanted, pass, past_partial};
 use bubble_pass::{Counts, Work};
 use pq_arena::{Arena, NodeId, NodeView, Shape};
 use step_count::{Ledger, Steps};
@@ -39,7 +39,7 @@ fn is_run_from<L: Ledger>(
     ensures ticks { steps.new ≤ steps.old + counts.full + counts.partial }
 {
     arena.layout_law();
-    let fulls = past_fulls(arena, work, from, steps);
+    let fulls = pass(arena, work, Wanted::Fulls, from, steps);
     let partial = past_partial(arena, work, fulls.gap, steps);
     match fulls.gap.next {
         Some(_) => are_counts(counts, fulls.count, partial.count),
@@ -154,7 +154,7 @@ fn find_line<L: Ledger>(
     arena.layout_law();
     let view = arena.look(node, steps);
     let side = full_side(arena, work, node, &view, steps);
-    let place = past_fulls(arena, work, side, steps).gap;
+    let place = pass(arena, work, Wanted::Fulls, side, steps).gap;
     let Some(child) = place.next else {
         unreachable!()
     };

@@ -17,8 +17,8 @@ ghost use Rattle.templates_q.specs.Walk.{IsFirst, IsChildGap};
 
 use crate::q2::{are_counts, has_q2};
 use crate::splice::splice_in;
-use crate::stretch::{PassedSpan, labelled_at, stretch_around};
-use crate::walk::{ChildGap, past};
+use crate::stretch::{PassedSpan, stretch_around};
+use crate::walk::{ChildGap, Wanted, past, wanted_at};
 use bubble_pass::Work;
 use pq_arena::{Arena, NodeId, NodeView, Shape};
 use step_count::{Ledger, Steps};
@@ -57,7 +57,7 @@ fn has_q3_around<L: Ledger>(arena: &Arena, work: &Work, node: NodeId, steps: &mu
 {
     arena.layout_law();
     let seen = stretch_around(arena, work, node, steps);
-    labelled_at(work, seen.last.gap.next).is_none()
+    wanted_at(work, Wanted::Labelled, seen.last.gap.next).is_none()
 }
 
 /// Whether Q3 fits at `node`: the pertinent root, a Q-node with empty children, at most one partial child, full
