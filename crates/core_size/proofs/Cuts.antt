@@ -1,14 +1,15 @@
 -- What the templates below the pertinent root make of a tree has less slack than the tree.
-use Rattle.std.proofs.Common.{◌≡◌, ◌⊎◌, ℕ, ◌+◌, ◌-◌, ◌*◌, ◌≤◌, List, [], ◌∷◌, ◌++◌, reverse, length, Option, Some, None, refl, sym, subst, inl, inr, arith}
-use Rattle.std.proofs.lemmas.List.{reverse-append}
+use Rattle.std.proofs.Common.{◌⊎◌, ℕ, ◌+◌, ◌≤◌, List, [], ◌∷◌, reverse, length, Option, sym, subst, inl, inr, arith}
 use Rattle.pq_tree.specs.Outline.{Outline, Forest, leaf, p_node, q_node, no_tree, tree_and}
 use Rattle.pq_tree.specs.Proper.{HasArities, HaveArities}
-use Rattle.pq_tree.specs.Forests.{count, join, back}
-use Rattle.template_theory.specs.Templates.{Partial, Label, empty_label, full_label, partial_label, star, under, line, q2, IsSorted, none_sorted, to_empty, to_full, to_partial, IsRun, run_full, run_partial, run_more, IsTail, tail_empty, tail_partial, tail_more, IsTwoSidedRun, span_tail, span_partial, span_more}
+use Rattle.pq_tree.specs.Forests.{count, back}
+use Rattle.template_theory.specs.Templates.{Partial, Label, empty_label, full_label, partial_label, star, q2, IsSorted, none_sorted, to_empty, to_full, to_partial, IsRun}
 use Rattle.template_theory.specs.Chosen.{IsLabelOfP, p_empty, by_p1, by_p3, by_p5, IsLabelOfQ, q_empty, by_q1, by_q2}
 use Rattle.template_theory.specs.Reduced.{IsTurned, IsLabel, AreLabels}
+use Rattle.template_theory.proofs.Sorts.{AreEach, each_back, listed, sorted_count, run_sorted}
+use Rattle.template_theory.proofs.Measures.{measure_parts, measure-join, measure-back, turned_measure, star_measure, q2_measure}
 use Rattle.core_size.specs.Slack.{slack, slack_of}
-use Rattle.core_size.proofs.Turns.{slack_of-join, slack_of-back, turned_slack_of}
+use Rattle.core_size.proofs.Slacks.{slacks}
 
 -- a partial tree has more slack than the trees that it becomes
 abbrev pub IsCut : Outline → Label → Type 0
@@ -18,91 +19,22 @@ IsCut t (partial_label h) = slack_of h.e + slack_of h.f + 1 ≤ slack t
 
 -- so for each of the trees
 abbrev pub AreCut : Forest → List Label → Type 0
-AreCut no_tree [] = Unit {0}
-AreCut no_tree (x ∷ ps) = ⊥
-AreCut (tree_and t ts) [] = ⊥
-AreCut (tree_and t ts) (x ∷ ps) = IsCut t x × AreCut ts ps
-
--- a partial that may be missing, as a list
-abbrev pub listed : Option Partial → List Partial
-listed None = []
-listed (Some h) = h ∷ []
-
--- how many children there are of each label
-pub sorted_count : {ts es fs : Forest} {ps : List Label} {hs : List Partial} → IsSorted ts ps es fs hs → count ts ≡ count es + count fs + length hs
-sorted_count none_sorted = refl
-sorted_count (to_empty s) = omega (arith, sorted_count s)
-sorted_count (to_full s) = omega (arith, sorted_count s)
-sorted_count (to_partial s) = omega (arith, sorted_count s)
-
--- children in a line, sorted
-run_sorted : {ts es fs : Forest} {ps : List Label} {h : Option Partial} → IsRun ts ps es h fs → IsSorted ts ps es fs (listed h)
-run_sorted (run_full s) = s
-run_sorted (run_partial s) = to_partial s
-run_sorted (run_more r) = to_empty (run_sorted r)
-
-tail_sorted : {ts fs gs : Forest} {ps : List Label} {k : Option Partial} → IsTail ts ps fs k gs → IsSorted ts ps gs fs (listed k)
-tail_sorted (tail_empty s) = s
-tail_sorted (tail_partial s) = to_partial s
-tail_sorted (tail_more r) = to_full (tail_sorted r)
-
-pub span_sorted : {ts es fs gs : Forest} {ps : List Label} {h k : Option Partial} → IsTwoSidedRun ts ps es h fs k gs → IsSorted ts ps (join es gs) fs (listed h ++ listed k)
-span_sorted (span_tail r) = tail_sorted r
-span_sorted (span_partial r) = to_partial (tail_sorted r)
-span_sorted (span_more s) = to_empty (span_sorted s)
-
--- the slack of the trees of some partials, and one for each of these
-abbrev pub cut_slack : List Partial → ℕ
-cut_slack [] = 0
-cut_slack (h ∷ hs) = slack_of h.e + slack_of h.f + 1 + cut_slack hs
-
-pub cut_slack-append : (hs ks : List Partial) → cut_slack (hs ++ ks) ≡ cut_slack hs + cut_slack ks
-cut_slack-append [] ks = omega arith
-cut_slack-append (h ∷ hs) ks = omega (arith, cut_slack-append hs ks)
-
-cut_push : (ts : Forest) (ps : List Label) (t : Outline) (x : Label) → AreCut ts ps → IsCut t x → AreCut (join ts (tree_and t no_tree)) (ps ++ x ∷ [])
-cut_push no_tree [] t x h k = (k, tt)
-cut_push no_tree (y ∷ ps) t x h k = absurd h
-cut_push (tree_and s ts) [] t x h k = absurd h
-cut_push (tree_and s ts) (y ∷ ps) t x h k = (h.0, cut_push ts ps t x h.1 k)
-
-pub cut_back : (ts : Forest) (ps : List Label) → AreCut ts ps → AreCut (back ts) (reverse ps)
-cut_back no_tree [] h = tt
-cut_back no_tree (x ∷ ps) h = absurd h
-cut_back (tree_and t ts) [] h = absurd h
-cut_back (tree_and t ts) (x ∷ ps) h = subst (AreCut (back (tree_and t ts))) (sym (reverse-append (x ∷ []) ps)) (cut_push (back ts) (reverse ps) t x (cut_back ts ps h.1) h.0)
+AreCut ts ps = AreEach IsCut ts ps
 
 -- the children of a node, sorted by their labels
-pub sorted_cut : {ts es fs : Forest} {ps : List Label} {hs : List Partial} → IsSorted ts ps es fs hs → AreCut ts ps → slack_of es + slack_of fs + cut_slack hs ≤ slack_of ts
+pub sorted_cut : {ts es fs : Forest} {ps : List Label} {hs : List Partial} → IsSorted ts ps es fs hs → AreCut ts ps → slack_of es + slack_of fs + measure_parts slack_of hs + length hs ≤ slack_of ts
 sorted_cut none_sorted h = omega arith
 sorted_cut (to_empty s) h = omega (arith, sorted_cut s h.1)
 sorted_cut (to_full s) h = omega (arith, sorted_cut s h.1)
 sorted_cut (to_partial s) h = omega (arith, h.0, sorted_cut s h.1)
 
--- the slack of what templates put together
-pub star_slack : (xs : Forest) → slack_of (star xs) ≡ (2 * count xs - 3) + slack_of xs
-star_slack no_tree = omega arith
-star_slack (tree_and t no_tree) = omega arith
-star_slack (tree_and t (tree_and u us)) = omega arith
-
-pub under_slack : (es : Forest) (x : Outline) → slack (under es x) ≡ (2 * (1 + count es) - 3) + slack_of es + slack x
-under_slack no_tree x = omega arith
-under_slack (tree_and e es) x = omega arith
-
-pub line_slack : (h : Partial) → slack_of (line h) ≡ slack_of h.e + slack_of h.f
-line_slack h = slack_of-join h.e h.f
-
--- what Q2 makes
-pub q2_slack : (es fs : Forest) (h : Option Partial) → slack_of (q2 es h fs).e + slack_of (q2 es h fs).f + length (listed h) ≡ slack_of es + slack_of fs + cut_slack (listed h)
-q2_slack es fs None = omega arith
-q2_slack es fs (Some h) = omega (arith, slack_of-join es h.e, slack_of-join h.f fs)
-
+-- what Q2 makes of the children of a Q-node, read from either end
 pub run_cut : (ts : Forest) (ps : List Label) (es fs : Forest) (h : Option Partial) → AreCut ts ps → IsRun ts ps es h fs ⊎ IsRun (back ts) (reverse ps) es h fs →
     slack_of (q2 es h fs).e + slack_of (q2 es h fs).f + length (listed h) ≤ slack_of ts
 run_cut ts ps es fs h a p =
     elim p [
-      | inl r ↦ omega (arith, q2_slack es fs h, sorted_cut (run_sorted r) a)
-      | inr r ↦ omega (arith, q2_slack es fs h, sorted_cut (run_sorted r) (cut_back ts ps a), slack_of-back ts)
+      | inl r ↦ omega (arith, q2_measure slacks es fs h, sorted_cut (run_sorted r) a)
+      | inr r ↦ omega (arith, q2_measure slacks es fs h, sorted_cut (run_sorted r) (each_back IsCut ts ps a), measure-back slacks ts)
     ]
 
 p_cut : (ts : Forest) (ps : List Label) (x : Label) → 2 ≤ count ts → AreCut ts ps → IsLabelOfP ts ps x → IsCut (p_node ts) x
@@ -110,7 +42,7 @@ p_cut ts ps x n h (p_empty s) = tt
 p_cut ts ps x n h (by_p1 s) = tt
 p_cut ts ps x n h (by_p3 y s) =
     subst (λ z. IsCut (p_node ts) (partial_label z)) (sym s.becomes)
-    (omega (arith, sorted_cut s.pattern h, sorted_count s.pattern, star_slack (tree_and s.e s.es), star_slack (tree_and s.f s.fs)))
+    (omega (arith, sorted_cut s.pattern h, sorted_count s.pattern, star_measure slacks (tree_and s.e s.es), star_measure slacks (tree_and s.f s.fs)))
 p_cut ts ps x n h (by_p5 y s) =
     subst (λ z. IsCut (p_node ts) (partial_label z)) (sym s.becomes)
     (omega (
@@ -118,10 +50,10 @@ p_cut ts ps x n h (by_p5 y s) =
       n,
       sorted_cut s.pattern h,
       sorted_count s.pattern,
-      slack_of-join (star s.es) s.h.e,
-      slack_of-join s.h.f (star s.fs),
-      star_slack s.es,
-      star_slack s.fs,
+      measure-join slacks (star s.es) s.h.e,
+      measure-join slacks s.h.f (star s.fs),
+      star_measure slacks s.es,
+      star_measure slacks s.fs,
     ))
 
 q_cut : (ts : Forest) (ps : List Label) (x : Label) → AreCut ts ps → IsLabelOfQ ts ps x → IsCut (q_node ts) x
@@ -132,7 +64,7 @@ q_cut ts ps x h (by_q2 y q) = subst (λ z. IsCut (q_node ts) (partial_label z)) 
 turned_cut : (t : Outline) (y x : Label) → IsCut t y → IsTurned y x → IsCut t x
 turned_cut t empty_label x h k = subst (IsCut t) (sym k) h
 turned_cut t full_label x h k = subst (IsCut t) (sym k) h
-turned_cut t (partial_label p) x h k = subst (IsCut t) (sym k.3) (omega (arith, h, turned_slack_of p.e k.0.e k.1, turned_slack_of p.f k.0.f k.2))
+turned_cut t (partial_label p) x h k = subst (IsCut t) (sym k.3) (omega (arith, h, turned_measure slacks p.e k.0.e k.1, turned_measure slacks p.f k.0.f k.2))
 
 leaf_cut : (row : List ℕ) (a : ℕ) (x : Label) → IsLabel row (leaf a) x → IsCut (leaf a) x
 leaf_cut row a x h = elim h [

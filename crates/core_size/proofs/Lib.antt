@@ -1,4 +1,4 @@
-pub mod Turns
+pub mod Slacks
 pub mod Cuts
 pub mod Roots
 pub mod Narrowed

@@ -7,8 +7,9 @@ use Rattle.pq_tree.proofs.Forests.{arities_join_right, count_join}
 use Rattle.pq_tree.proofs.Turnings.{equivalent_trans, p_child_turned, q_child_turned}
 use Rattle.template_theory.specs.Reduced.{IsReplaced, replaced_here, replaced_under_p, replaced_under_q, IsReduced, no_column, by_template}
 use Rattle.template_theory.specs.Laws.{FullChildrenOfP2Law, FullChildrenOfP4Law}
+use Rattle.template_theory.proofs.Measures.{measure-join, equivalent_measure}
 use Rattle.core_size.specs.Slack.{slack}
-use Rattle.core_size.proofs.Turns.{slack_of-join, equivalent_slack}
+use Rattle.core_size.proofs.Slacks.{slacks}
 use Rattle.core_size.proofs.Roots.{Narrows, root_narrows}
 
 replaced_arities : {x y t v : Outline} → IsReplaced x y t v → HasArities t → HasArities x
@@ -20,8 +21,8 @@ replaced_arities (replaced_under_q {t = t} ts us r) h = replaced_arities r (arit
 replaced_slack : {x y t v : Outline} → IsReplaced x y t v → slack v + slack x ≡ slack t + slack y
 replaced_slack {x = x} {y = y} replaced_here = omega arith
 replaced_slack (replaced_under_p {t = t} {u = u} ts us r) =
-    omega (arith, count_join ts (tree_and t us), count_join ts (tree_and u us), slack_of-join ts (tree_and t us), slack_of-join ts (tree_and u us), replaced_slack r)
-replaced_slack (replaced_under_q {t = t} {u = u} ts us r) = omega (arith, slack_of-join ts (tree_and t us), slack_of-join ts (tree_and u us), replaced_slack r)
+    omega (arith, count_join ts (tree_and t us), count_join ts (tree_and u us), measure-join slacks ts (tree_and t us), measure-join slacks ts (tree_and u us), replaced_slack r)
+replaced_slack (replaced_under_q {t = t} {u = u} ts us r) = omega (arith, measure-join slacks ts (tree_and t us), measure-join slacks ts (tree_and u us), replaced_slack r)
 
 -- where the node is turned, the tree is turned
 replaced_turned : {x y t v : Outline} → IsReplaced x y t v → IsEquivalent x y → IsEquivalent t v
@@ -32,6 +33,6 @@ replaced_turned (replaced_under_q {t = t} {u = u} ts us r) e = q_child_turned ts
 pub reduced_narrows : FullChildrenOfP2Law → FullChildrenOfP4Law → (row : List ℕ) (t u : Outline) → IsTree t → IsReduced row t u → Narrows t u
 reduced_narrows two four row t u tree (no_column e q) = inr q
 reduced_narrows two four row t u tree (by_template x y v p m r q) = elim (root_narrows row t x y two four tree p (replaced_arities r tree.0) m) [
-  | inl less ↦ inl (omega (arith, less, replaced_slack r, equivalent_slack v u q))
+  | inl less ↦ inl (omega (arith, less, replaced_slack r, equivalent_measure slacks v u q))
   | inr same ↦ inr (equivalent_trans t v u (replaced_turned r same) q)
 ]

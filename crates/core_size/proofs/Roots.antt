@@ -1,19 +1,21 @@
 -- What a template makes of the pertinent root has less slack, or is the root with its nodes turned.
-use Rattle.std.proofs.Common.{◌≡◌, ◌∙◌, ◌⊎◌, ℕ, ◌+◌, ◌≤◌, List, ◌++◌, reverse, length, Option, Some, None, refl, sym, ap, subst, inl, inr, arith}
+use Rattle.std.proofs.Common.{◌≡◌, ◌∙◌, ◌⊎◌, ℕ, ◌+◌, ◌≤◌, List, reverse, length, Option, Some, None, refl, sym, ap, subst, inl, inr, arith}
 use Rattle.pq_tree.specs.Outline.{Outline, Forest, leaf, p_node, q_node, no_tree, tree_and}
 use Rattle.pq_tree.specs.Proper.{IsTree, HasArities}
 use Rattle.pq_tree.specs.Forests.{trees, count, join, back}
 use Rattle.pq_tree.specs.Nodes.{IsPertinentRoot}
 use Rattle.pq_tree.specs.Equivalent.{IsEquivalent}
-use Rattle.pq_tree.proofs.Forests.{forest-trees, forest_reverse, count_join}
+use Rattle.pq_tree.proofs.Forests.{back-back, forest-trees, forest_reverse, count_join}
 use Rattle.pq_tree.proofs.Turnings.{equivalent_refl, are_equivalent_refl}
-use Rattle.template_theory.specs.Templates.{Partial, Label, star, line, line_if, q2, q3, IsShape, IsRun, run_full, run_partial, run_more, IsTail, tail_empty, tail_partial, tail_more, IsTwoSidedRun, span_tail, span_partial, span_more}
+use Rattle.template_theory.specs.Templates.{Partial, Label, star, line, q2, q3, IsShape, IsRun, run_full, run_partial, run_more, IsTail, tail_empty, tail_partial, tail_more, IsTwoSidedRun, span_tail, span_partial, span_more}
 use Rattle.template_theory.specs.Chosen.{IsRootOfP, root_p1, root_p2, root_p4, root_p6, IsRootOfQ, root_q1, root_q2, root_q3}
 use Rattle.template_theory.specs.Reduced.{AreLabels, IsRootMade}
 use Rattle.template_theory.specs.Laws.{FullChildrenOfP2Law, FullChildrenOfP4Law}
-use Rattle.core_size.specs.Slack.{slack, slack_of}
-use Rattle.core_size.proofs.Turns.{slack_of-join, slack_of-back}
-use Rattle.core_size.proofs.Cuts.{AreCut, listed, sorted_count, span_sorted, cut_slack, cut_slack-append, sorted_cut, star_slack, under_slack, line_slack, run_cut, labels_cut}
+use Rattle.template_theory.proofs.Sorts.{listed, sorted_count, span_sorted}
+use Rattle.template_theory.proofs.Measures.{measure-join, star_measure, shape_measure, p4_measure, p6_measure, q3_measure}
+use Rattle.core_size.specs.Slack.{slack}
+use Rattle.core_size.proofs.Slacks.{slacks}
+use Rattle.core_size.proofs.Cuts.{AreCut, sorted_cut, run_cut, labels_cut}
 
 -- the slack falls, or nodes are turned and no more
 abbrev pub Narrows : Outline → Outline → Type 0
@@ -32,34 +34,12 @@ p_narrows row t ts ps u two four tree root labels h (root_p2 v s) =
     let full : 2 ≤ count f = two row t u ts ps tree root labels s in
     let size : count (join (star f) e) ≡ 1 + count e = omega (arith, count_join (star f) e, star_some s.f s.fs) in
     inl (subst (λ v. slack v + 1 ≤ slack (p_node ts)) (sym s.becomes)
-    (omega (arith, full, size, sorted_cut s.pattern h, sorted_count s.pattern, slack_of-join (star f) e, star_slack f)))
+    (omega (arith, full, size, sorted_cut s.pattern h, sorted_count s.pattern, measure-join slacks (star f) e, star_measure slacks f)))
 p_narrows row t ts ps u two four tree root labels h (root_p4 v s) =
     let full : 1 ≤ count s.fs = four row t u ts ps tree root labels s in
-    inl (subst (λ v. slack v + 1 ≤ slack (p_node ts)) (sym s.becomes)
-    (omega (
-      arith,
-      full,
-      sorted_cut s.pattern h,
-      sorted_count s.pattern,
-      under_slack s.es (q_node (join (line s.h) (star s.fs))),
-      slack_of-join (line s.h) (star s.fs),
-      line_slack s.h,
-      star_slack s.fs,
-    )))
+    inl (subst (λ v. slack v + 1 ≤ slack (p_node ts)) (sym s.becomes) (omega (arith, full, sorted_cut s.pattern h, sorted_count s.pattern, p4_measure slacks s.es s.h s.fs)))
 p_narrows row t ts ps u two four tree root labels h (root_p6 v s) =
-    inl (subst (λ v. slack v + 1 ≤ slack (p_node ts)) (sym s.becomes)
-    (omega (
-      arith,
-      sorted_cut s.pattern h,
-      sorted_count s.pattern,
-      under_slack s.es (q_node (join (line s.h) (join (star s.fs) (back (line s.k))))),
-      slack_of-join (line s.h) (join (star s.fs) (back (line s.k))),
-      slack_of-join (star s.fs) (back (line s.k)),
-      slack_of-back (line s.k),
-      line_slack s.h,
-      line_slack s.k,
-      star_slack s.fs,
-    )))
+    inl (subst (λ v. slack v + 1 ≤ slack (p_node ts)) (sym s.becomes) (omega (arith, sorted_cut s.pattern h, sorted_count s.pattern, p6_measure slacks s.es s.h s.fs s.k)))
 
 some_none : (h : Partial) → Some h ≡ None → ⊥
 some_none h e = absurd (omega (arith, ap (λ k. length (listed k)) e))
@@ -84,22 +64,6 @@ span_whole (span_tail r) e f = tail_whole r f
 span_whole (span_partial {h = h} r) e f = absurd (some_none h e)
 span_whole (span_more {t = t} r) e f = ap (tree_and t) (span_whole r e f)
 
-back-back : (ts : Forest) → back (back ts) ≡ ts
-back-back no_tree = refl
-back-back (tree_and t ts) = back-join (back ts) (tree_and t no_tree) ∙ ap (tree_and t) (back-back ts)
-  where
-    join_assoc : (us vs ws : Forest) → join (join us vs) ws ≡ join us (join vs ws)
-    join_assoc no_tree vs ws = refl
-    join_assoc (tree_and u us) vs ws = ap (tree_and u) (join_assoc us vs ws)
-
-    join_none : (us : Forest) → join us no_tree ≡ us
-    join_none no_tree = refl
-    join_none (tree_and u us) = ap (tree_and u) (join_none us)
-
-    back-join : (us vs : Forest) → back (join us vs) ≡ join (back vs) (back us)
-    back-join no_tree vs = sym (join_none (back vs))
-    back-join (tree_and u us) vs = ap (λ xs. join xs (tree_and u no_tree)) (back-join us vs) ∙ join_assoc (back vs) (back us) (tree_and u no_tree)
-
 -- a Q-shape of the children as they stand, from either end
 shape_equivalent : (ts : Forest) (h : Partial) (u : Outline) → (line h ≡ ts) ⊎ (line h ≡ back ts) → IsShape h u → IsEquivalent (q_node ts) u
 shape_equivalent ts h u (inl e) s = elim s [
@@ -111,43 +75,17 @@ shape_equivalent ts h u (inr e) s = elim s [
   | inr k ↦ subst (IsEquivalent (q_node ts)) (sym (k ∙ ap (λ xs. q_node (back xs)) e ∙ ap q_node (back-back ts))) (equivalent_refl (q_node ts))
 ]
 
-shape_slack : (x : Partial) (u : Outline) → IsShape x u → slack u ≡ 1 + (slack_of x.e + slack_of x.f)
-shape_slack x u s =
-    elim s [
-      | inl e ↦ omega (arith, ap slack e, line_slack x)
-      | inr e ↦ omega (arith, ap slack e, slack_of-back (line x), line_slack x)
-    ]
-
-line_if_slack : (h : Option Partial) → slack_of (line_if h) + length (listed h) ≡ cut_slack (listed h)
-line_if_slack None = refl
-line_if_slack (Some h) = omega (arith, line_slack h)
-
-q3_slack : (es fs gs : Forest) (h k : Option Partial) → slack_of (q3 es h fs k gs) + length (listed h) + length (listed k) ≡ slack_of (join es gs) + slack_of fs + cut_slack (listed h ++ listed k)
-q3_slack es fs gs h k =
-    omega (
-      arith,
-      slack_of-join es (join (line_if h) (join fs (join (back (line_if k)) gs))),
-      slack_of-join (line_if h) (join fs (join (back (line_if k)) gs)),
-      slack_of-join fs (join (back (line_if k)) gs),
-      slack_of-join (back (line_if k)) gs,
-      slack_of-back (line_if k),
-      line_if_slack h,
-      line_if_slack k,
-      slack_of-join es gs,
-      cut_slack-append (listed h) (listed k),
-    )
-
 -- by Q2
 q2_narrows : (ts : Forest) (ps : List Label) (es fs : Forest) (h : Option Partial) (u : Outline) → AreCut ts ps → IsRun ts ps es h fs ⊎ IsRun (back ts) (reverse ps) es h fs → IsShape (q2 es h fs) u → Narrows (q_node ts) u
 q2_narrows ts ps es fs None u a p s = inr (shape_equivalent ts (q2 es None fs) u (elim p [ inl r ↦ inl (run_whole r refl) | inr r ↦ inr (run_whole r refl) ]) s)
-q2_narrows ts ps es fs (Some h) u a p s = inl (omega (arith, shape_slack (q2 es (Some h) fs) u s, run_cut ts ps es fs (Some h) a p))
+q2_narrows ts ps es fs (Some h) u a p s = inl (omega (arith, shape_measure slacks (q2 es (Some h) fs) u s, run_cut ts ps es fs (Some h) a p))
 
 -- by Q3
 q3_narrows : (ts : Forest) (ps : List Label) (es fs gs : Forest) (h k : Option Partial) → AreCut ts ps → IsTwoSidedRun ts ps es h fs k gs → Narrows (q_node ts) (q_node (q3 es h fs k gs))
 q3_narrows ts ps es fs gs None None a p = inr (subst (λ xs. IsEquivalent (q_node ts) (q_node xs)) (sym (span_whole p refl refl)) (equivalent_refl (q_node ts)))
-q3_narrows ts ps es fs gs (Some h) None a p = inl (omega (arith, q3_slack es fs gs (Some h) None, sorted_cut (span_sorted p) a))
-q3_narrows ts ps es fs gs None (Some k) a p = inl (omega (arith, q3_slack es fs gs None (Some k), sorted_cut (span_sorted p) a))
-q3_narrows ts ps es fs gs (Some h) (Some k) a p = inl (omega (arith, q3_slack es fs gs (Some h) (Some k), sorted_cut (span_sorted p) a))
+q3_narrows ts ps es fs gs (Some h) None a p = inl (omega (arith, q3_measure slacks es fs gs (Some h) None, sorted_cut (span_sorted p) a))
+q3_narrows ts ps es fs gs None (Some k) a p = inl (omega (arith, q3_measure slacks es fs gs None (Some k), sorted_cut (span_sorted p) a))
+q3_narrows ts ps es fs gs (Some h) (Some k) a p = inl (omega (arith, q3_measure slacks es fs gs (Some h) (Some k), sorted_cut (span_sorted p) a))
 
 q_narrows : (ts : Forest) (ps : List Label) (u : Outline) → AreCut ts ps → IsRootOfQ ts ps u → Narrows (q_node ts) u
 q_narrows ts ps u h (root_q1 s) = inr (equivalent_refl (q_node ts))

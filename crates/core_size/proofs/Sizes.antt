@@ -1,5 +1,5 @@
 -- The rows of a core narrow the tree of all orders one by one.
-use Rattle.std.proofs.Common.{◌≡◌, ◌∙◌, ℕ, zero, suc, ◌+◌, ◌-◌, ◌*◌, ◌<◌, ◌≤◌, List, [], ◌∷◌, ◌++◌, length, take, drop, map, get_or, IsTrue, refl, sym, ap, subst, inl, inr, arith}
+use Rattle.std.proofs.Common.{◌≡◌, ◌∙◌, ℕ, zero, suc, ◌+◌, ◌-◌, ◌*◌, ◌<◌, ◌≤◌, List, [], ◌∷◌, ◌++◌, length, take, drop, get_or, IsTrue, sym, subst, inl, inr, arith}
 use Rattle.std.specs.Prelude.{All}
 use Rattle.std.proofs.lemmas.Bool.{cases_eq}
 use Rattle.std.proofs.lemmas.List.{length-map, get_or-map, get_or-take, length-take-le, take_more, take-map, map-append}
@@ -11,35 +11,18 @@ use Rattle.row_model.specs.Graph.{row_at}
 use Rattle.row_model.specs.Rows.{RowList, IsRow}
 use Rattle.row_model.proofs.Ascending.{row_within}
 use Rattle.pq_tree.specs.Outline.{Outline, leaf, p_node, q_node}
-use Rattle.pq_tree.specs.Proper.{IsProper, forest, columns, universal}
+use Rattle.pq_tree.specs.Proper.{IsProper, universal}
 use Rattle.pq_tree.proofs.Equivalent.{tree_from_proper}
-use Rattle.pq_tree.proofs.Forests.{count_forest}
-use Rattle.pq_tree.proofs.Universal.{universal_many, columns_order}
 use Rattle.tied_law.specs.Tied.{IsTied}
 use Rattle.tied_law.specs.Laws.{TiedLaw, UniversalLaw, SameFrontiersLaw}
 use Rattle.template_theory.specs.Laws.{KeptLaw, ExistsLaw}
+use Rattle.template_theory.proofs.Measures.{universal_measure}
 use Rattle.core_text.specs.Cores.{rows_at, but, IsCore}
 use Rattle.row_core.proofs.Numbers.{within_at, but_at}
 use Rattle.row_core.proofs.Needed.{AreIn, valid_few, some_valid_few, but_has}
-use Rattle.core_size.specs.Slack.{slack, slack_of}
+use Rattle.core_size.specs.Slack.{slack}
 use Rattle.core_size.specs.Laws.{NarrowsLaw}
-
--- the universal tree over two columns or more has a slack of 2c - 3
-leaves_slack : (xs : List ℕ) → slack_of (forest (map leaf xs)) ≡ 0
-leaves_slack [] = refl
-leaves_slack (x ∷ xs) = omega (arith, leaves_slack xs)
-
-universal_slack : (c : ℕ) → 2 ≤ c → slack (universal c) + 3 ≤ 2 * c
-universal_slack c h =
-    omega (
-      arith,
-      h,
-      ap slack (universal_many c h),
-      count_forest (map leaf (columns c)),
-      length-map (columns c) leaf,
-      order_length c (columns c) (columns_order c),
-      leaves_slack (columns c),
-    )
+use Rattle.core_size.proofs.Slacks.{slacks}
 
 -- a tree over two columns or more has some slack
 some_slack : (c : ℕ) (t : Outline) → 2 ≤ c → IsProper c t → 1 ≤ slack t
@@ -118,6 +101,6 @@ pub core_size : NarrowsLaw → UniversalLaw → KeptLaw → ExistsLaw → TiedLa
 core_size narrows start kept exists frontiers alike m [] h all is = omega (arith, h)
 core_size narrows start kept exists frontiers alike m (k ∷ core) h all is =
     let u = start m.columns (omega (arith, h)) in
-    let first : Stage m.columns (rows_at m.rows (k ∷ core)) 0 = record { tree = universal m.columns; proper = u.0; tied = u.1; left = omega (arith, universal_slack m.columns h) } in
+    let first : Stage m.columns (rows_at m.rows (k ∷ core)) 0 = record { tree = universal m.columns; proper = u.0; tied = u.1; left = omega (arith, universal_measure slacks m.columns h) } in
     let last = stages narrows kept exists frontiers alike m (k ∷ core) all is first (length core) (omega arith) in
     omega (arith, last.left, some_slack m.columns last.tree h last.proper)

@@ -4,7 +4,7 @@ use Rattle.std.proofs.lemmas.List.{map_more, length-map}
 use Rattle.template_theory.specs.Labels.{Label, empty_label, full_label, partial_label, partials}
 use Rattle.pq_plain.specs.Seen.{outlines, label_seen, empties, fulls}
 use Rattle.pq_plain.specs.declared.label.Label.{Label as Marked}
-use Rattle.pq_tree.specs.Forests.{count}
+use Rattle.pq_tree.specs.Forests.{count as size_of}
 use Rattle.pq_tree.specs.Proper.{outline_of}
 use Rattle.pq_tree.specs.declared.Tree.{Tree}
 use Rattle.pq_tree.proofs.Forests.{count_forest}
@@ -27,59 +27,50 @@ partials_append (empty_label ∷ ps) qs = partials_append ps qs
 partials_append (full_label ∷ ps) qs = partials_append ps qs
 partials_append (partial_label h ∷ ps) qs = ap (λ x. h ∷ x) (partials_append ps qs)
 
--- a label is counted once
+-- a count of labels, each of which is counted at most once
+pub record IsCount (count : List Label → ℕ) : Type 0 where
+  push : (ps : List Label) (p : Label) → count (ps ++ p ∷ []) ≡ count ps + count (p ∷ [])
+  one : (p : Label) → count (p ∷ []) ≤ 1
+
 one_empty : (p : Label) → empties (p ∷ []) ≤ 1
 one_empty empty_label = omega arith
 one_empty full_label = omega arith
 one_empty (partial_label h) = omega arith
+
+pub count_empties : IsCount empties
+count_empties = record { push = empties_push; one = one_empty }
 
 one_full : (p : Label) → fulls (p ∷ []) ≤ 1
 one_full empty_label = omega arith
 one_full full_label = omega arith
 one_full (partial_label h) = omega arith
 
+pub count_fulls : IsCount fulls
+count_fulls = record { push = fulls_push; one = one_full }
+
 one_partial : (p : Label) → length (partials (p ∷ [])) ≤ 1
 one_partial empty_label = omega arith
 one_partial full_label = omega arith
 one_partial (partial_label h) = omega arith
 
--- the counts with one label more
-pub empties_more : (xs : List Marked) (i m n : ℕ) (x : Marked) → i < length xs → x ≡ get_or xs i x → m ≡ empties (map label_seen (take i xs)) → n ≡ m + empties (label_seen x ∷ []) →
-    (n ≡ empties (map label_seen (take (i + 1) xs))) × (n ≤ m + 1)
-empties_more xs i m n x h r e k = (
-  k ∙
-      ap (λ a. a + empties (label_seen x ∷ [])) e ∙
-      sym (empties_push (map label_seen (take i xs)) (label_seen x)) ∙
-      ap (λ y. empties (map label_seen (take i xs) ++ label_seen y ∷ [])) r ∙
-      sym (ap empties (map_more label_seen xs i x h)),
-  omega (arith, k, one_empty (label_seen x)),
-)
-
-pub fulls_more : (xs : List Marked) (i m n : ℕ) (x : Marked) → i < length xs → x ≡ get_or xs i x → m ≡ fulls (map label_seen (take i xs)) → n ≡ m + fulls (label_seen x ∷ []) →
-    (n ≡ fulls (map label_seen (take (i + 1) xs))) × (n ≤ m + 1)
-fulls_more xs i m n x h r e k = (
-  k ∙
-      ap (λ a. a + fulls (label_seen x ∷ [])) e ∙
-      sym (fulls_push (map label_seen (take i xs)) (label_seen x)) ∙
-      ap (λ y. fulls (map label_seen (take i xs) ++ label_seen y ∷ [])) r ∙
-      sym (ap fulls (map_more label_seen xs i x h)),
-  omega (arith, k, one_full (label_seen x)),
-)
-
 partials_push : (ps : List Label) (p : Label) → length (partials (ps ++ p ∷ [])) ≡ length (partials ps) + length (partials (p ∷ []))
 partials_push ps p = ap length (partials_append ps (p ∷ [])) ∙ length-append (partials ps) (partials (p ∷ []))
 
-pub partials_more : (xs : List Marked) (i m n : ℕ) (x : Marked) → i < length xs → x ≡ get_or xs i x → m ≡ length (partials (map label_seen (take i xs))) → n ≡ m + length (partials (label_seen x ∷ [])) →
-    (n ≡ length (partials (map label_seen (take (i + 1) xs)))) × (n ≤ m + 1)
-partials_more xs i m n x h r e k = (
+pub count_partials : IsCount (λ ps. length (partials ps))
+count_partials = record { push = partials_push; one = one_partial }
+
+-- with one label more
+pub count_more : {count : List Label → ℕ} → IsCount count → (xs : List Marked) (i m n : ℕ) (x : Marked) → i < length xs → x ≡ get_or xs i x → m ≡ count (map label_seen (take i xs)) → n ≡ m + count (label_seen x ∷ []) →
+    (n ≡ count (map label_seen (take (i + 1) xs))) × (n ≤ m + 1)
+count_more {count = count} c xs i m n x h r e k = (
   k ∙
-      ap (λ a. a + length (partials (label_seen x ∷ []))) e ∙
-      sym (partials_push (map label_seen (take i xs)) (label_seen x)) ∙
-      ap (λ y. length (partials (map label_seen (take i xs) ++ label_seen y ∷ []))) r ∙
-      sym (ap (λ ps. length (partials ps)) (map_more label_seen xs i x h)),
-  omega (arith, k, one_partial (label_seen x)),
+      ap (λ a. a + count (label_seen x ∷ [])) e ∙
+      sym (c.push (map label_seen (take i xs)) (label_seen x)) ∙
+      ap (λ y. count (map label_seen (take i xs) ++ label_seen y ∷ [])) r ∙
+      sym (ap count (map_more label_seen xs i x h)),
+  omega (arith, k, c.one (label_seen x)),
 )
 
 -- as many labels as trees
-pub marks_long : (ts : List Tree) (ls : List Marked) → length ls ≡ length ts → length (map label_seen ls) ≡ count (outlines ts)
+pub marks_long : (ts : List Tree) (ls : List Marked) → length ls ≡ length ts → length (map label_seen ls) ≡ size_of (outlines ts)
 marks_long ts ls n = length-map ls label_seen ∙ n ∙ sym (length-map ts outline_of) ∙ sym (count_forest (map outline_of ts))

@@ -1,12 +1,12 @@
 -- The templates of a Q-node below the pertinent root, as the program finds them.
 use Rattle.std.proofs.Common.{◌≡◌, ◌∙◌, ◌+◌, ◌≤◌, ℕ, List, [], ◌∷◌, ◌++◌, Some, None, map, take, drop, reverse, length, IsTrue, refl, sym, ap, ap₂, subst, arith, option_and_then, length-append, Option}
 use Rattle.std.proofs.lemmas.Bool.{cond-true}
-use Rattle.std.proofs.lemmas.List.{drop-map, take-map, length-map, length-reverse, length-drop, map-append, reverse-append, take-append-drop}
+use Rattle.std.proofs.lemmas.List.{drop-map, take-map, length-map, length-reverse, length-drop, reverse-append, take-append-drop}
 use Rattle.std.proofs.Math.Seq.{take-append_seam, drop-append_seam}
 use Rattle.pq_tree.specs.Outline.{Outline, Forest, no_tree, tree_and}
 use Rattle.pq_tree.specs.Proper.{outline_of}
 use Rattle.pq_tree.specs.Forests.{forest, join, back}
-use Rattle.pq_tree.proofs.Forests.{forest_reverse}
+use Rattle.pq_tree.proofs.Forests.{forest_reverse, map-reverse}
 use Rattle.pq_tree.specs.declared.Tree.{Tree}
 use Rattle.template_theory.specs.Labels.{Partial, Label, empty_label, full_label, partial_label, partials, first_of}
 use Rattle.template_theory.proofs.Computed.{all_full, one_more, run_of, at_q, at_run, first_some, q_label}
@@ -120,34 +120,20 @@ module _ (ts : List Tree) (ls ms : List Marked) (n : length ls ≡ length ts) (s
         (from_front (outlines ts) (map label_seen ls) _ (run_gives from_left))
 
 -- a run from the right
-pub labels_turned : (ls : List Marked) → map label_seen (reverse ls) ≡ reverse (map label_seen ls)
-labels_turned [] = refl
-labels_turned (l ∷ ls) =
-    ap (map label_seen) (reverse-append (l ∷ []) ls) ∙
-    map-append label_seen (reverse ls) (l ∷ []) ∙
-    ap (λ xs. xs ++ label_seen l ∷ []) (labels_turned ls) ∙
-    sym (reverse-append (label_seen l ∷ []) (map label_seen ls))
-
 cut_turned : {X : Type 0} (k : ℕ) (xs : List X) → reverse xs ≡ reverse (drop k xs) ++ reverse (take k xs)
 cut_turned k xs = ap reverse (sym (take-append-drop k xs)) ∙ reverse-append (take k xs) (drop k xs)
 
-take_turned : {X : Type 0} (i k : ℕ) (xs : List X) → k + i ≡ length xs → take i (reverse xs) ≡ reverse (drop k xs)
-take_turned i k xs h =
-    let size : i ≡ length (reverse (drop k xs)) = omega (arith, h, length-reverse (drop k xs), length-drop k xs) in
-    ap (take i) (cut_turned k xs) ∙
-    ap (λ m. take m (reverse (drop k xs) ++ reverse (take k xs))) size ∙
-    take-append_seam (reverse (drop k xs)) (reverse (take k xs))
-
-drop_turned : {X : Type 0} (i k : ℕ) (xs : List X) → k + i ≡ length xs → drop i (reverse xs) ≡ reverse (take k xs)
-drop_turned i k xs h =
-    let size : i ≡ length (reverse (drop k xs)) = omega (arith, h, length-reverse (drop k xs), length-drop k xs) in
-    ap (drop i) (cut_turned k xs) ∙
-    ap (λ m. drop m (reverse (drop k xs) ++ reverse (take k xs))) size ∙
-    drop-append_seam (reverse (drop k xs)) (reverse (take k xs))
+-- the first i items from the other end, and the rest
+turned_parts : {X : Type 0} (i k : ℕ) (xs : List X) → k + i ≡ length xs → (take i (reverse xs) ≡ reverse (drop k xs)) × (drop i (reverse xs) ≡ reverse (take k xs))
+turned_parts i k xs h =
+    let size : i ≡ length (reverse (drop k xs)) = omega (arith, h, length-reverse (drop k xs), length-drop k xs) in (
+      ap (take i) (cut_turned k xs) ∙ ap (λ m. take m (reverse (drop k xs) ++ reverse (take k xs))) size ∙ take-append_seam (reverse (drop k xs)) (reverse (take k xs)),
+      ap (drop i) (cut_turned k xs) ∙ ap (λ m. drop m (reverse (drop k xs) ++ reverse (take k xs))) size ∙ drop-append_seam (reverse (drop k xs)) (reverse (take k xs)),
+    )
 
 module _ (ts : List Tree) (ls ms ns : List Marked) (n : length ls ≡ length ts) (t : ns ≡ reverse ls) (s : ms ≡ ns) where
   turned_labels : map label_seen ms ≡ reverse (map label_seen ls)
-  turned_labels = ap (map label_seen) (s ∙ t) ∙ labels_turned ls
+  turned_labels = ap (map label_seen) (s ∙ t) ∙ map-reverse label_seen ls
 
   turned_size : length (reverse (map outline_of ts)) ≡ length ms
   turned_size = length-reverse (map outline_of ts) ∙ length-map ts outline_of ∙ sym n ∙ sym (length-reverse ls) ∙ ap length (sym t ∙ sym s)
@@ -177,12 +163,12 @@ module _ (ts : List Tree) (ls ms ns : List Marked) (n : length ls ≡ length ts)
         x ∙
         sym (forest_reverse (map outline_of us)) ∙
         ap (λ xs. forest (reverse xs)) (ap (map outline_of) u ∙ sym (drop-map outline_of i ts)) ∙
-        ap forest (sym (take_turned r.before i (map outline_of ts) (p ∙ sym (length-map ts outline_of)))) in
+        ap forest (sym (turned_parts r.before i (map outline_of ts) (p ∙ sym (length-map ts outline_of))).0) in
         let b : outlines fs ≡ forest (drop r.behind (reverse (map outline_of ts))) =
         y ∙
         sym (forest_reverse (map outline_of vs)) ∙
         ap (λ xs. forest (reverse xs)) (ap (map outline_of) v ∙ sym (take-map outline_of j ts)) ∙
-        ap forest (sym (drop_turned r.behind j (map outline_of ts) (q ∙ sym (length-map ts outline_of)))) in
+        ap forest (sym (turned_parts r.behind j (map outline_of ts) (q ∙ sym (length-map ts outline_of))).1) in
         let k : run_label (forest (take r.before (reverse (map outline_of ts)))) (first_of (partials (map label_seen ms))) (forest (drop r.behind (reverse (map outline_of ts)))) ≡ l =
         sym
         (z ∙

@@ -10,7 +10,7 @@ use Rattle.column_order.proofs.Lists.{occurs-append}
 use Rattle.pq_tree.specs.Outline.{Outline, Forest, leaf, p_node, q_node, tree_and, leaves, leaves_of}
 use Rattle.pq_tree.specs.Proper.{outline_of, HasArities, HaveArities, IsTree, AreTrees}
 use Rattle.pq_tree.specs.Forests.{forest, join}
-use Rattle.pq_tree.specs.Nodes.{children, IsNodeOf, holds, NoneHolds}
+use Rattle.pq_tree.specs.Nodes.{children, IsNode, IsNodeOf, holds, NoneHolds}
 use Rattle.pq_tree.specs.declared.Tree.{Tree, Leaf, P, Q}
 use Rattle.pq_tree.proofs.Shown.{outline_of-Leaf, outline_of-P, outline_of-Q, leaves_of-append}
 use Rattle.pq_plain.specs.Seen.{outlines}
@@ -174,39 +174,28 @@ leaf_found row r t a n s e k =
     )
 
 -- one of the children of a node
-step_P : (row : List ℕ) (ts us : Forest) (step : Step) → IsStepIn row ts us step → IsStep row (p_node ts) (p_node us) step
-step_P row ts us Taken h =
+step_at : (row : List ℕ) (N : Forest → Outline) (ts us : Forest) (step : Step) →
+    ((x y t u : Outline) (before behind : Forest) → IsReplaced x y t u → IsReplaced x y (N (join before (tree_and t behind))) (N (join before (tree_and u behind)))) →
+    ((x : Outline) → IsNodeOf x ts → IsNode x (N ts)) → IsStepIn row ts us step → IsStep row (N ts) (N us) step
+step_at row N ts us Taken under below h =
     record {
       x = h.root.x;
       y = h.root.y;
       lowest = h.root.lowest;
       made = h.root.made;
       replaced =
-          subst (IsReplaced h.root.x h.root.y (p_node ts)) (ap p_node h.new)
-          (subst (λ s. IsReplaced h.root.x h.root.y (p_node s) (p_node (join h.before (tree_and h.u h.behind)))) h.old (replaced_under_p h.before h.behind h.root.replaced));
+          subst (IsReplaced h.root.x h.root.y (N ts)) (ap N h.new)
+          (subst (λ s. IsReplaced h.root.x h.root.y (N s) (N (join h.before (tree_and h.u h.behind)))) h.old (under h.root.x h.root.y h.t h.u h.before h.behind h.root.replaced));
     }
-step_P row ts us Refused h = ((h.0.0, record { node = inr h.0.1; whole = h.0.2.0; smallest = h.0.2.1 }, h.0.3), ap p_node h.1)
-
-step_Q : (row : List ℕ) (ts us : Forest) (step : Step) → IsStepIn row ts us step → IsStep row (q_node ts) (q_node us) step
-step_Q row ts us Taken h =
-    record {
-      x = h.root.x;
-      y = h.root.y;
-      lowest = h.root.lowest;
-      made = h.root.made;
-      replaced =
-          subst (IsReplaced h.root.x h.root.y (q_node ts)) (ap q_node h.new)
-          (subst (λ s. IsReplaced h.root.x h.root.y (q_node s) (q_node (join h.before (tree_and h.u h.behind)))) h.old (replaced_under_q h.before h.behind h.root.replaced));
-    }
-step_Q row ts us Refused h = ((h.0.0, record { node = inr h.0.1; whole = h.0.2.0; smallest = h.0.2.1 }, h.0.3), ap q_node h.1)
+step_at row N ts us Refused under below h = ((h.0.0, record { node = below h.0.0 h.0.1; whole = h.0.2.0; smallest = h.0.2.1 }, h.0.3), ap N h.1)
 
 found_P : (row : List ℕ) (ts us : Forest) (found : Found) → IsFoundIn row ts us found → IsFoundBelow row (p_node ts) (p_node us) found
 found_P row ts us (Columns n) h = (ap p_node h.0, h.1, h.2)
-found_P row ts us (Root step) h = step_P row ts us step h
+found_P row ts us (Root step) h = step_at row p_node ts us step (λ x y t u before behind r. replaced_under_p before behind r) (λ x n. inr n) h
 
 found_Q : (row : List ℕ) (ts us : Forest) (found : Found) → IsFoundIn row ts us found → IsFoundBelow row (q_node ts) (q_node us) found
 found_Q row ts us (Columns n) h = (ap q_node h.0, h.1, h.2)
-found_Q row ts us (Root step) h = step_Q row ts us step h
+found_Q row ts us (Root step) h = step_at row q_node ts us step (λ x y t u before behind r. replaced_under_q before behind r) (λ x n. inr n) h
 
 module _ (r t : Tree) (v : Vec Tree Global) (os : List Tree) (is : r ≡ t) (read : os ≡ v.items) where
   old_P : r ≡ P v → outline_of t ≡ p_node (outlines os)

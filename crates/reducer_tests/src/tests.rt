@@ -1,5 +1,6 @@
 mod answers;
 mod both;
+mod counted;
 mod drawn;
 mod marks;
 mod searches;

@@ -1,5 +1,6 @@
 -- How many patterns are asked: at most six at a node.
 use Rattle.std.proofs.Common.{◌≡◌, zero, suc, ◌<◌, List, length, set, refl, sym, ap, subst, ◌∙◌, ℕ, ◌+◌, ◌*◌, ◌≤◌, Option, None, Some, arith}
+use Rattle.std.proofs.Math.Nat.{mul-le-mul_right}
 use Rattle.std.proofs.lemmas.List.{get_or-set_same, get_or-set_other}
 use Rattle.arena_model.specs.Layout.{Layout, shape_at}
 use Rattle.bubble_pass.specs.Marks.{Marks}
@@ -11,37 +12,28 @@ use Rattle.row_reduce.specs.declared.template.Template.TheVariants.{L1, P1, P2, 
 use Rattle.row_reduce.specs.Asked.{asked, asked_p, asked_q}
 use Rattle.row_reduce.specs.Decided.{template_in, labelled_at, asking}
 
-few_p : (t : Option Template) (g : ℕ) → 4 * asked_p t * g ≤ 24 * g
-few_p None g = omega arith
-few_p (Some L1) g = omega arith
-few_p (Some P1) g = omega arith
-few_p (Some P2) g = omega arith
-few_p (Some P3) g = omega arith
-few_p (Some P4) g = omega arith
-few_p (Some P5) g = omega arith
-few_p (Some P6) g = omega arith
-few_p (Some Q1) g = omega arith
-few_p (Some Q2) g = omega arith
-few_p (Some Q3) g = omega arith
+-- no more than six patterns are asked, whatever the answer
+few : (t : Option Template) → (asked_p t ≤ 6) × (asked_q t ≤ 6)
+few None = (omega arith, omega arith)
+few (Some L1) = (omega arith, omega arith)
+few (Some P1) = (omega arith, omega arith)
+few (Some P2) = (omega arith, omega arith)
+few (Some P3) = (omega arith, omega arith)
+few (Some P4) = (omega arith, omega arith)
+few (Some P5) = (omega arith, omega arith)
+few (Some P6) = (omega arith, omega arith)
+few (Some Q1) = (omega arith, omega arith)
+few (Some Q2) = (omega arith, omega arith)
+few (Some Q3) = (omega arith, omega arith)
 
-few_q : (t : Option Template) (g : ℕ) → 4 * asked_q t * g ≤ 24 * g
-few_q None g = omega arith
-few_q (Some L1) g = omega arith
-few_q (Some P1) g = omega arith
-few_q (Some P2) g = omega arith
-few_q (Some P3) g = omega arith
-few_q (Some P4) g = omega arith
-few_q (Some P5) g = omega arith
-few_q (Some P6) g = omega arith
-few_q (Some Q1) g = omega arith
-few_q (Some Q2) g = omega arith
-few_q (Some Q3) g = omega arith
+six_times : (k g : ℕ) → k ≤ 6 → 4 * k * g ≤ 24 * g
+six_times k g l = mul-le-mul_right g (omega (arith, l))
 
 pub few_asked : (s : Option Shape) (t : Option Template) (g : ℕ) → 4 * asked s t * g ≤ 24 * g
 few_asked None t g = omega arith
 few_asked (Some (Leaf a)) t g = omega arith
-few_asked (Some P) t g = few_p t g
-few_asked (Some Q) t g = few_q t g
+few_asked (Some P) t g = six_times (asked_p t) g (few t).0
+few_asked (Some Q) t g = six_times (asked_q t) g (few t).1
 
 -- the bound on a choice, with the look that told the shape
 pub choice_ticks : (s : Option Shape) (t : Option Template) (n before after : ℕ) → after ≤ before + 1 + 4 * asked s t * (n + 1) → after ≤ before + 25 * (n + 1)

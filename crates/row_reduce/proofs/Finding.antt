@@ -10,7 +10,7 @@ use Rattle.pq_arena.specs.RowNodes.{column_leaves}
 use Rattle.bubble_pass.specs.declared.labels.Label.TheVariants.{Empty}
 use Rattle.bubble_pass.specs.Fair.{AtMost}
 use Rattle.bubble_pass.specs.Marks.{Marks, label_at, size_of}
-use Rattle.bubble_pass.specs.Pass.{FoundRoot, FoundInside}
+use Rattle.bubble_pass.specs.Pass.{AreMarked, FoundRoot, FoundInside}
 use Rattle.bubble_pass.specs.Sweep.{IsRight}
 use Rattle.template_model.specs.Standing.{IsReady}
 use Rattle.template_model.proofs.Replaced.{join_paths, parent_used, below_used}
@@ -33,17 +33,14 @@ used_above : (f : Layout) (n x : ℕ) → IsLayout f → IsAtOrAbove f.slots n x
 used_above f _ _ h (here n) used = used
 used_above f _ _ h (down n k x o l) used = parent_used f n k h o
 
+ground_at : {f : Layout} {v : Marks} {row : List ℕ} → IsMarkedRow f v row → (q : ℕ) → IsInUse f q → AreMarked f (column_leaves row) v q → IsGround f v row q
+ground_at s q used marked = record { layout = s.layout; one = s.one; two = s.two; is_row = s.is_row; room = s.room; used = used; marked = marked }
+
 pub at_found_root : {f : Layout} {v : Marks} {row : List ℕ} → IsMarkedRow f v row → (q : ℕ) → FoundRoot f (column_leaves row) v q → AtFoundRoot f v row q
 at_found_root {f = f} {row = row} s q found = record {
-  ground = record {
-    layout = s.layout;
-    one = s.one;
-    two = s.two;
-    is_row = s.is_row;
-    room = s.room;
-    used = let x = first_leaf row s.some in used_above f q x.0 s.layout (found.root.holds x.0 x.1) (leaf_used x.0 x.1);
-    marked = found.marked;
-  };
+  ground =
+      let x = first_leaf row s.some in
+      ground_at s q (used_above f q x.0 s.layout (found.root.holds x.0 x.1) (leaf_used x.0 x.1)) found.marked;
   found = found;
   some = s.some;
 }
@@ -54,15 +51,7 @@ at_found_root {f = f} {row = row} s q found = record {
 pub at_found_inside : {f : Layout} {v : Marks} {row : List ℕ} → IsMarkedRow f v row → FoundInside f (column_leaves row) v → AtFoundInside f v row
 at_found_inside s found = record {
   found = found;
-  ground = record {
-    layout = s.layout;
-    one = s.one;
-    two = s.two;
-    is_row = s.is_row;
-    room = s.room;
-    used = λ e. let z : None ≡ Some Q = sym e ∙ found.run.is_q in cc;
-    marked = found.marked;
-  };
+  ground = ground_at s found.run.q (λ e. let z : None ≡ Some Q = sym e ∙ found.run.is_q in cc) found.marked;
   some = s.some;
 }
 

@@ -82,6 +82,10 @@ asked : {f : Layout} {c : ℕ} {rows : List (List ℕ)} {k : ℕ} {row : List �
 asked {rows = rows} {k = k} s two some = let x = first_leaf (row_at rows k) some in
     record { layout = s.layout; one = s.one; two = two; is_row = row_over_arena s; leaf = x.0; in_row = x.1 }
 
+-- the group, by another name of its list
+pub group_named : {f : Layout} {xs : List ℕ} {n : ℕ} {ms ks : List NodeId} → ms ≡ ks → IsGroup f xs n (indices ks) → IsGroup f xs n (indices ms)
+group_named {f = f} {xs = xs} {n = n} e g = subst (λ ks. IsGroup f xs n (indices ks)) (sym e) g
+
 -- the row of a group is taken
 pub group_taken : {f : Layout} {c : ℕ} {rows : List (List ℕ)} {k : ℕ} {row : List ℕ} → IsRowOver f c rows k row → HasTwoEach f → row_at rows k ≢ [] → RootTurnedLaw → (n : ℕ) (ms : List ℕ) →
     IsGroup f (column_leaves (row_at rows k)) n ms → (h : Layout) → IsLayout h → IsReplacedAt f h n n →

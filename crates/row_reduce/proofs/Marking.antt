@@ -4,7 +4,7 @@ use Rattle.std.proofs.lemmas.Bool.{cases_eq}
 use Rattle.column_order.specs.Orders.{occurs}
 use Rattle.pq_tree.specs.Outline.{Outline, Forest, no_tree}
 use Rattle.pq_tree.specs.Forests.{forest}
-use Rattle.template_theory.specs.Templates.{Partial, Label, empty_label, full_label, partial_label, IsSorted, none_sorted, to_empty, to_full, to_partial, AreAllFull, AreAllEmpty}
+use Rattle.template_theory.specs.Templates.{Partial, Label, empty_label, full_label, partial_label, IsSorted, none_sorted, to_empty, to_full, to_partial, AreAllFull}
 use Rattle.arena_model.specs.declared.Shape.TheVariants.{Leaf}
 use Rattle.arena_model.specs.Layout.{Layout, shape_at, children_at, IsInUse, IsLayout, IsAtOrAbove, down}
 use Rattle.arena_model.specs.NamedTree.{HasTwoEach}
@@ -42,7 +42,7 @@ marked_at lab m (j ∷ ks) (p ∷ ps) e all k o =
       | inr ne ↦ marked_at lab m ks ps b all.1 k (subst (λ z. 1 ≤ z) (occurs_other j k ks ne) o)
     ]
 
--- all labels are full, or all are empty
+-- all labels are full
 pub all_full : (F : ℕ → Outline) (lab : ℕ → Mark) (ks : List ℕ) (ps : List Label) → map mark_of ps ≡ map lab ks → AreMarked Full ps → AreAllFull (forest (map F ks)) ps
 all_full F lab [] [] e all = none_sorted
 all_full F lab [] (p ∷ ps) e all = absurd (cc)
@@ -50,14 +50,6 @@ all_full F lab (k ∷ ks) [] e all = absurd (cc)
 all_full F lab (k ∷ ks) (empty_label ∷ ps) e all = absurd (let z : Empty ≡ Full = all.0 in cc)
 all_full F lab (k ∷ ks) (full_label ∷ ps) e all = to_full (all_full F lab ks ps (let b : map mark_of ps ≡ map lab ks = cc in b) all.1)
 all_full F lab (k ∷ ks) (partial_label h ∷ ps) e all = absurd (let z : Partly ≡ Full = all.0 in cc)
-
-pub all_empty : (F : ℕ → Outline) (lab : ℕ → Mark) (ks : List ℕ) (ps : List Label) → map mark_of ps ≡ map lab ks → AreMarked Empty ps → AreAllEmpty (forest (map F ks)) ps
-all_empty F lab [] [] e all = none_sorted
-all_empty F lab [] (p ∷ ps) e all = absurd (cc)
-all_empty F lab (k ∷ ks) [] e all = absurd (cc)
-all_empty F lab (k ∷ ks) (full_label ∷ ps) e all = absurd (let z : Full ≡ Empty = all.0 in cc)
-all_empty F lab (k ∷ ks) (empty_label ∷ ps) e all = to_empty (all_empty F lab ks ps (let b : map mark_of ps ≡ map lab ks = cc in b) all.1)
-all_empty F lab (k ∷ ks) (partial_label h ∷ ps) e all = absurd (let z : Partly ≡ Empty = all.0 in cc)
 
 pub full_marks : {ts es fs : Forest} {ps : List Label} {hs : List Partial} → IsSorted ts ps es fs hs → es ≡ no_tree → hs ≡ [] → AreMarked Full ps
 full_marks none_sorted a b = tt

@@ -26,7 +26,7 @@ use Rattle.bubble_pass.specs.Marks.{Marks, size_of}
 use Rattle.bubble_pass.specs.Pass.{FoundRoot, FoundInside}
 use Rattle.template_model.proofs.Replaced.{below_used}
 use Rattle.row_reduce.specs.Ground.{IsGround}
-use Rattle.row_reduce.specs.Outcome.{IsOutcome, AtFoundRoot, AtFoundInside}
+use Rattle.row_reduce.specs.Outcome.{IsOutcome, AtFoundRoot, AtFoundInside, CanTakeRow}
 use Rattle.row_reduce.proofs.Finding.{IsMarkedRow, at_found_root, at_found_inside, root_few, root_few_below, inside_few, inside_few_below}
 use Rattle.row_reduce.proofs.AtRoot.{least}
 use Rattle.row_reduce.proofs.AtInside.{inside_least}
@@ -48,15 +48,14 @@ pub record IsRowOver (f : Layout) (c : ℕ) (rows : List (List ℕ)) (k : ℕ) (
   pub at : slice_get rows (k - 1) ≡ Some row
   pub is_row : IsRow c row
 
-pub row_over : {f : Layout} {c : ℕ} {rows : List (List ℕ)} {k : ℕ} {row : List ℕ} → IsLayout f → IsOneTree f → f.columns ≡ c → IsProper c (outline_at f) → (1 ≤ k) × (k ≤ length rows) →
-    IsTied c (take (k - 1) rows) (outline_at f) → slice_get rows (k - 1) ≡ Some row → IsRow c row → IsRowOver f c rows k row
-row_over layout one columns proper within tied at is_row = record {
+pub row_over : {f : Layout} {c : ℕ} {rows : List (List ℕ)} {k : ℕ} {row : List ℕ} → IsLayout f → CanTakeRow f c rows k → slice_get rows (k - 1) ≡ Some row → IsRow c row → IsRowOver f c rows k row
+row_over layout can at is_row = record {
   layout = layout;
-  one = one;
-  columns = columns;
-  proper = proper;
-  within = within;
-  tied = tied;
+  one = can.one;
+  columns = can.columns;
+  proper = can.proper;
+  within = can.within;
+  tied = can.tied;
   at = at;
   is_row = is_row;
 }

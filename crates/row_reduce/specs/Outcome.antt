@@ -1,5 +1,5 @@
 -- What one row does to the arena.
-use Rattle.std.specs.Prelude.{◌≡◌, ◌≢◌, ℕ, List, [], take}
+use Rattle.std.specs.Prelude.{◌≡◌, ◌≢◌, ℕ, ◌-◌, ◌≤◌, List, [], length, take}
 use Rattle.column_order.specs.Orders.{HasValidOrder}
 use Rattle.row_model.specs.Graph.{row_at, HasConflict}
 use Rattle.pq_tree.specs.Proper.{IsProper}
@@ -19,6 +19,14 @@ use Rattle.row_reduce.specs.Ground.{IsGround}
 abbrev pub IsOutcome : List ℕ → Layout → Layout → Step → Type 0
 IsOutcome row f g Taken = IsReduced row (outline_at f) (outline_at g) × IsOneTree g × (g.columns ≡ f.columns)
 IsOutcome row f g Refused = IsRefused row (outline_at f) × (g ≡ f)
+
+-- what row k of the rows over c columns asks of the arena: one tree over these columns, tied to the rows before it
+pub record CanTakeRow (f : Layout) (c : ℕ) (rows : List (List ℕ)) (k : ℕ) : Type 0 where
+  pub one : IsOneTree f
+  pub columns : f.columns ≡ c
+  pub proper : IsProper c (outline_at f)
+  pub within : (1 ≤ k) × (k ≤ length rows)
+  pub tied : IsTied c (take (k - 1) rows) (outline_at f)
 
 -- the pass has found the pertinent root q
 pub record AtFoundRoot (f : Layout) (v : Marks) (row : List ℕ) (q : ℕ) : Type 0 where

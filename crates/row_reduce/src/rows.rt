@@ -1,12 +1,10 @@
 // One row over an arena.
-ghost use Rattle.std.specs.Prelude.{◌≡◌, ◌≢◌, ℕ, ◌+◌, ◌*◌, ◌-◌, ◌≤◌, List, [], length, take};
+ghost use Rattle.std.specs.Prelude.{◌≡◌, ◌≢◌, ℕ, ◌+◌, ◌*◌, ◌≤◌, List, [], length};
 ghost use Rattle.row_model.specs.Graph.{row_at};
 ghost use Rattle.pq_tree.specs.Amortised.{nodes_met, nodes_met_below_root};
-ghost use Rattle.pq_tree.specs.Proper.{IsProper};
-ghost use Rattle.tied_law.specs.Tied.{IsTied};
-ghost use Rattle.arena_model.specs.NamedTree.{IsOneTree, outline_at};
+ghost use Rattle.arena_model.specs.NamedTree.{outline_at};
 ghost use Rattle.bubble_pass.specs.Marks.{size_of};
-ghost use Rattle.row_reduce.specs.Outcome.{IsOutcome, IsRowOutcome, AtFoundRoot, AtFoundInside};
+ghost use Rattle.row_reduce.specs.Outcome.{CanTakeRow, IsOutcome, IsRowOutcome, AtFoundRoot, AtFoundInside};
 
 use crate::apply::{apply_chosen, apply_one};
 use crate::decide::decide;
@@ -32,14 +30,10 @@ pub fn reduce_arena<L: Ledger>(
     k: u32,
     steps: &mut Steps<L>,
 ) -> Step
-    requires tree { IsOneTree arena.old }
-    requires columns { arena.old.columns ≡ m.now.columns }
-    requires proper { IsProper m.now.columns (outline_at arena.old) }
+    requires tree { CanTakeRow arena.old m.now.columns m.now.rows k }
     requires room { size_of work.old ≡ length arena.old.slots }
     requires chosen { length chosen.old ≡ length arena.old.slots }
     requires full { full.old.size ≡ length arena.old.slots }
-    requires row { (1 ≤ k) × (k ≤ length m.now.rows) }
-    requires tied { IsTied m.now.columns (take (k - 1) m.now.rows) (outline_at arena.old) }
     ensures outcome { IsRowOutcome m.now.columns m.now.rows k arena.old arena.new result }
     ensures room { size_of work.new ≡ size_of work.old }
     ensures full { full.new.size ≡ full.old.size }
@@ -75,13 +69,9 @@ fn reduce_by_templates<L: Ledger>(
     k: u32,
     steps: &mut Steps<L>,
 ) -> Step
-    requires tree { IsOneTree arena.old }
-    requires columns { arena.old.columns ≡ m.now.columns }
-    requires proper { IsProper m.now.columns (outline_at arena.old) }
+    requires tree { CanTakeRow arena.old m.now.columns m.now.rows k }
     requires room { size_of work.old ≡ length arena.old.slots }
     requires chosen { length chosen.old ≡ length arena.old.slots }
-    requires row { (1 ≤ k) × (k ≤ length m.now.rows) }
-    requires tied { IsTied m.now.columns (take (k - 1) m.now.rows) (outline_at arena.old) }
     requires some { row_at m.now.rows k ≢ [] }
     ensures outcome { IsRowOutcome m.now.columns m.now.rows k arena.old arena.new result }
     ensures room { size_of work.new ≡ size_of work.old }

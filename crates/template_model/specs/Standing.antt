@@ -1,5 +1,5 @@
 -- A node of an arena with the labels of its children, as the templates see it.
-use Rattle.std.specs.Prelude.{◌≡◌, ◌≢◌, ◌⊎◌, ℕ, ◌≤◌, true, List, [], ◌∷◌, ◌++◌, map, reverse, length, Some, All}
+use Rattle.std.specs.Prelude.{◌≡◌, ◌≢◌, ◌⊎◌, ◌↔◌, ℕ, ◌≤◌, Bool, true, IsTrue, List, [], ◌∷◌, ◌++◌, map, reverse, length, Some, All}
 use Rattle.column_order.specs.Orders.{occurs}
 use Rattle.pq_tree.specs.Outline.{Forest}
 use Rattle.pq_tree.specs.Proper.{forest}
@@ -25,6 +25,10 @@ mark_of (partial_label h) = Partly
 -- the marks of the children of n are those of the labels ps
 abbrev pub AreMarkedAs : Layout → Marks → ℕ → List Label → Type 0
 AreMarkedAs f w n ps = map mark_of ps ≡ map (label_at w) (children_at f n)
+
+-- the answer tells whether a pattern fits the children of n, whatever labels with their marks these have
+abbrev pub Tells : Layout → Marks → ℕ → (List Label → Type 0) → Bool → Type 0
+Tells f w n fits answer = (ps : List Label) → AreMarkedAs f w n ps → (IsTrue answer ↔ fits ps)
 
 -- The Q-node k stands for the partial h: empty children, one or more, then full ones, one or more, in this order or turned.
 pub record IsShapeAt (f : Layout) (w : Marks) (k : ℕ) (h : Partial) : Type 0 where

@@ -4,7 +4,7 @@ use Rattle.column_order.specs.Orders.{occurs}
 use Rattle.arena_model.specs.declared.Shape.TheVariants.{Leaf}
 use Rattle.pq_tree.specs.Outline.{Outline}
 use Rattle.pq_tree.specs.Equivalent.{IsEquivalent}
-use Rattle.template_theory.specs.Templates.{Partial, partial_label}
+use Rattle.template_theory.specs.Templates.{Partial, Label, partial_label}
 use Rattle.template_theory.specs.Reduced.{IsTurned}
 use Rattle.arena_model.specs.ChildLists.{with_replaced}
 use Rattle.arena_model.specs.Layout.{Layout, shape_at, children_at, IsAtOrAbove, IsInUse}
@@ -12,7 +12,7 @@ use Rattle.arena_model.specs.NamedTree.{outline_below, IsOneTree, HasTwoEach}
 use Rattle.bubble_pass.specs.Marks.{Marks, label_at, size_of}
 use Rattle.bubble_pass.specs.Pass.{IsRightAt}
 use Rattle.bubble_pass.specs.Sweep.{IsRight}
-use Rattle.template_model.specs.Standing.{IsShapeAt}
+use Rattle.template_model.specs.Standing.{AreMarkedAs, AreShapesAt, IsShapeAt}
 
 -- m is in use, and not at or below n
 abbrev pub IsOutside : Layout → ℕ → ℕ → Type 0
@@ -57,3 +57,14 @@ pub record StandsForPartial (g : Layout) (w : Marks) (a : ℕ) (x : Partial) : T
   pub shape : Partial
   pub turned : IsTurned (partial_label x) (partial_label shape)
   pub is : IsShapeAt g w a shape
+
+-- Whatever labels the children of n have with their marks, each partial child standing as its Q-shape: the tree that the
+-- template makes by them stands at a.
+abbrev pub BecomesTree : Layout → Layout → Marks → ℕ → ℕ → (List Label → Outline → Type 0) → Type 0
+BecomesTree f g v n a makes =
+    (ps : List Label) (u : Outline) → AreMarkedAs f v n ps → AreShapesAt f v (children_at f n) ps → makes ps u → StandsForTree g a u
+
+-- so where it makes a partial
+abbrev pub BecomesPartial : Layout → Layout → Marks → Marks → ℕ → ℕ → (List Label → Partial → Type 0) → Type 0
+BecomesPartial f g v w n a makes =
+    (ps : List Label) (x : Partial) → AreMarkedAs f v n ps → AreShapesAt f v (children_at f n) ps → makes ps x → StandsForPartial g w a x

@@ -5,7 +5,7 @@ use Rattle.column_order.specs.Orders.{has, occurs}
 use Rattle.column_order.proofs.Lists.{has_append_left, occurs-append, has_same}
 use Rattle.pq_tree.specs.Outline.{Outline, Forest, p_node, q_node, no_tree, tree_and, leaves, leaves_of}
 use Rattle.tied_law.specs.Tied.{IsForward}
-use Rattle.tied_law.proofs.Bound.{IsClosed, AreClosed, IsInLine, IsBound, AreBound, line_closed}
+use Rattle.tied_law.proofs.Bound.{IsClosed, AreClosed, IsInLine, IsBound, AreBound, line_closed, IsPairEq}
 use Rattle.pq_tree.specs.Forests.{join}
 use Rattle.pq_tree.proofs.Forests.{has_join_right}
 use Rattle.template_theory.proofs.AtRoot.{Rooted, set_through}
@@ -61,21 +61,27 @@ module _ (row : List ℕ) (t u : Outline) (r : Rooted row t u) (within : (a : �
   back_same : (a : ℕ) → occurs (leaves t) a ≡ occurs (leaves u) a
   back_same a = sym (r.same a)
 
+  inner_bound : (R : Pair → Pair → Type 0) → IsPairEq R → AreBound R (join xs (tree_and u ys)) → IsBound R t × IsClosed R (leaves t) row
+  inner_bound R eq b = r.up R eq (the_bound R u xs ys b)
+
+  row_closed : (R : Pair → Pair → Type 0) → AreClosed R (leaves_of (join xs (tree_and t ys))) (join xs (tree_and t ys)) → IsClosed R (leaves t) row → IsClosed R (leaves_of (join xs (tree_and t ys))) row
+  row_closed R c k = set_through R (leaves_of (join xs (tree_and t ys))) (leaves t) row within (the_closed R (leaves_of (join xs (tree_and t ys))) t xs ys c) k
+
+  outer_bound : (R : Pair → Pair → Type 0) → IsPairEq R → AreBound R (join xs (tree_and t ys)) → IsClosed R (leaves_of (join xs (tree_and t ys))) row → AreBound R (join xs (tree_and u ys))
+  outer_bound R eq b c = swap_bound t u r.same R xs ys b (r.down R eq (the_bound R t xs ys b) (λ a e d i j k n. c a e d i j (the_within t xs ys d k) n))
+
   pub rooted_p : Rooted row (p_node (join xs (tree_and t ys))) (p_node (join xs (tree_and u ys)))
   rooted_p =
       record {
         same = swap_occurs t u r.same xs ys;
         up = λ R eq b.
-            let k : IsBound R t × IsClosed R (leaves t) row = r.up R eq (the_bound R u xs ys b.1) in
+            let k : IsBound R t × IsClosed R (leaves t) row = inner_bound R eq b.1 in
             let c : AreClosed R (leaves_of (join xs (tree_and t ys))) (join xs (tree_and t ys)) =
-            swap_closed u t back_same R (leaves_of (join xs (tree_and u ys))) (leaves_of (join xs (tree_and t ys))) (λ a. sym (swap_has t u r.same xs ys a)) xs ys b.0 in (
-              (c, swap_bound u t back_same R xs ys b.1 k.0),
-              set_through R (leaves_of (join xs (tree_and t ys))) (leaves t) row within (the_closed R (leaves_of (join xs (tree_and t ys))) t xs ys c) k.1,
-            );
+            swap_closed u t back_same R (leaves_of (join xs (tree_and u ys))) (leaves_of (join xs (tree_and t ys))) (λ a. sym (swap_has t u r.same xs ys a)) xs ys b.0 in
+            ((c, swap_bound u t back_same R xs ys b.1 k.0), row_closed R c k.1);
         down = λ R eq b c. (
           swap_closed t u r.same R (leaves_of (join xs (tree_and t ys))) (leaves_of (join xs (tree_and u ys))) (swap_has t u r.same xs ys) xs ys b.0,
-          swap_bound t u r.same R xs ys b.1
-              (r.down R eq (the_bound R t xs ys b.1) (λ a e d i j k n. c a e d i j (the_within t xs ys d k) n)),
+          outer_bound R eq b.1 c,
         );
       }
 
@@ -84,15 +90,8 @@ module _ (row : List ℕ) (t u : Outline) (r : Rooted row t u) (within : (a : �
       record {
         same = swap_occurs t u r.same xs ys;
         up = λ R eq b.
-            let k : IsBound R t × IsClosed R (leaves t) row = r.up R eq (the_bound R u xs ys b.1) in
-            let c : IsInLine R (join xs (tree_and t ys)) = λ v w i j. b.0 v w (swap_forward u t back_same xs ys v i) (swap_forward u t back_same xs ys w j) in (
-              (c, swap_bound u t back_same R xs ys b.1 k.0),
-              set_through R (leaves_of (join xs (tree_and t ys))) (leaves t) row within
-                  (the_closed R (leaves_of (join xs (tree_and t ys))) t xs ys (line_closed R eq (join xs (tree_and t ys)) c)) k.1,
-            );
-        down = λ R eq b c. (
-          (λ v w i j. b.0 v w (swap_forward t u r.same xs ys v i) (swap_forward t u r.same xs ys w j)),
-          swap_bound t u r.same R xs ys b.1
-              (r.down R eq (the_bound R t xs ys b.1) (λ a e d i j k n. c a e d i j (the_within t xs ys d k) n)),
-        );
+            let k : IsBound R t × IsClosed R (leaves t) row = inner_bound R eq b.1 in
+            let c : IsInLine R (join xs (tree_and t ys)) = λ v w i j. b.0 v w (swap_forward u t back_same xs ys v i) (swap_forward u t back_same xs ys w j) in
+            ((c, swap_bound u t back_same R xs ys b.1 k.0), row_closed R (line_closed R eq (join xs (tree_and t ys)) c) k.1);
+        down = λ R eq b c. ((λ v w i j. b.0 v w (swap_forward t u r.same xs ys v i) (swap_forward t u r.same xs ys w j)), outer_bound R eq b.1 c);
       }

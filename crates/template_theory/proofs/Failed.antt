@@ -35,6 +35,13 @@ pub and_then_none : {X Y : Type 0} (f : X → Option Y) (o : Option X) → optio
 and_then_none f None e = inl refl
 and_then_none f (Some x) e = inr (x, refl, e)
 
+pub after_none : {X Y : Type 0} (f : X → Y) (o : Option X) → option_and_then (λ x. Some (f x)) o ≡ None → o ≡ None
+after_none f None e = refl
+after_none f (Some x) e = absurd (some_none (f x) e)
+  where
+    some_none : {Y : Type 0} (y : Y) → Some y ≡ None → ⊥
+    some_none y e = cc
+
 pub first_none : {X : Type 0} (o k : Option X) → first_some o k ≡ None → (o ≡ None) × (k ≡ None)
 first_none (Some x) k e = cc
 first_none None k e = (refl, e)
@@ -77,6 +84,9 @@ in_left row u h t a k = sym (has_same (leaves_of (join h.e h.f)) (leaves u) a (t
 pub in_right : (row : List ℕ) (u : Outline) (h : Partial) (t : Treated row u h.e h.f) → (a : ℕ) → IsTrue (has (leaves_of h.f) a) → IsTrue (has (leaves u) a)
 in_right row u h t a k = sym (has_same (leaves_of (join h.e h.f)) (leaves u) a (t.same a)) ∙ has_join_right h.e h.f a k
 
+pub both_leaves : (row : List ℕ) (u : Outline) (h : Partial) (t : Treated row u h.e h.f) → IsTrue (has (leaves u) t.some_empty.0) × IsTrue (has (leaves u) t.some_full.0)
+both_leaves row u h t = (in_left row u h t t.some_empty.0 t.some_empty.1, in_right row u h t t.some_full.0 t.some_full.1)
+
 -- a later tree that isn't full has an empty column
 some_empty_column : (row : List ℕ) (ts : Forest) (ps : List Label) → AreLabelled row ts ps → HaveArities ts → IsFalse (all_full ps) → (d : ℕ) × IsTrue (has (leaves_of ts) d) × IsFalse (has row d)
 some_empty_column row ts ps none_labelled c e = absurd (both_ways true e refl)
@@ -90,13 +100,7 @@ some_empty_column row ts ps (more_labelled {t = t} {ts = us} (labelled_partial h
 run_falls : (row : List ℕ) (ts : Forest) (ps : List Label) → AreLabelled row ts ps → HaveArities ts → run_of ts ps ≡ None → Falls row ts
 run_falls row ts ps none_labelled c e = cc
 run_falls row ts ps (more_labelled {t = t} {ts = us} {ps = qs} (labelled_empty k) m) c e =
-    elim (and_then_none (λ r. Some (one_more t r)) (run_of us qs) e) [
-      | inl n ↦ let w : Falls row us = run_falls row us qs m c.1 n in record { v = w.v; forward = inr w.forward; from_full = w.from_full; to_empty = w.to_empty }
-      | inr n ↦ none_some (one_more t n.0) n.2
-    ]
-  where
-    none_some : (r : Run) → Some r ≡ None → Falls row (tree_and t us)
-    none_some r e = cc
+    let w : Falls row us = run_falls row us qs m c.1 (after_none (one_more t) (run_of us qs) e) in record { v = w.v; forward = inr w.forward; from_full = w.from_full; to_empty = w.to_empty }
 run_falls row ts ps (more_labelled {t = t} {ts = us} {ps = qs} (labelled_full k) m) c e =
     let w : (d : ℕ) × IsTrue (has (leaves_of us) d) × IsFalse (has row d) = some_empty_column row us qs m c.1 (cond_none (all_full qs) (record { before = no_tree; middle = []; behind = tree_and t us }) e) in
     let l : (a : ℕ) × IsTrue (has (leaves t) a) = some_leaf t c.0 in
@@ -129,26 +133,24 @@ module _ (R : Pair → Pair → Type 0) (eq : IsPairEq R) (row : List ℕ) where
   two_partials ts us hs (tree_and g es) (tree_and k fs) s no_partial c sub once cr o e = cc
   two_partials ts us hs es fs s (a_partial part no_partial) c sub once cr o e = cc
   two_partials ts us hs es fs s (a_partial {t = u} {h = h} part (a_partial {t = w} {ts = vs} {h = k} part2 m)) c sub once cr o e =
-      let e1 : IsTrue (has (leaves u) part.some_empty.0) = in_left row u h part part.some_empty.0 part.some_empty.1 in
-      let f1 : IsTrue (has (leaves u) part.some_full.0) = in_right row u h part part.some_full.0 part.some_full.1 in
-      let e2 : IsTrue (has (leaves w) part2.some_empty.0) = in_left row w k part2 part2.some_empty.0 part2.some_empty.1 in
-      let f2 : IsTrue (has (leaves w) part2.some_full.0) = in_right row w k part2 part2.some_full.0 part2.some_full.1 in
+      let x = both_leaves row u h part in
+      let y = both_leaves row w k part2 in
       let iu : (a : ℕ) → IsTrue (has (leaves u) a) → IsTrue (has (leaves_of ts) a) = λ a l. sub a (has_append_left (leaves u) (leaves w ++ leaves_of vs) a l) in
       let iw : (a : ℕ) → IsTrue (has (leaves w) a) → IsTrue (has (leaves_of ts) a) =
       λ a l. sub a (has_append_right (leaves u) (leaves w ++ leaves_of vs) a (has_append_left (leaves w) (leaves_of vs) a l)) in
       let sum : (a : ℕ) → occurs (leaves u) a + occurs (leaves w) a ≤ 1 =
       λ a. let o : occurs (leaves u ++ (leaves w ++ leaves_of vs)) a ≤ 1 = once a in
       omega (arith, occurs-append (leaves u) (leaves w ++ leaves_of vs) a, occurs-append (leaves w) (leaves_of vs) a) in
-      let u2 : IsFalse (has (leaves u) part2.some_full.0) = lacks_from_occurs (leaves u) part2.some_full.0 (omega (arith, sum part2.some_full.0, occurs_from_has (leaves w) part2.some_full.0 f2)) in
-      let w1 : IsFalse (has (leaves w) part.some_full.0) = lacks_from_occurs (leaves w) part.some_full.0 (omega (arith, sum part.some_full.0, occurs_from_has (leaves u) part.some_full.0 f1)) in
+      let u2 : IsFalse (has (leaves u) part2.some_full.0) = lacks_from_occurs (leaves u) part2.some_full.0 (omega (arith, sum part2.some_full.0, occurs_from_has (leaves w) part2.some_full.0 y.1)) in
+      let w1 : IsFalse (has (leaves w) part.some_full.0) = lacks_from_occurs (leaves w) part.some_full.0 (omega (arith, sum part.some_full.0, occurs_from_has (leaves u) part.some_full.0 x.1)) in
       record {
         a = part2.some_full.0;
         b = part.some_full.0;
-        differ = λ x. both_ways (has (leaves u) part.some_full.0) (subst (λ y. IsFalse (has (leaves u) y)) x u2) f1;
+        differ = λ e. both_ways (has (leaves u) part.some_full.0) (subst (λ a. IsFalse (has (leaves u) a)) e u2) x.1;
         turned =
-            two_partial R eq row (leaves_of ts) (leaves u) (leaves w) s o cr c.0 c.1.0 part.some_empty.0 part.some_full.0 part2.some_empty.0 part2.some_full.0 e1 f1 e2 f2
+            two_partial R eq row (leaves_of ts) (leaves u) (leaves w) s o cr c.0 c.1.0 part.some_empty.0 part.some_full.0 part2.some_empty.0 part2.some_full.0 x.0 x.1 y.0 y.1
             (part.empty part.some_empty.0 part.some_empty.1) (part.full part.some_full.0 part.some_full.1) (part2.empty part2.some_empty.0 part2.some_empty.1) (part2.full part2.some_full.0 part2.some_full.1)
-            (iu part.some_empty.0 e1) (iu part.some_full.0 f1) (iw part2.some_empty.0 e2) (iw part2.some_full.0 f2) u2 w1;
+            (iu part.some_empty.0 x.0) (iu part.some_full.0 x.1) (iw part2.some_empty.0 y.0) (iw part2.some_full.0 y.1) u2 w1;
       }
 
   all_outside : (l : List ℕ) (s : ℕ) → IsTrue (has row s) → IsFalse (has l s) → IsOutside R row l s → IsClosed R l row → (ts : Forest) → ((a : ℕ) → IsTrue (has (leaves_of ts) a) → IsTrue (has l a)) → AllOutside ts

@@ -126,6 +126,15 @@ record PutIn (x y : Outline) (ts : Forest) : Type 0 where
   old : join before (tree_and t behind) ≡ ts
   replaced : IsReplaced x y t u
 
+-- the node over these trees, where N makes a node of trees
+under_node : (x y : Outline) (N : Forest → Outline) (ts : Forest) →
+    ((t u : Outline) (before behind : Forest) → IsReplaced x y t u → IsReplaced x y (N (join before (tree_and t behind))) (N (join before (tree_and u behind)))) → PutIn x y ts →
+    (v : Outline) × IsReplaced x y (N ts) v
+under_node x y N ts under w = (
+  N (join w.before (tree_and w.u w.behind)),
+  subst (λ s. IsReplaced x y (N s) (N (join w.before (tree_and w.u w.behind)))) w.old (under w.t w.u w.before w.behind w.replaced),
+)
+
 -- a node has a place in the tree, where another may stand
 mutual
   pub replaced_at : (x y t : Outline) → IsNode x t → (v : Outline) × IsReplaced x y t v
@@ -133,16 +142,12 @@ mutual
   replaced_at x y (p_node ts) n =
       elim n [
         | inl e ↦ (y, subst (λ s. IsReplaced x y s y) e replaced_here)
-        | inr k ↦
-            let w : PutIn x y ts = put_in x y ts k in
-            (p_node (join w.before (tree_and w.u w.behind)), subst (λ s. IsReplaced x y (p_node s) (p_node (join w.before (tree_and w.u w.behind)))) w.old (replaced_under_p w.before w.behind w.replaced))
+        | inr k ↦ under_node x y p_node ts (λ t u before behind r. replaced_under_p before behind r) (put_in x y ts k)
       ]
   replaced_at x y (q_node ts) n =
       elim n [
         | inl e ↦ (y, subst (λ s. IsReplaced x y s y) e replaced_here)
-        | inr k ↦
-            let w : PutIn x y ts = put_in x y ts k in
-            (q_node (join w.before (tree_and w.u w.behind)), subst (λ s. IsReplaced x y (q_node s) (q_node (join w.before (tree_and w.u w.behind)))) w.old (replaced_under_q w.before w.behind w.replaced))
+        | inr k ↦ under_node x y q_node ts (λ t u before behind r. replaced_under_q before behind r) (put_in x y ts k)
       ]
 
   put_in : (x y : Outline) (ts : Forest) → IsNodeOf x ts → PutIn x y ts

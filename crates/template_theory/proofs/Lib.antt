@@ -26,11 +26,12 @@ pub mod Sound
 pub mod Arities
 pub mod Uniform
 pub mod Finding
-mod WeightTurned
+pub mod Sorts
+pub mod Measures
+mod Weights
 mod Hits
 mod Paid
 mod WeightBelow
 mod WeightAtRoot
 mod WeightReduced
-mod WeightStart
 mod Ticks

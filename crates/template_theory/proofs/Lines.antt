@@ -3,7 +3,7 @@ use Rattle.std.proofs.Common.{◌≡◌, ◌⊎◌, ◌+◌, ℕ, false, List, [
 use Rattle.std.proofs.lemmas.Bool.{both_ways}
 use Rattle.row_model.specs.declared.graph.Pair.{Pair}
 use Rattle.column_order.specs.Orders.{has, occurs}
-use Rattle.column_order.proofs.Lists.{has_append_cases, has_append_left, has_append_right, occurs-append}
+use Rattle.column_order.proofs.Lists.{has_append_cases, has_append_left, has_append_right, occurs-append, occurs_from_has, has_from_occurs}
 use Rattle.pq_tree.specs.Outline.{Outline, Forest, p_node, no_tree, tree_and, leaves, leaves_of}
 use Rattle.pq_tree.specs.Proper.{HaveArities}
 use Rattle.tied_law.specs.Tied.{IsForward}
@@ -146,6 +146,13 @@ parted_occurs (to_left {t = t} {ts = ts} {us = us} {vs = vs} r) a =
     omega (arith, occurs-append (leaves t) (leaves_of ts) a, occurs-append (leaves t) (leaves_of us) a, parted_occurs r a)
 parted_occurs (to_right {t = t} {ts = ts} {us = us} {vs = vs} r) a =
     omega (arith, occurs-append (leaves t) (leaves_of ts) a, occurs-append (leaves t) (leaves_of vs) a, parted_occurs r a)
+
+-- the columns of each part are columns of the whole
+pub parted_left : {ts us vs : Forest} → IsParted ts us vs → (a : ℕ) → IsTrue (has (leaves_of us) a) → IsTrue (has (leaves_of ts) a)
+parted_left {ts = ts} {us = us} p a h = has_from_occurs (leaves_of ts) a (omega (arith, parted_occurs p a, occurs_from_has (leaves_of us) a h))
+
+pub parted_right : {ts us vs : Forest} → IsParted ts us vs → (a : ℕ) → IsTrue (has (leaves_of vs) a) → IsTrue (has (leaves_of ts) a)
+parted_right {ts = ts} {vs = vs} p a h = has_from_occurs (leaves_of ts) a (omega (arith, parted_occurs p a, occurs_from_has (leaves_of vs) a h))
 
 pub has_parted_cases : {ts us vs : Forest} → IsParted ts us vs → (a : ℕ) → IsTrue (has (leaves_of ts) a) → IsTrue (has (leaves_of us) a) ⊎ IsTrue (has (leaves_of vs) a)
 has_parted_cases none_parted a h = inl h

@@ -17,13 +17,13 @@ use Rattle.pq_tree.specs.Nodes.{IsNode, IsNodeOf}
 use Rattle.pq_tree.proofs.Forests.{has_join_cases, some_leaf}
 use Rattle.row_model.proofs.Walks.{joined-append, conflict_from, evenly-mono}
 use Rattle.template_theory.specs.Labels.{Partial, Label, empty_trees, full_trees, partials, first_of}
-use Rattle.template_theory.proofs.Computed.{root_p, Tail, Span, all_empty, full_more, before_more, begins, tail_of, span_of, root_q, at_span, p_outcome, q_outcome}
+use Rattle.template_theory.proofs.Computed.{root_p, all_empty, full_more, before_more, begins, tail_of, span_of, root_q, at_span, p_outcome, q_outcome}
 use Rattle.template_theory.proofs.Lines.{IsParted, parted_occurs, has_parted_cases, closed_right}
 use Rattle.template_theory.proofs.BelowRoot.{AreEmpty, AreFull}
 use Rattle.template_theory.proofs.Conflicts.{three_partial, hole}
 use Rattle.template_theory.proofs.NodeTemplates.{sort}
 use Rattle.template_theory.proofs.RootTemplates.{span_is, p_outcome_some, q_outcome_some}
-use Rattle.template_theory.proofs.Failed.{Crossed, and_then_none, no_value, labels_long, cond_none, AllOutside, labels_failed, in_left, in_right, forward_first}
+use Rattle.template_theory.proofs.Failed.{Crossed, and_then_none, after_none, no_value, labels_long, cond_none, AllOutside, labels_failed, in_left, in_right, both_leaves, forward_first}
 use Rattle.template_theory.proofs.Meaning.{labelled_empty, labelled_full, labelled_partial, AreLabelled, none_labelled, more_labelled, ArePartial, no_partial, a_partial, IsAtMostOne, no_such, one_such, Misses, AllMiss, IsRoot, miss_right, miss_after, SpanParts, span_parts, parts}
 use Rattle.template_theory.proofs.Sound.{labels_sound, lowest_root_p, lowest_root_q, node_arities, node_occurs}
 use Rattle.template_theory.specs.Refused.{IsUnfitRoot, IsStuck, IsRefused}
@@ -46,6 +46,10 @@ pub record Climbs (row : List ℕ) (ts : Forest) : Type 0 where
   pub from_empty : IsFalse (has row v.a)
   pub to_full : IsTrue (has row v.b)
 
+-- behind a further tree
+abbrev later_climbs : {row : List ℕ} {ts : Forest} (t : Outline) → Climbs row ts → Climbs row (tree_and t ts)
+later_climbs t w = record { v = w.v; forward = inr w.forward; from_empty = w.from_empty; to_full = w.to_full }
+
 tail_climbs : (row : List ℕ) (ts : Forest) (ps : List Label) → AreLabelled row ts ps → HaveArities ts → tail_of ts ps ≡ None → Climbs row ts
 tail_climbs row ts ps none_labelled c e = cc
 tail_climbs row ts ps (more_labelled {t = t} {ts = us} {ps = qs} (labelled_empty k) m) c e =
@@ -53,13 +57,7 @@ tail_climbs row ts ps (more_labelled {t = t} {ts = us} {ps = qs} (labelled_empty
     let l : (a : ℕ) × IsTrue (has (leaves t) a) = some_leaf t c.0 in
     record { v = pair l.0 w.0; forward = inl (l.1, w.1); from_empty = k l.0 l.1; to_full = w.2 }
 tail_climbs row ts ps (more_labelled {t = t} {ts = us} {ps = qs} (labelled_full k) m) c e =
-    elim (and_then_none (λ r. Some (full_more t r)) (tail_of us qs) e) [
-      | inl n ↦ let w : Climbs row us = tail_climbs row us qs m c.1 n in record { v = w.v; forward = inr w.forward; from_empty = w.from_empty; to_full = w.to_full }
-      | inr n ↦ some_none (full_more t n.0) n.2
-    ]
-  where
-    some_none : (r : Tail) → Some r ≡ None → Climbs row (tree_and t us)
-    some_none r x = cc
+    later_climbs t (tail_climbs row us qs m c.1 (after_none (full_more t) (tail_of us qs) e))
 tail_climbs row ts ps (more_labelled {t = t} {ts = us} {ps = qs} (labelled_partial h k) m) c e =
     let w : (g : ℕ) × IsTrue (has (leaves_of us) g) × IsTrue (has row g) = some_full_column row us qs m c.1 (cond_none (all_empty qs) (record { middle = no_tree; right = h ∷ []; behind = us }) e) in
     record { v = pair k.some_empty.0 w.0; forward = inl (in_left row t h k k.some_empty.0 k.some_empty.1, w.1); from_empty = k.empty k.some_empty.0 k.some_empty.1; to_full = w.2 }
@@ -74,41 +72,14 @@ pub record HasHole (row : List ℕ) (ts : Forest) : Type 0 where
 span_hole : (row : List ℕ) (ts : Forest) (ps : List Label) → AreLabelled row ts ps → HaveArities ts → span_of ts ps ≡ None → HasHole row ts
 span_hole row ts ps none_labelled c e = cc
 span_hole row ts ps (more_labelled {t = t} {ts = us} {ps = qs} (labelled_empty k) m) c e =
-    elim (and_then_none (λ r. Some (before_more t r)) (span_of us qs) e) [
-      | inl n ↦
-          let w : HasHole row us = span_hole row us qs m c.1 n in
-          record { f = w.f; up = record { v = w.up.v; forward = inr w.up.forward; from_empty = w.up.from_empty; to_full = w.up.to_full }; before = inr w.before; full = w.full }
-      | inr n ↦ some_none (before_more t n.0) n.2
-    ]
-  where
-    some_none : (r : Span) → Some r ≡ None → HasHole row (tree_and t us)
-    some_none r x = cc
+    let w : HasHole row us = span_hole row us qs m c.1 (after_none (before_more t) (span_of us qs) e) in record { f = w.f; up = later_climbs t w.up; before = inr w.before; full = w.full }
 span_hole row ts ps (more_labelled {t = t} {ts = us} {ps = qs} (labelled_full k) m) c e =
-    elim (and_then_none (λ r. Some (begins [] (full_more t r))) (tail_of us qs) e) [
-      | inl n ↦
-          let w : Climbs row us = tail_climbs row us qs m c.1 n in
-          let l : (a : ℕ) × IsTrue (has (leaves t) a) = some_leaf t c.0 in
-          record { f = l.0; up = record { v = w.v; forward = inr w.forward; from_empty = w.from_empty; to_full = w.to_full }; before = inl (l.1, forward_first us w.v w.forward); full = k l.0 l.1 }
-      | inr n ↦ some_none (begins [] (full_more t n.0)) n.2
-    ]
-  where
-    some_none : (r : Span) → Some r ≡ None → HasHole row (tree_and t us)
-    some_none r x = cc
+    let w : Climbs row us = tail_climbs row us qs m c.1 (after_none (λ r. begins [] (full_more t r)) (tail_of us qs) e) in
+    let l : (a : ℕ) × IsTrue (has (leaves t) a) = some_leaf t c.0 in
+    record { f = l.0; up = later_climbs t w; before = inl (l.1, forward_first us w.v w.forward); full = k l.0 l.1 }
 span_hole row ts ps (more_labelled {t = t} {ts = us} {ps = qs} (labelled_partial h k) m) c e =
-    elim (and_then_none (λ r. Some (begins (h ∷ []) r)) (tail_of us qs) e) [
-      | inl n ↦
-          let w : Climbs row us = tail_climbs row us qs m c.1 n in
-          record {
-            f = k.some_full.0;
-            up = record { v = w.v; forward = inr w.forward; from_empty = w.from_empty; to_full = w.to_full };
-            before = inl (in_right row t h k k.some_full.0 k.some_full.1, forward_first us w.v w.forward);
-            full = k.full k.some_full.0 k.some_full.1;
-          }
-      | inr n ↦ some_none (begins (h ∷ []) n.0) n.2
-    ]
-  where
-    some_none : (r : Span) → Some r ≡ None → HasHole row (tree_and t us)
-    some_none r x = cc
+    let w : Climbs row us = tail_climbs row us qs m c.1 (after_none (begins (h ∷ [])) (tail_of us qs) e) in
+    record { f = k.some_full.0; up = later_climbs t w; before = inl (in_right row t h k k.some_full.0 k.some_full.1, forward_first us w.v w.forward); full = k.full k.some_full.0 k.some_full.1 }
 
 module _ (row : List ℕ) where
   -- the pertinent root's only child that meets the row would hold it
@@ -182,12 +153,9 @@ module _ (R : Pair → Pair → Type 0) (eq : IsPairEq R) (row : List ℕ) where
   root_p_failed ts es rs (tree_and g fs) us hs f s ee ff (a_partial part no_partial) cs ms cr once within c hc e = cc
   root_p_failed ts es rs fs us hs f s ee ff (a_partial part (a_partial part2 no_partial)) cs ms cr once within c hc e = cc
   root_p_failed ts es rs fs us hs f s ee ff (a_partial {t = u} {h = h} part (a_partial {t = w} {h = k} part2 (a_partial {t = z} {ts = vs} {h = j} part3 m))) cs ms cr once within c hc e =
-      let e1 : IsTrue (has (leaves u) part.some_empty.0) = in_left row u h part part.some_empty.0 part.some_empty.1 in
-      let f1 : IsTrue (has (leaves u) part.some_full.0) = in_right row u h part part.some_full.0 part.some_full.1 in
-      let e2 : IsTrue (has (leaves w) part2.some_empty.0) = in_left row w k part2 part2.some_empty.0 part2.some_empty.1 in
-      let f2 : IsTrue (has (leaves w) part2.some_full.0) = in_right row w k part2 part2.some_full.0 part2.some_full.1 in
-      let e3 : IsTrue (has (leaves z) part3.some_empty.0) = in_left row z j part3 part3.some_empty.0 part3.some_empty.1 in
-      let f3 : IsTrue (has (leaves z) part3.some_full.0) = in_right row z j part3 part3.some_full.0 part3.some_full.1 in
+      let x = both_leaves row u h part in
+      let y = both_leaves row w k part2 in
+      let v = both_leaves row z j part3 in
       let sum : (a : ℕ) → occurs (leaves u) a + (occurs (leaves w) a + occurs (leaves z) a) ≤ 1 =
       λ a. omega (arith, once a, parted_occurs f a, parted_occurs s a, occurs-append (leaves u) (leaves w ++ (leaves z ++ leaves_of vs)) a, occurs-append (leaves w) (leaves z ++ leaves_of vs) a, occurs-append (leaves z) (leaves_of vs) a) in
       let in_ts : (a : ℕ) → 1 ≤ occurs (leaves u) a + (occurs (leaves w) a + occurs (leaves z) a) → IsTrue (has (leaves_of ts) a) =
@@ -195,22 +163,22 @@ module _ (R : Pair → Pair → Type 0) (eq : IsPairEq R) (row : List ℕ) where
       let iu : (a : ℕ) → IsTrue (has (leaves u) a) → IsTrue (has (leaves_of ts) a) = λ a l. in_ts a (omega (arith, occurs_from_has (leaves u) a l)) in
       let iw : (a : ℕ) → IsTrue (has (leaves w) a) → IsTrue (has (leaves_of ts) a) = λ a l. in_ts a (omega (arith, occurs_from_has (leaves w) a l)) in
       let iz : (a : ℕ) → IsTrue (has (leaves z) a) → IsTrue (has (leaves_of ts) a) = λ a l. in_ts a (omega (arith, occurs_from_has (leaves z) a l)) in
-      let u2 : IsFalse (has (leaves u) part2.some_full.0) = lacks_from_occurs (leaves u) part2.some_full.0 (omega (arith, sum part2.some_full.0, occurs_from_has (leaves w) part2.some_full.0 f2)) in
-      let u3 : IsFalse (has (leaves u) part3.some_full.0) = lacks_from_occurs (leaves u) part3.some_full.0 (omega (arith, sum part3.some_full.0, occurs_from_has (leaves z) part3.some_full.0 f3)) in
-      let w1 : IsFalse (has (leaves w) part.some_full.0) = lacks_from_occurs (leaves w) part.some_full.0 (omega (arith, sum part.some_full.0, occurs_from_has (leaves u) part.some_full.0 f1)) in
-      let w3 : IsFalse (has (leaves w) part3.some_full.0) = lacks_from_occurs (leaves w) part3.some_full.0 (omega (arith, sum part3.some_full.0, occurs_from_has (leaves z) part3.some_full.0 f3)) in
-      let z1 : IsFalse (has (leaves z) part.some_full.0) = lacks_from_occurs (leaves z) part.some_full.0 (omega (arith, sum part.some_full.0, occurs_from_has (leaves u) part.some_full.0 f1)) in
-      let z2 : IsFalse (has (leaves z) part2.some_full.0) = lacks_from_occurs (leaves z) part2.some_full.0 (omega (arith, sum part2.some_full.0, occurs_from_has (leaves w) part2.some_full.0 f2)) in
+      let u2 : IsFalse (has (leaves u) part2.some_full.0) = lacks_from_occurs (leaves u) part2.some_full.0 (omega (arith, sum part2.some_full.0, occurs_from_has (leaves w) part2.some_full.0 y.1)) in
+      let u3 : IsFalse (has (leaves u) part3.some_full.0) = lacks_from_occurs (leaves u) part3.some_full.0 (omega (arith, sum part3.some_full.0, occurs_from_has (leaves z) part3.some_full.0 v.1)) in
+      let w1 : IsFalse (has (leaves w) part.some_full.0) = lacks_from_occurs (leaves w) part.some_full.0 (omega (arith, sum part.some_full.0, occurs_from_has (leaves u) part.some_full.0 x.1)) in
+      let w3 : IsFalse (has (leaves w) part3.some_full.0) = lacks_from_occurs (leaves w) part3.some_full.0 (omega (arith, sum part3.some_full.0, occurs_from_has (leaves z) part3.some_full.0 v.1)) in
+      let z1 : IsFalse (has (leaves z) part.some_full.0) = lacks_from_occurs (leaves z) part.some_full.0 (omega (arith, sum part.some_full.0, occurs_from_has (leaves u) part.some_full.0 x.1)) in
+      let z2 : IsFalse (has (leaves z) part2.some_full.0) = lacks_from_occurs (leaves z) part2.some_full.0 (omega (arith, sum part2.some_full.0, occurs_from_has (leaves w) part2.some_full.0 y.1)) in
       record {
         a = part2.some_full.0;
         b = part.some_full.0;
-        differ = λ x. both_ways (has (leaves u) part.some_full.0) (subst (λ y. IsFalse (has (leaves u) y)) x u2) f1;
+        differ = λ e. both_ways (has (leaves u) part.some_full.0) (subst (λ a. IsFalse (has (leaves u) a)) e u2) x.1;
         turned =
             three_partial R eq row (leaves_of ts) (leaves u) (leaves w) (leaves z) cr cs.0 cs.1.0 cs.1.1.0
-            part.some_empty.0 part.some_full.0 part2.some_empty.0 part2.some_full.0 part3.some_empty.0 part3.some_full.0 e1 f1 e2 f2 e3 f3
+            part.some_empty.0 part.some_full.0 part2.some_empty.0 part2.some_full.0 part3.some_empty.0 part3.some_full.0 x.0 x.1 y.0 y.1 v.0 v.1
             (part.empty part.some_empty.0 part.some_empty.1) (part.full part.some_full.0 part.some_full.1) (part2.empty part2.some_empty.0 part2.some_empty.1) (part2.full part2.some_full.0 part2.some_full.1)
             (part3.empty part3.some_empty.0 part3.some_empty.1) (part3.full part3.some_full.0 part3.some_full.1)
-            (iu part.some_empty.0 e1) (iu part.some_full.0 f1) (iw part2.some_empty.0 e2) (iw part2.some_full.0 f2) (iz part3.some_empty.0 e3) (iz part3.some_full.0 f3) u2 u3 w1 w3 z1 z2;
+            (iu part.some_empty.0 x.0) (iu part.some_full.0 x.1) (iw part2.some_empty.0 y.0) (iw part2.some_full.0 y.1) (iz part3.some_empty.0 v.0) (iz part3.some_full.0 v.1) u2 u3 w1 w3 z1 z2;
       }
 
   -- the row has a column, since a child of the pertinent root lacks one

@@ -1,17 +1,17 @@
 -- A node gets no label, and the pertinent root is not replaced, only where the pattern of no template stands there.
-use Rattle.std.proofs.Common.{◌≡◌, ◌∙◌, ◌≤◌, ℕ, List, [], ◌∷◌, reverse, length, Option, Some, None, IsTrue, refl, sym, ap, ap₂, inl, inr, arith, option_and_then}
+use Rattle.std.proofs.Common.{◌≡◌, ◌∙◌, ◌≤◌, ℕ, List, [], ◌∷◌, reverse, length, Option, None, IsTrue, refl, sym, ap, ap₂, inl, inr, arith, option_and_then}
 use Rattle.std.proofs.lemmas.Bool.{both_ways}
 use Rattle.pq_tree.specs.Outline.{Outline, Forest, no_tree, tree_and}
 use Rattle.pq_tree.specs.Forests.{count, back}
 use Rattle.template_theory.specs.Templates.{Partial, Label, IsSorted, none_sorted, to_empty, to_full, to_partial, IsRun, run_full, run_partial, run_more, IsTail, tail_empty, tail_partial, tail_more, IsTwoSidedRun, span_tail, span_partial, span_more}
 use Rattle.template_theory.specs.Chosen.{IsLabelOfP, p_empty, by_p1, by_p3, by_p5, IsLabelOfQ, q_empty, by_q1, by_q2, IsRootOfP, root_p1, root_p2, root_p4, root_p6, IsRootOfQ, root_q1, root_q2, root_q3}
 use Rattle.template_theory.specs.Labels.{empty_trees, full_trees, partials}
-use Rattle.template_theory.proofs.Computed.{at_p, at_run, Run, run_of, all_full, one_more, root_p, Tail, Span, all_empty, full_more, before_more, begins, tail_of, span_of, at_span, p_outcome, q_outcome, p_label, q_label}
+use Rattle.template_theory.proofs.Computed.{at_p, at_run, run_of, all_full, one_more, root_p, all_empty, full_more, before_more, begins, tail_of, span_of, at_span, p_outcome, q_outcome, p_label, q_label}
 use Rattle.template_theory.proofs.Meaning.{AreLabelled, IsRoot, span_parts}
 use Rattle.template_theory.proofs.QPatterns.{empty_run, run_span, rear_span}
 use Rattle.template_theory.proofs.NodeTemplates.{sort}
 use Rattle.template_theory.proofs.RootTemplates.{span_is}
-use Rattle.template_theory.proofs.Failed.{and_then_none, first_none, cond_none, no_run}
+use Rattle.template_theory.proofs.Failed.{and_then_none, after_none, first_none, cond_none, no_run}
 use Rattle.template_theory.proofs.Arities.{p4_full}
 use Rattle.template_theory.proofs.NoOrder.{root_q_failed}
 
@@ -52,10 +52,7 @@ run_there (run_full s) e = full_there s e
     full_there (to_full {t = t} {ts = ts} {ps = ps} s) e = both_ways (all_full ps) (cond_none (all_full ps) (record { before = no_tree; middle = []; behind = tree_and t ts }) e) (full_all s)
 run_there (run_partial {t = t} {ts = ts} {ps = ps} {h = h} s) e = both_ways (all_full ps) (cond_none (all_full ps) (record { before = no_tree; middle = h ∷ []; behind = ts }) e) (full_all s)
 run_there (run_more {t = t} {ts = ts} {ps = ps} r) e =
-    elim (and_then_none (λ q. Some (one_more t q)) (run_of ts ps) e) [ inl n ↦ run_there r n | inr n ↦ some_none (one_more t n.0) n.2 ]
-  where
-    some_none : (q : Run) → Some q ≡ None → ⊥
-    some_none q x = cc
+    run_there r (after_none (one_more t) (run_of ts ps) e)
 
 pub q_label_none : (ts : Forest) (ps : List Label) (x : Label) → q_label ts ps ≡ None → IsLabelOfQ ts ps x → ⊥
 q_label_none ts ps x e k = neither k
@@ -84,13 +81,7 @@ tail_there (tail_empty s) e = empty_there s e
 tail_there (tail_partial {t = t} {ts = ts} {ps = ps} {k = k} s) e =
     both_ways (all_empty ps) (cond_none (all_empty ps) (record { middle = no_tree; right = k ∷ []; behind = ts }) e) (empty_all s)
 tail_there (tail_more {t = t} {ts = ts} {ps = ps} r) e =
-    elim (and_then_none (λ q. Some (full_more t q)) (tail_of ts ps) e) [ inl n ↦ tail_there r n | inr n ↦ some_none (full_more t n.0) n.2 ]
-  where
-    some_none : (q : Tail) → Some q ≡ None → ⊥
-    some_none q x = cc
-
-no_span : (q : Span) → Some q ≡ None → ⊥
-no_span q x = cc
+    tail_there r (after_none (full_more t) (tail_of ts ps) e)
 
 pub span_there : {ts es fs gs : Forest} {ps : List Label} {h k : Option Partial} → IsTwoSidedRun ts ps es h fs k gs → span_of ts ps ≡ None → ⊥
 span_there (span_tail r) e = tail_span r e
@@ -98,18 +89,18 @@ span_there (span_tail r) e = tail_span r e
     empty_span : {ts es : Forest} {ps : List Label} → IsSorted ts ps es no_tree [] → span_of ts ps ≡ None → ⊥
     empty_span none_sorted e = cc
     empty_span (to_empty {t = t} {ts = ts} {ps = ps} s) e =
-        elim (and_then_none (λ q. Some (before_more t q)) (span_of ts ps) e) [ inl n ↦ empty_span s n | inr n ↦ no_span (before_more t n.0) n.2 ]
+        empty_span s (after_none (before_more t) (span_of ts ps) e)
 
     tail_span : {ts fs gs : Forest} {ps : List Label} {k : Option Partial} → IsTail ts ps fs k gs → span_of ts ps ≡ None → ⊥
     tail_span (tail_empty s) e = empty_span s e
     tail_span (tail_partial {t = t} {ts = ts} {ps = ps} {k = k} s) e =
-        elim (and_then_none (λ q. Some (begins (k ∷ []) q)) (tail_of ts ps) e) [ inl n ↦ tail_there (tail_empty s) n | inr n ↦ no_span (begins (k ∷ []) n.0) n.2 ]
+        tail_there (tail_empty s) (after_none (begins (k ∷ [])) (tail_of ts ps) e)
     tail_span (tail_more {t = t} {ts = ts} {ps = ps} r) e =
-        elim (and_then_none (λ q. Some (begins [] (full_more t q))) (tail_of ts ps) e) [ inl n ↦ tail_there r n | inr n ↦ no_span (begins [] (full_more t n.0)) n.2 ]
+        tail_there r (after_none (λ q. begins [] (full_more t q)) (tail_of ts ps) e)
 span_there (span_partial {t = t} {ts = ts} {ps = ps} {h = h} r) e =
-    elim (and_then_none (λ q. Some (begins (h ∷ []) q)) (tail_of ts ps) e) [ inl n ↦ tail_there r n | inr n ↦ no_span (begins (h ∷ []) n.0) n.2 ]
+    tail_there r (after_none (begins (h ∷ [])) (tail_of ts ps) e)
 span_there (span_more {t = t} {ts = ts} {ps = ps} r) e =
-    elim (and_then_none (λ q. Some (before_more t q)) (span_of ts ps) e) [ inl n ↦ span_there r n | inr n ↦ no_span (before_more t n.0) n.2 ]
+    span_there r (after_none (before_more t) (span_of ts ps) e)
 
 -- The pertinent root.
 module _ (row : List ℕ) (ts : Forest) (ps : List Label) (root : IsRoot row ts) (right : AreLabelled row ts ps) (long : length ps ≡ count ts) where

@@ -4,14 +4,14 @@ use Rattle.std.proofs.lemmas.Bool.{both_ways, false_from_ne_true}
 use Rattle.row_model.specs.declared.graph.Pair.{Pair}
 use Rattle.column_order.specs.Orders.{has, occurs}
 use Rattle.row_model.specs.Graph.{pair}
-use Rattle.column_order.proofs.Lists.{has_append_cases, occurs-append, occurs_from_has, has_from_occurs, lacks_from_occurs, has_same}
+use Rattle.column_order.proofs.Lists.{has_append_cases, has_append_left, occurs-append, occurs_from_has, lacks_from_occurs, has_same}
 use Rattle.pq_tree.specs.Outline.{Outline, Forest, p_node, q_node, no_tree, tree_and, leaves, leaves_of}
 use Rattle.tied_law.specs.Tied.{IsForward}
 use Rattle.tied_law.proofs.Bound.{IsClosed, AreClosed, IsInLine, IsBound, AreBound, IsPairEq, closed_through}
 use Rattle.pq_tree.specs.Forests.{join}
 use Rattle.pq_tree.proofs.Forests.{join_assoc, leaves_of-join, has_join_cases, has_join_left, has_join_right}
 use Rattle.template_theory.specs.Templates.{star, under}
-use Rattle.template_theory.proofs.Lines.{IsParted, leaves_of-star, to_star, from_star, forward_cases, forward_left, forward_right, star_forward, bound_join, bound_left, bound_right, star_bound, star_closed, star_each, closed_within, parted_closed, closed_left, closed_right, parted_bound, parted_bound_left, parted_bound_right, parted_occurs, has_parted_cases}
+use Rattle.template_theory.proofs.Lines.{IsParted, leaves_of-star, to_star, from_star, forward_cases, forward_left, forward_right, star_forward, bound_join, bound_left, bound_right, star_bound, star_closed, star_each, closed_within, parted_closed, closed_left, closed_right, parted_bound, parted_bound_left, parted_bound_right, parted_occurs, parted_left, parted_right, has_parted_cases}
 use Rattle.template_theory.proofs.BelowRoot.{IsOutside, AreEmpty, AreFull, Treated, towards, first_closed, last_closed, middle_closed, end_closed, closed_alike, outside_within}
 use Rattle.template_theory.proofs.AtRoot.{Rooted, under_occurs, set_through, under_up, under_down}
 
@@ -24,14 +24,11 @@ module _ (row : List ℕ) (ts es rest fs : Forest) (u : Outline) (e f : Forest) 
   all_occur : (a : ℕ) → occurs (leaves_of ts) a ≡ occurs (leaves_of es) a + (occurs (leaves u) a + occurs (leaves_of fs) a)
   all_occur a = omega (arith, parted_occurs first a, parted_occurs second a, occurs-append (leaves u) [] a)
 
-  es_in : (a : ℕ) → IsTrue (has (leaves_of es) a) → IsTrue (has (leaves_of ts) a)
-  es_in a h = has_from_occurs (leaves_of ts) a (omega (arith, all_occur a, occurs_from_has (leaves_of es) a h))
-
   fs_in : (a : ℕ) → IsTrue (has (leaves_of fs) a) → IsTrue (has (leaves_of ts) a)
-  fs_in a h = has_from_occurs (leaves_of ts) a (omega (arith, all_occur a, occurs_from_has (leaves_of fs) a h))
+  fs_in a h = parted_right first a (parted_left second a h)
 
   u_in : (a : ℕ) → IsTrue (has (leaves u) a) → IsTrue (has (leaves_of ts) a)
-  u_in a h = has_from_occurs (leaves_of ts) a (omega (arith, all_occur a, occurs_from_has (leaves u) a h))
+  u_in a h = parted_right first a (parted_right second a (has_append_left (leaves u) [] a h))
 
   e_in : (a : ℕ) → IsTrue (has (leaves_of e) a) → IsTrue (has (leaves u) a)
   e_in a h = sym (u_has a) ∙ has_join_left e f a h
@@ -113,11 +110,11 @@ module _ (row : List ℕ) (ts es rest fs : Forest) (u : Outline) (e f : Forest) 
                   | inl y_e ↦
                       eq.join v (pair v.a part.some_full.0) (pair a s)
                       (eq.flip (pair v.b v.a) (pair part.some_full.0 v.a)
-                      (cu v.b part.some_full.0 v.a (e_in v.b y_e) (f_in part.some_full.0 part.some_full.1) (es_in v.a x_es) (es_not_u v.a x_es)))
-                      (key v.a part.some_full.0 (es_in v.a x_es) (empty v.a x_es) (u_in part.some_full.0 (f_in part.some_full.0 part.some_full.1)) (part.full part.some_full.0 part.some_full.1))
-                  | inr y_f ↦ key v.a v.b (es_in v.a x_es) (empty v.a x_es) (u_in v.b (f_in v.b y_f)) (part.full v.b y_f)
+                      (cu v.b part.some_full.0 v.a (e_in v.b y_e) (f_in part.some_full.0 part.some_full.1) (parted_left first v.a x_es) (es_not_u v.a x_es)))
+                      (key v.a part.some_full.0 (parted_left first v.a x_es) (empty v.a x_es) (u_in part.some_full.0 (f_in part.some_full.0 part.some_full.1)) (part.full part.some_full.0 part.some_full.1))
+                  | inr y_f ↦ key v.a v.b (parted_left first v.a x_es) (empty v.a x_es) (u_in v.b (f_in v.b y_f)) (part.full v.b y_f)
                 ]
-                | inr n ↦ let y_fs : IsTrue (has (leaves_of fs) v.b) = from_star fs v.b n in key v.a v.b (es_in v.a x_es) (empty v.a x_es) (fs_in v.b y_fs) (full v.b y_fs)
+                | inr n ↦ let y_fs : IsTrue (has (leaves_of fs) v.b) = from_star fs v.b n in key v.a v.b (parted_left first v.a x_es) (empty v.a x_es) (fs_in v.b y_fs) (full v.b y_fs)
               ]
           | inr m ↦ elim (forward_cases (join e f) (star fs) v m) [
             | inl n ↦
@@ -145,7 +142,7 @@ module _ (row : List ℕ) (ts es rest fs : Forest) (u : Outline) (e f : Forest) 
   p5_each R eq s o b =
       let bu : IsBound R u = (parted_bound_right R second (parted_bound_right R first b.1)).0 in
       bound_join R (star es) (join (join e f) (star fs))
-      (star_bound R es (closed_within R (leaves_of ts) (leaves_of es) es es_in (closed_left R (leaves_of ts) first b.0)) (parted_bound_left R first b.1))
+      (star_bound R es (closed_within R (leaves_of ts) (leaves_of es) es (parted_left first) (closed_left R (leaves_of ts) first b.0)) (parted_bound_left R first b.1))
       (bound_join R (join e f) (star fs)
       (part.down_each R eq s (outside_within R row (leaves_of ts) (leaves u) s u_in o) bu)
       (star_bound R fs (closed_within R (leaves_of ts) (leaves_of fs) fs fs_in (closed_left R (leaves_of ts) second (closed_right R (leaves_of ts) first b.0))) (parted_bound_left R second (parted_bound_right R first b.1))))
@@ -233,7 +230,7 @@ module _ (row : List ℕ) (ts es rest fs : Forest) (u : Outline) (e f : Forest) 
 
       p4_down : IsBound R (p_node ts) → IsClosed R (leaves_of ts) row → IsBound R (under es (q_node (join (join e f) (star fs))))
       p4_down b c =
-          under_down R (leaves_of ts) es (q_node (join (join e f) (star fs))) x_in es_in (inline, each) (parted_bound_left R first b.1) (closed_left R (leaves_of ts) first b.0) cx
+          under_down R (leaves_of ts) es (q_node (join (join e f) (star fs))) x_in (parted_left first) (inline, each) (parted_bound_left R first b.1) (closed_left R (leaves_of ts) first b.0) cx
         where
           s : ℕ
           s = some_fs.0

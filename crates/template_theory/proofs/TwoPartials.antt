@@ -11,7 +11,7 @@ use Rattle.tied_law.proofs.Bound.{IsClosed, AreClosed, IsBound, AreBound, IsPair
 use Rattle.pq_tree.specs.Forests.{join, back}
 use Rattle.pq_tree.proofs.Forests.{leaves_of-join, has_join_cases, has_join_left, has_join_right}
 use Rattle.template_theory.specs.Templates.{star, under}
-use Rattle.template_theory.proofs.Lines.{IsParted, leaves_of-star, to_star, from_star, forward_cases, star_forward, bound_join, bound_left, bound_right, star_bound, star_closed, star_each, closed_within, parted_closed, closed_left, closed_right, parted_bound, parted_bound_left, parted_bound_right, parted_occurs, has_parted_cases}
+use Rattle.template_theory.proofs.Lines.{IsParted, leaves_of-star, to_star, from_star, forward_cases, star_forward, bound_join, bound_left, bound_right, star_bound, star_closed, star_each, closed_within, parted_closed, closed_left, closed_right, parted_bound, parted_bound_left, parted_bound_right, parted_occurs, parted_left, parted_right, has_parted_cases}
 use Rattle.template_theory.proofs.BelowRoot.{AreEmpty, AreFull, Treated, middle_closed, end_closed}
 use Rattle.template_theory.proofs.AtRoot.{Rooted, set_through, under_occurs, under_up, under_down}
 use Rattle.template_theory.proofs.Context.{rooted_p}
@@ -27,11 +27,8 @@ module _ (row : List ℕ) (ts es rs fs : Forest) (u w : Outline) (e f e2 f2 : Fo
   all_occur : (a : ℕ) → occurs (leaves_of ts) a ≡ occurs (leaves_of es) a + (occurs (leaves_of fs) a + (occurs (leaves u) a + occurs (leaves w) a))
   all_occur a = omega (arith, parted_occurs first a, parted_occurs second a, occurs-append (leaves u) (leaves w ++ []) a, occurs-append (leaves w) [] a)
 
-  es_in : (a : ℕ) → IsTrue (has (leaves_of es) a) → IsTrue (has (leaves_of ts) a)
-  es_in a h = has_from_occurs (leaves_of ts) a (omega (arith, all_occur a, occurs_from_has (leaves_of es) a h))
-
   fs_in : (a : ℕ) → IsTrue (has (leaves_of fs) a) → IsTrue (has (leaves_of ts) a)
-  fs_in a h = has_from_occurs (leaves_of ts) a (omega (arith, all_occur a, occurs_from_has (leaves_of fs) a h))
+  fs_in a h = parted_right first a (parted_left second a h)
 
   u_in : (a : ℕ) → IsTrue (has (leaves u) a) → IsTrue (has (leaves_of ts) a)
   u_in a h = has_from_occurs (leaves_of ts) a (omega (arith, all_occur a, occurs_from_has (leaves u) a h))
@@ -136,7 +133,7 @@ module _ (row : List ℕ) (ts es rs fs : Forest) (u w : Outline) (e f e2 f2 : Fo
 
     pack_down : IsBound R (p_node ts) → IsClosed R (leaves_of ts) row → IsBound R (under es (q_node (tree_and u (join (star fs) (tree_and w no_tree)))))
     pack_down b c =
-        under_down R (leaves_of ts) es (q_node (tree_and u (join (star fs) (tree_and w no_tree)))) line_in es_in
+        under_down R (leaves_of ts) es (q_node (tree_and u (join (star fs) (tree_and w no_tree)))) line_in (parted_left first)
         ((λ v z i j. eq.join v (pair part.some_empty.0 other.some_full.0) z (to_base v i) (eq.turn z (pair part.some_empty.0 other.some_full.0) (to_base z j))), each)
         (parted_bound_left R first b.1) (closed_left R (leaves_of ts) first b.0)
         (λ a g d i j k n. eq.join (pair a d) (pair part.some_full.0 d) (pair g d) (hub a d i k n) (eq.turn (pair g d) (pair part.some_full.0 d) (hub g d j k n)))

@@ -1,19 +1,21 @@
 -- The label of each tree below the pertinent root is paid.
-use Rattle.std.proofs.Common.{◌≡◌, ◌⊎◌, ℕ, ◌+◌, ◌*◌, ◌≤◌, Bool, true, false, cond, ◌||◌, List, [], ◌∷◌, ◌++◌, reverse, Option, Some, None, IsFalse, refl, sym, ap, subst, inl, inr, arith}
+use Rattle.std.proofs.Common.{◌≡◌, ◌⊎◌, ℕ, ◌+◌, ◌*◌, ◌≤◌, Bool, true, false, cond, ◌||◌, List, [], ◌∷◌, ◌++◌, reverse, length, Option, IsFalse, refl, sym, ap, subst, inl, inr, arith}
 use Rattle.std.proofs.lemmas.List.Sums.{sum_by-cons}
 use Rattle.column_order.specs.Orders.{has}
 use Rattle.pq_tree.specs.Outline.{Outline, Forest, leaf, p_node, q_node, no_tree, tree_and, leaves, leaves_of}
 use Rattle.pq_tree.specs.Proper.{HasArities, HaveArities}
 use Rattle.pq_tree.specs.Forests.{count, back}
 use Rattle.pq_tree.specs.Nodes.{meets}
-use Rattle.pq_tree.specs.Amortised.{nodes_met, nodes_met_of, weight_of}
+use Rattle.pq_tree.specs.Amortised.{nodes_met, nodes_met_of, weight, weight_of}
 use Rattle.pq_tree.proofs.Amortised.{weight_of-join, weight_of-back}
-use Rattle.template_theory.specs.Templates.{Partial, Label, empty_label, full_label, partial_label, star, q2, IsRun}
+use Rattle.template_theory.specs.Templates.{Partial, Label, IsSorted, empty_label, full_label, partial_label, star, q2, IsRun}
 use Rattle.template_theory.specs.Chosen.{IsLabelOfP, p_empty, by_p1, by_p3, by_p5, IsLabelOfQ, q_empty, by_q1, by_q2}
 use Rattle.template_theory.specs.Reduced.{IsTurned, IsLabel, AreLabels}
 use Rattle.template_theory.proofs.Hits.{hits_of, in_row}
-use Rattle.template_theory.proofs.Paid.{IsPaid, ArePaid, cut_weight, listed, paid_back, nodes_met_of-back, hits_of-back, sorted_paid, sorted_count, empty_unmet, run_sorted, star_weight}
-use Rattle.template_theory.proofs.WeightTurned.{turned_weight_of}
+use Rattle.template_theory.proofs.Sorts.{each_back, sorted_count, run_sorted}
+use Rattle.template_theory.proofs.Measures.{measure_parts, turned_measure, star_measure, q2_measure}
+use Rattle.template_theory.proofs.Weights.{weights}
+use Rattle.template_theory.proofs.Paid.{IsPaid, ArePaid, nodes_met_of-back, hits_of-back, sorted_paid, empty_unmet}
 
 -- a node is met at most once
 pub met_once : (b : Bool) → cond {A = ℕ} b 1 0 ≤ 1
@@ -54,46 +56,37 @@ leaf_paid row a x h =
       | inr k ↦ subst (IsPaid row (leaf a)) (sym k.1) (ap (λ b. cond {A = ℕ} b 1 0) k.0)
     ]
 
+-- what is paid of a P-node and its children, sorted by their labels
+pub p_children_paid : (row : List ℕ) {ts es fs : Forest} {ps : List Label} {hs : List Partial} → IsSorted ts ps es fs hs → ArePaid row ts ps →
+    nodes_met row (p_node ts) + count es + 2 * count fs + length hs + (weight_of es + weight_of fs + measure_parts weight_of hs) ≤ 1 + 2 * hits_of row ts + weight (p_node ts)
+p_children_paid row {ts = ts} s h = omega (arith, met_once (meets row (leaves_of ts)), sorted_paid row s h, sorted_count s)
+
 -- a P-node
 p_paid : (row : List ℕ) (ts : Forest) (ps : List Label) (x : Label) → 2 ≤ count ts → ArePaid row ts ps → IsLabelOfP ts ps x → IsPaid row (p_node ts) x
 p_paid row ts ps x n h (p_empty s) = node_unmet row ts (empty_unmet row s h)
-p_paid row ts ps x n h (by_p1 s) = omega (arith, n, met_once (meets row (leaves_of ts)), sorted_paid row s h)
+p_paid row ts ps x n h (by_p1 s) = omega (arith, n, p_children_paid row s h)
 p_paid row ts ps x n h (by_p3 y s) =
     subst (λ z. IsPaid row (p_node ts) (partial_label z)) (sym s.becomes)
-    (omega (
-      arith,
-      met_once (meets row (leaves_of ts)),
-      sorted_paid row s.pattern h,
-      sorted_count s.pattern,
-      star_weight (tree_and s.e s.es),
-      star_weight (tree_and s.f s.fs),
-    ))
+    (omega (arith, p_children_paid row s.pattern h, star_measure weights (tree_and s.e s.es), star_measure weights (tree_and s.f s.fs)))
 p_paid row ts ps x n h (by_p5 y s) =
     subst (λ z. IsPaid row (p_node ts) (partial_label z)) (sym s.becomes)
     (omega (
       arith,
-      met_once (meets row (leaves_of ts)),
-      sorted_paid row s.pattern h,
-      sorted_count s.pattern,
+      p_children_paid row s.pattern h,
       weight_of-join (star s.es) s.h.e,
       weight_of-join s.h.f (star s.fs),
-      star_weight s.es,
-      star_weight s.fs,
+      star_measure weights s.es,
+      star_measure weights s.fs,
     ))
 
--- what Q2 makes has no more weight than its parts
-pub q2_weight : (es fs : Forest) (h : Option Partial) → weight_of (q2 es h fs).e + weight_of (q2 es h fs).f ≡ weight_of es + weight_of fs + cut_weight (listed h)
-q2_weight es fs None = omega arith
-q2_weight es fs (Some h) = omega (arith, weight_of-join es h.e, weight_of-join h.f fs)
-
--- so of the children of a Q-node, read from either end
+-- what Q2 makes of the children of a Q-node, read from either end
 pub run_paid : (row : List ℕ) (ts : Forest) (ps : List Label) (es fs : Forest) (h : Option Partial) → ArePaid row ts ps → IsRun ts ps es h fs ⊎ IsRun (back ts) (reverse ps) es h fs →
     nodes_met_of row ts + (weight_of (q2 es h fs).e + weight_of (q2 es h fs).f) ≤ 2 * hits_of row ts + weight_of ts
 run_paid row ts ps es fs h a p =
     elim p [
-      | inl r ↦ omega (arith, q2_weight es fs h, sorted_paid row (run_sorted r) a)
+      | inl r ↦ omega (arith, q2_measure weights es fs h, sorted_paid row (run_sorted r) a)
       | inr r ↦
-          omega (arith, q2_weight es fs h, sorted_paid row (run_sorted r) (paid_back row ts ps a), nodes_met_of-back row ts, hits_of-back row ts, weight_of-back ts)
+          omega (arith, q2_measure weights es fs h, sorted_paid row (run_sorted r) (each_back (IsPaid row) ts ps a), nodes_met_of-back row ts, hits_of-back row ts, weight_of-back ts)
     ]
 
 -- a Q-node
@@ -109,7 +102,7 @@ turned_paid : (row : List ℕ) (t : Outline) (y x : Label) → IsPaid row t y �
 turned_paid row t empty_label x h k = subst (IsPaid row t) (sym k) h
 turned_paid row t full_label x h k = subst (IsPaid row t) (sym k) h
 turned_paid row t (partial_label p) x h k =
-    subst (IsPaid row t) (sym k.3) (omega (arith, h, turned_weight_of p.e k.0.e k.1, turned_weight_of p.f k.0.f k.2))
+    subst (IsPaid row t) (sym k.3) (omega (arith, h, turned_measure weights p.e k.0.e k.1, turned_measure weights p.f k.0.f k.2))
 
 mutual
   pub label_paid : (row : List ℕ) (t : Outline) (x : Label) → HasArities t → IsLabel row t x → IsPaid row t x

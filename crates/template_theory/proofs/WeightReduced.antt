@@ -11,7 +11,7 @@ use Rattle.pq_tree.proofs.Amortised.{weight_of-join, nodes_met_few}
 use Rattle.template_theory.specs.Reduced.{IsReplaced, replaced_here, replaced_under_p, replaced_under_q, IsReduced, no_column, by_template}
 use Rattle.template_theory.proofs.Hits.{hits, hits_of-and, hits_of-join, hits_few}
 use Rattle.template_theory.proofs.WeightAtRoot.{root_paid}
-use Rattle.template_theory.proofs.WeightTurned.{equivalent_weight}
+use Rattle.template_theory.proofs.Weights.{equivalent_weight}
 
 -- a node of a tree has enough children, and no more leaves in the row
 replaced_arities : {x y t v : Outline} → IsReplaced x y t v → HasArities t → HasArities x

@@ -1,30 +1,29 @@
 -- A full child is put at an end of the partial child.
-use Rattle.std.proofs.Common.{◌≡◌, ◌≢◌, ◌⊎◌, inl, inr, ℕ, ◌+◌, ◌≤◌, ◌<◌, true, false, cond, eqb, List, [], ◌∷◌, ◌++◌, length, map, set, Some, None, refl, sym, ap, subst, ◌∙◌, arith, eq-eqb, length-append}
+use Rattle.std.proofs.Common.{◌≡◌, ◌≢◌, ◌⊎◌, inl, inr, ℕ, ◌+◌, ◌≤◌, ◌<◌, true, false, cond, eqb, List, [], ◌∷◌, ◌++◌, length, Some, None, refl, sym, ap, subst, ◌∙◌, arith, eq-eqb, length-append}
 use Rattle.std.proofs.lemmas.Bool.{cases_eq, cases_lt, ne_eqb}
-use Rattle.std.proofs.lemmas.List.{get_or-set_other, get_or-set_same, length-set}
 use Rattle.std.specs.Prelude.{if◌then◌else◌, ◌==◌}
 use Rattle.column_order.specs.Orders.{occurs}
 use Rattle.column_order.proofs.Lists.{occurs-append}
 use Rattle.arena_model.specs.declared.Shape.TheVariants.{Leaf, P, Q}
 use Rattle.arena_model.specs.ChildLists.{without, with_replaced, put_on}
 use Rattle.arena_model.specs.Layout.{Layout, shape_at, children_at, IsAtOrAbove, here, down, IsLayout, StandsAlone, IsInUse, MayHaveChildren}
-use Rattle.arena_model.proofs.Lists.{occurs_here, occurs_same, occurs_other, only_one}
+use Rattle.arena_model.proofs.Lists.{occurs_here, occurs_same, occurs_other}
 use Rattle.arena_model.proofs.Slots.{in_range, used_by, children_same, children_other, shape_same}
 use Rattle.arena_model.proofs.Paths.{above_step, above_kept, one_parent, other_top}
 use Rattle.arena_model.proofs.Trees.{no_circle}
-use Rattle.bubble_pass.specs.declared.labels.Label.TheVariants.{Empty}
-use Rattle.pq_arena.specs.RowNodes.{indices}
-use Rattle.bubble_pass.specs.Marks.{Marks, label_at, size_of, exchange}
+use Rattle.bubble_pass.specs.Marks.{Marks}
 use Rattle.template_model.specs.Treated.{IsTreated}
 use Rattle.templates_p.specs.Steps.{IsSameAt}
 use Rattle.templates_p.specs.Lines.{CanHandOver, IsHandedOn, put_in, CanPutIn, CanAbsorb, IsAbsorbed}
-use Rattle.templates_p.proofs.Rebuilt.{IsRebuilt, IsWritten, replaced_none, child_used}
-use Rattle.templates_p.proofs.Remarked.{AreRemarked, is_answer, is_gone, is_partial, swapped, swapped_self, replaced_self, exchanged_indices, treated}
+use Rattle.templates_p.proofs.Rebuilt.{IsRebuilt, IsWritten, child_used}
+use Rattle.template_model.proofs.Replaced.{replaced_self}
+use Rattle.templates_p.proofs.Remarked.{AreRemarked, is_answer, is_gone, is_partial, unmarked, treated}
 use Rattle.templates_p.proofs.Framing.{same_at}
 use Rattle.templates_p.proofs.Moving.{without_gone, without_kept, without_less}
 use Rattle.templates_p.proofs.Chaining.{child_once}
 use Rattle.templates_p.proofs.Grouping.{neither}
 use Rattle.templates_p.proofs.Handing.{taken_off, IsOff, taken_child}
+use Rattle.templates_p.proofs.Handed.{labelled_room, handed_remarked, only_two, handed_children}
 
 pub put_on_times : (end c k : ℕ) (ks : List ℕ) → occurs (put_on end c ks) k ≡ occurs (c ∷ []) k + occurs ks k
 put_on_times end c k ks = elim (eqb end 0) as (λ b. occurs (cond b (c ∷ ks) (ks ++ c ∷ [])) k ≡ occurs (c ∷ []) k + occurs ks k) [
@@ -221,28 +220,18 @@ module _ (f : Layout) (v : Marks) (n h c end : ℕ) (lay : IsLayout f) (can : Ca
         n_in = occurs_here n (h ∷ []);
         a_in = occurs_here n (h ∷ []);
         shapes = λ m z. i.shapes m;
-        children = λ m z. let t = two_kinds n h m z in i.others m t.0 t.1 ∙ sym (replaced_self n (children_at f m));
+        children = λ m z. let t = two_kinds n h m z in i.others m t.0 t.1 ∙ sym (replaced_self (children_at f m) n);
         written = (stay_node, (stay_line, tt));
       }
 
       pub stay_remarked : AreRemarked f g v v n n (n ∷ h ∷ [])
-      stay_remarked = record {
-        room = refl;
-        nodes = refl;
-        inside = refl;
-        full = refl;
-        partial = refl;
-        label = refl;
-        labels = λ m z. refl;
-        chains = λ m xs x. (xs, x, swapped_self n (indices xs));
-        judged = (
-          is_answer refl,
-          (
-            is_partial can.partial can.partial (under_n h can.put.line) (λ k o. (line_has k o, neither n h k (inner_n k o) (inner_h k o))),
-            tt,
-          ),
-        );
-      }
+      stay_remarked = unmarked f g v n (n ∷ h ∷ []) (
+        is_answer refl,
+        (
+          is_partial can.partial can.partial (under_n h can.put.line) (λ k o. (line_has k o, neither n h k (inner_n k o) (inner_h k o))),
+          tt,
+        ),
+      )
 
       stay_same : (k : ℕ) → IsInUse f k → IsAtOrAbove f.slots n k → k ≢ n → k ≢ h → IsSameAt f v g v k
       stay_same k u l a b = same_at f g n n (n ∷ h ∷ []) stay_rebuilt v v stay_remarked k u l (neither n h k a b)
@@ -268,10 +257,7 @@ module _ (f : Layout) (v : Marks) (n h c end : ℕ) (lay : IsLayout f) (can : Ca
     -- where none is left
     module _ (g' : Layout) (w : Marks) (hg : IsLayout g') (d : IsHandedOn g g' v w n h) where
       only_line : (k : ℕ) → 1 ≤ occurs (children_at f n) k → (k ≡ h) ⊎ (k ≡ c)
-      only_line k o = elim (cases_eq k c) [
-        | inl e ↦ inr e
-        | inr ne ↦ inl (only_one k h (subst (λ z. 1 ≤ occurs z k) (sym i.node ∙ d.only) (subst (λ z. 1 ≤ z) (sym (without_kept (children_at f n) c k ne)) o)))
-      ]
+      only_line k o = only_two (children_at f n) c h k (sym i.node ∙ d.only) o
 
       no_node : occurs (children_at g h) n ≡ 0
       no_node = elim (cases_lt 0 (occurs (children_at g h) n)) [
@@ -280,7 +266,7 @@ module _ (f : Layout) (v : Marks) (n h c end : ℕ) (lay : IsLayout f) (can : Ca
       ]
 
       line_is : children_at g' h ≡ children_at g h
-      line_is = d.children h (λ e. n_h (sym e)) ∙ replaced_none (children_at g h) n h no_node
+      line_is = handed_children g g' v w n h d n_h no_node
 
       line_down : (k : ℕ) → 1 ≤ occurs (children_at g h) k → IsAtOrAbove g'.slots h k
       line_down k o = down h k k (subst (λ z. 1 ≤ occurs z k) (sym line_is) o) (here k)
@@ -332,35 +318,8 @@ module _ (f : Layout) (v : Marks) (n h c end : ℕ) (lay : IsLayout f) (can : Ca
         written = (go_node, (go_line, tt));
       }
 
-      line_room : h < length v.labels
-      line_room = let l : h < length f.slots = in_range f h (used_by f h Q can.put.is_q) in let r : size_of v ≡ length f.slots = can.room in omega arith
-
-      new_label : label_at w h ≡ label_at v n
-      new_label = ap (λ ls. label_at (record w { labels = ls }) h) d.put.labels
-          ∙ subst (λ z. label_at (record w { labels = set v.labels z (label_at v n) }) h ≡ label_at v n) (sym d.new_is)
-          (get_or-set_same v.labels h (label_at v n) Empty line_room)
-
-      old_label : (m : ℕ) → m ≢ h → label_at w m ≡ label_at v m
-      old_label m ne = ap (λ ls. label_at (record w { labels = ls }) m) d.put.labels
-          ∙ get_or-set_other v.labels d.new.index m (label_at v n) Empty (λ e. ne (e ∙ d.new_is))
-
       pub go_remarked : AreRemarked f g' v w n h (n ∷ h ∷ [])
-      go_remarked = record {
-        room = ap (λ ls. length ls) d.put.labels ∙ length-set v.labels d.new.index (label_at v n);
-        nodes = d.put.nodes;
-        inside = d.put.inside;
-        full = d.put.full;
-        partial = d.put.partial;
-        label = new_label;
-        labels = λ m z. old_label m (two_kinds n h m z).1;
-        chains = λ m xs x. (
-          (map (exchange d.old d.new) xs),
-          d.put.chains m xs x,
-          subst (λ z. indices ((map (exchange d.old d.new) xs)) ≡ swapped z h (indices xs)) d.old_is
-              (subst (λ z. indices ((map (exchange d.old d.new) xs)) ≡ swapped d.old.index z (indices xs)) d.new_is (exchanged_indices d.old d.new xs)),
-        );
-        judged = (is_gone d.gone, (is_answer refl, tt));
-      }
+      go_remarked = handed_remarked f g g' v w n h (n ∷ h ∷ []) d (labelled_room f v h lay can.put.is_q can.room) (λ m z. (two_kinds n h m z).1) (is_gone d.gone, (is_answer refl, tt))
 
       go_same : (k : ℕ) → IsInUse f k → IsAtOrAbove f.slots n k → k ≢ n → k ≢ h → IsSameAt f v g' w k
       go_same k u l a b = same_at f g' n h (n ∷ h ∷ []) go_rebuilt v w go_remarked k u l (neither n h k a b)

@@ -16,7 +16,7 @@ use Rattle.template_model.specs.Standing.{IsReady}
 use Rattle.templates_p.specs.Sorts.{full_nodes, empty_nodes, partial_nodes}
 use Rattle.templates_p.specs.Steps.{HasChildWith, Searching}
 use Rattle.templates_p.proofs.Framing.{same_length}
-use Rattle.templates_p.proofs.Sorting.{all_sorted, fulls_length, partials_length, full_label_of, partial_label_of, no_empty, not_full_empty, not_empty_partial}
+use Rattle.templates_p.proofs.Sorting.{all_sorted, fulls_length, partials_length, sorted_label, fulls, partials, sorted_none, empties, not_full_empty, not_empty_partial}
 
 pub child_once : (f : Layout) (n k : ℕ) → IsLayout f → occurs (children_at f n) k ≤ 1
 child_once f n k h = let a : occurs (children_at f n) k ≤ times_child f.slots k = children_times f n k in let b : times_child f.slots k ≤ 1 = h.once k in omega arith
@@ -36,18 +36,18 @@ chain_times f w n k h r =
     elim (cases_lt 0 (occurs (indices r.chain) k)) [
       | inl l ↦
           let c : 1 ≤ occurs ks k = r.child k l in
-          let z : occurs (empty_nodes w ks) k ≡ 0 = no_empty w ks k (r.labelled k l) in omega arith
+          let z : occurs (empty_nodes w ks) k ≡ 0 = sorted_none empties w ks k (r.labelled k l) in omega arith
       | inr l ↦
           let out : (label_at w k ≡ Empty → ⊥) → occurs ks k ≡ 0 = (λ ne. elim (cases_lt 0 (occurs ks k)) [
             | inl c ↦ absurd (let q : 1 ≤ occurs (indices r.chain) k = r.all k c ne in omega arith)
             | inr c ↦ omega arith
           ]) in
           let a : occurs (full_nodes w ks) k ≡ 0 = elim (cases_lt 0 (occurs (full_nodes w ks) k)) [
-            | inl c ↦ let q : occurs ks k ≡ 0 = out (λ e. not_full_empty (label_at w k) (full_label_of w ks k c) e) in omega arith
+            | inl c ↦ let q : occurs ks k ≡ 0 = out (λ e. not_full_empty (label_at w k) (sorted_label fulls w ks k c) e) in omega arith
             | inr c ↦ omega arith
           ] in
           let b : occurs (partial_nodes w ks) k ≡ 0 = elim (cases_lt 0 (occurs (partial_nodes w ks) k)) [
-            | inl c ↦ let q : occurs ks k ≡ 0 = out (λ e. not_empty_partial (label_at w k) e (partial_label_of w ks k c)) in omega arith
+            | inl c ↦ let q : occurs ks k ≡ 0 = out (λ e. not_empty_partial (label_at w k) e (sorted_label partials w ks k c)) in omega arith
             | inr c ↦ omega arith
           ] in omega arith
     ]

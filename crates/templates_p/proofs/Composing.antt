@@ -7,7 +7,8 @@ use Rattle.arena_model.specs.ChildLists.{with_replaced}
 use Rattle.arena_model.specs.Layout.{Layout, shape_at, children_at, IsLayout}
 use Rattle.bubble_pass.specs.Marks.{Marks}
 use Rattle.template_model.specs.Treated.{IsOutside, IsTreated}
-use Rattle.templates_p.proofs.Remarked.{replaced_self, leaf_before}
+use Rattle.template_model.proofs.Replaced.{replaced_self}
+use Rattle.templates_p.proofs.Remarked.{leaf_before}
 
 module _ (f g h : Layout) (u v w : Marks) (n b : ℕ) (lf : IsLayout f) (lg : IsLayout g) (lh : IsLayout h) (s : IsTreated f g u v n n) (t : IsTreated g h v w n b) where
   outside_still : (m : ℕ) → IsOutside f n m → IsOutside g n m
@@ -31,7 +32,7 @@ module _ (f g h : Layout) (u v w : Marks) (n b : ℕ) (lf : IsLayout f) (lg : Is
       used = t.arena.used;
       root = t.arena.root ∙ ap (λ r. if r == n then b else r) root_same;
       outside = λ m out. let p = t.arena.outside m (outside_still m out) in let q = s.arena.outside m out in
-          (p.0 ∙ q.0, p.1 ∙ ap (λ xs. with_replaced xs n b) (q.1 ∙ replaced_self n (children_at f m)));
+          (p.0 ∙ q.0, p.1 ∙ ap (λ xs. with_replaced xs n b) (q.1 ∙ replaced_self (children_at f m) n));
       apart = λ m out. t.arena.apart m (outside_still m out);
       leaves = λ x c e. let p = s.arena.leaves x c e in let q = t.arena.leaves x c (leaf_still x c e) in (λ l. q.0 (p.0 l), λ l. p.1 (q.1 l));
     };

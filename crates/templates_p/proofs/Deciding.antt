@@ -90,6 +90,10 @@ p1_decided f w n (Some s) ps h seen m =
       ),
     )
 
+-- where a pattern and a place say when a template fits
+placed : {Z S T F : Type 0} → (S ↔ T) → (Z → T → F) → (F → Z × T) → (Z × S) ↔ F
+placed d made back = (λ x. made x.0 (d.0 x.1), λ y. let b = back y in (b.0, d.1 b.1))
+
 -- full and empty children and no other: the two patterns that say so
 pub two_decided : (f : Layout) (w : Marks) (n : ℕ) (s : Option Sight) (ps : List Label) → IsReady f w n → IsSeenAs f w n s → AreMarkedAs f w n ps →
     AreFullAndEmpty s ↔ ((shape_at f n ≡ Some P) × (e : Outline) × (es : Forest) × (t : Outline) × (fs : Forest) × IsSorted (child_trees f n) ps (tree_and e es) (tree_and t fs) [])
@@ -124,30 +128,12 @@ two_decided f w n (Some s) ps h seen m =
 pub p2_decided : (f : Layout) (w : Marks) (n : ℕ) (root : Bool) (s : Option Sight) (ps : List Label) → IsReady f w n → IsSeenAs f w n s → AreMarkedAs f w n ps →
     (IsTrue root × AreFullAndEmpty s) ↔ FitsP2 f n root ps
 p2_decided f w n root s ps h seen m =
-    let d = two_decided f w n s ps h seen m in (
-      λ z. let t = d.0 z.1 in (
-        t.0,
-        (
-          p2 (tree_and t.1 t.2) (tree_and t.3 t.4),
-          record { at = z.0; e = t.1; es = t.2; f = t.3; fs = t.4; pattern = t.5; becomes = refl },
-        ),
-      ),
-      λ z. (z.1.1.at, d.1 (z.0, z.1.1.e, z.1.1.es, z.1.1.f, z.1.1.fs, z.1.1.pattern)),
-    )
+    placed (two_decided f w n s ps h seen m) (λ z t. (t.0, (p2 (tree_and t.1 t.2) (tree_and t.3 t.4), record { at = z; e = t.1; es = t.2; f = t.3; fs = t.4; pattern = t.5; becomes = refl }))) (λ y. (y.1.1.at, (y.0, y.1.1.e, y.1.1.es, y.1.1.f, y.1.1.fs, y.1.1.pattern)))
 
 pub p3_decided : (f : Layout) (w : Marks) (n : ℕ) (root : Bool) (s : Option Sight) (ps : List Label) → IsReady f w n → IsSeenAs f w n s → AreMarkedAs f w n ps →
     (IsFalse root × AreFullAndEmpty s) ↔ FitsP3 f n root ps
 p3_decided f w n root s ps h seen m =
-    let d = two_decided f w n s ps h seen m in (
-      λ z. let t = d.0 z.1 in (
-        t.0,
-        (
-          p3 (tree_and t.1 t.2) (tree_and t.3 t.4),
-          record { below = z.0; e = t.1; es = t.2; f = t.3; fs = t.4; pattern = t.5; becomes = refl },
-        ),
-      ),
-      λ z. (z.1.1.below, d.1 (z.0, z.1.1.e, z.1.1.es, z.1.1.f, z.1.1.fs, z.1.1.pattern)),
-    )
+    placed (two_decided f w n s ps h seen m) (λ z t. (t.0, (p3 (tree_and t.1 t.2) (tree_and t.3 t.4), record { below = z; e = t.1; es = t.2; f = t.3; fs = t.4; pattern = t.5; becomes = refl }))) (λ y. (y.1.1.below, (y.0, y.1.1.e, y.1.1.es, y.1.1.f, y.1.1.fs, y.1.1.pattern)))
 
 -- one partial child
 pub one_decided : (f : Layout) (w : Marks) (n : ℕ) (s : Option Sight) (ps : List Label) → IsReady f w n → IsSeenAs f w n s → AreMarkedAs f w n ps →
@@ -170,18 +156,12 @@ one_decided f w n (Some s) ps h seen m =
 pub p4_decided : (f : Layout) (w : Marks) (n : ℕ) (root : Bool) (s : Option Sight) (ps : List Label) → IsReady f w n → IsSeenAs f w n s → AreMarkedAs f w n ps →
     (IsTrue root × HasPartials 1 s) ↔ FitsP4 f n root ps
 p4_decided f w n root s ps h seen m =
-    let d = one_decided f w n s ps h seen m in (
-      λ z. let t = d.0 z.1 in (t.0, (p4 t.1 t.2 t.3, record { at = z.0; es = t.1; h = t.2; fs = t.3; pattern = t.4; becomes = refl })),
-      λ z. (z.1.1.at, d.1 (z.0, z.1.1.es, z.1.1.h, z.1.1.fs, z.1.1.pattern)),
-    )
+    placed (one_decided f w n s ps h seen m) (λ z t. (t.0, (p4 t.1 t.2 t.3, record { at = z; es = t.1; h = t.2; fs = t.3; pattern = t.4; becomes = refl }))) (λ y. (y.1.1.at, (y.0, y.1.1.es, y.1.1.h, y.1.1.fs, y.1.1.pattern)))
 
 pub p5_decided : (f : Layout) (w : Marks) (n : ℕ) (root : Bool) (s : Option Sight) (ps : List Label) → IsReady f w n → IsSeenAs f w n s → AreMarkedAs f w n ps →
     (IsFalse root × HasPartials 1 s) ↔ FitsP5 f n root ps
 p5_decided f w n root s ps h seen m =
-    let d = one_decided f w n s ps h seen m in (
-      λ z. let t = d.0 z.1 in (t.0, (p5 t.1 t.2 t.3, record { below = z.0; es = t.1; h = t.2; fs = t.3; pattern = t.4; becomes = refl })),
-      λ z. (z.1.1.below, d.1 (z.0, z.1.1.es, z.1.1.h, z.1.1.fs, z.1.1.pattern)),
-    )
+    placed (one_decided f w n s ps h seen m) (λ z t. (t.0, (p5 t.1 t.2 t.3, record { below = z; es = t.1; h = t.2; fs = t.3; pattern = t.4; becomes = refl }))) (λ y. (y.1.1.below, (y.0, y.1.1.es, y.1.1.h, y.1.1.fs, y.1.1.pattern)))
 
 pub p6_decided : (f : Layout) (w : Marks) (n : ℕ) (root : Bool) (s : Option Sight) (ps : List Label) → IsReady f w n → IsSeenAs f w n s → AreMarkedAs f w n ps →
     (IsTrue root × HasPartials 2 s) ↔ FitsP6 f n root ps

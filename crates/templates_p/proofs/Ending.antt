@@ -10,7 +10,7 @@ use Rattle.arena_model.specs.declared.Shape.TheVariants.{P}
 use Rattle.arena_model.specs.ChildLists.{put_on}
 use Rattle.arena_model.specs.Layout.{Layout, shape_at, children_at, IsLayout}
 use Rattle.arena_model.specs.NamedTree.{outline_below, HasTwoEach}
-use Rattle.arena_model.proofs.Lists.{occurs_here, only_one}
+use Rattle.arena_model.proofs.Lists.{occurs_here}
 use Rattle.bubble_pass.specs.declared.labels.Label.TheVariants.{Empty, Partial as Partly}
 use Rattle.bubble_pass.specs.Marks.{Marks, label_at}
 use Rattle.template_theory.specs.Templates.{Partial, Label, IsSorted, star, line, under, IsP4}
@@ -19,9 +19,11 @@ use Rattle.template_model.specs.Treated.{StandsForTree}
 use Rattle.templates_p.specs.Sorts.{full_nodes, empty_nodes, partial_nodes}
 use Rattle.templates_p.specs.Steps.{IsSameAt, HasGroup}
 use Rattle.templates_p.specs.Lines.{IsShapeTo, IsAbsorbed}
-use Rattle.templates_p.proofs.Sorting.{held, sorted_unique, sort, held_length, AreShapes, held_shapes, all_sorted, all_counted, partial_times, not_full_empty, not_empty_partial, empty_label_of}
+use Rattle.templates_p.proofs.Sorting.{held, sorted_unique, sort, held_length, AreShapes, held_shapes, all_sorted, all_counted, sorted_times, partials, not_full_empty, not_empty_partial, sorted_label, empties}
 use Rattle.templates_p.proofs.Framing.{p_stands, q_stands, are_same, shape_member, same_length}
 use Rattle.templates_p.proofs.Becoming.{equivalent_join}
+use Rattle.templates_p.proofs.Grouping.{only_member}
+use Rattle.pq_tree.proofs.Forests.{join_no_tree}
 
 -- the trees of a partial, as they stand below its nodes
 line_trees : (o o' : ℕ → Outline) (es fs : List ℕ) (h : Partial) → h.e ≡ forest (map o es) → h.f ≡ forest (map o fs) →
@@ -67,11 +69,6 @@ absorbed_stands f g v w n h c end a x ts lay s b eq =
     q_stands g h ((s.es ++ s.fs) ++ c ∷ []) (join (line x) ts) lay b.shape
     (same_place (children_at g h) (put_on end c (children_at f h)) ((s.es ++ s.fs) ++ c ∷ []) b.children (put_sides (children_at f h) (s.es ++ s.fs) c end s.children)) trees
 
-pub only_member : (xs : List ℕ) (y : ℕ) → length xs ≡ 1 → 1 ≤ occurs xs y → xs ≡ y ∷ []
-only_member [] y e o = absurd (omega arith)
-only_member (x ∷ []) y e o = ap (λ z. z ∷ []) (sym (only_one y x o))
-only_member (x ∷ z ∷ xs) y e o = absurd (omega arith)
-
 -- what is known of the children where one is partial
 pub record OnePartial (f : Layout) (v : Marks) (n h : ℕ) (es : Forest) (x : Partial) (fs : Forest) : Type 0 where
   pub only : partial_nodes v (children_at f n) ≡ h ∷ []
@@ -89,7 +86,7 @@ one_partial f v n h ps es x fs m s p o l =
     let ks : List ℕ = children_at f n in
     let u = sorted_unique (sort (outline_below f) v ks ps m) p in
     let one : length (partial_nodes v ks) ≡ 1 = sym (held_length v ks ps m) ∙ ap (λ hs. length hs) u.2 in
-    let only : partial_nodes v ks ≡ h ∷ [] = only_member (partial_nodes v ks) h one (subst (λ z. 1 ≤ z) (sym (partial_times v ks h l)) o) in
+    let only : partial_nodes v ks ≡ h ∷ [] = only_member (partial_nodes v ks) h one (subst (λ z. 1 ≤ z) (sym (sorted_times partials v ks h l)) o) in
     record {
       only = only;
       shape = the_shape f v h x (partial_nodes v ks) (held ps) only u.2 (held_shapes f v ks ps m s);
@@ -97,17 +94,13 @@ one_partial f v n h ps es x fs m s p o l =
       full = u.1;
     }
 
-under_some : (es : Forest) (t : Outline) (o : ℕ → Outline) (xs : List ℕ) → forest (map o xs) ≡ es → 1 ≤ length xs → under es t ≡ p_node (tree_and t es)
+pub under_some : (es : Forest) (t : Outline) (o : ℕ → Outline) (xs : List ℕ) → forest (map o xs) ≡ es → 1 ≤ length xs → under es t ≡ p_node (tree_and t es)
 under_some es t o [] e l = absurd (omega arith)
 under_some es t o (x ∷ xs) e l = subst (λ z. under z t ≡ p_node (tree_and t z)) e refl
 
-under_none : (es : Forest) (t : Outline) (o : ℕ → Outline) (xs : List ℕ) → forest (map o xs) ≡ es → ((k : ℕ) → occurs xs k ≡ 0) → under es t ≡ t
+pub under_none : (es : Forest) (t : Outline) (o : ℕ → Outline) (xs : List ℕ) → forest (map o xs) ≡ es → ((k : ℕ) → occurs xs k ≡ 0) → under es t ≡ t
 under_none es t o [] e l = subst (λ z. under z t ≡ t) e refl
 under_none es t o (x ∷ xs) e l = absurd (let z : occurs (x ∷ xs) x ≡ 0 = l x in omega (arith, occurs_here x xs))
-
-pub join_none : (ts : Forest) → join ts no_tree ≡ ts
-join_none no_tree = refl
-join_none (tree_and t ts) = ap (tree_and t) (join_none ts)
 
 -- P4 where no child is full
 pub p4_plain : (f : Layout) (v : Marks) (n h : ℕ) (ps : List Label) (u : Outline) → IsLayout f → HasTwoEach f → shape_at f n ≡ Some P → AreMarkedAs f v n ps → AreShapesAt f v (children_at f n) ps →
@@ -120,7 +113,7 @@ p4_plain f v n h ps u lay two is_p m s o l none p =
     omega (arith, all_counted v ks)) in
     let q : IsEquivalent (q_node (join (line p.h) (star p.fs))) (outline_below f h) =
     subst (λ ts. IsEquivalent (q_node (join (line p.h) (star ts))) (outline_below f h)) (sym no_fs)
-    (subst (λ ts. IsEquivalent (q_node ts) (outline_below f h)) (sym (join_none (line p.h))) (shape_stands f v h p.h lay k.shape)) in
+    (subst (λ ts. IsEquivalent (q_node ts) (outline_below f h)) (sym (join_no_tree (line p.h))) (shape_stands f v h p.h lay k.shape)) in
     subst (λ t. IsEquivalent t (outline_below f n)) (sym (p.becomes ∙ under_some p.es (q_node (join (line p.h) (star p.fs))) (outline_below f) (empty_nodes v ks) k.empty many))
     (p_stands f n (h ∷ empty_nodes v ks) (tree_and (q_node (join (line p.h) (star p.fs))) p.es) lay is_p
     (λ j. let a : occurs (full_nodes v ks) j ≡ 0 = ap (λ xs. occurs xs j) none in let b : occurs (partial_nodes v ks) j ≡ occurs (h ∷ []) j = ap (λ xs. occurs xs j) k.only in omega (arith, all_sorted v ks j))
@@ -143,7 +136,7 @@ p4_becomes f g i v w x n h y end a ps u lay m s o l grp to b p =
           let e : occurs (partial_nodes v ks) j ≡ occurs (h ∷ []) j = ap (λ xs. occurs xs j) k.only in omega (arith, grp.children j)) in
           let many : 1 ≤ length (empty_nodes v ks) = (let d : 2 ≤ length (children_at i n) = c.2 in let e : length (children_at i n) ≡ length (h ∷ empty_nodes v ks) = same_length (h ∷ empty_nodes v ks) (children_at i n) bag in omega arith) in
           let kept : (j : ℕ) → 1 ≤ occurs (empty_nodes v ks) j → outline_below i j ≡ outline_below f j = (λ j o'.
-          let is : label_at v j ≡ Empty = empty_label_of v ks j o' in
+          let is : label_at v j ≡ Empty = sorted_label empties v ks j o' in
           let e : IsSameAt f v g w j = grp.others j (omega arith) in
           let nh : j ≢ h = (λ z. not_empty_partial (label_at v j) is (ap (label_at v) z ∙ l)) in
           let ny : j ≢ y = (λ z. not_full_empty (label_at w j) (ap (label_at w) z ∙ grp.label) (e.label ∙ is)) in

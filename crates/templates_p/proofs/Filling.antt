@@ -26,15 +26,16 @@ use Rattle.templates_p.specs.Sorts.{full_nodes, empty_nodes, partial_nodes}
 use Rattle.templates_p.specs.Steps.{IsSameAt, IsGathered, HasGroup, CanGather}
 use Rattle.templates_p.specs.Lines.{IsShapeTo, IsAbsorbed}
 use Rattle.templates_p.specs.Parts.{IsParted, IsLineFor, CanFill, IsFilled, CanLift}
-use Rattle.templates_p.proofs.Sorting.{count_map, all_sorted, empty_label_of, not_empty_partial, not_full_empty}
+use Rattle.templates_p.proofs.Sorting.{count_map, all_sorted, sorted_label, empties, not_empty_partial, not_full_empty}
 use Rattle.templates_p.proofs.Becoming.{can_gather}
 use Rattle.templates_p.proofs.Chaining.{child_once}
 use Rattle.templates_p.proofs.Grouping.{neither}
 use Rattle.templates_p.proofs.Moving.{without_gone, without_kept, without_less}
-use Rattle.templates_p.proofs.Ending.{OnePartial, one_partial, join_none}
+use Rattle.templates_p.proofs.Ending.{OnePartial, one_partial}
 use Rattle.templates_p.proofs.FullEnd.{partial_count, line_shape, can_absorb}
 use Rattle.templates_p.proofs.Parting.{IsLineOf, parted_treated}
 use Rattle.templates_p.proofs.Lining.{line_stands, AreEnds, parted_line, rest_bag, shape_line, absorbed_line}
+use Rattle.pq_tree.proofs.Forests.{join_no_tree}
 
 -- where the node stands then: at n, over h and the empty children, or it is h where there are none
 abbrev pub IsLeft : Layout → Marks → Layout → Marks → ℕ → ℕ → ℕ → Type 0
@@ -60,7 +61,7 @@ plain_line f v n h end es p fs is_p k none s =
     record {
       is_q = s.is_q;
       line = subst (λ ts. IsLineFor f v (children_at f h) end p.e (join p.f (star ts))) (sym (no_fulls f v n fs k.full none))
-          (subst (λ ts. IsLineFor f v (children_at f h) end p.e ts) (sym (join_none p.f)) (shape_line f v h p end s));
+          (subst (λ ts. IsLineFor f v (children_at f h) end p.e ts) (sym (join_no_tree p.f)) (shape_line f v h p end s));
       place = inl (
         refl,
         is_p,
@@ -92,7 +93,7 @@ group_line f g i v w x n h y end a es p fs k l grp s b =
   where
     both : (j : ℕ) → 1 ≤ occurs (empty_nodes v (children_at f n)) j → (1 ≤ occurs (children_at g n) j → j ≢ h → j ≢ y → IsSameAt g w i x j) → IsSameAt f v i x j
     both j o c =
-        let is : label_at v j ≡ Empty = empty_label_of v (children_at f n) j o in
+        let is : label_at v j ≡ Empty = sorted_label empties v (children_at f n) j o in
         let e : IsSameAt f v g w j = grp.others j (omega arith) in
         let nh : j ≢ h = (λ z. not_empty_partial (label_at v j) is (ap (label_at v) z ∙ l)) in
         let ny : j ≢ y = (λ z. not_full_empty (label_at w j) (ap (label_at w) z ∙ grp.label) (e.label ∙ is)) in
@@ -215,7 +216,7 @@ module _ (f i : Layout) (v x : Marks) (n h a : ℕ) (li : IsLayout i) (one : IsO
   rest_is = rest_bag (children_at i n) (empty_nodes v (children_at f n)) h s.bag (child_once i n h li)
 
   rest_empty : (k : ℕ) → 1 ≤ occurs (without (children_at i n) h) k → label_at x k ≡ Empty
-  rest_empty k o = let o' : 1 ≤ occurs (empty_nodes v (children_at f n)) k = omega (arith, rest_is k) in (s.same k o').label ∙ empty_label_of v (children_at f n) k o'
+  rest_empty k o = let o' : 1 ≤ occurs (empty_nodes v (children_at f n)) k = omega (arith, rest_is k) in (s.same k o').label ∙ sorted_label empties v (children_at f n) k o'
 
   pub can_lift : size_of x ≡ length i.slots → CanLift i x n h
   can_lift room = record {

@@ -3,12 +3,11 @@ use Rattle.std.proofs.Common.{◌≡◌, ℕ, ◌+◌, ◌*◌, ◌≤◌, List,
 use Rattle.column_order.specs.Orders.{occurs}
 use Rattle.pq_tree.specs.Outline.{Forest}
 use Rattle.arena_model.specs.declared.Shape.TheVariants.{P}
-use Rattle.arena_model.specs.Layout.{Layout, children_at, IsAtOrAbove, here, IsLayout}
+use Rattle.arena_model.specs.Layout.{Layout, children_at, IsLayout}
 use Rattle.arena_model.specs.NamedTree.{outline_below}
 use Rattle.arena_model.proofs.Lists.{occurs_here}
 use Rattle.arena_model.proofs.Slots.{used_by}
-use Rattle.arena_model.proofs.Trees.{no_circle}
-use Rattle.bubble_pass.specs.declared.labels.Label.TheVariants.{Empty, Partial as Partly}
+use Rattle.bubble_pass.specs.declared.labels.Label.TheVariants.{Partial as Partly}
 use Rattle.bubble_pass.specs.Marks.{Marks, label_at, size_of}
 use Rattle.template_theory.specs.Templates.{Partial, Label, IsSorted}
 use Rattle.template_model.specs.Standing.{child_trees, AreMarkedAs, IsShapeAt, IsReady}
@@ -17,13 +16,10 @@ use Rattle.templates_p.specs.Fits.{StandsP4}
 use Rattle.templates_p.specs.Sorts.{partial_nodes}
 use Rattle.templates_p.specs.Steps.{HasGroup, HasChildWith, CanGather}
 use Rattle.templates_p.specs.Lines.{CanAbsorb}
-use Rattle.templates_p.proofs.Sorting.{sorted_unique, sort, held_length, all_sorted, partial_label_of, not_full_partial}
+use Rattle.templates_p.proofs.Sorting.{sorted_unique, sort, held_length, partials, not_full_partial}
 use Rattle.templates_p.proofs.Becoming.{can_gather}
 use Rattle.templates_p.proofs.Ending.{OnePartial, one_partial}
-
-some_member : (xs : List ℕ) → 1 ≤ length xs → (k : ℕ) × (1 ≤ occurs xs k)
-some_member [] l = absurd (omega arith)
-some_member (x ∷ xs) l = (x, occurs_here x xs)
+use Rattle.templates_p.proofs.Grouping.{first_marked}
 
 -- some children have this label pattern, of which one is partial
 pub partial_count : (f : Layout) (w : Marks) (n : ℕ) (ps : List Label) (es fs : Forest) (hs : List Partial) → AreMarkedAs f w n ps → IsSorted (child_trees f n) ps es fs hs →
@@ -32,18 +28,7 @@ partial_count f w n ps es fs hs m p =
     sym (held_length w (children_at f n) ps m) ∙ ap (λ zs. length zs) (sorted_unique (sort (outline_below f) w (children_at f n) ps m) p).2
 
 pub partial_child : (f : Layout) (w : Marks) (n : ℕ) → IsLayout f → IsReady f w n → 1 ≤ length (partial_nodes w (children_at f n)) → HasChildWith f w n Partly n
-partial_child f w n h r l =
-    let k = some_member (partial_nodes w (children_at f n)) l in
-    let o : 1 ≤ occurs (partial_nodes w (children_at f n)) k.0 = k.1 in
-    let c : 1 ≤ occurs (children_at f n) k.0 = omega (arith, all_sorted w (children_at f n) k.0) in
-    record {
-      ready = r;
-      k = k.0;
-      child = c;
-      labelled = partial_label_of w (children_at f n) k.0 o;
-      other = λ q. no_circle f.slots n k.0 (h.grounds n) c (subst (λ z. IsAtOrAbove f.slots k.0 z) q (here k.0));
-      marked = λ q. (let z : Partly ≡ Empty = q in cc);
-    }
+partial_child f w n h r l = first_marked partials (λ q. cc) f w n h r l
 
 pub p4_one : (f : Layout) (w : Marks) (n : ℕ) → StandsP4 f w n → length (partial_nodes w (children_at f n)) ≡ 1
 p4_one f w n s = partial_count f w n s.0 s.3.1.1.es s.3.1.1.fs (s.3.1.1.h ∷ []) s.1 s.3.1.1.pattern

@@ -25,11 +25,13 @@ use Rattle.template_model.specs.Treated.{IsTreated}
 use Rattle.templates_p.specs.Sorts.{full_nodes, empty_nodes, partial_nodes, full_then}
 use Rattle.templates_p.specs.Steps.{CanMove, Moved, moved_under, without_all, onto, Gathering, HasGroup, CanGather, IsSameAt, HasChildWith}
 use Rattle.templates_p.proofs.Rebuilt.{IsRebuilt, IsWritten, child_used}
-use Rattle.templates_p.proofs.Remarked.{AreRemarked, is_answer, is_full, swapped_self, replaced_self, treated}
-use Rattle.templates_p.proofs.Sorting.{all_sorted, all_counted, fulls_length, full_label_of, full_times, no_empty, no_partial, not_full_empty, not_full_partial}
+use Rattle.template_model.proofs.Replaced.{replaced_self}
+use Rattle.templates_p.proofs.Remarked.{AreRemarked, is_answer, is_full, swapped_self, treated}
+use Rattle.templates_p.proofs.Sorting.{all_sorted, all_counted, fulls_length, sorted_label, fulls, sorted_times, sorted_none, empties, partials, not_full_empty, not_full_partial, AreMarked}
 use Rattle.templates_p.proofs.Framing.{p_stands, are_same, same_at, same_length}
 use Rattle.templates_p.proofs.Moving.{all_kept, all_less, all_gone, onto_has, can_move, ready_to_put, moved_one}
 use Rattle.templates_p.proofs.Chaining.{chain_times, chain_length, child_once, ahead, ahead_of, some_same, never_none}
+use Rattle.bubble_pass.specs.declared.labels.Label.{Label as Mark}
 
 pub gather_start : (f g : Layout) (w : Marks) (n x left : ℕ) (next : Option NodeId) (start now : ℕ) → IsLayout f → IsReady f w n → Moved f g n x [] →
     left ≡ fulls_at w n + partials_at w n → next ≡ first_of w n → now ≡ start + 1 → Gathering f g w n x left next start now
@@ -143,14 +145,14 @@ gather_end f g w n x left next start now s e = record {
       let a : occurs (indices s.passed) k + occurs (indices s.rest) k ≡ occurs (full_nodes w ks) k + occurs (partial_nodes w ks) k = s.all k in
       elim (cases_lt 0 (occurs (full_nodes w ks) k)) [
         | inl l ↦
-            let is : label_at w k ≡ Full = full_label_of w ks k l in
-            let b : occurs (full_nodes w (indices s.passed)) k ≡ occurs (indices s.passed) k = full_times w (indices s.passed) k is in
-            let c : occurs (partial_nodes w ks) k ≡ 0 = no_partial w ks k (not_full_partial (label_at w k) is) in omega arith
+            let is : label_at w k ≡ Full = sorted_label fulls w ks k l in
+            let b : occurs (full_nodes w (indices s.passed)) k ≡ occurs (indices s.passed) k = sorted_times fulls w (indices s.passed) k is in
+            let c : occurs (partial_nodes w ks) k ≡ 0 = sorted_none partials w ks k (not_full_partial (label_at w k) is) in omega arith
         | inr l ↦ elim (cases_lt 0 (occurs (full_nodes w (indices s.passed)) k)) [
           | inl m ↦
-              let is : label_at w k ≡ Full = full_label_of w (indices s.passed) k m in
-              let b : occurs (full_nodes w (indices s.passed)) k ≡ occurs (indices s.passed) k = full_times w (indices s.passed) k is in
-              let c : occurs (partial_nodes w ks) k ≡ 0 = no_partial w ks k (not_full_partial (label_at w k) is) in omega arith
+              let is : label_at w k ≡ Full = sorted_label fulls w (indices s.passed) k m in
+              let b : occurs (full_nodes w (indices s.passed)) k ≡ occurs (indices s.passed) k = sorted_times fulls w (indices s.passed) k is in
+              let c : occurs (partial_nodes w ks) k ≡ 0 = sorted_none partials w ks k (not_full_partial (label_at w k) is) in omega arith
           | inr m ↦ omega arith
         ]
       ];
@@ -181,23 +183,28 @@ passed_one f g g' w n x passed y h is_p m i full other = go (label_at w y.index)
     go Partly e = kept (λ q. not_full_partial (label_at w y.index) q e)
     go Full e = subst (λ z. Moved f z n x (full_nodes w (indices (passed ++ y ∷ [])))) (sym (full e)) (passed_full f g w n x passed y h is_p m i e)
 
+-- a child among those with a mark
+pub marked_child : {l : Mark} {sorted : Marks → List ℕ → List ℕ} → AreMarked l sorted → l ≢ Empty → (f : Layout) (w : Marks) (n a k : ℕ) → IsReady f w n → 1 ≤ occurs (sorted w (children_at f n)) k → k ≢ a →
+    HasChildWith f w n l a
+marked_child s marked f w n a k r o other =
+    let is = sorted_label s w (children_at f n) k o in
+    record { ready = r; k = k; child = subst (λ z. 1 ≤ z) (sorted_times s w (children_at f n) k is) o; labelled = is; other = other; marked = marked }
+
+-- the first of them is no child of itself
+pub first_marked : {l : Mark} {sorted : Marks → List ℕ → List ℕ} → AreMarked l sorted → l ≢ Empty → (f : Layout) (w : Marks) (n : ℕ) → IsLayout f → IsReady f w n → 1 ≤ length (sorted w (children_at f n)) →
+    HasChildWith f w n l n
+first_marked {sorted = sorted} s marked f w n h r l =
+    let k = some_member (sorted w (children_at f n)) l in
+    let child : 1 ≤ occurs (children_at f n) k.0 = subst (λ z. 1 ≤ z) (sorted_times s w (children_at f n) k.0 (sorted_label s w (children_at f n) k.0 k.1)) k.1 in
+    marked_child s marked f w n n k.0 r k.1 (λ q. no_circle f.slots n k.0 (h.grounds n) child (subst (λ z. IsAtOrAbove f.slots k.0 z) q (here k.0)))
+
 -- one full child
 pub one_full : (f : Layout) (w : Marks) (n : ℕ) → IsLayout f → IsReady f w n → fulls_at w n ≡ 1 → HasChildWith f w n Full n
 one_full f w n h r e =
     let a : length (full_nodes w (children_at f n)) ≡ fulls_at w n = fulls_length w (children_at f n) ∙ sym r.right.full in
-    let k = some_member (full_nodes w (children_at f n)) (omega arith) in
-    let o : 1 ≤ occurs (full_nodes w (children_at f n)) k.0 = k.1 in
-    let c : 1 ≤ occurs (children_at f n) k.0 = omega (arith, all_sorted w (children_at f n) k.0) in
-    record {
-      ready = r;
-      k = k.0;
-      child = c;
-      labelled = full_label_of w (children_at f n) k.0 o;
-      other = λ q. no_circle f.slots n k.0 (h.grounds n) c (subst (λ z. IsAtOrAbove f.slots k.0 z) q (here k.0));
-      marked = λ q. (let z : Full ≡ Empty = q in cc);
-    }
+    first_marked fulls (λ q. cc) f w n h r (omega arith)
 
-only_member : (xs : List ℕ) (y : ℕ) → length xs ≡ 1 → 1 ≤ occurs xs y → xs ≡ y ∷ []
+pub only_member : (xs : List ℕ) (y : ℕ) → length xs ≡ 1 → 1 ≤ occurs xs y → xs ≡ y ∷ []
 only_member [] y e o = absurd (omega arith)
 only_member (x ∷ []) y e o = ap (λ z. z ∷ []) (sym (only_one y x o))
 only_member (x ∷ z ∷ xs) y e o = absurd (omega arith)
@@ -213,7 +220,7 @@ pub one_made : (f : Layout) (w : Marks) (n y : ℕ) → IsReady f w n → shape_
     HasGroup f w f w n y
 one_made f w n y r is_p e o l =
     let a : length (full_nodes w (children_at f n)) ≡ 1 = fulls_length w (children_at f n) ∙ sym r.right.full ∙ e in
-    let in_full : 1 ≤ occurs (full_nodes w (children_at f n)) y = subst (λ z. 1 ≤ z) (sym (full_times w (children_at f n) y l)) o in
+    let in_full : 1 ≤ occurs (full_nodes w (children_at f n)) y = subst (λ z. 1 ≤ z) (sym (sorted_times fulls w (children_at f n) y l)) o in
     let is : full_nodes w (children_at f n) ≡ y ∷ [] = only_member (full_nodes w (children_at f n)) y a in_full in
     record {
       shape = is_p;
@@ -319,10 +326,10 @@ module _ (f g : Layout) (v : Marks) (n x : ℕ) (ds : List ℕ) (h : IsLayout f)
       let ks : List ℕ = children_at f n in
       elim (cases_lt 0 (occurs (full_nodes v ks) k)) [
         | inl l ↦
-            let is = full_label_of v ks k l in
+            let is = sorted_label fulls v ks k l in
             let z : occurs (without_all ks ds) k ≡ 0 = all_gone ks ds k (subst (λ y. 1 ≤ y) (sym (a.all k)) l) in
-            let e : occurs (empty_nodes v ks) k ≡ 0 = no_empty v ks k (not_full_empty (label_at v k) is) in
-            let p : occurs (partial_nodes v ks) k ≡ 0 = no_partial v ks k (not_full_partial (label_at v k) is) in
+            let e : occurs (empty_nodes v ks) k ≡ 0 = sorted_none empties v ks k (not_full_empty (label_at v k) is) in
+            let p : occurs (partial_nodes v ks) k ≡ 0 = sorted_none partials v ks k (not_full_partial (label_at v k) is) in
             omega arith
         | inr l ↦ let y : occurs (full_nodes v ks) k ≡ 0 = omega arith in
             let z : occurs (without_all ks ds) k ≡ occurs ks k = all_kept ks ds k (a.all k ∙ y) in
@@ -396,7 +403,7 @@ module _ (f g : Layout) (v : Marks) (n x : ℕ) (ds : List ℕ) (h : IsLayout f)
     n_in = occurs_here n (x ∷ []);
     a_in = occurs_here n (x ∷ []);
     shapes = λ m z. let t = two_kinds n x m z in ap (λ s. s.shape) (other_slot m t.0 t.1);
-    children = λ m z. let t = two_kinds n x m z in ap (λ s. s.children) (other_slot m t.0 t.1) ∙ sym (replaced_self n (children_at f m));
+    children = λ m z. let t = two_kinds n x m z in ap (λ s. s.children) (other_slot m t.0 t.1) ∙ sym (replaced_self (children_at f m) n);
     written = (node_written, (group_written, tt));
   }
 
@@ -415,11 +422,7 @@ module _ (f g : Layout) (v : Marks) (n x : ℕ) (ds : List ℕ) (h : IsLayout f)
 
   pub group_remarked : AreRemarked f (grouped g n x) v (full_marked v x) n n (n ∷ x ∷ [])
   group_remarked = record {
-    room = length-set v.labels x Full;
-    nodes = refl;
-    inside = refl;
-    full = refl;
-    partial = refl;
+    alike = record { room = length-set v.labels x Full; nodes = refl; inside = refl; full = refl; partial = refl };
     label = other_label n apart;
     labels = λ m z. other_label m (two_kinds n x m z).1;
     chains = λ m xs i. (xs, i, swapped_self n (indices xs));
@@ -429,7 +432,7 @@ module _ (f g : Layout) (v : Marks) (n x : ℕ) (ds : List ℕ) (h : IsLayout f)
         is_full group_label (λ k o.
             let l : 1 ≤ occurs (full_nodes v (children_at f n)) k = subst (λ y. 1 ≤ y) (in_group k) o in
             let o' : 1 ≤ occurs (children_at f n) k = full_child k l in
-            (neither n x k (λ e. not_self k o' e) (not_group k o'), full_label_of v (children_at f n) k l)),
+            (neither n x k (λ e. not_self k o' e) (not_group k o'), sorted_label fulls v (children_at f n) k l)),
         tt,
       ),
     );
@@ -466,3 +469,10 @@ module _ (f g : Layout) (v : Marks) (n x : ℕ) (ds : List ℕ) (h : IsLayout f)
       star_many o [] l = absurd (omega arith)
       star_many o (x ∷ []) l = absurd (omega arith)
       star_many o (x ∷ y ∷ xs) l = refl
+
+-- so once the group is put below n and marked as full
+pub group_done : (f h g : Layout) (v w : Marks) (n x : ℕ) (xs : List ℕ) → IsLayout f → IsLayout g → g ≡ grouped h n x → w ≡ full_marked v x → CanGroup f v n → AllMoved f h v n x xs →
+    IsTreated f g v w n n × HasGroup f v g w n x
+group_done f h g v w n x xs lf lg e m can moved =
+    subst (λ z. IsTreated f z v w n n × HasGroup f v z w n x) (sym e) (subst (λ z. IsTreated f (grouped h n x) v z n n × HasGroup f v (grouped h n x) z n x) (sym m)
+    (group_treated f h v n x xs lf (subst IsLayout e lg) can moved, group_made f h v n x xs lf (subst IsLayout e lg) can moved))

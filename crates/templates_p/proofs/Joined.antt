@@ -3,7 +3,7 @@ use Rattle.std.proofs.Common.{◌≡◌, ◌≢◌, ◌⊎◌, inl, inr, ℕ, �
 use Rattle.std.proofs.lemmas.List.{reverse-append, reverse-reverse, map-append}
 use Rattle.column_order.specs.Orders.{occurs}
 use Rattle.column_order.proofs.Lists.{occurs-append}
-use Rattle.pq_tree.specs.Outline.{Outline, Forest, p_node, q_node, tree_and}
+use Rattle.pq_tree.specs.Outline.{Outline, Forest, q_node, tree_and}
 use Rattle.pq_tree.specs.Forests.{join, back}
 use Rattle.pq_tree.specs.Proper.{forest}
 use Rattle.pq_tree.specs.Equivalent.{IsEquivalent, AreEquivalent}
@@ -12,22 +12,22 @@ use Rattle.arena_model.specs.declared.Shape.TheVariants.{Q}
 use Rattle.arena_model.specs.ChildLists.{oriented}
 use Rattle.arena_model.specs.Layout.{Layout, shape_at, children_at, IsLayout}
 use Rattle.arena_model.specs.NamedTree.{outline_below}
-use Rattle.arena_model.proofs.Lists.{occurs_here}
 use Rattle.pq_arena.specs.declared.node.NodeId.{NodeId}
 use Rattle.bubble_pass.specs.declared.labels.Label.TheVariants.{Empty}
 use Rattle.bubble_pass.specs.Marks.{Marks, label_at}
-use Rattle.template_theory.specs.Templates.{Partial, Label, star, line, under, IsP6}
+use Rattle.template_theory.specs.Templates.{Partial, Label, star, line, IsP6}
 use Rattle.template_model.specs.Standing.{child_trees, AreMarkedAs, AreShapesAt, IsShapeAt}
 use Rattle.template_model.specs.Treated.{StandsForTree}
 use Rattle.templates_p.specs.Sorts.{empty_nodes, partial_nodes}
 use Rattle.templates_p.specs.Steps.{IsSameAt}
 use Rattle.templates_p.specs.Lines.{IsShapeTo}
 use Rattle.templates_p.specs.Merging.{laid_on, IsMerged}
-use Rattle.templates_p.proofs.Sorting.{not_full_partial, not_empty_partial, empty_label_of}
+use Rattle.templates_p.proofs.Sorting.{not_full_partial, not_empty_partial, sorted_label, empties}
 use Rattle.templates_p.proofs.Framing.{p_stands, q_stands, are_same, map_same, reverse_occurs, same_length}
 use Rattle.templates_p.proofs.Becoming.{equivalent_join}
 use Rattle.templates_p.proofs.Lengthening.{listed, AreGathered, put_on_all, IsLengthened, CanLengthen}
 use Rattle.templates_p.proofs.TwoPartials.{ArePartials, are_partials, AreFound, AreReady}
+use Rattle.templates_p.proofs.Ending.{under_some, under_none}
 
 -- the trees of a partial as a list
 line_is : (o : ℕ → Outline) (es fs : List ℕ) (x : Partial) → x.e ≡ forest (map o es) → x.f ≡ forest (map o fs) → line x ≡ forest (map o (es ++ fs))
@@ -158,14 +158,6 @@ module _ (g i j : Layout) (w x : Marks) (n p q end other a : ℕ) (y : Option No
   back_stands fs e = joined_stands j p (outline_below i) (outline_below g) (outline_below g) behind front (listed y) (line t) (line s) fs m.layout m.merged.shape
       (turn_sides (children_at j p) front (listed y) behind (listed_few y) line_sides) second_is first_is e behind_tree front_tree listed_tree
 
-over_some : (es : Forest) (t : Outline) (o : ℕ → Outline) (xs : List ℕ) → forest (map o xs) ≡ es → 1 ≤ length xs → under es t ≡ p_node (tree_and t es)
-over_some es t o [] e l = absurd (omega arith)
-over_some es t o (x ∷ xs) e l = subst (λ z. under z t ≡ p_node (tree_and t z)) e refl
-
-over_none : (es : Forest) (t : Outline) (o : ℕ → Outline) (xs : List ℕ) → forest (map o xs) ≡ es → ((k : ℕ) → occurs xs k ≡ 0) → under es t ≡ t
-over_none es t o [] e l = subst (λ z. under z t ≡ t) e refl
-over_none es t o (x ∷ xs) e l = absurd (let z : occurs (x ∷ xs) x ≡ 0 = l x in omega (arith, occurs_here x xs))
-
 -- P6 applied
 pub p6_becomes : (f g i j : Layout) (v w x : Marks) (n p q end other a : ℕ) (y : Option NodeId) (ps : List Label) (u : Outline) → IsLayout j → AreMarkedAs f v n ps → AreShapesAt f v (children_at f n) ps →
     AreReady f v g w n p q y → ((z : Partial) → IsShapeAt g w p z → IsShapeTo g w p z end) → IsLengthened g i w n p end y → ((z : Partial) → IsShapeAt i w q z → IsShapeTo i w q z other) →
@@ -201,17 +193,17 @@ p6_becomes f g i j v w x n p q end other a y ps u lay m s r to l to_other b six 
           omega (arith, gathered.children k, l.bag k, d.only k)) in
           let many : 1 ≤ length (empty_nodes v ks) = (let e : 2 ≤ length (children_at j n) = c.2 in let e' : length (children_at j n) ≡ length (p ∷ empty_nodes v ks) = same_length (p ∷ empty_nodes v ks) (children_at j n) bag in omega arith) in
           let kept : (k : ℕ) → 1 ≤ occurs (empty_nodes v ks) k → outline_below j k ≡ outline_below f k = (λ k o.
-          let is : label_at v k ≡ Empty = empty_label_of v ks k o in
+          let is : label_at v k ≡ Empty = sorted_label empties v ks k o in
           let e : IsSameAt f v g w k = gathered.others k (omega arith) in
           let np : k ≢ p = (λ i'. not_empty_partial (label_at v k) is (ap (label_at v) i' ∙ found.p_label)) in
           let nq : k ≢ q = (λ i'. not_empty_partial (label_at v k) is (ap (label_at v) i' ∙ found.q_label)) in
           let in_i : 1 ≤ occurs (children_at j n) k = (let b' : occurs (p ∷ empty_nodes v ks) k ≡ occurs (children_at j n) k = bag k in omega arith) in
           let in_c : occurs (children_at j n) k + occurs (q ∷ []) k ≡ occurs (children_at i n) k = c.3 k in
           (c.4 k (omega arith) np nq).tree ∙ (l.same k (omega (arith, l.bag k)) np).tree ∙ e.tree) in
-          subst (λ o. StandsForTree j o u) (sym c.0) (subst (λ o. IsEquivalent o (outline_below j n)) (sym (six.becomes ∙ over_some six.es t (outline_below f) (empty_nodes v ks) d.empty many))
+          subst (λ o. StandsForTree j o u) (sym c.0) (subst (λ o. IsEquivalent o (outline_below j n)) (sym (six.becomes ∙ under_some six.es t (outline_below f) (empty_nodes v ks) d.empty many))
           (p_stands j n (p ∷ empty_nodes v ks) (tree_and t six.es) lay c.1 bag
           (stands, subst (λ ts. AreEquivalent ts (map (outline_below j) (empty_nodes v ks))) d.empty (are_same (outline_below f) (outline_below j) (empty_nodes v ks) kept))))
       | inr c ↦
           let none : (k : ℕ) → occurs (empty_nodes v ks) k ≡ 0 = (λ k. let e : occurs (children_at i n) k ≡ occurs (p ∷ q ∷ []) k = c.1 k in omega (arith, gathered.children k, l.bag k, d.only k)) in
-          subst (λ o. StandsForTree j o u) (sym c.0) (subst (λ o. IsEquivalent o (outline_below j p)) (sym (six.becomes ∙ over_none six.es t (outline_below f) (empty_nodes v ks) d.empty none)) stands)
+          subst (λ o. StandsForTree j o u) (sym c.0) (subst (λ o. IsEquivalent o (outline_below j p)) (sym (six.becomes ∙ under_none six.es t (outline_below f) (empty_nodes v ks) d.empty none)) stands)
     ]

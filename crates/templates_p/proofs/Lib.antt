@@ -9,6 +9,7 @@ pub mod Grouping
 pub mod Becoming
 pub mod Members
 pub mod Handing
+pub mod Handed
 pub mod Absorbing
 pub mod Composing
 pub mod Ending

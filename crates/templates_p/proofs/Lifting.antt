@@ -1,7 +1,7 @@
 -- A line takes the place of its node: what its steps ask for, and what they come to.
-use Rattle.std.proofs.Common.{◌≡◌, ◌≢◌, ◌⊎◌, inl, inr, ℕ, ◌+◌, ◌*◌, ◌≤◌, ◌<◌, true, false, cond, eqb, List, [], ◌∷◌, length, map, set, Some, None, refl, sym, ap, subst, ◌∙◌, arith, slice_index_or}
+use Rattle.std.proofs.Common.{◌≡◌, ◌≢◌, ◌⊎◌, inl, inr, ℕ, ◌+◌, ◌*◌, ◌≤◌, ◌<◌, true, false, cond, eqb, List, [], ◌∷◌, length, Some, None, refl, sym, ap, subst, ◌∙◌, arith, slice_index_or}
 use Rattle.std.proofs.lemmas.Bool.{cases_lt}
-use Rattle.std.proofs.lemmas.List.{get_or-set_other, get_or-set_same, length-set}
+use Rattle.std.proofs.lemmas.List.{get_or-set_same, length-set}
 use Rattle.column_order.specs.Orders.{occurs}
 use Rattle.arena_model.specs.declared.Shape.{Shape}
 use Rattle.arena_model.specs.declared.Shape.TheVariants.{P, Q}
@@ -17,13 +17,14 @@ use Rattle.pq_arena.specs.declared.node.NodeView.{NodeView}
 use Rattle.pq_arena.specs.Looks.{ShowsNode, shown_ends, node_named}
 use Rattle.bubble_pass.specs.declared.labels.Label.{Label as Mark}
 use Rattle.bubble_pass.specs.declared.labels.Label.TheVariants.{Empty}
-use Rattle.bubble_pass.specs.Marks.{Marks, label_at, size_of, IsChain, IsPut, exchange}
+use Rattle.bubble_pass.specs.Marks.{Marks, label_at, size_of, IsPut}
 use Rattle.templates_p.specs.Lines.{IsHandedOver}
-use Rattle.templates_p.specs.Parts.{IsLeftPart, CanLift, IsParted}
+use Rattle.templates_p.specs.Parts.{AreMoved, IsLeftPart, CanLift, IsParted}
 use Rattle.templates_p.proofs.Rebuilt.{replaced_none, child_used}
 use Rattle.templates_p.proofs.Chaining.{child_once}
 use Rattle.templates_p.proofs.Moving.{IsLoose, loose, without_less}
 use Rattle.templates_p.proofs.Handing.{taken_off, taken_child}
+use Rattle.templates_p.proofs.Handed.{labelled_room, put_moved, moved_emptied}
 use Rattle.templates_p.proofs.Settling.{shown_length}
 use Rattle.templates_p.proofs.Siding.{head_in, named_is, named_some}
 
@@ -170,27 +171,13 @@ module _ (f g : Layout) (v : Marks) (n h : ℕ) (lf : IsLayout f) (can : CanLift
     line_is : children_at i h ≡ children_at f h
     line_is = a.children h (λ q. lift_apart (sym q)) ∙ d.children h (λ q. lift_apart (sym q)) ∙ replaced_none (children_at f h) n h no_node
 
-    module _ (end : ℕ) (w1 w : Marks) (old new : NodeId) (old_is : old.index ≡ n) (new_is : new.index ≡ h) (put : IsPut v w1 old new (label_at v n)) where
-      put_length : length w1.labels ≡ length v.labels
-      put_length = ap (λ ls. length ls) put.labels ∙ length-set v.labels new.index (label_at v n)
-
-      h_room : h < length v.labels
-      h_room = let l : h < length f.slots = in_range f h (used_by f h Q can.is_q) in let r : size_of v ≡ length f.slots = can.room in omega arith
-
+    -- n is marked as empty, or gone
+    module _ (end : ℕ) (w1 w : Marks) (m : AreMoved v w1 n h) where
       n_room : n < length w1.labels
-      n_room = let l : n < length f.slots = in_range f n (used_by f n P can.hand.is_p) in let r : size_of v ≡ length f.slots = can.room in omega (arith, put_length)
-
-      put_label : label_at w1 h ≡ label_at v n
-      put_label = ap (λ ls. label_at (record w1 { labels = ls }) h) put.labels
-          ∙ subst (λ z. label_at (record w1 { labels = set v.labels z (label_at v n) }) h ≡ label_at v n) (sym new_is)
-          (get_or-set_same v.labels h (label_at v n) Empty h_room)
-
-      other_label : (m : ℕ) → m ≢ h → label_at w1 m ≡ label_at v m
-      other_label m ne = ap (λ ls. label_at (record w1 { labels = ls }) m) put.labels
-          ∙ get_or-set_other v.labels new.index m (label_at v n) Empty (λ q. ne (q ∙ new_is))
+      n_room = let l : n < length f.slots = in_range f n (used_by f n P can.hand.is_p) in let r : size_of v ≡ length f.slots = can.room in omega (arith, m.alike.room)
 
       lifted_kept : IsLeftPart g i w1 w n e → IsParted f (with_children i h (put_on end e (children_at i h))) v w n h end (without (children_at f n) h) (children_at f h)
-      lifted_kept (inl q) = record {
+      lifted_kept l = record {
         e = e;
         columns = a.columns ∙ d.columns;
         root = a.root ∙ d.root;
@@ -198,54 +185,24 @@ module _ (f g : Layout) (v : Marks) (n h : ℕ) (lf : IsLayout f) (can : CanLift
         shapes = λ m p r. shape_same i h m (put_on end e (children_at i h)) line_in ∙ a.shapes m p ∙ d.shapes m;
         children = λ m p r. children_other i h m (put_on end e (children_at i h)) r ∙ a.children m p ∙ d.children m p;
         over = children_same i h (put_on end e (children_at i h)) line_in ∙ ap (put_on end e) line_is;
-        part = inl (
-          q.0,
-          shape_same i h n (put_on end e (children_at i h)) line_in ∙ ap (λ z. shape_at z n) q.2 ∙ node_shape,
-          children_other i h n (put_on end e (children_at i h)) lift_apart ∙ ap (λ z. children_at z n) q.2 ∙ d.node_children,
-          subst (λ ks. 2 ≤ length ks) d.node_children q.1,
-          ap (λ z. label_at z n) q.3 ∙ get_or-set_same w1.labels n Empty Empty n_room,
-        );
-        room = ap (λ z. size_of z) q.3 ∙ length-set w1.labels n Empty ∙ put_length;
-        nodes = ap (λ z. z.nodes) q.3 ∙ put.nodes;
-        inside = ap (λ z. z.inside) q.3 ∙ put.inside;
-        full = ap (λ z. z.full) q.3 ∙ put.full;
-        partial = ap (λ z. z.partial) q.3 ∙ put.partial;
-        label = ap (λ z. label_at z h) q.3 ∙ get_or-set_other w1.labels n h Empty Empty (λ z. lift_apart (sym z)) ∙ put_label;
-        labels = λ m p r. ap (λ z. label_at z m) q.3 ∙ get_or-set_other w1.labels n m Empty Empty p ∙ other_label m r;
-        old = old;
-        new = new;
-        old_is = old_is;
-        new_is = new_is;
-        chains = λ m xs x. subst (λ z. IsChain z m (map (exchange old new) xs)) (sym q.3) (put.chains m xs x);
-      }
-      lifted_kept (inr q) = record {
-        e = e;
-        columns = a.columns ∙ d.columns;
-        root = a.root ∙ d.root;
-        is_q = shape_same i h h (put_on end e (children_at i h)) line_in ∙ lift_shape;
-        shapes = λ m p r. shape_same i h m (put_on end e (children_at i h)) line_in ∙ a.shapes m p ∙ d.shapes m;
-        children = λ m p r. children_other i h m (put_on end e (children_at i h)) r ∙ a.children m p ∙ d.children m p;
-        over = children_same i h (put_on end e (children_at i h)) line_in ∙ ap (put_on end e) line_is;
-        part = inr (
-          shape_same i h n (put_on end e (children_at i h)) line_in ∙ gone,
-          sym d.node_children ∙ q.0,
-        );
-        room = ap (λ z. size_of z) q.2 ∙ put_length;
-        nodes = ap (λ z. z.nodes) q.2 ∙ put.nodes;
-        inside = ap (λ z. z.inside) q.2 ∙ put.inside;
-        full = ap (λ z. z.full) q.2 ∙ put.full;
-        partial = ap (λ z. z.partial) q.2 ∙ put.partial;
-        label = ap (λ z. label_at z h) q.2 ∙ put_label;
-        labels = λ m p r. ap (λ z. label_at z m) q.2 ∙ other_label m r;
-        old = old;
-        new = new;
-        old_is = old_is;
-        new_is = new_is;
-        chains = λ m xs x. subst (λ z. IsChain z m (map (exchange old new) xs)) (sym q.2) (put.chains m xs x);
+        part = elim l [
+          | inl q ↦ inl (
+            q.0,
+            shape_same i h n (put_on end e (children_at i h)) line_in ∙ ap (λ z. shape_at z n) q.2 ∙ node_shape,
+            children_other i h n (put_on end e (children_at i h)) lift_apart ∙ ap (λ z. children_at z n) q.2 ∙ d.node_children,
+            subst (λ ks. 2 ≤ length ks) d.node_children q.1,
+            ap (λ z. label_at z n) q.3 ∙ get_or-set_same w1.labels n Empty Empty n_room,
+          )
+          | inr q ↦ inr (shape_same i h n (put_on end e (children_at i h)) line_in ∙ gone q, sym d.node_children ∙ q.0)
+        ];
+        marks = elim l [
+          | inl q ↦ subst (λ z. AreMoved v z n h) (sym q.3) (moved_emptied v w1 n h lift_apart m)
+          | inr q ↦ subst (λ z. AreMoved v z n h) (sym q.2) m
+        ];
       }
         where
-          gone : shape_at i n ≡ None
-          gone = elim a.part [
+          gone : (children_at g n ≡ e ∷ []) × (i ≡ given_back (with_children g n (without (children_at g n) e)) n) × (w ≡ w1) → shape_at i n ≡ None
+          gone q = elim a.part [
             | inl p ↦ absurd (let z : 2 ≤ length (children_at g n) = p.3 in let y : length (children_at g n) ≡ 1 = ap (λ ks. length ks) q.0 in omega arith)
             | inr p ↦ p.0
           ]
@@ -267,7 +224,8 @@ pub lifted : (f g i j : Layout) (v w1 w : Marks) (n h : NodeId) (e end : ℕ) (l
 lifted f g i j v w1 w n h e end l lf lg li can d put is p q =
     let a : IsLeftAlone g i n.index e = left_alone g i w1 w n.index e lg d.alone (node_shape f g v n.index h.index lf can d) p in
     subst (λ z. IsParted f z v w n.index h.index end (without (children_at f n.index) h.index) (children_at f h.index)) (sym q)
-    (lifted_kept f g v n.index h.index lf can d i e lg li a end w1 w n h refl refl (subst (λ z. IsPut v w1 n h z) is put) p)
+    (lifted_kept f g v n.index h.index lf can d i e lg li a end w1 w
+    (put_moved v w1 n h (subst (λ z. IsPut v w1 n h z) is put) (labelled_room f v h.index lf can.is_q can.room)) p)
 
 -- what making one node of what is left of n asks for
 pub record IsReadyToPart (g : Layout) (n : ℕ) : Type 0 where

@@ -9,7 +9,8 @@ use Rattle.column_order.proofs.Lists.{has_from_occurs, occurs_from_has, occurs-a
 use Rattle.pq_tree.specs.Outline.{Outline, Forest, no_tree, tree_and}
 use Rattle.pq_tree.specs.Proper.{forest, count}
 use Rattle.arena_model.specs.declared.Shape.TheVariants.{P}
-use Rattle.arena_model.specs.Layout.{Layout, children_at, IsLayout}
+use Rattle.arena_model.specs.ChildLists.{without}
+use Rattle.arena_model.specs.Layout.{Layout, shape_at, children_at, with_children, IsLayout, IsAtOrAbove, StandsAlone}
 use Rattle.arena_model.specs.NamedTree.{outline_below, IsOneTree, HasTwoEach}
 use Rattle.arena_model.proofs.Lists.{occurs_here}
 use Rattle.arena_model.proofs.Slots.{in_range, used_by}
@@ -25,7 +26,7 @@ use Rattle.templates_p.specs.Members.{AreMembers, member_labels}
 use Rattle.templates_p.specs.Sorts.{full_nodes, empty_nodes, partial_nodes}
 use Rattle.templates_p.specs.Steps.{Moved, CanMove, moved_under}
 use Rattle.templates_p.proofs.Rebuilt.{child_used, replaced_at}
-use Rattle.templates_p.proofs.Sorting.{held, sort, held_length, count_map, all_counted, full_label_of, full_times}
+use Rattle.templates_p.proofs.Sorting.{held, sort, held_length, count_map, all_counted, sorted_label, fulls, sorted_times}
 use Rattle.templates_p.proofs.Framing.{same_length}
 use Rattle.templates_p.proofs.Moving.{can_move, ready_to_put, moved_one}
 use Rattle.templates_p.proofs.Chaining.{child_once}
@@ -104,12 +105,12 @@ module _ (f : Layout) (n : ℕ) (members : List ℕ) (h : IsLayout f) (m : AreMe
       elim (cases_lt 0 (occurs members k)) [
         | inl l ↦
             let o : 1 ≤ occurs ks k = m.child k l in
-            let e : occurs (full_nodes marks ks) k ≡ occurs ks k = full_times marks ks k (member_full k l) in
+            let e : occurs (full_nodes marks ks) k ≡ occurs ks k = sorted_times fulls marks ks k (member_full k l) in
             omega arith
         | inr l ↦ elim (cases_lt 0 (occurs (full_nodes marks ks) k)) [
           | inl o ↦
-              let is : label_at marks k ≡ Full = full_label_of marks ks k o in
-              let e : occurs (full_nodes marks ks) k ≡ occurs ks k = full_times marks ks k is in
+              let is : label_at marks k ≡ Full = sorted_label fulls marks ks k o in
+              let e : occurs (full_nodes marks ks) k ≡ occurs ks k = sorted_times fulls marks ks k is in
               let q : 1 ≤ occurs members k = full_member k (omega arith) is in
               absurd (omega arith)
           | inr o ↦ omega arith
@@ -190,6 +191,20 @@ pub next_moves : (f g : Layout) (n x : ℕ) (ms : List NodeId) (i : ℕ) (d : No
     CanMove g n x (get_or ms i d).index
 next_moves f g n x ms i d l m moved =
     can_move f g n x (indices (take i ms)) (get_or ms i d).index m.is_p moved (m.child (get_or ms i d).index (in_list ms i d l)) (not_before ms i d l m.once)
+
+-- what holds in g, where it was taken from n
+pub record IsReadyIn (g : Layout) (x c : ℕ) : Type 0 where
+  pub to : shape_at g x ≡ Some P
+  pub alone : StandsAlone g c
+  pub no_way : IsAtOrAbove g.slots c x → ⊥
+
+pub member_ready : (f h g : Layout) (n x : ℕ) (ms : List NodeId) (i : ℕ) (d : NodeId) → IsLayout h → i < length ms → AreMembers f n (indices ms) → Moved f h n x (indices (take i ms)) →
+    ((p : ℕ) → shape_at h p ≡ Some P → 1 ≤ occurs (children_at h p) (get_or ms i d).index → g ≡ with_children h p (without (children_at h p) (get_or ms i d).index)) → IsReadyIn g x (get_or ms i d).index
+member_ready f h g n x ms i d lh l m moved taken =
+    let y : ℕ = (get_or ms i d).index in
+    let can : CanMove h n x y = next_moves f h n x ms i d l m moved in
+    let r = ready_to_put h n x y lh can in
+    subst (λ z. IsReadyIn z x y) (sym (taken n can.from can.child)) (record { to = r.to; alone = r.alone; no_way = r.no_way })
 
 -- it has moved
 pub next_moved : (f g : Layout) (n x : ℕ) (ms : List NodeId) (i : ℕ) (d : NodeId) → i < length ms → AreMembers f n (indices ms) → IsLayout g → Moved f g n x (indices (take i ms)) →

@@ -1,30 +1,30 @@
 -- The children of a partial child stand at an end of another partial child.
-use Rattle.std.proofs.Common.{◌≡◌, ◌≢◌, ◌⊎◌, inl, inr, ℕ, ◌+◌, ◌≤◌, ◌<◌, cond, List, [], ◌∷◌, ◌++◌, length, map, set, Some, None, refl, sym, ap, subst, ◌∙◌, arith, eq-eqb, length-append}
+use Rattle.std.proofs.Common.{◌≡◌, ◌≢◌, ◌⊎◌, inl, inr, ℕ, ◌+◌, ◌≤◌, ◌<◌, cond, List, [], ◌∷◌, ◌++◌, length, Some, None, refl, sym, ap, subst, ◌∙◌, arith, eq-eqb, length-append}
 use Rattle.std.proofs.lemmas.Bool.{cases_eq, cases_lt, ne_eqb}
-use Rattle.std.proofs.lemmas.List.{get_or-set_other, get_or-set_same, length-set}
+use Rattle.std.proofs.lemmas.List.{get_or-set_other, length-set}
 use Rattle.std.specs.Prelude.{if◌then◌else◌, ◌==◌}
 use Rattle.column_order.specs.Orders.{occurs}
 use Rattle.column_order.proofs.Lists.{occurs-append}
 use Rattle.arena_model.specs.declared.Shape.TheVariants.{Leaf, P, Q}
 use Rattle.arena_model.specs.ChildLists.{without, with_replaced}
 use Rattle.arena_model.specs.Layout.{Layout, spare_slot, shape_at, children_at, IsAtOrAbove, here, down, IsLayout, IsInUse, MayHaveChildren, with_children, spliced}
-use Rattle.arena_model.proofs.Lists.{occurs_here, occurs_same, occurs_other, only_one}
+use Rattle.arena_model.proofs.Lists.{occurs_here, occurs_same, occurs_other}
 use Rattle.arena_model.proofs.Slots.{in_range, used_by, children_same, children_other, shape_same}
 use Rattle.arena_model.proofs.Paths.{above_step, one_parent}
 use Rattle.arena_model.proofs.Bare.{bare_shape, bare_other}
 use Rattle.arena_model.proofs.Trees.{no_circle}
-use Rattle.bubble_pass.specs.declared.labels.Label.TheVariants.{Empty}
-use Rattle.pq_arena.specs.RowNodes.{indices}
-use Rattle.bubble_pass.specs.Marks.{Marks, label_at, size_of, exchange}
+use Rattle.bubble_pass.specs.Marks.{Marks}
 use Rattle.template_model.specs.Treated.{IsTreated}
 use Rattle.templates_p.specs.Steps.{IsSameAt}
 use Rattle.templates_p.specs.Lines.{CanHandOver, IsHandedOn, IsSettled, put_in, CanPutIn}
 use Rattle.templates_p.specs.Merging.{CanMerge, IsMerged}
-use Rattle.templates_p.proofs.Rebuilt.{IsRebuilt, IsWritten, replaced_none, child_used}
-use Rattle.templates_p.proofs.Remarked.{AreRemarked, is_answer, is_gone, is_partial, swapped, swapped_self, replaced_self, exchanged_indices, treated}
+use Rattle.templates_p.proofs.Rebuilt.{IsRebuilt, IsWritten, child_used}
+use Rattle.template_model.proofs.Replaced.{replaced_self}
+use Rattle.templates_p.proofs.Remarked.{AreRemarked, is_answer, is_gone, is_partial, unmarked, treated}
 use Rattle.templates_p.proofs.Framing.{same_at, same_length}
 use Rattle.templates_p.proofs.Moving.{without_gone, without_kept, without_less}
 use Rattle.templates_p.proofs.Chaining.{child_once}
+use Rattle.templates_p.proofs.Handed.{labelled_room, handed_remarked, only_two, handed_children}
 use Rattle.templates_p.proofs.Absorbing.{IsPutIn, is_put_in}
 use Rattle.templates_p.proofs.Settling.{put_in_length}
 
@@ -241,28 +241,18 @@ module _ (f : Layout) (v : Marks) (n h c : ℕ) (js : List ℕ) (lay : IsLayout 
         n_in = occurs_here n (h ∷ c ∷ []);
         a_in = occurs_here n (h ∷ c ∷ []);
         shapes = λ m z. i.shapes m (three_kinds n h c m z).2;
-        children = λ m z. let t = three_kinds n h c m z in i.others m t.0 t.1 t.2 ∙ sym (replaced_self n (children_at f m));
+        children = λ m z. let t = three_kinds n h c m z in i.others m t.0 t.1 t.2 ∙ sym (replaced_self (children_at f m) n);
         written = (stay_node, (stay_line, (stay_other, tt)));
       }
 
       stay_remarked : AreRemarked f g v v n n (n ∷ h ∷ c ∷ [])
-      stay_remarked = record {
-        room = refl;
-        nodes = refl;
-        inside = refl;
-        full = refl;
-        partial = refl;
-        label = refl;
-        labels = λ m z. refl;
-        chains = λ m xs x. (xs, x, swapped_self n (indices xs));
-        judged = (
-          is_answer refl,
-          (
-            is_partial can.absorb.partial can.absorb.partial (under_n h is_line) (λ k o. (line_has k (omega arith), inner_none k (omega arith))),
-            (is_gone i.gone, tt),
-          ),
-        );
-      }
+      stay_remarked = unmarked f g v n (n ∷ h ∷ c ∷ []) (
+        is_answer refl,
+        (
+          is_partial can.absorb.partial can.absorb.partial (under_n h is_line) (λ k o. (line_has k (omega arith), inner_none k (omega arith))),
+          (is_gone i.gone, tt),
+        ),
+      )
 
       stay_same : (k : ℕ) → IsInUse f k → IsAtOrAbove f.slots n k → occurs (n ∷ h ∷ c ∷ []) k ≡ 0 → IsSameAt f v g v k
       stay_same k u l z = same_at f g n n (n ∷ h ∷ c ∷ []) stay_rebuilt v v stay_remarked k u l z
@@ -293,10 +283,7 @@ module _ (f : Layout) (v : Marks) (n h c : ℕ) (js : List ℕ) (lay : IsLayout 
       n_c e = child_other f n c lay is_child (sym e)
 
       only_line : (k : ℕ) → 1 ≤ occurs (children_at f n) k → (k ≡ h) ⊎ (k ≡ c)
-      only_line k o = elim (cases_eq k c) [
-        | inl e ↦ inr e
-        | inr ne ↦ inl (only_one k h (subst (λ z. 1 ≤ occurs z k) (sym i.node ∙ d.only) (subst (λ z. 1 ≤ z) (sym (without_kept (children_at f n) c k ne)) o)))
-      ]
+      only_line k o = only_two (children_at f n) c h k (sym i.node ∙ d.only) o
 
       no_node : occurs (children_at g h) n ≡ 0
       no_node = elim (cases_lt 0 (occurs (children_at g h) n)) [
@@ -305,7 +292,7 @@ module _ (f : Layout) (v : Marks) (n h c : ℕ) (js : List ℕ) (lay : IsLayout 
       ]
 
       line_is : children_at g' h ≡ children_at g h
-      line_is = d.children h (λ e. n_h (sym e)) ∙ replaced_none (children_at g h) n h no_node
+      line_is = handed_children g g' v w n h d n_h no_node
 
       line_down : (k : ℕ) → 1 ≤ occurs (children_at f h) k + occurs (children_at f c) k → IsAtOrAbove g'.slots h k
       line_down k o = down h k k (subst (λ z. 1 ≤ occurs z k) (sym line_is) (line_has k o)) (here k)
@@ -367,35 +354,9 @@ module _ (f : Layout) (v : Marks) (n h c : ℕ) (js : List ℕ) (lay : IsLayout 
         written = (go_node, (go_line, (go_other, tt)));
       }
 
-      line_room : h < length v.labels
-      line_room = let l : h < length f.slots = in_range f h (used_by f h Q can.absorb.put.is_q) in let r : size_of v ≡ length f.slots = can.absorb.room in omega arith
-
-      new_label : label_at w h ≡ label_at v n
-      new_label = ap (λ ls. label_at (record w { labels = ls }) h) d.put.labels
-          ∙ subst (λ z. label_at (record w { labels = set v.labels z (label_at v n) }) h ≡ label_at v n) (sym d.new_is)
-          (get_or-set_same v.labels h (label_at v n) Empty line_room)
-
-      old_label : (m : ℕ) → m ≢ h → label_at w m ≡ label_at v m
-      old_label m ne = ap (λ ls. label_at (record w { labels = ls }) m) d.put.labels
-          ∙ get_or-set_other v.labels d.new.index m (label_at v n) Empty (λ e. ne (e ∙ d.new_is))
-
       go_remarked : AreRemarked f g' v w n h (n ∷ h ∷ c ∷ [])
-      go_remarked = record {
-        room = ap (λ ls. length ls) d.put.labels ∙ length-set v.labels d.new.index (label_at v n);
-        nodes = d.put.nodes;
-        inside = d.put.inside;
-        full = d.put.full;
-        partial = d.put.partial;
-        label = new_label;
-        labels = λ m z. old_label m (three_kinds n h c m z).1;
-        chains = λ m xs x. (
-          (map (exchange d.old d.new) xs),
-          d.put.chains m xs x,
-          subst (λ z. indices ((map (exchange d.old d.new) xs)) ≡ swapped z h (indices xs)) d.old_is
-              (subst (λ z. indices ((map (exchange d.old d.new) xs)) ≡ swapped d.old.index z (indices xs)) d.new_is (exchanged_indices d.old d.new xs)),
-        );
-        judged = (is_gone d.gone, (is_answer refl, (is_gone other_gone, tt)));
-      }
+      go_remarked = handed_remarked f g g' v w n h (n ∷ h ∷ c ∷ []) d (labelled_room f v h lay can.absorb.put.is_q can.absorb.room) (λ m z. (three_kinds n h c m z).1)
+          (is_gone d.gone, (is_answer refl, (is_gone other_gone, tt)))
 
       pub go_merged : IsMerged f v g' w n h c h js
       go_merged = record {
@@ -409,16 +370,12 @@ module _ (f : Layout) (v : Marks) (n h c : ℕ) (js : List ℕ) (lay : IsLayout 
       go_treated = treated f g' n h (n ∷ h ∷ c ∷ []) go_rebuilt v w go_remarked can.absorb.one can.absorb.two
 
 -- in both cases
-pub merged_treated : (f g i : Layout) (v w : Marks) (n h c a : ℕ) (js : List ℕ) → IsLayout f → IsLayout i → CanMerge f v n h c → ((k : ℕ) → occurs js k ≡ occurs (children_at f h) k + occurs (children_at f c) k) →
-    IsMergedIn f g n h c js → IsSettled g i v w n h a → IsTreated f i v w n a
-merged_treated f g i v w n h c a js lay li can has m (inl s) =
-    subst (λ z. IsTreated f i v w n z) (sym s.0) (subst (λ z. IsTreated f i v z n n) (sym s.2) (subst (λ z. IsTreated f z v v n n) (sym s.1)
-    (stay_treated f v n h c js lay can has g m (subst IsLayout s.1 li) s.3)))
-merged_treated f g i v w n h c a js lay li can has m (inr s) = subst (λ z. IsTreated f i v w n z) (sym s.0) (go_treated f v n h c js lay can has g m i w li s.1)
-
-pub merged_made : (f g i : Layout) (v w : Marks) (n h c a : ℕ) (js : List ℕ) → IsLayout f → IsLayout i → CanMerge f v n h c → ((k : ℕ) → occurs js k ≡ occurs (children_at f h) k + occurs (children_at f c) k) →
-    IsMergedIn f g n h c js → IsSettled g i v w n h a → IsMerged f v i w n h c a js
-merged_made f g i v w n h c a js lay li can has m (inl s) =
-    subst (λ z. IsMerged f v i w n h c z js) (sym s.0) (subst (λ z. IsMerged f v i z n h c n js) (sym s.2) (subst (λ z. IsMerged f v z v n h c n js) (sym s.1)
-    (stay_merged f v n h c js lay can has g m (subst IsLayout s.1 li) s.3)))
-merged_made f g i v w n h c a js lay li can has m (inr s) = subst (λ z. IsMerged f v i w n h c z js) (sym s.0) (go_merged f v n h c js lay can has g m i w li s.1)
+pub merged : (f g i : Layout) (v w : Marks) (n h c a : ℕ) (js : List ℕ) → IsLayout f → IsLayout i → CanMerge f v n h c → ((k : ℕ) → occurs js k ≡ occurs (children_at f h) k + occurs (children_at f c) k) →
+    IsMergedIn f g n h c js → IsSettled g i v w n h a → IsTreated f i v w n a × IsMerged f v i w n h c a js
+merged f g i v w n h c a js lay li can has m (inl s) =
+    let lg : IsLayout g = subst IsLayout s.1 li in
+    subst (λ z. IsTreated f i v w n z × IsMerged f v i w n h c z js) (sym s.0)
+    (subst (λ z. IsTreated f i v z n n × IsMerged f v i z n h c n js) (sym s.2) (subst (λ z. IsTreated f z v v n n × IsMerged f v z v n h c n js) (sym s.1)
+    (stay_treated f v n h c js lay can has g m lg s.3, stay_merged f v n h c js lay can has g m lg s.3)))
+merged f g i v w n h c a js lay li can has m (inr s) =
+    subst (λ z. IsTreated f i v w n z × IsMerged f v i w n h c z js) (sym s.0) (go_treated f v n h c js lay can has g m i w li s.1, go_merged f v n h c js lay can has g m i w li s.1)

@@ -12,18 +12,16 @@ use Rattle.arena_model.specs.NamedTree.{outline_below, IsOneTree, HasTwoEach}
 use Rattle.arena_model.proofs.Lists.{occurs_here, only_one, occurs_other}
 use Rattle.arena_model.proofs.Slots.{used_by}
 use Rattle.bubble_pass.specs.declared.labels.Label.TheVariants.{Empty}
-use Rattle.pq_arena.specs.RowNodes.{indices}
-use Rattle.bubble_pass.specs.Marks.{Marks, label_at, exchange}
+use Rattle.bubble_pass.specs.Marks.{Marks, label_at}
 use Rattle.template_theory.specs.Templates.{star}
 use Rattle.template_model.specs.Treated.{IsTreated}
 use Rattle.templates_p.specs.Steps.{IsSameAt}
 use Rattle.templates_p.specs.Parts.{IsParted}
 use Rattle.templates_p.proofs.Rebuilt.{IsRebuilt, IsWritten, IsMine, none_child, child_used, below_used}
-use Rattle.templates_p.proofs.Remarked.{AreRemarked, IsJudged, is_answer, is_gone, is_empty, swapped, exchanged_indices, treated}
+use Rattle.templates_p.proofs.Remarked.{AreRemarked, IsJudged, is_answer, is_gone, is_empty, exchanged, treated}
 use Rattle.templates_p.proofs.Framing.{same_at, p_stands, are_same, same_length}
-use Rattle.templates_p.proofs.Grouping.{two_kinds}
+use Rattle.templates_p.proofs.Grouping.{two_kinds, only_member}
 use Rattle.templates_p.proofs.Absorbing.{put_on_times, put_on_length}
-use Rattle.templates_p.proofs.Ending.{only_member}
 
 -- what is known of the P-node n, of the node h that takes its place, of the other children `rest` of n, and of `line`,
 -- which h is to have as its children
@@ -144,19 +142,10 @@ module _ (f g : Layout) (v w : Marks) (n h end : ℕ) (rest line : List ℕ) (lf
 
     pub parted_remarked : AreRemarked f g v w n h (n ∷ h ∷ [])
     parted_remarked = record {
-      room = p.room;
-      nodes = p.nodes;
-      inside = p.inside;
-      full = p.full;
-      partial = p.partial;
-      label = p.label;
-      labels = λ m z. let t = two_kinds n h m z in p.labels m t.0 t.1;
-      chains = λ m xs x. (
-        (map (exchange p.old p.new) xs),
-        p.chains m xs x,
-        subst (λ z. indices ((map (exchange p.old p.new) xs)) ≡ swapped z h (indices xs)) p.old_is
-            (subst (λ z. indices ((map (exchange p.old p.new) xs)) ≡ swapped p.old.index z (indices xs)) p.new_is (exchanged_indices p.old p.new xs)),
-      );
+      alike = p.marks.alike;
+      label = p.marks.label;
+      labels = λ m z. let t = two_kinds n h m z in p.marks.labels m t.0 t.1;
+      chains = exchanged v w n h p.marks.old p.marks.new p.marks.old_is p.marks.new_is p.marks.chains;
       judged = (node_judged, (is_answer refl, tt));
     }
 

@@ -13,10 +13,12 @@ use Rattle.pq_arena.specs.declared.node.NodeId.{NodeId}
 use Rattle.bubble_pass.specs.declared.labels.Label.{Label}
 use Rattle.bubble_pass.specs.declared.labels.Label.TheVariants.{Empty, Partial, Full}
 use Rattle.pq_arena.specs.RowNodes.{indices}
-use Rattle.bubble_pass.specs.Marks.{Marks, label_at, fulls_at, partials_at, size_of, IsChain, exchange}
+use Rattle.bubble_pass.specs.Marks.{Marks, label_at, fulls_at, partials_at, IsChain, exchange}
 use Rattle.bubble_pass.specs.Pass.{IsRightAt}
 use Rattle.bubble_pass.specs.Sweep.{IsRight, full_one, partial_one}
 use Rattle.template_model.specs.Treated.{IsOutside, AreKeptAt, IsTreated}
+use Rattle.templates_p.specs.Parts.{AreAlike}
+use Rattle.template_model.proofs.Replaced.{replaced_self}
 use Rattle.templates_p.proofs.Rebuilt.{IsRebuilt, Each, each_at, written_at, outside_kept, replaced_keeps, replaced_has, answer_mine, ways_kept, ways_back, below_used, leaves_again, replaced_at}
 
 -- n and a exchanged
@@ -46,11 +48,7 @@ AreSwapped v w n a = (m : ℕ) (xs : List NodeId) → IsChain v m xs → (ys : L
 
 -- the marks v became w while the nodes ts were written
 pub record AreRemarked (f g : Layout) (v w : Marks) (n a : ℕ) (ts : List ℕ) : Type 0 where
-  pub room : size_of w ≡ size_of v
-  pub nodes : w.nodes ≡ v.nodes
-  pub inside : w.inside ≡ v.inside
-  pub full : w.full ≡ v.full
-  pub partial : w.partial ≡ v.partial
+  pub alike : AreAlike v w
   pub label : label_at w a ≡ label_at v n
   pub labels : (m : ℕ) → occurs ts m ≡ 0 → label_at w m ≡ label_at v m
   pub chains : AreSwapped v w n a
@@ -83,12 +81,24 @@ exchanged_indices n a (x ∷ xs) = ap (λ z. z ∷ indices (map (exchange n a) x
     one false true = refl
     one false false = refl
 
-pub replaced_self : (n : ℕ) (xs : List ℕ) → with_replaced xs n n ≡ xs
-replaced_self n [] = refl
-replaced_self n (x ∷ xs) = ap (λ z. z ∷ with_replaced xs n n) (elim (cases_eq x n) [
-  | inl e ↦ ap (λ b. cond b n x) (eq-eqb x n e) ∙ sym e
-  | inr ne ↦ ap (λ b. cond b n x) (ne_eqb x n ne)
-]) ∙ ap (λ zs. x ∷ zs) (replaced_self n xs)
+-- where old and new were exchanged, which are n and a
+pub exchanged : (v w : Marks) (n a : ℕ) (old new : NodeId) → old.index ≡ n → new.index ≡ a → ((m : ℕ) (xs : List NodeId) → IsChain v m xs → IsChain w m (map (exchange old new) xs)) → AreSwapped v w n a
+exchanged v w n a old new old_is new_is chains = λ m xs x. (
+  (map (exchange old new) xs),
+  chains m xs x,
+  subst (λ z. indices ((map (exchange old new) xs)) ≡ swapped z a (indices xs)) old_is
+      (subst (λ z. indices ((map (exchange old new) xs)) ≡ swapped old.index z (indices xs)) new_is (exchanged_indices old new xs)),
+)
+
+-- nothing was marked
+pub unmarked : (f g : Layout) (v : Marks) (n : ℕ) (ts : List ℕ) → Each (IsJudged f g v v n n ts) ts → AreRemarked f g v v n n ts
+unmarked f g v n ts judged = record {
+  alike = record { room = refl; nodes = refl; inside = refl; full = refl; partial = refl };
+  label = refl;
+  labels = λ m z. refl;
+  chains = λ m xs x. (xs, x, swapped_self n (indices xs));
+  judged = judged;
+}
 
 pub replaced_member : (xs : List ℕ) (n a y : ℕ) → 1 ≤ occurs (with_replaced xs n a) y → (k : ℕ) × (1 ≤ occurs xs k) × (y ≡ replaced_one n a k)
 replaced_member [] n a y o = absurd (omega arith)
@@ -134,7 +144,7 @@ answer_times (x ∷ xs) n a ne = elim (cases_eq x n) [
 
 self_once : (xs : List ℕ) (n a k : ℕ) → a ≡ n → ((x : ℕ) → occurs xs x ≤ 1) → occurs (with_replaced xs n a) k ≤ 1
 self_once xs n a k e once = subst (λ z. occurs (with_replaced xs n z) k ≤ 1) (sym e)
-    (subst (λ zs. occurs zs k ≤ 1) (sym (replaced_self n xs)) (once k))
+    (subst (λ zs. occurs zs k ≤ 1) (sym (replaced_self xs n)) (once k))
 
 pub replaced_once : (xs : List ℕ) (n a k : ℕ) → (a ≡ n) ⊎ (occurs xs a ≡ 0) → ((x : ℕ) → occurs xs x ≤ 1) → occurs (with_replaced xs n a) k ≤ 1
 replaced_once xs n a k (inl e) once = self_once xs n a k e once
@@ -228,10 +238,10 @@ module _ (f g : Layout) (n a : ℕ) (ts : List ℕ) (r : IsRebuilt f g n a ts) (
         all = λ k o b. let q = replaced_member ks n a k (subst (λ zs. 1 ≤ occurs zs k) kids o) in
             let c : 1 ≤ occurs xs q.0 = x.all q.0 q.1 (λ z. b (ap (label_at w) q.2 ∙ label_moved m out q.0 q.1 ∙ z)) in
             subst (λ zs. 1 ≤ occurs zs k) (sym e) (subst (λ z. 1 ≤ occurs (with_replaced xs n a) z) (sym q.2) (replaced_back xs n a q.0 c));
-        full = ap (λ fs. fulls_at (record w { full = fs }) m) s.full ∙ x.full
+        full = ap (λ fs. fulls_at (record w { full = fs }) m) s.alike.full ∙ x.full
             ∙ sym (ap (sum_by (λ k. full_one (label_at w k))) kids
             ∙ replaced_sum (λ k. full_one (label_at v k)) (λ k. full_one (label_at w k)) ks n a (λ k o. ap full_one (label_moved m out k o)));
-        partial = ap (λ fs. partials_at (record w { partial = fs }) m) s.partial ∙ x.partial
+        partial = ap (λ fs. partials_at (record w { partial = fs }) m) s.alike.partial ∙ x.partial
             ∙ sym (ap (sum_by (λ k. partial_one (label_at w k))) kids
             ∙ replaced_sum (λ k. partial_one (label_at v k)) (λ k. partial_one (label_at w k)) ks n a (λ k o. ap partial_one (label_moved m out k o)));
       }
@@ -308,9 +318,9 @@ module _ (f g : Layout) (n a : ℕ) (ts : List ℕ) (r : IsRebuilt f g n a ts) (
 
   pub kept_at : AreKeptAt f g v w n a
   kept_at = record {
-    room = s.room;
-    nodes = s.nodes;
-    inside = s.inside;
+    room = s.alike.room;
+    nodes = s.alike.nodes;
+    inside = s.alike.inside;
     label = s.label;
     outside = λ m out. s.labels m (outside_kept f g n a ts r m out);
     chains = chain_again;

@@ -15,7 +15,7 @@ use Rattle.pq_arena.specs.Looks.{ShowsNode, shown_count}
 use Rattle.bubble_pass.specs.Marks.{Marks, label_at, IsPut}
 use Rattle.template_model.specs.Treated.{IsTreated}
 use Rattle.templates_p.specs.Lines.{CanHandOver, IsHandedOver, IsHandedOn, IsSettled, put_in, CanAbsorb, IsAbsorbed}
-use Rattle.templates_p.proofs.Absorbing.{is_put_in, stay_treated, stay_absorbed, go_treated, go_absorbed}
+use Rattle.templates_p.proofs.Absorbing.{is_put_in, stay_treated, stay_absorbed, go_treated, go_absorbed, IsPutIn}
 
 pub shown_length : (f : Layout) (n : ℕ) (view : NodeView) → ShowsNode f n view → shape_at f n ≡ Some P → view.children ≡ length (children_at f n)
 shown_length f n view s p =
@@ -56,21 +56,19 @@ inner_node f g n h can d s e l =
     let q : P ≡ s = some_inj P s (sym (d.shapes n ∙ can.is_p) ∙ e) in subst (λ z. IsLeaf z) (sym q) l
 
 -- absorbing, in both cases
-pub absorbed_treated : (f i : Layout) (v w : Marks) (n h c end a : ℕ) → IsLayout f → IsLayout i → CanAbsorb f v n h c → IsSettled (put_in f n h end c) i v w n h a → IsTreated f i v w n a
-absorbed_treated f i v w n h c end a lay li can (inl s) =
-    subst (λ z. IsTreated f i v w n z) (sym s.0) (subst (λ z. IsTreated f i v z n n) (sym s.2) (subst (λ z. IsTreated f z v v n n) (sym s.1)
-    (stay_treated f v n h c end lay can (put_in f n h end c) (is_put_in f n h c end lay can.put) (subst IsLayout s.1 li) s.3)))
-absorbed_treated f i v w n h c end a lay li can (inr s) =
-    subst (λ z. IsTreated f i v w n z) (sym s.0)
-    (go_treated f v n h c end lay can (put_in f n h end c) (is_put_in f n h c end lay can.put) i w li s.1)
-
-pub absorbed_made : (f i : Layout) (v w : Marks) (n h c end a : ℕ) → IsLayout f → IsLayout i → CanAbsorb f v n h c → IsSettled (put_in f n h end c) i v w n h a → IsAbsorbed f v i w n h c end a
-absorbed_made f i v w n h c end a lay li can (inl s) =
-    subst (λ z. IsAbsorbed f v i w n h c end z) (sym s.0) (subst (λ z. IsAbsorbed f v i z n h c end n) (sym s.2) (subst (λ z. IsAbsorbed f v z v n h c end n) (sym s.1)
-    (stay_absorbed f v n h c end lay can (put_in f n h end c) (is_put_in f n h c end lay can.put) (subst IsLayout s.1 li) s.3)))
-absorbed_made f i v w n h c end a lay li can (inr s) =
-    subst (λ z. IsAbsorbed f v i w n h c end z) (sym s.0)
-    (go_absorbed f v n h c end lay can (put_in f n h end c) (is_put_in f n h c end lay can.put) i w li s.1)
+pub absorbed : (f i : Layout) (v w : Marks) (n h c end a : ℕ) → IsLayout f → IsLayout i → CanAbsorb f v n h c → IsSettled (put_in f n h end c) i v w n h a →
+    IsTreated f i v w n a × IsAbsorbed f v i w n h c end a
+absorbed f i v w n h c end a lay li can (inl s) =
+    let g : Layout = put_in f n h end c in
+    let p : IsPutIn f g n h c end = is_put_in f n h c end lay can.put in
+    let lg : IsLayout g = subst IsLayout s.1 li in
+    subst (λ z. IsTreated f i v w n z × IsAbsorbed f v i w n h c end z) (sym s.0)
+    (subst (λ z. IsTreated f i v z n n × IsAbsorbed f v i z n h c end n) (sym s.2) (subst (λ z. IsTreated f z v v n n × IsAbsorbed f v z v n h c end n) (sym s.1)
+    (stay_treated f v n h c end lay can g p lg s.3, stay_absorbed f v n h c end lay can g p lg s.3)))
+absorbed f i v w n h c end a lay li can (inr s) =
+    let g : Layout = put_in f n h end c in
+    let p : IsPutIn f g n h c end = is_put_in f n h c end lay can.put in
+    subst (λ z. IsTreated f i v w n z × IsAbsorbed f v i w n h c end z) (sym s.0) (go_treated f v n h c end lay can g p i w li s.1, go_absorbed f v n h c end lay can g p i w li s.1)
 
 pub put_in_length : (f : Layout) (n h end c : ℕ) → length (put_in f n h end c).slots ≡ length f.slots
 put_in_length f n h end c =

@@ -1,5 +1,5 @@
 -- The children of a node sorted by their labels.
-use Rattle.std.proofs.Common.{◌≡◌, inl, inr, ℕ, ◌+◌, ◌≤◌, List, [], ◌∷◌, map, sum_by, length, refl, sym, ap, subst, ◌∙◌, arith}
+use Rattle.std.proofs.Common.{◌≡◌, ◌≢◌, ◌⊎◌, inl, inr, ℕ, ◌+◌, ◌≤◌, List, [], ◌∷◌, map, sum_by, length, refl, sym, ap, subst, ◌∙◌, arith}
 use Rattle.std.proofs.lemmas.Bool.{cases_eq, cases_lt}
 use Rattle.std.proofs.lemmas.List.Sums.{sum_by-cons}
 use Rattle.column_order.specs.Orders.{occurs}
@@ -149,50 +149,57 @@ pub all_counted : (w : Marks) (ks : List ℕ) → length ks ≡ length (full_nod
 all_counted w [] = refl
 all_counted w (k ∷ ks) = omega (arith, all_counted w ks, count_step k (full_nodes w ks) (empty_nodes w ks) (partial_nodes w ks) (label_at w k))
 
-full_of : (w : Marks) (k x : ℕ) (F : List ℕ) (l : Mark) → label_at w k ≡ l → 1 ≤ occurs (full_then l k F) x → (1 ≤ occurs F x → label_at w x ≡ Full) → label_at w x ≡ Full
-full_of w k x F Empty e o h = h o
-full_of w k x F Partly e o h = h o
-full_of w k x F Full e o h = elim (cases_eq x k) [
-  | inl q ↦ ap (label_at w) q ∙ e
-  | inr ne ↦ h (subst (λ z. 1 ≤ z) (occurs_other k x F ne) o)
-]
+-- the nodes that `sorted` picks of some are those with the mark l
+pub record AreMarked (l : Mark) (sorted : Marks → List ℕ → List ℕ) : Type 0 where
+  none : (w : Marks) → sorted w [] ≡ []
+  cases : (w : Marks) (k : ℕ) (ks : List ℕ) → ((label_at w k ≡ l) × (sorted w (k ∷ ks) ≡ k ∷ sorted w ks)) ⊎ ((label_at w k ≢ l) × (sorted w (k ∷ ks) ≡ sorted w ks))
 
-pub full_label_of : (w : Marks) (ks : List ℕ) (x : ℕ) → 1 ≤ occurs (full_nodes w ks) x → label_at w x ≡ Full
-full_label_of w [] x o = absurd (omega arith)
-full_label_of w (k ∷ ks) x o = full_of w k x (full_nodes w ks) (label_at w k) refl o (λ q. full_label_of w ks x q)
+full_cases : (l : Mark) (k : ℕ) (ks : List ℕ) → ((l ≡ Full) × (full_then l k ks ≡ k ∷ ks)) ⊎ ((l ≢ Full) × (full_then l k ks ≡ ks))
+full_cases Empty k ks = inr (λ e. cc, refl)
+full_cases Partly k ks = inr (λ e. cc, refl)
+full_cases Full k ks = inl (refl, refl)
 
-empty_of : (w : Marks) (k x : ℕ) (F : List ℕ) (l : Mark) → label_at w k ≡ l → 1 ≤ occurs (empty_then l k F) x → (1 ≤ occurs F x → label_at w x ≡ Empty) → label_at w x ≡ Empty
-empty_of w k x F Full e o h = h o
-empty_of w k x F Partly e o h = h o
-empty_of w k x F Empty e o h = elim (cases_eq x k) [
-  | inl q ↦ ap (label_at w) q ∙ e
-  | inr ne ↦ h (subst (λ z. 1 ≤ z) (occurs_other k x F ne) o)
-]
+pub fulls : AreMarked Full full_nodes
+fulls = record { none = λ w. refl; cases = λ w k ks. full_cases (label_at w k) k (full_nodes w ks) }
 
-pub empty_label_of : (w : Marks) (ks : List ℕ) (x : ℕ) → 1 ≤ occurs (empty_nodes w ks) x → label_at w x ≡ Empty
-empty_label_of w [] x o = absurd (omega arith)
-empty_label_of w (k ∷ ks) x o = empty_of w k x (empty_nodes w ks) (label_at w k) refl o (λ q. empty_label_of w ks x q)
+empty_cases : (l : Mark) (k : ℕ) (ks : List ℕ) → ((l ≡ Empty) × (empty_then l k ks ≡ k ∷ ks)) ⊎ ((l ≢ Empty) × (empty_then l k ks ≡ ks))
+empty_cases Empty k ks = inl (refl, refl)
+empty_cases Partly k ks = inr (λ e. cc, refl)
+empty_cases Full k ks = inr (λ e. cc, refl)
 
-partial_of : (w : Marks) (k x : ℕ) (F : List ℕ) (l : Mark) → label_at w k ≡ l → 1 ≤ occurs (partial_then l k F) x → (1 ≤ occurs F x → label_at w x ≡ Partly) → label_at w x ≡ Partly
-partial_of w k x F Full e o h = h o
-partial_of w k x F Empty e o h = h o
-partial_of w k x F Partly e o h = elim (cases_eq x k) [
-  | inl q ↦ ap (label_at w) q ∙ e
-  | inr ne ↦ h (subst (λ z. 1 ≤ z) (occurs_other k x F ne) o)
-]
+pub empties : AreMarked Empty empty_nodes
+empties = record { none = λ w. refl; cases = λ w k ks. empty_cases (label_at w k) k (empty_nodes w ks) }
 
-pub partial_label_of : (w : Marks) (ks : List ℕ) (x : ℕ) → 1 ≤ occurs (partial_nodes w ks) x → label_at w x ≡ Partly
-partial_label_of w [] x o = absurd (omega arith)
-partial_label_of w (k ∷ ks) x o = partial_of w k x (partial_nodes w ks) (label_at w k) refl o (λ q. partial_label_of w ks x q)
+partial_cases : (l : Mark) (k : ℕ) (ks : List ℕ) → ((l ≡ Partly) × (partial_then l k ks ≡ k ∷ ks)) ⊎ ((l ≢ Partly) × (partial_then l k ks ≡ ks))
+partial_cases Empty k ks = inr (λ e. cc, refl)
+partial_cases Partly k ks = inl (refl, refl)
+partial_cases Full k ks = inr (λ e. cc, refl)
 
-pub no_full : (w : Marks) (ks : List ℕ) (x : ℕ) → (label_at w x ≡ Full → ⊥) → occurs (full_nodes w ks) x ≡ 0
-no_full w ks x ne = elim (cases_lt 0 (occurs (full_nodes w ks) x)) [ inl l ↦ absurd (ne (full_label_of w ks x l)) | inr l ↦ omega arith ]
+pub partials : AreMarked Partly partial_nodes
+partials = record { none = λ w. refl; cases = λ w k ks. partial_cases (label_at w k) k (partial_nodes w ks) }
 
-pub no_empty : (w : Marks) (ks : List ℕ) (x : ℕ) → (label_at w x ≡ Empty → ⊥) → occurs (empty_nodes w ks) x ≡ 0
-no_empty w ks x ne = elim (cases_lt 0 (occurs (empty_nodes w ks) x)) [ inl l ↦ absurd (ne (empty_label_of w ks x l)) | inr l ↦ omega arith ]
+-- the mark of such a node, and how often it is among these and among all
+module _ {l : Mark} {sorted : Marks → List ℕ → List ℕ} (s : AreMarked l sorted) (w : Marks) where
+  pub sorted_label : (ks : List ℕ) (x : ℕ) → 1 ≤ occurs (sorted w ks) x → label_at w x ≡ l
+  sorted_label [] x o = absurd (let z : 1 ≤ occurs [] x = subst (λ z. 1 ≤ occurs z x) (s.none w) o in omega arith)
+  sorted_label (k ∷ ks) x o = elim (s.cases w k ks) [
+    | inl e ↦ elim (cases_eq x k) [
+      | inl q ↦ ap (label_at w) q ∙ e.0
+      | inr ne ↦ sorted_label ks x (subst (λ z. 1 ≤ z) (ap (λ z. occurs z x) e.1 ∙ occurs_other k x (sorted w ks) ne) o)
+    ]
+    | inr e ↦ sorted_label ks x (subst (λ z. 1 ≤ occurs z x) e.1 o)
+  ]
 
-pub no_partial : (w : Marks) (ks : List ℕ) (x : ℕ) → (label_at w x ≡ Partly → ⊥) → occurs (partial_nodes w ks) x ≡ 0
-no_partial w ks x ne = elim (cases_lt 0 (occurs (partial_nodes w ks) x)) [ inl l ↦ absurd (ne (partial_label_of w ks x l)) | inr l ↦ omega arith ]
+  pub sorted_none : (ks : List ℕ) (x : ℕ) → (label_at w x ≡ l → ⊥) → occurs (sorted w ks) x ≡ 0
+  sorted_none ks x ne = elim (cases_lt 0 (occurs (sorted w ks) x)) [ inl o ↦ absurd (ne (sorted_label ks x o)) | inr o ↦ omega arith ]
+
+  pub sorted_times : (ks : List ℕ) (x : ℕ) → label_at w x ≡ l → occurs (sorted w ks) x ≡ occurs ks x
+  sorted_times [] x e = ap (λ z. occurs z x) (s.none w)
+  sorted_times (k ∷ ks) x e = elim (s.cases w k ks) [
+    | inl q ↦ (let z : occurs (sorted w (k ∷ ks)) x ≡ occurs (k ∷ sorted w ks) x = ap (λ z. occurs z x) q.1 in omega (arith, sorted_times ks x e))
+    | inr q ↦
+        ap (λ z. occurs z x) q.1 ∙ sorted_times ks x e ∙ sym (occurs_other k x ks (λ z. q.0 (ap (label_at w) (sym z) ∙ e)))
+  ]
 
 pub apart_marks : (a b : Mark) (l : Mark) → l ≡ a → l ≡ b → a ≡ b
 apart_marks a b l e q = sym e ∙ q
@@ -205,22 +212,3 @@ not_full_partial l e q = let z : Full ≡ Partly = sym e ∙ q in cc
 
 pub not_empty_partial : (l : Mark) → l ≡ Empty → l ≡ Partly → ⊥
 not_empty_partial l e q = let z : Empty ≡ Partly = sym e ∙ q in cc
-
--- a full node is among the full ones as often as among all
-pub full_times : (w : Marks) (ks : List ℕ) (x : ℕ) → label_at w x ≡ Full → occurs (full_nodes w ks) x ≡ occurs ks x
-full_times w ks x e =
-    let a : occurs (empty_nodes w ks) x ≡ 0 = no_empty w ks x (not_full_empty (label_at w x) e) in
-    let b : occurs (partial_nodes w ks) x ≡ 0 = no_partial w ks x (not_full_partial (label_at w x) e) in
-    omega (arith, all_sorted w ks x)
-
-pub empty_times : (w : Marks) (ks : List ℕ) (x : ℕ) → label_at w x ≡ Empty → occurs (empty_nodes w ks) x ≡ occurs ks x
-empty_times w ks x e =
-    let a : occurs (full_nodes w ks) x ≡ 0 = no_full w ks x (λ q. not_full_empty (label_at w x) q e) in
-    let b : occurs (partial_nodes w ks) x ≡ 0 = no_partial w ks x (not_empty_partial (label_at w x) e) in
-    omega (arith, all_sorted w ks x)
-
-pub partial_times : (w : Marks) (ks : List ℕ) (x : ℕ) → label_at w x ≡ Partly → occurs (partial_nodes w ks) x ≡ occurs ks x
-partial_times w ks x e =
-    let a : occurs (full_nodes w ks) x ≡ 0 = no_full w ks x (λ q. not_full_partial (label_at w x) q e) in
-    let b : occurs (empty_nodes w ks) x ≡ 0 = no_empty w ks x (λ q. not_empty_partial (label_at w x) q e) in
-    omega (arith, all_sorted w ks x)

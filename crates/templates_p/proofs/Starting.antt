@@ -27,15 +27,15 @@ use Rattle.templates_p.specs.Steps.{HasGroup, CanGather}
 use Rattle.templates_p.specs.Lines.{CanHandOver}
 use Rattle.templates_p.specs.Parts.{IsParted, IsStarted, IsLineFor, CanLift}
 use Rattle.templates_p.proofs.Rebuilt.{none_child, child_used, replaced_has, replaced_length}
-use Rattle.templates_p.proofs.Sorting.{sorted_unique, sort, held_length, count_map, empty_label_of}
+use Rattle.templates_p.proofs.Sorting.{sorted_unique, sort, held_length, count_map, sorted_label, empties}
 use Rattle.templates_p.proofs.Becoming.{can_gather, no_trees, occurs_none}
 use Rattle.templates_p.proofs.Chaining.{child_once}
 use Rattle.templates_p.proofs.Grouping.{neither}
 use Rattle.templates_p.proofs.Handing.{gone_replaced}
 use Rattle.templates_p.proofs.Moving.{spare_head, without_kept, without_less}
-use Rattle.templates_p.proofs.Ending.{join_none}
 use Rattle.templates_p.proofs.Parting.{IsLineOf, parted_treated}
 use Rattle.templates_p.proofs.Lining.{parted_line, rest_bag}
+use Rattle.pq_tree.proofs.Forests.{join_no_tree}
 
 no_child : (f : Layout) (n q : ℕ) → IsLayout f → shape_at f q ≡ None → occurs (children_at f n) q ≡ 0
 no_child f n q lf e = elim (cases_lt 0 (occurs (children_at f n) q)) [
@@ -203,18 +203,7 @@ started_parted f g i v w n y q end rest line s p = record {
   children = λ m a b. p.children m a b ∙ ap (λ xs. with_replaced xs n q) (s.others m a b);
   over = p.over;
   part = p.part;
-  room = p.room;
-  nodes = p.nodes;
-  inside = p.inside;
-  full = p.full;
-  partial = p.partial;
-  label = p.label;
-  labels = p.labels;
-  old = p.old;
-  new = p.new;
-  old_is = p.old_is;
-  new_is = p.new_is;
-  chains = p.chains;
+  marks = p.marks;
 }
 
 module _ (f g : Layout) (n y q : ℕ) (lf : IsLayout f) (is_p : shape_at f n ≡ Some P) (child : 1 ≤ occurs (children_at f n) y) (s : IsStarted f g n y q) where
@@ -301,7 +290,7 @@ module _ (f g g' : Layout) (v w : Marks) (n y q : ℕ) (lg : IsLayout g) (grp : 
   in_empty k o = omega (arith, rest_of k)
 
   rest_empty : (k : ℕ) → 1 ≤ occurs (without (children_at g' n) q) k → label_at w k ≡ Empty
-  rest_empty k o = let i : 1 ≤ occurs (empty_nodes v (children_at f n)) k = in_empty k o in (grp.others k (omega arith)).label ∙ empty_label_of v (children_at f n) k i
+  rest_empty k o = let i : 1 ≤ occurs (empty_nodes v (children_at f n)) k = in_empty k o in (grp.others k (omega arith)).label ∙ sorted_label empties v (children_at f n) k i
 
   pub started_can_lift : HasTwoEach g → size_of w ≡ length g'.slots → CanLift g' w n q
   started_can_lift two room = record {
@@ -342,7 +331,7 @@ module _ (f g g' : Layout) (v w : Marks) (n y q : ℕ) (lg : IsLayout g) (grp : 
       let base : StandsForPartial i x q (record { e = join (star es) no_tree; f = star fs }) =
       parted_line g i w x n q 0 1 (without (children_at g' n) q) (children_at g' q) lg li line (started_parted g g' i w x n y q 0 (without (children_at g' n) q) (children_at g' q) s p) rest_empty
       o (empty_nodes v ks) rest_of (λ k r. let c : 1 ≤ occurs (empty_nodes v ks) k = in_empty k r in (grp.others k (omega arith)).tree) no_tree (star fs) line_for (inl (refl, refl)) in
-      let plain : StandsForPartial i x q (p3 es fs) = subst (λ ts. StandsForPartial i x q (record { e = ts; f = star fs })) (join_none (star es)) base in
+      let plain : StandsForPartial i x q (p3 es fs) = subst (λ ts. StandsForPartial i x q (record { e = ts; f = star fs })) (join_no_tree (star es)) base in
       subst (λ t. StandsForPartial i x q t) (sym three.becomes)
       (subst (λ ts. StandsForPartial i x q (p3 ts (tree_and three.f three.fs))) u.0 (subst (λ ts. StandsForPartial i x q (p3 es ts)) u.1 plain))
 

@@ -10,7 +10,7 @@ use Rattle.arena_model.specs.NamedTree.{outline_below}
 use Rattle.arena_model.proofs.Lists.{occurs_here, occurs_same, occurs_other, only_one}
 use Rattle.arena_model.proofs.Slots.{used_by}
 use Rattle.pq_arena.specs.declared.node.NodeId.{NodeId}
-use Rattle.bubble_pass.specs.declared.labels.Label.TheVariants.{Empty, Partial as Partly}
+use Rattle.bubble_pass.specs.declared.labels.Label.TheVariants.{Partial as Partly}
 use Rattle.bubble_pass.specs.Marks.{Marks, label_at}
 use Rattle.template_theory.specs.Templates.{Partial, Label, IsSorted}
 use Rattle.template_model.specs.Standing.{child_trees, AreMarkedAs, AreShapesAt, IsShapeAt, IsReady}
@@ -19,11 +19,12 @@ use Rattle.templates_p.specs.Fits.{StandsP6}
 use Rattle.templates_p.specs.Sorts.{full_nodes, empty_nodes, partial_nodes}
 use Rattle.templates_p.specs.Steps.{HasChildWith, CanGather, IsGathered}
 use Rattle.templates_p.specs.Merging.{CanMerge}
-use Rattle.templates_p.proofs.Sorting.{held, sorted_unique, sort, held_length, AreShapes, held_shapes, all_sorted, partial_times, partial_label_of, not_full_partial}
+use Rattle.templates_p.proofs.Sorting.{held, sorted_unique, sort, held_length, AreShapes, held_shapes, all_sorted, sorted_times, partials, not_full_partial}
 use Rattle.templates_p.proofs.Becoming.{can_gather}
 use Rattle.templates_p.proofs.Chaining.{child_once}
 use Rattle.templates_p.proofs.FullEnd.{partial_count, same_room}
 use Rattle.templates_p.proofs.Lengthening.{listed, AreGathered, are_gathered, IsLengthened, CanLengthen}
+use Rattle.templates_p.proofs.Grouping.{marked_child}
 
 -- two lists of two with the same members
 two_of : (xs : List ℕ) (a b : ℕ) → length xs ≡ 2 → 1 ≤ occurs xs a → 1 ≤ occurs xs b → a ≢ b → (xs ≡ a ∷ b ∷ []) ⊎ (xs ≡ b ∷ a ∷ [])
@@ -61,15 +62,7 @@ pub other_partial : (f : Layout) (w : Marks) (n a : ℕ) → IsLayout f → IsRe
 other_partial f w n a h r l =
     let ks : List ℕ = children_at f n in
     let m = other_member (partial_nodes w ks) a l (λ k. let c : occurs ks k ≤ 1 = child_once f n k h in omega (arith, all_sorted w ks k)) in
-    let o : 1 ≤ occurs (partial_nodes w ks) m.0 = m.1 in
-    record {
-      ready = r;
-      k = m.0;
-      child = omega (arith, all_sorted w ks m.0);
-      labelled = partial_label_of w ks m.0 o;
-      other = m.2;
-      marked = λ q. (let z : Partly ≡ Empty = q in cc);
-    }
+    marked_child partials (λ q. cc) f w n a m.0 r m.1 m.2
 
 -- the children p and q of n are its partial ones, and stand for the partial_nodes h and k in one order or the other
 pub record ArePartials (f : Layout) (v : Marks) (n p q : ℕ) (es fs : Forest) (h k : Partial) : Type 0 where
@@ -93,7 +86,7 @@ are_partials f v n p q ps es fs h k m s pat op oq lp lq ne =
     let u = sorted_unique (sort (outline_below f) v ks ps m) pat in
     let two : length (partial_nodes v ks) ≡ 2 = sym (held_length v ks ps m) ∙ ap (λ hs. length hs) u.2 in
     let all : AreShapes f v (partial_nodes v ks) (held ps) = held_shapes f v ks ps m s in
-    elim (two_of (partial_nodes v ks) p q two (subst (λ z. 1 ≤ z) (sym (partial_times v ks p lp)) op) (subst (λ z. 1 ≤ z) (sym (partial_times v ks q lq)) oq) ne) [
+    elim (two_of (partial_nodes v ks) p q two (subst (λ z. 1 ≤ z) (sym (sorted_times partials v ks p lp)) op) (subst (λ z. 1 ≤ z) (sym (sorted_times partials v ks q lq)) oq) ne) [
       | inl e ↦ let t = shapes_of f v p q h k (partial_nodes v ks) (held ps) e u.2 all in
           record { x = h; y = k; order = inl (refl, refl); first = t.0; second = t.1; only = λ j. ap (λ xs. occurs xs j) e; empty = u.0; full = u.1 }
       | inr e ↦ let t = shapes_of f v q p h k (partial_nodes v ks) (held ps) e u.2 all in
@@ -135,8 +128,8 @@ are_ready f g v w n p q y lf lg r s op lp oq lq ne t b =
     let ks : List ℕ = children_at f n in
     let d : ArePartials f v n p q s.3.1.1.es s.3.1.1.fs s.3.1.1.h s.3.1.1.k = p6_partials f v n p q s a in
     let c : AreGathered f v g w n y = are_gathered f g v w n y s.3.0 b in
-    let p_in : 1 ≤ occurs (partial_nodes v ks) p = subst (λ z. 1 ≤ z) (sym (partial_times v ks p a.p_label)) a.p_child in
-    let q_in : 1 ≤ occurs (partial_nodes v ks) q = subst (λ z. 1 ≤ z) (sym (partial_times v ks q a.q_label)) a.q_child in
+    let p_in : 1 ≤ occurs (partial_nodes v ks) p = subst (λ z. 1 ≤ z) (sym (sorted_times partials v ks p a.p_label)) a.p_child in
+    let q_in : 1 ≤ occurs (partial_nodes v ks) q = subst (λ z. 1 ≤ z) (sym (sorted_times partials v ks q a.q_label)) a.q_child in
     let same_p = c.others p (omega arith) in
     let same_q = c.others q (omega arith) in
     let shape : IsShapeAt g w p d.x = same_p.shape d.x d.first in

@@ -25,6 +25,26 @@ pub record CanLift (f : Layout) (v : Marks) (n h : ℕ) : Type 0 where
   pub more : 2 ≤ length (children_at f n)
   pub room : size_of v ≡ length f.slots
 
+-- the marks v and w differ in labels and in chains alone
+pub record AreAlike (v w : Marks) : Type 0 where
+  pub room : size_of w ≡ size_of v
+  pub nodes : w.nodes ≡ v.nodes
+  pub inside : w.inside ≡ v.inside
+  pub full : w.full ≡ v.full
+  pub partial : w.partial ≡ v.partial
+
+-- The marks v became w: h has the label that n had, other nodes than these two keep theirs, and in the chains n and h are
+-- exchanged.
+pub record AreMoved (v w : Marks) (n h : ℕ) : Type 0 where
+  pub alike : AreAlike v w
+  pub label : label_at w h ≡ label_at v n
+  pub labels : (m : ℕ) → m ≢ n → m ≢ h → label_at w m ≡ label_at v m
+  pub old : NodeId
+  pub new : NodeId
+  pub old_is : old.index ≡ n
+  pub new_is : new.index ≡ h
+  pub chains : (m : ℕ) (xs : List NodeId) → IsChain v m xs → IsChain w m (map (exchange old new) xs)
+
 -- The Q-node h stands in the place of n. Its children are `line` and, at this end, what is left of n: n over `rest`, marked
 -- as empty, or the only one of `rest`, where n is gone.
 pub record IsParted (f g : Layout) (v w : Marks) (n h end : ℕ) (rest line : List ℕ) : Type 0 where
@@ -36,18 +56,7 @@ pub record IsParted (f g : Layout) (v w : Marks) (n h end : ℕ) (rest line : Li
   pub children : (m : ℕ) → m ≢ n → m ≢ h → children_at g m ≡ with_replaced (children_at f m) n h
   pub over : children_at g h ≡ put_on end e line
   pub part : ((e ≡ n) × (shape_at g n ≡ Some P) × (children_at g n ≡ rest) × (2 ≤ length rest) × (label_at w n ≡ Empty)) ⊎ ((shape_at g n ≡ None) × (rest ≡ e ∷ []))
-  pub room : size_of w ≡ size_of v
-  pub nodes : w.nodes ≡ v.nodes
-  pub inside : w.inside ≡ v.inside
-  pub full : w.full ≡ v.full
-  pub partial : w.partial ≡ v.partial
-  pub label : label_at w h ≡ label_at v n
-  pub labels : (m : ℕ) → m ≢ n → m ≢ h → label_at w m ≡ label_at v m
-  pub old : NodeId
-  pub new : NodeId
-  pub old_is : old.index ≡ n
-  pub new_is : new.index ≡ h
-  pub chains : (m : ℕ) (xs : List NodeId) → IsChain v m xs → IsChain w m (map (exchange old new) xs)
+  pub marks : AreMoved v w n h
 
 -- the Q-node q, which was spare, stands in the place of the child y of n, and y is its only child
 pub record IsStarted (f g : Layout) (n y q : ℕ) : Type 0 where

@@ -1,8 +1,6 @@
 // Whether a template fits at a node, by the labels of its children.
-ghost use Rattle.std.specs.Prelude.{◌≡◌, ◌↔◌, ℕ, ◌+◌, ◌*◌, ◌≤◌, List, IsTrue};
-ghost use Rattle.bubble_pass.specs.Marks.{fulls_at, partials_at};
-ghost use Rattle.template_theory.specs.Templates.{Label};
-ghost use Rattle.template_model.specs.Standing.{IsReady, AreMarkedAs};
+ghost use Rattle.std.specs.Prelude.{◌≡◌, ◌↔◌, ◌+◌, IsTrue};
+ghost use Rattle.template_model.specs.Standing.{IsReady, Tells};
 ghost use Rattle.templates_p.specs.Fits.{FitsL1, FitsP1, FitsP2, FitsP3, FitsP4, FitsP5, FitsP6};
 
 use crate::sight::{at_root, below_root, has_partials, is_all_full, is_full_and_empty, survey};
@@ -22,7 +20,7 @@ pub fn fits_l1<L: Ledger>(
 ) -> bool
     requires { IsReady arena.now work.now node.index }
     ensures fits { IsTrue result ↔ FitsL1 arena.now work.now node.index }
-    ensures ticks { steps.new ≤ steps.old + 4 * (fulls_at work.now node.index + partials_at work.now node.index + 1) }
+    ensures ticks { steps.new ≡ steps.old + 1 }
 {
     match arena.look(node, steps).shape {
         Shape::Leaf(_) => work.label(node) == bubble_pass::Label::Full,
@@ -41,8 +39,8 @@ pub fn fits_p1<L: Ledger>(
     steps: &mut Steps<L>,
 ) -> bool
     requires { IsReady arena.now work.now node.index }
-    ensures fits { (ps : List Label) → AreMarkedAs arena.now work.now node.index ps → (IsTrue result ↔ FitsP1 arena.now node.index ps) }
-    ensures ticks { steps.new ≤ steps.old + 4 * (fulls_at work.now node.index + partials_at work.now node.index + 1) }
+    ensures fits { Tells arena.now work.now node.index (FitsP1 arena.now node.index) result }
+    ensures ticks { steps.new ≡ steps.old + 1 }
 {
     let seen = survey(arena, work, node, steps);
     is_all_full(seen)
@@ -59,8 +57,8 @@ pub fn fits_p2<L: Ledger>(
     steps: &mut Steps<L>,
 ) -> bool
     requires { IsReady arena.now work.now node.index }
-    ensures fits { (ps : List Label) → AreMarkedAs arena.now work.now node.index ps → (IsTrue result ↔ FitsP2 arena.now node.index root ps) }
-    ensures ticks { steps.new ≤ steps.old + 4 * (fulls_at work.now node.index + partials_at work.now node.index + 1) }
+    ensures fits { Tells arena.now work.now node.index (FitsP2 arena.now node.index root) result }
+    ensures ticks { steps.new ≡ steps.old + 1 }
 {
     let seen = survey(arena, work, node, steps);
     at_root(root, is_full_and_empty(seen))
@@ -77,8 +75,8 @@ pub fn fits_p3<L: Ledger>(
     steps: &mut Steps<L>,
 ) -> bool
     requires { IsReady arena.now work.now node.index }
-    ensures fits { (ps : List Label) → AreMarkedAs arena.now work.now node.index ps → (IsTrue result ↔ FitsP3 arena.now node.index root ps) }
-    ensures ticks { steps.new ≤ steps.old + 4 * (fulls_at work.now node.index + partials_at work.now node.index + 1) }
+    ensures fits { Tells arena.now work.now node.index (FitsP3 arena.now node.index root) result }
+    ensures ticks { steps.new ≡ steps.old + 1 }
 {
     let seen = survey(arena, work, node, steps);
     below_root(root, is_full_and_empty(seen))
@@ -95,8 +93,8 @@ pub fn fits_p4<L: Ledger>(
     steps: &mut Steps<L>,
 ) -> bool
     requires { IsReady arena.now work.now node.index }
-    ensures fits { (ps : List Label) → AreMarkedAs arena.now work.now node.index ps → (IsTrue result ↔ FitsP4 arena.now node.index root ps) }
-    ensures ticks { steps.new ≤ steps.old + 4 * (fulls_at work.now node.index + partials_at work.now node.index + 1) }
+    ensures fits { Tells arena.now work.now node.index (FitsP4 arena.now node.index root) result }
+    ensures ticks { steps.new ≡ steps.old + 1 }
 {
     let seen = survey(arena, work, node, steps);
     at_root(root, has_partials(seen, 1))
@@ -113,8 +111,8 @@ pub fn fits_p5<L: Ledger>(
     steps: &mut Steps<L>,
 ) -> bool
     requires { IsReady arena.now work.now node.index }
-    ensures fits { (ps : List Label) → AreMarkedAs arena.now work.now node.index ps → (IsTrue result ↔ FitsP5 arena.now node.index root ps) }
-    ensures ticks { steps.new ≤ steps.old + 4 * (fulls_at work.now node.index + partials_at work.now node.index + 1) }
+    ensures fits { Tells arena.now work.now node.index (FitsP5 arena.now node.index root) result }
+    ensures ticks { steps.new ≡ steps.old + 1 }
 {
     let seen = survey(arena, work, node, steps);
     below_root(root, has_partials(seen, 1))
@@ -131,8 +129,8 @@ pub fn fits_p6<L: Ledger>(
     steps: &mut Steps<L>,
 ) -> bool
     requires { IsReady arena.now work.now node.index }
-    ensures fits { (ps : List Label) → AreMarkedAs arena.now work.now node.index ps → (IsTrue result ↔ FitsP6 arena.now node.index root ps) }
-    ensures ticks { steps.new ≤ steps.old + 4 * (fulls_at work.now node.index + partials_at work.now node.index + 1) }
+    ensures fits { Tells arena.now work.now node.index (FitsP6 arena.now node.index root) result }
+    ensures ticks { steps.new ≡ steps.old + 1 }
 {
     let seen = survey(arena, work, node, steps);
     at_root(root, has_partials(seen, 2))

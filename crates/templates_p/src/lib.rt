@@ -4,21 +4,15 @@
 //! applies it. The empty children of a node are not walked over, so the work is in the number of its labelled children.
 #![tactic(auto)]
 
-mod below_root;
+mod apply;
 mod fits;
 mod group;
-mod grouped;
 mod line;
 mod merge;
-mod one_partial;
 mod parted;
 mod sight;
-mod two_partials;
-mod unchanged;
 
-pub use below_root::{apply_p3, apply_p5};
+pub use apply::{
+    apply_l1, apply_p1, apply_p2, apply_p2_to, apply_p3, apply_p4, apply_p5, apply_p6,
+};
 pub use fits::{fits_l1, fits_p1, fits_p2, fits_p3, fits_p4, fits_p5, fits_p6};
-pub use grouped::{apply_p2, apply_p2_to};
-pub use one_partial::apply_p4;
-pub use two_partials::apply_p6;
-pub use unchanged::{apply_l1, apply_p1};

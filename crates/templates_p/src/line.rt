@@ -5,7 +5,7 @@ ghost use Rattle.bubble_pass.specs.Marks.{label_at, size_of};
 ghost use Rattle.template_theory.specs.Templates.{Partial};
 ghost use Rattle.template_model.specs.Standing.{IsShapeAt};
 ghost use Rattle.template_model.specs.Treated.{IsTreated};
-ghost use Rattle.templates_p.specs.Lines.{IsShapeTo, CanHandOver, IsHandedOver, IsSettled, CanAbsorb, IsAbsorbed};
+ghost use Rattle.templates_p.specs.Lines.{IsShapeTo, CanHandOver, IsHandedOver, IsSettled, put_in, CanPutIn, CanAbsorb, IsAbsorbed};
 
 use bubble_pass::{Label, Work};
 use pq_arena::{Arena, NodeId};
@@ -45,6 +45,25 @@ pub fn hand_over<L: Ledger>(arena: &mut Arena, node: NodeId, line: NodeId, steps
     arena.layout_law();
     arena.detach(line, steps);
     arena.replace(node, line, steps);
+}
+
+// Puts the child `child` of the P-node `node` at this end of its child `line`, a Q-node.
+pub fn put_at_end<L: Ledger>(
+    arena: &mut Arena,
+    node: NodeId,
+    line: NodeId,
+    end: usize,
+    child: NodeId,
+    steps: &mut Steps<L>,
+)
+    requires can { CanPutIn arena.old node.index line.index child.index }
+    requires end { end ≤ 1 }
+    ensures put { arena.new ≡ put_in arena.old node.index line.index end child.index }
+    ensures ticks { steps.new ≡ steps.old + 2 }
+{
+    arena.layout_law();
+    arena.detach(child, steps);
+    arena.put_end(line, end, child, steps);
 }
 
 // Where the P-node `node` has the child `line` alone, that child takes its place. The answer is what stands there.
@@ -90,8 +109,7 @@ pub fn absorb<L: Ledger>(
     ensures ticks { steps.new ≤ steps.old + 6 }
 {
     arena.layout_law();
-    arena.detach(child, steps);
-    arena.put_end(line, end, child, steps);
+    put_at_end(arena, node, line, end, child, steps);
     let top = settle(arena, work, node, line, steps);
     arena.layout_law();
     top

@@ -3,10 +3,9 @@ ghost use Rattle.std.specs.Prelude.{◌≡◌, ℕ, ◌+◌, ◌-◌, ◌≤◌}
 ghost use Rattle.arena_model.specs.ChildLists.{oriented};
 ghost use Rattle.arena_model.specs.Layout.{children_at};
 ghost use Rattle.template_model.specs.Treated.{IsTreated};
-ghost use Rattle.templates_p.specs.Lines.{put_in, CanPutIn};
 ghost use Rattle.templates_p.specs.Merging.{put_in_if, CanPutInIf, laid_on, CanMerge, IsMerged};
 
-use crate::line::settle;
+use crate::line::{put_at_end, settle};
 use bubble_pass::Work;
 use pq_arena::{Arena, NodeId};
 use step_count::{Ledger, Steps};
@@ -16,25 +15,6 @@ use step_count::{Ledger, Steps};
 pub struct PartialChild {
     pub node: NodeId,
     pub full_end: usize,
-}
-
-// Puts the child `child` of the P-node `node` at this end of its child `line`, a Q-node.
-fn put_at_end<L: Ledger>(
-    arena: &mut Arena,
-    node: NodeId,
-    line: NodeId,
-    end: usize,
-    child: NodeId,
-    steps: &mut Steps<L>,
-)
-    requires can { CanPutIn arena.old node.index line.index child.index }
-    requires end { end ≤ 1 }
-    ensures put { arena.new ≡ put_in arena.old node.index line.index end child.index }
-    ensures ticks { steps.new ≡ steps.old + 2 }
-{
-    arena.layout_law();
-    arena.detach(child, steps);
-    arena.put_end(line, end, child, steps);
 }
 
 // Puts the child `child` of the P-node `node`, where there is one, at the full end of its partial child `line`.

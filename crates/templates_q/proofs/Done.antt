@@ -1,24 +1,25 @@
 -- What stands once the children of the Q-shapes at both ends of the labelled children are in their places.
-use Rattle.std.proofs.Common.{ℕ, ◌≤◌, List, ◌++◌, Option, arith, reverse}
+use Rattle.std.proofs.Common.{ℕ, ◌≤◌, List, ◌++◌, Option, arith, reverse, subst}
 use Rattle.column_order.specs.Orders.{occurs}
 use Rattle.column_order.proofs.Lists.{occurs-append}
 use Rattle.arena_model.specs.Layout.{Layout, children_at, IsLayout}
 use Rattle.arena_model.specs.NamedTree.{IsOneTree, HasTwoEach}
 use Rattle.template_theory.specs.Templates.{Partial, Label}
 use Rattle.bubble_pass.specs.Marks.{Marks}
-use Rattle.template_model.specs.Standing.{IsShapeAt, AreMarkedAs}
+use Rattle.template_model.specs.Standing.{IsShapeAt, AreMarkedAs, IsReady, IsReadyInside, IsInMarkedRun}
 use Rattle.template_model.specs.Treated.{IsTreated}
 use Rattle.templates_q.specs.declared.stretch.PassedSpan.{PassedSpan}
 use Rattle.templates_q.specs.Fits.{FitsQ2}
-use Rattle.templates_q.specs.Span.{IsStretch, StandsQ3, AreKeptBelow, BecomesQ3}
+use Rattle.templates_q.specs.Span.{IsStretch, StandsQ3, AreKeptBelow, BecomesQ3, IsMarkedChild}
 use Rattle.templates_q.specs.Opening.{AreShaped, AreOpened}
 use Rattle.templates_q.proofs.Walks.{children_occur}
 use Rattle.templates_q.proofs.Runs.{IsPart}
 use Rattle.templates_q.proofs.Making.{shape_of}
-use Rattle.templates_q.proofs.Spanning.{fits3_line, line_stretch}
+use Rattle.templates_q.proofs.Spanning.{fits3_line, line_stretch, run_marked}
 use Rattle.templates_q.proofs.Opening.{IsOpenStep, part_of, part_kept, last_there, last_shapes, front_place, front_part, front_step, back_place}
 use Rattle.templates_q.proofs.Twice.{IsTreatedStep, step_treated, treated_twice, below_twice}
 use Rattle.templates_q.proofs.Laying.{IsLaidOut, laid_out, q2_other, q3_becomes}
+use Rattle.arena_model.proofs.Paths.{one_parent}
 
 -- where Q3 stands each partial child is a Q-shape
 pub all_shaped : (f : Layout) (w : Marks) (q : ℕ) → StandsQ3 f w q → AreShaped f w q
@@ -59,3 +60,21 @@ q3_done f e w q s r hf he one two st o = record {
 
     lacks : (rs : List Label) → AreMarkedAs f w q rs → FitsQ2 f q rs → ⊥
     lacks rs m fits = let z = q2_other f w q rs st.ps m st.marked fits in st.fits.2.not_q2 z.1 z.2
+
+-- so at the pertinent root, by what the walk around its first labelled child and the opening of its ends came to
+pub done_at : (f e : Layout) (w : Marks) (q : ℕ) (seen : PassedSpan) (r : IsStretch f w q seen) → IsLayout f → IsLayout e → IsReady f w q → StandsQ3 f w q →
+    ((q : ℕ) (r : IsStretch f w q seen) → AreShaped f w q → AreOpened f e w q seen r) → IsDone f e w q r.us
+done_at f e w q seen r hf he ready st opened = q3_done f e w q seen r hf he ready.one ready.two st (opened q r (all_shaped f w q st))
+
+-- the Q-node of a run is known by its child
+pub standing : (f : Layout) (w : Marks) (n q : ℕ) → IsLayout f → (q : ℕ) × IsInMarkedRun f w q n × StandsQ3 f w q → IsInMarkedRun f w q n → StandsQ3 f w q
+standing f w n q h st run = subst (StandsQ3 f w) (one_parent f st.0 q n h (run_marked f w st.0 n st.1).child (run_marked f w q n run).child) st.2
+
+-- so at the Q-node of a run
+pub done_around : (f e : Layout) (w : Marks) (n q : ℕ) (seen : PassedSpan) → IsLayout f → IsLayout e → IsReadyInside f w n → (q : ℕ) × IsInMarkedRun f w q n × StandsQ3 f w q →
+    ((q : ℕ) → IsMarkedChild f w q n → IsStretch f w q seen) → ((q : ℕ) (r : IsStretch f w q seen) → AreShaped f w q → AreOpened f e w q seen r) → IsInMarkedRun f w q n →
+    (r : IsStretch f w q seen) × IsDone f e w q r.us
+done_around f e w n q seen hf he ready stands stretch opened run =
+    let st = standing f w n q hf stands run in
+    let r = stretch q (run_marked f w q n run) in
+    (r, q3_done f e w q seen r hf he ready.one ready.two st (opened q r (all_shaped f w q st)))

@@ -16,6 +16,7 @@ use Rattle.templates_q.specs.Splicing.{IsPartialLine}
 use Rattle.templates_q.proofs.Lists.{head_reverse, reverse_split}
 use Rattle.templates_q.proofs.Lines.{fulls_in, partials_in, partials_append, count_full, count_empty, sum_reverse, all_reverse, same_cut, behind_fulls}
 use Rattle.templates_q.proofs.Walks.{next_is, next_none}
+use Rattle.templates_q.specs.declared.walk.Wanted.TheVariants.{Fulls}
 
 -- the children read from the other end
 pub turn_children : (f : Layout) (q : ℕ) (ks : List ℕ) → AreChildren f q ks → AreChildren f q (reverse ks)
@@ -53,7 +54,7 @@ next_part f w q fs (x ∷ []) es rest gap g e a b one c some = record { us = fs;
 next_part f w q fs (x ∷ y ∷ ps) es rest gap g e a b one c some = absurd (omega arith)
 
 -- so where the walk over full children of a run stops
-pub line_next : (f : Layout) (w : Marks) (q : ℕ) (ks : List ℕ) (p : Passed) → IsPassed Full f w q [] ks p → ((q : ℕ) (us vs : List ℕ) → IsChildGap f q us vs p.gap → EndsWithout Full w vs) →
+pub line_next : (f : Layout) (w : Marks) (q : ℕ) (ks : List ℕ) (p : Passed) → IsPassed Fulls f w q [] ks p → ((q : ℕ) (us vs : List ℕ) → IsChildGap f q us vs p.gap → EndsWithout Full w vs) →
     IsRunFrom w ks → 1 ≤ partials_in w ks → LineNext f w q p.gap
 line_next f w q ks p m stops run some =
     let l = run.line in

@@ -10,10 +10,10 @@ use Rattle.pq_tree.specs.Forests.{forest, back}
 use Rattle.pq_tree.proofs.Forests.{map-reverse, forest_reverse}
 use Rattle.template_theory.specs.Templates.{Partial, Label, empty_label, full_label, partial_label, IsRun, q2}
 use Rattle.bubble_pass.specs.declared.labels.Label.TheVariants.{Empty, Partial as Partly, Full}
-use Rattle.bubble_pass.specs.Marks.{Marks, label_at}
-use Rattle.template_model.specs.Standing.{mark_of, AreMarkedAs}
+use Rattle.bubble_pass.specs.Marks.{Marks, label_at, fulls_at, partials_at}
+use Rattle.template_model.specs.Standing.{mark_of, AreMarkedAs, IsReady}
 use Rattle.templates_q.specs.Walk.{AreAll}
-use Rattle.templates_q.specs.Lines.{IsFullFirst, IsRunFrom}
+use Rattle.templates_q.specs.Lines.{IsFullFirst, IsRunFrom, AreCounted}
 use Rattle.templates_q.specs.Fits.{FitsQ2}
 use Rattle.templates_q.proofs.Lines.{all_last, all_reverse, reverse_three, behind_fulls, full_end}
 use Rattle.templates_q.proofs.Runs.{full_sorted, empty_sorted, sorted_full, sorted_empty, Parts, PartFor, IsPart, RunOf, run_of, made_run}
@@ -144,3 +144,7 @@ fitting_line f w n ps m fits =
 
 pub fitting_some : (f : Layout) (w : Marks) (n : ℕ) (ps : List Label) → AreMarkedAs f w n ps → FitsQ2 f n ps → AreAll Empty w (children_at f n) → ⊥
 fitting_some f w n ps m fits a = fits.2.not_empty (empty_sorted (outline_below f) w (children_at f n) ps m a)
+
+-- the counts that are kept of a node are those of its children
+pub counted_at : (f : Layout) (w : Marks) (n full partial : ℕ) → IsReady f w n → full ≡ fulls_at w n → partial ≡ partials_at w n → AreCounted w (children_at f n) full partial
+counted_at f w n full partial ready a b = record { full = a ∙ ready.right.full; partial = b ∙ ready.right.partial }

@@ -8,7 +8,7 @@ use Rattle.bubble_pass.specs.declared.labels.Label.{Label as Mark}
 use Rattle.bubble_pass.specs.declared.labels.Label.TheVariants.{Empty, Partial, Full}
 use Rattle.bubble_pass.specs.Marks.{Marks, label_at}
 use Rattle.bubble_pass.specs.Sweep.{full_one, partial_one}
-use Rattle.templates_q.specs.Walk.{AreAll, EndsWithout}
+use Rattle.templates_q.specs.Walk.{AreThose, AreAll, EndsWithout}
 use Rattle.templates_q.specs.Lines.{AreCounted, IsRunFrom}
 
 -- how many are full, and how many partial
@@ -79,9 +79,12 @@ none_counted w (x ∷ xs) f p = (by (label_at w x) refl, none_counted w xs (omeg
     by Full e = absurd (let o : full_one (label_at w x) ≡ 1 = ap full_one e in omega (arith, fulls_cons w x xs))
 
 -- read from the other end they are the same
+pub those_append : (H : Mark → Type 0) (w : Marks) (xs ys : List ℕ) → AreThose H w xs → AreThose H w ys → AreThose H w (xs ++ ys)
+those_append H w [] ys a b = b
+those_append H w (x ∷ xs) ys a b = (a.0, those_append H w xs ys a.1 b)
+
 pub all_append : (l : Mark) (w : Marks) (xs ys : List ℕ) → AreAll l w xs → AreAll l w ys → AreAll l w (xs ++ ys)
-all_append l w [] ys a b = b
-all_append l w (x ∷ xs) ys a b = (a.0, all_append l w xs ys a.1 b)
+all_append l w xs ys a b = those_append (λ m. m ≡ l) w xs ys a b
 
 pub all_reverse : (l : Mark) (w : Marks) (ks : List ℕ) → AreAll l w ks → AreAll l w (reverse ks)
 all_reverse l w [] a = tt

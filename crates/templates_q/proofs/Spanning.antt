@@ -23,10 +23,10 @@ use Rattle.bubble_pass.specs.Pass.{IsRightAt}
 use Rattle.bubble_pass.specs.Sweep.{full_one, partial_one}
 use Rattle.template_model.specs.Standing.{AreMarkedAs, IsInMarkedRun}
 use Rattle.templates_q.specs.declared.stretch.PassedSpan.{PassedSpan}
-use Rattle.templates_q.specs.Walk.{AreChildren, AreAll, EndsWithout}
+use Rattle.templates_q.specs.Walk.{AreChildren, AreAll, EndsWithout, AreLabelled}
 use Rattle.templates_q.specs.Lines.{AreCounted, IsFullFirst}
 use Rattle.templates_q.specs.Fits.{FitsQ2, FitsQ3}
-use Rattle.templates_q.specs.Span.{BeginsEmpty, EndsEmpty, BeginsLabelled, AreLabelled, IsMarkedChild, IsStretch}
+use Rattle.templates_q.specs.Span.{BeginsEmpty, EndsEmpty, BeginsLabelled, IsMarkedChild, IsStretch}
 use Rattle.templates_q.proofs.Lines.{fulls_in, partials_in, fulls_append, partials_append, count_full, count_partial, count_empty, none_counted, all_first, all_last, all_reverse, reverse_three, sum_reverse}
 use Rattle.templates_q.proofs.Fitting.{Any, parts_any, fitting_line}
 use Rattle.templates_q.proofs.Spans.{SpanLine, MidLine, MidBy, FrontBy, IsSpanLine, parts_line, line_parts, line_turned, span_line, made_span}

@@ -1,16 +1,16 @@
 -- The children of a Q-node put in its place among the children of another: what stays.
-use Rattle.std.proofs.Common.{◌≡◌, ◌≢◌, ◌⊎◌, ◌↔◌, inl, inr, ℕ, ◌+◌, ◌≤◌, ◌<◌, true, false, cond, eqb, List, [], ◌∷◌, ◌++◌, length, Some, None, refl, sym, ap, subst, ◌∙◌, arith, eqb-true, length-append}
+use Rattle.std.proofs.Common.{◌≡◌, ◌≢◌, ◌⊎◌, inl, inr, ℕ, ◌+◌, ◌≤◌, ◌<◌, true, false, cond, eqb, List, [], ◌∷◌, ◌++◌, length, Some, None, refl, sym, ap, subst, ◌∙◌, arith, eqb-true, length-append}
 use Rattle.std.proofs.lemmas.Bool.{cases_eq, cases_lt}
 use Rattle.std.proofs.lemmas.List.{get_or-set_same, get_or-set_other, length-set}
 use Rattle.column_order.specs.Orders.{occurs}
 use Rattle.column_order.proofs.Lists.{occurs-append}
 use Rattle.arena_model.specs.declared.Shape.TheVariants.{Leaf, P, Q}
-use Rattle.arena_model.specs.Layout.{Slot, Layout, slot, spare_slot, shape_at, children_at, times_child, IsInUse, IsAtOrAbove, here, down, IsLayout, with_children, spliced}
+use Rattle.arena_model.specs.Layout.{Layout, slot, spare_slot, shape_at, children_at, IsInUse, IsAtOrAbove, here, down, IsLayout, with_children, spliced}
 use Rattle.arena_model.specs.NamedTree.{node_names, outline_below, IsOneTree, HasTwoEach}
 use Rattle.arena_model.proofs.Lists.{occurs_here, occurs_other}
-use Rattle.arena_model.proofs.Slots.{in_range, some_none, used_by}
-use Rattle.arena_model.proofs.Paths.{above_step, one_parent, above_ends, at_once, by}
-use Rattle.arena_model.proofs.Trees.{TreeAt, tree_at, at_same, reached, name_used, no_circle}
+use Rattle.arena_model.proofs.Slots.{in_range, used_by}
+use Rattle.arena_model.proofs.Paths.{one_parent, above_ends, at_once, by}
+use Rattle.arena_model.proofs.Trees.{TreeAt, tree_at, at_same, reached, no_circle}
 use Rattle.arena_model.proofs.Outlines.{below_named, named_below}
 use Rattle.bubble_pass.specs.declared.labels.Label.{Label as Mark}
 use Rattle.bubble_pass.specs.declared.labels.Label.TheVariants.{Empty, Partial, Full}
@@ -19,7 +19,7 @@ use Rattle.bubble_pass.specs.Pass.{IsRightAt}
 use Rattle.bubble_pass.specs.Sweep.{IsRight}
 use Rattle.templates_q.proofs.Lines.{fulls_in, partials_in}
 use Rattle.template_model.specs.Treated.{IsOutside, IsReplacedAt, AreKeptAt}
-use Rattle.template_model.proofs.Replaced.{replaced_self, join_paths, child_used, below_used, IsMade, replaced_made}
+use Rattle.template_model.proofs.Replaced.{replaced_self, join_paths, below_used, IsMade, replaced_made}
 
 -- The Q-node c, a child of the Q-node q between us and vs, is given back, and its children ms stand in its place.
 pub record IsSpliced (f g : Layout) (q c : ℕ) (us ms vs : List ℕ) : Type 0 where

@@ -1,7 +1,7 @@
 -- Walks over the labelled children around one of them.
-use Rattle.std.proofs.Common.{◌≡◌, ◌≢◌, inl, inr, ℕ, ◌+◌, ◌≤◌, ◌<◌, List, [], ◌∷◌, ◌++◌, length, Option, Some, None, refl, sym, ap, subst, ◌∙◌, arith, length-append, append_assoc, reverse}
+use Rattle.std.proofs.Common.{cond, ◌≡◌, ◌≢◌, inl, inr, ℕ, ◌+◌, ◌≤◌, List, [], ◌∷◌, ◌++◌, length, Some, None, refl, sym, ap, subst, ◌∙◌, arith, append_assoc, reverse}
 use Rattle.std.specs.Prelude.{slice_index_or}
-use Rattle.std.proofs.lemmas.List.{append-nil, reverse-reverse, reverse-append}
+use Rattle.std.proofs.lemmas.List.{reverse-reverse, reverse-append}
 use Rattle.arena_model.specs.ChildLists.{head_or, none}
 use Rattle.arena_model.specs.Layout.{Layout, children_at, IsLayout}
 use Rattle.arena_model.proofs.Lists.{last_or-append, last_reverse, reverse_cons, SplitAt, split_at}
@@ -14,12 +14,13 @@ use Rattle.bubble_pass.specs.Marks.{Marks, label_at}
 use Rattle.bubble_pass.specs.Sweep.{full_one, partial_one}
 use Rattle.templates_q.specs.declared.walk.ChildGap.{ChildGap}
 use Rattle.templates_q.specs.declared.walk.Passed.{Passed}
+use Rattle.templates_q.specs.declared.walk.Wanted.TheVariants.{Fulls, Partials, Labelled}
 use Rattle.templates_q.specs.declared.stretch.PassedSpan.{PassedSpan}
-use Rattle.templates_q.specs.Walk.{AreChildren, IsChildGap, IsFirst, IsPassed, EndsWithout}
-use Rattle.templates_q.specs.Span.{labelled_in, if_labelled, labelled_one, BeginsEmpty, EndsEmpty, BeginsLabelled, AreLabelled, ArePassed, IsMarkedChild, IsStart, IsSpanPassed}
+use Rattle.templates_q.specs.Walk.{AreChildren, AreLabelled, IsChildGap, IsPassed, IsWanted, EndsBefore, EndsWithout, wants, wanted_one}
+use Rattle.templates_q.specs.Span.{labelled_in, BeginsEmpty, EndsEmpty, BeginsLabelled, IsMarkedChild, IsStart, IsSpanPassed}
 use Rattle.templates_q.proofs.Lists.{head_reverse, reverse_split}
-use Rattle.templates_q.proofs.Lines.{fulls_append, partials_append, fulls_cons, partials_cons, sum_reverse, count_full, count_partial}
-use Rattle.templates_q.proofs.Walks.{child_used, fewer_before, is_named, next_child, next_is}
+use Rattle.templates_q.proofs.Lines.{those_append, fulls_append, partials_append, fulls_cons, partials_cons, sum_reverse, count_full, count_partial}
+use Rattle.templates_q.proofs.Walks.{child_used, is_named, next_child}
 
 -- the labelled ones of two lists, and of a list that is turned
 pub labelled_append : (w : Marks) (xs ys : List ℕ) → labelled_in w (xs ++ ys) ≡ labelled_in w xs + labelled_in w ys
@@ -48,76 +49,28 @@ children_labelled f w q ks (inl e) = ap (λ z. labelled_in w z) e
 children_labelled f w q ks (inr e) = ap (λ z. labelled_in w z) e ∙ labelled_reverse w ks
 
 pub all_labelled : (w : Marks) (xs ys : List ℕ) → AreLabelled w xs → AreLabelled w ys → AreLabelled w (xs ++ ys)
-all_labelled w [] ys a b = b
-all_labelled w (x ∷ xs) ys a b = (a.0, all_labelled w xs ys a.1 b)
+all_labelled w xs ys a b = those_append (λ m. m ≢ Empty) w xs ys a b
 
 pub labelled_back : (w : Marks) (ks : List ℕ) → AreLabelled w ks → AreLabelled w (reverse ks)
 labelled_back w [] a = tt
 labelled_back w (x ∷ xs) a = subst (AreLabelled w) (sym (reverse_cons x xs)) (all_labelled w (reverse xs) (x ∷ []) (labelled_back w xs a.1) (a.0, tt))
 
--- which node a label gives
-pub labelled_known : (w : Marks) (o : Option NodeId) (x : NodeId) → labelled_one w o ≡ Some x → (o ≡ Some x) × (label_at w x.index ≢ Empty)
-labelled_known w None x e = absurd (cc)
-labelled_known w (Some y) x e = by (label_at w y.index) refl e
+-- where no labelled node comes next, an empty one does, or none
+pub begins_empty : (w : Marks) (vs : List ℕ) → EndsBefore (IsWanted Labelled) w vs → BeginsEmpty w vs
+begins_empty w [] e = tt
+begins_empty w (x ∷ vs) e = by (label_at w x) refl
   where
-    other : (l : Mark) → label_at w y.index ≡ l → l ≢ Empty → Some y ≡ Some x → label_at w x.index ≢ Empty
-    other l k ne e z = ne (sym k ∙ ap (λ z. label_at w z.index) (some_eq y x e) ∙ z)
-
-    by : (l : Mark) → label_at w y.index ≡ l → if_labelled l y ≡ Some x → (Some y ≡ Some x) × (label_at w x.index ≢ Empty)
-    by Empty k e = absurd (cc)
-    by Partial k e = (e, other Partial k (λ z. cc) e)
-    by Full k e = (e, other Full k (λ z. cc) e)
-
--- where no labelled node comes next
-pub stops_labelled : (f : Layout) (w : Marks) (q : ℕ) (us vs : List ℕ) (gap : ChildGap) → IsLayout f → IsChildGap f q us vs gap → labelled_one w gap.next ≡ None → BeginsEmpty w vs
-stops_labelled f w q us [] gap h g e = tt
-stops_labelled f w q us (x ∷ vs) gap h g e = by (label_at w x) refl i
-  where
-    i : labelled_one w (Some (let n : NodeId = record { index = x } in n)) ≡ None
-    i = ap (labelled_one w) (sym (g.next ∙ is_named f x h (child_used f q x h (next_child f q us vs x gap g)))) ∙ e
-
-    by : (l : Mark) → label_at w x ≡ l → if_labelled (label_at w x) (record { index = x }) ≡ None → label_at w x ≡ Empty
-    by Empty k e = k
-    by Partial k e = absurd (let j : if_labelled Partial (let n : NodeId = record { index = x } in n) ≡ None = ap (λ l. if_labelled l (let n : NodeId = record { index = x } in n)) (sym k) ∙ e in cc)
-    by Full k e = absurd (let j : if_labelled Full (let n : NodeId = record { index = x } in n) ≡ None = ap (λ l. if_labelled l (let n : NodeId = record { index = x } in n)) (sym k) ∙ e in cc)
+    by : (l : Mark) → label_at w x ≡ l → label_at w x ≡ Empty
+    by Empty k = k
+    by Partial k = absurd (e (λ z. let y : Partial ≡ Empty = sym k ∙ z in cc))
+    by Full k = absurd (e (λ z. let y : Full ≡ Empty = sym k ∙ z in cc))
 
 -- where an empty node comes next, or none, that is told so
-pub stopped_labelled : (f : Layout) (w : Marks) (q : ℕ) (us vs : List ℕ) (gap : ChildGap) → IsLayout f → IsChildGap f q us vs gap → BeginsEmpty w vs → labelled_one w gap.next ≡ None
-stopped_labelled f w q us [] gap h g e = ap (labelled_one w) g.next
+pub stopped_labelled : (f : Layout) (w : Marks) (q : ℕ) (us vs : List ℕ) (gap : ChildGap) → IsLayout f → IsChildGap f q us vs gap → BeginsEmpty w vs → wanted_one Labelled w gap.next ≡ None
+stopped_labelled f w q us [] gap h g e = ap (wanted_one Labelled w) g.next
 stopped_labelled f w q us (x ∷ vs) gap h g e =
-    ap (labelled_one w) (g.next ∙ is_named f x h (child_used f q x h (next_child f q us vs x gap g))) ∙ ap (λ l. if_labelled l (let n : NodeId = record { index = x } in n)) e
-
--- at the start nothing is passed
-pub none_passed : (f : Layout) (w : Marks) (q : ℕ) (us vs : List ℕ) (gap : ChildGap) → IsChildGap f q us vs gap → ArePassed f w q us vs (record { count = 0; gap = gap })
-none_passed f w q us vs gap g = record {
-  ks = [];
-  rest = vs;
-  is = refl;
-  labelled = tt;
-  count = refl;
-  gap = subst (λ z. IsChildGap f q z vs gap) (sym (append-nil us)) g;
-}
-
--- one child more is passed
-pub more_passed : (f : Layout) (w : Marks) (q : ℕ) (us vs : List ℕ) (n : ℕ) (gap gap' : ChildGap) (x : NodeId) → IsLayout f →
-    ArePassed f w q us vs (record { count = n; gap = gap }) → gap.next ≡ Some x → label_at w x.index ≢ Empty →
-    ((q : ℕ) (us vs : List ℕ) → IsFirst f q us x.index vs gap → IsChildGap f q (us ++ x.index ∷ []) vs gap') → ArePassed f w q us vs (record { count = n + 1; gap = gap' })
-more_passed f w q us vs n gap gap' x h p e k over =
-    let i = next_is f q (us ++ p.ks) p.rest gap x h p.gap e in
-    let c : length p.ks ≡ n = p.count in
-    record {
-      ks = p.ks ++ x.index ∷ [];
-      rest = i.rest;
-      is = p.is ∙ ap (λ z. p.ks ++ z) i.is ∙ sym (append_assoc p.ks (x.index ∷ []) i.rest);
-      labelled = all_labelled w p.ks (x.index ∷ []) p.labelled (k, tt);
-      count = omega (arith, length-append p.ks (x.index ∷ []));
-      gap = subst (λ z. IsChildGap f q z i.rest gap') (append_assoc us p.ks (x.index ∷ [])) (over q (us ++ p.ks) i.rest i.first);
-    }
-
--- fewer children are passed than there are nodes
-pub few_passed : (f : Layout) (w : Marks) (q : ℕ) (us vs : List ℕ) (n : ℕ) (gap : ChildGap) (x : NodeId) → IsLayout f →
-    ArePassed f w q us vs (record { count = n; gap = gap }) → gap.next ≡ Some x → n < length f.slots
-few_passed f w q us vs n gap x h p e = let c : length p.ks ≡ n = p.count in let few : length p.ks < length f.slots = fewer_before f q us p.ks p.rest gap x h p.gap e in omega arith
+    ap (wanted_one Labelled w) (g.next ∙ is_named f x h (child_used f q x h (next_child f q us vs x gap g)))
+    ∙ ap (λ l. cond (wants Labelled l) (Some (let n : NodeId = record { index = x } in n)) None) e
 
 -- the place at one side of the child x, as a walk away from x has it
 pub record IsAside (f : Layout) (q : ℕ) (x : NodeId) (gap : ChildGap) : Type 0 where
@@ -177,7 +130,7 @@ begins w [] x rest a n = n
 begins w (k ∷ ks) x rest a n = a.0
 
 -- a walk from x to one side over all labelled children, turned
-pub start_made : (f : Layout) (w : Marks) (q : ℕ) (x : NodeId) (us vs : List ℕ) (p : Passed) → label_at w x.index ≢ Empty → (r : ArePassed f w q (us ++ x.index ∷ []) vs p) → BeginsEmpty w r.rest →
+pub start_made : (f : Layout) (w : Marks) (q : ℕ) (x : NodeId) (us vs : List ℕ) (p : Passed) → label_at w x.index ≢ Empty → (r : IsPassed Labelled f w q (us ++ x.index ∷ []) vs p) → BeginsEmpty w r.rest →
     IsStart f w q (record { before = p.gap.next; next = p.gap.before })
 start_made f w q x us vs p n r stops = record {
   us = reverse r.rest;
@@ -185,26 +138,26 @@ start_made f w q x us vs p n r stops = record {
   place = turned_gap f q ((us ++ x.index ∷ []) ++ r.ks) r.rest p.gap r.gap;
   before = end_turned w r.rest stops;
   some = subst (BeginsLabelled w) (sym (reverse-append (us ++ x.index ∷ []) r.ks ∙ ap (λ z. reverse r.ks ++ z) (reverse-append us (x.index ∷ []))))
-      (begins w (reverse r.ks) x.index (reverse us) (labelled_back w r.ks r.labelled) n);
+      (begins w (reverse r.ks) x.index (reverse us) (labelled_back w r.ks r.marked) n);
 }
 
 -- how many were passed, x among them
-pub start_few : (f : Layout) (w : Marks) (q : ℕ) (x : NodeId) (us vs : List ℕ) (p : Passed) → label_at w x.index ≢ Empty → ArePassed f w q (us ++ x.index ∷ []) vs p →
+pub start_few : (f : Layout) (w : Marks) (q : ℕ) (x : NodeId) (us vs : List ℕ) (p : Passed) → label_at w x.index ≢ Empty → IsPassed Labelled f w q (us ++ x.index ∷ []) vs p →
     1 + p.count ≤ labelled_in w (children_at f q)
 start_few f w q x us vs p n r =
     let c : length r.ks ≡ p.count = r.count in
-    let k : labelled_in w r.ks ≡ length r.ks = count_labelled w r.ks r.labelled in
+    let k : labelled_in w r.ks ≡ length r.ks = count_labelled w r.ks r.marked in
     let o : labelled_in w (x.index ∷ []) ≡ 1 = count_labelled w (x.index ∷ []) (n, tt) in
     let e : labelled_in w (children_at f q) ≡ labelled_in w (((us ++ x.index ∷ []) ++ r.ks) ++ r.rest) = children_labelled f w q (((us ++ x.index ∷ []) ++ r.ks) ++ r.rest) r.gap.children in
     omega (arith, labelled_append w ((us ++ x.index ∷ []) ++ r.ks) r.rest, labelled_append w (us ++ x.index ∷ []) r.ks, labelled_append w us (x.index ∷ []))
 
 -- three walks after one another: over at most one partial child, over full ones, and over at most one partial one
 pub span_passed : (f : Layout) (w : Marks) (q : ℕ) (us vs : List ℕ) (s : PassedSpan) → IsChildGap f q us vs s.from →
-    ((q : ℕ) (us vs : List ℕ) → IsChildGap f q us vs s.from → IsPassed Partial f w q us vs s.first) →
+    ((q : ℕ) (us vs : List ℕ) → IsChildGap f q us vs s.from → IsPassed Partials f w q us vs s.first) →
     ((q : ℕ) (us vs : List ℕ) → s.first.count ≡ 0 → IsChildGap f q us vs s.first.gap → EndsWithout Partial w vs) → s.first.count ≤ 1 →
-    ((q : ℕ) (us vs : List ℕ) → IsChildGap f q us vs s.first.gap → IsPassed Full f w q us vs s.fulls) →
+    ((q : ℕ) (us vs : List ℕ) → IsChildGap f q us vs s.first.gap → IsPassed Fulls f w q us vs s.fulls) →
     ((q : ℕ) (us vs : List ℕ) → IsChildGap f q us vs s.fulls.gap → EndsWithout Full w vs) →
-    ((q : ℕ) (us vs : List ℕ) → IsChildGap f q us vs s.fulls.gap → IsPassed Partial f w q us vs s.last) →
+    ((q : ℕ) (us vs : List ℕ) → IsChildGap f q us vs s.fulls.gap → IsPassed Partials f w q us vs s.last) →
     ((q : ℕ) (us vs : List ℕ) → s.last.count ≡ 0 → IsChildGap f q us vs s.last.gap → EndsWithout Partial w vs) → s.last.count ≤ 1 → IsSpanPassed f w q us vs s
 span_passed f w q us vs s g over1 ends1 one over2 ends2 over3 ends3 one_more =
     let a = over1 q us vs g in

@@ -19,8 +19,10 @@ use Rattle.bubble_pass.specs.declared.labels.Label.TheVariants.{Empty, Partial, 
 use Rattle.bubble_pass.specs.Marks.{Marks, label_at, size_of}
 use Rattle.templates_q.specs.declared.walk.ChildGap.{ChildGap}
 use Rattle.templates_q.specs.declared.walk.Passed.{Passed}
-use Rattle.templates_q.specs.Walk.{AreChildren, AreAll, IsChildGap, IsFirst, IsPassed, EndsWithout, IsInRoom, if_full, if_partial, node_if_full, node_if_partial}
-use Rattle.templates_q.proofs.Lines.{all_append}
+use Rattle.templates_q.specs.declared.walk.Wanted.{Wanted}
+use Rattle.templates_q.specs.declared.walk.Wanted.TheVariants.{Fulls, Partials, Labelled}
+use Rattle.templates_q.specs.Walk.{AreChildren, AreAll, IsChildGap, IsFirst, IsPassed, IsWanted, EndsBefore, EndsWithout, IsInRoom, wants, wanted_one}
+use Rattle.templates_q.proofs.Lines.{those_append}
 use Rattle.templates_q.proofs.Lists.{occurs_reverse, head_reverse, reverse_split}
 
 -- how often a node is one of the children, in whichever order they are read
@@ -141,43 +143,53 @@ step_past f q us vs x from view next h u sh g back on = record {
       (between f q us vs x.index view g.is_q g.children sh).sides back on (same_node (slice_index_or view.near 0 None) from.before);
 }
 
--- which node a label gives
-pub full_known : (w : Marks) (o : Option NodeId) (x : NodeId) → node_if_full w o ≡ Some x → (o ≡ Some x) × (label_at w x.index ≡ Full)
-full_known w None x e = absurd (cc)
-full_known w (Some y) x e = by (label_at w y.index) refl e
+-- what it means that a label is wanted
+wanted_is : (t : Wanted) (m : Mark) → wants t m ≡ true → IsWanted t m
+wanted_is Fulls Empty e = absurd (cc)
+wanted_is Fulls Partial e = absurd (cc)
+wanted_is Fulls Full e = refl
+wanted_is Partials Empty e = absurd (cc)
+wanted_is Partials Partial e = refl
+wanted_is Partials Full e = absurd (cc)
+wanted_is Labelled Empty e = absurd (cc)
+wanted_is Labelled Partial e = λ z. cc
+wanted_is Labelled Full e = λ z. cc
+
+unwanted : (t : Wanted) (m : Mark) → wants t m ≡ false → IsWanted t m → ⊥
+unwanted Fulls Empty e k = cc
+unwanted Fulls Partial e k = cc
+unwanted Fulls Full e k = absurd (cc)
+unwanted Partials Empty e k = cc
+unwanted Partials Partial e k = absurd (cc)
+unwanted Partials Full e k = cc
+unwanted Labelled Empty e k = k refl
+unwanted Labelled Partial e k = absurd (cc)
+unwanted Labelled Full e k = absurd (cc)
+
+-- which node is given
+pub wanted_known : (t : Wanted) (w : Marks) (o : Option NodeId) (x : NodeId) → wanted_one t w o ≡ Some x → (o ≡ Some x) × IsWanted t (label_at w x.index)
+wanted_known t w None x e = absurd (cc)
+wanted_known t w (Some y) x e = by (wants t (label_at w y.index)) refl e
   where
-    by : (l : Mark) → label_at w y.index ≡ l → if_full l y ≡ Some x → (Some y ≡ Some x) × (label_at w x.index ≡ Full)
-    by Empty k e = absurd (cc)
-    by Partial k e = absurd (cc)
-    by Full k e = (e, ap (λ z. label_at w z.index) (sym (some_eq y x e)) ∙ k)
+    by : (b : Bool) → wants t (label_at w y.index) ≡ b → cond b (Some y) None ≡ Some x → (Some y ≡ Some x) × IsWanted t (label_at w x.index)
+    by true k e = (e, subst (λ z. IsWanted t (label_at w z.index)) (some_eq y x e) (wanted_is t (label_at w y.index) k))
+    by false k e = absurd (cc)
 
-pub partial_known : (w : Marks) (o : Option NodeId) (x : NodeId) → node_if_partial w o ≡ Some x → (o ≡ Some x) × (label_at w x.index ≡ Partial)
-partial_known w None x e = absurd (cc)
-partial_known w (Some y) x e = by (label_at w y.index) refl e
+-- where no wanted node comes next
+pub stops_wanted : (t : Wanted) (f : Layout) (w : Marks) (q : ℕ) (us vs : List ℕ) (gap : ChildGap) → IsLayout f → IsChildGap f q us vs gap → wanted_one t w gap.next ≡ None → EndsBefore (IsWanted t) w vs
+stops_wanted t f w q us [] gap h g e = tt
+stops_wanted t f w q us (x ∷ vs) gap h g e =
+    let u : IsInUse f x = child_used f q x h (next_child f q us vs x gap g) in
+    let i : wanted_one t w (Some (let n : NodeId = record { index = x } in n)) ≡ None = ap (wanted_one t w) (sym (g.next ∙ is_named f x h u)) ∙ e in
+    unwanted t (label_at w x) (by (wants t (label_at w x)) i)
   where
-    by : (l : Mark) → label_at w y.index ≡ l → if_partial l y ≡ Some x → (Some y ≡ Some x) × (label_at w x.index ≡ Partial)
-    by Empty k e = absurd (cc)
-    by Partial k e = (e, ap (λ z. label_at w z.index) (sym (some_eq y x e)) ∙ k)
-    by Full k e = absurd (cc)
-
--- where no full, or no partial, node comes next
-pub stops_full : (f : Layout) (w : Marks) (q : ℕ) (us vs : List ℕ) (gap : ChildGap) → IsLayout f → IsChildGap f q us vs gap → node_if_full w gap.next ≡ None → EndsWithout Full w vs
-stops_full f w q us [] gap h g e = tt
-stops_full f w q us (x ∷ vs) gap h g e = λ k.
-    let u : IsInUse f x = child_used f q x h (next_child f q us vs x gap g) in
-    let i : node_if_full w (Some (let n : NodeId = record { index = x } in n)) ≡ None = ap (node_if_full w) (sym (g.next ∙ is_named f x h u)) ∙ e in
-    let j : if_full Full (let n : NodeId = record { index = x } in n) ≡ None = ap (λ l. if_full l (let n : NodeId = record { index = x } in n)) (sym k) ∙ i in cc
-
-pub stops_partial : (f : Layout) (w : Marks) (q : ℕ) (us vs : List ℕ) (gap : ChildGap) → IsLayout f → IsChildGap f q us vs gap → node_if_partial w gap.next ≡ None → EndsWithout Partial w vs
-stops_partial f w q us [] gap h g e = tt
-stops_partial f w q us (x ∷ vs) gap h g e = λ k.
-    let u : IsInUse f x = child_used f q x h (next_child f q us vs x gap g) in
-    let i : node_if_partial w (Some (let n : NodeId = record { index = x } in n)) ≡ None = ap (node_if_partial w) (sym (g.next ∙ is_named f x h u)) ∙ e in
-    let j : if_partial Partial (let n : NodeId = record { index = x } in n) ≡ None = ap (λ l. if_partial l (let n : NodeId = record { index = x } in n)) (sym k) ∙ i in cc
+    by : (b : Bool) → cond b (Some (let n : NodeId = record { index = x } in n)) None ≡ None → b ≡ false
+    by true i = absurd (cc)
+    by false i = refl
 
 -- at the start nothing is passed
-pub passed_none : (l : Mark) (f : Layout) (w : Marks) (q : ℕ) (us vs : List ℕ) (gap : ChildGap) → IsChildGap f q us vs gap → IsPassed l f w q us vs (record { count = 0; gap = gap })
-passed_none l f w q us vs gap g = record {
+pub passed_none : (t : Wanted) (f : Layout) (w : Marks) (q : ℕ) (us vs : List ℕ) (gap : ChildGap) → IsChildGap f q us vs gap → IsPassed t f w q us vs (record { count = 0; gap = gap })
+passed_none t f w q us vs gap g = record {
   ks = [];
   rest = vs;
   is = refl;
@@ -187,17 +199,17 @@ passed_none l f w q us vs gap g = record {
 }
 
 -- one child more is passed
-pub passed_more : (l : Mark) (f : Layout) (w : Marks) (q : ℕ) (us vs : List ℕ) (n : ℕ) (gap gap' : ChildGap) (x : NodeId) → IsLayout f →
-    IsPassed l f w q us vs (record { count = n; gap = gap }) → gap.next ≡ Some x → label_at w x.index ≡ l →
-    ((q : ℕ) (us vs : List ℕ) → IsFirst f q us x.index vs gap → IsChildGap f q (us ++ x.index ∷ []) vs gap') → IsPassed l f w q us vs (record { count = n + 1; gap = gap' })
-passed_more l f w q us vs n gap gap' x h p e k over =
+pub passed_more : (t : Wanted) (f : Layout) (w : Marks) (q : ℕ) (us vs : List ℕ) (n : ℕ) (gap gap' : ChildGap) (x : NodeId) → IsLayout f →
+    IsPassed t f w q us vs (record { count = n; gap = gap }) → gap.next ≡ Some x → IsWanted t (label_at w x.index) →
+    ((q : ℕ) (us vs : List ℕ) → IsFirst f q us x.index vs gap → IsChildGap f q (us ++ x.index ∷ []) vs gap') → IsPassed t f w q us vs (record { count = n + 1; gap = gap' })
+passed_more t f w q us vs n gap gap' x h p e k over =
     let i = next_is f q (us ++ p.ks) p.rest gap x h p.gap e in
     let c : length p.ks ≡ n = p.count in
     record {
       ks = p.ks ++ x.index ∷ [];
       rest = i.rest;
       is = p.is ∙ ap (λ z. p.ks ++ z) i.is ∙ sym (append_assoc p.ks (x.index ∷ []) i.rest);
-      marked = all_append l w p.ks (x.index ∷ []) p.marked (k, tt);
+      marked = those_append (IsWanted t) w p.ks (x.index ∷ []) p.marked (k, tt);
       count = omega (arith, length-append p.ks (x.index ∷ []));
       gap = subst (λ z. IsChildGap f q z i.rest gap') (append_assoc us p.ks (x.index ∷ [])) (over q (us ++ p.ks) i.rest i.first);
     }
@@ -216,9 +228,9 @@ fewer_before f q us ks rest gap x h g e =
     read (inr e) = ap length e ∙ length-reverse ((us ++ ks) ++ rest)
 
 -- fewer children are passed than there are nodes
-pub passed_few : (l : Mark) (f : Layout) (w : Marks) (q : ℕ) (us vs : List ℕ) (n : ℕ) (gap : ChildGap) (x : NodeId) → IsLayout f →
-    IsPassed l f w q us vs (record { count = n; gap = gap }) → gap.next ≡ Some x → n < length f.slots
-passed_few l f w q us vs n gap x h p e = let c : length p.ks ≡ n = p.count in let few : length p.ks < length f.slots = fewer_before f q us p.ks p.rest gap x h p.gap e in omega arith
+pub passed_few : (t : Wanted) (f : Layout) (w : Marks) (q : ℕ) (us vs : List ℕ) (n : ℕ) (gap : ChildGap) (x : NodeId) → IsLayout f →
+    IsPassed t f w q us vs (record { count = n; gap = gap }) → gap.next ≡ Some x → n < length f.slots
+passed_few t f w q us vs n gap x h p e = let c : length p.ks ≡ n = p.count in let few : length p.ks < length f.slots = fewer_before f q us p.ks p.rest gap x h p.gap e in omega arith
 
 -- the place in front of the first child of a Q-node, and the one in front of its last
 pub front_gap : (f : Layout) (n : ℕ) (view : NodeView) → ShowsNode f n view → view.shape ≡ Q → IsChildGap f n [] (children_at f n) (record { before = None; next = slice_index_or view.ends 0 None })
@@ -253,9 +265,9 @@ pub record PassedTwo (f : Layout) (w : Marks) (q : ℕ) (us vs : List ℕ) (a b 
   pub first : IsChildGap f q (us ++ fs) (ps ++ rest) a.gap
   pub second : IsChildGap f q ((us ++ fs) ++ ps) rest b.gap
 
-pub passed_two : (f : Layout) (w : Marks) (q : ℕ) (us vs : List ℕ) (a b : Passed) → IsPassed Full f w q us vs a →
+pub passed_two : (f : Layout) (w : Marks) (q : ℕ) (us vs : List ℕ) (a b : Passed) → IsPassed Fulls f w q us vs a →
     ((q : ℕ) (us vs : List ℕ) → IsChildGap f q us vs a.gap → EndsWithout Full w vs) →
-    ((q : ℕ) (us vs : List ℕ) → IsChildGap f q us vs a.gap → IsPassed Partial f w q us vs b) →
+    ((q : ℕ) (us vs : List ℕ) → IsChildGap f q us vs a.gap → IsPassed Partials f w q us vs b) →
     ((q : ℕ) (us vs : List ℕ) → b.count ≡ 0 → IsChildGap f q us vs b.gap → EndsWithout Partial w vs) → b.count ≤ 1 → PassedTwo f w q us vs a b
 passed_two f w q us vs a b p stops over ends one =
     let r = over q (us ++ p.ks) p.rest p.gap in

@@ -1,12 +1,10 @@
 -- Where Q3 stands: how the labels of the children of a Q-node stand in line, what its calls ask, and what they leave.
-use Rattle.std.specs.Prelude.{◌≡◌, ◌≢◌, ℕ, ◌+◌, ◌≤◌, Bool, true, List, [], ◌∷◌, ◌++◌, length, Option, Some, None, sum_by}
+use Rattle.std.specs.Prelude.{◌≡◌, ◌≢◌, ℕ, ◌+◌, ◌≤◌, Bool, true, List, [], ◌∷◌, ◌++◌, length, Some, sum_by}
 use Rattle.column_order.specs.Orders.{occurs}
 use Rattle.pq_tree.specs.Outline.{Outline}
 use Rattle.template_theory.specs.Templates.{Label, IsQ3}
 use Rattle.arena_model.specs.declared.Shape.TheVariants.{Leaf, Q}
 use Rattle.arena_model.specs.Layout.{Layout, shape_at, children_at, IsAtOrAbove}
-use Rattle.pq_arena.specs.declared.node.NodeId.{NodeId}
-use Rattle.bubble_pass.specs.declared.labels.Label.{Label as Mark}
 use Rattle.bubble_pass.specs.declared.labels.Label.TheVariants.{Empty, Partial, Full}
 use Rattle.bubble_pass.specs.Marks.{Marks, label_at, size_of}
 use Rattle.bubble_pass.specs.Pass.{IsRightAt}
@@ -14,7 +12,6 @@ use Rattle.bubble_pass.specs.Sweep.{IsRight, full_one, partial_one}
 use Rattle.template_model.specs.Standing.{child_trees, AreMarkedAs, AreShapesAt, IsReady, IsInMarkedRun, IsReadyInside}
 use Rattle.template_model.specs.Treated.{IsOutside, StandsForTree}
 use Rattle.templates_q.specs.declared.walk.ChildGap.{ChildGap}
-use Rattle.templates_q.specs.declared.walk.Passed.{Passed}
 use Rattle.templates_q.specs.declared.stretch.PassedSpan.{PassedSpan}
 use Rattle.templates_q.specs.Walk.{AreAll, EndsWithout, IsChildGap}
 use Rattle.templates_q.specs.Fits.{FitsQ3}
@@ -22,17 +19,6 @@ use Rattle.templates_q.specs.Fits.{FitsQ3}
 -- how many of these nodes have a label
 abbrev pub labelled_in : Marks → List ℕ → ℕ
 labelled_in w ks = sum_by (λ k. full_one (label_at w k)) ks + sum_by (λ k. partial_one (label_at w k)) ks
-
--- the node, where this label is not that of an empty one
-abbrev pub if_labelled : Mark → NodeId → Option NodeId
-if_labelled Empty x = None
-if_labelled Partial x = Some x
-if_labelled Full x = Some x
-
--- this node, if it has a label
-abbrev pub labelled_one : Marks → Option NodeId → Option NodeId
-labelled_one w None = None
-labelled_one w (Some x) = if_labelled (label_at w x.index) x
 
 -- the first of these nodes is empty, or there is none
 abbrev pub BeginsEmpty : Marks → List ℕ → Type 0
@@ -49,20 +35,6 @@ EndsEmpty w (x ∷ y ∷ ys) = EndsEmpty w (y ∷ ys)
 abbrev pub BeginsLabelled : Marks → List ℕ → Type 0
 BeginsLabelled w [] = ⊥
 BeginsLabelled w (x ∷ xs) = label_at w x ≢ Empty
-
--- each of these nodes has a label
-abbrev pub AreLabelled : Marks → List ℕ → Type 0
-AreLabelled w [] = Unit {0}
-AreLabelled w (x ∷ xs) = (label_at w x ≢ Empty) × AreLabelled w xs
-
--- from the place between us and vs the walk passed the first of vs, which all have labels
-pub record ArePassed (f : Layout) (w : Marks) (q : ℕ) (us vs : List ℕ) (p : Passed) : Type 0 where
-  pub ks : List ℕ
-  pub rest : List ℕ
-  pub is : vs ≡ ks ++ rest
-  pub labelled : AreLabelled w ks
-  pub count : length ks ≡ p.count
-  pub gap : IsChildGap f q (us ++ ks) rest p.gap
 
 -- x is a labelled child of the Q-node q
 pub record IsMarkedChild (f : Layout) (w : Marks) (q x : ℕ) : Type 0 where

@@ -1,11 +1,10 @@
 // Q1.
-ghost use Rattle.std.specs.Prelude.{◌≡◌, ℕ, ◌+◌, ◌*◌, ◌≤◌, ◌↔◌, IsTrue, List};
+ghost use Rattle.std.specs.Prelude.{◌≡◌, ◌+◌, ◌*◌, ◌≤◌};
 ghost use Rattle.bubble_pass.specs.Marks.{fulls_at, partials_at};
-ghost use Rattle.template_theory.specs.Templates.{Label};
-ghost use Rattle.template_model.specs.Standing.{IsReady, AreMarkedAs};
+ghost use Rattle.template_model.specs.Standing.{IsReady, Tells};
 ghost use Rattle.templates_q.specs.Fits.{FitsQ1};
 
-use crate::walk::{ChildGap, past_fulls};
+use crate::walk::{ChildGap, Wanted, pass};
 use bubble_pass::Work;
 use pq_arena::{Arena, NodeId, Shape};
 use step_count::{Ledger, Steps};
@@ -21,7 +20,7 @@ pub fn fits_q1<L: Ledger>(
     steps: &mut Steps<L>,
 ) -> bool
     requires { IsReady arena.now work.now node.index }
-    ensures fits { (ps : List Label) → AreMarkedAs arena.now work.now node.index ps → (IsTrue result ↔ FitsQ1 arena.now node.index ps) }
+    ensures fits { Tells arena.now work.now node.index (FitsQ1 arena.now node.index) result }
     ensures ticks { steps.new ≤ steps.old + 4 * (fulls_at work.now node.index + partials_at work.now node.index + 1) }
 {
     let _anywhere = root;
@@ -33,7 +32,10 @@ pub fn fits_q1<L: Ledger>(
                 before: None,
                 next: view.ends[0],
             };
-            past_fulls(arena, work, start, steps).gap.next.is_none()
+            pass(arena, work, Wanted::Fulls, start, steps)
+                .gap
+                .next
+                .is_none()
         }
         Shape::Leaf(_) | Shape::P => false,
     }

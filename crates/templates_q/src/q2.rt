@@ -1,10 +1,9 @@
 // Q2.
 ghost use Rattle.std.specs.Prelude.{◌≡◌, ℕ, ◌+◌, ◌*◌, ◌≤◌, ◌↔◌, IsTrue, List, [], length, None};
 ghost use Rattle.bubble_pass.specs.Marks.{fulls_at, partials_at, size_of};
-ghost use Rattle.arena_model.specs.Layout.{children_at};
-ghost use Rattle.template_theory.specs.Templates.{Partial, Label, IsQ2};
-ghost use Rattle.template_model.specs.Standing.{IsReady, AreMarkedAs, AreShapesAt, child_trees};
-ghost use Rattle.template_model.specs.Treated.{IsTreated, StandsForPartial};
+ghost use Rattle.template_theory.specs.Templates.{Label, IsQ2};
+ghost use Rattle.template_model.specs.Standing.{IsReady, AreMarkedAs, Tells, child_trees};
+ghost use Rattle.template_model.specs.Treated.{IsTreated, BecomesPartial};
 ghost use Rattle.templates_q.specs.Walk.{IsChildGap};
 ghost use Rattle.templates_q.specs.Lines.{AreCounted, IsRunFrom};
 ghost use Rattle.templates_q.specs.Fits.{FitsQ2, StandsQ2};
@@ -13,7 +12,7 @@ ghost use Rattle.pq_arena.specs.Looks.{ShowsNode};
 ghost use Rattle.arena_model.specs.declared.Shape.TheVariants.{Q};
 
 use crate::splice::splice_in;
-use crate::walk::{ChildGap, past_fulls, past_partial};
+use crate::walk::{ChildGap, Wanted, pass, past_partial};
 use bubble_pass::{Counts, Work};
 use pq_arena::{Arena, NodeId, NodeView, Shape};
 use step_count::{Ledger, Steps};
@@ -40,7 +39,7 @@ fn is_run_from<L: Ledger>(
     ensures ticks { steps.new ≤ steps.old + counts.full + counts.partial }
 {
     arena.layout_law();
-    let fulls = past_fulls(arena, work, from, steps);
+    let fulls = pass(arena, work, Wanted::Fulls, from, steps);
     let partial = past_partial(arena, work, fulls.gap, steps);
     match fulls.gap.next {
         Some(_) => are_counts(counts, fulls.count, partial.count),
@@ -59,7 +58,7 @@ pub fn has_q2<L: Ledger>(
     requires ready { IsReady arena.now work.now node.index }
     requires shown { ShowsNode arena.now node.index view.now }
     requires q { view.now.shape ≡ Q }
-    ensures fits { (ps : List Label) → AreMarkedAs arena.now work.now node.index ps → (IsTrue result ↔ FitsQ2 arena.now node.index ps) }
+    ensures fits { Tells arena.now work.now node.index (FitsQ2 arena.now node.index) result }
     ensures ticks { steps.new ≤ steps.old + 2 * (fulls_at work.now node.index + partials_at work.now node.index) }
 {
     arena.layout_law();
@@ -93,7 +92,7 @@ pub fn fits_q2<L: Ledger>(
     steps: &mut Steps<L>,
 ) -> bool
     requires { IsReady arena.now work.now node.index }
-    ensures fits { (ps : List Label) → AreMarkedAs arena.now work.now node.index ps → (IsTrue result ↔ FitsQ2 arena.now node.index ps) }
+    ensures fits { Tells arena.now work.now node.index (FitsQ2 arena.now node.index) result }
     ensures ticks { steps.new ≤ steps.old + 4 * (fulls_at work.now node.index + partials_at work.now node.index + 1) }
 {
     let _anywhere = root;
@@ -155,7 +154,7 @@ fn find_line<L: Ledger>(
     arena.layout_law();
     let view = arena.look(node, steps);
     let side = full_side(arena, work, node, &view, steps);
-    let place = past_fulls(arena, work, side, steps).gap;
+    let place = pass(arena, work, Wanted::Fulls, side, steps).gap;
     let Some(child) = place.next else {
         unreachable!()
     };
@@ -178,9 +177,7 @@ pub fn apply_q2<L: Ledger>(
     requires ready { IsReady arena.old work.old node.index }
     requires stands { StandsQ2 arena.old work.old node.index }
     ensures treated { IsTreated arena.old arena.new work.old work.new node.index result.index }
-    ensures becomes { (ps : List Label) (x : Partial) → AreMarkedAs arena.old work.old node.index ps →
-        AreShapesAt arena.old work.old (children_at arena.old node.index) ps →
-        IsQ2 (child_trees arena.old node.index) ps x → StandsForPartial arena.new work.new result.index x }
+    ensures becomes { BecomesPartial arena.old arena.new work.old work.new node.index result.index (IsQ2 (child_trees arena.old node.index)) }
     ensures ticks { steps.new ≤ steps.old + 64 * (fulls_at work.old node.index + partials_at work.old node.index + 1) }
 {
     arena.layout_law();

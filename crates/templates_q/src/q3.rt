@@ -1,13 +1,13 @@
 // Q3.
-ghost use Rattle.std.specs.Prelude.{◌≡◌, ℕ, ◌+◌, ◌*◌, ◌≤◌, ◌↔◌, IsTrue, List, ◌++◌, length, true};
+ghost use Rattle.std.specs.Prelude.{◌≡◌, ℕ, ◌+◌, ◌*◌, ◌≤◌, List, ◌++◌, length, true};
 ghost use Rattle.column_order.specs.Orders.{occurs};
 ghost use Rattle.arena_model.specs.Layout.{children_at};
 ghost use Rattle.arena_model.specs.NamedTree.{HasTwoEach, IsOneTree};
 ghost use Rattle.arena_model.specs.declared.Shape.TheVariants.{Q};
 ghost use Rattle.bubble_pass.specs.Marks.{fulls_at, partials_at, size_of};
 ghost use Rattle.pq_arena.specs.Looks.{ShowsNode};
-ghost use Rattle.template_theory.specs.Templates.{Label, Partial};
-ghost use Rattle.template_model.specs.Standing.{IsReady, IsReadyInside, IsInMarkedRun, IsShapeAt, AreMarkedAs};
+ghost use Rattle.template_theory.specs.Templates.{Partial};
+ghost use Rattle.template_model.specs.Standing.{IsReady, IsReadyInside, IsInMarkedRun, IsShapeAt, Tells};
 ghost use Rattle.template_model.specs.Treated.{IsTreated, IsReplacedAt};
 ghost use Rattle.templates_q.specs.Fits.{FitsQ3};
 ghost use Rattle.templates_q.specs.Opening.{AreOpened, AreShaped, CanOpen, CanOpenCounted, IsOpenedAt};
@@ -17,8 +17,8 @@ ghost use Rattle.templates_q.specs.Walk.{IsFirst, IsChildGap};
 
 use crate::q2::{are_counts, has_q2};
 use crate::splice::splice_in;
-use crate::stretch::{PassedSpan, labelled_at, stretch_around};
-use crate::walk::{ChildGap, past};
+use crate::stretch::{PassedSpan, stretch_around};
+use crate::walk::{ChildGap, Wanted, past, wanted_at};
 use bubble_pass::Work;
 use pq_arena::{Arena, NodeId, NodeView, Shape};
 use step_count::{Ledger, Steps};
@@ -34,7 +34,7 @@ fn has_q3<L: Ledger>(
     requires ready { IsReady arena.now work.now node.index }
     requires shown { ShowsNode arena.now node.index view.now }
     requires q { view.now.shape ≡ Q }
-    ensures fits { (ps : List Label) → AreMarkedAs arena.now work.now node.index ps → (IsTrue result ↔ FitsQ3 arena.now node.index true ps) }
+    ensures fits { Tells arena.now work.now node.index (FitsQ3 arena.now node.index true) result }
     ensures ticks { steps.new ≤ steps.old + 4 * (fulls_at work.now node.index + partials_at work.now node.index) }
 {
     arena.layout_law();
@@ -52,13 +52,12 @@ fn has_q3<L: Ledger>(
 // Whether Q3 fits at the Q-node that has `node` in its run.
 fn has_q3_around<L: Ledger>(arena: &Arena, work: &Work, node: NodeId, steps: &mut Steps<L>) -> bool
     requires { IsReadyInside arena.now work.now node.index }
-    ensures fits { (q : ℕ) → IsInMarkedRun arena.now work.now q node.index → (ps : List Label) → AreMarkedAs arena.now work.now q ps →
-        (IsTrue result ↔ FitsQ3 arena.now q true ps) }
+    ensures fits { (q : ℕ) → IsInMarkedRun arena.now work.now q node.index → Tells arena.now work.now q (FitsQ3 arena.now q true) result }
     ensures ticks { (q : ℕ) → IsInMarkedRun arena.now work.now q node.index → steps.new ≤ steps.old + 2 * labelled_in work.now (children_at arena.now q) }
 {
     arena.layout_law();
     let seen = stretch_around(arena, work, node, steps);
-    labelled_at(work, seen.last.gap.next).is_none()
+    wanted_at(work, Wanted::Labelled, seen.last.gap.next).is_none()
 }
 
 /// Whether Q3 fits at `node`: the pertinent root, a Q-node with empty children, at most one partial child, full
@@ -74,10 +73,8 @@ pub fn fits_q3<L: Ledger>(
     steps: &mut Steps<L>,
 ) -> bool
     requires { CanAskQ3 arena.now work.now node.index root }
-    ensures fits { (IsRunMeant work.now root → ⊥) → (ps : List Label) → AreMarkedAs arena.now work.now node.index ps →
-        (IsTrue result ↔ FitsQ3 arena.now node.index root ps) }
-    ensures run { IsRunMeant work.now root → (q : ℕ) → IsInMarkedRun arena.now work.now q node.index → (ps : List Label) → AreMarkedAs arena.now work.now q ps →
-        (IsTrue result ↔ FitsQ3 arena.now q true ps) }
+    ensures fits { (IsRunMeant work.now root → ⊥) → Tells arena.now work.now node.index (FitsQ3 arena.now node.index root) result }
+    ensures run { IsRunMeant work.now root → (q : ℕ) → IsInMarkedRun arena.now work.now q node.index → Tells arena.now work.now q (FitsQ3 arena.now q true) result }
     ensures ticks { (IsRunMeant work.now root → ⊥) → steps.new ≤ steps.old + 4 * (fulls_at work.now node.index + partials_at work.now node.index + 1) }
     ensures run_ticks { IsRunMeant work.now root → (q : ℕ) → IsInMarkedRun arena.now work.now q node.index →
         steps.new ≤ steps.old + 4 * (labelled_in work.now (children_at arena.now q) + 1) }

@@ -7,7 +7,7 @@ ghost use Rattle.template_theory.specs.Templates.{Partial};
 ghost use Rattle.template_model.specs.Standing.{IsShapeAt};
 ghost use Rattle.templates_q.specs.Splicing.{IsLineIn, CanSpliceIn, IsSplicedIn};
 
-use crate::walk::full_at;
+use crate::walk::{Wanted, wanted_at};
 use bubble_pass::Work;
 use pq_arena::{Arena, NodeId};
 use step_count::{Ledger, Steps};
@@ -22,7 +22,7 @@ fn full_end<L: Ledger>(arena: &Arena, work: &Work, line: NodeId, steps: &mut Ste
 {
     arena.layout_law();
     let view = arena.look(line, steps);
-    match full_at(work, view.ends[0]) {
+    match wanted_at(work, Wanted::Fulls, view.ends[0]) {
         Some(_) => 0,
         None => 1,
     }

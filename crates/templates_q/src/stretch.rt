@@ -2,11 +2,11 @@
 ghost use Rattle.std.specs.Prelude.{◌≡◌, ℕ, ◌+◌, ◌*◌, ◌≤◌, List, length};
 ghost use Rattle.arena_model.specs.Layout.{children_at};
 ghost use Rattle.bubble_pass.specs.Marks.{size_of};
-ghost use Rattle.templates_q.specs.Walk.{IsChildGap, IsInRoom};
-ghost use Rattle.templates_q.specs.Span.{ArePassed, BeginsEmpty, IsMarkedChild, IsSpanPassed, IsStart, IsStretch, labelled_in, labelled_one};
+ghost use Rattle.templates_q.specs.Walk.{IsChildGap};
+ghost use Rattle.templates_q.specs.Span.{IsMarkedChild, IsSpanPassed, IsStart, IsStretch, labelled_in};
 
-use crate::walk::{ChildGap, Passed, past, past_fulls, past_partial};
-use bubble_pass::{Label, Work};
+use crate::walk::{ChildGap, Passed, Wanted, pass, past_partial};
+use bubble_pass::Work;
 use pq_arena::{Arena, NodeId};
 use step_count::{Ledger, Steps};
 
@@ -18,43 +18,6 @@ pub struct PassedSpan {
     pub first: Passed,
     pub fulls: Passed,
     pub last: Passed,
-}
-
-// This node, if it has a label.
-pub fn labelled_at(work: &Work, n: Option<NodeId>) -> Option<NodeId>
-    requires { IsInRoom work.now n }
-    ensures { result ≡ labelled_one work.now n }
-{
-    match n {
-        Some(x) => match work.label(x) {
-            Label::Full | Label::Partial => Some(x),
-            Label::Empty => None,
-        },
-        None => None,
-    }
-}
-
-// Passes the labelled children that come next.
-fn past_labelled<L: Ledger>(
-    arena: &Arena,
-    work: &Work,
-    from: ChildGap,
-    steps: &mut Steps<L>,
-) -> Passed
-    requires room { size_of work.now ≡ length arena.now.slots }
-    requires place { (q : ℕ) × (us : List ℕ) × (vs : List ℕ) × IsChildGap arena.now q us vs from }
-    ensures passed { (q : ℕ) (us vs : List ℕ) → IsChildGap arena.now q us vs from → ArePassed arena.now work.now q us vs result }
-    ensures stops { (q : ℕ) (us vs : List ℕ) → IsChildGap arena.now q us vs result.gap → BeginsEmpty work.now vs }
-    ensures ticks { steps.new ≡ steps.old + result.count }
-{
-    arena.layout_law();
-    let mut gap = from;
-    let mut count = 0;
-    while let Some(x) = labelled_at(work, gap.next) {
-        gap = past(arena, gap, x, steps);
-        count += 1;
-    }
-    Passed { count, gap }
 }
 
 // The place in front of the labelled children around `x`, as a walk over them comes to it.
@@ -70,7 +33,7 @@ fn start_of<L: Ledger>(arena: &Arena, work: &Work, x: NodeId, steps: &mut Steps<
         before: Some(x),
         next: view.near[0],
     };
-    let end = past_labelled(arena, work, aside, steps).gap;
+    let end = pass(arena, work, Wanted::Labelled, aside, steps).gap;
     ChildGap {
         before: end.next,
         next: end.before,
@@ -91,7 +54,7 @@ fn past_span<L: Ledger>(
     ensures ticks { steps.new ≡ steps.old + result.first.count + result.fulls.count + result.last.count }
 {
     let first = past_partial(arena, work, from, steps);
-    let fulls = past_fulls(arena, work, first.gap, steps);
+    let fulls = pass(arena, work, Wanted::Fulls, first.gap, steps);
     let last = past_partial(arena, work, fulls.gap, steps);
     PassedSpan {
         from,

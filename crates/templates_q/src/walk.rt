@@ -2,8 +2,8 @@
 ghost use Rattle.std.specs.Prelude.{◌≡◌, ◌≢◌, ℕ, ◌+◌, ◌≤◌, ◌<◌, List, [], ◌∷◌, ◌++◌, length, slice_index_or, None};
 ghost use Rattle.arena_model.specs.Layout.{IsInUse};
 ghost use Rattle.bubble_pass.specs.Marks.{size_of};
-ghost use Rattle.bubble_pass.specs.declared.labels.Label.TheVariants.{Full, Partial};
-ghost use Rattle.templates_q.specs.Walk.{IsChildGap, IsPassed, IsFirst, node_if_full, node_if_partial, IsInRoom, EndsWithout};
+ghost use Rattle.bubble_pass.specs.declared.labels.Label.TheVariants.{Partial};
+ghost use Rattle.templates_q.specs.Walk.{IsChildGap, IsPassed, IsFirst, IsWanted, wants, wanted_one, IsInRoom, EndsBefore, EndsWithout};
 
 use bubble_pass::{Label, Work};
 use pq_arena::{Arena, NodeId, NodeView};
@@ -24,31 +24,34 @@ pub struct Passed {
     pub gap: ChildGap,
 }
 
-// This node, if it is full.
-pub fn full_at(work: &Work, n: Option<NodeId>) -> Option<NodeId>
-    requires { IsInRoom work.now n }
-    ensures { result ≡ node_if_full work.now n }
+// Which children a walk passes.
+#[derive(Clone, Copy)]
+pub enum Wanted {
+    Fulls,
+    Partials,
+    // Those that have a label.
+    Labelled,
+}
+
+// Whether a child with this label is wanted.
+fn is_wanted(wanted: Wanted, label: Label) -> bool
+    ensures { result ≡ wants wanted label }
 {
-    match n {
-        Some(x) => match work.label(x) {
-            Label::Full => Some(x),
-            Label::Empty | Label::Partial => None,
-        },
-        None => None,
+    match wanted {
+        Wanted::Fulls => matches!(label, Label::Full),
+        Wanted::Partials => matches!(label, Label::Partial),
+        Wanted::Labelled => matches!(label, Label::Full | Label::Partial),
     }
 }
 
-// This node, if it is partial.
-pub fn partial_at(work: &Work, n: Option<NodeId>) -> Option<NodeId>
+// This node, if it is wanted.
+pub fn wanted_at(work: &Work, wanted: Wanted, n: Option<NodeId>) -> Option<NodeId>
     requires { IsInRoom work.now n }
-    ensures { result ≡ node_if_partial work.now n }
+    ensures { result ≡ wanted_one wanted work.now n }
 {
     match n {
-        Some(x) => match work.label(x) {
-            Label::Partial => Some(x),
-            Label::Empty | Label::Full => None,
-        },
-        None => None,
+        Some(x) if is_wanted(wanted, work.label(x)) => Some(x),
+        _ => None,
     }
 }
 
@@ -78,23 +81,24 @@ pub fn past<L: Ledger>(arena: &Arena, from: ChildGap, x: NodeId, steps: &mut Ste
     }
 }
 
-// Passes the full children that come next.
-pub fn past_fulls<L: Ledger>(
+// Passes the children that come next, as far as they are wanted.
+pub fn pass<L: Ledger>(
     arena: &Arena,
     work: &Work,
+    wanted: Wanted,
     from: ChildGap,
     steps: &mut Steps<L>,
 ) -> Passed
     requires room { size_of work.now ≡ length arena.now.slots }
     requires place { (q : ℕ) × (us : List ℕ) × (vs : List ℕ) × IsChildGap arena.now q us vs from }
-    ensures passed { (q : ℕ) (us vs : List ℕ) → IsChildGap arena.now q us vs from → IsPassed Full arena.now work.now q us vs result }
-    ensures stops { (q : ℕ) (us vs : List ℕ) → IsChildGap arena.now q us vs result.gap → EndsWithout Full work.now vs }
+    ensures passed { (q : ℕ) (us vs : List ℕ) → IsChildGap arena.now q us vs from → IsPassed wanted arena.now work.now q us vs result }
+    ensures stops { (q : ℕ) (us vs : List ℕ) → IsChildGap arena.now q us vs result.gap → EndsBefore (IsWanted wanted) work.now vs }
     ensures ticks { steps.new ≡ steps.old + result.count }
 {
     arena.layout_law();
     let mut gap = from;
     let mut count = 0;
-    while let Some(x) = full_at(work, gap.next) {
+    while let Some(x) = wanted_at(work, wanted, gap.next) {
         gap = past(arena, gap, x, steps);
         count += 1;
     }
@@ -110,13 +114,13 @@ pub fn past_partial<L: Ledger>(
 ) -> Passed
     requires room { size_of work.now ≡ length arena.now.slots }
     requires place { (q : ℕ) × (us : List ℕ) × (vs : List ℕ) × IsChildGap arena.now q us vs from }
-    ensures passed { (q : ℕ) (us vs : List ℕ) → IsChildGap arena.now q us vs from → IsPassed Partial arena.now work.now q us vs result }
+    ensures passed { (q : ℕ) (us vs : List ℕ) → IsChildGap arena.now q us vs from → IsPassed Wanted.Partials arena.now work.now q us vs result }
     ensures stops { (q : ℕ) (us vs : List ℕ) → result.count ≡ 0 → IsChildGap arena.now q us vs result.gap → EndsWithout Partial work.now vs }
     ensures one { result.count ≤ 1 }
     ensures ticks { steps.new ≡ steps.old + result.count }
 {
     arena.layout_law();
-    match partial_at(work, from.next) {
+    match wanted_at(work, Wanted::Partials, from.next) {
         Some(x) => Passed {
             count: 1,
             gap: past(arena, from, x, steps),

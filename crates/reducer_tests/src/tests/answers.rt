@@ -1,6 +1,7 @@
 // Answers that are worked out by hand: whether there is an order, and the tree that the reducer is left with.
 ghost use Rattle.std.specs.Prelude.{◌≡◌, ◌<◌, ◌≤◌};
 
+use super::counted::{Check, run_counted};
 use super::marks::{matrix_of, text_of};
 use c1p_solve::{Answered, Solved, answer, solve};
 use incompat_graph::Cycle;
@@ -9,7 +10,7 @@ use row_reduce::ArenaReducer;
 use std::alloc::Global;
 use std::process::Abort;
 use std::test::Fail;
-use step_count::{Blank, Brand, Ledger, Steps};
+use step_count::{Ledger, Steps};
 use template_theory::Reducer;
 
 // The rows of a matrix, a digit for each column up to the last one, whether they have a valid order, and how the text of
@@ -109,24 +110,24 @@ fn assert_solved<L: Ledger>(
     Ok(())
 }
 
-fn assert_cases<L: Ledger, R: Abort>(rt: &R, alloc: Global, blank: Blank) -> Result<(), Fail>
-    requires name { blank.name ≡ L.name }
-    requires parts { blank.parts ≡ L.parts }
-    requires some { 0 < blank.parts }
-{
-    let mut steps = Steps::<L>::new(blank);
-    for case in &CASES {
-        assert!(rt; 1 <= case.columns && case.columns <= 60);
-        assert!(rt; case.rows.len() <= 32);
-        let m = matrix_of(alloc, case.columns, case.rows)?;
-        let answered = answer(alloc, &m, &mut steps)?;
-        assert_answered(rt, alloc, &m, case, &answered)?;
-        assert_solved(rt, alloc, &m, case, &mut steps)?;
+// Each case has the answer that is wanted.
+struct Answers;
+
+impl Check for Answers {
+    fn run<L: Ledger, R: Abort>(rt: &R, alloc: Global, steps: &mut Steps<L>) -> Result<(), Fail> {
+        for case in &CASES {
+            assert!(rt; 1 <= case.columns && case.columns <= 60);
+            assert!(rt; case.rows.len() <= 32);
+            let m = matrix_of(alloc, case.columns, case.rows)?;
+            let answered = answer(alloc, &m, steps)?;
+            assert_answered(rt, alloc, &m, case, &answered)?;
+            assert_solved(rt, alloc, &m, case, steps)?;
+        }
+        Ok(())
     }
-    Ok(())
 }
 
 #[test]
 fn answers_that_are_worked_out_by_hand(rt: HostRuntime) -> Result<(), Fail> {
-    assert_cases::<Brand, HostRuntime>(&rt, rt.alloc(), Blank::new(1))
+    run_counted::<Answers, HostRuntime>(&rt, rt.alloc())
 }

@@ -2,11 +2,12 @@
 ghost use Rattle.std.specs.Prelude.{◌≡◌, ◌<◌, ◌≤◌, length, IfOk};
 
 use super::both::begin;
+use super::counted::{Check, run_counted};
 use row_model::NoMemory;
 use std::alloc::Global;
 use std::process::Abort;
 use std::test::Fail;
-use step_count::{Blank, Brand, Ledger, Steps};
+use step_count::{Ledger, Steps};
 use template_theory::Step;
 
 const MATRICES: u32 = 2000;
@@ -127,33 +128,26 @@ fn agree_on_drawn<L: Ledger>(
     Ok(())
 }
 
-fn agree_on_all_drawn<L: Ledger, R: Abort>(
-    rt: &R,
-    alloc: Global,
-    seed: u64,
-    blank: Blank,
-) -> Result<Tally, Fail>
-    requires name { blank.name ≡ L.name }
-    requires parts { blank.parts ≡ L.parts }
-    requires some { 0 < blank.parts }
-{
-    let mut steps = Steps::<L>::new(blank);
-    let mut draws = Draws { state: seed };
-    let mut tally = Tally {
-        taken: 0,
-        refused: 0,
-    };
-    for _matrix in 0..MATRICES {
-        agree_on_drawn(rt, alloc, &mut draws, &mut tally, &mut steps)?;
+// Many rows are taken, and many are refused.
+struct Drawn;
+
+impl Check for Drawn {
+    fn run<L: Ledger, R: Abort>(rt: &R, alloc: Global, steps: &mut Steps<L>) -> Result<(), Fail> {
+        let mut draws = Draws { state: 7 };
+        let mut tally = Tally {
+            taken: 0,
+            refused: 0,
+        };
+        for _matrix in 0..MATRICES {
+            agree_on_drawn(rt, alloc, &mut draws, &mut tally, steps)?;
+        }
+        assert!(rt; tally.taken > 10_000, "{} rows", tally.taken);
+        assert!(rt; tally.refused > 2_000, "{} rows", tally.refused);
+        Ok(())
     }
-    Ok(tally)
 }
 
-// Many rows are taken, and many are refused.
 #[test]
 fn matrices_that_are_drawn(rt: HostRuntime) -> Result<(), Fail> {
-    let tally = agree_on_all_drawn::<Brand, HostRuntime>(&rt, rt.alloc(), 7, Blank::new(1))?;
-    assert!(rt; tally.taken > 10_000, "{} rows", tally.taken);
-    assert!(rt; tally.refused > 2_000, "{} rows", tally.refused);
-    Ok(())
+    run_counted::<Drawn, HostRuntime>(&rt, rt.alloc())
 }

@@ -3,6 +3,7 @@
 ghost use Rattle.std.specs.Prelude.{◌≡◌, ◌<◌, ◌≤◌};
 
 use super::answers::{assert_cycle, assert_walk};
+use super::counted::{Check, run_counted};
 use super::marks::matrix_by;
 use c1p_solve::{Solved, answer};
 use incompat_graph::odd_walk;
@@ -10,7 +11,7 @@ use row_model::{Matrix, NoMemory};
 use std::alloc::Global;
 use std::process::Abort;
 use std::test::Fail;
-use step_count::{Blank, Brand, Ledger, Steps};
+use step_count::{Ledger, Steps};
 
 // Both searches agree on the matrix.
 fn assert_alike<L: Ledger>(
@@ -51,60 +52,48 @@ fn assert_all_alike<L: Ledger>(
 }
 
 // Both searches agree on matrices of five to eight columns and six rows, which are drawn.
-fn assert_drawn_alike<L: Ledger, R: Abort>(
-    rt: &R,
-    alloc: Global,
-    blank: Blank,
-) -> Result<(), NoMemory>
-    requires name { blank.name ≡ L.name }
-    requires parts { blank.parts ≡ L.parts }
-    requires some { 0 < blank.parts }
-{
-    let mut steps = Steps::<L>::new(blank);
-    let mut state: u64 = 1;
-    for k in 0..2000u32 {
-        let first = state
-            .wrapping_mul(6364136223846793005)
-            .wrapping_add(1442695040888963407);
-        state = first
-            .wrapping_mul(6364136223846793005)
-            .wrapping_add(1442695040888963407);
-        let bits = first >> 15 & state >> 11 | first >> 23;
-        let m = matrix_by(alloc, 5 + k % 4, 6, bits)?;
-        assert_alike(rt, alloc, &m, &mut steps)?;
+struct Drawn;
+
+impl Check for Drawn {
+    fn run<L: Ledger, R: Abort>(rt: &R, alloc: Global, steps: &mut Steps<L>) -> Result<(), Fail> {
+        let mut state: u64 = 1;
+        for k in 0..2000u32 {
+            let first = state
+                .wrapping_mul(6364136223846793005)
+                .wrapping_add(1442695040888963407);
+            state = first
+                .wrapping_mul(6364136223846793005)
+                .wrapping_add(1442695040888963407);
+            let bits = first >> 15 & state >> 11 | first >> 23;
+            let m = matrix_by(alloc, 5 + k % 4, 6, bits)?;
+            assert_alike(rt, alloc, &m, steps)?;
+        }
+        Ok(())
     }
-    Ok(())
 }
 
 // Both searches agree on every matrix of at most four columns and four rows.
-fn assert_small_alike<L: Ledger, R: Abort>(
-    rt: &R,
-    alloc: Global,
-    blank: Blank,
-) -> Result<(), NoMemory>
-    requires name { blank.name ≡ L.name }
-    requires parts { blank.parts ≡ L.parts }
-    requires some { 0 < blank.parts }
-{
-    let mut steps = Steps::<L>::new(blank);
-    for columns in 1..5 {
-        for rows in 0..5 {
-            assert_all_alike(rt, alloc, columns, rows, &mut steps)?;
+struct Small;
+
+impl Check for Small {
+    fn run<L: Ledger, R: Abort>(rt: &R, alloc: Global, steps: &mut Steps<L>) -> Result<(), Fail> {
+        for columns in 1..5 {
+            for rows in 0..5 {
+                assert_all_alike(rt, alloc, columns, rows, steps)?;
+            }
         }
+        Ok(())
     }
-    Ok(())
 }
 
 #[test]
 fn both_searches_agree_on_every_matrix_of_at_most_four_by_four(
     rt: HostRuntime,
 ) -> Result<(), Fail> {
-    assert_small_alike::<Brand, HostRuntime>(&rt, rt.alloc(), Blank::new(1))?;
-    Ok(())
+    run_counted::<Small, HostRuntime>(&rt, rt.alloc())
 }
 
 #[test]
 fn both_searches_agree_on_random_matrices(rt: HostRuntime) -> Result<(), Fail> {
-    assert_drawn_alike::<Brand, HostRuntime>(&rt, rt.alloc(), Blank::new(1))?;
-    Ok(())
+    run_counted::<Drawn, HostRuntime>(&rt, rt.alloc())
 }

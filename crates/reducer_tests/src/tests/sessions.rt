@@ -2,13 +2,14 @@
 ghost use Rattle.std.specs.Prelude.{◌≡◌, ◌<◌, ◌≤◌};
 ghost use Rattle.row_model.specs.Rows.{IsRow};
 
+use super::counted::{Check, run_counted};
 use super::marks::{matrix_of, text_of};
 use c1p_solve::{Session, Started, Taken};
 use row_model::NoMemory;
 use std::alloc::Global;
 use std::process::Abort;
 use std::test::Fail;
-use step_count::{Blank, Brand, Ledger, Steps};
+use step_count::{Ledger, Steps};
 use template_theory::Reducer;
 
 // What becomes of a row.
@@ -63,27 +64,27 @@ fn assert_stands(rt: &impl Abort, alloc: Global, session: &Session) -> Result<()
     Ok(())
 }
 
-fn assert_sessions<L: Ledger, R: Abort>(rt: &R, alloc: Global, blank: Blank) -> Result<(), Fail>
-    requires name { blank.name ≡ L.name }
-    requires parts { blank.parts ≡ L.parts }
-    requires some { 0 < blank.parts }
-{
-    let mut steps = Steps::<L>::new(blank);
-    let triangle = matrix_of(alloc, 3, &["110", "011", "101"])?;
-    let started = Session::start(alloc, triangle, &mut steps)?;
-    assert!(rt; matches!(started, Started::No(_)));
-    let base = matrix_of(alloc, 3, &["110"])?;
-    match Session::start(alloc, base, &mut steps)? {
-        Started::No(_) => assert!(rt; false),
-        Started::Ok(mut session) => {
-            assert_goes_on(rt, &mut session, &mut steps)?;
-            assert_stands(rt, alloc, &session)?;
+// A base that is refused, and a session that goes on.
+struct Sessions;
+
+impl Check for Sessions {
+    fn run<L: Ledger, R: Abort>(rt: &R, alloc: Global, steps: &mut Steps<L>) -> Result<(), Fail> {
+        let triangle = matrix_of(alloc, 3, &["110", "011", "101"])?;
+        let started = Session::start(alloc, triangle, steps)?;
+        assert!(rt; matches!(started, Started::No(_)));
+        let base = matrix_of(alloc, 3, &["110"])?;
+        match Session::start(alloc, base, steps)? {
+            Started::No(_) => assert!(rt; false),
+            Started::Ok(mut session) => {
+                assert_goes_on(rt, &mut session, steps)?;
+                assert_stands(rt, alloc, &session)?;
+            }
         }
+        Ok(())
     }
-    Ok(())
 }
 
 #[test]
 fn a_session_goes_on_after_a_refusal(rt: HostRuntime) -> Result<(), Fail> {
-    assert_sessions::<Brand, HostRuntime>(&rt, rt.alloc(), Blank::new(1))
+    run_counted::<Sessions, HostRuntime>(&rt, rt.alloc())
 }

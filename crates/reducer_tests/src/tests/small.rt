@@ -2,11 +2,12 @@
 ghost use Rattle.std.specs.Prelude.{◌≡◌, ◌<◌, ◌≤◌};
 
 use super::both::begin;
+use super::counted::{Check, run_counted};
 use super::marks::mark_bits;
 use std::alloc::Global;
 use std::process::Abort;
 use std::test::Fail;
-use step_count::{Blank, Brand, Ledger, Steps};
+use step_count::{Ledger, Steps};
 
 // Gives the reducers rows in turn, each by the number that marks it.
 fn agree_on<L: Ledger>(
@@ -50,19 +51,18 @@ fn agree_on_lists<L: Ledger>(
 }
 
 // Each list of four rows over each number of columns up to 4.
-fn agree_on_all<L: Ledger, R: Abort>(rt: &R, alloc: Global, blank: Blank) -> Result<(), Fail>
-    requires name { blank.name ≡ L.name }
-    requires parts { blank.parts ≡ L.parts }
-    requires some { 0 < blank.parts }
-{
-    let mut steps = Steps::<L>::new(blank);
-    for columns in 1..5 {
-        agree_on_lists(rt, alloc, columns, &mut steps)?;
+struct Small;
+
+impl Check for Small {
+    fn run<L: Ledger, R: Abort>(rt: &R, alloc: Global, steps: &mut Steps<L>) -> Result<(), Fail> {
+        for columns in 1..5 {
+            agree_on_lists(rt, alloc, columns, steps)?;
+        }
+        Ok(())
     }
-    Ok(())
 }
 
 #[test]
 fn every_matrix_of_at_most_four_columns_and_four_rows(rt: HostRuntime) -> Result<(), Fail> {
-    agree_on_all::<Brand, HostRuntime>(&rt, rt.alloc(), Blank::new(1))
+    run_counted::<Small, HostRuntime>(&rt, rt.alloc())
 }

@@ -2,11 +2,12 @@
 ghost use Rattle.std.specs.Prelude.{◌≡◌, ◌<◌, ◌≤◌};
 
 use super::both::begin;
+use super::counted::{Check, run_counted};
 use super::marks::mark_ones;
 use std::alloc::Global;
 use std::process::Abort;
 use std::test::Fail;
-use step_count::{Blank, Brand, Ledger, Steps};
+use step_count::{Ledger, Steps};
 use template_theory::Step;
 
 // A row, a digit for each column, with what becomes of it and the tree after it.
@@ -152,19 +153,19 @@ fn agree_on_case<L: Ledger>(
     Ok(())
 }
 
-fn agree_on_cases<L: Ledger, R: Abort>(rt: &R, alloc: Global, blank: Blank) -> Result<(), Fail>
-    requires name { blank.name ≡ L.name }
-    requires parts { blank.parts ≡ L.parts }
-    requires some { 0 < blank.parts }
-{
-    let mut steps = Steps::<L>::new(blank);
-    for case in &CASES {
-        agree_on_case(rt, alloc, case, &mut steps)?;
+// Both reducers agree on each case.
+struct Worked;
+
+impl Check for Worked {
+    fn run<L: Ledger, R: Abort>(rt: &R, alloc: Global, steps: &mut Steps<L>) -> Result<(), Fail> {
+        for case in &CASES {
+            agree_on_case(rt, alloc, case, steps)?;
+        }
+        Ok(())
     }
-    Ok(())
 }
 
 #[test]
 fn rows_that_are_worked_out_by_hand(rt: HostRuntime) -> Result<(), Fail> {
-    agree_on_cases::<Brand, HostRuntime>(&rt, rt.alloc(), Blank::new(1))
+    run_counted::<Worked, HostRuntime>(&rt, rt.alloc())
 }

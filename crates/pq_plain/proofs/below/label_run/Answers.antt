@@ -7,17 +7,13 @@ use Rattle.pq_plain.proofs.below.label_run.Goals as goal
 
 pub returns-in-None-2 : goal.returns-in-None-2
 returns-in-None-2 c =
-    run_label_is _ _ _ _ (q_empty _ c.args.empty.items c.args.full.items
-    (no_halves c.in_ok-partials.partials.items _ (omega (arith, c.in-None-2.ensures.cases.0)) c.in_ok-partials.ensures)
-    (search rules)
-    (search rules))
+    let none = no_halves c.in_ok-partials.partials.items _ (omega (arith, c.in-None-2.ensures.cases.0)) c.in_ok-partials.ensures in
+    run_label_is _ _ _ _ (q_empty _ c.args.empty.items c.args.full.items none (search rules) (search rules))
 
 pub returns-in-None-3 : goal.returns-in-None-3
 returns-in-None-3 c =
-    run_label_is _ _ _ _ (q_plain _ c.args.empty.items c.args.full.items
-    (no_halves c.in_ok-partials.partials.items _ (omega (arith, c.in-None-3.ensures.cases.0)) c.in_ok-partials.ensures)
-    (search rules)
-    (search rules))
+    let none = no_halves c.in_ok-partials.partials.items _ (omega (arith, c.in-None-3.ensures.cases.0)) c.in_ok-partials.ensures in
+    run_label_is _ _ _ _ (q_plain _ c.args.empty.items c.args.full.items none (search rules) (search rules))
 
 pub returns-in_ok-halves-in-Some : goal.returns-in_ok-halves-in-Some
 returns-in_ok-halves-in-Some c =

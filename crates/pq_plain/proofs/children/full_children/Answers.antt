@@ -1,6 +1,6 @@
 use Rattle.std.proofs.Common.{ap, ◌∙◌}
 use Rattle.pq_plain.specs.Seen.{outlines}
-use Rattle.pq_plain.proofs.Picked.{full_taken, full_passed}
+use Rattle.pq_plain.proofs.Picked.{fulls, picked, passed}
 use Rattle.pq_plain.proofs.children.full_children.Goals as goal
 use Rattle.pq_plain.proofs.children.full_children.Goals.{in-Full+in_ok-copied+in_ok-push, in_default}
 
@@ -8,6 +8,6 @@ pub loop-i-preserved : goal.loop-i-preserved
 loop-i-preserved c =
     elim c.match-labels-i.branch [
       | in-Full+in_ok-copied+in_ok-push w ↦
-          full_taken _ _ _ _ _ _ _ _ c.loop-i-test.true c.requires w.index-children-i.is w.in-Full.is (ap (λ v. v.items) w.copies-is ∙ w.in_ok-push.ensures.items) w.in_ok-copied.ensures c.loop-i.invariant
-      | in_default w ↦ ap (λ v. outlines v.items) w.copies-is ∙ full_passed _ _ _ _ _ c.loop-i-test.true c.requires w.in_default.not-Full c.loop-i.invariant
+          picked fulls _ _ _ _ _ _ _ _ c.loop-i-test.true c.requires w.index-children-i.is w.in-Full.is (ap (λ v. v.items) w.copies-is ∙ w.in_ok-push.ensures.items) w.in_ok-copied.ensures c.loop-i.invariant
+      | in_default w ↦ ap (λ v. outlines v.items) w.copies-is ∙ passed fulls _ _ _ _ _ c.loop-i-test.true c.requires w.in_default.not-Full c.loop-i.invariant
     ]

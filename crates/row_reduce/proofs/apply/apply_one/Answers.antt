@@ -1,5 +1,6 @@
 use Rattle.std.proofs.Common.{ap}
-use Rattle.row_reduce.proofs.OneApplied.{same_treated, becomes_p2, becomes_p3, becomes_p4, becomes_p5, becomes_p6, becomes_q2}
+use Rattle.row_reduce.specs.declared.template.Template.TheVariants.{P2, P3, P4, P5, P6, Q2}
+use Rattle.row_reduce.proofs.OneApplied.{same_treated, by_name}
 use Rattle.row_reduce.proofs.apply.apply_one.Goals as goal
 
 pub returns-in-L1-clause-treated : goal.returns-in-L1-clause-treated
@@ -12,19 +13,19 @@ pub returns-in-Q1-clause-treated : goal.returns-in-Q1-clause-treated
 returns-in-Q1-clause-treated g c = same_treated _ _ _ _ _ _ c.layout_law.ensures c.requires.ready c.apply_q1.ensures.arena c.apply_q1.ensures.work (ap (λ x. x.index) c.apply_q1.ensures.node)
 
 pub returns-in-P2-clause-becomes : goal.returns-in-P2-clause-becomes
-returns-in-P2-clause-becomes g c = becomes_p2 _ _ _ _ _ _ c.args.template c.in-P2.is c.apply_p2.ensures.becomes
+returns-in-P2-clause-becomes g c = by_name _ _ _ _ _ _ P2 c.args.template c.in-P2.is (λ ps m s u p. c.apply_p2.ensures.becomes ps u m s p)
 
 pub returns-in-P3-clause-becomes : goal.returns-in-P3-clause-becomes
-returns-in-P3-clause-becomes g c = becomes_p3 _ _ _ _ _ _ c.args.template c.in-P3.is c.apply_p3.ensures.becomes
+returns-in-P3-clause-becomes g c = by_name _ _ _ _ _ _ P3 c.args.template c.in-P3.is (λ ps m s u p. c.apply_p3.ensures.becomes ps u m s p)
 
 pub returns-in-P4-clause-becomes : goal.returns-in-P4-clause-becomes
-returns-in-P4-clause-becomes g c = becomes_p4 _ _ _ _ _ _ c.args.template c.in-P4.is c.apply_p4.ensures.becomes
+returns-in-P4-clause-becomes g c = by_name _ _ _ _ _ _ P4 c.args.template c.in-P4.is (λ ps m s u p. c.apply_p4.ensures.becomes ps u m s p)
 
 pub returns-in-P5-clause-becomes : goal.returns-in-P5-clause-becomes
-returns-in-P5-clause-becomes g c = becomes_p5 _ _ _ _ _ _ c.args.template c.in-P5.is c.apply_p5.ensures.becomes
+returns-in-P5-clause-becomes g c = by_name _ _ _ _ _ _ P5 c.args.template c.in-P5.is (λ ps m s u p. c.apply_p5.ensures.becomes ps u m s p)
 
 pub returns-in-P6-clause-becomes : goal.returns-in-P6-clause-becomes
-returns-in-P6-clause-becomes g c = becomes_p6 _ _ _ _ _ _ c.args.template c.in-P6.is c.apply_p6.ensures.becomes
+returns-in-P6-clause-becomes g c = by_name _ _ _ _ _ _ P6 c.args.template c.in-P6.is (λ ps m s u p. c.apply_p6.ensures.becomes ps u m s p)
 
 pub returns-in-Q2-clause-becomes : goal.returns-in-Q2-clause-becomes
-returns-in-Q2-clause-becomes g c = becomes_q2 _ _ _ _ _ _ c.args.template c.in-Q2.is c.apply_q2.ensures.becomes
+returns-in-Q2-clause-becomes g c = by_name _ _ _ _ _ _ Q2 c.args.template c.in-Q2.is (λ ps m s u p. c.apply_q2.ensures.becomes ps u m s p)

@@ -9,55 +9,55 @@ use Rattle.row_reduce.proofs.RowDone.{row_over, marked_row, nodes_room, at_row, 
 use Rattle.row_reduce.proofs.rows.reduce_by_templates.Goals as goal
 
 pub reduce_root-requires-clause-found : goal.reduce_root-requires-clause-found
-reduce_root-requires-clause-found g c = (row_at c.args.m.now.rows c.args.k, root_found _ (marked_row (row_over c.layout_law.ensures c.requires.tree c.requires.columns c.requires.proper c.requires.row c.requires.tied c.row-row.ensures.row c.row-row.ensures.ascending) c.bubble.new.work c.arities_law.ensures c.requires.some (c.bubble.ensures.room ∙ c.requires.room)) c.bubble.ensures.arena _ c.in-Root.ensures.answer)
+reduce_root-requires-clause-found g c = (row_at c.args.m.now.rows c.args.k, root_found _ (marked_row (row_over c.layout_law.ensures c.requires.tree c.row-row.ensures.row c.row-row.ensures.ascending) c.bubble.new.work c.arities_law.ensures c.requires.some (c.bubble.ensures.room ∙ c.requires.room)) c.bubble.ensures.arena _ c.in-Root.ensures.answer)
 
 pub reduce_root-requires-clause-chosen : goal.reduce_root-requires-clause-chosen
 reduce_root-requires-clause-chosen g c =
-    let found = at_found_root (marked_row (row_over c.layout_law.ensures c.requires.tree c.requires.columns c.requires.proper c.requires.row c.requires.tied c.row-row.ensures.row c.row-row.ensures.ascending) c.bubble.new.work c.arities_law.ensures c.requires.some (c.bubble.ensures.room ∙ c.requires.room)) _ c.in-Root.ensures.answer in
+    let found = at_found_root (marked_row (row_over c.layout_law.ensures c.requires.tree c.row-row.ensures.row c.row-row.ensures.ascending) c.bubble.new.work c.arities_law.ensures c.requires.some (c.bubble.ensures.room ∙ c.requires.room)) _ c.in-Root.ensures.answer in
     let few = nodes_room found.ground in
     omega (arith, few, c.requires.chosen)
 
 pub reduce_inside-requires-clause-found : goal.reduce_inside-requires-clause-found
-reduce_inside-requires-clause-found g c = (row_at c.args.m.now.rows c.args.k, inside_found _ (marked_row (row_over c.layout_law.ensures c.requires.tree c.requires.columns c.requires.proper c.requires.row c.requires.tied c.row-row.ensures.row c.row-row.ensures.ascending) c.bubble.new.work c.arities_law.ensures c.requires.some (c.bubble.ensures.room ∙ c.requires.room)) c.bubble.ensures.arena c.in-Inside.ensures.answer)
+reduce_inside-requires-clause-found g c = (row_at c.args.m.now.rows c.args.k, inside_found _ (marked_row (row_over c.layout_law.ensures c.requires.tree c.row-row.ensures.row c.row-row.ensures.ascending) c.bubble.new.work c.arities_law.ensures c.requires.some (c.bubble.ensures.room ∙ c.requires.room)) c.bubble.ensures.arena c.in-Inside.ensures.answer)
 
 pub reduce_inside-requires-clause-chosen : goal.reduce_inside-requires-clause-chosen
 reduce_inside-requires-clause-chosen g c =
-    let found = at_found_inside (marked_row (row_over c.layout_law.ensures c.requires.tree c.requires.columns c.requires.proper c.requires.row c.requires.tied c.row-row.ensures.row c.row-row.ensures.ascending) c.bubble.new.work c.arities_law.ensures c.requires.some (c.bubble.ensures.room ∙ c.requires.room)) c.in-Inside.ensures.answer in
+    let found = at_found_inside (marked_row (row_over c.layout_law.ensures c.requires.tree c.row-row.ensures.row c.row-row.ensures.ascending) c.bubble.new.work c.arities_law.ensures c.requires.some (c.bubble.ensures.room ∙ c.requires.room)) c.in-Inside.ensures.answer in
     let few = nodes_room found.ground in
     omega (arith, few, c.requires.chosen)
 
 pub returns-in-Root-clause-outcome : goal.returns-in-Root-clause-outcome
 returns-in-Root-clause-outcome g c =
     let row = row_at c.args.m.now.rows c.args.k in
-    row_outcome c.args.arena.now c.reduce_root.new.arena c.reduce_root.result c.reduce_law.ensures.kept c.reduce_law.ensures.refused (at_row (row_over c.layout_law.ensures c.requires.tree c.requires.columns c.requires.proper c.requires.row c.requires.tied c.row-row.ensures.row c.row-row.ensures.ascending))
+    row_outcome c.args.arena.now c.reduce_root.new.arena c.reduce_root.result c.reduce_law.ensures.kept c.reduce_law.ensures.refused (at_row (row_over c.layout_law.ensures c.requires.tree c.row-row.ensures.row c.row-row.ensures.ascending))
     (subst (λ (z : Layout). IsOutcome row z c.reduce_root.new.arena c.reduce_root.result) c.bubble.ensures.arena
-    (c.reduce_root.ensures.outcome row (root_found _ (marked_row (row_over c.layout_law.ensures c.requires.tree c.requires.columns c.requires.proper c.requires.row c.requires.tied c.row-row.ensures.row c.row-row.ensures.ascending) c.bubble.new.work c.arities_law.ensures c.requires.some (c.bubble.ensures.room ∙ c.requires.room)) c.bubble.ensures.arena _ c.in-Root.ensures.answer)))
+    (c.reduce_root.ensures.outcome row (root_found _ (marked_row (row_over c.layout_law.ensures c.requires.tree c.row-row.ensures.row c.row-row.ensures.ascending) c.bubble.new.work c.arities_law.ensures c.requires.some (c.bubble.ensures.room ∙ c.requires.room)) c.bubble.ensures.arena _ c.in-Root.ensures.answer)))
 
 pub returns-in-Root-clause-ticks : goal.returns-in-Root-clause-ticks
 returns-in-Root-clause-ticks g c =
-    root_total _ (at_found_root (marked_row (row_over c.layout_law.ensures c.requires.tree c.requires.columns c.requires.proper c.requires.row c.requires.tied c.row-row.ensures.row c.row-row.ensures.ascending) c.bubble.new.work c.arities_law.ensures c.requires.some (c.bubble.ensures.room ∙ c.requires.room)) _ c.in-Root.ensures.answer) (met_most c.met_law.ensures (row_over c.layout_law.ensures c.requires.tree c.requires.columns c.requires.proper c.requires.row c.requires.tied c.row-row.ensures.row c.row-row.ensures.ascending)) _ _ _ c.bubble.ensures.steps c.reduce_root.ensures.ticks
+    root_total _ (at_found_root (marked_row (row_over c.layout_law.ensures c.requires.tree c.row-row.ensures.row c.row-row.ensures.ascending) c.bubble.new.work c.arities_law.ensures c.requires.some (c.bubble.ensures.room ∙ c.requires.room)) _ c.in-Root.ensures.answer) (met_most c.met_law.ensures (row_over c.layout_law.ensures c.requires.tree c.row-row.ensures.row c.row-row.ensures.ascending)) _ _ _ c.bubble.ensures.steps c.reduce_root.ensures.ticks
 
 pub returns-in-Inside-clause-outcome : goal.returns-in-Inside-clause-outcome
 returns-in-Inside-clause-outcome g c =
     let row = row_at c.args.m.now.rows c.args.k in
-    row_outcome c.args.arena.now c.reduce_inside.new.arena c.reduce_inside.result c.reduce_law.ensures.kept c.reduce_law.ensures.refused (at_row (row_over c.layout_law.ensures c.requires.tree c.requires.columns c.requires.proper c.requires.row c.requires.tied c.row-row.ensures.row c.row-row.ensures.ascending))
+    row_outcome c.args.arena.now c.reduce_inside.new.arena c.reduce_inside.result c.reduce_law.ensures.kept c.reduce_law.ensures.refused (at_row (row_over c.layout_law.ensures c.requires.tree c.row-row.ensures.row c.row-row.ensures.ascending))
     (subst (λ (z : Layout). IsOutcome row z c.reduce_inside.new.arena c.reduce_inside.result) c.bubble.ensures.arena
-    (c.reduce_inside.ensures.outcome row (inside_found _ (marked_row (row_over c.layout_law.ensures c.requires.tree c.requires.columns c.requires.proper c.requires.row c.requires.tied c.row-row.ensures.row c.row-row.ensures.ascending) c.bubble.new.work c.arities_law.ensures c.requires.some (c.bubble.ensures.room ∙ c.requires.room)) c.bubble.ensures.arena c.in-Inside.ensures.answer)))
+    (c.reduce_inside.ensures.outcome row (inside_found _ (marked_row (row_over c.layout_law.ensures c.requires.tree c.row-row.ensures.row c.row-row.ensures.ascending) c.bubble.new.work c.arities_law.ensures c.requires.some (c.bubble.ensures.room ∙ c.requires.room)) c.bubble.ensures.arena c.in-Inside.ensures.answer)))
 
 pub returns-in-Inside-clause-ticks : goal.returns-in-Inside-clause-ticks
 returns-in-Inside-clause-ticks g c =
-    inside_total _ (at_found_inside (marked_row (row_over c.layout_law.ensures c.requires.tree c.requires.columns c.requires.proper c.requires.row c.requires.tied c.row-row.ensures.row c.row-row.ensures.ascending) c.bubble.new.work c.arities_law.ensures c.requires.some (c.bubble.ensures.room ∙ c.requires.room)) c.in-Inside.ensures.answer) (met_most c.met_law.ensures (row_over c.layout_law.ensures c.requires.tree c.requires.columns c.requires.proper c.requires.row c.requires.tied c.row-row.ensures.row c.row-row.ensures.ascending)) _ _ _ c.bubble.ensures.steps
+    inside_total _ (at_found_inside (marked_row (row_over c.layout_law.ensures c.requires.tree c.row-row.ensures.row c.row-row.ensures.ascending) c.bubble.new.work c.arities_law.ensures c.requires.some (c.bubble.ensures.room ∙ c.requires.room)) c.in-Inside.ensures.answer) (met_most c.met_law.ensures (row_over c.layout_law.ensures c.requires.tree c.row-row.ensures.row c.row-row.ensures.ascending)) _ _ _ c.bubble.ensures.steps
     (let t = c.reduce_inside.ensures.ticks in omega (arith, t))
 
 pub returns-in-Split-clause-outcome : goal.returns-in-Split-clause-outcome
-returns-in-Split-clause-outcome g c = row_outcome c.args.arena.now c.bubble.new.arena Refused c.reduce_law.ensures.kept c.reduce_law.ensures.refused (at_row (row_over c.layout_law.ensures c.requires.tree c.requires.columns c.requires.proper c.requires.row c.requires.tied c.row-row.ensures.row c.row-row.ensures.ascending))
-    (split_refused c.reduce_law.ensures.kept c.reduce_law.ensures.decided (at_row (row_over c.layout_law.ensures c.requires.tree c.requires.columns c.requires.proper c.requires.row c.requires.tied c.row-row.ensures.row c.row-row.ensures.ascending)) (c.in-Split.ensures.split refl), c.bubble.ensures.arena)
+returns-in-Split-clause-outcome g c = row_outcome c.args.arena.now c.bubble.new.arena Refused c.reduce_law.ensures.kept c.reduce_law.ensures.refused (at_row (row_over c.layout_law.ensures c.requires.tree c.row-row.ensures.row c.row-row.ensures.ascending))
+    (split_refused c.reduce_law.ensures.kept c.reduce_law.ensures.decided (at_row (row_over c.layout_law.ensures c.requires.tree c.row-row.ensures.row c.row-row.ensures.ascending)) (c.in-Split.ensures.split refl), c.bubble.ensures.arena)
 
 pub returns-in-Root-clause-below : goal.returns-in-Root-clause-below
 returns-in-Root-clause-below g c = λ e.
-    root_below c.met_law.ensures (row_over c.layout_law.ensures c.requires.tree c.requires.columns c.requires.proper c.requires.row c.requires.tied c.row-row.ensures.row c.row-row.ensures.ascending) (at_found_root (marked_row (row_over c.layout_law.ensures c.requires.tree c.requires.columns c.requires.proper c.requires.row c.requires.tied c.row-row.ensures.row c.row-row.ensures.ascending) c.bubble.new.work c.arities_law.ensures c.requires.some (c.bubble.ensures.room ∙ c.requires.room)) _ c.in-Root.ensures.answer) _ _ _ (c.in-Root.ensures.root_steps tt) c.reduce_root.ensures.ticks
+    root_below c.met_law.ensures (row_over c.layout_law.ensures c.requires.tree c.row-row.ensures.row c.row-row.ensures.ascending) (at_found_root (marked_row (row_over c.layout_law.ensures c.requires.tree c.row-row.ensures.row c.row-row.ensures.ascending) c.bubble.new.work c.arities_law.ensures c.requires.some (c.bubble.ensures.room ∙ c.requires.room)) _ c.in-Root.ensures.answer) _ _ _ (c.in-Root.ensures.root_steps tt) c.reduce_root.ensures.ticks
 
 pub returns-in-Inside-clause-below : goal.returns-in-Inside-clause-below
 returns-in-Inside-clause-below g c = λ e.
-    inside_below c.met_law.ensures (row_over c.layout_law.ensures c.requires.tree c.requires.columns c.requires.proper c.requires.row c.requires.tied c.row-row.ensures.row c.row-row.ensures.ascending) (at_found_inside (marked_row (row_over c.layout_law.ensures c.requires.tree c.requires.columns c.requires.proper c.requires.row c.requires.tied c.row-row.ensures.row c.row-row.ensures.ascending) c.bubble.new.work c.arities_law.ensures c.requires.some (c.bubble.ensures.room ∙ c.requires.room)) c.in-Inside.ensures.answer) _ _ _ (c.in-Inside.ensures.root_steps tt)
+    inside_below c.met_law.ensures (row_over c.layout_law.ensures c.requires.tree c.row-row.ensures.row c.row-row.ensures.ascending) (at_found_inside (marked_row (row_over c.layout_law.ensures c.requires.tree c.row-row.ensures.row c.row-row.ensures.ascending) c.bubble.new.work c.arities_law.ensures c.requires.some (c.bubble.ensures.room ∙ c.requires.room)) c.in-Inside.ensures.answer) _ _ _ (c.in-Inside.ensures.root_steps tt)
     (let t = c.reduce_inside.ensures.ticks in omega (arith, t))

@@ -1,6 +1,5 @@
 use Rattle.template_theory.proofs.WeightReduced.{reduced_law, met_law}
-use Rattle.template_theory.proofs.WeightTurned.{equivalent_weight}
-use Rattle.template_theory.proofs.WeightStart.{universal_weight}
+use Rattle.template_theory.proofs.Weights.{equivalent_weight, universal_weight}
 use Rattle.template_theory.proofs.weight.weight_law.Goals as goal
 
 pub returns : goal.returns

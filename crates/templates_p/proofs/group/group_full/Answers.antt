@@ -1,15 +1,13 @@
 use Rattle.std.proofs.Common.{◌-◌, ◌≤◌, ℕ, [], length, sym, subst, arith}
 use Rattle.arena_model.specs.declared.Shape.TheVariants.{P}
-use Rattle.arena_model.specs.Layout.{Layout, StandsAlone, IsLayout, taken}
+use Rattle.arena_model.specs.Layout.{Layout, StandsAlone, taken}
 use Rattle.pq_arena.specs.RowNodes.{indices}
-use Rattle.bubble_pass.specs.Marks.{Marks}
-use Rattle.template_model.specs.Treated.{IsTreated}
 use Rattle.template_model.proofs.Spare.{five_spare}
 use Rattle.templates_p.specs.Sorts.{full_nodes}
-use Rattle.templates_p.specs.Steps.{Moved, HasGroup}
+use Rattle.templates_p.specs.Steps.{Moved}
 use Rattle.templates_p.proofs.Moving.{moved_none, can_move}
 use Rattle.templates_p.proofs.Chaining.{chain_few, in_room}
-use Rattle.templates_p.proofs.Grouping.{gather_start, gather_next, gather_on, gathering_some, passed_one, gather_end, ready_to_group, grouped, can_group, group_treated, group_made}
+use Rattle.templates_p.proofs.Grouping.{gather_start, gather_next, gather_on, gathering_some, passed_one, gather_end, ready_to_group, can_group, group_done}
 use Rattle.templates_p.proofs.group.group_full.Goals as goal
 
 pub overflow_add-left : goal.overflow_add-left
@@ -67,22 +65,10 @@ attach-requires-clause-apart g c = (ready_to_group c.args.arena.now c.loop-left.
 
 pub returns-clause-treated : goal.returns-clause-treated
 returns-clause-treated g c =
-    let f : Layout = c.args.arena.now in
-    let v : Marks = c.args.work.now in
-    let n : ℕ = c.args.node.index in
-    let x : ℕ = c.take-group.result.index in
-    let a = gather_end f c.loop-left.arena v n x c.loop-left.left c.loop-left.next _ _ c.loop-left.invariant (omega (arith, c.loop-left-test.false)) in
-    subst (λ z. IsTreated f z v c.mark.new.self n n) (sym c.attach.ensures.changed)
-    (subst (λ z. IsTreated f (grouped c.loop-left.arena n x) v z n n) (sym c.mark.ensures)
-    (group_treated f c.loop-left.arena v n x (full_nodes v (indices c.loop-left.invariant.passed)) c.layout_law.ensures (subst IsLayout c.attach.ensures.changed c.layout_law-3.ensures) (can_group f v n c.requires.can c.requires.many) a))
+    (group_done _ _ _ _ _ _ _ _ c.layout_law.ensures c.layout_law-3.ensures c.attach.ensures.changed c.mark.ensures (can_group _ _ _ c.requires.can c.requires.many)
+    (gather_end _ _ _ _ _ _ _ _ _ c.loop-left.invariant (omega (arith, c.loop-left-test.false)))).0
 
 pub returns-clause-made : goal.returns-clause-made
 returns-clause-made g c =
-    let f : Layout = c.args.arena.now in
-    let v : Marks = c.args.work.now in
-    let n : ℕ = c.args.node.index in
-    let x : ℕ = c.take-group.result.index in
-    let a = gather_end f c.loop-left.arena v n x c.loop-left.left c.loop-left.next _ _ c.loop-left.invariant (omega (arith, c.loop-left-test.false)) in
-    subst (λ z. HasGroup f v z c.mark.new.self n x) (sym c.attach.ensures.changed)
-    (subst (λ z. HasGroup f v (grouped c.loop-left.arena n x) z n x) (sym c.mark.ensures)
-    (group_made f c.loop-left.arena v n x (full_nodes v (indices c.loop-left.invariant.passed)) c.layout_law.ensures (subst IsLayout c.attach.ensures.changed c.layout_law-3.ensures) (can_group f v n c.requires.can c.requires.many) a))
+    (group_done _ _ _ _ _ _ _ _ c.layout_law.ensures c.layout_law-3.ensures c.attach.ensures.changed c.mark.ensures (can_group _ _ _ c.requires.can c.requires.many)
+    (gather_end _ _ _ _ _ _ _ _ _ c.loop-left.invariant (omega (arith, c.loop-left-test.false)))).1

@@ -1,10 +1,8 @@
 use Rattle.std.proofs.Common.{◌-◌, ℕ, List, None, sym, subst, ◌∙◌}
-use Rattle.arena_model.specs.ChildLists.{oriented}
 use Rattle.arena_model.specs.Layout.{children_at, IsSpliceAt}
 use Rattle.pq_arena.specs.Looks.{IsBeside}
-use Rattle.templates_p.specs.Merging.{laid_on}
 use Rattle.templates_p.proofs.Splicing.{at_end, end_place, merged_in, merged_occurs}
-use Rattle.templates_p.proofs.Merging.{merged_treated, merged_made}
+use Rattle.templates_p.proofs.Merging.{merged}
 use Rattle.templates_p.proofs.merge.merge.Goals as goal
 
 pub put_at_end-requires-clause-can : goal.put_at_end-requires-clause-can
@@ -27,21 +25,13 @@ settle-top-requires-clause-room g c = c.requires.can.absorb.room ∙ sym
     c.put_at_end.new.arena c.splice.new.self (1 - c.args.other.full_end) c.put_at_end.ensures.put c.splice.ensures.before c.splice.ensures.behind).size
 
 pub returns-clause-treated : goal.returns-clause-treated
-returns-clause-treated g c = merged_treated c.args.arena.now c.splice.new.self c.settle-top.new.arena c.args.work.now c.settle-top.new.work
-    c.args.node.index c.args.line.node.index c.args.other.node.index c.settle-top.result.index
-    (laid_on c.args.line.full_end (oriented (1 - c.args.other.full_end) (children_at c.args.arena.now c.args.other.node.index)) (children_at c.args.arena.now c.args.line.node.index))
-    c.layout_law.ensures c.layout_law-2.ensures c.requires.can
+returns-clause-treated g c =
+    (merged _ _ _ _ _ _ _ _ _ _ c.layout_law.ensures c.layout_law-2.ensures c.requires.can
     (merged_occurs c.args.arena.now c.args.line.node.index c.args.other.node.index c.args.line.full_end (1 - c.args.other.full_end))
-    (merged_in c.args.arena.now c.args.work.now c.args.node.index c.args.line.node.index c.args.other.node.index c.args.line.full_end c.layout_law.ensures c.requires.can c.requires.end
-    c.put_at_end.new.arena c.splice.new.self (1 - c.args.other.full_end) c.put_at_end.ensures.put c.splice.ensures.before c.splice.ensures.behind)
-    c.settle-top.ensures.settled
+    (merged_in _ _ _ _ _ _ c.layout_law.ensures c.requires.can c.requires.end _ _ _ c.put_at_end.ensures.put c.splice.ensures.before c.splice.ensures.behind) c.settle-top.ensures.settled).0
 
 pub returns-clause-merged : goal.returns-clause-merged
-returns-clause-merged g c = merged_made c.args.arena.now c.splice.new.self c.settle-top.new.arena c.args.work.now c.settle-top.new.work
-    c.args.node.index c.args.line.node.index c.args.other.node.index c.settle-top.result.index
-    (laid_on c.args.line.full_end (oriented (1 - c.args.other.full_end) (children_at c.args.arena.now c.args.other.node.index)) (children_at c.args.arena.now c.args.line.node.index))
-    c.layout_law.ensures c.layout_law-2.ensures c.requires.can
+returns-clause-merged g c =
+    (merged _ _ _ _ _ _ _ _ _ _ c.layout_law.ensures c.layout_law-2.ensures c.requires.can
     (merged_occurs c.args.arena.now c.args.line.node.index c.args.other.node.index c.args.line.full_end (1 - c.args.other.full_end))
-    (merged_in c.args.arena.now c.args.work.now c.args.node.index c.args.line.node.index c.args.other.node.index c.args.line.full_end c.layout_law.ensures c.requires.can c.requires.end
-    c.put_at_end.new.arena c.splice.new.self (1 - c.args.other.full_end) c.put_at_end.ensures.put c.splice.ensures.before c.splice.ensures.behind)
-    c.settle-top.ensures.settled
+    (merged_in _ _ _ _ _ _ c.layout_law.ensures c.requires.can c.requires.end _ _ _ c.put_at_end.ensures.put c.splice.ensures.before c.splice.ensures.behind) c.settle-top.ensures.settled).1

@@ -2,25 +2,22 @@ use Rattle.std.proofs.Common.{◌≡◌, true, false, inl, inr, sym, ◌∙◌, 
 use Rattle.arena_model.specs.declared.Shape.TheVariants.{Q}
 use Rattle.arena_model.specs.Layout.{children_at}
 use Rattle.arena_model.proofs.Slots.{some_inj}
-use Rattle.templates_q.specs.Lines.{AreCounted}
 use Rattle.templates_q.proofs.Walks.{front_gap, back_gap}
-use Rattle.templates_q.proofs.Fitting.{fitting_line}
+use Rattle.templates_q.proofs.Fitting.{fitting_line, counted_at}
 use Rattle.templates_q.proofs.q2.full_side.Goals as goal
 
 pub is_run_from-requires-clause-place : goal.is_run_from-requires-clause-place
 is_run_from-requires-clause-place g c =
     let f = c.args.arena.now in let w = c.args.work.now in let n = c.args.node.index in let view = c.args.view.now in
     let q : view.shape ≡ Q = some_inj view.shape Q (sym c.requires.shown.shape_is ∙ c.requires.fits.2.0) in
-    let counted : AreCounted w (children_at f n) c.counts-counts.result.full c.counts-counts.result.partial =
-    record { full = c.counts-counts.ensures.full ∙ c.requires.ready.right.full; partial = c.counts-counts.ensures.partial ∙ c.requires.ready.right.partial } in
+    let counted = counted_at f w n _ _ c.requires.ready c.counts-counts.ensures.full c.counts-counts.ensures.partial in
     (n, children_at f n, front_gap f n view c.requires.shown q, counted)
 
 pub returns-then-is_run_from-clause-side : goal.returns-then-is_run_from-clause-side
 returns-then-is_run_from-clause-side g c =
     let f = c.args.arena.now in let w = c.args.work.now in let n = c.args.node.index in let view = c.args.view.now in
     let q : view.shape ≡ Q = some_inj view.shape Q (sym c.requires.shown.shape_is ∙ c.requires.fits.2.0) in
-    let counted : AreCounted w (children_at f n) c.counts-counts.result.full c.counts-counts.result.partial =
-    record { full = c.counts-counts.ensures.full ∙ c.requires.ready.right.full; partial = c.counts-counts.ensures.partial ∙ c.requires.ready.right.partial } in
+    let counted = counted_at f w n _ _ c.requires.ready c.counts-counts.ensures.full c.counts-counts.ensures.partial in
     let gap = front_gap f n view c.requires.shown q in let run = c.is_run_from.ensures.run n (children_at f n) gap counted in
     (children_at f n, gap, run.0 c.if-is_run_from.true)
 
@@ -28,8 +25,7 @@ pub returns-clause-side : goal.returns-clause-side
 returns-clause-side g c =
     let f = c.args.arena.now in let w = c.args.work.now in let n = c.args.node.index in let view = c.args.view.now in
     let q : view.shape ≡ Q = some_inj view.shape Q (sym c.requires.shown.shape_is ∙ c.requires.fits.2.0) in
-    let counted : AreCounted w (children_at f n) c.counts-counts.result.full c.counts-counts.result.partial =
-    record { full = c.counts-counts.ensures.full ∙ c.requires.ready.right.full; partial = c.counts-counts.ensures.partial ∙ c.requires.ready.right.partial } in
+    let counted = counted_at f w n _ _ c.requires.ready c.counts-counts.ensures.full c.counts-counts.ensures.partial in
     let run = c.is_run_from.ensures.run n (children_at f n) (front_gap f n view c.requires.shown q) counted in (
       reverse (children_at f n),
       back_gap f n view c.requires.shown q,

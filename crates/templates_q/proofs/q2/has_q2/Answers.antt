@@ -2,10 +2,9 @@ use Rattle.std.proofs.Common.{◌≡◌, true, false, inl, inr, refl, sym, ◌�
 use Rattle.arena_model.specs.Layout.{children_at}
 use Rattle.bubble_pass.specs.declared.labels.Label.TheVariants.{Empty}
 use Rattle.templates_q.specs.Walk.{AreAll}
-use Rattle.templates_q.specs.Lines.{AreCounted}
 use Rattle.templates_q.proofs.Walks.{front_gap, back_gap}
 use Rattle.templates_q.proofs.Lines.{none_counted, all_empty_counts, counted_reverse}
-use Rattle.templates_q.proofs.Fitting.{line_fits, fitting_line, fitting_some}
+use Rattle.templates_q.proofs.Fitting.{line_fits, fitting_line, fitting_some, counted_at}
 use Rattle.templates_q.proofs.q2.has_q2.Goals as goal
 
 pub returns-then-are_counts-clause-fits : goal.returns-then-are_counts-clause-fits
@@ -20,8 +19,7 @@ returns-then-are_counts-clause-fits g c = λ ps m.
 pub returns-then-is_run_from-clause-fits : goal.returns-then-is_run_from-clause-fits
 returns-then-is_run_from-clause-fits g c = λ ps m.
     let f = c.args.arena.now in let w = c.args.work.now in let n = c.args.node.index in let ks = children_at f n in
-    let counted : AreCounted w ks c.counts-counts.result.full c.counts-counts.result.partial =
-    record { full = c.counts-counts.ensures.full ∙ c.requires.ready.right.full; partial = c.counts-counts.ensures.partial ∙ c.requires.ready.right.partial } in
+    let counted = counted_at f w n _ _ c.requires.ready c.counts-counts.ensures.full c.counts-counts.ensures.partial in
     let gap = front_gap f n c.args.view.now c.requires.shown c.requires.q in
     let no : c.are_counts.result ≡ false = c.if-are_counts.false in (
       (λ t. line_fits f w n ps gap.is_q m
@@ -34,15 +32,13 @@ returns-then-is_run_from-clause-fits g c = λ ps m.
 pub is_run_from-requires-2-clause-place : goal.is_run_from-requires-2-clause-place
 is_run_from-requires-2-clause-place g c =
     let f = c.args.arena.now in let w = c.args.work.now in let n = c.args.node.index in let ks = children_at f n in
-    let counted : AreCounted w ks c.counts-counts.result.full c.counts-counts.result.partial =
-    record { full = c.counts-counts.ensures.full ∙ c.requires.ready.right.full; partial = c.counts-counts.ensures.partial ∙ c.requires.ready.right.partial } in
+    let counted = counted_at f w n _ _ c.requires.ready c.counts-counts.ensures.full c.counts-counts.ensures.partial in
     (n, reverse ks, back_gap f n c.args.view.now c.requires.shown c.requires.q, counted_reverse w ks _ _ counted)
 
 pub returns-clause-fits : goal.returns-clause-fits
 returns-clause-fits g c = λ ps m.
     let f = c.args.arena.now in let w = c.args.work.now in let n = c.args.node.index in let ks = children_at f n in
-    let counted : AreCounted w ks c.counts-counts.result.full c.counts-counts.result.partial =
-    record { full = c.counts-counts.ensures.full ∙ c.requires.ready.right.full; partial = c.counts-counts.ensures.partial ∙ c.requires.ready.right.partial } in
+    let counted = counted_at f w n _ _ c.requires.ready c.counts-counts.ensures.full c.counts-counts.ensures.partial in
     let front = front_gap f n c.args.view.now c.requires.shown c.requires.q in
     let back = back_gap f n c.args.view.now c.requires.shown c.requires.q in
     let no : c.are_counts.result ≡ false = c.if-are_counts.false in

@@ -1,18 +1,11 @@
-use Rattle.std.proofs.Common.{◌≡◌, ℕ, ◌+◌, ◌*◌, ◌≤◌, [], ◌++◌, sym, subst, ◌∙◌, arith}
-use Rattle.arena_model.specs.Layout.{Layout, children_at, IsLayout}
-use Rattle.arena_model.proofs.Paths.{one_parent}
-use Rattle.bubble_pass.specs.Marks.{Marks}
-use Rattle.template_model.specs.Standing.{IsInMarkedRun}
+use Rattle.std.proofs.Common.{◌≡◌, ◌+◌, ◌*◌, ◌≤◌, [], ◌++◌, sym, subst, ◌∙◌, arith}
+use Rattle.arena_model.specs.Layout.{children_at}
 use Rattle.templates_q.specs.Walk.{AreChildren}
-use Rattle.templates_q.specs.Span.{StandsQ3, labelled_in}
+use Rattle.templates_q.specs.Span.{labelled_in}
 use Rattle.templates_q.proofs.Spanning.{run_marked, run_inner}
 use Rattle.templates_q.proofs.Laying.{named_last, unnamed_last}
-use Rattle.templates_q.proofs.Done.{all_shaped, q3_done}
+use Rattle.templates_q.proofs.Done.{all_shaped, done_around}
 use Rattle.templates_q.proofs.q3.apply_around.Goals as goal
-
--- the Q-node of the run is known by its child
-standing : (f : Layout) (w : Marks) (n q : ℕ) → IsLayout f → (q : ℕ) × IsInMarkedRun f w q n × StandsQ3 f w q → IsInMarkedRun f w q n → StandsQ3 f w q
-standing f w n q h st run = subst (StandsQ3 f w) (one_parent f st.0 q n h (run_marked f w st.0 n st.1).child (run_marked f w q n run).child) st.2
 
 pub stretch_around-seen-requires-clause-child : goal.stretch_around-seen-requires-clause-child
 stretch_around-seen-requires-clause-child g c = let st = c.requires.stands in (st.0, run_marked c.args.arena.now c.args.work.now st.0 c.args.node.index st.1)
@@ -30,33 +23,18 @@ unreachable-requires g c = let st = c.requires.stands in
     run_inner f w q c.args.node.index r.vs st.1 (subst (λ z. AreChildren f q (z ++ r.vs)) e r.passed.from.children) r.some
 
 pub returns-clause-replaced : goal.returns-clause-replaced
-returns-clause-replaced g c = λ q run.
-    let f = c.args.arena.now in let w = c.args.work.now in let n = c.args.node.index in let h = c.layout_law.ensures in
-    let st = standing f w n q h c.requires.stands run in
-    let r = c.stretch_around-seen.ensures.stretch q (run_marked f w q n run) in
-    (q3_done f c.open_ends.new.arena w q c.stretch_around-seen.result r h c.layout_law-2.ensures c.requires.ready.one c.requires.ready.two st (c.open_ends.ensures.opened q r (all_shaped f w q st))).treated.arena
+returns-clause-replaced g c = λ q run. (done_around _ _ _ _ q _ c.layout_law.ensures c.layout_law-2.ensures c.requires.ready c.requires.stands c.stretch_around-seen.ensures.stretch c.open_ends.ensures.opened run).1.treated.arena
 
 pub returns-clause-kept : goal.returns-clause-kept
-returns-clause-kept g c = λ q run.
-    let f = c.args.arena.now in let w = c.args.work.now in let n = c.args.node.index in let h = c.layout_law.ensures in
-    let st = standing f w n q h c.requires.stands run in
-    let r = c.stretch_around-seen.ensures.stretch q (run_marked f w q n run) in
-    (q3_done f c.open_ends.new.arena w q c.stretch_around-seen.result r h c.layout_law-2.ensures c.requires.ready.one c.requires.ready.two st (c.open_ends.ensures.opened q r (all_shaped f w q st))).below
+returns-clause-kept g c = λ q run. (done_around _ _ _ _ q _ c.layout_law.ensures c.layout_law-2.ensures c.requires.ready c.requires.stands c.stretch_around-seen.ensures.stretch c.open_ends.ensures.opened run).1.below
 
 pub returns-clause-child : goal.returns-clause-child
 returns-clause-child g c = λ q run.
-    let f = c.args.arena.now in let w = c.args.work.now in let n = c.args.node.index in let h = c.layout_law.ensures in
-    let st = standing f w n q h c.requires.stands run in
-    let r = c.stretch_around-seen.ensures.stretch q (run_marked f w q n run) in
-    let d = q3_done f c.open_ends.new.arena w q c.stretch_around-seen.result r h c.layout_law-2.ensures c.requires.ready.one c.requires.ready.two st (c.open_ends.ensures.opened q r (all_shaped f w q st)) in
-    d.left c.in-Some.beside.index (named_last r.us c.in-Some.beside (sym r.passed.from.before ∙ c.in-Some.is))
+    let d = (done_around _ _ _ _ q _ c.layout_law.ensures c.layout_law-2.ensures c.requires.ready c.requires.stands c.stretch_around-seen.ensures.stretch c.open_ends.ensures.opened run) in
+    d.1.left c.in-Some.beside.index (named_last d.0.us c.in-Some.beside (sym d.0.passed.from.before ∙ c.in-Some.is))
 
 pub returns-clause-becomes : goal.returns-clause-becomes
-returns-clause-becomes g c = λ q run.
-    let f = c.args.arena.now in let w = c.args.work.now in let n = c.args.node.index in let h = c.layout_law.ensures in
-    let st = standing f w n q h c.requires.stands run in
-    let r = c.stretch_around-seen.ensures.stretch q (run_marked f w q n run) in
-    (q3_done f c.open_ends.new.arena w q c.stretch_around-seen.result r h c.layout_law-2.ensures c.requires.ready.one c.requires.ready.two st (c.open_ends.ensures.opened q r (all_shaped f w q st))).becomes
+returns-clause-becomes g c = λ q run. (done_around _ _ _ _ q _ c.layout_law.ensures c.layout_law-2.ensures c.requires.ready c.requires.stands c.stretch_around-seen.ensures.stretch c.open_ends.ensures.opened run).1.becomes
 
 pub returns-clause-ticks : goal.returns-clause-ticks
 returns-clause-ticks g c = λ q run.

@@ -4,7 +4,7 @@ use Rattle.template_model.proofs.Unchanged.{unchanged}
 use Rattle.templates_q.specs.Span.{labelled_in}
 use Rattle.templates_q.proofs.Spanning.{first_marked, none_marked}
 use Rattle.templates_q.proofs.Laying.{none_becomes}
-use Rattle.templates_q.proofs.Done.{all_shaped, q3_done}
+use Rattle.templates_q.proofs.Done.{all_shaped, done_at}
 use Rattle.templates_q.proofs.q3.apply_at.Goals as goal
 
 pub stretch_around-seen-requires-clause-child : goal.stretch_around-seen-requires-clause-child
@@ -19,17 +19,13 @@ open_ends-requires-clause-stretch g c =
 
 pub returns-in-Some-clause-treated : goal.returns-in-Some-clause-treated
 returns-in-Some-clause-treated g c =
-    let f = c.args.arena.now in let w = c.args.work.now in let n = c.args.node.index in let st = c.requires.stands in
-    let x = first_marked f w n c.in-Some.x st.fits.0 c.requires.ready.right (sym c.first_child.ensures ∙ c.in-Some.is) in
-    let r = c.stretch_around-seen.ensures.stretch n x in
-    (q3_done f c.open_ends.new.arena w n c.stretch_around-seen.result r c.layout_law.ensures c.layout_law-in-Some.ensures c.requires.ready.one c.requires.ready.two st (c.open_ends.ensures.opened n r (all_shaped f w n st))).treated
+    let x = first_marked _ _ c.args.node.index c.in-Some.x c.requires.stands.fits.0 c.requires.ready.right (sym c.first_child.ensures ∙ c.in-Some.is) in
+    (done_at _ _ _ _ _ (c.stretch_around-seen.ensures.stretch _ x) c.layout_law.ensures c.layout_law-in-Some.ensures c.requires.ready c.requires.stands c.open_ends.ensures.opened).treated
 
 pub returns-in-Some-clause-becomes : goal.returns-in-Some-clause-becomes
 returns-in-Some-clause-becomes g c =
-    let f = c.args.arena.now in let w = c.args.work.now in let n = c.args.node.index in let st = c.requires.stands in
-    let x = first_marked f w n c.in-Some.x st.fits.0 c.requires.ready.right (sym c.first_child.ensures ∙ c.in-Some.is) in
-    let r = c.stretch_around-seen.ensures.stretch n x in
-    (q3_done f c.open_ends.new.arena w n c.stretch_around-seen.result r c.layout_law.ensures c.layout_law-in-Some.ensures c.requires.ready.one c.requires.ready.two st (c.open_ends.ensures.opened n r (all_shaped f w n st))).becomes
+    let x = first_marked _ _ c.args.node.index c.in-Some.x c.requires.stands.fits.0 c.requires.ready.right (sym c.first_child.ensures ∙ c.in-Some.is) in
+    (done_at _ _ _ _ _ (c.stretch_around-seen.ensures.stretch _ x) c.layout_law.ensures c.layout_law-in-Some.ensures c.requires.ready c.requires.stands c.open_ends.ensures.opened).becomes
 
 pub returns-in-Some-clause-ticks : goal.returns-in-Some-clause-ticks
 returns-in-Some-clause-ticks g c =

@@ -1,10 +1,12 @@
-use Rattle.std.proofs.Common.{◌≡◌, sym, ap, subst, ◌∙◌}
+use Rattle.std.proofs.Common.{◌≡◌, ◌-◌, take, sym, ap, subst, ◌∙◌}
 use Rattle.std.specs.List.{length_refill}
 use Rattle.template_theory.specs.Reduced.{IsReduced}
 use Rattle.template_theory.specs.declared.reducer.Step.TheVariants.{Taken}
 use Rattle.row_model.specs.Graph.{row_at}
 use Rattle.arena_model.specs.Layout.{Layout}
 use Rattle.arena_model.specs.NamedTree.{outline_at}
+use Rattle.pq_tree.specs.Proper.{IsProper}
+use Rattle.tied_law.specs.Tied.{IsTied}
 use Rattle.pq_tree.proofs.Equivalent.{tree_from_proper}
 use Rattle.template_theory.specs.Frugal.{IsFrugal}
 use Rattle.row_reduce.proofs.Frugality.{row_frugal}
@@ -24,6 +26,18 @@ invariant_of-self g c =
       room = c.reduce_arena-step.ensures.room ∙ c.self.invariant.room ∙ sym s.slots;
       chosen = sym (length_refill c.self.inside.chosen.len c.self.inside.chosen.items c.reduce_arena-step.new.chosen c.self.inside.chosen.ok.0)
           ∙ c.self.inside.chosen.ok.0 ∙ c.self.invariant.chosen ∙ sym s.slots;
+    }
+
+pub reduce_arena-step-requires-clause-tree : goal.reduce_arena-step-requires-clause-tree
+reduce_arena-step-requires-clause-tree g c =
+    let e : c.self.inside.arena ≡ c.args.self.now = cc in
+    let columns : c.self.inside.arena.columns ≡ c.args.m.now.columns = ap (λ (z : Layout). z.columns) e ∙ c.requires.columns in
+    record {
+      one = c.self.invariant.one;
+      columns = columns;
+      proper = subst (λ n. IsProper n (outline_at c.self.inside.arena)) columns c.self.invariant.proper;
+      within = c.requires.row;
+      tied = subst (λ (z : Layout). IsTied c.args.m.now.columns (take (c.args.k - 1) c.args.m.now.rows) (outline_at z)) (sym e) c.requires.tied;
     }
 
 pub returns-clause-reduced : goal.returns-clause-reduced
