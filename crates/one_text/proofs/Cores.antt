@@ -1,9 +1,7 @@
 -- The order of a core without a row.
-use Rattle.std.proofs.Common.{◌≡◌, ◌∙◌, ℕ, List, sym, ap}
-use Rattle.row_model.specs.Rows.{RowList}
-use Rattle.pq_tree.specs.Outline.{Outline, leaves}
+use Rattle.std.proofs.Common.{◌≡◌, ◌∙◌, sym, ap}
+use Rattle.pq_tree.specs.Outline.{leaves}
 use Rattle.canonical_tree.specs.Laws.{CanonicalTreeLaw}
-use Rattle.core_text.specs.Told.{IsOrderWithout}
 use Rattle.one_text.specs.Laws.{OneOrderLaw}
 
 pub one_order : CanonicalTreeLaw → OneOrderLaw

@@ -5,3 +5,7 @@ pub mod Cores
 pub mod Same
 pub mod Lines
 pub mod Textbook
+pub mod OneSolution
+pub mod OneJudgement
+pub mod OneSession
+pub mod OneReply

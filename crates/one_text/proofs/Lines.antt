@@ -1,6 +1,7 @@
 -- The lines of a tree and an order stand in the text that tells them.
 use Rattle.std.proofs.Common.{◌≡◌, ◌∙◌, ℕ, zero, suc, ◌-◌, List, [], ◌∷◌, ◌++◌, refl, sym, ap, subst, append_assoc}
 use Rattle.std.specs.Prelude.{slice_get, IsSomeAnd, flat_map, codes}
+use Rattle.std.proofs.lemmas.List.{append-nil}
 use Rattle.row_model.specs.declared.kind.Kind.{Kind}
 use Rattle.text_parts.specs.Numbered.{numbered}
 use Rattle.verdict_text.specs.Text.{kind_line, columns_line, side_text, added_text, claim_text, head_text, verdict_text}
@@ -13,14 +14,17 @@ use Rattle.one_text.specs.Told.{on_side, at_end, in_meeting}
 use Rattle.one_text.specs.Laws.{HasLines, ToldLinesLaw}
 
 -- lines of a text stand in it behind other bytes, and before other bytes
-behind : (other text lines : List ℕ) → HasLines text lines → HasLines (other ++ text) lines
+pub behind : (other text lines : List ℕ) → HasLines text lines → HasLines (other ++ text) lines
 behind other text lines h = (other ++ h.0, h.1, ap (λ t. other ++ t) h.2 ∙ sym (append_assoc other h.0 (lines ++ h.1)))
 
-before : (text lines other : List ℕ) → HasLines text lines → HasLines (text ++ other) lines
+pub before : (text lines other : List ℕ) → HasLines text lines → HasLines (text ++ other) lines
 before text lines other h = (h.0, h.1 ++ other, ap (λ t. t ++ other) h.2 ∙ append_assoc h.0 (lines ++ h.1) other ∙ ap (λ t. h.0 ++ t) (append_assoc lines h.1 other))
 
-first : (lines other : List ℕ) → HasLines (lines ++ other) lines
+pub first : (lines other : List ℕ) → HasLines (lines ++ other) lines
 first lines other = ([], other, refl)
+
+pub itself : (lines : List ℕ) → HasLines lines lines
+itself lines = ([], [], sym (append-nil lines))
 
 in_sides : (sides : List SideValue) (k : ℕ) (side : SideValue) → IsSomeAnd (slice_get sides k) (λ told. told ≡ side) → HasLines (flat_map side_text sides) (side_text side)
 in_sides [] k side h = absurd h

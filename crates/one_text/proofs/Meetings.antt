@@ -1,8 +1,8 @@
 -- What a reply to `meet` tells of the orders that two trees share.
-use Rattle.std.proofs.Common.{◌≡◌, ◌↔◌, ℕ, List, refl, sym, subst}
+use Rattle.std.proofs.Common.{◌↔◌, ℕ, List, refl, sym, subst}
 use Rattle.column_order.specs.Orders.{IsValidOrder}
 use Rattle.row_model.specs.Rows.{RowList}
-use Rattle.pq_tree.specs.Outline.{Outline, IsFrontier, leaves}
+use Rattle.pq_tree.specs.Outline.{IsFrontier}
 use Rattle.pq_tree.proofs.Frontiers.{leaves_are_frontier}
 use Rattle.tree_meet.specs.Meets.{IsCommon, joint_rows}
 use Rattle.tree_meet.specs.Laws.{CommonRowsLaw}

@@ -21,7 +21,7 @@ shown common meet text at_end m h = ended text m h
 shown common meet text in_meeting m h = met common meet text m h
 
 -- a side is told by its tree
-told_by_tree : (m : RowList) (side : SideValue) (t : Outline) → HasTreeOf m side → side.tree ≡ t → side ≡ side_of t
+pub told_by_tree : (m : RowList) (side : SideValue) (t : Outline) → HasTreeOf m side → side.tree ≡ t → side ≡ side_of t
 told_by_tree m side t shows e = let order : side ≡ side_of side.tree = ap (λ o. record { tree = side.tree; order = o }) shows.leaves in order ∙ ap side_of e
 
 pub canonical_text : CommonRowsLaw → MeetTextLaw → CanonicalTreeLaw → CanonicalTextLaw

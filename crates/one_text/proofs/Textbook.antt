@@ -15,7 +15,8 @@ use Rattle.reply_laws.specs.Solve.{IsYesAnd, ShowsTextbookOrders, OrdersLaw}
 use Rattle.tree_meet.specs.Laws.{CommonRowsLaw}
 use Rattle.reply_laws.specs.Meet.{MeetTextLaw}
 use Rattle.one_text.specs.Told.{on_side, SolvesSide}
-use Rattle.one_text.specs.Laws.{IsLinear, HaveSameOrders, TextbookTextLaw}
+use Rattle.verdict_check.specs.Exact.{IsLinear}
+use Rattle.one_text.specs.Laws.{HaveSameOrders, TextbookTextLaw}
 use Rattle.one_text.proofs.Sides.{solution_of}
 use Rattle.one_text.proofs.Same.{same_text}
 

@@ -6,8 +6,9 @@ use Rattle.canonical_tree.specs.Laws.{IsCanonicalOver, HasOrdersOf}
 use Rattle.core_text.specs.Told.{IsOrderWithout}
 use Rattle.verdict_text.specs.Verdict.{SideValue}
 use Rattle.verdict_text.specs.Text.{side_text}
-use Rattle.instance_model.specs.Instance.{InstanceValue, circular, IsTextbookOrder}
+use Rattle.instance_model.specs.Instance.{InstanceValue, IsTextbookOrder}
 use Rattle.instance_model.specs.Laws.{IsValidFor}
+use Rattle.verdict_check.specs.Exact.{IsLinear}
 use Rattle.one_text.specs.Told.{Spot, on_side, RepliesFor, SolvesSide, TellsAt}
 
 -- the tree is a canonical tree whose frontiers are exactly the valid orders of the matrix
@@ -50,11 +51,6 @@ SameTextLaw =
 -- Of one matrix, for one core and one of its rows there is one order that the core may tell of the others.
 abbrev pub OneOrderLaw : Type 0
 OneOrderLaw = (m : RowList) (core : List ℕ) (k : ℕ) (o p : List ℕ) → IsOrderWithout m core k o → IsOrderWithout m core k p → o ≡ p
-
--- an instance whose orders have a first column: of any kind but a circular one
-abbrev pub IsLinear : InstanceValue → Type 0
-IsLinear (circular m) = ⊥
-IsLinear i = Unit {0}
 
 -- sides of two instances have the same textbook orders
 abbrev pub HaveSameTextbookOrders : InstanceValue → ℕ → InstanceValue → ℕ → Type 0

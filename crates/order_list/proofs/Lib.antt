@@ -10,3 +10,4 @@ pub mod Openings
 pub mod Whole
 pub mod Firsts
 pub mod Pieces
+pub mod OneList

@@ -1,4 +1,5 @@
 pub mod First
+pub mod Laws
 pub mod Listed
 pub mod Held
 pub mod Reading

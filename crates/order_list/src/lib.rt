@@ -8,6 +8,7 @@
 ghost use Rattle.std.specs.Prelude.{◌≡◌, ◌↔◌, ◌≤◌, IfOk, IsTrue};
 ghost use Rattle.pq_tree.specs.Outline.{IsFrontier};
 ghost use Rattle.pq_tree.specs.PqTree.{outline};
+ghost use Rattle.order_list.specs.Laws.{FirstOrdersLaw};
 ghost use Rattle.order_list.specs.First.{AreFirst, HasOther};
 
 mod orders;
@@ -26,6 +27,11 @@ pub const MAX_ORDERS: u32 = 10_000;
 /// The value of the constant of this crate, by its numeral. A call stands for the clause alone.
 pub fn values_law()
     ensures { MAX_ORDERS ≡ 10000 }
+{}
+
+/// Rows have one list of their first valid orders.
+pub fn first_orders_law()
+    ensures { FirstOrdersLaw }
 {}
 
 /// The first `count` frontiers of the tree, compared as lists of numbers, or all of them where there are fewer.

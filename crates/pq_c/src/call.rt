@@ -17,11 +17,11 @@ use std::alloc::Global;
 /// | 0, 1 | the reply is there whole |
 /// | 2 | the words are outside the grammar, or no UTF-8 |
 /// | 3 | a file is refused; the line says which, and why |
-/// | 4 | a file can't be read, as where the words name another than `1` and `2` |
-/// | 5 | some first bytes of the reply are there, as where `out` has too little room: call again with more |
+/// | 4 | the words name another file than `1` and `2` |
+/// | 5 | the reply is longer than `out`, which its first bytes fill: call again with more |
 /// | 6 | memory is refused |
 ///
-/// When 4, 5 and 6 come has no clause. A line is left out where `err` has less room than it takes; 64 bytes are enough.
+/// That memory was refused has no clause, as in the program. A line is left out where `err` has less room than it takes; 64 bytes are enough.
 #[unsafe(no_mangle)]
 pub extern "C" fn pq_c_run(
     alloc: Global,
@@ -36,7 +36,7 @@ pub extern "C" fn pq_c_run(
     ensures lengths { (length out.new ≡ length out.old) × (length err.new ≡ length err.old) }
     ensures room { (written.new ≤ length out.new) × (told.new ≤ length err.new) }
     ensures no_text { (IsUtf8 words.now → ⊥) → result ≡ 2 }
-    ensures run { IsUtf8 words.now → IsRunOf (command_of (lines words.now)) first.now second.now result
+    ensures run { IsUtf8 words.now → IsRunOf (command_of (lines words.now)) first.now second.now (length out.new) result
         (take written.new out.new) (take told.new err.new) }
 {
     let left = run_bytes(alloc, words, first, second, out, err);

@@ -6,6 +6,8 @@
 #![tactic(auto)]
 
 mod call;
+mod files;
+mod kept;
 mod over;
 mod words;
 

@@ -1,15 +1,15 @@
 // A run over files in memory.
-ghost use Rattle.std.specs.Prelude.{◌≡◌, ◌≢◌, ◌≤◌, ◌⊎◌, ℕ, List, [], IfOk, length, take, min};
+ghost use Rattle.std.specs.Prelude.{◌≡◌, ◌<◌, ◌≤◌, ◌⊎◌, [], IfOk, length, take, min};
 ghost use Rattle.std.specs.Str.{IsUtf8};
 ghost use Rattle.std.specs.Str.Lines.{lines};
 ghost use Rattle.command_input.specs.Words.{command_of};
-ghost use Rattle.pq_io.specs.NamedFiles.{content_of};
-ghost use Rattle.pq_c.specs.Given.{given};
 ghost use Rattle.pq_c.specs.Called.{IsRunOf};
 
+use crate::files::HandedOver;
+use crate::kept::Kept;
 use crate::words::words_of;
 use pq_cli::{run, told_law};
-use pq_io::{MemShelf, MemSink, NoMemory};
+use pq_io::NoMemory;
 use reply_laws::promise_law;
 use std::alloc::Global;
 
@@ -49,7 +49,7 @@ pub fn run_bytes(
     ensures lengths { (length out.new ≡ length out.old) × (length err.new ≡ length err.old) }
     ensures room { (result.written ≤ length out.new) × (result.told ≤ length err.new) }
     ensures no_text { (IsUtf8 words.now → ⊥) → result.status ≡ 2 }
-    ensures run { IsUtf8 words.now → IsRunOf (command_of (lines words.now)) first.now second.now result.status
+    ensures run { IsUtf8 words.now → IsRunOf (command_of (lines words.now)) first.now second.now (length out.new) result.status
         (take result.written out.new) (take result.told err.new) }
 {
     let Ok(text) = str::from_utf8(words) else {
@@ -71,25 +71,28 @@ fn run_text(
 ) -> Result<Left, NoMemory>
     ensures lengths { (length out.new ≡ length out.old) × (length err.new ≡ length err.old) }
     ensures room { IfOk result (λ left. (left.written ≤ length out.new) × (left.told ≤ length err.new)) }
-    ensures run { IfOk result (λ left. IsRunOf (command_of (lines text.now)) first.now second.now left.status
+    ensures run { IfOk result (λ left. IsRunOf (command_of (lines text.now)) first.now second.now (length out.new) left.status
         (take left.written out.new) (take left.told err.new)) }
 {
     told_law();
     promise_law();
     let words = words_of(alloc, text)?;
-    let mut files = shelf_of(alloc, first, second)?;
-    let mut reply = sink_of(alloc, out.len())?;
-    let mut line = sink_of(alloc, err.len())?;
+    let mut files = HandedOver::new(alloc, first, second)?;
+    let mut reply = Kept::new(alloc);
+    let mut line = Kept::new(alloc);
     let status = run(alloc, &words, &mut files, &mut reply, &mut line);
+    if reply.faults() > 0 {
+        return Err(NoMemory);
+    }
     Ok(handed_over(status, &reply, &line, out, err))
 }
 
 // Copies the reply and the line to the caller's room. Where the reply is longer than the room the status is 5.
-fn handed_over(status: u8, reply: &MemSink, line: &MemSink, out: &mut [u8], err: &mut [u8]) -> Left
+fn handed_over(status: u8, reply: &Kept, line: &Kept, out: &mut [u8], err: &mut [u8]) -> Left
     ensures lengths { (length out.new ≡ length out.old) × (length err.new ≡ length err.old) }
     ensures room { (result.written ≤ length out.new) × (result.told ≤ length err.new) }
     ensures reply { ((result.status ≡ status) × (take result.written out.new ≡ reply.now.bytes))
-        ⊎ ((result.status ≡ 5) × (reply.now.bytes ≢ []) × (take result.written out.new ≡ take result.written reply.now.bytes)) }
+        ⊎ ((result.status ≡ 5) × (length out.new < length reply.now.bytes) × (take result.written out.new ≡ take (length out.new) reply.now.bytes)) }
     ensures line { (take result.told err.new ≡ []) ⊎ ((take result.told err.new ≡ line.now.bytes) × (line.now.faults ≡ 0)) }
 {
     let written = copied(reply.bytes(), out);
@@ -105,27 +108,6 @@ fn handed_over(status: u8, reply: &MemSink, line: &MemSink, out: &mut [u8], err:
     }
 }
 
-// The shelf with the two files.
-fn shelf_of(alloc: Global, first: &[u8], second: &[u8]) -> Result<MemShelf, NoMemory>
-    ensures files { IfOk result (λ shelf. (name : List ℕ) → content_of shelf.files name ≡ given first.now second.now name) }
-    ensures faults { IfOk result (λ shelf. shelf.faults ≡ 0) }
-{
-    let mut files = MemShelf::new(alloc);
-    files.add("1", first)?;
-    files.add("2", second)?;
-    Ok(files)
-}
-
-// A sink with room for so many bytes.
-fn sink_of(alloc: Global, room: usize) -> Result<MemSink, NoMemory>
-    ensures bytes { IfOk result (λ sink. sink.bytes ≡ []) }
-    ensures faults { IfOk result (λ sink. sink.faults ≡ 0) }
-{
-    let mut sink = MemSink::new(alloc);
-    sink.reserve(room)?;
-    Ok(sink)
-}
-
 // Copies bytes to the front of `room`, as many as it has room for, and says how many.
 fn copied(bytes: &[u8], room: &mut [u8]) -> usize
     ensures length { length room.new ≡ length room.old }
@@ -137,9 +119,8 @@ fn copied(bytes: &[u8], room: &mut [u8]) -> usize
     n
 }
 
-// Copies what a sink took to the front of `room`, all of it, or nothing where the sink had a fault or there is too little
-// room.
-fn copied_whole(sink: &MemSink, room: &mut [u8]) -> usize
+// Copies what was kept to the front of `room`, all of it, or nothing where a write failed or there is too little room.
+fn copied_whole(sink: &Kept, room: &mut [u8]) -> usize
     ensures length { length room.new ≡ length room.old }
     ensures room { result ≤ length room.new }
     ensures copied { (take result room.new ≡ []) ⊎ ((take result room.new ≡ sink.now.bytes) × (sink.now.faults ≡ 0)) }

@@ -10,12 +10,13 @@ use Rattle.instance_model.specs.Instance.{InstanceValue}
 use Rattle.verdict_check.specs.Accepted.{Passes, IsAccepted, FailsFirst}
 use Rattle.verdict_check.specs.declared.outcome.Reason.{Reason}
 use Rattle.verdict_check.specs.Laws.{TrueLaw}
+use Rattle.verdict_check.specs.Exact.{TrueYesLaw}
 use Rattle.commands.specs.Judgements.{HasVerdict, IsJudgement, IsJudgementReply, judgement_status, judgement_text}
 use Rattle.reply_laws.specs.Replies.{Replies}
 use Rattle.verdict_replies.specs.Verdicts.{IsVerdictReply}
 use Rattle.commands.specs.Passed.{PassedLaw}
 use Rattle.command_input.specs.Instances.{instance_of, InstanceLaw}
-use Rattle.reply_laws.specs.Check.{CheckLaw, ValidStatusLaw, SolvedLaw, AgreedLaw}
+use Rattle.reply_laws.specs.Check.{CheckLaw, ValidStatusLaw, TrueStatusLaw, SolvedLaw, AgreedLaw}
 use Rattle.commands.specs.declared.judgement.Judgement.{Judgement}
 use Rattle.commands.specs.declared.judgement.Judgement.TheVariants as judgement
 use Rattle.reply_laws.proofs.Reading.{same_read}
@@ -62,6 +63,15 @@ status_law one_text kind file verdict bytes given text status i e reply =
     let judging : IsJudgementReply i given status text = subst (λ j. IsJudgementReply j given status text) same reply.2 in (
       λ zero. valid_at_zero i given judging.judgement judging.holds (sym zero ∙ judging.status_is),
       λ has. judging.status_is ∙ (accepted_is_valid one_text i given judging.judgement has judging.holds).0,
+    )
+
+-- and of a yes with status 0 exactly where it is true
+pub true_status_law : InstanceLaw → TrueLaw → TrueYesLaw → OneTextLaw → TrueStatusLaw
+true_status_law instance_read true_law true_yes one_text kind file verdict bytes text status i v e linear is told few reply =
+    let formed = (instance_read kind bytes i e).formed in
+    let valid = status_law one_text kind file verdict bytes (verdict_text v) text status i e reply in (
+      λ zero. let has = valid.0 zero in true_law i v formed is (subst (IsAccepted i) (one_text has.1.0 v has.1.1 is (sym has.1.2)) has.1.3),
+      λ holds. valid.1 (few, (v, is, refl, true_yes i v formed linear is told holds)),
     )
 
 -- what `solve` replies is accepted, and judged valid

@@ -1,6 +1,6 @@
 // The reply with the rows of a matrix that are to blame.
-ghost use Rattle.std.specs.Prelude.{◌≡◌, ◌⊎◌, ◌<◌, ◌≤◌, IfOk, All};
-ghost use Rattle.column_order.specs.Orders.{HasValidOrder, IsWithin};
+ghost use Rattle.std.specs.Prelude.{◌≡◌, ◌⊎◌, ◌<◌, ◌≤◌, IfOk};
+ghost use Rattle.column_order.specs.Orders.{HasValidOrder};
 ghost use Rattle.row_model.specs.Rows.{RowList};
 ghost use Rattle.instance_model.specs.Instance.{plain, instance_kind, IsInstance};
 ghost use Rattle.instance_model.specs.Value.{instance_value};
@@ -97,19 +97,6 @@ fn yes_text(
 {
     exact_law();
     leaves_law();
-    all_within(m);
-    // A matrix has a column.
-    let _columns = m.columns();
     let verdict = yes_on(alloc, instance, tree)?;
     Ok(told(alloc, &verdict)?.text)
-}
-
-// Each row of a matrix has no other columns than those of the matrix. Nothing is computed: the rows are gone through
-// for what is known of each.
-fn all_within(m: &Matrix)
-    ensures { All (IsWithin m.now.columns) m.now.rows }
-{
-    for before in 0..m.rows() {
-        let _row = m.row(before + 1);
-    }
 }

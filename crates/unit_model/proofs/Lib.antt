@@ -4,6 +4,7 @@ pub mod LinkLemmas
 pub mod DrawnLemmas
 pub mod FinishLemmas
 pub mod UnitLaws
+pub mod OneRule
 pub mod FirstLemmas
 pub mod LengthLemmas
 pub mod Chains

@@ -3,6 +3,7 @@ use Rattle.std.specs.Prelude.{◌≡◌, ◌≤◌, ℕ, List, length}
 use Rattle.graph_model.specs.Graphs.{GraphValue, IsGraph}
 use Rattle.proper_interval.specs.Umbrellas.{IsUmbrellaOrder}
 use Rattle.unit_model.specs.Models.{IsUnitModel}
+use Rattle.unit_model.specs.Rule.{AreLeftEnds}
 use Rattle.unit_model.specs.Text.{UnitValue, IsUnit, unit_text}
 
 -- a graph that has a unit model has an umbrella order
@@ -12,6 +13,16 @@ UnitLaw =
     IsGraph g →
     IsUnitModel g m lefts →
     (o : List ℕ) × IsUmbrellaOrder g o
+
+-- an umbrella order gives one list of left ends
+abbrev pub OneRuleLaw : Type 0
+OneRuleLaw =
+    (g : GraphValue) (o lefts others : List ℕ) →
+    IsGraph g →
+    IsUmbrellaOrder g o →
+    AreLeftEnds g o lefts →
+    AreLeftEnds g o others →
+    lefts ≡ others
 
 -- no two unit models have one text
 abbrev pub OneUnitLaw : Type 0

@@ -20,7 +20,7 @@ mod text;
 mod write;
 
 pub use fits::unit_fits;
-pub use laws::{unit_law, unit_text_laws};
+pub use laws::{one_rule_law, unit_law, unit_text_laws};
 pub use read::parse_unit;
 pub use row_model::NoMemory;
 pub use rule::model;

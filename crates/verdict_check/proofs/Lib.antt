@@ -16,6 +16,7 @@ pub mod ClonesTests
 pub mod JudgeTests
 pub mod Closed
 pub mod True
+pub mod Exact
 pub mod GapLines
 pub mod GapTrees
 pub mod GapWalk

@@ -39,7 +39,7 @@ use Rattle.verdict_check.proofs.SideTests.{all_rows}
 use Rattle.verdict_check.proofs.JudgeTests.{claim_on, claimed_side, claim_accepted, accepted_claim}
 
 -- a frontier of a tree over 1 to c is an order of 1 to c
-frontier_order : (c : ℕ) (t : Outline) (o : List ℕ) → IsProper c t → IsFrontier t o → IsOrder c o
+pub frontier_order : (c : ℕ) (t : Outline) (o : List ℕ) → IsProper c t → IsFrontier t o → IsOrder c o
 frontier_order c t o h f = λ a. frontier_occurs t o a f ∙ h.1 a
 
 row_kept : (o : List ℕ) (rows : List (List ℕ)) (k : ℕ) → 1 ≤ k → k ≤ length rows → All (Keeps o) rows → Keeps o (row_at rows k)
@@ -55,16 +55,16 @@ side_true valid_textbook i s f is (Some side) g o r =
     (o, λ q fr. valid_textbook i s q f is (record { order = frontier_order m.columns side.tree q g.0 fr; kept = all_rows q m.rows (λ k l u. r k l u q fr) }))
 
 -- what holds of one value by itself, and what else holds of it
-some_both : {A : Type 0} (o : Option A) (P Q : A → Type 0) → IsSomeAnd o P → IsSomeAnd o Q → IsSomeAnd o (λ x. P x × Q x)
+pub some_both : {A : Type 0} (o : Option A) (P Q : A → Type 0) → IsSomeAnd o P → IsSomeAnd o Q → IsSomeAnd o (λ x. P x × Q x)
 some_both None P Q h k = h
 some_both (Some x) P Q h k = (h, k)
 
-some_mono : {A : Type 0} (o : Option A) (P Q : A → Type 0) → ((x : A) → P x → Q x) → IsSomeAnd o P → IsSomeAnd o Q
+pub some_mono : {A : Type 0} (o : Option A) (P Q : A → Type 0) → ((x : A) → P x → Q x) → IsSomeAnd o P → IsSomeAnd o Q
 some_mono None P Q m h = h
 some_mono (Some x) P Q m h = m x h
 
 -- a tree that is tied to the rows of the derived matrix has every textbook order
-every_order : DerivedLaw → TiedLaw → (i : InstanceValue) (s : ℕ) (t : Outline) → IsWellFormed i → IsSideOf i s → IsProper (derived_matrix i s).columns t → IsTied (derived_matrix i s).columns (derived_matrix i s).rows t →
+pub every_order : DerivedLaw → TiedLaw → (i : InstanceValue) (s : ℕ) (t : Outline) → IsWellFormed i → IsSideOf i s → IsProper (derived_matrix i s).columns t → IsTied (derived_matrix i s).columns (derived_matrix i s).rows t →
     HasEveryOrder i s t
 every_order derived exact (plain kind m) s t f is p tied = λ o v. (exact m.columns m.rows t p.1 tied o).1 ((derived (plain kind m) s f is o).0 v)
 every_order derived exact (circular m) s t f is p tied = λ o turned at v. (exact m.columns (derived_matrix (circular m) s).rows t p.1 tied turned).1 (((derived (circular m) s f is).1 o turned at).0 v)

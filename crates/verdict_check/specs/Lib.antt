@@ -4,6 +4,7 @@ pub mod NoTests
 pub mod Accepted
 pub mod Truth
 pub mod Laws
+pub mod Exact
 pub mod Holds
 pub mod HoldsWalk
 pub mod Found

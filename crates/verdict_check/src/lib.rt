@@ -51,7 +51,9 @@ ghost use Rattle.verdict_text.specs.Value.{verdict_value};
 ghost use Rattle.instance_model.specs.Instance.{IsInstance};
 ghost use Rattle.instance_model.specs.Value.{instance_value};
 ghost use Rattle.verdict_check.specs.Accepted.{IsAccepted, FailsFirst};
+ghost use Rattle.verdict_check.specs.Truth.{IsTrueVerdict};
 ghost use Rattle.verdict_check.specs.Laws.{TrueLaw, YesLaw, NoLaw};
+ghost use Rattle.verdict_check.specs.Exact.{IsLinear, IsYesFor, TrueYesLaw, CompleteLaw};
 ghost use Rattle.verdict_check.specs.declared.outcome.Reason.{Reason};
 ghost use Rattle.verdict_check.specs.declared.outcome.Checked.TheVariants.{Valid, Invalid};
 
@@ -74,6 +76,7 @@ mod unit;
 pub use core_check::{check_core, core_laws};
 pub use core_outcome::{CoreChecked, CoreReason};
 pub use every_order::complete;
+use exact_tree::exact_law;
 pub use holds::{holds_law, tree_holds};
 pub use instance_model::Instance;
 use instance_model::textbook_law;
@@ -97,7 +100,14 @@ pub fn check(alloc: Global, instance: &Instance, v: &Verdict) -> Result<Checked,
     requires verdict { IsVerdict (verdict_value v.now) }
     ensures valid { IfOk result (λ checked. (checked ≡ Valid) ↔ IsAccepted (instance_value instance.now) (verdict_value v.now)) }
     ensures invalid { IfOk result (λ checked. (r : Reason) → (checked ≡ Invalid r) ↔ FailsFirst (instance_value instance.now) (verdict_value v.now) r) }
+    // Of a yes: it is valid exactly where it is true.
+    ensures exact { IfOk result (λ checked. IsLinear (instance_value instance.now) → IsYesFor (instance_value instance.now) (verdict_value v.now)
+        → (checked ≡ Valid) ↔ IsTrueVerdict (instance_value instance.now) (verdict_value v.now)) }
 {
+    true_law();
+    exact_laws();
+    // An instance is what its type says.
+    let _kind = instance.kind();
     match first_failing(alloc, instance, v)? {
         None => Ok(Checked::Valid),
         Some(reason) => Ok(Checked::Invalid(reason)),
@@ -115,6 +125,19 @@ pub fn true_law()
 {
     textbook_law();
     tied_law();
+}
+
+/// A yes that is true of an instance of any kind but a circular one is accepted; and of a tree that fits the derived rows
+/// the test `Complete` asks neither more nor less than that it has every textbook order.
+///
+/// That a tree whose frontiers are exactly the valid orders is tied to the rows is a law of `exact_tree`.
+pub fn exact_laws()
+    ensures true_yes { TrueYesLaw }
+    ensures complete { CompleteLaw }
+{
+    textbook_law();
+    tied_law();
+    exact_law();
 }
 
 /// What a solver finds passes each test: textbook orders with a tree whose frontiers keep the derived rows, which in

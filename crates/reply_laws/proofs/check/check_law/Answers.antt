@@ -2,4 +2,11 @@ use Rattle.reply_laws.proofs.Judged as laws
 use Rattle.reply_laws.proofs.check.check_law.Goals as goal
 
 pub returns : goal.returns
-returns c = record { believed = laws.check_law c.instance_law.ensures c.true_law.ensures; status = laws.status_law c.one_verdict.ensures }
+returns c =
+    let read = c.instance_law.ensures in
+    let one = c.one_verdict.ensures in
+    record {
+      believed = laws.check_law read c.true_law.ensures;
+      status = laws.status_law one;
+      exact = laws.true_status_law read c.true_law.ensures c.exact_laws.ensures.true_yes one;
+    }

@@ -1,4 +1,4 @@
-use Rattle.std.proofs.Common.{◌≤◌, refl, subst}
+use Rattle.std.proofs.Common.{refl, subst}
 use Rattle.column_order.specs.Orders.{HasValidOrder}
 use Rattle.c1p_solve.specs.Answers.{HasAllOrders}
 use Rattle.instance_model.specs.Value.{instance_value}
@@ -16,11 +16,10 @@ yes_on-requires c =
     let o = c.requires.orders in
     let is = c.requires.matrix.1 in
     let proper : IsProper m.columns (outline t) = subst (λ n. IsProper n (outline t)) o.columns t.proper in
-    let some = subst (λ n. 1 ≤ n) c.columns-columns.ensures.columns c.columns-columns.ensures.range.0 in
     let all : HasAllOrders m t = record {
       columns = o.columns;
       canonical = o.canonical;
-      tied = c.exact_law.ensures m.columns m.rows (outline t) some c.all_within.ensures proper o.orders;
+      tied = c.exact_law.ensures m.columns m.rows (outline t) proper o.orders;
       orders = o.orders;
     } in
     let valid : HasValidOrder m.columns m.rows = (leaves (outline t), (o.orders (leaves (outline t))).0 (c.leaves_law.ensures (outline t))) in
