@@ -4,4 +4,6 @@ pub mod Bare
 pub mod Paths
 pub mod Trees
 pub mod Outlines
+pub mod Rows
+pub mod Nodes
 pub mod Spares

@@ -32,6 +32,16 @@ pub occurs_last : (xs : List ℕ) (x : ℕ) → 1 ≤ occurs (x ∷ xs) (last_or
 occurs_last [] x = occurs_here x []
 occurs_last (y ∷ ys) x = omega (arith, occurs_last ys y)
 
+-- the neighbours of x in a ring are in it
+pub occurs_behind : (us vs : List ℕ) (x : ℕ) → 1 ≤ occurs (us ++ x ∷ vs) (head_or vs (head_or us x))
+occurs_behind [] [] x = occurs_here x []
+occurs_behind (u ∷ us) [] x = occurs_here u (us ++ x ∷ [])
+occurs_behind us (v ∷ vs) x = omega (arith, occurs-append us (x ∷ v ∷ vs) v, occurs_here v vs)
+
+pub occurs_before : (us vs : List ℕ) (x : ℕ) → 1 ≤ occurs (us ++ x ∷ vs) (last_or us (last_or vs x))
+occurs_before [] vs x = occurs_last vs x
+occurs_before (u ∷ us) vs x = omega (arith, occurs-append (u ∷ us) (x ∷ vs) (last_or us u), occurs_last us u)
+
 pub occurs_at : (xs : List ℕ) (i : ℕ) → i < length xs → 1 ≤ occurs xs (get_or xs i 0)
 occurs_at [] i l = absurd (omega arith)
 occurs_at (x ∷ xs) zero l = occurs_here x xs

@@ -104,6 +104,9 @@ height_few f t h i =
 pub below_named : (f : Layout) (t : NamedTree) → IsLayout f → IsAt f.slots t → outline_below f (top_name t) ≡ outline_named t
 below_named f t h i = outline_known (length f.slots) f.slots t i (height_few f t h i)
 
+pub below_tree : (f : Layout) (n : ℕ) → IsLayout f → (t : TreeAt f n) → outline_below f n ≡ outline_named t.it
+below_tree f n h t = ap (outline_below f) (sym t.named) ∙ below_named f t.it h t.is
+
 outlines_below : (f : Layout) (ts : NamedTrees) → IsLayout f → AreAt f.slots ts → forest (map (outline_below f) (top_names ts)) ≡ outlines_named ts
 outlines_below f no_named h i = refl
 outlines_below f (named_and t ts) h i =
@@ -206,7 +209,7 @@ mutual
 pub one_order : (f : Layout) → IsLayout f → IsOneTree f → IsOrder f.columns (leaves (outline_at f))
 one_order f h one b =
     let r : TreeAt f f.root = tree_at f f.root h h.root_used in
-    let out : outline_at f ≡ outline_named r.it = ap (outline_below f) (sym r.named) ∙ below_named f r.it h r.is in
+    let out : outline_at f ≡ outline_named r.it = below_tree f f.root h r in
     ap (λ z. occurs (leaves z) b) out ∙ elim (in_range f.columns b) [
       | inl i ↦
           let lo : 1 ≤ b = i.0 in let hi : b ≤ f.columns = i.1 in

@@ -3,8 +3,8 @@ use Rattle.std.proofs.Common.{◌≡◌, ◌≢◌, inl, inr, ℕ, ◌≤◌, Li
 use Rattle.std.proofs.lemmas.Bool.{cases_eq, cases_lt}
 use Rattle.arena_model.proofs.Lists.{occurs_here, occurs_other}
 use Rattle.arena_model.proofs.Paths.{above_step}
-use Rattle.arena_model.proofs.Slots.{some_none, children_times}
-use Rattle.arena_model.specs.Layout.{Slot, Layout, slot, shape_at, children_at, times_child, IsGrounded, grounded, IsAtOrAbove, here, down, IsLayout, IsInUse}
+use Rattle.arena_model.proofs.Slots.{some_none, child_used}
+use Rattle.arena_model.specs.Layout.{Slot, Layout, slot, shape_at, children_at, IsGrounded, grounded, IsAtOrAbove, here, down, IsLayout, IsInUse}
 use Rattle.arena_model.specs.NamedTree.{NamedTree, NamedTrees, named_tree, no_named, named_and, top_name, top_names, IsAt, AreAt, node_names, node_names_of}
 use Rattle.column_order.proofs.Lists.{occurs-append}
 use Rattle.column_order.specs.Orders.{occurs}
@@ -33,7 +33,7 @@ pub record TreesAt (f : Layout) (ks : List ℕ) : Type 0 where
   pub are : AreAt f.slots them
   pub called : top_names them ≡ ks
 
-some_of : {A : Type 0} (o : Option A) → o ≢ None → (x : A) × (o ≡ Some x)
+pub some_of : {A : Type 0} (o : Option A) → o ≢ None → (x : A) × (o ≡ Some x)
 some_of None h = absurd (h refl)
 some_of (Some x) h = (x, refl)
 
@@ -47,7 +47,7 @@ all_at f (k ∷ ks) h =
 tree_of : (f : Layout) (n : ℕ) → IsLayout f → IsGrounded f.slots n → IsInUse f n → TreeAt f n
 tree_of f _ h (grounded n below) used =
     let r : TreesAt f (children_at f n) = all_at f (children_at f n)
-    (λ k o. tree_of f k h (below k o) (h.used k (let a : occurs (children_at f n) k ≤ times_child f.slots k = children_times f n k in omega arith))) in
+    (λ k o. tree_of f k h (below k o) (child_used f n k h o)) in
     let s = some_of (shape_at f n) used in
     record {
       it = named_tree n s.0 r.them;

@@ -1,8 +1,12 @@
 -- Leaves of a row, at or below a node.
-use Rattle.std.specs.Prelude.{◌≡◌, ℕ, ◌≤◌, List, Some}
+use Rattle.std.specs.Prelude.{◌≡◌, ℕ, ◌-◌, ◌≤◌, List, map, Some}
 use Rattle.column_order.specs.Orders.{occurs}
 use Rattle.arena_model.specs.declared.Shape.TheVariants.{Leaf}
 use Rattle.arena_model.specs.Layout.{Layout, shape_at, IsAtOrAbove}
+
+-- the leaves of the columns of a row: each has the number before its column
+abbrev pub column_leaves : List ℕ → List ℕ
+column_leaves row = map (λ a. a - 1) row
 
 -- x is a leaf
 abbrev pub IsLeafAt : Layout → ℕ → Type 0

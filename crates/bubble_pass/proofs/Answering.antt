@@ -6,7 +6,7 @@ use Rattle.pq_tree.specs.Amortised.{nodes_met, nodes_met_below_root}
 use Rattle.arena_model.specs.declared.Shape.TheVariants.{Q}
 use Rattle.arena_model.specs.Layout.{Layout, children_at, IsAtOrAbove, here, down, IsInUse, IsLayout}
 use Rattle.arena_model.specs.NamedTree.{outline_at, outline_below, IsOneTree}
-use Rattle.arena_model.proofs.Slots.{used_by}
+use Rattle.arena_model.proofs.Slots.{used_by, parent_used}
 use Rattle.arena_model.proofs.Trees.{no_circle}
 use Rattle.bubble_pass.specs.declared.tables.Found.{Found}
 use Rattle.bubble_pass.specs.declared.tables.Found.TheVariants.{Root, Inside, Split}
@@ -17,7 +17,6 @@ use Rattle.bubble_pass.specs.Ends.{AreLeaves}
 use Rattle.bubble_pass.specs.Fair.{AtMost}
 use Rattle.bubble_pass.specs.Marks.{Marks}
 use Rattle.bubble_pass.specs.Pass.{IsAnswer, IsHeld}
-use Rattle.bubble_pass.proofs.Seats.{parent_used}
 use Rattle.bubble_pass.proofs.Smallest.{inside_least}
 use Rattle.bubble_pass.proofs.Outlines.{row_leaves, root_outline}
 use Rattle.bubble_pass.proofs.Bounds.{at_most_met}

@@ -1,7 +1,7 @@
 -- The leaves of the row are queued.
 use Rattle.std.proofs.Common.{◌≡◌, ◌≢◌, inl, inr, ℕ, suc, ◌+◌, ◌≤◌, ◌<◌, List, [], ◌∷◌, ◌++◌, length, set, sum_by, take, drop, get_or, refl, sym, ap, subst, ◌∙◌, arith}
 use Rattle.std.proofs.lemmas.Bool.{cases_eq, cases_lt}
-use Rattle.std.proofs.lemmas.List.{length-set, take_more, take-append-drop, map-append, length-append}
+use Rattle.std.proofs.lemmas.List.{length-set, take_more, take-append-drop, length-append}
 use Rattle.std.proofs.lemmas.List.Sums.{sum_by-cons}
 use Rattle.pq_arena.specs.declared.node.NodeId.{NodeId}
 use Rattle.column_order.specs.Orders.{occurs}
@@ -13,7 +13,6 @@ use Rattle.arena_model.proofs.Slots.{in_range}
 use Rattle.bubble_pass.specs.declared.climber.Stage.{Stage}
 use Rattle.bubble_pass.specs.declared.climber.Stage.TheVariants.{Unseen, Queued, Blocked, Top, InRun, Placed}
 use Rattle.bubble_pass.specs.declared.climber.Climber.{Climber}
-use Rattle.pq_arena.specs.RowNodes.{indices}
 use Rattle.bubble_pass.specs.Climb.{most_nodes, stage, IsSeen, parked_one, unseen_one, Climb, Queue, Reached, at_leaf, from_child}
 use Rattle.bubble_pass.specs.Moves.{Kept, Pushed, CanPush}
 use Rattle.bubble_pass.specs.Ends.{IsClear, AreLeaves, IsQueueing}
@@ -149,26 +148,15 @@ begun_more f row w b n h g off used t =
           there x (λ e. let k : 1 ≤ occurs (n.index ∷ []) x = subst (λ y. 1 ≤ occurs (n.index ∷ []) y) (sym e) (occurs_here n.index []) in absurd (omega arith)) ∙ g.rest x (omega arith);
     }
 
-abbrev pub row_at : List NodeId → ℕ → ℕ
-row_at row i = (get_or row i (record { index = 0 })).index
-
-pub row_more : (row : List NodeId) (i : ℕ) → i < length row → indices (take (i + 1) row) ≡ indices (take i row) ++ row_at row i ∷ []
-row_more row i lt = ap indices (take_more row i (record { index = 0 }) lt) ∙ map-append (λ n. n.index) (take i row) _
-
-row_all : (row : List NodeId) (i : ℕ) → i < length row → (x : ℕ) →
-    occurs (indices row) x ≡ occurs (indices (take i row)) x + occurs (row_at row i ∷ []) x + occurs (indices (drop (i + 1) row)) x
+row_all : (row : List ℕ) (i : ℕ) → i < length row → (x : ℕ) →
+    occurs row x ≡ occurs (take i row) x + occurs (get_or row i 0 ∷ []) x + occurs (drop (i + 1) row) x
 row_all row i lt x =
-    let e : indices row ≡ (indices (take i row) ++ row_at row i ∷ []) ++ indices (drop (i + 1) row) =
-    ap indices (sym (take-append-drop (i + 1) row)) ∙ map-append (λ n. n.index) (take (i + 1) row) (drop (i + 1) row)
-    ∙ ap (λ z. z ++ indices (drop (i + 1) row)) (row_more row i lt) in
-    ap (λ z. occurs z x) e ∙ occurs-append (indices (take i row) ++ row_at row i ∷ []) (indices (drop (i + 1) row)) x
-    ∙ ap (λ k. k + occurs (indices (drop (i + 1) row)) x) (occurs-append (indices (take i row)) (row_at row i ∷ []) x)
+    let e : row ≡ (take i row ++ get_or row i 0 ∷ []) ++ drop (i + 1) row = sym (take-append-drop (i + 1) row) ∙ ap (λ z. z ++ drop (i + 1) row) (take_more row i 0 lt) in
+    ap (λ z. occurs z x) e ∙ occurs-append (take i row ++ get_or row i 0 ∷ []) (drop (i + 1) row) x ∙ ap (λ k. k + occurs (drop (i + 1) row) x) (occurs-append (take i row) (get_or row i 0 ∷ []) x)
 
-pub row_in : (row : List NodeId) (i : ℕ) → i < length row → 1 ≤ occurs (indices row) (row_at row i)
-row_in row i lt = omega (arith, row_all row i lt (row_at row i), occurs_here (row_at row i) [])
-
-pub row_new : (row : List NodeId) (i : ℕ) → i < length row → ((x : ℕ) → occurs (indices row) x ≤ 1) → occurs (indices (take i row)) (row_at row i) ≡ 0
-row_new row i lt once = let o : occurs (indices row) (row_at row i) ≤ 1 = once (row_at row i) in omega (arith, row_all row i lt (row_at row i), occurs_here (row_at row i) [])
+-- none of the first i leaves is the next one
+pub row_new : (row : List ℕ) (i : ℕ) → i < length row → ((x : ℕ) → occurs row x ≤ 1) → occurs (take i row) (get_or row i 0) ≡ 0
+row_new row i lt once = let o : occurs row (get_or row i 0) ≤ 1 = once (get_or row i 0) in omega (arith, row_all row i lt (get_or row i 0), occurs_here (get_or row i 0) [])
 
 pub leaf_in : (f : Layout) (row part : List ℕ) (w : Climber) → IsQueueing f part w → AreLeaves f row → (x : ℕ) → 1 ≤ occurs row x → x < length w.stages.items
 leaf_in f row part w b r x o = let l : x < length f.slots = in_range f x (r.used x o) in let e : length w.stages.items ≡ length f.slots = b.ready.kept.long in omega arith

@@ -5,18 +5,20 @@ use Rattle.std.proofs.lemmas.List.{length-append}
 use Rattle.column_order.specs.Orders.{occurs, has}
 use Rattle.column_order.proofs.Lists.{occurs-append}
 use Rattle.row_model.specs.Rows.{IsRow}
+use Rattle.row_model.proofs.Ascending.{row_within}
 use Rattle.pq_tree.specs.Outline.{leaves_of}
 use Rattle.pq_tree.specs.Nodes.{meets}
 use Rattle.pq_tree.specs.Amortised.{nodes_met, nodes_met_of}
+use Rattle.arena_model.specs.declared.Shape.{Shape}
 use Rattle.arena_model.specs.declared.Shape.TheVariants.{Leaf, P, Q}
 use Rattle.arena_model.specs.Layout.{Layout, children_at, IsAtOrAbove, here, down, IsInUse, MayHaveChildren, IsLayout}
 use Rattle.arena_model.specs.NamedTree.{NamedTree, NamedTrees, named_tree, no_named, named_and, top_names, IsAt, AreAt, node_names, node_names_of, outline_named, outlines_named, outline_below}
 use Rattle.arena_model.proofs.Lists.{occurs_here, occurs_other, only_one}
-use Rattle.arena_model.proofs.Outlines.{leaf_times, named_below}
-use Rattle.pq_arena.specs.RowNodes.{column_leaves}
-use Rattle.arena_model.specs.RowLeaves.{Meets}
+use Rattle.arena_model.proofs.Trees.{TreeAt, tree_at}
+use Rattle.arena_model.proofs.Outlines.{below_tree, leaf_times, named_below}
+use Rattle.arena_model.proofs.Rows.{leaf_in_row}
+use Rattle.arena_model.specs.RowLeaves.{column_leaves, Meets}
 use Rattle.bubble_pass.specs.Fair.{AtMost}
-use Rattle.bubble_pass.proofs.Outlines.{At, at_node, leaf_in_row}
 use Rattle.bubble_pass.proofs.Sums.{shorter}
 
 -- a list that has a column of the row meets it
@@ -76,6 +78,21 @@ no_names : (ts : NamedTrees) → top_names ts ≡ [] → node_names_of ts ≡ []
 no_names no_named e = refl
 no_names (named_and t ts) e = absurd (cc)
 
+-- so is an inner node above a leaf of the row, or one of those below it is
+met_inner : (f : Layout) (row : List ℕ) (n z x : ℕ) (s : Shape) (ts : NamedTrees) → IsAt f.slots (named_tree n s ts) → 1 ≤ occurs (node_names (named_tree n s ts)) z → IsTrue (has row (x + 1)) → IsAtOrAbove f.slots z x →
+    occurs (leaves_of (outlines_named ts)) (x + 1) ≡ occurs (node_names (named_tree n s ts)) x → (1 ≤ occurs (node_names_of ts) z → 1 ≤ occurs (met_names_of row ts) z) →
+    1 ≤ occurs (one_if (meets row (leaves_of (outlines_named ts))) n ++ met_names_of row ts) z
+met_inner f row n z x s ts i o hx l times below =
+    let each : occurs (one_if (meets row (leaves_of (outlines_named ts))) n ++ met_names_of row ts) z ≡ occurs (one_if (meets row (leaves_of (outlines_named ts))) n) z + occurs (met_names_of row ts) z =
+    occurs-append (one_if (meets row (leaves_of (outlines_named ts))) n) (met_names_of row ts) z in
+    elim (cases_eq z n) [
+      | inl e ↦
+          let b : 1 ≤ occurs (node_names (named_tree n s ts)) x = named_below f.slots (named_tree n s ts) x i (subst (λ v. IsAtOrAbove f.slots v x) e l) in
+          let m : 1 ≤ occurs (one_if (meets row (leaves_of (outlines_named ts))) n) z = one_here (meets row (leaves_of (outlines_named ts))) n z (meets_from row (leaves_of (outlines_named ts)) (x + 1) (omega arith) hx) e in
+          omega arith
+      | inr ne ↦ let m : 1 ≤ occurs (met_names_of row ts) z = below (subst (λ v. 1 ≤ v) (occurs_other n z (node_names_of ts) ne) o) in omega arith
+    ]
+
 -- a node of the tree above a leaf of the row is one of them
 mutual
   unfolding met_names met_names_of
@@ -90,26 +107,8 @@ mutual
       alone : (n y : ℕ) → IsAtOrAbove f.slots n y → children_at f n ≡ [] → n ≡ y
       alone _ _ (here n) e = refl
       alone _ _ (down n k y o l) e = absurd (let z : 1 ≤ occurs [] k = subst (λ v. 1 ≤ occurs v k) e o in omega arith)
-  met_has f row (named_tree n P ts) z x h i o lt hx l = elim (cases_eq z n) [
-    | inl e ↦
-        let b : 1 ≤ occurs (node_names (named_tree n P ts)) x = named_below f.slots (named_tree n P ts) x i (subst (λ v. IsAtOrAbove f.slots v x) e l) in
-        let k : occurs (leaves_of (outlines_named ts)) (x + 1) ≡ occurs (node_names (named_tree n P ts)) x = leaf_times f (named_tree n P ts) x h i lt in
-        let m : 1 ≤ occurs (one_if (meets row (leaves_of (outlines_named ts))) n) z = one_here (meets row (leaves_of (outlines_named ts))) n z (meets_from row (leaves_of (outlines_named ts)) (x + 1) (omega arith) hx) e in
-        omega (arith, occurs-append (one_if (meets row (leaves_of (outlines_named ts))) n) (met_names_of row ts) z)
-    | inr ne ↦
-        let m : 1 ≤ occurs (met_names_of row ts) z = met_has_of f row ts z x h i.1 (subst (λ v. 1 ≤ v) (occurs_other n z (node_names_of ts) ne) o) lt hx l in
-        omega (arith, occurs-append (one_if (meets row (leaves_of (outlines_named ts))) n) (met_names_of row ts) z)
-  ]
-  met_has f row (named_tree n Q ts) z x h i o lt hx l = elim (cases_eq z n) [
-    | inl e ↦
-        let b : 1 ≤ occurs (node_names (named_tree n Q ts)) x = named_below f.slots (named_tree n Q ts) x i (subst (λ v. IsAtOrAbove f.slots v x) e l) in
-        let k : occurs (leaves_of (outlines_named ts)) (x + 1) ≡ occurs (node_names (named_tree n Q ts)) x = leaf_times f (named_tree n Q ts) x h i lt in
-        let m : 1 ≤ occurs (one_if (meets row (leaves_of (outlines_named ts))) n) z = one_here (meets row (leaves_of (outlines_named ts))) n z (meets_from row (leaves_of (outlines_named ts)) (x + 1) (omega arith) hx) e in
-        omega (arith, occurs-append (one_if (meets row (leaves_of (outlines_named ts))) n) (met_names_of row ts) z)
-    | inr ne ↦
-        let m : 1 ≤ occurs (met_names_of row ts) z = met_has_of f row ts z x h i.1 (subst (λ v. 1 ≤ v) (occurs_other n z (node_names_of ts) ne) o) lt hx l in
-        omega (arith, occurs-append (one_if (meets row (leaves_of (outlines_named ts))) n) (met_names_of row ts) z)
-  ]
+  met_has f row (named_tree n P ts) z x h i o lt hx l = met_inner f row n z x P ts i o hx l (leaf_times f (named_tree n P ts) x h i lt) (λ k. met_has_of f row ts z x h i.1 k lt hx l)
+  met_has f row (named_tree n Q ts) z x h i o lt hx l = met_inner f row n z x Q ts i o hx l (leaf_times f (named_tree n Q ts) x h i lt) (λ k. met_has_of f row ts z x h i.1 k lt hx l)
 
   met_has_of : (f : Layout) (row : List ℕ) (ts : NamedTrees) (z x : ℕ) → IsLayout f → AreAt f.slots ts → 1 ≤ occurs (node_names_of ts) z → x < f.columns → IsTrue (has row (x + 1)) → IsAtOrAbove f.slots z x → 1 ≤ occurs (met_names_of row ts) z
   met_has_of f row no_named z x h i o lt hx l = absurd (omega arith)
@@ -122,15 +121,15 @@ mutual
 -- no more nodes at or below n meet the row than the tree there counts
 pub at_most_met : (f : Layout) (row : List ℕ) (n : ℕ) → IsLayout f → IsInUse f n → IsRow f.columns row → AtMost f (column_leaves row) n (nodes_met row (outline_below f n))
 at_most_met f row n h used r = λ xs once each.
-    let t : At f n = at_node f n h used in
+    let t : TreeAt f n = tree_at f n h used in
     let few : length xs ≤ length (met_names row t.it) = shorter xs (met_names row t.it) (λ z. elim (cases_lt 0 (occurs xs z)) [
       | inr l ↦ omega arith
       | inl o ↦
           let e = each z o in
           let m : Meets f (column_leaves row) z = e.0 in
-          let i = leaf_in_row f row m.0 r m.1 in
+          let i = leaf_in_row f row m.0 (row_within f.columns row r) m.1 in
           let k : 1 ≤ occurs (node_names t.it) z = named_below f.slots t.it z t.is (subst (λ v. IsAtOrAbove f.slots v z) (sym t.named) e.1) in
           let y : 1 ≤ occurs (met_names row t.it) z = met_has f row t.it z m.0 h t.is k i.0 i.1 m.2 in
           let one : occurs xs z ≤ 1 = once z in omega arith
     ]) in
-    omega (arith, met_length row t.it, ap (nodes_met row) t.outline)
+    omega (arith, met_length row t.it, ap (nodes_met row) (below_tree f n h t))

@@ -1,13 +1,12 @@
 -- What the end of the climb says.
-use Rattle.std.proofs.Common.{◌≡◌, ◌≢◌, ◌⊎◌, inl, inr, ℕ, ◌+◌, ◌≤◌, ◌<◌, List, [], ◌∷◌, ◌++◌, length, set, sum_by, get_or, Option, Some, refl, sym, ap, subst, ◌∙◌, arith}
+use Rattle.std.proofs.Common.{◌≡◌, ◌≢◌, ◌⊎◌, inl, inr, ℕ, ◌+◌, ◌≤◌, ◌<◌, List, [], ◌∷◌, ◌++◌, length, set, sum_by, Option, Some, refl, sym, ap, subst, ◌∙◌, arith}
 use Rattle.std.proofs.lemmas.Bool.{cases_eq}
-use Rattle.std.proofs.lemmas.List.{get_or_read}
 use Rattle.pq_arena.specs.declared.node.NodeId.{NodeId}
 use Rattle.pq_arena.specs.declared.node.NodeView.{NodeView}
 use Rattle.arena_model.specs.ChildLists.{none}
 use Rattle.column_order.specs.Orders.{occurs}
 use Rattle.arena_model.specs.Layout.{Layout, children_at, times_child, IsAtOrAbove, down, IsLayout}
-use Rattle.arena_model.proofs.Slots.{children_times}
+use Rattle.arena_model.proofs.Slots.{children_times, not_none}
 use Rattle.arena_model.specs.ChildLists.{head_or, last_or}
 use Rattle.pq_arena.specs.Looks.{ShowsNode, index_or_none, node_named}
 use Rattle.column_order.proofs.Lists.{occurs-append}
@@ -15,12 +14,12 @@ use Rattle.arena_model.proofs.Lists.{occurs_here, only_one, last_or-append}
 use Rattle.bubble_pass.specs.declared.climber.Stage.{Stage}
 use Rattle.bubble_pass.specs.declared.climber.Stage.TheVariants.{Unseen, Queued, Blocked, Top, InRun, Placed}
 use Rattle.bubble_pass.specs.declared.climber.Climber.{Climber}
-use Rattle.bubble_pass.specs.Climb.{no_id, stage, at, IsSeen, IsOpen, parked_one, unseen_one, Inner}
+use Rattle.bubble_pass.specs.Climb.{stage, at, IsSeen, IsOpen, parked_one, Inner}
 use Rattle.bubble_pass.specs.Moves.{Kept, Ready, Staged, near0, near1}
 use Rattle.arena_model.specs.RowLeaves.{Holds}
 use Rattle.bubble_pass.specs.Found.{Inside}
 use Rattle.bubble_pass.specs.Ends.{AreLeaves, IsOver, RunIs, CanGrow, Grown, OnlyOpen, OnlyRun}
-use Rattle.bubble_pass.proofs.Seats.{not_none, named_is, first, second}
+use Rattle.bubble_pass.proofs.Seats.{named_is, first, second}
 use Rattle.bubble_pass.proofs.Marks.{seen_by, seen_in, set_here, set_there, sum_set}
 use Rattle.bubble_pass.proofs.Walks.{blocked_not, less_parked}
 use Rattle.bubble_pass.proofs.Turns.{reach_near}
@@ -79,12 +78,6 @@ end_one f row a y h w r ge one p = one_open f row a.stages.items y h r.kept.clim
 pub flat_one : (f : Layout) (st : List Stage) (x : ℕ) → ((y : ℕ) → IsOpen (stage st y) → y ≡ x) → (y n : ℕ) → IsOpen (stage st y) → IsOpen (stage st n) → IsAtOrAbove f.slots n y → n ≡ y
 flat_one f st x only y n oy on l = only n on ∙ sym (only y oy)
 
-pub parked_read : (f : Layout) (row : List ℕ) (a : Climber) (i : ℕ) (x : NodeId) → Kept f row a → i < a.tail → x ≡ get_or a.queue.items i x → x.index ≡ at a.queue.items i
-parked_read f row a i x k lt e =
-    let room : a.tail + sum_by unseen_one a.stages.items ≡ length a.stages.items = k.queue.room in
-    let long : length a.queue.items ≡ length a.stages.items = k.queue.long in
-    ap (λ (n : NodeId). n.index) (get_or_read a.queue.items i x (omega arith) e no_id)
-
 pub parked_somewhere : (f : Layout) (row : List ℕ) (a : Climber) → Kept f row a → 1 ≤ a.parked → ((k : ℕ) → k < a.tail → parked_one (stage a.stages.items (at a.queue.items k)) ≡ 0) → ⊥
 parked_somewhere f row a k l none_is =
     let r = some_parked a.stages.items (let c : a.parked ≡ sum_by parked_one a.stages.items = k.count in omega arith) in
@@ -138,6 +131,11 @@ run_start f row a b1 y view h r bl some s t tp =
       tail = t.tail;
       parked = omega arith;
     }
+
+-- so it is where a blocked node is found once all turns are over
+pub run_begun : (f : Layout) (row : List ℕ) (a b1 : Climber) (y : NodeId) (view : NodeView) → IsLayout f → AreLeaves f row → Ready f row a → a.tail ≤ a.head → stage a.stages.items y.index ≡ Blocked →
+    ShowsNode f y.index view → Staged a b1 y InRun → b1.parked ≡ a.parked → Start f row a (less_parked b1) y view.near
+run_begun f row a b1 y view h w r ge bl s t tp = run_start f row a b1 y view h r bl (end_some f row a h w r ge) s t tp
 
 pub grow_first : (f : Layout) (row : List ℕ) (a b : Climber) (y : NodeId) (view : NodeView) → IsLayout f → ShowsNode f y.index view → Start f row a b y view.near → CanGrow f row b y (near0 view.near)
 grow_first f row a b y view h s t = record {
@@ -289,16 +287,29 @@ whole f row a b w1 w2 y view s0 s1 s2 h r bl t g1 g2 = elim t.sides [
       | inr e ↦ not_run x (sym (g1.growing.same x (λ q. let z = sym q ∙ e in cc)) ∙ e)
     ]
 
--- all that is parked is in the run
-unfoldable pub whole_inside : (f : Layout) (row : List ℕ) (a w : Climber) (y : ℕ) → IsLayout f → AreLeaves f row → a.tail ≤ a.head → a.parked ≢ 1 → 1 ≤ a.parked → Ready f row a → Whole f row a w y → w.parked ≡ 0 → Inside f row
-whole_inside f row a w y h rw ge ne1 some r t zero_is =
+-- the run that a blocked node begins once all turns are over
+pub whole_begun : (f : Layout) (row : List ℕ) (a b1 w1 w2 : Climber) (y : NodeId) (view : NodeView) (s0 s1 s2 : ℕ) → IsLayout f → AreLeaves f row → Ready f row a → a.tail ≤ a.head →
+    stage a.stages.items y.index ≡ Blocked → ShowsNode f y.index view → Staged a b1 y InRun → b1.parked ≡ a.parked →
+    Grown f row (less_parked b1) w1 y (near0 view.near) s0 s1 → Grown f row w1 w2 y (near1 view.near) s1 s2 → Whole f row a w2 y.index
+whole_begun f row a b1 w1 w2 y view s0 s1 s2 h rw r ge bl s t tp g1 g2 =
+    whole f row a (less_parked b1) w1 w2 y view s0 s1 s2 h r bl (run_begun f row a b1 y view h rw r ge bl s t tp) g1 g2
+
+pub whole_open : (f : Layout) (row : List ℕ) (a w : Climber) (y : ℕ) → a.tail ≤ a.head → Whole f row a w y → w.parked ≡ 0 → (z : ℕ) → IsOpen (stage w.stages.items z) → stage w.stages.items z ≡ InRun
+whole_open f row a w y ge t zero_is = λ z o.
     let st : List Stage = w.stages.items in
     let none_parked : sum_by parked_one st ≡ 0 = sym t.kept.count ∙ zero_is in
-    let open_run : (z : ℕ) → IsOpen (stage st z) → stage st z ≡ InRun =
-    (λ z o. elim (open_cases (stage st z) o) [
+    elim (open_cases (stage st z) o) [
       | inl q ↦ absurd (no_queued f row w t.kept (let a1 : w.head ≡ a.head = t.head in let a2 : w.tail ≡ a.tail = t.tail in omega arith) z q)
       | inr s ↦ elim s [ inl p ↦ absurd (let l : 1 ≤ sum_by parked_one st = parked_some st z p in omega arith) | inr i ↦ i ]
-    ]) in
+    ]
+
+-- all that is parked is in the run
+unfoldable pub whole_inside : (f : Layout) (row : List ℕ) (a w : Climber) (y : ℕ) → IsLayout f → AreLeaves f row → a.tail ≤ a.head → a.parked ≢ 1 → Ready f row a → Whole f row a w y → w.parked ≡ 0 → Inside f row
+whole_inside f row a w y h rw ge ne1 r t zero_is =
+    let some : 1 ≤ a.parked = end_some f row a h rw r ge in
+    let st : List Stage = w.stages.items in
+    let none_parked : sum_by parked_one st ≡ 0 = sym t.kept.count ∙ zero_is in
+    let open_run : (z : ℕ) → IsOpen (stage st z) → stage st z ≡ InRun = whole_open f row a w y ge t zero_is in
     let child : (z : ℕ) → 1 ≤ occurs t.ks z → 1 ≤ occurs (children_at f t.q) z =
     (λ z o. subst (λ k. 1 ≤ occurs k z) (sym t.run.kids_are) (omega (arith, occurs-append t.us (t.ks ++ t.vs) z, occurs-append t.ks t.vs z))) in
     record {
@@ -332,20 +343,11 @@ whole_inside f row a w y h rw ge ne1 some r t zero_is =
           down t.q b.y x (child b.y (t.run.only b.y (open_run b.y b.open_is))) b.leads;
     }
 
-pub whole_open : (f : Layout) (row : List ℕ) (a w : Climber) (y : ℕ) → a.tail ≤ a.head → Whole f row a w y → w.parked ≡ 0 → (z : ℕ) → IsOpen (stage w.stages.items z) → stage w.stages.items z ≡ InRun
-whole_open f row a w y ge t zero_is = λ z o.
-    let st : List Stage = w.stages.items in
-    let none_parked : sum_by parked_one st ≡ 0 = sym t.kept.count ∙ zero_is in
-    elim (open_cases (stage st z) o) [
-      | inl q ↦ absurd (no_queued f row w t.kept (let a1 : w.head ≡ a.head = t.head in let a2 : w.tail ≡ a.tail = t.tail in omega arith) z q)
-      | inr s ↦ elim s [ inl p ↦ absurd (let l : 1 ≤ sum_by parked_one st = parked_some st z p in omega arith) | inr i ↦ i ]
-    ]
-
 -- the whole run is what is left
-pub whole_left : (f : Layout) (row : List ℕ) (a w : Climber) (y : ℕ) → IsLayout f → AreLeaves f row → a.tail ≤ a.head → a.parked ≢ 1 → 1 ≤ a.parked → Ready f row a → Whole f row a w y → w.parked ≡ 0 → OnlyRun f row w
+pub whole_left : (f : Layout) (row : List ℕ) (a w : Climber) (y : ℕ) → IsLayout f → AreLeaves f row → a.tail ≤ a.head → a.parked ≢ 1 → Ready f row a → Whole f row a w y → w.parked ≡ 0 → OnlyRun f row w
 unfolding whole_inside
-whole_left f row a w y h rw ge ne1 some r t zero_is = record {
-  inside = whole_inside f row a w y h rw ge ne1 some r t zero_is;
+whole_left f row a w y h rw ge ne1 r t zero_is = record {
+  inside = whole_inside f row a w y h rw ge ne1 r t zero_is;
   run = t.run;
   only = whole_open f row a w y ge t zero_is;
 }

@@ -1,5 +1,5 @@
 -- What the pass has found, and what it left at the nodes.
-use Rattle.std.proofs.Common.{◌≡◌, ◌≢◌, inl, inr, ℕ, zero, suc, ◌+◌, ◌*◌, ◌≤◌, ◌<◌, true, List, [], ◌∷◌, ◌++◌, length, set, map, sum_by, take, get_or, unwrap_or, Option, Some, None, refl, sym, ap, subst, ◌∙◌, arith}
+use Rattle.std.proofs.Common.{◌≡◌, ◌≢◌, inl, inr, ℕ, zero, suc, ◌+◌, ◌*◌, ◌≤◌, ◌<◌, Bool, true, List, [], ◌∷◌, ◌++◌, length, set, map, sum_by, take, get_or, unwrap_or, Option, Some, None, refl, sym, ap, subst, ◌∙◌, arith}
 use Rattle.std.proofs.lemmas.Bool.{cases_eq, cases_lt}
 use Rattle.std.proofs.lemmas.List.{length-set}
 use Rattle.pq_arena.specs.declared.node.NodeId.{NodeId}
@@ -269,6 +269,25 @@ run_tables t w c ls = record t { climber = w; chains = c; labels = ls; inside = 
 pub run_ground : (f : Layout) (row : List ℕ) (w : Climber) (c : Chains) → IsLayout f → AreLeaves f row → Kept f row w → OnlyRun f row w → Linked w c w.tail → Ground f row w c
 run_ground f row w c h r k left linked = ground_run f row w c left.inside.q left.inside.us left.inside.ks left.inside.vs h r k left.run left.only linked
 
+-- each table has an entry for each node: those of the climb and the chains, those of the labels, and those that stayed
+sized_found : (f : Layout) (row : List ℕ) (t : Tables) (w : Climber) (c : Chains) (ls : Labels) (is_inside : Bool) → AreClear t (length f.slots) → Swept f row w ls ls.len →
+    length w.stages.items ≡ length f.slots → length w.queue.items ≡ length f.slots → length c.first.items ≡ length f.slots → length c.next.items ≡ length f.slots → length c.count.items ≡ length f.slots →
+    AreSized (record t { climber = w; chains = c; labels = ls; inside = is_inside }) (length f.slots)
+sized_found f row t w c ls is_inside clear swept stages queue first next count = record {
+  stages = stages;
+  queue = queue;
+  first = first;
+  next = next;
+  count = count;
+  labels = swept.sizes.0;
+  full = swept.sizes.1;
+  partial = swept.sizes.2;
+  nodes = swept.sizes.3;
+  seat_nodes = clear.sized.seat_nodes;
+  seats = clear.sized.seats;
+  few = clear.sized.few;
+}
+
 pub run_done : (f : Layout) (row : List ℕ) (t : Tables) (w : Climber) (c : Chains) (ls : Labels) → RanOut f row t w c ls → Done f row (run_tables t w c ls)
 run_done f row t w c ls r = record {
   forest = r.forest;
@@ -284,20 +303,7 @@ run_done f row t w c ls r = record {
   first_quiet = λ x u. (chain_none f row w c x r.kept r.linked u).0;
   next_quiet = r.linked.quiet;
   count_quiet = λ x u. (chain_none f row w c x r.kept r.linked u).1;
-  sized = record {
-    stages = r.kept.long;
-    queue = r.kept.queue.long ∙ r.kept.long;
-    first = r.linked.firsts ∙ r.kept.long;
-    next = r.linked.nexts ∙ r.kept.long;
-    count = r.linked.numbers ∙ r.kept.long;
-    labels = r.swept.sizes.0;
-    full = r.swept.sizes.1;
-    partial = r.swept.sizes.2;
-    nodes = r.swept.sizes.3;
-    seat_nodes = r.clear.sized.seat_nodes;
-    seats = r.clear.sized.seats;
-    few = r.clear.sized.few;
-  };
+  sized = sized_found f row t w c ls true r.clear r.swept r.kept.long (r.kept.queue.long ∙ r.kept.long) (r.linked.firsts ∙ r.kept.long) (r.linked.nexts ∙ r.kept.long) (r.linked.numbers ∙ r.kept.long);
   seat_nodes = λ x. (r.clear.blank x).node;
   seats = λ x. (r.clear.blank x).seat;
 }
@@ -376,20 +382,8 @@ root_done f row t a w c0 c ls top r o =
       first_quiet = λ x u. o.cuts.firsts x (chain_none f row a c0 x k o.linked (root_was f row a w c top r x m u)).0;
       next_quiet = λ x u. ap (λ v. entry v x) o.cuts.next ∙ o.linked.quiet x (root_was f row a w c top r x m u);
       count_quiet = λ x u. o.cuts.counts x (chain_none f row a c0 x k o.linked (root_was f row a w c top r x m u)).1;
-      sized = record {
-        stages = len;
-        queue = ap (λ (v : List NodeId). length v) m.staged.queue ∙ k.queue.long ∙ k.long;
-        first = o.firsts ∙ k.long;
-        next = ap (λ (v : List (Option NodeId)). length v) o.cuts.next ∙ o.linked.nexts ∙ k.long;
-        count = o.numbers ∙ k.long;
-        labels = o.swept.sizes.0;
-        full = o.swept.sizes.1;
-        partial = o.swept.sizes.2;
-        nodes = o.swept.sizes.3;
-        seat_nodes = o.clear.sized.seat_nodes;
-        seats = o.clear.sized.seats;
-        few = o.clear.sized.few;
-      };
+      sized = sized_found f row t w c ls t.inside o.clear o.swept len (ap (λ (v : List NodeId). length v) m.staged.queue ∙ k.queue.long ∙ k.long) (o.firsts ∙ k.long)
+          (ap (λ (v : List (Option NodeId)). length v) o.cuts.next ∙ o.linked.nexts ∙ k.long) (o.numbers ∙ k.long);
       seat_nodes = λ x. (o.clear.blank x).node;
       seats = λ x. (o.clear.blank x).seat;
     }

@@ -1,45 +1,25 @@
 -- Each frontier of the tree is an order of the arena's leaves.
-use Rattle.std.proofs.Common.{◌≡◌, inl, inr, ℕ, zero, suc, ◌+◌, ◌<◌, List, [], ◌∷◌, ◌++◌, length, map, reverse, get_or, set, swap, sum_by, Some, IsTrue, IsPermutation, refl, sym, ap, subst, ◌∙◌, arith}
-use Rattle.std.proofs.lemmas.List.{length-map, length-append, map-set, map-append, append_assoc, reverse-append}
-use Rattle.std.proofs.Math.ListN.{get_or-map}
+use Rattle.std.proofs.Common.{◌≡◌, inl, inr, ℕ, zero, suc, ◌+◌, ◌<◌, List, [], ◌∷◌, ◌++◌, length, map, reverse, get_or, sum_by, Some, IsTrue, IsPermutation, refl, sym, ap, subst, ◌∙◌, arith}
+use Rattle.std.proofs.lemmas.List.{length-map, length-append, map-append, append_assoc, reverse-append}
 use Rattle.std.proofs.lemmas.List.Sums.{sum_by-cons}
 use Rattle.std.proofs.lemmas.List.Elements.{All-from_recursion, recursion_from_All}
-use Rattle.std.proofs.lemmas.List.Sorted.{All-permutation, IsPermutation-keeps, IsPermutation-refl, IsPermutation-swap, IsPermutation-trans, IsPermutation-reverse, sum_by-IsPermutation}
+use Rattle.std.proofs.lemmas.List.Sorted.{All-permutation, IsPermutation-reverse, sum_by-IsPermutation}
 use Rattle.std.specs.List.{AllByRecursion, concat}
-use Rattle.column_order.specs.Orders.{occurs, has}
+use Rattle.column_order.specs.Orders.{occurs, has, IsWithin}
 use Rattle.column_order.specs.Orders
 use Rattle.column_order.proofs.Lists.{occurs_from_has}
 use Rattle.row_model.specs.Rows.{IsRow}
+use Rattle.row_model.proofs.Ascending.{row_within}
 use Rattle.pq_tree.specs.Outline.{IsFrontier, AreFrontiers}
+use Rattle.pq_tree.proofs.Frontiers.{permuted_map}
 use Rattle.arena_model.specs.declared.Shape.TheVariants.{Leaf, P, Q}
 use Rattle.arena_model.specs.Layout.{Layout, shape_at, children_at, IsLayout}
 use Rattle.arena_model.specs.NamedTree.{NamedTree, NamedTrees, named_tree, no_named, named_and, top_name, top_names, IsAt, AreAt, outline_named, outlines_named, outline_at}
-use Rattle.pq_arena.specs.RowNodes.{column_leaves}
+use Rattle.arena_model.specs.RowLeaves.{column_leaves}
+use Rattle.arena_model.proofs.Trees.{TreeAt, tree_at}
+use Rattle.arena_model.proofs.Outlines.{below_tree}
+use Rattle.arena_model.proofs.Rows.{row_occurs, leaf_in_row}
 use Rattle.bubble_pass.specs.Found.{Fronts, FrontsOf, front_leaf, front_p, front_q, front_back, no_fronts, and_fronts, StandsTogether, Split}
-use Rattle.bubble_pass.proofs.Outlines.{At, at_node, leaf_in_row, row_occurs}
-
-map-swap : {A B : Type 0} (f : A → B) (xs : List A) (i j : ℕ) → map f (swap xs i j) ≡ swap (map f xs) i j
-map-swap f [] i j = refl
-map-swap {A} {B} f (x ∷ xs) i j =
-    let l : List A = x ∷ xs in
-    let m : List B = map f l in
-    let a : A = get_or l i x in
-    let b : A = get_or l j x in
-    map-set f (set l i b) j a ∙
-    ap (λ k. set k j (f a)) (map-set f l i b) ∙
-    ap (λ y. set (set m i y) j (f a)) (sym (get_or-map f l j x)) ∙
-    ap (λ y. set (set m i (get_or m j (f x))) j y) (sym (get_or-map f l i x))
-
--- a permutation of images is the image of a permutation
-permuted_map : {A B : Type 0} (f : A → B) (xs : List A) (ys : List B) → IsPermutation (map f xs) ys → (zs : List A) × IsPermutation xs zs × (ys ≡ map f zs)
-permuted_map {A} {B} f xs ys h =
-    IsPermutation-keeps (map f xs) (λ l. (zs : List A) × IsPermutation xs zs × (l ≡ map f zs)) (xs, IsPermutation-refl xs, refl)
-    (λ l i j m n w.
-    let long : length l ≡ length w.0 = ap length w.2 ∙ length-map w.0 f in (
-      swap w.0 i j,
-      IsPermutation-trans xs w.0 (swap w.0 i j) w.1 (IsPermutation-swap w.0 (swap w.0 i j) i j (omega arith) (omega arith) refl),
-      ap (λ k. swap k i j) w.2 ∙ sym (map-swap f w.0 i j),
-    )) ys h
 
 -- the columns of leaves
 abbrev columns_at : List ℕ → List ℕ
@@ -161,6 +141,7 @@ get_behind (w ∷ ws) ys a = get_behind ws ys a
 -- an order of columns that keeps the row is one of leaves that does
 kept_nodes : (f : Layout) (row nodes : List ℕ) → IsRow f.columns row → Orders.Keeps (columns_at nodes) row → StandsTogether nodes (column_leaves row)
 kept_nodes f row nodes r k = λ ws xs ys zs a b c e oa oc.
+    let w : IsWithin f.columns row = row_within f.columns row r in
     let i : ℕ = length ws in
     let j : ℕ = length (ws ++ a ∷ xs) in
     let l : ℕ = length ((ws ++ a ∷ xs) ++ b ∷ ys) in
@@ -178,13 +159,13 @@ kept_nodes f row nodes r k = λ ws xs ys zs a b c e oa oc.
     let cl : get_or (columns_at nodes) l 0 ≡ c + 1 = column_get nodes l ln ∙ ap (λ v. v + 1) gc in
     let long : l < length (columns_at nodes) = omega (arith, length-map nodes suc) in
     let has_b : IsTrue (has row (b + 1)) = subst (λ v. IsTrue (has row v)) cb
-    (k i j l ij jl long (subst (λ v. IsTrue (has row v)) (sym ca) (leaf_in_row f row a r oa).1) (subst (λ v. IsTrue (has row v)) (sym cl) (leaf_in_row f row c r oc).1)) in
-    let q : occurs (column_leaves row) b ≡ occurs row (b + 1) = row_occurs f.columns 0 row b r in
+    (k i j l ij jl long (subst (λ v. IsTrue (has row v)) (sym ca) (leaf_in_row f row a w oa).1) (subst (λ v. IsTrue (has row v)) (sym cl) (leaf_in_row f row c w oc).1)) in
+    let q : occurs (column_leaves row) b ≡ occurs row (b + 1) = row_occurs f.columns row b w in
     omega (arith, occurs_from_has row (b + 1) has_b)
 
 -- where no order of the leaves keeps the row, no frontier does
 pub split_outline : (f : Layout) (row o : List ℕ) → IsLayout f → IsRow f.columns row → Split f (column_leaves row) → IsFrontier (outline_at f) o → Orders.Keeps o row → ⊥
 split_outline f row o h r s fr k =
-    let t : At f f.root = at_node f f.root h h.root_used in
-    let w : Front f (top_name t.it) o = front_of f t.it o h t.is (subst (λ z. IsFrontier z o) t.outline fr) in
+    let t : TreeAt f f.root = tree_at f f.root h h.root_used in
+    let w : Front f (top_name t.it) o = front_of f t.it o h t.is (subst (λ z. IsFrontier z o) (below_tree f f.root h t) fr) in
     s w.nodes (subst (λ z. Fronts f z w.nodes) t.named w.is) (kept_nodes f row w.nodes r (subst (λ z. Orders.Keeps z row) w.columns k))

@@ -8,13 +8,12 @@ use Rattle.arena_model.specs.Layout.{Layout, Slot, shape_at, children_at, times_
 use Rattle.arena_model.specs.ChildLists.{head_or, last_or}
 use Rattle.column_order.proofs.Lists.{occurs-append}
 use Rattle.arena_model.proofs.Lists.{occurs_here, occurs_last, occurs_other, occurs_same, only_one, last_or-append}
-use Rattle.arena_model.proofs.Slots.{children_times}
+use Rattle.arena_model.proofs.Slots.{children_times, child_at}
 use Rattle.arena_model.proofs.Paths.{above_step, one_parent}
 use Rattle.arena_model.proofs.Lists.{reverse_cons}
 use Rattle.bubble_pass.specs.Climb.{Inner}
 use Rattle.bubble_pass.specs.Found.{Fronts, FrontsOf, front_leaf, front_p, front_q, front_back, no_fronts, and_fronts}
 use Rattle.bubble_pass.specs.Ends.{IsFull}
-use Rattle.bubble_pass.proofs.Seats.{child_at}
 use Rattle.bubble_pass.proofs.Opens.{one_child}
 
 pub occurs_back : (xs : List ℕ) (x : ℕ) → occurs (reverse xs) x ≡ occurs xs x

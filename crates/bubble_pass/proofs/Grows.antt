@@ -9,36 +9,19 @@ use Rattle.column_order.specs.Orders.{occurs}
 use Rattle.arena_model.specs.Layout.{Layout, children_at, IsLayout}
 use Rattle.arena_model.specs.ChildLists.{head_or, last_or}
 use Rattle.pq_arena.specs.Looks.{ShowsNode, node_named}
-use Rattle.arena_model.proofs.Lists.{parent_inner}
+use Rattle.arena_model.proofs.Slots.{child_used, not_none, child_at, parent_used}
 use Rattle.column_order.proofs.Lists.{occurs-append}
-use Rattle.arena_model.proofs.Lists.{last_or-append, occurs_here, occurs_last, occurs_other}
+use Rattle.arena_model.proofs.Lists.{last_or-append, occurs_here, occurs_other}
 use Rattle.bubble_pass.specs.declared.climber.Stage.{Stage}
 use Rattle.bubble_pass.specs.declared.climber.Stage.TheVariants.{Blocked, Top, InRun}
 use Rattle.bubble_pass.specs.declared.climber.Climber.{Climber}
 use Rattle.bubble_pass.specs.Climb.{stage, IsSeen, parked_one, Inner, Climb, Queue}
 use Rattle.bubble_pass.specs.Moves.{Kept, Staged, blocked_in, InReach, beyond_in, past, near0, near1}
 use Rattle.bubble_pass.specs.Ends.{RunIs, RightOf, LeftOf, CanGrow, Growing}
-use Rattle.bubble_pass.proofs.Seats.{of_named, named_none, named_is, not_none, child_used, child_at, parent_used, no_end, Last, last_split, beyond_near, Near}
+use Rattle.bubble_pass.proofs.Seats.{same_node, of_named, named_none, named_is, no_end, Last, last_split, beyond_near, Near}
 use Rattle.bubble_pass.proofs.Marks.{seen_by, seen_in, set_here, set_there, climb_parking, queue_kept, queued_blocked, blocked_placed, sum_set}
 use Rattle.bubble_pass.proofs.Walks.{blocked_is, blocked_count, less_parked}
-use Rattle.bubble_pass.proofs.Turns.{reach_near}
-
--- an inner child shows no parent
-pub inner_parent : (f : Layout) (n : ℕ) (view : NodeView) → IsLayout f → ShowsNode f n view → Inner f n → view.parent ≡ None
-inner_parent f n view h s i = by_lists i.us i.vs i.kids_are i.left i.right
-  where
-    by_lists : (us vs : List ℕ) → children_at f i.q ≡ us ++ n ∷ vs → 1 ≤ length us → 1 ≤ length vs → view.parent ≡ None
-    by_lists [] vs ks l r = absurd (omega arith)
-    by_lists (u ∷ us) [] ks l r = absurd (omega arith)
-    by_lists (u ∷ us) (v ∷ vs) ks l r =
-        let a : last_or us u ≢ none = not_none f (last_or us u) h (child_used f i.q (last_or us u) h
-        (subst (λ k. 1 ≤ occurs k (last_or us u)) (sym ks) (omega (arith, occurs-append (u ∷ us) (n ∷ v ∷ vs) (last_or us u), occurs_last us u)))) in
-        let b : v ≢ none = not_none f v h (child_used f i.q v h
-        (subst (λ k. 1 ≤ occurs k v) (sym ks) (omega (arith, occurs-append (u ∷ us) (n ∷ v ∷ vs) v, occurs_here v vs)))) in
-        (s.run i.q (u ∷ us) (v ∷ vs) i.is_q ks).0 ∙ ap node_named (parent_inner i.q (last_or us u) v a b) ∙ named_none
-
-same_id : (a b : NodeId) → a.index ≡ b.index → a ≡ b
-same_id a b e = ap (λ i. let n : NodeId = record { index = i } in n) e
+use Rattle.bubble_pass.proofs.Turns.{inner_parent, reach_near}
 
 pub beyond_other : (near : List (Option NodeId)) (a h : Option NodeId) (b : NodeId) → (near ≡ a ∷ h ∷ []) ⊎ (near ≡ h ∷ a ∷ []) → a ≡ Some b → beyond_in near b ≡ h
 beyond_other near a h b (inl e) ab =
@@ -48,7 +31,7 @@ beyond_other near a h b (inr e) ab = ap (λ o. past o (near1 near) b) (ap near0 
     at : (o : Option NodeId) → past o (Some b) b ≡ o
     at None = refl
     at (Some y) = elim (cases_eq y.index b.index) [
-      | inl q ↦ ap (λ t. cond t (Some b) (Some y)) (let t : eqb y.index b.index ≡ true = eq-eqb y.index b.index q in t) ∙ ap (λ z. Some z) (same_id b y (sym q))
+      | inl q ↦ ap (λ t. cond t (Some b) (Some y)) (let t : eqb y.index b.index ≡ true = eq-eqb y.index b.index q in t) ∙ ap (λ z. Some z) (same_node b y (sym q))
       | inr ne ↦ ap (λ t. cond t (Some b) (Some y)) (ne_eqb y.index b.index ne)
     ]
 

@@ -13,7 +13,7 @@ use Rattle.arena_model.specs.Layout.{Layout, shape_at, children_at, times_child,
 use Rattle.arena_model.proofs.Paths.{above_step}
 use Rattle.arena_model.specs.ChildLists.{head_or, last_or}
 use Rattle.pq_arena.specs.Looks.{node_named, ShowsNode}
-use Rattle.arena_model.proofs.Slots.{in_range, children_times}
+use Rattle.arena_model.proofs.Slots.{child_used, in_range, children_times, not_none, child_at}
 use Rattle.arena_model.proofs.Slots.{some_inj}
 use Rattle.column_order.proofs.Lists.{occurs-append}
 use Rattle.arena_model.proofs.Lists.{last_or-append, occurs_here, occurs_other, only_one, SplitAt, split_at}
@@ -29,7 +29,7 @@ use Rattle.bubble_pass.specs.Chains.{number}
 use Rattle.bubble_pass.specs.Roots.{below}
 use Rattle.bubble_pass.specs.Ends.{IsFull}
 use Rattle.bubble_pass.specs.Sweep.{label, full_one, full_only, full_in, IsRight, IsPertinent, Ground, Place, Swept, CanJudge, Judging, IsIn, other_in}
-use Rattle.bubble_pass.proofs.Seats.{of_named, named_none, named_is, not_none, child_used, child_at}
+use Rattle.bubble_pass.proofs.Seats.{of_named, named_none, named_is}
 
 -- what full_at answers
 pub full_is : (ls : List Label) (o : Option NodeId) (y : NodeId) → full_in ls o ≡ Some y → (o ≡ Some y) × (label ls y.index ≡ Full)

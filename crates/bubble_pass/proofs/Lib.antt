@@ -21,7 +21,6 @@ pub mod Smallest
 pub mod Tabling
 pub mod Putting
 pub mod Finding
-pub mod Columns
 pub mod Outlines
 pub mod Bounds
 pub mod Frontiers

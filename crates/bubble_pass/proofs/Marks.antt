@@ -5,11 +5,11 @@ use Rattle.std.proofs.lemmas.List.{get_or-set_same, get_or-set_other, length-set
 use Rattle.std.proofs.lemmas.List.Sums.{sum_by-set, get_or-le-sum_by}
 use Rattle.pq_arena.specs.declared.node.NodeId.{NodeId}
 use Rattle.column_order.specs.Orders.{occurs}
+use Rattle.arena_model.proofs.Slots.{parent_used}
 use Rattle.arena_model.specs.Layout.{Layout, children_at, times_child, IsInUse, IsLayout}
 use Rattle.bubble_pass.specs.declared.climber.Stage.{Stage}
 use Rattle.bubble_pass.specs.declared.climber.Stage.TheVariants.{Unseen, Queued, Blocked, Top, InRun, Placed}
 use Rattle.bubble_pass.specs.Climb.{no_id, stage, at, IsSeen, unseen_one, Reached, at_leaf, from_child, Inner, Entered, Climb, Queue}
-use Rattle.bubble_pass.proofs.Seats.{parent_used}
 
 pub seen_by : (s t : Stage) → s ≡ t → IsSeen t → IsSeen s
 seen_by s t e h = subst (λ z. IsSeen z) (sym e) h
@@ -192,6 +192,14 @@ climb_parking f row st x s c sx nx seen np top inner =
 pub sum_set : (g : Stage → ℕ) (st : List Stage) (x : ℕ) (s : Stage) → x < length st → sum_by g (set st x s) + g (stage st x) ≡ sum_by g st + g s
 sum_set g st x s l = sum_by-set g st x s Unseen l
 
+pub seen_or : (s : Stage) → (s ≢ Unseen) → IsSeen s
+seen_or Unseen h = absurd (h refl)
+seen_or Queued h = tt
+seen_or Blocked h = tt
+seen_or Top h = tt
+seen_or InRun h = tt
+seen_or (Placed m) h = tt
+
 pub unseen_not : (s : Stage) → IsSeen s → unseen_one s ≡ 0
 unseen_not Unseen h = absurd h
 unseen_not Queued h = refl
@@ -200,32 +208,52 @@ unseen_not Top h = refl
 unseen_not InRun h = refl
 unseen_not (Placed m) h = refl
 
+-- a node that was seen is at a later stage
+record Advanced (st : List Stage) (x : ℕ) (s : Stage) : Type 0 where
+  was : IsSeen (stage st x)
+  now : IsSeen s
+  free : Queued ≢ s
+
+-- what was seen is seen, and nothing else
+still_seen : (st : List Stage) (x : ℕ) (s : Stage) → Advanced st x s → (y : ℕ) → IsSeen (stage st y) → IsSeen (stage (set st x s) y)
+still_seen st x s a y e = elim (cases_eq y x) [
+  | inl i ↦ subst (λ z. IsSeen (stage (set st x s) z)) (sym i) (seen_by (stage (set st x s) x) s (set_here st x s (seen_in st x a.was)) a.now)
+  | inr ne ↦ seen_by (stage (set st x s) y) (stage st y) (set_there st x y s ne) e
+]
+
+was_seen : (st : List Stage) (x : ℕ) (s : Stage) → Advanced st x s → (y : ℕ) → IsSeen (stage (set st x s) y) → IsSeen (stage st y)
+was_seen st x s a y e = elim (cases_eq y x) [
+  | inl i ↦ subst (λ z. IsSeen (stage st z)) (sym i) a.was
+  | inr ne ↦ subst (λ z. IsSeen z) (set_there st x y s ne) e
+]
+
+-- what waits now is not x, and did so before
+was_queued : (st : List Stage) (x : ℕ) (s : Stage) → Advanced st x s → (y : ℕ) → Queued ≡ stage (set st x s) y → (y ≢ x) × (Queued ≡ stage st y)
+was_queued st x s a y d = elim (cases_eq y x) [
+  | inl e ↦ absurd (a.free (d ∙ ap (λ z. stage (set st x s) z) e ∙ set_here st x s (seen_in st x a.was)))
+  | inr ne ↦ (ne, d ∙ set_there st x y s ne)
+]
+
+same_room : (st : List Stage) (x : ℕ) (s : Stage) (tail : ℕ) → Advanced st x s → tail + sum_by unseen_one st ≡ length st → tail + sum_by unseen_one (set st x s) ≡ length (set st x s)
+same_room st x s tail a r =
+    let u : unseen_one (stage st x) ≡ 0 = unseen_not (stage st x) a.was in let v : unseen_one s ≡ 0 = unseen_not s a.now in
+    omega (arith, sum_set unseen_one st x s (seen_in st x a.was), length-set st x s)
+
 -- a node that does not wait changes
 pub queue_kept : (st : List Stage) (queue : List NodeId) (head tail x : ℕ) (s : Stage) → Queue st queue head tail → IsSeen (stage st x) → Queued ≢ stage st x →
     IsSeen s → Queued ≢ s → Queue (set st x s) queue head tail
 queue_kept st queue head tail x s q sx nx seen nq =
-    let l : x < length st = seen_in st x sx in
+    let a : Advanced st x s = record { was = sx; now = seen; free = nq } in
     record {
       order = q.order;
-      room = let u : unseen_one (stage st x) ≡ 0 = unseen_not (stage st x) sx in let v : unseen_one s ≡ 0 = unseen_not s seen in
-          let r : tail + sum_by unseen_one st ≡ length st = q.room in
-          omega (arith, sum_set unseen_one st x s l, length-set st x s);
+      room = same_room st x s tail a q.room;
       long = q.long ∙ sym (length-set st x s);
-      seen = λ i li. elim (cases_eq (at queue i) x) [
-        | inl e ↦ subst (λ z. IsSeen (stage (set st x s) z)) (sym e) (seen_by (stage (set st x s) x) s (set_here st x s l) seen)
-        | inr ne ↦ seen_by (stage (set st x s) (at queue i)) (stage st (at queue i)) (set_there st x (at queue i) s ne) (q.seen i li)
-      ];
-      waiting = λ i a b. let w : stage st (at queue i) ≡ Queued = q.waiting i a b in
+      seen = λ i li. still_seen st x s a (at queue i) (q.seen i li);
+      waiting = λ i b c. let w : stage st (at queue i) ≡ Queued = q.waiting i b c in
           set_there st x (at queue i) s (λ e. nx (sym (subst (λ z. stage st z ≡ Queued) e w))) ∙ w;
       apart = q.apart;
-      done = λ i li. elim (cases_eq (at queue i) x) [
-        | inl e ↦ subst (λ z. Queued ≢ stage (set st x s) z) (sym e) (λ d. nq (d ∙ set_here st x s l))
-        | inr ne ↦ λ d. q.done i li (d ∙ set_there st x (at queue i) s ne)
-      ];
-      all = λ y e. elim (cases_eq y x) [
-        | inl i ↦ q.all y (subst (λ z. IsSeen (stage st z)) (sym i) sx)
-        | inr ne ↦ q.all y (subst (λ z. IsSeen z) (set_there st x y s ne) e)
-      ];
+      done = λ i li d. q.done i li (was_queued st x s a (at queue i) d).1;
+      all = λ y e. q.all y (was_seen st x s a y e);
     }
 
 -- the first one has its turn
@@ -233,31 +261,19 @@ pub queue_popped : (st : List Stage) (queue : List NodeId) (head tail : ℕ) (s 
     IsSeen s → Queued ≢ s → Queue (set st (at queue head) s) queue (head + 1) tail
 queue_popped st queue head tail s q lt seen nq =
     let x : ℕ = at queue head in
-    let sx : IsSeen (stage st x) = q.seen head lt in
-    let l : x < length st = seen_in st x sx in
+    let a : Advanced st x s = record { was = q.seen head lt; now = seen; free = nq } in
     record {
       order = omega arith;
-      room = let u : unseen_one (stage st x) ≡ 0 = unseen_not (stage st x) sx in let v : unseen_one s ≡ 0 = unseen_not s seen in
-          let r : tail + sum_by unseen_one st ≡ length st = q.room in
-          omega (arith, sum_set unseen_one st x s l, length-set st x s);
+      room = same_room st x s tail a q.room;
       long = q.long ∙ sym (length-set st x s);
-      seen = λ i li. elim (cases_eq (at queue i) x) [
-        | inl e ↦ subst (λ z. IsSeen (stage (set st x s) z)) (sym e) (seen_by (stage (set st x s) x) s (set_here st x s l) seen)
-        | inr ne ↦ seen_by (stage (set st x s) (at queue i)) (stage st (at queue i)) (set_there st x (at queue i) s ne) (q.seen i li)
-      ];
-      waiting = λ i a b. set_there st x (at queue i) s (λ e. q.apart head i (omega arith) b (sym e)) ∙ q.waiting i (omega arith) b;
+      seen = λ i li. still_seen st x s a (at queue i) (q.seen i li);
+      waiting = λ i b c. set_there st x (at queue i) s (λ e. q.apart head i (omega arith) c (sym e)) ∙ q.waiting i (omega arith) c;
       apart = q.apart;
-      done = λ i li. elim (cases_eq (at queue i) x) [
-        | inl e ↦ subst (λ z. Queued ≢ stage (set st x s) z) (sym e) (λ d. nq (d ∙ set_here st x s l))
-        | inr ne ↦ λ d. elim (cases_lt i head) [
-          | inl a ↦ q.done i a (d ∙ set_there st x (at queue i) s ne)
-          | inr a ↦ ne (ap (λ k. at queue k) (let k : i ≡ head = omega arith in k))
-        ]
+      done = λ i li d. let w = was_queued st x s a (at queue i) d in elim (cases_lt i head) [
+        | inl b ↦ q.done i b w.1
+        | inr b ↦ w.0 (ap (λ k. at queue k) (let k : i ≡ head = omega arith in k))
       ];
-      all = λ y e. elim (cases_eq y x) [
-        | inl i ↦ q.all y (subst (λ z. IsSeen (stage st z)) (sym i) sx)
-        | inr ne ↦ q.all y (subst (λ z. IsSeen z) (set_there st x y s ne) e)
-      ];
+      all = λ y e. q.all y (was_seen st x s a y e);
     }
 
 pub unseen_room : (st : List Stage) (queue : List NodeId) (head tail m : ℕ) → Queue st queue head tail → stage st m ≡ Unseen → m < length st → tail < length queue

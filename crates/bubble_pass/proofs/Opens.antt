@@ -14,7 +14,7 @@ use Rattle.bubble_pass.specs.declared.climber.Stage.TheVariants.{Unseen, Queued,
 use Rattle.bubble_pass.specs.Climb.{stage, at, IsSeen, IsOpen, parked_one, Climb, Queue, Reached, at_leaf, from_child}
 use Rattle.arena_model.specs.RowLeaves.{Holds, Meets}
 use Rattle.bubble_pass.specs.Ends.{AreLeaves}
-use Rattle.bubble_pass.proofs.Marks.{seen_by, seen_in, sum_set, set_there}
+use Rattle.bubble_pass.proofs.Marks.{seen_by, seen_or, seen_in, sum_set, set_there}
 
 -- an open node between n and x
 pub record Below (f : Layout) (st : List Stage) (n x : ℕ) : Type 0 where
@@ -84,12 +84,7 @@ one_child f q a b x h oa ob la lb = elim (cases_eq a b) [
 
 -- parked nodes and their number
 pub parked_seen : (s : Stage) → parked_one s ≡ 1 → IsSeen s
-parked_seen Unseen e = absurd (omega arith)
-parked_seen Queued e = tt
-parked_seen Blocked e = tt
-parked_seen Top e = tt
-parked_seen InRun e = tt
-parked_seen (Placed m) e = tt
+parked_seen s e = seen_or s (λ q. let z : 0 ≡ 1 = sym (ap parked_one q) ∙ e in absurd (omega arith))
 
 pub two_parked : (st : List Stage) (x y : ℕ) → parked_one (stage st x) ≡ 1 → parked_one (stage st y) ≡ 1 → x ≢ y → 2 ≤ sum_by parked_one st
 two_parked st x y px py ne =

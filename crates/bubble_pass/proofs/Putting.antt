@@ -15,11 +15,9 @@ use Rattle.bubble_pass.specs.Climb.{stage, IsSeen}
 use Rattle.bubble_pass.specs.Chains.{entry}
 use Rattle.bubble_pass.specs.Sweep.{Noted}
 use Rattle.bubble_pass.specs.Tables.{node_at, seat_of, Swapped, CanExchange, AreInverse, AreSized, IsBlankAt, KnownFrom, AreKept, TouchedAt}
+use Rattle.bubble_pass.proofs.Seats.{same_node}
 use Rattle.bubble_pass.proofs.Marks.{seen_in}
 use Rattle.bubble_pass.specs.Marks.{Marks, exchange, placed_node, first_of, next_of, IsFollowed, tables_marks, IsPut}
-
-pub same_node : (a b : NodeId) → a.index ≡ b.index → a ≡ b
-same_node a b e = ap (λ i. let n : NodeId = record { index = i } in n) e
 
 exchange_old : (old new x : NodeId) → x.index ≡ old.index → exchange old new x ≡ new
 exchange_old old new x e = ap (λ b. cond b new (cond (eqb x.index new.index) old x)) (eq-eqb x.index old.index e)
@@ -199,9 +197,23 @@ put_is a a2 seats labels old new l p =
     ∙ ap (λ (v : Seats). tables_marks (record a2 { chains = a.chains; labels = a.labels; seats = v })) p.seats_same ∙ ap (λ v. tables_marks (record a2 { chains = a.chains; labels = a.labels; seats = a.seats; inside = v })) p.inside in
     subst (λ v. IsPut v (tables_marks (record a2 { seats = seats; labels = labels })) old new l) e (put_marks a a2 seats labels old new l p)
 
-pub put_kept : (a a2 : Tables) (seats : Seats) (labels : Labels) (old new : NodeId) (l : Label) → Putting a a2 seats labels old new l → AreKept (record a2 { seats = seats; labels = labels })
-put_kept a a2 seats labels old new l p =
-    let k : KnownFrom a2 (length a2.climber.stages.items) 0 = p.kept.known in let z : AreSized a2 (length a2.climber.stages.items) = k.sized in
+-- a node of which nothing is known is not one of which something is known
+unseen_off : (a : Tables) (n : NodeId) (y : ℕ) → IsSeen (stage a.climber.stages.items n.index) → stage a.climber.stages.items y ≡ Unseen → y ≢ n.index
+unseen_off a n y seen u e = subst (λ v. IsSeen v) (subst (λ v. stage a.climber.stages.items v ≡ Unseen) e u) seen
+
+-- the places in b are those in a, but of nodes of which something is known
+record SameSeats (a : Tables) (b : Seats) : Type 0 where
+  nodes : length b.nodes.items ≡ length a.seats.nodes.items
+  seats : length b.seats.items ≡ length a.seats.seats.items
+  node : (y : ℕ) → IsBlankAt a y → entry b.nodes.items y ≡ None
+  seat : (y : ℕ) → IsBlankAt a y → entry b.seats.items y ≡ None
+  inverse : AreInverse b
+
+-- the tables are kept where one label is written, of a node of which something is known
+kept_noted : (a : Tables) (seats : Seats) (labels : Labels) (n : NodeId) (l : Label) → AreKept a → IsSeen (stage a.climber.stages.items n.index) → Noted a.labels labels n l → SameSeats a seats →
+    AreKept (record a { seats = seats; labels = labels })
+kept_noted a seats labels n l kept seen p same =
+    let k : KnownFrom a (length a.climber.stages.items) 0 = kept.known in let z : AreSized a (length a.climber.stages.items) = k.sized in
     record {
       known = record {
         sized = record {
@@ -210,49 +222,62 @@ put_kept a a2 seats labels old new l p =
           first = z.first;
           next = z.next;
           count = z.count;
-          labels = ap (λ (v : List Label). length v) p.noted.labels ∙ length-set a2.labels.labels.items new.index l ∙ z.labels;
-          full = ap (λ (v : List ℕ). length v) p.noted.full ∙ z.full;
-          partial = ap (λ (v : List ℕ). length v) p.noted.partial ∙ z.partial;
-          nodes = ap (λ (v : List NodeId). length v) p.noted.nodes ∙ z.nodes;
-          seat_nodes = nodes_length a2.seats seats old new p.exchanged.swapped ∙ z.seat_nodes;
-          seats = seats_length a2.seats seats old new p.exchanged.swapped ∙ z.seats;
+          labels = ap (λ (v : List Label). length v) p.labels ∙ length-set a.labels.labels.items n.index l ∙ z.labels;
+          full = ap (λ (v : List ℕ). length v) p.full ∙ z.full;
+          partial = ap (λ (v : List ℕ). length v) p.partial ∙ z.partial;
+          nodes = ap (λ (v : List NodeId). length v) p.nodes ∙ z.nodes;
+          seat_nodes = same.nodes ∙ z.seat_nodes;
+          seats = same.seats ∙ z.seats;
           few = z.few;
         };
         all = k.all;
         inside = k.inside;
         room = k.room;
         blank = λ y u.
-            let b : IsBlankAt a2 y = k.blank y u in
-            let not_old : y ≢ old.index = (λ e. subst (λ v. IsSeen v) (subst (λ v. stage a2.climber.stages.items v ≡ Unseen) e u) p.old_seen) in
-            let not_new : y ≢ new.index = (λ e. subst (λ v. IsSeen v) (subst (λ v. stage a2.climber.stages.items v ≡ Unseen) e u) p.new_seen) in
+            let b : IsBlankAt a y = k.blank y u in
             record {
               stage = u;
               first = b.first;
               next = b.next;
               count = b.count;
-              label = ap (λ v. get_or v y Empty) p.noted.labels ∙ get_or-set_other a2.labels.labels.items new.index y l Empty not_new ∙ b.label;
-              full = ap (λ v. get_or v y 0) p.noted.full ∙ b.full;
-              partial = ap (λ v. get_or v y 0) p.noted.partial ∙ b.partial;
-              node = ap (λ v. entry v y) p.exchanged.swapped.nodes
-                  ∙ get_or-set_other (set a2.seats.nodes.items (seat_of a2.seats.seats.items old).index (Some new)) (seat_of a2.seats.seats.items new).index y (Some old) None (off y new b not_new)
-                  ∙ get_or-set_other a2.seats.nodes.items (seat_of a2.seats.seats.items old).index y (Some new) None (off y old b not_old) ∙ b.node;
-              seat = ap (λ v. entry v y) p.exchanged.swapped.seats
-                  ∙ get_or-set_other (set a2.seats.seats.items new.index (Some (seat_of a2.seats.seats.items old))) old.index y (Some (seat_of a2.seats.seats.items new)) None not_old
-                  ∙ get_or-set_other a2.seats.seats.items new.index y (Some (seat_of a2.seats.seats.items old)) None not_new ∙ b.seat;
+              label = ap (λ v. get_or v y Empty) p.labels ∙ get_or-set_other a.labels.labels.items n.index y l Empty (unseen_off a n y seen u) ∙ b.label;
+              full = ap (λ v. get_or v y 0) p.full ∙ b.full;
+              partial = ap (λ v. get_or v y 0) p.partial ∙ b.partial;
+              node = same.node y b;
+              seat = same.seat y b;
             };
         order = k.order;
-        len = let e : labels.len ≡ a2.labels.len = p.noted.len in let l1 : a2.labels.len ≤ length a2.climber.stages.items = k.len in omega arith;
+        len = let e : labels.len ≡ a.labels.len = p.len in let l1 : a.labels.len ≤ length a.climber.stages.items = k.len in omega arith;
       };
-      room = p.kept.room;
-      inverse = inverse_swapped a2.seats seats old new p.exchanged;
+      room = kept.room;
+      inverse = same.inverse;
     }
+
+-- the places stay where old and new, of which something is known, exchange theirs
+same_swapped : (a : Tables) (seats : Seats) (old new : NodeId) → Exchanged a.seats seats old new → IsSeen (stage a.climber.stages.items old.index) → IsSeen (stage a.climber.stages.items new.index) → SameSeats a seats
+same_swapped a seats old new x old_seen new_seen = record {
+  nodes = nodes_length a.seats seats old new x.swapped;
+  seats = seats_length a.seats seats old new x.swapped;
+  node = λ y b.
+      ap (λ v. entry v y) x.swapped.nodes
+      ∙ get_or-set_other (set a.seats.nodes.items (seat_of a.seats.seats.items old).index (Some new)) (seat_of a.seats.seats.items new).index y (Some old) None (off y new b (unseen_off a new y new_seen b.stage))
+      ∙ get_or-set_other a.seats.nodes.items (seat_of a.seats.seats.items old).index y (Some new) None (off y old b (unseen_off a old y old_seen b.stage)) ∙ b.node;
+  seat = λ y b.
+      ap (λ v. entry v y) x.swapped.seats
+      ∙ get_or-set_other (set a.seats.seats.items new.index (Some (seat_of a.seats.seats.items old))) old.index y (Some (seat_of a.seats.seats.items new)) None (unseen_off a old y old_seen b.stage)
+      ∙ get_or-set_other a.seats.seats.items new.index y (Some (seat_of a.seats.seats.items old)) None (unseen_off a new y new_seen b.stage) ∙ b.seat;
+  inverse = inverse_swapped a.seats seats old new x;
+}
   where
     -- a place of which nothing is known is that of its own node
-    off : (y : ℕ) (x : NodeId) → IsBlankAt a2 y → y ≢ x.index → y ≢ (seat_of a2.seats.seats.items x).index
-    off y x b ne e =
-        let s : NodeId = seat_of a2.seats.seats.items x in
-        let own : node_at a2.seats.nodes.items s ≡ s = ap (λ o. unwrap_or o s) (subst (λ v. entry a2.seats.nodes.items v ≡ None) e b.node) in
-        ne (e ∙ ap (λ (v : NodeId). v.index) (sym own ∙ p.exchanged.inverse.there x))
+    off : (y : ℕ) (n : NodeId) → IsBlankAt a y → y ≢ n.index → y ≢ (seat_of a.seats.seats.items n).index
+    off y n b ne e =
+        let s : NodeId = seat_of a.seats.seats.items n in
+        let own : node_at a.seats.nodes.items s ≡ s = ap (λ o. unwrap_or o s) (subst (λ v. entry a.seats.nodes.items v ≡ None) e b.node) in
+        ne (e ∙ ap (λ (v : NodeId). v.index) (sym own ∙ x.inverse.there n))
+
+pub put_kept : (a a2 : Tables) (seats : Seats) (labels : Labels) (old new : NodeId) (l : Label) → Putting a a2 seats labels old new l → AreKept (record a2 { seats = seats; labels = labels })
+put_kept a a2 seats labels old new l p = kept_noted a2 seats labels new l p.kept p.new_seen p.noted (same_swapped a2 seats old new p.exchanged p.old_seen p.new_seen)
 
 pub put_can : (t : Tables) (old new : NodeId) → AreKept t → IsSeen (stage t.climber.stages.items old.index) → IsSeen (stage t.climber.stages.items new.index) → CanExchange t.seats old new
 put_can t old new k so sn =
@@ -267,46 +292,7 @@ put_can t old new k so sn =
 -- one label is written
 pub marked_kept : (a a2 : Tables) (labels : Labels) (n : NodeId) (l : Label) → TouchedAt a a2 n → Noted a2.labels labels n l → AreKept (record a2 { labels = labels })
 marked_kept a a2 labels n l t p =
-    let k : KnownFrom a2 (length a2.climber.stages.items) 0 = t.kept.known in let z : AreSized a2 (length a2.climber.stages.items) = k.sized in
-    record {
-      known = record {
-        sized = record {
-          stages = refl;
-          queue = z.queue;
-          first = z.first;
-          next = z.next;
-          count = z.count;
-          labels = ap (λ (v : List Label). length v) p.labels ∙ length-set a2.labels.labels.items n.index l ∙ z.labels;
-          full = ap (λ (v : List ℕ). length v) p.full ∙ z.full;
-          partial = ap (λ (v : List ℕ). length v) p.partial ∙ z.partial;
-          nodes = ap (λ (v : List NodeId). length v) p.nodes ∙ z.nodes;
-          seat_nodes = z.seat_nodes;
-          seats = z.seats;
-          few = z.few;
-        };
-        all = k.all;
-        inside = k.inside;
-        room = k.room;
-        blank = λ y u.
-            let b : IsBlankAt a2 y = k.blank y u in
-            let not_new : y ≢ n.index = (λ e. subst (λ v. IsSeen v) (subst (λ v. stage a2.climber.stages.items v ≡ Unseen) e u) t.seen) in
-            record {
-              stage = u;
-              first = b.first;
-              next = b.next;
-              count = b.count;
-              label = ap (λ v. get_or v y Empty) p.labels ∙ get_or-set_other a2.labels.labels.items n.index y l Empty not_new ∙ b.label;
-              full = ap (λ v. get_or v y 0) p.full ∙ b.full;
-              partial = ap (λ v. get_or v y 0) p.partial ∙ b.partial;
-              node = b.node;
-              seat = b.seat;
-            };
-        order = k.order;
-        len = let e : labels.len ≡ a2.labels.len = p.len in let l1 : a2.labels.len ≤ length a2.climber.stages.items = k.len in omega arith;
-      };
-      room = t.kept.room;
-      inverse = t.kept.inverse;
-    }
+    kept_noted a2 a2.seats labels n l t.kept t.seen p (record { nodes = refl; seats = refl; node = λ y b. b.node; seat = λ y b. b.seat; inverse = t.kept.inverse })
 
 pub marked_is : (a a2 : Tables) (labels : Labels) (n : NodeId) (l : Label) → TouchedAt a a2 n → Noted a2.labels labels n l →
     tables_marks (record a2 { labels = labels }) ≡ record (tables_marks a) { labels = set a.labels.labels.items n.index l }

@@ -1,8 +1,8 @@
 -- What a look says of the place of a node.
-use Rattle.std.proofs.Common.{◌||◌, ◌≡◌, ◌≢◌, ◌⊎◌, inl, inr, ℕ, ◌≤◌, ◌<◌, true, false, cond, eqb, List, [], ◌∷◌, ◌++◌, length, Option, Some, None, refl, sym, ap, subst, ◌∙◌, arith, eq-eqb}
+use Rattle.std.proofs.Common.{◌||◌, ◌≡◌, ◌≢◌, ◌⊎◌, inl, inr, ℕ, ◌≤◌, true, false, cond, eqb, List, [], ◌∷◌, ◌++◌, length, Option, Some, None, refl, sym, ap, subst, ◌∙◌, arith, eq-eqb}
 use Rattle.std.proofs.lemmas.Bool.{cases_eq, cases_lt, ne_eqb}
 use Rattle.std.proofs.lemmas.List.{append_assoc}
-use Rattle.arena_model.proofs.Slots.{few_slots}
+use Rattle.arena_model.proofs.Slots.{child_used, not_none, parent_used, child_at}
 use Rattle.arena_model.specs.declared.Shape.{Shape}
 use Rattle.arena_model.specs.declared.Shape.TheVariants.{Leaf, P, Q}
 use Rattle.pq_arena.specs.declared.node.NodeId.{NodeId}
@@ -14,11 +14,10 @@ use Rattle.arena_model.specs.ChildLists.{head_or, last_or, end_parent}
 use Rattle.pq_arena.specs.Looks.{node_named, ShowsNode}
 use Rattle.column_order.proofs.Lists.{occurs-append}
 use Rattle.arena_model.proofs.Lists.{last_or-append, occurs_here, occurs_last, SplitAt, split_at}
-use Rattle.arena_model.proofs.Slots.{in_range, children_times}
 use Rattle.arena_model.proofs.Slots.{some_inj}
 use Rattle.arena_model.proofs.Paths.{one_parent}
 use Rattle.arena_model.proofs.Slots.{placed_in}
-use Rattle.bubble_pass.specs.Climb.{most_nodes, Inner, Beside, before, behind}
+use Rattle.bubble_pass.specs.Climb.{Inner, Beside, before, behind}
 use Rattle.bubble_pass.specs.Moves.{near0, near1, past, beyond_in}
 
 pub data Seat (f : Layout) (n : ℕ) (view : NodeView) : Type 0 where
@@ -38,15 +37,8 @@ seat f n view h = elim (cases_lt 0 (times_child f.slots n)) [
   | inr l ↦ seat_top (omega arith)
 ]
 
--- a node in use has no number that means none
-pub not_none : (f : Layout) (n : ℕ) → IsLayout f → IsInUse f n → n ≢ none
-not_none f n h u e = let l : n < length f.slots = in_range f n u in let k : length f.slots ≤ most_nodes = few_slots f h in omega arith
-
-pub child_used : (f : Layout) (m n : ℕ) → IsLayout f → 1 ≤ occurs (children_at f m) n → IsInUse f n
-child_used f m n h o = h.used n (let k : occurs (children_at f m) n ≤ times_child f.slots n = children_times f m n in omega arith)
-
-pub parent_used : (f : Layout) (m n : ℕ) → 1 ≤ occurs (children_at f m) n → IsLayout f → IsInUse f m
-parent_used f m n o h = λ e. let z : 1 ≤ occurs [] n = subst (λ ks. 1 ≤ occurs ks n) (subst (λ s. MayHaveChildren s (children_at f m)) e (h.children_fit m)) o in absurd (omega arith)
+pub same_node : (a b : NodeId) → a.index ≡ b.index → a ≡ b
+same_node a b e = ap (λ i. let n : NodeId = record { index = i } in n) e
 
 pub named_is : (x : ℕ) → x ≢ none → node_named x ≡ Some (let n : NodeId = record { index = x } in n)
 named_is x ne = ap (λ b. cond b None (Some (let n : NodeId = record { index = x } in n))) (ne_eqb x none ne)
@@ -59,9 +51,6 @@ of_named x y e = elim (cases_eq x none) [
   | inl q ↦ absurd (let z : None ≡ Some y = sym named_none ∙ sym (ap node_named q) ∙ e in cc)
   | inr ne ↦ ap (λ (n : NodeId). n.index) (some_inj _ _ (sym (named_is x ne) ∙ e))
 ]
-
-pub child_at : (f : Layout) (m n : ℕ) (us vs : List ℕ) → children_at f m ≡ us ++ n ∷ vs → 1 ≤ occurs (children_at f m) n
-child_at f m n us vs e = subst (λ ks. 1 ≤ occurs ks n) (sym e) (omega (arith, occurs-append us (n ∷ vs) n, occurs_here n vs))
 
 -- the node above, where it is shown
 pub parent_is : (f : Layout) (n : ℕ) (view : NodeView) (p : NodeId) → IsLayout f → ShowsNode f n view → view.parent ≡ Some p → 1 ≤ occurs (children_at f p.index) n

@@ -10,7 +10,7 @@ use Rattle.arena_model.specs.Layout.{Layout, shape_at, children_at, times_child,
 use Rattle.arena_model.specs.ChildLists.{head_or, last_or}
 use Rattle.column_order.proofs.Lists.{occurs-append}
 use Rattle.arena_model.proofs.Lists.{occurs_here, occurs_last, occurs_other, only_one, SplitAt, split_at}
-use Rattle.arena_model.proofs.Slots.{children_times}
+use Rattle.arena_model.proofs.Slots.{children_times, child_at}
 use Rattle.arena_model.proofs.Paths.{above_step, one_path, top_alone}
 use Rattle.arena_model.proofs.Trees.{no_circle}
 use Rattle.arena_model.proofs.Lists.{reverse_cons}
@@ -21,7 +21,7 @@ use Rattle.bubble_pass.specs.Climb.{stage, IsSeen, IsOpen, parked_one, Inner, Be
 use Rattle.bubble_pass.specs.Moves.{Ready}
 use Rattle.bubble_pass.specs.Found.{Fronts, FrontsOf, front_leaf, front_p, front_q, front_back, no_fronts, and_fronts, StandsTogether, Split}
 use Rattle.bubble_pass.specs.Ends.{AreLeaves, IsFull}
-use Rattle.bubble_pass.proofs.Seats.{child_at, Last, last_split}
+use Rattle.bubble_pass.proofs.Seats.{Last, last_split}
 use Rattle.bubble_pass.proofs.Marks.{seen_by}
 use Rattle.bubble_pass.proofs.Opens.{reached_meets, climbed, apart, one_child, some_parked}
 use Rattle.bubble_pass.proofs.Fronts.{Block, block, block_of, front_some, front_has, fronts_leads, Parts, parts, Outer, first_in, last_in, first_no_inner, last_no_inner, join_leads, occurs_back}

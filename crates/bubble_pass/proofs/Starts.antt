@@ -1,50 +1,40 @@
 -- The leaves of the row come first.
-use Rattle.std.proofs.Common.{◌≡◌, ◌≢◌, inl, inr, ℕ, ◌+◌, ◌≤◌, ◌<◌, List, [], ◌∷◌, length, set, sum_by, take, drop, get_or, refl, sym, ap, subst, ◌∙◌, arith}
-use Rattle.std.proofs.Math.Seq.{take-length}
+use Rattle.std.proofs.Common.{◌≡◌, ◌≢◌, inl, inr, ℕ, ◌+◌, ◌≤◌, ◌<◌, List, [], ◌∷◌, length, set, sum_by, take, refl, sym, ap, subst, ◌∙◌, arith}
 use Rattle.std.proofs.lemmas.Bool.{cases_eq}
-use Rattle.std.proofs.lemmas.List.{length-set, get_or-set_same, get_or-set_other, get_or_read, take-append-drop, map-append}
+use Rattle.std.proofs.lemmas.List.{length-set, length-take-le, get_or-set_same, get_or-set_other, get_or-take}
 use Rattle.std.proofs.lemmas.List.Sums.{sum_by-cons}
 use Rattle.pq_arena.specs.declared.node.NodeId.{NodeId}
-use Rattle.column_order.specs.Orders.{occurs}
+use Rattle.column_order.specs.Orders.{occurs, place}
 use Rattle.arena_model.proofs.Slots.{few_slots}
 use Rattle.arena_model.specs.Layout.{Layout, IsLayout}
-use Rattle.column_order.proofs.Lists.{occurs-append}
-use Rattle.arena_model.proofs.Lists.{occurs_here}
+use Rattle.column_order.proofs.Lists.{at_place, has_from_occurs}
+use Rattle.arena_model.proofs.Lists.{few_once, occurs_at, occurs_here}
 use Rattle.arena_model.proofs.Slots.{in_range}
-use Rattle.arena_model.proofs.Lists.{few_once}
 use Rattle.bubble_pass.specs.declared.climber.Climber.{Climber}
 use Rattle.bubble_pass.specs.declared.chains.Chains.{Chains}
 use Rattle.bubble_pass.specs.declared.labels.Label.{Label}
 use Rattle.bubble_pass.specs.declared.labels.Label.TheVariants.{Empty}
 use Rattle.bubble_pass.specs.declared.labels.Labels.{Labels}
-use Rattle.pq_arena.specs.RowNodes.{indices}
 use Rattle.bubble_pass.specs.Climb.{most_nodes, no_id, at}
 use Rattle.bubble_pass.specs.Chains.{number}
 use Rattle.bubble_pass.specs.Roots.{below}
 use Rattle.bubble_pass.specs.Ends.{AreLeaves}
 use Rattle.bubble_pass.specs.Sweep.{label, full_one, partial_one, Ground, Swept, Added, CanAdd, IsBlank, IsQuiet, Starting}
-use Rattle.bubble_pass.proofs.Linking.{turn_of, turns_more, exactly}
-use Rattle.bubble_pass.proofs.Descents.{turn_in}
+use Rattle.bubble_pass.proofs.Begins.{row_new}
 
-row_few : (f : Layout) (row : List NodeId) → AreLeaves f (indices row) → length row ≤ length f.slots
-row_few f row r =
-    let e : length (indices row) ≤ length f.slots = few_once (indices row) (length f.slots) r.once (λ x o. in_range f x (r.used x o)) in
-    let s : length (indices (take (length row) row)) ≡ length row = exactly row (length row) (omega arith) in
-    let t : length (indices (take (length row) row)) ≡ length (indices row) = ap (λ z. length (indices z)) (take-length row) in omega arith
+row_few : (f : Layout) (row : List ℕ) → AreLeaves f row → length row ≤ length f.slots
+row_few f row r = few_once row (length f.slots) r.once (λ x o. in_range f x (r.used x o))
 
-in_row : (row : List NodeId) (i : ℕ) → i < length row → 1 ≤ occurs (indices row) (at row i)
-in_row row i l = subst (λ z. 1 ≤ occurs (indices z) (at row i)) (take-length row) (turn_in row (length row) i (omega arith) l)
-
-pub start_none : (f : Layout) (row : List NodeId) (a : Labels) → IsBlank f a → Starting f row a a 0
+pub start_none : (f : Layout) (row : List ℕ) (a : Labels) → IsBlank f a → Starting f row a a 0
 start_none f row a b = record { labels = refl; full = refl; partial = refl; len = b.len; nodes = λ j l. absurd (omega arith); size = b.sizes.3; order = omega arith }
 
-pub start_can : (f : Layout) (row : List NodeId) (a b : Labels) (i : ℕ) → IsLayout f → AreLeaves f (indices row) → Starting f row a b i → i < length row → CanAdd b
+pub start_can : (f : Layout) (row : List ℕ) (a b : Labels) (i : ℕ) → IsLayout f → AreLeaves f row → Starting f row a b i → i < length row → CanAdd b
 start_can f row a b i h r s l = record {
   room = let k : length row ≤ length f.slots = row_few f row r in let e : b.len ≡ i = s.len in let d : length b.nodes.items ≡ length f.slots = s.size in omega arith;
   few = let d : length b.nodes.items ≡ length f.slots = s.size in let k : length f.slots ≤ most_nodes = few_slots f h in omega arith;
 }
 
-pub start_more : (f : Layout) (row : List NodeId) (a b c : Labels) (i : ℕ) (x : NodeId) → IsLayout f → AreLeaves f (indices row) → Starting f row a b i → i < length row → x.index ≡ at row i → Added b c x → Starting f row a c (i + 1)
+pub start_more : (f : Layout) (row : List ℕ) (a b c : Labels) (i : ℕ) (x : NodeId) → IsLayout f → AreLeaves f row → Starting f row a b i → i < length row → x.index ≡ number row i → Added b c x → Starting f row a c (i + 1)
 start_more f row a b c i x h r s l e t =
     let ei : b.len ≡ i = s.len in
     let room : b.len < length b.nodes.items = (start_can f row a b i h r s l).room in
@@ -54,37 +44,23 @@ start_more f row a b c i x h r s l e t =
       partial = t.partial ∙ s.partial;
       len = t.len ∙ ap (λ v. v + 1) s.len;
       nodes = λ j lj. elim (cases_eq j b.len) [
-        | inl q ↦ ap (λ v. at v j) t.nodes ∙ ap (λ v. at (set b.nodes.items b.len x) v) q ∙ ap (λ (v : NodeId). v.index) (get_or-set_same b.nodes.items b.len x no_id room) ∙ e ∙ ap (λ v. at row v) (let k : i ≡ j = omega arith in k)
+        | inl q ↦ ap (λ v. at v j) t.nodes ∙ ap (λ v. at (set b.nodes.items b.len x) v) q ∙ ap (λ (v : NodeId). v.index) (get_or-set_same b.nodes.items b.len x no_id room) ∙ e ∙ ap (λ v. number row v) (let k : i ≡ j = omega arith in k)
         | inr ne ↦ ap (λ v. at v j) t.nodes ∙ ap (λ (v : NodeId). v.index) (get_or-set_other b.nodes.items b.len j x no_id ne) ∙ s.nodes j (omega arith)
       ];
       size = ap (λ (v : List NodeId). length v) t.nodes ∙ length-set b.nodes.items b.len x ∙ s.size;
       order = omega arith;
     }
 
-pub start_read : (row : List NodeId) (i : ℕ) (x : NodeId) → i < length row → x ≡ get_or row i x → x.index ≡ at row i
-start_read row i x l e = ap (λ (n : NodeId). n.index) (get_or_read row i x l e no_id)
-
 no_sum : (g : Label → ℕ) (ls : List Label) (xs : List ℕ) → ((x : ℕ) → label ls x ≡ Empty) → g Empty ≡ 0 → sum_by (λ z. g (label ls z)) xs ≡ 0
 no_sum g ls [] h e = refl
 no_sum g ls (x ∷ xs) h e = let a : g (label ls x) ≡ 0 = ap g (h x) ∙ e in let r : sum_by (λ z. g (label ls z)) xs ≡ 0 = no_sum g ls xs h e in omega (arith, sum_by-cons (λ z. g (label ls z)) x xs)
 
--- none of the first y leaves is the next one
-new_off : (row : List NodeId) (y : ℕ) → y < length row → ((x : ℕ) → occurs (indices row) x ≤ 1) → 1 ≤ occurs (indices (take y row)) (at row y) → ⊥
-new_off row y l once o =
-    let e : occurs (indices (take (y + 1) row)) (at row y) ≡ occurs (indices (take y row)) (at row y) + occurs (at row y ∷ []) (at row y) =
-    ap (λ z. occurs z (at row y)) (turns_more row y l) ∙ occurs-append (indices (take y row)) (at row y ∷ []) (at row y) in
-    let all : occurs (indices row) (at row y) ≡ occurs (indices (take (y + 1) row)) (at row y) + occurs (indices (drop (y + 1) row)) (at row y) =
-    ap (λ z. occurs z (at row y)) (ap indices (sym (take-append-drop (y + 1) row)) ∙ map-append (λ n. n.index) (take (y + 1) row) (drop (y + 1) row))
-    ∙ occurs-append (indices (take (y + 1) row)) (indices (drop (y + 1) row)) (at row y) in
-    let k : occurs (indices row) (at row y) ≤ 1 = once (at row y) in
-    omega (arith, occurs_here (at row y) [])
-
-pub start_end : (f : Layout) (row : List NodeId) (w : Climber) (c : Chains) (a b : Labels) (i : ℕ) → IsLayout f → AreLeaves f (indices row) → Ground f (indices row) w c → IsBlank f a → Starting f row a b i → length row ≤ i → Swept f (indices row) w b 0
+pub start_end : (f : Layout) (row : List ℕ) (w : Climber) (c : Chains) (a b : Labels) (i : ℕ) → IsLayout f → AreLeaves f row → Ground f row w c → IsBlank f a → Starting f row a b i → length row ≤ i → Swept f row w b 0
 start_end f row w c a b i h r g blank s ge =
     let ei : i ≡ length row = (let o : i ≤ length row = s.order in omega arith) in
     let len : b.len ≡ length row = s.len ∙ ei in
-    let same : (j : ℕ) → j < b.len → at b.nodes.items j ≡ at row j = (λ j l. s.nodes j (omega arith)) in
-    let member : (j : ℕ) → j < b.len → 1 ≤ occurs (indices row) (at b.nodes.items j) = (λ j l. subst (λ v. 1 ≤ occurs (indices row) v) (sym (same j l)) (in_row row j (omega arith))) in
+    let same : (j : ℕ) → j < b.len → at b.nodes.items j ≡ number row j = (λ j l. s.nodes j (omega arith)) in
+    let member : (j : ℕ) → j < b.len → 1 ≤ occurs row (at b.nodes.items j) = (λ j l. subst (λ v. 1 ≤ occurs row v) (sym (same j l)) (occurs_at row j (omega arith))) in
     let empty : (x : ℕ) → label b.labels.items x ≡ Empty = (λ x. ap (λ v. label v x) s.labels ∙ blank.labels x) in
     record {
       order = omega arith;
@@ -101,9 +77,9 @@ start_end f row w c a b i h r g blank s ge =
       fulls = λ m p. ap (λ v. number v m) s.full ∙ blank.fulls m ∙ sym (no_sum full_one b.labels.items (below w m) empty refl);
       partials = λ m p. ap (λ v. number v m) s.partial ∙ blank.partials m ∙ sym (no_sum partial_one b.labels.items (below w m) empty refl);
       leaves = λ x o.
-          let p = turn_of row (length row) x (omega arith) (subst (λ z. 1 ≤ occurs (indices z) x) (sym (take-length row)) o) in
-          let lt : p.0 < length row = p.1 in
-          record { i = p.0; lt = omega arith; is = same p.0 (omega arith) ∙ p.2 };
+          let p = at_place row x (has_from_occurs row x o) in
+          let lt : place row x < length row = p.0 in
+          record { i = place row x; lt = omega arith; is = same (place row x) (omega arith) ∙ p.1 };
       pushed = λ m p some all. absurd (let z = first (below w m) some in all z.0 z.1 (empty z.0));
       sizes = (ap (λ (v : List Label). length v) s.labels ∙ blank.sizes.0, ap (λ (v : List ℕ). length v) s.full ∙ blank.sizes.1, ap (λ (v : List ℕ). length v) s.partial ∙ blank.sizes.2, s.size);
     }
@@ -112,11 +88,11 @@ start_end f row w c a b i h r g blank s ge =
     first [] l = absurd (omega arith)
     first (x ∷ xs) l = (x, occurs_here x xs)
 
-    apart : (x y : ℕ) → x < y → y < length row → at row x ≢ at row y
+    apart : (x y : ℕ) → x < y → y < length row → number row x ≢ number row y
     apart x y l ly e =
-        let o : occurs (indices row) (at row y) ≤ 1 = r.once (at row y) in
-        let one : 1 ≤ occurs (indices (take y row)) (at row y) = subst (λ v. 1 ≤ occurs (indices (take y row)) v) e (turn_in row y x (omega arith) l) in
-        absurd (new_off row y ly r.once one)
+        let taken : 1 ≤ occurs (take y row) (number (take y row) x) = occurs_at (take y row) x (let n : length (take y row) ≡ y = length-take-le y row (omega arith) in omega arith) in
+        let one : 1 ≤ occurs (take y row) (number row y) = subst (λ v. 1 ≤ occurs (take y row) v) (get_or-take y row x 0 l ∙ e) taken in
+        absurd (omega (arith, row_new row y ly r.once))
 
-pub start_quiet : (f : Layout) (row : List NodeId) (w : Climber) (a b : Labels) (i : ℕ) → IsBlank f a → Starting f row a b i → IsQuiet w b
+pub start_quiet : (f : Layout) (row : List ℕ) (w : Climber) (a b : Labels) (i : ℕ) → IsBlank f a → Starting f row a b i → IsQuiet w b
 start_quiet f row w a b i blank s = record { fulls = λ x u. ap (λ v. number v x) s.full ∙ blank.fulls x; partials = λ x u. ap (λ v. number v x) s.partial ∙ blank.partials x }

@@ -259,10 +259,14 @@ off_below f row w c x n m g s ne = elim (cases_lt 0 (occurs (below w n) x)) [
     same : {k : NodeId} → Placed k ≡ Placed m → k ≡ m
     same e = cc
 
+m_in : (f : Layout) (row : List ℕ) (w : Climber) (c : Chains) (a b t : Labels) (x m : NodeId) (done : ℕ) (l : Label) → Telling f row w c a b t x m done l → m.index < length f.slots
+m_in f row w c a b t x m done l n = pertinent_in f row w c m.index n.noting.can.ground (m_pert f row w c a b t x m done l n)
+
 told_sum : (f : Layout) (row : List ℕ) (w : Climber) (c : Chains) (a b t : Labels) (x m : NodeId) (done : ℕ) (l : Label) (g : Label → ℕ) (old new : List ℕ) → Telling f row w c a b t x m done l →
-    g Empty ≡ 0 → ((n : ℕ) → IsPertinent f w n → number old n ≡ sum_by (λ z. g (label a.labels.items z)) (below w n)) → new ≡ set old m.index (number old m.index + g l) → m.index < length old →
+    g Empty ≡ 0 → ((n : ℕ) → IsPertinent f w n → number old n ≡ sum_by (λ z. g (label a.labels.items z)) (below w n)) → new ≡ set old m.index (number old m.index + g l) → length old ≡ length f.slots →
     (n : ℕ) → IsPertinent f w n → number new n ≡ sum_by (λ z. g (label t.labels.items z)) (below w n)
-told_sum f row w c a b t x m done l g old new n g0 sums e lm = λ k p.
+told_sum f row w c a b t x m done l g old new n g0 sums e size = λ k p.
+    let lm : m.index < length old = subst (λ v. m.index < v) (sym size) (m_in f row w c a b t x m done l n) in
     let el : t.labels.items ≡ set a.labels.items x.index l = n.told.labels ∙ n.noting.noted.labels in
     let x0 : g (label a.labels.items x.index) ≡ 0 = ap g (x_empty f row w c a b x done l n.noting) ∙ g0 in
     elim (cases_eq k m.index) [
@@ -276,24 +280,17 @@ told_sum f row w c a b t x m done l g old new n g0 sums e lm = λ k p.
           ∙ ap (λ v. sum_by (λ z. g (label v z)) (below w k)) (sym el)
     ]
 
-m_in : (f : Layout) (row : List ℕ) (w : Climber) (c : Chains) (a b t : Labels) (x m : NodeId) (done : ℕ) (l : Label) → Telling f row w c a b t x m done l → m.index < length f.slots
-m_in f row w c a b t x m done l n = pertinent_in f row w c m.index n.noting.can.ground (m_pert f row w c a b t x m done l n)
-
 told_fulls : (f : Layout) (row : List ℕ) (w : Climber) (c : Chains) (a b t : Labels) (x m : NodeId) (done : ℕ) (l : Label) → Telling f row w c a b t x m done l →
     (n : ℕ) → IsPertinent f w n → number t.full.items n ≡ sum_by (λ z. full_one (label t.labels.items z)) (below w n)
 told_fulls f row w c a b t x m done l n =
-    let s : Swept f row w a done = n.noting.can.swept in
-    told_sum f row w c a b t x m done l full_one a.full.items t.full.items n refl s.fulls
-    (n.told.full ∙ ap (λ v. set v m.index (number v m.index + full_one l)) n.noting.noted.full)
-    (let k : m.index < length f.slots = m_in f row w c a b t x m done l n in let e : length a.full.items ≡ length f.slots = s.sizes.1 in omega arith)
+    told_sum f row w c a b t x m done l full_one a.full.items t.full.items n refl n.noting.can.swept.fulls
+    (n.told.full ∙ ap (λ v. set v m.index (number v m.index + full_one l)) n.noting.noted.full) n.noting.can.swept.sizes.1
 
 told_partials : (f : Layout) (row : List ℕ) (w : Climber) (c : Chains) (a b t : Labels) (x m : NodeId) (done : ℕ) (l : Label) → Telling f row w c a b t x m done l →
     (n : ℕ) → IsPertinent f w n → number t.partial.items n ≡ sum_by (λ z. partial_one (label t.labels.items z)) (below w n)
 told_partials f row w c a b t x m done l n =
-    let s : Swept f row w a done = n.noting.can.swept in
-    told_sum f row w c a b t x m done l partial_one a.partial.items t.partial.items n refl s.partials
-    (n.told.partial ∙ ap (λ v. set v m.index (number v m.index + partial_one l)) n.noting.noted.partial)
-    (let k : m.index < length f.slots = m_in f row w c a b t x m done l n in let e : length a.partial.items ≡ length f.slots = s.sizes.2 in omega arith)
+    told_sum f row w c a b t x m done l partial_one a.partial.items t.partial.items n refl n.noting.can.swept.partials
+    (n.told.partial ∙ ap (λ v. set v m.index (number v m.index + partial_one l)) n.noting.noted.partial) n.noting.can.swept.sizes.2
 
 -- other nodes than m that are to be pushed were pushed before
 pushed_before : (f : Layout) (row : List ℕ) (w : Climber) (c : Chains) (a b t : Labels) (x m : NodeId) (done : ℕ) (l : Label) → Telling f row w c a b t x m done l →

@@ -5,7 +5,7 @@ use Rattle.std.proofs.lemmas.List.{length-set, length-replicate, get_or-set_same
 use Rattle.std.proofs.lemmas.List.Sums.{get_or-le-sum_by}
 use Rattle.pq_arena.specs.declared.node.NodeId.{NodeId}
 use Rattle.bubble_pass.specs.declared.climber.Stage.{Stage}
-use Rattle.bubble_pass.specs.declared.climber.Stage.TheVariants.{Unseen, Queued, Blocked, Top, InRun, Placed}
+use Rattle.bubble_pass.specs.declared.climber.Stage.TheVariants.{Unseen, Queued}
 use Rattle.bubble_pass.specs.declared.climber.Climber.{Climber}
 use Rattle.bubble_pass.specs.declared.labels.Label.{Label}
 use Rattle.bubble_pass.specs.declared.labels.Label.TheVariants.{Empty}
@@ -15,7 +15,7 @@ use Rattle.bubble_pass.specs.Climb.{most_nodes, no_id, stage, at, IsSeen, unseen
 use Rattle.bubble_pass.specs.Moves.{Pushed, CanPush}
 use Rattle.bubble_pass.specs.Tables.{node_at, seat_of, AreSized, IsBlankAt, KnownFrom, AreKept, Forgot, CanForget, AreClear, TouchedAt}
 use Rattle.bubble_pass.specs.Marks.{tables_marks, AreBlank}
-use Rattle.bubble_pass.proofs.Marks.{seen_by, set_here, set_there, sum_set, at_set, at_new}
+use Rattle.bubble_pass.proofs.Marks.{seen_by, seen_or, set_here, set_there, sum_set, at_set, at_new}
 use Rattle.bubble_pass.proofs.Clears.{is_unseen}
 use Rattle.bubble_pass.proofs.Begins.{all_unseen}
 
@@ -214,16 +214,8 @@ pushed_kept a w x k lx u t =
       inside = refl;
     }
 
-unseen_or : (s : Stage) → (s ≢ Unseen) → IsSeen s
-unseen_or Unseen h = absurd (h refl)
-unseen_or Queued h = tt
-unseen_or Blocked h = tt
-unseen_or Top h = tt
-unseen_or InRun h = tt
-unseen_or (Placed m) h = tt
-
 pub seen_kept : (a : Tables) (x : NodeId) → AreKept a → stage a.climber.stages.items x.index ≢ Unseen → TouchedAt a a x
-seen_kept a x k ne = record { kept = k; seen = unseen_or (stage a.climber.stages.items x.index) ne; still = λ y s. s; size = refl; chains = refl; labels = refl; seats = refl; inside = refl }
+seen_kept a x k ne = record { kept = k; seen = seen_or (stage a.climber.stages.items x.index) ne; still = λ y s. s; size = refl; chains = refl; labels = refl; seats = refl; inside = refl }
 
 pub push_can : (a : Tables) (x : NodeId) → AreKept a → x.index < length a.climber.stages.items → stage a.climber.stages.items x.index ≡ Unseen → CanPush a.climber x.index
 push_can a x k lx u =

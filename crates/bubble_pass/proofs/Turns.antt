@@ -1,6 +1,6 @@
 -- One turn of the climb.
-use Rattle.std.proofs.Common.{◌||◌, cond, eqb, ◌≡◌, ◌≢◌, ◌⊎◌, inl, inr, ℕ, ◌+◌, ◌≤◌, ◌<◌, List, [], ◌∷◌, ◌++◌, length, set, sum_by, Option, Some, None, refl, sym, ap, subst, ◌∙◌, arith}
-use Rattle.std.proofs.lemmas.Bool.{cases_eq, ne_eqb}
+use Rattle.std.proofs.Common.{◌≡◌, ◌≢◌, ◌⊎◌, inl, inr, ℕ, ◌+◌, ◌≤◌, ◌<◌, List, [], ◌∷◌, ◌++◌, length, set, sum_by, Option, Some, None, refl, sym, ap, subst, ◌∙◌, arith}
+use Rattle.std.proofs.lemmas.Bool.{cases_eq}
 use Rattle.std.proofs.lemmas.List.{length-set, get_or_read}
 use Rattle.std.proofs.Common.{get_or}
 use Rattle.std.proofs.lemmas.List.Sums.{sum_by-cons}
@@ -11,16 +11,16 @@ use Rattle.column_order.specs.Orders.{occurs}
 use Rattle.arena_model.specs.Layout.{Layout, children_at, IsLayout}
 use Rattle.arena_model.specs.ChildLists.{last_or}
 use Rattle.pq_arena.specs.Looks.{ShowsNode, index_or_none, node_named}
-use Rattle.arena_model.proofs.Slots.{in_range}
+use Rattle.arena_model.proofs.Slots.{child_used, in_range, not_none, parent_used}
 use Rattle.arena_model.proofs.Slots.{some_inj}
 use Rattle.column_order.proofs.Lists.{occurs-append}
-use Rattle.arena_model.proofs.Lists.{occurs_here, occurs_last}
+use Rattle.arena_model.proofs.Lists.{occurs_here, occurs_last, parent_inner}
 use Rattle.bubble_pass.specs.declared.climber.Stage.{Stage}
 use Rattle.bubble_pass.specs.declared.climber.Stage.TheVariants.{Unseen, Queued, Blocked, Top, InRun, Placed}
 use Rattle.bubble_pass.specs.declared.climber.Climber.{Climber}
 use Rattle.bubble_pass.specs.Climb.{most_nodes, no_id, stage, at, IsSeen, parked_one, unseen_one, Inner, Beside, Climb, FreeBut, Queue}
 use Rattle.bubble_pass.specs.Moves.{Kept, Ready, Staged, Rose, entered, entered_queue, entered_tail, CanRise, CanFind, found, or_else, above_in, placed_in, parked_as, parked_by, InReach, Walkable, Walked, Turned, turned_up, turned_off, near0, near1}
-use Rattle.bubble_pass.proofs.Seats.{Near, first, second, near_beside, beside_near, beside_parent, beside_back, near_used, inner_near, not_none, no_parent, no_near, parent_is, parent_used, child_used, named_is, named_none}
+use Rattle.bubble_pass.proofs.Seats.{Near, first, second, near_beside, beside_near, beside_parent, beside_back, near_used, inner_near, no_parent, no_near, parent_is, named_is, named_none}
 use Rattle.bubble_pass.proofs.Marks.{seen_by, seen_in, queued_placed, queued_top, queued_blocked, blocked_placed, top_placed, set_here, set_there, Placing, old_stage, placing_seen, placing_new, climb_placing, climb_parking, queue_popped, queue_pushed, unseen_room, at_set, at_new, sum_set}
 use Rattle.bubble_pass.proofs.Walks.{blocked_is, reach_of}
 
@@ -70,20 +70,23 @@ found_child f row st n view m h c s e = elim (or_some view.parent (or_else (abov
   ]
 ]
 
--- where it shows the node above, it is no inner child
-parent_outer : (f : Layout) (n : ℕ) (view : NodeView) (m : NodeId) → IsLayout f → ShowsNode f n view → view.parent ≡ Some m → Inner f n → ⊥
-parent_outer f n view m h s e i = by_lists i.us i.vs i.kids_are i.left i.right
+-- an inner child shows no parent
+pub inner_parent : (f : Layout) (n : ℕ) (view : NodeView) → IsLayout f → ShowsNode f n view → Inner f n → view.parent ≡ None
+inner_parent f n view h s i = by_lists i.us i.vs i.kids_are i.left i.right
   where
-    by_lists : (us vs : List ℕ) → children_at f i.q ≡ us ++ n ∷ vs → 1 ≤ length us → 1 ≤ length vs → ⊥
+    by_lists : (us vs : List ℕ) → children_at f i.q ≡ us ++ n ∷ vs → 1 ≤ length us → 1 ≤ length vs → view.parent ≡ None
     by_lists [] vs ks l r = absurd (omega arith)
     by_lists (u ∷ us) [] ks l r = absurd (omega arith)
     by_lists (u ∷ us) (v ∷ vs) ks l r =
-        let nu : last_or us u ≢ none = not_none f (last_or us u) h (child_used f i.q (last_or us u) h
+        let a : last_or us u ≢ none = not_none f (last_or us u) h (child_used f i.q (last_or us u) h
         (subst (λ k. 1 ≤ occurs k (last_or us u)) (sym ks) (omega (arith, occurs-append (u ∷ us) (n ∷ v ∷ vs) (last_or us u), occurs_last us u)))) in
-        let nv : v ≢ none = not_none f v h (child_used f i.q v h
+        let b : v ≢ none = not_none f v h (child_used f i.q v h
         (subst (λ k. 1 ≤ occurs k v) (sym ks) (omega (arith, occurs-append (u ∷ us) (n ∷ v ∷ vs) v, occurs_here v vs)))) in
-        let z : None ≡ Some m = sym (ap node_named (ap (λ b. cond (b || eqb v none) i.q none) (ne_eqb (last_or us u) none nu) ∙ ap (λ b. cond b i.q none) (ne_eqb v none nv)) ∙ named_none)
-        ∙ sym (s.run i.q (u ∷ us) (v ∷ vs) i.is_q ks).0 ∙ e in cc
+        (s.run i.q (u ∷ us) (v ∷ vs) i.is_q ks).0 ∙ ap node_named (parent_inner i.q (last_or us u) v a b) ∙ named_none
+
+-- where it shows the node above, it is no inner child
+parent_outer : (f : Layout) (n : ℕ) (view : NodeView) (m : NodeId) → IsLayout f → ShowsNode f n view → view.parent ≡ Some m → Inner f n → ⊥
+parent_outer f n view m h s e i = let z : None ≡ Some m = sym (inner_parent f n view h s i) ∙ e in cc
 
 -- it is no inner child, or a neighbour knows the node above
 pub found_way : (f : Layout) (st : List Stage) (n : ℕ) (view : NodeView) (m : NodeId) → IsLayout f → ShowsNode f n view → found st view ≡ Some m → (Inner f n → ⊥) ⊎ ((y : ℕ) × (stage st y ≡ Placed m))
@@ -234,7 +237,7 @@ freed f row a b w1 w2 x m view s0 s1 s2 h rd r s v1 v2 =
             let ne : y ≢ none = not_none f y h (v2.kept.climb.used y (seen_by (stage w2.stages.items y) Blocked yb tt)) in
             elim (f3 y z n be yb zp) [ inl p ↦ ne p.0 | inr p ↦ ne p.0 ];
         runs = λ y e.
-            let eb : stage b.stages.items y ≡ InRun = v1.runs y (v2.runs y e) in
+            let eb : stage b.stages.items y ≡ InRun = v1.along.runs y (v2.along.runs y e) in
             elim (cases_eq y x.index) [
               | inl q ↦ let z = sym (subst (λ v. stage b.stages.items v ≡ InRun) q eb) ∙ r.placing.placed in cc
               | inr ne ↦ rd.free.runs y (old_stage a.stages.items b.stages.items x.index y m InRun r.placing ne tt (λ q. cc) eb)
@@ -373,44 +376,54 @@ parked f row a c x view h rd lt e s nf cp t = record {
     is_some : parked_as view ≡ Blocked → near0 view.near ≢ None
     is_some i = elim (parked_cases (near0 view.near)) [ inl p ↦ absurd (let z = sym p.0 ∙ i in cc) | inr p ↦ p.1 ]
 
-pub head_read : (f : Layout) (row : List ℕ) (a : Climber) (x : NodeId) → Kept f row a → a.head < a.tail → x ≡ get_or a.queue.items a.head x → x.index ≡ at a.queue.items a.head
-head_read f row a x k lt e =
+-- the node that is read at place i of the queue
+pub queue_read : (f : Layout) (row : List ℕ) (a : Climber) (i : ℕ) (x : NodeId) → Kept f row a → i < a.tail → x ≡ get_or a.queue.items i x → x.index ≡ at a.queue.items i
+queue_read f row a i x k lt e =
     let room : a.tail + sum_by unseen_one a.stages.items ≡ length a.stages.items = k.queue.room in
     let long : length a.queue.items ≡ length a.stages.items = k.queue.long in
-    ap (λ (n : NodeId). n.index) (get_or_read a.queue.items a.head x (omega arith) e no_id)
+    ap (λ (n : NodeId). n.index) (get_or_read a.queue.items i x (omega arith) e no_id)
+
+pub queue_in : (f : Layout) (row : List ℕ) (a : Climber) (i : ℕ) (x : NodeId) → Kept f row a → i < a.tail → x ≡ get_or a.queue.items i x → x.index < length a.stages.items
+queue_in f row a i x k lt e = subst (λ z. z < length a.stages.items) (sym (queue_read f row a i x k lt e)) (seen_in a.stages.items (at a.queue.items i) (k.queue.seen i lt))
+
+-- the node found above the one that has its turn gets its turn
+pub risen_found : (f : Layout) (row : List ℕ) (a b : Climber) (x m : NodeId) (view : NodeView) → IsLayout f → Kept f row a → a.head < a.tail → x ≡ get_or a.queue.items a.head x →
+    ShowsNode f x.index view → found a.stages.items view ≡ Some m → Rose (more_head a) b x m → Risen f row a b x m
+risen_found f row a b x m view h k lt e s is r =
+    risen f row a b x m h k lt (queue_read f row a a.head x k lt e) (found_child f row a.stages.items x.index view m h k.climb s is) (found_way f a.stages.items x.index view m h s is) r
 
 pub turned_by : (f : Layout) (row : List ℕ) (a b w1 w2 : Climber) (x m : NodeId) (o1 o2 : Option NodeId) (s0 s1 s2 : ℕ) → Kept f row a → a.head < a.tail → x.index ≡ at a.queue.items a.head →
     Rose (more_head a) b x m → Risen f row a b x m → Walked f row b w1 m x o1 s0 s1 → Walked f row w1 w2 m x o2 s1 s2 → Turned a w2 (at a.queue.items a.head)
 turned_by f row a b w1 w2 x m o1 o2 s0 s1 s2 k lt e r up v1 v2 =
     subst (λ z. Turned a w2 z) e
-    (turned_up m v2.start
-    (λ y ne seen. elim (v2.rest y) [
-      | inl i ↦ elim (v1.rest y) [
+    (turned_up m v2.along.start
+    (λ y ne seen. elim (v2.along.rest y) [
+      | inl i ↦ elim (v1.along.rest y) [
         | inl j ↦ inl (i ∙ j ∙ up.placing.same y ne seen)
         | inr j ↦ inr (sym (up.placing.same y ne seen) ∙ j.0, i ∙ j.1)
       ]
-      | inr i ↦ elim (v1.rest y) [
+      | inr i ↦ elim (v1.along.rest y) [
         | inl j ↦ inr (sym (up.placing.same y ne seen) ∙ sym j ∙ i.0, i.1)
         | inr j ↦ absurd (let z = sym i.0 ∙ j.1 in cc)
       ]
     ])
     (λ y seen. elim (cases_eq y x.index) [
       | inl q ↦ inl (subst (λ z. IsSeen (stage a.stages.items z)) (sym q) (subst (λ z. IsSeen (stage a.stages.items z)) (sym e) (k.queue.seen a.head lt)))
-      | inr ne ↦ elim (v2.rest y) [
-        | inl i ↦ elim (v1.rest y) [
+      | inr ne ↦ elim (v2.along.rest y) [
+        | inl i ↦ elim (v1.along.rest y) [
           | inl j ↦ elim (up.placing.news y ne (subst (λ z. IsSeen z) (i ∙ j) seen)) [
             | inl p ↦ inl p
             | inr p ↦ inr (p.0, i ∙ j ∙ p.1)
           ]
           | inr j ↦ inl (was_seen y ne j.0)
         ]
-        | inr i ↦ elim (v1.rest y) [
+        | inr i ↦ elim (v1.along.rest y) [
           | inl j ↦ inl (was_seen y ne (sym j ∙ i.0))
           | inr j ↦ inl (was_seen y ne j.0)
         ]
       ]
     ])
-    (λ i li. ap (λ z. at z i) (v2.queue ∙ v1.queue) ∙ kept_at i li (stage a.stages.items m.index) r.queue)
+    (λ i li. ap (λ z. at z i) (v2.along.queue ∙ v1.along.queue) ∙ kept_at i li (stage a.stages.items m.index) r.queue)
     (new_tail (stage a.stages.items m.index) refl r.queue r.tail))
   where
     was_seen : (y : ℕ) → y ≢ x.index → stage b.stages.items y ≡ Blocked → IsSeen (stage a.stages.items y)
@@ -427,16 +440,16 @@ turned_by f row a b w1 w2 x m o1 o2 s0 s1 s2 k lt e r up v1 v2 =
     new_tail : (s : Stage) → stage a.stages.items m.index ≡ s → b.queue.items ≡ entered_queue s a.queue.items a.tail m → b.tail ≡ entered_tail s a.tail →
         (w2.tail ≡ a.tail) ⊎ ((w2.tail ≡ a.tail + 1) × (at w2.queue.items a.tail ≡ m.index) × (stage a.stages.items m.index ≡ Unseen))
     new_tail Unseen u q t = inr (
-      v2.tail ∙ v1.tail ∙ t,
-      ap (λ z. at z a.tail) (v2.queue ∙ v1.queue ∙ q) ∙ at_new a.queue.items a.tail m (unseen_room a.stages.items a.queue.items a.head a.tail m.index k.queue u
+      v2.along.tail ∙ v1.along.tail ∙ t,
+      ap (λ z. at z a.tail) (v2.along.queue ∙ v1.along.queue ∙ q) ∙ at_new a.queue.items a.tail m (unseen_room a.stages.items a.queue.items a.head a.tail m.index k.queue u
           (let l : m.index < length b.stages.items = seen_in b.stages.items m.index up.placing.seen in omega (arith, up.kept.long, k.long))),
       u,
     )
-    new_tail Queued u q t = inl (v2.tail ∙ v1.tail ∙ t)
-    new_tail Blocked u q t = inl (v2.tail ∙ v1.tail ∙ t)
-    new_tail Top u q t = inl (v2.tail ∙ v1.tail ∙ t)
-    new_tail InRun u q t = inl (v2.tail ∙ v1.tail ∙ t)
-    new_tail (Placed n) u q t = inl (v2.tail ∙ v1.tail ∙ t)
+    new_tail Queued u q t = inl (v2.along.tail ∙ v1.along.tail ∙ t)
+    new_tail Blocked u q t = inl (v2.along.tail ∙ v1.along.tail ∙ t)
+    new_tail Top u q t = inl (v2.along.tail ∙ v1.along.tail ∙ t)
+    new_tail InRun u q t = inl (v2.along.tail ∙ v1.along.tail ∙ t)
+    new_tail (Placed n) u q t = inl (v2.along.tail ∙ v1.along.tail ∙ t)
 
 pub turned_parked : (f : Layout) (row : List ℕ) (a c : Climber) (x : NodeId) (view : NodeView) → Kept f row a → a.head < a.tail → x.index ≡ at a.queue.items a.head →
     Staged (more_parked a) c x (parked_as view) → Turned a c (at a.queue.items a.head)

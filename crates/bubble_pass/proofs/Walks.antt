@@ -9,14 +9,14 @@ use Rattle.arena_model.specs.ChildLists.{none}
 use Rattle.column_order.specs.Orders.{occurs}
 use Rattle.arena_model.specs.Layout.{Layout, children_at, IsInUse, IsLayout}
 use Rattle.pq_arena.specs.Looks.{ShowsNode, index_or_none}
-use Rattle.arena_model.proofs.Slots.{in_range}
+use Rattle.arena_model.proofs.Slots.{in_range, not_none}
 use Rattle.arena_model.proofs.Slots.{some_inj}
 use Rattle.bubble_pass.specs.declared.climber.Stage.{Stage}
 use Rattle.bubble_pass.specs.declared.climber.Stage.TheVariants.{Unseen, Queued, Blocked, Top, InRun, Placed}
 use Rattle.bubble_pass.specs.declared.climber.Climber.{Climber}
 use Rattle.bubble_pass.specs.Climb.{stage, IsSeen, parked_one, Beside, Climb, Queue}
 use Rattle.bubble_pass.specs.Moves.{Kept, Staged, blocked_in, blocked_one, InReach, Walking, Walked, beyond_in}
-use Rattle.bubble_pass.proofs.Seats.{Near, beside_near, beyond_is, beyond_near, beside_parent, beside_back, near_used, inner_near, not_none}
+use Rattle.bubble_pass.proofs.Seats.{Near, beside_near, beyond_is, beyond_near, beside_parent, beside_back, near_used, inner_near}
 use Rattle.bubble_pass.proofs.Marks.{seen_by, seen_in, queued_placed, queued_blocked, blocked_placed, set_here, set_there, placing_seen, climb_placing, queue_kept, sum_set}
 
 -- what blocked_at answers
@@ -124,26 +124,28 @@ walk_step f row a b b1 m from before x to next next' view s0 s s' h w bx sh t tp
               ]
             ]
       ];
-      head = t.head ∙ w.head;
-      tail = t.tail ∙ w.tail;
-      ticks = let one : 1 ≤ sum_by parked_one st = blocked_count st x.index bl.1 in let c : b.parked ≡ sum_by parked_one st = w.can.kept.count in
-          let q : s + b.parked ≡ s0 + a.parked = w.ticks in omega arith;
-      start = there from.index (λ e. placed_blocked st x.index m bl.1 (subst (λ v. stage st v ≡ Placed m) e w.start)) ∙ w.start;
-      runs = λ y e. elim (cases_eq y x.index) [
-        | inl q ↦ absurd (let z = sym (subst (λ v. stage b1.stages.items v ≡ InRun) q e) ∙ here in cc)
-        | inr ne ↦ w.runs y (sym (there y ne) ∙ e)
-      ];
-      queue = t.queue ∙ w.queue;
-      rest = λ y. elim (cases_eq y x.index) [
-        | inl q ↦ elim (w.rest y) [
-          | inl e ↦ inr (sym e ∙ subst (λ v. stage st v ≡ Blocked) (sym q) bl.1, subst (λ v. stage b1.stages.items v ≡ Placed m) (sym q) here)
-          | inr e ↦ absurd (let z = sym (subst (λ v. stage st v ≡ Placed m) q e.1) ∙ bl.1 in cc)
-        ]
-        | inr ne ↦ elim (w.rest y) [
-          | inl e ↦ inl (there y ne ∙ e)
-          | inr e ↦ inr (e.0, there y ne ∙ e.1)
-        ]
-      ];
+      along = record {
+        head = t.head ∙ w.along.head;
+        tail = t.tail ∙ w.along.tail;
+        ticks = let one : 1 ≤ sum_by parked_one st = blocked_count st x.index bl.1 in let c : b.parked ≡ sum_by parked_one st = w.can.kept.count in
+            let q : s + b.parked ≡ s0 + a.parked = w.along.ticks in omega arith;
+        start = there from.index (λ e. placed_blocked st x.index m bl.1 (subst (λ v. stage st v ≡ Placed m) e w.along.start)) ∙ w.along.start;
+        runs = λ y e. elim (cases_eq y x.index) [
+          | inl q ↦ absurd (let z = sym (subst (λ v. stage b1.stages.items v ≡ InRun) q e) ∙ here in cc)
+          | inr ne ↦ w.along.runs y (sym (there y ne) ∙ e)
+        ];
+        queue = t.queue ∙ w.along.queue;
+        rest = λ y. elim (cases_eq y x.index) [
+          | inl q ↦ elim (w.along.rest y) [
+            | inl e ↦ inr (sym e ∙ subst (λ v. stage st v ≡ Blocked) (sym q) bl.1, subst (λ v. stage b1.stages.items v ≡ Placed m) (sym q) here)
+            | inr e ↦ absurd (let z = sym (subst (λ v. stage st v ≡ Placed m) q e.1) ∙ bl.1 in cc)
+          ]
+          | inr ne ↦ elim (w.along.rest y) [
+            | inl e ↦ inl (there y ne ∙ e)
+            | inr e ↦ inr (e.0, there y ne ∙ e.1)
+          ]
+        ];
+      };
     }
 
 pub walk_end : (f : Layout) (row : List ℕ) (a b : Climber) (m from before : NodeId) (to next : Option NodeId) (s0 s : ℕ) →
@@ -156,11 +158,5 @@ walk_end f row a b m from before to next s0 s h w e = record {
         | inl p ↦ absurd (blocked_not b.stages.items next y e yb (not_none f y h yu) p.0)
         | inr p ↦ inl p
       ];
-  head = w.head;
-  tail = w.tail;
-  ticks = w.ticks;
-  start = w.start;
-  runs = w.runs;
-  queue = w.queue;
-  rest = w.rest;
+  along = w.along;
 }

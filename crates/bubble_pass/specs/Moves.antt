@@ -109,10 +109,8 @@ pub record Walkable (f : Layout) (row : List ℕ) (w : Climber) (m before : Node
   pub reach : InReach w.stages.items next
   pub beside : (x : NodeId) → blocked_in w.stages.items next ≡ Some x → Beside f x.index before.index
 
--- while blocked nodes are placed: a is the climb as the walk began, and s0 and s are the ticks
-pub record Walking (f : Layout) (row : List ℕ) (a b : Climber) (m from before : NodeId) (to next : Option NodeId) (s0 s : ℕ) : Type 0 where
-  pub can : Walkable f row b m before next
-  pub free : (c d : ℕ) → FreeBut f a.stages.items (index_or_none to) from.index c d → FreeBut f b.stages.items (index_or_none next) before.index c d
+-- b is a after some blocked nodes were placed below m as well, from its child `from` on, s0 and s being the ticks before and after
+pub record PlacedAlong (a b : Climber) (m from : NodeId) (s0 s : ℕ) : Type 0 where
   pub head : b.head ≡ a.head
   pub tail : b.tail ≡ a.tail
   pub ticks : s + b.parked ≡ s0 + a.parked
@@ -121,17 +119,17 @@ pub record Walking (f : Layout) (row : List ℕ) (a b : Climber) (m from before 
   pub queue : b.queue.items ≡ a.queue.items
   pub rest : (y : ℕ) → (stage b.stages.items y ≡ stage a.stages.items y) ⊎ ((stage a.stages.items y ≡ Blocked) × (stage b.stages.items y ≡ Placed m))
 
+-- while blocked nodes are placed: a is the climb as the walk began, and s0 and s are the ticks
+pub record Walking (f : Layout) (row : List ℕ) (a b : Climber) (m from before : NodeId) (to next : Option NodeId) (s0 s : ℕ) : Type 0 where
+  pub can : Walkable f row b m before next
+  pub free : (c d : ℕ) → FreeBut f a.stages.items (index_or_none to) from.index c d → FreeBut f b.stages.items (index_or_none next) before.index c d
+  pub along : PlacedAlong a b m from s0 s
+
 -- the walk from `from` is over
 pub record Walked (f : Layout) (row : List ℕ) (a b : Climber) (m from : NodeId) (to : Option NodeId) (s0 s : ℕ) : Type 0 where
   pub kept : Kept f row b
   pub free : (c d : ℕ) → FreeBut f a.stages.items (index_or_none to) from.index c d → FreeBut f b.stages.items c d c d
-  pub head : b.head ≡ a.head
-  pub tail : b.tail ≡ a.tail
-  pub ticks : s + b.parked ≡ s0 + a.parked
-  pub start : stage b.stages.items from.index ≡ Placed m
-  pub runs : (x : ℕ) → stage b.stages.items x ≡ InRun → stage a.stages.items x ≡ InRun
-  pub queue : b.queue.items ≡ a.queue.items
-  pub rest : (y : ℕ) → (stage b.stages.items y ≡ stage a.stages.items y) ⊎ ((stage a.stages.items y ≡ Blocked) × (stage b.stages.items y ≡ Placed m))
+  pub along : PlacedAlong a b m from s0 s
 
 -- what rise reads and writes is there
 pub record CanRise (w : Climber) (x m : ℕ) : Type 0 where

@@ -211,11 +211,11 @@ pub record IsBlank (f : Layout) (ls : Labels) : Type 0 where
   pub sizes : (length ls.labels.items ≡ length f.slots) × (length ls.full.items ≡ length f.slots) × (length ls.partial.items ≡ length f.slots) × (length ls.nodes.items ≡ length f.slots)
 
 -- the first i leaves of the row stand in the list
-pub record Starting (f : Layout) (row : List NodeId) (a b : Labels) (i : ℕ) : Type 0 where
+pub record Starting (f : Layout) (row : List ℕ) (a b : Labels) (i : ℕ) : Type 0 where
   pub labels : b.labels.items ≡ a.labels.items
   pub full : b.full.items ≡ a.full.items
   pub partial : b.partial.items ≡ a.partial.items
   pub len : b.len ≡ i
-  pub nodes : (j : ℕ) → j < i → at b.nodes.items j ≡ at row j
+  pub nodes : (j : ℕ) → j < i → at b.nodes.items j ≡ number row j
   pub size : length b.nodes.items ≡ length f.slots
   pub order : i ≤ length row

@@ -1,5 +1,5 @@
 // The chains of the nodes that were placed below each node.
-ghost use Rattle.std.specs.Prelude.{◌≡◌, List, ℕ, ◌+◌, ◌<◌, length, Some, None};
+ghost use Rattle.std.specs.Prelude.{◌≡◌, List, ℕ, ◌<◌, length};
 ghost use Rattle.bubble_pass.specs.Ends.{AreLeaves};
 ghost use Rattle.bubble_pass.specs.Moves.{Kept};
 ghost use Rattle.bubble_pass.specs.Chains.{Linked, Hung, CanHang, Cut, CanCut, entry, number};

@@ -1,9 +1,8 @@
 // The climb from the leaves of a row.
-ghost use Rattle.std.specs.Prelude.{◌≡◌, List, ℕ, ◌+◌, ◌*◌, ◌≤◌, ◌<◌, length, Some, None, true, false};
+ghost use Rattle.std.specs.Prelude.{◌≡◌, List, ℕ, ◌+◌, ◌*◌, ◌≤◌, ◌<◌, length, true, false};
 ghost use Rattle.bubble_pass.specs.Climb.{stage, at, parked_one};
 ghost use Rattle.bubble_pass.specs.Ends.{IsClear, AreLeaves, IsFull, IsQueueing, IsOver, GoesOn, Climbed, IsFlat, LeftOpen, IsFound, CanGrow, Grown, EndIs};
 ghost use Rattle.bubble_pass.specs.Moves.{above_in, blocked_in, InReach, CanRise, CanPush, Pushed, CanFind, found, parked_as, beyond_in, Rose, Staged, Kept, Ready, Walkable, Walked, Turned};
-ghost use Rattle.pq_arena.specs.declared.node.NodeView.{NodeView};
 ghost use Rattle.arena_model.specs.RowLeaves.{Holds};
 ghost use Rattle.bubble_pass.specs.Fair.{AtMost};
 ghost use Rattle.pq_arena.specs.RowNodes.{column_leaves};

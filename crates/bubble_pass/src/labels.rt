@@ -1,7 +1,6 @@
 // The labels, from the leaves of the row up.
-ghost use Rattle.std.specs.Prelude.{◌≡◌, List, ℕ, ◌+◌, ◌*◌, ◌≤◌, ◌<◌, ◌≢◌, length, Some, None};
+ghost use Rattle.std.specs.Prelude.{◌≡◌, List, ℕ, ◌+◌, ◌*◌, ◌≤◌, ◌<◌, ◌≢◌, length};
 ghost use Rattle.bubble_pass.specs.Ends.{AreLeaves, IsFull};
-ghost use Rattle.bubble_pass.specs.Moves.{found};
 ghost use Rattle.bubble_pass.specs.Chains.{number};
 ghost use Rattle.bubble_pass.specs.declared.labels.Label.TheVariants.{Empty};
 ghost use Rattle.bubble_pass.specs.Sweep.{Noted, Told, Added, CanTell, CanAdd, CanSettle, CanJudge, IsPertinent, IsBlank, IsIn, IsQuiet, SameBefore, full_in, other_in, Swept, Ground, IsRight, label as label_of, full_one, partial_one};

@@ -1,7 +1,5 @@
 // The tables of the pass, each with an entry for each node.
-ghost use Rattle.std.specs.Prelude.{◌≡◌, ℕ, ◌+◌, ◌*◌, ◌≤◌, ◌<◌, length, set, replicate, IfOk, List, false, None, Some};
-ghost use Rattle.pq_arena.specs.declared.node.NodeId.{NodeId};
-ghost use Rattle.bubble_pass.specs.declared.labels.Label.TheVariants.{Empty};
+ghost use Rattle.std.specs.Prelude.{◌≡◌, ℕ, ◌+◌, ◌*◌, ◌≤◌, ◌<◌, length, set, replicate, IfOk, List, None};
 ghost use Rattle.bubble_pass.specs.Tables.{node_at, seat_of, Swapped, CanExchange, AreKept, Forgot, CanForget, AreClear, TouchedAt};
 ghost use Rattle.bubble_pass.specs.Marks.{tables_marks, placed_node, IsPut};
 ghost use Rattle.bubble_pass.specs.Tables.{no_node};

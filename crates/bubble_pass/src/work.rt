@@ -1,7 +1,5 @@
 // The room of the pass, and what it left there.
-ghost use Rattle.std.specs.Prelude.{◌≡◌, ℕ, ◌+◌, ◌*◌, ◌≤◌, ◌<◌, ◌↔◌, IsTrue, length, set, IfOk, false};
-ghost use Rattle.pq_arena.specs.declared.node.NodeId.{NodeId};
-ghost use Rattle.bubble_pass.specs.declared.labels.Label.TheVariants.{Empty};
+ghost use Rattle.std.specs.Prelude.{◌≡◌, ℕ, ◌+◌, ◌*◌, ◌≤◌, ◌<◌, ◌↔◌, IsTrue, length, set, IfOk};
 ghost use Rattle.pq_arena.specs.RowNodes.{indices};
 ghost use Rattle.bubble_pass.specs.Marks.{label_at, fulls_at, partials_at, first_of, next_of, size_of, IsPut, AreBlank};
 ghost use Rattle.bubble_pass.specs.Pass.{IsAnswer, IsHeld};

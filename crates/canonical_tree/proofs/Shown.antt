@@ -1,36 +1,11 @@
 -- Each frontier of a tree is the list of the leaves of an equivalent tree.
-use Rattle.std.proofs.Common.{◌≡◌, ◌∙◌, ℕ, List, [], ◌∷◌, ◌++◌, reverse, map, length, get_or, set, swap, IsPermutation, refl, sym, ap, subst, inl, inr, arith}
-use Rattle.std.proofs.lemmas.List.{length-map, map-set}
-use Rattle.std.proofs.Math.ListN.{get_or-map}
-use Rattle.std.proofs.lemmas.List.Sorted.{IsPermutation-keeps, IsPermutation-refl, IsPermutation-swap, IsPermutation-trans}
+use Rattle.std.proofs.Common.{◌≡◌, ◌∙◌, ℕ, List, [], ◌∷◌, ◌++◌, reverse, map, IsPermutation, refl, sym, ap, subst, inl, inr}
 use Rattle.std.specs.List.{concat}
 use Rattle.pq_tree.specs.Outline.{Outline, Forest, leaf, p_node, q_node, no_tree, tree_and, leaves, leaves_of, IsFrontier, AreFrontiers}
 use Rattle.pq_tree.specs.Forests.{forest}
 use Rattle.pq_tree.specs.Equivalent.{IsEquivalent, AreEquivalent}
 use Rattle.pq_tree.proofs.Forests.{map-reverse}
-
-map-swap : {A B : Type 0} (f : A → B) (xs : List A) (i j : ℕ) → map f (swap xs i j) ≡ swap (map f xs) i j
-map-swap f [] i j = refl
-map-swap {A} {B} f (x ∷ xs) i j =
-    let l : List A = x ∷ xs in
-    let m : List B = map f l in
-    let a : A = get_or l i x in
-    let b : A = get_or l j x in
-    map-set f (set l i b) j a ∙
-    ap (λ k. set k j (f a)) (map-set f l i b) ∙
-    ap (λ y. set (set m i y) j (f a)) (sym (get_or-map f l j x)) ∙
-    ap (λ y. set (set m i (get_or m j (f x))) j y) (sym (get_or-map f l i x))
-
--- a permutation of images is the image of a permutation
-permuted_map : {A B : Type 0} (f : A → B) (xs : List A) (ys : List B) → IsPermutation (map f xs) ys → (zs : List A) × IsPermutation xs zs × (ys ≡ map f zs)
-permuted_map {A} {B} f xs ys h =
-    IsPermutation-keeps (map f xs) (λ l. (zs : List A) × IsPermutation xs zs × (l ≡ map f zs)) (xs, IsPermutation-refl xs, refl)
-    (λ l i j m n w.
-    let long : length l ≡ length w.0 = ap length w.2 ∙ length-map w.0 f in (
-      swap w.0 i j,
-      IsPermutation-trans xs w.0 (swap w.0 i j) w.1 (IsPermutation-swap w.0 (swap w.0 i j) i j (omega arith) (omega arith) refl),
-      ap (λ k. swap k i j) w.2 ∙ sym (map-swap f w.0 i j),
-    )) ys h
+use Rattle.pq_tree.proofs.Frontiers.{permuted_map}
 
 leaves_map : (vs : List Outline) → leaves_of (forest vs) ≡ concat (map leaves vs)
 leaves_map [] = refl

@@ -5,10 +5,11 @@ use Rattle.column_order.specs.Orders.{occurs}
 use Rattle.arena_model.specs.declared.Shape.TheVariants.{P, Q}
 use Rattle.arena_model.specs.Layout.{Layout, shape_at, children_at, times_child, IsLayout}
 use Rattle.arena_model.proofs.Lists.{occurs_here, occurs_same, occurs_other}
-use Rattle.arena_model.proofs.Slots.{children_times, some_inj}
+use Rattle.arena_model.proofs.Slots.{children_times}
 use Rattle.full_pass.specs.Tallies.{chained}
 use Rattle.full_pass.specs.Passing.{Chains}
 use Rattle.full_pass.proofs.Marks.{OneMore}
+use Rattle.full_pass.proofs.Shapes.{shapes_apart}
 use Rattle.full_pass.proofs.Steps.{no_child}
 
 pub chained_length : (n : ℕ) (next : ℕ → ℕ) (x : ℕ) → length (chained n next x) ≡ n
@@ -30,9 +31,6 @@ cond_zero : (b : Bool) → cond {A = ℕ} b 0 0 ≡ 0
 cond_zero true = refl
 cond_zero false = refl
 
-p_not_q : P ≢ Q
-p_not_q e = cc
-
 pub no_chains : (f : Layout) (l : ℕ → Bool) (h first next : ℕ → ℕ) → ((x : ℕ) → l x ≡ false) → ((x : ℕ) → h x ≡ 0) → Chains f l h first next
 no_chains f l h first next none_yet no_hits p k sp =
     ap (λ z. occurs (chained z next (first p)) k) (no_hits p) ∙ sym (ap (λ b. cond b (occurs (children_at f p) k) 0) (none_yet k))
@@ -52,7 +50,7 @@ pub chains_run : (f : Layout) (l l' : ℕ → Bool) (h h' first first' next next
     1 ≤ occurs (children_at f q) x → OneMore l l' x → Chains f l h first next →
     ((y : ℕ) → h' y ≡ h y) → ((y : ℕ) → first' y ≡ first y) → ((y : ℕ) → next' y ≡ next y) → Chains f l' h' first' next'
 chains_run f l l' h h' first first' next next' x q layout sq o more was hits firsts nexts p k sp =
-    let ne : p ≢ q = (λ e. p_not_q (some_inj P Q (sym sp ∙ subst (λ z. shape_at f z ≡ Some Q) (sym e) sq))) in
+    let ne : p ≢ q = shapes_apart f p q sp sq in
     ap (λ z. occurs (chained z next' (first' p)) k) (hits p) ∙ ap (λ z. occurs (chained (h p) next' z) k) (firsts p)
     ∙ ap (λ z. occurs z k) (chained_by (h p) next next' (first p) nexts) ∙ was p k sp ∙ marked_same f l l' x p k more (no_child f q p x layout o ne)
 

@@ -1,36 +1,21 @@
 -- One part alone: what the row is.
 use Rattle.std.proofs.Common.{Bool, List, [], ap, arith, cond, false, inl, inr, length, refl, subst, sym, true, ℕ, ◌+◌, ◌<◌, ◌∙◌, ◌≡◌, ◌≤◌, ◌⊎◌}
 use Rattle.std.proofs.lemmas.Bool.{cases_eq}
-use Rattle.arena_model.specs.declared.Shape.TheVariants.{P, Q}
-use Rattle.arena_model.specs.Layout.{IsAtOrAbove, IsLayout, Layout, children_at, down, here, shape_at, times_child}
+use Rattle.arena_model.specs.declared.Shape.TheVariants.{Q}
+use Rattle.arena_model.specs.Layout.{IsAtOrAbove, IsLayout, Layout, children_at, down, here, times_child}
 use Rattle.arena_model.proofs.Slots.{children_times, in_range, used_by}
 use Rattle.arena_model.proofs.Paths.{one_path}
 use Rattle.arena_model.proofs.Outlines.{apart_children}
-use Rattle.full_pass.proofs.Shapes.{children_within, has_children}
+use Rattle.full_pass.proofs.Shapes.{children_within}
+use Rattle.full_pass.proofs.Closing.{has_part}
 use Rattle.full_pass.specs.declared.entries.Entries.{Entries}
 use Rattle.full_pass.specs.Entries.{chain_at, first, hits, next}
 use Rattle.full_pass.proofs.Chained.{chained_length}
 use Rattle.full_pass.specs.Answer.{AreBelow, AreLeaves, IsGroup, IsRowKept, one_node, one_run}
 use Rattle.full_pass.specs.Passing.{HasPart, InFirst, InMore, InRun, Pass, marks, runs, total}
 use Rattle.full_pass.proofs.Sums.{total_one, total_two}
-use Rattle.full_pass.proofs.Marks.{OneRun, cases_bool, marks_some, marks_two, one_run_of, runs_some, true_false}
+use Rattle.full_pass.proofs.Marks.{OneRun, cases_bool, marks_two, one_run_of, true_false}
 use Rattle.column_order.specs.Orders.{occurs}
-
--- a node with a part has at least one
-pub has_part : (f : Layout) (row : List ℕ) (l : ℕ → Bool) (h : ℕ → ℕ) (waiting : List ℕ) (n : ℕ) → IsLayout f →
-    (p : Pass f row l h waiting n) (m : ℕ) → HasPart f l waiting m → (1 ≤ p.parts m) × (m < length f.slots)
-has_part f row l h waiting n layout p m part = elim (has_children (shape_at f m) (children_at f m) part.child (layout.children_fit m) part.is_child) [
-  | inl sh ↦ (
-    p.p_parts m sh part.not_full part.not_waiting (marks_some l (children_at f m) part.child part.labelled part.is_child),
-    in_range f m (used_by f m P sh),
-  )
-  | inr sh ↦ (
-    let a : runs l false (children_at f m) ≤ p.parts m = p.q_parts m sh part.not_full part.not_waiting in
-        let b : 1 ≤ runs l false (children_at f m) = runs_some l (children_at f m) part.child part.labelled part.is_child in
-        omega arith,
-    in_range f m (used_by f m Q sh),
-  )
-]
 
 -- two nodes with a part are one
 one_part : (f : Layout) (row : List ℕ) (l : ℕ → Bool) (h : ℕ → ℕ) (n : ℕ) → IsLayout f → Pass f row l h [] n → n ≤ 1 →
@@ -69,9 +54,9 @@ climb f row l h n m layout p le part _ _ (down a k x o way) t = elim (climb f ro
 under : (f : Layout) (row : List ℕ) (l : ℕ → Bool) (h : ℕ → ℕ) (n m : ℕ) → IsLayout f → AreLeaves f row → Pass f row l h [] n → n ≤ 1 →
     HasPart f l [] m → (x : ℕ) → 1 ≤ occurs row x → Under f l m x
 under f row l h n m layout r p le part x o =
-    let t : l x ≡ true = elim (p.leaves x o) [ inl t ↦ t | inr w ↦ absurd (omega arith) ] in
+    let t : l x ≡ true = elim (p.labels.leaves x o) [ inl t ↦ t | inr w ↦ absurd (omega arith) ] in
     elim (climb f row l h n m layout p le part f.root x (r.below x o) t) [
-      | inl root ↦ absurd (true_false (l f.root) root p.root)
+      | inl root ↦ absurd (true_false (l f.root) root p.labels.root)
       | inr u ↦ u
     ]
 
@@ -84,7 +69,7 @@ end_run f row l h n layout r p le run =
     let few : runs l false (children_at f q) ≤ p.parts q = p.q_parts q run.is_q run.part.not_full run.part.not_waiting in
     let w : OneRun l (children_at f q) = one_run_of l (children_at f q) (omega arith) in
     one_run q w.us w.rs w.vs run.is_q w.is (record {
-      filled = λ k o. p.filled k (w.inside k o);
+      filled = λ k o. p.labels.filled k (w.inside k o);
       covers = λ x o. let u = under f row l h n q layout r p le run.part x o in (u.k, w.all u.k u.is_child u.labelled, u.leads);
     })
 
@@ -92,7 +77,7 @@ pub end_first : (f : Layout) (row : List ℕ) (l : ℕ → Bool) (h : ℕ → �
     InFirst f l [] → IsRowKept f row
 end_first f row l h n layout r p le first =
     let part : HasPart f l [] first.p = first.ring.part in
-    one_node part.child (p.filled part.child part.labelled) (λ x o.
+    one_node part.child (p.labels.filled part.child part.labelled) (λ x o.
     let u = under f row l h n first.p layout r p le part x o in
     elim (cases_eq u.k part.child) [
       | inl e ↦ subst (λ z. IsAtOrAbove f.slots z x) e u.leads
@@ -110,7 +95,7 @@ end_more f row l h n p members layout r pass le more long are =
     (λ x o. let u = under f row l h n p layout r pass le more.ring.part x o in
     (u.k, subst (λ z. 1 ≤ z) (sym (are u.k ∙ ap (λ b. cond b (occurs (children_at f p) u.k) 0) u.labelled)) u.is_child, u.leads)) in
     let inside : (k : ℕ) → 1 ≤ occurs members k → (l k ≡ true) × (1 ≤ occurs (children_at f p) k) = (λ k o. chosen (l k) (occurs (children_at f p) k) (subst (λ z. 1 ≤ z) (are k) o)) in
-    let below : AreBelow f row members = record { filled = λ k o. pass.filled k (inside k o).0; covers = covers } in
+    let below : AreBelow f row members = record { filled = λ k o. pass.labels.filled k (inside k o).0; covers = covers } in
     record {
       is_p = more.ring.is_p;
       once = λ k.

@@ -20,11 +20,12 @@ use Rattle.arena_model.proofs.Slots.{children_times, some_inj}
 use Rattle.arena_model.proofs.Paths.{one_path, top_alone}
 use Rattle.arena_model.proofs.Trees.{TreeAt, tree_at}
 use Rattle.arena_model.proofs.Outlines.{apart_children, below_named}
-use Rattle.arena_model.specs.RowLeaves.{Holds}
-use Rattle.pq_arena.specs.RowNodes.{column_leaves}
+use Rattle.row_model.proofs.Ascending.{row_within}
+use Rattle.arena_model.specs.RowLeaves.{column_leaves, Holds}
+use Rattle.arena_model.proofs.Rows.{has_leaf, leaf_has}
 use Rattle.full_pass.specs.Answer.{AreBelow, AreLeaves, IsFullNode, IsRowKept, one_node, one_run}
 use Rattle.full_pass.specs.Passing.{runs}
-use Rattle.full_pass.proofs.Columns.{has_leaf, leaf_has, row_leaves}
+use Rattle.full_pass.proofs.Columns.{row_leaves}
 use Rattle.full_pass.proofs.Marks.{cases_bool, runs_some}
 
 -- a frontier of the tree without its numbers
@@ -417,8 +418,8 @@ pub kept_outline : (f : Layout) (row o : List ℕ) → IsLayout f → IsOneTree 
 kept_outline f [] o layout one r kept frontier = kept_empty o
 kept_outline f (a ∷ row) o layout one r kept frontier =
     let marked : Marked f (column_leaves (a ∷ row)) (has (a ∷ row)) = record {
-      into = λ y b s t. has_leaf f (a ∷ row) y b layout r s t;
-      back = λ y b s i. leaf_has f (a ∷ row) y b layout r s i;
+      into = λ y b s t. has_leaf f (a ∷ row) y b layout (row_within f.columns (a ∷ row) r) s t;
+      back = λ y b s i. leaf_has f (a ∷ row) y b layout (row_within f.columns (a ∷ row) r) s i;
     } in
     let t : TreeAt f f.root = tree_at f f.root layout layout.root_used in
     let same : outline_at f ≡ outline_named t.it = ap (outline_below f) (sym t.named) ∙ below_named f t.it layout t.is in

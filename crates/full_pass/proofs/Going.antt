@@ -2,13 +2,12 @@
 use Rattle.std.proofs.Common.{Bool, List, Option, Some, [], ap, arith, cond, drop, false, get_or, inl, inr, length, refl, subst, sym, ℕ, ◌+◌, ◌<◌, ◌∙◌, ◌∷◌, ◌≡◌, ◌≢◌, ◌≤◌}
 use Rattle.arena_model.specs.declared.Shape.TheVariants.{Leaf}
 use Rattle.pq_arena.specs.declared.node.NodeId.{NodeId}
-use Rattle.arena_model.specs.Layout.{IsAtOrAbove, IsLayout, Layout, MayHaveChildren, children_at, down, here, shape_at}
+use Rattle.arena_model.specs.Layout.{IsAtOrAbove, IsLayout, Layout, children_at, down, here, shape_at}
 use Rattle.arena_model.proofs.Slots.{used_by}
 use Rattle.arena_model.proofs.Lists.{occurs_here}
 use Rattle.full_pass.specs.declared.settled.Settled.{Settled}
 use Rattle.full_pass.specs.declared.settled.Settled.TheVariants.{Group, Kept, Open}
-use Rattle.pq_arena.specs.RowNodes.{column_leaves}
-use Rattle.arena_model.specs.RowLeaves.{IsLeafAt}
+use Rattle.arena_model.specs.RowLeaves.{column_leaves, IsLeafAt}
 use Rattle.full_pass.specs.Answer.{AreLeaves, IsFullNode, IsRowKept, IsSettled, one_node}
 use Rattle.full_pass.specs.Passing.{AreCounted, AreLinked, Chains, IsLast, IsRisen, Pass, Runs, marks, members_in, runs, total}
 use Rattle.full_pass.specs.declared.tallies.Tally.{Tally}
@@ -16,7 +15,9 @@ use Rattle.full_pass.specs.Tallies.{AreStamped, first_in, full_in, hits_in, next
 use Rattle.full_pass.specs.declared.entries.Entries.{Entries}
 use Rattle.full_pass.specs.Entries.{AreReady, far, first, hits, is_full, next, up}
 use Rattle.full_pass.proofs.Chained.{chained_length, no_chains}
-use Rattle.full_pass.proofs.Columns.{leaf_index, next_leaf}
+use Rattle.arena_model.proofs.Rows.{leaf_index}
+use Rattle.full_pass.proofs.Columns.{next_leaf}
+use Rattle.full_pass.proofs.Shapes.{leaf_children}
 use Rattle.full_pass.proofs.Sums.{total_zero}
 use Rattle.full_pass.proofs.Marks.{true_false}
 use Rattle.full_pass.proofs.Ends.{end_first, end_more, end_run}
@@ -32,11 +33,6 @@ runs_none : (l : ℕ → Bool) (ks : List ℕ) → ((x : ℕ) → l x ≡ false)
 runs_none l [] h = refl
 runs_none l (k ∷ ks) h = ap (λ b. cond b 1 0 + runs l b ks) (h k) ∙ (let r : runs l false ks ≡ 0 = runs_none l ks h in omega arith)
 
-leaf_children : (s : _) (ks : List ℕ) (a k : ℕ) → s ≡ Some (Leaf a) → MayHaveChildren s ks → 1 ≤ occurs ks k → ⊥
-leaf_children s ks a k e may o =
-    let n : ks ≡ [] = subst (λ z. MayHaveChildren z ks) e may in
-    let i : 1 ≤ occurs [] k = subst (λ z. 1 ≤ occurs z k) n o in omega arith
-
 leaf_fills : (f : Layout) (row : List ℕ) (n : ℕ) → IsLayout f → IsLeafAt f n → 1 ≤ occurs row n → IsFullNode f row n
 leaf_fills f row n layout leaf o = λ x _ way. by_way n x leaf o way
   where
@@ -47,16 +43,18 @@ leaf_fills f row n layout leaf o = λ x _ way. by_way n x leaf o way
 pub start : (f : Layout) (row : List ℕ) (l : ℕ → Bool) (h : ℕ → ℕ) → IsLayout f → AreLeaves f row →
     ((x : ℕ) → l x ≡ false) → ((x : ℕ) → h x ≡ 0) → Pass f row l h row (length row)
 start f row l h layout r none_yet no_hits = record {
-  leaves = λ x o. inr o;
-  filled = λ x t. absurd (true_false (l x) t (none_yet x));
-  fill = λ x o. leaf_fills f row x layout (r.leaf x o) o;
-  once = r.once;
-  fresh = λ x o. none_yet x;
-  used = λ x o. used_by f x (Leaf (r.leaf x o).0) (r.leaf x o).1;
-  filled_children = λ m k t o. absurd (true_false (l m) t (none_yet m));
-  fill_children = λ m k w o. absurd (leaf_children (shape_at f m) (children_at f m) (r.leaf m w).0 k (r.leaf m w).1 (layout.children_fit m) o);
-  root = none_yet f.root;
-  past = λ x _. none_yet x;
+  labels = record {
+    leaves = λ x o. inr o;
+    filled = λ x t. absurd (true_false (l x) t (none_yet x));
+    fill = λ x o. leaf_fills f row x layout (r.leaf x o) o;
+    once = r.once;
+    fresh = λ x o. none_yet x;
+    used = λ x o. used_by f x (Leaf (r.leaf x o).0) (r.leaf x o).1;
+    filled_children = λ m k t o. absurd (true_false (l m) t (none_yet m));
+    fill_children = λ m k w o. absurd (leaf_children (shape_at f m) (children_at f m) (r.leaf m w).0 k (r.leaf m w).1 (layout.children_fit m) o);
+    root = none_yet f.root;
+    past = λ x _. none_yet x;
+  };
   counts = λ p _. no_hits p ∙ sym (marks_none l (children_at f p) none_yet);
   parts = λ _. 0;
   p_parts = λ p _ _ _ m. absurd (let z : marks l (children_at f p) ≡ 0 = marks_none l (children_at f p) none_yet in omega arith);

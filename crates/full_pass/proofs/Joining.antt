@@ -7,7 +7,7 @@ use Rattle.pq_arena.specs.declared.node.NodeView.{NodeView}
 use Rattle.arena_model.specs.ChildLists.{end_parent, head_or, last_or, none}
 use Rattle.arena_model.specs.Layout.{IsInUse, IsLayout, Layout, children_at, shape_at, times_child}
 use Rattle.pq_arena.specs.Looks.{ShowsNode, node_named}
-use Rattle.arena_model.proofs.Slots.{children_times, in_range, some_none, used_by}
+use Rattle.arena_model.proofs.Slots.{child_at, children_times, in_range, some_none, used_by}
 use Rattle.arena_model.proofs.Lists.{occurs_here}
 use Rattle.full_pass.specs.declared.entries.Entries.{Entries}
 use Rattle.full_pass.specs.declared.joins.Joined.{Joined}
@@ -22,14 +22,13 @@ use Rattle.arena_model.specs.NamedTree.{IsOneTree}
 use Rattle.arena_model.proofs.Paths.{top_alone}
 use Rattle.full_pass.proofs.Chained.{Hung, chains_ring, chains_run}
 use Rattle.full_pass.proofs.Linked.{Spot, Tied, runs_apart, runs_linked, tied_back}
-use Rattle.full_pass.proofs.Wide.{Both, EndChild, all_labelled, both_are, child_shows, close, left_child, right_child}
+use Rattle.full_pass.proofs.Wide.{Both, EndChild, all_labelled, both_are, child_shows, left_child, right_child}
 use Rattle.full_pass.proofs.Marks.{OneMore, bit, marks_le, true_false}
-use Rattle.full_pass.proofs.Steps.{above, pass_ring, pass_run}
+use Rattle.full_pass.proofs.Closing.{close}
+use Rattle.full_pass.proofs.Steps.{above, pass_ring, pass_run, none_unlabelled}
 use Rattle.full_pass.proofs.Places.{Ringed, Running, Says, children_few, mark_named, named_some, says, shown_count_is, side}
 use Rattle.column_order.specs.Orders.{occurs}
-use Rattle.column_order.proofs.Lists.{occurs-append}
 use Rattle.arena_model.specs.declared.TheConstants.{NODE_BOUND}
-use Rattle.full_pass.proofs.Shapes.{slots_few}
 
 pub runs_at : (f : Layout) (x : ℕ) (view : NodeView) → IsLayout f → ShowsNode f x view → PlaceRun ≡ place_shown view.parent (side view 0) (side view 1) →
     Running f x (side view 0) (side view 1)
@@ -109,15 +108,12 @@ joined_runs f w w' x a b view d = let r : Running f x (side view 0) (side view 1
           (tied_back (far w) (far w') a b d.tied) d.ups (up_shown f w w' x a b view d)
     ]
 
-child_of_run : (f : Layout) (x : ℕ) (a b : Option NodeId) → (r : Running f x a b) → 1 ≤ occurs (children_at f r.q) x
-child_of_run f x a b r = subst (λ z. 1 ≤ occurs z x) (sym r.is) (omega (arith, occurs-append r.us (x ∷ r.vs) x, occurs_here x r.vs))
-
 -- the chains hang together again
 pub counted_chains : (f : Layout) (l l' : ℕ → Bool) (h h' first first' next next' : ℕ → ℕ) (x : ℕ) (view : NodeView) → CountedRun f l l' h h' x view →
     Chains f l h first next → ((y : ℕ) → first' y ≡ first y) → ((y : ℕ) → next' y ≡ next y) → Chains f l' h' first' next'
 counted_chains f l l' h h' first first' next next' x view d chains firsts nexts =
     let r : Running f x (side view 0) (side view 1) = runs_at f x view d.layout d.shows d.at in
-    chains_run f l l' h h' first first' next next' x r.q d.layout r.sh (child_of_run f x (side view 0) (side view 1) r)
+    chains_run f l l' h h' first first' next next' x r.q d.layout r.sh (child_at f r.q x r.us r.vs r.is)
     (record { before = d.fresh; after = d.now; others = d.others }) chains d.same firsts nexts
 
 -- so do the runs
@@ -185,7 +181,7 @@ pub joined_run : (f : Layout) (w w' : Entries) (x k a b : ℕ) (view : NodeView)
 joined_run f w w' x k a b view result d ke re row waiting n pass =
     let r : Running f x (side view 0) (side view 1) = runs_at f x view d.counted.layout d.counted.shows d.counted.at in
     let done = counted_run f (is_full w) (is_full w') (hits w) (hits w') x k view d.counted ke row waiting n pass in
-    let o : 1 ≤ occurs (children_at f r.q) x = child_of_run f x (side view 0) (side view 1) r in
+    let o : 1 ≤ occurs (children_at f r.q) x = child_at f r.q x r.us r.vs r.is in
     let u = above f row (is_full w) (is_full w') (hits w) x r.q waiting n pass (record { before = d.counted.fresh; after = d.counted.now; others = d.counted.others }) o in
     subst (λ z. IsJoined f row (is_full w') (hits w') waiting n z) (sym re) (by (both (up w' a) (up w' b)) refl r done o u.not_yet u.rest)
   where
@@ -199,7 +195,7 @@ joined_run f w w' x k a b view result d ke re row waiting n pass =
           | false ↦ λ z.
               let nz : k ≢ 0 = (λ q. true_false (eqb k 0) (eq-eqb k 0 q) z) in
               let wide = wide_at f w w' x k a b p view d ke (omega arith) e r in
-              let c = close f row (is_full w') (hits w') r.q waiting (n - k) d.counted.layout done.1 r.sh
+              let c = close f row (is_full w') (hits w') r.q waiting (n - k) d.counted.layout done.1
               (record { not_full = ny; not_waiting = nw; child = x; is_child = o; labelled = d.counted.now }) wide.1 in
               (done.0, omega arith, subst (λ y. Pass f row (is_full w') (hits w') (y ∷ waiting) (n - k)) (sym wide.0) c)
         ]) refl
@@ -224,7 +220,7 @@ joined_ring f l l' h h' x p view view' k d shows' ke row waiting n pass =
     ap (λ z. judged_as p z view'.children) ke ∙ ap (λ z. judged_as p (h p.index + 1) z) (shown_count_is f p.index view' shows' r.sh) in
     subst (λ z. IsAdded f row l' h' waiting n z) (sym e)
     (pass_ring f row l l' h h' x p r.us r.vs waiting n d.layout r.sh r.is
-    (record { before = pass.fresh x (occurs_here x waiting); after = d.now; others = d.others }) d.hit d.same pass)
+    (record { before = pass.labels.fresh x (occurs_here x waiting); after = d.now; others = d.others }) d.hit d.same pass)
 
 pub ring_used : (f : Layout) (x : ℕ) (p : NodeId) (view : NodeView) → IsLayout f → ShowsNode f x view →
     PlaceRing p ≡ place_shown view.parent (side view 0) (side view 1) → IsInUse f p.index
@@ -239,15 +235,12 @@ hits_few f row l h waiting n x p view layout shows at pass =
     let k : length (children_at f p.index) ≤ NODE_BOUND = children_few f p.index layout in
     omega arith
 
-child_of_ring : (f : Layout) (x p : ℕ) → Ringed f x p → 1 ≤ occurs (children_at f p) x
-child_of_ring f x p r = subst (λ z. 1 ≤ occurs z x) (sym r.is) (omega (arith, occurs-append r.us (x ∷ r.vs) x, occurs_here x r.vs))
-
 -- the chains hang together again where x was hung
 pub ring_chains : (f : Layout) (l l' : ℕ → Bool) (h h' first first' next next' : ℕ → ℕ) (x : ℕ) (p : NodeId) (view : NodeView) → CountedRing f l l' h h' x p view → l x ≡ false →
     Chains f l h first next → Hung h h' first first' next next' x p.index → Chains f l' h' first' next'
 ring_chains f l l' h h' first first' next next' x p view d fresh chains hung =
     let r : Ringed f x p.index = rings_at f x p view d.layout d.shows d.at in
-    chains_ring f l l' h h' first first' next next' x p.index d.layout r.sh (child_of_ring f x p.index r)
+    chains_ring f l l' h h' first first' next next' x p.index d.layout r.sh (child_at f p.index x r.us r.vs r.is)
     (record { before = fresh; after = d.now; others = d.others }) chains hung
 
 -- so do the runs
@@ -258,7 +251,7 @@ joined_ring_linked f w w' x p view d fresh linked hung fars ups ready =
     let r : Ringed f x p.index = rings_at f x p view d.layout d.shows d.at in
     record {
       ready = ready;
-      runs = runs_apart f (is_full w) (is_full w') (far w) (far w') (up w) (up w') x p.index d.layout r.sh (child_of_ring f x p.index r)
+      runs = runs_apart f (is_full w) (is_full w') (far w) (far w') (up w) (up w') x p.index d.layout r.sh (child_at f p.index x r.us r.vs r.is)
           (record { before = fresh; after = d.now; others = d.others }) linked.runs fars ups;
       chains = ring_chains f (is_full w) (is_full w') (hits w) (hits w') (first w) (first w') (next w) (next w') x p view d fresh linked.chains hung;
     }
@@ -269,16 +262,16 @@ pub joined_top : (f : Layout) (l : ℕ → Bool) (h : ℕ → ℕ) (x : ℕ) (vi
     (row waiting : List ℕ) (n : ℕ) → Pass f row l h (x ∷ waiting) n → IsFullNode f row f.root
 joined_top f l h x view layout shows at one row waiting n pass =
     let apart : times_child f.slots x ≡ 0 = subst (λ z. Says f x (side view 0) (side view 1) z) (sym at) (says f x view layout shows) in
-    let e : f.root ≡ x = top_alone f f.root x apart (one x (pass.used x (occurs_here x waiting))) in
-    subst (λ z. IsFullNode f row z) (sym e) (pass.fill x (occurs_here x waiting))
+    let e : f.root ≡ x = top_alone f f.root x apart (one x (pass.labels.used x (occurs_here x waiting))) in
+    subst (λ z. IsFullNode f row z) (sym e) (pass.labels.fill x (occurs_here x waiting))
 
 -- an end of the run of x is a child, so it has a place_shown
 pub end_few : (f : Layout) (w : Entries) (x a b : ℕ) (view : NodeView) → IsLayout f → ShowsNode f x view → PlaceRun ≡ place_shown view.parent (side view 0) (side view 1) →
     CanJoin f w x → a ≡ end_at w (side view 0) x → b ≡ end_at w (side view 1) x → (a < length f.slots) × (b < length f.slots)
 end_few f w x a b view h shows at can ea eb =
     let r : Running f x (side view 0) (side view 1) = runs_at f x view h shows at in
-    let ln : is_full w none ≡ false = can.pass.past none (let few : length f.slots ≤ NODE_BOUND = slots_few f h in omega arith) in
-    let fresh : is_full w x ≡ false = can.pass.fresh x (occurs_here x can.waiting) in
+    let ln : is_full w none ≡ false = none_unlabelled f can.row (is_full w) (x ∷ can.waiting) h can.pass.labels in
+    let fresh : is_full w x ≡ false = can.pass.labels.fresh x (occurs_here x can.waiting) in
     let l' : ℕ → Bool = λ y. cond (eqb y x) true (is_full w y) in
     let more : OneMore (is_full w) l' x = record {
       before = fresh;

@@ -1,6 +1,7 @@
 pub mod Shapes
 pub mod Sums
 pub mod Marks
+pub mod Closing
 pub mod Steps
 pub mod Ends
 pub mod Places

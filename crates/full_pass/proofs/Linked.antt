@@ -7,10 +7,11 @@ use Rattle.arena_model.specs.ChildLists.{end_parent, head_or, last_or, none}
 use Rattle.pq_arena.specs.Looks.{node_named}
 use Rattle.arena_model.specs.Layout.{IsLayout, Layout, children_at, shape_at, times_child}
 use Rattle.arena_model.proofs.Lists.{SplitAt, head_or-append, last_or-append, occurs_here, occurs_last, occurs_other, occurs_same, split_at}
-use Rattle.arena_model.proofs.Slots.{children_times}
+use Rattle.arena_model.proofs.Slots.{child_at, children_times}
 use Rattle.arena_model.proofs.Paths.{one_parent}
 use Rattle.full_pass.specs.Passing.{Runs}
 use Rattle.full_pass.proofs.Marks.{OneMore, cases_bool, true_false}
+use Rattle.full_pass.proofs.Shapes.{shapes_apart}
 use Rattle.full_pass.proofs.Steps.{no_child, stays}
 use Rattle.full_pass.proofs.Links.{Prefix, Suffix, one_split, prefix, runs_back, runs_on, suffix}
 use Rattle.column_order.specs.Orders.{occurs}
@@ -129,8 +130,7 @@ runs_linked f l l' far far' up up' x q a b us vs s more ln runs ea eb tied ups u
     let T : Prefix l vs = prefix l vs ln in
     let is_a : a ≡ head_or S.run x = left_is f l far up x q a us vs S.rest S.run s runs more.before S.is S.inside S.before ea in
     let is_b : b ≡ last_or T.run x = right_is f l far up x q b us vs T.run T.rest s runs more.before T.is T.inside T.after eb in
-    let at_x : 1 ≤ occurs (us ++ x ∷ vs) x = omega (arith, occurs-append us (x ∷ vs) x, occurs_here x vs) in
-    let kid_x : 1 ≤ occurs (children_at f q) x = subst (λ z. 1 ≤ occurs z x) (sym s.is) at_x in
+    let kid_x : 1 ≤ occurs (children_at f q) x = child_at f q x us vs s.is in
     let kid_a : 1 ≤ occurs (children_at f q) a = subst (λ z. 1 ≤ occurs (children_at f q) z) (sym is_a) (left_in S.rest S.run S.is) in
     let kid_b : 1 ≤ occurs (children_at f q) b = subst (λ z. 1 ≤ occurs (children_at f q) z) (sym is_b) (right_in T.run T.rest T.is) in
     record {
@@ -189,12 +189,12 @@ runs_linked f l l' far far' up up' x q a b us vs s more ln runs ea eb tied ups u
     }
   where
     left_in : (rest run : List ℕ) → us ≡ rest ++ run → 1 ≤ occurs (children_at f q) (head_or run x)
-    left_in rest [] e = subst (λ z. 1 ≤ occurs z x) (sym s.is) (omega (arith, occurs-append us (x ∷ vs) x, occurs_here x vs))
+    left_in rest [] e = child_at f q x us vs s.is
     left_in rest (y ∷ ys) e = subst (λ z. 1 ≤ occurs z y) (sym (s.is ∙ ap (λ z. z ++ x ∷ vs) e))
         (omega (arith, occurs-append (rest ++ y ∷ ys) (x ∷ vs) y, occurs-append rest (y ∷ ys) y, occurs_here y ys))
 
     right_in : (run rest : List ℕ) → vs ≡ run ++ rest → 1 ≤ occurs (children_at f q) (last_or run x)
-    right_in [] rest e = subst (λ z. 1 ≤ occurs z x) (sym s.is) (omega (arith, occurs-append us (x ∷ vs) x, occurs_here x vs))
+    right_in [] rest e = child_at f q x us vs s.is
     right_in (y ∷ ys) rest e = subst (λ z. 1 ≤ occurs z (last_or ys y)) (sym (s.is ∙ ap (λ z. us ++ x ∷ z) e))
         (omega (arith, occurs-append us (x ∷ ((y ∷ ys) ++ rest)) (last_or ys y), occurs-append (y ∷ ys) rest (last_or ys y), occurs_last ys y))
 
@@ -218,8 +218,5 @@ runs_apart f l l' far far' up up' x p h sp o more runs fars ups = record {
       ups y ne ∙ runs.ups m y ps ws sh is (labelled l l' x y more ne t);
 }
   where
-    some_shape : Some P ≢ Some Q
-    some_shape e = cc
-
     off : (m : ℕ) → shape_at f m ≡ Some Q → occurs (children_at f m) x ≡ 0
-    off m sh = no_child f p m x h o (λ e. some_shape (sym sp ∙ subst (λ z. shape_at f z ≡ Some Q) e sh))
+    off m sh = no_child f p m x h o (λ e. shapes_apart f p m sp sh (sym e))

@@ -151,24 +151,28 @@ record RunFrom (l : ℕ → Bool) (ks : List ℕ) : Type 0 where
   inside : (k : ℕ) → 1 ≤ occurs rs k → l k ≡ true
   all : (k : ℕ) → 1 ≤ occurs ks k → l k ≡ true → 1 ≤ occurs rs k
 
+-- it goes on to x before it
+run_more : (l : ℕ → Bool) (x : ℕ) (xs : List ℕ) → l x ≡ true → RunFrom l xs → RunFrom l (x ∷ xs)
+run_more l x xs e r = record {
+  rs = x ∷ r.rs;
+  vs = r.vs;
+  is = ap (λ z. x ∷ z) r.is;
+  inside = λ k o. elim (cases_eq x k) [
+    | inl q ↦ subst (λ z. l z ≡ true) q e
+    | inr ne ↦ r.inside k (let z : occurs (x ∷ r.rs) k ≡ occurs r.rs k = occurs_other x k r.rs (λ q. ne (sym q)) in omega arith)
+  ];
+  all = λ k o f. elim (cases_eq x k) [
+    | inl q ↦ subst (λ z. 1 ≤ occurs (x ∷ r.rs) z) q (occurs_here x r.rs)
+    | inr ne ↦ let z : occurs (x ∷ xs) k ≡ occurs xs k = occurs_other x k xs (λ q. ne (sym q)) in
+        let i : 1 ≤ occurs r.rs k = r.all k (omega arith) f in omega arith
+  ];
+}
+
 run_from : (l : ℕ → Bool) (ks : List ℕ) → runs l true ks ≤ 0 → RunFrom l ks
 run_from l [] h = record { rs = []; vs = []; is = refl; inside = λ k o. absurd (omega arith); all = λ k o e. absurd (omega arith) }
 run_from l (x ∷ xs) h =
     (elim (l x) as (λ b. l x ≡ b → cond b 0 0 + runs l b xs ≤ 0 → RunFrom l (x ∷ xs)) [
-      | true ↦ λ e g. let r = run_from l xs (omega arith) in record {
-        rs = x ∷ r.rs;
-        vs = r.vs;
-        is = ap (λ z. x ∷ z) r.is;
-        inside = λ k o. elim (cases_eq x k) [
-          | inl q ↦ subst (λ z. l z ≡ true) q e
-          | inr ne ↦ r.inside k (let z : occurs (x ∷ r.rs) k ≡ occurs r.rs k = occurs_other x k r.rs (λ q. ne (sym q)) in omega arith)
-        ];
-        all = λ k o f. elim (cases_eq x k) [
-          | inl q ↦ subst (λ z. 1 ≤ occurs (x ∷ r.rs) z) q (occurs_here x r.rs)
-          | inr ne ↦ let z : occurs (x ∷ xs) k ≡ occurs xs k = occurs_other x k xs (λ q. ne (sym q)) in
-              let i : 1 ≤ occurs r.rs k = r.all k (omega arith) f in omega arith
-        ];
-      }
+      | true ↦ λ e g. run_more l x xs e (run_from l xs (omega arith))
       | false ↦ λ e g. record {
         rs = [];
         vs = x ∷ xs;
@@ -186,21 +190,8 @@ pub one_run_of : (l : ℕ → Bool) (ks : List ℕ) → runs l false ks ≤ 1 �
 one_run_of l [] h = record { us = []; rs = []; vs = []; is = refl; inside = λ k o. absurd (omega arith); all = λ k o e. absurd (omega arith) }
 one_run_of l (x ∷ xs) h =
     (elim (l x) as (λ b. l x ≡ b → cond b 1 0 + runs l b xs ≤ 1 → OneRun l (x ∷ xs)) [
-      | true ↦ λ e g. let r = run_from l xs (omega arith) in record {
-        us = [];
-        rs = x ∷ r.rs;
-        vs = r.vs;
-        is = ap (λ z. x ∷ z) r.is;
-        inside = λ k o. elim (cases_eq x k) [
-          | inl q ↦ subst (λ z. l z ≡ true) q e
-          | inr ne ↦ r.inside k (let z : occurs (x ∷ r.rs) k ≡ occurs r.rs k = occurs_other x k r.rs (λ q. ne (sym q)) in omega arith)
-        ];
-        all = λ k o f. elim (cases_eq x k) [
-          | inl q ↦ subst (λ z. 1 ≤ occurs (x ∷ r.rs) z) q (occurs_here x r.rs)
-          | inr ne ↦ let z : occurs (x ∷ xs) k ≡ occurs xs k = occurs_other x k xs (λ q. ne (sym q)) in
-              let i : 1 ≤ occurs r.rs k = r.all k (omega arith) f in omega arith
-        ];
-      }
+      | true ↦ λ e g. let r : RunFrom l (x ∷ xs) = run_more l x xs e (run_from l xs (omega arith)) in
+          record { us = []; rs = r.rs; vs = r.vs; is = r.is; inside = r.inside; all = r.all }
       | false ↦ λ e g. let r = one_run_of l xs (omega arith) in record {
         us = x ∷ r.us;
         rs = r.rs;

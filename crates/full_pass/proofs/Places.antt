@@ -1,5 +1,5 @@
 -- Where a node stands, by what a look at it shows.
-use Rattle.std.proofs.Common.{Bool, List, None, Option, Some, [], ap, arith, cond, eqb, false, get_or, inl, inr, length, refl, subst, sym, true, ℕ, ◌++◌, ◌<◌, ◌||◌, ◌∙◌, ◌∷◌, ◌≡◌, ◌≢◌, ◌≤◌, ◌⊎◌}
+use Rattle.std.proofs.Common.{Bool, List, None, Option, Some, ap, arith, cond, eqb, false, get_or, inl, inr, length, refl, subst, sym, true, ℕ, ◌++◌, ◌<◌, ◌||◌, ◌∙◌, ◌∷◌, ◌≡◌, ◌≢◌, ◌≤◌, ◌⊎◌}
 use Rattle.std.proofs.lemmas.Bool.{cases_eq, cases_lt, ne_eqb}
 use Rattle.arena_model.specs.declared.Shape.TheVariants.{P, Q}
 use Rattle.pq_arena.specs.declared.node.NodeId.{NodeId}
@@ -7,8 +7,8 @@ use Rattle.pq_arena.specs.declared.node.NodeView.{NodeView}
 use Rattle.arena_model.specs.ChildLists.{end_parent, head_or, last_or, none}
 use Rattle.arena_model.specs.Layout.{IsLayout, Layout, children_at, shape_at, times_child}
 use Rattle.pq_arena.specs.Looks.{ShowsNode, node_named, shown_count}
-use Rattle.arena_model.proofs.Lists.{SplitAt, occurs_here, occurs_last, split_at}
-use Rattle.arena_model.proofs.Slots.{children_times, in_range, placed_in, some_inj, used_by}
+use Rattle.arena_model.proofs.Lists.{SplitAt, occurs_here, split_at, occurs_behind, occurs_before}
+use Rattle.arena_model.proofs.Slots.{children_times, in_range, placed_in, some_inj, used_by, few_slots}
 use Rattle.full_pass.specs.declared.joins.Place.{Place}
 use Rattle.full_pass.specs.declared.joins.Place.TheVariants.{Ring as PlaceRing, Run as PlaceRun, Top as PlaceTop}
 use Rattle.full_pass.specs.Passing.{place_shown}
@@ -17,7 +17,7 @@ use Rattle.full_pass.proofs.Marks.{bit}
 use Rattle.column_order.specs.Orders.{occurs}
 use Rattle.column_order.proofs.Lists.{occurs-append}
 use Rattle.arena_model.specs.declared.TheConstants.{NODE_BOUND}
-use Rattle.full_pass.proofs.Shapes.{children_within, has_children, slots_few}
+use Rattle.full_pass.proofs.Shapes.{children_within, has_children}
 
 abbrev pub id_of : ℕ → NodeId
 id_of x = record { index = x }
@@ -101,7 +101,7 @@ says f x view h shows =
       | inl l ↦
           let r = placed_in f.slots x l in
           let s : SplitAt (children_at f r.0) x = split_at (children_at f r.0) x r.1 in
-          let real : (y : ℕ) → y < length f.slots → y ≢ none = (λ y lt e. let few : length f.slots ≤ NODE_BOUND = slots_few f h in let q : y ≡ none = e in omega arith) in
+          let real : (y : ℕ) → y < length f.slots → y ≢ none = (λ y lt e. let few : length f.slots ≤ NODE_BOUND = few_slots f h in let q : y ≡ none = e in omega arith) in
           let child : (y : ℕ) → 1 ≤ occurs (s.us ++ x ∷ s.vs) y → y ≢ none = (λ y o. real y (in_range f y (h.used y
           (let k : occurs (children_at f r.0) y ≤ times_child f.slots y = children_times f r.0 y in
           let e : occurs (children_at f r.0) y ≡ occurs (s.us ++ x ∷ s.vs) y = ap (λ z. occurs z y) s.is in omega arith)))) in
@@ -112,7 +112,7 @@ says f x view h shows =
                 let e = shows.ring r.0 s.us s.vs sh s.is in
                 ring_says f x r.0 a b view.parent (head_or s.vs (head_or s.us x)) (last_or s.us (last_or s.vs x))
                 (record { us = s.us; vs = s.vs; sh = sh; is = s.is }) np
-                (child _ (head_child s.us s.vs)) (child _ (last_child s.us s.vs)) e.0
+                (child _ (occurs_behind s.us s.vs x)) (child _ (occurs_before s.us s.vs x)) e.0
                 (ap (λ z. get_or z 0 None) e.1) (ap (λ z. get_or z 1 None) e.1)
             | inr sh ↦
                 let nq : r.0 ≢ none = real r.0 (in_range f r.0 (used_by f r.0 Q sh)) in
@@ -129,15 +129,6 @@ says f x view h shows =
           let e = shows.top (omega arith) in
           subst (λ z. Says f x a b z) (sym (ap (λ z. place_shown z a b) e.0 ∙ ap (λ z. place_shown None z b) (ap (λ z. get_or z 0 None) e.1))) (omega arith)
     ]
-  where
-    head_child : (us vs : List ℕ) → 1 ≤ occurs (us ++ x ∷ vs) (head_or vs (head_or us x))
-    head_child [] [] = occurs_here x []
-    head_child (u ∷ us) [] = occurs_here u (us ++ x ∷ [])
-    head_child us (v ∷ vs) = omega (arith, occurs-append us (x ∷ v ∷ vs) v, occurs_here v vs)
-
-    last_child : (us vs : List ℕ) → 1 ≤ occurs (us ++ x ∷ vs) (last_or us (last_or vs x))
-    last_child [] vs = occurs_last vs x
-    last_child (u ∷ us) vs = omega (arith, occurs-append (u ∷ us) (x ∷ vs) (last_or us u), occurs_last us u)
 
 pub mark_named : (l : ℕ → Bool) (y : ℕ) → l none ≡ false → mark_in l (node_named y) ≡ bit (l y)
 mark_named l y e = elim (cases_eq y none) [
@@ -154,4 +145,4 @@ shown_count_is f p view shows sh =
 pub children_few : (f : Layout) (p : ℕ) → IsLayout f → length (children_at f p) ≤ NODE_BOUND
 children_few f p h =
     let n : length (children_at f p) ≤ length f.slots = children_within f p h in
-    let few : length f.slots ≤ NODE_BOUND = slots_few f h in omega arith
+    let few : length f.slots ≤ NODE_BOUND = few_slots f h in omega arith

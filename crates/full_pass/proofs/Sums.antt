@@ -1,6 +1,6 @@
--- Sums over all nodes.
-use Rattle.std.proofs.Common.{ap, arith, inl, inr, refl, suc, sym, zero, ℕ, ◌+◌, ◌<◌, ◌≡◌, ◌≢◌, ◌≤◌}
-use Rattle.std.proofs.lemmas.Bool.{cases_eq}
+-- Sums over all nodes, and sums where one is changed.
+use Rattle.std.proofs.Common.{ap, arith, cond, eq-eqb, eqb, inl, inr, refl, suc, sym, zero, ℕ, ◌+◌, ◌<◌, ◌∙◌, ◌≡◌, ◌≢◌, ◌≤◌}
+use Rattle.std.proofs.lemmas.Bool.{cases_eq, ne_eqb}
 use Rattle.full_pass.specs.Passing.{total}
 
 total_same : (g g' : ℕ → ℕ) (n : ℕ) → ((y : ℕ) → y < n → g' y ≡ g y) → total g' n ≡ total g n
@@ -10,7 +10,7 @@ total_same g g' (suc n) h =
     let b : total g' n ≡ total g n = total_same g g' n (λ y l. h y (omega arith)) in
     omega arith
 
-pub total_with : (g g' : ℕ → ℕ) (m n : ℕ) → m < n → ((y : ℕ) → y ≢ m → g' y ≡ g y) → total g' n + g m ≡ total g n + g' m
+total_with : (g g' : ℕ → ℕ) (m n : ℕ) → m < n → ((y : ℕ) → y ≢ m → g' y ≡ g y) → total g' n + g m ≡ total g n + g' m
 total_with g g' m zero l h = absurd (omega arith)
 total_with g g' m (suc n) l h = elim (cases_eq n m) [
   | inl e ↦
@@ -45,3 +45,16 @@ total_two g m m' (suc n) d l l' = elim (cases_eq n m) [
 pub total_zero : (n : ℕ) → total (λ _. 0) n ≡ 0
 total_zero zero = refl
 total_zero (suc n) = let b : total (λ _. 0) n ≡ 0 = total_zero n in omega arith
+
+-- g with v at m
+abbrev pub changed : (ℕ → ℕ) → ℕ → ℕ → ℕ → ℕ
+changed g m v y = cond (eqb y m) v (g y)
+
+pub changed_here : (g : ℕ → ℕ) (m v : ℕ) → changed g m v m ≡ v
+changed_here g m v = ap (λ b. cond b v (g m)) (eq-eqb m m refl)
+
+pub changed_off : (g : ℕ → ℕ) (m v y : ℕ) → y ≢ m → changed g m v y ≡ g y
+changed_off g m v y ne = ap (λ b. cond b v (g y)) (ne_eqb y m ne)
+
+pub total_changed : (g : ℕ → ℕ) (m v n : ℕ) → m < n → total (changed g m v) n + g m ≡ total g n + v
+total_changed g m v n l = total_with g (changed g m v) m n l (changed_off g m v) ∙ ap (λ z. total g n + z) (changed_here g m v)

@@ -1,85 +1,22 @@
--- A node all of whose children are labelled waits itself; a Q-node whose run goes from end to end is such a node.
+-- A Q-node whose run goes from end to end: all its children are labelled.
 use Rattle.std.proofs.Common.{Bool, List, None, Option, Some, [], ap, append_assoc, arith, cond, eqb, false, inl, inr, length, refl, subst, sym, true, ℕ, ◌++◌, ◌+◌, ◌<◌, ◌||◌, ◌∙◌, ◌∷◌, ◌≡◌, ◌≢◌, ◌≤◌}
 use Rattle.std.proofs.lemmas.Bool.{cases_eq, cases_lt, ne_eqb}
-use Rattle.arena_model.specs.declared.Shape.TheVariants.{Leaf, Q}
+use Rattle.arena_model.specs.declared.Shape.TheVariants.{Q}
 use Rattle.pq_arena.specs.declared.node.NodeId.{NodeId}
 use Rattle.arena_model.specs.ChildLists.{end_parent, head_or, last_or, none}
 use Rattle.pq_arena.specs.Looks.{node_named}
-use Rattle.arena_model.specs.Layout.{IsAtOrAbove, IsInUse, IsLayout, Layout, children_at, down, here, shape_at, times_child}
-use Rattle.arena_model.proofs.Lists.{SplitAt, last_or-append, occurs_here, occurs_last, occurs_other, occurs_same, split_at}
-use Rattle.arena_model.proofs.Slots.{children_times, in_range, some_inj, used_by}
-use Rattle.arena_model.specs.RowLeaves.{IsLeafAt}
-use Rattle.full_pass.specs.Answer.{IsFullNode}
-use Rattle.full_pass.specs.Passing.{HasPart, Pass, Runs, runs, total}
+use Rattle.arena_model.specs.Layout.{IsLayout, Layout, children_at, shape_at}
+use Rattle.arena_model.proofs.Lists.{SplitAt, last_or-append, occurs_here, occurs_last, occurs_other, split_at}
+use Rattle.arena_model.proofs.Slots.{child_at, child_used, not_none, in_range, some_inj, used_by}
+use Rattle.full_pass.specs.Passing.{Runs, runs}
 use Rattle.full_pass.specs.Entries.{both}
-use Rattle.full_pass.proofs.Sums.{total_with}
 use Rattle.full_pass.proofs.Marks.{OneMore, bit}
-use Rattle.full_pass.proofs.Steps.{changed, changed_here, changed_off, stays}
-use Rattle.full_pass.proofs.Ends.{has_part}
+use Rattle.full_pass.proofs.Steps.{stays}
 use Rattle.full_pass.proofs.Links.{Prefix, Suffix, prefix, suffix}
 use Rattle.full_pass.proofs.Linked.{Spot, left_is, right_is}
 use Rattle.full_pass.proofs.Places.{id_of, named_some}
 use Rattle.column_order.specs.Orders.{occurs}
 use Rattle.column_order.proofs.Lists.{occurs-append}
-use Rattle.arena_model.specs.declared.TheConstants.{NODE_BOUND}
-use Rattle.full_pass.proofs.Shapes.{slots_few}
-
-inner_fills : (f : Layout) (row : List ℕ) (l : ℕ → Bool) (p : ℕ) → shape_at f p ≡ Some Q → ((x : ℕ) → l x ≡ true → IsFullNode f row x) →
-    ((k : ℕ) → 1 ≤ occurs (children_at f p) k → l k ≡ true) → IsFullNode f row p
-inner_fills f row l p sh filled all = λ x leaf way. by_way p x sh all leaf way
-  where
-    not_leaf : (a : ℕ) → Q ≢ Leaf a
-    not_leaf a e = cc
-
-    by_way : (p x : ℕ) → shape_at f p ≡ Some Q → ((k : ℕ) → 1 ≤ occurs (children_at f p) k → l k ≡ true) → IsLeafAt f x → IsAtOrAbove f.slots p x → 1 ≤ occurs row x
-    by_way _ _ s a leaf (here n) = absurd (not_leaf leaf.0 (some_inj Q (Leaf leaf.0) (sym s ∙ leaf.1)))
-    by_way _ _ s a leaf (down n k x o way) = filled k (a k o) x leaf way
-
-pub close : (f : Layout) (row : List ℕ) (l : ℕ → Bool) (h : ℕ → ℕ) (q : ℕ) (waiting : List ℕ) (n : ℕ) → IsLayout f → Pass f row l h waiting n →
-    shape_at f q ≡ Some Q → HasPart f l waiting q → ((k : ℕ) → 1 ≤ occurs (children_at f q) k → l k ≡ true) → Pass f row l h (q ∷ waiting) n
-close f row l h q waiting n layout pass sh part all =
-    let hp = has_part f row l h waiting n layout pass q part in
-    let one : 1 ≤ pass.parts q = hp.0 in
-    let g' : ℕ → ℕ = changed pass.parts q 0 in
-    let t : total g' (length f.slots) + pass.parts q ≡ total pass.parts (length f.slots) + g' q =
-    total_with pass.parts g' q (length f.slots) hp.1 (changed_off pass.parts q 0) in
-    let gv : g' q ≡ 0 = changed_here pass.parts q 0 in
-    let s : length waiting + total pass.parts (length f.slots) ≤ n = pass.sum in
-    let rest : (y : ℕ) → occurs (q ∷ waiting) y ≡ 0 → y ≢ q = (λ y w e.
-    let i : 1 ≤ occurs (q ∷ waiting) y = subst (λ z. 1 ≤ occurs (q ∷ waiting) z) (sym e) (occurs_here q waiting) in omega arith) in
-    let less : (y : ℕ) → occurs (q ∷ waiting) y ≡ 0 → occurs waiting y ≡ 0 = (λ y w. omega arith) in
-    record {
-      leaves = λ y oy. elim (pass.leaves y oy) [ inl a ↦ inl a | inr w ↦ inr (omega arith) ];
-      filled = pass.filled;
-      fill = λ y w. elim (cases_eq y q) [
-        | inl e ↦ subst (λ z. IsFullNode f row z) (sym e) (inner_fills f row l q sh pass.filled all)
-        | inr ne ↦ pass.fill y (subst (λ z. 1 ≤ z) (occurs_other q y waiting ne) w)
-      ];
-      once = λ y. elim (cases_eq y q) [
-        | inl e ↦ subst (λ z. occurs (q ∷ waiting) z ≤ 1) (sym e) (let r : occurs waiting q ≡ 0 = part.not_waiting in omega (arith, occurs_same q waiting))
-        | inr ne ↦ subst (λ z. z ≤ 1) (sym (occurs_other q y waiting ne)) (pass.once y)
-      ];
-      fresh = λ y w. elim (cases_eq y q) [
-        | inl e ↦ subst (λ z. l z ≡ false) (sym e) part.not_full
-        | inr ne ↦ pass.fresh y (subst (λ z. 1 ≤ z) (occurs_other q y waiting ne) w)
-      ];
-      used = λ y w. elim (cases_eq y q) [
-        | inl e ↦ subst (λ z. IsInUse f z) (sym e) (used_by f q Q sh)
-        | inr ne ↦ pass.used y (subst (λ z. 1 ≤ z) (occurs_other q y waiting ne) w)
-      ];
-      filled_children = pass.filled_children;
-      fill_children = λ m k w ok. elim (cases_eq m q) [
-        | inl e ↦ all k (subst (λ z. 1 ≤ occurs (children_at f z) k) e ok)
-        | inr ne ↦ pass.fill_children m k (subst (λ z. 1 ≤ z) (occurs_other q m waiting ne) w) ok
-      ];
-      root = pass.root;
-      past = pass.past;
-      counts = pass.counts;
-      parts = g';
-      p_parts = λ y sy ny wy my. subst (λ z. 1 ≤ z) (sym (changed_off pass.parts q 0 y (rest y wy))) (pass.p_parts y sy ny (less y wy) my);
-      q_parts = λ y sy ny wy. subst (λ z. runs l false (children_at f y) ≤ z) (sym (changed_off pass.parts q 0 y (rest y wy))) (pass.q_parts y sy ny (less y wy));
-      sum = omega arith;
-    }
 
 -- both showed a node
 pub record Both (a b : Option NodeId) (q : NodeId) : Type 0 where
@@ -153,10 +90,7 @@ all_labelled f l l' far up up' x q a b us vs s more ln runs ea eb ups na nb some
     ]
   where
     real : (k : ℕ) → 1 ≤ occurs (children_at f q) k → k ≢ none
-    real k o e =
-        let p : occurs (children_at f q) k ≤ times_child f.slots k = children_times f q k in
-        let lt : k < length f.slots = in_range f k (s.layout.used k (omega arith)) in
-        let few : length f.slots ≤ NODE_BOUND = slots_few f s.layout in let e' : k ≡ none = e in omega arith
+    real k o = not_none f k s.layout (child_used f q k s.layout o)
 
     append-nil' : (xs : List ℕ) → xs ++ [] ≡ xs
     append-nil' [] = refl
@@ -169,7 +103,7 @@ all_labelled f l l' far up up' x q a b us vs s more ln runs ea eb ups na nb some
     in_vs k o = subst (λ z. 1 ≤ occurs z k) (sym s.is) (let m : occurs vs k ≤ occurs (x ∷ vs) k = omega arith in omega (arith, occurs-append us (x ∷ vs) k))
 
     x_real : x ≢ none
-    x_real = real x (subst (λ z. 1 ≤ occurs z x) (sym s.is) (omega (arith, occurs-append us (x ∷ vs) x, occurs_here x vs)))
+    x_real = real x (child_at f q x us vs s.is)
 
     head_real : (ps ws : List ℕ) (d : ℕ) → d ≢ none → ((k : ℕ) → 1 ≤ occurs ps k → k ≢ none) → head_or (ps ++ d ∷ ws) none ≢ none
     head_real [] ws d nd h = nd
@@ -239,10 +173,7 @@ left_child f l l' far up x q a us vs s more ln runs ea =
     subst (λ z. EndChild f l' q z) (sym (left_is f l far up x q a us vs S.rest S.run s runs more.before S.is S.inside S.before ea)) (by S.rest S.run S.is S.inside)
   where
     by : (rest run : List ℕ) → us ≡ rest ++ run → ((k : ℕ) → 1 ≤ occurs run k → l k ≡ true) → EndChild f l' q (head_or run x)
-    by rest [] is inside = record {
-      child = subst (λ z. 1 ≤ occurs z x) (sym s.is) (omega (arith, occurs-append us (x ∷ vs) x, occurs_here x vs));
-      is_labelled = more.after;
-    }
+    by rest [] is inside = record { child = child_at f q x us vs s.is; is_labelled = more.after }
     by rest (y ∷ ys) is inside = record {
       child = subst (λ z. 1 ≤ occurs z y) (sym (s.is ∙ ap (λ z. z ++ x ∷ vs) is))
           (omega (arith, occurs-append (rest ++ y ∷ ys) (x ∷ vs) y, occurs-append rest (y ∷ ys) y, occurs_here y ys));
@@ -256,10 +187,7 @@ right_child f l l' far up x q b us vs s more ln runs eb =
     subst (λ z. EndChild f l' q z) (sym (right_is f l far up x q b us vs T.run T.rest s runs more.before T.is T.inside T.after eb)) (by T.run T.rest T.is T.inside)
   where
     by : (run rest : List ℕ) → vs ≡ run ++ rest → ((k : ℕ) → 1 ≤ occurs run k → l k ≡ true) → EndChild f l' q (last_or run x)
-    by [] rest is inside = record {
-      child = subst (λ z. 1 ≤ occurs z x) (sym s.is) (omega (arith, occurs-append us (x ∷ vs) x, occurs_here x vs));
-      is_labelled = more.after;
-    }
+    by [] rest is inside = record { child = child_at f q x us vs s.is; is_labelled = more.after }
     by (y ∷ ys) rest is inside = record {
       child = subst (λ z. 1 ≤ occurs z (last_or ys y)) (sym (s.is ∙ ap (λ z. us ++ x ∷ z) is))
           (omega (arith, occurs-append us (x ∷ ((y ∷ ys) ++ rest)) (last_or ys y), occurs-append (y ∷ ys) rest (last_or ys y), occurs_last ys y));
@@ -273,4 +201,4 @@ child_shows f l' far' up' q a p h sh runs k e =
     let c : SplitAt (children_at f q) a = split_at (children_at f q) a k.child in
     let lt : q < length f.slots = in_range f q (used_by f q Q sh) in
     shown_name q (last_or c.us none) (head_or c.vs none) p (sym (runs.ups q a c.us c.vs sh c.is k.is_labelled) ∙ e)
-    (λ z. let few : length f.slots ≤ NODE_BOUND = slots_few f h in let q' : q ≡ none = z in omega arith)
+    (not_none f q h (used_by f q Q sh))

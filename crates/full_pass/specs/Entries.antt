@@ -65,3 +65,9 @@ chain_at w p = chained (hits w p) (next w) (first w p)
 pub record AreReady (w : Entries) (n : ℕ) : Type 0 where
   pub stamped : AreStamped w.labels.items w.tallies.items w.stamp n
   pub ends : length w.ends.items ≡ n
+
+-- the labelled children of each P-node stay
+pub record SameTallies (a b : Entries) : Type 0 where
+  pub hits_same : (x : ℕ) → hits b x ≡ hits a x
+  pub first_same : (x : ℕ) → first b x ≡ first a x
+  pub next_same : (x : ℕ) → next b x ≡ next a x

@@ -1,6 +1,7 @@
 -- What a pass keeps: labels of full nodes, and an upper bound on the number of parts that they form.
 use Rattle.std.specs.Prelude.{zero, suc, ◌≡◌, ◌⊎◌, ℕ, ◌+◌, ◌-◌, ◌≤◌, ◌<◌, ◌≢◌, Bool, true, false, cond, eqb, List, [], ◌∷◌, ◌++◌, length, Option, Some, None}
 use Rattle.column_order.specs.Orders.{occurs}
+use Rattle.row_model.specs.Rows.{IsRow}
 use Rattle.arena_model.specs.declared.Shape.TheVariants.{P, Q}
 use Rattle.arena_model.specs.ChildLists.{none, head_or, last_or, end_parent}
 use Rattle.arena_model.specs.Layout.{Layout, shape_at, children_at, IsInUse}
@@ -63,11 +64,9 @@ pub record Runs (f : Layout) (l : ℕ → Bool) (far : ℕ → ℕ) (up : ℕ �
   pub ups : (q a : ℕ) (us vs : List ℕ) → shape_at f q ≡ Some Q → children_at f q ≡ us ++ a ∷ vs → l a ≡ true →
       up a ≡ node_named (end_parent q (last_or us none) (head_or vs none))
 
--- What a pass over the row keeps, with the labels l and the numbers h of labelled children of P-nodes; `waiting` are
--- full nodes that are not labelled yet. `parts` bounds the parts of each node that is neither: the runs of labelled
--- children of a Q-node, and one of a P-node with a labelled child. The parts and the waiting nodes are at most
--- open_count in all.
-pub record Pass (f : Layout) (row : List ℕ) (l : ℕ → Bool) (h : ℕ → ℕ) (waiting : List ℕ) (open_count : ℕ) : Type 0 where
+-- The labels l of a pass over the row, and `waiting`, full nodes that are not labelled yet: each leaf of the row is labelled
+-- or waits, what is labelled or waits is full, and so is each of its children labelled.
+pub record Labelling (f : Layout) (row : List ℕ) (l : ℕ → Bool) (waiting : List ℕ) : Type 0 where
   pub leaves : (x : ℕ) → 1 ≤ occurs row x → (l x ≡ true) ⊎ (1 ≤ occurs waiting x)
   pub filled : (x : ℕ) → l x ≡ true → IsFullNode f row x
   pub fill : (x : ℕ) → 1 ≤ occurs waiting x → IsFullNode f row x
@@ -78,6 +77,13 @@ pub record Pass (f : Layout) (row : List ℕ) (l : ℕ → Bool) (h : ℕ → �
   pub fill_children : (m k : ℕ) → 1 ≤ occurs waiting m → 1 ≤ occurs (children_at f m) k → l k ≡ true
   pub root : l f.root ≡ false
   pub past : (x : ℕ) → length f.slots ≤ x → l x ≡ false
+
+-- What a pass over the row keeps, with the labels l and the numbers h of labelled children of P-nodes; `waiting` are
+-- full nodes that are not labelled yet. `parts` bounds the parts of each node that is neither: the runs of labelled
+-- children of a Q-node, and one of a P-node with a labelled child. The parts and the waiting nodes are at most
+-- open_count in all.
+pub record Pass (f : Layout) (row : List ℕ) (l : ℕ → Bool) (h : ℕ → ℕ) (waiting : List ℕ) (open_count : ℕ) : Type 0 where
+  pub labels : Labelling f row l waiting
   pub counts : (p : ℕ) → shape_at f p ≡ Some P → h p ≡ marks l (children_at f p)
   pub parts : ℕ → ℕ
   pub p_parts : (p : ℕ) → shape_at f p ≡ Some P → l p ≡ false → occurs waiting p ≡ 0 → 1 ≤ marks l (children_at f p) → 1 ≤ parts p
@@ -205,6 +211,12 @@ pub record CanRise (f : Layout) (w : Entries) (x open_count : ℕ) : Type 0 wher
   pub row : List ℕ
   pub waiting : List ℕ
   pub pass : Pass f row (is_full w) (hits w) (x ∷ waiting) open_count
+
+-- a pass may go over the row: its columns are those of the one tree, and there are entries for all nodes
+pub record CanPass (f : Layout) (row : List ℕ) (w : Entries) : Type 0 where
+  pub tree : IsOneTree f
+  pub fits : IsRow f.columns row
+  pub ready : AreReady w (length f.slots)
 
 -- what the loop over the row keeps
 pub record Going (f : Layout) (row : List ℕ) (w : Entries) (waiting : List ℕ) (open_count : ℕ) (last : Settled) : Type 0 where

@@ -2,7 +2,7 @@
 ghost use Rattle.std.specs.Prelude.{◌≡◌, ◌≢◌, ℕ, ◌+◌, ◌≤◌, ◌<◌, length, take, true, false, IfOk};
 ghost use Rattle.column_order.specs.Orders.{occurs};
 ghost use Rattle.pq_arena.specs.RowNodes.{indices};
-ghost use Rattle.full_pass.specs.Entries.{label, tally, is_full, mark_of, hits, far, up, first, next, end_at, both, chain_at, AreReady};
+ghost use Rattle.full_pass.specs.Entries.{label, tally, is_full, mark_of, hits, far, up, first, next, end_at, both, chain_at, AreReady, SameTallies};
 
 use crate::tallies::{Tally, fill, hit, hits_at, is_labelled};
 use pq_arena::NodeId;
@@ -155,9 +155,7 @@ impl Entries {
         ensures a { a.index ≢ b.index → far self.new a.index ≡ b.index }
         ensures others { (y : ℕ) → y ≢ a.index → y ≢ b.index → far self.new y ≡ far self.old y }
         ensures full { (y : ℕ) → is_full self.new y ≡ is_full self.old y }
-        ensures hits { (y : ℕ) → hits self.new y ≡ hits self.old y }
-        ensures first { (y : ℕ) → first self.new y ≡ first self.old y }
-        ensures next { (y : ℕ) → next self.new y ≡ next self.old y }
+        ensures tallies { SameTallies self.old self.new }
         ensures up { (y : ℕ) → up self.new y ≡ up self.old y }
     {
         self.set_far(a, b);
@@ -201,9 +199,7 @@ impl Entries {
         ensures here { is_full self.new x.index ≡ true }
         ensures others { (y : ℕ) → y ≢ x.index → is_full self.new y ≡ is_full self.old y }
         ensures far { (y : ℕ) → far self.new y ≡ far self.old y }
-        ensures hits { (y : ℕ) → hits self.new y ≡ hits self.old y }
-        ensures first { (y : ℕ) → first self.new y ≡ first self.old y }
-        ensures next { (y : ℕ) → next self.new y ≡ next self.old y }
+        ensures tallies { SameTallies self.old self.new }
         ensures up { (y : ℕ) → up self.new y ≡ up self.old y }
     {
         let stamp = self.stamp;
@@ -218,9 +214,7 @@ impl Entries {
         ensures ups { (y : ℕ) → y ≢ x.index → up self.new y ≡ up self.old y }
         ensures full { (y : ℕ) → is_full self.new y ≡ is_full self.old y }
         ensures far { (y : ℕ) → far self.new y ≡ far self.old y }
-        ensures hits { (y : ℕ) → hits self.new y ≡ hits self.old y }
-        ensures first { (y : ℕ) → first self.new y ≡ first self.old y }
-        ensures next { (y : ℕ) → next self.new y ≡ next self.old y }
+        ensures tallies { SameTallies self.old self.new }
     {
         let end = &mut self.ends[x.index() as usize];
         end.up = above;

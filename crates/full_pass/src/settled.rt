@@ -2,13 +2,12 @@
 ghost use Rattle.std.specs.Prelude.{◌≡◌, ℕ, ◌+◌, ◌*◌, ◌≤◌, List, length};
 ghost use Rattle.column_order.specs.Orders.{Keeps};
 ghost use Rattle.row_model.specs.Graph.{row_at};
-ghost use Rattle.row_model.specs.Rows.{IsRow};
 ghost use Rattle.pq_tree.specs.Outline.{IsFrontier};
 ghost use Rattle.arena_model.specs.NamedTree.{IsOneTree, outline_at};
 ghost use Rattle.pq_arena.specs.RowNodes.{indices, column_leaves};
 ghost use Rattle.full_pass.specs.Answer.{IsSettled};
 ghost use Rattle.full_pass.specs.Entries.{AreReady};
-ghost use Rattle.full_pass.specs.Passing.{members_of};
+ghost use Rattle.full_pass.specs.Passing.{members_of, CanPass};
 
 use crate::count::count;
 use crate::entries::Entries;
@@ -62,9 +61,7 @@ pub fn run_both<L: Ledger>(
     pace: &mut Pace,
     steps: &mut Steps<L>,
 ) -> Settled
-    requires tree { IsOneTree arena.now }
-    requires row { IsRow arena.now.columns row.now }
-    requires ready { AreReady entries.old (length arena.now.slots) }
+    requires { CanPass arena.now row.now entries.old }
     ensures ready { AreReady entries.new (length arena.now.slots) }
     ensures settled { IsSettled arena.now (column_leaves row.now) (members_of entries.new result) result }
     ensures ticks { steps.new ≤ steps.old + 8 * length row.now }
@@ -95,9 +92,7 @@ fn run<L: Ledger>(
     entries: &mut Entries,
     steps: &mut Steps<L>,
 ) -> Settled
-    requires tree { IsOneTree arena.now }
-    requires row { IsRow arena.now.columns row.now }
-    requires ready { AreReady entries.old (length arena.now.slots) }
+    requires { CanPass arena.now row.now entries.old }
     ensures ready { AreReady entries.new (length arena.now.slots) }
     ensures settled { IsSettled arena.now (column_leaves row.now) (members_of entries.new result) result }
     ensures ticks { steps.new ≤ steps.old + 4 * length row.now }

@@ -1,5 +1,5 @@
 // The room of a full pass, and what it left there.
-ghost use Rattle.std.specs.Prelude.{◌≡◌, ℕ, ◌+◌, ◌*◌, ◌≤◌, ◌<◌, ◌↔◌, List, [], length, IfOk, IsTrue};
+ghost use Rattle.std.specs.Prelude.{◌≡◌, ℕ, ◌+◌, ◌*◌, ◌≤◌, ◌↔◌, List, [], length, IfOk, IsTrue};
 ghost use Rattle.column_order.specs.Orders.{Keeps};
 ghost use Rattle.row_model.specs.Rows.{IsRow};
 ghost use Rattle.pq_tree.specs.Outline.{IsFrontier};

@@ -5,7 +5,7 @@ use Rattle.std.proofs.lemmas.List.{set-get_or}
 use Rattle.arena_model.specs.declared.Shape.TheVariants.{Leaf, P, Q}
 use Rattle.pq_arena.specs.declared.node.Link.{Link}
 use Rattle.pq_arena.specs.declared.node.Head.{Head}
-use Rattle.arena_model.proofs.Lists.{occurs_here, occurs_last, SplitAt, split_at, replaced_split}
+use Rattle.arena_model.proofs.Lists.{occurs_here, occurs_last, SplitAt, split_at, replaced_split, occurs_behind, occurs_before}
 use Rattle.arena_model.proofs.Slots.{in_range, used_by, children_times, placed_in}
 use Rattle.arena_model.specs.ChildLists.{with_replaced, head_or, last_or, end_parent, none}
 use Rattle.arena_model.specs.Layout.{Layout, shape_at, children_at, times_child, IsAtOrAbove, IsInUse, StandsAlone, MayHaveChildren, with_children}
@@ -100,7 +100,7 @@ can_swap ls hs root spare count columns f old new h used alone =
           elim (has_children (shape_at f r.0) (children_at f r.0) old (h.layout.children_fit r.0) r.1) [
             | inl sh ↦ near_by (link ls old) r.0 (head_or s.vs (head_or s.us old)) (last_or s.us (last_or s.vs old))
                 (ring_seat ls hs root spare count columns f r.0 old s.us s.vs h sh s.is) (λ _. lt r.0 (used_by f r.0 P sh))
-                (λ _. kid _ (head_deep s.us s.vs)) (λ _. kid _ (last_deep s.us s.vs))
+                (λ _. kid _ (occurs_behind s.us s.vs old)) (λ _. kid _ (occurs_before s.us s.vs old))
             | inr sh ↦ elim (run_seat ls hs root spare count columns f r.0 old s.us s.vs h sh s.is) [
               | inl e ↦ near_by (link ls old) (end_parent r.0 (last_or s.us none) (head_or s.vs none)) (last_or s.us none) (head_or s.vs none) e
                   (parent_lt r.0 (last_or s.us none) (head_or s.vs none) (lt r.0 (used_by f r.0 Q sh))) (last_up s.us s.vs kid) (head_up s.us s.vs kid)
@@ -115,15 +115,6 @@ can_swap ls hs root spare count columns f old new h used alone =
     near_by : (l : Link) (k a b : ℕ) → l ≡ seat k a b → (k ≢ none → k < length ls) → (a ≢ none → a < length ls) → (b ≢ none → b < length ls) →
         (l.parent ≢ none → l.parent < length ls) × (l.near0 ≢ none → l.near0 < length ls) × (l.near1 ≢ none → l.near1 < length ls)
     near_by l k a b e hk ha hb = subst (λ (z : Link). (z.parent ≢ none → z.parent < length ls) × (z.near0 ≢ none → z.near0 < length ls) × (z.near1 ≢ none → z.near1 < length ls)) (sym e) (hk, ha, hb)
-
-    head_deep : (us vs : List ℕ) → 1 ≤ occurs (us ++ old ∷ vs) (head_or vs (head_or us old))
-    head_deep [] [] = occurs_here old []
-    head_deep (u ∷ us) [] = occurs_here u (us ++ old ∷ [])
-    head_deep us (v ∷ vs) = omega (arith, occurs-append us (old ∷ v ∷ vs) v, occurs_here v vs)
-
-    last_deep : (us vs : List ℕ) → 1 ≤ occurs (us ++ old ∷ vs) (last_or us (last_or vs old))
-    last_deep [] vs = occurs_last vs old
-    last_deep (u ∷ us) vs = omega (arith, occurs-append (u ∷ us) (old ∷ vs) (last_or us u), occurs_last us u)
 
     last_up : (us vs : List ℕ) → ((x : ℕ) → 1 ≤ occurs (us ++ old ∷ vs) x → x < length ls) → last_or us none ≢ none → last_or us none < length ls
     last_up [] vs kid d = absurd (d refl)

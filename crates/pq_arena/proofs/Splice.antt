@@ -103,20 +103,15 @@ splices_are ls q child e w ws us vs once inside few =
     let c_lt : child < length ls = node_named child (omega arith) in
     let stays : (x : ℕ) → x ≢ n → x ≢ far → x ≢ e → x ≢ g → x ≢ child → link (set four child no_link) x ≡ link ls x =
     (λ x an af ae ag ac. link_off four child x no_link ac ∙ link_off three g x v2 ag ∙ rel_off two far child g x af ∙ link_off one e x v1 ae ∙ rel_off ls n child e x an) in
+    let outer : (x : ℕ) → 1 ≤ occurs us x + occurs vs x → (x ≢ none) × (x ≢ e) × (x ≢ g) × (x ≢ child) =
+    (λ x o. let a : occurs us x + (occurs (child ∷ []) x + occurs vs x) + occurs (e ∷ w ∷ ws) x ≤ 1 = all x in
+    (real x (omega arith), differ (e ∷ w ∷ ws) x e (omega arith) e1, differ (w ∷ ws) x g (omega arith) g1, differ (child ∷ []) x child (omega arith) c1)) in
     let us_off : (x : ℕ) → 1 ≤ occurs us x → (x ≢ far) × (x ≢ e) × (x ≢ g) × (x ≢ child) =
-    (λ x o. let a : occurs us x + (occurs (child ∷ []) x + occurs vs x) + occurs (e ∷ w ∷ ws) x ≤ 1 = all x in (
-      head_off vs x (real x (omega arith)) (omega arith),
-      differ (e ∷ w ∷ ws) x e (omega arith) e1,
-      differ (w ∷ ws) x g (omega arith) g1,
-      differ (child ∷ []) x child (omega arith) c1,
-    )) in
+    (λ x o. let a : occurs us x + (occurs (child ∷ []) x + occurs vs x) + occurs (e ∷ w ∷ ws) x ≤ 1 = all x in
+    let k = outer x (omega arith) in (head_off vs x k.0 (omega arith), k.1, k.2, k.3)) in
     let vs_off : (x : ℕ) → 1 ≤ occurs vs x → (x ≢ n) × (x ≢ e) × (x ≢ g) × (x ≢ child) =
-    (λ x o. let a : occurs us x + (occurs (child ∷ []) x + occurs vs x) + occurs (e ∷ w ∷ ws) x ≤ 1 = all x in (
-      end_off us x (real x (omega arith)) (omega arith),
-      differ (e ∷ w ∷ ws) x e (omega arith) e1,
-      differ (w ∷ ws) x g (omega arith) g1,
-      differ (child ∷ []) x child (omega arith) c1,
-    )) in
+    (λ x o. let a : occurs us x + (occurs (child ∷ []) x + occurs vs x) + occurs (e ∷ w ∷ ws) x ≤ 1 = all x in
+    let k = outer x (omega arith) in (end_off us x k.0 (omega arith), k.1, k.2, k.3)) in
     record {
       splices = record {
         left = λ l.

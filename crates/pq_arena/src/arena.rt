@@ -1,5 +1,5 @@
 // The arena and its calls.
-ghost use Rattle.std.specs.Prelude.{◌≡◌, ℕ, ◌+◌, ◌*◌, ◌-◌, ◌<◌, ◌≤◌, ◌≢◌, length, set, Some, None, cond, eqb, ◌∷◌, [], ◌++◌, List, map, reverse, IfOk};
+ghost use Rattle.std.specs.Prelude.{◌≡◌, ℕ, ◌+◌, ◌*◌, ◌≤◌, length, Some, ◌∷◌, [], ◌++◌, List, map, reverse, IfOk};
 ghost use Rattle.arena_model.specs.ChildLists.{without, oriented, with_replaced, put_on, head_or, last_or, none};
 ghost use Rattle.arena_model.specs.Layout.{shape_at, children_at, with_children, IsChildOfP, StandsAlone, IsAtOrAbove, taken, given_back, IsLeaf, IsInUse, IsLayout, IsSpliceAt, spliced, used_count};
 ghost use Rattle.arena_model.specs.NamedTree.{node_over, outline_below, outline_at, IsOneTree};
@@ -10,8 +10,6 @@ ghost use Rattle.pq_tree.specs.Canonical.{IsCanonical};
 ghost use Rattle.column_order.specs.Orders.{occurs};
 ghost use Rattle.column_order.specs.declared.TheConstants.{COLUMN_BOUND};
 ghost use Rattle.pq_arena.specs.Looks.{IsBeside, node_named};
-ghost use Rattle.pq_arena.specs.StandsFor.{other_side};
-ghost use Rattle.pq_arena.specs.Wiring.{links, heads, link, head, with_near0, with_near1, unringed, fewer, ringed, more, RingBounds, CanEnter, redirected, relinked_if, joined, spliced_links, spliced_heads, IsNone, CanSplice, fore, aft, swapped, heads_swapped, CanSwap};
 ghost use Rattle.arena_model.specs.declared.Shape.{Shape};
 ghost use Rattle.arena_model.specs.declared.Shape.TheVariants.{P, Q, Leaf};
 

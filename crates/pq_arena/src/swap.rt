@@ -1,13 +1,6 @@
 // A node in the place of another.
-ghost use Rattle.std.specs.Prelude.{◌≡◌, ℕ, ◌+◌, ◌-◌, ◌<◌, ◌≤◌, ◌≢◌, length, set, Some, None, cond, eqb, ◌∷◌, [], ◌++◌, List, OnOk};
-ghost use Rattle.arena_model.specs.ChildLists.{without, oriented, with_replaced, head_or, last_or, none};
-ghost use Rattle.arena_model.specs.Layout.{shape_at, children_at, with_children, IsChildOfP, StandsAlone, IsAtOrAbove, taken, given_back, IsLeaf, IsInUse, IsLayout, IsSpliceAt, spliced};
-ghost use Rattle.column_order.specs.Orders.{occurs};
-ghost use Rattle.pq_arena.specs.Looks.{ShowsNode, node_named, index_or_none};
-ghost use Rattle.pq_arena.specs.StandsFor.{other_side};
-ghost use Rattle.pq_arena.specs.Wiring.{links, heads, link, head, with_near0, with_near1, unringed, fewer, ringed, more, RingBounds, CanEnter, redirected, relinked_if, joined, spliced_links, spliced_heads, IsNone, CanSplice, fore, aft, swapped, heads_swapped, CanSwap};
-ghost use Rattle.arena_model.specs.declared.Shape.{Shape};
-ghost use Rattle.arena_model.specs.declared.Shape.TheVariants.{P, Q, Leaf};
+ghost use Rattle.std.specs.Prelude.{◌≡◌, length, cond, eqb};
+ghost use Rattle.pq_arena.specs.Wiring.{links, heads, link, IsNone, swapped, heads_swapped, CanSwap};
 
 use crate::node::*;
 use crate::run::relink_if;

@@ -66,7 +66,7 @@ map-swap {A} {B} f (x ∷ xs) i j =
     ap (λ y. set (set m i (get_or m j (f x))) j y) (sym (get_or-map f l i x))
 
 -- a permutation of images is the image of a permutation
-permuted_map : {A B : Type 0} (f : A → B) (xs : List A) (ys : List B) → IsPermutation (map f xs) ys → (zs : List A) × IsPermutation xs zs × (ys ≡ map f zs)
+pub permuted_map : {A B : Type 0} (f : A → B) (xs : List A) (ys : List B) → IsPermutation (map f xs) ys → (zs : List A) × IsPermutation xs zs × (ys ≡ map f zs)
 permuted_map {A} {B} f xs ys h =
     IsPermutation-keeps (map f xs) (λ l. (zs : List A) × IsPermutation xs zs × (l ≡ map f zs)) (xs, IsPermutation-refl xs, refl)
     (λ l i j m n w.

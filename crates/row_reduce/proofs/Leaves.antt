@@ -4,6 +4,7 @@ use Rattle.std.proofs.lemmas.Bool.{cases_eq, cases_lt}
 use Rattle.column_order.specs.Orders.{occurs, has}
 use Rattle.column_order.proofs.Lists.{has_from_occurs, lacks_from_occurs, occurs-append}
 use Rattle.row_model.specs.Rows.{Ascends, IsRow}
+use Rattle.row_model.proofs.Ascending.{ascends_within}
 use Rattle.pq_tree.specs.Outline.{Forest}
 use Rattle.template_theory.specs.Templates.{Label, empty_label, AreAllEmpty, none_sorted, to_empty}
 use Rattle.template_theory.specs.Chosen.{p_empty, q_empty}
@@ -14,28 +15,16 @@ use Rattle.arena_model.specs.Layout.{Layout, shape_at, children_at, IsGrounded, 
 use Rattle.arena_model.specs.NamedTree.{NamedTree, NamedTrees, named_tree, no_named, named_and, IsAt, AreAt, node_names, node_names_of, outline_named, outlines_named, outline_below, HasTwoEach}
 use Rattle.arena_model.proofs.Lists.{occurs_here, occurs_same, occurs_other}
 use Rattle.arena_model.proofs.Trees.{TreeAt, tree_at, reached}
-use Rattle.arena_model.proofs.Outlines.{below_named}
-use Rattle.pq_arena.specs.RowNodes.{column_leaves}
+use Rattle.arena_model.proofs.Outlines.{below_tree}
+use Rattle.arena_model.specs.RowLeaves.{column_leaves}
+use Rattle.arena_model.proofs.Rows
 use Rattle.bubble_pass.specs.declared.labels.Label.TheVariants.{Empty, Full}
 use Rattle.bubble_pass.specs.Sweep.{IsRight}
 use Rattle.template_model.proofs.Replaced.{child_used}
 
 -- a column of the row is one more than the number of its leaf
 pub row_occurs : (c low : ℕ) (row : List ℕ) (x : ℕ) → Ascends c low row → occurs (column_leaves row) x ≡ occurs row (x + 1)
-row_occurs c low [] x h = refl
-row_occurs c low (a ∷ row) x h =
-    let r : occurs (column_leaves row) x ≡ occurs row (x + 1) = row_occurs c a row x h.2 in
-    let some : low < a = h.0 in
-    elim (cases_eq a (x + 1)) [
-      | inl e ↦
-          let i : occurs ((a - 1) ∷ column_leaves row) x ≡ 1 + occurs (column_leaves row) x = subst (λ z. occurs (z ∷ column_leaves row) x ≡ 1 + occurs (column_leaves row) x) (let k : x ≡ a - 1 = omega arith in k) (occurs_same x (column_leaves row)) in
-          let j : occurs (a ∷ row) (x + 1) ≡ 1 + occurs row (x + 1) = subst (λ z. occurs (z ∷ row) (x + 1) ≡ 1 + occurs row (x + 1)) (sym e) (occurs_same (x + 1) row) in
-          omega arith
-      | inr ne ↦
-          let i : occurs ((a - 1) ∷ column_leaves row) x ≡ occurs (column_leaves row) x = occurs_other (a - 1) x (column_leaves row) (λ e. ne (omega arith)) in
-          let j : occurs (a ∷ row) (x + 1) ≡ occurs row (x + 1) = occurs_other a (x + 1) row (λ e. ne (sym e)) in
-          omega arith
-    ]
+row_occurs c low row x h = Rows.row_occurs c row x (λ a k. let r = ascends_within c low a row h k in (omega (arith, r.0), r.1))
 
 -- a leaf below a node
 pub record LeafBelow (f : Layout) (n : ℕ) : Type 0 where
@@ -100,7 +89,7 @@ mutual
 pub empty_is : (f : Layout) (row : List ℕ) (k : ℕ) → IsLayout f → IsRow f.columns row → IsInUse f k → IsRight f (column_leaves row) k Empty → IsLabel row (outline_below f k) empty_label
 empty_is f row k h r used right =
     let t : TreeAt f k = tree_at f k h used in
-    subst (λ z. IsLabel row z empty_label) (sym (ap (outline_below f) (sym t.named) ∙ below_named f t.it h t.is))
+    subst (λ z. IsLabel row z empty_label) (sym (below_tree f k h t))
     (empty_named f row t.it h r t.is (λ x o. elim (cases_lt 0 (occurs (column_leaves row) x)) [
       | inl l ↦ absurd (right x (subst (λ z. IsAtOrAbove f.slots z x) t.named (reached f.slots t.it x t.is o)) l)
       | inr l ↦ omega arith

@@ -1,5 +1,5 @@
 // The steps of a pass over the universal tree.
-ghost use Rattle.std.specs.Prelude.{◌≡◌, ◌+◌, ◌*◌, ◌≤◌, ◌<◌, length};
+ghost use Rattle.std.specs.Prelude.{◌+◌, ◌*◌, ◌≤◌, length};
 ghost use Rattle.column_order.specs.declared.TheConstants.{COLUMN_BOUND};
 
 use super::passes::is_row;
@@ -8,7 +8,7 @@ use pq_arena::Arena;
 use row_model::{Matrix, NoMemory};
 use std::alloc::Global;
 use std::process::Abort;
-use step_count::{Blank, Ledger, Steps};
+use step_count::{Ledger, Steps};
 
 // The pass over a row of so many columns under one P-node. Only the root and the leaves of the row meet it, so the
 // bound on the steps tells nothing of the other columns.
@@ -37,12 +37,11 @@ fn ask_star<L: Ledger>(
 }
 
 /// A row of two columns among 2,048.
-pub fn star<L: Ledger>(rt: &impl Abort, alloc: Global, blank: Blank) -> Result<(), NoMemory>
-    requires name { blank.name ≡ L.name }
-    requires parts { blank.parts ≡ L.parts }
-    requires some { 0 < blank.parts }
-{
-    let mut steps = Steps::<L>::new(blank);
-    assert!(rt; ask_star(rt, alloc, 2048, &[5, 77], &mut steps)?);
+pub fn star<L: Ledger>(
+    rt: &impl Abort,
+    alloc: Global,
+    steps: &mut Steps<L>,
+) -> Result<(), NoMemory> {
+    assert!(rt; ask_star(rt, alloc, 2048, &[5, 77], steps)?);
     Ok(())
 }

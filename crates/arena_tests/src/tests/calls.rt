@@ -1,7 +1,7 @@
 // The calls of an arena, each after a test of its conditions.
-ghost use Rattle.std.specs.Prelude.{◌≡◌, ◌≢◌, ◌≤◌, ◌↔◌, ◌⊎◌, ℕ, List, [], IsTrue, Some, None, slice_index_or};
+ghost use Rattle.std.specs.Prelude.{◌≡◌, ◌≢◌, ◌↔◌, ◌⊎◌, ℕ, List, [], IsTrue, Some, None, slice_index_or};
 ghost use Rattle.arena_model.specs.declared.Shape.TheVariants.{Q};
-ghost use Rattle.arena_model.specs.Layout.{shape_at, children_at, IsInUse, IsAtOrAbove, IsSpliceAt};
+ghost use Rattle.arena_model.specs.Layout.{shape_at, children_at, IsAtOrAbove, IsSpliceAt};
 ghost use Rattle.pq_arena.specs.Looks.{ShowsNode, IsBeside};
 
 use pq_arena::{Arena, NodeId, NodeView, Shape};

@@ -1,5 +1,4 @@
 // Trees that are made by calls, each asked for rows whose answers were worked out by hand.
-ghost use Rattle.std.specs.Prelude.{◌≡◌, ◌<◌};
 
 use super::answers::{counts_of, label_of};
 use super::calls::{detach, give_back, leaf, put_under, replace, take};
@@ -10,14 +9,15 @@ use pq_arena::{Arena, NodeId};
 use row_model::NoMemory;
 use std::alloc::Global;
 use std::process::Abort;
-use step_count::{Blank, Ledger, Steps};
+use step_count::{Ledger, Steps};
 
-// What a tree looks like, and which of its nodes are named by places.
+// What a tree looks like, and which of its nodes are named by places. A tree is over 2048 columns where it says no other
+// number.
 #[derive(Clone, Copy, Drop)]
 enum Tree {
-    // All columns under one P-node: the root, and the leaf of the last column.
-    Star,
-    // A Q-node over the first columns, as many as this says, beside the others: the Q-node, and the root.
+    // So many columns under one P-node: the root, and the leaf of the last column.
+    Star(u32),
+    // A Q-node over all columns but the last of so many, beside that one: the Q-node, and the root.
     Beside(u32),
     // All columns under one Q-node, which is the root.
     Chain,
@@ -45,18 +45,16 @@ enum Wanted {
 // A row, or all columns where it has none, and what the pass finds for it.
 type Question = (&'static [u32], Wanted);
 
-// A tree over so many columns, and the rows that it is asked for in turn.
+// A tree, and the rows that it is asked for in turn.
 #[derive(Clone, Copy, Drop)]
 struct Case {
-    columns: u32,
     tree: Tree,
     questions: &'static [Question],
 }
 
 const CASES: [Case; 7] = [
     Case {
-        columns: 5,
-        tree: Tree::Beside(4),
+        tree: Tree::Beside(5),
         questions: &[
             (&[2, 3], Wanted::Run),
             (&[1, 2], Wanted::Root(0, Label::Partial, 3, 2)),
@@ -66,8 +64,7 @@ const CASES: [Case; 7] = [
     },
     // A run in the middle, one at an end, and two columns apart.
     Case {
-        columns: 600,
-        tree: Tree::Beside(599),
+        tree: Tree::Beside(600),
         questions: &[
             (&[51, 52, 53, 54], Wanted::Run),
             (&[1, 2, 3], Wanted::Root(0, Label::Partial, 4, 3)),
@@ -75,16 +72,14 @@ const CASES: [Case; 7] = [
         ],
     },
     Case {
-        columns: 600,
-        tree: Tree::Star,
+        tree: Tree::Star(600),
         questions: &[
             (&[5, 77], Wanted::Root(0, Label::Partial, 3, 2)),
             (&[600], Wanted::Root(1, Label::Full, 1, 0)),
         ],
     },
     Case {
-        columns: 2048,
-        tree: Tree::Star,
+        tree: Tree::Star(2048),
         questions: &[
             (&[5, 77], Wanted::Root(0, Label::Partial, 3, 2)),
             (&[2048], Wanted::Root(1, Label::Full, 1, 0)),
@@ -92,7 +87,6 @@ const CASES: [Case; 7] = [
         ],
     },
     Case {
-        columns: 2048,
         tree: Tree::Chain,
         questions: &[
             (&[1000, 1001, 1002], Wanted::Run),
@@ -105,7 +99,6 @@ const CASES: [Case; 7] = [
     // For columns 1024 and 1025, two leaves and the nodes of the columns from these on; for the first and the last one,
     // two leaves and all other nodes.
     Case {
-        columns: 2048,
         tree: Tree::Nest,
         questions: &[
             (&[2047, 2048], Wanted::Root(0, Label::Full, 3, 2)),
@@ -116,7 +109,6 @@ const CASES: [Case; 7] = [
     },
     // The innermost node knows no node above it, and neither does a neighbour.
     Case {
-        columns: 2048,
         tree: Tree::Lines,
         questions: &[
             (&[1024, 1025], Wanted::Root(0, Label::Full, 3, 2)),
@@ -127,18 +119,17 @@ const CASES: [Case; 7] = [
     },
 ];
 
-// The last column of the tree of P-nodes within one another.
+// The last column of a tree that says no other number.
 const LAST: u32 = 2048;
 
 /// Each tree is made and asked.
-pub fn all_cases<L: Ledger>(rt: &impl Abort, alloc: Global, blank: Blank) -> Result<(), NoMemory>
-    requires name { blank.name ≡ L.name }
-    requires parts { blank.parts ≡ L.parts }
-    requires some { 0 < blank.parts }
-{
-    let mut steps = Steps::<L>::new(blank);
+pub fn all_cases<L: Ledger>(
+    rt: &impl Abort,
+    alloc: Global,
+    steps: &mut Steps<L>,
+) -> Result<(), NoMemory> {
     for case in &CASES {
-        one_case(rt, alloc, case, &mut steps)?;
+        one_case(rt, alloc, case, steps)?;
     }
     Ok(())
 }
@@ -150,8 +141,12 @@ fn one_case<L: Ledger>(
     case: &Case,
     steps: &mut Steps<L>,
 ) -> Result<(), NoMemory> {
-    assert!(rt; 5 <= case.columns && case.columns <= 2048);
-    let mut arena = Arena::new(alloc, case.columns)?;
+    let columns = match case.tree {
+        Tree::Star(columns) | Tree::Beside(columns) => columns,
+        Tree::Chain | Tree::Nest | Tree::Lines => LAST,
+    };
+    assert!(rt; 5 <= columns && columns <= LAST);
+    let mut arena = Arena::new(alloc, columns)?;
     let nodes = make(rt, alloc, &mut arena, case.tree, steps)?;
     let mut work = room_for(rt, alloc, &arena)?;
     for question in case.questions {
@@ -252,12 +247,12 @@ fn make<L: Ledger>(
     steps: &mut Steps<L>,
 ) -> Result<Vec<NodeId>, NoMemory> {
     match tree {
-        Tree::Star => {
+        Tree::Star(_) => {
             let last = leaf(rt, arena, arena.columns());
             Ok(vec![in alloc; arena.root(), last]?)
         }
-        Tree::Beside(last) => {
-            let line = put_together(rt, arena, true, last, steps);
+        Tree::Beside(columns) => {
+            let line = put_together(rt, arena, true, columns.wrapping_sub(1), steps);
             Ok(vec![in alloc; line, arena.root()]?)
         }
         Tree::Chain => make_chain(rt, alloc, arena, steps),

@@ -21,7 +21,9 @@ pub fn frontiers(
     }
     for _ in 0..720 {
         let positions = order.clone()?;
-        if is_front(rt, alloc, tree, &positions)? {
+        let leaves = leaf_reach(rt, alloc, tree, &positions)?;
+        let reach = node_reach(rt, tree, leaves);
+        if is_front(rt, tree, &reach) {
             fronts.push(positions)?;
         }
         if !move_on(rt, &mut order) {
@@ -79,14 +81,9 @@ struct Reach {
     count: Vec<u32>,
 }
 
-// The reach of each node, where the columns have these positions. Each node comes after the one above it.
-fn reach_of(
-    rt: &impl Abort,
-    alloc: Global,
-    tree: &Vec<Seen>,
-    positions: &Vec<u32>,
-) -> Result<Reach, NoMemory> {
-    let mut reach = leaf_reach(rt, alloc, tree, positions)?;
+// The reach of each node by that of the leaves. Each node comes after the one above it.
+fn node_reach(rt: &impl Abort, tree: &Vec<Seen>, leaves: Reach) -> Reach {
+    let mut reach = leaves;
     for place in (1..tree.len()).rev() {
         let above = tree[place].above;
         let low = at(rt, &reach.low, place).min(at(rt, &reach.low, above));
@@ -96,10 +93,10 @@ fn reach_of(
         let count = at(rt, &reach.count, place);
         add_at(rt, &mut reach.count, above, count);
     }
-    Ok(reach)
+    reach
 }
 
-// The reach of each leaf by itself; that of an inner node is still empty.
+// The reach of each leaf by itself, where the columns have these positions; that of an inner node is still empty.
 fn leaf_reach(
     rt: &impl Abort,
     alloc: Global,
@@ -128,23 +125,17 @@ fn leaf_reach(
     Ok(Reach { low, high, count })
 }
 
-// Whether these positions of the columns are those of a frontier of the tree.
-fn is_front(
-    rt: &impl Abort,
-    alloc: Global,
-    tree: &Vec<Seen>,
-    positions: &Vec<u32>,
-) -> Result<bool, NoMemory> {
-    let reach = reach_of(rt, alloc, tree, positions)?;
+// Whether the positions of the columns, with this reach of each node, are those of a frontier of the tree.
+fn is_front(rt: &impl Abort, tree: &Vec<Seen>, reach: &Reach) -> bool {
     for place in 0..tree.len() {
-        if !is_whole(rt, &reach, place) {
-            return Ok(false);
+        if !is_whole(rt, reach, place) {
+            return false;
         }
-        if matches!(tree[place].shape, Shape::Q) && !is_in_line(rt, &reach, tree[place]) {
-            return Ok(false);
+        if matches!(tree[place].shape, Shape::Q) && !is_in_line(rt, reach, tree[place]) {
+            return false;
         }
     }
-    Ok(true)
+    true
 }
 
 // Whether the leaves at or below the node at this place stand together.

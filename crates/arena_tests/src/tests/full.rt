@@ -1,5 +1,4 @@
 // Full passes over a few rows in turn, on trees that are built by calls.
-ghost use Rattle.std.specs.Prelude.{◌≡◌, ◌<◌};
 
 use super::passes::is_row;
 use super::splices::put_together;
@@ -8,7 +7,7 @@ use pq_arena::{Arena, NodeId};
 use row_model::{Matrix, NoMemory};
 use std::alloc::Global;
 use std::process::Abort;
-use step_count::{Blank, Ledger, Steps};
+use step_count::{Ledger, Steps};
 
 // The full pass over row `k`, once all its conditions were seen to hold.
 fn settle_row<L: Ledger>(
@@ -131,15 +130,10 @@ fn one_full_case<L: Ledger>(
 pub fn all_full_cases<L: Ledger>(
     rt: &impl Abort,
     alloc: Global,
-    blank: Blank,
-) -> Result<(), NoMemory>
-    requires name { blank.name ≡ L.name }
-    requires parts { blank.parts ≡ L.parts }
-    requires some { 0 < blank.parts }
-{
-    let mut steps = Steps::<L>::new(blank);
+    steps: &mut Steps<L>,
+) -> Result<(), NoMemory> {
     for case in &CASES {
-        one_full_case(rt, alloc, case, &mut steps)?;
+        one_full_case(rt, alloc, case, steps)?;
     }
     Ok(())
 }

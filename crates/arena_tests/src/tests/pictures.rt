@@ -96,79 +96,69 @@ fn push_children<L: Ledger>(
     let first = tree.len();
     let node = seen_at(rt, tree, place).node;
     let view = view_of(rt, arena, node, steps);
-    match view.shape {
-        Shape::Leaf(_) => {}
-        Shape::P => push_ring(rt, arena, place, node, view, tree, steps)?,
-        Shape::Q => push_run(rt, arena, place, node, view, tree, steps)?,
-    }
-    let end = tree.len();
-    assert!(rt; place < end);
-    tree[place].first = first;
-    tree[place].end = end;
-    Ok(())
-}
-
-// Adds the children of a P-node. Each knows it, and each is the one before the one behind it.
-fn push_ring<L: Ledger>(
-    rt: &impl Abort,
-    arena: &Arena,
-    place: usize,
-    node: NodeId,
-    view: NodeView,
-    tree: &mut Vec<Seen>,
-    steps: &mut Steps<L>,
-) -> Result<(), NoMemory> {
-    let mut next = view.ends[0];
-    for _ in 0..view.children {
-        let child = named(rt, next, node);
-        let child_view = view_of(rt, arena, child, steps);
-        assert!(rt; is_same(child_view.parent, Some(node)));
-        push_seen(child, child_view.shape, place, tree)?;
-        next = child_view.near[0];
-        let behind = named(rt, next, node);
-        let behind_view = view_of(rt, arena, behind, steps);
-        assert!(rt; is_same(behind_view.near[1], Some(child)));
-    }
-    assert!(rt; is_same(next, view.ends[0]));
-    Ok(())
-}
-
-// The node that is named.
-fn named(rt: &impl Abort, name: Option<NodeId>, other: NodeId) -> NodeId {
-    match name {
-        Some(node) => node,
-        None => {
-            assert!(rt; false);
-            other
-        }
-    }
-}
-
-// Adds the children of a Q-node. An end child knows it, and no other child does.
-fn push_run<L: Ledger>(
-    rt: &impl Abort,
-    arena: &Arena,
-    place: usize,
-    node: NodeId,
-    view: NodeView,
-    tree: &mut Vec<Seen>,
-    steps: &mut Steps<L>,
-) -> Result<(), NoMemory> {
     let mut before = None;
     let mut next = view.ends[0];
     for _ in 0..arena.columns() {
         if let Some(child) = next {
             let child_view = view_of(rt, arena, child, steps);
             push_seen(child, child_view.shape, place, tree)?;
-            next = other_near(rt, &child_view, before);
-            let is_end = before.is_none() || next.is_none();
-            assert!(rt; is_same(child_view.parent, if is_end { Some(node) } else { None }));
+            next = match view.shape {
+                Shape::P => next_in_ring(rt, arena, node, &view, child, steps),
+                _ => next_in_run(rt, node, before, &child_view),
+            };
             before = Some(child);
         }
     }
     assert!(rt; next.is_none());
-    assert!(rt; is_same(before, view.ends[1]));
+    let end = tree.len();
+    assert!(rt; first <= end);
+    match view.shape {
+        Shape::Leaf(_) => assert!(rt; before.is_none()),
+        Shape::P => assert_eq!(rt; end - first, view.children as usize),
+        Shape::Q => assert!(rt; is_same(before, view.ends[1])),
+    }
+    assert!(rt; place < end);
+    tree[place].first = first;
+    tree[place].end = end;
     Ok(())
+}
+
+// The child behind this one of a P-node, but for the first child. Each knows the node, and each is the one before the
+// one behind it.
+fn next_in_ring<L: Ledger>(
+    rt: &impl Abort,
+    arena: &Arena,
+    node: NodeId,
+    view: &NodeView,
+    child: NodeId,
+    steps: &mut Steps<L>,
+) -> Option<NodeId> {
+    let child_view = view_of(rt, arena, child, steps);
+    assert!(rt; is_same(child_view.parent, Some(node)));
+    let Some(behind) = child_view.near[0] else {
+        assert!(rt; false);
+        return None;
+    };
+    let behind_view = view_of(rt, arena, behind, steps);
+    assert!(rt; is_same(behind_view.near[1], Some(child)));
+    if is_same(Some(behind), view.ends[0]) {
+        None
+    } else {
+        Some(behind)
+    }
+}
+
+// The child of a Q-node that is beside this one and not `before`. An end child knows the node, and no other child does.
+fn next_in_run(
+    rt: &impl Abort,
+    node: NodeId,
+    before: Option<NodeId>,
+    child_view: &NodeView,
+) -> Option<NodeId> {
+    let next = other_near(rt, child_view, before);
+    let is_end = before.is_none() || next.is_none();
+    assert!(rt; is_same(child_view.parent, if is_end { Some(node) } else { None }));
+    next
 }
 
 // The neighbour on the other side of `before`.

@@ -1,19 +1,17 @@
 // All rows of random trees over up to six columns.
-ghost use Rattle.std.specs.Prelude.{◌≡◌, ◌<◌, ◌≤◌};
-ghost use Rattle.column_order.specs.declared.TheConstants.{COLUMN_BOUND};
 
 use super::answers::{Asked, assert_chains, assert_labels, assert_order, wanted_labels};
 use super::fronts::{frontiers, is_kept};
 use super::passes::{ask, assert_root, room_for};
 use super::pictures::{Seen, read, seen_at};
 use super::plain::{is_run_inside, smallest, sum, tally_of};
-use super::walks::{Dice, change};
+use super::walks::Walk;
 use bubble_pass::{Found, Work};
 use pq_arena::Arena;
 use row_model::NoMemory;
 use std::alloc::Global;
 use std::process::Abort;
-use step_count::{Blank, Ledger, Steps};
+use step_count::{Ledger, Steps};
 
 // How often each answer came.
 #[derive(Drop)]
@@ -32,45 +30,27 @@ struct Scene {
 }
 
 /// Random trees, of which each is asked for all rows.
-pub fn random_trees<L: Ledger>(rt: &impl Abort, alloc: Global, blank: Blank) -> Result<(), NoMemory>
-    requires name { blank.name ≡ L.name }
-    requires parts { blank.parts ≡ L.parts }
-    requires some { 0 < blank.parts }
-{
-    let mut steps = Steps::<L>::new(blank);
-    let mut dice = Dice::new(1976);
+pub fn random_trees<L: Ledger>(
+    rt: &impl Abort,
+    alloc: Global,
+    steps: &mut Steps<L>,
+) -> Result<(), NoMemory> {
+    let mut walk = Walk::new(alloc, 1976);
     let mut answers = Answers {
         roots: 0,
         runs: 0,
         splits: 0,
     };
     for i in 0..240u32 {
-        let mut arena = random_tree(rt, alloc, 1 + i % 6, &mut dice, &mut steps)?;
-        ask_all(rt, alloc, &mut arena, &mut answers, &mut steps)?;
+        let mut arena = Arena::new(alloc, 1 + i % 6)?;
+        walk.change_often(rt, alloc, &mut arena, steps)?;
+        ask_all(rt, alloc, &mut arena, &mut answers, steps)?;
     }
     // No answer is there for lack of a question.
     assert!(rt; answers.roots > 1000);
     assert!(rt; answers.runs > 50);
     assert!(rt; answers.splits > 100);
     Ok(())
-}
-
-// A tree over so many columns after up to eleven changes of the universal one.
-fn random_tree<L: Ledger>(
-    rt: &impl Abort,
-    alloc: Global,
-    columns: u32,
-    dice: &mut Dice,
-    steps: &mut Steps<L>,
-) -> Result<Arena, NoMemory>
-    requires from { 1 ≤ columns }
-    requires to { columns ≤ COLUMN_BOUND }
-{
-    let mut arena = Arena::new(alloc, columns)?;
-    for _ in 0..dice.roll(12) {
-        change(rt, alloc, &mut arena, dice, steps)?;
-    }
-    Ok(arena)
 }
 
 // Asks for each row of the columns that has one or more.

@@ -1,5 +1,4 @@
 // Single calls, and what there is to see after each.
-ghost use Rattle.std.specs.Prelude.{◌≡◌, ◌<◌};
 
 use super::calls::{detach, give_back, is_same, leaf, put_under, replace, splice, take, view_of};
 use super::pictures::{children_of, place_of, read};
@@ -8,7 +7,7 @@ use pq_arena::{Arena, NodeId, Shape};
 use row_model::NoMemory;
 use std::alloc::Global;
 use std::process::Abort;
-use step_count::{Blank, Ledger, Steps};
+use step_count::{Ledger, Steps};
 
 // A Q-node over the columns 2, 3 and 5 in line, between other columns of a Q-node above it, is spliced.
 #[derive(Clone, Copy)]
@@ -128,14 +127,13 @@ const SPLICES: [Splice; 14] = [
 ];
 
 /// Each splice on a new tree.
-pub fn all_splices<L: Ledger>(rt: &impl Abort, alloc: Global, blank: Blank) -> Result<(), NoMemory>
-    requires name { blank.name ≡ L.name }
-    requires parts { blank.parts ≡ L.parts }
-    requires some { 0 < blank.parts }
-{
-    let mut steps = Steps::<L>::new(blank);
+pub fn all_splices<L: Ledger>(
+    rt: &impl Abort,
+    alloc: Global,
+    steps: &mut Steps<L>,
+) -> Result<(), NoMemory> {
     for case in SPLICES {
-        one_splice(rt, alloc, case, &mut steps)?;
+        one_splice(rt, alloc, case, steps)?;
     }
     Ok(())
 }
@@ -237,25 +235,20 @@ fn assert_columns<L: Ledger>(
 pub fn taken_and_given_back<L: Ledger>(
     rt: &impl Abort,
     alloc: Global,
-    blank: Blank,
-) -> Result<(), NoMemory>
-    requires name { blank.name ≡ L.name }
-    requires parts { blank.parts ≡ L.parts }
-    requires some { 0 < blank.parts }
-{
-    let mut steps = Steps::<L>::new(blank);
+    steps: &mut Steps<L>,
+) -> Result<(), NoMemory> {
     let mut arena = Arena::new(alloc, 3)?;
     assert_eq!(rt; arena.spare(), 6);
-    let p = take(rt, &mut arena, false, &mut steps);
+    let p = take(rt, &mut arena, false, steps);
     assert_eq!(rt; arena.spare(), 5);
-    let q = take(rt, &mut arena, true, &mut steps);
+    let q = take(rt, &mut arena, true, steps);
     assert_eq!(rt; arena.spare(), 4);
-    give_back(rt, &mut arena, p, &mut steps);
+    give_back(rt, &mut arena, p, steps);
     assert_eq!(rt; arena.spare(), 5);
-    assert!(rt; !arena.is_in_use(p, &mut steps));
-    give_back(rt, &mut arena, q, &mut steps);
+    assert!(rt; !arena.is_in_use(p, steps));
+    give_back(rt, &mut arena, q, steps);
     assert_eq!(rt; arena.spare(), 6);
-    let next = take(rt, &mut arena, false, &mut steps);
+    let next = take(rt, &mut arena, false, steps);
     assert_eq!(rt; next.index(), q.index());
     Ok(())
 }
@@ -284,29 +277,28 @@ fn named(rt: &impl Abort, arena: &Arena, column: u32) -> Option<NodeId> {
 }
 
 /// The neighbours in a ring of three while one of them leaves, stands alone and comes back, and in a run.
-pub fn neighbours<L: Ledger>(rt: &impl Abort, alloc: Global, blank: Blank) -> Result<(), NoMemory>
-    requires name { blank.name ≡ L.name }
-    requires parts { blank.parts ≡ L.parts }
-    requires some { 0 < blank.parts }
-{
-    let mut steps = Steps::<L>::new(blank);
+pub fn neighbours<L: Ledger>(
+    rt: &impl Abort,
+    alloc: Global,
+    steps: &mut Steps<L>,
+) -> Result<(), NoMemory> {
     let mut arena = Arena::new(alloc, 3)?;
     let root = arena.root();
     let one = leaf(rt, &arena, 1);
     let two = leaf(rt, &arena, 2);
-    assert_near(rt, &arena, one, 2, 3, &mut steps);
-    detach(rt, &mut arena, two, &mut steps);
-    assert_near(rt, &arena, one, 3, 3, &mut steps);
-    assert_near(rt, &arena, two, 0, 0, &mut steps);
-    put_under(rt, &mut arena, root, 0, two, &mut steps);
-    assert_columns(rt, alloc, &arena, root, &[2, 1, 3], &mut steps)?;
-    assert_near(rt, &arena, two, 1, 3, &mut steps);
-    let line = take(rt, &mut arena, true, &mut steps);
-    put_columns(rt, &mut arena, line, &[1, 2, 3], &mut steps);
-    replace(rt, &mut arena, root, line, &mut steps);
-    give_back(rt, &mut arena, root, &mut steps);
-    assert_columns(rt, alloc, &arena, line, &[1, 2, 3], &mut steps)?;
-    assert!(rt; is_same(view_of(rt, &arena, two, &mut steps).parent, None));
-    assert!(rt; is_same(view_of(rt, &arena, one, &mut steps).parent, Some(line)));
+    assert_near(rt, &arena, one, 2, 3, steps);
+    detach(rt, &mut arena, two, steps);
+    assert_near(rt, &arena, one, 3, 3, steps);
+    assert_near(rt, &arena, two, 0, 0, steps);
+    put_under(rt, &mut arena, root, 0, two, steps);
+    assert_columns(rt, alloc, &arena, root, &[2, 1, 3], steps)?;
+    assert_near(rt, &arena, two, 1, 3, steps);
+    let line = take(rt, &mut arena, true, steps);
+    put_columns(rt, &mut arena, line, &[1, 2, 3], steps);
+    replace(rt, &mut arena, root, line, steps);
+    give_back(rt, &mut arena, root, steps);
+    assert_columns(rt, alloc, &arena, line, &[1, 2, 3], steps)?;
+    assert!(rt; is_same(view_of(rt, &arena, two, steps).parent, None));
+    assert!(rt; is_same(view_of(rt, &arena, one, steps).parent, Some(line)));
     Ok(())
 }

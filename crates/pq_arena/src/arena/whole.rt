@@ -1,7 +1,6 @@
 // Tests of what an arena is between two rows, for callers that do not know it.
-ghost use Rattle.std.specs.Prelude.{◌≡◌, ◌≤◌, ◌<◌, ◌↔◌, ◌⊎◌, IsTrue, Some, length};
-ghost use Rattle.arena_model.specs.declared.Shape.TheVariants.{P, Q};
-ghost use Rattle.arena_model.specs.Layout.{StandsAlone, shape_at, children_at};
+ghost use Rattle.std.specs.Prelude.{◌<◌, ◌↔◌, IsTrue, length};
+ghost use Rattle.arena_model.specs.Layout.{StandsAlone};
 ghost use Rattle.arena_model.specs.NamedTree.{IsOneTree, HasTwoEach, outline_at};
 ghost use Rattle.pq_tree.specs.Proper.{IsProper};
 ghost use Rattle.pq_arena.specs.Arities.{HasTwo};

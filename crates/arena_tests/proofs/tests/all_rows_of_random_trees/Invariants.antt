@@ -1,4 +1,4 @@
 use Rattle.arena_tests.proofs.tests.all_rows_of_random_trees.Given as goal
 
-abbrev pub ghosts-random_trees : goal.ghosts-random_trees
-ghosts-random_trees g a = record { name = a.blank.name; parts = a.blank.parts }
+abbrev pub ghosts-try_part : goal.ghosts-try_part
+ghosts-try_part g a = record { name = a.blank.name; parts = a.blank.parts }

@@ -1,8 +1,10 @@
 use Rattle.std.proofs.Common.{◌≡◌, ℕ, ◌+◌, drop, List, arith, subst}
-use Rattle.pq_arena.specs.RowNodes.{column_leaves}
+use Rattle.row_model.proofs.Ascending.{row_within}
+use Rattle.arena_model.specs.RowLeaves.{column_leaves}
+use Rattle.arena_model.proofs.Rows.{column_in, leaves_length}
 use Rattle.full_pass.specs.Tallies.{full_in, hits_in}
 use Rattle.full_pass.specs.Passing.{Pass, IsLast}
-use Rattle.full_pass.proofs.Columns.{column_in, row_leaves, rest_none, leaves_length}
+use Rattle.full_pass.proofs.Columns.{row_leaves, rest_none}
 use Rattle.full_pass.proofs.Going.{start, settled, root_kept, none_counted, next_waits, risen_pass, risen_last}
 use Rattle.full_pass.proofs.count.count.Goals as goal
 
@@ -19,11 +21,10 @@ loop-column-init g c = record {
   ticks = omega arith;
 }
 
-pub leaf-requires-clause-from : goal.leaf-requires-clause-from
-leaf-requires-clause-from g c = (column_in c.args.arena.now.columns 0 c.args.row.now c.loop-column.column-index c.requires.row c.loop-column-test.true).0
-
-pub leaf-requires-clause-to : goal.leaf-requires-clause-to
-leaf-requires-clause-to g c = (column_in c.args.arena.now.columns 0 c.args.row.now c.loop-column.column-index c.requires.row c.loop-column-test.true).1
+pub leaf-requires : goal.leaf-requires
+leaf-requires g c =
+    let r = column_in c.args.arena.now.columns c.args.row.now c.loop-column.column-index (row_within c.args.arena.now.columns c.args.row.now c.requires.row) c.loop-column-test.true in
+    record { from = r.0; to = r.1 }
 
 pub climb-requires-clause-waits : goal.climb-requires-clause-waits
 climb-requires-clause-waits g c = record {

@@ -1,17 +1,12 @@
-use Rattle.std.proofs.Common.{◌+◌, ◌<◌, length, sym, subst, ◌∙◌, arith}
-use Rattle.bubble_pass.specs.Climb.{at}
+use Rattle.std.proofs.Common.{◌+◌, sym, subst, ◌∙◌, arith}
 use Rattle.bubble_pass.specs.Chains.{Linked}
-use Rattle.bubble_pass.proofs.Marks.{seen_in}
-use Rattle.bubble_pass.proofs.Ending.{parked_read}
+use Rattle.bubble_pass.proofs.Turns.{queue_read, queue_in}
 use Rattle.bubble_pass.proofs.Linking.{hang_more, hang_none, can_hang}
 use Rattle.bubble_pass.proofs.chains.Chains.link.Goals as goal
 use Rattle.bubble_pass.proofs.chains.Chains.link.Goals.{in-Placed, in_default}
 
 pub stage_of-requires : goal.stage_of-requires
-stage_of-requires g c =
-    let k = c.requires.0 in
-    let e = parked_read c.args.arena.now g.leaves c.args.climber.now c.loop-i.i c.index-x.result.now k c.loop-i-test.true c.index-x.ensures in
-    subst (λ z. z < length c.args.climber.now.stages.items) (sym e) (seen_in c.args.climber.now.stages.items (at c.args.climber.now.queue.items c.loop-i.i) (k.queue.seen c.loop-i.i c.loop-i-test.true))
+stage_of-requires g c = queue_in c.args.arena.now g.leaves c.args.climber.now c.loop-i.i c.index-x.result.now c.requires.0 c.loop-i-test.true c.index-x.ensures
 
 pub hang-requires : goal.hang-requires
 hang-requires g c =
@@ -19,7 +14,7 @@ hang-requires g c =
 
 pub loop-i-preserved : goal.loop-i-preserved
 loop-i-preserved g c =
-    let e = parked_read c.args.arena.now g.leaves c.args.climber.now c.loop-i.i c.index-x.result.now c.requires.0 c.loop-i-test.true c.index-x.ensures in
+    let e = queue_read c.args.arena.now g.leaves c.args.climber.now c.loop-i.i c.index-x.result.now c.requires.0 c.loop-i-test.true c.index-x.ensures in
     elim c.match-stage_of.branch [
       | in-Placed w ↦ (
         subst (λ z. Linked c.args.climber.now z (c.loop-i.i + 1)) (sym w.self-is)

@@ -1,6 +1,6 @@
 use Rattle.std.proofs.Common.{sym, ◌∙◌, arith}
-use Rattle.bubble_pass.proofs.Turns.{head_read}
-use Rattle.bubble_pass.proofs.Ending.{end_queued, end_one, end_some, run_start, grow_first, grow_second, whole, whole_inside, whole_left, whole_flat, queued_left, parked_left, flat_one, queued_only, parked_only}
+use Rattle.bubble_pass.proofs.Turns.{queue_read}
+use Rattle.bubble_pass.proofs.Ending.{end_queued, end_one, end_some, run_begun, grow_first, grow_second, whole_begun, whole_inside, whole_left, whole_flat, queued_left, parked_left, flat_one, queued_only, parked_only}
 use Rattle.bubble_pass.proofs.Walks.{less_parked}
 use Rattle.bubble_pass.proofs.Splits.{top_apart, whole_apart, blocked_of}
 use Rattle.bubble_pass.proofs.climber.Climber.end.Goals as goal
@@ -8,7 +8,7 @@ use Rattle.bubble_pass.proofs.climber.Climber.end.Goals as goal
 pub returns-then-self-clause-end : goal.returns-then-self-clause-end
 returns-then-self-clause-end g c =
     end_queued c.args.arena.now g.leaves c.args.self.now c.index.result.now c.layout_law.ensures c.requires.1.0 c.requires.1.1.1.0 c.requires.1.1.1.1 c.if-self.true
-    (head_read c.args.arena.now g.leaves c.args.self.now c.index.result.now c.requires.1.1.1.0.kept c.if-self.true c.index.ensures)
+    (queue_read c.args.arena.now g.leaves c.args.self.now c.args.self.now.head c.index.result.now c.requires.1.1.1.0.kept c.if-self.true c.index.ensures)
 
 pub first_parked-y-requires : goal.first_parked-y-requires
 first_parked-y-requires g c = (c.requires.1.1.1.0.kept, end_some c.args.arena.now g.leaves c.args.self.now c.layout_law.ensures c.requires.1.0 c.requires.1.1.1.0 c.if-self.false)
@@ -24,16 +24,16 @@ returns-in-Top-clause-end g c =
 
 pub grow-requires : goal.grow-requires
 grow-requires g c =
-    let t = run_start c.args.arena.now g.leaves c.args.self.now c.set_stage.new.self c.first_parked-y.result c.look-view.result c.layout_law.ensures c.requires.1.1.1.0
+    let t = run_begun c.args.arena.now g.leaves c.args.self.now c.set_stage.new.self c.first_parked-y.result c.look-view.result c.layout_law.ensures c.requires.1.0 c.requires.1.1.1.0 c.if-self.false
     (blocked_of c.args.self.now.stages.items c.first_parked-y.result.index c.stage_of.result c.first_parked-y.ensures c.stage_of.ensures c.in_default.not-Top)
-    (end_some c.args.arena.now g.leaves c.args.self.now c.layout_law.ensures c.requires.1.0 c.requires.1.1.1.0 c.if-self.false) c.look-view.ensures.shows c.set_stage.ensures.staged c.set_stage.ensures.parked in
+    c.look-view.ensures.shows c.set_stage.ensures.staged c.set_stage.ensures.parked in
     λ κs h. (h, grow_first c.args.arena.now g.leaves c.args.self.now (less_parked c.set_stage.new.self) c.first_parked-y.result c.look-view.result c.layout_law.ensures c.look-view.ensures.shows t)
 
 pub grow-requires-2 : goal.grow-requires-2
 grow-requires-2 g c =
-    let t = run_start c.args.arena.now g.leaves c.args.self.now c.set_stage.new.self c.first_parked-y.result c.look-view.result c.layout_law.ensures c.requires.1.1.1.0
+    let t = run_begun c.args.arena.now g.leaves c.args.self.now c.set_stage.new.self c.first_parked-y.result c.look-view.result c.layout_law.ensures c.requires.1.0 c.requires.1.1.1.0 c.if-self.false
     (blocked_of c.args.self.now.stages.items c.first_parked-y.result.index c.stage_of.result c.first_parked-y.ensures c.stage_of.ensures c.in_default.not-Top)
-    (end_some c.args.arena.now g.leaves c.args.self.now c.layout_law.ensures c.requires.1.0 c.requires.1.1.1.0 c.if-self.false) c.look-view.ensures.shows c.set_stage.ensures.staged c.set_stage.ensures.parked in
+    c.look-view.ensures.shows c.set_stage.ensures.staged c.set_stage.ensures.parked in
     λ κs h. (
       h,
       grow_second c.args.arena.now g.leaves c.args.self.now (less_parked c.set_stage.new.self) c.grow.new.self c.first_parked-y.result c.look-view.result c.look-view.new.steps c.grow.new.steps
@@ -42,40 +42,36 @@ grow-requires-2 g c =
 
 pub returns-then-self-eq0 : goal.returns-then-self-eq0
 returns-then-self-eq0 g c =
-    let t = run_start c.args.arena.now g.leaves c.args.self.now c.set_stage.new.self c.first_parked-y.result c.look-view.result c.layout_law.ensures c.requires.1.1.1.0
+    let w = whole_begun c.args.arena.now g.leaves c.args.self.now c.set_stage.new.self c.grow.new.self c.grow-2.new.self c.first_parked-y.result c.look-view.result c.look-view.new.steps c.grow.new.steps c.grow-2.new.steps
+    c.layout_law.ensures c.requires.1.0 c.requires.1.1.1.0 c.if-self.false
     (blocked_of c.args.self.now.stages.items c.first_parked-y.result.index c.stage_of.result c.first_parked-y.ensures c.stage_of.ensures c.in_default.not-Top)
-    (end_some c.args.arena.now g.leaves c.args.self.now c.layout_law.ensures c.requires.1.0 c.requires.1.1.1.0 c.if-self.false) c.look-view.ensures.shows c.set_stage.ensures.staged c.set_stage.ensures.parked in
-    let w = whole c.args.arena.now g.leaves c.args.self.now (less_parked c.set_stage.new.self) c.grow.new.self c.grow-2.new.self c.first_parked-y.result c.look-view.result c.look-view.new.steps c.grow.new.steps c.grow-2.new.steps
-    c.layout_law.ensures c.requires.1.1.1.0 (blocked_of c.args.self.now.stages.items c.first_parked-y.result.index c.stage_of.result c.first_parked-y.ensures c.stage_of.ensures c.in_default.not-Top) t c.grow.ensures.grown c.grow-2.ensures.grown in
+    c.look-view.ensures.shows c.set_stage.ensures.staged c.set_stage.ensures.parked c.grow.ensures.grown c.grow-2.ensures.grown in
     record {
-      end = whole_inside c.args.arena.now g.leaves c.args.self.now c.grow-2.new.self c.first_parked-y.result.index c.layout_law.ensures c.requires.1.0 c.if-self.false c.if-self-eq1.false
-          (end_some c.args.arena.now g.leaves c.args.self.now c.layout_law.ensures c.requires.1.0 c.requires.1.1.1.0 c.if-self.false) c.requires.1.1.1.0 w c.if-self-eq0.true;
+      end = whole_inside c.args.arena.now g.leaves c.args.self.now c.grow-2.new.self c.first_parked-y.result.index c.layout_law.ensures c.requires.1.0 c.if-self.false c.if-self-eq1.false c.requires.1.1.1.0 w c.if-self-eq0.true;
       kept = c.grow-2.ensures.grown.growing.can.kept;
-      left = whole_left c.args.arena.now g.leaves c.args.self.now c.grow-2.new.self c.first_parked-y.result.index c.layout_law.ensures c.requires.1.0 c.if-self.false c.if-self-eq1.false
-          (end_some c.args.arena.now g.leaves c.args.self.now c.layout_law.ensures c.requires.1.0 c.requires.1.1.1.0 c.if-self.false) c.requires.1.1.1.0 w c.if-self-eq0.true;
+      left = whole_left c.args.arena.now g.leaves c.args.self.now c.grow-2.new.self c.first_parked-y.result.index c.layout_law.ensures c.requires.1.0 c.if-self.false c.if-self-eq1.false c.requires.1.1.1.0 w c.if-self-eq0.true;
       flat = whole_flat c.args.arena.now g.leaves c.args.self.now c.grow-2.new.self c.first_parked-y.result.index c.layout_law.ensures c.if-self.false c.requires.1.1.1.0 w c.if-self-eq0.true;
-      ticks = omega (arith, c.grow.ensures.grown.growing.ticks, c.grow-2.ensures.grown.growing.ticks, t.parked, c.look-view.ensures.ticks, c.set_stage.ensures.parked, (end_some c.args.arena.now g.leaves c.args.self.now c.layout_law.ensures c.requires.1.0 c.requires.1.1.1.0 c.if-self.false));
+      ticks = omega (arith, c.grow.ensures.grown.growing.ticks, c.grow-2.ensures.grown.growing.ticks, c.look-view.ensures.ticks, c.set_stage.ensures.parked, (end_some c.args.arena.now g.leaves c.args.self.now c.layout_law.ensures c.requires.1.0 c.requires.1.1.1.0 c.if-self.false));
     }
 
 pub returns-else-self-eq0 : goal.returns-else-self-eq0
 returns-else-self-eq0 g c =
-    let t = run_start c.args.arena.now g.leaves c.args.self.now c.set_stage.new.self c.first_parked-y.result c.look-view.result c.layout_law.ensures c.requires.1.1.1.0
+    let w = whole_begun c.args.arena.now g.leaves c.args.self.now c.set_stage.new.self c.grow.new.self c.grow-2.new.self c.first_parked-y.result c.look-view.result c.look-view.new.steps c.grow.new.steps c.grow-2.new.steps
+    c.layout_law.ensures c.requires.1.0 c.requires.1.1.1.0 c.if-self.false
     (blocked_of c.args.self.now.stages.items c.first_parked-y.result.index c.stage_of.result c.first_parked-y.ensures c.stage_of.ensures c.in_default.not-Top)
-    (end_some c.args.arena.now g.leaves c.args.self.now c.layout_law.ensures c.requires.1.0 c.requires.1.1.1.0 c.if-self.false) c.look-view.ensures.shows c.set_stage.ensures.staged c.set_stage.ensures.parked in
-    let w = whole c.args.arena.now g.leaves c.args.self.now (less_parked c.set_stage.new.self) c.grow.new.self c.grow-2.new.self c.first_parked-y.result c.look-view.result c.look-view.new.steps c.grow.new.steps c.grow-2.new.steps
-    c.layout_law.ensures c.requires.1.1.1.0 (blocked_of c.args.self.now.stages.items c.first_parked-y.result.index c.stage_of.result c.first_parked-y.ensures c.stage_of.ensures c.in_default.not-Top) t c.grow.ensures.grown c.grow-2.ensures.grown in
+    c.look-view.ensures.shows c.set_stage.ensures.staged c.set_stage.ensures.parked c.grow.ensures.grown c.grow-2.ensures.grown in
     record {
       end = whole_apart c.args.arena.now g.leaves c.args.self.now c.grow-2.new.self c.first_parked-y.result.index c.layout_law.ensures c.requires.1.0 c.requires.1.1.0 c.requires.1.1.1.0 c.if-self.false w c.if-self-eq0.false;
       kept = c.grow-2.ensures.grown.growing.can.kept;
       left = tt;
       flat = tt;
-      ticks = omega (arith, c.grow.ensures.grown.growing.ticks, c.grow-2.ensures.grown.growing.ticks, t.parked, c.look-view.ensures.ticks, c.set_stage.ensures.parked, (end_some c.args.arena.now g.leaves c.args.self.now c.layout_law.ensures c.requires.1.0 c.requires.1.1.1.0 c.if-self.false));
+      ticks = omega (arith, c.grow.ensures.grown.growing.ticks, c.grow-2.ensures.grown.growing.ticks, c.look-view.ensures.ticks, c.set_stage.ensures.parked, (end_some c.args.arena.now g.leaves c.args.self.now c.layout_law.ensures c.requires.1.0 c.requires.1.1.1.0 c.if-self.false));
     }
 
 pub returns-then-self-clause-flat : goal.returns-then-self-clause-flat
 returns-then-self-clause-flat g c =
     flat_one c.args.arena.now c.args.self.now.stages.items c.index.result.now.index (queued_only c.args.arena.now g.leaves c.args.self.now c.index.result.now c.requires.1.1.1.0 c.requires.1.1.1.1 c.if-self.true
-    (head_read c.args.arena.now g.leaves c.args.self.now c.index.result.now c.requires.1.1.1.0.kept c.if-self.true c.index.ensures))
+    (queue_read c.args.arena.now g.leaves c.args.self.now c.args.self.now.head c.index.result.now c.requires.1.1.1.0.kept c.if-self.true c.index.ensures))
 
 pub returns-then-self-eq1-clause-flat : goal.returns-then-self-eq1-clause-flat
 returns-then-self-eq1-clause-flat g c =
@@ -85,7 +81,7 @@ returns-then-self-eq1-clause-flat g c =
 pub returns-then-self-clause-left : goal.returns-then-self-clause-left
 returns-then-self-clause-left g c =
     queued_left c.args.arena.now g.leaves c.args.self.now c.index.result.now c.requires.1.1.1.0 c.requires.1.1.1.1 c.if-self.true
-    (head_read c.args.arena.now g.leaves c.args.self.now c.index.result.now c.requires.1.1.1.0.kept c.if-self.true c.index.ensures)
+    (queue_read c.args.arena.now g.leaves c.args.self.now c.args.self.now.head c.index.result.now c.requires.1.1.1.0.kept c.if-self.true c.index.ensures)
 
 pub returns-then-self-eq1-clause-left : goal.returns-then-self-eq1-clause-left
 returns-then-self-eq1-clause-left g c = parked_left c.args.arena.now g.leaves c.args.self.now c.first_parked-y.result.index c.requires.1.1.1.0 c.if-self.false c.if-self-eq1.true c.first_parked-y.ensures
