@@ -10,13 +10,15 @@ use Rattle.proper_interval.specs.Laws.{IntervalsLaw}
 use Rattle.verdict_text.specs.Verdict.{SideValue, YesValue, Claim, yes_claim, no_claim, VerdictValue}
 use Rattle.verdict_text.specs.declared.verdict.Version.{Version}
 use Rattle.verdict_text.specs.declared.verdict.Version.TheVariants.{Two}
-use Rattle.instance_model.specs.Instance.{InstanceValue, plain, circular, convex, doubly, proper, robinson, instance_kind, instance_columns, IsPlainKind, IsSideOf, IsInstance, IsWellFormed}
+use Rattle.instance_model.specs.Instance.{InstanceValue, plain, circular, convex, doubly, proper, robinson, instance_kind, instance_columns, derived_matrix, IsPlainKind, IsSideOf, IsInstance, IsWellFormed}
 use Rattle.instance_model.specs.Laws.{ValidLaw}
 use Rattle.verdict_check.specs.Laws.{IsSolvedSide, YesLaw, NoLaw}
 use Rattle.verdict_check.specs.Truth.{IsTrueAddedTo, IsTrueAdded}
 use Rattle.verdict_check.specs.Accepted.{IsAccepted}
 use Rattle.verdict_replies.specs.Verdicts.{ShowsSide, ShowsSides, AddsToMatrix, AddsToOrder, IsClaimOf, IsVerdictOf, IsVerdictReply, LengthLaw}
+use Rattle.exact_tree.specs.Laws.{ExactLaw}
 use Rattle.commands.specs.Judgements.{HasVerdict}
+use Rattle.commands.specs.Passed.{TiedSideLaw}
 
 -- what a matrix adds to its side is true
 true_to_matrix : (kind : Kind) (m : RowList) (value : YesValue) (side : Option SideValue) → IsPlainKind kind → IsSomeAnd side (λ s. AddsToMatrix kind m s.order value.added)
@@ -48,10 +50,14 @@ added_true valid models (doubly g) value h formed shows adds = tt
 added_true valid models (proper g) value h formed shows adds = true_model valid models g value (slice_get value.sides 0) formed (shows.each 1 (omega arith, omega arith)) adds
 added_true valid models (robinson d) value h formed shows adds = tt
 
-module _ (valid_textbook : ValidLaw) (models : IntervalsLaw) (yes_law : YesLaw) (no_law : NoLaw) (i : InstanceValue) (h : IsInstance i) (formed : IsWellFormed i) where
+-- a tree whose frontiers are the valid orders is tied to the rows
+pub tied_side : ExactLaw → TiedSideLaw
+tied_side exact m side shows = exact m.columns m.rows side.tree shows.proper shows.orders
+
+module _ (exact : ExactLaw) (valid_textbook : ValidLaw) (models : IntervalsLaw) (yes_law : YesLaw) (no_law : NoLaw) (i : InstanceValue) (h : IsInstance i) (formed : IsWellFormed i) where
   solved_side : (version : Version) → version ≡ Two → (s : ℕ) (side : Option SideValue) → IsSideOf i s → IsSomeAnd side (ShowsSide i s) → IsSomeAnd side (IsSolvedSide version i s)
   solved_side version two s None inside shows = absurd shows
-  solved_side version two s (Some side) inside shows = subst (λ v. IsSolvedSide v i s side) (sym two) (valid_textbook i s side.order formed inside shows.order, shows.tied)
+  solved_side version two s (Some side) inside shows = subst (λ v. IsSolvedSide v i s side) (sym two) (valid_textbook i s side.order formed inside shows.order, tied_side exact (derived_matrix i s) side shows)
 
   accepted_claim : (v : VerdictValue) (claim : Claim) → v.claim ≡ claim → v.version ≡ Two → v.kind ≡ instance_kind i → v.columns ≡ instance_columns i → IsClaimOf i claim → IsAccepted i v
   accepted_claim v (yes_claim value) is two kind columns true =

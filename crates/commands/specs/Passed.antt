@@ -1,11 +1,17 @@
 -- A verdict that is true of an instance passes each test of a check.
 use Rattle.std.specs.Prelude.{ℕ, List, slice_get, IsSomeAnd}
-use Rattle.verdict_text.specs.Verdict.{YesValue}
+use Rattle.row_model.specs.Rows.{RowList}
+use Rattle.tied_law.specs.Tied.{IsTied}
+use Rattle.verdict_text.specs.Verdict.{SideValue, YesValue}
 use Rattle.instance_model.specs.Instance.{InstanceValue, IsInstance, IsWellFormed}
 use Rattle.verdict_check.specs.Accepted.{IsAccepted}
 use Rattle.verdict_check.specs.Truth.{IsTrueAdded}
 use Rattle.commands.specs.Judgements.{HasVerdict}
-use Rattle.verdict_replies.specs.Verdicts.{ShowsSides, AddsToOrder, IsVerdictReply}
+use Rattle.verdict_replies.specs.Verdicts.{ShowsAllOrders, ShowsSides, AddsToOrder, IsVerdictReply}
+
+-- the tree of a side that shows all orders of a matrix is tied to its rows
+abbrev pub TiedSideLaw : Type 0
+TiedSideLaw = (m : RowList) (side : SideValue) → ShowsAllOrders m side → IsTied m.columns m.rows side.tree
 
 -- what such a verdict adds to the order of its first side is true of the instance
 abbrev pub AddedLaw : Type 0

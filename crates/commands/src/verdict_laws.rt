@@ -1,15 +1,19 @@
 // What a check finds of the verdict that `solve` tells.
-ghost use Rattle.commands.specs.Passed.{AddedLaw, PassedLaw};
+ghost use Rattle.commands.specs.Passed.{AddedLaw, PassedLaw, TiedSideLaw};
 
+use exact_tree::exact_law;
 use instance_model::textbook_law;
 use verdict_check::solved_laws;
 use verdict_replies::grammar_law;
 
-/// A verdict of an instance passes each test of a check; and what it adds to the order of the first side is true.
+/// A verdict of an instance passes each test of a check: its trees are tied to the derived rows, and what it adds to the
+/// order of the first side is true.
 pub fn passed_law()
     ensures passed { PassedLaw }
     ensures added { AddedLaw }
+    ensures tied { TiedSideLaw }
 {
+    exact_law();
     textbook_law();
     proper_interval::model_law();
     solved_laws();

@@ -17,7 +17,7 @@ use Rattle.solve_replies.specs.Taking.{refusals_at_end, HasTakenOne, HasTaken, H
 -- a tree of all orders, with its leaves
 pub shows_all : (m : RowList) (t : PqTree) (order : List ℕ) → HasAllOrders m t → order ≡ leaves (outline t) → IsFrontier (outline t) order → ShowsAllOrders m (record { tree = outline t; order = order })
 shows_all m t order all is frontier =
-    record { proper = subst (λ c. IsProper c (outline t)) all.columns t.proper; canonical = all.canonical; tied = all.tied; orders = all.orders; leaves = is; order = (all.orders order).0 frontier }
+    record { proper = subst (λ c. IsProper c (outline t)) all.columns t.proper; canonical = all.canonical; orders = all.orders; leaves = is; order = (all.orders order).0 frontier }
 
 -- one more row
 more_outcomes : (m : RowList) (refusals : ℕ) (done : List (List ℕ)) (outcomes : List Outcome) (row : List ℕ) (outcome : Outcome) → AreOutcomes m refusals done outcomes

@@ -12,7 +12,6 @@ use Rattle.pq_tree.specs.Outline.{IsFrontier, leaves}
 use Rattle.pq_tree.specs.Proper.{IsProper}
 use Rattle.pq_tree.specs.Canonical.{IsCanonical}
 use Rattle.odd_cycle.specs.Short.{IsShort}
-use Rattle.tied_law.specs.Tied.{IsTied}
 use Rattle.verdict_text.specs.Verdict.{SideValue, AddedValue, Claim, yes_claim, no_claim, VerdictValue}
 use Rattle.verdict_text.specs.declared.verdict.Version.TheVariants.{Two}
 use Rattle.verdict_text.specs.Grammar.{AreColumnCounts, IsVerdict}
@@ -20,12 +19,11 @@ use Rattle.verdict_text.specs.Text.{verdict_text}
 use Rattle.instance_model.specs.Instance.{InstanceValue, plain, circular, convex, doubly, proper, robinson, instance_kind, instance_columns, IsSideOf, derived_matrix, IsInstance, IsWellFormed}
 use Rattle.verdict_replies.specs.declared.TheConstants.{MAX_VERDICT_BYTES}
 
--- The tree is a canonical PQ-tree over the columns of the matrix that is tied to all rows, and its frontiers are exactly
--- the valid orders. The order is its leaves from left to right, and so a valid order.
+-- The tree is a canonical PQ-tree over the columns of the matrix, and its frontiers are exactly the valid orders. The order
+-- is its leaves from left to right, and so a valid order.
 pub record ShowsAllOrders (m : RowList) (side : SideValue) : Type 0 where
   pub proper : IsProper m.columns side.tree
   pub canonical : IsCanonical side.tree
-  pub tied : IsTied m.columns m.rows side.tree
   pub orders : (o : List ℕ) → IsFrontier side.tree o ↔ IsValidOrder m.columns m.rows o
   pub leaves : side.order ≡ leaves side.tree
   pub order : IsValidOrder m.columns m.rows side.order

@@ -1,4 +1,4 @@
-use Rattle.commands.proofs.Solved.{added_true, solved_accepted}
+use Rattle.commands.proofs.Solved.{added_true, tied_side, solved_accepted}
 use Rattle.commands.proofs.verdict_laws.passed_law.Goals as goal
 
 pub returns : goal.returns
@@ -7,6 +7,7 @@ returns c =
     let models = c.model_law.ensures.models in
     let tests = c.solved_laws.ensures in
     record {
-      passed = λ i status text within formed reply. solved_accepted valid models tests.yes tests.no i within formed c.grammar_law.ensures.length status text reply;
+      passed = λ i status text within formed reply. solved_accepted c.exact_law.ensures valid models tests.yes tests.no i within formed c.grammar_law.ensures.length status text reply;
       added = added_true valid models;
+      tied = tied_side c.exact_law.ensures;
     }
