@@ -28,6 +28,10 @@ pub fused : {A B C : Type 0} (f : A → B) (g : B → C) (o : Option (A × List 
 fused f g None = refl
 fused f g (Some p) = refl
 
+-- what is read of a value, by what it is made of
+pub made_of : {A B : Type 0} (make : A → Data) (f : Data → B) (o : Option (A × List Token)) (v : Option (Data × List Token)) → v ≡ parse_map make o → parse_map f v ≡ parse_map (λ a. f (make a)) o
+made_of make f o v e = ap (parse_map f) e ∙ fused make f o
+
 -- what a value is, by the token that it begins with
 pub record IsKind (t : Token) (d : Data) : Type 0 where
   pub text : as_str d ≡ string_in t

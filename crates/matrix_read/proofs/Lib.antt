@@ -18,6 +18,7 @@ pub mod WithinTable
 pub mod WithinClones
 pub mod JsonLemmas
 pub mod MemberLemmas
+pub mod ItemLemmas
 pub mod FileLemmas
 pub mod FrontLemmas
 pub mod CloneCauses

@@ -1,11 +1,9 @@
-use Rattle.std.proofs.Common.{◌≡◌, ◌-◌, length, codes, Some, option_and_then, ap, ◌∙◌}
+use Rattle.std.proofs.Common.{codes, Some, option_and_then, ap, ◌∙◌}
 use Rattle.json.specs.Json.{parse_map}
-use Rattle.serde_json.specs.Data.{object, no_members}
+use Rattle.serde_json.specs.Data.{object}
 use Rattle.serde_json.specs.Find.{as_array}
 use Rattle.matrix_read.specs.Clones.{strings_of, probes_of}
-use Rattle.matrix_read.specs.CloneNames.{member_probes}
-use Rattle.matrix_read.specs.JsonSteps.{value_at, members_at}
-use Rattle.matrix_read.proofs.FileLemmas.{fused}
+use Rattle.matrix_read.proofs.FileLemmas.{made_of}
 use Rattle.matrix_read.proofs.clone_names.read_clone.Goals as goal
 
 pub returns-then-not-branch-clause-ok : goal.returns-then-not-branch-clause-ok
@@ -15,11 +13,7 @@ returns-then-not-branch-clause-ok c =
     ∙ ap (λ found. Some (option_and_then strings_of (option_and_then as_array found), c.enters_object.new.reader)) (x.members (codes "probes"))
 
 pub returns-clause-ok : goal.returns-clause-ok
-returns-clause-ok c =
-    let rest = c.enters_object.new.reader in
-    let named : parse_map probes_of (value_at c.args.depth c.args.reader.now) ≡ parse_map member_probes (members_at (c.args.depth - 1) (length rest) no_members rest) =
-    ap (parse_map probes_of) (c.in_ok-enters_object.ensures.entered c.if-not-branch.false) ∙ fused object probes_of _ in
-    rw named c.read_probes.ensures.ok
+returns-clause-ok c = rw (made_of object probes_of _ _ (c.in_ok-enters_object.ensures.entered c.if-not-branch.false)) c.read_probes.ensures.ok
 
 pub returns-clause-err : goal.returns-clause-err
 returns-clause-err c refused = c.in_ok-enters_object.ensures.entered c.if-not-branch.false ∙ ap (parse_map object) (c.read_probes.ensures.err refused)
