@@ -1,7 +1,7 @@
 -- Lists of nodes: how often a node occurs, the ends, and chains.
 use Rattle.std.proofs.Common.{◌||◌, ◌≡◌, ◌≢◌, inl, inr, ℕ, zero, suc, ◌+◌, ◌≤◌, ◌<◌, true, false, cond, eqb, List, [], ◌∷◌, ◌++◌, length, refl, sym, ap, subst, ◌∙◌, arith, eq-eqb, eqb-true, reverse, get_or}
 use Rattle.std.proofs.lemmas.Bool.{ne_eqb, cases_eq, or_cases}
-use Rattle.std.proofs.lemmas.List.{reverse-append}
+use Rattle.std.proofs.lemmas.List.{length-append, reverse-append}
 use Rattle.std.proofs.lemmas.Map.Steps.{length-le_from_distinct_below}
 use Rattle.std.specs.List.{IsDistinct, list_any, AllByRecursion}
 use Rattle.arena_model.specs.ChildLists.{without, with_replaced, head_or, last_or, none, end_parent}
@@ -60,6 +60,18 @@ split_at (x ∷ xs) n h =
       | true ↦ λ e _. record { us = []; vs = xs; is = ap (λ y. y ∷ xs) (eqb-true x n e) }
       | false ↦ λ e k. let s = split_at xs n (omega arith) in record { us = x ∷ s.us; vs = s.vs; is = ap (λ ys. x ∷ ys) s.is }
     ]) refl h
+
+-- a list is no longer than one in which each of its nodes occurs as often
+pub shorter : (xs ys : List ℕ) → ((z : ℕ) → occurs xs z ≤ occurs ys z) → length xs ≤ length ys
+shorter [] ys h = omega arith
+shorter (x ∷ xs) ys h =
+    let s : SplitAt ys x = split_at ys x (let a : occurs (x ∷ xs) x ≤ occurs ys x = h x in omega (arith, occurs_here x xs)) in
+    let r : length xs ≤ length (s.us ++ s.vs) = shorter xs (s.us ++ s.vs) (λ z.
+    let a : occurs (x ∷ xs) z ≤ occurs ys z = h z in
+    let b : occurs ys z ≡ occurs (s.us ++ x ∷ s.vs) z = ap (λ k. occurs k z) s.is in
+    omega (arith, occurs-append s.us (x ∷ s.vs) z, occurs-append s.us s.vs z)) in
+    let e : length ys ≡ length (s.us ++ x ∷ s.vs) = ap (λ (k : List ℕ). length k) s.is in
+    omega (arith, length-append s.us (x ∷ s.vs), length-append s.us s.vs)
 
 pub without_none : (xs : List ℕ) (n : ℕ) → occurs xs n ≡ 0 → without xs n ≡ xs
 without_none [] n h = refl

@@ -1,5 +1,5 @@
 -- A forest in which the children of one node change.
-use Rattle.std.proofs.Common.{◌*◌, ◌≡◌, ◌≢◌, ◌⊎◌, inl, inr, ℕ, ◌+◌, ◌≤◌, ◌<◌, Bool, true, false, cond, eqb, List, [], ◌∷◌, ◌++◌, length, Some, None, refl, sym, ap, subst, ◌∙◌, arith, suc}
+use Rattle.std.proofs.Common.{◌*◌, ◌≡◌, ◌≢◌, ◌⊎◌, inl, inr, ℕ, zero, ◌+◌, ◌≤◌, ◌<◌, Bool, true, false, cond, eqb, List, [], ◌∷◌, ◌++◌, length, set, Some, None, refl, sym, ap, subst, ◌∙◌, arith, suc}
 use Rattle.arena_model.specs.declared.TheConstants.{NODE_BOUND}
 use Rattle.arena_model.specs.ChildLists.{none}
 use Rattle.arena_model.proofs.Lists.{occurs_here, only_one}
@@ -30,6 +30,11 @@ used_by f p s e n = some_none s (sym e ∙ n)
 -- a node in use has no number that means none
 pub not_none : (f : Layout) (n : ℕ) → IsLayout f → IsInUse f n → n ≢ none
 not_none f n h u e = let l : n < length f.slots = in_range f n u in let k : length f.slots ≤ NODE_BOUND = few_slots f h in omega arith
+
+pub set_set : (slots : List Slot) (p : ℕ) (a b : Slot) → set (set slots p a) p b ≡ set slots p b
+set_set [] p a b = refl
+set_set (c ∷ cs) zero a b = refl
+set_set (c ∷ cs) (suc p) a b = ap (λ z. c ∷ z) (set_set cs p a b)
 
 pub children_past : (f : Layout) (m : ℕ) → length f.slots ≤ m → children_at f m ≡ []
 children_past f m h = ap (λ c. c.children) (get_or_past f.slots m spare_slot h)

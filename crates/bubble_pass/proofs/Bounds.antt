@@ -13,13 +13,12 @@ use Rattle.arena_model.specs.declared.Shape.{Shape}
 use Rattle.arena_model.specs.declared.Shape.TheVariants.{Leaf, P, Q}
 use Rattle.arena_model.specs.Layout.{Layout, children_at, IsAtOrAbove, here, down, IsInUse, MayHaveChildren, IsLayout}
 use Rattle.arena_model.specs.NamedTree.{NamedTree, NamedTrees, named_tree, no_named, named_and, top_names, IsAt, AreAt, node_names, node_names_of, outline_named, outlines_named, outline_below}
-use Rattle.arena_model.proofs.Lists.{occurs_here, occurs_other, only_one}
+use Rattle.arena_model.proofs.Lists.{occurs_here, occurs_other, only_one, shorter}
 use Rattle.arena_model.proofs.Trees.{TreeAt, tree_at}
 use Rattle.arena_model.proofs.Outlines.{below_tree, leaf_times, named_below}
 use Rattle.arena_model.proofs.Rows.{leaf_in_row}
 use Rattle.arena_model.specs.RowLeaves.{column_leaves, Meets}
 use Rattle.bubble_pass.specs.Fair.{AtMost}
-use Rattle.bubble_pass.proofs.Sums.{shorter}
 
 -- a list that has a column of the row meets it
 meets_from : (row xs : List ℕ) (a : ℕ) → 1 ≤ occurs xs a → IsTrue (has row a) → meets row xs ≡ true

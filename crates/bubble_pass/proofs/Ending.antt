@@ -1,6 +1,7 @@
 -- What the end of the climb says.
 use Rattle.std.proofs.Common.{◌≡◌, ◌≢◌, ◌⊎◌, inl, inr, ℕ, ◌+◌, ◌≤◌, ◌<◌, List, [], ◌∷◌, ◌++◌, length, set, sum_by, Option, Some, refl, sym, ap, subst, ◌∙◌, arith}
 use Rattle.std.proofs.lemmas.Bool.{cases_eq}
+use Rattle.arena_model.proofs.Outlines.{apart_children}
 use Rattle.pq_arena.specs.declared.node.NodeId.{NodeId}
 use Rattle.pq_arena.specs.declared.node.NodeView.{NodeView}
 use Rattle.arena_model.specs.ChildLists.{none}
@@ -24,7 +25,7 @@ use Rattle.bubble_pass.proofs.Marks.{seen_by, seen_in, set_here, set_there, sum_
 use Rattle.bubble_pass.proofs.Walks.{blocked_not, less_parked}
 use Rattle.bubble_pass.proofs.Turns.{reach_near}
 use Rattle.bubble_pass.proofs.Grows.{kept_running}
-use Rattle.bubble_pass.proofs.Opens.{Below, climbs, one_open, open_cases, queued_at, two_parked, parked_some, some_parked, parked_seen, reached_meets, one_child, apart}
+use Rattle.bubble_pass.proofs.Opens.{Below, climbs, one_open, open_cases, queued_at, two_parked, parked_some, some_parked, parked_seen, reached_meets, one_child}
 
 -- while one node is queued and none is parked
 pub queued_only : (f : Layout) (row : List ℕ) (a : Climber) (x : NodeId) → Ready f row a → IsOver a → a.head < a.tail → x.index ≡ at a.queue.items a.head → (y : ℕ) → IsOpen (stage a.stages.items y) → y ≡ x.index
@@ -371,7 +372,7 @@ pub whole_flat : (f : Layout) (row : List ℕ) (a w : Climber) (x : ℕ) → IsL
     (y n : ℕ) → IsOpen (stage a.stages.items y) → IsOpen (stage a.stages.items n) → IsAtOrAbove f.slots n y → n ≡ y
 whole_flat f row a w x h ge r t zero_is = λ y n oy on l. elim (cases_eq n y) [
   | inl e ↦ e
-  | inr ne ↦ absurd (apart f t.q n y h (child n (in_ks n on)) (child y (in_ks y oy)) l ne)
+  | inr ne ↦ absurd (apart_children f t.q n y h (child n (in_ks n on)) (child y (in_ks y oy)) l ne)
 ]
   where
     in_ks : (z : ℕ) → IsOpen (stage a.stages.items z) → 1 ≤ occurs t.ks z

@@ -2,6 +2,7 @@
 use Rattle.std.proofs.Common.{◌≡◌, ◌≢◌, inl, inr, ℕ, ◌≤◌, Bool, true, false, cond, List, [], ◌∷◌, ◌++◌, length, take, refl, sym, ap, subst, ◌∙◌, arith, eq-eqb}
 use Rattle.std.proofs.lemmas.Bool.{cases_eq, cases_lt}
 use Rattle.std.proofs.lemmas.List.{length-set}
+use Rattle.arena_model.proofs.Outlines.{apart_children}
 use Rattle.pq_arena.specs.declared.node.NodeId.{NodeId}
 use Rattle.column_order.specs.Orders.{occurs}
 use Rattle.arena_model.specs.Layout.{Layout, children_at, IsAtOrAbove, down, IsLayout}
@@ -22,7 +23,7 @@ use Rattle.bubble_pass.specs.Roots.{below, Descending}
 use Rattle.bubble_pass.specs.Sweep.{Ground, IsPertinent}
 use Rattle.bubble_pass.proofs.Marks.{seen_by, set_here, set_there}
 use Rattle.bubble_pass.proofs.Turning.{turns_once}
-use Rattle.bubble_pass.proofs.Opens.{Below, climbed, climbs, reached_meets, apart}
+use Rattle.bubble_pass.proofs.Opens.{Below, climbed, climbs, reached_meets}
 use Rattle.bubble_pass.proofs.Fronts.{join_leads}
 use Rattle.bubble_pass.proofs.Descents.{below_has, below_only, below_once, chain_kid, bare, chained_has, chained_only, under_is, turn_in, long_queue, through_chain}
 
@@ -45,7 +46,7 @@ ground_run f row w c q us ks vs h is_row k run only linked = record {
         let below_top : IsAtOrAbove f.slots p.top b.y = join_leads f.slots p.top x b.y p.leads (down x n b.y o b.above) in
         elim (cases_eq p.top b.y) [
           | inl e ↦ no_circle f.slots x n (h.grounds x) o (join_leads f.slots n b.y x b.above (subst (λ v. IsAtOrAbove f.slots v x) e p.leads))
-          | inr ne ↦ apart f q p.top b.y h (child p.top p.marked) (child b.y (only b.y b.open_is)) below_top ne
+          | inr ne ↦ apart_children f q p.top b.y h (child p.top p.marked) (child b.y (only b.y b.open_is)) below_top ne
         ])
     | inr r ↦ below_has f row w n x r.0 k r.1 (one_parent f r.0.index x n h (k.climb.above n r.0 r.1).0 o)
   ];

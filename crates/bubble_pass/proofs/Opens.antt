@@ -3,12 +3,12 @@ use Rattle.std.proofs.Common.{◌≡◌, ◌≢◌, ◌⊎◌, inl, inr, ℕ, su
 use Rattle.std.proofs.lemmas.Bool.{cases_eq, cases_lt}
 use Rattle.std.proofs.lemmas.List.{length-set}
 use Rattle.std.proofs.lemmas.List.Sums.{get_or-le-sum_by, sum_by-cons}
+use Rattle.arena_model.proofs.Outlines.{apart_children}
 use Rattle.pq_arena.specs.declared.node.NodeId.{NodeId}
 use Rattle.column_order.specs.Orders.{occurs}
 use Rattle.arena_model.specs.Layout.{Layout, children_at, times_child, IsAtOrAbove, here, down, IsLayout}
 use Rattle.arena_model.proofs.Slots.{children_times}
-use Rattle.arena_model.proofs.Paths.{at_once, by, above_ends, one_parent, one_path}
-use Rattle.arena_model.proofs.Trees.{no_circle}
+use Rattle.arena_model.proofs.Paths.{one_parent, one_path}
 use Rattle.bubble_pass.specs.declared.climber.Stage.{Stage}
 use Rattle.bubble_pass.specs.declared.climber.Stage.TheVariants.{Unseen, Queued, Blocked, Top, InRun, Placed}
 use Rattle.bubble_pass.specs.Climb.{stage, at, IsSeen, IsOpen, parked_one, Climb, Queue, Reached, at_leaf, from_child}
@@ -65,20 +65,13 @@ reached_meets f row st c _ (from_child k n m e s r) =
     let t = reached_meets f row st c k r in
     (t.0, t.1, down n k t.0 (subst (λ z. 1 ≤ occurs (children_at f z) k) e (c.above k m s).0) t.2)
 
--- of two children of one node neither is above the other
-pub apart : (f : Layout) (q a b : ℕ) → IsLayout f → 1 ≤ occurs (children_at f q) a → 1 ≤ occurs (children_at f q) b → IsAtOrAbove f.slots a b → a ≢ b → ⊥
-apart f q a b h oa ob l ne = elim (above_ends f.slots a b l) [
-  | at_once e ↦ ne e
-  | by m lm o ↦ no_circle f.slots q a (h.grounds q) oa (subst (λ w. IsAtOrAbove f.slots a w) (one_parent f m q b h o ob) lm)
-]
-
 -- two children of one node have no leaf in common
 pub one_child : (f : Layout) (q a b x : ℕ) → IsLayout f → 1 ≤ occurs (children_at f q) a → 1 ≤ occurs (children_at f q) b → IsAtOrAbove f.slots a x → IsAtOrAbove f.slots b x → a ≡ b
 one_child f q a b x h oa ob la lb = elim (cases_eq a b) [
   | inl e ↦ e
   | inr ne ↦ elim (one_path f a b x h la lb) [
-    | inl l ↦ absurd (apart f q a b h oa ob l ne)
-    | inr l ↦ absurd (apart f q b a h ob oa l (λ e. ne (sym e)))
+    | inl l ↦ absurd (apart_children f q a b h oa ob l ne)
+    | inr l ↦ absurd (apart_children f q b a h ob oa l (λ e. ne (sym e)))
   ]
 ]
 

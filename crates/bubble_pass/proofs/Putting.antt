@@ -55,32 +55,30 @@ pub record Exchanged (a b : Seats) (old new : NodeId) : Type 0 where
   pub can : CanExchange a old new
   pub swapped : Swapped a b old new
 
+-- the place of a node before the exchange
+abbrev was_at : Seats → NodeId → NodeId
+was_at a n = seat_of a.seats.items n
+
 node_swapped : (a b : Seats) (old new s : NodeId) → Exchanged a b old new → node_at b.nodes.items s ≡ exchange old new (node_at a.nodes.items s)
-node_swapped a b old new s x = elim (cases_eq s.index g.index) [
+node_swapped a b old new s x = elim (cases_eq s.index (was_at a new).index) [
   | inl e ↦ ap (λ l. unwrap_or (get_or l s.index None) s) x.swapped.nodes ∙ ap (λ i. unwrap_or (get_or twice i None) s) e
-      ∙ ap (λ o. unwrap_or o s) (get_or-set_same once g.index (Some old) None (let l : g.index < length a.nodes.items = x.can.new_seat in omega (arith, length-set a.nodes.items f.index (Some new))))
-      ∙ sym (exchange_new old new (node_at a.nodes.items s) (ap (λ (v : NodeId). v.index) (ap (λ v. node_at a.nodes.items v) (same_node s g e) ∙ x.inverse.there new)))
-  | inr ng ↦ elim (cases_eq s.index f.index) [
-    | inl e ↦ ap (λ l. unwrap_or (get_or l s.index None) s) x.swapped.nodes ∙ ap (λ o. unwrap_or o s) (get_or-set_other once g.index s.index (Some old) None ng)
-        ∙ ap (λ i. unwrap_or (get_or once i None) s) e ∙ ap (λ o. unwrap_or o s) (get_or-set_same a.nodes.items f.index (Some new) None x.can.old_seat)
-        ∙ sym (exchange_old old new (node_at a.nodes.items s) (ap (λ (v : NodeId). v.index) (ap (λ v. node_at a.nodes.items v) (same_node s f e) ∙ x.inverse.there old)))
-    | inr nf ↦ ap (λ l. unwrap_or (get_or l s.index None) s) x.swapped.nodes ∙ ap (λ o. unwrap_or o s) (get_or-set_other once g.index s.index (Some old) None ng)
-        ∙ ap (λ o. unwrap_or o s) (get_or-set_other a.nodes.items f.index s.index (Some new) None nf)
+      ∙ ap (λ o. unwrap_or o s) (get_or-set_same once (was_at a new).index (Some old) None (let l : (was_at a new).index < length a.nodes.items = x.can.new_seat in omega (arith, length-set a.nodes.items (was_at a old).index (Some new))))
+      ∙ sym (exchange_new old new (node_at a.nodes.items s) (ap (λ (v : NodeId). v.index) (ap (λ v. node_at a.nodes.items v) (same_node s (was_at a new) e) ∙ x.inverse.there new)))
+  | inr ng ↦ elim (cases_eq s.index (was_at a old).index) [
+    | inl e ↦ ap (λ l. unwrap_or (get_or l s.index None) s) x.swapped.nodes ∙ ap (λ o. unwrap_or o s) (get_or-set_other once (was_at a new).index s.index (Some old) None ng)
+        ∙ ap (λ i. unwrap_or (get_or once i None) s) e ∙ ap (λ o. unwrap_or o s) (get_or-set_same a.nodes.items (was_at a old).index (Some new) None x.can.old_seat)
+        ∙ sym (exchange_old old new (node_at a.nodes.items s) (ap (λ (v : NodeId). v.index) (ap (λ v. node_at a.nodes.items v) (same_node s (was_at a old) e) ∙ x.inverse.there old)))
+    | inr nf ↦ ap (λ l. unwrap_or (get_or l s.index None) s) x.swapped.nodes ∙ ap (λ o. unwrap_or o s) (get_or-set_other once (was_at a new).index s.index (Some old) None ng)
+        ∙ ap (λ o. unwrap_or o s) (get_or-set_other a.nodes.items (was_at a old).index s.index (Some new) None nf)
         ∙ sym (exchange_other old new (node_at a.nodes.items s) (off old nf) (off new ng))
   ]
 ]
   where
-    f : NodeId
-    f = seat_of a.seats.items old
-
-    g : NodeId
-    g = seat_of a.seats.items new
-
     once : List (Option NodeId)
-    once = set a.nodes.items f.index (Some new)
+    once = set a.nodes.items (was_at a old).index (Some new)
 
     twice : List (Option NodeId)
-    twice = set once g.index (Some old)
+    twice = set once (was_at a new).index (Some old)
 
     off : (y : NodeId) → s.index ≢ (seat_of a.seats.items y).index → (node_at a.nodes.items s).index ≢ y.index
     off y ne e = ne (ap (λ (v : NodeId). v.index) (sym (x.inverse.back s) ∙ ap (λ v. seat_of a.seats.items v) (same_node (node_at a.nodes.items s) y e)))
@@ -92,28 +90,22 @@ seat_swapped a b old new y x = elim (cases_eq y.index old.index) [
     | inl e ↦ ap (λ v. seat_of b.seats.items v) (exchange_new old new y e) ∙ old_seat ∙ ap (λ v. seat_of a.seats.items v) (same_node new y (sym e))
     | inr not_new ↦ ap (λ v. seat_of b.seats.items v) (exchange_other old new y not_old not_new)
         ∙ ap (λ l. unwrap_or (get_or l y.index None) y) x.swapped.seats
-        ∙ ap (λ o. unwrap_or o y) (get_or-set_other once old.index y.index (Some g) None not_old) ∙ ap (λ o. unwrap_or o y) (get_or-set_other a.seats.items new.index y.index (Some f) None not_new)
+        ∙ ap (λ o. unwrap_or o y) (get_or-set_other once old.index y.index (Some (was_at a new)) None not_old) ∙ ap (λ o. unwrap_or o y) (get_or-set_other a.seats.items new.index y.index (Some (was_at a old)) None not_new)
   ]
 ]
   where
-    f : NodeId
-    f = seat_of a.seats.items old
-
-    g : NodeId
-    g = seat_of a.seats.items new
-
     once : List (Option NodeId)
-    once = set a.seats.items new.index (Some f)
+    once = set a.seats.items new.index (Some (was_at a old))
 
-    old_seat : seat_of b.seats.items old ≡ g
+    old_seat : seat_of b.seats.items old ≡ was_at a new
     old_seat = ap (λ l. unwrap_or (get_or l old.index None) old) x.swapped.seats
-        ∙ ap (λ o. unwrap_or o old) (get_or-set_same once old.index (Some g) None (let l : old.index < length a.seats.items = x.can.old_in in omega (arith, length-set a.seats.items new.index (Some f))))
+        ∙ ap (λ o. unwrap_or o old) (get_or-set_same once old.index (Some (was_at a new)) None (let l : old.index < length a.seats.items = x.can.old_in in omega (arith, length-set a.seats.items new.index (Some (was_at a old)))))
 
-    new_seat : seat_of b.seats.items new ≡ f
+    new_seat : seat_of b.seats.items new ≡ was_at a old
     new_seat = elim (cases_eq new.index old.index) [
       | inl e ↦ ap (λ v. seat_of b.seats.items v) (same_node new old e) ∙ old_seat ∙ ap (λ v. seat_of a.seats.items v) (same_node new old e)
-      | inr ne ↦ ap (λ l. unwrap_or (get_or l new.index None) new) x.swapped.seats ∙ ap (λ o. unwrap_or o new) (get_or-set_other once old.index new.index (Some g) None ne)
-          ∙ ap (λ o. unwrap_or o new) (get_or-set_same a.seats.items new.index (Some f) None x.can.new_in)
+      | inr ne ↦ ap (λ l. unwrap_or (get_or l new.index None) new) x.swapped.seats ∙ ap (λ o. unwrap_or o new) (get_or-set_other once old.index new.index (Some (was_at a new)) None ne)
+          ∙ ap (λ o. unwrap_or o new) (get_or-set_same a.seats.items new.index (Some (was_at a old)) None x.can.new_in)
     ]
 
 nodes_length : (a b : Seats) (old new : NodeId) → Swapped a b old new → length b.nodes.items ≡ length a.nodes.items

@@ -2,6 +2,7 @@
 use Rattle.std.proofs.Common.{◌≡◌, ◌≢◌, ◌⊎◌, inl, inr, ℕ, ◌+◌, ◌≤◌, List, [], ◌∷◌, ◌++◌, length, sum_by, reverse, Some, refl, sym, ap, subst, ◌∙◌, arith}
 use Rattle.std.proofs.lemmas.Bool.{cases_eq, cases_lt}
 use Rattle.std.proofs.lemmas.List.{append_assoc, append-nil, reverse-append}
+use Rattle.arena_model.proofs.Outlines.{apart_children}
 use Rattle.pq_arena.specs.declared.node.NodeId.{NodeId}
 use Rattle.arena_model.specs.declared.Shape.TheVariants.{Leaf, Q}
 use Rattle.arena_model.specs.ChildLists.{none}
@@ -23,7 +24,7 @@ use Rattle.bubble_pass.specs.Found.{Fronts, FrontsOf, front_leaf, front_p, front
 use Rattle.bubble_pass.specs.Ends.{AreLeaves, IsFull}
 use Rattle.bubble_pass.proofs.Seats.{Last, last_split}
 use Rattle.bubble_pass.proofs.Marks.{seen_by}
-use Rattle.bubble_pass.proofs.Opens.{reached_meets, climbed, apart, one_child, some_parked}
+use Rattle.bubble_pass.proofs.Opens.{reached_meets, climbed, one_child, some_parked}
 use Rattle.bubble_pass.proofs.Fronts.{Block, block, block_of, front_some, front_has, fronts_leads, Parts, parts, Outer, first_in, last_in, first_no_inner, last_no_inner, join_leads, occurs_back}
 use Rattle.bubble_pass.proofs.Ending.{Whole, no_queued, another, in_run_or}
 
@@ -344,7 +345,7 @@ two_apart f row st y z h w u v m oz off hem = λ o fr keep.
         let jz : IsAtOrAbove f.slots j.0 z = join_leads f.slots j.0 k z jk kz in
         elim (cases_eq j.0 z) [
           | inl q ↦ ne (one_way f k z h kz (subst (λ v. IsAtOrAbove f.slots v k) q jk))
-          | inr nz ↦ apart f hz.q j.0 z h (in_kids hz.q hz.ks j.0 hz.hemmed j.1) (in_kids hz.q hz.ks z hz.hemmed hz.has) jz nz
+          | inr nz ↦ apart_children f hz.q j.0 z h (in_kids hz.q hz.ks j.0 hz.hemmed j.1) (in_kids hz.q hz.ks z hz.hemmed hz.has) jz nz
         ]
 
 -- the blocked ones before the first that is not blocked

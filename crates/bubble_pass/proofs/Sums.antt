@@ -7,7 +7,7 @@ use Rattle.pq_arena.specs.declared.node.NodeId.{NodeId}
 use Rattle.column_order.specs.Orders.{occurs}
 use Rattle.arena_model.specs.Layout.{Layout, IsLayout}
 use Rattle.column_order.proofs.Lists.{occurs-append}
-use Rattle.arena_model.proofs.Lists.{occurs_here, occurs_other, occurs_same, SplitAt, split_at}
+use Rattle.arena_model.proofs.Lists.{occurs_here, occurs_other, occurs_same, shorter}
 use Rattle.bubble_pass.specs.declared.climber.Stage.TheVariants.{Placed}
 use Rattle.bubble_pass.specs.declared.climber.Climber.{Climber}
 use Rattle.bubble_pass.specs.declared.chains.Chains.{Chains}
@@ -22,18 +22,6 @@ use Rattle.bubble_pass.specs.Sweep.{label, full_one, Ground, IsPertinent, Place,
 use Rattle.bubble_pass.proofs.Linking.{turns_more, turn_of, exactly}
 use Rattle.bubble_pass.proofs.Descents.{turn_in}
 use Rattle.bubble_pass.proofs.Sweeping.{places_once}
-
--- a list is no longer than one in which each of its nodes occurs as often
-pub shorter : (xs ys : List ℕ) → ((z : ℕ) → occurs xs z ≤ occurs ys z) → length xs ≤ length ys
-shorter [] ys h = omega arith
-shorter (x ∷ xs) ys h =
-    let s : SplitAt ys x = split_at ys x (let a : occurs (x ∷ xs) x ≤ occurs ys x = h x in omega (arith, occurs_here x xs)) in
-    let r : length xs ≤ length (s.us ++ s.vs) = shorter xs (s.us ++ s.vs) (λ z.
-    let a : occurs (x ∷ xs) z ≤ occurs ys z = h z in
-    let b : occurs ys z ≡ occurs (s.us ++ x ∷ s.vs) z = ap (λ k. occurs k z) s.is in
-    omega (arith, occurs-append s.us (x ∷ s.vs) z, occurs-append s.us s.vs z)) in
-    let e : length ys ≡ length (s.us ++ x ∷ s.vs) = ap (λ (k : List ℕ). length k) s.is in
-    omega (arith, length-append s.us (x ∷ s.vs), length-append s.us s.vs)
 
 -- those of the list that are full
 abbrev full_list : Label → ℕ → List ℕ

@@ -1,6 +1,7 @@
 -- Turns above the smallest node that holds the row come singly.
 use Rattle.std.proofs.Common.{◌≡◌, ◌≢◌, ◌⊎◌, inl, inr, ℕ, zero, suc, ◌+◌, ◌*◌, ◌≤◌, ◌<◌, List, [], ◌∷◌, length, sum_by, take, refl, sym, ap, subst, ◌∙◌, arith}
 use Rattle.std.proofs.lemmas.Bool.{cases_eq, cases_lt}
+use Rattle.arena_model.proofs.Outlines.{apart_children}
 use Rattle.pq_arena.specs.declared.node.NodeId.{NodeId}
 use Rattle.column_order.specs.Orders.{occurs}
 use Rattle.arena_model.specs.Layout.{Layout, children_at, IsAtOrAbove, here, down, IsLayout, MayHaveChildren}
@@ -21,7 +22,7 @@ use Rattle.arena_model.specs.RowLeaves.{Holds}
 use Rattle.bubble_pass.specs.Ends.{AreLeaves, IsQueueing, IsFlat, IsFound}
 use Rattle.bubble_pass.specs.Fair.{IsAbove, Counted, counted_none, counted_above, counted_below, Course, calm, ahead, doomed, Fair, AtMost}
 use Rattle.bubble_pass.proofs.Marks.{seen_by}
-use Rattle.bubble_pass.proofs.Opens.{reached_meets, one_child, apart, some_parked, parked_seen}
+use Rattle.bubble_pass.proofs.Opens.{reached_meets, one_child, some_parked, parked_seen}
 use Rattle.bubble_pass.proofs.Fronts.{join_leads}
 use Rattle.bubble_pass.proofs.Splits.{one_way, parked_cases, parked_open, root_above}
 
@@ -134,7 +135,7 @@ doom f row r a b y ta tb h t la xa yb ry yr others = by_turn t.turned
         let ma : IsAbove f r m.index = up_above f r (at a.queue.items a.head) m.index h ox.0 xa.0 in
         let yb1 : stage b.stages.items y ≡ Blocked = (elim (rest y y_not_x (seen_by (stage a.stages.items y) Blocked yb tt)) [
           | inl e ↦ e ∙ yb
-          | inr e ↦ absurd (apart f m.index (at a.queue.items a.head) y h ox.0 (t.new.climb.above y m e.1).0 (join_leads f.slots (at a.queue.items a.head) r y xa.0 ry) (λ q. y_not_x (sym q)))
+          | inr e ↦ absurd (apart_children f m.index (at a.queue.items a.head) y h ox.0 (t.new.climb.above y m e.1).0 (join_leads f.slots (at a.queue.items a.head) r y xa.0 ry) (λ q. y_not_x (sym q)))
         ]) in
         let mq : IsOpen (stage b.stages.items m.index) = (elim (news m.index ox.1) [
           | inl s ↦ let p = la m.index (at a.queue.items a.head) s ox.0 xa.0 in absurd (queued_not a.stages.items (at a.queue.items a.head) p.0 (x_queued f row r a b t) p.1)

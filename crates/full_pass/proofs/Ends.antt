@@ -1,6 +1,6 @@
 -- One part alone: what the row is.
 use Rattle.std.proofs.Common.{Bool, List, [], ap, arith, cond, false, inl, inr, length, refl, subst, sym, true, ℕ, ◌+◌, ◌<◌, ◌∙◌, ◌≡◌, ◌≤◌, ◌⊎◌}
-use Rattle.std.proofs.lemmas.Bool.{cases_eq}
+use Rattle.std.proofs.lemmas.Bool.{cases_eq, cases_Bool}
 use Rattle.arena_model.specs.declared.Shape.TheVariants.{Q}
 use Rattle.arena_model.specs.Layout.{IsAtOrAbove, IsLayout, Layout, children_at, down, here, times_child}
 use Rattle.arena_model.proofs.Slots.{children_times, in_range, used_by}
@@ -14,7 +14,7 @@ use Rattle.full_pass.proofs.Chained.{chained_length}
 use Rattle.full_pass.specs.Answer.{AreBelow, AreLeaves, IsGroup, IsRowKept, one_node, one_run}
 use Rattle.full_pass.specs.Passing.{HasPart, InFirst, InMore, InRun, Pass, marks, runs, total}
 use Rattle.full_pass.proofs.Sums.{total_one, total_two}
-use Rattle.full_pass.proofs.Marks.{OneRun, cases_bool, marks_two, one_run_of, true_false}
+use Rattle.full_pass.proofs.Marks.{OneRun, marks_two, one_run_of, true_false}
 use Rattle.column_order.specs.Orders.{occurs}
 
 -- two nodes with a part are one
@@ -42,7 +42,7 @@ climb : (f : Layout) (row : List ℕ) (l : ℕ → Bool) (h : ℕ → ℕ) (n m 
     (a x : ℕ) → IsAtOrAbove f.slots a x → l x ≡ true → (l a ≡ true) ⊎ Under f l m x
 climb f row l h n m layout p le part _ _ (here a) t = inl t
 climb f row l h n m layout p le part _ _ (down a k x o way) t = elim (climb f row l h n m layout p le part k x way t) [
-  | inl lk ↦ elim (cases_bool (l a)) [
+  | inl lk ↦ elim (cases_Bool (l a)) [
     | inl la ↦ inl la
     | inr la ↦
         let e : a ≡ m = one_part f row l h n layout p le a m (record { not_full = la; not_waiting = refl; child = k; is_child = o; labelled = lk }) part in

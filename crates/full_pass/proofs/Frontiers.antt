@@ -1,7 +1,7 @@
 -- A row that the arena's layout keeps is one run of each frontier of the tree.
 use Rattle.std.proofs.Common.{Bool, IsPermutation, List, Some, [], ap, arith, cond, false, get_or, inl, inr, length, refl, reverse, subst, suc, sum_by, sym, true, zero, ℕ, ◌++◌, ◌+◌, ◌-◌, ◌<◌, ◌∙◌, ◌∷◌, ◌≡◌, ◌≢◌, ◌≤◌, ◌⊎◌}
 use Rattle.std.specs.List.{concat}
-use Rattle.std.proofs.lemmas.Bool.{cases_eq, cases_lt}
+use Rattle.std.proofs.lemmas.Bool.{cases_eq, cases_lt, cases_Bool}
 use Rattle.std.proofs.lemmas.List.{append-nil, append_assoc, reverse-append}
 use Rattle.std.proofs.lemmas.List.Sorted.{IsPermutation-refl, IsPermutation-reverse, sum_by-IsPermutation}
 use Rattle.std.proofs.lemmas.List.Sums.{sum_by-cons}
@@ -26,7 +26,7 @@ use Rattle.arena_model.proofs.Rows.{has_leaf, leaf_has}
 use Rattle.full_pass.specs.Answer.{AreBelow, AreLeaves, IsFullNode, IsRowKept, one_node, one_run}
 use Rattle.full_pass.specs.Passing.{runs}
 use Rattle.full_pass.proofs.Columns.{row_leaves}
-use Rattle.full_pass.proofs.Marks.{cases_bool, runs_some}
+use Rattle.full_pass.proofs.Marks.{runs_some}
 
 -- a frontier of the tree without its numbers
 abbrev pub IsFrontierOf : NamedTree → List ℕ → Type 0
@@ -141,7 +141,7 @@ pub record Target (f : Layout) (row : List ℕ) (l : ℕ → Bool) (x : ℕ) : T
 -- a frontier of a child of n that isn't above x has no column of the row
 empty_beside : (f : Layout) (row : List ℕ) (l : ℕ → Bool) (x n k : ℕ) (t : NamedTree) (o : List ℕ) → Target f row l x → 1 ≤ occurs (children_at f n) k → IsAtOrAbove f.slots k x →
     1 ≤ occurs (children_at f n) (top_name t) → top_name t ≢ k → IsAt f.slots t → IsFrontierOf t o → runs l false o ≡ 0
-empty_beside f row l x n k t o g ok way ot ne at fr = runs_nil l o (λ a i. elim (cases_bool (l a)) [
+empty_beside f row l x n k t o g ok way ot ne at fr = runs_nil l o (λ a i. elim (cases_Bool (l a)) [
   | inr e ↦ e
   | inl e ↦ absurd (
       let d : LeafAt f (top_name t) a = leaf_of f t o a at fr i in
@@ -175,7 +175,7 @@ by_children f row l x n s ts o g way at r fr deep = elim (step_of f n x way) [
 mutual
   pub above_target : (f : Layout) (row : List ℕ) (l : ℕ → Bool) (x : ℕ) (t : NamedTree) (o : List ℕ) → Target f row l x → IsAtOrAbove f.slots (top_name t) x →
       IsAt f.slots t → IsFrontierOf t o → runs l false o ≤ 1
-  above_target f row l x (named_tree n (Leaf b) ts) o g way at fr = elim (cases_bool (l b)) [
+  above_target f row l x (named_tree n (Leaf b) ts) o g way at fr = elim (cases_Bool (l b)) [
     | inl e ↦ subst (λ z. runs l false z ≤ 1) (sym fr) (subst (λ t. cond t 1 0 + 0 ≤ 1) (sym e) (omega arith))
     | inr e ↦ subst (λ z. runs l false z ≤ 1) (sym fr) (subst (λ t. cond t 1 0 + 0 ≤ 1) (sym e) (omega arith))
   ]
@@ -319,7 +319,7 @@ run_at f row l q us ks vs layout marked sh is below (named_tree n s ts) at e o f
     inside t o at i fr a j = let d = leaf_of f t o a at fr j in marked.back d.y a d.is_leaf (below.filled (top_name t) i d.y (a, d.is_leaf) d.leads)
 
     outside : (t : NamedTree) (o : List ℕ) → IsAt f.slots t → 1 ≤ occurs us (top_name t) + occurs vs (top_name t) → IsFrontierOf t o → (a : ℕ) → 1 ≤ occurs o a → l a ≡ false
-    outside t o at i fr a j = elim (cases_bool (l a)) [
+    outside t o at i fr a j = elim (cases_Bool (l a)) [
       | inr e ↦ e
       | inl e ↦ absurd (
           let d = leaf_of f t o a at fr j in
@@ -387,13 +387,13 @@ kept_frontiers f row l y layout r oy marked (one_run q us ks vs sh is below) =
 after : (l : ℕ → Bool) (xs : List ℕ) (j k : ℕ) → runs l true xs ≤ 0 → j < k → k < length xs → l (get_or xs k 0) ≡ true → l (get_or xs j 0) ≡ true
 after l [] j k h lt few m = absurd (omega arith)
 after l (x ∷ xs) j zero h lt few m = absurd (omega arith)
-after l (x ∷ xs) zero (suc k) h lt few m = elim (cases_bool (l x)) [
+after l (x ∷ xs) zero (suc k) h lt few m = elim (cases_Bool (l x)) [
   | inl t ↦ t
   | inr f ↦ absurd (
       let z : 0 + runs l false xs ≤ 0 = subst (λ b. cond b 0 0 + runs l b xs ≤ 0) f h in
       let s : 1 ≤ runs l false xs = runs_some l xs (get_or xs k 0) m (occurs_at xs k (omega arith)) in omega arith)
 ]
-after l (x ∷ xs) (suc j) (suc k) h lt few m = elim (cases_bool (l x)) [
+after l (x ∷ xs) (suc j) (suc k) h lt few m = elim (cases_Bool (l x)) [
   | inl t ↦ after l xs j k (let z : 0 + runs l true xs ≤ 0 = subst (λ b. cond b 0 0 + runs l b xs ≤ 0) t h in omega arith) (omega arith) (omega arith) m
   | inr f ↦ absurd (
       let z : 0 + runs l false xs ≤ 0 = subst (λ b. cond b 0 0 + runs l b xs ≤ 0) f h in
@@ -408,7 +408,7 @@ between l (x ∷ xs) i zero k h ij jk few mi mk = absurd (omega arith)
 between l (x ∷ xs) i (suc j) zero h ij jk few mi mk = absurd (omega arith)
 between l (x ∷ xs) zero (suc j) (suc k) h ij jk few mi mk =
     after l xs j k (let z : 1 + runs l true xs ≤ 1 = subst (λ b. cond b 1 0 + runs l b xs ≤ 1) mi h in omega arith) (omega arith) (omega arith) mk
-between l (x ∷ xs) (suc i) (suc j) (suc k) h ij jk few mi mk = elim (cases_bool (l x)) [
+between l (x ∷ xs) (suc i) (suc j) (suc k) h ij jk few mi mk = elim (cases_Bool (l x)) [
   | inl t ↦ after l xs j k (let z : 1 + runs l true xs ≤ 1 = subst (λ b. cond b 1 0 + runs l b xs ≤ 1) t h in omega arith) (omega arith) (omega arith) mk
   | inr f ↦ between l xs i j k (let z : 0 + runs l false xs ≤ 1 = subst (λ b. cond b 1 0 + runs l b xs ≤ 1) f h in omega arith) (omega arith) (omega arith) (omega arith) mi mk
 ]

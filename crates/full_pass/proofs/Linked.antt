@@ -1,6 +1,6 @@
 -- The ends of runs know each other still when one more child is labelled.
 use Rattle.std.proofs.Common.{Bool, List, Option, Some, [], ap, append_assoc, arith, cond, false, inl, inr, refl, subst, sym, true, ℕ, ◌++◌, ◌+◌, ◌∙◌, ◌∷◌, ◌≡◌, ◌≢◌, ◌≤◌}
-use Rattle.std.proofs.lemmas.Bool.{cases_eq, cases_lt}
+use Rattle.std.proofs.lemmas.Bool.{cases_eq, cases_lt, cases_Bool}
 use Rattle.arena_model.specs.declared.Shape.TheVariants.{P, Q}
 use Rattle.pq_arena.specs.declared.node.NodeId.{NodeId}
 use Rattle.arena_model.specs.ChildLists.{end_parent, head_or, last_or, none}
@@ -10,7 +10,7 @@ use Rattle.arena_model.proofs.Lists.{SplitAt, head_or-append, last_or-append, oc
 use Rattle.arena_model.proofs.Slots.{child_at, children_times}
 use Rattle.arena_model.proofs.Paths.{one_parent}
 use Rattle.full_pass.specs.Passing.{Runs}
-use Rattle.full_pass.proofs.Marks.{OneMore, cases_bool, true_false}
+use Rattle.full_pass.proofs.Marks.{OneMore, true_false}
 use Rattle.full_pass.proofs.Shapes.{shapes_apart}
 use Rattle.full_pass.proofs.Steps.{no_child, stays}
 use Rattle.full_pass.proofs.Links.{Prefix, Suffix, one_split, prefix, runs_back, runs_on, suffix}
@@ -36,7 +36,7 @@ child_once : (f : Layout) (q y : ℕ) → IsLayout f → occurs (children_at f q
 child_once f q y h = let a : occurs (children_at f q) y ≤ times_child f.slots y = children_times f q y in let b : times_child f.slots y ≤ 1 = h.once y in omega arith
 
 unlabelled : (l l' : ℕ → Bool) (x y : ℕ) → OneMore l l' x → l' y ≡ false → l y ≡ false
-unlabelled l l' x y h e = elim (cases_bool (l y)) [
+unlabelled l l' x y h e = elim (cases_Bool (l y)) [
   | inl t ↦ absurd (true_false (l' y) (stays l l' x y h t) e)
   | inr f ↦ f
 ]

@@ -1,9 +1,9 @@
 -- The ends of a run of labelled children, when one more is labelled.
 use Rattle.std.proofs.Common.{Bool, List, [], ap, arith, false, inl, inr, refl, subst, sym, true, ℕ, ◌++◌, ◌+◌, ◌∙◌, ◌∷◌, ◌≡◌, ◌≤◌}
-use Rattle.std.proofs.lemmas.Bool.{cases_eq}
+use Rattle.std.proofs.lemmas.Bool.{cases_eq, cases_Bool}
 use Rattle.arena_model.specs.ChildLists.{head_or, last_or, none}
 use Rattle.arena_model.proofs.Lists.{occurs_here, occurs_last, occurs_other}
-use Rattle.full_pass.proofs.Marks.{cases_bool, true_false}
+use Rattle.full_pass.proofs.Marks.{true_false}
 use Rattle.column_order.specs.Orders.{occurs}
 use Rattle.column_order.proofs.Lists.{occurs-append}
 
@@ -20,7 +20,7 @@ suffix l [] n = record { rest = []; run = []; is = refl; inside = λ k o. absurd
 suffix l (u ∷ us) n = let s = suffix l us n in by_rest s.rest s.run s.is s.inside s.before
   where
     by_rest : (rest run : List ℕ) → us ≡ rest ++ run → ((k : ℕ) → 1 ≤ occurs run k → l k ≡ true) → l (last_or rest none) ≡ false → Suffix l (u ∷ us)
-    by_rest [] run is inside before = elim (cases_bool (l u)) [
+    by_rest [] run is inside before = elim (cases_Bool (l u)) [
       | inl t ↦ record {
         rest = [];
         run = u ∷ run;
@@ -45,7 +45,7 @@ pub record Prefix (l : ℕ → Bool) (vs : List ℕ) : Type 0 where
 
 pub prefix : (l : ℕ → Bool) (vs : List ℕ) → l none ≡ false → Prefix l vs
 prefix l [] n = record { run = []; rest = []; is = refl; inside = λ k o. absurd (omega arith); after = n }
-prefix l (v ∷ vs) n = elim (cases_bool (l v)) [
+prefix l (v ∷ vs) n = elim (cases_Bool (l v)) [
   | inl t ↦ let s = prefix l vs n in record {
     run = v ∷ s.run;
     rest = s.rest;

@@ -1,6 +1,6 @@
 -- Labelled ones of a list and their runs.
-use Rattle.std.proofs.Common.{Bool, List, [], ap, arith, cond, eq-eqb, eqb, false, inl, inr, length, refl, subst, sym, true, ℕ, ◌++◌, ◌+◌, ◌∙◌, ◌∷◌, ◌≡◌, ◌≢◌, ◌≤◌, ◌⊎◌}
-use Rattle.std.proofs.lemmas.Bool.{cases_eq, ne_eqb}
+use Rattle.std.proofs.Common.{Bool, List, [], ap, arith, cond, eq-eqb, eqb, false, inl, inr, length, refl, subst, sym, true, ℕ, ◌++◌, ◌+◌, ◌∙◌, ◌∷◌, ◌≡◌, ◌≢◌, ◌≤◌}
+use Rattle.std.proofs.lemmas.Bool.{cases_eq, ne_eqb, cases_Bool}
 use Rattle.arena_model.specs.ChildLists.{head_or, last_or, none}
 use Rattle.arena_model.proofs.Lists.{occurs_here, occurs_other}
 use Rattle.full_pass.specs.Passing.{marks, runs}
@@ -8,10 +8,6 @@ use Rattle.column_order.specs.Orders.{occurs}
 
 abbrev pub bit : Bool → ℕ
 bit b = cond b 1 0
-
-pub cases_bool : (b : Bool) → (b ≡ true) ⊎ (b ≡ false)
-cases_bool true = inl refl
-cases_bool false = inr refl
 
 pub true_false : (b : Bool) → b ≡ true → b ≡ false → ⊥
 true_false b e e' = cc
@@ -60,7 +56,7 @@ marks_all l (x ∷ xs) k m o =
     let a : bit (l x) ≤ 1 = bit_le (l x) in
     let b : marks l xs ≤ length xs = marks_le l xs in
     elim (cases_eq x k) [
-      | inl q ↦ elim (cases_bool (l x)) [
+      | inl q ↦ elim (cases_Bool (l x)) [
         | inl e ↦ subst (λ z. l z ≡ true) q e
         | inr e ↦ absurd (let c : bit (l x) ≡ 0 = ap bit e in omega arith)
       ]

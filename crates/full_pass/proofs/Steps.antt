@@ -1,6 +1,6 @@
 -- What the labelling of one node does to the parts.
 use Rattle.std.proofs.Common.{Bool, List, Some, arith, cond, eq-eqb, eqb, eqb-true, false, inl, inr, length, refl, subst, sym, true, ℕ, ◌++◌, ◌+◌, ◌-◌, ◌∙◌, ◌∷◌, ◌≡◌, ◌≢◌, ◌≤◌, ◌<◌}
-use Rattle.std.proofs.lemmas.Bool.{cases_eq, cases_lt}
+use Rattle.std.proofs.lemmas.Bool.{cases_eq, cases_lt, cases_Bool}
 use Rattle.arena_model.specs.declared.Shape.TheVariants.{P, Q}
 use Rattle.arena_model.specs.declared.TheConstants.{NODE_BOUND}
 use Rattle.pq_arena.specs.declared.node.NodeId.{NodeId}
@@ -14,7 +14,7 @@ use Rattle.full_pass.specs.Answer.{IsFullNode}
 use Rattle.full_pass.specs.Passing.{HasPart, InRing, InRun, IsAdded, Labelling, Pass, judged_as, marks, runs, total}
 use Rattle.full_pass.proofs.Shapes.{shapes_apart}
 use Rattle.full_pass.proofs.Sums.{changed, changed_here, changed_off, total_changed}
-use Rattle.full_pass.proofs.Marks.{OneMore, bit, cases_bool, marks_all, marks_le, marks_with, runs_same, runs_with, true_false}
+use Rattle.full_pass.proofs.Marks.{OneMore, bit, marks_all, marks_le, marks_with, runs_same, runs_with, true_false}
 use Rattle.full_pass.proofs.Closing.{close}
 use Rattle.column_order.specs.Orders.{occurs}
 use Rattle.column_order.proofs.Lists.{occurs-append}
@@ -73,7 +73,7 @@ pub record Above (l l' : ℕ → Bool) (x m : ℕ) (waiting : List ℕ) : Type 0
 pub above : (f : Layout) (row : List ℕ) (l l' : ℕ → Bool) (h : ℕ → ℕ) (x m : ℕ) (waiting : List ℕ) (n : ℕ) →
     Pass f row l h (x ∷ waiting) n → OneMore l l' x → 1 ≤ occurs (children_at f m) x → Above l l' x m waiting
 above f row l l' h x m waiting n pass more o =
-    let a : l m ≡ false = elim (cases_bool (l m)) [
+    let a : l m ≡ false = elim (cases_Bool (l m)) [
       | inl t ↦ absurd (true_false (l x) (pass.labels.filled_children m x t o) more.before)
       | inr e ↦ e
     ] in

@@ -1,6 +1,7 @@
 -- A Q-node whose run goes from end to end: all its children are labelled.
 use Rattle.std.proofs.Common.{Bool, List, None, Option, Some, [], ap, append_assoc, arith, cond, eqb, false, inl, inr, length, refl, subst, sym, true, ℕ, ◌++◌, ◌+◌, ◌<◌, ◌||◌, ◌∙◌, ◌∷◌, ◌≡◌, ◌≢◌, ◌≤◌}
 use Rattle.std.proofs.lemmas.Bool.{cases_eq, cases_lt, ne_eqb}
+use Rattle.std.proofs.lemmas.List.{append-nil}
 use Rattle.arena_model.specs.declared.Shape.TheVariants.{Q}
 use Rattle.pq_arena.specs.declared.node.NodeId.{NodeId}
 use Rattle.arena_model.specs.ChildLists.{end_parent, head_or, last_or, none}
@@ -77,7 +78,7 @@ all_labelled f l l' far up up' x q a b us vs s more ln runs ea eb ups na nb some
     let e1 : S.rest ≡ [] = left_end S.rest S.run S.is S.inside S.before is_a in
     let e2 : T.rest ≡ [] = right_end T.run T.rest T.is T.inside T.after is_b in
     let is : children_at f q ≡ S.run ++ x ∷ T.run =
-    s.is ∙ ap (λ z. z ++ x ∷ vs) (S.is ∙ ap (λ z. z ++ S.run) e1) ∙ ap (λ z. S.run ++ x ∷ z) (T.is ∙ ap (λ z. T.run ++ z) e2 ∙ append-nil' T.run) in
+    s.is ∙ ap (λ z. z ++ x ∷ vs) (S.is ∙ ap (λ z. z ++ S.run) e1) ∙ ap (λ z. S.run ++ x ∷ z) (T.is ∙ ap (λ z. T.run ++ z) e2 ∙ append-nil T.run) in
     let o : occurs (children_at f q) k ≡ occurs S.run k + occurs (x ∷ T.run) k = ap (λ z. occurs z k) is ∙ occurs-append S.run (x ∷ T.run) k in
     elim (cases_eq k x) [
       | inl e ↦ subst (λ z. l' z ≡ true) (sym e) more.after
@@ -91,10 +92,6 @@ all_labelled f l l' far up up' x q a b us vs s more ln runs ea eb ups na nb some
   where
     real : (k : ℕ) → 1 ≤ occurs (children_at f q) k → k ≢ none
     real k o = not_none f k s.layout (child_used f q k s.layout o)
-
-    append-nil' : (xs : List ℕ) → xs ++ [] ≡ xs
-    append-nil' [] = refl
-    append-nil' (y ∷ ys) = ap (λ z. y ∷ z) (append-nil' ys)
 
     in_us : (k : ℕ) → 1 ≤ occurs us k → 1 ≤ occurs (children_at f q) k
     in_us k o = subst (λ z. 1 ≤ occurs z k) (sym s.is) (omega (arith, occurs-append us (x ∷ vs) k))
@@ -118,8 +115,8 @@ all_labelled f l l' far up up' x q a b us vs s more ln runs ea eb ups na nb some
         let lu : l (last_or us none) ≡ false = ap (λ z. l (last_or z none)) is ∙ ap l (last_or-append rest [] none) ∙ stop in
         let z : bit (l (last_or us none)) ≡ 0 = ap bit lu in
         let v : head_or vs none ≢ none = (λ e. let z2 : bit (l (head_or vs none)) ≡ 0 = ap bit (ap l e ∙ ln) in omega arith) in
-        let k1 : children_at f q ≡ rest ++ x ∷ vs = s.is ∙ ap (λ z. z ++ x ∷ vs) (is ∙ append-nil' rest) in
-        real_end rest (λ k o. real k (in_us k (subst (λ z. 1 ≤ occurs z k) (sym (is ∙ append-nil' rest)) o)))
+        let k1 : children_at f q ≡ rest ++ x ∷ vs = s.is ∙ ap (λ z. z ++ x ∷ vs) (is ∙ append-nil rest) in
+        real_end rest (λ k o. real k (in_us k (subst (λ z. 1 ≤ occurs z k) (sym (is ∙ append-nil rest)) o)))
         (shown_end q (last_or rest none) (head_or vs none) (λ n. na (ap up' e ∙ ups q x rest vs s.sh k1 more.after ∙ n)) v)
     left_end rest (y ∷ ys) is inside stop e =
         let k1 : children_at f q ≡ rest ++ y ∷ (ys ++ x ∷ vs) = s.is ∙ ap (λ z. z ++ x ∷ vs) is ∙ append_assoc rest (y ∷ ys) (x ∷ vs) in

@@ -6,10 +6,9 @@ use Rattle.pq_tree.specs.Outline.{Outline, Forest, leaf, p_node, q_node, no_tree
 use Rattle.pq_tree.specs.Proper.{forest}
 use Rattle.arena_model.specs.declared.Shape.{Shape}
 use Rattle.arena_model.specs.declared.Shape.TheVariants.{Leaf, P, Q}
-use Rattle.arena_model.specs.Layout.{Layout, shape_at, children_at, MayHaveChildren, times_child, IsInUse, IsLayout}
+use Rattle.arena_model.specs.Layout.{Layout, shape_at, children_at, MayHaveChildren, IsLayout}
 use Rattle.arena_model.specs.NamedTree.{outline_below}
 use Rattle.arena_model.proofs.Lists.{occurs_other}
-use Rattle.arena_model.proofs.Slots.{children_times}
 use Rattle.arena_model.proofs.Outlines.{below_children}
 
 abbrev mutual
@@ -37,6 +36,3 @@ child_lower f n k P h sh o = let l : levels (outline_below f k) ≤ levels_of (f
     subst (λ t. levels (outline_below f k) < levels t) (sym (below_children f n P h sh)) (omega arith)
 child_lower f n k Q h sh o = let l : levels (outline_below f k) ≤ levels_of (forest (map (outline_below f) (children_at f n))) = levels_among (outline_below f) (children_at f n) k o in
     subst (λ t. levels (outline_below f k) < levels t) (sym (below_children f n Q h sh)) (omega arith)
-
-pub child_used : (f : Layout) (n k : ℕ) → IsLayout f → 1 ≤ occurs (children_at f n) k → IsInUse f k
-child_used f n k h o = h.used k (let a : occurs (children_at f n) k ≤ times_child f.slots k = children_times f n k in omega arith)

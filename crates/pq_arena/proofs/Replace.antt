@@ -1,5 +1,5 @@
 -- replace: new has the place of old.
-use Rattle.std.proofs.Common.{◌≡◌, ◌≢◌, inl, inr, ℕ, zero, suc, ◌+◌, ◌≤◌, ◌<◌, true, cond, eqb, ◌||◌, List, [], ◌∷◌, ◌++◌, length, set, Some, None, refl, sym, ap, subst, ◌∙◌, arith, eq-eqb, length-append}
+use Rattle.std.proofs.Common.{◌≡◌, ◌≢◌, inl, inr, ℕ, ◌+◌, ◌≤◌, ◌<◌, true, cond, eqb, ◌||◌, List, [], ◌∷◌, ◌++◌, length, set, Some, None, refl, sym, ap, subst, ◌∙◌, arith, eq-eqb, length-append}
 use Rattle.arena_model.specs.declared.TheConstants.{NODE_BOUND}
 use Rattle.std.proofs.lemmas.Bool.{cases_eq, ne_eqb}
 use Rattle.std.proofs.lemmas.List.{length-set, get_or_past, set-get_or}
@@ -9,7 +9,7 @@ use Rattle.pq_arena.specs.declared.node.Link.{Link}
 use Rattle.pq_arena.specs.declared.node.Head.{Head}
 use Rattle.arena_model.proofs.Lists.{occurs_here, occurs_same, occurs_other, occurs_last, only_one, head_or-append, last_or-append, parent_right, parent_left}
 use Rattle.arena_model.proofs.Paths.{above_step}
-use Rattle.arena_model.proofs.Slots.{in_range, used_by, children_same, children_other, shape_same, times_with, children_times, fewer_layout, more_layout, few_slots}
+use Rattle.arena_model.proofs.Slots.{in_range, used_by, children_same, children_other, shape_same, times_with, children_times, fewer_layout, more_layout, few_slots, set_set}
 use Rattle.arena_model.specs.ChildLists.{head_or, last_or, end_parent, none}
 use Rattle.arena_model.specs.Layout.{Slot, Layout, slot, shape_at, children_at, times_child, IsAtOrAbove, here, down, StandsAlone, MayHaveChildren, IsLayout, with_children}
 use Rattle.column_order.proofs.Lists.{occurs-append}
@@ -21,11 +21,6 @@ use Rattle.pq_arena.proofs.Runs.{Between, turned_between, redirect, between_pare
 use Rattle.pq_arena.proofs.Splice.{rel_off, rel_at, rel_len, differ, end_off, head_off, last_in, head_in}
 use Rattle.pq_arena.specs.StandsFor.{EachBetween, IsInRing, IsInRun, IsSeated, head_of, StandsFor}
 use Rattle.pq_arena.specs.Wiring.{seat, no_link, no_head, link, head, redirected, relinked_if, moved_to, swapped, end_swapped, heads_swapped, kind_of}
-
-set_set : (slots : List Slot) (p : ℕ) (a b : Slot) → set (set slots p a) p b ≡ set slots p b
-set_set [] p a b = refl
-set_set (c ∷ cs) zero a b = refl
-set_set (c ∷ cs) (suc p) a b = ap (λ z. c ∷ z) (set_set cs p a b)
 
 above_less : (slots slots' : List Slot) → ((m k : ℕ) → 1 ≤ occurs (slot slots' m).children k → 1 ≤ occurs (slot slots m).children k) →
     (a b : ℕ) → IsAtOrAbove slots' a b → IsAtOrAbove slots a b

@@ -14,7 +14,7 @@ use Rattle.arena_model.specs.ChildLists.{none}
 use Rattle.arena_model.specs.Layout.{Slot, Layout, slot, spare_slot, shape_at, children_at, times_child, grounded, IsAtOrAbove, here, down, MayHaveChildren, StandsAlone, IsLayout, with_children}
 use Rattle.arena_model.specs.NamedTree.{outline_below, outline_at, IsOneTree}
 use Rattle.arena_model.proofs.Lists.{occurs_here, occurs_same, occurs_other}
-use Rattle.arena_model.proofs.Slots.{some_none, children_same, children_other, shape_same, times_with}
+use Rattle.arena_model.proofs.Slots.{some_none, children_same, children_other, shape_same, times_with, set_set}
 use Rattle.arena_model.proofs.Outlines.{below_children, first_step}
 use Rattle.pq_arena.specs.declared.node.Link.{Link}
 use Rattle.pq_arena.specs.declared.node.Head.{Head}
@@ -95,11 +95,6 @@ p_first c used i l u = ap (λ b. cond b (Some (Leaf (i + 1))) (cond (ltb i used)
 
 spare_first : (c used i : ℕ) → c ≤ i → used ≤ i → first_shape c used i ≡ None
 spare_first c used i l u = ap (λ b. cond b (Some (Leaf (i + 1))) (cond (ltb i used) (Some P) None)) (le-ltb i c l) ∙ ap (λ b. cond b (Some P) None) (le-ltb i used u)
-
-set_set : (slots : List Slot) (p : ℕ) (a b : Slot) → set (set slots p a) p b ≡ set slots p b
-set_set [] p a b = refl
-set_set (c ∷ cs) zero a b = refl
-set_set (c ∷ cs) (suc p) a b = ap (λ z. c ∷ z) (set_set cs p a b)
 
 -- no slot has a child
 no_child : (g : ℕ → Option Shape) (xs : List ℕ) (x : ℕ) →

@@ -2,11 +2,11 @@
 use Rattle.std.proofs.Common.{◌≡◌, inl, inr, ℕ, zero, suc, ◌+◌, ◌≤◌, ◌<◌, List, [], ◌∷◌, length, sym, subst, arith}
 use Rattle.std.proofs.lemmas.Bool.{cases_eq, cases_lt}
 use Rattle.column_order.specs.Orders.{occurs}
-use Rattle.arena_model.specs.Layout.{Layout, children_at, times_child, IsAtOrAbove, here, down, IsInUse, StandsAlone, MayHaveChildren, IsLayout}
+use Rattle.arena_model.specs.Layout.{Layout, times_child, IsAtOrAbove, here, down, IsInUse, StandsAlone, IsLayout}
 use Rattle.arena_model.specs.NamedTree.{IsOneTree}
 use Rattle.arena_model.proofs.Lists.{occurs_other, occurs_same, few_once}
 use Rattle.arena_model.proofs.Paths.{top_alone}
-use Rattle.arena_model.proofs.Slots.{in_range, placed_in}
+use Rattle.arena_model.proofs.Slots.{in_range, placed_in, parent_used}
 use Rattle.arena_model.proofs.Trees.{no_circle}
 
 -- a node in use that is no child, at or above x
@@ -15,9 +15,6 @@ pub record TopOver (f : Layout) (x : ℕ) : Type 0 where
   pub used : IsInUse f node
   pub top : times_child f.slots node ≡ 0
   pub above : IsAtOrAbove f.slots node x
-
-parent_used : (f : Layout) (m x : ℕ) → IsLayout f → 1 ≤ occurs (children_at f m) x → IsInUse f m
-parent_used f m x h o = λ e. let z : 1 ≤ occurs [] x = subst (λ ks. 1 ≤ occurs ks x) (subst (λ s. MayHaveChildren s (children_at f m)) e (h.children_fit m)) o in absurd (omega arith)
 
 -- from x upwards, xs being the nodes on the way
 upwards : (f : Layout) (fuel x y : ℕ) (xs : List ℕ) → IsLayout f → ((z : ℕ) → occurs (x ∷ xs) z ≤ 1) → ((z : ℕ) → 1 ≤ occurs (x ∷ xs) z → IsInUse f z × IsAtOrAbove f.slots x z) →
@@ -38,7 +35,7 @@ upwards f (suc fuel) x y xs h once each oy enough = elim (cases_lt 0 (times_chil
         | inr ne ↦ let o : occurs (x ∷ xs) z ≤ 1 = once z in omega (arith, occurs_other m.0 z (x ∷ xs) ne)
       ])
       (λ z o. elim (cases_eq z m.0) [
-        | inl e ↦ (subst (λ v. IsInUse f v) (sym e) (parent_used f m.0 x h m.1), subst (λ v. IsAtOrAbove f.slots m.0 v) (sym e) (here m.0))
+        | inl e ↦ (subst (λ v. IsInUse f v) (sym e) (parent_used f m.0 x m.1 h), subst (λ v. IsAtOrAbove f.slots m.0 v) (sym e) (here m.0))
         | inr ne ↦ let p = each z (subst (λ v. 1 ≤ v) (occurs_other m.0 z (x ∷ xs) ne) o) in (p.0, down m.0 x z m.1 p.1)
       ])
       (let k : 1 ≤ occurs (x ∷ xs) y = oy in omega arith) (omega arith)

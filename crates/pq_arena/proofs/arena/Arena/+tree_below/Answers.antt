@@ -1,5 +1,6 @@
 use Rattle.std.proofs.Common.{◌∙◌, ℕ, ◌≤◌, ◌<◌, map, get_or, Some, sym, ap, subst, arith}
 use Rattle.std.proofs.lemmas.List.{take_all}
+use Rattle.arena_model.proofs.Slots.{child_used}
 use Rattle.column_order.specs.Orders.{occurs}
 use Rattle.arena_model.specs.declared.Shape.TheVariants.{Leaf}
 use Rattle.arena_model.specs.Layout.{children_at}
@@ -8,7 +9,7 @@ use Rattle.arena_model.proofs.Lists.{occurs_at}
 use Rattle.arena_model.proofs.Outlines.{below_children}
 use Rattle.pq_tree.specs.Proper.{outline_of, forest}
 use Rattle.pq_tree.proofs.Shown.{outline_of-Leaf}
-use Rattle.pq_arena.proofs.Levels.{levels, child_lower, child_used}
+use Rattle.pq_arena.proofs.Levels.{levels, child_lower}
 use Rattle.pq_arena.proofs.arena.Arena.+tree_below.Goals as goal
 
 pub returns-in-Leaf : goal.returns-in-Leaf
