@@ -1,5 +1,5 @@
 // Runs of `core` and `check-core`.
-use crate::runs::{Reply, Stopped, first_other, first_unstopped, is_left, outcome_of};
+use crate::runs::{are_outside, first_other, is_left, outcome_of};
 use pq_io::NoMemory;
 use std::alloc::Global;
 use std::test::Fail;
@@ -47,47 +47,32 @@ fn the_rows_to_blame_are_found(rt: HostRuntime) -> Result<(), Fail> {
 }
 
 // A matrix that has an order has no core.
-const ORDERED: &[Reply] = &[(
-    &["core", "matrix", "matrix"],
-    b"110\n011\n",
-    b"",
-    1,
-    b"pq-verdict 2\nkind matrix\ncolumns 3\nanswer yes\ntree [1 2 3]\norder 1 2 3\nend\n",
-)];
-
 #[test]
 fn where_there_is_an_order_the_verdict_is_written(rt: HostRuntime) -> Result<(), Fail> {
-    assert_eq!(rt; first_other(rt.alloc(), ORDERED)?, None);
+    let verdict =
+        b"pq-verdict 2\nkind matrix\ncolumns 3\nanswer yes\ntree [1 2 3]\norder 1 2 3\nend\n";
+    let left = outcome_of(
+        rt.alloc(),
+        &["core", "matrix", "matrix"],
+        b"110\n011\n",
+        b"",
+    )?;
+    assert!(rt; is_left(&left, 1, verdict, b""));
     Ok(())
 }
 
 // No matrix but a plain one has a core, and one file at most is standard input.
-const STOPPED: &[Stopped] = &[
-    (
-        &["core", "circular", "matrix", "verdict"],
-        FOUR,
-        b"",
-        2,
-        b"pq: words\n",
-    ),
-    (
-        &["check-core", "clones", "matrix", "verdict"],
-        FOUR,
-        b"",
-        2,
-        b"pq: words\n",
-    ),
-    (
-        &["check-core", "matrix", "-", "-"],
-        FOUR,
-        b"",
-        2,
-        b"pq: words\n",
-    ),
+const OUTSIDE: &[&[&str]] = &[
+    &["core", "circular", "matrix", "verdict"],
+    &["check-core", "clones", "matrix", "verdict"],
+    &["check-core", "matrix", "-", "-"],
 ];
 
 #[test]
 fn other_words_are_outside(rt: HostRuntime) -> Result<(), Fail> {
-    assert_eq!(rt; first_unstopped(rt.alloc(), STOPPED)?, None);
+    assert_eq!(rt;
+        first_other(OUTSIDE, |words| are_outside(rt.alloc(), words))?,
+        None
+    );
     Ok(())
 }

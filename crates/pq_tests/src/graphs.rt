@@ -1,7 +1,7 @@
 // Runs over circular orders, graphs and distances.
 use crate::runs::{
-    Checked, FIRST_LINES, Solved, Stopped, first_misjudged, first_unsolved, first_unstopped,
-    is_checked, is_left, outcome_of,
+    FIRST_LINES, Refused, Solved, first_other, is_checked, is_left, is_refusal, is_solved,
+    outcome_of,
 };
 use pq_io::NoMemory;
 use std::alloc::Global;
@@ -43,7 +43,10 @@ const SOLVED: &[Solved] = &[
 
 #[test]
 fn files_with_an_order(rt: HostRuntime) -> Result<(), Fail> {
-    assert_eq!(rt; first_unsolved(rt.alloc(), SOLVED)?, None);
+    assert_eq!(rt;
+        first_other(SOLVED, |row| is_solved(rt.alloc(), row))?,
+        None
+    );
     Ok(())
 }
 
@@ -113,57 +116,48 @@ fn is_valid(
     Ok(first && second)
 }
 
-// The first file that is answered otherwise.
-fn first_ordered(alloc: Global, files: &[Unsolved]) -> Result<Option<usize>, NoMemory> {
-    for (i, file) in files.iter().enumerate() {
-        if !is_unsolved(alloc, file)? {
-            return Ok(Some(i));
-        }
-    }
-    Ok(None)
-}
-
 // Which odd cycle is printed is free.
 #[test]
 fn files_without_an_order(rt: HostRuntime) -> Result<(), Fail> {
-    assert_eq!(rt; first_ordered(rt.alloc(), UNSOLVED)?, None);
+    assert_eq!(rt;
+        first_other(UNSOLVED, |row| is_unsolved(rt.alloc(), row))?,
+        None
+    );
     Ok(())
 }
 
 // The last interval lies inside the one before it.
-const JUDGED: &[Checked] = &[(
-    "proper",
-    b"4\n1 2\n2 3\n3 4\n",
-    b"kind proper\ncolumns 4\nanswer yes\ntree [1 2 3 4]\norder 1 2 3 4\ninterval 1 5 10\ninterval 2 10 15\ninterval 3 15 20\ninterval 4 20 20\nend\n",
-    b"invalid intervals\n",
-)];
-
 #[test]
 fn intervals_are_judged(rt: HostRuntime) -> Result<(), Fail> {
-    assert_eq!(rt; first_misjudged(rt.alloc(), JUDGED)?, None);
+    let path = b"4\n1 2\n2 3\n3 4\n";
+    let rest =
+        b"kind proper\ncolumns 4\nanswer yes\ntree [1 2 3 4]\norder 1 2 3 4\ninterval 1 5 10\ninterval 2 10 15\ninterval 3 15 20\ninterval 4 20 20\nend\n";
+    for first in FIRST_LINES {
+        assert!(rt;
+            is_checked(
+                rt.alloc(),
+                "proper",
+                path,
+                first,
+                rest,
+                b"invalid intervals\n"
+            )?
+        );
+    }
     Ok(())
 }
 
 // An edge from a vertex to itself, and distances that are not the same both ways.
-const STOPPED: &[Stopped] = &[
-    (
-        &["solve", "proper", "matrix"],
-        b"2\n1 1\n",
-        b"",
-        3,
-        b"pq: refused 1 code 6 line 2\n",
-    ),
-    (
-        &["solve", "robinson", "matrix"],
-        b"3\n0 1 2\n1 0 1\n2 2 0\n",
-        b"",
-        3,
-        b"pq: refused 1 code 6 line 4\n",
-    ),
+const REFUSED: &[Refused] = &[
+    ("proper", b"2\n1 1\n", 6, 2),
+    ("robinson", b"3\n0 1 2\n1 0 1\n2 2 0\n", 6, 4),
 ];
 
 #[test]
 fn files_that_are_no_graph(rt: HostRuntime) -> Result<(), Fail> {
-    assert_eq!(rt; first_unstopped(rt.alloc(), STOPPED)?, None);
+    assert_eq!(rt;
+        first_other(REFUSED, |row| is_refusal(rt.alloc(), row))?,
+        None
+    );
     Ok(())
 }

@@ -1,7 +1,7 @@
 // Runs over matrices.
 use crate::runs::{
-    Checked, Solved, Stopped, first_misjudged, first_unsolved, first_unstopped, is_left,
-    outcome_of, outcome_with,
+    Refused, Solved, are_outside, first_other, is_left, is_refusal, is_solved, outcome_of,
+    outcome_with,
 };
 use matrix_read::read_dense;
 use pq_io::NoMemory;
@@ -56,7 +56,10 @@ const SOLVED: &[Solved] = &[
 
 #[test]
 fn matrices_with_a_valid_order(rt: HostRuntime) -> Result<(), Fail> {
-    assert_eq!(rt; first_unsolved(rt.alloc(), SOLVED)?, None);
+    assert_eq!(rt;
+        first_other(SOLVED, |row| is_solved(rt.alloc(), row))?,
+        None
+    );
     Ok(())
 }
 
@@ -94,165 +97,68 @@ fn is_no_on(alloc: Global, file: &[u8], text: &[u8]) -> Result<bool, Fail> {
 // Matrices without a valid order.
 const WITHOUT: &[&[u8]] = &[b"110\n011\n101\n", b"110000\n001100\n000011\n010101\n"];
 
-// The first of the matrices that is not answered by a no with an odd cycle, or whose verdict is not valid for `check`.
-fn first_without_a_cycle(alloc: Global, matrices: &[&[u8]]) -> Result<Option<usize>, Fail> {
-    for (i, matrix) in matrices.iter().enumerate() {
-        let solved = outcome_of(alloc, &["solve", "matrix", "matrix"], matrix, b"")?;
-        let words = ["check", "matrix", "matrix", "verdict"];
-        let checked = outcome_of(alloc, &words, matrix, solved.out.bytes())?;
-        let is_no = is_no_on(alloc, matrix, solved.out.bytes())?;
-        if !is_no
-            || !is_left(&solved, 1, solved.out.bytes(), b"")
-            || !is_left(&checked, 0, b"valid\n", b"")
-        {
-            return Ok(Some(i));
-        }
-    }
-    Ok(None)
+// Whether a matrix is answered by a no with an odd cycle, which is valid for `check`.
+fn is_unsolved(alloc: Global, matrix: &[u8]) -> Result<bool, Fail> {
+    let solved = outcome_of(alloc, &["solve", "matrix", "matrix"], matrix, b"")?;
+    let words = ["check", "matrix", "matrix", "verdict"];
+    let checked = outcome_of(alloc, &words, matrix, solved.out.bytes())?;
+    let is_told = is_left(&solved, 1, solved.out.bytes(), b"");
+    Ok(
+        is_told
+            && is_no_on(alloc, matrix, solved.out.bytes())?
+            && is_left(&checked, 0, b"valid\n", b""),
+    )
 }
 
 // Which odd cycle is printed is free.
 #[test]
 fn matrices_without_a_valid_order(rt: HostRuntime) -> Result<(), Fail> {
-    assert_eq!(rt; first_without_a_cycle(rt.alloc(), WITHOUT)?, None);
+    assert_eq!(rt;
+        first_other(WITHOUT, |matrix| is_unsolved(rt.alloc(), matrix))?,
+        None
+    );
     Ok(())
 }
 
-// Verdicts of no, and of yes, and what is said of them in both versions.
-const JUDGED: &[Checked] = &[
-    (
-        "matrix",
-        b"110\n011\n101\n",
-        b"kind matrix\ncolumns 3\nanswer no\nside 1\ncycle 3\n1 3 row 1\n3 2 row 3\n2 1 row 2\nend\n",
-        b"valid\n",
-    ),
-    (
-        "matrix",
-        b"110\n011\n101\n",
-        b"kind matrix\ncolumns 3\nanswer no\nside 1\ncycle 2\n1 3 row 1\n3 2 row 3\nend\n",
-        b"invalid length 2\n",
-    ),
-    (
-        "matrix",
-        b"110\n011\n101\n",
-        b"kind matrix\ncolumns 3\nanswer no\nside 1\ncycle 5\n1 3 flip\n3 1 flip\n1 3 row 1\n3 2 row 3\n2 1 row 2\nend\n",
-        b"invalid repeat 3\n",
-    ),
-    (
-        "matrix",
-        b"110\n011\n101\n",
-        b"kind matrix\ncolumns 3\nanswer no\nside 1\ncycle 3\n1 3 row 1\n3 2 row 3\n2 1 row 9\nend\n",
-        b"invalid join 3\n",
-    ),
-    (
-        "matrix",
-        b"110\n011\n101\n",
-        b"kind matrix\ncolumns 3\nanswer no\nside 1\ncycle 3\n1 3 row 1\n3 2 row 3\n2 1 row 2\nend\n\n",
-        b"invalid text\n",
-    ),
-    (
-        "matrix",
-        b"110\n011\n",
-        b"kind matrix\ncolumns 3\nanswer yes\ntree [1 2 3]\norder 1 2 3\nend\n",
-        b"valid\n",
-    ),
-    (
-        "matrix",
-        b"110\n011\n",
-        b"kind matrix\ncolumns 3\nanswer yes\ntree [1 2 3]\norder 1 3 2\nend\n",
-        b"invalid order 1\n",
-    ),
-    (
-        "matrix",
-        b"110\n011\n",
-        b"kind matrix\ncolumns 3\nanswer yes\ntree (1 2 3)\norder 1 2 3\nend\n",
-        b"invalid tree 1 1\n",
-    ),
-    (
-        "matrix",
-        b"110\n011\n",
-        b"kind rows\ncolumns 3\nanswer yes\ntree [1 2 3]\norder 1 2 3\nend\n",
-        b"invalid kind\n",
-    ),
-    (
-        "matrix",
-        b"110\n011\n",
-        b"kind matrix\ncolumns 3\nanswer yes\ntree [1 2 2]\norder 1 2 3\nend\n",
-        b"invalid text\n",
-    ),
+// Files that are no matrix.
+const REFUSED: &[Refused] = &[
+    ("matrix", b"110\n01\n", 3, 2),
+    ("matrix", b"", 1, 0),
+    ("matrix", b"12\n", 2, 1),
 ];
 
 #[test]
-fn verdicts_are_judged(rt: HostRuntime) -> Result<(), Fail> {
-    assert_eq!(rt; first_misjudged(rt.alloc(), JUDGED)?, None);
+fn files_that_are_no_matrix(rt: HostRuntime) -> Result<(), Fail> {
+    assert_eq!(rt;
+        first_other(REFUSED, |row| is_refusal(rt.alloc(), row))?,
+        None
+    );
     Ok(())
 }
 
-// Files that are no matrix, words outside the grammar, and a file that is missing.
-const STOPPED: &[Stopped] = &[
-    (
-        &["solve", "matrix", "matrix"],
-        b"110\n01\n",
-        b"",
-        3,
-        b"pq: refused 1 code 3 line 2\n",
-    ),
-    (
-        &["solve", "matrix", "matrix"],
-        b"",
-        b"",
-        3,
-        b"pq: refused 1 code 1 line 0\n",
-    ),
-    (
-        &["solve", "matrix", "matrix"],
-        b"12\n",
-        b"",
-        3,
-        b"pq: refused 1 code 2 line 1\n",
-    ),
-    (&[], b"1\n", b"", 2, b"pq: words\n"),
-    (&["solve", "matrix"], b"1\n", b"", 2, b"pq: words\n"),
-    (
-        &["solve", "matrix", "matrix", "matrix"],
-        b"1\n",
-        b"",
-        2,
-        b"pq: words\n",
-    ),
-    (
-        &["solve", "matrices", "matrix"],
-        b"1\n",
-        b"",
-        2,
-        b"pq: words\n",
-    ),
-    (
-        &["check", "matrix", "matrix"],
-        b"1\n",
-        b"",
-        2,
-        b"pq: words\n",
-    ),
-    (
-        &["check", "matrix", "-", "-"],
-        b"1\n",
-        b"",
-        2,
-        b"pq: words\n",
-    ),
-    (
-        &["solve", "matrix", "missing"],
-        b"1\n",
-        b"",
-        4,
-        b"pq: read fault\n",
-    ),
+// Words outside the grammar.
+const OUTSIDE: &[&[&str]] = &[
+    &[],
+    &["solve", "matrix"],
+    &["solve", "matrix", "matrix", "matrix"],
+    &["solve", "matrices", "matrix"],
+    &["check", "matrix", "matrix"],
+    &["check", "matrix", "-", "-"],
 ];
 
 #[test]
-fn runs_that_stop(rt: HostRuntime) -> Result<(), Fail> {
-    assert_eq!(rt; first_unstopped(rt.alloc(), STOPPED)?, None);
+fn words_outside_the_grammar(rt: HostRuntime) -> Result<(), Fail> {
+    assert_eq!(rt;
+        first_other(OUTSIDE, |words| are_outside(rt.alloc(), words))?,
+        None
+    );
+    Ok(())
+}
+
+#[test]
+fn a_file_that_is_missing(rt: HostRuntime) -> Result<(), Fail> {
+    let left = outcome_of(rt.alloc(), &["solve", "matrix", "missing"], b"1\n", b"")?;
+    assert!(rt; is_left(&left, 4, b"", b"pq: read fault\n"));
     Ok(())
 }
 
@@ -308,19 +214,17 @@ const CRAMPED: &[Cramped] = &[
     ),
 ];
 
-// The first run that leaves something else in its room.
-fn first_uncramped(alloc: Global, runs: &[Cramped]) -> Result<Option<usize>, NoMemory> {
-    for (i, (words, matrix, room, err_room, status, out, err)) in runs.iter().enumerate() {
-        let left = outcome_with(alloc, words, matrix, b"", *room, *err_room)?;
-        if !is_left(&left, *status, out, err) {
-            return Ok(Some(i));
-        }
-    }
-    Ok(None)
+// Whether a run leaves this in its room.
+fn is_cramped(alloc: Global, row: &Cramped) -> Result<bool, NoMemory> {
+    let (words, matrix, room, err_room, status, out, err) = *row;
+    let left = outcome_with(alloc, words, matrix, b"", room, err_room)?;
+    Ok(is_left(&left, status, out, err))
 }
 
 #[test]
 fn sinks_without_room(rt: HostRuntime) -> Result<(), Fail> {
-    assert_eq!(rt; first_uncramped(rt.alloc(), CRAMPED)?, None);
+    for (i, row) in CRAMPED.iter().enumerate() {
+        assert!(rt; is_cramped(rt.alloc(), row)?, "{i}");
+    }
     Ok(())
 }

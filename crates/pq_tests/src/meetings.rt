@@ -1,35 +1,31 @@
 // Runs of `meet`.
-use crate::runs::{Reply, Stopped, first_other, first_unstopped, outcome_of, tells_cycle};
+use crate::runs::{are_outside, first_other, is_left, is_refused, outcome_of, tells_cycle};
+use pq_io::NoMemory;
+use std::alloc::Global;
 use std::test::Fail;
 
-// Two trees that share orders.
-const SHARED: &[Reply] = &[
-    (
-        &["meet", "3", "matrix", "verdict"],
-        b"(1 (2 3))",
-        b"((1 2) 3)",
-        0,
-        b"pq-meet 1\ncolumns 3\nrows 2 2\nanswer yes\ntree [1 2 3]\norder 1 2 3\nend\n",
-    ),
-    (
-        &["meet", "03", "matrix", "verdict"],
-        b"\xEF\xBB\xBF[1 2 3]\n",
-        b"(1 (2 3))\r\n",
-        0,
-        b"pq-meet 1\ncolumns 3\nrows 3 2\nanswer yes\ntree [1 2 3]\norder 1 2 3\nend\n",
-    ),
-    (
-        &["meet", "1", "matrix", "verdict"],
-        b"1",
-        b"1",
-        0,
-        b"pq-meet 1\ncolumns 1\nrows 0 0\nanswer yes\ntree 1\norder 1\nend\n",
-    ),
-];
+// Whether two trees over so many columns are met with this reply.
+fn is_met(alloc: Global, columns: &str, trees: [&[u8]; 2], out: &[u8]) -> Result<bool, NoMemory> {
+    let words = ["meet", columns, "matrix", "verdict"];
+    let left = outcome_of(alloc, &words, trees[0], trees[1])?;
+    Ok(is_left(&left, 0, out, b""))
+}
 
 #[test]
 fn two_trees_that_share_orders(rt: HostRuntime) -> Result<(), Fail> {
-    assert_eq!(rt; first_other(rt.alloc(), SHARED)?, None);
+    let out = b"pq-meet 1\ncolumns 3\nrows 2 2\nanswer yes\ntree [1 2 3]\norder 1 2 3\nend\n";
+    assert!(rt; is_met(rt.alloc(), "3", [b"(1 (2 3))", b"((1 2) 3)"], out)?);
+    let out = b"pq-meet 1\ncolumns 3\nrows 3 2\nanswer yes\ntree [1 2 3]\norder 1 2 3\nend\n";
+    assert!(rt;
+        is_met(
+            rt.alloc(),
+            "03",
+            [b"\xEF\xBB\xBF[1 2 3]\n", b"(1 (2 3))\r\n"],
+            out
+        )?
+    );
+    let out = b"pq-meet 1\ncolumns 1\nrows 0 0\nanswer yes\ntree 1\norder 1\nend\n";
+    assert!(rt; is_met(rt.alloc(), "1", [b"1", b"1"], out)?);
     Ok(())
 }
 
@@ -44,131 +40,47 @@ fn two_trees_that_share_no_order(rt: HostRuntime) -> Result<(), Fail> {
     Ok(())
 }
 
-// Files that are no trees, and words outside the grammar.
-const STOPPED: &[Stopped] = &[
-    (
-        &["meet", "3", "matrix", "verdict"],
-        b"(1 1 2)",
-        b"(1 2 3)",
-        3,
-        b"pq: refused 1 code 12 line 0\n",
-    ),
-    (
-        &["meet", "3", "matrix", "verdict"],
-        b"(1 2 3)",
-        b"(1 1 2)",
-        3,
-        b"pq: refused 2 code 12 line 0\n",
-    ),
-    (
-        &["meet", "3", "matrix", "verdict"],
-        b"(1 2)",
-        b"(1 2 3)",
-        3,
-        b"pq: refused 1 code 12 line 0\n",
-    ),
-    (
-        &["meet", "3", "matrix", "verdict"],
-        b"(1 2 3)",
-        b"(1 2)",
-        3,
-        b"pq: refused 2 code 12 line 0\n",
-    ),
-    (
-        &["meet", "3", "matrix", "verdict"],
-        b"(1 2 3)\n\n",
-        b"(1 2 3)",
-        3,
-        b"pq: refused 1 code 12 line 0\n",
-    ),
-    (
-        &["meet", "3", "matrix", "verdict"],
-        b"(1 2 3)",
-        b"(1 2 3)\n\n",
-        3,
-        b"pq: refused 2 code 12 line 0\n",
-    ),
-    (
-        &["meet", "3", "matrix", "verdict"],
-        b"(1 2 3)\r",
-        b"(1 2 3)",
-        3,
-        b"pq: refused 1 code 12 line 0\n",
-    ),
-    (
-        &["meet", "3", "matrix", "verdict"],
-        b"(1 2 3)",
-        b"(1 2 3)\r",
-        3,
-        b"pq: refused 2 code 12 line 0\n",
-    ),
-    (
-        &["meet", "3", "matrix", "verdict"],
-        b" (1 2 3)",
-        b"(1 2 3)",
-        3,
-        b"pq: refused 1 code 12 line 0\n",
-    ),
-    (
-        &["meet", "3", "matrix", "verdict"],
-        b"(1 2 3)",
-        b" (1 2 3)",
-        3,
-        b"pq: refused 2 code 12 line 0\n",
-    ),
-    (
-        &["meet", "3", "matrix", "verdict"],
-        b"",
-        b"(1 2 3)",
-        3,
-        b"pq: refused 1 code 12 line 0\n",
-    ),
-    (
-        &["meet", "3", "matrix", "verdict"],
-        b"(1 2 3)",
-        b"",
-        3,
-        b"pq: refused 2 code 12 line 0\n",
-    ),
-    (
-        &["meet", "0", "matrix", "verdict"],
-        b"(1 2 3)",
-        b"(1 2 3)",
-        2,
-        b"pq: words\n",
-    ),
-    (
-        &["meet", "2049", "matrix", "verdict"],
-        b"(1 2 3)",
-        b"(1 2 3)",
-        2,
-        b"pq: words\n",
-    ),
-    (
-        &["meet", "three", "matrix", "verdict"],
-        b"(1 2 3)",
-        b"(1 2 3)",
-        2,
-        b"pq: words\n",
-    ),
-    (
-        &["meet", "3", "-", "-"],
-        b"(1 2 3)",
-        b"(1 2 3)",
-        2,
-        b"pq: words\n",
-    ),
-    (
-        &["meet", "3", "matrix"],
-        b"(1 2 3)",
-        b"(1 2 3)",
-        2,
-        b"pq: words\n",
-    ),
+// Files that are no trees over three columns.
+const NO_TREES: &[&[u8]] = &[
+    b"(1 1 2)",
+    b"(1 2)",
+    b"(1 2 3)\n\n",
+    b"(1 2 3)\r",
+    b" (1 2 3)",
+    b"",
+];
+
+// Whether a file is refused where it is that of the first tree, and of the second.
+fn is_no_tree(alloc: Global, file: &[u8]) -> Result<bool, NoMemory> {
+    let words = ["meet", "3", "matrix", "verdict"];
+    let first = is_refused(alloc, &words, [file, b"(1 2 3)"], 1, 12, 0)?;
+    let second = is_refused(alloc, &words, [b"(1 2 3)", file], 2, 12, 0)?;
+    Ok(first && second)
+}
+
+#[test]
+fn files_that_are_no_trees(rt: HostRuntime) -> Result<(), Fail> {
+    assert_eq!(rt;
+        first_other(NO_TREES, |file| is_no_tree(rt.alloc(), file))?,
+        None
+    );
+    Ok(())
+}
+
+// Words outside the grammar.
+const OUTSIDE: &[&[&str]] = &[
+    &["meet", "0", "matrix", "verdict"],
+    &["meet", "2049", "matrix", "verdict"],
+    &["meet", "three", "matrix", "verdict"],
+    &["meet", "3", "-", "-"],
+    &["meet", "3", "matrix"],
 ];
 
 #[test]
-fn runs_of_meet_that_stop(rt: HostRuntime) -> Result<(), Fail> {
-    assert_eq!(rt; first_unstopped(rt.alloc(), STOPPED)?, None);
+fn words_of_meet_outside_the_grammar(rt: HostRuntime) -> Result<(), Fail> {
+    assert_eq!(rt;
+        first_other(OUTSIDE, |words| are_outside(rt.alloc(), words))?,
+        None
+    );
     Ok(())
 }

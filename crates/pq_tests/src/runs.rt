@@ -6,6 +6,21 @@ use std::alloc::Global;
 // The room of the output and of the line of errors, where a table asks for no other.
 const ROOM: usize = 5000;
 
+// The index of the first row that is not as is wanted.
+pub fn first_other<T, E, F: Fn(&T) -> Result<bool, E>>(
+    rows: &[T],
+    is_wanted: F,
+) -> Result<Option<usize>, E>
+    requires { F.IsAlwaysCallable is_wanted }
+{
+    for (i, row) in rows.iter().enumerate() {
+        if !is_wanted(row)? {
+            return Ok(Some(i));
+        }
+    }
+    Ok(None)
+}
+
 // What a run left.
 #[derive(Drop)]
 pub struct Outcome {
@@ -53,64 +68,52 @@ pub fn is_left(left: &Outcome, status: u8, out: &[u8], err: &[u8]) -> bool {
     left.status == status && left.out.bytes() == out && left.err.bytes() == err
 }
 
-// The words of a run, the bytes of its files `matrix` and `verdict`, and the status and the output that are wanted; no
-// line of errors is.
-pub type Reply = (
-    &'static [&'static str],
-    &'static [u8],
-    &'static [u8],
-    u8,
-    &'static [u8],
-);
-
-// The first run that replies otherwise than its row says.
-pub fn first_other(alloc: Global, runs: &[Reply]) -> Result<Option<usize>, NoMemory> {
-    for (i, (words, matrix, verdict, status, out)) in runs.iter().enumerate() {
-        let left = outcome_of(alloc, words, matrix, verdict)?;
-        if !is_left(&left, *status, out, b"") {
-            return Ok(Some(i));
-        }
-    }
-    Ok(None)
+// Whether words over files have the file of this number refused, with this code and line.
+pub fn is_refused(
+    alloc: Global,
+    words: &[&str],
+    files: [&[u8]; 2],
+    which: u8,
+    code: u8,
+    line: u8,
+) -> Result<bool, NoMemory> {
+    let left = outcome_of(alloc, words, files[0], files[1])?;
+    let err = format!(in alloc; "pq: refused {which} code {code} line {line}\n")?;
+    Ok(is_left(&left, 3, b"", err.as_bytes()))
 }
 
-// The words of a run, the bytes of its files, and the status and the line of errors with which it has to stop.
-pub type Stopped = (
-    &'static [&'static str],
-    &'static [u8],
-    &'static [u8],
-    u8,
-    &'static [u8],
-);
+// A kind, the bytes of a file, and the code and the line with which `solve` has to refuse it.
+pub type Refused = (&'static str, &'static [u8], u8, u8);
 
-// The first run that does not stop as its row says, or writes something.
-pub fn first_unstopped(alloc: Global, runs: &[Stopped]) -> Result<Option<usize>, NoMemory> {
-    for (i, (words, matrix, verdict, status, err)) in runs.iter().enumerate() {
-        let left = outcome_of(alloc, words, matrix, verdict)?;
-        if !is_left(&left, *status, b"", err) {
-            return Ok(Some(i));
-        }
-    }
-    Ok(None)
+// Whether a file is refused as its row says.
+pub fn is_refusal(alloc: Global, row: &Refused) -> Result<bool, NoMemory> {
+    let (kind, file, code, line) = *row;
+    is_refused(
+        alloc,
+        &["solve", kind, "matrix"],
+        [file, b""],
+        1,
+        code,
+        line,
+    )
+}
+
+// Whether words are outside the grammar.
+pub fn are_outside(alloc: Global, words: &[&str]) -> Result<bool, NoMemory> {
+    let left = outcome_of(alloc, words, b"1\n", b"1\n")?;
+    Ok(is_left(&left, 2, b"", b"pq: words\n"))
 }
 
 // A kind, the bytes of a file, and the verdict of yes that `solve` has to give.
 pub type Solved = (&'static str, &'static [u8], &'static [u8]);
 
-// The first file that is not solved as its row says, or whose verdict is not valid for `check`.
-pub fn first_unsolved(alloc: Global, files: &[Solved]) -> Result<Option<usize>, NoMemory> {
-    for (i, (kind, file, verdict)) in files.iter().enumerate() {
-        let solved = outcome_of(alloc, &["solve", *kind, "matrix"], file, b"")?;
-        let checked = outcome_of(alloc, &["check", *kind, "matrix", "verdict"], file, verdict)?;
-        if !is_left(&solved, 0, verdict, b"") || !is_left(&checked, 0, b"valid\n", b"") {
-            return Ok(Some(i));
-        }
-    }
-    Ok(None)
+// Whether a file is solved as its row says, and the verdict is valid for `check`.
+pub fn is_solved(alloc: Global, row: &Solved) -> Result<bool, NoMemory> {
+    let (kind, file, verdict) = *row;
+    let solved = outcome_of(alloc, &["solve", kind, "matrix"], file, b"")?;
+    let checked = outcome_of(alloc, &["check", kind, "matrix", "verdict"], file, verdict)?;
+    Ok(is_left(&solved, 0, verdict, b"") && is_left(&checked, 0, b"valid\n", b""))
 }
-
-// A kind, the bytes of a file, a verdict without its first line, and the line that `check` has to write.
-pub type Checked = (&'static str, &'static [u8], &'static [u8], &'static [u8]);
 
 // The first lines of the two versions.
 pub const FIRST_LINES: [&[u8]; 2] = [b"pq-verdict 1\n", b"pq-verdict 2\n"];
@@ -129,18 +132,6 @@ pub fn is_checked(
     let left = outcome_of(alloc, &["check", kind, "matrix", "verdict"], file, &verdict)?;
     let status = if line == b"valid\n".as_slice() { 0 } else { 1 };
     Ok(is_left(&left, status, line, b""))
-}
-
-// The first verdict that is checked otherwise than its row says, in either version.
-pub fn first_misjudged(alloc: Global, verdicts: &[Checked]) -> Result<Option<usize>, NoMemory> {
-    for (i, (kind, file, rest, line)) in verdicts.iter().enumerate() {
-        for first in FIRST_LINES {
-            if !is_checked(alloc, kind, file, first, rest, line)? {
-                return Ok(Some(i));
-            }
-        }
-    }
-    Ok(None)
 }
 
 // Whether words over files leave the no that `solve` leaves on the first of them.

@@ -3,8 +3,8 @@ ghost use Rattle.std.specs.Prelude.{◌≤◌, length};
 ghost use Rattle.row_model.specs.declared.TheConstants.{MAX_COLUMNS, MAX_ROWS};
 
 use crate::runs::{
-    Outcome, Reply, Stopped, between, first_other, first_unstopped, is_left, is_solved_alike,
-    outcome_of, tells_cycle,
+    Outcome, are_outside, between, first_other, is_left, is_refused, is_solved_alike, outcome_of,
+    tells_cycle,
 };
 use pq_cli::generate;
 use pq_io::NoMemory;
@@ -59,95 +59,42 @@ fn further_rows_after_a_matrix_without_an_order(rt: HostRuntime) -> Result<(), F
     Ok(())
 }
 
-// Further rows that are refused, and words outside the grammar.
-const STOPPED: &[Stopped] = &[
-    (
-        EXTEND,
-        b"110\n011\n",
-        b"1 4\n",
-        3,
-        b"pq: refused 2 code 4 line 1\n",
-    ),
-    (
-        EXTEND,
-        b"110\n011\n101\n",
-        b"1 4\n",
-        3,
-        b"pq: refused 2 code 4 line 1\n",
-    ),
-    (
-        &["extend", "clones", "a", "b"],
-        b"1\n",
-        b"1\n",
-        2,
-        b"pq: words\n",
-    ),
-    (
-        &["extend", "matrix", "-", "-"],
-        b"1\n",
-        b"1\n",
-        2,
-        b"pq: words\n",
-    ),
-    (
-        &["extend", "matrix", "matrix"],
-        b"1\n",
-        b"1\n",
-        2,
-        b"pq: words\n",
-    ),
-    (&["gen", "0", "0", "1"], b"1\n", b"1\n", 2, b"pq: words\n"),
-    (
-        &["gen", "0", "2049", "1"],
-        b"1\n",
-        b"1\n",
-        2,
-        b"pq: words\n",
-    ),
-    (
-        &["gen", "0", "1", "131073"],
-        b"1\n",
-        b"1\n",
-        2,
-        b"pq: words\n",
-    ),
-    (
-        &["gen", "18446744073709551616", "1", "1"],
-        b"1\n",
-        b"1\n",
-        2,
-        b"pq: words\n",
-    ),
-    (&["gen", "0", "1", "+1"], b"1\n", b"1\n", 2, b"pq: words\n"),
-];
-
 #[test]
-fn runs_of_extend_and_gen_that_stop(rt: HostRuntime) -> Result<(), Fail> {
-    assert_eq!(rt; first_unstopped(rt.alloc(), STOPPED)?, None);
+fn further_rows_that_are_refused(rt: HostRuntime) -> Result<(), Fail> {
+    let past = b"1 4\n";
+    assert!(rt; is_refused(rt.alloc(), EXTEND, [b"110\n011\n", past], 2, 4, 1)?);
+    assert!(rt; is_refused(rt.alloc(), EXTEND, [b"110\n011\n101\n", past], 2, 4, 1)?);
     Ok(())
 }
 
-// A matrix that is summed up.
-const SUMMED: &[Reply] = &[
-    (
-        &["gen", "0", "2", "3"],
-        b"",
-        b"",
-        0,
-        b"pq-gen 1\ncolumns 2\nrows 3\nones 6\nanswer yes\np 1\nq 0\nend\n",
-    ),
-    (
-        &["gen", "000", "02", "03"],
-        b"",
-        b"",
-        0,
-        b"pq-gen 1\ncolumns 2\nrows 3\nones 6\nanswer yes\np 1\nq 0\nend\n",
-    ),
+// Words outside the grammar.
+const OUTSIDE: &[&[&str]] = &[
+    &["extend", "clones", "a", "b"],
+    &["extend", "matrix", "-", "-"],
+    &["extend", "matrix", "matrix"],
+    &["gen", "0", "0", "1"],
+    &["gen", "0", "2049", "1"],
+    &["gen", "0", "1", "131073"],
+    &["gen", "18446744073709551616", "1", "1"],
+    &["gen", "0", "1", "+1"],
 ];
 
 #[test]
+fn words_of_extend_and_gen_outside_the_grammar(rt: HostRuntime) -> Result<(), Fail> {
+    assert_eq!(rt;
+        first_other(OUTSIDE, |words| are_outside(rt.alloc(), words))?,
+        None
+    );
+    Ok(())
+}
+
+#[test]
 fn a_generated_matrix_is_summed_up(rt: HostRuntime) -> Result<(), Fail> {
-    assert_eq!(rt; first_other(rt.alloc(), SUMMED)?, None);
+    let summary = b"pq-gen 1\ncolumns 2\nrows 3\nones 6\nanswer yes\np 1\nq 0\nend\n";
+    let left = outcome_of(rt.alloc(), &["gen", "0", "2", "3"], b"", b"")?;
+    assert!(rt; is_left(&left, 0, summary, b""));
+    let same = outcome_of(rt.alloc(), &["gen", "000", "02", "03"], b"", b"")?;
+    assert!(rt; is_left(&same, 0, summary, b""));
     Ok(())
 }
 

@@ -1,101 +1,64 @@
 // Runs of `unit` and `check-unit`.
-use crate::runs::{Reply, Stopped, first_other, first_unstopped, is_solved_alike};
+use crate::runs::{are_outside, first_other, is_left, is_refused, is_solved_alike, outcome_of};
+use pq_io::NoMemory;
+use std::alloc::Global;
 use std::test::Fail;
 
-// The unit models of a path, of a triangle and of two vertices apart, each found and judged.
-const FOUND: &[Reply] = &[
+// A graph and a unit model.
+type Found = (&'static [u8], &'static [u8]);
+
+// The unit models of a path, of a triangle and of two vertices apart.
+const FOUND: &[Found] = &[
     (
-        &["unit", "matrix"],
-        b"4\n1 2\n2 3\n3 4\n",
-        b"",
-        0,
-        b"pq-unit 1\nvertices 4\nlength 4\nunit 1 3\nunit 2 6\nunit 3 9\nunit 4 12\nend\n",
-    ),
-    (
-        &["check-unit", "matrix", "verdict"],
         b"4\n1 2\n2 3\n3 4\n",
         b"pq-unit 1\nvertices 4\nlength 4\nunit 1 3\nunit 2 6\nunit 3 9\nunit 4 12\nend\n",
-        0,
-        b"valid\n",
     ),
     (
-        &["unit", "matrix"],
-        b"3\n1 2\n1 3\n2 3\n",
-        b"",
-        0,
-        b"pq-unit 1\nvertices 3\nlength 3\nunit 1 2\nunit 2 3\nunit 3 4\nend\n",
-    ),
-    (
-        &["check-unit", "matrix", "verdict"],
         b"3\n1 2\n1 3\n2 3\n",
         b"pq-unit 1\nvertices 3\nlength 3\nunit 1 2\nunit 2 3\nunit 3 4\nend\n",
-        0,
-        b"valid\n",
     ),
     (
-        &["unit", "matrix"],
-        b"2\n",
-        b"",
-        0,
-        b"pq-unit 1\nvertices 2\nlength 2\nunit 1 0\nunit 2 4\nend\n",
-    ),
-    (
-        &["check-unit", "matrix", "verdict"],
         b"2\n",
         b"pq-unit 1\nvertices 2\nlength 2\nunit 1 0\nunit 2 4\nend\n",
-        0,
-        b"valid\n",
     ),
 ];
+
+// Whether a check of a unit model on a graph writes this line.
+fn is_judged(alloc: Global, graph: &[u8], model: &[u8], line: &[u8]) -> Result<bool, NoMemory> {
+    let words = ["check-unit", "matrix", "verdict"];
+    let left = outcome_of(alloc, &words, graph, model)?;
+    let status = if line == b"valid\n".as_slice() { 0 } else { 1 };
+    Ok(is_left(&left, status, line, b""))
+}
+
+// Whether a model is found, and a check accepts it.
+fn is_found(alloc: Global, row: &Found) -> Result<bool, NoMemory> {
+    let (graph, model) = *row;
+    let left = outcome_of(alloc, &["unit", "matrix"], graph, b"")?;
+    Ok(is_left(&left, 0, model, b"") && is_judged(alloc, graph, model, b"valid\n")?)
+}
 
 #[test]
 fn unit_models_are_found(rt: HostRuntime) -> Result<(), Fail> {
-    assert_eq!(rt; first_other(rt.alloc(), FOUND)?, None);
+    assert_eq!(rt; first_other(FOUND, |row| is_found(rt.alloc(), row))?, None);
     Ok(())
 }
 
-// A left end that moves within the length, and past it, and what is no unit model.
-const JUDGED: &[Reply] = &[
-    (
-        &["check-unit", "matrix", "verdict"],
-        b"4\n1 2\n2 3\n3 4\n",
-        b"pq-unit 1\nvertices 4\nlength 4\nunit 1 3\nunit 2 6\nunit 3 9\nunit 4 13\nend\n",
-        0,
-        b"valid\n",
-    ),
-    (
-        &["check-unit", "matrix", "verdict"],
-        b"4\n1 2\n2 3\n3 4\n",
-        b"pq-unit 1\nvertices 4\nlength 4\nunit 1 3\nunit 2 6\nunit 3 9\nunit 4 14\nend\n",
-        1,
-        b"invalid model\n",
-    ),
-    (
-        &["check-unit", "matrix", "verdict"],
-        b"4\n1 2\n2 3\n3 4\n",
-        b"",
-        1,
-        b"invalid text\n",
-    ),
-    (
-        &["check-unit", "matrix", "verdict"],
-        b"4\n1 2\n2 3\n3 4\n",
-        b"pq-unit 1\nvertices 2\nlength 2\nunit 1 0\nunit 2 4\nend\n",
-        1,
-        b"invalid vertices\n",
-    ),
-    (
-        &["check-unit", "matrix", "verdict"],
-        b"1\n",
-        b"pq-unit 1\nvertices 1\nlength 0\nunit 1 0\nend\n",
-        1,
-        b"invalid model\n",
-    ),
-];
+// A path of four vertices.
+const PATH: &[u8] = b"4\n1 2\n2 3\n3 4\n";
 
+// A left end that moves within the length, and past it, and what is no unit model.
 #[test]
 fn unit_models_are_judged(rt: HostRuntime) -> Result<(), Fail> {
-    assert_eq!(rt; first_other(rt.alloc(), JUDGED)?, None);
+    let model = b"pq-unit 1\nvertices 4\nlength 4\nunit 1 3\nunit 2 6\nunit 3 9\nunit 4 13\nend\n";
+    assert!(rt; is_judged(rt.alloc(), PATH, model, b"valid\n")?);
+    let model = b"pq-unit 1\nvertices 4\nlength 4\nunit 1 3\nunit 2 6\nunit 3 9\nunit 4 14\nend\n";
+    assert!(rt; is_judged(rt.alloc(), PATH, model, b"invalid model\n")?);
+    assert!(rt; is_judged(rt.alloc(), PATH, b"", b"invalid text\n")?);
+    let model = b"pq-unit 1\nvertices 2\nlength 2\nunit 1 0\nunit 2 4\nend\n";
+    assert!(rt; is_judged(rt.alloc(), PATH, model, b"invalid vertices\n")?);
+    let model = b"pq-unit 1\nvertices 1\nlength 0\nunit 1 0\nend\n";
+    assert!(rt; is_judged(rt.alloc(), b"1\n", model, b"invalid model\n")?);
     Ok(())
 }
 
@@ -107,34 +70,13 @@ fn a_star_has_no_unit_model(rt: HostRuntime) -> Result<(), Fail> {
     Ok(())
 }
 
-// Files and words that are refused.
-const STOPPED: &[Stopped] = &[
-    (
-        &["unit", "matrix"],
-        b"",
-        b"",
-        3,
-        b"pq: refused 1 code 1 line 0\n",
-    ),
-    (
-        &["check-unit", "matrix", "verdict"],
-        b"",
-        b"",
-        3,
-        b"pq: refused 1 code 1 line 0\n",
-    ),
-    (&["unit"], b"4\n1 2\n2 3\n3 4\n", b"", 2, b"pq: words\n"),
-    (
-        &["check-unit", "-", "-"],
-        b"4\n1 2\n2 3\n3 4\n",
-        b"",
-        2,
-        b"pq: words\n",
-    ),
-];
-
+// The file of a graph is refused, and words outside the grammar.
 #[test]
 fn words_and_files_are_refused(rt: HostRuntime) -> Result<(), Fail> {
-    assert_eq!(rt; first_unstopped(rt.alloc(), STOPPED)?, None);
+    let check = ["check-unit", "matrix", "verdict"];
+    assert!(rt; is_refused(rt.alloc(), &["unit", "matrix"], [b"", b""], 1, 1, 0)?);
+    assert!(rt; is_refused(rt.alloc(), &check, [b"", b""], 1, 1, 0)?);
+    assert!(rt; are_outside(rt.alloc(), &["unit"])?);
+    assert!(rt; are_outside(rt.alloc(), &["check-unit", "-", "-"])?);
     Ok(())
 }

@@ -1,6 +1,6 @@
 // Verdicts of both versions: a yes of version 2 has to have every order, a yes of version 1 has not,
 // and a no says the same in both.
-use crate::runs::is_checked;
+use crate::runs::{first_other, is_checked};
 use pq_io::NoMemory;
 use std::alloc::Global;
 use std::test::Fail;
@@ -31,14 +31,9 @@ fn is_judged(alloc: Global, version: &str, case: &Case, line: &str) -> Result<bo
     )
 }
 
-// The first verdict that is judged otherwise than its row says.
-fn first_misjudged(alloc: Global, cases: &[Case]) -> Result<Option<usize>, NoMemory> {
-    for (i, case) in cases.iter().enumerate() {
-        if !is_judged(alloc, "1", case, case.3)? || !is_judged(alloc, "2", case, case.4)? {
-            return Ok(Some(i));
-        }
-    }
-    Ok(None)
+// Whether a verdict is judged as its row says.
+fn is_judged_so(alloc: Global, case: &Case) -> Result<bool, NoMemory> {
+    Ok(is_judged(alloc, "1", case, case.3)? && is_judged(alloc, "2", case, case.4)?)
 }
 
 // Trees with every order, and with fewer.
@@ -96,7 +91,10 @@ const EVERY_ORDER: &[Case] = &[
 
 #[test]
 fn a_tree_has_every_order(rt: HostRuntime) -> Result<(), Fail> {
-    assert_eq!(rt; first_misjudged(rt.alloc(), EVERY_ORDER)?, None);
+    assert_eq!(rt;
+        first_other(EVERY_ORDER, |row| is_judged_so(rt.alloc(), row))?,
+        None
+    );
     Ok(())
 }
 
@@ -169,7 +167,10 @@ const TOO_FEW: &[Case] = &[
 
 #[test]
 fn too_few_orders_of_each_kind(rt: HostRuntime) -> Result<(), Fail> {
-    assert_eq!(rt; first_misjudged(rt.alloc(), TOO_FEW)?, None);
+    assert_eq!(rt;
+        first_other(TOO_FEW, |row| is_judged_so(rt.alloc(), row))?,
+        None
+    );
     Ok(())
 }
 
@@ -207,7 +208,10 @@ const PLACE: &[Case] = &[
 
 #[test]
 fn the_place_of_the_test_among_the_others(rt: HostRuntime) -> Result<(), Fail> {
-    assert_eq!(rt; first_misjudged(rt.alloc(), PLACE)?, None);
+    assert_eq!(rt;
+        first_other(PLACE, |row| is_judged_so(rt.alloc(), row))?,
+        None
+    );
     Ok(())
 }
 
@@ -280,18 +284,8 @@ const NO: &[Case] = &[
 
 #[test]
 fn a_no_of_each_kind(rt: HostRuntime) -> Result<(), Fail> {
-    assert_eq!(rt; first_misjudged(rt.alloc(), NO)?, None);
+    assert_eq!(rt; first_other(NO, |row| is_judged_so(rt.alloc(), row))?, None);
     Ok(())
-}
-
-// The first of the versions with which a verdict is one.
-fn first_version(alloc: Global, versions: &[&str], case: &Case) -> Result<Option<usize>, NoMemory> {
-    for (i, version) in versions.iter().enumerate() {
-        if !is_judged(alloc, version, case, "invalid text")? {
-            return Ok(Some(i));
-        }
-    }
-    Ok(None)
 }
 
 #[test]
@@ -303,9 +297,11 @@ fn there_is_no_other_version(rt: HostRuntime) -> Result<(), Fail> {
         "valid",
         "valid",
     );
-    assert_eq!(rt;
-        first_version(rt.alloc(), &["0", "3", "02", "12", ""], &case)?,
-        None
-    );
+    for version in ["0", "3", "02", "12", ""] {
+        assert!(rt;
+            is_judged(rt.alloc(), version, &case, "invalid text")?,
+            "{version}"
+        );
+    }
     Ok(())
 }
