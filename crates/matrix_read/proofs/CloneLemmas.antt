@@ -31,14 +31,14 @@ module _ (probes : List (List ℕ)) where
   matrix_after rows number clones = refused_or (names_refused probes number clones) (record { columns = length probes; rows = rows ++ map (row_of_clone probes) clones })
 
   -- one clone less, which is refused or a row
-  module _ (rows : List (List ℕ)) (number : ℕ) (clone : Option (List (List ℕ))) (clones : List (Option (List (List ℕ)))) where
-    pub clone_stop : (code : ℕ) → names_code probes clone ≡ Some code → matrix_after rows number (clone ∷ clones) ≡ answer.Refused (record { code = code; line = number })
+  module _ (rows : List (List ℕ)) (number : ℕ) (clone : Option (List (List ℕ))) (all clones : List (Option (List (List ℕ)))) (is : all ≡ clone ∷ clones) where
+    pub clone_stop : (code : ℕ) → names_code probes clone ≡ Some code → matrix_after rows number all ≡ answer.Refused (record { code = code; line = number })
     unfolding names_refused
-    clone_stop code h = rw h refl
+    clone_stop code h = rw (is, h) refl
 
-    pub clone_step : names_code probes clone ≡ None → matrix_after (rows ++ row_of_clone probes clone ∷ []) (number + 1) clones ≡ matrix_after rows number (clone ∷ clones)
+    pub clone_step : names_code probes clone ≡ None → matrix_after (rows ++ row_of_clone probes clone ∷ []) (number + 1) clones ≡ matrix_after rows number all
     unfolding names_refused
-    clone_step h = rw (h, append_assoc rows (row_of_clone probes clone ∷ []) (map (row_of_clone probes) clones)) refl
+    clone_step h = rw (is, h, append_assoc rows (row_of_clone probes clone ∷ []) (map (row_of_clone probes) clones)) refl
 
   pub clone_end : (m : RowList) (number : ℕ) → m.columns ≡ length probes → matrix_after m.rows number [] ≡ answer.Ok m
   unfolding names_refused

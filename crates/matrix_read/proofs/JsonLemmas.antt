@@ -3,7 +3,7 @@ use Rattle.std.proofs.Common.{◌≡◌, ℕ, zero, suc, ◌-◌, ◌<◌, ◌�
 use Rattle.json.specs.Token.{Token}
 use Rattle.json.specs.Json as json
 use Rattle.json.specs.Json.{parse_map, after_end_array, read_key, items_step, items, members, value}
-use Rattle.json.proofs.Grammar.{left-parse_map, left_some, left_none, value_is, items_end, items_more, members_end, members_no_key, members_more, value-begin_array, value-begin_object}
+use Rattle.json.proofs.Grammar.{value_is, items_end, items_more, members_end, members_no_key, members_more, value-begin_array, value-begin_object}
 use Rattle.serde_json.specs.Data.{Num, Data, number, array, object, no_items, item, Members, no_members, put}
 use Rattle.serde_json.specs.Read.{number_of, of_json, of_items, of_members, converted}
 use Rattle.matrix_read.specs.JsonSteps.{value_at, items_at, members_at, behind}
@@ -99,13 +99,6 @@ module _ (depth : ℕ) where
   pub items_over : (n : ℕ) (ts r : List Token) → length ts ≤ n → after_end_array ts ≡ Some r → items_at depth n ts ≡ Some (no_items, r)
   items_over n ts r enough e = ap (converted of_items) (items_end (value depth) n ts r enough e)
 
-  -- an item that is passed over
-  pub item_passed : (n : ℕ) (ts r : List Token) → 0 < n → after_end_array ts ≡ None → behind (value_at depth ts) ≡ Some r → behind (items_at depth n ts) ≡ behind (items_at depth (n - 1) r)
-  item_passed n ts r some going e = let d = left_some (value_at depth ts) r e in ap behind (item_read n ts r d.0 some going d.1) ∙ left-parse_map (item d.0) (items_at depth (n - 1) r)
-
-  pub item_stops : (n : ℕ) (ts : List Token) → after_end_array ts ≡ None → behind (value_at depth ts) ≡ None → behind (items_at depth n ts) ≡ None
-  item_stops n ts going e = ap behind (item_refused n ts going (left_none (value_at depth ts) e))
-
   -- members in turn
   module _ (old : Members) where
     pub member_read : (n : ℕ) (k : List ℕ) (ts s r : List Token) (d : Data) → 0 < n → read_key ts ≡ Some (Some k, s) → value_at depth s ≡ Some (d, r)
@@ -129,11 +122,3 @@ module _ (depth : ℕ) where
 
     pub members_over : (n : ℕ) (ts r : List Token) → length ts ≤ n → read_key ts ≡ Some (None, r) → members_at depth n old ts ≡ Some (old, r)
     members_over n ts r enough e = ap (converted (λ ms. of_members ms old)) (members_end (value depth) n ts r enough e)
-
-    -- a member that is passed over
-    pub member_passed : (n : ℕ) (k : List ℕ) (ts s r : List Token) → 0 < n → read_key ts ≡ Some (Some k, s) → behind (value_at depth s) ≡ Some r
-        → (found : Members) × (behind (members_at depth n old ts) ≡ behind (members_at depth (n - 1) found r))
-    member_passed n k ts s r some key e = let d = left_some (value_at depth s) r e in (put k d.0 old, ap behind (member_read n k ts s r d.0 some key d.1))
-
-    pub member_stops : (n : ℕ) (k : List ℕ) (ts s : List Token) → read_key ts ≡ Some (Some k, s) → behind (value_at depth s) ≡ None → behind (members_at depth n old ts) ≡ None
-    member_stops n k ts s key e = ap behind (member_refused n k ts s key (left_none (value_at depth s) e))

@@ -7,10 +7,10 @@ use Rattle.row_model.specs.Rows.{RowList, columns_where}
 use Rattle.row_model.specs.declared.refusal.Read.{Read}
 use Rattle.row_model.specs.declared.refusal.Read.TheVariants as read
 use Rattle.text_lines.specs.Lines.{NumberedLine}
-use Rattle.text_lines.specs.Rows.{first_refusal, refused_or, columns_among}
+use Rattle.text_lines.specs.Rows.{first_refusal, refused_or, columns_among, numbered_lines}
 use Rattle.row_model.proofs.Columns.{columns_same}
 use Rattle.matrix_read.proofs.PlaceLemmas.{places_from, places_columns}
-use Rattle.text_lines.proofs.FirstRefused.{first_refusal-here, first_refusal-later}
+use Rattle.text_lines.proofs.FirstRefused.{first_refusal-here, first_refusal-later, numbered_step}
 
 module _ (code_of : ℕ → List ℕ → Option ℕ) (row_from : List ℕ → List ℕ) (c : ℕ) where
   -- the answer, where these rows stand before the lines
@@ -26,6 +26,17 @@ module _ (code_of : ℕ → List ℕ → Option ℕ) (row_from : List ℕ → Li
     answer_step h =
         let count : length (rows ++ row_from line.text ∷ []) ≡ length rows + 1 = length-append rows (row_from line.text ∷ []) in
         rw (is, first_refusal-later code_of (length rows) line rest h, count, append_assoc rows (row_from line.text ∷ []) (map (λ (line : NumberedLine). row_from line.text) rest)) refl
+
+  -- the same of the first of the lines of a text
+  module _ (rows : List (List ℕ)) (number : ℕ) (line : List ℕ) (lines later : List (List ℕ)) (is : lines ≡ line ∷ later) where
+    numbered : numbered_lines number lines ≡ record { number = number; text = line } ∷ numbered_lines (number + 1) later
+    numbered = ap (numbered_lines number) is ∙ numbered_step number line later
+
+    pub line_stop : (code : ℕ) → code_of (length rows) line ≡ Some code → answer_after rows (numbered_lines number lines) ≡ read.Refused (record { code = code; line = number })
+    line_stop code h = answer_stop rows (record { number = number; text = line }) (numbered_lines number lines) (numbered_lines (number + 1) later) numbered code h
+
+    pub line_step : code_of (length rows) line ≡ None → answer_after (rows ++ row_from line ∷ []) (numbered_lines (number + 1) later) ≡ answer_after rows (numbered_lines number lines)
+    line_step h = answer_step rows (record { number = number; text = line }) (numbered_lines number lines) (numbered_lines (number + 1) later) numbered h
 
   pub answer_end : (m : RowList) (lines : List NumberedLine) → lines ≡ [] → m.columns ≡ c → answer_after m.rows lines ≡ read.Ok m
   unfolding first_refusal

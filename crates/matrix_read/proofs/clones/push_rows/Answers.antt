@@ -9,14 +9,8 @@ use Rattle.matrix_read.proofs.clones.push_rows.Goals as goal
 pub returns-in-Err : goal.returns-in-Err
 returns-in-Err c =
     let probes = bytes_of c.args.names.now.keys in
-    let m = c.loop-i.matrix in
-    let clone = names_view c.index-clones-i.result in
-    let rest = clones_view (drop (c.loop-i.i + 1) c.args.clones.now) in
     let step = clones_drop c.args.clones.now c.loop-i.i c.index-clones-i.result c.loop-i-test.true c.index-clones-i.is in
-    c.refused.ensures
-    ∙ sym (clone_stop probes m.rows (c.loop-i.i + 1) clone rest c.in-Err.code c.in-Err.ensures.refused)
-    ∙ ap (matrix_after probes m.rows (c.loop-i.i + 1)) (sym step)
-    ∙ c.loop-i.invariant.so_far
+    c.refused.ensures ∙ sym (clone_stop probes c.loop-i.matrix.rows (c.loop-i.i + 1) _ _ _ step c.in-Err.code c.in-Err.ensures.refused) ∙ c.loop-i.invariant.so_far
 
 pub push_row-requires-clause-row : goal.push_row-requires-clause-row
 push_row-requires-clause-row c =
@@ -39,8 +33,7 @@ loop-i-preserved c =
       clear = c.in-Ok.ensures.clear;
       so_far =
           ap (λ (x : RowList). matrix_after probes x.rows (c.loop-i.i + 1 + 1) rest) pushed
-          ∙ clone_step probes m.rows (c.loop-i.i + 1) clone rest c.in-Ok.ensures.row.0
-          ∙ ap (matrix_after probes m.rows (c.loop-i.i + 1)) (sym step)
+          ∙ clone_step probes m.rows (c.loop-i.i + 1) clone _ rest step c.in-Ok.ensures.row.0
           ∙ c.loop-i.invariant.so_far;
     }
 

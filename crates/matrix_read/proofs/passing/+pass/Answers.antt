@@ -1,140 +1,105 @@
-use Rattle.std.proofs.Common.{◌≡◌, ◌-◌, ◌<◌, [], ◌∷◌, length, Some, None, refl, sym, ap, ap₂, ◌∙◌, arith}
+use Rattle.std.proofs.Common.{◌≡◌, ◌-◌, [], ◌∷◌, length, Some, None, sym, ap, ap₂, ◌∙◌, arith}
 use Rattle.json.specs.Json.{after_end_array, read_key, value}
 use Rattle.json.specs.Reads.{token_of}
-use Rattle.json.proofs.Grammar.{left-parse_map, value_is, after_end_array-shorter, read_key-shorter}
-use Rattle.serde_json.specs.Data.{array, object, no_members}
+use Rattle.json.proofs.Grammar.{left-parse_map, left_some, left_none, value_is, after_end_array-shorter, read_key-shorter}
+use Rattle.serde_json.specs.Data.{array, object, no_items, item, no_members, put}
 use Rattle.matrix_read.specs.JsonSteps.{value_at, items_at, members_at, behind}
-use Rattle.matrix_read.proofs.JsonLemmas.{nothing_at_front, number_passed, number_refused, array_at_front, object_at_front, item_passed, item_stops, items_over, member_passed, member_stops, key_refused, members_over}
+use Rattle.matrix_read.proofs.JsonLemmas.{nothing_at_front, number_passed, number_refused, array_at_front, object_at_front}
+use Rattle.matrix_read.proofs.ItemLemmas.{none_read, no_item, one_item, all_items}
+use Rattle.matrix_read.proofs.MemberLemmas.{none_found, no_key, no_value, one_more, no_more}
+use Rattle.matrix_read.proofs.FileLemmas.{joined}
 use Rattle.matrix_read.proofs.passing.+pass.Goals as goal
 
 pub pass_items-loop-reader-init : goal.pass_items-loop-reader-init
-pass_items-loop-reader-init t c = (length c.args.reader.now, omega arith, refl, omega arith)
+pass_items-loop-reader-init t c = (no_items, none_read c.args.depth c.args.reader.now)
 
 pub pass_items-returns-in_err-token-clause-value : goal.pass_items-returns-in_err-token-clause-value
 pass_items-returns-in_err-token-clause-value t c =
-    let d = c.args.depth in
-    let l = c.loop-reader in
-    let going : (after_end_array l.reader ≡ None) × (c.take_end_array.new.self ≡ l.reader) = grind arith in
+    let s = c.loop-reader.invariant in
+    let going : (after_end_array c.loop-reader.reader ≡ None) × (c.take_end_array.new.self ≡ c.loop-reader.reader) = grind arith in
     let empty : c.take_end_array.new.self ≡ [] = grind arith in
-    let nothing : value_at d l.reader ≡ None = ap (value_at d) (sym going.1 ∙ empty) ∙ nothing_at_front d in
-    let none = l.invariant.2 ∙ item_stops d l.invariant.0 l.reader going.0 (ap behind nothing) in
+    let none = ap behind (no_item _ _ _ s.0 s.1 going.0 (ap (value_at c.args.depth) (sym going.1 ∙ empty) ∙ nothing_at_front c.args.depth)) in
     grind (arith, none)
 
 pub pass_items-loop-reader-smaller : goal.pass_items-loop-reader-smaller
 pass_items-loop-reader-smaller t c =
-    let l = c.loop-reader in
-    let first : l.reader ≡ token_of c.in_ok-token.token ∷ c.next.new.self = grind arith in
+    let first : c.loop-reader.reader ≡ token_of c.in_ok-token.token ∷ c.next.new.self = grind arith in
     omega (arith, ap length first, c.in_ok-pass_value.ensures.shorter)
 
 pub pass_items-loop-reader-preserved : goal.pass_items-loop-reader-preserved
 pass_items-loop-reader-preserved t c =
     let d = c.args.depth in
-    let l = c.loop-reader in
-    let n = l.invariant.0 in
-    let going : (after_end_array l.reader ≡ None) × (c.take_end_array.new.self ≡ l.reader) = grind arith in
-    let first : l.reader ≡ token_of c.in_ok-token.token ∷ c.next.new.self = grind arith in
-    let passed : behind (value_at d l.reader) ≡ Some c.pass_value.new.reader = ap (λ ts. behind (value_at d ts)) first ∙ c.in_ok-pass_value.ensures.value in
-    let less : length c.pass_value.new.reader < length l.reader = omega (arith, ap length first, c.in_ok-pass_value.ensures.shorter) in (
-      n - 1,
-      omega (arith, l.invariant.1, less),
-      l.invariant.2 ∙ item_passed d n l.reader _ (omega (arith, l.invariant.1, less)) going.0 passed,
-      omega (arith, l.invariant.3, less),
-    )
+    let s = c.loop-reader.invariant in
+    let first : c.loop-reader.reader ≡ token_of c.in_ok-token.token ∷ c.next.new.self = grind arith in
+    let x = left_some (value_at d c.loop-reader.reader) _ (ap (λ ts. behind (value_at d ts)) first ∙ c.in_ok-pass_value.ensures.value) in
+    (joined s.0 (item x.0 no_items), one_item _ _ _ s.0 s.1 _ x.0 (grind arith) x.1 (omega (arith, ap length first, c.in_ok-pass_value.ensures.shorter)))
 
 pub pass_items-returns-in_err-pass_value-clause-value : goal.pass_items-returns-in_err-pass_value-clause-value
 pass_items-returns-in_err-pass_value-clause-value t c =
     let d = c.args.depth in
-    let l = c.loop-reader in
-    let going : (after_end_array l.reader ≡ None) × (c.take_end_array.new.self ≡ l.reader) = grind arith in
-    let first : l.reader ≡ token_of c.in_ok-token.token ∷ c.next.new.self = grind arith in
-    let stops : behind (value_at d l.reader) ≡ None = ap (λ ts. behind (value_at d ts)) first ∙ c.in_err-pass_value.ensures.value in
-    let none = l.invariant.2 ∙ item_stops d l.invariant.0 l.reader going.0 stops in
+    let s = c.loop-reader.invariant in
+    let first : c.loop-reader.reader ≡ token_of c.in_ok-token.token ∷ c.next.new.self = grind arith in
+    let none = ap behind (no_item _ _ _ s.0 s.1 (grind arith) (left_none (value_at d c.loop-reader.reader) (ap (λ ts. behind (value_at d ts)) first ∙ c.in_err-pass_value.ensures.value))) in
     grind (arith, none)
 
 pub pass_items-returns-clause-value : goal.pass_items-returns-clause-value
-pass_items-returns-clause-value t c =
-    let l = c.loop-reader in
-    l.invariant.2 ∙ ap behind (items_over c.args.depth l.invariant.0 l.reader c.take_end_array.new.self l.invariant.1 (grind arith))
+pass_items-returns-clause-value t c = let s = c.loop-reader.invariant in ap behind (all_items _ _ _ s.0 s.1 c.take_end_array.new.self (grind arith))
 
 pub pass_items-returns-clause-shorter : goal.pass_items-returns-clause-shorter
 pass_items-returns-clause-shorter t c =
-    let l = c.loop-reader in
-    omega (arith, after_end_array-shorter l.reader c.take_end_array.new.self (grind arith), l.invariant.3)
+    omega (arith, after_end_array-shorter c.loop-reader.reader c.take_end_array.new.self (grind arith), c.loop-reader.invariant.1.shorter)
 
 pub pass_members-loop-reader-init : goal.pass_members-loop-reader-init
-pass_members-loop-reader-init t c = (length c.args.reader.now, omega arith, (no_members, refl), omega arith)
+pass_members-loop-reader-init t c = (no_members, none_found c.args.depth c.args.reader.now)
 
 pub pass_members-returns-in_err-next_key-clause-value : goal.pass_members-returns-in_err-next_key-clause-value
 pass_members-returns-in_err-next_key-clause-value t c =
-    let l = c.loop-reader in
-    let found = l.invariant.2 in
-    let none = found.1 ∙ ap behind (key_refused c.args.depth found.0 l.invariant.0 l.reader c.in_err-next_key.ensures.value) in
+    let s = c.loop-reader.invariant in
+    let none = ap behind (no_key _ _ _ s.0 s.1 c.in_err-next_key.ensures.value) in
     grind (arith, none)
 
 pub pass_members-returns-in_err-token-clause-value : goal.pass_members-returns-in_err-token-clause-value
 pass_members-returns-in_err-token-clause-value t c =
-    let d = c.args.depth in
-    let l = c.loop-reader in
-    let found = l.invariant.2 in
-    let k = c.in-Some.field-0.now in
-    let s = c.next_key.new.self in
-    let key : read_key l.reader ≡ Some (Some k, s) = grind arith in
-    let empty : s ≡ [] = grind arith in
-    let nothing : value_at d s ≡ None = ap (value_at d) empty ∙ nothing_at_front d in
-    let none = found.1 ∙ member_stops d found.0 l.invariant.0 k l.reader s key (ap behind nothing) in
+    let s = c.loop-reader.invariant in
+    let next = c.next_key.new.self in
+    let empty : next ≡ [] = grind arith in
+    let none = ap behind (no_value _ _ _ next s.0 s.1 c.in-Some.field-0.now (grind arith) (ap (value_at c.args.depth) empty ∙ nothing_at_front c.args.depth)) in
     grind (arith, none)
 
 pub pass_members-loop-reader-smaller : goal.pass_members-loop-reader-smaller
 pass_members-loop-reader-smaller t c =
-    let l = c.loop-reader in
     let k = c.in-Some.field-0.now in
-    let s = c.next_key.new.self in
-    let key : read_key l.reader ≡ Some (Some k, s) = grind arith in
-    let first : s ≡ token_of c.in_ok-token.token ∷ c.next.new.self = grind arith in
-    omega (arith, read_key-shorter l.reader (Some k) s key, ap length first, c.in_ok-pass_value.ensures.shorter)
+    let next = c.next_key.new.self in
+    let key : read_key c.loop-reader.reader ≡ Some (Some k, next) = grind arith in
+    let first : next ≡ token_of c.in_ok-token.token ∷ c.next.new.self = grind arith in
+    omega (arith, read_key-shorter c.loop-reader.reader (Some k) next key, ap length first, c.in_ok-pass_value.ensures.shorter)
 
 pub pass_members-loop-reader-preserved : goal.pass_members-loop-reader-preserved
 pass_members-loop-reader-preserved t c =
     let d = c.args.depth in
-    let l = c.loop-reader in
-    let n = l.invariant.0 in
-    let found = l.invariant.2 in
+    let s = c.loop-reader.invariant in
     let k = c.in-Some.field-0.now in
-    let s = c.next_key.new.self in
-    let key : read_key l.reader ≡ Some (Some k, s) = grind arith in
-    let first : s ≡ token_of c.in_ok-token.token ∷ c.next.new.self = grind arith in
-    let passed : behind (value_at d s) ≡ Some c.pass_value.new.reader = ap (λ ts. behind (value_at d ts)) first ∙ c.in_ok-pass_value.ensures.value in
-    let less : length c.pass_value.new.reader < length l.reader = omega (arith, read_key-shorter l.reader (Some k) s key, ap length first, c.in_ok-pass_value.ensures.shorter) in
-    let step = member_passed d found.0 n k l.reader s _ (omega (arith, l.invariant.1, less)) key passed in (
-      n - 1,
-      omega (arith, l.invariant.1, less),
-      (step.0, found.1 ∙ step.1),
-      omega (arith, l.invariant.3, less),
-    )
+    let next = c.next_key.new.self in
+    let first : next ≡ token_of c.in_ok-token.token ∷ c.next.new.self = grind arith in
+    let x = left_some (value_at d next) _ (ap (λ ts. behind (value_at d ts)) first ∙ c.in_ok-pass_value.ensures.value) in
+    (put k x.0 s.0, one_more _ _ _ next s.0 s.1 k _ x.0 (grind arith) x.1 (omega (arith, ap length first, c.in_ok-pass_value.ensures.shorter)))
 
 pub pass_members-returns-in_err-pass_value-clause-value : goal.pass_members-returns-in_err-pass_value-clause-value
 pass_members-returns-in_err-pass_value-clause-value t c =
     let d = c.args.depth in
-    let l = c.loop-reader in
-    let found = l.invariant.2 in
-    let k = c.in-Some.field-0.now in
-    let s = c.next_key.new.self in
-    let key : read_key l.reader ≡ Some (Some k, s) = grind arith in
-    let first : s ≡ token_of c.in_ok-token.token ∷ c.next.new.self = grind arith in
-    let stops : behind (value_at d s) ≡ None = ap (λ ts. behind (value_at d ts)) first ∙ c.in_err-pass_value.ensures.value in
-    let none = found.1 ∙ member_stops d found.0 l.invariant.0 k l.reader s key stops in
+    let s = c.loop-reader.invariant in
+    let next = c.next_key.new.self in
+    let first : next ≡ token_of c.in_ok-token.token ∷ c.next.new.self = grind arith in
+    let nothing = left_none (value_at d next) (ap (λ ts. behind (value_at d ts)) first ∙ c.in_err-pass_value.ensures.value) in
+    let none = ap behind (no_value _ _ _ next s.0 s.1 c.in-Some.field-0.now (grind arith) nothing) in
     grind (arith, none)
 
 pub pass_members-returns-clause-value : goal.pass_members-returns-clause-value
-pass_members-returns-clause-value t c =
-    let l = c.loop-reader in
-    let found = l.invariant.2 in
-    found.1 ∙ ap behind (members_over c.args.depth found.0 l.invariant.0 l.reader c.next_key.new.self l.invariant.1 (grind arith))
+pass_members-returns-clause-value t c = let s = c.loop-reader.invariant in ap behind (no_more _ _ _ c.next_key.new.self s.0 s.1 (grind arith))
 
 pub pass_members-returns-clause-shorter : goal.pass_members-returns-clause-shorter
 pass_members-returns-clause-shorter t c =
-    let l = c.loop-reader in
-    omega (arith, read_key-shorter l.reader None c.next_key.new.self (grind arith), l.invariant.3)
+    omega (arith, read_key-shorter c.loop-reader.reader None c.next_key.new.self (grind arith), c.loop-reader.invariant.1.shorter)
 
 pub pass_value-returns-then-depth-eq0-clause-value : goal.pass_value-returns-then-depth-eq0-clause-value
 unfolding value

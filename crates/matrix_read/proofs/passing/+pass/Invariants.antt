@@ -1,6 +1,7 @@
-use Rattle.std.proofs.Common.{◌≡◌, ℕ, ◌+◌, ◌*◌, ◌≤◌, length}
-use Rattle.serde_json.specs.Data.{Members, no_members}
-use Rattle.matrix_read.specs.JsonSteps.{items_at, members_at, behind}
+use Rattle.std.proofs.Common.{◌+◌, ◌*◌, length}
+use Rattle.serde_json.specs.Data.{Items, Members}
+use Rattle.matrix_read.proofs.ItemLemmas.{AreItems}
+use Rattle.matrix_read.proofs.MemberLemmas.{AreFound}
 use Rattle.matrix_read.proofs.passing.+pass.Given as goal
 
 abbrev pub decreases-pass_value : goal.decreases-pass_value
@@ -13,19 +14,13 @@ abbrev pub decreases-pass_members : goal.decreases-pass_members
 decreases-pass_members l = 2 * l.depth + 1
 
 abbrev pub invariant-pass_items-loop-reader : goal.invariant-pass_items-loop-reader
-invariant-pass_items-loop-reader l =
-    (n : ℕ) × (length l.reader ≤ n)
-    × (behind (items_at l.depth (length l.initial.reader) l.initial.reader) ≡ behind (items_at l.depth n l.reader))
-    × (length l.reader ≤ length l.initial.reader)
+invariant-pass_items-loop-reader l = (found : Items) × AreItems l.depth l.initial.reader l.reader found
 
 abbrev pub decreases-pass_items-loop-reader : goal.decreases-pass_items-loop-reader
 decreases-pass_items-loop-reader l = length l.reader
 
 abbrev pub invariant-pass_members-loop-reader : goal.invariant-pass_members-loop-reader
-invariant-pass_members-loop-reader l =
-    (n : ℕ) × (length l.reader ≤ n)
-    × ((found : Members) × (behind (members_at l.depth (length l.initial.reader) no_members l.initial.reader) ≡ behind (members_at l.depth n found l.reader)))
-    × (length l.reader ≤ length l.initial.reader)
+invariant-pass_members-loop-reader l = (found : Members) × AreFound l.depth l.initial.reader l.reader found
 
 abbrev pub decreases-pass_members-loop-reader : goal.decreases-pass_members-loop-reader
 decreases-pass_members-loop-reader l = length l.reader
