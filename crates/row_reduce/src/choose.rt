@@ -45,7 +45,7 @@ fn choose_leaf<L: Ledger>(
     requires ready { IsReady arena.now work.now node.index }
     requires leaf { (a : ℕ) × (shape_at arena.now node.index ≡ Some (Leaf a)) }
     ensures choice { IsChoice arena.now work.now node.index root result }
-    ensures ticks { steps.new ≤ steps.old + 4 * (labelled_at work.now node.index + 1) }
+    ensures ticks { steps.new ≡ steps.old + 1 }
 {
     if fits_l1(arena, work, node, root, steps) {
         Some(Template::L1)
@@ -65,7 +65,7 @@ fn choose_p<L: Ledger>(
     requires ready { IsReady arena.now work.now node.index }
     requires p { shape_at arena.now node.index ≡ Some P }
     ensures choice { IsChoice arena.now work.now node.index root result }
-    ensures ticks { steps.new ≤ steps.old + 4 * asked_p result * (labelled_at work.now node.index + 1) }
+    ensures ticks { steps.new ≡ steps.old + asked_p result }
 {
     if fits_p1(arena, work, node, root, steps) {
         return Some(Template::P1);
