@@ -1,11 +1,13 @@
 //! What is asked of a solver of the consecutive-ones problem.
 #![tactic(auto)]
 
+mod laws;
 mod short;
 
 ghost use Rattle.std.specs.Prelude.{◌+◌, ◌≤◌, ℕ, Bool, false, IfOk, IsTrue};
 ghost use Rattle.row_judge.specs.Judges.{IsJudged, IsJudgedInTurn};
 
+pub use laws::last_row_laws;
 use odd_cycle::Cycle;
 use pq_tree::PqTree;
 use row_model::{Matrix, NoMemory};

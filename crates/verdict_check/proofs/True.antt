@@ -154,7 +154,7 @@ true_claim valid_textbook derived exists_textbook exact version i v (yes_claim v
     true_yes valid_textbook derived exact version i value f claim.0 h
 true_claim valid_textbook derived exists_textbook exact version i v (no_claim s lines) f g k c e h =
     let is = claimed_side i v s lines c e g in
-    λ o. true_no (derived_matrix i s) lines h ((exists_textbook i s f is).0 (o s is))
+    λ o textbook. true_no (derived_matrix i s) lines h ((exists_textbook i s f is).0 (o, textbook))
 
 pub true_law : ValidLaw → DerivedLaw → ExistsLaw → TiedLaw → TrueLaw
 true_law valid_textbook derived exists_textbook exact i v f g h = true_claim valid_textbook derived exists_textbook exact v.version i v v.claim f g h.0 h.1.0 refl (accepted_claim i v h)

@@ -10,7 +10,7 @@ use Rattle.clone_map.specs.Places.{ArePlaces}
 use Rattle.clone_map.specs.Contigs.{AreContigs}
 use Rattle.circular_ones.specs.Circular.{IsTurned}
 use Rattle.proper_interval.specs.Models.{IsProperModel}
-use Rattle.instance_model.specs.Instance.{InstanceValue, plain, circular, convex, doubly, proper, robinson, IsSideOf, IsTextbookOrder, HasTextbookOrder}
+use Rattle.instance_model.specs.Instance.{InstanceValue, plain, circular, convex, doubly, proper, robinson, IsSideOf, IsTextbookOrder}
 
 -- the order is a textbook order of the side, and so is each frontier of the tree
 abbrev pub ShowsOrders : InstanceValue → ℕ → SideValue → Type 0
@@ -45,10 +45,10 @@ pub record IsTrueYes (version : Version) (i : InstanceValue) (value : YesValue) 
   pub sides : (s : ℕ) → IsSideOf i s → IsSomeAnd (slice_get value.sides (s - 1)) (IsTrueSide version i s)
   pub added : IsTrueAdded i value
 
--- a yes is true by its sides, and a no where some side has no textbook order
+-- a yes is true by its sides, and a no where the side that it names has no textbook order
 abbrev pub IsTrueClaim : Version → InstanceValue → Claim → Type 0
 IsTrueClaim version i (yes_claim value) = IsTrueYes version i value
-IsTrueClaim version i (no_claim side lines) = HasTextbookOrder i → ⊥
+IsTrueClaim version i (no_claim side lines) = (o : List ℕ) → IsTextbookOrder i side o → ⊥
 
 -- a verdict is true where its claim is
 abbrev pub IsTrueVerdict : InstanceValue → VerdictValue → Type 0
