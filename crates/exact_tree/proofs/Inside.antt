@@ -12,6 +12,7 @@ use Rattle.row_model.specs.declared.graph.Pair.{Pair}
 use Rattle.row_model.specs.declared.graph.Why.{Why}
 use Rattle.row_model.specs.declared.graph.Why.TheVariants.{Flip, Row}
 use Rattle.row_model.proofs.Ascending.{row_within}
+use Rattle.row_model.proofs.Walks.{evenly-mono}
 use Rattle.row_model.proofs.Filtered.{has_filtered, ascends_filter}
 
 -- the columns of 1 to c that a row has
@@ -59,9 +60,6 @@ module _ (c : ℕ) where
       }
 
   module _ (rows : List (List ℕ)) where
-    parts : List (List ℕ)
-    parts = map (inside c) rows
-
     part_at : (k : ℕ) → 1 ≤ k → k ≤ length rows → row_at (map (inside c) rows) k ≡ inside c (row_at rows k)
     part_at k from to = get_or-map (inside c) rows (k - 1) [] [] (omega (arith, from, to))
 
@@ -81,10 +79,6 @@ module _ (c : ℕ) where
     joined : (v w : Pair) → Joined c (map (inside c) rows) v w → Joined c rows v w
     joined v w join = (join.0, record { from = join.1.from; to = join.1.to; fits = fits join.0 v w join.1.from join.1.to join.1.fits })
 
-    walks : (v : Pair) (us : List Pair) (w : Pair) → IsWalk (Joined c (map (inside c) rows)) v us w → IsWalk (Joined c rows) v us w
-    walks v [] w walk = walk
-    walks v (u ∷ us) w walk = (joined v u walk.0, walks u us w walk.1)
-
     -- walks by the parts are walks by the rows
     pub evenly_inside : (v w : Pair) → Evenly c (map (inside c) rows) v w → Evenly c rows v w
-    evenly_inside v w even = record { steps = even.steps; walk = walks v even.steps w even.walk; half = even.half; even = even.even }
+    evenly_inside v w even = evenly-mono (Joined c (map (inside c) rows)) (Joined c rows) joined v w even
