@@ -16,11 +16,12 @@ mod universal;
 mod walks;
 
 use bounds::star;
-use cases::all_cases;
-use full::all_full_cases;
+use cases::{CASES, one_case};
+use full::{FULL_CASES, one_full_case};
+use pq_arena::Arena;
 use random::random_trees;
 use row_model::NoMemory;
-use splices::{all_splices, neighbours, taken_and_given_back};
+use splices::{SPLICES, neighbours, one_splice, taken_and_given_back};
 use std::alloc::Global;
 use std::process::Abort;
 use std::test::Fail;
@@ -51,14 +52,30 @@ fn try_part<L: Ledger>(
 {
     let mut steps = Steps::<L>::new(blank);
     match part {
-        Part::RandomTrees => random_trees(rt, alloc, &mut steps),
-        Part::Splices => all_splices(rt, alloc, &mut steps),
-        Part::SpareNodes => taken_and_given_back(rt, alloc, &mut steps),
-        Part::Neighbours => neighbours(rt, alloc, &mut steps),
-        Part::Rows => all_cases(rt, alloc, &mut steps),
-        Part::Star => star(rt, alloc, &mut steps),
-        Part::FullPasses => all_full_cases(rt, alloc, &mut steps),
+        Part::RandomTrees => random_trees(rt, alloc, &mut steps)?,
+        Part::Splices => {
+            for case in SPLICES {
+                one_splice(rt, alloc, case, &mut steps)?;
+            }
+        }
+        Part::SpareNodes => {
+            let mut arena = Arena::new(alloc, 3)?;
+            taken_and_given_back(rt, &mut arena, &mut steps);
+        }
+        Part::Neighbours => neighbours(rt, alloc, &mut steps)?,
+        Part::Rows => {
+            for case in &CASES {
+                one_case(rt, alloc, case, &mut steps)?;
+            }
+        }
+        Part::Star => star(rt, alloc, &mut steps)?,
+        Part::FullPasses => {
+            for case in &FULL_CASES {
+                one_full_case(rt, alloc, case, &mut steps)?;
+            }
+        }
     }
+    Ok(())
 }
 
 #[test]

@@ -14,7 +14,7 @@ use step_count::{Ledger, Steps};
 // What a tree looks like, and which of its nodes are named by places. A tree is over 2048 columns where it says no other
 // number.
 #[derive(Clone, Copy, Drop)]
-enum Tree {
+pub enum Tree {
     // So many columns under one P-node: the root, and the leaf of the last column.
     Star(u32),
     // A Q-node over all columns but the last of so many, beside that one: the Q-node, and the root.
@@ -31,7 +31,7 @@ enum Tree {
 
 // What a pass has to find.
 #[derive(Clone, Copy, Drop)]
-enum Wanted {
+pub enum Wanted {
     // The node at this place, with its label; how many nodes have a label, and how many children of that one are full.
     Root(usize, Label, usize, u32),
     // A run of inner children of a Q-node, as many as the row has columns.
@@ -43,16 +43,16 @@ enum Wanted {
 }
 
 // A row, or all columns where it has none, and what the pass finds for it.
-type Question = (&'static [u32], Wanted);
+pub type Question = (&'static [u32], Wanted);
 
 // A tree, and the rows that it is asked for in turn.
 #[derive(Clone, Copy, Drop)]
-struct Case {
-    tree: Tree,
-    questions: &'static [Question],
+pub struct Case {
+    pub tree: Tree,
+    pub questions: &'static [Question],
 }
 
-const CASES: [Case; 7] = [
+pub const CASES: [Case; 7] = [
     Case {
         tree: Tree::Beside(5),
         questions: &[
@@ -122,20 +122,8 @@ const CASES: [Case; 7] = [
 // The last column of a tree that says no other number.
 const LAST: u32 = 2048;
 
-/// Each tree is made and asked.
-pub fn all_cases<L: Ledger>(
-    rt: &impl Abort,
-    alloc: Global,
-    steps: &mut Steps<L>,
-) -> Result<(), NoMemory> {
-    for case in &CASES {
-        one_case(rt, alloc, case, steps)?;
-    }
-    Ok(())
-}
-
-// Makes the tree, and asks for each row.
-fn one_case<L: Ledger>(
+/// Makes the tree, and asks for each row.
+pub fn one_case<L: Ledger>(
     rt: &impl Abort,
     alloc: Global,
     case: &Case,

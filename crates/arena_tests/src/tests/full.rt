@@ -30,7 +30,7 @@ fn settle_row<L: Ledger>(
 // What a pass has to say: after a group, the node at this place, the one that was put together or the root, and how many
 // members there are.
 #[derive(Clone, Copy, Drop)]
-enum Wanted {
+pub enum Wanted {
     Kept,
     Open,
     Group(usize, usize),
@@ -38,13 +38,13 @@ enum Wanted {
 
 // A tree of five columns, of which the first few stand under a node of their own, and the rows that it is asked for.
 #[derive(Clone, Copy, Drop)]
-struct Case {
+pub struct Case {
     is_line: bool,
     last: u32,
     questions: &'static [(&'static [u32], Wanted)],
 }
 
-const CASES: [Case; 3] = [
+pub const FULL_CASES: [Case; 3] = [
     // The tree ([1 2 3 4] 5).
     Case {
         is_line: true,
@@ -105,8 +105,8 @@ fn assert_settled(
     }
 }
 
-// Makes the tree, and asks for each row in turn.
-fn one_full_case<L: Ledger>(
+/// Makes the tree, and asks for each row in turn.
+pub fn one_full_case<L: Ledger>(
     rt: &impl Abort,
     alloc: Global,
     case: &Case,
@@ -122,18 +122,6 @@ fn one_full_case<L: Ledger>(
         m.push_row(row)?;
         let settled = settle_row(rt, &arena, &m, 1, &mut work, steps);
         assert_settled(rt, nodes, work.members().len(), settled, *wanted);
-    }
-    Ok(())
-}
-
-/// Each tree is made and asked.
-pub fn all_full_cases<L: Ledger>(
-    rt: &impl Abort,
-    alloc: Global,
-    steps: &mut Steps<L>,
-) -> Result<(), NoMemory> {
-    for case in &CASES {
-        one_full_case(rt, alloc, case, steps)?;
     }
     Ok(())
 }

@@ -11,7 +11,7 @@ use step_count::{Ledger, Steps};
 
 // A Q-node over the columns 2, 3 and 5 in line, between other columns of a Q-node above it, is spliced.
 #[derive(Clone, Copy)]
-struct Splice {
+pub struct Splice {
     before: &'static [u32],
     behind: &'static [u32],
     // The end that comes to stand beside this column, which is 0 for none.
@@ -21,7 +21,7 @@ struct Splice {
 }
 
 // Each end of the Q-node beside each neighbour: between two others, at either end of the line, and with none beside it.
-const SPLICES: [Splice; 14] = [
+pub const SPLICES: [Splice; 14] = [
     // Between two others.
     Splice {
         before: &[1],
@@ -126,20 +126,8 @@ const SPLICES: [Splice; 14] = [
     },
 ];
 
-/// Each splice on a new tree.
-pub fn all_splices<L: Ledger>(
-    rt: &impl Abort,
-    alloc: Global,
-    steps: &mut Steps<L>,
-) -> Result<(), NoMemory> {
-    for case in SPLICES {
-        one_splice(rt, alloc, case, steps)?;
-    }
-    Ok(())
-}
-
-// Makes one of the trees, splices its Q-node, and compares the line that comes of it. The node becomes spare.
-fn one_splice<L: Ledger>(
+/// Makes one of the trees, splices its Q-node, and compares the line that comes of it. The node becomes spare.
+pub fn one_splice<L: Ledger>(
     rt: &impl Abort,
     alloc: Global,
     case: Splice,
@@ -230,27 +218,21 @@ fn assert_columns<L: Ledger>(
     Ok(())
 }
 
-/// The nodes that are spare: one fewer after a node is taken, one more after it is given back,
-/// and the next to be taken.
-pub fn taken_and_given_back<L: Ledger>(
-    rt: &impl Abort,
-    alloc: Global,
-    steps: &mut Steps<L>,
-) -> Result<(), NoMemory> {
-    let mut arena = Arena::new(alloc, 3)?;
+/// The nodes of an arena over three columns that are spare: one fewer after a node is taken, one more after it is given
+/// back, and the next to be taken.
+pub fn taken_and_given_back<L: Ledger>(rt: &impl Abort, arena: &mut Arena, steps: &mut Steps<L>) {
     assert_eq!(rt; arena.spare(), 6);
-    let p = take(rt, &mut arena, false, steps);
+    let p = take(rt, arena, false, steps);
     assert_eq!(rt; arena.spare(), 5);
-    let q = take(rt, &mut arena, true, steps);
+    let q = take(rt, arena, true, steps);
     assert_eq!(rt; arena.spare(), 4);
-    give_back(rt, &mut arena, p, steps);
+    give_back(rt, arena, p, steps);
     assert_eq!(rt; arena.spare(), 5);
     assert!(rt; !arena.is_in_use(p, steps));
-    give_back(rt, &mut arena, q, steps);
+    give_back(rt, arena, q, steps);
     assert_eq!(rt; arena.spare(), 6);
-    let next = take(rt, &mut arena, false, steps);
+    let next = take(rt, arena, false, steps);
     assert_eq!(rt; next.index(), q.index());
-    Ok(())
 }
 
 // The two neighbours of a node, the first behind it in a ring, are these columns, or none where a column is 0.
