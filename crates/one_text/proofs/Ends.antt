@@ -12,7 +12,7 @@ use Rattle.reply_laws.specs.Replies.{Replies}
 use Rattle.verdict_replies.specs.Verdicts.{ShowsAllOrders}
 use Rattle.solve_replies.specs.Sessions.{Outcome, accepted, refused, AreOutcomes, matrix_after, refusals_after, matrix_at_end, IsSessionText, IsExtensionReply}
 use Rattle.one_text.specs.Told.{at_end, GrowsTo, ExtendsTo, TellsAt}
-use Rattle.one_text.proofs.Sides.{Shown, of_shown, same_read}
+use Rattle.one_text.proofs.Sides.{Shown, same_read}
 
 -- the matrix that further rows lead to is the one at the end of their outcomes
 grown_is : (m grown : RowList) (refusals : ℕ) (rows : List (List ℕ)) (outcomes : List Outcome) → AreOutcomes m refusals rows outcomes → GrowsTo m rows grown → grown ≡ matrix_at_end m rows outcomes
@@ -48,6 +48,6 @@ ended text m h =
     let session = extended h.kind h.file h.rows h.bytes h.given text h.base h.more h.found h.found_more h.reply in
     record {
       side = session.side;
-      shows = of_shown m session.side (subst (λ k. ShowsAllOrders k session.side) (sym (grown_is h.base m 0 h.more.rows session.outcomes session.in_turn h.grows)) session.shows);
+      shows = subst (λ k. ShowsAllOrders k session.side) (sym (grown_is h.base m 0 h.more.rows session.outcomes session.in_turn h.grows)) session.shows;
       tells = (h.kind, h.base.columns, session.outcomes, session.text_is);
     }

@@ -10,11 +10,12 @@ use Rattle.verdict_text.specs.Verdict.{SideValue}
 use Rattle.commands.specs.Meetings.{ShowsCommon, TellsCommon}
 use Rattle.reply_laws.specs.Meet.{MeetTextLaw}
 use Rattle.one_text.specs.Told.{in_meeting, MeetsIn, TellsAt}
-use Rattle.one_text.proofs.Sides.{HasTreeOf, Shown}
+use Rattle.verdict_replies.specs.Verdicts.{ShowsAllOrders}
+use Rattle.one_text.proofs.Sides.{Shown}
 
 -- the orders that two trees share are those of their rows
 shares : CommonRowsLaw → (text : List ℕ) (m : RowList) (h : MeetsIn text m) (side : SideValue) → ShowsCommon h.columns h.one h.two side
-    → HasTreeOf (record { columns = h.columns; rows = joint_rows h.columns h.one h.two }) side
+    → ShowsAllOrders (record { columns = h.columns; rows = joint_rows h.columns h.one h.two }) side
 shares common text m h side shows =
     let rows : (o : List ℕ) → IsCommon h.one h.two o ↔ IsValidOrder h.columns (joint_rows h.columns h.one h.two) o =
     common h.columns h.one h.two h.written.writes_first.proper h.written.writes_second.proper in
@@ -33,6 +34,6 @@ met common text_law text m h =
     let told : TellsCommon h.columns h.one h.two text = (text_law h.columns h.name h.other h.first h.second text 0 h.one h.two h.few h.written h.reply).0 refl in
     record {
       side = told.side;
-      shows = subst (λ k. HasTreeOf k told.side) (sym h.matrix_is) (shares common text m h told.side told.shows);
+      shows = subst (λ k. ShowsAllOrders k told.side) (sym h.matrix_is) (shares common text m h told.side told.shows);
       tells = (h.columns, h.one, h.two, told.text_is);
     }

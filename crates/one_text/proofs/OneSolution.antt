@@ -21,7 +21,6 @@ use Rattle.verdict_replies.specs.Verdicts.{ShowsAllOrders, ShowsSides, AddsNothi
 use Rattle.one_text.specs.Laws.{HasLines, side_of}
 use Rattle.one_text.specs.One.{TellsCycle, AreOneReply}
 use Rattle.one_text.proofs.Lines.{behind, before, itself}
-use Rattle.one_text.proofs.Sides.{of_shown}
 use Rattle.one_text.proofs.Same.{told_by_tree}
 
 -- each instance has a side
@@ -63,7 +62,7 @@ module _ (one_tree : CanonicalTreeLaw) where
   one_side m a b here there =
       let same : a.tree ≡ b.tree = one_tree m.columns a.tree b.tree (here.proper, here.canonical) (there.proper, there.canonical)
       (λ o. (λ f. (there.orders o).1 ((here.orders o).0 f), λ f. (here.orders o).1 ((there.orders o).0 f))) in
-      told_by_tree m a b.tree (of_shown m a here) same ∙ sym (told_by_tree m b b.tree (of_shown m b there) refl)
+      told_by_tree m a b.tree here same ∙ sym (told_by_tree m b b.tree there refl)
 
   one_sides : (i : InstanceValue) (xs ys : List SideValue) → ShowsSides i xs → ShowsSides i ys → xs ≡ ys
   one_sides i xs ys here there =

@@ -10,7 +10,8 @@ use Rattle.tree_meet.specs.Laws.{CommonRowsLaw}
 use Rattle.reply_laws.specs.Meet.{MeetTextLaw}
 use Rattle.one_text.specs.Told.{Spot, on_side, at_end, in_meeting, RepliesFor, TellsAt}
 use Rattle.one_text.specs.Laws.{side_of, HaveSameOrders, CanonicalTextLaw, SameTextLaw}
-use Rattle.one_text.proofs.Sides.{HasTreeOf, Shown, solved}
+use Rattle.verdict_replies.specs.Verdicts.{ShowsAllOrders}
+use Rattle.one_text.proofs.Sides.{Shown, solved}
 use Rattle.one_text.proofs.Ends.{ended}
 use Rattle.one_text.proofs.Meetings.{met}
 
@@ -21,7 +22,7 @@ shown common meet text at_end m h = ended text m h
 shown common meet text in_meeting m h = met common meet text m h
 
 -- a side is told by its tree
-pub told_by_tree : (m : RowList) (side : SideValue) (t : Outline) → HasTreeOf m side → side.tree ≡ t → side ≡ side_of t
+pub told_by_tree : (m : RowList) (side : SideValue) (t : Outline) → ShowsAllOrders m side → side.tree ≡ t → side ≡ side_of t
 told_by_tree m side t shows e = let order : side ≡ side_of side.tree = ap (λ o. record { tree = side.tree; order = o }) shows.leaves in order ∙ ap side_of e
 
 pub canonical_text : CommonRowsLaw → MeetTextLaw → CanonicalTreeLaw → CanonicalTextLaw
@@ -35,7 +36,7 @@ same_columns : (m n : RowList) (o : List ℕ) → HaveSameOrders m n → IsValid
 same_columns m n o same v = order_unique n.columns m.columns o ((same o).0 v).order v.order
 
 -- the same orders over as many columns are shown by the same tree
-same_tree : SameOrdersLaw → (m n : RowList) (side other : SideValue) → HaveSameOrders m n → HasTreeOf m side → HasTreeOf n other → n.columns ≡ m.columns → other.tree ≡ side.tree
+same_tree : SameOrdersLaw → (m n : RowList) (side other : SideValue) → HaveSameOrders m n → ShowsAllOrders m side → ShowsAllOrders n other → n.columns ≡ m.columns → other.tree ≡ side.tree
 same_tree one_tree m n side other same shows shows_other e =
     one_tree m.columns n.rows m.rows other.tree side.tree
     (subst (λ c. IsCanonicalOver c other.tree) e (shows_other.proper, shows_other.canonical))

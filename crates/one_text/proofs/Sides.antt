@@ -19,21 +19,10 @@ use Rattle.verdict_replies.specs.Verdicts.{ShowsAllOrders, IsClaimOf, status_of,
 use Rattle.reply_laws.specs.Solve.{IsYesAnd}
 use Rattle.one_text.specs.Told.{on_side, SolvesSide, TellsAt}
 
--- a canonical tree whose frontiers are exactly the valid orders of the matrix, and its leaves, one of these
-pub record HasTreeOf (m : RowList) (side : SideValue) : Type 0 where
-  pub proper : IsProper m.columns side.tree
-  pub canonical : IsCanonical side.tree
-  pub orders : (o : List ℕ) → IsFrontier side.tree o ↔ IsValidOrder m.columns m.rows o
-  pub leaves : side.order ≡ leaves side.tree
-  pub order : IsValidOrder m.columns m.rows side.order
-
-pub of_shown : (m : RowList) (side : SideValue) → ShowsAllOrders m side → HasTreeOf m side
-of_shown m side h = record { proper = h.proper; canonical = h.canonical; orders = h.orders; leaves = h.leaves; order = h.order }
-
 -- what is told at a spot shows the orders of the matrix
 pub record Shown (m : RowList) (Tells : SideValue → Type 0) : Type 0 where
   pub side : SideValue
-  pub shows : HasTreeOf m side
+  pub shows : ShowsAllOrders m side
   pub tells : Tells side
 
 -- the instance that is read, if one is
@@ -53,7 +42,7 @@ solution_of kind file bytes text i e reply = subst (λ j. IsVerdictReply j 0 tex
 -- the side that is there
 picked : (m : RowList) (side : Option SideValue) → IsSomeAnd side (ShowsAllOrders m) → Shown m (λ told. IsSomeAnd side (λ s. s ≡ told))
 picked m None shows = absurd shows
-picked m (Some side) shows = record { side = side; shows = of_shown m side shows; tells = refl }
+picked m (Some side) shows = record { side = side; shows = shows; tells = refl }
 
 claimed : (i : InstanceValue) (s : ℕ) (claim : Claim) → IsSideOf i s → 0 ≡ status_of claim → IsClaimOf i claim
     → Shown (derived_matrix i s) (λ told. IsYesAnd claim (λ value. HasSide value s (λ side. side ≡ told)))
@@ -65,4 +54,4 @@ solved text s m h =
     let solution = solution_of h.kind h.file h.bytes text h.value h.found h.reply in
     let v = solution.verdict in
     let shown = claimed h.value s v.claim h.side solution.status_is solution.holds.claim in
-    record { side = shown.side; shows = subst (λ k. HasTreeOf k shown.side) (sym h.matrix_is) shown.shows; tells = (v, solution.grammar, solution.text_is, shown.tells) }
+    record { side = shown.side; shows = subst (λ k. ShowsAllOrders k shown.side) (sym h.matrix_is) shown.shows; tells = (v, solution.grammar, solution.text_is, shown.tells) }
