@@ -24,7 +24,8 @@ import sys
 HOME = os.path.dirname(os.path.dirname(os.path.abspath(__file__)))
 PAGE = os.path.join("docs", "SCEPTICS.md")
 CALL = ("crates/pq_cli/src/top.rt", "run")
-# The clause that says the whole promise, and the definition that says it command by command.
+# The clause on the status alone, and the one that says the whole promise, with the definition that says it command by command.
+ANSWER = "answer"
 PROMISE = "promise"
 PROMISED = ("crates/reply_laws/specs/Promise.antt", "IsPromised")
 # The crates whose laws say what replies mean.
@@ -279,15 +280,21 @@ def told(names):
     return ", ".join(f"`{name}` {line}" for line, name in names)
 
 
-def table(listing, known=None):
-    """A table of the definitions that another listing lacks. Of a definition that stands there this one may have more cases."""
-    others_of_it = [known] if known else []
-    rows = [f"| {path} | {lines} | {told(names)} |" for path, names, lines in listing.beyond(*others_of_it)]
-    more = listing.lines() - listing.lines(*others_of_it) - known.lines() if known else 0
+def more_cases(listing, known):
+    """How many lines of definitions that other listings have as well this one has more: of further cases."""
+    return sum(len(lines) - max(len(one.found.get(path, {}).get(name, [])) for one in known)
+               for path, found in listing.found.items() for name, lines in found.items()
+               if any(name in one.found.get(path, {}) for one in known))
+
+
+def table(listing, *known):
+    """A table of the definitions that other listings lack. Of a definition that stands there this one may have more cases."""
+    rows = [f"| {path} | {lines} | {told(names)} |" for path, names, lines in listing.beyond(*known)]
+    more = more_cases(listing, known)
     if more:
         rows.append(f"| further cases of definitions that stand above | {more} | |")
     return ["| File | Lines | Definitions, each with the line where it begins |", "|---|---|---|", *rows,
-            f"| together | {listing.lines(*others_of_it) + more} | |"]
+            f"| together | {listing.lines(*known) + more} | |"]
 
 
 def public_laws(crate):
@@ -317,7 +324,7 @@ def case_of(word):
 
 def counts(whole):
     """How many lines each command rests on, of a command with a kind by the first kind, and `solve` by each."""
-    rows = ["| Command | Behind the clause `promise` | Behind all clauses of `run` |", "|---|---|---|"]
+    rows = ["| Command | Yes and no: behind `answer` | Tree and cycle: behind `promise` | Every byte: behind all clauses of `run` |", "|---|---|---|---|"]
     promised = words_of("\n".join(whole.found[PROMISED[0]][PROMISED[1]]))
     for command in cases(*COMMANDS):
         parts = [part[0] for part in file_of(COMMANDS[0]).definitions["Command"].parts]
@@ -326,9 +333,9 @@ def counts(whole):
         for kind in kinds:
             left_out = others(command, kind)
             words = " ".join(word_of(case) for case in (command, kind) if case)
-            behind = Listing(*CALL, left_out, PROMISE).lines() if command in promised else "it says nothing"
-            rows.append(f"| `{words}` | {behind} | {Listing(*CALL, left_out).lines()} |")
-    return rows + [f"| all | {Listing(*CALL, clause=PROMISE).lines()} | {whole.lines()} |"]
+            behind = [Listing(*CALL, left_out, clause).lines() if command in promised else "it says nothing" for clause in (ANSWER, PROMISE)]
+            rows.append(f"| `{words}` | {behind[0]} | {behind[1]} | {Listing(*CALL, left_out).lines()} |")
+    return rows + [f"| all | {Listing(*CALL, clause=ANSWER).lines()} | {Listing(*CALL, clause=PROMISE).lines()} | {whole.lines()} |"]
 
 
 def laws(whole):
@@ -364,8 +371,9 @@ def of_kit(whole):
 def lists():
     """The lists of the page, by their names."""
     left_out = others(*FIRST)
-    promise, first, whole = Listing(*CALL, left_out, PROMISE), Listing(*CALL, left_out), Listing(*CALL)
-    return {"counts": counts(whole), "promise": table(promise), "clauses": table(first, promise), "others": table(whole, first),
+    answer, promise = (Listing(*CALL, left_out, clause) for clause in (ANSWER, PROMISE))
+    first, whole = Listing(*CALL, left_out), Listing(*CALL)
+    return {"counts": counts(whole), "answer": table(answer), "promise": table(promise, answer), "clauses": table(first, answer, promise), "others": table(whole, first),
             "laws": laws(whole), "code": of_code(whole), "kit": of_kit(whole)}
 
 

@@ -1,15 +1,16 @@
 -- What a run promises where nothing fails.
-use Rattle.std.proofs.Common.{◌≡◌, ◌≢◌, ◌⊎◌, ◌↔◌, ℕ, ◌≤◌, List, [], ◌∷◌, Option, Some, None, inl, inr, refl, ◌∙◌, ap, arith, IfSome}
+use Rattle.std.proofs.Common.{◌≡◌, ◌≢◌, ◌⊎◌, ◌↔◌, ℕ, ◌≤◌, List, [], ◌∷◌, Option, Some, None, inl, inr, refl, sym, ◌∙◌, ap, arith, IfSome}
 use Rattle.std.specs.Prelude.{IsNone}
 use Rattle.std.proofs.lemmas.Bool.{cases_eq}
 use Rattle.command_input.specs.Words.{Command, Solve, Check, Extend, Gen, Meet, ListOrders, UnitModel, CheckUnit, Core, CheckCore}
 use Rattle.reply_laws.specs.Replies.{refused_at, refused_behind, refused_of_two, refusal_of, Replies}
 use Rattle.pq_io.specs.Taken.{Taken}
-use Rattle.pq_cli.specs.Runs.{AllFit, taken_since, TakesFiles, WritesOut, CountsWrites}
+use Rattle.pq_cli.specs.Runs.{AllFit, OfTaken, taken_since, TakesFiles, WritesOut, CountsWrites}
 use Rattle.command_input.specs.TreeFiles.{tree_file}
 use Rattle.pq_cli.specs.Stops.{stop_status, failure_status}
 use Rattle.pq_cli.specs.Promise.{NothingFails, WhereWellFormed, Completes, KeepsPromise}
 use Rattle.reply_laws.specs.Promise.{PromiseLaw}
+use Rattle.reply_laws.specs.Answer.{IsAnswer, AnswerLaw}
 use Rattle.pq_cli.specs.declared.stop.Stop.{Stop}
 use Rattle.pq_cli.specs.declared.stop.Stop.TheVariants as stop
 use Rattle.pq_cli.specs.declared.stop.Failure.{Failure}
@@ -123,3 +124,20 @@ module _ {S : Type 0} (content : S → List ℕ → Option (List ℕ)) (taken : 
       → IfSome found (λ c. NothingFails (faults old) (faults new) writes_before writes_after status → KeepsPromise ts c before after status)
   promise law None ended = tt
   promise law (Some c) ended = λ nothing files f none. let reply = (ended nothing).reply files f none in (reply.0, reply.2, law c files status reply.0 reply.1)
+
+-- what the status of a run answers
+pub answer : AnswerLaw → (found : Option Command) (ts : List Taken) (before after : Option (List ℕ)) (status : ℕ) → IfSome found (λ c. WritesOut ts c before after status) → (status ≡ 0) ⊎ (status ≡ 1)
+    → IfSome found (λ c. OfTaken ts (λ files. IsAnswer c files status))
+answer law None ts before after status written either = tt
+answer law (Some c) ts before after status written either = λ files fit. let w = written.whole either files fit in law c files status w.0 w.1
+
+-- a failure has no such status
+failed_low : (f : Failure) → (failure_status f ≡ 0) ⊎ (failure_status f ≡ 1) → ⊥
+failed_low failure.Words either = elim either [ inl e ↦ omega (arith, e) | inr e ↦ omega (arith, e) ]
+failed_low (failure.Stopped (stop.Refused which refusal)) either = elim either [ inl e ↦ omega (arith, e) | inr e ↦ omega (arith, e) ]
+failed_low (failure.Stopped stop.ReadFault) either = elim either [ inl e ↦ omega (arith, e) | inr e ↦ omega (arith, e) ]
+failed_low (failure.Stopped stop.NoMemory) either = elim either [ inl e ↦ omega (arith, e) | inr e ↦ omega (arith, e) ]
+failed_low failure.WriteFault either = elim either [ inl e ↦ omega (arith, e) | inr e ↦ omega (arith, e) ]
+
+pub failed_answers : (f : Failure) (status : ℕ) (P : Type 0) → status ≡ failure_status f → (status ≡ 0) ⊎ (status ≡ 1) → P
+failed_answers f status P is either = absurd (failed_low f (elim either [ inl e ↦ inl (sym is ∙ e) | inr e ↦ inr (sym is ∙ e) ]))

@@ -2,6 +2,7 @@
 ghost use Rattle.std.specs.Prelude.{◌≡◌, ◌⊎◌, ◌≢◌, ◌≤◌, ◌↔◌, List, ℕ, Option, None, Some, IfNone, IsNone, IfSome};
 ghost use Rattle.command_input.specs.Words.{Command, texts, command_of};
 ghost use Rattle.reply_laws.specs.Replies.{refusal_of};
+ghost use Rattle.reply_laws.specs.Answer.{IsAnswer};
 ghost use Rattle.pq_io.specs.Taken.{Taken};
 ghost use Rattle.pq_cli.specs.Runs.{AllFit, OfTaken, AgreesWith, TakesFiles, taken_since, WritesOut, CountsWrites, Offers, IsLineOf};
 ghost use Rattle.pq_cli.specs.Promise.{NothingFails, Completes, KeepsPromise};
@@ -39,6 +40,9 @@ pub fn run_real<R: Files + Input + Drop>(
     ensures files { IfSome (command_of (texts words.now)) (λ c.
         TakesFiles (λ _ _. None) (λ shelf. shelf.taken) (λ shelf. shelf.faults) files.old files.new c
         result) }
+    ensures answer { (result ≡ 0) ⊎ (result ≡ 1) → IfSome (command_of (texts words.now)) (λ c.
+        OfTaken (taken_since files.old.taken files.new.taken)
+        (λ taken. IsAnswer c taken result)) }
     ensures output { IfSome (command_of (texts words.now)) (λ c.
         WritesOut (taken_since files.old.taken files.new.taken) c (Some out.old.sent)
         (Some out.new.sent) result) }

@@ -1,7 +1,8 @@
 // The top call: one command, from the words to the status.
 ghost use Rattle.std.specs.Prelude.{◌≡◌, ◌⊎◌, ◌↔◌, ◌≤◌, IfNone, IfOk, IfErr, IsNone, List, ℕ, IfSome};
 ghost use Rattle.command_input.specs.Words.{texts, command_of};
-ghost use Rattle.pq_cli.specs.Runs.{TakesFiles, taken_since, WritesOut, CountsWrites, Offers, IsLineOf, failure_line};
+ghost use Rattle.reply_laws.specs.Answer.{IsAnswer};
+ghost use Rattle.pq_cli.specs.Runs.{OfTaken, TakesFiles, taken_since, WritesOut, CountsWrites, Offers, IsLineOf, failure_line};
 ghost use Rattle.pq_cli.specs.Stops.{run_status, failure_status};
 ghost use Rattle.pq_cli.specs.Promise.{NothingFails, Completes, KeepsPromise};
 
@@ -10,7 +11,7 @@ use crate::report::report;
 use crate::stop::Failure;
 use commands::task_of;
 use pq_io::{Shelf, Sink, write_all};
-use reply_laws::promise_law;
+use reply_laws::{answer_law, promise_law};
 use std::alloc::Global;
 
 /// Does what the words ask for, and answers the exit status.
@@ -60,6 +61,11 @@ pub fn run<F: Shelf, O: Sink, E: Sink>(
     ensures files { IfSome (command_of (texts words.now)) (λ c.
         TakesFiles F.content F.taken F.faults files.old files.new c result) }
 
+    // Shortly: what the status answers.
+    ensures answer { (result ≡ 0) ⊎ (result ≡ 1) → IfSome (command_of (texts words.now)) (λ c.
+        OfTaken (taken_since (F.taken files.old) (F.taken files.new))
+        (λ taken. IsAnswer c taken result)) }
+
     // What is written is a reply to the bytes of the files.
     ensures output { IfSome (command_of (texts words.now)) (λ c.
         WritesOut (taken_since (F.taken files.old) (F.taken files.new)) c (O.written out.old) (O.written out.new) result) }
@@ -90,6 +96,7 @@ pub fn run<F: Shelf, O: Sink, E: Sink>(
         → KeepsPromise (taken_since (F.taken files.old) (F.taken files.new)) c (O.written out.old) (O.written out.new) result) }
 {
     promise_law();
+    answer_law();
     match decide(alloc, words, files, out) {
         Ok(status) => status,
         Err(failure) => {

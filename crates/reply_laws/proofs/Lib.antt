@@ -7,3 +7,4 @@ pub mod ListLaws
 pub mod Meetings
 pub mod Units
 pub mod Promises
+pub mod Answered

@@ -8,3 +8,4 @@ pub mod Core
 pub mod Meet
 pub mod Lists
 pub mod Promise
+pub mod Answer

@@ -19,7 +19,7 @@ pub use core_rows::{core_judgement_law, core_law};
 pub use extend::extend_law;
 pub use list::list_law;
 pub use meet::meet_law;
-pub use promise::promise_law;
+pub use promise::{answer_law, promise_law};
 pub use solve::{model_law, reply_law};
 pub use unit::unit_reply_law;
 pub use unit_check::unit_check_law;

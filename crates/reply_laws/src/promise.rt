@@ -1,5 +1,6 @@
 // What a reply promises.
 ghost use Rattle.reply_laws.specs.Promise.{PromiseLaw};
+ghost use Rattle.reply_laws.specs.Answer.{AnswerLaw};
 
 use crate::check::{check_law, solved_law};
 use crate::core_rows::{core_judgement_law, core_law};
@@ -29,4 +30,12 @@ pub fn promise_law()
     list_law();
     unit_reply_law();
     unit_check_law();
+}
+
+/// What the status of a reply answers, whatever the command: whether there is an order, a unit model or a shared order, or
+/// that what is judged is true. It is less than [`promise_law`] says, and less has to be read for it.
+pub fn answer_law()
+    ensures { AnswerLaw }
+{
+    promise_law();
 }

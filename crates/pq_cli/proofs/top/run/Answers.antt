@@ -1,6 +1,7 @@
 use Rattle.command_input.specs.Words.{texts, command_of}
 use Rattle.pq_cli.specs.Stops.{failure_status}
-use Rattle.pq_cli.proofs.Promises.{reply_low, failure_low, complete, promise}
+use Rattle.pq_cli.proofs.Promises.{reply_low, failure_low, complete, promise, answer, failed_answers}
+use Rattle.pq_cli.specs.Runs.{taken_since}
 use Rattle.pq_cli.proofs.top.run.Goals as goal
 
 pub returns-in-Err-clause-files : goal.returns-in-Err-clause-files
@@ -31,3 +32,11 @@ pub returns-in-Err-clause-promise : goal.returns-in-Err-clause-promise
 returns-in-Err-clause-promise g c =
     promise g.F.Shelf.content g.F.Shelf.taken g.F.Shelf.faults c.args.files.now c.decide.new.files (g.O.Sink.written c.args.out.now) (g.O.Sink.written c.decide.new.out) (g.O.Sink.faults c.args.out.now)
     (g.O.Sink.faults c.decide.new.out) c.status.result c.promise_law.ensures (command_of (texts c.args.words.now)) (returns-in-Err-clause-complete g c)
+
+pub returns-in-Ok-clause-answer : goal.returns-in-Ok-clause-answer
+returns-in-Ok-clause-answer g c =
+    answer c.answer_law.ensures (command_of (texts c.args.words.now)) (taken_since (g.F.Shelf.taken c.args.files.now) (g.F.Shelf.taken c.decide.new.files)) (g.O.Sink.written c.args.out.now)
+    (g.O.Sink.written c.decide.new.out) c.in-Ok.status c.in-Ok.ensures.output
+
+pub returns-in-Err-clause-answer : goal.returns-in-Err-clause-answer
+returns-in-Err-clause-answer g c = failed_answers c.in-Err.failure c.status.result _ c.status.ensures
