@@ -46,6 +46,7 @@ from limits import AT_LIMITS
 from listing import LIST_CASES, REFUTED as UNLISTED, list_problem, refused_problem, small_trees
 from pages import blank_problems, loose_commands, page_problems, pages
 from program import HOME, PROGRAM, SECONDS, run, run_over
+from rows import ROW_CASES, row_checks
 from cores import CORE_CASES, core_problems
 from sessions import SESSION_CASES, drawn, extend_problem, gen_problem, sessions
 from streams import difference, streams
@@ -110,7 +111,7 @@ def example(name):
 def in_folders(report, top, program):
     """The cases and the streams, each in a folder of its own."""
     tried = [(case["name"], run_case, case) for case in CASES + KIND_CASES + GRAPH_CASES + SESSION_CASES + LIST_CASES + FORGED_CASES]
-    tried += [(case["name"], run_case, case) for case in meetings.MEET_CASES + units.UNIT_CASES + CORE_CASES]
+    tried += [(case["name"], run_case, case) for case in meetings.MEET_CASES + units.UNIT_CASES + CORE_CASES + ROW_CASES]
     tried += [(name, lambda _, *given, stream=stream: stream(*given), None) for name, stream in streams()]
     for number, (name, check, case) in enumerate(tried):
         folder = os.path.join(top, str(number))
@@ -163,6 +164,7 @@ def without_folders():
         yield f"list {content}", refused_problem, (content,)
     yield from units.checks()
     yield from core_problems()
+    yield from row_checks()
     yield from short_cycles.checks()
 
 

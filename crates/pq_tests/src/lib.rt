@@ -1,26 +1,14 @@
-//! Runs of the top call over files and sinks in memory, as rows of tables: a test names the first row that is not as it
-//! is wanted. The crate has no running code.
+//! Runs of the top call over files and sinks in memory: a few of each command, and what sinks in memory and a library
+//! call alone can show. The crate has no running code.
 #![tactic(auto)]
 
 #[cfg(test)]
-mod cores;
+mod drawn;
 #[cfg(test)]
-mod forged;
-#[cfg(test)]
-mod graphs;
+mod few;
 #[cfg(test)]
 mod limits;
 #[cfg(test)]
-mod lists;
-#[cfg(test)]
-mod matrices;
-#[cfg(test)]
-mod meetings;
+mod room;
 #[cfg(test)]
 mod runs;
-#[cfg(test)]
-mod sessions;
-#[cfg(test)]
-mod units;
-#[cfg(test)]
-mod versions;

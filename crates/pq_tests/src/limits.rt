@@ -1,5 +1,5 @@
 // Runs at the limits of bytes and of columns.
-use crate::runs::{is_checked, is_left, outcome_with};
+use crate::runs::{Call, Wanted, leaves};
 use pq_io::NoMemory;
 use std::alloc::Global;
 use std::test::Fail;
@@ -7,7 +7,18 @@ use std::test::Fail;
 // Whether a check of a verdict of so many bytes, none of which a verdict has, writes this line.
 fn is_said_of(alloc: Global, count: usize, line: &[u8]) -> Result<bool, NoMemory> {
     let bytes = vec![in alloc; b'x'; count]?;
-    is_checked(alloc, "matrix", b"1\n", b"", &bytes, line)
+    let call = Call {
+        words: &["check", "matrix", "first", "second"],
+        files: [b"1\n", &bytes],
+        room: 100,
+        err_room: 100,
+    };
+    let wanted = Wanted {
+        status: 1,
+        out: line,
+        err: b"",
+    };
+    leaves(alloc, &call, &wanted)
 }
 
 #[test]
@@ -32,29 +43,30 @@ fn greatest_verdict(alloc: Global) -> Result<Vec<u8>, NoMemory> {
 }
 
 // Whether `solve` on a file of no rows leaves this.
-fn is_solved(
-    alloc: Global,
-    file: &[u8],
-    status: u8,
-    out: &[u8],
-    err: &[u8],
-) -> Result<bool, NoMemory> {
-    let left = outcome_with(alloc, &["solve", "rows", "matrix"], file, b"", 30_000, 100)?;
-    Ok(is_left(&left, status, out, err))
+fn is_solved(alloc: Global, file: &[u8], wanted: &Wanted<'_>) -> Result<bool, NoMemory> {
+    let call = Call {
+        words: &["solve", "rows", "first"],
+        files: [file, b""],
+        room: 30_000,
+        err_room: 100,
+    };
+    leaves(alloc, &call, wanted)
 }
 
 #[test]
 fn the_greatest_number_of_columns(rt: HostRuntime) -> Result<(), Fail> {
-    let wanted = greatest_verdict(rt.alloc())?;
-    assert!(rt; is_solved(rt.alloc(), b"2048\n", 0, &wanted, b"")?);
-    assert!(rt;
-        is_solved(
-            rt.alloc(),
-            b"2049\n",
-            3,
-            b"",
-            b"pq: refused 1 code 7 line 1\n"
-        )?
-    );
+    let verdict = greatest_verdict(rt.alloc())?;
+    let solved = Wanted {
+        status: 0,
+        out: &verdict,
+        err: b"",
+    };
+    assert!(rt; is_solved(rt.alloc(), b"2048\n", &solved)?);
+    let refused = Wanted {
+        status: 3,
+        out: b"",
+        err: b"pq: refused 1 code 7 line 1\n",
+    };
+    assert!(rt; is_solved(rt.alloc(), b"2049\n", &refused)?);
     Ok(())
 }
