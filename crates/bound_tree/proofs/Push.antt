@@ -21,6 +21,10 @@ one_more f old all new i l e k =
     k ∙ ap (λ x. x ++ f i ∷ []) e ∙ append_assoc old (map f (range_with_len 1 (i - 1))) (f i ∷ []) ∙
     ap (λ x. old ++ x) (sym (map-range_with_len_more f 1 (i - 1) i (omega arith)) ∙ ap (λ m. map f (range_with_len 1 m)) n)
 
+-- the stretches of all gaps
+pub all_gaps : (f : ℕ → Stretch) (old all : List Stretch) (i n : ℕ) → i - 1 ≡ n → all ≡ old ++ map f (range_with_len 1 (i - 1)) → all ≡ old ++ map f (range_with_len 1 n)
+all_gaps f old all i n same e = e ∙ ap (λ k. old ++ map f (range_with_len 1 k)) same
+
 starts_more : (s : ℕ) (us : List Outline) (u : Outline) → starts s (forest (us ++ u ∷ [])) ≡ starts s (forest us) ++ (s + length (leaves_of (forest us)) + length (leaves u)) ∷ []
 starts_more s [] u =
     let n : s + length (leaves u) ≡ s + 0 + length (leaves u) = omega arith in

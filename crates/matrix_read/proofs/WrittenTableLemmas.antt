@@ -1,6 +1,6 @@
 -- The table that is written of a matrix is read as that matrix.
-use Rattle.std.proofs.Common.{◌≡◌, ℕ, zero, suc, ◌<◌, ◌≤◌, ◌+◌, ◌==◌, ◌||◌, List, [], ◌∷◌, length, map, codes, if◌then◌else◌, ap, sym, ◌∙◌, refl, arith, None, true, false, eq-eqb, inl, inr}
-use Rattle.std.proofs.lemmas.Bool.{cases_eq, ne_eqb, le-ltb}
+use Rattle.std.proofs.Common.{◌≡◌, ℕ, zero, suc, ◌<◌, ◌≤◌, ◌+◌, ◌==◌, ◌||◌, List, [], ◌∷◌, length, map, codes, if◌then◌else◌, ap, sym, ◌∙◌, refl, arith, None, true, false, eq-eqb}
+use Rattle.std.proofs.lemmas.Bool.{le-ltb}
 use Rattle.std.proofs.lemmas.List.{length-map}
 use Rattle.std.specs.List.{list_any, list_all, AllByRecursion}
 use Rattle.std.proofs.lemmas.List.Elements.{recursion_from_All}
@@ -9,7 +9,7 @@ use Rattle.csv.specs.Writing.{read_back}
 use Rattle.csv.specs.declared.parser.State.TheVariants as st
 use Rattle.csv.proofs.RoundTrip.{read-write}
 use Rattle.column_order.specs.Orders.{has}
-use Rattle.row_model.specs.Rows.{Ascends, IsRow}
+use Rattle.row_model.specs.Rows.{IsRow}
 use Rattle.row_model.specs.declared.refusal.Read.TheVariants as read
 use Rattle.row_model.specs.declared.TheConstants.{MAX_COLUMNS, MAX_ROWS}
 use Rattle.row_model.specs.declared.code.TheConstants.{CSV}
@@ -21,7 +21,9 @@ use Rattle.matrix_read.specs.Names.{has_twice}
 use Rattle.matrix_read.specs.TableLaws.{LabelledRow, crosses_from, records_with, table_text, Differ, TableLaw}
 use Rattle.matrix_read.proofs.RecordLemmas.{none_at_end, records_step}
 use Rattle.matrix_read.proofs.TableLemmas.{present_from, present_columns, code_none, refusal_later, none_refused, records_read, table_short}
-use Rattle.row_model.proofs.Ascending.{lacks_low}
+use Rattle.matrix_read.specs.Written.{digits_from}
+use Rattle.matrix_read.proofs.DenseLemmas.{ones_from}
+use Rattle.matrix_read.proofs.WrittenLemmas.{ones-written}
 use Rattle.matrix_read.proofs.CellLemmas.{names_law_holds}
 
 -- the records of a text that csv writes
@@ -60,28 +62,22 @@ none_foreign column (suc n) row =
       | false ↦ none_foreign (column + 1) n row
     ]
 
-crosses_from-later : (x column n : ℕ) (row : List ℕ) → x < column → crosses_from column n (x ∷ row) ≡ crosses_from column n row
-crosses_from-later x column zero row lt = refl
-crosses_from-later x column (suc n) row lt = rw (ne_eqb x column (λ e. omega (arith, e)), crosses_from-later x (column + 1) n row (omega arith)) refl
-
-marks-written : (c low n : ℕ) (row : List ℕ) → low + n ≡ c → Ascends c low row → present_from (low + 1) (crosses_from (low + 1) n row) ≡ row
-marks-written c low zero [] e h = refl
-marks-written c low zero (x ∷ row) e h = absurd (omega (arith, h.0, h.1))
-marks-written c low (suc n) [] e h = marks-written c (low + 1) n [] (omega arith) tt
-marks-written c low (suc n) (x ∷ row) e h =
-    elim (cases_eq x (low + 1)) [
-      | inl same ↦
-          let rest : Ascends c (low + 1) row = rw same at h.2 in
-          rw (eq-eqb x (low + 1) same, crosses_from-later x (low + 1 + 1) n row (omega (arith, same)), marks-written c (low + 1) n row (omega arith) rest) (ap (λ a. a ∷ row) (sym same))
-      | inr other ↦
-          let above : Ascends c (low + 1) (x ∷ row) = (omega (arith, other, h.0), h.1, h.2) in
-          rw (ne_eqb x (low + 1) other, lacks_low c x (low + 1) row h.2 (omega (arith, above.0))) (marks-written c (low + 1) n (x ∷ row) (omega arith) above)
+-- crosses mark the columns that ones mark
+present-crosses : (column n : ℕ) (row : List ℕ) → present_from column (crosses_from column n row) ≡ ones_from column (digits_from column n row)
+present-crosses column zero row = refl
+present-crosses column (suc n) row =
+    elim (has row column) as (λ v. present_from column ((if v then codes "x" else []) ∷ crosses_from (column + 1) n row) ≡ ones_from column ((if v then 49 else 48) ∷ digits_from (column + 1) n row)) [
+      | true ↦ ap (λ later. column ∷ later) (present-crosses (column + 1) n row)
+      | false ↦ present-crosses (column + 1) n row
     ]
+
+marks-written : (n : ℕ) (row : List ℕ) → IsRow n row → present_from 1 (crosses_from 1 n row) ≡ row
+marks-written n row is = present-crosses 1 n row ∙ ones-written n 0 n row (omega arith) is
 
 -- no record is refused, and each is read as its row
 module _ (n : ℕ) where
   record_row-written : (labelled : LabelledRow) → IsRow n labelled.row → record_row (fields_with n labelled) ≡ labelled.row
-  record_row-written labelled is = sym (present_columns (fields_with n labelled)) ∙ ap (present_from 1) (cells-written 1 n labelled.row) ∙ marks-written n 0 n labelled.row (omega arith) is
+  record_row-written labelled is = sym (present_columns (fields_with n labelled)) ∙ ap (present_from 1) (cells-written 1 n labelled.row) ∙ marks-written n labelled.row is
 
   code-written : (before : ℕ) (labelled : LabelledRow) → before < MAX_ROWS → record_code before (fields_with n labelled) ≡ None
   code-written before labelled few = code_none before (fields_with n labelled) few (ap (list_any is_foreign_cell) (cells-written 1 n labelled.row) ∙ none_foreign 1 n labelled.row)

@@ -1,4 +1,5 @@
 mod holds;
+mod small;
 mod texts;
 mod unit_models;
 mod version_1;

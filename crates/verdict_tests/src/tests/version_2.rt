@@ -1,18 +1,15 @@
 // Verdicts of version 2 on small instances, what version 1 makes of the same trees, and trees by themselves.
-ghost use Rattle.std.specs.Prelude.{◌≡◌, ◌<◌, ◌≤◌, IfOk, length};
-ghost use Rattle.instance_model.specs.Instance.{IsInstance};
-ghost use Rattle.instance_model.specs.Value.{instance_value};
+ghost use Rattle.std.specs.Prelude.{◌≡◌, ◌<◌};
 
-use super::version_1::{judged, spider};
-use graph_model::Bigraph;
+use super::small::{Small, free, judged, long_path, pair, path};
 use pair_classes::{Classes, even_classes};
 use pq_tree::PqTree;
-use row_model::{Kind, Matrix, NoMemory};
+use row_model::{Matrix, NoMemory};
 use std::alloc::Global;
 use std::process::Abort;
 use std::test::Fail;
 use step_count::{Blank, Brand, Ledger, Steps};
-use verdict_check::{Checked, Instance, Reason, complete};
+use verdict_check::{Checked, Reason, complete};
 
 const VERSION_1: &[u8] = b"pq-verdict 1\n";
 
@@ -41,194 +38,67 @@ const SPIDER: &[u8] =
 const TRIANGLE: &[u8] =
     b"kind matrix\ncolumns 3\nanswer no\nside 1\ncycle 3\n1 3 row 1\n3 2 row 3\n2 1 row 2\nend\n";
 
-// The row 000.
-fn free(alloc: Global) -> Result<Matrix, NoMemory>
-    ensures { IfOk result (λ m. (m.columns ≤ 4) × (length m.rows ≤ 3)) }
-{
-    let mut m = Matrix::new(alloc, 3)?;
-    m.push_row(&[])?;
-    Ok(m)
-}
+const INCOMPLETE: Checked = Checked::Invalid(Reason::Complete(1));
 
-// The row 110.
-fn pair(alloc: Global) -> Result<Matrix, NoMemory>
-    ensures { IfOk result (λ m. (m.columns ≤ 4) × (length m.rows ≤ 3)) }
-{
-    let mut m = Matrix::new(alloc, 3)?;
-    m.push_row(&[1, 2])?;
-    Ok(m)
-}
-
-// The rows 110 and 011.
-fn path(alloc: Global) -> Result<Matrix, NoMemory>
-    ensures { IfOk result (λ m. (m.columns ≤ 4) × (length m.rows ≤ 3)) }
-{
-    let mut m = Matrix::new(alloc, 3)?;
-    m.push_row(&[1, 2])?;
-    m.push_row(&[2, 3])?;
-    Ok(m)
-}
-
-// The rows 110, 011 and 101.
-fn triangle(alloc: Global) -> Result<Matrix, NoMemory>
-    ensures { IfOk result (λ m. (m.columns ≤ 4) × (length m.rows ≤ 3)) }
-{
-    let mut m = Matrix::new(alloc, 3)?;
-    m.push_row(&[1, 2])?;
-    m.push_row(&[2, 3])?;
-    m.push_row(&[1, 3])?;
-    Ok(m)
-}
-
-// The rows 1100, 0110 and 0011.
-fn long_path(alloc: Global) -> Result<Matrix, NoMemory>
-    ensures { IfOk result (λ m. (m.columns ≤ 4) × (length m.rows ≤ 3)) }
-{
-    let mut m = Matrix::new(alloc, 4)?;
-    m.push_row(&[1, 2])?;
-    m.push_row(&[2, 3])?;
-    m.push_row(&[3, 4])?;
-    Ok(m)
-}
-
-// A matrix as it stands.
-fn plain(m: Matrix) -> Instance
-    requires { (m.columns ≤ 4) × (length m.rows ≤ 3) }
-    ensures { IsInstance (instance_value result) }
-{
-    Instance::Plain(Kind::Matrix, m)
-}
-
-// A matrix round a circle.
-fn round(m: Matrix) -> Instance
-    requires { (m.columns ≤ 4) × (length m.rows ≤ 3) }
-    ensures { IsInstance (instance_value result) }
-{
-    Instance::Circular(m)
-}
-
-// One y with three xs.
-fn fork(alloc: Global) -> Result<Instance, Fail>
-    ensures { IfOk result (λ i. IsInstance (instance_value i)) }
-{
-    let mut g = Bigraph::new(alloc, 3, 1)?;
-    g.add_edge(1, 1)?;
-    g.add_edge(2, 1)?;
-    g.add_edge(3, 1)?;
-    Ok(Instance::Doubly(g))
-}
-
-// Asserts what is said of each verdict, told by its version, the lines after the first, and the answer that is wanted.
+// Asserts what is said of each verdict, told by its lines after the first.
 fn assert_judged(
     rt: &impl Abort,
     alloc: Global,
-    instance: &Instance,
-    rows: &[(&[u8], &[u8], Checked)],
-) -> Result<(), Fail>
-    requires { IsInstance (instance_value instance.now) }
-{
+    version: &[u8],
+    rows: &[(Small, &[u8], Checked)],
+) -> Result<(), Fail> {
     for i in 0..rows.len() {
-        let (version, lines, wanted) = rows[i];
-        let checked = judged_lines(alloc, instance, version, lines)?;
-        assert_eq!(rt; checked, wanted, "verdict {i}");
+        let (small, lines, wanted) = rows[i];
+        let mut text = version.to_vec(alloc)?;
+        text.extend_from_slice(lines)?;
+        assert_eq!(rt; judged(alloc, small, &text)?, wanted, "verdict {i}");
     }
     Ok(())
 }
 
-// What is said of the verdict of this version with these lines after the first.
-fn judged_lines(
-    alloc: Global,
-    instance: &Instance,
-    version: &[u8],
-    lines: &[u8],
-) -> Result<Checked, Fail>
-    requires { IsInstance (instance_value instance.now) }
-{
-    let mut text = version.to_vec(alloc)?;
-    text.extend_from_slice(lines)?;
-    judged(alloc, instance, &text)
-}
-
-const INCOMPLETE: Checked = Checked::Invalid(Reason::Complete(1));
-
 #[test]
 fn a_tree_has_to_have_every_order(rt: HostRuntime) -> Result<(), Fail> {
-    let free = plain(free(rt.alloc())?);
     let rows = [
-        (VERSION_2, STAR, Checked::Valid),
-        (VERSION_2, LINE, INCOMPLETE),
-        (VERSION_2, PAIR, INCOMPLETE),
-        (VERSION_1, STAR, Checked::Valid),
-        (VERSION_1, LINE, Checked::Valid),
-        (VERSION_1, PAIR, Checked::Valid),
+        (Small::Free, STAR, Checked::Valid),
+        (Small::Free, LINE, INCOMPLETE),
+        (Small::Free, PAIR, INCOMPLETE),
+        // A row leaves less to have.
+        (Small::Pair, PAIR, Checked::Valid),
+        (Small::Pair, LINE, INCOMPLETE),
+        // Every row is tested before.
+        (Small::Path, LINE, Checked::Valid),
+        (Small::Path, STAR, Checked::Invalid(Reason::Tree(1, 1))),
+        (Small::Path, PAIR, Checked::Invalid(Reason::Tree(1, 2))),
+        (Small::Path, TRIANGLE, Checked::Invalid(Reason::Join(2))),
+        // A no is judged as before.
+        (Small::Triangle, TRIANGLE, Checked::Valid),
+        // A circle by its cut rows.
+        (Small::Ring, RING_PAIR, Checked::Valid),
+        (Small::Ring, RING, INCOMPLETE),
+        // The second side by its own rows.
+        (Small::Fork, FORK_STAR, Checked::Valid),
+        (
+            Small::Fork,
+            FORK_LINE,
+            Checked::Invalid(Reason::Complete(2)),
+        ),
+        // All of side 1 before side 2.
+        (Small::Spider, SPIDER, INCOMPLETE),
     ];
-    assert_judged(&rt, rt.alloc(), &free, &rows)
+    assert_judged(&rt, rt.alloc(), VERSION_2, &rows)
 }
 
 #[test]
-fn a_row_leaves_less_to_have(rt: HostRuntime) -> Result<(), Fail> {
-    let pair = plain(pair(rt.alloc())?);
+fn version_1_takes_a_tree_without_some_orders(rt: HostRuntime) -> Result<(), Fail> {
     let rows = [
-        (VERSION_2, PAIR, Checked::Valid),
-        (VERSION_2, LINE, INCOMPLETE),
+        (Small::Free, STAR, Checked::Valid),
+        (Small::Free, LINE, Checked::Valid),
+        (Small::Free, PAIR, Checked::Valid),
+        (Small::Ring, RING, Checked::Valid),
+        (Small::Fork, FORK_LINE, Checked::Valid),
+        (Small::Spider, SPIDER, Checked::Invalid(Reason::Order(2))),
     ];
-    assert_judged(&rt, rt.alloc(), &pair, &rows)
-}
-
-#[test]
-fn every_row_is_tested_before(rt: HostRuntime) -> Result<(), Fail> {
-    let path = plain(path(rt.alloc())?);
-    let rows = [
-        (VERSION_2, LINE, Checked::Valid),
-        (VERSION_2, STAR, Checked::Invalid(Reason::Tree(1, 1))),
-        (VERSION_2, PAIR, Checked::Invalid(Reason::Tree(1, 2))),
-        (VERSION_2, TRIANGLE, Checked::Invalid(Reason::Join(2))),
-    ];
-    assert_judged(&rt, rt.alloc(), &path, &rows)
-}
-
-#[test]
-fn a_no_is_judged_as_before(rt: HostRuntime) -> Result<(), Fail> {
-    let triangle = plain(triangle(rt.alloc())?);
-    assert_judged(
-        &rt,
-        rt.alloc(),
-        &triangle,
-        &[(VERSION_2, TRIANGLE, Checked::Valid)],
-    )
-}
-
-// The rows of the triangle, cut at column 1, are 001, 011 and 010.
-#[test]
-fn a_circle_by_its_cut_rows(rt: HostRuntime) -> Result<(), Fail> {
-    let triangle = round(triangle(rt.alloc())?);
-    let rows = [
-        (VERSION_2, RING_PAIR, Checked::Valid),
-        (VERSION_2, RING, INCOMPLETE),
-        (VERSION_1, RING, Checked::Valid),
-    ];
-    assert_judged(&rt, rt.alloc(), &triangle, &rows)
-}
-
-#[test]
-fn the_second_side_by_its_own_rows(rt: HostRuntime) -> Result<(), Fail> {
-    let fork = fork(rt.alloc())?;
-    let rows = [
-        (VERSION_2, FORK_STAR, Checked::Valid),
-        (VERSION_2, FORK_LINE, Checked::Invalid(Reason::Complete(2))),
-        (VERSION_1, FORK_LINE, Checked::Valid),
-    ];
-    assert_judged(&rt, rt.alloc(), &fork, &rows)
-}
-
-#[test]
-fn all_of_side_1_before_side_2(rt: HostRuntime) -> Result<(), Fail> {
-    let spider = spider(rt.alloc())?;
-    let rows = [
-        (VERSION_2, SPIDER, INCOMPLETE),
-        (VERSION_1, SPIDER, Checked::Invalid(Reason::Order(2))),
-    ];
-    assert_judged(&rt, rt.alloc(), &spider, &rows)
+    assert_judged(&rt, rt.alloc(), VERSION_1, &rows)
 }
 
 fn classes_counted<L: Ledger>(alloc: Global, m: &Matrix, blank: Blank) -> Result<Classes, NoMemory>
@@ -263,60 +133,35 @@ fn assert_complete(
     rt: &impl Abort,
     alloc: Global,
     m: &Matrix,
-    rows: &[(&[u8], bool)],
+    wanted: bool,
+    trees: &[&[u8]],
 ) -> Result<(), Fail> {
     let classes = classes_of(alloc, m)?;
-    for i in 0..rows.len() {
-        let (text, wanted) = rows[i];
+    for text in trees {
         let answer = is_complete(rt, alloc, m, &classes, text)?;
-        assert_eq!(rt; answer, wanted, "tree {i}");
+        assert_eq!(rt; answer, wanted, "{text:?}");
     }
     Ok(())
 }
 
 #[test]
-fn trees_without_rows(rt: HostRuntime) -> Result<(), Fail> {
-    let free = free(rt.alloc())?;
-    let rows = [
-        (b"(1 2 3)".as_slice(), true),
-        (b"[1 2 3]", false),
-        (b"((1 2) 3)", false),
-    ];
-    assert_complete(&rt, rt.alloc(), &free, &rows)
+fn trees_with_every_order(rt: HostRuntime) -> Result<(), Fail> {
+    let alloc = rt.alloc();
+    let (free, pair, path) = (free(alloc)?, pair(alloc)?, path(alloc)?);
+    assert_complete(&rt, alloc, &free, true, &[b"(1 2 3)"])?;
+    assert_complete(&rt, alloc, &pair, true, &[b"((1 2) 3)"])?;
+    assert_complete(&rt, alloc, &path, true, &[b"[1 2 3]", b"[3 2 1]"])?;
+    // A tree with more frontiers than orders lacks none either.
+    let wide: [&[u8]; 4] = [b"[1 2 3 4]", b"(1 2 3 4)", b"[1 2 (3 4)]", b"((1 2) (3 4))"];
+    assert_complete(&rt, alloc, &long_path(alloc)?, true, &wide)
 }
 
 #[test]
-fn trees_and_one_row(rt: HostRuntime) -> Result<(), Fail> {
-    let pair = pair(rt.alloc())?;
-    let rows = [
-        (b"((1 2) 3)".as_slice(), true),
-        (b"((1 3) 2)", false),
-        (b"[1 2 3]", false),
-    ];
-    assert_complete(&rt, rt.alloc(), &pair, &rows)
-}
-
-#[test]
-fn trees_and_two_rows(rt: HostRuntime) -> Result<(), Fail> {
-    let path = path(rt.alloc())?;
-    let rows = [
-        (b"[1 2 3]".as_slice(), true),
-        (b"[3 2 1]", true),
-        (b"[2 1 3]", false),
-    ];
-    assert_complete(&rt, rt.alloc(), &path, &rows)
-}
-
-// A tree with more frontiers than orders lacks none either.
-#[test]
-fn trees_with_too_many_frontiers(rt: HostRuntime) -> Result<(), Fail> {
-    let long_path = long_path(rt.alloc())?;
-    let rows = [
-        (b"[1 2 3 4]".as_slice(), true),
-        (b"(1 2 3 4)", true),
-        (b"[1 2 (3 4)]", true),
-        (b"((1 2) (3 4))", true),
-        (b"((1 3) 2 4)", false),
-    ];
-    assert_complete(&rt, rt.alloc(), &long_path, &rows)
+fn trees_without_some_order(rt: HostRuntime) -> Result<(), Fail> {
+    let alloc = rt.alloc();
+    let (free, pair, path) = (free(alloc)?, pair(alloc)?, path(alloc)?);
+    assert_complete(&rt, alloc, &free, false, &[b"[1 2 3]", b"((1 2) 3)"])?;
+    assert_complete(&rt, alloc, &pair, false, &[b"((1 3) 2)", b"[1 2 3]"])?;
+    assert_complete(&rt, alloc, &path, false, &[b"[2 1 3]"])?;
+    assert_complete(&rt, alloc, &long_path(alloc)?, false, &[b"((1 3) 2 4)"])
 }
