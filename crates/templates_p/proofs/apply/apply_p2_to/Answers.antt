@@ -14,7 +14,7 @@ use Rattle.templates_p.specs.Members.{member_labels}
 use Rattle.templates_p.specs.Steps.{Moved, moved_under}
 use Rattle.templates_p.proofs.Moving.{moved_none}
 use Rattle.templates_p.proofs.Grouping.{ready_to_group}
-use Rattle.templates_p.proofs.Members.{next_moves, next_moved, members_replaced, members_become, member_ready}
+use Rattle.templates_p.proofs.Members.{next_moves, next_moved, members_grouped, member_ready}
 use Rattle.templates_p.proofs.apply.apply_p2_to.Goals as goal
 
 pub take-group-requires-clause-some : goal.take-group-requires-clause-some
@@ -76,20 +76,10 @@ attach-requires-2-clause-apart g c = (ready_to_group c.args.arena.now c.loop-mem
 
 pub returns-clause-replaced : goal.returns-clause-replaced
 returns-clause-replaced g c =
-    let f : Layout = c.args.arena.now in
-    let n : ℕ = c.args.node.index in
-    let x : NodeId = c.take-group.result in
-    let ms : List NodeId = c.args.members.now in
-    subst (λ z. IsReplacedAt f z n n) (sym c.attach-2.ensures.changed)
-    (members_replaced f n (indices ms) c.layout_law.ensures c.requires.members c.loop-member.arena x (subst IsLayout c.attach-2.ensures.changed c.layout_law-3.ensures) c.requires.one c.requires.two
-    (subst (λ ks. Moved f c.loop-member.arena n x.index (indices ks)) (take_all c.loop-member.member-index ms c.loop-member-test.false) c.loop-member.invariant.moved))
+    (members_grouped _ _ _ _ _ c.args.members.now c.take-group.result c.layout_law.ensures c.layout_law-3.ensures c.requires.members c.requires.one c.requires.two
+    c.attach-2.ensures.changed c.loop-member-test.false c.loop-member.invariant.moved).replaced
 
 pub returns-clause-becomes : goal.returns-clause-becomes
 returns-clause-becomes g c =
-    let f : Layout = c.args.arena.now in
-    let n : ℕ = c.args.node.index in
-    let x : NodeId = c.take-group.result in
-    let ms : List NodeId = c.args.members.now in
-    subst (λ z. (u : Outline) × IsP2 true (child_trees f n) (member_labels (indices ms) (children_at f n)) u × StandsForTree z n u) (sym c.attach-2.ensures.changed)
-    (members_become f n (indices ms) c.layout_law.ensures c.requires.members c.loop-member.arena x (subst IsLayout c.attach-2.ensures.changed c.layout_law-3.ensures) c.requires.one c.requires.two
-    (subst (λ ks. Moved f c.loop-member.arena n x.index (indices ks)) (take_all c.loop-member.member-index ms c.loop-member-test.false) c.loop-member.invariant.moved))
+    (members_grouped _ _ _ _ _ c.args.members.now c.take-group.result c.layout_law.ensures c.layout_law-3.ensures c.requires.members c.requires.one c.requires.two
+    c.attach-2.ensures.changed c.loop-member-test.false c.loop-member.invariant.moved).becomes
