@@ -1,5 +1,5 @@
 -- Lists of labels, one label more at a time.
-use Rattle.std.proofs.Common.{◌≡◌, ◌∙◌, ◌+◌, ◌<◌, ◌≤◌, ℕ, List, [], ◌∷◌, ◌++◌, map, take, drop, length, get_or, refl, sym, ap, arith, length-append}
+use Rattle.std.proofs.Common.{◌≡◌, ◌∙◌, ◌+◌, ◌<◌, ◌≤◌, ℕ, List, [], ◌∷◌, ◌++◌, map, take, drop, length, get_or, refl, sym, ap, arith}
 use Rattle.std.proofs.lemmas.List.{map_more, length-map, at_drop_more, at_drop_all}
 use Rattle.template_theory.specs.Labels.{Label, empty_label, full_label, partial_label, partials}
 use Rattle.pq_plain.specs.Seen.{outlines, label_seen, empties, fulls, whole_label, whole_front}
@@ -12,18 +12,6 @@ use Rattle.pq_tree.specs.Proper.{outline_of}
 use Rattle.pq_tree.specs.declared.Tree.{Tree}
 use Rattle.pq_tree.proofs.Forests.{count_forest}
 
-empties_push : (ps : List Label) (p : Label) → empties (ps ++ p ∷ []) ≡ empties ps + empties (p ∷ [])
-empties_push [] p = omega arith
-empties_push (empty_label ∷ ps) p = omega (arith, empties_push ps p)
-empties_push (full_label ∷ ps) p = empties_push ps p
-empties_push (partial_label h ∷ ps) p = empties_push ps p
-
-fulls_push : (ps : List Label) (p : Label) → fulls (ps ++ p ∷ []) ≡ fulls ps + fulls (p ∷ [])
-fulls_push [] p = omega arith
-fulls_push (empty_label ∷ ps) p = fulls_push ps p
-fulls_push (full_label ∷ ps) p = omega (arith, fulls_push ps p)
-fulls_push (partial_label h ∷ ps) p = fulls_push ps p
-
 pub partials_append : (ps qs : List Label) → partials (ps ++ qs) ≡ partials ps ++ partials qs
 partials_append [] qs = refl
 partials_append (empty_label ∷ ps) qs = partials_append ps qs
@@ -32,35 +20,34 @@ partials_append (partial_label h ∷ ps) qs = ap (λ x. h ∷ x) (partials_appen
 
 -- a count of labels, each of which is counted at most once
 pub record IsCount (count : List Label → ℕ) : Type 0 where
-  push : (ps : List Label) (p : Label) → count (ps ++ p ∷ []) ≡ count ps + count (p ∷ [])
+  none : count [] ≡ 0
+  first : (p : Label) (ps : List Label) → count (p ∷ ps) ≡ count (p ∷ []) + count ps
   one : (p : Label) → count (p ∷ []) ≤ 1
 
-one_empty : (p : Label) → empties (p ∷ []) ≤ 1
-one_empty empty_label = omega arith
-one_empty full_label = omega arith
-one_empty (partial_label h) = omega arith
+-- each label is counted by one of the three counts, before the others
+firsts : (p : Label) (ps : List Label) →
+    (empties (p ∷ ps) ≡ empties (p ∷ []) + empties ps) × (fulls (p ∷ ps) ≡ fulls (p ∷ []) + fulls ps) × (length (partials (p ∷ ps)) ≡ length (partials (p ∷ [])) + length (partials ps))
+firsts empty_label ps = (omega arith, omega arith, omega arith)
+firsts full_label ps = (omega arith, omega arith, omega arith)
+firsts (partial_label h) ps = (omega arith, omega arith, omega arith)
+
+ones : (p : Label) → (empties (p ∷ []) ≤ 1) × (fulls (p ∷ []) ≤ 1) × (length (partials (p ∷ [])) ≤ 1)
+ones empty_label = (omega arith, omega arith, omega arith)
+ones full_label = (omega arith, omega arith, omega arith)
+ones (partial_label h) = (omega arith, omega arith, omega arith)
 
 pub count_empties : IsCount empties
-count_empties = record { push = empties_push; one = one_empty }
-
-one_full : (p : Label) → fulls (p ∷ []) ≤ 1
-one_full empty_label = omega arith
-one_full full_label = omega arith
-one_full (partial_label h) = omega arith
+count_empties = record { none = refl; first = λ p ps. (firsts p ps).0; one = λ p. (ones p).0 }
 
 pub count_fulls : IsCount fulls
-count_fulls = record { push = fulls_push; one = one_full }
-
-one_partial : (p : Label) → length (partials (p ∷ [])) ≤ 1
-one_partial empty_label = omega arith
-one_partial full_label = omega arith
-one_partial (partial_label h) = omega arith
-
-partials_push : (ps : List Label) (p : Label) → length (partials (ps ++ p ∷ [])) ≡ length (partials ps) + length (partials (p ∷ []))
-partials_push ps p = ap length (partials_append ps (p ∷ [])) ∙ length-append (partials ps) (partials (p ∷ []))
+count_fulls = record { none = refl; first = λ p ps. (firsts p ps).1; one = λ p. (ones p).1 }
 
 pub count_partials : IsCount (λ ps. length (partials ps))
-count_partials = record { push = partials_push; one = one_partial }
+count_partials = record { none = refl; first = λ p ps. (firsts p ps).2; one = λ p. (ones p).2 }
+
+push : {count : List Label → ℕ} → IsCount count → (ps : List Label) (p : Label) → count (ps ++ p ∷ []) ≡ count ps + count (p ∷ [])
+push c [] p = omega (arith, c.none)
+push c (q ∷ ps) p = omega (arith, push c ps p, c.first q ps, c.first q (ps ++ p ∷ []))
 
 -- with one label more
 pub count_more : {count : List Label → ℕ} → IsCount count → (xs : List Marked) (i m n : ℕ) (x : Marked) → i < length xs → x ≡ get_or xs i x → m ≡ count (map label_seen (take i xs)) → n ≡ m + count (label_seen x ∷ []) →
@@ -68,7 +55,7 @@ pub count_more : {count : List Label → ℕ} → IsCount count → (xs : List M
 count_more {count = count} c xs i m n x h r e k = (
   k ∙
       ap (λ a. a + count (label_seen x ∷ [])) e ∙
-      sym (c.push (map label_seen (take i xs)) (label_seen x)) ∙
+      sym (push c (map label_seen (take i xs)) (label_seen x)) ∙
       ap (λ y. count (map label_seen (take i xs) ++ label_seen y ∷ [])) r ∙
       sym (ap count (map_more label_seen xs i x h)),
   omega (arith, k, c.one (label_seen x)),

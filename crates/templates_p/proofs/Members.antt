@@ -13,7 +13,7 @@ use Rattle.arena_model.specs.ChildLists.{without}
 use Rattle.arena_model.specs.Layout.{Layout, shape_at, children_at, with_children, IsLayout, IsAtOrAbove, StandsAlone}
 use Rattle.arena_model.specs.NamedTree.{outline_below, IsOneTree, HasTwoEach}
 use Rattle.arena_model.proofs.Lists.{occurs_here}
-use Rattle.arena_model.proofs.Slots.{in_range, used_by}
+use Rattle.arena_model.proofs.Slots.{in_range, used_by, child_used}
 use Rattle.pq_arena.specs.declared.node.NodeId.{NodeId}
 use Rattle.pq_arena.specs.RowNodes.{indices}
 use Rattle.bubble_pass.specs.declared.labels.Label.{Label as Mark}
@@ -25,7 +25,7 @@ use Rattle.template_model.specs.Treated.{IsReplacedAt, StandsForTree}
 use Rattle.templates_p.specs.Members.{AreMembers, member_labels}
 use Rattle.templates_p.specs.Sorts.{full_nodes, empty_nodes, partial_nodes}
 use Rattle.templates_p.specs.Steps.{Moved, CanMove, moved_under}
-use Rattle.templates_p.proofs.Rebuilt.{child_used, replaced_at}
+use Rattle.templates_p.proofs.Rebuilt.{replaced_at}
 use Rattle.templates_p.proofs.Sorting.{held, sort, held_length, count_map, all_counted, sorted_label, fulls, sorted_times}
 use Rattle.templates_p.proofs.Framing.{same_length}
 use Rattle.templates_p.proofs.Moving.{can_move, ready_to_put, moved_one}

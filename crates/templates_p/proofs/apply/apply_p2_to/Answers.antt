@@ -1,16 +1,10 @@
-use Rattle.std.proofs.Common.{◌≡◌, ◌≤◌, ◌+◌, ℕ, true, List, [], ◌∷◌, length, take, get_or, ap, sym, subst, ◌∙◌, arith}
-use Rattle.std.proofs.lemmas.List.{take_all}
+use Rattle.std.proofs.Common.{◌≡◌, ◌≤◌, ◌+◌, ℕ, List, [], ◌∷◌, length, take, get_or, ap, sym, subst, ◌∙◌, arith}
 use Rattle.arena_model.specs.declared.Shape.TheVariants.{P}
-use Rattle.arena_model.specs.Layout.{Layout, IsLayout, StandsAlone, children_at, taken, with_children}
+use Rattle.arena_model.specs.Layout.{Layout, StandsAlone, children_at, taken, with_children}
 use Rattle.arena_model.proofs.Slots.{used_by}
 use Rattle.pq_arena.specs.declared.node.NodeId.{NodeId}
-use Rattle.pq_tree.specs.Outline.{Outline}
 use Rattle.pq_arena.specs.RowNodes.{indices}
-use Rattle.template_theory.specs.Templates.{IsP2}
-use Rattle.template_model.specs.Standing.{child_trees}
-use Rattle.template_model.specs.Treated.{IsReplacedAt, StandsForTree}
 use Rattle.template_model.proofs.Spare.{five_spare}
-use Rattle.templates_p.specs.Members.{member_labels}
 use Rattle.templates_p.specs.Steps.{Moved, moved_under}
 use Rattle.templates_p.proofs.Moving.{moved_none}
 use Rattle.templates_p.proofs.Grouping.{ready_to_group}

@@ -1,4 +1,5 @@
-use Rattle.templates_q.proofs.Walks.{child_used, next_child}
+use Rattle.arena_model.proofs.Slots.{child_used}
+use Rattle.templates_q.proofs.Walks.{next_child}
 use Rattle.templates_q.proofs.Opening.{line_in}
 use Rattle.templates_q.proofs.q3.open_next.Goals as goal
 
