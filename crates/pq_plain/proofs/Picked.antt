@@ -7,10 +7,12 @@ use Rattle.pq_tree.specs.Forests.{forest, join}
 use Rattle.pq_tree.proofs.Forests.{join_no_tree}
 use Rattle.pq_tree.specs.declared.Tree.{Tree}
 use Rattle.template_theory.specs.Labels.{Label, empty_label, full_label, partial_label, partials, empty_trees, full_trees}
-use Rattle.pq_plain.specs.Seen.{outlines, halves_seen, label_seen}
+use Rattle.pq_plain.specs.Seen.{outlines, halves_seen, label_seen, whole_label, whole_trees}
 use Rattle.pq_plain.specs.declared.label.Halves.{Halves}
 use Rattle.pq_plain.specs.declared.label.Label.{Label as Marked}
 use Rattle.pq_plain.specs.declared.label.Label.TheVariants.{Empty, Full, Partial}
+use Rattle.pq_plain.specs.declared.label.Whole.{Whole}
+use Rattle.pq_plain.specs.declared.label.Whole.TheVariants.{Empty as AllEmpty, Full as AllFull}
 use Rattle.pq_plain.proofs.Outlines.{outlines_append}
 use Rattle.pq_plain.proofs.Marks.{partials_append}
 
@@ -47,7 +49,7 @@ not_empty x Empty h = absurd (h refl)
 not_empty x Full h = refl
 not_empty x (Partial p) h = refl
 
-pub empties : IsPick Empty empty_trees
+empties : IsPick Empty empty_trees
 empties = record { push = empty_trees_push; this = λ x. refl; other = not_empty }
 
 not_full : (x : Outline) (l : Marked) → (l ≡ Full → ⊥) → full_trees (tree_and x no_tree) (label_seen l ∷ []) ≡ no_tree
@@ -55,8 +57,12 @@ not_full x Empty h = refl
 not_full x Full h = absurd (h refl)
 not_full x (Partial p) h = refl
 
-pub fulls : IsPick Full full_trees
+fulls : IsPick Full full_trees
 fulls = record { push = full_trees_push; this = λ x. refl; other = not_full }
+
+pub pick_of : (w : Whole) → IsPick (whole_label w) (whole_trees w)
+pick_of AllEmpty = empties
+pick_of AllFull = fulls
 
 -- a copy more
 outlines_push : (all new : List Tree) (t u : Tree) → new ≡ all ++ u ∷ [] → outline_of u ≡ outline_of t → outlines new ≡ join (outlines all) (tree_and (outline_of t) no_tree)

@@ -29,6 +29,14 @@ use Rattle.template_theory.proofs.Steps.{row_held, kept, reduce_refused}
 use Rattle.pq_tree.proofs.Turnings.{equivalent_refl}
 use Rattle.pq_plain.proofs.Hits.{hits_part}
 
+-- what a reducer tells of the tree t, which the row k made u
+pub record IsRowStep (c : ℕ) (rows : List (List ℕ)) (k : ℕ) (t u : Outline) (step : Step) : Type 0 where
+  pub reduced : step ≡ Taken → IsReduced (row_at rows k) t u
+  pub taken : step ≡ Taken → IsTied c (take k rows) u
+  pub order : step ≡ Taken → HasValidOrder c (take k rows)
+  pub refused : step ≡ Refused → HasValidOrder c (take k rows) → ⊥
+  pub conflict : step ≡ Refused → HasConflict c (take k rows)
+
 module _ (c n : ℕ) (rows : List (List ℕ)) (k : ℕ) (row : List ℕ) (t : Outline) (width : n ≡ c) (proper : IsProper n t) (tied : IsTied c (take (k - 1) rows) t)
     (within : (1 ≤ k) × (k ≤ length rows)) (at : slice_get rows (k - 1) ≡ Some row) (ascending : IsRow c row) where
   next : take k rows ≡ take (k - 1) rows ++ row ∷ []
@@ -72,14 +80,15 @@ module _ (c n : ℕ) (rows : List (List ℕ)) (k : ℕ) (row : List ℕ) (t : Ou
       no_elements [] e = refl
       no_elements (x ∷ xs) e = absurd (omega arith)
 
-  pub empty_reached : length row ≡ 0 → IsReduced (row_at rows k) t t
-  empty_reached e = subst (λ r. IsReduced r t t) (sym row_is) (empty_reduced e)
-
-  pub empty_taken : length row ≡ 0 → IsTied c (take k rows) t
-  empty_taken e = (step_kept t (empty_reduced e)).1
-
-  pub empty_order : length row ≡ 0 → HasValidOrder c (take k rows)
-  empty_order e = order_of t (step_kept t (empty_reduced e))
+  pub empty_step : length row ≡ 0 → IsRowStep c rows k t t Taken
+  empty_step e =
+      record {
+        reduced = λ s. subst (λ r. IsReduced r t t) (sym row_is) (empty_reduced e);
+        taken = λ s. (step_kept t (empty_reduced e)).1;
+        order = λ s. order_of t (step_kept t (empty_reduced e));
+        refused = λ s. absurd (cc);
+        conflict = λ s. absurd (cc);
+      }
 
   tree_once : (a : ℕ) → occurs (leaves t) a ≤ 1
   tree_once a = order_once n (leaves t) proper.1 a
@@ -97,22 +106,21 @@ module _ (c n : ℕ) (rows : List (List ℕ)) (k : ℕ) (row : List ℕ) (t : Ou
       told : IsFound row t u (Root step)
       told = subst (IsFound row t u) e is
 
-      pub root_reached : step ≡ Taken → IsReduced (row_at rows k) t u
-      root_reached s =
-          let w : IsFound row t u (Root Taken) = subst (λ x. IsFound row t u (Root x)) s told in
-          subst (λ r. IsReduced r t u) (sym row_is) (step_reached u w)
+      reached : step ≡ Taken → IsReduced row t u
+      reached s = step_reached u (subst (λ x. IsFound row t u (Root x)) s told)
 
-      pub root_tied : step ≡ Taken → IsTied c (take k rows) u
-      root_tied s = let w : IsFound row t u (Root Taken) = subst (λ x. IsFound row t u (Root x)) s told in (step_taken u w).1
+      conflict : step ≡ Refused → HasConflict c (take k rows)
+      conflict s = step_refused (subst (λ x. IsFound row t u (Root x)) s told).0
 
-      pub root_order : step ≡ Taken → HasValidOrder c (take k rows)
-      root_order s = let w : IsFound row t u (Root Taken) = subst (λ x. IsFound row t u (Root x)) s told in order_of u (step_taken u w)
-
-      pub root_conflict : step ≡ Refused → HasConflict c (take k rows)
-      root_conflict s = let w : IsFound row t u (Root Refused) = subst (λ x. IsFound row t u (Root x)) s told in step_refused w.0
-
-      pub root_none : step ≡ Refused → HasValidOrder c (take k rows) → ⊥
-      root_none s = let w : IsFound row t u (Root Refused) = subst (λ x. IsFound row t u (Root x)) s told in conflict_none c (take k rows) (step_refused w.0)
+      pub root_step : IsRowStep c rows k t u step
+      root_step =
+          record {
+            reduced = λ s. subst (λ r. IsReduced r t u) (sym row_is) (reached s);
+            taken = λ s. (step_kept u (reached s)).1;
+            order = λ s. order_of u (step_kept u (reached s));
+            refused = λ s. conflict_none c (take k rows) (conflict s);
+            conflict = conflict;
+          }
 
   found_proper : (u : Outline) (found : Found) → IsFound row t u found → IsProper n u
   found_proper u (Columns m) h = subst (IsProper n) (sym h.0) proper

@@ -1,10 +1,10 @@
 -- Where labels read empty, at most one partial, full.
-use Rattle.std.proofs.Common.{◌≡◌, ◌≢◌, ◌∙◌, ◌+◌, ◌-◌, ◌≤◌, ℕ, suc, List, [], ◌∷◌, Some, None, map, take, drop, length, IsTrue, IsFalse, refl, sym, ap, ap₂, arith, option_and_then}
+use Rattle.std.proofs.Common.{◌≡◌, ◌≢◌, Bool, Option, ◌∙◌, ◌+◌, ◌-◌, ◌≤◌, ℕ, suc, List, [], ◌∷◌, Some, None, map, take, drop, length, IsTrue, IsFalse, refl, sym, ap, ap₂, arith, option_and_then}
 use Rattle.std.proofs.lemmas.Bool.{cond-true, cond-false}
 use Rattle.std.proofs.lemmas.List.{drop-map, length-map, length-drop, take_all}
-use Rattle.pq_tree.specs.Outline.{Outline, no_tree, tree_and}
+use Rattle.pq_tree.specs.Outline.{Outline, Forest, no_tree, tree_and}
 use Rattle.pq_tree.specs.Forests.{forest}
-use Rattle.template_theory.specs.Labels.{Label, empty_label, full_label, partial_label, partials}
+use Rattle.template_theory.specs.Labels.{Partial, Label, empty_label, full_label, partial_label, partials}
 use Rattle.template_theory.proofs.Computed.{all_full, one_more, run_of}
 use Rattle.pq_plain.proofs.Places.{run_seen}
 use Rattle.pq_plain.specs.Seen.{label_seen, empty_front, full_front, cut_front}
@@ -52,29 +52,44 @@ filled_partials (empty_label ∷ ps) h = cc
 filled_partials (full_label ∷ ps) h = filled_partials ps h
 filled_partials (partial_label g ∷ ps) h = cc
 
--- a run, and none
-run_fits : (ts : List Outline) (ps : List Label) → length ts ≡ length ps → IsTrue (all_full (drop (run_end ps) ps)) →
-    run_of (forest ts) ps ≡ Some (record { before = forest (take (empty_front ps) ts); middle = partials ps; behind = forest (drop (run_end ps) ts) })
-unfolding run_end
-run_fits [] [] n h = refl
-run_fits [] (p ∷ ps) n h = absurd (omega arith)
-run_fits (t ∷ ts) [] n h = absurd (omega arith)
-run_fits (t ∷ ts) (empty_label ∷ ps) n h = ap (option_and_then (λ r. Some (one_more t r))) (run_fits ts ps (omega arith) h)
-run_fits (t ∷ ts) (full_label ∷ ps) n h =
-    cond-true (all_full ps) (Some (record { before = no_tree; middle = []; behind = tree_and t (forest ts) })) None h ∙
-    ap (λ hs. Some (record { before = no_tree; middle = hs; behind = tree_and t (forest ts) })) (sym (filled_partials ps h))
-run_fits (t ∷ ts) (partial_label g ∷ ps) n h =
-    cond-true (all_full ps) (Some (record { before = no_tree; middle = g ∷ []; behind = forest ts })) None h ∙
-    ap (λ hs. Some (record { before = no_tree; middle = g ∷ hs; behind = forest ts })) (sym (filled_partials ps h))
+-- what holds of trees and their labels, by one tree more at the front
+pub children_by : (M : List Outline → List Label → Type 0) → M [] [] → ((t : Outline) (ts : List Outline) (ps : List Label) → length ts ≡ length ps → M ts ps → M (t ∷ ts) (empty_label ∷ ps)) →
+    ((t : Outline) (ts : List Outline) (ps : List Label) → length ts ≡ length ps → M ts ps → M (t ∷ ts) (full_label ∷ ps)) →
+    ((t : Outline) (ts : List Outline) (g : Partial) (ps : List Label) → length ts ≡ length ps → M ts ps → M (t ∷ ts) (partial_label g ∷ ps)) →
+    (ts : List Outline) (ps : List Label) → length ts ≡ length ps → M ts ps
+children_by M z e f g [] [] n = z
+children_by M z e f g [] (p ∷ ps) n = absurd (omega arith)
+children_by M z e f g (t ∷ ts) [] n = absurd (omega arith)
+children_by M z e f g (t ∷ ts) (empty_label ∷ ps) n = e t ts ps (omega arith) (children_by M z e f g ts ps (omega arith))
+children_by M z e f g (t ∷ ts) (full_label ∷ ps) n = f t ts ps (omega arith) (children_by M z e f g ts ps (omega arith))
+children_by M z e f g (t ∷ ts) (partial_label h ∷ ps) n = g t ts h ps (omega arith) (children_by M z e f g ts ps (omega arith))
 
-run_fails : (ts : List Outline) (ps : List Label) → length ts ≡ length ps → IsFalse (all_full (drop (run_end ps) ps)) → run_of (forest ts) ps ≡ None
+-- trees read as this, where the labels behind that place pass the test, and as nothing where they do not
+abbrev pub ReadsAs : {R : Type 0} → (Forest → List Label → Option R) → (List Label → Bool) → (List Label → ℕ) → (List Outline → List Label → R) → List Outline → List Label → Type 0
+ReadsAs read test end made ts ps = IsTrue (test (drop (end ps) ps)) → read (forest ts) ps ≡ Some (made ts ps)
+
+abbrev pub ReadsNot : {R : Type 0} → (Forest → List Label → Option R) → (List Label → Bool) → (List Label → ℕ) → List Outline → List Label → Type 0
+ReadsNot read test end ts ps = IsFalse (test (drop (end ps) ps)) → read (forest ts) ps ≡ None
+
+-- a run, and none
+abbrev RunFits : List Outline → List Label → Type 0
+RunFits = ReadsAs run_of all_full run_end (λ ts ps. record { before = forest (take (empty_front ps) ts); middle = partials ps; behind = forest (drop (run_end ps) ts) })
+
+run_fits : (ts : List Outline) (ps : List Label) → length ts ≡ length ps → RunFits ts ps
 unfolding run_end
-run_fails [] [] n h = cc
-run_fails [] (p ∷ ps) n h = absurd (omega arith)
-run_fails (t ∷ ts) [] n h = absurd (omega arith)
-run_fails (t ∷ ts) (empty_label ∷ ps) n h = ap (option_and_then (λ r. Some (one_more t r))) (run_fails ts ps (omega arith) h)
-run_fails (t ∷ ts) (full_label ∷ ps) n h = cond-false (all_full ps) (Some (record { before = no_tree; middle = []; behind = tree_and t (forest ts) })) None h
-run_fails (t ∷ ts) (partial_label g ∷ ps) n h = cond-false (all_full ps) (Some (record { before = no_tree; middle = g ∷ []; behind = forest ts })) None h
+run_fits = children_by RunFits (λ h. refl)
+    (λ t ts ps n more h. ap (option_and_then (λ r. Some (one_more t r))) (more h))
+    (λ t ts ps n more h. cond-true (all_full ps) (Some (record { before = no_tree; middle = []; behind = tree_and t (forest ts) })) None h ∙
+    ap (λ hs. Some (record { before = no_tree; middle = hs; behind = tree_and t (forest ts) })) (sym (filled_partials ps h)))
+    (λ t ts g ps n more h. cond-true (all_full ps) (Some (record { before = no_tree; middle = g ∷ []; behind = forest ts })) None h ∙
+    ap (λ hs. Some (record { before = no_tree; middle = g ∷ hs; behind = forest ts })) (sym (filled_partials ps h)))
+
+run_fails : (ts : List Outline) (ps : List Label) → length ts ≡ length ps → ReadsNot run_of all_full run_end ts ps
+unfolding run_end
+run_fails = children_by (ReadsNot run_of all_full run_end) (λ h. cc)
+    (λ t ts ps n more h. ap (option_and_then (λ r. Some (one_more t r))) (more h))
+    (λ t ts ps n more h. cond-false (all_full ps) (Some (record { before = no_tree; middle = []; behind = tree_and t (forest ts) })) None h)
+    (λ t ts g ps n more h. cond-false (all_full ps) (Some (record { before = no_tree; middle = g ∷ []; behind = forest ts })) None h)
 
 -- as the program finds them
 found_end : (ls : List Marked) (b n e : ℕ) → b ≡ empty_front (map label_seen ls) → n ≡ cut_front (map label_seen (drop b ls)) → e ≡ b + n → e ≡ run_end (map label_seen ls)

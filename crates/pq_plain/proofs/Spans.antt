@@ -11,7 +11,7 @@ use Rattle.pq_plain.specs.Seen.{label_seen, empty_front, full_front, cut_front}
 use Rattle.pq_plain.specs.AtRoot.{PartialsAt}
 use Rattle.pq_plain.specs.declared.label.Label.{Label as Marked}
 use Rattle.pq_plain.specs.declared.at_root.Span.{Span as Places}
-use Rattle.pq_plain.proofs.Runs.{run_end, run_end_is, run_end_few, to_end}
+use Rattle.pq_plain.proofs.Runs.{children_by, ReadsAs, ReadsNot, run_end, run_end_is, run_end_few, to_end}
 use Rattle.pq_plain.specs.Cuts.{IsSpanCut}
 use Rattle.pq_plain.proofs.Cutting.{span_cut, no_span_cut}
 
@@ -54,28 +54,24 @@ void_partials (empty_label ∷ ps) h = void_partials ps h
 void_partials (full_label ∷ ps) h = cc
 void_partials (partial_label g ∷ ps) h = cc
 
-tail_fits : (ts : List Outline) (ps : List Label) → length ts ≡ length ps → IsTrue (all_empty (drop (tail_end ps) ps)) →
-    tail_of (forest ts) ps ≡ Some (record { middle = forest (take (full_front ps) ts); right = partials ps; behind = forest (drop (tail_end ps) ts) })
-unfolding tail_end
-tail_fits [] [] n h = refl
-tail_fits [] (p ∷ ps) n h = absurd (omega arith)
-tail_fits (t ∷ ts) [] n h = absurd (omega arith)
-tail_fits (t ∷ ts) (empty_label ∷ ps) n h =
-    cond-true (all_empty ps) (Some (record { middle = no_tree; right = []; behind = tree_and t (forest ts) })) None h ∙
-    ap (λ hs. Some (record { middle = no_tree; right = hs; behind = tree_and t (forest ts) })) (sym (void_partials ps h))
-tail_fits (t ∷ ts) (full_label ∷ ps) n h = ap (option_and_then (λ r. Some (full_more t r))) (tail_fits ts ps (omega arith) h)
-tail_fits (t ∷ ts) (partial_label g ∷ ps) n h =
-    cond-true (all_empty ps) (Some (record { middle = no_tree; right = g ∷ []; behind = forest ts })) None h ∙
-    ap (λ hs. Some (record { middle = no_tree; right = g ∷ hs; behind = forest ts })) (sym (void_partials ps h))
+abbrev TailFits : List Outline → List Label → Type 0
+TailFits = ReadsAs tail_of all_empty tail_end (λ ts ps. record { middle = forest (take (full_front ps) ts); right = partials ps; behind = forest (drop (tail_end ps) ts) })
 
-tail_fails : (ts : List Outline) (ps : List Label) → length ts ≡ length ps → IsFalse (all_empty (drop (tail_end ps) ps)) → tail_of (forest ts) ps ≡ None
+tail_fits : (ts : List Outline) (ps : List Label) → length ts ≡ length ps → TailFits ts ps
 unfolding tail_end
-tail_fails [] [] n h = cc
-tail_fails [] (p ∷ ps) n h = absurd (omega arith)
-tail_fails (t ∷ ts) [] n h = absurd (omega arith)
-tail_fails (t ∷ ts) (empty_label ∷ ps) n h = cond-false (all_empty ps) (Some (record { middle = no_tree; right = []; behind = tree_and t (forest ts) })) None h
-tail_fails (t ∷ ts) (full_label ∷ ps) n h = ap (option_and_then (λ r. Some (full_more t r))) (tail_fails ts ps (omega arith) h)
-tail_fails (t ∷ ts) (partial_label g ∷ ps) n h = cond-false (all_empty ps) (Some (record { middle = no_tree; right = g ∷ []; behind = forest ts })) None h
+tail_fits = children_by TailFits (λ h. refl)
+    (λ t ts ps n more h. cond-true (all_empty ps) (Some (record { middle = no_tree; right = []; behind = tree_and t (forest ts) })) None h ∙
+    ap (λ hs. Some (record { middle = no_tree; right = hs; behind = tree_and t (forest ts) })) (sym (void_partials ps h)))
+    (λ t ts ps n more h. ap (option_and_then (λ r. Some (full_more t r))) (more h))
+    (λ t ts g ps n more h. cond-true (all_empty ps) (Some (record { middle = no_tree; right = g ∷ []; behind = forest ts })) None h ∙
+    ap (λ hs. Some (record { middle = no_tree; right = g ∷ hs; behind = forest ts })) (sym (void_partials ps h)))
+
+tail_fails : (ts : List Outline) (ps : List Label) → length ts ≡ length ps → ReadsNot tail_of all_empty tail_end ts ps
+unfolding tail_end
+tail_fails = children_by (ReadsNot tail_of all_empty tail_end) (λ h. cc)
+    (λ t ts ps n more h. cond-false (all_empty ps) (Some (record { middle = no_tree; right = []; behind = tree_and t (forest ts) })) None h)
+    (λ t ts ps n more h. ap (option_and_then (λ r. Some (full_more t r))) (more h))
+    (λ t ts g ps n more h. cond-false (all_empty ps) (Some (record { middle = no_tree; right = g ∷ []; behind = forest ts })) None h)
 
 tail_partials : (ps : List Label) → IsTrue (all_empty (drop (tail_end ps) ps)) → length (partials ps) + full_front ps ≡ tail_end ps
 unfolding tail_end
@@ -98,33 +94,30 @@ span_end_is (empty_label ∷ ps) = omega (arith, span_end_is ps)
 span_end_is (full_label ∷ ps) = omega arith
 span_end_is (partial_label h ∷ ps) = omega arith
 
-span_fits : (ts : List Outline) (ps : List Label) → length ts ≡ length ps → IsTrue (all_empty (drop (span_end ps) ps)) →
-    span_of (forest ts) ps ≡
-    Some (record {
-      before = forest (take (empty_front ps) ts);
-      left = partials (take (run_end ps) ps);
-      tail = record {
-        middle = forest (take (full_front (drop (run_end ps) ps)) (drop (run_end ps) ts));
-        right = partials (drop (run_end ps) ps);
-        behind = forest (drop (span_end ps) ts);
-      };
-    })
-unfolding span_end run_end tail_end
-span_fits [] [] n h = refl
-span_fits [] (p ∷ ps) n h = absurd (omega arith)
-span_fits (t ∷ ts) [] n h = absurd (omega arith)
-span_fits (t ∷ ts) (empty_label ∷ ps) n h = ap (option_and_then (λ r. Some (before_more t r))) (span_fits ts ps (omega arith) h)
-span_fits (t ∷ ts) (full_label ∷ ps) n h = ap (option_and_then (λ r. Some (begins [] (full_more t r)))) (tail_fits ts ps (omega arith) h)
-span_fits (t ∷ ts) (partial_label g ∷ ps) n h = ap (option_and_then (λ r. Some (begins (g ∷ []) r))) (tail_fits ts ps (omega arith) h)
+abbrev SpanFits : List Outline → List Label → Type 0
+SpanFits = ReadsAs span_of all_empty span_end (λ ts ps. record {
+  before = forest (take (empty_front ps) ts);
+  left = partials (take (run_end ps) ps);
+  tail = record {
+    middle = forest (take (full_front (drop (run_end ps) ps)) (drop (run_end ps) ts));
+    right = partials (drop (run_end ps) ps);
+    behind = forest (drop (span_end ps) ts);
+  };
+})
 
-span_fails : (ts : List Outline) (ps : List Label) → length ts ≡ length ps → IsFalse (all_empty (drop (span_end ps) ps)) → span_of (forest ts) ps ≡ None
+span_fits : (ts : List Outline) (ps : List Label) → length ts ≡ length ps → SpanFits ts ps
 unfolding span_end run_end tail_end
-span_fails [] [] n h = cc
-span_fails [] (p ∷ ps) n h = absurd (omega arith)
-span_fails (t ∷ ts) [] n h = absurd (omega arith)
-span_fails (t ∷ ts) (empty_label ∷ ps) n h = ap (option_and_then (λ r. Some (before_more t r))) (span_fails ts ps (omega arith) h)
-span_fails (t ∷ ts) (full_label ∷ ps) n h = ap (option_and_then (λ r. Some (begins [] (full_more t r)))) (tail_fails ts ps (omega arith) h)
-span_fails (t ∷ ts) (partial_label g ∷ ps) n h = ap (option_and_then (λ r. Some (begins (g ∷ []) r))) (tail_fails ts ps (omega arith) h)
+span_fits = children_by SpanFits (λ h. refl)
+    (λ t ts ps n more h. ap (option_and_then (λ r. Some (before_more t r))) (more h))
+    (λ t ts ps n more h. ap (option_and_then (λ r. Some (begins [] (full_more t r)))) (tail_fits ts ps n h))
+    (λ t ts g ps n more h. ap (option_and_then (λ r. Some (begins (g ∷ []) r))) (tail_fits ts ps n h))
+
+span_fails : (ts : List Outline) (ps : List Label) → length ts ≡ length ps → ReadsNot span_of all_empty span_end ts ps
+unfolding span_end run_end tail_end
+span_fails = children_by (ReadsNot span_of all_empty span_end) (λ h. cc)
+    (λ t ts ps n more h. ap (option_and_then (λ r. Some (before_more t r))) (more h))
+    (λ t ts ps n more h. ap (option_and_then (λ r. Some (begins [] (full_more t r)))) (tail_fails ts ps n h))
+    (λ t ts g ps n more h. ap (option_and_then (λ r. Some (begins (g ∷ []) r))) (tail_fails ts ps n h))
 
 left_partials : (ps : List Label) → length (partials (take (run_end ps) ps)) + empty_front ps ≡ run_end ps
 unfolding run_end

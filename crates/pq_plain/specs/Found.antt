@@ -1,6 +1,7 @@
 -- What the program finds in a tree, and makes of it.
-use Rattle.std.specs.Prelude.{◌≡◌, ℕ, ◌+◌, ◌<◌, cond, List, [], ◌∷◌, length}
-use Rattle.column_order.specs.Orders.{has}
+use Rattle.std.specs.Prelude.{◌≡◌, ℕ, ◌+◌, ◌<◌, ◌≤◌, cond, List, [], ◌∷◌, length}
+use Rattle.std.specs.List.Sorted.{IsNonDecreasing}
+use Rattle.column_order.specs.Orders.{has, occurs}
 use Rattle.pq_tree.specs.Outline.{Outline, Forest, leaves, leaves_of}
 use Rattle.pq_tree.specs.Forests.{join}
 use Rattle.pq_tree.specs.Outline.{tree_and}
@@ -12,6 +13,12 @@ use Rattle.template_theory.specs.declared.reducer.Step.{Step}
 use Rattle.template_theory.specs.declared.reducer.Step.TheVariants.{Taken, Refused}
 use Rattle.pq_plain.specs.declared.search.Found.{Found}
 use Rattle.pq_plain.specs.declared.search.Found.TheVariants.{Columns, Root}
+
+-- a row to search for: its columns ascend, each stands once, and there is one
+pub record IsSought (row : List ℕ) : Type 0 where
+  pub ascending : IsNonDecreasing row
+  pub distinct : (a : ℕ) → occurs row a ≤ 1
+  pub some : 0 < length row
 
 -- the pertinent root x became y, or no template fits there and it is unchanged
 abbrev pub IsRootStep : List ℕ → Outline → Outline → Step → Type 0

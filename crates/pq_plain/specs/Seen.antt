@@ -7,10 +7,12 @@ use Rattle.pq_tree.specs.Outline.{Forest}
 use Rattle.pq_tree.specs.Proper.{outline_of}
 use Rattle.pq_tree.specs.Forests.{forest}
 use Rattle.pq_tree.specs.declared.Tree.{Tree}
-use Rattle.template_theory.specs.Labels.{Partial, Label, empty_label, full_label, partial_label}
+use Rattle.template_theory.specs.Labels.{Partial, Label, empty_label, full_label, partial_label, empty_trees, full_trees}
 use Rattle.pq_plain.specs.declared.label.Halves.{Halves}
 use Rattle.pq_plain.specs.declared.label.Label.{Label as Marked}
 use Rattle.pq_plain.specs.declared.label.Label.TheVariants.{Empty, Full, Partial as Cut}
+use Rattle.pq_plain.specs.declared.label.Whole.{Whole}
+use Rattle.pq_plain.specs.declared.label.Whole.TheVariants.{Empty as AllEmpty, Full as AllFull}
 
 -- the outlines of the trees
 abbrev pub outlines : List Tree → Forest
@@ -57,6 +59,19 @@ full_front [] = 0
 full_front (empty_label ∷ ps) = 0
 full_front (full_label ∷ ps) = suc (full_front ps)
 full_front (partial_label h ∷ ps) = 0
+
+-- the label, and what is counted and picked by it
+abbrev pub whole_label : Whole → Marked
+whole_label AllEmpty = Empty
+whole_label AllFull = Full
+
+abbrev pub whole_front : Whole → List Label → ℕ
+whole_front AllEmpty = empty_front
+whole_front AllFull = full_front
+
+abbrev pub whole_trees : Whole → Forest → List Label → Forest
+whole_trees AllEmpty = empty_trees
+whole_trees AllFull = full_trees
 
 -- one where the first label is partial, else zero
 abbrev pub cut_front : List Label → ℕ

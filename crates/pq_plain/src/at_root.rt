@@ -15,9 +15,9 @@ ghost use Rattle.pq_plain.specs.Seen.{outlines, halves_seen, label_seen, labels_
 ghost use Rattle.pq_plain.specs.AtRoot.{outcome_seen, p_made, q_made, PartialsAt};
 
 use crate::below::label_trees;
-use crate::children::{empty_children, full_children, partial_children, star_of};
+use crate::children::{partial_children, star_of, whole_children};
 use crate::copy::all_copied;
-use crate::label::{Halves, Label, count_kinds, leading_empty, leading_full, leading_partial};
+use crate::label::{Halves, Label, Whole, count_kinds, leading, leading_partial};
 use pq_tree::Tree;
 use row_model::NoMemory;
 use std::alloc::Global;
@@ -87,8 +87,8 @@ fn replaced_p(alloc: Global, children: &[Tree], labels: Vec<Label>) -> Result<Tr
     requires few { length (partials (labels_seen labels)) ≤ 2 }
     ensures { IfOk result (λ t. outline_of t ≡ p_made (partials (labels_seen labels)) (empty_trees (outlines children.now) (labels_seen labels)) (full_trees (outlines children.now) (labels_seen labels))) }
 {
-    let empty = empty_children(alloc, children, &labels)?;
-    let full = full_children(alloc, children, &labels)?;
+    let empty = whole_children(alloc, children, &labels, Whole::Empty)?;
+    let full = whole_children(alloc, children, &labels, Whole::Full)?;
     let mut partials = partial_children(alloc, labels)?;
     match partials.pop() {
         None => {
@@ -199,11 +199,11 @@ fn find_span(labels: &[Label]) -> Option<Span>
     ensures within { IfSome result (λ s. (s.before ≤ s.full_from) × (s.full_from ≤ s.full_to) × (s.full_to ≤ s.behind) × (s.behind ≤ length labels.now)) }
     ensures partials { IfSome result (PartialsAt (map label_seen labels.now)) }
 {
-    let before = leading_empty(labels);
+    let before = leading(labels, Whole::Empty);
     let full_from = before + leading_partial(&labels[before..]);
-    let full_to = full_from + leading_full(&labels[full_from..]);
+    let full_to = full_from + leading(&labels[full_from..], Whole::Full);
     let behind = full_to + leading_partial(&labels[full_to..]);
-    if behind + leading_empty(&labels[behind..]) == labels.len() {
+    if behind + leading(&labels[behind..], Whole::Empty) == labels.len() {
         Some(Span {
             before,
             full_from,

@@ -12,9 +12,9 @@ ghost use Rattle.pq_plain.specs.Cuts.{run_label, IsLabelFromEnd};
 ghost use Rattle.template_theory.specs.Outcomes.{Finds};
 ghost use Rattle.pq_plain.specs.Seen.{outlines, halves_seen, label_seen, labels_seen};
 
-use crate::children::{back_copied, empty_children, full_children, partial_children, star_of};
+use crate::children::{back_copied, partial_children, star_of, whole_children};
 use crate::copy::all_copied;
-use crate::label::{Halves, Label, count_kinds, find_run};
+use crate::label::{Halves, Label, Whole, count_kinds, find_run};
 use pq_tree::Tree;
 use row_model::{NoMemory, row_has};
 use std::alloc::Global;
@@ -108,14 +108,14 @@ fn label_p(alloc: Global, children: &[Tree], labels: Vec<Label>) -> Result<Optio
         (0, 0, _) => Ok(Some(Label::Full)),
         (0, _, 0) => Ok(Some(Label::Empty)),
         (0, _, _) => {
-            let empty = empty_children(alloc, children, &labels)?;
-            let full = full_children(alloc, children, &labels)?;
+            let empty = whole_children(alloc, children, &labels, Whole::Empty)?;
+            let full = whole_children(alloc, children, &labels, Whole::Full)?;
             let halves = template_p3(alloc, empty, full)?;
             Ok(Some(Label::Partial(halves)))
         }
         (1, _, _) => {
-            let empty = empty_children(alloc, children, &labels)?;
-            let full = full_children(alloc, children, &labels)?;
+            let empty = whole_children(alloc, children, &labels, Whole::Empty)?;
+            let full = whole_children(alloc, children, &labels, Whole::Full)?;
             let mut partials = partial_children(alloc, labels)?;
             match partials.pop() {
                 None => unreachable!(),

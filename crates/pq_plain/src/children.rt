@@ -2,45 +2,28 @@
 ghost use Rattle.std.specs.Prelude.{◌≡◌, map, length, IfOk};
 ghost use Rattle.template_theory.specs.Templates.{star};
 ghost use Rattle.pq_tree.specs.Forests.{back};
-ghost use Rattle.template_theory.specs.Labels.{empty_trees, full_trees, partials};
-ghost use Rattle.pq_plain.specs.Seen.{outlines, halves_seen, label_seen};
+ghost use Rattle.template_theory.specs.Labels.{partials};
+ghost use Rattle.pq_plain.specs.Seen.{outlines, halves_seen, label_seen, whole_trees};
 
 use crate::copy::{all_copied, copied};
-use crate::label::{Halves, Label};
+use crate::label::{Halves, Label, Whole};
 use pq_tree::Tree;
 use row_model::NoMemory;
 use std::alloc::Global;
 
-// Copies of the empty children.
-pub fn empty_children(
+// Copies of the children with this label.
+pub fn whole_children(
     alloc: Global,
     children: &[Tree],
     labels: &[Label],
+    wanted: Whole,
 ) -> Result<Vec<Tree>, NoMemory>
     requires { length labels.now ≡ length children.now }
-    ensures { IfOk result (λ v. outlines v.items ≡ empty_trees (outlines children.now) (map label_seen labels.now)) }
+    ensures { IfOk result (λ v. outlines v.items ≡ whole_trees wanted (outlines children.now) (map label_seen labels.now)) }
 {
     let mut copies = Vec::new(alloc);
     for i in 0..children.len() {
-        if let Label::Empty = labels[i] {
-            copies.push(copied(alloc, &children[i])?)?;
-        }
-    }
-    Ok(copies)
-}
-
-// Copies of the full children.
-pub fn full_children(
-    alloc: Global,
-    children: &[Tree],
-    labels: &[Label],
-) -> Result<Vec<Tree>, NoMemory>
-    requires { length labels.now ≡ length children.now }
-    ensures { IfOk result (λ v. outlines v.items ≡ full_trees (outlines children.now) (map label_seen labels.now)) }
-{
-    let mut copies = Vec::new(alloc);
-    for i in 0..children.len() {
-        if let Label::Full = labels[i] {
+        if wanted.is(&labels[i]) {
             copies.push(copied(alloc, &children[i])?)?;
         }
     }

@@ -1,10 +1,10 @@
 // Labels, and what they read as from left to right.
-ghost use Rattle.std.specs.Prelude.{◌≡◌, ◌≤◌, ◌<◌, ◌+◌, ◌-◌, ◌^◌, List, [], ◌∷◌, map, length, IfSome, option_map};
+ghost use Rattle.std.specs.Prelude.{◌≡◌, ◌≤◌, ◌<◌, ◌+◌, ◌-◌, ◌^◌, ◌↔◌, IsTrue, List, [], ◌∷◌, map, length, IfSome, option_map};
 ghost use Rattle.pq_tree.specs.Outline.{Outline};
 ghost use Rattle.pq_tree.specs.Forests.{forest};
 ghost use Rattle.template_theory.specs.Labels.{partials};
 ghost use Rattle.pq_plain.specs.Cuts.{IsRunCut};
-ghost use Rattle.pq_plain.specs.Seen.{label_seen, empties, fulls, empty_front, full_front, cut_front};
+ghost use Rattle.pq_plain.specs.Seen.{label_seen, empties, fulls, whole_label, whole_front, cut_front};
 
 use pq_tree::Tree;
 
@@ -26,6 +26,25 @@ pub enum Label {
     Full,
     // Some are and some are not, and the templates make this of the tree.
     Partial(Halves),
+}
+
+// A label of a tree that has all its columns on one side: in the row, or outside of it.
+#[derive(Clone, Copy)]
+pub enum Whole {
+    Empty,
+    Full,
+}
+
+impl Whole {
+    // Whether it is this label.
+    pub fn is(self, label: &Label) -> bool
+        ensures { IsTrue result ↔ label.now ≡ whole_label self }
+    {
+        match self {
+            Whole::Empty => matches!(label, Label::Empty),
+            Whole::Full => matches!(label, Label::Full),
+        }
+    }
 }
 
 // How many labels there are of each kind.
@@ -74,29 +93,14 @@ pub fn count_kinds(labels: &[Label]) -> Kinds
     kinds
 }
 
-// The number of empty labels at the beginning.
-pub fn leading_empty(labels: &[Label]) -> usize
-    ensures count { result ≡ empty_front (map label_seen labels.now) }
+// How many labels at the beginning are this one.
+pub fn leading(labels: &[Label], wanted: Whole) -> usize
+    ensures count { result ≡ whole_front wanted (map label_seen labels.now) }
     ensures within { result ≤ length labels.now }
 {
     for i in 0..labels.len() {
-        match labels[i] {
-            Label::Empty => {}
-            Label::Full | Label::Partial(_) => return i,
-        }
-    }
-    labels.len()
-}
-
-// The number of full labels at the beginning.
-pub fn leading_full(labels: &[Label]) -> usize
-    ensures count { result ≡ full_front (map label_seen labels.now) }
-    ensures within { result ≤ length labels.now }
-{
-    for i in 0..labels.len() {
-        match labels[i] {
-            Label::Full => {}
-            Label::Empty | Label::Partial(_) => return i,
+        if !wanted.is(&labels[i]) {
+            return i;
         }
     }
     labels.len()
@@ -127,9 +131,9 @@ pub fn find_run(labels: &[Label]) -> Option<Run>
     ensures cut { (ts : List Outline) → length ts ≡ length labels.now → IsRunCut ts (map label_seen labels.now) result }
     ensures within { IfSome result (λ run. (run.before ≤ run.behind) × (run.behind ≤ length labels.now)) }
 {
-    let before = leading_empty(labels);
+    let before = leading(labels, Whole::Empty);
     let behind = before + leading_partial(&labels[before..]);
-    if behind + leading_full(&labels[behind..]) == labels.len() {
+    if behind + leading(&labels[behind..], Whole::Full) == labels.len() {
         Some(Run { before, behind })
     } else {
         None

@@ -1,10 +1,9 @@
 // The search for the pertinent root: one walk over the tree, each child before its node.
-ghost use Rattle.std.specs.Prelude.{◌≡◌, ◌≤◌, ◌<◌, ℕ, List, [], ◌∷◌, map, length, IfOk, OnErr};
+ghost use Rattle.std.specs.Prelude.{◌≡◌, ◌<◌, [], ◌∷◌, length, IfOk, OnErr};
 ghost use Rattle.std.specs.List.Sorted.{IsNonDecreasing};
-ghost use Rattle.column_order.specs.Orders.{occurs};
 ghost use Rattle.pq_tree.specs.Proper.{outline_of, IsTree, AreTrees};
 ghost use Rattle.pq_plain.specs.Seen.{outlines};
-ghost use Rattle.pq_plain.specs.Found.{hits, IsRootStep, IsFound, IsFoundBelow, IsFoundIn};
+ghost use Rattle.pq_plain.specs.Found.{hits, IsSought, IsRootStep, IsFound, IsFoundBelow, IsFoundIn};
 ghost use Rattle.template_theory.specs.Outcomes.{IsLowest};
 
 use crate::at_root::{Outcome, reduce_root};
@@ -27,9 +26,7 @@ pub enum Found {
 // node, where the row is refused, and on an error.
 #[cycle(search)]
 pub fn reduce_tree(alloc: Global, row: &[u32], tree: &mut Tree) -> Result<Found, NoMemory>
-    requires ascending { IsNonDecreasing row.now }
-    requires distinct { (a : ℕ) → occurs row.now a ≤ 1 }
-    requires some { 0 < length row.now }
+    requires row { IsSought row.now }
     requires tree { IsTree (outline_of tree.old) }
     ensures found { IfOk result (IsFound row.now (outline_of tree.old) (outline_of tree.new)) }
     ensures err { OnErr result (outline_of tree.new ≡ outline_of tree.old) }
@@ -49,9 +46,7 @@ pub fn reduce_tree(alloc: Global, row: &[u32], tree: &mut Tree) -> Result<Found,
 // Searches the children of the tree, or counts its column where it has none.
 #[cycle(search)]
 fn reduce_below(alloc: Global, row: &[u32], tree: &mut Tree) -> Result<Found, NoMemory>
-    requires ascending { IsNonDecreasing row.now }
-    requires distinct { (a : ℕ) → occurs row.now a ≤ 1 }
-    requires some { 0 < length row.now }
+    requires row { IsSought row.now }
     requires tree { IsTree (outline_of tree.old) }
     ensures found { IfOk result (IsFoundBelow row.now (outline_of tree.old) (outline_of tree.new)) }
     ensures err { OnErr result (outline_of tree.new ≡ outline_of tree.old) }
@@ -77,9 +72,7 @@ fn reduce_below(alloc: Global, row: &[u32], tree: &mut Tree) -> Result<Found, No
 // Searches the trees from left to right, up to the first that holds the whole row.
 #[cycle(search)]
 fn reduce_children(alloc: Global, row: &[u32], children: &mut [Tree]) -> Result<Found, NoMemory>
-    requires ascending { IsNonDecreasing row.now }
-    requires distinct { (a : ℕ) → occurs row.now a ≤ 1 }
-    requires some { 0 < length row.now }
+    requires row { IsSought row.now }
     requires trees { AreTrees (outlines children.old) }
     ensures found { IfOk result (IsFoundIn row.now (outlines children.old) (outlines children.new)) }
     ensures err { OnErr result (outlines children.new ≡ outlines children.old) }

@@ -8,14 +8,14 @@ use Rattle.arena_model.specs.declared.Shape.TheVariants.{Leaf, P, Q}
 use Rattle.arena_model.specs.ChildLists.{without, with_replaced, put_on}
 use Rattle.arena_model.specs.Layout.{Layout, shape_at, children_at, IsAtOrAbove, here, down, IsLayout, StandsAlone, IsInUse, MayHaveChildren}
 use Rattle.arena_model.proofs.Lists.{occurs_here, occurs_same, occurs_other}
-use Rattle.arena_model.proofs.Slots.{in_range, used_by, children_same, children_other, shape_same}
+use Rattle.arena_model.proofs.Slots.{in_range, used_by, children_same, children_other, shape_same, child_used}
 use Rattle.arena_model.proofs.Paths.{above_step, above_kept, one_parent, other_top}
 use Rattle.arena_model.proofs.Trees.{no_circle}
 use Rattle.bubble_pass.specs.Marks.{Marks}
 use Rattle.template_model.specs.Treated.{IsTreated}
 use Rattle.templates_p.specs.Steps.{IsSameAt}
 use Rattle.templates_p.specs.Lines.{CanHandOver, IsHandedOn, put_in, CanPutIn, CanAbsorb, IsAbsorbed}
-use Rattle.templates_p.proofs.Rebuilt.{IsRebuilt, IsWritten, child_used}
+use Rattle.templates_p.proofs.Rebuilt.{IsRebuilt, IsWritten}
 use Rattle.template_model.proofs.Replaced.{replaced_self}
 use Rattle.templates_p.proofs.Remarked.{AreRemarked, is_answer, is_gone, is_partial, unmarked, treated}
 use Rattle.templates_p.proofs.Framing.{same_at}
@@ -120,6 +120,30 @@ root_kept f n = elim (cases_eq f.root n) [
   | inr ne ↦ sym (ap (λ b. cond b n f.root) (ne_eqb f.root n ne))
 ]
 
+-- the children of n with and without the child c
+pub without_bag : (f : Layout) (n c : ℕ) → IsLayout f → 1 ≤ occurs (children_at f n) c → (k : ℕ) → occurs (without (children_at f n) c) k + occurs (c ∷ []) k ≡ occurs (children_at f n) k
+without_bag f n c lay o k = elim (cases_eq k c) [
+  | inl e ↦ subst (λ z. occurs (without (children_at f n) c) z + occurs (c ∷ []) z ≡ occurs (children_at f n) z) (sym e)
+      (let a : occurs (children_at f n) c ≤ 1 = child_once f n c lay in omega (arith, o, without_gone (children_at f n) c, occurs_same c []))
+  | inr ne ↦ omega (arith, without_kept (children_at f n) c k ne, occurs_other c k [] ne)
+]
+
+-- a P-node n that loses its child c to the nodes below it, or loses it for good, and keeps two
+pub stays_written : (f g : Layout) (n c : ℕ) (ts : List ℕ) → shape_at f n ≡ Some P → children_at g n ≡ without (children_at f n) c → 2 ≤ length (children_at g n) →
+    (IsInUse g c → IsAtOrAbove g.slots n c) → IsWritten f g n n ts n
+stays_written f g n c ts is_p e long below = record {
+  mine = inl (here n);
+  closed = λ j o. inl refl;
+  no_leaf = λ b l. let z : Some P ≡ Some (Leaf b) = sym is_p ∙ l in cc;
+  two = λ s. long;
+  down = λ k o u. elim (cases_eq k c) [
+    | inl d ↦ subst (λ z. IsAtOrAbove g.slots n z) (sym d) (below (subst (IsInUse g) d u))
+    | inr ne ↦ down n k k (subst (λ z. 1 ≤ occurs z k) (sym e) (subst (λ z. 1 ≤ z) (sym (without_kept (children_at f n) c k ne)) o)) (here k)
+  ];
+  up = λ k o. inl (down n k k (let q : 1 ≤ occurs (without (children_at f n) c) k = subst (λ z. 1 ≤ occurs z k) e o in omega (arith, without_less (children_at f n) c k)) (here k));
+  all = λ u. here n;
+}
+
 module _ (f : Layout) (v : Marks) (n h c end : ℕ) (lay : IsLayout f) (can : CanAbsorb f v n h c) where
   under_n : (k : ℕ) → 1 ≤ occurs (children_at f n) k → IsAtOrAbove f.slots n k
   under_n k o = down n k k o (here k)
@@ -154,14 +178,6 @@ module _ (f : Layout) (v : Marks) (n h c end : ℕ) (lay : IsLayout f) (can : Ca
   child_n : (k : ℕ) → 1 ≤ occurs (children_at f n) k → k ≢ n
   child_n k o e = no_circle f.slots n k (lay.grounds n) o (subst (λ z. IsAtOrAbove f.slots k z) e (here k))
 
-  bag : (k : ℕ) → occurs (without (children_at f n) c) k + occurs (c ∷ []) k ≡ occurs (children_at f n) k
-  bag k = elim (cases_eq k c) [
-    | inl e ↦ subst (λ z. occurs (without (children_at f n) c) z + occurs (c ∷ []) z ≡ occurs (children_at f n) z) (sym e)
-        (let a : occurs (children_at f n) c ≤ 1 = child_once f n c lay in let b : 1 ≤ occurs (children_at f n) c = can.put.child in
-        omega (arith, without_gone (children_at f n) c, occurs_same c []))
-    | inr ne ↦ omega (arith, without_kept (children_at f n) c k ne, occurs_other c k [] ne)
-  ]
-
   module _ (g : Layout) (i : IsPutIn f g n h c end) where
     in_line : (k : ℕ) → 1 ≤ occurs (children_at g h) k → (k ≡ c) ⊎ (1 ≤ occurs (children_at f h) k)
     in_line k o = elim (cases_eq k c) [
@@ -182,18 +198,7 @@ module _ (f : Layout) (v : Marks) (n h c end : ℕ) (lay : IsLayout f) (can : Ca
       node_line = down n h h i.can.child (here h)
 
       stay_node : IsWritten f g n n (n ∷ h ∷ []) n
-      stay_node = record {
-        mine = inl (here n);
-        closed = λ j o. inl refl;
-        no_leaf = leaf_n;
-        two = λ s. long;
-        down = λ k o u. elim (cases_eq k c) [
-          | inl e ↦ subst (λ z. IsAtOrAbove g.slots n z) (sym e) (above_step g.slots n h c node_line line_new)
-          | inr ne ↦ down n k k (subst (λ z. 1 ≤ occurs z k) (sym i.node) (subst (λ z. 1 ≤ z) (sym (without_kept (children_at f n) c k ne)) o)) (here k)
-        ];
-        up = λ k o. inl (under_n k (let q : 1 ≤ occurs (without (children_at f n) c) k = subst (λ z. 1 ≤ occurs z k) i.node o in omega (arith, without_less (children_at f n) c k)));
-        all = λ u. here n;
-      }
+      stay_node = stays_written f g n c (n ∷ h ∷ []) can.put.is_p i.node long (λ u. above_step g.slots n h c node_line line_new)
 
       stay_line : IsWritten f g n n (n ∷ h ∷ []) h
       stay_line = record {
@@ -246,7 +251,7 @@ module _ (f : Layout) (v : Marks) (n h c end : ℕ) (lay : IsLayout f) (can : Ca
           refl,
           i.can.is_p,
           long,
-          (λ k. ap (λ z. occurs z k + occurs (c ∷ []) k) i.node ∙ bag k),
+          (λ k. ap (λ z. occurs z k + occurs (c ∷ []) k) i.node ∙ without_bag f n c lay can.put.child k),
           (λ k o a b. stay_same k (child_used f n k lay o) (under_n k o) (child_n k o) a),
         );
       }
@@ -330,7 +335,7 @@ module _ (f : Layout) (v : Marks) (n h c end : ℕ) (lay : IsLayout f) (can : Ca
         children = line_is ∙ i.line;
         added = go_same c (child_used f n c lay can.put.child) (under_n c can.put.child) (λ e. n_c (sym e)) (λ e. can.put.apart (sym e));
         inner = λ k o. go_same k (child_used f h k lay o) (under_h k o) (inner_n k o) (inner_h k o);
-        place = inr (refl, λ k. let q : occurs (without (children_at f n) c) k ≡ occurs (h ∷ []) k = ap (λ z. occurs z k) (sym i.node ∙ d.only) in omega (arith, bag k));
+        place = inr (refl, λ k. let q : occurs (without (children_at f n) c) k ≡ occurs (h ∷ []) k = ap (λ z. occurs z k) (sym i.node ∙ d.only) in omega (arith, without_bag f n c lay can.put.child k));
       }
 
       pub go_treated : IsTreated f g' v w n h

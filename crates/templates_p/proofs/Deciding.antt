@@ -65,11 +65,15 @@ known f w n s ps h seen marked =
       empty = omega (arith, all_counted w ks);
     }
 
+-- decided by what is known of the children, where the node is seen as a P-node
+seen_decided : (f : Layout) (w : Marks) (n : ℕ) (s : Option Sight) (ps : List Label) → IsReady f w n → IsSeenAs f w n s → AreMarkedAs f w n ps →
+    (D : Option Sight → Type 0) (F : Type 0) → (D None → ⊥) → (F → shape_at f n ≡ Some P) → ((t : Sight) → Known f w n t ps → D (Some t) ↔ F) → D s ↔ F
+seen_decided f w n None ps h seen m D F none is_p by = (λ z. absurd (none z), λ z. absurd (seen (is_p z)))
+seen_decided f w n (Some s) ps h seen m D F none is_p by = by s (known f w n s ps h seen m)
+
 pub p1_decided : (f : Layout) (w : Marks) (n : ℕ) (s : Option Sight) (ps : List Label) → IsReady f w n → IsSeenAs f w n s → AreMarkedAs f w n ps →
     AllAreFull s ↔ FitsP1 f n ps
-p1_decided f w n None ps h seen m = (λ z. absurd z, λ z. absurd (seen z.0))
-p1_decided f w n (Some s) ps h seen m =
-    let k : Known f w n s ps = known f w n s ps h seen m in
+p1_decided f w n s ps h seen m = seen_decided f w n s ps h seen m AllAreFull (FitsP1 f n ps) (λ z. z) (λ z. z.0) (λ s k.
     let ts : Forest = child_trees f n in
     let o : ℕ → Outline = outline_below f in
     let ks : List ℕ = children_at f n in (
@@ -88,7 +92,7 @@ p1_decided f w n (Some s) ps h seen m =
             let b : s.partial ≡ 0 = k.partial ∙ ap (λ hs. length hs) u.2 in
             omega (arith, k.empty),
       ),
-    )
+    ))
 
 -- where a pattern and a place say when a template fits
 placed : {Z S T F : Type 0} → (S ↔ T) → (Z → T → F) → (F → Z × T) → (Z × S) ↔ F
@@ -97,9 +101,7 @@ placed d made back = (λ x. made x.0 (d.0 x.1), λ y. let b = back y in (b.0, d.
 -- full and empty children and no other: the two patterns that say so
 pub two_decided : (f : Layout) (w : Marks) (n : ℕ) (s : Option Sight) (ps : List Label) → IsReady f w n → IsSeenAs f w n s → AreMarkedAs f w n ps →
     AreFullAndEmpty s ↔ ((shape_at f n ≡ Some P) × (e : Outline) × (es : Forest) × (t : Outline) × (fs : Forest) × IsSorted (child_trees f n) ps (tree_and e es) (tree_and t fs) [])
-two_decided f w n None ps h seen m = (λ z. absurd z, λ z. absurd (seen z.0))
-two_decided f w n (Some s) ps h seen m =
-    let k : Known f w n s ps = known f w n s ps h seen m in
+two_decided f w n s ps h seen m = seen_decided f w n s ps h seen m AreFullAndEmpty _ (λ z. z) (λ z. z.0) (λ s k.
     let ts : Forest = child_trees f n in
     let o : ℕ → Outline = outline_below f in
     let ks : List ℕ = children_at f n in (
@@ -123,7 +125,7 @@ two_decided f w n (Some s) ps h seen m =
           let b : length (full_nodes w ks) ≡ count (tree_and z.3 z.4) = sym (count_map o (full_nodes w ks)) ∙ ap count u.1 in
           let c : s.partial ≡ 0 = k.partial ∙ ap (λ hs. length hs) u.2 in
           (c, omega (arith, k.full), omega (arith, k.empty)),
-    )
+    ))
 
 pub p2_decided : (f : Layout) (w : Marks) (n : ℕ) (root : Bool) (s : Option Sight) (ps : List Label) → IsReady f w n → IsSeenAs f w n s → AreMarkedAs f w n ps →
     (IsTrue root × AreFullAndEmpty s) ↔ FitsP2 f n root ps
@@ -138,9 +140,7 @@ p3_decided f w n root s ps h seen m =
 -- one partial child
 pub one_decided : (f : Layout) (w : Marks) (n : ℕ) (s : Option Sight) (ps : List Label) → IsReady f w n → IsSeenAs f w n s → AreMarkedAs f w n ps →
     HasPartials 1 s ↔ ((shape_at f n ≡ Some P) × (es : Forest) × (x : Partial) × (fs : Forest) × IsSorted (child_trees f n) ps es fs (x ∷ []))
-one_decided f w n None ps h seen m = (λ z. absurd z, λ z. absurd (seen z.0))
-one_decided f w n (Some s) ps h seen m =
-    let k : Known f w n s ps = known f w n s ps h seen m in
+one_decided f w n s ps h seen m = seen_decided f w n s ps h seen m (HasPartials 1) _ (λ z. z) (λ z. z.0) (λ s k.
     let o : ℕ → Outline = outline_below f in
     let ks : List ℕ = children_at f n in (
       λ z. let x = single (held ps) (sym k.partial ∙ z) in (
@@ -151,7 +151,7 @@ one_decided f w n (Some s) ps h seen m =
         subst (λ hs. IsSorted (child_trees f n) ps (forest (map o (empty_nodes w ks))) (forest (map o (full_nodes w ks))) hs) x.1 k.sorted,
       ),
       λ z. k.partial ∙ ap (λ hs. length hs) (sorted_unique k.sorted z.4).2,
-    )
+    ))
 
 pub p4_decided : (f : Layout) (w : Marks) (n : ℕ) (root : Bool) (s : Option Sight) (ps : List Label) → IsReady f w n → IsSeenAs f w n s → AreMarkedAs f w n ps →
     (IsTrue root × HasPartials 1 s) ↔ FitsP4 f n root ps
@@ -165,9 +165,7 @@ p5_decided f w n root s ps h seen m =
 
 pub p6_decided : (f : Layout) (w : Marks) (n : ℕ) (root : Bool) (s : Option Sight) (ps : List Label) → IsReady f w n → IsSeenAs f w n s → AreMarkedAs f w n ps →
     (IsTrue root × HasPartials 2 s) ↔ FitsP6 f n root ps
-p6_decided f w n root None ps h seen m = (λ z. absurd z.1, λ z. absurd (seen z.0))
-p6_decided f w n root (Some s) ps h seen m =
-    let k : Known f w n s ps = known f w n s ps h seen m in
+p6_decided f w n root s ps h seen m = seen_decided f w n s ps h seen m (λ s. IsTrue root × HasPartials 2 s) (FitsP6 f n root ps) (λ z. z.1) (λ z. z.0) (λ s k.
     let o : ℕ → Outline = outline_below f in
     let ks : List ℕ = children_at f n in
     let es : Forest = forest (map o (empty_nodes w ks)) in
@@ -188,4 +186,4 @@ p6_decided f w n root (Some s) ps h seen m =
         ),
       ),
       λ z. (z.1.1.at, k.partial ∙ ap (λ hs. length hs) (sorted_unique k.sorted z.1.1.pattern).2),
-    )
+    ))

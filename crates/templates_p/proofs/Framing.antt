@@ -22,8 +22,9 @@ use Rattle.bubble_pass.specs.declared.labels.Label.TheVariants.{Empty, Full}
 use Rattle.bubble_pass.specs.Marks.{Marks, label_at}
 use Rattle.template_theory.specs.Templates.{Partial}
 use Rattle.template_model.specs.Standing.{IsShapeAt}
+use Rattle.arena_model.proofs.Slots.{child_used}
 use Rattle.templates_p.specs.Steps.{IsSameAt}
-use Rattle.templates_p.proofs.Rebuilt.{IsRebuilt, same_children, deep_child, tree_kept, child_used}
+use Rattle.templates_p.proofs.Rebuilt.{IsRebuilt, same_children, deep_child, tree_kept}
 use Rattle.templates_p.proofs.Remarked.{AreRemarked}
 
 pub reverse_occurs : (xs : List ℕ) (k : ℕ) → occurs (reverse xs) k ≡ occurs xs k

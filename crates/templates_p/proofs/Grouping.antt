@@ -12,7 +12,7 @@ use Rattle.arena_model.specs.declared.Shape.TheVariants.{Leaf, P}
 use Rattle.arena_model.specs.Layout.{Layout, spare_slot, slot, shape_at, children_at, IsAtOrAbove, here, down, IsLayout, StandsAlone, MayHaveChildren, IsInUse, with_children}
 use Rattle.arena_model.specs.NamedTree.{outline_below, IsOneTree, HasTwoEach}
 use Rattle.arena_model.proofs.Lists.{occurs_here, occurs_other, only_one}
-use Rattle.arena_model.proofs.Slots.{some_none, in_range, used_by, children_same, children_other, shape_same}
+use Rattle.arena_model.proofs.Slots.{some_none, in_range, used_by, children_same, children_other, shape_same, child_used}
 use Rattle.arena_model.proofs.Paths.{other_top}
 use Rattle.arena_model.proofs.Trees.{no_circle}
 use Rattle.pq_arena.specs.declared.node.NodeId.{NodeId}
@@ -24,7 +24,7 @@ use Rattle.template_model.specs.Standing.{IsReady}
 use Rattle.template_model.specs.Treated.{IsTreated}
 use Rattle.templates_p.specs.Sorts.{full_nodes, empty_nodes, partial_nodes, full_then}
 use Rattle.templates_p.specs.Steps.{CanMove, Moved, moved_under, without_all, onto, Gathering, HasGroup, CanGather, IsSameAt, HasChildWith}
-use Rattle.templates_p.proofs.Rebuilt.{IsRebuilt, IsWritten, child_used}
+use Rattle.templates_p.proofs.Rebuilt.{IsRebuilt, IsWritten}
 use Rattle.template_model.proofs.Replaced.{replaced_self}
 use Rattle.templates_p.proofs.Remarked.{AreRemarked, is_answer, is_full, swapped_self, treated}
 use Rattle.templates_p.proofs.Sorting.{all_sorted, all_counted, fulls_length, sorted_label, fulls, sorted_times, sorted_none, empties, partials, not_full_empty, not_full_partial, AreMarked}

@@ -5,11 +5,11 @@ use Rattle.column_order.specs.Orders.{occurs}
 use Rattle.arena_model.specs.declared.Shape.TheVariants.{P}
 use Rattle.arena_model.specs.ChildLists.{without, with_replaced}
 use Rattle.arena_model.specs.Layout.{Layout, children_at, times_child, IsAtOrAbove, here, down, IsLayout, StandsAlone, IsInUse, with_children}
-use Rattle.arena_model.proofs.Slots.{in_range, used_by, children_same, children_other, shape_same, times_with, children_times}
+use Rattle.arena_model.proofs.Slots.{in_range, used_by, children_same, children_other, shape_same, times_with, children_times, parent_used}
 use Rattle.arena_model.proofs.Paths.{above_step, above_kept, above_ends, at_once, by, one_parent, other_top}
 use Rattle.arena_model.proofs.Trees.{no_circle}
 use Rattle.templates_p.specs.Lines.{CanHandOver, IsHandedOver}
-use Rattle.templates_p.proofs.Rebuilt.{replaced_none, replaced_has, parent_used}
+use Rattle.templates_p.proofs.Rebuilt.{replaced_none, replaced_has}
 use Rattle.templates_p.proofs.Moving.{IsLoose, loose, without_less}
 
 -- the child h taken from n
@@ -110,7 +110,7 @@ handed_child f g n h p lay can ne o above q = subst (λ z. IsHandedOver f z n h)
     pn e = no_circle f.slots p n (lay.grounds p) o (subst (λ z. IsAtOrAbove f.slots n z) e (here n))
 
     lt1 : p < length (taken_off f n h).slots
-    lt1 = in_range (taken_off f n h) p (λ e. parent_used f p n lay o (sym (shape_same f n p (without (children_at f n) h) lt) ∙ e))
+    lt1 = in_range (taken_off f n h) p (λ e. parent_used f p n o lay (sym (shape_same f n p (without (children_at f n) h) lt) ∙ e))
 
     up1 : IsAtOrAbove (taken_off f n h).slots f.root p
     up1 = up f.root above

@@ -10,7 +10,7 @@ use Rattle.arena_model.specs.Layout.{Layout, shape_at, children_at, times_child,
 use Rattle.arena_model.proofs.Lists.{occurs_here, without_same}
 use Rattle.arena_model.proofs.Bare.{bare_children, bare_other, bare_shape, bare_times}
 use Rattle.arena_model.proofs.Paths.{other_top}
-use Rattle.arena_model.proofs.Slots.{some_inj, in_range, used_by, children_same, children_other, shape_same, times_with, children_times}
+use Rattle.arena_model.proofs.Slots.{some_inj, in_range, used_by, children_same, children_other, shape_same, times_with, children_times, child_used}
 use Rattle.arena_model.proofs.Trees.{no_circle}
 use Rattle.pq_arena.specs.declared.node.NodeId.{NodeId}
 use Rattle.pq_arena.specs.declared.node.NodeView.{NodeView}
@@ -20,7 +20,7 @@ use Rattle.bubble_pass.specs.declared.labels.Label.TheVariants.{Empty}
 use Rattle.bubble_pass.specs.Marks.{Marks, label_at, size_of, IsPut}
 use Rattle.templates_p.specs.Lines.{IsHandedOver}
 use Rattle.templates_p.specs.Parts.{AreMoved, IsLeftPart, CanLift, IsParted}
-use Rattle.templates_p.proofs.Rebuilt.{replaced_none, child_used}
+use Rattle.templates_p.proofs.Rebuilt.{replaced_none}
 use Rattle.templates_p.proofs.Chaining.{child_once}
 use Rattle.templates_p.proofs.Moving.{IsLoose, loose, without_less}
 use Rattle.templates_p.proofs.Handing.{taken_off, taken_child}

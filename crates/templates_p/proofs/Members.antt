@@ -2,7 +2,7 @@
 use Rattle.std.proofs.Common.{◌≡◌, inl, inr, ℕ, zero, suc, ◌+◌, ◌≤◌, ◌<◌, Bool, true, false, cond, List, [], ◌∷◌, ◌++◌, length, map, take, get_or, Some, refl, sym, ap, subst, ◌∙◌, arith}
 use Rattle.std.specs.List.{range_with_len}
 use Rattle.std.proofs.lemmas.Bool.{cases_lt}
-use Rattle.std.proofs.lemmas.List.{take_more}
+use Rattle.std.proofs.lemmas.List.{take_all, take_more}
 use Rattle.std.proofs.lemmas.List.FromFn.{get_or-map-range_with_len, length-map-range_with_len}
 use Rattle.column_order.specs.Orders.{has, occurs}
 use Rattle.column_order.proofs.Lists.{has_from_occurs, occurs_from_has, occurs-append}
@@ -13,7 +13,7 @@ use Rattle.arena_model.specs.ChildLists.{without}
 use Rattle.arena_model.specs.Layout.{Layout, shape_at, children_at, with_children, IsLayout, IsAtOrAbove, StandsAlone}
 use Rattle.arena_model.specs.NamedTree.{outline_below, IsOneTree, HasTwoEach}
 use Rattle.arena_model.proofs.Lists.{occurs_here}
-use Rattle.arena_model.proofs.Slots.{in_range, used_by}
+use Rattle.arena_model.proofs.Slots.{in_range, used_by, child_used}
 use Rattle.pq_arena.specs.declared.node.NodeId.{NodeId}
 use Rattle.pq_arena.specs.RowNodes.{indices}
 use Rattle.bubble_pass.specs.declared.labels.Label.{Label as Mark}
@@ -25,7 +25,7 @@ use Rattle.template_model.specs.Treated.{IsReplacedAt, StandsForTree}
 use Rattle.templates_p.specs.Members.{AreMembers, member_labels}
 use Rattle.templates_p.specs.Sorts.{full_nodes, empty_nodes, partial_nodes}
 use Rattle.templates_p.specs.Steps.{Moved, CanMove, moved_under}
-use Rattle.templates_p.proofs.Rebuilt.{child_used, replaced_at}
+use Rattle.templates_p.proofs.Rebuilt.{replaced_at}
 use Rattle.templates_p.proofs.Sorting.{held, sort, held_length, count_map, all_counted, sorted_label, fulls, sorted_times}
 use Rattle.templates_p.proofs.Framing.{same_length}
 use Rattle.templates_p.proofs.Moving.{can_move, ready_to_put, moved_one}
@@ -153,10 +153,10 @@ module _ (f : Layout) (n : ℕ) (members : List ℕ) (h : IsLayout f) (m : AreMe
     all_moved : AllMoved f g marks n x.index members
     all_moved = record { moved = moved; all = all_members }
 
-    pub members_replaced : IsReplacedAt f (grouped g n x.index) n n
+    members_replaced : IsReplacedAt f (grouped g n x.index) n n
     members_replaced = replaced_at f (grouped g n x.index) n n (n ∷ x.index ∷ []) (group_rebuilt f g marks n x.index members h hg (can one two) all_moved) one two
 
-    pub members_become : (u : Outline) × IsP2 true (child_trees f n) (member_labels members (children_at f n)) u × StandsForTree (grouped g n x.index) n u
+    members_become : (u : Outline) × IsP2 true (child_trees f n) (member_labels members (children_at f n)) u × StandsForTree (grouped g n x.index) n u
     members_become = (
       p2 (forest (map (outline_below f) (empty_nodes marks (children_at f n)))) (forest (map (outline_below f) (full_nodes marks (children_at f n)))),
       made,
@@ -164,6 +164,19 @@ module _ (f : Layout) (n : ℕ) (members : List ℕ) (h : IsLayout f) (m : AreMe
           (p2 (forest (map (outline_below f) (empty_nodes marks (children_at f n)))) (forest (map (outline_below f) (full_nodes marks (children_at f n))))) hg
           (group_made f g marks n x.index members h hg (can one two) all_moved) are_marked made,
     )
+
+-- the members are the children of a new child of n, as P2 has it
+pub record IsGroupedAt (f z : Layout) (n : ℕ) (members : List ℕ) : Type 0 where
+  pub replaced : IsReplacedAt f z n n
+  pub becomes : (u : Outline) × IsP2 true (child_trees f n) (member_labels members (children_at f n)) u × StandsForTree z n u
+
+pub members_grouped : (f g z : Layout) (n i : ℕ) (ms : List NodeId) (x : NodeId) → IsLayout f → IsLayout z → AreMembers f n (indices ms) → IsOneTree f → HasTwoEach f →
+    z ≡ grouped g n x.index → length ms ≤ i → Moved f g n x.index (indices (take i ms)) → IsGroupedAt f z n (indices ms)
+members_grouped f g z n i ms x hf hz m one two e done moved =
+    let hg : IsLayout (grouped g n x.index) = subst IsLayout e hz in
+    let all : Moved f g n x.index (indices ms) = subst (λ ks. Moved f g n x.index (indices ks)) (take_all i ms done) moved in
+    subst (λ y. IsGroupedAt f y n (indices ms)) (sym e)
+    (record { replaced = members_replaced f n (indices ms) hf m g x hg one two all; becomes = members_become f n (indices ms) hf m g x hg one two all })
 
 -- a member that was not reached yet
 in_list : (ms : List NodeId) (i : ℕ) (d : NodeId) → i < length ms → 1 ≤ occurs (indices ms) (get_or ms i d).index

@@ -8,8 +8,8 @@ use Rattle.column_order.proofs.Lists.{occurs-append}
 use Rattle.arena_model.specs.declared.Shape.TheVariants.{Leaf, P, Q}
 use Rattle.arena_model.specs.ChildLists.{without, with_replaced}
 use Rattle.arena_model.specs.Layout.{Layout, spare_slot, shape_at, children_at, IsAtOrAbove, here, down, IsLayout, IsInUse, MayHaveChildren, with_children, spliced}
-use Rattle.arena_model.proofs.Lists.{occurs_here, occurs_same, occurs_other}
-use Rattle.arena_model.proofs.Slots.{in_range, used_by, children_same, children_other, shape_same}
+use Rattle.arena_model.proofs.Lists.{occurs_here, occurs_other}
+use Rattle.arena_model.proofs.Slots.{in_range, used_by, children_same, children_other, shape_same, child_used}
 use Rattle.arena_model.proofs.Paths.{above_step, one_parent}
 use Rattle.arena_model.proofs.Bare.{bare_shape, bare_other}
 use Rattle.arena_model.proofs.Trees.{no_circle}
@@ -18,14 +18,13 @@ use Rattle.template_model.specs.Treated.{IsTreated}
 use Rattle.templates_p.specs.Steps.{IsSameAt}
 use Rattle.templates_p.specs.Lines.{CanHandOver, IsHandedOn, IsSettled, put_in, CanPutIn}
 use Rattle.templates_p.specs.Merging.{CanMerge, IsMerged}
-use Rattle.templates_p.proofs.Rebuilt.{IsRebuilt, IsWritten, child_used}
+use Rattle.templates_p.proofs.Rebuilt.{IsRebuilt, IsWritten}
 use Rattle.template_model.proofs.Replaced.{replaced_self}
 use Rattle.templates_p.proofs.Remarked.{AreRemarked, is_answer, is_gone, is_partial, unmarked, treated}
 use Rattle.templates_p.proofs.Framing.{same_at, same_length}
-use Rattle.templates_p.proofs.Moving.{without_gone, without_kept, without_less}
-use Rattle.templates_p.proofs.Chaining.{child_once}
+use Rattle.templates_p.proofs.Moving.{without_kept}
 use Rattle.templates_p.proofs.Handed.{labelled_room, handed_remarked, only_two, handed_children}
-use Rattle.templates_p.proofs.Absorbing.{IsPutIn, is_put_in}
+use Rattle.templates_p.proofs.Absorbing.{IsPutIn, is_put_in, stays_written, without_bag}
 use Rattle.templates_p.proofs.Settling.{put_in_length}
 
 -- the layout once c was given back, and js are the children of h
@@ -174,14 +173,6 @@ module _ (f : Layout) (v : Marks) (n h c : ℕ) (js : List ℕ) (lay : IsLayout 
       (λ k. occurs-append (children_at f h) (children_at f c) k ∙ sym (has k)) in
       omega (arith, length-append (children_at f h) (children_at f c))
 
-  bag : (k : ℕ) → occurs (without (children_at f n) c) k + occurs (c ∷ []) k ≡ occurs (children_at f n) k
-  bag k = elim (cases_eq k c) [
-    | inl e ↦ subst (λ z. occurs (without (children_at f n) c) z + occurs (c ∷ []) z ≡ occurs (children_at f n) z) (sym e)
-        (let a : occurs (children_at f n) c ≤ 1 = child_once f n c lay in let b : 1 ≤ occurs (children_at f n) c = is_child in
-        omega (arith, without_gone (children_at f n) c, occurs_same c []))
-    | inr ne ↦ omega (arith, without_kept (children_at f n) c k ne, occurs_other c k [] ne)
-  ]
-
   module _ (g : Layout) (i : IsMergedIn f g n h c js) where
     in_line : (k : ℕ) → 1 ≤ occurs (children_at g h) k → 1 ≤ occurs (children_at f h) k + occurs (children_at f c) k
     in_line k o = let q : occurs (children_at g h) k ≡ occurs js k = ap (λ z. occurs z k) i.line in omega (arith, has k)
@@ -195,18 +186,7 @@ module _ (f : Layout) (v : Marks) (n h c : ℕ) (js : List ℕ) (lay : IsLayout 
       node_line = down n h h i.can.child (here h)
 
       stay_node : IsWritten f g n n (n ∷ h ∷ c ∷ []) n
-      stay_node = record {
-        mine = inl (here n);
-        closed = λ j o. inl refl;
-        no_leaf = leaf_p;
-        two = λ s. long;
-        down = λ k o u. elim (cases_eq k c) [
-          | inl e ↦ absurd (u (subst (λ z. shape_at g z ≡ None) (sym e) i.gone))
-          | inr ne ↦ down n k k (subst (λ z. 1 ≤ occurs z k) (sym i.node) (subst (λ z. 1 ≤ z) (sym (without_kept (children_at f n) c k ne)) o)) (here k)
-        ];
-        up = λ k o. inl (under_n k (let q : 1 ≤ occurs (without (children_at f n) c) k = subst (λ z. 1 ≤ occurs z k) i.node o in omega (arith, without_less (children_at f n) c k)));
-        all = λ u. here n;
-      }
+      stay_node = stays_written f g n c (n ∷ h ∷ c ∷ []) can.absorb.put.is_p i.node long (λ u. absurd (u i.gone))
 
       stay_line : IsWritten f g n n (n ∷ h ∷ c ∷ []) h
       stay_line = record {
@@ -266,7 +246,7 @@ module _ (f : Layout) (v : Marks) (n h c : ℕ) (js : List ℕ) (lay : IsLayout 
           refl,
           i.can.is_p,
           long,
-          (λ k. ap (λ z. occurs z k + occurs (c ∷ []) k) i.node ∙ bag k),
+          (λ k. ap (λ z. occurs z k + occurs (c ∷ []) k) i.node ∙ without_bag f n c lay is_child k),
           (λ k o a b. stay_same k (child_used f n k lay o) (under_n k o) (none_of n h c k (child_other f n k lay o) a b)),
         );
       }
@@ -363,7 +343,7 @@ module _ (f : Layout) (v : Marks) (n h c : ℕ) (js : List ℕ) (lay : IsLayout 
         shape = line_shape;
         children = line_is ∙ i.line;
         inner = λ k o. same_at f g' n h (n ∷ h ∷ c ∷ []) go_rebuilt v w go_remarked k (inner_used k o) (under_inner k o) (inner_none k o);
-        place = inr (refl, λ k. let q : occurs (without (children_at f n) c) k ≡ occurs (h ∷ []) k = ap (λ z. occurs z k) (sym i.node ∙ d.only) in omega (arith, bag k));
+        place = inr (refl, λ k. let q : occurs (without (children_at f n) c) k ≡ occurs (h ∷ []) k = ap (λ z. occurs z k) (sym i.node ∙ d.only) in omega (arith, without_bag f n c lay is_child k));
       }
 
       pub go_treated : IsTreated f g' v w n h

@@ -10,14 +10,14 @@ use Rattle.arena_model.specs.ChildLists.{put_on}
 use Rattle.arena_model.specs.Layout.{Layout, shape_at, children_at, IsAtOrAbove, here, down, IsLayout}
 use Rattle.arena_model.specs.NamedTree.{outline_below, IsOneTree, HasTwoEach}
 use Rattle.arena_model.proofs.Lists.{occurs_here, only_one, occurs_other}
-use Rattle.arena_model.proofs.Slots.{used_by}
+use Rattle.arena_model.proofs.Slots.{used_by, child_used}
 use Rattle.bubble_pass.specs.declared.labels.Label.TheVariants.{Empty}
 use Rattle.bubble_pass.specs.Marks.{Marks, label_at}
 use Rattle.template_theory.specs.Templates.{star}
 use Rattle.template_model.specs.Treated.{IsTreated}
 use Rattle.templates_p.specs.Steps.{IsSameAt}
 use Rattle.templates_p.specs.Parts.{IsParted}
-use Rattle.templates_p.proofs.Rebuilt.{IsRebuilt, IsWritten, IsMine, none_child, child_used, below_used}
+use Rattle.templates_p.proofs.Rebuilt.{IsRebuilt, IsWritten, IsMine, none_child, below_used}
 use Rattle.templates_p.proofs.Remarked.{AreRemarked, IsJudged, is_answer, is_gone, is_empty, exchanged, treated}
 use Rattle.templates_p.proofs.Framing.{same_at, p_stands, are_same, same_length}
 use Rattle.templates_p.proofs.Grouping.{two_kinds, only_member}

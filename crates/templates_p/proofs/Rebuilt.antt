@@ -5,10 +5,10 @@ use Rattle.std.specs.Prelude.{if◌then◌else◌, ◌==◌}
 use Rattle.column_order.specs.Orders.{occurs}
 use Rattle.arena_model.specs.declared.Shape.TheVariants.{Leaf, P, Q}
 use Rattle.arena_model.specs.ChildLists.{with_replaced}
-use Rattle.arena_model.specs.Layout.{Slot, Layout, slot, shape_at, children_at, times_child, IsAtOrAbove, here, down, IsInUse, MayHaveChildren, IsLayout}
+use Rattle.arena_model.specs.Layout.{Slot, Layout, slot, shape_at, children_at, IsAtOrAbove, here, down, IsInUse, MayHaveChildren, IsLayout}
 use Rattle.arena_model.specs.NamedTree.{IsAt, outline_below, IsOneTree, HasTwoEach}
 use Rattle.arena_model.proofs.Lists.{occurs_here, occurs_other}
-use Rattle.arena_model.proofs.Slots.{children_times, some_none, used_by}
+use Rattle.arena_model.proofs.Slots.{some_none, used_by, child_used, parent_used}
 use Rattle.arena_model.proofs.Paths.{above_step, top_alone, one_parent, above_ends, at_once, by}
 use Rattle.arena_model.proofs.Trees.{TreeAt, tree_at, at_same, reached, no_circle}
 use Rattle.arena_model.proofs.Outlines.{below_named}
@@ -89,12 +89,6 @@ none_child f m k h e o =
     let z : children_at f m ≡ [] = subst (λ s. MayHaveChildren s (children_at f m)) e (h.children_fit m) in
     let q : 1 ≤ occurs [] k = subst (λ ks. 1 ≤ occurs ks k) z o in omega arith
 
-pub child_used : (f : Layout) (m k : ℕ) → IsLayout f → 1 ≤ occurs (children_at f m) k → IsInUse f k
-child_used f m k h o = h.used k (let a : occurs (children_at f m) k ≤ times_child f.slots k = children_times f m k in omega arith)
-
-pub parent_used : (f : Layout) (m k : ℕ) → IsLayout f → 1 ≤ occurs (children_at f m) k → IsInUse f m
-parent_used f m k h o e = none_child f m k h e o
-
 pub below_used : (f : Layout) (x m : ℕ) → IsLayout f → IsInUse f x → IsAtOrAbove f.slots x m → IsInUse f m
 below_used f _ _ h u (here x) = u
 below_used f _ _ h u (down x k m o l) = below_used f k m h (child_used f x k h o) l
@@ -141,7 +135,7 @@ module _ (f g : Layout) (n a : ℕ) (ts : List ℕ) (r : IsRebuilt f g n a ts) w
   keeps_from _ _ (down x k m o l) b h u = keeps_from k m l (above_step f.slots n x k b o) (elim (cases_lt 0 (occurs ts x)) [
     | inl w ↦ λ v. (written_at x w).down k o v
     | inr w ↦ λ v. let z : occurs ts x ≡ 0 = omega arith in
-        above_step g.slots a x k (h (subst (λ s. s ≢ None) (sym (r.shapes x z)) (parent_used f x k r.before o)))
+        above_step g.slots a x k (h (subst (λ s. s ≢ None) (sym (r.shapes x z)) (parent_used f x k o r.before)))
         (subst (λ ks. 1 ≤ occurs ks k) (sym (same_children x b z)) o)
   ]) u
 
@@ -159,7 +153,7 @@ module _ (f g : Layout) (n a : ℕ) (ts : List ℕ) (r : IsRebuilt f g n a ts) w
           | at_once e ↦ ne (sym e)
           | by j lj oj ↦ nb (subst (λ z. IsAtOrAbove f.slots n z) (one_parent f j x k r.before oj o) lj)
         ]) in
-        let z : occurs ts x ≡ 0 = outside_kept x (parent_used f x k r.before o, nb) in
+        let z : occurs ts x ≡ 0 = outside_kept x (parent_used f x k o r.before, nb) in
         elim (reach k m l nk) [
           | inl q ↦ inl q
           | inr q ↦ inr (down x k m (subst (λ ks. 1 ≤ occurs ks k) (sym (r.children x z)) (replaced_keeps (children_at f x) n a k ne o)) q)
@@ -183,7 +177,7 @@ module _ (f g : Layout) (n a : ℕ) (ts : List ℕ) (r : IsRebuilt f g n a ts) w
       | at_once e ↦ absurd (ne e)
       | by p l o ↦
           let np : IsAtOrAbove f.slots n p → ⊥ = (λ q. no_circle f.slots p n (r.before.grounds p) o q) in
-          let z : occurs ts p ≡ 0 = outside_kept p (parent_used f p n r.before o, np) in
+          let z : occurs ts p ≡ 0 = outside_kept p (parent_used f p n o r.before, np) in
           elim (reach f.root p l (root_above ne)) [
             | inl q ↦ absurd (np q)
             | inr q ↦ subst (λ z. IsAtOrAbove g.slots z a) (sym (root_stays ne))

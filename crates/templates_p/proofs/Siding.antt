@@ -9,7 +9,7 @@ use Rattle.arena_model.specs.declared.Shape.TheVariants.{Q}
 use Rattle.arena_model.specs.ChildLists.{head_or, none}
 use Rattle.arena_model.specs.Layout.{Layout, shape_at, children_at, IsLayout}
 use Rattle.arena_model.proofs.Lists.{occurs_here, occurs_other}
-use Rattle.arena_model.proofs.Slots.{some_inj, in_range}
+use Rattle.arena_model.proofs.Slots.{some_inj, in_range, child_used}
 use Rattle.pq_arena.specs.declared.node.NodeId.{NodeId}
 use Rattle.pq_arena.specs.declared.node.NodeView.{NodeView}
 use Rattle.pq_arena.specs.Looks.{ShowsNode, shown_ends, node_named}
@@ -18,7 +18,6 @@ use Rattle.bubble_pass.specs.Marks.{Marks, label_at}
 use Rattle.template_theory.specs.Templates.{Partial}
 use Rattle.template_model.specs.Standing.{IsShapeAt}
 use Rattle.templates_p.specs.Lines.{IsShapeTo}
-use Rattle.templates_p.proofs.Rebuilt.{child_used}
 use Rattle.templates_p.proofs.Framing.{reverse_occurs, shape_member}
 
 pub all_at : (H : ℕ → Type 0) (xs : List ℕ) (k : ℕ) → All H xs → 1 ≤ occurs xs k → H k

@@ -35,18 +35,21 @@ cons_head x y xs ys e = cc
 cons_tail : {A : Type 0} (x y : A) (xs ys : List A) → x ∷ xs ≡ y ∷ ys → xs ≡ ys
 cons_tail x y xs ys e = cc
 
+-- what holds of each label and its mark
+by_mark : (M : Label → Mark → Type 0) → M empty_label Empty → M full_label Full → ((h : Partial) → M (partial_label h) Partly) → (x : Label) (l : Mark) → mark_of x ≡ l → M x l
+by_mark M e f p x l k = subst (M x) k (of x)
+  where
+    of : (y : Label) → M y (mark_of y)
+    of empty_label = e
+    of full_label = f
+    of (partial_label h) = p h
+
 sort_step : (o : ℕ → Outline) (k : ℕ) (E F : List ℕ) (T : Forest) (x : Label) (ps : List Label) (hs : List Partial) (l : Mark) → mark_of x ≡ l →
     IsSorted T ps (forest (map o E)) (forest (map o F)) (held ps) →
     IsSorted (tree_and (o k) T) (x ∷ ps) (forest (map o (empty_then l k E))) (forest (map o (full_then l k F))) (held (x ∷ ps))
-sort_step o k E F T empty_label ps hs Empty e s = to_empty s
-sort_step o k E F T empty_label ps hs Partly e s = absurd (cc)
-sort_step o k E F T empty_label ps hs Full e s = absurd (cc)
-sort_step o k E F T full_label ps hs Empty e s = absurd (cc)
-sort_step o k E F T full_label ps hs Partly e s = absurd (cc)
-sort_step o k E F T full_label ps hs Full e s = to_full s
-sort_step o k E F T (partial_label h) ps hs Empty e s = absurd (cc)
-sort_step o k E F T (partial_label h) ps hs Partly e s = to_partial s
-sort_step o k E F T (partial_label h) ps hs Full e s = absurd (cc)
+sort_step o k E F T x ps hs l e s =
+    by_mark (λ x l. IsSorted (tree_and (o k) T) (x ∷ ps) (forest (map o (empty_then l k E))) (forest (map o (full_then l k F))) (held (x ∷ ps)))
+    (to_empty s) (to_full s) (λ h. to_partial s) x l e
 
 -- the children sort into the empty ones, the full ones and what the partial ones become
 pub sort : (o : ℕ → Outline) (w : Marks) (ks : List ℕ) (ps : List Label) → map mark_of ps ≡ map (label_at w) ks →
@@ -64,15 +67,7 @@ count_map o [] = refl
 count_map o (x ∷ xs) = omega (arith, count_map o xs)
 
 held_step : (k : ℕ) (ks : List ℕ) (x : Label) (ps : List Label) (l : Mark) → mark_of x ≡ l → length (held ps) ≡ length ks → length (held (x ∷ ps)) ≡ length (partial_then l k ks)
-held_step k ks empty_label ps Empty e h = h
-held_step k ks empty_label ps Partly e h = absurd (cc)
-held_step k ks empty_label ps Full e h = absurd (cc)
-held_step k ks full_label ps Empty e h = absurd (cc)
-held_step k ks full_label ps Partly e h = absurd (cc)
-held_step k ks full_label ps Full e h = h
-held_step k ks (partial_label p) ps Empty e h = absurd (cc)
-held_step k ks (partial_label p) ps Partly e h = omega arith
-held_step k ks (partial_label p) ps Full e h = absurd (cc)
+held_step k ks x ps l e h = by_mark (λ x l. length (held (x ∷ ps)) ≡ length (partial_then l k ks)) h h (λ p. omega arith) x l e
 
 pub held_length : (w : Marks) (ks : List ℕ) (ps : List Label) → map mark_of ps ≡ map (label_at w) ks → length (held ps) ≡ length (partial_nodes w ks)
 held_length w [] [] e = refl
@@ -91,15 +86,8 @@ AreShapes f w (k ∷ ks) (h ∷ hs) = IsShapeAt f w k h × AreShapes f w ks hs
 
 shape_step : (f : Layout) (w : Marks) (k : ℕ) (ks js : List ℕ) (x : Label) (ps : List Label) (l : Mark) → mark_of x ≡ l →
     AreShapesAt f w (k ∷ js) (x ∷ ps) → (AreShapesAt f w js ps → AreShapes f w ks (held ps)) → AreShapes f w (partial_then l k ks) (held (x ∷ ps))
-shape_step f w k ks js empty_label ps Empty e s h = h s
-shape_step f w k ks js empty_label ps Partly e s h = absurd (cc)
-shape_step f w k ks js empty_label ps Full e s h = absurd (cc)
-shape_step f w k ks js full_label ps Empty e s h = absurd (cc)
-shape_step f w k ks js full_label ps Partly e s h = absurd (cc)
-shape_step f w k ks js full_label ps Full e s h = h s
-shape_step f w k ks js (partial_label p) ps Empty e s h = absurd (cc)
-shape_step f w k ks js (partial_label p) ps Partly e s h = (s.0, h s.1)
-shape_step f w k ks js (partial_label p) ps Full e s h = absurd (cc)
+shape_step f w k ks js x ps l e s h =
+    by_mark (λ x l. AreShapesAt f w (k ∷ js) (x ∷ ps) → AreShapes f w (partial_then l k ks) (held (x ∷ ps))) h h (λ p s. (s.0, h s.1)) x l e s
 
 pub held_shapes : (f : Layout) (w : Marks) (ks : List ℕ) (ps : List Label) → map mark_of ps ≡ map (label_at w) ks → AreShapesAt f w ks ps →
     AreShapes f w (partial_nodes w ks) (held ps)

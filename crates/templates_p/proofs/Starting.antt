@@ -14,7 +14,7 @@ use Rattle.arena_model.specs.NamedTree.{outline_below, IsOneTree, HasTwoEach}
 use Rattle.arena_model.proofs.Lists.{occurs_here, only_one}
 use Rattle.arena_model.proofs.Bare.{bare_children, bare_other, bare_shape, fresh}
 use Rattle.arena_model.proofs.Paths.{above_step, above_kept, other_top}
-use Rattle.arena_model.proofs.Slots.{some_none, in_range, used_by, children_same, children_other, shape_same, times_with, children_times}
+use Rattle.arena_model.proofs.Slots.{some_none, in_range, used_by, children_same, children_other, shape_same, times_with, children_times, child_used}
 use Rattle.arena_model.proofs.Trees.{no_circle}
 use Rattle.bubble_pass.specs.declared.labels.Label.TheVariants.{Empty, Full}
 use Rattle.bubble_pass.specs.Marks.{Marks, label_at, size_of}
@@ -26,7 +26,7 @@ use Rattle.templates_p.specs.Sorts.{full_nodes, empty_nodes, partial_nodes}
 use Rattle.templates_p.specs.Steps.{HasGroup, CanGather}
 use Rattle.templates_p.specs.Lines.{CanHandOver}
 use Rattle.templates_p.specs.Parts.{IsParted, IsStarted, IsLineFor, CanLift}
-use Rattle.templates_p.proofs.Rebuilt.{none_child, child_used, replaced_has, replaced_length}
+use Rattle.templates_p.proofs.Rebuilt.{none_child, replaced_has, replaced_length}
 use Rattle.templates_p.proofs.Sorting.{sorted_unique, sort, held_length, count_map, sorted_label, empties}
 use Rattle.templates_p.proofs.Becoming.{can_gather, no_trees, occurs_none}
 use Rattle.templates_p.proofs.Chaining.{child_once}

@@ -21,6 +21,7 @@ use Rattle.bubble_pass.specs.declared.labels.Label.TheVariants.{Empty, Full}
 use Rattle.bubble_pass.specs.Marks.{Marks, label_at}
 use Rattle.template_model.specs.Standing.{child_trees, IsShapeAt, AreMarkedAs}
 use Rattle.template_model.specs.Treated.{StandsForTree}
+use Rattle.arena_model.proofs.Slots.{child_used}
 use Rattle.templates_q.specs.declared.stretch.PassedSpan.{PassedSpan}
 use Rattle.templates_q.specs.Walk.{AreChildren, AreAll}
 use Rattle.templates_q.specs.Fits.{FitsQ2}
@@ -28,7 +29,7 @@ use Rattle.templates_q.specs.Span.{IsStretch, BecomesQ3}
 use Rattle.templates_q.specs.Opening.{AreOpened}
 use Rattle.templates_q.proofs.Lists.{occurs_reverse}
 use Rattle.templates_q.proofs.Lines.{reverse_three, all_reverse}
-use Rattle.templates_q.proofs.Walks.{children_occur, is_named, child_used}
+use Rattle.templates_q.proofs.Walks.{children_occur, is_named}
 use Rattle.templates_q.proofs.Runs.{IsPart, Parts}
 use Rattle.templates_q.proofs.Fitting.{trees_reverse, line_fits, fitting_line, fitting_some}
 use Rattle.templates_q.proofs.Spans.{MadeSpan, made_span, reverse_five}

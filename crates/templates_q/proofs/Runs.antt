@@ -38,24 +38,36 @@ none_first t ts e = cc
 none_listed : (h : Partial) (hs : List Partial) → h ∷ hs ≡ [] → ⊥
 none_listed h hs e = cc
 
+-- labels of one mark
+abbrev AllMarked : Mark → List Label → Type 0
+AllMarked l [] = Unit {0}
+AllMarked l (p ∷ ps) = (mark_of p ≡ l) × AllMarked l ps
+
+only_full : {ts es fs : Forest} {ps : List Label} {hs : List Partial} → IsSorted ts ps es fs hs → es ≡ no_tree → hs ≡ [] → AllMarked Full ps
+only_full none_sorted e h = tt
+only_full (to_empty {t} {es} s) e h = absurd (none_first t es e)
+only_full (to_full s) e h = (refl, only_full s e h)
+only_full (to_partial {hs} {h = k} s) e h = absurd (none_listed k hs h)
+
+only_empty : {ts es fs : Forest} {ps : List Label} {hs : List Partial} → IsSorted ts ps es fs hs → fs ≡ no_tree → hs ≡ [] → AllMarked Empty ps
+only_empty none_sorted e h = tt
+only_empty (to_full {t} {fs} s) e h = absurd (none_first t fs e)
+only_empty (to_empty s) e h = (refl, only_empty s e h)
+only_empty (to_partial {hs} {h = k} s) e h = absurd (none_listed k hs h)
+
+marked_all : (l : Mark) (w : Marks) (ks : List ℕ) (ps : List Label) → AllMarked l ps → map mark_of ps ≡ map (label_at w) ks → AreAll l w ks
+marked_all l w [] ps a m = tt
+marked_all l w (k ∷ ks) [] a m = absurd (cc)
+marked_all l w (k ∷ ks) (p ∷ ps) a m = (sym (cons_head _ _ _ _ m) ∙ a.0, marked_all l w ks ps a.1 (cons_tail _ _ _ _ m))
+
 -- the marks of sorted labels
 pub sorted_full : (w : Marks) (ks : List ℕ) {ts es fs : Forest} {ps : List Label} {hs : List Partial} → IsSorted ts ps es fs hs → es ≡ no_tree → hs ≡ [] →
     map mark_of ps ≡ map (label_at w) ks → AreAll Full w ks
-sorted_full w [] none_sorted e h m = tt
-sorted_full w (k ∷ ks) none_sorted e h m = absurd (cc)
-sorted_full w ks (to_empty {t} {es} s) e h m = absurd (none_first t es e)
-sorted_full w [] (to_full s) e h m = absurd (cc)
-sorted_full w (k ∷ ks) (to_full s) e h m = (sym (cons_head _ _ _ _ m), sorted_full w ks s e h (cons_tail _ _ _ _ m))
-sorted_full w ks (to_partial {hs} {h = k} s) e h m = absurd (none_listed k hs h)
+sorted_full w ks s e h m = marked_all Full w ks _ (only_full s e h) m
 
 pub sorted_empty : (w : Marks) (ks : List ℕ) {ts es fs : Forest} {ps : List Label} {hs : List Partial} → IsSorted ts ps es fs hs → fs ≡ no_tree → hs ≡ [] →
     map mark_of ps ≡ map (label_at w) ks → AreAll Empty w ks
-sorted_empty w [] none_sorted e h m = tt
-sorted_empty w (k ∷ ks) none_sorted e h m = absurd (cc)
-sorted_empty w ks (to_full {t} {fs} s) e h m = absurd (none_first t fs e)
-sorted_empty w [] (to_empty s) e h m = absurd (cc)
-sorted_empty w (k ∷ ks) (to_empty s) e h m = (sym (cons_head _ _ _ _ m), sorted_empty w ks s e h (cons_tail _ _ _ _ m))
-sorted_empty w ks (to_partial {hs} {h = k} s) e h m = absurd (none_listed k hs h)
+sorted_empty w ks s e h m = marked_all Empty w ks _ (only_empty s e h) m
 
 -- what holds of each child with a partial label and of what it becomes
 abbrev pub PartFor : (ℕ → Partial → Type 0) → ℕ → Label → Type 0

@@ -18,18 +18,18 @@ use Rattle.pq_tree.specs.Forests.{forest}
 use Rattle.bubble_pass.specs.declared.labels.Label.{Label as Mark}
 use Rattle.bubble_pass.specs.declared.labels.Label.TheVariants.{Empty, Partial as Partly, Full}
 use Rattle.pq_arena.specs.RowNodes.{indices}
-use Rattle.bubble_pass.specs.Marks.{Marks, label_at, first_of, IsFollowed}
+use Rattle.bubble_pass.specs.Marks.{Marks, label_at, first_of, fulls_at, partials_at, IsFollowed}
 use Rattle.bubble_pass.specs.Pass.{IsRightAt}
 use Rattle.bubble_pass.specs.Sweep.{full_one, partial_one}
-use Rattle.template_model.specs.Standing.{AreMarkedAs, IsInMarkedRun}
+use Rattle.template_model.specs.Standing.{AreMarkedAs, IsReady, IsInMarkedRun}
 use Rattle.templates_q.specs.declared.stretch.PassedSpan.{PassedSpan}
 use Rattle.templates_q.specs.Walk.{AreChildren, AreAll, EndsWithout, AreLabelled}
 use Rattle.templates_q.specs.Lines.{AreCounted, IsFullFirst}
 use Rattle.templates_q.specs.Fits.{FitsQ2, FitsQ3}
 use Rattle.templates_q.specs.Span.{BeginsEmpty, EndsEmpty, BeginsLabelled, IsMarkedChild, IsStretch}
 use Rattle.templates_q.proofs.Lines.{fulls_in, partials_in, fulls_append, partials_append, count_full, count_partial, count_empty, none_counted, all_first, all_last, all_reverse, reverse_three, sum_reverse}
-use Rattle.templates_q.proofs.Fitting.{Any, parts_any, fitting_line}
-use Rattle.templates_q.proofs.Spans.{SpanLine, MidLine, MidBy, FrontBy, IsSpanLine, parts_line, line_parts, line_turned, span_line, made_span}
+use Rattle.templates_q.proofs.Fitting.{Any, counted_at, parts_any, fitting_line}
+use Rattle.templates_q.proofs.Spans.{SpanLine, MidLine, StayBy, IsSpanLine, parts_line, line_parts, line_turned, span_line, made_span}
 use Rattle.templates_q.proofs.Splicing.{all_of}
 use Rattle.templates_q.proofs.Stretches.{all_labelled, labelled_back}
 
@@ -44,12 +44,12 @@ ends_tail w x (y ∷ us) e = e
 
 -- between labelled nodes of a line no empty one stands
 mid_step : (w : Marks) (x : ℕ) (ks : List ℕ) (l : Mark) → label_at w x ≡ l → MidLine w (x ∷ ks) → (MidLine w ks → ⊥) → (AreAll Empty w ks → ⊥) → ⊥
-mid_step w x ks Empty k m on off = off (subst (λ l. MidBy l (MidLine w ks) (AreAll Empty w ks)) k m)
-mid_step w x ks Partly k m on off = off (subst (λ l. MidBy l (MidLine w ks) (AreAll Empty w ks)) k m)
-mid_step w x ks Full k m on off = on (subst (λ l. MidBy l (MidLine w ks) (AreAll Empty w ks)) k m)
+mid_step w x ks Empty k m on off = off (subst (λ l. StayBy Full l (MidLine w ks) (AreAll Empty w ks)) k m)
+mid_step w x ks Partly k m on off = off (subst (λ l. StayBy Full l (MidLine w ks) (AreAll Empty w ks)) k m)
+mid_step w x ks Full k m on off = on (subst (λ l. StayBy Full l (MidLine w ks) (AreAll Empty w ks)) k m)
 
 mid_gap : (w : Marks) (x : ℕ) (us vs : List ℕ) → MidLine w ((x ∷ us) ++ vs) → EndsEmpty w (x ∷ us) → BeginsLabelled w vs → ⊥
-mid_gap w x [] vs m e b = not_empty_first w vs (subst (λ l. MidBy l (MidLine w vs) (AreAll Empty w vs)) e m) b
+mid_gap w x [] vs m e b = not_empty_first w vs (subst (λ l. StayBy Full l (MidLine w vs) (AreAll Empty w vs)) e m) b
 mid_gap w x (y ∷ us) vs m e b =
     mid_step w x ((y ∷ us) ++ vs) (label_at w x) refl m (λ k. mid_gap w y us vs k e b) (λ a. not_empty_first w vs (all_last Empty w (y ∷ us) vs a) b)
 
@@ -68,33 +68,33 @@ led w (x ∷ us) vs s e b = by (label_at w x) refl (λ k. led w us vs k (ends_ta
 
     by : (l : Mark) → label_at w x ≡ l → (SpanLine w (us ++ vs) → IsLed w us vs) → IsLed w (x ∷ us) vs
     by Empty k again =
-        let r = again (subst (λ l. FrontBy l (SpanLine w (us ++ vs)) (MidLine w (us ++ vs))) k s) in
+        let r = again (subst (λ l. StayBy Empty l (SpanLine w (us ++ vs)) (MidLine w (us ++ vs))) k s) in
         record { empty = (k, r.empty); line = r.line }
-    by Partly k again = absurd (never us (λ z. let q : Partly ≡ Empty = sym k ∙ z in cc) (subst (λ l. FrontBy l (SpanLine w (us ++ vs)) (MidLine w (us ++ vs))) k s) e)
-    by Full k again = absurd (never us (λ z. let q : Full ≡ Empty = sym k ∙ z in cc) (subst (λ l. FrontBy l (SpanLine w (us ++ vs)) (MidLine w (us ++ vs))) k s) e)
+    by Partly k again = absurd (never us (λ z. let q : Partly ≡ Empty = sym k ∙ z in cc) (subst (λ l. StayBy Empty l (SpanLine w (us ++ vs)) (MidLine w (us ++ vs))) k s) e)
+    by Full k again = absurd (never us (λ z. let q : Full ≡ Empty = sym k ∙ z in cc) (subst (λ l. StayBy Empty l (SpanLine w (us ++ vs)) (MidLine w (us ++ vs))) k s) e)
 
 -- what a walk over full nodes and at most one partial one leaves of a line
 mid_rest : (w : Marks) (fs ls rest : List ℕ) → MidLine w (fs ++ (ls ++ rest)) → AreAll Full w fs → AreAll Partly w ls → length ls ≤ 1 → EndsWithout Full w (ls ++ rest) →
     (length ls ≡ 0 → EndsWithout Partly w rest) → AreAll Empty w rest
 mid_rest w (x ∷ fs) ls rest m a b one no_full no_last =
-    mid_rest w fs ls rest (subst (λ l. MidBy l (MidLine w (fs ++ (ls ++ rest))) (AreAll Empty w (fs ++ (ls ++ rest)))) a.0 m) a.1 b one no_full no_last
-mid_rest w [] (l ∷ []) rest m a b one no_full no_last = subst (λ z. MidBy z (MidLine w rest) (AreAll Empty w rest)) b.0 m
+    mid_rest w fs ls rest (subst (λ l. StayBy Full l (MidLine w (fs ++ (ls ++ rest))) (AreAll Empty w (fs ++ (ls ++ rest)))) a.0 m) a.1 b one no_full no_last
+mid_rest w [] (l ∷ []) rest m a b one no_full no_last = subst (λ z. StayBy Full z (MidLine w rest) (AreAll Empty w rest)) b.0 m
 mid_rest w [] (l ∷ l' ∷ ls) rest m a b one no_full no_last = absurd (omega arith)
 mid_rest w [] [] [] m a b one no_full no_last = tt
 mid_rest w [] [] (x ∷ rest) m a b one no_full no_last = by (label_at w x) refl
   where
     by : (l : Mark) → label_at w x ≡ l → AreAll Empty w (x ∷ rest)
-    by Empty k = (k, subst (λ z. MidBy z (MidLine w rest) (AreAll Empty w rest)) k m)
+    by Empty k = (k, subst (λ z. StayBy Full z (MidLine w rest) (AreAll Empty w rest)) k m)
     by Partly k = absurd (no_last refl k)
     by Full k = absurd (no_full k)
 
 span_rest : (w : Marks) (ps fs ls rest : List ℕ) → SpanLine w (ps ++ (fs ++ (ls ++ rest))) → BeginsLabelled w (ps ++ (fs ++ (ls ++ rest))) → AreAll Partly w ps → length ps ≤ 1 → AreAll Full w fs →
     AreAll Partly w ls → length ls ≤ 1 → (length ps ≡ 0 → EndsWithout Partly w (fs ++ (ls ++ rest))) → EndsWithout Full w (ls ++ rest) → (length ls ≡ 0 → EndsWithout Partly w rest) → AreAll Empty w rest
 span_rest w (p ∷ []) fs ls rest s b p1 one a l1 two no_first no_full no_last =
-    mid_rest w fs ls rest (subst (λ l. FrontBy l (SpanLine w (fs ++ (ls ++ rest))) (MidLine w (fs ++ (ls ++ rest)))) p1.0 s) a l1 two no_full no_last
+    mid_rest w fs ls rest (subst (λ l. StayBy Empty l (SpanLine w (fs ++ (ls ++ rest))) (MidLine w (fs ++ (ls ++ rest)))) p1.0 s) a l1 two no_full no_last
 span_rest w (p ∷ p' ∷ ps) fs ls rest s b p1 one a l1 two no_first no_full no_last = absurd (omega arith)
 span_rest w [] (x ∷ fs) ls rest s b p1 one a l1 two no_first no_full no_last =
-    mid_rest w fs ls rest (subst (λ l. FrontBy l (SpanLine w (fs ++ (ls ++ rest))) (MidLine w (fs ++ (ls ++ rest)))) a.0 s) a.1 l1 two no_full no_last
+    mid_rest w fs ls rest (subst (λ l. StayBy Empty l (SpanLine w (fs ++ (ls ++ rest))) (MidLine w (fs ++ (ls ++ rest)))) a.0 s) a.1 l1 two no_full no_last
 span_rest w [] [] (l ∷ ls) rest s b p1 one a l1 two no_first no_full no_last = absurd (no_first refl l1.0)
 span_rest w [] [] [] [] s b p1 one a l1 two no_first no_full no_last = absurd b
 span_rest w [] [] [] (x ∷ rest) s b p1 one a l1 two no_first no_full no_last = absurd (by (label_at w x) refl)
@@ -238,6 +238,21 @@ first_marked f w n x is_q r e = by r.chain r.is refl
         let yx : y ≡ x = (cc) in
         let o : 1 ≤ occurs (indices r.chain) x.index = subst (λ c. 1 ≤ occurs (indices c) x.index) (sym k) (subst (λ c. 1 ≤ occurs (indices (y ∷ ys)) c.index) yx (occurs_here y.index (indices ys))) in
         record { is_q = is_q; child = r.child x.index o; marked = r.labelled x.index o }
+
+-- where the walk around that node passed s: the counts of Q3 tell whether it fits
+module _ (f : Layout) (w : Marks) (n : ℕ) (x : NodeId) (s : PassedSpan) (a b : ℕ) (is_q : shape_at f n ≡ Some Q) (ready : IsReady f w n) (first : first_of w n ≡ Some x)
+    (stretch : (q : ℕ) → IsMarkedChild f w q x.index → IsStretch f w q s) (full : a ≡ fulls_at w n) (partial : b ≡ partials_at w n) (ps : List Label) (marked : AreMarkedAs f w n ps) where
+  around : IsStretch f w n s
+  around = stretch n (first_marked f w n x is_q ready.right first)
+
+  counted : AreCounted w (children_at f n) a b
+  counted = counted_at f w n a b ready full partial
+
+  pub counted_fits : a ≡ s.fulls.count → b ≡ s.first.count + s.last.count → (two : Bool) → (IsTrue two ↔ FitsQ2 f n ps) → IsTrue (not two) ↔ FitsQ3 f n true ps
+  counted_fits d e two fits = other_fits f w n ps is_q marked (stretch_line f w n s around (counted_alone f w n a b s around counted d e)) two fits
+
+  pub fits_counted : FitsQ3 f n true ps → (a ≡ s.fulls.count) × (b ≡ s.first.count + s.last.count)
+  fits_counted fits = alone_counted f w n a b s around counted (line_stretch f w n s around (fits3_line f w n ps marked fits))
 
 all_by : (w : Marks) (ks : List ℕ) → ((k : ℕ) → 1 ≤ occurs ks k → label_at w k ≡ Empty) → AreAll Empty w ks
 all_by w [] of = tt

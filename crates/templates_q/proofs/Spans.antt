@@ -28,63 +28,59 @@ pub record IsSpanLine (w : Marks) (ks : List ℕ) : Type 0 where
   pub one_more : length ls ≤ 1
   pub behind : AreAll Empty w gs
 
+-- what is asked behind a node: the same again where it has this label, else something other
+abbrev pub StayBy : Mark → Mark → Type 0 → Type 0 → Type 0
+StayBy Empty Empty on off = on
+StayBy Full Full on off = on
+StayBy stay l on off = off
+
 -- Read from one end, node by node: behind full nodes, or behind the first partial one, come full ones, then one partial
 -- one or an empty one, and from there on empty ones.
-abbrev pub MidBy : Mark → Type 0 → Type 0 → Type 0
-MidBy Empty on off = off
-MidBy Partly on off = off
-MidBy Full on off = on
-
 abbrev pub MidLine : Marks → List ℕ → Type 0
 MidLine w [] = Unit {0}
-MidLine w (x ∷ xs) = MidBy (label_at w x) (MidLine w xs) (AreAll Empty w xs)
+MidLine w (x ∷ xs) = StayBy Full (label_at w x) (MidLine w xs) (AreAll Empty w xs)
 
 -- before them come empty ones
-abbrev pub FrontBy : Mark → Type 0 → Type 0 → Type 0
-FrontBy Empty on off = on
-FrontBy Partly on off = off
-FrontBy Full on off = off
-
 abbrev pub SpanLine : Marks → List ℕ → Type 0
 SpanLine w [] = Unit {0}
-SpanLine w (x ∷ xs) = FrontBy (label_at w x) (SpanLine w xs) (MidLine w xs)
+SpanLine w (x ∷ xs) = StayBy Empty (label_at w x) (SpanLine w xs) (MidLine w xs)
 
 -- one step over a node with a label
 mid_full : (w : Marks) (x : ℕ) (xs : List ℕ) → label_at w x ≡ Full → MidLine w xs → MidLine w (x ∷ xs)
-mid_full w x xs e m = subst (λ l. MidBy l (MidLine w xs) (AreAll Empty w xs)) (sym e) m
+mid_full w x xs e m = subst (λ l. StayBy Full l (MidLine w xs) (AreAll Empty w xs)) (sym e) m
 
 mid_partial : (w : Marks) (x : ℕ) (xs : List ℕ) → label_at w x ≡ Partly → AreAll Empty w xs → MidLine w (x ∷ xs)
-mid_partial w x xs e m = subst (λ l. MidBy l (MidLine w xs) (AreAll Empty w xs)) (sym e) m
+mid_partial w x xs e m = subst (λ l. StayBy Full l (MidLine w xs) (AreAll Empty w xs)) (sym e) m
 
 mid_empty : (w : Marks) (x : ℕ) (xs : List ℕ) → label_at w x ≡ Empty → AreAll Empty w xs → MidLine w (x ∷ xs)
-mid_empty w x xs e m = subst (λ l. MidBy l (MidLine w xs) (AreAll Empty w xs)) (sym e) m
+mid_empty w x xs e m = subst (λ l. StayBy Full l (MidLine w xs) (AreAll Empty w xs)) (sym e) m
 
 front_full : (w : Marks) (x : ℕ) (xs : List ℕ) → label_at w x ≡ Full → MidLine w xs → SpanLine w (x ∷ xs)
-front_full w x xs e m = subst (λ l. FrontBy l (SpanLine w xs) (MidLine w xs)) (sym e) m
+front_full w x xs e m = subst (λ l. StayBy Empty l (SpanLine w xs) (MidLine w xs)) (sym e) m
 
 front_partial : (w : Marks) (x : ℕ) (xs : List ℕ) → label_at w x ≡ Partly → MidLine w xs → SpanLine w (x ∷ xs)
-front_partial w x xs e m = subst (λ l. FrontBy l (SpanLine w xs) (MidLine w xs)) (sym e) m
+front_partial w x xs e m = subst (λ l. StayBy Empty l (SpanLine w xs) (MidLine w xs)) (sym e) m
 
 front_empty : (w : Marks) (x : ℕ) (xs : List ℕ) → label_at w x ≡ Empty → SpanLine w xs → SpanLine w (x ∷ xs)
-front_empty w x xs e m = subst (λ l. FrontBy l (SpanLine w xs) (MidLine w xs)) (sym e) m
+front_empty w x xs e m = subst (λ l. StayBy Empty l (SpanLine w xs) (MidLine w xs)) (sym e) m
 
 full_mid : (w : Marks) (x : ℕ) (xs : List ℕ) → label_at w x ≡ Full → MidLine w (x ∷ xs) → MidLine w xs
-full_mid w x xs e m = subst (λ l. MidBy l (MidLine w xs) (AreAll Empty w xs)) e m
+full_mid w x xs e m = subst (λ l. StayBy Full l (MidLine w xs) (AreAll Empty w xs)) e m
 
 partial_mid : (w : Marks) (x : ℕ) (xs : List ℕ) → label_at w x ≡ Partly → MidLine w (x ∷ xs) → AreAll Empty w xs
-partial_mid w x xs e m = subst (λ l. MidBy l (MidLine w xs) (AreAll Empty w xs)) e m
+partial_mid w x xs e m = subst (λ l. StayBy Full l (MidLine w xs) (AreAll Empty w xs)) e m
 
 empty_mid : (w : Marks) (x : ℕ) (xs : List ℕ) → label_at w x ≡ Empty → MidLine w (x ∷ xs) → AreAll Empty w xs
-empty_mid w x xs e m = subst (λ l. MidBy l (MidLine w xs) (AreAll Empty w xs)) e m
+empty_mid w x xs e m = subst (λ l. StayBy Full l (MidLine w xs) (AreAll Empty w xs)) e m
 
 full_front : (w : Marks) (x : ℕ) (xs : List ℕ) → label_at w x ≡ Full → SpanLine w (x ∷ xs) → MidLine w xs
-full_front w x xs e m = subst (λ l. FrontBy l (SpanLine w xs) (MidLine w xs)) e m
+full_front w x xs e m = subst (λ l. StayBy Empty l (SpanLine w xs) (MidLine w xs)) e m
 
 partial_front : (w : Marks) (x : ℕ) (xs : List ℕ) → label_at w x ≡ Partly → SpanLine w (x ∷ xs) → MidLine w xs
-partial_front w x xs e m = subst (λ l. FrontBy l (SpanLine w xs) (MidLine w xs)) e m
+partial_front w x xs e m = subst (λ l. StayBy Empty l (SpanLine w xs) (MidLine w xs)) e m
 
 empty_front : (w : Marks) (x : ℕ) (xs : List ℕ) → label_at w x ≡ Empty → SpanLine w (x ∷ xs) → SpanLine w xs
-empty_front w x xs e m = subst (λ l. FrontBy l (SpanLine w xs) (MidLine w xs)) e m
+empty_front w x xs e m = subst (λ l. StayBy Empty l (SpanLine w xs) (MidLine w xs)) e m
 
 -- nodes that are all empty
 mid_all_empty : (w : Marks) (xs : List ℕ) → AreAll Empty w xs → MidLine w xs

@@ -11,7 +11,7 @@ use Rattle.arena_model.specs.ChildLists.{head_or, last_or, none, oriented}
 use Rattle.arena_model.specs.Layout.{Layout, slot, shape_at, children_at, IsInUse, IsAtOrAbove, here, down, IsLayout, spliced, IsSpliceAt}
 use Rattle.arena_model.specs.NamedTree.{outline_below, IsOneTree, HasTwoEach}
 use Rattle.arena_model.proofs.Lists.{occurs_here, occurs_other, last_reverse}
-use Rattle.arena_model.proofs.Slots.{some_inj}
+use Rattle.arena_model.proofs.Slots.{some_inj, child_used}
 use Rattle.arena_model.proofs.Paths.{one_parent}
 use Rattle.arena_model.proofs.Trees.{no_circle}
 use Rattle.pq_tree.specs.Forests.{forest}
@@ -28,7 +28,7 @@ use Rattle.templates_q.specs.Walk.{AreChildren, AreAll, IsChildGap, EndsWithout}
 use Rattle.templates_q.specs.Splicing.{IsLineIn, IsSplicedIn}
 use Rattle.templates_q.proofs.Lists.{occurs_reverse, reverse_split}
 use Rattle.templates_q.proofs.Lines.{all_reverse, reverse_three}
-use Rattle.templates_q.proofs.Walks.{children_occur, child_used, front_gap}
+use Rattle.templates_q.proofs.Walks.{children_occur, front_gap}
 use Rattle.templates_q.proofs.Splices.{IsSpliced, c_child, apart_nodes, at_other, new_children, new_shape, below_on, used_kept, tree_kept, spliced_at, marks_kept}
 
 -- labels of a list, one by one

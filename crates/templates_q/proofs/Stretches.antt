@@ -12,6 +12,7 @@ use Rattle.bubble_pass.specs.declared.labels.Label.{Label as Mark}
 use Rattle.bubble_pass.specs.declared.labels.Label.TheVariants.{Empty, Partial, Full}
 use Rattle.bubble_pass.specs.Marks.{Marks, label_at}
 use Rattle.bubble_pass.specs.Sweep.{full_one, partial_one}
+use Rattle.arena_model.proofs.Slots.{child_used}
 use Rattle.templates_q.specs.declared.walk.ChildGap.{ChildGap}
 use Rattle.templates_q.specs.declared.walk.Passed.{Passed}
 use Rattle.templates_q.specs.declared.walk.Wanted.TheVariants.{Fulls, Partials, Labelled}
@@ -20,7 +21,7 @@ use Rattle.templates_q.specs.Walk.{AreChildren, AreLabelled, IsChildGap, IsPasse
 use Rattle.templates_q.specs.Span.{labelled_in, BeginsEmpty, EndsEmpty, BeginsLabelled, IsMarkedChild, IsStart, IsSpanPassed}
 use Rattle.templates_q.proofs.Lists.{head_reverse, reverse_split}
 use Rattle.templates_q.proofs.Lines.{those_append, fulls_append, partials_append, fulls_cons, partials_cons, sum_reverse, count_full, count_partial}
-use Rattle.templates_q.proofs.Walks.{child_used, is_named, next_child}
+use Rattle.templates_q.proofs.Walks.{is_named, next_child}
 
 -- the labelled ones of two lists, and of a list that is turned
 pub labelled_append : (w : Marks) (xs ys : List ℕ) → labelled_in w (xs ++ ys) ≡ labelled_in w xs + labelled_in w ys

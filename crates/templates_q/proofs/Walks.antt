@@ -10,7 +10,7 @@ use Rattle.arena_model.specs.declared.Shape.TheVariants.{Q}
 use Rattle.arena_model.specs.ChildLists.{head_or, last_or, none}
 use Rattle.arena_model.specs.Layout.{Layout, shape_at, children_at, times_child, IsInUse, IsLayout}
 use Rattle.arena_model.proofs.Lists.{occurs_here, last_or-append, last_reverse, few_once}
-use Rattle.arena_model.proofs.Slots.{in_range, few_slots, children_times}
+use Rattle.arena_model.proofs.Slots.{in_range, few_slots, children_times, child_used}
 use Rattle.pq_arena.specs.declared.node.NodeId.{NodeId}
 use Rattle.pq_arena.specs.declared.node.NodeView.{NodeView}
 use Rattle.pq_arena.specs.Looks.{node_named, ShowsNode, shown_ends}
@@ -29,10 +29,6 @@ use Rattle.templates_q.proofs.Lists.{occurs_reverse, head_reverse, reverse_split
 pub children_occur : (f : Layout) (q : ℕ) (ks : List ℕ) (x : ℕ) → AreChildren f q ks → occurs (children_at f q) x ≡ occurs ks x
 children_occur f q ks x (inl e) = ap (λ z. occurs z x) e
 children_occur f q ks x (inr e) = ap (λ z. occurs z x) e ∙ occurs_reverse ks x
-
--- a child is in use
-pub child_used : (f : Layout) (q x : ℕ) → IsLayout f → 1 ≤ occurs (children_at f q) x → IsInUse f x
-child_used f q x h o = h.used x (let b : occurs (children_at f q) x ≤ times_child f.slots x = children_times f q x in omega arith)
 
 -- no more children than nodes
 pub children_few : (f : Layout) (q : ℕ) → IsLayout f → length (children_at f q) ≤ length f.slots

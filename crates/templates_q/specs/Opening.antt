@@ -11,18 +11,11 @@ use Rattle.templates_q.specs.declared.walk.ChildGap.{ChildGap}
 use Rattle.templates_q.specs.declared.stretch.PassedSpan.{PassedSpan}
 use Rattle.templates_q.specs.Walk.{IsChildGap, IsFirst}
 use Rattle.templates_q.specs.Span.{IsStretch}
-use Rattle.templates_q.specs.Splicing.{IsSplicedIn}
+use Rattle.templates_q.specs.Splicing.{CanBeOpened, IsSplicedIn}
 
 -- x is a Q-shape, and the next child at this place
-pub record CanOpen (f : Layout) (w : Marks) (from : ChildGap) (x : ℕ) : Type 0 where
-  pub two : HasTwoEach f
-  pub room : size_of w ≡ length f.slots
-  pub q : ℕ
-  pub us : List ℕ
-  pub vs : List ℕ
-  pub place : IsFirst f q us x vs from
-  pub h : Partial
-  pub shape : IsShapeAt f w x h
+abbrev pub CanOpen : Layout → Marks → ChildGap → ℕ → Type 0
+CanOpen f w from x = CanBeOpened f w x (λ q us vs. IsFirst f q us x vs from)
 
 -- so many children, at most one, come next at this place, if there is one, and each is a Q-shape
 pub record CanOpenCounted (f : Layout) (w : Marks) (from : ChildGap) (count : ℕ) : Type 0 where

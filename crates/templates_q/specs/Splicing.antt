@@ -19,16 +19,20 @@ pub record IsLineIn (f : Layout) (q c : ℕ) (us vs : List ℕ) (towards : Optio
   pub children : AreChildren f q (us ++ c ∷ vs)
   pub towards_is : towards ≡ node_named (head_or vs none)
 
--- c is a Q-shape, and a child of a Q-node beside `towards`
-pub record CanSpliceIn (f : Layout) (w : Marks) (c : ℕ) (towards : Option NodeId) : Type 0 where
+-- c is a Q-shape, and stands among the children of some Q-node, with us on one side and vs on the other, as At says
+pub record CanBeOpened (f : Layout) (w : Marks) (c : ℕ) (At : ℕ → List ℕ → List ℕ → Type 0) : Type 0 where
   pub two : HasTwoEach f
   pub room : size_of w ≡ length f.slots
   pub q : ℕ
   pub us : List ℕ
   pub vs : List ℕ
-  pub line : IsLineIn f q c us vs towards
+  pub place : At q us vs
   pub h : Partial
   pub shape : IsShapeAt f w c h
+
+-- c is a Q-shape, and a child of a Q-node beside `towards`
+abbrev pub CanSpliceIn : Layout → Marks → ℕ → Option NodeId → Type 0
+CanSpliceIn f w c towards = CanBeOpened f w c (λ q us vs. IsLineIn f q c us vs towards)
 
 -- Of the children us, c and vs of q, in this order or turned, c is given back, and ms stand in its place.
 abbrev pub IsSplicedIn : Layout → Layout → ℕ → ℕ → List ℕ → List ℕ → List ℕ → Type 0

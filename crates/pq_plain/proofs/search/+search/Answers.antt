@@ -9,14 +9,8 @@ pub reduce_children-reduce_tree-requires : goal.reduce_children-reduce_tree-requ
 reduce_children-reduce_tree-requires t c = (
   search (rules, the_lemmas),
   (
-    c.requires.ascending,
-    (
-      c.requires.distinct,
-      (
-        c.requires.some,
-        child_tree c.args.row.now c.args.children.now c.loop-i.children c.loop-i.i _ c.loop-i-test.true c.loop-i.invariant.same c.requires.trees,
-      ),
-    ),
+    c.requires.row,
+    child_tree c.args.row.now c.args.children.now c.loop-i.children c.loop-i.i _ c.loop-i-test.true c.loop-i.invariant.same c.requires.trees,
   ),
 )
 
@@ -26,13 +20,13 @@ reduce_children-returns-in_err-step-clause-err t c =
 
 pub reduce_children-returns-in-Root-clause-found : goal.reduce_children-returns-in-Root-clause-found
 reduce_children-returns-in-Root-clause-found t c =
-    in_root c.args.row.now c.args.children.now c.loop-i.children c.loop-i.i _ c.loop-i-test.true c.loop-i.invariant.same c.requires.trees c.requires.distinct c.loop-i.invariant.none
+    in_root c.args.row.now c.args.children.now c.loop-i.children c.loop-i.i _ c.loop-i-test.true c.loop-i.invariant.same c.requires.trees c.requires.row.distinct c.loop-i.invariant.none
     _ _ c.in_ok-step.ensures.found _ c.in-Root.is
 
 pub reduce_children-overflow_add-count : goal.reduce_children-overflow_add-count
 reduce_children-overflow_add-count t c =
     let few : c.loop-i.count + c.in-Columns.columns ≤ length c.args.row.now =
-    count_few c.args.row.now c.args.children.now c.loop-i.children c.loop-i.i _ c.loop-i-test.true c.loop-i.invariant.same c.requires.trees c.requires.distinct c.loop-i.invariant.none
+    count_few c.args.row.now c.args.children.now c.loop-i.children c.loop-i.i _ c.loop-i-test.true c.loop-i.invariant.same c.requires.trees c.requires.row.distinct c.loop-i.invariant.none
     _ _ c.in_ok-step.ensures.found _ _ c.in-Columns.is c.loop-i.invariant.count in
     omega (arith, few)
 
@@ -44,23 +38,23 @@ reduce_children-loop-i-preserved t c =
         λ k d l. get_or-set_other c.loop-i.children c.loop-i.i k _ d (omega (arith, l)) ∙ c.loop-i.invariant.unvisited.1 k d (omega (arith, l)),
       );
       same =
-          same_after c.args.row.now c.args.children.now c.loop-i.children c.loop-i.i _ c.loop-i-test.true c.loop-i.invariant.same c.requires.trees c.requires.distinct c.loop-i.invariant.none
+          same_after c.args.row.now c.args.children.now c.loop-i.children c.loop-i.i _ c.loop-i-test.true c.loop-i.invariant.same c.requires.trees c.requires.row.distinct c.loop-i.invariant.none
           _ _ c.in_ok-step.ensures.found _ _ c.in-Columns.is c.loop-i.invariant.count;
       none =
-          none_after c.args.row.now c.args.children.now c.loop-i.children c.loop-i.i _ c.loop-i-test.true c.loop-i.invariant.same c.requires.trees c.requires.distinct c.loop-i.invariant.none
+          none_after c.args.row.now c.args.children.now c.loop-i.children c.loop-i.i _ c.loop-i-test.true c.loop-i.invariant.same c.requires.trees c.requires.row.distinct c.loop-i.invariant.none
           _ _ c.in_ok-step.ensures.found _ _ c.in-Columns.is c.loop-i.invariant.count;
       count =
-          count_after c.args.row.now c.args.children.now c.loop-i.children c.loop-i.i _ c.loop-i-test.true c.loop-i.invariant.same c.requires.trees c.requires.distinct c.loop-i.invariant.none
+          count_after c.args.row.now c.args.children.now c.loop-i.children c.loop-i.i _ c.loop-i-test.true c.loop-i.invariant.same c.requires.trees c.requires.row.distinct c.loop-i.invariant.none
           _ _ c.in_ok-step.ensures.found _ _ c.in-Columns.is c.loop-i.invariant.count;
     }
 
 pub reduce_tree-reduce_here-requires-clause-lowest : goal.reduce_tree-reduce_here-requires-clause-lowest
 reduce_tree-reduce_here-requires-clause-lowest t c =
-    here_lowest c.args.row.now _ _ _ _ c.requires.distinct c.requires.tree c.in_ok-step.ensures.found c.in-Columns.is c.if-count-row.false
+    here_lowest c.args.row.now _ _ _ _ c.requires.row.distinct c.requires.tree c.in_ok-step.ensures.found c.in-Columns.is c.if-count-row.false
 
 pub reduce_tree-returns-in_ok-step-in-Columns-clause-found : goal.reduce_tree-returns-in_ok-step-in-Columns-clause-found
 reduce_tree-returns-in_ok-step-in-Columns-clause-found t c =
-    root_here c.args.row.now _ _ _ _ c.requires.distinct c.requires.tree c.in_ok-step.ensures.found c.in-Columns.is c.if-count-row.false _ _ c.in_ok-step-in-Columns.ensures.step
+    root_here c.args.row.now _ _ _ _ c.requires.row.distinct c.requires.tree c.in_ok-step.ensures.found c.in-Columns.is c.if-count-row.false _ _ c.in_ok-step-in-Columns.ensures.step
 
 pub reduce_below-returns-in-Leaf-clause-found : goal.reduce_below-returns-in-Leaf-clause-found
 reduce_below-returns-in-Leaf-clause-found t c = leaf_found c.args.row.now _ _ _ _ c.replace.ensures.value c.in-Leaf.is c.count_leaf.ensures
@@ -69,14 +63,8 @@ pub reduce_below-reduce_children-found-requires : goal.reduce_below-reduce_child
 reduce_below-reduce_children-found-requires t c = (
   search (rules, the_lemmas),
   (
-    c.requires.ascending,
-    (
-      c.requires.distinct,
-      (
-        c.requires.some,
-        P_trees _ _ _ _ c.replace.ensures.value c.deref_mut.ensures.value c.in-P.is c.requires.tree,
-      ),
-    ),
+    c.requires.row,
+    P_trees _ _ _ _ c.replace.ensures.value c.deref_mut.ensures.value c.in-P.is c.requires.tree,
   ),
 )
 
@@ -84,14 +72,8 @@ pub reduce_below-reduce_children-found-requires-in-Q : goal.reduce_below-reduce_
 reduce_below-reduce_children-found-requires-in-Q t c = (
   search (rules, the_lemmas),
   (
-    c.requires.ascending,
-    (
-      c.requires.distinct,
-      (
-        c.requires.some,
-        Q_trees _ _ _ _ c.replace.ensures.value c.deref_mut-in-Q.ensures.value c.in-Q.is c.requires.tree,
-      ),
-    ),
+    c.requires.row,
+    Q_trees _ _ _ _ c.replace.ensures.value c.deref_mut-in-Q.ensures.value c.in-Q.is c.requires.tree,
   ),
 )
 

@@ -1,20 +1,14 @@
-use Rattle.std.proofs.Common.{◌≡◌, ◌≤◌, ◌+◌, ℕ, true, List, [], ◌∷◌, length, take, get_or, ap, sym, subst, ◌∙◌, arith}
-use Rattle.std.proofs.lemmas.List.{take_all}
+use Rattle.std.proofs.Common.{◌≡◌, ◌≤◌, ◌+◌, ℕ, List, [], ◌∷◌, length, take, get_or, ap, sym, subst, ◌∙◌, arith}
 use Rattle.arena_model.specs.declared.Shape.TheVariants.{P}
-use Rattle.arena_model.specs.Layout.{Layout, IsLayout, StandsAlone, children_at, taken, with_children}
+use Rattle.arena_model.specs.Layout.{Layout, StandsAlone, children_at, taken, with_children}
 use Rattle.arena_model.proofs.Slots.{used_by}
 use Rattle.pq_arena.specs.declared.node.NodeId.{NodeId}
-use Rattle.pq_tree.specs.Outline.{Outline}
 use Rattle.pq_arena.specs.RowNodes.{indices}
-use Rattle.template_theory.specs.Templates.{IsP2}
-use Rattle.template_model.specs.Standing.{child_trees}
-use Rattle.template_model.specs.Treated.{IsReplacedAt, StandsForTree}
 use Rattle.template_model.proofs.Spare.{five_spare}
-use Rattle.templates_p.specs.Members.{member_labels}
 use Rattle.templates_p.specs.Steps.{Moved, moved_under}
 use Rattle.templates_p.proofs.Moving.{moved_none}
 use Rattle.templates_p.proofs.Grouping.{ready_to_group}
-use Rattle.templates_p.proofs.Members.{next_moves, next_moved, members_replaced, members_become, member_ready}
+use Rattle.templates_p.proofs.Members.{next_moves, next_moved, members_grouped, member_ready}
 use Rattle.templates_p.proofs.apply.apply_p2_to.Goals as goal
 
 pub take-group-requires-clause-some : goal.take-group-requires-clause-some
@@ -76,20 +70,10 @@ attach-requires-2-clause-apart g c = (ready_to_group c.args.arena.now c.loop-mem
 
 pub returns-clause-replaced : goal.returns-clause-replaced
 returns-clause-replaced g c =
-    let f : Layout = c.args.arena.now in
-    let n : ℕ = c.args.node.index in
-    let x : NodeId = c.take-group.result in
-    let ms : List NodeId = c.args.members.now in
-    subst (λ z. IsReplacedAt f z n n) (sym c.attach-2.ensures.changed)
-    (members_replaced f n (indices ms) c.layout_law.ensures c.requires.members c.loop-member.arena x (subst IsLayout c.attach-2.ensures.changed c.layout_law-3.ensures) c.requires.one c.requires.two
-    (subst (λ ks. Moved f c.loop-member.arena n x.index (indices ks)) (take_all c.loop-member.member-index ms c.loop-member-test.false) c.loop-member.invariant.moved))
+    (members_grouped _ _ _ _ _ c.args.members.now c.take-group.result c.layout_law.ensures c.layout_law-3.ensures c.requires.members c.requires.one c.requires.two
+    c.attach-2.ensures.changed c.loop-member-test.false c.loop-member.invariant.moved).replaced
 
 pub returns-clause-becomes : goal.returns-clause-becomes
 returns-clause-becomes g c =
-    let f : Layout = c.args.arena.now in
-    let n : ℕ = c.args.node.index in
-    let x : NodeId = c.take-group.result in
-    let ms : List NodeId = c.args.members.now in
-    subst (λ z. (u : Outline) × IsP2 true (child_trees f n) (member_labels (indices ms) (children_at f n)) u × StandsForTree z n u) (sym c.attach-2.ensures.changed)
-    (members_become f n (indices ms) c.layout_law.ensures c.requires.members c.loop-member.arena x (subst IsLayout c.attach-2.ensures.changed c.layout_law-3.ensures) c.requires.one c.requires.two
-    (subst (λ ks. Moved f c.loop-member.arena n x.index (indices ks)) (take_all c.loop-member.member-index ms c.loop-member-test.false) c.loop-member.invariant.moved))
+    (members_grouped _ _ _ _ _ c.args.members.now c.take-group.result c.layout_law.ensures c.layout_law-3.ensures c.requires.members c.requires.one c.requires.two
+    c.attach-2.ensures.changed c.loop-member-test.false c.loop-member.invariant.moved).becomes

@@ -2,8 +2,7 @@ use Rattle.std.proofs.Common.{◌≡◌, ◌<◌, ℕ, true, false, length, sym,
 use Rattle.arena_model.specs.declared.Shape.TheVariants.{Q}
 use Rattle.arena_model.specs.ChildLists.{head_or, none}
 use Rattle.arena_model.specs.Layout.{Layout, children_at}
-use Rattle.arena_model.proofs.Slots.{used_by, in_range}
-use Rattle.templates_p.proofs.Rebuilt.{child_used}
+use Rattle.arena_model.proofs.Slots.{used_by, in_range, child_used}
 use Rattle.templates_p.proofs.Siding.{first_is, first_child, first_shown, first_full, first_empty}
 use Rattle.templates_p.proofs.line.full_end.Goals as goal
 

@@ -1,8 +1,7 @@
 use Rattle.std.proofs.Common.{inl, inr, refl, subst, arith}
 use Rattle.arena_model.specs.declared.Shape.TheVariants.{P}
-use Rattle.arena_model.proofs.Slots.{used_by, in_range}
+use Rattle.arena_model.proofs.Slots.{used_by, in_range, child_used}
 use Rattle.bubble_pass.specs.Marks.{IsPut}
-use Rattle.templates_p.proofs.Rebuilt.{child_used}
 use Rattle.templates_p.proofs.Settling.{shown_length, none_left, handed_on, inner_node}
 use Rattle.templates_p.proofs.line.settle.Goals as goal
 

@@ -10,7 +10,7 @@ splice_in-requires g c =
     let f = c.args.arena.now in let w = c.args.work.now in let n = c.args.node.index in
     let l = c.find_line-line.ensures.line in
     let x = line_shape f w n c.find_line-line.result c.requires.stands.0 c.requires.stands.1 c.requires.stands.2 l in
-    record { two = c.requires.ready.two; room = c.requires.ready.room; q = n; us = l.us; vs = l.vs; line = l.place; h = x.0; shape = x.1 }
+    record { two = c.requires.ready.two; room = c.requires.ready.room; q = n; us = l.us; vs = l.vs; place = l.place; h = x.0; shape = x.1 }
 
 pub returns-clause-treated : goal.returns-clause-treated
 returns-clause-treated g c =

@@ -2,9 +2,9 @@ use Rattle.std.proofs.Common.{◌≡◌, ◌+◌, ◌≤◌, ◌*◌, true, fals
 use Rattle.arena_model.specs.declared.Shape.TheVariants.{Q}
 use Rattle.arena_model.specs.Layout.{shape_at, children_at}
 use Rattle.templates_q.specs.Span.{labelled_in}
-use Rattle.templates_q.proofs.Fitting.{fitting_some, counted_at}
+use Rattle.templates_q.proofs.Fitting.{fitting_some}
 use Rattle.templates_q.proofs.Spans.{span_all_empty}
-use Rattle.templates_q.proofs.Spanning.{first_marked, none_marked, counted_alone, alone_counted, stretch_line, line_stretch, line_fits3, fits3_line, other_fits}
+use Rattle.templates_q.proofs.Spanning.{first_marked, none_marked, counted_fits, fits_counted, line_fits3}
 use Rattle.templates_q.proofs.q3.has_q3.Goals as goal
 
 pub stretch_around-seen-requires-clause-child : goal.stretch_around-seen-requires-clause-child
@@ -13,25 +13,17 @@ stretch_around-seen-requires-clause-child g c =
 
 pub returns-then-spans-clause-fits : goal.returns-then-spans-clause-fits
 returns-then-spans-clause-fits g c = λ ps m.
-    let f = c.args.arena.now in let w = c.args.work.now in let n = c.args.node.index in
-    let is_q : shape_at f n ≡ Some Q = c.requires.shown.shape_is ∙ ap Some c.requires.q in
-    let r = c.stretch_around-seen.ensures.stretch n (first_marked f w n c.in-Some.x is_q c.requires.ready.right (sym c.first_child.ensures ∙ c.in-Some.is)) in
-    let counted = counted_at f w n _ _ c.requires.ready c.counts-counts.ensures.full c.counts-counts.ensures.partial in
     let e = c.are_counts-spans.ensures.0 c.if-spans.true in
-    let alone = counted_alone f w n c.counts-counts.result.full c.counts-counts.result.partial c.stretch_around-seen.result r counted e.0 e.1 in
-    other_fits f w n ps is_q m (stretch_line f w n c.stretch_around-seen.result r alone) c.has_q2.result (c.has_q2.ensures.fits ps m)
+    counted_fits _ _ _ _ _ _ _ (c.requires.shown.shape_is ∙ ap Some c.requires.q) c.requires.ready (sym c.first_child.ensures ∙ c.in-Some.is)
+    c.stretch_around-seen.ensures.stretch c.counts-counts.ensures.full c.counts-counts.ensures.partial ps m e.0 e.1 c.has_q2.result (c.has_q2.ensures.fits ps m)
 
 pub returns-else-spans-clause-fits : goal.returns-else-spans-clause-fits
-returns-else-spans-clause-fits g c = λ ps m.
-    let f = c.args.arena.now in let w = c.args.work.now in let n = c.args.node.index in
-    let is_q : shape_at f n ≡ Some Q = c.requires.shown.shape_is ∙ ap Some c.requires.q in
-    let r = c.stretch_around-seen.ensures.stretch n (first_marked f w n c.in-Some.x is_q c.requires.ready.right (sym c.first_child.ensures ∙ c.in-Some.is)) in
-    let counted = counted_at f w n _ _ c.requires.ready c.counts-counts.ensures.full c.counts-counts.ensures.partial in
-    let no : c.are_counts-spans.result ≡ false = c.if-spans.false in (
-      (λ t. absurd (let z : c.are_counts-spans.result ≡ true = t in cc)),
-      (λ fits. let alone = line_stretch f w n c.stretch_around-seen.result r (fits3_line f w n ps m fits) in
-          c.are_counts-spans.ensures.1 (alone_counted f w n c.counts-counts.result.full c.counts-counts.result.partial c.stretch_around-seen.result r counted alone)),
-    )
+returns-else-spans-clause-fits g c = λ ps m. (
+  (λ t. absurd (let no : c.are_counts-spans.result ≡ false = c.if-spans.false in let z : c.are_counts-spans.result ≡ true = t in cc)),
+  (λ fits. c.are_counts-spans.ensures.1
+      (fits_counted _ _ _ _ _ _ _ (c.requires.shown.shape_is ∙ ap Some c.requires.q) c.requires.ready (sym c.first_child.ensures ∙ c.in-Some.is)
+      c.stretch_around-seen.ensures.stretch c.counts-counts.ensures.full c.counts-counts.ensures.partial ps m fits)),
+)
 
 pub returns-in-None-clause-fits : goal.returns-in-None-clause-fits
 returns-in-None-clause-fits g c = λ ps m.

@@ -1,4 +1,5 @@
-use Rattle.templates_q.proofs.Walks.{child_used, next_child}
+use Rattle.arena_model.proofs.Slots.{child_used}
+use Rattle.templates_q.proofs.Walks.{next_child}
 use Rattle.templates_q.proofs.Opening.{line_in}
 use Rattle.templates_q.proofs.q3.open_next.Goals as goal
 
@@ -12,7 +13,7 @@ splice_in-requires g c = let r = c.requires in record {
   q = r.q;
   us = r.us;
   vs = r.vs;
-  line = line_in c.args.arena.now r.q r.us r.vs c.args.x.index c.args.from c.past-towards.result r.place (c.past-towards.ensures.passed r.q r.us r.vs r.place);
+  place = line_in c.args.arena.now r.q r.us r.vs c.args.x.index c.args.from c.past-towards.result r.place (c.past-towards.ensures.passed r.q r.us r.vs r.place);
   h = r.h;
   shape = r.shape;
 }

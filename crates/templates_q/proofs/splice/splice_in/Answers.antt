@@ -6,7 +6,7 @@ full_end-end-requires-clause-shape g c = (c.requires.h, c.requires.shape)
 
 pub splice-requires-clause-place : goal.splice-requires-clause-place
 splice-requires-clause-place g c = let r = c.requires in
-    can_splice c.args.arena.now c.args.work.now r.q c.args.line.index r.us r.vs c.args.towards r.h r.line r.shape
+    can_splice c.args.arena.now c.args.work.now r.q c.args.line.index r.us r.vs c.args.towards r.h r.place r.shape
 
 pub returns-clause-spliced : goal.returns-clause-spliced
 returns-clause-spliced g c = spliced_in c.args.arena.now c.splice.new.self c.args.work.now c.args.line.index c.full_end-end.result c.args.towards c.requires.two

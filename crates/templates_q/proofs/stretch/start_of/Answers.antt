@@ -1,7 +1,7 @@
 use Rattle.std.proofs.Common.{◌+◌, ◌≤◌, ◌++◌, ◌∷◌, [], arith}
 use Rattle.arena_model.specs.Layout.{children_at}
+use Rattle.arena_model.proofs.Slots.{child_used}
 use Rattle.templates_q.specs.Span.{labelled_in}
-use Rattle.templates_q.proofs.Walks.{child_used}
 use Rattle.templates_q.proofs.Stretches.{begins_empty, aside, start_made, start_few}
 use Rattle.templates_q.proofs.stretch.start_of.Goals as goal
 
