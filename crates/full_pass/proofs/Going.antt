@@ -15,8 +15,10 @@ use Rattle.full_pass.specs.Tallies.{AreStamped, first_in, full_in, hits_in, next
 use Rattle.full_pass.specs.declared.entries.Entries.{Entries}
 use Rattle.full_pass.specs.Entries.{AreReady, far, first, hits, is_full, next, up}
 use Rattle.full_pass.proofs.Chained.{chained_length, no_chains}
-use Rattle.arena_model.proofs.Rows.{leaf_index}
-use Rattle.full_pass.proofs.Columns.{next_leaf}
+use Rattle.arena_model.proofs.Rows.{leaf_index, leaves_length}
+use Rattle.arena_model.specs.NamedTree.{IsOneTree}
+use Rattle.row_model.specs.Rows.{IsRow}
+use Rattle.full_pass.proofs.Columns.{next_leaf, row_leaves, rest_none}
 use Rattle.full_pass.proofs.Shapes.{leaf_children}
 use Rattle.full_pass.proofs.Sums.{total_zero}
 use Rattle.full_pass.proofs.Marks.{true_false}
@@ -40,7 +42,7 @@ leaf_fills f row n layout leaf o = λ x _ way. by_way n x leaf o way
     by_way _ _ leaf o (here n) = o
     by_way _ _ leaf o (down n k x ok way) = absurd (leaf_children (shape_at f n) (children_at f n) leaf.0 k leaf.1 (layout.children_fit n) ok)
 
-pub start : (f : Layout) (row : List ℕ) (l : ℕ → Bool) (h : ℕ → ℕ) → IsLayout f → AreLeaves f row →
+start : (f : Layout) (row : List ℕ) (l : ℕ → Bool) (h : ℕ → ℕ) → IsLayout f → AreLeaves f row →
     ((x : ℕ) → l x ≡ false) → ((x : ℕ) → h x ≡ 0) → Pass f row l h row (length row)
 start f row l h layout r none_yet no_hits = record {
   labels = record {
@@ -62,6 +64,12 @@ start f row l h layout r none_yet no_hits = record {
   sum = let z : total (λ _. 0) (length f.slots) ≡ 0 = total_zero (length f.slots) in omega arith;
 }
 
+-- no node is labelled, and all leaves of the row wait
+pub all_wait : (f : Layout) (row : List ℕ) (l : ℕ → Bool) (h : ℕ → ℕ) → IsLayout f → IsOneTree f → IsRow f.columns row →
+    ((x : ℕ) → l x ≡ false) → ((x : ℕ) → h x ≡ 0) → Pass f (column_leaves row) l h (column_leaves row) (length row)
+all_wait f row l h layout one is_row none_yet no_hits =
+    subst (λ z. Pass f (column_leaves row) l h (column_leaves row) z) (leaves_length row) (start f (column_leaves row) l h layout (row_leaves f row layout one is_row) none_yet no_hits)
+
 -- the answer that a leaf brought is the last
 pub risen_pass : (f : Layout) (row : List ℕ) (l : ℕ → Bool) (h : ℕ → ℕ) (waiting : List ℕ) (n : ℕ) (s : Settled) →
     IsRisen f row l h waiting n (Some s) → Pass f row l h waiting n
@@ -69,7 +77,7 @@ risen_pass f row l h waiting n Kept r = r.0.0
 risen_pass f row l h waiting n (Group p) r = r.0.0
 risen_pass f row l h waiting n Open r = absurd (r.1 refl)
 
-pub settled : (f : Layout) (row : List ℕ) (l : ℕ → Bool) (tallies : List Tally) (stamp n : ℕ) (s : Settled) → IsLayout f → AreLeaves f row → n ≤ 1 →
+settled : (f : Layout) (row : List ℕ) (l : ℕ → Bool) (tallies : List Tally) (stamp n : ℕ) (s : Settled) → IsLayout f → AreLeaves f row → n ≤ 1 →
     Chains f l (hits_in tallies stamp) (first_in tallies) (next_in tallies) → IsLast f row l (hits_in tallies stamp) [] n s → IsSettled f row (members_in tallies stamp s) s
 settled f row l tallies stamp n Kept layout r le chains last = elim last.1 [
   | inl run ↦ end_run f row l (hits_in tallies stamp) n layout r last.0 le run
@@ -81,9 +89,17 @@ settled f row l tallies stamp n (Group p) layout r le chains last =
     (λ k. chains p.index k last.1.ring.is_p)
 settled f row l tallies stamp n Open layout r le chains last = tt
 
+-- what the pass answers where it has gone over all columns of the row
+pub settled_at_end : (f : Layout) (row : List ℕ) (l : ℕ → Bool) (tallies : List Tally) (stamp i n : ℕ) (s : Settled) → IsLayout f → IsOneTree f → IsRow f.columns row → length row ≤ i → n ≤ 1 →
+    Chains f l (hits_in tallies stamp) (first_in tallies) (next_in tallies) → IsLast f (column_leaves row) l (hits_in tallies stamp) (column_leaves (drop i row)) n s →
+    IsSettled f (column_leaves row) (members_in tallies stamp s) s
+settled_at_end f row l tallies stamp i n s layout one is_row over le chains last =
+    settled f (column_leaves row) l tallies stamp n s layout (row_leaves f row layout one is_row) le chains
+    (subst (λ z. IsLast f (column_leaves row) l (hits_in tallies stamp) z n s) (rest_none row i over) last)
+
 -- where the root is full all leaves are in the row
-pub root_kept : (f : Layout) (row : List ℕ) → AreLeaves f row → IsFullNode f row f.root → IsRowKept f row
-root_kept f row r full = one_node f.root full r.below
+pub root_kept : (f : Layout) (row : List ℕ) → IsLayout f → IsOneTree f → IsRow f.columns row → IsFullNode f (column_leaves row) f.root → IsRowKept f (column_leaves row)
+root_kept f row layout one is_row full = one_node f.root full (row_leaves f row layout one is_row).below
 
 pub no_runs : (f : Layout) (l : ℕ → Bool) (far : ℕ → ℕ) (up : ℕ → Option NodeId) → ((x : ℕ) → l x ≡ false) → Runs f l far up
 no_runs f l far up none_yet = record {

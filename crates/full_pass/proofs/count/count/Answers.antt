@@ -1,21 +1,16 @@
-use Rattle.std.proofs.Common.{◌≡◌, ℕ, ◌+◌, drop, List, arith, subst}
+use Rattle.std.proofs.Common.{◌≡◌, ℕ, ◌+◌, drop, List, arith}
 use Rattle.row_model.proofs.Ascending.{row_within}
 use Rattle.arena_model.specs.RowLeaves.{column_leaves}
-use Rattle.arena_model.proofs.Rows.{column_in, leaves_length}
+use Rattle.arena_model.proofs.Rows.{column_in}
 use Rattle.full_pass.specs.Tallies.{full_in, hits_in}
-use Rattle.full_pass.specs.Passing.{Pass, IsLast}
-use Rattle.full_pass.proofs.Columns.{row_leaves, rest_none}
-use Rattle.full_pass.proofs.Going.{start, settled, root_kept, none_counted, next_waits, risen_pass, risen_last}
+use Rattle.full_pass.proofs.Going.{all_wait, settled_at_end, root_kept, none_counted, next_waits, risen_pass, risen_last}
 use Rattle.full_pass.proofs.count.count.Goals as goal
 
 pub loop-column-init : goal.loop-column-init
 loop-column-init g c = record {
   counting = record {
     counted = none_counted c.args.arena.now c.args.labels.now c.args.tallies.now c.args.stamp c.requires.ready c.requires.full c.requires.hits;
-    pass = subst (λ z. Pass c.args.arena.now (column_leaves c.args.row.now) (full_in c.args.labels.now c.args.stamp) (hits_in c.args.tallies.now c.args.stamp) (column_leaves c.args.row.now) z)
-        (leaves_length c.args.row.now)
-        (start c.args.arena.now (column_leaves c.args.row.now) (full_in c.args.labels.now c.args.stamp) (hits_in c.args.tallies.now c.args.stamp) c.layout_law.ensures
-        (row_leaves c.args.arena.now c.args.row.now c.layout_law.ensures c.requires.tree c.requires.row) c.requires.full c.requires.hits);
+    pass = all_wait c.args.arena.now c.args.row.now (full_in c.args.labels.now c.args.stamp) (hits_in c.args.tallies.now c.args.stamp) c.layout_law.ensures c.requires.tree c.requires.row c.requires.full c.requires.hits;
     answer = tt;
   };
   ticks = omega arith;
@@ -37,7 +32,7 @@ climb-requires-clause-waits g c = record {
 
 pub returns-in-None-clause-settled : goal.returns-in-None-clause-settled
 returns-in-None-clause-settled g c =
-    root_kept c.args.arena.now (column_leaves c.args.row.now) (row_leaves c.args.arena.now c.args.row.now c.layout_law.ensures c.requires.tree c.requires.row)
+    root_kept c.args.arena.now c.args.row.now c.layout_law.ensures c.requires.tree c.requires.row
     (c.in-None.ensures.risen (column_leaves c.args.row.now) (column_leaves (drop (c.loop-column.column-index + 1) c.args.row.now))
     (next_waits c.args.arena.now c.args.row.now (full_in c.loop-column.labels c.args.stamp) (hits_in c.loop-column.tallies c.args.stamp) c.loop-column.column-index c.loop-column.parts c.leaf.result.index
     c.layout_law.ensures c.leaf.ensures c.loop-column-test.true c.loop-column.invariant.counting.pass))
@@ -59,9 +54,6 @@ loop-column-preserved g c =
 
 pub returns-then-parts-eq1-clause-settled : goal.returns-then-parts-eq1-clause-settled
 returns-then-parts-eq1-clause-settled g c =
-    settled c.args.arena.now (column_leaves c.args.row.now) (full_in c.loop-column.labels c.args.stamp) c.loop-column.tallies c.args.stamp c.loop-column.parts c.loop-column.last
-    c.layout_law.ensures (row_leaves c.args.arena.now c.args.row.now c.layout_law.ensures c.requires.tree c.requires.row)
-    (let one : c.loop-column.parts ≡ 1 = c.if-parts-eq1.true in omega arith)
-    c.loop-column.invariant.counting.counted.chains
-    (subst (λ z. IsLast c.args.arena.now (column_leaves c.args.row.now) (full_in c.loop-column.labels c.args.stamp) (hits_in c.loop-column.tallies c.args.stamp) z c.loop-column.parts c.loop-column.last)
-    (rest_none c.args.row.now c.loop-column.column-index c.loop-column-test.false) c.loop-column.invariant.counting.answer)
+    settled_at_end c.args.arena.now c.args.row.now (full_in c.loop-column.labels c.args.stamp) c.loop-column.tallies c.args.stamp c.loop-column.column-index c.loop-column.parts c.loop-column.last
+    c.layout_law.ensures c.requires.tree c.requires.row c.loop-column-test.false
+    (let one : c.loop-column.parts ≡ 1 = c.if-parts-eq1.true in omega arith) c.loop-column.invariant.counting.counted.chains c.loop-column.invariant.counting.answer
