@@ -5,7 +5,7 @@ use Rattle.row_model.specs.Rows.{IsRow}
 use Rattle.pq_tree.specs.Outline.{Outline, Forest, leaf, p_node, q_node, no_tree, tree_and}
 use Rattle.pq_tree.specs.Forests.{forest}
 use Rattle.pq_tree.proofs.Turnings.{are_equivalent_refl}
-use Rattle.template_theory.specs.Templates.{Partial, Label, empty_label, full_label, partial_label, IsP3, IsP5, IsQ2, AreAllFull}
+use Rattle.template_theory.specs.Templates.{Partial, Label, empty_label, full_label, partial_label, IsP3, IsP5, IsQ2, AreAllFull, AreAllEmpty}
 use Rattle.template_theory.specs.Chosen.{IsLabelOfP, IsLabelOfQ, p_empty, by_p1, by_p3, by_p5, q_empty, by_q1, by_q2, IsRootOfP, IsRootOfQ, root_p1, root_p2, root_p4, root_p6, root_q1, root_q2, root_q3}
 use Rattle.template_theory.specs.Reduced.{IsLabel, AreLabels, IsTurned}
 use Rattle.template_theory.specs.Refused.{IsUnfit, IsUnfitRoot}
@@ -149,18 +149,21 @@ leaf_fits {f = f} {v = v} {row = row} {n = n} c a s = by (label_at v n) refl
         let y : 1 ≤ occurs (column_leaves row) o.0 = subst (λ z. 1 ≤ occurs (column_leaves row) z) (sym same) i.2 in
         absurd (omega arith)
 
+-- a labelled node has a labelled child
+not_empty : {f : Layout} {v : Marks} {row : List ℕ} {n : ℕ} {ps : List Label} → AtNode f v row n ps → ((a : ℕ) → shape_at f n ≡ Some (Leaf a) → ⊥) → AreAllEmpty (child_trees f n) ps → ⊥
+not_empty {f = f} {v = v} {row = row} {n = n} {ps = ps} c inner e =
+    not_all_empty f (column_leaves row) (label_at v) n c.layout c.two c.right inner c.leaves c.some (marked_at (label_at v) Empty (children_at f n) ps c.marked (empty_marks e refl refl))
+
 no_label_p : {f : Layout} {v : Marks} {row : List ℕ} {n : ℕ} {ps : List Label} → AtNode f v row n ps → IsChoice f v n false None → shape_at f n ≡ Some P →
     (x : Label) → IsLabelOfP (child_trees f n) ps x → ⊥
-no_label_p {f = f} {v = v} {row = row} {n = n} {ps = ps} c none s _ (p_empty e) =
-    not_all_empty f (column_leaves row) (label_at v) n c.layout c.two c.right (p_inner f n s) c.leaves c.some (marked_at (label_at v) Empty (children_at f n) ps c.marked (empty_marks e refl refl))
+no_label_p {f = f} {n = n} c none s _ (p_empty e) = not_empty c (p_inner f n s) e
 no_label_p {ps = ps} c none s _ (by_p1 x) = none P1 ps c.marked (s, x)
 no_label_p {ps = ps} c none s _ (by_p3 h x) = none P3 ps c.marked (s, (h, x))
 no_label_p {ps = ps} c none s _ (by_p5 h x) = none P5 ps c.marked (s, (h, x))
 
 no_label_q : {f : Layout} {v : Marks} {row : List ℕ} {n : ℕ} {ps : List Label} → AtNode f v row n ps → IsChoice f v n false None → shape_at f n ≡ Some Q →
     (x : Label) → IsLabelOfQ (child_trees f n) ps x → ⊥
-no_label_q {f = f} {v = v} {row = row} {n = n} {ps = ps} c none s _ (q_empty e) =
-    not_all_empty f (column_leaves row) (label_at v) n c.layout c.two c.right (q_inner f n s) c.leaves c.some (marked_at (label_at v) Empty (children_at f n) ps c.marked (empty_marks e refl refl))
+no_label_q {f = f} {n = n} c none s _ (q_empty e) = not_empty c (q_inner f n s) e
 no_label_q {ps = ps} c none s _ (by_q1 x) = none Q1 ps c.marked (s, x)
 no_label_q {ps = ps} c none s _ (by_q2 h x) = none Q2 ps c.marked (s, (h, x))
 
