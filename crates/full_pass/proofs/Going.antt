@@ -9,7 +9,7 @@ use Rattle.full_pass.specs.declared.settled.Settled.{Settled}
 use Rattle.full_pass.specs.declared.settled.Settled.TheVariants.{Group, Kept, Open}
 use Rattle.arena_model.specs.RowLeaves.{column_leaves, IsLeafAt}
 use Rattle.full_pass.specs.Answer.{AreLeaves, IsFullNode, IsRowKept, IsSettled, one_node}
-use Rattle.full_pass.specs.Passing.{AreCounted, AreLinked, Chains, IsLast, IsRisen, Pass, Runs, marks, members_in, runs, total}
+use Rattle.full_pass.specs.Passing.{AreCounted, AreLinked, Chains, Counting, Going, IsLast, IsRisen, Pass, Runs, marks, members_in, runs, total}
 use Rattle.full_pass.specs.declared.tallies.Tally.{Tally}
 use Rattle.full_pass.specs.Tallies.{AreStamped, first_in, full_in, hits_in, next_in}
 use Rattle.full_pass.specs.declared.entries.Entries.{Entries}
@@ -65,13 +65,13 @@ start f row l h layout r none_yet no_hits = record {
 }
 
 -- no node is labelled, and all leaves of the row wait
-pub all_wait : (f : Layout) (row : List ℕ) (l : ℕ → Bool) (h : ℕ → ℕ) → IsLayout f → IsOneTree f → IsRow f.columns row →
+all_wait : (f : Layout) (row : List ℕ) (l : ℕ → Bool) (h : ℕ → ℕ) → IsLayout f → IsOneTree f → IsRow f.columns row →
     ((x : ℕ) → l x ≡ false) → ((x : ℕ) → h x ≡ 0) → Pass f (column_leaves row) l h (column_leaves row) (length row)
 all_wait f row l h layout one is_row none_yet no_hits =
     subst (λ z. Pass f (column_leaves row) l h (column_leaves row) z) (leaves_length row) (start f (column_leaves row) l h layout (row_leaves f row layout one is_row) none_yet no_hits)
 
 -- the answer that a leaf brought is the last
-pub risen_pass : (f : Layout) (row : List ℕ) (l : ℕ → Bool) (h : ℕ → ℕ) (waiting : List ℕ) (n : ℕ) (s : Settled) →
+risen_pass : (f : Layout) (row : List ℕ) (l : ℕ → Bool) (h : ℕ → ℕ) (waiting : List ℕ) (n : ℕ) (s : Settled) →
     IsRisen f row l h waiting n (Some s) → Pass f row l h waiting n
 risen_pass f row l h waiting n Kept r = r.0.0
 risen_pass f row l h waiting n (Group p) r = r.0.0
@@ -108,7 +108,7 @@ no_runs f l far up none_yet = record {
 }
 
 -- no node is labelled
-pub none_linked : (f : Layout) (w : Entries) → AreReady w (length f.slots) → ((x : ℕ) → is_full w x ≡ false) → ((x : ℕ) → hits w x ≡ 0) → AreLinked f w
+none_linked : (f : Layout) (w : Entries) → AreReady w (length f.slots) → ((x : ℕ) → is_full w x ≡ false) → ((x : ℕ) → hits w x ≡ 0) → AreLinked f w
 none_linked f w ready none_yet no_hits = record {
   ready = ready;
   runs = no_runs f (is_full w) (far w) (up w) none_yet;
@@ -121,11 +121,6 @@ open_kept e = cc
 pub open_group : (p : NodeId) → Open ≢ Group p
 open_group p e = cc
 
--- the answer that a leaf brought, as the last
-pub risen_last : (f : Layout) (row : List ℕ) (l : ℕ → Bool) (h : ℕ → ℕ) (waiting : List ℕ) (n : ℕ) (s : Settled) →
-    IsRisen f row l h waiting n (Some s) → IsLast f row l h waiting n s
-risen_last f row l h waiting n s r = r.0
-
 -- the next leaf of the row waits in front
 pub next_waits : (f : Layout) (row : List ℕ) (l : ℕ → Bool) (h : ℕ → ℕ) (i n x : ℕ) → IsLayout f → shape_at f x ≡ Some (Leaf (get_or row i 0)) → i < length row →
     Pass f (column_leaves row) l h (column_leaves (drop i row)) n → Pass f (column_leaves row) l h (x ∷ column_leaves (drop (i + 1) row)) n
@@ -134,9 +129,32 @@ next_waits f row l h i n x layout sh lt pass =
     (subst (λ z. Pass f (column_leaves row) l h z n) (next_leaf row i lt) pass)
 
 -- the pass that counts begins
-pub none_counted : (f : Layout) (labels : List ℕ) (tallies : List Tally) (stamp : ℕ) → AreStamped labels tallies stamp (length f.slots) →
+none_counted : (f : Layout) (labels : List ℕ) (tallies : List Tally) (stamp : ℕ) → AreStamped labels tallies stamp (length f.slots) →
     ((x : ℕ) → full_in labels stamp x ≡ false) → ((x : ℕ) → hits_in tallies stamp x ≡ 0) → AreCounted f labels tallies stamp
 none_counted f labels tallies stamp ready none_yet no_hits = record {
   ready = ready;
   chains = no_chains f (full_in labels stamp) (hits_in tallies stamp) (first_in tallies) (next_in tallies) none_yet no_hits;
 }
+
+-- a pass that counts, before the first column and after one more
+pub counting_begun : (f : Layout) (row labels : List ℕ) (tallies : List Tally) (stamp : ℕ) → IsLayout f → IsOneTree f → IsRow f.columns row → AreStamped labels tallies stamp (length f.slots) →
+    ((x : ℕ) → full_in labels stamp x ≡ false) → ((x : ℕ) → hits_in tallies stamp x ≡ 0) → Counting f (column_leaves row) labels tallies stamp (column_leaves row) (length row) Open
+counting_begun f row labels tallies stamp layout one is_row ready none_yet no_hits = record {
+  counted = none_counted f labels tallies stamp ready none_yet no_hits;
+  pass = all_wait f row (full_in labels stamp) (hits_in tallies stamp) layout one is_row none_yet no_hits;
+  answer = tt;
+}
+
+pub counting_on : (f : Layout) (row labels : List ℕ) (tallies : List Tally) (stamp : ℕ) (waiting : List ℕ) (n : ℕ) (s : Settled) → AreCounted f labels tallies stamp →
+    IsRisen f row (full_in labels stamp) (hits_in tallies stamp) waiting n (Some s) → Counting f row labels tallies stamp waiting n s
+counting_on f row labels tallies stamp waiting n s counted risen =
+    record { counted = counted; pass = risen_pass f row (full_in labels stamp) (hits_in tallies stamp) waiting n s risen; answer = risen.0 }
+
+-- a pass that keeps runs, likewise
+pub going_begun : (f : Layout) (row : List ℕ) (w : Entries) → IsLayout f → IsOneTree f → IsRow f.columns row → AreReady w (length f.slots) →
+    ((x : ℕ) → is_full w x ≡ false) → ((x : ℕ) → hits w x ≡ 0) → Going f (column_leaves row) w (column_leaves row) (length row) Open
+going_begun f row w layout one is_row ready none_yet no_hits =
+    record { linked = none_linked f w ready none_yet no_hits; pass = all_wait f row (is_full w) (hits w) layout one is_row none_yet no_hits; answer = tt }
+
+pub going_on : (f : Layout) (row : List ℕ) (w : Entries) (waiting : List ℕ) (n : ℕ) (s : Settled) → AreLinked f w → IsRisen f row (is_full w) (hits w) waiting n (Some s) → Going f row w waiting n s
+going_on f row w waiting n s linked risen = record { linked = linked; pass = risen_pass f row (is_full w) (hits w) waiting n s risen; answer = risen.0 }

@@ -3,16 +3,13 @@ use Rattle.row_model.proofs.Ascending.{row_within}
 use Rattle.arena_model.specs.RowLeaves.{column_leaves}
 use Rattle.arena_model.proofs.Rows.{column_in}
 use Rattle.full_pass.specs.Entries.{is_full, hits}
-use Rattle.full_pass.proofs.Going.{all_wait, settled_at_end, root_kept, none_linked, next_waits, risen_pass, risen_last}
+use Rattle.full_pass.proofs.Going.{going_begun, going_on, settled_at_end, root_kept, next_waits}
 use Rattle.full_pass.proofs.settled.run.Goals as goal
 
 pub loop-column-init : goal.loop-column-init
 loop-column-init g c = record {
-  going = record {
-    linked = none_linked c.args.arena.now c.begin.new.self (c.begin.ensures.ready (length c.args.arena.now.slots) c.requires.ready) c.begin.ensures.full c.begin.ensures.hits;
-    pass = all_wait c.args.arena.now c.args.row.now (is_full c.begin.new.self) (hits c.begin.new.self) c.layout_law.ensures c.requires.tree c.requires.fits c.begin.ensures.full c.begin.ensures.hits;
-    answer = tt;
-  };
+  going = going_begun c.args.arena.now c.args.row.now c.begin.new.self c.layout_law.ensures c.requires.tree c.requires.fits
+      (c.begin.ensures.ready (length c.args.arena.now.slots) c.requires.ready) c.begin.ensures.full c.begin.ensures.hits;
   ticks = omega arith;
 }
 
@@ -41,15 +38,11 @@ returns-in-None-clause-settled g c =
 pub loop-column-preserved : goal.loop-column-preserved
 loop-column-preserved g c =
     let rest : List ℕ = column_leaves (drop (c.loop-column.column-index + 1) c.args.row.now) in
-    let risen = c.in-Some.ensures.risen (column_leaves c.args.row.now) rest
-    (next_waits c.args.arena.now c.args.row.now (is_full c.loop-column.entries) (hits c.loop-column.entries) c.loop-column.column-index c.loop-column.parts c.leaf.result.index
-    c.layout_law.ensures c.leaf.ensures c.loop-column-test.true c.loop-column.invariant.going.pass) in
     record {
-      going = record {
-        linked = c.in-Some.ensures.linked;
-        pass = risen_pass c.args.arena.now (column_leaves c.args.row.now) (is_full c.rise.new.entries) (hits c.rise.new.entries) rest c.rise.new.parts c.in-Some.settled risen;
-        answer = risen_last c.args.arena.now (column_leaves c.args.row.now) (is_full c.rise.new.entries) (hits c.rise.new.entries) rest c.rise.new.parts c.in-Some.settled risen;
-      };
+      going = going_on c.args.arena.now (column_leaves c.args.row.now) c.rise.new.entries rest c.rise.new.parts c.in-Some.settled c.in-Some.ensures.linked
+          (c.in-Some.ensures.risen (column_leaves c.args.row.now) rest
+          (next_waits c.args.arena.now c.args.row.now (is_full c.loop-column.entries) (hits c.loop-column.entries) c.loop-column.column-index c.loop-column.parts c.leaf.result.index
+          c.layout_law.ensures c.leaf.ensures c.loop-column-test.true c.loop-column.invariant.going.pass));
       ticks = omega (arith, c.loop-column.invariant.ticks, c.in-Some.ensures.ticks);
     }
 
