@@ -81,7 +81,7 @@ module _ (f : Layout) (row : List ℕ) (n : ℕ) (ms : List ℕ) (s : IsAsked f 
 
 asked : {f : Layout} {c : ℕ} {rows : List (List ℕ)} {k : ℕ} {row : List ℕ} → IsRowOver f c rows k row → HasTwoEach f → row_at rows k ≢ [] → IsAsked f (row_at rows k)
 asked {rows = rows} {k = k} s two some = let x = first_leaf (row_at rows k) some in
-    record { layout = s.layout; one = s.one; two = two; is_row = row_over_arena s; leaf = x.0; in_row = x.1 }
+    record { layout = s.layout; one = s.can.one; two = two; is_row = row_over_arena s; leaf = x.0; in_row = x.1 }
 
 -- the group, by another name of its list
 pub group_named : {f : Layout} {xs : List ℕ} {n : ℕ} {ms ks : List NodeId} → ms ≡ ks → IsGroup f xs n (indices ks) → IsGroup f xs n (indices ms)
@@ -100,7 +100,7 @@ pub group_total : {f : Layout} {c : ℕ} {rows : List (List ℕ)} {k : ℕ} {row
     s1 ≤ s0 + 8 * length (row_at rows k) → s2 ≡ s1 + 2 * length ms + 2 → s2 ≤ s0 + 256 * (nodes_met (row_at rows k) (outline_at f) + 1)
 group_total {f = f} {rows = rows} {k = k} law s two some n ms g few s0 s1 s2 x y =
     let a : length (indices ms) ≤ nodes_met (row_at rows k) (outline_at f) =
-    few_members f (row_at rows k) n (indices ms) (asked s two some) g f.root (nodes_met (row_at rows k) (outline_at f)) (s.one n (used_by f n P g.is_p)) (met_most law s) in
+    few_members f (row_at rows k) n (indices ms) (asked s two some) g f.root (nodes_met (row_at rows k) (outline_at f)) (s.can.one n (used_by f n P g.is_p)) (met_most law s) in
     let b : length (indices ms) ≡ length ms = length-map ms (λ m. m.index) in
     omega arith
 
