@@ -133,8 +133,8 @@ pub last_reverse : (xs : List ℕ) (a : ℕ) → last_or (reverse xs) a ≡ head
 last_reverse [] a = refl
 last_reverse (x ∷ xs) a = ap (λ z. last_or z a) (reverse_cons x xs) ∙ last_or-append (reverse xs) (x ∷ []) a
 
--- a run may be read from its other end
-replaced_none : (xs : List ℕ) (n m : ℕ) → occurs xs n ≡ 0 → with_replaced xs n m ≡ xs
+-- a list without n stays where n is replaced
+pub replaced_none : (xs : List ℕ) (n m : ℕ) → occurs xs n ≡ 0 → with_replaced xs n m ≡ xs
 replaced_none [] n m o = refl
 replaced_none (x ∷ xs) n m o =
     let ne : x ≢ n = (λ e. let k : occurs (x ∷ xs) x ≡ 0 = subst (λ z. occurs (x ∷ xs) z ≡ 0) (sym e) o in omega (arith, occurs_here x xs)) in

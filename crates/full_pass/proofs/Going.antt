@@ -9,14 +9,16 @@ use Rattle.full_pass.specs.declared.settled.Settled.{Settled}
 use Rattle.full_pass.specs.declared.settled.Settled.TheVariants.{Group, Kept, Open}
 use Rattle.arena_model.specs.RowLeaves.{column_leaves, IsLeafAt}
 use Rattle.full_pass.specs.Answer.{AreLeaves, IsFullNode, IsRowKept, IsSettled, one_node}
-use Rattle.full_pass.specs.Passing.{AreCounted, AreLinked, Chains, IsLast, IsRisen, Pass, Runs, marks, members_in, runs, total}
+use Rattle.full_pass.specs.Passing.{AreCounted, AreLinked, Chains, Counting, Going, IsLast, IsRisen, Pass, Runs, marks, members_in, runs, total}
 use Rattle.full_pass.specs.declared.tallies.Tally.{Tally}
 use Rattle.full_pass.specs.Tallies.{AreStamped, first_in, full_in, hits_in, next_in}
 use Rattle.full_pass.specs.declared.entries.Entries.{Entries}
 use Rattle.full_pass.specs.Entries.{AreReady, far, first, hits, is_full, next, up}
 use Rattle.full_pass.proofs.Chained.{chained_length, no_chains}
-use Rattle.arena_model.proofs.Rows.{leaf_index}
-use Rattle.full_pass.proofs.Columns.{next_leaf}
+use Rattle.arena_model.proofs.Rows.{leaf_index, leaves_length}
+use Rattle.arena_model.specs.NamedTree.{IsOneTree}
+use Rattle.row_model.specs.Rows.{IsRow}
+use Rattle.full_pass.proofs.Columns.{next_leaf, row_leaves, rest_none}
 use Rattle.full_pass.proofs.Shapes.{leaf_children}
 use Rattle.full_pass.proofs.Sums.{total_zero}
 use Rattle.full_pass.proofs.Marks.{true_false}
@@ -40,7 +42,7 @@ leaf_fills f row n layout leaf o = λ x _ way. by_way n x leaf o way
     by_way _ _ leaf o (here n) = o
     by_way _ _ leaf o (down n k x ok way) = absurd (leaf_children (shape_at f n) (children_at f n) leaf.0 k leaf.1 (layout.children_fit n) ok)
 
-pub start : (f : Layout) (row : List ℕ) (l : ℕ → Bool) (h : ℕ → ℕ) → IsLayout f → AreLeaves f row →
+start : (f : Layout) (row : List ℕ) (l : ℕ → Bool) (h : ℕ → ℕ) → IsLayout f → AreLeaves f row →
     ((x : ℕ) → l x ≡ false) → ((x : ℕ) → h x ≡ 0) → Pass f row l h row (length row)
 start f row l h layout r none_yet no_hits = record {
   labels = record {
@@ -62,14 +64,20 @@ start f row l h layout r none_yet no_hits = record {
   sum = let z : total (λ _. 0) (length f.slots) ≡ 0 = total_zero (length f.slots) in omega arith;
 }
 
+-- no node is labelled, and all leaves of the row wait
+all_wait : (f : Layout) (row : List ℕ) (l : ℕ → Bool) (h : ℕ → ℕ) → IsLayout f → IsOneTree f → IsRow f.columns row →
+    ((x : ℕ) → l x ≡ false) → ((x : ℕ) → h x ≡ 0) → Pass f (column_leaves row) l h (column_leaves row) (length row)
+all_wait f row l h layout one is_row none_yet no_hits =
+    subst (λ z. Pass f (column_leaves row) l h (column_leaves row) z) (leaves_length row) (start f (column_leaves row) l h layout (row_leaves f row layout one is_row) none_yet no_hits)
+
 -- the answer that a leaf brought is the last
-pub risen_pass : (f : Layout) (row : List ℕ) (l : ℕ → Bool) (h : ℕ → ℕ) (waiting : List ℕ) (n : ℕ) (s : Settled) →
+risen_pass : (f : Layout) (row : List ℕ) (l : ℕ → Bool) (h : ℕ → ℕ) (waiting : List ℕ) (n : ℕ) (s : Settled) →
     IsRisen f row l h waiting n (Some s) → Pass f row l h waiting n
 risen_pass f row l h waiting n Kept r = r.0.0
 risen_pass f row l h waiting n (Group p) r = r.0.0
 risen_pass f row l h waiting n Open r = absurd (r.1 refl)
 
-pub settled : (f : Layout) (row : List ℕ) (l : ℕ → Bool) (tallies : List Tally) (stamp n : ℕ) (s : Settled) → IsLayout f → AreLeaves f row → n ≤ 1 →
+settled : (f : Layout) (row : List ℕ) (l : ℕ → Bool) (tallies : List Tally) (stamp n : ℕ) (s : Settled) → IsLayout f → AreLeaves f row → n ≤ 1 →
     Chains f l (hits_in tallies stamp) (first_in tallies) (next_in tallies) → IsLast f row l (hits_in tallies stamp) [] n s → IsSettled f row (members_in tallies stamp s) s
 settled f row l tallies stamp n Kept layout r le chains last = elim last.1 [
   | inl run ↦ end_run f row l (hits_in tallies stamp) n layout r last.0 le run
@@ -81,9 +89,17 @@ settled f row l tallies stamp n (Group p) layout r le chains last =
     (λ k. chains p.index k last.1.ring.is_p)
 settled f row l tallies stamp n Open layout r le chains last = tt
 
+-- what the pass answers where it has gone over all columns of the row
+pub settled_at_end : (f : Layout) (row : List ℕ) (l : ℕ → Bool) (tallies : List Tally) (stamp i n : ℕ) (s : Settled) → IsLayout f → IsOneTree f → IsRow f.columns row → length row ≤ i → n ≤ 1 →
+    Chains f l (hits_in tallies stamp) (first_in tallies) (next_in tallies) → IsLast f (column_leaves row) l (hits_in tallies stamp) (column_leaves (drop i row)) n s →
+    IsSettled f (column_leaves row) (members_in tallies stamp s) s
+settled_at_end f row l tallies stamp i n s layout one is_row over le chains last =
+    settled f (column_leaves row) l tallies stamp n s layout (row_leaves f row layout one is_row) le chains
+    (subst (λ z. IsLast f (column_leaves row) l (hits_in tallies stamp) z n s) (rest_none row i over) last)
+
 -- where the root is full all leaves are in the row
-pub root_kept : (f : Layout) (row : List ℕ) → AreLeaves f row → IsFullNode f row f.root → IsRowKept f row
-root_kept f row r full = one_node f.root full r.below
+pub root_kept : (f : Layout) (row : List ℕ) → IsLayout f → IsOneTree f → IsRow f.columns row → IsFullNode f (column_leaves row) f.root → IsRowKept f (column_leaves row)
+root_kept f row layout one is_row full = one_node f.root full (row_leaves f row layout one is_row).below
 
 pub no_runs : (f : Layout) (l : ℕ → Bool) (far : ℕ → ℕ) (up : ℕ → Option NodeId) → ((x : ℕ) → l x ≡ false) → Runs f l far up
 no_runs f l far up none_yet = record {
@@ -92,7 +108,7 @@ no_runs f l far up none_yet = record {
 }
 
 -- no node is labelled
-pub none_linked : (f : Layout) (w : Entries) → AreReady w (length f.slots) → ((x : ℕ) → is_full w x ≡ false) → ((x : ℕ) → hits w x ≡ 0) → AreLinked f w
+none_linked : (f : Layout) (w : Entries) → AreReady w (length f.slots) → ((x : ℕ) → is_full w x ≡ false) → ((x : ℕ) → hits w x ≡ 0) → AreLinked f w
 none_linked f w ready none_yet no_hits = record {
   ready = ready;
   runs = no_runs f (is_full w) (far w) (up w) none_yet;
@@ -105,11 +121,6 @@ open_kept e = cc
 pub open_group : (p : NodeId) → Open ≢ Group p
 open_group p e = cc
 
--- the answer that a leaf brought, as the last
-pub risen_last : (f : Layout) (row : List ℕ) (l : ℕ → Bool) (h : ℕ → ℕ) (waiting : List ℕ) (n : ℕ) (s : Settled) →
-    IsRisen f row l h waiting n (Some s) → IsLast f row l h waiting n s
-risen_last f row l h waiting n s r = r.0
-
 -- the next leaf of the row waits in front
 pub next_waits : (f : Layout) (row : List ℕ) (l : ℕ → Bool) (h : ℕ → ℕ) (i n x : ℕ) → IsLayout f → shape_at f x ≡ Some (Leaf (get_or row i 0)) → i < length row →
     Pass f (column_leaves row) l h (column_leaves (drop i row)) n → Pass f (column_leaves row) l h (x ∷ column_leaves (drop (i + 1) row)) n
@@ -118,9 +129,32 @@ next_waits f row l h i n x layout sh lt pass =
     (subst (λ z. Pass f (column_leaves row) l h z n) (next_leaf row i lt) pass)
 
 -- the pass that counts begins
-pub none_counted : (f : Layout) (labels : List ℕ) (tallies : List Tally) (stamp : ℕ) → AreStamped labels tallies stamp (length f.slots) →
+none_counted : (f : Layout) (labels : List ℕ) (tallies : List Tally) (stamp : ℕ) → AreStamped labels tallies stamp (length f.slots) →
     ((x : ℕ) → full_in labels stamp x ≡ false) → ((x : ℕ) → hits_in tallies stamp x ≡ 0) → AreCounted f labels tallies stamp
 none_counted f labels tallies stamp ready none_yet no_hits = record {
   ready = ready;
   chains = no_chains f (full_in labels stamp) (hits_in tallies stamp) (first_in tallies) (next_in tallies) none_yet no_hits;
 }
+
+-- a pass that counts, before the first column and after one more
+pub counting_begun : (f : Layout) (row labels : List ℕ) (tallies : List Tally) (stamp : ℕ) → IsLayout f → IsOneTree f → IsRow f.columns row → AreStamped labels tallies stamp (length f.slots) →
+    ((x : ℕ) → full_in labels stamp x ≡ false) → ((x : ℕ) → hits_in tallies stamp x ≡ 0) → Counting f (column_leaves row) labels tallies stamp (column_leaves row) (length row) Open
+counting_begun f row labels tallies stamp layout one is_row ready none_yet no_hits = record {
+  counted = none_counted f labels tallies stamp ready none_yet no_hits;
+  pass = all_wait f row (full_in labels stamp) (hits_in tallies stamp) layout one is_row none_yet no_hits;
+  answer = tt;
+}
+
+pub counting_on : (f : Layout) (row labels : List ℕ) (tallies : List Tally) (stamp : ℕ) (waiting : List ℕ) (n : ℕ) (s : Settled) → AreCounted f labels tallies stamp →
+    IsRisen f row (full_in labels stamp) (hits_in tallies stamp) waiting n (Some s) → Counting f row labels tallies stamp waiting n s
+counting_on f row labels tallies stamp waiting n s counted risen =
+    record { counted = counted; pass = risen_pass f row (full_in labels stamp) (hits_in tallies stamp) waiting n s risen; answer = risen.0 }
+
+-- a pass that keeps runs, likewise
+pub going_begun : (f : Layout) (row : List ℕ) (w : Entries) → IsLayout f → IsOneTree f → IsRow f.columns row → AreReady w (length f.slots) →
+    ((x : ℕ) → is_full w x ≡ false) → ((x : ℕ) → hits w x ≡ 0) → Going f (column_leaves row) w (column_leaves row) (length row) Open
+going_begun f row w layout one is_row ready none_yet no_hits =
+    record { linked = none_linked f w ready none_yet no_hits; pass = all_wait f row (is_full w) (hits w) layout one is_row none_yet no_hits; answer = tt }
+
+pub going_on : (f : Layout) (row : List ℕ) (w : Entries) (waiting : List ℕ) (n : ℕ) (s : Settled) → AreLinked f w → IsRisen f row (is_full w) (hits w) waiting n (Some s) → Going f row w waiting n s
+going_on f row w waiting n s linked risen = record { linked = linked; pass = risen_pass f row (is_full w) (hits w) waiting n s risen; answer = risen.0 }

@@ -7,6 +7,13 @@ use Rattle.full_pass.proofs.Marks.{true_false}
 use Rattle.column_order.specs.Orders.{occurs}
 use Rattle.column_order.proofs.Lists.{occurs-append}
 
+-- where all of a run are labelled, so are they with one more labelled in front
+one_more : (l : ℕ → Bool) (u : ℕ) (run : List ℕ) → l u ≡ true → ((k : ℕ) → 1 ≤ occurs run k → l k ≡ true) → (k : ℕ) → 1 ≤ occurs (u ∷ run) k → l k ≡ true
+one_more l u run t inside k o = elim (cases_eq u k) [
+  | inl e ↦ subst (λ z. l z ≡ true) e t
+  | inr ne ↦ inside k (subst (λ z. 1 ≤ z) (occurs_other u k run (λ e. ne (sym e))) o)
+]
+
 -- the labelled ones at the end of us
 pub record Suffix (l : ℕ → Bool) (us : List ℕ) : Type 0 where
   pub rest : List ℕ
@@ -21,16 +28,7 @@ suffix l (u ∷ us) n = let s = suffix l us n in by_rest s.rest s.run s.is s.ins
   where
     by_rest : (rest run : List ℕ) → us ≡ rest ++ run → ((k : ℕ) → 1 ≤ occurs run k → l k ≡ true) → l (last_or rest none) ≡ false → Suffix l (u ∷ us)
     by_rest [] run is inside before = elim (cases_Bool (l u)) [
-      | inl t ↦ record {
-        rest = [];
-        run = u ∷ run;
-        is = ap (λ z. u ∷ z) is;
-        before = n;
-        inside = λ k o. elim (cases_eq u k) [
-          | inl e ↦ subst (λ z. l z ≡ true) e t
-          | inr ne ↦ inside k (subst (λ z. 1 ≤ z) (occurs_other u k run (λ e. ne (sym e))) o)
-        ];
-      }
+      | inl t ↦ record { rest = []; run = u ∷ run; is = ap (λ z. u ∷ z) is; before = n; inside = one_more l u run t inside }
       | inr e ↦ record { rest = u ∷ []; run = run; is = ap (λ z. u ∷ z) is; before = e; inside = inside }
     ]
     by_rest (v ∷ vs) run is inside before = record { rest = u ∷ v ∷ vs; run = run; is = ap (λ z. u ∷ z) is; before = before; inside = inside }
@@ -46,16 +44,7 @@ pub record Prefix (l : ℕ → Bool) (vs : List ℕ) : Type 0 where
 pub prefix : (l : ℕ → Bool) (vs : List ℕ) → l none ≡ false → Prefix l vs
 prefix l [] n = record { run = []; rest = []; is = refl; inside = λ k o. absurd (omega arith); after = n }
 prefix l (v ∷ vs) n = elim (cases_Bool (l v)) [
-  | inl t ↦ let s = prefix l vs n in record {
-    run = v ∷ s.run;
-    rest = s.rest;
-    is = ap (λ z. v ∷ z) s.is;
-    after = s.after;
-    inside = λ k o. elim (cases_eq v k) [
-      | inl e ↦ subst (λ z. l z ≡ true) e t
-      | inr ne ↦ s.inside k (subst (λ z. 1 ≤ z) (occurs_other v k s.run (λ e. ne (sym e))) o)
-    ];
-  }
+  | inl t ↦ let s = prefix l vs n in record { run = v ∷ s.run; rest = s.rest; is = ap (λ z. v ∷ z) s.is; after = s.after; inside = one_more l v s.run t s.inside }
   | inr e ↦ record { run = []; rest = v ∷ vs; is = refl; after = e; inside = λ k o. absurd (omega arith) }
 ]
 

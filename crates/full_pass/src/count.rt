@@ -42,12 +42,10 @@ fn add<L: Ledger>(
 {
     arena.layout_law();
     let view = arena.look(x, steps);
-    let near0 = view.near[0];
-    let near1 = view.near[1];
-    match place_of(view.parent, near0, near1) {
+    match place_of(&view) {
         Place::Top => Added::Top,
         Place::Run => {
-            let pairs = mark(labels, stamp, near0) + mark(labels, stamp, near1);
+            let pairs = mark(labels, stamp, view.near[0]) + mark(labels, stamp, view.near[1]);
             fill(labels, stamp, x);
             show(tallies, stamp, view.parent, may_fill);
             Added::Run(pairs)

@@ -1,12 +1,12 @@
 // The labelling of one full node in a pass that keeps runs.
-ghost use Rattle.std.specs.Prelude.{◌≡◌, ℕ, ◌+◌, ◌*◌, ◌≤◌, List, ◌∷◌};
+ghost use Rattle.std.specs.Prelude.{◌≡◌, ℕ, ◌+◌, ◌*◌, ◌≤◌, List, ◌∷◌, None, get_or};
 ghost use Rattle.full_pass.specs.Entries.{is_full, hits};
 ghost use Rattle.full_pass.specs.Passing.{run_as, place_shown, AreLinked, Pass, CanJoin, IsJoined, CanRise, IsRisen};
 
 use crate::added::{Added, Next, after, judged};
 use crate::entries::Entries;
 use crate::settled::Settled;
-use pq_arena::{Arena, NodeId};
+use pq_arena::{Arena, NodeId, NodeView};
 use step_count::{Ledger, Steps};
 
 // Where a node stands.
@@ -29,18 +29,18 @@ pub enum Joined {
     Wide(usize, NodeId),
 }
 
-// Where a node stands that shows this parent and these neighbours.
-pub fn place_of(parent: Option<NodeId>, a: Option<NodeId>, b: Option<NodeId>) -> Place
-    ensures { result ≡ place_shown parent a b }
+// Where a node stands that shows this.
+pub fn place_of(view: &NodeView) -> Place
+    ensures { result ≡ place_shown view.now.parent (get_or view.now.near 0 None) (get_or view.now.near 1 None) }
 {
-    match parent {
-        None => match a {
+    match view.parent {
+        None => match view.near[0] {
             None => Place::Top,
             Some(_) => Place::Run,
         },
-        Some(p) => match a {
+        Some(p) => match view.near[0] {
             None => Place::Run,
-            Some(_) => match b {
+            Some(_) => match view.near[1] {
                 None => Place::Run,
                 Some(_) => Place::Ring(p),
             },
@@ -75,13 +75,11 @@ fn join<L: Ledger>(arena: &Arena, entries: &mut Entries, x: NodeId, steps: &mut 
 {
     arena.layout_law();
     let view = arena.look(x, steps);
-    let near0 = view.near[0];
-    let near1 = view.near[1];
-    match place_of(view.parent, near0, near1) {
+    match place_of(&view) {
         Place::Top => Joined::Plain(Added::Top),
         Place::Run => {
-            let a = entries.beside(near0, x);
-            let b = entries.beside(near1, x);
+            let a = entries.beside(view.near[0], x);
+            let b = entries.beside(view.near[1], x);
             entries.fill(x);
             entries.note(x, view.parent);
             entries.link(a.end, b.end);

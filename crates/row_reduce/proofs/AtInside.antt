@@ -30,7 +30,7 @@ use Rattle.bubble_pass.specs.Pass.{node_in}
 use Rattle.bubble_pass.specs.Sweep.{IsRight}
 use Rattle.template_model.specs.Standing.{mark_of, child_trees, AreMarkedAs, AreShapesAt, IsInMarkedRun, IsReadyInside}
 use Rattle.template_model.specs.Treated.{IsReplacedAt, StandsForTree}
-use Rattle.template_model.proofs.Replaced.{child_used}
+use Rattle.arena_model.proofs.Slots.{child_used}
 use Rattle.row_reduce.specs.declared.template.Template.{Template}
 use Rattle.row_reduce.specs.declared.template.Template.TheVariants.{Q3}
 use Rattle.row_reduce.specs.Fits.{TemplateFits}
@@ -46,7 +46,8 @@ use Rattle.row_reduce.proofs.Answering.{ChildNow, ChildrenNow, children_built, m
 use Rattle.row_reduce.proofs.Stepping.{map_has}
 use Rattle.row_reduce.proofs.Applied.{AtStep, child_now, stands_now, same_size}
 use Rattle.row_reduce.proofs.Grounds.{is_empty, right_child, right_at, node_labelled, labelled_below, taken_at, once_at, above_labelled}
-use Rattle.row_reduce.proofs.Pertinent.{root_is, node_below_it}
+use Rattle.arena_model.proofs.Nodes.{root_is, node_below_it}
+use Rattle.row_model.proofs.Ascending.{row_within}
 use Rattle.row_reduce.proofs.AtRoot.{kids, kids_at, at_node, labels_up, outer_stands, exchanged}
 use Rattle.row_reduce.proofs.Ending.{replaced_whole}
 use Rattle.row_reduce.proofs.Kept.{once, another}
@@ -62,7 +63,7 @@ in_run s k = ap (λ z. occurs z k) s.found.run.kids_are ∙ omega (arith, occurs
 
 -- the Q-node holds the row, and none of its children does
 pub inside_least : {f : Layout} {v : Marks} {row : List ℕ} (s : AtFoundInside f v row) → IsPertinentRoot row (outline_at f) (outline_below f s.found.run.q)
-inside_least {f = f} {row = row} s = root_is f row run.q s.ground.layout s.ground.one s.ground.is_row s.ground.used run.holds no_child
+inside_least {f = f} {row = row} s = root_is f row run.q s.ground.layout s.ground.one (row_within f.columns row s.ground.is_row) s.ground.used run.holds no_child
   where
     run : Inside f (column_leaves row)
     run = s.found.run

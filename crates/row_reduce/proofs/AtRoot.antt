@@ -21,7 +21,8 @@ use Rattle.bubble_pass.specs.Pass.{IsRightAt, node_in}
 use Rattle.bubble_pass.specs.Sweep.{IsRight}
 use Rattle.template_model.specs.Standing.{mark_of, child_trees, AreShapesAt, IsReady}
 use Rattle.template_model.specs.Treated.{IsTreated, IsReplacedAt}
-use Rattle.template_model.proofs.Replaced.{join_paths, child_used}
+use Rattle.template_model.proofs.Replaced.{join_paths}
+use Rattle.arena_model.proofs.Slots.{child_used}
 use Rattle.row_reduce.specs.declared.template.Template.{Template}
 use Rattle.row_reduce.specs.Fits.{IsFit, IsChoice}
 use Rattle.row_reduce.specs.Becomes.{Becomes, Stands}
@@ -39,7 +40,8 @@ use Rattle.row_reduce.proofs.Answering.{ChildrenNow, map_fixed}
 use Rattle.row_reduce.proofs.Grounds.{is_empty, right_child, right_at, row_leaf, node_labelled, labelled_below, places_down, once_at, taken_at, child_done, done_labelled}
 use Rattle.row_reduce.proofs.Applied.{AtStep, children_now, stands_now, ready_at}
 use Rattle.row_reduce.proofs.Rooting.{RootMade, AtRoot, IsLeafIn, root_made}
-use Rattle.row_reduce.proofs.Pertinent.{root_is, node_below_it}
+use Rattle.arena_model.proofs.Nodes.{root_is, node_below_it}
+use Rattle.row_model.proofs.Ascending.{row_within}
 use Rattle.row_reduce.proofs.Ending.{IsExchanged, replaced_whole}
 
 -- labels of the children of a node of which the labelled ones have labels
@@ -94,7 +96,7 @@ kids_at {f = f} {v = v} {row = row} s i l below fits =
 
 -- the pertinent root holds the row, and no child of it does
 pub least : {f : Layout} {v : Marks} {row : List ℕ} {q : ℕ} → AtFoundRoot f v row q → IsPertinentRoot row (outline_at f) (outline_below f q)
-least {f = f} {row = row} {q = q} s = root_is f row q s.ground.layout s.ground.one s.ground.is_row s.ground.used s.found.root.holds
+least {f = f} {row = row} {q = q} s = root_is f row q s.ground.layout s.ground.one (row_within f.columns row s.ground.is_row) s.ground.used s.found.root.holds
     (λ k o h. no_circle f.slots q k (s.ground.layout.grounds q) o (s.found.root.least k h))
 
 pub first_leaf : (row : List ℕ) → row ≢ [] → (x : ℕ) × (1 ≤ occurs (column_leaves row) x)

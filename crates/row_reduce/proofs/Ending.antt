@@ -13,13 +13,13 @@ use Rattle.arena_model.specs.declared.Shape.{Shape}
 use Rattle.arena_model.specs.declared.Shape.TheVariants.{Leaf, P, Q}
 use Rattle.arena_model.specs.Layout.{Slot, Layout, slot, shape_at, children_at, times_child, IsInUse, IsLayout, IsAtOrAbove, here, down, MayHaveChildren}
 use Rattle.arena_model.specs.NamedTree.{IsAt, outline_below, outline_at}
-use Rattle.arena_model.proofs.Lists.{occurs_here, occurs_same, SplitAt, split_at, replaced_split}
-use Rattle.arena_model.proofs.Slots.{children_times}
+use Rattle.arena_model.proofs.Lists.{occurs_here, occurs_same, SplitAt, split_at, replaced_split, replaced_none}
+use Rattle.arena_model.proofs.Slots.{child_used, children_times}
 use Rattle.arena_model.proofs.Paths.{above_step, one_path}
 use Rattle.arena_model.proofs.Trees.{TreeAt, tree_at, at_same, reached, name_used, no_circle}
 use Rattle.arena_model.proofs.Outlines.{below_named, below_children, apart_children}
 use Rattle.template_model.specs.Treated.{IsOutside}
-use Rattle.template_model.proofs.Replaced.{replaced_none, child_used, outside_child, above_outside}
+use Rattle.template_model.proofs.Replaced.{outside_child, above_outside}
 
 -- a stands in h where q stands in f, and the nodes that are not at or below q are as they were but for that
 pub record IsExchanged (f h : Layout) (q a : ℕ) : Type 0 where

@@ -13,7 +13,8 @@ use Rattle.bubble_pass.specs.Marks.{Marks, label_at, size_of}
 use Rattle.bubble_pass.specs.Pass.{AreMarked, FoundRoot, FoundInside}
 use Rattle.bubble_pass.specs.Sweep.{IsRight}
 use Rattle.template_model.specs.Standing.{IsReady}
-use Rattle.template_model.proofs.Replaced.{join_paths, parent_used, below_used}
+use Rattle.arena_model.proofs.Slots.{parent_used}
+use Rattle.template_model.proofs.Replaced.{join_paths, below_used}
 use Rattle.row_reduce.specs.Ground.{IsGround}
 use Rattle.row_reduce.specs.Outcome.{AtFoundRoot, AtFoundInside}
 use Rattle.row_reduce.proofs.Grounds.{labelled_below, row_leaf_at}
@@ -31,7 +32,7 @@ pub record IsMarkedRow (f : Layout) (v : Marks) (row : List ℕ) : Type 0 where
 
 used_above : (f : Layout) (n x : ℕ) → IsLayout f → IsAtOrAbove f.slots n x → IsInUse f x → IsInUse f n
 used_above f _ _ h (here n) used = used
-used_above f _ _ h (down n k x o l) used = parent_used f n k h o
+used_above f _ _ h (down n k x o l) used = parent_used f n k o h
 
 ground_at : {f : Layout} {v : Marks} {row : List ℕ} → IsMarkedRow f v row → (q : ℕ) → IsInUse f q → AreMarked f (column_leaves row) v q → IsGround f v row q
 ground_at s q used marked = record { layout = s.layout; one = s.one; two = s.two; is_row = s.is_row; room = s.room; used = used; marked = marked }

@@ -2,7 +2,6 @@
 use Rattle.std.proofs.Common.{◌≡◌, ◌≢◌, ◌⊎◌, inl, inr, ℕ, zero, suc, ◌+◌, ◌≤◌, ◌<◌, List, [], ◌∷◌, length, take, get_or, Some, refl, sym, ap, subst, arith}
 use Rattle.std.proofs.lemmas.Bool.{cases_eq, cases_lt}
 use Rattle.column_order.specs.Orders.{occurs}
-use Rattle.column_order.proofs.Lists.{has_from_occurs}
 use Rattle.row_model.specs.Rows.{IsRow}
 use Rattle.row_model.proofs.Ascending.{row_within}
 use Rattle.arena_model.specs.ChildLists.{none}
@@ -22,7 +21,7 @@ use Rattle.bubble_pass.specs.Sweep.{IsRight}
 use Rattle.template_model.proofs.Replaced.{join_paths, below_used}
 use Rattle.row_reduce.specs.Ground.{IsGround}
 use Rattle.row_reduce.specs.Applying.{IsStanding}
-use Rattle.row_reduce.proofs.Leaves.{row_occurs}
+use Rattle.arena_model.proofs.Rows.{leaf_in_row}
 use Rattle.row_reduce.proofs.Marking.{AreRight}
 use Rattle.row_reduce.proofs.Answering.{meets_row}
 
@@ -61,11 +60,7 @@ right_at {f = f} {q = q} s n some ne =
 
 -- each number of a row is a leaf
 pub row_leaf_at : (f : Layout) (row : List ℕ) → IsLayout f → IsRow f.columns row → (x : ℕ) → 1 ≤ occurs (column_leaves row) x → (a : ℕ) × (shape_at f x ≡ Some (Leaf a))
-row_leaf_at f row layout is_row x o =
-    let e : occurs (column_leaves row) x ≡ occurs row (x + 1) = row_occurs f.columns 0 row x is_row in
-    let w = row_within f.columns row is_row (x + 1) (has_from_occurs row (x + 1) (omega arith)) in
-    let le : x + 1 ≤ f.columns = w.1 in
-    (x + 1, layout.leaves x (omega arith))
+row_leaf_at f row layout is_row x o = (x + 1, layout.leaves x (leaf_in_row f row x (row_within f.columns row is_row) o).0)
 
 pub row_leaf : {f : Layout} {v : Marks} {row : List ℕ} {q : ℕ} → IsGround f v row q → (x : ℕ) → 1 ≤ occurs (column_leaves row) x → (a : ℕ) × (shape_at f x ≡ Some (Leaf a))
 row_leaf {f = f} {row = row} s x o = row_leaf_at f row s.layout s.is_row x o

@@ -17,7 +17,7 @@ use Rattle.arena_model.specs.declared.Shape.TheVariants.{P}
 use Rattle.arena_model.specs.Layout.{Layout, children_at, IsInUse, IsLayout, IsAtOrAbove, here, down}
 use Rattle.arena_model.specs.NamedTree.{outline_below, outline_at, HasTwoEach}
 use Rattle.arena_model.proofs.Lists.{occurs_here}
-use Rattle.arena_model.proofs.Slots.{used_by}
+use Rattle.arena_model.proofs.Slots.{child_used, used_by}
 use Rattle.pq_arena.specs.declared.node.NodeId.{NodeId}
 use Rattle.pq_arena.specs.RowNodes.{column_leaves, indices}
 use Rattle.bubble_pass.specs.declared.labels.Label.TheVariants.{Full}
@@ -26,7 +26,7 @@ use Rattle.bubble_pass.specs.Sweep.{IsRight}
 use Rattle.full_pass.specs.Answer.{IsGroup}
 use Rattle.template_model.specs.Standing.{child_trees}
 use Rattle.template_model.specs.Treated.{IsReplacedAt, StandsForTree}
-use Rattle.template_model.proofs.Replaced.{child_used, join_paths}
+use Rattle.template_model.proofs.Replaced.{join_paths}
 use Rattle.templates_p.specs.Members.{AreMembers, member_labels}
 use Rattle.row_reduce.specs.Outcome.{IsOutcome}
 use Rattle.row_reduce.proofs.AtRoot.{first_leaf}
@@ -34,7 +34,8 @@ use Rattle.row_reduce.proofs.Ending.{replaced_whole}
 use Rattle.row_reduce.proofs.Kept.{IsAsked, full_is, full_meets, none_holds}
 use Rattle.row_reduce.proofs.Labelling.{below_p}
 use Rattle.row_reduce.proofs.Leaves.{empty_is}
-use Rattle.row_reduce.proofs.Pertinent.{root_is}
+use Rattle.arena_model.proofs.Nodes.{root_is}
+use Rattle.row_model.proofs.Ascending.{row_within}
 use Rattle.row_reduce.proofs.RowDone.{MetLaw, IsRowOver, row_over_arena, met_most, met_below, few_below}
 
 -- the full pass found a group of children of the P-node n
@@ -52,7 +53,7 @@ module _ (f : Layout) (row : List ℕ) (n : ℕ) (ms : List ℕ) (s : IsAsked f 
   full k o x a l e = g.below.filled k o x (a, e) l
 
   pub is_root : IsPertinentRoot row (outline_at f) (outline_below f n)
-  is_root = root_is f row n s.layout s.one s.is_row used
+  is_root = root_is f row n s.layout s.one (row_within f.columns row s.is_row) used
       (λ x o. let k = g.below.covers x o in down n k.0 x (g.child k.0 k.1) k.2)
       (none_holds s n ms g.two g.once (λ k o. (g.child k o, full k o)))
 
@@ -80,7 +81,7 @@ module _ (f : Layout) (row : List ℕ) (n : ℕ) (ms : List ℕ) (s : IsAsked f 
 
 asked : {f : Layout} {c : ℕ} {rows : List (List ℕ)} {k : ℕ} {row : List ℕ} → IsRowOver f c rows k row → HasTwoEach f → row_at rows k ≢ [] → IsAsked f (row_at rows k)
 asked {rows = rows} {k = k} s two some = let x = first_leaf (row_at rows k) some in
-    record { layout = s.layout; one = s.one; two = two; is_row = row_over_arena s; leaf = x.0; in_row = x.1 }
+    record { layout = s.layout; one = s.can.one; two = two; is_row = row_over_arena s; leaf = x.0; in_row = x.1 }
 
 -- the group, by another name of its list
 pub group_named : {f : Layout} {xs : List ℕ} {n : ℕ} {ms ks : List NodeId} → ms ≡ ks → IsGroup f xs n (indices ks) → IsGroup f xs n (indices ms)
@@ -99,7 +100,7 @@ pub group_total : {f : Layout} {c : ℕ} {rows : List (List ℕ)} {k : ℕ} {row
     s1 ≤ s0 + 8 * length (row_at rows k) → s2 ≡ s1 + 2 * length ms + 2 → s2 ≤ s0 + 256 * (nodes_met (row_at rows k) (outline_at f) + 1)
 group_total {f = f} {rows = rows} {k = k} law s two some n ms g few s0 s1 s2 x y =
     let a : length (indices ms) ≤ nodes_met (row_at rows k) (outline_at f) =
-    few_members f (row_at rows k) n (indices ms) (asked s two some) g f.root (nodes_met (row_at rows k) (outline_at f)) (s.one n (used_by f n P g.is_p)) (met_most law s) in
+    few_members f (row_at rows k) n (indices ms) (asked s two some) g f.root (nodes_met (row_at rows k) (outline_at f)) (s.can.one n (used_by f n P g.is_p)) (met_most law s) in
     let b : length (indices ms) ≡ length ms = length-map ms (λ m. m.index) in
     omega arith
 

@@ -15,7 +15,7 @@ use Rattle.arena_model.specs.declared.Shape.TheVariants.{Leaf, P, Q}
 use Rattle.arena_model.specs.Layout.{Layout, shape_at, children_at, times_child, IsGrounded, grounded, IsInUse, IsLayout, MayHaveChildren, IsAtOrAbove, here, down}
 use Rattle.arena_model.specs.NamedTree.{outline_below, outline_at, IsOneTree, HasTwoEach}
 use Rattle.arena_model.proofs.Lists.{occurs_here, occurs_same, only_one}
-use Rattle.arena_model.proofs.Slots.{children_times}
+use Rattle.arena_model.proofs.Slots.{child_used, children_times, parent_used}
 use Rattle.arena_model.proofs.Paths.{one_path}
 use Rattle.arena_model.proofs.Outlines.{apart_children}
 use Rattle.pq_arena.specs.RowNodes.{column_leaves}
@@ -25,11 +25,12 @@ use Rattle.bubble_pass.specs.Sweep.{IsRight}
 use Rattle.full_pass.specs.Answer.{IsRowKept, one_node, one_run, IsSettled}
 use Rattle.full_pass.specs.declared.settled.Settled.TheVariants.{Kept}
 use Rattle.template_model.specs.Standing.{child_trees}
-use Rattle.template_model.proofs.Replaced.{child_used, parent_used, stays}
+use Rattle.template_model.proofs.Replaced.{stays}
 use Rattle.row_reduce.proofs.Leaves.{LeafBelow, leaf_below, empty_is, full_leaf}
 use Rattle.row_reduce.proofs.RowLength.{leaf_used}
 use Rattle.row_reduce.proofs.Labelling.{below_p, below_q, below_leaf}
-use Rattle.row_reduce.proofs.Pertinent.{root_is}
+use Rattle.arena_model.proofs.Nodes.{root_is}
+use Rattle.row_model.proofs.Ascending.{row_within}
 use Rattle.row_reduce.proofs.Ending.{IsExchanged, replaced_whole}
 use Rattle.row_reduce.proofs.Blocks.{labels_for, block_labels, labels_each, labels_then, all_full_for, block_made}
 
@@ -69,7 +70,7 @@ full_is f row n h r used right = full_from f row n h r (h.grounds n) used right
 -- a node above one in use is in use
 top_used : (f : Layout) (n x : ℕ) → IsLayout f → IsAtOrAbove f.slots n x → IsInUse f x → IsInUse f n
 top_used f _ _ h (here n) used = used
-top_used f _ _ h (down n k x o l) used = parent_used f n k h o
+top_used f _ _ h (down n k x o l) used = parent_used f n k o h
 
 holder_used : {f : Layout} {row : List ℕ} → IsAsked f row → (n : ℕ) → Holds f (column_leaves row) n → IsInUse f n
 holder_used {f = f} {row = row} s n holds = top_used f n s.leaf s.layout (holds s.leaf s.in_row) (leaf_used f row s.leaf s.layout s.is_row s.in_row)
@@ -120,7 +121,7 @@ full_child f row n k right o = λ x a l e. right x a (down n k x o l) e
 stays_whole : {f : Layout} {row : List ℕ} → IsAsked f row → (q : ℕ) → IsInUse f q → Holds f (column_leaves row) q → ((k : ℕ) → 1 ≤ occurs (children_at f q) k → Holds f (column_leaves row) k → ⊥) →
     IsRootMade row (outline_below f q) (outline_below f q) → IsReduced row (outline_at f) (outline_at f)
 stays_whole {f = f} {row = row} s q used holds least made =
-    by_template (outline_below f q) (outline_below f q) (outline_at f) (root_is f row q s.layout s.one s.is_row used holds least) made (replaced_whole same (s.one q used)) (equivalent_refl (outline_at f))
+    by_template (outline_below f q) (outline_below f q) (outline_at f) (root_is f row q s.layout s.one (row_within f.columns row s.is_row) used holds least) made (replaced_whole same (s.one q used)) (equivalent_refl (outline_at f))
   where
     same : IsExchanged f f q q
     same = let r = stays f q s.layout s.one s.two used in record { f_layout = s.layout; h_layout = s.layout; used = used; root = r.root; outside = r.outside }

@@ -5,7 +5,7 @@ use Rattle.row_model.specs.Rows.{IsRow}
 use Rattle.pq_tree.specs.Outline.{Outline, Forest, leaf, p_node, q_node, no_tree, tree_and}
 use Rattle.pq_tree.specs.Forests.{forest}
 use Rattle.pq_tree.proofs.Turnings.{are_equivalent_refl}
-use Rattle.template_theory.specs.Templates.{Partial, Label, empty_label, full_label, partial_label, IsP3, IsP5, IsQ2, AreAllFull}
+use Rattle.template_theory.specs.Templates.{Partial, Label, empty_label, full_label, partial_label, IsP3, IsP5, IsQ2, AreAllFull, AreAllEmpty}
 use Rattle.template_theory.specs.Chosen.{IsLabelOfP, IsLabelOfQ, p_empty, by_p1, by_p3, by_p5, q_empty, by_q1, by_q2, IsRootOfP, IsRootOfQ, root_p1, root_p2, root_p4, root_p6, root_q1, root_q2, root_q3}
 use Rattle.template_theory.specs.Reduced.{IsLabel, AreLabels, IsTurned}
 use Rattle.template_theory.specs.Refused.{IsUnfit, IsUnfitRoot}
@@ -149,30 +149,38 @@ leaf_fits {f = f} {v = v} {row = row} {n = n} c a s = by (label_at v n) refl
         let y : 1 ≤ occurs (column_leaves row) o.0 = subst (λ z. 1 ≤ occurs (column_leaves row) z) (sym same) i.2 in
         absurd (omega arith)
 
+-- a labelled node has a labelled child
+not_empty : {f : Layout} {v : Marks} {row : List ℕ} {n : ℕ} {ps : List Label} → AtNode f v row n ps → ((a : ℕ) → shape_at f n ≡ Some (Leaf a) → ⊥) → AreAllEmpty (child_trees f n) ps → ⊥
+not_empty {f = f} {v = v} {row = row} {n = n} {ps = ps} c inner e =
+    not_all_empty f (column_leaves row) (label_at v) n c.layout c.two c.right inner c.leaves c.some (marked_at (label_at v) Empty (children_at f n) ps c.marked (empty_marks e refl refl))
+
 no_label_p : {f : Layout} {v : Marks} {row : List ℕ} {n : ℕ} {ps : List Label} → AtNode f v row n ps → IsChoice f v n false None → shape_at f n ≡ Some P →
     (x : Label) → IsLabelOfP (child_trees f n) ps x → ⊥
-no_label_p {f = f} {v = v} {row = row} {n = n} {ps = ps} c none s _ (p_empty e) =
-    not_all_empty f (column_leaves row) (label_at v) n c.layout c.two c.right (p_inner f n s) c.leaves c.some (marked_at (label_at v) Empty (children_at f n) ps c.marked (empty_marks e refl refl))
+no_label_p {f = f} {n = n} c none s _ (p_empty e) = not_empty c (p_inner f n s) e
 no_label_p {ps = ps} c none s _ (by_p1 x) = none P1 ps c.marked (s, x)
 no_label_p {ps = ps} c none s _ (by_p3 h x) = none P3 ps c.marked (s, (h, x))
 no_label_p {ps = ps} c none s _ (by_p5 h x) = none P5 ps c.marked (s, (h, x))
 
 no_label_q : {f : Layout} {v : Marks} {row : List ℕ} {n : ℕ} {ps : List Label} → AtNode f v row n ps → IsChoice f v n false None → shape_at f n ≡ Some Q →
     (x : Label) → IsLabelOfQ (child_trees f n) ps x → ⊥
-no_label_q {f = f} {v = v} {row = row} {n = n} {ps = ps} c none s _ (q_empty e) =
-    not_all_empty f (column_leaves row) (label_at v) n c.layout c.two c.right (q_inner f n s) c.leaves c.some (marked_at (label_at v) Empty (children_at f n) ps c.marked (empty_marks e refl refl))
+no_label_q {f = f} {n = n} c none s _ (q_empty e) = not_empty c (q_inner f n s) e
 no_label_q {ps = ps} c none s _ (by_q1 x) = none Q1 ps c.marked (s, x)
 no_label_q {ps = ps} c none s _ (by_q2 h x) = none Q2 ps c.marked (s, (h, x))
 
--- where no template stands at a labelled node below the root, its tree is unfit
-pub unfit : {f : Layout} {v : Marks} {row : List ℕ} {n : ℕ} {ps : List Label} → AtNode f v row n ps → IsChoice f v n false None → IsUnfit row (outline_below f n)
-unfit {f = f} {v = v} {row = row} {n = n} {ps = ps} c none = by (shape_at f n) refl
+-- what holds of the tree of a labelled node where no template stands: it is no leaf
+by_shape : {f : Layout} {v : Marks} {row : List ℕ} {n : ℕ} {ps : List Label} {root : Bool} → AtNode f v row n ps → IsChoice f v n root None → (R : Outline → Type 0) →
+    (shape_at f n ≡ Some P → R (p_node (child_trees f n))) → (shape_at f n ≡ Some Q → R (q_node (child_trees f n))) → R (outline_below f n)
+by_shape {f = f} {n = n} {ps = ps} c none R of_p of_q = by (shape_at f n) refl
   where
-    by : (o : Option Shape) → shape_at f n ≡ o → IsUnfit row (outline_below f n)
+    by : (o : Option Shape) → shape_at f n ≡ o → R (outline_below f n)
     by None e = absurd (c.right.used e)
     by (Some (Leaf a)) e = absurd (none L1 ps c.marked ((a, e), leaf_fits c a e))
-    by (Some P) e = subst (λ z. IsUnfit row z) (sym (below_p f n c.layout e)) (ps, c.labels, no_label_p c none e)
-    by (Some Q) e = subst (λ z. IsUnfit row z) (sym (below_q f n c.layout e)) (ps, c.labels, no_label_q c none e)
+    by (Some P) e = subst R (sym (below_p f n c.layout e)) (of_p e)
+    by (Some Q) e = subst R (sym (below_q f n c.layout e)) (of_q e)
+
+-- where no template stands at a labelled node below the root, its tree is unfit
+pub unfit : {f : Layout} {v : Marks} {row : List ℕ} {n : ℕ} {ps : List Label} → AtNode f v row n ps → IsChoice f v n false None → IsUnfit row (outline_below f n)
+unfit {row = row} {ps = ps} c none = by_shape c none (IsUnfit row) (λ e. (ps, c.labels, no_label_p c none e)) (λ e. (ps, c.labels, no_label_q c none e))
 
 no_root_p : {f : Layout} {v : Marks} {n : ℕ} (ps : List Label) → AreMarkedAs f v n ps → IsChoice f v n true None → shape_at f n ≡ Some P →
     (u : Outline) → IsRootOfP (child_trees f n) ps u → ⊥
@@ -189,13 +197,8 @@ no_root_q ps m none s _ (root_q3 u x) = none Q3 ps m (s, (u, x))
 
 -- where none stands at the root, the root is unfit
 pub unfit_root : {f : Layout} {v : Marks} {row : List ℕ} {n : ℕ} {ps : List Label} → AtNode f v row n ps → IsChoice f v n true None → IsUnfitRoot row (outline_below f n)
-unfit_root {f = f} {v = v} {row = row} {n = n} {ps = ps} c none = by (shape_at f n) refl
-  where
-    by : (o : Option Shape) → shape_at f n ≡ o → IsUnfitRoot row (outline_below f n)
-    by None e = absurd (c.right.used e)
-    by (Some (Leaf a)) e = absurd (none L1 ps c.marked ((a, e), leaf_fits c a e))
-    by (Some P) e = subst (λ z. IsUnfitRoot row z) (sym (below_p f n c.layout e)) (ps, c.labels, no_root_p ps c.marked none e)
-    by (Some Q) e = subst (λ z. IsUnfitRoot row z) (sym (below_q f n c.layout e)) (ps, c.labels, no_root_q ps c.marked none e)
+unfit_root {row = row} {ps = ps} c none =
+    by_shape c none (IsUnfitRoot row) (λ e. (ps, c.labels, no_root_p ps c.marked none e)) (λ e. (ps, c.labels, no_root_q ps c.marked none e))
 
 -- labels of the children, from one of each
 pub record Labels (f : Layout) (v : Marks) (row ks : List ℕ) : Type 0 where

@@ -1,10 +1,10 @@
 -- The leaves below a node, and the tree of a node that the row misses.
-use Rattle.std.proofs.Common.{◌≡◌, inl, inr, ℕ, ◌+◌, ◌-◌, ◌≤◌, ◌<◌, List, [], ◌∷◌, length, Option, Some, None, IsTrue, refl, sym, ap, subst, ◌∙◌, arith}
-use Rattle.std.proofs.lemmas.Bool.{cases_eq, cases_lt}
+use Rattle.std.proofs.Common.{◌≡◌, inl, inr, ℕ, ◌+◌, ◌≤◌, List, [], ◌∷◌, length, Option, Some, None, IsTrue, refl, sym, ap, subst, ◌∙◌, arith}
+use Rattle.std.proofs.lemmas.Bool.{cases_lt}
 use Rattle.column_order.specs.Orders.{occurs, has}
-use Rattle.column_order.proofs.Lists.{has_from_occurs, lacks_from_occurs, occurs-append}
-use Rattle.row_model.specs.Rows.{Ascends, IsRow}
-use Rattle.row_model.proofs.Ascending.{ascends_within}
+use Rattle.column_order.proofs.Lists.{lacks_from_occurs, occurs-append}
+use Rattle.row_model.specs.Rows.{IsRow}
+use Rattle.row_model.proofs.Ascending.{row_within}
 use Rattle.pq_tree.specs.Outline.{Forest}
 use Rattle.template_theory.specs.Templates.{Label, empty_label, AreAllEmpty, none_sorted, to_empty}
 use Rattle.template_theory.specs.Chosen.{p_empty, q_empty}
@@ -13,18 +13,14 @@ use Rattle.arena_model.specs.declared.Shape.{Shape}
 use Rattle.arena_model.specs.declared.Shape.TheVariants.{Leaf, P, Q}
 use Rattle.arena_model.specs.Layout.{Layout, shape_at, children_at, IsGrounded, grounded, IsInUse, IsLayout, IsAtOrAbove, here, down}
 use Rattle.arena_model.specs.NamedTree.{NamedTree, NamedTrees, named_tree, no_named, named_and, IsAt, AreAt, node_names, node_names_of, outline_named, outlines_named, outline_below, HasTwoEach}
-use Rattle.arena_model.proofs.Lists.{occurs_here, occurs_same, occurs_other}
+use Rattle.arena_model.proofs.Lists.{occurs_here}
 use Rattle.arena_model.proofs.Trees.{TreeAt, tree_at, reached}
 use Rattle.arena_model.proofs.Outlines.{below_tree}
 use Rattle.arena_model.specs.RowLeaves.{column_leaves}
-use Rattle.arena_model.proofs.Rows
+use Rattle.arena_model.proofs.Rows.{row_occurs, leaf_in_row}
 use Rattle.bubble_pass.specs.declared.labels.Label.TheVariants.{Empty, Full}
 use Rattle.bubble_pass.specs.Sweep.{IsRight}
-use Rattle.template_model.proofs.Replaced.{child_used}
-
--- a column of the row is one more than the number of its leaf
-pub row_occurs : (c low : ℕ) (row : List ℕ) (x : ℕ) → Ascends c low row → occurs (column_leaves row) x ≡ occurs row (x + 1)
-row_occurs c low row x h = Rows.row_occurs c row x (λ a k. let r = ascends_within c low a row h k in (omega (arith, r.0), r.1))
+use Rattle.arena_model.proofs.Slots.{child_used}
 
 -- a leaf below a node
 pub record LeafBelow (f : Layout) (n : ℕ) : Type 0 where
@@ -65,7 +61,7 @@ mutual
       let l = h.no_other_leaf n a (ap (λ c. c.shape) i.0) in
       let e : a ≡ n + 1 = l.0 in
       let z : occurs (column_leaves row) n ≡ 0 = miss n (occurs_here n (node_names_of ts)) in
-      let o : occurs row (n + 1) ≡ 0 = sym (row_occurs f.columns 0 row n r) ∙ z in
+      let o : occurs row (n + 1) ≡ 0 = sym (row_occurs f.columns row n (row_within f.columns row r)) ∙ z in
       inr (lacks_from_occurs row a (subst (λ y. occurs row y ≡ 0) (sym e) o), refl)
   empty_named f row (named_tree n P ts) h r i miss =
       let s : Empties row (outlines_named ts) = empties_named f row ts h r i.1 (λ x o. miss x (omega arith)) in
@@ -100,6 +96,4 @@ pub full_leaf : (f : Layout) (row : List ℕ) (n a : ℕ) → IsLayout f → IsR
 full_leaf f row n a h r e right =
     let l = h.no_other_leaf n a e in
     let q : a ≡ n + 1 = l.0 in
-    let o : 1 ≤ occurs (column_leaves row) n = right n a (here n) e in
-    let z : occurs (column_leaves row) n ≡ occurs row (n + 1) = row_occurs f.columns 0 row n r in
-    has_from_occurs row a (subst (λ y. 1 ≤ occurs row y) (sym q) (omega arith))
+    subst (λ y. IsTrue (has row y)) (sym q) (leaf_in_row f row n (row_within f.columns row r) (right n a (here n) e)).1

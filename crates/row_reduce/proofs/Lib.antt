@@ -7,7 +7,6 @@ pub mod Answering
 pub mod Grounds
 pub mod Applied
 pub mod Rooting
-pub mod Pertinent
 pub mod Ending
 pub mod Loops
 pub mod AtRoot

@@ -14,7 +14,7 @@ use Rattle.bubble_pass.specs.declared.labels.Label.{Label as Mark}
 use Rattle.bubble_pass.specs.declared.labels.Label.TheVariants.{Empty, Partial as Partly, Full}
 use Rattle.bubble_pass.specs.Sweep.{IsRight}
 use Rattle.template_model.specs.Standing.{mark_of}
-use Rattle.template_model.proofs.Replaced.{child_used}
+use Rattle.arena_model.proofs.Slots.{child_used}
 use Rattle.row_reduce.proofs.Leaves.{LeafBelow, leaf_below}
 
 -- each of the labels has this mark

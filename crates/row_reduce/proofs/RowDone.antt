@@ -1,5 +1,5 @@
 -- The row of a matrix over an arena.
-use Rattle.std.proofs.Common.{◌≡◌, ◌≢◌, ℕ, ◌+◌, ◌-◌, ◌*◌, ◌≤◌, ◌==◌, Bool, true, false, List, [], ◌∷◌, length, take, Some, IsTrue, refl, sym, ap, subst, ◌∙◌, arith, eq-eqb}
+use Rattle.std.proofs.Common.{◌≡◌, ◌≢◌, ℕ, ◌+◌, ◌-◌, ◌*◌, ◌≤◌, ◌==◌, Bool, true, false, List, [], ◌∷◌, length, Some, IsTrue, refl, sym, ap, subst, ◌∙◌, arith, eq-eqb}
 use Rattle.std.specs.Prelude.{slice_get}
 use Rattle.std.proofs.lemmas.Option.{get_or_from_slice_get}
 use Rattle.column_order.specs.Orders.{has}
@@ -13,11 +13,10 @@ use Rattle.pq_tree.specs.Outline.{Outline, leaves}
 use Rattle.pq_tree.proofs.Nodes.{holds_above, pertinent_root_is, pertinent_root_unique}
 use Rattle.pq_tree.specs.Proper.{IsProper}
 use Rattle.pq_tree.proofs.Turnings.{equivalent_refl}
-use Rattle.tied_law.specs.Tied.{IsTied}
 use Rattle.template_theory.specs.Reduced.{no_column}
 use Rattle.template_theory.specs.declared.reducer.Step.TheVariants.{Taken}
 use Rattle.arena_model.specs.Layout.{Layout, IsLayout, IsInUse}
-use Rattle.arena_model.specs.NamedTree.{IsOneTree, HasTwoEach, outline_at, outline_below}
+use Rattle.arena_model.specs.NamedTree.{HasTwoEach, outline_at, outline_below}
 use Rattle.arena_model.proofs.Lists.{few_once, occurs_here}
 use Rattle.arena_model.proofs.Slots.{in_range}
 use Rattle.pq_arena.specs.RowNodes.{column_leaves}
@@ -40,25 +39,12 @@ use Rattle.row_reduce.proofs.Taking.{AtRow}
 -- row k of a matrix over the columns of the arena, whose tree is tied to the rows before it
 pub record IsRowOver (f : Layout) (c : ℕ) (rows : List (List ℕ)) (k : ℕ) (row : List ℕ) : Type 0 where
   pub layout : IsLayout f
-  pub one : IsOneTree f
-  pub columns : f.columns ≡ c
-  pub proper : IsProper c (outline_at f)
-  pub within : (1 ≤ k) × (k ≤ length rows)
-  pub tied : IsTied c (take (k - 1) rows) (outline_at f)
+  pub can : CanTakeRow f c rows k
   pub at : slice_get rows (k - 1) ≡ Some row
   pub is_row : IsRow c row
 
 pub row_over : {f : Layout} {c : ℕ} {rows : List (List ℕ)} {k : ℕ} {row : List ℕ} → IsLayout f → CanTakeRow f c rows k → slice_get rows (k - 1) ≡ Some row → IsRow c row → IsRowOver f c rows k row
-row_over layout can at is_row = record {
-  layout = layout;
-  one = can.one;
-  columns = can.columns;
-  proper = can.proper;
-  within = can.within;
-  tied = can.tied;
-  at = at;
-  is_row = is_row;
-}
+row_over layout can at is_row = record { layout = layout; can = can; at = at; is_row = is_row }
 
 pub row_is : {f : Layout} {c : ℕ} {rows : List (List ℕ)} {k : ℕ} {row : List ℕ} → IsRowOver f c rows k row → row_at rows k ≡ row
 row_is {rows = rows} {k = k} {row = row} s = get_or_from_slice_get rows (k - 1) row [] s.at
@@ -67,7 +53,7 @@ is_row_at : {f : Layout} {c : ℕ} {rows : List (List ℕ)} {k : ℕ} {row : Lis
 is_row_at {c = c} s = subst (λ z. IsRow c z) (sym (row_is s)) s.is_row
 
 pub at_row : {f : Layout} {c : ℕ} {rows : List (List ℕ)} {k : ℕ} {row : List ℕ} → IsRowOver f c rows k row → AtRow c rows k (outline_at f)
-at_row s = record { within = s.within; is_row = is_row_at s; proper = s.proper; tied = s.tied }
+at_row s = record { within = s.can.within; is_row = is_row_at s; proper = s.can.proper; tied = s.can.tied }
 
 no_elements : (xs : List ℕ) → length xs ≡ 0 → xs ≡ []
 no_elements [] e = refl
@@ -75,7 +61,7 @@ no_elements (x ∷ xs) e = absurd (omega arith)
 
 -- an empty row leaves the tree as it is
 pub empty_taken : {f : Layout} {c : ℕ} {rows : List (List ℕ)} {k : ℕ} {row : List ℕ} → IsRowOver f c rows k row → length row ≡ 0 → IsOutcome (row_at rows k) f f Taken
-empty_taken {f = f} {row = row} s e = (no_column (row_is s ∙ no_elements row e) (equivalent_refl (outline_at f)), s.one, refl)
+empty_taken {f = f} {row = row} s e = (no_column (row_is s ∙ no_elements row e) (equivalent_refl (outline_at f)), s.can.one, refl)
 
 pub not_zero : (b : Bool) (n : ℕ) → b ≡ (n == 0) → b ≡ false → n ≡ 0 → ⊥
 not_zero b n e f z = let t : (n == 0) ≡ true = eq-eqb n 0 z in let w : false ≡ true = sym f ∙ e ∙ t in cc
@@ -87,9 +73,9 @@ pub marked_row : {f : Layout} {c : ℕ} {rows : List (List ℕ)} {k : ℕ} {row 
     IsMarkedRow f v (row_at rows k)
 marked_row {f = f} {rows = rows} {k = k} s v two some room = record {
   layout = s.layout;
-  one = s.one;
+  one = s.can.one;
   two = two;
-  is_row = subst (λ z. IsRow z (row_at rows k)) (sym s.columns) (is_row_at s);
+  is_row = subst (λ z. IsRow z (row_at rows k)) (sym s.can.columns) (is_row_at s);
   some = some;
   room = room;
 }
@@ -104,10 +90,10 @@ MetLaw = (f : Layout) (row : List ℕ) (n : ℕ) → IsLayout f → IsInUse f n 
 
 pub met_most : {f : Layout} {c : ℕ} {rows : List (List ℕ)} {k : ℕ} {row : List ℕ} → MetLaw → IsRowOver f c rows k row →
     AtMost f (column_leaves (row_at rows k)) f.root (nodes_met (row_at rows k) (outline_at f))
-met_most {f = f} {rows = rows} {k = k} law s = law f (row_at rows k) f.root s.layout s.layout.root_used (subst (λ z. IsRow z (row_at rows k)) (sym s.columns) (is_row_at s))
+met_most {f = f} {rows = rows} {k = k} law s = law f (row_at rows k) f.root s.layout s.layout.root_used (subst (λ z. IsRow z (row_at rows k)) (sym s.can.columns) (is_row_at s))
 
 pub row_over_arena : {f : Layout} {c : ℕ} {rows : List (List ℕ)} {k : ℕ} {row : List ℕ} → IsRowOver f c rows k row → IsRow f.columns (row_at rows k)
-row_over_arena {rows = rows} {k = k} s = subst (λ z. IsRow z (row_at rows k)) (sym s.columns) (is_row_at s)
+row_over_arena {rows = rows} {k = k} s = subst (λ z. IsRow z (row_at rows k)) (sym s.can.columns) (is_row_at s)
 
 first_column : (row : List ℕ) → row ≢ [] → (a : ℕ) × IsTrue (has row a)
 first_column [] n = absurd (n refl)
@@ -123,7 +109,7 @@ pertinent_is c row t x proper some r =
 pub met_below : {f : Layout} {c : ℕ} {rows : List (List ℕ)} {k : ℕ} {row : List ℕ} → MetLaw → IsRowOver f c rows k row → row_at rows k ≢ [] → (q : ℕ) → IsInUse f q →
     IsPertinentRoot (row_at rows k) (outline_at f) (outline_below f q) → AtMost f (column_leaves (row_at rows k)) q (nodes_met_below_root (row_at rows k) (outline_at f))
 met_below {f = f} {c = c} {rows = rows} {k = k} law s some q used r =
-    subst (λ z. AtMost f (column_leaves (row_at rows k)) q (nodes_met (row_at rows k) z)) (sym (pertinent_is c (row_at rows k) (outline_at f) (outline_below f q) s.proper some r))
+    subst (λ z. AtMost f (column_leaves (row_at rows k)) q (nodes_met (row_at rows k) z)) (sym (pertinent_is c (row_at rows k) (outline_at f) (outline_below f q) s.can.proper some r))
     (law f (row_at rows k) q s.layout used (row_over_arena s))
 
 pub root_below : {f : Layout} {v : Marks} {c : ℕ} {rows : List (List ℕ)} {k : ℕ} {row : List ℕ} {q : ℕ} → MetLaw → IsRowOver f c rows k row → AtFoundRoot f v (row_at rows k) q → (s0 s1 s2 : ℕ) →
@@ -158,11 +144,11 @@ inside_total {v = v} a s most s0 s1 s2 x y = let few : length v.nodes ≤ a = in
 -- a row that the full pass says to keep leaves the tree as it is
 pub kept_taken : {f : Layout} {c : ℕ} {rows : List (List ℕ)} {k : ℕ} {row : List ℕ} → IsRowOver f c rows k row → HasTwoEach f → (members : List ℕ) → IsSettled f (column_leaves (row_at rows k)) members Kept →
     IsOutcome (row_at rows k) f f Taken
-kept_taken {f = f} {rows = rows} {k = k} s two members settled = (kept_reduced f (row_at rows k) members s.layout s.one two (row_over_arena s) settled, s.one, refl)
+kept_taken {f = f} {rows = rows} {k = k} s two members settled = (kept_reduced f (row_at rows k) members s.layout s.can.one two (row_over_arena s) settled, s.can.one, refl)
 
 -- a row has no more columns than nodes that meet it
 pub few_columns : {f : Layout} {c : ℕ} {rows : List (List ℕ)} {k : ℕ} {row : List ℕ} → MetLaw → IsRowOver f c rows k row → length (row_at rows k) ≤ nodes_met (row_at rows k) (outline_at f)
-few_columns {f = f} {rows = rows} {k = k} law s = row_few f (row_at rows k) (nodes_met (row_at rows k) (outline_at f)) s.layout s.one (row_over_arena s) (met_most law s)
+few_columns {f = f} {rows = rows} {k = k} law s = row_few f (row_at rows k) (nodes_met (row_at rows k) (outline_at f)) s.layout s.can.one (row_over_arena s) (met_most law s)
 
 -- the steps of the full pass
 pub kept_total : {f : Layout} {c : ℕ} {rows : List (List ℕ)} {k : ℕ} {row : List ℕ} → MetLaw → IsRowOver f c rows k row → (s0 s1 : ℕ) → s1 ≤ s0 + 8 * length (row_at rows k) →
@@ -176,7 +162,7 @@ open_total law s s0 s1 s2 x y = omega (arith, few_columns law s)
 
 -- counted at and below the pertinent root
 pub few_below : {f : Layout} {c : ℕ} {rows : List (List ℕ)} {k : ℕ} {row : List ℕ} → IsRowOver f c rows k row → length (row_at rows k) ≤ nodes_met_below_root (row_at rows k) (outline_at f)
-few_below {f = f} {c = c} {rows = rows} {k = k} s = row_few_below c (row_at rows k) (outline_at f) (is_row_at s) s.proper
+few_below {f = f} {c = c} {rows = rows} {k = k} s = row_few_below c (row_at rows k) (outline_at f) (is_row_at s) s.can.proper
 
 pub kept_below : {f : Layout} {c : ℕ} {rows : List (List ℕ)} {k : ℕ} {row : List ℕ} → IsRowOver f c rows k row → (s0 s1 : ℕ) → s1 ≤ s0 + 8 * length (row_at rows k) →
     s1 ≤ s0 + 4 * length (row_at rows k) + 252 * (nodes_met_below_root (row_at rows k) (outline_at f) + 1)

@@ -14,7 +14,8 @@ use Rattle.arena_model.proofs.Paths.{above_ends, one_parent, at_once, by}
 use Rattle.bubble_pass.specs.Marks.{Marks}
 use Rattle.template_model.specs.Standing.{IsShapeAt}
 use Rattle.template_model.specs.Treated.{IsOutside, IsTreated}
-use Rattle.template_model.proofs.Replaced.{IsApart, apart_below, tree_same, slot_same, below_was, child_used}
+use Rattle.template_model.proofs.Replaced.{IsApart, apart_below, tree_same, slot_same, below_was}
+use Rattle.arena_model.proofs.Slots.{child_used}
 use Rattle.row_reduce.specs.Applying.{IsStanding, IsAnswered, placed, AreApplied}
 
 -- the nodes es are the nodes ds and n

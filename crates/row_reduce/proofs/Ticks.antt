@@ -1,12 +1,12 @@
 -- The labelled nodes have no more labelled children than there are labelled nodes.
-use Rattle.std.proofs.Common.{◌≡◌, ◌≢◌, ◌⊎◌, inl, inr, ℕ, ◌+◌, ◌*◌, ◌≤◌, List, [], ◌∷◌, ◌++◌, length, sum_by, refl, sym, ap, subst, arith}
+use Rattle.std.proofs.Common.{◌≡◌, ◌≢◌, ◌⊎◌, inl, inr, ℕ, ◌+◌, ◌*◌, ◌≤◌, List, [], ◌∷◌, ◌++◌, length, sum_by, refl, sym, subst, arith}
 use Rattle.std.proofs.lemmas.Bool.{cases_eq, cases_lt}
 use Rattle.std.proofs.lemmas.List.{length-append}
 use Rattle.std.proofs.lemmas.List.Sums.{sum_by-cons}
 use Rattle.column_order.specs.Orders.{occurs}
 use Rattle.column_order.proofs.Lists.{occurs-append}
 use Rattle.arena_model.specs.Layout.{Layout, children_at, times_child, IsLayout, IsAtOrAbove}
-use Rattle.arena_model.proofs.Lists.{occurs_here, occurs_same, occurs_other, SplitAt, split_at}
+use Rattle.arena_model.proofs.Lists.{occurs_here, occurs_same, occurs_other, shorter}
 use Rattle.arena_model.proofs.Slots.{children_times}
 use Rattle.arena_model.proofs.Paths.{one_parent}
 use Rattle.pq_arena.specs.RowNodes.{column_leaves}
@@ -22,25 +22,6 @@ use Rattle.row_reduce.specs.Decided.{labelled_at}
 use Rattle.row_reduce.proofs.Answering.{meets_row}
 use Rattle.row_reduce.proofs.Grounds.{labelled_below}
 use Rattle.template_model.proofs.Replaced.{below_used}
-
--- a list each of whose nodes stands in another as often is no longer
-pub shorter : (xs ys : List ℕ) → ((z : ℕ) → occurs xs z ≤ occurs ys z) → length xs ≤ length ys
-shorter [] ys less = omega arith
-shorter (x ∷ xs) ys less =
-    let here_in : 1 ≤ occurs ys x = (let a : occurs (x ∷ xs) x ≤ occurs ys x = less x in omega (arith, occurs_here x xs)) in
-    let s : SplitAt ys x = split_at ys x here_in in
-    let r : length xs ≤ length (s.us ++ s.vs) = shorter xs (s.us ++ s.vs) (λ z.
-    let a : occurs (x ∷ xs) z ≤ occurs ys z = less z in
-    let e : occurs ys z ≡ occurs (s.us ++ x ∷ s.vs) z = ap (λ w. occurs w z) s.is in
-    elim (cases_eq z x) [
-      | inl q ↦
-          let b : occurs (x ∷ xs) z ≡ 1 + occurs xs z = subst (λ w. occurs (w ∷ xs) z ≡ 1 + occurs xs z) q (occurs_same z xs) in
-          let d : occurs (x ∷ s.vs) z ≡ 1 + occurs s.vs z = subst (λ w. occurs (w ∷ s.vs) z ≡ 1 + occurs s.vs z) q (occurs_same z s.vs) in
-          omega (arith, occurs-append s.us s.vs z, occurs-append s.us (x ∷ s.vs) z)
-      | inr ne ↦ omega (arith, occurs-append s.us s.vs z, occurs-append s.us (x ∷ s.vs) z, occurs_other x z s.vs ne, occurs_other x z xs ne)
-    ]) in
-    let l : length ys ≡ length (s.us ++ x ∷ s.vs) = ap length s.is in
-    omega (arith, length-append s.us s.vs, length-append s.us (x ∷ s.vs))
 
 -- k before ks where it is labelled
 keep : Mark → ℕ → List ℕ → List ℕ

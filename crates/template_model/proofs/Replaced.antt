@@ -4,21 +4,14 @@ use Rattle.std.proofs.lemmas.Bool.{cases_eq, cases_lt, ne_eqb}
 use Rattle.column_order.specs.Orders.{occurs}
 use Rattle.arena_model.specs.ChildLists.{with_replaced}
 use Rattle.arena_model.specs.declared.Shape.TheVariants.{Leaf, P, Q}
-use Rattle.arena_model.specs.Layout.{Slot, Layout, slot, shape_at, children_at, times_child, IsInUse, IsAtOrAbove, here, down, IsLayout, MayHaveChildren}
+use Rattle.arena_model.specs.Layout.{Slot, Layout, slot, shape_at, children_at, IsInUse, IsAtOrAbove, here, down, IsLayout}
 use Rattle.arena_model.specs.NamedTree.{NamedTree, top_name, IsAt, outline_below, IsOneTree, HasTwoEach}
-use Rattle.arena_model.proofs.Lists.{occurs_here, occurs_other}
-use Rattle.arena_model.proofs.Slots.{children_times, some_none}
+use Rattle.arena_model.proofs.Lists.{occurs_here, occurs_other, replaced_none}
+use Rattle.arena_model.proofs.Slots.{some_none, child_used, parent_used}
 use Rattle.arena_model.proofs.Paths.{above_step, one_parent, above_ends, one_path, at_once, by}
 use Rattle.arena_model.proofs.Trees.{TreeAt, tree_at, at_same, reached, name_used, no_circle}
 use Rattle.arena_model.proofs.Outlines.{below_named, named_below}
 use Rattle.template_model.specs.Treated.{IsOutside, IsReplacedAt}
-
--- a list without n stays
-pub replaced_none : (xs : List ℕ) (n m : ℕ) → occurs xs n ≡ 0 → with_replaced xs n m ≡ xs
-replaced_none [] n m o = refl
-replaced_none (x ∷ xs) n m o =
-    let ne : x ≢ n = (λ e. let k : occurs (x ∷ xs) x ≡ 0 = subst (λ z. occurs (x ∷ xs) z ≡ 0) (sym e) o in omega (arith, occurs_here x xs)) in
-    ap (λ b. cond b m x ∷ with_replaced xs n m) (ne_eqb x n ne) ∙ ap (λ ys. x ∷ ys) (replaced_none xs n m (omega arith))
 
 -- n in the place of n
 pub replaced_self : (xs : List ℕ) (n : ℕ) → with_replaced xs n n ≡ xs
@@ -73,15 +66,6 @@ pub join_paths : (slots : List Slot) (a b c : ℕ) → IsAtOrAbove slots a b →
 join_paths slots _ _ c (here a) l = l
 join_paths slots _ _ c (down a k b o l) l' = down a k c o (join_paths slots k b c l l')
 
--- a node with a child is in use
-pub parent_used : (f : Layout) (m k : ℕ) → IsLayout f → 1 ≤ occurs (children_at f m) k → IsInUse f m
-parent_used f m k h o e =
-    let none : children_at f m ≡ [] = subst (λ z. MayHaveChildren z (children_at f m)) e (h.children_fit m) in
-    absurd (let z : 1 ≤ occurs [] k = subst (λ z. 1 ≤ occurs z k) none o in omega arith)
-
-pub child_used : (f : Layout) (m k : ℕ) → IsLayout f → 1 ≤ occurs (children_at f m) k → IsInUse f k
-child_used f m k h o = h.used k (let a : occurs (children_at f m) k ≤ times_child f.slots k = children_times f m k in omega arith)
-
 -- the path from a node in use stays in use
 pub below_used : (f : Layout) (m x : ℕ) → IsLayout f → IsInUse f m → IsAtOrAbove f.slots m x → IsInUse f x
 below_used f _ _ h used (here m) = used
@@ -98,7 +82,7 @@ outside_child f n m k h out o ne = (
 )
 
 pub outside_parent : (f : Layout) (n m k : ℕ) → IsLayout f → IsOutside f n k → 1 ≤ occurs (children_at f m) k → IsOutside f n m
-outside_parent f n m k h out o = (parent_used f m k h o, λ l. out.1 (above_step f.slots n m k l o))
+outside_parent f n m k h out o = (parent_used f m k o h, λ l. out.1 (above_step f.slots n m k l o))
 
 -- a node above n is an outer node
 pub above_outside : (f : Layout) (n m : ℕ) → IsLayout f → IsInUse f m → IsAtOrAbove f.slots m n → m ≢ n → IsOutside f n m
@@ -237,6 +221,6 @@ replaced_made f g n a h one two used r = record {
     to_a = elim (above_ends f.slots f.root n (one n used)) [
       | at_once e ↦ subst (λ z. IsAtOrAbove g.slots z a) (sym (r.root ∙ ap (λ b. cond b a f.root) (eq-eqb f.root n e))) (here a)
       | by p lp op ↦
-          let out : IsOutside f n p = (parent_used f p n h op, λ ln. no_circle f.slots p n (h.grounds p) op ln) in
+          let out : IsOutside f n p = (parent_used f p n op h, λ ln. no_circle f.slots p n (h.grounds p) op ln) in
           above_step g.slots g.root p a (to_outside p out) (subst (λ z. 1 ≤ occurs z a) (sym (r.outside p out).1) (replaced_new (children_at f p) n a op))
     ]

@@ -1,23 +1,14 @@
-use Rattle.std.proofs.Common.{◌≡◌, ℕ, ◌+◌, drop, List, arith, subst}
+use Rattle.std.proofs.Common.{◌≡◌, ℕ, ◌+◌, drop, List, arith}
 use Rattle.row_model.proofs.Ascending.{row_within}
 use Rattle.arena_model.specs.RowLeaves.{column_leaves}
-use Rattle.arena_model.proofs.Rows.{column_in, leaves_length}
+use Rattle.arena_model.proofs.Rows.{column_in}
 use Rattle.full_pass.specs.Tallies.{full_in, hits_in}
-use Rattle.full_pass.specs.Passing.{Pass, IsLast}
-use Rattle.full_pass.proofs.Columns.{row_leaves, rest_none}
-use Rattle.full_pass.proofs.Going.{start, settled, root_kept, none_counted, next_waits, risen_pass, risen_last}
+use Rattle.full_pass.proofs.Going.{counting_begun, counting_on, settled_at_end, root_kept, next_waits}
 use Rattle.full_pass.proofs.count.count.Goals as goal
 
 pub loop-column-init : goal.loop-column-init
 loop-column-init g c = record {
-  counting = record {
-    counted = none_counted c.args.arena.now c.args.labels.now c.args.tallies.now c.args.stamp c.requires.ready c.requires.full c.requires.hits;
-    pass = subst (λ z. Pass c.args.arena.now (column_leaves c.args.row.now) (full_in c.args.labels.now c.args.stamp) (hits_in c.args.tallies.now c.args.stamp) (column_leaves c.args.row.now) z)
-        (leaves_length c.args.row.now)
-        (start c.args.arena.now (column_leaves c.args.row.now) (full_in c.args.labels.now c.args.stamp) (hits_in c.args.tallies.now c.args.stamp) c.layout_law.ensures
-        (row_leaves c.args.arena.now c.args.row.now c.layout_law.ensures c.requires.tree c.requires.row) c.requires.full c.requires.hits);
-    answer = tt;
-  };
+  counting = counting_begun c.args.arena.now c.args.row.now c.args.labels.now c.args.tallies.now c.args.stamp c.layout_law.ensures c.requires.tree c.requires.row c.requires.ready c.requires.full c.requires.hits;
   ticks = omega arith;
 }
 
@@ -37,7 +28,7 @@ climb-requires-clause-waits g c = record {
 
 pub returns-in-None-clause-settled : goal.returns-in-None-clause-settled
 returns-in-None-clause-settled g c =
-    root_kept c.args.arena.now (column_leaves c.args.row.now) (row_leaves c.args.arena.now c.args.row.now c.layout_law.ensures c.requires.tree c.requires.row)
+    root_kept c.args.arena.now c.args.row.now c.layout_law.ensures c.requires.tree c.requires.row
     (c.in-None.ensures.risen (column_leaves c.args.row.now) (column_leaves (drop (c.loop-column.column-index + 1) c.args.row.now))
     (next_waits c.args.arena.now c.args.row.now (full_in c.loop-column.labels c.args.stamp) (hits_in c.loop-column.tallies c.args.stamp) c.loop-column.column-index c.loop-column.parts c.leaf.result.index
     c.layout_law.ensures c.leaf.ensures c.loop-column-test.true c.loop-column.invariant.counting.pass))
@@ -45,23 +36,16 @@ returns-in-None-clause-settled g c =
 pub loop-column-preserved : goal.loop-column-preserved
 loop-column-preserved g c =
     let rest : List ℕ = column_leaves (drop (c.loop-column.column-index + 1) c.args.row.now) in
-    let risen = c.in-Some.ensures.risen (column_leaves c.args.row.now) rest
-    (next_waits c.args.arena.now c.args.row.now (full_in c.loop-column.labels c.args.stamp) (hits_in c.loop-column.tallies c.args.stamp) c.loop-column.column-index c.loop-column.parts c.leaf.result.index
-    c.layout_law.ensures c.leaf.ensures c.loop-column-test.true c.loop-column.invariant.counting.pass) in
     record {
-      counting = record {
-        counted = c.in-Some.ensures.counted;
-        pass = risen_pass c.args.arena.now (column_leaves c.args.row.now) (full_in c.climb.new.labels c.args.stamp) (hits_in c.climb.new.tallies c.args.stamp) rest c.climb.new.parts c.in-Some.settled risen;
-        answer = risen_last c.args.arena.now (column_leaves c.args.row.now) (full_in c.climb.new.labels c.args.stamp) (hits_in c.climb.new.tallies c.args.stamp) rest c.climb.new.parts c.in-Some.settled risen;
-      };
+      counting = counting_on c.args.arena.now (column_leaves c.args.row.now) c.climb.new.labels c.climb.new.tallies c.args.stamp rest c.climb.new.parts c.in-Some.settled c.in-Some.ensures.counted
+          (c.in-Some.ensures.risen (column_leaves c.args.row.now) rest
+          (next_waits c.args.arena.now c.args.row.now (full_in c.loop-column.labels c.args.stamp) (hits_in c.loop-column.tallies c.args.stamp) c.loop-column.column-index c.loop-column.parts c.leaf.result.index
+          c.layout_law.ensures c.leaf.ensures c.loop-column-test.true c.loop-column.invariant.counting.pass));
       ticks = omega (arith, c.loop-column.invariant.ticks, c.in-Some.ensures.ticks);
     }
 
 pub returns-then-parts-eq1-clause-settled : goal.returns-then-parts-eq1-clause-settled
 returns-then-parts-eq1-clause-settled g c =
-    settled c.args.arena.now (column_leaves c.args.row.now) (full_in c.loop-column.labels c.args.stamp) c.loop-column.tallies c.args.stamp c.loop-column.parts c.loop-column.last
-    c.layout_law.ensures (row_leaves c.args.arena.now c.args.row.now c.layout_law.ensures c.requires.tree c.requires.row)
-    (let one : c.loop-column.parts ≡ 1 = c.if-parts-eq1.true in omega arith)
-    c.loop-column.invariant.counting.counted.chains
-    (subst (λ z. IsLast c.args.arena.now (column_leaves c.args.row.now) (full_in c.loop-column.labels c.args.stamp) (hits_in c.loop-column.tallies c.args.stamp) z c.loop-column.parts c.loop-column.last)
-    (rest_none c.args.row.now c.loop-column.column-index c.loop-column-test.false) c.loop-column.invariant.counting.answer)
+    settled_at_end c.args.arena.now c.args.row.now (full_in c.loop-column.labels c.args.stamp) c.loop-column.tallies c.args.stamp c.loop-column.column-index c.loop-column.parts c.loop-column.last
+    c.layout_law.ensures c.requires.tree c.requires.row c.loop-column-test.false
+    (let one : c.loop-column.parts ≡ 1 = c.if-parts-eq1.true in omega arith) c.loop-column.invariant.counting.counted.chains c.loop-column.invariant.counting.answer

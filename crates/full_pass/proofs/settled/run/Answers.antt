@@ -1,23 +1,15 @@
-use Rattle.std.proofs.Common.{◌≡◌, ℕ, ◌+◌, length, drop, List, arith, subst}
+use Rattle.std.proofs.Common.{◌≡◌, ℕ, ◌+◌, length, drop, List, arith}
 use Rattle.row_model.proofs.Ascending.{row_within}
 use Rattle.arena_model.specs.RowLeaves.{column_leaves}
-use Rattle.arena_model.proofs.Rows.{column_in, leaves_length}
+use Rattle.arena_model.proofs.Rows.{column_in}
 use Rattle.full_pass.specs.Entries.{is_full, hits}
-use Rattle.full_pass.specs.Passing.{Pass, IsLast}
-use Rattle.full_pass.proofs.Columns.{row_leaves, rest_none}
-use Rattle.full_pass.proofs.Going.{start, settled, root_kept, none_linked, next_waits, risen_pass, risen_last}
+use Rattle.full_pass.proofs.Going.{going_begun, going_on, settled_at_end, root_kept, next_waits}
 use Rattle.full_pass.proofs.settled.run.Goals as goal
 
 pub loop-column-init : goal.loop-column-init
 loop-column-init g c = record {
-  going = record {
-    linked = none_linked c.args.arena.now c.begin.new.self (c.begin.ensures.ready (length c.args.arena.now.slots) c.requires.ready) c.begin.ensures.full c.begin.ensures.hits;
-    pass = subst (λ z. Pass c.args.arena.now (column_leaves c.args.row.now) (is_full c.begin.new.self) (hits c.begin.new.self) (column_leaves c.args.row.now) z)
-        (leaves_length c.args.row.now)
-        (start c.args.arena.now (column_leaves c.args.row.now) (is_full c.begin.new.self) (hits c.begin.new.self) c.layout_law.ensures
-        (row_leaves c.args.arena.now c.args.row.now c.layout_law.ensures c.requires.tree c.requires.fits) c.begin.ensures.full c.begin.ensures.hits);
-    answer = tt;
-  };
+  going = going_begun c.args.arena.now c.args.row.now c.begin.new.self c.layout_law.ensures c.requires.tree c.requires.fits
+      (c.begin.ensures.ready (length c.args.arena.now.slots) c.requires.ready) c.begin.ensures.full c.begin.ensures.hits;
   ticks = omega arith;
 }
 
@@ -38,7 +30,7 @@ rise-requires g c = record {
 
 pub returns-in-None-clause-settled : goal.returns-in-None-clause-settled
 returns-in-None-clause-settled g c =
-    root_kept c.args.arena.now (column_leaves c.args.row.now) (row_leaves c.args.arena.now c.args.row.now c.layout_law.ensures c.requires.tree c.requires.fits)
+    root_kept c.args.arena.now c.args.row.now c.layout_law.ensures c.requires.tree c.requires.fits
     (c.in-None.ensures.risen (column_leaves c.args.row.now) (column_leaves (drop (c.loop-column.column-index + 1) c.args.row.now))
     (next_waits c.args.arena.now c.args.row.now (is_full c.loop-column.entries) (hits c.loop-column.entries) c.loop-column.column-index c.loop-column.parts c.leaf.result.index
     c.layout_law.ensures c.leaf.ensures c.loop-column-test.true c.loop-column.invariant.going.pass))
@@ -46,23 +38,16 @@ returns-in-None-clause-settled g c =
 pub loop-column-preserved : goal.loop-column-preserved
 loop-column-preserved g c =
     let rest : List ℕ = column_leaves (drop (c.loop-column.column-index + 1) c.args.row.now) in
-    let risen = c.in-Some.ensures.risen (column_leaves c.args.row.now) rest
-    (next_waits c.args.arena.now c.args.row.now (is_full c.loop-column.entries) (hits c.loop-column.entries) c.loop-column.column-index c.loop-column.parts c.leaf.result.index
-    c.layout_law.ensures c.leaf.ensures c.loop-column-test.true c.loop-column.invariant.going.pass) in
     record {
-      going = record {
-        linked = c.in-Some.ensures.linked;
-        pass = risen_pass c.args.arena.now (column_leaves c.args.row.now) (is_full c.rise.new.entries) (hits c.rise.new.entries) rest c.rise.new.parts c.in-Some.settled risen;
-        answer = risen_last c.args.arena.now (column_leaves c.args.row.now) (is_full c.rise.new.entries) (hits c.rise.new.entries) rest c.rise.new.parts c.in-Some.settled risen;
-      };
+      going = going_on c.args.arena.now (column_leaves c.args.row.now) c.rise.new.entries rest c.rise.new.parts c.in-Some.settled c.in-Some.ensures.linked
+          (c.in-Some.ensures.risen (column_leaves c.args.row.now) rest
+          (next_waits c.args.arena.now c.args.row.now (is_full c.loop-column.entries) (hits c.loop-column.entries) c.loop-column.column-index c.loop-column.parts c.leaf.result.index
+          c.layout_law.ensures c.leaf.ensures c.loop-column-test.true c.loop-column.invariant.going.pass));
       ticks = omega (arith, c.loop-column.invariant.ticks, c.in-Some.ensures.ticks);
     }
 
 pub returns-then-parts-eq1-clause-settled : goal.returns-then-parts-eq1-clause-settled
 returns-then-parts-eq1-clause-settled g c =
-    settled c.args.arena.now (column_leaves c.args.row.now) (is_full c.loop-column.entries) c.loop-column.entries.tallies.items c.loop-column.entries.stamp c.loop-column.parts c.loop-column.last c.layout_law.ensures
-    (row_leaves c.args.arena.now c.args.row.now c.layout_law.ensures c.requires.tree c.requires.fits)
-    (let one : c.loop-column.parts ≡ 1 = c.if-parts-eq1.true in omega arith)
-    c.loop-column.invariant.going.linked.chains
-    (subst (λ z. IsLast c.args.arena.now (column_leaves c.args.row.now) (is_full c.loop-column.entries) (hits c.loop-column.entries) z c.loop-column.parts c.loop-column.last)
-    (rest_none c.args.row.now c.loop-column.column-index c.loop-column-test.false) c.loop-column.invariant.going.answer)
+    settled_at_end c.args.arena.now c.args.row.now (is_full c.loop-column.entries) c.loop-column.entries.tallies.items c.loop-column.entries.stamp c.loop-column.column-index c.loop-column.parts c.loop-column.last
+    c.layout_law.ensures c.requires.tree c.requires.fits c.loop-column-test.false
+    (let one : c.loop-column.parts ≡ 1 = c.if-parts-eq1.true in omega arith) c.loop-column.invariant.going.linked.chains c.loop-column.invariant.going.answer

@@ -1,9 +1,10 @@
 use Rattle.std.proofs.Common.{sym, ◌∙◌, arith}
 use Rattle.bubble_pass.proofs.Turns.{queue_read}
-use Rattle.bubble_pass.proofs.Ending.{end_queued, end_one, end_some, run_begun, grow_first, grow_second, whole_begun, whole_inside, whole_left, whole_flat, queued_left, parked_left, flat_one, queued_only, parked_only}
+use Rattle.bubble_pass.proofs.Ending.{Whole, end_queued, end_one, end_some, run_begun, grow_first, grow_second, whole_begun, whole_inside, whole_left, whole_flat, queued_left, parked_left, flat_one, queued_only, parked_only}
 use Rattle.bubble_pass.proofs.Walks.{less_parked}
 use Rattle.bubble_pass.proofs.Splits.{top_apart, whole_apart, blocked_of}
 use Rattle.bubble_pass.proofs.climber.Climber.end.Goals as goal
+use Rattle.bubble_pass.proofs.climber.Climber.end.Goals.{After-grow-2}
 
 pub returns-then-self-clause-end : goal.returns-then-self-clause-end
 returns-then-self-clause-end g c =
@@ -40,12 +41,17 @@ grow-requires-2 g c =
           c.layout_law.ensures c.look-view.ensures.shows t c.grow.ensures.grown,
     )
 
-pub returns-then-self-eq0 : goal.returns-then-self-eq0
-returns-then-self-eq0 g c =
-    let w = whole_begun c.args.arena.now g.leaves c.args.self.now c.set_stage.new.self c.grow.new.self c.grow-2.new.self c.first_parked-y.result c.look-view.result c.look-view.new.steps c.grow.new.steps c.grow-2.new.steps
+-- the run has grown on both sides of the node
+whole : (g : _) (c : After-grow-2 g) → Whole c.args.arena.now g.leaves c.args.self.now c.grow-2.new.self c.first_parked-y.result.index
+whole g c =
+    whole_begun c.args.arena.now g.leaves c.args.self.now c.set_stage.new.self c.grow.new.self c.grow-2.new.self c.first_parked-y.result c.look-view.result c.look-view.new.steps c.grow.new.steps c.grow-2.new.steps
     c.layout_law.ensures c.requires.1.0 c.requires.1.1.1.0 c.if-self.false
     (blocked_of c.args.self.now.stages.items c.first_parked-y.result.index c.stage_of.result c.first_parked-y.ensures c.stage_of.ensures c.in_default.not-Top)
-    c.look-view.ensures.shows c.set_stage.ensures.staged c.set_stage.ensures.parked c.grow.ensures.grown c.grow-2.ensures.grown in
+    c.look-view.ensures.shows c.set_stage.ensures.staged c.set_stage.ensures.parked c.grow.ensures.grown c.grow-2.ensures.grown
+
+pub returns-then-self-eq0 : goal.returns-then-self-eq0
+returns-then-self-eq0 g c =
+    let w = whole g (goal.at.returns-then-self-eq0 g c).After-grow-2 in
     record {
       end = whole_inside c.args.arena.now g.leaves c.args.self.now c.grow-2.new.self c.first_parked-y.result.index c.layout_law.ensures c.requires.1.0 c.if-self.false c.if-self-eq1.false c.requires.1.1.1.0 w c.if-self-eq0.true;
       kept = c.grow-2.ensures.grown.growing.can.kept;
@@ -56,10 +62,7 @@ returns-then-self-eq0 g c =
 
 pub returns-else-self-eq0 : goal.returns-else-self-eq0
 returns-else-self-eq0 g c =
-    let w = whole_begun c.args.arena.now g.leaves c.args.self.now c.set_stage.new.self c.grow.new.self c.grow-2.new.self c.first_parked-y.result c.look-view.result c.look-view.new.steps c.grow.new.steps c.grow-2.new.steps
-    c.layout_law.ensures c.requires.1.0 c.requires.1.1.1.0 c.if-self.false
-    (blocked_of c.args.self.now.stages.items c.first_parked-y.result.index c.stage_of.result c.first_parked-y.ensures c.stage_of.ensures c.in_default.not-Top)
-    c.look-view.ensures.shows c.set_stage.ensures.staged c.set_stage.ensures.parked c.grow.ensures.grown c.grow-2.ensures.grown in
+    let w = whole g (goal.at.returns-else-self-eq0 g c).After-grow-2 in
     record {
       end = whole_apart c.args.arena.now g.leaves c.args.self.now c.grow-2.new.self c.first_parked-y.result.index c.layout_law.ensures c.requires.1.0 c.requires.1.1.0 c.requires.1.1.1.0 c.if-self.false w c.if-self-eq0.false;
       kept = c.grow-2.ensures.grown.growing.can.kept;
