@@ -7,26 +7,38 @@ use pq_io::{MemSink, NoMemory, RealShelf};
 use std::alloc::Global;
 use std::test::Fail;
 
-// What is run over these files, and what it leaves: the status, the text, and the line of what stood in its way.
+// What a run leaves: the status, the text, and the line of what stood in its way.
 #[derive(Clone, Copy)]
-struct Row<'a> {
-    what: &'a str,
-    words: &'a [&'a str],
-    files: Playing<'a>,
+struct Left<'a> {
     status: u8,
     out: &'a [u8],
     err: &'a [u8],
 }
 
+// What is told of a run, its words, the first file, the second and standard input, and what it leaves.
+type Row<'a> = (
+    &'a str,
+    &'a [&'a str],
+    Script<'a>,
+    Script<'a>,
+    Script<'a>,
+    Left<'a>,
+);
+
 // Whether a row leaves what it should.
-fn is_left(alloc: Global, row: Row<'_>) -> Result<bool, NoMemory> {
-    let texts = texts_of(alloc, row.words)?;
-    let mut files = RealShelf::new(row.files);
+fn is_left(alloc: Global, row: &Row<'_>) -> Result<bool, NoMemory> {
+    let (_, words, first, second, input, left) = *row;
+    let texts = texts_of(alloc, words)?;
+    let mut files = RealShelf::new(Playing {
+        first,
+        second,
+        input,
+    });
     let (mut out, mut err) = (MemSink::new(alloc), MemSink::new(alloc));
     out.reserve(1000)?;
     err.reserve(1000)?;
     let status = run(alloc, &texts, &mut files, &mut out, &mut err);
-    Ok(status == row.status && out.bytes() == row.out && err.bytes() == row.err)
+    Ok(status == left.status && out.bytes() == left.out && err.bytes() == left.err)
 }
 
 const SOLVE: &[&str] = &["solve", "matrix", "first"];
@@ -36,9 +48,29 @@ const CHECK: &[&str] = &["check", "matrix", "first", "second"];
 const ANSWER: &[u8] =
     b"pq-verdict 2\nkind matrix\ncolumns 3\nanswer yes\ntree [1 2 3]\norder 1 2 3\nend\n";
 
-const READ_FAULT: &[u8] = b"pq: read fault\n";
+const SOLVED: Left<'static> = Left {
+    status: 0,
+    out: ANSWER,
+    err: b"",
+};
 
-const NO_MEMORY: &[u8] = b"pq: no memory\n";
+const VALID: Left<'static> = Left {
+    status: 0,
+    out: b"valid\n",
+    err: b"",
+};
+
+const UNREAD: Left<'static> = Left {
+    status: 4,
+    out: b"",
+    err: b"pq: read fault\n",
+};
+
+const NO_MEMORY: Left<'static> = Left {
+    status: 6,
+    out: b"",
+    err: b"pq: no memory\n",
+};
 
 const NONE: Script<'static> = Script {
     bytes: b"",
@@ -84,292 +116,191 @@ const BREAKS_OFF: Script<'static> = Script {
 };
 
 const ONE_FILE: &[Row<'static>] = &[
-    Row {
-        what: "a file at once",
-        words: SOLVE,
-        files: Playing {
-            first: CHAIN,
-            second: NONE,
-            input: NONE,
+    ("a file at once", SOLVE, CHAIN, NONE, NONE, SOLVED),
+    ("a file in pieces", SOLVE, IN_PIECES, NONE, NONE, SOLVED),
+    (
+        "standard input in pieces",
+        &["solve", "matrix", "-"],
+        NONE,
+        NONE,
+        IN_PIECES,
+        SOLVED,
+    ),
+    (
+        "nothing is read behind the end",
+        SOLVE,
+        Script {
+            bytes: CHAIN_BYTES,
+            steps: &[Step::UpTo(8), Step::UpTo(1), Step::Fault],
         },
-        status: 0,
-        out: ANSWER,
-        err: b"",
-    },
-    Row {
-        what: "a file in pieces",
-        words: SOLVE,
-        files: Playing {
-            first: IN_PIECES,
-            second: NONE,
-            input: NONE,
+        NONE,
+        NONE,
+        SOLVED,
+    ),
+    (
+        "a refused file in pieces",
+        SOLVE,
+        Script {
+            bytes: b"110\n02",
+            steps: &[Step::UpTo(4)],
         },
-        status: 0,
-        out: ANSWER,
-        err: b"",
-    },
-    Row {
-        what: "standard input in pieces",
-        words: &["solve", "matrix", "-"],
-        files: Playing {
-            first: NONE,
-            second: NONE,
-            input: IN_PIECES,
+        NONE,
+        NONE,
+        Left {
+            status: 3,
+            out: b"",
+            err: b"pq: refused 1 code 2 line 2\n",
         },
-        status: 0,
-        out: ANSWER,
-        err: b"",
-    },
-    Row {
-        what: "nothing is read behind the end",
-        words: SOLVE,
-        files: Playing {
-            first: Script {
-                bytes: CHAIN_BYTES,
-                steps: &[Step::UpTo(8), Step::UpTo(1), Step::Fault],
-            },
-            second: NONE,
-            input: NONE,
-        },
-        status: 0,
-        out: ANSWER,
-        err: b"",
-    },
-    Row {
-        what: "a refused file in pieces",
-        words: SOLVE,
-        files: Playing {
-            first: Script {
-                bytes: b"110\n02",
-                steps: &[Step::UpTo(4)],
-            },
-            second: NONE,
-            input: NONE,
-        },
-        status: 3,
-        out: b"",
-        err: b"pq: refused 1 code 2 line 2\n",
-    },
+    ),
 ];
 
-const UNREAD: &[Row<'static>] = &[
-    Row {
-        what: "a fault behind the last byte",
-        words: SOLVE,
-        files: Playing {
-            first: Script {
-                bytes: CHAIN_BYTES,
-                steps: &[Step::UpTo(8), Step::Fault],
-            },
-            second: NONE,
-            input: NONE,
+const NOT_READ: &[Row<'static>] = &[
+    (
+        "a fault behind the last byte",
+        SOLVE,
+        Script {
+            bytes: CHAIN_BYTES,
+            steps: &[Step::UpTo(8), Step::Fault],
         },
-        status: 4,
-        out: b"",
-        err: READ_FAULT,
-    },
-    Row {
-        what: "a fault of standard input",
-        words: &["solve", "matrix", "-"],
-        files: Playing {
-            first: NONE,
-            second: NONE,
-            input: FAILS,
-        },
-        status: 4,
-        out: b"",
-        err: READ_FAULT,
-    },
-    Row {
-        what: "no file of this name",
-        words: &["solve", "matrix", "third"],
-        files: Playing {
-            first: CHAIN,
-            second: CHAIN,
-            input: CHAIN,
-        },
-        status: 4,
-        out: b"",
-        err: READ_FAULT,
-    },
-    Row {
-        what: "no second file of this name",
-        words: &["check", "matrix", "first", "third"],
-        files: Playing {
-            first: CHAIN,
-            second: VERDICT,
-            input: VERDICT,
-        },
-        status: 4,
-        out: b"",
-        err: READ_FAULT,
-    },
-    Row {
-        what: "an opening without memory",
-        words: &["solve", "matrix", "unopened"],
-        files: Playing {
-            first: CHAIN,
-            second: CHAIN,
-            input: CHAIN,
-        },
-        status: 6,
-        out: b"",
-        err: NO_MEMORY,
-    },
-    Row {
-        what: "a second opening without memory",
-        words: &["check", "matrix", "first", "unopened"],
-        files: Playing {
-            first: CHAIN,
-            second: VERDICT,
-            input: VERDICT,
-        },
-        status: 6,
-        out: b"",
-        err: NO_MEMORY,
-    },
+        NONE,
+        NONE,
+        UNREAD,
+    ),
+    (
+        "a fault of standard input",
+        &["solve", "matrix", "-"],
+        NONE,
+        NONE,
+        FAILS,
+        UNREAD,
+    ),
+    (
+        "no file of this name",
+        &["solve", "matrix", "third"],
+        CHAIN,
+        CHAIN,
+        CHAIN,
+        UNREAD,
+    ),
+    (
+        "no second file of this name",
+        &["check", "matrix", "first", "third"],
+        CHAIN,
+        VERDICT,
+        VERDICT,
+        UNREAD,
+    ),
+    (
+        "an opening without memory",
+        &["solve", "matrix", "unopened"],
+        CHAIN,
+        CHAIN,
+        CHAIN,
+        NO_MEMORY,
+    ),
+    (
+        "a second opening without memory",
+        &["check", "matrix", "first", "unopened"],
+        CHAIN,
+        VERDICT,
+        VERDICT,
+        NO_MEMORY,
+    ),
 ];
 
 const TWO_FILES: &[Row<'static>] = &[
-    Row {
-        what: "each file by its name",
-        words: CHECK,
-        files: Playing {
-            first: IN_PIECES,
-            second: VERDICT,
-            input: FAILS,
+    (
+        "each file by its name",
+        CHECK,
+        IN_PIECES,
+        VERDICT,
+        FAILS,
+        VALID,
+    ),
+    (
+        "the names the other way round",
+        &["check", "matrix", "second", "first"],
+        VERDICT,
+        IN_PIECES,
+        FAILS,
+        VALID,
+    ),
+    (
+        "standard input first",
+        &["check", "matrix", "-", "second"],
+        FAILS,
+        VERDICT,
+        CHAIN,
+        VALID,
+    ),
+    (
+        "standard input second",
+        &["check", "matrix", "first", "-"],
+        CHAIN,
+        FAILS,
+        VERDICT,
+        VALID,
+    ),
+    (
+        "one name twice",
+        &["meet", "3", "first", "first"],
+        Script {
+            bytes: b"[1 2 3]\n",
+            steps: &[Step::UpTo(3)],
         },
-        status: 0,
-        out: b"valid\n",
-        err: b"",
-    },
-    Row {
-        what: "the names the other way round",
-        words: &["check", "matrix", "second", "first"],
-        files: Playing {
-            first: VERDICT,
-            second: IN_PIECES,
-            input: FAILS,
+        FAILS,
+        FAILS,
+        Left {
+            status: 0,
+            out: b"pq-meet 1\ncolumns 3\nrows 3 3\nanswer yes\ntree [1 2 3]\norder 1 2 3\nend\n",
+            err: b"",
         },
-        status: 0,
-        out: b"valid\n",
-        err: b"",
-    },
-    Row {
-        what: "standard input first",
-        words: &["check", "matrix", "-", "second"],
-        files: Playing {
-            first: FAILS,
-            second: VERDICT,
-            input: CHAIN,
+    ),
+    (
+        "a fault of a second file",
+        CHECK,
+        CHAIN,
+        BREAKS_OFF,
+        VERDICT,
+        UNREAD,
+    ),
+    (
+        "a fault of standard input as the second file",
+        &["check", "matrix", "first", "-"],
+        CHAIN,
+        VERDICT,
+        BREAKS_OFF,
+        UNREAD,
+    ),
+    (
+        "a refused second file",
+        &["extend", "matrix", "first", "second"],
+        CHAIN,
+        Script {
+            bytes: b"9",
+            steps: &[],
         },
-        status: 0,
-        out: b"valid\n",
-        err: b"",
-    },
-    Row {
-        what: "standard input second",
-        words: &["check", "matrix", "first", "-"],
-        files: Playing {
-            first: CHAIN,
-            second: FAILS,
-            input: VERDICT,
+        NONE,
+        Left {
+            status: 3,
+            out: b"",
+            err: b"pq: refused 2 code 4 line 1\n",
         },
-        status: 0,
-        out: b"valid\n",
-        err: b"",
-    },
-    Row {
-        what: "one name twice",
-        words: &["meet", "3", "first", "first"],
-        files: Playing {
-            first: Script {
-                bytes: b"[1 2 3]\n",
-                steps: &[Step::UpTo(3)],
-            },
-            second: FAILS,
-            input: FAILS,
-        },
-        status: 0,
-        out: b"pq-meet 1\ncolumns 3\nrows 3 3\nanswer yes\ntree [1 2 3]\norder 1 2 3\nend\n",
-        err: b"",
-    },
-    Row {
-        what: "a fault of a second file",
-        words: CHECK,
-        files: Playing {
-            first: CHAIN,
-            second: BREAKS_OFF,
-            input: VERDICT,
-        },
-        status: 4,
-        out: b"",
-        err: READ_FAULT,
-    },
-    Row {
-        what: "a fault of standard input as the second file",
-        words: &["check", "matrix", "first", "-"],
-        files: Playing {
-            first: CHAIN,
-            second: VERDICT,
-            input: BREAKS_OFF,
-        },
-        status: 4,
-        out: b"",
-        err: READ_FAULT,
-    },
-    Row {
-        what: "a refused second file",
-        words: &["extend", "matrix", "first", "second"],
-        files: Playing {
-            first: CHAIN,
-            second: Script {
-                bytes: b"9",
-                steps: &[],
-            },
-            input: NONE,
-        },
-        status: 3,
-        out: b"",
-        err: b"pq: refused 2 code 4 line 1\n",
-    },
+    ),
 ];
-
-// A run of one file of many bytes.
-fn row_of_many<'a>(
-    what: &'a str,
-    words: &'a [&'a str],
-    first: Script<'a>,
-    status: u8,
-    out: &'a [u8],
-    err: &'a [u8],
-) -> Row<'a> {
-    Row {
-        what,
-        words,
-        files: Playing {
-            first,
-            second: NONE,
-            input: NONE,
-        },
-        status,
-        out,
-        err,
-    }
-}
 
 #[test]
 fn one_file(rt: HostRuntime) -> Result<(), Fail> {
     for row in ONE_FILE {
-        assert!(rt; is_left(rt.alloc(), *row)?, "{}", row.what);
+        assert!(rt; is_left(rt.alloc(), row)?, "{}", row.0);
     }
     Ok(())
 }
 
 #[test]
 fn files_that_are_not_read(rt: HostRuntime) -> Result<(), Fail> {
-    for row in UNREAD {
-        assert!(rt; is_left(rt.alloc(), *row)?, "{}", row.what);
+    for row in NOT_READ {
+        assert!(rt; is_left(rt.alloc(), row)?, "{}", row.0);
     }
     Ok(())
 }
@@ -377,7 +308,7 @@ fn files_that_are_not_read(rt: HostRuntime) -> Result<(), Fail> {
 #[test]
 fn two_files(rt: HostRuntime) -> Result<(), Fail> {
     for row in TWO_FILES {
-        assert!(rt; is_left(rt.alloc(), *row)?, "{}", row.what);
+        assert!(rt; is_left(rt.alloc(), row)?, "{}", row.0);
     }
     Ok(())
 }
@@ -410,27 +341,34 @@ fn files_of_more_than_one_buffer(rt: HostRuntime) -> Result<(), Fail> {
         bytes: &foreign,
         steps: &pieces,
     };
+    let told = Left {
+        status: 3,
+        out: b"",
+        err: b"pq: refused 1 code 2 line 5000\n",
+    };
     for row in [
-        row_of_many("at once", SOLVE, at_once, 0, ANSWER, b""),
-        row_of_many("in pieces", SOLVE, in_pieces, 0, ANSWER, b""),
-        row_of_many(
-            "refused in its last line",
-            SOLVE,
-            refused,
-            3,
-            b"",
-            b"pq: refused 1 code 2 line 5000\n",
-        ),
+        ("at once", SOLVE, at_once, NONE, NONE, SOLVED),
+        ("in pieces", SOLVE, in_pieces, NONE, NONE, SOLVED),
+        ("refused in its last line", SOLVE, refused, NONE, NONE, told),
     ] {
-        assert!(rt; is_left(rt.alloc(), row)?, "{}", row.what);
+        assert!(rt; is_left(rt.alloc(), &row)?, "{}", row.0);
     }
     Ok(())
 }
 
 #[test]
 fn files_at_the_limit_and_past_it(rt: HostRuntime) -> Result<(), Fail> {
-    let one = b"pq-verdict 2\nkind rows\ncolumns 1\nanswer yes\ntree 1\norder 1\nend\n";
-    let words = ["solve", "rows", "first"];
+    let solved = Left {
+        status: 0,
+        out: b"pq-verdict 2\nkind rows\ncolumns 1\nanswer yes\ntree 1\norder 1\nend\n",
+        err: b"",
+    };
+    let told = Left {
+        status: 3,
+        out: b"",
+        err: b"pq: refused 1 code 7 line 0\n",
+    };
+    let words: &[&str] = &["solve", "rows", "first"];
     let blank = vec![in rt.alloc(); b' '; 16_777_215]?;
     let bytes = text_of(rt.alloc(), b"1\n", 1, &blank)?;
     let at_the_limit = Script {
@@ -442,17 +380,10 @@ fn files_at_the_limit_and_past_it(rt: HostRuntime) -> Result<(), Fail> {
         steps: &[],
     };
     for row in [
-        row_of_many("at the limit", &words, at_the_limit, 0, one, b""),
-        row_of_many(
-            "past it",
-            &words,
-            past_it,
-            3,
-            b"",
-            b"pq: refused 1 code 7 line 0\n",
-        ),
+        ("at the limit", words, at_the_limit, NONE, NONE, solved),
+        ("past it", words, past_it, NONE, NONE, told),
     ] {
-        assert!(rt; is_left(rt.alloc(), row)?, "{}", row.what);
+        assert!(rt; is_left(rt.alloc(), &row)?, "{}", row.0);
     }
     Ok(())
 }
