@@ -1,5 +1,5 @@
 // Small instances that were worked by hand.
-ghost use Rattle.std.specs.Prelude.{◌≤◌, IfOk, length};
+ghost use Rattle.std.specs.Prelude.{◌≡◌, ◌≤◌, IfOk, length};
 ghost use Rattle.instance_model.specs.Instance.{IsInstance};
 ghost use Rattle.instance_model.specs.Value.{instance_value};
 
@@ -71,7 +71,7 @@ fn plain(m: Matrix) -> Instance
 }
 
 pub fn free(alloc: Global) -> Result<Matrix, NoMemory>
-    ensures { IfOk result (λ m. (m.columns ≤ 4) × (length m.rows ≤ 4)) }
+    ensures { IfOk result (λ m. (m.columns ≡ 3) × (length m.rows ≡ 1)) }
 {
     let mut m = Matrix::new(alloc, 3)?;
     m.push_row(&[])?;
@@ -79,7 +79,7 @@ pub fn free(alloc: Global) -> Result<Matrix, NoMemory>
 }
 
 pub fn pair(alloc: Global) -> Result<Matrix, NoMemory>
-    ensures { IfOk result (λ m. (m.columns ≤ 4) × (length m.rows ≤ 4)) }
+    ensures { IfOk result (λ m. (m.columns ≡ 3) × (length m.rows ≡ 1)) }
 {
     let mut m = Matrix::new(alloc, 3)?;
     m.push_row(&[1, 2])?;
@@ -87,26 +87,23 @@ pub fn pair(alloc: Global) -> Result<Matrix, NoMemory>
 }
 
 pub fn path(alloc: Global) -> Result<Matrix, NoMemory>
-    ensures { IfOk result (λ m. (m.columns ≤ 4) × (length m.rows ≤ 4)) }
+    ensures { IfOk result (λ m. (m.columns ≡ 3) × (length m.rows ≡ 2)) }
 {
-    let mut m = Matrix::new(alloc, 3)?;
-    m.push_row(&[1, 2])?;
+    let mut m = pair(alloc)?;
     m.push_row(&[2, 3])?;
     Ok(m)
 }
 
 fn triangle(alloc: Global) -> Result<Matrix, NoMemory>
-    ensures { IfOk result (λ m. (m.columns ≤ 4) × (length m.rows ≤ 4)) }
+    ensures { IfOk result (λ m. (m.columns ≡ 3) × (length m.rows ≡ 3)) }
 {
-    let mut m = Matrix::new(alloc, 3)?;
-    m.push_row(&[1, 2])?;
-    m.push_row(&[2, 3])?;
+    let mut m = path(alloc)?;
     m.push_row(&[1, 3])?;
     Ok(m)
 }
 
 pub fn long_path(alloc: Global) -> Result<Matrix, NoMemory>
-    ensures { IfOk result (λ m. (m.columns ≤ 4) × (length m.rows ≤ 4)) }
+    ensures { IfOk result (λ m. (m.columns ≡ 4) × (length m.rows ≡ 3)) }
 {
     let mut m = Matrix::new(alloc, 4)?;
     m.push_row(&[1, 2])?;
@@ -116,12 +113,9 @@ pub fn long_path(alloc: Global) -> Result<Matrix, NoMemory>
 }
 
 fn circle(alloc: Global) -> Result<Matrix, NoMemory>
-    ensures { IfOk result (λ m. (m.columns ≤ 4) × (length m.rows ≤ 4)) }
+    ensures { IfOk result (λ m. (m.columns ≡ 4) × (length m.rows ≡ 4)) }
 {
-    let mut m = Matrix::new(alloc, 4)?;
-    m.push_row(&[1, 2])?;
-    m.push_row(&[2, 3])?;
-    m.push_row(&[3, 4])?;
+    let mut m = long_path(alloc)?;
     m.push_row(&[1, 4])?;
     Ok(m)
 }

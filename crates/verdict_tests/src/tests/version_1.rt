@@ -3,7 +3,8 @@ use super::small::{Small, judged};
 use std::alloc::Global;
 use std::process::Abort;
 use std::test::Fail;
-use verdict_check::{Checked, Reason};
+use verdict_check::Checked::{self, Invalid, Valid};
+use verdict_check::Reason;
 
 const PATH: &[u8] =
     b"pq-verdict 1\nkind matrix\ncolumns 3\nanswer yes\ntree [1 2 3]\norder 1 2 3\nend\n";
@@ -83,50 +84,22 @@ fn assert_judged(
 fn verdicts_of_yes_are_judged(rt: HostRuntime) -> Result<(), Fail> {
     let rows = [
         // By the order, and then by the tree.
-        (Small::Path, PATH, Checked::Valid),
-        (Small::Path, ANOTHER_KIND, Checked::Invalid(Reason::Kind)),
-        (
-            Small::Path,
-            ANOTHER_COLUMN,
-            Checked::Invalid(Reason::Columns),
-        ),
-        (
-            Small::Path,
-            ANOTHER_ORDER,
-            Checked::Invalid(Reason::Order(1)),
-        ),
-        (
-            Small::Path,
-            ANOTHER_TREE,
-            Checked::Invalid(Reason::Tree(1, 1)),
-        ),
+        (Small::Path, PATH, Valid),
+        (Small::Path, ANOTHER_KIND, Invalid(Reason::Kind)),
+        (Small::Path, ANOTHER_COLUMN, Invalid(Reason::Columns)),
+        (Small::Path, ANOTHER_ORDER, Invalid(Reason::Order(1))),
+        (Small::Path, ANOTHER_TREE, Invalid(Reason::Tree(1, 1))),
         // A circular order by its rotation.
-        (Small::Circle, CIRCLE, Checked::Valid),
-        (Small::Circle, NO_CIRCLE, Checked::Invalid(Reason::Order(1))),
-        (
-            Small::Circle,
-            CIRCLE_ELSEWHERE,
-            Checked::Invalid(Reason::Tree(1, 2)),
-        ),
+        (Small::Circle, CIRCLE, Valid),
+        (Small::Circle, NO_CIRCLE, Invalid(Reason::Order(1))),
+        (Small::Circle, CIRCLE_ELSEWHERE, Invalid(Reason::Tree(1, 2))),
         // Two sides one after the other.
-        (Small::Zigzag, TWO_SIDES, Checked::Valid),
-        (
-            Small::Zigzag,
-            ANOTHER_ORDER_2,
-            Checked::Invalid(Reason::Order(2)),
-        ),
-        (
-            Small::Zigzag,
-            ANOTHER_TREE_2,
-            Checked::Invalid(Reason::Tree(2, 2)),
-        ),
+        (Small::Zigzag, TWO_SIDES, Valid),
+        (Small::Zigzag, ANOTHER_ORDER_2, Invalid(Reason::Order(2))),
+        (Small::Zigzag, ANOTHER_TREE_2, Invalid(Reason::Tree(2, 2))),
         // Intervals by the graph.
-        (Small::Chain, INTERVALS, Checked::Valid),
-        (
-            Small::Chain,
-            OTHER_INTERVALS,
-            Checked::Invalid(Reason::Intervals),
-        ),
+        (Small::Chain, INTERVALS, Valid),
+        (Small::Chain, OTHER_INTERVALS, Invalid(Reason::Intervals)),
     ];
     assert_judged(&rt, rt.alloc(), &rows)
 }
@@ -134,26 +107,14 @@ fn verdicts_of_yes_are_judged(rt: HostRuntime) -> Result<(), Fail> {
 #[test]
 fn verdicts_of_no_are_judged_by_the_cycle(rt: HostRuntime) -> Result<(), Fail> {
     let rows = [
-        (Small::Triangle, TRIANGLE, Checked::Valid),
-        (
-            Small::Triangle,
-            TWO_LINES,
-            Checked::Invalid(Reason::Length(2)),
-        ),
-        (
-            Small::Triangle,
-            ONE_COLUMN_TWICE,
-            Checked::Invalid(Reason::Pair(2)),
-        ),
-        (
-            Small::Triangle,
-            THERE_AND_BACK,
-            Checked::Invalid(Reason::Repeat(3)),
-        ),
-        (Small::Triangle, NO_ROW, Checked::Invalid(Reason::Join(3))),
+        (Small::Triangle, TRIANGLE, Valid),
+        (Small::Triangle, TWO_LINES, Invalid(Reason::Length(2))),
+        (Small::Triangle, ONE_COLUMN_TWICE, Invalid(Reason::Pair(2))),
+        (Small::Triangle, THERE_AND_BACK, Invalid(Reason::Repeat(3))),
+        (Small::Triangle, NO_ROW, Invalid(Reason::Join(3))),
         // On its side.
-        (Small::Spider, SIDE_2, Checked::Valid),
-        (Small::Spider, SIDE_1, Checked::Invalid(Reason::Join(1))),
+        (Small::Spider, SIDE_2, Valid),
+        (Small::Spider, SIDE_1, Invalid(Reason::Join(1))),
     ];
     assert_judged(&rt, rt.alloc(), &rows)
 }

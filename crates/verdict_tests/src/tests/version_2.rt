@@ -9,7 +9,8 @@ use std::alloc::Global;
 use std::process::Abort;
 use std::test::Fail;
 use step_count::{Blank, Brand, Ledger, Steps};
-use verdict_check::{Checked, Reason, complete};
+use verdict_check::Checked::{self, Invalid, Valid};
+use verdict_check::{Reason, complete};
 
 const VERSION_1: &[u8] = b"pq-verdict 1\n";
 
@@ -38,7 +39,7 @@ const SPIDER: &[u8] =
 const TRIANGLE: &[u8] =
     b"kind matrix\ncolumns 3\nanswer no\nside 1\ncycle 3\n1 3 row 1\n3 2 row 3\n2 1 row 2\nend\n";
 
-const INCOMPLETE: Checked = Checked::Invalid(Reason::Complete(1));
+const INCOMPLETE: Checked = Invalid(Reason::Complete(1));
 
 // Asserts what is said of each verdict, told by its lines after the first.
 fn assert_judged(
@@ -59,29 +60,25 @@ fn assert_judged(
 #[test]
 fn a_tree_has_to_have_every_order(rt: HostRuntime) -> Result<(), Fail> {
     let rows = [
-        (Small::Free, STAR, Checked::Valid),
+        (Small::Free, STAR, Valid),
         (Small::Free, LINE, INCOMPLETE),
         (Small::Free, PAIR, INCOMPLETE),
         // A row leaves less to have.
-        (Small::Pair, PAIR, Checked::Valid),
+        (Small::Pair, PAIR, Valid),
         (Small::Pair, LINE, INCOMPLETE),
         // Every row is tested before.
-        (Small::Path, LINE, Checked::Valid),
-        (Small::Path, STAR, Checked::Invalid(Reason::Tree(1, 1))),
-        (Small::Path, PAIR, Checked::Invalid(Reason::Tree(1, 2))),
-        (Small::Path, TRIANGLE, Checked::Invalid(Reason::Join(2))),
+        (Small::Path, LINE, Valid),
+        (Small::Path, STAR, Invalid(Reason::Tree(1, 1))),
+        (Small::Path, PAIR, Invalid(Reason::Tree(1, 2))),
+        (Small::Path, TRIANGLE, Invalid(Reason::Join(2))),
         // A no is judged as before.
-        (Small::Triangle, TRIANGLE, Checked::Valid),
+        (Small::Triangle, TRIANGLE, Valid),
         // A circle by its cut rows.
-        (Small::Ring, RING_PAIR, Checked::Valid),
+        (Small::Ring, RING_PAIR, Valid),
         (Small::Ring, RING, INCOMPLETE),
         // The second side by its own rows.
-        (Small::Fork, FORK_STAR, Checked::Valid),
-        (
-            Small::Fork,
-            FORK_LINE,
-            Checked::Invalid(Reason::Complete(2)),
-        ),
+        (Small::Fork, FORK_STAR, Valid),
+        (Small::Fork, FORK_LINE, Invalid(Reason::Complete(2))),
         // All of side 1 before side 2.
         (Small::Spider, SPIDER, INCOMPLETE),
     ];
@@ -91,12 +88,12 @@ fn a_tree_has_to_have_every_order(rt: HostRuntime) -> Result<(), Fail> {
 #[test]
 fn version_1_takes_a_tree_without_some_orders(rt: HostRuntime) -> Result<(), Fail> {
     let rows = [
-        (Small::Free, STAR, Checked::Valid),
-        (Small::Free, LINE, Checked::Valid),
-        (Small::Free, PAIR, Checked::Valid),
-        (Small::Ring, RING, Checked::Valid),
-        (Small::Fork, FORK_LINE, Checked::Valid),
-        (Small::Spider, SPIDER, Checked::Invalid(Reason::Order(2))),
+        (Small::Free, STAR, Valid),
+        (Small::Free, LINE, Valid),
+        (Small::Free, PAIR, Valid),
+        (Small::Ring, RING, Valid),
+        (Small::Fork, FORK_LINE, Valid),
+        (Small::Spider, SPIDER, Invalid(Reason::Order(2))),
     ];
     assert_judged(&rt, rt.alloc(), VERSION_1, &rows)
 }

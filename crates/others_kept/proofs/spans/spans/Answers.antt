@@ -1,5 +1,4 @@
-use Rattle.std.proofs.Common.{◌≡◌, ◌-◌, [], ◌∷◌, ◌++◌, length, get_or, sym, subst, arith}
-use Rattle.std.proofs.lemmas.Option.{get_or_from_slice_get}
+use Rattle.std.proofs.Common.{◌≡◌, [], ◌∷◌, ◌++◌, length, get_or, sym, subst, arith}
 use Rattle.std.proofs.lemmas.Grind.{common_steps}
 use Rattle.column_order.specs.Orders.{IsOrder, Keeps}
 use Rattle.column_order.proofs.Lists.{has_at}
@@ -8,7 +7,7 @@ use Rattle.row_model.specs.Rows.{IsRow}
 use Rattle.row_model.proofs.Ascending.{row_within}
 use Rattle.others_kept.specs.Others.{numbered}
 use Rattle.others_kept.specs.Counts.{IsSpanOf}
-use Rattle.others_kept.proofs.EachRow.{long, now_positions}
+use Rattle.others_kept.proofs.EachRow.{row_read, long, now_positions}
 use Rattle.others_kept.proofs.Tables.{spans_more}
 use Rattle.others_kept.proofs.spans.spans.Goals as goal
 
@@ -32,7 +31,7 @@ loop-k-preserved c =
     let rows = c.args.m.now.rows in
     let numbers = c.args.rows.now in
     let o = c.args.order.now in
-    let found : numbered rows numbers i ≡ row = get_or_from_slice_get rows (get_or numbers i 0 - 1) row [] c.row.ensures.row in
+    let found : numbered rows numbers i ≡ row = row_read rows numbers i row c.row.ensures.row in
     let wide : c.args.m.now.columns ≡ length c.deref.result.now = long c.args.m.now.columns o c.in_ok-positions.positions.items c.deref.result.now c.requires.order c.in_ok-positions.ensures c.deref.ensures.value in
     let is : IsSpanOf c.args.m.now.columns o (numbered rows numbers i) c.span_in.result =
     subst (λ r. IsSpanOf c.args.m.now.columns o r c.span_in.result) (sym found)
