@@ -141,7 +141,7 @@ pub one_rule_law : OneRuleLaw
 one_rule_law g o lefts others graph umbrella here there =
     same_lists lefts others (here.count ∙ sym there.count)
     (λ k d lt.
-      let back : k + 1 - 1 ≡ k = omega arith in
-      let one = one_left g o graph umbrella (k + 1) (at_vertex lefts (k + 1)) (at_vertex others (k + 1)) (here.each (k + 1) (omega arith, omega (arith, lt, here.count)))
-          (there.each (k + 1) (omega arith, omega (arith, lt, here.count))) in
-      get_or_default lefts k d 0 lt ∙ ap (λ i. get_or lefts i 0) (sym back) ∙ one ∙ ap (λ i. get_or others i 0) back ∙ get_or_default others k 0 d (omega (arith, lt, here.count, there.count)))
+    let back : k + 1 - 1 ≡ k = omega arith in
+    let one = one_left g o graph umbrella (k + 1) (at_vertex lefts (k + 1)) (at_vertex others (k + 1)) (here.each (k + 1) (omega arith, omega (arith, lt, here.count)))
+    (there.each (k + 1) (omega arith, omega (arith, lt, here.count))) in
+    get_or_default lefts k d 0 lt ∙ ap (λ i. get_or lefts i 0) (sym back) ∙ one ∙ ap (λ i. get_or others i 0) back ∙ get_or_default others k 0 d (omega (arith, lt, here.count, there.count)))
