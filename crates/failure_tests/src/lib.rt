@@ -3,12 +3,4 @@
 #![tactic(auto)]
 
 #[cfg(test)]
-mod devices;
-#[cfg(test)]
-mod failures;
-#[cfg(test)]
-mod limits;
-#[cfg(test)]
-mod played;
-#[cfg(test)]
-mod real_edge;
+mod tests;

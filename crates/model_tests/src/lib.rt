@@ -3,12 +3,4 @@
 #![tactic(auto)]
 
 #[cfg(test)]
-mod clones;
-#[cfg(test)]
-mod graphs;
-#[cfg(test)]
-mod kinds;
-#[cfg(test)]
-mod proper;
-#[cfg(test)]
-mod unit;
+mod tests;

@@ -3,12 +3,4 @@
 #![tactic(auto)]
 
 #[cfg(test)]
-mod drawn;
-#[cfg(test)]
-mod few;
-#[cfg(test)]
-mod limits;
-#[cfg(test)]
-mod room;
-#[cfg(test)]
-mod runs;
+mod tests;

@@ -2,22 +2,4 @@
 #![tactic(auto)]
 
 #[cfg(test)]
-mod clones;
-#[cfg(test)]
-mod dense;
-#[cfg(test)]
-mod graph_files;
-#[cfg(test)]
-mod graphs;
-#[cfg(test)]
-mod lines;
-#[cfg(test)]
-mod plain;
-#[cfg(test)]
-mod sparse;
-#[cfg(test)]
-mod table;
-#[cfg(test)]
-mod told;
-#[cfg(test)]
-mod words;
+mod tests;

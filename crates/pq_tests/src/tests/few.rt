@@ -1,5 +1,5 @@
 // A few runs of each command. The built program shows many more.
-use crate::runs::{Call, Wanted, leaves};
+use crate::tests::runs::{Call, Wanted, leaves};
 use pq_io::NoMemory;
 use std::alloc::Global;
 use std::test::Fail;

@@ -1,5 +1,5 @@
 // An output that finds no room or little, and a line of errors that finds none.
-use crate::runs::{Call, Wanted, leaves};
+use crate::tests::runs::{Call, Wanted, leaves};
 use pq_io::NoMemory;
 use std::alloc::Global;
 use std::test::Fail;

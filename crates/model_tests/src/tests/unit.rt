@@ -1,5 +1,5 @@
 // The path of four vertices, the triangle and two vertices without an edge, worked by hand.
-use crate::graphs::{ends_told, is_umbrella, path};
+use crate::tests::graphs::{ends_told, is_umbrella, path};
 use graph_read::read_graph;
 use row_model::{NoMemory, Read};
 use std::alloc::Global;

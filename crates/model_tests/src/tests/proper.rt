@@ -1,5 +1,5 @@
 // The path of four vertices, worked by hand.
-use crate::graphs::{ends_told, is_umbrella, path};
+use crate::tests::graphs::{ends_told, is_umbrella, path};
 use graph_model::Graph;
 use proper_interval::{fits, intervals};
 use row_model::{Interval, NoMemory};

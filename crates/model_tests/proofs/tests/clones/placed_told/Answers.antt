@@ -1,6 +1,6 @@
 use Rattle.std.proofs.Common.{subst}
 use Rattle.column_order.specs.Orders.{IsOrder}
-use Rattle.model_tests.proofs.clones.placed_told.Goals as goal
+use Rattle.model_tests.proofs.tests.clones.placed_told.Goals as goal
 
 pub place-requires : goal.place-requires
 place-requires c =

@@ -1,7 +1,7 @@
 // Runs over the shelf of the system's files, at a runtime of the tests: its files tell their bytes, and give them in
 // pieces, are interrupted and fail as is listed.
-use crate::devices::texts_of;
-use crate::played::{Playing, Script, Step};
+use crate::tests::devices::texts_of;
+use crate::tests::played::{Playing, Script, Step};
 use pq_cli::run;
 use pq_io::{MemSink, NoMemory, RealShelf};
 use std::alloc::Global;

@@ -1,5 +1,5 @@
 // Runs at the limits of bytes and of columns.
-use crate::runs::{Call, Wanted, leaves};
+use crate::tests::runs::{Call, Wanted, leaves};
 use pq_io::NoMemory;
 use std::alloc::Global;
 use std::test::Fail;

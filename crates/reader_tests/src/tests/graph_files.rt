@@ -1,5 +1,5 @@
 // Files of graphs, bipartite graphs and distances.
-use crate::told::{Form, assert_read};
+use crate::tests::told::{Form, assert_read};
 use std::test::Fail;
 
 #[test]

@@ -1,5 +1,5 @@
 // Runs over devices of which each call fails in turn, and over devices of which none does.
-use crate::devices::{Case, Device, is_left, outcome_over, texts_of};
+use crate::tests::devices::{Case, Device, is_left, outcome_over, texts_of};
 use pq_cli::run;
 use pq_io::{NeverShelf, NeverSink, NoMemory};
 use std::alloc::Global;

@@ -1,5 +1,5 @@
 // Runs over files at a limit of their bytes, rows, columns, items and distances, and past it.
-use crate::devices::{Case, Device, is_left, outcome_over};
+use crate::tests::devices::{Case, Device, is_left, outcome_over};
 use pq_io::NoMemory;
 use std::alloc::Global;
 use std::test::Fail;

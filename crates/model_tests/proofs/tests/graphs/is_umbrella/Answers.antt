@@ -1,7 +1,7 @@
 use Rattle.std.proofs.Common.{ℕ, All, subst}
 use Rattle.column_order.specs.Orders.{IsOrder, Keeps}
 use Rattle.row_model.specs.Rows.{RowList}
-use Rattle.model_tests.proofs.graphs.is_umbrella.Goals as goal
+use Rattle.model_tests.proofs.tests.graphs.is_umbrella.Goals as goal
 
 pub returns : goal.returns
 returns c =

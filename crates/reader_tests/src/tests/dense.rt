@@ -1,5 +1,5 @@
 // Lines of digits.
-use crate::told::{Form, assert_read};
+use crate::tests::told::{Form, assert_read};
 use matrix_read::read_dense;
 use row_model::{MAX_ROWS, Read, Refusal};
 use std::test::Fail;

@@ -1,5 +1,5 @@
 // Tables of cells.
-use crate::told::{Form, assert_read};
+use crate::tests::told::{Form, assert_read};
 use std::test::Fail;
 
 #[test]

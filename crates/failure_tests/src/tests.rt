@@ -1,0 +1,7 @@
+// The tests, by what is tested.
+
+mod devices;
+mod failures;
+mod limits;
+mod played;
+mod real_edge;

@@ -1,0 +1,7 @@
+// The tests, by what is tested.
+
+mod clones;
+mod graphs;
+mod kinds;
+mod proper;
+mod unit;

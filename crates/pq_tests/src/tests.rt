@@ -1,0 +1,7 @@
+// The tests, by what is tested.
+
+mod drawn;
+mod few;
+mod limits;
+mod room;
+mod runs;

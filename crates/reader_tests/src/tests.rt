@@ -1,0 +1,12 @@
+// The tests, by what is tested.
+
+mod clones;
+mod dense;
+mod graph_files;
+mod graphs;
+mod lines;
+mod plain;
+mod sparse;
+mod table;
+mod told;
+mod words;
