@@ -91,32 +91,32 @@ fn chain(alloc: Global) -> Result<Matrix, NoMemory>
     Ok(m)
 }
 
-#[test]
-fn one_judgement_of_an_order(rt: HostRuntime) -> Result<(), Fail> {
-    let m = chain(rt.alloc())?;
-    let (cored, asked) = found(rt.alloc(), &m)?;
-    assert!(rt; matches!(&cored, Cored::Has(_)));
-    assert_eq!(rt; asked, 1);
-    Ok(())
+// The chain and one row more, which closes a ring.
+fn ring(alloc: Global) -> Result<Matrix, NoMemory>
+    ensures { IfOk result (λ m. (m.columns ≡ 5) × (length m.rows ≡ 5)) }
+{
+    let mut m = chain(alloc)?;
+    m.push_row(&[1, 5])?;
+    Ok(m)
 }
 
-// The whole ring, the five parts without one row, and no more: four of the parts show that their row is needed, and
-// give its order.
+// A matrix that has an order is judged once. Of a ring of five: the whole, the five parts without one row, and no more;
+// four of the parts show that their row is needed, and give its order.
 #[test]
-fn six_judgements_of_a_ring_of_five(rt: HostRuntime) -> Result<(), Fail> {
-    let mut m = chain(rt.alloc())?;
-    m.push_row(&[1, 5])?;
-    let (cored, asked) = found(rt.alloc(), &m)?;
-    assert_eq!(rt; rows_of(&cored), Some(5));
-    assert_eq!(rt; asked, 6);
+fn how_often_a_matrix_is_judged(rt: HostRuntime) -> Result<(), Fail> {
+    let alloc = rt.alloc();
+    for (m, rows, times) in [(chain(alloc)?, None, 1), (ring(alloc)?, Some(5), 6)] {
+        let (cored, asked) = found(alloc, &m)?;
+        assert_eq!(rt; rows_of(&cored), rows);
+        assert_eq!(rt; asked, times);
+    }
     Ok(())
 }
 
 // The same ring. Whether the rows are gone through in turn is not known of this solver, and it finds the core as well.
 #[test]
 fn a_core_by_a_solver_that_tells_nothing(rt: HostRuntime) -> Result<(), Fail> {
-    let mut m = chain(rt.alloc())?;
-    m.push_row(&[1, 5])?;
+    let m = ring(rt.alloc())?;
     let mut judge = Silent {
         other: Counting { asked: 0 },
     };

@@ -49,12 +49,20 @@ fn a_choice_fails_where_that_is_asked_for(rt: HostRuntime) -> Result<(), Fail> {
     shelf.add("a", b"abc")?;
     shelf.fail_at(3)?;
     shelf.fail_at(1)?;
-    let failed = Err(ChooseError::Failed);
-    assert_eq!(rt; shelf.choose(alloc, "a"), failed);
-    assert_eq!(rt; shelf.choose(alloc, "a"), Ok(()));
-    assert_eq!(rt; shelf.choose(alloc, "a"), failed);
-    assert_eq!(rt; shelf.choose(alloc, "b"), failed);
-    assert_eq!(rt; shelf.choose(alloc, "a"), Ok(()));
+    for (call, name, is_there) in [
+        (1, "a", false),
+        (2, "a", true),
+        (3, "a", false),
+        (4, "b", false),
+        (5, "a", true),
+    ] {
+        let wanted = if is_there {
+            Ok(())
+        } else {
+            Err(ChooseError::Failed)
+        };
+        assert_eq!(rt; shelf.choose(alloc, name), wanted, "{call}");
+    }
     Ok(())
 }
 

@@ -1,5 +1,5 @@
 // What is written for a caller, until it is handed over.
-ghost use Rattle.std.specs.Prelude.{◌≡◌, [], Some};
+ghost use Rattle.std.specs.Prelude.{◌≡◌, ◌↔◌, [], Some, IsTrue};
 
 use pq_io::{Failed, Sink};
 use std::alloc::Global;
@@ -38,11 +38,11 @@ impl Kept {
         &self.bytes
     }
 
-    /// How many writes have failed.
-    pub fn faults(&self) -> u64
-        ensures { result ≡ self.now.faults }
+    /// Whether no write has failed.
+    pub fn is_whole(&self) -> bool
+        ensures { IsTrue result ↔ (self.now.faults ≡ 0) }
     {
-        self.faults
+        self.faults == 0
     }
 }
 

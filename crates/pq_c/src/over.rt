@@ -81,7 +81,7 @@ fn run_text(
     let mut reply = Kept::new(alloc);
     let mut line = Kept::new(alloc);
     let status = run(alloc, &words, &mut files, &mut reply, &mut line);
-    if reply.faults() > 0 {
+    if !reply.is_whole() {
         return Err(NoMemory);
     }
     Ok(handed_over(status, &reply, &line, out, err))
@@ -120,13 +120,13 @@ fn copied(bytes: &[u8], room: &mut [u8]) -> usize
 }
 
 // Copies what was kept to the front of `room`, all of it, or nothing where a write failed or there is too little room.
-fn copied_whole(sink: &Kept, room: &mut [u8]) -> usize
+fn copied_whole(kept: &Kept, room: &mut [u8]) -> usize
     ensures length { length room.new ≡ length room.old }
     ensures room { result ≤ length room.new }
-    ensures copied { (take result room.new ≡ []) ⊎ ((take result room.new ≡ sink.now.bytes) × (sink.now.faults ≡ 0)) }
+    ensures copied { (take result room.new ≡ []) ⊎ ((take result room.new ≡ kept.now.bytes) × (kept.now.faults ≡ 0)) }
 {
-    if sink.faults() > 0 || sink.bytes().len() > room.len() {
+    if !kept.is_whole() || kept.bytes().len() > room.len() {
         return 0;
     }
-    copied(sink.bytes(), room)
+    copied(kept.bytes(), room)
 }

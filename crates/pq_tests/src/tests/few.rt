@@ -30,6 +30,12 @@ const SOLVE: &[&str] = &["solve", "matrix", "first"];
 
 const CHECK: &[&str] = &["check", "matrix", "first", "second"];
 
+const EXTEND: &[&str] = &["extend", "matrix", "first", "second"];
+
+const MEET: &[&str] = &["meet", "3", "first", "second"];
+
+const CHECK_CORE: &[&str] = &["check-core", "matrix", "first", "second"];
+
 const CHECK_UNIT: &[&str] = &["check-unit", "first", "second"];
 
 // Words over two files, the status, and the output or the line of errors.
@@ -59,13 +65,13 @@ const ANSWERED: &[Few] = &[
         b"pq-list 1\nkind matrix\ncolumns 3\norders 1\norder 1 2 3\nmore yes\nend\n",
     ),
     (
-        &["meet", "3", "first", "second"],
+        MEET,
         [b"(1 (2 3))", b"((1 2) 3)"],
         0,
         b"pq-meet 1\ncolumns 3\nrows 2 2\nanswer yes\ntree [1 2 3]\norder 1 2 3\nend\n",
     ),
     (
-        &["extend", "matrix", "first", "second"],
+        EXTEND,
         [CHAIN, b"1 2 3\n"],
         0,
         b"pq-extend 1\nkind matrix\ncolumns 3\n1 ok\ntree [1 2 3]\norder 1 2 3\nend\n",
@@ -80,12 +86,7 @@ const ANSWERED: &[Few] = &[
     (CHECK_UNIT, [PATH, UNIT], 0, b"valid\n"),
     (CHECK_UNIT, [PATH, b""], 1, b"invalid text\n"),
     (&["core", "matrix", "first"], [CHAIN, b""], 1, VERDICT),
-    (
-        &["check-core", "matrix", "first", "second"],
-        [RING, CORE],
-        0,
-        b"valid\n",
-    ),
+    (CHECK_CORE, [RING, CORE], 0, b"valid\n"),
 ];
 
 // Runs that are stopped.
@@ -104,13 +105,13 @@ const STOPPED: &[Few] = &[
         b"pq: refused 1 code 3 line 2\n",
     ),
     (
-        &["extend", "matrix", "first", "second"],
+        EXTEND,
         [CHAIN, b"1 4\n"],
         3,
         b"pq: refused 2 code 4 line 1\n",
     ),
     (
-        &["meet", "3", "first", "second"],
+        MEET,
         [b"(1 2 3)", b"(1 2)"],
         3,
         b"pq: refused 2 code 12 line 0\n",
