@@ -1,6 +1,5 @@
 // A solver that counts how often it is asked, and what a core costs it.
 ghost use Rattle.std.specs.Prelude.{◌≡◌, ◌<◌, length, IfOk};
-ghost use Rattle.row_core.specs.Cored.{IsCored};
 
 use c1p_solve::answer;
 use row_core::{Cored, find_core};

@@ -1,5 +1,5 @@
 // The files of a command: each is read whole, and its bytes by the form that it should have.
-ghost use Rattle.std.specs.Prelude.{◌≡◌, ◌≤◌, ◌^◌, List, ℕ, length, IsOk, IfOk, IfErr, IfSome};
+ghost use Rattle.std.specs.Prelude.{◌≡◌, ◌≤◌, ◌^◌, List, ℕ, length, IsOk, IfOk, IfErr};
 ghost use Rattle.row_model.specs.declared.TheConstants.{MAX_FILE_BYTES};
 ghost use Rattle.row_model.specs.declared.code.TheConstants.{LIMIT};
 ghost use Rattle.pq_io.specs.Taken.{Taken};

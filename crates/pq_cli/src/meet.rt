@@ -1,5 +1,5 @@
 // `meet`: the orders that two trees share.
-ghost use Rattle.std.specs.Prelude.{◌≡◌, ◌≤◌};
+ghost use Rattle.std.specs.Prelude.{◌≤◌};
 ghost use Rattle.row_model.specs.declared.TheConstants.{MAX_COLUMNS};
 ghost use Rattle.command_input.specs.Words.{Meet};
 ghost use Rattle.pq_cli.specs.Runs.{RunsCommand};

@@ -4,7 +4,6 @@ ghost use Rattle.std.specs.List.Sorted.{IsNonDecreasing};
 ghost use Rattle.std.specs.Option.{option_to_list};
 ghost use Rattle.pq_tree.specs.Outline.{Outline, p_node, q_node};
 ghost use Rattle.pq_tree.specs.Proper.{outline_of, IsTree};
-ghost use Rattle.pq_tree.specs.Forests.{forest};
 ghost use Rattle.template_theory.specs.Templates.{p2, p4, p6, q3, line, line_if, under};
 ghost use Rattle.template_theory.specs.Labels.{empty_trees, full_trees, partials};
 ghost use Rattle.template_theory.specs.Chosen.{IsRootOfP, IsRootOfQ};

@@ -1,5 +1,5 @@
 // The label of a tree below the pertinent root, and the templates there.
-ghost use Rattle.std.specs.Prelude.{◌≡◌, ◌≤◌, map, length, reverse, IfOk, option_map, option_and_then, Some};
+ghost use Rattle.std.specs.Prelude.{◌≡◌, ◌≤◌, map, length, reverse, IfOk, option_map, Some};
 ghost use Rattle.std.specs.List.Sorted.{IsNonDecreasing};
 ghost use Rattle.pq_tree.specs.Proper.{outline_of};
 ghost use Rattle.template_theory.specs.Templates.{p3, p5, q2};

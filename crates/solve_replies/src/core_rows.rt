@@ -1,6 +1,5 @@
 // The reply with the rows of a matrix that are to blame.
-ghost use Rattle.std.specs.Prelude.{◌≡◌, ◌⊎◌, ◌<◌, ◌≤◌, IfOk};
-ghost use Rattle.column_order.specs.Orders.{HasValidOrder};
+ghost use Rattle.std.specs.Prelude.{◌≡◌, ◌⊎◌, ◌<◌, IfOk};
 ghost use Rattle.row_model.specs.Rows.{RowList};
 ghost use Rattle.instance_model.specs.Instance.{plain, instance_kind, IsInstance};
 ghost use Rattle.instance_model.specs.Value.{instance_value};

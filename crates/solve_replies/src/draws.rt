@@ -1,8 +1,7 @@
 // Matrices that are drawn from a number.
-ghost use Rattle.std.specs.Prelude.{◌≡◌, ◌+◌, ◌-◌, ◌*◌, ◌<◌, ◌≤◌, ◌++◌, length, take, IfOk, OnOk};
+ghost use Rattle.std.specs.Prelude.{◌≡◌, ◌+◌, ◌-◌, ◌*◌, ◌<◌, ◌≤◌, length, take, IfOk, OnOk};
 ghost use Rattle.column_order.specs.Orders.{IsOrder};
-ghost use Rattle.row_model.specs.Positions.{ArePositions};
-ghost use Rattle.solve_replies.specs.Generated.{next_state, drawn, shuffled, hidden, run_at, run_of, drawn_rows, generated, GeneratedLaw};
+ghost use Rattle.solve_replies.specs.Generated.{next_state, drawn, shuffled, hidden, run_at, generated, GeneratedLaw};
 
 use crate::NoMemory;
 use row_model::{MAX_COLUMNS, MAX_ROWS, Matrix, positions};

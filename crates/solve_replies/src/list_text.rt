@@ -1,7 +1,5 @@
 // The text of a list of orders.
-ghost use Rattle.std.specs.Prelude.{◌≡◌, ◌+◌, ◌*◌, ◌≤◌, ◌++◌, ◌∷◌, [], flat_map, IfOk, OnOk, codes};
-ghost use Rattle.text_parts.specs.Text.{number_word};
-ghost use Rattle.verdict_text.specs.Text.{kind_line, columns_line};
+ghost use Rattle.std.specs.Prelude.{◌≡◌, ◌+◌, ◌*◌, ◌≤◌, ◌++◌, IfOk, OnOk};
 ghost use Rattle.solve_replies.specs.Lists.{order_line, orders_text, more_line, list_text};
 
 use crate::NoMemory;

@@ -1,5 +1,5 @@
 // Answers that are worked out by hand: whether there is an order, and the tree that the reducer is left with.
-ghost use Rattle.std.specs.Prelude.{◌≡◌, ◌<◌, ◌≤◌};
+ghost use Rattle.std.specs.Prelude.{◌<◌};
 
 use super::counted::{Check, run_counted};
 use super::marks::{matrix_of, text_of};

@@ -1,6 +1,6 @@
 // Two searches for odd walks: the one over all rows finds a walk exactly where the one along the order of the rows before
 // a refused row finds one.
-ghost use Rattle.std.specs.Prelude.{◌≡◌, ◌<◌, ◌≤◌};
+ghost use Rattle.std.specs.Prelude.{◌<◌, ◌≤◌};
 
 use super::answers::{assert_cycle, assert_walk};
 use super::counted::{Check, run_counted};

@@ -1,5 +1,5 @@
 // Sessions: further rows are taken, refused with and without a cycle, and taken again.
-ghost use Rattle.std.specs.Prelude.{◌≡◌, ◌<◌, ◌≤◌};
+ghost use Rattle.std.specs.Prelude.{◌<◌};
 ghost use Rattle.row_model.specs.Rows.{IsRow};
 
 use super::counted::{Check, run_counted};

@@ -1,5 +1,5 @@
 // Every matrix of at most four columns and at most four rows.
-ghost use Rattle.std.specs.Prelude.{◌≡◌, ◌<◌, ◌≤◌};
+ghost use Rattle.std.specs.Prelude.{◌<◌, ◌≤◌};
 
 use super::both::begin;
 use super::counted::{Check, run_counted};

@@ -1,5 +1,5 @@
 // Rows of small matrices in turn: what becomes of each and the tree that it leaves are worked out by hand.
-ghost use Rattle.std.specs.Prelude.{◌≡◌, ◌<◌, ◌≤◌};
+ghost use Rattle.std.specs.Prelude.{◌<◌};
 
 use super::both::begin;
 use super::counted::{Check, run_counted};
