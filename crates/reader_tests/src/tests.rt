@@ -6,6 +6,7 @@ mod graph_files;
 mod graphs;
 mod lines;
 mod plain;
+mod refusals;
 mod sparse;
 mod table;
 mod told;

@@ -4,7 +4,7 @@ use std::test::Fail;
 
 #[test]
 fn clones_are_rows_over_the_probes(rt: HostRuntime) -> Result<(), Fail> {
-    let cases: [(&[u8], &str); 12] = [
+    let cases: [(&[u8], &str); 7] = [
         (
             b"{\"probes\":[\"a\",\"b\",\"c\",\"d\",\"e\"],\"clones\":[\
         {\"name\":\"k1\",\"probes\":[\"b\",\"a\"]},{\"name\":\"k2\",\"probes\":[\"b\",\"c\"]},\
@@ -16,16 +16,10 @@ fn clones_are_rows_over_the_probes(rt: HostRuntime) -> Result<(), Fail> {
             b"\xEF\xBB\xBF{\"clones\":[{\"probes\":[\"b\",\"\\u0062\"]}],\"probes\":[],\"probes\":[\"a\",\"b\"]}",
             "2: [ 2 ]",
         ),
-        // The first refusal counts.
-        (b"{", "refused 9 in line 0"),
-        (b"\"\xFF\"", "refused 9 in line 0"),
-        (b"[]", "refused 10 in line 0"),
         (
             b"{\"probes\":[\"a\",1],\"clones\":[]}",
             "refused 10 in line 0",
         ),
-        (b"{\"probes\":[],\"clones\":{}}", "refused 10 in line 0"),
-        (b"{\"probes\":[],\"clones\":[1]}", "refused 1 in line 0"),
         (
             b"{\"probes\":[\"a\",\"b\",\"a\"],\"clones\":[1]}",
             "refused 5 in line 0",

@@ -36,6 +36,21 @@ pub fn assert_read(
     Ok(())
 }
 
+// Asserts of each text as what it is refused: with which code, and in which line.
+pub fn assert_refused(
+    rt: &impl Abort,
+    alloc: Global,
+    cases: &[(Form, &[u8], u32, u32)],
+) -> Result<(), Fail> {
+    for i in 0..cases.len() {
+        let (form, text, code, line) = cases[i];
+        let told = text_told(alloc, form, text)?;
+        let wanted = format!(in alloc; "refused {code} in line {line}")?;
+        assert_eq!(rt; told.as_str(), wanted.as_str(), "{text:?}");
+    }
+    Ok(())
+}
+
 fn text_told(alloc: Global, form: Form, text: &[u8]) -> Result<String, NoMemory> {
     match form {
         Form::Dense => read_told(alloc, &read_dense(alloc, text)?),
