@@ -30,7 +30,8 @@ returns-clause-run c =
     let refused = refusing (λ (shelf : Held) name. content_of shelf.files name) (λ (shelf : Held). shelf.taken) (λ (shelf : Held). shelf.faults) old new found status run.files in
     let lacks = lacks_only_at_four old new status found run.words run.unread run.files c.in_ok-files.ensures.untouched.0 c.in_ok-files.ensures.untouched.1 (subst FailsOnlyAtAnother c.files.view_is c.files.invariant) in
     let written = subst (λ b. IfSome found (λ k. WritesOut ts k (Some b) (Some reply.bytes) status)) bytes run.output in
-    let done : status ≢ 5 = λ five. omega (arith, c.if-faults-gt0.false, c.faults.ensures, run.write_fault.fault five (λ top. omega (arith, top, ap (λ kept. kept.faults) c.new-reply.ensures))) in
+    let whole : reply.faults ≡ 0 = c.is_whole.ensures.0 c.if-not-is_whole.false in
+    let done : status ≢ 5 = λ five. omega (arith, whole, run.write_fault.fault five (λ top. omega (arith, top, ap (λ kept. kept.faults) c.new-reply.ensures)), ap (λ kept. kept.faults) c.new-reply.ensures) in
     let words : found ≡ command_of (lines c.args.text.now) = ap (λ ws. command_of (texts ws)) c.deref.ensures.value ∙ ap command_of c.in_ok-words.ensures in
     subst (λ f. IsRunOf f first second room c.handed_over.result.status copy line) words
     (handed c.told_law.ensures (content_of old.files) first second c.in_ok-files.ensures.files c.promise_law.ensures found ts status said.faults reply.bytes said.bytes line
