@@ -29,8 +29,9 @@ struct pq_room {
    of a command are named 1 and 2, and lie in `first` and `second`. The reply goes to `reply`, and the line that says what stood in its
    way to `line`, for which 64 bytes are enough.
 
-   The result is the program's status: 0 and 1 with a reply; 2 the words are outside the grammar; 3 a file is refused; 4 the words name
-   another file than 1 and 2; 5 the reply has too little room, so call again with more; 6 memory is refused. Or it is PQ_POINTERS.
+   The result is the program's status: 0 and 1 with a reply; 2 the words are outside the grammar, or no UTF-8 (then there is no line);
+   3 a file is refused; 4 the words name another file than 1 and 2; 5 the reply has too little room, so call again with more; 6 memory is
+   refused. Or it is PQ_POINTERS. A word's line ends in "\n" or in "\r\n".
 
    Nothing is kept between calls, so threads may call at a time. A thread that calls needs a stack of 2 MiB, which those of Linux have. */
 uint8_t pq_run(struct pq_bytes words, struct pq_bytes first, struct pq_bytes second, struct pq_room *reply, struct pq_room *line);

@@ -35,7 +35,7 @@ pub extern "C" fn pq_c_run(
 ) -> u8
     ensures lengths { (length out.new ≡ length out.old) × (length err.new ≡ length err.old) }
     ensures room { (written.new ≤ length out.new) × (told.new ≤ length err.new) }
-    ensures no_text { (IsUtf8 words.now → ⊥) → result ≡ 2 }
+    ensures no_text { (IsUtf8 words.now → ⊥) → (result ≡ 2) × (written.new ≡ 0) × (told.new ≡ 0) }
     ensures run { IsUtf8 words.now → IsRunOf (command_of (lines words.now)) first.now second.now (length out.new) result
         (take written.new out.new) (take told.new err.new) }
 {

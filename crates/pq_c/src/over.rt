@@ -48,7 +48,7 @@ pub fn run_bytes(
 ) -> Left
     ensures lengths { (length out.new ≡ length out.old) × (length err.new ≡ length err.old) }
     ensures room { (result.written ≤ length out.new) × (result.told ≤ length err.new) }
-    ensures no_text { (IsUtf8 words.now → ⊥) → result.status ≡ 2 }
+    ensures no_text { (IsUtf8 words.now → ⊥) → (result.status ≡ 2) × (result.written ≡ 0) × (result.told ≡ 0) }
     ensures run { IsUtf8 words.now → IsRunOf (command_of (lines words.now)) first.now second.now (length out.new) result.status
         (take result.written out.new) (take result.told err.new) }
 {
