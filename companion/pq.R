@@ -7,8 +7,9 @@
 #   pq_core(m)                # after a no: rows that contradict one another, of which none can be left out
 #
 # The argument `pq` is the path of the program, or of the library libpq.so that scripts/library.py builds. Without it that is the program
-# which the variable PQ names; else the library, where PQ_LIBRARY names one, or this checkout or what was handed out has it; else the pq of
-# this checkout, or the one on the PATH. Each answer was judged by a second call of pq. This file itself isn't proved.
+# which the variable PQ names; else the library that PQ_LIBRARY names; else that of this checkout, or of what was handed out, if it is of the
+# version that lies here; else the pq of this checkout, or the one on the PATH. Each answer was judged by a second call of pq. This file
+# itself isn't proved.
 
 pq_home <- local({
   file <- NULL
@@ -16,13 +17,31 @@ pq_home <- local({
   if (is.null(file)) NULL else dirname(dirname(normalizePath(file)))
 })
 
-# The path of pq: of the program, or of the library.
+# The path of pq: of the program, or of the library. Of a library that lies here and can't be taken it is said.
 pq_program <- function() {
+  named <- c(Sys.getenv("PQ"), Sys.getenv("PQ_LIBRARY"))
+  if (any(nzchar(named))) return(named[nzchar(named)][1])
   own <- function(...) if (is.null(pq_home)) "" else file.path(pq_home, ...)
-  found <- c(Sys.getenv("PQ"), Sys.getenv("PQ_LIBRARY"), own("dist", "libpq.so"), own("libpq.so"), own("pq"), unname(Sys.which("pq")))
-  named <- nzchar(found) & (seq_along(found) <= 2 | file.exists(found))
-  if (!any(named)) stop("there is no pq: give its path, or set PQ")
-  found[named][1]
+  library <- Filter(file.exists, c(own("dist", "libpq.so"), own("libpq.so")))
+  if (length(library)) {
+    misfit <- tryCatch({ pq_loaded(library[1]); NULL }, error = conditionMessage)
+    if (is.null(misfit)) return(library[1])
+    message(misfit, "; the program is called in its place")
+  }
+  found <- Filter(file.exists, c(own("pq"), unname(Sys.which("pq"))))
+  if (!length(found)) stop("there is no pq: give its path, or set PQ")
+  found[1]
+}
+
+# The library at a path, loaded. It is an error where it is none, or not of the version that lies here.
+pq_loaded <- function(path) {
+  found <- dyn.load(path)
+  old <- function(missing) stop(path, ": this is no library of pq, or an old one")
+  told <- .C(tryCatch(getNativeSymbolInfo("pq_r_version", found), error = old), version = raw(64), length = as.double(64))
+  version <- rawToChar(told$version[seq_len(told$length)])
+  here <- if (is.null(pq_home)) version else readLines(file.path(pq_home, "VERSION"), n = 1)
+  if (version != here) stop(path, ": this is a library of pq ", version, ", and not of ", here)
+  found
 }
 
 # A call of pq over files with these bytes, whose names follow the words: the bytes of its reply, its lines and its status. A fault of pq is
@@ -37,13 +56,13 @@ pq_call <- function(pq, words, files) {
 
 # A call of the library.
 pq_by_library <- function(path, words, files) {
-  if (!is.loaded("pq_r_run")) dyn.load(path)
+  entry <- getNativeSymbolInfo("pq_r_run", pq_loaded(path))
   if (any(grepl("[\r\n]", words))) return(list(status = 2L, reply = raw(), line = "pq: words"))
   text <- charToRaw(paste0(c(words, c("1", "2")[seq_along(files)]), "\n", collapse = ""))
   given <- c(files, list(raw(), raw()))[1:2]
   room <- 2^20
   repeat {
-    found <- .C("pq_r_run", text, as.double(length(text)), given[[1]], as.double(length(given[[1]])), given[[2]],
+    found <- .C(entry, text, as.double(length(text)), given[[1]], as.double(length(given[[1]])), given[[2]],
                 as.double(length(given[[2]])), reply = raw(room), written = as.double(room), line = raw(64), told = as.double(64), status = 0L)
     if (found$status != 5L) break
     room <- room * 8

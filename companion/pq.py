@@ -8,7 +8,8 @@
 A file is handed over as bytes, in the formats of docs/FORMATS.md. A call that gives no answer raises `pq.Stop`, with the program's status
 as `status`, pq's line as its text, and, where a file is refused, its number, code and line as `refusal`.
 
-The library is used where scripts/library.py has built it (or $PQ_LIBRARY names it), and the program `pq` else, which may be named by $PQ.
+The library is used where scripts/library.py has built it, or $PQ_LIBRARY names it, and the program `pq` else, which may be named by $PQ. A
+library of another version is not used.
 What the solver answers is proved; this module, which reads its texts, is not.
 """
 

@@ -23,7 +23,7 @@ from pqparts import cells, report
 from pqparts.finding import MOST_CORES, asked, cycle_over, judge_cycle, rows_of
 from pqparts.others import clones_question, distances_question, graph_of_edges, plain_question
 from pqparts.library import calls
-from pqparts.program import CHECKOUT
+from pqparts.program import version
 from pqparts.spoken import Words, answer_lines
 from pqparts.stops import NO_MEMORY, NOT_PROVED, NOT_READABLE, READ_FAULT, WORDS, WRITE_FAULT, Stop
 from pqparts.tables import FIRST, NONE, Reading, long_question, wide_question, words_of_marks
@@ -42,12 +42,6 @@ SAID = {"plain": [], "graph": ["header", "separator", "encoding", "drop"], "long
 SHOWN = ["json", "csv", "svg", "html"]
 CORES = ["core", *(f"core{number}" for number in range(2, MOST_CORES + 1))]
 PROOF = ["in", "verdict", "rows", "agreed", *CORES]
-
-
-def version():
-    """The version of Sulgyabet."""
-    with open(os.path.join(CHECKOUT, "VERSION"), encoding="utf-8") as stream:
-        return stream.read().strip()
 
 
 def form_of(words):
@@ -138,9 +132,10 @@ def found(words):
 
 
 def sum_of_program(path):
-    """The sum of the program that a path runs: of the script `./pq` of a checkout that of what it built."""
-    built = os.path.join(os.path.dirname(os.path.realpath(path)), "crates", "pq", "out", "pq")
-    return report.sum_of(bytes_of(built if os.path.exists(built) else path))
+    """The sum of the program or the library at a path: of the script `./pq` of a checkout that of what it built."""
+    folder, name = os.path.split(os.path.realpath(path))
+    built = os.path.join(folder, "crates", "pq", "out", "pq")
+    return report.sum_of(bytes_of(built if name == "pq" and os.path.exists(built) else path))
 
 
 def tell(line):
@@ -367,7 +362,9 @@ def reading_words(part):
 
 def asking_words(part):
     """The words on how pq is asked."""
-    part.add_argument("--pq", metavar="PATH", help="the program; else $PQ, the pq of this checkout, or the one on the PATH")
+    part.add_argument("--pq", metavar="PATH",
+                      help="the program; else the one that $PQ names; else the library libpq.so that $PQ_LIBRARY names, or the one of this checkout if "
+                           "it is of this version; else the pq of this checkout, or the one on the PATH")
     part.add_argument("--trust", type=words_of_marks, default=[], metavar="NAME,..", help="after a no: rows that are taken first")
     part.add_argument("--rare-first", action="store_true", help="after a no: take rows with few marks first")
     part.add_argument("--cores", type=int, choices=range(MOST_CORES + 1), default=MOST_CORES, metavar="N",
@@ -394,7 +391,7 @@ def parser():
         part.set_defaults(run=run)
     part = parts.add_parser("again", help="judges a report anew", description="judges a report anew")
     part.add_argument("file", metavar="OUT.json")
-    part.add_argument("--pq", metavar="PATH")
+    part.add_argument("--pq", metavar="PATH", help="the program; else it is found as for a report")
     part.set_defaults(run=again)
     return top
 

@@ -5,13 +5,13 @@ the verdict checked; compares the judgement on forged verdicts and the refusals 
 verdicts with other trees with a plain program that lists all orders; compares generated matrices and sessions with plain programs of their
 rules, lists of orders and what two trees share with ones that list all orders; finds the unit model of every small graph, and compares
 what is said of changed ones with a plain checker; bounds what hostile files cost; and tries the first call of `./pq`,
-`scripts/try.py`, the companion, the library and the page.
+`scripts/try.py`, the companion, the library, the page, and how a release is compared.
 
 Usage: end_to_end/check.py [PART ..]   after `rt ci` or `./pq`, which leave the program in crates/pq/out/pq
 
 PARTs pick some of the checks: `cases` (files and streams), `pages`, `answers` (of small instances, at the limits, of `gen`, of sessions, of lists, of
 unit models, of cores and of drawn cycles), `forgeries`, `trees`, `meetings`, `hostile`, `first_call`, `try`, `companion`, `library`,
-`page`; default all.
+`page`, `release`; default all.
 The last line is `N passed, N failed`; the status is 0 where
 nothing failed.
 """
@@ -33,6 +33,7 @@ import library
 import meetings
 import other_trees
 import page
+import releases
 import short_cycles
 import tries
 import units
@@ -172,7 +173,7 @@ def without_folders():
 FURTHER = {"forgeries": lambda: forgeries.compared(Limits()), "trees": other_trees.compared, "hostile": hostile_problems,
            "first_call": first_call.problems, "try": tries.problems,
            "companion": lambda: itertools.chain(companion.problems(), companion_kinds.problems()), "library": library.problems, "page": page.problems}
-FURTHER["meetings"] = meetings.compared
+FURTHER |= {"meetings": meetings.compared, "release": releases.problems}
 PARTS = ["cases", "pages", "answers", *FURTHER]
 
 

@@ -1,10 +1,11 @@
-"""Compares the library with the program on drawn runs, byte for byte; hands it pointers that it has to refuse; and calls it from several
-threads, by the typed calls of Python, and from R where R is there."""
+"""Compares the library with the program on drawn runs, byte for byte; hands it words and pointers that it has to refuse; and calls it from
+several threads, by the typed calls of Python, and from R where R is there. What it has to equal is known beforehand, or is the program's."""
 
 import concurrent.futures
 import ctypes
 import os
 import re
+import shutil
 import subprocess
 import sys
 import tempfile
@@ -12,6 +13,7 @@ import threading
 
 from companion import in_r
 from drawn_runs import LONG, deep_runs, runs
+from library_choice import choice_problems
 from program import HOME, PROGRAM
 from streams import difference
 
@@ -19,9 +21,11 @@ sys.path.insert(0, os.path.join(HOME, "companion"))
 
 import pq  # noqa: E402
 from pqparts.library import FIRST_ROOM, POINTERS, Bytes, Library, Room, bytes_of  # noqa: E402
-from pqparts.program import Calls  # noqa: E402
+from pqparts.program import Calls, Program  # noqa: E402
 
 SEED, RUNS = 45, 2000
+# An address above all that a process has, so nothing overlaps with what begins there.
+FAR = 2**48
 # The stack that a thread has to have, as pq.h says.
 STACK = 2 << 20
 
@@ -83,74 +87,127 @@ def answered(library, words, reply_room, line_room):
     return status, rooms[0].raw, reply.length, rooms[1].raw, line.length
 
 
+def filled(text, room):
+    """Room with a text at its front, and what was there before behind it."""
+    return text + b"." * (room + 1 - len(text))
+
+
 def room_problems(library):
     """Room that is just enough, and one byte less: of a reply what there is room for, with status 5; a line whole or not at all."""
-    words, wrong = b"solve\nmatrix\n1\n", b"pq: words\n"
+    words, wrong, full, missing = b"solve\nmatrix\n1\n", b"pq: words\n", b"pq: write fault\n", b"pq: read fault\n"
     reply = library.ask(["solve", "matrix", "1"], b"1\n")[1]
-    much = len(reply)
+    much, few = len(reply), len(wrong) - 1
     for name, wanted, got in [
-        ("just enough room", (0, reply + b".", much, b"." * 65, 0), answered(library, words, much, 64)),
-        ("a byte too little", (5, reply[:-1] + b".", much - 1), answered(library, words, much - 1, 64)[:3]),
-        ("just enough for the line", (2, b".", 0, wrong + b".", len(wrong)), answered(library, b"no\n", 0, len(wrong))),
-        ("a byte too little for the line", (2, b".", 0, b"." * len(wrong), 0), answered(library, b"no\n", 0, len(wrong) - 1)),
+        ("just enough room", (0, filled(reply, much), much, filled(b"", 64), 0), answered(library, words, much, 64)),
+        ("more than enough", (0, filled(reply, much + 9), much, filled(b"", 0), 0), answered(library, words, much + 9, 0)),
+        ("a byte too little", (5, filled(reply[:-1], much - 1), much - 1, filled(full, 64), len(full)), answered(library, words, much - 1, 64)),
+        ("no room", (5, b".", 0, b".", 0), answered(library, words, 0, 0)),
+        ("just enough for the line", (2, b".", 0, filled(wrong, few + 1), few + 1), answered(library, b"no\n", 0, few + 1)),
+        ("a byte too little for the line", (2, b".", 0, filled(b"", few), 0), answered(library, b"no\n", 0, few)),
+        ("words that are no UTF-8", (2, filled(b"", 9), 0, filled(wrong, 64), few + 1), answered(library, b"solve\nmatrix\n\xff\n", 9, 64)),
+        ("another name", (4, filled(b"", 9), 0, filled(missing, 64), len(missing)), answered(library, b"solve\nmatrix\n3\n", 9, 64)),
+        ("another name behind a file", (4, filled(b"", 9), 0, filled(missing, 64), len(missing)), answered(library, b"check\nmatrix\n1\n3\n", 9, 64)),
     ]:
         yield f"library: {name}", difference("status, reply and line", wanted, got)
+    got = answered(library, b"check\nclones\n1\n3\n", 9, 64)
+    yield "library: another name behind a refused file", difference("status", 3, got[0]) or difference("line", b"pq: refused 1 ", got[3][:14])
+
+
+def word_problems(library):
+    """How words may be written, and what no program can be handed: line ends, no last one, no words at all, and a zero byte."""
+    reply = library.ask(["solve", "matrix", "1"], b"1\n")[1]
+    solved, wrong, missing = (0, filled(reply, 999), len(reply), filled(b"", 64), 0), b"pq: words\n", b"pq: read fault\n"
+    refused, unread = ((status, filled(b"", 999), 0, filled(line, 64), len(line)) for status, line in ((2, wrong), (4, missing)))
+    for name, wanted, words in [
+        ("line ends as on Windows", solved, b"solve\r\nmatrix\r\n1\r\n"),
+        ("a last word without a line end", solved, b"solve\nmatrix\n1"),
+        ("no words", refused, b""),
+        ("an empty word", refused, b"solve\n\n1\n"),
+        ("a zero byte in a word", refused, b"solve\0\nmatrix\n1\n"),
+        ("a zero byte in a name", unread, b"solve\nmatrix\n1\0\n"),
+    ]:
+        yield f"library: {name}", difference("status, reply and line", wanted, answered(library, words, 999, 64))
+
+
+def pointed(at, length):
+    """Bytes at an address."""
+    return Bytes(ctypes.cast(at, ctypes.c_char_p), length)
+
+
+def pointers(at, within):
+    """Calls with pointers: each with its name, the status, the words, the files and the rooms. `at` is the address of 256 bytes, where what is
+    told of the room `within` lies at 64."""
+    words, file, empty = bytes_of(b"solve\nmatrix\n1\n"), bytes_of(b"1\n"), bytes_of(b"")
+    good, other, none, over = Room(at, 128, 9), Room(at + 128, 64, 9), Room(None, 0, 9), pointed(at + 8, 4)
+    for name, wrong in [("null words", Bytes(None, 3)), ("words past the end of memory", pointed(2**64 - 8, 16)),
+                        ("words longer than any object", pointed(FAR, 2**63)), ("words within room", over),
+                        ("words within the room for the line", pointed(at + 191, 4)), ("words over where a length is told", pointed(at + 64, 1))]:
+        rooms = (other, within) if "told" in name else (good, other)
+        yield name, POINTERS, (wrong, file, empty, *rooms)
+        yield f"{name}, as the first file", POINTERS, (words, wrong, empty, *rooms)
+        yield f"{name}, as the second file", POINTERS, (words, file, wrong, *rooms)
+    for name, wrong in [("null room", Room(None, 3, 9)), ("room past the end of memory", Room(2**64 - 8, 16, 9)),
+                        ("room longer than any object", Room(FAR, 2**63, 9)), ("room that overlaps with room", Room(at + 100, 64, 9)),
+                        ("no room at all", None)]:
+        yield name, POINTERS, (words, file, empty, wrong, other if name != "room that overlaps with room" else good)
+        yield f"{name}, for the line", POINTERS, (words, file, empty, good, wrong)
+    yield "room over where its own length is told", POINTERS, (words, file, empty, good, within)
+    yield "one place for both lengths", POINTERS, (words, file, empty, none, none)
+    yield "a null file without bytes", 3, (words, Bytes(None, 0), empty, good, other)
+    yield "a file without bytes within room", 3, (words, pointed(at + 8, 0), empty, good, other)
+    yield "a second file within the first", 0, (words, file, file, good, other)
+    yield "null room without bytes", 5, (words, file, empty, Room(None, 0, 0), other)
+    yield "room side by side", 0, (words, file, empty, good, other)
 
 
 def pointer_problems(library):
-    """Pointers that the library has to refuse: null with bytes, and room that overlaps with other room or with what is read."""
-    text, room = bytes_of(b"solve\nmatrix\n1\n"), ctypes.create_string_buffer(256)
-    at = ctypes.addressof(room)
+    """Pointers that the library has to refuse, with nothing written, neither in the room nor as a length; and such as it has to take."""
+    memory = ctypes.create_string_buffer(b"." * 256, 256)
+    at, within = ctypes.addressof(memory), Room.from_buffer(memory, 64)
+    within.at, within.room, within.length = at + 192, 64, 9
+    for name, wanted, given in pointers(at, within):
+        before = memory.raw, [one.length for one in given[1:] if one is not None]
+        status = library.entry(*given[:3], *(one if one is None else ctypes.byref(one) for one in given[3:]))
+        yield f"library: {name}", difference("status", wanted, status)
+        if wanted == POINTERS:
+            after = memory.raw, [one.length for one in given[1:] if one is not None]
+            yield f"library: what is written after {name}", difference("room and lengths", before, after)
 
-    def status(first, reply, line):
-        return library.entry(text, first, bytes_of(b""), reply if reply is None else ctypes.byref(reply), line if line is None else ctypes.byref(line))
 
-    good, other, empty = Room(at, 128, 0), Room(at + 128, 64, 0), Room(None, 0, 0)
-    place = ctypes.cast(at + 8, ctypes.c_char_p)
-    within = Room.from_buffer(room, 64)
-    within.at, within.room = at + 192, 64
-    for name, wanted, given in [
-        ("room that overlaps with room", POINTERS, (bytes_of(b"1\n"), good, Room(at + 127, 64, 0))),
-        ("room that overlaps with a file", POINTERS, (Bytes(place, 4), good, other)),
-        ("room for the line that overlaps with a file", POINTERS, (Bytes(place, 4), other, good)),
-        ("room over where its own length is told", POINTERS, (bytes_of(b"1\n"), good, within)),
-        ("one place for both lengths", POINTERS, (bytes_of(b"1\n"), empty, empty)),
-        ("a file over where a length is told", POINTERS, (Bytes(ctypes.cast(at + 64, ctypes.c_char_p), 1), other, within)),
-        ("a null file with bytes", POINTERS, (Bytes(None, 3), good, other)),
-        ("null room with bytes", POINTERS, (bytes_of(b"1\n"), Room(None, 3, 0), other)),
-        ("no reply at all", POINTERS, (bytes_of(b"1\n"), None, other)),
-        ("no line at all", POINTERS, (bytes_of(b"1\n"), good, None)),
-        ("room past the end of memory", POINTERS, (bytes_of(b"1\n"), Room(at, 2**64 - 1, 0), other)),
-        ("a null file without bytes", 3, (Bytes(None, 0), good, other)),
-        ("a file without bytes within room", 3, (Bytes(place, 0), good, other)),
-        ("null room without bytes", 5, (bytes_of(b"1\n"), Room(None, 0, 0), other)),
-        ("room side by side", 0, (bytes_of(b"1\n"), good, other)),
+def typed_problems(by):
+    """The typed calls, over the library or over the program, whose answers were found by hand."""
+    rows, how = b"3\n1 2\n2 3\n", type(by).__name__
+    core, verdict, model = pq.core("rows", rows + b"1 3\n", by), by.solve("rows", rows), pq.unit(rows, by)
+    core_text = by.call(["core", "rows"], rows + b"1 3\n")[1]
+    for name, wanted, found in [
+        ("solve", ["[1 2 3]"], pq.solve("rows", rows, by).trees),
+        ("check", pq.Check(True, "valid"), pq.check("rows", rows, verdict, by)),
+        ("check of no verdict", pq.Check(False, "invalid text"), pq.check("rows", rows, b"no", by)),
+        ("core", [1, 2, 3], core.rows),
+        ("core of a yes", None, pq.core("rows", rows, by)),
+        ("check_core", pq.Check(True, "valid"), pq.check_core("rows", rows + b"1 3\n", core_text, by)),
+        ("check_core on other rows", False, pq.check_core("rows", rows + b"1 2\n", core_text, by).is_valid),
+        ("extend", [False, True], pq.extend("rows", rows, b"1 3\n1 2 3\n", by).taken),
+        ("list_orders", pq.Listing([[1, 2, 3]], True), pq.list_orders("rows", rows, 1, by)),
+        ("unit", pq.Check(True, "valid"), pq.check_unit(rows, model.text, by)),
+        ("meet", "[1 2 3]", pq.meet(3, b"(1 (2 3))\n", b"((1 2) 3)\n", by).tree),
+        ("meet of a no", False, pq.meet(3, b"[1 2 3]\n", b"[2 1 3]\n", by).is_yes),
     ]:
-        yield f"library: {name}", difference("status", wanted, status(*given))
-
-
-def typed_problems(library):
-    """The typed calls, whose answers were found by hand."""
-    rows = b"3\n1 2\n2 3\n"
-    yield "pq.solve", difference("tree", ["[1 2 3]"], pq.solve("rows", rows, library).trees)
-    yield "pq.check", difference("check", pq.Check(False, "invalid text"), pq.check("rows", rows, b"no", library))
-    yield "pq.core", difference("rows", [1, 2, 3], pq.core("rows", rows + b"1 3\n", library).rows)
-    yield "pq.core of a yes", difference("core", None, pq.core("rows", rows, library))
-    yield "pq.extend", difference("taken", [False, True], pq.extend("rows", rows, b"1 3\n1 2 3\n", library).taken)
-    yield "pq.list_orders", difference("orders", pq.Listing([[1, 2, 3]], True), pq.list_orders("rows", rows, 1, library))
-    model = pq.unit(b"3\n1 2\n2 3\n", library)
-    yield "pq.unit", difference("check", pq.Check(True, "valid"), pq.check_unit(b"3\n1 2\n2 3\n", model.text, library))
-    yield "pq.meet", difference("tree", "[1 2 3]", pq.meet(3, b"(1 (2 3))\n", b"((1 2) 3)\n", library).tree)
-    yield "pq.meet of a no", difference("yes", False, pq.meet(3, b"[1 2 3]\n", b"[2 1 3]\n", library).is_yes)
+        yield f"pq.{name} by {how}", difference("answer", wanted, found)
     for name, call, status, refusal in [
-        ("a refused file", lambda: pq.solve("rows", b"3\n4\n", library), 3, pq.Refusal(1, 4, 2)),
-        ("other words", lambda: pq.solve("matrices", rows, library), 2, None),
-        ("a word with a line end", lambda: pq.solve("rows\n", rows, library), 2, None),
+        ("a refused file", lambda: pq.solve("rows", b"3\n4\n", by), 3, pq.Refusal(1, 4, 2)),
+        ("other words", lambda: pq.solve("matrices", rows, by), 2, None),
+        ("a word with a line end", lambda: pq.solve("rows\n", rows, by), 2, None),
     ]:
-        yield f"pq: {name}", stopped(call, status, refusal)
+        yield f"pq: {name} by {how}", stopped(call, status, refusal)
+
+
+def fault_problems():
+    """What stops a typed call, by the status and the line of a run; a program that is killed counts as one that could not be read from."""
     for status, line in [(2, "pq: words"), (4, "pq: read fault"), (5, "pq: write fault"), (6, "pq: no memory"), (3, "pq: refused 2 code 9 line 0")]:
         refusal = pq.Refusal(2, 9, 0) if status == 3 else None
         yield f"pq: {line}", stopped(lambda one=Fixed(status, line): pq.solve("rows", b"", one), status, refusal)
+    yield "pq: a run that is killed", stopped(lambda: pq.solve("rows", b"", Fixed(-9, "")), 4, None)
 
 
 class Fixed(Calls):
@@ -191,6 +248,23 @@ def in_c(folder):
     return difference("what it prints", SAYS, done.stdout)
 
 
+KEEPER_OF = "import sys; sys.path.insert(0, 'scripts'); import library; print(library.keeper_of(*sys.argv[1:]), end='')"
+
+
+def kept_problem(folder):
+    """What is wrong with the compiler that keeps the module, in a folder with a blank and a quote in its name."""
+    place = os.path.join(folder, "it's a folder")
+    os.mkdir(place)
+    module, kept, keeper = (os.path.join(place, name) for name in ("module.bc", "kept", "keeper"))
+    with open(module, "wb") as stream:
+        stream.write(b"module")
+    with open(keeper, "wb") as stream:
+        stream.write(subprocess.run([sys.executable, "-c", KEEPER_OF, kept, shutil.which("cat")], cwd=HOME, capture_output=True, check=True).stdout)
+    done = subprocess.run(["sh", keeper, module], capture_output=True, check=False)
+    with open(kept, "rb") as stream:
+        return difference("status, output and module", (0, b"module", b"module"), (done.returncode, done.stdout, stream.read()))
+
+
 def problems():
     """All checks of the library, which is built first."""
     with tempfile.TemporaryDirectory() as folder:
@@ -199,7 +273,11 @@ def problems():
         if done.returncode:
             return
         library = Library(os.path.join(folder, "libpq.so"))
-        for check in (drawn_problems, long_problems, thread_problems, room_problems, pointer_problems, typed_problems):
+        for check in (drawn_problems, long_problems, thread_problems, room_problems, word_problems, pointer_problems, typed_problems):
             yield from check(library)
+        yield from typed_problems(Program(PROGRAM))
+        yield from fault_problems()
+        yield from choice_problems(library.path)
         yield "pq.R over the library", in_r(library.path)
         yield "the example in C", in_c(folder)
+        yield "the compiler that keeps the module", kept_problem(folder)

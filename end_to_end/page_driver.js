@@ -14,7 +14,7 @@ Worker.prototype.terminate = function () {
 };
 const seen = () => ({
   ends, isOpen: $("reading").open, said: $("said").textContent, answer: $("answer").innerText,
-  pictures: [...document.querySelectorAll("#answer svg")].map((one) => one.outerHTML),
+  pictures: [...document.querySelectorAll("#answer svg")].map((one) => one.outerHTML), strange: document.querySelectorAll("#answer :is(img, script)").length,
 });
 
 // The answer after a click on the button.
@@ -71,6 +71,32 @@ const inWorker = (runs) => new Promise((done, failed) => {
   own.postMessage({ solver, runs });
 });
 
+// The answer to each kind that can be chosen, about its own text.
+async function eachKind(kinds) {
+  const found = {};
+  for (const { value } of $("kind").options) {
+    $("kind").value = value;
+    written(kinds[value] ?? "", "columns");
+    found[value] = (await answered()).said;
+  }
+  $("kind").value = "table";
+  return found;
+}
+
+// Which rule of the page's policy is broken by a connection, by a script that isn't the page's own, and by a connection of a worker.
+const broken = (act) => new Promise((done) => {
+  addEventListener("securitypolicyviolation", ({ effectiveDirective }) => done(effectiveDirective), { once: true });
+  setTimeout(done, 5000, "none");
+  act();
+});
+const connect = () => fetch("http://127.0.0.1:9/").catch(() => {});
+const addScript = () => document.body.append(element("script", "ends = 0"));
+const brokenInWorker = () => new Promise((done) => {
+  const text = "addEventListener('securitypolicyviolation', (event) => postMessage(event.effectiveDirective)); fetch('http://127.0.0.1:9/').catch(() => {});";
+  new Worker(URL.createObjectURL(new Blob([text]))).onmessage = ({ data }) => done(data);
+  setTimeout(done, 5000, "none");
+});
+
 async function tried(run) {
   const found = { runs: await inWorker(run.runs), unsaid: await answered() };
   written($("text").value, "columns");
@@ -78,11 +104,16 @@ async function tried(run) {
   found.saved = await savedFiles();
   await dropped("no.csv", run.no, "columns");
   found.no = await answered();
+  found.proof = await savedFiles();
+  found.page = `<!DOCTYPE html>${document.documentElement.outerHTML.replace(/<script[^]*?<\/script>/g, "")}`;
+  found.broken = [await broken(connect), await broken(addScript), await brokenInWorker()];
   found.fields = await withFields(run.fields, run.read, "lines");
+  found.commas = await withFields({ drop: run.dropped }, run.commas, "columns");
   written(run.hostile, "columns");
   found.hostile = await answered();
   written("type,a,b\nP,1,?\nQ,1,1\n", "columns");
   found.unread = await answered();
+  found.kinds = await eachKind(run.kinds);
   $("kind").value = "file of rows";
   written(run.long, null);
   $("go").click();

@@ -5,7 +5,7 @@
 const fs = require("fs"), vm = require("vm");
 const [page_file, cases, answers] = process.argv.slice(2);
 const text = fs.readFileSync(page_file, "utf8"), within = (id) => text.match(new RegExp(`<script id="${id}"[^>]*>([^]*?)</script>`))[1];
-const NAMES = "solverOf, tableQuestion, asked, answerLines, fixedLines, picturesOf, questionSaid, stepsOf, cutNames";
+const NAMES = "solverOf, solved, tableQuestion, asked, answerLines, fixedLines, picturesOf, questionSaid, stepsOf, cutNames";
 vm.runInThisContext(`${within("parts")}\nglobalThis.page = { ${NAMES} };`);
 const run = page.solverOf(new WebAssembly.Module(Buffer.from(within("solver"), "base64")));
 const latin = (bytes) => Buffer.from(bytes).toString("latin1");
@@ -48,6 +48,10 @@ async function said([bytes, reading]) {
   }
 }
 
+// Why there is no answer about a file of pq, or that there is one.
+const plainSaid = ([kind, content]) =>
+  page.solved(async (...words) => run(...words), kind, Buffer.from(content, "latin1")).then(() => "an answer", (stop) => stop.message);
+
 // What a run gives for which the stack may be too small: its answer, or why there is none.
 function ranDeep(one) {
   try {
@@ -59,9 +63,10 @@ function ranDeep(one) {
 }
 
 async function main() {
-  const { runs, deep, tables } = JSON.parse(fs.readFileSync(cases, "utf8")), found = [];
+  const { runs, deep, tables, plain } = JSON.parse(fs.readFileSync(cases, "utf8")), found = [];
   for (const one of tables) found.push(await said(one));
-  fs.writeFileSync(answers, JSON.stringify({ runs: runs.map(ran), deep: deep.map(ranDeep), tables: found }));
+  const refused = await Promise.all(plain.map(plainSaid));
+  fs.writeFileSync(answers, JSON.stringify({ runs: runs.map(ran), deep: deep.map(ranDeep), tables: found, plain: refused }));
 }
 
 main();

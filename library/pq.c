@@ -15,8 +15,9 @@ static struct span span_of(const void *at, size_t length) {
     return found;
 }
 
+/* Whether there may be so many bytes here: no object is longer than PTRDIFF_MAX, or goes over the end of memory. */
 static int is_sound(const void *at, size_t length) {
-    return length == 0 || (at != NULL && (uintptr_t)at + length >= (uintptr_t)at);
+    return length == 0 || (at != NULL && length <= PTRDIFF_MAX && (uintptr_t)at + length >= (uintptr_t)at);
 }
 
 /* Whether a place lies in both; none lies in a span without bytes. */
@@ -35,6 +36,10 @@ static int are_apart(const struct span *spans, int count, int from) {
 
 /* A place for a slice without bytes. */
 static uint8_t nothing[1];
+
+const char *pq_version(void) {
+    return PQ_VERSION;
+}
 
 uint8_t pq_run(struct pq_bytes words, struct pq_bytes first, struct pq_bytes second, struct pq_room *reply, struct pq_room *line) {
     if (reply == NULL || line == NULL || !is_sound(words.at, words.length) || !is_sound(first.at, first.length) ||

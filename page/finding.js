@@ -5,10 +5,18 @@
 const MOST_CORES = 20, COUNTED = 10n ** 15n;
 const textOf = (bytes) => new TextDecoder().decode(bytes);
 
+// What is said of a run without an answer: of a file that is refused also what the code means, and the line. As `fault` of program.py.
+function faultSaid({ status, line }) {
+  const refused = line.match(/^pq: refused \d code (\d+) line (\d+)$/);
+  if (!refused) return line || `pq ended with status ${status}`;
+  const [, code, at] = refused;
+  return `${line}: ${CODES[code] ?? "refused"}${at === "0" ? "" : `, line ${at}`}`;
+}
+
 // The reply of a call that gives one.
 async function called(ask, words, first, second) {
   const said = await ask(words, first, second);
-  if (said.status > 1) throw new Stop(said.line || `pq ended with status ${said.status}`);
+  if (said.status > 1) throw new Stop(faultSaid(said));
   return said;
 }
 
@@ -36,7 +44,7 @@ async function findCores(ask, side, found) {
     if (said.status !== 0) return;
     await judged(ask, ["check-core", "rows", "1", "2"], content, said.reply);
     const core = coreOf(textOf(said.reply)), named = new Set(core.rows.map((row) => left[row - 1]));
-    found.cores.push({ rows: core.rows.map((row) => left[row - 1]), cycle: placed(core.cycle, left) });
+    found.cores.push({ rows: core.rows.map((row) => left[row - 1]), cycle: placed(core.cycle, left), content, text: said.reply });
     left = left.filter((place) => !named.has(place));
   }
 }

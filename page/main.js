@@ -25,14 +25,15 @@ function list(items, kind = "ul") {
 }
 
 const section = (title, ...parts) => (parts.length ? [element("h2", title), ...parts] : []);
-const wordsIn = (id) => $(id).value.split(",").map((one) => one.trim()).filter((one) => one);
+const partsIn = (id, separator) => $(id).value.split(separator).map((one) => one.trim()).filter((one) => one);
 
 // How the user says that the table is read.
 function reading() {
   const order = document.querySelector("input[name=order]:checked");
   return {
     kind: $("kind").value === "circular table" ? "circular" : "rows", order: order ? order.value : null, header: Math.max(1, Number($("header").value) || 1),
-    separator: $("separator").value || null, lineNames: $("line-names").value || null, drop: wordsIn("drop"), marks: { present: wordsIn("marks"), absent: wordsIn("absent") },
+    separator: $("separator").value || null, lineNames: $("line-names").value || null, drop: partsIn("drop", "\n"),
+    marks: { present: partsIn("marks", ","), absent: partsIn("absent", ",") },
   };
 }
 
@@ -71,7 +72,7 @@ function show(shown) {
     ...section("The picture", ...shown.pictures.map(figure)), ...section("What is fixed", ...list(shown.fixed)),
     ...section("What contradicts what", ...coresShown(shown)), ...section(`The ${shown.rows} set aside`, ...list(shown.aside)),
     ...section("What was read", ...list([...shown.counted, ...shown.notes]), ...warnings, ...hints),
-    ...section("To check it", ...shown.files.map(saved), ...shown.commands.map((one) => element("code", one))));
+    ...section("To check it", ...shown.files.map(saved), ...shown.commands.map((one) => element("p", "", element("code", one)))));
 }
 
 // A question without an answer: why, and where the fields are that it names.
@@ -90,7 +91,7 @@ function ended(text) {
 }
 
 function go() {
-  const kind = $("kind").value, isTable = kind.endsWith("table");
+  const kind = $("kind").value, isTable = !kind.startsWith("file of ");
   $("answer").replaceChildren();
   if (isTable && !reading().order) return ended("Say first which of the two are to be put in order: the columns or the lines.");
   ended("Looking for an order …");

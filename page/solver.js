@@ -34,7 +34,8 @@ function solverOf(module) {
     const line = room(LINE_ROOM), counts = room(16);
     for (let count = FIRST_ROOM; ; count *= MORE) {
       const reply = room(count);
-      const status = within(() => instance.pq_c_run(...given, reply, BigInt(count), counts, line, BigInt(LINE_ROOM), counts + 8n));
+      // The status is the last byte: a module may leave anything in the others.
+      const status = within(() => instance.pq_c_run(...given, reply, BigInt(count), counts, line, BigInt(LINE_ROOM), counts + 8n)) & 255;
       const view = new DataView(instance.memory.buffer, Number(counts), 16), [written, told] = [0, 8].map((from) => Number(view.getBigUint64(from, true)));
       if (status !== 5) return { status, reply: at(reply, written).slice(), line: textOf(at(line, told)).trim() };
       instance.pq_free(reply);

@@ -1,6 +1,20 @@
 // One question in a thread of its own, which the page may stop. It is handed the bytes of the module, the bytes of the file and how they are read.
 "use strict";
 
+// The files of a proof, by their names, each with what they hold, and the commands that judge them.
+function proofOf(question, finding) {
+  const found = finding.contradiction, [side] = question.sides;
+  const proved = [["check", question.kind, "question.in", question.content, "verdict.txt", finding.reply]];
+  if (found) {
+    found.cores.forEach((core, at) => proved.push(["check-core", "rows", `core${at + 1}.in`, core.content, `core${at + 1}.txt`, core.text]));
+    proved.push(["check", "rows", "agreed.in", asRows(side, found.agreed), "agreed.txt", found.agreedText]);
+  }
+  return {
+    files: proved.flatMap(([, , first, content, second, text]) => [[first, content], [second, text]]),
+    commands: proved.map(([command, kind, first, , second]) => `pq ${command} ${kind} ${first} ${second}`),
+  };
+}
+
 // What the page shows of a table.
 async function shownTable(ask, bytes, where, reading) {
   const question = tableQuestion(bytes, where, reading), finding = await asked(ask, question);
@@ -12,8 +26,7 @@ async function shownTable(ask, bytes, where, reading) {
     notes: question.notes, warnings: question.warnings, rows, cores,
     steps: found && found.cores.length ? stepsOf(found.cores[0].cycle, side.things, names) : [],
     aside: found ? found.aside.map((one) => `${names[one.row]}: contradicts ${one.others.map((row) => names[row]).join(", ")}`) : [],
-    files: [["question.in", question.content], ["verdict.txt", finding.reply]],
-    commands: [`pq check ${question.kind} question.in verdict.txt`],
+    ...proofOf(question, finding),
   };
 }
 

@@ -1,6 +1,6 @@
 #!/usr/bin/env python3
-"""Lists the definitions that the top call `run` and the laws beside it rest on, with their files and lines, and keeps the lists of
-docs/SCEPTICS.md true.
+"""Lists the definitions that the top call `run`, the laws beside it and the call of the library rest on, with their files and lines, and
+keeps the lists of docs/SCEPTICS.md true.
 
 Usage: scripts/definitions.py                    compares the page with the sources; the last line is `N passed, N failed`
        scripts/definitions.py write              writes the lists of the page anew
@@ -29,7 +29,9 @@ ANSWER = "answer"
 PROMISE = "promise"
 PROMISED = ("crates/reply_laws/specs/Promise.antt", "IsPromised")
 # The crates whose laws say what replies mean.
-LAWS = ["pq_cli", "one_text"]
+LAWS = ["pq_cli", "one_text", "pq_c"]
+# The call of the library.
+LIBRARY = ("crates/pq_c/src/call.rt", "pq_c_run")
 # The types whose cases tell the commands, the kinds of files and the instances apart.
 COMMANDS = ("crates/command_input/specs/Words.antt", "Command")
 KINDS = ("crates/row_model/src/kind.rt", "Kind")
@@ -188,7 +190,7 @@ class Listing:
     def __init__(self, path, call, left_out=frozenset(), clause=None):
         self.left_out = left_out
         self.found, self.cites, self.code, self.kit = {}, {}, set(), set()
-        contract = re.sub(r"//.*", "", re.search(rf"^pub fn {call}\b.*?^\{{", source(path), re.S | re.M)[0])
+        contract = re.sub(r"//.*", "", re.search(rf'^pub (?:extern "C" )?fn {call}\b.*?^\{{', source(path), re.S | re.M)[0])
         if clause:
             contract = next(one for one in contract.split("ensures ") if one.startswith(clause + " "))
         self.follow(contract, uses_of(source(path)), None)
@@ -258,7 +260,7 @@ class Listing:
                     visit(cited, above | {path})
                 done.append(path)
 
-        lowest_first = [line.split(":")[0] for line in source("crates.txt").split("\n")]
+        lowest_first = [line.split(":")[0].split(" ")[0] for line in source("crates.txt").split("\n")]
         for path in sorted(self.found, key=lambda path: (lowest_first.index(path.split(os.sep)[1]), path)):
             visit(path, frozenset())
         return [path for path in done if self.found.get(path)]
@@ -374,7 +376,7 @@ def lists():
     answer, promise = (Listing(*CALL, left_out, clause) for clause in (ANSWER, PROMISE))
     first, whole = Listing(*CALL, left_out), Listing(*CALL)
     return {"counts": counts(whole), "answer": table(answer), "promise": table(promise, answer), "clauses": table(first, answer, promise), "others": table(whole, first),
-            "laws": laws(whole), "code": of_code(whole), "kit": of_kit(whole)}
+            "laws": laws(whole), "library": table(Listing(*LIBRARY), whole), "code": of_code(whole), "kit": of_kit(whole)}
 
 
 def with_lists(page, made):

@@ -9,6 +9,7 @@ calls from C, Python and R. The status is 0; 70 where something is missing or no
 """
 
 import os
+import shlex
 import shutil
 import subprocess
 import sys
@@ -19,9 +20,10 @@ import build
 CRATE = "pq_c"
 SOURCES = os.path.join(build.HOME, "library")
 NAMES = ["pq.c", "pq_r.c"]
-# What stands in the place of the toolchain's compiler: it keeps the module that it is handed, of which the page is made as well.
+# What stands in the place of the toolchain's compiler: it keeps the module that it is handed, of which the page is made as well. Both paths
+# are quoted for the shell.
 KEEPER = """#!/bin/sh
-for one in "$@"; do case $one in *.bc) cp "$one" {module}.new ;; esac; done
+for one in "$@"; do case $one in *.bc) cp "$one" {module} ;; esac; done
 exec {clang} "$@"
 """
 
@@ -55,6 +57,11 @@ class Archive(build.House):
                 stream.write(self.stamps[crate])
 
 
+def keeper_of(module, clang):
+    """The text of the compiler that keeps the module at this path."""
+    return KEEPER.format(module=shlex.quote(module), clang=shlex.quote(clang))
+
+
 def keep_modules(toolchain, folder):
     """Makes a folder like the toolchain's, whose compiler keeps the module."""
     os.makedirs(os.path.join(folder, "bin"), exist_ok=True)
@@ -64,7 +71,7 @@ def keep_modules(toolchain, folder):
             os.symlink(os.path.join(toolchain, "bin", name), os.path.join(folder, "bin", name))
     keeper = os.path.join(folder, "bin", "clang")
     with open(keeper, "w", encoding="utf-8") as stream:
-        stream.write(KEEPER.format(module=made("module.bc"), clang=os.path.join(toolchain, "bin", "clang")))
+        stream.write(keeper_of(made("module.bc.new"), os.path.join(toolchain, "bin", "clang")))
     os.chmod(keeper, 0o755)
 
 
@@ -83,14 +90,20 @@ def run(words):
         raise OSError(f"{os.path.basename(words[0])}: {done.stdout.decode(errors='replace')}")
 
 
+def version():
+    """The version of Sulgyabet."""
+    with open(os.path.join(build.HOME, "VERSION"), encoding="utf-8") as stream:
+        return stream.read().strip()
+
+
 def linked(folder):
     """What links the library of the archive into a folder, whole or not at all."""
 
     def link(house):
         os.makedirs(folder, exist_ok=True)
         new = os.path.join(folder, "libpq.so.new")
-        run([compiler(), "-O2", "-fPIC", "-shared", *(os.path.join(SOURCES, name) for name in NAMES), made("libpq_c.a"),
-             house.toolchain.path("c", "liblibc_c.a"), "-o", new, "-Wl,--exclude-libs,ALL", "-Wl,-z,defs", "-Wl,-soname,libpq.so"])
+        run([compiler(), "-O2", "-fPIC", "-shared", f'-DPQ_VERSION="{version()}"', *(os.path.join(SOURCES, name) for name in NAMES),
+             made("libpq_c.a"), house.toolchain.path("c", "liblibc_c.a"), "-o", new, "-Wl,--exclude-libs,ALL", "-Wl,-z,defs", "-Wl,-soname,libpq.so"])
         os.rename(new, os.path.join(folder, "libpq.so"))
         shutil.copyfile(os.path.join(SOURCES, "pq.h"), os.path.join(folder, "pq.h"))
 

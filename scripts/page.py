@@ -4,11 +4,13 @@
 Usage: scripts/page.py [FOLDER]         the folder in the place of dist; the solver's module is written beside the page as pq.wasm
 
 The library's crate is proved and built first, as scripts/library.py does. Of the module that the toolchain makes of it, WebAssembly is
-made by clang 16, its linker and binaryen (Debian: clang-16, lld-16, binaryen). These three are not proved. The status is 0; 70 where
-something is missing or not proved; 130 where it was interrupted.
+made by clang 16, its linker and binaryen (Debian: clang-16, lld-16, binaryen). These three are not proved, nor is `for_the_web`, which
+rewrites the module's text for them. The status is 0; 70 where something is missing or not proved; 130 where it was interrupted.
 """
 
 import base64
+import hashlib
+import json
 import os
 import re
 import shutil
@@ -17,6 +19,10 @@ import tempfile
 
 import build
 import library
+
+sys.path.insert(0, os.path.join(build.HOME, "companion"))
+
+from pqparts.program import CODES  # noqa: E402
 
 SOURCES = os.path.join(build.HOME, "page")
 # The parts of the page in their order; each may use those before it.
@@ -38,14 +44,14 @@ def missing():
 
 
 def for_the_web(text):
-    """The text of the module as clang 16 takes it, for a processor with 64-bit memory."""
+    """The text of the module as clang 16 takes it, for a processor with 64-bit memory. Where it has no call `pq_c_run`, the linker stops."""
     text = re.sub(r"^target datalayout = .*$", f'target datalayout = "{LAYOUT}"', text, flags=re.M)
     text = re.sub(r"^target triple = .*$", 'target triple = "wasm64-unknown-unknown"', text, flags=re.M)
     text = re.sub(r'"stack-probe-size"="[0-9]*"', "", text)
     text = re.sub(r"<(\d+) x (\w+)> splat \((\w+) ([^)]+)\)", lambda found: f"<{found[1]} x {found[2]}> <" + ", ".join([f"{found[3]} {found[4]}"] * int(found[1])) + ">", text)
     for old, new in WORDS:
         text = text.replace(old, new)
-    return re.sub(r"^(define .*@pq_c_run\(.*\)) #([0-9]+) \{", r'\1 #\2 "wasm-export-name"="pq_c_run" {', text, flags=re.M)
+    return text
 
 
 def compiled(house, folder):
@@ -62,8 +68,8 @@ def compiled(house, folder):
     for name in ("heap", "helpers"):
         library.run([*target, *(f"-m{one}" for one in FEATURES), "-O2", "-fwrapv", "-ffreestanding", "-fno-builtin", "-nostdinc", "-c",
                      os.path.join(library.SOURCES, f"{name}.c"), "-o", path(f"{name}.o")])
-    library.run(["wasm-ld-16", "-mwasm64", "--no-entry", "--stack-first", "-z", f"stack-size={STACK}", "--export=__heap_base", "--gc-sections",
-                 path("solver.o"), path("heap.o"), path("helpers.o"), "-o", path("wide.wasm")])
+    library.run(["wasm-ld-16", "-mwasm64", "--no-entry", "--stack-first", "-z", f"stack-size={STACK}", "--export=__heap_base",
+                 "--export=pq_c_run", "--gc-sections", path("solver.o"), path("heap.o"), path("helpers.o"), "-o", path("wide.wasm")])
     library.run(["wasm-opt", *LOWERING, path("wide.wasm"), "-o", path("pq.wasm")])
     return path("pq.wasm")
 
@@ -74,13 +80,19 @@ def source(name):
         return stream.read()
 
 
+def fenced(text):
+    """The page with the sums of its own scripts in its policy, so a browser runs no other script."""
+    scripts = re.findall(r"<script(?: id=\"\w+\")?>(.*?)</script>", text, flags=re.S)
+    sums = (base64.b64encode(hashlib.sha256(one.encode()).digest()).decode() for one in scripts)
+    return text.replace("@SCRIPTS@", " ".join(f"'sha256-{one}'" for one in sums), 1)
+
+
 def page_of(solver):
     """The page with a module in it."""
-    with open(os.path.join(build.HOME, "VERSION"), encoding="utf-8") as stream:
-        version = stream.read().strip()
-    filled = {"@SOLVER@": base64.b64encode(build.text_of(solver)).decode(), "@PARTS@": "".join(map(source, PARTS)), "@WORKER@": source("worker.js"),
-              "@MAIN@": source("main.js"), "@VERSION@": version}
-    return re.sub("|".join(filled), lambda found: filled[found[0]], source("template.html"))
+    parts = "".join(map(source, PARTS)) + f"// What pq's codes of refusals mean, as the companion says it.\nconst CODES = {json.dumps(CODES)};\n"
+    filled = {"@SOLVER@": base64.b64encode(build.text_of(solver)).decode(), "@PARTS@": parts, "@WORKER@": source("worker.js"),
+              "@MAIN@": source("main.js"), "@VERSION@": library.version()}
+    return fenced(re.sub("|".join(filled), lambda found: filled[found[0]], source("template.html")))
 
 
 def written(folder):

@@ -4,8 +4,9 @@
 Usage: scripts/release.py               takes what scripts/library.py and scripts/page.py take
        scripts/release.py compare FOLDER   says whether a folder that was handed out has the same files as dist/ of this checkout
 
-Whoever has this checkout, the toolchain and the same versions of the tools makes the same files again: dist/SUMS names the versions, and
-the sum of each file (SHA-256). The status is 0; 1 where files differ; 70 where something is missing or not proved.
+Whoever has this clone, the toolchain and the same versions of the tools makes the same files again: dist/SUMS names the versions, and the
+sum of each file (SHA-256). Versions that differ are told, and are no difference of files. The status is 0; 1 where files differ; 70 where
+something is missing or not proved, so where there is nothing to compare as well.
 """
 
 import hashlib
@@ -48,10 +49,18 @@ def names_in(folder):
     return sorted(os.path.relpath(os.path.join(place, name), folder) for place, _, names in os.walk(folder) for name in names if name != SUMS)
 
 
-def packed(folder, name):
-    """The files of a folder in one archive, the same for the same files: not compressed, since that differs from one Python to another."""
+def listed(folder):
+    """The files of a folder that belong to this clone."""
+    done = subprocess.run(["git", "ls-files", folder], cwd=HOME, stdout=subprocess.PIPE, stderr=subprocess.PIPE, text=True, check=False)
+    if done.returncode or not done.stdout:
+        raise OSError(f"git lists no files of {folder}/: a release is built in a clone. {done.stderr.partition(os.linesep)[0]}")
+    return done.stdout.splitlines()
+
+
+def packed(names, name):
+    """Files in one archive, the same for the same files: not compressed, since that differs from one Python to another."""
     with tarfile.open(path(name), mode="w", format=tarfile.USTAR_FORMAT) as archive:
-        for one in subprocess.run(["git", "ls-files", folder], cwd=HOME, stdout=subprocess.PIPE, text=True, check=True).stdout.splitlines():
+        for one in names:
             entry = archive.gettarinfo(os.path.join(HOME, one), one)
             entry.mtime, entry.uid, entry.gid, entry.uname, entry.gname = 0, 0, 0, "", ""
             entry.mode = 0o755 if entry.mode & 0o100 else 0o644
@@ -61,6 +70,7 @@ def packed(folder, name):
 
 def release():
     """Builds dist/ anew."""
+    companion = listed("companion")
     shutil.rmtree(DIST, ignore_errors=True)
     os.makedirs(DIST)
     for words in (["scripts/library.py"], ["scripts/page.py"], ["scripts/build.py"]):
@@ -72,7 +82,7 @@ def release():
     os.chmod(path("libpq.so"), 0o755)
     for name in COPIED:
         shutil.copyfile(os.path.join(HOME, name), path(os.path.basename(name)))
-    packed("companion", "companion.tar")
+    packed(companion, "companion.tar")
     lines = [f"# {version(words)}" for words in TOOLS] + [f"{sum_of(path(name))}  {name}" for name in names_in(DIST)]
     with open(path(SUMS), "w", encoding="utf-8") as stream:
         stream.write("\n".join(lines) + "\n")
@@ -80,26 +90,50 @@ def release():
     return 0
 
 
+def lines_of(folder):
+    """The lines of the sums in a folder: those of the tools, and those of the files."""
+    with open(os.path.join(folder, SUMS), encoding="utf-8") as stream:
+        lines = stream.read().splitlines()
+    return [line for line in lines if line.startswith("#")], [line for line in lines if not line.startswith("#")]
+
+
+def told_by(folder):
+    """What is compared of a folder: for each file its sum; of the sums their lines, without those of the tools."""
+    found = {name: sum_of(os.path.join(folder, name)) for name in names_in(folder)}
+    if not found:
+        raise OSError(f"{folder}: there is no such folder, or nothing in it")
+    return {**found, SUMS: lines_of(folder)[1]} if os.path.exists(os.path.join(folder, SUMS)) else found
+
+
+def tools_apart(ours, theirs):
+    """Which versions of tools the sums of one of two folders name alone."""
+    tools = {place: lines_of(place)[0] for place in (ours, theirs)}
+    for one, other in ((ours, theirs), (theirs, ours)):
+        yield from (f"{one} was made with {line.removeprefix('# ')}" for line in tools[one] if line not in tools[other])
+
+
 def compare(folder):
-    """Says which files of a folder differ from those of dist/."""
-    ours, theirs = names_in(DIST), names_in(folder)
-    different = [name for name in sorted({*ours, *theirs}) if name not in ours or name not in theirs or sum_of(path(name)) != sum_of(os.path.join(folder, name))]
+    """Says which files of a folder differ from those of dist/, and which tools made them."""
+    ours, theirs = told_by(DIST), told_by(folder)
+    same = [name for name in ours if ours[name] == theirs.get(name)]
+    different = sorted({*ours, *theirs} - {*same})
     for name in different:
-        print(f"{name}: differs, or is in one of the two alone")
-    print(f"{len(set(ours) & set(theirs)) - len([name for name in different if name in ours and name in theirs])} files are the same")
+        print(f"{name}: {'differs' if name in ours and name in theirs else f'is in {DIST if name in ours else folder} alone'}")
+    for line in tools_apart(DIST, folder) if SUMS in ours and SUMS in theirs else []:
+        print(line)
+    print(f"{len(same)} files are the same")
     return 1 if different else 0
 
 
 def main(words):
-    if words[:1] == ["compare"] and len(words) == 2:
-        return compare(words[1])
-    if words:
+    compares = words[:1] == ["compare"] and len(words) == 2
+    if words and not compares:
         print(__doc__.strip(), file=sys.stderr)
         return 2
     try:
-        return release()
-    except OSError as error:
-        print(f"pq: the release could not be built: {error}", file=sys.stderr)
+        return compare(words[1]) if compares else release()
+    except (OSError, subprocess.SubprocessError) as error:
+        print(f"pq: the release could not be {'compared' if compares else 'built'}: {error}", file=sys.stderr)
         return FAILED
 
 

@@ -5,19 +5,29 @@ Usage: scripts/walls.py
 
 1. A crate's proofs are its own: no crate cites the proofs of another crate of this repository, but of those at the bottom, whose
    definitions everything shares. What a crate above needs of any other crate is a public law of it.
-2. Work is counted where it is done: outside tests no code but that of the step counter, of the replies for which something is solved,
-   of the program that times the bubble pass and of the example of a library makes a counter of its own.
+2. Work is counted where it is done: outside tests no code makes a counter of its own but that of the step counter, of the top call,
+   where a run makes the one that all calls below are lent, of the program that times the bubble pass and of the example of a library. No
+   import gives a counter or a matrix another name, by which a rule could miss it.
 3. Reducing a row looks at no more nodes than its steps count: outside tests no code of the crates that reduce a row in place names
    one of the calls that go over a whole arena without a step, but for the reducer's `tree`.
-4. Reducing a row takes no memory: outside tests no code of these crates or of the arena takes an allocator out of a vector, and a call
-   that is handed none has no other.
+4. Reducing a row takes no memory: outside tests no code of these crates or of the arena takes an allocator out of a vector, and a function
+   that is handed none calls nothing that takes memory of a vector's own. Nor do the other calls of which this is promised.
 5. Every function of the end-to-end checks, the benches and the scripts is called: a check that does not run is none.
 6. The pages name what there is: each call, type and law in the second column of docs/CONTRACTS.md is one of the crate in the first;
-   docs/HOUSE.md has each crate on its floor, as crates.txt has it; docs/PROMISES.md names each clause of the top call; and README.md or a
+   docs/HOUSE.md has each crate on its floor, as crates.txt has it; docs/PROMISES.md names each clause of the top call and of the one that counts; and README.md or a
    page of docs/ names each public law. What scripts write into a page between two marks doesn't count.
 7. The house has floors: crates.txt lists each crate under the heading of its floor, after all those that it stands on, so no crate stands
    on one of a higher floor. As the floor of the search stands above that of the checks, `check` makes no search.
 8. A name has one meaning: no name of a crate's definitions stands twice in it, or in a crate that it stands on as well.
+9. A search reads what is counted: outside tests the crates that search name a matrix only in the functions that UNCOUNTED lists. All
+   others are handed its rows as `CountedRows` of row_model, of which each look at a row is a step. Of the listed ones those that HANDING
+   lists do nothing with the matrix but hand it on as that.
+10. A loop of a search is counted: each loop of a function of these crates hands the counter on in its head or body, or ticks, but for those
+   that UNTICKED lists.
+11. Who may search: verdict_check names no search, and the crates of the replies and of the program stand on no crate that reduces or
+   searches but c1p_solve.
+
+What stands behind `#[cfg(test)]` is a test, also in a file of its own; a file without that is none, whatever its name.
 
 Each line that breaks a rule is printed. The last line is `N passed, N failed`; the status is 0 where nothing failed.
 """
@@ -33,10 +43,43 @@ import build
 HOME = os.path.dirname(os.path.dirname(os.path.abspath(__file__)))
 # The crates whose definitions everything shares; docs/DECISIONS.md says why they offer their lemmas too.
 SHARED_PROOFS = {"column_order", "plain_text", "text_parts", "row_model", "pair_classes", "text_lines", "pq_tree", "tied_law", "template_theory", "row_core", "arena_model", "template_model"}
-COUNTERS = {"step_count", "commands", "solve_replies", "bubble_bench", "order_example"}
+COUNTERS = {"step_count", "bubble_bench", "order_example"}
+# The functions of the top call that make the counter of a run.
+RUN_COUNTER = {"run", "run_from"}
 STEPPED = ["bubble_pass", "full_pass", "templates_p", "templates_q", "row_reduce"]
 WITHOUT_MEMORY = ["pq_arena"] + STEPPED
 WHOLE_TREE = ("crates/row_reduce/src/reducer.rt", "tree")
+# Calls besides that are promised to take no memory, by their crates.
+PROMISED = {"row_model": {"pop_row", "row", "has", "joined_by"}, "pair_classes": {"same"}, "walk_search": {"joined"}, "verdict_check": {"tree_holds"}, "proper_interval": {"fits"}}
+# The crates that search, and their functions that may name a matrix: those with a signature of their own, which hand its rows on as
+# `CountedRows`; those of the judge, who counts no steps; and those of the small matrix that an attempt makes for itself.
+SEARCHING = ["pair_classes", "open_gaps", "walk_search", "incompat_graph"]
+UNCOUNTED = {
+    "pair_classes": {"even_classes"},
+    "open_gaps": {"of_rows", "gaps_of_all"},
+    "walk_search": {"odd_walk", "joined", "simple_cycle"},
+    "incompat_graph": {"odd_cycle_along", "part_of", "pays", "cycle_of"},
+}
+# Of these, those that are lent a counter and hand the matrix on.
+HANDING = {"even_classes", "odd_walk", "odd_cycle_along"}
+HANDED = "CountedRows::new(m)"
+# Their functions with a loop that counts no step: of a table that is set up or handed out once; up a set of pairs; of the judge; along
+# the lines that are found; over the few columns, rows, ways and pivots that an attempt takes.
+UNTICKED = {
+    "pair_classes": {"each_alone", "flatten", "root_of"},
+    "open_gaps": {"cover", "gaps_of_all"},
+    "walk_search": {"rows_by_column", "way_down", "add_way_up", "joined"},
+    "incompat_graph": {
+        "add_forth", "add_back", "columns_near", "openers", "add_lines", "lines_of", "without_repeats",
+        "thinned", "closed_at_once", "is_known", "odd_circle", "circle_by", "first_left", "place_among", "spread", "path_up",
+    },
+}
+SEARCHES = {"odd_walk", "odd_cycle_along", "shorter_cycle", "find_core", "walk_across"}
+JUDGE = "verdict_check"
+SOLVER = "c1p_solve"
+# The crates that reduce or search, and those that reach them by the solver alone.
+BEHIND_SOLVER = {"pq_arena", "bubble_pass", "templates_q", "full_pass", "templates_p", "row_reduce", "walk_search", "incompat_graph", "pq_plain"}
+BEFORE_SOLVER = ["solve_replies", "reply_laws", "pq_cli", "pq", "pq_gen", "pq_c"]
 PYTHON = ["end_to_end", "bench", "scripts"]
 CONTRACTS = os.path.join("docs", "CONTRACTS.md")
 PROMISES = os.path.join("docs", "PROMISES.md")
@@ -44,10 +87,25 @@ HOUSE = os.path.join("docs", "HOUSE.md")
 TOP = os.path.join("crates", "pq_cli", "src", "top.rt")
 
 CITED = re.compile(r"Rattle\.([a-z0-9_]+)\.proofs\b|\b([a-z0-9_]+)::proofs::")
-COUNTER = re.compile(r"\b(Blank|Brand)\b")
+COUNTER = re.compile(r"\b(Blank|Brand)\b|\bSteps\b.*::new\b|^::new\b")
+RENAMED = re.compile(r"\b(?:Matrix|Blank|Brand|Steps) as \w+")
 FUNCTION = re.compile(r"\bfn (\w+)")
 WALK = re.compile(r"\b(to_tree|is_one_tree|has_two_each)\b")
 ALLOCATOR = re.compile(r"\ballocator\(")
+# what takes memory of a vector's own; the climber's call of this name puts a node into a queue that has room for all that comes to it
+TAKES = re.compile(r"(?:\.|Vec::)(?:push|insert|append|reserve|resize|resize_with|extend|extend_from_slice|extend_from_within|to_vec|to_owned|collect|clone)\b|\bvec!")
+QUEUED = re.compile(r"bubble_pass/src/climber\.rt:\d+ .*\bself\.push\(|bubble_pass/src/\w+\.rt:\d+ .*\bclimber\.push\(")
+MATRIX = re.compile(r"\bMatrix\b")
+# the matrix `m` in the body of a function, where clauses and parameters don't stand
+OF_MATRIX = re.compile(r"^(?!.*\b(?:requires|ensures)\b|\s+\().*\bm\b(?!:)(?!\.now)")
+# a loop with a block of its own, and any loop
+BLOCK = re.compile(r"^\s*(?:'\w+: )?(?:for|while|loop)\b")
+LOOP = re.compile(BLOCK.pattern + r"|\.(?:any|all|find|find_map|filter|filter_map|flat_map|map_while|take_while|skip_while|for_each|try_for_each|fold|try_fold|scan)\(|\.position\(\||iter\(\).*\.map\(")
+# a line of an import
+IMPORTS = re.compile(r"(?:pub )?use |[\w, ]+,$")
+WORD = re.compile(r"\w+")
+FUNCTION_HEAD = re.compile(r"^(\s*)(?:pub(?:\([^)]*\))? )?fn (\w+)")
+TEST_MODULE = re.compile(r"^#\[cfg\(test\)\]\n(?:pub )?mod (\w+);", re.M)
 NAMED = re.compile(r"`([\w:]+)`")
 # a part of a page that a script writes
 WRITTEN = re.compile(r"^<!-- Begin of .*?^<!-- End of ", re.S | re.M)
@@ -108,13 +166,45 @@ def outside_tests(path):
             yield place, line
 
 
+def test_places(crate):
+    """The files and folders of the modules of a crate that are compiled for tests alone."""
+    for path in files(os.path.join("crates", crate, "src"), ".rt"):
+        stem = os.path.splitext(path)[0]
+        home = os.path.dirname(path) if os.path.basename(stem) in ("lib", "main") else stem
+        with open(path, encoding="utf-8") as stream:
+            for name in TEST_MODULE.findall(stream.read()):
+                yield os.path.join(home, name)
+
+
+def sources(crate):
+    """The sources of a crate that are no part of its tests."""
+    tests = list(test_places(crate))
+    for path in files(os.path.join("crates", crate, "src"), ".rt"):
+        if not any(path == place + ".rt" or path.startswith(place + os.sep) for place in tests):
+            yield path
+
+
 def code(crate):
     """The lines of a crate's sources that are no part of its tests, without comments, with where each stands."""
-    for path in files(os.path.join("crates", crate, "src"), ".rt"):
-        if os.path.basename(path).endswith("_tests.rt") or os.path.basename(path) == "tests.rt" or "tests" in os.path.dirname(path).split(os.sep):
-            continue
+    for path in sources(crate):
         for place, line in outside_tests(path):
             yield place, line.split("//")[0].strip()
+
+
+def functions(crate):
+    """The functions of a crate outside its tests: the name of each, and its lines without comments, with where each stands."""
+    for path in sources(crate):
+        name, indent, lines = None, "", []
+        for place, line in outside_tests(path):
+            line = line.split("//")[0].rstrip()
+            head = FUNCTION_HEAD.match(line)
+            if head and name is None:
+                name, indent, lines = head[2], head[1], []
+            if name is not None:
+                lines.append((place, line))
+                if line in (indent + "}", indent + "{}") or place == lines[0][0] and line.endswith("}") and line.count("{") == line.count("}"):
+                    yield name, lines
+                    name = None
 
 
 def own_counters(names):
@@ -122,9 +212,15 @@ def own_counters(names):
     for crate in names:
         if crate in COUNTERS:
             continue
+        function = None
         for place, line in code(crate):
-            if COUNTER.search(line):
+            found = FUNCTION.search(line)
+            function = found[1] if found else function
+            is_of_run = place.partition(":")[0] == TOP and (function in RUN_COUNTER or line.startswith("use "))
+            if COUNTER.search(line) and not is_of_run:
                 yield f"{place}: makes a step counter: {line}"
+            if RENAMED.search(line):
+                yield f"{place}: gives another name: {line}"
 
 
 def uncounted_walks():
@@ -139,11 +235,66 @@ def uncounted_walks():
 
 
 def hidden_memory():
-    """Where code that is to take no memory gets at an allocator."""
+    """Where code that is to take no memory gets at an allocator, or calls what takes memory of a vector's own."""
     for crate in WITHOUT_MEMORY:
         for place, line in code(crate):
             if ALLOCATOR.search(line):
                 yield f"{place}: takes an allocator out of a vector: {line}"
+    for crate in {*WITHOUT_MEMORY, *PROMISED}:
+        for name, lines in functions(crate):
+            if "alloc" in WORD.findall(" ".join(line for _, line in lines)) or crate in PROMISED and name not in PROMISED[crate]:
+                continue
+            for place, line in lines:
+                if TAKES.search(line) and not QUEUED.search(f"{place} {line}"):
+                    yield f"{place}: {name} takes memory, and is handed no allocator: {line.strip()}"
+
+
+def uncounted_reads():
+    """Where a search has a matrix in its hands, of which it could read rows without a step."""
+    for crate in SEARCHING:
+        inside = set()
+        for name, lines in functions(crate):
+            inside.update(place for place, _ in lines)
+            for place, line in lines:
+                if MATRIX.search(line) and name not in UNCOUNTED[crate]:
+                    yield f"{place}: {name} is handed a matrix, whose reads are not counted: {line.strip()}"
+                if name in HANDING and OF_MATRIX.search(line.replace(HANDED, "")):
+                    yield f"{place}: {name} does more with the matrix than to hand it on: {line.strip()}"
+        for place, line in code(crate):
+            if place not in inside and MATRIX.search(line) and not IMPORTS.match(line):
+                yield f"{place}: a matrix is kept, whose reads are not counted: {line}"
+
+
+def turn(lines, number):
+    """The lines of the loop that begins at a line of a function: its block, or its statement where it is an iterator's."""
+    first = lines[number][1]
+    end = first[:len(first) - len(first.lstrip())] + "}"
+    for _, line in lines[number:]:
+        if line == end:
+            return
+        yield line
+        if line.endswith(";") and not BLOCK.match(first):
+            return
+
+
+def uncounted_loops():
+    """Where a loop of a search counts no step."""
+    for crate in SEARCHING:
+        for name, lines in functions(crate):
+            for number, (place, line) in enumerate(lines):
+                if LOOP.search(line) and name not in UNTICKED[crate] and "steps" not in WORD.findall(" ".join(turn(lines, number))):
+                    yield f"{place}: a loop of {name} counts no step: {line.strip()}"
+
+
+def stray_searches():
+    """Where the judge names a search, or a crate before the solver stands on one behind it."""
+    for place, line in code(JUDGE):
+        for word in SEARCHES.intersection(WORD.findall(line)):
+            yield f"{place}: names the search {word}"
+    below = build.stands_on()
+    for crate in BEFORE_SOLVER:
+        for one in sorted(BEHIND_SOLVER.intersection(below[crate])):
+            yield f"crates.txt: {crate} stands on {one}, and not by {SOLVER}"
 
 
 def idle_functions():
@@ -199,9 +350,9 @@ def untold(names):
     for floor in sorted(house.keys() | listed.keys(), key=int):
         if house.get(floor) != listed.get(floor):
             yield f"{HOUSE}: floor {floor} has {house.get(floor)}, and crates.txt {listed.get(floor)}"
-    contract = re.search(r"^pub fn run\b.*?^\{", text_of(TOP), re.S | re.M)[0]
+    contracts = re.findall(r"^pub fn run(?:_counted)?\b.*?^\{", text_of(TOP), re.S | re.M)
     promised = set(NAMED.findall(text_of(PROMISES)))
-    for name in re.findall(r"^ +ensures (\w+)", contract, re.M):
+    for name in dict.fromkeys(name for contract in contracts for name in re.findall(r"^ +ensures (\w+)", contract, re.M)):
         if name not in promised:
             yield f"{PROMISES}: does not name {name}"
     told = {name for page in pages() for name in NAMED.findall(WRITTEN.sub("", text_of(page)))}
@@ -255,7 +406,7 @@ def main():
     names = crates()
     failed = 0
     rules = [foreign_proofs(names), own_counters(names), uncounted_walks(), hidden_memory(), idle_functions(), itertools.chain(unknown_contracts(names), untold(names)),
-             upward_edges(), names_with_two_meanings()]
+             upward_edges(), names_with_two_meanings(), uncounted_reads(), uncounted_loops(), stray_searches()]
     for broken in rules:
         found = list(broken)
         failed += bool(found)

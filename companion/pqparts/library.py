@@ -1,10 +1,12 @@
 """The solver in this process, by the library that scripts/library.py builds."""
 
 import ctypes
+import functools
 import mmap
 import os
+import sys
 
-from .program import CHECKOUT, Calls, Program, found_program
+from .program import CHECKOUT, Calls, Program, found_program, version
 from .stops import NO_MEMORY, READ_FAULT, Stop
 
 POINTERS = 64
@@ -44,14 +46,18 @@ def room_in(memory):
 
 
 class Library(Calls):
-    """Calls of the library. Several threads may call at a time."""
+    """Calls of the library, which has to be of the version that lies here. Several threads may call at a time."""
 
     def __init__(self, path):
         self.path = path
         try:
-            self.entry = ctypes.CDLL(path).pq_run
+            found = ctypes.CDLL(path)
+            self.entry, told = found.pq_run, found.pq_version
         except (OSError, AttributeError) as error:
-            raise Stop(READ_FAULT, f"{path}: this is no library of pq: {error}") from error
+            raise Stop(READ_FAULT, f"{path}: this is no library of pq {version()}: {error}") from error
+        told.argtypes, told.restype = [], ctypes.c_char_p
+        if told().decode() != version():
+            raise Stop(READ_FAULT, f"{path}: this is a library of pq {told().decode()}, and not of {version()}")
         self.entry.argtypes = [Bytes, Bytes, Bytes, ctypes.POINTER(Room), ctypes.POINTER(Room)]
         self.entry.restype = ctypes.c_uint8
 
@@ -76,17 +82,26 @@ class Library(Calls):
             room *= MORE
 
 
-def own_library():
-    """The path of the library: that which $PQ_LIBRARY names, else the one of this checkout, or of what was handed out; None where there is none."""
-    asked = os.environ.get("PQ_LIBRARY")
-    if asked:
-        return os.path.abspath(asked)
-    own = (os.path.join(CHECKOUT, *names, "libpq.so") for names in (["dist"], []))
-    return next((path for path in own if os.path.exists(path)), None)
+@functools.cache
+def own_library(folder=CHECKOUT):
+    """The library of a checkout, or of what was handed out. None where there is none that can be taken: of one that lies there it is said."""
+    paths = (os.path.join(folder, *names, "libpq.so") for names in (["dist"], []))
+    path = next(filter(os.path.exists, paths), None)
+    if path is None:
+        return None
+    try:
+        return Library(path)
+    except Stop as stop:
+        print(f"pq: {stop}; the program is called in its place", file=sys.stderr, flush=True)
+        return None
 
 
 def calls(program=None):
-    """How `pq` is called: by the program that is named, here or as $PQ; else by the library where it is there, else by the program."""
-    named = program or os.environ.get("PQ")
-    path = None if named else own_library()
-    return Program(found_program(program)) if path is None else Library(path)
+    """How `pq` is called: by the program that is named, here or as $PQ; else by the library that $PQ_LIBRARY names; else by the library that
+    lies here; else by the program."""
+    if program or os.environ.get("PQ"):
+        return Program(found_program(program))
+    asked = os.environ.get("PQ_LIBRARY")
+    if asked:
+        return Library(os.path.abspath(asked))
+    return own_library() or Program(found_program())

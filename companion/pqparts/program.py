@@ -20,6 +20,16 @@ CODES = {1: "nothing to read, or no column", 2: "a byte, a word or a cell outsid
          9: "no JSON", 10: "JSON of another shape", 12: "no tree over the columns"}
 
 
+def version():
+    """The version of Sulgyabet that lies here."""
+    path = os.path.join(CHECKOUT, "VERSION")
+    try:
+        with open(path, encoding="utf-8") as stream:
+            return stream.read().strip()
+    except OSError as error:
+        raise Stop(READ_FAULT, f"{path}: {error.strerror}") from error
+
+
 def found_program(given=None):
     """The path of `pq`: the one given, else $PQ, else that of this checkout, else the one on the PATH. Says how long a first build takes."""
     asked = given or os.environ.get("PQ")

@@ -6,9 +6,9 @@
 //! decide whether there are such walks. Most of these looks are left out: what one gap passes, each later gap passes.
 #![tactic(auto)]
 
-ghost use Rattle.std.specs.Prelude.{◌≡◌, ◌↔◌, ℕ, List, IfOk, IsTrue, All};
+ghost use Rattle.std.specs.Prelude.{◌≡◌, ◌↔◌, IfOk, IsTrue, All};
 ghost use Rattle.column_order.specs.Orders.{Keeps};
-ghost use Rattle.pq_tree.specs.Outline.{leaves, IsFrontier};
+ghost use Rattle.pq_tree.specs.Outline.{leaves};
 ghost use Rattle.pq_tree.specs.PqTree.{column_count, outline};
 ghost use Rattle.tied_law.specs.Tied.{AreTogether, AreInLine};
 
@@ -22,8 +22,8 @@ use pq_tree::PqTree;
 use row_model::{Matrix, NoMemory};
 use std::alloc::Global;
 
-/// Whether a tree whose frontiers all keep the rows has every valid order of the rows among its frontiers: the columns
-/// of each node stay together, and the children of each Q-node stand in line.
+/// Whether a tree whose leaves from left to right keep the rows has every valid order of the rows among its frontiers:
+/// the columns of each node stay together, and the children of each Q-node stand in line.
 ///
 /// Takes a logarithm of looks at the gaps for each column, on the average, and 52 bytes for each column.
 ///
@@ -31,16 +31,6 @@ use std::alloc::Global;
 ///
 /// `NoMemory` where there is no memory for the gaps and stretches of the tree.
 pub fn is_complete(alloc: Global, m: &Matrix, tree: &PqTree) -> Result<bool, NoMemory>
-    requires columns { column_count tree.now ≡ m.now.columns }
-    requires kept { (f : List ℕ) → IsFrontier (outline tree.now) f → All (Keeps f) m.now.rows }
-    ensures { IfOk result (λ yes. IsTrue yes ↔
-        (AreTogether m.now.columns m.now.rows (outline tree.now) × AreInLine m.now.columns m.now.rows (outline tree.now))) }
-{
-    is_bound(alloc, m, tree)
-}
-
-// The same of a tree whose leaves from left to right keep the rows, whatever its other frontiers do.
-fn is_bound(alloc: Global, m: &Matrix, tree: &PqTree) -> Result<bool, NoMemory>
     requires columns { column_count tree.now ≡ m.now.columns }
     requires kept { All (Keeps (leaves (outline tree.now))) m.now.rows }
     ensures { IfOk result (λ yes. IsTrue yes ↔

@@ -19,7 +19,7 @@ fn assert_bound(
             if !kept {
                 panic!(rt; "the leaves do not keep the rows");
             }
-            let found = is_bound(alloc, m, &tree)?;
+            let found = is_complete(alloc, m, &tree)?;
             assert_eq!(rt; found, bound);
         }
     }

@@ -1,2 +1,3 @@
 mod Orders
 mod Sums
+mod Nodes

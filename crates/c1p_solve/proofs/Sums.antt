@@ -1,7 +1,8 @@
 -- The steps of rows that are reduced in turn add up.
 use Rattle.std.proofs.Common.{◌≡◌, ◌∙◌, ℕ, ◌+◌, ◌-◌, ◌*◌, ◌<◌, ◌≤◌, List, [], get_or, length, take, sum_by, ap, sym, subst, arith}
+use Rattle.std.proofs.Math.Nat.{mul-le-mul_left}
 use Rattle.std.proofs.lemmas.List.{take_more, take_all, length-take-le}
-use Rattle.std.proofs.lemmas.List.Sums.{sum_by_push}
+use Rattle.std.proofs.lemmas.List.Sums.{sum_by_push, sum_by-take-le}
 use Rattle.row_model.specs.Graph.{row_at}
 use Rattle.pq_tree.specs.Outline.{Outline}
 use Rattle.pq_tree.specs.Amortised.{weight}
@@ -35,6 +36,18 @@ pub one_refused : (c : ℕ) (rows : List (List ℕ)) (k w s n p q : ℕ) → k <
 one_refused c rows k w s n p q h a b d =
     let long : length (take (k + 1) rows) ≡ k + 1 = length-take-le (k + 1) rows (omega arith) in
     omega (arith, ones_next rows k h, a, b, d, long)
+
+-- what the reducer takes before it fails at a row
+pub one_failed : (c : ℕ) (rows : List (List ℕ)) (k w s n p : ℕ) → k < length rows → IsPaidSoFar c rows k w s n →
+    p ≤ n + 1024 * (1 + length (row_at rows (k + 1))) + 256 * w → p ≤ s + reduction_steps c rows
+one_failed c rows k w s n p h a b = omega (arith, h, ones_next rows k h, sum_by-take-le length rows (k + 1), a, b)
+
+-- what the first rows cost is no more than what all rows cost
+pub first_steps : (c k : ℕ) (rows : List (List ℕ)) → k ≤ length rows → reduction_steps c (take k rows) + search_steps c (take k rows) ≤ reduction_steps c rows + search_steps c rows
+first_steps c k rows h =
+    let ones : sum_by length (take k rows) + 1 ≤ sum_by length rows + 1 = omega (arith, sum_by-take-le length rows k) in
+    let search : search_steps c (take k rows) ≤ search_steps c rows = mul-le-mul_left (8 * c) ones in
+    omega (arith, ones, search, length-take-le k rows h, h)
 
 -- what a frugal reducer takes for a row that it refuses
 pub refused_cost : (row : List ℕ) (t u : Outline) (s n : ℕ) (step : Step) → step ≡ Refused → IsFrugal row t u s n step → n ≤ s + 1024 * (1 + length row) + 256 * weight t

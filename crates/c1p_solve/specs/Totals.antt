@@ -16,6 +16,10 @@ reduction_steps c rows = 1024 * (c + length rows + sum_by length rows)
 abbrev pub search_steps : ℕ → List (List ℕ) → ℕ
 search_steps c rows = 8 * c * (sum_by length rows + 1)
 
+-- the most steps of an answer on a matrix, whatever comes of it
+abbrev pub answer_steps : RowList → ℕ
+answer_steps m = reduction_steps m.columns m.rows + search_steps m.columns m.rows
+
 -- All rows are taken, while the count of steps goes from s to n. What the weight of the tree t that is left is worth, at 256 steps for
 -- each unit, is not spent.
 abbrev pub IsYesTotal : RowList → Outline → ℕ → ℕ → Type 0

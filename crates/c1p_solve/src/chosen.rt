@@ -1,8 +1,8 @@
 // The answer by the reducer that the programs use.
-ghost use Rattle.std.specs.Prelude.{◌≡◌, IfOk};
+ghost use Rattle.std.specs.Prelude.{◌≡◌, ◌+◌, ◌≤◌, IfOk};
 ghost use Rattle.arena_model.specs.NamedTree.{outline_at};
 ghost use Rattle.c1p_solve.specs.Answers.{IsAnswer, LeavesTree, IsInTurn};
-ghost use Rattle.c1p_solve.specs.Totals.{IsTotal};
+ghost use Rattle.c1p_solve.specs.Totals.{IsTotal, answer_steps};
 
 use crate::Solved;
 use crate::solver::solve;
@@ -29,7 +29,8 @@ pub struct Answered {
 ///
 /// With c columns, and of the rows up to the first that leaves no valid order, or all rows, it takes at most 1024 steps
 /// for each column, row and one. Where there is no valid order it takes at most 8c(f + 1) steps more, f being the ones
-/// of these rows, to find the odd cycle.
+/// of these rows, to find the odd cycle. With the rows and ones of the whole matrix the two together bound the steps of
+/// every answer, that of an error too.
 ///
 /// # Errors
 ///
@@ -44,6 +45,7 @@ pub fn answer<L: Ledger>(
     ensures reducer { IfOk result (λ a. LeavesTree m.now (outline_at a.reducer) a.solved) }
     ensures columns { IfOk result (λ a. a.reducer.columns ≡ m.now.columns) }
     ensures total { IfOk result (λ a. IsTotal m.now (outline_at a.reducer) steps.old steps.new a.solved) }
+    ensures most { steps.new ≤ steps.old + answer_steps m.now }
 {
     weight_law();
     let mut reducer = Chosen::new(alloc, m.columns())?;

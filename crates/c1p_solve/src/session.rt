@@ -1,5 +1,5 @@
 // A matrix that grows by the rows with which it keeps a valid order.
-ghost use Rattle.std.specs.Prelude.{◌≡◌, ◌≢◌, ◌<◌, ◌-◌, IfOk, OnErr, length, take};
+ghost use Rattle.std.specs.Prelude.{◌≡◌, ◌≢◌, ◌<◌, ◌≤◌, ◌+◌, ◌-◌, IfOk, OnErr, length, take};
 ghost use Rattle.row_model.specs.Graph.{row_at};
 ghost use Rattle.row_model.specs.Rows.{IsRow};
 ghost use Rattle.column_order.specs.Orders.{HasValidOrder};
@@ -9,7 +9,8 @@ ghost use Rattle.arena_model.specs.NamedTree.{outline_at};
 ghost use Rattle.c1p_solve.specs.Answers.{HasAllOrders};
 ghost use Rattle.c1p_solve.specs.Sessions.{IsSession, with_row};
 ghost use Rattle.c1p_solve.specs.Taking.{IsStart, IsDecision, StandsAfter};
-ghost use Rattle.c1p_solve.specs.SessionTotals.{IsStartTotal, IsRowTotal};
+ghost use Rattle.c1p_solve.specs.Totals.{answer_steps};
+ghost use Rattle.c1p_solve.specs.SessionTotals.{IsStartTotal, IsRowTotal, IsRefusedWithin, row_steps, refusal_steps};
 
 use crate::chosen::Chosen;
 use crate::solver::{conflict, reduce_all};
@@ -88,6 +89,7 @@ impl Session {
     ) -> Result<Started, NoMemory>
         ensures start { IfOk result (IsStart m) }
         ensures total { IfOk result (IsStartTotal m steps.old steps.new) }
+        ensures most { steps.new ≤ steps.old + answer_steps m }
     {
         weight_law();
         let mut reducer = Chosen::new(alloc, m.columns())?;
@@ -106,7 +108,9 @@ impl Session {
     ///
     /// The start and all rows that are taken together take at most 1024 steps for each column, row and one. A refusal
     /// takes at most 256 steps for each node of the tree that the row meets, and 256 more; and at most 8c(f + 1) more
-    /// for a cycle, with c columns and f ones in the session's rows and this one.
+    /// for a cycle, with c columns and f ones in the session's rows and this one. No answer takes more than a refusal,
+    /// an error included. The nodes that a row meets and one are at most 2c, so a refusal takes at most 512c steps and
+    /// the search.
     ///
     /// # Errors
     ///
@@ -124,6 +128,9 @@ impl Session {
         ensures kept { IsSession self.new }
         ensures err { OnErr result (self.new ≡ self.old) }
         ensures total { IfOk result (IsRowTotal self.old.matrix.columns (with_row self.old.matrix row.now).rows row.now self.old.tree self.new.tree steps.old steps.new) }
+        ensures most { steps.new ≤ steps.old + row_steps self.old.matrix.columns (with_row self.old.matrix row.now).rows row.now self.old.tree explain }
+        ensures refused { IfOk result (IsRefusedWithin self.old.matrix.columns (with_row self.old.matrix row.now).rows explain steps.old steps.new) }
+        ensures failed { OnErr result (steps.new ≤ steps.old + refusal_steps self.old.matrix.columns (with_row self.old.matrix row.now).rows explain) }
     {
         self.matrix.push_row(row)?;
         let taken = reduce_last(self.alloc, &mut self.reducer, &self.matrix, explain, steps);
@@ -182,6 +189,9 @@ fn reduce_last<L: Ledger>(
     ensures unchanged { IfOk result (λ t. t ≢ Taken.Ok → outline_at reducer.new ≡ outline_at reducer.old) }
     ensures err { OnErr result (outline_at reducer.new ≡ outline_at reducer.old) }
     ensures total { IfOk result (IsRowTotal m.now.columns m.now.rows (row_at m.now.rows (length m.now.rows)) (outline_at reducer.old) (outline_at reducer.new) steps.old steps.new) }
+    ensures most { steps.new ≤ steps.old + row_steps m.now.columns m.now.rows (row_at m.now.rows (length m.now.rows)) (outline_at reducer.old) explain }
+    ensures refused { IfOk result (IsRefusedWithin m.now.columns m.now.rows explain steps.old steps.new) }
+    ensures failed { OnErr result (steps.new ≤ steps.old + refusal_steps m.now.columns m.now.rows explain) }
 {
     match reducer.reduce_row(m, m.rows(), steps) {
         Step::Taken => Ok(Taken::Ok),

@@ -6,7 +6,7 @@ ghost use Rattle.pq_tree.specs.Amortised.{weight};
 ghost use Rattle.odd_cycle.specs.Short.{IsShort};
 ghost use Rattle.tied_law.specs.Tied.{IsTied};
 ghost use Rattle.c1p_solve.specs.Answers.{IsAnswer, IsReduction, LeavesTree, IsInTurn, IsReducedInTurn};
-ghost use Rattle.c1p_solve.specs.Totals.{IsTotal, IsReductionTotal};
+ghost use Rattle.c1p_solve.specs.Totals.{IsTotal, IsReductionTotal, answer_steps};
 
 use crate::Solved;
 use incompat_graph::{Cycle, odd_cycle_along};
@@ -26,7 +26,8 @@ use template_theory::{Reducer, Step};
 ///
 /// A frugal reducer whose tree weighs no more than its columns, as the universal one does, takes at most 1024 steps for
 /// each column, row and one together, of the rows up to the first that is refused. After a refusal the search for the
-/// cycle takes at most 8c(f + 1) steps more, with c columns and f ones in these rows.
+/// cycle takes at most 8c(f + 1) steps more, with c columns and f ones in these rows. With the rows and ones of the whole
+/// matrix the two together bound the steps of every answer, that of an error too.
 ///
 /// # Errors
 ///
@@ -44,6 +45,7 @@ pub fn solve<R: Reducer, L: Ledger>(
     ensures reducer { IfOk result (LeavesTree m.now (R.outline reducer.new)) }
     ensures columns { R.columns reducer.new ≡ R.columns reducer.old }
     ensures total { IsTrue R.frugal → weight (R.outline reducer.old) ≤ m.now.columns → IfOk result (IsTotal m.now (R.outline reducer.new) steps.old steps.new) }
+    ensures most { IsTrue R.frugal → weight (R.outline reducer.old) ≤ m.now.columns → steps.new ≤ steps.old + answer_steps m.now }
 {
     match reduce_all(alloc, reducer, m, steps)? {
         None => Ok(Solved::Yes(reducer.tree(alloc)?)),
@@ -65,6 +67,7 @@ pub(crate) fn reduce_all<R: Reducer, L: Ledger>(
     ensures in_turn { IfOk result (IsReducedInTurn m.now) }
     ensures columns { R.columns reducer.new ≡ R.columns reducer.old }
     ensures total { IsTrue R.frugal → weight (R.outline reducer.old) ≤ m.now.columns → IfOk result (IsReductionTotal m.now (R.outline reducer.new) steps.old steps.new) }
+    ensures most { IsTrue R.frugal → weight (R.outline reducer.old) ≤ m.now.columns → steps.new ≤ steps.old + answer_steps m.now }
 {
     for taken in 0..m.rows() {
         match reducer.reduce(m, taken + 1, steps)? {

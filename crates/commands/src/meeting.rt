@@ -1,5 +1,5 @@
 // The reply on two trees.
-ghost use Rattle.std.specs.Prelude.{◌≡◌, ◌⊎◌, ◌<◌, ◌≤◌, ◌++◌, ℕ, List, length, IfOk, OnOk};
+ghost use Rattle.std.specs.Prelude.{◌≡◌, ◌⊎◌, ◌≤◌, ◌++◌, ℕ, List, length, IfOk, OnOk};
 ghost use Rattle.row_model.specs.declared.TheConstants.{MAX_COLUMNS};
 ghost use Rattle.row_model.specs.Cycles.{IsOddCycle};
 ghost use Rattle.pq_tree.specs.PqTree.{column_count, outline};
@@ -12,7 +12,7 @@ use odd_cycle::Cycle;
 use pq_tree::PqTree;
 use row_judge::Judge;
 use std::alloc::Global;
-use step_count::{Blank, Brand, Ledger, Steps};
+use step_count::{Ledger, Steps};
 use tree_meet::{Met, meet, row_count};
 use verdict_text::{print_cycle, print_side};
 
@@ -21,11 +21,12 @@ use verdict_text::{print_cycle, print_side};
 /// # Errors
 ///
 /// Memory is refused.
-pub fn meeting_reply<J: Judge>(
+pub fn meeting_reply<J: Judge, L: Ledger>(
     alloc: Global,
     judge: &mut J,
     first: &PqTree,
     second: &PqTree,
+    steps: &mut Steps<L>,
 ) -> Result<Reply, NoMemory>
     requires same { column_count second.now ≡ column_count first.now }
     requires few { column_count first.now ≤ MAX_COLUMNS }
@@ -34,29 +35,7 @@ pub fn meeting_reply<J: Judge>(
         reply.status reply.text.items) }
     ensures status { IfOk result (λ reply. (reply.status ≡ 0) ⊎ (reply.status ≡ 1)) }
 {
-    meeting::<Brand, J>(alloc, judge, first, second, Blank::new(1))
-}
-
-// The same. The counter of steps begins at the blank.
-fn meeting<L: Ledger, J: Judge>(
-    alloc: Global,
-    judge: &mut J,
-    first: &PqTree,
-    second: &PqTree,
-    blank: Blank,
-) -> Result<Reply, NoMemory>
-    requires name { blank.name ≡ L.name }
-    requires parts { blank.parts ≡ L.parts }
-    requires some { 0 < blank.parts }
-    requires same { column_count second.now ≡ column_count first.now }
-    requires few { column_count first.now ≤ MAX_COLUMNS }
-    ensures reply { IfOk result (λ reply.
-        IsMeetingReply (column_count first.now) (outline first.now) (outline second.now)
-        reply.status reply.text.items) }
-    ensures status { IfOk result (λ reply. (reply.status ≡ 0) ⊎ (reply.status ≡ 1)) }
-{
-    let mut steps = Steps::<L>::new(blank);
-    match meet(alloc, judge, first, second, &mut steps)? {
+    match meet(alloc, judge, first, second, steps)? {
         Met::Tree(tree) => {
             let text = common_text(alloc, first, second, &tree)?;
             Ok(Reply { status: 0, text })

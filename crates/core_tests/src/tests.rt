@@ -9,6 +9,12 @@ use std::alloc::Global;
 use std::test::Fail;
 use step_count::{Blank, Brand, Ledger, Steps};
 
+// What a solver answers, or that memory is refused.
+type Judging = Result<Judged, NoMemory>;
+
+// The core that is found, or that memory is refused.
+type Outcome = Result<Cored, NoMemory>;
+
 #[derive(Drop)]
 struct Counting {
     asked: u64,
@@ -21,12 +27,7 @@ impl Judge for Counting {
 
     ghost in_turn = { true };
 
-    fn judge<L: Ledger>(
-        &mut self,
-        alloc: Global,
-        m: &Matrix,
-        steps: &mut Steps<L>,
-    ) -> Result<Judged, NoMemory> {
+    fn judge<L: Ledger>(&mut self, alloc: Global, m: &Matrix, steps: &mut Steps<L>) -> Judging {
         self.asked = self.asked.saturating_add(1);
         Ok(answer(alloc, m, steps)?.solved)
     }
@@ -39,22 +40,12 @@ struct Silent {
 }
 
 impl Judge for Silent {
-    fn judge<L: Ledger>(
-        &mut self,
-        alloc: Global,
-        m: &Matrix,
-        steps: &mut Steps<L>,
-    ) -> Result<Judged, NoMemory> {
+    fn judge<L: Ledger>(&mut self, alloc: Global, m: &Matrix, steps: &mut Steps<L>) -> Judging {
         self.other.judge(alloc, m, steps)
     }
 }
 
-fn counted<L: Ledger, J: Judge>(
-    alloc: Global,
-    judge: &mut J,
-    m: &Matrix,
-    blank: Blank,
-) -> Result<Cored, NoMemory>
+fn counted<L: Ledger, J: Judge>(alloc: Global, judge: &mut J, m: &Matrix, blank: Blank) -> Outcome
     requires name { blank.name ≡ L.name }
     requires parts { blank.parts ≡ L.parts }
     requires some { 0 < blank.parts }

@@ -1,21 +1,12 @@
 -- Texts that grow.
 use Rattle.std.proofs.Common.{◌≡◌, ◌∙◌, ◌+◌, ◌<◌, ◌≤◌, ℕ, zero, suc, arith, codes, List, [], ◌∷◌, ◌++◌, length, take, get_or, slice_get, Some, sym, ap}
-use Rattle.std.specs.Prelude.{Result, Ok, Err, OnErr, flat_map}
+use Rattle.std.specs.Prelude.{flat_map}
 use Rattle.std.specs.List.{zip}
 use Rattle.std.specs.Fmt.{decimal}
 use Rattle.std.proofs.lemmas.List.{append_assoc, take_more, take_all, flat_map_more}
-use Rattle.plain_text.specs.Pieces.{Extends}
 use Rattle.core_text.specs.Texts.{TextValue, entries, entry_text, core_text}
 use Rattle.text_parts.specs.Text.{kind_word, counted_text, number_word, counted_cycle}
 use Rattle.core_text.proofs.CoreLaws.{length-zip_equal}
-
--- a text that grew twice
-pub extends_after : (old now new front : List ℕ) → now ≡ old ++ front → Extends now new → Extends old new
-extends_after old now new front e x = (front ++ x.0, x.1 ∙ ap (λ y. y ++ x.0) e ∙ append_assoc old front x.0)
-
-pub on_err : {T E P : Type 0} (r : Result T E) → P → OnErr r P
-on_err (Ok x) h = tt
-on_err (Err e) h = h
 
 -- one item more
 pub items_more : {A : Type 0} (text : A → List ℕ) (old now new : List ℕ) (xs : List A) (i : ℕ) (x d : A) → i < length xs → x ≡ get_or xs i d → now ≡ old ++ flat_map text (take i xs)

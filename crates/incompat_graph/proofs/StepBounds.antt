@@ -9,14 +9,14 @@ fewer_ones : (rows : List (List ℕ)) (k : ℕ) → sum_by length (take (k - 1) 
 fewer_ones rows k =
     subst (λ (front : List (List ℕ)). sum_by length front ≤ sum_by length (take k rows)) (take-take (k - 1) k rows (omega arith)) (sum_by-take-le length (take k rows) (k - 1))
 
-spent : (c ones first before gapped tried after : ℕ) → gapped ≤ before + first → tried ≤ gapped + c * (ones + 1) → after + first ≤ tried + 3 * c * (ones + 1) → after ≤ before + 4 * c * (ones + 1)
+spent : (c ones first before gapped tried after : ℕ) → gapped ≤ before + first → tried ≤ gapped + c * (ones + 1) → after + first + 1 ≤ tried + 3 * c * (ones + 1) → after + 1 ≤ before + 4 * c * (ones + 1)
 spent c ones first before gapped tried after g t a =
     let bound1 : c * (ones + 1) ≡ c * ones + c = grind arith in
     let bound3 : 3 * c * (ones + 1) ≡ 3 * (c * ones) + 3 * c = grind arith in
     let bound4 : 4 * c * (ones + 1) ≡ 4 * (c * ones) + 4 * c = grind arith in
     omega (arith, g, t, a, bound1, bound3, bound4)
 
-stopped : (c ones first before after : ℕ) → 1 ≤ c → first ≤ ones → after ≤ before + first + c * (ones + 1) → after ≤ before + 4 * c * (ones + 1)
+stopped : (c ones first before after : ℕ) → 1 ≤ c → first ≤ ones → after ≤ before + first + c * (ones + 1) → after + 1 ≤ before + 4 * c * (ones + 1)
 stopped c ones first before after some fewer a =
     let once : 1 * (ones + 1) ≤ c * (ones + 1) = mul-le 1 (ones + 1) c (ones + 1) some (omega arith) in
     let bound1 : c * (ones + 1) ≡ c * ones + c = grind arith in
@@ -25,12 +25,12 @@ stopped c ones first before after some fewer a =
 
 -- a step for each one of the first rows, then an attempt, then a search
 pub along_bound : (rows : List (List ℕ)) (c k before gapped tried after : ℕ) → gapped ≤ before + sum_by length (take (k - 1) rows) → tried ≤ gapped + c * (sum_by length (take k rows) + 1) →
-    after + sum_by length (take (k - 1) rows) ≤ tried + 3 * c * (sum_by length (take k rows) + 1) → after ≤ before + 4 * c * (sum_by length (take k rows) + 1)
+    after + sum_by length (take (k - 1) rows) + 1 ≤ tried + 3 * c * (sum_by length (take k rows) + 1) → after + 1 ≤ before + 4 * c * (sum_by length (take k rows) + 1)
 along_bound rows c k before gapped tried after g t a = spent c (sum_by length (take k rows)) (sum_by length (take (k - 1) rows)) before gapped tried after g t a
 
 -- without the search
 pub tried_bound : (rows : List (List ℕ)) (c k before gapped after : ℕ) → 1 ≤ c → 1 ≤ k → gapped ≤ before + sum_by length (take (k - 1) rows) → after ≤ gapped + c * (sum_by length (take k rows) + 1) →
-    after ≤ before + 4 * c * (sum_by length (take k rows) + 1)
+    after + 1 ≤ before + 4 * c * (sum_by length (take k rows) + 1)
 tried_bound rows c k before gapped after some from g a =
     stopped c (sum_by length (take k rows)) (sum_by length (take (k - 1) rows)) before after some (fewer_ones rows k) (omega (arith, g, a))
 
@@ -41,9 +41,3 @@ twice_bound c ones before found most after f m a =
     let bound4 : 4 * c * (ones + 1) ≡ 4 * (c * ones) + 4 * c = grind arith in
     let bound8 : 8 * c * (ones + 1) ≡ 8 * (c * ones) + 8 * c = grind arith in
     omega (arith, f, m, a, bound1, bound4, bound8)
-
--- the steps of an attempt do not grow with the ones that are not seen
-pub attempt_bound : (c ones seen most : ℕ) → seen ≤ ones → most ≤ c * (seen + 1) → most ≤ c * (ones + 1)
-attempt_bound c ones seen most fewer h =
-    let few : c * (seen + 1) ≤ c * (ones + 1) = mul-le c (seen + 1) c (ones + 1) (omega arith) (omega arith) in
-    omega (arith, h, few)

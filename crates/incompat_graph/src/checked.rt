@@ -7,7 +7,7 @@ ghost use Rattle.row_model.specs.Cycles.{first_pair, IsOddWalk, IsOddCycle};
 ghost use Rattle.odd_cycle.specs.Short.{IsShort};
 
 use odd_cycle::{Cycle, is_folded, short_cycle_law};
-use row_model::{Line, Matrix, NoMemory, Pair, Why, joined_by};
+use row_model::{CountedRows, Line, NoMemory, Pair, Why};
 use std::alloc::Global;
 use step_count::{Ledger, Steps};
 
@@ -15,7 +15,7 @@ use step_count::{Ledger, Steps};
 /// no two columns come twice before it. As many steps must be left as three for each line. It takes room for each line.
 pub fn checked_cycle<L: Ledger>(
     alloc: Global,
-    m: &Matrix,
+    m: &CountedRows,
     rows: u32,
     lines: Vec<Line>,
     left: &mut u64,
@@ -39,7 +39,7 @@ pub fn checked_cycle<L: Ledger>(
 }
 
 // Whether the lines are a closed walk of odd length in the graph of the first rows.
-fn is_odd_walk<L: Ledger>(m: &Matrix, rows: u32, lines: &[Line], steps: &mut Steps<L>) -> bool
+fn is_odd_walk<L: Ledger>(m: &CountedRows, rows: u32, lines: &[Line], steps: &mut Steps<L>) -> bool
     requires { rows ≤ length m.now.rows }
     ensures walk { IsTrue result → IsOddWalk m.now.columns (take rows m.now.rows) lines.now }
     ensures ticks { steps.new ≤ steps.old + 3 * length lines.now }
@@ -52,20 +52,19 @@ fn is_odd_walk<L: Ledger>(m: &Matrix, rows: u32, lines: &[Line], steps: &mut Ste
     lines.len() % 2 == 1
 }
 
-// Whether the line's reason is one of the first rows or a flip, and joins its pair to another. A step is counted for
-// each of three looks at the row.
-fn leads_to<L: Ledger>(m: &Matrix, rows: u32, line: Line, to: Pair, steps: &mut Steps<L>) -> bool
+// Whether the line's reason is one of the first rows or a flip, and joins its pair to another.
+fn leads_to<L: Ledger>(
+    m: &CountedRows,
+    rows: u32,
+    line: Line,
+    to: Pair,
+    steps: &mut Steps<L>,
+) -> bool
     requires { rows ≤ length m.now.rows }
     ensures joined { IsTrue result → JoinedBy m.now.columns (take rows m.now.rows) line.pair to line.why }
-    ensures ticks { steps.new ≡ steps.old + 3 }
+    ensures ticks { steps.new ≤ steps.old + 3 }
 {
-    steps.tick();
-    steps.tick();
-    steps.tick();
-    if !is_within(line.why, rows) {
-        return false;
-    }
-    joined_by(m, line.pair, to, line.why)
+    is_within(line.why, rows) && m.joined_counted(line.pair, to, line.why, steps)
 }
 
 // Whether a reason is a flip or one of the first rows.

@@ -3,7 +3,7 @@ ghost use Rattle.std.specs.Prelude.{◌+◌, ◌*◌, ◌≤◌, length, sum_by,
 ghost use Rattle.row_model.specs.Rows.{IsRow};
 
 use odd_cycle::Cycle;
-use row_model::{Line, Matrix, NoMemory, Pair, Why};
+use row_model::{CountedRows, Line, Matrix, NoMemory, Pair, Why};
 use std::alloc::Global;
 use step_count::{Ledger, Steps};
 use walk_search::{odd_walk, simple_cycle};
@@ -18,7 +18,7 @@ const MOST_ROWS: usize = 256;
 /// order. There are none where the part has no odd cycle, or is too large to be searched in the steps that are left.
 pub fn lines_among<L: Ledger>(
     alloc: Global,
-    m: &Matrix,
+    m: &CountedRows,
     rows: &[u32],
     columns: &[u32],
     left: &mut u64,
@@ -90,7 +90,7 @@ fn lines_of(
 // row for which too few steps are left.
 fn part_of<L: Ledger>(
     alloc: Global,
-    m: &Matrix,
+    m: &CountedRows,
     rows: &[u32],
     columns: &[u32],
     left: &mut u64,
@@ -117,7 +117,7 @@ fn part_of<L: Ledger>(
 // The positions, from 1, of the columns that row `k` has.
 fn row_of<L: Ledger>(
     alloc: Global,
-    m: &Matrix,
+    m: &CountedRows,
     k: u32,
     columns: &[u32],
     steps: &mut Steps<L>,

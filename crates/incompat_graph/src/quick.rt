@@ -14,12 +14,12 @@ use crate::repeats::without_repeats;
 use crate::sample::{Sample, sample_of};
 use crate::shorter::shorter_cycle;
 use crate::ways::Front;
-use odd_cycle::Cycle;
+use odd_cycle::{Cycle, short_cycle};
 use open_gaps::OpenGaps;
-use row_model::{Matrix, NoMemory, positions};
+use row_model::{CountedRows, Matrix, NoMemory, positions};
 use std::alloc::Global;
 use step_count::{Ledger, Steps};
-use walk_search::{simple_cycle, walk_across};
+use walk_search::walk_across;
 
 /// The most steps of an attempt.
 const MOST_STEPS: u64 = 16_777_216;
@@ -56,16 +56,36 @@ pub fn odd_cycle_along<L: Ledger>(
     ensures short { IfOk result (IsShort m.now.columns) }
     ensures ticks { steps.new ≤ steps.old + 8 * m.now.columns * (sum_by length (take k m.now.rows) + 1) }
 {
-    let most = most_steps(m, k);
+    cycle_along(alloc, &CountedRows::new(m), k, order, steps)
+}
+
+// A short odd cycle, of rows whose reads are counted.
+fn cycle_along<L: Ledger>(
+    alloc: Global,
+    m: &CountedRows,
+    k: u32,
+    order: &[u32],
+    steps: &mut Steps<L>,
+) -> Result<Cycle, NoMemory>
+    requires row { (1 ≤ k) × (k ≤ length m.now.rows) }
+    requires order { IsValidOrder m.now.columns (take (k - 1) m.now.rows) order.now }
+    requires refused { HasConflict m.now.columns (take k m.now.rows) }
+    ensures cycle { IfOk result (IsOddCycle m.now.columns m.now.rows) }
+    ensures first_rows { IfOk result (IsOddCycle m.now.columns (take k m.now.rows)) }
+    ensures short { IfOk result (IsShort m.now.columns) }
+    ensures ticks { steps.new ≤ steps.old + 8 * m.now.columns * (sum_by length (take k m.now.rows) + 1) }
+{
+    let most = most_steps(m, k, steps);
     let cycle = any_cycle(alloc, m, k, order, most, steps)?;
     let found = shorter_cycle(alloc, m, k, cycle, 4 * most, steps)?;
     Ok(found)
 }
 
-// An odd cycle, from an attempt in at most so many steps, and from a search where that finds none.
+// An odd cycle, from an attempt in at most so many steps, and from a search where that finds none. It leaves room in
+// its bound for a step before.
 fn any_cycle<L: Ledger>(
     alloc: Global,
-    m: &Matrix,
+    m: &CountedRows,
     k: u32,
     order: &[u32],
     most: u64,
@@ -77,43 +97,32 @@ fn any_cycle<L: Ledger>(
     requires most { most ≤ m.now.columns * (sum_by length (take k m.now.rows) + 1) }
     ensures cycle { IfOk result (IsOddCycle m.now.columns (take k m.now.rows)) }
     ensures short { IfOk result (IsShort m.now.columns) }
-    ensures ticks { steps.new ≤ steps.old + 4 * m.now.columns * (sum_by length (take k m.now.rows) + 1) }
+    ensures ticks { steps.new + 1 ≤ steps.old + 4 * m.now.columns * (sum_by length (take k m.now.rows) + 1) }
 {
     let gaps = OpenGaps::new(alloc, m, k - 1, order, steps)?;
     if let Some(cycle) = quick_cycle(alloc, m, k, &gaps, order, most, steps)? {
         return Ok(cycle);
     }
     let walk = walk_across(alloc, m, k, gaps, steps)?;
-    simple_cycle(alloc, m, &walk)
+    short_cycle(alloc, m.columns(), walk.lines())
 }
 
 // The most steps of an attempt.
-fn most_steps(m: &Matrix, k: u32) -> u64
+fn most_steps<L: Ledger>(m: &CountedRows, k: u32, steps: &mut Steps<L>) -> u64
     requires { k ≤ length m.now.rows }
     ensures ones { result ≤ m.now.columns * (sum_by length (take k m.now.rows) + 1) }
     ensures few { result ≤ 16777216 }
+    ensures ticks { steps.new ≡ steps.old + 1 }
 {
     let each = u64::from(m.columns());
-    MOST_STEPS.min(each.saturating_mul(ones_of(m, k) + 1))
-}
-
-// The number of ones in the first rows, or the most steps of an attempt where there are more.
-fn ones_of(m: &Matrix, rows: u32) -> u64
-    requires { rows ≤ length m.now.rows }
-    ensures ones { result ≤ sum_by length (take rows m.now.rows) }
-    ensures few { result ≤ 16777216 }
-{
-    let mut ones = 0;
-    for k in 0..rows {
-        ones = MOST_STEPS.min(ones + u64::from(m.row_len(k + 1)));
-    }
-    ones
+    let ones = m.ones_counted(k, steps);
+    MOST_STEPS.min(each.saturating_mul(ones.saturating_add(1)))
 }
 
 // An odd cycle that is found without a search among all pairs, in at most so many steps, if there is one.
 pub(crate) fn quick_cycle<L: Ledger>(
     alloc: Global,
-    m: &Matrix,
+    m: &CountedRows,
     k: u32,
     gaps: &OpenGaps,
     order: &[u32],

@@ -1,7 +1,7 @@
 // A few columns that a row has, and a few that it lacks.
 ghost use Rattle.std.specs.Prelude.{◌≡◌, ◌+◌, ◌≤◌, length};
 
-use row_model::{Matrix, NoMemory};
+use row_model::{CountedRows, NoMemory};
 use std::alloc::Global;
 use step_count::{Ledger, Steps};
 
@@ -30,7 +30,7 @@ struct SampleColumns {
 /// others, evenly spread. A step is counted for each column of the order.
 pub fn sample_of<L: Ledger>(
     alloc: Global,
-    m: &Matrix,
+    m: &CountedRows,
     k: u32,
     order: &[u32],
     steps: &mut Steps<L>,

@@ -7,7 +7,7 @@ use crate::checked::checked_cycle;
 use crate::met::Met;
 use crate::part::lines_among;
 use odd_cycle::Cycle;
-use row_model::{Line, Matrix, NoMemory};
+use row_model::{CountedRows, Line, NoMemory};
 use std::alloc::Global;
 use step_count::{Ledger, Steps};
 
@@ -25,7 +25,7 @@ const FEW_LINES: usize = 128;
 /// `NoMemory`.
 pub fn shorter_cycle<L: Ledger>(
     alloc: Global,
-    m: &Matrix,
+    m: &CountedRows,
     rows: u32,
     cycle: Cycle,
     most: u64,
@@ -50,7 +50,7 @@ pub fn shorter_cycle<L: Ledger>(
 // An odd cycle of the first rows, which is looked for among the rows and columns that the lines meet.
 fn cycle_among<L: Ledger>(
     alloc: Global,
-    m: &Matrix,
+    m: &CountedRows,
     rows: u32,
     lines: &[Line],
     most: u64,

@@ -5,7 +5,7 @@ use super::*;
 use crate::checked::checked_cycle;
 use crate::part::lines_among;
 use crate::repeats::without_repeats;
-use row_model::{Line, Matrix, Pair, Why};
+use row_model::{CountedRows, Line, Matrix, Pair, Why};
 use std::alloc::Global;
 use std::test::Fail;
 use step_count::{Blank, Brand, Ledger, Steps};
@@ -42,7 +42,8 @@ fn checked_counted<L: Ledger>(
 {
     let mut steps = Steps::<L>::new(blank);
     let mut left = 27;
-    Ok(checked_cycle(alloc, m, m.rows(), lines, &mut left, &mut steps)?.is_some())
+    let m = CountedRows::new(m);
+    Ok(checked_cycle(alloc, &m, m.rows(), lines, &mut left, &mut steps)?.is_some())
 }
 
 fn is_cycle(alloc: Global, m: &Matrix, lines: Vec<Line>) -> Result<bool, NoMemory> {
@@ -70,7 +71,8 @@ fn lines_counted<L: Ledger>(
 {
     let mut steps = Steps::<L>::new(blank);
     let mut left = most;
-    lines_among(alloc, m, &[1, 2, 3], &[1, 2, 3], &mut left, &mut steps)
+    let m = CountedRows::new(m);
+    lines_among(alloc, &m, &[1, 2, 3], &[1, 2, 3], &mut left, &mut steps)
 }
 
 fn lines_within(alloc: Global, m: &Matrix, most: u64) -> Result<Vec<Line>, NoMemory> {

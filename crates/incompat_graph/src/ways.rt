@@ -2,7 +2,7 @@
 ghost use Rattle.std.specs.Prelude.{◌≡◌, ◌+◌, ◌<◌, ◌≤◌, length, IfSome};
 
 use open_gaps::OpenGaps;
-use row_model::{Line, Matrix, NoMemory, Pair, Why, is_pair};
+use row_model::{CountedRows, Line, NoMemory, Pair, Why, is_pair};
 use std::alloc::Global;
 use step_count::{Ledger, Steps};
 
@@ -10,7 +10,7 @@ use step_count::{Ledger, Steps};
 #[derive(Clone, Copy)]
 pub struct Front<'a> {
     /// The matrix.
-    pub m: &'a Matrix,
+    pub m: &'a CountedRows<'a>,
     /// The gaps.
     pub gaps: &'a OpenGaps,
     /// The positions, which count from 1.
@@ -136,8 +136,9 @@ fn ends_of<L: Ledger>(front: &Front, row: u32, left: &mut u64, steps: &mut Steps
     if row == 0 || row > front.m.rows() {
         return None;
     }
-    let count = front.m.row_len(row);
-    *left = left.checked_sub(u64::from(count) + 1)?;
+    *left = left.checked_sub(1)?;
+    let count = front.m.len_counted(row, steps);
+    *left = left.checked_sub(u64::from(count))?;
     let mut ends = Ends { first: 0, last: 0 };
     let mut low = u32::MAX;
     let mut high = 0;

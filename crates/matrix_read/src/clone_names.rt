@@ -26,7 +26,7 @@ pub(crate) struct CloneNames<'a> {
 }
 
 // Why no names are read.
-#[derive(Clone, Copy, Debug, Drop, PartialEq, Eq)]
+#[derive(Drop)]
 pub(crate) enum NoNames {
     // The text has no value.
     NotJson,

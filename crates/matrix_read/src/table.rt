@@ -6,7 +6,7 @@ ghost use Rattle.row_model.specs.declared.refusal.Read.TheVariants as read;
 ghost use Rattle.matrix_read.specs.RecordsLeft.{IsPlain, records_left};
 ghost use Rattle.matrix_read.specs.Cells.{cells, is_foreign_cell, record_row};
 ghost use Rattle.matrix_read.specs.TableLaws.{TableLaw, RowLaw, TrimmedLaw, HeaderNamesLaw, NamesLaw, HeaderLaw, RecordLaw, RefusalLaw};
-ghost use Rattle.matrix_read.specs.Table.{names_of, header_code, table};
+ghost use Rattle.matrix_read.specs.Table.{names_of, header_code, read_records, table};
 ghost use Rattle.matrix_read.specs.TableSteps.{header_read, FitsRecords, with_records, with_even_records};
 ghost use Rattle.matrix_read.specs.Names.{has_twice};
 
@@ -51,10 +51,22 @@ pub fn read_table(alloc: Global, bytes: &[u8]) -> Result<Read<Matrix>, NoMemory>
         .from_reader(alloc, bytes);
     // No record has more fields than this, so its room never grows, and room that is not used is never touched.
     let mut fields = ByteRecord::with_capacity(alloc, bytes.len(), bytes.len() + 1)?;
-    if !next_record(&mut reader, &mut fields)? {
+    read_records(alloc, &mut reader, &mut fields)
+}
+
+// Reads the header and the records after it.
+fn read_records(
+    alloc: Global,
+    reader: &mut Reader<&[u8]>,
+    fields: &mut ByteRecord,
+) -> Result<Read<Matrix>, NoMemory>
+    requires { IsPlain reader.old }
+    ensures { IfOk result (λ read. read ≡ read_records (records_left reader.old)) }
+{
+    if !next_record(reader, fields)? {
         return Ok(refused(code::EMPTY, 0));
     }
-    let begun = read_header(alloc, &fields)?;
+    let begun = read_header(alloc, fields)?;
     read_further(alloc, reader, fields, begun)
 }
 
@@ -62,22 +74,22 @@ pub fn read_table(alloc: Global, bytes: &[u8]) -> Result<Read<Matrix>, NoMemory>
 // another length is refused before everything else.
 fn read_further(
     alloc: Global,
-    mut reader: Reader<&[u8]>,
-    mut fields: ByteRecord,
+    reader: &mut Reader<&[u8]>,
+    fields: &mut ByteRecord,
     begun: Read<Matrix>,
 ) -> Result<Read<Matrix>, NoMemory>
-    requires plain { IsPlain reader }
-    requires within { FitsRecords (length (fields_of fields)) begun }
-    ensures { IfOk result (λ read. read ≡ with_even_records (length (fields_of fields)) begun (records_left reader.entry)) }
+    requires plain { IsPlain reader.old }
+    requires within { FitsRecords (length (fields_of fields.old)) begun }
+    ensures { IfOk result (λ read. read ≡ with_even_records (length (fields_of fields.old)) begun (records_left reader.old)) }
 {
     let width = fields.len();
     let mut columns = Vec::new(alloc);
     let mut so_far = begun;
-    while next_record(&mut reader, &mut fields)? {
+    while next_record(reader, fields)? {
         if fields.len() != width {
             return Ok(refused(code::CSV, 0));
         }
-        so_far = with_record(so_far, &fields, &mut columns)?;
+        so_far = with_record(so_far, fields, &mut columns)?;
     }
     Ok(so_far)
 }

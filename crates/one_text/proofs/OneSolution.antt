@@ -1,5 +1,5 @@
 -- Two verdicts on an instance.
-use Rattle.std.proofs.Common.{◌≡◌, ◌∙◌, ◌⊎◌, inl, inr, ℕ, zero, suc, ◌+◌, ◌-◌, ◌<◌, ◌≤◌, List, [], ◌∷◌, ◌++◌, length, get_or, Option, Some, None, refl, sym, ap, subst, arith}
+use Rattle.std.proofs.Common.{◌≡◌, ◌∙◌, inl, inr, ℕ, ◌+◌, ◌-◌, List, [], ◌∷◌, ◌++◌, get_or, Option, Some, None, refl, sym, ap, subst, arith}
 use Rattle.std.specs.Prelude.{slice_get, IsSomeAnd, codes}
 use Rattle.std.specs.Fmt.{decimal}
 use Rattle.std.proofs.lemmas.List.{same_lists}
@@ -15,22 +15,17 @@ use Rattle.canonical_tree.specs.Laws.{CanonicalTreeLaw}
 use Rattle.text_parts.specs.Text.{counted_cycle}
 use Rattle.verdict_text.specs.Text.{head_text, claim_text, cycle_text, verdict_text}
 use Rattle.verdict_text.specs.Verdict.{SideValue, AddedValue, YesValue, Claim, yes_claim, no_claim, VerdictValue}
-use Rattle.instance_model.specs.Instance.{InstanceValue, plain, circular, convex, doubly, proper, robinson, instance_columns, IsSideOf, derived_matrix, IsWellFormed}
+use Rattle.instance_model.specs.Instance.{InstanceValue, plain, circular, convex, doubly, proper, robinson, IsSideOf, derived_matrix, IsWellFormed}
 use Rattle.instance_model.specs.Laws.{ValidLaw}
 use Rattle.verdict_replies.specs.Verdicts.{ShowsAllOrders, ShowsSides, AddsNothing, AddsToMatrix, AddsToOrder, IsClaimOf, status_of, IsVerdictReply}
-use Rattle.one_text.specs.Laws.{HasLines, side_of}
+use Rattle.one_text.specs.Laws.{HasLines}
 use Rattle.one_text.specs.One.{TellsCycle, AreOneReply}
 use Rattle.one_text.proofs.Lines.{behind, before, itself}
 use Rattle.one_text.proofs.Same.{told_by_tree}
 
 -- each instance has a side
 pub first_side : (i : InstanceValue) → IsSideOf i 1
-first_side (plain kind m) = (omega arith, omega arith)
-first_side (circular m) = (omega arith, omega arith)
-first_side (convex g) = (omega arith, omega arith)
-first_side (doubly g) = (omega arith, omega arith)
-first_side (proper g) = (omega arith, omega arith)
-first_side (robinson d) = (omega arith, omega arith)
+first_side i = grind arith
 
 -- what stands at one place of two lists is the same where what holds there holds of one value alone
 pub one_some : {A : Type 0} (P : A → Type 0) (o p : Option A) → ((a b : A) → P a → P b → a ≡ b) → IsSomeAnd o P → IsSomeAnd p P → o ≡ p

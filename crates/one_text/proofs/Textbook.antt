@@ -1,5 +1,5 @@
 -- Replies on sides with the same textbook orders.
-use Rattle.std.proofs.Common.{◌≡◌, ◌∙◌, ◌↔◌, ℕ, ◌-◌, List, Option, Some, None, sym, subst}
+use Rattle.std.proofs.Common.{◌≡◌, ◌∙◌, ◌↔◌, ℕ, ◌-◌, List, Option, Some, None, sym, subst, arith}
 use Rattle.std.specs.Prelude.{slice_get, IsSomeAnd}
 use Rattle.row_model.specs.Rows.{RowList}
 use Rattle.pq_tree.specs.Outline.{IsFrontier}
@@ -7,7 +7,7 @@ use Rattle.canonical_tree.specs.Laws.{SameOrdersLaw}
 use Rattle.verdict_text.specs.Verdict.{SideValue, Claim, yes_claim, no_claim, VerdictValue}
 use Rattle.verdict_text.specs.Grammar.{IsVerdict}
 use Rattle.verdict_text.specs.Text.{verdict_text}
-use Rattle.instance_model.specs.Instance.{InstanceValue, plain, circular, convex, doubly, proper, robinson, IsSideOf, IsTextbookOrder, derived_matrix}
+use Rattle.instance_model.specs.Instance.{InstanceValue, IsSideOf, IsTextbookOrder, derived_matrix}
 use Rattle.instance_model.specs.Laws.{IsValidFor, AreTextbookOrders}
 use Rattle.verdict_check.specs.YesTests.{HasSide}
 use Rattle.verdict_replies.specs.Verdicts.{ShowsSide, IsClaimOf}
@@ -30,12 +30,7 @@ AreValid i s = (o : List ℕ) → IsTextbookOrder i s o ↔ IsValidFor (derived_
 
 -- where an instance is not circular, these are exactly the textbook orders
 exactly : (i : InstanceValue) (s : ℕ) (P : List ℕ → Type 0) → IsLinear i → AreTextbookOrders i s P → (o : List ℕ) → IsTextbookOrder i s o ↔ P o
-exactly (plain kind m) s P linear are = are
-exactly (circular m) s P linear are = absurd linear
-exactly (convex g) s P linear are = are
-exactly (doubly g) s P linear are = are
-exactly (proper g) s P linear are = are
-exactly (robinson d) s P linear are = are
+exactly i s P linear are = grind arith
 
 -- a side shows the valid orders of its derived matrix and its textbook orders, so these are the same
 of_side : (i : InstanceValue) (s : ℕ) (side : Option SideValue) → IsLinear i → IsSomeAnd side (ShowsSide i s) → IsSomeAnd side (ShowsTextbookOrders i s) → AreValid i s

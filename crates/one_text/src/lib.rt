@@ -2,8 +2,8 @@
 //!
 //! What `solve`, `extend` and `meet` print as `tree` and `order` is the same for the same orders, whatever rows or
 //! trees gave them, in whatever order they came, and by whichever of the commands. So is, of one matrix, the order that
-//! `core` prints for each row of a core. Two runs of one command on the same files write the same, but for cycles and
-//! cores. The functions here have no body: their contracts are the laws.
+//! `core` prints for each row of a core. Two runs of one command on the same files write the same, unless both tell a
+//! cycle or a core. The functions here have no body: their contracts are the laws.
 #![tactic(auto)]
 
 ghost use Rattle.one_text.specs.One.{OneReplyLaw};
@@ -33,7 +33,7 @@ pub fn one_order_law()
 }
 
 /// Two replies of a command to the same bytes have one status, and one text unless each of them tells an odd cycle, of
-/// which there may be several. So two runs on the same files write the same, but for cycles and cores.
+/// which there may be several. So two runs on the same files write the same, unless both tell a cycle or a core.
 pub fn one_reply_law()
     ensures { OneReplyLaw }
 {

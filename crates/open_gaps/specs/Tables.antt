@@ -1,5 +1,5 @@
 -- The gaps of an order as the code keeps them.
-use Rattle.std.specs.Prelude.{◌≡◌, ℕ, ◌+◌, ◌<◌, ◌≤◌, List, length, if◌then◌else◌, nat_lt}
+use Rattle.std.specs.Prelude.{◌≡◌, ℕ, ◌≤◌, List, length, if◌then◌else◌, nat_lt}
 use Rattle.column_order.specs.Orders.{IsOrder}
 use Rattle.column_order.specs.declared.TheConstants.{COLUMN_BOUND}
 use Rattle.row_model.specs.Positions.{ArePositions}

@@ -8,7 +8,9 @@ ghost use Rattle.open_gaps.specs.Gaps.{Opens, IsOpen, AreGaps};
 ghost use Rattle.open_gaps.specs.Tables.{covered};
 
 use crate::gap::{Gap, cover, opener};
-use row_model::{COLUMN_BOUND, Line, Matrix, NoMemory, Pair, Span, Why, positions, span_of};
+use row_model::{
+    COLUMN_BOUND, CountedRows, Line, Matrix, NoMemory, Pair, Span, Why, positions, span_of,
+};
 use std::alloc::Global;
 use std::marker::Model;
 use step_count::{Ledger, Steps};
@@ -42,7 +44,7 @@ impl OpenGaps {
     /// `NoMemory`.
     pub fn new<L: Ledger>(
         alloc: Global,
-        m: &Matrix,
+        m: &CountedRows,
         rows: u32,
         order: &[u32],
         steps: &mut Steps<L>,
@@ -193,19 +195,6 @@ fn span_in_order(row: &[u32], positions: &[u32]) -> Option<Span>
     span_of(positions, row)
 }
 
-// The same, where a step is counted for each column.
-fn span_counted<L: Ledger>(row: &[u32], positions: &[u32], steps: &mut Steps<L>) -> Option<Span>
-    requires { IsWithin (length positions.now) row.now }
-    ensures span { (o : List ℕ) → IsOrder (length positions.now) o → ArePositions o positions.now
-        → MatchOption result (row.now ≡ []) (IsSpanInOrder o row.now) }
-    ensures ticks { steps.new ≡ steps.old + length row.now }
-{
-    for _ in row {
-        steps.tick();
-    }
-    span_in_order(row, positions)
-}
-
 // The gaps of the order of these positions, which is valid for all rows.
 fn gaps_of_all(alloc: Global, m: &Matrix, positions: &[u32]) -> Result<Vec<Gap>, NoMemory>
     requires { (o : List ℕ) × IsValidOrder m.now.columns m.now.rows o × ArePositions o positions.now }
@@ -223,7 +212,7 @@ fn gaps_of_all(alloc: Global, m: &Matrix, positions: &[u32]) -> Result<Vec<Gap>,
 // The gaps of the order of these positions, which is valid for the first `rows` rows.
 fn gaps_of<L: Ledger>(
     alloc: Global,
-    m: &Matrix,
+    m: &CountedRows,
     rows: u32,
     positions: &[u32],
     steps: &mut Steps<L>,
@@ -237,7 +226,7 @@ fn gaps_of<L: Ledger>(
 {
     let mut gaps = vec![in alloc; uncovered(m.columns()); m.columns() as usize]?;
     for k in 0..rows {
-        let span = span_counted(m.row(k + 1), positions, steps);
+        let span = m.span_counted(k + 1, positions, steps);
         take_row(&mut gaps, span, k + 1);
     }
     Ok(gaps)

@@ -8,8 +8,6 @@ use Rattle.column_order.specs.Orders.{has}
 use Rattle.row_model.specs.declared.graph.Pair.{Pair}
 use Rattle.row_model.specs.declared.graph.Why.TheVariants.{Flip, Row}
 use Rattle.row_model.specs.Graph.{pair, turned, row_at, IsPair, Joined, Crosses, Evenly}
-use Rattle.row_model.specs.Rows.{IsRow}
-use Rattle.row_model.proofs.Ascending.{row_within}
 use Rattle.row_model.proofs.Walks.{evenly-refl, evenly-trans}
 use Rattle.pair_classes.specs.Numbers.{number_of, place_of}
 use Rattle.pair_classes.specs.Unions.{AreParents, AreAlone, AgreesInSets, AreEvenSets, Unites, Flattens}
@@ -28,9 +26,8 @@ pair_of_its_place c v p =
     (omega (arith, mod-mul-add (v.a - 1) c (v.b - 1) low, p.b_from))
 
 -- a column of a row and one that it lacks are a pair
-pub row_pair : (c : ℕ) (row : List ℕ) (a d : ℕ) → IsRow c row → IsTrue (has row a) → IsFalse (has row d) → 1 ≤ d → d ≤ c → IsPair c (pair a d) × IsPair c (pair d a)
-row_pair c row a d h t f from to =
-    let r = row_within c row h a t in
+pub row_pair : (c : ℕ) (row : List ℕ) (a d : ℕ) → (1 ≤ a) × (a ≤ c) → IsTrue (has row a) → IsFalse (has row d) → 1 ≤ d → d ≤ c → IsPair c (pair a d) × IsPair c (pair d a)
+row_pair c row a d r t f from to =
     let n : a ≢ d = λ e. both_ways (has row d) f (subst (λ x. IsTrue (has row x)) e t) in (
       record { a_from = r.0; a_to = r.1; b_from = from; b_to = to; distinct = n },
       record { a_from = from; a_to = to; b_from = r.0; b_to = r.1; distinct = λ e. n (sym e) },
@@ -46,14 +43,14 @@ pub record IsUniting (c : ℕ) (row : List ℕ) (d first : ℕ) (old new : List 
 pub uniting_none : (c : ℕ) (row : List ℕ) (d first : ℕ) (ps : List ℕ) → AreParents ps → IsUniting c row d first ps ps 0
 uniting_none c row d first ps h = record { parents = h; labels = λ label k. (k, λ i a l e. absurd (omega arith)); even = λ rows k a b e s. s }
 
-module _ (c : ℕ) (row : List ℕ) (d first : ℕ) (row_ascends : IsRow c row) (from : 1 ≤ d) (to : d ≤ c) (lacks : IsFalse (has row d)) (has_first : IsTrue (has row first)) where
-  pub uniting_more : (old ps mid new : List ℕ) (done a x y z w : ℕ) → IsUniting c row d first old ps done → slice_get row done ≡ Some a →
+module _ (c : ℕ) (row : List ℕ) (d first : ℕ) (range : (1 ≤ first) × (first ≤ c)) (from : 1 ≤ d) (to : d ≤ c) (lacks : IsFalse (has row d)) (has_first : IsTrue (has row first)) where
+  pub uniting_more : (old ps mid new : List ℕ) (done a x y z w : ℕ) → IsUniting c row d first old ps done → slice_get row done ≡ Some a → (1 ≤ a) × (a ≤ c) →
       x ≡ place_of c (pair first d) → y ≡ place_of c (pair a d) → z ≡ place_of c (pair d first) → w ≡ place_of c (pair d a) →
       Unites ps mid x y → Unites mid new z w → IsUniting c row d first old new (done + 1)
-  uniting_more old ps mid new done a x y z w h at ex ey ez ew one two =
+  uniting_more old ps mid new done a x y z w h at a_range ex ey ez ew one two =
       let has_a : IsTrue (has row a) = has_item row done a at in
-      let pairs_first = row_pair c row first d row_ascends has_first lacks from to in
-      let pairs = row_pair c row a d row_ascends has_a lacks from to in
+      let pairs_first = row_pair c row first d range has_first lacks from to in
+      let pairs = row_pair c row a d a_range has_a lacks from to in
       record {
         parents = two.parents;
         labels = λ label k.

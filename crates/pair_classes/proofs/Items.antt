@@ -1,5 +1,5 @@
 -- Items of lists by their positions.
-use Rattle.std.proofs.Common.{◌≡◌, ◌⊎◌, ◌∙◌, ℕ, zero, suc, ◌+◌, ◌<◌, ◌≤◌, List, [], ◌∷◌, ◌++◌, length, take, drop, slice_get, Option, Some, None, IsTrue, refl, ap, subst, inl, inr, arith}
+use Rattle.std.proofs.Common.{◌≡◌, ◌⊎◌, ◌∙◌, ℕ, zero, suc, ◌+◌, ◌<◌, ◌≤◌, List, [], ◌∷◌, ◌++◌, length, take, drop, slice_get, Option, Some, None, IsTrue, refl, sym, ap, subst, inl, inr, arith}
 use Rattle.std.proofs.lemmas.Option.{none-some, same_Some, slice_get-get_or, slice_get_within}
 use Rattle.column_order.specs.Orders.{has, place}
 use Rattle.column_order.proofs.Lists.{has_head, has_tail, at_place}
@@ -45,6 +45,12 @@ pub item_at : {A : Type 0} (xs : List A) (i : ℕ) → i < length xs → (x : A)
 item_at [] i l = absurd (omega arith)
 item_at (z ∷ xs) zero l = (z, refl)
 item_at (z ∷ xs) (suc i) l = item_at xs i (omega arith)
+
+-- a position without an item is not within the list
+pub item_end : {A : Type 0} (xs : List A) (i : ℕ) → slice_get xs i ≡ None → length xs ≤ i
+item_end [] i e = omega arith
+item_end (x ∷ xs) zero e = absurd (none-some x (sym e))
+item_end (x ∷ xs) (suc i) e = omega (arith, item_end xs i e)
 
 -- the items of a row are the columns that it has
 pub has_item : (row : List ℕ) (i d : ℕ) → slice_get row i ≡ Some d → IsTrue (has row d)

@@ -1,15 +1,14 @@
 // The classes of pairs that walks of even length join.
-ghost use Rattle.std.specs.Prelude.{◌≡◌, ◌+◌, ◌*◌, ◌<◌, ◌≤◌, ℕ, List, length, take, sum_by, IsFalse, IfOk};
+ghost use Rattle.std.specs.Prelude.{◌≡◌, ◌+◌, ◌*◌, ◌<◌, ◌≤◌, ℕ, List, Some, length, take, sum_by, slice_get, IsFalse, IfOk};
 ghost use Rattle.column_order.specs.Orders.{has};
 ghost use Rattle.row_model.specs.Graph.{pair, row_at, IsPair};
-ghost use Rattle.row_model.specs.Rows.{IsRow};
 ghost use Rattle.pair_classes.specs.Numbers.{place_of};
 ghost use Rattle.pair_classes.specs.Unions.{AreParents, AgreesInSets, AreEvenSets};
 ghost use Rattle.pair_classes.specs.Classes.{TellsClasses, AgreesWith, AgreesAlong, pair_of_place};
 
 use crate::numbers::PairNumbers;
 use crate::unions::{each_alone, flatten, unite};
-use row_model::{COLUMN_BOUND, Matrix, NoMemory, Pair};
+use row_model::{COLUMN_BOUND, CountedRows, Matrix, NoMemory, Pair};
 use std::alloc::Global;
 use std::marker::Model;
 use step_count::{Ledger, Steps};
@@ -73,6 +72,21 @@ pub fn even_classes<L: Ledger>(
     ensures classes { IfOk result (TellsClasses m.now.columns (take rows m.now.rows)) }
     ensures ticks { steps.new ≤ steps.old + 8 * m.now.columns * (sum_by length (take rows m.now.rows) + 1) }
 {
+    classes_of(alloc, &CountedRows::new(m), rows, steps)
+}
+
+// The classes of the pairs in the graph of the first rows. The parents of all places are made and made roots without a
+// step: that goes once over the table that is answered, whatever the rows are.
+fn classes_of<L: Ledger>(
+    alloc: Global,
+    m: &CountedRows,
+    rows: u32,
+    steps: &mut Steps<L>,
+) -> Result<Classes, NoMemory>
+    requires { rows ≤ length m.now.rows }
+    ensures classes { IfOk result (TellsClasses m.now.columns (take rows m.now.rows)) }
+    ensures ticks { steps.new ≤ steps.old + 8 * m.now.columns * (sum_by length (take rows m.now.rows) + 1) }
+{
     let columns = m.columns();
     let mut parents = each_alone(alloc, columns * columns)?;
     for k in 0..rows {
@@ -85,7 +99,7 @@ pub fn even_classes<L: Ledger>(
 }
 
 // Unites the pairs of the columns of a row with each column that it lacks.
-fn unite_along<L: Ledger>(m: &Matrix, k: u32, parents: &mut [u32], steps: &mut Steps<L>)
+fn unite_along<L: Ledger>(m: &CountedRows, k: u32, parents: &mut [u32], steps: &mut Steps<L>)
     requires row { (1 ≤ k) × (k ≤ length m.now.rows) }
     requires parents { AreParents parents.old }
     requires places { length parents.old ≡ m.now.columns * m.now.columns }
@@ -96,42 +110,44 @@ fn unite_along<L: Ledger>(m: &Matrix, k: u32, parents: &mut [u32], steps: &mut S
         → AreEvenSets m.now.columns rows (pair_of_place m.now.columns) parents.old → AreEvenSets m.now.columns rows (pair_of_place m.now.columns) parents.new }
     ensures ticks { steps.new ≤ steps.old + 3 * (m.now.columns * length (row_at m.now.rows k)) }
 {
-    let row = m.row(k);
-    if row.is_empty() {
+    let Some(first) = m.next_counted(k, 0, steps) else {
         return;
-    }
+    };
     for d in 0..m.columns() {
         if !m.has_counted(k, d + 1, steps) {
-            unite_with(m.columns(), row, d + 1, parents, steps);
+            unite_with(m, k, first, d + 1, parents, steps);
         }
     }
 }
 
-// Unites all pairs (a,d) of the columns a of a row, and all pairs (d,a).
+// Unites all pairs (a,d) of the columns a of a row, and all pairs (d,a), with those of its first column.
 fn unite_with<L: Ledger>(
-    columns: u32,
-    row: &[u32],
+    m: &CountedRows,
+    k: u32,
+    first: u32,
     d: u32,
     parents: &mut [u32],
     steps: &mut Steps<L>,
 )
-    requires few { columns ≤ COLUMN_BOUND }
-    requires row { IsRow columns row.now × (1 ≤ length row.now) }
-    requires column { (1 ≤ d) × (d ≤ columns) × IsFalse (has row.now d) }
+    requires row { (1 ≤ k) × (k ≤ length m.now.rows) }
+    requires first { slice_get (row_at m.now.rows k) 0 ≡ Some first }
+    requires range { (1 ≤ first) × (first ≤ m.now.columns) }
+    requires column { (1 ≤ d) × (d ≤ m.now.columns) × IsFalse (has (row_at m.now.rows k) d) }
     requires parents { AreParents parents.old }
-    requires places { length parents.old ≡ columns * columns }
+    requires places { length parents.old ≡ m.now.columns * m.now.columns }
     ensures parents { AreParents parents.new }
-    ensures labels { (label : ℕ → ℕ) → AgreesInSets label parents.new → AgreesInSets label parents.old × AgreesWith columns label row.now d }
-    ensures even { (rows : List (List ℕ)) (k : ℕ) → 1 ≤ k → k ≤ length rows → row_at rows k ≡ row.now
-        → AreEvenSets columns rows (pair_of_place columns) parents.old → AreEvenSets columns rows (pair_of_place columns) parents.new }
-    ensures ticks { steps.new ≡ steps.old + 1 + length row.now }
+    ensures labels { (label : ℕ → ℕ) → AgreesInSets label parents.new
+        → AgreesInSets label parents.old × AgreesWith m.now.columns label (row_at m.now.rows k) d }
+    ensures even { (rows : List (List ℕ)) → k ≤ length rows → row_at rows k ≡ row_at m.now.rows k
+        → AreEvenSets m.now.columns rows (pair_of_place m.now.columns) parents.old → AreEvenSets m.now.columns rows (pair_of_place m.now.columns) parents.new }
+    ensures ticks { steps.new ≡ steps.old + length (row_at m.now.rows k) }
 {
-    steps.tick();
-    let first = row[0];
-    for a in row {
-        steps.tick();
-        unite(parents, place(columns, first, d), place(columns, *a, d));
-        unite(parents, place(columns, d, first), place(columns, d, *a));
+    let columns = m.columns();
+    let mut i = 0;
+    while let Some(a) = m.next_counted(k, i, steps) {
+        unite(parents, place(columns, first, d), place(columns, a, d));
+        unite(parents, place(columns, d, first), place(columns, d, a));
+        i += 1;
     }
 }
 

@@ -1,44 +1,24 @@
 -- From what a run over a shelf and sinks in memory says to what the caller knows of its bytes.
-use Rattle.std.proofs.Common.{◌≡◌, ◌≢◌, ◌⊎◌, ◌∙◌, ℕ, zero, suc, ◌<◌, ◌≤◌, List, [], ◌∷◌, length, take, drop, Option, Some, None, is_some, Bool, true, false, inl, inr, sym, ap, subst, refl, arith, IfSome}
+use Rattle.std.proofs.Common.{◌≡◌, ◌≢◌, ◌⊎◌, ◌∙◌, ◌&&◌, ℕ, zero, suc, ◌≤◌, List, [], ◌∷◌, ◌++◌, length, take, drop, Option, Some, None, is_some, Bool, true, false, inl, inr, sym, ap, subst, refl, arith, IfSome}
 use Rattle.std.proofs.Math.Path.{fun_ext}
 use Rattle.row_model.specs.declared.refusal.Refusal.{Refusal}
 use Rattle.std.proofs.Math.Seq.{take-length}
 use Rattle.std.proofs.lemmas.Bool.{and_parts, cases_Bool, cases_eq, false≢true}
-use Rattle.std.proofs.lemmas.List.{take-append-drop, length-take, length-take-le, length-drop, get_or-take}
-use Rattle.std.specs.List.{All, Contains}
+use Rattle.std.proofs.lemmas.List.{take-append-drop}
+use Rattle.std.specs.List.{All}
 use Rattle.std.specs.Prelude.{◌↔◌, IsNone, IfNone}
 use Rattle.pq_io.specs.Taken.{Taken}
 use Rattle.pq_io.specs.NamedFiles.{Held, content_of}
 use Rattle.pq_cli.specs.Reading.{OnlyReads}
-use Rattle.command_input.specs.Words.{Command, files_of}
-use Rattle.reply_laws.specs.Replies.{Replies}
+use Rattle.command_input.specs.Words.{Command, Solve, Check, Extend, Gen, Meet, ListOrders, UnitModel, CheckUnit, Core, CheckCore, files_of}
+use Rattle.reply_laws.specs.Replies.{Replies, refusal_of}
 use Rattle.reply_laws.specs.Promise.{IsPromised, PromiseLaw}
 use Rattle.pq_cli.specs.Runs.{AllFit, AgreesWith, OfTaken, taken_since, TakesFiles, TakesInTurn, WritesOut, EndsAtRefusal, IsLineOf, Offers}
 use Rattle.pq_cli.specs.Real.{names_taken}
 use Rattle.pq_cli.specs.Told.{AllTold}
-use Rattle.pq_c.specs.Given.{given, IsGiven, NamesAnother, OfFiles, are_told, FailsOnlyAtAnother}
-use Rattle.pq_c.specs.Called.{GoesOn, IsFirstRefused, IsLineFor, IsRunOf}
-use Rattle.pq_c.proofs.Names.{is_given, has_bytes, lacking}
-
--- a status that is none of a run without a reply
-is_reply : (status : ℕ) → status ≤ 6 → ((status ≡ 2) ⊎ (status ≡ 3) ⊎ (status ≡ 4) ⊎ (status ≡ 6) → ⊥) → (status ≡ 0) ⊎ (status ≡ 1) ⊎ (status ≡ 5)
-is_reply zero most none = inl refl
-is_reply (suc zero) most none = inr (inl refl)
-is_reply (suc (suc zero)) most none = absurd (none (inl refl))
-is_reply (suc (suc (suc zero))) most none = absurd (none (inr (inl refl)))
-is_reply (suc (suc (suc (suc zero)))) most none = absurd (none (inr (inr (inl refl))))
-is_reply (suc (suc (suc (suc (suc zero))))) most none = inr (inr refl)
-is_reply (suc (suc (suc (suc (suc (suc n)))))) most none = absurd (none (inr (inr (inr (omega (arith, most))))))
-
-five_is_none : (◌≡◌ {A = ℕ} 5 0) ⊎ (◌≡◌ {A = ℕ} 5 1) → ⊥
-five_is_none (inl e) = omega (arith, e)
-five_is_none (inr e) = omega (arith, e)
-
-five_is_no_other : (◌≡◌ {A = ℕ} 5 2) ⊎ (◌≡◌ {A = ℕ} 5 3) ⊎ (◌≡◌ {A = ℕ} 5 4) ⊎ (◌≡◌ {A = ℕ} 5 6) → ⊥
-five_is_no_other (inl e) = omega (arith, e)
-five_is_no_other (inr (inl e)) = omega (arith, e)
-five_is_no_other (inr (inr (inl e))) = omega (arith, e)
-five_is_no_other (inr (inr (inr e))) = omega (arith, e)
+use Rattle.pq_c.specs.Given.{given, IsGiven, OfFiles, are_told, FailsOnlyAtAnother}
+use Rattle.pq_c.specs.Called.{IsFirstRefused, IsFirstAnother, IsLineFor, IsWholeRun}
+use Rattle.pq_c.proofs.Names.{is_given, has_bytes}
 
 three_not_four : ◌≡◌ {A = ℕ} 3 4 → ⊥
 three_not_four e = omega (arith, e)
@@ -47,17 +27,32 @@ reply_not_four : {status : ℕ} → (status ≡ 0) ⊎ (status ≡ 1) → status
 reply_not_four (inl none) four = omega (arith, none, four)
 reply_not_four (inr one) four = omega (arith, one, four)
 
-rest_left : (n : ℕ) (text : List ℕ) → n < length text → drop n text ≢ []
-rest_left n text more empty = omega (arith, more, length-drop n text, ap length empty)
+reply_is_one : {status : ℕ} → (status ≡ 0) ⊎ (status ≡ 1) → (status ≡ 0) ⊎ (status ≡ 1) ⊎ (status ≡ 5)
+reply_is_one (inl none) = inl none
+reply_is_one (inr one) = inr (inl one)
 
-length_take : (n : ℕ) (text : List ℕ) → n < length text → length (take n text) ≡ n
-length_take n text more = length-take-le n text (omega (arith, more))
+-- a status of a run without a reply is one of those
+is_other : (status : ℕ) → status ≤ 6 → status ≢ 5 → 2 ≤ status → (status ≡ 2) ⊎ (status ≡ 3) ⊎ (status ≡ 4) ⊎ (status ≡ 6)
+is_other zero most five more = absurd (omega (arith, more))
+is_other (suc zero) most five more = absurd (omega (arith, more))
+is_other (suc (suc zero)) most five more = inl refl
+is_other (suc (suc (suc zero))) most five more = inr (inl refl)
+is_other (suc (suc (suc (suc zero)))) most five more = inr (inr (inl refl))
+is_other (suc (suc (suc (suc (suc zero))))) most five more = absurd (five refl)
+is_other (suc (suc (suc (suc (suc (suc n)))))) most five more = inr (inr (inr (omega (arith, most))))
 
--- an element of the first so many is one of all
-taken_of : {A : Type 0} (n : ℕ) (xs : List A) (x : A) → Contains (take n xs) x → Contains xs x
-taken_of n xs x at =
-    let count = length-take n xs in
-    (at.0, omega (arith, count, at.1), sym (get_or-take n xs at.0 x (omega (arith, count, at.1))) ∙ at.2)
+-- no command has more than two files
+few_files : (c : Command) → length (files_of c) ≤ 2
+few_files (Solve _ _) = omega arith
+few_files (Check _ _ _) = omega arith
+few_files (Extend _ _ _) = omega arith
+few_files (Core _ _) = omega arith
+few_files (CheckCore _ _ _) = omega arith
+few_files (Gen _ _ _) = omega arith
+few_files (Meet _ _ _) = omega arith
+few_files (ListOrders _ _ _) = omega arith
+few_files (UnitModel _) = omega arith
+few_files (CheckUnit _ _) = omega arith
 
 -- where a shelf tells the bytes of its files, these are among those that the files may have by what was taken
 abbrev pub ToldLaw : Type 0
@@ -68,11 +63,6 @@ module _ {S : Type 0} (content : S → List ℕ → Option (List ℕ)) (taken : 
       → IfSome found (λ c. TakesInTurn (content old) c (taken_since (taken old) (taken new)) status)
   asked None status takes = tt
   asked (Some c) status takes = takes.asks
-
-  pub refusing : (found : Option Command) (status : ℕ) → IfSome found (λ c. TakesFiles content taken faults old new c status)
-      → IfSome found (λ c. status ≡ 3 → (which : ℕ) × (refusal : Refusal) × EndsAtRefusal c (taken_since (taken old) (taken new)) which refusal)
-  refusing None status takes = tt
-  refusing (Some c) status takes = takes.refused
 
 -- what was asked of the two files: all of it is there, unless the status is 4
 module _ (old new : Held) (status : ℕ) where
@@ -134,13 +124,59 @@ module _ (law : ToldLaw) (told : List ℕ → Option (List ℕ)) (first second :
   all_given None ts status takes all replied = tt
   all_given (Some c) ts status takes all replied = subst (All IsGiven) (take-length (files_of c)) (first_given c ts status (length (files_of c)) takes (takes.on_reply replied) all)
 
-  -- a name that was asked for and isn't among the two
-  pub another : (found : Option Command) (ts : List Taken) (status : ℕ) → IfSome found (λ c. TakesInTurn told c ts status) → are_told told ts ≡ false → IfSome found NamesAnother
+  -- what was taken and isn't among the two
+  no_other : (t : Taken) → is_some (told t.name) ≡ false → IsGiven t.name → ⊥
+  no_other t lacks given = false≢true (sym lacks ∙ ap is_some (same t.name) ∙ has_bytes first second t.name given)
+
+  -- the files of a command are those that were taken, and others
+  names_of : (c : Command) (ts : List Taken) (status : ℕ) → TakesInTurn told c ts status → files_of c ≡ names_taken ts ++ drop (length ts) (files_of c)
+  names_of c ts status asks = sym (take-append-drop (length ts) (files_of c)) ∙ ap (λ names. names ++ drop (length ts) (files_of c)) (sym asks.names)
+
+  at_first : (c : Command) (t : Taken) (rest : List (List ℕ)) → files_of c ≡ t.name ∷ rest → is_some (told t.name) ≡ false → IsFirstAnother first second c 0 t.name
+  at_first c t rest names lacks =
+      record {
+        next = (rest, names);
+        another = no_other t lacks;
+        given = λ k d lt. absurd (omega (arith, lt));
+        taken = of_none;
+      }
+    where
+      of_none : (files : List (List ℕ)) → AllTold (given first second) [] files → refusal_of c files ≡ None
+      of_none [] all = refl
+      of_none (_ ∷ _) all = absurd all
+
+  at_second : (c : Command) (t u : Taken) (status : ℕ) → TakesInTurn told c (t ∷ u ∷ []) status → is_some (told t.name) ≡ true → is_some (told u.name) ≡ false → IsFirstAnother first second c 1 u.name
+  at_second c t u status asks there lacks =
+      let names = names_of c (t ∷ u ∷ []) status asks in
+      let front : take 1 (files_of c) ≡ t.name ∷ [] = ap (take 1) names in
+      record {
+        next = (drop 2 (files_of c), ap (drop 1) names);
+        another = no_other u lacks;
+        given = subst (All IsGiven) (sym front) (given_names (t ∷ []) (ap (λ b. b && true) there));
+        taken = λ files all. asks.in_turn (omega arith) files (law told (t ∷ []) files (asks.agree.0, tt)
+            (subst (λ f. AllTold f (t.name ∷ []) files) (sym (fun_ext same)) (subst (λ ns. AllTold (given first second) ns files) front all)));
+      }
+
+  behind : (c : Command) (t : Taken) (ts : List Taken) (status : ℕ) → TakesInTurn told c (t ∷ ts) status → is_some (told t.name) ≡ true → are_told told ts ≡ false
+      → (before : ℕ) × (name : List ℕ) × IsFirstAnother first second c before name
+  behind c t [] status asks there lacks = absurd (false≢true (sym lacks))
+  behind c t (u ∷ []) status asks there lacks = elim (cases_Bool (is_some (told u.name))) [
+    | inl also ↦ absurd (false≢true (sym lacks ∙ ap (λ b. b && true) also))
+    | inr none ↦ (1, u.name, at_second c t u status asks there none)
+  ]
+  behind c t (u ∷ v ∷ ts) status asks there lacks = absurd (omega (arith, asks.few, few_files c))
+
+  first_another : (c : Command) (ts : List Taken) (status : ℕ) → TakesInTurn told c ts status → are_told told ts ≡ false → (before : ℕ) × (name : List ℕ) × IsFirstAnother first second c before name
+  first_another c [] status asks lacks = absurd (false≢true (sym lacks))
+  first_another c (t ∷ ts) status asks lacks = elim (cases_Bool (is_some (told t.name))) [
+    | inl there ↦ behind c t ts status asks there (ap (λ b. b && are_told told ts) (sym there) ∙ lacks)
+    | inr none ↦ (0, t.name, at_first c t (names_taken ts ++ drop (length (t ∷ ts)) (files_of c)) (names_of c (t ∷ ts) status asks) none)
+  ]
+
+  pub another : (found : Option Command) (ts : List Taken) (status : ℕ) → IfSome found (λ c. TakesInTurn told c ts status) → are_told told ts ≡ false
+      → IfSome found (λ c. (before : ℕ) × (name : List ℕ) × IsFirstAnother first second c before name)
   another None ts status takes lacks = tt
-  another (Some c) ts status takes lacks =
-      let one = lacking told ts lacks in
-      let at = subst (λ names. Contains names one.0) takes.names one.1 in
-      (one.0, taken_of (length ts) (files_of c) one.0 at, λ given. false≢true (sym one.2 ∙ ap is_some (same one.0) ∙ has_bytes first second one.0 given))
+  another (Some c) ts status takes lacks = first_another c ts status takes lacks
 
   pub refused_at : (c : Command) (ts : List Taken) (status which : ℕ) (refusal : Refusal) → TakesInTurn told c ts status → are_told told ts ≡ true → EndsAtRefusal c ts which refusal
       → IsFirstRefused first second c which refusal
@@ -164,7 +200,6 @@ module _ (law : ToldLaw) (told : List ℕ → Option (List ℕ)) (first second :
         outside = is.words;
         refused = λ three. let r = is.refused three in (r.0, r.1, r.2, with_files found ts status r.0 r.1 takes (all (λ four. three_not_four (sym three ∙ four))) r.3);
         read_fault = is.read_fault;
-        write_fault = is.write_fault;
         no_memory = is.no_memory;
       }
 
@@ -175,108 +210,39 @@ module _ (law : ToldLaw) (told : List ℕ → Option (List ℕ)) (first second :
       of_files c ts status _ takes (elim either [ inl none ↦ inl none | inr one ↦ inr (inl one) ])
       (λ files fit. let w = written.whole either files fit in subst (λ t. Replies c files status t) (sym w.2) w.1)
 
-  -- where there is more of the text than there is room for, its first bytes fill the room, and the reply goes on
-  cut_whole : (c : Command) (ts : List Taken) (status n : ℕ) (text : List ℕ) → WritesOut ts c (Some []) (Some text) status → (status ≡ 0) ⊎ (status ≡ 1) → n < length text → (files : List (List ℕ)) → AllFit ts files
-      → GoesOn c (take n text) files
-  cut_whole c ts status n text written either more files fit =
-      let w = written.whole either files fit in
-      (status, drop n text, rest_left n text more, subst (λ t. Replies c files status t) (sym w.2 ∙ sym (take-append-drop n text)) w.1)
-
-  pub cut_short : (found : Option Command) (ts : List Taken) (status n : ℕ) (text : List ℕ) → IfSome found (λ c. TakesInTurn told c ts status) → IfSome found (λ c. WritesOut ts c (Some []) (Some text) status)
-      → (status ≡ 0) ⊎ (status ≡ 1) → n < length text → IfSome found (λ c. OfFiles first second c (GoesOn c (take n text)))
-  cut_short None ts status n text takes written replied more = tt
-  cut_short (Some c) ts status n text takes written replied more =
-      of_files c ts status _ takes (elim replied [ inl none ↦ inl none | inr one ↦ inr (inl one) ]) (λ files fit. cut_whole c ts status n text written replied more files fit)
-
-  refusal_there : (found : Option Command) (ts : List Taken) (status : ℕ) → IfSome found (λ c. TakesInTurn told c ts status) → are_told told ts ≡ true
-      → IfSome found (λ c. status ≡ 3 → (which : ℕ) × (refusal : Refusal) × EndsAtRefusal c ts which refusal)
-      → status ≡ 3 → IfSome found (λ c. (which : ℕ) × (refusal : Refusal) × IsFirstRefused first second c which refusal)
-  refusal_there None ts status takes all refused three = tt
-  refusal_there (Some c) ts status takes all refused three = let r = refused three in (r.0, r.1, refused_at c ts status r.0 r.1 takes all r.2)
-
   promised : PromiseLaw → (found : Option Command) (status : ℕ) (text : List ℕ) → IfSome found (λ c. OfFiles first second c (λ files. Replies c files status text))
       → IfSome found (λ c. OfFiles first second c (λ files. IsPromised c files status text))
   promised keeps None status text replied = tt
   promised keeps (Some c) status text replied = λ files all. keeps c files status text (replied files all)
 
   -- what a run left
-  module _ (keeps : PromiseLaw) (found : Option Command) (ts : List Taken) (status faults : ℕ) (text said line : List ℕ)
+  module _ (keeps : PromiseLaw) (found : Option Command) (ts : List Taken) (status : ℕ) (text line : List ℕ)
       (words : (status ≡ 2) ↔ IsNone found) (range : status ≤ 6)
       (takes : IfSome found (λ c. TakesInTurn told c ts status))
       (all : status ≢ 4 → are_told told ts ≡ true) (lacks : status ≡ 4 → are_told told ts ≡ false)
-      (refused : IfSome found (λ c. status ≡ 3 → (which : ℕ) × (refusal : Refusal) × EndsAtRefusal c ts which refusal))
       (written : IfSome found (λ c. WritesOut ts c (Some []) (Some text) status))
       (unwritten : (status ≡ 2) ⊎ (status ≡ 3) ⊎ (status ≡ 4) ⊎ (status ≡ 6) → text ≡ [])
-      (quiet : (status ≡ 0) ⊎ (status ≡ 1) → said ≡ [])
-      (offered : 2 ≤ status → (l : List ℕ) × IsLineOf found ts status l × Offers (Some []) (Some said) 0 faults l)
-      (done : status ≢ 5)
-      (shown : (line ≡ []) ⊎ ((line ≡ said) × (faults ≡ 0))) where
-    -- a line that is shown is one that was offered whole
-    whole_line : (l : List ℕ) → Offers (Some []) (Some said) 0 faults l → faults ≡ 0 → said ≡ l
-    whole_line l offers none = elim offers.added [ inl all ↦ all | inr part ↦ absurd (omega (arith, part.1 (λ top. omega (arith, top)), none)) ]
-
-    said_of : 2 ≤ status → (line ≡ []) ⊎ IsLineFor found first second status line
-    said_of more = elim shown [
-      | inl none ↦ inl none
-      | inr same ↦ let o = offered more in inr (subst (λ l. IsLineFor found first second status l) (sym (same.0 ∙ whole_line o.0 o.2 same.1)) (line_for found ts status o.0 o.1 takes all))
-    ]
-
-    no_line : (status ≡ 0) ⊎ (status ≡ 1) → line ≡ []
-    no_line either = elim shown [ inl none ↦ none | inr same ↦ same.0 ∙ quiet either ]
+      (quiet : (status ≡ 0) ⊎ (status ≡ 1) → line ≡ [])
+      (offered : 2 ≤ status → (l : List ℕ) × IsLineOf found ts status l × Offers (Some []) (Some line) 0 0 l)
+      (done : status ≢ 5) where
+    -- a line at which no write failed is there whole
+    whole_line : (l : List ℕ) → Offers (Some []) (Some line) 0 0 l → line ≡ l
+    whole_line l offers = elim offers.added [ inl all ↦ all | inr part ↦ absurd (omega (arith, part.1 (λ top. omega (arith, top)))) ]
 
     outside : (o : Option Command) → ((status ≡ 2) ↔ IsNone o) → IfNone o ((status ≡ 2) ⊎ (status ≡ 6))
     outside None both = inl (both.1 refl)
     outside (Some c) both = tt
 
-    pub whole : (room : ℕ) → IsRunOf found first second room status text line
-    whole room = record {
+    pub whole : IsWholeRun found first second status text line
+    whole = record {
+      range = (range, done);
       grammar = words.0;
       outside = outside found words;
-      range = range;
-      given = λ replied. all_given found ts status takes (all (λ four. elim replied [ inl none ↦ omega (arith, none, four) | inr rest ↦ elim rest [ inl one ↦ omega (arith, one, four) | inr five ↦ absurd (done five) ] ])) replied;
+      given = λ either. all_given found ts status takes (all (reply_not_four either)) (reply_is_one either);
       reply = reply found ts status text takes written;
       promise = λ either. promised keeps found status text (reply found ts status text takes written either);
-      refused = λ three. refusal_there found ts status takes (all (λ four. three_not_four (sym three ∙ four))) refused three;
       another = λ four. another found ts status takes (lacks four);
-      full = λ five. absurd (done five);
-      cut_short = λ five. absurd (done five);
-      unwritten = unwritten;
-      quiet = no_line;
-      said = said_of;
+      unwritten = λ more. unwritten (is_other status range done more);
+      quiet = quiet;
+      said = λ more. let o = offered more in subst (λ l. IsLineFor found first second status l) (sym (whole_line o.0 o.2)) (line_for found ts status o.0 o.1 takes all);
     }
-
-    -- a text that isn't empty is that of a reply
-    replied : text ≢ [] → (status ≡ 0) ⊎ (status ≡ 1)
-    replied some = elim (is_reply status range (λ e. some (unwritten e))) [
-      | inl none ↦ inl none
-      | inr rest ↦ elim rest [ inl one ↦ inr one | inr five ↦ absurd (done five) ]
-    ]
-
-    there : (o : Option Command) → ((status ≡ 2) ↔ IsNone o) → (text ≢ []) → IfNone o ((◌≡◌ {A = ℕ} 5 2) ⊎ (◌≡◌ {A = ℕ} 5 6))
-    there None both some = absurd (some (unwritten (inl (both.1 refl))))
-    there (Some c) both some = tt
-
-    pub cut : (room : ℕ) → room < length text → IsRunOf found first second room 5 (take room text) line
-    cut room more =
-        let some : text ≢ [] = λ empty. absurd (omega (arith, more, ap length empty)) in
-        let either = replied some in
-        record {
-          grammar = λ e. absurd (omega (arith, e));
-          outside = there found words some;
-          range = omega (arith);
-          given = λ _. all_given found ts status takes (all (λ four. reply_not_four either four)) (elim either [ inl none ↦ inl none | inr one ↦ inr (inl one) ]);
-          reply = λ e. absurd (five_is_none e);
-          promise = λ e. absurd (five_is_none e);
-          refused = λ e. absurd (omega (arith, e));
-          another = λ e. absurd (omega (arith, e));
-          full = λ _. length_take room text more;
-          cut_short = λ _. cut_short found ts status room text takes written either more;
-          unwritten = λ e. absurd (five_is_no_other e);
-          quiet = λ e. absurd (five_is_none e);
-          said = λ _. inl (no_line either);
-        }
-
-    -- what is handed over to the caller
-    pub handed : (final room : ℕ) (copy : List ℕ) → ((final ≡ status) × (copy ≡ text)) ⊎ ((final ≡ 5) × (room < length text) × (copy ≡ take room text)) → IsRunOf found first second room final copy line
-    handed final room copy (inl same) = subst (λ k. IsRunOf found first second room k copy line) (sym same.0) (subst (λ t. IsRunOf found first second room status t line) (sym same.1) (whole room))
-    handed final room copy (inr part) = subst (λ k. IsRunOf found first second room k copy line) (sym part.0) (subst (λ t. IsRunOf found first second room 5 t line) (sym part.2) (cut room part.1))

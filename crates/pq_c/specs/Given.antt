@@ -1,6 +1,6 @@
 -- The files that a caller hands over.
-use Rattle.std.specs.Prelude.{◌≡◌, ◌⊎◌, ◌↔◌, ℕ, Bool, true, List, [], take, is_some, Option, Some, None, if◌then◌else◌, codes}
-use Rattle.std.specs.List.{list_all, Contains}
+use Rattle.std.specs.Prelude.{◌≡◌, ◌⊎◌, ◌↔◌, ℕ, Bool, true, List, [], ◌∷◌, take, drop, is_some, Option, Some, None, if◌then◌else◌, codes}
+use Rattle.std.specs.List.{list_all}
 use Rattle.std.specs.Str.{bytes_eq}
 use Rattle.command_input.specs.Words.{Command, files_of}
 use Rattle.pq_io.specs.NamedFiles.{Held, content_of}
@@ -15,9 +15,9 @@ given first second name = if bytes_eq name (codes "2") then Some second else (if
 abbrev pub IsGiven : List ℕ → Type 0
 IsGiven name = (name ≡ codes "1") ⊎ (name ≡ codes "2")
 
--- a command names a file that is none of the two
-abbrev pub NamesAnother : Command → Type 0
-NamesAnother command = (name : List ℕ) × Contains (files_of command) name × (IsGiven name → ⊥)
+-- the name of a command's file that stands behind the first so many
+abbrev pub NamesNext : Command → ℕ → List ℕ → Type 0
+NamesNext command before name = (rest : List (List ℕ)) × (drop before (files_of command) ≡ name ∷ rest)
 
 -- a fact about the bytes of the first so many files of a command, where these are among the two
 abbrev pub OfFirst : ℕ → List ℕ → List ℕ → Command → (List (List ℕ) → Type 0) → Type 0

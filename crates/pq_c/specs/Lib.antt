@@ -1,3 +1,5 @@
 pub mod Given
 pub mod Kept
 pub mod Called
+pub mod Agreed
+pub mod Complete

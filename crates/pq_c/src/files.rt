@@ -1,7 +1,7 @@
 // The files that a caller hands over.
 ghost use Rattle.std.specs.Prelude.{◌≡◌, ℕ, List, [], is_some, IfOk};
-ghost use Rattle.pq_io.specs.NamedFiles.{content_of};
-ghost use Rattle.pq_c.specs.Given.{given};
+ghost use Rattle.pq_io.specs.NamedFiles.{Held, content_of};
+ghost use Rattle.pq_c.specs.Given.{FailsOnlyAtAnother, given};
 
 use pq_io::{ChooseError, Failed, MemShelf, NoMemory, Shelf};
 use std::alloc::Global;
@@ -14,13 +14,9 @@ pub struct HandedOver {
 }
 
 impl Model for HandedOver {
-    ghost use Rattle.pq_io.specs.NamedFiles.{Held};
-
     ghost Value = { Held };
 
     ghost view = { λ files. files.shelf };
-
-    ghost use Rattle.pq_c.specs.Given.{FailsOnlyAtAnother};
 
     ghost invariant = { λ files. FailsOnlyAtAnother files.shelf };
 }

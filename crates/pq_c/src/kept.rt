@@ -1,7 +1,7 @@
 // What is written for a caller, until it is handed over.
-ghost use Rattle.std.specs.Prelude.{◌≡◌, ◌↔◌, [], Some, IsTrue};
+ghost use Rattle.std.specs.Prelude.{◌≡◌, [], Some, IfOk};
 
-use pq_io::{Failed, Sink};
+use pq_io::{Failed, NoMemory, Sink};
 use std::alloc::Global;
 use std::marker::Model;
 
@@ -32,17 +32,17 @@ impl Kept {
     }
 
     /// The bytes written.
-    pub fn bytes(&self) -> &[u8]
-        ensures { result.now ≡ self.now.bytes }
+    ///
+    /// # Errors
+    ///
+    /// `NoMemory` where a write failed.
+    pub fn whole(self) -> Result<Vec<u8>, NoMemory>
+        ensures { IfOk result (λ bytes. (bytes.items ≡ self.bytes) × (self.faults ≡ 0)) }
     {
-        &self.bytes
-    }
-
-    /// Whether no write has failed.
-    pub fn is_whole(&self) -> bool
-        ensures { IsTrue result ↔ (self.now.faults ≡ 0) }
-    {
-        self.faults == 0
+        if self.faults > 0 {
+            return Err(NoMemory);
+        }
+        Ok(self.bytes)
     }
 }
 

@@ -23,12 +23,12 @@ pub since : (before after ts : List Taken) → after ≡ before ++ ts → taken_
 since before after ts e = ap (drop (length before)) e ∙ drop-append_seam before ts
 
 -- what holds of the bytes of one file, or of two, holds of the files
-one_fits : (t : Taken) (P : List (List ℕ) → Type 0) → ((bytes : List ℕ) → FitsTaken t bytes → P (bytes ∷ [])) → OfTaken (t ∷ []) P
+pub one_fits : (t : Taken) (P : List (List ℕ) → Type 0) → ((bytes : List ℕ) → FitsTaken t bytes → P (bytes ∷ [])) → OfTaken (t ∷ []) P
 one_fits t P holds [] f = absurd f
 one_fits t P holds (bytes ∷ []) f = holds bytes f.0
 one_fits t P holds (bytes ∷ more ∷ files) f = absurd f.1
 
-two_fit : (t u : Taken) (P : List (List ℕ) → Type 0) → ((bytes given : List ℕ) → FitsTaken t bytes → FitsTaken u given → P (bytes ∷ given ∷ [])) → OfTaken (t ∷ u ∷ []) P
+pub two_fit : (t u : Taken) (P : List (List ℕ) → Type 0) → ((bytes given : List ℕ) → FitsTaken t bytes → FitsTaken u given → P (bytes ∷ given ∷ [])) → OfTaken (t ∷ u ∷ []) P
 two_fit t u P holds [] f = absurd f
 two_fit t u P holds (bytes ∷ []) f = absurd f.1
 two_fit t u P holds (bytes ∷ given ∷ []) f = holds bytes given f.0 f.1.0

@@ -1,3 +1,4 @@
+pub mod Counts
 pub mod Frame
 pub mod Lines
 pub mod Bases

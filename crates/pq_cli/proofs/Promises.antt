@@ -1,13 +1,13 @@
 -- What a run promises where nothing fails.
-use Rattle.std.proofs.Common.{◌≡◌, ◌≢◌, ◌⊎◌, ◌↔◌, ℕ, ◌≤◌, List, [], ◌∷◌, Option, Some, None, inl, inr, refl, sym, ◌∙◌, ap, arith, IfSome}
-use Rattle.std.specs.Prelude.{IsNone}
+use Rattle.std.proofs.Common.{◌≡◌, ◌≢◌, ◌⊎◌, ◌↔◌, ℕ, ◌≤◌, List, [], ◌∷◌, Option, Some, None, inl, inr, refl, ◌∙◌, ap, arith, IfSome}
+use Rattle.std.specs.Prelude.{IsNone, Result, Ok, Err, IfOk, IfErr}
 use Rattle.std.proofs.lemmas.Bool.{cases_eq}
 use Rattle.command_input.specs.Words.{Command, Solve, Check, Extend, Gen, Meet, ListOrders, UnitModel, CheckUnit, Core, CheckCore}
 use Rattle.reply_laws.specs.Replies.{refused_at, refused_behind, refused_of_two, refusal_of, Replies}
 use Rattle.pq_io.specs.Taken.{Taken}
-use Rattle.pq_cli.specs.Runs.{AllFit, OfTaken, taken_since, TakesFiles, WritesOut, CountsWrites}
+use Rattle.pq_cli.specs.Runs.{AllFit, OfTaken, taken_since, TakesFiles, WritesOut, CountsWrites, failure_line}
 use Rattle.command_input.specs.TreeFiles.{tree_file}
-use Rattle.pq_cli.specs.Stops.{stop_status, failure_status}
+use Rattle.pq_cli.specs.Stops.{stop_status, failure_status, run_status}
 use Rattle.pq_cli.specs.Promise.{NothingFails, WhereWellFormed, Completes, KeepsPromise}
 use Rattle.reply_laws.specs.Promise.{PromiseLaw}
 use Rattle.reply_laws.specs.Answer.{IsAnswer, AnswerLaw}
@@ -19,41 +19,41 @@ use Rattle.pq_cli.specs.declared.stop.Failure.TheVariants as failure
 -- where there is a reply, no file is refused
 replied_unrefused : (c : Command) (files : List (List ℕ)) (status : ℕ) (text : List ℕ) → Replies c files status text → refusal_of c files ≡ None
 unfolding Replies
+replied_unrefused (Gen seed columns rows) [] status text reply = refl
+replied_unrefused (Gen seed columns rows) (bytes ∷ files) status text reply = absurd reply
 replied_unrefused (Solve kind name) [] status text reply = absurd reply
 replied_unrefused (Solve kind name) (bytes ∷ []) status text reply = ap (refused_at 1) reply.1
 replied_unrefused (Solve kind name) (bytes ∷ more ∷ files) status text reply = absurd reply
-replied_unrefused (Check kind name other) [] status text reply = absurd reply
-replied_unrefused (Check kind name other) (bytes ∷ []) status text reply = absurd reply
-replied_unrefused (Check kind name other) (bytes ∷ given ∷ []) status text reply = ap (refused_at 1) reply.1
-replied_unrefused (Check kind name other) (bytes ∷ given ∷ more ∷ files) status text reply = absurd reply
-replied_unrefused (Extend kind name other) [] status text reply = absurd reply
-replied_unrefused (Extend kind name other) (bytes ∷ []) status text reply = absurd reply
-replied_unrefused (Extend kind name other) (bytes ∷ given ∷ []) status text reply = ap (λ first. refused_behind first given) reply.2 ∙ ap (refused_at 2) reply.3
-replied_unrefused (Extend kind name other) (bytes ∷ given ∷ more ∷ files) status text reply = absurd reply
 replied_unrefused (Core kind name) [] status text reply = absurd reply
 replied_unrefused (Core kind name) (bytes ∷ []) status text reply = ap (refused_at 1) reply.1
 replied_unrefused (Core kind name) (bytes ∷ more ∷ files) status text reply = absurd reply
-replied_unrefused (CheckCore kind name other) [] status text reply = absurd reply
-replied_unrefused (CheckCore kind name other) (bytes ∷ []) status text reply = absurd reply
-replied_unrefused (CheckCore kind name other) (bytes ∷ given ∷ []) status text reply = ap (refused_at 1) reply.1
-replied_unrefused (CheckCore kind name other) (bytes ∷ given ∷ more ∷ files) status text reply = absurd reply
-replied_unrefused (Gen seed columns rows) [] status text reply = refl
-replied_unrefused (Gen seed columns rows) (bytes ∷ files) status text reply = absurd reply
-replied_unrefused (Meet c name other) [] status text reply = absurd reply
-replied_unrefused (Meet c name other) (bytes ∷ []) status text reply = absurd reply
-replied_unrefused (Meet c name other) (bytes ∷ given ∷ []) status text reply =
-    ap (λ first. refused_of_two first (tree_file c given)) reply.2 ∙ ap (refused_at 2) reply.3
-replied_unrefused (Meet c name other) (bytes ∷ given ∷ more ∷ files) status text reply = absurd reply
 replied_unrefused (ListOrders kind name count) [] status text reply = absurd reply
 replied_unrefused (ListOrders kind name count) (bytes ∷ []) status text reply = ap (refused_at 1) reply.1
 replied_unrefused (ListOrders kind name count) (bytes ∷ more ∷ files) status text reply = absurd reply
 replied_unrefused (UnitModel name) [] status text reply = absurd reply
 replied_unrefused (UnitModel name) (bytes ∷ []) status text reply = ap (refused_at 1) reply.1
 replied_unrefused (UnitModel name) (bytes ∷ more ∷ files) status text reply = absurd reply
+replied_unrefused (Check kind name other) [] status text reply = absurd reply
+replied_unrefused (Check kind name other) (bytes ∷ []) status text reply = absurd reply
+replied_unrefused (Check kind name other) (bytes ∷ given ∷ []) status text reply = ap (refused_at 1) reply.1
+replied_unrefused (Check kind name other) (bytes ∷ given ∷ more ∷ files) status text reply = absurd reply
+replied_unrefused (CheckCore kind name other) [] status text reply = absurd reply
+replied_unrefused (CheckCore kind name other) (bytes ∷ []) status text reply = absurd reply
+replied_unrefused (CheckCore kind name other) (bytes ∷ given ∷ []) status text reply = ap (refused_at 1) reply.1
+replied_unrefused (CheckCore kind name other) (bytes ∷ given ∷ more ∷ files) status text reply = absurd reply
 replied_unrefused (CheckUnit name other) [] status text reply = absurd reply
 replied_unrefused (CheckUnit name other) (bytes ∷ []) status text reply = absurd reply
 replied_unrefused (CheckUnit name other) (bytes ∷ given ∷ []) status text reply = ap (refused_at 1) reply.1
 replied_unrefused (CheckUnit name other) (bytes ∷ given ∷ more ∷ files) status text reply = absurd reply
+replied_unrefused (Extend kind name other) [] status text reply = absurd reply
+replied_unrefused (Extend kind name other) (bytes ∷ []) status text reply = absurd reply
+replied_unrefused (Extend kind name other) (bytes ∷ given ∷ []) status text reply = ap (λ first. refused_behind first given) reply.2 ∙ ap (refused_at 2) reply.3
+replied_unrefused (Extend kind name other) (bytes ∷ given ∷ more ∷ files) status text reply = absurd reply
+replied_unrefused (Meet c name other) [] status text reply = absurd reply
+replied_unrefused (Meet c name other) (bytes ∷ []) status text reply = absurd reply
+replied_unrefused (Meet c name other) (bytes ∷ given ∷ []) status text reply =
+    ap (λ first. refused_of_two first (tree_file c given)) reply.2 ∙ ap (refused_at 2) reply.3
+replied_unrefused (Meet c name other) (bytes ∷ given ∷ more ∷ files) status text reply = absurd reply
 
 -- the statuses that are left
 left_statuses : (status : ℕ) → status ≤ 6 → status ≢ 2 → status ≢ 4 → status ≢ 5 → status ≢ 6 → (status ≡ 0) ⊎ (status ≡ 1) ⊎ (status ≡ 3)
@@ -139,5 +139,16 @@ failed_low (failure.Stopped stop.ReadFault) either = elim either [ inl e ↦ ome
 failed_low (failure.Stopped stop.NoMemory) either = elim either [ inl e ↦ omega (arith, e) | inr e ↦ omega (arith, e) ]
 failed_low failure.WriteFault either = elim either [ inl e ↦ omega (arith, e) | inr e ↦ omega (arith, e) ]
 
-pub failed_answers : (f : Failure) (status : ℕ) (P : Type 0) → status ≡ failure_status f → (status ≡ 0) ⊎ (status ≡ 1) → P
-failed_answers f status P is either = absurd (failed_low f (elim either [ inl e ↦ inl (sym is ∙ e) | inr e ↦ inr (sym is ∙ e) ]))
+-- a run, by how it ended: with the status of a reply, or with a failure
+pub run_low : (ended : Result ℕ Failure) → IfOk ended (λ status. (status ≡ 0) ⊎ (status ≡ 1)) → run_status ended ≤ 6
+run_low (Ok status) either = reply_low status either
+run_low (Err f) either = failure_low f
+
+pub run_quiet : (ended : Result ℕ Failure) (P : Type 0) → IfOk ended (λ status. P) → (run_status ended ≡ 0) ⊎ (run_status ended ≡ 1) → P
+run_quiet (Ok status) P quiet either = quiet
+run_quiet (Err f) P quiet either = absurd (failed_low f either)
+
+pub run_tells : (ended : Result ℕ Failure) (P Q : ℕ → List ℕ → Type 0) → IfOk ended (λ status. (status ≡ 0) ⊎ (status ≡ 1)) → IfErr ended (λ f. P (failure_status f) (failure_line f))
+    → IfErr ended (λ f. Q (failure_status f) (failure_line f)) → 2 ≤ run_status ended → (line : List ℕ) × P (run_status ended) line × Q (run_status ended) line
+run_tells (Ok status) P Q either one other more = absurd (elim either [ inl zero ↦ omega (arith, more, zero) | inr one ↦ omega (arith, more, one) ])
+run_tells (Err f) P Q either one other more = (failure_line f, one, other)

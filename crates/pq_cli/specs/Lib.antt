@@ -3,6 +3,9 @@ pub mod Reading
 pub mod Further
 pub mod Runs
 pub mod Promise
+pub mod Run
 pub mod Real
 pub mod Told
 pub mod Over
+pub mod Making
+pub mod Steps

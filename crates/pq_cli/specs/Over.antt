@@ -9,6 +9,7 @@ use Rattle.command_input.specs.Words.{Command, files_of}
 use Rattle.command_input.specs.Instances.{instance_of, ReadsInstance, IsInstanceOf}
 use Rattle.reply_laws.specs.Replies.{refusable, refused_at, refusal_of, Replies}
 use Rattle.verdict_replies.specs.declared.reply.Reply.{Reply}
+use Rattle.solve_replies.specs.Steps.{made_status}
 
 -- a command names these files, of which the first is that of an instance of this kind
 pub record IsOverInstance (command : Command) (kind : Kind) (names : List (List ℕ)) : Type 0 where
@@ -21,10 +22,16 @@ pub record RepliesWhere (command : Command) (P : List (List ℕ) → Type 0) (re
   pub status : (reply.status ≡ 0) ⊎ (reply.status ≡ 1)
   pub says : (files : List (List ℕ)) → P files → Replies command files reply.status reply.text.items
 
+-- what a call makes of an instance: a reply of which P holds, with the status of one, in steps of which W holds at the status
+pub record IsMade {E : Type 0} (P : Reply → Type 0) (W : ℕ → Type 0) (made : Result Reply E) : Type 0 where
+  pub status : IfOk made (λ reply. (reply.status ≡ 0) ⊎ (reply.status ≡ 1))
+  pub reply : IfOk made P
+  pub steps : W (made_status (λ reply. reply.status) made)
+
 -- what a call makes of an instance is a reply to a command over the file of the instance
-abbrev pub RepliesToInstance : {E : Type 0} → Command → Kind → (Instance → Result Reply E → Type 0) → Type 0
+abbrev pub RepliesToInstance : {E : Type 0} → Command → Kind → (Instance → ℕ → Result Reply E → ℕ → Type 0) → Type 0
 RepliesToInstance command kind makes =
-    (i : Instance) (made : _) → IsInstanceOf kind i → makes i made
+    (i : Instance) (s : ℕ) (made : _) (n : ℕ) → IsInstanceOf kind i → makes i s made n
     → IfOk made (RepliesWhere command (λ files. (bytes : List ℕ) × (files ≡ bytes ∷ []) × ReadsInstance kind bytes (read.Ok i)))
 
 -- what a call makes of an instance and a text of this limit is a reply to a command over the files of both

@@ -1,6 +1,7 @@
 // `extend`: further rows, taken in turn after those of a matrix.
 ghost use Rattle.command_input.specs.Words.{Extend, IsExtended};
 ghost use Rattle.pq_cli.specs.Runs.{RunsCommand};
+ghost use Rattle.pq_cli.specs.Steps.{CountsReply};
 
 use crate::extend::further_file::FurtherFile;
 use crate::input::instance_file::InstanceFile;
@@ -12,6 +13,7 @@ use pq_io::Shelf;
 use row_model::Kind;
 use solve_replies::extension_reply;
 use std::alloc::Global;
+use step_count::{Ledger, Steps};
 
 pub mod further_file;
 
@@ -20,21 +22,25 @@ pub mod further_file;
 /// # Errors
 ///
 /// What stood in the way of the reply.
-pub fn extend_file<F: Shelf>(
+#[tactic(auto, using(crate::proofs::Counts::counts_none))]
+pub fn extend_file<F: Shelf, L: Ledger>(
     alloc: Global,
     kind: Kind,
     file: &str,
     rows: &str,
     files: &mut F,
+    steps: &mut Steps<L>,
 ) -> Result<Reply, Stop>
     requires { IsExtended kind }
-    ensures { RunsCommand F.content F.taken F.faults files.old files.new
+    ensures runs { RunsCommand F.content F.taken F.faults files.old files.new
         (Extend kind file.now rows.now) result }
+    ensures steps { CountsReply F.taken files.old files.new (Extend kind file.now rows.now)
+        result steps.old steps.new }
 {
     let Instance::Plain(_, base) = read_file(alloc, &InstanceFile { kind }, 1, file, files)? else {
         unreachable!()
     };
     let columns = base.columns();
     let further = read_file(alloc, &FurtherFile { columns }, 2, rows, files)?;
-    Ok(extension_reply(alloc, kind, base, &further)?)
+    Ok(extension_reply(alloc, kind, base, &further, steps)?)
 }

@@ -19,6 +19,7 @@ ghost use Rattle.command_input.specs.declared.TheConstants.{TREE_CODE};
 mod command;
 mod extend;
 mod input;
+mod making;
 mod meet;
 mod over;
 mod real;
@@ -35,7 +36,7 @@ pub use reply_laws::{
 pub use row_model::NoMemory;
 pub use solve_replies::{MAX_EXPLAINED, generate, generated_law};
 pub use stop::{Failure, Stop};
-pub use top::{decide, run};
+pub use top::{decide, run, run_counted};
 
 /// The values of the constants.
 pub fn values_law()

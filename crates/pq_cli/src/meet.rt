@@ -3,6 +3,7 @@ ghost use Rattle.std.specs.Prelude.{◌≤◌};
 ghost use Rattle.row_model.specs.declared.TheConstants.{MAX_COLUMNS};
 ghost use Rattle.command_input.specs.Words.{Meet};
 ghost use Rattle.pq_cli.specs.Runs.{RunsCommand};
+ghost use Rattle.pq_cli.specs.Steps.{CountsReply};
 
 use crate::input::read_file;
 use crate::meet::tree_file::TreeFile;
@@ -11,6 +12,7 @@ use commands::{Reply, meeting_reply};
 use pq_io::Shelf;
 use solve_replies::Solver;
 use std::alloc::Global;
+use step_count::{Ledger, Steps};
 
 pub mod tree_file;
 
@@ -19,19 +21,23 @@ pub mod tree_file;
 /// # Errors
 ///
 /// What stood in the way of the reply.
-pub fn meet_files<F: Shelf>(
+#[tactic(auto, using(crate::proofs::Counts::counts_none))]
+pub fn meet_files<F: Shelf, L: Ledger>(
     alloc: Global,
     columns: u32,
     first: &str,
     second: &str,
     files: &mut F,
+    steps: &mut Steps<L>,
 ) -> Result<Reply, Stop>
     requires { (1 ≤ columns) × (columns ≤ MAX_COLUMNS) }
-    ensures { RunsCommand F.content F.taken F.faults files.old files.new
+    ensures runs { RunsCommand F.content F.taken F.faults files.old files.new
         (Meet columns first.now second.now) result }
+    ensures steps { CountsReply F.taken files.old files.new (Meet columns first.now second.now)
+        result steps.old steps.new }
 {
     let form = TreeFile { columns };
     let one = read_file(alloc, &form, 1, first, files)?;
     let other = read_file(alloc, &form, 2, second, files)?;
-    Ok(meeting_reply(alloc, &mut Solver, &one, &other)?)
+    Ok(meeting_reply(alloc, &mut Solver, &one, &other, steps)?)
 }

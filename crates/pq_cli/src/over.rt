@@ -1,11 +1,14 @@
 // Commands over the file of an instance.
-ghost use Rattle.std.specs.Prelude.{◌≤◌, ◌^◌, [], ◌∷◌};
+ghost use Rattle.std.specs.Prelude.{◌≤◌, ◌^◌, ℕ, Result, [], ◌∷◌};
+ghost use Rattle.std.specs.declared.alloc.AllocError.{AllocError};
+ghost use Rattle.verdict_replies.specs.declared.reply.Reply.{Reply};
 ghost use Rattle.pq_io.specs.declared.reading.Whole.{Whole};
 ghost use Rattle.instance_model.specs.declared.instance.Instance.{Instance};
 ghost use Rattle.command_input.specs.Words.{Command};
 ghost use Rattle.command_input.specs.Instances.{IsInstanceOf};
 ghost use Rattle.pq_cli.specs.Over.{IsOverInstance, RepliesToInstance, RepliesToBoth};
 ghost use Rattle.pq_cli.specs.Runs.{RunsCommand};
+ghost use Rattle.pq_cli.specs.Steps.{CountsOnInstance, CountsReply};
 
 use crate::NoMemory;
 use crate::input::instance_file::InstanceFile;
@@ -16,26 +19,53 @@ use instance_model::Instance;
 use pq_io::{Shelf, Whole};
 use row_model::Kind;
 use std::alloc::Global;
+use step_count::{Ledger, Steps};
+
+/// A reply, or that memory is refused.
+pub type Made = Result<Reply, NoMemory>;
+
+/// A call that makes a reply of an instance.
+pub trait InstanceReply {
+    /// Which instances it takes.
+    ghost takes: { Self → Instance → Type 0 };
+
+    /// What it makes of one, in steps that go from one number to another.
+    ghost makes: { Self → Instance → ℕ → Result Reply AllocError → ℕ → Type 0 };
+
+    /// Makes the reply.
+    ///
+    /// # Errors
+    ///
+    /// Memory is refused.
+    fn reply<L: Ledger>(&self, alloc: Global, instance: &Instance, steps: &mut Steps<L>) -> Made
+        requires { takes self.now instance.now }
+        ensures { makes self.now instance.now steps.old result steps.new };
+}
 
 /// The reply to a command over the file of an instance of a kind: what `reply` makes of the instance.
 ///
 /// # Errors
 ///
 /// What stood in the way of the reply.
-pub fn over_instance<F: Shelf, R: FnOnce(Instance) -> Result<Reply, NoMemory>>(
+pub fn over_instance<F: Shelf, R: InstanceReply, L: Ledger>(
     alloc: Global,
     kind: Kind,
     file: &str,
     files: &mut F,
-    reply: R,
+    reply: &R,
+    steps: &mut Steps<L>,
 ) -> Result<Reply, Stop>
-    requires { (i : Instance) → IsInstanceOf kind i → R.pre reply i }
-    ensures { (command : Command) → IsOverInstance command kind (file.now ∷ [])
-        → RepliesToInstance command kind (R.post reply)
+    requires { (i : Instance) → IsInstanceOf kind i → R.takes reply.now i }
+    ensures runs { (command : Command) → IsOverInstance command kind (file.now ∷ [])
+        → RepliesToInstance command kind (R.makes reply.now)
         → RunsCommand F.content F.taken F.faults files.old files.new command result }
+    ensures steps { (command : Command) → IsOverInstance command kind (file.now ∷ [])
+        → RepliesToInstance command kind (R.makes reply.now)
+        → CountsOnInstance command kind (R.makes reply.now)
+        → CountsReply F.taken files.old files.new command result steps.old steps.new }
 {
     let instance = read_file(alloc, &InstanceFile { kind }, 1, file, files)?;
-    Ok(reply(instance)?)
+    Ok(reply.reply(alloc, &instance, steps)?)
 }
 
 /// The reply to a command over the file of an instance of a kind and that of a text of at most so many bytes: what
@@ -44,7 +74,7 @@ pub fn over_instance<F: Shelf, R: FnOnce(Instance) -> Result<Reply, NoMemory>>(
 /// # Errors
 ///
 /// What stood in the way of the reply.
-pub fn over_both<F: Shelf, R: FnOnce(Instance, Whole) -> Result<Reply, NoMemory>>(
+pub fn over_both<F: Shelf, R: FnOnce(Instance, Whole) -> Made>(
     alloc: Global,
     kind: Kind,
     file: &str,

@@ -1,10 +1,12 @@
 // The top call: one command, from the words to the status.
-ghost use Rattle.std.specs.Prelude.{◌≡◌, ◌⊎◌, ◌↔◌, ◌≤◌, IfNone, IfOk, IfErr, IsNone, List, ℕ, IfSome};
+ghost use Rattle.std.specs.Prelude.{◌≡◌, ◌⊎◌, ◌↔◌, ◌<◌, ◌≤◌, IfNone, IfOk, IfErr, IsNone, List, ℕ, IfSome};
 ghost use Rattle.command_input.specs.Words.{texts, command_of};
 ghost use Rattle.reply_laws.specs.Answer.{IsAnswer};
 ghost use Rattle.pq_cli.specs.Runs.{OfTaken, TakesFiles, taken_since, WritesOut, CountsWrites, Offers, IsLineOf, failure_line};
 ghost use Rattle.pq_cli.specs.Stops.{run_status, failure_status};
+ghost use Rattle.pq_cli.specs.Steps.{CountsSteps};
 ghost use Rattle.pq_cli.specs.Promise.{NothingFails, Completes, KeepsPromise};
+ghost use Rattle.pq_cli.specs.Run.{RunsWords};
 
 use crate::command::perform;
 use crate::report::report;
@@ -13,6 +15,7 @@ use commands::task_of;
 use pq_io::{Shelf, Sink, write_all};
 use reply_laws::{answer_law, promise_law};
 use std::alloc::Global;
+use step_count::{Blank, Brand, Ledger, Steps};
 
 /// Does what the words ask for, and answers the exit status.
 ///
@@ -95,9 +98,67 @@ pub fn run<F: Shelf, O: Sink, E: Sink>(
         (O.faults out.new) result
         → KeepsPromise (taken_since (F.taken files.old) (F.taken files.new)) c (O.written out.old) (O.written out.new) result) }
 {
+    run_from::<F, O, E, Brand>(alloc, words, files, out, err, Blank::new(1))
+}
+
+// The same. The counter of steps begins at the blank.
+fn run_from<F: Shelf, O: Sink, E: Sink, L: Ledger>(
+    alloc: Global,
+    words: &[String],
+    files: &mut F,
+    out: &mut O,
+    err: &mut E,
+    blank: Blank,
+) -> u8
+    requires name { blank.name ≡ L.name }
+    requires parts { blank.parts ≡ L.parts }
+    requires some { 0 < blank.parts }
+    ensures runs { RunsWords F.content F.taken F.faults O.written O.faults E.written E.faults
+        (command_of (texts words.now)) files.old files.new out.old out.new err.old err.new result }
+{
+    let mut steps = Steps::<L>::new(blank);
+    run_counted(alloc, words, files, out, err, &mut steps)
+}
+
+/// What [`run`] does, on a counter of steps that is lent: [`run`] makes one and is this call.
+///
+/// Nothing is counted before all files of the command are read. Then `solve` and `unit` take at most 1024 steps for
+/// each column, row and one of the derived matrices, and where a side has no order at most 8c(f + 1) more, c and f being
+/// the columns and ones of its matrix; so do `list` and `gen` of their matrix. `extend` takes such steps for the rows of
+/// both files, 512c for each row that is refused, and 16 searches. `check`, `check-core` and `check-unit` solve nothing,
+/// and take no step. Nothing is said of the steps of `core` and `meet`.
+pub fn run_counted<F: Shelf, O: Sink, E: Sink, L: Ledger>(
+    alloc: Global,
+    words: &[String],
+    files: &mut F,
+    out: &mut O,
+    err: &mut E,
+    steps: &mut Steps<L>,
+) -> u8
+    // What the steps come to.
+    ensures idle { IfNone (command_of (texts words.now)) (steps.new ≡ steps.old) }
+    ensures steps { IfSome (command_of (texts words.now)) (λ c.
+        CountsSteps c (taken_since (F.taken files.old) (F.taken files.new)) result steps.old steps.new) }
+
+    // Each clause of `run`, under its name.
+    ensures runs { RunsWords F.content F.taken F.faults O.written O.faults E.written E.faults
+        (command_of (texts words.now)) files.old files.new out.old out.new err.old err.new result }
+{
     promise_law();
     answer_law();
-    match decide(alloc, words, files, out) {
+    let ended = decide(alloc, words, files, out, steps);
+    tell(ended, err)
+}
+
+// The status of a run that ended so. Of a failure the line is offered.
+fn tell<E: Sink>(ended: Result<u8, Failure>, err: &mut E) -> u8
+    ensures status { result ≡ run_status ended }
+    ensures quiet { IfOk ended (λ _. err.new ≡ err.old) }
+    ensures line { IfErr ended (λ failure.
+        Offers (E.written err.old) (E.written err.new) (E.faults err.old) (E.faults err.new)
+        (failure_line failure)) }
+{
+    match ended {
         Ok(status) => status,
         Err(failure) => {
             report(&failure, err);
@@ -106,18 +167,24 @@ pub fn run<F: Shelf, O: Sink, E: Sink>(
     }
 }
 
-/// What [`run`] does before its line on the sink of errors, which this call isn't handed. It answers the status of a reply
-/// that was written whole.
+/// What [`run_counted`] does before its line on the sink of errors, which this call isn't handed. It answers the status
+/// of a reply that was written whole.
 ///
 /// # Errors
 ///
-/// Why there is no such reply. The body of [`run`] is this call; for a failure it offers the line, and answers the status.
-pub fn decide<F: Shelf, O: Sink>(
+/// Why there is no such reply. The body of [`run_counted`] is this call; for a failure it offers the line, and answers
+/// the status.
+pub fn decide<F: Shelf, O: Sink, L: Ledger>(
     alloc: Global,
     words: &[String],
     files: &mut F,
     out: &mut O,
+    steps: &mut Steps<L>,
 ) -> Result<u8, Failure>
+    ensures idle { IfNone (command_of (texts words.now)) (steps.new ≡ steps.old) }
+    ensures steps { IfSome (command_of (texts words.now)) (λ c.
+        CountsSteps c (taken_since (F.taken files.old) (F.taken files.new)) (run_status result)
+        steps.old steps.new) }
     ensures words { (run_status result ≡ 2) ↔ IsNone (command_of (texts words.now)) }
     ensures unread { IfNone (command_of (texts words.now)) (files.new ≡ files.old) }
     ensures files { IfSome (command_of (texts words.now)) (λ c.
@@ -136,7 +203,7 @@ pub fn decide<F: Shelf, O: Sink>(
     let Some(task) = task_of(words) else {
         return Err(Failure::Words);
     };
-    let reply = perform(alloc, &task, files)?;
+    let reply = perform(alloc, &task, files, steps)?;
     match write_all(out, &reply.text) {
         Ok(()) => Ok(reply.status),
         Err(_) => Err(Failure::WriteFault),

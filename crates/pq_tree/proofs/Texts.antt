@@ -3,11 +3,17 @@ use Rattle.std.proofs.Common.{◌≡◌, ◌∙◌, ◌+◌, ◌<◌, ◌≤◌,
 use Rattle.std.proofs.lemmas.List.{map_more, append_assoc, append-nil, length-map, length-take-le, take_all}
 use Rattle.std.specs.declared.vec.Vec.{Vec}
 use Rattle.std.specs.declared.alloc.Global.{Global}
+use Rattle.std.specs.Prelude.{Result, Ok, Err, OnErr}
+use Rattle.plain_text.specs.Pieces.{Extends}
 use Rattle.pq_tree.specs.Outline.{Outline}
 use Rattle.pq_tree.specs.Proper.{outline_of, forest}
 use Rattle.pq_tree.specs.Text.{tree_text, forest_text, spaced_text, gap}
 use Rattle.pq_tree.specs.declared.Tree.{Tree, P, Q}
 use Rattle.pq_tree.proofs.Shown.{outline_of-P, outline_of-Q}
+
+-- a text that did not grow
+pub unchanged : {old new : List ℕ} → new ≡ old → Extends old new
+unchanged {old} e = ([], e ∙ sym (append-nil old))
 
 spaced_push : (ts : List Outline) (t : Outline) → spaced_text (forest (ts ++ t ∷ [])) ≡ spaced_text (forest ts) ++ 32 ∷ tree_text t
 unfolding tree_text forest_text spaced_text
@@ -49,3 +55,11 @@ pub printed_Q : (old a b new : List ℕ) (ts : List Tree) (t : Tree) (v : Vec Tr
     → new ≡ b ++ 93 ∷ [] → new ≡ old ++ tree_text (outline_of t)
 unfolding tree_text forest_text spaced_text
 printed_Q old a b new ts t v is same e f g = rw (is, outline_of-Q, ← same) (wrap old a b new (forest_text (forest (map outline_of ts))) 91 93 e f g)
+
+-- a text that grew twice
+pub extends_after : (old now new front : List ℕ) → now ≡ old ++ front → Extends now new → Extends old new
+extends_after old now new front e x = (front ++ x.0, x.1 ∙ ap (λ y. y ++ x.0) e ∙ append_assoc old front x.0)
+
+pub on_err : {T E P : Type 0} (r : Result T E) → P → OnErr r P
+on_err (Ok x) h = tt
+on_err (Err e) h = h

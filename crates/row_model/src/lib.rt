@@ -7,6 +7,7 @@
 
 /// The codes of refusals.
 pub mod code;
+mod counted;
 mod graph;
 mod kind;
 mod laws;
@@ -18,6 +19,7 @@ mod refusal;
 mod rows;
 
 pub use column_order::COLUMN_BOUND;
+pub use counted::CountedRows;
 pub use graph::{Line, Pair, Why, is_pair, joined_by};
 pub use kind::Kind;
 pub use laws::{values_law, walk_laws};

@@ -100,6 +100,14 @@ impl Matrix {
         self.members.len() as u64
     }
 
+    // The number of ones of the rows 1 to `k`.
+    pub(crate) fn first_ones(&self, k: u32) -> u64
+        requires { k ≤ length self.now.rows }
+        ensures { result ≡ sum_by length (take k self.now.rows) }
+    {
+        self.bounds[k as usize] as u64
+    }
+
     /// Row `k`, from 1: its columns, strictly ascending.
     pub fn row(&self, k: u32) -> &[u32]
         requires { (1 ≤ k) × (k ≤ length self.now.rows) }

@@ -88,6 +88,8 @@ impl ArenaReducer {
     /// Reduces the tree by row `k` of `m`, after the rows before it. Row numbers begin at 1. This is
     /// [`reduce`](Reducer::reduce), which never fails here.
     ///
+    /// An empty row is taken at once: without a tick, and nothing changes.
+    ///
     /// It ticks at most 256 times for each node that the row meets, and 256 times more. Where the row is taken, it
     /// ticks at most 252 times for each of these nodes at or below the smallest that holds the row, 252 times more, and
     /// four times for each column of the row.
@@ -112,6 +114,7 @@ impl ArenaReducer {
         ensures below { result ≡ Step.Taken →
             steps.new ≤ steps.old + 4 * length (row_at m.now.rows k) + 252 * (nodes_met_below_root (row_at m.now.rows k) (outline_at self.old) + 1) }
         ensures amortised { IsFrugal (row_at m.now.rows k) (outline_at self.old) (outline_at self.new) steps.old steps.new result }
+        ensures empty { row_at m.now.rows k ≡ [] → (self.new ≡ self.old) × (steps.new ≡ steps.old) }
     {
         ticks_law();
         self.arena.layout_law();

@@ -40,6 +40,7 @@ pub fn reduce_arena<L: Ledger>(
     ensures ticks { steps.new ≤ steps.old + 256 * (nodes_met (row_at m.now.rows k) (outline_at arena.old) + 1) }
     ensures below { result ≡ Step.Taken →
         steps.new ≤ steps.old + 4 * length (row_at m.now.rows k) + 252 * (nodes_met_below_root (row_at m.now.rows k) (outline_at arena.old) + 1) }
+    ensures empty { row_at m.now.rows k ≡ [] → (arena.new ≡ arena.old) × (steps.new ≡ steps.old) }
 {
     arena.layout_law();
     arena.arities_law();

@@ -1,3 +1,5 @@
+mod Charges
+mod Within
 pub mod Units
 pub mod Sessions
 pub mod Lists

@@ -5,3 +5,5 @@ pub mod Lists
 pub mod Cores
 pub mod Generated
 pub mod Summaries
+pub mod Steps
+pub mod Charges

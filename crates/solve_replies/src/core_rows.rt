@@ -1,12 +1,11 @@
 // The reply with the rows of a matrix that are to blame.
-ghost use Rattle.std.specs.Prelude.{◌≡◌, ◌⊎◌, ◌<◌, IfOk};
+ghost use Rattle.std.specs.Prelude.{◌≡◌, ◌⊎◌, IfOk};
 ghost use Rattle.row_model.specs.Rows.{RowList};
 ghost use Rattle.instance_model.specs.Instance.{plain, instance_kind, IsInstance};
 ghost use Rattle.instance_model.specs.Value.{instance_value};
 ghost use Rattle.odd_cycle.specs.Short.{IsShort};
 ghost use Rattle.core_text.specs.Told.{TellsCore};
 ghost use Rattle.row_judge.specs.Judges.{IsTreeOfOrders};
-ghost use Rattle.row_core.specs.Cored.{IsCored};
 ghost use Rattle.command_input.specs.Words.{IsExtended};
 ghost use Rattle.verdict_replies.specs.Verdicts.{IsVerdictReply};
 ghost use Rattle.verdict_replies.specs.Cores.{IsCoreText};
@@ -22,7 +21,7 @@ use pq_tree::PqTree;
 use row_core::{Cored, find_core};
 use row_model::{Kind, Matrix};
 use std::alloc::Global;
-use step_count::{Blank, Brand, Ledger, Steps};
+use step_count::{Ledger, Steps};
 use tied_law::leaves_law;
 use verdict_replies::{Reply, core_grammar_law};
 
@@ -31,7 +30,12 @@ use verdict_replies::{Reply, core_grammar_law};
 /// # Errors
 ///
 /// `NoMemory`.
-pub fn blame_reply(alloc: Global, kind: Kind, instance: &Instance) -> Result<Reply, NoMemory>
+pub fn blame_reply<L: Ledger>(
+    alloc: Global,
+    kind: Kind,
+    instance: &Instance,
+    steps: &mut Steps<L>,
+) -> Result<Reply, NoMemory>
     requires within { IsInstance (instance_value instance.now) }
     requires of_kind { instance_kind (instance_value instance.now) ≡ kind }
     requires taken { IsExtended kind }
@@ -41,7 +45,7 @@ pub fn blame_reply(alloc: Global, kind: Kind, instance: &Instance) -> Result<Rep
     let Instance::Plain(_, m) = instance else {
         unreachable!()
     };
-    match cored::<Brand>(alloc, m, Blank::new(1))? {
+    match find_core(alloc, &mut Solver, m, steps)? {
         Cored::Core(core) => {
             let text = core_text(alloc, m, &CoreText::new(kind, m.columns(), core))?;
             Ok(Reply { status: 0, text })
@@ -51,17 +55,6 @@ pub fn blame_reply(alloc: Global, kind: Kind, instance: &Instance) -> Result<Rep
             Ok(Reply { status: 1, text })
         }
     }
-}
-
-// What is found of a matrix. The counter of steps begins at the blank.
-fn cored<L: Ledger>(alloc: Global, m: &Matrix, blank: Blank) -> Result<Cored, NoMemory>
-    requires name { blank.name ≡ L.name }
-    requires parts { blank.parts ≡ L.parts }
-    requires some { 0 < blank.parts }
-    ensures { IfOk result (IsCored m.now) }
-{
-    let mut steps = Steps::<L>::new(blank);
-    find_core(alloc, &mut Solver, m, &mut steps)
 }
 
 // The text of a core of a matrix.

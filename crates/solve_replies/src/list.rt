@@ -5,6 +5,7 @@ ghost use Rattle.instance_model.specs.Instance.{plain, IsInstance};
 ghost use Rattle.order_list.specs.declared.TheConstants.{MAX_ORDERS};
 ghost use Rattle.row_model.specs.Rows.{RowList};
 ghost use Rattle.solve_replies.specs.Lists.{IsListText, IsListReply};
+ghost use Rattle.solve_replies.specs.Steps.{made_status, SolvesMatrixWithin};
 
 use crate::list_text::printed_list;
 use crate::{NoMemory, solve_matrix};
@@ -13,7 +14,7 @@ use order_list::first;
 use pq_tree::PqTree;
 use row_model::{Kind, Matrix};
 use std::alloc::Global;
-use step_count::{Blank, Brand};
+use step_count::{Ledger, Steps};
 use verdict_replies::{Reply, no_reply};
 
 /// The reply on a matrix: its first valid orders. Where it has none, it is the reply of `solve`.
@@ -21,14 +22,22 @@ use verdict_replies::{Reply, no_reply};
 /// # Errors
 ///
 /// `NoMemory`.
-pub fn list_reply(alloc: Global, kind: Kind, matrix: &Matrix, count: u32) -> Result<Reply, NoMemory>
+pub fn list_reply<L: Ledger>(
+    alloc: Global,
+    kind: Kind,
+    matrix: &Matrix,
+    count: u32,
+    steps: &mut Steps<L>,
+) -> Result<Reply, NoMemory>
     requires instance { IsInstance (plain kind matrix.now) }
     requires count { (1 ≤ count) × (count ≤ MAX_ORDERS) }
     ensures reply { IfOk result (λ reply.
         IsListReply kind matrix.now count reply.status reply.text.items) }
     ensures status { IfOk result (λ reply. (reply.status ≡ 0) ⊎ (reply.status ≡ 1)) }
+    ensures steps { SolvesMatrixWithin matrix.now (made_status (λ reply. reply.status) result)
+        steps.old steps.new }
 {
-    match solve_matrix::<Brand>(alloc, matrix, Blank::new(1))? {
+    match solve_matrix(alloc, matrix, steps)? {
         Solved::Yes(tree) => orders_reply(alloc, kind, &tree, count),
         Solved::No(cycle) => no_reply(alloc, kind, matrix.columns(), cycle),
     }

@@ -1,9 +1,12 @@
 // A session: what becomes of further rows, told row by row.
-ghost use Rattle.std.specs.Prelude.{◌≡◌, ◌+◌, ◌*◌, ◌<◌, ◌≤◌, ℕ, [], ◌∷◌, ◌++◌, length, IfOk, OnOk, codes};
+ghost use Rattle.std.specs.Prelude.{◌≡◌, ◌+◌, ◌*◌, ◌<◌, ◌≤◌, ℕ, List, [], ◌∷◌, ◌++◌, length, IfOk, OnOk, codes};
 ghost use Rattle.row_model.specs.Rows.{IsRow};
 ghost use Rattle.verdict_text.specs.Text.{kind_line, columns_line};
-ghost use Rattle.solve_replies.specs.Sessions.{outcome_text, IsSessionText};
-ghost use Rattle.solve_replies.specs.Taking.{outcome_of, HasTakenOne, HasTaken, HasEnded};
+ghost use Rattle.pq_tree.specs.Amortised.{weight};
+ghost use Rattle.c1p_solve.specs.Sessions.{with_row};
+ghost use Rattle.solve_replies.specs.Sessions.{Outcome, AreOutcomes, outcome_text, IsSessionText};
+ghost use Rattle.solve_replies.specs.Taking.{outcome_of, refusals_at_end, HasTakenOne, HasTaken, HasEnded};
+ghost use Rattle.solve_replies.specs.Charges.{further_steps, IsOneCharged, one_steps};
 
 use crate::{MAX_EXPLAINED, NoMemory};
 use c1p_solve::{Session, Taken};
@@ -27,6 +30,12 @@ pub fn session_reply<L: Ledger>(
     ensures reply { IfOk result (λ reply.
         IsSessionText kind session.matrix further.now.rows reply.text.items) }
     ensures status { IfOk result (λ reply. reply.status ≡ 0) }
+    ensures steps { IfOk result (λ reply. (outcomes : List Outcome)
+        × AreOutcomes session.matrix 0 further.now.rows outcomes
+        × (steps.new ≤ steps.old + 256 * weight session.tree
+        + further_steps session.matrix further.now.rows (refusals_at_end 0 outcomes))) }
+    ensures most { steps.new ≤ steps.old + 256 * weight session.tree
+        + further_steps session.matrix further.now.rows (length further.now.rows) }
 {
     let mut text = Vec::with_capacity(alloc, room(further))?;
     print_start(kind, further.columns(), &mut text)?;
@@ -62,9 +71,13 @@ fn print_outcomes<L: Ledger>(
 ) -> Result<(), NoMemory>
     requires columns { further.now.columns ≡ session.old.matrix.columns }
     requires room { length session.old.matrix.rows + length further.now.rows ≤ ROW_BOUND }
-    ensures { OnOk result ((count : ℕ)
+    ensures taken { OnOk result ((count : ℕ)
         × HasTaken session.old.matrix further.now.rows session.new.matrix count text.old.items
-        text.new.items) }
+        text.new.items
+        × (steps.new ≤ steps.old + 256 * weight session.old.tree
+        + further_steps session.old.matrix further.now.rows count)) }
+    ensures most { steps.new ≤ steps.old + 256 * weight session.old.tree
+        + further_steps session.old.matrix further.now.rows (length further.now.rows) }
 {
     let mut refusals = 0;
     for taken in 0..further.rows() {
@@ -86,9 +99,15 @@ fn take_one<L: Ledger>(
     requires row { IsRow session.old.matrix.columns row.now }
     requires room { length session.old.matrix.rows < ROW_BOUND }
     requires few { refusals < i }
-    ensures { IfOk result (λ count.
+    ensures one { IfOk result (λ count.
         HasTakenOne session.old.matrix refusals i row.now session.new.matrix count text.old.items
         text.new.items) }
+    ensures charged { IfOk result (λ count.
+        IsOneCharged session.old.matrix.columns (with_row session.old.matrix row.now).rows row.now
+        refusals count (weight session.old.tree) (weight session.new.tree) steps.old steps.new) }
+    ensures most { steps.new ≤ steps.old
+        + one_steps session.old.matrix.columns (with_row session.old.matrix row.now).rows row.now
+        refusals (weight session.old.tree) }
 {
     let taken = session.take_row(row, refusals < MAX_EXPLAINED, steps)?;
     print_outcome(i, &taken, text)?;

@@ -1,14 +1,16 @@
 // A drawn matrix, summed up.
 ghost use Rattle.std.specs.Prelude.{◌≡◌, ◌≤◌, IfOk};
 ghost use Rattle.row_model.specs.declared.TheConstants.{MAX_COLUMNS, MAX_ROWS};
+ghost use Rattle.solve_replies.specs.Generated.{generated};
 ghost use Rattle.solve_replies.specs.Summaries.{IsSummary};
+ghost use Rattle.solve_replies.specs.Steps.{made_status, SolvesMatrixWithin};
 
 use crate::draws::generate;
 use crate::nodes::{Nodes, count_nodes};
 use crate::{NoMemory, solve_matrix};
 use c1p_solve::Solved;
 use std::alloc::Global;
-use step_count::{Blank, Brand};
+use step_count::{Ledger, Steps};
 use verdict_replies::Reply;
 
 /// The reply with the summary of the matrix that a number draws.
@@ -16,24 +18,40 @@ use verdict_replies::Reply;
 /// # Errors
 ///
 /// Memory is refused.
-pub fn summary_reply(alloc: Global, seed: u64, columns: u32, rows: u32) -> Result<Reply, NoMemory>
+pub fn summary_reply<L: Ledger>(
+    alloc: Global,
+    seed: u64,
+    columns: u32,
+    rows: u32,
+    steps: &mut Steps<L>,
+) -> Result<Reply, NoMemory>
     requires columns { (1 ≤ columns) × (columns ≤ MAX_COLUMNS) }
     requires rows { rows ≤ MAX_ROWS }
     ensures status { IfOk result (λ reply. reply.status ≡ 0) }
     ensures summary { IfOk result (λ reply. IsSummary seed columns rows reply.text.items) }
+    ensures steps { SolvesMatrixWithin (generated seed columns rows)
+        (made_status (λ reply. reply.status) result) steps.old steps.new }
 {
-    let text = summary(alloc, seed, columns, rows)?;
+    let text = summary(alloc, seed, columns, rows, steps)?;
     Ok(Reply { status: 0, text })
 }
 
 // The summary of the matrix that a number draws: its ones, and the nodes of the canonical tree of all its valid orders.
-fn summary(alloc: Global, seed: u64, columns: u32, rows: u32) -> Result<Vec<u8>, NoMemory>
+fn summary<L: Ledger>(
+    alloc: Global,
+    seed: u64,
+    columns: u32,
+    rows: u32,
+    steps: &mut Steps<L>,
+) -> Result<Vec<u8>, NoMemory>
     requires columns { (1 ≤ columns) × (columns ≤ MAX_COLUMNS) }
     requires rows { rows ≤ MAX_ROWS }
-    ensures { IfOk result (λ text. IsSummary seed columns rows text.items) }
+    ensures text { IfOk result (λ text. IsSummary seed columns rows text.items) }
+    ensures steps { SolvesMatrixWithin (generated seed columns rows) (made_status (λ text. 0) result)
+        steps.old steps.new }
 {
     let matrix = generate(alloc, seed, columns, rows)?;
-    let Solved::Yes(tree) = solve_matrix::<Brand>(alloc, &matrix, Blank::new(1))? else {
+    let Solved::Yes(tree) = solve_matrix(alloc, &matrix, steps)? else {
         unreachable!()
     };
     let mut nodes = Nodes { p: 0, q: 0 };

@@ -10,6 +10,7 @@ ghost use Rattle.verdict_text.specs.Value.{verdict_value};
 ghost use Rattle.unit_model.specs.Models.{lefts_of};
 ghost use Rattle.verdict_replies.specs.Verdicts.{IsVerdictOf};
 ghost use Rattle.solve_replies.specs.Models.{IsModelOf, TellsModel, TellsByClaim, IsModelReply};
+ghost use Rattle.solve_replies.specs.Steps.{made_status, verdict_status, SolvesWithin};
 
 use crate::NoMemory;
 use crate::verdicts::verdict_on;
@@ -19,6 +20,7 @@ use instance_model::Instance;
 use proper_interval::umbrella_law;
 use row_model::{Interval, Kind};
 use std::alloc::Global;
+use step_count::{Ledger, Steps};
 use unit_model::{UnitText, model, print_unit};
 use verdict_replies::{Reply, printed};
 use verdict_text::{Part, Verdict};
@@ -28,19 +30,25 @@ use verdict_text::{Part, Verdict};
 /// # Errors
 ///
 /// `NoMemory`.
-pub fn unit_reply(alloc: Global, instance: &Instance) -> Result<Reply, NoMemory>
+pub fn unit_reply<L: Ledger>(
+    alloc: Global,
+    instance: &Instance,
+    steps: &mut Steps<L>,
+) -> Result<Reply, NoMemory>
     requires within { IsInstance (instance_value instance.now) }
     requires kind { instance_kind (instance_value instance.now) ≡ Kind.Proper }
     ensures reply { IfOk result (λ reply.
         (g : GraphValue) × (instance_value instance.now ≡ proper g)
         × IsModelReply g reply.status reply.text.items) }
     ensures status { IfOk result (λ reply. (reply.status ≡ 0) ⊎ (reply.status ≡ 1)) }
+    ensures steps { SolvesWithin (instance_value instance.now) (made_status (λ reply. reply.status) result)
+        steps.old steps.new }
 {
     graph_law();
     let Instance::Proper(graph) = instance else {
         unreachable!()
     };
-    let verdict = verdict_on(alloc, instance)?;
+    let verdict = verdict_on(alloc, instance, steps)?;
     reply_by(alloc, graph, &verdict)
 }
 
@@ -52,6 +60,7 @@ fn reply_by(alloc: Global, graph: &Graph, verdict: &Verdict) -> Result<Reply, No
         TellsByClaim graph.now (verdict_value verdict.now) (verdict_value verdict.now).claim
         reply.status reply.text.items) }
     ensures status { IfOk result (λ reply. (reply.status ≡ 0) ⊎ (reply.status ≡ 1)) }
+    ensures claim { IfOk result (λ reply. reply.status ≡ verdict_status verdict.now) }
 {
     match &verdict.part {
         Part::Yes(yes) => {

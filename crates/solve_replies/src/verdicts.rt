@@ -7,6 +7,7 @@ ghost use Rattle.verdict_text.specs.Value.{column_counts, yes_value, claim_of, v
 ghost use Rattle.instance_model.specs.Instance.{instance_columns, instance_kind, derived_matrix, IsInstance, IsWellFormed};
 ghost use Rattle.instance_model.specs.Value.{instance_value};
 ghost use Rattle.verdict_replies.specs.Verdicts.{IsClaimOf, IsVerdictOf};
+ghost use Rattle.solve_replies.specs.Steps.{made_status, part_status, verdict_status, SolvesMatrixWithin, SolvesWithin};
 
 use crate::NoMemory;
 use crate::sides::solve_side;
@@ -15,6 +16,7 @@ use instance_model::Instance;
 use pq_tree::PqTree;
 use row_model::Kind;
 use std::alloc::Global;
+use step_count::{Ledger, Steps};
 use verdict_replies::{added, grammar_law, no};
 use verdict_text::{Columns, Part, Verdict, Version, YesPart};
 
@@ -23,14 +25,20 @@ use verdict_text::{Columns, Part, Verdict, Version, YesPart};
 /// # Errors
 ///
 /// `NoMemory`.
-pub fn verdict_on(alloc: Global, instance: &Instance) -> Result<Verdict, NoMemory>
+pub fn verdict_on<L: Ledger>(
+    alloc: Global,
+    instance: &Instance,
+    steps: &mut Steps<L>,
+) -> Result<Verdict, NoMemory>
     requires { IsInstance (instance_value instance.now) }
     ensures grammar { IfOk result (λ verdict. IsVerdict (verdict_value verdict)) }
     ensures holds { IfOk result (λ verdict.
         IsVerdictOf (instance_value instance.now) (verdict_value verdict)) }
+    ensures steps { SolvesWithin (instance_value instance.now) (made_status verdict_status result)
+        steps.old steps.new }
 {
     let kind = instance.kind();
-    let part = part_on(alloc, instance)?;
+    let part = part_on(alloc, instance, steps)?;
     Ok(verdict_with(instance, kind, part))
 }
 
@@ -60,6 +68,7 @@ fn verdict_with(instance: &Instance, kind: Kind, part: Part) -> Verdict
     requires claim { IsClaimOf (instance_value instance.now) (claim_of part) }
     ensures grammar { IsVerdict (verdict_value result) }
     ensures holds { IsVerdictOf (instance_value instance.now) (verdict_value result) }
+    ensures status { verdict_status result ≡ part_status part }
 {
     grammar_law();
     Verdict {
@@ -87,17 +96,23 @@ fn columns_of(instance: &Instance) -> Columns
 }
 
 // What is found of an instance. A second side is solved only where the first has an order.
-fn part_on(alloc: Global, instance: &Instance) -> Result<Part, NoMemory>
+fn part_on<L: Ledger>(
+    alloc: Global,
+    instance: &Instance,
+    steps: &mut Steps<L>,
+) -> Result<Part, NoMemory>
     requires judged { IsInstance (instance_value instance.now) }
     requires formed { IsWellFormed (instance_value instance.now) }
-    ensures { IfOk result (λ part. IsClaimOf (instance_value instance.now) (claim_of part)) }
+    ensures claim { IfOk result (λ part. IsClaimOf (instance_value instance.now) (claim_of part)) }
+    ensures steps { SolvesWithin (instance_value instance.now) (made_status part_status result)
+        steps.old steps.new }
 {
-    match solve_side(alloc, instance, 1)? {
+    match solve_side(alloc, instance, 1, steps)? {
         Solved::No(cycle) => Ok(Part::No(no(1, cycle))),
         Solved::Yes(tree) if instance.sides() == 1 => {
             Ok(Part::Yes(one_sided(alloc, instance, tree)?))
         }
-        Solved::Yes(tree) => two_sided(alloc, instance, tree),
+        Solved::Yes(tree) => two_sided(alloc, instance, tree, steps),
     }
 }
 
@@ -121,13 +136,20 @@ fn one_sided(alloc: Global, instance: &Instance, tree: PqTree) -> Result<YesPart
 }
 
 // What is found of an instance of two sides, of which the first has the orders of a tree.
-fn two_sided(alloc: Global, instance: &Instance, first: PqTree) -> Result<Part, NoMemory>
+fn two_sided<L: Ledger>(
+    alloc: Global,
+    instance: &Instance,
+    first: PqTree,
+    steps: &mut Steps<L>,
+) -> Result<Part, NoMemory>
     requires judged { IsInstance (instance_value instance.now) }
     requires sides { length (instance_columns (instance_value instance.now)) ≡ 2 }
     requires orders { IsAnswer (derived_matrix (instance_value instance.now) 1) (Solved.Yes first) }
-    ensures { IfOk result (λ part. IsClaimOf (instance_value instance.now) (claim_of part)) }
+    ensures claim { IfOk result (λ part. IsClaimOf (instance_value instance.now) (claim_of part)) }
+    ensures steps { SolvesMatrixWithin (derived_matrix (instance_value instance.now) 2)
+        (made_status part_status result) steps.old steps.new }
 {
-    match solve_side(alloc, instance, 2)? {
+    match solve_side(alloc, instance, 2, steps)? {
         Solved::No(cycle) => Ok(Part::No(no(2, cycle))),
         Solved::Yes(second) => {
             let first_order = first.frontier(alloc)?;

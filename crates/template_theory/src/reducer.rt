@@ -47,7 +47,8 @@ pub trait Reducer {
     ///
     /// # Errors
     ///
-    /// `NoMemory`. The tree is then unchanged, as it is after `Refused`.
+    /// `NoMemory`. The tree is then unchanged, as it is after `Refused`, and a frugal reducer has taken no more steps
+    /// than for a refusal.
     fn reduce<L: Ledger>(
         &mut self,
         m: &Matrix,
@@ -66,7 +67,8 @@ pub trait Reducer {
         ensures err { OnErr result (outline self.new ≡ outline self.old) }
         ensures proper { IsProper (columns self.new) (outline self.new) }
         ensures columns { columns self.new ≡ columns self.old }
-        ensures frugal { IsTrue frugal → IfOk result (IsFrugal (row_at m.now.rows k) (outline self.old) (outline self.new) steps.old steps.new) };
+        ensures frugal { IsTrue frugal → IfOk result (IsFrugal (row_at m.now.rows k) (outline self.old) (outline self.new) steps.old steps.new) }
+        ensures frugal_err { IsTrue frugal → OnErr result (IsFrugal (row_at m.now.rows k) (outline self.old) (outline self.new) steps.old steps.new Step.Refused) };
 
     /// The canonical tree with the same frontiers. It is tied to the rows to which the reducer's tree is tied.
     ///

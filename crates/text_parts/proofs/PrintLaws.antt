@@ -19,6 +19,10 @@ numbered-append text i (y ∷ xs) x =
     ap (λ z. text i y ++ z) (numbered-append text (i + 1) xs x) ∙ sym (append_assoc (text i y) (numbered text (i + 1) xs) (text (i + 1 + length xs) x))
     ∙ ap (λ k. (text i y ++ numbered text (i + 1) xs) ++ text k x) (omega arith)
 
+-- a text that did not grow
+pub unchanged : {old new : List ℕ} → new ≡ old → Extends old new
+unchanged {old} e = ([], e ∙ sym (append-nil old))
+
 -- one item more
 pub numbered_more : {A : Type 0} (text : ℕ → A → List ℕ) (old now new : List ℕ) (xs : List A) (i : ℕ) (x d : A) → i < length xs → x ≡ get_or xs i d → now ≡ old ++ numbered text 1 (take i xs)
     → new ≡ now ++ text (i + 1) x → new ≡ old ++ numbered text 1 (take (i + 1) xs)

@@ -20,6 +20,10 @@ left_lines-append i (y ∷ lefts) x =
     ap (λ z. left_line i y ++ z) (left_lines-append (i + 1) lefts x) ∙ sym (append_assoc (left_line i y) (left_lines (i + 1) lefts) (left_line (i + 1 + length lefts) x))
     ∙ ap (λ k. (left_line i y ++ left_lines (i + 1) lefts) ++ left_line k x) (omega arith)
 
+-- a text that did not grow
+pub unchanged : {old new : List ℕ} → new ≡ old → Extends old new
+unchanged {old} e = ([], e ∙ sym (append-nil old))
+
 -- one line more
 pub lines_more : (old now new lefts : List ℕ) (i : ℕ) → i < length lefts → now ≡ old ++ left_lines 1 (take i lefts) → new ≡ now ++ left_line (i + 1) (get_or lefts i 0) →
     new ≡ old ++ left_lines 1 (take (i + 1) lefts)

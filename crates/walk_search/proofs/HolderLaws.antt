@@ -125,10 +125,9 @@ further_same rows first k n a e =
     get_or-drop first rows (k - 1) [] ∙ ap (λ i. get_or rows i []) i
 
 -- a column of it
-pub further_member : (rows : List (List ℕ)) (first k n i column : ℕ) → 1 ≤ k → n ≡ first + k → slice_get (row_at rows n) (i + 1 - 1) ≡ Some column → slice_get (row_at (drop first rows) k) i ≡ Some column
+pub further_member : (rows : List (List ℕ)) (first k n i column : ℕ) → 1 ≤ k → n ≡ first + k → slice_get (row_at rows n) i ≡ Some column → slice_get (row_at (drop first rows) k) i ≡ Some column
 further_member rows first k n i column a e at =
-    let j : i ≡ i + 1 - 1 = omega arith in
-    ap (λ (row : List ℕ). slice_get row i) (further_same rows first k n a e) ∙ ap (slice_get (row_at rows n)) j ∙ at
+    ap (λ (row : List ℕ). slice_get row i) (further_same rows first k n a e) ∙ at
 
 -- it is there
 pub further_there : (rows : List (List ℕ)) (first k : ℕ) → first + k < length rows → slice_get (drop first rows) (k + 1 - 1) ≡ Some (row_at (drop first rows) (k + 1))

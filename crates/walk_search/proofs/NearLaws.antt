@@ -38,8 +38,8 @@ once_more c ones some =
     let bound : c * (ones + 1) ≡ c * ones + c = grind arith in
     omega (arith, once, bound)
 
--- a step for each one, one more, and two for each one of each row at each column
-pub three_bound : (c ones marked before after : ℕ) → 1 ≤ c → marked ≤ c * ones → after ≤ before + ones + 1 + 2 * marked → after ≤ before + 3 * c * (ones + 1)
+-- a step for each one, two more, and two for each one of each row at each column
+pub three_bound : (c ones marked before after : ℕ) → 1 ≤ c → marked ≤ c * ones → after ≤ before + ones + 2 + 2 * marked → after ≤ before + 3 * c * (ones + 1)
 three_bound c ones marked before after some few h =
     let once = once_more c ones some in
     let bound : 3 * c * (ones + 1) ≡ 3 * (c * ones) + 3 * c = grind arith in
@@ -53,11 +53,11 @@ price_bound c ones marked before after few h =
 
 -- the same along an order, where each one of the first rows was counted before
 pub across_bound : (rows : List (List ℕ)) (c k before held after : ℕ) → 1 ≤ c → 1 ≤ k → held ≤ before + sum_by length (take 1 (drop (k - 1) rows)) →
-    after ≤ held + 1 + 2 * (c * sum_by length (take 1 (drop (k - 1) rows))) → after + sum_by length (take (k - 1) rows) ≤ before + 3 * c * (sum_by length (take k rows) + 1)
+    after ≤ held + 1 + 2 * (c * sum_by length (take 1 (drop (k - 1) rows))) → after + sum_by length (take (k - 1) rows) + 1 ≤ before + 3 * c * (sum_by length (take k rows) + 1)
 across_bound rows c k before held after some from h a =
     let first = sum_by length (take (k - 1) rows) in
     let last = sum_by length (take 1 (drop (k - 1) rows)) in
     let ones = sum_by length (take k rows) in
     let all : first + last ≡ ones = first_ones rows k from in
     let few : c * last ≤ c * ones = mul-le c last c ones (omega arith) (omega (arith, all)) in
-    three_bound c ones (c * last) before (after + first) some few (omega (arith, h, a, all))
+    three_bound c ones (c * last) before (after + first + 1) some few (omega (arith, h, a, all))

@@ -2,7 +2,7 @@
 ghost use Rattle.std.specs.Prelude.{◌≡◌, ◌+◌, ◌-◌, ◌<◌, ◌≤◌, [], ◌∷◌, ◌++◌, drop, length, map, set, slice_index_or, sum_by, take, IfOk, OnOk};
 ghost use Rattle.walk_search.specs.Holders.{AreHolders, without};
 
-use row_model::{Matrix, NoMemory};
+use row_model::{CountedRows, NoMemory};
 use std::alloc::Global;
 use step_count::{Ledger, Steps};
 
@@ -10,7 +10,7 @@ use step_count::{Ledger, Steps};
 /// Each one in these rows is read once, and counted.
 pub fn rows_by_column<L: Ledger>(
     alloc: Global,
-    m: &Matrix,
+    m: &CountedRows,
     first: u32,
     rows: u32,
     steps: &mut Steps<L>,
@@ -25,9 +25,10 @@ pub fn rows_by_column<L: Ledger>(
     }
     for k in 0..rows {
         let row = first + k + 1;
-        for i in 0..m.row_len(row) {
-            let column = m.member_counted(row, i + 1, steps);
+        let mut i = 0;
+        while let Some(column) = m.next_counted(row, i, steps) {
             add_holder(&mut holders, column, k + 1)?;
+            i += 1;
         }
     }
     Ok(holders)

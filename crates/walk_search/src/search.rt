@@ -17,7 +17,7 @@ use crate::neighbours::{Neighbours, leave};
 use odd_cycle::Walk;
 use open_gaps::{OpenGaps, gap_law};
 use pair_classes::Marks;
-use row_model::{Line, Matrix, NoMemory, Pair, Why};
+use row_model::{CountedRows, Line, Matrix, NoMemory, Pair, Why};
 use std::alloc::Global;
 use step_count::{Ledger, Steps};
 
@@ -52,6 +52,23 @@ pub fn odd_walk<L: Ledger>(
     ensures ticks { steps.new ≤ steps.old + 8 * m.now.columns * (sum_by length (take rows m.now.rows) + 1) }
     ensures few { steps.new ≤ steps.old + sum_by length (take rows m.now.rows) * (2 * m.now.columns + 1) }
 {
+    walk_among(alloc, &CountedRows::new(m), rows, steps)
+}
+
+// A closed walk of odd length in the graph of the first rows, if there is one.
+fn walk_among<L: Ledger>(
+    alloc: Global,
+    m: &CountedRows,
+    rows: u32,
+    steps: &mut Steps<L>,
+) -> Result<Option<Walk>, NoMemory>
+    requires { rows ≤ length m.now.rows }
+    ensures found { IfOk result (λ found. MatchOption found
+        (¬ HasOddWalk m.now.columns (take rows m.now.rows))
+        (IsOddWalk m.now.columns (take rows m.now.rows))) }
+    ensures ticks { steps.new ≤ steps.old + 8 * m.now.columns * (sum_by length (take rows m.now.rows) + 1) }
+    ensures few { steps.new ≤ steps.old + sum_by length (take rows m.now.rows) * (2 * m.now.columns + 1) }
+{
     let begin = m.columns();
     let holders = rows_by_column(alloc, m, 0, rows, steps)?;
     let near = Neighbours {
@@ -65,10 +82,10 @@ pub fn odd_walk<L: Ledger>(
 
 // A closed walk of odd length in the graph of the rows 1 to `k`, which have one, across the gaps that the rows before
 // row `k` leave open: only row `k` is looked at for each column that it lacks, so the time does not grow with the
-// number of rows once their gaps are known. It leaves room in its bound for a step for each one of these.
+// number of rows once their gaps are known. It leaves room in its bound for a step for each one of these, and one more.
 pub fn walk_across<L: Ledger>(
     alloc: Global,
-    m: &Matrix,
+    m: &CountedRows,
     k: u32,
     gaps: OpenGaps,
     steps: &mut Steps<L>,
@@ -78,7 +95,7 @@ pub fn walk_across<L: Ledger>(
     requires gaps { AreGaps (take (k - 1) m.now.rows) gaps.order gaps.gaps }
     requires refused { HasConflict m.now.columns (take k m.now.rows) }
     ensures walk { IfOk result (IsOddWalk m.now.columns (take k m.now.rows)) }
-    ensures ticks { steps.new + sum_by length (take (k - 1) m.now.rows)
+    ensures ticks { steps.new + sum_by length (take (k - 1) m.now.rows) + 1
         ≤ steps.old + 3 * m.now.columns * (sum_by length (take k m.now.rows) + 1) }
 {
     let holders = rows_by_column(alloc, m, k - 1, 1, steps)?;
@@ -95,23 +112,19 @@ pub fn walk_across<L: Ledger>(
 }
 
 // The first column of a row, and the last of all columns where the row is empty.
-fn first_column<L: Ledger>(m: &Matrix, k: u32, steps: &mut Steps<L>) -> u32
+fn first_column<L: Ledger>(m: &CountedRows, k: u32, steps: &mut Steps<L>) -> u32
     requires { (1 ≤ k) × (k ≤ length m.now.rows) }
     ensures column { (1 ≤ result) × (result ≤ m.now.columns) }
     ensures ticks { steps.new ≤ steps.old + 1 }
 {
-    if m.row_len(k) == 0 {
-        m.columns()
-    } else {
-        m.member_counted(k, 1, steps)
-    }
+    m.next_counted(k, 0, steps).unwrap_or(m.columns())
 }
 
 // Searches the graph of the first rows and the further ones. The first trees begin at pairs
 // with the given first column.
 fn search<L: Ledger>(
     alloc: Global,
-    m: &Matrix,
+    m: &CountedRows,
     near: &Neighbours,
     further: u32,
     begin: u32,
@@ -149,7 +162,7 @@ fn column_in_turn(begin: u32, turn: u32) -> u32
 // Looks from a pair (a,b) at a further row that has a. If the row lacks b, each pair (b,d) of b with a column d of the
 // row is joined to (a,b). The pairs (b,d) are the same for every a, so each row is looked at once for each b.
 fn look<L: Ledger>(
-    m: &Matrix,
+    m: &CountedRows,
     near: &Neighbours,
     further: u32,
     marks: &mut Marks,
@@ -177,8 +190,9 @@ fn look<L: Ledger>(
     if m.has_counted(row, node.pair.b, steps) {
         return Ok(None);
     }
-    for i in 0..m.row_len(row) {
-        let column = m.member_counted(row, i + 1, steps);
+    let mut i = 0;
+    while let Some(column) = m.next_counted(row, i, steps) {
+        i += 1;
         if column == node.pair.a {
             continue;
         }
@@ -199,7 +213,7 @@ fn look<L: Ledger>(
 // Takes a node: reaches its pair with the columns exchanged and the pairs across the open gaps, and looks at each
 // further row with its first column.
 fn expand<L: Ledger>(
-    m: &Matrix,
+    m: &CountedRows,
     near: &Neighbours,
     marks: &mut Marks,
     forest: &mut Forest,
@@ -230,7 +244,7 @@ fn expand<L: Ledger>(
 
 // Takes each node of the last tree in turn, those that are reached meanwhile too.
 fn grow<L: Ledger>(
-    m: &Matrix,
+    m: &CountedRows,
     near: &Neighbours,
     marks: &mut Marks,
     forest: &mut Forest,
@@ -258,7 +272,7 @@ fn grow<L: Ledger>(
 
 // Grows trees until each pair with this first column is reached.
 fn grow_from_column<L: Ledger>(
-    m: &Matrix,
+    m: &CountedRows,
     near: &Neighbours,
     marks: &mut Marks,
     forest: &mut Forest,

@@ -1,7 +1,44 @@
+use Rattle.std.proofs.Common.{◌≡◌, ◌↔◌, ◌∙◌, ℕ, List, length, IsTrue, ap, sym, subst, arith}
+use Rattle.std.specs.Prelude.{All}
+use Rattle.std.proofs.lemmas.Result.{IfOk-weaker}
+use Rattle.column_order.specs.Orders.{IsOrder, IsValidOrder, Keeps}
 use Rattle.pq_tree.specs.Outline.{leaves}
-use Rattle.pq_tree.specs.PqTree.{outline}
-use Rattle.pq_tree.proofs.Frontiers.{leaves_are_frontier}
+use Rattle.pq_tree.specs.Proper.{IsProper}
+use Rattle.pq_tree.specs.PqTree.{column_count, outline}
+use Rattle.open_gaps.specs.Gaps.{AreGaps}
+use Rattle.bound_tree.specs.declared.stretch.Stretch.{Stretch}
+use Rattle.bound_tree.specs.Free.{IsRoundGap, IsFree}
+use Rattle.bound_tree.specs.Stretches.{stretches}
+use Rattle.bound_tree.proofs.Exact.{exact}
+use Rattle.bound_tree.proofs.Within.{tree_within}
 use Rattle.bound_tree.proofs.is_complete.Goals as goal
 
-pub is_bound-requires-clause-kept : goal.is_bound-requires-clause-kept
-is_bound-requires-clause-kept c = c.requires.kept (leaves (outline c.args.tree.now)) (leaves_are_frontier (outline c.args.tree.now))
+pub of_rows-requires : goal.of_rows-requires
+of_rows-requires c =
+    subst (IsValidOrder c.args.m.now.columns c.args.m.now.rows) (sym c.deref.ensures.value)
+    (record { order = subst (λ n. IsOrder n c.in_ok-order.order.items) c.requires.columns c.in_ok-order.ensures.order; kept = subst (λ (l : List ℕ). All (Keeps l) c.args.m.now.rows) (sym c.in_ok-order.ensures.leaves) c.requires.kept })
+
+pub are_free-requires : goal.are_free-requires
+are_free-requires c =
+    let proper : IsProper (column_count c.args.tree.now) (outline c.args.tree.now) = c.args.tree.now.proper in
+    let o : c.in_ok-gaps.gaps.order ≡ leaves (outline c.args.tree.now) = c.in_ok-gaps.ensures.order ∙ c.deref.ensures.value ∙ c.in_ok-order.ensures.leaves in
+    subst (All (IsRoundGap (length c.in_ok-gaps.gaps.order))) (sym (c.deref_mut.ensures.value ∙ c.in_ok-stretches.ensures))
+    (tree_within (length c.in_ok-gaps.gaps.order) (outline c.args.tree.now) 0 proper.0 (omega (arith, ap (λ (l : List ℕ). length l) o)))
+
+pub returns : goal.returns
+returns c =
+    let rows = c.args.m.now.rows in
+    let t = outline c.args.tree.now in
+    let proper : IsProper (column_count c.args.tree.now) t = c.args.tree.now.proper in
+    let o : c.in_ok-gaps.gaps.order ≡ leaves t = c.in_ok-gaps.ensures.order ∙ c.deref.ensures.value ∙ c.in_ok-order.ensures.leaves in
+    let ss : c.deref_mut.result.now ≡ stretches 0 t = c.deref_mut.ensures.value ∙ c.in_ok-stretches.ensures in
+    let valid : IsValidOrder c.args.m.now.columns rows (leaves t) = record { order = subst (λ n. IsOrder n (leaves t)) c.requires.columns proper.1; kept = c.requires.kept } in
+    let are : AreGaps rows c.in_ok-gaps.gaps.order c.in_ok-gaps.gaps.gaps = subst (λ l. AreGaps rows l c.in_ok-gaps.gaps.gaps) (sym c.in_ok-gaps.ensures.order) c.in_ok-gaps.ensures.gaps in
+    let tied = exact c.args.m.now.columns rows t c.in_ok-gaps.gaps.gaps proper.0 valid (subst (λ l. AreGaps rows l c.in_ok-gaps.gaps.gaps) o are) in
+    IfOk-weaker c.are_free.result _ _
+    (λ yes free.
+    let all : IsTrue yes ↔ All (IsFree rows (leaves t)) (stretches 0 t) =
+    subst (λ (l : List ℕ). IsTrue yes ↔ All (IsFree rows l) (stretches 0 t)) o
+    (subst (λ (l : List Stretch). IsTrue yes ↔ All (IsFree rows c.in_ok-gaps.gaps.order) l) ss (free rows are)) in
+    (λ h. tied.0 (all.0 h), λ h. all.1 (tied.1 h)))
+    c.are_free.ensures

@@ -1,7 +1,7 @@
 // Every matrix of at most four columns and at most four rows.
 ghost use Rattle.std.specs.Prelude.{◌≡◌, ◌<◌, ◌≤◌, ℕ, List, All, length, IfOk, IsTrue};
 ghost use Rattle.column_order.specs.Orders.{Keeps};
-ghost use Rattle.pq_tree.specs.Outline.{IsFrontier};
+ghost use Rattle.pq_tree.specs.Outline.{leaves};
 ghost use Rattle.pq_tree.specs.PqTree.{column_count, outline};
 ghost use Rattle.row_model.specs.Rows.{IsRow};
 
@@ -72,7 +72,7 @@ fn classes_of<L: Ledger>(
 // Whether each frontier of the tree keeps each row.
 fn holds_rows(tree: &PqTree, m: &Matrix) -> bool
     requires { column_count tree.now ≡ m.now.columns }
-    ensures { IsTrue result → (f : List ℕ) → IsFrontier (outline tree.now) f → All (Keeps f) m.now.rows }
+    ensures { IsTrue result → All (Keeps (leaves (outline tree.now))) m.now.rows }
 {
     for before in 0..m.rows() {
         if !tree_holds(tree, m.row(before + 1)) {

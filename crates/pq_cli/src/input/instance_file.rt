@@ -1,4 +1,6 @@
 // The file of an instance.
+ghost use Rattle.command_input.specs.Instances.{ReadsInstance, HoldsInstance};
+
 use crate::NoMemory;
 use crate::input::FileForm;
 use commands::{instance_in, long_law};
@@ -14,8 +16,6 @@ pub struct InstanceFile {
 }
 
 impl FileForm for InstanceFile {
-    ghost use Rattle.command_input.specs.Instances.{ReadsInstance, HoldsInstance};
-
     type Value = Instance;
 
     ghost reads = { λ file. ReadsInstance file.kind };

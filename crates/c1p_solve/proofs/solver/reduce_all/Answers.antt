@@ -1,9 +1,10 @@
-use Rattle.std.proofs.Common.{◌≡◌, ◌+◌, ◌-◌, ◌≤◌, length, take, arith}
+use Rattle.std.proofs.Common.{◌≡◌, ℕ, ◌+◌, ◌-◌, ◌*◌, ◌<◌, ◌≤◌, List, length, take, arith}
 use Rattle.std.proofs.lemmas.List.{take_all}
 use Rattle.pq_tree.specs.Amortised.{weight}
 use Rattle.c1p_solve.proofs.Orders.{some_order, valid_front}
 use Rattle.row_model.specs.Graph.{row_at}
-use Rattle.c1p_solve.proofs.Sums.{all_taken, one_refused, refused_cost}
+use Rattle.c1p_solve.specs.Totals.{reduction_steps, search_steps}
+use Rattle.c1p_solve.proofs.Sums.{IsPaidSoFar, all_taken, one_refused, one_failed, first_steps, refused_cost}
 use Rattle.c1p_solve.proofs.solver.reduce_all.Goals as goal
 
 pub loop-taken-init : goal.loop-taken-init
@@ -55,3 +56,36 @@ returns-in-Refused-clause-total g c =
           c.in_ok-reduce.field-0 c.in-Refused.is (c.in_ok-reduce.ensures.frugal f))
           c.conflict.ensures.ticks;
     }
+
+-- what the refusal of a row and the search after it come to, of all rows
+refused_most : (c k : ℕ) (rows : List (List ℕ)) (w s n p q : ℕ) → k < length rows → IsPaidSoFar c rows k w s n → p ≤ n + 1024 * (1 + length (row_at rows (k + 1))) + 256 * w
+    → q ≤ p + search_steps c (take (k + 1) rows) → q ≤ s + (reduction_steps c rows + search_steps c rows)
+refused_most c k rows w s n p q h a b d = omega (arith, first_steps c (k + 1) rows (omega (arith, h)), one_refused c rows k w s n p q h a b d)
+
+pub returns-clause-most : goal.returns-clause-most
+returns-clause-most g c = λ f h. omega (arith, returns-clause-total g c f h)
+
+pub returns-in_err-reduce-clause-most : goal.returns-in_err-reduce-clause-most
+returns-in_err-reduce-clause-most g c =
+    let inside : c.loop-taken.taken + 1 ≤ length c.args.m.now.rows = omega (arith, c.loop-taken-test.true, c.loop-taken.auto.taken-end, c.rows-taken-end.ensures) in
+    λ f h. omega (
+      arith,
+      one_failed c.args.m.now.columns c.args.m.now.rows c.loop-taken.taken (weight (g.R.Reducer.outline c.loop-taken.reducer)) c.args.steps.now c.loop-taken.steps
+          c.reduce.new.steps (omega (arith, inside)) (c.loop-taken.invariant.paid f h) (c.in_err-reduce.ensures.frugal_err f),
+    )
+
+pub returns-in_err-conflict-in-Refused-clause-most : goal.returns-in_err-conflict-in-Refused-clause-most
+returns-in_err-conflict-in-Refused-clause-most g c =
+    let inside : c.loop-taken.taken + 1 ≤ length c.args.m.now.rows = omega (arith, c.loop-taken-test.true, c.loop-taken.auto.taken-end, c.rows-taken-end.ensures) in
+    λ f h. refused_most c.args.m.now.columns c.loop-taken.taken c.args.m.now.rows (weight (g.R.Reducer.outline c.loop-taken.reducer)) c.args.steps.now c.loop-taken.steps c.reduce.new.steps c.conflict.new.steps
+    (omega (arith, inside)) (c.loop-taken.invariant.paid f h)
+    (refused_cost (row_at c.args.m.now.rows (c.loop-taken.taken + 1)) (g.R.Reducer.outline c.loop-taken.reducer) (g.R.Reducer.outline c.reduce.new.self) c.loop-taken.steps c.reduce.new.steps
+    c.in_ok-reduce.field-0 c.in-Refused.is (c.in_ok-reduce.ensures.frugal f)) c.conflict.ensures.ticks
+
+pub returns-in-Refused-clause-most : goal.returns-in-Refused-clause-most
+returns-in-Refused-clause-most g c =
+    let inside : c.loop-taken.taken + 1 ≤ length c.args.m.now.rows = omega (arith, c.loop-taken-test.true, c.loop-taken.auto.taken-end, c.rows-taken-end.ensures) in
+    λ f h. refused_most c.args.m.now.columns c.loop-taken.taken c.args.m.now.rows (weight (g.R.Reducer.outline c.loop-taken.reducer)) c.args.steps.now c.loop-taken.steps c.reduce.new.steps c.conflict.new.steps
+    (omega (arith, inside)) (c.loop-taken.invariant.paid f h)
+    (refused_cost (row_at c.args.m.now.rows (c.loop-taken.taken + 1)) (g.R.Reducer.outline c.loop-taken.reducer) (g.R.Reducer.outline c.reduce.new.self) c.loop-taken.steps c.reduce.new.steps
+    c.in_ok-reduce.field-0 c.in-Refused.is (c.in_ok-reduce.ensures.frugal f)) c.conflict.ensures.ticks

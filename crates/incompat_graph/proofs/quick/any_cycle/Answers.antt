@@ -1,10 +1,14 @@
-use Rattle.std.proofs.Common.{◌∙◌, ◌-◌, ◌≤◌, List, ℕ, length, take, ap, sym, subst, arith}
+use Rattle.std.proofs.Common.{◌∙◌, ◌-◌, ◌≤◌, List, ℕ, IfOk, length, take, ap, sym, subst, arith}
 use Rattle.column_order.specs.Orders.{IsValidOrder}
 use Rattle.column_order.proofs.Counts.{order_length}
-use Rattle.row_model.proofs.CycleLaws.{closed_more}
+use Rattle.row_model.specs.declared.graph.Line.{Line}
+use Rattle.row_model.specs.Cycles.{IsOddWalk, IsOddCycle}
+use Rattle.odd_cycle.specs.Short.{IsShort}
 use Rattle.open_gaps.specs.Gaps.{AreGaps}
 use Rattle.incompat_graph.proofs.StepBounds.{along_bound, tried_bound}
+use Rattle.incompat_graph.proofs.quick.any_cycle.Given as given
 use Rattle.incompat_graph.proofs.quick.any_cycle.Goals as goal
+use Rattle.incompat_graph.proofs.quick.any_cycle.Goals.{After-lines}
 
 pub quick_cycle-requires-clause-columns : goal.quick_cycle-requires-clause-columns
 quick_cycle-requires-clause-columns g c =
@@ -18,9 +22,15 @@ pub walk_across-requires-clause-gaps : goal.walk_across-requires-clause-gaps
 walk_across-requires-clause-gaps g c =
     subst (λ o. AreGaps (take (c.args.k - 1) c.args.m.now.rows) o c.in_ok-gaps.gaps.gaps) (sym c.in_ok-gaps.ensures.order) c.in_ok-gaps.ensures.gaps
 
-pub simple_cycle-requires : goal.simple_cycle-requires
-simple_cycle-requires g c =
-    closed_more c.args.m.now.columns c.args.m.now.rows c.args.k c.in_ok-walk.walk c.requires.row.1 c.in_ok-walk.ensures.walk.closed
+-- the walk that was found, by its lines and by the number of columns that was read
+found : (g : given.Over) (c : After-lines g) → IsOddWalk c.columns.result (take c.args.k c.args.m.now.rows) c.lines.result.now
+found g c =
+    let rows = take c.args.k c.args.m.now.rows in
+    let lines = subst (λ (ls : List Line). IsOddWalk c.args.m.now.columns rows ls) (sym c.lines.ensures.lines) c.in_ok-walk.ensures.walk in
+    subst (λ (n : ℕ). IsOddWalk n rows c.lines.result.now) (sym c.columns.ensures.columns) lines
+
+pub short_cycle-requires-clause-walk : goal.short_cycle-requires-clause-walk
+short_cycle-requires-clause-walk g c = (take c.args.k c.args.m.now.rows, found g (goal.at.short_cycle-requires-clause-walk g c).After-lines)
 
 pub returns-in_err-gaps-clause-ticks : goal.returns-in_err-gaps-clause-ticks
 returns-in_err-gaps-clause-ticks g c =
@@ -49,4 +59,9 @@ returns-clause-ticks g c =
     along_bound c.args.m.now.rows c.args.m.now.columns c.args.k c.args.steps.now c.new.new.steps c.quick_cycle.new.steps c.walk_across.new.steps c.new.ensures.ticks (omega arith) c.walk_across.ensures.ticks
 
 pub returns-clause-cycle : goal.returns-clause-cycle
-returns-clause-cycle g c = c.simple_cycle.ensures.first_rows c.args.k c.in_ok-walk.ensures.walk.closed
+returns-clause-cycle g c =
+    let rows = take c.args.k c.args.m.now.rows in
+    subst (λ (n : ℕ). IfOk c.short_cycle.result (IsOddCycle n rows)) c.columns.ensures.columns (c.short_cycle.ensures.cycle rows (found g (goal.at.returns-clause-cycle g c).After-lines))
+
+pub returns-clause-short : goal.returns-clause-short
+returns-clause-short g c = subst (λ (n : ℕ). IfOk c.short_cycle.result (IsShort n)) c.columns.ensures.columns c.short_cycle.ensures.short

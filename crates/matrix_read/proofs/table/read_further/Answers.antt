@@ -24,4 +24,4 @@ pub returns : goal.returns
 returns c =
     sym (even_end c.len-width.result c.loop-so_far.so_far _ (c.in_ok-next_record.ensures.end c.if-branch.false))
     ∙ c.loop-so_far.invariant.so_far
-    ∙ ap (λ width. with_even_records width c.args.begun (records_left c.args.reader)) c.len-width.ensures
+    ∙ ap (λ width. with_even_records width c.args.begun (records_left c.args.reader.now)) c.len-width.ensures

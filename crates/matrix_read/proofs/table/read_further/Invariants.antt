@@ -7,7 +7,7 @@ abbrev pub invariant-loop-so_far : goal.invariant-loop-so_far
 invariant-loop-so_far l = record {
   plain : IsPlain l.reader;
   within : FitsRecords l.initial.width l.so_far;
-  so_far : with_even_records l.initial.width l.so_far (records_left l.reader) ≡ with_even_records l.initial.width l.fn.begun (records_left l.fn.reader);
+  so_far : with_even_records l.initial.width l.so_far (records_left l.reader) ≡ with_even_records l.initial.width l.fn.begun (records_left l.initial.reader);
 }
 
 abbrev pub decreases-loop-so_far : goal.decreases-loop-so_far

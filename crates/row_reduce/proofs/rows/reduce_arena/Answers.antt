@@ -31,6 +31,7 @@ returns-in-Open g c = record {
   full = c.settle.ensures.room;
   ticks = open_total c.met_law.ensures (row_over c.layout_law.ensures c.requires.tree c.row.ensures.row c.row.ensures.ascending) _ _ _ c.settle.ensures.steps c.reduce_by_templates.ensures.ticks;
   below = λ e. open_below (row_over c.layout_law.ensures c.requires.tree c.row.ensures.row c.row.ensures.ascending) _ _ _ c.settle.ensures.steps (c.reduce_by_templates.ensures.below e);
+  empty = λ none. absurd (some_column (row_over c.layout_law.ensures c.requires.tree c.row.ensures.row c.row.ensures.ascending) (search rules) none);
 }
 
 pub returns-in-Group-clause-outcome : goal.returns-in-Group-clause-outcome

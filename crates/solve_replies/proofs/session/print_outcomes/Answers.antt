@@ -1,9 +1,16 @@
-use Rattle.std.proofs.Common.{◌≡◌, ◌+◌, length, take, subst, arith}
-use Rattle.std.proofs.lemmas.List.{length-take-le}
+use Rattle.std.proofs.Common.{◌≡◌, ℕ, ◌+◌, ◌<◌, ◌≤◌, List, [], ◌∷◌, ◌++◌, length, sum_by, take, ap, subst, arith}
+use Rattle.std.proofs.lemmas.List.{length-take-le, take_all}
+use Rattle.std.proofs.lemmas.List.Sums.{sum_by_push, sum_by-take-le}
+use Rattle.pq_tree.specs.Amortised.{weight}
 use Rattle.row_model.proofs.Pushed.{take_next}
 use Rattle.solve_replies.specs.Taking.{HasTaken}
 use Rattle.solve_replies.proofs.Sessions.{taken_more, on_the_way}
+use Rattle.solve_replies.proofs.Charges.{IsCharged, charged_more, charged_failed, charged_all, charged_most, taken_ones}
 use Rattle.solve_replies.proofs.session.print_outcomes.Goals as goal
+
+-- the ones of the rows so far and of the next are some of all
+room : (rows : List (List ℕ)) (n : ℕ) (row : List ℕ) → take n rows ++ row ∷ [] ≡ take (n + 1) rows → sum_by length (take n rows) + length row ≤ sum_by length rows
+room rows n row e = omega (arith, sum_by_push length (take n rows) row, ap (sum_by length) e, sum_by-take-le length rows (n + 1))
 
 pub loop-taken-preserved : goal.loop-taken-preserved
 loop-taken-preserved g c =
@@ -16,7 +23,36 @@ loop-taken-preserved g c =
     let text = c.take_one.new.text.items in
     let at : n + 1 ≡ length (take n rows) + 1 = omega (arith, length-take-le n rows (omega (arith, c.loop-taken-test.true, c.loop-taken.auto.taken-end, c.rows-taken-end.ensures))) in
     record {
-      way = on_the_way start c.loop-taken.session.matrix after c.loop-taken.refusals n (n + 1) row count c.loop-taken.text.items text c.loop-taken.invariant.way c.in_ok-refusals.ensures;
+      way = on_the_way start c.loop-taken.session.matrix after c.loop-taken.refusals n (n + 1) row count c.loop-taken.text.items text c.loop-taken.invariant.way c.in_ok-refusals.ensures.one;
+      charged = subst (λ done. IsCharged start rows done after count (weight c.args.session.now.tree) (weight c.take_one.new.session.tree) c.args.steps.now c.take_one.new.steps) (take_next rows n row c.row-row.ensures.row)
+          (charged_more start rows (take n rows) c.loop-taken.session.matrix after row c.loop-taken.refusals (weight c.args.session.now.tree) (weight c.loop-taken.session.tree) (weight c.take_one.new.session.tree)
+          c.args.steps.now c.loop-taken.steps c.loop-taken.invariant.way.columns (room rows n row (take_next rows n row c.row-row.ensures.row)) c.loop-taken.invariant.charged count c.take_one.new.steps
+          c.in_ok-refusals.ensures.charged (taken_ones c.loop-taken.session.matrix after c.loop-taken.refusals (n + 1) row count c.loop-taken.text.items text c.in_ok-refusals.ensures.one));
       told = subst (λ done. HasTaken start done after count c.args.text.now.items text) (take_next rows n row c.row-row.ensures.row)
-          (taken_more start (take n rows) c.loop-taken.session.matrix c.loop-taken.refusals c.args.text.now.items c.loop-taken.text.items (n + 1) row after count text c.loop-taken.invariant.told at c.in_ok-refusals.ensures);
+          (taken_more start (take n rows) c.loop-taken.session.matrix c.loop-taken.refusals c.args.text.now.items c.loop-taken.text.items (n + 1) row after count text c.loop-taken.invariant.told at c.in_ok-refusals.ensures.one);
     }
+
+pub returns-clause-taken : goal.returns-clause-taken
+returns-clause-taken g c =
+    let whole = take_all c.loop-taken.taken c.args.further.now.rows (omega arith) in (
+      c.loop-taken.refusals,
+      rw whole at c.loop-taken.invariant.told,
+      charged_all c.args.session.now.matrix c.args.further.now.rows c.loop-taken.session.matrix c.loop-taken.refusals
+          (weight c.args.session.now.tree) (weight c.loop-taken.session.tree) c.args.steps.now c.loop-taken.steps (rw whole at c.loop-taken.invariant.charged),
+    )
+
+pub returns-clause-most : goal.returns-clause-most
+returns-clause-most g c =
+    let whole = take_all c.loop-taken.taken c.args.further.now.rows (omega arith) in
+    charged_most c.args.session.now.matrix c.args.further.now.rows c.loop-taken.session.matrix c.loop-taken.refusals (weight c.args.session.now.tree) (weight c.loop-taken.session.tree) c.args.steps.now
+    c.loop-taken.steps (rw whole at c.loop-taken.invariant.charged)
+
+pub returns-in_err-refusals-clause-most : goal.returns-in_err-refusals-clause-most
+returns-in_err-refusals-clause-most g c =
+    let rows = c.args.further.now.rows in
+    let n = c.loop-taken.taken in
+    let row = c.row-row.result.now in
+    let inside : n < length rows = omega (arith, c.loop-taken-test.true, c.loop-taken.auto.taken-end, c.rows-taken-end.ensures) in
+    charged_failed c.args.session.now.matrix rows (take n rows) c.loop-taken.session.matrix c.take_one.new.session.matrix row c.loop-taken.refusals (weight c.args.session.now.tree) (weight c.loop-taken.session.tree)
+    (weight c.take_one.new.session.tree) c.args.steps.now c.loop-taken.steps c.loop-taken.invariant.way.columns (room rows n row (take_next rows n row c.row-row.ensures.row)) c.loop-taken.invariant.charged
+    c.take_one.new.steps (omega (arith, inside, length-take-le n rows (omega (arith, inside)))) c.take_one.ensures.most

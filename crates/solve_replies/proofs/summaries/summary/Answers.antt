@@ -14,19 +14,19 @@ use Rattle.solve_replies.proofs.Counted.{few_nodes}
 use Rattle.solve_replies.proofs.summaries.summary.Goals as goal
 
 pub unreachable-requires : goal.unreachable-requires
-unreachable-requires c =
-    let none : HasValidOrder c.in_ok-matrix.matrix.columns c.in_ok-matrix.matrix.rows → ⊥ = (subst (IsAnswer c.in_ok-matrix.matrix) c.in_default.is c.in_ok-tree.ensures).1 in
+unreachable-requires g c =
+    let none : HasValidOrder c.in_ok-matrix.matrix.columns c.in_ok-matrix.matrix.rows → ⊥ = (subst (IsAnswer c.in_ok-matrix.matrix) c.in_default.is c.in_ok-tree.ensures.answer).1 in
     none (subst (λ (m : RowList). HasValidOrder m.columns m.rows) (sym c.in_ok-matrix.ensures) (generated_law c.args.seed c.args.columns c.args.rows))
 
 pub count_nodes-requires-clause-p : goal.count_nodes-requires-clause-p
-count_nodes-requires-clause-p c =
-    let all : HasAllOrders c.in_ok-matrix.matrix c.in-Yes.tree = (subst (IsAnswer c.in_ok-matrix.matrix) c.in-Yes.is c.in_ok-tree.ensures).0 in
+count_nodes-requires-clause-p g c =
+    let all : HasAllOrders c.in_ok-matrix.matrix c.in-Yes.tree = (subst (IsAnswer c.in_ok-matrix.matrix) c.in-Yes.is c.in_ok-tree.ensures.answer).0 in
     let proper : IsProper c.in-Yes.tree.columns (outline_of c.root.result.now) = subst (IsProper c.in-Yes.tree.columns) (sym c.root.ensures) c.in-Yes.tree.proper in
     omega (arith, few_nodes (outline_of c.root.result.now) proper.0, order_length c.in-Yes.tree.columns (leaves (outline_of c.root.result.now)) proper.1, all.columns, ap (λ (m : RowList). m.columns) c.in_ok-matrix.ensures, c.requires.columns)
 
 pub count_nodes-requires-clause-q : goal.count_nodes-requires-clause-q
-count_nodes-requires-clause-q c =
-    let all : HasAllOrders c.in_ok-matrix.matrix c.in-Yes.tree = (subst (IsAnswer c.in_ok-matrix.matrix) c.in-Yes.is c.in_ok-tree.ensures).0 in
+count_nodes-requires-clause-q g c =
+    let all : HasAllOrders c.in_ok-matrix.matrix c.in-Yes.tree = (subst (IsAnswer c.in_ok-matrix.matrix) c.in-Yes.is c.in_ok-tree.ensures.answer).0 in
     let proper : IsProper c.in-Yes.tree.columns (outline_of c.root.result.now) = subst (IsProper c.in-Yes.tree.columns) (sym c.root.ensures) c.in-Yes.tree.proper in
     omega (arith, few_nodes (outline_of c.root.result.now) proper.0, order_length c.in-Yes.tree.columns (leaves (outline_of c.root.result.now)) proper.1, all.columns, ap (λ (m : RowList). m.columns) c.in_ok-matrix.ensures, c.requires.columns)
 
@@ -37,11 +37,11 @@ lines_same : (c : ℕ) {rows rows' ones ones' p p' q q' : ℕ} → rows ≡ rows
 lines_same c {rows} {rows'} {ones} {ones'} {p} {p'} {q} {q'} e f g h =
     ap (λ n. summary_lines c n ones p q) e ∙ ap (λ n. summary_lines c rows' n p q) f ∙ ap (λ n. summary_lines c rows' ones' n q) g ∙ ap (λ n. summary_lines c rows' ones' p' n) h
 
-pub returns : goal.returns
-returns c =
+pub returns-clause-text : goal.returns-clause-text
+returns-clause-text g c =
     let m = c.in_ok-matrix.matrix in
     let t = outline c.in-Yes.tree in
-    let all : HasAllOrders m c.in-Yes.tree = (subst (IsAnswer m) c.in-Yes.is c.in_ok-tree.ensures).0 in
+    let all : HasAllOrders m c.in-Yes.tree = (subst (IsAnswer m) c.in-Yes.is c.in_ok-tree.ensures.answer).0 in
     let shows : IsTreeOf m t = record { proper = subst (λ n. IsProper n t) all.columns c.in-Yes.tree.proper; canonical = all.canonical; orders = all.orders } in
     let made : m ≡ generated c.args.seed c.args.columns c.args.rows = c.in_ok-matrix.ensures in
     let rows : c.args.rows ≡ length (generated c.args.seed c.args.columns c.args.rows).rows = sym (drawn_count c.args.rows _ _) in

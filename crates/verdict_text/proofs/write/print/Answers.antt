@@ -1,7 +1,13 @@
 use Rattle.verdict_text.specs.Text.{verdict_text}
-use Rattle.text_parts.proofs.PrintLaws.{joined}
+use Rattle.text_parts.proofs.PrintLaws.{on_err, unchanged, extends_after, joined}
 use Rattle.verdict_text.proofs.write.print.Goals as goal
 
 pub returns-clause-ok : goal.returns-clause-ok
 unfolding verdict_text
 returns-clause-ok c = joined _ _ _ _ _ _ _ c.in_ok-push_head.ensures.ok c.in_ok-push_part.ensures.ok c.in_ok-push.ensures.ok
+
+pub returns-in_err-push_part-clause-err : goal.returns-in_err-push_part-clause-err
+returns-in_err-push_part-clause-err c = on_err _ (extends_after _ _ _ _ c.in_ok-push_head.ensures.ok c.in_err-push_part.ensures.err)
+
+pub returns-in_err-push-clause-err : goal.returns-in_err-push-clause-err
+returns-in_err-push-clause-err c = on_err _ (extends_after _ _ _ _ c.in_ok-push_head.ensures.ok (extends_after _ _ _ _ c.in_ok-push_part.ensures.ok (unchanged c.in_err-push.ensures.err)))

@@ -1,60 +1,71 @@
-use Rattle.std.proofs.Common.{◌≡◌, ◌∙◌, ◌+◌, drop, length, slice_get, Some, refl, sym, ap, subst, arith}
+use Rattle.std.proofs.Common.{◌≡◌, ◌∙◌, ◌+◌, drop, length, slice_get, Some, refl, ap, subst, arith}
 use Rattle.std.proofs.lemmas.List.{length-map}
+use Rattle.std.proofs.lemmas.Option.{slice_get_within}
 use Rattle.row_model.specs.Graph.{row_at}
 use Rattle.walk_search.specs.Holders.{without}
 use Rattle.walk_search.proofs.HolderLaws.{lists_of, HoldersSoFar, holders_begin, holders_end, holders_more, further_same, further_member, further_there, ones_part}
+use Rattle.pair_classes.proofs.Items.{item_end, none_of}
 use Rattle.pair_classes.proofs.RowOnes.{ones_more}
 use Rattle.walk_search.proofs.holders.rows_by_column.Goals as goal
 
-pub loop-i-init : goal.loop-i-init
-loop-i-init g c =
+pub loop-column-init : goal.loop-column-init
+loop-column-init g c =
     let held = row_at (drop c.args.first c.args.m.now.rows) (c.loop-k.k + 1) in
-    record { holders = holders_begin (without c.args.first c.args.m.now) c.loop-k.k held (lists_of c.loop-k.holders.items) c.loop-k.invariant.holders; counted = omega arith }
+    record { holders = holders_begin (without c.args.first c.args.m.now) c.loop-k.k held (lists_of c.loop-k.holders.items) c.loop-k.invariant.holders; within = omega arith; counted = omega arith }
 
 pub add_holder-requires : goal.add_holder-requires
 add_holder-requires g c =
-    let range = c.member_counted-column.ensures.range in
-    (range.0, omega (arith, range.1, c.loop-i.invariant.holders.columns, length-map c.loop-i.holders.items (λ list. list.items)))
+    let range = c.in-Some.ensures.range in
+    (range.0, omega (arith, range.1, c.loop-column.invariant.holders.columns, length-map c.loop-column.holders.items (λ list. list.items)))
 
-pub loop-i-preserved : goal.loop-i-preserved
-loop-i-preserved g c =
+pub loop-column-preserved : goal.loop-column-preserved
+loop-column-preserved g c =
     let rows = c.args.m.now.rows in
     let held = row_at (drop c.args.first rows) (c.loop-k.k + 1) in
-    let column = c.member_counted-column.result in
-    let range = c.member_counted-column.ensures.range in
-    let at : slice_get held c.loop-i.i ≡ Some column = further_member rows c.args.first (c.loop-k.k + 1) (c.args.first + c.loop-k.k + 1) c.loop-i.i column (omega arith) (omega arith) c.member_counted-column.ensures.member in
+    let column = c.in-Some.column in
+    let range = c.in-Some.ensures.range in
+    let at : slice_get held c.loop-column.i ≡ Some column = further_member rows c.args.first (c.loop-k.k + 1) (c.args.first + c.loop-k.k + 1) c.loop-column.i column (omega arith) (omega arith) c.in-Some.ensures.column in
     record {
       holders = holders_more
           (without c.args.first c.args.m.now)
           c.loop-k.k
           held
-          c.loop-i.i
-          (lists_of c.loop-i.holders.items)
+          c.loop-column.i
+          (lists_of c.loop-column.holders.items)
           (lists_of c.add_holder.new.holders.items)
           column
           refl
-          c.loop-i.invariant.holders
+          c.loop-column.invariant.holders
           at
           range.0
-          (omega (arith, range.1, c.loop-i.invariant.holders.columns))
+          (omega (arith, range.1, c.loop-column.invariant.holders.columns))
           c.in_ok-add_holder.ensures;
-      counted = omega arith;
+      within = omega (arith, slice_get_within held c.loop-column.i column at);
+      counted = omega (arith, c.in-Some.ensures.ticks);
     }
+
+pub loop-column-smaller : goal.loop-column-smaller
+loop-column-smaller g c = omega (arith, slice_get_within (row_at c.args.m.now.rows (c.args.first + c.loop-k.k + 1)) c.loop-column.i c.in-Some.column c.in-Some.ensures.column)
 
 pub loop-k-preserved : goal.loop-k-preserved
 loop-k-preserved g c =
     let rows = c.args.m.now.rows in
     let held = row_at (drop c.args.first rows) (c.loop-k.k + 1) in
-    let long : length held ≡ c.row_len-i-end.result = ap length (further_same rows c.args.first (c.loop-k.k + 1) (c.args.first + c.loop-k.k + 1) (omega arith) (omega arith)) ∙ sym c.row_len-i-end.ensures in
-    let end : c.loop-i.i ≡ length held = omega (arith, long) in
+    let row = row_at rows (c.args.first + c.loop-k.k + 1) in
+    let none = none_of c.next_counted.result c.in_default.not-Some in
+    let same : held ≡ row = further_same rows c.args.first (c.loop-k.k + 1) (c.args.first + c.loop-k.k + 1) (omega arith) (omega arith) in
+    let end : c.loop-column.i ≡ length held = omega (arith, item_end row c.loop-column.i (c.next_counted.ensures.column ∙ none), ap length same, c.loop-column.invariant.within) in
+    let calm = rw none at c.next_counted.ensures.ticks in
     let ones = ones_more (drop c.args.first rows) c.loop-k.k held (further_there rows c.args.first c.loop-k.k (omega arith)) in
-    record { holders = holders_end (without c.args.first c.args.m.now) c.loop-k.k held (lists_of c.loop-i.holders.items) refl (subst (λ n. HoldersSoFar (without c.args.first c.args.m.now) c.loop-k.k held n (lists_of c.loop-i.holders.items)) end c.loop-i.invariant.holders); counted = omega (arith, ones, c.loop-i.invariant.counted) }
+    record { holders = holders_end (without c.args.first c.args.m.now) c.loop-k.k held (lists_of c.loop-column.holders.items) refl (subst (λ n. HoldersSoFar (without c.args.first c.args.m.now) c.loop-k.k held n (lists_of c.loop-column.holders.items)) end c.loop-column.invariant.holders); counted = omega (arith, ones, end, calm, c.loop-k.invariant.counted, c.loop-column.invariant.counted) }
 
 pub returns-in_err-add_holder-clause-ticks : goal.returns-in_err-add_holder-clause-ticks
 returns-in_err-add_holder-clause-ticks g c =
     let rows = c.args.m.now.rows in
     let held = row_at (drop c.args.first rows) (c.loop-k.k + 1) in
-    let long : length held ≡ c.row_len-i-end.result = ap length (further_same rows c.args.first (c.loop-k.k + 1) (c.args.first + c.loop-k.k + 1) (omega arith) (omega arith)) ∙ sym c.row_len-i-end.ensures in
+    let row = row_at rows (c.args.first + c.loop-k.k + 1) in
+    let same : held ≡ row = further_same rows c.args.first (c.loop-k.k + 1) (c.args.first + c.loop-k.k + 1) (omega arith) (omega arith) in
+    let within = slice_get_within row c.loop-column.i c.in-Some.column c.in-Some.ensures.column in
     let more = ones_more (drop c.args.first rows) c.loop-k.k held (further_there rows c.args.first c.loop-k.k (omega arith)) in
     let all = ones_part (drop c.args.first rows) (c.loop-k.k + 1) c.args.rows (omega arith) in
-    omega (arith, long, more, all, c.loop-k.invariant.counted, c.loop-i.invariant.counted)
+    omega (arith, within, ap length same, more, all, c.loop-k.invariant.counted, c.loop-column.invariant.counted, c.in-Some.ensures.ticks)

@@ -1,4 +1,4 @@
-use Rattle.std.proofs.Common.{◌≡◌, ◌+◌, [], length, replicate, take, drop, sum_by}
+use Rattle.std.proofs.Common.{◌≡◌, ◌+◌, ◌-◌, ◌≤◌, [], length, replicate, take, drop, sum_by}
 use Rattle.row_model.specs.Graph.{row_at}
 use Rattle.walk_search.specs.Holders.{AreHolders, without}
 use Rattle.walk_search.proofs.HolderLaws.{lists_of, HoldersSoFar}
@@ -7,10 +7,11 @@ use Rattle.walk_search.proofs.holders.rows_by_column.Given as goal
 abbrev pub invariant-loop : goal.invariant-loop
 invariant-loop g l = lists_of l.holders.items ≡ replicate l.counter []
 
-abbrev pub invariant-loop-i : goal.invariant-loop-i
-invariant-loop-i g l =
+abbrev pub invariant-loop-column : goal.invariant-loop-column
+invariant-loop-column g l =
     record {
       holders : HoldersSoFar (without l.first l.m) l.k (row_at (drop l.first l.m.rows) (l.k + 1)) l.i (lists_of l.holders.items);
+      within : l.i ≤ length (row_at (drop l.first l.m.rows) (l.k + 1));
       counted : l.steps ≡ l.initial.steps + l.i;
     }
 
@@ -20,3 +21,6 @@ invariant-loop-k g l =
       holders : AreHolders (without l.first l.m) l.k (lists_of l.holders.items);
       counted : l.steps ≡ l.initial.steps + sum_by length (take l.k (drop l.first l.m.rows));
     }
+
+abbrev pub decreases-loop-column : goal.decreases-loop-column
+decreases-loop-column g l = length (row_at l.m.rows (l.first + l.k + 1)) - l.i

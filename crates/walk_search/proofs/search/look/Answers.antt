@@ -1,18 +1,18 @@
-use Rattle.std.proofs.Common.{◌≡◌, ◌∙◌, ℕ, ◌+◌, ◌≤◌, false, Some, List, length, take, drop, slice_get, IsTrue, refl, ap, sym, subst, arith}
+use Rattle.std.proofs.Common.{◌≡◌, ◌∙◌, ℕ, ◌+◌, ◌<◌, ◌≤◌, false, Some, List, length, take, drop, slice_get, IsTrue, refl, ap, sym, subst, arith}
 use Rattle.std.proofs.lemmas.Option.{slice_get_read, slice_get_within}
 use Rattle.std.proofs.lemmas.Bool.{both_ways}
 use Rattle.column_order.specs.Orders.{has}
 use Rattle.row_model.specs.Graph.{pair, row_at, IsPair}
 use Rattle.walk_search.specs.declared.forest.Node.{Node}
 use Rattle.walk_search.specs.MarkedOnes.{marked_ones}
-use Rattle.pair_classes.proofs.Items.{held_some, none_of}
+use Rattle.pair_classes.proofs.Items.{held_some, item_end, none_of}
 use Rattle.walk_search.proofs.MarkedOnes.{marked_again, marked_anew}
 use Rattle.walk_search.proofs.ForestLaws.{grown_refl, grown_there}
 use Rattle.walk_search.proofs.HolderLaws.{further_member}
 use Rattle.walk_search.proofs.SearchLaws.{IsSpreading, spreading_turned, next_pair, crossed, spreading_more, looked, spreading_all, further_row}
 use Rattle.walk_search.proofs.search.look.Given as given
 use Rattle.walk_search.proofs.search.look.Goals as goal
-use Rattle.walk_search.proofs.search.look.Goals.{After-mark, After-member_counted-column}
+use Rattle.walk_search.proofs.search.look.Goals.{After-mark, In-Some, After-next_counted}
 
 -- what is known where a node is taken and a further row is looked at: the node stands at its index, its pair is within the tables, the
 -- row is one of those that are searched, and has the pair's first column
@@ -80,22 +80,35 @@ returns-then-has_counted-clause-found g c =
     (λ n. absurd (both_ways (has held node.pair.b) n held_b))
 
 -- the column that is read is the next one of the row
-read_next : (g : given.Over) (c : After-member_counted-column g) → slice_get (row_at (drop c.args.near.now.first c.args.m.now.rows) c.args.further) c.loop-i.i ≡ Some c.member_counted-column.result
+read_next : (g : given.Over) (c : In-Some g) → slice_get (row_at (drop c.args.near.now.first c.args.m.now.rows) c.args.further) c.loop-column.i ≡ Some c.in-Some.column
 read_next g c =
     let first = c.args.near.now.first in
-    further_member c.args.m.now.rows first c.args.further (first + c.args.further) c.loop-i.i c.member_counted-column.result c.requires.row.0 refl c.member_counted-column.ensures.member
+    further_member c.args.m.now.rows first c.args.further (first + c.args.further) c.loop-column.i c.in-Some.column c.requires.row.0 refl c.in-Some.ensures.column
 
-pub loop-i-preserved-then-column-node : goal.loop-i-preserved-then-column-node
-loop-i-preserved-then-column-node g c =
+-- a column that is read stands within the row
+read_within : (g : given.Over) (c : In-Some g) → c.loop-column.i < length (row_at c.args.m.now.rows (c.args.near.now.first + c.args.further))
+read_within g c = slice_get_within (row_at c.args.m.now.rows (c.args.near.now.first + c.args.further)) c.loop-column.i c.in-Some.column c.in-Some.ensures.column
+
+-- where the row has no further column, all of them are read
+at_end : (g : given.Over) (c : After-next_counted g) → row_at (drop c.args.near.now.first c.args.m.now.rows) c.args.further ≡ row_at c.args.m.now.rows (c.args.near.now.first + c.args.further)
+    → slice_get (row_at c.args.m.now.rows (c.args.near.now.first + c.args.further)) c.loop-column.i ≡ c.next_counted.result → ((d : ℕ) → c.next_counted.result ≡ Some d → ⊥)
+    → c.loop-column.i ≡ length (row_at (drop c.args.near.now.first c.args.m.now.rows) c.args.further)
+at_end g c behind at none =
+    let row = row_at c.args.m.now.rows (c.args.near.now.first + c.args.further) in
+    omega (arith, item_end row c.loop-column.i (at ∙ none_of c.next_counted.result none), ap length behind, c.loop-column.invariant.within)
+
+pub loop-column-preserved-then-column-node : goal.loop-column-preserved-then-column-node
+loop-column-preserved-then-column-node g c =
     let m = c.args.m.now in
     let first = c.args.near.now.first in
     let node : Node = c.index-node.result.now in
-    let k = looks g (goal.at.loop-i-preserved-then-column-node g c).After-mark in
-    let at = read_next g (goal.at.loop-i-preserved-then-column-node g c).After-member_counted-column in
+    let k = looks g (goal.at.loop-column-preserved-then-column-node g c).After-mark in
+    let at = read_next g (goal.at.loop-column-preserved-then-column-node g c).In-Some in
     record {
-      spreading = spreading_turned m.columns (take (first + c.args.marks.now.rows) m.rows) (row_at (drop first m.rows) c.args.further) c.args.forest.now c.loop-i.forest node c.args.from c.loop-i.i c.member_counted-column.result
-          c.loop-i.invariant.spreading k.there at c.if-column-node.true (c.requires.node node k.there).1;
-      ticks = omega arith;
+      spreading = spreading_turned m.columns (take (first + c.args.marks.now.rows) m.rows) (row_at (drop first m.rows) c.args.further) c.args.forest.now c.loop-column.forest node c.args.from c.loop-column.i c.in-Some.column
+          c.loop-column.invariant.spreading k.there at c.if-column-node.true (c.requires.node node k.there).1;
+      within = omega (arith, slice_get_within (row_at (drop c.args.near.now.first c.args.m.now.rows) c.args.further) c.loop-column.i c.in-Some.column at);
+      ticks = omega (arith, c.in-Some.ensures.ticks);
     }
 
 pub step-requires-clause-from : goal.step-requires-clause-from
@@ -103,8 +116,8 @@ step-requires-clause-from g c =
     let m = c.args.m.now in
     let node : Node = c.index-node.result.now in
     let k = looks g (goal.at.step-requires-clause-from g c).After-mark in
-    slice_get_within c.loop-i.forest.nodes.items c.args.from node
-    (grown_there m.columns (take (c.args.near.now.first + c.args.marks.now.rows) m.rows) c.args.forest.now c.loop-i.forest c.args.from node c.loop-i.invariant.spreading.grown k.there)
+    slice_get_within c.loop-column.forest.nodes.items c.args.from node
+    (grown_there m.columns (take (c.args.near.now.first + c.args.marks.now.rows) m.rows) c.args.forest.now c.loop-column.forest c.args.from node c.loop-column.invariant.spreading.grown k.there)
 
 pub step-requires-clause-pair : goal.step-requires-clause-pair
 step-requires-clause-pair g c =
@@ -112,40 +125,41 @@ step-requires-clause-pair g c =
     let first = c.args.near.now.first in
     let node : Node = c.index-node.result.now in
     let k = looks g (goal.at.step-requires-clause-pair g c).After-mark in
-    let at = read_next g (goal.at.step-requires-clause-pair g c).After-member_counted-column in
+    let at = read_next g (goal.at.step-requires-clause-pair g c).In-Some in
     let lacks_b = ap (λ (r : List ℕ). has r node.pair.b) k.behind ∙ sym c.has_counted.ensures.has ∙ c.if-has_counted.false in
-    let next = next_pair m.columns (take (first + c.args.marks.now.rows) m.rows) (row_at (drop first m.rows) c.args.further) c.args.forest.now c.loop-i.forest node c.args.from c.loop-i.i c.member_counted-column.result
-    c.loop-i.invariant.spreading k.there at c.member_counted-column.ensures.range (first + c.args.further) (omega (arith, c.requires.row.0)) k.within k.searched k.held lacks_b c.if-column-node.false in
-    subst (λ n. IsPair n (pair node.pair.b c.member_counted-column.result)) (sym c.loop-i.invariant.spreading.grown.is_forest.columns) next
+    let next = next_pair m.columns (take (first + c.args.marks.now.rows) m.rows) (row_at (drop first m.rows) c.args.further) c.args.forest.now c.loop-column.forest node c.args.from c.loop-column.i c.in-Some.column
+    c.loop-column.invariant.spreading k.there at c.in-Some.ensures.range (first + c.args.further) (omega (arith, c.requires.row.0)) k.within k.searched k.held lacks_b c.if-column-node.false in
+    subst (λ n. IsPair n (pair node.pair.b c.in-Some.column)) (sym c.loop-column.invariant.spreading.grown.is_forest.columns) next
 
-pub returns-in-Some-clause-found : goal.returns-in-Some-clause-found
-returns-in-Some-clause-found g c =
+pub returns-in-Some-2-clause-found : goal.returns-in-Some-2-clause-found
+returns-in-Some-2-clause-found g c =
     let m = c.args.m.now in
     let first = c.args.near.now.first in
     let node : Node = c.index-node.result.now in
-    let k = looks g (goal.at.returns-in-Some-clause-found g c).After-mark in
-    let at = read_next g (goal.at.returns-in-Some-clause-found g c).After-member_counted-column in
+    let k = looks g (goal.at.returns-in-Some-2-clause-found g c).After-mark in
+    let at = read_next g (goal.at.returns-in-Some-2-clause-found g c).In-Some in
     let lacks_b = ap (λ (r : List ℕ). has r node.pair.b) k.behind ∙ sym c.has_counted.ensures.has ∙ c.if-has_counted.false in
-    let next = crossed m.columns (take (first + c.args.marks.now.rows) m.rows) (row_at (drop first m.rows) c.args.further) c.args.forest.now c.loop-i.forest node c.args.from c.loop-i.i c.member_counted-column.result
-    c.loop-i.invariant.spreading k.there at c.member_counted-column.ensures.range (first + c.args.further) (omega (arith, c.requires.row.0)) k.within k.searched k.held lacks_b c.if-column-node.false in
-    rw c.in-Some.is at (c.in_ok-conflict.ensures.stepped m.columns (take (first + c.args.marks.now.rows) m.rows) c.loop-i.invariant.spreading.grown.is_forest (omega (arith, c.loop-i.invariant.spreading.grown.root, c.requires.from.0)) next)
+    let next = crossed m.columns (take (first + c.args.marks.now.rows) m.rows) (row_at (drop first m.rows) c.args.further) c.args.forest.now c.loop-column.forest node c.args.from c.loop-column.i c.in-Some.column
+    c.loop-column.invariant.spreading k.there at c.in-Some.ensures.range (first + c.args.further) (omega (arith, c.requires.row.0)) k.within k.searched k.held lacks_b c.if-column-node.false in
+    rw c.in-Some-2.is at (c.in_ok-conflict.ensures.stepped m.columns (take (first + c.args.marks.now.rows) m.rows) c.loop-column.invariant.spreading.grown.is_forest (omega (arith, c.loop-column.invariant.spreading.grown.root, c.requires.from.0)) next)
 
-pub loop-i-preserved : goal.loop-i-preserved
-loop-i-preserved g c =
+pub loop-column-preserved : goal.loop-column-preserved
+loop-column-preserved g c =
     let m = c.args.m.now in
     let first = c.args.near.now.first in
     let node : Node = c.index-node.result.now in
-    let k = looks g (goal.at.loop-i-preserved g c).After-mark in
-    let at = read_next g (goal.at.loop-i-preserved g c).After-member_counted-column in
+    let k = looks g (goal.at.loop-column-preserved g c).After-mark in
+    let at = read_next g (goal.at.loop-column-preserved g c).In-Some in
     let lacks_b = ap (λ (r : List ℕ). has r node.pair.b) k.behind ∙ sym c.has_counted.ensures.has ∙ c.if-has_counted.false in
-    let next = crossed m.columns (take (first + c.args.marks.now.rows) m.rows) (row_at (drop first m.rows) c.args.further) c.args.forest.now c.loop-i.forest node c.args.from c.loop-i.i c.member_counted-column.result
-    c.loop-i.invariant.spreading k.there at c.member_counted-column.ensures.range (first + c.args.further) (omega (arith, c.requires.row.0)) k.within k.searched k.held lacks_b c.if-column-node.false in
-    let none = none_of c.in_ok-conflict.field-0 c.in_default.not-Some in
-    let stepped = rw none at (c.in_ok-conflict.ensures.stepped m.columns (take (first + c.args.marks.now.rows) m.rows) c.loop-i.invariant.spreading.grown.is_forest (omega (arith, c.loop-i.invariant.spreading.grown.root, c.requires.from.0)) next) in
+    let next = crossed m.columns (take (first + c.args.marks.now.rows) m.rows) (row_at (drop first m.rows) c.args.further) c.args.forest.now c.loop-column.forest node c.args.from c.loop-column.i c.in-Some.column
+    c.loop-column.invariant.spreading k.there at c.in-Some.ensures.range (first + c.args.further) (omega (arith, c.requires.row.0)) k.within k.searched k.held lacks_b c.if-column-node.false in
+    let none = none_of c.in_ok-conflict.field-0 c.in_default-2.not-Some in
+    let stepped = rw none at (c.in_ok-conflict.ensures.stepped m.columns (take (first + c.args.marks.now.rows) m.rows) c.loop-column.invariant.spreading.grown.is_forest (omega (arith, c.loop-column.invariant.spreading.grown.root, c.requires.from.0)) next) in
     record {
-      spreading = spreading_more m.columns (take (first + c.args.marks.now.rows) m.rows) (row_at (drop first m.rows) c.args.further) c.args.forest.now c.loop-i.forest node c.args.from c.loop-i.i c.member_counted-column.result
-          c.loop-i.invariant.spreading k.there at c.step.new.self stepped;
-      ticks = omega arith;
+      spreading = spreading_more m.columns (take (first + c.args.marks.now.rows) m.rows) (row_at (drop first m.rows) c.args.further) c.args.forest.now c.loop-column.forest node c.args.from c.loop-column.i c.in-Some.column
+          c.loop-column.invariant.spreading k.there at c.step.new.self stepped;
+      within = omega (arith, slice_get_within (row_at (drop c.args.near.now.first c.args.m.now.rows) c.args.further) c.loop-column.i c.in-Some.column at);
+      ticks = omega (arith, c.in-Some.ensures.ticks);
     }
 
 pub returns-clause-found : goal.returns-clause-found
@@ -157,10 +171,10 @@ returns-clause-found g c =
     let k = looks g (goal.at.returns-clause-found g c).After-mark in
     let held = row_at (drop first m.rows) c.args.further in
     let graph = take (first + c.args.marks.now.rows) m.rows in
-    let all : c.loop-i.i ≡ length held = omega (arith, ap length k.behind) in
-    let spread = subst (IsSpreading m.columns graph held old c.loop-i.forest node) all c.loop-i.invariant.spreading in
-    looked m first c.args.marks.now c.mark.new.self old c.loop-i.forest c.args.from c.args.further node c.requires.search k.there c.requires.row.0 c.requires.row.1 c.mark.ensures.after spread.grown
-    (λ n. spreading_all m.columns graph held old c.loop-i.forest node spread)
+    let all = at_end g (goal.at.returns-clause-found g c).After-next_counted k.behind c.next_counted.ensures.column c.in_default.not-Some in
+    let spread = subst (IsSpreading m.columns graph held old c.loop-column.forest node) all c.loop-column.invariant.spreading in
+    looked m first c.args.marks.now c.mark.new.self old c.loop-column.forest c.args.from c.args.further node c.requires.search k.there c.requires.row.0 c.requires.row.1 c.mark.ensures.after spread.grown
+    (λ n. spreading_all m.columns graph held old c.loop-column.forest node spread)
 
 pub returns-then-mark-clause-ticks : goal.returns-then-mark-clause-ticks
 returns-then-mark-clause-ticks g c =
@@ -174,13 +188,28 @@ pub returns-then-has_counted-clause-ticks : goal.returns-then-has_counted-clause
 returns-then-has_counted-clause-ticks g c = omega (arith, first_look g (goal.at.returns-then-has_counted-clause-ticks g c).After-mark c.if-mark.false)
 
 pub returns-in_err-conflict-clause-ticks : goal.returns-in_err-conflict-clause-ticks
-returns-in_err-conflict-clause-ticks g c = omega (arith, first_look g (goal.at.returns-in_err-conflict-clause-ticks g c).After-mark c.if-mark.false)
+returns-in_err-conflict-clause-ticks g c =
+    let place = goal.at.returns-in_err-conflict-clause-ticks g c in
+    omega (arith, first_look g place.After-mark c.if-mark.false, read_within g place.In-Some, c.in-Some.ensures.ticks)
 
-pub returns-in-Some-clause-ticks : goal.returns-in-Some-clause-ticks
-returns-in-Some-clause-ticks g c = omega (arith, first_look g (goal.at.returns-in-Some-clause-ticks g c).After-mark c.if-mark.false)
+pub returns-in-Some-2-clause-ticks : goal.returns-in-Some-2-clause-ticks
+returns-in-Some-2-clause-ticks g c =
+    let place = goal.at.returns-in-Some-2-clause-ticks g c in
+    omega (arith, first_look g place.After-mark c.if-mark.false, read_within g place.In-Some, c.in-Some.ensures.ticks)
 
 pub returns-clause-ticks : goal.returns-clause-ticks
-returns-clause-ticks g c = omega (arith, first_look g (goal.at.returns-clause-ticks g c).After-mark c.if-mark.false)
+returns-clause-ticks g c =
+    let place = goal.at.returns-clause-ticks g c in
+    let k = looks g place.After-mark in
+    let all = at_end g place.After-next_counted k.behind c.next_counted.ensures.column c.in_default.not-Some in
+    let calm = rw (none_of c.next_counted.result c.in_default.not-Some) at c.next_counted.ensures.ticks in
+    omega (arith, first_look g place.After-mark c.if-mark.false, all, calm, ap length k.behind)
+
+pub loop-column-smaller : goal.loop-column-smaller
+loop-column-smaller g c = omega (arith, read_within g (goal.at.loop-column-smaller g c).In-Some)
+
+pub loop-column-smaller-then-column-node : goal.loop-column-smaller-then-column-node
+loop-column-smaller-then-column-node g c = omega (arith, read_within g (goal.at.loop-column-smaller-then-column-node g c).In-Some)
 
 pub overflow_add-row : goal.overflow_add-row
 overflow_add-row g c = omega (arith, c.requires.search.few, c.requires.search.small)

@@ -2,8 +2,9 @@ use Rattle.std.proofs.Common.{◌≡◌, ◌∙◌, ◌+◌, ◌-◌, ℕ, List,
 use Rattle.std.proofs.lemmas.List.{get_or_default}
 use Rattle.std.proofs.lemmas.Option.{get_or_from_slice_get}
 use Rattle.column_order.specs.Orders.{Keeps}
-use Rattle.pq_tree.specs.Outline.{IsFrontier}
+use Rattle.pq_tree.specs.Outline.{IsFrontier, leaves}
 use Rattle.pq_tree.specs.PqTree.{outline}
+use Rattle.pq_tree.proofs.Frontiers.{leaves_are_frontier}
 use Rattle.every_order_tests.proofs.tests.small.holds_rows.Goals as goal
 
 pub loop-before-preserved : goal.loop-before-preserved
@@ -16,4 +17,6 @@ loop-before-preserved c =
     (λ f h. subst (Keeps f) row (c.tree_holds.ensures.0 c.if-not-tree_holds.false f h))
 
 pub returns : goal.returns
-returns c = λ t f h i d l. subst (Keeps f) (get_or_default c.args.m.now.rows i [] d l) (c.loop-before.invariant i (omega arith) f h)
+returns c = λ t i d l.
+    let all = leaves (outline c.args.tree.now) in
+    subst (Keeps all) (get_or_default c.args.m.now.rows i [] d l) (c.loop-before.invariant i (omega arith) all (leaves_are_frontier (outline c.args.tree.now)))

@@ -46,4 +46,5 @@ returns-in-Ok-Root g c =
       proper = search rules;
       columns = search rules;
       frugal = search rules;
+      frugal_err = search rules;
     }

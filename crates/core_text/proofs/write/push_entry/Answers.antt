@@ -1,0 +1,8 @@
+use Rattle.text_parts.proofs.PrintLaws.{on_err, unchanged, extends_after}
+use Rattle.core_text.proofs.write.push_entry.Goals as goal
+
+pub returns-in_err-push_words-clause-err : goal.returns-in_err-push_words-clause-err
+returns-in_err-push_words-clause-err c = on_err _ (extends_after _ _ _ _ c.in_ok-push.ensures.ok (extends_after _ _ _ _ c.in_ok-push_number.ensures.ok (extends_after _ _ _ _ c.in_ok-push-2.ensures.ok c.in_err-push_words.ensures.err)))
+
+pub returns-in_err-push-3-clause-err : goal.returns-in_err-push-3-clause-err
+returns-in_err-push-3-clause-err c = on_err _ (extends_after _ _ _ _ c.in_ok-push.ensures.ok (extends_after _ _ _ _ c.in_ok-push_number.ensures.ok (extends_after _ _ _ _ c.in_ok-push-2.ensures.ok (extends_after _ _ _ _ c.in_ok-push_words.ensures.ok (unchanged c.in_err-push-3.ensures.err)))))

@@ -1,0 +1,27 @@
+-- An instance of which both sides were solved.
+use Rattle.std.proofs.Common.{◌≡◌, ℕ, ◌+◌, ◌≤◌, length, refl, ap, arith}
+use Rattle.instance_model.specs.Instance.{InstanceValue, plain, circular, convex, doubly, proper, robinson, instance_columns, derived_matrix}
+use Rattle.solve_replies.specs.Steps.{taking_steps, taking_steps_to, sides_steps, SolvesMatrixWithin, SolvesWithin}
+
+-- an instance has one side or two
+pub two_sides : (i : InstanceValue) → (length (instance_columns i) ≡ 1 → ⊥) → length (instance_columns i) ≡ 2
+two_sides (plain kind m) more = absurd (more refl)
+two_sides (circular m) more = absurd (more refl)
+two_sides (convex graph) more = absurd (more refl)
+two_sides (doubly graph) more = refl
+two_sides (proper graph) more = absurd (more refl)
+two_sides (robinson distances) more = absurd (more refl)
+
+-- the first side has an order, and the second was solved
+pub second_solved : (i : InstanceValue) (status s p n : ℕ) → length (instance_columns i) ≡ 2 → SolvesMatrixWithin (derived_matrix i 1) 0 s p → SolvesMatrixWithin (derived_matrix i 2) status p n
+    → SolvesWithin i status s n
+second_solved i status s p n sides first w =
+    let steps : sides_steps i ≡ taking_steps_to i 2 = ap (taking_steps_to i) sides in
+    let begun : p ≤ s + taking_steps (derived_matrix i 1) = first.yes refl in
+    record {
+      yes = λ e. omega (arith, w.yes e, steps, begun);
+      side = 2;
+      is_side = (omega arith, omega (arith, sides));
+      no = w.no;
+      most = omega (arith, w.most, steps, begun);
+    }

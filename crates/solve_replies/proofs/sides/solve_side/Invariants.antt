@@ -1,4 +1,0 @@
-use Rattle.solve_replies.proofs.sides.solve_side.Given as goal
-
-abbrev pub ghosts-solve_matrix : goal.ghosts-solve_matrix
-ghosts-solve_matrix a = record { name = a.blank.name; parts = a.blank.parts }

@@ -1,0 +1,5 @@
+use Rattle.text_parts.proofs.PrintLaws.{on_err, unchanged, extends_after}
+use Rattle.text_parts.proofs.numbers.push_word.Goals as goal
+
+pub returns-in_err-push_number-clause-err : goal.returns-in_err-push_number-clause-err
+returns-in_err-push_number-clause-err c = on_err _ (extends_after _ _ _ _ c.in_ok-push.ensures.ok (unchanged c.in_err-push_number.ensures.err))

@@ -1,0 +1,14 @@
+use Rattle.text_parts.proofs.PrintLaws.{on_err, unchanged, extends_after}
+use Rattle.verdict_text.proofs.lines.IntervalLineLineForm.print.Goals as goal
+
+pub returns-in_err-push_number-clause-err : goal.returns-in_err-push_number-clause-err
+returns-in_err-push_number-clause-err c = on_err _ (extends_after _ _ _ _ c.in_ok-push.ensures.ok (unchanged c.in_err-push_number.ensures.err))
+
+pub returns-in_err-push_word-clause-err : goal.returns-in_err-push_word-clause-err
+returns-in_err-push_word-clause-err c = on_err _ (extends_after _ _ _ _ c.in_ok-push.ensures.ok (extends_after _ _ _ _ c.in_ok-push_number.ensures.ok c.in_err-push_word.ensures.err))
+
+pub returns-in_err-push_word-2-clause-err : goal.returns-in_err-push_word-2-clause-err
+returns-in_err-push_word-2-clause-err c = on_err _ (extends_after _ _ _ _ c.in_ok-push.ensures.ok (extends_after _ _ _ _ c.in_ok-push_number.ensures.ok (extends_after _ _ _ _ c.in_ok-push_word.ensures.ok c.in_err-push_word-2.ensures.err)))
+
+pub returns-in_err-push-2-clause-err : goal.returns-in_err-push-2-clause-err
+returns-in_err-push-2-clause-err c = on_err _ (extends_after _ _ _ _ c.in_ok-push.ensures.ok (extends_after _ _ _ _ c.in_ok-push_number.ensures.ok (extends_after _ _ _ _ c.in_ok-push_word.ensures.ok (extends_after _ _ _ _ c.in_ok-push_word-2.ensures.ok (unchanged c.in_err-push-2.ensures.err)))))
