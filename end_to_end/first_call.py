@@ -4,8 +4,8 @@ what is not proved, and leaves words, streams and status alone.
 
 Usage: end_to_end/first_call.py
 
-It is tried in a copy of what the call reads, with a stand-in for the toolchain: scripts of which one takes a moment for each crate, and
-notes when it begins and ends. So the checks take seconds, and say nothing of proofs.
+It is tried in a copy of what the call reads, with a stand-in for the toolchain: scripts of which one notes when a crate begins and ends,
+and stays at a crate as long as a check holds it there. So the checks take seconds, depend on no pace, and say nothing of proofs.
 The last line is `N passed, N failed`; the status is 0 where nothing failed.
 """
 
@@ -19,6 +19,9 @@ import tempfile
 import time
 
 from program import HOME
+
+sys.path.append(os.path.join(HOME, "scripts"))
+import build  # noqa: E402  (it lies in the other folder)
 
 SECONDS = 60
 # The crates of the copy, each with those that it stands on: two chains that meet.
@@ -34,6 +37,10 @@ def note(what):
     with open(os.path.join(top, "notes"), "a") as notes:
         notes.write(f"{what} {crate}\\n")
 
+def is_held():
+    with open(os.path.join(top, "held")) as held:
+        return crate in held.read().split()
+
 if os.path.basename(os.getcwd()) != crate:
     sys.exit(f"{crate} is not in this folder")
 for name, _, place in [word.partition("=") for at, word in enumerate(words) if words[at - 1] == "--extern"]:
@@ -43,7 +50,8 @@ if "unproved" in open("src/lib.rt").read():
     print("error: the clause `sorted` is not proved\\nlogic=not-proved")
     sys.exit(1)
 note("begins")
-time.sleep(float(open(os.path.join(top, "seconds")).read()))
+while is_held():
+    time.sleep(0.01)
 if "--statements" in words:
     os.makedirs(made)
     made = os.path.join(made, "kept")
@@ -60,6 +68,7 @@ with open(made, "w") as program:
     program.write('#!/bin/sh\\nprintf "%s." "$@"; cat; echo to errors >&2; exit 7\\n')
 os.chmod(made, 0o755)
 """
+WAITS = "pq: another call is building the program; waiting for it\n"
 # What `./pq` runs besides the toolchain.
 TOOLS = ["sh", "cat", "dirname", "find", "python3", "readlink"]
 
@@ -73,13 +82,13 @@ def heard():
 class Copy:
     """A copy of what the first call reads, in a folder, with the stand-in for the toolchain."""
 
-    def __init__(self, folder, seconds):
+    def __init__(self, folder):
         self.folder = folder
         os.makedirs(self.path("scripts"))
         shutil.copy(os.path.join(HOME, "pq"), self.path("pq"))
         shutil.copy(os.path.join(HOME, "scripts", "build.py"), self.path("scripts", "build.py"))
         self.write("crates.txt", LISTED)
-        self.write("seconds", str(seconds))
+        self.hold()
         self.write("notes", "")
         for name in CRATES:
             os.makedirs(self.path("crates", name, "src"))
@@ -104,6 +113,10 @@ class Copy:
         """Writes the source of a crate."""
         self.write(os.path.join("crates", crate, "src", "lib.rt"), text)
 
+    def hold(self, *crates):
+        """Has the stand-in stay at these crates, and at no other."""
+        self.write("held", " ".join(crates))
+
     def notes(self):
         """What the stand-in noted so far."""
         with open(self.path("notes"), encoding="utf-8") as stream:
@@ -115,13 +128,13 @@ class Copy:
 
     def start_as(self, command):
         """A command that is begun, by which only the tools of the folder are found."""
-        return subprocess.Popen(command, env={**os.environ, "PATH": self.path("bin")}, stdin=subprocess.PIPE, stdout=subprocess.PIPE,
-                                stderr=subprocess.PIPE, start_new_session=True, preexec_fn=heard)
+        return subprocess.Popen(command, bufsize=0, env={**os.environ, "PATH": self.path("bin")}, stdin=subprocess.PIPE,
+                                stdout=subprocess.PIPE, stderr=subprocess.PIPE, start_new_session=True, preexec_fn=heard)
 
-    def wait_for(self, note):
-        """Waits until the stand-in has noted this."""
+    def wait_for(self, *notes):
+        """Waits until the stand-in has noted all of these."""
         end = time.monotonic() + SECONDS
-        while note not in self.notes() and time.monotonic() < end:
+        while not set(notes) <= set(self.notes()) and time.monotonic() < end:
             time.sleep(0.01)
 
     def works_on(self):
@@ -169,29 +182,33 @@ def once_problem(copy):
 def from_nothing(copy):
     """A first call tells each crate, builds two side by side, and runs the program; a second one runs it at once."""
     words = ["solve", "a b", "", os.fsdecode(b"\xff")]
-    given = ended(copy.start(*words))
-    notes = copy.notes()
-    side_by_side = len(os.sched_getaffinity(0)) == 1 or max(notes.index("begins left"), notes.index("begins right")) < min(
-        notes.index("ends left"), notes.index("ends right"))
+    if build.processors() > 1:
+        copy.hold("left", "right")
+    call = copy.start(*words)
+    if build.processors() > 1:
+        copy.wait_for("begins left", "begins right")
+    both = copy.works_on()
+    copy.hold()
+    given = ended(call)
     again = ended(copy.start("-"))
     return (answer_problem(given, words) or begun_problem(given[2], words) or told_problem(given[2], CRATES) or once_problem(copy)
-            or (None if side_by_side else f"one after another: {notes}")
+            or (None if build.processors() == 1 or both == ["left", "right"] else f"one after another: {copy.notes()}")
             or (None if again == (7, b"-.in", "to errors\n") else f"the second call: {again}"))
 
 
 def interrupted(number, is_whole_group, copy):
     """A call that is ended by a signal while it builds, and then a second one, which goes on."""
+    copy.hold("left", "right")
     first = copy.start("a")
-    copy.wait_for("ends low")
-    copy.wait_for("begins right")
+    copy.wait_for("ends low", "begins right")
     (os.killpg if is_whole_group else os.kill)(first.pid, number)
     status, output, errors = ended(first)
-    left = copy.works_on() if number != signal.SIGKILL else []
+    copy.hold()
     second = ended(copy.start("a"))
     wanted = -signal.SIGKILL if number == signal.SIGKILL else 130
     return ((None if (status, output) == (wanted, b"") else f"the first call: {status} {output} {errors}")
             or (None if number == signal.SIGKILL or errors.endswith("pq: stopped; the next call goes on from here\n") else errors)
-            or (None if not copy.works_on() else f"at work after both calls: {left}, {copy.works_on()}")
+            or (None if not copy.works_on() else f"at work after both calls: {copy.works_on()}")
             or answer_problem(second, "a") or left_problem(second[2]) or twice_problem(copy, ["low"]))
 
 
@@ -207,33 +224,42 @@ def twice_problem(copy, done):
     return f"done twice: {begun}" if begun else once_problem(copy)
 
 
+def one_waits(copy):
+    """Two calls, of which the first is at work on a crate where it is held, and the second has said on a line, which is given, that it waits."""
+    copy.hold("low")
+    first = copy.start("a")
+    copy.wait_for("begins low")
+    second = copy.start("b")
+    return first, second, second.stderr.readline().decode()
+
+
 def two_at_once(copy):
     """Two first calls at the same time: each crate is proved once, and both run the program on their own words."""
-    calls = [copy.start("a"), copy.start("b")]
-    given = [ended(call) for call in calls]
-    waits = "pq: another call is building the program; waiting for it\n"
+    first, second, line = one_waits(copy)
+    copy.hold()
+    given = [ended(first), ended(second)]
     return (answer_problem(given[0], "a") or answer_problem(given[1], "b") or once_problem(copy)
             or (None if copy.notes().count("begins low") == 1 else f"{copy.notes()}")
-            or (None if sorted(waits in errors for _, _, errors in given) == [False, True] else f"{given}"))
+            or (None if line == WAITS and WAITS not in given[0][2] else f"{line} {given}"))
 
 
 def first_of_two_killed(copy):
     """A call that waits for another one builds the program itself where that one is killed."""
-    first = copy.start("a")
-    copy.wait_for("begins low")
-    second = copy.start("b")
-    time.sleep(0.2)
+    first, second, line = one_waits(copy)
     os.kill(first.pid, signal.SIGKILL)
     ended(first)
+    copy.hold()
     given = ended(second)
-    return answer_problem(given, "b") or once_problem(copy)
+    return answer_problem(given, "b") or once_problem(copy) or (None if line == WAITS else line)
 
 
 def not_proved(copy):
     """A crate that is not proved is named after the prover's own words; once it is mended the next call goes on."""
     copy.write_source("right", "unproved\n")
+    copy.hold("left")
     status, output, errors = ended(copy.start("a"))
     copy.write_source("right", "right\n")
+    copy.hold()
     second = ended(copy.start("a"))
     tail = "error: the clause `sorted` is not proved\nlogic=not-proved\npq: the crate right could not be proved and built\n"
     return ((None if (status, output) == (70, b"") and errors.endswith(tail) else f"{status} {output} {errors}")
@@ -253,9 +279,11 @@ def edited(copy):
 
 def edited_meanwhile(copy):
     """A source that changes while the call builds is proved by the next call."""
+    copy.hold("right")
     first = copy.start("a")
     copy.wait_for("begins right")
     copy.write_source("low", "low again\n")
+    copy.hold()
     ended(first)
     given = ended(copy.start("a"))
     return answer_problem(given, "a") or told_problem(given[2], CRATES)
@@ -302,24 +330,23 @@ def named(check):
 
 
 def checks():
-    """Each check, with its name and the seconds that the stand-in takes for a crate."""
-    for check, seconds in [(from_nothing, 0.5), (two_at_once, 0.3), (first_of_two_killed, 0.3), (not_proved, 0.2), (edited, 0), (edited_meanwhile, 0.2), (no_toolchain, 0),
-                           (no_folder, 0), (elsewhere, 0)]:
-        yield named(check), check, seconds
+    """Each check, with its name."""
+    for check in [from_nothing, two_at_once, first_of_two_killed, not_proved, edited, edited_meanwhile, no_toolchain, no_folder, elsewhere]:
+        yield named(check), check
     for number in (signal.SIGINT, signal.SIGTERM, signal.SIGHUP, signal.SIGKILL):
         for is_whole_group in (False, True):
             name = f"{number.name} to {'the group of the call' if is_whole_group else 'the call alone'}"
-            yield name, lambda copy, given=(number, is_whole_group): interrupted(*given, copy), 0.3
+            yield name, lambda copy, given=(number, is_whole_group): interrupted(*given, copy)
     for number, stream in enumerate(["standard input", "standard output", "standard error"]):
-        yield f"{stream} is closed", lambda copy, number=number: closed(number, copy), 0
+        yield f"{stream} is closed", lambda copy, number=number: closed(number, copy)
 
 
 def problems():
     """Each check with what is wrong, or None."""
-    for name, check, seconds in checks():
+    for name, check in checks():
         with tempfile.TemporaryDirectory() as folder:
             try:
-                problem = check(Copy(os.path.join(folder, "copy"), seconds))
+                problem = check(Copy(os.path.join(folder, "copy")))
             except subprocess.TimeoutExpired:
                 problem = f"no end within {SECONDS} seconds"
         yield f"first call: {name}", problem
