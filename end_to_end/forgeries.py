@@ -25,10 +25,11 @@ import all_kinds
 from checker import judgement, read_instance
 from file_readers import Limits, Refused, read_further
 from forger import NUMBER, forgeries_of, replaced
+from hostile import pace
 from odd_files import ENTRIES, odd_files, odd_further
 from program import run
 
-# What the forgeries have to be at the least, of so many kinds, and how many seconds they may take of each processor.
+# What the forgeries have to be at the least, of so many kinds, and how many seconds they may take of each processor, where these are quick.
 LEAST_FORGERIES = 20_000
 KINDS = 9
 MOST_SECONDS = 120
@@ -269,7 +270,7 @@ def told(forged, seconds):
           f"{share:.0f} of each of {os.cpu_count()} processors", flush=True)
     if number < LEAST_FORGERIES or len(kinds) < KINDS:
         return f"{number} forgeries of {len(kinds)} kinds"
-    return None if share <= MOST_SECONDS else f"{share:.0f} seconds of each processor"
+    return None if share <= MOST_SECONDS * pace() else f"{share:.0f} seconds of each processor"
 
 
 def compared_forgeries(pool, limits):

@@ -10,6 +10,7 @@ A text of a core may be as long as twelve verdicts. Those of the greatest length
 a front, for which the disk keeps no bytes. The full ones have the length of a verdict.
 """
 
+import functools
 import itertools
 import os
 import random
@@ -28,6 +29,9 @@ COLUMNS = 2_048
 MOST_ROWS = 131_072
 # The columns of the rows that are all alike: with the line's end 128 bytes, so that as many rows as there may be fill a file.
 ALIKE = 127
+# Bounds in seconds are for a processor on which this loop of Python takes so long; a slower one has more time.
+LOOP = "for turn in range(5_000_000): pass"
+LOOP_SECONDS = 0.2
 MOST_SECONDS = 5
 # How much longer twice as much may take.
 MOST_GROWTH = 2.2
@@ -36,6 +40,8 @@ MOST_GROWTH = 2.2
 RING_SECONDS = 2
 MOST_SOLVES = 3
 START_SECONDS = 0.02
+# Where two times are compared, each is the least of so many: what else the machine does makes a run dearer, and none cheaper.
+TRIES = 3
 MOST_TIMES = 12
 # The program, the C library and the room for one read, or the small program that starts it.
 BASE_BYTES = 16 << 20
@@ -226,7 +232,7 @@ class Cost(NamedTuple):
 
     def problem(self, length, beside):
         """What is wrong with the cost of a run over so many bytes, or None."""
-        if self.seconds > MOST_SECONDS:
+        if self.seconds > MOST_SECONDS * pace():
             return f"{self.seconds:.1f} seconds of the processor"
         return None if self.peak <= beside + MOST_TIMES * length else f"{self.peak} bytes at the peak for {length}"
 
@@ -238,18 +244,35 @@ def write_whole(file, content):
         stream.truncate(len(content))
 
 
-def measured(words, content, given=None):
-    """A run of the program over a file as its last word: its status, its output, its errors, and its cost. Of `meet` the first tree stands on standard
-    input, of other commands a matrix."""
-    given = given or {"meet": TREE, "check-core": FOUR}.get(words[0], MATRIX)
+def run_measured(command, given=b""):
+    """A run of a command: its status, its output, its errors, and its cost."""
     with tempfile.TemporaryDirectory() as folder:
-        file, cost = os.path.join(folder, "file"), os.path.join(folder, "cost")
-        write_whole(file, content)
-        done = subprocess.run([sys.executable, "-IS", COST, cost, str(4 * MOST_SECONDS), PROGRAM, *words, file], input=given, capture_output=True,
-                              check=False)
+        cost = os.path.join(folder, "cost")
+        done = subprocess.run([sys.executable, "-IS", COST, cost, str(12 * MOST_SECONDS), *command], input=given, capture_output=True, check=False)
         with open(cost, encoding="utf-8") as stream:
             status, seconds, peak = stream.read().split()
     return (int(status), done.stdout, done.stderr), Cost(float(seconds), int(peak))
+
+
+@functools.cache
+def pace():
+    """How many times as long as on the processor that the bounds are for a loop takes here; at least 1."""
+    seconds = min(run_measured([sys.executable, "-IS", "-c", LOOP])[1].seconds for _ in range(TRIES))
+    return max(1.0, seconds / LOOP_SECONDS)
+
+
+def measured(words, content, given=None):
+    """A run of the program over a file as its last word. Of `meet` the first tree stands on standard input, of other commands a matrix."""
+    given = given or {"meet": TREE, "check-core": FOUR}.get(words[0], MATRIX)
+    with tempfile.TemporaryDirectory() as folder:
+        file = os.path.join(folder, "file")
+        write_whole(file, content)
+        return run_measured([PROGRAM, *words, file], given)
+
+
+def least_measured(words, content, given=None):
+    """The run that took the least time of some."""
+    return min((measured(words, content, given) for _ in range(TRIES)), key=lambda run: run[1].seconds)
 
 
 def rows_alike(count):
@@ -268,7 +291,7 @@ def many_orders_problem():
     seconds = []
     for count in (MOST_ROWS // 2, MOST_ROWS):
         matrix, text = rows_alike(count)
-        given, cost = measured(["check-core", "matrix", "-"], text, matrix)
+        given, cost = least_measured(["check-core", "matrix", "-"], text, matrix)
         print(f"a core of {count} rows that are all alike: {cost.seconds:.2f} seconds, {cost.peak} bytes at the peak for {len(matrix)} and {len(text)}", flush=True)
         problem = difference(given, (1, b"invalid join 1\n", b"")) or cost.problem(len(matrix) + len(text), BASE_BYTES)
         if problem:
@@ -304,17 +327,17 @@ def core_count(given):
 
 def ring_problem():
     """What is wrong with the core of a ring, or with how long it takes, or None."""
-    given, cost = measured(["core", "rows"], ring())
+    given, cost = least_measured(["core", "rows"], ring())
     print(f"core of a ring of {COLUMNS} columns: {cost.seconds:.2f} seconds, {cost.peak} bytes at the peak", flush=True)
     if core_count(given) != COLUMNS:
         return f"{given[0]}, {given[1][:100]}"
-    return None if cost.seconds <= RING_SECONDS else f"{cost.seconds:.2f} seconds"
+    return None if cost.seconds <= RING_SECONDS * pace() else f"{cost.seconds:.2f} seconds, and the processor takes {pace():.1f} times as long as a quick one"
 
 
 def late_problem(what, content):
     """What is wrong with the core of rows of which the last three contradict one another, or with how long it takes, or None."""
-    given, cost = measured(["core", "rows"], content)
-    _, solved = measured(["solve", "rows"], content)
+    given, cost = least_measured(["core", "rows"], content)
+    _, solved = least_measured(["solve", "rows"], content)
     print(f"core of {what}: {cost.seconds:.2f} seconds, and {solved.seconds:.2f} to solve them, {cost.peak} bytes at the peak for {len(content)}", flush=True)
     if core_count(given) != 3:
         return f"{given[0]}, {given[1][:100]}"
