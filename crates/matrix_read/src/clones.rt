@@ -6,10 +6,11 @@ ghost use Rattle.column_order.specs.Orders.{has};
 ghost use Rattle.matrix_read.specs.Clones.{is_probe, column_of, names_code, clones};
 ghost use Rattle.matrix_read.specs.CloneNames.{names_view, clones_view, list_view, row_of_clone, names_matrix, matrix_of_names, matrix_named};
 ghost use Rattle.matrix_read.specs.CloneRows.{CloneLaw};
+ghost use Rattle.matrix_read.specs.Marks.{AreMarkedColumns};
 ghost use Rattle.matrix_read.specs.Names.{has_twice, bytes_of};
 
 use crate::clone_names::{CloneNames, names_in};
-use crate::rows::{refused, take_marked};
+use crate::rows::{mark_column, refused, take_listed};
 use indexmap::IndexSet;
 use json::Scratch;
 use row_model::{MAX_COLUMNS, MAX_FILE_BYTES, MAX_ROWS, Matrix, NoMemory, Read, code};
@@ -34,6 +35,7 @@ use text_lines::without_mark;
 /// # Errors
 ///
 /// [`NoMemory`] where memory is refused.
+#[inline(never)]
 pub fn read_clones(alloc: Global, bytes: &[u8]) -> Result<Read<Matrix>, NoMemory>
     ensures { IfOk result (λ read. read ≡ clones bytes.now) }
 {
@@ -173,25 +175,36 @@ fn row_in(
     let Some(list) = clone else {
         return Err(code::SHAPE);
     };
-    mark_names(list, names, marks)?;
-    Ok(take_marked(marks, columns))
+    let count = mark_names(list, names, marks, columns)?;
+    Ok(take_listed(marks, columns, count))
 }
 
-// Marks the column of each string. Column 1 has the first mark. The error is the code of a string that is no probe.
-fn mark_names(list: &[&str], names: &IndexSet<&str>, marks: &mut [bool]) -> Result<(), u8>
+// Marks the column of each string, and puts it at the front of `columns`, once each, as they come. Column 1 has the
+// first mark. The value is how many there are, and the error is the code of a string that is no probe.
+fn mark_names(
+    list: &[&str],
+    names: &IndexSet<&str>,
+    marks: &mut [bool],
+    columns: &mut [u32],
+) -> Result<usize, u8>
+    requires small { length names.now.keys ≤ MAX_COLUMNS }
     requires marks { length marks.old ≡ length names.now.keys }
     requires clear { (j : ℕ) → slice_index_or marks.old j false ≡ false }
+    requires room { length marks.old ≤ length columns.old }
     ensures refused { IfErr result (λ code. (code ≡ RANGE) × (list_all (is_probe (bytes_of names.now.keys)) (bytes_of list.now) ≡ false)) }
     ensures named { OnOk result (list_all (is_probe (bytes_of names.now.keys)) (bytes_of list.now) ≡ true) }
     ensures marks { OnOk result ((j : ℕ) → j < length marks.old → slice_index_or marks.new j false ≡ has (map (column_of (bytes_of names.now.keys)) (bytes_of list.now)) (j + 1)) }
+    ensures listed { IfOk result (λ count. AreMarkedColumns marks.new (take count columns.new)) }
+    ensures within { IfOk result (λ count. count ≤ length columns.new) }
 {
+    let mut count = 0;
     for place in 0..list.len() {
         match names.get_index_of(name_at(list, place)) {
             None => return Err(code::RANGE),
-            Some(index) => marks[index] = true,
+            Some(index) => count = mark_column(index + 1, marks, columns, count),
         }
     }
-    Ok(())
+    Ok(count)
 }
 
 /// The law of [`read_clones`]: a file within the limits is read as a matrix exactly where the value of its bytes is one

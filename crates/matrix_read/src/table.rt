@@ -39,6 +39,7 @@ use std::alloc::Global;
 /// # Errors
 ///
 /// [`NoMemory`] where memory is refused.
+#[inline(never)]
 pub fn read_table(alloc: Global, bytes: &[u8]) -> Result<Read<Matrix>, NoMemory>
     ensures { IfOk result (λ read. read ≡ table bytes.now) }
 {

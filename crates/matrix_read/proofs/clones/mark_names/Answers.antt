@@ -1,4 +1,4 @@
-use Rattle.std.proofs.Common.{◌≡◌, ◌∷◌, ◌+◌, ◌<◌, ◌||◌, ◌&&◌, sym, ◌∙◌, ap, true, false, drop, map, get_or, length, List, ℕ, refl, arith}
+use Rattle.std.proofs.Common.{◌≡◌, ◌∷◌, ◌+◌, ◌-◌, ◌<◌, ◌||◌, ◌&&◌, sym, ◌∙◌, ap, true, false, drop, map, get_or, length, List, ℕ, refl, arith}
 use Rattle.std.specs.List.{list_all}
 use Rattle.std.specs.Str.{bytes_eq}
 use Rattle.column_order.specs.Orders.{has}
@@ -30,7 +30,11 @@ loop-place-preserved c =
     let column : index + 1 ≡ column_of probes name = column_found c.args.names.now.keys name index (sym c.in-Some.ensures.index) in
     let before : (j : ℕ) → j < length c.args.marks.now → (get_or c.loop-place.marks j false || has ((index + 1) ∷ map (column_of probes) rest) (j + 1)) ≡ has (map (column_of probes) whole) (j + 1) =
     λ j lt. ap (λ (ns : List ℕ). get_or c.loop-place.marks j false || has ns (j + 1)) (ap (λ n. n ∷ map (column_of probes) rest) column ∙ ap (map (column_of probes)) (sym step)) ∙ c.loop-place.invariant.marks j lt in
+    let same : length c.loop-place.marks ≡ length c.args.marks.now = c.loop-place.auto.marks in
+    let back : index + 1 - 1 ≡ index = omega arith in
     record {
       named = sym (ap (list_all (is_probe probes)) step ∙ ap (λ b. b && list_all (is_probe probes) rest) known) ∙ c.loop-place.invariant.named;
-      marks = mark_step c.loop-place.marks index (length c.args.marks.now) (map (column_of probes) rest) (map (column_of probes) whole) (omega (arith, c.in-Some.ensures.within, c.loop-place.auto.marks, c.requires.marks)) before;
+      marks = rw (c.mark_column-count.ensures.marks, back) (mark_step c.loop-place.marks index (length c.args.marks.now) (map (column_of probes) rest) (map (column_of probes) whole) (omega (arith, c.in-Some.ensures.within, c.loop-place.auto.marks, c.requires.marks)) before);
+      listed = c.mark_column-count.ensures.listed;
+      few = omega (arith, c.mark_column-count.ensures.within, same);
     }

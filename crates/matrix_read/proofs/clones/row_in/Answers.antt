@@ -18,9 +18,9 @@ returns-clause-row c =
     let numbers = map (column_of probes) (bytes_of list) in
     let same : length marks ≡ length c.args.marks.now = c.mark_names.auto.marks in
     let width : length marks ≡ length probes = same ∙ c.requires.marks ∙ sym (length-bytes keys) in (
-      ap (names_code probes) view ∙ ap (λ (b : Bool). if b then None else Some RANGE) c.in_ok-mark_names.ensures.named,
-      c.take_marked.ensures.columns
-          ∙ marked_is marks numbers (λ j lt. c.in_ok-mark_names.ensures.marks j (rw same at lt))
+      ap (names_code probes) view ∙ ap (λ (b : Bool). if b then None else Some RANGE) c.in_ok-count.ensures.named,
+      c.take_listed.ensures.columns
+          ∙ marked_is marks numbers (λ j lt. c.in_ok-count.ensures.marks j (rw same at lt))
           ∙ ap (λ n. columns_among n numbers) width
           ∙ sym (ap (row_of_clone probes) view),
     )
