@@ -19,7 +19,7 @@ use Rattle.order_list.proofs.Readings.{lists_read, tree_head, arities_at}
 use Rattle.order_list.proofs.Taking.{IsSplit, p_split, p_joined, q_ways, q_turned}
 
 -- a leaf
-begins_leaf : (a y : ℕ) → CanBegin (leaf a) y → y ≡ a
+pub begins_leaf : (a y : ℕ) → CanBegin (leaf a) y → y ≡ a
 begins_leaf a y b =
     let e : y ∷ b.0 ≡ a ∷ [] = b.1 in
     (cc)
@@ -54,7 +54,7 @@ least_either P Q from (Some x) (Some z) h k =
     ]
 
 -- one tree more
-one_more : (ts : List Outline) (i y : ℕ) → OneBegins ts (i + 1) y → OneBegins ts i y ⊎ CanBegin (tree_at ts i) y
+pub one_more : (ts : List Outline) (i y : ℕ) → OneBegins ts (i + 1) y → OneBegins ts i y ⊎ CanBegin (tree_at ts i) y
 one_more ts i y (k, l, b) =
     elim (cases_lt k i) [
       | inl m ↦ inl (k, m, b)
@@ -99,7 +99,7 @@ next_more ts i from (Some next) (Some x) h k =
     ]) refl
 
 -- the outline of a tree at a place
-at_place : {A : Type 0} (F : A → Outline) (ts : List A) (i : ℕ) (t : A) → i < length ts → t ≡ get_or ts i t → tree_at (map F ts) i ≡ F t
+pub at_place : {A : Type 0} (F : A → Outline) (ts : List A) (i : ℕ) (t : A) → i < length ts → t ≡ get_or ts i t → tree_at (map F ts) i ≡ F t
 at_place F [] i t l e = absurd (omega arith)
 at_place F (u ∷ ts) zero t l e = ap F (sym e)
 at_place F (u ∷ ts) (suc i) t l e = at_place F ts i t (omega arith) e
@@ -117,7 +117,7 @@ p_begins ts y n h b =
     let head = tree_head (tree_at ts s.k) s.front s.rest b.0 y (arities_at ts s.k h s.inside) s.first (sym s.whole) in
     (s.k, s.inside, (head.0, subst (IsFrontier (tree_at ts s.k)) head.1 s.first))
 
-begins_p : (ts : List Outline) (y : ℕ) → OneBegins ts (length ts) y → CanBegin (p_node (forest ts)) y
+pub begins_p : (ts : List Outline) (y : ℕ) → OneBegins ts (length ts) y → CanBegin (p_node (forest ts)) y
 begins_p ts y r =
     let others = p_node (forest (remove ts r.0)) in
     let b : CanBegin (tree_at ts r.0) y = r.2 in
@@ -166,7 +166,7 @@ q_begins ts y n h k b =
       | inr r ↦ inr (subst (λ t. CanBegin t y) (last_first ts n) (reads_begin (reverse ts) y b.0 (omega (arith, n, length-reverse {A = Outline})) k r))
     ]
 
-begins_q : (ts : List Outline) (y : ℕ) → 1 ≤ length ts → CanBegin (tree_at ts 0) y ⊎ CanBegin (tree_at ts (length ts - 1)) y → CanBegin (q_node (forest ts)) y
+pub begins_q : (ts : List Outline) (y : ℕ) → 1 ≤ length ts → CanBegin (tree_at ts 0) y ⊎ CanBegin (tree_at ts (length ts - 1)) y → CanBegin (q_node (forest ts)) y
 begins_q ts y n h =
     elim h [
       | inl b ↦ begins_first ts y n b

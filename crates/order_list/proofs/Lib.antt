@@ -3,6 +3,9 @@ pub mod Readings
 pub mod Taking
 pub mod Begins
 pub mod Children
+pub mod LeastFirst
+pub mod Ways
+pub mod Turned
 pub mod Gaining
 pub mod Links
 pub mod Steps

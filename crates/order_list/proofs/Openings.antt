@@ -1,21 +1,26 @@
 -- The links of the walk, opened one by one: what is read, the trees, and the weight.
-use Rattle.std.proofs.Common.{◌≡◌, ◌∙◌, ◌+◌, ◌-◌, ◌*◌, ◌<◌, ◌≤◌, ℕ, List, [], ◌∷◌, ◌++◌, map, reverse, length, get_or, remove, take, drop, Bor, refl, sym, ap, subst, inl, inr, arith}
+use Rattle.std.proofs.Common.{◌≡◌, ◌∙◌, ◌+◌, ◌-◌, ◌*◌, ◌<◌, ◌≤◌, ◌⊎◌, ℕ, List, [], ◌∷◌, ◌++◌, map, reverse, length, get_or, remove, take, drop, Bor, refl, sym, ap, subst, inl, inr, arith}
 use Rattle.std.specs.List.{IsFirstAndRest, IsLastAndRest}
-use Rattle.std.proofs.lemmas.List.{length-map, length-reverse, map-append, reverse-append}
+use Rattle.std.proofs.lemmas.List.{length-map, length-reverse, map-append, reverse-append, take_all}
 use Rattle.pq_tree.specs.Outline.{Outline, leaf, p_node, q_node, no_tree}
 use Rattle.pq_tree.specs.Proper.{outline_of, forest, AreTrees}
 use Rattle.pq_tree.specs.declared.Tree.{Tree}
 use Rattle.order_list.specs.Coming.{outlines, coming_trees, trees_within}
 use Rattle.order_list.specs.Gains.{from_column}
 use Rattle.order_list.specs.Reading.{Reads, CanBegin, tree_at}
+use Rattle.order_list.specs.Low.{StandsLow, StandLow}
+use Rattle.order_list.specs.Ways.{Leads}
 use Rattle.order_list.specs.Weights.{weight, weights, weight_within}
 use Rattle.order_list.specs.declared.walk.Bag.{Bag}
 use Rattle.order_list.specs.declared.walk.Coming.{Coming, InAnyOrder, Forwards, Backwards}
-use Rattle.order_list.proofs.Begins.{outline_at, q_begins}
-use Rattle.order_list.proofs.Children.{q_counts}
+use Rattle.order_list.proofs.Begins.{outline_at}
+use Rattle.order_list.proofs.Children.{q_counts, child_arities, outlines_length}
+use Rattle.order_list.proofs.Readings.{arities_at}
+use Rattle.order_list.proofs.Ways.{leads_begin, p_parted, q_parted}
+use Rattle.order_list.proofs.LeastFirst.{low_at, low_removed, low_joined, low_reversed, low_same}
 use Rattle.order_list.proofs.Links.{trees-InAnyOrder, within-InAnyOrder, weight-InAnyOrder, trees-Forwards, within-Forwards, weight-Forwards, trees-Backwards, within-Backwards, weight-Backwards}
 use Rattle.order_list.proofs.Steps.{SameSet, same_taken, same_q, same_q_turned, first_child, last_child, weights_taken, weights_reverse}
-use Rattle.order_list.proofs.Taking.{sound_left, sound_p, sound_q, sound_turned, sound_taken as sound_of_taken, sound_same, reverse_arities}
+use Rattle.order_list.proofs.Taking.{sound_left, sound_p, sound_q, sound_turned, sound_taken as sound_of_taken, sound_same}
 
 two : (u : Outline) → 2 ≤ weight u
 two (leaf a) = omega arith
@@ -42,6 +47,37 @@ module _ (ts : List Outline) (k : ℕ) (u : Outline) (bag : Bag) (rest : Bor Com
       same_taken ts (coming_trees rest.now) (coming_trees (InAnyOrder bag rest)) k x u (sound_left ts (trees_within rest.now) sound) l b at
       (trees-InAnyOrder bag rest ∙ ap (λ us. p_node (forest us) ∷ coming_trees rest.now) is)
 
+  pub taken_low : StandLow (forest (p_node (forest ts) ∷ coming_trees rest.now)) → StandLow (forest (u ∷ coming_trees (InAnyOrder bag rest)))
+  taken_low low =
+      low_same (tree_at ts k ∷ p_node (forest (remove ts k)) ∷ coming_trees rest.now) (u ∷ coming_trees (InAnyOrder bag rest))
+      (ap (λ v. v ∷ p_node (forest (remove ts k)) ∷ coming_trees rest.now) at ∙ ap (λ us. u ∷ p_node (forest us) ∷ coming_trees rest.now) (sym is) ∙ ap (λ us. u ∷ us) (sym (trees-InAnyOrder bag rest)))
+      (low_at ts k low.0.1 l, (low_removed ts k l low.0, low.1))
+
+-- the tree of a bag to which a way leads
+module _ (trees : List (Bor Tree)) (ps : List ℕ) (x : ℕ) (H : List Outline) (way : Leads (reverse ps) (p_node (forest (outlines trees))) x) (sound : AreTrees (forest (outlines trees ++ H))) where
+  abbrev place : ℕ
+  place = get_or ps (length ps - 1) 0
+
+  step : (place < length (outlines trees)) × Leads (reverse (take (length ps - 1) ps)) (tree_at (outlines trees) place) x
+  step = p_parted ps (outlines trees) x place (take (length ps - 1) ps) refl refl way
+
+  pub step_inside : place < length (outlines trees)
+  step_inside = step.0
+
+  pub step_place : place < length trees
+  step_place = omega (arith, step.0, outlines_length trees)
+
+  pub step_begins : CanBegin (tree_at (outlines trees) place) x
+  step_begins = leads_begin (reverse (take (length ps - 1) ps)) (tree_at (outlines trees) place) x (arities_at (outlines trees) place (sound_left (outlines trees) H sound).0 step.0) step.1
+
+  pub step_leads : (u : Outline) → tree_at (outlines trees) place ≡ u → Leads (reverse (take (length ps - 1) ps)) u x
+  step_leads u at = subst (λ v. Leads (reverse (take (length ps - 1) ps)) v x) at step.1
+
+-- the trees behind the first
+pub outlines_behind : (ts : List (Bor Tree)) → 1 ≤ length ts → outlines (take (length ts - 1) (drop 1 ts)) ≡ remove (outlines ts) 0
+outlines_behind [] n = absurd (omega arith)
+outlines_behind (t ∷ ts) n = ap outlines (take_all (length (t ∷ ts) - 1) ts (omega arith))
+
 -- the children of a P-node as a bag
 pub bag_sound : (u : Outline) (ts bag H : List Outline) → u ≡ p_node (forest ts) → bag ≡ ts → AreTrees (forest (u ∷ H)) → AreTrees (forest (bag ++ H))
 bag_sound u ts bag H e is sound =
@@ -58,16 +94,33 @@ module _ (u : Outline) (ts : List Tree) (rest : Bor Coming) (x : ℕ) (e : u ≡
   children_sound : AreTrees (forest (map outline_of ts))
   children_sound = sound_left (map outline_of ts) (trees_within rest.now) whole_sound
 
-  -- where the first child does not begin with the column, the last does
-  pub last_begins : (t v : Tree) → t ≡ get_or ts 0 t → v ≡ get_or ts (length ts - 1) v → (CanBegin (outline_of t) x → ⊥) → CanBegin u x → CanBegin (outline_of v) x
-  last_begins t v at last not b =
-      let us : List Outline = map outline_of ts in
-      let n : length us ≡ length ts = length-map ts outline_of in
-      let h = (q_counts u us e sound.0.0).1 in
-      elim (q_begins us x (omega (arith, many, n)) h (reverse_arities us h) (subst (λ w. CanBegin w x) e b)) [
-        | inl f ↦ absurd (not (subst (λ w. CanBegin w x) (outline_at ts 0 t (omega (arith, many)) at) f))
-        | inr l ↦ subst (λ w. CanBegin w x) (ap (λ k. tree_at us (k - 1)) n ∙ outline_at ts (length ts - 1) v (omega (arith, many)) last) l
-      ]
+  children_low : StandLow (forest (u ∷ coming_trees rest.now)) → StandLow (forest (map outline_of ts))
+  children_low low = (subst StandsLow e low.0).1
+
+  module _ (ps : List ℕ) (way : Leads (reverse ps) u x) where
+    abbrev end : ℕ
+    end = get_or ps (length ps - 1) 0
+
+    down : ((end ≡ 0) ⊎ (end + 1 ≡ length (map outline_of ts))) × Leads (reverse (take (length ps - 1) ps)) (tree_at (map outline_of ts) end) x
+    down = q_parted ps (map outline_of ts) x end (take (length ps - 1) ps) refl refl (subst (λ v. Leads (reverse ps) v x) e way)
+
+    pub forward_leads : (t : Tree) → t ≡ get_or ts 0 t → end ≡ 0 → Leads (reverse (take (length ps - 1) ps)) (outline_of t) x
+    forward_leads t at z =
+        subst (λ v. Leads (reverse (take (length ps - 1) ps)) v x) (ap (tree_at (map outline_of ts)) z ∙ outline_at ts 0 t (omega (arith, many)) at) down.1
+
+    pub backward_leads : (t : Tree) → t ≡ get_or ts (length ts - 1) t → (end ≡ 0 → ⊥) → Leads (reverse (take (length ps - 1) ps)) (outline_of t) x
+    backward_leads t at not =
+        let last : end ≡ length ts - 1 = elim down.0 [ inl z ↦ absurd (not z) | inr z ↦ omega (arith, z, length-map ts outline_of) ] in
+        subst (λ v. Leads (reverse (take (length ps - 1) ps)) v x) (ap (tree_at (map outline_of ts)) last ∙ outline_at ts (length ts - 1) t (omega (arith, many)) at) down.1
+
+  pub child_begins : (i : ℕ) (t : Tree) (ks : List ℕ) → i < length ts → t ≡ get_or ts i t → Leads ks (outline_of t) x → CanBegin (outline_of t) x
+  child_begins i t ks l at w = leads_begin ks (outline_of t) x (child_arities ts i t (q_counts u (map outline_of ts) e sound.0.0).1 l at) w
+
+  pub some_child : 0 < length ts
+  some_child = omega (arith, many)
+
+  pub last_child_inside : length ts - 1 < length ts
+  last_child_inside = omega (arith, many)
 
   module _ (t : Tree) (part : Bor (List Tree)) (at : t ≡ get_or ts 0 t) (cut : part.now ≡ take (length ts - 1) (drop 1 ts)) (b : CanBegin (outline_of t) x) where
     forward_split : map outline_of ts ≡ outline_of t ∷ map outline_of part.now
@@ -83,6 +136,12 @@ module _ (u : Outline) (ts : List Tree) (rest : Bor Coming) (x : ℕ) (e : u ≡
     forward_sound =
         sound_same (map outline_of ts ++ trees_within rest.now) (outline_of t ∷ trees_within (Forwards part rest))
         (ap (λ us. us ++ trees_within rest.now) forward_split ∙ ap (λ us. outline_of t ∷ us) (sym (within-Forwards part rest))) whole_sound
+
+    pub forward_low : StandLow (forest (u ∷ coming_trees rest.now)) → StandLow (forest (outline_of t ∷ coming_trees (Forwards part rest)))
+    forward_low low =
+        low_same (map outline_of ts ++ coming_trees rest.now) (outline_of t ∷ coming_trees (Forwards part rest))
+        (ap (λ us. us ++ coming_trees rest.now) forward_split ∙ ap (λ us. outline_of t ∷ us) (sym (trees-Forwards part rest)))
+        (low_joined (map outline_of ts) (coming_trees rest.now) (children_low low) low.1)
 
     pub forward_same : SameSet (from_column x (Reads (outline_of t ∷ coming_trees (Forwards part rest)))) (from_column x (Reads (u ∷ coming_trees rest.now)))
     forward_same =
@@ -112,6 +171,12 @@ module _ (u : Outline) (ts : List Tree) (rest : Bor Coming) (x : ℕ) (e : u ≡
         sound_same (reverse (map outline_of ts) ++ trees_within rest.now) (outline_of t ∷ trees_within (Backwards part rest))
         (ap (λ us. us ++ trees_within rest.now) backward_split ∙ ap (λ us. outline_of t ∷ us) (sym (within-Backwards part rest)))
         (sound_turned (map outline_of ts) (trees_within rest.now) whole_sound)
+
+    pub backward_low : StandLow (forest (u ∷ coming_trees rest.now)) → StandLow (forest (outline_of t ∷ coming_trees (Backwards part rest)))
+    backward_low low =
+        low_same (reverse (map outline_of ts) ++ coming_trees rest.now) (outline_of t ∷ coming_trees (Backwards part rest))
+        (ap (λ us. us ++ coming_trees rest.now) backward_split ∙ ap (λ us. outline_of t ∷ us) (sym (trees-Backwards part rest)))
+        (low_joined (reverse (map outline_of ts)) (coming_trees rest.now) (low_reversed (map outline_of ts) (children_low low)) low.1)
 
     pub backward_same : SameSet (from_column x (Reads (outline_of t ∷ coming_trees (Backwards part rest)))) (from_column x (Reads (u ∷ coming_trees rest.now)))
     backward_same =

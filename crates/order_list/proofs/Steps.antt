@@ -14,8 +14,7 @@ use Rattle.order_list.specs.Next.{OneBegins, IsNextAmong}
 use Rattle.order_list.specs.declared.search.Next.{Next}
 use Rattle.order_list.specs.Reading.{Reads, CanBegin, tree_at}
 use Rattle.order_list.specs.Weights.{weight, weights}
-use Rattle.order_list.proofs.Begins.{outline_at, reverse_last, p_some, p_reads, p_begins}
-use Rattle.order_list.proofs.Children.{p_counts}
+use Rattle.order_list.proofs.Begins.{outline_at, reverse_last, p_some, p_reads}
 use Rattle.order_list.proofs.Gaining.{BeginsBelow, Below, gains_same, ready_same, gains_more, gains_all, gains_stopped}
 use Rattle.order_list.proofs.Taking.{p_taken, p_untaken, none_taken, none_untaken, one_taken, one_untaken, leaf_taken, leaf_untaken, q_taken, q_untaken, q_turned_taken, q_turned_untaken}
 
@@ -161,17 +160,3 @@ pub popped : (xs ys zs : List ℕ) (x n : ℕ) → zs ≡ xs ++ x ∷ [] → n �
 popped xs ys zs x n e l t =
     let m : n - 1 ≡ length xs = omega (arith, l, ap (λ (k : List ℕ). length k) e, length-append xs (x ∷ [])) in
     t ∙ ap (λ k. take k zs) m ∙ ap (take (length xs)) e ∙ take-append_seam xs (x ∷ [])
-
--- a P-node that begins with a column has a child that does, and the least column from there on is this one
-module _ (u : Outline) (ts bag H : List Outline) (x from n : ℕ) (e : u ≡ p_node (forest ts)) (is : bag ≡ ts) (all : n ≡ length bag) (at : from ≡ x) (sound : AreTrees (forest (u ∷ H))) (b : CanBegin u x) where
-  child_begins : OneBegins bag n x
-  child_begins =
-      let counts = p_counts u ts e sound.0.0 in
-      let long : n ≡ length ts = all ∙ ap length is in
-      subst (λ us. OneBegins us n x) (sym is) (subst (λ m. OneBegins ts m x) (sym long) (p_begins ts x (omega (arith, counts.0)) counts.1 (subst (λ v. CanBegin v x) e b)))
-
-  pub none_begins : IsNextAmong bag n from None → ⊥
-  none_begins h = (let low : x < from = h x child_begins in omega arith)
-
-  pub next_is : (next : Next) → IsNextAmong bag n from (Some next) → next.column ≡ x
-  next_is next h = (let low : next.column ≤ x = h.3 x child_begins (omega arith) in omega (arith, h.2))

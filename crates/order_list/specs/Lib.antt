@@ -4,6 +4,10 @@ pub mod Listed
 pub mod Held
 pub mod Reading
 pub mod Next
+pub mod Low
+pub mod LowTrees
+pub mod Propositions
+pub mod Ways
 pub mod Coming
 pub mod Gains
 pub mod Weights

@@ -1,12 +1,14 @@
 // The walk over the frontiers of a tree, from the least on, until enough orders are found.
-ghost use Rattle.std.specs.Prelude.{◌≡◌, ◌≤◌, ◌<◌, ℕ, List, ◌∷◌, ◌++◌, false, length, map, remove, IfOk, OnOk};
+ghost use Rattle.std.specs.Prelude.{◌≡◌, ◌≤◌, ◌<◌, ℕ, List, ◌∷◌, ◌++◌, false, length, map, remove, reverse, IfOk, OnOk};
 ghost use Rattle.pq_tree.specs.Outline.{p_node};
 ghost use Rattle.pq_tree.specs.Proper.{outline_of, forest, AreTrees};
-ghost use Rattle.order_list.specs.Reading.{Reads, CanBegin, tree_at};
+ghost use Rattle.order_list.specs.Reading.{Reads};
 ghost use Rattle.order_list.specs.Coming.{outlines, coming_trees, trees_within};
 ghost use Rattle.order_list.specs.Gains.{Gains, IsReady, from_column};
+ghost use Rattle.order_list.specs.Low.{StandLow};
+ghost use Rattle.order_list.specs.Ways.{Leads};
 
-use crate::search::{Next, begins, next_of};
+use crate::search::{next_of, way_to};
 use crate::{NoMemory, Orders};
 use pq_tree::{Tree, View};
 use std::alloc::Global;
@@ -32,6 +34,15 @@ pub enum Coming<'a> {
     Backwards(&'a [Tree], &'a Coming<'a>),
 }
 
+/// A way down to the leaf with which a tree begins.
+#[derive(Clone, Copy)]
+pub struct Way<'a> {
+    /// The column of the leaf.
+    pub column: u32,
+    /// The places of children on the way, from the last to the first.
+    pub places: &'a [usize],
+}
+
 /// Finds the orders that begin with `columns` and go on with what is coming, from the least on, until there are `limit`
 /// orders and one more is seen.
 #[cycle(walk)]
@@ -43,6 +54,7 @@ pub fn read_on<'a>(
     found: &mut Orders,
 ) -> Result<(), NoMemory>
     requires trees { AreTrees (forest (trees_within coming.now)) }
+    requires low { StandLow (forest (coming_trees coming.now)) }
     requires ready { IsReady (Reads (coming_trees coming.now)) columns.old.items limit found.old }
     ensures columns { OnOk result (columns.new.items ≡ columns.old.items) }
     ensures found { OnOk result (Gains (Reads (coming_trees coming.now))
@@ -87,6 +99,7 @@ fn read_tree<'a>(
     found: &mut Orders,
 ) -> Result<(), NoMemory>
     requires trees { AreTrees (forest (outline_of tree.now ∷ trees_within rest.now)) }
+    requires low { StandLow (forest (outline_of tree.now ∷ coming_trees rest.now)) }
     requires ready { IsReady (Reads (outline_of tree.now ∷ coming_trees rest.now))
         columns.old.items limit found.old }
     ensures columns { OnOk result (columns.new.items ≡ columns.old.items) }
@@ -115,6 +128,7 @@ fn each_next<'a>(
 ) -> Result<(), NoMemory>
     requires some { 1 ≤ length trees.now }
     requires trees { AreTrees (forest (outlines trees.now ++ trees_within rest.now)) }
+    requires low { StandLow (forest (p_node (forest (outlines trees.now)) ∷ coming_trees rest.now)) }
     requires ready { IsReady (Reads (p_node (forest (outlines trees.now)) ∷ coming_trees rest.now))
         columns.old.items limit found.old }
     ensures columns { OnOk result (columns.new.items ≡ columns.old.items) }
@@ -125,7 +139,12 @@ fn each_next<'a>(
     let mut from = 0;
     while let Some(next) = next_of(trees, from) {
         columns.push(next.column)?;
-        take(alloc, trees, next, rest, columns, limit, found)?;
+        let places = way_to(alloc, trees, next)?;
+        let way = Way {
+            column: next.column,
+            places: &places,
+        };
+        take(alloc, trees, way, rest, columns, limit, found)?;
         columns.pop();
         if found.more() {
             break;
@@ -135,80 +154,85 @@ fn each_next<'a>(
     Ok(())
 }
 
-// The same where the trees come next in any order, and the one at the place begins with the column that was taken last.
+// The same where the trees come next in any order, and begin with the column that was taken last, by the way to it. The
+// others need no list of their own where the first is taken.
 #[cycle(walk)]
-fn take<'a>(
+fn take<'a, 'w>(
     alloc: Global,
     trees: &'a [&'a Tree],
-    next: Next,
+    way: Way<'w>,
     rest: &'a Coming<'a>,
     columns: &mut Vec<u32>,
     limit: u32,
     found: &mut Orders,
 ) -> Result<(), NoMemory>
-    requires place { next.place < length trees.now }
-    requires begins { CanBegin (tree_at (outlines trees.now) next.place) next.column }
+    requires way { Leads (reverse way.places.now) (p_node (forest (outlines trees.now))) way.column }
     requires trees { AreTrees (forest (outlines trees.now ++ trees_within rest.now)) }
+    requires low { StandLow (forest (p_node (forest (outlines trees.now)) ∷ coming_trees rest.now)) }
     requires ready { IsReady
-        (from_column next.column (Reads (p_node (forest (outlines trees.now)) ∷ coming_trees rest.now)))
+        (from_column way.column (Reads (p_node (forest (outlines trees.now)) ∷ coming_trees rest.now)))
         columns.old.items limit found.old }
     ensures columns { OnOk result (columns.new.items ≡ columns.old.items) }
     ensures found { OnOk result (Gains
-        (from_column next.column (Reads (p_node (forest (outlines trees.now)) ∷ coming_trees rest.now)))
+        (from_column way.entry.column (Reads (p_node (forest (outlines trees.now)) ∷ coming_trees rest.now)))
         columns.old.items limit found.old found.new) }
 {
-    let others = without(alloc, trees, next.place)?;
-    let rest = Coming::InAnyOrder(Bag { trees: &others }, &*rest);
-    open(
-        alloc,
-        trees[next.place],
-        next.column,
-        &rest,
-        columns,
-        limit,
-        found,
-    )
+    let last = way.places.len() - 1;
+    let place = way.places[last];
+    let below = Way {
+        column: way.column,
+        places: &way.places[..last],
+    };
+    if place == 0 {
+        let rest = Coming::InAnyOrder(Bag { trees: &trees[1..] }, &*rest);
+        open(alloc, trees[0], below, &rest, columns, limit, found)
+    } else {
+        let others = without(alloc, trees, place)?;
+        let rest = Coming::InAnyOrder(Bag { trees: &others }, &*rest);
+        open(alloc, trees[place], below, &rest, columns, limit, found)
+    }
 }
 
-// The same where the tree comes next, and begins with the column that was taken last.
+// The same where the tree comes next, and begins with the column that was taken last, by the way to it.
 #[cycle(walk)]
-fn open<'a>(
+fn open<'a, 'w>(
     alloc: Global,
     tree: &'a Tree,
-    column: u32,
+    way: Way<'w>,
     rest: &'a Coming<'a>,
     columns: &mut Vec<u32>,
     limit: u32,
     found: &mut Orders,
 ) -> Result<(), NoMemory>
-    requires begins { CanBegin (outline_of tree.now) column }
+    requires way { Leads (reverse way.places.now) (outline_of tree.now) way.column }
     requires trees { AreTrees (forest (outline_of tree.now ∷ trees_within rest.now)) }
-    requires ready { IsReady (from_column column (Reads (outline_of tree.now ∷ coming_trees rest.now)))
+    requires low { StandLow (forest (outline_of tree.now ∷ coming_trees rest.now)) }
+    requires ready { IsReady (from_column way.column (Reads (outline_of tree.now ∷ coming_trees rest.now)))
         columns.old.items limit found.old }
     ensures columns { OnOk result (columns.new.items ≡ columns.old.items) }
     ensures found { OnOk result
-        (Gains (from_column column (Reads (outline_of tree.now ∷ coming_trees rest.now)))
+        (Gains (from_column way.entry.column (Reads (outline_of tree.now ∷ coming_trees rest.now)))
         columns.old.items limit found.old found.new) }
 {
     match tree.view() {
         View::Leaf(_) => read_on(alloc, rest, columns, limit, found),
         View::P(children) => {
             let trees = lent(alloc, children)?;
-            let bag = trees.as_slice();
-            match next_of(bag, u64::from(column)) {
-                None => unreachable!(),
-                Some(next) => take(alloc, bag, next, &*rest, columns, limit, found),
-            }
+            take(alloc, trees.as_slice(), way, &*rest, columns, limit, found)
         }
         View::Q(children) => {
-            let first = &children[0];
+            let end = way.places.len() - 1;
+            let below = Way {
+                column: way.column,
+                places: &way.places[..end],
+            };
             let last = children.len() - 1;
-            if begins(first, column) {
+            if way.places[end] == 0 {
                 let rest = Coming::Forwards(&children[1..], rest);
-                open(alloc, first, column, &rest, columns, limit, found)
+                open(alloc, &children[0], below, &rest, columns, limit, found)
             } else {
                 let rest = Coming::Backwards(&children[..last], rest);
-                open(alloc, &children[last], column, &rest, columns, limit, found)
+                open(alloc, &children[last], below, &rest, columns, limit, found)
             }
         }
     }

@@ -1,19 +1,14 @@
-use Rattle.std.proofs.Common.{◌≡◌, length, subst, arith}
+use Rattle.std.proofs.Common.{◌∙◌, length, sym, ap, arith}
 use Rattle.order_list.specs.Coming.{outlines}
-use Rattle.order_list.specs.Next.{IsNextAmong}
-use Rattle.order_list.proofs.Children.{lent_arities, next_lent}
+use Rattle.order_list.specs.Low.{first_column}
+use Rattle.order_list.proofs.Begins.{lent_at}
+use Rattle.order_list.proofs.Children.{outlines_length}
+use Rattle.order_list.proofs.LeastFirst.{next_low}
 use Rattle.order_list.proofs.search.next_of.Goals as goal
 
-pub next_first-requires : goal.next_first-requires
-next_first-requires c =
-    lent_arities c.args.trees.now c.loop-place.place c.index-trees-place.result c.requires c.loop-place-test.true c.index-trees-place.is
-
-pub loop-place-preserved : goal.loop-place-preserved
-loop-place-preserved c =
-    next_lent c.args.trees.now c.loop-place.place c.args.from c.index-trees-place.result c.loop-place.next c.nearer-next.result c.next_first.result c.loop-place-test.true c.index-trees-place.is
-    c.nearer-next.ensures c.loop-place.invariant c.next_first.ensures
-
-pub returns : goal.returns
-returns c =
-    let all : c.loop-place.place ≡ length c.args.trees.now = omega (arith, c.loop-place-test.false, c.loop-place.auto.place-end) in
-    subst (λ n. IsNextAmong (outlines c.args.trees.now) n c.args.from c.loop-place.next) all c.loop-place.invariant
+pub returns-then-from : goal.returns-then-from
+returns-then-from c =
+    let ts = outlines c.args.trees.now in
+    next_low ts (length c.args.trees.now) c.args.from c.first_column-column.result (sym (outlines_length c.args.trees.now)) c.requires.some c.requires.arities c.requires.low
+    (c.first_column-column.ensures ∙ ap first_column (sym (lent_at c.args.trees.now 0 c.index-trees-0.result c.requires.some c.index-trees-0.is)))
+    (omega (arith, c.from.ensures, c.if-from.true))

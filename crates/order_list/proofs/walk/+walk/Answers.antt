@@ -1,21 +1,23 @@
-use Rattle.std.proofs.Common.{◌≡◌, ◌∙◌, ◌+◌, ◌<◌, [], ◌∷◌, ◌++◌, map, length, get_or, remove, refl, sym, ap, subst, arith, vec_len, eqb-true}
-use Rattle.std.proofs.lemmas.Bool.{both_ways}
-use Rattle.pq_tree.specs.Outline.{leaf, p_node}
+use Rattle.std.proofs.Common.{rules, ◌≡◌, ◌∙◌, ◌+◌, ◌-◌, ◌<◌, ◌≤◌, [], ◌∷◌, ◌++◌, map, reverse, length, get_or, remove, take, drop, refl, sym, ap, subst, arith, vec_len, eqb-true}
+use Rattle.pq_tree.specs.Outline.{leaf, p_node, no_tree}
 use Rattle.pq_tree.proofs.Shown.{outline_of-Leaf}
 use Rattle.pq_tree.specs.Proper.{outline_of, forest}
 use Rattle.order_list.specs.Coming.{outlines, coming_trees, trees_within}
 use Rattle.order_list.specs.Gains.{Gains, from_column}
 use Rattle.order_list.specs.Listed.{added}
 use Rattle.order_list.specs.Reading.{Reads, CanBegin, tree_at}
+use Rattle.order_list.specs.Ways.{Leads}
 use Rattle.order_list.proofs.Begins.{lent_at}
 use Rattle.order_list.proofs.Links.{trees-Nothing, within-InAnyOrder, weight-InAnyOrder}
 use Rattle.order_list.specs.declared.walk.Coming.{Forwards, Backwards}
 use Rattle.std.proofs.lemmas.Result.{on_ok_weaker}
 use Rattle.order_list.specs.Weights.{weight, weights, weight_within}
 use Rattle.order_list.proofs.Gaining.{Below, gains_same, gains_only, gains_none, gains_one, ready_pushed}
-use Rattle.order_list.proofs.Steps.{popped, next_gains, last_gains, all_gains, ready_moved, gains_moved, same_trees, same_leaf, same_none, same_one, same_bag, leaf_first, same_p, outlines_remove, none_begins, next_is}
-use Rattle.order_list.proofs.Openings.{one_outline, one_trees, one_within, one_weight, bag_sound, taken_falls, taken_sound, taken_same, forward_falls, forward_sound, forward_same, backward_falls, backward_sound, backward_same, last_begins, none_trees, no_first, no_last, first_trees, first_within, first_weight, last_trees, last_within, last_weight}
+use Rattle.order_list.proofs.Steps.{popped, next_gains, last_gains, all_gains, ready_moved, gains_moved, same_trees, same_leaf, same_none, same_one, same_bag, leaf_first, same_p, outlines_remove}
+use Rattle.order_list.proofs.Openings.{one_outline, one_trees, one_within, one_weight, step_inside, step_place, step_begins, step_leads, outlines_behind, bag_sound, taken_falls, taken_sound, taken_low, taken_same, forward_leads, backward_leads, child_begins, some_child, last_child_inside, forward_falls, forward_sound, forward_low, forward_same, backward_falls, backward_sound, backward_low, backward_same, none_trees, no_first, no_last, first_trees, first_within, first_weight, last_trees, last_within, last_weight}
 use Rattle.order_list.proofs.Children.{outlines_length}
+use Rattle.order_list.proofs.LeastFirst.{low_same, one_low}
+use Rattle.order_list.proofs.Ways.{leads_begin}
 use Rattle.order_list.proofs.Taking.{sound_left, sound_right, sound_same}
 use Rattle.order_list.proofs.walk.+walk.Goals as goal
 
@@ -29,22 +31,34 @@ each_next-loop-next-init t c =
     }
 
 pub each_next-next_of-requires : goal.each_next-next_of-requires
-each_next-next_of-requires t c = (sound_left (outlines c.args.trees.now) (trees_within c.args.rest.now) c.requires.trees).0
+each_next-next_of-requires t c =
+    record {
+      some = c.requires.some;
+      arities = (sound_left (outlines c.args.trees.now) (trees_within c.args.rest.now) c.requires.trees).0;
+      low = c.requires.low.0;
+    }
+
+pub each_next-way_to-requires : goal.each_next-way_to-requires
+each_next-way_to-requires t c =
+    record {
+      arities = (sound_left (outlines c.args.trees.now) (trees_within c.args.rest.now) c.requires.trees).0;
+      place = c.in-Some.ensures.0;
+      begins = c.in-Some.ensures.1;
+    }
 
 pub each_next-take-requires : goal.each_next-take-requires
 each_next-take-requires t c =
-    let next = c.in-Some.ensures in
     let i = c.loop-next.invariant in
     let S = Reads (p_node (forest (outlines c.args.trees.now)) ∷ coming_trees c.args.rest.now) in
     let pushed : c.push.new.self.items ≡ c.args.columns.now.items ++ c.in-Some.next.column ∷ [] =
     c.in_ok-push.ensures.items ∙ ap (λ l. l ++ c.in-Some.next.column ∷ []) i.columns in (
       omega (arith, c.decreases),
       (
-        next.0,
+        subst (λ ps. Leads (reverse ps) (p_node (forest (outlines c.args.trees.now))) c.in-Some.next.column) (sym c.deref.ensures.value) c.in_ok-places.ensures,
         (
-          next.1,
+          c.requires.trees,
           (
-            c.requires.trees,
+            c.requires.low,
             ready_pushed S c.args.columns.now.items c.push.new.self.items c.args.limit c.in-Some.next.column c.args.found.now c.loop-next.found pushed c.requires.ready i.gains.width i.fresh i.gains.few,
           ),
         ),
@@ -95,12 +109,16 @@ each_next-returns-in_default-clause-found t c =
 pub open-read_on-requires : goal.open-read_on-requires
 open-read_on-requires t c =
     let u = outline_of c.args.tree.now in
-    let us = coming_trees c.args.rest.now in (
+    let us = coming_trees c.args.rest.now in
+    let b : CanBegin u c.args.way.column = leads_begin _ u c.args.way.column c.requires.trees.0.0 c.requires.way in (
       omega (arith, ap weight c.in-Leaf.ensures.outline, c.decreases),
       (
         sound_right (u ∷ []) (trees_within c.args.rest.now) c.requires.trees,
-        ready_moved (Reads us) (from_column c.args.column (Reads (u ∷ us))) c.args.columns.now.items c.args.limit c.args.found.now
-            (same_leaf u c.in-Leaf.field-0 c.args.column us c.in-Leaf.ensures.outline c.requires.begins) c.requires.ready,
+        (
+          c.requires.low.1,
+          ready_moved (Reads us) (from_column c.args.way.column (Reads (u ∷ us))) c.args.columns.now.items c.args.limit c.args.found.now
+              (same_leaf u c.in-Leaf.field-0 c.args.way.column us c.in-Leaf.ensures.outline b) c.requires.ready,
+        ),
       ),
     )
 
@@ -108,108 +126,8 @@ pub open-returns-in-Leaf-clause-found : goal.open-returns-in-Leaf-clause-found
 open-returns-in-Leaf-clause-found t c =
     let u = outline_of c.args.tree.now in
     let us = coming_trees c.args.rest.now in
-    gains_moved c.read_on.result (Reads us) (from_column c.args.column (Reads (u ∷ us))) c.args.columns.now.items c.args.limit c.args.found.now c.read_on.new.found
-    (same_leaf u c.in-Leaf.field-0 c.args.column us c.in-Leaf.ensures.outline c.requires.begins) c.read_on.ensures.found
-
--- a P-node
-pub open-unreachable-requires : goal.open-unreachable-requires
-open-unreachable-requires t c =
-    none_begins (outline_of c.args.tree.now) (map outline_of c.in-P.children.now) (outlines c.as_slice-bag.result.now) (trees_within c.args.rest.now) c.args.column c.from.result (length c.as_slice-bag.result.now)
-    c.in-P.ensures.outline (ap outlines c.as_slice-bag.ensures.value ∙ c.in_ok-trees-in-P.ensures) (sym (outlines_length c.as_slice-bag.result.now)) c.from.ensures c.requires.trees c.requires.begins c.in-None.ensures
-
-pub open-take-requires : goal.open-take-requires
-open-take-requires t c =
-    let u = outline_of c.args.tree.now in
-    let ts = map outline_of c.in-P.children.now in
-    let bag = outlines c.as_slice-bag.result.now in
-    let H = trees_within c.args.rest.now in
-    let us = coming_trees c.args.rest.now in
-    let is : bag ≡ ts = ap outlines c.as_slice-bag.ensures.value ∙ c.in_ok-trees-in-P.ensures in
-    let same : c.in-Some.next.column ≡ c.args.column =
-    next_is u ts bag H c.args.column c.from.result (length c.as_slice-bag.result.now) c.in-P.ensures.outline is (sym (outlines_length c.as_slice-bag.result.now)) c.from.ensures c.requires.trees c.requires.begins
-    c.in-Some.next c.in-Some.ensures in (
-      omega (arith, ap weight c.in-P.ensures.outline, ap (λ x. weights (forest x)) is, c.decreases),
-      (
-        c.in-Some.ensures.0,
-        (
-          c.in-Some.ensures.1,
-          (
-            bag_sound u ts bag H c.in-P.ensures.outline is c.requires.trees,
-            ready_moved (from_column c.in-Some.next.column (Reads (p_node (forest bag) ∷ us))) (from_column c.args.column (Reads (u ∷ us))) c.args.columns.now.items c.args.limit c.args.found.now
-                (same_p u ts bag us c.args.column c.in-Some.next.column c.in-P.ensures.outline is same) c.requires.ready,
-          ),
-        ),
-      ),
-    )
-
-pub open-returns-in-Some-clause-found : goal.open-returns-in-Some-clause-found
-open-returns-in-Some-clause-found t c =
-    let u = outline_of c.args.tree.now in
-    let ts = map outline_of c.in-P.children.now in
-    let bag = outlines c.as_slice-bag.result.now in
-    let us = coming_trees c.args.rest.now in
-    let is : bag ≡ ts = ap outlines c.as_slice-bag.ensures.value ∙ c.in_ok-trees-in-P.ensures in
-    let same : c.in-Some.next.column ≡ c.args.column =
-    next_is u ts bag (trees_within c.args.rest.now) c.args.column c.from.result (length c.as_slice-bag.result.now) c.in-P.ensures.outline is (sym (outlines_length c.as_slice-bag.result.now)) c.from.ensures
-    c.requires.trees c.requires.begins c.in-Some.next c.in-Some.ensures in
-    gains_moved c.take.result (from_column c.in-Some.next.column (Reads (p_node (forest bag) ∷ us))) (from_column c.args.column (Reads (u ∷ us))) c.args.columns.now.items c.args.limit c.args.found.now c.take.new.found
-    (same_p u ts bag us c.args.column c.in-Some.next.column c.in-P.ensures.outline is same) c.take.ensures.found
-
--- a Q-node, from the first child on
-pub open-open-requires : goal.open-open-requires
-open-open-requires t c =
-    let u = outline_of c.args.tree.now in
-    let ts = c.in-Q.children.now in
-    let first = c.index-children-0.result in
-    let b : CanBegin (outline_of first) c.args.column = c.begins.ensures.0 c.if-begins.true in (
-      forward_falls u ts c.args.rest c.args.column c.in-Q.ensures.outline c.requires.trees first _ c.index-children-0.is refl b t (omega (arith, c.decreases)),
-      (
-        b,
-        (
-          forward_sound u ts c.args.rest c.args.column c.in-Q.ensures.outline c.requires.trees first _ c.index-children-0.is refl b,
-          ready_moved _ (from_column c.args.column (Reads (u ∷ coming_trees c.args.rest.now))) c.args.columns.now.items c.args.limit c.args.found.now
-              (forward_same u ts c.args.rest c.args.column c.in-Q.ensures.outline c.requires.trees first _ c.index-children-0.is refl b) c.requires.ready,
-        ),
-      ),
-    )
-
-pub open-returns-then-begins-clause-found : goal.open-returns-then-begins-clause-found
-open-returns-then-begins-clause-found t c =
-    let u = outline_of c.args.tree.now in
-    let b : CanBegin (outline_of c.index-children-0.result) c.args.column = c.begins.ensures.0 c.if-begins.true in
-    gains_moved c.open.result _ (from_column c.args.column (Reads (u ∷ coming_trees c.args.rest.now))) c.args.columns.now.items c.args.limit c.args.found.now c.open.new.found
-    (forward_same u c.in-Q.children.now c.args.rest c.args.column c.in-Q.ensures.outline c.requires.trees c.index-children-0.result _ c.index-children-0.is refl b) c.open.ensures.found
-
--- a Q-node, from the last child on
-pub open-open-requires-else-begins : goal.open-open-requires-else-begins
-open-open-requires-else-begins t c =
-    let u = outline_of c.args.tree.now in
-    let ts = c.in-Q.children.now in
-    let last = c.index-children-last.result in
-    let b : CanBegin (outline_of last) c.args.column =
-    last_begins u ts c.args.rest c.args.column c.in-Q.ensures.outline c.requires.trees c.index-children-0.result last c.index-children-0.is c.index-children-last.is
-    (λ f. both_ways c.begins.result c.if-begins.false (c.begins.ensures.1 f)) c.requires.begins in (
-      backward_falls u ts c.args.rest c.args.column c.in-Q.ensures.outline c.requires.trees last _ c.index-children-last.is refl b t (omega (arith, c.decreases)),
-      (
-        b,
-        (
-          backward_sound u ts c.args.rest c.args.column c.in-Q.ensures.outline c.requires.trees last _ c.index-children-last.is refl b,
-          ready_moved _ (from_column c.args.column (Reads (u ∷ coming_trees c.args.rest.now))) c.args.columns.now.items c.args.limit c.args.found.now
-              (backward_same u ts c.args.rest c.args.column c.in-Q.ensures.outline c.requires.trees last _ c.index-children-last.is refl b) c.requires.ready,
-        ),
-      ),
-    )
-
-pub open-returns-else-begins-clause-found : goal.open-returns-else-begins-clause-found
-open-returns-else-begins-clause-found t c =
-    let u = outline_of c.args.tree.now in
-    let ts = c.in-Q.children.now in
-    let last = c.index-children-last.result in
-    let b : CanBegin (outline_of last) c.args.column =
-    last_begins u ts c.args.rest c.args.column c.in-Q.ensures.outline c.requires.trees c.index-children-0.result last c.index-children-0.is c.index-children-last.is
-    (λ f. both_ways c.begins.result c.if-begins.false (c.begins.ensures.1 f)) c.requires.begins in
-    gains_moved c.open-else-begins.result _ (from_column c.args.column (Reads (u ∷ coming_trees c.args.rest.now))) c.args.columns.now.items c.args.limit c.args.found.now c.open-else-begins.new.found
-    (backward_same u ts c.args.rest c.args.column c.in-Q.ensures.outline c.requires.trees last _ c.index-children-last.is refl b) c.open-else-begins.ensures.found
+    gains_moved c.read_on.result (Reads us) (from_column c.args.way.column (Reads (u ∷ us))) c.args.columns.now.items c.args.limit c.args.found.now c.read_on.new.found
+    (same_leaf u c.in-Leaf.field-0 c.args.way.column us c.in-Leaf.ensures.outline (leads_begin _ u c.args.way.column c.requires.trees.0.0 c.requires.way)) c.read_on.ensures.found
 
 -- a bag that is used up
 pub read_on-read_on-requires : goal.read_on-read_on-requires
@@ -222,8 +140,11 @@ read_on-read_on-requires t c =
       (
         sound_right (outlines bag.trees.now) (trees_within rest.now)
             (sound_same (trees_within coming) (outlines bag.trees.now ++ trees_within rest.now) (ap trees_within c.in-InAnyOrder.is ∙ within-InAnyOrder bag rest) c.requires.trees),
-        ready_moved (Reads (coming_trees rest.now)) (Reads (coming_trees coming)) c.args.columns.now.items c.args.limit c.args.found.now
-            (same_none (coming_trees rest.now) (coming_trees coming) (none_trees coming bag rest c.in-InAnyOrder.is none)) c.requires.ready,
+        (
+          (low_same (coming_trees coming) (p_node no_tree ∷ coming_trees rest.now) (none_trees coming bag rest c.in-InAnyOrder.is none) c.requires.low).1,
+          ready_moved (Reads (coming_trees rest.now)) (Reads (coming_trees coming)) c.args.columns.now.items c.args.limit c.args.found.now
+              (same_none (coming_trees rest.now) (coming_trees coming) (none_trees coming bag rest c.in-InAnyOrder.is none)) c.requires.ready,
+        ),
       ),
     )
 
@@ -247,8 +168,11 @@ read_on-read_tree-requires t c =
       omega (arith, one_weight coming bag rest u c.in-InAnyOrder.is one, c.decreases),
       (
         sound_same (trees_within coming) (u ∷ trees_within rest.now) (one_within coming bag rest u c.in-InAnyOrder.is one) c.requires.trees,
-        ready_moved (Reads (u ∷ coming_trees rest.now)) (Reads (coming_trees coming)) c.args.columns.now.items c.args.limit c.args.found.now
-            (same_bag u (coming_trees rest.now) (coming_trees coming) (one_trees coming bag rest u c.in-InAnyOrder.is one)) c.requires.ready,
+        (
+          one_low u (coming_trees rest.now) (low_same (coming_trees coming) (p_node (forest (u ∷ [])) ∷ coming_trees rest.now) (one_trees coming bag rest u c.in-InAnyOrder.is one) c.requires.low),
+          ready_moved (Reads (u ∷ coming_trees rest.now)) (Reads (coming_trees coming)) c.args.columns.now.items c.args.limit c.args.found.now
+              (same_bag u (coming_trees rest.now) (coming_trees coming) (one_trees coming bag rest u c.in-InAnyOrder.is one)) c.requires.ready,
+        ),
       ),
     )
 
@@ -272,7 +196,10 @@ read_tree-each_next-requires t c =
         omega arith,
         (
           c.requires.trees,
-          ready_moved (Reads (p_node (forest (u ∷ [])) ∷ us)) (Reads (u ∷ us)) c.args.columns.now.items c.args.limit c.args.found.now (same_one u us (u ∷ us) refl) c.requires.ready,
+          (
+            (((tt, tt), (c.requires.low.0, tt)), c.requires.low.1),
+            ready_moved (Reads (p_node (forest (u ∷ [])) ∷ us)) (Reads (u ∷ us)) c.args.columns.now.items c.args.limit c.args.found.now (same_one u us (u ∷ us) refl) c.requires.ready,
+          ),
         ),
       ),
     )
@@ -299,8 +226,11 @@ read_tree-read_on-requires t c =
       omega (arith, ap weight is, c.decreases),
       (
         sound_right (u ∷ []) (trees_within c.args.rest.now) c.requires.trees,
-        ready_moved (Reads us) (from_column a (Reads (u ∷ us))) pushed c.args.limit c.args.found.now (same_leaf u a a us is (subst (λ v. CanBegin v a) (sym is) ([], refl)))
-            (ready_pushed (Reads (u ∷ us)) c.args.columns.now.items pushed c.args.limit a c.args.found.now c.args.found.now c.in_ok-push.ensures.items c.requires.ready refl c.requires.ready.fresh c.requires.ready.few),
+        (
+          c.requires.low.1,
+          ready_moved (Reads us) (from_column a (Reads (u ∷ us))) pushed c.args.limit c.args.found.now (same_leaf u a a us is (subst (λ v. CanBegin v a) (sym is) ([], refl)))
+              (ready_pushed (Reads (u ∷ us)) c.args.columns.now.items pushed c.args.limit a c.args.found.now c.args.found.now c.in_ok-push.ensures.items c.requires.ready refl c.requires.ready.fresh c.requires.ready.few),
+        ),
       ),
     )
 
@@ -327,8 +257,11 @@ read_on-read_tree-requires-in-Some t c =
       omega (arith, first_weight coming trees rest tree others c.in-Forwards.is c.in-Some.ensures.cases, c.decreases),
       (
         sound_same (trees_within coming) (outline_of tree ∷ trees_within (Forwards others rest)) (first_within coming trees rest tree others c.in-Forwards.is c.in-Some.ensures.cases) c.requires.trees,
-        ready_moved (Reads (outline_of tree ∷ us)) (Reads (coming_trees coming)) c.args.columns.now.items c.args.limit c.args.found.now
-            (same_trees (outline_of tree ∷ us) (coming_trees coming) (sym (first_trees coming trees rest tree others c.in-Forwards.is c.in-Some.ensures.cases))) c.requires.ready,
+        (
+          low_same (coming_trees coming) (outline_of tree ∷ us) (first_trees coming trees rest tree others c.in-Forwards.is c.in-Some.ensures.cases) c.requires.low,
+          ready_moved (Reads (outline_of tree ∷ us)) (Reads (coming_trees coming)) c.args.columns.now.items c.args.limit c.args.found.now
+              (same_trees (outline_of tree ∷ us) (coming_trees coming) (sym (first_trees coming trees rest tree others c.in-Forwards.is c.in-Some.ensures.cases))) c.requires.ready,
+        ),
       ),
     )
 
@@ -363,8 +296,11 @@ read_on-read_tree-requires-in-Some-split_last t c =
       omega (arith, last_weight coming trees rest tree others c.in-Backwards.is found.ensures.cases, c.decreases),
       (
         sound_same (trees_within coming) (outline_of tree ∷ trees_within (Backwards others rest)) (last_within coming trees rest tree others c.in-Backwards.is found.ensures.cases) c.requires.trees,
-        ready_moved (Reads (outline_of tree ∷ us)) (Reads (coming_trees coming)) c.args.columns.now.items c.args.limit c.args.found.now
-            (same_trees (outline_of tree ∷ us) (coming_trees coming) (sym (last_trees coming trees rest tree others c.in-Backwards.is found.ensures.cases))) c.requires.ready,
+        (
+          low_same (coming_trees coming) (outline_of tree ∷ us) (last_trees coming trees rest tree others c.in-Backwards.is found.ensures.cases) c.requires.low,
+          ready_moved (Reads (outline_of tree ∷ us)) (Reads (coming_trees coming)) c.args.columns.now.items c.args.limit c.args.found.now
+              (same_trees (outline_of tree ∷ us) (coming_trees coming) (sym (last_trees coming trees rest tree others c.in-Backwards.is found.ensures.cases))) c.requires.ready,
+        ),
       ),
     )
 
@@ -396,33 +332,216 @@ read_on-returns-in-Nothing-clause-found t c =
     (λ e. gains_one c.args.columns.now.items c.args.limit c.args.found.now c.add.new.self c.requires.ready.fresh c.requires.ready.few
     (e ∙ ap (λ l. added c.args.limit l c.args.found.now) c.deref.ensures.value)) c.add.ensures)
 
--- a tree of a bag
+-- the first tree of a bag
 pub take-open-requires : goal.take-open-requires
 take-open-requires t c =
     let ts = outlines c.args.trees.now in
-    let k = c.args.next.place in
-    let u = outline_of c.index-trees-next.result.now in
-    let at : tree_at ts k ≡ u = lent_at c.args.trees.now k c.index-trees-next.result c.requires.place c.index-trees-next.is in
-    let is : outlines c.deref.result.now ≡ remove ts k = ap outlines (c.deref.ensures.value ∙ c.in_ok-others.ensures) ∙ outlines_remove c.args.trees.now k c.requires.place in
-    let inside : k < length ts = omega (arith, c.requires.place, outlines_length c.args.trees.now) in (
-      taken_falls ts k u _ c.args.rest inside at is t (omega (arith, c.decreases)),
+    let ps = c.args.way.places.now in
+    let x = c.args.way.column in
+    let H = trees_within c.args.rest.now in
+    let k = get_or ps (length ps - 1) 0 in
+    let u = outline_of c.index-trees-0.result.now in
+    let inside : k < length c.args.trees.now = step_place c.args.trees.now ps x H c.requires.way c.requires.trees in
+    let z : k ≡ 0 = c.if-place-eq0.true in
+    let some : 1 ≤ length c.args.trees.now = omega arith in
+    let at : tree_at ts k ≡ u = ap (tree_at ts) z ∙ lent_at c.args.trees.now 0 c.index-trees-0.result some c.index-trees-0.is in
+    let is : outlines (take (length c.args.trees.now - 1) (drop 1 c.args.trees.now)) ≡ remove ts k = outlines_behind c.args.trees.now some ∙ ap (remove ts) (sym z) in
+    let l : k < length ts = step_inside c.args.trees.now ps x H c.requires.way c.requires.trees in
+    let b : CanBegin (tree_at ts k) x = step_begins c.args.trees.now ps x H c.requires.way c.requires.trees in (
+      taken_falls ts k u _ c.args.rest l at is t (omega (arith, c.decreases)),
       (
-        subst (λ v. CanBegin v c.args.next.column) at c.requires.begins,
+        step_leads c.args.trees.now ps x H c.requires.way c.requires.trees u at,
         (
-          taken_sound ts k u _ c.args.rest inside at is c.requires.trees,
-          ready_moved _ (from_column c.args.next.column (Reads (p_node (forest ts) ∷ coming_trees c.args.rest.now))) c.args.columns.now.items c.args.limit c.args.found.now
-              (taken_same ts k u _ c.args.rest inside at is c.requires.trees c.args.next.column c.requires.begins) c.requires.ready,
+          taken_sound ts k u _ c.args.rest l at is c.requires.trees,
+          (
+            taken_low ts k u _ c.args.rest l at is c.requires.low,
+            ready_moved _ (from_column x (Reads (p_node (forest ts) ∷ coming_trees c.args.rest.now))) c.args.columns.now.items c.args.limit c.args.found.now
+                (taken_same ts k u _ c.args.rest l at is c.requires.trees x b) c.requires.ready,
+          ),
         ),
       ),
     )
 
-pub take-returns-clause-found : goal.take-returns-clause-found
-take-returns-clause-found t c =
+pub take-returns-then-place-eq0-clause-found : goal.take-returns-then-place-eq0-clause-found
+take-returns-then-place-eq0-clause-found t c =
     let ts = outlines c.args.trees.now in
-    let k = c.args.next.place in
-    let u = outline_of c.index-trees-next.result.now in
-    let at : tree_at ts k ≡ u = lent_at c.args.trees.now k c.index-trees-next.result c.requires.place c.index-trees-next.is in
-    let is : outlines c.deref.result.now ≡ remove ts k = ap outlines (c.deref.ensures.value ∙ c.in_ok-others.ensures) ∙ outlines_remove c.args.trees.now k c.requires.place in
-    let inside : k < length ts = omega (arith, c.requires.place, outlines_length c.args.trees.now) in
-    gains_moved c.open.result _ (from_column c.args.next.column (Reads (p_node (forest ts) ∷ coming_trees c.args.rest.now))) c.args.columns.now.items c.args.limit c.args.found.now c.open.new.found
-    (taken_same ts k u _ c.args.rest inside at is c.requires.trees c.args.next.column c.requires.begins) c.open.ensures.found
+    let ps = c.args.way.places.now in
+    let x = c.args.way.column in
+    let H = trees_within c.args.rest.now in
+    let k = get_or ps (length ps - 1) 0 in
+    let u = outline_of c.index-trees-0.result.now in
+    let inside : k < length c.args.trees.now = step_place c.args.trees.now ps x H c.requires.way c.requires.trees in
+    let z : k ≡ 0 = c.if-place-eq0.true in
+    let some : 1 ≤ length c.args.trees.now = omega arith in
+    let at : tree_at ts k ≡ u = ap (tree_at ts) z ∙ lent_at c.args.trees.now 0 c.index-trees-0.result some c.index-trees-0.is in
+    let is : outlines (take (length c.args.trees.now - 1) (drop 1 c.args.trees.now)) ≡ remove ts k = outlines_behind c.args.trees.now some ∙ ap (remove ts) (sym z) in
+    let l : k < length ts = step_inside c.args.trees.now ps x H c.requires.way c.requires.trees in
+    let b : CanBegin (tree_at ts k) x = step_begins c.args.trees.now ps x H c.requires.way c.requires.trees in
+    gains_moved c.open.result _ (from_column x (Reads (p_node (forest ts) ∷ coming_trees c.args.rest.now))) c.args.columns.now.items c.args.limit c.args.found.now c.open.new.found
+    (taken_same ts k u _ c.args.rest l at is c.requires.trees x b) c.open.ensures.found
+
+-- another tree of a bag
+pub take-without-requires : goal.take-without-requires
+take-without-requires t c = step_place c.args.trees.now c.args.way.places.now c.args.way.column (trees_within c.args.rest.now) c.requires.way c.requires.trees
+
+pub take-bounds-trees-place : goal.take-bounds-trees-place
+take-bounds-trees-place t c = step_place c.args.trees.now c.args.way.places.now c.args.way.column (trees_within c.args.rest.now) c.requires.way c.requires.trees
+
+pub take-offset_bounds-trees-place : goal.take-offset_bounds-trees-place
+take-offset_bounds-trees-place t c =
+    let inside = step_place c.args.trees.now c.args.way.places.now c.args.way.column (trees_within c.args.rest.now) c.requires.way c.requires.trees in
+    search (rules, inside)
+
+pub take-open-requires-else-place-eq0 : goal.take-open-requires-else-place-eq0
+take-open-requires-else-place-eq0 t c =
+    let ts = outlines c.args.trees.now in
+    let ps = c.args.way.places.now in
+    let x = c.args.way.column in
+    let H = trees_within c.args.rest.now in
+    let k = get_or ps (length ps - 1) 0 in
+    let u = outline_of c.index-trees-place.result.now in
+    let inside : k < length c.args.trees.now = step_place c.args.trees.now ps x H c.requires.way c.requires.trees in
+    let at : tree_at ts k ≡ u = lent_at c.args.trees.now k c.index-trees-place.result inside c.index-trees-place.is in
+    let is : outlines c.deref.result.now ≡ remove ts k = ap outlines (c.deref.ensures.value ∙ c.in_ok-others.ensures) ∙ outlines_remove c.args.trees.now k inside in
+    let l : k < length ts = step_inside c.args.trees.now ps x H c.requires.way c.requires.trees in
+    let b : CanBegin (tree_at ts k) x = step_begins c.args.trees.now ps x H c.requires.way c.requires.trees in (
+      taken_falls ts k u _ c.args.rest l at is t (omega (arith, c.decreases)),
+      (
+        step_leads c.args.trees.now ps x H c.requires.way c.requires.trees u at,
+        (
+          taken_sound ts k u _ c.args.rest l at is c.requires.trees,
+          (
+            taken_low ts k u _ c.args.rest l at is c.requires.low,
+            ready_moved _ (from_column x (Reads (p_node (forest ts) ∷ coming_trees c.args.rest.now))) c.args.columns.now.items c.args.limit c.args.found.now
+                (taken_same ts k u _ c.args.rest l at is c.requires.trees x b) c.requires.ready,
+          ),
+        ),
+      ),
+    )
+
+pub take-returns-in_ok-others-clause-found : goal.take-returns-in_ok-others-clause-found
+take-returns-in_ok-others-clause-found t c =
+    let ts = outlines c.args.trees.now in
+    let ps = c.args.way.places.now in
+    let x = c.args.way.column in
+    let H = trees_within c.args.rest.now in
+    let k = get_or ps (length ps - 1) 0 in
+    let u = outline_of c.index-trees-place.result.now in
+    let inside : k < length c.args.trees.now = step_place c.args.trees.now ps x H c.requires.way c.requires.trees in
+    let at : tree_at ts k ≡ u = lent_at c.args.trees.now k c.index-trees-place.result inside c.index-trees-place.is in
+    let is : outlines c.deref.result.now ≡ remove ts k = ap outlines (c.deref.ensures.value ∙ c.in_ok-others.ensures) ∙ outlines_remove c.args.trees.now k inside in
+    let l : k < length ts = step_inside c.args.trees.now ps x H c.requires.way c.requires.trees in
+    let b : CanBegin (tree_at ts k) x = step_begins c.args.trees.now ps x H c.requires.way c.requires.trees in
+    gains_moved c.open-else-place-eq0.result _ (from_column x (Reads (p_node (forest ts) ∷ coming_trees c.args.rest.now))) c.args.columns.now.items c.args.limit c.args.found.now c.open-else-place-eq0.new.found
+    (taken_same ts k u _ c.args.rest l at is c.requires.trees x b) c.open-else-place-eq0.ensures.found
+
+-- a P-node
+pub open-take-requires : goal.open-take-requires
+open-take-requires t c =
+    let u = outline_of c.args.tree.now in
+    let ts = map outline_of c.in-P.children.now in
+    let bag = outlines c.as_slice.result.now in
+    let us = coming_trees c.args.rest.now in
+    let x = c.args.way.column in
+    let is : bag ≡ ts = ap outlines c.as_slice.ensures.value ∙ c.in_ok-trees-in-P.ensures in
+    let same : u ≡ p_node (forest bag) = c.in-P.ensures.outline ∙ ap (λ vs. p_node (forest vs)) (sym is) in (
+      omega (arith, ap weight c.in-P.ensures.outline, ap (λ vs. weights (forest vs)) is, c.decreases),
+      (
+        subst (λ v. Leads (reverse c.args.way.places.now) v x) same c.requires.way,
+        (
+          bag_sound u ts bag (trees_within c.args.rest.now) c.in-P.ensures.outline is c.requires.trees,
+          (
+            low_same (u ∷ us) (p_node (forest bag) ∷ us) (ap (λ v. v ∷ us) same) c.requires.low,
+            ready_moved (from_column x (Reads (p_node (forest bag) ∷ us))) (from_column x (Reads (u ∷ us))) c.args.columns.now.items c.args.limit c.args.found.now
+                (same_p u ts bag us x x c.in-P.ensures.outline is refl) c.requires.ready,
+          ),
+        ),
+      ),
+    )
+
+pub open-returns-in_ok-trees-in-P-clause-found : goal.open-returns-in_ok-trees-in-P-clause-found
+open-returns-in_ok-trees-in-P-clause-found t c =
+    let u = outline_of c.args.tree.now in
+    let ts = map outline_of c.in-P.children.now in
+    let bag = outlines c.as_slice.result.now in
+    let us = coming_trees c.args.rest.now in
+    let x = c.args.way.column in
+    let is : bag ≡ ts = ap outlines c.as_slice.ensures.value ∙ c.in_ok-trees-in-P.ensures in
+    gains_moved c.take.result (from_column x (Reads (p_node (forest bag) ∷ us))) (from_column x (Reads (u ∷ us))) c.args.columns.now.items c.args.limit c.args.found.now c.take.new.found
+    (same_p u ts bag us x x c.in-P.ensures.outline is refl) c.take.ensures.found
+
+-- a Q-node, from the first child on
+pub open-open-requires : goal.open-open-requires
+open-open-requires t c =
+    let u = outline_of c.args.tree.now in
+    let ts = c.in-Q.children.now in
+    let ps = c.args.way.places.now in
+    let x = c.args.way.column in
+    let child = c.index-children-0.result in
+    let e = c.in-Q.ensures.outline in
+    let w : Leads (reverse (take (length ps - 1) ps)) (outline_of child) x = forward_leads u ts c.args.rest x e c.requires.trees ps c.requires.way child c.index-children-0.is c.if-way-end-eq0.true in
+    let b : CanBegin (outline_of child) x = child_begins u ts c.args.rest x e c.requires.trees 0 child _ (some_child u ts c.args.rest x e c.requires.trees) c.index-children-0.is w in (
+      forward_falls u ts c.args.rest x e c.requires.trees child _ c.index-children-0.is refl b t (omega (arith, c.decreases)),
+      (
+        w,
+        (
+          forward_sound u ts c.args.rest x e c.requires.trees child _ c.index-children-0.is refl b,
+          (
+            forward_low u ts c.args.rest x e c.requires.trees child _ c.index-children-0.is refl b c.requires.low,
+            ready_moved _ (from_column x (Reads (u ∷ coming_trees c.args.rest.now))) c.args.columns.now.items c.args.limit c.args.found.now
+                (forward_same u ts c.args.rest x e c.requires.trees child _ c.index-children-0.is refl b) c.requires.ready,
+          ),
+        ),
+      ),
+    )
+
+pub open-returns-then-way-end-eq0-clause-found : goal.open-returns-then-way-end-eq0-clause-found
+open-returns-then-way-end-eq0-clause-found t c =
+    let u = outline_of c.args.tree.now in
+    let ts = c.in-Q.children.now in
+    let ps = c.args.way.places.now in
+    let x = c.args.way.column in
+    let child = c.index-children-0.result in
+    let e = c.in-Q.ensures.outline in
+    let w : Leads (reverse (take (length ps - 1) ps)) (outline_of child) x = forward_leads u ts c.args.rest x e c.requires.trees ps c.requires.way child c.index-children-0.is c.if-way-end-eq0.true in
+    let b : CanBegin (outline_of child) x = child_begins u ts c.args.rest x e c.requires.trees 0 child _ (some_child u ts c.args.rest x e c.requires.trees) c.index-children-0.is w in
+    gains_moved c.open.result _ (from_column x (Reads (u ∷ coming_trees c.args.rest.now))) c.args.columns.now.items c.args.limit c.args.found.now c.open.new.found
+    (forward_same u ts c.args.rest x e c.requires.trees child _ c.index-children-0.is refl b) c.open.ensures.found
+
+-- a Q-node, from the last child on
+pub open-open-requires-else-way-end-eq0 : goal.open-open-requires-else-way-end-eq0
+open-open-requires-else-way-end-eq0 t c =
+    let u = outline_of c.args.tree.now in
+    let ts = c.in-Q.children.now in
+    let ps = c.args.way.places.now in
+    let x = c.args.way.column in
+    let child = c.index-children-last.result in
+    let e = c.in-Q.ensures.outline in
+    let w : Leads (reverse (take (length ps - 1) ps)) (outline_of child) x = backward_leads u ts c.args.rest x e c.requires.trees ps c.requires.way child c.index-children-last.is c.if-way-end-eq0.false in
+    let b : CanBegin (outline_of child) x = child_begins u ts c.args.rest x e c.requires.trees (length ts - 1) child _ (last_child_inside u ts c.args.rest x e c.requires.trees) c.index-children-last.is w in (
+      backward_falls u ts c.args.rest x e c.requires.trees child _ c.index-children-last.is refl b t (omega (arith, c.decreases)),
+      (
+        w,
+        (
+          backward_sound u ts c.args.rest x e c.requires.trees child _ c.index-children-last.is refl b,
+          (
+            backward_low u ts c.args.rest x e c.requires.trees child _ c.index-children-last.is refl b c.requires.low,
+            ready_moved _ (from_column x (Reads (u ∷ coming_trees c.args.rest.now))) c.args.columns.now.items c.args.limit c.args.found.now
+                (backward_same u ts c.args.rest x e c.requires.trees child _ c.index-children-last.is refl b) c.requires.ready,
+          ),
+        ),
+      ),
+    )
+
+pub open-returns-else-way-end-eq0-clause-found : goal.open-returns-else-way-end-eq0-clause-found
+open-returns-else-way-end-eq0-clause-found t c =
+    let u = outline_of c.args.tree.now in
+    let ts = c.in-Q.children.now in
+    let ps = c.args.way.places.now in
+    let x = c.args.way.column in
+    let child = c.index-children-last.result in
+    let e = c.in-Q.ensures.outline in
+    let w : Leads (reverse (take (length ps - 1) ps)) (outline_of child) x = backward_leads u ts c.args.rest x e c.requires.trees ps c.requires.way child c.index-children-last.is c.if-way-end-eq0.false in
+    let b : CanBegin (outline_of child) x = child_begins u ts c.args.rest x e c.requires.trees (length ts - 1) child _ (last_child_inside u ts c.args.rest x e c.requires.trees) c.index-children-last.is w in
+    gains_moved c.open-else-way-end-eq0.result _ (from_column x (Reads (u ∷ coming_trees c.args.rest.now))) c.args.columns.now.items c.args.limit c.args.found.now c.open-else-way-end-eq0.new.found
+    (backward_same u ts c.args.rest x e c.requires.trees child _ c.index-children-last.is refl b) c.open-else-way-end-eq0.ensures.found
