@@ -1,4 +1,4 @@
-use Rattle.std.proofs.Common.{rules, ◌≡◌, ◌∙◌, ◌+◌, ◌-◌, ◌<◌, ◌≤◌, [], ◌∷◌, ◌++◌, map, reverse, length, get_or, remove, take, drop, refl, sym, ap, subst, arith, vec_len, eqb-true}
+use Rattle.std.proofs.Common.{rules, ◌≡◌, ◌≢◌, ◌∙◌, ◌+◌, ◌-◌, ◌<◌, ◌≤◌, [], ◌∷◌, ◌++◌, map, reverse, length, get_or, remove, take, drop, refl, sym, ap, subst, arith, vec_len, eqb-true}
 use Rattle.pq_tree.specs.Outline.{leaf, p_node, no_tree}
 use Rattle.pq_tree.proofs.Shown.{outline_of-Leaf}
 use Rattle.pq_tree.specs.Proper.{outline_of, forest}
@@ -8,7 +8,7 @@ use Rattle.order_list.specs.Listed.{added}
 use Rattle.order_list.specs.Reading.{Reads, CanBegin, tree_at}
 use Rattle.order_list.specs.Ways.{Leads}
 use Rattle.order_list.proofs.Begins.{lent_at}
-use Rattle.order_list.proofs.Links.{trees-Nothing, within-InAnyOrder, weight-InAnyOrder}
+use Rattle.order_list.proofs.Links.{trees-Nothing, trees-InAnyOrder, within-InAnyOrder, weight-InAnyOrder, within-Forwards, weight-Forwards, within-Backwards, weight-Backwards}
 use Rattle.order_list.specs.declared.walk.Coming.{Forwards, Backwards}
 use Rattle.std.proofs.lemmas.Result.{on_ok_weaker}
 use Rattle.order_list.specs.Weights.{weight, weights, weight_within}
@@ -17,7 +17,8 @@ use Rattle.order_list.proofs.Steps.{popped, next_gains, last_gains, all_gains, r
 use Rattle.order_list.proofs.Openings.{one_outline, one_trees, one_within, one_weight, step_inside, step_place, step_begins, step_leads, outlines_behind, bag_sound, taken_falls, taken_sound, taken_low, taken_same, forward_leads, backward_leads, child_begins, some_child, last_child_inside, forward_falls, forward_sound, forward_low, forward_same, backward_falls, backward_sound, backward_low, backward_same, none_trees, no_first, no_last, first_trees, first_within, first_weight, last_trees, last_within, last_weight}
 use Rattle.order_list.proofs.Children.{outlines_length}
 use Rattle.order_list.proofs.LeastFirst.{low_same, one_low}
-use Rattle.order_list.proofs.Ways.{leads_begin}
+use Rattle.std.proofs.lemmas.Bool.{eqb-false}
+use Rattle.order_list.proofs.Ways.{leads_begin, p_some_place, q_some_place}
 use Rattle.order_list.proofs.Taking.{sound_left, sound_right, sound_same}
 use Rattle.order_list.proofs.walk.+walk.Goals as goal
 
@@ -545,3 +546,137 @@ open-returns-else-way-end-eq0-clause-found t c =
     let b : CanBegin (outline_of child) x = child_begins u ts c.args.rest x e c.requires.trees (length ts - 1) child _ (last_child_inside u ts c.args.rest x e c.requires.trees) c.index-children-last.is w in
     gains_moved c.open-else-way-end-eq0.result _ (from_column x (Reads (u ∷ coming_trees c.args.rest.now))) c.args.columns.now.items c.args.limit c.args.found.now c.open-else-way-end-eq0.new.found
     (backward_same u ts c.args.rest x e c.requires.trees child _ c.index-children-last.is refl b) c.open-else-way-end-eq0.ensures.found
+
+-- a bag of two trees or more
+pub read_on-each_next-requires : goal.read_on-each_next-requires
+read_on-each_next-requires t c =
+    let bag = c.in-InAnyOrder.bag in
+    let rest = c.in-InAnyOrder.rest in
+    let coming = c.args.coming.now in
+    let some : length bag.trees.now ≢ 0 = eqb-false (length bag.trees.now) 0 (sym c.is_empty.ensures ∙ c.if-is_empty.false) in
+    let trees : coming_trees coming ≡ p_node (forest (outlines bag.trees.now)) ∷ coming_trees rest.now = ap coming_trees c.in-InAnyOrder.is ∙ trees-InAnyOrder bag rest in (
+      omega (arith, ap weight_within c.in-InAnyOrder.is, weight-InAnyOrder bag rest, c.decreases),
+      (
+        omega (arith, some),
+        (
+          sound_same (trees_within coming) (outlines bag.trees.now ++ trees_within rest.now) (ap trees_within c.in-InAnyOrder.is ∙ within-InAnyOrder bag rest) c.requires.trees,
+          (
+            low_same (coming_trees coming) (p_node (forest (outlines bag.trees.now)) ∷ coming_trees rest.now) trees c.requires.low,
+            ready_moved (Reads (p_node (forest (outlines bag.trees.now)) ∷ coming_trees rest.now)) (Reads (coming_trees coming)) c.args.columns.now.items c.args.limit c.args.found.now
+                (same_trees (p_node (forest (outlines bag.trees.now)) ∷ coming_trees rest.now) (coming_trees coming) (sym trees)) c.requires.ready,
+          ),
+        ),
+      ),
+    )
+
+pub read_on-returns-else-bag-eq1-clause-found : goal.read_on-returns-else-bag-eq1-clause-found
+read_on-returns-else-bag-eq1-clause-found t c =
+    let bag = c.in-InAnyOrder.bag in
+    let rest = c.in-InAnyOrder.rest in
+    let coming = c.args.coming.now in
+    let trees : coming_trees coming ≡ p_node (forest (outlines bag.trees.now)) ∷ coming_trees rest.now = ap coming_trees c.in-InAnyOrder.is ∙ trees-InAnyOrder bag rest in
+    gains_moved c.each_next.result (Reads (p_node (forest (outlines bag.trees.now)) ∷ coming_trees rest.now)) (Reads (coming_trees coming)) c.args.columns.now.items c.args.limit c.args.found.now c.each_next.new.found
+    (same_trees (p_node (forest (outlines bag.trees.now)) ∷ coming_trees rest.now) (coming_trees coming) (sym trees)) c.each_next.ensures.found
+
+-- trees in turn that are used up
+pub read_on-read_on-requires-in-None : goal.read_on-read_on-requires-in-None
+read_on-read_on-requires-in-None t c =
+    let coming = c.args.coming.now in
+    let trees = c.in-Forwards.trees in
+    let rest = c.in-Forwards.rest in
+    let same : coming_trees rest.now ≡ coming_trees coming = no_first coming trees rest c.in-Forwards.is c.in-None.ensures.cases in (
+      omega (arith, ap weight_within c.in-Forwards.is, weight-Forwards trees rest, c.decreases),
+      (
+        sound_right (map outline_of trees.now) (trees_within rest.now)
+            (sound_same (trees_within coming) (map outline_of trees.now ++ trees_within rest.now) (ap trees_within c.in-Forwards.is ∙ within-Forwards trees rest) c.requires.trees),
+        (
+          low_same (coming_trees coming) (coming_trees rest.now) (sym same) c.requires.low,
+          ready_moved (Reads (coming_trees rest.now)) (Reads (coming_trees coming)) c.args.columns.now.items c.args.limit c.args.found.now
+              (same_trees (coming_trees rest.now) (coming_trees coming) same) c.requires.ready,
+        ),
+      ),
+    )
+
+pub read_on-read_on-requires-in-None-split_last : goal.read_on-read_on-requires-in-None-split_last
+read_on-read_on-requires-in-None-split_last t c =
+    let coming = c.args.coming.now in
+    let trees = c.in-Backwards.trees in
+    let rest = c.in-Backwards.rest in
+    let same : coming_trees rest.now ≡ coming_trees coming = no_last coming trees rest c.in-Backwards.is c.in-None-split_last.ensures.cases in (
+      omega (arith, ap weight_within c.in-Backwards.is, weight-Backwards trees rest, c.decreases),
+      (
+        sound_right (reverse (map outline_of trees.now)) (trees_within rest.now)
+            (sound_same (trees_within coming) (reverse (map outline_of trees.now) ++ trees_within rest.now) (ap trees_within c.in-Backwards.is ∙ within-Backwards trees rest) c.requires.trees),
+        (
+          low_same (coming_trees coming) (coming_trees rest.now) (sym same) c.requires.low,
+          ready_moved (Reads (coming_trees rest.now)) (Reads (coming_trees coming)) c.args.columns.now.items c.args.limit c.args.found.now
+              (same_trees (coming_trees rest.now) (coming_trees coming) same) c.requires.ready,
+        ),
+      ),
+    )
+
+-- the last place of a way
+pub take-overflow_sub-last : goal.take-overflow_sub-last
+take-overflow_sub-last t c = p_some_place c.args.way.places.now (outlines c.args.trees.now) c.args.way.column c.requires.way
+
+pub take-bounds-way-last : goal.take-bounds-way-last
+take-bounds-way-last t c = omega (arith, p_some_place c.args.way.places.now (outlines c.args.trees.now) c.args.way.column c.requires.way)
+
+pub take-offset_bounds-way-last : goal.take-offset_bounds-way-last
+take-offset_bounds-way-last t c = omega (arith, c.ranges.way.1)
+
+pub open-overflow_sub-end : goal.open-overflow_sub-end
+open-overflow_sub-end t c =
+    q_some_place c.args.way.places.now (map outline_of c.in-Q.children.now) c.args.way.column
+    (subst (λ v. Leads (reverse c.args.way.places.now) v c.args.way.column) c.in-Q.ensures.outline c.requires.way)
+
+pub open-bounds-way-end : goal.open-bounds-way-end
+open-bounds-way-end t c =
+    omega (
+      arith,
+      q_some_place c.args.way.places.now (map outline_of c.in-Q.children.now) c.args.way.column
+          (subst (λ v. Leads (reverse c.args.way.places.now) v c.args.way.column) c.in-Q.ensures.outline c.requires.way),
+    )
+
+pub open-offset_bounds-way-end : goal.open-offset_bounds-way-end
+open-offset_bounds-way-end t c = omega (arith, c.ranges.way.1)
+
+-- the columns, as the call that was made last left them
+pub open-returns-in-Leaf-clause-columns : goal.open-returns-in-Leaf-clause-columns
+open-returns-in-Leaf-clause-columns t c = c.read_on.ensures.columns
+
+pub open-returns-in_ok-trees-in-P-clause-columns : goal.open-returns-in_ok-trees-in-P-clause-columns
+open-returns-in_ok-trees-in-P-clause-columns t c = c.take.ensures.columns
+
+pub open-returns-then-way-end-eq0-clause-columns : goal.open-returns-then-way-end-eq0-clause-columns
+open-returns-then-way-end-eq0-clause-columns t c = c.open.ensures.columns
+
+pub open-returns-else-way-end-eq0-clause-columns : goal.open-returns-else-way-end-eq0-clause-columns
+open-returns-else-way-end-eq0-clause-columns t c = c.open-else-way-end-eq0.ensures.columns
+
+pub read_on-returns-then-is_empty-clause-columns : goal.read_on-returns-then-is_empty-clause-columns
+read_on-returns-then-is_empty-clause-columns t c = c.read_on.ensures.columns
+
+pub read_on-returns-then-bag-eq1-clause-columns : goal.read_on-returns-then-bag-eq1-clause-columns
+read_on-returns-then-bag-eq1-clause-columns t c = c.read_tree.ensures.columns
+
+pub read_on-returns-else-bag-eq1-clause-columns : goal.read_on-returns-else-bag-eq1-clause-columns
+read_on-returns-else-bag-eq1-clause-columns t c = c.each_next.ensures.columns
+
+pub read_on-returns-in-None-clause-columns : goal.read_on-returns-in-None-clause-columns
+read_on-returns-in-None-clause-columns t c = c.read_on-in-None.ensures.columns
+
+pub read_on-returns-in-Some-clause-columns : goal.read_on-returns-in-Some-clause-columns
+read_on-returns-in-Some-clause-columns t c = c.read_tree-in-Some.ensures.columns
+
+pub read_on-returns-in-None-split_last-clause-columns : goal.read_on-returns-in-None-split_last-clause-columns
+read_on-returns-in-None-split_last-clause-columns t c = c.read_on-in-None-split_last.ensures.columns
+
+pub read_on-returns-in-Some-split_last-clause-columns : goal.read_on-returns-in-Some-split_last-clause-columns
+read_on-returns-in-Some-split_last-clause-columns t c = c.read_tree-in-Some-split_last.ensures.columns
+
+pub take-returns-then-place-eq0-clause-columns : goal.take-returns-then-place-eq0-clause-columns
+take-returns-then-place-eq0-clause-columns t c = c.open.ensures.columns
+
+pub take-returns-in_ok-others-clause-columns : goal.take-returns-in_ok-others-clause-columns
+take-returns-in_ok-others-clause-columns t c = c.open-else-place-eq0.ensures.columns
