@@ -1,9 +1,12 @@
 -- Valid orders of the first rows, and of the rows that a tree is tied to.
-use Rattle.std.proofs.Common.{◌≡◌, ◌∙◌, ℕ, List, take, subst, sym, arith, [], IfOk, Result, Ok, Err}
+use Rattle.std.proofs.Common.{◌≡◌, ◌∙◌, ℕ, ◌+◌, ◌-◌, ◌≤◌, List, take, subst, sym, arith, [], IfOk, Result, Ok, Err}
 use Rattle.std.specs.declared.alloc.AllocError.{AllocError}
 use Rattle.std.proofs.lemmas.List.Elements.{All-take}
 use Rattle.column_order.specs.Orders.{IsOrder, Keeps, IsValidOrder, HasValidOrder}
 use Rattle.row_model.specs.Rows.{RowList}
+use Rattle.row_model.specs.Cycles.{IsOddCycle}
+use Rattle.row_model.specs.declared.graph.Line.{Line}
+use Rattle.row_judge.specs.Blamed.{IsReason, FirstConflictLaw}
 use Rattle.pq_tree.specs.Outline.{Outline, leaves, IsFrontier}
 use Rattle.pq_tree.specs.Canonical.{IsCanonical}
 use Rattle.pq_tree.specs.Proper.{columns}
@@ -41,6 +44,16 @@ reducer_tied m (Err error) n t e tied kept = tt
 pub some_order : (c : ℕ) → HasValidOrder c []
 some_order c = (columns c, record { order = columns_order c; kept = λ k d m. absurd (omega arith) })
 
--- the leaves of a tree that is tied to some rows are a valid order of them, as it stands
-pub tied_valid : (c n : ℕ) (rows : List (List ℕ)) (t : PqTree) (f : List ℕ) → column_count t ≡ n → n ≡ c → IsTied c rows (outline t) → IsFrontier (outline t) f → IsOrder (column_count t) f → IsValidOrder c rows f
-tied_valid c n rows t f e e' tied frontier order = record { order = subst (λ k. IsOrder k f) (e ∙ e') order; kept = tied.kept f frontier }
+-- a frontier of the tree that a reducer of so many columns answers, whose own is tied to some rows, is a valid order of them
+pub frontier_valid : (c n : ℕ) (rows : List (List ℕ)) (own : Outline) (t : PqTree) (f : List ℕ) → n ≡ c → column_count t ≡ n → IsTied c rows own → ((some : List (List ℕ)) → IsTied n some own → IsTied n some (outline t))
+    → IsFrontier (outline t) f → IsOrder (column_count t) f → IsValidOrder c rows f
+frontier_valid c n rows own t f same columns tied kept frontier order =
+    let there = subst (λ (k : ℕ). IsTied k rows (outline t)) same (kept rows (subst (λ (k : ℕ). IsTied k rows own) (sym same) tied)) in
+    record { order = subst (λ k. IsOrder k f) (columns ∙ same) order; kept = there.kept f frontier }
+
+-- an odd cycle of the rows 1 to k blames row k where an order is valid for those before it
+pub row_blamed : FirstConflictLaw → (m : RowList) (k : ℕ) (order : List ℕ) (lines : List Line) → 1 ≤ k → IsValidOrder m.columns (take (k - 1) m.rows) order → IsOddCycle m.columns (take k m.rows) lines → IsReason k lines
+row_blamed blames m k order lines from valid cycle =
+    let last : k - 1 + 1 ≡ k = omega (arith, from) in
+    subst (λ n. IsReason n lines) last
+    (blames m lines (record { before = k - 1; order = (order, valid); cycle = subst (λ n. IsOddCycle m.columns (take n m.rows) lines) (sym last) cycle }))

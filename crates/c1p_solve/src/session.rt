@@ -71,7 +71,7 @@ pub enum Taken {
     /// The session's rows have a valid order with it, and it is the last of them now.
     Ok,
     /// The session's rows have no valid order with it, and the session is as before. Where it was asked for, an odd
-    /// cycle shows it; the refused row has the number after the session's last row there.
+    /// cycle shows it; the refused row has the number after the session's last row there, and is one of its reasons.
     No(Option<Cycle>),
 }
 

@@ -4,12 +4,14 @@ ghost use Rattle.row_model.specs.Graph.{HasConflict};
 ghost use Rattle.row_model.specs.Cycles.{IsOddCycle};
 ghost use Rattle.pq_tree.specs.Amortised.{weight};
 ghost use Rattle.odd_cycle.specs.Short.{IsShort};
+ghost use Rattle.row_judge.specs.Blamed.{IsReason};
 ghost use Rattle.tied_law.specs.Tied.{IsTied};
 ghost use Rattle.c1p_solve.specs.Answers.{IsAnswer, IsReduction, LeavesTree, IsInTurn, IsReducedInTurn};
 ghost use Rattle.c1p_solve.specs.Totals.{IsTotal, IsReductionTotal, answer_steps};
 
 use crate::Solved;
 use incompat_graph::{Cycle, odd_cycle_along};
+use row_judge::last_row_laws;
 use row_model::{Matrix, NoMemory};
 use std::alloc::Global;
 use step_count::{Ledger, Steps};
@@ -79,7 +81,8 @@ pub(crate) fn reduce_all<R: Reducer, L: Ledger>(
 }
 
 // An odd cycle of a matrix of which the rows 1 to `k` have no valid order, by a reducer whose tree is tied to the rows
-// before row `k`. With c columns and f ones in the rows 1 to `k` it counts at most 8c(f + 1) steps.
+// before row `k`, which is a reason of the cycle. With c columns and f ones in the rows 1 to `k` it counts at most
+// 8c(f + 1) steps.
 pub(crate) fn conflict<R: Reducer, L: Ledger>(
     alloc: Global,
     reducer: &R,
@@ -93,9 +96,11 @@ pub(crate) fn conflict<R: Reducer, L: Ledger>(
     requires conflict { HasConflict m.now.columns (take k m.now.rows) }
     ensures cycle { IfOk result (IsOddCycle m.now.columns m.now.rows) }
     ensures first_rows { IfOk result (IsOddCycle m.now.columns (take k m.now.rows)) }
+    ensures reason { IfOk result (IsReason k) }
     ensures short { IfOk result (IsShort m.now.columns) }
     ensures ticks { steps.new ≤ steps.old + 8 * m.now.columns * (sum_by length (take k m.now.rows) + 1) }
 {
+    last_row_laws();
     let tree = reducer.tree(alloc)?;
     let order = tree.frontier(alloc)?;
     odd_cycle_along(alloc, m, k, &order, steps)

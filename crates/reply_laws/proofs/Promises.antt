@@ -1,11 +1,12 @@
 -- What a run promises where nothing fails.
 use Rattle.std.proofs.Common.{◌≡◌, ℕ, List, [], ◌∷◌, inl, inr, subst, arith}
 use Rattle.std.proofs.lemmas.Bool.{cases_eq}
+use Rattle.row_model.specs.declared.graph.Line.{Line}
 use Rattle.row_model.specs.declared.kind.Kind.{Kind}
 use Rattle.verdict_text.specs.Verdict.{Claim, yes_claim, no_claim, VerdictValue}
 use Rattle.row_model.specs.declared.refusal.Read.TheVariants as read
 use Rattle.row_model.specs.Rows.{RowList}
-use Rattle.instance_model.specs.Instance.{InstanceValue, HasTextbookOrder, plain, proper}
+use Rattle.instance_model.specs.Instance.{InstanceValue, HasTextbookOrder, plain, proper, derived_matrix}
 use Rattle.command_input.specs.Instances.{instance_of}
 use Rattle.command_input.specs.Words.{Solve, Check, Extend, Gen, Meet, ListOrders, UnitModel, CheckUnit, Core, CheckCore}
 use Rattle.reply_laws.specs.Replies.{Replies}
@@ -23,20 +24,25 @@ use Rattle.reply_laws.specs.Units.{UnitStatusLaw, PrintedUnitLaw}
 use Rattle.reply_laws.specs.UnitChecks.{UnitCheckLaw, UnitAgreedLaw}
 use Rattle.reply_laws.proofs.Units.{told_status}
 use Rattle.reply_laws.specs.Promise.{IsNoAnd, TellsNo, IsCycleOf, SaysYes, SaysNo, IsSolved, IsPromised, PromiseLaw}
+use Rattle.row_judge.specs.Blamed.{FirstConflictLaw}
+
+-- the cycle of a true no
+cycle_of : FirstConflictLaw → (i : InstanceValue) (s : ℕ) (lines : List Line) → IsClaimOf i (no_claim s lines) → IsCycleOf i s lines
+cycle_of blames i s lines true = (true.0.side, true.1, true.2, true.3, blames (derived_matrix i s) lines true.3)
 
 -- a true claim with this status solves the instance
-solved : (i : InstanceValue) (claim : Claim) (status : ℕ) (text : List ℕ) → status ≡ status_of claim → IsClaimOf i claim → (status ≡ 0 → SaysYes i text) → (status ≡ 1 → HasTextbookOrder i → ⊥)
+solved : FirstConflictLaw → (i : InstanceValue) (claim : Claim) (status : ℕ) (text : List ℕ) → status ≡ status_of claim → IsClaimOf i claim → (status ≡ 0 → SaysYes i text) → (status ≡ 1 → HasTextbookOrder i → ⊥)
     → (IsNoAnd claim (IsCycleOf i) → TellsNo text (IsCycleOf i)) → IsSolved i status text
-solved i (yes_claim value) status text is true at_zero at_one tells = inl (is, at_zero is)
-solved i (no_claim s lines) status text is true at_zero at_one tells = inr (is, record { none = at_one is; cycle = tells (true.0.side, true.1, true.2) })
+solved blames i (yes_claim value) status text is true at_zero at_one tells = inl (is, at_zero is)
+solved blames i (no_claim s lines) status text is true at_zero at_one tells = inr (is, record { none = at_one is; cycle = tells (cycle_of blames i s lines true) })
 
 -- a no of a graph tells a cycle
-unit_no : (g : GraphValue) (verdict : VerdictValue) (claim : Claim) (text : List ℕ) → IsVerdict verdict → IsClaimOf (proper g) claim → TellsByClaim g verdict claim 1 text
+unit_no : FirstConflictLaw → (g : GraphValue) (verdict : VerdictValue) (claim : Claim) (text : List ℕ) → IsVerdict verdict → IsClaimOf (proper g) claim → TellsByClaim g verdict claim 1 text
     → (IsNoAnd claim (IsCycleOf (proper g)) → IsNoAnd verdict.claim (IsCycleOf (proper g))) → TellsNo text (IsCycleOf (proper g))
-unit_no g verdict (yes_claim value) text grammar true tells same = absurd (omega (arith, tells.0))
-unit_no g verdict (no_claim s lines) text grammar true tells same = (verdict, grammar, tells.1, same (true.0.side, true.1, true.2))
+unit_no blames g verdict (yes_claim value) text grammar true tells same = absurd (omega (arith, tells.0))
+unit_no blames g verdict (no_claim s lines) text grammar true tells same = (verdict, grammar, tells.1, same (cycle_of blames (proper g) s lines true))
 
-module _ (status_law : UnitStatusLaw) (printed_law : PrintedUnitLaw) (check_law : UnitCheckLaw) (agreed_law : UnitAgreedLaw) where
+module _ (blames : FirstConflictLaw) (status_law : UnitStatusLaw) (printed_law : PrintedUnitLaw) (check_law : UnitCheckLaw) (agreed_law : UnitAgreedLaw) where
   unit_promised : (file bytes : List ℕ) (status : ℕ) (text : List ℕ) → Replies (UnitModel file) (bytes ∷ []) status text → IsPromised (UnitModel file) (bytes ∷ []) status text
   unfolding Replies
   unit_promised file bytes status text reply =
@@ -52,7 +58,7 @@ module _ (status_law : UnitStatusLaw) (printed_law : PrintedUnitLaw) (check_law 
               inr (
                 one,
                 (status_law file bytes text status g e reply).1.0 one,
-                unit_no g made.verdict made.verdict.claim text made.grammar made.holds.claim (subst (λ s. TellsByClaim g made.verdict made.verdict.claim s text) one made.tells) (λ no. no),
+                unit_no blames g made.verdict made.verdict.claim text made.grammar made.holds.claim (subst (λ s. TellsByClaim g made.verdict made.verdict.claim s text) one made.tells) (λ no. no),
               )
         ],
       )
@@ -69,7 +75,7 @@ module _ (status_law : UnitStatusLaw) (printed_law : PrintedUnitLaw) (check_law 
     },
   )
 
-module _ (no_law : NoStatusLaw) (yes_law : YesStatusLaw) (orders_law : OrdersLaw) where
+module _ (blames : FirstConflictLaw) (no_law : NoStatusLaw) (yes_law : YesStatusLaw) (orders_law : OrdersLaw) where
   solve_promised : (kind : Kind) (file bytes : List ℕ) (status : ℕ) (text : List ℕ) → Replies (Solve kind file) (bytes ∷ []) status text → IsPromised (Solve kind file) (bytes ∷ []) status text
   unfolding Replies
   solve_promised kind file bytes status text reply =
@@ -78,7 +84,7 @@ module _ (no_law : NoStatusLaw) (yes_law : YesStatusLaw) (orders_law : OrdersLaw
       let made = reply.2 in (
         i,
         e,
-        solved i made.verdict.claim status text made.status_is made.holds.claim
+        solved blames i made.verdict.claim status text made.status_is made.holds.claim
             (λ zero. record {
               exists = (yes_law kind file bytes text status i e reply).0 zero;
               orders = orders_law kind file bytes text i e (subst (λ s. Replies (Solve kind file) (bytes ∷ []) s text) zero reply);
@@ -178,11 +184,11 @@ pub record KnownReplies : Type 0 where
   pub unit_check : UnitCheckLaw
   pub unit_agreed : UnitAgreedLaw
 
-module _ (no_law : NoStatusLaw) (yes_law : YesStatusLaw) (orders_law : OrdersLaw) (known : KnownReplies) where
+module _ (blames : FirstConflictLaw) (no_law : NoStatusLaw) (yes_law : YesStatusLaw) (orders_law : OrdersLaw) (known : KnownReplies) where
   pub promise_law : PromiseLaw
   unfolding Replies
   promise_law (Solve kind file) [] status text reply = reply
-  promise_law (Solve kind file) (bytes ∷ []) status text reply = solve_promised no_law yes_law orders_law kind file bytes status text reply
+  promise_law (Solve kind file) (bytes ∷ []) status text reply = solve_promised blames no_law yes_law orders_law kind file bytes status text reply
   promise_law (Solve kind file) (bytes ∷ more ∷ files) status text reply = reply
   promise_law (Check kind file verdict) [] status text reply = reply
   promise_law (Check kind file verdict) (bytes ∷ []) status text reply = reply
@@ -190,10 +196,10 @@ module _ (no_law : NoStatusLaw) (yes_law : YesStatusLaw) (orders_law : OrdersLaw
   promise_law (Check kind file verdict) (bytes ∷ given ∷ more ∷ files) status text reply = reply
   promise_law (Extend kind file rows) [] status text reply = reply
   promise_law (Extend kind file rows) (bytes ∷ []) status text reply = reply
-  promise_law (Extend kind file rows) (bytes ∷ given ∷ []) status text reply = extend_promised no_law yes_law orders_law known.session known.base kind file rows bytes given status text reply
+  promise_law (Extend kind file rows) (bytes ∷ given ∷ []) status text reply = extend_promised blames no_law yes_law orders_law known.session known.base kind file rows bytes given status text reply
   promise_law (Extend kind file rows) (bytes ∷ given ∷ more ∷ files) status text reply = reply
   promise_law (Core kind file) [] status text reply = reply
-  promise_law (Core kind file) (bytes ∷ []) status text reply = core_promised no_law yes_law orders_law known.no_core kind file bytes status text reply
+  promise_law (Core kind file) (bytes ∷ []) status text reply = core_promised blames no_law yes_law orders_law known.no_core kind file bytes status text reply
   promise_law (Core kind file) (bytes ∷ more ∷ files) status text reply = reply
   promise_law (CheckCore kind file core) [] status text reply = reply
   promise_law (CheckCore kind file core) (bytes ∷ []) status text reply = reply
@@ -206,12 +212,12 @@ module _ (no_law : NoStatusLaw) (yes_law : YesStatusLaw) (orders_law : OrdersLaw
   promise_law (Meet c first second) (bytes ∷ given ∷ []) status text reply = reply
   promise_law (Meet c first second) (bytes ∷ given ∷ more ∷ files) status text reply = reply
   promise_law (ListOrders kind file count) [] status text reply = reply
-  promise_law (ListOrders kind file count) (bytes ∷ []) status text reply = list_promised no_law yes_law orders_law known.no_list kind file bytes count status text reply
+  promise_law (ListOrders kind file count) (bytes ∷ []) status text reply = list_promised blames no_law yes_law orders_law known.no_list kind file bytes count status text reply
   promise_law (ListOrders kind file count) (bytes ∷ more ∷ files) status text reply = reply
   promise_law (UnitModel file) [] status text reply = reply
-  promise_law (UnitModel file) (bytes ∷ []) status text reply = unit_promised known.unit known.printed_unit known.unit_check known.unit_agreed file bytes status text reply
+  promise_law (UnitModel file) (bytes ∷ []) status text reply = unit_promised blames known.unit known.printed_unit known.unit_check known.unit_agreed file bytes status text reply
   promise_law (UnitModel file) (bytes ∷ more ∷ files) status text reply = reply
   promise_law (CheckUnit file unit) [] status text reply = reply
   promise_law (CheckUnit file unit) (bytes ∷ []) status text reply = reply
-  promise_law (CheckUnit file unit) (bytes ∷ given ∷ []) status text reply = unit_check_promised known.unit known.printed_unit known.unit_check known.unit_agreed file unit bytes given status text reply
+  promise_law (CheckUnit file unit) (bytes ∷ given ∷ []) status text reply = unit_check_promised blames known.unit known.printed_unit known.unit_check known.unit_agreed file unit bytes given status text reply
   promise_law (CheckUnit file unit) (bytes ∷ given ∷ more ∷ files) status text reply = reply

@@ -1,5 +1,5 @@
 -- What the text of a session shows.
-use Rattle.std.proofs.Common.{◌≡◌, ◌∙◌, ◌↔◌, ℕ, zero, suc, ◌<◌, List, [], ◌∷◌, ◌++◌, length, slice_get, Option, Some, None, refl, sym, ap, subst, inl, inr, arith}
+use Rattle.std.proofs.Common.{◌≡◌, ◌∙◌, ◌↔◌, ℕ, zero, suc, ◌<◌, List, [], ◌∷◌, ◌++◌, length, take, slice_get, Option, Some, None, refl, sym, ap, subst, inl, inr, arith}
 use Rattle.std.specs.Prelude.{All}
 use Rattle.std.proofs.lemmas.List.Elements.{All-nil, All-cons, All-head, All-tail, All-push}
 use Rattle.std.proofs.lemmas.Option.{none-some, same_Some}
@@ -12,10 +12,9 @@ use Rattle.row_model.specs.declared.refusal.Read.TheVariants as read
 use Rattle.matrix_read.specs.Sparse.{further}
 use Rattle.instance_model.specs.Instance.{plain, derived_matrix}
 use Rattle.command_input.specs.Instances.{instance_of}
-use Rattle.odd_cycle.specs.Short.{IsShort}
 use Rattle.reply_laws.specs.Extend.{IsAcceptedAt, IsRefusedAt, KeepsAccepted, ShowsSession, ExtendStatusLaw, SessionLaw, BaseLaw}
 use Rattle.reply_laws.specs.Replies.{Replies}
-use Rattle.solve_replies.specs.Sessions.{IsSessionText, IsExtensionReply, OutcomesLaw, Outcome, accepted, refused, IsOutcome, matrix_after, refusals_after, AreOutcomes, matrix_at_end}
+use Rattle.solve_replies.specs.Sessions.{IsSessionText, IsExtensionReply, OutcomesLaw, Outcome, accepted, refused, Explains, IsOutcome, matrix_after, refusals_after, AreOutcomes, matrix_at_end}
 use Rattle.reply_laws.proofs.Reading.{same_read}
 
 -- an order keeps rows and one more where it keeps each of them
@@ -79,26 +78,23 @@ refused_kept m refusals (first ∷ rows) (outcome ∷ outcomes) all zero row o a
 refused_kept m refusals (first ∷ rows) (outcome ∷ outcomes) all (suc i) row o at h k =
     refused_kept (matrix_after m first outcome) (refusals_after refusals outcome) rows outcomes all.1 i row o at (later_kept m first outcome rows outcomes i o h) k
 
--- what explains a refusal is a short cycle
-explained_short : (m : RowList) (refusals : ℕ) (row : List ℕ) (outcome : Outcome) (lines : List Line) → outcome ≡ refused (Some lines) → IsOutcome m refusals row outcome → IsShort m.columns lines
-explained_short m refusals row accepted lines e one = absurd (cc)
-explained_short m refusals row (refused None) lines e one = absurd (cc)
-explained_short m refusals row (refused (Some cycle)) lines e one =
+-- what explains a refusal is a cycle that blames the refused row
+explained : (m : RowList) (refusals : ℕ) (row : List ℕ) (outcome : Outcome) (lines : List Line) → outcome ≡ refused (Some lines) → IsOutcome m refusals row outcome → Explains m row lines
+explained m refusals row accepted lines e one = absurd (cc)
+explained m refusals row (refused None) lines e one = absurd (cc)
+explained m refusals row (refused (Some cycle)) lines e one =
     let same : cycle ≡ lines = cc in
-    subst (IsShort m.columns) same one.1.2
+    subst (Explains m row) same one.1.1
 
-columns_after : (m : RowList) (row : List ℕ) (outcome : Outcome) → (matrix_after m row outcome).columns ≡ m.columns
-columns_after m row accepted = refl
-columns_after m row (refused cycle) = refl
-
-refused_short : (m : RowList) (refusals : ℕ) (rows : List (List ℕ)) (outcomes : List Outcome) → AreOutcomes m refusals rows outcomes
-    → (i : ℕ) (lines : List Line) → slice_get outcomes i ≡ Some (refused (Some lines)) → IsShort m.columns lines
-refused_short m refusals [] [] all i lines e = absurd (none-some (refused (Some lines)) e)
-refused_short m refusals [] (outcome ∷ outcomes) all i lines e = absurd all
-refused_short m refusals (row ∷ rows) [] all i lines e = absurd all
-refused_short m refusals (row ∷ rows) (outcome ∷ outcomes) all zero lines e = explained_short m refusals row outcome lines (same_Some outcome (refused (Some lines)) e) all.0
-refused_short m refusals (row ∷ rows) (outcome ∷ outcomes) all (suc i) lines e =
-    subst (λ c. IsShort c lines) (columns_after m row outcome) (refused_short (matrix_after m row outcome) (refusals_after refusals outcome) rows outcomes all.1 i lines e)
+refused_explained : (m : RowList) (refusals : ℕ) (rows : List (List ℕ)) (outcomes : List Outcome) → AreOutcomes m refusals rows outcomes
+    → (i : ℕ) (row : List ℕ) (lines : List Line) → slice_get rows i ≡ Some row → slice_get outcomes i ≡ Some (refused (Some lines))
+    → Explains (matrix_at_end m (take i rows) outcomes) row lines
+refused_explained m refusals [] outcomes all i row lines at e = absurd (none-some row at)
+refused_explained m refusals (first ∷ rows) [] all i row lines at e = absurd all
+refused_explained m refusals (first ∷ rows) (outcome ∷ outcomes) all zero row lines at e =
+    subst (λ r. Explains m r lines) (same_Some first row at) (explained m refusals first outcome lines (same_Some outcome (refused (Some lines)) e) all.0)
+refused_explained m refusals (first ∷ rows) (outcome ∷ outcomes) all (suc i) row lines at e =
+    refused_explained (matrix_after m first outcome) (refusals_after refusals outcome) rows outcomes all.1 i row lines at e
 
 -- a session's text shows what became of each row
 shows : OutcomesLaw → (kind : Kind) (m : RowList) (rows : List (List ℕ)) (text : List ℕ) → IsSessionText kind m rows text → ShowsSession kind m rows text
@@ -111,7 +107,7 @@ shows same_count kind m rows text s =
       orders = λ o. let kept = end_kept m 0 rows s.outcomes o s.in_turn in (λ f. kept.0 ((s.shows.orders o).0 f), λ h. (s.shows.orders o).1 (kept.1 h));
       order = (end_kept m 0 rows s.outcomes s.side.order s.in_turn).0 s.shows.order;
       refusals = refused_kept m 0 rows s.outcomes s.in_turn;
-      cycles = refused_short m 0 rows s.outcomes s.in_turn;
+      cycles = refused_explained m 0 rows s.outcomes s.in_turn;
     }
 
 -- the matrix that a reply speaks of is the one in the first file

@@ -1,5 +1,5 @@
 -- What the text of a session shows.
-use Rattle.std.specs.Prelude.{◌≡◌, ◌↔◌, ℕ, ◌<◌, List, [], ◌∷◌, length, slice_get, Option, Some}
+use Rattle.std.specs.Prelude.{◌≡◌, ◌↔◌, ℕ, ◌<◌, List, [], ◌∷◌, length, take, slice_get, Option, Some}
 use Rattle.column_order.specs.Orders.{Keeps, IsValidOrder, HasValidOrder}
 use Rattle.row_model.specs.Rows.{RowList}
 use Rattle.row_model.specs.declared.graph.Line.{Line}
@@ -7,13 +7,12 @@ use Rattle.row_model.specs.declared.kind.Kind.{Kind}
 use Rattle.row_model.specs.declared.refusal.Read.TheVariants as read
 use Rattle.matrix_read.specs.Sparse.{further}
 use Rattle.pq_tree.specs.Outline.{IsFrontier}
-use Rattle.odd_cycle.specs.Short.{IsShort}
 use Rattle.verdict_text.specs.Verdict.{SideValue}
 use Rattle.instance_model.specs.Instance.{plain}
 use Rattle.command_input.specs.Words.{Solve, Extend}
 use Rattle.command_input.specs.Instances.{instance_of}
 use Rattle.reply_laws.specs.Replies.{Replies}
-use Rattle.solve_replies.specs.Sessions.{Outcome, accepted, refused, session_text}
+use Rattle.solve_replies.specs.Sessions.{Outcome, accepted, refused, Explains, matrix_at_end, session_text}
 
 -- the i-th of some rows, from 0, is this one, and it was accepted
 abbrev pub IsAcceptedAt : List (List ℕ) → List Outcome → ℕ → List ℕ → Type 0
@@ -30,7 +29,8 @@ pub record KeepsAccepted (m : RowList) (rows : List (List ℕ)) (outcomes : List
 
 -- What the text of a session shows. Each further row has an outcome. The frontiers of the tree at its end are exactly
 -- the valid orders of the matrix that keep each accepted row, and the order is one of them. No valid order that keeps
--- the accepted rows before a refused row keeps that one. Each cycle that is printed is short.
+-- the accepted rows before a refused row keeps that one. Each cycle that is printed is a short odd cycle of the rows of the
+-- matrix, those accepted before the refused row, and that row, which is a reason of it.
 pub record ShowsSession (kind : Kind) (m : RowList) (rows : List (List ℕ)) (text : List ℕ) : Type 0 where
   pub outcomes : List Outcome
   pub side : SideValue
@@ -39,7 +39,8 @@ pub record ShowsSession (kind : Kind) (m : RowList) (rows : List (List ℕ)) (te
   pub orders : (o : List ℕ) → IsFrontier side.tree o ↔ KeepsAccepted m rows outcomes (length rows) o
   pub order : KeepsAccepted m rows outcomes (length rows) side.order
   pub refusals : (i : ℕ) (row o : List ℕ) → IsRefusedAt rows outcomes i row → KeepsAccepted m rows outcomes i o → Keeps o row → ⊥
-  pub cycles : (i : ℕ) (lines : List Line) → slice_get outcomes i ≡ Some (refused (Some lines)) → IsShort m.columns lines
+  pub cycles : (i : ℕ) (row : List ℕ) (lines : List Line) → slice_get rows i ≡ Some row → slice_get outcomes i ≡ Some (refused (Some lines)) →
+      Explains (matrix_at_end m (take i rows) outcomes) row lines
 
 -- a reply to `extend` has status 0 exactly where the matrix in the first file has a valid order, and else status 1
 abbrev pub ExtendStatusLaw : Type 0

@@ -1,5 +1,5 @@
 -- What a reply promises.
-use Rattle.std.specs.Prelude.{◌≡◌, ◌⊎◌, ◌↔◌, ℕ, List, [], ◌∷◌, codes}
+use Rattle.std.specs.Prelude.{◌≡◌, ◌⊎◌, ◌↔◌, ℕ, ◌+◌, List, [], ◌∷◌, codes}
 use Rattle.column_order.specs.Orders.{HasValidOrder}
 use Rattle.row_model.specs.Rows.{RowList}
 use Rattle.row_model.specs.Cycles.{IsOddCycle}
@@ -7,6 +7,8 @@ use Rattle.row_model.specs.declared.graph.Line.{Line}
 use Rattle.row_model.specs.declared.kind.Kind.{Kind}
 use Rattle.row_model.specs.declared.refusal.Read.TheVariants as read
 use Rattle.odd_cycle.specs.Short.{IsShort}
+use Rattle.row_judge.specs.Judges.{IsFirstConflict}
+use Rattle.row_judge.specs.Blamed.{IsReason}
 use Rattle.verdict_text.specs.Verdict.{Claim, yes_claim, no_claim, VerdictValue}
 use Rattle.verdict_text.specs.Grammar.{IsVerdict}
 use Rattle.verdict_text.specs.Text.{verdict_text}
@@ -41,9 +43,12 @@ IsNoAnd (no_claim side lines) P = P side lines
 abbrev pub TellsNo : List ℕ → (ℕ → List Line → Type 0) → Type 0
 TellsNo text P = (v : VerdictValue) × IsVerdict v × (text ≡ verdict_text v) × IsNoAnd v.claim P
 
--- a side of the instance, and a simple odd cycle of the incompatibility graph of its derived rows, which is short
+-- A side of the instance, and a simple odd cycle of the incompatibility graph of its derived rows, which is short. It is one of the rows
+-- up to the first that leaves no valid order with those before it, and that row is a reason of it.
 abbrev pub IsCycleOf : InstanceValue → ℕ → List Line → Type 0
-IsCycleOf i s lines = IsSideOf i s × IsOddCycle (derived_matrix i s).columns (derived_matrix i s).rows lines × IsShort (derived_matrix i s).columns lines
+IsCycleOf i s lines =
+    IsSideOf i s × IsOddCycle (derived_matrix i s).columns (derived_matrix i s).rows lines × IsShort (derived_matrix i s).columns lines ×
+    (first : IsFirstConflict (derived_matrix i s) lines) × IsReason (first.before + 1) lines
 
 -- Yes: there is a textbook order, and the text tells a tree for each side, whose frontiers are exactly the textbook
 -- orders of the side, of a circular instance up to rotation.
@@ -51,7 +56,7 @@ pub record SaysYes (i : InstanceValue) (text : List ℕ) : Type 0 where
   pub exists : HasTextbookOrder i
   pub orders : TellsYes text (λ value. (s : ℕ) → IsSideOf i s → HasSide value s (ShowsTextbookOrders i s))
 
--- no: there is no textbook order, and the text tells a simple odd cycle, which is short
+-- no: there is no textbook order, and the text tells a side and such a cycle of it
 pub record SaysNo (i : InstanceValue) (text : List ℕ) : Type 0 where
   pub none : HasTextbookOrder i → ⊥
   pub cycle : TellsNo text (IsCycleOf i)

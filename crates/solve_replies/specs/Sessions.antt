@@ -7,6 +7,7 @@ use Rattle.row_model.specs.Rows.{RowList}
 use Rattle.row_model.specs.declared.graph.Line.{Line}
 use Rattle.row_model.specs.declared.kind.Kind.{Kind}
 use Rattle.odd_cycle.specs.Short.{IsShort}
+use Rattle.row_judge.specs.Blamed.{IsReason}
 use Rattle.c1p_solve.specs.Sessions.{with_row}
 use Rattle.text_parts.specs.Numbered.{numbered}
 use Rattle.verdict_text.specs.Text.{kind_line, columns_line, side_text}
@@ -22,17 +23,21 @@ pub data Outcome : Type 0 where
   accepted : Outcome
   refused : (cycle : Option (List Line)) → Outcome
 
--- What explains a refusal by these rows, after so many others: a short odd cycle of them where it is among the first, and
--- nothing later.
-abbrev pub IsExplained : RowList → ℕ → Option (List Line) → Type 0
-IsExplained m refusals (Some lines) = (refusals < MAX_EXPLAINED) × IsOddCycle m.columns m.rows lines × IsShort m.columns lines
-IsExplained m refusals None = MAX_EXPLAINED ≤ refusals
+-- a short odd cycle of the rows of a matrix and a row behind them, which is a reason of it
+abbrev pub Explains : RowList → List ℕ → List Line → Type 0
+Explains m row lines = IsOddCycle m.columns (m.rows ++ row ∷ []) lines × IsShort m.columns lines × IsReason (length (m.rows ++ row ∷ [])) lines
+
+-- What explains that a row is refused after those of the matrix, and after so many refusals: such a cycle where it is among
+-- the first, and nothing later.
+abbrev pub IsExplained : RowList → List ℕ → ℕ → Option (List Line) → Type 0
+IsExplained m row refusals (Some lines) = (refusals < MAX_EXPLAINED) × Explains m row lines
+IsExplained m row refusals None = MAX_EXPLAINED ≤ refusals
 
 -- What becomes of a row after those of the matrix, where so many were refused before it: it is accepted where they have
 -- a valid order together, and refused where they have none.
 abbrev pub IsOutcome : RowList → ℕ → List ℕ → Outcome → Type 0
 IsOutcome m refusals row accepted = HasValidOrder m.columns (m.rows ++ row ∷ [])
-IsOutcome m refusals row (refused cycle) = (HasValidOrder m.columns (m.rows ++ row ∷ []) → ⊥) × IsExplained (with_row m row) refusals cycle
+IsOutcome m refusals row (refused cycle) = (HasValidOrder m.columns (m.rows ++ row ∷ []) → ⊥) × IsExplained m row refusals cycle
 
 -- the matrix after an outcome: an accepted row is appended, and a refused one changes nothing
 abbrev pub matrix_after : RowList → List ℕ → Outcome → RowList

@@ -1,6 +1,6 @@
 // The answers on the sides of an instance.
 ghost use Rattle.std.specs.Prelude.{IfOk};
-ghost use Rattle.c1p_solve.specs.Answers.{IsAnswer};
+ghost use Rattle.c1p_solve.specs.Answers.{IsAnswer, IsInTurn};
 ghost use Rattle.instance_model.specs.Instance.{derived_matrix, IsInstance, IsSideOf};
 ghost use Rattle.instance_model.specs.Value.{instance_value};
 ghost use Rattle.solve_replies.specs.Steps.{made_status, answer_status, SolvesMatrixWithin};
@@ -26,6 +26,7 @@ pub fn solve_side<L: Ledger>(
     requires judged { IsInstance (instance_value instance.now) }
     requires side { IsSideOf (instance_value instance.now) side }
     ensures answer { IfOk result (IsAnswer (derived_matrix (instance_value instance.now) side)) }
+    ensures in_turn { IfOk result (IsInTurn (derived_matrix (instance_value instance.now) side)) }
     ensures steps { SolvesMatrixWithin (derived_matrix (instance_value instance.now) side)
         (made_status answer_status result) steps.old steps.new }
 {
@@ -44,6 +45,7 @@ pub fn solve_matrix<L: Ledger>(
     steps: &mut Steps<L>,
 ) -> Result<Solved, NoMemory>
     ensures answer { IfOk result (IsAnswer m.now) }
+    ensures in_turn { IfOk result (IsInTurn m.now) }
     ensures steps { SolvesMatrixWithin m.now (made_status answer_status result) steps.old steps.new }
 {
     let Answered { solved, .. } = answer(alloc, m, steps)?;

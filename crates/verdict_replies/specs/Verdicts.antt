@@ -12,6 +12,7 @@ use Rattle.pq_tree.specs.Outline.{IsFrontier, leaves}
 use Rattle.pq_tree.specs.Proper.{IsProper}
 use Rattle.pq_tree.specs.Canonical.{IsCanonical}
 use Rattle.odd_cycle.specs.Short.{IsShort}
+use Rattle.row_judge.specs.Judges.{IsFirstConflict}
 use Rattle.verdict_text.specs.Verdict.{SideValue, AddedValue, Claim, yes_claim, no_claim, VerdictValue}
 use Rattle.verdict_text.specs.declared.verdict.Version.TheVariants.{Two}
 use Rattle.verdict_text.specs.Grammar.{AreColumnCounts, IsVerdict}
@@ -69,10 +70,11 @@ pub record IsFirstWithout (i : InstanceValue) (s : ℕ) : Type 0 where
 
 -- What is claimed is true of the instance. Yes: its sides, each of which shows the valid orders of its derived matrix,
 -- and what the kind adds to the order of the first. No: the first side that has none, and a short odd cycle of
--- its incompatibility graph, which shows it.
+-- its incompatibility graph, which shows it, by the rows up to the first that leaves no valid order with those before it.
 abbrev pub IsClaimOf : InstanceValue → Claim → Type 0
 IsClaimOf i (yes_claim value) = ShowsSides i value.sides × IsSomeAnd (slice_get value.sides 0) (λ side. AddsToOrder i side.order value.added)
-IsClaimOf i (no_claim s lines) = IsFirstWithout i s × IsOddCycle (derived_matrix i s).columns (derived_matrix i s).rows lines × IsShort (derived_matrix i s).columns lines
+IsClaimOf i (no_claim s lines) =
+    IsFirstWithout i s × IsOddCycle (derived_matrix i s).columns (derived_matrix i s).rows lines × IsShort (derived_matrix i s).columns lines × IsFirstConflict (derived_matrix i s) lines
 
 -- a verdict on an instance is of version 2, and true of it
 pub record IsVerdictOf (i : InstanceValue) (v : VerdictValue) : Type 0 where

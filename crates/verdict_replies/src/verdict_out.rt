@@ -5,6 +5,7 @@ ghost use Rattle.row_model.specs.Cycles.{IsOddCycle};
 ghost use Rattle.row_model.specs.Rows.{RowList};
 ghost use Rattle.row_model.specs.declared.TheConstants.{MAX_COLUMNS};
 ghost use Rattle.odd_cycle.specs.Short.{IsShort};
+ghost use Rattle.row_judge.specs.Judges.{IsFirstConflict};
 ghost use Rattle.instance_model.specs.Instance.{plain, IsInstance};
 ghost use Rattle.verdict_text.specs.Text.{verdict_text};
 ghost use Rattle.verdict_text.specs.Value.{verdict_value};
@@ -18,7 +19,8 @@ use std::alloc::Global;
 use verdict_text::{Columns, NoPart, Part, Verdict, Version, print};
 
 /// The reply on a matrix without a valid order, which its cycle shows. It is a reply of `solve` where the cycle has at
-/// most one flip, and with c columns at most c(c - 1)/2 + 1 lines.
+/// most one flip, and with c columns at most c(c - 1)/2 + 1 lines, and is one of the rows up to the first that leaves no
+/// valid order with those before it.
 ///
 /// # Errors
 ///
@@ -27,7 +29,7 @@ pub fn no_reply(alloc: Global, kind: Kind, columns: u32, cycle: Cycle) -> Result
     requires { (1 ≤ columns) × (columns ≤ MAX_COLUMNS) }
     ensures reply { IfOk result (λ reply.
         (m : RowList) → m.columns ≡ columns → IsInstance (plain kind m)
-        → IsOddCycle m.columns m.rows cycle → IsShort m.columns cycle → (HasValidOrder m.columns m.rows → ⊥)
+        → IsOddCycle m.columns m.rows cycle → IsShort m.columns cycle → IsFirstConflict m cycle → (HasValidOrder m.columns m.rows → ⊥)
         → IsVerdictReply (plain kind m) 1 reply.text.items) }
     ensures status { IfOk result (λ reply. reply.status ≡ 1) }
 {

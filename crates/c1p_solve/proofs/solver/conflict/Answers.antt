@@ -1,17 +1,26 @@
-use Rattle.std.proofs.Common.{◌≡◌, ◌-◌, ℕ, List, take, sym, subst}
+use Rattle.std.proofs.Common.{◌-◌, List, ℕ, take, sym, subst}
+use Rattle.std.proofs.lemmas.Result.{IfOk-weaker}
 use Rattle.column_order.specs.Orders.{IsValidOrder}
-use Rattle.pq_tree.specs.PqTree.{outline}
-use Rattle.tied_law.specs.Tied.{IsTied}
-use Rattle.c1p_solve.proofs.Orders.{tied_valid}
+use Rattle.row_model.specs.Cycles.{IsOddCycle}
+use Rattle.row_judge.specs.Blamed.{IsReason}
+use Rattle.c1p_solve.proofs.Orders.{frontier_valid, row_blamed}
 use Rattle.c1p_solve.proofs.solver.conflict.Goals as goal
 
 pub odd_cycle_along-requires-clause-order : goal.odd_cycle_along-requires-clause-order
 odd_cycle_along-requires-clause-order g c =
     let m = c.args.m.now in
     let front : List (List ℕ) = take (c.args.k - 1) m.rows in
-    let same : g.R.Reducer.columns c.args.reducer.now ≡ m.columns = c.requires.columns in
-    let tree = c.in_ok-tree.tree in
-    let there = c.in_ok-tree.ensures.tied front (subst (λ (n : ℕ). IsTied n front (g.R.Reducer.outline c.args.reducer.now)) (sym same) c.requires.tied) in
-    let tied : IsTied m.columns front (outline tree) = subst (λ (n : ℕ). IsTied n front (outline tree)) same there in
-    let valid = tied_valid m.columns (g.R.Reducer.columns c.args.reducer.now) front tree c.in_ok-order.order.items c.in_ok-tree.ensures.columns same tied c.in_ok-order.ensures.frontier c.in_ok-order.ensures.order in
+    let tree = c.in_ok-tree.ensures in
+    let valid = frontier_valid m.columns (g.R.Reducer.columns c.args.reducer.now) front (g.R.Reducer.outline c.args.reducer.now) c.in_ok-tree.tree c.in_ok-order.order.items c.requires.columns tree.columns c.requires.tied
+    tree.tied c.in_ok-order.ensures.frontier c.in_ok-order.ensures.order in
     subst (IsValidOrder m.columns front) (sym c.deref.ensures.value) valid
+
+pub returns-clause-reason : goal.returns-clause-reason
+returns-clause-reason g c =
+    let m = c.args.m.now in
+    let front : List (List ℕ) = take (c.args.k - 1) m.rows in
+    let tree = c.in_ok-tree.ensures in
+    let valid = frontier_valid m.columns (g.R.Reducer.columns c.args.reducer.now) front (g.R.Reducer.outline c.args.reducer.now) c.in_ok-tree.tree c.in_ok-order.order.items c.requires.columns tree.columns c.requires.tied
+    tree.tied c.in_ok-order.ensures.frontier c.in_ok-order.ensures.order in
+    IfOk-weaker c.odd_cycle_along.result (IsOddCycle m.columns (take c.args.k m.rows)) (IsReason c.args.k)
+    (λ lines cycle. row_blamed c.last_row_laws.ensures.first m c.args.k c.in_ok-order.order.items lines c.requires.row.0 valid cycle) c.odd_cycle_along.ensures.first_rows

@@ -4,7 +4,7 @@ use Rattle.reply_laws.proofs.promise.promise_law.Goals as goal
 pub returns : goal.returns
 returns c =
     let reply = c.reply_law.ensures in
-    laws.promise_law reply.no reply.yes reply.orders (record {
+    laws.promise_law c.last_row_laws.ensures.first reply.no reply.yes reply.orders (record {
       check = c.check_law.ensures.believed;
       agreed = c.solved_law.ensures.agreed;
       session = c.extend_law.ensures.session;

@@ -5,6 +5,7 @@ use Rattle.column_order.specs.Orders.{HasValidOrder}
 use Rattle.row_model.specs.Cycles.{IsOddCycle}
 use Rattle.row_model.specs.Rows.{RowList}
 use Rattle.odd_cycle.specs.Short.{IsShort}
+use Rattle.row_judge.specs.Judges.{IsFirstConflict}
 use Rattle.instance_model.specs.Instance.{plain, IsInstance}
 use Rattle.verdict_replies.specs.Verdicts.{IsVerdictReply}
 use Rattle.verdict_replies.specs.declared.reply.Reply.{Reply}
@@ -24,11 +25,11 @@ returns-in-No-clause-reply g c =
     let kind = c.args.kind in
     let no = subst (IsStart m) c.in-No.is c.in_ok-session.ensures.start in
     let P : Reply → Type 0 = λ reply.
-    (n : RowList) → n.columns ≡ c.columns-columns.result → IsInstance (plain kind n) → IsOddCycle n.columns n.rows c.in-No.cycle → IsShort n.columns c.in-No.cycle → (HasValidOrder n.columns n.rows → ⊥)
+    (n : RowList) → n.columns ≡ c.columns-columns.result → IsInstance (plain kind n) → IsOddCycle n.columns n.rows c.in-No.cycle → IsShort n.columns c.in-No.cycle → IsFirstConflict n c.in-No.cycle → (HasValidOrder n.columns n.rows → ⊥)
     → IsVerdictReply (plain kind n) 1 reply.text.items in
     let Q : Reply → Type 0 = λ reply. reply.status ≡ 1 in
     IfOk-weaker c.no_reply.result (λ reply. P reply × Q reply) (λ reply. IsExtensionReply kind m c.args.further.now.rows reply.status reply.text.items)
-    (λ reply h. inl (no.1, h.1, h.0 m (sym c.columns-columns.ensures.columns) c.requires.base no.0 no.2 no.1))
+    (λ reply h. inl (no.1, h.1, h.0 m (sym c.columns-columns.ensures.columns) c.requires.base no.0 no.2 no.3 no.1))
     (both c.no_reply.result P Q c.no_reply.ensures.reply c.no_reply.ensures.status)
 
 pub returns-in-Ok-clause-steps : goal.returns-in-Ok-clause-steps

@@ -1,0 +1,28 @@
+-- A no about the second side.
+use Rattle.std.proofs.Common.{◌≡◌, ℕ, List, length, sym, subst, arith}
+use Rattle.row_model.specs.declared.graph.Line.{Line}
+use Rattle.row_judge.specs.Judges.{IsFirstConflict}
+use Rattle.row_judge.specs.declared.Judged.TheVariants.{No}
+use Rattle.c1p_solve.specs.Answers.{IsAnswer, IsInTurn}
+use Rattle.verdict_text.specs.Verdict.{no_claim}
+use Rattle.instance_model.specs.Instance.{InstanceValue, instance_columns, derived_matrix}
+use Rattle.instance_model.specs.Value.{instance_value}
+use Rattle.verdict_replies.specs.Verdicts.{HasOrder, IsFirstWithout, IsClaimOf}
+use Rattle.solve_replies.proofs.verdicts.two_sided.Goals as goal
+
+second_no : (i : InstanceValue) (side : ℕ) (lines cycle : List Line) → side ≡ 2 → lines ≡ cycle → length (instance_columns i) ≡ 2 → HasOrder i 1 → IsAnswer (derived_matrix i 2) (No cycle)
+    → IsFirstConflict (derived_matrix i 2) cycle → IsClaimOf i (no_claim side lines)
+second_no i side lines cycle is same sides order answer first =
+    let without : IsFirstWithout i 2 = record {
+      side = (omega arith, omega (arith, sides));
+      before = λ earlier from to. let one : 1 ≡ earlier = omega (arith, from, to) in subst (HasOrder i) one order;
+      none = answer.1;
+    } in
+    subst (λ s. IsClaimOf i (no_claim s lines)) (sym is) (subst (λ ls. IsClaimOf i (no_claim 2 ls)) (sym same) (without, answer.0, answer.2, first))
+
+pub returns-in-No-clause-claim : goal.returns-in-No-clause-claim
+returns-in-No-clause-claim g c =
+    let i = instance_value c.args.instance.now in
+    let answer = subst (IsAnswer (derived_matrix i 2)) c.in-No.is c.in_ok-cycle.ensures.answer in
+    let first = subst (IsInTurn (derived_matrix i 2)) c.in-No.is c.in_ok-cycle.ensures.in_turn in
+    second_no i c.no.result.side c.no.result.lines c.in-No.cycle c.no.ensures.side c.no.ensures.lines c.requires.sides c.requires.orders.1 answer first
