@@ -44,7 +44,8 @@ reducer_tied m (Err error) n t e tied kept = tt
 pub some_order : (c : ℕ) → HasValidOrder c []
 some_order c = (columns c, record { order = columns_order c; kept = λ k d m. absurd (omega arith) })
 
--- a frontier of the tree that a reducer of so many columns answers, whose own is tied to some rows, is a valid order of them
+-- a frontier of the tree that a reducer of so many columns answers, whose own is tied to some rows, is a valid order of
+-- them
 pub frontier_valid : (c n : ℕ) (rows : List (List ℕ)) (own : Outline) (t : PqTree) (f : List ℕ) → n ≡ c → column_count t ≡ n → IsTied c rows own → ((some : List (List ℕ)) → IsTied n some own → IsTied n some (outline t))
     → IsFrontier (outline t) f → IsOrder (column_count t) f → IsValidOrder c rows f
 frontier_valid c n rows own t f same columns tied kept frontier order =

@@ -15,7 +15,7 @@ use Rattle.instance_model.specs.Laws.{ValidLaw}
 use Rattle.verdict_check.specs.Laws.{IsSolvedSide, YesLaw, NoLaw}
 use Rattle.verdict_check.specs.Truth.{IsTrueAddedTo, IsTrueAdded}
 use Rattle.verdict_check.specs.Accepted.{IsAccepted}
-use Rattle.verdict_replies.specs.Verdicts.{ShowsSide, ShowsSides, AddsToMatrix, AddsToOrder, IsClaimOf, IsVerdictOf, IsVerdictReply, LengthLaw}
+use Rattle.verdict_replies.specs.Verdicts.{ShowsSide, ShowsSides, AddsToMatrix, AddsToOrder, IsClaimOf, IsVerdictOf, IsVerdictReply, GrammarLaw, LengthLaw}
 use Rattle.exact_tree.specs.Laws.{ExactLaw}
 use Rattle.commands.specs.Judgements.{HasVerdict}
 use Rattle.commands.specs.Passed.{TiedSideLaw}
@@ -69,7 +69,8 @@ module _ (exact : ExactLaw) (valid_textbook : ValidLaw) (models : IntervalsLaw) 
   true_accepted v true = accepted_claim v v.claim refl true.version true.kind true.columns true.claim
 
   -- the text of a reply to `solve`
-  pub solved_accepted : LengthLaw → (status : ℕ) (text : List ℕ) → IsVerdictReply i status text → HasVerdict text (IsAccepted i)
-  solved_accepted length status text reply =
+  pub solved_accepted : GrammarLaw → LengthLaw → (status : ℕ) (text : List ℕ) → IsVerdictReply i status text → HasVerdict text (IsAccepted i)
+  solved_accepted in_grammar length status text reply =
       let v = reply.verdict in
-      subst (λ t. HasVerdict t (IsAccepted i)) (sym reply.text_is) (length i v h formed reply.grammar reply.holds, (v, reply.grammar, refl, true_accepted v reply.holds))
+      let grammar = in_grammar i v h formed reply.counts reply.holds in
+      subst (λ t. HasVerdict t (IsAccepted i)) (sym reply.text_is) (length i v h formed grammar reply.holds, (v, grammar, refl, true_accepted v reply.holds))

@@ -8,6 +8,7 @@ use Rattle.canonical_tree.specs.Laws.{HasOrdersOf, IsCanonicalOver, CanonicalTre
 use Rattle.verdict_text.specs.Verdict.{SideValue}
 use Rattle.tree_meet.specs.Laws.{CommonRowsLaw}
 use Rattle.reply_laws.specs.Meet.{MeetTextLaw}
+use Rattle.reply_laws.specs.Solve.{InGrammarLaw}
 use Rattle.one_text.specs.Told.{Spot, on_side, at_end, in_meeting, RepliesFor, TellsAt}
 use Rattle.one_text.specs.Laws.{side_of, HaveSameOrders, CanonicalTextLaw, SameTextLaw}
 use Rattle.verdict_replies.specs.Verdicts.{ShowsAllOrders}
@@ -16,18 +17,18 @@ use Rattle.one_text.proofs.Ends.{ended}
 use Rattle.one_text.proofs.Meetings.{met}
 
 -- what a reply tells shows the orders that it is about
-shown : CommonRowsLaw → MeetTextLaw → (text : List ℕ) (spot : Spot) (m : RowList) → RepliesFor text spot m → Shown m (TellsAt text spot)
-shown common meet text (on_side s) m h = solved text s m h
-shown common meet text at_end m h = ended text m h
-shown common meet text in_meeting m h = met common meet text m h
+shown : InGrammarLaw → CommonRowsLaw → MeetTextLaw → (text : List ℕ) (spot : Spot) (m : RowList) → RepliesFor text spot m → Shown m (TellsAt text spot)
+shown grammar common meet text (on_side s) m h = solved grammar text s m h
+shown grammar common meet text at_end m h = ended text m h
+shown grammar common meet text in_meeting m h = met common meet text m h
 
 -- a side is told by its tree
 pub told_by_tree : (m : RowList) (side : SideValue) (t : Outline) → ShowsAllOrders m side → side.tree ≡ t → side ≡ side_of t
 told_by_tree m side t shows e = let order : side ≡ side_of side.tree = ap (λ o. record { tree = side.tree; order = o }) shows.leaves in order ∙ ap side_of e
 
-pub canonical_text : CommonRowsLaw → MeetTextLaw → CanonicalTreeLaw → CanonicalTextLaw
-canonical_text common meet one_tree text spot m t replies tree =
-    let s = shown common meet text spot m replies in
+pub canonical_text : InGrammarLaw → CommonRowsLaw → MeetTextLaw → CanonicalTreeLaw → CanonicalTextLaw
+canonical_text grammar common meet one_tree text spot m t replies tree =
+    let s = shown grammar common meet text spot m replies in
     let same : s.side.tree ≡ t = one_tree m.columns s.side.tree t (s.shows.proper, s.shows.canonical) tree.0 (λ o. (λ f. (tree.1 o).1 ((s.shows.orders o).0 f), λ f. (s.shows.orders o).1 ((tree.1 o).0 f))) in
     subst (TellsAt text spot) (told_by_tree m s.side t s.shows same) s.tells
 
@@ -45,10 +46,10 @@ same_tree one_tree m n side other same shows shows_other e =
     shows.orders
     (subst (λ c. (o : List ℕ) → IsValidOrder c n.rows o ↔ IsValidOrder m.columns m.rows o) e (λ o. ((same o).1, (same o).0)))
 
-pub same_text : CommonRowsLaw → MeetTextLaw → SameOrdersLaw → SameTextLaw
-same_text common meet one_tree text other here there m n replies replies_other same =
-    let one = shown common meet text here m replies in
-    let two = shown common meet other there n replies_other in
+pub same_text : InGrammarLaw → CommonRowsLaw → MeetTextLaw → SameOrdersLaw → SameTextLaw
+same_text grammar common meet one_tree text other here there m n replies replies_other same =
+    let one = shown grammar common meet text here m replies in
+    let two = shown grammar common meet other there n replies_other in
     let columns = same_columns m n one.side.order same one.shows.order in
     let tree = same_tree one_tree m n one.side two.side same one.shows two.shows columns in
     (side_of one.side.tree, subst (TellsAt text here) (told_by_tree m one.side one.side.tree one.shows refl) one.tells, subst (TellsAt other there) (told_by_tree n two.side one.side.tree two.shows tree) two.tells)

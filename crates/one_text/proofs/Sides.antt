@@ -16,7 +16,7 @@ use Rattle.command_input.specs.Words.{Solve}
 use Rattle.command_input.specs.Instances.{instance_of}
 use Rattle.reply_laws.specs.Replies.{Replies}
 use Rattle.verdict_replies.specs.Verdicts.{ShowsAllOrders, IsClaimOf, status_of, IsVerdictReply}
-use Rattle.reply_laws.specs.Solve.{IsYesAnd}
+use Rattle.reply_laws.specs.Solve.{IsYesAnd, InGrammarLaw}
 use Rattle.one_text.specs.Told.{on_side, SolvesSide, TellsAt}
 
 -- what is told at a spot shows the orders of the matrix
@@ -49,9 +49,9 @@ claimed : (i : InstanceValue) (s : ℕ) (claim : Claim) → IsSideOf i s → 0 �
 claimed i s (yes_claim value) inside zero true = picked (derived_matrix i s) (slice_get value.sides (s - 1)) (true.0.each s inside)
 claimed i s (no_claim side lines) inside zero true = absurd (omega (arith, zero))
 
-pub solved : (text : List ℕ) (s : ℕ) (m : RowList) → SolvesSide text s m → Shown m (TellsAt text (on_side s))
-solved text s m h =
+pub solved : InGrammarLaw → (text : List ℕ) (s : ℕ) (m : RowList) → SolvesSide text s m → Shown m (TellsAt text (on_side s))
+solved grammar text s m h =
     let solution = solution_of h.kind h.file h.bytes text h.value h.found h.reply in
     let v = solution.verdict in
     let shown = claimed h.value s v.claim h.side solution.status_is solution.holds.claim in
-    record { side = shown.side; shows = subst (λ k. ShowsAllOrders k shown.side) (sym h.matrix_is) shown.shows; tells = (v, solution.grammar, solution.text_is, shown.tells) }
+    record { side = shown.side; shows = subst (λ k. ShowsAllOrders k shown.side) (sym h.matrix_is) shown.shows; tells = (v, grammar h.kind h.bytes h.value v h.found solution.counts solution.holds, solution.text_is, shown.tells) }

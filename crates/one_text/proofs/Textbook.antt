@@ -11,7 +11,7 @@ use Rattle.instance_model.specs.Instance.{InstanceValue, IsSideOf, IsTextbookOrd
 use Rattle.instance_model.specs.Laws.{IsValidFor, AreTextbookOrders}
 use Rattle.verdict_check.specs.YesTests.{HasSide}
 use Rattle.verdict_replies.specs.Verdicts.{ShowsSide, IsClaimOf}
-use Rattle.reply_laws.specs.Solve.{IsYesAnd, ShowsTextbookOrders, OrdersLaw}
+use Rattle.reply_laws.specs.Solve.{IsYesAnd, ShowsTextbookOrders, OrdersLaw, InGrammarLaw}
 use Rattle.tree_meet.specs.Laws.{CommonRowsLaw}
 use Rattle.reply_laws.specs.Meet.{MeetTextLaw}
 use Rattle.one_text.specs.Told.{on_side, SolvesSide}
@@ -43,13 +43,13 @@ of_claim : (i : InstanceValue) (s : ℕ) (claim : Claim) → IsLinear i → IsSi
 of_claim i s (yes_claim value) linear inside true textbook = of_side i s (slice_get value.sides (s - 1)) linear (true.0.each s inside) (textbook s inside)
 of_claim i s (no_claim side lines) linear inside true textbook = absurd textbook
 
-module _ (orders : OrdersLaw) (one_verdict : OneVerdictLaw) where
+module _ (grammar : InGrammarLaw) (orders : OrdersLaw) (one_verdict : OneVerdictLaw) where
   -- so it is for each side of an instance that is not circular, to which a reply has status 0
   of_reply : (text : List ℕ) (s : ℕ) (m : RowList) (h : SolvesSide text s m) → IsLinear h.value → AreValid h.value s
   of_reply text s m h linear =
       let solution = solution_of h.kind h.file h.bytes text h.value h.found h.reply in
       let told = orders h.kind h.file h.bytes text h.value h.found h.reply in
-      let same : told.0 ≡ solution.verdict = one_verdict told.0 solution.verdict told.1 solution.grammar (sym told.2 ∙ solution.text_is) in
+      let same : told.0 ≡ solution.verdict = one_verdict told.0 solution.verdict told.1 (grammar h.kind h.bytes h.value solution.verdict h.found solution.counts solution.holds) (sym told.2 ∙ solution.text_is) in
       of_claim h.value s solution.verdict.claim linear h.side solution.holds.claim (subst (λ (v : VerdictValue). IsYesAnd v.claim (λ value. (s : ℕ) → IsSideOf h.value s → HasSide value s (ShowsTextbookOrders h.value s))) same told.3)
 
   pub textbook_text : CommonRowsLaw → MeetTextLaw → SameOrdersLaw → TextbookTextLaw
@@ -58,5 +58,5 @@ module _ (orders : OrdersLaw) (one_verdict : OneVerdictLaw) where
       let second = of_reply other t n two linear_other in
       let matrices : HaveSameOrders (derived_matrix one.value s) (derived_matrix two.value t) =
       λ o. (λ v. (second o).0 ((same o).0 ((first o).1 v)), λ w. (first o).0 ((same o).1 ((second o).1 w))) in
-      same_text common meet one_tree text other (on_side s) (on_side t) m n one two
+      same_text grammar common meet one_tree text other (on_side s) (on_side t) m n one two
       (subst (λ k. HaveSameOrders k n) (sym one.matrix_is) (subst (λ k. HaveSameOrders (derived_matrix one.value s) k) (sym two.matrix_is) matrices))

@@ -1,48 +1,48 @@
 -- What a run promises where nothing fails.
-use Rattle.std.proofs.Common.{◌≡◌, ℕ, List, [], ◌∷◌, inl, inr, subst, arith}
+use Rattle.std.proofs.Common.{◌≡◌, ℕ, List, [], ◌∷◌, inl, inr, refl, subst, arith}
 use Rattle.std.proofs.lemmas.Bool.{cases_eq}
-use Rattle.row_model.specs.declared.graph.Line.{Line}
 use Rattle.row_model.specs.declared.kind.Kind.{Kind}
+use Rattle.row_model.specs.declared.kind.Kind.TheVariants.{Proper}
 use Rattle.verdict_text.specs.Verdict.{Claim, yes_claim, no_claim, VerdictValue}
 use Rattle.row_model.specs.declared.refusal.Read.TheVariants as read
 use Rattle.row_model.specs.Rows.{RowList}
-use Rattle.instance_model.specs.Instance.{InstanceValue, HasTextbookOrder, plain, proper, derived_matrix}
+use Rattle.instance_model.specs.Instance.{InstanceValue, IsSideOf, HasTextbookOrder, plain, proper}
 use Rattle.command_input.specs.Instances.{instance_of}
 use Rattle.command_input.specs.Words.{Solve, Check, Extend, Gen, Meet, ListOrders, UnitModel, CheckUnit, Core, CheckCore}
 use Rattle.reply_laws.specs.Replies.{Replies}
-use Rattle.verdict_text.specs.Grammar.{IsVerdict}
-use Rattle.graph_model.specs.Graphs.{GraphValue}
-use Rattle.verdict_replies.specs.Verdicts.{IsClaimOf, status_of}
-use Rattle.reply_laws.specs.Solve.{NoStatusLaw, YesStatusLaw, OrdersLaw}
+use Rattle.verdict_text.specs.Text.{verdict_text}
+use Rattle.verdict_check.specs.YesTests.{HasSide}
+use Rattle.verdict_replies.specs.Verdicts.{status_of}
+use Rattle.reply_laws.specs.Solve.{NoStatusLaw, YesStatusLaw, IsYesAnd, ShowsTextbookOrders, OrdersLaw, IsNoAnd, TellsNo, IsCycleOf, CycleLaw}
 use Rattle.reply_laws.specs.Check.{CheckLaw, AgreedLaw}
 use Rattle.reply_laws.specs.Extend.{SessionLaw, BaseLaw}
 use Rattle.reply_laws.specs.Core.{NoCoreLaw, CoreBelievedLaw, CoreAgreedLaw}
 use Rattle.reply_laws.specs.Lists.{NoListLaw}
 use Rattle.reply_laws.proofs.Reading.{same_read}
-use Rattle.solve_replies.specs.Models.{TellsByClaim}
-use Rattle.reply_laws.specs.Units.{UnitStatusLaw, PrintedUnitLaw}
+use Rattle.reply_laws.specs.Units.{UnitStatusLaw, PrintedUnitLaw, NoUnitLaw}
 use Rattle.reply_laws.specs.UnitChecks.{UnitCheckLaw, UnitAgreedLaw}
 use Rattle.reply_laws.proofs.Units.{told_status}
-use Rattle.reply_laws.specs.Promise.{IsNoAnd, TellsNo, IsCycleOf, SaysYes, SaysNo, IsSolved, IsPromised, PromiseLaw}
-use Rattle.row_judge.specs.Blamed.{FirstConflictLaw}
+use Rattle.reply_laws.specs.Promise.{NamesCycle, SaysYes, SaysNo, IsSolved, IsPromised, PromiseLaw}
 
--- the cycle of a true no
-cycle_of : FirstConflictLaw → (i : InstanceValue) (s : ℕ) (lines : List Line) → IsClaimOf i (no_claim s lines) → IsCycleOf i s lines
-cycle_of blames i s lines true = (true.0.side, true.1, true.2, true.3, blames (derived_matrix i s) lines true.3)
+-- a text with a yes or a no says so
+told_yes : (i : InstanceValue) (text : List ℕ) (v : VerdictValue) (claim : Claim) → v.claim ≡ claim → text ≡ verdict_text v → HasTextbookOrder i
+    → IsYesAnd claim (λ value. (s : ℕ) → IsSideOf i s → HasSide value s (ShowsTextbookOrders i s)) → SaysYes i text
+told_yes i text v (yes_claim value) is text_is order shows = record { exists = order; value = value; told = (v, text_is, is); orders = shows }
+told_yes i text v (no_claim s lines) is text_is order shows = absurd shows
 
--- a true claim with this status solves the instance
-solved : FirstConflictLaw → (i : InstanceValue) (claim : Claim) (status : ℕ) (text : List ℕ) → status ≡ status_of claim → IsClaimOf i claim → (status ≡ 0 → SaysYes i text) → (status ≡ 1 → HasTextbookOrder i → ⊥)
-    → (IsNoAnd claim (IsCycleOf i) → TellsNo text (IsCycleOf i)) → IsSolved i status text
-solved blames i (yes_claim value) status text is true at_zero at_one tells = inl (is, at_zero is)
-solved blames i (no_claim s lines) status text is true at_zero at_one tells = inr (is, record { none = at_one is; cycle = tells (cycle_of blames i s lines true) })
+told_no : (i : InstanceValue) (text : List ℕ) (v : VerdictValue) (claim : Claim) → v.claim ≡ claim → text ≡ verdict_text v → IsNoAnd claim (IsCycleOf i) → NamesCycle i text
+told_no i text v (yes_claim value) is text_is cycle = absurd cycle
+told_no i text v (no_claim s lines) is text_is cycle = (s, lines, (v, text_is, is), cycle)
 
--- a no of a graph tells a cycle
-unit_no : FirstConflictLaw → (g : GraphValue) (verdict : VerdictValue) (claim : Claim) (text : List ℕ) → IsVerdict verdict → IsClaimOf (proper g) claim → TellsByClaim g verdict claim 1 text
-    → (IsNoAnd claim (IsCycleOf (proper g)) → IsNoAnd verdict.claim (IsCycleOf (proper g))) → TellsNo text (IsCycleOf (proper g))
-unit_no blames g verdict (yes_claim value) text grammar true tells same = absurd (omega (arith, tells.0))
-unit_no blames g verdict (no_claim s lines) text grammar true tells same = (verdict, grammar, tells.1, same (cycle_of blames (proper g) s lines true))
+names_cycle : (i : InstanceValue) (text : List ℕ) → TellsNo text (IsCycleOf i) → NamesCycle i text
+names_cycle i text told = told_no i text told.0 told.0.claim refl told.2 told.3
 
-module _ (blames : FirstConflictLaw) (status_law : UnitStatusLaw) (printed_law : PrintedUnitLaw) (check_law : UnitCheckLaw) (agreed_law : UnitAgreedLaw) where
+-- a reply of `solve` says yes or no by its status
+solved : (i : InstanceValue) (claim : Claim) (status : ℕ) (text : List ℕ) → status ≡ status_of claim → (status ≡ 0 → SaysYes i text) → (status ≡ 1 → SaysNo i text) → IsSolved i status text
+solved i (yes_claim value) status text is at_zero at_one = inl (is, at_zero is)
+solved i (no_claim s lines) status text is at_zero at_one = inr (is, at_one is)
+
+module _ (cycle_law : CycleLaw) (status_law : UnitStatusLaw) (printed_law : PrintedUnitLaw) (none_law : NoUnitLaw) (check_law : UnitCheckLaw) (agreed_law : UnitAgreedLaw) where
   unit_promised : (file bytes : List ℕ) (status : ℕ) (text : List ℕ) → Replies (UnitModel file) (bytes ∷ []) status text → IsPromised (UnitModel file) (bytes ∷ []) status text
   unfolding Replies
   unit_promised file bytes status text reply =
@@ -58,7 +58,7 @@ module _ (blames : FirstConflictLaw) (status_law : UnitStatusLaw) (printed_law :
               inr (
                 one,
                 (status_law file bytes text status g e reply).1.0 one,
-                unit_no blames g made.verdict made.verdict.claim text made.grammar made.holds.claim (subst (λ s. TellsByClaim g made.verdict made.verdict.claim s text) one made.tells) (λ no. no),
+                names_cycle (proper g) text (cycle_law Proper file bytes text (proper g) e (none_law file file bytes text (subst (λ s. Replies (UnitModel file) (bytes ∷ []) s text) one reply))),
               )
         ],
       )
@@ -75,22 +75,24 @@ module _ (blames : FirstConflictLaw) (status_law : UnitStatusLaw) (printed_law :
     },
   )
 
-module _ (blames : FirstConflictLaw) (no_law : NoStatusLaw) (yes_law : YesStatusLaw) (orders_law : OrdersLaw) where
+module _ (no_law : NoStatusLaw) (yes_law : YesStatusLaw) (orders_law : OrdersLaw) (cycle_law : CycleLaw) where
   solve_promised : (kind : Kind) (file bytes : List ℕ) (status : ℕ) (text : List ℕ) → Replies (Solve kind file) (bytes ∷ []) status text → IsPromised (Solve kind file) (bytes ∷ []) status text
   unfolding Replies
   solve_promised kind file bytes status text reply =
       let i = reply.0 in
       let e = reply.1 in
-      let made = reply.2 in (
+      let made = reply.2 in
+      let with_status : (k : ℕ) → status ≡ k → Replies (Solve kind file) (bytes ∷ []) k text = λ k is. subst (λ s. Replies (Solve kind file) (bytes ∷ []) s text) is reply in (
         i,
         e,
-        solved blames i made.verdict.claim status text made.status_is made.holds.claim
-            (λ zero. record {
-              exists = (yes_law kind file bytes text status i e reply).0 zero;
-              orders = orders_law kind file bytes text i e (subst (λ s. Replies (Solve kind file) (bytes ∷ []) s text) zero reply);
-            })
-            (no_law kind file bytes text status i e reply).0
-            (λ cycle. (made.verdict, made.grammar, made.text_is, cycle)),
+        solved i made.verdict.claim status text made.status_is
+            (λ zero.
+            let told = orders_law kind file bytes text i e (with_status 0 zero) in
+            told_yes i text told.0 told.0.claim refl told.2 ((yes_law kind file bytes text status i e reply).0 zero) told.3)
+            (λ one. record {
+              none = (no_law kind file bytes text status i e reply).0 one;
+              cycle = names_cycle i text (cycle_law kind file bytes text i e (with_status 1 one));
+            }),
       )
 
   -- a reply of `solve` on a matrix
@@ -181,14 +183,15 @@ pub record KnownReplies : Type 0 where
   pub no_list : NoListLaw
   pub unit : UnitStatusLaw
   pub printed_unit : PrintedUnitLaw
+  pub no_unit : NoUnitLaw
   pub unit_check : UnitCheckLaw
   pub unit_agreed : UnitAgreedLaw
 
-module _ (blames : FirstConflictLaw) (no_law : NoStatusLaw) (yes_law : YesStatusLaw) (orders_law : OrdersLaw) (known : KnownReplies) where
+module _ (no_law : NoStatusLaw) (yes_law : YesStatusLaw) (orders_law : OrdersLaw) (cycle_law : CycleLaw) (known : KnownReplies) where
   pub promise_law : PromiseLaw
   unfolding Replies
   promise_law (Solve kind file) [] status text reply = reply
-  promise_law (Solve kind file) (bytes ∷ []) status text reply = solve_promised blames no_law yes_law orders_law kind file bytes status text reply
+  promise_law (Solve kind file) (bytes ∷ []) status text reply = solve_promised no_law yes_law orders_law cycle_law kind file bytes status text reply
   promise_law (Solve kind file) (bytes ∷ more ∷ files) status text reply = reply
   promise_law (Check kind file verdict) [] status text reply = reply
   promise_law (Check kind file verdict) (bytes ∷ []) status text reply = reply
@@ -196,10 +199,10 @@ module _ (blames : FirstConflictLaw) (no_law : NoStatusLaw) (yes_law : YesStatus
   promise_law (Check kind file verdict) (bytes ∷ given ∷ more ∷ files) status text reply = reply
   promise_law (Extend kind file rows) [] status text reply = reply
   promise_law (Extend kind file rows) (bytes ∷ []) status text reply = reply
-  promise_law (Extend kind file rows) (bytes ∷ given ∷ []) status text reply = extend_promised blames no_law yes_law orders_law known.session known.base kind file rows bytes given status text reply
+  promise_law (Extend kind file rows) (bytes ∷ given ∷ []) status text reply = extend_promised no_law yes_law orders_law cycle_law known.session known.base kind file rows bytes given status text reply
   promise_law (Extend kind file rows) (bytes ∷ given ∷ more ∷ files) status text reply = reply
   promise_law (Core kind file) [] status text reply = reply
-  promise_law (Core kind file) (bytes ∷ []) status text reply = core_promised blames no_law yes_law orders_law known.no_core kind file bytes status text reply
+  promise_law (Core kind file) (bytes ∷ []) status text reply = core_promised no_law yes_law orders_law cycle_law known.no_core kind file bytes status text reply
   promise_law (Core kind file) (bytes ∷ more ∷ files) status text reply = reply
   promise_law (CheckCore kind file core) [] status text reply = reply
   promise_law (CheckCore kind file core) (bytes ∷ []) status text reply = reply
@@ -212,12 +215,12 @@ module _ (blames : FirstConflictLaw) (no_law : NoStatusLaw) (yes_law : YesStatus
   promise_law (Meet c first second) (bytes ∷ given ∷ []) status text reply = reply
   promise_law (Meet c first second) (bytes ∷ given ∷ more ∷ files) status text reply = reply
   promise_law (ListOrders kind file count) [] status text reply = reply
-  promise_law (ListOrders kind file count) (bytes ∷ []) status text reply = list_promised blames no_law yes_law orders_law known.no_list kind file bytes count status text reply
+  promise_law (ListOrders kind file count) (bytes ∷ []) status text reply = list_promised no_law yes_law orders_law cycle_law known.no_list kind file bytes count status text reply
   promise_law (ListOrders kind file count) (bytes ∷ more ∷ files) status text reply = reply
   promise_law (UnitModel file) [] status text reply = reply
-  promise_law (UnitModel file) (bytes ∷ []) status text reply = unit_promised blames known.unit known.printed_unit known.unit_check known.unit_agreed file bytes status text reply
+  promise_law (UnitModel file) (bytes ∷ []) status text reply = unit_promised cycle_law known.unit known.printed_unit known.no_unit known.unit_check known.unit_agreed file bytes status text reply
   promise_law (UnitModel file) (bytes ∷ more ∷ files) status text reply = reply
   promise_law (CheckUnit file unit) [] status text reply = reply
   promise_law (CheckUnit file unit) (bytes ∷ []) status text reply = reply
-  promise_law (CheckUnit file unit) (bytes ∷ given ∷ []) status text reply = unit_check_promised blames known.unit known.printed_unit known.unit_check known.unit_agreed file unit bytes given status text reply
+  promise_law (CheckUnit file unit) (bytes ∷ given ∷ []) status text reply = unit_check_promised cycle_law known.unit known.printed_unit known.no_unit known.unit_check known.unit_agreed file unit bytes given status text reply
   promise_law (CheckUnit file unit) (bytes ∷ given ∷ more ∷ files) status text reply = reply

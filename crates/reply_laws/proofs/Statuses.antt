@@ -13,12 +13,13 @@ use Rattle.pq_tree.specs.Outline.{IsFrontier}
 use Rattle.instance_model.specs.Instance.{InstanceValue, plain, circular, convex, doubly, proper, robinson, IsSideOf, HasTextbookOrder, derived_matrix, IsInstance, IsWellFormed}
 use Rattle.instance_model.specs.Laws.{IsValidFor, AreTextbookOrders, DerivedLaw, ValidLaw, ExistsLaw}
 use Rattle.verdict_check.specs.YesTests.{HasSide}
+use Rattle.row_judge.specs.Blamed.{FirstConflictLaw}
 use Rattle.command_input.specs.Words.{Solve}
 use Rattle.command_input.specs.Instances.{instance_of, InstanceLaw}
 use Rattle.reply_laws.specs.Replies.{Replies}
-use Rattle.verdict_replies.specs.Verdicts.{ShowsAllOrders, ShowsSide, HasOrder, IsClaimOf, status_of, IsVerdictReply}
+use Rattle.verdict_replies.specs.Verdicts.{ShowsAllOrders, ShowsSide, HasOrder, IsClaimOf, status_of, IsVerdictReply, GrammarLaw}
 use Rattle.commands.specs.Passed.{AddedLaw}
-use Rattle.reply_laws.specs.Solve.{NoStatusLaw, YesStatusLaw, IsYesAnd, TellsYes, ShowsTextbookOrders, OrdersLaw, NoModelStatusLaw, PrintedModelLaw}
+use Rattle.reply_laws.specs.Solve.{NoStatusLaw, YesStatusLaw, IsYesAnd, TellsYes, ShowsTextbookOrders, OrdersLaw, IsNoAnd, IsCycleOf, CycleLaw, InGrammarLaw, NoModelStatusLaw, PrintedModelLaw}
 use Rattle.reply_laws.proofs.Reading.{same_read}
 
 -- a side that is shown has an order
@@ -77,19 +78,43 @@ yes_law instance_read exists kind file bytes text status i e reply =
     let solution = solution_of kind file bytes text status i e reply in
     claim_yes exists i (instance_read kind bytes i e).formed solution.verdict.claim status solution.holds.claim solution.status_is
 
+-- a verdict on the instance in a file is in the grammar
+pub in_grammar_law : InstanceLaw → GrammarLaw → InGrammarLaw
+in_grammar_law instance_read grammar kind bytes i v e counts true = let found = instance_read kind bytes i e in grammar i v found.within found.formed counts true
+
+-- a solution with status 1 is a no, with the cycle of a side
+no_at_one : FirstConflictLaw → (i : InstanceValue) (claim : Claim) → 1 ≡ status_of claim → IsClaimOf i claim → IsNoAnd claim (IsCycleOf i)
+no_at_one blames i (yes_claim value) is true = absurd (omega (arith, is))
+no_at_one blames i (no_claim s lines) is true = (true.0.side, true.1, true.2, true.3, blames (derived_matrix i s) lines true.3)
+
+pub cycle_law : InGrammarLaw → FirstConflictLaw → CycleLaw
+cycle_law grammar blames kind file bytes text i e reply =
+    let solution = solution_of kind file bytes text 1 i e reply in (
+      solution.verdict,
+      grammar kind bytes i solution.verdict e solution.counts solution.holds,
+      solution.text_is,
+      no_at_one blames i solution.verdict.claim solution.status_is solution.holds.claim,
+    )
+
 -- a solution with status 0 is a yes
 yes_at_zero : (i : InstanceValue) (claim : Claim) (P : YesValue → Type 0) → 0 ≡ status_of claim → IsClaimOf i claim → ((value : YesValue) → IsClaimOf i (yes_claim value) → P value) → IsYesAnd claim P
 yes_at_zero i (yes_claim value) P is true h = h value true
 yes_at_zero i (no_claim s lines) P is true h = absurd (omega (arith, is))
 
-tells : (i : InstanceValue) (text : List ℕ) (P : YesValue → Type 0) → IsVerdictReply i 0 text → ((value : YesValue) → IsClaimOf i (yes_claim value) → P value) → TellsYes text P
-tells i text P solution h = (solution.verdict, solution.grammar, solution.text_is, yes_at_zero i solution.verdict.claim P solution.status_is solution.holds.claim h)
+tells : InGrammarLaw → (kind : Kind) (bytes text : List ℕ) (i : InstanceValue) (P : YesValue → Type 0) → instance_of kind bytes ≡ read.Ok i → IsVerdictReply i 0 text
+    → ((value : YesValue) → IsClaimOf i (yes_claim value) → P value) → TellsYes text P
+tells grammar kind bytes text i P e solution h = (
+  solution.verdict,
+  grammar kind bytes i solution.verdict e solution.counts solution.holds,
+  solution.text_is,
+  yes_at_zero i solution.verdict.claim P solution.status_is solution.holds.claim h,
+)
 
-pub orders_law : InstanceLaw → DerivedLaw → ValidLaw → OrdersLaw
-orders_law instance_read derived valid kind file bytes text i e reply =
+pub orders_law : InstanceLaw → InGrammarLaw → DerivedLaw → ValidLaw → OrdersLaw
+orders_law instance_read grammar derived valid kind file bytes text i e reply =
     let formed = (instance_read kind bytes i e).formed in
     let P : YesValue → Type 0 = λ value. (s : ℕ) → IsSideOf i s → HasSide value s (ShowsTextbookOrders i s) in
-    tells i text P (solution_of kind file bytes text 0 i e reply) (λ value true s side. textbook_shown derived valid i s (slice_get value.sides (s - 1)) formed side (true.0.each s side))
+    tells grammar kind bytes text i P e (solution_of kind file bytes text 0 i e reply) (λ value true s side. textbook_shown derived valid i s (slice_get value.sides (s - 1)) formed side (true.0.each s side))
 
 -- of a graph without a proper model a true claim is a no
 no_model_claim : AddedLaw → (g : GraphValue) (claim : Claim) (status : ℕ) → IsInstance (proper g) → IsGraph g → IsClaimOf (proper g) claim → status ≡ status_of claim → ((list : List Interval) → IsProperModel g list → ⊥)
@@ -105,7 +130,7 @@ no_model_law instance_read exists from_model added file bytes text status g e re
       no_model_claim added g solution.verdict.claim status found.within found.formed solution.holds.claim solution.status_is,
     )
 
-pub model_law : InstanceLaw → AddedLaw → PrintedModelLaw
-model_law instance_read added file bytes text g e reply =
+pub model_law : InstanceLaw → InGrammarLaw → AddedLaw → PrintedModelLaw
+model_law instance_read grammar added file bytes text g e reply =
     let found = instance_read Proper bytes (proper g) e in
-    tells (proper g) text (λ value. IsProperModel g value.added.intervals) (solution_of Proper file bytes text 0 (proper g) e reply) (λ value true. added (proper g) value found.within found.formed true.0 true.1)
+    tells grammar Proper bytes text (proper g) (λ value. IsProperModel g value.added.intervals) e (solution_of Proper file bytes text 0 (proper g) e reply) (λ value true. added (proper g) value found.within found.formed true.0 true.1)

@@ -65,7 +65,7 @@ no_unit_law file other bytes text reply =
     let g = reply.0 in
     let made = reply.2 in
     let no = told_at_one g made.verdict made.verdict.claim 1 text made.tells refl in
-    (proper g, reply.1, record { verdict = made.verdict; grammar = made.grammar; holds = made.holds; status_is = no.0; text_is = no.1 })
+    (proper g, reply.1, record { verdict = made.verdict; counts = made.counts; holds = made.holds; status_is = no.0; text_is = no.1 })
 
 module _ (instance_read : InstanceLaw) (no_law : NoStatusLaw) (unit_law : UnitLaw) where
   -- where the status is 1 there is no unit model

@@ -29,8 +29,8 @@ pub record KeepsAccepted (m : RowList) (rows : List (List ℕ)) (outcomes : List
 
 -- What the text of a session shows. Each further row has an outcome. The frontiers of the tree at its end are exactly
 -- the valid orders of the matrix that keep each accepted row, and the order is one of them. No valid order that keeps
--- the accepted rows before a refused row keeps that one. Each cycle that is printed is a short odd cycle of the rows of the
--- matrix, those accepted before the refused row, and that row, which is a reason of it.
+-- the accepted rows before a refused row keeps that one. Each cycle that is printed is a short odd cycle of the rows of
+-- the matrix, those accepted before the refused row, and that row, which is a reason of it.
 pub record ShowsSession (kind : Kind) (m : RowList) (rows : List (List ℕ)) (text : List ℕ) : Type 0 where
   pub outcomes : List Outcome
   pub side : SideValue

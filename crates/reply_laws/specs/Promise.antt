@@ -1,27 +1,22 @@
 -- What a reply promises.
-use Rattle.std.specs.Prelude.{◌≡◌, ◌⊎◌, ◌↔◌, ℕ, ◌+◌, List, [], ◌∷◌, codes}
+use Rattle.std.specs.Prelude.{◌≡◌, ◌⊎◌, ◌↔◌, ℕ, ◌-◌, List, [], ◌∷◌, slice_get, IsSomeAnd, codes}
 use Rattle.column_order.specs.Orders.{HasValidOrder}
 use Rattle.row_model.specs.Rows.{RowList}
-use Rattle.row_model.specs.Cycles.{IsOddCycle}
 use Rattle.row_model.specs.declared.graph.Line.{Line}
 use Rattle.row_model.specs.declared.kind.Kind.{Kind}
 use Rattle.row_model.specs.declared.refusal.Read.TheVariants as read
-use Rattle.odd_cycle.specs.Short.{IsShort}
-use Rattle.row_judge.specs.Judges.{IsFirstConflict}
-use Rattle.row_judge.specs.Blamed.{IsReason}
-use Rattle.verdict_text.specs.Verdict.{Claim, yes_claim, no_claim, VerdictValue}
+use Rattle.verdict_text.specs.Verdict.{YesValue, Claim, yes_claim, no_claim, VerdictValue}
 use Rattle.verdict_text.specs.Grammar.{IsVerdict}
 use Rattle.verdict_text.specs.Text.{verdict_text}
 use Rattle.row_model.specs.declared.kind.Kind.TheVariants.{Proper}
 use Rattle.matrix_read.specs.Sparse.{further}
 use Rattle.graph_model.specs.Graphs.{GraphValue}
-use Rattle.instance_model.specs.Instance.{InstanceValue, plain, proper, IsSideOf, HasTextbookOrder, derived_matrix}
-use Rattle.verdict_check.specs.YesTests.{HasSide}
+use Rattle.instance_model.specs.Instance.{InstanceValue, plain, proper, IsSideOf, HasTextbookOrder}
 use Rattle.verdict_check.specs.Truth.{IsTrueVerdict}
 use Rattle.pq_tree.specs.Outline.{Outline}
 use Rattle.command_input.specs.Words.{Command, Solve, Check, Extend, Gen, Meet, ListOrders, UnitModel, CheckUnit, Core, CheckCore}
 use Rattle.command_input.specs.Instances.{instance_of}
-use Rattle.reply_laws.specs.Solve.{TellsYes, ShowsTextbookOrders}
+use Rattle.reply_laws.specs.Solve.{ShowsTextbookOrders, IsCycleOf}
 use Rattle.solve_replies.specs.Models.{HasUnitModel, TellsUnit}
 use Rattle.verdict_replies.specs.Cores.{IsCoreText}
 use Rattle.verdict_replies.specs.Units.{IsUnitOf}
@@ -34,32 +29,26 @@ use Rattle.reply_laws.specs.Replies.{Replies}
 use Rattle.reply_laws.specs.Extend.{ShowsSession}
 use Rattle.reply_laws.specs.Core.{NamesCore}
 
--- the claim is a no of which P holds
-abbrev pub IsNoAnd : Claim → (ℕ → List Line → Type 0) → Type 0
-IsNoAnd (yes_claim value) P = ⊥
-IsNoAnd (no_claim side lines) P = P side lines
+-- the text is that of a verdict with this claim
+abbrev pub Tells : List ℕ → Claim → Type 0
+Tells text claim = (v : VerdictValue) × (text ≡ verdict_text v) × (v.claim ≡ claim)
 
--- the text is that of a verdict with a no of which P holds
-abbrev pub TellsNo : List ℕ → (ℕ → List Line → Type 0) → Type 0
-TellsNo text P = (v : VerdictValue) × IsVerdict v × (text ≡ verdict_text v) × IsNoAnd v.claim P
-
--- A side of the instance, and a simple odd cycle of the incompatibility graph of its derived rows, which is short. It is one of the rows
--- up to the first that leaves no valid order with those before it, and that row is a reason of it.
-abbrev pub IsCycleOf : InstanceValue → ℕ → List Line → Type 0
-IsCycleOf i s lines =
-    IsSideOf i s × IsOddCycle (derived_matrix i s).columns (derived_matrix i s).rows lines × IsShort (derived_matrix i s).columns lines ×
-    (first : IsFirstConflict (derived_matrix i s) lines) × IsReason (first.before + 1) lines
+-- the text tells a no with a side of the instance and an odd cycle of it
+abbrev pub NamesCycle : InstanceValue → List ℕ → Type 0
+NamesCycle i text = (s : ℕ) × (lines : List Line) × Tells text (no_claim s lines) × IsCycleOf i s lines
 
 -- Yes: there is a textbook order, and the text tells a tree for each side, whose frontiers are exactly the textbook
 -- orders of the side, of a circular instance up to rotation.
 pub record SaysYes (i : InstanceValue) (text : List ℕ) : Type 0 where
   pub exists : HasTextbookOrder i
-  pub orders : TellsYes text (λ value. (s : ℕ) → IsSideOf i s → HasSide value s (ShowsTextbookOrders i s))
+  pub value : YesValue
+  pub told : Tells text (yes_claim value)
+  pub orders : (s : ℕ) → IsSideOf i s → IsSomeAnd (slice_get value.sides (s - 1)) (ShowsTextbookOrders i s)
 
--- no: there is no textbook order, and the text tells a side and such a cycle of it
+-- no: there is no textbook order, and the text tells an odd cycle of a side
 pub record SaysNo (i : InstanceValue) (text : List ℕ) : Type 0 where
   pub none : HasTextbookOrder i → ⊥
-  pub cycle : TellsNo text (IsCycleOf i)
+  pub cycle : NamesCycle i text
 
 -- an instance is solved: yes with status 0, or no with status 1
 abbrev pub IsSolved : InstanceValue → ℕ → List ℕ → Type 0
@@ -70,10 +59,10 @@ pub record IsCheckPromise (kind : Kind) (bytes : List ℕ) (i : InstanceValue) (
   pub accepts : (file : List ℕ) (found : ℕ) → Replies (Solve kind file) (bytes ∷ []) found given → (status ≡ 0) × (text ≡ codes "valid\n")
   pub believes : status ≡ 0 → (v : VerdictValue) × IsVerdict v × (given ≡ verdict_text v) × IsTrueVerdict i v
 
--- with status 0 the text is that of a unit model of the graph; with status 1 there is none, and the text tells a simple
--- odd cycle
+-- with status 0 the text is that of a unit model of the graph; with status 1 there is none, and the text tells an odd
+-- cycle
 abbrev pub IsUnitSolved : GraphValue → ℕ → List ℕ → Type 0
-IsUnitSolved g status text = ((status ≡ 0) × TellsUnit g text) ⊎ ((status ≡ 1) × (HasUnitModel g → ⊥) × TellsNo text (IsCycleOf (proper g)))
+IsUnitSolved g status text = ((status ≡ 0) × TellsUnit g text) ⊎ ((status ≡ 1) × (HasUnitModel g → ⊥) × NamesCycle (proper g) text)
 
 -- A unit model is judged: whatever `unit` wrote on the same bytes with status 0 is valid, and nothing else than a unit
 -- model of the graph is.

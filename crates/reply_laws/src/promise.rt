@@ -9,20 +9,19 @@ use crate::list::list_law;
 use crate::solve::reply_law;
 use crate::unit::unit_reply_law;
 use crate::unit_check::unit_check_law;
-use row_judge::last_row_laws;
 
 /// What a reply promises, whatever the command. A `solve` answers yes exactly where a textbook order exists, with trees
 /// whose frontiers are exactly those orders, of a circular instance up to rotation; and otherwise no, with a simple odd
 /// cycle of the incompatibility graph of the derived rows, up to the first that leaves no valid order with those before
-/// it, which is a reason of the cycle. A `check` accepts whatever `solve` wrote, and nothing untrue. An `extend` shows what became of each further row, a `core` names rows that are a core of a matrix without a
-/// valid order, and a `list` the first valid orders; where there is nothing to extend, to blame or to list the reply is
-/// a no or a yes of `solve`. A `check-core` accepts whatever `core` wrote with status 0, and nothing that names no
-/// core. A `unit` gives a unit model exactly where one exists, and a `check-unit` accepts it, and nothing else than a
-/// unit model. A `meet` tells what two trees share, and a `gen` what was drawn.
+/// it, which is a reason of the cycle. A `check` accepts whatever `solve` wrote, and nothing untrue. An `extend` shows
+/// what became of each further row, a `core` names rows that are a core of a matrix without a valid order, and a `list`
+/// the first valid orders; where there is nothing to extend, to blame or to list the reply is a no or a yes of `solve`.
+/// A `check-core` accepts whatever `core` wrote with status 0, and nothing that names no core. A `unit` gives a unit
+/// model exactly where one exists, and a `check-unit` accepts it, and nothing else than a unit model. A `meet` tells
+/// what two trees share, and a `gen` what was drawn.
 pub fn promise_law()
     ensures { PromiseLaw }
 {
-    last_row_laws();
     reply_law();
     check_law();
     solved_law();

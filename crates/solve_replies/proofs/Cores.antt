@@ -14,7 +14,7 @@ plain_of kind k i m e h = e ∙ ap (λ j. plain j m) (sym (ap instance_kind e) �
 -- a verdict on a matrix that has a valid order is a yes
 pub yes_reply : (kind : Kind) (m : RowList) (status : ℕ) (text : List ℕ) → HasValidOrder m.columns m.rows → IsVerdictReply (plain kind m) status text → IsVerdictReply (plain kind m) 0 text
 yes_reply kind m status text o r =
-    record { verdict = r.verdict; grammar = r.grammar; holds = r.holds; status_is = is_yes r.verdict.claim r.holds.claim; text_is = r.text_is }
+    record { verdict = r.verdict; counts = r.counts; holds = r.holds; status_is = is_yes r.verdict.claim r.holds.claim; text_is = r.text_is }
   where
     is_yes : (claim : Claim) → IsClaimOf (plain kind m) claim → 0 ≡ status_of claim
     is_yes (yes_claim value) h = refl

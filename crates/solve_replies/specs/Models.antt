@@ -5,7 +5,7 @@ use Rattle.unit_model.specs.Models.{IsUnitModel}
 use Rattle.unit_model.specs.Rule.{AreLeftEnds}
 use Rattle.unit_model.specs.Text.{UnitValue, IsUnit, unit_text}
 use Rattle.verdict_text.specs.Verdict.{Claim, yes_claim, no_claim, VerdictValue}
-use Rattle.verdict_text.specs.Grammar.{IsVerdict}
+use Rattle.verdict_text.specs.Grammar.{AreColumnCounts}
 use Rattle.verdict_text.specs.Text.{verdict_text}
 use Rattle.instance_model.specs.Instance.{proper}
 use Rattle.verdict_replies.specs.Units.{IsUnitOf}
@@ -39,6 +39,6 @@ TellsByClaim g verdict (no_claim s lines) status text = (status ≡ 1) × (text 
 -- the status and the text go by the verdict that `solve` finds on the graph
 pub record IsModelReply (g : GraphValue) (status : ℕ) (text : List ℕ) : Type 0 where
   pub verdict : VerdictValue
-  pub grammar : IsVerdict verdict
+  pub counts : AreColumnCounts verdict.columns
   pub holds : IsVerdictOf (proper g) verdict
   pub tells : TellsByClaim g verdict verdict.claim status text

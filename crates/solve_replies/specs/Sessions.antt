@@ -27,8 +27,8 @@ pub data Outcome : Type 0 where
 abbrev pub Explains : RowList → List ℕ → List Line → Type 0
 Explains m row lines = IsOddCycle m.columns (m.rows ++ row ∷ []) lines × IsShort m.columns lines × IsReason (length (m.rows ++ row ∷ [])) lines
 
--- What explains that a row is refused after those of the matrix, and after so many refusals: such a cycle where it is among
--- the first, and nothing later.
+-- What explains that a row is refused after those of the matrix, and after so many refusals: such a cycle where it is
+-- among the first, and nothing later.
 abbrev pub IsExplained : RowList → List ℕ → ℕ → Option (List Line) → Type 0
 IsExplained m row refusals (Some lines) = (refusals < MAX_EXPLAINED) × Explains m row lines
 IsExplained m row refusals None = MAX_EXPLAINED ≤ refusals

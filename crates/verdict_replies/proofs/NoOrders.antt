@@ -11,7 +11,7 @@ use Rattle.verdict_text.specs.declared.verdict.Version.TheVariants.{Two}
 use Rattle.odd_cycle.specs.Short.{IsShort}
 use Rattle.row_judge.specs.Judges.{IsFirstConflict}
 use Rattle.instance_model.specs.Instance.{plain, IsInstance}
-use Rattle.verdict_replies.specs.Verdicts.{IsFirstWithout, IsVerdictOf, IsVerdictReply, GrammarLaw}
+use Rattle.verdict_replies.specs.Verdicts.{IsFirstWithout, IsVerdictOf, IsVerdictReply}
 use Rattle.verdict_replies.proofs.Sizes.{first_side}
 
 -- a no about the only side
@@ -24,13 +24,13 @@ no_is_true kind m lines cycle short first none =
     record { version = refl; kind = refl; columns = refl; claim = (without, cycle, short, first) }
 
 -- the text of that verdict is a reply
-pub no_reply : GrammarLaw → (kind : Kind) (columns side : ℕ) (lines cycle : List Line) (text : List ℕ) → side ≡ 1 → lines ≡ cycle → text ≡ verdict_text (no_verdict kind columns side lines)
+pub no_reply : (kind : Kind) (columns side : ℕ) (lines cycle : List Line) (text : List ℕ) → side ≡ 1 → lines ≡ cycle → text ≡ verdict_text (no_verdict kind columns side lines)
     → 1 ≤ columns → (m : RowList) → m.columns ≡ columns → IsInstance (plain kind m) → IsOddCycle m.columns m.rows cycle → IsShort m.columns cycle → IsFirstConflict m cycle → (HasValidOrder m.columns m.rows → ⊥) → IsVerdictReply (plain kind m) 1 text
-no_reply grammar kind columns side lines cycle text one same f some m is within odd short first none =
+no_reply kind columns side lines cycle text one same f some m is within odd short first none =
     let true = no_is_true kind m cycle odd short first none in
     record {
       verdict = no_verdict kind m.columns 1 cycle;
-      grammar = grammar (plain kind m) (no_verdict kind m.columns 1 cycle) within tt ((omega (arith, some, is), within.1), tt) true;
+      counts = ((omega (arith, some, is), within.1), tt);
       holds = true;
       status_is = refl;
       text_is = f ∙ ap (λ s. verdict_text (no_verdict kind columns s lines)) one ∙ ap (λ ls. verdict_text (no_verdict kind columns 1 ls)) same ∙ ap (λ c. verdict_text (no_verdict kind c 1 cycle)) (sym is);

@@ -70,7 +70,8 @@ pub record IsFirstWithout (i : InstanceValue) (s : ℕ) : Type 0 where
 
 -- What is claimed is true of the instance. Yes: its sides, each of which shows the valid orders of its derived matrix,
 -- and what the kind adds to the order of the first. No: the first side that has none, and a short odd cycle of
--- its incompatibility graph, which shows it, by the rows up to the first that leaves no valid order with those before it.
+-- its incompatibility graph, which shows it. It is one of the rows up to the first that leaves no valid order with
+-- those before it.
 abbrev pub IsClaimOf : InstanceValue → Claim → Type 0
 IsClaimOf i (yes_claim value) = ShowsSides i value.sides × IsSomeAnd (slice_get value.sides 0) (λ side. AddsToOrder i side.order value.added)
 IsClaimOf i (no_claim s lines) =
@@ -88,10 +89,10 @@ abbrev pub status_of : Claim → ℕ
 status_of (yes_claim _) = 0
 status_of (no_claim _ _) = 1
 
--- the status and the text are those of a verdict of the grammar that is true of the instance
+-- the status and the text are those of a verdict with some columns, within the limit, that is true of the instance
 pub record IsVerdictReply (i : InstanceValue) (status : ℕ) (text : List ℕ) : Type 0 where
   pub verdict : VerdictValue
-  pub grammar : IsVerdict verdict
+  pub counts : AreColumnCounts verdict.columns
   pub holds : IsVerdictOf i verdict
   pub status_is : status ≡ status_of verdict.claim
   pub text_is : text ≡ verdict_text verdict

@@ -11,7 +11,6 @@ ghost use Rattle.verdict_text.specs.Text.{verdict_text};
 ghost use Rattle.verdict_text.specs.Value.{verdict_value};
 ghost use Rattle.verdict_replies.specs.Verdicts.{IsVerdictReply};
 
-use crate::verdict_laws::grammar_law;
 use crate::{NoMemory, Reply};
 use odd_cycle::Cycle;
 use row_model::Kind;
@@ -19,8 +18,8 @@ use std::alloc::Global;
 use verdict_text::{Columns, NoPart, Part, Verdict, Version, print};
 
 /// The reply on a matrix without a valid order, which its cycle shows. It is a reply of `solve` where the cycle has at
-/// most one flip, and with c columns at most c(c - 1)/2 + 1 lines, and is one of the rows up to the first that leaves no
-/// valid order with those before it.
+/// most one flip, and with c columns at most c(c - 1)/2 + 1 lines, and is one of the rows up to the first that leaves
+/// no valid order with those before it.
 ///
 /// # Errors
 ///
@@ -33,7 +32,6 @@ pub fn no_reply(alloc: Global, kind: Kind, columns: u32, cycle: Cycle) -> Result
         → IsVerdictReply (plain kind m) 1 reply.text.items) }
     ensures status { IfOk result (λ reply. reply.status ≡ 1) }
 {
-    grammar_law();
     let verdict = Verdict {
         version: Version::Two,
         kind,

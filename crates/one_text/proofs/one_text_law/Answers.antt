@@ -7,9 +7,10 @@ pub returns : goal.returns
 returns c =
     let common = c.common_law.ensures.rows in
     let meet = c.meet_law.ensures.text in
+    let reply = c.reply_law.ensures in
     record {
-      canonical = canonical_text common meet c.canonical_tree_law.ensures.one;
+      canonical = canonical_text reply.grammar common meet c.canonical_tree_law.ensures.one;
       lines = lines_law;
-      same = same_text common meet c.canonical_tree_law.ensures.rows;
-      textbook = textbook_text c.reply_law.ensures.orders c.one_verdict.ensures common meet c.canonical_tree_law.ensures.rows;
+      same = same_text reply.grammar common meet c.canonical_tree_law.ensures.rows;
+      textbook = textbook_text reply.grammar reply.orders c.one_verdict.ensures common meet c.canonical_tree_law.ensures.rows;
     }

@@ -6,8 +6,9 @@ returns c =
     let valid = c.textbook_law.ensures.valid in
     let models = c.model_law.ensures.models in
     let tests = c.solved_laws.ensures in
+    let texts = c.grammar_law.ensures in
     record {
-      passed = λ i status text within formed reply. solved_accepted c.exact_law.ensures valid models tests.yes tests.no i within formed c.grammar_law.ensures.length status text reply;
+      passed = λ i status text within formed reply. solved_accepted c.exact_law.ensures valid models tests.yes tests.no i within formed texts.grammar texts.length status text reply;
       added = added_true valid models;
       tied = tied_side c.exact_law.ensures;
     }

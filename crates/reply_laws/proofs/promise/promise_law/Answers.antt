@@ -4,7 +4,7 @@ use Rattle.reply_laws.proofs.promise.promise_law.Goals as goal
 pub returns : goal.returns
 returns c =
     let reply = c.reply_law.ensures in
-    laws.promise_law c.last_row_laws.ensures.first reply.no reply.yes reply.orders (record {
+    laws.promise_law reply.no reply.yes reply.orders reply.cycle (record {
       check = c.check_law.ensures.believed;
       agreed = c.solved_law.ensures.agreed;
       session = c.extend_law.ensures.session;
@@ -15,6 +15,7 @@ returns c =
       no_list = c.list_law.ensures.none;
       unit = c.unit_reply_law.ensures.status;
       printed_unit = c.unit_reply_law.ensures.model;
+      no_unit = c.unit_reply_law.ensures.none;
       unit_check = c.unit_check_law.ensures.status;
       unit_agreed = c.unit_check_law.ensures.agreed;
     })

@@ -1,8 +1,15 @@
-use Rattle.reply_laws.proofs.Statuses.{no_law, yes_law, orders_law}
+use Rattle.reply_laws.proofs.Statuses as laws
 use Rattle.reply_laws.proofs.solve.reply_law.Goals as goal
 
 pub returns : goal.returns
 returns c =
     let read = c.instance_law.ensures in
     let textbook = c.textbook_law.ensures in
-    record { no = no_law read textbook.exists; yes = yes_law read textbook.exists; orders = orders_law read textbook.derived textbook.valid }
+    let grammar = laws.in_grammar_law read c.grammar_law.ensures.grammar in
+    record {
+      no = laws.no_law read textbook.exists;
+      yes = laws.yes_law read textbook.exists;
+      orders = laws.orders_law read grammar textbook.derived textbook.valid;
+      cycle = laws.cycle_law grammar c.last_row_laws.ensures.first;
+      grammar = grammar;
+    }
