@@ -38,7 +38,7 @@ pub use row_model::NoMemory;
 pub use verdict_laws::passed_law;
 pub use verdict_replies::{
     Additions, MAX_CORE_BYTES, MAX_VERDICT_BYTES, Reply, added, core_grammar_law, grammar_law, no,
-    no_reply, printed,
+    no_reply, printed, shown_law,
 };
 
 /// The values of the constants.

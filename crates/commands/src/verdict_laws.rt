@@ -4,7 +4,7 @@ ghost use Rattle.commands.specs.Passed.{AddedLaw, PassedLaw, TiedSideLaw};
 use exact_tree::exact_law;
 use instance_model::textbook_law;
 use verdict_check::solved_laws;
-use verdict_replies::grammar_law;
+use verdict_replies::{grammar_law, shown_law};
 
 /// A verdict of an instance passes each test of a check: its trees are tied to the derived rows, and what it adds to the
 /// order of the first side is true.
@@ -18,4 +18,5 @@ pub fn passed_law()
     proper_interval::model_law();
     solved_laws();
     grammar_law();
+    shown_law();
 }

@@ -3,7 +3,6 @@ use Rattle.std.proofs.Common.{◌↔◌, ℕ, List, refl, sym, subst}
 use Rattle.column_order.specs.Orders.{IsValidOrder}
 use Rattle.row_model.specs.Rows.{RowList}
 use Rattle.pq_tree.specs.Outline.{IsFrontier}
-use Rattle.pq_tree.proofs.Frontiers.{leaves_are_frontier}
 use Rattle.tree_meet.specs.Meets.{IsCommon, joint_rows}
 use Rattle.tree_meet.specs.Laws.{CommonRowsLaw}
 use Rattle.verdict_text.specs.Verdict.{SideValue}
@@ -26,7 +25,6 @@ shares common text m h side shows =
       canonical = shows.canonical;
       orders = orders;
       leaves = shows.order;
-      order = (orders side.order).0 (subst (IsFrontier side.tree) (sym shows.order) (leaves_are_frontier side.tree));
     }
 
 pub met : CommonRowsLaw → MeetTextLaw → (text : List ℕ) (m : RowList) → MeetsIn text m → Shown m (TellsAt text in_meeting)

@@ -1,11 +1,10 @@
 -- Two judgements on the same bytes.
-use Rattle.std.proofs.Common.{◌≡◌, ◌∙◌, ℕ, ◌≤◌, List, [], ◌∷◌, ◌++◌, get_or, drop, codes, refl, sym, ap, subst, inl, arith}
+use Rattle.std.proofs.Common.{◌≡◌, ◌∙◌, ℕ, List, [], ◌∷◌, ◌++◌, get_or, drop, codes, refl, sym, ap, subst, inl, arith}
 use Rattle.std.specs.List.{AllByRecursion}
 use Rattle.row_model.specs.Rows.{RowList}
 use Rattle.row_model.specs.declared.kind.Kind.{Kind}
 use Rattle.graph_model.specs.Graphs.{GraphValue}
 use Rattle.core_text.specs.Laws.{OneCoreLaw}
-use Rattle.core_text.specs.Texts.{TextValue, IsInGrammar}
 use Rattle.unit_model.specs.Laws.{OneUnitLaw}
 use Rattle.unit_model.specs.Text.{UnitValue}
 use Rattle.instance_model.specs.Instance.{InstanceValue}

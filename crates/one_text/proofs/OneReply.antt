@@ -1,5 +1,5 @@
 -- Two replies of one command to the same bytes.
-use Rattle.std.proofs.Common.{◌≡◌, ◌∙◌, ◌⊎◌, ◌↔◌, inl, inr, ℕ, Bool, true, false, List, [], ◌∷◌, ◌++◌, codes, refl, sym, ap, subst, arith, IsTrue, Option, Some, None}
+use Rattle.std.proofs.Common.{◌≡◌, ◌∙◌, ◌⊎◌, ◌↔◌, inl, inr, ℕ, Bool, true, false, List, [], ◌∷◌, ◌++◌, codes, refl, sym, ap, subst, IsTrue, Option, Some, None}
 use Rattle.std.specs.Prelude.{slice_get, IsSomeAnd}
 use Rattle.std.proofs.lemmas.Bool.{false≢true}
 use Rattle.column_order.specs.Orders.{IsValidOrder, HasValidOrder}
@@ -12,24 +12,24 @@ use Rattle.graph_model.specs.Graphs.{GraphValue}
 use Rattle.clone_map.specs.Laws.{PlacesLaw, ContigsLaw}
 use Rattle.proper_interval.specs.Laws.{OneListLaw}
 use Rattle.canonical_tree.specs.Laws.{CanonicalTreeLaw}
-use Rattle.pq_tree.specs.Outline.{Outline, IsFrontier, leaves}
-use Rattle.order_list.specs.First.{AreFirst, HasOther}
+use Rattle.pq_tree.specs.Outline.{Outline, leaves}
+use Rattle.order_list.specs.First.{HasOther}
 use Rattle.order_list.specs.Laws.{FirstOrdersLaw}
 use Rattle.unit_model.specs.Laws.{OneUnitLaw, OneRuleLaw}
-use Rattle.unit_model.specs.Text.{UnitValue, unit_text}
+use Rattle.unit_model.specs.Text.{unit_text}
 use Rattle.core_text.specs.Laws.{OneCoreLaw}
 use Rattle.core_text.specs.Texts.{core_text, entries, entry_text}
 use Rattle.text_parts.specs.Text.{kind_word, number_word, counted_text, counted_cycle}
 use Rattle.matrix_read.specs.Sparse.{further}
-use Rattle.instance_model.specs.Instance.{InstanceValue, plain, proper, derived_matrix, IsSideOf, IsWellFormed}
+use Rattle.instance_model.specs.Instance.{InstanceValue, plain, proper, derived_matrix, IsWellFormed}
 use Rattle.instance_model.specs.Laws.{ValidLaw}
-use Rattle.verdict_text.specs.Text.{side_text, verdict_text}
-use Rattle.verdict_text.specs.Verdict.{SideValue, YesValue, Claim, yes_claim, no_claim, VerdictValue}
-use Rattle.command_input.specs.Words.{Command, Solve, Check, Extend, Gen, Meet, ListOrders, UnitModel, CheckUnit, Core, CheckCore}
+use Rattle.verdict_text.specs.Text.{side_text}
+use Rattle.verdict_text.specs.Verdict.{SideValue, YesValue, Claim, yes_claim, no_claim}
+use Rattle.command_input.specs.Words.{Solve, Check, Extend, Gen, Meet, ListOrders, UnitModel, CheckUnit, Core, CheckCore}
 use Rattle.command_input.specs.Instances.{instance_of, InstanceLaw}
-use Rattle.verdict_replies.specs.Verdicts.{ShowsAllOrders, IsClaimOf, IsVerdictReply}
+use Rattle.verdict_replies.specs.Verdicts.{ShowsAllOrders, IsClaimOf, IsVerdictReply, ShownOrderLaw}
 use Rattle.verdict_replies.specs.Cores.{IsCoreText}
-use Rattle.commands.specs.Meetings.{meet_head, ShowsCommon, TellsCommon, TellsApart, IsMeetingReply}
+use Rattle.commands.specs.Meetings.{meet_head, TellsCommon, TellsApart, IsMeetingReply}
 use Rattle.solve_replies.specs.Sessions.{IsSessionText, IsExtensionReply}
 use Rattle.commands.specs.Judgements.{IsJudgementReply}
 use Rattle.commands.specs.CoreJudgements.{IsCoreJudgementReply}
@@ -37,7 +37,7 @@ use Rattle.commands.specs.Findings.{IsFindingReply}
 use Rattle.command_input.specs.TreeFiles.{tree_file}
 use Rattle.solve_replies.specs.Cores.{IsCoreReply}
 use Rattle.solve_replies.specs.Lists.{IsOrderOf, list_text, IsListText, IsListReply}
-use Rattle.solve_replies.specs.Models.{IsModelOf, TellsModel, TellsByClaim, IsModelReply}
+use Rattle.solve_replies.specs.Models.{TellsModel, TellsByClaim, IsModelReply}
 use Rattle.solve_replies.specs.Summaries.{summary_text, IsSummary}
 use Rattle.solve_replies.specs.Generated.{generated}
 use Rattle.reply_laws.specs.Replies.{Replies}
@@ -84,9 +84,9 @@ core_tells kind m text told =
           (behind (number_word m.columns) (codes "\ncore " ++ (all ++ end)) cycle (behind (codes "\ncore ") (all ++ end) cycle (behind all end cycle (before cycle cycle (codes "end\n") (itself cycle)))))))),
     )
 
-module _ (one_tree : CanonicalTreeLaw) (places : PlacesLaw) (contigs : ContigsLaw) (intervals : OneListLaw) (valid : ValidLaw) (instance_read : InstanceLaw) where
+module _ (one_tree : CanonicalTreeLaw) (places : PlacesLaw) (contigs : ContigsLaw) (intervals : OneListLaw) (valid : ValidLaw) (shown : ShownOrderLaw) (instance_read : InstanceLaw) where
   solved : (kind : Kind) (bytes : List ℕ) (i : InstanceValue) (status other : ℕ) (text others : List ℕ) → instance_of kind bytes ≡ read.Ok i → IsVerdictReply i status text → IsVerdictReply i other others → AreOneReply status text other others
-  solved kind bytes i status other text others is = one_verdict_reply one_tree places contigs intervals valid i status other text others (instance_read kind bytes i is).formed (first_side i)
+  solved kind bytes i status other text others is = one_verdict_reply one_tree places contigs intervals valid shown i status other text others (instance_read kind bytes i is).formed (first_side i)
 
   -- replies that go by whether the matrix has a valid order
   module _ (kind : Kind) (bytes : List ℕ) (m : RowList) (is : instance_of kind bytes ≡ read.Ok (plain kind m)) where
@@ -162,17 +162,17 @@ module _ (one_tree : CanonicalTreeLaw) (places : PlacesLaw) (contigs : ContigsLa
 
     at_side : (o : Option SideValue) (x y : List ℕ) → IsSomeAnd o (ShowsAllOrders (derived_matrix (proper g) 1)) → IsSomeAnd o (λ side. TellsModel g side.order x) → IsSomeAnd o (λ side. TellsModel g side.order y) → x ≡ y
     at_side None x y shows here there = absurd shows
-    at_side (Some side) x y shows here there = one_model side.order x y shows.order here there
+    at_side (Some side) x y shows here there = one_model side.order x y (shown (derived_matrix (proper g) 1) side shows) here there
 
     one_unit : (status other : ℕ) (text others : List ℕ) → IsModelReply g status text → IsModelReply g other others → AreOneReply status text other others
     one_unit status other text others here there = go here.verdict.claim there.verdict.claim refl refl here.holds.claim there.holds.claim here.tells there.tells
       where
         go : (c d : Claim) → here.verdict.claim ≡ c → there.verdict.claim ≡ d → IsClaimOf (proper g) c → IsClaimOf (proper g) d → TellsByClaim g here.verdict c status text → TellsByClaim g there.verdict d other others → AreOneReply status text other others
         go (yes_claim v) (yes_claim w) is is_too one two told told_too =
-            let same = one_yes one_tree places contigs intervals valid (proper g) v w formed (first_side (proper g)) one two in
+            let same = one_yes one_tree places contigs intervals valid shown (proper g) v w formed (first_side (proper g)) one two in
             (told.0 ∙ sym told_too.0, inl (at_side (slice_get v.sides 0) text others (one.0.each 1 (first_side (proper g))) told.1 (subst (λ (z : YesValue). IsSomeAnd (slice_get z.sides 0) (λ side. TellsModel g side.order others)) (sym same) told_too.1)))
-        go (yes_claim v) (no_claim s lines) is is_too one two told told_too = absurd (apart one_tree places contigs intervals valid (proper g) v s lines one two)
-        go (no_claim s lines) (yes_claim v) is is_too one two told told_too = absurd (apart one_tree places contigs intervals valid (proper g) v s lines two one)
+        go (yes_claim v) (no_claim s lines) is is_too one two told told_too = absurd (apart one_tree places contigs intervals valid shown (proper g) v s lines one two)
+        go (no_claim s lines) (yes_claim v) is is_too one two told told_too = absurd (apart one_tree places contigs intervals valid shown (proper g) v s lines two one)
         go (no_claim s lines) (no_claim t cycle) is is_too one two told told_too =
             (told.0 ∙ sym told_too.0, inr (subst TellsCycle (sym told.1) (no_tells here.verdict s lines is), subst TellsCycle (sym told_too.1) (no_tells there.verdict t cycle is_too)))
 

@@ -1,8 +1,7 @@
 -- Two sessions over the same further rows.
-use Rattle.std.proofs.Common.{◌≡◌, ◌∙◌, ◌⊎◌, inl, inr, ℕ, zero, suc, ◌+◌, ◌<◌, ◌≤◌, List, [], ◌∷◌, ◌++◌, Option, Some, None, codes, refl, sym, ap, subst, arith}
+use Rattle.std.proofs.Common.{◌≡◌, ◌∙◌, ◌⊎◌, inl, inr, ℕ, ◌+◌, List, [], ◌∷◌, ◌++◌, Some, None, codes, refl, sym, ap, subst, arith}
 use Rattle.std.specs.Fmt.{decimal}
 use Rattle.row_model.specs.Rows.{RowList}
-use Rattle.row_model.specs.declared.graph.Line.{Line}
 use Rattle.row_model.specs.declared.kind.Kind.{Kind}
 use Rattle.canonical_tree.specs.Laws.{CanonicalTreeLaw}
 use Rattle.text_parts.specs.Text.{counted_cycle}
@@ -10,8 +9,7 @@ use Rattle.text_parts.specs.Numbered.{numbered}
 use Rattle.verdict_text.specs.Text.{kind_line, columns_line, side_text}
 use Rattle.verdict_text.specs.Verdict.{SideValue}
 use Rattle.verdict_replies.specs.Verdicts.{ShowsAllOrders}
-use Rattle.solve_replies.specs.Sessions.{Outcome, accepted, refused, AreOutcomes, matrix_after, refusals_after, matrix_at_end, outcome_text, session_text, IsSessionText}
-use Rattle.one_text.specs.Laws.{HasLines}
+use Rattle.solve_replies.specs.Sessions.{Outcome, accepted, refused, AreOutcomes, matrix_after, matrix_at_end, outcome_text, session_text, IsSessionText}
 use Rattle.one_text.specs.One.{TellsCycle}
 use Rattle.one_text.proofs.Lines.{behind, before, itself}
 use Rattle.one_text.proofs.OneSolution.{one_side}

@@ -17,7 +17,7 @@ use Rattle.verdict_text.specs.Text.{head_text, claim_text, cycle_text, verdict_t
 use Rattle.verdict_text.specs.Verdict.{SideValue, AddedValue, YesValue, Claim, yes_claim, no_claim, VerdictValue}
 use Rattle.instance_model.specs.Instance.{InstanceValue, plain, circular, convex, doubly, proper, robinson, IsSideOf, derived_matrix, IsWellFormed}
 use Rattle.instance_model.specs.Laws.{ValidLaw}
-use Rattle.verdict_replies.specs.Verdicts.{ShowsAllOrders, ShowsSides, AddsNothing, AddsToMatrix, AddsToOrder, IsClaimOf, status_of, IsVerdictReply}
+use Rattle.verdict_replies.specs.Verdicts.{ShowsAllOrders, ShowsSides, AddsNothing, AddsToMatrix, AddsToOrder, IsClaimOf, status_of, IsVerdictReply, ShownOrderLaw}
 use Rattle.one_text.specs.Laws.{HasLines}
 use Rattle.one_text.specs.One.{TellsCycle, AreOneReply}
 use Rattle.one_text.proofs.Lines.{behind, before, itself}
@@ -69,7 +69,7 @@ module _ (one_tree : CanonicalTreeLaw) where
       let at : slice_get xs k ≡ slice_get ys k = ap (slice_get xs) (sym back) ∙ same ∙ ap (slice_get ys) back in
       same_Some (get_or xs k d) (get_or ys k d) (sym (slice_get-get_or xs k d lt) ∙ at ∙ slice_get-get_or ys k d (omega (arith, lt, here.count, there.count))))
 
-  module _ (places : PlacesLaw) (contigs : ContigsLaw) (intervals : OneListLaw) (valid : ValidLaw) where
+  module _ (places : PlacesLaw) (contigs : ContigsLaw) (intervals : OneListLaw) (valid : ValidLaw) (shown : ShownOrderLaw) where
     added_to_matrix : (kind : Kind) (m : RowList) (order : List ℕ) (a b : AddedValue) → AddsToMatrix kind m order a → AddsToMatrix kind m order b → a ≡ b
     added_to_matrix Clones m order a b here there =
         same_added a b (here.0 ∙ sym there.0) (places m.rows order a.places b.places here.1 there.1) (contigs m.rows order a.contigs b.contigs here.2 there.2)
@@ -88,7 +88,7 @@ module _ (one_tree : CanonicalTreeLaw) where
     added_at : (i : InstanceValue) (o : Option SideValue) (a b : AddedValue) → IsWellFormed i → IsSomeAnd o (ShowsAllOrders (derived_matrix i 1)) → IsSomeAnd o (λ side. AddsToOrder i side.order a)
         → IsSomeAnd o (λ side. AddsToOrder i side.order b) → a ≡ b
     added_at i None a b formed shows here there = absurd shows
-    added_at i (Some side) a b formed shows here there = added_to_order i side.order a b formed shows.order here there
+    added_at i (Some side) a b formed shows here there = added_to_order i side.order a b formed (shown (derived_matrix i 1) side shows) here there
 
     pub one_yes : (i : InstanceValue) (v w : YesValue) → IsWellFormed i → IsSideOf i 1 → IsClaimOf i (yes_claim v) → IsClaimOf i (yes_claim w) → v ≡ w
     one_yes i v w formed side here there =
@@ -102,7 +102,7 @@ module _ (one_tree : CanonicalTreeLaw) where
       where
         go : (o : Option SideValue) → IsSomeAnd o (ShowsAllOrders (derived_matrix i s)) → ⊥
         go None shows = shows
-        go (Some side) shows = there.0.none (side.order, shows.order)
+        go (Some side) shows = there.0.none (side.order, shown (derived_matrix i s) side shows)
 
     pub one_verdict_reply : (i : InstanceValue) (status other : ℕ) (text others : List ℕ) → IsWellFormed i → IsSideOf i 1 → IsVerdictReply i status text → IsVerdictReply i other others → AreOneReply status text other others
     one_verdict_reply i status other text others formed side here there = go here.verdict.claim there.verdict.claim refl refl here.holds.claim there.holds.claim

@@ -11,7 +11,7 @@ use Rattle.reply_laws.specs.Meet.{MeetTextLaw}
 use Rattle.reply_laws.specs.Solve.{InGrammarLaw}
 use Rattle.one_text.specs.Told.{Spot, on_side, at_end, in_meeting, RepliesFor, TellsAt}
 use Rattle.one_text.specs.Laws.{side_of, HaveSameOrders, CanonicalTextLaw, SameTextLaw}
-use Rattle.verdict_replies.specs.Verdicts.{ShowsAllOrders}
+use Rattle.verdict_replies.specs.Verdicts.{ShowsAllOrders, ShownOrderLaw}
 use Rattle.one_text.proofs.Sides.{Shown, solved}
 use Rattle.one_text.proofs.Ends.{ended}
 use Rattle.one_text.proofs.Meetings.{met}
@@ -46,10 +46,10 @@ same_tree one_tree m n side other same shows shows_other e =
     shows.orders
     (subst (λ c. (o : List ℕ) → IsValidOrder c n.rows o ↔ IsValidOrder m.columns m.rows o) e (λ o. ((same o).1, (same o).0)))
 
-pub same_text : InGrammarLaw → CommonRowsLaw → MeetTextLaw → SameOrdersLaw → SameTextLaw
-same_text grammar common meet one_tree text other here there m n replies replies_other same =
+pub same_text : ShownOrderLaw → InGrammarLaw → CommonRowsLaw → MeetTextLaw → SameOrdersLaw → SameTextLaw
+same_text valid grammar common meet one_tree text other here there m n replies replies_other same =
     let one = shown grammar common meet text here m replies in
     let two = shown grammar common meet other there n replies_other in
-    let columns = same_columns m n one.side.order same one.shows.order in
+    let columns = same_columns m n one.side.order same (valid m one.side one.shows) in
     let tree = same_tree one_tree m n one.side two.side same one.shows two.shows columns in
     (side_of one.side.tree, subst (TellsAt text here) (told_by_tree m one.side one.side.tree one.shows refl) one.tells, subst (TellsAt other there) (told_by_tree n two.side one.side.tree two.shows tree) two.tells)

@@ -1,15 +1,11 @@
 -- What a reply to `solve` tells of a side.
-use Rattle.std.proofs.Common.{◌≡◌, ◌∙◌, ◌↔◌, ℕ, ◌-◌, List, [], ◌∷◌, Option, Some, None, refl, sym, ap, subst, arith}
+use Rattle.std.proofs.Common.{◌≡◌, ◌∙◌, ℕ, ◌-◌, List, [], ◌∷◌, Option, Some, None, refl, sym, ap, subst, arith}
 use Rattle.std.specs.Prelude.{slice_get, IsSomeAnd}
 use Rattle.row_model.specs.Rows.{RowList}
 use Rattle.row_model.specs.declared.kind.Kind.{Kind}
 use Rattle.row_model.specs.declared.refusal.Read.{Read}
 use Rattle.row_model.specs.declared.refusal.Read.TheVariants as read
 use Rattle.instance_model.specs.Instance.{InstanceValue, IsSideOf, derived_matrix}
-use Rattle.column_order.specs.Orders.{IsValidOrder}
-use Rattle.pq_tree.specs.Outline.{IsFrontier, leaves}
-use Rattle.pq_tree.specs.Proper.{IsProper}
-use Rattle.pq_tree.specs.Canonical.{IsCanonical}
 use Rattle.verdict_text.specs.Verdict.{SideValue, Claim, yes_claim, no_claim}
 use Rattle.verdict_check.specs.YesTests.{HasSide}
 use Rattle.command_input.specs.Words.{Solve}

@@ -10,7 +10,7 @@ use Rattle.verdict_text.specs.Text.{verdict_text}
 use Rattle.instance_model.specs.Instance.{InstanceValue, IsSideOf, IsTextbookOrder, derived_matrix}
 use Rattle.instance_model.specs.Laws.{IsValidFor, AreTextbookOrders}
 use Rattle.verdict_check.specs.YesTests.{HasSide}
-use Rattle.verdict_replies.specs.Verdicts.{ShowsSide, IsClaimOf}
+use Rattle.verdict_replies.specs.Verdicts.{ShowsSide, IsClaimOf, ShownOrderLaw}
 use Rattle.reply_laws.specs.Solve.{IsYesAnd, ShowsTextbookOrders, OrdersLaw, InGrammarLaw}
 use Rattle.tree_meet.specs.Laws.{CommonRowsLaw}
 use Rattle.reply_laws.specs.Meet.{MeetTextLaw}
@@ -43,7 +43,7 @@ of_claim : (i : InstanceValue) (s : ℕ) (claim : Claim) → IsLinear i → IsSi
 of_claim i s (yes_claim value) linear inside true textbook = of_side i s (slice_get value.sides (s - 1)) linear (true.0.each s inside) (textbook s inside)
 of_claim i s (no_claim side lines) linear inside true textbook = absurd textbook
 
-module _ (grammar : InGrammarLaw) (orders : OrdersLaw) (one_verdict : OneVerdictLaw) where
+module _ (valid : ShownOrderLaw) (grammar : InGrammarLaw) (orders : OrdersLaw) (one_verdict : OneVerdictLaw) where
   -- so it is for each side of an instance that is not circular, to which a reply has status 0
   of_reply : (text : List ℕ) (s : ℕ) (m : RowList) (h : SolvesSide text s m) → IsLinear h.value → AreValid h.value s
   of_reply text s m h linear =
@@ -58,5 +58,5 @@ module _ (grammar : InGrammarLaw) (orders : OrdersLaw) (one_verdict : OneVerdict
       let second = of_reply other t n two linear_other in
       let matrices : HaveSameOrders (derived_matrix one.value s) (derived_matrix two.value t) =
       λ o. (λ v. (second o).0 ((same o).0 ((first o).1 v)), λ w. (first o).0 ((same o).1 ((second o).1 w))) in
-      same_text grammar common meet one_tree text other (on_side s) (on_side t) m n one two
+      same_text valid grammar common meet one_tree text other (on_side s) (on_side t) m n one two
       (subst (λ k. HaveSameOrders k n) (sym one.matrix_is) (subst (λ k. HaveSameOrders (derived_matrix one.value s) k) (sym two.matrix_is) matrices))

@@ -22,6 +22,7 @@ pub fn one_text_law()
     reply_laws::meet_law();
     reply_laws::reply_law();
     tree_meet::common_law();
+    verdict_replies::shown_law();
     verdict_text::one_verdict();
 }
 
@@ -46,5 +47,6 @@ pub fn one_reply_law()
     proper_interval::model_law();
     unit_model::one_rule_law();
     unit_model::unit_text_laws();
+    verdict_replies::shown_law();
     verdict_text::one_verdict();
 }

@@ -14,6 +14,7 @@ use Rattle.instance_model.specs.Instance.{plain, derived_matrix}
 use Rattle.command_input.specs.Instances.{instance_of}
 use Rattle.reply_laws.specs.Extend.{IsAcceptedAt, IsRefusedAt, KeepsAccepted, ShowsSession, ExtendStatusLaw, SessionLaw, BaseLaw}
 use Rattle.reply_laws.specs.Replies.{Replies}
+use Rattle.verdict_replies.specs.Verdicts.{ShownOrderLaw}
 use Rattle.solve_replies.specs.Sessions.{IsSessionText, IsExtensionReply, OutcomesLaw, Outcome, accepted, refused, Explains, IsOutcome, matrix_after, refusals_after, AreOutcomes, matrix_at_end}
 use Rattle.reply_laws.proofs.Reading.{same_read}
 
@@ -97,15 +98,15 @@ refused_explained m refusals (first ∷ rows) (outcome ∷ outcomes) all (suc i)
     refused_explained (matrix_after m first outcome) (refusals_after refusals outcome) rows outcomes all.1 i row lines at e
 
 -- a session's text shows what became of each row
-shows : OutcomesLaw → (kind : Kind) (m : RowList) (rows : List (List ℕ)) (text : List ℕ) → IsSessionText kind m rows text → ShowsSession kind m rows text
-shows same_count kind m rows text s =
+shows : ShownOrderLaw → OutcomesLaw → (kind : Kind) (m : RowList) (rows : List (List ℕ)) (text : List ℕ) → IsSessionText kind m rows text → ShowsSession kind m rows text
+shows shown same_count kind m rows text s =
     record {
       outcomes = s.outcomes;
       side = s.side;
       text_is = s.text_is;
       each = same_count m 0 rows s.outcomes s.in_turn;
       orders = λ o. let kept = end_kept m 0 rows s.outcomes o s.in_turn in (λ f. kept.0 ((s.shows.orders o).0 f), λ h. (s.shows.orders o).1 (kept.1 h));
-      order = (end_kept m 0 rows s.outcomes s.side.order s.in_turn).0 s.shows.order;
+      order = (end_kept m 0 rows s.outcomes s.side.order s.in_turn).0 (shown (matrix_at_end m rows s.outcomes) s.side s.shows);
       refusals = refused_kept m 0 rows s.outcomes s.in_turn;
       cycles = refused_explained m 0 rows s.outcomes s.in_turn;
     }
@@ -135,13 +136,13 @@ abbrev matrix_or : RowList → Read RowList → RowList
 matrix_or other (read.Ok m) = m
 matrix_or other (read.Refused refusal) = other
 
-pub session_law : OutcomesLaw → SessionLaw
+pub session_law : ShownOrderLaw → OutcomesLaw → SessionLaw
 unfolding Replies
-session_law same_count kind file rows bytes given text m n is over reply =
+session_law shown same_count kind file rows bytes given text m n is over reply =
     let base : reply.0 ≡ m = same_base kind bytes m reply.0 is reply.2 in
     let read_over : further m.columns given ≡ read.Ok reply.1 = subst (λ (k : RowList). further k.columns given ≡ read.Ok reply.1) base reply.3 in
     let same : reply.1 ≡ n = ap (matrix_or n) (sym read_over ∙ over) in
-    shows same_count kind m n.rows text (subst (λ (k : RowList). IsSessionText kind m k.rows text) same (subst (λ (k : RowList). IsSessionText kind k reply.1.rows text) base (extended_session kind reply.0 reply.1.rows text reply.4)))
+    shows shown same_count kind m n.rows text (subst (λ (k : RowList). IsSessionText kind m k.rows text) same (subst (λ (k : RowList). IsSessionText kind k reply.1.rows text) base (extended_session kind reply.0 reply.1.rows text reply.4)))
 
 pub base_law : BaseLaw
 unfolding Replies

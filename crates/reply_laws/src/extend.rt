@@ -1,6 +1,7 @@
 // What the text of a session shows.
 ghost use Rattle.reply_laws.specs.Extend.{ExtendStatusLaw, SessionLaw, BaseLaw};
 
+use commands::shown_law;
 use solve_replies::outcomes_law;
 
 /// What a session's text shows. Its status is 0 exactly where the matrix in the first file has a valid order. Then the
@@ -13,4 +14,5 @@ pub fn extend_law()
     ensures base { BaseLaw }
 {
     outcomes_law();
+    shown_law();
 }

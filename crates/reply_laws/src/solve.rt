@@ -1,7 +1,7 @@
 // What a reply to `solve` says.
 ghost use Rattle.reply_laws.specs.Solve.{NoStatusLaw, YesStatusLaw, OrdersLaw, CycleLaw, InGrammarLaw, NoModelStatusLaw, PrintedModelLaw};
 
-use commands::{grammar_law, instance_law, passed_law};
+use commands::{grammar_law, instance_law, passed_law, shown_law};
 use instance_model::textbook_law;
 use row_judge::last_row_laws;
 
@@ -19,6 +19,7 @@ pub fn reply_law()
     grammar_law();
     instance_law();
     last_row_laws();
+    shown_law();
     textbook_law();
 }
 
@@ -30,6 +31,7 @@ pub fn model_law()
 {
     grammar_law();
     instance_law();
+    shown_law();
     textbook_law();
     proper_interval::model_law();
     passed_law();

@@ -3,7 +3,7 @@ use Rattle.std.proofs.Common.{◌≡◌, ◌∙◌, ℕ, ◌+◌, ◌≤◌, Lis
 use Rattle.std.proofs.lemmas.List.{append-nil, length-append}
 use Rattle.row_model.specs.Rows.{RowList}
 use Rattle.row_model.specs.declared.kind.Kind.{Kind}
-use Rattle.pq_tree.specs.Outline.{IsFrontier, leaves}
+use Rattle.pq_tree.specs.Outline.{leaves}
 use Rattle.pq_tree.specs.PqTree.{outline}
 use Rattle.pq_tree.specs.Proper.{IsProper}
 use Rattle.pq_tree.specs.declared.PqTree.{PqTree}
@@ -15,9 +15,9 @@ use Rattle.solve_replies.specs.Sessions.{IsSessionText, Outcome, accepted, refus
 use Rattle.solve_replies.specs.Taking.{refusals_at_end, HasTakenOne, HasTaken, HasEnded}
 
 -- a tree of all orders, with its leaves
-pub shows_all : (m : RowList) (t : PqTree) (order : List ℕ) → HasAllOrders m t → order ≡ leaves (outline t) → IsFrontier (outline t) order → ShowsAllOrders m (record { tree = outline t; order = order })
-shows_all m t order all is frontier =
-    record { proper = subst (λ c. IsProper c (outline t)) all.columns t.proper; canonical = all.canonical; orders = all.orders; leaves = is; order = (all.orders order).0 frontier }
+pub shows_all : (m : RowList) (t : PqTree) (order : List ℕ) → HasAllOrders m t → order ≡ leaves (outline t) → ShowsAllOrders m (record { tree = outline t; order = order })
+shows_all m t order all is =
+    record { proper = subst (λ c. IsProper c (outline t)) all.columns t.proper; canonical = all.canonical; orders = all.orders; leaves = is }
 
 -- one more row
 more_outcomes : (m : RowList) (refusals : ℕ) (done : List (List ℕ)) (outcomes : List Outcome) (row : List ℕ) (outcome : Outcome) → AreOutcomes m refusals done outcomes

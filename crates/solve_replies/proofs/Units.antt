@@ -6,13 +6,13 @@ use Rattle.column_order.specs.Orders.{IsValidOrder}
 use Rattle.row_model.specs.declared.lists.Interval.{Interval}
 use Rattle.row_model.specs.declared.TheConstants.{MAX_COLUMNS}
 use Rattle.graph_model.specs.Graphs.{GraphValue, IsGraph}
-use Rattle.proper_interval.specs.Umbrellas.{closed_to}
+use Rattle.proper_interval.specs.Umbrellas.{closed_to, closed_of}
 use Rattle.unit_model.specs.Models.{IsUnitModel, lefts_of}
 use Rattle.unit_model.specs.Rule.{AreLeftEnds}
 use Rattle.unit_model.specs.Text.{UnitValue, IsEnd}
 use Rattle.verdict_text.specs.Verdict.{SideValue}
 use Rattle.instance_model.specs.Instance.{proper}
-use Rattle.verdict_replies.specs.Verdicts.{ShowsSide}
+use Rattle.verdict_replies.specs.Verdicts.{ShowsSide, ShownOrderLaw}
 use Rattle.solve_replies.specs.Models.{IsModelOf}
 
 -- the unit model that is made of intervals
@@ -38,6 +38,6 @@ made_model g order list lefts n m t h few rule model rights within is vertices s
     })
 
 -- the order of a yes is a valid order of the closed rows
-pub shown_valid : (g : GraphValue) (side : Option SideValue) (order : List ℕ) → IsSomeAnd side (ShowsSide (proper g) 1) → IsSomeAnd side (λ s. s.order ≡ order) → IsValidOrder g.vertices (closed_to g g.vertices) order
-shown_valid g None order shows is = absurd shows
-shown_valid g (Some side) order shows is = subst (λ o. IsValidOrder g.vertices (closed_to g g.vertices) o) is shows.order
+pub shown_valid : ShownOrderLaw → (g : GraphValue) (side : Option SideValue) (order : List ℕ) → IsSomeAnd side (ShowsSide (proper g) 1) → IsSomeAnd side (λ s. s.order ≡ order) → IsValidOrder g.vertices (closed_to g g.vertices) order
+shown_valid shown g None order shows is = absurd shows
+shown_valid shown g (Some side) order shows is = subst (λ o. IsValidOrder g.vertices (closed_to g g.vertices) o) is (shown (closed_of g) side shows)

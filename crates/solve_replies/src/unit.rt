@@ -22,7 +22,7 @@ use row_model::{Interval, Kind};
 use std::alloc::Global;
 use step_count::{Ledger, Steps};
 use unit_model::{UnitText, model, print_unit};
-use verdict_replies::{Reply, printed};
+use verdict_replies::{Reply, printed, shown_law};
 use verdict_text::{Part, Verdict};
 
 /// The reply on a graph: the text of its unit model, or the verdict which shows that there is none.
@@ -62,6 +62,7 @@ fn reply_by(alloc: Global, graph: &Graph, verdict: &Verdict) -> Result<Reply, No
     ensures status { IfOk result (λ reply. (reply.status ≡ 0) ⊎ (reply.status ≡ 1)) }
     ensures claim { IfOk result (λ reply. reply.status ≡ verdict_status verdict.now) }
 {
+    shown_law();
     match &verdict.part {
         Part::Yes(yes) => {
             let text = model_text(alloc, graph, yes.order(1))?;

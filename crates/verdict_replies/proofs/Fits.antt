@@ -23,6 +23,7 @@ use Rattle.instance_model.specs.Instance.{InstanceValue, instance_kind, instance
 use Rattle.verdict_replies.specs.Verdicts.{ShowsAllOrders, ShowsSides, AddsToOrder, IsClaimOf, IsVerdictOf}
 use Rattle.verdict_replies.proofs.Lengths.{IsColumn, IsCycleLine, IsRowReason, few_lines}
 use Rattle.verdict_replies.proofs.Sizes.{first_side}
+use Rattle.verdict_replies.proofs.ShownOrders.{shown_order}
 use Rattle.verdict_replies.proofs.Shown.{sides_of_kind, one_or_two, one_shown, two_shown}
 use Rattle.verdict_replies.proofs.AddedFits.{adds_fit}
 
@@ -61,11 +62,11 @@ lines_fit (line ∷ lines) h = (line_fits line line.why refl h.0, lines_fit line
 
 -- the order of a side that shows the orders of a matrix
 pub order_columns : (m : RowList) (side : SideValue) → m.columns ≤ MAX_COLUMNS → ShowsAllOrders m side → AllByRecursion IsColumn side.order
-order_columns m side few shows = columns_within side.order (λ a k. let inside = order_within m.columns side.order shows.order.order a k in omega (arith, inside.1, few))
+order_columns m side few shows = columns_within side.order (λ a k. let inside = order_within m.columns side.order (shown_order m side shows).order a k in omega (arith, inside.1, few))
 
 side_fits : (m : RowList) (side : SideValue) → IsColumnCount m.columns → ShowsAllOrders m side → IsSide m.columns side
 side_fits m side count shows =
-    (shows.proper, omega (arith, order_length m.columns side.order shows.order.order, count.0), columns_fit side.order (order_columns m side count.1 shows))
+    (shows.proper, omega (arith, order_length m.columns side.order (shown_order m side shows).order, count.0), columns_fit side.order (order_columns m side count.1 shows))
 
 module _ (few_columns : FewColumnsLaw) (few_rows : FewRowsLaw) (cycle_length : CycleLengthLaw) (spans : SpansLaw) (i : InstanceValue) (h : IsInstance i) (formed : IsWellFormed i) where
   sides_fit : (sides : List SideValue) → AreColumnCounts (instance_columns i) → ShowsSides i sides → AreSides (instance_columns i) sides
@@ -96,7 +97,7 @@ module _ (few_columns : FewColumnsLaw) (few_rows : FewRowsLaw) (cycle_length : C
     where
       added_fits : (sides : List SideValue) → ShowsSides i sides → IsSomeAnd (slice_get sides 0) (λ side. AddsToOrder i side.order value.added) → HasAdded (instance_kind i) (instance_columns i) value.added
       added_fits [] shows adds = absurd adds
-      added_fits (side ∷ sides) shows adds = let first = shows.each 1 (first_side i) in adds_fit few_columns spans i side.order value.added h first.order.order adds
+      added_fits (side ∷ sides) shows adds = let first = shows.each 1 (first_side i) in adds_fit few_columns spans i side.order value.added h (shown_order (derived_matrix i 1) side first).order adds
   claim_fits (no_claim s lines) counts true =
       let each = cycle_of_side s lines true.0.side true.1.closed in
       (true.0.side.0, omega (arith, true.0.side.1, sides_of_kind i h), omega (arith, few_cycle s lines true.0.side true.1), lines_fit lines each)

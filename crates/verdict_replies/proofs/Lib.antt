@@ -1,6 +1,7 @@
 pub mod Sizes
 pub mod PlainKinds
 pub mod Shown
+pub mod ShownOrders
 pub mod Lengths
 pub mod AddedIntervals
 pub mod AddedFits

@@ -22,6 +22,7 @@ use Rattle.instance_model.specs.Instance.{InstanceValue, instance_kind, IsSideOf
 use Rattle.verdict_replies.specs.Verdicts.{ShowsAllOrders, ShowsSides, AddsToOrder, IsClaimOf, IsVerdictOf}
 use Rattle.verdict_replies.proofs.Lengths.{IsColumn, four_digits, seven_digits, words_length, tree_length, lines_length, small_kind}
 use Rattle.verdict_replies.proofs.Sizes.{first_side}
+use Rattle.verdict_replies.proofs.ShownOrders.{shown_order}
 use Rattle.verdict_replies.proofs.Shown.{one_or_two, one_shown, two_shown}
 use Rattle.verdict_replies.proofs.AddedFits.{adds_short}
 use Rattle.verdict_replies.proofs.Fits.{order_columns, cycle_of_side, few_cycle}
@@ -60,7 +61,7 @@ side_short m side few shows =
       arith,
       tree,
       same,
-      order_length m.columns side.order shows.order.order,
+      order_length m.columns side.order (shown_order m side shows).order,
       few,
       words_length side.order columns,
       length-append (codes "tree ") (tree_text side.tree ++ (codes "\norder" ++ (flat_map number_word side.order ++ 10 ∷ []))),
@@ -93,7 +94,7 @@ module _ (few_columns : FewColumnsLaw) (few_rows : FewRowsLaw) (cycle_length : C
 
   added_short : (sides : List SideValue) (added : AddedValue) → ShowsSides i sides → IsSomeAnd (slice_get sides 0) (λ side. AddsToOrder i side.order added) → length (added_text (instance_kind i) added) ≤ 3100000
   added_short [] added shows adds = absurd adds
-  added_short (side ∷ sides) added shows adds = let first = shows.each 1 (first_side i) in adds_short few_columns spans i side.order added h first.order.order adds
+  added_short (side ∷ sides) added shows adds = let first = shows.each 1 (first_side i) in adds_short few_columns spans i side.order added h (shown_order (derived_matrix i 1) side first).order adds
 
   claim_short : (claim : Claim) → IsClaimOf i claim → length (claim_text (instance_kind i) claim) ≤ 88100000
   claim_short (yes_claim value) true =

@@ -21,13 +21,16 @@ use Rattle.instance_model.specs.Instance.{InstanceValue, plain, circular, convex
 use Rattle.verdict_replies.specs.declared.TheConstants.{MAX_VERDICT_BYTES}
 
 -- The tree is a canonical PQ-tree over the columns of the matrix, and its frontiers are exactly the valid orders. The order
--- is its leaves from left to right, and so a valid order.
+-- is its leaves from left to right.
 pub record ShowsAllOrders (m : RowList) (side : SideValue) : Type 0 where
   pub proper : IsProper m.columns side.tree
   pub canonical : IsCanonical side.tree
   pub orders : (o : List ℕ) → IsFrontier side.tree o ↔ IsValidOrder m.columns m.rows o
   pub leaves : side.order ≡ leaves side.tree
-  pub order : IsValidOrder m.columns m.rows side.order
+
+-- so the order is a valid order
+abbrev pub ShownOrderLaw : Type 0
+ShownOrderLaw = (m : RowList) (side : SideValue) → ShowsAllOrders m side → IsValidOrder m.columns m.rows side.order
 
 -- a side of the instance shows the orders of its derived matrix
 abbrev pub ShowsSide : InstanceValue → ℕ → SideValue → Type 0

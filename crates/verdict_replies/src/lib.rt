@@ -12,7 +12,7 @@ mod verdict_out;
 pub use additions::{Additions, added};
 pub use reply::Reply;
 pub use row_model::NoMemory;
-pub use verdict_laws::{core_grammar_law, grammar_law};
+pub use verdict_laws::{core_grammar_law, grammar_law, shown_law};
 pub use verdict_out::{no, no_reply, printed};
 
 /// The greatest number of bytes of a verdict that is judged.

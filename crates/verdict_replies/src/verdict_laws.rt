@@ -1,6 +1,6 @@
 // What holds of the text of a verdict on an instance, and of that of a core.
 ghost use Rattle.verdict_replies.specs.Cores.{CoreGrammarLaw};
-ghost use Rattle.verdict_replies.specs.Verdicts.{GrammarLaw, LengthLaw};
+ghost use Rattle.verdict_replies.specs.Verdicts.{GrammarLaw, LengthLaw, ShownOrderLaw};
 
 use clone_map::place_laws;
 use instance_model::derived_sizes_law;
@@ -23,3 +23,8 @@ pub fn core_grammar_law()
 {
     cycle_length_law();
 }
+
+/// The order of a side that shows all valid orders of a matrix is one of them.
+pub fn shown_law()
+    ensures { ShownOrderLaw }
+{}

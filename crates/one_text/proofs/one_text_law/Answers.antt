@@ -11,6 +11,6 @@ returns c =
     record {
       canonical = canonical_text reply.grammar common meet c.canonical_tree_law.ensures.one;
       lines = lines_law;
-      same = same_text reply.grammar common meet c.canonical_tree_law.ensures.rows;
-      textbook = textbook_text reply.grammar reply.orders c.one_verdict.ensures common meet c.canonical_tree_law.ensures.rows;
+      same = same_text c.shown_law.ensures reply.grammar common meet c.canonical_tree_law.ensures.rows;
+      textbook = textbook_text c.shown_law.ensures reply.grammar reply.orders c.one_verdict.ensures common meet c.canonical_tree_law.ensures.rows;
     }

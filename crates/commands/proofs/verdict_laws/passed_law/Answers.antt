@@ -8,7 +8,7 @@ returns c =
     let tests = c.solved_laws.ensures in
     let texts = c.grammar_law.ensures in
     record {
-      passed = λ i status text within formed reply. solved_accepted c.exact_law.ensures valid models tests.yes tests.no i within formed texts.grammar texts.length status text reply;
-      added = added_true valid models;
+      passed = λ i status text within formed reply. solved_accepted c.exact_law.ensures c.shown_law.ensures valid models tests.yes tests.no i within formed texts.grammar texts.length status text reply;
+      added = added_true c.shown_law.ensures valid models;
       tied = tied_side c.exact_law.ensures;
     }

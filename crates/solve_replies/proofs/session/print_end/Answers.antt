@@ -11,7 +11,7 @@ returns c =
     let old = c.args.text.now.items in
     record {
       side = record { tree = outline tree; order = order };
-      shows = shows_all c.args.session.now.matrix tree order c.in_ok-tree.ensures.all_orders c.in_ok-order.ensures.leaves c.in_ok-order.ensures.frontier;
+      shows = shows_all c.args.session.now.matrix tree order c.in_ok-tree.ensures.all_orders c.in_ok-order.ensures.leaves;
       text_is = c.in_ok-extend_from_slice.ensures.items ∙ ap (λ t. t ++ codes "end\n") (c.in_ok-print_side.ensures.ok ∙ ap (λ o. old ++ side_text (record { tree = outline tree; order = o })) c.deref.ensures.value)
           ∙ append_assoc old (side_text (record { tree = outline tree; order = order })) (codes "end\n");
     }

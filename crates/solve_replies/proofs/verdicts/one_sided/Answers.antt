@@ -28,7 +28,7 @@ returns c =
     let i = instance_value c.args.instance.now in
     let order = c.in_ok-order.order.items in
     let side : SideValue = record { tree = outline c.args.tree; order = order } in
-    let shows = shows_all (derived_matrix i 1) c.args.tree order c.requires.orders.0 c.in_ok-order.ensures.leaves c.in_ok-order.ensures.frontier in
+    let shows = shows_all (derived_matrix i 1) c.args.tree order c.requires.orders.0 c.in_ok-order.ensures.leaves in
     let value = yes_value c.one.result in
     let added : AddedValue = record { intervals = c.in_ok-added.added.intervals; places = c.in_ok-added.added.placed.places; contigs = c.in_ok-added.added.placed.contigs } in
     let adds = adds_the_same i order added value.added c.one.ensures.intervals c.one.ensures.places c.one.ensures.contigs (subst (λ o. AddsToOrder i o added) c.deref.ensures.value c.in_ok-added.ensures) in (
