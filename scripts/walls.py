@@ -22,8 +22,8 @@ Usage: scripts/walls.py
 9. A search reads what is counted: outside tests the crates that search name a matrix only in the functions that UNCOUNTED lists. All
    others are handed its rows as `CountedRows` of row_model, of which each look at a row is a step. Of the listed ones those that HANDING
    lists do nothing with the matrix but hand it on as that.
-10. A loop of a search is counted: each loop of a function of these crates hands the counter on in its head or body, or ticks, but for those
-   that UNTICKED lists.
+10. A turn of a search costs a step: each loop of a function of these crates ticks, or makes a counted read, or calls a function of which
+   a clause named `costs` says that it costs one, in its head or body and before any `continue`, but for those that UNTICKED lists.
 11. Who may search: verdict_check names no search, and the crates of the replies and of the program stand on no crate that reduces or
    searches but c1p_solve.
 
@@ -58,20 +58,21 @@ UNCOUNTED = {
     "pair_classes": {"even_classes"},
     "open_gaps": {"of_rows", "gaps_of_all"},
     "walk_search": {"odd_walk", "joined", "simple_cycle"},
-    "incompat_graph": {"odd_cycle_along", "part_of", "pays", "cycle_of"},
+    "incompat_graph": {"odd_cycle_along", "part_of", "pays", "pays_half", "lines_in"},
 }
 # Of these, those that are lent a counter and hand the matrix on.
 HANDING = {"even_classes", "odd_walk", "odd_cycle_along"}
 HANDED = "CountedRows::new(m)"
-# Their functions with a loop that counts no step: of a table that is set up or handed out once; up a set of pairs; of the judge; along
-# the lines that are found; over the few columns, rows, ways and pivots that an attempt takes.
+# Their functions with a loop of which a turn may cost none: of a table that is set up or handed out once; up a set of pairs; over rows of
+# which some have no ones; of the judge; along the lines that are found; over the few columns, rows, ways and pivots that an attempt takes.
 UNTICKED = {
-    "pair_classes": {"each_alone", "flatten", "root_of"},
+    "pair_classes": {"each_alone", "flatten", "root_of", "classes_of"},
     "open_gaps": {"cover", "gaps_of_all"},
-    "walk_search": {"rows_by_column", "way_down", "add_way_up", "joined"},
+    "walk_search": {"way_down", "add_way_up", "joined"},
     "incompat_graph": {
-        "add_forth", "add_back", "columns_near", "openers", "add_lines", "lines_of", "without_repeats",
+        "add_forth", "add_back", "columns_near", "openers", "add_lines", "lines_of", "without_repeats", "is_odd_walk", "part_of",
         "thinned", "closed_at_once", "is_known", "odd_circle", "circle_by", "first_left", "place_among", "spread", "path_up",
+        "odd_links", "walk_around", "end_of", "way_from",
     },
 }
 SEARCHES = {"odd_walk", "odd_cycle_along", "shorter_cycle", "find_core", "walk_across"}
@@ -101,6 +102,10 @@ OF_MATRIX = re.compile(r"^(?!.*\b(?:requires|ensures)\b|\s+\().*\bm\b(?!:)(?!\.n
 # a loop with a block of its own, and any loop
 BLOCK = re.compile(r"^\s*(?:'\w+: )?(?:for|while|loop)\b")
 LOOP = re.compile(BLOCK.pattern + r"|\.(?:any|all|find|find_map|filter|filter_map|flat_map|map_while|take_while|skip_while|for_each|try_for_each|fold|try_fold|scan)\(|\.position\(\||iter\(\).*\.map\(")
+# what costs a step: a clause that says so, a tick or a counted read; and the name of what is called
+COSTS = re.compile(r"^\s*ensures costs \{ (?:OnOk result \()?steps\.old \+ 1 ≤ steps\.new\)? \}$")
+TICKS = re.compile(r"\bsteps\.tick\(\)|\b\w+_counted\(")
+CALLED = re.compile(r"\b(\w+)\(")
 # a line of an import
 IMPORTS = re.compile(r"(?:pub )?use |[\w, ]+,$")
 WORD = re.compile(r"\w+")
@@ -277,13 +282,22 @@ def turn(lines, number):
             return
 
 
+def costing(crate):
+    """The functions of a crate with a clause which says that they cost a step."""
+    return {name for name, lines in functions(crate) if any(COSTS.search(line) for _, line in lines)}
+
+
 def uncounted_loops():
-    """Where a loop of a search counts no step."""
+    """Where a turn of a search may cost no step."""
     for crate in SEARCHING:
+        sure = costing(crate)
         for name, lines in functions(crate):
             for number, (place, line) in enumerate(lines):
-                if LOOP.search(line) and name not in UNTICKED[crate] and "steps" not in WORD.findall(" ".join(turn(lines, number))):
-                    yield f"{place}: a loop of {name} counts no step: {line.strip()}"
+                if not LOOP.search(line) or name in UNTICKED[crate]:
+                    continue
+                body = " ".join(turn(lines, number)).partition(" continue;")[0]
+                if not TICKS.search(body) and not sure.intersection(CALLED.findall(body)):
+                    yield f"{place}: a turn of a loop of {name} may cost no step: {line.strip()}"
 
 
 def stray_searches():

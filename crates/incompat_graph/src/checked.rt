@@ -25,6 +25,7 @@ pub fn checked_cycle<L: Ledger>(
     ensures cycle { IfOk result (λ found. IfSome found (IsOddCycle m.now.columns (take rows m.now.rows))) }
     ensures short { IfOk result (λ found. IfSome found (IsShort m.now.columns)) }
     ensures ticks { steps.new + left.new ≤ steps.old + left.old }
+    ensures less { left.new ≤ left.old }
 {
     let count = lines.len() as u64;
     if count < 3 || count > *left / 3 {

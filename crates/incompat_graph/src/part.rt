@@ -2,7 +2,6 @@
 ghost use Rattle.std.specs.Prelude.{◌+◌, ◌*◌, ◌≤◌, length, sum_by, IfOk, IsTrue};
 ghost use Rattle.row_model.specs.Rows.{IsRow};
 
-use odd_cycle::Cycle;
 use row_model::{CountedRows, Line, Matrix, NoMemory, Pair, Why};
 use std::alloc::Global;
 use step_count::{Ledger, Steps};
@@ -13,6 +12,9 @@ const MOST_COLUMNS: usize = 256;
 
 /// The most rows of a part.
 const MOST_ROWS: usize = 256;
+
+/// The ones from which on a part is searched at half the price.
+const FEW_ONES: u64 = 3;
 
 /// The lines of an odd cycle in the part of the matrix in these rows and columns, each of which stands once, in rising
 /// order. There are none where the part has no odd cycle, or is too large to be searched in the steps that are left.
@@ -26,27 +28,76 @@ pub fn lines_among<L: Ledger>(
 ) -> Result<Vec<Line>, NoMemory>
     ensures ticks { steps.new + left.new ≤ steps.old + left.old }
 {
-    if columns.is_empty() || columns.len() > MOST_COLUMNS || rows.len() > MOST_ROWS {
+    if !is_small(rows, columns) {
         return Ok(Vec::new(alloc));
     }
     let part = part_of(alloc, m, rows, columns, left, steps)?;
     if !pays(&part, left) {
         return Ok(Vec::new(alloc));
     }
-    match cycle_of(alloc, &part, steps)? {
-        Some(cycle) => lines_of(alloc, cycle.lines(), rows, columns),
-        None => Ok(Vec::new(alloc)),
+    lines_in(alloc, &part, rows, columns, steps)
+}
+
+/// The same at half the price: of those that are left as many steps are taken as are surely half of what is counted.
+pub fn lines_at_half<L: Ledger>(
+    alloc: Global,
+    m: &CountedRows,
+    rows: &[u32],
+    columns: &[u32],
+    left: &mut u64,
+    steps: &mut Steps<L>,
+) -> Result<Vec<Line>, NoMemory>
+    ensures ticks { steps.new + 2 * left.new ≤ steps.old + 2 * left.old }
+{
+    if !is_small(rows, columns) {
+        return Ok(Vec::new(alloc));
     }
+    let part = part_of(alloc, m, rows, columns, left, steps)?;
+    if !pays_half(&part, left) {
+        return Ok(Vec::new(alloc));
+    }
+    lines_in(alloc, &part, rows, columns, steps)
+}
+
+// Whether a part in these rows and columns is small enough to be made.
+fn is_small(rows: &[u32], columns: &[u32]) -> bool
+    ensures { IsTrue result → (1 ≤ length columns.now) × (length columns.now ≤ 256) × (length rows.now ≤ 256) }
+{
+    !columns.is_empty() && columns.len() <= MOST_COLUMNS && rows.len() <= MOST_ROWS
 }
 
 // Takes the most steps of a search in the matrix from those that are left, and tells whether they are enough.
 fn pays(m: &Matrix, left: &mut u64) -> bool
-    ensures paid { IsTrue result → left.new + sum_by length m.now.rows * (2 * m.now.columns + 1) ≤ left.old }
+    ensures paid { IsTrue result → left.new + m.now.columns * (2 * sum_by length m.now.rows + m.now.columns + 3) + 1 ≤ left.old }
     ensures less { left.new ≤ left.old }
 {
-    let Some(price) = m.ones().checked_mul(2 * u64::from(m.columns()) + 1) else {
+    let columns = u64::from(m.columns());
+    let Some(looks) = m.ones().checked_mul(2 * columns) else {
         return false;
     };
+    let Some(price) = looks.checked_add(columns * (columns + 3) + 1) else {
+        return false;
+    };
+    take_from(left, price)
+}
+
+// Takes half of the most steps of a search in the matrix from those that are left, and tells whether they are enough and
+// the ones are. A matrix of fewer ones has no odd cycle.
+fn pays_half(m: &Matrix, left: &mut u64) -> bool
+    ensures paid { IsTrue result → 2 * left.new + 3 * m.now.columns * (sum_by length m.now.rows + 1) + 1 ≤ 2 * left.old }
+    ensures less { left.new ≤ left.old }
+{
+    let Some(half) = m.ones().checked_mul(2 * u64::from(m.columns()) + 1) else {
+        return false;
+    };
+    take_from(left, half) && m.ones() >= FEW_ONES
+}
+
+// Takes a price from what is left, and tells whether that is enough. If not, nothing is taken.
+fn take_from(left: &mut u64, price: u64) -> bool
+    ensures paid { IsTrue result → left.new + price ≤ left.old }
+    ensures less { left.new ≤ left.old }
+{
     match left.checked_sub(price) {
         Some(rest) => {
             *left = rest;
@@ -56,17 +107,23 @@ fn pays(m: &Matrix, left: &mut u64) -> bool
     }
 }
 
-// An odd cycle of the matrix, if it has one.
-fn cycle_of<L: Ledger>(
+// The lines in a matrix of an odd cycle in a part of it, if the part has one.
+fn lines_in<L: Ledger>(
     alloc: Global,
-    m: &Matrix,
+    part: &Matrix,
+    rows: &[u32],
+    columns: &[u32],
     steps: &mut Steps<L>,
-) -> Result<Option<Cycle>, NoMemory>
-    ensures ticks { steps.new ≤ steps.old + sum_by length m.now.rows * (2 * m.now.columns + 1) }
+) -> Result<Vec<Line>, NoMemory>
+    ensures few { steps.new ≤ steps.old + 3 * part.now.columns * (sum_by length part.now.rows + 1) + 1 }
+    ensures square { steps.new ≤ steps.old + part.now.columns * (2 * sum_by length part.now.rows + part.now.columns + 3) + 1 }
 {
-    match odd_walk(alloc, m, m.rows(), steps)? {
-        Some(walk) => Ok(Some(simple_cycle(alloc, m, &walk)?)),
-        None => Ok(None),
+    match odd_walk(alloc, part, part.rows(), steps)? {
+        Some(walk) => {
+            let cycle = simple_cycle(alloc, part, &walk)?;
+            lines_of(alloc, cycle.lines(), rows, columns)
+        }
+        None => Ok(Vec::new(alloc)),
     }
 }
 
@@ -99,6 +156,7 @@ fn part_of<L: Ledger>(
     requires columns { (1 ≤ length columns.now) × (length columns.now ≤ 256) }
     requires rows { length rows.now ≤ 256 }
     ensures ticks { steps.new + left.new ≤ steps.old + left.old }
+    ensures less { left.new ≤ left.old }
 {
     let mut part = Matrix::new(alloc, columns.len() as u32)?;
     for k in rows {

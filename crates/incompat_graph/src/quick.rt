@@ -9,7 +9,7 @@ use crate::around::walk_around;
 use crate::borders::met_at_borders;
 use crate::checked::checked_cycle;
 use crate::links::odd_links;
-use crate::part::lines_among;
+use crate::part::lines_at_half;
 use crate::repeats::without_repeats;
 use crate::sample::{Sample, sample_of};
 use crate::shorter::shorter_cycle;
@@ -21,7 +21,7 @@ use std::alloc::Global;
 use step_count::{Ledger, Steps};
 use walk_search::walk_across;
 
-/// The most steps of an attempt.
+/// Half of the most steps of an attempt.
 const MOST_STEPS: u64 = 16_777_216;
 
 /// A short odd cycle of a matrix of which the rows 1 to `k` have no valid order, where an order is known that is valid
@@ -81,7 +81,7 @@ fn cycle_along<L: Ledger>(
     Ok(found)
 }
 
-// An odd cycle, from an attempt in at most so many steps, and from a search where that finds none. It leaves room in
+// An odd cycle, from an attempt in at most twice so many steps, and from a search where that finds none. It leaves room in
 // its bound for a step before.
 fn any_cycle<L: Ledger>(
     alloc: Global,
@@ -107,7 +107,7 @@ fn any_cycle<L: Ledger>(
     short_cycle(alloc, m.columns(), walk.lines())
 }
 
-// The most steps of an attempt.
+// Half of the most steps of an attempt.
 fn most_steps<L: Ledger>(m: &CountedRows, k: u32, steps: &mut Steps<L>) -> u64
     requires { k ≤ length m.now.rows }
     ensures ones { result ≤ m.now.columns * (sum_by length (take k m.now.rows) + 1) }
@@ -119,7 +119,7 @@ fn most_steps<L: Ledger>(m: &CountedRows, k: u32, steps: &mut Steps<L>) -> u64
     MOST_STEPS.min(each.saturating_mul(ones.saturating_add(1)))
 }
 
-// An odd cycle that is found without a search among all pairs, in at most so many steps, if there is one.
+// An odd cycle that is found without a search among all pairs, in at most twice so many steps, if there is one.
 pub(crate) fn quick_cycle<L: Ledger>(
     alloc: Global,
     m: &CountedRows,
@@ -134,7 +134,7 @@ pub(crate) fn quick_cycle<L: Ledger>(
     requires columns { length gaps.now.order ≡ m.now.columns }
     ensures found { IfOk result (λ found. IfSome found (IsOddCycle m.now.columns (take k m.now.rows))) }
     ensures short { IfOk result (λ found. IfSome found (IsShort m.now.columns)) }
-    ensures ticks { steps.new ≤ steps.old + most }
+    ensures ticks { steps.new ≤ steps.old + (2 * most - m.now.columns) }
 {
     let Some(mut left) = most.checked_sub(u64::from(m.columns())) else {
         return Ok(None);
@@ -166,10 +166,10 @@ fn near_cycle<L: Ledger>(
     requires columns { length front.now.gaps.now.order ≡ front.now.m.now.columns }
     ensures found { IfOk result (λ found. IfSome found (IsOddCycle front.now.m.now.columns (take k front.now.m.now.rows))) }
     ensures short { IfOk result (λ found. IfSome found (IsShort front.now.m.now.columns)) }
-    ensures ticks { steps.new + left.new ≤ steps.old + left.old }
+    ensures ticks { steps.new + 2 * left.new ≤ steps.old + 2 * left.old }
 {
     let met = met_at_borders(alloc, front, k, order, &sample.borders)?;
-    let lines = lines_among(alloc, front.m, &met.rows, &met.columns, left, steps)?;
+    let lines = lines_at_half(alloc, front.m, &met.rows, &met.columns, left, steps)?;
     checked_cycle(alloc, front.m, k, lines, left, steps)
 }
 

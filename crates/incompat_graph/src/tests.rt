@@ -79,12 +79,12 @@ fn lines_within(alloc: Global, m: &Matrix, most: u64) -> Result<Vec<Line>, NoMem
     lines_counted::<Brand>(alloc, m, most, Blank::new(1))
 }
 
-// Nine looks, and at most 6 * (2 * 3 + 1) steps for a search in three columns with six ones.
+// Nine looks, and at most 3 * (2 * 6 + 3 + 3) + 1 steps for a search in three columns with six ones.
 #[test]
 fn a_part_is_searched_where_the_steps_are_enough(rt: HostRuntime) -> Result<(), Fail> {
     let m = triangle(rt.alloc())?;
-    assert!(rt; lines_within(rt.alloc(), &m, 50)?.is_empty());
-    let lines = lines_within(rt.alloc(), &m, 51)?;
+    assert!(rt; lines_within(rt.alloc(), &m, 63)?.is_empty());
+    let lines = lines_within(rt.alloc(), &m, 64)?;
     assert!(rt; is_cycle(rt.alloc(), &m, lines)?);
     Ok(())
 }

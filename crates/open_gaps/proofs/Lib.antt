@@ -4,3 +4,4 @@ pub mod GapRows
 pub mod RowSteps
 pub mod Steps
 pub mod Places
+pub mod OpenLaws

@@ -1,6 +1,6 @@
 -- The gaps between neighbouring positions of an order, and what leaves them open.
-use Rattle.std.specs.Prelude.{ℕ, ◌+◌, ◌<◌, ◌≤◌, List, length, slice_index, slice_index_or, IsTrue, IsFalse}
-use Rattle.column_order.specs.Orders.{has}
+use Rattle.std.specs.Prelude.{◌≡◌, ◌⊎◌, ℕ, ◌+◌, ◌<◌, ◌≤◌, List, length, slice_index, slice_index_or, IsTrue, IsFalse}
+use Rattle.column_order.specs.Orders.{has, place}
 use Rattle.row_model.specs.Graph.{row_at}
 use Rattle.open_gaps.specs.declared.gap.Gap.{Gap}
 
@@ -15,6 +15,14 @@ pub record Opens (rows : List (List ℕ)) (o : List ℕ) (k q b : ℕ) : Type 0 
 -- some row has the columns on both sides of the gap behind position q, and lacks the column at position p
 abbrev pub IsOpen : List (List ℕ) → List ℕ → ℕ → ℕ → Type 0
 IsOpen rows o q p = (k : ℕ) × Opens rows o k q (slice_index o p)
+
+-- the gap behind position q is open for some column
+abbrev pub IsOpenAtAll : List (List ℕ) → List ℕ → ℕ → Type 0
+IsOpenAtAll rows o q = (p : ℕ) × (p < length o) × IsOpen rows o q p
+
+-- the column stands beside a gap that is open for some column
+abbrev pub IsAtOpenGap : List (List ℕ) → List ℕ → ℕ → Type 0
+IsAtOpenGap rows o a = (q : ℕ) × (q + 1 < length o) × IsOpenAtAll rows o q × ((q ≡ place o a) ⊎ (q + 1 ≡ place o a))
 
 -- the gap behind position q is open for the columns at the positions past `last` and for no others to its right, and row k opens it
 pub record IsRightEnd (rows : List (List ℕ)) (o : List ℕ) (q last k : ℕ) : Type 0 where

@@ -1,7 +1,7 @@
 // One gap of an order, and the rows over it.
-ghost use Rattle.std.specs.Prelude.{◌≡◌, ℕ, ◌+◌, ◌-◌, ◌<◌, ◌≤◌, ◌⊎◌, List, length, slice_index, slice_index_or, MatchOption};
+ghost use Rattle.std.specs.Prelude.{◌≡◌, ℕ, ◌+◌, ◌-◌, ◌<◌, ◌≤◌, ◌⊎◌, ◌↔◌, List, length, slice_index, slice_index_or, IsTrue, MatchOption};
 ghost use Rattle.open_gaps.specs.declared.gap.Gap.{Gap};
-ghost use Rattle.open_gaps.specs.Gaps.{Opens, AreGaps};
+ghost use Rattle.open_gaps.specs.Gaps.{Opens, IsOpenAtAll, AreGaps};
 ghost use Rattle.open_gaps.specs.Tables.{covered};
 
 /// How far the rows over a gap leave it open: by `last_row` for the columns at the positions past `last`, and by
@@ -67,4 +67,32 @@ pub fn opener(gaps: &[Gap], q: u32, p: u32) -> Option<u32>
     } else {
         None
     }
+}
+
+// Whether the gap behind the position `q` is open for some column. Then it is for the first or for the last one.
+pub fn is_open_at_all(gaps: &[Gap], q: u32) -> bool
+    requires places { q + 1 < length gaps.now }
+    requires few { length gaps.now ≤ 32768 }
+    ensures { (rows : List (List ℕ)) (o : List ℕ) → length o ≡ length gaps.now → AreGaps rows o gaps.now → IsTrue result ↔ IsOpenAtAll rows o q }
+{
+    let end = gaps.len() as u32 - 1;
+    opener(gaps, q, 0).is_some() || opener(gaps, q, end).is_some()
+}
+
+// Whether the gap before the position `x` is open for some column.
+pub fn is_open_before(gaps: &[Gap], x: u32) -> bool
+    requires places { x < length gaps.now }
+    requires few { length gaps.now ≤ 32768 }
+    ensures { (rows : List (List ℕ)) (o : List ℕ) → length o ≡ length gaps.now → AreGaps rows o gaps.now → IsTrue result ↔ ((1 ≤ x) × IsOpenAtAll rows o (x - 1)) }
+{
+    x > 0 && is_open_at_all(gaps, x - 1)
+}
+
+// Whether the gap behind the position `x`, if there is one, is open for some column.
+pub fn is_open_behind(gaps: &[Gap], x: u32) -> bool
+    requires places { x < length gaps.now }
+    requires few { length gaps.now ≤ 32768 }
+    ensures { (rows : List (List ℕ)) (o : List ℕ) → length o ≡ length gaps.now → AreGaps rows o gaps.now → IsTrue result ↔ ((x + 1 < length o) × IsOpenAtAll rows o x) }
+{
+    x as usize + 1 < gaps.len() && is_open_at_all(gaps, x)
 }

@@ -4,10 +4,10 @@ ghost use Rattle.column_order.specs.Orders.{IsOrder, IsWithin, IsValidOrder, pla
 ghost use Rattle.row_model.specs.Positions.{ArePositions, IsSpanInOrder};
 ghost use Rattle.row_model.specs.Graph.{pair, IsPair, JoinedBy};
 ghost use Rattle.open_gaps.specs.declared.gap.Gap.{Gap};
-ghost use Rattle.open_gaps.specs.Gaps.{Opens, IsOpen, AreGaps};
+ghost use Rattle.open_gaps.specs.Gaps.{Opens, IsOpen, IsAtOpenGap, AreGaps};
 ghost use Rattle.open_gaps.specs.Tables.{covered};
 
-use crate::gap::{Gap, cover, opener};
+use crate::gap::{Gap, cover, is_open_before, is_open_behind, opener};
 use row_model::{
     COLUMN_BOUND, CountedRows, Line, Matrix, NoMemory, Pair, Span, Why, positions, span_of,
 };
@@ -115,6 +115,15 @@ impl OpenGaps {
         ensures { (rows : List (List ℕ)) → AreGaps rows self.now.order self.now.gaps → IsTrue result ↔ IsOpen rows self.now.order q p }
     {
         opener(&self.gaps, q, p).is_some()
+    }
+
+    /// Whether one of the gaps beside a column is open for some column.
+    pub fn is_at_open_gap(&self, column: u32) -> bool
+        requires { (1 ≤ column) × (column ≤ length self.now.order) }
+        ensures { (rows : List (List ℕ)) → AreGaps rows self.now.order self.now.gaps → IsTrue result ↔ IsAtOpenGap rows self.now.order column }
+    {
+        let x = self.place(column);
+        is_open_before(&self.gaps, x) || is_open_behind(&self.gaps, x)
     }
 
     /// From a pair (a,b) the pair (b,d), where d stands right before a in the order, if a row that has both a and d and

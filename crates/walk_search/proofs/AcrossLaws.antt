@@ -52,7 +52,7 @@ module _ (t : Numbering) (nodes : List Node) (h : IsIndexed pair_of_node t nodes
       rw number (ap (λ (n : Node). side_label n.odd) node ∙ ap side_label r.parity)
 
   -- a pair with a label above 0 is reached
-  reached_by_number : (v : Pair) → IsPair t.columns v → 0 < number_of t v → (odd : Bool) × IsReached nodes v odd
+  pub reached_by_number : (v : Pair) → IsPair t.columns v → 0 < number_of t v → (odd : Bool) × IsReached nodes v odd
   reached_by_number v p l =
       let found = h.found v p l in
       (found.0.odd, record { index = number_of t v - 1; node = found.0; there = found.1; pair = found.2; parity = refl })

@@ -1,8 +1,9 @@
 -- The lists of the rows that have each column, as they grow.
 use Rattle.std.proofs.Common.{◌≡◌, ◌≢◌, ◌∙◌, take, drop, sum_by, ℕ, ◌+◌, ◌-◌, ◌<◌, ◌≤◌, Vec, Global, List, [], ◌∷◌, ◌++◌, length, map, set, replicate, get_or, slice_get, Some, IsTrue, sym, ap, subst, inl, inr, arith, length-drop, get_or-set_same, get_or-set_other}
 use Rattle.std.proofs.lemmas.Bool.{cases_eq, cases_lt}
-use Rattle.std.proofs.lemmas.List.Sums.{sum_by-take-le, sum_by-take-drop}
-use Rattle.std.proofs.lemmas.List.{take-take, drop-take, length-set, length-replicate, get_or-replicate, get_or-map, get_or-drop, get_or_past}
+use Rattle.std.proofs.lemmas.List.Sums.{sum_by-set, sum_by-take-le, sum_by-take-drop}
+use Rattle.std.proofs.lemmas.List.Folds.{sum_by-replicate}
+use Rattle.std.proofs.lemmas.List.{length-append, take-take, drop-take, length-set, length-replicate, get_or-replicate, get_or-map, get_or-drop, get_or_past}
 use Rattle.std.proofs.lemmas.Option.{none-some, same_Some, slice_get_within, slice_get-get_or}
 use Rattle.column_order.specs.Orders.{has}
 use Rattle.row_model.specs.Graph.{row_at}
@@ -19,6 +20,7 @@ pub record HoldersSoFar (m : RowList) (k : ℕ) (row : List ℕ) (done : ℕ) (l
   pub columns : length lists ≡ m.columns
   pub sound : (column i r : ℕ) → 1 ≤ column → slice_get (holders_of lists column) i ≡ Some r → (1 ≤ r) × (r ≤ k + 1) × IsTrue (has (row_at m.rows r) column)
   pub whole : (column r : ℕ) → 1 ≤ column → column ≤ m.columns → 1 ≤ r → r ≤ k → IsTrue (has (row_at m.rows r) column) → (i : ℕ) × (slice_get (holders_of lists column) i ≡ Some r)
+  pub once : sum_by length lists ≤ sum_by length (take k m.rows) + done
   pub next : (j column : ℕ) → j < done → slice_get row j ≡ Some column → (1 ≤ column) × ((i : ℕ) × (slice_get (holders_of lists column) i ≡ Some (k + 1)))
 
 empty_at : (c n : ℕ) → get_or (replicate {A = List ℕ} c []) n [] ≡ []
@@ -37,6 +39,7 @@ holders_none m lists e =
       columns = ap length e ∙ length-replicate m.columns none;
       sound = λ column i r l h. absurd (none-some r (sym (ap (λ list. slice_get list i) (empty column)) ∙ h));
       whole = λ column r a b d f. absurd (omega arith);
+      once = omega (arith, ap (sum_by length) e ∙ sum_by-replicate length m.columns none);
     }
 
 pub holders_begin : (m : RowList) (k : ℕ) (row : List ℕ) (lists : List (List ℕ)) → AreHolders m k lists → HoldersSoFar m k row 0 lists
@@ -45,14 +48,17 @@ holders_begin m k row lists h =
       columns = h.columns;
       sound = λ column i r l e. (let s = h.sound column i r l e in (s.0, omega (arith, s.1), s.2));
       whole = h.whole;
+      once = omega (arith, h.once);
       next = λ j column l e. absurd (omega arith);
     }
 
-pub holders_end : (m : RowList) (k : ℕ) (row : List ℕ) (lists : List (List ℕ)) → row ≡ row_at m.rows (k + 1) → HoldersSoFar m k row (length row) lists → AreHolders m (k + 1) lists
-holders_end m k row lists is h =
+pub holders_end : (m : RowList) (k : ℕ) (row : List ℕ) (lists : List (List ℕ)) → row ≡ row_at m.rows (k + 1) → sum_by length (take (k + 1) m.rows) ≡ sum_by length (take k m.rows) + length row →
+    HoldersSoFar m k row (length row) lists → AreHolders m (k + 1) lists
+holders_end m k row lists is ones h =
     record {
       columns = h.columns;
       sound = h.sound;
+      once = omega (arith, ones, h.once);
       whole = λ column r a b d f t. elim (cases_eq r (k + 1)) [
         | inl e ↦
             let i = item_of row column (subst (λ ys. IsTrue (has ys column)) (ap (row_at m.rows) e ∙ sym is) t) in
@@ -92,6 +98,13 @@ module _ (m : RowList) (k : ℕ) (row : List ℕ) (done : ℕ) (lists lists' : L
               ])
           | inr n ↦ h.sound q i r l (sym (ap (λ list. slice_get list i) (elsewhere q l n)) ∙ f)
         ];
+        once = omega (
+          arith,
+          ap (sum_by length) e,
+          sum_by-set length lists (column - 1) (holders_of lists column ++ (k + 1) ∷ []) [] (omega arith),
+          length-append (holders_of lists column) ((k + 1) ∷ []),
+          h.once,
+        );
         whole = λ q r a b d f t. (let found = h.whole q r a b d f t in (found.0, stays q found.0 r a found.1));
         next = λ j q l f. elim (cases_eq j done) [
           | inl s ↦

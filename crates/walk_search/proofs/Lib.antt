@@ -2,11 +2,13 @@ pub mod PathLaws
 pub mod MarkedOnes
 pub mod ForestLaws
 pub mod HolderLaws
+pub mod WeightLaws
 pub mod SearchLaws
 pub mod LeavingLaws
 pub mod TakenLaws
 pub mod AcrossLaws
 pub mod SettledLaws
+pub mod UnreachedLaws
 pub mod ClosingLaws
 pub mod EndLaws
 pub mod NearLaws

@@ -1,7 +1,6 @@
 -- The ones of the rows that are marked.
 use Rattle.std.proofs.Common.{◌≡◌, ◌≢◌, ◌⊎◌, ◌∙◌, ℕ, suc, zero, ◌+◌, ◌-◌, ◌*◌, ◌≤◌, true, false, cond, List, [], length, get_or, take, drop, sum_by, add-one, refl, inl, inr, sym, ap, subst, arith, length-drop}
 use Rattle.std.proofs.lemmas.Bool.{cases_eq, cases_Bool}
-use Rattle.std.proofs.lemmas.Nat.{mul-le}
 use Rattle.std.proofs.lemmas.Option.{slice_get-get_or}
 use Rattle.row_model.specs.Graph.{row_at}
 use Rattle.pair_classes.specs.Marks.{Marking, is_marked, IsMarkedAt}
@@ -9,12 +8,12 @@ use Rattle.walk_search.specs.MarkedOnes.{sum_to, ones_at, marked_ones}
 use Rattle.pair_classes.proofs.RowOnes.{ones_more}
 
 -- a sum depends on its items
-sum_to_same : (f g : ℕ → ℕ) (n : ℕ) → ((i : ℕ) → 1 ≤ i → i ≤ n → g i ≡ f i) → sum_to g n ≡ sum_to f n
+pub sum_to_same : (f g : ℕ → ℕ) (n : ℕ) → ((i : ℕ) → 1 ≤ i → i ≤ n → g i ≡ f i) → sum_to g n ≡ sum_to f n
 sum_to_same f g zero h = refl
 sum_to_same f g (suc n) h = omega (arith, sum_to_same f g n (λ i a b. h i a (omega arith)), h (suc n) (omega arith) (omega arith))
 
 -- a sum grows as one of its items
-sum_to_grown : (f g : ℕ → ℕ) (n at more : ℕ) → 1 ≤ at → at ≤ n → g at ≡ f at + more → ((i : ℕ) → 1 ≤ i → i ≤ n → i ≢ at → g i ≡ f i) → sum_to g n ≡ sum_to f n + more
+pub sum_to_grown : (f g : ℕ → ℕ) (n at more : ℕ) → 1 ≤ at → at ≤ n → g at ≡ f at + more → ((i : ℕ) → 1 ≤ i → i ≤ n → i ≢ at → g i ≡ f i) → sum_to g n ≡ sum_to f n + more
 sum_to_grown f g zero at more a b e h = absurd (omega arith)
 sum_to_grown f g (suc n) at more a b e h =
     elim (cases_eq at (suc n)) [
@@ -25,7 +24,7 @@ sum_to_grown f g (suc n) at more a b e h =
     ]
 
 -- a sum of items within a bound
-sum_to-le : (f : ℕ → ℕ) (n top : ℕ) → ((i : ℕ) → f i ≤ top) → sum_to f n ≤ n * top
+pub sum_to-le : (f : ℕ → ℕ) (n top : ℕ) → ((i : ℕ) → f i ≤ top) → sum_to f n ≤ n * top
 sum_to-le f zero top h = omega arith
 sum_to-le f (suc n) top h = grind (arith, sum_to-le f n top h, h (suc n))
 
@@ -65,7 +64,7 @@ module _ (rows : List (List ℕ)) (old new : Marking) (row column : ℕ) (g : Is
       (λ p l m o. sum_to_same (ones_at rows old p) (ones_at rows new p) old.rows (λ k i j. others k p i j l (inr o)))
 
 -- the ones of the first rows
-ones_to : (rows : List (List ℕ)) (n : ℕ) → n ≤ length rows → (f : ℕ → ℕ) → ((k : ℕ) → f k ≤ length (row_at rows k)) → sum_to f n ≤ sum_by length (take n rows)
+pub ones_to : (rows : List (List ℕ)) (n : ℕ) → n ≤ length rows → (f : ℕ → ℕ) → ((k : ℕ) → f k ≤ length (row_at rows k)) → sum_to f n ≤ sum_by length (take n rows)
 ones_to rows zero l f h = omega arith
 ones_to rows (suc n) l f h =
     let same : n + 1 - 1 ≡ n = omega arith in
@@ -95,16 +94,9 @@ marked_few rows t c n few r e =
     subst (λ k. marked_ones rows t ≤ k * sum_by length (take n rows)) e
     (subst (λ k. marked_ones rows t ≤ t.columns * sum_by length (take k rows)) r (marked_all rows t (omega arith)))
 
--- a step, one for each one, and two for each one of each row at each column, are within the bound of the search
-pub within_bound : (c ones marked before after : ℕ) → 1 ≤ c → marked ≤ c * ones → after ≤ before + ones + 1 + 2 * marked → after ≤ before + 8 * c * (ones + 1)
-within_bound c ones marked before after some few h =
-    let once : 1 * ones ≤ c * ones = mul-le 1 ones c ones some (omega arith) in
-    let bound : 8 * c * (ones + 1) ≡ 8 * (c * ones) + 8 * c = grind arith in
-    omega (arith, once, bound)
-
--- the same of the rows after the first ones
-pub marked_within : (rows : List (List ℕ)) (first further c : ℕ) (t : Marking) (before after : ℕ) → first + further ≤ length rows → t.rows ≡ further → t.columns ≡ c → after ≤ before + 2 * marked_ones (drop first rows) t →
-    after ≤ before + 2 * (c * sum_by length (take further (drop first rows)))
-marked_within rows first further c t before after few r e h =
+-- of the rows after the first ones
+pub marked_within : (rows : List (List ℕ)) (first further c : ℕ) (t : Marking) → first + further ≤ length rows → t.rows ≡ further → t.columns ≡ c →
+    marked_ones (drop first rows) t ≤ c * sum_by length (take further (drop first rows))
+marked_within rows first further c t few r e =
     let long : further ≤ length (drop first rows) = omega (arith, length-drop first rows) in
-    omega (arith, h, marked_few (drop first rows) t c further long r e)
+    marked_few (drop first rows) t c further long r e

@@ -6,9 +6,15 @@ use Rattle.column_order.specs.Orders.{IsValidOrder}
 use Rattle.row_model.specs.Rows.{RowList}
 use Rattle.open_gaps.specs.Gaps.{AreGaps}
 use Rattle.open_gaps.specs.Tables.{GapTable}
+use Rattle.pair_classes.specs.Marks.{Marking}
+use Rattle.walk_search.specs.declared.neighbours.Neighbours.{Neighbours}
+use Rattle.walk_search.specs.MarkedOnes.{marked_ones, sum_to}
+use Rattle.walk_search.specs.Weights.{weight, most_weight}
 use Rattle.walk_search.specs.Holders.{AreHolders, without}
 use Rattle.walk_search.specs.Neighbours.{AreOpenGaps, AreNeighbours}
 use Rattle.walk_search.proofs.HolderLaws.{lists_of, ones_split}
+use Rattle.walk_search.proofs.WeightLaws.{one_more, weight_sum, most_ones}
+use Rattle.walk_search.proofs.MarkedOnes.{marked_within}
 
 -- all rows are further rows
 pub near_none : (m : RowList) (rows : ℕ) (holders : Vec (Vec ℕ Global) Global) → AreHolders (without 0 m) rows (lists_of holders.items) → AreNeighbours m rows (record { first = 0; gaps = None; holders = holders })
@@ -31,33 +37,81 @@ first_ones rows k from =
     let up : k - 1 + 1 ≡ k = omega arith in
     subst (λ n. sum_by length (take (k - 1) rows) + last ≡ sum_by length (take n rows)) up (ones_split rows (k - 1) 1)
 
--- one more of each
-once_more : (c ones : ℕ) → 1 ≤ c → ones + 1 ≤ c * ones + c
-once_more c ones some =
-    let once : 1 * (ones + 1) ≤ c * (ones + 1) = mul-le 1 (ones + 1) c (ones + 1) some (omega arith) in
-    let bound : c * (ones + 1) ≡ c * ones + c = grind arith in
-    omega (arith, once, bound)
+-- a step for each column that has its turn and one, for each pair from which a tree is tried, for each marked one, and for each node
+-- as its first column weighs
+pub all_bound : (c ones marked tried weighed before after : ℕ) → 1 ≤ c → marked ≤ c * ones → weighed ≤ (c - 1) * ones → after ≤ before + (c + 1) + tried + marked + weighed →
+    after + ones ≤ before + 2 * (c * ones) + tried + c + 1
+all_bound c ones marked tried weighed before after some few light h =
+    omega (arith, h, few, light, one_more c ones some)
 
--- a step for each one, two more, and two for each one of each row at each column
-pub three_bound : (c ones marked before after : ℕ) → 1 ≤ c → marked ≤ c * ones → after ≤ before + ones + 2 + 2 * marked → after ≤ before + 3 * c * (ones + 1)
-three_bound c ones marked before after some few h =
-    let once = once_more c ones some in
+-- the same along an order
+pub along_bound : (c ones last marked weighed before after : ℕ) → 1 ≤ c → marked ≤ c * last → weighed ≤ (c - 1) * ones → after ≤ before + 1 + c + marked + weighed →
+    after + ones ≤ before + c * ones + c * last + c + 1
+along_bound c ones last marked weighed before after some few light h =
+    omega (arith, h, few, light, one_more c ones some)
+
+-- three for each one at each column are within the bound of the search
+pub within_bound : (c ones before after : ℕ) → 1 ≤ c → after ≤ before + 3 * (c * ones) + 3 * c + 1 → after ≤ before + 8 * c * (ones + 1)
+within_bound c ones before after some h =
+    let bound : 8 * c * (ones + 1) ≡ 8 * (c * ones) + 8 * c = grind arith in
+    omega (arith, h, bound)
+
+pub few_bound : (c ones before after : ℕ) → after ≤ before + 3 * (c * ones) + 3 * c + 1 → after ≤ before + 3 * c * (ones + 1) + 1
+few_bound c ones before after h =
     let bound : 3 * c * (ones + 1) ≡ 3 * (c * ones) + 3 * c = grind arith in
-    omega (arith, h, few, once, bound)
+    omega (arith, h, bound)
 
--- a step for each one, and two for each one at each column
-pub price_bound : (c ones marked before after : ℕ) → marked ≤ c * ones → after ≤ before + ones + 2 * marked → after ≤ before + ones * (2 * c + 1)
-price_bound c ones marked before after few h =
-    let bound : ones * (2 * c + 1) ≡ 2 * (c * ones) + ones = grind arith in
-    omega (arith, h, few, bound)
+pub square_bound : (c ones before after : ℕ) → after ≤ before + 2 * (c * ones) + c * c + 3 * c + 1 → after ≤ before + c * (2 * ones + c + 3) + 1
+square_bound c ones before after h =
+    let bound : c * (2 * ones + c + 3) ≡ 2 * (c * ones) + c * c + 3 * c = grind arith in
+    omega (arith, h, bound)
 
--- the same along an order, where each one of the first rows was counted before
-pub across_bound : (rows : List (List ℕ)) (c k before held after : ℕ) → 1 ≤ c → 1 ≤ k → held ≤ before + sum_by length (take 1 (drop (k - 1) rows)) →
-    after ≤ held + 1 + 2 * (c * sum_by length (take 1 (drop (k - 1) rows))) → after + sum_by length (take (k - 1) rows) + 1 ≤ before + 3 * c * (sum_by length (take k rows) + 1)
-across_bound rows c k before held after some from h a =
-    let first = sum_by length (take (k - 1) rows) in
+-- along an order, where each one of the first rows was counted before
+pub across_bound : (rows : List (List ℕ)) (c k before held after : ℕ) → 1 ≤ k → held ≤ before + c + sum_by length (take 1 (drop (k - 1) rows)) →
+    after + sum_by length (take k rows) ≤ held + c * sum_by length (take k rows) + c * sum_by length (take 1 (drop (k - 1) rows)) + c + 1 →
+    after + sum_by length (take (k - 1) rows) ≤ before + 2 * c * (sum_by length (take k rows) + 1) + 1
+across_bound rows c k before held after from h a =
     let last = sum_by length (take 1 (drop (k - 1) rows)) in
     let ones = sum_by length (take k rows) in
-    let all : first + last ≡ ones = first_ones rows k from in
+    let all = first_ones rows k from in
     let few : c * last ≤ c * ones = mul-le c last c ones (omega arith) (omega (arith, all)) in
-    three_bound c ones (c * last) before (after + first + 1) some few (omega (arith, h, a, all))
+    let bound : 2 * c * (ones + 1) ≡ 2 * (c * ones) + 2 * c = grind arith in
+    omega (arith, h, a, all, few, bound)
+
+-- and where memory was refused before
+pub across_early : (c ones first last before held : ℕ) → 1 ≤ c → first + last ≡ ones → held ≤ before + c + last → held + first ≤ before + 2 * c * (ones + 1) + 1
+across_early c ones first last before held some all h =
+    let bound : 2 * c * (ones + 1) ≡ 2 * (c * ones) + 2 * c = grind arith in
+    let once : 1 * ones ≤ c * ones = mul-le 1 ones c ones some (omega arith) in
+    omega (arith, h, all, bound, once)
+
+-- the bounds of a search that was not handed an order, by what was counted when it ended
+module _ (m : RowList) (near : Neighbours) (further : ℕ) (near_is : AreNeighbours m further near) (fits : near.first + further ≤ length m.rows) (some : 1 ≤ m.columns) (marks : Marking) (count : marks.rows ≡ further)
+    (columns : marks.columns ≡ m.columns) (before after : ℕ) where
+  few_marks : marked_ones (drop near.first m.rows) marks ≤ m.columns * sum_by length (take (near.first + further) m.rows)
+  few_marks =
+      let last = sum_by length (take further (drop near.first m.rows)) in
+      let ones = sum_by length (take (near.first + further) m.rows) in
+      let all : m.columns * last ≤ m.columns * ones = mul-le m.columns last m.columns ones (omega arith) (omega (arith, ones_split m.rows near.first further)) in
+      omega (arith, all, marked_within m.rows near.first further m.columns marks fits count columns)
+
+  pub bounded : after ≤ before + (m.columns + 1) + (m.columns + m.columns * sum_to (weight m near) m.columns) + marked_ones (drop near.first m.rows) marks + most_weight m near →
+      after + sum_by length (take (near.first + further) m.rows) ≤ before + 3 * (m.columns * sum_by length (take (near.first + further) m.rows)) + 2 * m.columns + 1
+  bounded h =
+      let ones = sum_by length (take (near.first + further) m.rows) in
+      let w = sum_to (weight m near) m.columns in
+      let tried : m.columns * w ≤ m.columns * ones = mul-le m.columns w m.columns ones (omega arith) (weight_sum m near further near_is) in
+      omega (arith, tried, all_bound m.columns ones (marked_ones (drop near.first m.rows) marks) (m.columns + m.columns * w) (most_weight m near) before after some few_marks (most_ones m near further near_is) h)
+
+  pub squared : after ≤ before + (m.columns + 1) + (m.columns * m.columns + m.columns) + marked_ones (drop near.first m.rows) marks + most_weight m near →
+      after + sum_by length (take (near.first + further) m.rows) ≤ before + 2 * (m.columns * sum_by length (take (near.first + further) m.rows)) + m.columns * m.columns + 2 * m.columns + 1
+  squared h =
+      let ones = sum_by length (take (near.first + further) m.rows) in
+      omega (arith, all_bound m.columns ones (marked_ones (drop near.first m.rows) marks) (m.columns * m.columns + m.columns) (most_weight m near) before after some few_marks (most_ones m near further near_is) h)
+
+  -- and of one that was
+  pub followed : after ≤ before + 1 + m.columns + marked_ones (drop near.first m.rows) marks + most_weight m near →
+      after + sum_by length (take (near.first + further) m.rows) ≤ before + m.columns * sum_by length (take (near.first + further) m.rows) + m.columns * sum_by length (take further (drop near.first m.rows)) + m.columns + 1
+  followed h =
+      along_bound m.columns (sum_by length (take (near.first + further) m.rows)) (sum_by length (take further (drop near.first m.rows))) (marked_ones (drop near.first m.rows) marks) (most_weight m near) before after some
+      (marked_within m.rows near.first further m.columns marks fits count columns) (most_ones m near further near_is) h

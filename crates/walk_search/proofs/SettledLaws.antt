@@ -1,6 +1,6 @@
 -- The end of a tree, and of the search.
 use Rattle.std.proofs.Common.{◌≡◌, ◌⊎◌, ◌∙◌, ℕ, ◌+◌, ◌-◌, ◌<◌, ◌≤◌, Bool, true, false, not, [], ◌∷◌, ◌++◌, length, take, drop, slice_get, Option, Some, None, IsTrue, IsFalse, refl, sym, ap, subst, inl, inr, arith}
-use Rattle.std.proofs.lemmas.Bool.{cases_eq, cases_lt}
+use Rattle.std.proofs.lemmas.Bool.{both_ways, cases_eq, cases_lt}
 use Rattle.std.proofs.lemmas.List.{length-append, length-take-le, get_or-take, take_at}
 use Rattle.std.proofs.lemmas.Option.{slice_get_within}
 use Rattle.row_model.specs.declared.graph.Pair.{Pair}
@@ -16,6 +16,7 @@ use Rattle.walk_search.specs.declared.neighbours.Neighbours.{Neighbours}
 use Rattle.pair_classes.specs.Numbers.{number_of}
 use Rattle.pair_classes.specs.Marks.{Marking, is_marked}
 use Rattle.walk_search.specs.Neighbours.{AreNeighbours}
+use Rattle.walk_search.specs.Weights.{IsJoining, TellsJoining}
 use Rattle.walk_search.specs.Search.{root_node, IsReached, Plants, IsSettled, IsSearch, Grows, IsAcross, IsTaken, AreTaken, AreReachedFrom}
 use Rattle.pair_classes.proofs.Items.{item_last}
 use Rattle.row_model.proofs.Pairs.{same_pair}
@@ -41,7 +42,7 @@ module _ (law : GapLaw) (m : RowList) (near : Neighbours) (marks : Marking) (f :
   once v x y p q = reached_once f.numbers f.nodes.items v x y h.is_forest.indexed p q
 
   -- (a,b) is reached, and row k has a and d and lacks b
-  forth : (v w : Pair) (odd : Bool) (k : ℕ) → IsPair m.columns v → IsReached f.nodes.items v odd → 1 ≤ k → k ≤ marks.rows → Crosses (row_at (drop near.first m.rows) k) v w → IsReached f.nodes.items w (not odd)
+  pub forth : (v w : Pair) (odd : Bool) (k : ℕ) → IsPair m.columns v → IsReached f.nodes.items v odd → 1 ≤ k → k ≤ marks.rows → Crosses (row_at (drop near.first m.rows) k) v w → IsReached f.nodes.items w (not odd)
   forth v w odd k p r a b x =
       let along = h.spread k v.b a b p.b_from (marked_for v odd k r a b x.has_first) x.lacks_middle in
       let same : along.0 ≡ not odd = once (turned v) along.0 (not odd) (along.1 v.a x.has_first) (reached_turned v odd r) in
@@ -128,10 +129,10 @@ pub record IsGrownFrom (m : RowList) (near : Neighbours) (marks marks' : Marking
   pub search : IsSearch m near.first marks' new
   pub grows : Grows marks marks' old.nodes.items new.nodes.items
   pub taken : AreTaken m near marks' new.nodes.items (length new.nodes.items)
-  pub reached : AreReachedFrom m.columns new.nodes.items a done
+  pub reached : AreReachedFrom m near new.nodes.items a done
 
 pub grown_from_none : (m : RowList) (near : Neighbours) (marks : Marking) (f : Forest) (a : ℕ) → IsSearch m near.first marks f → AreTaken m near marks f.nodes.items (length f.nodes.items) → IsGrownFrom m near marks marks f f a 0
-grown_from_none m near marks f a h t = record { search = h; grows = grows_refl marks f.nodes.items; taken = t; reached = λ b l p. absurd (omega (arith, p.b_from)) }
+grown_from_none m near marks f a h t = record { search = h; grows = grows_refl marks f.nodes.items; taken = t; reached = λ b l p j. absurd (omega (arith, p.b_from)) }
 
 module _ (m : RowList) (near : Neighbours) (marks marks' : Marking) (old new : Forest) (a done : ℕ) (x : IsGrownFrom m near marks marks' old new a done) where
   -- the next pair is no pair
@@ -141,12 +142,22 @@ module _ (m : RowList) (near : Neighbours) (marks marks' : Marking) (old new : F
         search = x.search;
         grows = x.grows;
         taken = x.taken;
-        reached = λ b l p. elim (cases_eq b (done + 1)) [ inl s ↦ absurd (p.distinct (e ∙ sym s)) | inr n ↦ x.reached b (omega arith) p ];
+        reached = λ b l p j. elim (cases_eq b (done + 1)) [ inl s ↦ absurd (p.distinct (e ∙ sym s)) | inr n ↦ x.reached b (omega arith) p j ];
       }
 
-  next_reached : (odd : Bool) → IsReached new.nodes.items (pair a (done + 1)) odd → AreReachedFrom m.columns new.nodes.items a (done + 1)
-  next_reached odd r b l p =
-      elim (cases_eq b (done + 1)) [ inl s ↦ (odd, subst (λ d. IsReached new.nodes.items (pair a d) odd) (sym s) r) | inr n ↦ x.reached b (omega arith) p ]
+  -- rows can't join pairs by the next column
+  pub grown_from_idle : (answer : Bool) → TellsJoining m near (done + 1) answer → answer ≡ false → IsGrownFrom m near marks marks' old new a (done + 1)
+  grown_from_idle answer tells fails =
+      record {
+        search = x.search;
+        grows = x.grows;
+        taken = x.taken;
+        reached = λ b l p j. elim (cases_eq b (done + 1)) [ inl s ↦ absurd (both_ways answer fails (tells.whole (subst (IsJoining m near) s j))) | inr n ↦ x.reached b (omega arith) p j ];
+      }
+
+  next_reached : (odd : Bool) → IsReached new.nodes.items (pair a (done + 1)) odd → AreReachedFrom m near new.nodes.items a (done + 1)
+  next_reached odd r b l p j =
+      elim (cases_eq b (done + 1)) [ inl s ↦ (odd, subst (λ d. IsReached new.nodes.items (pair a d) odd) (sym s) r) | inr n ↦ x.reached b (omega arith) p j ]
 
   -- the next pair is reached already
   pub grown_from_reached : IsPair m.columns (pair a (done + 1)) → 0 < number_of new.numbers (pair a (done + 1)) → IsGrownFrom m near marks marks' old new a (done + 1)
@@ -167,13 +178,13 @@ module _ (m : RowList) (near : Neighbours) (marks marks' : Marking) (old new : F
         search = r.0;
         grows = grows_trans marks marks' marks'' old.nodes.items new.nodes.items next.nodes.items x.grows both;
         taken = r.2;
-        reached = λ b l p. elim (cases_eq b (done + 1)) [
+        reached = λ b l p j. elim (cases_eq b (done + 1)) [
           | inl s ↦ (
             false,
             subst (λ d. IsReached next.nodes.items (pair a d) false) (sym s) (reached_grown marks' marks'' planted.nodes.items next.nodes.items (pair a (done + 1)) false r.1 (planted_reached law m near marks' new near_is x.search x.taken planted (pair a (done + 1)) plants)),
           )
           | inr n ↦
-              let was = x.reached b (omega arith) p in
+              let was = x.reached b (omega arith) p j in
               (was.0, reached_grown marks' marks'' new.nodes.items next.nodes.items (pair a b) was.0 both was.1)
         ];
       }

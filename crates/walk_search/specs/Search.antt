@@ -14,6 +14,7 @@ use Rattle.walk_search.specs.declared.forest.Conflict.{Conflict}
 use Rattle.walk_search.specs.declared.forest.Forest.{Forest}
 use Rattle.pair_classes.specs.Numbers.{IsIndexed}
 use Rattle.walk_search.specs.declared.neighbours.Neighbours.{Neighbours}
+use Rattle.walk_search.specs.Weights.{IsJoining}
 use Rattle.pair_classes.specs.Marks.{Marking, is_marked}
 
 abbrev pub pair_of_node : Node → Pair
@@ -184,6 +185,6 @@ pub record IsTaken (m : RowList) (near : Neighbours) (marks : Marking) (nodes : 
 abbrev pub AreTaken : RowList → Neighbours → Marking → List Node → ℕ → Type 0
 AreTaken m near marks nodes n = (i : ℕ) (node : Node) → i < n → slice_get nodes i ≡ Some node → IsTaken m near marks nodes node
 
--- each pair of the column with one of the first columns is reached
-abbrev pub AreReachedFrom : ℕ → List Node → ℕ → ℕ → Type 0
-AreReachedFrom c nodes a n = (b : ℕ) → b ≤ n → IsPair c (pair a b) → (odd : Bool) × IsReached nodes (pair a b) odd
+-- each pair of the column with one of the first columns is reached, if rows can join pairs by that one
+abbrev pub AreReachedFrom : RowList → Neighbours → List Node → ℕ → ℕ → Type 0
+AreReachedFrom m near nodes a n = (b : ℕ) → b ≤ n → IsPair m.columns (pair a b) → IsJoining m near b → (odd : Bool) × IsReached nodes (pair a b) odd

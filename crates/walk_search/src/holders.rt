@@ -7,7 +7,7 @@ use std::alloc::Global;
 use step_count::{Ledger, Steps};
 
 /// For each column the list of those of so many rows after the first ones that have it, numbered from 1 after these.
-/// Each one in these rows is read once, and counted.
+/// Each one in these rows is read once, and counted, and so is each column.
 pub fn rows_by_column<L: Ledger>(
     alloc: Global,
     m: &CountedRows,
@@ -17,10 +17,11 @@ pub fn rows_by_column<L: Ledger>(
 ) -> Result<Vec<Vec<u32>>, NoMemory>
     requires { first + rows ≤ length m.now.rows }
     ensures holders { IfOk result (λ holders. AreHolders (without first m.now) rows (map (λ list. list.items) holders.items)) }
-    ensures ticks { steps.new ≤ steps.old + sum_by length (take rows (drop first m.now.rows)) }
+    ensures ticks { steps.new ≤ steps.old + m.now.columns + sum_by length (take rows (drop first m.now.rows)) }
 {
     let mut holders = Vec::new(alloc);
     for _ in 0..m.columns() {
+        steps.tick();
         holders.push(Vec::new(alloc))?;
     }
     for k in 0..rows {

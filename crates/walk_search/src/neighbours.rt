@@ -4,9 +4,12 @@ ghost use Rattle.row_model.specs.declared.graph.Line.{Line};
 ghost use Rattle.row_model.specs.declared.graph.Pair.{Pair};
 ghost use Rattle.row_model.specs.declared.graph.Why.{Why};
 ghost use Rattle.row_model.specs.Graph.{IsPair, JoinedBy};
+ghost use Rattle.row_model.specs.Rows.{RowList};
 ghost use Rattle.open_gaps.specs.Gaps.{AreGaps};
 ghost use Rattle.open_gaps.specs.Tables.{GapTable};
 ghost use Rattle.walk_search.specs.declared.forest.Node.{Node};
+ghost use Rattle.walk_search.specs.Neighbours.{AreNeighbours};
+ghost use Rattle.walk_search.specs.Weights.{TellsJoining};
 ghost use Rattle.pair_classes.specs.Numbers.{IsIndexed};
 ghost use Rattle.walk_search.specs.Search.{pair_of_node, IsForest, IsJoinedFrom, KeepsNodes, HasGrown, HasStepped, HasCrossed, HasLeft, ShowsConflict};
 
@@ -24,6 +27,23 @@ pub struct Neighbours {
     pub gaps: Option<OpenGaps>,
     /// For each column the further rows that have it, numbered from 1 after the first ones.
     pub holders: Vec<Vec<u32>>,
+}
+
+impl Neighbours {
+    /// Whether rows can join pairs by a column: a further row has it, or it stands beside an open gap. Then a row has it.
+    pub fn can_join(&self, column: u32) -> bool
+        requires column { (1 ≤ column) × (column ≤ length self.now.holders.items) }
+        requires gaps { (t : GapTable) → self.now.gaps ≡ Some t → length t.order ≡ length self.now.holders.items }
+        ensures { (m : RowList) (further : ℕ) → AreNeighbours m further self.now → TellsJoining m self.now column result }
+    {
+        if !self.holders[column as usize - 1].is_empty() {
+            return true;
+        }
+        match &self.gaps {
+            None => false,
+            Some(gaps) => gaps.is_at_open_gap(column),
+        }
+    }
 }
 
 // Reaches from a node its pair with the columns exchanged, and the pairs across the open gaps beside its first column.

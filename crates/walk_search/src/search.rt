@@ -1,5 +1,5 @@
 // The search for a closed walk of odd length.
-ghost use Rattle.std.specs.Prelude.{◌≡◌, ◌+◌, ◌*◌, ◌-◌, ◌<◌, ◌≤◌, ℕ, true, not, Some, length, map, take, drop, slice_get, sum_by, IsTrue, IfOk, MatchOption};
+ghost use Rattle.std.specs.Prelude.{◌≡◌, ◌+◌, ◌*◌, ◌-◌, ◌<◌, ◌≤◌, ℕ, true, not, Some, None, length, map, take, drop, slice_get, sum_by, IsTrue, IfOk, OnOk, MatchOption};
 ghost use Rattle.column_order.specs.Orders.{has, IsValidOrder};
 ghost use Rattle.row_model.specs.Graph.{row_at, turned, HasOddWalk, HasConflict};
 ghost use Rattle.row_model.specs.Cycles.{IsOddWalk};
@@ -8,6 +8,7 @@ ghost use Rattle.pair_classes.specs.Marks.{is_marked};
 ghost use Rattle.walk_search.specs.MarkedOnes.{marked_ones};
 ghost use Rattle.walk_search.specs.Search.{IsReached, IsSearch, Grows, ShowsConflict, IsTaken, AreTaken, AreReachedFrom};
 ghost use Rattle.walk_search.specs.Neighbours.{AreNeighbours};
+ghost use Rattle.walk_search.specs.Weights.{weight, weights, most_weight, IsWeighty};
 ghost use Rattle.open_gaps.specs.Gaps.{AreGaps};
 
 use crate::closing::closed_walk;
@@ -32,9 +33,10 @@ use step_count::{Ledger, Steps};
 /// lacks a joins (a,b) to the pairs (d,a), and is not read once more for these: it leads from (b,a) to (a,d), and those
 /// to (d,a), which are three steps in place of one and give (d,a) the same colour.
 ///
-/// With c columns and f ones in the first rows it counts at most f(2c + 1) steps, and so at most 8c(f + 1), where
-/// memory is refused too: a step for each look at a row and for each column that is read of it. It takes 28 bytes for
-/// each ordered pair of columns, a bit for each row and column, and room for each one.
+/// With c columns and f ones in the first rows it counts at most 3c(f + 1) + 1 steps, and so at most 8c(f + 1), where
+/// memory is refused too; and at most c(2f + c + 3) + 1. Each look at a row is a step and each column that is read of
+/// it, each node that is taken, each pair from which a tree is tried, and each row that is met again. It takes 28 bytes
+/// for each ordered pair of columns, a bit for each row and column, and room for each one.
 ///
 /// # Errors
 ///
@@ -50,7 +52,8 @@ pub fn odd_walk<L: Ledger>(
         (¬ HasOddWalk m.now.columns (take rows m.now.rows))
         (IsOddWalk m.now.columns (take rows m.now.rows))) }
     ensures ticks { steps.new ≤ steps.old + 8 * m.now.columns * (sum_by length (take rows m.now.rows) + 1) }
-    ensures few { steps.new ≤ steps.old + sum_by length (take rows m.now.rows) * (2 * m.now.columns + 1) }
+    ensures few { steps.new ≤ steps.old + 3 * m.now.columns * (sum_by length (take rows m.now.rows) + 1) + 1 }
+    ensures square { steps.new ≤ steps.old + m.now.columns * (2 * sum_by length (take rows m.now.rows) + m.now.columns + 3) + 1 }
 {
     walk_among(alloc, &CountedRows::new(m), rows, steps)
 }
@@ -67,22 +70,24 @@ fn walk_among<L: Ledger>(
         (¬ HasOddWalk m.now.columns (take rows m.now.rows))
         (IsOddWalk m.now.columns (take rows m.now.rows))) }
     ensures ticks { steps.new ≤ steps.old + 8 * m.now.columns * (sum_by length (take rows m.now.rows) + 1) }
-    ensures few { steps.new ≤ steps.old + sum_by length (take rows m.now.rows) * (2 * m.now.columns + 1) }
+    ensures few { steps.new ≤ steps.old + 3 * m.now.columns * (sum_by length (take rows m.now.rows) + 1) + 1 }
+    ensures square { steps.new ≤ steps.old + m.now.columns * (2 * sum_by length (take rows m.now.rows) + m.now.columns + 3) + 1 }
 {
-    let begin = m.columns();
+    // A matrix has a column.
+    let _columns = m.columns();
     let holders = rows_by_column(alloc, m, 0, rows, steps)?;
     let near = Neighbours {
         first: 0,
         gaps: None,
         holders,
     };
-    let found = search(alloc, m, &near, rows, begin, steps)?;
+    let found = search(alloc, m, &near, rows, steps)?;
     Ok(found)
 }
 
 // A closed walk of odd length in the graph of the rows 1 to `k`, which have one, across the gaps that the rows before
 // row `k` leave open: only row `k` is looked at for each column that it lacks, so the time does not grow with the
-// number of rows once their gaps are known. It leaves room in its bound for a step for each one of these, and one more.
+// number of rows once their gaps are known. It leaves room in its bound for a step for each one of these.
 pub fn walk_across<L: Ledger>(
     alloc: Global,
     m: &CountedRows,
@@ -95,8 +100,8 @@ pub fn walk_across<L: Ledger>(
     requires gaps { AreGaps (take (k - 1) m.now.rows) gaps.order gaps.gaps }
     requires refused { HasConflict m.now.columns (take k m.now.rows) }
     ensures walk { IfOk result (IsOddWalk m.now.columns (take k m.now.rows)) }
-    ensures ticks { steps.new + sum_by length (take (k - 1) m.now.rows) + 1
-        ≤ steps.old + 3 * m.now.columns * (sum_by length (take k m.now.rows) + 1) }
+    ensures ticks { steps.new + sum_by length (take (k - 1) m.now.rows)
+        ≤ steps.old + 2 * m.now.columns * (sum_by length (take k m.now.rows) + 1) + 1 }
 {
     let holders = rows_by_column(alloc, m, k - 1, 1, steps)?;
     let near = Neighbours {
@@ -104,46 +109,42 @@ pub fn walk_across<L: Ledger>(
         gaps: Some(gaps),
         holders,
     };
-    let begin = first_column(m, k, steps);
-    match search(alloc, m, &near, 1, begin, steps)? {
+    match search_along(alloc, m, &near, steps)? {
         Some(walk) => Ok(walk),
         None => unreachable!(),
     }
 }
 
-// The first column of a row, and the last of all columns where the row is empty.
-fn first_column<L: Ledger>(m: &CountedRows, k: u32, steps: &mut Steps<L>) -> u32
-    requires { (1 ≤ k) × (k ≤ length m.now.rows) }
-    ensures column { (1 ≤ result) × (result ≤ m.now.columns) }
-    ensures ticks { steps.new ≤ steps.old + 1 }
-{
-    m.next_counted(k, 0, steps).unwrap_or(m.columns())
-}
-
-// Searches the graph of the first rows and the further ones. The first trees begin at pairs
-// with the given first column.
+// Searches the graph of the further rows, where there are no first ones. The first trees begin at pairs with the last
+// column, and then at pairs with each column that a row has.
 fn search<L: Ledger>(
     alloc: Global,
     m: &CountedRows,
     near: &Neighbours,
     further: u32,
-    begin: u32,
     steps: &mut Steps<L>,
 ) -> Result<Option<Walk>, NoMemory>
     requires rows { near.now.first + further ≤ length m.now.rows }
     requires near { AreNeighbours m.now further near.now }
-    requires column { (1 ≤ begin) × (begin ≤ m.now.columns) }
+    requires none { near.now.gaps ≡ None }
     ensures found { IfOk result (λ found. MatchOption found
         (¬ HasOddWalk m.now.columns (take (near.now.first + further) m.now.rows))
         (IsOddWalk m.now.columns (take (near.now.first + further) m.now.rows))) }
-    ensures ticks { steps.new ≤ steps.old + 2 * (m.now.columns * sum_by length (take further (drop near.now.first m.now.rows))) }
+    ensures ticks { steps.new + sum_by length (take (near.now.first + further) m.now.rows)
+        ≤ steps.old + 3 * (m.now.columns * sum_by length (take (near.now.first + further) m.now.rows)) + 2 * m.now.columns + 1 }
+    ensures square { steps.new + sum_by length (take (near.now.first + further) m.now.rows)
+        ≤ steps.old + 2 * (m.now.columns * sum_by length (take (near.now.first + further) m.now.rows)) + m.now.columns * m.now.columns + 2 * m.now.columns + 1 }
 {
     gap_law();
     let columns = m.columns();
     let mut marks = Marks::new(alloc, further, columns)?;
     let mut forest = Forest::new(alloc, columns)?;
     for turn in 0..columns + 1 {
-        let a = column_in_turn(begin, turn);
+        steps.tick();
+        let a = column_in_turn(columns, turn);
+        if !near.can_join(a) {
+            continue;
+        }
         if let Some(conflict) = grow_from_column(m, near, &mut marks, &mut forest, a, steps)? {
             return Ok(Some(closed_walk(alloc, &forest, conflict)?));
         }
@@ -159,8 +160,39 @@ fn column_in_turn(begin: u32, turn: u32) -> u32
     if turn == 0 { begin } else { turn }
 }
 
+// Searches the graph of the first rows and one more, which is read for its first column. All that this row joins lies
+// in trees that begin at pairs with that column, and what the first rows alone join closes no odd walk.
+fn search_along<L: Ledger>(
+    alloc: Global,
+    m: &CountedRows,
+    near: &Neighbours,
+    steps: &mut Steps<L>,
+) -> Result<Option<Walk>, NoMemory>
+    requires rows { near.now.first + 1 ≤ length m.now.rows }
+    requires near { AreNeighbours m.now 1 near.now }
+    ensures found { IfOk result (λ found. MatchOption found
+        (¬ HasOddWalk m.now.columns (take (near.now.first + 1) m.now.rows))
+        (IsOddWalk m.now.columns (take (near.now.first + 1) m.now.rows))) }
+    ensures ticks { steps.new + sum_by length (take (near.now.first + 1) m.now.rows)
+        ≤ steps.old + m.now.columns * sum_by length (take (near.now.first + 1) m.now.rows)
+        + m.now.columns * sum_by length (take 1 (drop near.now.first m.now.rows)) + m.now.columns + 1 }
+{
+    gap_law();
+    let columns = m.columns();
+    let mut marks = Marks::new(alloc, 1, columns)?;
+    let mut forest = Forest::new(alloc, columns)?;
+    let Some(a) = m.next_counted(near.first + 1, 0, steps) else {
+        return Ok(None);
+    };
+    match grow_from_column(m, near, &mut marks, &mut forest, a, steps)? {
+        None => Ok(None),
+        Some(conflict) => Ok(Some(closed_walk(alloc, &forest, conflict)?)),
+    }
+}
+
 // Looks from a pair (a,b) at a further row that has a. If the row lacks b, each pair (b,d) of b with a column d of the
-// row is joined to (a,b). The pairs (b,d) are the same for every a, so each row is looked at once for each b.
+// row is joined to (a,b). The pairs (b,d) are the same for every a, so each row is looked at once for each b; a step is
+// counted where it is met again.
 fn look<L: Ledger>(
     m: &CountedRows,
     near: &Neighbours,
@@ -180,10 +212,12 @@ fn look<L: Ledger>(
         × ((node : Node) → slice_get forest.old.nodes.items from ≡ Some node → is_marked marks.new further node.pair.b ≡ true))
         (ShowsConflict m.now.columns (take (near.now.first + marks.old.rows) m.now.rows) forest.new)) }
     ensures sizes { (marks.new.rows ≡ marks.old.rows) × (marks.new.columns ≡ marks.old.columns) }
-    ensures ticks { steps.new + 2 * marked_ones (drop near.now.first m.now.rows) marks.old ≤ steps.old + 2 * marked_ones (drop near.now.first m.now.rows) marks.new }
+    ensures ticks { steps.new + marked_ones (drop near.now.first m.now.rows) marks.old ≤ steps.old + 1 + marked_ones (drop near.now.first m.now.rows) marks.new }
+    ensures costs { steps.old + 1 ≤ steps.new }
 {
     let node = forest.nodes[from as usize];
     if marks.mark(further, node.pair.b) {
+        steps.tick();
         return Ok(None);
     }
     let row = near.first + further;
@@ -211,7 +245,7 @@ fn look<L: Ledger>(
 }
 
 // Takes a node: reaches its pair with the columns exchanged and the pairs across the open gaps, and looks at each
-// further row with its first column.
+// further row with its first column. It costs a step where there is none.
 fn expand<L: Ledger>(
     m: &CountedRows,
     near: &Neighbours,
@@ -223,23 +257,39 @@ fn expand<L: Ledger>(
     requires search { IsSearch m.now near.now.first marks.old forest.old }
     requires near { AreNeighbours m.now marks.old.rows near.now }
     requires from { (forest.old.root ≤ from) × (from < length forest.old.nodes.items) }
+    requires weighty { IsWeighty m.now near.now forest.old.nodes.items from }
     ensures found { IfOk result (λ found. MatchOption found
         (IsSearch m.now near.now.first marks.new forest.new × Grows marks.old marks.new forest.old.nodes.items forest.new.nodes.items × (forest.new.root ≡ forest.old.root)
         × ((node : Node) → slice_get forest.old.nodes.items from ≡ Some node → IsTaken m.now near.now marks.new forest.new.nodes.items node))
         (ShowsConflict m.now.columns (take (near.now.first + marks.old.rows) m.now.rows) forest.new)) }
     ensures sizes { (marks.new.rows ≡ marks.old.rows) × (marks.new.columns ≡ marks.old.columns) }
-    ensures ticks { steps.new + 2 * marked_ones (drop near.now.first m.now.rows) marks.old ≤ steps.old + 2 * marked_ones (drop near.now.first m.now.rows) marks.new }
+    ensures ticks { (node : Node) → slice_get forest.old.nodes.items from ≡ Some node
+        → steps.new + marked_ones (drop near.now.first m.now.rows) marks.old ≤ steps.old + weight m.now near.now node.pair.a + marked_ones (drop near.now.first m.now.rows) marks.new }
+    ensures costs { OnOk result (steps.old + 1 ≤ steps.new) }
 {
     let node = forest.nodes[from as usize];
     if let Some(conflict) = leave(&near.gaps, forest, from)? {
+        steps.tick();
         return Ok(Some(conflict));
     }
-    for row in &near.holders[node.pair.a as usize - 1] {
+    let rows = &near.holders[node.pair.a as usize - 1];
+    tick_if_none(rows, steps);
+    for row in rows {
         if let Some(conflict) = look(m, near, *row, marks, forest, from, steps)? {
             return Ok(Some(conflict));
         }
     }
     Ok(None)
+}
+
+// Counts a step where there are no rows, each of which would cost one.
+fn tick_if_none<L: Ledger>(rows: &[u32], steps: &mut Steps<L>)
+    ensures none { length rows.now ≡ 0 → steps.new ≡ steps.old + 1 }
+    ensures some { 1 ≤ length rows.now → steps.new ≡ steps.old }
+{
+    if rows.is_empty() {
+        steps.tick();
+    }
 }
 
 // Takes each node of the last tree in turn, those that are reached meanwhile too.
@@ -253,12 +303,19 @@ fn grow<L: Ledger>(
     requires search { IsSearch m.now near.now.first marks.old forest.old }
     requires near { AreNeighbours m.now marks.old.rows near.now }
     requires taken { AreTaken m.now near.now marks.old forest.old.nodes.items forest.old.root }
+    requires weighty { IsWeighty m.now near.now forest.old.nodes.items forest.old.root }
+    requires tree { forest.old.root < length forest.old.nodes.items }
     ensures found { IfOk result (λ found. MatchOption found
         (IsSearch m.now near.now.first marks.new forest.new × Grows marks.old marks.new forest.old.nodes.items forest.new.nodes.items
         × AreTaken m.now near.now marks.new forest.new.nodes.items (length forest.new.nodes.items))
         (ShowsConflict m.now.columns (take (near.now.first + marks.old.rows) m.now.rows) forest.new)) }
     ensures sizes { (marks.new.rows ≡ marks.old.rows) × (marks.new.columns ≡ marks.old.columns) }
-    ensures ticks { steps.new + 2 * marked_ones (drop near.now.first m.now.rows) marks.old ≤ steps.old + 2 * marked_ones (drop near.now.first m.now.rows) marks.new }
+    ensures ticks { steps.new + marked_ones (drop near.now.first m.now.rows) marks.old + weights m.now near.now (take forest.old.root forest.old.nodes.items)
+        ≤ steps.old + marked_ones (drop near.now.first m.now.rows) marks.new + most_weight m.now near.now }
+    ensures costs { OnOk result (steps.old + 1 ≤ steps.new) }
+    ensures spent { IfOk result (λ found. found ≡ None
+        → steps.new + marked_ones (drop near.now.first m.now.rows) marks.old + weights m.now near.now (take forest.old.root forest.old.nodes.items)
+        ≤ steps.old + marked_ones (drop near.now.first m.now.rows) marks.new + weights m.now near.now forest.new.nodes.items) }
 {
     let mut head = forest.root;
     while (head as usize) < forest.nodes.len() {
@@ -270,7 +327,7 @@ fn grow<L: Ledger>(
     Ok(None)
 }
 
-// Grows trees until each pair with this first column is reached.
+// Grows trees until each pair of this first column with a column by which rows can join pairs is reached.
 fn grow_from_column<L: Ledger>(
     m: &CountedRows,
     near: &Neighbours,
@@ -283,18 +340,28 @@ fn grow_from_column<L: Ledger>(
     requires near { AreNeighbours m.now marks.old.rows near.now }
     requires taken { AreTaken m.now near.now marks.old forest.old.nodes.items (length forest.old.nodes.items) }
     requires column { (1 ≤ a) × (a ≤ m.now.columns) }
+    requires weighty { 1 ≤ weight m.now near.now a }
     ensures found { IfOk result (λ found. MatchOption found
         (IsSearch m.now near.now.first marks.new forest.new × Grows marks.old marks.new forest.old.nodes.items forest.new.nodes.items
         × AreTaken m.now near.now marks.new forest.new.nodes.items (length forest.new.nodes.items)
-        × AreReachedFrom m.now.columns forest.new.nodes.items a m.now.columns)
+        × AreReachedFrom m.now near.now forest.new.nodes.items a m.now.columns)
         (ShowsConflict m.now.columns (take (near.now.first + marks.old.rows) m.now.rows) forest.new)) }
     ensures sizes { (marks.new.rows ≡ marks.old.rows) × (marks.new.columns ≡ marks.old.columns) }
-    ensures ticks { steps.new + 2 * marked_ones (drop near.now.first m.now.rows) marks.old ≤ steps.old + 2 * marked_ones (drop near.now.first m.now.rows) marks.new }
+    ensures ticks { steps.new + marked_ones (drop near.now.first m.now.rows) marks.old + weights m.now near.now forest.old.nodes.items
+        ≤ steps.old + m.now.columns + marked_ones (drop near.now.first m.now.rows) marks.new + most_weight m.now near.now }
+    ensures spent { IfOk result (λ found. found ≡ None
+        → steps.new + marked_ones (drop near.now.first m.now.rows) marks.old + weights m.now near.now forest.old.nodes.items
+        ≤ steps.old + m.now.columns + marked_ones (drop near.now.first m.now.rows) marks.new + weights m.now near.now forest.new.nodes.items) }
+    ensures costs { OnOk result (steps.old + 1 ≤ steps.new) }
 {
     gap_law();
     for b in 0..m.columns() {
+        steps.tick();
         let pair = Pair { a, b: b + 1 };
         if pair.a == pair.b {
+            continue;
+        }
+        if !near.can_join(pair.b) {
             continue;
         }
         if forest.numbers.get(pair) > 0 {

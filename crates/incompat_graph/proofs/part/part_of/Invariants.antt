@@ -6,5 +6,6 @@ invariant-loop-k g l =
     record {
       columns : l.part.columns ≡ length l.columns;
       rows : length l.part.rows ≤ l.k-index;
+      less : l.left ≤ l.fn.left;
       ticks : l.steps + l.left ≤ l.fn.steps + l.fn.left;
     }

@@ -36,27 +36,31 @@ pub returns-in_err-gaps-clause-ticks : goal.returns-in_err-gaps-clause-ticks
 returns-in_err-gaps-clause-ticks g c =
     let p = c.requires.refused.is_pair in
     let some : 1 ≤ c.args.m.now.columns = omega (arith, p.a_from, p.a_to) in
-    tried_bound c.args.m.now.rows c.args.m.now.columns c.args.k c.args.steps.now c.new.new.steps c.new.new.steps some c.requires.row.0 c.new.ensures.ticks (omega arith)
+    tried_bound c.args.m.now.rows c.args.m.now.columns c.args.k c.args.most c.args.steps.now c.new.new.steps c.new.new.steps some c.requires.row.0 c.requires.most c.new.ensures.ticks (omega arith)
 
 pub returns-in_err-cycle-clause-ticks : goal.returns-in_err-cycle-clause-ticks
 returns-in_err-cycle-clause-ticks g c =
     let p = c.requires.refused.is_pair in
     let some : 1 ≤ c.args.m.now.columns = omega (arith, p.a_from, p.a_to) in
-    tried_bound c.args.m.now.rows c.args.m.now.columns c.args.k c.args.steps.now c.new.new.steps c.quick_cycle.new.steps some c.requires.row.0 c.new.ensures.ticks (omega arith)
+    tried_bound c.args.m.now.rows c.args.m.now.columns c.args.k c.args.most c.args.steps.now c.new.new.steps c.quick_cycle.new.steps some c.requires.row.0 c.requires.most c.new.ensures.ticks (omega arith)
 
 pub returns-in-Some-clause-ticks : goal.returns-in-Some-clause-ticks
 returns-in-Some-clause-ticks g c =
     let p = c.requires.refused.is_pair in
     let some : 1 ≤ c.args.m.now.columns = omega (arith, p.a_from, p.a_to) in
-    tried_bound c.args.m.now.rows c.args.m.now.columns c.args.k c.args.steps.now c.new.new.steps c.quick_cycle.new.steps some c.requires.row.0 c.new.ensures.ticks (omega arith)
+    tried_bound c.args.m.now.rows c.args.m.now.columns c.args.k c.args.most c.args.steps.now c.new.new.steps c.quick_cycle.new.steps some c.requires.row.0 c.requires.most c.new.ensures.ticks (omega arith)
 
 pub returns-in_err-walk-clause-ticks : goal.returns-in_err-walk-clause-ticks
 returns-in_err-walk-clause-ticks g c =
-    along_bound c.args.m.now.rows c.args.m.now.columns c.args.k c.args.steps.now c.new.new.steps c.quick_cycle.new.steps c.walk_across.new.steps c.new.ensures.ticks (omega arith) c.walk_across.ensures.ticks
+    let p = c.requires.refused.is_pair in
+    let two : 2 ≤ c.args.m.now.columns = omega (arith, p.a_from, p.a_to, p.b_from, p.b_to, p.distinct) in
+    along_bound c.args.m.now.rows c.args.m.now.columns c.args.k c.args.most c.args.steps.now c.new.new.steps c.quick_cycle.new.steps c.walk_across.new.steps two c.requires.most c.new.ensures.ticks (omega arith) c.walk_across.ensures.ticks
 
 pub returns-clause-ticks : goal.returns-clause-ticks
 returns-clause-ticks g c =
-    along_bound c.args.m.now.rows c.args.m.now.columns c.args.k c.args.steps.now c.new.new.steps c.quick_cycle.new.steps c.walk_across.new.steps c.new.ensures.ticks (omega arith) c.walk_across.ensures.ticks
+    let p = c.requires.refused.is_pair in
+    let two : 2 ≤ c.args.m.now.columns = omega (arith, p.a_from, p.a_to, p.b_from, p.b_to, p.distinct) in
+    along_bound c.args.m.now.rows c.args.m.now.columns c.args.k c.args.most c.args.steps.now c.new.new.steps c.quick_cycle.new.steps c.walk_across.new.steps two c.requires.most c.new.ensures.ticks (omega arith) c.walk_across.ensures.ticks
 
 pub returns-clause-cycle : goal.returns-clause-cycle
 returns-clause-cycle g c =

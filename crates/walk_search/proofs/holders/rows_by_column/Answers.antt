@@ -57,7 +57,7 @@ loop-k-preserved g c =
     let end : c.loop-column.i ≡ length held = omega (arith, item_end row c.loop-column.i (c.next_counted.ensures.column ∙ none), ap length same, c.loop-column.invariant.within) in
     let calm = rw none at c.next_counted.ensures.ticks in
     let ones = ones_more (drop c.args.first rows) c.loop-k.k held (further_there rows c.args.first c.loop-k.k (omega arith)) in
-    record { holders = holders_end (without c.args.first c.args.m.now) c.loop-k.k held (lists_of c.loop-column.holders.items) refl (subst (λ n. HoldersSoFar (without c.args.first c.args.m.now) c.loop-k.k held n (lists_of c.loop-column.holders.items)) end c.loop-column.invariant.holders); counted = omega (arith, ones, end, calm, c.loop-k.invariant.counted, c.loop-column.invariant.counted) }
+    record { holders = holders_end (without c.args.first c.args.m.now) c.loop-k.k held (lists_of c.loop-column.holders.items) refl ones (subst (λ n. HoldersSoFar (without c.args.first c.args.m.now) c.loop-k.k held n (lists_of c.loop-column.holders.items)) end c.loop-column.invariant.holders); counted = omega (arith, ones, end, calm, c.loop-k.invariant.counted, c.loop-column.invariant.counted) }
 
 pub returns-in_err-add_holder-clause-ticks : goal.returns-in_err-add_holder-clause-ticks
 returns-in_err-add_holder-clause-ticks g c =

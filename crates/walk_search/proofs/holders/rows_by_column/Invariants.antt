@@ -5,7 +5,7 @@ use Rattle.walk_search.proofs.HolderLaws.{lists_of, HoldersSoFar}
 use Rattle.walk_search.proofs.holders.rows_by_column.Given as goal
 
 abbrev pub invariant-loop : goal.invariant-loop
-invariant-loop g l = lists_of l.holders.items ≡ replicate l.counter []
+invariant-loop g l = record { lists : lists_of l.holders.items ≡ replicate l.counter []; counted : l.steps ≡ l.fn.steps + l.counter }
 
 abbrev pub invariant-loop-column : goal.invariant-loop-column
 invariant-loop-column g l =

@@ -1,5 +1,6 @@
-use Rattle.std.proofs.Common.{rules, ◌≡◌, ◌∙◌, ℕ, ◌+◌, ◌-◌, ◌<◌, ◌≤◌, not, Vec, Global, Some, length, take, drop, get_or, slice_get, IsTrue, refl, sym, subst, arith}
+use Rattle.std.proofs.Common.{rules, ◌≡◌, ◌∙◌, ℕ, ◌+◌, ◌-◌, ◌<◌, ◌≤◌, not, Vec, Global, Some, length, take, drop, get_or, slice_get, IsTrue, refl, sym, ap, inl, inr, subst, arith}
 use Rattle.std.proofs.lemmas.Option.{slice_get_read, slice_get-get_or, same_Some}
+use Rattle.std.proofs.lemmas.Bool.{cases_lt}
 use Rattle.std.proofs.lemmas.Grind.{common_steps}
 use Rattle.std.proofs.lemmas.List.{length-map}
 use Rattle.column_order.specs.Orders.{has}
@@ -8,6 +9,7 @@ use Rattle.row_model.specs.Graph.{row_at, turned}
 use Rattle.walk_search.specs.declared.forest.Node.{Node}
 use Rattle.walk_search.specs.Holders.{holders_of}
 use Rattle.walk_search.specs.Search.{IsReached}
+use Rattle.walk_search.specs.Weights.{held_for, weight}
 use Rattle.pair_classes.proofs.Items.{none_of}
 use Rattle.walk_search.proofs.HolderLaws.{lists_of, holder_at}
 use Rattle.walk_search.proofs.ForestLaws.{grown_item}
@@ -44,7 +46,7 @@ takes g c =
 -- the rows that are gone through are those that have its first column
 rows_of_first : (g : given.Over) (c : After-deref-row-items g) → c.index-node.result.now.pair.a - 1 < length c.args.near.now.holders.items →
     c.deref-row-items.result.now ≡ holders_of (lists_of c.args.near.now.holders.items) c.index-node.result.now.pair.a
-rows_of_first g c within = c.deref-row-items.ensures.value ∙ sym (holder_at c.args.near.now.holders.items (c.index-node.result.now.pair.a - 1) c.index.result.now within c.index.ensures)
+rows_of_first g c within = c.deref-row-items.ensures.value ∙ sym (holder_at c.args.near.now.holders.items (c.index-node.result.now.pair.a - 1) c.index-rows.result.now within c.index-rows.ensures)
 
 pub returns-in-Some-clause-found : goal.returns-in-Some-clause-found
 returns-in-Some-clause-found g c =
@@ -57,9 +59,9 @@ returns-in-Some-clause-found g c =
 pub overflow_sub-node : goal.overflow_sub-node
 overflow_sub-node g c = (takes g (goal.at.overflow_sub-node g c).After-index-node).from_1
 
-pub index-requires : goal.index-requires
-index-requires g c =
-    let within = (takes g (goal.at.index-requires g c).After-index-node).within in
+pub index-rows-requires : goal.index-rows-requires
+index-rows-requires g c =
+    let within = (takes g (goal.at.index-rows-requires g c).After-index-node).within in
     first_of (omega (arith, within), grind (arith, common_steps, within), search (rules, within))
 
 pub loop-row-init : goal.loop-row-init
@@ -70,7 +72,7 @@ loop-row-init g c =
     let front = joined_front m.columns m.rows near.first (near.first + c.args.marks.now.rows) (omega arith) c.requires.search.few in
     let none = none_of c.in_ok-conflict.field-0 c.in_default.not-Some in
     let left = rw none at (c.in_ok-conflict.ensures m.columns (take near.first m.rows) graph c.requires.search.is_forest c.requires.from.0 (λ t e. (c.requires.near.gaps t e).gaps) front) in
-    record { expanding = expanding_none m near c.args.marks.now c.args.forest.now c.leave.new.forest c.args.from c.deref-row-items.result.now c.requires.search left; ticks = omega arith }
+    record { expanding = expanding_none m near c.args.marks.now c.args.forest.now c.leave.new.forest c.args.from c.deref-row-items.result.now c.requires.search left; ticks = omega arith; costs = omega arith }
 
 pub look-requires-clause-row : goal.look-requires-clause-row
 look-requires-clause-row g c =
@@ -108,7 +110,8 @@ loop-row-preserved g c =
     record {
       expanding = expanding_more c.args.m.now c.args.near.now c.args.marks.now c.loop-row.marks c.look.new.marks c.args.forest.now c.loop-row.forest c.look.new.forest c.args.from rows c.loop-row.row-index
           (get_or rows c.loop-row.row-index 0) c.loop-row.invariant.expanding at (rw none at c.in_ok-conflict-2.ensures.found);
-      ticks = omega arith;
+      ticks = omega (arith, c.loop-row.invariant.ticks, c.look.ensures.ticks);
+      costs = omega (arith, c.loop-row.invariant.costs, c.look.ensures.costs);
     }
 
 pub returns-clause-found : goal.returns-clause-found
@@ -123,3 +126,37 @@ returns-clause-found g c =
       expanding_all c.args.m.now near c.args.marks.now c.args.forest.now c.args.from c.index-node.result.now c.requires.search t.there (lists_of near.holders.items) c.requires.near.holders
           c.deref-row-items.result.now is c.loop-row.marks c.loop-row.forest c.loop-row.row-index x c.loop-row-test.false,
     )
+
+-- the step that is counted where there is no row, and one for each row, are within the weight of the node's first column
+idle : (g : given.Over) (c : After-deref-row-items g) → slice_get c.args.forest.now.nodes.items c.args.from ≡ Some c.index-node.result.now → c.index-node.result.now.pair.a - 1 < length c.args.near.now.holders.items →
+    (node : Node) → slice_get c.args.forest.now.nodes.items c.args.from ≡ Some node → c.tick_if_none.new.steps + length c.deref-row-items.result.now ≤ c.args.steps.now + weight c.args.m.now c.args.near.now node.pair.a
+idle g c there within node e =
+    let near = c.args.near.now in
+    let taken : Node = c.index-node.result.now in
+    let rows = c.deref-row-items.result.now in
+    let len : length rows ≡ held_for near taken.pair.a = ap length (rows_of_first g c within) in
+    let both : length c.deref.result.now ≡ length rows = ap length (c.deref.ensures.value ∙ sym c.deref-row-items.ensures.value) in
+    let some = (c.requires.weighty taken there).0 in
+    let here : c.tick_if_none.new.steps + length rows ≤ c.args.steps.now + weight c.args.m.now near taken.pair.a = elim (cases_lt 0 (length rows)) [
+      | inl l ↦ omega (arith, c.tick_if_none.ensures.some (omega (arith, l, both)), len)
+      | inr l ↦ omega (arith, c.tick_if_none.ensures.none (omega (arith, l, both)), len, some, l)
+    ] in
+    subst (λ (n : Node). c.tick_if_none.new.steps + length rows ≤ c.args.steps.now + weight c.args.m.now near n.pair.a) (same_Some taken node (sym there ∙ e)) here
+
+pub returns-in_err-conflict-2-clause-ticks : goal.returns-in_err-conflict-2-clause-ticks
+returns-in_err-conflict-2-clause-ticks g c =
+    let place = goal.at.returns-in_err-conflict-2-clause-ticks g c in
+    let t = takes g place.After-index-node in
+    λ node e. omega (arith, idle g place.After-deref-row-items t.there t.within node e, c.loop-row.invariant.ticks, c.look.ensures.ticks, c.loop-row-test.true)
+
+pub returns-in-Some-2-clause-ticks : goal.returns-in-Some-2-clause-ticks
+returns-in-Some-2-clause-ticks g c =
+    let place = goal.at.returns-in-Some-2-clause-ticks g c in
+    let t = takes g place.After-index-node in
+    λ node e. omega (arith, idle g place.After-deref-row-items t.there t.within node e, c.loop-row.invariant.ticks, c.look.ensures.ticks, c.loop-row-test.true)
+
+pub returns-clause-ticks : goal.returns-clause-ticks
+returns-clause-ticks g c =
+    let place = goal.at.returns-clause-ticks g c in
+    let t = takes g place.After-index-node in
+    λ node e. omega (arith, idle g place.After-deref-row-items t.there t.within node e, c.loop-row.invariant.ticks, c.loop-row.auto.row-index-end)

@@ -1,11 +1,19 @@
-use Rattle.std.proofs.Common.{◌∙◌, ◌+◌, ◌-◌, ◌≤◌, take, sym, subst, inl, inr, arith}
+use Rattle.std.proofs.Common.{◌≡◌, ◌∙◌, ℕ, ◌+◌, ◌-◌, ◌*◌, ◌≤◌, Vec, Global, length, take, drop, sum_by, sym, subst, inl, inr, arith}
+use Rattle.std.proofs.lemmas.Nat.{mul-le}
+use Rattle.std.proofs.lemmas.Option.{none-some}
+use Rattle.std.proofs.lemmas.List.{length-map}
 use Rattle.std.proofs.lemmas.Bool.{cases_eq}
 use Rattle.row_model.specs.Cycles.{IsOddWalk}
+use Rattle.walk_search.specs.MarkedOnes.{marked_ones, sum_to}
+use Rattle.walk_search.specs.Weights.{weight, weights, most_weight, TellsJoining}
 use Rattle.walk_search.specs.Neighbours.{AreNeighbours}
 use Rattle.pair_classes.proofs.Items.{none_of}
-use Rattle.walk_search.proofs.MarkedOnes.{marked_within}
-use Rattle.walk_search.proofs.EndLaws.{IsSearched, searched_none, searched_again, searched_more, searched_all}
+use Rattle.walk_search.proofs.EndLaws.{IsSearched, searched_none, searched_idle, searched_again, searched_more, searched_all}
+use Rattle.walk_search.proofs.NearLaws.{bounded, squared}
+use Rattle.walk_search.proofs.WeightLaws.{tried_more, tried_part, all_most}
+use Rattle.walk_search.proofs.search.search.Given as given
 use Rattle.walk_search.proofs.search.search.Goals as goal
+use Rattle.walk_search.proofs.search.search.Goals.{After-grow_from_column}
 
 pub loop-turn-init : goal.loop-turn-init
 loop-turn-init g c =
@@ -26,11 +34,107 @@ loop-turn-init g c =
           c.in_ok-forest.ensures.1
           c.in_ok-forest.ensures.2
           c.in_ok-forest.ensures.3;
+      first = λ e. omega arith;
       ticks = omega arith;
+      square = omega arith;
+    }
+
+pub can_join-requires-clause-gaps : goal.can_join-requires-clause-gaps
+can_join-requires-clause-gaps g c = λ t e. absurd (none-some t (sym c.requires.none ∙ e))
+
+pub can_join-requires-clause-column : goal.can_join-requires-clause-column
+can_join-requires-clause-column g c =
+    let near = c.args.near.now in
+    let wide : length near.holders.items ≡ c.args.m.now.columns = omega (arith, c.requires.near.holders.columns, length-map near.holders.items (λ (list : Vec ℕ Global). list.items)) in
+    let range = c.columns-columns.ensures in
+    elim (cases_eq c.loop-turn.turn 0) [
+      | inl s ↦ (omega (arith, c.column_in_turn-a.ensures.first s, range.range.0), omega (arith, c.column_in_turn-a.ensures.first s, range.columns, wide))
+      | inr n ↦
+          let same = c.column_in_turn-a.ensures.later (omega (arith, n)) in
+          (omega (arith, same, n), omega (arith, same, c.loop-turn-test.true, range.columns, wide))
+    ]
+
+pub loop-turn-preserved-then-not-can_join : goal.loop-turn-preserved-then-not-can_join
+loop-turn-preserved-then-not-can_join g c =
+    let m = c.args.m.now in
+    let near = c.args.near.now in
+    let turn = c.loop-turn.turn in
+    let x = c.loop-turn.invariant.searched in
+    let tells = c.can_join.ensures m c.args.further c.requires.near in
+    let next : IsSearched m near c.args.further c.loop-turn.marks c.loop-turn.forest (turn + 1 - 1) = elim (cases_eq turn 0) [
+      | inl s ↦ subst (IsSearched m near c.args.further c.loop-turn.marks c.loop-turn.forest) (omega (arith, s)) x
+      | inr n ↦
+          let same : c.column_in_turn-a.result ≡ turn - 1 + 1 = omega (arith, n, c.column_in_turn-a.ensures.later (omega (arith, n))) in
+          subst (IsSearched m near c.args.further c.loop-turn.marks c.loop-turn.forest) (omega (arith, n))
+          (searched_idle m near c.args.further c.loop-turn.marks c.loop-turn.forest (turn - 1) c.can_join.result x (subst (λ a. TellsJoining m near a c.can_join.result) same tells) c.if-not-can_join.true)
+    ] in
+    record {
+      searched = next;
+      first = λ e. absurd (omega (arith, e));
+      ticks = omega (arith, c.loop-turn.invariant.ticks, c.tick.ensures, tried_part (weight m near) m.columns (turn - 1) (turn + 1 - 1) (omega arith));
+      square = (let more : (turn + 1) * m.columns ≡ turn * m.columns + m.columns = grind arith in omega (arith, c.loop-turn.invariant.square, c.tick.ensures, more));
     }
 
 pub grow_from_column-requires-clause-near : goal.grow_from_column-requires-clause-near
 grow_from_column-requires-clause-near g c = subst (λ n. AreNeighbours c.args.m.now n c.args.near.now) (sym c.loop-turn.invariant.searched.count) c.requires.near
+
+pub grow_from_column-requires-clause-weighty : goal.grow_from_column-requires-clause-weighty
+grow_from_column-requires-clause-weighty g c = (c.can_join.ensures c.args.m.now c.args.further c.requires.near).held c.if-not-can_join.false
+
+-- the steps of one more turn in which trees are grown
+module _ (g : given.Over) (c : After-grow_from_column g) where
+  some : 1 ≤ weight c.args.m.now c.args.near.now c.column_in_turn-a.result
+  some = (c.can_join.ensures c.args.m.now c.args.further c.requires.near).held c.if-not-can_join.false
+
+  -- what was tried before and the pairs of this turn
+  pub tried : c.loop-turn.steps + c.args.m.now.columns
+      ≤ c.args.steps.now + c.loop-turn.turn + (c.args.m.now.columns + c.args.m.now.columns * sum_to (weight c.args.m.now c.args.near.now) (c.loop-turn.turn + 1 - 1)) + marked_ones (drop c.args.near.now.first c.args.m.now.rows) c.loop-turn.marks
+      + weights c.args.m.now c.args.near.now c.loop-turn.forest.nodes.items
+  tried =
+      let w = weight c.args.m.now c.args.near.now in
+      let turn = c.loop-turn.turn in
+      elim (cases_eq turn 0) [
+        | inl s ↦ omega (arith, c.loop-turn.invariant.first s)
+        | inr n ↦
+            let one : 1 ≤ turn = omega (arith, n) in
+            let same = c.column_in_turn-a.ensures.later one in
+            let up : turn + 1 - 1 ≡ turn = omega arith in
+            let more = tried_more w c.args.m.now.columns turn one (subst (λ a. 1 ≤ w a) same some) in
+            rw up (omega (arith, c.loop-turn.invariant.ticks, more))
+      ]
+
+  pub in_all : c.grow_from_column.new.steps
+      ≤ c.args.steps.now + (c.args.m.now.columns + 1) + (c.args.m.now.columns + c.args.m.now.columns * sum_to (weight c.args.m.now c.args.near.now) c.args.m.now.columns)
+      + marked_ones (drop c.args.near.now.first c.args.m.now.rows) c.grow_from_column.new.marks + most_weight c.args.m.now c.args.near.now
+  in_all =
+      let part = tried_part (weight c.args.m.now c.args.near.now) c.args.m.now.columns (c.loop-turn.turn + 1 - 1) c.args.m.now.columns (omega (arith, c.loop-turn-test.true, c.columns-columns.ensures.columns)) in
+      omega (arith, tried, part, c.tick.ensures, c.grow_from_column.ensures.ticks, c.loop-turn-test.true, c.columns-columns.ensures.columns)
+
+  pub in_square : c.grow_from_column.new.steps
+      ≤ c.args.steps.now + (c.args.m.now.columns + 1) + (c.args.m.now.columns * c.args.m.now.columns + c.args.m.now.columns) + marked_ones (drop c.args.near.now.first c.args.m.now.rows) c.grow_from_column.new.marks
+      + most_weight c.args.m.now c.args.near.now
+  in_square =
+      let few : c.loop-turn.turn * c.args.m.now.columns ≤ c.args.m.now.columns * c.args.m.now.columns = mul-le c.loop-turn.turn c.args.m.now.columns c.args.m.now.columns c.args.m.now.columns (omega (arith, c.loop-turn-test.true, c.columns-columns.ensures.columns)) (omega arith) in
+      omega (arith, few, c.loop-turn.invariant.square, c.tick.ensures, c.grow_from_column.ensures.ticks, c.loop-turn-test.true, c.columns-columns.ensures.columns)
+
+-- the same after a turn in which trees were grown
+module _ (g : given.Over) (c : After-grow_from_column g) where
+  rows_same : c.grow_from_column.new.marks.rows ≡ c.args.further
+  rows_same = c.grow_from_column.ensures.sizes.0 ∙ c.loop-turn.invariant.searched.count
+
+  columns_same : c.grow_from_column.new.marks.columns ≡ c.args.m.now.columns
+  columns_same = c.grow_from_column.ensures.sizes.1 ∙ c.loop-turn.invariant.searched.search.columns
+
+  has_columns : 1 ≤ c.args.m.now.columns
+  has_columns = omega (arith, c.columns-columns.ensures.range.0, c.columns-columns.ensures.columns)
+
+  pub turn_ticks : c.grow_from_column.new.steps + sum_by length (take (c.args.near.now.first + c.args.further) c.args.m.now.rows)
+      ≤ c.args.steps.now + 3 * (c.args.m.now.columns * sum_by length (take (c.args.near.now.first + c.args.further) c.args.m.now.rows)) + 2 * c.args.m.now.columns + 1
+  turn_ticks = bounded c.args.m.now c.args.near.now c.args.further c.requires.near c.requires.rows has_columns c.grow_from_column.new.marks rows_same columns_same c.args.steps.now c.grow_from_column.new.steps (in_all g c)
+
+  pub turn_square : c.grow_from_column.new.steps + sum_by length (take (c.args.near.now.first + c.args.further) c.args.m.now.rows)
+      ≤ c.args.steps.now + 2 * (c.args.m.now.columns * sum_by length (take (c.args.near.now.first + c.args.further) c.args.m.now.rows)) + c.args.m.now.columns * c.args.m.now.columns + 2 * c.args.m.now.columns + 1
+  turn_square = squared c.args.m.now c.args.near.now c.args.further c.requires.near c.requires.rows has_columns c.grow_from_column.new.marks rows_same columns_same c.args.steps.now c.grow_from_column.new.steps (in_square g c)
 
 pub loop-turn-preserved : goal.loop-turn-preserved
 loop-turn-preserved g c =
@@ -48,7 +152,13 @@ loop-turn-preserved g c =
           let one : 1 ≤ turn = omega arith in
           subst (IsSearched m near c.args.further marks forest) (omega arith) (searched_more m near c.args.further c.loop-turn.marks marks c.loop-turn.forest forest (turn - 1) c.column_in_turn-a.result x grown (omega (arith, c.column_in_turn-a.ensures.later one)))
     ] in
-    record { searched = next; ticks = omega arith }
+    let spent = c.in_ok-conflict.ensures.spent none in
+    record {
+      searched = next;
+      first = λ e. absurd (omega (arith, e));
+      ticks = omega (arith, tried g (goal.at.loop-turn-preserved g c).After-grow_from_column, c.tick.ensures, spent);
+      square = (let more : (turn + 1) * m.columns ≡ turn * m.columns + m.columns = grind arith in omega (arith, c.loop-turn.invariant.square, c.tick.ensures, more, spent));
+    }
 
 pub returns-in-Some-clause-found : goal.returns-in-Some-clause-found
 returns-in-Some-clause-found g c =
@@ -60,24 +170,39 @@ returns-in-Some-clause-found g c =
 
 pub returns-clause-found : goal.returns-clause-found
 returns-clause-found g c =
-    searched_all c.gap_law.ensures c.args.m.now c.args.near.now c.args.further c.loop-turn.marks c.loop-turn.forest (c.loop-turn.turn - 1) c.requires.near c.loop-turn.invariant.searched (omega (arith, c.columns-columns.ensures.columns))
+    searched_all c.gap_law.ensures c.args.m.now c.args.near.now c.args.further c.loop-turn.marks c.loop-turn.forest (c.loop-turn.turn - 1) c.requires.near c.requires.none c.loop-turn.invariant.searched (omega (arith, c.columns-columns.ensures.columns))
 
 pub returns-in_err-conflict-clause-ticks : goal.returns-in_err-conflict-clause-ticks
-returns-in_err-conflict-clause-ticks g c =
-    let x = c.loop-turn.invariant.searched in
-    marked_within c.args.m.now.rows c.args.near.now.first c.args.further c.args.m.now.columns c.grow_from_column.new.marks c.args.steps.now c.grow_from_column.new.steps c.requires.rows (c.grow_from_column.ensures.sizes.0 ∙ x.count) (c.grow_from_column.ensures.sizes.1 ∙ x.search.columns) (omega arith)
+returns-in_err-conflict-clause-ticks g c = turn_ticks g (goal.at.returns-in_err-conflict-clause-ticks g c).After-grow_from_column
+
+pub returns-in_err-conflict-clause-square : goal.returns-in_err-conflict-clause-square
+returns-in_err-conflict-clause-square g c = turn_square g (goal.at.returns-in_err-conflict-clause-square g c).After-grow_from_column
 
 pub returns-in_err-closed_walk-clause-ticks : goal.returns-in_err-closed_walk-clause-ticks
-returns-in_err-closed_walk-clause-ticks g c =
-    let x = c.loop-turn.invariant.searched in
-    marked_within c.args.m.now.rows c.args.near.now.first c.args.further c.args.m.now.columns c.grow_from_column.new.marks c.args.steps.now c.grow_from_column.new.steps c.requires.rows (c.grow_from_column.ensures.sizes.0 ∙ x.count) (c.grow_from_column.ensures.sizes.1 ∙ x.search.columns) (omega arith)
+returns-in_err-closed_walk-clause-ticks g c = turn_ticks g (goal.at.returns-in_err-closed_walk-clause-ticks g c).After-grow_from_column
+
+pub returns-in_err-closed_walk-clause-square : goal.returns-in_err-closed_walk-clause-square
+returns-in_err-closed_walk-clause-square g c = turn_square g (goal.at.returns-in_err-closed_walk-clause-square g c).After-grow_from_column
 
 pub returns-in-Some-clause-ticks : goal.returns-in-Some-clause-ticks
-returns-in-Some-clause-ticks g c =
-    let x = c.loop-turn.invariant.searched in
-    marked_within c.args.m.now.rows c.args.near.now.first c.args.further c.args.m.now.columns c.grow_from_column.new.marks c.args.steps.now c.grow_from_column.new.steps c.requires.rows (c.grow_from_column.ensures.sizes.0 ∙ x.count) (c.grow_from_column.ensures.sizes.1 ∙ x.search.columns) (omega arith)
+returns-in-Some-clause-ticks g c = turn_ticks g (goal.at.returns-in-Some-clause-ticks g c).After-grow_from_column
+
+pub returns-in-Some-clause-square : goal.returns-in-Some-clause-square
+returns-in-Some-clause-square g c = turn_square g (goal.at.returns-in-Some-clause-square g c).After-grow_from_column
 
 pub returns-clause-ticks : goal.returns-clause-ticks
 returns-clause-ticks g c =
     let x = c.loop-turn.invariant.searched in
-    marked_within c.args.m.now.rows c.args.near.now.first c.args.further c.args.m.now.columns c.loop-turn.marks c.args.steps.now c.loop-turn.steps c.requires.rows x.count x.search.columns (omega arith)
+    let range = c.columns-columns.ensures in
+    let part = tried_part (weight c.args.m.now c.args.near.now) c.args.m.now.columns (c.loop-turn.turn - 1) c.args.m.now.columns (omega (arith, c.loop-turn.auto.turn-end, range.columns)) in
+    bounded c.args.m.now c.args.near.now c.args.further c.requires.near c.requires.rows (omega (arith, range.range.0, range.columns)) c.loop-turn.marks x.count x.search.columns c.args.steps.now c.loop-turn.steps
+    (omega (arith, c.loop-turn.invariant.ticks, all_most c.args.m.now c.args.near.now (take (c.args.near.now.first + c.loop-turn.marks.rows) c.args.m.now.rows) c.loop-turn.forest x.search.is_forest, part, c.loop-turn.auto.turn-end, range.columns))
+
+pub returns-clause-square : goal.returns-clause-square
+returns-clause-square g c =
+    let x = c.loop-turn.invariant.searched in
+    let range = c.columns-columns.ensures in
+    let few : c.loop-turn.turn * c.args.m.now.columns ≤ (c.args.m.now.columns + 1) * c.args.m.now.columns = mul-le c.loop-turn.turn c.args.m.now.columns (c.args.m.now.columns + 1) c.args.m.now.columns (omega (arith, c.loop-turn.auto.turn-end, range.columns)) (omega arith) in
+    let whole : (c.args.m.now.columns + 1) * c.args.m.now.columns ≡ c.args.m.now.columns * c.args.m.now.columns + c.args.m.now.columns = grind arith in
+    squared c.args.m.now c.args.near.now c.args.further c.requires.near c.requires.rows (omega (arith, range.range.0, range.columns)) c.loop-turn.marks x.count x.search.columns c.args.steps.now c.loop-turn.steps
+    (omega (arith, c.loop-turn.invariant.square, all_most c.args.m.now c.args.near.now (take (c.args.near.now.first + c.loop-turn.marks.rows) c.args.m.now.rows) c.loop-turn.forest x.search.is_forest, few, whole, c.loop-turn.auto.turn-end, range.columns))

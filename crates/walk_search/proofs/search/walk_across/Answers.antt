@@ -1,12 +1,12 @@
-use Rattle.std.proofs.Common.{◌≡◌, ◌+◌, ◌-◌, ◌≤◌, take, refl, subst, arith}
+use Rattle.std.proofs.Common.{◌≡◌, ◌+◌, ◌-◌, take, drop, length, sum_by, refl, subst, arith}
 use Rattle.row_model.specs.Graph.{HasOddWalk}
 use Rattle.row_model.specs.Cycles.{IsOddWalk}
 use Rattle.row_model.proofs.Walks.{conflict_odd}
-use Rattle.walk_search.proofs.NearLaws.{near_along, across_bound}
+use Rattle.walk_search.proofs.NearLaws.{near_along, first_ones, across_early, across_bound}
 use Rattle.walk_search.proofs.search.walk_across.Goals as goal
 
-pub search-requires-clause-near : goal.search-requires-clause-near
-search-requires-clause-near g c =
+pub search_along-requires-clause-near : goal.search_along-requires-clause-near
+search_along-requires-clause-near g c =
     near_along c.args.m.now c.args.k c.args.gaps.order c.args.gaps c.in_ok-holders.holders c.requires.order refl c.requires.gaps c.in_ok-holders.ensures.holders
 
 pub returns-clause-walk : goal.returns-clause-walk
@@ -23,18 +23,17 @@ unreachable-requires g c =
 
 pub returns-in_err-holders-clause-ticks : goal.returns-in_err-holders-clause-ticks
 returns-in_err-holders-clause-ticks g c =
+    let last = sum_by length (take 1 (drop (c.args.k - 1) c.args.m.now.rows)) in
+    let all = first_ones c.args.m.now.rows c.args.k c.requires.row.0 in
     let p = c.requires.refused.is_pair in
-    let some : 1 ≤ c.args.m.now.columns = omega (arith, p.a_from, p.a_to) in
-    across_bound c.args.m.now.rows c.args.m.now.columns c.args.k c.args.steps.now c.rows_by_column.new.steps c.rows_by_column.new.steps some c.requires.row.0 (omega arith) (omega arith)
+    across_early c.args.m.now.columns (sum_by length (take c.args.k c.args.m.now.rows)) (sum_by length (take (c.args.k - 1) c.args.m.now.rows)) last c.args.steps.now c.rows_by_column.new.steps (omega (arith, p.a_from, p.a_to)) all c.rows_by_column.ensures.ticks
 
 pub returns-in_err-walk-clause-ticks : goal.returns-in_err-walk-clause-ticks
 returns-in_err-walk-clause-ticks g c =
-    let p = c.requires.refused.is_pair in
-    let some : 1 ≤ c.args.m.now.columns = omega (arith, p.a_from, p.a_to) in
-    across_bound c.args.m.now.rows c.args.m.now.columns c.args.k c.args.steps.now c.rows_by_column.new.steps c.search.new.steps some c.requires.row.0 (omega arith) (omega arith)
+    let up : c.args.k - 1 + 1 ≡ c.args.k = omega (arith, c.requires.row.0) in
+    across_bound c.args.m.now.rows c.args.m.now.columns c.args.k c.args.steps.now c.rows_by_column.new.steps c.search_along.new.steps c.requires.row.0 c.rows_by_column.ensures.ticks (rw up at c.search_along.ensures.ticks)
 
 pub returns-clause-ticks : goal.returns-clause-ticks
 returns-clause-ticks g c =
-    let p = c.requires.refused.is_pair in
-    let some : 1 ≤ c.args.m.now.columns = omega (arith, p.a_from, p.a_to) in
-    across_bound c.args.m.now.rows c.args.m.now.columns c.args.k c.args.steps.now c.rows_by_column.new.steps c.search.new.steps some c.requires.row.0 (omega arith) (omega arith)
+    let up : c.args.k - 1 + 1 ≡ c.args.k = omega (arith, c.requires.row.0) in
+    across_bound c.args.m.now.rows c.args.m.now.columns c.args.k c.args.steps.now c.rows_by_column.new.steps c.search_along.new.steps c.requires.row.0 c.rows_by_column.ensures.ticks (rw up at c.search_along.ensures.ticks)
