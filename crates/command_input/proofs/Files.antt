@@ -16,6 +16,7 @@ use Rattle.pq_tree.specs.declared.PqTree.{PqTree}
 use Rattle.pq_tree.proofs.Runs.{run_on, run_stop}
 use Rattle.pq_tree.proofs.Found.{IsFound, tree_of_found}
 use Rattle.pq_tree.proofs.Again.{tree_of_proper}
+use Rattle.command_input.proofs.TreeReading.{reads_same}
 use Rattle.command_input.specs.TreeFiles.{end_length, without_end, read_tree, tree_file, IsLineEnd, WritesTree, TreeFileLaw, TreeRefusalLaw}
 use Rattle.command_input.specs.declared.TheConstants.{TREE_CODE}
 
@@ -142,9 +143,9 @@ read_of c text t few proper end is e =
     ap (tree_of c) left ∙ tree_of_proper c t (omega (arith, few)) proper
 
 -- where the file is not too long
-short_file : (c : ℕ) (bytes : List ℕ) → length bytes ≤ MAX_FILE_BYTES → tree_file c bytes ≡ read_tree (tree_of c (without_end (without_mark bytes)))
+short_file : (c : ℕ) (bytes : List ℕ) → c < 2 ^ 64 → length bytes ≤ MAX_FILE_BYTES → tree_file c bytes ≡ read_tree (tree_of c (without_end (without_mark bytes)))
 unfolding tree_file
-short_file c bytes h = rw (le-ltb MAX_FILE_BYTES (length bytes) h) refl
+short_file c bytes small h = rw (le-ltb MAX_FILE_BYTES (length bytes) h) (ap read_tree (reads_same c (without_end (without_mark bytes)) small))
 
 pub long_file : (c : ℕ) (bytes : List ℕ) → MAX_FILE_BYTES < length bytes → tree_file c bytes ≡ read.Refused (record { code = LIMIT; line = 0 })
 unfolding tree_file
@@ -163,8 +164,8 @@ written c bytes t few e =
 
 pub file_law : TreeFileLaw
 file_law c bytes t few short = (
-  λ e. written c bytes t few (of_read (tree_of c (without_end (without_mark bytes))) (sym (short_file c bytes short) ∙ e)),
-  λ w. short_file c bytes short ∙ ap read_tree (read_of c (without_mark bytes) t few w.proper w.end w.is_end w.text),
+  λ e. written c bytes t few (of_read (tree_of c (without_end (without_mark bytes))) (sym (short_file c bytes (omega (arith, few)) short) ∙ e)),
+  λ w. short_file c bytes (omega (arith, few)) short ∙ ap read_tree (read_of c (without_mark bytes) t few w.proper w.end w.is_end w.text),
 )
   where
     of_read : (o : Option Outline) → read_tree o ≡ read.Ok t → o ≡ Some t
@@ -175,7 +176,7 @@ pub refusal_law : TreeRefusalLaw
 refusal_law =
     record {
       none = λ c bytes few short no.
-          short_file c bytes short ∙
+          short_file c bytes (omega (arith, few)) short ∙
           (elim (tree_of c (without_end (without_mark bytes))) as (λ o. tree_of c (without_end (without_mark bytes)) ≡ o → read_tree o ≡ read.Refused (record { code = TREE_CODE; line = 0 })) [
             | Some t ↦ λ e. absurd (no t (written c bytes t few e))
             | None ↦ λ e. refl
@@ -188,13 +189,13 @@ pub parsed_tree : (c : ℕ) (bytes : List ℕ) (t : PqTree) → 1 ≤ c → c < 
     read.Ok (outline t) ≡ tree_file c bytes
 parsed_tree c bytes t from small e text short =
     let proper : IsProper c (outline t) = subst (λ k. IsProper k (outline t)) e t.proper in
-    sym (short_file c bytes short ∙ ap read_tree (ap (tree_of c) text ∙ tree_of_proper c (outline t) small proper))
+    sym (short_file c bytes small short ∙ ap read_tree (ap (tree_of c) text ∙ tree_of_proper c (outline t) small proper))
 
 pub parsed_none : (c : ℕ) (bytes : List ℕ) → c < 2 ^ 64 → ((t : Outline) → IsProper c t → without_end (without_mark bytes) ≢ tree_text t) → length bytes ≤ MAX_FILE_BYTES →
     read.Refused (record { code = TREE_CODE; line = 0 }) ≡ tree_file c bytes
 parsed_none c bytes small none short =
     let text = without_end (without_mark bytes) in
-    sym (short_file c bytes short ∙
+    sym (short_file c bytes small short ∙
     (elim (tree_of c text) as (λ o. tree_of c text ≡ o → read_tree o ≡ read.Refused (record { code = TREE_CODE; line = 0 })) [
       | Some t ↦ λ e. let f : IsFound c t text = tree_of_found c text t small e in absurd (none t f.proper (sym f.text))
       | None ↦ λ e. refl

@@ -12,7 +12,7 @@ use Rattle.matrix_read.specs.Table.{table}
 use Rattle.matrix_read.specs.Clones.{clones}
 use Rattle.matrix_read.specs.Limits.{IsWithinLimits, LimitsLaw}
 use Rattle.text_lines.specs.FirstRefusal.{RefusesLong}
-use Rattle.graph_read.specs.GraphFiles.{bigraph, graph}
+use Rattle.graph_read.specs.Files.{bigraph, graph}
 use Rattle.graph_read.specs.DistanceFiles.{distances}
 use Rattle.graph_read.specs.FileLaws.{BigraphLaw, GraphLaw, DistancesLaw}
 use Rattle.instance_model.specs.Instance.{InstanceValue, plain, circular, convex, doubly, proper, robinson, IsPlainKind}

@@ -10,7 +10,7 @@ use Rattle.matrix_read.specs.Dense.{dense}
 use Rattle.matrix_read.specs.Sparse.{sparse}
 use Rattle.matrix_read.specs.Table.{table}
 use Rattle.matrix_read.specs.Clones.{clones}
-use Rattle.graph_read.specs.GraphFiles.{bigraph, graph}
+use Rattle.graph_read.specs.Files.{bigraph, graph}
 use Rattle.graph_read.specs.DistanceFiles.{distances}
 use Rattle.instance_model.specs.Instance.{InstanceValue, plain, circular, convex, doubly, proper, robinson, instance_kind, IsInstance, IsWellFormed}
 use Rattle.instance_model.specs.Value.{instance_value}

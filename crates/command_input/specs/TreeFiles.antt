@@ -1,5 +1,6 @@
 -- The file of a tree.
-use Rattle.std.specs.Prelude.{◌≡◌, ◌⊎◌, ◌↔◌, ℕ, ◌-◌, ◌<◌, ◌≤◌, ◌==◌, nat_lt, if◌then◌else◌, List, [], ◌++◌, length, take, slice_index, Option, Some, None, codes}
+use Rattle.std.specs.Prelude.{◌≡◌, ◌⊎◌, ◌↔◌, ℕ, ◌-◌, ◌<◌, ◌≤◌, ◌==◌, if◌then◌else◌, List, [], ◌++◌, length, take, slice_index, Option, Some, None, codes}
+use Rattle.row_model.specs.Limits.{within_length}
 use Rattle.row_model.specs.declared.refusal.Read.{Read}
 use Rattle.row_model.specs.declared.refusal.Read.TheVariants as read
 use Rattle.row_model.specs.declared.code.TheConstants.{LIMIT}
@@ -8,10 +9,10 @@ use Rattle.text_lines.specs.Lines.{without_mark}
 use Rattle.pq_tree.specs.Outline.{Outline}
 use Rattle.pq_tree.specs.Proper.{IsProper}
 use Rattle.pq_tree.specs.Text.{tree_text}
-use Rattle.pq_tree.specs.Reading.{tree_of}
 use Rattle.pq_tree.specs.PqTree.{column_count, outline}
 use Rattle.pq_tree.specs.declared.PqTree.{PqTree}
 use Rattle.command_input.specs.Instances.{map_read, IfRead}
+use Rattle.command_input.specs.TreeReading.{tree_in_text}
 use Rattle.command_input.specs.declared.TheConstants.{TREE_CODE}
 
 -- how many bytes the end of line at the end of a text has: a line feed, perhaps behind a carriage return, or nothing
@@ -31,9 +32,7 @@ read_tree None = read.Refused (record { code = TREE_CODE; line = 0 })
 -- The tree over 1 to c in the bytes of a file, or their refusal. A byte order mark at the start and an end of line at
 -- the end are no part of the tree's text.
 unfoldable pub tree_file : ℕ → List ℕ → Read Outline
-tree_file c bytes =
-    if nat_lt MAX_FILE_BYTES (length bytes) then read.Refused (record { code = LIMIT; line = 0 })
-    else read_tree (tree_of c (without_end (without_mark bytes)))
+tree_file c bytes = within_length bytes (read_tree (tree_in_text c (without_end (without_mark bytes))))
 
 -- the bytes of a file are read as this tree, or refused so
 abbrev pub ReadsTree : ℕ → List ℕ → Read PqTree → Type 0

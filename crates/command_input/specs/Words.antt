@@ -1,5 +1,6 @@
 -- The words of the command line, and the commands that they may be.
 use Rattle.std.specs.Prelude.{⊤, ℕ, ◌≤◌, nat_le, Bool, List, [], ◌∷◌, ◌&&◌, if◌then◌else◌, Option, Some, None, option_map, map, string_bytes, codes}
+use Rattle.std.specs.List.{find}
 use Rattle.std.specs.Str.{bytes_eq}
 use Rattle.std.specs.declared.string.String.{String}
 use Rattle.row_model.specs.declared.kind.Kind.{Kind}
@@ -41,8 +42,7 @@ texts words = map string_bytes words
 
 -- the kind of this word, among some
 abbrev pub kind_among : List Kind → List ℕ → Option Kind
-kind_among [] word = None
-kind_among (kind ∷ kinds) word = if bytes_eq word (kind_word kind) then Some kind else kind_among kinds word
+kind_among kinds word = find (λ kind. bytes_eq word (kind_word kind)) kinds
 
 -- the kind of this word
 abbrev pub kind_of : List ℕ → Option Kind

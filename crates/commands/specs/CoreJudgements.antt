@@ -15,16 +15,12 @@ use Rattle.commands.specs.declared.core_judgement.CoreJudgement.TheVariants as j
 abbrev pub HasCoreText : List ℕ → (TextValue → Type 0) → Type 0
 HasCoreText bytes P = (length bytes ≤ MAX_CORE_BYTES) × ((t : TextValue) × IsInGrammar t × (bytes ≡ core_text t) × P t)
 
--- the bytes are the text of no core
-abbrev pub IsNoCoreText : List ℕ → Type 0
-IsNoCoreText bytes = (t : TextValue) → IsInGrammar t → bytes ≢ core_text t
-
 -- What is found of the bytes: they are the text of a core that passes each test on the matrix; or the first test that fails, of which
 -- those of the length and of the grammar come before those of the text.
 abbrev pub IsCoreJudgement : Kind → RowList → List ℕ → CoreJudgement → Type 0
 IsCoreJudgement kind m bytes judgement.Valid = HasCoreText bytes (IsAcceptedCore m kind)
 IsCoreJudgement kind m bytes judgement.TooLong = MAX_CORE_BYTES < length bytes
-IsCoreJudgement kind m bytes judgement.NoCore = (length bytes ≤ MAX_CORE_BYTES) × IsNoCoreText bytes
+IsCoreJudgement kind m bytes judgement.NoCore = (length bytes ≤ MAX_CORE_BYTES) × ((t : TextValue) → IsInGrammar t → bytes ≢ core_text t)
 IsCoreJudgement kind m bytes (judgement.Fails r) = HasCoreText bytes (λ t. FailsCoreFirst m kind t r)
 
 -- the words of a reason
@@ -48,9 +44,7 @@ core_judgement_text (judgement.Fails r) = codes "invalid " ++ core_reason_text r
 -- the status that goes with it: 0 for valid, 1 for invalid
 abbrev pub core_judgement_status : CoreJudgement → ℕ
 core_judgement_status judgement.Valid = 0
-core_judgement_status judgement.TooLong = 1
-core_judgement_status judgement.NoCore = 1
-core_judgement_status (judgement.Fails r) = 1
+core_judgement_status other = 1
 
 -- the status and the text, one line, are those of what is found of the bytes
 pub record IsCoreJudgementReply (kind : Kind) (m : RowList) (bytes : List ℕ) (status : ℕ) (text : List ℕ) : Type 0 where

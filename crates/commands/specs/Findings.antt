@@ -12,16 +12,12 @@ use Rattle.commands.specs.declared.finding.Finding.TheVariants as finding
 abbrev pub HasUnit : List ℕ → (UnitValue → Type 0) → Type 0
 HasUnit bytes P = (length bytes ≤ MAX_VERDICT_BYTES) × ((t : UnitValue) × IsUnit t × (bytes ≡ unit_text t) × P t)
 
--- the bytes are the text of no unit model
-abbrev pub IsNoUnit : List ℕ → Type 0
-IsNoUnit bytes = (t : UnitValue) → IsUnit t → bytes ≢ unit_text t
-
 -- What is found of the bytes: they are the text of a unit model of the graph; or the first that keeps them from it: their
 -- length, the grammar, the number of vertices, the length and the left ends.
 abbrev pub IsFinding : GraphValue → List ℕ → Finding → Type 0
 IsFinding g bytes finding.Valid = HasUnit bytes (IsUnitOf g)
 IsFinding g bytes finding.TooLong = MAX_VERDICT_BYTES < length bytes
-IsFinding g bytes finding.NoUnit = (length bytes ≤ MAX_VERDICT_BYTES) × IsNoUnit bytes
+IsFinding g bytes finding.NoUnit = (length bytes ≤ MAX_VERDICT_BYTES) × ((t : UnitValue) → IsUnit t → bytes ≢ unit_text t)
 IsFinding g bytes finding.Vertices = HasUnit bytes (λ t. t.vertices ≢ g.vertices)
 IsFinding g bytes finding.Model = HasUnit bytes (λ t. (t.vertices ≡ g.vertices) × (IsUnitModel g t.size t.lefts → ⊥))
 
@@ -36,10 +32,7 @@ finding_text finding.Model = codes "invalid model"
 -- the status that goes with it: 0 for valid, 1 for invalid
 abbrev pub finding_status : Finding → ℕ
 finding_status finding.Valid = 0
-finding_status finding.TooLong = 1
-finding_status finding.NoUnit = 1
-finding_status finding.Vertices = 1
-finding_status finding.Model = 1
+finding_status other = 1
 
 -- the status and the text, one line, are those of what is found of the bytes
 pub record IsFindingReply (g : GraphValue) (bytes : List ℕ) (status : ℕ) (text : List ℕ) : Type 0 where

@@ -16,16 +16,12 @@ use Rattle.commands.specs.declared.judgement.Judgement.TheVariants as judgement
 abbrev pub HasVerdict : List ℕ → (VerdictValue → Type 0) → Type 0
 HasVerdict bytes P = (length bytes ≤ MAX_VERDICT_BYTES) × ((v : VerdictValue) × IsVerdict v × (bytes ≡ verdict_text v) × P v)
 
--- the bytes are the text of no verdict
-abbrev pub IsNoVerdict : List ℕ → Type 0
-IsNoVerdict bytes = (v : VerdictValue) → IsVerdict v → bytes ≢ verdict_text v
-
 -- What is found of the bytes: they are the text of a verdict that passes each test on the instance; or the first test
 -- that fails, of which those of the length and of the grammar come before those of the verdict.
 abbrev pub IsJudgement : InstanceValue → List ℕ → Judgement → Type 0
 IsJudgement i bytes judgement.Valid = HasVerdict bytes (IsAccepted i)
 IsJudgement i bytes judgement.TooLong = MAX_VERDICT_BYTES < length bytes
-IsJudgement i bytes judgement.NoVerdict = (length bytes ≤ MAX_VERDICT_BYTES) × IsNoVerdict bytes
+IsJudgement i bytes judgement.NoVerdict = (length bytes ≤ MAX_VERDICT_BYTES) × ((v : VerdictValue) → IsVerdict v → bytes ≢ verdict_text v)
 IsJudgement i bytes (judgement.Fails r) = HasVerdict bytes (λ v. FailsFirst i v r)
 
 -- the words of a reason
@@ -53,9 +49,7 @@ judgement_text (judgement.Fails r) = codes "invalid " ++ reason_text r
 -- the status that goes with it: 0 for valid, 1 for invalid
 abbrev pub judgement_status : Judgement → ℕ
 judgement_status judgement.Valid = 0
-judgement_status judgement.TooLong = 1
-judgement_status judgement.NoVerdict = 1
-judgement_status (judgement.Fails r) = 1
+judgement_status other = 1
 
 -- the status and the text, one line, are those of what is found of the bytes
 pub record IsJudgementReply (i : InstanceValue) (bytes : List ℕ) (status : ℕ) (text : List ℕ) : Type 0 where

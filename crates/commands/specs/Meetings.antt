@@ -13,15 +13,11 @@ use Rattle.tree_meet.specs.TreeRows.{rows_of_tree}
 use Rattle.odd_cycle.specs.Short.{IsShort}
 use Rattle.tree_meet.specs.Meets.{IsCommon, joint_rows}
 
--- the first three lines: the number of columns, and the numbers of rows of both trees
-abbrev pub meet_head_of : ℕ → ℕ → ℕ → List ℕ
-meet_head_of columns first second =
-    codes "pq-meet 1\ncolumns " ++ (decimal columns ++
-    (codes "\nrows " ++ (decimal first ++ (codes " " ++ (decimal second ++ codes "\n")))))
-
--- the same of two trees over 1 to c
+-- the first three lines: the number of columns, and the numbers of rows of both trees over 1 to c
 abbrev pub meet_head : ℕ → Outline → Outline → List ℕ
-meet_head c t u = meet_head_of c (length (rows_of_tree c t)) (length (rows_of_tree c u))
+meet_head c t u =
+    codes "pq-meet 1\ncolumns " ++ (decimal c ++
+    (codes "\nrows " ++ (decimal (length (rows_of_tree c t)) ++ (codes " " ++ (decimal (length (rows_of_tree c u)) ++ codes "\n")))))
 
 -- a canonical tree over 1 to c with exactly the common frontiers of two trees, and its leaves from left to right
 pub record ShowsCommon (c : ℕ) (t u : Outline) (side : SideValue) : Type 0 where

@@ -16,8 +16,8 @@ rows_at rows numbers = map (row_at rows) numbers
 abbrev pub but : ℕ → List ℕ → List ℕ
 but k numbers = filter (λ j. not (j == k)) numbers
 
--- a core: rows that have no valid order together, while for each of them the others have one
+-- a core: numbers of rows, strictly ascending, that have no valid order together, while for each of them the others have one
 pub record IsCore (m : RowList) (core : List ℕ) : Type 0 where
-  pub rows : AreRowNumbers (length m.rows) core
+  pub rows : Ascends (length m.rows) 0 core
   pub none : HasValidOrder m.columns (rows_at m.rows core) → ⊥
   pub others : (k : ℕ) → IsTrue (has core k) → HasValidOrder m.columns (rows_at m.rows (but k core))

@@ -14,13 +14,9 @@ pub record TextValue : Type 0 where
   pub columns : ℕ
   pub parts : CoreParts
 
--- one number or more
-abbrev pub AreColumns : List ℕ → Type 0
-AreColumns order = (1 ≤ length order) × AllByRecursion Fits32 order
-
--- a row and its order
+-- a row and its order: one number or more
 abbrev pub IsEntry : (ℕ × List ℕ) → Type 0
-IsEntry entry = Fits32 entry.0 × AreColumns entry.1
+IsEntry entry = Fits32 entry.0 × ((1 ≤ length entry.1) × AllByRecursion Fits32 entry.1)
 
 -- the rows with their orders
 abbrev pub entries : CoreParts → List (ℕ × List ℕ)

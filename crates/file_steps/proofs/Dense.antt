@@ -1,7 +1,7 @@
 -- A matrix in lines of digits has no more columns, rows and ones than there are bytes.
 use Rattle.std.proofs.Common.{◌≡◌, ℕ, ◌+◌, ◌≤◌, Bool, true, false, if◌then◌else◌, ◌==◌, ◌&&◌, nat_lt, List, [], ◌∷◌, length, map, sum_by, Option, Some, None, refl, sym, ap, subst, arith}
 use Rattle.std.specs.Prelude.{⊤, slice_index_or, ◌-◌}
-use Rattle.std.specs.List.{filter, range_with_len}
+use Rattle.std.specs.List.{filter, onto_first, range_with_len}
 use Rattle.std.proofs.lemmas.Bool.{false≢true}
 use Rattle.std.proofs.lemmas.List.FromFn.{length-range_with_len}
 use Rattle.std.proofs.lemmas.List.Sums.{sum_by-cons}
@@ -10,9 +10,12 @@ use Rattle.row_model.specs.declared.refusal.Refusal.{Refusal}
 use Rattle.row_model.specs.declared.refusal.Read.{Read}
 use Rattle.row_model.specs.declared.refusal.Read.TheVariants as read
 use Rattle.row_model.specs.declared.TheConstants.{MAX_FILE_BYTES}
-use Rattle.text_lines.specs.Lines.{without_mark, before_first, line_parts, without_return, lines_of, is_blank, NumberedLine, filled_lines}
+use Rattle.std.specs.Str.Lines.{strip_carriage_return}
+use Rattle.text_lines.proofs.LineLemmas.{strip_is, length-without_return-le}
+use Rattle.text_lines.specs.Lines.{without_mark, line_parts, lines_of, is_blank, NumberedLine, filled_lines}
 use Rattle.text_lines.specs.Rows.{refused_or}
-use Rattle.matrix_read.specs.Dense.{is_digit, digits_of, width_of, digit_row, digit_rows, digit_matrix, read_lines, dense}
+use Rattle.matrix_read.specs.Dense.{is_digit, digits_of, width_of, digit_row, digit_matrix, dense, dense_lines}
+use Rattle.matrix_read.specs.DenseSteps.{digit_rows}
 use Rattle.file_steps.specs.Sizes.{IsWithinBytes}
 
 -- a text without its mark is no longer
@@ -27,11 +30,11 @@ unmarked_short (a ∷ b ∷ []) = omega arith
 unmarked_short (a ∷ b ∷ c ∷ bytes) = mark_short ((a == 239) && (b == 187) && (c == 191)) a b c bytes
 
 -- the parts of a text have no more bytes together
-before_short : (b : ℕ) (lines : List (List ℕ)) → sum_by length (before_first b lines) ≤ sum_by length lines + 1
+before_short : (b : ℕ) (lines : List (List ℕ)) → sum_by length (onto_first b lines) ≤ sum_by length lines + 1
 before_short b [] = omega (arith, sum_by-cons length (b ∷ []) [])
 before_short b (line ∷ lines) = omega (arith, sum_by-cons length (b ∷ line) lines, sum_by-cons length line lines)
 
-part_short : (t : Bool) (b : ℕ) (lines : List (List ℕ)) → sum_by length (if t then [] ∷ lines else before_first b lines) ≤ sum_by length lines + 1
+part_short : (t : Bool) (b : ℕ) (lines : List (List ℕ)) → sum_by length (if t then [] ∷ lines else onto_first b lines) ≤ sum_by length lines + 1
 part_short true b lines = omega (arith, sum_by-cons length [] lines)
 part_short false b lines = before_short b lines
 
@@ -41,18 +44,12 @@ parts_short [] = omega arith
 parts_short (b ∷ bytes) = omega (arith, part_short (b == 10) b (line_parts bytes), parts_short bytes)
 
 -- nor have they without their carriage returns
-return_short : (t : Bool) (b : ℕ) → length (if t then [] else b ∷ []) ≤ 1
-return_short true b = omega arith
-return_short false b = omega arith
+returned_short : (line : List ℕ) → length (strip_carriage_return line) ≤ length line
+returned_short line = omega (arith, ap length (strip_is line), length-without_return-le line)
 
-returned_short : (line : List ℕ) → length (without_return line) ≤ length line
-returned_short [] = omega arith
-returned_short (b ∷ []) = return_short (b == 13) b
-returned_short (b ∷ c ∷ line) = omega (arith, returned_short (c ∷ line))
-
-lines_short : (lines : List (List ℕ)) → sum_by length (map without_return lines) ≤ sum_by length lines
+lines_short : (lines : List (List ℕ)) → sum_by length (map strip_carriage_return lines) ≤ sum_by length lines
 lines_short [] = omega arith
-lines_short (line ∷ lines) = omega (arith, sum_by-cons length (without_return line) (map without_return lines), sum_by-cons length line lines, returned_short line, lines_short lines)
+lines_short (line ∷ lines) = omega (arith, sum_by-cons length (strip_carriage_return line) (map strip_carriage_return lines), sum_by-cons length line lines, returned_short line, lines_short lines)
 
 -- a filter leaves no more
 filter_step : {A : Type 0} (t : Bool) (x : A) (rest : List A) → length (if t then x ∷ rest else rest) ≤ 1 + length rest
@@ -144,7 +141,7 @@ first_row first lines = record {
   ones = rows_short (first ∷ lines);
 }
 
-lines_read : (lines : List NumberedLine) (m : RowList) → read_lines lines ≡ read.Ok m → IsWithinLines lines m
+lines_read : (lines : List NumberedLine) (m : RowList) → dense_lines lines ≡ read.Ok m → IsWithinLines lines m
 lines_read [] m e = absurd (not_refused _ m e)
 lines_read (first ∷ lines) m e = subst (IsWithinLines (first ∷ lines)) (if_taken _ (digit_matrix (width_of first.text) (first ∷ lines)) m e) (first_row first lines)
 
@@ -153,7 +150,7 @@ unfolding dense
 dense_sizes bytes m e =
     let text = without_mark bytes in
     let lines = filled_lines 1 (lines_of text) in
-    let made = lines_read lines m (if_inside (nat_lt MAX_FILE_BYTES (length bytes)) _ (read_lines lines) m e) in
+    let made = lines_read lines m (if_inside (nat_lt MAX_FILE_BYTES (length bytes)) _ (dense_lines lines) m e) in
     let all : sum_by length (lines_of text) ≤ length bytes = omega (arith, lines_short (line_parts text), parts_short text, unmarked_short bytes) in
     record {
       columns = omega (arith, made.columns, texts_short 1 (lines_of text), all);

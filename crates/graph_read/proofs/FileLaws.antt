@@ -10,7 +10,7 @@ use Rattle.graph_read.specs.declared.edges.Shape.{Shape}
 use Rattle.graph_read.specs.declared.edges.Shape.TheVariants.{Bipartite, Plain}
 use Rattle.graph_model.specs.Graphs.{BigraphValue, GraphValue}
 use Rattle.graph_read.specs.Edges.{both_ways, ends_from, edges_of, lists_from}
-use Rattle.graph_read.specs.GraphFiles.{bigraph, graph}
+use Rattle.graph_read.specs.Files.{bigraph, graph}
 use Rattle.graph_read.specs.FileLaws.{names_edge, IsEdgeLine, WritesBigraph, IsBigraphFile, BigraphLaw, IsPairLine, WritesGraph, IsGraphFile, GraphLaw, IsDistancesFile, DistancesLaw}
 use Rattle.graph_read.proofs.EdgeLemmas.{edge_inside, ends_either}
 use Rattle.graph_read.proofs.EdgeNames.{lines_name}
@@ -31,7 +31,7 @@ use Rattle.graph_read.proofs.WrittenLaws.{written_bigraph, written_graph}
 
 bigraph_file : (limit : ℕ) (bytes : List ℕ) (g : BigraphValue) → limit ≤ LEFT_BOUND → bigraph limit bytes ≡ read.Ok g → IsBigraphFile limit bytes g
 bigraph_file limit bytes g small h =
-    let found = bigraph_from limit g bytes h in
+    let found = bigraph_from limit g bytes small h in
     let r = found.1 in
     let known = bigraph_range limit (filled_of bytes) g small r in
     let shape : Shape = Bipartite r.left r.right in
@@ -66,7 +66,7 @@ graph_file bytes g h =
     record { graph = known.graph; vertices = known.vertices; short = found.0; writes = rw r.is writes }
 
 pub bigraph_law : BigraphLaw
-bigraph_law limit bytes g small = (bigraph_file limit bytes g small, λ file. written_bigraph limit bytes g file)
+bigraph_law limit bytes g small = (bigraph_file limit bytes g small, λ file. written_bigraph limit bytes g small file)
 
 pub graph_law : GraphLaw
 graph_law bytes g = (graph_file bytes g, λ file. written_graph bytes g file)

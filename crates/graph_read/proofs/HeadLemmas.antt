@@ -11,17 +11,20 @@ use Rattle.row_model.proofs.Limits.{too_long, short_enough}
 use Rattle.text_lines.specs.Lines.{NumberedLine, lines_of, filled_lines}
 use Rattle.text_lines.specs.FirstRefusal.{RefusesLong, HeadRefusals, IsOfFirstLine, filled_of}
 use Rattle.graph_read.specs.Heads.{IsHeadless, IsHead}
-use Rattle.graph_read.specs.GraphFiles.{bigraph, bigraph_lines, bigraph_behind, graph, graph_lines, graph_behind}
+use Rattle.graph_read.specs.GraphFiles.{bigraph_lines, bigraph_behind, graph_lines, graph_behind}
+use Rattle.graph_read.specs.Files.{bigraph, graph}
 use Rattle.graph_read.specs.DistanceFiles.{distances, distances_lines, distances_behind}
 use Rattle.graph_read.specs.RefusalLaws.{sides_head, vertices_head, items_head}
 use Rattle.graph_read.specs.declared.edges.Shape.{Shape}
+use Rattle.graph_model.specs.declared.TheConstants.{LEFT_BOUND}
+use Rattle.graph_read.proofs.Same.{bigraph_same, graph_same, distances_same}
 
 pub record ReadsBy {V : Type 0} (file : List ℕ → Read V) (lines : List NumberedLine → Read V) : Type 0 where
   pub long : RefusesLong file
   pub short : (bytes : List ℕ) → length bytes ≤ MAX_FILE_BYTES → file bytes ≡ lines (filled_of bytes)
   pub none : lines [] ≡ read.Refused (record { code = EMPTY; line = 0 })
 
-reads_by : {V : Type 0} (file : List ℕ → Read V) (lines : List NumberedLine → Read V) → ((bytes : List ℕ) → file bytes ≡ within_length bytes (lines (filled_of bytes))) →
+pub reads_by : {V : Type 0} (file : List ℕ → Read V) (lines : List NumberedLine → Read V) → ((bytes : List ℕ) → file bytes ≡ within_length bytes (lines (filled_of bytes))) →
     lines [] ≡ read.Refused (record { code = EMPTY; line = 0 }) → ReadsBy file lines
 reads_by file lines is none = record {
   long = λ bytes h. is bytes ∙ too_long bytes (lines (filled_of bytes)) h;
@@ -29,17 +32,14 @@ reads_by file lines is none = record {
   none = none;
 }
 
-pub bigraph_reads : (limit : ℕ) → ReadsBy (bigraph limit) (bigraph_lines limit)
-unfolding bigraph
-bigraph_reads limit = reads_by (bigraph limit) (bigraph_lines limit) (λ bytes. refl) refl
+pub bigraph_reads : (limit : ℕ) → limit ≤ LEFT_BOUND → ReadsBy (bigraph limit) (bigraph_lines limit)
+bigraph_reads limit small = reads_by (bigraph limit) (bigraph_lines limit) (bigraph_same limit small) refl
 
 pub graph_reads : ReadsBy graph graph_lines
-unfolding graph
-graph_reads = reads_by graph graph_lines (λ bytes. refl) refl
+graph_reads = reads_by graph graph_lines graph_same refl
 
 pub distances_reads : ReadsBy distances distances_lines
-unfolding distances
-distances_reads = reads_by distances distances_lines (λ bytes. refl) refl
+distances_reads = reads_by distances distances_lines distances_same refl
 
 -- a file without a first line is refused for that
 pub headless : {V : Type 0} (file : List ℕ → Read V) (lines : List NumberedLine → Read V) → ReadsBy file lines → (bytes : List ℕ) (refusal : Refusal) → IsHeadless bytes refusal → read.Refused refusal ≡ file bytes
@@ -92,9 +92,9 @@ module _ {V H : Type 0} (file : List ℕ → Read V) (lines : List NumberedLine 
   at_head : (bytes text line : List ℕ) (number next : ℕ) (found : Result H ℕ) → IsHead bytes text line number next → found ≡ head_in line → file bytes ≡ behind number found (rest_of text number next)
   at_head bytes text line number next found h is = behind_head bytes (record { number = number; text = line }) (rest_of text number next) found h.short h.lines (sym is)
 
-pub bigraph_at : (limit : ℕ) (bytes text line : List ℕ) (number next : ℕ) (sides : Result Shape ℕ) → IsHead bytes text line number next → sides ≡ sides_head limit line →
+pub bigraph_at : (limit : ℕ) → limit ≤ LEFT_BOUND → (bytes text line : List ℕ) (number next : ℕ) (sides : Result Shape ℕ) → IsHead bytes text line number next → sides ≡ sides_head limit line →
     bigraph limit bytes ≡ bigraph_behind number sides (rest_of text number next)
-bigraph_at limit = at_head (bigraph limit) (bigraph_lines limit) bigraph_behind (sides_head limit) (bigraph_reads limit) (λ head later. refl)
+bigraph_at limit small = at_head (bigraph limit) (bigraph_lines limit) bigraph_behind (sides_head limit) (bigraph_reads limit small) (λ head later. refl)
 
 pub graph_at : (bytes text line : List ℕ) (number next : ℕ) (vertices : Result Shape ℕ) → IsHead bytes text line number next → vertices ≡ vertices_head line →
     graph bytes ≡ graph_behind number vertices (rest_of text number next)

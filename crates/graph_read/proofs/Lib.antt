@@ -15,3 +15,4 @@ pub mod WrittenLaws
 pub mod Named
 pub mod RefusalLaws
 pub mod TableRefusals
+pub mod Same

@@ -21,7 +21,8 @@ use Rattle.graph_model.specs.Graphs.{BigraphValue, IsBigraph, GraphValue, IsGrap
 use Rattle.graph_model.specs.Distances.{DistancesValue}
 use Rattle.graph_read.specs.Numbers.{is_number, is_zero, is_past, value_of, both_numbers, two_numbers, if_number, one_number}
 use Rattle.graph_read.specs.Edges.{left_of, right_of, edges_of, edge_refusal, lists_of_lines, sides_named, vertices_named}
-use Rattle.graph_read.specs.GraphFiles.{bigraph, bigraph_with, bigraph_behind, bigraph_lines, graph, graph_with, graph_behind, graph_lines}
+use Rattle.graph_read.specs.GraphFiles.{bigraph_with, bigraph_behind, bigraph_lines, graph_with, graph_behind, graph_lines}
+use Rattle.graph_read.specs.Files.{bigraph, graph}
 use Rattle.graph_read.specs.DistanceFiles.{items_named, distances, distances_behind, distances_lines}
 use Rattle.graph_read.specs.DistanceSteps.{table_behind, distances_with}
 use Rattle.graph_read.specs.declared.edges.Shape.{Shape}
@@ -155,8 +156,8 @@ module _ (limit : ℕ) (g : BigraphValue) (first : NumberedLine) (later : List N
       no_plain : IsBipartite (Plain n) → ⊥
       no_plain k = k
 
-pub bigraph_from : (limit : ℕ) (g : BigraphValue) (bytes : List ℕ) → bigraph limit bytes ≡ read.Ok g → (length bytes ≤ MAX_FILE_BYTES) × BigraphRead limit (filled_of bytes) g
-bigraph_from limit g bytes h = given (bigraph limit) (bigraph_lines limit) bigraph_behind (sides_head limit) (bigraph_reads limit) (λ head later. refl) (BigraphRead limit) (λ head later found v e k. headed limit v head later found e k) bytes g h
+pub bigraph_from : (limit : ℕ) (g : BigraphValue) (bytes : List ℕ) → limit ≤ LEFT_BOUND → bigraph limit bytes ≡ read.Ok g → (length bytes ≤ MAX_FILE_BYTES) × BigraphRead limit (filled_of bytes) g
+bigraph_from limit g bytes small h = given (bigraph limit) (bigraph_lines limit) bigraph_behind (sides_head limit) (bigraph_reads limit small) (λ head later. refl) (BigraphRead limit) (λ head later found v e k. headed limit v head later found e k) bytes g h
 
 -- what is known of it
 pub record BigraphRange (limit : ℕ) (g : BigraphValue) : Type 0 where

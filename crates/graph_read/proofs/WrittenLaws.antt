@@ -11,6 +11,7 @@ use Rattle.text_lines.specs.Lines.{NumberedLine}
 use Rattle.text_lines.specs.Words.{words_of}
 use Rattle.text_lines.specs.Rows.{columns_among, refused_or}
 use Rattle.text_lines.specs.declared.words.Numeral.TheVariants.{Value}
+use Rattle.graph_model.specs.declared.TheConstants.{LEFT_BOUND}
 use Rattle.graph_read.specs.declared.edges.Edge.{Edge}
 use Rattle.graph_read.specs.declared.edges.Shape.{Shape}
 use Rattle.graph_read.specs.declared.edges.Shape.TheVariants.{Bipartite, Plain}
@@ -18,7 +19,8 @@ use Rattle.graph_model.specs.Graphs.{has_edge}
 use Rattle.graph_read.specs.Numbers.{is_within, two_numbers, one_number}
 use Rattle.graph_read.specs.Edges.{both_ways, ends_from, lists_from, edge_named, edges_of, edge_refusal, sides_named, vertices_named}
 use Rattle.graph_model.specs.Graphs.{BigraphValue, GraphValue}
-use Rattle.graph_read.specs.GraphFiles.{bigraph, graph, bigraph_with, bigraph_behind, bigraph_lines, graph_with, graph_behind, graph_lines}
+use Rattle.graph_read.specs.GraphFiles.{bigraph_with, bigraph_behind, bigraph_lines, graph_with, graph_behind, graph_lines}
+use Rattle.graph_read.specs.Files.{bigraph, graph}
 use Rattle.graph_read.specs.FileLaws.{IsEdgeLine, IsPairLine, names_edge, IsBigraphFile, IsGraphFile}
 use Rattle.graph_read.proofs.EdgeLemmas.{ends_either}
 use Rattle.graph_read.proofs.HeadLemmas.{bigraph_reads, graph_reads}
@@ -69,8 +71,8 @@ lists_same n c edges lists long rows same =
     row_among c (get_or lists i []) (ends_from (1 + i) edges) (rows i [] (omega arith)) (λ j lj.
     ap (λ k. has (get_or lists k []) (j + 1)) (sym at) ∙ same (1 + i) (j + 1) (omega arith) (omega arith) (omega arith) (omega arith)))
 
-pub written_bigraph : (limit : ℕ) (bytes : List ℕ) (g : BigraphValue) → IsBigraphFile limit bytes g → bigraph limit bytes ≡ read.Ok g
-written_bigraph limit bytes g file =
+pub written_bigraph : (limit : ℕ) (bytes : List ℕ) (g : BigraphValue) → limit ≤ LEFT_BOUND → IsBigraphFile limit bytes g → bigraph limit bytes ≡ read.Ok g
+written_bigraph limit bytes g small file =
     let is = file.bigraph in
     let w = file.writes in
     let shape : Shape = Bipartite g.left g.right in
@@ -80,7 +82,7 @@ written_bigraph limit bytes g file =
     lists_same g.left g.right edges g.neighbours is.lists is.ascending (λ x y px lx py ly. w.edges x y px lx py ly ∙ sym (lines_name x y px py shape w.later none)) in
     let sides : sides_named limit (two_numbers (words_of w.first.text)) ≡ Ok shape =
     rw (w.sizes, ne_eqb g.left 0 (λ e. absurd (omega (arith, is.left.0))), ne_eqb g.right 0 (λ e. absurd (omega (arith, is.right.0))), le-ltb limit g.left file.left, le-ltb MAX_COLUMNS g.right file.right) refl in
-    (bigraph_reads limit).short bytes file.short
+    (bigraph_reads limit small).short bytes file.short
     ∙ ap (bigraph_lines limit) w.are
     ∙ ap (λ s. bigraph_behind w.first.number s w.later) sides
     ∙ ap (λ refusal. bigraph_with shape (refused_or refusal (record { columns = g.right; rows = lists_from 1 g.left g.right edges }))) none

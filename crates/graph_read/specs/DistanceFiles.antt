@@ -7,9 +7,11 @@ use Rattle.row_model.specs.declared.refusal.Read.TheVariants as read
 use Rattle.row_model.specs.Limits.{within_length}
 use Rattle.row_model.specs.declared.TheConstants.{MAX_ITEMS}
 use Rattle.row_model.specs.declared.code.TheConstants.{EMPTY, GRAMMAR, COUNT, RANGE, LIMIT}
-use Rattle.text_lines.specs.Lines.{NumberedLine, without_mark, lines_of, filled_lines}
+use Rattle.text_lines.specs.Lines.{NumberedLine}
+use Rattle.text_lines.specs.FirstRefusal.{filled_of}
+use Rattle.text_lines.specs.Heads.{size_given, from_head}
 use Rattle.text_lines.specs.Rows.{first_refusal, refused_or}
-use Rattle.text_lines.specs.Words.{words_of}
+use Rattle.text_lines.specs.Words.{words_of, numbers_in}
 use Rattle.text_lines.specs.declared.words.Numeral.{Numeral}
 use Rattle.graph_model.specs.Distances.{DistancesValue}
 use Rattle.graph_read.specs.DistanceRows.{rows_in, next_row_code}
@@ -46,9 +48,13 @@ table_refusal n lines = earlier_or (first_refusal (row_line n lines) 0 lines) (m
 abbrev pub table_written : ℕ → List NumberedLine → DistancesValue
 table_written n lines = record { items = n; values = concat (rows_in lines) }
 
+-- the table of n items whose rows are the lines, or their first refusal
+abbrev pub distances_sized : ℕ → List NumberedLine → Read DistancesValue
+distances_sized n lines = refused_or (table_refusal n lines) (table_written n lines)
+
 -- the distances of the lines behind a first one, which has this number, or the first refusal
 abbrev pub distances_behind : ℕ → Result ℕ ℕ → List NumberedLine → Read DistancesValue
-distances_behind number (Ok n) lines = refused_or (table_refusal n lines) (table_written n lines)
+distances_behind number (Ok n) lines = distances_sized n lines
 distances_behind number (Err code) lines = read.Refused (record { code = code; line = number })
 
 -- the distances of lines that are not blank, or their first refusal
@@ -58,4 +64,4 @@ distances_lines (first ∷ lines) = distances_behind first.number (items_named (
 
 -- the distances of the bytes of a file, or their first refusal
 unfoldable pub distances : List ℕ → Read DistancesValue
-distances bytes = within_length bytes (distances_lines (filled_lines 1 (lines_of (without_mark bytes))))
+distances bytes = within_length bytes (from_head (λ line. size_given MAX_ITEMS (numbers_in line)) distances_sized (filled_of bytes))

@@ -9,7 +9,7 @@ use Rattle.text_lines.specs.declared.words.Numeral.TheVariants.{Value}
 use Rattle.graph_model.specs.Graphs.{has_edge, BigraphValue, IsBigraph, GraphValue, IsGraph}
 use Rattle.graph_model.specs.Distances.{DistancesValue, IsDistances}
 use Rattle.graph_read.specs.Numbers.{are_values, one_number, two_numbers}
-use Rattle.graph_read.specs.GraphFiles.{bigraph, graph}
+use Rattle.graph_read.specs.Files.{bigraph, graph}
 use Rattle.graph_read.specs.DistanceFiles.{distances}
 use Rattle.graph_model.specs.declared.TheConstants.{LEFT_BOUND}
 

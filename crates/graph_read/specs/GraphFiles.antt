@@ -1,20 +1,15 @@
--- The graphs that files write.
+-- The graphs that files write, as they are read: the numbers of a line in 64 bits, and the edges in a list.
 use Rattle.std.specs.Prelude.{ℕ, List, [], ◌∷◌, Result, Ok, Err}
-use Rattle.row_model.specs.Limits.{within_length}
 use Rattle.row_model.specs.Rows.{RowList}
 use Rattle.row_model.specs.declared.refusal.Read.{Read}
 use Rattle.row_model.specs.declared.refusal.Read.TheVariants as read
 use Rattle.row_model.specs.declared.code.TheConstants.{EMPTY}
-use Rattle.text_lines.specs.Lines.{NumberedLine, without_mark, lines_of, filled_lines}
+use Rattle.text_lines.specs.Lines.{NumberedLine}
 use Rattle.text_lines.specs.Words.{words_of}
 use Rattle.graph_model.specs.Graphs.{BigraphValue, GraphValue}
 use Rattle.graph_read.specs.Numbers.{one_number, two_numbers}
-use Rattle.graph_read.specs.Edges.{left_of, right_of, edges_of, lists_of, lists_of_lines, sides_named, vertices_named}
+use Rattle.graph_read.specs.Edges.{left_of, right_of, lists_of_lines, sides_named, vertices_named}
 use Rattle.graph_read.specs.declared.edges.Shape.{Shape}
-
--- the bipartite graph of the edges that lines name
-abbrev pub bigraph_written : Shape → List NumberedLine → BigraphValue
-bigraph_written shape lines = record { left = left_of shape; right = right_of shape; neighbours = lists_of shape (edges_of shape lines) }
 
 -- the bipartite graph with these lists, or the refusal
 abbrev pub bigraph_with : Shape → Read RowList → Read BigraphValue
@@ -31,14 +26,6 @@ abbrev pub bigraph_lines : ℕ → List NumberedLine → Read BigraphValue
 bigraph_lines limit [] = read.Refused (record { code = EMPTY; line = 0 })
 bigraph_lines limit (first ∷ lines) = bigraph_behind first.number (sides_named limit (two_numbers (words_of first.text))) lines
 
--- the bipartite graph of the bytes of a file, or their first refusal; the left side has at most so many vertices
-unfoldable pub bigraph : ℕ → List ℕ → Read BigraphValue
-bigraph limit bytes = within_length bytes (bigraph_lines limit (filled_lines 1 (lines_of (without_mark bytes))))
-
--- the graph of the edges that lines name
-abbrev pub graph_written : Shape → List NumberedLine → GraphValue
-graph_written shape lines = record { vertices = left_of shape; neighbours = lists_of shape (edges_of shape lines) }
-
 -- the graph with these lists, or the refusal
 abbrev pub graph_with : Shape → Read RowList → Read GraphValue
 graph_with shape (read.Ok lists) = read.Ok (record { vertices = left_of shape; neighbours = lists.rows })
@@ -53,7 +40,3 @@ graph_behind number (Err code) lines = read.Refused (record { code = code; line 
 abbrev pub graph_lines : List NumberedLine → Read GraphValue
 graph_lines [] = read.Refused (record { code = EMPTY; line = 0 })
 graph_lines (first ∷ lines) = graph_behind first.number (vertices_named (one_number (words_of first.text))) lines
-
--- the graph of the bytes of a file, or their first refusal
-unfoldable pub graph : List ℕ → Read GraphValue
-graph bytes = within_length bytes (graph_lines (filled_lines 1 (lines_of (without_mark bytes))))

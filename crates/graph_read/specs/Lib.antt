@@ -2,6 +2,7 @@ pub mod Numbers
 pub mod Edges
 pub mod Places
 pub mod GraphFiles
+pub mod Files
 pub mod DistanceRows
 pub mod DistanceSteps
 pub mod DistanceFiles

@@ -1,6 +1,6 @@
 // Readers of graphs and bipartite graphs.
 ghost use Rattle.std.specs.Prelude.{◌≡◌, ◌≤◌, IfOk};
-ghost use Rattle.graph_read.specs.GraphFiles.{bigraph, graph};
+ghost use Rattle.graph_read.specs.Files.{bigraph, graph};
 
 use crate::edges::{sides_in, vertices_in};
 use crate::heads::{head_of, refusal};

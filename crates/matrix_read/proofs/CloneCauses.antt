@@ -12,10 +12,11 @@ use Rattle.row_model.specs.declared.code.TheConstants.{EMPTY, TWICE, LIMIT, SHAP
 use Rattle.text_lines.specs.Lines.{without_mark}
 use Rattle.matrix_read.specs.Names.{has_twice}
 use Rattle.text_lines.specs.Rows.{refused_or}
-use Rattle.matrix_read.specs.Clones.{reading, array_at, count, column_of, probes_of, names_code, first_refused, names_row, clone_row, clone_rows, head_code, clone_matrix, unless_refused, matrix_of, if_shaped, if_read, clones}
-use Rattle.matrix_read.specs.CloneRows.{values_of, IsCloneRow, IsCloneFile, CloneLaw}
+use Rattle.matrix_read.specs.Clones.{reading, column_of, names_code, head_code, clones, values_of, value_read}
+use Rattle.matrix_read.specs.CloneSteps.{array_at, count, probes_of, first_refused, names_row, clone_row, clone_rows, clone_matrix, unless_refused, matrix_of, if_shaped, if_read}
+use Rattle.matrix_read.specs.CloneRows.{IsCloneRow, IsCloneFile, CloneLaw}
 use Rattle.matrix_read.specs.CloneRefusals.{HasValue, HasShape, AreFew, AreWithin, NoCloneRefused, CloneRefusals}
-use Rattle.matrix_read.proofs.CloneLemmas.{clones_long, clones_short, shaped, head_empty, head_wide, head_twice, head_many, head_taken, names_taken}
+use Rattle.matrix_read.proofs.CloneLemmas.{clones_long, clones_short, shaped, head_empty, head_wide, head_twice, head_many, head_taken, names_taken, clones_same}
 use Rattle.matrix_read.proofs.CloneRowLemmas.{column_found, read_as}
 use Rattle.matrix_read.proofs.Within.{inside_read}
 use Rattle.matrix_read.proofs.WithinClones.{clones_within}
@@ -48,12 +49,12 @@ module _ (probes : List (List ℕ)) where
 
 -- what is left to judge of a file
 module _ (bytes : List ℕ) where
-  value_read : (value : Data) → HasValue bytes value → clones bytes ≡ if_read (Some value)
-  value_read value h = clones_short bytes h.short ∙ ap if_read h.is_read
+  value_told : (value : Data) → HasValue bytes value → clones bytes ≡ if_read (Some value)
+  value_told value h = clones_short bytes h.short ∙ ap if_read h.is_read
 
   module _ (probes : List (List ℕ)) (items : Items) (h : HasShape bytes probes items) where
     shape_read : clones bytes ≡ matrix_of probes items
-    shape_read = value_read h.value h.has ∙ shaped h.value probes items (sym h.named) (sym h.listed)
+    shape_read = value_told h.value h.has ∙ shaped h.value probes items (sym h.named) (sym h.listed)
 
     head_read : (code : Option ℕ) → head_code probes (count items) ≡ code → clones bytes ≡ unless_refused code (clone_matrix probes items)
     head_read code e = shape_read ∙ ap (λ c. unless_refused c (clone_matrix probes items)) e
@@ -75,8 +76,8 @@ pub clone_refusals : CloneRefusals
 clone_refusals = record {
   too_long = clones_long;
   no_value = λ bytes short e. clones_short bytes short ∙ ap if_read e;
-  no_probes = λ bytes value h e. value_read bytes value h ∙ ap (λ probes. if_shaped probes (array_at (codes "clones") value)) e;
-  no_clones = λ bytes value h e. value_read bytes value h ∙ ap (if_shaped (probes_of value)) e ∙ no_list (probes_of value);
+  no_probes = λ bytes value h e. value_told bytes value h ∙ ap (λ probes. if_shaped probes (array_at (codes "clones") value)) e;
+  no_clones = λ bytes value h e. value_told bytes value h ∙ ap (if_shaped (probes_of value)) e ∙ no_list (probes_of value);
   no_column = λ bytes probes items h none. head_read bytes probes items h (Some EMPTY) (head_empty probes (count items) none);
   many_probes = λ bytes probes items h many. head_read bytes probes items h (Some LIMIT) (head_wide probes (count items) (omega (arith, many)) many);
   twice = λ bytes probes items h few same. head_read bytes probes items h (Some TWICE) (head_twice probes (count items) (some_probe bytes probes items h few) few.narrow same);
@@ -128,7 +129,7 @@ short_file bytes m e =
 file_told : (bytes : List ℕ) (m : RowList) → clones bytes ≡ answer.Ok m → IsCloneFile bytes m
 unfolding clones
 file_told bytes m e =
-    let found = read_as m (reading (without_mark bytes)) (inside_read bytes (if_read (reading (without_mark bytes))) m e) in
+    let found = read_as m (reading (without_mark bytes)) (sym (clones_same (reading (without_mark bytes))) ∙ inside_read bytes (value_read (reading (without_mark bytes))) m e) in
     record { short = short_file bytes m e; value = found.0; is_read = found.1; is_matrix = found.2; within = clones_within bytes m e }
 
 pub clone_law_holds : CloneLaw

@@ -1,11 +1,12 @@
 -- Probes and clones.
-use Rattle.std.proofs.Common.{◌≡◌, inl, inr, ℕ, suc, ◌+◌, ◌<◌, ◌≤◌, ◌==◌, not, List, [], ◌∷◌, ◌++◌, length, map, codes, drop, get_or, refl, ap, sym, ◌∙◌, arith, Bool, true, false, if◌then◌else◌, cond, unwrap_or, Option, Some, None, append_assoc, drop-cons, add-one, eq-eqb}
+use Rattle.std.proofs.Common.{◌≡◌, inl, inr, ℕ, suc, ◌+◌, ◌<◌, ◌≤◌, ◌==◌, ◌&&◌, not, is_some, option_map, option_and_then, List, [], ◌∷◌, ◌++◌, length, map, codes, drop, get_or, refl, ap, sym, ◌∙◌, arith, Bool, true, false, if◌then◌else◌, cond, unwrap_or, Option, Some, None, append_assoc, drop-cons, add-one, eq-eqb}
 use Rattle.std.proofs.lemmas.List.{append-nil}
 use Rattle.column_order.specs.Orders.{has}
 use Rattle.row_model.specs.Rows.{RowList, IsRow}
 use Rattle.row_model.specs.declared.refusal.Read.{Read}
 use Rattle.row_model.specs.declared.refusal.Read.TheVariants as answer
-use Rattle.serde_json.specs.Data.{Data, Items}
+use Rattle.serde_json.specs.Data.{Data, Items, no_items, item}
+use Rattle.serde_json.specs.Find.{get, as_array, as_str}
 use Rattle.serde_json.specs.Read.{read}
 use Rattle.std.specs.Str.{IsUtf8, is_utf8, bytes_eq}
 use Rattle.std.specs.List.{list_all, prefix_len, position}
@@ -19,10 +20,11 @@ use Rattle.std.proofs.lemmas.Bool.{lt-ltb, le-ltb, ne_eqb, cases_lt, false≢tru
 use Rattle.row_model.specs.declared.TheConstants.{MAX_COLUMNS, MAX_ROWS, MAX_FILE_BYTES}
 use Rattle.row_model.specs.declared.code.TheConstants.{EMPTY, TWICE, LIMIT}
 use Rattle.text_lines.specs.Lines.{without_mark}
-use Rattle.text_lines.specs.Rows.{refused_or}
+use Rattle.text_lines.specs.Rows.{refusal_or, refused_or, columns_among}
 use Rattle.row_model.proofs.Filtered.{filtered_row}
 use Rattle.row_model.proofs.Limits.{too_long, short_enough}
-use Rattle.matrix_read.specs.Clones.{reading, array_at, is_probe, column_of, probes_of, names_code, clone_row, head_code, matrix_of, if_read, clones}
+use Rattle.matrix_read.specs.Clones.{reading, is_probe, column_of, names_code, head_code, clones, values_of, values_at, as_strings, probes_in, clones_refused, row_of_probes, clones_over, value_read}
+use Rattle.matrix_read.specs.CloneSteps.{array_at, are_strings, texts_of, strings_of, count, probes_of, first_refused, clone_row, clone_rows, clone_matrix, unless_refused, matrix_of, if_shaped, if_read}
 use Rattle.matrix_read.specs.Names.{has_twice, bytes_of}
 
 module _ (probes : List (List ℕ)) where
@@ -55,6 +57,64 @@ reading_none text none =
       | false ↦ λ e. refl
     ]) refl
 
+-- item after item, as a list of values
+strings_same : (items : Items) → as_strings (values_of items) ≡ strings_of items
+strings_same items = ap (λ b. if b then Some (map (λ value. unwrap_or (as_str value) []) (values_of items)) else None) (all items) ∙ ap (λ texts. if are_strings items then Some texts else None) (texts items)
+  where
+    all : (items : Items) → list_all (λ value. is_some (as_str value)) (values_of items) ≡ are_strings items
+    all no_items = refl
+    all (item value items) = ap (λ b. is_some (as_str value) && b) (all items)
+
+    texts : (items : Items) → map (λ value. unwrap_or (as_str value) []) (values_of items) ≡ texts_of items
+    texts no_items = refl
+    texts (item value items) = ap (λ ts. unwrap_or (as_str value) [] ∷ ts) (texts items)
+
+probes_same : (value : Data) → probes_in value ≡ probes_of value
+probes_same value = by (option_and_then as_array (get (codes "probes") value))
+  where
+    by : (items : Option Items) → option_and_then as_strings (option_map values_of items) ≡ option_and_then strings_of items
+    by None = refl
+    by (Some items) = strings_same items
+
+count_same : (items : Items) → length (values_of items) ≡ count items
+count_same no_items = refl
+count_same (item value items) = ap suc (count_same items)
+
+module _ (probes : List (List ℕ)) where
+  refused_same : (number : ℕ) (items : Items) → clones_refused probes number (values_of items) ≡ first_refused probes number items
+  unfolding first_refused
+  refused_same number no_items = refl
+  refused_same number (item clone items) =
+      ap (λ names. refusal_or (names_code probes names) number (clones_refused probes (number + 1) (values_of items))) (probes_same clone)
+      ∙ ap (refusal_or (names_code probes (probes_of clone)) number) (refused_same (number + 1) items)
+
+  rows_same : (items : Items) → map (row_of_probes probes) (values_of items) ≡ clone_rows probes items
+  rows_same no_items = refl
+  rows_same (item clone items) =
+      ap (λ names. columns_among (length probes) (map (column_of probes) (unwrap_or names [])) ∷ map (row_of_probes probes) (values_of items)) (probes_same clone)
+      ∙ ap (λ rows. clone_row probes clone ∷ rows) (rows_same items)
+
+  matrix_same : (items : Items) → clones_over (Some probes) (Some (values_of items)) ≡ matrix_of probes items
+  matrix_same items =
+      ap (λ n. refused_or (refusal_or (head_code probes n) 0 (clones_refused probes 1 (values_of items))) (record { columns = length probes; rows = map (row_of_probes probes) (values_of items) })) (count_same items)
+      ∙ ap (λ r. refused_or (refusal_or (head_code probes (count items)) 0 r) (record { columns = length probes; rows = map (row_of_probes probes) (values_of items) })) (refused_same 1 items)
+      ∙ ap (λ rows. refused_or (refusal_or (head_code probes (count items)) 0 (first_refused probes 1 items)) (record { columns = length probes; rows = rows })) (rows_same items)
+      ∙ by (head_code probes (count items))
+    where
+      by : (code : Option ℕ) → refused_or (refusal_or code 0 (first_refused probes 1 items)) (record { columns = length probes; rows = clone_rows probes items }) ≡ unless_refused code (clone_matrix probes items)
+      by (Some code) = refl
+      by None = refl
+
+pub clones_same : (value : Option Data) → value_read value ≡ if_read value
+clones_same None = refl
+clones_same (Some value) = ap (λ probes. clones_over probes (values_at (codes "clones") value)) (probes_same value) ∙ by (probes_of value) (array_at (codes "clones") value)
+  where
+    by : (probes : Option (List (List ℕ))) (items : Option Items) → clones_over probes (option_map values_of items) ≡ if_shaped probes items
+    by None None = refl
+    by None (Some items) = refl
+    by (Some probes) None = refl
+    by (Some probes) (Some items) = matrix_same probes items
+
 -- the length of the file comes first
 module _ (bytes : List ℕ) where
   pub clones_long : MAX_FILE_BYTES < length bytes → clones bytes ≡ answer.Refused (record { code = LIMIT; line = 0 })
@@ -63,7 +123,7 @@ module _ (bytes : List ℕ) where
 
   pub clones_short : length bytes ≤ MAX_FILE_BYTES → clones bytes ≡ if_read (reading (without_mark bytes))
   unfolding clones
-  clones_short h = short_enough bytes _ h
+  clones_short h = short_enough bytes _ h ∙ clones_same (reading (without_mark bytes))
 
 -- the rest of a list, from a place on
 pub names_drop : (list : List (Bor (List ℕ))) (i : ℕ) (name : Bor (List ℕ)) → i < length list → name ≡ get_or list i name → bytes_of (drop i list) ≡ name.now ∷ bytes_of (drop (i + 1) list)

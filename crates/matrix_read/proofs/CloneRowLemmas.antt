@@ -13,9 +13,10 @@ use Rattle.row_model.specs.declared.refusal.Read.TheVariants as answer
 use Rattle.row_model.specs.declared.TheConstants.{MAX_COLUMNS, MAX_ROWS}
 use Rattle.row_model.specs.declared.code.TheConstants.{EMPTY, RANGE, TWICE, LIMIT}
 use Rattle.text_lines.specs.Rows.{refused_or}
-use Rattle.matrix_read.specs.Clones.{array_at, count, is_probe, column_of, probes_of, names_code, first_refused, names_row, clone_row, clone_rows, head_code, clone_matrix, unless_refused, if_shaped, if_read}
+use Rattle.matrix_read.specs.Clones.{is_probe, column_of, names_code, head_code, values_of}
+use Rattle.matrix_read.specs.CloneSteps.{array_at, count, probes_of, first_refused, names_row, clone_row, clone_rows, clone_matrix, unless_refused, if_shaped, if_read}
 use Rattle.matrix_read.specs.Names.{has_twice}
-use Rattle.matrix_read.specs.CloneRows.{values_of, IsCloneRow, IsMatrixOf}
+use Rattle.matrix_read.specs.CloneRows.{IsCloneRow, IsMatrixOf}
 use Rattle.matrix_read.proofs.CloneLemmas.{clone_row_ascends}
 use Rattle.matrix_read.proofs.Within.{none_first}
 use Rattle.matrix_read.proofs.NameLemmas.{same_bytes}

@@ -1,5 +1,5 @@
 -- Rows as lines of digits.
-use Rattle.std.proofs.Common.{◌≡◌, ℕ, suc, ◌<◌, ◌≤◌, ◌+◌, ◌-◌, List, [], ◌∷◌, length, get_or, ap, sym, ◌∙◌, refl, arith, Some, None, true, false, if◌then◌else◌, ◌==◌, ◌||◌, ◌&&◌, not, Bool, nat_lt, nat_le, eqb-true, eq-eqb}
+use Rattle.std.proofs.Common.{◌≡◌, ℕ, suc, ◌<◌, ◌≤◌, ◌+◌, ◌-◌, List, [], ◌∷◌, length, get_or, ap, sym, ◌∙◌, refl, arith, Option, Some, None, true, false, if◌then◌else◌, ◌==◌, ◌||◌, ◌&&◌, not, Bool, nat_lt, nat_le, eqb-true, eq-eqb}
 use Rattle.std.specs.List.{list_any, list_all}
 use Rattle.std.proofs.lemmas.Bool.{and_parts}
 use Rattle.row_model.proofs.Filtered.{filtered_row}
@@ -10,8 +10,9 @@ use Rattle.row_model.specs.declared.code.TheConstants.{GRAMMAR, COUNT, LIMIT}
 use Rattle.text_lines.specs.Lines.{NumberedLine, is_blank, is_blank_byte, filled_lines, lines_of, without_mark}
 use Rattle.row_model.proofs.Limits.{too_long, short_enough}
 use Rattle.text_lines.proofs.FirstRefused.{first_refusal-later}
-use Rattle.matrix_read.specs.Dense.{is_digit, is_foreign_byte, digits_of, width_of, digit_row, digit_rows, first_code, row_code, read_lines, dense}
-use Rattle.matrix_read.specs.DenseSteps.{rows_or_refusal}
+use mathlib.Core.Path.{fun_ext}
+use Rattle.matrix_read.specs.Dense.{is_digit, digits_of, width_of, digit_row, dense, digits_code, digit_matrix, dense_lines}
+use Rattle.matrix_read.specs.DenseSteps.{is_foreign_byte, digit_rows, first_code, row_code, read_lines, rows_or_refusal}
 use Rattle.text_lines.specs.Rows.{refusal_or, refused_or, first_refusal}
 use Rattle.matrix_read.proofs.PlaceLemmas.{places_from, places_columns}
 
@@ -86,6 +87,41 @@ pub row_code-width : (width before : ℕ) (line : List ℕ) → row_code width b
 row_code-width width before line h =
     eqb-true (width_of line) width (last_test (nat_le MAX_ROWS before) (list_any is_foreign_byte line) (width_of line == width) LIMIT GRAMMAR COUNT h)
 
+-- lines one after another: the first tells the width, and the later ones have it
+first_same : (line : List ℕ) → digits_code (width_of line) 0 line ≡ first_code line
+first_same line = rw (eq-eqb (width_of line) (width_of line) refl) refl
+
+later_same : (width : ℕ) → nat_lt MAX_COLUMNS width ≡ false → (before : ℕ) (line : List ℕ) → digits_code width before line ≡ row_code width before line
+later_same width narrow before line = rw narrow (by (nat_le MAX_ROWS before) (list_any is_foreign_byte line) (width_of line == width))
+  where
+    by : (full foreign same : Bool) →
+        (if full then Some LIMIT else if foreign then Some GRAMMAR else if not same then Some COUNT else None)
+        ≡ (if full then Some LIMIT else if foreign then Some GRAMMAR else if same then None else Some COUNT)
+    by true foreign same = refl
+    by false true same = refl
+    by false false true = refl
+    by false false false = refl
+
+pub dense_lines_same : (lines : List NumberedLine) → dense_lines lines ≡ read_lines lines
+unfolding first_refusal
+dense_lines_same [] = refl
+dense_lines_same (first ∷ lines) = ap (λ refusal. refused_or refusal (digit_matrix (width_of first.text) (first ∷ lines))) (one ∙ by (first_code first.text) refl)
+  where
+    one : first_refusal (digits_code (width_of first.text)) 0 (first ∷ lines) ≡ refusal_or (first_code first.text) first.number (first_refusal (digits_code (width_of first.text)) 1 lines)
+    one = ap (λ code. refusal_or code first.number (first_refusal (digits_code (width_of first.text)) 1 lines)) (first_same first.text)
+
+    narrow : (foreign wide : Bool) → (if foreign then Some GRAMMAR else if wide then Some LIMIT else None) ≡ None → wide ≡ false
+    narrow true wide k = absurd (cc)
+    narrow false true k = absurd (cc)
+    narrow false false k = refl
+
+    by : (code : Option ℕ) → first_code first.text ≡ code →
+        refusal_or code first.number (first_refusal (digits_code (width_of first.text)) 1 lines) ≡ refusal_or code first.number (first_refusal (row_code (width_of first.text)) 1 lines)
+    by (Some code) e = refl
+    by None e =
+        let few : nat_lt MAX_COLUMNS (width_of first.text) ≡ false = narrow (list_any is_foreign_byte first.text) (nat_lt MAX_COLUMNS (width_of first.text)) e in
+        ap (λ code_of. first_refusal code_of 1 lines) (fun_ext (λ before. fun_ext (λ line. later_same (width_of first.text) few before line)))
+
 -- the length of the file comes first
 pub dense_long : (bytes : List ℕ) → MAX_FILE_BYTES < length bytes → dense bytes ≡ read.Refused (record { code = LIMIT; line = 0 })
 unfolding dense
@@ -93,7 +129,7 @@ dense_long bytes h = too_long bytes _ h
 
 pub dense_short : (bytes : List ℕ) → length bytes ≤ MAX_FILE_BYTES → dense bytes ≡ read_lines (filled_lines 1 (lines_of (without_mark bytes)))
 unfolding dense
-dense_short bytes h = short_enough bytes _ h
+dense_short bytes h = short_enough bytes _ h ∙ dense_lines_same (filled_lines 1 (lines_of (without_mark bytes)))
 
 -- a line that is digits alone
 module _ (line : List ℕ) where

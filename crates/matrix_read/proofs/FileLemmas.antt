@@ -12,7 +12,8 @@ use Rattle.serde_json.specs.Find.{get, get_member, as_array, as_str}
 use Rattle.serde_json.specs.Read.{number_of, of_json, of_items, of_members, converted}
 use Rattle.serde_json.proofs.Views.{get_member-put, get_member-put_other}
 use Rattle.matrix_read.specs.JsonSteps.{value_at, string_in, opens_array, opens_object}
-use Rattle.matrix_read.specs.Clones.{are_strings, text_of, texts_of, strings_of, array_at, probes_of, count, first_refused, clone_rows, clone_matrix, matrix_of, if_shaped, if_read, head_code, unless_refused}
+use Rattle.matrix_read.specs.Clones.{head_code}
+use Rattle.matrix_read.specs.CloneSteps.{are_strings, text_of, texts_of, strings_of, array_at, probes_of, count, first_refused, clone_rows, clone_matrix, matrix_of, if_shaped, if_read, unless_refused}
 use Rattle.row_model.specs.declared.refusal.Read.TheVariants as answer
 use Rattle.row_model.specs.declared.code.TheConstants.{JSON}
 use Rattle.matrix_read.specs.CloneNames.{array_strings, member_probes, clone_names, array_clones, clones_of, file_names, with_string, names_refused, row_of_clone, matrix_of_names, matrix_named}

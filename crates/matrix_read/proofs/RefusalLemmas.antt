@@ -3,8 +3,10 @@ use Rattle.std.proofs.Common.{◌≡◌, ◌∙◌, ℕ, List, ◌∷◌, Option
 use Rattle.row_model.specs.declared.refusal.Read.TheVariants as read
 use Rattle.text_lines.specs.Lines.{NumberedLine}
 use Rattle.text_lines.specs.Rows.{first_refusal, refused_or}
-use Rattle.matrix_read.specs.Dense.{width_of, first_code, row_code, digit_matrix, read_lines}
-use Rattle.matrix_read.specs.Sparse.{line_code, named_matrix, rows_behind, sparse_lines}
+use Rattle.matrix_read.specs.Dense.{width_of, digit_matrix}
+use Rattle.matrix_read.specs.DenseSteps.{first_code, row_code, read_lines}
+use Rattle.matrix_read.specs.Sparse.{line_code, named_matrix}
+use Rattle.matrix_read.specs.SparseSteps.{rows_behind, sparse_lines}
 use Rattle.text_lines.specs.FirstRefusal.{numbered_of}
 use Rattle.matrix_read.specs.Refusals.{dense_head, sparse_head, DenseRefusals, SparseRefusals, FurtherRefusals}
 use Rattle.matrix_read.proofs.DenseLemmas.{dense_long, dense_short}

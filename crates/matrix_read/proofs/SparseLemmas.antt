@@ -1,5 +1,5 @@
 -- Rows that name their columns.
-use Rattle.std.proofs.Common.{◌≡◌, ℕ, arith, ◌<◌, ◌≤◌, ◌+◌, ◌||◌, List, [], ◌∷◌, ◌++◌, length, take, set, append_assoc, slice_range, refl, sym, ap, ◌∙◌, Bool, true, false, None, Some, Ok, Err}
+use Rattle.std.proofs.Common.{◌≡◌, ℕ, arith, ◌<◌, ◌≤◌, ◌+◌, ◌||◌, List, [], ◌∷◌, ◌++◌, length, map, take, set, append_assoc, slice_range, refl, sym, ap, ◌∙◌, Bool, true, false, Option, None, Some, Result, Ok, Err}
 use Rattle.std.proofs.lemmas.Bool.{lt-leb}
 use Rattle.std.proofs.lemmas.Bool.Decides.{nat_tests}
 use Rattle.std.proofs.lemmas.Grind.{common_steps}
@@ -7,13 +7,15 @@ use Rattle.std.proofs.lemmas.List.{take_more_set}
 use Rattle.column_order.specs.Orders.{has}
 use Rattle.row_model.specs.Rows.{IsRow}
 use Rattle.row_model.specs.declared.refusal.Read.TheVariants as read
-use Rattle.row_model.specs.declared.TheConstants.{MAX_ROWS, MAX_FILE_BYTES}
-use Rattle.row_model.specs.declared.code.TheConstants.{LIMIT}
-use Rattle.text_lines.specs.Lines.{is_blank, lines_of, without_mark}
-use Rattle.text_lines.specs.Words.{words_of, only_word, blank_len, word_len, number_of, IsFirstNumber}
+use Rattle.row_model.specs.declared.TheConstants.{MAX_COLUMNS, MAX_ROWS, MAX_FILE_BYTES}
+use Rattle.row_model.specs.declared.code.TheConstants.{GRAMMAR, LIMIT}
+use Rattle.text_lines.specs.Heads.{size_given, if_head, from_head}
+use Rattle.text_lines.specs.Lines.{is_blank, lines_of, without_mark, NumberedLine}
+use Rattle.text_lines.specs.Words.{words_of, blank_len, word_len, number_of, numbers_in, IsFirstNumber}
+use Rattle.matrix_read.specs.SparseSteps.{only_word, width_of_number, width_given, row_named, columns_named, rows_behind, sparse_lines}
 use Rattle.text_lines.specs.declared.words.Numeral.{Numeral}
 use Rattle.text_lines.specs.declared.words.Numeral.TheVariants.{Value}
-use Rattle.matrix_read.specs.Sparse.{column_code, words_code, line_code, width_given, row_named, columns_named, named_rows, sparse_lines, sparse, further}
+use Rattle.matrix_read.specs.Sparse.{column_code, words_code, line_code, named_rows, sparse, further}
 use Rattle.text_lines.specs.Rows.{numbered_lines}
 use Rattle.text_lines.proofs.WordLemmas.{word_step, no_word, number_some, number_written}
 use Rattle.row_model.proofs.Filtered.{filtered_row}
@@ -77,6 +79,28 @@ pub marks_end : (mark named : Bool) (words : List (List ℕ)) (column : ℕ) →
 marks_end true named words column is h = h
 marks_end false named words column is h = rw is at h
 
+-- the first line, and the lines behind it
+width_same : (words : List (List ℕ)) → width_given (only_word words) ≡ size_given MAX_COLUMNS (map number_of words)
+width_same [] = refl
+width_same (word ∷ []) = by (number_of word)
+  where
+    by : (number : Option ℕ) → width_of_number number ≡ size_given MAX_COLUMNS (number ∷ [])
+    by None = refl
+    by (Some n) = refl
+width_same (word ∷ other ∷ words) = by (number_of word)
+  where
+    by : (number : Option ℕ) → Err GRAMMAR ≡ size_given MAX_COLUMNS (number ∷ number_of other ∷ map number_of words)
+    by None = refl
+    by (Some n) = refl
+
+pub sparse_lines_same : (lines : List NumberedLine) → from_head (λ line. size_given MAX_COLUMNS (numbers_in line)) named_rows lines ≡ sparse_lines lines
+sparse_lines_same [] = refl
+sparse_lines_same (first ∷ lines) = by (size_given MAX_COLUMNS (numbers_in first.text)) ∙ ap (λ width. rows_behind first.number width lines) (sym (width_same (words_of first.text)))
+  where
+    by : (width : Result ℕ ℕ) → if_head first.number width (λ c. named_rows c lines) ≡ rows_behind first.number width lines
+    by (Err code) = refl
+    by (Ok c) = refl
+
 -- the length of the file comes first
 module _ (bytes : List ℕ) where
   pub sparse_long : MAX_FILE_BYTES < length bytes → sparse bytes ≡ read.Refused (record { code = LIMIT; line = 0 })
@@ -85,7 +109,7 @@ module _ (bytes : List ℕ) where
 
   pub sparse_short : length bytes ≤ MAX_FILE_BYTES → sparse bytes ≡ sparse_lines (numbered_lines 1 (lines_of (without_mark bytes)))
   unfolding sparse
-  sparse_short h = short_enough bytes _ h
+  sparse_short h = short_enough bytes _ h ∙ sparse_lines_same (numbered_lines 1 (lines_of (without_mark bytes)))
 
   pub sparse_text : (text : List ℕ) → length bytes ≤ MAX_FILE_BYTES → text ≡ without_mark bytes → sparse bytes ≡ sparse_lines (numbered_lines 1 (lines_of text))
   sparse_text text h is = sparse_short h ∙ ap (λ t. sparse_lines (numbered_lines 1 (lines_of t))) (sym is)

@@ -1,5 +1,5 @@
 -- A matrix that is read from clones is within the limits.
-use Rattle.std.proofs.Common.{◌≡◌, ℕ, ◌==◌, Bool, true, false, nat_lt, if◌then◌else◌, List, length, codes, Option, Some, None, sym, refl, arith}
+use Rattle.std.proofs.Common.{◌≡◌, ◌∙◌, ℕ, ◌==◌, Bool, true, false, nat_lt, if◌then◌else◌, List, length, codes, Option, Some, None, sym, refl, arith}
 use Rattle.std.proofs.lemmas.Bool.{ltb-false}
 use Rattle.serde_json.specs.Data.{Data, Items, no_items, item}
 use Rattle.row_model.specs.declared.refusal.Read.{Read}
@@ -9,8 +9,9 @@ use Rattle.row_model.specs.declared.code.TheConstants.{EMPTY, TWICE, LIMIT}
 use Rattle.row_model.specs.Rows.{RowList}
 use Rattle.text_lines.specs.Lines.{without_mark}
 use Rattle.matrix_read.specs.Names.{has_twice}
-use Rattle.matrix_read.specs.Clones.{reading, array_at, count, probes_of, first_refused, clone_rows, head_code, clone_matrix, unless_refused, matrix_of, if_shaped, if_read, clones}
-use Rattle.matrix_read.proofs.CloneLemmas.{some_if}
+use Rattle.matrix_read.specs.Clones.{reading, head_code, clones, value_read}
+use Rattle.matrix_read.specs.CloneSteps.{array_at, count, probes_of, first_refused, clone_rows, clone_matrix, unless_refused, matrix_of, if_shaped, if_read}
+use Rattle.matrix_read.proofs.CloneLemmas.{some_if, clones_same}
 use Rattle.matrix_read.specs.Limits.{IsWithinLimits}
 use Rattle.matrix_read.proofs.Within.{inside_read, ok_within}
 
@@ -57,4 +58,4 @@ pub clones_within : (bytes : List ℕ) (m : RowList) → clones bytes ≡ read.O
 unfolding clones
 clones_within bytes m e =
     let value = reading (without_mark bytes) in
-    value_within value m (inside_read bytes (if_read value) m e)
+    value_within value m (sym (clones_same value) ∙ inside_read bytes (value_read value) m e)

@@ -1,5 +1,5 @@
 -- A matrix that is read from lines is within the limits.
-use Rattle.std.proofs.Common.{◌≡◌, ℕ, ◌<◌, ◌≤◌, ◌==◌, Bool, true, false, nat_lt, if◌then◌else◌, List, [], ◌∷◌, length, map, Option, Some, None, ap, sym, refl, subst, arith}
+use Rattle.std.proofs.Common.{◌≡◌, ◌∙◌, ℕ, ◌<◌, ◌≤◌, ◌==◌, Bool, true, false, nat_lt, if◌then◌else◌, List, [], ◌∷◌, length, map, Option, Some, None, ap, sym, refl, subst, arith}
 use Rattle.std.specs.Prelude.{Result, Ok, Err}
 use Rattle.std.specs.List.{list_any}
 use Rattle.std.proofs.lemmas.Bool.{ltb-false}
@@ -10,11 +10,15 @@ use Rattle.row_model.specs.declared.TheConstants.{MAX_COLUMNS, MAX_ROWS}
 use Rattle.row_model.specs.declared.code.TheConstants.{GRAMMAR, RANGE, COUNT, LIMIT}
 use Rattle.row_model.specs.Rows.{RowList}
 use Rattle.text_lines.specs.Lines.{NumberedLine, is_blank, lines_of, filled_lines, without_mark}
-use Rattle.text_lines.specs.Words.{words_of, only_word, number_of}
+use Rattle.text_lines.specs.Words.{words_of, number_of, numbers_in}
+use Rattle.matrix_read.specs.SparseSteps.{only_word, sparse_lines, rows_behind, width_given, width_of_number, row_named}
 use Rattle.text_lines.specs.Rows.{numbered_lines, refusal_or, refused_or, first_refusal}
-use Rattle.matrix_read.specs.Dense.{dense, read_lines, digit_rows, digit_row, first_code, row_code, width_of, is_foreign_byte}
-use Rattle.matrix_read.specs.Sparse.{sparse, sparse_lines, further, named_rows, rows_behind, width_given, width_of_number, line_code, words_code, row_named}
-use Rattle.matrix_read.proofs.DenseLemmas.{filled_first, some_digit}
+use Rattle.matrix_read.specs.Dense.{dense, digit_row, width_of, dense_lines}
+use Rattle.matrix_read.specs.DenseSteps.{read_lines, digit_rows, first_code, row_code, is_foreign_byte}
+use Rattle.matrix_read.specs.Sparse.{sparse, further, named_rows, line_code, words_code}
+use Rattle.text_lines.specs.Heads.{size_given, from_head}
+use Rattle.matrix_read.proofs.DenseLemmas.{filled_first, some_digit, dense_lines_same}
+use Rattle.matrix_read.proofs.SparseLemmas.{sparse_lines_same}
 use Rattle.matrix_read.proofs.CloneLemmas.{some_if}
 use Rattle.matrix_read.specs.Limits.{IsWithinLimits}
 use Rattle.matrix_read.proofs.Within.{inside_read, ok_within, none_first, has_room, few_lines}
@@ -52,7 +56,7 @@ pub dense_within : (bytes : List ℕ) (m : RowList) → dense bytes ≡ read.Ok 
 unfolding dense
 dense_within bytes m e =
     let lines = lines_of (without_mark bytes) in
-    digits_within (filled_lines 1 lines) m (filled_first 1 lines) (inside_read bytes (read_lines (filled_lines 1 lines)) m e)
+    digits_within (filled_lines 1 lines) m (filled_first 1 lines) (sym (dense_lines_same (filled_lines 1 lines)) ∙ inside_read bytes (dense_lines (filled_lines 1 lines)) m e)
 
 -- a number of columns within the limits
 abbrev IsWidth : ℕ → Type 0
@@ -93,7 +97,7 @@ pub sparse_within : (bytes : List ℕ) (m : RowList) → sparse bytes ≡ read.O
 unfolding sparse
 sparse_within bytes m e =
     let lines = numbered_lines 1 (lines_of (without_mark bytes)) in
-    names_within lines m (inside_read bytes (sparse_lines lines) m e)
+    names_within lines m (sym (sparse_lines_same lines) ∙ inside_read bytes (from_head (λ line. size_given MAX_COLUMNS (numbers_in line)) named_rows lines) m e)
 
 -- further rows
 pub further_within : (c : ℕ) (bytes : List ℕ) (m : RowList) → further c bytes ≡ read.Ok m → (m.columns ≡ c) × (length m.rows ≤ MAX_ROWS)

@@ -8,8 +8,10 @@ use Rattle.row_model.specs.Rows.{Ascends, IsRow}
 use Rattle.row_model.specs.declared.refusal.Read.TheVariants as read
 use Rattle.row_model.specs.declared.TheConstants.{MAX_COLUMNS, MAX_ROWS}
 use Rattle.text_lines.specs.Lines.{without_mark, without_return, line_parts, lines_of, is_blank, filled_lines}
-use Rattle.matrix_read.specs.Dense.{is_digit, is_foreign_byte, digits_of, width_of, digit_row, first_code, row_code, digit_rows, read_lines}
-use Rattle.matrix_read.specs.DenseSteps.{rows_or_refusal}
+use Rattle.std.specs.Str.Lines.{strip_carriage_return}
+use Rattle.text_lines.proofs.LineLemmas.{strip_is}
+use Rattle.matrix_read.specs.Dense.{is_digit, digits_of, width_of, digit_row}
+use Rattle.matrix_read.specs.DenseSteps.{is_foreign_byte, first_code, row_code, digit_rows, read_lines, rows_or_refusal}
 use Rattle.text_lines.specs.Rows.{first_refusal, refused_or}
 use Rattle.row_model.proofs.Ascending.{lacks_low}
 use Rattle.matrix_read.specs.Written.{digits_from, digits_text, DenseLaw}
@@ -103,8 +105,8 @@ unfolding line_parts
 lines_of-digits_text c [] = refl
 lines_of-digits_text c (row ∷ rows) =
     let digits = digits-written 1 c row in
-    ap (map without_return) (line_parts-digits (digits_from 1 c row) (digits_text c rows) digits)
-    ∙ ap (λ line. line ∷ lines_of (digits_text c rows)) (without_return-digits (digits_from 1 c row) digits)
+    ap (map strip_carriage_return) (line_parts-digits (digits_from 1 c row) (digits_text c rows) digits)
+    ∙ ap (λ line. line ∷ lines_of (digits_text c rows)) (strip_is (digits_from 1 c row) ∙ without_return-digits (digits_from 1 c row) digits)
     ∙ ap (λ lines. digits_from 1 c row ∷ lines) (lines_of-digits_text c rows)
 
 -- the row of its digits

@@ -16,10 +16,14 @@ use Rattle.column_order.specs.declared.TheConstants.{COLUMN_BOUND}
 use Rattle.row_model.specs.Rows.{Ascends}
 use Rattle.row_model.specs.declared.refusal.Read.TheVariants as read
 use Rattle.row_model.specs.declared.TheConstants.{MAX_COLUMNS, MAX_ROWS}
-use Rattle.text_lines.specs.Lines.{NumberedLine, before_first, is_blank_byte, without_mark, without_return, line_parts, lines_of}
-use Rattle.text_lines.specs.Words.{begins_word, words_of, only_word, number_after, number_of}
+use Rattle.text_lines.specs.Lines.{NumberedLine, is_blank_byte, without_mark, without_return, line_parts, lines_of}
+use Rattle.std.specs.List.{onto_first}
+use Rattle.std.specs.Str.Lines.{strip_carriage_return}
+use Rattle.text_lines.proofs.LineLemmas.{strip_is}
+use Rattle.text_lines.specs.Words.{begins_word, words_of, number_after, number_of}
+use Rattle.matrix_read.specs.SparseSteps.{only_word, width_of_number, columns_named, row_named, width_given, sparse_lines}
 use Rattle.text_lines.specs.Rows.{numbered_lines, first_refusal, refused_or, columns_among}
-use Rattle.matrix_read.specs.Sparse.{column_code, width_of_number, words_code, line_code, columns_named, row_named, named_rows, width_given, sparse_lines}
+use Rattle.matrix_read.specs.Sparse.{column_code, words_code, line_code, named_rows}
 use Rattle.matrix_read.specs.WrittenRows.{spaced, named_line, named_text, Names, NameAll, FurtherLaw, SparseLaw}
 use Rattle.text_lines.proofs.WordLemmas.{words_of_blank, words_of_last, words_of_more, numeral_value, number_some}
 use Rattle.row_model.proofs.Columns.{columns_same, columns_row}
@@ -57,7 +61,7 @@ word_before [] rest some digits apart = absurd (omega arith)
 word_before (b ∷ []) rest some digits apart = words_of_last b rest (digit_filled b digits.0) apart
 word_before (b ∷ a ∷ word) rest some digits apart =
     words_of_more b (a ∷ (word ++ rest)) (digit_filled b digits.0) (ap not (digit_filled a digits.1.0))
-    ∙ ap (before_first b) (word_before (a ∷ word) rest (omega arith) digits.1 apart)
+    ∙ ap (onto_first b) (word_before (a ∷ word) rest (omega arith) digits.1 apart)
 
 -- the columns are within 1 to c
 abbrev pub AreWithin : ℕ → List ℕ → Type 0
@@ -159,7 +163,8 @@ without_return-written (b ∷ []) h = rw (no_return b h.0) refl
 without_return-written (b ∷ a ∷ bytes) h = ap (λ t. b ∷ t) (without_return-written (a ∷ bytes) h.1)
 
 first_line_written : (bytes rest : List ℕ) → AllByRecursion IsWritten bytes → lines_of (bytes ++ 10 ∷ rest) ≡ bytes ∷ lines_of rest
-first_line_written bytes rest h = ap (map without_return) (line_parts-written bytes rest h) ∙ ap (λ line. line ∷ lines_of rest) (without_return-written bytes h)
+first_line_written bytes rest h =
+    ap (map strip_carriage_return) (line_parts-written bytes rest h) ∙ ap (λ line. line ∷ lines_of rest) (strip_is bytes ∙ without_return-written bytes h)
 
 -- a text of bytes below 128 has no mark
 without_mark-ascii : (bytes : List ℕ) → IsAscii bytes → without_mark bytes ≡ bytes

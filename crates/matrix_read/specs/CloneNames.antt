@@ -13,7 +13,8 @@ use Rattle.row_model.specs.declared.code.TheConstants.{SHAPE}
 use Rattle.matrix_read.specs.declared.clone_names.CloneNames.{CloneNames}
 use Rattle.matrix_read.specs.Names.{bytes_of}
 use Rattle.text_lines.specs.Rows.{refusal_or, refused_or}
-use Rattle.matrix_read.specs.Clones.{strings_of, array_at, probes_of, names_code, names_row, head_code, unless_refused}
+use Rattle.matrix_read.specs.Clones.{names_code, head_code}
+use Rattle.matrix_read.specs.CloneSteps.{strings_of, array_at, probes_of, names_row, unless_refused}
 
 -- the strings of an array of strings; another value has none
 abbrev pub array_strings : Data → Option (List (List ℕ))

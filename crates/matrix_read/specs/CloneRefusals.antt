@@ -7,8 +7,8 @@ use Rattle.row_model.specs.declared.TheConstants.{MAX_COLUMNS, MAX_ROWS, MAX_FIL
 use Rattle.row_model.specs.declared.code.TheConstants.{EMPTY, TWICE, LIMIT, JSON, SHAPE}
 use Rattle.text_lines.specs.Lines.{without_mark}
 use Rattle.matrix_read.specs.Names.{has_twice}
-use Rattle.matrix_read.specs.Clones.{reading, array_at, probes_of, names_code, clone_rows, clones}
-use Rattle.matrix_read.specs.CloneRows.{values_of}
+use Rattle.matrix_read.specs.Clones.{reading, names_code, clones, values_of}
+use Rattle.matrix_read.specs.CloneSteps.{array_at, probes_of, clone_rows}
 use Rattle.text_lines.specs.FirstRefusal.{RefusesLong}
 
 -- bytes within the limit of their length that are read as this value

@@ -1,21 +1,17 @@
 -- What the matrix of a clone file is.
-use Rattle.std.specs.Prelude.{◌≡◌, ◌↔◌, ℕ, ◌+◌, ◌<◌, ◌≤◌, List, [], ◌∷◌, length, codes, slice_get, slice_index_or, IsTrue, IsFalse, Some}
+use Rattle.std.specs.Prelude.{◌≡◌, ◌↔◌, ℕ, ◌+◌, ◌<◌, ◌≤◌, List, [], length, codes, slice_get, slice_index_or, IsTrue, IsFalse, Some}
 use Rattle.std.specs.List.{list_any, list_all}
 use Rattle.std.specs.Str.{bytes_eq}
-use Rattle.serde_json.specs.Data.{Data, Items, no_items, item}
+use Rattle.serde_json.specs.Data.{Data, Items}
 use Rattle.column_order.specs.Orders.{has}
 use Rattle.row_model.specs.Rows.{RowList, IsRow}
 use Rattle.row_model.specs.declared.refusal.Read.TheVariants as read
 use Rattle.row_model.specs.declared.TheConstants.{MAX_FILE_BYTES}
 use Rattle.matrix_read.specs.Limits.{IsWithinLimits}
-use Rattle.matrix_read.specs.Clones.{reading, array_at, is_probe, probes_of, clones}
+use Rattle.matrix_read.specs.Clones.{values_of, reading, is_probe, clones}
+use Rattle.matrix_read.specs.CloneSteps.{array_at, probes_of}
 use Rattle.text_lines.specs.Lines.{without_mark}
 use Rattle.matrix_read.specs.Names.{has_twice}
-
--- the items of an array as a list
-abbrev pub values_of : Items → List Data
-values_of no_items = []
-values_of (item value items) = value ∷ values_of items
 
 -- a clone that names probes alone, and its row: it has a column exactly where the clone names the probe at that place
 pub record IsCloneRow (probes : List (List ℕ)) (clone : Data) (row : List ℕ) : Type 0 where

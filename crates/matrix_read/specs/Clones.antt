@@ -1,5 +1,5 @@
 -- A matrix as probes and clones in JSON: each probe is a column, and each clone is a row.
-use Rattle.std.specs.Prelude.{ℕ, suc, ◌+◌, ◌==◌, ◌&&◌, List, [], ◌∷◌, map, length, codes, if◌then◌else◌, Bool, true, nat_lt, is_some, unwrap_or, Option, Some, None, option_and_then}
+use Rattle.std.specs.Prelude.{ℕ, suc, ◌+◌, ◌==◌, List, [], ◌∷◌, map, length, codes, if◌then◌else◌, Bool, nat_lt, is_some, unwrap_or, Option, Some, None, option_map, option_and_then}
 use Rattle.std.specs.List.{list_any, list_all, position_or_len}
 use Rattle.std.specs.Str.{bytes_eq, is_utf8}
 use Rattle.serde_json.specs.Data.{Data, Items, no_items, item}
@@ -13,43 +13,29 @@ use Rattle.row_model.specs.declared.refusal.Read.TheVariants as answer
 use Rattle.row_model.specs.declared.TheConstants.{MAX_COLUMNS, MAX_ROWS}
 use Rattle.row_model.specs.declared.code.TheConstants.{EMPTY, RANGE, TWICE, LIMIT, JSON, SHAPE}
 use Rattle.text_lines.specs.Lines.{without_mark}
-use Rattle.matrix_read.specs.Names.{has_twice}
 use Rattle.text_lines.specs.Rows.{refusal_or, refused_or, columns_among}
+use Rattle.matrix_read.specs.Names.{has_twice}
 
 -- the value that `serde_json` reads; bytes that are no UTF-8 have none
 abbrev pub reading : List ℕ → Option Data
 reading text = if is_utf8 text then read text else None
 
--- the array under a key of an object
-abbrev pub array_at : List ℕ → Data → Option Items
-array_at key value = option_and_then as_array (get key value)
+-- the items of an array as a list
+abbrev pub values_of : Items → List Data
+values_of no_items = []
+values_of (item value items) = value ∷ values_of items
 
--- whether each item is a string
-abbrev pub are_strings : Items → Bool
-are_strings no_items = true
-are_strings (item value items) = is_some (as_str value) && are_strings items
+-- the items of the array under a key of an object
+abbrev pub values_at : List ℕ → Data → Option (List Data)
+values_at key value = option_map values_of (option_and_then as_array (get key value))
 
--- the bytes of a string; another value has none
-abbrev pub text_of : Data → List ℕ
-text_of value = unwrap_or (as_str value) []
+-- the values as strings, where each is one
+abbrev pub as_strings : List Data → Option (List (List ℕ))
+as_strings values = if list_all (λ value. is_some (as_str value)) values then Some (map (λ value. unwrap_or (as_str value) []) values) else None
 
--- the bytes of each item
-abbrev pub texts_of : Items → List (List ℕ)
-texts_of no_items = []
-texts_of (item value items) = text_of value ∷ texts_of items
-
--- the items of an array of strings
-abbrev pub strings_of : Items → Option (List (List ℕ))
-strings_of items = if are_strings items then Some (texts_of items) else None
-
--- the strings of the array of strings under a key of an object
-abbrev pub strings_at : List ℕ → Data → Option (List (List ℕ))
-strings_at key value = option_and_then strings_of (array_at key value)
-
--- how many items there are
-abbrev pub count : Items → ℕ
-count no_items = 0
-count (item value items) = suc (count items)
+-- the strings under `probes`
+abbrev pub probes_in : Data → Option (List (List ℕ))
+probes_in value = option_and_then as_strings (values_at (codes "probes") value)
 
 -- whether a probe has the name
 abbrev pub is_probe : List (List ℕ) → List ℕ → Bool
@@ -59,10 +45,6 @@ is_probe probes name = list_any (bytes_eq name) probes
 abbrev pub column_of : List (List ℕ) → List ℕ → ℕ
 column_of probes name = suc (position_or_len (bytes_eq name) probes)
 
--- the strings under `probes`
-abbrev pub probes_of : Data → Option (List (List ℕ))
-probes_of value = strings_at (codes "probes") value
-
 -- the code by which names are refused as the probes of a clone, if they are: there is an array of strings, and each is
 -- a probe
 abbrev pub names_code : List (List ℕ) → Option (List (List ℕ)) → Option ℕ
@@ -70,22 +52,13 @@ names_code probes None = Some SHAPE
 names_code probes (Some names) = if list_all (is_probe probes) names then None else Some RANGE
 
 -- the first refusal among clones, if there is one, where the first of them has this number
-unfoldable pub first_refused : List (List ℕ) → ℕ → Items → Option Refusal
-first_refused probes number no_items = None
-first_refused probes number (item clone clones) = refusal_or (names_code probes (probes_of clone)) number (first_refused probes (number + 1) clones)
+abbrev pub clones_refused : List (List ℕ) → ℕ → List Data → Option Refusal
+clones_refused probes number [] = None
+clones_refused probes number (clone ∷ clones) = refusal_or (names_code probes (probes_in clone)) number (clones_refused probes (number + 1) clones)
 
--- the row of names: the set of their columns
-abbrev pub names_row : List (List ℕ) → List (List ℕ) → List ℕ
-names_row probes names = columns_among (length probes) (map (column_of probes) names)
-
--- the row of a clone: that of its probes
-abbrev pub clone_row : List (List ℕ) → Data → List ℕ
-clone_row probes clone = names_row probes (unwrap_or (probes_of clone) [])
-
--- the row of each clone
-abbrev pub clone_rows : List (List ℕ) → Items → List (List ℕ)
-clone_rows probes no_items = []
-clone_rows probes (item clone clones) = clone_row probes clone ∷ clone_rows probes clones
+-- the row of a clone: the set of the columns of its probes
+abbrev pub row_of_probes : List (List ℕ) → Data → List ℕ
+row_of_probes probes clone = columns_among (length probes) (map (column_of probes) (unwrap_or (probes_in clone) []))
 
 -- the code by which the probes or the number of clones is refused, if they are
 abbrev pub head_code : List (List ℕ) → ℕ → Option ℕ
@@ -96,29 +69,18 @@ head_code probes clones =
     else if nat_lt MAX_ROWS clones then Some LIMIT
     else None
 
--- the matrix of clones over these probes, or the first refusal of a clone
-abbrev pub clone_matrix : List (List ℕ) → Items → Read RowList
-clone_matrix probes clones = refused_or (first_refused probes 1 clones) (record { columns = length probes; rows = clone_rows probes clones })
-
--- the refusal of this code without a line, or what follows
-abbrev pub unless_refused : Option ℕ → Read RowList → Read RowList
-unless_refused (Some code) rest = answer.Refused (record { code = code; line = 0 })
-unless_refused None rest = rest
-
--- the matrix of probes and clones, or their first refusal
-abbrev pub matrix_of : List (List ℕ) → Items → Read RowList
-matrix_of probes clones = unless_refused (head_code probes (count clones)) (clone_matrix probes clones)
-
--- the matrix, where there are an array of strings and an array
-abbrev pub if_shaped : Option (List (List ℕ)) → Option Items → Read RowList
-if_shaped (Some probes) (Some clones) = matrix_of probes clones
-if_shaped probes clones = answer.Refused (record { code = SHAPE; line = 0 })
+-- the matrix of probes and clones, where there are both, or their first refusal
+abbrev pub clones_over : Option (List (List ℕ)) → Option (List Data) → Read RowList
+clones_over (Some probes) (Some clones) =
+    refused_or (refusal_or (head_code probes (length clones)) 0 (clones_refused probes 1 clones))
+    (record { columns = length probes; rows = map (row_of_probes probes) clones })
+clones_over probes clones = answer.Refused (record { code = SHAPE; line = 0 })
 
 -- the matrix of a value, or its first refusal; bytes without a value are refused
-abbrev pub if_read : Option Data → Read RowList
-if_read None = answer.Refused (record { code = JSON; line = 0 })
-if_read (Some value) = if_shaped (probes_of value) (array_at (codes "clones") value)
+abbrev pub value_read : Option Data → Read RowList
+value_read None = answer.Refused (record { code = JSON; line = 0 })
+value_read (Some value) = clones_over (probes_in value) (values_at (codes "clones") value)
 
 -- the matrix of the bytes of a file, or their first refusal
 unfoldable pub clones : List ℕ → Read RowList
-clones bytes = within_length bytes (if_read (reading (without_mark bytes)))
+clones bytes = within_length bytes (value_read (reading (without_mark bytes)))

@@ -8,15 +8,11 @@ use Rattle.row_model.specs.declared.refusal.Read.TheVariants as read
 use Rattle.row_model.specs.declared.TheConstants.{MAX_COLUMNS, MAX_ROWS}
 use Rattle.row_model.specs.declared.code.TheConstants.{EMPTY, GRAMMAR, COUNT, LIMIT}
 use Rattle.text_lines.specs.Lines.{is_blank_byte, without_mark, lines_of, filled_lines, NumberedLine}
-use Rattle.text_lines.specs.Rows.{refusal_or, first_refusal, refused_or}
+use Rattle.text_lines.specs.Rows.{first_refusal, refused_or}
 
 -- 0 or 1
 abbrev pub is_digit : ℕ → Bool
 is_digit b = (b == 48) || (b == 49)
-
--- a byte that is no digit, space or tab
-abbrev pub is_foreign_byte : ℕ → Bool
-is_foreign_byte b = not (is_digit b || is_blank_byte b)
 
 -- the digits of a line
 abbrev pub digits_of : List ℕ → List ℕ
@@ -30,37 +26,26 @@ width_of line = length (digits_of line)
 abbrev pub digit_row : List ℕ → List ℕ
 digit_row line = columns_where (width_of line) (λ column. slice_index_or (digits_of line) (column - 1) 0 == 49)
 
--- the code by which a line is refused as the first row, if it is
-abbrev pub first_code : List ℕ → Option ℕ
-first_code line =
-    if list_any is_foreign_byte line then Some GRAMMAR
-    else if nat_lt MAX_COLUMNS (width_of line) then Some LIMIT
-    else None
-
--- the code by which a line is refused as a later row, if it is, where the first row has this width and so many rows
--- stand before the line
-abbrev pub row_code : ℕ → ℕ → List ℕ → Option ℕ
-row_code width before line =
+-- the code by which a line is refused as a row of this width, if it is, where so many rows stand before it. A line is
+-- digits, spaces and tabs
+abbrev pub digits_code : ℕ → ℕ → List ℕ → Option ℕ
+digits_code width before line =
     if nat_le MAX_ROWS before then Some LIMIT
-    else if list_any is_foreign_byte line then Some GRAMMAR
-    else if width_of line == width then None
-    else Some COUNT
-
--- the rows of lines
-abbrev pub digit_rows : List NumberedLine → List (List ℕ)
-digit_rows lines = map (λ line. digit_row line.text) lines
+    else if list_any (λ b. not (is_digit b || is_blank_byte b)) line then Some GRAMMAR
+    else if not (width_of line == width) then Some COUNT
+    else if nat_lt MAX_COLUMNS width then Some LIMIT
+    else None
 
 -- the matrix of this width with the rows of lines
 abbrev pub digit_matrix : ℕ → List NumberedLine → RowList
-digit_matrix width lines = record { columns = width; rows = digit_rows lines }
+digit_matrix width lines = record { columns = width; rows = map (λ line. digit_row line.text) lines }
 
--- the matrix of lines that are not blank, or their first refusal
-abbrev pub read_lines : List NumberedLine → Read RowList
-read_lines [] = read.Refused (record { code = EMPTY; line = 0 })
-read_lines (first ∷ lines) =
-    refused_or (refusal_or (first_code first.text) first.number (first_refusal (row_code (width_of first.text)) 1 lines))
-    (digit_matrix (width_of first.text) (first ∷ lines))
+-- the matrix of lines that are not blank, or their first refusal; the first has the width of all
+abbrev pub dense_lines : List NumberedLine → Read RowList
+dense_lines [] = read.Refused (record { code = EMPTY; line = 0 })
+dense_lines (first ∷ lines) =
+    refused_or (first_refusal (digits_code (width_of first.text)) 0 (first ∷ lines)) (digit_matrix (width_of first.text) (first ∷ lines))
 
 -- the matrix of the bytes of a file, or their first refusal
 unfoldable pub dense : List ℕ → Read RowList
-dense bytes = within_length bytes (read_lines (filled_lines 1 (lines_of (without_mark bytes))))
+dense bytes = within_length bytes (dense_lines (filled_lines 1 (lines_of (without_mark bytes))))

@@ -2,9 +2,11 @@ pub mod Dense
 pub mod DenseSteps
 pub mod Written
 pub mod Sparse
+pub mod SparseSteps
 pub mod Names
 pub mod JsonSteps
 pub mod Clones
+pub mod CloneSteps
 pub mod Cells
 pub mod RecordsLeft
 pub mod Table

@@ -3,9 +3,11 @@ use Rattle.std.specs.Prelude.{◌≡◌, ◌≤◌, ℕ, List, ◌∷◌, length
 use Rattle.row_model.specs.declared.refusal.Refusal.{Refusal}
 use Rattle.row_model.specs.declared.refusal.Read.TheVariants as read
 use Rattle.row_model.specs.declared.TheConstants.{MAX_FILE_BYTES}
-use Rattle.text_lines.specs.Words.{words_of, only_word}
-use Rattle.matrix_read.specs.Dense.{width_of, first_code, row_code, digit_matrix, dense}
-use Rattle.matrix_read.specs.Sparse.{width_given, line_code, named_matrix, sparse, further}
+use Rattle.text_lines.specs.Words.{words_of}
+use Rattle.matrix_read.specs.SparseSteps.{only_word, width_given}
+use Rattle.matrix_read.specs.Dense.{width_of, digit_matrix, dense}
+use Rattle.matrix_read.specs.DenseSteps.{first_code, row_code}
+use Rattle.matrix_read.specs.Sparse.{line_code, named_matrix, sparse, further}
 use Rattle.text_lines.specs.FirstRefusal.{IsOfFirstLine, NoLineRefused, RefusesLong, HeadRefusals, TakesLines, filled_of, numbered_of}
 
 -- the width that the first row of a dense file gives, or the code of its refusal

@@ -1,6 +1,6 @@
 -- A matrix as a table of comma-separated values: a record with the names of the columns, and then a record for each
 -- row.
-use Rattle.std.specs.Prelude.{ℕ, ◌+◌, ◌==◌, not, List, [], ◌∷◌, map, length, if◌then◌else◌, nat_lt, nat_le, Option, Some, None}
+use Rattle.std.specs.Prelude.{ℕ, ◌+◌, ◌==◌, ◌||◌, not, List, [], ◌∷◌, map, length, if◌then◌else◌, nat_lt, nat_le, Option, Some, None}
 use Rattle.std.specs.List.{list_any, list_all, filter}
 use Rattle.csv.specs.Reading.{default_config, strip_bom, records}
 use Rattle.row_model.specs.Limits.{within_length}
@@ -12,11 +12,11 @@ use Rattle.row_model.specs.declared.TheConstants.{MAX_COLUMNS, MAX_ROWS}
 use Rattle.row_model.specs.declared.code.TheConstants.{EMPTY, GRAMMAR, TWICE, LIMIT, CSV}
 use Rattle.text_lines.specs.Rows.{refusal_or, refused_or}
 use Rattle.matrix_read.specs.Names.{has_twice}
-use Rattle.matrix_read.specs.Cells.{cells, is_empty, is_foreign_cell, record_row}
+use Rattle.matrix_read.specs.Cells.{cells, is_absent, is_present, record_row}
 
 -- the names in a header: blank cells are none
 abbrev pub names_of : List (List ℕ) → List (List ℕ)
-names_of header = filter (λ name. not (is_empty name)) (cells header)
+names_of header = filter (λ name. not (length name == 0)) (cells header)
 
 -- the code by which a header is refused, if it is
 abbrev pub header_code : List (List ℕ) → Option ℕ
@@ -30,7 +30,7 @@ header_code header =
 abbrev pub record_code : ℕ → List (List ℕ) → Option ℕ
 record_code before fields =
     if nat_le MAX_ROWS before then Some LIMIT
-    else if list_any is_foreign_cell (cells fields) then Some GRAMMAR
+    else if list_any (λ cell. not (is_present cell || is_absent cell)) (cells fields) then Some GRAMMAR
     else None
 
 -- the first refusal among records, if there is one, where so many rows stand before them; the header is record 1

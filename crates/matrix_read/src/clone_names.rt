@@ -4,7 +4,8 @@ ghost use Rattle.std.specs.Prelude.{◌≡◌, ◌<◌, ◌≤◌, ◌-◌, true
 ghost use Rattle.json.specs.Json.{parse_map};
 ghost use Rattle.json.specs.Reads.{token_of};
 ghost use Rattle.serde_json.specs.Data.{array, object, no_members};
-ghost use Rattle.matrix_read.specs.Clones.{reading, strings_of, probes_of};
+ghost use Rattle.matrix_read.specs.Clones.{reading};
+ghost use Rattle.matrix_read.specs.CloneSteps.{strings_of, probes_of};
 ghost use Rattle.matrix_read.specs.JsonSteps.{value_at, items_at, members_at, string_in, opens_array, opens_object, IsNoArray, IsNoObject};
 ghost use Rattle.matrix_read.specs.CloneNames.{array_strings, member_probes, clone_names, array_clones, file_names, member_names, with_string, names_view, clones_view, list_view, file_view};
 

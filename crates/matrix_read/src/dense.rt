@@ -3,8 +3,8 @@ ghost use Rattle.std.specs.Prelude.{◌≡◌, ◌+◌, ◌-◌, ◌^◌, ◌<�
 ghost use Rattle.std.specs.List.{list_any, list_all};
 ghost use Rattle.row_model.specs.Rows.{columns_where};
 ghost use Rattle.text_lines.specs.Lines.{lines_of, filled_lines};
-ghost use Rattle.matrix_read.specs.Dense.{is_digit, is_foreign_byte, width_of, digit_row, row_code, read_lines, dense};
-ghost use Rattle.matrix_read.specs.DenseSteps.{rows_or_refusal};
+ghost use Rattle.matrix_read.specs.Dense.{is_digit, width_of, digit_row, dense};
+ghost use Rattle.matrix_read.specs.DenseSteps.{is_foreign_byte, row_code, read_lines, rows_or_refusal};
 ghost use Rattle.matrix_read.specs.Written.{DenseLaw};
 
 use row_model::{MAX_COLUMNS, MAX_FILE_BYTES, MAX_ROWS, Matrix, NoMemory, Read, Refusal, code};

@@ -2,7 +2,8 @@
 ghost use Rattle.std.specs.Prelude.{◌≡◌, ◌+◌, ◌-◌, ◌<◌, ◌≤◌, ◌∷◌, length, take, drop, None, IfSome};
 ghost use Rattle.text_lines.specs.Lines.{first_line, without_return, lines_of};
 ghost use Rattle.text_lines.specs.Words.{words_of};
-ghost use Rattle.matrix_read.specs.Sparse.{words_code, row_named};
+ghost use Rattle.matrix_read.specs.Sparse.{words_code};
+ghost use Rattle.matrix_read.specs.SparseSteps.{row_named};
 
 use row_model::COLUMN_BOUND;
 use text_lines::digits_at;

@@ -1,9 +1,11 @@
 -- Lines of a text.
-use Rattle.std.proofs.Common.{◌≡◌, ℕ, suc, zero, ◌<◌, ◌≤◌, ◌+◌, ◌-◌, List, [], ◌∷◌, length, take, drop, get_or, ap, sym, ◌∙◌, refl, arith, ◌==◌, add-one, true, false, if◌then◌else◌, map, min, add_assoc, length-drop, slice_range, take-take}
+use Rattle.std.proofs.Common.{◌≡◌, ℕ, suc, zero, ◌<◌, ◌≤◌, ◌+◌, ◌-◌, List, [], ◌∷◌, length, take, drop, get_or, ap, sym, ◌∙◌, refl, arith, ◌==◌, add-one, Bool, true, false, if◌then◌else◌, map, min, add_assoc, length-drop, slice_range, take-take}
 use Rattle.std.proofs.Math.ListN.{drop_of_length-le}
 use Rattle.std.proofs.lemmas.Grind.{common_steps}
 use Rattle.std.proofs.lemmas.List.{drop-drop, length-take-le}
-use Rattle.text_lines.specs.Lines.{without_return, line_parts, before_first, line_len, first_line, lines_of, is_blank, filled_lines}
+use Rattle.std.specs.List.{onto_first}
+use Rattle.std.specs.Str.Lines.{strip_carriage_return}
+use Rattle.text_lines.specs.Lines.{without_return, line_parts, line_len, first_line, lines_of, is_blank, filled_lines}
 
 -- a line that ends with a carriage return is shorter by it
 pub length_return_dropped : (line : List ℕ) (n : ℕ) → length line ≡ n + 1 → get_or line n 0 ≡ 13 → length (without_return line) ≡ n
@@ -44,14 +46,14 @@ line_len-le (b ∷ bytes) = grind (arith, common_steps, line_len-le bytes)
 pub line_parts_first : (bytes : List ℕ) → 0 < length bytes → line_parts bytes ≡ first_line bytes ∷ line_parts (drop (line_len bytes + 1) bytes)
 unfolding line_parts
 line_parts_first [] h = absurd (omega arith)
-line_parts_first (b ∷ []) h = elim (b == 10) as (λ v. (if v then [] ∷ line_parts [] else before_first b (line_parts [])) ≡ take (if v then 0 else 1) (b ∷ []) ∷ line_parts (drop ((if v then 0 else 1) + 1) (b ∷ []))) [
+line_parts_first (b ∷ []) h = elim (b == 10) as (λ v. (if v then [] ∷ line_parts [] else onto_first b (line_parts [])) ≡ take (if v then 0 else 1) (b ∷ []) ∷ line_parts (drop ((if v then 0 else 1) + 1) (b ∷ []))) [
   | true ↦ refl
   | false ↦ refl
 ]
-line_parts_first (b ∷ c ∷ bytes) h = elim (b == 10) as (λ v. (if v then [] ∷ line_parts (c ∷ bytes) else before_first b (line_parts (c ∷ bytes)))
+line_parts_first (b ∷ c ∷ bytes) h = elim (b == 10) as (λ v. (if v then [] ∷ line_parts (c ∷ bytes) else onto_first b (line_parts (c ∷ bytes)))
     ≡ take (if v then 0 else suc (line_len (c ∷ bytes))) (b ∷ c ∷ bytes) ∷ line_parts (drop ((if v then 0 else suc (line_len (c ∷ bytes))) + 1) (b ∷ c ∷ bytes))) [
       | true ↦ refl
-      | false ↦ ap (before_first b) (line_parts_first (c ∷ bytes) (omega arith)) ∙ ap (λ k. (b ∷ take (line_len (c ∷ bytes)) (c ∷ bytes)) ∷ line_parts k) (ap (λ n. drop n (b ∷ c ∷ bytes)) (sym (add-one (line_len (c ∷ bytes) + 1)) ∙ omega arith))
+      | false ↦ ap (onto_first b) (line_parts_first (c ∷ bytes) (omega arith)) ∙ ap (λ k. (b ∷ take (line_len (c ∷ bytes)) (c ∷ bytes)) ∷ line_parts k) (ap (λ n. drop n (b ∷ c ∷ bytes)) (sym (add-one (line_len (c ∷ bytes) + 1)) ∙ omega arith))
     ]
 
 drop_capped : (text : List ℕ) (n : ℕ) → drop n text ≡ drop (min n (length text)) text
@@ -60,10 +62,24 @@ drop_capped text n = grind (arith, common_steps, drop_of_length-le {A = ℕ})
 pub rest_is : (text : List ℕ) (at next len : ℕ) → next ≡ min (at + len + 1) (length text) → drop (len + 1) (drop at text) ≡ drop next text
 rest_is text at next len is = drop-drop (len + 1) at text ∙ ap (λ n. drop n text) (sym (add_assoc at len 1)) ∙ drop_capped text (at + len + 1) ∙ ap (λ n. drop n text) (sym is)
 
+-- a line loses the carriage return at its end, if it has one
+pub strip_is : (line : List ℕ) → strip_carriage_return line ≡ without_return line
+strip_is [] = refl
+strip_is (b ∷ []) = refl
+strip_is (b ∷ c ∷ line) =
+    let last : length (b ∷ c ∷ line) - 1 ≡ suc (length (c ∷ line) - 1) = omega arith in
+    rw last (behind (get_or (c ∷ line) (length (c ∷ line) - 1) 0 == 13)) ∙ ap (λ t. b ∷ t) (strip_is (c ∷ line))
+  where
+    behind : (t : Bool) → (if t then b ∷ take (length (c ∷ line) - 1) (c ∷ line) else b ∷ c ∷ line) ≡ b ∷ (if t then take (length (c ∷ line) - 1) (c ∷ line) else c ∷ line)
+    behind true = refl
+    behind false = refl
+
 -- the first line from a place on, and the lines behind it
 pub lines_split : (text : List ℕ) (at : ℕ) → at < length text
     → lines_of (drop at text) ≡ without_return (first_line (drop at text)) ∷ lines_of (drop (line_len (drop at text) + 1) (drop at text))
-lines_split text at lt = ap (map without_return) (line_parts_first (drop at text) (omega (arith, length-drop at text)))
+lines_split text at lt =
+    ap (map strip_carriage_return) (line_parts_first (drop at text) (omega (arith, length-drop at text)))
+    ∙ ap (λ line. line ∷ lines_of (drop (line_len (drop at text) + 1) (drop at text))) (strip_is (first_line (drop at text)))
 
 -- the line at a place, without its carriage return
 pub line_text : (text : List ℕ) (at end : ℕ) → end ≡ at + length (without_return (first_line (drop at text))) → slice_range text at end ≡ without_return (first_line (drop at text))

@@ -2,12 +2,14 @@
 use Rattle.std.proofs.Common.{◌≡◌, ◌≢◌, ◌∙◌, ℕ, ◌<◌, ◌≤◌, ◌+◌, ◌-◌, ◌==◌, true, false, not, List, [], ◌∷◌, ◌++◌, length, take, drop, map, slice_range, refl, sym, ap, arith, take-take}
 use Rattle.std.proofs.lemmas.Bool.{ne_eqb, or_parts}
 use Rattle.std.proofs.lemmas.List.{append-nil}
-use Rattle.std.specs.List.{list_any}
+use Rattle.std.specs.List.{list_any, onto_first}
+use Rattle.std.specs.Str.Lines.{strip_carriage_return}
 use Rattle.column_order.specs.Orders.{has}
-use Rattle.text_lines.specs.Lines.{is_blank_byte, before_first, without_return, line_parts, lines_of, is_blank, filled_lines}
+use Rattle.text_lines.specs.Lines.{is_blank_byte, without_return, line_parts, lines_of, is_blank, filled_lines}
 use Rattle.text_lines.specs.Rows.{numbered_lines}
 use Rattle.text_lines.specs.Words.{blank_len, word_len, begins_word, words_of}
 use Rattle.text_lines.specs.TextLaws.{LinesOfTextLaw, LineNumbersLaw, WordsLaw}
+use Rattle.text_lines.proofs.LineLemmas.{strip_is}
 use Rattle.text_lines.proofs.WordLemmas.{words_of_blank, words_of_last, words_of_more, words_of_blanks, words_of_skip, word_first, drop-slice_range}
 
 -- bytes without a line feed, and then a line feed
@@ -23,11 +25,11 @@ unfolding line_parts
 parts_last b [] h = rw (or_parts (b == 10) false h).0 refl
 parts_last b (a ∷ line) h =
     let parts = or_parts (b == 10) (has (a ∷ line) 10) h in
-    rw parts.0 (ap (before_first b) (parts_last a line parts.1))
+    rw parts.0 (ap (onto_first b) (parts_last a line parts.1))
 
 last_line : (line : List ℕ) → 1 ≤ length line → has line 10 ≡ false → lines_of line ≡ without_return line ∷ []
 last_line [] some h = absurd (omega arith)
-last_line (b ∷ line) some h = ap (map without_return) (parts_last b line h)
+last_line (b ∷ line) some h = ap (map strip_carriage_return) (parts_last b line h) ∙ ap (λ l. l ∷ []) (strip_is (b ∷ line))
 
 no_parts : line_parts [] ≡ []
 unfolding line_parts
@@ -45,8 +47,8 @@ return_none (a ∷ d ∷ line) b other = ap (λ t. a ∷ t) (return_none (d ∷ 
 
 pub lines_law : LinesOfTextLaw
 lines_law = record {
-  none = ap (map without_return) no_parts;
-  feed = λ line rest h. ap (map without_return) (parts_feed line rest h);
+  none = ap (map strip_carriage_return) no_parts;
+  feed = λ line rest h. ap (map strip_carriage_return) (parts_feed line rest h) ∙ ap (λ l. l ∷ lines_of rest) (strip_is line);
   last = last_line;
   return_nothing = refl;
   return_dropped = return_dropped;
@@ -71,7 +73,7 @@ word_before (b ∷ a ∷ word) rest some h apart =
     let parts = or_parts (is_blank_byte b) (list_any is_blank_byte (a ∷ word)) h in
     let next = or_parts (is_blank_byte a) (list_any is_blank_byte word) parts.1 in
     words_of_more b (a ∷ (word ++ rest)) parts.0 (ap not next.0)
-    ∙ ap (before_first b) (word_before (a ∷ word) rest (omega arith) parts.1 apart)
+    ∙ ap (onto_first b) (word_before (a ∷ word) rest (omega arith) parts.1 apart)
 
 pub no_words : words_of [] ≡ []
 unfolding words_of

@@ -1,15 +1,15 @@
 -- Words, and the numbers that they write.
-use Rattle.std.proofs.Common.{◌≡◌, ℕ, suc, ◌<◌, ◌≤◌, ◌+◌, ◌-◌, ◌*◌, ◌^◌, List, [], ◌∷◌, length, take, drop, slice_range, ap, sym, ◌∙◌, refl, arith, true, false, if◌then◌else◌, ◌&&◌, not, get_or, nat_lt, Bool, Option, Some, None, drop-cons}
+use Rattle.std.proofs.Common.{◌≡◌, ℕ, suc, ◌<◌, ◌≤◌, ◌+◌, ◌-◌, ◌*◌, ◌^◌, List, [], ◌∷◌, length, take, drop, slice_range, ap, sym, ◌∙◌, refl, arith, true, false, if◌then◌else◌, ◌==◌, ◌&&◌, not, get_or, nat_lt, Bool, Option, Some, None, drop-cons}
 use Rattle.std.proofs.Math.ListN.{drop_of_length-le}
 use Rattle.std.proofs.lemmas.List.{drop-take, drop-drop, length-take-le, length-drop}
-use Rattle.std.proofs.lemmas.Bool.{lt-ltb, le-ltb, and_parts}
+use Rattle.std.proofs.lemmas.Bool.{lt-ltb, le-ltb, ne_eqb, and_parts}
 use Rattle.std.proofs.lemmas.Grind.{common_steps}
 use Rattle.std.proofs.lemmas.Bool.Decides.{nat_tests}
 use Rattle.std.proofs.lemmas.Nat.{pow-add}
 use Rattle.std.proofs.Math.Pow.{pow_mono}
-use Rattle.std.specs.List.{list_all}
+use Rattle.std.specs.List.{list_all, filter, onto_first, slice_split}
 use Rattle.std.specs.Char.{is_ascii_digit}
-use Rattle.text_lines.specs.Lines.{is_blank, is_blank_byte, before_first}
+use Rattle.text_lines.specs.Lines.{is_blank, is_blank_byte}
 use Rattle.text_lines.specs.Words.{blank_len, word_len, begins_word, words_of, number_after, number_of, numeral, numeral_of}
 use Rattle.text_lines.specs.declared.words.Numeral.TheVariants.{Value, TooLarge, NotDigits}
 
@@ -59,19 +59,65 @@ module _ (bytes : List ℕ) (at end k : ℕ) (order : at ≤ end) (within : end 
       let le : at + k ≤ end = omega arith in
       rw (← drop-slice_range bytes at end k le, is) (word_some (slice_range bytes at end) (omega (arith, length-slice_range bytes at end order within)))
 
+-- a word is not empty
+filled_word : (b : ℕ) (word : List ℕ) → not (length (b ∷ word) == 0) ≡ true
+filled_word b word = ap not (ne_eqb (length (b ∷ word)) 0 (λ e. absurd (omega arith)))
+
+kept_word : (b : ℕ) (word : List ℕ) (words : List (List ℕ)) → filter (λ word. not (length word == 0)) ((b ∷ word) ∷ words) ≡ (b ∷ word) ∷ filter (λ word. not (length word == 0)) words
+kept_word b word words = rw (filled_word b word) refl
+
+-- the parts of a line between blanks
+parts_of : List ℕ → List (List ℕ)
+parts_of line = slice_split is_blank_byte line
+
+words_are : (line : List ℕ) → words_of line ≡ filter (λ word. not (length word == 0)) (parts_of line)
+unfolding words_of parts_of
+words_are line = refl
+
+part_of_blank : (b : ℕ) (line : List ℕ) → is_blank_byte b ≡ true → parts_of (b ∷ line) ≡ [] ∷ parts_of line
+unfolding parts_of
+part_of_blank b line h = rw h refl
+
+part_of_other : (b : ℕ) (line : List ℕ) → is_blank_byte b ≡ false → parts_of (b ∷ line) ≡ onto_first b (parts_of line)
+unfolding parts_of
+part_of_other b line h = rw h refl
+
+no_parts : parts_of [] ≡ [] ∷ []
+unfolding parts_of
+no_parts = refl
+
+not_false : (t : Bool) → not t ≡ false → t ≡ true
+not_false true h = refl
+not_false false h = absurd (cc)
+
+not_true : (t : Bool) → not t ≡ true → t ≡ false
+not_true true h = absurd (cc)
+not_true false h = refl
+
+-- the parts of a line that begins with a word or does not
+kept_onto : (b c : ℕ) (parts : List (List ℕ)) →
+    filter (λ word. not (length word == 0)) (onto_first b (onto_first c parts)) ≡ onto_first b (filter (λ word. not (length word == 0)) (onto_first c parts))
+kept_onto b c [] = kept_word b (c ∷ []) [] ∙ ap (onto_first b) (sym (kept_word c [] []))
+kept_onto b c (part ∷ parts) = kept_word b (c ∷ part) parts ∙ ap (onto_first b) (sym (kept_word c part parts))
+
 -- blanks at the front are in no word
 module _ (b : ℕ) (line : List ℕ) where
   pub words_of_blank : is_blank_byte b ≡ true → words_of (b ∷ line) ≡ words_of line
-  unfolding words_of
-  words_of_blank h = rw h refl
+  words_of_blank h = words_are (b ∷ line) ∙ ap (filter (λ word. not (length word == 0))) (part_of_blank b line h) ∙ sym (words_are line)
 
   pub words_of_last : is_blank_byte b ≡ false → begins_word line ≡ false → words_of (b ∷ line) ≡ (b ∷ []) ∷ words_of line
-  unfolding words_of
-  words_of_last h e = rw (h, e) refl
+  words_of_last h e = words_are (b ∷ line) ∙ ap (filter (λ word. not (length word == 0))) (part_of_other b line h) ∙ by line e ∙ ap (λ words. (b ∷ []) ∷ words) (sym (words_are line))
+    where
+      by : (rest : List ℕ) → begins_word rest ≡ false → filter (λ word. not (length word == 0)) (onto_first b (parts_of rest)) ≡ (b ∷ []) ∷ filter (λ word. not (length word == 0)) (parts_of rest)
+      by [] k = rw no_parts (kept_word b [] [])
+      by (c ∷ rest) k = rw (part_of_blank c rest (not_false (is_blank_byte c) k)) (kept_word b [] (parts_of rest))
 
-  pub words_of_more : is_blank_byte b ≡ false → begins_word line ≡ true → words_of (b ∷ line) ≡ before_first b (words_of line)
-  unfolding words_of
-  words_of_more h e = rw (h, e) refl
+  pub words_of_more : is_blank_byte b ≡ false → begins_word line ≡ true → words_of (b ∷ line) ≡ onto_first b (words_of line)
+  words_of_more h e = words_are (b ∷ line) ∙ ap (filter (λ word. not (length word == 0))) (part_of_other b line h) ∙ by line e ∙ ap (onto_first b) (sym (words_are line))
+    where
+      by : (rest : List ℕ) → begins_word rest ≡ true → filter (λ word. not (length word == 0)) (onto_first b (parts_of rest)) ≡ onto_first b (filter (λ word. not (length word == 0)) (parts_of rest))
+      by [] k = absurd (cc)
+      by (c ∷ rest) k = rw (part_of_other c rest (not_true (is_blank_byte c) k)) (kept_onto b c (parts_of rest))
 
 pub words_of_skip : (line : List ℕ) → words_of line ≡ words_of (drop (blank_len line) line)
 words_of_skip [] = refl
@@ -87,7 +133,7 @@ words_of_word b [] h = words_of_last b [] h refl
 words_of_word b (c ∷ line) h =
     (elim (is_blank_byte c) as (λ v. is_blank_byte c ≡ v → words_of (b ∷ c ∷ line) ≡ (b ∷ take (if v then 0 else suc (word_len line)) (c ∷ line)) ∷ words_of (drop (if v then 0 else suc (word_len line)) (c ∷ line))) [
       | true ↦ λ e. words_of_last b (c ∷ line) h (ap not e)
-      | false ↦ λ e. words_of_more b (c ∷ line) h (ap not e) ∙ ap (before_first b) (words_of_word c line e)
+      | false ↦ λ e. words_of_more b (c ∷ line) h (ap not e) ∙ ap (onto_first b) (words_of_word c line e)
     ]) refl
 
 pub word_first : (line : List ℕ) → 0 < word_len line → words_of line ≡ take (word_len line) line ∷ words_of (drop (word_len line) line)

@@ -1,6 +1,7 @@
 -- The lines of a text.
 use Rattle.std.specs.Prelude.{ℕ, suc, ◌+◌, ◌==◌, ◌||◌, ◌&&◌, List, [], ◌∷◌, if◌then◌else◌, Bool, take, map}
-use Rattle.std.specs.List.{list_all}
+use Rattle.std.specs.List.{list_all, onto_first}
+use Rattle.std.specs.Str.Lines.{strip_carriage_return}
 
 -- the bytes without the byte order mark EF BB BF, if they begin with it
 abbrev pub without_mark : List ℕ → List ℕ
@@ -22,19 +23,14 @@ without_return [] = []
 without_return (b ∷ []) = if b == 13 then [] else b ∷ []
 without_return (b ∷ c ∷ line) = b ∷ without_return (c ∷ line)
 
--- a byte before the first line, or a line of its own
-abbrev pub before_first : ℕ → List (List ℕ) → List (List ℕ)
-before_first b [] = (b ∷ []) ∷ []
-before_first b (line ∷ lines) = (b ∷ line) ∷ lines
-
 -- the parts of a text that line feeds end; bytes after the last line feed are a part too
 unfoldable pub line_parts : List ℕ → List (List ℕ)
 line_parts [] = []
-line_parts (b ∷ bytes) = if b == 10 then [] ∷ line_parts bytes else before_first b (line_parts bytes)
+line_parts (b ∷ bytes) = if b == 10 then [] ∷ line_parts bytes else onto_first b (line_parts bytes)
 
--- the lines of a text
+-- the lines of a text: its parts, each without one carriage return at its end
 abbrev pub lines_of : List ℕ → List (List ℕ)
-lines_of text = map without_return (line_parts text)
+lines_of text = map strip_carriage_return (line_parts text)
 
 -- a space or a tab
 abbrev pub is_blank_byte : ℕ → Bool

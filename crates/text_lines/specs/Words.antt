@@ -1,8 +1,8 @@
 -- The words of a line, and the numbers that they write.
-use Rattle.std.specs.Prelude.{◌≡◌, ℕ, suc, ◌+◌, ◌-◌, ◌*◌, ◌^◌, List, [], ◌∷◌, if◌then◌else◌, nat_lt, Bool, false, not, Option, Some, None}
+use Rattle.std.specs.Prelude.{◌≡◌, ℕ, suc, ◌+◌, ◌-◌, ◌*◌, ◌^◌, List, [], ◌∷◌, map, length, ◌==◌, if◌then◌else◌, nat_lt, Bool, false, not, Option, Some, None}
 use Rattle.std.specs.Char.{is_ascii_digit}
-use Rattle.std.specs.List.{list_all}
-use Rattle.text_lines.specs.Lines.{is_blank_byte, before_first}
+use Rattle.std.specs.List.{list_all, filter, slice_split}
+use Rattle.text_lines.specs.Lines.{is_blank_byte}
 use Rattle.text_lines.specs.declared.words.Numeral.{Numeral}
 use Rattle.text_lines.specs.declared.words.Numeral.TheVariants.{Value, TooLarge, NotDigits}
 
@@ -21,18 +21,9 @@ abbrev pub begins_word : List ℕ → Bool
 begins_word [] = false
 begins_word (b ∷ line) = not (is_blank_byte b)
 
--- the words of a line: the longest runs of bytes other than spaces and tabs
+-- the words of a line: what stands between spaces and tabs, where that is not empty
 unfoldable pub words_of : List ℕ → List (List ℕ)
-words_of [] = []
-words_of (b ∷ line) =
-    if is_blank_byte b then words_of line
-    else if begins_word line then before_first b (words_of line)
-    else (b ∷ []) ∷ words_of line
-
--- the word, where there is exactly one
-abbrev pub only_word : List (List ℕ) → Option (List ℕ)
-only_word (word ∷ []) = Some word
-only_word words = None
+words_of line = filter (λ word. not (length word == 0)) (slice_split is_blank_byte line)
 
 -- the number that digits write, where a number stands before them
 abbrev pub number_after : ℕ → List ℕ → ℕ
@@ -43,6 +34,10 @@ number_after n (b ∷ digits) = number_after (n * 10 + (b - 48)) digits
 abbrev pub number_of : List ℕ → Option ℕ
 number_of [] = None
 number_of (b ∷ word) = if list_all is_ascii_digit (b ∷ word) then Some (number_after 0 (b ∷ word)) else None
+
+-- the numbers that the words of a line write, word by word
+abbrev pub numbers_in : List ℕ → List (Option ℕ)
+numbers_in line = map number_of (words_of line)
 
 -- what a number is in 64 bits
 abbrev pub numeral : Option ℕ → Numeral

@@ -5,13 +5,13 @@ use Rattle.row_model.specs.declared.graph.Line.{Line}
 use Rattle.row_model.specs.declared.graph.Why.{Why}
 use Rattle.row_model.specs.declared.graph.Why.TheVariants.{Flip, Row}
 
--- the greatest count, column, row or position: the greatest number of 32 bits
+-- a count, a column, a row or a position: a number of 32 bits
+abbrev pub Fits32 : ℕ → Type 0
+Fits32 n = n ≤ 4294967295
+
+-- the greatest of them, for who reads one
 abbrev pub max_number : ℕ
 max_number = 4294967295
-
--- a count, a column, a row or a position
-abbrev pub Fits32 : ℕ → Type 0
-Fits32 n = n ≤ max_number
 
 -- a number of columns
 abbrev pub IsColumnCount : ℕ → Type 0

@@ -14,16 +14,12 @@ pub record UnitValue : Type 0 where
 abbrev pub max_end : ℕ
 max_end = 18446744073709551615
 
--- a length or a left end
-abbrev pub IsEnd : ℕ → Type 0
-IsEnd n = n ≤ max_end
-
 -- what the grammar has: 1 vertex to 2,048, and for each a left end
 pub record IsUnit (t : UnitValue) : Type 0 where
   pub vertices : (1 ≤ t.vertices) × (t.vertices ≤ MAX_COLUMNS)
-  pub size : IsEnd t.size
+  pub size : t.size ≤ max_end
   pub count : length t.lefts ≡ t.vertices
-  pub each : AllByRecursion IsEnd t.lefts
+  pub each : AllByRecursion (λ n. n ≤ max_end) t.lefts
 
 -- `unit I A`
 abbrev pub left_line : ℕ → ℕ → List ℕ
@@ -34,10 +30,16 @@ abbrev pub left_lines : ℕ → List ℕ → List ℕ
 left_lines i [] = []
 left_lines i (left ∷ lefts) = left_line i left ++ left_lines (i + 1) lefts
 
--- `pq-unit 1`, `vertices N` and `length M`
+-- the whole text: `pq-unit 1`, `vertices N`, `length M`, a line for each left end, `end`
+unfoldable pub unit_text : UnitValue → List ℕ
+unit_text t =
+    (codes "pq-unit 1\nvertices " ++ (decimal t.vertices ++ (codes "\nlength " ++ (decimal t.size ++ 10 ∷ [])))) ++
+    (left_lines 1 t.lefts ++ codes "end\n")
+
+-- its first three lines
 abbrev pub unit_head : ℕ → ℕ → List ℕ
 unit_head vertices size = codes "pq-unit 1\nvertices " ++ (decimal vertices ++ (codes "\nlength " ++ (decimal size ++ 10 ∷ [])))
 
--- the whole text
-unfoldable pub unit_text : UnitValue → List ℕ
-unit_text t = unit_head t.vertices t.size ++ (left_lines 1 t.lefts ++ codes "end\n")
+-- a length or a left end
+abbrev pub IsEnd : ℕ → Type 0
+IsEnd n = n ≤ max_end

@@ -6,7 +6,7 @@ use Rattle.row_model.specs.declared.kind.Kind.TheVariants.{Clones}
 use Rattle.verdict_text.specs.Verdict.{Claim, yes_claim, no_claim, VerdictValue}
 use Rattle.verdict_text.specs.declared.verdict.Version.{Version}
 use Rattle.verdict_text.specs.declared.verdict.Version.TheVariants.{One, Two}
-use Rattle.instance_model.specs.Instance.{InstanceValue, plain, circular, convex, doubly, proper, robinson, instance_columns, derived_matrix}
+use Rattle.instance_model.specs.Instance.{InstanceValue, plain, proper, instance_columns, derived_matrix}
 use Rattle.verdict_check.specs.declared.outcome.Reason.{Reason}
 use Rattle.verdict_check.specs.declared.outcome.Reason.TheVariants as reason
 
@@ -32,11 +32,8 @@ kind_tests kind = []
 -- of what the kind adds to a yes
 abbrev pub added_tests : InstanceValue → List Reason
 added_tests (plain kind matrix) = kind_tests kind
-added_tests (circular matrix) = []
-added_tests (convex graph) = []
-added_tests (doubly graph) = []
 added_tests (proper graph) = reason.Intervals ∷ []
-added_tests (robinson distances) = []
+added_tests other = []
 
 -- of the sides of a yes, one after another
 abbrev pub sides_tests : Version → InstanceValue → List Reason

@@ -10,7 +10,7 @@ use Rattle.clone_map.specs.Places.{ArePlaces}
 use Rattle.clone_map.specs.Contigs.{AreContigs}
 use Rattle.circular_ones.specs.Circular.{IsTurned}
 use Rattle.proper_interval.specs.Models.{IsProperModel}
-use Rattle.instance_model.specs.Instance.{InstanceValue, plain, circular, convex, doubly, proper, robinson, IsSideOf, IsTextbookOrder}
+use Rattle.instance_model.specs.Instance.{InstanceValue, plain, circular, proper, IsSideOf, IsTextbookOrder}
 
 -- the order is a textbook order of the side, and so is each frontier of the tree
 abbrev pub ShowsOrders : InstanceValue → ℕ → SideValue → Type 0
@@ -34,11 +34,8 @@ IsTrueAddedTo kind rows value side = Unit {0}
 -- what the kind adds is true of the order: of a graph, its intervals are a proper model
 abbrev pub IsTrueAdded : InstanceValue → YesValue → Type 0
 IsTrueAdded (plain kind matrix) value = IsSomeAnd (slice_get value.sides 0) (IsTrueAddedTo kind matrix.rows value)
-IsTrueAdded (circular matrix) value = Unit {0}
-IsTrueAdded (convex graph) value = Unit {0}
-IsTrueAdded (doubly graph) value = Unit {0}
 IsTrueAdded (proper graph) value = IsProperModel graph value.added.intervals
-IsTrueAdded (robinson distances) value = Unit {0}
+IsTrueAdded other value = Unit {0}
 
 -- each side of the instance is true, and so is what the kind adds
 pub record IsTrueYes (version : Version) (i : InstanceValue) (value : YesValue) : Type 0 where

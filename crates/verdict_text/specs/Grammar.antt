@@ -1,6 +1,6 @@
 -- The verdicts that the grammar of the text has.
 use Rattle.std.specs.Prelude.{◌≡◌, ◌≤◌, ℕ, List, [], ◌∷◌, length}
-use Rattle.std.specs.List.{AllByRecursion}
+use Rattle.std.specs.List.{AllByRecursion, AllZip}
 use Rattle.row_model.specs.declared.kind.Kind.{Kind}
 use Rattle.row_model.specs.declared.kind.Kind.TheVariants.{Doubly, Proper, Clones}
 use Rattle.row_model.specs.declared.lists.Interval.{Interval}
@@ -14,10 +14,6 @@ use Rattle.text_parts.specs.Grammar.{Fits32, IsColumnCount, IsLine}
 -- the greatest end of an interval: the greatest number of 64 bits
 abbrev pub max_end : ℕ
 max_end = 18446744073709551615
-
--- an end of an interval
-abbrev pub Fits64 : ℕ → Type 0
-Fits64 n = n ≤ max_end
 
 -- two sides for `doubly`, one for every other kind
 abbrev pub side_count : Kind → ℕ
@@ -34,14 +30,11 @@ IsSide c side = IsProper c side.tree × (1 ≤ length side.order) × AllByRecurs
 
 -- one side for each number of columns
 abbrev pub AreSides : List ℕ → List SideValue → Type 0
-AreSides [] [] = Unit {0}
-AreSides [] (s ∷ sides) = ⊥
-AreSides (c ∷ columns) [] = ⊥
-AreSides (c ∷ columns) (s ∷ sides) = IsSide c s × AreSides columns sides
+AreSides columns sides = AllZip IsSide columns sides
 
 -- an interval whose ends fit the grammar
 abbrev pub IsInterval : Interval → Type 0
-IsInterval v = Fits64 v.left × Fits64 v.right
+IsInterval v = (v.left ≤ max_end) × (v.right ≤ max_end)
 
 -- a place that is nowhere, or whose positions fit the grammar
 abbrev pub IsPlace : Place → Type 0
@@ -58,13 +51,13 @@ HasAdded Proper columns added = (length added.intervals ∷ [] ≡ columns) × A
 HasAdded Clones columns added = (added.intervals ≡ []) × Fits32 (length added.places) × AllByRecursion IsPlace added.places × Fits32 (length added.contigs) × AllByRecursion HasFittingEnds added.contigs
 HasAdded kind columns added = (added.intervals ≡ []) × (added.places ≡ []) × (added.contigs ≡ [])
 
--- a yes with the sides of the columns and what the kind adds, or a no with one of the kind's sides
+-- a yes with a side for each number of columns and what the kind adds, or a no with one of the kind's sides
 abbrev pub IsClaim : Kind → List ℕ → Claim → Type 0
-IsClaim kind columns (yes_claim value) = AreSides columns value.sides × HasAdded kind columns value.added
+IsClaim kind columns (yes_claim value) = AllZip IsSide columns value.sides × HasAdded kind columns value.added
 IsClaim kind columns (no_claim side lines) = (1 ≤ side) × (side ≤ side_count kind) × Fits32 (length lines) × AllByRecursion IsLine lines
 
 -- a verdict that the grammar has
 pub record IsVerdict (v : VerdictValue) : Type 0 where
   pub sides : length v.columns ≡ side_count v.kind
-  pub columns : AreColumnCounts v.columns
+  pub columns : AllByRecursion IsColumnCount v.columns
   pub claim : IsClaim v.kind v.columns v.claim

@@ -67,19 +67,19 @@ added_text Proper added = numbered interval_line 1 added.intervals
 added_text Clones added = places_text added.places ++ contigs_text added.contigs
 added_text kind added = []
 
--- `side S`, `cycle L` and L lines
-abbrev pub cycle_text : ℕ → List Line → List ℕ
-cycle_text side lines = codes "side " ++ (decimal side ++ (10 ∷ counted_cycle lines))
-
--- `answer yes` or `answer no`, and what follows
+-- `answer yes`, the sides and what the kind adds; or `answer no`, `side S`, `cycle L` and L lines
 abbrev pub claim_text : Kind → Claim → List ℕ
 claim_text kind (yes_claim value) = codes "answer yes\n" ++ (flat_map side_text value.sides ++ added_text kind value.added)
-claim_text kind (no_claim side lines) = codes "answer no\n" ++ cycle_text side lines
+claim_text kind (no_claim side lines) = codes "answer no\n" ++ (codes "side " ++ (decimal side ++ (10 ∷ counted_cycle lines)))
 
--- the first three lines
+-- the whole text: `pq-verdict V`, `kind K`, `columns C`, the answer and what follows it, `end`
+unfoldable pub verdict_text : VerdictValue → List ℕ
+verdict_text v = (version_line v.version ++ (kind_line v.kind ++ columns_line v.columns)) ++ (claim_text v.kind v.claim ++ codes "end\n")
+
+-- its first three lines
 abbrev pub head_text : Version → Kind → List ℕ → List ℕ
 head_text version kind columns = version_line version ++ (kind_line kind ++ columns_line columns)
 
--- the whole text
-unfoldable pub verdict_text : VerdictValue → List ℕ
-verdict_text v = head_text v.version v.kind v.columns ++ (claim_text v.kind v.claim ++ codes "end\n")
+-- what a no tells: `side S`, `cycle L` and L lines
+abbrev pub cycle_text : ℕ → List Line → List ℕ
+cycle_text side lines = codes "side " ++ (decimal side ++ (10 ∷ counted_cycle lines))

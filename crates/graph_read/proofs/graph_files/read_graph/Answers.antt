@@ -1,7 +1,8 @@
 use Rattle.std.proofs.Common.{◌≡◌, ◌∙◌, Ok, Err, ap, sym, arith}
 use Rattle.row_model.specs.declared.refusal.Read.TheVariants as read
 use Rattle.graph_read.specs.Edges.{right_of, lists_of_lines}
-use Rattle.graph_read.specs.GraphFiles.{graph_with, graph_lines, graph}
+use Rattle.graph_read.specs.GraphFiles.{graph_with, graph_lines}
+use Rattle.graph_read.specs.Files.{graph}
 use Rattle.graph_read.proofs.HeadLemmas.{graph_reads, headless, rest_of, graph_at}
 use Rattle.graph_read.proofs.ListLemmas.{are_lists}
 use Rattle.graph_read.proofs.FileLemmas.{graph_read, is_graph}

@@ -2,7 +2,7 @@ use Rattle.std.proofs.Common.{codes, Some, option_and_then, ap, ◌∙◌}
 use Rattle.json.specs.Json.{parse_map}
 use Rattle.serde_json.specs.Data.{object}
 use Rattle.serde_json.specs.Find.{as_array}
-use Rattle.matrix_read.specs.Clones.{strings_of, probes_of}
+use Rattle.matrix_read.specs.CloneSteps.{strings_of, probes_of}
 use Rattle.matrix_read.proofs.FileLemmas.{made_of}
 use Rattle.matrix_read.proofs.clone_names.read_clone.Goals as goal
 

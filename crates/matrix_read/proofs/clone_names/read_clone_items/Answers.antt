@@ -2,7 +2,7 @@ use Rattle.std.proofs.Common.{◌≡◌, [], ◌∷◌, ◌++◌, Some, None, sy
 use Rattle.std.proofs.lemmas.List.{map-append}
 use Rattle.json.specs.Json.{parse_map, after_end_array}
 use Rattle.serde_json.specs.Data.{no_items, item}
-use Rattle.matrix_read.specs.Clones.{probes_of}
+use Rattle.matrix_read.specs.CloneSteps.{probes_of}
 use Rattle.matrix_read.specs.JsonSteps.{value_at}
 use Rattle.matrix_read.specs.CloneNames.{clone_names, names_view, clones_view}
 use Rattle.matrix_read.proofs.ItemLemmas.{none_read, no_item, one_item, all_items}

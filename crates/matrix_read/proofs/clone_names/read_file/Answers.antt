@@ -2,7 +2,7 @@ use Rattle.std.proofs.Common.{◌≡◌, codes, Some, None, option_map, option_a
 use Rattle.json.specs.Json.{parse_map}
 use Rattle.serde_json.specs.Data.{object}
 use Rattle.serde_json.specs.Find.{as_array}
-use Rattle.matrix_read.specs.Clones.{strings_of, probes_of}
+use Rattle.matrix_read.specs.CloneSteps.{strings_of, probes_of}
 use Rattle.matrix_read.specs.CloneNames.{clone_names, clones_of, file_names}
 use Rattle.matrix_read.proofs.FileLemmas.{made_of}
 use Rattle.matrix_read.proofs.clone_names.read_file.Goals as goal

@@ -1,7 +1,7 @@
 use Rattle.std.proofs.Common.{Some, option_and_then, ap, ◌∙◌}
 use Rattle.json.specs.Json.{parse_map}
 use Rattle.serde_json.specs.Data.{array}
-use Rattle.matrix_read.specs.Clones.{strings_of}
+use Rattle.matrix_read.specs.CloneSteps.{strings_of}
 use Rattle.matrix_read.specs.CloneNames.{array_strings}
 use Rattle.matrix_read.proofs.FileLemmas.{made_of}
 use Rattle.matrix_read.proofs.clone_names.read_names.Goals as goal

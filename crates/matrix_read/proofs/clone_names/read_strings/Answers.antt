@@ -3,7 +3,7 @@ use Rattle.json.specs.Json.{parse_map, after_end_array}
 use Rattle.json.specs.Reads.{token_of}
 use Rattle.json.proofs.Grammar.{left_some, left_none}
 use Rattle.serde_json.specs.Data.{no_items, item}
-use Rattle.matrix_read.specs.Clones.{strings_of}
+use Rattle.matrix_read.specs.CloneSteps.{strings_of}
 use Rattle.matrix_read.specs.JsonSteps.{value_at, behind}
 use Rattle.matrix_read.specs.CloneNames.{with_string}
 use Rattle.matrix_read.specs.Names.{bytes_of}

@@ -1,6 +1,6 @@
 use Rattle.std.proofs.Common.{◌≡◌, length}
 use Rattle.serde_json.specs.Data.{Items}
-use Rattle.matrix_read.specs.Clones.{strings_of}
+use Rattle.matrix_read.specs.CloneSteps.{strings_of}
 use Rattle.matrix_read.specs.CloneNames.{names_view}
 use Rattle.matrix_read.proofs.ItemLemmas.{AreItems}
 use Rattle.matrix_read.proofs.clone_names.read_strings.Given as goal

@@ -1,5 +1,6 @@
 use Rattle.std.proofs.Common.{◌≡◌, ap, sym, ◌∙◌, option_map}
-use Rattle.matrix_read.specs.Clones.{reading, if_read, clones}
+use Rattle.matrix_read.specs.Clones.{reading, clones}
+use Rattle.matrix_read.specs.CloneSteps.{if_read}
 use Rattle.matrix_read.specs.CloneNames.{file_view}
 use Rattle.matrix_read.proofs.CloneLemmas.{clones_long, clones_short}
 use Rattle.matrix_read.proofs.FileLemmas.{not_named, named_as}

@@ -3,8 +3,8 @@ use Rattle.std.proofs.lemmas.Bool.{lt-ltb, le-ltb}
 use Rattle.std.specs.List.{list_any}
 use Rattle.row_model.specs.declared.TheConstants.{MAX_COLUMNS}
 use Rattle.text_lines.specs.Lines.{lines_of, filled_lines}
-use Rattle.matrix_read.specs.Dense.{is_foreign_byte, width_of, first_code}
-use Rattle.matrix_read.specs.DenseSteps.{rows_or_refusal}
+use Rattle.matrix_read.specs.Dense.{width_of}
+use Rattle.matrix_read.specs.DenseSteps.{is_foreign_byte, first_code, rows_or_refusal}
 use Rattle.matrix_read.proofs.DenseLemmas.{first_line_refused, first_line_taken, some_digit, filled_first, never_true}
 use Rattle.matrix_read.proofs.dense.first_width.Goals as goal
 

@@ -1,7 +1,8 @@
 use Rattle.std.proofs.Common.{◌≡◌, ◌∷◌, ◌++◌, [], length, slice_range, drop, ◌+◌, sym, ap, ◌∙◌, refl, Some, None, List, ℕ}
 use Rattle.row_model.specs.Rows.{RowList}
 use Rattle.text_lines.specs.Lines.{lines_of, filled_lines}
-use Rattle.matrix_read.specs.Dense.{row_code, digit_row}
+use Rattle.matrix_read.specs.Dense.{digit_row}
+use Rattle.matrix_read.specs.DenseSteps.{row_code}
 use Rattle.matrix_read.proofs.RowLemmas.{answer_after, answer_stop, answer_step, answer_end}
 use Rattle.matrix_read.proofs.DenseLemmas.{row_ascends, row_code-width}
 use Rattle.matrix_read.proofs.dense.push_rows.Goals as goal

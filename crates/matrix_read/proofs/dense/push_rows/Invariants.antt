@@ -1,7 +1,7 @@
 use Rattle.std.proofs.Common.{◌≡◌, ◌≤◌, ◌+◌, ◌-◌, drop, length}
 use Rattle.text_lines.specs.Lines.{lines_of, filled_lines}
-use Rattle.matrix_read.specs.Dense.{row_code, digit_row}
-use Rattle.matrix_read.specs.DenseSteps.{rows_or_refusal}
+use Rattle.matrix_read.specs.Dense.{digit_row}
+use Rattle.matrix_read.specs.DenseSteps.{row_code, rows_or_refusal}
 use Rattle.matrix_read.proofs.RowLemmas.{answer_after}
 use Rattle.matrix_read.proofs.dense.push_rows.Given as goal
 

@@ -1,7 +1,7 @@
 use Rattle.std.proofs.Common.{◌≡◌, ap, sym, ◌∙◌}
 use Rattle.text_lines.specs.Lines.{lines_of, filled_lines}
-use Rattle.matrix_read.specs.Dense.{dense, read_lines}
-use Rattle.matrix_read.specs.DenseSteps.{rows_or_refusal}
+use Rattle.matrix_read.specs.Dense.{dense}
+use Rattle.matrix_read.specs.DenseSteps.{read_lines, rows_or_refusal}
 use Rattle.matrix_read.proofs.DenseLemmas.{dense_long, dense_short}
 use Rattle.matrix_read.proofs.dense.read_dense.Goals as goal
 

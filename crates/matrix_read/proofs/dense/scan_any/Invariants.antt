@@ -1,6 +1,7 @@
 use Rattle.std.proofs.Common.{◌≡◌, ◌≤◌, ◌+◌, ◌++◌, drop, take, length}
 use Rattle.std.specs.List.{list_any}
-use Rattle.matrix_read.specs.Dense.{is_foreign_byte, digits_of, width_of}
+use Rattle.matrix_read.specs.Dense.{digits_of, width_of}
+use Rattle.matrix_read.specs.DenseSteps.{is_foreign_byte}
 use Rattle.matrix_read.proofs.DenseLemmas.{ones_from}
 use Rattle.matrix_read.proofs.dense.scan_any.Given as goal
 

@@ -4,7 +4,8 @@ use Rattle.row_model.specs.Rows.{IsRow}
 use Rattle.text_lines.specs.Lines.{first_line, without_return}
 use Rattle.text_lines.specs.Words.{words_of, IsFirstNumber}
 use Rattle.text_lines.specs.declared.words.Numeral.TheVariants.{Value}
-use Rattle.matrix_read.specs.Sparse.{columns_named, words_code, row_named}
+use Rattle.matrix_read.specs.Sparse.{words_code}
+use Rattle.matrix_read.specs.SparseSteps.{columns_named, row_named}
 use Rattle.text_lines.proofs.TextLemmas.{no_words}
 use Rattle.matrix_read.proofs.SparseLemmas.{code_behind, columns_behind, one_more_column, row_listed, words_end}
 use Rattle.text_lines.proofs.PlainLemmas.{some_digits, space_len, space_return, space_number, feed_len, feed_return, feed_number, lines_behind}

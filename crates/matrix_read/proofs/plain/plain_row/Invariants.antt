@@ -2,7 +2,8 @@ use Rattle.std.proofs.Common.{◌≡◌, ◌≤◌, ◌+◌, ◌-◌, ◌++◌, 
 use Rattle.row_model.specs.Rows.{Ascends}
 use Rattle.text_lines.specs.Lines.{line_len, first_line, without_return}
 use Rattle.text_lines.specs.Words.{words_of}
-use Rattle.matrix_read.specs.Sparse.{words_code, columns_named}
+use Rattle.matrix_read.specs.Sparse.{words_code}
+use Rattle.matrix_read.specs.SparseSteps.{columns_named}
 use Rattle.matrix_read.proofs.plain.plain_row.Given as goal
 
 abbrev pub invariant-loop-last : goal.invariant-loop-last

@@ -2,7 +2,7 @@ use Rattle.std.proofs.Common.{◌≡◌, ◌∙◌, ◌+◌, ◌<◌, ◌∷◌,
 use Rattle.std.proofs.lemmas.List.{append-nil}
 use Rattle.row_model.specs.Rows.{IsRow}
 use Rattle.text_lines.specs.Words.{words_of}
-use Rattle.matrix_read.specs.Sparse.{columns_named}
+use Rattle.matrix_read.specs.SparseSteps.{columns_named}
 use Rattle.matrix_read.proofs.SparseLemmas.{code_behind, columns_behind, one_more_column, row_listed, words_end}
 use Rattle.matrix_read.proofs.sparse.ascending_columns.Goals as goal
 

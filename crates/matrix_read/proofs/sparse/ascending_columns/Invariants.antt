@@ -1,7 +1,8 @@
 use Rattle.std.proofs.Common.{◌≡◌, ◌≤◌, ◌-◌, ◌++◌, List, ℕ, drop, take, length}
 use Rattle.row_model.specs.Rows.{Ascends}
 use Rattle.text_lines.specs.Words.{words_of}
-use Rattle.matrix_read.specs.Sparse.{words_code, columns_named}
+use Rattle.matrix_read.specs.Sparse.{words_code}
+use Rattle.matrix_read.specs.SparseSteps.{columns_named}
 use Rattle.matrix_read.proofs.sparse.ascending_columns.Given as goal
 
 abbrev pub invariant-loop-word : goal.invariant-loop-word

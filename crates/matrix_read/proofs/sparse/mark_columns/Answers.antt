@@ -1,7 +1,7 @@
 use Rattle.std.proofs.Common.{◌≡◌, ◌∷◌, ◌+◌, ◌-◌, ◌<◌, ◌||◌, [], List, ℕ, length, drop, get_or, arith, sym, ◌∙◌, ap, false}
 use Rattle.column_order.specs.Orders.{has}
 use Rattle.text_lines.specs.Words.{words_of, number_of}
-use Rattle.matrix_read.specs.Sparse.{columns_named}
+use Rattle.matrix_read.specs.SparseSteps.{columns_named}
 use Rattle.text_lines.proofs.WordLemmas.{number_written}
 use Rattle.matrix_read.proofs.SparseLemmas.{words_stop, words_next, words_end, marks_end}
 use Rattle.matrix_read.proofs.RowLemmas.{mark_step}

@@ -1,7 +1,8 @@
 use Rattle.std.proofs.Common.{◌≡◌, ◌<◌, ◌≤◌, ◌+◌, ◌-◌, ◌||◌, ℕ, false, drop, take, length, get_or}
 use Rattle.column_order.specs.Orders.{has}
 use Rattle.text_lines.specs.Words.{words_of}
-use Rattle.matrix_read.specs.Sparse.{words_code, columns_named}
+use Rattle.matrix_read.specs.Sparse.{words_code}
+use Rattle.matrix_read.specs.SparseSteps.{columns_named}
 use Rattle.matrix_read.specs.Marks.{AreMarkedColumns}
 use Rattle.matrix_read.proofs.sparse.mark_columns.Given as goal
 

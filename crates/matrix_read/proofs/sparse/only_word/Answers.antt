@@ -1,5 +1,5 @@
 use Rattle.std.proofs.Common.{refl, sym, ap}
-use Rattle.text_lines.specs.Words.{only_word}
+use Rattle.matrix_read.specs.SparseSteps.{only_word}
 use Rattle.text_lines.proofs.WordLemmas.{no_word}
 use Rattle.matrix_read.proofs.SparseLemmas.{one_word, more_words}
 use Rattle.matrix_read.proofs.sparse.only_word.Goals as goal

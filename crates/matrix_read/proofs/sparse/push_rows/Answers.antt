@@ -2,7 +2,8 @@ use Rattle.std.proofs.Common.{◌≡◌, ◌∷◌, ◌++◌, ◌+◌, [], List,
 use Rattle.row_model.specs.Rows.{RowList}
 use Rattle.text_lines.specs.Lines.{first_line, without_return, lines_of}
 use Rattle.text_lines.specs.Rows.{numbered_lines}
-use Rattle.matrix_read.specs.Sparse.{line_code, row_named}
+use Rattle.matrix_read.specs.Sparse.{line_code}
+use Rattle.matrix_read.specs.SparseSteps.{row_named}
 use Rattle.text_lines.proofs.LineLemmas.{lines_split, no_lines}
 use Rattle.text_lines.proofs.FirstRefused.{numbered_none}
 use Rattle.matrix_read.proofs.RowLemmas.{answer_after, line_stop, line_step, answer_end}

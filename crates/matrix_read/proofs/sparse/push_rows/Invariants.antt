@@ -1,7 +1,8 @@
 use Rattle.std.proofs.Common.{◌≡◌, ◌≤◌, ◌+◌, ◌-◌, ℕ, false, drop, length, get_or}
 use Rattle.text_lines.specs.Lines.{lines_of}
 use Rattle.text_lines.specs.Rows.{numbered_lines}
-use Rattle.matrix_read.specs.Sparse.{line_code, row_named, named_rows}
+use Rattle.matrix_read.specs.Sparse.{line_code, named_rows}
+use Rattle.matrix_read.specs.SparseSteps.{row_named}
 use Rattle.matrix_read.proofs.RowLemmas.{answer_after}
 use Rattle.matrix_read.proofs.sparse.push_rows.Given as goal
 

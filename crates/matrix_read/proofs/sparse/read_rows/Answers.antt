@@ -1,6 +1,6 @@
 use Rattle.std.proofs.Common.{ap, sym, ◌∙◌}
 use Rattle.text_lines.specs.Lines.{lines_of}
-use Rattle.matrix_read.specs.Sparse.{sparse_lines}
+use Rattle.matrix_read.specs.SparseSteps.{sparse_lines}
 use Rattle.text_lines.proofs.FirstRefused.{numbered_none}
 use Rattle.text_lines.proofs.WordLemmas.{to_end}
 use Rattle.matrix_read.proofs.SparseLemmas.{sparse_long, sparse_text, first_refused, first_taken}

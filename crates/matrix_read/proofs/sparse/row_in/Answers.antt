@@ -1,6 +1,6 @@
 use Rattle.std.proofs.Common.{◌≡◌, ◌∙◌, ap, length}
 use Rattle.text_lines.specs.Words.{words_of}
-use Rattle.matrix_read.specs.Sparse.{columns_named}
+use Rattle.matrix_read.specs.SparseSteps.{columns_named}
 use Rattle.text_lines.specs.Rows.{columns_among}
 use Rattle.matrix_read.proofs.RowLemmas.{marked_is}
 use Rattle.matrix_read.proofs.sparse.row_in.Goals as goal
