@@ -12,11 +12,12 @@ reader who begins at the top meets no word before its definition. Lines are coun
 Of one command and kind, what the others alone meet is left out: equations whose left side names another case of `Command`, of `Kind` or of
 `InstanceValue`, and of the grammar of words what makes other commands alone. The files of `unit` and `check-unit` are of one kind, graphs.
 
-The clauses themselves are not counted: those of `run`, and those of the traits `Shelf` and `Sink` with the definitions that these alone
-cite.
+The clauses themselves are counted in a list of their own: those of `run`, and those of the traits `Shelf` and `Sink` with the definitions
+that these alone cite.
 """
 
 import functools
+import itertools
 import os
 import re
 import sys
@@ -28,6 +29,8 @@ CALL = ("crates/pq_cli/src/top.rt", "run")
 ANSWER = "answer"
 PROMISE = "promise"
 PROMISED = ("crates/reply_laws/specs/Promise.antt", "IsPromised")
+# The traits of the files and the streams that the call is handed.
+TRAITS = [("crates/pq_io/src/shelf.rt", "Shelf"), ("crates/pq_io/src/sink.rt", "Sink")]
 # The crates whose laws say what replies mean.
 LAWS = ["pq_cli", "one_text", "pq_c"]
 # The call of the library.
@@ -184,13 +187,24 @@ def made_by(words):
     return made
 
 
+def contract_of(path, name):
+    """The text of a call up to its body, or of a trait, without comments."""
+    return re.sub(r"//.*", "", re.search(rf'^pub (?:extern "C" )?(?:fn|trait) {name}\b.*?^[{{}}]', source(path), re.S | re.M)[0])
+
+
+def clause_lines(path, name):
+    """How many lines the clauses of a call have, or all of a trait."""
+    lines = [line for line in contract_of(path, name).split("\n") if line.strip()]
+    return len(lines) if lines[0].startswith("pub trait") else sum(1 for _ in itertools.dropwhile(lambda line: "ensures" not in line, lines[:-1]))
+
+
 class Listing:
     """The definitions behind a contract, those of each file by their names; what the definitions name of the code; the words of the kit."""
 
     def __init__(self, path, call, left_out=frozenset(), clause=None):
         self.left_out = left_out
         self.found, self.cites, self.code, self.kit = {}, {}, set(), set()
-        contract = re.sub(r"//.*", "", re.search(rf'^pub (?:extern "C" )?fn {call}\b.*?^\{{', source(path), re.S | re.M)[0])
+        contract = contract_of(path, call)
         if clause:
             contract = next(one for one in contract.split("ensures ") if one.startswith(clause + " "))
         self.follow(contract, uses_of(source(path)), None)
@@ -340,6 +354,19 @@ def counts(whole):
     return rows + [f"| all | {Listing(*CALL, clause=ANSWER).lines()} | {Listing(*CALL, clause=PROMISE).lines()} | {whole.lines()} |"]
 
 
+def beside(whole):
+    """What is read beside the definitions: the clauses themselves, those of the traits, and the definitions that these alone cite."""
+    rows = [(f"the clauses of `{CALL[1]}`", CALL[0], clause_lines(*CALL))]
+    rows += [(f"the trait `{name}`", path, clause_lines(path, name)) for path, name in TRAITS]
+    known = [whole]
+    for path, name in TRAITS:
+        listing = Listing(path, name)
+        rows += [(f"what `{name}` alone cites: {told(names)}", file, lines) for file, names, lines in listing.beyond(*known)]
+        known.append(listing)
+    return ["| What | File | Lines |", "|---|---|---|", *(f"| {what} | {file} | {lines} |" for what, file, lines in rows),
+            f"| together | | {sum(lines for _, _, lines in rows)} |"]
+
+
 def laws(whole):
     """What each law rests on beyond the clauses of the call."""
     rows = ["| Law | Where | Lines beyond those of `run` | Definitions, each with the line where it begins |", "|---|---|---|---|"]
@@ -375,7 +402,7 @@ def lists():
     left_out = others(*FIRST)
     answer, promise = (Listing(*CALL, left_out, clause) for clause in (ANSWER, PROMISE))
     first, whole = Listing(*CALL, left_out), Listing(*CALL)
-    return {"counts": counts(whole), "answer": table(answer), "promise": table(promise, answer), "clauses": table(first, answer, promise), "others": table(whole, first),
+    return {"counts": counts(whole), "beside": beside(whole), "answer": table(answer), "promise": table(promise, answer), "clauses": table(first, answer, promise), "others": table(whole, first),
             "laws": laws(whole), "library": table(Listing(*LIBRARY), whole), "code": of_code(whole), "kit": of_kit(whole)}
 
 
