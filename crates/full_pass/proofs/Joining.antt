@@ -16,7 +16,7 @@ use Rattle.full_pass.specs.declared.joins.Joined.TheVariants.{Plain, Wide}
 use Rattle.full_pass.specs.declared.joins.Place.TheVariants.{Ring as PlaceRing, Run as PlaceRun, Top as PlaceTop}
 use Rattle.full_pass.specs.Passing.{AreLinked, CanJoin, Chains, InRun, IsAdded, IsJoined, Pass, Runs, judged_as, marks, place_shown, run_as}
 use Rattle.full_pass.specs.Entries.{AreReady, both, end_at, far, first, is_full, hits, mark_of, next, up}
-use Rattle.full_pass.specs.Tallies.{mark_in}
+use Rattle.full_pass.specs.Tallies.{HasPlace, mark_in}
 use Rattle.full_pass.specs.Answer.{IsFullNode}
 use Rattle.arena_model.specs.NamedTree.{IsOneTree}
 use Rattle.arena_model.proofs.Paths.{top_alone}
@@ -26,7 +26,7 @@ use Rattle.full_pass.proofs.Wide.{Both, EndChild, all_labelled, both_are, child_
 use Rattle.full_pass.proofs.Marks.{OneMore, bit, marks_le, true_false}
 use Rattle.full_pass.proofs.Closing.{close}
 use Rattle.full_pass.proofs.Steps.{above, pass_ring, pass_run, none_unlabelled}
-use Rattle.full_pass.proofs.Places.{Ringed, Running, Says, children_few, mark_named, named_some, says, shown_count_is, side}
+use Rattle.full_pass.proofs.Places.{Ringed, Running, Says, children_few, mark_named, named_some, near_within, says, shown_count_is, side}
 use Rattle.column_order.specs.Orders.{occurs}
 use Rattle.arena_model.specs.declared.TheConstants.{NODE_BOUND}
 
@@ -54,6 +54,27 @@ pub record CountedRun (f : Layout) (l l' : ℕ → Bool) (h h' : ℕ → ℕ) (x
   pub now : l' x ≡ true
   pub others : (y : ℕ) → y ≢ x → l' y ≡ l y
   pub same : (y : ℕ) → h' y ≡ h y
+
+-- that is what happened to a child of a Q-node that waited
+pub counted_as : (f : Layout) (row waiting : List ℕ) (l l' : ℕ → Bool) (h h' : ℕ → ℕ) (x n : ℕ) (view : NodeView) → IsLayout f → ShowsNode f x view →
+    PlaceRun ≡ place_shown view.parent (side view 0) (side view 1) → Pass f row l h (x ∷ waiting) n →
+    l' x ≡ true → ((y : ℕ) → y ≢ x → l' y ≡ l y) → ((y : ℕ) → h' y ≡ h y) → CountedRun f l l' h h' x view
+counted_as f row waiting l l' h h' x n view layout shows at pass now others same = record {
+  layout = layout;
+  shows = shows;
+  at = at;
+  fresh = pass.labels.fresh x (occurs_here x waiting);
+  ends_none = none_unlabelled f row l (x ∷ waiting) layout pass.labels;
+  now = now;
+  others = others;
+  same = same;
+}
+
+-- the neighbours that a look shows in a run have labels
+pub run_within : (f : Layout) (x n : ℕ) (view : NodeView) → IsLayout f → ShowsNode f x view → PlaceRun ≡ place_shown view.parent (side view 0) (side view 1) →
+    n ≡ length f.slots → HasPlace (side view 0) n × HasPlace (side view 1) n
+run_within f x n view layout shows at size =
+    subst (λ z. HasPlace (side view 0) z × HasPlace (side view 1) z) (sym size) (near_within f x (side view 0) (side view 1) layout (runs_at f x view layout shows at))
 
 -- and to the runs
 pub record FilledRun (f : Layout) (w w' : Entries) (x a b : ℕ) (view : NodeView) : Type 0 where

@@ -1,5 +1,5 @@
 -- Where a node stands, by what a look at it shows.
-use Rattle.std.proofs.Common.{Bool, List, None, Option, Some, ap, arith, cond, eqb, false, get_or, inl, inr, length, refl, subst, sym, true, ℕ, ◌++◌, ◌<◌, ◌||◌, ◌∙◌, ◌∷◌, ◌≡◌, ◌≢◌, ◌≤◌, ◌⊎◌}
+use Rattle.std.proofs.Common.{Bool, List, [], None, Option, Some, ap, arith, cond, eqb, false, get_or, inl, inr, length, refl, subst, sym, true, ℕ, ◌++◌, ◌<◌, ◌||◌, ◌∙◌, ◌∷◌, ◌≡◌, ◌≢◌, ◌≤◌, ◌⊎◌}
 use Rattle.std.proofs.lemmas.Bool.{cases_eq, cases_lt, ne_eqb}
 use Rattle.arena_model.specs.declared.Shape.TheVariants.{P, Q}
 use Rattle.pq_arena.specs.declared.node.NodeId.{NodeId}
@@ -7,12 +7,12 @@ use Rattle.pq_arena.specs.declared.node.NodeView.{NodeView}
 use Rattle.arena_model.specs.ChildLists.{end_parent, head_or, last_or, none}
 use Rattle.arena_model.specs.Layout.{IsLayout, Layout, children_at, shape_at, times_child}
 use Rattle.pq_arena.specs.Looks.{ShowsNode, node_named, shown_count}
-use Rattle.arena_model.proofs.Lists.{SplitAt, occurs_here, split_at, occurs_behind, occurs_before}
+use Rattle.arena_model.proofs.Lists.{SplitAt, occurs_here, occurs_last, split_at, occurs_behind, occurs_before}
 use Rattle.arena_model.proofs.Slots.{children_times, in_range, placed_in, some_inj, used_by, few_slots}
 use Rattle.full_pass.specs.declared.joins.Place.{Place}
 use Rattle.full_pass.specs.declared.joins.Place.TheVariants.{Ring as PlaceRing, Run as PlaceRun, Top as PlaceTop}
 use Rattle.full_pass.specs.Passing.{place_shown}
-use Rattle.full_pass.specs.Tallies.{mark_in}
+use Rattle.full_pass.specs.Tallies.{HasPlace, mark_in}
 use Rattle.full_pass.proofs.Marks.{bit}
 use Rattle.column_order.specs.Orders.{occurs}
 use Rattle.column_order.proofs.Lists.{occurs-append}
@@ -40,6 +40,36 @@ pub record Running (f : Layout) (x : ℕ) (a b : Option NodeId) : Type 0 where
   pub sh : shape_at f q ≡ Some Q
   pub is : children_at f q ≡ us ++ x ∷ vs
   pub near : ((a ≡ node_named (last_or us none)) × (b ≡ node_named (head_or vs none))) ⊎ ((a ≡ node_named (head_or vs none)) × (b ≡ node_named (last_or us none)))
+
+-- a node that is named has a number in the range where the number has
+named_within : (y n : ℕ) → (y ≢ none → y < n) → HasPlace (node_named y) n
+named_within y n lt = elim (cases_eq y none) [
+  | inl e ↦ subst (λ z. HasPlace (node_named z) n) (sym e) tt
+  | inr ne ↦ subst (λ z. HasPlace z n) (sym (named_some y ne)) (lt ne)
+]
+
+-- the neighbours in a run are nodes of the layout
+pub near_within : (f : Layout) (x : ℕ) (a b : Option NodeId) → IsLayout f → Running f x a b → HasPlace a (length f.slots) × HasPlace b (length f.slots)
+near_within f x a b h r =
+    let last : HasPlace (node_named (last_or r.us none)) (length f.slots) = named_within (last_or r.us none) (length f.slots) (λ ne. child (last_or r.us none) (last_in r.us ne)) in
+    let head : HasPlace (node_named (head_or r.vs none)) (length f.slots) = named_within (head_or r.vs none) (length f.slots) (λ ne. child (head_or r.vs none) (head_in r.us r.vs ne)) in
+    elim r.near [
+      | inl e ↦ (subst (λ z. HasPlace z (length f.slots)) (sym e.0) last, subst (λ z. HasPlace z (length f.slots)) (sym e.1) head)
+      | inr e ↦ (subst (λ z. HasPlace z (length f.slots)) (sym e.0) head, subst (λ z. HasPlace z (length f.slots)) (sym e.1) last)
+    ]
+  where
+    child : (y : ℕ) → 1 ≤ occurs (r.us ++ x ∷ r.vs) y → y < length f.slots
+    child y o = in_range f y (h.used y
+        (let k : occurs (children_at f r.q) y ≤ times_child f.slots y = children_times f r.q y in
+        let e : occurs (children_at f r.q) y ≡ occurs (r.us ++ x ∷ r.vs) y = ap (λ z. occurs z y) r.is in omega arith))
+
+    last_in : (us : List ℕ) → last_or us none ≢ none → 1 ≤ occurs (us ++ x ∷ r.vs) (last_or us none)
+    last_in [] ne = absurd (ne refl)
+    last_in (u ∷ us) ne = omega (arith, occurs_last us u, occurs-append (u ∷ us) (x ∷ r.vs) (last_or us u))
+
+    head_in : (us vs : List ℕ) → head_or vs none ≢ none → 1 ≤ occurs (us ++ x ∷ vs) (head_or vs none)
+    head_in us [] ne = absurd (ne refl)
+    head_in us (v ∷ vs) ne = omega (arith, occurs_here v vs, occurs-append us (x ∷ v ∷ vs) v)
 
 -- what each place_shown says
 abbrev pub Says : Layout → ℕ → Option NodeId → Option NodeId → Place → Type 0

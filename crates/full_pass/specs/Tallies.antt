@@ -1,5 +1,5 @@
 -- What the labels and tallies of nodes say.
-use Rattle.std.specs.Prelude.{zero, suc, ◌≡◌, ℕ, ◌≤◌, Bool, cond, eqb, List, [], ◌∷◌, length, Option, Some, None, slice_index_or}
+use Rattle.std.specs.Prelude.{zero, suc, ◌≡◌, ℕ, ◌≤◌, ◌<◌, Bool, cond, eqb, List, [], ◌∷◌, length, Option, Some, None, slice_index_or}
 use Rattle.pq_arena.specs.declared.node.NodeId.{NodeId}
 use Rattle.full_pass.specs.declared.tallies.Tally.{Tally}
 
@@ -36,6 +36,11 @@ next_in tallies x = (tally_in tallies x).next.index
 abbrev pub mark_in : (ℕ → Bool) → Option NodeId → ℕ
 mark_in l None = 0
 mark_in l (Some x) = cond (l x.index) 1 0
+
+-- the node, where there is one, has a place in a list of length n
+abbrev pub HasPlace : Option NodeId → ℕ → Type 0
+HasPlace None n = Unit {0}
+HasPlace (Some x) n = x.index < n
 
 -- so many nodes, from x on each followed by the next
 abbrev pub chained : ℕ → (ℕ → ℕ) → ℕ → List ℕ

@@ -10,7 +10,7 @@ ghost use Rattle.full_pass.specs.Passing.{members_in, AreCounted, CanAdd, CanCli
 use crate::added::{Added, Next, after, judged};
 use crate::joins::{Place, place_of};
 use crate::settled::Settled;
-use crate::tallies::{Tally, fill, hit, mark, show};
+use crate::tallies::{Tally, fill, fill_between, hit, show};
 use pq_arena::{Arena, NodeId};
 use step_count::{Ledger, Steps};
 
@@ -44,12 +44,15 @@ fn add<L: Ledger>(
     let view = arena.look(x, steps);
     match place_of(&view) {
         Place::Top => Added::Top,
-        Place::Run => {
-            let pairs = mark(labels, stamp, view.near[0]) + mark(labels, stamp, view.near[1]);
-            fill(labels, stamp, x);
-            show(tallies, stamp, view.parent, may_fill);
-            Added::Run(pairs)
-        }
+        Place::Run => match view.parent {
+            // An inner child.
+            None => Added::Run(fill_between(labels, stamp, x, view.near)),
+            // An end child.
+            Some(q) => {
+                show(tallies, stamp, q, may_fill);
+                Added::Run(fill_between(labels, stamp, x, view.near))
+            }
+        },
         Place::Ring(p) => {
             fill(labels, stamp, x);
             let hits = hit(tallies, stamp, p, x);

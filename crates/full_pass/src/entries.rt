@@ -2,6 +2,7 @@
 ghost use Rattle.std.specs.Prelude.{◌≡◌, ◌≢◌, ℕ, ◌+◌, ◌≤◌, ◌<◌, length, take, true, false, IfOk};
 ghost use Rattle.column_order.specs.Orders.{occurs};
 ghost use Rattle.pq_arena.specs.RowNodes.{indices};
+ghost use Rattle.full_pass.specs.Tallies.{HasPlace};
 ghost use Rattle.full_pass.specs.Entries.{label, tally, is_full, mark_of, hits, far, up, first, next, end_at, both, chain_at, AreReady, SameTallies};
 
 use crate::tallies::{Tally, fill, hit, hits_at, is_labelled};
@@ -109,7 +110,8 @@ impl Entries {
 
     // What the run of `x` has on the side of this neighbour.
     pub fn beside(&self, near: Option<NodeId>, x: NodeId) -> Side
-        requires { AreReady self.now (length self.now.tallies.items) }
+        requires ready { AreReady self.now (length self.now.tallies.items) }
+        requires near { HasPlace near (length self.now.labels.items) }
         ensures mark { result.mark ≡ mark_of self.now near }
         ensures small { result.mark ≤ 1 }
         ensures end { result.end.index ≡ end_at self.now near x.index }
@@ -131,7 +133,7 @@ impl Entries {
 
     // Whether the node is labelled.
     fn is_full(&self, x: NodeId) -> bool
-        requires { 1 ≤ self.now.stamp }
+        requires { x.index < length self.now.labels.items }
         ensures { result ≡ is_full self.now x.index }
     {
         is_labelled(&self.labels, self.stamp, x)

@@ -1,7 +1,7 @@
 // The labels of nodes, and what is counted of them, in lists with a place for each node.
-ghost use Rattle.std.specs.Prelude.{◌≡◌, ◌≢◌, ℕ, ◌+◌, ◌≤◌, ◌<◌, List, length, true};
+ghost use Rattle.std.specs.Prelude.{◌≡◌, ◌≢◌, ℕ, ◌+◌, ◌≤◌, ◌<◌, List, length, true, get_or, None};
 ghost use Rattle.full_pass.specs.declared.tallies.Tally.{Tally};
-ghost use Rattle.full_pass.specs.Tallies.{full_in, hits_in, first_in, next_in, mark_in, AreStamped};
+ghost use Rattle.full_pass.specs.Tallies.{full_in, hits_in, first_in, next_in, mark_in, AreStamped, HasPlace};
 
 use pq_arena::NodeId;
 
@@ -18,16 +18,15 @@ pub struct Tally {
 
 // Whether the node is labelled.
 pub fn is_labelled(labels: &[u32], stamp: u32, x: NodeId) -> bool
-    requires { 1 ≤ stamp }
+    requires { x.index < length labels.now }
     ensures { result ≡ full_in labels.now stamp x.index }
 {
-    let at = x.index() as usize;
-    at < labels.len() && labels[at] == stamp
+    labels[x.index() as usize] == stamp
 }
 
 // 1 where the neighbour is labelled, else 0.
-pub fn mark(labels: &[u32], stamp: u32, near: Option<NodeId>) -> usize
-    requires { 1 ≤ stamp }
+fn mark(labels: &[u32], stamp: u32, near: Option<NodeId>) -> usize
+    requires { HasPlace near (length labels.now) }
     ensures mark { result ≡ mark_in (full_in labels.now stamp) near }
     ensures small { result ≤ 1 }
 {
@@ -46,6 +45,20 @@ pub fn fill(labels: &mut [u32], stamp: u32, x: NodeId)
     ensures ready { (tallies : List Tally) (n : ℕ) → AreStamped labels.old tallies stamp n → AreStamped labels.new tallies stamp n }
 {
     labels[x.index() as usize] = stamp;
+}
+
+// `x`, a child of a Q-node between these neighbours, is labelled. Says how many of the neighbours are.
+pub fn fill_between(labels: &mut [u32], stamp: u32, x: NodeId, near: [Option<NodeId>; 2]) -> usize
+    requires x { x.index < length labels.old }
+    requires near { HasPlace (get_or near 0 None) (length labels.old) × HasPlace (get_or near 1 None) (length labels.old) }
+    ensures pairs { result ≡ mark_in (full_in labels.old stamp) (get_or near 0 None) + mark_in (full_in labels.old stamp) (get_or near 1 None) }
+    ensures here { full_in labels.new stamp x.index ≡ true }
+    ensures others { (y : ℕ) → y ≢ x.index → full_in labels.new stamp y ≡ full_in labels.old stamp y }
+    ensures ready { (tallies : List Tally) (n : ℕ) → AreStamped labels.old tallies stamp n → AreStamped labels.new tallies stamp n }
+{
+    let pairs = mark(labels, stamp, near[0]) + mark(labels, stamp, near[1]);
+    fill(labels, stamp, x);
+    pairs
 }
 
 // `x` is labelled too among the children of the P-node `p`. Says how many are.
@@ -109,18 +122,16 @@ fn set_hits(tallies: &mut [Tally], stamp: u32, p: NodeId, count: u32, x: NodeId)
     entry.first = x;
 }
 
-// A child of a Q-node showed that node above it, or none. Where another child showed the node before, it may be full.
-pub fn show(tallies: &mut [Tally], stamp: u32, above: Option<NodeId>, may_fill: &mut bool)
+// An end child of the Q-node `q` showed it. Where the other end showed it before, it may be full.
+pub fn show(tallies: &mut [Tally], stamp: u32, q: NodeId, may_fill: &mut bool)
     ensures hits { (y : ℕ) → hits_in tallies.new stamp y ≡ hits_in tallies.old stamp y }
     ensures first { (y : ℕ) → first_in tallies.new y ≡ first_in tallies.old y }
     ensures next { (y : ℕ) → next_in tallies.new y ≡ next_in tallies.old y }
     ensures ready { (labels : List ℕ) (n : ℕ) → AreStamped labels tallies.old stamp n → AreStamped labels tallies.new stamp n }
 {
-    if let Some(q) = above {
-        let at = q.index() as usize;
-        if at < tallies.len() && see(tallies, stamp, at) {
-            *may_fill = true;
-        }
+    let at = q.index() as usize;
+    if at < tallies.len() && see(tallies, stamp, at) {
+        *may_fill = true;
     }
 }
 

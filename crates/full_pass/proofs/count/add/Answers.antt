@@ -1,12 +1,10 @@
-use Rattle.std.proofs.Common.{◌+◌, ◌≤◌, ◌<◌, ◌∷◌, length, arith, sym, ap, subst, ◌∙◌}
+use Rattle.std.proofs.Common.{◌≤◌, ◌<◌, ◌∷◌, length, arith, refl, sym, subst}
 use Rattle.arena_model.specs.declared.TheConstants.{NODE_BOUND}
 use Rattle.arena_model.proofs.Lists.{occurs_here}
 use Rattle.arena_model.proofs.Slots.{in_range}
 use Rattle.full_pass.specs.Passing.{IsAdded}
-use Rattle.full_pass.specs.Tallies.{first_in, full_in, hits_in, mark_in, next_in}
-use Rattle.full_pass.proofs.Places.{side}
-use Rattle.full_pass.proofs.Steps.{none_unlabelled}
-use Rattle.full_pass.proofs.Joining.{CountedRing, CountedRun, counted_chains, counted_run, hits_few, joined_ring, joined_top, ring_chains, ring_used}
+use Rattle.full_pass.specs.Tallies.{first_in, full_in, hits_in, next_in}
+use Rattle.full_pass.proofs.Joining.{CountedRing, CountedRun, counted_as, counted_chains, counted_run, hits_few, joined_ring, joined_top, ring_chains, ring_used, run_within}
 use Rattle.full_pass.proofs.count.add.Goals as goal
 
 pub hit-hits-requires-clause-p : goal.hit-hits-requires-clause-p
@@ -28,53 +26,72 @@ pub returns-in-Top-clause-added : goal.returns-in-Top-clause-added
 returns-in-Top-clause-added g c =
     joined_top c.args.arena.now (full_in c.args.labels.now c.args.stamp) (hits_in c.args.tallies.now c.args.stamp) c.args.x.index c.look-view.result c.layout_law.ensures c.look-view.ensures.shows c.in-Top.ensures c.requires.waits.one
 
-pub returns-in-Run : goal.returns-in-Run
-returns-in-Run g c =
-    let d : CountedRun c.args.arena.now (full_in c.args.labels.now c.args.stamp) (full_in c.fill.new.labels c.args.stamp) (hits_in c.args.tallies.now c.args.stamp) (hits_in c.show.new.tallies c.args.stamp) c.args.x.index c.look-view.result = record {
-      layout = c.layout_law.ensures;
-      shows = c.look-view.ensures.shows;
-      at = c.in-Run.ensures;
-      fresh = c.requires.waits.pass.labels.fresh c.args.x.index (occurs_here c.args.x.index c.requires.waits.waiting);
-      ends_none = none_unlabelled c.args.arena.now c.requires.waits.row (full_in c.args.labels.now c.args.stamp) (c.args.x.index ∷ c.requires.waits.waiting) c.layout_law.ensures c.requires.waits.pass.labels;
-      now = c.fill.ensures.here;
-      others = c.fill.ensures.others;
-      same = c.show.ensures.hits;
-    } in
+pub fill_between-requires-clause-near : goal.fill_between-requires-clause-near
+fill_between-requires-clause-near g c =
+    run_within c.args.arena.now c.args.x.index (length c.args.labels.now) c.look-view.result c.layout_law.ensures c.look-view.ensures.shows c.in-Run.ensures c.requires.counted.ready.labels_size
+
+pub fill_between-requires-in-Some-clause-near : goal.fill_between-requires-in-Some-clause-near
+fill_between-requires-in-Some-clause-near g c =
+    run_within c.args.arena.now c.args.x.index (length c.args.labels.now) c.look-view.result c.layout_law.ensures c.look-view.ensures.shows c.in-Run.ensures c.requires.counted.ready.labels_size
+
+pub returns-in-None-clause-added : goal.returns-in-None-clause-added
+returns-in-None-clause-added g c =
+    let d : CountedRun c.args.arena.now (full_in c.args.labels.now c.args.stamp) (full_in c.fill_between.new.labels c.args.stamp) (hits_in c.args.tallies.now c.args.stamp) (hits_in c.args.tallies.now c.args.stamp) c.args.x.index c.look-view.result =
+    counted_as c.args.arena.now c.requires.waits.row c.requires.waits.waiting (full_in c.args.labels.now c.args.stamp) (full_in c.fill_between.new.labels c.args.stamp) (hits_in c.args.tallies.now c.args.stamp) (hits_in c.args.tallies.now c.args.stamp) c.args.x.index c.requires.waits.n c.look-view.result
+    c.layout_law.ensures c.look-view.ensures.shows c.in-Run.ensures c.requires.waits.pass c.fill_between.ensures.here c.fill_between.ensures.others (λ y. refl) in
+    counted_run c.args.arena.now (full_in c.args.labels.now c.args.stamp) (full_in c.fill_between.new.labels c.args.stamp) (hits_in c.args.tallies.now c.args.stamp) (hits_in c.args.tallies.now c.args.stamp) c.args.x.index c.fill_between.result c.look-view.result d c.fill_between.ensures.pairs
+
+pub returns-in-None-clause-counted : goal.returns-in-None-clause-counted
+returns-in-None-clause-counted g c =
+    let d : CountedRun c.args.arena.now (full_in c.args.labels.now c.args.stamp) (full_in c.fill_between.new.labels c.args.stamp) (hits_in c.args.tallies.now c.args.stamp) (hits_in c.args.tallies.now c.args.stamp) c.args.x.index c.look-view.result =
+    counted_as c.args.arena.now c.requires.waits.row c.requires.waits.waiting (full_in c.args.labels.now c.args.stamp) (full_in c.fill_between.new.labels c.args.stamp) (hits_in c.args.tallies.now c.args.stamp) (hits_in c.args.tallies.now c.args.stamp) c.args.x.index c.requires.waits.n c.look-view.result
+    c.layout_law.ensures c.look-view.ensures.shows c.in-Run.ensures c.requires.waits.pass c.fill_between.ensures.here c.fill_between.ensures.others (λ y. refl) in
     record {
-      added = counted_run c.args.arena.now (full_in c.args.labels.now c.args.stamp) (full_in c.fill.new.labels c.args.stamp) (hits_in c.args.tallies.now c.args.stamp) (hits_in c.show.new.tallies c.args.stamp)
-          c.args.x.index (c.mark.result + c.mark-in-Run.result) c.look-view.result d
-          (ap (λ z. z + c.mark-in-Run.result) c.mark.ensures.mark ∙ ap (λ z. mark_in (full_in c.args.labels.now c.args.stamp) (side c.look-view.result 0) + z) c.mark-in-Run.ensures.mark);
-      counted = record {
-        ready = c.show.ensures.ready c.fill.new.labels (length c.args.arena.now.slots) (c.fill.ensures.ready c.args.tallies.now (length c.args.arena.now.slots) c.requires.counted.ready);
-        chains = counted_chains c.args.arena.now (full_in c.args.labels.now c.args.stamp) (full_in c.fill.new.labels c.args.stamp) (hits_in c.args.tallies.now c.args.stamp) (hits_in c.show.new.tallies c.args.stamp)
-            (first_in c.args.tallies.now) (first_in c.show.new.tallies) (next_in c.args.tallies.now) (next_in c.show.new.tallies) c.args.x.index c.look-view.result d
-            c.requires.counted.chains c.show.ensures.first c.show.ensures.next;
-      };
-      ticks = omega (arith, c.look-view.ensures.ticks);
+      ready = c.fill_between.ensures.ready c.args.tallies.now (length c.args.arena.now.slots) c.requires.counted.ready;
+      chains = counted_chains c.args.arena.now (full_in c.args.labels.now c.args.stamp) (full_in c.fill_between.new.labels c.args.stamp) (hits_in c.args.tallies.now c.args.stamp) (hits_in c.args.tallies.now c.args.stamp) (first_in c.args.tallies.now) (first_in c.args.tallies.now) (next_in c.args.tallies.now) (next_in c.args.tallies.now) c.args.x.index c.look-view.result d
+          c.requires.counted.chains (λ y. refl) (λ y. refl);
+    }
+
+pub returns-in-Some-clause-added : goal.returns-in-Some-clause-added
+returns-in-Some-clause-added g c =
+    let d : CountedRun c.args.arena.now (full_in c.args.labels.now c.args.stamp) (full_in c.fill_between-in-Some.new.labels c.args.stamp) (hits_in c.args.tallies.now c.args.stamp) (hits_in c.show.new.tallies c.args.stamp) c.args.x.index c.look-view.result =
+    counted_as c.args.arena.now c.requires.waits.row c.requires.waits.waiting (full_in c.args.labels.now c.args.stamp) (full_in c.fill_between-in-Some.new.labels c.args.stamp) (hits_in c.args.tallies.now c.args.stamp) (hits_in c.show.new.tallies c.args.stamp) c.args.x.index c.requires.waits.n c.look-view.result
+    c.layout_law.ensures c.look-view.ensures.shows c.in-Run.ensures c.requires.waits.pass c.fill_between-in-Some.ensures.here c.fill_between-in-Some.ensures.others c.show.ensures.hits in
+    counted_run c.args.arena.now (full_in c.args.labels.now c.args.stamp) (full_in c.fill_between-in-Some.new.labels c.args.stamp) (hits_in c.args.tallies.now c.args.stamp) (hits_in c.show.new.tallies c.args.stamp) c.args.x.index c.fill_between-in-Some.result c.look-view.result d c.fill_between-in-Some.ensures.pairs
+
+pub returns-in-Some-clause-counted : goal.returns-in-Some-clause-counted
+returns-in-Some-clause-counted g c =
+    let d : CountedRun c.args.arena.now (full_in c.args.labels.now c.args.stamp) (full_in c.fill_between-in-Some.new.labels c.args.stamp) (hits_in c.args.tallies.now c.args.stamp) (hits_in c.show.new.tallies c.args.stamp) c.args.x.index c.look-view.result =
+    counted_as c.args.arena.now c.requires.waits.row c.requires.waits.waiting (full_in c.args.labels.now c.args.stamp) (full_in c.fill_between-in-Some.new.labels c.args.stamp) (hits_in c.args.tallies.now c.args.stamp) (hits_in c.show.new.tallies c.args.stamp) c.args.x.index c.requires.waits.n c.look-view.result
+    c.layout_law.ensures c.look-view.ensures.shows c.in-Run.ensures c.requires.waits.pass c.fill_between-in-Some.ensures.here c.fill_between-in-Some.ensures.others c.show.ensures.hits in
+    record {
+      ready = c.fill_between-in-Some.ensures.ready c.show.new.tallies (length c.args.arena.now.slots) (c.show.ensures.ready c.args.labels.now (length c.args.arena.now.slots) c.requires.counted.ready);
+      chains = counted_chains c.args.arena.now (full_in c.args.labels.now c.args.stamp) (full_in c.fill_between-in-Some.new.labels c.args.stamp) (hits_in c.args.tallies.now c.args.stamp) (hits_in c.show.new.tallies c.args.stamp) (first_in c.args.tallies.now) (first_in c.show.new.tallies) (next_in c.args.tallies.now) (next_in c.show.new.tallies) c.args.x.index c.look-view.result d
+          c.requires.counted.chains c.show.ensures.first c.show.ensures.next;
     }
 
 pub returns-in-Ring : goal.returns-in-Ring
 returns-in-Ring g c =
-    let d : CountedRing c.args.arena.now (full_in c.args.labels.now c.args.stamp) (full_in c.fill-in-Ring.new.labels c.args.stamp) (hits_in c.args.tallies.now c.args.stamp) (hits_in c.hit-hits.new.tallies c.args.stamp)
+    let d : CountedRing c.args.arena.now (full_in c.args.labels.now c.args.stamp) (full_in c.fill.new.labels c.args.stamp) (hits_in c.args.tallies.now c.args.stamp) (hits_in c.hit-hits.new.tallies c.args.stamp)
     c.args.x.index c.in-Ring.p c.look-view.result = record {
       layout = c.layout_law.ensures;
       shows = c.look-view.ensures.shows;
       at = c.in-Ring.ensures;
-      now = c.fill-in-Ring.ensures.here;
-      others = c.fill-in-Ring.ensures.others;
+      now = c.fill.ensures.here;
+      others = c.fill.ensures.others;
       hit = c.hit-hits.ensures.here;
       same = c.hit-hits.ensures.others;
     } in
     record {
       added = λ row waiting n pass.
-          subst (λ z. IsAdded c.args.arena.now row (full_in c.fill-in-Ring.new.labels c.args.stamp) (hits_in c.hit-hits.new.tallies c.args.stamp) waiting n z) (sym c.judged.ensures)
-          (joined_ring c.args.arena.now (full_in c.args.labels.now c.args.stamp) (full_in c.fill-in-Ring.new.labels c.args.stamp) (hits_in c.args.tallies.now c.args.stamp) (hits_in c.hit-hits.new.tallies c.args.stamp)
+          subst (λ z. IsAdded c.args.arena.now row (full_in c.fill.new.labels c.args.stamp) (hits_in c.hit-hits.new.tallies c.args.stamp) waiting n z) (sym c.judged.ensures)
+          (joined_ring c.args.arena.now (full_in c.args.labels.now c.args.stamp) (full_in c.fill.new.labels c.args.stamp) (hits_in c.args.tallies.now c.args.stamp) (hits_in c.hit-hits.new.tallies c.args.stamp)
           c.args.x.index c.in-Ring.p c.look-view.result c.look-children.result c.hit-hits.result d
           c.look-children.ensures.shows c.hit-hits.ensures.result row waiting n pass);
       counted = record {
-        ready = c.hit-hits.ensures.ready c.fill-in-Ring.new.labels (length c.args.arena.now.slots)
-            (c.fill-in-Ring.ensures.ready c.args.tallies.now (length c.args.arena.now.slots) c.requires.counted.ready);
-        chains = ring_chains c.args.arena.now (full_in c.args.labels.now c.args.stamp) (full_in c.fill-in-Ring.new.labels c.args.stamp) (hits_in c.args.tallies.now c.args.stamp) (hits_in c.hit-hits.new.tallies c.args.stamp)
+        ready = c.hit-hits.ensures.ready c.fill.new.labels (length c.args.arena.now.slots)
+            (c.fill.ensures.ready c.args.tallies.now (length c.args.arena.now.slots) c.requires.counted.ready);
+        chains = ring_chains c.args.arena.now (full_in c.args.labels.now c.args.stamp) (full_in c.fill.new.labels c.args.stamp) (hits_in c.args.tallies.now c.args.stamp) (hits_in c.hit-hits.new.tallies c.args.stamp)
             (first_in c.args.tallies.now) (first_in c.hit-hits.new.tallies) (next_in c.args.tallies.now) (next_in c.hit-hits.new.tallies) c.args.x.index c.in-Ring.p c.look-view.result d
             (c.requires.waits.pass.labels.fresh c.args.x.index (occurs_here c.args.x.index c.requires.waits.waiting)) c.requires.counted.chains
             (record {

@@ -6,7 +6,7 @@ use Rattle.full_pass.specs.Entries.{is_full, hits, far, mark_of, AreReady}
 use Rattle.full_pass.specs.Passing.{run_as, IsAdded}
 use Rattle.full_pass.proofs.Places.{side}
 use Rattle.full_pass.proofs.Steps.{none_unlabelled}
-use Rattle.full_pass.proofs.Joining.{CountedRing, FilledRun, joined_run, joined_linked, joined_ring, joined_ring_linked, joined_top, end_few, tied_by, ring_used, hits_few}
+use Rattle.full_pass.proofs.Joining.{CountedRing, FilledRun, joined_run, joined_linked, joined_ring, joined_ring_linked, joined_top, end_few, tied_by, ring_used, hits_few, run_within}
 use Rattle.full_pass.proofs.joins.join.Goals as goal
 
 pub look-children-requires : goal.look-children-requires
@@ -31,6 +31,14 @@ pub note-requires : goal.note-requires
 note-requires g c =
     let w : AreReady c.fill.new.self (length c.args.arena.now.slots) = c.fill.ensures.ready (length c.args.arena.now.slots) c.requires.linked.ready in
     subst (λ z. c.args.x.index < z) (sym w.ends) (in_range c.args.arena.now c.args.x.index (c.requires.pass.labels.used c.args.x.index (occurs_here c.args.x.index c.requires.waiting)))
+
+pub beside-a-requires-clause-near : goal.beside-a-requires-clause-near
+beside-a-requires-clause-near g c =
+    (run_within c.args.arena.now c.args.x.index (length c.args.entries.now.labels.items) c.look-view.result c.layout_law.ensures c.look-view.ensures.shows c.in-Run.ensures c.requires.linked.ready.stamped.labels_size).0
+
+pub beside-b-requires-clause-near : goal.beside-b-requires-clause-near
+beside-b-requires-clause-near g c =
+    (run_within c.args.arena.now c.args.x.index (length c.args.entries.now.labels.items) c.look-view.result c.layout_law.ensures c.look-view.ensures.shows c.in-Run.ensures c.requires.linked.ready.stamped.labels_size).1
 
 pub link-requires : goal.link-requires
 link-requires g c =
