@@ -15,13 +15,13 @@ use Rattle.instance_model.specs.Laws.{ValidLaw}
 use Rattle.verdict_check.specs.Laws.{IsSolvedSide, YesLaw, NoLaw}
 use Rattle.verdict_check.specs.Truth.{IsTrueAddedTo, IsTrueAdded}
 use Rattle.verdict_check.specs.Accepted.{IsAccepted}
-use Rattle.verdict_replies.specs.Verdicts.{ShowsSide, ShowsSides, AddsToMatrix, AddsToOrder, IsClaimOf, IsVerdictOf, IsVerdictReply, GrammarLaw, LengthLaw, ShownOrderLaw}
+use Rattle.verdict_replies.specs.Verdicts.{ShowsSide, ShowsSides, AddsToOrder, IsClaimOf, IsVerdictOf, IsVerdictReply, GrammarLaw, LengthLaw, ShownOrderLaw}
 use Rattle.exact_tree.specs.Laws.{ExactLaw}
 use Rattle.commands.specs.Judgements.{HasVerdict}
 use Rattle.commands.specs.Passed.{TiedSideLaw}
 
 -- what a matrix adds to its side is true
-true_to_matrix : (kind : Kind) (m : RowList) (value : YesValue) (side : Option SideValue) → IsPlainKind kind → IsSomeAnd side (λ s. AddsToMatrix kind m s.order value.added)
+true_to_matrix : (kind : Kind) (m : RowList) (value : YesValue) (side : Option SideValue) → IsPlainKind kind → IsSomeAnd side (λ s. AddsToOrder (plain kind m) s.order value.added)
     → IsSomeAnd side (IsTrueAddedTo kind m.rows value)
 true_to_matrix kind m value None h adds = absurd adds
 true_to_matrix Matrix m value (Some side) h adds = tt

@@ -1,5 +1,5 @@
 -- What a check finds of the bytes of the text of a core.
-use Rattle.std.specs.Prelude.{◌≡◌, ◌≢◌, ℕ, ◌<◌, ◌≤◌, List, ◌++◌, length, codes}
+use Rattle.std.specs.Prelude.{◌≡◌, ◌≢◌, ℕ, ◌<◌, ◌≤◌, List, ◌++◌, length, Option, Some, None, codes}
 use Rattle.std.specs.Fmt.{decimal}
 use Rattle.row_model.specs.declared.kind.Kind.{Kind}
 use Rattle.row_model.specs.Rows.{RowList}
@@ -8,6 +8,7 @@ use Rattle.verdict_check.specs.Core.{IsAcceptedCore, FailsCoreFirst}
 use Rattle.verdict_check.specs.declared.core_outcome.CoreReason.{CoreReason}
 use Rattle.verdict_check.specs.declared.core_outcome.CoreReason.TheVariants as reason
 use Rattle.verdict_replies.specs.declared.TheConstants.{MAX_CORE_BYTES}
+use Rattle.commands.specs.Faults.{TellsFault}
 use Rattle.commands.specs.declared.core_judgement.CoreJudgement.{CoreJudgement}
 use Rattle.commands.specs.declared.core_judgement.CoreJudgement.TheVariants as judgement
 
@@ -34,21 +35,13 @@ core_reason_text (reason.Pair line) = codes "pair " ++ decimal line
 core_reason_text (reason.Repeat line) = codes "repeat " ++ decimal line
 core_reason_text (reason.Join line) = codes "join " ++ decimal line
 
--- `valid`, or `invalid` with the test that failed
-abbrev pub core_judgement_text : CoreJudgement → List ℕ
-core_judgement_text judgement.Valid = codes "valid"
-core_judgement_text judgement.TooLong = codes "invalid too-long"
-core_judgement_text judgement.NoCore = codes "invalid text"
-core_judgement_text (judgement.Fails r) = codes "invalid " ++ core_reason_text r
+-- the words of the test that fails, if one does
+abbrev pub core_judgement_fault : CoreJudgement → Option (List ℕ)
+core_judgement_fault judgement.Valid = None
+core_judgement_fault judgement.TooLong = Some (codes "too-long")
+core_judgement_fault judgement.NoCore = Some (codes "text")
+core_judgement_fault (judgement.Fails r) = Some (core_reason_text r)
 
--- the status that goes with it: 0 for valid, 1 for invalid
-abbrev pub core_judgement_status : CoreJudgement → ℕ
-core_judgement_status judgement.Valid = 0
-core_judgement_status other = 1
-
--- the status and the text, one line, are those of what is found of the bytes
-pub record IsCoreJudgementReply (kind : Kind) (m : RowList) (bytes : List ℕ) (status : ℕ) (text : List ℕ) : Type 0 where
-  pub judgement : CoreJudgement
-  pub holds : IsCoreJudgement kind m bytes judgement
-  pub status_is : status ≡ core_judgement_status judgement
-  pub text_is : text ≡ core_judgement_text judgement ++ codes "\n"
+-- the status and the text tell what is found of the bytes
+abbrev pub IsCoreJudgementReply : Kind → RowList → List ℕ → ℕ → List ℕ → Type 0
+IsCoreJudgementReply kind m bytes status text = (found : CoreJudgement) × IsCoreJudgement kind m bytes found × TellsFault (core_judgement_fault found) status text

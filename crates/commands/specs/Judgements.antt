@@ -1,5 +1,5 @@
 -- What a check finds of the bytes of a verdict.
-use Rattle.std.specs.Prelude.{◌≡◌, ◌≢◌, ℕ, ◌<◌, ◌≤◌, List, ◌++◌, length, codes}
+use Rattle.std.specs.Prelude.{◌≡◌, ◌≢◌, ℕ, ◌<◌, ◌≤◌, List, ◌++◌, length, Option, Some, None, codes}
 use Rattle.std.specs.Fmt.{decimal}
 use Rattle.verdict_text.specs.Verdict.{VerdictValue}
 use Rattle.verdict_text.specs.Grammar.{IsVerdict}
@@ -9,6 +9,7 @@ use Rattle.verdict_check.specs.Accepted.{IsAccepted, FailsFirst}
 use Rattle.verdict_check.specs.declared.outcome.Reason.{Reason}
 use Rattle.verdict_check.specs.declared.outcome.Reason.TheVariants as reason
 use Rattle.verdict_replies.specs.declared.TheConstants.{MAX_VERDICT_BYTES}
+use Rattle.commands.specs.Faults.{TellsFault}
 use Rattle.commands.specs.declared.judgement.Judgement.{Judgement}
 use Rattle.commands.specs.declared.judgement.Judgement.TheVariants as judgement
 
@@ -39,21 +40,13 @@ reason_text (reason.Pair line) = codes "pair " ++ decimal line
 reason_text (reason.Repeat line) = codes "repeat " ++ decimal line
 reason_text (reason.Join line) = codes "join " ++ decimal line
 
--- `valid`, or `invalid` with the test that failed
-abbrev pub judgement_text : Judgement → List ℕ
-judgement_text judgement.Valid = codes "valid"
-judgement_text judgement.TooLong = codes "invalid too-long"
-judgement_text judgement.NoVerdict = codes "invalid text"
-judgement_text (judgement.Fails r) = codes "invalid " ++ reason_text r
+-- the words of the test that fails, if one does
+abbrev pub judgement_fault : Judgement → Option (List ℕ)
+judgement_fault judgement.Valid = None
+judgement_fault judgement.TooLong = Some (codes "too-long")
+judgement_fault judgement.NoVerdict = Some (codes "text")
+judgement_fault (judgement.Fails r) = Some (reason_text r)
 
--- the status that goes with it: 0 for valid, 1 for invalid
-abbrev pub judgement_status : Judgement → ℕ
-judgement_status judgement.Valid = 0
-judgement_status other = 1
-
--- the status and the text, one line, are those of what is found of the bytes
-pub record IsJudgementReply (i : InstanceValue) (bytes : List ℕ) (status : ℕ) (text : List ℕ) : Type 0 where
-  pub judgement : Judgement
-  pub holds : IsJudgement i bytes judgement
-  pub status_is : status ≡ judgement_status judgement
-  pub text_is : text ≡ judgement_text judgement ++ codes "\n"
+-- the status and the text tell what is found of the bytes
+abbrev pub IsJudgementReply : InstanceValue → List ℕ → ℕ → List ℕ → Type 0
+IsJudgementReply i bytes status text = (found : Judgement) × IsJudgement i bytes found × TellsFault (judgement_fault found) status text

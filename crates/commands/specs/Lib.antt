@@ -1,3 +1,4 @@
+pub mod Faults
 pub mod Judgements
 pub mod CoreJudgements
 pub mod Findings

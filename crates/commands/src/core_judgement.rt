@@ -1,6 +1,7 @@
 // What a check of the text of a core finds.
 ghost use Rattle.std.specs.Prelude.{◌≡◌};
-ghost use Rattle.commands.specs.CoreJudgements.{core_judgement_status};
+ghost use Rattle.commands.specs.Faults.{fault_status};
+ghost use Rattle.commands.specs.CoreJudgements.{core_judgement_fault};
 
 use std::fmt;
 use verdict_check::CoreReason;
@@ -21,7 +22,7 @@ pub enum CoreJudgement {
 impl CoreJudgement {
     /// The exit status: 0 for valid, 1 for invalid.
     pub fn status(&self) -> u8
-        ensures { result ≡ core_judgement_status self.now }
+        ensures { result ≡ fault_status (core_judgement_fault self.now) }
     {
         match self {
             CoreJudgement::Valid => 0,
@@ -32,9 +33,10 @@ impl CoreJudgement {
 
 impl fmt::Display for CoreJudgement {
     ghost use Rattle.std.specs.Prelude.{Some};
-    ghost use Rattle.commands.specs.CoreJudgements.{core_judgement_text};
+    ghost use Rattle.commands.specs.Faults.{fault_text};
+    ghost use Rattle.commands.specs.CoreJudgements.{core_judgement_fault};
 
-    ghost output = { λ judgement. Some (core_judgement_text judgement) };
+    ghost output = { λ judgement. Some (fault_text (core_judgement_fault judgement)) };
 
     fn fmt<W: fmt::Write>(&self, f: &mut fmt::Formatter<W>) -> fmt::Result {
         match *self {

@@ -1,6 +1,7 @@
 // What a check of a unit model finds.
 ghost use Rattle.std.specs.Prelude.{◌≡◌};
-ghost use Rattle.commands.specs.Findings.{finding_status};
+ghost use Rattle.commands.specs.Faults.{fault_status};
+ghost use Rattle.commands.specs.Findings.{finding_fault};
 
 use std::fmt;
 
@@ -22,7 +23,7 @@ pub enum Finding {
 impl Finding {
     /// The exit status: 0 for valid, 1 for invalid.
     pub fn status(&self) -> u8
-        ensures { result ≡ finding_status self.now }
+        ensures { result ≡ fault_status (finding_fault self.now) }
     {
         match self {
             Finding::Valid => 0,
@@ -33,9 +34,10 @@ impl Finding {
 
 impl fmt::Display for Finding {
     ghost use Rattle.std.specs.Prelude.{Some};
-    ghost use Rattle.commands.specs.Findings.{finding_text};
+    ghost use Rattle.commands.specs.Faults.{fault_text};
+    ghost use Rattle.commands.specs.Findings.{finding_fault};
 
-    ghost output = { λ finding. Some (finding_text finding) };
+    ghost output = { λ finding. Some (fault_text (finding_fault finding)) };
 
     fn fmt<W: fmt::Write>(&self, f: &mut fmt::Formatter<W>) -> fmt::Result {
         f.write_str(match *self {

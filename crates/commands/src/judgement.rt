@@ -1,6 +1,7 @@
 // What a check finds.
 ghost use Rattle.std.specs.Prelude.{◌≡◌};
-ghost use Rattle.commands.specs.Judgements.{judgement_status};
+ghost use Rattle.commands.specs.Faults.{fault_status};
+ghost use Rattle.commands.specs.Judgements.{judgement_fault};
 
 use std::fmt;
 use verdict_check::Reason;
@@ -21,7 +22,7 @@ pub enum Judgement {
 impl Judgement {
     /// The exit status: 0 for valid, 1 for invalid.
     pub fn status(&self) -> u8
-        ensures { result ≡ judgement_status self.now }
+        ensures { result ≡ fault_status (judgement_fault self.now) }
     {
         match self {
             Judgement::Valid => 0,
@@ -32,9 +33,10 @@ impl Judgement {
 
 impl fmt::Display for Judgement {
     ghost use Rattle.std.specs.Prelude.{Some};
-    ghost use Rattle.commands.specs.Judgements.{judgement_text};
+    ghost use Rattle.commands.specs.Faults.{fault_text};
+    ghost use Rattle.commands.specs.Judgements.{judgement_fault};
 
-    ghost output = { λ judgement. Some (judgement_text judgement) };
+    ghost output = { λ judgement. Some (fault_text (judgement_fault judgement)) };
 
     fn fmt<W: fmt::Write>(&self, f: &mut fmt::Formatter<W>) -> fmt::Result {
         match *self {

@@ -13,13 +13,14 @@ use Rattle.verdict_check.specs.Accepted.{Passes, IsFirstFailing, IsAccepted, Fai
 use Rattle.verdict_check.specs.Tests.{tests}
 use Rattle.verdict_check.specs.Core.{PassesCore, core_tests, IsAcceptedCore, FailsCoreFirst}
 use Rattle.verdict_replies.specs.Units.{IsUnitOf}
-use Rattle.commands.specs.Judgements.{HasVerdict, IsJudgement, judgement_status, judgement_text, IsJudgementReply}
+use Rattle.commands.specs.Faults.{fault_status, fault_text}
+use Rattle.commands.specs.Judgements.{HasVerdict, IsJudgement, judgement_fault, IsJudgementReply}
 use Rattle.commands.specs.declared.judgement.Judgement.{Judgement}
 use Rattle.commands.specs.declared.judgement.Judgement.TheVariants as judgement
-use Rattle.commands.specs.CoreJudgements.{IsCoreJudgement, core_judgement_status, core_judgement_text, IsCoreJudgementReply}
+use Rattle.commands.specs.CoreJudgements.{IsCoreJudgement, core_judgement_fault, IsCoreJudgementReply}
 use Rattle.commands.specs.declared.core_judgement.CoreJudgement.{CoreJudgement}
 use Rattle.commands.specs.declared.core_judgement.CoreJudgement.TheVariants as core_judgement
-use Rattle.commands.specs.Findings.{IsFinding, finding_status, finding_text, IsFindingReply}
+use Rattle.commands.specs.Findings.{IsFinding, finding_fault, IsFindingReply}
 use Rattle.commands.specs.declared.finding.Finding.{Finding}
 use Rattle.commands.specs.declared.finding.Finding.TheVariants as finding
 use Rattle.one_text.specs.One.{AreOneReply}
@@ -72,8 +73,8 @@ module _ (one_text : OneVerdictLaw) (i : InstanceValue) (bytes : List ℕ) where
 
   pub one_judgement_reply : (status other : ℕ) (text others : List ℕ) → IsJudgementReply i bytes status text → IsJudgementReply i bytes other others → AreOneReply status text other others
   one_judgement_reply status other text others here there =
-      let same = one_judgement here.judgement there.judgement here.holds there.holds in
-      (here.status_is ∙ ap judgement_status same ∙ sym there.status_is, inl (here.text_is ∙ ap (λ a. judgement_text a ++ codes "\n") same ∙ sym there.text_is))
+      let same = one_judgement here.0 there.0 here.1 there.1 in
+      (here.2.0 ∙ ap (λ a. fault_status (judgement_fault a)) same ∙ sym there.2.0, inl (here.2.1 ∙ ap (λ a. fault_text (judgement_fault a) ++ codes "\n") same ∙ sym there.2.1))
 
 module _ (one_text : OneCoreLaw) (kind : Kind) (m : RowList) (bytes : List ℕ) where
   one_core_judgement : (a b : CoreJudgement) → IsCoreJudgement kind m bytes a → IsCoreJudgement kind m bytes b → a ≡ b
@@ -100,8 +101,8 @@ module _ (one_text : OneCoreLaw) (kind : Kind) (m : RowList) (bytes : List ℕ) 
 
   pub one_core_reply : (status other : ℕ) (text others : List ℕ) → IsCoreJudgementReply kind m bytes status text → IsCoreJudgementReply kind m bytes other others → AreOneReply status text other others
   one_core_reply status other text others here there =
-      let same = one_core_judgement here.judgement there.judgement here.holds there.holds in
-      (here.status_is ∙ ap core_judgement_status same ∙ sym there.status_is, inl (here.text_is ∙ ap (λ a. core_judgement_text a ++ codes "\n") same ∙ sym there.text_is))
+      let same = one_core_judgement here.0 there.0 here.1 there.1 in
+      (here.2.0 ∙ ap (λ a. fault_status (core_judgement_fault a)) same ∙ sym there.2.0, inl (here.2.1 ∙ ap (λ a. fault_text (core_judgement_fault a) ++ codes "\n") same ∙ sym there.2.1))
 
 module _ (one_text : OneUnitLaw) (g : GraphValue) (bytes : List ℕ) where
   one_finding : (a b : Finding) → IsFinding g bytes a → IsFinding g bytes b → a ≡ b
@@ -139,5 +140,5 @@ module _ (one_text : OneUnitLaw) (g : GraphValue) (bytes : List ℕ) where
 
   pub one_finding_reply : (status other : ℕ) (text others : List ℕ) → IsFindingReply g bytes status text → IsFindingReply g bytes other others → AreOneReply status text other others
   one_finding_reply status other text others here there =
-      let same = one_finding here.finding there.finding here.holds there.holds in
-      (here.status_is ∙ ap finding_status same ∙ sym there.status_is, inl (here.text_is ∙ ap (λ a. finding_text a ++ codes "\n") same ∙ sym there.text_is))
+      let same = one_finding here.0 there.0 here.1 there.1 in
+      (here.2.0 ∙ ap (λ a. fault_status (finding_fault a)) same ∙ sym there.2.0, inl (here.2.1 ∙ ap (λ a. fault_text (finding_fault a) ++ codes "\n") same ∙ sym there.2.1))

@@ -36,7 +36,7 @@ use Rattle.commands.specs.CoreJudgements.{IsCoreJudgementReply}
 use Rattle.commands.specs.Findings.{IsFindingReply}
 use Rattle.command_input.specs.TreeFiles.{tree_file}
 use Rattle.solve_replies.specs.Cores.{IsCoreReply}
-use Rattle.solve_replies.specs.Lists.{IsOrderOf, list_text, IsListText, IsListReply}
+use Rattle.solve_replies.specs.Lists.{list_text, IsListText, IsListReply}
 use Rattle.solve_replies.specs.Models.{TellsModel, TellsByClaim, IsModelReply}
 use Rattle.solve_replies.specs.Summaries.{summary_text, IsSummary}
 use Rattle.solve_replies.specs.Generated.{generated}
@@ -113,7 +113,7 @@ module _ (one_tree : CanonicalTreeLaw) (places : PlacesLaw) (contigs : ContigsLa
   one_list_text : FirstOrdersLaw → (kind : Kind) (m : RowList) (k : ℕ) (x y : List ℕ) → IsListText kind m k x → IsListText kind m k y → x ≡ y
   one_list_text firsts kind m k x y here there =
       let orders = firsts m.columns m.rows k here.orders there.orders here.first there.first in
-      let more = same_bool here.more there.more (HasOther (IsOrderOf m) there.orders) (subst (λ os. IsTrue here.more ↔ HasOther (IsOrderOf m) os) orders here.others) there.others in
+      let more = same_bool here.more there.more (HasOther (IsValidOrder m.columns m.rows) there.orders) (subst (λ os. IsTrue here.more ↔ HasOther (IsValidOrder m.columns m.rows) os) orders here.others) there.others in
       here.text_is ∙ ap (λ os. list_text kind m.columns os here.more) orders ∙ ap (list_text kind m.columns there.orders) more ∙ sym there.text_is
 
   one_common : (c : ℕ) (t u : Outline) (x y : List ℕ) → TellsCommon c t u x → TellsCommon c t u y → x ≡ y

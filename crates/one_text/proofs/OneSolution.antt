@@ -17,7 +17,7 @@ use Rattle.verdict_text.specs.Text.{head_text, claim_text, cycle_text, verdict_t
 use Rattle.verdict_text.specs.Verdict.{SideValue, AddedValue, YesValue, Claim, yes_claim, no_claim, VerdictValue}
 use Rattle.instance_model.specs.Instance.{InstanceValue, plain, circular, convex, doubly, proper, robinson, IsSideOf, derived_matrix, IsWellFormed}
 use Rattle.instance_model.specs.Laws.{ValidLaw}
-use Rattle.verdict_replies.specs.Verdicts.{ShowsAllOrders, ShowsSides, AddsNothing, AddsToMatrix, AddsToOrder, IsClaimOf, status_of, IsVerdictReply, ShownOrderLaw}
+use Rattle.verdict_replies.specs.Verdicts.{ShowsAllOrders, ShowsSides, AddsNothing, AddsToOrder, IsClaimOf, status_of, IsVerdictReply, ShownOrderLaw}
 use Rattle.one_text.specs.Laws.{HasLines}
 use Rattle.one_text.specs.One.{TellsCycle, AreOneReply}
 use Rattle.one_text.proofs.Lines.{behind, before, itself}
@@ -70,7 +70,7 @@ module _ (one_tree : CanonicalTreeLaw) where
       same_Some (get_or xs k d) (get_or ys k d) (sym (slice_get-get_or xs k d lt) ∙ at ∙ slice_get-get_or ys k d (omega (arith, lt, here.count, there.count))))
 
   module _ (places : PlacesLaw) (contigs : ContigsLaw) (intervals : OneListLaw) (valid : ValidLaw) (shown : ShownOrderLaw) where
-    added_to_matrix : (kind : Kind) (m : RowList) (order : List ℕ) (a b : AddedValue) → AddsToMatrix kind m order a → AddsToMatrix kind m order b → a ≡ b
+    added_to_matrix : (kind : Kind) (m : RowList) (order : List ℕ) (a b : AddedValue) → AddsToOrder (plain kind m) order a → AddsToOrder (plain kind m) order b → a ≡ b
     added_to_matrix Clones m order a b here there =
         same_added a b (here.0 ∙ sym there.0) (places m.rows order a.places b.places here.1 there.1) (contigs m.rows order a.contigs b.contigs here.2 there.2)
     added_to_matrix kind m order a b here there = nothing_added a b here there

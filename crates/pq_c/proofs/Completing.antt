@@ -10,22 +10,26 @@ use Rattle.row_model.specs.declared.refusal.Read.TheVariants as read
 use Rattle.command_input.specs.Words.{Command, Solve, Check, Extend, Gen, Meet, ListOrders, UnitModel, CheckUnit, Core, CheckCore, files_of}
 use Rattle.command_input.specs.Instances.{instance_of}
 use Rattle.command_input.specs.TreeFiles.{tree_file}
-use Rattle.reply_laws.specs.Replies.{Replies, refusable, refusal_of, refused_at, refused_behind, refused_of_two}
+use Rattle.reply_laws.specs.Replies.{Replies, refusable, refusal_of, refused_at, refused_of_two}
 use Rattle.pq_cli.specs.Told.{AllTold}
 use Rattle.pq_c.specs.Given.{given, IsGiven}
 use Rattle.pq_c.specs.Called.{IsFirstAnother, IsWholeRun, IsHandedOver}
 use Rattle.pq_c.specs.Complete.{CompleteInMemoryLaw}
+
+-- where both of two files hold values, none is refused
+both_read : {T U : Type 0} (second : T → Read U) {x : Read T} {v : T} {w : U} → x ≡ read.Ok v → second v ≡ read.Ok w → refused_of_two x second ≡ None
+both_read second one other = ap (λ y. refused_of_two y second) one ∙ ap (refused_at 2) other
 
 -- of files to which there is a reply none is refused
 none_refused : (c : Command) (files : List (List ℕ)) (n : ℕ) (text : List ℕ) → Replies c files n text → refusal_of c files ≡ None
 unfolding Replies
 none_refused (Solve kind _) (bytes ∷ []) n text r = ap (refused_at 1) r.1
 none_refused (Check kind _ _) (bytes ∷ verdict ∷ []) n text r = ap (refused_at 1) r.1
-none_refused (Extend kind _ _) (bytes ∷ rows ∷ []) n text r = ap (λ x. refused_behind x rows) r.2 ∙ ap (refused_at 2) r.3
+none_refused (Extend kind _ _) (bytes ∷ rows ∷ []) n text r = both_read _ r.2 r.3
 none_refused (Core kind _) (bytes ∷ []) n text r = ap (refused_at 1) r.1
 none_refused (CheckCore kind _ _) (bytes ∷ core ∷ []) n text r = ap (refused_at 1) r.1
 none_refused (Gen _ _ _) [] n text r = refl
-none_refused (Meet c _ _) (one ∷ other ∷ []) n text r = ap (λ x. refused_of_two x (tree_file c other)) r.2 ∙ ap (refused_at 2) r.3
+none_refused (Meet c _ _) (one ∷ other ∷ []) n text r = both_read _ r.2 r.3
 none_refused (ListOrders kind _ _) (bytes ∷ []) n text r = ap (refused_at 1) r.1
 none_refused (UnitModel _) (bytes ∷ []) n text r = ap (refused_at 1) r.1
 none_refused (CheckUnit _ _) (bytes ∷ unit ∷ []) n text r = ap (refused_at 1) r.1
@@ -35,9 +39,9 @@ none_or_some : {A : Type 0} {o : Option A} {x : A} → o ≡ Some x → o ≡ No
 none_or_some some none = cc
 
 -- where the first of two files is refused, this is the refusal of both
-first_of_two : {T : Type 0} (x : Read T) (both : Read T → Option (ℕ × Refusal)) (refusal : Refusal) → ((r : Refusal) → both (read.Refused r) ≡ Some (1, r)) → refused_at 1 x ≡ Some (1, refusal) → both x ≡ None → ⊥
-first_of_two (read.Ok v) both refusal keeps some none = cc
-first_of_two (read.Refused r) both refusal keeps some none = none_or_some (keeps r) none
+first_of_two : {T U : Type 0} (second : T → Read U) (x : Read T) (refusal : Refusal) → refused_at 1 x ≡ Some (1, refusal) → refused_of_two x second ≡ None → ⊥
+first_of_two second (read.Ok v) refusal some none = cc
+first_of_two second (read.Refused r) refusal some none = none_or_some some none
 
 -- one of the first files that is refused is one of all
 one_refused : (c : Command) (files : List (List ℕ)) (which : ℕ) (refusal : Refusal) → 1 ≤ which → which ≤ refusable c → refusal_of c (take which files) ≡ Some (which, refusal) → refusal_of c files ≡ None → ⊥
@@ -46,13 +50,13 @@ one_refused c [] (suc n) refusal from to some none = none_or_some some refl
 one_refused (Solve _ _) (b ∷ bs) (suc zero) refusal from to some none = none_or_some some none
 one_refused (Check _ _ _) (b ∷ bs) (suc zero) refusal from to some none = none_or_some some none
 one_refused (Extend _ _ _) (b ∷ []) (suc zero) refusal from to some none = none_or_some some none
-one_refused (Extend kind _ _) (b ∷ rows ∷ bs) (suc zero) refusal from to some none = first_of_two (instance_of kind b) (λ x. refused_behind x rows) refusal (λ r. refl) some none
+one_refused (Extend kind _ _) (b ∷ rows ∷ bs) (suc zero) refusal from to some none = first_of_two _ (instance_of kind b) refusal some none
 one_refused (Extend _ _ _) (b ∷ []) (suc (suc zero)) refusal from to some none = none_or_some some none
 one_refused (Extend _ _ _) (b ∷ rows ∷ bs) (suc (suc zero)) refusal from to some none = none_or_some some none
 one_refused (Core _ _) (b ∷ bs) (suc zero) refusal from to some none = none_or_some some none
 one_refused (CheckCore _ _ _) (b ∷ bs) (suc zero) refusal from to some none = none_or_some some none
 one_refused (Meet _ _ _) (b ∷ []) (suc zero) refusal from to some none = none_or_some some none
-one_refused (Meet c _ _) (b ∷ other ∷ bs) (suc zero) refusal from to some none = first_of_two (tree_file c b) (λ x. refused_of_two x (tree_file c other)) refusal (λ r. refl) some none
+one_refused (Meet c _ _) (b ∷ other ∷ bs) (suc zero) refusal from to some none = first_of_two _ (tree_file c b) refusal some none
 one_refused (Meet _ _ _) (b ∷ []) (suc (suc zero)) refusal from to some none = none_or_some some none
 one_refused (Meet _ _ _) (b ∷ other ∷ bs) (suc (suc zero)) refusal from to some none = none_or_some some none
 one_refused (ListOrders _ _ _) (b ∷ bs) (suc zero) refusal from to some none = none_or_some some none

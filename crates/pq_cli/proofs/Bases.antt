@@ -6,11 +6,11 @@ use Rattle.row_model.specs.declared.refusal.Refusal.{Refusal}
 use Rattle.row_model.specs.declared.refusal.Read.{Read}
 use Rattle.row_model.specs.declared.refusal.Read.TheVariants as read
 use Rattle.matrix_read.specs.Sparse.{further}
-use Rattle.instance_model.specs.Instance.{InstanceValue, plain, circular, convex, doubly, proper, robinson, instance_kind}
+use Rattle.instance_model.specs.Instance.{InstanceValue, plain, circular, convex, doubly, proper, robinson, instance_kind, derived_matrix}
 use Rattle.command_input.specs.Words.{Extend}
 use Rattle.command_input.specs.Instances.{instance_of}
 use Rattle.solve_replies.specs.Charges.{ExtendsWithin}
-use Rattle.reply_laws.specs.Replies.{refused_at, refused_behind, refusal_of}
+use Rattle.reply_laws.specs.Replies.{refused_at, refused_of_two, refusal_of}
 
 -- an instance of a kind that holds a matrix is that matrix, of that kind
 base_is : (kind k : Kind) (i : InstanceValue) (m : RowList) → i ≡ plain k m → instance_kind i ≡ kind → i ≡ plain kind m
@@ -23,7 +23,7 @@ base_read kind k bytes i m e h made = sym made ∙ ap read.Ok (base_is kind k i 
 pub further_refused : (kind : Kind) (file rows bytes given : List ℕ) (m : RowList) (c : ℕ) (refusal : Refusal) → instance_of kind bytes ≡ read.Ok (plain kind m) → c ≡ m.columns
     → read.Refused refusal ≡ further c given → refusal_of (Extend kind file rows) (bytes ∷ given ∷ []) ≡ Some (2, refusal)
 further_refused kind file rows bytes given m c refusal base over refused =
-    ap (λ j. refused_behind j given) base ∙ ap (λ n. refused_at 2 (further n given)) (sym over) ∙ ap (refused_at 2) (sym refused)
+    ap (λ j. refused_of_two j (λ (i : InstanceValue). further (derived_matrix i 1).columns given)) base ∙ ap (λ n. refused_at 2 (further n given)) (sym over) ∙ ap (refused_at 2) (sym refused)
 
 pub further_read : (given : List ℕ) (m n : RowList) (c : ℕ) → c ≡ m.columns → read.Ok n ≡ further c given → further m.columns given ≡ read.Ok n
 further_read given m n c over made = ap (λ k. further k given) (sym over) ∙ sym made

@@ -2,8 +2,10 @@
 use Rattle.std.proofs.Common.{◌≡◌, ◌≢◌, ◌⊎◌, ◌↔◌, ℕ, ◌≤◌, List, [], ◌∷◌, Option, Some, None, inl, inr, refl, ◌∙◌, ap, arith, IfSome}
 use Rattle.std.specs.Prelude.{IsNone, Result, Ok, Err, IfOk, IfErr}
 use Rattle.std.proofs.lemmas.Bool.{cases_eq}
+use Rattle.matrix_read.specs.Sparse.{further}
+use Rattle.instance_model.specs.Instance.{InstanceValue, derived_matrix}
 use Rattle.command_input.specs.Words.{Command, Solve, Check, Extend, Gen, Meet, ListOrders, UnitModel, CheckUnit, Core, CheckCore}
-use Rattle.reply_laws.specs.Replies.{refused_at, refused_behind, refused_of_two, refusal_of, Replies}
+use Rattle.reply_laws.specs.Replies.{refused_at, refused_of_two, refusal_of, Replies}
 use Rattle.pq_io.specs.Taken.{Taken}
 use Rattle.pq_cli.specs.Runs.{AllFit, OfTaken, taken_since, TakesFiles, WritesOut, CountsWrites, failure_line}
 use Rattle.command_input.specs.TreeFiles.{tree_file}
@@ -47,12 +49,12 @@ replied_unrefused (CheckUnit name other) (bytes ∷ given ∷ []) status text re
 replied_unrefused (CheckUnit name other) (bytes ∷ given ∷ more ∷ files) status text reply = absurd reply
 replied_unrefused (Extend kind name other) [] status text reply = absurd reply
 replied_unrefused (Extend kind name other) (bytes ∷ []) status text reply = absurd reply
-replied_unrefused (Extend kind name other) (bytes ∷ given ∷ []) status text reply = ap (λ first. refused_behind first given) reply.2 ∙ ap (refused_at 2) reply.3
+replied_unrefused (Extend kind name other) (bytes ∷ given ∷ []) status text reply = ap (λ first. refused_of_two first (λ (i : InstanceValue). further (derived_matrix i 1).columns given)) reply.2 ∙ ap (refused_at 2) reply.3
 replied_unrefused (Extend kind name other) (bytes ∷ given ∷ more ∷ files) status text reply = absurd reply
 replied_unrefused (Meet c name other) [] status text reply = absurd reply
 replied_unrefused (Meet c name other) (bytes ∷ []) status text reply = absurd reply
 replied_unrefused (Meet c name other) (bytes ∷ given ∷ []) status text reply =
-    ap (λ first. refused_of_two first (tree_file c given)) reply.2 ∙ ap (refused_at 2) reply.3
+    ap (λ first. refused_of_two first (λ _. tree_file c given)) reply.2 ∙ ap (refused_at 2) reply.3
 replied_unrefused (Meet c name other) (bytes ∷ given ∷ more ∷ files) status text reply = absurd reply
 
 -- the statuses that are left

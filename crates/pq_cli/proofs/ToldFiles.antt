@@ -5,23 +5,20 @@ use Rattle.std.proofs.lemmas.Slice.Zip.{AllZip-long}
 use Rattle.row_model.specs.declared.refusal.Refusal.{Refusal}
 use Rattle.row_model.specs.declared.refusal.Read.{Read}
 use Rattle.row_model.specs.declared.refusal.Read.TheVariants as read
-use Rattle.instance_model.specs.Instance.{InstanceValue}
+use Rattle.matrix_read.specs.Sparse.{further}
+use Rattle.instance_model.specs.Instance.{InstanceValue, derived_matrix}
 use Rattle.pq_io.specs.Taken.{Taken}
 use Rattle.command_input.specs.Words.{Command, Solve, Check, Extend, Gen, Meet, ListOrders, UnitModel, CheckUnit, Core, CheckCore, files_of}
 use Rattle.command_input.specs.Instances.{instance_of}
 use Rattle.command_input.specs.TreeFiles.{tree_file}
-use Rattle.reply_laws.specs.Replies.{refused_at, refused_behind, refused_of_two, refusal_of}
+use Rattle.reply_laws.specs.Replies.{refused_at, refused_of_two, refusal_of}
 use Rattle.pq_cli.specs.Runs.{AllFit, taken_since, TakesFiles}
 use Rattle.pq_cli.specs.Promise.{Completes, KeepsPromise}
 use Rattle.pq_cli.specs.Told.{AllTold, WhereToldFine, CompletesOverTold, KeepsPromiseOverTold}
 use Rattle.pq_cli.proofs.RealLaws.{told_fits}
 
 -- where the first of two files is refused, the two are refused so
-behind_first : (first : Read InstanceValue) (given : List ℕ) (found : ℕ × Refusal) → refused_at 1 first ≡ Some found → refused_behind first given ≡ Some found
-behind_first (read.Ok i) given found e = absurd (cc)
-behind_first (read.Refused refusal) given found e = e
-
-two_first : {T : Type 0} (first second : Read T) (found : ℕ × Refusal) → refused_at 1 first ≡ Some found → refused_of_two first second ≡ Some found
+two_first : {T U : Type 0} (first : Read T) (second : T → Read U) (found : ℕ × Refusal) → refused_at 1 first ≡ Some found → refused_of_two first second ≡ Some found
 two_first (read.Ok i) second found e = absurd (cc)
 two_first (read.Refused refusal) second found e = e
 
@@ -33,14 +30,14 @@ refused_first (Solve kind name) (suc n) (bytes ∷ files) found e = e
 refused_first (Check kind name other) (suc n) (bytes ∷ files) found e = e
 refused_first (Extend kind name other) (suc zero) (bytes ∷ []) found e = e
 refused_first (Extend kind name other) (suc (suc n)) (bytes ∷ []) found e = e
-refused_first (Extend kind name other) (suc zero) (bytes ∷ given ∷ files) found e = behind_first (instance_of kind bytes) given found e
+refused_first (Extend kind name other) (suc zero) (bytes ∷ given ∷ files) found e = two_first (instance_of kind bytes) (λ (i : InstanceValue). further (derived_matrix i 1).columns given) found e
 refused_first (Extend kind name other) (suc (suc n)) (bytes ∷ given ∷ files) found e = e
 refused_first (Core kind name) (suc n) (bytes ∷ files) found e = e
 refused_first (CheckCore kind name other) (suc n) (bytes ∷ files) found e = e
 refused_first (Gen seed columns rows) (suc n) (bytes ∷ files) found e = e
 refused_first (Meet c name other) (suc zero) (bytes ∷ []) found e = e
 refused_first (Meet c name other) (suc (suc n)) (bytes ∷ []) found e = e
-refused_first (Meet c name other) (suc zero) (bytes ∷ given ∷ files) found e = two_first (tree_file c bytes) (tree_file c given) found e
+refused_first (Meet c name other) (suc zero) (bytes ∷ given ∷ files) found e = two_first (tree_file c bytes) (λ _. tree_file c given) found e
 refused_first (Meet c name other) (suc (suc n)) (bytes ∷ given ∷ files) found e = e
 refused_first (ListOrders kind name count) (suc n) (bytes ∷ files) found e = e
 refused_first (UnitModel name) (suc n) (bytes ∷ files) found e = e

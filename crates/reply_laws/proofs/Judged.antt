@@ -11,7 +11,8 @@ use Rattle.verdict_check.specs.Accepted.{Passes, IsAccepted, FailsFirst}
 use Rattle.verdict_check.specs.declared.outcome.Reason.{Reason}
 use Rattle.verdict_check.specs.Laws.{TrueLaw}
 use Rattle.verdict_check.specs.Exact.{TrueYesLaw}
-use Rattle.commands.specs.Judgements.{HasVerdict, IsJudgement, IsJudgementReply, judgement_status, judgement_text}
+use Rattle.commands.specs.Faults.{fault_status, fault_text}
+use Rattle.commands.specs.Judgements.{HasVerdict, IsJudgement, IsJudgementReply, judgement_fault}
 use Rattle.reply_laws.specs.Replies.{Replies}
 use Rattle.verdict_replies.specs.Verdicts.{IsVerdictReply}
 use Rattle.commands.specs.Passed.{PassedLaw}
@@ -26,7 +27,7 @@ abbrev pub OneTextLaw : Type 0
 OneTextLaw = (v w : VerdictValue) → IsVerdict v → IsVerdict w → verdict_text v ≡ verdict_text w → v ≡ w
 
 -- with status 0 the bytes are valid
-valid_at_zero : (i : InstanceValue) (bytes : List ℕ) (found : Judgement) → IsJudgement i bytes found → 0 ≡ judgement_status found → HasVerdict bytes (IsAccepted i)
+valid_at_zero : (i : InstanceValue) (bytes : List ℕ) (found : Judgement) → IsJudgement i bytes found → 0 ≡ fault_status (judgement_fault found) → HasVerdict bytes (IsAccepted i)
 valid_at_zero i bytes judgement.Valid h e = h
 valid_at_zero i bytes judgement.TooLong h e = absurd (omega arith)
 valid_at_zero i bytes judgement.NoVerdict h e = absurd (omega arith)
@@ -36,7 +37,7 @@ pub check_law : InstanceLaw → TrueLaw → CheckLaw
 unfolding Replies
 check_law instance_read true_law kind file verdict bytes given text i e reply =
     let same : reply.0 ≡ i = same_read kind bytes i reply.0 e reply.1 in
-    let valid : HasVerdict given (IsAccepted i) = subst (λ j. HasVerdict given (IsAccepted j)) same (valid_at_zero reply.0 given reply.2.judgement reply.2.holds reply.2.status_is) in
+    let valid : HasVerdict given (IsAccepted i) = subst (λ j. HasVerdict given (IsAccepted j)) same (valid_at_zero reply.0 given reply.2.0 reply.2.1 reply.2.2.0) in
     (valid.1.0, valid.1.1, valid.1.2, true_law i valid.1.0 (instance_read kind bytes i e).formed valid.1.1 valid.1.3)
 
 -- no test of a verdict that is accepted fails
@@ -48,7 +49,7 @@ accepted_fails_none : (i : InstanceValue) (v : VerdictValue) (r : Reason) → Is
 accepted_fails_none i v r accepted first = first.fails (at_first (Passes i v) first.passed r first.later (subst (AllByRecursion (Passes i v)) first.order accepted))
 
 -- bytes that are accepted are judged valid
-accepted_is_valid : OneTextLaw → (i : InstanceValue) (bytes : List ℕ) (found : Judgement) → HasVerdict bytes (IsAccepted i) → IsJudgement i bytes found → (judgement_status found ≡ 0) × (judgement_text found ≡ codes "valid")
+accepted_is_valid : OneTextLaw → (i : InstanceValue) (bytes : List ℕ) (found : Judgement) → HasVerdict bytes (IsAccepted i) → IsJudgement i bytes found → (fault_status (judgement_fault found) ≡ 0) × (fault_text (judgement_fault found) ≡ codes "valid")
 accepted_is_valid one_text i bytes judgement.Valid has h = (refl, refl)
 accepted_is_valid one_text i bytes judgement.TooLong has h = absurd (omega (arith, has.0))
 accepted_is_valid one_text i bytes judgement.NoVerdict has h = absurd (h.1 has.1.0 has.1.1 has.1.2)
@@ -61,8 +62,8 @@ unfolding Replies
 status_law one_text kind file verdict bytes given text status i e reply =
     let same : reply.0 ≡ i = same_read kind bytes i reply.0 e reply.1 in
     let judging : IsJudgementReply i given status text = subst (λ j. IsJudgementReply j given status text) same reply.2 in (
-      λ zero. valid_at_zero i given judging.judgement judging.holds (sym zero ∙ judging.status_is),
-      λ has. judging.status_is ∙ (accepted_is_valid one_text i given judging.judgement has judging.holds).0,
+      λ zero. valid_at_zero i given judging.0 judging.1 (sym zero ∙ judging.2.0),
+      λ has. judging.2.0 ∙ (accepted_is_valid one_text i given judging.0 has judging.1).0,
     )
 
 -- and of a yes with status 0 exactly where it is true
@@ -92,5 +93,5 @@ module _ (instance_read : InstanceLaw) (passed : PassedLaw) where
       let i = solved.0 in
       let same : checked.0 ≡ i = same_read kind bytes i checked.0 solved.1 checked.1 in
       let judged : IsJudgementReply i given found text = subst (λ j. IsJudgementReply j given found text) same checked.2 in
-      let valid = accepted_is_valid one_text i given judged.judgement (accepted_reply kind bytes given status i solved.1 solved.2) judged.holds in
-      (judged.status_is ∙ valid.0, judged.text_is ∙ ap (λ text. text ++ codes "\n") valid.1)
+      let valid = accepted_is_valid one_text i given judged.0 (accepted_reply kind bytes given status i solved.1 solved.2) judged.1 in
+      (judged.2.0 ∙ valid.0, judged.2.1 ∙ ap (λ text. text ++ codes "\n") valid.1)

@@ -13,7 +13,8 @@ use Rattle.command_input.specs.Instances.{instance_of, InstanceLaw}
 use Rattle.reply_laws.specs.Replies.{Replies}
 use Rattle.verdict_replies.specs.Cores.{core_value, IsCoreText, CoreGrammarLaw}
 use Rattle.solve_replies.specs.Cores.{IsCoreReply}
-use Rattle.commands.specs.CoreJudgements.{HasCoreText, IsCoreJudgement, IsCoreJudgementReply, core_judgement_status, core_judgement_text}
+use Rattle.commands.specs.Faults.{fault_status, fault_text}
+use Rattle.commands.specs.CoreJudgements.{HasCoreText, IsCoreJudgement, IsCoreJudgementReply, core_judgement_fault}
 use Rattle.reply_laws.specs.Core.{CoreStatusLaw, NoCoreLaw, CoreWrittenLaw, CoreBelievedLaw, CoreValidLaw, CoreAgreedLaw}
 use Rattle.commands.specs.declared.core_judgement.CoreJudgement.{CoreJudgement}
 use Rattle.commands.specs.declared.core_judgement.CoreJudgement.TheVariants as judgement
@@ -54,7 +55,7 @@ written_law kind file bytes text m e reply =
     ]
 
 -- with status 0 the bytes are valid
-valid_at_zero : (kind : Kind) (m : RowList) (bytes : List ℕ) (found : CoreJudgement) → IsCoreJudgement kind m bytes found → 0 ≡ core_judgement_status found → HasCoreText bytes (IsAcceptedCore m kind)
+valid_at_zero : (kind : Kind) (m : RowList) (bytes : List ℕ) (found : CoreJudgement) → IsCoreJudgement kind m bytes found → 0 ≡ fault_status (core_judgement_fault found) → HasCoreText bytes (IsAcceptedCore m kind)
 valid_at_zero kind m bytes judgement.Valid h e = h
 valid_at_zero kind m bytes judgement.TooLong h e = absurd (omega arith)
 valid_at_zero kind m bytes judgement.NoCore h e = absurd (omega arith)
@@ -65,7 +66,7 @@ unfolding Replies
 believed_law names kind file core bytes given text m e reply =
     let same : reply.0 ≡ m = same_matrix kind bytes reply.0 m reply.1 e in
     let here : IsCoreJudgementReply kind m given 0 text = subst (λ n. IsCoreJudgementReply kind n given 0 text) same reply.2 in
-    let valid = valid_at_zero kind m given here.judgement here.holds here.status_is in
+    let valid = valid_at_zero kind m given here.0 here.1 here.2.0 in
     (valid.1.0, valid.1.1, valid.1.2, names m kind valid.1.0 valid.1.3)
 
 -- no test of a text that is accepted fails
@@ -78,7 +79,7 @@ accepted_fails_none m kind t r accepted first = first.fails (at_first (PassesCor
 
 -- bytes that are accepted are judged valid
 accepted_is_valid : OneCoreLaw → (kind : Kind) (m : RowList) (bytes : List ℕ) (found : CoreJudgement) → HasCoreText bytes (IsAcceptedCore m kind) → IsCoreJudgement kind m bytes found
-    → (core_judgement_status found ≡ 0) × (core_judgement_text found ≡ codes "valid")
+    → (fault_status (core_judgement_fault found) ≡ 0) × (fault_text (core_judgement_fault found) ≡ codes "valid")
 accepted_is_valid one kind m bytes judgement.Valid has h = (refl, refl)
 accepted_is_valid one kind m bytes judgement.TooLong has h = absurd (omega (arith, has.0))
 accepted_is_valid one kind m bytes judgement.NoCore has h = absurd (h.1 has.1.0 has.1.1 has.1.2)
@@ -91,8 +92,8 @@ unfolding Replies
 valid_law one kind file core bytes given text status m e reply =
     let same : reply.0 ≡ m = same_matrix kind bytes reply.0 m reply.1 e in
     let here : IsCoreJudgementReply kind m given status text = subst (λ n. IsCoreJudgementReply kind n given status text) same reply.2 in (
-      λ z. valid_at_zero kind m given here.judgement here.holds (sym z ∙ here.status_is),
-      λ has. here.status_is ∙ (accepted_is_valid one kind m given here.judgement has here.holds).0,
+      λ z. valid_at_zero kind m given here.0 here.1 (sym z ∙ here.2.0),
+      λ has. here.2.0 ∙ (accepted_is_valid one kind m given here.0 has here.1).0,
     )
 
 -- what `core` wrote with status 0 is accepted
@@ -111,7 +112,7 @@ module _ (instance_read : InstanceLaw) (grammar : CoreGrammarLaw) (told : ToldCo
       elim wrote.2 [
         | inl found ↦
             let has = accepted_text kind m given (instance_read kind bytes (plain kind m) wrote.1).within found.2 in
-            let valid = accepted_is_valid one kind m given here.judgement has here.holds in
-            (here.status_is ∙ valid.0, here.text_is ∙ ap (λ x. x ++ codes "\n") valid.1)
+            let valid = accepted_is_valid one kind m given here.0 has here.1 in
+            (here.2.0 ∙ valid.0, here.2.1 ∙ ap (λ x. x ++ codes "\n") valid.1)
         | inr order ↦ absurd (omega (arith, order.1))
       ]

@@ -18,7 +18,8 @@ use Rattle.verdict_replies.specs.Verdicts.{status_of}
 use Rattle.reply_laws.specs.Solve.{NoStatusLaw}
 use Rattle.solve_replies.specs.Models.{HasUnitModel, TellsUnit, TellsModel, TellsByClaim, IsModelReply}
 use Rattle.verdict_replies.specs.Units.{IsUnitOf}
-use Rattle.commands.specs.Findings.{HasUnit, IsFinding, finding_text, finding_status, IsFindingReply}
+use Rattle.commands.specs.Faults.{fault_status, fault_text}
+use Rattle.commands.specs.Findings.{HasUnit, IsFinding, finding_fault, IsFindingReply}
 use Rattle.reply_laws.specs.Units.{UnitStatusLaw, PrintedUnitLaw, NoUnitLaw}
 use Rattle.reply_laws.specs.UnitChecks.{UnitCheckLaw, UnitAgreedLaw}
 use Rattle.verdict_replies.specs.declared.TheConstants.{MAX_VERDICT_BYTES}
@@ -110,7 +111,7 @@ printed_unit_law file bytes text g e reply =
     unit_of_told g told.0 text told.1
 
 -- a finding with status 0 is that the text is valid
-valid_at_zero : (g : GraphValue) (bytes : List ℕ) (f : Finding) → IsFinding g bytes f → 0 ≡ finding_status f → HasUnit bytes (IsUnitOf g)
+valid_at_zero : (g : GraphValue) (bytes : List ℕ) (f : Finding) → IsFinding g bytes f → 0 ≡ fault_status (finding_fault f) → HasUnit bytes (IsUnitOf g)
 valid_at_zero g bytes finding.Valid h zero = h
 valid_at_zero g bytes finding.TooLong h zero = absurd (omega arith)
 valid_at_zero g bytes finding.NoUnit h zero = absurd (omega arith)
@@ -118,7 +119,7 @@ valid_at_zero g bytes finding.Vertices h zero = absurd (omega arith)
 valid_at_zero g bytes finding.Model h zero = absurd (omega arith)
 
 -- and it is found where it holds
-found_valid : OneUnitLaw → (g : GraphValue) (bytes : List ℕ) (f : Finding) → IsFinding g bytes f → HasUnit bytes (IsUnitOf g) → (finding_status f ≡ 0) × (finding_text f ≡ codes "valid")
+found_valid : OneUnitLaw → (g : GraphValue) (bytes : List ℕ) (f : Finding) → IsFinding g bytes f → HasUnit bytes (IsUnitOf g) → (fault_status (finding_fault f) ≡ 0) × (fault_text (finding_fault f) ≡ codes "valid")
 found_valid one g bytes finding.Valid h has = (refl, refl)
 found_valid one g bytes finding.TooLong h has = absurd (omega (arith, h, has.0))
 found_valid one g bytes finding.NoUnit h has = absurd (h.1 has.1.0 has.1.1 has.1.2)
@@ -135,8 +136,8 @@ module _ (one : OneUnitLaw) where
   unit_check_law file unit bytes given text status g e reply =
       let same : reply.0 ≡ g = same_reading bytes g reply.0 e reply.1 in
       let made : IsFindingReply g given status text = subst (λ k. IsFindingReply k given status text) same reply.2 in (
-        λ zero. valid_at_zero g given made.finding made.holds (sym zero ∙ made.status_is),
-        λ has. made.status_is ∙ (found_valid one g given made.finding made.holds has).0,
+        λ zero. valid_at_zero g given made.0 made.1 (sym zero ∙ made.2.0),
+        λ has. made.2.0 ∙ (found_valid one g given made.0 made.1 has).0,
       )
 
   pub unit_agreed_law : TextLengthLaw → UnitAgreedLaw
@@ -146,5 +147,5 @@ module _ (one : OneUnitLaw) where
       let told = printed_unit_law other bytes given g reply.1 printed in
       let few : length given ≤ MAX_VERDICT_BYTES = omega (arith, short told.0 told.1, ap (λ (xs : List ℕ). length xs) told.2) in
       let has : HasUnit given (IsUnitOf g) = (few, told) in
-      let valid = found_valid one g given reply.2.finding reply.2.holds has in
-      (reply.2.status_is ∙ valid.0, reply.2.text_is ∙ ap (λ line. line ++ codes "\n") valid.1)
+      let valid = found_valid one g given reply.2.0 reply.2.1 has in
+      (reply.2.2.0 ∙ valid.0, reply.2.2.1 ∙ ap (λ line. line ++ codes "\n") valid.1)

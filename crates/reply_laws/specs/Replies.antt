@@ -26,31 +26,21 @@ use Rattle.commands.specs.Findings.{IsFindingReply}
 -- how many of a command's files, the first ones, may be refused: the file of a verdict, of a core or of a unit model is
 -- judged, and never refused
 abbrev pub refusable : Command → ℕ
-refusable (Solve _ _) = 1
-refusable (Check _ _ _) = 1
-refusable (Extend _ _ _) = 2
-refusable (Core _ _) = 1
-refusable (CheckCore _ _ _) = 1
 refusable (Gen _ _ _) = 0
+refusable (Extend _ _ _) = 2
 refusable (Meet _ _ _) = 2
-refusable (ListOrders _ _ _) = 1
-refusable (UnitModel _) = 1
-refusable (CheckUnit _ _) = 1
+refusable other = 1
 
 -- the refusal of the file of this number, if it is refused
 abbrev pub refused_at : {T : Type 0} → ℕ → Read T → Option (ℕ × Refusal)
 refused_at which (read.Ok _) = None
 refused_at which (read.Refused refusal) = Some (which, refusal)
 
--- the refusal of the first file; or, where it holds a matrix, that of the second, with further rows over its columns
-abbrev pub refused_behind : Read InstanceValue → List ℕ → Option (ℕ × Refusal)
-refused_behind (read.Refused refusal) given = Some (1, refusal)
-refused_behind (read.Ok i) given = refused_at 2 (further (derived_matrix i 1).columns given)
-
--- the refusal of the first of two files, or, where that is not refused, of the second
-abbrev pub refused_of_two : {T : Type 0} → Read T → Read T → Option (ℕ × Refusal)
+-- the refusal of the first of two files; or, where the first holds a value, that of the second, whose reading may rest on
+-- this value
+abbrev pub refused_of_two : {T U : Type 0} → Read T → (T → Read U) → Option (ℕ × Refusal)
 refused_of_two (read.Refused refusal) second = Some (1, refusal)
-refused_of_two (read.Ok _) second = refused_at 2 second
+refused_of_two (read.Ok value) second = refused_at 2 (second value)
 
 -- which of a command's files is refused, counted from 1, and its first refusal, given the bytes of the first files
 abbrev pub refusal_of : Command → List (List ℕ) → Option (ℕ × Refusal)
@@ -58,12 +48,12 @@ refusal_of command [] = None
 refusal_of (Solve kind _) (bytes ∷ _) = refused_at 1 (instance_of kind bytes)
 refusal_of (Check kind _ _) (bytes ∷ _) = refused_at 1 (instance_of kind bytes)
 refusal_of (Extend kind _ _) (bytes ∷ []) = refused_at 1 (instance_of kind bytes)
-refusal_of (Extend kind _ _) (bytes ∷ given ∷ _) = refused_behind (instance_of kind bytes) given
+refusal_of (Extend kind _ _) (bytes ∷ given ∷ _) = refused_of_two (instance_of kind bytes) (λ i. further (derived_matrix i 1).columns given)
 refusal_of (Core kind _) (bytes ∷ _) = refused_at 1 (instance_of kind bytes)
 refusal_of (CheckCore kind _ _) (bytes ∷ _) = refused_at 1 (instance_of kind bytes)
 refusal_of (Gen _ _ _) (_ ∷ _) = None
 refusal_of (Meet c _ _) (first ∷ []) = refused_at 1 (tree_file c first)
-refusal_of (Meet c _ _) (first ∷ second ∷ _) = refused_of_two (tree_file c first) (tree_file c second)
+refusal_of (Meet c _ _) (first ∷ second ∷ _) = refused_of_two (tree_file c first) (λ _. tree_file c second)
 refusal_of (ListOrders kind _ _) (bytes ∷ _) = refused_at 1 (instance_of kind bytes)
 refusal_of (UnitModel _) (bytes ∷ _) = refused_at 1 (instance_of Proper bytes)
 refusal_of (CheckUnit _ _) (bytes ∷ _) = refused_at 1 (instance_of Proper bytes)

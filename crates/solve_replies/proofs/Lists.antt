@@ -9,9 +9,10 @@ use Rattle.pq_tree.specs.Outline.{IsFrontier}
 use Rattle.pq_tree.specs.PqTree.{column_count, outline}
 use Rattle.pq_tree.specs.declared.PqTree.{PqTree}
 use Rattle.order_list.specs.First.{AreFirst, HasOther}
+use Rattle.column_order.specs.Orders.{IsValidOrder}
 use Rattle.c1p_solve.specs.Answers.{HasAllOrders}
 use Rattle.verdict_text.specs.Text.{kind_line, columns_line}
-use Rattle.solve_replies.specs.Lists.{orders_text, more_line, list_text, IsOrderOf, IsListText}
+use Rattle.solve_replies.specs.Lists.{orders_text, more_line, list_text, IsListText}
 
 pub first_same : (S T : List ℕ → Type 0) (k : ℕ) (orders : List (List ℕ)) → ((o : List ℕ) → S o ↔ T o) → AreFirst S k orders → AreFirst T k orders
 first_same S T k orders same f =
@@ -55,7 +56,7 @@ frontiers_listed kind k t orders more c text first others columns is m all =
     record {
       orders = orders;
       more = more;
-      first = first_same (IsFrontier (outline t)) (IsOrderOf m) k orders all.orders first;
-      others = others_same (IsFrontier (outline t)) (IsOrderOf m) orders more all.orders others;
+      first = first_same (IsFrontier (outline t)) (IsValidOrder m.columns m.rows) k orders all.orders first;
+      others = others_same (IsFrontier (outline t)) (IsValidOrder m.columns m.rows) orders more all.orders others;
       text_is = is ∙ ap (λ n. list_text kind n orders more) (columns ∙ all.columns);
     }

@@ -27,16 +27,12 @@ orders_text orders = codes "orders " ++ (decimal (length orders) ++ (10 ∷ flat
 unfoldable pub list_text : Kind → ℕ → List (List ℕ) → Bool → List ℕ
 list_text kind c orders more = codes "pq-list 1\n" ++ (kind_line kind ++ (columns_line (c ∷ []) ++ (orders_text orders ++ (more_line more ++ codes "end\n"))))
 
--- a valid order of the matrix
-abbrev pub IsOrderOf : RowList → List ℕ → Type 0
-IsOrderOf m o = IsValidOrder m.columns m.rows o
-
 -- the text lists the first k valid orders of the matrix, and tells whether there are others
 pub record IsListText (kind : Kind) (m : RowList) (k : ℕ) (text : List ℕ) : Type 0 where
   pub orders : List (List ℕ)
   pub more : Bool
-  pub first : AreFirst (IsOrderOf m) k orders
-  pub others : IsTrue more ↔ HasOther (IsOrderOf m) orders
+  pub first : AreFirst (IsValidOrder m.columns m.rows) k orders
+  pub others : IsTrue more ↔ HasOther (IsValidOrder m.columns m.rows) orders
   pub text_is : text ≡ list_text kind m.columns orders more
 
 -- the status and the text tell the first valid orders of a matrix: where it has none, as `solve` does, and else as a

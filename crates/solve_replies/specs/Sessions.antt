@@ -52,26 +52,20 @@ refusals_after refusals (refused cycle) = refusals + 1
 -- what becomes of further rows, which are taken in turn
 abbrev pub AreOutcomes : RowList → ℕ → List (List ℕ) → List Outcome → Type 0
 AreOutcomes m refusals [] [] = ⊤
-AreOutcomes m refusals [] (_ ∷ _) = ⊥
-AreOutcomes m refusals (_ ∷ _) [] = ⊥
 AreOutcomes m refusals (row ∷ further) (outcome ∷ outcomes) =
     IsOutcome m refusals row outcome × AreOutcomes (matrix_after m row outcome) (refusals_after refusals outcome) further outcomes
+AreOutcomes m refusals further outcomes = ⊥
 
 -- the matrix after all of them: its rows at the start, and the accepted rows in their order
 abbrev pub matrix_at_end : RowList → List (List ℕ) → List Outcome → RowList
-matrix_at_end m [] outcomes = m
-matrix_at_end m (_ ∷ _) [] = m
 matrix_at_end m (row ∷ further) (outcome ∷ outcomes) = matrix_at_end (matrix_after m row outcome) further outcomes
-
--- `cycle L` and its lines, if there are any
-abbrev pub explanation_text : Option (List Line) → List ℕ
-explanation_text (Some lines) = counted_cycle lines
-explanation_text None = []
+matrix_at_end m further outcomes = m
 
 -- `I ok`; or `I no`, and the cycle where there is one
 abbrev pub outcome_text : ℕ → Outcome → List ℕ
 outcome_text i accepted = decimal i ++ codes " ok\n"
-outcome_text i (refused cycle) = decimal i ++ (codes " no\n" ++ explanation_text cycle)
+outcome_text i (refused None) = decimal i ++ codes " no\n"
+outcome_text i (refused (Some cycle)) = decimal i ++ (codes " no\n" ++ counted_cycle cycle)
 
 -- The whole text: the kind and the number of columns, what became of each further row, the tree of the rows at the end,
 -- and an order.

@@ -19,29 +19,17 @@ abbrev mutual
   weight_of p q no_tree = 0
   weight_of p q (tree_and t ts) = weight p q t + weight_of p q ts
 
--- the number of P-nodes
-abbrev pub p_nodes : Outline → ℕ
-p_nodes t = weight 1 0 t
-
--- the number of Q-nodes
-abbrev pub q_nodes : Outline → ℕ
-q_nodes t = weight 0 1 t
-
 -- the canonical tree of all valid orders of a matrix
 pub record IsTreeOf (m : RowList) (t : Outline) : Type 0 where
   pub proper : IsProper m.columns t
   pub canonical : IsCanonical t
   pub orders : (o : List ℕ) → IsFrontier t o ↔ IsValidOrder m.columns m.rows o
 
--- the lines of a summary, by its numbers
-abbrev pub summary_lines : ℕ → ℕ → ℕ → ℕ → ℕ → List ℕ
-summary_lines columns rows ones p q =
-    codes "pq-gen 1\ncolumns " ++ (decimal columns ++ (codes "\nrows " ++ (decimal rows ++ (codes "\nones " ++ (decimal ones ++ (codes "\nanswer yes\np " ++
-    (decimal p ++ (codes "\nq " ++ (decimal q ++ codes "\nend\n")))))))))
-
--- the summary of a matrix and its tree
+-- the summary of a matrix and its tree: how many columns, rows and ones, P-nodes and Q-nodes
 abbrev pub summary_text : RowList → Outline → List ℕ
-summary_text m t = summary_lines m.columns (length m.rows) (sum_by length m.rows) (p_nodes t) (q_nodes t)
+summary_text m t =
+    codes "pq-gen 1\ncolumns " ++ (decimal m.columns ++ (codes "\nrows " ++ (decimal (length m.rows) ++ (codes "\nones " ++ (decimal (sum_by length m.rows) ++
+    (codes "\nanswer yes\np " ++ (decimal (weight 1 0 t) ++ (codes "\nq " ++ (decimal (weight 0 1 t) ++ codes "\nend\n")))))))))
 
 -- the text is the summary of the matrix that a number draws
 pub record IsSummary (seed c rows : ℕ) (text : List ℕ) : Type 0 where

@@ -1,7 +1,7 @@
 // The nodes of a tree, by their kinds.
 ghost use Rattle.std.specs.Prelude.{◌≡◌, ◌+◌, ◌<◌, ◌^◌, map};
 ghost use Rattle.pq_tree.specs.Proper.{outline_of, forest};
-ghost use Rattle.solve_replies.specs.Summaries.{p_nodes, q_nodes, weight_of};
+ghost use Rattle.solve_replies.specs.Summaries.{weight, weight_of};
 
 use pq_tree::Tree;
 
@@ -17,10 +17,10 @@ pub struct Nodes {
 /// Adds the nodes of a tree.
 #[cycle(nodes)]
 pub fn count_nodes(tree: &Tree, nodes: &mut Nodes)
-    requires p { nodes.old.p + p_nodes (outline_of tree.now) < 2 ^ 32 }
-    requires q { nodes.old.q + q_nodes (outline_of tree.now) < 2 ^ 32 }
-    ensures p { nodes.new.p ≡ nodes.old.p + p_nodes (outline_of tree.now) }
-    ensures q { nodes.new.q ≡ nodes.old.q + q_nodes (outline_of tree.now) }
+    requires p { nodes.old.p + weight 1 0 (outline_of tree.now) < 2 ^ 32 }
+    requires q { nodes.old.q + weight 0 1 (outline_of tree.now) < 2 ^ 32 }
+    ensures p { nodes.new.p ≡ nodes.old.p + weight 1 0 (outline_of tree.now) }
+    ensures q { nodes.new.q ≡ nodes.old.q + weight 0 1 (outline_of tree.now) }
 {
     match tree {
         Tree::Leaf(_) => {}

@@ -23,7 +23,7 @@ use Rattle.text_parts.specs.Text.{number_word}
 use Rattle.verdict_text.specs.Text.{ends_text, place_text, place_line, contig_line, places_text, contigs_text, added_text}
 use Rattle.instance_model.specs.Instance.{InstanceValue, plain, circular, convex, doubly, proper, robinson, instance_kind, instance_columns, derived_matrix, IsInstance}
 use Rattle.instance_model.specs.Laws.{FewColumnsLaw}
-use Rattle.verdict_replies.specs.Verdicts.{AddsToMatrix, AddsToOrder}
+use Rattle.verdict_replies.specs.Verdicts.{AddsToOrder}
 use Rattle.verdict_replies.proofs.AddedIntervals.{near_intervals, intervals_fit, intervals_length}
 use Rattle.verdict_replies.proofs.Sizes.{first_side}
 use Rattle.verdict_replies.proofs.PlainKinds.{plain_cases}
@@ -101,7 +101,7 @@ contigs_length (span ∷ spans) h =
     )
 
 -- the places and the contigs of clones in an order of the greatest matrix at most
-module _ (spans_law : SpansLaw) (m : RowList) (o : List ℕ) (few_rows : length m.rows ≤ MAX_ROWS) (short : length o ≤ MAX_COLUMNS) (added : AddedValue) (adds : AddsToMatrix Clones m o added) where
+module _ (spans_law : SpansLaw) (m : RowList) (o : List ℕ) (few_rows : length m.rows ≤ MAX_ROWS) (short : length o ≤ MAX_COLUMNS) (added : AddedValue) (adds : AddsToOrder (plain Clones m) o added) where
   near : AllByRecursion IsNearPlace added.places
   near = near_places o m.rows added.places short adds.1
 
@@ -144,7 +144,7 @@ module _ (few_columns : FewColumnsLaw) (i : InstanceValue) (h : IsInstance i) (o
 pub adds_fit : FewColumnsLaw → SpansLaw → (i : InstanceValue) (o : List ℕ) (added : AddedValue) → IsInstance i → IsOrder (derived_matrix i 1).columns o → AddsToOrder i o added
     → HasAdded (instance_kind i) (instance_columns i) added
 adds_fit columns spans (plain kind m) o added h order a =
-    plain_cases (λ k. AddsToMatrix k m o added → HasAdded k (m.columns ∷ []) added) (λ b. b) (λ b. b) (λ b. b)
+    plain_cases (λ k. AddsToOrder (plain k m) o added → HasAdded k (m.columns ∷ []) added) (λ b. b) (λ b. b) (λ b. b)
     (λ b. clones_fit spans m o h.2 (few_positions columns (plain kind m) h o order) added b (m.columns ∷ [])) kind h.0 a
 adds_fit columns spans (circular m) o added h order a = a
 adds_fit columns spans (convex g) o added h order a = a
@@ -155,7 +155,7 @@ adds_fit columns spans (robinson d) o added h order a = a
 pub adds_short : FewColumnsLaw → SpansLaw → (i : InstanceValue) (o : List ℕ) (added : AddedValue) → IsInstance i → IsOrder (derived_matrix i 1).columns o → AddsToOrder i o added
     → length (added_text (instance_kind i) added) ≤ 3100000
 adds_short columns spans (plain kind m) o added h order a =
-    plain_cases (λ k. AddsToMatrix k m o added → length (added_text k added) ≤ 3100000) (λ b. omega arith) (λ b. omega arith) (λ b. omega arith)
+    plain_cases (λ k. AddsToOrder (plain k m) o added → length (added_text k added) ≤ 3100000) (λ b. omega arith) (λ b. omega arith) (λ b. omega arith)
     (clones_short spans m o h.2 (few_positions columns (plain kind m) h o order) added) kind h.0 a
 adds_short columns spans (circular m) o added h order a = omega arith
 adds_short columns spans (convex g) o added h order a = omega arith

@@ -1,6 +1,5 @@
 -- The verdict on an instance, and the reply that tells it.
 use Rattle.std.specs.Prelude.{◌≡◌, ◌↔◌, ℕ, ◌-◌, ◌<◌, ◌≤◌, List, [], length, slice_get, IsSomeAnd}
-use Rattle.row_model.specs.declared.kind.Kind.{Kind}
 use Rattle.row_model.specs.declared.kind.Kind.TheVariants.{Clones}
 use Rattle.row_model.specs.Rows.{RowList}
 use Rattle.row_model.specs.Cycles.{IsOddCycle}
@@ -17,7 +16,7 @@ use Rattle.verdict_text.specs.Verdict.{SideValue, AddedValue, Claim, yes_claim, 
 use Rattle.verdict_text.specs.declared.verdict.Version.TheVariants.{Two}
 use Rattle.verdict_text.specs.Grammar.{AreColumnCounts, IsVerdict}
 use Rattle.verdict_text.specs.Text.{verdict_text}
-use Rattle.instance_model.specs.Instance.{InstanceValue, plain, circular, convex, doubly, proper, robinson, instance_kind, instance_columns, IsSideOf, derived_matrix, IsInstance, IsWellFormed}
+use Rattle.instance_model.specs.Instance.{InstanceValue, plain, proper, instance_kind, instance_columns, IsSideOf, derived_matrix, IsInstance, IsWellFormed}
 use Rattle.verdict_replies.specs.declared.TheConstants.{MAX_VERDICT_BYTES}
 
 -- The tree is a canonical PQ-tree over the columns of the matrix, and its frontiers are exactly the valid orders. The order
@@ -45,21 +44,12 @@ pub record ShowsSides (i : InstanceValue) (sides : List SideValue) : Type 0 wher
 abbrev pub AddsNothing : AddedValue → Type 0
 AddsNothing added = (added.intervals ≡ []) × (added.places ≡ []) × (added.contigs ≡ [])
 
--- what a matrix adds to an order: clones where they stand, and the contigs that they make up, from left to right; no
--- other kind of matrix anything
-abbrev pub AddsToMatrix : Kind → RowList → List ℕ → AddedValue → Type 0
-AddsToMatrix Clones m order added = (added.intervals ≡ []) × ArePlaces order m.rows added.places × AreContigs m.rows order added.contigs
-AddsToMatrix kind m order added = AddsNothing added
-
--- What an instance adds to an order of its first side: clones their places and contigs, a graph the intervals of its
--- vertices, and every other kind nothing.
+-- What an instance adds to an order of its first side: clones where they stand, and the contigs that they make up, from
+-- left to right; a graph the intervals of its vertices; and every other kind nothing.
 abbrev pub AddsToOrder : InstanceValue → List ℕ → AddedValue → Type 0
-AddsToOrder (plain kind m) order added = AddsToMatrix kind m order added
-AddsToOrder (circular m) order added = AddsNothing added
-AddsToOrder (convex g) order added = AddsNothing added
-AddsToOrder (doubly g) order added = AddsNothing added
+AddsToOrder (plain Clones m) order added = (added.intervals ≡ []) × ArePlaces order m.rows added.places × AreContigs m.rows order added.contigs
 AddsToOrder (proper g) order added = AreIntervals g order added.intervals × (added.places ≡ []) × (added.contigs ≡ [])
-AddsToOrder (robinson d) order added = AddsNothing added
+AddsToOrder other order added = AddsNothing added
 
 -- the derived matrix of a side has a valid order
 abbrev pub HasOrder : InstanceValue → ℕ → Type 0

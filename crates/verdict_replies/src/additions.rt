@@ -1,10 +1,10 @@
 // What an instance adds to an order.
 ghost use Rattle.std.specs.Prelude.{◌≡◌, [], IfOk};
 ghost use Rattle.column_order.specs.Orders.{IsValidOrder};
-ghost use Rattle.instance_model.specs.Instance.{derived_matrix, IsWellFormed};
+ghost use Rattle.instance_model.specs.Instance.{plain, derived_matrix, IsWellFormed};
 ghost use Rattle.instance_model.specs.Laws.{IsValidFor};
 ghost use Rattle.instance_model.specs.Value.{instance_value};
-ghost use Rattle.verdict_replies.specs.Verdicts.{AddsToMatrix, AddsToOrder};
+ghost use Rattle.verdict_replies.specs.Verdicts.{AddsToOrder};
 
 use crate::NoMemory;
 use clone_map::{Placed, place};
@@ -53,7 +53,7 @@ pub fn added(alloc: Global, instance: &Instance, order: &[u32]) -> Result<Additi
 fn placed(alloc: Global, kind: Kind, m: &Matrix, order: &[u32]) -> Result<Placed, NoMemory>
     requires { IsValidOrder m.now.columns m.now.rows order.now }
     ensures { IfOk result (λ placed.
-        AddsToMatrix kind m.now order.now
+        AddsToOrder (plain kind m.now) order.now
         (record { intervals = []; places = placed.places; contigs = placed.contigs })) }
 {
     match kind {

@@ -8,10 +8,9 @@ returns-clause-reply c = λ bytes whole.
     let is = ap instance_value c.in-Plain.is in (
       c.in-Plain.m,
       is ∙ ap (λ k. plain k c.in-Plain.m) (sym (ap instance_kind is) ∙ c.requires.of_kind),
-      record {
-        judgement = c.in_ok-judgement.judgement;
-        holds = c.in_ok-judgement.ensures bytes whole;
-        status_is = c.status.ensures;
-        text_is = rw c.into_bytes.ensures.value c.in_ok-text.ensures.ok;
-      },
+      (
+        c.in_ok-judgement.judgement,
+        c.in_ok-judgement.ensures bytes whole,
+        (c.status.ensures, rw c.into_bytes.ensures.value c.in_ok-text.ensures.ok),
+      ),
     )

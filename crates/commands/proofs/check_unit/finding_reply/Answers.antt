@@ -6,12 +6,11 @@ pub returns-clause-reply : goal.returns-clause-reply
 returns-clause-reply c = (
   c.in-Proper.graph,
   ap instance_value c.in-Proper.is,
-  λ bytes whole. record {
-    finding = c.in_ok-finding.finding;
-    holds = c.in_ok-finding.ensures bytes whole;
-    status_is = c.status.ensures;
-    text_is = rw c.into_bytes.ensures.value c.in_ok-text.ensures.ok;
-  },
+  λ bytes whole. (
+    c.in_ok-finding.finding,
+    c.in_ok-finding.ensures bytes whole,
+    (c.status.ensures, rw c.into_bytes.ensures.value c.in_ok-text.ensures.ok),
+  ),
 )
 
 pub unreachable-requires : goal.unreachable-requires

@@ -22,7 +22,7 @@ returns-in_err-other-clause-runs g c =
     second_stops g.F.Shelf.content g.F.Shelf.taken g.F.Shelf.faults c.args.files.now c.read_file.new.files c.read_file-2.new.files (Meet n c.args.first.now c.args.second.now)
     c.args.first.now c.args.second.now (ReadsTree n) (HoldsTree n) c.in_ok-one.one (ReadsTree n) (HoldsTree n) refl c.in_ok-one.ensures
     (λ bytes made. ap (refused_at 1) (sym made)) c.in_err-other.field-0.0 c.in_err-other.ensures
-    (λ refusal held. (omega arith, λ bytes given made over. ap (λ x. refused_of_two x (tree_file n given)) (sym made) ∙ ap (refused_at 2) (sym over)))
+    (λ refusal held. (omega arith, λ bytes given made over. ap (λ x. refused_of_two x (λ _. tree_file n given)) (sym made) ∙ ap (refused_at 2) (sym over)))
     c.from_residual-in_err-other.result c.from_residual-in_err-other.ensures.1
 
 pub returns-in_err-meeting_reply-clause-runs : goal.returns-in_err-meeting_reply-clause-runs

@@ -1,5 +1,6 @@
-use Rattle.std.proofs.Common.{◌≡◌, ◌∙◌, ◌+◌, ℕ, length, sym, ap, subst, arith}
-use Rattle.std.specs.Prelude.{sum_by}
+use Rattle.std.proofs.Common.{◌≡◌, ◌∙◌, ◌+◌, ◌++◌, ℕ, List, length, sym, ap, subst, arith}
+use Rattle.std.specs.Prelude.{codes, sum_by}
+use Rattle.std.specs.Fmt.{decimal}
 use Rattle.column_order.specs.Orders.{HasValidOrder}
 use Rattle.column_order.proofs.Counts.{order_length}
 use Rattle.row_model.specs.Rows.{RowList}
@@ -8,7 +9,7 @@ use Rattle.pq_tree.specs.Proper.{outline_of, IsProper}
 use Rattle.pq_tree.specs.PqTree.{outline}
 use Rattle.c1p_solve.specs.Answers.{IsAnswer, HasAllOrders}
 use Rattle.solve_replies.specs.Generated.{generated}
-use Rattle.solve_replies.specs.Summaries.{p_nodes, q_nodes, IsTreeOf, summary_lines}
+use Rattle.solve_replies.specs.Summaries.{weight, IsTreeOf}
 use Rattle.solve_replies.proofs.Drawn.{generated_law, drawn_count}
 use Rattle.solve_replies.proofs.Counted.{few_nodes}
 use Rattle.solve_replies.proofs.summaries.summary.Goals as goal
@@ -33,6 +34,11 @@ count_nodes-requires-clause-q g c =
 from_zero : (n : ℕ) → 0 + n ≡ n
 from_zero n = omega arith
 
+abbrev summary_lines : ℕ → ℕ → ℕ → ℕ → ℕ → List ℕ
+summary_lines columns rows ones p q =
+    codes "pq-gen 1\ncolumns " ++ (decimal columns ++ (codes "\nrows " ++ (decimal rows ++ (codes "\nones " ++ (decimal ones ++
+    (codes "\nanswer yes\np " ++ (decimal p ++ (codes "\nq " ++ (decimal q ++ codes "\nend\n")))))))))
+
 lines_same : (c : ℕ) {rows rows' ones ones' p p' q q' : ℕ} → rows ≡ rows' → ones ≡ ones' → p ≡ p' → q ≡ q' → summary_lines c rows ones p q ≡ summary_lines c rows' ones' p' q'
 lines_same c {rows} {rows'} {ones} {ones'} {p} {p'} {q} {q'} e f g h =
     ap (λ n. summary_lines c n ones p q) e ∙ ap (λ n. summary_lines c rows' n p q) f ∙ ap (λ n. summary_lines c rows' ones' n q) g ∙ ap (λ n. summary_lines c rows' ones' p' n) h
@@ -46,8 +52,8 @@ returns-clause-text g c =
     let made : m ≡ generated c.args.seed c.args.columns c.args.rows = c.in_ok-matrix.ensures in
     let rows : c.args.rows ≡ length (generated c.args.seed c.args.columns c.args.rows).rows = sym (drawn_count c.args.rows _ _) in
     let ones : c.ones-ones.result ≡ sum_by length (generated c.args.seed c.args.columns c.args.rows).rows = c.ones-ones.ensures ∙ ap (λ (m : RowList). sum_by length m.rows) made in
-    let p : c.count_nodes.new.nodes.p ≡ p_nodes t = c.count_nodes.ensures.p ∙ from_zero (p_nodes (outline_of c.root.result.now)) ∙ ap p_nodes c.root.ensures in
-    let q : c.count_nodes.new.nodes.q ≡ q_nodes t = c.count_nodes.ensures.q ∙ from_zero (q_nodes (outline_of c.root.result.now)) ∙ ap q_nodes c.root.ensures in
+    let p : c.count_nodes.new.nodes.p ≡ weight 1 0 t = c.count_nodes.ensures.p ∙ from_zero (weight 1 0 (outline_of c.root.result.now)) ∙ ap (weight 1 0) c.root.ensures in
+    let q : c.count_nodes.new.nodes.q ≡ weight 0 1 t = c.count_nodes.ensures.q ∙ from_zero (weight 0 1 (outline_of c.root.result.now)) ∙ ap (weight 0 1) c.root.ensures in
     record {
       tree = t;
       shows = subst (λ m. IsTreeOf m t) c.in_ok-matrix.ensures shows;
