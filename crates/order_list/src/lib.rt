@@ -2,8 +2,8 @@
 //!
 //! The orders are found one after another, from the least on. What can still be read behind given columns is
 //! read from a list of trees; each column that can come next leaves another such list, and no list is a dead
-//! end. So no order is begun in vain. The tree is turned first so that each part begins with its least column: so what
-//! comes next is mostly what stands next, and one further order takes time in proportion to the tree.
+//! end. So no order is begun in vain. The tree is turned first so that each part begins with its least column. So what
+//! comes next is mostly what stands next.
 #![tactic(auto)]
 
 ghost use Rattle.std.specs.Prelude.{◌≡◌, ◌↔◌, ◌≤◌, IfOk, IsTrue};

@@ -35,8 +35,8 @@ use step_count::{Ledger, Steps};
 ///
 /// With c columns and f ones in the first rows it counts at most 3c(f + 1) + 1 steps, and so at most 8c(f + 1), where
 /// memory is refused too; and at most c(2f + c + 3) + 1. Each look at a row is a step and each column that is read of
-/// it, each node that is taken, each pair from which a tree is tried, and each row that is met again. It takes 28 bytes
-/// for each ordered pair of columns, a bit for each row and column, and room for each one.
+/// it, each pair from which a tree is tried, each row that is met again, and each node that is taken for which no row is
+/// looked at. It takes 28 bytes for each ordered pair of columns, a bit for each row and column, and room for each one.
 ///
 /// # Errors
 ///
