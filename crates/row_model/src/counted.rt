@@ -114,7 +114,8 @@ impl<'a> CountedRows<'a> {
     }
 
     /// Whether the incompatibility graph of the matrix joins the two pairs for this reason, as
-    /// [`joined_by`](crate::joined_by). At most three steps are counted, one for each look at the row.
+    /// [`joined_by`](crate::joined_by). At most three steps are counted, one for each look at the row. An answer without a
+    /// step does not depend on the rows.
     pub fn joined_counted<L: Ledger>(
         &self,
         v: Pair,
@@ -123,6 +124,10 @@ impl<'a> CountedRows<'a> {
         steps: &mut Steps<L>,
     ) -> bool
         ensures joined { IsTrue result ↔ JoinedBy self.now.columns self.now.rows v w why }
+        ensures free { steps.new ≡ steps.old →
+            (rows : List (List ℕ)) →
+            length rows ≡ length self.now.rows →
+            IsTrue result ↔ JoinedBy self.now.columns rows v w why }
         ensures ticks { steps.new ≤ steps.old + 3 }
     {
         let columns = self.columns();
@@ -138,6 +143,9 @@ impl<'a> CountedRows<'a> {
     fn crosses_either<L: Ledger>(&self, k: u32, v: Pair, w: Pair, steps: &mut Steps<L>) -> bool
         requires { (1 ≤ k) × (k ≤ length self.now.rows) }
         ensures crosses { IsTrue result ↔ (Crosses (row_at self.now.rows k) v w ⊎ Crosses (row_at self.now.rows k) w v) }
+        ensures free { steps.new ≡ steps.old →
+            (row : List ℕ) →
+            IsTrue result ↔ (Crosses row v w ⊎ Crosses row w v) }
         ensures ticks { steps.new ≤ steps.old + 3 }
     {
         if v.b == w.a && v.a != w.b {
@@ -154,6 +162,7 @@ impl<'a> CountedRows<'a> {
         requires row { (1 ≤ k) × (k ≤ length self.now.rows) }
         requires pairs { (v.b ≡ w.a) × (v.a ≢ w.b) }
         ensures crosses { IsTrue result ↔ Crosses (row_at self.now.rows k) v w }
+        ensures looks { steps.old + 1 ≤ steps.new }
         ensures ticks { steps.new ≤ steps.old + 3 }
     {
         self.has_counted(k, v.a, steps)
