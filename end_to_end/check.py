@@ -11,7 +11,7 @@ Usage: end_to_end/check.py [PART ..]   after `rt ci` or `./pq`, which leave the 
 
 PARTs pick some of the checks: `cases` (files and streams), `pages`, `answers` (of small instances, at the limits, of `gen`, of sessions, of lists, of
 unit models, of cores and of drawn cycles), `forgeries`, `trees`, `meetings`, `hostile`, `first_call`, `try`, `companion`, `library`,
-`page`, `release`; default all.
+`page`, `release`, `fuzz` (a few drawn runs of each command and kind); default all.
 The last line is `N passed, N failed`; the status is 0 where
 nothing failed.
 """
@@ -29,6 +29,7 @@ import companion
 import companion_kinds
 import first_call
 import forgeries
+import fuzz
 import library
 import meetings
 import other_trees
@@ -169,11 +170,13 @@ def without_folders():
     yield from short_cycles.checks()
 
 
+# The seed of the drawn runs, and how many there are of each command and kind.
+DRAWN = (1, 60)
 # The checks that tell each name with its problem, by the words that pick them.
 FURTHER = {"forgeries": lambda: forgeries.compared(Limits()), "trees": other_trees.compared, "hostile": hostile_problems,
            "first_call": first_call.problems, "try": tries.problems,
            "companion": lambda: itertools.chain(companion.problems(), companion_kinds.problems()), "library": library.problems, "page": page.problems}
-FURTHER |= {"meetings": meetings.compared, "release": releases.problems}
+FURTHER |= {"meetings": meetings.compared, "release": releases.problems, "fuzz": lambda: fuzz.problems(*DRAWN)}
 PARTS = ["cases", "pages", "answers", *FURTHER]
 
 

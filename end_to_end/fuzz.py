@@ -1,0 +1,285 @@
+#!/usr/bin/env python3
+"""Draws runs of every command and kind, and compares what the program writes with plain programs of the same rules.
+
+Usage: end_to_end/fuzz.py SEED COUNT [PART ..]     after `rt ci` or `./pq`, which leave the program in crates/pq/out/pq
+
+It draws COUNT runs for each PART. A PART is a command and a kind, such as `solve-matrix` or `list-table`, or a command that takes no kind:
+`unit`, `check-unit`, `gen` and `meet`. Without a PART it draws all. The same words draw the same runs, so a further SEED draws others.
+
+Every file is small, and about one in six is spoilt. What the program refuses, the plain readers refuse with the same code and line. An answer
+of `solve` is judged by the plain checker, which asks for every order; what `extend`, `core`, `list`, `unit` and `meet` answer is compared with
+all orders tried. `check`, `check-core` and `check-unit` get a text that is right and such a text with one or two changes, and have to say what
+the plain checkers say.
+It prints how many runs of each part were drawn. The last line is `N passed, N failed`; the status is 0 where nothing failed.
+"""
+
+import concurrent.futures
+import itertools
+import os
+import random
+import re
+import sys
+import tempfile
+
+import all_kinds
+import cores
+import drawn_runs
+import forgeries
+import meetings
+import units
+from checker import read_instance
+from core_checker import judged as core_judged
+from definitions import orders, valid_orders
+from file_readers import Limits, Refused
+from listing import listed
+from program import run
+from sessions import gen_problem, session_problem
+from trees import parsed
+
+PIECE = 250
+# The plain programs try all orders of at most so many columns.
+COLUMNS = 5
+CHANGES = 4
+BYTES = b"0123456789 \n\r\t,()[]xeflnop-"
+PLAIN = ("matrix", "rows", "table")
+KINDS = ("matrix", "rows", "table", "clones", "circular", "convex", "doubly", "proper", "robinson")
+
+
+def changed(draw, text):
+    """The text with one or two changes: a byte, a number, or a line."""
+    for _ in range(draw.choice([1, 1, 2])):
+        text = draw.choice([with_other_byte, with_other_number, with_other_line])(draw, text)
+    return text
+
+
+def with_other_byte(draw, text):
+    """The text with a byte made another, dropped or added."""
+    place = draw.randint(0, len(text))
+    added = bytes([draw.choice(BYTES)]) * draw.randint(0, 1)
+    return text[:place] + added + text[place + draw.randint(0, 1):]
+
+
+def with_other_number(draw, text):
+    """The text with another number in the place of one."""
+    numbers = list(re.finditer(rb"[0-9]+", text))
+    if not numbers:
+        return text
+    number = draw.choice(numbers)
+    other = draw.choice([int(number[0]) + 1, max(int(number[0]) - 1, 0), int(draw.choice(numbers)[0]), 2**32])
+    return text[:number.start()] + str(other).encode() + text[number.end():]
+
+
+def with_other_line(draw, text):
+    """The text with a line dropped, doubled or exchanged with the next."""
+    given = text.splitlines(keepends=True)
+    place = draw.randrange(len(given) + 1)
+    middle = draw.choice([[], given[place:place + 1] * 2, given[place:place + 2][::-1]])
+    return b"".join(given[:place] + middle + given[place + len(set(middle)):])
+
+
+def drawn_rows(draw, most):
+    """A number of columns, and at least one row and at most so many."""
+    columns = draw.randint(1, COLUMNS)
+    return columns, [{column for column in range(1, columns + 1) if draw.random() < 0.5} for _ in range(draw.randint(1, most))]
+
+
+def file_of(kind, columns, rows):
+    """The file of a matrix in one of the kinds that have the same rows."""
+    content = all_kinds.dense(columns, rows)
+    return dict(forgeries.in_kinds("matrix", content))[kind]
+
+
+def as_kind(kind, answered):
+    """The bytes of an answer for another kind as they would be for `matrix`."""
+    return answered.replace(b"kind %s\n" % kind.encode(), b"kind matrix\n", 1)
+
+
+def same_as_solve(folder, kind, done):
+    """What is wrong with an answer on a file without a valid order, which has to be that of `solve`, or None."""
+    solved = run(["solve", kind, folder.names[0]])
+    given, wanted = [(one.returncode, one.stdout, one.stderr) for one in (done, solved)]
+    return None if given == wanted and given[0] == 1 else f"{given}, and `solve` writes {wanted}"
+
+
+def solve(draw, folder, kind):
+    """One answer of `solve`."""
+    content = drawn_runs.spoilt(draw, drawn_runs.file_of(draw, kind).encode())
+    yield content, forgeries.answer_problem(folder, kind, content, Limits())
+
+
+def check(draw, folder, kind):
+    """A right verdict, and some that differ from it."""
+    content = drawn_runs.file_of(draw, kind).encode()
+    folder.write(0, content)
+    try:
+        instance = read_instance(kind, content, Limits())
+    except Refused as refused:
+        yield content, None if folder.run("solve", kind, 1) == (3, f"pq: refused 1 {refused}\n".encode()) else f"the readers refuse {refused}"
+        return
+    verdict = folder.run("solve", kind, 1)[1]
+    for text in [verdict, *(changed(draw, verdict) for _ in range(CHANGES))]:
+        line, problem = forgeries.judged(folder, kind, instance, text, Limits())
+        yield (content, text), problem or (None if text != verdict or line == "valid" else line)
+
+
+def extend(draw, folder, kind):
+    """A session of `extend`."""
+    columns, rows = drawn_rows(draw, 9)
+    base, further = rows[:draw.randint(1, 3)], rows[3:]
+    folder.write(0, file_of(kind, columns, base))
+    folder.write(1, "".join(" ".join(map(str, row)) + "\n" for row in further).encode())
+    done = run(["extend", kind, *folder.names])
+    name = (columns, base, further)
+    if not valid_orders(columns, base):
+        yield name, same_as_solve(folder, kind, done)
+    else:
+        yield name, session_problem(columns, base, further, done.returncode, as_kind(kind, done.stdout))
+
+
+def drawn_core(draw, folder, kind):
+    """A matrix in a file, and what `core` answers."""
+    columns, rows = drawn_rows(draw, 9)
+    folder.write(0, file_of(kind, columns, rows))
+    return columns, rows, run(["core", kind, folder.names[0]])
+
+
+def core(draw, folder, kind):
+    """One answer of `core`."""
+    columns, rows, done = drawn_core(draw, folder, kind)
+    if valid_orders(columns, rows):
+        # `solve` answers yes here, and `core` writes the same with status 1
+        solved = run(["solve", kind, folder.names[0]])
+        fits = (done.returncode, done.stdout, solved.returncode) == (1, solved.stdout, 0)
+        yield (columns, rows), None if fits else f"{done}, and `solve` writes {solved}"
+        return
+    found = parsed_core(done)
+    is_core = found and cores.minimal(columns, rows, [row for row, _ in found[2]]) and core_judged(kind, columns, rows, done.stdout) == "valid"
+    yield (columns, rows), None if is_core else f"{done}"
+
+
+def parsed_core(done):
+    """What `core` found, or None where it wrote something else."""
+    return None if done.returncode else cores.parsed(done.stdout)
+
+
+def check_core(draw, folder, kind):
+    """A core, and some texts that differ from it."""
+    columns, rows, done = drawn_core(draw, folder, kind)
+    for text in [done.stdout, *(changed(draw, done.stdout) for _ in range(CHANGES))]:
+        folder.write(1, text)
+        line = core_judged(kind, columns, rows, text)
+        given, wanted = folder.run("check-core", kind, 2), (0 if line == "valid" else 1, f"{line}\n".encode())
+        yield (columns, rows, text), None if given == wanted else f"{given}, wanted {wanted}"
+
+
+def listing(draw, folder, kind):
+    """One answer of `list`."""
+    columns, rows = drawn_rows(draw, 4)
+    folder.write(0, file_of(kind, columns, rows))
+    found = sorted(valid_orders(columns, rows))
+    count = draw.choice([1, 2, draw.randint(1, 130), max(len(found), 1), len(found) + 1])
+    done = run(["list", kind, folder.names[0], str(count)])
+    if not found:
+        yield (columns, rows, count), same_as_solve(folder, kind, done)
+        return
+    wanted = listed(kind, columns, found[:count], "yes" if count < len(found) else "no")
+    yield (columns, rows, count), None if (done.returncode, done.stdout, done.stderr) == (0, wanted, b"") else f"{done}, wanted {wanted}"
+
+
+def drawn_graph(draw):
+    """A graph, with its edges in rising order."""
+    count = draw.randint(1, COLUMNS)
+    return count, tuple(pair for pair in itertools.combinations(range(1, count + 1), 2) if draw.random() < 0.5)
+
+
+def unit(draw, _folder, _kind):
+    """One answer of `unit`."""
+    graph = drawn_graph(draw)
+    yield graph, units.graph_problem(*graph)
+
+
+def check_unit(draw, folder, _kind):
+    """A unit model, and some texts that differ from it."""
+    count, edges = drawn_graph(draw)
+    if not any(units.has_umbrella(order, set(edges)) for order in orders(count)):
+        edges = ()
+    folder.write(0, units.content_of(count, edges))
+    right = run(["unit", folder.names[0]]).stdout
+    for text in [right, *(changed(draw, right) for _ in range(CHANGES))]:
+        folder.write(1, text)
+        line, done = units.finding(count, edges, text), run(["check-unit", *folder.names])
+        fits = (done.returncode, done.stdout) == (0 if line == "valid" else 1, f"{line}\n".encode())
+        yield (count, edges, text), None if fits and (text != right or line == "valid") else f"{done}, wanted {line}"
+
+
+def gen(draw, _folder, _kind):
+    """One answer of `gen`."""
+    words = draw.randrange(2**64), draw.randint(1, 30), draw.randint(0, 30)
+    yield words, gen_problem(*words)
+
+
+def meet(draw, folder, _kind):
+    """Two trees met, or files of which one at least is no tree."""
+    columns = draw.randint(1, COLUMNS)
+    files = [drawn_runs.spoilt(draw, (drawn_runs.tree(draw, drawn_runs.shuffled(draw, columns)) + "\n").encode()) for _ in range(2)]
+    for number, content in enumerate(files):
+        folder.write(number, content)
+    given = folder.run("meet", str(columns), 2)
+    trees = [meetings.read_tree(columns, content) for content in files]
+    name = (columns, *files)
+    if None in trees:
+        wanted = (3, f"pq: refused {1 + trees.index(None)} code 12 line 0\n".encode())
+        yield name, None if given == wanted else f"{given}, wanted {wanted}"
+    else:
+        yield name, meetings.meeting_problem(columns, *trees, given)
+
+
+WITH_KINDS = {"solve": (solve, KINDS), "check": (check, KINDS), "extend": (extend, PLAIN), "core": (core, PLAIN), "check-core": (check_core, PLAIN),
+              "list": (listing, PLAIN)}
+PARTS = {f"{command}-{kind}": (draws, kind) for command, (draws, kinds) in WITH_KINDS.items() for kind in kinds}
+PARTS |= {"unit": (unit, None), "check-unit": (check_unit, None), "gen": (gen, None), "meet": (meet, None)}
+
+
+def piece(part, seed, number, count):
+    """So many runs of a part, each with what is wrong with it, or None."""
+    draw = random.Random(f"{seed} {part} {number}")
+    draws, kind = PARTS[part]
+    found = []
+    with tempfile.TemporaryDirectory() as place:
+        folder = forgeries.Folder(place)
+        while len(found) < count:
+            found += [(f"{part} {name!r}", problem) for name, problem in draws(draw, folder, kind)]
+    return found[:count]
+
+
+def pieces(seed, count, parts):
+    """The pieces of all parts."""
+    for part in parts:
+        for number, begin in enumerate(range(0, count, PIECE)):
+            yield part, seed, number, min(PIECE, count - begin)
+
+
+def problems(seed, count, parts=tuple(PARTS)):
+    """Each run with what is wrong with it, or None."""
+    with concurrent.futures.ProcessPoolExecutor(os.cpu_count()) as pool:
+        for found in pool.map(piece, *zip(*pieces(seed, count, parts))):
+            yield from found
+
+
+def main(words):
+    if len(words) < 2 or not (words[0].isdigit() and words[1].isdigit()) or not set(words[2:]) <= set(PARTS) or int(words[1]) == 0:
+        print(f"usage: fuzz.py SEED COUNT [PART ..]; the parts are {', '.join(PARTS)}")
+        return 2
+    passed = failed = 0
+    for name, problem in problems(int(words[0]), int(words[1]), words[2:] or list(PARTS)):
+        if problem is None:
+            passed += 1
+        else:
+            failed += 1
+            print(f"FAILED {name}: {problem}")
+    print(f"{passed} passed, {failed} failed")
+    return 1 if failed else 0
+
+
+if __name__ == "__main__":
+    sys.exit(main(sys.argv[1:]))
