@@ -1,15 +1,18 @@
 // A matrix of which each look at a row is counted.
-ghost use Rattle.std.specs.Prelude.{◌≡◌, ◌≢◌, ◌⊎◌, ◌≤◌, ◌+◌, ◌-◌, ℕ, List, [], Some, length, take, sum_by, slice_get, IfSome, IsTrue, MatchOption, ◌↔◌};
+ghost use Rattle.std.specs.Prelude.{◌≡◌, ◌≢◌, ◌⊎◌, ◌≤◌, ◌+◌, ◌-◌, ◌<◌, ℕ, List, [], ◌∷◌, ◌++◌, Some, length, take, sum_by, slice_get, IfOk, IfSome, OnOk, OnErr, IsTrue, MatchOption, ◌↔◌};
 ghost use Rattle.column_order.specs.Orders.{has, IsOrder};
+ghost use Rattle.row_model.specs.declared.graph.Why.TheVariants.{Flip, Row};
 ghost use Rattle.row_model.specs.Graph.{row_at, Crosses, JoinedBy};
 ghost use Rattle.row_model.specs.Positions.{ArePositions, IsSpan, IsSpanInOrder};
+ghost use Rattle.row_model.specs.Rows.{IsRow};
 
-use crate::ROW_BOUND;
 use crate::graph::{Pair, Why, is_pair};
 use crate::lists::Span;
 use crate::matrix::Matrix;
 use crate::order::span_of;
+use crate::{NoMemory, ROW_BOUND};
 use column_order::COLUMN_BOUND;
+use std::alloc::Global;
 use std::marker::Model;
 use step_count::{Ledger, Steps};
 
@@ -114,8 +117,8 @@ impl<'a> CountedRows<'a> {
     }
 
     /// Whether the incompatibility graph of the matrix joins the two pairs for this reason, as
-    /// [`joined_by`](crate::joined_by). At most three steps are counted, one for each look at the row. An answer without a
-    /// step does not depend on the rows.
+    /// [`joined_by`](crate::joined_by). At most three steps are counted, one for each look at the row, and a yes for a row
+    /// costs all three, a flip none. An answer without a step does not depend on the rows.
     pub fn joined_counted<L: Ledger>(
         &self,
         v: Pair,
@@ -128,6 +131,8 @@ impl<'a> CountedRows<'a> {
             (rows : List (List ℕ)) →
             length rows ≡ length self.now.rows →
             IsTrue result ↔ JoinedBy self.now.columns rows v w why }
+        ensures looks { IsTrue result → (k : ℕ) → why ≡ Row k → steps.new ≡ steps.old + 3 }
+        ensures flip { why ≡ Flip → steps.new ≡ steps.old }
         ensures ticks { steps.new ≤ steps.old + 3 }
     {
         let columns = self.columns();
@@ -146,6 +151,7 @@ impl<'a> CountedRows<'a> {
         ensures free { steps.new ≡ steps.old →
             (row : List ℕ) →
             IsTrue result ↔ (Crosses row v w ⊎ Crosses row w v) }
+        ensures looks { IsTrue result → steps.new ≡ steps.old + 3 }
         ensures ticks { steps.new ≤ steps.old + 3 }
     {
         if v.b == w.a && v.a != w.b {
@@ -162,7 +168,8 @@ impl<'a> CountedRows<'a> {
         requires row { (1 ≤ k) × (k ≤ length self.now.rows) }
         requires pairs { (v.b ≡ w.a) × (v.a ≢ w.b) }
         ensures crosses { IsTrue result ↔ Crosses (row_at self.now.rows k) v w }
-        ensures looks { steps.old + 1 ≤ steps.new }
+        ensures some { steps.old + 1 ≤ steps.new }
+        ensures looks { IsTrue result → steps.new ≡ steps.old + 3 }
         ensures ticks { steps.new ≤ steps.old + 3 }
     {
         self.has_counted(k, v.a, steps)
@@ -203,5 +210,65 @@ impl<'a> CountedRows<'a> {
     {
         steps.tick();
         self.matrix.first_ones(k)
+    }
+}
+
+/// A matrix that a search makes for itself. Of its rows it says how many ones they have, and all else as
+/// [`CountedRows`] alone.
+#[derive(Drop)]
+pub struct CountedMatrix {
+    matrix: Matrix,
+}
+
+impl Model for CountedMatrix {
+    ghost use Rattle.row_model.specs.Rows.{RowList};
+
+    ghost Value = { RowList };
+
+    ghost view = { λ counted. counted.matrix };
+}
+
+impl CountedMatrix {
+    /// A matrix of so many columns, with no row.
+    ///
+    /// # Errors
+    ///
+    /// `NoMemory` where there is no memory for it.
+    pub fn new(alloc: Global, columns: u32) -> Result<Self, NoMemory>
+        requires { (1 ≤ columns) × (columns ≤ COLUMN_BOUND) }
+        ensures { IfOk result (λ m. m ≡ record { columns = columns; rows = [] }) }
+    {
+        Ok(CountedMatrix {
+            matrix: Matrix::new(alloc, columns)?,
+        })
+    }
+
+    /// Adds a last row. On an error the matrix is as before.
+    ///
+    /// # Errors
+    ///
+    /// `NoMemory` where there is no memory for the row.
+    pub fn push_row(&mut self, row: &[u32]) -> Result<(), NoMemory>
+        requires row { IsRow self.old.columns row.now }
+        requires room { length self.old.rows < ROW_BOUND }
+        ensures ok { OnOk result (self.new ≡ record self.old { rows = self.old.rows ++ row.now ∷ [] }) }
+        ensures err { OnErr result (self.new ≡ self.old) }
+    {
+        self.matrix.push_row(row)?;
+        Ok(())
+    }
+
+    /// The number of ones, which is the sum of the lengths of the rows. No step is counted.
+    pub fn ones(&self) -> u64
+        ensures { result ≡ sum_by length self.now.rows }
+    {
+        self.matrix.ones()
+    }
+
+    /// The rows, each look at which is counted.
+    pub fn counted(&self) -> CountedRows<'_>
+        ensures { result ≡ self.now }
+    {
+        CountedRows::new(&self.matrix)
     }
 }

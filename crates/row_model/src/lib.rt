@@ -19,7 +19,7 @@ mod refusal;
 mod rows;
 
 pub use column_order::COLUMN_BOUND;
-pub use counted::CountedRows;
+pub use counted::{CountedMatrix, CountedRows};
 pub use graph::{Line, Pair, Why, is_pair, joined_by};
 pub use kind::Kind;
 pub use laws::{values_law, walk_laws};
