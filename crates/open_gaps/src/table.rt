@@ -1,5 +1,5 @@
 // The gaps of an order that is valid for the first rows of a matrix.
-ghost use Rattle.std.specs.Prelude.{◌≡◌, ◌⊎◌, ℕ, ◌+◌, ◌-◌, ◌<◌, ◌≤◌, List, [], None, length, sum_by, take, slice_index, slice_index_or, IfOk, IfSome, IsTrue, MatchOption, ◌↔◌};
+ghost use Rattle.std.specs.Prelude.{◌≡◌, ◌⊎◌, ℕ, ◌+◌, ◌-◌, ◌<◌, ◌≤◌, List, [], None, length, sum_by, take, slice_index, slice_index_or, IfOk, IfSome, OnOk, IsTrue, MatchOption, ◌↔◌};
 ghost use Rattle.column_order.specs.Orders.{IsOrder, IsWithin, IsValidOrder, place};
 ghost use Rattle.row_model.specs.Positions.{ArePositions, IsSpanInOrder};
 ghost use Rattle.row_model.specs.Graph.{pair, IsPair, JoinedBy};
@@ -54,6 +54,7 @@ impl OpenGaps {
         ensures order { IfOk result (λ t. t.order ≡ order.now) }
         ensures gaps { IfOk result (λ t. AreGaps (take rows m.now.rows) order.now t.gaps) }
         ensures ticks { steps.new ≤ steps.old + sum_by length (take rows m.now.rows) }
+        ensures turns { OnOk result (steps.old + sum_by length (take rows m.now.rows) ≤ steps.new) }
     {
         // A matrix has few enough columns for positions.
         let _columns = m.columns();
@@ -232,6 +233,7 @@ fn gaps_of<L: Ledger>(
     ensures gaps { IfOk result (λ gaps. (o : List ℕ) → IsValidOrder m.now.columns (take rows m.now.rows) o
         → ArePositions o positions.now → AreGaps (take rows m.now.rows) o gaps.items) }
     ensures ticks { steps.new ≤ steps.old + sum_by length (take rows m.now.rows) }
+    ensures turns { OnOk result (steps.old + sum_by length (take rows m.now.rows) ≤ steps.new) }
 {
     let mut gaps = vec![in alloc; uncovered(m.columns()); m.columns() as usize]?;
     for k in 0..rows {

@@ -1,5 +1,5 @@
 // The classes of pairs that walks of even length join.
-ghost use Rattle.std.specs.Prelude.{◌≡◌, ◌+◌, ◌*◌, ◌<◌, ◌≤◌, ℕ, List, Some, length, take, sum_by, slice_get, IsFalse, IfOk};
+ghost use Rattle.std.specs.Prelude.{◌≡◌, ◌+◌, ◌*◌, ◌<◌, ◌≤◌, ℕ, List, Some, length, take, sum_by, slice_get, IsFalse, IfOk, OnOk};
 ghost use Rattle.column_order.specs.Orders.{has};
 ghost use Rattle.row_model.specs.Graph.{pair, row_at, IsPair};
 ghost use Rattle.pair_classes.specs.Numbers.{place_of};
@@ -71,6 +71,7 @@ pub fn even_classes<L: Ledger>(
     requires { rows ≤ length m.now.rows }
     ensures classes { IfOk result (TellsClasses m.now.columns (take rows m.now.rows)) }
     ensures ticks { steps.new ≤ steps.old + 8 * m.now.columns * (sum_by length (take rows m.now.rows) + 1) }
+    ensures turns { OnOk result (steps.old + sum_by length (take rows m.now.rows) ≤ steps.new) }
 {
     classes_of(alloc, &CountedRows::new(m), rows, steps)
 }
@@ -86,6 +87,7 @@ fn classes_of<L: Ledger>(
     requires { rows ≤ length m.now.rows }
     ensures classes { IfOk result (TellsClasses m.now.columns (take rows m.now.rows)) }
     ensures ticks { steps.new ≤ steps.old + 8 * m.now.columns * (sum_by length (take rows m.now.rows) + 1) }
+    ensures turns { OnOk result (steps.old + sum_by length (take rows m.now.rows) ≤ steps.new) }
 {
     let columns = m.columns();
     let mut parents = each_alone(alloc, columns * columns)?;
@@ -109,6 +111,8 @@ fn unite_along<L: Ledger>(m: &CountedRows, k: u32, parents: &mut [u32], steps: &
     ensures even { (rows : List (List ℕ)) → k ≤ length rows → row_at rows k ≡ row_at m.now.rows k
         → AreEvenSets m.now.columns rows (pair_of_place m.now.columns) parents.old → AreEvenSets m.now.columns rows (pair_of_place m.now.columns) parents.new }
     ensures ticks { steps.new ≤ steps.old + 3 * (m.now.columns * length (row_at m.now.rows k)) }
+    ensures turns { 1 ≤ length (row_at m.now.rows k) → steps.old + 1 + m.now.columns ≤ steps.new }
+    ensures reads { steps.old + length (row_at m.now.rows k) ≤ steps.new }
 {
     let Some(first) = m.next_counted(k, 0, steps) else {
         return;

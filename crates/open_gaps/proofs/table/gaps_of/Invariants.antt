@@ -9,5 +9,5 @@ invariant-loop-k g l =
     record {
       len : length l.gaps.items ≡ l.m.columns;
       gaps : (o : List ℕ) → IsValidOrder l.m.columns (take l.rows l.m.rows) o → ArePositions o l.positions → AreGaps (take l.k l.m.rows) o l.gaps.items;
-      ticks : l.steps ≤ l.fn.steps + sum_by length (take l.k l.m.rows);
+      ticks : l.steps ≡ l.fn.steps + sum_by length (take l.k l.m.rows);
     }

@@ -17,7 +17,7 @@ pub loop-k-init : goal.loop-k-init
 loop-k-init g c =
     let made = c.in_ok-parents.ensures in
     let columns = c.columns-columns.ensures.columns in
-    record { classing = classing_none c.args.m.now.columns c.args.rows c.args.m.now.rows c.in_ok-parents.parents.items (subst (λ n. length c.in_ok-parents.parents.items ≡ n * n) columns made.0) made.1; counted = omega arith }
+    record { classing = classing_none c.args.m.now.columns c.args.rows c.args.m.now.rows c.in_ok-parents.parents.items (subst (λ n. length c.in_ok-parents.parents.items ≡ n * n) columns made.0) made.1; counted = omega arith; turns = omega arith }
 
 pub loop-k-preserved : goal.loop-k-preserved
 loop-k-preserved g c =
@@ -31,6 +31,7 @@ loop-k-preserved g c =
       classing = subst (λ ps. IsClassing m.columns c.args.rows m.rows ps (done + 1)) (sym kept)
           (classing_more m.columns c.args.rows m.rows c.deref_mut.result.now c.unite_along.new.parents done (done + 1) before (omega arith) (omega (arith, c.loop-k-test.true)) c.requires c.unite_along.auto.parents now.parents now.labels now.even);
       counted = omega (arith, ap (λ n. m.columns * n) more, c.loop-k.invariant.counted, now.ticks);
+      turns = omega (arith, more, c.loop-k.invariant.turns, now.reads);
     }
 
 pub returns-clause-classes : goal.returns-clause-classes

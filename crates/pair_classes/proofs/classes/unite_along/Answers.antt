@@ -17,11 +17,11 @@ loop-d-preserved g c =
       | then-not-has_counted w ↦
           let made = w.unite_with.ensures in
           let next = along_lacking columns k row c.args.parents.now ps c.loop-d.d d before (omega arith) w.unite_with.new.parents made.parents made.labels made.even in
-          record { along = subst (λ x. IsUnitingAlong columns k row c.args.parents.now x d) (sym w.parents-is) next; counted = omega (arith, w.steps-is, made.ticks, c.has_counted.ensures.ticks, c.loop-d.invariant.counted) }
+          record { along = subst (λ x. IsUnitingAlong columns k row c.args.parents.now x d) (sym w.parents-is) next; counted = omega (arith, w.steps-is, made.ticks, c.has_counted.ensures.ticks, c.loop-d.invariant.counted); turns = omega (arith, w.steps-is, made.ticks, c.has_counted.ensures.ticks, c.loop-d.invariant.turns) }
       | else-not-has_counted w ↦
           let held : IsTrue (has row d) = sym c.has_counted.ensures.has ∙ w.if-not-has_counted.false in
           let next = along_held columns k row c.args.parents.now ps c.loop-d.d d before (omega arith) held in
-          record { along = subst (λ x. IsUnitingAlong columns k row c.args.parents.now x d) (sym w.parents-is) next; counted = omega (arith, w.steps-is, c.has_counted.ensures.ticks, c.loop-d.invariant.counted) }
+          record { along = subst (λ x. IsUnitingAlong columns k row c.args.parents.now x d) (sym w.parents-is) next; counted = omega (arith, w.steps-is, c.has_counted.ensures.ticks, c.loop-d.invariant.counted); turns = omega (arith, w.steps-is, c.has_counted.ensures.ticks, c.loop-d.invariant.turns) }
     ]
 
 pub returns-clause-labels : goal.returns-clause-labels

@@ -8,4 +8,5 @@ invariant-loop-d g l =
     record {
       along : IsUnitingAlong l.m.columns l.k (row_at l.m.rows l.k) l.fn.parents l.parents l.d;
       counted : l.steps ≤ l.fn.steps + 1 + l.d * (1 + length (row_at l.m.rows l.k));
+      turns : l.fn.steps + 1 + l.d ≤ l.steps;
     }
