@@ -18,6 +18,7 @@ pub fn rows_by_column<L: Ledger>(
     requires { first + rows ≤ length m.now.rows }
     ensures holders { IfOk result (λ holders. AreHolders (without first m.now) rows (map (λ list. list.items) holders.items)) }
     ensures ticks { steps.new ≤ steps.old + m.now.columns + sum_by length (take rows (drop first m.now.rows)) }
+    ensures turns { OnOk result (steps.old + m.now.columns + sum_by length (take rows (drop first m.now.rows)) ≤ steps.new) }
 {
     let mut holders = Vec::new(alloc);
     for _ in 0..m.columns() {

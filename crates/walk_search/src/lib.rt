@@ -17,4 +17,4 @@ pub use cycle::simple_cycle;
 pub use laws::odd_cycle_law;
 pub use reason::joined;
 pub use row_model::NoMemory;
-pub use search::{odd_walk, walk_across};
+pub use search::{odd_walk, walk_across, walk_among};

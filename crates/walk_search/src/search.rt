@@ -1,5 +1,5 @@
 // The search for a closed walk of odd length.
-ghost use Rattle.std.specs.Prelude.{◌≡◌, ◌+◌, ◌*◌, ◌-◌, ◌<◌, ◌≤◌, ℕ, true, not, Some, None, length, map, take, drop, slice_get, sum_by, IsTrue, IfOk, OnOk, MatchOption};
+ghost use Rattle.std.specs.Prelude.{◌≡◌, ◌+◌, ◌*◌, ◌-◌, ◌<◌, ◌≤◌, ℕ, true, false, not, Some, None, length, map, take, drop, slice_get, sum_by, IsTrue, IsFalse, IfOk, OnOk, MatchOption};
 ghost use Rattle.column_order.specs.Orders.{has, IsValidOrder};
 ghost use Rattle.row_model.specs.Graph.{row_at, turned, HasOddWalk, HasConflict};
 ghost use Rattle.row_model.specs.Cycles.{IsOddWalk};
@@ -8,7 +8,7 @@ ghost use Rattle.pair_classes.specs.Marks.{is_marked};
 ghost use Rattle.walk_search.specs.MarkedOnes.{marked_ones};
 ghost use Rattle.walk_search.specs.Search.{IsReached, IsSearch, Grows, ShowsConflict, IsTaken, AreTaken, AreReachedFrom};
 ghost use Rattle.walk_search.specs.Neighbours.{AreNeighbours};
-ghost use Rattle.walk_search.specs.Weights.{weight, weights, most_weight, IsWeighty};
+ghost use Rattle.walk_search.specs.Weights.{held_for, weight, weights, most_weight, IsWeighty};
 ghost use Rattle.open_gaps.specs.Gaps.{AreGaps};
 
 use crate::closing::closed_walk;
@@ -34,7 +34,8 @@ use step_count::{Ledger, Steps};
 /// to (d,a), which are three steps in place of one and give (d,a) the same colour.
 ///
 /// With c columns and f ones in the first rows it counts at most 3c(f + 1) + 1 steps, and so at most 8c(f + 1), where
-/// memory is refused too; and at most c(2f + c + 3) + 1. Each look at a row is a step and each column that is read of
+/// memory is refused too; and at most c(2f + c + 3) + 1. Of an answer it counts at least c + f, and at least 2c + f + 1
+/// where there is none. Each look at a row is a step and each column that is read of
 /// it, each pair from which a tree is tried, each row that is met again, and each node that is taken for which no row is
 /// looked at. It takes 28 bytes for each ordered pair of columns, a bit for each row and column, and room for each one.
 ///
@@ -54,12 +55,19 @@ pub fn odd_walk<L: Ledger>(
     ensures ticks { steps.new ≤ steps.old + 8 * m.now.columns * (sum_by length (take rows m.now.rows) + 1) }
     ensures few { steps.new ≤ steps.old + 3 * m.now.columns * (sum_by length (take rows m.now.rows) + 1) + 1 }
     ensures square { steps.new ≤ steps.old + m.now.columns * (2 * sum_by length (take rows m.now.rows) + m.now.columns + 3) + 1 }
+    ensures reads { OnOk result (steps.old + m.now.columns + sum_by length (take rows m.now.rows) ≤ steps.new) }
+    ensures turns { IfOk result (λ found. found ≡ None
+        → steps.old + 2 * m.now.columns + sum_by length (take rows m.now.rows) + 1 ≤ steps.new) }
 {
     walk_among(alloc, &CountedRows::new(m), rows, steps)
 }
 
-// A closed walk of odd length in the graph of the first rows, if there is one.
-fn walk_among<L: Ledger>(
+/// What [`odd_walk`] does, of rows whose reads are counted.
+///
+/// # Errors
+///
+/// `NoMemory`.
+pub fn walk_among<L: Ledger>(
     alloc: Global,
     m: &CountedRows,
     rows: u32,
@@ -72,6 +80,9 @@ fn walk_among<L: Ledger>(
     ensures ticks { steps.new ≤ steps.old + 8 * m.now.columns * (sum_by length (take rows m.now.rows) + 1) }
     ensures few { steps.new ≤ steps.old + 3 * m.now.columns * (sum_by length (take rows m.now.rows) + 1) + 1 }
     ensures square { steps.new ≤ steps.old + m.now.columns * (2 * sum_by length (take rows m.now.rows) + m.now.columns + 3) + 1 }
+    ensures reads { OnOk result (steps.old + m.now.columns + sum_by length (take rows m.now.rows) ≤ steps.new) }
+    ensures turns { IfOk result (λ found. found ≡ None
+        → steps.old + 2 * m.now.columns + sum_by length (take rows m.now.rows) + 1 ≤ steps.new) }
 {
     // A matrix has a column.
     let _columns = m.columns();
@@ -134,6 +145,8 @@ fn search<L: Ledger>(
         ≤ steps.old + 3 * (m.now.columns * sum_by length (take (near.now.first + further) m.now.rows)) + 2 * m.now.columns + 1 }
     ensures square { steps.new + sum_by length (take (near.now.first + further) m.now.rows)
         ≤ steps.old + 2 * (m.now.columns * sum_by length (take (near.now.first + further) m.now.rows)) + m.now.columns * m.now.columns + 2 * m.now.columns + 1 }
+    ensures costs { OnOk result (steps.old + 1 ≤ steps.new) }
+    ensures turns { IfOk result (λ found. found ≡ None → steps.old + m.now.columns + 1 ≤ steps.new) }
 {
     gap_law();
     let columns = m.columns();
@@ -214,6 +227,9 @@ fn look<L: Ledger>(
     ensures sizes { (marks.new.rows ≡ marks.old.rows) × (marks.new.columns ≡ marks.old.columns) }
     ensures ticks { steps.new + marked_ones (drop near.now.first m.now.rows) marks.old ≤ steps.old + 1 + marked_ones (drop near.now.first m.now.rows) marks.new }
     ensures costs { steps.old + 1 ≤ steps.new }
+    ensures turns { IfOk result (λ found. found ≡ None → (node : Node) → slice_get forest.old.nodes.items from ≡ Some node
+        → is_marked marks.old further node.pair.b ≡ false → IsFalse (has (row_at (drop near.now.first m.now.rows) further) node.pair.b)
+        → steps.old + 1 + length (row_at (drop near.now.first m.now.rows) further) ≤ steps.new) }
 {
     let node = forest.nodes[from as usize];
     if marks.mark(further, node.pair.b) {
@@ -266,6 +282,8 @@ fn expand<L: Ledger>(
     ensures ticks { (node : Node) → slice_get forest.old.nodes.items from ≡ Some node
         → steps.new + marked_ones (drop near.now.first m.now.rows) marks.old ≤ steps.old + weight m.now near.now node.pair.a + marked_ones (drop near.now.first m.now.rows) marks.new }
     ensures costs { OnOk result (steps.old + 1 ≤ steps.new) }
+    ensures turns { IfOk result (λ found. found ≡ None → (node : Node) → slice_get forest.old.nodes.items from ≡ Some node
+        → steps.old + held_for near.now node.pair.a ≤ steps.new) }
 {
     let node = forest.nodes[from as usize];
     if let Some(conflict) = leave(&near.gaps, forest, from)? {
@@ -313,6 +331,8 @@ fn grow<L: Ledger>(
     ensures ticks { steps.new + marked_ones (drop near.now.first m.now.rows) marks.old + weights m.now near.now (take forest.old.root forest.old.nodes.items)
         ≤ steps.old + marked_ones (drop near.now.first m.now.rows) marks.new + most_weight m.now near.now }
     ensures costs { OnOk result (steps.old + 1 ≤ steps.new) }
+    ensures turns { IfOk result (λ found. found ≡ None
+        → steps.old + length forest.new.nodes.items ≤ steps.new + forest.old.root) }
     ensures spent { IfOk result (λ found. found ≡ None
         → steps.new + marked_ones (drop near.now.first m.now.rows) marks.old + weights m.now near.now (take forest.old.root forest.old.nodes.items)
         ≤ steps.old + marked_ones (drop near.now.first m.now.rows) marks.new + weights m.now near.now forest.new.nodes.items) }
@@ -353,6 +373,7 @@ fn grow_from_column<L: Ledger>(
         → steps.new + marked_ones (drop near.now.first m.now.rows) marks.old + weights m.now near.now forest.old.nodes.items
         ≤ steps.old + m.now.columns + marked_ones (drop near.now.first m.now.rows) marks.new + weights m.now near.now forest.new.nodes.items) }
     ensures costs { OnOk result (steps.old + 1 ≤ steps.new) }
+    ensures turns { IfOk result (λ found. found ≡ None → steps.old + m.now.columns ≤ steps.new) }
 {
     gap_law();
     for b in 0..m.columns() {

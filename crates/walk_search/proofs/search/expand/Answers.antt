@@ -160,3 +160,19 @@ returns-clause-ticks g c =
     let place = goal.at.returns-clause-ticks g c in
     let t = takes g place.After-index-node in
     λ node e. omega (arith, idle g place.After-deref-row-items t.there t.within node e, c.loop-row.invariant.ticks, c.loop-row.auto.row-index-end)
+
+pub returns-clause-turns : goal.returns-clause-turns
+returns-clause-turns g c = λ _ node e.
+    let near = c.args.near.now in
+    let place = goal.at.returns-clause-turns g c in
+    let t = takes g place.After-index-node in
+    let taken : Node = c.index-node.result.now in
+    let rows = c.deref-row-items.result.now in
+    let len : length rows ≡ held_for near taken.pair.a = ap length (rows_of_first g place.After-deref-row-items t.within) in
+    let both : length c.deref.result.now ≡ length rows = ap length (c.deref.ensures.value ∙ sym c.deref-row-items.ensures.value) in
+    let more : c.args.steps.now ≤ c.tick_if_none.new.steps = elim (cases_lt 0 (length rows)) [
+      | inl l ↦ omega (arith, c.tick_if_none.ensures.some (omega (arith, l, both)))
+      | inr l ↦ omega (arith, c.tick_if_none.ensures.none (omega (arith, l, both)))
+    ] in
+    let here : c.args.steps.now + held_for near taken.pair.a ≤ c.loop-row.steps = omega (arith, len, more, c.loop-row.invariant.costs, c.loop-row-test.false) in
+    subst (λ (n : Node). c.args.steps.now + held_for near n.pair.a ≤ c.loop-row.steps) (same_Some taken node (sym t.there ∙ e)) here

@@ -1,10 +1,11 @@
-use Rattle.std.proofs.Common.{◌≡◌, ◌∙◌, ℕ, ◌+◌, ◌<◌, ◌≤◌, false, Some, List, length, take, drop, slice_get, IsTrue, refl, ap, sym, subst, arith}
-use Rattle.std.proofs.lemmas.Option.{slice_get_read, slice_get_within}
+use Rattle.std.proofs.Common.{◌≡◌, ◌∙◌, ℕ, ◌+◌, ◌<◌, ◌≤◌, true, false, Some, List, length, take, drop, slice_get, IsTrue, refl, ap, sym, subst, arith}
+use Rattle.std.proofs.lemmas.Option.{same_Some, slice_get_read, slice_get_within}
 use Rattle.std.proofs.lemmas.Bool.{both_ways}
 use Rattle.column_order.specs.Orders.{has}
 use Rattle.row_model.specs.Graph.{pair, row_at, IsPair}
 use Rattle.walk_search.specs.declared.forest.Node.{Node}
 use Rattle.walk_search.specs.MarkedOnes.{marked_ones}
+use Rattle.pair_classes.specs.Marks.{is_marked}
 use Rattle.pair_classes.proofs.Items.{held_some, item_end, none_of}
 use Rattle.walk_search.proofs.MarkedOnes.{marked_again, marked_anew}
 use Rattle.walk_search.proofs.ForestLaws.{grown_refl, grown_there}
@@ -204,6 +205,31 @@ returns-clause-ticks g c =
     let all = at_end g place.After-next_counted k.behind c.next_counted.ensures.column c.in_default.not-Some in
     let calm = rw (none_of c.next_counted.result c.in_default.not-Some) at c.next_counted.ensures.ticks in
     omega (arith, first_look g place.After-mark c.if-mark.false, all, calm, ap length k.behind)
+
+-- the node is the one that stands there
+the_node : (g : given.Over) (c : After-mark g) → (node : Node) → slice_get c.args.forest.now.nodes.items c.args.from ≡ Some node → c.index-node.result.now ≡ node
+the_node g c node e = same_Some c.index-node.result.now node (sym (looks g c).there ∙ e)
+
+pub returns-then-mark-clause-turns : goal.returns-then-mark-clause-turns
+returns-then-mark-clause-turns g c = λ _ node e fresh lacks.
+    let same = the_node g (goal.at.returns-then-mark-clause-turns g c).After-mark node e in
+    let was = subst (λ (n : Node). is_marked c.args.marks.now c.args.further n.pair.b ≡ true) same (sym c.mark.ensures.before ∙ c.if-mark.true) in
+    absurd (both_ways (is_marked c.args.marks.now c.args.further node.pair.b) fresh was)
+
+pub returns-then-has_counted-clause-turns : goal.returns-then-has_counted-clause-turns
+returns-then-has_counted-clause-turns g c = λ _ node e fresh lacks.
+    let place = (goal.at.returns-then-has_counted-clause-turns g c).After-mark in
+    let same = the_node g place node e in
+    let held = row_at (drop c.args.near.now.first c.args.m.now.rows) c.args.further in
+    let held_b : IsTrue (has held c.index-node.result.now.pair.b) = ap (λ (r : List ℕ). has r c.index-node.result.now.pair.b) (looks g place).behind ∙ sym c.has_counted.ensures.has ∙ c.if-has_counted.true in
+    absurd (both_ways (has held node.pair.b) lacks (subst (λ (n : Node). IsTrue (has held n.pair.b)) same held_b))
+
+pub returns-clause-turns : goal.returns-clause-turns
+returns-clause-turns g c = λ _ node e fresh lacks.
+    let place = goal.at.returns-clause-turns g c in
+    let all = at_end g place.After-next_counted (looks g place.After-mark).behind c.next_counted.ensures.column c.in_default.not-Some in
+    let calm = rw (none_of c.next_counted.result c.in_default.not-Some) at c.next_counted.ensures.ticks in
+    omega (arith, all, calm, c.loop-column.invariant.ticks)
 
 pub loop-column-smaller : goal.loop-column-smaller
 loop-column-smaller g c = omega (arith, read_within g (goal.at.loop-column-smaller g c).In-Some)

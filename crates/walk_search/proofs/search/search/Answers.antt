@@ -35,6 +35,7 @@ loop-turn-init g c =
           c.in_ok-forest.ensures.2
           c.in_ok-forest.ensures.3;
       first = λ e. omega arith;
+      turns = omega arith;
       ticks = omega arith;
       square = omega arith;
     }
@@ -71,6 +72,7 @@ loop-turn-preserved-then-not-can_join g c =
     record {
       searched = next;
       first = λ e. absurd (omega (arith, e));
+      turns = omega (arith, c.loop-turn.invariant.turns, c.tick.ensures);
       ticks = omega (arith, c.loop-turn.invariant.ticks, c.tick.ensures, tried_part (weight m near) m.columns (turn - 1) (turn + 1 - 1) (omega arith));
       square = (let more : (turn + 1) * m.columns ≡ turn * m.columns + m.columns = grind arith in omega (arith, c.loop-turn.invariant.square, c.tick.ensures, more));
     }
@@ -156,6 +158,7 @@ loop-turn-preserved g c =
     record {
       searched = next;
       first = λ e. absurd (omega (arith, e));
+      turns = omega (arith, c.loop-turn.invariant.turns, c.tick.ensures, c.in_ok-conflict.ensures.costs);
       ticks = omega (arith, tried g (goal.at.loop-turn-preserved g c).After-grow_from_column, c.tick.ensures, spent);
       square = (let more : (turn + 1) * m.columns ≡ turn * m.columns + m.columns = grind arith in omega (arith, c.loop-turn.invariant.square, c.tick.ensures, more, spent));
     }
@@ -171,6 +174,15 @@ returns-in-Some-clause-found g c =
 pub returns-clause-found : goal.returns-clause-found
 returns-clause-found g c =
     searched_all c.gap_law.ensures c.args.m.now c.args.near.now c.args.further c.loop-turn.marks c.loop-turn.forest (c.loop-turn.turn - 1) c.requires.near c.requires.none c.loop-turn.invariant.searched (omega (arith, c.columns-columns.ensures.columns))
+
+pub returns-in-Some-clause-costs : goal.returns-in-Some-clause-costs
+returns-in-Some-clause-costs g c = omega (arith, c.loop-turn.invariant.turns, c.tick.ensures, c.in_ok-conflict.ensures.costs)
+
+pub returns-clause-costs : goal.returns-clause-costs
+returns-clause-costs g c = omega (arith, c.loop-turn.invariant.turns, c.loop-turn-test.false, c.loop-turn.auto.turn-end)
+
+pub returns-clause-turns : goal.returns-clause-turns
+returns-clause-turns g c = λ _. omega (arith, c.loop-turn.invariant.turns, c.loop-turn-test.false, c.loop-turn.auto.turn-end, c.columns-columns.ensures.columns)
 
 pub returns-in_err-conflict-clause-ticks : goal.returns-in_err-conflict-clause-ticks
 returns-in_err-conflict-clause-ticks g c = turn_ticks g (goal.at.returns-in_err-conflict-clause-ticks g c).After-grow_from_column

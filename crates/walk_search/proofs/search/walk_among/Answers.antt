@@ -68,3 +68,9 @@ pub returns-clause-square : goal.returns-clause-square
 returns-clause-square g c =
     let ones = sum_by length (take c.args.rows c.args.m.now.rows) in
     square_bound c.args.m.now.columns ones c.args.steps.now c.search.new.steps (omega (arith, c.rows_by_column.ensures.ticks, rw (zero-add c.args.rows) at c.search.ensures.square))
+
+pub returns-clause-reads : goal.returns-clause-reads
+returns-clause-reads g c = omega (arith, c.in_ok-holders.ensures.turns, c.in_ok-found.ensures.costs)
+
+pub returns-clause-turns : goal.returns-clause-turns
+returns-clause-turns g c = λ none. omega (arith, c.in_ok-holders.ensures.turns, c.in_ok-found.ensures.turns none)
