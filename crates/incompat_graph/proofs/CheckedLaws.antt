@@ -1,7 +1,7 @@
 -- Walks that are looked at line by line.
-use Rattle.std.proofs.Common.{◌≡◌, ◌⊎◌, ◌∙◌, ℕ, ◌+◌, ◌-◌, ◌≤◌, List, [], ◌∷◌, ◌++◌, length, take, drop, slice_get, Some, refl, sym, ap, subst, arith}
+use Rattle.std.proofs.Common.{◌≡◌, ◌⊎◌, ◌∙◌, ℕ, zero, suc, ◌+◌, ◌*◌, ◌-◌, ◌≤◌, List, [], ◌∷◌, ◌++◌, length, take, drop, slice_get, Some, refl, sym, ap, subst, arith}
 use Rattle.std.proofs.lemmas.List.{take_more, take_all, get_or-take, length-take-le}
-use Rattle.std.proofs.lemmas.Option.{get_or_from_slice_get, slice_get_within}
+use Rattle.std.proofs.lemmas.Option.{none-some, same_Some, get_or_from_slice_get, slice_get_within}
 use Rattle.std.proofs.Math.ListN.{drop_of_length-le}
 use Rattle.row_model.specs.declared.graph.Pair.{Pair}
 use Rattle.row_model.specs.declared.graph.Line.{Line}
@@ -9,7 +9,24 @@ use Rattle.row_model.specs.declared.graph.Why.{Why}
 use Rattle.row_model.specs.declared.graph.Why.TheVariants.{Flip, Row}
 use Rattle.row_model.specs.Graph.{pair, row_at, Crosses, JoinedBy}
 use Rattle.row_model.specs.Cycles.{first_pair, LeadTo, IsClosedWalk}
+use Rattle.odd_cycle.specs.Short.{flip_of, flips}
 use Rattle.row_model.proofs.CycleLaws.{lead_push, first_drop, closed_from}
+
+-- what a yes costs: three steps by a row, and none by a flip
+pub paid : (why : Why) (old new : ℕ) → ((k : ℕ) → why ≡ Row k → new ≡ old + 3) → (why ≡ Flip → new ≡ old) → old + 3 ≤ new + 3 * flip_of why
+paid Flip old new row flip = omega (arith, flip refl)
+paid (Row k) old new row flip = omega (arith, row k refl)
+
+-- the flips of one more line
+flips_next : (lines : List Line) (i : ℕ) (line : Line) → slice_get lines i ≡ Some line → flips (take (suc i) lines) ≡ flips (take i lines) + flip_of line.why
+flips_next [] i line e = absurd (none-some line e)
+flips_next (x ∷ lines) zero line e = omega (arith, ap (λ (l : Line). flip_of l.why) (same_Some x line e))
+flips_next (x ∷ lines) (suc i) line e = omega (arith, flips_next lines i line e)
+
+pub flips_more : (lines : List Line) (i : ℕ) (line : Line) → slice_get lines i ≡ Some line → flips (take (i + 1) lines) ≡ flips (take i lines) + flip_of line.why
+flips_more lines i line e =
+    let up : i + 1 ≡ suc i = omega arith in
+    rw up (flips_next lines i line e)
 
 -- each of the first lines leads to the next
 abbrev pub IsLed : ℕ → List (List ℕ) → List Line → ℕ → Type 0

@@ -22,7 +22,7 @@ pub fn walk_around<L: Ledger>(
     steps: &mut Steps<L>,
 ) -> Result<Vec<Line>, NoMemory>
     requires { length front.now.gaps.now.order ≡ front.now.m.now.columns }
-    ensures ticks { steps.new + left.new ≤ steps.old + left.old }
+    ensures ticks { steps.new + left.new ≡ steps.old + left.old }
 {
     let mut lines = Vec::new(alloc);
     for link in links {

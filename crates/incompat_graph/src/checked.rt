@@ -4,7 +4,7 @@ ghost use Rattle.row_model.specs.declared.graph.Pair.{Pair};
 ghost use Rattle.row_model.specs.declared.graph.Why.TheVariants.{Row};
 ghost use Rattle.row_model.specs.Graph.{JoinedBy};
 ghost use Rattle.row_model.specs.Cycles.{first_pair, IsOddWalk, IsOddCycle};
-ghost use Rattle.odd_cycle.specs.Short.{IsShort};
+ghost use Rattle.odd_cycle.specs.Short.{flip_of, flips, IsShort};
 
 use odd_cycle::{Cycle, is_folded, short_cycle_law};
 use row_model::{CountedRows, Line, NoMemory, Pair, Why};
@@ -26,6 +26,7 @@ pub fn checked_cycle<L: Ledger>(
     ensures short { IfOk result (λ found. IfSome found (IsShort m.now.columns)) }
     ensures ticks { steps.new + left.new ≤ steps.old + left.old }
     ensures less { left.new ≤ left.old }
+    ensures turns { IfOk result (λ found. IfSome found (λ cycle. steps.old + 3 * length cycle ≤ steps.new + 3)) }
 {
     let count = lines.len() as u64;
     if count < 3 || count > *left / 3 {
@@ -44,6 +45,7 @@ fn is_odd_walk<L: Ledger>(m: &CountedRows, rows: u32, lines: &[Line], steps: &mu
     requires { rows ≤ length m.now.rows }
     ensures walk { IsTrue result → IsOddWalk m.now.columns (take rows m.now.rows) lines.now }
     ensures ticks { steps.new ≤ steps.old + 3 * length lines.now }
+    ensures turns { IsTrue result → steps.old + 3 * length lines.now ≤ steps.new + 3 * flips lines.now }
 {
     for (i, line) in lines.iter().enumerate() {
         if !leads_to(m, rows, *line, pair_behind(lines, i), steps) {
@@ -64,6 +66,7 @@ fn leads_to<L: Ledger>(
     requires { rows ≤ length m.now.rows }
     ensures joined { IsTrue result → JoinedBy m.now.columns (take rows m.now.rows) line.pair to line.why }
     ensures ticks { steps.new ≤ steps.old + 3 }
+    ensures turns { IsTrue result → steps.old + 3 ≤ steps.new + 3 * flip_of line.why }
 {
     is_within(line.why, rows) && m.joined_counted(line.pair, to, line.why, steps)
 }

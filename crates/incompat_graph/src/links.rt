@@ -67,7 +67,7 @@ pub fn odd_links<L: Ledger>(
     steps: &mut Steps<L>,
 ) -> Result<Vec<Link>, NoMemory>
     requires { length front.now.gaps.now.order ≡ front.now.m.now.columns }
-    ensures ticks { steps.new + left.new ≤ steps.old + left.old }
+    ensures ticks { steps.new + left.new ≡ steps.old + left.old }
 {
     let mut ways: Vec<Course> = Vec::new(alloc);
     for pivot in &sample.pivots {
@@ -93,9 +93,9 @@ fn way_of<L: Ledger>(
     steps: &mut Steps<L>,
 ) -> Course
     requires { length front.now.gaps.now.order ≡ front.now.m.now.columns }
-    ensures ticks { steps.new + left.new ≤ steps.old + left.old }
+    ensures ticks { steps.new + left.new ≡ steps.old + left.old }
 {
-    let turned = front.position(pivot) < front.position(member);
+    let turned = front.position_of(pivot) < front.position_of(member);
     let begin = if turned {
         Pair {
             a: pivot,

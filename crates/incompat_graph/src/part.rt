@@ -1,11 +1,12 @@
 // Lines that are looked for in a small part of a matrix.
-ghost use Rattle.std.specs.Prelude.{◌+◌, ◌*◌, ◌≤◌, length, sum_by, IfOk, IsTrue};
+ghost use Rattle.std.specs.Prelude.{◌+◌, ◌*◌, ◌≤◌, length, sum_by, IfOk, OnOk, IsTrue};
 ghost use Rattle.row_model.specs.Rows.{IsRow};
 
-use row_model::{CountedRows, Line, Matrix, NoMemory, Pair, Why};
+use odd_cycle::short_cycle;
+use row_model::{CountedMatrix, CountedRows, Line, NoMemory, Pair, Why};
 use std::alloc::Global;
 use step_count::{Ledger, Steps};
-use walk_search::{odd_walk, simple_cycle};
+use walk_search::walk_among;
 
 /// The most columns of a part.
 const MOST_COLUMNS: usize = 256;
@@ -35,7 +36,7 @@ pub fn lines_among<L: Ledger>(
     if !pays(&part, left) {
         return Ok(Vec::new(alloc));
     }
-    lines_in(alloc, &part, rows, columns, steps)
+    lines_in(alloc, &part.counted(), rows, columns, steps)
 }
 
 /// The same at half the price: of those that are left as many steps are taken as are surely half of what is counted.
@@ -56,7 +57,7 @@ pub fn lines_at_half<L: Ledger>(
     if !pays_half(&part, left) {
         return Ok(Vec::new(alloc));
     }
-    lines_in(alloc, &part, rows, columns, steps)
+    lines_in(alloc, &part.counted(), rows, columns, steps)
 }
 
 // Whether a part in these rows and columns is small enough to be made.
@@ -67,12 +68,12 @@ fn is_small(rows: &[u32], columns: &[u32]) -> bool
 }
 
 // Takes the most steps of a search in the matrix from those that are left, and tells whether they are enough.
-fn pays(m: &Matrix, left: &mut u64) -> bool
-    ensures paid { IsTrue result → left.new + m.now.columns * (2 * sum_by length m.now.rows + m.now.columns + 3) + 1 ≤ left.old }
+fn pays(part: &CountedMatrix, left: &mut u64) -> bool
+    ensures paid { IsTrue result → left.new + part.now.columns * (2 * sum_by length part.now.rows + part.now.columns + 3) + 1 ≤ left.old }
     ensures less { left.new ≤ left.old }
 {
-    let columns = u64::from(m.columns());
-    let Some(looks) = m.ones().checked_mul(2 * columns) else {
+    let columns = u64::from(part.counted().columns());
+    let Some(looks) = part.ones().checked_mul(2 * columns) else {
         return false;
     };
     let Some(price) = looks.checked_add(columns * (columns + 3) + 1) else {
@@ -83,14 +84,15 @@ fn pays(m: &Matrix, left: &mut u64) -> bool
 
 // Takes half of the most steps of a search in the matrix from those that are left, and tells whether they are enough and
 // the ones are. A matrix of fewer ones has no odd cycle.
-fn pays_half(m: &Matrix, left: &mut u64) -> bool
-    ensures paid { IsTrue result → 2 * left.new + 3 * m.now.columns * (sum_by length m.now.rows + 1) + 1 ≤ 2 * left.old }
+fn pays_half(part: &CountedMatrix, left: &mut u64) -> bool
+    ensures paid { IsTrue result → 2 * left.new + 3 * part.now.columns * (sum_by length part.now.rows + 1) + 1 ≤ 2 * left.old }
     ensures less { left.new ≤ left.old }
 {
-    let Some(half) = m.ones().checked_mul(2 * u64::from(m.columns()) + 1) else {
+    let columns = u64::from(part.counted().columns());
+    let Some(half) = part.ones().checked_mul(2 * columns + 1) else {
         return false;
     };
-    take_from(left, half) && m.ones() >= FEW_ONES
+    take_from(left, half) && part.ones() >= FEW_ONES
 }
 
 // Takes a price from what is left, and tells whether that is enough. If not, nothing is taken.
@@ -110,17 +112,18 @@ fn take_from(left: &mut u64, price: u64) -> bool
 // The lines in a matrix of an odd cycle in a part of it, if the part has one.
 fn lines_in<L: Ledger>(
     alloc: Global,
-    part: &Matrix,
+    part: &CountedRows,
     rows: &[u32],
     columns: &[u32],
     steps: &mut Steps<L>,
 ) -> Result<Vec<Line>, NoMemory>
     ensures few { steps.new ≤ steps.old + 3 * part.now.columns * (sum_by length part.now.rows + 1) + 1 }
     ensures square { steps.new ≤ steps.old + part.now.columns * (2 * sum_by length part.now.rows + part.now.columns + 3) + 1 }
+    ensures turns { OnOk result (steps.old + part.now.columns + sum_by length part.now.rows ≤ steps.new) }
 {
-    match odd_walk(alloc, part, part.rows(), steps)? {
+    match walk_among(alloc, part, part.rows(), steps)? {
         Some(walk) => {
-            let cycle = simple_cycle(alloc, part, &walk)?;
+            let cycle = short_cycle(alloc, part.columns(), walk.lines())?;
             lines_of(alloc, cycle.lines(), rows, columns)
         }
         None => Ok(Vec::new(alloc)),
@@ -152,13 +155,14 @@ fn part_of<L: Ledger>(
     columns: &[u32],
     left: &mut u64,
     steps: &mut Steps<L>,
-) -> Result<Matrix, NoMemory>
+) -> Result<CountedMatrix, NoMemory>
     requires columns { (1 ≤ length columns.now) × (length columns.now ≤ 256) }
     requires rows { length rows.now ≤ 256 }
     ensures ticks { steps.new + left.new ≤ steps.old + left.old }
     ensures less { left.new ≤ left.old }
+    ensures turns { IfOk result (λ part. steps.old + length part.rows * length columns.now ≤ steps.new) }
 {
-    let mut part = Matrix::new(alloc, columns.len() as u32)?;
+    let mut part = CountedMatrix::new(alloc, columns.len() as u32)?;
     for k in rows {
         if 1 <= *k && *k <= m.rows() {
             let Some(rest) = left.checked_sub(columns.len() as u64) else {
@@ -184,6 +188,7 @@ fn row_of<L: Ledger>(
     requires few { length columns.now ≤ 256 }
     ensures row { IfOk result (λ row. IsRow (length columns.now) row.items) }
     ensures ticks { steps.new ≤ steps.old + length columns.now }
+    ensures turns { OnOk result (steps.old + length columns.now ≤ steps.new) }
 {
     let mut row = Vec::new(alloc);
     for (i, column) in columns.iter().enumerate() {

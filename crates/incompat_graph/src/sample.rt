@@ -1,5 +1,5 @@
 // A few columns that a row has, and a few that it lacks.
-ghost use Rattle.std.specs.Prelude.{◌≡◌, ◌+◌, ◌≤◌, length};
+ghost use Rattle.std.specs.Prelude.{◌≡◌, ◌+◌, ◌≤◌, length, OnOk};
 
 use row_model::{CountedRows, NoMemory};
 use std::alloc::Global;
@@ -37,6 +37,7 @@ pub fn sample_of<L: Ledger>(
 ) -> Result<Sample, NoMemory>
     requires { (1 ≤ k) × (k ≤ length m.now.rows) }
     ensures ticks { steps.new ≤ steps.old + length order.now }
+    ensures turns { OnOk result (steps.old + length order.now ≤ steps.new) }
 {
     let mut members = no_columns(alloc);
     let mut pivots = no_columns(alloc);

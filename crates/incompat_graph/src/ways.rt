@@ -1,5 +1,6 @@
 // Ways along the open gaps of an order to the pair at which they all end.
-ghost use Rattle.std.specs.Prelude.{◌≡◌, ◌+◌, ◌<◌, ◌≤◌, length, IfSome};
+ghost use Rattle.std.specs.Prelude.{◌≡◌, ◌+◌, ◌<◌, ◌≤◌, length, IfOk, IfSome};
+ghost use Rattle.row_model.specs.Graph.{row_at};
 
 use open_gaps::OpenGaps;
 use row_model::{CountedRows, Line, NoMemory, Pair, Why, is_pair};
@@ -35,7 +36,7 @@ struct Ends {
 
 impl Front<'_> {
     /// The position of a column, or 0 where there is no such column.
-    pub fn position(&self, column: u32) -> u32 {
+    pub fn position_of(&self, column: u32) -> u32 {
         if column == 0 {
             return 0;
         }
@@ -48,10 +49,11 @@ impl Front<'_> {
 
 /// The pair at which each way from a pair ends, the first column of which stands before the second. A way leads from
 /// (a,b) to the first column of a row that has a and lacks b, in place of a, or to the last column of a row that has b
-/// and lacks a, in place of b. It ends early where no steps are left.
+/// and lacks a, in place of b. It ends early where no steps are left. As many steps are counted as are taken from those
+/// that are left.
 pub fn end_of<L: Ledger>(front: &Front, v: Pair, left: &mut u64, steps: &mut Steps<L>) -> Pair
     requires { length front.now.gaps.now.order ≡ front.now.m.now.columns }
-    ensures ticks { steps.new + left.new ≤ steps.old + left.old }
+    ensures ticks { steps.new + left.new ≡ steps.old + left.old }
 {
     let mut at = v;
     while let Some(halt) = next_halt(front, at, left, steps) {
@@ -69,7 +71,8 @@ pub fn way_from<L: Ledger>(
     steps: &mut Steps<L>,
 ) -> Result<Vec<Halt>, NoMemory>
     requires { length front.now.gaps.now.order ≡ front.now.m.now.columns }
-    ensures ticks { steps.new + left.new ≤ steps.old + left.old }
+    ensures ticks { steps.new + left.new ≡ steps.old + left.old }
+    ensures turns { IfOk result (λ way. steps.old + length way.items ≤ steps.new + 1) }
 {
     let mut way = Vec::new(alloc);
     way.push(Halt { pair: v, row: None })?;
@@ -89,8 +92,10 @@ fn next_halt<L: Ledger>(
     steps: &mut Steps<L>,
 ) -> Option<Halt>
     requires { length front.now.gaps.now.order ≡ front.now.m.now.columns }
-    ensures ticks { steps.new + left.new ≤ steps.old + left.old }
+    ensures ticks { steps.new + left.new ≡ steps.old + left.old }
     ensures less { IfSome result (λ halt. left.new < left.old) }
+    ensures rest { left.new ≤ left.old }
+    ensures costs { IfSome result (λ halt. steps.old + 1 ≤ steps.new) }
 {
     if !is_pair(front.m.columns(), v) {
         return None;
@@ -130,8 +135,10 @@ pub fn row_of(line: Line) -> Option<u32> {
 
 // The ends of a row, if there is such a row and it can be read in the steps that are left.
 fn ends_of<L: Ledger>(front: &Front, row: u32, left: &mut u64, steps: &mut Steps<L>) -> Option<Ends>
-    ensures ticks { steps.new + left.new ≤ steps.old + left.old }
+    ensures ticks { steps.new + left.new ≡ steps.old + left.old }
     ensures less { IfSome result (λ ends. left.new < left.old) }
+    ensures rest { left.new ≤ left.old }
+    ensures turns { IfSome result (λ ends. steps.old + 1 + length (row_at front.now.m.now.rows row) ≤ steps.new) }
 {
     if row == 0 || row > front.m.rows() {
         return None;
@@ -144,7 +151,7 @@ fn ends_of<L: Ledger>(front: &Front, row: u32, left: &mut u64, steps: &mut Steps
     let mut high = 0;
     for i in 0..count {
         let column = front.m.member_counted(row, i + 1, steps);
-        let position = front.position(column);
+        let position = front.position_of(column);
         if position < low {
             low = position;
             ends.first = column;

@@ -1,4 +1,4 @@
-use Rattle.std.proofs.Common.{◌≡◌, ◌+◌, ◌≤◌, length}
+use Rattle.std.proofs.Common.{◌≡◌, ◌+◌, ◌*◌, ◌≤◌, length}
 use Rattle.incompat_graph.proofs.part.part_of.Given as goal
 
 abbrev pub invariant-loop-k : goal.invariant-loop-k
@@ -8,4 +8,5 @@ invariant-loop-k g l =
       rows : length l.part.rows ≤ l.k-index;
       less : l.left ≤ l.fn.left;
       ticks : l.steps + l.left ≤ l.fn.steps + l.fn.left;
+      turns : l.fn.steps + length l.part.rows * length l.columns ≤ l.steps;
     }
