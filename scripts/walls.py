@@ -6,7 +6,7 @@ Usage: scripts/walls.py
 1. A crate's proofs are its own: no crate cites the proofs of another crate of this repository, but of those at the bottom, whose
    definitions everything shares. What a crate above needs of any other crate is a public law of it.
 2. Work is counted where it is done: outside tests no code makes a counter of its own but that of the step counter, of the top call,
-   where a run makes the one that all calls below are lent, of the program that times the bubble pass and of the example of a library. No
+   where a run makes one, which all calls below are lent, of the program that times the bubble pass and of the example of a library. No
    import gives a counter or a matrix another name, by which a rule could miss it.
 3. Reducing a row looks at no more nodes than its steps count: outside tests no code of the crates that reduce a row in place names
    one of the calls that go over a whole arena without a step, but for the reducer's `tree`.
@@ -21,11 +21,15 @@ Usage: scripts/walls.py
 8. A name has one meaning: no name of a crate's definitions stands twice in it, or in a crate that it stands on as well.
 9. A search reads what is counted: outside tests the crates that search name a matrix only in the functions that UNCOUNTED lists. All
    others are handed its rows as `CountedRows` of row_model, of which each look at a row is a step. Of the listed ones those that HANDING
-   lists do nothing with the matrix but hand it on as that.
+   lists do nothing with the matrix but hand it on as that, or ask how many columns it has.
 10. A turn of a search costs a step: each loop of a function of these crates ticks, or makes a counted read, or calls a function of which
-   a clause named `costs` says that it costs one, in its head or body and before any `continue`, but for those that UNTICKED lists.
+   a clause named `costs` says that it costs one, on every turn: neither behind a `continue` nor where a condition decides. UNTICKED lists
+   the loops that need not, and with them the calls that go over a list. No function of these crates calls itself.
 11. Who may search: verdict_check names no search, and the crates of the replies and of the program stand on no crate that reduces or
    searches but c1p_solve.
+12. The solver reads no row: c1p_solve does nothing with a matrix but ask how many rows and columns it has, add and remove its last row,
+   and hand it to its own functions, to the reducer, which gets one row at a time, and to the search.
+13. The reading of loops itself is tried: of the loops in SAMPLES each is found where a turn of it may cost no step, and no other.
 
 What stands behind `#[cfg(test)]` is a test, also in a file of its own; a file without that is none, whatever its name.
 
@@ -58,23 +62,43 @@ UNCOUNTED = {
     "pair_classes": {"even_classes"},
     "open_gaps": {"of_rows", "gaps_of_all"},
     "walk_search": {"odd_walk", "joined", "simple_cycle"},
-    "incompat_graph": {"odd_cycle_along", "part_of", "pays", "pays_half", "lines_in"},
+    "incompat_graph": {"odd_cycle_along"},
 }
-# Of these, those that are lent a counter and hand the matrix on.
-HANDING = {"even_classes", "odd_walk", "odd_cycle_along"}
-HANDED = "CountedRows::new(m)"
-# Their functions with a loop of which a turn may cost none: of a table that is set up or handed out once; up a set of pairs; over rows of
-# which some have no ones; of the judge; along the lines that are found; over the few columns, rows, ways and pivots that an attempt takes.
+# Of these, those that hand the matrix on.
+HANDING = {"even_classes", "odd_walk", "odd_cycle_along", "simple_cycle"}
+HANDED = re.compile(r"\bCountedRows::new\(m\)|\bm\.columns\(\)")
+# Their functions with a loop of which a turn may cost none, each loop of a function or the one over the name behind it: of a table that is
+# set up or handed out once; up a set of pairs; over rows of which some have no ones; of the judge; along the lines that are found; over the
+# few columns, rows, ways and pivots that an attempt takes.
 UNTICKED = {
     "pair_classes": {"each_alone", "flatten", "root_of", "classes_of"},
-    "open_gaps": {"cover", "gaps_of_all"},
-    "walk_search": {"way_down", "add_way_up", "joined"},
+    "open_gaps": {"cover", "gaps_of", "gaps_of_all", "of_parts"},
+    "walk_search": {"way_down", "add_way_up", "joined", "rows_by_column k"},
     "incompat_graph": {
-        "add_forth", "add_back", "columns_near", "openers", "add_lines", "lines_of", "without_repeats", "is_odd_walk", "part_of",
+        "add_forth", "add_back", "columns_near", "openers", "add_lines", "settle", "lines_of", "without_repeats", "is_odd_walk", "part_of",
         "thinned", "closed_at_once", "is_known", "odd_circle", "circle_by", "first_left", "place_among", "spread", "path_up",
-        "odd_links", "walk_around", "end_of", "way_from",
+        "odd_links", "walk_around",
     },
 }
+# Loops, and whether a turn of each costs a step.
+SAMPLES = [
+    ("for a in columns {\n    steps.tick();\n}", True),
+    ("for a in columns {\n    if a > 1 {\n        steps.tick();\n    }\n}", False),
+    ("for a in columns {\n    if a == b {\n        continue;\n    }\n    steps.tick();\n}", False),
+    ("for a in columns {\n    let had = a > 1 && m.has_counted(k, a, steps);\n}", False),
+    ("for a in columns {\n    let had = if a > 1 { m.has_counted(k, a, steps) } else { false };\n}", False),
+    ("for a in columns {\n    if a > 1 {\n        b += 1;\n    } else if m.has_counted(k, a, steps) {\n        b += 2;\n    }\n}", False),
+    ("for a in found(m.len_counted(k, steps)) {\n    sum += a;\n}", False),
+    ("while let Some(a) = m.next_counted(k, i, steps) {\n    i += 1;\n}", True),
+    ("while let Some(a) = next_halt(front, at, left, steps) {\n    at = a;\n}", True),
+    ("for a in columns {\n    let next = m.next_counted(k, i, steps);\n}", False),
+    ("for a in columns {\n    if look(m, a, steps)? {\n        return Ok(None);\n    }\n}", True),
+    ("let last = loop {\n    at += 1;\n};", False),
+    ("let last = nodes.iter().rposition(|node| node.pair == pair);", False),
+    ("let there = nodes.iter().position(is_there);", False),
+    ("let there = columns.contains(&a);", False),
+    ("let some = columns.iter().any(|a| m.has_counted(k, *a, steps));", False),
+]
 SEARCHES = {"odd_walk", "odd_cycle_along", "shorter_cycle", "find_core", "walk_across"}
 JUDGE = "verdict_check"
 SOLVER = "c1p_solve"
@@ -90,6 +114,7 @@ TOP = os.path.join("crates", "pq_cli", "src", "top.rt")
 CITED = re.compile(r"Rattle\.([a-z0-9_]+)\.proofs\b|\b([a-z0-9_]+)::proofs::")
 COUNTER = re.compile(r"\b(Blank|Brand)\b|\bSteps\b.*::new\b|^::new\b")
 RENAMED = re.compile(r"\b(?:Matrix|Blank|Brand|Steps) as \w+")
+MADE = re.compile(r"\b(Blank|Steps)(?:::<[^>]*>)?::new\(")
 FUNCTION = re.compile(r"\bfn (\w+)")
 WALK = re.compile(r"\b(to_tree|is_one_tree|has_two_each)\b")
 ALLOCATOR = re.compile(r"\ballocator\(")
@@ -97,15 +122,30 @@ ALLOCATOR = re.compile(r"\ballocator\(")
 TAKES = re.compile(r"(?:\.|Vec::)(?:push|insert|append|reserve|resize|resize_with|extend|extend_from_slice|extend_from_within|to_vec|to_owned|collect|clone)\b|\bvec!")
 QUEUED = re.compile(r"bubble_pass/src/climber\.rt:\d+ .*\bself\.push\(|bubble_pass/src/\w+\.rt:\d+ .*\bclimber\.push\(")
 MATRIX = re.compile(r"\bMatrix\b")
-# the matrix `m` in the body of a function, where clauses and parameters don't stand
-OF_MATRIX = re.compile(r"^(?!.*\b(?:requires|ensures)\b|\s+\().*\bm\b(?!:)(?!\.now)")
-# a loop with a block of its own, and any loop
-BLOCK = re.compile(r"^\s*(?:'\w+: )?(?:for|while|loop)\b")
-LOOP = re.compile(BLOCK.pattern + r"|\.(?:any|all|find|find_map|filter|filter_map|flat_map|map_while|take_while|skip_while|for_each|try_for_each|fold|try_fold|scan)\(|\.position\(\||iter\(\).*\.map\(")
-# what costs a step: a clause that says so, a tick or a counted read; and the name of what is called
+# the matrix `m`, and how it is handed over
+OF_MATRIX = re.compile(r"\bm\b")
+PARAMETER = re.compile(r"\bm: &Matrix,")
+# a loop with a block of its own, and the name that goes over it; and a call that goes over a list
+BLOCK = re.compile(r"(?:^|[=(,{>|]|\breturn|\bbreak)\s*(?:'\w+: )?(?:for \(?(\w+)|while|loop)\b")
+OVER_LIST = re.compile(
+    r"\.(?:any|all|r?find\w*|filter\w*|flat_map|map_while|take_while|skip_while|try_for_each|for_each|(?:try_)?r?fold|scan|r?position|contains|nth|count|sum"
+    r"|product|(?:min|max)_by\w*|sort\w*|dedup\w*|reverse|retain\w*|fill\w*|rotate\w*|extend\w*|to_vec|to_owned|concat|copy_from_slice|clone_from\w*)\(|iter\(\).*\.map\(")
+# what costs a step: a clause that says so, always or with a value; a tick or a counted read; and the name of what is called, in the head
+# of a loop that goes on as long as there is a value or anywhere
 COSTS = re.compile(r"^\s*ensures costs \{ (?:OnOk result \()?steps\.old \+ 1 ≤ steps\.new\)? \}$")
-TICKS = re.compile(r"\bsteps\.tick\(\)|\b\w+_counted\(")
+SOME_COSTS = re.compile(r"^\s*ensures costs \{ IfSome result \(λ \w+\. steps\.old \+ 1 ≤ steps\.new\) \}$")
+TICKS = re.compile(r"\bsteps\.tick\(\)|\b(?:len|has|member|ones)_counted\(")
+NEXT = re.compile(r"^\s*while let Some\(\w+\) = (?:m\.)?(\w+)\(")
 CALLED = re.compile(r"\b(\w+)\(")
+# where what a line always does ends: at a block or behind one, at a closure, or at a second condition
+SURE = re.compile(r"&&|\|\||=>|[{}]|\|[\w(&]")
+# a call, and what it is a call of
+CALL = re.compile(r"(?:([\w.]*\w)(\.|::))?\b(\w+)\(")
+# what the solver does with a matrix: sizes, its last row, and the calls that it is handed to
+ASKED = re.compile(
+    r"\b(?:m|self\.matrix)\.(?:rows|columns|push_row|pop_row)\(|\b(?:solve|reduce_all|reduce_last|conflict|odd_cycle_along|reduce|reduce_row)\([^()]*?&?\b(?:m|self\.matrix),"
+    r"|^\s*(?:matrix: (?:m|_matrix),|&self\.matrix)$")
+ITS_MATRIX = re.compile(r"\b(?:m|matrix)\b")
 # a line of an import
 IMPORTS = re.compile(r"(?:pub )?use |[\w, ]+,$")
 WORD = re.compile(r"\w+")
@@ -226,6 +266,9 @@ def own_counters(names):
                 yield f"{place}: makes a step counter: {line}"
             if RENAMED.search(line):
                 yield f"{place}: gives another name: {line}"
+    made = [found for place, line in code("pq_cli") if place.partition(":")[0] == TOP for found in MADE.findall(line)]
+    if made != ["Blank", "Steps"]:
+        yield f"{TOP}: a run makes one blank and of it one counter, and not {made}"
 
 
 def uncounted_walks():
@@ -254,6 +297,15 @@ def hidden_memory():
                     yield f"{place}: {name} takes memory, and is handed no allocator: {line.strip()}"
 
 
+def body(lines):
+    """The lines of a function behind its head, where the parameters and clauses stand."""
+    indent = lines[0][1][:len(lines[0][1]) - len(lines[0][1].lstrip())]
+    for number, (_, line) in enumerate(lines):
+        if line == indent + "{" or line.endswith("{") and line[len(indent):len(indent) + 1].strip():
+            return lines[number + 1:]
+    return [] if lines[-1][1].endswith("{}") else lines
+
+
 def uncounted_reads():
     """Where a search has a matrix in its hands, of which it could read rows without a step."""
     for crate in SEARCHING:
@@ -263,41 +315,95 @@ def uncounted_reads():
             for place, line in lines:
                 if MATRIX.search(line) and name not in UNCOUNTED[crate]:
                     yield f"{place}: {name} is handed a matrix, whose reads are not counted: {line.strip()}"
-                if name in HANDING and OF_MATRIX.search(line.replace(HANDED, "")):
+                if MATRIX.search(line) and name in HANDING and not PARAMETER.search(line):
+                    yield f"{place}: {name} names a matrix besides the one that it hands on: {line.strip()}"
+            for place, line in body(lines) if name in HANDING else []:
+                if OF_MATRIX.search(HANDED.sub("", line)):
                     yield f"{place}: {name} does more with the matrix than to hand it on: {line.strip()}"
         for place, line in code(crate):
             if place not in inside and MATRIX.search(line) and not IMPORTS.match(line):
                 yield f"{place}: a matrix is kept, whose reads are not counted: {line}"
 
 
-def turn(lines, number):
-    """The lines of the loop that begins at a line of a function: its block, or its statement where it is an iterator's."""
-    first = lines[number][1]
-    end = first[:len(first) - len(first.lstrip())] + "}"
-    for _, line in lines[number:]:
-        if line == end:
-            return
-        yield line
-        if line.endswith(";") and not BLOCK.match(first):
-            return
-
-
-def costing(crate):
+def costing(crate, clause):
     """The functions of a crate with a clause which says that they cost a step."""
-    return {name for name, lines in functions(crate) if any(COSTS.search(line) for _, line in lines)}
+    return {name for name, lines in functions(crate) if any(clause.search(line) for _, line in lines)}
+
+
+def is_paid(lines, number, sure, with_value):
+    """Whether each turn of the loop that begins at a line of a function costs a step, for all that the text shows."""
+    head = lines[number][1]
+    outer = len(head) - len(head.lstrip())
+    goes_on = NEXT.match(head)
+    if goes_on and goes_on[1] in with_value:
+        return True
+    turn = [head] if head.lstrip().startswith("while") else []
+    for _, line in lines[number + 1:]:
+        inner = len(line) - len(line.lstrip())
+        if inner <= outer or "continue;" in line:
+            break
+        if inner == outer + 4:
+            turn.append(line)
+    always = [SURE.split(line)[0] for line in turn]
+    return any(TICKS.search(line) or sure.intersection(CALLED.findall(line)) for line in always)
+
+
+def free_turns(lines, listed, sure, with_value):
+    """The loops of a function of which a turn may cost no step, but for those over the listed names."""
+    for number, (place, line) in enumerate(lines):
+        loop = BLOCK.search(line)
+        if OVER_LIST.search(line) or loop and loop[1] not in listed and not is_paid(lines, number, sure, with_value):
+            yield place, line
+
+
+def misread_loops():
+    """The samples of loops that are not told as they are."""
+    for sample, costs in SAMPLES:
+        lines = [("sample", line) for line in sample.split("\n")]
+        if bool(list(free_turns(lines, set(), {"look"}, {"next_counted", "next_halt"}))) == costs:
+            yield f"scripts/walls.py: misreads a loop: {sample!r}"
+
+
+def calls_itself(crate):
+    """The functions of a crate that call themselves, by others too. A call by the name of another value is none of the function itself."""
+    types = {found for _, line in code(crate) for found in re.findall(r"\b(?:struct|enum) (\w+)", line)}
+    bodies = {}
+    for name, lines in functions(crate):
+        bodies.setdefault(name, []).extend(line for _, line in body(lines))
+    calls = {name: set() for name in bodies}
+    for name, lines in bodies.items():
+        for owner, how, called in CALL.findall(" ".join(lines)):
+            if called in bodies and (called != name or owner in {"", "self", "Self", *types}):
+                calls[name].add(called)
+    for name in calls:
+        reached, ahead = set(), set(calls[name])
+        while ahead:
+            reached |= ahead
+            ahead = {after for one in ahead for after in calls[one]} - reached
+        if name in reached:
+            yield name
 
 
 def uncounted_loops():
     """Where a turn of a search may cost no step."""
     for crate in SEARCHING:
-        sure = costing(crate)
+        sure, with_value = costing(crate, COSTS), costing(crate, SOME_COSTS) | {"next_counted"}
         for name, lines in functions(crate):
-            for number, (place, line) in enumerate(lines):
-                if not LOOP.search(line) or name in UNTICKED[crate]:
-                    continue
-                body = " ".join(turn(lines, number)).partition(" continue;")[0]
-                if not TICKS.search(body) and not sure.intersection(CALLED.findall(body)):
-                    yield f"{place}: a turn of a loop of {name} may cost no step: {line.strip()}"
+            if name in UNTICKED[crate]:
+                continue
+            listed = {entry.partition(" ")[2] for entry in UNTICKED[crate] if entry.startswith(name + " ")}
+            for place, line in free_turns(body(lines), listed, sure, with_value):
+                yield f"{place}: a turn of a loop of {name} may cost no step: {line.strip()}"
+        for name in calls_itself(crate):
+            yield f"crates/{crate}: {name} calls itself, and no loop shows what a turn costs"
+
+
+def solver_reads():
+    """Where the solver does more with a matrix than to ask for its sizes, change its last row, and hand it on."""
+    for name, lines in functions(SOLVER):
+        for place, line in body(lines):
+            if ITS_MATRIX.search(ASKED.sub("", line)):
+                yield f"{place}: {name} does more with a matrix than to hand it on: {line.strip()}"
 
 
 def stray_searches():
@@ -420,7 +526,7 @@ def main():
     names = crates()
     failed = 0
     rules = [foreign_proofs(names), own_counters(names), uncounted_walks(), hidden_memory(), idle_functions(), itertools.chain(unknown_contracts(names), untold(names)),
-             upward_edges(), names_with_two_meanings(), uncounted_reads(), uncounted_loops(), stray_searches()]
+             upward_edges(), names_with_two_meanings(), uncounted_reads(), uncounted_loops(), stray_searches(), solver_reads(), misread_loops()]
     for broken in rules:
         found = list(broken)
         failed += bool(found)
