@@ -5,3 +5,4 @@ pub mod FirstRefused
 pub mod FeedLemmas
 pub mod FewDigits
 pub mod PlainLemmas
+pub mod DigitWord

@@ -3,6 +3,7 @@
 //! The code goes over the bytes line by line and word by word, and keeps no list of them.
 #![tactic(auto)]
 
+mod digit_word;
 mod laws;
 mod lines;
 mod plain;

@@ -5,6 +5,7 @@ ghost use Rattle.std.specs.List.{list_all};
 ghost use Rattle.text_lines.specs.Lines.{lines_of, filled_lines};
 ghost use Rattle.text_lines.specs.Words.{words_of, number_after, numeral_of};
 
+use crate::digit_word::{WORD, few_digits_at};
 use crate::words::Numeral;
 
 // So many digits are read as one number at most.
@@ -44,6 +45,23 @@ pub fn digits_at(text: &[u8], at: usize) -> DigitRun
     DigitRun { value, end }
 }
 
+// The same, where the number of digits can't be foretold: few digits are read as one word, which costs less than a
+// branch that is guessed wrong.
+#[inline(always)]
+fn digits_by_word(text: &[u8], at: usize) -> DigitRun
+    requires { at ≤ length text.now }
+    ensures range { (at ≤ result.end) × (result.end ≤ length text.now) }
+    ensures digits { list_all is_ascii_digit (slice_range text.now at result.end) ≡ true }
+    ensures value { result.value ≡ number_after 0 (slice_range text.now at result.end) }
+{
+    if text.len() - at >= WORD {
+        if let Some(run) = few_digits_at(text, at) {
+            return run;
+        }
+    }
+    digits_at(text, at)
+}
+
 /// A line of two numbers.
 #[derive(Clone, Copy, Debug, PartialEq, Eq)]
 pub struct PlainPair {
@@ -68,12 +86,12 @@ pub fn plain_pair(text: &[u8], at: usize) -> Option<PlainPair>
     ensures numbers { IfSome result (λ pair. map numeral_of (words_of (slice_range text.now at (pair.next - 1)))
         ≡ Numeral.Value pair.first ∷ Numeral.Value pair.second ∷ []) }
 {
-    let first = digits_at(text, at);
+    let first = digits_by_word(text, at);
     if first.end == at || first.end == text.len() || text[first.end] != b' ' {
         return None;
     }
     let start = first.end + 1;
-    let second = digits_at(text, start);
+    let second = digits_by_word(text, start);
     if second.end == start || second.end == text.len() || text[second.end] != b'\n' {
         return None;
     }

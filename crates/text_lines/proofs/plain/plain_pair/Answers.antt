@@ -4,8 +4,8 @@ use Rattle.text_lines.proofs.plain.plain_pair.Goals as goal
 
 pub returns : goal.returns
 returns c =
-    let first = c.digits_at-first in
-    let second = c.digits_at-second in
+    let first = c.digits_by_word-first in
+    let second = c.digits_by_word-second in
     record {
       range = search rules;
       line =
