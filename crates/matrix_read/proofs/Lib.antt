@@ -1,6 +1,7 @@
 pub mod PlaceLemmas
 pub mod RowLemmas
 pub mod DenseLemmas
+pub mod BitPlaceLemmas
 pub mod WrittenLemmas
 pub mod SparseLemmas
 pub mod NameLemmas

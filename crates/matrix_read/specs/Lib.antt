@@ -1,5 +1,6 @@
 pub mod Dense
 pub mod DenseSteps
+pub mod BitPlaces
 pub mod Written
 pub mod Sparse
 pub mod SparseSteps

@@ -1,12 +1,13 @@
 // A matrix as lines of digits.
-ghost use Rattle.std.specs.Prelude.{◌≡◌, ◌+◌, ◌-◌, ◌^◌, ◌<◌, ◌≤◌, ◌↔◌, ◌==◌, slice_set, slice_index_or, [], length, take, Some, None, IsNone, IfOk, IfErr, IfSome, IsTrue};
-ghost use Rattle.std.specs.List.{list_any, list_all};
-ghost use Rattle.row_model.specs.Rows.{columns_where};
+ghost use Rattle.std.specs.Prelude.{◌≡◌, ◌+◌, ◌-◌, ◌^◌, ◌<◌, ◌≤◌, ◌↔◌, ◌==◌, slice_set, [], length, take, Some, None, IsNone, IfOk, IfErr, IfSome, IsTrue};
+ghost use Rattle.std.specs.List.{list_any};
 ghost use Rattle.text_lines.specs.Lines.{lines_of, filled_lines};
-ghost use Rattle.matrix_read.specs.Dense.{is_digit, width_of, digit_row, dense};
+ghost use Rattle.matrix_read.specs.Dense.{width_of, digit_row, dense};
 ghost use Rattle.matrix_read.specs.DenseSteps.{is_foreign_byte, row_code, read_lines, rows_or_refusal};
 ghost use Rattle.matrix_read.specs.Written.{DenseLaw};
 
+use crate::bit_places::BitPlaces;
+use crate::digit_blocks::ones_alone;
 use row_model::{MAX_COLUMNS, MAX_FILE_BYTES, MAX_ROWS, Matrix, NoMemory, Read, Refusal, code};
 use std::alloc::Global;
 use text_lines::{next_filled_line, without_mark};
@@ -55,7 +56,7 @@ fn first_width(text: &[u8]) -> Result<u32, Refusal>
             line: 0,
         });
     };
-    match scan(&text[first.span.start..first.span.end], &mut []) {
+    match scan_any(&text[first.span.start..first.span.end], &mut []) {
         None => Err(Refusal {
             code: code::GRAMMAR,
             line: first.number,
@@ -75,12 +76,18 @@ fn rows_or_refusal(alloc: Global, text: &[u8], width: u32) -> Result<Read<Matrix
     ensures { IfOk result (λ read. read ≡ rows_or_refusal width (filled_lines 1 (lines_of text.now))) }
 {
     let matrix = Matrix::new(alloc, width)?;
+    let table = BitPlaces::new();
     let mut columns = vec![in alloc; 0u32; width as usize]?;
-    push_rows(matrix, text, &mut columns)
+    push_rows(matrix, text, &table, &mut columns)
 }
 
 // Fills a matrix with the rows of a text. Each row stands in `columns` until it is pushed.
-fn push_rows(mut matrix: Matrix, text: &[u8], columns: &mut [u32]) -> Result<Read<Matrix>, NoMemory>
+fn push_rows(
+    mut matrix: Matrix,
+    text: &[u8],
+    table: &BitPlaces,
+    columns: &mut [u32],
+) -> Result<Read<Matrix>, NoMemory>
     requires empty { matrix.rows ≡ [] }
     requires short { length text.now ≤ MAX_FILE_BYTES }
     requires width { length columns.old ≡ matrix.columns }
@@ -95,6 +102,7 @@ fn push_rows(mut matrix: Matrix, text: &[u8], columns: &mut [u32]) -> Result<Rea
         match row_in(
             &text[line.span.start..line.span.end],
             matrix.rows(),
+            table,
             columns,
         ) {
             Err(code) => return Ok(Read::Refused(Refusal { code, line: passed })),
@@ -106,7 +114,7 @@ fn push_rows(mut matrix: Matrix, text: &[u8], columns: &mut [u32]) -> Result<Rea
 
 // How many ones the row of a line has, whose columns stand at the front of `columns` then; or the code of its
 // refusal, where so many rows stand before it.
-fn row_in(line: &[u8], before: u32, columns: &mut [u32]) -> Result<usize, u8>
+fn row_in(line: &[u8], before: u32, table: &BitPlaces, columns: &mut [u32]) -> Result<usize, u8>
     requires { length columns.old ≤ MAX_COLUMNS }
     ensures refused { IfErr result (λ code. row_code (length columns.old) before line.now ≡ Some code) }
     ensures row { IfOk result (λ ones. (row_code (length columns.old) before line.now ≡ None) × (take ones columns.new ≡ digit_row line.now)) }
@@ -115,7 +123,7 @@ fn row_in(line: &[u8], before: u32, columns: &mut [u32]) -> Result<usize, u8>
     if before >= MAX_ROWS {
         return Err(code::LIMIT);
     }
-    match scan(line, columns) {
+    match scan(line, table, columns) {
         None => Err(code::GRAMMAR),
         Some(digits) if digits.all != columns.len() => Err(code::COUNT),
         Some(digits) => Ok(digits.ones),
@@ -131,51 +139,25 @@ struct Digits {
 
 // The digits of a line, if it has no other bytes but spaces and tabs. The columns of its ones stand at the front of
 // `columns` then, if that has an entry for each digit.
-fn scan(line: &[u8], columns: &mut [u32]) -> Option<Digits>
+fn scan(line: &[u8], table: &BitPlaces, columns: &mut [u32]) -> Option<Digits>
     requires { length columns.old < 2 ^ 32 }
     ensures foreign { IsNone result ↔ IsTrue (list_any is_foreign_byte line.now) }
     ensures width { IfSome result (λ digits. digits.all ≡ width_of line.now) }
     ensures row { IfSome result (λ digits. width_of line.now ≤ length columns.new → take digits.ones columns.new ≡ digit_row line.now) }
     ensures within { IfSome result (λ digits. digits.ones ≤ length columns.new) }
 {
-    if line.len() == columns.len() && is_digits_alone(line) {
-        return Some(Digits {
-            all: line.len(),
-            ones: list_ones(line, columns),
-        });
+    if line.len() == columns.len() {
+        if let Some(ones) = ones_alone(line, table, columns) {
+            return Some(Digits {
+                all: line.len(),
+                ones,
+            });
+        }
     }
     scan_any(line, columns)
 }
 
-// Whether each byte is 0 or 1. Each is looked at, which costs less than a branch for each.
-fn is_digits_alone(line: &[u8]) -> bool
-    ensures { result ≡ list_all is_digit line.now }
-{
-    let mut alone = true;
-    for byte in line {
-        alone = alone & (*byte == b'0' || *byte == b'1');
-    }
-    alone
-}
-
-// How many bytes are a 1. Their columns stand at the front of `columns` then. Each column is written, which costs less
-// than a branch, and only a 1 keeps its entry.
-fn list_ones(line: &[u8], columns: &mut [u32]) -> usize
-    requires small { length columns.old < 2 ^ 32 }
-    requires room { length line.now ≤ length columns.old }
-    ensures columns { take result columns.new
-        ≡ columns_where (length line.now) (λ column. slice_index_or line.now (column - 1) 0 == 49) }
-    ensures within { result ≤ length columns.new }
-{
-    let mut ones = 0;
-    for j in 0..line.len() {
-        columns[ones] = j as u32 + 1;
-        ones += usize::from(line[j] == b'1');
-    }
-    ones
-}
-
-// The same, byte by byte.
+// The same, byte by byte, whatever the line is.
 fn scan_any(line: &[u8], columns: &mut [u32]) -> Option<Digits>
     requires { length columns.old < 2 ^ 32 }
     ensures foreign { IsNone result ↔ IsTrue (list_any is_foreign_byte line.now) }

@@ -4,10 +4,12 @@
 //! format has lines, the code goes over the bytes line by line and keeps no list of them.
 #![tactic(auto)]
 
+mod bit_places;
 mod cells;
 mod clone_names;
 mod clones;
 mod dense;
+mod digit_blocks;
 mod laws;
 mod passing;
 mod plain;

@@ -11,25 +11,25 @@ use Rattle.matrix_read.proofs.dense.first_width.Goals as goal
 pub returns-in-None-clause-refused : goal.returns-in-None-clause-refused
 returns-in-None-clause-refused c = first_line_refused _ _ _ _ c.in-Some.ensures.line (rw (c.in-None.ensures.foreign.0 refl) refl)
 
-pub returns-in-Some-scan-clause-refused : goal.returns-in-Some-scan-clause-refused
-returns-in-Some-scan-clause-refused c =
+pub returns-in-Some-scan_any-clause-refused : goal.returns-in-Some-scan_any-clause-refused
+returns-in-Some-scan_any-clause-refused c =
     let line : List ℕ = slice_range c.args.text.now c.in-Some.first.span.start c.in-Some.first.span.end in
-    let clean : list_any is_foreign_byte line ≡ false = never_true (list_any is_foreign_byte line) c.in-Some-scan.ensures.foreign.1 in
-    let wide = lt-ltb MAX_COLUMNS (width_of line) (omega (arith, c.in-Some-scan.ensures.width, c.if-digits.true)) in
+    let clean : list_any is_foreign_byte line ≡ false = never_true (list_any is_foreign_byte line) c.in-Some-scan_any.ensures.foreign.1 in
+    let wide = lt-ltb MAX_COLUMNS (width_of line) (omega (arith, c.in-Some-scan_any.ensures.width, c.if-digits.true)) in
     first_line_refused _ _ _ _ c.in-Some.ensures.line (rw (clean, wide) refl)
 
 pub returns-in-Some-2-clause-width : goal.returns-in-Some-2-clause-width
 returns-in-Some-2-clause-width c =
     let line : List ℕ = slice_range c.args.text.now c.in-Some.first.span.start c.in-Some.first.span.end in
-    let clean : list_any is_foreign_byte line ≡ false = never_true (list_any is_foreign_byte line) c.in-Some-scan.ensures.foreign.1 in
-    let narrow = le-ltb MAX_COLUMNS (width_of line) (omega (arith, c.in-Some-scan.ensures.width, c.if-digits.false)) in
+    let clean : list_any is_foreign_byte line ≡ false = never_true (list_any is_foreign_byte line) c.in-Some-scan_any.ensures.foreign.1 in
+    let narrow = le-ltb MAX_COLUMNS (width_of line) (omega (arith, c.in-Some-scan_any.ensures.width, c.if-digits.false)) in
     let taken : first_code line ≡ None = rw (clean, narrow) refl in
     first_line_taken _ _ _ c.in-Some.ensures.line taken
-    ∙ ap (λ width. rows_or_refusal width (filled_lines 1 (lines_of c.args.text.now))) (sym c.in-Some-scan.ensures.width)
+    ∙ ap (λ width. rows_or_refusal width (filled_lines 1 (lines_of c.args.text.now))) (sym c.in-Some-scan_any.ensures.width)
 
 pub returns-in-Some-2-clause-range : goal.returns-in-Some-2-clause-range
 returns-in-Some-2-clause-range c =
     let line : List ℕ = slice_range c.args.text.now c.in-Some.first.span.start c.in-Some.first.span.end in
-    let clean : list_any is_foreign_byte line ≡ false = never_true (list_any is_foreign_byte line) c.in-Some-scan.ensures.foreign.1 in
+    let clean : list_any is_foreign_byte line ≡ false = never_true (list_any is_foreign_byte line) c.in-Some-scan_any.ensures.foreign.1 in
     let some : 1 ≤ width_of line = some_digit line (filled_first 1 (lines_of c.args.text.now) _ _ c.in-Some.ensures.line) clean in
-    (omega (arith, c.in-Some-scan.ensures.width, some), c.if-digits.false)
+    (omega (arith, c.in-Some-scan_any.ensures.width, some), c.if-digits.false)
