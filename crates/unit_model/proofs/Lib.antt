@@ -11,3 +11,4 @@ pub mod Chains
 pub mod TextLaws
 pub mod WriteLaws
 pub mod FitLemmas
+pub mod NearCounts

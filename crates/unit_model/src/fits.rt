@@ -1,17 +1,22 @@
 // Whether left ends and a length are a unit model of a graph.
-ghost use Rattle.std.specs.Prelude.{◌≡◌, ◌≢◌, ◌↔◌, ◌+◌, ◌-◌, ◌≤◌, ◌<◌, ℕ, slice_index, IsTrue, length as count_of};
-ghost use Rattle.std.specs.List.Sorted.{IsNonDecreasing};
+ghost use Rattle.std.specs.Prelude.{◌≡◌, ◌≢◌, ◌↔◌, ◌+◌, ◌-◌, ◌≤◌, ◌<◌, ℕ, slice_index, IsTrue, IfSome, length as count_of};
+ghost use Rattle.std.specs.List.{count_by};
+ghost use Rattle.std.specs.List.Sorted.{IsNonDecreasing, IsPermutation};
+ghost use Rattle.column_order.specs.Orders.{has};
 ghost use Rattle.row_model.specs.Rows.{IsRow};
 ghost use Rattle.unit_model.specs.Models.{IsUnitModel, DifferByAtMost};
-ghost use Rattle.unit_model.specs.Fitting.{EndFitsLater, EndsAreApart};
+ghost use Rattle.unit_model.specs.Fitting.{EndFits, is_near};
 
 use graph_model::Graph;
+
+// The most left ends of which a sorted copy is made.
+const TABLE: usize = 2_048;
 
 /// Whether left ends, vertex by vertex, and a length are a unit model of the graph (Roberts, 1969).
 ///
 /// True exactly where the length is at least 1, and the left ends of two distinct vertices differ by at most the length
-/// exactly where the vertices are adjacent. It takes no memory, and time in proportion to the square of the number of
-/// vertices; where the left ends ascend, to the vertices and edges.
+/// exactly where the vertices are adjacent. It takes no memory, and with n vertices time in proportion to the edges and
+/// to n log n. Where more than 2,048 left ends don't ascend, it takes time in proportion to the square of n.
 pub fn unit_fits(g: &Graph, lefts: &[u64], length: u64) -> bool
     requires { count_of lefts.now ≡ g.now.vertices }
     ensures { IsTrue result ↔ IsUnitModel g.now length lefts.now }
@@ -19,19 +24,13 @@ pub fn unit_fits(g: &Graph, lefts: &[u64], length: u64) -> bool
     if length == 0 {
         return false;
     }
-    let ascending = is_ascending(lefts);
-    for before in 0..g.vertices() {
-        if !fits_later(
-            lefts,
-            ascending,
-            length,
-            before as usize,
-            g.neighbours(before + 1),
-        ) {
-            return false;
-        }
+    if is_ascending(lefts) {
+        return ends_fit(g, lefts, Some(lefts), length);
     }
-    true
+    if lefts.len() > TABLE {
+        return ends_fit(g, lefts, None, length);
+    }
+    ends_fit_sorted(g, lefts, length)
 }
 
 // Whether the left ends ascend, vertex by vertex.
@@ -41,60 +40,92 @@ fn is_ascending(lefts: &[u64]) -> bool
     lefts.is_sorted()
 }
 
-// Whether the left end at a place, of a vertex with these neighbours, fits that at each later place. Between two
-// neighbours one after another there are only vertices that are not adjacent.
-fn fits_later(lefts: &[u64], ascending: bool, length: u64, at: usize, neighbours: &[u32]) -> bool
-    requires ascending { IsTrue ascending → IsNonDecreasing lefts.now }
-    requires at { at < count_of lefts.now }
-    requires neighbours { IsRow (count_of lefts.now) neighbours.now }
-    ensures { IsTrue result ↔ EndFitsLater lefts.now length at neighbours.now }
+// Whether the left ends are a unit model, by a sorted copy of them.
+fn ends_fit_sorted(g: &Graph, lefts: &[u64], length: u64) -> bool
+    requires positive { 1 ≤ length }
+    requires count { count_of lefts.now ≡ g.now.vertices }
+    requires few { count_of lefts.now ≤ TABLE }
+    ensures { IsTrue result ↔ IsUnitModel g.now length lefts.now }
 {
-    let left = lefts[at];
-    let mut from = at + 1;
-    for neighbour in neighbours {
-        let to = *neighbour as usize - 1;
-        if to > at {
-            if !are_apart(lefts, ascending, length, at, from, to)
-                || !are_near(left, lefts[to], length)
-            {
-                return false;
-            }
-            from = to + 1;
+    let mut table = [0; TABLE];
+    let sorted = &mut table[..lefts.len()];
+    sorted.copy_from_slice(lefts);
+    sorted.sort_unstable();
+    ends_fit(g, lefts, Some(sorted), length)
+}
+
+// Whether the left ends are a unit model. They may come sorted besides.
+fn ends_fit(g: &Graph, lefts: &[u64], sorted: Option<&[u64]>, length: u64) -> bool
+    requires positive { 1 ≤ length }
+    requires count { count_of lefts.now ≡ g.now.vertices }
+    requires sorted { IfSome sorted (λ s. IsNonDecreasing s.now × IsPermutation lefts.now s.now) }
+    ensures { IsTrue result ↔ IsUnitModel g.now length lefts.now }
+{
+    for before in 0..g.vertices() {
+        let at = before as usize;
+        let near = near_count(lefts, sorted, lefts[at], length);
+        if !end_fits(lefts, near, length, at, g.neighbours(before + 1)) {
+            return false;
         }
     }
-    are_apart(lefts, ascending, length, at, from, lefts.len())
+    true
 }
 
-// Whether the left end at a place differs by more than the length from each of those from one later place to another.
-// Where the left ends ascend, the first of them is the nearest.
-fn are_apart(lefts: &[u64], ascending: bool, length: u64, at: usize, from: usize, to: usize) -> bool
-    requires later { at < from }
-    requires within { to ≤ count_of lefts.now }
-    requires ascending { IsTrue ascending → IsNonDecreasing lefts.now }
-    ensures { IsTrue result ↔ EndsAreApart (slice_index lefts.now at) length lefts.now from to }
+// Whether the left end at a place, of a vertex with these neighbours, fits those at all other places. So many left ends
+// are near it, and it is one of them: they fit where the neighbours' are as many as the others, and are all near.
+fn end_fits(lefts: &[u64], near: usize, length: u64, at: usize, neighbours: &[u32]) -> bool
+    requires at { at < count_of lefts.now }
+    requires near { near ≡ count_by (is_near length (slice_index lefts.now at)) lefts.now }
+    requires neighbours { IsRow (count_of lefts.now) neighbours.now }
+    requires others { IsTrue (has neighbours.now (at + 1)) → ⊥ }
+    ensures { IsTrue result ↔ EndFits lefts.now length at neighbours.now }
 {
-    if from >= to {
-        return true;
+    if near != neighbours.len() + 1 {
+        return false;
     }
-    if ascending {
-        return !are_near(lefts[at], lefts[from], length);
+    let left = lefts[at];
+    for neighbour in neighbours {
+        if !are_near(left, lefts[*neighbour as usize - 1], length) {
+            return false;
+        }
     }
-    is_alone(lefts[at], length, lefts, from, to)
+    true
 }
 
-// Whether a left end differs by more than the length from each of those from one place to another. It looks at all of
-// them, so that several are compared at once.
-fn is_alone(left: u64, length: u64, lefts: &[u64], from: usize, to: usize) -> bool
-    requires { to ≤ count_of lefts.now }
-    ensures { IsTrue result ↔ EndsAreApart left length lefts.now from to }
+// How many left ends differ from one by at most the length.
+fn near_count(lefts: &[u64], sorted: Option<&[u64]>, left: u64, length: u64) -> usize
+    requires { IfSome sorted (λ s. IsNonDecreasing s.now × IsPermutation lefts.now s.now) }
+    ensures { result ≡ count_by (is_near length left) lefts.now }
+{
+    match sorted {
+        Some(sorted) => near_among_sorted(sorted, left, length),
+        None => near_among(lefts, left, length),
+    }
+}
+
+// How many of the left ends, which ascend, differ from one by at most the length.
+fn near_among_sorted(sorted: &[u64], left: u64, length: u64) -> usize
+    requires { IsNonDecreasing sorted.now }
+    ensures { result ≡ count_by (is_near length left) sorted.now }
 {
     let least = left.saturating_sub(length);
     let most = left.saturating_add(length);
-    let mut near = false;
-    for i in from..to {
-        near |= (least <= lefts[i]) & (lefts[i] <= most);
+    let before = sorted.partition_point(|end| *end < least);
+    let to = sorted.partition_point(|end| *end <= most);
+    to - before
+}
+
+// How many of the left ends differ from one by at most the length.
+fn near_among(lefts: &[u64], left: u64, length: u64) -> usize
+    ensures { result ≡ count_by (is_near length left) lefts.now }
+{
+    let mut near = 0;
+    for end in lefts {
+        if are_near(left, *end, length) {
+            near += 1;
+        }
     }
-    !near
+    near
 }
 
 // Whether two left ends differ by at most the length.

@@ -1,6 +1,0 @@
-use Rattle.std.proofs.Common.{ℕ, ◌<◌, [], get_or}
-use Rattle.unit_model.specs.Fitting.{EndFitsLater}
-use Rattle.unit_model.proofs.fits.unit_fits.Given as goal
-
-abbrev pub invariant-loop-before : goal.invariant-loop-before
-invariant-loop-before l = (k : ℕ) → k < l.before → EndFitsLater l.lefts l.length k (get_or l.g.neighbours k [])
