@@ -1,3 +1,4 @@
 mod Orders
 mod Sums
 mod Nodes
+pub mod Growth

@@ -5,3 +5,4 @@ pub mod Codes
 pub mod Kept
 pub mod Taking
 pub mod SessionTotals
+pub mod Growing

@@ -3,10 +3,12 @@
 #![tactic(auto)]
 
 mod chosen;
+mod growing;
 mod session;
 mod solver;
 
 pub use chosen::{Answered, Chosen, answer};
+pub use growing::{begin, take_next, tree_so_far};
 pub use row_judge::Judged as Solved;
 pub use row_model::NoMemory;
 pub use session::{Session, Started, Taken};

@@ -36,7 +36,7 @@ use Rattle.full_pass.specs.Answer.{IsSettled}
 use Rattle.full_pass.specs.declared.settled.Settled.TheVariants.{Kept}
 use Rattle.row_reduce.proofs.Taking.{AtRow}
 
--- row k of a matrix over the columns of the arena, whose tree is tied to the rows before it
+-- row k of a matrix over the columns of the arena, whose tree is tied to some rows
 pub record IsRowOver (f : Layout) (c : ℕ) (rows : List (List ℕ)) (k : ℕ) (row : List ℕ) : Type 0 where
   pub layout : IsLayout f
   pub can : CanTakeRow f c rows k
@@ -52,8 +52,12 @@ row_is {rows = rows} {k = k} {row = row} s = get_or_from_slice_get rows (k - 1) 
 is_row_at : {f : Layout} {c : ℕ} {rows : List (List ℕ)} {k : ℕ} {row : List ℕ} → IsRowOver f c rows k row → IsRow c (row_at rows k)
 is_row_at {c = c} s = subst (λ z. IsRow c z) (sym (row_is s)) s.is_row
 
-pub at_row : {f : Layout} {c : ℕ} {rows : List (List ℕ)} {k : ℕ} {row : List ℕ} → IsRowOver f c rows k row → AtRow c rows k (outline_at f)
-at_row s = record { within = s.can.within; is_row = is_row_at s; proper = s.can.proper; tied = s.can.tied }
+pub at_row : {f : Layout} {c : ℕ} {rows : List (List ℕ)} {k : ℕ} {row : List ℕ} → (s : IsRowOver f c rows k row) → AtRow c s.can.before (row_at rows k) (outline_at f)
+at_row s = record { is_row = is_row_at s; proper = s.can.proper; tied = s.can.tied }
+
+-- row k is one over the columns
+pub row_ascends : (c : ℕ) (rows : List (List ℕ)) (k : ℕ) (row : List ℕ) → slice_get rows (k - 1) ≡ Some row → IsRow c row → IsRow c (row_at rows k)
+row_ascends c rows k row at is_row = subst (λ z. IsRow c z) (sym (get_or_from_slice_get rows (k - 1) row [] at)) is_row
 
 no_elements : (xs : List ℕ) → length xs ≡ 0 → xs ≡ []
 no_elements [] e = refl

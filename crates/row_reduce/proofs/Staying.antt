@@ -1,17 +1,23 @@
 -- What the reducer keeps over a row.
 use Rattle.std.proofs.Common.{◌≡◌, ℕ, ◌+◌, ◌*◌, List, length, sym, ap, subst, ◌∙◌, arith}
-use Rattle.row_model.specs.Graph.{row_at}
 use Rattle.pq_tree.specs.Proper.{universal, IsProper}
+use Rattle.template_theory.specs.Laws.{KeptLaw}
 use Rattle.template_theory.specs.Reduced.{IsReduced}
+use Rattle.template_theory.specs.Refused.{IsRefused}
 use Rattle.template_theory.specs.declared.reducer.Step.{Step}
 use Rattle.template_theory.specs.declared.reducer.Step.TheVariants.{Taken, Refused}
 use Rattle.arena_model.specs.Layout.{Layout, IsLayout}
 use Rattle.arena_model.specs.NamedTree.{IsOneTree, outline_at}
-use Rattle.row_reduce.specs.Outcome.{IsRowOutcome}
+use Rattle.row_reduce.specs.Outcome.{IsOutcome}
+use Rattle.row_reduce.proofs.Taking.{AtRow, row_kept}
 
-pub row_reduced : (c : ℕ) (rows : List (List ℕ)) (k : ℕ) (f g : Layout) (step : Step) → IsRowOutcome c rows k f g step → step ≡ Taken → IsReduced (row_at rows k) (outline_at f) (outline_at g)
-row_reduced c rows k f g Taken o e = o.reduced
-row_reduced c rows k f g Refused o e = absurd (cc)
+pub row_reduced : (row : List ℕ) (f g : Layout) (step : Step) → IsOutcome row f g step → step ≡ Taken → IsReduced row (outline_at f) (outline_at g)
+row_reduced row f g Taken o e = o.0
+row_reduced row f g Refused o e = absurd (cc)
+
+pub row_refused : (row : List ℕ) (f g : Layout) (step : Step) → IsOutcome row f g step → step ≡ Refused → IsRefused row (outline_at f) × (g ≡ f)
+row_refused row f g Taken o e = absurd (cc)
+row_refused row f g Refused o e = o
 
 -- the arena stays one proper tree over the same columns, and has as many nodes
 pub record StaysTree (f g : Layout) : Type 0 where
@@ -23,18 +29,19 @@ pub record StaysTree (f g : Layout) : Type 0 where
 same_slots : (f g : Layout) → IsLayout f → IsLayout g → g.columns ≡ f.columns → length g.slots ≡ length f.slots
 same_slots f g h hg e = let a : length f.slots ≡ 2 * f.columns + 4 = h.size in let b : length g.slots ≡ 2 * g.columns + 4 = hg.size in omega arith
 
-pub reducer_kept : (c : ℕ) (rows : List (List ℕ)) (k : ℕ) (f g : Layout) (step : Step) → IsLayout f → IsLayout g → f.columns ≡ c → IsOneTree f → IsProper f.columns (outline_at f) → IsRowOutcome c rows k f g step → StaysTree f g
-reducer_kept c rows k f g Taken h hg ec one proper o = record {
-  one = o.one;
-  proper = subst (λ n. IsProper n (outline_at g)) (sym (o.columns ∙ ec)) o.proper;
-  columns = o.columns;
-  slots = same_slots f g h hg o.columns;
+pub reducer_kept : {c : ℕ} {before : List (List ℕ)} {row : List ℕ} (f g : Layout) (step : Step) → KeptLaw → AtRow c before row (outline_at f) → IsLayout f → IsLayout g → f.columns ≡ c → IsOneTree f → IsProper f.columns (outline_at f) →
+    IsOutcome row f g step → StaysTree f g
+reducer_kept f g Taken law s h hg ec one proper o = record {
+  one = o.1;
+  proper = subst (λ n. IsProper n (outline_at g)) (sym (o.2 ∙ ec)) (row_kept law s (outline_at g) o.0).0;
+  columns = o.2;
+  slots = same_slots f g h hg o.2;
 }
-reducer_kept c rows k f g Refused h hg ec one proper o = record {
-  one = subst (λ z. IsOneTree z) (sym o.same) one;
-  proper = subst (λ z. IsProper z.columns (outline_at z)) (sym o.same) proper;
-  columns = ap (λ z. z.columns) o.same;
-  slots = ap (λ z. length z.slots) o.same;
+reducer_kept f g Refused law s h hg ec one proper o = record {
+  one = subst (λ z. IsOneTree z) (sym o.1) one;
+  proper = subst (λ z. IsProper z.columns (outline_at z)) (sym o.1) proper;
+  columns = ap (λ z. z.columns) o.1;
+  slots = ap (λ z. length z.slots) o.1;
 }
 
 pub new_proper : (f : Layout) (c : ℕ) → f.columns ≡ c → outline_at f ≡ universal c → IsProper c (universal c) → IsProper f.columns (outline_at f)

@@ -1,5 +1,5 @@
 // The reducer that keeps its tree in an arena.
-ghost use Rattle.std.specs.Prelude.{◌≡◌, true, ℕ, ◌+◌, ◌-◌, ◌*◌, ◌≤◌, List, [], length, take, IfOk, IsOk};
+ghost use Rattle.std.specs.Prelude.{◌≡◌, true, ℕ, ◌+◌, ◌-◌, ◌*◌, ◌≤◌, List, [], ◌∷◌, ◌++◌, length, take, IfOk, IsOk};
 ghost use Rattle.column_order.specs.Orders.{HasValidOrder};
 ghost use Rattle.row_model.specs.Graph.{row_at, HasConflict};
 ghost use Rattle.pq_tree.specs.Amortised.{nodes_met, nodes_met_below_root};
@@ -19,7 +19,7 @@ use row_model::{COLUMN_BOUND, Matrix, NoMemory};
 use std::alloc::Global;
 use std::marker::Model;
 use step_count::{Ledger, Steps};
-use template_theory::{Reducer, Step, ticks_law};
+use template_theory::{Reducer, Step, reduce_law, ticks_law};
 use tied_law::{equivalent_law, universal_law};
 
 /// A reducer whose tree stands in an arena. Each row is reduced in place, and looks at no more nodes than
@@ -86,18 +86,8 @@ impl ArenaReducer {
     }
 
     /// Reduces the tree by row `k` of `m`, after the rows before it. Row numbers begin at 1. This is
-    /// [`reduce`](Reducer::reduce), which never fails here.
-    ///
-    /// An empty row is taken at once: without a tick, and nothing changes.
-    ///
-    /// It ticks at most 256 times for each node that the row meets, and 256 times more. Where the row is taken, it
-    /// ticks at most 252 times for each of these nodes at or below the smallest that holds the row, 252 times more, and
-    /// four times for each column of the row.
-    ///
-    /// All rows together are linear: 256 ticks are worth one unit of the tree's weight, the number of its Q-nodes and
-    /// of the children of its P-nodes (Booth and Lueker, 1976). A row that is taken pays what it ticks beyond 1024
-    /// times for each of its columns, and 1024 times more, with weight that it takes from the tree. One that is refused
-    /// ticks no more than that and what all weight is worth.
+    /// [`reduce`](Reducer::reduce), which never fails here, and what [`reduce_after`](ArenaReducer::reduce_after) does
+    /// after these rows.
     pub fn reduce_row<L: Ledger>(&mut self, m: &Matrix, k: u32, steps: &mut Steps<L>) -> Step
         requires row { (1 ≤ k) × (k ≤ length m.now.rows) }
         requires columns { self.old.columns ≡ m.now.columns }
@@ -116,8 +106,55 @@ impl ArenaReducer {
         ensures amortised { IsFrugal (row_at m.now.rows k) (outline_at self.old) (outline_at self.new) steps.old steps.new result }
         ensures empty { row_at m.now.rows k ≡ [] → (self.new ≡ self.old) × (steps.new ≡ steps.old) }
     {
+        self.reduce_after(m, k, steps)
+    }
+
+    /// Reduces the tree, whatever rows it is tied to, by row `k` of `m`. Row numbers begin at 1. The rows to which the
+    /// tree is tied may be any, and needn't be in `m`.
+    ///
+    /// After `Taken` it is tied to them and row `k` behind them. `Refused` comes exactly where these have no valid order,
+    /// and the tree is as before then.
+    ///
+    /// An empty row is taken at once: without a tick, and nothing changes.
+    ///
+    /// It ticks at most 256 times for each node that the row meets, and 256 times more. Where the row is taken, it
+    /// ticks at most 252 times for each of these nodes at or below the smallest that holds the row, 252 times more, and
+    /// four times for each column of the row.
+    ///
+    /// All rows together are linear: 256 ticks are worth one unit of the tree's weight, the number of its Q-nodes and
+    /// of the children of its P-nodes (Booth and Lueker, 1976). A row that is taken pays what it ticks beyond 1024
+    /// times for each of its columns, and 1024 times more, with weight that it takes from the tree. One that is refused
+    /// ticks no more than that and what all weight is worth.
+    pub fn reduce_after<L: Ledger>(&mut self, m: &Matrix, k: u32, steps: &mut Steps<L>) -> Step
+        requires row { (1 ≤ k) × (k ≤ length m.now.rows) }
+        requires columns { self.old.columns ≡ m.now.columns }
+        requires tied { (rows : List (List ℕ)) × IsTied m.now.columns rows (outline_at self.old) }
+        ensures reduced { result ≡ Step.Taken → IsReduced (row_at m.now.rows k) (outline_at self.old) (outline_at self.new) }
+        ensures taken { result ≡ Step.Taken → (rows : List (List ℕ)) →
+            IsTied m.now.columns rows (outline_at self.old) →
+            IsTied m.now.columns (rows ++ row_at m.now.rows k ∷ []) (outline_at self.new) }
+        ensures order { result ≡ Step.Taken → (rows : List (List ℕ)) →
+            IsTied m.now.columns rows (outline_at self.old) →
+            HasValidOrder m.now.columns (rows ++ row_at m.now.rows k ∷ []) }
+        ensures refused { result ≡ Step.Refused → (rows : List (List ℕ)) →
+            IsTied m.now.columns rows (outline_at self.old) →
+            HasValidOrder m.now.columns (rows ++ row_at m.now.rows k ∷ []) → ⊥ }
+        ensures conflict { result ≡ Step.Refused → (rows : List (List ℕ)) →
+            IsTied m.now.columns rows (outline_at self.old) →
+            HasConflict m.now.columns (rows ++ row_at m.now.rows k ∷ []) }
+        ensures unchanged { result ≡ Step.Refused → self.new ≡ self.old }
+        ensures proper { IsProper self.new.columns (outline_at self.new) }
+        ensures columns { self.new.columns ≡ self.old.columns }
+        ensures ticks { steps.new ≤ steps.old + 256 * (nodes_met (row_at m.now.rows k) (outline_at self.old) + 1) }
+        ensures below { result ≡ Step.Taken →
+            steps.new ≤ steps.old + 4 * length (row_at m.now.rows k) + 252 * (nodes_met_below_root (row_at m.now.rows k) (outline_at self.old) + 1) }
+        ensures amortised { IsFrugal (row_at m.now.rows k) (outline_at self.old) (outline_at self.new) steps.old steps.new result }
+        ensures empty { row_at m.now.rows k ≡ [] → (self.new ≡ self.old) × (steps.new ≡ steps.old) }
+    {
         ticks_law();
+        reduce_law();
         self.arena.layout_law();
+        let _row = m.row(k);
         let step = reduce_arena(
             &mut self.arena,
             &mut self.full,

@@ -4,7 +4,7 @@ ghost use Rattle.row_model.specs.Graph.{row_at};
 ghost use Rattle.pq_tree.specs.Amortised.{nodes_met, nodes_met_below_root};
 ghost use Rattle.arena_model.specs.NamedTree.{outline_at};
 ghost use Rattle.bubble_pass.specs.Marks.{size_of};
-ghost use Rattle.row_reduce.specs.Outcome.{CanTakeRow, IsOutcome, IsRowOutcome, AtFoundRoot, AtFoundInside};
+ghost use Rattle.row_reduce.specs.Outcome.{CanTakeRow, IsOutcome, AtFoundRoot, AtFoundInside};
 
 use crate::apply::{apply_chosen, apply_one};
 use crate::decide::decide;
@@ -34,7 +34,7 @@ pub fn reduce_arena<L: Ledger>(
     requires room { size_of work.old ≡ length arena.old.slots }
     requires chosen { length chosen.old ≡ length arena.old.slots }
     requires full { full.old.size ≡ length arena.old.slots }
-    ensures outcome { IsRowOutcome m.now.columns m.now.rows k arena.old arena.new result }
+    ensures outcome { IsOutcome (row_at m.now.rows k) arena.old arena.new result }
     ensures room { size_of work.new ≡ size_of work.old }
     ensures full { full.new.size ≡ full.old.size }
     ensures ticks { steps.new ≤ steps.old + 256 * (nodes_met (row_at m.now.rows k) (outline_at arena.old) + 1) }
@@ -44,7 +44,6 @@ pub fn reduce_arena<L: Ledger>(
 {
     arena.layout_law();
     arena.arities_law();
-    reduce_law();
     met_law();
     if m.row(k).is_empty() {
         return Step::Taken;
@@ -74,7 +73,7 @@ fn reduce_by_templates<L: Ledger>(
     requires room { size_of work.old ≡ length arena.old.slots }
     requires chosen { length chosen.old ≡ length arena.old.slots }
     requires some { row_at m.now.rows k ≢ [] }
-    ensures outcome { IsRowOutcome m.now.columns m.now.rows k arena.old arena.new result }
+    ensures outcome { IsOutcome (row_at m.now.rows k) arena.old arena.new result }
     ensures room { size_of work.new ≡ size_of work.old }
     ensures ticks { steps.new ≤ steps.old + 248 * (nodes_met (row_at m.now.rows k) (outline_at arena.old) + 1) }
     ensures below { result ≡ Step.Taken →

@@ -1,22 +1,18 @@
 use Rattle.std.proofs.Common.{◌≡◌, ◌≢◌, [], length, rules}
 use Rattle.pq_arena.specs.RowNodes.{indices}
 use Rattle.row_model.specs.Graph.{row_at}
-use Rattle.template_theory.specs.declared.reducer.Step.TheVariants.{Taken}
-use Rattle.row_reduce.proofs.Taking.{row_outcome}
 use Rattle.row_reduce.proofs.GroupDone.{group_named, group_taken, group_total, group_below}
-use Rattle.row_reduce.proofs.RowDone.{row_over, some_column, few_columns, empty_taken, at_row, kept_taken, kept_total, kept_below, open_total, open_below}
+use Rattle.row_reduce.proofs.RowDone.{row_over, some_column, few_columns, empty_taken, kept_taken, kept_total, kept_below, open_total, open_below}
 use Rattle.row_reduce.proofs.rows.reduce_arena.Goals as goal
 
 pub returns-then-is_empty-clause-outcome : goal.returns-then-is_empty-clause-outcome
 returns-then-is_empty-clause-outcome g c =
     let none : length c.row.result.now ≡ 0 = search rules in
-    row_outcome c.args.arena.now c.args.arena.now Taken c.reduce_law.ensures.kept c.reduce_law.ensures.refused (at_row (row_over c.layout_law.ensures c.requires.tree c.row.ensures.row c.row.ensures.ascending))
-    (empty_taken (row_over c.layout_law.ensures c.requires.tree c.row.ensures.row c.row.ensures.ascending) none)
+    empty_taken (row_over c.layout_law.ensures c.requires.tree c.row.ensures.row c.row.ensures.ascending) none
 
 pub returns-in-Kept-clause-outcome : goal.returns-in-Kept-clause-outcome
 returns-in-Kept-clause-outcome g c =
-    row_outcome c.args.arena.now c.args.arena.now Taken c.reduce_law.ensures.kept c.reduce_law.ensures.refused (at_row (row_over c.layout_law.ensures c.requires.tree c.row.ensures.row c.row.ensures.ascending))
-    (kept_taken (row_over c.layout_law.ensures c.requires.tree c.row.ensures.row c.row.ensures.ascending) c.arities_law.ensures [] c.in-Kept.ensures.settled)
+    kept_taken (row_over c.layout_law.ensures c.requires.tree c.row.ensures.row c.row.ensures.ascending) c.arities_law.ensures [] c.in-Kept.ensures.settled
 
 pub returns-in-Kept-clause-ticks : goal.returns-in-Kept-clause-ticks
 returns-in-Kept-clause-ticks g c = kept_total c.met_law.ensures (row_over c.layout_law.ensures c.requires.tree c.row.ensures.row c.row.ensures.ascending) _ _ c.settle.ensures.steps
@@ -38,9 +34,8 @@ pub returns-in-Group-clause-outcome : goal.returns-in-Group-clause-outcome
 returns-in-Group-clause-outcome g c =
     let s = (row_over c.layout_law.ensures c.requires.tree c.row.ensures.row c.row.ensures.ascending) in
     let some : row_at c.args.m.now.rows c.args.k ≢ [] = some_column s (search rules) in
-    row_outcome c.args.arena.now c.apply_p2_to.new.arena Taken c.reduce_law.ensures.kept c.reduce_law.ensures.refused (at_row s)
-    (group_taken s c.arities_law.ensures some c.turned_law.ensures.root c.in-Group.node.index (indices c.members.result.now) (group_named c.members.ensures c.in-Group.ensures.settled)
-    c.apply_p2_to.new.arena c.layout_law-in-Group.ensures c.apply_p2_to.ensures.replaced c.apply_p2_to.ensures.becomes)
+    group_taken s c.arities_law.ensures some c.turned_law.ensures.root c.in-Group.node.index (indices c.members.result.now) (group_named c.members.ensures c.in-Group.ensures.settled)
+    c.apply_p2_to.new.arena c.layout_law-in-Group.ensures c.apply_p2_to.ensures.replaced c.apply_p2_to.ensures.becomes
 
 pub returns-in-Group-clause-ticks : goal.returns-in-Group-clause-ticks
 returns-in-Group-clause-ticks g c =

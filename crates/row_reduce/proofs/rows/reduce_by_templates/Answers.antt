@@ -1,9 +1,8 @@
 use Rattle.std.proofs.Common.{refl, subst, ◌∙◌, arith}
 use Rattle.arena_model.specs.Layout.{Layout}
 use Rattle.row_model.specs.Graph.{row_at}
-use Rattle.template_theory.specs.declared.reducer.Step.TheVariants.{Refused}
 use Rattle.row_reduce.specs.Outcome.{IsOutcome}
-use Rattle.row_reduce.proofs.Taking.{split_refused, row_outcome}
+use Rattle.row_reduce.proofs.Taking.{split_refused}
 use Rattle.row_reduce.proofs.Finding.{at_found_root, at_found_inside}
 use Rattle.row_reduce.proofs.RowDone.{row_over, marked_row, nodes_room, at_row, met_most, root_found, inside_found, root_total, inside_total, root_below, inside_below}
 use Rattle.row_reduce.proofs.rows.reduce_by_templates.Goals as goal
@@ -29,9 +28,8 @@ reduce_inside-requires-clause-chosen g c =
 pub returns-in-Root-clause-outcome : goal.returns-in-Root-clause-outcome
 returns-in-Root-clause-outcome g c =
     let row = row_at c.args.m.now.rows c.args.k in
-    row_outcome c.args.arena.now c.reduce_root.new.arena c.reduce_root.result c.reduce_law.ensures.kept c.reduce_law.ensures.refused (at_row (row_over c.layout_law.ensures c.requires.tree c.row-row.ensures.row c.row-row.ensures.ascending))
-    (subst (λ (z : Layout). IsOutcome row z c.reduce_root.new.arena c.reduce_root.result) c.bubble.ensures.arena
-    (c.reduce_root.ensures.outcome row (root_found _ (marked_row (row_over c.layout_law.ensures c.requires.tree c.row-row.ensures.row c.row-row.ensures.ascending) c.bubble.new.work c.arities_law.ensures c.requires.some (c.bubble.ensures.room ∙ c.requires.room)) c.bubble.ensures.arena _ c.in-Root.ensures.answer)))
+    subst (λ (z : Layout). IsOutcome row z c.reduce_root.new.arena c.reduce_root.result) c.bubble.ensures.arena
+    (c.reduce_root.ensures.outcome row (root_found _ (marked_row (row_over c.layout_law.ensures c.requires.tree c.row-row.ensures.row c.row-row.ensures.ascending) c.bubble.new.work c.arities_law.ensures c.requires.some (c.bubble.ensures.room ∙ c.requires.room)) c.bubble.ensures.arena _ c.in-Root.ensures.answer))
 
 pub returns-in-Root-clause-ticks : goal.returns-in-Root-clause-ticks
 returns-in-Root-clause-ticks g c =
@@ -40,9 +38,8 @@ returns-in-Root-clause-ticks g c =
 pub returns-in-Inside-clause-outcome : goal.returns-in-Inside-clause-outcome
 returns-in-Inside-clause-outcome g c =
     let row = row_at c.args.m.now.rows c.args.k in
-    row_outcome c.args.arena.now c.reduce_inside.new.arena c.reduce_inside.result c.reduce_law.ensures.kept c.reduce_law.ensures.refused (at_row (row_over c.layout_law.ensures c.requires.tree c.row-row.ensures.row c.row-row.ensures.ascending))
-    (subst (λ (z : Layout). IsOutcome row z c.reduce_inside.new.arena c.reduce_inside.result) c.bubble.ensures.arena
-    (c.reduce_inside.ensures.outcome row (inside_found _ (marked_row (row_over c.layout_law.ensures c.requires.tree c.row-row.ensures.row c.row-row.ensures.ascending) c.bubble.new.work c.arities_law.ensures c.requires.some (c.bubble.ensures.room ∙ c.requires.room)) c.bubble.ensures.arena c.in-Inside.ensures.answer)))
+    subst (λ (z : Layout). IsOutcome row z c.reduce_inside.new.arena c.reduce_inside.result) c.bubble.ensures.arena
+    (c.reduce_inside.ensures.outcome row (inside_found _ (marked_row (row_over c.layout_law.ensures c.requires.tree c.row-row.ensures.row c.row-row.ensures.ascending) c.bubble.new.work c.arities_law.ensures c.requires.some (c.bubble.ensures.room ∙ c.requires.room)) c.bubble.ensures.arena c.in-Inside.ensures.answer))
 
 pub returns-in-Inside-clause-ticks : goal.returns-in-Inside-clause-ticks
 returns-in-Inside-clause-ticks g c =
@@ -50,8 +47,7 @@ returns-in-Inside-clause-ticks g c =
     (let t = c.reduce_inside.ensures.ticks in omega (arith, t))
 
 pub returns-in-Split-clause-outcome : goal.returns-in-Split-clause-outcome
-returns-in-Split-clause-outcome g c = row_outcome c.args.arena.now c.bubble.new.arena Refused c.reduce_law.ensures.kept c.reduce_law.ensures.refused (at_row (row_over c.layout_law.ensures c.requires.tree c.row-row.ensures.row c.row-row.ensures.ascending))
-    (split_refused c.reduce_law.ensures.kept c.reduce_law.ensures.decided (at_row (row_over c.layout_law.ensures c.requires.tree c.row-row.ensures.row c.row-row.ensures.ascending)) (c.in-Split.ensures.split refl), c.bubble.ensures.arena)
+returns-in-Split-clause-outcome g c = (split_refused c.reduce_law.ensures.kept c.reduce_law.ensures.decided (at_row (row_over c.layout_law.ensures c.requires.tree c.row-row.ensures.row c.row-row.ensures.ascending)) (c.in-Split.ensures.split refl), c.bubble.ensures.arena)
 
 pub returns-in-Root-clause-below : goal.returns-in-Root-clause-below
 returns-in-Root-clause-below g c = λ e.
