@@ -6,3 +6,4 @@ pub mod Lists
 pub mod Cores
 pub mod Counted
 pub mod Drawn
+pub mod Grown

@@ -4,6 +4,7 @@ pub mod Taking
 pub mod Lists
 pub mod Cores
 pub mod Generated
+pub mod Drawing
 pub mod Summaries
 pub mod Steps
 pub mod Charges

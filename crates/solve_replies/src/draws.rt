@@ -1,10 +1,11 @@
 // Matrices that are drawn from a number.
-ghost use Rattle.std.specs.Prelude.{◌≡◌, ◌+◌, ◌-◌, ◌*◌, ◌<◌, ◌≤◌, length, take, IfOk, OnOk};
+ghost use Rattle.std.specs.Prelude.{◌≡◌, ◌+◌, ◌-◌, ◌*◌, ◌<◌, ◌≤◌, [], ◌∷◌, ◌++◌, length, take, IfOk, OnOk, OnErr};
 ghost use Rattle.column_order.specs.Orders.{IsOrder};
 ghost use Rattle.solve_replies.specs.Generated.{next_state, drawn, shuffled, hidden, run_at, generated, GeneratedLaw};
+ghost use Rattle.solve_replies.specs.Drawing.{CanDraw, drawn_row};
 
 use crate::NoMemory;
-use row_model::{MAX_COLUMNS, MAX_ROWS, Matrix, positions};
+use row_model::{MAX_COLUMNS, MAX_ROWS, Matrix, ROW_BOUND, positions};
 use std::alloc::Global;
 
 // The linear congruential generator of Knuth's MMIX, of whose 64 bits the upper 31 are drawn.
@@ -28,6 +29,60 @@ impl Draws {
     }
 }
 
+// The rows that a number draws, one after another.
+#[derive(Drop)]
+pub struct DrawnRows {
+    // What draws the ends of the next run.
+    draws: Draws,
+    // The hidden order, of which each row is a run.
+    order: Vec<u32>,
+    // The position of each column in it.
+    positions: Vec<u32>,
+    // Room for a row.
+    row: Vec<u32>,
+}
+
+impl DrawnRows {
+    // The rows of this number over so many columns, of which none is drawn yet.
+    pub fn new(alloc: Global, seed: u64, columns: u32) -> Result<DrawnRows, NoMemory>
+        requires { (1 ≤ columns) × (columns ≤ MAX_COLUMNS) }
+        ensures ready { IfOk result (λ r. CanDraw columns r.order.items r.positions.items r.row.items) }
+        ensures hidden { IfOk result (λ r. record { order = r.order.items; state = r.draws.state } ≡ hidden seed columns) }
+    {
+        let mut draws = Draws { state: seed };
+        let order = shuffled_order(alloc, columns, &mut draws)?;
+        let positions = positions(alloc, &order)?;
+        let row = vec![in alloc; 0; columns as usize]?;
+        Ok(DrawnRows {
+            draws,
+            order,
+            positions,
+            row,
+        })
+    }
+
+    // Draws the next row, behind the rows of the matrix.
+    pub fn push_next(&mut self, m: &mut Matrix) -> Result<(), NoMemory>
+        requires few { m.old.columns ≤ MAX_COLUMNS }
+        requires room { length m.old.rows < ROW_BOUND }
+        requires ready { CanDraw m.old.columns self.old.order.items self.old.positions.items self.old.row.items }
+        ensures ready { CanDraw m.old.columns self.new.order.items self.new.positions.items self.new.row.items }
+        ensures order { self.new.order.items ≡ self.old.order.items }
+        ensures state { self.new.draws.state ≡ next_state (next_state self.old.draws.state) }
+        ensures ok { OnOk result (m.new ≡ record {
+          columns = m.old.columns;
+          rows = m.old.rows ++ drawn_row self.old.order.items self.old.draws.state ∷ [];
+        }) }
+        ensures err { OnErr result (m.new ≡ m.old) }
+    {
+        let columns = m.columns();
+        let p = self.draws.below(columns);
+        let q = self.draws.below(columns);
+        let count = list_run(&mut self.row, &self.positions, p.min(q) + 1, p.max(q) + 1);
+        m.push_row(&self.row[..count])
+    }
+}
+
 /// The matrix that a number draws: each row is a run of a hidden order of the columns, so that there is a valid order.
 ///
 /// The order and the runs are drawn by the linear congruential generator of Knuth's MMIX (Knuth, 1997), and the same
@@ -41,16 +96,10 @@ pub fn generate(alloc: Global, seed: u64, columns: u32, rows: u32) -> Result<Mat
     requires rows { rows ≤ MAX_ROWS }
     ensures { IfOk result (λ m. m ≡ generated seed columns rows) }
 {
-    let mut draws = Draws { state: seed };
-    let order = shuffled_order(alloc, columns, &mut draws)?;
-    let positions = positions(alloc, &order)?;
+    let mut drawn = DrawnRows::new(alloc, seed, columns)?;
     let mut matrix = Matrix::new(alloc, columns)?;
-    let mut row = vec![in alloc; 0; columns as usize]?;
     for _k in 0..rows {
-        let p = draws.below(columns);
-        let q = draws.below(columns);
-        let count = list_run(&mut row, &positions, p.min(q) + 1, p.max(q) + 1);
-        matrix.push_row(&row[..count])?;
+        drawn.push_next(&mut matrix)?;
     }
     Ok(matrix)
 }

@@ -1,14 +1,17 @@
 // A drawn matrix, summed up.
-ghost use Rattle.std.specs.Prelude.{◌≡◌, ◌≤◌, IfOk};
+ghost use Rattle.std.specs.Prelude.{◌≡◌, ◌≤◌, length, sum_by, IfOk};
+ghost use Rattle.c1p_solve.specs.Answers.{HasAllOrders};
 ghost use Rattle.row_model.specs.declared.TheConstants.{MAX_COLUMNS, MAX_ROWS};
 ghost use Rattle.solve_replies.specs.Generated.{generated};
 ghost use Rattle.solve_replies.specs.Summaries.{IsSummary};
 ghost use Rattle.solve_replies.specs.Steps.{made_status, SolvesMatrixWithin};
 
-use crate::draws::generate;
+use crate::NoMemory;
+use crate::draws::DrawnRows;
 use crate::nodes::{Nodes, count_nodes};
-use crate::{NoMemory, solve_matrix};
-use c1p_solve::Solved;
+use c1p_solve::{Taken, begin, take_next, tree_so_far};
+use pq_tree::PqTree;
+use row_model::Matrix;
 use std::alloc::Global;
 use step_count::{Ledger, Steps};
 use verdict_replies::Reply;
@@ -50,16 +53,51 @@ fn summary<L: Ledger>(
     ensures steps { SolvesMatrixWithin (generated seed columns rows) (made_status (λ text. 0) result)
         steps.old steps.new }
 {
-    let matrix = generate(alloc, seed, columns, rows)?;
-    let Solved::Yes(tree) = solve_matrix(alloc, &matrix, steps)? else {
-        unreachable!()
-    };
+    let grown = grow(alloc, seed, columns, rows, steps)?;
     let mut nodes = Nodes { p: 0, q: 0 };
-    count_nodes(tree.root(), &mut nodes);
-    let ones = matrix.ones();
+    count_nodes(grown.tree.root(), &mut nodes);
+    let ones = grown.ones;
     let text = format!(in alloc;
         "pq-gen 1\ncolumns {columns}\nrows {rows}\nones {ones}\nanswer yes\np {}\nq {}\nend\n",
         nodes.p, nodes.q
     )?;
     Ok(text.into_bytes())
+}
+
+// The tree of all valid orders of a drawn matrix, and how many ones it has.
+#[derive(Drop)]
+struct Grown {
+    tree: PqTree,
+    ones: u64,
+}
+
+// The tree and the ones of the matrix that a number draws. Each row is taken as soon as it is drawn, and not kept.
+fn grow<L: Ledger>(
+    alloc: Global,
+    seed: u64,
+    columns: u32,
+    rows: u32,
+    steps: &mut Steps<L>,
+) -> Result<Grown, NoMemory>
+    requires columns { (1 ≤ columns) × (columns ≤ MAX_COLUMNS) }
+    requires rows { rows ≤ MAX_ROWS }
+    ensures tree { IfOk result (λ grown. HasAllOrders (generated seed columns rows) grown.tree) }
+    ensures ones { IfOk result (λ grown. grown.ones ≡ sum_by length (generated seed columns rows).rows) }
+    ensures steps { SolvesMatrixWithin (generated seed columns rows) (made_status (λ grown. 0) result)
+        steps.old steps.new }
+{
+    let mut drawn = DrawnRows::new(alloc, seed, columns)?;
+    let mut reducer = begin(alloc, columns)?;
+    let mut row = Matrix::new(alloc, columns)?;
+    let mut ones = 0;
+    for _k in 0..rows {
+        drawn.push_next(&mut row)?;
+        ones += row.ones();
+        let Taken::Ok = take_next(&mut reducer, &row, steps) else {
+            unreachable!()
+        };
+        row.pop_row();
+    }
+    let tree = tree_so_far(alloc, &reducer)?;
+    Ok(Grown { tree, ones })
 }
