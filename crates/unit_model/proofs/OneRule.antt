@@ -1,5 +1,5 @@
 -- An umbrella order gives one list of left ends.
-use Rattle.std.proofs.Common.{◌≡◌, ◌≢◌, ◌∙◌, ◌⊎◌, inl, inr, ℕ, zero, suc, ◌+◌, ◌-◌, ◌*◌, ◌<◌, ◌≤◌, List, [], ◌∷◌, length, get_or, IsTrue, false, refl, sym, ap, subst, arith}
+use Rattle.std.proofs.Common.{◌≡◌, ◌∙◌, ◌⊎◌, inl, inr, ℕ, zero, suc, ◌+◌, ◌-◌, ◌*◌, ◌<◌, List, [], ◌∷◌, get_or, IsTrue, refl, sym, ap, subst, arith}
 use Rattle.std.proofs.lemmas.Bool.{cases_eq, cases_lt, false≢true}
 use Rattle.std.proofs.lemmas.List.{same_lists, get_or_default}
 use Rattle.column_order.specs.Orders.{has, place}
@@ -10,7 +10,7 @@ use Rattle.proper_interval.specs.Models.{IsVertex}
 use Rattle.proper_interval.specs.Umbrellas.{IsUmbrellaOrder}
 use Rattle.unit_model.specs.Models.{at_vertex}
 use Rattle.unit_model.specs.Walks.{Walks, IsDistance, IsFirstOf}
-use Rattle.unit_model.specs.Rule.{put_before, IsNext, IsFirstNeighbour, IsGrown, begun, put, IsListOf, HasLayers, AreNextFirst, IsBase, base_first, base_next, IsLeftEnd, AreLeftEnds}
+use Rattle.unit_model.specs.Rule.{put_before, IsNext, IsFirstNeighbour, IsGrown, begun, put, IsListOf, HasLayers, AreNextFirst, IsBase, base_first, base_next, IsLeftEnd}
 use Rattle.unit_model.specs.Laws.{OneRuleLaw}
 use Rattle.unit_model.proofs.WalkLemmas.{one_first, one_distance}
 
