@@ -1,159 +1,122 @@
--- A matrix in lines of digits has no more columns, rows and ones than there are bytes.
-use Rattle.std.proofs.Common.{◌≡◌, ℕ, ◌+◌, ◌≤◌, Bool, true, false, if◌then◌else◌, ◌==◌, ◌&&◌, nat_lt, List, [], ◌∷◌, length, map, sum_by, Option, Some, None, refl, sym, ap, subst, arith}
-use Rattle.std.specs.Prelude.{⊤, slice_index_or, ◌-◌}
-use Rattle.std.specs.List.{filter, onto_first, range_with_len}
-use Rattle.std.proofs.lemmas.Bool.{false≢true}
+-- A matrix in lines of digits has no more columns, rows and ones than there are bytes, also where it is cut.
+use Rattle.std.proofs.Common.{◌≡◌, ℕ, ◌+◌, ◌-◌, ◌*◌, ◌≤◌, Bool, true, false, if◌then◌else◌, ◌==◌, ◌||◌, not, nat_lt, nat_le, List, [], ◌∷◌, length, sum_by, Option, Some, None, is_some, refl, ap, arith, true≢false}
+use Rattle.std.specs.Prelude.{slice_index_or}
+use Rattle.std.specs.List.{filter, range_with_len, list_any}
+use Rattle.std.proofs.lemmas.Bool.{eqb-true}
+use Rattle.std.proofs.lemmas.List.{length-map}
 use Rattle.std.proofs.lemmas.List.FromFn.{length-range_with_len}
-use Rattle.std.proofs.lemmas.List.Sums.{sum_by-cons}
+use Rattle.std.proofs.lemmas.List.Sums.{sum_by-cons, length-filter, count_by-le-length}
+use Rattle.column_order.specs.Orders.{has}
 use Rattle.row_model.specs.Rows.{RowList, columns_where}
+use Rattle.row_model.specs.declared.TheConstants.{MAX_COLUMNS, MAX_ROWS}
+use Rattle.row_model.specs.declared.code.TheConstants.{GRAMMAR, COUNT, LIMIT}
 use Rattle.row_model.specs.declared.refusal.Refusal.{Refusal}
-use Rattle.row_model.specs.declared.refusal.Read.{Read}
-use Rattle.row_model.specs.declared.refusal.Read.TheVariants as read
-use Rattle.row_model.specs.declared.TheConstants.{MAX_FILE_BYTES}
-use Rattle.std.specs.Str.Lines.{strip_carriage_return}
-use Rattle.text_lines.proofs.LineLemmas.{strip_is, length-without_return-le}
-use Rattle.text_lines.specs.Lines.{without_mark, line_parts, lines_of, is_blank, NumberedLine, filled_lines}
-use Rattle.text_lines.specs.Rows.{refused_or}
-use Rattle.matrix_read.specs.Dense.{is_digit, digits_of, width_of, digit_row, digit_matrix, dense, dense_lines}
+use Rattle.text_lines.specs.FirstRefusal.{filled_of}
+use Rattle.text_lines.specs.Lines.{is_blank_byte, NumberedLine}
+use Rattle.text_lines.specs.Rows.{refusal_or, first_refusal}
+use Rattle.circular_ones.specs.Circular.{complement, cut_row, cut_rows, cut}
+use Rattle.matrix_read.specs.Dense.{is_digit, digits_of, width_of, digit_row, digits_code, digit_matrix, dense, dense_lines}
 use Rattle.matrix_read.specs.DenseSteps.{digit_rows}
-use Rattle.file_steps.specs.Sizes.{IsWithinBytes}
+use Rattle.command_input.specs.Instances.{IfRead}
+use Rattle.file_steps.proofs.Found.{within_read, refused_read}
+use Rattle.file_steps.proofs.Lines.{line_room, filled_short, filled_all, filled_two}
 
--- a text without its mark is no longer
-mark_short : (t : Bool) (a b c : ℕ) (bytes : List ℕ) → length (if t then bytes else a ∷ b ∷ c ∷ bytes) ≤ length (a ∷ b ∷ c ∷ bytes)
-mark_short true a b c bytes = omega arith
-mark_short false a b c bytes = omega arith
+-- no more columns, rows and ones than so many
+pub record AreFew (n : ℕ) (m : RowList) : Type 0 where
+  pub columns : m.columns ≤ n
+  pub rows : length m.rows ≤ n
+  pub ones : sum_by length m.rows ≤ n
 
-unmarked_short : (bytes : List ℕ) → length (without_mark bytes) ≤ length bytes
-unmarked_short [] = omega arith
-unmarked_short (a ∷ []) = omega arith
-unmarked_short (a ∷ b ∷ []) = omega arith
-unmarked_short (a ∷ b ∷ c ∷ bytes) = mark_short ((a == 239) && (b == 187) && (c == 191)) a b c bytes
+pub filter_short : {A : Type 0} (p : A → Bool) (xs : List A) → length (filter p xs) ≤ length xs
+filter_short p xs = omega (arith, length-filter p xs, count_by-le-length p xs)
 
--- the parts of a text have no more bytes together
-before_short : (b : ℕ) (lines : List (List ℕ)) → sum_by length (onto_first b lines) ≤ sum_by length lines + 1
-before_short b [] = omega (arith, sum_by-cons length (b ∷ []) [])
-before_short b (line ∷ lines) = omega (arith, sum_by-cons length (b ∷ line) lines, sum_by-cons length line lines)
-
-part_short : (t : Bool) (b : ℕ) (lines : List (List ℕ)) → sum_by length (if t then [] ∷ lines else onto_first b lines) ≤ sum_by length lines + 1
-part_short true b lines = omega (arith, sum_by-cons length [] lines)
-part_short false b lines = before_short b lines
-
-parts_short : (bytes : List ℕ) → sum_by length (line_parts bytes) ≤ length bytes
-unfolding line_parts
-parts_short [] = omega arith
-parts_short (b ∷ bytes) = omega (arith, part_short (b == 10) b (line_parts bytes), parts_short bytes)
-
--- nor have they without their carriage returns
-returned_short : (line : List ℕ) → length (strip_carriage_return line) ≤ length line
-returned_short line = omega (arith, ap length (strip_is line), length-without_return-le line)
-
-lines_short : (lines : List (List ℕ)) → sum_by length (map strip_carriage_return lines) ≤ sum_by length lines
-lines_short [] = omega arith
-lines_short (line ∷ lines) = omega (arith, sum_by-cons length (strip_carriage_return line) (map strip_carriage_return lines), sum_by-cons length line lines, returned_short line, lines_short lines)
-
--- a filter leaves no more
-filter_step : {A : Type 0} (t : Bool) (x : A) (rest : List A) → length (if t then x ∷ rest else rest) ≤ 1 + length rest
-filter_step true x rest = omega arith
-filter_step false x rest = omega arith
-
-filter_short : {A : Type 0} (p : A → Bool) (xs : List A) → length (filter p xs) ≤ length xs
-filter_short p [] = omega arith
-filter_short p (x ∷ xs) = omega (arith, filter_step (p x) x (filter p xs), filter_short p xs)
-
-where_short : (c : ℕ) (p : ℕ → Bool) → length (columns_where c p) ≤ c
+pub where_short : (c : ℕ) (p : ℕ → Bool) → length (columns_where c p) ≤ c
 where_short c p = omega (arith, filter_short p (range_with_len 1 c), length-range_with_len 1 c)
 
-row_short : (line : List ℕ) → length (digit_row line) ≤ length line
-row_short line =
-    let wide : length (digit_row line) ≤ width_of line = where_short (width_of line) (λ column. slice_index_or (digits_of line) (column - 1) 0 == 49) in
-    omega (arith, wide, filter_short is_digit line)
+width_short : (line : List ℕ) → width_of line ≤ length line
+width_short line = filter_short is_digit line
 
--- the bytes of the lines that are not blank
-text_len : NumberedLine → ℕ
-text_len line = length line.text
+digits_short : (line : List ℕ) → length (digit_row line) ≤ width_of line
+digits_short line = where_short (width_of line) (λ column. slice_index_or (digits_of line) (column - 1) 0 == 49)
 
-text_step : (t : Bool) (n : ℕ) (line : List ℕ) (rest : List NumberedLine) → sum_by text_len (if t then rest else record { number = n; text = line } ∷ rest) ≤ length line + sum_by text_len rest
-unfolding text_len
-text_step true n line rest = omega arith
-text_step false n line rest = omega (arith, sum_by-cons text_len (record { number = n; text = line }) rest)
+-- no line is refused, so each has the width of all
+pub some_none : {A : Type 0} (a : A) → Some a ≡ None → ⊥
+some_none a e = true≢false (ap is_some e)
 
-texts_short : (n : ℕ) (lines : List (List ℕ)) → sum_by text_len (filled_lines n lines) ≤ sum_by length lines
-unfolding filled_lines
-texts_short n [] = omega arith
-texts_short n (line ∷ lines) = omega (arith, text_step (is_blank line) n line (filled_lines (n + 1) lines), texts_short (n + 1) lines, sum_by-cons length line lines)
+pub refused_none : (code : Option ℕ) (number : ℕ) (rest : Option Refusal) → refusal_or code number rest ≡ None → (code ≡ None) × (rest ≡ None)
+refused_none (Some code) number rest e = absurd (some_none (record { code = code; line = number }) e)
+refused_none None number rest e = (refl, e)
 
--- there are no more such lines than bytes
-some_byte : (line : List ℕ) → is_blank line ≡ false → 1 ≤ length line
-some_byte [] e = absurd (false≢true (sym e))
-some_byte (b ∷ line) e = omega arith
+code_none : (past foreign same wide : Bool) → (if past then Some LIMIT else if foreign then Some GRAMMAR else if not same then Some COUNT else if wide then Some LIMIT else None) ≡ None → same ≡ true
+code_none true foreign same wide e = absurd (some_none LIMIT e)
+code_none false true same wide e = absurd (some_none GRAMMAR e)
+code_none false false true wide e = refl
+code_none false false false wide e = absurd (some_none COUNT e)
 
-count_step : (t : Bool) (n : ℕ) (line : List ℕ) (rest : List NumberedLine) → is_blank line ≡ t → length (if t then rest else record { number = n; text = line } ∷ rest) ≤ length line + length rest
-count_step true n line rest e = omega arith
-count_step false n line rest e = omega (arith, some_byte line e)
+same_width : (width before : ℕ) (line : List ℕ) → digits_code width before line ≡ None → width_of line ≡ width
+same_width width before line e =
+    eqb-true (width_of line) width
+    (code_none (nat_le MAX_ROWS before) (list_any (λ b. not (is_digit b || is_blank_byte b)) line) (width_of line == width) (nat_lt MAX_COLUMNS width) e)
 
-few_lines : (n : ℕ) (lines : List (List ℕ)) → length (filled_lines n lines) ≤ sum_by length lines
-unfolding filled_lines
-few_lines n [] = omega arith
-few_lines n (line ∷ lines) = omega (arith, count_step (is_blank line) n line (filled_lines (n + 1) lines) refl, few_lines (n + 1) lines, sum_by-cons length line lines)
+-- the rows of lines, and one for each
+digit_room : (lines : List NumberedLine) → sum_by length (digit_rows lines) + length lines ≤ sum_by line_room lines
+digit_room [] = omega arith
+digit_room (line ∷ lines) =
+    omega (arith, sum_by-cons length (digit_row line.text) (digit_rows lines), sum_by-cons line_room line lines, digits_short line.text, width_short line.text, digit_room lines)
 
--- their rows
-rows_short : (lines : List NumberedLine) → sum_by length (digit_rows lines) ≤ sum_by text_len lines
-unfolding text_len
-rows_short [] = omega arith
-rows_short (line ∷ lines) = omega (arith, sum_by-cons length (digit_row line.text) (digit_rows lines), sum_by-cons text_len line lines, row_short line.text, rows_short lines)
+cut_short : (t : Bool) (c : ℕ) (row : List ℕ) → length row ≤ c → length (if t then complement c row else row) ≤ c
+cut_short true c row h = where_short c (λ column. not (has row column))
+cut_short false c row h = h
+
+cut_room : (width before : ℕ) (lines : List NumberedLine) → first_refusal (digits_code width) before lines ≡ None →
+    sum_by length (cut_rows width (digit_rows lines)) + length lines ≤ sum_by line_room lines
+unfolding first_refusal
+cut_room width before [] e = omega arith
+cut_room width before (line ∷ lines) e =
+    let none = refused_none (digits_code width before line.text) line.number (first_refusal (digits_code width) (before + 1) lines) e in
+    let same : width_of line.text ≡ width = same_width width before line.text none.0 in
+    let row : length (cut_row width (digit_row line.text)) ≤ width = cut_short (has (digit_row line.text) 1) width (digit_row line.text) (omega (arith, digits_short line.text, same)) in
+    omega (
+      arith,
+      sum_by-cons length (cut_row width (digit_row line.text)) (cut_rows width (digit_rows lines)),
+      sum_by-cons line_room line lines,
+      row,
+      same,
+      width_short line.text,
+      cut_room width (before + 1) lines none.1,
+    )
 
 rows_count : (lines : List NumberedLine) → length (digit_rows lines) ≡ length lines
-rows_count [] = refl
-rows_count (line ∷ lines) = omega (arith, rows_count lines)
+rows_count lines = length-map lines (λ line. digit_row line.text)
 
--- a value that was read
-IsRefusal : Read RowList → Type 0
-IsRefusal (read.Ok value) = ⊥
-IsRefusal (read.Refused refusal) = ⊤
+-- the matrix, and the same cut
+abbrev pub AreBothFew : ℕ → RowList → Type 0
+AreBothFew n m = AreFew n m × AreFew n (cut m)
 
-value_else : RowList → Read RowList → RowList
-value_else d (read.Ok value) = value
-value_else d (read.Refused refusal) = d
+few_digits : (first : NumberedLine) (lines : List NumberedLine) (n : ℕ) → sum_by line_room (first ∷ lines) ≤ n + 1 → 2 * length (first ∷ lines) ≤ n + 1 →
+    first_refusal (digits_code (width_of first.text)) 0 (first ∷ lines) ≡ None → AreBothFew n (digit_matrix (width_of first.text) (first ∷ lines))
+few_digits first lines n room two none =
+    let wide : width_of first.text ≤ n = omega (arith, room, sum_by-cons line_room first lines, width_short first.text) in
+    let many : length (first ∷ lines) ≤ n = omega (arith, two) in (
+      record {
+        columns = wide;
+        rows = omega (arith, many, rows_count (first ∷ lines));
+        ones = omega (arith, room, digit_room (first ∷ lines));
+      },
+      record {
+        columns = wide;
+        rows = omega (arith, many, length-map (digit_rows (first ∷ lines)) (cut_row (width_of first.text)), rows_count (first ∷ lines));
+        ones = omega (arith, room, cut_room (width_of first.text) 0 (first ∷ lines) none);
+      },
+    )
 
-not_refused : (r : Refusal) (m : RowList) → read.Refused r ≡ read.Ok m → ⊥
-unfolding IsRefusal
-not_refused r m e = subst IsRefusal e tt
+lines_few : (lines : List NumberedLine) (n : ℕ) → sum_by line_room lines ≤ n + 1 → 2 * length lines ≤ n + 1 → IfRead (dense_lines lines) (AreBothFew n)
+lines_few [] n room two = tt
+lines_few (first ∷ lines) n room two =
+    refused_read (AreBothFew n) (first_refusal (digits_code (width_of first.text)) 0 (first ∷ lines)) (digit_matrix (width_of first.text) (first ∷ lines)) (few_digits first lines n room two)
 
-if_inside : (t : Bool) (refusal : Refusal) (r : Read RowList) (m : RowList) → (if t then read.Refused refusal else r) ≡ read.Ok m → r ≡ read.Ok m
-if_inside true refusal r m e = absurd (not_refused refusal m e)
-if_inside false refusal r m e = e
-
-if_taken : (o : Option Refusal) (v m : RowList) → refused_or o v ≡ read.Ok m → v ≡ m
-unfolding value_else
-if_taken (Some refusal) v m e = absurd (not_refused refusal m e)
-if_taken None v m e = ap (value_else v) e
-
-record IsWithinLines (lines : List NumberedLine) (m : RowList) : Type 0 where
-  columns : m.columns ≤ sum_by text_len lines
-  rows : length m.rows ≤ length lines
-  ones : sum_by length m.rows ≤ sum_by text_len lines
-
-first_row : (first : NumberedLine) (lines : List NumberedLine) → IsWithinLines (first ∷ lines) (digit_matrix (width_of first.text) (first ∷ lines))
-unfolding text_len
-first_row first lines = record {
-  columns = omega (arith, filter_short is_digit first.text, sum_by-cons text_len first lines);
-  rows = omega (arith, rows_count (first ∷ lines));
-  ones = rows_short (first ∷ lines);
-}
-
-lines_read : (lines : List NumberedLine) (m : RowList) → dense_lines lines ≡ read.Ok m → IsWithinLines lines m
-lines_read [] m e = absurd (not_refused _ m e)
-lines_read (first ∷ lines) m e = subst (IsWithinLines (first ∷ lines)) (if_taken _ (digit_matrix (width_of first.text) (first ∷ lines)) m e) (first_row first lines)
-
-pub dense_sizes : (bytes : List ℕ) (m : RowList) → dense bytes ≡ read.Ok m → IsWithinBytes bytes m
+pub dense_few : (bytes : List ℕ) → IfRead (dense bytes) (AreBothFew (length bytes))
 unfolding dense
-dense_sizes bytes m e =
-    let text = without_mark bytes in
-    let lines = filled_lines 1 (lines_of text) in
-    let made = lines_read lines m (if_inside (nat_lt MAX_FILE_BYTES (length bytes)) _ (dense_lines lines) m e) in
-    let all : sum_by length (lines_of text) ≤ length bytes = omega (arith, lines_short (line_parts text), parts_short text, unmarked_short bytes) in
-    record {
-      columns = omega (arith, made.columns, texts_short 1 (lines_of text), all);
-      rows = omega (arith, made.rows, few_lines 1 (lines_of text), all);
-      ones = omega (arith, made.ones, texts_short 1 (lines_of text), all);
-    }
+dense_few bytes =
+    within_read (AreBothFew (length bytes)) bytes (dense_lines (filled_of bytes))
+    (lines_few (filled_of bytes) (length bytes) (filled_short bytes) (omega (arith, filled_two (filled_of bytes) (filled_all bytes), filled_short bytes)))

@@ -1,1 +1,13 @@
+mod Lines
+mod Found
+mod Few
+mod Grids
+mod Records
+mod Values
 mod Dense
+mod Sparse
+mod Tables
+mod Clones
+mod Graphs
+mod Distances
+mod Bounds
