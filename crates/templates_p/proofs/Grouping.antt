@@ -1,8 +1,7 @@
 -- The full children of a P-node stand under a new one, and all else is as it was.
-use Rattle.std.proofs.Common.{◌≡◌, ◌≢◌, inl, inr, ℕ, ◌+◌, ◌*◌, ◌≤◌, ◌<◌, cond, List, [], ◌∷◌, ◌++◌, length, map, set, Option, Some, None, refl, sym, ap, subst, ◌∙◌, arith, eq-eqb, length-append}
-use Rattle.std.proofs.lemmas.Bool.{cases_eq, cases_lt, ne_eqb}
+use Rattle.std.proofs.Common.{◌≡◌, ◌≢◌, ◌⊎◌, inl, inr, ℕ, ◌+◌, ◌*◌, ◌≤◌, ◌<◌, List, [], ◌∷◌, ◌++◌, length, map, set, Option, Some, None, refl, sym, ap, subst, ◌∙◌, arith, length-append}
+use Rattle.std.proofs.lemmas.Bool.{cases_eq, cases_lt}
 use Rattle.std.proofs.lemmas.List.{get_or-set_other, get_or-set_same, length-set, map-append}
-use Rattle.std.specs.Prelude.{if◌then◌else◌, ◌==◌}
 use Rattle.column_order.specs.Orders.{occurs}
 use Rattle.column_order.proofs.Lists.{occurs-append}
 use Rattle.pq_tree.specs.Outline.{Outline, p_node, no_tree, tree_and}
@@ -24,7 +23,7 @@ use Rattle.template_model.specs.Standing.{IsReady}
 use Rattle.template_model.specs.Treated.{IsTreated}
 use Rattle.templates_p.specs.Sorts.{full_nodes, empty_nodes, partial_nodes, full_then}
 use Rattle.templates_p.specs.Steps.{CanMove, Moved, moved_under, without_all, onto, Gathering, HasGroup, CanGather, IsSameAt, HasChildWith}
-use Rattle.templates_p.proofs.Rebuilt.{IsRebuilt, IsWritten}
+use Rattle.templates_p.proofs.Rebuilt.{IsRebuilt, IsWritten, root_kept}
 use Rattle.template_model.proofs.Replaced.{replaced_self}
 use Rattle.templates_p.proofs.Remarked.{AreRemarked, is_answer, is_full, swapped_self, treated}
 use Rattle.templates_p.proofs.Sorting.{all_sorted, all_counted, fulls_length, sorted_label, fulls, sorted_times, sorted_none, empties, partials, not_full_empty, not_full_partial, AreMarked}
@@ -209,6 +208,26 @@ only_member [] y e o = absurd (omega arith)
 only_member (x ∷ []) y e o = ap (λ z. z ∷ []) (sym (only_one y x o))
 only_member (x ∷ z ∷ xs) y e o = absurd (omega arith)
 
+star_many : (o : ℕ → Outline) (xs : List ℕ) → 2 ≤ length xs → star (forest (map o xs)) ≡ tree_and (p_node (forest (map o xs))) no_tree
+star_many o [] l = absurd (omega arith)
+star_many o (x ∷ []) l = absurd (omega arith)
+star_many o (x ∷ y ∷ xs) l = refl
+
+-- y is the only one of the nodes ys, or a P-node over them, which are two or more: it stands for them in any order
+pub one_stands : (g : Layout) (y : ℕ) (o : ℕ → Outline) (xs ys : List ℕ) → IsLayout g →
+    (ys ≡ y ∷ []) ⊎ ((shape_at g y ≡ Some P) × ((k : ℕ) → occurs (children_at g y) k ≡ occurs ys k) × (2 ≤ length ys)) →
+    ((k : ℕ) → occurs xs k ≡ occurs ys k) → ((k : ℕ) → 1 ≤ occurs ys k → outline_below g k ≡ o k) → AreEquivalent (star (forest (map o xs))) (outline_below g y ∷ [])
+one_stands g y o xs ys h (inl q) same tree =
+    let one : length xs ≡ 1 = (let b : length ys ≡ length xs = same_length xs ys same in let c : length ys ≡ 1 = ap (λ z. length z) q in omega arith) in
+    let in_ys : 1 ≤ occurs ys y = subst (λ z. 1 ≤ occurs z y) (sym q) (occurs_here y []) in
+    let is : xs ≡ y ∷ [] = only_member xs y one (subst (λ z. 1 ≤ z) (sym (same y)) in_ys) in
+    subst (λ zs. AreEquivalent (star (forest (map o zs))) (outline_below g y ∷ [])) (sym is)
+    (are_same o (outline_below g) (y ∷ []) (λ k i. tree k (subst (λ z. 1 ≤ z) (same k) (subst (λ zs. 1 ≤ occurs zs k) (sym is) i))))
+one_stands g y o xs ys h (inr q) same tree =
+    let many : 2 ≤ length xs = (let a : 2 ≤ length ys = q.2 in let b : length ys ≡ length xs = same_length xs ys same in omega arith) in
+    subst (λ ts. AreEquivalent ts (outline_below g y ∷ [])) (sym (star_many o xs many))
+    (p_stands g y xs (forest (map o xs)) h q.0 (λ k. same k ∙ sym (q.1 k)) (are_same o (outline_below g) xs (λ k i. tree k (subst (λ z. 1 ≤ z) (same k) i))), tt)
+
 pub no_full_child : (f : Layout) (w : Marks) (n : ℕ) → IsReady f w n → fulls_at w n ≡ 0 → full_nodes w (children_at f n) ≡ []
 no_full_child f w n r e = nil (full_nodes w (children_at f n)) (fulls_length w (children_at f n) ∙ sym r.right.full ∙ e)
   where
@@ -386,18 +405,12 @@ module _ (f g : Layout) (v : Marks) (n x : ℕ) (ds : List ℕ) (h : IsLayout f)
     all = λ u. down n x x (subst (λ ks. 1 ≤ occurs ks x) (sym node_children) (occurs_here x (without_all (children_at f n) ds))) (here x);
   }
 
-  root_kept : f.root ≡ (if f.root == n then n else f.root)
-  root_kept = elim (cases_eq f.root n) [
-    | inl e ↦ e ∙ sym (ap (λ b. cond b n f.root) (eq-eqb f.root n e))
-    | inr ne ↦ sym (ap (λ b. cond b n f.root) (ne_eqb f.root n ne))
-  ]
-
   pub group_rebuilt : IsRebuilt f (grouped g n x) n n (n ∷ x ∷ [])
   group_rebuilt = record {
     before = h;
     after = hg;
     columns = a.moved.columns;
-    root = a.moved.root ∙ root_kept;
+    root = a.moved.root ∙ root_kept f.root n;
     used = c.used;
     answer = used_by (grouped g n x) n P node_shape;
     n_in = occurs_here n (x ∷ []);
@@ -456,19 +469,10 @@ module _ (f g : Layout) (v : Marks) (n x : ℕ) (ds : List ℕ) (h : IsLayout f)
     shape = node_shape;
     children = λ k. ap (λ ks. occurs ks k) node_children ∙ (let z = left_children k in omega (arith, left_children k));
     label = group_label;
-    tree = subst (λ ts. AreEquivalent ts (outline_below (grouped g n x) x ∷ [])) (sym (star_many (outline_below f) (full_nodes v (children_at f n)) c.many)) (
-      p_stands (grouped g n x) x (full_nodes v (children_at f n)) (forest (map (outline_below f) (full_nodes v (children_at f n)))) hg group_shape
-          (λ k. sym (in_group k))
-          (are_same (outline_below f) (outline_below (grouped g n x)) (full_nodes v (children_at f n)) (λ k o. (child_same k (full_child k o)).tree)),
-      tt,
-    );
+    tree = one_stands (grouped g n x) x (outline_below f) (full_nodes v (children_at f n)) (full_nodes v (children_at f n)) hg
+        (inr (group_shape, in_group, c.many)) (λ k. refl) (λ k o. (child_same k (full_child k o)).tree);
     others = λ k o. child_same k (omega (arith, all_sorted v (children_at f n) k));
   }
-    where
-      star_many : (o : ℕ → Outline) (xs : List ℕ) → 2 ≤ length xs → star (forest (map o xs)) ≡ tree_and (p_node (forest (map o xs))) no_tree
-      star_many o [] l = absurd (omega arith)
-      star_many o (x ∷ []) l = absurd (omega arith)
-      star_many o (x ∷ y ∷ xs) l = refl
 
 -- so once the group is put below n and marked as full
 pub group_done : (f h g : Layout) (v w : Marks) (n x : ℕ) (xs : List ℕ) → IsLayout f → IsLayout g → g ≡ grouped h n x → w ≡ full_marked v x → CanGroup f v n → AllMoved f h v n x xs →

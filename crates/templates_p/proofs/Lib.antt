@@ -26,3 +26,5 @@ pub mod Lining
 pub mod Filling
 pub mod Starting
 pub mod Lifting
+pub mod Halving
+pub mod Dividing

@@ -18,6 +18,7 @@ use Rattle.pq_arena.specs.Looks.{ShowsNode, shown_ends, node_named}
 use Rattle.bubble_pass.specs.declared.labels.Label.{Label as Mark}
 use Rattle.bubble_pass.specs.declared.labels.Label.TheVariants.{Empty}
 use Rattle.bubble_pass.specs.Marks.{Marks, label_at, size_of, IsPut}
+use Rattle.templates_p.specs.Dividing.{IsOneLeft}
 use Rattle.templates_p.specs.Lines.{IsHandedOver}
 use Rattle.templates_p.specs.Parts.{AreMoved, IsLeftPart, CanLift, IsParted}
 use Rattle.templates_p.proofs.Rebuilt.{replaced_none}
@@ -82,7 +83,7 @@ pub may_give : (f g : Layout) (n e : ℕ) → StandsAlone f n → shape_at f n �
 may_give f g n e alone is_p only off = subst (λ z. IsReadyToGive z n) (sym (off only.child)) (ready_to_give f n e alone is_p only.is)
 
 -- a way that doesn't come by a node that is no child
-way_apart : (f g : Layout) (n r h : ℕ) → times_child f.slots n ≡ 0 → ((m : ℕ) → m ≢ n → children_at g m ≡ children_at f m) → r ≢ n → IsAtOrAbove f.slots r h → IsAtOrAbove g.slots r h
+pub way_apart : (f g : Layout) (n r h : ℕ) → times_child f.slots n ≡ 0 → ((m : ℕ) → m ≢ n → children_at g m ≡ children_at f m) → r ≢ n → IsAtOrAbove f.slots r h → IsAtOrAbove g.slots r h
 way_apart f g n _ _ top same ne (here m) = here m
 way_apart f g n _ _ top same ne (down m k x o l) = down m k x (subst (λ ks. 1 ≤ occurs ks k) (sym (same m ne)) o)
     (way_apart f g n k x top same (λ e. let a : occurs (children_at f m) k ≤ times_child f.slots k = children_times f m k in
@@ -122,8 +123,8 @@ gone_alone g n e lg alone is_p only =
       part = inr (bare_shape g1 n None ys lt1, only);
     }
 
-left_alone : (g i : Layout) (v w : Marks) (n e : ℕ) → IsLayout g → StandsAlone g n → shape_at g n ≡ Some P → IsLeftPart g i v w n e → IsLeftAlone g i n e
-left_alone g i v w n e lg alone is_p (inl q) = subst (λ z. IsLeftAlone g z n e) (sym q.2) (record {
+pub left_alone : (g i : Layout) (n e : ℕ) → IsLayout g → StandsAlone g n → shape_at g n ≡ Some P → IsOneLeft g i n e → IsLeftAlone g i n e
+left_alone g i n e lg alone is_p (inl q) = subst (λ z. IsLeftAlone g z n e) (sym q.2) (record {
   columns = refl;
   root = refl;
   shapes = λ m a. refl;
@@ -131,7 +132,11 @@ left_alone g i v w n e lg alone is_p (inl q) = subst (λ z. IsLeftAlone g z n e)
   alone = subst (λ z. StandsAlone g z) (sym q.0) alone;
   part = inl (q.0, is_p, refl, q.1);
 })
-left_alone g i v w n e lg alone is_p (inr q) = subst (λ z. IsLeftAlone g z n e) (sym q.1) (gone_alone g n e lg alone is_p q.0)
+left_alone g i n e lg alone is_p (inr q) = subst (λ z. IsLeftAlone g z n e) (sym q.1) (gone_alone g n e lg alone is_p q.0)
+
+part_left : (g i : Layout) (v w : Marks) (n e : ℕ) → IsLeftPart g i v w n e → IsOneLeft g i n e
+part_left g i v w n e (inl q) = inl (q.0, q.1, q.2)
+part_left g i v w n e (inr q) = inr (q.0, q.1)
 
 length_without : (xs : List ℕ) (n : ℕ) → length (without xs n) + occurs xs n ≡ length xs
 length_without [] n = refl
@@ -215,14 +220,14 @@ pub record IsReadyToLift (i : Layout) (h e : ℕ) : Type 0 where
 
 pub ready_to_lift : (f g i : Layout) (v w1 w : Marks) (n h e : ℕ) → IsLayout f → IsLayout g → IsLayout i → CanLift f v n h → IsHandedOver f g n h → IsLeftPart g i w1 w n e → IsReadyToLift i h e
 ready_to_lift f g i v w1 w n h e lf lg li can d p =
-    let a : IsLeftAlone g i n e = left_alone g i w1 w n e lg d.alone (node_shape f g v n h lf can d) p in
+    let a : IsLeftAlone g i n e = left_alone g i n e lg d.alone (node_shape f g v n h lf can d) (part_left g i w1 w n e p) in
     record { shape = lift_shape f g v n h lf can d i e lg li a; alone = a.alone; no_way = lift_no_way f g v n h lf can d i e lg li a }
 
 pub lifted : (f g i j : Layout) (v w1 w : Marks) (n h : NodeId) (e end : ℕ) (l : Mark) → IsLayout f → IsLayout g → IsLayout i → CanLift f v n.index h.index → IsHandedOver f g n.index h.index →
     IsPut v w1 n h l → l ≡ label_at v n.index → IsLeftPart g i w1 w n.index e → j ≡ with_children i h.index (put_on end e (children_at i h.index)) →
     IsParted f j v w n.index h.index end (without (children_at f n.index) h.index) (children_at f h.index)
 lifted f g i j v w1 w n h e end l lf lg li can d put is p q =
-    let a : IsLeftAlone g i n.index e = left_alone g i w1 w n.index e lg d.alone (node_shape f g v n.index h.index lf can d) p in
+    let a : IsLeftAlone g i n.index e = left_alone g i n.index e lg d.alone (node_shape f g v n.index h.index lf can d) (part_left g i w1 w n.index e p) in
     subst (λ z. IsParted f z v w n.index h.index end (without (children_at f n.index) h.index) (children_at f h.index)) (sym q)
     (lifted_kept f g v n.index h.index lf can d i e lg li a end w1 w
     (put_moved v w1 n h (subst (λ z. IsPut v w1 n h z) is put) (labelled_room f v h.index lf can.is_q can.room)) p)

@@ -2,7 +2,7 @@
 use Rattle.std.proofs.Common.{◌≡◌, inl, inr, ℕ, zero, suc, ◌+◌, ◌≤◌, ◌<◌, Bool, true, false, cond, List, [], ◌∷◌, ◌++◌, length, map, take, get_or, Some, refl, sym, ap, subst, ◌∙◌, arith}
 use Rattle.std.specs.List.{range_with_len}
 use Rattle.std.proofs.lemmas.Bool.{cases_lt}
-use Rattle.std.proofs.lemmas.List.{take_all, take_more}
+use Rattle.std.proofs.lemmas.List.{take_more}
 use Rattle.std.proofs.lemmas.List.FromFn.{get_or-map-range_with_len, length-map-range_with_len}
 use Rattle.column_order.specs.Orders.{has, occurs}
 use Rattle.column_order.proofs.Lists.{has_from_occurs, occurs_from_has, occurs-append}
@@ -23,15 +23,16 @@ use Rattle.template_theory.specs.Templates.{Label, empty_label, full_label, IsSo
 use Rattle.template_model.specs.Standing.{mark_of, child_trees}
 use Rattle.template_model.specs.Treated.{IsReplacedAt, StandsForTree}
 use Rattle.templates_p.specs.Members.{AreMembers, member_labels}
+use Rattle.templates_p.specs.Dividing.{AreSome}
 use Rattle.templates_p.specs.Sorts.{full_nodes, empty_nodes, partial_nodes}
 use Rattle.templates_p.specs.Steps.{Moved, CanMove, moved_under}
 use Rattle.templates_p.proofs.Rebuilt.{replaced_at}
-use Rattle.templates_p.proofs.Sorting.{held, sort, held_length, count_map, all_counted, sorted_label, fulls, sorted_times}
+use Rattle.templates_p.proofs.Sorting.{held, sort, sorted_unique, held_length, count_map, all_sorted, all_counted, sorted_label, fulls, sorted_times}
 use Rattle.templates_p.proofs.Framing.{same_length}
 use Rattle.templates_p.proofs.Moving.{can_move, ready_to_put, moved_one}
 use Rattle.templates_p.proofs.Chaining.{child_once}
 use Rattle.templates_p.proofs.Grouping.{AllMoved, CanGroup, indices_snoc, grouped, full_marked, group_rebuilt, group_made}
-use Rattle.templates_p.proofs.Becoming.{p2_becomes}
+use Rattle.templates_p.proofs.Becoming.{p2_becomes, occurs_none}
 
 -- full for a member, empty for another
 abbrev pub member_mark : List ℕ → ℕ → Mark
@@ -77,7 +78,17 @@ two_sorts ts no_tree fs ps s a b = absurd (omega arith)
 two_sorts ts (tree_and e es) no_tree ps s a b = absurd (omega arith)
 two_sorts ts (tree_and e es) (tree_and f fs) ps s a b = record { at = refl; e = e; es = es; f = f; fs = fs; pattern = s; becomes = refl }
 
-module _ (f : Layout) (n : ℕ) (members : List ℕ) (h : IsLayout f) (m : AreMembers f n members) where
+-- two or more are one or more
+pub some_members : (f : Layout) (n : ℕ) (members : List ℕ) → AreMembers f n members → AreSome f n members
+some_members f n members m = record {
+  is_p = m.is_p;
+  once = m.once;
+  child = m.child;
+  some = let t : 2 ≤ length members = m.two in omega arith;
+  not_all = m.not_all;
+}
+
+module _ (f : Layout) (n : ℕ) (members : List ℕ) (h : IsLayout f) (m : AreSome f n members) where
   abbrev pub marks : Marks
   marks = member_marks (length f.slots) members
 
@@ -120,63 +131,72 @@ module _ (f : Layout) (n : ℕ) (members : List ℕ) (h : IsLayout f) (m : AreMe
   fulls_many : length (full_nodes marks (children_at f n)) ≡ length members
   fulls_many = same_length members (full_nodes marks (children_at f n)) all_members
 
-  can : IsOneTree f → HasTwoEach f → CanGroup f marks n
-  can one two = record {
-    one = one;
-    two = two;
-    room = length-map-range_with_len (member_mark members) 0 (length f.slots);
-    used = used_by f n P m.is_p;
-    is_p = m.is_p;
-    many = let l : 2 ≤ length members = m.two in omega (arith, fulls_many);
-    more = let l : length members < length (children_at f n) = m.not_all in omega (arith, fulls_many);
-  }
-
   no_partials : length (partial_nodes marks (children_at f n)) ≡ 0
   no_partials = sym (held_length marks (children_at f n) (member_labels members (children_at f n)) are_marked) ∙ ap (λ hs. length hs) (none_held members (children_at f n))
 
-  -- P2 stands at n by these labels
-  made : IsP2 true (child_trees f n) (member_labels members (children_at f n))
-      (p2 (forest (map (outline_below f) (empty_nodes marks (children_at f n)))) (forest (map (outline_below f) (full_nodes marks (children_at f n)))))
-  made =
-      let ks : List ℕ = children_at f n in
-      let o : ℕ → Outline = outline_below f in
-      let l : length members < length ks = m.not_all in
-      let t : 2 ≤ length members = m.two in
-      two_sorts (child_trees f n) (forest (map o (empty_nodes marks ks))) (forest (map o (full_nodes marks ks))) (member_labels members ks)
-      (subst (λ hs. IsSorted (child_trees f n) (member_labels members ks) (forest (map o (empty_nodes marks ks))) (forest (map o (full_nodes marks ks))) hs)
-      (none_held members ks) (sort o marks ks (member_labels members ks) are_marked))
-      (omega (arith, count_map o (empty_nodes marks ks), all_counted marks ks, fulls_many, no_partials))
-      (omega (arith, count_map o (full_nodes marks ks), fulls_many))
+  -- the others are the empty ones by these marks
+  pub rest_members : (k : ℕ) → occurs (children_at f n) k ≡ occurs (empty_nodes marks (children_at f n)) k + occurs members k
+  rest_members k = omega (arith, all_sorted marks (children_at f n) k, all_members k, occurs_none (partial_nodes marks (children_at f n)) k no_partials)
 
-  -- the members have moved to x, and x is put in front of the other children
-  module _ (g : Layout) (x : NodeId) (hg : IsLayout (grouped g n x.index)) (one : IsOneTree f) (two : HasTwoEach f) (moved : Moved f g n x.index members) where
-    all_moved : AllMoved f g marks n x.index members
-    all_moved = record { moved = moved; all = all_members }
+  -- the trees of the others and those of the members
+  pub sorted_members : (es fs : Forest) → IsSorted (child_trees f n) (member_labels members (children_at f n)) es fs [] →
+      (es ≡ forest (map (outline_below f) (empty_nodes marks (children_at f n)))) × (fs ≡ forest (map (outline_below f) (full_nodes marks (children_at f n))))
+  sorted_members es fs s =
+      let w = sorted_unique s (sort (outline_below f) marks (children_at f n) (member_labels members (children_at f n)) are_marked) in (w.0, w.1)
 
-    members_replaced : IsReplacedAt f (grouped g n x.index) n n
-    members_replaced = replaced_at f (grouped g n x.index) n n (n ∷ x.index ∷ []) (group_rebuilt f g marks n x.index members h hg (can one two) all_moved) one two
+  -- they are two or more
+  module _ (many : 2 ≤ length members) where
+    can : IsOneTree f → HasTwoEach f → CanGroup f marks n
+    can one two = record {
+      one = one;
+      two = two;
+      room = length-map-range_with_len (member_mark members) 0 (length f.slots);
+      used = used_by f n P m.is_p;
+      is_p = m.is_p;
+      many = omega (arith, fulls_many, many);
+      more = let l : length members < length (children_at f n) = m.not_all in omega (arith, fulls_many);
+    }
 
-    members_become : (u : Outline) × IsP2 true (child_trees f n) (member_labels members (children_at f n)) u × StandsForTree (grouped g n x.index) n u
-    members_become = (
-      p2 (forest (map (outline_below f) (empty_nodes marks (children_at f n)))) (forest (map (outline_below f) (full_nodes marks (children_at f n)))),
-      made,
-      p2_becomes f (grouped g n x.index) marks (full_marked marks x.index) n (Some x) (member_labels members (children_at f n))
-          (p2 (forest (map (outline_below f) (empty_nodes marks (children_at f n)))) (forest (map (outline_below f) (full_nodes marks (children_at f n))))) hg
-          (group_made f g marks n x.index members h hg (can one two) all_moved) are_marked made,
-    )
+    -- P2 stands at n by these labels
+    made : IsP2 true (child_trees f n) (member_labels members (children_at f n))
+        (p2 (forest (map (outline_below f) (empty_nodes marks (children_at f n)))) (forest (map (outline_below f) (full_nodes marks (children_at f n)))))
+    made =
+        let ks : List ℕ = children_at f n in
+        let o : ℕ → Outline = outline_below f in
+        two_sorts (child_trees f n) (forest (map o (empty_nodes marks ks))) (forest (map o (full_nodes marks ks))) (member_labels members ks)
+        (subst (λ hs. IsSorted (child_trees f n) (member_labels members ks) (forest (map o (empty_nodes marks ks))) (forest (map o (full_nodes marks ks))) hs)
+        (none_held members ks) (sort o marks ks (member_labels members ks) are_marked))
+        (omega (arith, count_map o (empty_nodes marks ks), all_counted marks ks, fulls_many, no_partials, m.not_all))
+        (omega (arith, count_map o (full_nodes marks ks), fulls_many, many))
+
+    -- the members have moved to x, and x is put in front of the other children
+    module _ (g : Layout) (x : NodeId) (hg : IsLayout (grouped g n x.index)) (one : IsOneTree f) (two : HasTwoEach f) (moved : Moved f g n x.index members) where
+      all_moved : AllMoved f g marks n x.index members
+      all_moved = record { moved = moved; all = all_members }
+
+      members_replaced : IsReplacedAt f (grouped g n x.index) n n
+      members_replaced = replaced_at f (grouped g n x.index) n n (n ∷ x.index ∷ []) (group_rebuilt f g marks n x.index members h hg (can one two) all_moved) one two
+
+      members_become : (u : Outline) × IsP2 true (child_trees f n) (member_labels members (children_at f n)) u × StandsForTree (grouped g n x.index) n u
+      members_become = (
+        p2 (forest (map (outline_below f) (empty_nodes marks (children_at f n)))) (forest (map (outline_below f) (full_nodes marks (children_at f n)))),
+        made,
+        p2_becomes f (grouped g n x.index) marks (full_marked marks x.index) n (Some x) (member_labels members (children_at f n))
+            (p2 (forest (map (outline_below f) (empty_nodes marks (children_at f n)))) (forest (map (outline_below f) (full_nodes marks (children_at f n))))) hg
+            (group_made f g marks n x.index members h hg (can one two) all_moved) are_marked made,
+      )
 
 -- the members are the children of a new child of n, as P2 has it
 pub record IsGroupedAt (f z : Layout) (n : ℕ) (members : List ℕ) : Type 0 where
   pub replaced : IsReplacedAt f z n n
   pub becomes : (u : Outline) × IsP2 true (child_trees f n) (member_labels members (children_at f n)) u × StandsForTree z n u
 
-pub members_grouped : (f g z : Layout) (n i : ℕ) (ms : List NodeId) (x : NodeId) → IsLayout f → IsLayout z → AreMembers f n (indices ms) → IsOneTree f → HasTwoEach f →
-    z ≡ grouped g n x.index → length ms ≤ i → Moved f g n x.index (indices (take i ms)) → IsGroupedAt f z n (indices ms)
-members_grouped f g z n i ms x hf hz m one two e done moved =
+pub members_grouped : (f g z : Layout) (n : ℕ) (ms : List NodeId) (x : NodeId) → IsLayout f → IsLayout z → AreMembers f n (indices ms) → IsOneTree f → HasTwoEach f →
+    z ≡ grouped g n x.index → Moved f g n x.index (indices ms) → IsGroupedAt f z n (indices ms)
+members_grouped f g z n ms x hf hz m one two e moved =
     let hg : IsLayout (grouped g n x.index) = subst IsLayout e hz in
-    let all : Moved f g n x.index (indices ms) = subst (λ ks. Moved f g n x.index (indices ks)) (take_all i ms done) moved in
     subst (λ y. IsGroupedAt f y n (indices ms)) (sym e)
-    (record { replaced = members_replaced f n (indices ms) hf m g x hg one two all; becomes = members_become f n (indices ms) hf m g x hg one two all })
+    (record { replaced = members_replaced f n (indices ms) hf (some_members f n (indices ms) m) m.two g x hg one two moved; becomes = members_become f n (indices ms) hf (some_members f n (indices ms) m) m.two g x hg one two moved })
 
 -- a member that was not reached yet
 in_list : (ms : List NodeId) (i : ℕ) (d : NodeId) → i < length ms → 1 ≤ occurs (indices ms) (get_or ms i d).index

@@ -2,7 +2,7 @@
 use Rattle.std.proofs.Common.{◌≡◌, ◌⊎◌, inl, inr, ℕ, ◌+◌, ◌≤◌, List, [], ◌∷◌, length, map, Some, None, refl, sym, ap, subst, ◌∙◌, arith}
 use Rattle.std.proofs.lemmas.Bool.{cases_eq, cases_lt}
 use Rattle.column_order.specs.Orders.{occurs}
-use Rattle.pq_tree.specs.Outline.{Outline, p_node, no_tree, tree_and}
+use Rattle.pq_tree.specs.Outline.{Outline}
 use Rattle.pq_tree.specs.Proper.{forest}
 use Rattle.pq_tree.specs.Equivalent.{AreEquivalent}
 use Rattle.arena_model.specs.declared.Shape.TheVariants.{Leaf, P, Q}
@@ -19,8 +19,8 @@ use Rattle.templates_p.specs.Steps.{IsSameAt}
 use Rattle.templates_p.specs.Parts.{IsParted}
 use Rattle.templates_p.proofs.Rebuilt.{IsRebuilt, IsWritten, IsMine, none_child, below_used}
 use Rattle.templates_p.proofs.Remarked.{AreRemarked, IsJudged, is_answer, is_gone, is_empty, exchanged, treated}
-use Rattle.templates_p.proofs.Framing.{same_at, p_stands, are_same, same_length}
-use Rattle.templates_p.proofs.Grouping.{two_kinds, only_member}
+use Rattle.templates_p.proofs.Framing.{same_at}
+use Rattle.templates_p.proofs.Grouping.{two_kinds, one_stands}
 use Rattle.templates_p.proofs.Absorbing.{put_on_times, put_on_length}
 
 -- what is known of the P-node n, of the node h that takes its place, of the other children `rest` of n, and of `line`,
@@ -37,11 +37,6 @@ pub record IsLineOf (f : Layout) (n h : ℕ) (rest line : List ℕ) : Type 0 whe
   pub child : (k : ℕ) → 1 ≤ occurs rest k → 1 ≤ occurs (children_at f n) k
   pub other : (k : ℕ) → 1 ≤ occurs rest k → occurs (n ∷ h ∷ []) k ≡ 0
   pub covers : (k : ℕ) → 1 ≤ occurs (children_at f n) k → (k ≡ h) ⊎ (1 ≤ occurs rest k + occurs line k)
-
-star_many : (o : ℕ → Outline) (xs : List ℕ) → 2 ≤ length xs → star (forest (map o xs)) ≡ tree_and (p_node (forest (map o xs))) no_tree
-star_many o [] l = absurd (omega arith)
-star_many o (x ∷ []) l = absurd (omega arith)
-star_many o (x ∷ y ∷ xs) l = refl
 
 module _ (f g : Layout) (v w : Marks) (n h end : ℕ) (rest line : List ℕ) (lf : IsLayout f) (lg : IsLayout g) (l : IsLineOf f n h rest line) (p : IsParted f g v w n h end rest line) where
   part_has : 1 ≤ occurs (children_at g h) p.e
@@ -167,19 +162,7 @@ module _ (f g : Layout) (v w : Marks) (n h end : ℕ) (rest line : List ℕ) (lf
     -- the part stands for trees that are those of `rest` in some order
     pub part_stands : (o : ℕ → Outline) (xs : List ℕ) → ((k : ℕ) → occurs xs k ≡ occurs rest k) → ((k : ℕ) → 1 ≤ occurs rest k → outline_below f k ≡ o k) →
         AreEquivalent (star (forest (map o xs))) (outline_below g p.e ∷ [])
-    part_stands o xs same tree = elim p.part [
-      | inl q ↦
-          let many : 2 ≤ length xs = (let a : 2 ≤ length rest = q.3 in let b : length rest ≡ length xs = same_length xs rest same in omega arith) in
-          subst (λ ts. AreEquivalent ts (outline_below g p.e ∷ [])) (sym (star_many o xs many))
-          (subst (λ z. AreEquivalent (tree_and (p_node (forest (map o xs))) no_tree) (outline_below g z ∷ [])) (sym q.0)
-          (p_stands g n xs (forest (map o xs)) lg q.1 (λ k. same k ∙ ap (λ z. occurs z k) (sym q.2)) (are_same o (outline_below g) xs kept), tt))
-      | inr q ↦
-          let one : length xs ≡ 1 = (let b : length rest ≡ length xs = same_length xs rest same in let c : length rest ≡ 1 = ap (λ z. length z) q.1 in omega arith) in
-          let in_rest : 1 ≤ occurs rest p.e = subst (λ z. 1 ≤ occurs z p.e) (sym q.1) (occurs_here p.e []) in
-          let is : xs ≡ p.e ∷ [] = only_member xs p.e one (subst (λ z. 1 ≤ z) (sym (same p.e)) in_rest) in
-          subst (λ zs. AreEquivalent (star (forest (map o zs))) (outline_below g p.e ∷ [])) (sym is)
-          (are_same o (outline_below g) (p.e ∷ []) (λ k i. kept k (subst (λ zs. 1 ≤ occurs zs k) (sym is) i)))
-    ]
-      where
-        kept : (k : ℕ) → 1 ≤ occurs xs k → outline_below g k ≡ o k
-        kept k i = let r : 1 ≤ occurs rest k = subst (λ z. 1 ≤ z) (same k) i in (rest_same k r).tree ∙ tree k r
+    part_stands o xs same tree = one_stands g p.e o xs rest lg (elim p.part [
+      | inl q ↦ inr (subst (λ z. shape_at g z ≡ Some P) (sym q.0) q.1, λ k. ap (λ zs. occurs zs k) (ap (children_at g) q.0 ∙ q.2), q.3)
+      | inr q ↦ inl q.1
+    ]) same (λ k r. (rest_same k r).tree ∙ tree k r)

@@ -93,6 +93,13 @@ pub below_used : (f : Layout) (x m : ℕ) → IsLayout f → IsInUse f x → IsA
 below_used f _ _ h u (here x) = u
 below_used f _ _ h u (down x k m o l) = below_used f k m h (child_used f x k h o) l
 
+-- n in the place of n leaves the root
+pub root_kept : (root n : ℕ) → root ≡ (if root == n then n else root)
+root_kept root n = elim (cases_eq root n) [
+  | inl e ↦ e ∙ sym (ap (λ b. cond b n root) (eq-eqb root n e))
+  | inr ne ↦ sym (ap (λ b. cond b n root) (ne_eqb root n ne))
+]
+
 module _ (f g : Layout) (n a : ℕ) (ts : List ℕ) (r : IsRebuilt f g n a ts) where
   pub written_at : (m : ℕ) → 1 ≤ occurs ts m → IsWritten f g n a ts m
   written_at m o = each_at (IsWritten f g n a ts) ts m r.written o

@@ -5,3 +5,4 @@ pub mod Lines
 pub mod Merging
 pub mod Parts
 pub mod Members
+pub mod Dividing

@@ -14,9 +14,10 @@ ghost use Rattle.templates_p.specs.Members.{AreMembers, member_labels};
 use crate::group::{child_with, gather};
 use crate::line::{absorb, full_end};
 use crate::merge::{PartialChild, lengthen, merge};
+use crate::moves::move_under;
 use crate::parted::{fill_line, lift_line, start_line};
 use bubble_pass::{Label, Work};
-use pq_arena::{Arena, NodeId, Shape};
+use pq_arena::{Arena, NodeId};
 use step_count::{Ledger, Steps};
 
 /// Applies L1 at `node`, a full leaf: nothing changes, and the answer is `node`.
@@ -93,12 +94,7 @@ pub fn apply_p2_to<L: Ledger>(
     ensures ticks { steps.new ≡ steps.old + 2 * length members.now + 2 }
 {
     arena.layout_law();
-    let group = arena.take(Shape::P, steps);
-    for member in members {
-        arena.layout_law();
-        arena.detach(*member, steps);
-        arena.attach(group, *member, steps);
-    }
+    let group = move_under(arena, node, members, steps);
     arena.layout_law();
     arena.attach(node, group, steps);
     arena.layout_law();

@@ -6,6 +6,7 @@ ghost use Rattle.arena_model.specs.Layout.{shape_at, children_at, StandsAlone, I
 ghost use Rattle.arena_model.specs.NamedTree.{IsOneTree, HasTwoEach};
 ghost use Rattle.bubble_pass.specs.Marks.{size_of};
 ghost use Rattle.template_model.specs.Treated.{IsTreated};
+ghost use Rattle.templates_p.specs.Dividing.{IsOneLeft};
 ghost use Rattle.templates_p.specs.Lines.{CanHandOver};
 ghost use Rattle.templates_p.specs.Parts.{IsLeftPart, CanLift, IsParted, IsStarted, CanFill, IsFilled};
 
@@ -14,8 +15,29 @@ use bubble_pass::{Label, Work};
 use pq_arena::{Arena, NodeId, Shape};
 use step_count::{Ledger, Steps};
 
-// What is left of the P-node `node`, which stands alone, as one empty node that stands alone: its only child, and
-// `node` is given back then, or `node` itself.
+// What is left of the P-node `node`, which stands alone, as one node that stands alone: its only child, and `node` is
+// given back then, or `node` itself.
+pub fn one_left<L: Ledger>(arena: &mut Arena, node: NodeId, steps: &mut Steps<L>) -> NodeId
+    requires alone { StandsAlone arena.old node.index }
+    requires is_p { shape_at arena.old node.index ≡ Some P }
+    requires some { 1 ≤ length (children_at arena.old node.index) }
+    ensures left { IsOneLeft arena.old arena.new node.index result.index }
+    ensures ticks { steps.new ≤ steps.old + 3 }
+{
+    arena.layout_law();
+    let view = arena.look(node, steps);
+    if view.children > 1 {
+        return node;
+    }
+    let Some(child) = view.ends[0] else {
+        unreachable!()
+    };
+    arena.detach(child, steps);
+    arena.give_back(node, steps);
+    child
+}
+
+// So too, and marked as empty where it is `node` itself.
 fn empty_part<L: Ledger>(
     arena: &mut Arena,
     work: &mut Work,
@@ -30,17 +52,12 @@ fn empty_part<L: Ledger>(
     ensures ticks { steps.new ≤ steps.old + 3 }
 {
     arena.layout_law();
-    let view = arena.look(node, steps);
-    if view.children > 1 {
+    let part = one_left(arena, node, steps);
+    if part.index() == node.index() {
         work.mark(node, Label::Empty);
         return node;
     }
-    let Some(child) = view.ends[0] else {
-        unreachable!()
-    };
-    arena.detach(child, steps);
-    arena.give_back(node, steps);
-    child
+    part
 }
 
 // Puts the child `line` of the P-node `node` in its place, and the other children of `node`, which are empty,

@@ -4,17 +4,16 @@ use Rattle.arena_model.specs.Layout.{given_back}
 use Rattle.arena_model.proofs.Slots.{used_by}
 use Rattle.templates_p.proofs.Settling.{shown_length}
 use Rattle.templates_p.proofs.Lifting.{only_shown, some_shown, may_give}
-use Rattle.templates_p.proofs.parted.empty_part.Goals as goal
+use Rattle.templates_p.proofs.parted.one_left.Goals as goal
 
 pub look-view-requires : goal.look-view-requires
 look-view-requires g c = used_by c.args.arena.now c.args.node.index P c.requires.is_p
 
-pub returns-then-view-gt1-clause-part : goal.returns-then-view-gt1-clause-part
-returns-then-view-gt1-clause-part g c = inl (
+pub returns-then-view-gt1-clause-left : goal.returns-then-view-gt1-clause-left
+returns-then-view-gt1-clause-left g c = inl (
   refl,
   omega (arith, shown_length c.args.arena.now c.args.node.index c.look-view.result c.look-view.ensures.shows c.requires.is_p, c.if-view-gt1.true),
   refl,
-  c.mark.ensures,
 )
 
 pub unreachable-requires : goal.unreachable-requires
@@ -35,7 +34,7 @@ pub give_back-requires-clause-inner : goal.give_back-requires-clause-inner
 give_back-requires-clause-inner g c = (may_give c.args.arena.now c.detach.new.self c.args.node.index c.in-Some.child.index c.requires.alone c.requires.is_p
     (only_shown c.args.arena.now c.args.node.index c.look-view.result c.in-Some.child c.look-view.ensures.shows c.requires.is_p c.in-Some.is c.requires.some c.if-view-gt1.false) (c.detach.ensures.changed c.args.node.index c.requires.is_p)).inner
 
-pub returns-clause-part : goal.returns-clause-part
-returns-clause-part g c =
+pub returns-clause-left : goal.returns-clause-left
+returns-clause-left g c =
     let only = only_shown c.args.arena.now c.args.node.index c.look-view.result c.in-Some.child c.look-view.ensures.shows c.requires.is_p c.in-Some.is c.requires.some c.if-view-gt1.false in
-    inr (only.is, c.give_back.ensures.changed ∙ ap (λ z. given_back z c.args.node.index) (c.detach.ensures.changed c.args.node.index c.requires.is_p only.child), refl)
+    inr (only.is, c.give_back.ensures.changed ∙ ap (λ z. given_back z c.args.node.index) (c.detach.ensures.changed c.args.node.index c.requires.is_p only.child))
