@@ -6,7 +6,7 @@ use Rattle.arena_model.specs.Layout.{IsAtOrAbove, IsLayout, Layout, children_at,
 use Rattle.arena_model.proofs.Slots.{used_by}
 use Rattle.arena_model.proofs.Lists.{occurs_here}
 use Rattle.full_pass.specs.declared.settled.Settled.{Settled}
-use Rattle.full_pass.specs.declared.settled.Settled.TheVariants.{Group, Kept, Open}
+use Rattle.full_pass.specs.declared.settled.Settled.TheVariants.{Beside, Group, Kept, Open}
 use Rattle.arena_model.specs.RowLeaves.{column_leaves, IsLeafAt}
 use Rattle.full_pass.specs.Answer.{AreLeaves, IsFullNode, IsRowKept, IsSettled, one_node}
 use Rattle.full_pass.specs.Passing.{AreCounted, AreLinked, Chains, Counting, Going, IsLast, IsRisen, Pass, Runs, marks, members_in, runs, total}
@@ -14,7 +14,7 @@ use Rattle.full_pass.specs.declared.tallies.Tally.{Tally}
 use Rattle.full_pass.specs.Tallies.{AreStamped, first_in, full_in, hits_in, next_in}
 use Rattle.full_pass.specs.declared.entries.Entries.{Entries}
 use Rattle.full_pass.specs.Entries.{AreReady, far, first, hits, is_full, next, up}
-use Rattle.full_pass.proofs.Chained.{chained_length, no_chains}
+use Rattle.full_pass.proofs.Chained.{no_chains}
 use Rattle.arena_model.proofs.Rows.{leaf_index, leaves_length}
 use Rattle.arena_model.specs.NamedTree.{IsOneTree}
 use Rattle.row_model.specs.Rows.{IsRow}
@@ -22,7 +22,7 @@ use Rattle.full_pass.proofs.Columns.{next_leaf, row_leaves, rest_none}
 use Rattle.full_pass.proofs.Shapes.{leaf_children}
 use Rattle.full_pass.proofs.Sums.{total_zero}
 use Rattle.full_pass.proofs.Marks.{true_false}
-use Rattle.full_pass.proofs.Ends.{end_first, end_more, end_run}
+use Rattle.full_pass.proofs.Ends.{chain_marked, end_first, end_more, end_run}
 use Rattle.column_order.specs.Orders.{occurs}
 
 marks_none : (l : ℕ → Bool) (ks : List ℕ) → ((x : ℕ) → l x ≡ false) → marks l ks ≡ 0
@@ -75,6 +75,7 @@ risen_pass : (f : Layout) (row : List ℕ) (l : ℕ → Bool) (h : ℕ → ℕ) 
     IsRisen f row l h waiting n (Some s) → Pass f row l h waiting n
 risen_pass f row l h waiting n Kept r = r.0.0
 risen_pass f row l h waiting n (Group p) r = r.0.0
+risen_pass f row l h waiting n (Beside e) r = absurd r.0
 risen_pass f row l h waiting n Open r = absurd (r.1 refl)
 
 settled : (f : Layout) (row : List ℕ) (l : ℕ → Bool) (tallies : List Tally) (stamp n : ℕ) (s : Settled) → IsLayout f → AreLeaves f row → n ≤ 1 →
@@ -85,8 +86,8 @@ settled f row l tallies stamp n Kept layout r le chains last = elim last.1 [
 ]
 settled f row l tallies stamp n (Group p) layout r le chains last =
     end_more f row l (hits_in tallies stamp) n p.index (members_in tallies stamp (Group p)) layout r last.0 le last.1
-    (chained_length (hits_in tallies stamp p.index) (next_in tallies) (first_in tallies p.index))
-    (λ k. chains p.index k last.1.ring.is_p)
+    (chain_marked f l (hits_in tallies stamp) (first_in tallies) (next_in tallies) p.index last.1.ring.is_p chains)
+settled f row l tallies stamp n (Beside e) layout r le chains last = absurd last
 settled f row l tallies stamp n Open layout r le chains last = tt
 
 -- what the pass answers where it has gone over all columns of the row

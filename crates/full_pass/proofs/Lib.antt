@@ -13,4 +13,5 @@ pub mod Listing
 pub mod Columns
 pub mod Going
 pub mod Joining
+pub mod TwoParts
 pub mod Frontiers

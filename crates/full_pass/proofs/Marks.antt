@@ -63,6 +63,12 @@ marks_all l (x ∷ xs) k m o =
       | inr ne ↦ marks_all l xs k (omega arith) (let z : occurs (x ∷ xs) k ≡ occurs xs k = occurs_other x k xs (λ q. ne (sym q)) in omega arith)
     ]
 
+pub marks_each : (l : ℕ → Bool) (ks : List ℕ) → ((k : ℕ) → 1 ≤ occurs ks k → l k ≡ true) → length ks ≤ marks l ks
+marks_each l [] all = omega arith
+marks_each l (x ∷ xs) all =
+    let a : bit (l x) ≡ 1 = ap bit (all x (occurs_here x xs)) in
+    let r : length xs ≤ marks l xs = marks_each l xs (λ k o. all k (omega arith)) in omega arith
+
 pub marks_two : (l : ℕ → Bool) (ks : List ℕ) (a b : ℕ) → l a ≡ true → l b ≡ true → a ≢ b → 1 ≤ occurs ks a → 1 ≤ occurs ks b → 2 ≤ marks l ks
 marks_two l [] a b ea eb ne oa ob = absurd (omega arith)
 marks_two l (x ∷ xs) a b ea eb ne oa ob = elim (cases_eq x a) [

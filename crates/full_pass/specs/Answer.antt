@@ -1,10 +1,11 @@
--- The rows that a tree keeps as it is, and the rows that gather some children of one P-node.
-use Rattle.std.specs.Prelude.{◌≡◌, ℕ, ◌≤◌, ◌<◌, List, ◌++◌, length, Some}
+-- The rows that a tree keeps as it is, and the rows that gather some children of one P-node, alone or beside a run.
+use Rattle.std.specs.Prelude.{◌≡◌, ◌⊎◌, ℕ, ◌≤◌, ◌<◌, List, ◌∷◌, ◌++◌, length, Some}
 use Rattle.arena_model.specs.declared.Shape.TheVariants.{P, Q}
+use Rattle.arena_model.specs.ChildLists.{none, head_or, last_or}
 use Rattle.arena_model.specs.Layout.{Layout, shape_at, children_at, IsAtOrAbove}
 use Rattle.column_order.specs.Orders.{occurs}
 use Rattle.full_pass.specs.declared.settled.Settled.{Settled}
-use Rattle.full_pass.specs.declared.settled.Settled.TheVariants.{Kept, Group, Open}
+use Rattle.full_pass.specs.declared.settled.Settled.TheVariants.{Kept, Group, Beside, Open}
 use Rattle.arena_model.specs.RowLeaves.{Holds, Meets, IsLeafAt}
 
 -- each leaf at or below n is in the row
@@ -32,10 +33,37 @@ pub record IsGroup (f : Layout) (row : List ℕ) (p : ℕ) (members : List ℕ) 
   pub two : 2 ≤ length members
   pub not_all : length members < length (children_at f p)
 
--- what each answer says, with the members of the last group
+-- Some children of the P-node n, each once, one or more and not all: all their leaves are in the row, and none below
+-- another child.
+pub record IsFilledPart (f : Layout) (row : List ℕ) (n : ℕ) (members : List ℕ) : Type 0 where
+  pub is_p : shape_at f n ≡ Some P
+  pub once : (k : ℕ) → occurs members k ≤ 1
+  pub child : (k : ℕ) → 1 ≤ occurs members k → 1 ≤ occurs (children_at f n) k
+  pub some : 1 ≤ length members
+  pub not_all : length members < length (children_at f n)
+  pub filled : (k : ℕ) → 1 ≤ occurs members k → IsFullNode f row k
+  pub others : (k : ℕ) → 1 ≤ occurs (children_at f n) k → Meets f row k → 1 ≤ occurs members k
+
+-- The leaves of the row are those below the run ks of children of the Q-node q, and those below some children of the
+-- P-node n beside an end of the run. t is the neighbour of n in the run, and n has another neighbour.
+pub record IsBesideRun (f : Layout) (row : List ℕ) (n t : ℕ) (members : List ℕ) : Type 0 where
+  pub part : IsFilledPart f row n members
+  pub q : ℕ
+  pub us : List ℕ
+  pub ks : List ℕ
+  pub vs : List ℕ
+  pub is_q : shape_at f q ≡ Some Q
+  pub some : 1 ≤ length ks
+  pub place : ((children_at f q ≡ us ++ (n ∷ (ks ++ vs))) × (t ≡ head_or ks none) × (1 ≤ length us))
+      ⊎ ((children_at f q ≡ us ++ (ks ++ (n ∷ vs))) × (t ≡ last_or ks none) × (1 ≤ length vs))
+  pub filled : (k : ℕ) → 1 ≤ occurs ks k → IsFullNode f row k
+  pub covers : (x : ℕ) → 1 ≤ occurs row x → (k : ℕ) × (1 ≤ occurs (members ++ ks) k) × IsAtOrAbove f.slots k x
+
+-- what each answer says, with the members of the P-node that it names
 abbrev pub IsSettled : Layout → List ℕ → List ℕ → Settled → Type 0
 IsSettled f row members Kept = IsRowKept f row
 IsSettled f row members (Group p) = IsGroup f row p.index members
+IsSettled f row members (Beside e) = IsBesideRun f row e.node.index e.beside.index members
 IsSettled f row members Open = Unit {0}
 
 -- distinct leaves below the root

@@ -2,7 +2,7 @@
 use Rattle.std.specs.Prelude.{◌≡◌, ℕ, Bool, cond, List, length, Option, Some, None, slice_index_or}
 use Rattle.pq_arena.specs.declared.node.NodeId.{NodeId}
 use Rattle.full_pass.specs.declared.tallies.Tally.{Tally}
-use Rattle.full_pass.specs.declared.entries.End.{End}
+use Rattle.full_pass.specs.declared.entries.RunEnd.{RunEnd}
 use Rattle.full_pass.specs.declared.entries.Entries.{Entries}
 use Rattle.full_pass.specs.Tallies.{tally_in, full_in, hits_in, first_in, next_in, mark_in, chained, AreStamped}
 
@@ -31,7 +31,7 @@ abbrev pub next : Entries → ℕ → ℕ
 next w x = next_in w.tallies.items x
 
 -- stands for the end of a node that has none
-abbrev pub no_end : End
+abbrev pub no_end : RunEnd
 no_end = record { far = record { index = 0 }; up = None }
 
 -- the other end of the run that x is an end of

@@ -13,14 +13,16 @@ use Rattle.full_pass.specs.declared.added.Added.{Added}
 use Rattle.full_pass.specs.declared.added.Added.TheVariants.{Top, Run, First, More, Whole}
 use Rattle.full_pass.specs.declared.added.Next.{Next}
 use Rattle.full_pass.specs.declared.added.Next.TheVariants.{Ended, Above}
+use Rattle.full_pass.specs.declared.count.Counted.{Counted}
+use Rattle.full_pass.specs.declared.count.Counted.TheVariants.{Answered, MayFill, TwoParts, Open as CountedOpen}
 use Rattle.full_pass.specs.declared.tallies.Tally.{Tally}
 use Rattle.full_pass.specs.declared.joins.Joined.{Joined}
 use Rattle.full_pass.specs.declared.joins.Joined.TheVariants.{Plain, Wide}
 use Rattle.full_pass.specs.declared.joins.Place.{Place}
 use Rattle.full_pass.specs.declared.joins.Place.TheVariants.{Top as PlaceTop, Run as PlaceRun, Ring as PlaceRing}
 use Rattle.full_pass.specs.declared.settled.Settled.{Settled}
-use Rattle.full_pass.specs.declared.settled.Settled.TheVariants.{Kept, Group, Open}
-use Rattle.full_pass.specs.Answer.{IsFullNode}
+use Rattle.full_pass.specs.declared.settled.Settled.TheVariants.{Kept, Group, Beside, Open}
+use Rattle.full_pass.specs.Answer.{IsFullNode, IsSettled}
 use Rattle.full_pass.specs.Entries.{is_full, hits, far, up, first, next, AreReady}
 use Rattle.full_pass.specs.Tallies.{full_in, hits_in, first_in, next_in, chained, AreStamped}
 
@@ -138,6 +140,7 @@ IsJoined f row l h waiting n (Wide pairs p) = (pairs ≤ n) × (1 ≤ pairs) × 
 abbrev pub IsLast : Layout → List ℕ → (ℕ → Bool) → (ℕ → ℕ) → List ℕ → ℕ → Settled → Type 0
 IsLast f row l h waiting n Kept = Pass f row l h waiting n × (InRun f l waiting ⊎ InFirst f l waiting)
 IsLast f row l h waiting n (Group p) = Pass f row l h waiting n × InMore f l waiting p.index
+IsLast f row l h waiting n (Beside e) = ⊥
 IsLast f row l h waiting n Open = Unit {0}
 
 -- what is known once the nodes are labelled that a leaf made full: the answer if no other part is left
@@ -234,7 +237,30 @@ pub record Counting (f : Layout) (row : List ℕ) (labels : List ℕ) (tallies :
 abbrev pub members_in : List Tally → ℕ → Settled → List ℕ
 members_in tallies stamp Kept = []
 members_in tallies stamp (Group p) = chained (hits_in tallies stamp p.index) (next_in tallies) (first_in tallies p.index)
+members_in tallies stamp (Beside e) = chained (hits_in tallies stamp e.node.index) (next_in tallies) (first_in tallies e.node.index)
 members_in tallies stamp Open = []
+
+-- a pass that counts has gone over the row, and two parts are left at most
+pub record AreTwo (f : Layout) (row : List ℕ) (labels : List ℕ) (tallies : List Tally) (stamp : ℕ) : Type 0 where
+  pub counted : AreCounted f labels tallies stamp
+  pub pass : Pass f row (full_in labels stamp) (hits_in tallies stamp) [] 2
+
+-- what is known where a pass that counts ends so
+abbrev pub IsCounted : Layout → List ℕ → List ℕ → List Tally → ℕ → Counted → Type 0
+IsCounted f row labels tallies stamp (Answered s) = IsSettled f row (members_in tallies stamp s) s
+IsCounted f row labels tallies stamp MayFill = Unit {0}
+IsCounted f row labels tallies stamp TwoParts = AreTwo f row labels tallies stamp
+IsCounted f row labels tallies stamp CountedOpen = Unit {0}
+
+-- this node is one of two neighbours, and labelled
+abbrev pub IsLabelledNear : (ℕ → Bool) → Option NodeId → Option NodeId → Option NodeId → Type 0
+IsLabelledNear l a b None = Unit {0}
+IsLabelledNear l a b (Some t) = (l t.index ≡ true) × (a ≢ None) × (b ≢ None) × ((a ≡ Some t) ⊎ (b ≡ Some t))
+
+-- the answer for the row, where there is one
+abbrev pub IsFoundAbove : Layout → List ℕ → List Tally → ℕ → Option Settled → Type 0
+IsFoundAbove f row tallies stamp None = Unit {0}
+IsFoundAbove f row tallies stamp (Some s) = IsSettled f row (members_in tallies stamp s) s
 
 abbrev pub members_of : Entries → Settled → List ℕ
 members_of w s = members_in w.tallies.items w.stamp s

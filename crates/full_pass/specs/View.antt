@@ -4,7 +4,7 @@ use Rattle.pq_arena.specs.declared.node.NodeId.{NodeId}
 use Rattle.full_pass.specs.declared.work.FullWork.TheInside.{Inside}
 use Rattle.full_pass.specs.Entries.{AreReady}
 
--- The room of a pass: for how many nodes it is, and the members of the last group.
+-- The room of a pass: for how many nodes it is, and the members of the last answer that has some.
 pub record Room : Type 0 where
   pub size : ℕ
   pub members : List NodeId

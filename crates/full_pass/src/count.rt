@@ -3,9 +3,8 @@ ghost use Rattle.std.specs.Prelude.{◌≡◌, ℕ, ◌+◌, ◌*◌, ◌≤◌,
 ghost use Rattle.row_model.specs.Rows.{IsRow};
 ghost use Rattle.arena_model.specs.NamedTree.{IsOneTree};
 ghost use Rattle.pq_arena.specs.RowNodes.{column_leaves};
-ghost use Rattle.full_pass.specs.Answer.{IsSettled};
 ghost use Rattle.full_pass.specs.Tallies.{full_in, hits_in, AreStamped};
-ghost use Rattle.full_pass.specs.Passing.{members_in, AreCounted, CanAdd, CanClimb, Pass, IsAdded, IsRisen};
+ghost use Rattle.full_pass.specs.Passing.{AreCounted, CanAdd, CanClimb, IsCounted, Pass, IsAdded, IsRisen};
 
 use crate::added::{Added, Next, after, judged};
 use crate::joins::{Place, place_of};
@@ -16,10 +15,15 @@ use step_count::{Ledger, Steps};
 
 // What a pass that counts found.
 #[derive(Clone, Copy)]
-pub struct Counted {
-    pub settled: Settled,
-    // Whether both end children of some Q-node showed it, so that the node may be full.
-    pub may_fill: bool,
+pub enum Counted {
+    // The answer.
+    Answered(Settled),
+    // Both end children of some Q-node showed it, so that the node may be full.
+    MayFill,
+    // No Q-node may be full, and two parts are left.
+    TwoParts,
+    // No Q-node may be full, and other parts are left.
+    Open,
 }
 
 // Labels the full node `x`.
@@ -107,7 +111,7 @@ pub fn count<L: Ledger>(
     requires full { (x : ℕ) → full_in labels.old stamp x ≡ false }
     requires hits { (x : ℕ) → hits_in tallies.old stamp x ≡ 0 }
     ensures ready { AreStamped labels.new tallies.new stamp (length arena.now.slots) }
-    ensures settled { IsSettled arena.now (column_leaves row.now) (members_in tallies.new stamp result.settled) result.settled }
+    ensures counted { IsCounted arena.now (column_leaves row.now) labels.new tallies.new stamp result }
     ensures ticks { steps.new ≤ steps.old + 4 * length row.now }
 {
     arena.layout_law();
@@ -126,23 +130,16 @@ pub fn count<L: Ledger>(
             steps,
         ) {
             Some(settled) => last = settled,
-            None => {
-                return Counted {
-                    settled: Settled::Kept,
-                    may_fill,
-                };
-            }
+            None => return Counted::Answered(Settled::Kept),
         }
     }
     if parts == 1 {
-        Counted {
-            settled: last,
-            may_fill,
-        }
+        Counted::Answered(last)
+    } else if may_fill {
+        Counted::MayFill
+    } else if parts == 2 {
+        Counted::TwoParts
     } else {
-        Counted {
-            settled: Settled::Open,
-            may_fill,
-        }
+        Counted::Open
     }
 }

@@ -12,7 +12,7 @@ use std::alloc::Global;
 
 // What a pass that keeps runs holds of one node besides.
 #[derive(Clone, Copy)]
-pub struct End {
+pub struct RunEnd {
     // The other end of the run of labelled children of a Q-node that this node is an end of.
     pub far: NodeId,
     // The node above this one, where it showed that.
@@ -31,7 +31,7 @@ pub struct Side {
 pub struct Entries {
     pub labels: Vec<u32>,
     pub tallies: Vec<Tally>,
-    pub ends: Vec<End>,
+    pub ends: Vec<RunEnd>,
     pub stamp: u32,
 }
 
@@ -48,8 +48,8 @@ fn blank_tally() -> Tally
 }
 
 // An end of no run.
-fn no_end() -> End {
-    End {
+fn no_end() -> RunEnd {
+    RunEnd {
         far: NodeId::default(),
         up: None,
     }

@@ -9,7 +9,8 @@ ghost use Rattle.full_pass.specs.Answer.{IsSettled};
 ghost use Rattle.full_pass.specs.Entries.{AreReady};
 ghost use Rattle.full_pass.specs.Passing.{members_of, CanPass};
 
-use crate::count::count;
+use crate::beside::find_beside;
+use crate::count::{Counted, count};
 use crate::entries::Entries;
 use crate::joins::rise;
 use crate::pace::Pace;
@@ -18,6 +19,15 @@ use pq_arena::{Arena, NodeId};
 use row_model::Matrix;
 use step_count::{Ledger, Steps};
 
+/// A P-node that is an inner child of a Q-node, and one of its two neighbours.
+#[derive(Clone, Copy)]
+pub struct End {
+    /// The P-node.
+    pub node: NodeId,
+    /// Its neighbour.
+    pub beside: NodeId,
+}
+
 /// What a full pass finds of a row.
 #[derive(Clone, Copy)]
 pub enum Settled {
@@ -25,13 +35,17 @@ pub enum Settled {
     Kept,
     /// The row is what stands below some children of this P-node, two or more and not all.
     Group(NodeId),
+    /// The row is what is below a run of children of a Q-node, and below some children of the P-node beside an end of
+    /// that run, one or more and not all. The neighbour is that end.
+    Beside(End),
     /// Nothing is known.
     Open,
 }
 
 /// Looks at full nodes and at the P-nodes above them alone, and says whether every frontier of the tree keeps row
-/// `k` of the matrix, numbered from 1, or template P2 applies. After [`Settled::Group`], [`FullWork::members`] are
-/// the full children of its node.
+/// `k` of the matrix, numbered from 1, or what has to be gathered: children of one P-node, or a run of children of a
+/// Q-node and children of the P-node beside it. After [`Settled::Group`] and [`Settled::Beside`],
+/// [`FullWork::members`] are the full children of the P-node.
 pub fn settle<L: Ledger>(
     arena: &Arena,
     m: &Matrix,
@@ -53,7 +67,7 @@ pub fn settle<L: Ledger>(
 }
 
 // A pass that counts over the row with these columns. Where that leaves the row open, and a Q-node may be full, a pass
-// that keeps runs goes on.
+// that keeps runs goes on. Where no Q-node may be full, and two parts are left, one may be of a P-node beside the other.
 pub fn run_both<L: Ledger>(
     arena: &Arena,
     row: &[u32],
@@ -68,21 +82,28 @@ pub fn run_both<L: Ledger>(
 {
     entries.begin();
     let stamp = entries.stamp;
-    let counted = count(
+    match count(
         arena,
         row,
         &mut entries.labels,
         &mut entries.tallies,
         stamp,
         steps,
-    );
-    let is_open = matches!(counted.settled, Settled::Open);
-    if !is_open || !counted.may_fill || !pace.is_next() {
-        return counted.settled;
+    ) {
+        Counted::Answered(settled) => settled,
+        Counted::Open => Settled::Open,
+        Counted::TwoParts => {
+            find_beside(arena, row, &entries.labels, &entries.tallies, stamp, steps)
+        }
+        Counted::MayFill => {
+            if !pace.is_next() {
+                return Settled::Open;
+            }
+            let settled = run(arena, row, entries, steps);
+            pace.note(settled);
+            settled
+        }
     }
-    let settled = run(arena, row, entries, steps);
-    pace.note(settled);
-    settled
 }
 
 // The pass over the row with these columns that keeps runs.

@@ -16,7 +16,7 @@ use std::alloc::Global;
 use std::marker::Model;
 use step_count::{Ledger, Steps};
 
-/// The room of a full pass, taken once for all rows, and the members of the last group that it found.
+/// The room of a full pass, taken once for all rows, and the members that it found last.
 #[derive(Drop)]
 pub struct FullWork {
     entries: Entries,
@@ -64,7 +64,7 @@ impl FullWork {
         self.entries.tallies.len() == 2 * columns as usize + 4
     }
 
-    /// After [`Settled::Group`] the full children of its node, each once, in no stated order.
+    /// After [`Settled::Group`] and [`Settled::Beside`] the full children of the P-node, each once, in no stated order.
     pub fn members(&self) -> &[NodeId]
         ensures { result.now ≡ self.now.members }
     {
@@ -92,6 +92,10 @@ impl FullWork {
             Settled::Group(p) => {
                 self.count = self.entries.list(p, &mut self.members);
                 Settled::Group(p)
+            }
+            Settled::Beside(end) => {
+                self.count = self.entries.list(end.node, &mut self.members);
+                Settled::Beside(end)
             }
             Settled::Open => Settled::Open,
         }

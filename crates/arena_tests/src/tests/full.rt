@@ -1,7 +1,8 @@
 // Full passes over a few rows in turn, on trees that are built by calls.
 
+use super::calls::{put_under, take};
 use super::passes::is_row;
-use super::splices::put_together;
+use super::splices::{put_columns, put_together};
 use full_pass::{FullWork, Settled, settle};
 use pq_arena::{Arena, NodeId};
 use row_model::{Matrix, NoMemory};
@@ -27,28 +28,39 @@ fn settle_row<L: Ledger>(
     settle(arena, m, k, work, steps)
 }
 
-// What a pass has to say: after a group, the node at this place, the one that was put together or the root, and how many
-// members there are.
+// What a pass has to say: of a group, the node at this place, the one that was put together or the root, and how many
+// members there are; of a run and the node that was put together beside it, the column at the end of the run, and how
+// many members there are.
 #[derive(Clone, Copy, Drop)]
 pub enum Wanted {
     Kept,
     Open,
     Group(usize, usize),
+    Beside(u32, usize),
 }
 
-// A tree of five columns, of which the first few stand under a node of their own, and the rows that it is asked for.
+// A tree of five columns.
+#[derive(Clone, Copy, Drop)]
+pub enum Tree {
+    // So many columns, the first, are under a Q-node of their own.
+    Line(u32),
+    // They are under a P-node of their own.
+    Ring(u32),
+    // The tree ([1 (2 3) 4] 5).
+    Nested,
+}
+
+// A tree, and the rows that it is asked for.
 #[derive(Clone, Copy, Drop)]
 pub struct Case {
-    is_line: bool,
-    last: u32,
+    tree: Tree,
     questions: &'static [(&'static [u32], Wanted)],
 }
 
-pub const FULL_CASES: [Case; 3] = [
+pub const FULL_CASES: [Case; 4] = [
     // The tree ([1 2 3 4] 5).
     Case {
-        is_line: true,
-        last: 4,
+        tree: Tree::Line(4),
         questions: &[
             (&[2, 3], Wanted::Kept),
             (&[1, 2], Wanted::Kept),
@@ -60,8 +72,7 @@ pub const FULL_CASES: [Case; 3] = [
     },
     // The tree ((1 2 3) 4 5).
     Case {
-        is_line: false,
-        last: 3,
+        tree: Tree::Ring(3),
         questions: &[
             (&[1, 3], Wanted::Group(0, 2)),
             (&[1, 2, 3, 5], Wanted::Group(1, 2)),
@@ -72,8 +83,7 @@ pub const FULL_CASES: [Case; 3] = [
     },
     // The tree ([1 2 3] 4 5). Where the Q-node is a member, its ends show that it may be full.
     Case {
-        is_line: true,
-        last: 3,
+        tree: Tree::Line(3),
         questions: &[
             (&[1, 2, 3, 4], Wanted::Group(1, 2)),
             (&[1, 3], Wanted::Open),
@@ -82,6 +92,21 @@ pub const FULL_CASES: [Case; 3] = [
             (&[1, 2, 3, 4, 5], Wanted::Kept),
             (&[1, 2, 4], Wanted::Open),
             (&[4, 5], Wanted::Group(1, 2)),
+        ],
+    },
+    // The tree ([1 (2 3) 4] 5).
+    Case {
+        tree: Tree::Nested,
+        questions: &[
+            (&[1, 2], Wanted::Beside(1, 1)),
+            (&[3, 4], Wanted::Beside(4, 1)),
+            (&[1, 2, 3], Wanted::Kept),
+            (&[2, 3], Wanted::Kept),
+            (&[1, 2, 4], Wanted::Open),
+            (&[1, 4], Wanted::Open),
+            (&[1, 5], Wanted::Open),
+            (&[2, 5], Wanted::Open),
+            (&[1, 2, 3, 4], Wanted::Kept),
         ],
     },
 ];
@@ -101,7 +126,36 @@ fn assert_settled(
             assert_eq!(rt; p.index(), nodes[place].index());
             assert_eq!(rt; members, count);
         }
+        (Settled::Beside(end), Wanted::Beside(column, count)) => {
+            assert_eq!(rt; end.node.index(), nodes[0].index());
+            assert_eq!(rt; end.beside.index(), column.wrapping_sub(1));
+            assert_eq!(rt; members, count);
+        }
         _ => assert!(rt; false),
+    }
+}
+
+// Puts the tree together. Gives the node over columns of its own, of two nested ones the P-node.
+fn put_tree<L: Ledger>(
+    rt: &impl Abort,
+    arena: &mut Arena,
+    tree: Tree,
+    steps: &mut Steps<L>,
+) -> NodeId {
+    match tree {
+        Tree::Line(last) => put_together(rt, arena, true, last, steps),
+        Tree::Ring(last) => put_together(rt, arena, false, last, steps),
+        Tree::Nested => {
+            let inner = take(rt, arena, false, steps);
+            put_columns(rt, arena, inner, &[2, 3], steps);
+            let line = take(rt, arena, true, steps);
+            put_columns(rt, arena, line, &[1], steps);
+            put_under(rt, arena, line, 1, inner, steps);
+            put_columns(rt, arena, line, &[4], steps);
+            let root = arena.root();
+            put_under(rt, arena, root, 1, line, steps);
+            inner
+        }
     }
 }
 
@@ -113,7 +167,7 @@ pub fn one_full_case<L: Ledger>(
     steps: &mut Steps<L>,
 ) -> Result<(), NoMemory> {
     let mut arena = Arena::new(alloc, 5)?;
-    let node = put_together(rt, &mut arena, case.is_line, case.last, steps);
+    let node = put_tree(rt, &mut arena, case.tree, steps);
     let nodes = [node, arena.root()];
     let mut work = FullWork::new(alloc, 5)?;
     for (row, wanted) in case.questions {

@@ -26,8 +26,8 @@ climb-requires-clause-waits g c = record {
       c.layout_law.ensures c.leaf.ensures c.loop-column-test.true c.loop-column.invariant.counting.pass;
 }
 
-pub returns-in-None-clause-settled : goal.returns-in-None-clause-settled
-returns-in-None-clause-settled g c =
+pub returns-in-None-clause-counted : goal.returns-in-None-clause-counted
+returns-in-None-clause-counted g c =
     root_kept c.args.arena.now c.args.row.now c.layout_law.ensures c.requires.tree c.requires.row
     (c.in-None.ensures.risen (column_leaves c.args.row.now) (column_leaves (drop (c.loop-column.column-index + 1) c.args.row.now))
     (next_waits c.args.arena.now c.args.row.now (full_in c.loop-column.labels c.args.stamp) (hits_in c.loop-column.tallies c.args.stamp) c.loop-column.column-index c.loop-column.parts c.leaf.result.index
@@ -44,8 +44,8 @@ loop-column-preserved g c =
       ticks = omega (arith, c.loop-column.invariant.ticks, c.in-Some.ensures.ticks);
     }
 
-pub returns-then-parts-eq1-clause-settled : goal.returns-then-parts-eq1-clause-settled
-returns-then-parts-eq1-clause-settled g c =
+pub returns-then-parts-eq1-clause-counted : goal.returns-then-parts-eq1-clause-counted
+returns-then-parts-eq1-clause-counted g c =
     settled_at_end c.args.arena.now c.args.row.now (full_in c.loop-column.labels c.args.stamp) c.loop-column.tallies c.args.stamp c.loop-column.column-index c.loop-column.parts c.loop-column.last
     c.layout_law.ensures c.requires.tree c.requires.row c.loop-column-test.false
     (let one : c.loop-column.parts ≡ 1 = c.if-parts-eq1.true in omega arith) c.loop-column.invariant.counting.counted.chains c.loop-column.invariant.counting.answer

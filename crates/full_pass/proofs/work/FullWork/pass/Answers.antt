@@ -1,15 +1,15 @@
 use Rattle.std.proofs.Common.{◌≡◌, ◌≤◌, ◌<◌, length, ap, sym, subst, arith}
 use Rattle.pq_arena.specs.RowNodes.{column_leaves}
-use Rattle.full_pass.specs.Answer.{IsGroup}
+use Rattle.full_pass.specs.Answer.{IsBesideRun, IsGroup}
 use Rattle.full_pass.specs.Entries.{hits}
-use Rattle.full_pass.proofs.Ends.{group_few, group_within}
+use Rattle.full_pass.proofs.Ends.{chain_few, child_within}
 use Rattle.full_pass.proofs.Frontiers.{kept_outline}
 use Rattle.full_pass.proofs.work.FullWork.pass.Goals as goal
 
 pub list-self-inside-requires-clause-room : goal.list-self-inside-requires-clause-room
 list-self-inside-requires-clause-room g c =
     let a : hits c.run_both.new.entries c.in-Group.p.index ≤ length c.args.arena.now.slots =
-    group_few c.args.arena.now (column_leaves c.args.row.now) c.run_both.new.entries c.in-Group.p.index c.layout_law.ensures c.in-Group.ensures.settled in
+    chain_few c.args.arena.now c.run_both.new.entries c.in-Group.p.index c.layout_law.ensures c.in-Group.ensures.settled.not_all in
     let b : length c.self.inside.entries.tallies.items ≤ length c.self.inside.members.items = c.self.invariant.room in
     let d : length c.self.inside.entries.tallies.items ≡ c.args.self.now.size = ap (λ r. r.size) c.self.view_is in
     omega (arith, c.requires.room)
@@ -17,12 +17,30 @@ list-self-inside-requires-clause-room g c =
 pub list-self-inside-requires-clause-all : goal.list-self-inside-requires-clause-all
 list-self-inside-requires-clause-all g c = λ k o.
     let a : k < length c.args.arena.now.slots =
-    group_within c.args.arena.now (column_leaves c.args.row.now) c.run_both.new.entries c.in-Group.p.index k c.layout_law.ensures c.in-Group.ensures.settled o in
+    child_within c.args.arena.now c.in-Group.p.index k c.layout_law.ensures (c.in-Group.ensures.settled.child k o) in
     subst (λ z. k < z) (sym c.in-Group.ensures.ready.stamped.size) a
 
 pub returns-in-Group-clause-settled : goal.returns-in-Group-clause-settled
 returns-in-Group-clause-settled g c =
     subst (λ z. IsGroup c.args.arena.now (column_leaves c.args.row.now) c.in-Group.p.index z) (sym c.list-self-inside.ensures.members) c.in-Group.ensures.settled
+
+pub list-self-inside-requires-in-Beside-clause-room : goal.list-self-inside-requires-in-Beside-clause-room
+list-self-inside-requires-in-Beside-clause-room g c =
+    let a : hits c.run_both.new.entries c.in-Beside.end.node.index ≤ length c.args.arena.now.slots =
+    chain_few c.args.arena.now c.run_both.new.entries c.in-Beside.end.node.index c.layout_law.ensures c.in-Beside.ensures.settled.part.not_all in
+    let b : length c.self.inside.entries.tallies.items ≤ length c.self.inside.members.items = c.self.invariant.room in
+    let d : length c.self.inside.entries.tallies.items ≡ c.args.self.now.size = ap (λ r. r.size) c.self.view_is in
+    omega (arith, c.requires.room)
+
+pub list-self-inside-requires-in-Beside-clause-all : goal.list-self-inside-requires-in-Beside-clause-all
+list-self-inside-requires-in-Beside-clause-all g c = λ k o.
+    let a : k < length c.args.arena.now.slots =
+    child_within c.args.arena.now c.in-Beside.end.node.index k c.layout_law.ensures (c.in-Beside.ensures.settled.part.child k o) in
+    subst (λ z. k < z) (sym c.in-Beside.ensures.ready.stamped.size) a
+
+pub returns-in-Beside-clause-settled : goal.returns-in-Beside-clause-settled
+returns-in-Beside-clause-settled g c =
+    subst (λ z. IsBesideRun c.args.arena.now (column_leaves c.args.row.now) c.in-Beside.end.node.index c.in-Beside.end.beside.index z) (sym c.list-self-inside-in-Beside.ensures.members) c.in-Beside.ensures.settled
 
 pub returns-in-Kept-clause-kept : goal.returns-in-Kept-clause-kept
 returns-in-Kept-clause-kept g c = λ e o frontier.
