@@ -143,7 +143,7 @@ SURE = re.compile(r"&&|\|\||=>|[{}]|\|[\w(&]")
 CALL = re.compile(r"(?:([\w.]*\w)(\.|::))?\b(\w+)\(")
 # what the solver does with a matrix: sizes, its last row, and the calls that it is handed to
 ASKED = re.compile(
-    r"\b(?:m|self\.matrix)\.(?:rows|columns|push_row|pop_row)\(|\b(?:solve|reduce_all|reduce_last|conflict|odd_cycle_along|reduce|reduce_row)\([^()]*?&?\b(?:m|self\.matrix),"
+    r"\b(?:m|self\.matrix)\.(?:rows|columns|push_row|pop_row)\(|\b(?:solve|reduce_all|reduce_last|conflict|odd_cycle_along|reduce|reduce_row|reduce_after)\([^()]*?&?\b(?:m|self\.matrix),"
     r"|^\s*(?:matrix: (?:m|_matrix),|&self\.matrix)$")
 ITS_MATRIX = re.compile(r"\b(?:m|matrix)\b")
 # a line of an import
