@@ -4,14 +4,14 @@ limits; runs the commands of the pages; compares the answer on every small insta
 the verdict checked; compares the judgement on forged verdicts and the refusals of changed files with a second checker, and that on right
 verdicts with other trees with a plain program that lists all orders; compares generated matrices and sessions with plain programs of their
 rules, lists of orders and what two trees share with ones that list all orders; finds the unit model of every small graph, and compares
-what is said of changed ones with a plain checker; bounds what hostile files cost; and tries the first call of `./pq`,
+what is said of changed ones with a plain checker; bounds what hostile files cost, and how the instructions of each command grow; and tries the first call of `./pq`,
 `scripts/try.py`, the companion, the library, the page, and how a release is compared.
 
 Usage: end_to_end/check.py [PART ..]   after `rt ci` or `./pq`, which leave the program in crates/pq/out/pq
 
 PARTs pick some of the checks: `cases` (files and streams), `pages`, `answers` (of small instances, at the limits, of `gen`, of sessions, of lists, of
 unit models, of cores and of drawn cycles), `forgeries`, `trees`, `meetings`, `hostile`, `first_call`, `try`, `companion`, `library`,
-`page`, `release`, `fuzz` (a few drawn runs of each command and kind); default all.
+`page`, `release`, `fuzz` (a few drawn runs of each command and kind), `growth` (where valgrind is there); default all.
 The last line is `N passed, N failed`; the status is 0 where
 nothing failed.
 """
@@ -30,6 +30,7 @@ import companion_kinds
 import first_call
 import forgeries
 import fuzz
+import growth
 import library
 import meetings
 import other_trees
@@ -176,7 +177,7 @@ DRAWN = (1, 60)
 FURTHER = {"forgeries": lambda: forgeries.compared(Limits()), "trees": other_trees.compared, "hostile": hostile_problems,
            "first_call": first_call.problems, "try": tries.problems,
            "companion": lambda: itertools.chain(companion.problems(), companion_kinds.problems()), "library": library.problems, "page": page.problems}
-FURTHER |= {"meetings": meetings.compared, "release": releases.problems, "fuzz": lambda: fuzz.problems(*DRAWN)}
+FURTHER |= {"meetings": meetings.compared, "release": releases.problems, "fuzz": lambda: fuzz.problems(*DRAWN), "growth": growth.problems}
 PARTS = ["cases", "pages", "answers", *FURTHER]
 
 
