@@ -1,10 +1,10 @@
 // The reply on two trees.
-ghost use Rattle.std.specs.Prelude.{◌≡◌, ◌⊎◌, ◌≤◌, ◌++◌, ℕ, List, length, IfOk, OnOk};
+ghost use Rattle.std.specs.Prelude.{◌≡◌, ◌⊎◌, ◌+◌, ◌≤◌, ◌++◌, ℕ, List, length, IfOk, IfSome, OnOk};
 ghost use Rattle.row_model.specs.declared.TheConstants.{MAX_COLUMNS};
 ghost use Rattle.row_model.specs.Cycles.{IsOddCycle};
 ghost use Rattle.pq_tree.specs.PqTree.{column_count, outline};
 ghost use Rattle.odd_cycle.specs.Short.{IsShort};
-ghost use Rattle.tree_meet.specs.Meets.{IsCommon, IsMeet, joint_rows};
+ghost use Rattle.tree_meet.specs.Meets.{IsCommon, IsMeet, joint_rows, joint_matrix};
 ghost use Rattle.commands.specs.Meetings.{meet_head, TellsCommon, TellsApart, IsMeetingReply};
 
 use crate::{NoMemory, Reply};
@@ -16,7 +16,8 @@ use step_count::{Ledger, Steps};
 use tree_meet::{Met, meet, row_count};
 use verdict_text::{print_cycle, print_side};
 
-/// The reply with what two trees share, as a judge of matrices finds it.
+/// The reply with what two trees share, as a judge of matrices finds it. It is asked once, for the matrix of the rows of
+/// both trees, so the steps are those of that judgement.
 ///
 /// # Errors
 ///
@@ -34,6 +35,10 @@ pub fn meeting_reply<J: Judge, L: Ledger>(
         IsMeetingReply (column_count first.now) (outline first.now) (outline second.now)
         reply.status reply.text.items) }
     ensures status { IfOk result (λ reply. (reply.status ≡ 0) ⊎ (reply.status ≡ 1)) }
+    ensures yes { IfSome J.costs (λ c. IfOk result (λ reply. reply.status ≡ 0
+        → steps.new ≤ steps.old + c.yes (joint_matrix (column_count first.now) (outline first.now) (outline second.now)))) }
+    ensures most { IfSome J.costs (λ c.
+        steps.new ≤ steps.old + c.any (joint_matrix (column_count first.now) (outline first.now) (outline second.now))) }
 {
     match meet(alloc, judge, first, second, steps)? {
         Met::Tree(tree) => {

@@ -49,11 +49,11 @@ stands (Extend kind file more) (_ ∷ []) status s low = refl
 stands (Extend kind file more) (_ ∷ _ ∷ []) status s low = λ m rows made told. extension_stands m rows.rows status s low
 stands (Extend kind file more) (_ ∷ _ ∷ _ ∷ _) status s low = refl
 stands (Core kind file) [] status s low = refl
-stands (Core kind file) (_ ∷ []) status s low = tt
+stands (Core kind file) (_ ∷ []) status s low = λ m made. record { none = λ e. absurd (low (inr e)); core = λ e. absurd (low (inl e)) }
 stands (Core kind file) (_ ∷ _ ∷ _) status s low = refl
 stands (Meet columns first second) [] status s low = refl
 stands (Meet columns first second) (_ ∷ []) status s low = refl
-stands (Meet columns first second) (_ ∷ _ ∷ []) status s low = tt
+stands (Meet columns first second) (_ ∷ _ ∷ []) status s low = λ t u one other. record { shared = λ e. omega arith; most = omega arith }
 stands (Meet columns first second) (_ ∷ _ ∷ _ ∷ _) status s low = refl
 stands (Check kind file verdict) files status s low = refl
 stands (CheckCore kind file core) files status s low = refl
@@ -78,11 +78,11 @@ cut_short (Extend kind file more) (_ ∷ _ ∷ []) status s n w =
     λ m rows made told. record { base = λ e. absurd (omega (arith, e)); session = λ e. absurd (omega (arith, e)); most = (w m rows made told).most }
 cut_short (Extend kind file more) (_ ∷ _ ∷ _ ∷ _) status s n w = w
 cut_short (Core kind file) [] status s n w = w
-cut_short (Core kind file) (_ ∷ []) status s n w = tt
+cut_short (Core kind file) (_ ∷ []) status s n w = λ m made. record { none = λ e. absurd (omega (arith, e)); core = λ e. absurd (omega (arith, e)) }
 cut_short (Core kind file) (_ ∷ _ ∷ _) status s n w = w
 cut_short (Meet columns first second) [] status s n w = w
 cut_short (Meet columns first second) (_ ∷ []) status s n w = w
-cut_short (Meet columns first second) (_ ∷ _ ∷ []) status s n w = tt
+cut_short (Meet columns first second) (_ ∷ _ ∷ []) status s n w = λ t u one other. record { shared = λ e. absurd (omega (arith, e)); most = (w t u one other).most }
 cut_short (Meet columns first second) (_ ∷ _ ∷ _ ∷ _) status s n w = w
 cut_short (Check kind file verdict) files status s n w = w
 cut_short (CheckCore kind file core) files status s n w = w

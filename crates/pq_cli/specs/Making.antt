@@ -1,5 +1,5 @@
 -- What the calls for which something is solved make of an instance. The count of steps goes from s to n.
-use Rattle.std.specs.Prelude.{◌≡◌, ⊤, ℕ, Result}
+use Rattle.std.specs.Prelude.{◌≡◌, ℕ, Result}
 use Rattle.std.specs.declared.alloc.AllocError.{AllocError}
 use Rattle.row_model.specs.Rows.{RowList}
 use Rattle.row_model.specs.declared.kind.Kind.{Kind}
@@ -11,7 +11,7 @@ use Rattle.verdict_replies.specs.declared.reply.Reply.{Reply}
 use Rattle.solve_replies.specs.Cores.{IsCoreReply}
 use Rattle.solve_replies.specs.Lists.{IsListReply}
 use Rattle.solve_replies.specs.Models.{IsModelReply}
-use Rattle.solve_replies.specs.Steps.{SolvesMatrixWithin, SolvesWithin}
+use Rattle.solve_replies.specs.Steps.{SolvesMatrixWithin, SolvesWithin, FindsCoreWithin}
 use Rattle.pq_cli.specs.Over.{IsMade}
 
 -- the verdict on it
@@ -19,9 +19,11 @@ abbrev pub MakesVerdict : Instance → ℕ → Result Reply AllocError → ℕ �
 MakesVerdict i s made n =
     IsMade (λ reply. IsVerdictReply (instance_value i) reply.status reply.text.items) (λ status. SolvesWithin (instance_value i) status s n) made
 
--- a core of the matrix that it is, of a kind; nothing is said of the steps
+-- a core of the matrix that it is, of a kind
 abbrev pub MakesBlame : Kind → Instance → ℕ → Result Reply AllocError → ℕ → Type 0
-MakesBlame kind i s made n = IsMade (λ reply. (m : RowList) × (instance_value i ≡ plain kind m) × IsCoreReply kind m reply.status reply.text.items) (λ status. ⊤) made
+MakesBlame kind i s made n =
+    IsMade (λ reply. (m : RowList) × (instance_value i ≡ plain kind m) × IsCoreReply kind m reply.status reply.text.items)
+    (λ status. (m : RowList) → instance_value i ≡ plain kind m → FindsCoreWithin m status s n) made
 
 -- so many orders of the matrix that it is, of a kind
 abbrev pub MakesList : Kind → ℕ → Instance → ℕ → Result Reply AllocError → ℕ → Type 0

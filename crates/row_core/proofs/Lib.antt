@@ -5,3 +5,4 @@ pub mod Whole
 pub mod Parts
 pub mod Rounds
 pub mod Told
+pub mod Judgements

@@ -1,10 +1,11 @@
 // The search for a core.
-ghost use Rattle.std.specs.Prelude.{◌≡◌, ◌+◌, ◌-◌, ◌*◌, ◌≤◌, IfOk, IsTrue, length};
+ghost use Rattle.std.specs.Prelude.{◌≡◌, ◌+◌, ◌-◌, ◌*◌, ◌≤◌, ℕ, IfOk, IfSome, IsTrue, length};
 ghost use Rattle.std.specs.List.{range_with_len};
 ghost use Rattle.odd_cycle.specs.Short.{IsShort};
+ghost use Rattle.row_judge.specs.Costs.{AreJudgements};
 ghost use Rattle.core_text.specs.Told.{TellsCore};
 ghost use Rattle.row_core.specs.Blamed.{IsBlamed, AreNeeded};
-ghost use Rattle.row_core.specs.Cored.{IsCored, judgements_of};
+ghost use Rattle.row_core.specs.Cored.{IsCored, IsCoredWithin, judgements_of};
 
 use crate::blamed::{Blamed, blame};
 use crate::narrow::{Narrowed, all_tried};
@@ -34,7 +35,7 @@ pub enum Cored {
 ///
 /// A judge that goes through the rows in turn is asked once where there is a valid order, and else at most twice for
 /// each row of the core and once more. Any other judge is asked at most (n + 1)(2n + 1) + 1 times, n being the number
-/// of rows.
+/// of rows. It is asked about no larger matrix than this one, so the steps are at most those of as many judgements of it.
 ///
 /// # Errors
 ///
@@ -50,6 +51,9 @@ pub fn find_core<J: Judge, L: Ledger>(
         → IfOk result (λ found. J.asked judge.new ≤ J.asked judge.old + judgements_of found) }
     ensures most { IfOk result (λ _. J.asked judge.new
         ≤ J.asked judge.old + ((length m.now.rows + 1) * (2 * length m.now.rows + 1) + 1)) }
+    ensures yes { IfSome J.costs (λ c. IfOk result (IsCoredWithin c m.now steps.old steps.new)) }
+    ensures judgements { IsTrue J.in_turn
+        → IfOk result (λ found. AreJudgements J.costs m.now (judgements_of found) steps.old steps.new) }
 {
     blame_law();
     match judged_short(alloc, judge, m, steps)? {
@@ -92,6 +96,10 @@ fn core_among<J: Judge, L: Ledger>(
         ≤ J.asked judge.old + 2 * length core.rows + 1) }
     ensures most { IfOk result (λ _. J.asked judge.new
         ≤ J.asked judge.old + (length blamed.rows.items + 1) * (2 * length blamed.rows.items + 1)) }
+    ensures judgements { IsTrue J.in_turn
+        → IfOk result (λ core. (k : ℕ)
+        × (k + (length blamed.rows.items - blamed.untried) ≤ 2 * length core.rows + 1)
+        × AreJudgements J.costs m.now k steps.old steps.new) }
 {
     blame_law();
     let mut blamed = blamed;

@@ -1,5 +1,6 @@
 // Fewer rows that are to blame, until none of them can be left out.
-ghost use Rattle.std.specs.Prelude.{◌≡◌, ◌+◌, ◌-◌, ◌≤◌, IfOk, IsTrue, length};
+ghost use Rattle.std.specs.Prelude.{◌≡◌, ◌+◌, ◌-◌, ◌≤◌, ℕ, IfOk, IsTrue, length};
+ghost use Rattle.row_judge.specs.Costs.{AreJudgements};
 ghost use Rattle.row_core.specs.Blamed.{IsBlamed, IsNarrowed, AreNeeded};
 
 use crate::blamed::Blamed;
@@ -43,6 +44,9 @@ pub fn all_tried<J: Judge, L: Ledger>(
         → IfOk result (λ found. AreNeeded m.now found.rows.items 0) }
     ensures asked { IfOk result (λ found. J.asked judge.new + (length blamed.rows.items - blamed.untried)
         ≤ J.asked judge.old + length found.rows.items + 1) }
+    ensures judgements { IfOk result (λ found. (k : ℕ)
+        × (k + (length blamed.rows.items - blamed.untried) ≤ length found.rows.items + 1)
+        × AreJudgements J.costs m.now k steps.old steps.new) }
 {
     let mut blamed = blamed;
     let mut told = 0;

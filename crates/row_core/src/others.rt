@@ -1,5 +1,6 @@
 // An order of the others for each row of a set.
 ghost use Rattle.std.specs.Prelude.{◌≡◌, ◌+◌, ◌≤◌, IfOk, length};
+ghost use Rattle.row_judge.specs.Costs.{AreJudgements};
 ghost use Rattle.row_core.specs.Blamed.{IsNarrowed, IsTried};
 
 use crate::blamed::Blamed;
@@ -31,6 +32,8 @@ pub fn each_left_out<J: Judge, L: Ledger>(
     requires { IsNarrowed m.now set.now }
     ensures tried { IfOk result (IsTried m.now set.now.rows.items) }
     ensures asked { IfOk result (λ _. J.asked judge.new ≤ J.asked judge.old + length set.now.rows.items) }
+    ensures judgements { IfOk result (λ _.
+        AreJudgements J.costs m.now (length set.now.rows.items) steps.old steps.new) }
 {
     let mut orders = Orders::new(alloc);
     for i in 0..set.rows.len() {

@@ -3,6 +3,7 @@ ghost use Rattle.std.specs.Prelude.{◌≡◌, ◌+◌, ◌-◌, ◌<◌, ◌≤
 ghost use Rattle.pq_tree.specs.Outline.{IsFrontier, leaves};
 ghost use Rattle.pq_tree.specs.PqTree.{outline};
 ghost use Rattle.core_text.specs.Cores.{AreRowNumbers};
+ghost use Rattle.row_judge.specs.Costs.{AreJudgements};
 ghost use Rattle.row_core.specs.Blamed.{AreEachWithin, part_at, rotated, AreNeeded, IsFinding, IsNeededFinding};
 
 use crate::blamed::{Blamed, blame};
@@ -38,6 +39,7 @@ pub fn judged<J: Judge, L: Ledger>(
         → AreNeeded m.now (rotated needed list.now) (length list.now - needed)
         → IfOk result (IsNeededFinding m.now) }
     ensures asked { J.asked judge.new ≤ J.asked judge.old + 1 }
+    ensures judgements { AreJudgements J.costs m.now 1 steps.old steps.new }
 {
     let part = part_of(alloc, m, list)?;
     match judged_short(alloc, judge, &part, steps)? {

@@ -1,2 +1,3 @@
 pub mod Judges
 pub mod Blamed
+pub mod Costs

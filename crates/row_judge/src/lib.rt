@@ -4,7 +4,8 @@
 mod laws;
 mod short;
 
-ghost use Rattle.std.specs.Prelude.{◌+◌, ◌≤◌, ℕ, Bool, false, IfOk, IsTrue};
+ghost use Rattle.std.specs.Prelude.{◌+◌, ◌≤◌, ℕ, Bool, false, Option, None, IfOk, IfSome, IsTrue};
+ghost use Rattle.row_judge.specs.Costs.{Costs, IsYesWithin};
 ghost use Rattle.row_judge.specs.Judges.{IsJudged, IsJudgedInTurn};
 
 pub use laws::last_row_laws;
@@ -34,6 +35,9 @@ pub trait Judge {
     /// first that leaves no valid order with those before it.
     ghost in_turn: { Bool } = { false };
 
+    /// What it tells of the steps of a judgement: the most for a yes, and for any answer, an error too.
+    ghost costs: { Option Costs } = { None };
+
     /// Judges a matrix: `No` comes exactly where it has no valid order.
     ///
     /// # Errors
@@ -47,5 +51,7 @@ pub trait Judge {
     ) -> Result<Judged, NoMemory>
         ensures judged { IfOk result (IsJudged m.now) }
         ensures in_turn { IsTrue in_turn → IfOk result (IsJudgedInTurn m.now) }
-        ensures asked { asked self.new ≤ asked self.old + 1 };
+        ensures asked { asked self.new ≤ asked self.old + 1 }
+        ensures yes { IfSome costs (λ c. IfOk result (IsYesWithin c m.now steps.old steps.new)) }
+        ensures most { IfSome costs (λ c. steps.new ≤ steps.old + c.any m.now) };
 }

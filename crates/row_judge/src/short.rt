@@ -1,7 +1,8 @@
 // What a judge says, with a short cycle.
-ghost use Rattle.std.specs.Prelude.{◌+◌, ◌≤◌, ℕ, List, IfOk, IsTrue};
+ghost use Rattle.std.specs.Prelude.{◌+◌, ◌≤◌, ℕ, List, IfOk, IfSome, IsTrue};
 ghost use Rattle.row_model.specs.Cycles.{IsOddCycle};
 ghost use Rattle.odd_cycle.specs.Short.{IsShort};
+ghost use Rattle.row_judge.specs.Costs.{IsYesWithin};
 ghost use Rattle.row_judge.specs.Judges.{HasShortCycle, IsJudged, IsJudgedInTurn};
 
 use crate::{Judge, Judged};
@@ -27,6 +28,8 @@ pub fn judged_short<J: Judge, L: Ledger>(
     ensures short { IfOk result (HasShortCycle m.now.columns) }
     ensures in_turn { IsTrue J.in_turn → IfOk result (IsJudgedInTurn m.now) }
     ensures asked { J.asked judge.new ≤ J.asked judge.old + 1 }
+    ensures yes { IfSome J.costs (λ c. IfOk result (IsYesWithin c m.now steps.old steps.new)) }
+    ensures most { IfSome J.costs (λ c. steps.new ≤ steps.old + c.any m.now) }
 {
     match judge.judge(alloc, m, steps)? {
         Judged::Yes(tree) => Ok(Judged::Yes(tree)),

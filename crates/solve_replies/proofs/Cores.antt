@@ -1,8 +1,18 @@
 -- The reply with the rows of a matrix that are to blame.
-use Rattle.std.proofs.Common.{◌≡◌, ◌∙◌, ℕ, List, refl, sym, ap}
+use Rattle.std.proofs.Common.{◌≡◌, ◌∙◌, ℕ, ◌+◌, ◌*◌, ◌≤◌, List, Some, length, sum_by, refl, sym, ap, subst, arith}
+use Rattle.std.proofs.Math.Nat.{mul-le-mul}
 use Rattle.column_order.specs.Orders.{HasValidOrder}
 use Rattle.row_model.specs.declared.kind.Kind.{Kind}
 use Rattle.row_model.specs.Rows.{RowList}
+use Rattle.core_text.specs.Told.{TellsCore}
+use Rattle.core_text.specs.declared.core_parts.Core.{Core}
+use Rattle.row_judge.specs.Costs.{AreMonotone, AreJudgements}
+use Rattle.row_core.specs.Cored.{IsCoredWithin, judgements_of}
+use Rattle.row_core.specs.declared.find.Cored.{Cored}
+use Rattle.row_core.specs.declared.find.Cored.TheVariants as cored
+use Rattle.pq_tree.specs.declared.PqTree.{PqTree}
+use Rattle.c1p_solve.specs.Totals.{search_steps}
+use Rattle.solve_replies.specs.Steps.{solver_costs, FindsCoreWithin}
 use Rattle.verdict_text.specs.Verdict.{Claim, yes_claim, no_claim}
 use Rattle.instance_model.specs.Instance.{InstanceValue, plain, instance_kind}
 use Rattle.verdict_replies.specs.Verdicts.{IsClaimOf, status_of, IsVerdictReply}
@@ -19,3 +29,19 @@ yes_reply kind m status text o r =
     is_yes : (claim : Claim) → IsClaimOf (plain kind m) claim → 0 ≡ status_of claim
     is_yes (yes_claim value) h = refl
     is_yes (no_claim s lines) h = absurd (h.0.none o)
+
+-- no larger matrix costs the solver more
+costs_monotone : AreMonotone solver_costs
+costs_monotone part m small =
+    let search : search_steps part.columns part.rows ≤ search_steps m.columns m.rows = mul-le-mul (omega (arith, small.columns)) (omega (arith, small.ones)) in
+    omega (arith, small.columns, small.rows, small.ones, search)
+
+-- the steps of what was found
+pub core_within : (m : RowList) (found : Cored) (core : Core) (s n : ℕ) → found ≡ cored.Core core → TellsCore m core → AreJudgements (Some solver_costs) m (judgements_of found) s n → FindsCoreWithin m 0 s n
+core_within m found core s n e tells judged =
+    let steps = subst (λ f. AreJudgements (Some solver_costs) m (judgements_of f) s n) e judged in
+    record { none = λ f. absurd (omega (arith, f)); core = λ f. (core.rows, tells.core, steps costs_monotone) }
+
+pub tree_within : (m : RowList) (found : Cored) (t : PqTree) (s n : ℕ) → found ≡ cored.Has t → IsCoredWithin solver_costs m s n found → FindsCoreWithin m 1 s n
+tree_within m found t s n e h =
+    record { none = λ f. subst (IsCoredWithin solver_costs m s n) e h; core = λ f. absurd (omega (arith, f)) }

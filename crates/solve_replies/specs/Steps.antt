@@ -1,7 +1,9 @@
 -- What the steps of the replies come to. The count goes from s to n.
-use Rattle.std.specs.Prelude.{◌≡◌, ℕ, zero, suc, ◌+◌, ◌≤◌, length, Result, Ok, Err}
+use Rattle.std.specs.Prelude.{◌≡◌, ℕ, zero, suc, ◌+◌, ◌*◌, ◌≤◌, List, length, Result, Ok, Err}
 use Rattle.column_order.specs.Orders.{HasValidOrder}
 use Rattle.row_model.specs.Rows.{RowList}
+use Rattle.core_text.specs.Cores.{IsCore}
+use Rattle.row_judge.specs.Costs.{Costs}
 use Rattle.row_judge.specs.declared.Judged.{Judged}
 use Rattle.row_judge.specs.declared.Judged.TheVariants.{Yes, No}
 use Rattle.instance_model.specs.Instance.{InstanceValue, instance_columns, derived_matrix, IsSideOf}
@@ -23,6 +25,10 @@ taking_steps_to i (suc k) = taking_steps_to i k + taking_steps (derived_matrix i
 -- the same of all sides
 abbrev pub sides_steps : InstanceValue → ℕ
 sides_steps i = taking_steps_to i (length (instance_columns i))
+
+-- what the solver tells of the steps of an answer: a yes comes within those in which all rows are taken
+abbrev pub solver_costs : Costs
+solver_costs = record { yes = taking_steps; any = answer_steps }
 
 -- the most steps of a search for an odd cycle on a side: 8c(f + 1), with c columns and f ones in its derived matrix
 abbrev pub side_search_steps : InstanceValue → ℕ → ℕ
@@ -60,3 +66,15 @@ pub record SolvesWithin (i : InstanceValue) (status s n : ℕ) : Type 0 where
   pub is_side : IsSideOf i side
   pub no : status ≡ 1 → HasOrder i side → ⊥
   pub most : n ≤ s + sides_steps i + side_search_steps i side
+
+-- A core of a matrix was asked for, with this status. With 1 it has none, and was solved within the steps in which all its rows are taken.
+-- With 0 some core is found within the steps of two answers for each of its rows, and one more.
+pub record FindsCoreWithin (m : RowList) (status s n : ℕ) : Type 0 where
+  pub none : status ≡ 1 → n ≤ s + taking_steps m
+  pub core : status ≡ 0 → (core : List ℕ) × IsCore m core × (n ≤ s + (2 * length core + 1) * answer_steps m)
+
+-- The matrix of the rows of two trees was solved, with this status of `meet`: with 0 within the steps in which all its rows are taken, and
+-- else within these and those of a search.
+pub record MeetsWithin (m : RowList) (status s n : ℕ) : Type 0 where
+  pub shared : status ≡ 0 → n ≤ s + taking_steps m
+  pub most : n ≤ s + answer_steps m

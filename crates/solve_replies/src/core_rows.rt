@@ -10,6 +10,7 @@ ghost use Rattle.command_input.specs.Words.{IsExtended};
 ghost use Rattle.verdict_replies.specs.Verdicts.{IsVerdictReply};
 ghost use Rattle.verdict_replies.specs.Cores.{IsCoreText};
 ghost use Rattle.solve_replies.specs.Cores.{IsCoreReply};
+ghost use Rattle.solve_replies.specs.Steps.{made_status, FindsCoreWithin};
 
 use crate::reply::told;
 use crate::verdicts::yes_on;
@@ -41,6 +42,8 @@ pub fn blame_reply<L: Ledger>(
     requires taken { IsExtended kind }
     ensures reply { IfOk result (λ reply. (m : RowList) × (instance_value instance.now ≡ plain kind m) × IsCoreReply kind m reply.status reply.text.items) }
     ensures status { IfOk result (λ reply. (reply.status ≡ 0) ⊎ (reply.status ≡ 1)) }
+    ensures steps { (m : RowList) → instance_value instance.now ≡ plain kind m
+        → FindsCoreWithin m (made_status (λ reply. reply.status) result) steps.old steps.new }
 {
     let Instance::Plain(_, m) = instance else {
         unreachable!()

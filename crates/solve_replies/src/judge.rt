@@ -10,11 +10,14 @@ use step_count::{Ledger, Steps};
 pub struct Solver;
 
 impl Judge for Solver {
-    ghost use Rattle.std.specs.Prelude.{true};
+    ghost use Rattle.std.specs.Prelude.{true, Some};
+    ghost use Rattle.solve_replies.specs.Steps.{solver_costs};
 
     ghost asked = { λ _. 0 };
 
     ghost in_turn = { true };
+
+    ghost costs = { Some solver_costs };
 
     fn judge<L: Ledger>(
         &mut self,

@@ -1,8 +1,8 @@
 //! What two trees share.
 
-ghost use Rattle.std.specs.Prelude.{◌≡◌, ◌≤◌, IfOk};
+ghost use Rattle.std.specs.Prelude.{◌≡◌, ◌+◌, ◌≤◌, IfOk, IfSome};
 ghost use Rattle.pq_tree.specs.PqTree.{column_count, outline};
-ghost use Rattle.tree_meet.specs.Meets.{IsMet};
+ghost use Rattle.tree_meet.specs.Meets.{IsMet, IsMetWithin, joint_matrix};
 
 use crate::rows::{push_rows, tree_rows};
 use odd_cycle::Cycle;
@@ -25,6 +25,8 @@ pub enum Met {
 
 /// All orders that both trees stand for: a tree of them, or why there is none.
 ///
+/// The judge is asked once, for the matrix of the rows of both trees, so the steps are those of that judgement.
+///
 /// # Errors
 ///
 /// `NoMemory` where there is no memory for the rows of the trees or for the judge.
@@ -37,7 +39,11 @@ pub fn meet<J: Judge, L: Ledger>(
 ) -> Result<Met, NoMemory>
     requires same { column_count second.now ≡ column_count first.now }
     requires few { column_count first.now ≤ MAX_COLUMNS }
-    ensures { IfOk result (IsMet (column_count first.now) (outline first.now) (outline second.now)) }
+    ensures met { IfOk result (IsMet (column_count first.now) (outline first.now) (outline second.now)) }
+    ensures yes { IfSome J.costs (λ c.
+        IfOk result (IsMetWithin c (joint_matrix (column_count first.now) (outline first.now) (outline second.now)) steps.old steps.new)) }
+    ensures most { IfSome J.costs (λ c.
+        steps.new ≤ steps.old + c.any (joint_matrix (column_count first.now) (outline first.now) (outline second.now))) }
 {
     let mut m = tree_rows(alloc, first)?;
     push_rows(alloc, second, &mut m)?;

@@ -1,5 +1,5 @@
 use Rattle.std.proofs.Common.{◌≡◌, ℕ, List, [], ◌∷◌, refl, inl, sym, arith, rules}
-use Rattle.std.specs.Prelude.{Ok, ⊤}
+use Rattle.std.specs.Prelude.{Ok}
 use Rattle.std.specs.declared.alloc.AllocError.{AllocError}
 use Rattle.pq_io.specs.Whole.{IsWhole}
 use Rattle.row_model.specs.Rows.{RowList}
@@ -17,7 +17,7 @@ use Rattle.solve_replies.specs.Lists.{IsListReply}
 use Rattle.solve_replies.specs.Models.{IsModelReply}
 use Rattle.reply_laws.specs.Replies.{Replies}
 use Rattle.pq_cli.proofs.Frame.{reply_alone}
-use Rattle.solve_replies.specs.Steps.{SolvesMatrixWithin, SolvesWithin}
+use Rattle.solve_replies.specs.Steps.{SolvesMatrixWithin, SolvesWithin, FindsCoreWithin}
 use Rattle.pq_cli.specs.Over.{IsOverInstance}
 use Rattle.pq_cli.proofs.Says.{read_as, same_instance, solves_it, says_made, says_of_both}
 use Rattle.pq_cli.proofs.Counts.{counts_alone, reply_after}
@@ -41,11 +41,12 @@ returns-in-Core g c =
     let kind = c.in-Core.kind in
     let command = Core kind c.in-Core.file.now in
     let over : IsOverInstance command kind (c.in-Core.file.now ∷ []) = record { files = refl; may = omega arith; first = λ bytes. refl } in
-    let says = says_made {E = AllocError} command kind (λ i reply. (m : RowList) × (instance_value i ≡ plain kind m) × IsCoreReply kind m reply.status reply.text.items) (λ i status s n. ⊤)
+    let says = says_made {E = AllocError} command kind (λ i reply. (m : RowList) × (instance_value i ≡ plain kind m) × IsCoreReply kind m reply.status reply.text.items)
+    (λ i status s n. (m : RowList) → instance_value i ≡ plain kind m → FindsCoreWithin m status s n)
     (λ i reply bytes is read. (is.0, read_as kind bytes i (plain kind is.0) read is.1, is.2)) in
     rw c.in-Core.is (record {
       runs = c.over_instance-in-Core.ensures.runs command over says;
-      steps = c.over_instance-in-Core.ensures.steps command over says (λ i s made n held told bytes read. tt);
+      steps = c.over_instance-in-Core.ensures.steps command over says (λ i s made n held told bytes read. λ m is. told.steps m (same_instance kind bytes i (plain kind m) read is));
     })
 
 pub returns-in-ListOrders : goal.returns-in-ListOrders

@@ -1,4 +1,5 @@
-use Rattle.std.proofs.Common.{length, arith}
+use Rattle.std.proofs.Common.{◌+◌, length, arith}
+use Rattle.row_core.proofs.Judgements.{none_judged, more_judged}
 use Rattle.row_core.proofs.Numbers.{increasing}
 use Rattle.row_core.proofs.Told.{tells_core}
 use Rattle.row_core.proofs.Rounds.{one_round, last_round}
@@ -20,6 +21,7 @@ rounds-preserved g c =
       blamed = tried.0;
       needed = λ turn. absurd (tried.2 (c.in_ok-set.ensures.needed turn (c.rounds.invariant.needed turn)));
       asked = λ turn. absurd (tried.2 (c.in_ok-set.ensures.needed turn (c.rounds.invariant.needed turn)));
+      judgements = λ turn. absurd (tried.2 (c.in_ok-set.ensures.needed turn (c.rounds.invariant.needed turn)));
       few = omega (arith, tried.1, c.in_ok-set.ensures.few, c.rounds.invariant.few);
       most = one_round _ _ _ _ (length c.args.blamed.rows.items) _ (omega (arith, tried.1, c.in_ok-set.ensures.few))
           (omega (arith, c.in_ok-set.ensures.asked, c.in_ok-set.ensures.few, c.in_ok-orders.ensures.asked, c.rounds.invariant.few)) c.rounds.invariant.most;
@@ -29,3 +31,27 @@ pub returns-in-Orders-clause-most : goal.returns-in-Orders-clause-most
 returns-in-Orders-clause-most g c =
     last_round _ _ _ _ (length c.args.blamed.rows.items)
     (omega (arith, c.in_ok-set.ensures.asked, c.in_ok-set.ensures.few, c.in_ok-orders.ensures.asked, c.rounds.invariant.few)) c.rounds.invariant.most
+
+pub rounds-init : goal.rounds-init
+rounds-init g c = record {
+  blamed = c.requires.blamed;
+  needed = c.requires.needed;
+  asked = λ turn. omega arith;
+  judgements = λ turn. (0, omega arith, none_judged g.J.Judge.costs c.args.m.now c.args.steps.now);
+  few = omega arith;
+  most = omega arith;
+}
+
+pub returns-in-Orders-clause-judgements : goal.returns-in-Orders-clause-judgements
+returns-in-Orders-clause-judgements g c = λ turn.
+    let m = c.args.m.now in
+    let costs = g.J.Judge.costs in
+    let before = c.rounds.invariant.judgements turn in
+    let set = c.in_ok-set.ensures.judgements in
+    let many = length c.in_ok-set.set.rows.items in
+    rw c.of.ensures (
+      before.0 + set.0 + many,
+      omega (arith, before.1, set.1),
+      more_judged costs m (before.0 + set.0) many c.args.steps.now c.all_tried.new.steps c.each_left_out.new.steps
+          (more_judged costs m before.0 set.0 c.args.steps.now c.rounds.steps c.all_tried.new.steps before.2 set.2) c.in_ok-orders.ensures.judgements,
+    )

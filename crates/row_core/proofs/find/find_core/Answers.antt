@@ -1,7 +1,8 @@
-use Rattle.std.proofs.Common.{◌≡◌, ◌∙◌, ◌≤◌, ap, length, subst, sym, arith}
+use Rattle.std.proofs.Common.{◌≡◌, ◌∙◌, ◌+◌, ◌*◌, ◌≤◌, ap, length, subst, sym, arith}
 use Rattle.std.proofs.lemmas.List.{append-nil}
 use Rattle.std.proofs.lemmas.List.FromFn.{length-range_with_len}
 use Rattle.std.specs.List.{range_with_len}
+use Rattle.row_core.proofs.Judgements.{more_judged, fewer_judged, whole_judged}
 use Rattle.row_core.proofs.Rounds.{all_rounds}
 use Rattle.row_model.specs.Cycles.{IsOddCycle}
 use Rattle.row_judge.specs.Judges.{HasShortCycle, IsFirstConflict}
@@ -50,6 +51,20 @@ returns-in_ok-core-in-No-clause-asked g c = λ turn.
     let blamed = c.in_ok-blamed-in-No.ensures.blamed m (subst (AreRowNumbers (length m.rows)) (sym straight) (ascends_all (length m.rows))) (subst (λ xs. IsOddCycle m.columns (rows_at m.rows xs) c.in-No.cycle) (sym all) cycle) short in
     let some = some_blamed c.blame_law.ensures m c.in_ok-blamed-in-No.blamed.rows.items c.in_ok-blamed-in-No.blamed.lines blamed.cycle blamed.among in
     omega (arith, some, c.in_ok-blamed-in-No.ensures.more.1, c.in_ok-core-in-No.ensures.asked turn, c.judged_short.ensures.asked)
+
+pub returns-in_ok-core-in-No-clause-judgements : goal.returns-in_ok-core-in-No-clause-judgements
+returns-in_ok-core-in-No-clause-judgements g c = λ turn.
+    let m = c.args.m.now in
+    let judgement = rw c.in-No.is at c.in_ok-tree.ensures.judged in
+    let short = subst (HasShortCycle m.columns) c.in-No.is c.in_ok-tree.ensures.short in
+    let all : c.deref.result.now ≡ range_with_len 1 (length m.rows) = c.deref.ensures.value ∙ c.in_ok-all-in-No.ensures in
+    let cycle : IsOddCycle m.columns (rows_at m.rows (range_with_len 1 (length m.rows))) c.in-No.cycle = subst (λ rows. IsOddCycle m.columns rows c.in-No.cycle) (sym (rows_at_all m.rows)) judgement.0 in
+    let straight : rotated 0 c.deref.result.now ≡ range_with_len 1 (length m.rows) = append-nil c.deref.result.now ∙ all in
+    let blamed = c.in_ok-blamed-in-No.ensures.blamed m (subst (AreRowNumbers (length m.rows)) (sym straight) (ascends_all (length m.rows))) (subst (λ xs. IsOddCycle m.columns (rows_at m.rows xs) c.in-No.cycle) (sym all) cycle) short in
+    let some = some_blamed c.blame_law.ensures m c.in_ok-blamed-in-No.blamed.rows.items c.in_ok-blamed-in-No.blamed.lines blamed.cycle blamed.among in
+    let more = c.in_ok-core-in-No.ensures.judgements turn in
+    fewer_judged g.J.Judge.costs m (1 + more.0) (2 * length c.in_ok-core-in-No.core.rows + 1) c.args.steps.now c.core_among.new.steps (omega (arith, some, c.in_ok-blamed-in-No.ensures.more.1, more.1))
+    (more_judged g.J.Judge.costs m 1 more.0 c.args.steps.now c.judged_short.new.steps c.core_among.new.steps (whole_judged g.J.Judge.costs m c.args.steps.now c.judged_short.new.steps c.judged_short.ensures.most) more.2)
 
 pub returns-in_ok-core-in-No-clause-most : goal.returns-in_ok-core-in-No-clause-most
 returns-in_ok-core-in-No-clause-most g c =

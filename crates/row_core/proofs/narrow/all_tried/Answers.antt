@@ -1,4 +1,4 @@
-use Rattle.std.proofs.Common.{◌≡◌, ◌∙◌, ◌+◌, ◌-◌, ◌<◌, ◌++◌, length, take, drop, ap, sym, subst, refl, arith}
+use Rattle.std.proofs.Common.{◌≡◌, ◌∙◌, ◌+◌, ◌-◌, ◌<◌, ◌++◌, length, take, drop, ap, sym, subst, refl, rules, arith}
 use Rattle.std.proofs.lemmas.List.{length-append, length-drop, length-take-le}
 use Rattle.core_text.specs.Cores.{AreRowNumbers}
 use Rattle.core_text.specs.Told.{IsOrderWithout}
@@ -6,6 +6,7 @@ use Rattle.pq_tree.specs.Outline.{leaves}
 use Rattle.pq_tree.specs.PqTree.{outline}
 use Rattle.row_core.specs.Blamed.{IsBlamed, AreNeeded, AreTold}
 use Rattle.row_core.specs.declared.blamed.Blamed.{Blamed}
+use Rattle.row_core.proofs.Judgements.{none_judged, more_judged}
 use Rattle.row_core.proofs.Needed.{needed_others, needed_more, rotated_others, length-others}
 use Rattle.row_core.proofs.Numbers.{ascends_without}
 use Rattle.row_core.proofs.Told.{order_without, told_more, none_told}
@@ -21,6 +22,17 @@ judged-requires-clause-rows g c =
     let size : c.len.result - c.rounds.blamed.untried ≡ length set - (i + 1) = omega (arith, c.len.ensures, c.rounds.blamed.rows.ok, c.rounds-test.true) in
     subst (AreRowNumbers (length c.args.m.now.rows)) (sym (rotated_others i _ set _ l list size))
     (ascends_without (length c.args.m.now.rows) 0 i (i + 1) set (omega arith) c.rounds.invariant.blamed.rows)
+
+pub rounds-init : goal.rounds-init
+rounds-init g c = record {
+  blamed = c.requires;
+  few = omega arith;
+  orders = search rules;
+  needed = λ turn start. start;
+  asked = λ some. omega arith;
+  asked_most = omega arith;
+  judgements = (0, λ some. omega arith, omega arith, none_judged g.J.Judge.costs c.args.m.now c.args.steps.now);
+}
 
 pub rounds-smaller : goal.rounds-smaller
 rounds-smaller g c =
@@ -72,6 +84,14 @@ rounds-preserved g c =
                 subst (λ (b : Blamed). AreNeeded m b.rows.items b.untried) (sym w.blamed-is) (needed_more m i set (leaves (outline t), one.valid) there);
             asked = λ some. omega (arith, same, untried, next, l, c.judged.ensures.asked, c.rounds.invariant.asked c.rounds-test.true);
             asked_most = omega (arith, same, untried, next, l, c.judged.ensures.asked, c.rounds.invariant.asked c.rounds-test.true);
+            judgements =
+                let before = c.rounds.invariant.judgements in
+                let few = before.1 c.rounds-test.true in (
+                  before.0 + 1,
+                  λ some. omega (arith, same, untried, next, l, few),
+                  omega (arith, same, untried, next, l, few),
+                  more_judged g.J.Judge.costs m before.0 1 c.args.steps.now c.rounds.steps c.judged.new.steps before.3 c.judged.ensures.judgements,
+                );
           }
       | in-Refused w ↦
           let found = rw (w.in-Refused.is, rotated_is) at c.in_ok-tree.ensures.finding in
@@ -92,6 +112,14 @@ rounds-preserved g c =
                 subst (λ (b : Blamed). AreNeeded m b.rows.items b.untried) (sym w.blamed-is) fewer;
             asked = λ some. omega (arith, some, same, untried, next, l, size, found.3, found.4, c.judged.ensures.asked, c.rounds.invariant.asked c.rounds-test.true);
             asked_most = omega (arith, same, untried, next, l, size, found.3, found.4, c.judged.ensures.asked, c.rounds.invariant.asked c.rounds-test.true);
+            judgements =
+                let before = c.rounds.invariant.judgements in
+                let few = before.1 c.rounds-test.true in (
+                  before.0 + 1,
+                  λ some. omega (arith, some, same, untried, next, l, size, found.3, found.4, few),
+                  omega (arith, same, untried, next, l, size, found.3, found.4, few),
+                  more_judged g.J.Judge.costs m before.0 1 c.args.steps.now c.rounds.steps c.judged.new.steps before.3 c.judged.ensures.judgements,
+                );
           }
     ]
 

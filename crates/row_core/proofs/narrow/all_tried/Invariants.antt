@@ -1,4 +1,5 @@
-use Rattle.std.proofs.Common.{◌+◌, ◌-◌, ◌<◌, ◌≤◌, IsTrue, length}
+use Rattle.std.proofs.Common.{ℕ, ◌+◌, ◌-◌, ◌<◌, ◌≤◌, IsTrue, length}
+use Rattle.row_judge.specs.Costs.{AreJudgements}
 use Rattle.row_core.specs.Blamed.{IsBlamed, AreNeeded, AreTold}
 use Rattle.row_core.proofs.narrow.all_tried.Given as goal
 
@@ -12,6 +13,10 @@ invariant-rounds g l = record {
   asked : 0 < l.blamed.untried →
       g.J.Judge.asked l.judge + (length l.fn.blamed.rows.items - l.fn.blamed.untried) ≤ g.J.Judge.asked l.fn.judge + (length l.blamed.rows.items - l.blamed.untried);
   asked_most : g.J.Judge.asked l.judge + (length l.fn.blamed.rows.items - l.fn.blamed.untried) ≤ g.J.Judge.asked l.fn.judge + (length l.blamed.rows.items - l.blamed.untried) + 1;
+  judgements : (k : ℕ)
+      × (0 < l.blamed.untried → k + (length l.fn.blamed.rows.items - l.fn.blamed.untried) ≤ length l.blamed.rows.items - l.blamed.untried)
+      × (k + (length l.fn.blamed.rows.items - l.fn.blamed.untried) ≤ (length l.blamed.rows.items - l.blamed.untried) + 1)
+      × AreJudgements g.J.Judge.costs l.m k l.fn.steps l.steps;
 }
 
 abbrev pub decreases-rounds : goal.decreases-rounds

@@ -6,6 +6,7 @@ use Rattle.core_text.specs.Told.{IsOrderWithout}
 use Rattle.pq_tree.specs.Outline.{leaves}
 use Rattle.pq_tree.specs.PqTree.{outline}
 use Rattle.row_core.specs.Blamed.{rotated}
+use Rattle.row_core.proofs.Judgements.{more_judged, fewer_judged}
 use Rattle.row_core.proofs.Needed.{length-others, needed_valid}
 use Rattle.row_core.proofs.Numbers.{ascends_without}
 use Rattle.row_core.proofs.Told.{order_without, order_more}
@@ -28,7 +29,7 @@ loop-i-preserved-then-i-set g c =
     let told = c.requires.orders.each i c.if-i-set.true in
     let one : IsOrderWithout m set (get_or set i 0) c.get.result.now = subst (λ k. IsOrderWithout m set (get_or set k 0) c.get.result.now) row (subst (IsOrderWithout m set (get_or set (0 + i) 0)) at told) in
     let more = order_more m set c.get.result.now c.loop-i.orders c.push.new.self i one c.in_ok-push.ensures.ok c.loop-i.invariant.count c.loop-i.invariant.orders in
-    record { count = more.0; orders = more.1; asked = omega (arith, c.loop-i.invariant.asked) }
+    record { count = more.0; orders = more.1; asked = omega (arith, c.loop-i.invariant.asked); judgements = fewer_judged g.J.Judge.costs m i (i + 1) c.args.steps.now c.loop-i.steps (omega arith) c.loop-i.invariant.judgements }
 
 pub loop-i-preserved : goal.loop-i-preserved
 loop-i-preserved g c =
@@ -43,7 +44,7 @@ loop-i-preserved g c =
     let pushed = c.in_ok-push_leaves-in-Ordered.ensures in
     let one : IsOrderWithout m set (get_or set i 0) (leaves (outline t)) = order_without m set (take i set ++ drop (i + 1) set) (leaves (outline t)) i t c.requires.rows l refl found refl pushed.frontier in
     let more = order_more m set (leaves (outline t)) c.loop-i.orders c.push_leaves.new.orders i one pushed.ok c.loop-i.invariant.count c.loop-i.invariant.orders in
-    record { count = more.0; orders = more.1; asked = omega (arith, c.loop-i.invariant.asked, c.judged.ensures.asked) }
+    record { count = more.0; orders = more.1; asked = omega (arith, c.loop-i.invariant.asked, c.judged.ensures.asked); judgements = more_judged g.J.Judge.costs m i 1 c.args.steps.now c.loop-i.steps c.judged.new.steps c.loop-i.invariant.judgements c.judged.ensures.judgements }
 
 pub returns-in-Refused-clause-tried : goal.returns-in-Refused-clause-tried
 returns-in-Refused-clause-tried g c =
@@ -55,3 +56,10 @@ returns-in-Refused-clause-tried g c =
     let rotated_is : rotated 0 c.deref-in-loop-i.result.now ≡ take i set ++ drop (i + 1) set = append-nil c.deref-in-loop-i.result.now ∙ list in
     let found = rw (c.in-Refused.is, rotated_is) at c.in_ok-tree.ensures.finding in
     (found.0, omega (arith, found.2, length-others i set l), λ needed. found.1 (needed_valid m i set c.requires.rows l (needed i (omega arith) l)))
+
+pub returns-in-Refused-clause-judgements : goal.returns-in-Refused-clause-judgements
+returns-in-Refused-clause-judgements g c =
+    let m = c.args.m.now in
+    let i = c.loop-i.i in
+    fewer_judged g.J.Judge.costs m (i + 1) (length c.args.set.now.rows.items) c.args.steps.now c.judged.new.steps (omega arith)
+    (more_judged g.J.Judge.costs m i 1 c.args.steps.now c.loop-i.steps c.judged.new.steps c.loop-i.invariant.judgements c.judged.ensures.judgements)

@@ -2,6 +2,7 @@ use Rattle.std.proofs.Common.{rules, length, arith}
 use Rattle.row_model.proofs.Ascending.{ascends_few}
 use Rattle.odd_cycle.specs.Short.{IsShort}
 use Rattle.row_core.specs.Blamed.{rotated}
+use Rattle.row_core.proofs.Judgements.{part_judged}
 use Rattle.row_core.proofs.Needed.{some_valid_few}
 use Rattle.row_core.proofs.Whole.{reasons_within, within_rotated, length-rotated, in_rotated, tree_rotated}
 use Rattle.row_core.proofs.part.judged.Goals as goal
@@ -39,3 +40,19 @@ pub returns-clause-in_turn : goal.returns-clause-in_turn
 returns-clause-in_turn g c = λ turn needed.
     let first = rw (c.in-No.is, c.in_ok-part.ensures) at (c.in_ok-tree.ensures.in_turn turn) in
     c.in_ok-blame-in-No.ensures.needed c.args.m.now c.requires.rows needed first
+
+pub returns-in_err-tree-clause-judgements : goal.returns-in_err-tree-clause-judgements
+returns-in_err-tree-clause-judgements g c =
+    part_judged g.J.Judge.costs c.in_ok-part.part c.args.m.now c.args.needed c.args.list.now c.args.steps.now c.judged_short.new.steps c.in_ok-part.ensures c.requires.rows c.judged_short.ensures.most
+
+pub returns-in-Yes-clause-judgements : goal.returns-in-Yes-clause-judgements
+returns-in-Yes-clause-judgements g c =
+    part_judged g.J.Judge.costs c.in_ok-part.part c.args.m.now c.args.needed c.args.list.now c.args.steps.now c.judged_short.new.steps c.in_ok-part.ensures c.requires.rows c.judged_short.ensures.most
+
+pub returns-in_err-blame-in-No-clause-judgements : goal.returns-in_err-blame-in-No-clause-judgements
+returns-in_err-blame-in-No-clause-judgements g c =
+    part_judged g.J.Judge.costs c.in_ok-part.part c.args.m.now c.args.needed c.args.list.now c.args.steps.now c.judged_short.new.steps c.in_ok-part.ensures c.requires.rows c.judged_short.ensures.most
+
+pub returns-clause-judgements : goal.returns-clause-judgements
+returns-clause-judgements g c =
+    part_judged g.J.Judge.costs c.in_ok-part.part c.args.m.now c.args.needed c.args.list.now c.args.steps.now c.judged_short.new.steps c.in_ok-part.ensures c.requires.rows c.judged_short.ensures.most

@@ -1,12 +1,13 @@
 use Rattle.std.proofs.Common.{◌∙◌, refl, sym, ap, subst, inl, inr}
-use Rattle.instance_model.specs.Instance.{plain, IsInstance}
+use Rattle.instance_model.specs.Instance.{plain, derived_matrix, IsInstance}
 use Rattle.instance_model.specs.Value.{instance_value}
 use Rattle.odd_cycle.specs.Short.{IsShort}
 use Rattle.core_text.specs.Told.{TellsCore}
 use Rattle.row_core.specs.Cored.{IsCored}
 use Rattle.core_text.specs.Texts.{TextValue}
 use Rattle.verdict_replies.specs.Cores.{IsCoreText}
-use Rattle.solve_replies.proofs.Cores.{plain_of}
+use Rattle.solve_replies.specs.Steps.{FindsCoreWithin}
+use Rattle.solve_replies.proofs.Cores.{plain_of, core_within, tree_within}
 use Rattle.solve_replies.proofs.core_rows.blame_reply.Goals as goal
 
 pub core_text-requires-clause-columns : goal.core_text-requires-clause-columns
@@ -44,3 +45,15 @@ returns-in_ok-text-in-Has-clause-reply g c =
     let found = subst (IsCored c.in-Plain.m) c.in-Has.is c.in_ok-core.ensures.cored in
     let is = plain_of c.args.kind c.in-Plain.field-0 (instance_value c.args.instance.now) c.in-Plain.m (ap instance_value c.in-Plain.is) c.requires.of_kind in
     (c.in-Plain.m, is, inr (found.1, refl, c.in_ok-text-in-Has.ensures c.args.kind is))
+
+-- the matrix of the instance
+pub returns-in_ok-text-in-Core-clause-steps : goal.returns-in_ok-text-in-Core-clause-steps
+returns-in_ok-text-in-Core-clause-steps g c = λ m is.
+    let found = subst (IsCored c.in-Plain.m) c.in-Core.is c.in_ok-core.ensures.cored in
+    subst (λ k. FindsCoreWithin k 0 c.args.steps.now c.find_core.new.steps) (ap (λ i. derived_matrix i 1) (sym (ap instance_value c.in-Plain.is) ∙ is))
+    (core_within c.in-Plain.m c.in_ok-core.field-0 c.in-Core.core c.args.steps.now c.find_core.new.steps c.in-Core.is found.0 (c.in_ok-core.ensures.judgements refl))
+
+pub returns-in_ok-text-in-Has-clause-steps : goal.returns-in_ok-text-in-Has-clause-steps
+returns-in_ok-text-in-Has-clause-steps g c = λ m is.
+    subst (λ k. FindsCoreWithin k 1 c.args.steps.now c.find_core.new.steps) (ap (λ i. derived_matrix i 1) (sym (ap instance_value c.in-Plain.is) ∙ is))
+    (tree_within c.in-Plain.m c.in_ok-core.field-0 c.in-Has.tree c.args.steps.now c.find_core.new.steps c.in-Has.is c.in_ok-core.ensures.yes)

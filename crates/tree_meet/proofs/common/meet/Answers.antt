@@ -33,14 +33,14 @@ push_rows-requires-clause-room g c =
     let n = column_count c.args.first.now in
     omega (arith, rows_few n (outline c.args.first.now) c.args.first.now.proper, ap (λ (m : RowList). length m.rows) c.in_ok-m.ensures, c.requires.same, c.requires.few)
 
-pub returns-in-Yes : goal.returns-in-Yes
-returns-in-Yes g c =
-    let j = joined g (goal.at.returns-in-Yes g c).After-judged_short in
+pub returns-in-Yes-clause-met : goal.returns-in-Yes-clause-met
+returns-in-Yes-clause-met g c =
+    let j = joined g (goal.at.returns-in-Yes-clause-met g c).After-judged_short in
     met_tree (column_count c.args.first.now) (outline c.args.first.now) (outline c.args.second.now) c.args.first.now.proper j.second c.push_rows.new.m j.columns j.rows
     c.in-Yes.tree (subst (IsJudged c.push_rows.new.m) c.in-Yes.is c.in_ok-tree.ensures.judged)
 
-pub returns : goal.returns
-returns g c =
-    let j = joined g (goal.at.returns g c).After-judged_short in
+pub returns-clause-met : goal.returns-clause-met
+returns-clause-met g c =
+    let j = joined g (goal.at.returns-clause-met g c).After-judged_short in
     met_apart (column_count c.args.first.now) (outline c.args.first.now) (outline c.args.second.now) c.args.first.now.proper j.second c.push_rows.new.m j.columns j.rows
     c.in-No.cycle (subst (IsJudged c.push_rows.new.m) c.in-No.is c.in_ok-tree.ensures.judged) (subst (HasShortCycle c.push_rows.new.m.columns) c.in-No.is c.in_ok-tree.ensures.short)
