@@ -3,7 +3,7 @@ use text_lines::{PlainPair, plain_pair};
 
 #[test]
 fn a_pair_is_two_numbers_and_a_line_feed(rt: HostRuntime) {
-    let text = b"12 7\n0 007\n123456789 1\n";
+    let text = b"12 7\n0 007\n123456789 1\n1234567 98765432\n";
     let found = |first, second, next| {
         Some(PlainPair {
             first,
@@ -16,6 +16,7 @@ fn a_pair_is_two_numbers_and_a_line_feed(rt: HostRuntime) {
         plain_pair(text, 5),
         plain_pair(text, 11),
         plain_pair(text, 23),
+        plain_pair(text, 40),
     ];
     assert_eq!(rt;
         pairs,
@@ -23,6 +24,7 @@ fn a_pair_is_two_numbers_and_a_line_feed(rt: HostRuntime) {
             found(12, 7, 5),
             found(0, 7, 11),
             found(123456789, 1, 23),
+            found(1234567, 98765432, 40),
             None
         ]
     );
