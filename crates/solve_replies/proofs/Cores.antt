@@ -1,5 +1,5 @@
 -- The reply with the rows of a matrix that are to blame.
-use Rattle.std.proofs.Common.{◌≡◌, ◌∙◌, ℕ, ◌+◌, ◌*◌, ◌≤◌, List, Some, length, sum_by, refl, sym, ap, subst, arith}
+use Rattle.std.proofs.Common.{◌≡◌, ◌∙◌, ℕ, ◌≤◌, List, Some, refl, sym, ap, subst, arith}
 use Rattle.std.proofs.Math.Nat.{mul-le-mul}
 use Rattle.column_order.specs.Orders.{HasValidOrder}
 use Rattle.row_model.specs.declared.kind.Kind.{Kind}
