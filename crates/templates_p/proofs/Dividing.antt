@@ -10,7 +10,7 @@ use Rattle.arena_model.specs.ChildLists.{head_or, last_or, none, without, with_r
 use Rattle.arena_model.specs.Layout.{Layout, spare_slot, slot, shape_at, children_at, times_child, with_children, taken, spliced, IsAtOrAbove, here, down, IsLayout, IsInUse, StandsAlone, MayHaveChildren, IsSpliceAt}
 use Rattle.arena_model.specs.NamedTree.{IsOneTree, HasTwoEach}
 use Rattle.arena_model.proofs.Lists.{occurs_here, occurs_other, only_one, last_or-append, replaced_split}
-use Rattle.arena_model.proofs.Slots.{some_none, in_range, used_by, not_none, children_same, children_other, shape_same, children_times, parent_used, child_used, placed_in}
+use Rattle.arena_model.proofs.Slots.{some_none, in_range, used_by, not_none, children_same, children_other, shape_same, children_times, parent_used, child_used, child_at, placed_in}
 use Rattle.arena_model.proofs.Bare.{bare_children, bare_shape, bare_other, fresh}
 use Rattle.arena_model.proofs.Paths.{above_step, one_parent, above_kept, other_top}
 use Rattle.arena_model.proofs.Outlines.{first_step}
@@ -585,17 +585,14 @@ module _ (f g : Layout) (q n l e x : ℕ) (rest ms fresh : List ℕ) (c : CanOpe
 near_named : (f : Layout) (q : ℕ) (t : NodeId) → IsLayout f → 1 ≤ occurs (children_at f q) t.index → Some t ≡ node_named t.index
 near_named f q t h o = sym (ap (λ b. cond b None (Some (let m : NodeId = record { index = t.index } in m))) (ne_eqb t.index none (not_none f t.index h (child_used f q t.index h o))))
 
-in_middle : (us vs : List ℕ) (y : ℕ) → 1 ≤ occurs (us ++ y ∷ vs) y
-in_middle us vs y = omega (arith, occurs-append us (y ∷ vs) y, occurs_here y vs)
-
 -- n and its neighbour are children of q
 pub is_child : (f : Layout) (q n t : ℕ) (us vs : List ℕ) → (children_at f q ≡ us ++ (n ∷ (t ∷ vs))) ⊎ (children_at f q ≡ us ++ (t ∷ (n ∷ vs))) → 1 ≤ occurs (children_at f q) n
-is_child f q n t us vs (inl p) = subst (λ ys. 1 ≤ occurs ys n) (sym p) (in_middle us (t ∷ vs) n)
-is_child f q n t us vs (inr p) = subst (λ ys. 1 ≤ occurs ys n) (sym (p ∙ sym (append_assoc us (t ∷ []) (n ∷ vs)))) (in_middle (us ++ t ∷ []) vs n)
+is_child f q n t us vs (inl p) = child_at f q n us (t ∷ vs) p
+is_child f q n t us vs (inr p) = child_at f q n (us ++ t ∷ []) vs (p ∙ sym (append_assoc us (t ∷ []) (n ∷ vs)))
 
 is_near : (f : Layout) (q n t : ℕ) (us vs : List ℕ) → (children_at f q ≡ us ++ (n ∷ (t ∷ vs))) ⊎ (children_at f q ≡ us ++ (t ∷ (n ∷ vs))) → 1 ≤ occurs (children_at f q) t
-is_near f q n t us vs (inl p) = subst (λ ys. 1 ≤ occurs ys t) (sym (p ∙ sym (append_assoc us (n ∷ []) (t ∷ vs)))) (in_middle (us ++ n ∷ []) vs t)
-is_near f q n t us vs (inr p) = subst (λ ys. 1 ≤ occurs ys t) (sym p) (in_middle us (n ∷ vs) t)
+is_near f q n t us vs (inl p) = child_at f q t (us ++ n ∷ []) vs (p ∙ sym (append_assoc us (n ∷ []) (t ∷ vs)))
+is_near f q n t us vs (inr p) = child_at f q t us (n ∷ vs) p
 
 -- the call that puts both in the place of l
 pub can_splice : (f g : Layout) (q n l e x : ℕ) (rest ms fresh : List ℕ) (t : NodeId) (us vs : List ℕ) → CanOpen f q n l ms → IsOpened f g q n l e x rest ms fresh (e ∷ x ∷ []) →

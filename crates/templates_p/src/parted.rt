@@ -26,7 +26,8 @@ pub fn one_left<L: Ledger>(arena: &mut Arena, node: NodeId, steps: &mut Steps<L>
 {
     arena.layout_law();
     let view = arena.look(node, steps);
-    if view.children > 1 {
+    let stays = view.children > 1;
+    if stays {
         return node;
     }
     let Some(child) = view.ends[0] else {
