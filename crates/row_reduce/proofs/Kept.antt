@@ -187,7 +187,7 @@ filled_children {f = f} {row = row} s q us ks vs b l = stays_whole s q used hold
         (labels_then row (outline_below f) full_label ks vs (labels_for empty_label vs) full (labels_each row (outline_below f) empty_label vs (λ k o. empty k (omega arith)))))
 
     root : IsRootOfQ (child_trees f q) (block_labels us ks vs) (q_node (child_trees f q))
-    root = subst (λ z. IsRootOfQ z (block_labels us ks vs) (q_node z)) (ap (λ z. forest (map (outline_below f) z)) (sym b.children)) (block_made (outline_below f) us ks vs (omega arith))
+    root = subst (λ z. IsRootOfQ z (block_labels us ks vs) (q_node z)) (ap (λ z. forest (map (outline_below f) z)) (sym b.children)) (block_made (outline_below f) us ks vs)
 
     made : IsRootMade row (outline_below f q) (outline_below f q)
     made = subst (λ z. IsRootMade row z z) (sym (below_q f q s.layout b.is_q)) (block_labels us ks vs, labels, root)
