@@ -4,9 +4,11 @@ use Rattle.std.proofs.lemmas.Bool.{cases_eq}
 use Rattle.column_order.specs.Orders.{occurs}
 use Rattle.column_order.proofs.Lists.{occurs-append}
 use Rattle.row_model.specs.Rows.{IsRow}
-use Rattle.pq_tree.specs.Outline.{q_node}
+use Rattle.pq_tree.specs.Outline.{Outline, q_node}
 use Rattle.pq_tree.specs.Forests.{forest}
+use Rattle.pq_tree.specs.Nodes.{IsPertinentRoot}
 use Rattle.pq_tree.proofs.Turnings.{equivalent_refl}
+use Rattle.template_theory.specs.Laws.{RootTurnedLaw}
 use Rattle.template_theory.specs.Templates.{empty_label, full_label}
 use Rattle.template_theory.specs.Chosen.{by_p1, by_q1, IsRootOfQ, root_p1, root_q1}
 use Rattle.template_theory.specs.Reduced.{IsLabel, AreLabels, IsRootMade, IsReduced, no_column, by_template}
@@ -25,6 +27,7 @@ use Rattle.bubble_pass.specs.Sweep.{IsRight}
 use Rattle.full_pass.specs.Answer.{IsRowKept, one_node, one_run, IsSettled}
 use Rattle.full_pass.specs.declared.settled.Settled.TheVariants.{Kept}
 use Rattle.template_model.specs.Standing.{child_trees}
+use Rattle.template_model.specs.Treated.{IsReplacedAt, StandsForTree}
 use Rattle.template_model.proofs.Replaced.{stays}
 use Rattle.row_reduce.proofs.Leaves.{LeafBelow, leaf_below, empty_is, full_leaf}
 use Rattle.row_reduce.proofs.RowLength.{leaf_used}
@@ -99,7 +102,7 @@ another (a ∷ b ∷ ks) k l one = elim (cases_eq a k) [
 ]
 
 -- no leaf is below two children of one node
-both_above : (f : Layout) (n a b x : ℕ) → IsLayout f → 1 ≤ occurs (children_at f n) a → 1 ≤ occurs (children_at f n) b → IsAtOrAbove f.slots a x → IsAtOrAbove f.slots b x → a ≢ b → ⊥
+pub both_above : (f : Layout) (n a b x : ℕ) → IsLayout f → 1 ≤ occurs (children_at f n) a → 1 ≤ occurs (children_at f n) b → IsAtOrAbove f.slots a x → IsAtOrAbove f.slots b x → a ≢ b → ⊥
 both_above f n a b x h oa ob la lb ne = elim (one_path f a b x h la lb) [
   | inl p ↦ apart_children f n a b h oa ob p ne
   | inr p ↦ apart_children f n b a h ob oa p (λ e. ne (sym e))
@@ -114,8 +117,23 @@ none_holds {f = f} {row = row} s n ks l one full k o holds =
     let m : Meets f (column_leaves row) j.0 = full_meets s j.0 (child_used f n j.0 s.layout c.0) c.1 in
     both_above f n j.0 k m.0 s.layout c.0 o m.2 (holds m.0 m.1) j.2
 
+-- where two children of n meet the row, none holds it
+pub two_meet : {f : Layout} {row : List ℕ} → IsAsked f row → (n a b : ℕ) → 1 ≤ occurs (children_at f n) a → 1 ≤ occurs (children_at f n) b → a ≢ b → Meets f (column_leaves row) a → Meets f (column_leaves row) b →
+    (k : ℕ) → 1 ≤ occurs (children_at f n) k → Holds f (column_leaves row) k → ⊥
+two_meet {f = f} s n a b oa ob ne ma mb k o holds = elim (cases_eq a k) [
+  | inl e ↦ both_above f n b k mb.0 s.layout ob o mb.2 (holds mb.0 mb.1) (λ q. ne (e ∙ sym q))
+  | inr na ↦ both_above f n a k ma.0 s.layout oa o ma.2 (holds ma.0 ma.1) na
+]
+
 full_child : (f : Layout) (row : List ℕ) (n k : ℕ) → IsRight f (column_leaves row) n Full → 1 ≤ occurs (children_at f n) k → IsRight f (column_leaves row) k Full
 full_child f row n k right o = λ x a l e. right x a (down n k x o l) e
+
+-- where a node stands for what a template makes of the pertinent root, in its place, the tree is reduced
+pub root_reduced : {f : Layout} {row : List ℕ} → IsAsked f row → (q : ℕ) → IsInUse f q → IsPertinentRoot row (outline_at f) (outline_below f q) → (h : Layout) → RootTurnedLaw → IsLayout h → IsReplacedAt f h q q →
+    (y : Outline) → IsRootMade row (outline_below f q) y → StandsForTree h q y → IsReduced row (outline_at f) (outline_at h)
+root_reduced {f = f} {row = row} s q used root h law hl r y made stands =
+    law row (outline_at f) (outline_below f q) y (outline_below h q) (outline_at h) root made stands
+    (replaced_whole (record { f_layout = s.layout; h_layout = hl; used = used; root = r.root; outside = r.outside }) (s.one q used))
 
 -- where the pertinent root stays as it is, the tree does
 stays_whole : {f : Layout} {row : List ℕ} → IsAsked f row → (q : ℕ) → IsInUse f q → Holds f (column_leaves row) q → ((k : ℕ) → 1 ≤ occurs (children_at f q) k → Holds f (column_leaves row) k → ⊥) →

@@ -23,6 +23,9 @@ pub mod InsideDone
 pub mod RowDone
 pub mod GroupDone
 pub mod Blocks
+pub mod FilledPart
+pub mod Divided
+pub mod BesideDone
 pub mod RowLength
 pub mod Kept
 pub mod Staying

@@ -15,12 +15,12 @@ use pq_arena::{Arena, NodeId};
 use row_model::Matrix;
 use step_count::{Ledger, Steps};
 use template_theory::{Step, reduce_law, turned_law};
-use templates_p::apply_p2_to;
+use templates_p::{apply_p2_to, divide};
 use templates_q::{apply_q3, fits_q3};
 
 // Reduces the tree of the arena by row `k` of the matrix, numbered from 1, or leaves it as it is where
-// no template stands at some node. Most rows of a long list change nothing, and the full pass sees that
-// in one look at each full node.
+// no template stands at some node. Most rows of a long list change nothing, or one P-node alone, and the
+// full pass sees that at less cost.
 pub fn reduce_arena<L: Ledger>(
     arena: &mut Arena,
     full: &mut FullWork,
@@ -53,6 +53,12 @@ pub fn reduce_arena<L: Ledger>(
         Settled::Group(node) => {
             turned_law();
             apply_p2_to(arena, node, full.members(), steps);
+            arena.layout_law();
+            Step::Taken
+        }
+        Settled::Beside(end) => {
+            turned_law();
+            divide(arena, end.node, full.members(), end.beside, steps);
             arena.layout_law();
             Step::Taken
         }

@@ -2,6 +2,7 @@ use Rattle.std.proofs.Common.{◌≡◌, ◌≢◌, [], length, rules}
 use Rattle.pq_arena.specs.RowNodes.{indices}
 use Rattle.row_model.specs.Graph.{row_at}
 use Rattle.row_reduce.proofs.GroupDone.{group_named, group_taken, group_total, group_below}
+use Rattle.row_reduce.proofs.BesideDone.{beside_some, beside_place, beside_named, beside_taken, beside_total, beside_below}
 use Rattle.row_reduce.proofs.RowDone.{row_over, some_column, few_columns, empty_taken, kept_taken, kept_total, kept_below, open_total, open_below}
 use Rattle.row_reduce.proofs.rows.reduce_arena.Goals as goal
 
@@ -49,3 +50,44 @@ returns-in-Group-clause-below g c = λ e.
     let s = (row_over c.layout_law.ensures c.requires.tree c.row.ensures.row c.row.ensures.ascending) in
     let some : row_at c.args.m.now.rows c.args.k ≢ [] = some_column s (search rules) in
     group_below c.met_law.ensures s c.arities_law.ensures some c.in-Group.node.index c.members.result.now (group_named c.members.ensures c.in-Group.ensures.settled) _ _ _ c.settle.ensures.steps c.apply_p2_to.ensures.ticks
+
+pub divide-requires-clause-place : goal.divide-requires-clause-place
+divide-requires-clause-place g c =
+    beside_place c.args.arena.now _ c.in-Beside.end.node.index c.in-Beside.end.beside.index (indices c.settle.new.work.members) c.in-Beside.ensures.settled
+
+pub divide-requires-clause-members : goal.divide-requires-clause-members
+divide-requires-clause-members g c =
+    beside_some c.args.arena.now _ c.in-Beside.end.node.index c.in-Beside.end.beside.index (indices c.members-in-Beside.result.now) (beside_named c.members-in-Beside.ensures c.in-Beside.ensures.settled)
+
+pub reduce_by_templates-requires-clause-some : goal.reduce_by_templates-requires-clause-some
+reduce_by_templates-requires-clause-some g c = some_column (row_over c.layout_law.ensures c.requires.tree c.row.ensures.row c.row.ensures.ascending) (search rules)
+
+pub returns-in-Beside-clause-outcome : goal.returns-in-Beside-clause-outcome
+returns-in-Beside-clause-outcome g c =
+    let s = (row_over c.layout_law.ensures c.requires.tree c.row.ensures.row c.row.ensures.ascending) in
+    let some : row_at c.args.m.now.rows c.args.k ≢ [] = some_column s (search rules) in
+    beside_taken s c.arities_law.ensures some c.turned_law-in-Beside.ensures.root c.in-Beside.end.node.index c.in-Beside.end.beside.index (indices c.members-in-Beside.result.now)
+    (beside_named c.members-in-Beside.ensures c.in-Beside.ensures.settled) c.divide.new.arena c.layout_law-in-Beside.ensures (record { before = c.divide.ensures.before; behind = c.divide.ensures.behind })
+
+pub returns-in-Beside-clause-ticks : goal.returns-in-Beside-clause-ticks
+returns-in-Beside-clause-ticks g c =
+    let s = (row_over c.layout_law.ensures c.requires.tree c.row.ensures.row c.row.ensures.ascending) in
+    let some : row_at c.args.m.now.rows c.args.k ≢ [] = some_column s (search rules) in
+    beside_total c.met_law.ensures s c.arities_law.ensures some c.in-Beside.end.node.index c.in-Beside.end.beside.index c.members-in-Beside.result.now (beside_named c.members-in-Beside.ensures c.in-Beside.ensures.settled)
+    (few_columns c.met_law.ensures s) _ _ _ c.settle.ensures.steps c.divide.ensures.ticks
+
+pub returns-in-Beside-clause-below : goal.returns-in-Beside-clause-below
+returns-in-Beside-clause-below g c = λ e.
+    let s = (row_over c.layout_law.ensures c.requires.tree c.row.ensures.row c.row.ensures.ascending) in
+    let some : row_at c.args.m.now.rows c.args.k ≢ [] = some_column s (search rules) in
+    beside_below c.met_law.ensures s c.arities_law.ensures some c.in-Beside.end.node.index c.in-Beside.end.beside.index c.members-in-Beside.result.now (beside_named c.members-in-Beside.ensures c.in-Beside.ensures.settled)
+    _ _ _ c.settle.ensures.steps c.divide.ensures.ticks
+
+pub returns-in-Kept-clause-empty : goal.returns-in-Kept-clause-empty
+returns-in-Kept-clause-empty g c = λ none. absurd (some_column (row_over c.layout_law.ensures c.requires.tree c.row.ensures.row c.row.ensures.ascending) (search rules) none)
+
+pub returns-in-Group-clause-empty : goal.returns-in-Group-clause-empty
+returns-in-Group-clause-empty g c = λ none. absurd (some_column (row_over c.layout_law.ensures c.requires.tree c.row.ensures.row c.row.ensures.ascending) (search rules) none)
+
+pub returns-in-Beside-clause-empty : goal.returns-in-Beside-clause-empty
+returns-in-Beside-clause-empty g c = λ none. absurd (some_column (row_over c.layout_law.ensures c.requires.tree c.row.ensures.row c.row.ensures.ascending) (search rules) none)
