@@ -61,15 +61,23 @@ row_topmost f row l h n x r p o = elim (topmost f l f.root x (r.below x o) (row_
   | inr u ↦ u
 ]
 
--- a child of p is labelled where a leaf of the row is at or below it, and only p and a node above it have parts
+-- no node at or below a child of p has a part
+abbrev pub NoneBelow : Layout → (ℕ → Bool) → ℕ → Type 0
+NoneBelow f l p = (m k : ℕ) → HasPart f l [] m → 1 ≤ occurs (children_at f p) k → IsAtOrAbove f.slots k m → ⊥
+
+-- so it is where only p and a node above it have parts
+pub none_below_part : (f : Layout) (l : ℕ → Bool) (p : ℕ) → IsLayout f → ((m : ℕ) → HasPart f l [] m → (m ≡ p) ⊎ (1 ≤ occurs (children_at f m) p)) → NoneBelow f l p
+none_below_part f l p layout only = λ m k part o way. no_circle f.slots p k (layout.grounds p) o (elim (only m part) [
+  | inl e ↦ subst (λ z. IsAtOrAbove f.slots k z) e way
+  | inr c ↦ above_step f.slots k m p way c
+])
+
+-- then a child of p is labelled where a leaf of the row is at or below it
 met_labelled : (f : Layout) (row : List ℕ) (l : ℕ → Bool) (h : ℕ → ℕ) (n p k : ℕ) → IsLayout f → Pass f row l h [] n →
-    ((m : ℕ) → HasPart f l [] m → (m ≡ p) ⊎ (1 ≤ occurs (children_at f m) p)) → 1 ≤ occurs (children_at f p) k → Meets f row k → l k ≡ true
-met_labelled f row l h n p k layout pass only o met = elim (topmost f l k met.0 met.2 (row_labelled f row l h n met.0 pass met.1)) [
+    NoneBelow f l p → 1 ≤ occurs (children_at f p) k → Meets f row k → l k ≡ true
+met_labelled f row l h n p k layout pass none o met = elim (topmost f l k met.0 met.2 (row_labelled f row l h n met.0 pass met.1)) [
   | inl t ↦ t
-  | inr u ↦ absurd (no_circle f.slots p k (layout.grounds p) o (elim (only u.m u.part) [
-    | inl e ↦ subst (λ z. IsAtOrAbove f.slots k z) e u.above
-    | inr c ↦ above_step f.slots k u.m p u.above c
-  ]))
+  | inr u ↦ absurd (none u.m k u.part o u.above)
 ]
 
 -- x is below a labelled child of m
@@ -141,11 +149,11 @@ members_once f l h p k members layout marked =
     at_most true n = omega arith
     at_most false n = omega arith
 
--- they are a filled part of p where only p and a node above it have parts
+-- they are a filled part of p where no node below it has a part
 pub filled_part : (f : Layout) (row : List ℕ) (l : ℕ → Bool) (h : ℕ → ℕ) (n p : ℕ) (members : List ℕ) → IsLayout f → Pass f row l h [] n →
     InRing f l [] p → marks l (children_at f p) < length (children_at f p) → AreMarked f l h p members →
-    ((m : ℕ) → HasPart f l [] m → (m ≡ p) ⊎ (1 ≤ occurs (children_at f m) p)) → IsFilledPart f row p members
-filled_part f row l h n p members layout pass ring few marked only =
+    NoneBelow f l p → IsFilledPart f row p members
+filled_part f row l h n p members layout pass ring few marked none =
     let count : h p ≡ marks l (children_at f p) = pass.counts p ring.is_p in
     let long : length members ≡ h p = marked.long in
     record {
@@ -155,7 +163,7 @@ filled_part f row l h n p members layout pass ring few marked only =
       some = let t : 1 ≤ marks l (children_at f p) = marks_some l (children_at f p) ring.part.child ring.part.labelled ring.part.is_child in omega arith;
       not_all = omega arith;
       filled = λ k o. pass.labels.filled k (member_marked f l h p k members marked o).0;
-      others = λ k o met. marked_member f l h p k members marked (met_labelled f row l h n p k layout pass only o met) o;
+      others = λ k o met. marked_member f l h p k members marked (met_labelled f row l h n p k layout pass none o met) o;
     }
 
 -- the chain of the P-node p has its labelled children
@@ -164,7 +172,8 @@ pub end_more : (f : Layout) (row : List ℕ) (l : ℕ → Bool) (h : ℕ → ℕ
 end_more f row l h n p members layout r pass le more marked =
     let count : h p ≡ marks l (children_at f p) = pass.counts p more.ring.is_p in
     let long : length members ≡ h p = marked.long in
-    let filled : IsFilledPart f row p members = filled_part f row l h n p members layout pass more.ring more.not_all marked (λ m part. inl (one_part f row l h n layout pass le m p part more.ring.part)) in
+    let filled : IsFilledPart f row p members = filled_part f row l h n p members layout pass more.ring more.not_all marked
+    (none_below_part f l p layout (λ m part. inl (one_part f row l h n layout pass le m p part more.ring.part))) in
     record {
       is_p = filled.is_p;
       once = filled.once;

@@ -6,10 +6,10 @@ use Rattle.arena_model.specs.Layout.{IsAtOrAbove, IsLayout, Layout, children_at,
 use Rattle.arena_model.proofs.Slots.{used_by}
 use Rattle.arena_model.proofs.Lists.{occurs_here}
 use Rattle.full_pass.specs.declared.settled.Settled.{Settled}
-use Rattle.full_pass.specs.declared.settled.Settled.TheVariants.{Beside, Group, Kept, Open}
+use Rattle.full_pass.specs.declared.settled.Settled.TheVariants.{Beside, Between, Group, Kept, Open}
 use Rattle.arena_model.specs.RowLeaves.{column_leaves, IsLeafAt}
 use Rattle.full_pass.specs.Answer.{AreLeaves, IsFullNode, IsRowKept, IsSettled, one_node}
-use Rattle.full_pass.specs.Passing.{AreCounted, AreLinked, Chains, Counting, Going, IsLast, IsRisen, Pass, Runs, marks, members_in, runs, total}
+use Rattle.full_pass.specs.Passing.{AreCounted, AreLinked, Chains, Counting, Going, IsLast, IsRisen, Pass, Runs, marks, members_in, runs, second_members_in, total}
 use Rattle.full_pass.specs.declared.tallies.Tally.{Tally}
 use Rattle.full_pass.specs.Tallies.{AreStamped, first_in, full_in, hits_in, next_in}
 use Rattle.full_pass.specs.declared.entries.Entries.{Entries}
@@ -76,10 +76,11 @@ risen_pass : (f : Layout) (row : List ℕ) (l : ℕ → Bool) (h : ℕ → ℕ) 
 risen_pass f row l h waiting n Kept r = r.0.0
 risen_pass f row l h waiting n (Group p) r = r.0.0
 risen_pass f row l h waiting n (Beside e) r = absurd r.0
+risen_pass f row l h waiting n (Between d e) r = absurd r.0
 risen_pass f row l h waiting n Open r = absurd (r.1 refl)
 
 settled : (f : Layout) (row : List ℕ) (l : ℕ → Bool) (tallies : List Tally) (stamp n : ℕ) (s : Settled) → IsLayout f → AreLeaves f row → n ≤ 1 →
-    Chains f l (hits_in tallies stamp) (first_in tallies) (next_in tallies) → IsLast f row l (hits_in tallies stamp) [] n s → IsSettled f row (members_in tallies stamp s) s
+    Chains f l (hits_in tallies stamp) (first_in tallies) (next_in tallies) → IsLast f row l (hits_in tallies stamp) [] n s → IsSettled f row (members_in tallies stamp s) (second_members_in tallies stamp s) s
 settled f row l tallies stamp n Kept layout r le chains last = elim last.1 [
   | inl run ↦ end_run f row l (hits_in tallies stamp) n layout r last.0 le run
   | inr one ↦ end_first f row l (hits_in tallies stamp) n layout r last.0 le one
@@ -88,12 +89,13 @@ settled f row l tallies stamp n (Group p) layout r le chains last =
     end_more f row l (hits_in tallies stamp) n p.index (members_in tallies stamp (Group p)) layout r last.0 le last.1
     (chain_marked f l (hits_in tallies stamp) (first_in tallies) (next_in tallies) p.index last.1.ring.is_p chains)
 settled f row l tallies stamp n (Beside e) layout r le chains last = absurd last
+settled f row l tallies stamp n (Between d e) layout r le chains last = absurd last
 settled f row l tallies stamp n Open layout r le chains last = tt
 
 -- what the pass answers where it has gone over all columns of the row
 pub settled_at_end : (f : Layout) (row : List ℕ) (l : ℕ → Bool) (tallies : List Tally) (stamp i n : ℕ) (s : Settled) → IsLayout f → IsOneTree f → IsRow f.columns row → length row ≤ i → n ≤ 1 →
     Chains f l (hits_in tallies stamp) (first_in tallies) (next_in tallies) → IsLast f (column_leaves row) l (hits_in tallies stamp) (column_leaves (drop i row)) n s →
-    IsSettled f (column_leaves row) (members_in tallies stamp s) s
+    IsSettled f (column_leaves row) (members_in tallies stamp s) (second_members_in tallies stamp s) s
 settled_at_end f row l tallies stamp i n s layout one is_row over le chains last =
     settled f (column_leaves row) l tallies stamp n s layout (row_leaves f row layout one is_row) le chains
     (subst (λ z. IsLast f (column_leaves row) l (hits_in tallies stamp) z n s) (rest_none row i over) last)

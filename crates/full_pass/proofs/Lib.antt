@@ -13,5 +13,7 @@ pub mod Listing
 pub mod Columns
 pub mod Going
 pub mod Joining
+pub mod RunEnds
 pub mod TwoParts
+pub mod ThreeParts
 pub mod Frontiers

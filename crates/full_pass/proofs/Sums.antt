@@ -58,3 +58,21 @@ changed_off g m v y ne = ap (λ b. cond b v (g y)) (ne_eqb y m ne)
 
 pub total_changed : (g : ℕ → ℕ) (m v n : ℕ) → m < n → total (changed g m v) n + g m ≡ total g n + v
 total_changed g m v n l = total_with g (changed g m v) m n l (changed_off g m v) ∙ ap (λ z. total g n + z) (changed_here g m v)
+
+pub total_three : (g : ℕ → ℕ) (a b c n : ℕ) → a ≢ b → a ≢ c → b ≢ c → a < n → b < n → c < n → g a + (g b + g c) ≤ total g n
+total_three g a b c n ab ac bc la lb lc =
+    let t : total (changed g a 0) n + g a ≡ total g n + 0 = total_changed g a 0 n la in
+    let s : changed g a 0 b + changed g a 0 c ≤ total (changed g a 0) n = total_two (changed g a 0) b c n bc lb lc in
+    let eb : changed g a 0 b ≡ g b = changed_off g a 0 b (λ e. ab (sym e)) in
+    let ec : changed g a 0 c ≡ g c = changed_off g a 0 c (λ e. ac (sym e)) in
+    omega arith
+
+pub total_four : (g : ℕ → ℕ) (a b c d n : ℕ) → (a ≢ b) × (a ≢ c) × (a ≢ d) → b ≢ c → b ≢ d → c ≢ d → a < n → b < n → c < n → d < n →
+    g a + (g b + (g c + g d)) ≤ total g n
+total_four g a b c d n apart bc bd cd la lb lc ld =
+    let t : total (changed g a 0) n + g a ≡ total g n + 0 = total_changed g a 0 n la in
+    let s : changed g a 0 b + (changed g a 0 c + changed g a 0 d) ≤ total (changed g a 0) n = total_three (changed g a 0) b c d n bc bd cd lb lc ld in
+    let eb : changed g a 0 b ≡ g b = changed_off g a 0 b (λ e. apart.0 (sym e)) in
+    let ec : changed g a 0 c ≡ g c = changed_off g a 0 c (λ e. apart.1 (sym e)) in
+    let ed : changed g a 0 d ≡ g d = changed_off g a 0 d (λ e. apart.2 (sym e)) in
+    omega arith

@@ -1,11 +1,11 @@
--- The rows that a tree keeps as it is, and the rows that gather some children of one P-node, alone or beside a run.
+-- The rows that a tree keeps as it is, and the rows that gather some children of one P-node, alone or beside a run, or of two with a run between.
 use Rattle.std.specs.Prelude.{◌≡◌, ◌⊎◌, ℕ, ◌≤◌, ◌<◌, List, ◌∷◌, ◌++◌, length, Some}
 use Rattle.arena_model.specs.declared.Shape.TheVariants.{P, Q}
 use Rattle.arena_model.specs.ChildLists.{none, head_or, last_or}
 use Rattle.arena_model.specs.Layout.{Layout, shape_at, children_at, IsAtOrAbove}
 use Rattle.column_order.specs.Orders.{occurs}
 use Rattle.full_pass.specs.declared.settled.Settled.{Settled}
-use Rattle.full_pass.specs.declared.settled.Settled.TheVariants.{Kept, Group, Beside, Open}
+use Rattle.full_pass.specs.declared.settled.Settled.TheVariants.{Kept, Group, Beside, Between, Open}
 use Rattle.arena_model.specs.RowLeaves.{Holds, Meets, IsLeafAt}
 
 -- each leaf at or below n is in the row
@@ -59,12 +59,31 @@ pub record IsBesideRun (f : Layout) (row : List ℕ) (n t : ℕ) (members : List
   pub filled : (k : ℕ) → 1 ≤ occurs ks k → IsFullNode f row k
   pub covers : (x : ℕ) → 1 ≤ occurs row x → (k : ℕ) × (1 ≤ occurs (members ++ ks) k) × IsAtOrAbove f.slots k x
 
--- what each answer says, with the members of the P-node that it names
-abbrev pub IsSettled : Layout → List ℕ → List ℕ → Settled → Type 0
-IsSettled f row members Kept = IsRowKept f row
-IsSettled f row members (Group p) = IsGroup f row p.index members
-IsSettled f row members (Beside e) = IsBesideRun f row e.node.index e.beside.index members
-IsSettled f row members Open = Unit {0}
+-- The leaves of the row are those below the run ks of children of the Q-node q, and those below some children of the
+-- P-nodes n and o, which stand beside its ends. t is the neighbour of n in the run and u that of o; both P-nodes have
+-- another neighbour.
+pub record IsBetween (f : Layout) (row : List ℕ) (n t : ℕ) (members : List ℕ) (o u : ℕ) (others : List ℕ) : Type 0 where
+  pub part : IsFilledPart f row n members
+  pub other_part : IsFilledPart f row o others
+  pub q : ℕ
+  pub us : List ℕ
+  pub ks : List ℕ
+  pub vs : List ℕ
+  pub is_q : shape_at f q ≡ Some Q
+  pub some : 1 ≤ length ks
+  pub outer : (1 ≤ length us) × (1 ≤ length vs)
+  pub place : ((children_at f q ≡ us ++ (n ∷ (ks ++ (o ∷ vs)))) × (t ≡ head_or ks none) × (u ≡ last_or ks none))
+      ⊎ ((children_at f q ≡ us ++ (o ∷ (ks ++ (n ∷ vs)))) × (u ≡ head_or ks none) × (t ≡ last_or ks none))
+  pub filled : (k : ℕ) → 1 ≤ occurs ks k → IsFullNode f row k
+  pub covers : (x : ℕ) → 1 ≤ occurs row x → (k : ℕ) × (1 ≤ occurs (members ++ (others ++ ks)) k) × IsAtOrAbove f.slots k x
+
+-- what each answer says, with the members of the first P-node that it names, and those of the second
+abbrev pub IsSettled : Layout → List ℕ → List ℕ → List ℕ → Settled → Type 0
+IsSettled f row members others Kept = IsRowKept f row
+IsSettled f row members others (Group p) = IsGroup f row p.index members
+IsSettled f row members others (Beside e) = IsBesideRun f row e.node.index e.beside.index members
+IsSettled f row members others (Between d e) = IsBetween f row d.node.index d.beside.index members e.node.index e.beside.index others
+IsSettled f row members others Open = Unit {0}
 
 -- distinct leaves below the root
 pub record AreLeaves (f : Layout) (row : List ℕ) : Type 0 where

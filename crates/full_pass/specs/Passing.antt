@@ -14,14 +14,17 @@ use Rattle.full_pass.specs.declared.added.Added.TheVariants.{Top, Run, First, Mo
 use Rattle.full_pass.specs.declared.added.Next.{Next}
 use Rattle.full_pass.specs.declared.added.Next.TheVariants.{Ended, Above}
 use Rattle.full_pass.specs.declared.count.Counted.{Counted}
-use Rattle.full_pass.specs.declared.count.Counted.TheVariants.{Answered, MayFill, TwoParts, Open as CountedOpen}
+use Rattle.full_pass.specs.declared.count.Counted.TheVariants.{Answered, MayFill, TwoParts, ThreeParts, Open as CountedOpen}
 use Rattle.full_pass.specs.declared.tallies.Tally.{Tally}
 use Rattle.full_pass.specs.declared.joins.Joined.{Joined}
 use Rattle.full_pass.specs.declared.joins.Joined.TheVariants.{Plain, Wide}
 use Rattle.full_pass.specs.declared.joins.Place.{Place}
 use Rattle.full_pass.specs.declared.joins.Place.TheVariants.{Top as PlaceTop, Run as PlaceRun, Ring as PlaceRing}
 use Rattle.full_pass.specs.declared.settled.Settled.{Settled}
-use Rattle.full_pass.specs.declared.settled.Settled.TheVariants.{Kept, Group, Beside, Open}
+use Rattle.full_pass.specs.declared.settled.Settled.TheVariants.{Kept, Group, Beside, Between, Open}
+use Rattle.full_pass.specs.declared.settled.End.{End}
+use Rattle.full_pass.specs.declared.beside.RingAbove.{RingAbove}
+use Rattle.full_pass.specs.declared.beside.RingAbove.TheVariants.{Absent, Lone, Near}
 use Rattle.full_pass.specs.Answer.{IsFullNode, IsSettled}
 use Rattle.full_pass.specs.Entries.{is_full, hits, far, up, first, next, AreReady}
 use Rattle.full_pass.specs.Tallies.{full_in, hits_in, first_in, next_in, chained, AreStamped}
@@ -141,6 +144,7 @@ abbrev pub IsLast : Layout → List ℕ → (ℕ → Bool) → (ℕ → ℕ) →
 IsLast f row l h waiting n Kept = Pass f row l h waiting n × (InRun f l waiting ⊎ InFirst f l waiting)
 IsLast f row l h waiting n (Group p) = Pass f row l h waiting n × InMore f l waiting p.index
 IsLast f row l h waiting n (Beside e) = ⊥
+IsLast f row l h waiting n (Between d e) = ⊥
 IsLast f row l h waiting n Open = Unit {0}
 
 -- what is known once the nodes are labelled that a leaf made full: the answer if no other part is left
@@ -233,23 +237,33 @@ pub record Counting (f : Layout) (row : List ℕ) (labels : List ℕ) (tallies :
   pub pass : Pass f row (full_in labels stamp) (hits_in tallies stamp) waiting open_count
   pub answer : IsLast f row (full_in labels stamp) (hits_in tallies stamp) waiting open_count last
 
--- the labelled children of the P-node that the answer names
+-- the labelled children of the first P-node that the answer names
 abbrev pub members_in : List Tally → ℕ → Settled → List ℕ
 members_in tallies stamp Kept = []
 members_in tallies stamp (Group p) = chained (hits_in tallies stamp p.index) (next_in tallies) (first_in tallies p.index)
 members_in tallies stamp (Beside e) = chained (hits_in tallies stamp e.node.index) (next_in tallies) (first_in tallies e.node.index)
+members_in tallies stamp (Between d e) = chained (hits_in tallies stamp d.node.index) (next_in tallies) (first_in tallies d.node.index)
 members_in tallies stamp Open = []
 
--- a pass that counts has gone over the row, and two parts are left at most
-pub record AreTwo (f : Layout) (row : List ℕ) (labels : List ℕ) (tallies : List Tally) (stamp : ℕ) : Type 0 where
+-- those of the second
+abbrev pub second_members_in : List Tally → ℕ → Settled → List ℕ
+second_members_in tallies stamp Kept = []
+second_members_in tallies stamp (Group p) = []
+second_members_in tallies stamp (Beside e) = []
+second_members_in tallies stamp (Between d e) = chained (hits_in tallies stamp e.node.index) (next_in tallies) (first_in tallies e.node.index)
+second_members_in tallies stamp Open = []
+
+-- a pass that counts has gone over the row, and n parts are left at most
+pub record ArePartsLeft (f : Layout) (row : List ℕ) (labels : List ℕ) (tallies : List Tally) (stamp n : ℕ) : Type 0 where
   pub counted : AreCounted f labels tallies stamp
-  pub pass : Pass f row (full_in labels stamp) (hits_in tallies stamp) [] 2
+  pub pass : Pass f row (full_in labels stamp) (hits_in tallies stamp) [] n
 
 -- what is known where a pass that counts ends so
 abbrev pub IsCounted : Layout → List ℕ → List ℕ → List Tally → ℕ → Counted → Type 0
-IsCounted f row labels tallies stamp (Answered s) = IsSettled f row (members_in tallies stamp s) s
+IsCounted f row labels tallies stamp (Answered s) = IsSettled f row (members_in tallies stamp s) (second_members_in tallies stamp s) s
 IsCounted f row labels tallies stamp MayFill = Unit {0}
-IsCounted f row labels tallies stamp TwoParts = AreTwo f row labels tallies stamp
+IsCounted f row labels tallies stamp TwoParts = ArePartsLeft f row labels tallies stamp 2
+IsCounted f row labels tallies stamp ThreeParts = ArePartsLeft f row labels tallies stamp 3
 IsCounted f row labels tallies stamp CountedOpen = Unit {0}
 
 -- this node is one of two neighbours, and labelled
@@ -257,10 +271,33 @@ abbrev pub IsLabelledNear : (ℕ → Bool) → Option NodeId → Option NodeId �
 IsLabelledNear l a b None = Unit {0}
 IsLabelledNear l a b (Some t) = (l t.index ≡ true) × (a ≢ None) × (b ≢ None) × ((a ≡ Some t) ⊎ (b ≡ Some t))
 
--- the answer for the row, where there is one
-abbrev pub IsFoundAbove : Layout → List ℕ → List Tally → ℕ → Option Settled → Type 0
-IsFoundAbove f row tallies stamp None = Unit {0}
-IsFoundAbove f row tallies stamp (Some s) = IsSettled f row (members_in tallies stamp s) s
+-- the P-node p is not full, and has a labelled child; it stands in a Q-node between two neighbours, of which t is labelled
+pub record IsEndOfRun (f : Layout) (l : ℕ → Bool) (p t : ℕ) : Type 0 where
+  pub ring : InRing f l [] p
+  pub few : marks l (children_at f p) < length (children_at f p)
+  pub q : ℕ
+  pub us : List ℕ
+  pub vs : List ℕ
+  pub is_q : shape_at f q ≡ Some Q
+  pub place : children_at f q ≡ us ++ p ∷ vs
+  pub some_before : 1 ≤ length us
+  pub some_behind : 1 ≤ length vs
+  pub labelled : l t ≡ true
+  pub beside : (t ≡ last_or us none) ⊎ (t ≡ head_or vs none)
+
+-- this end of a run, where there is one, is one
+abbrev pub IsFoundEnd : Layout → (ℕ → Bool) → Option End → Type 0
+IsFoundEnd f l None = Unit {0}
+IsFoundEnd f l (Some e) = IsEndOfRun f l e.node.index e.beside.index
+
+-- what is above a leaf of the row
+abbrev pub IsRingAbove : Layout → (ℕ → Bool) → RingAbove → Type 0
+IsRingAbove f l Absent = Unit {0}
+IsRingAbove f l Lone = Unit {0}
+IsRingAbove f l (Near e) = IsEndOfRun f l e.node.index e.beside.index
 
 abbrev pub members_of : Entries → Settled → List ℕ
 members_of w s = members_in w.tallies.items w.stamp s
+
+abbrev pub second_members_of : Entries → Settled → List ℕ
+second_members_of w s = second_members_in w.tallies.items w.stamp s

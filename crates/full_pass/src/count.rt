@@ -22,6 +22,8 @@ pub enum Counted {
     MayFill,
     // No Q-node may be full, and two parts are left.
     TwoParts,
+    // No Q-node may be full, and three parts are left.
+    ThreeParts,
     // No Q-node may be full, and other parts are left.
     Open,
 }
@@ -139,6 +141,8 @@ pub fn count<L: Ledger>(
         Counted::MayFill
     } else if parts == 2 {
         Counted::TwoParts
+    } else if parts == 3 {
+        Counted::ThreeParts
     } else {
         Counted::Open
     }

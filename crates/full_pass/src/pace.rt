@@ -38,7 +38,9 @@ impl Pace {
     pub fn note(&mut self, found: Settled) {
         match found {
             Settled::Open => self.was_in_vain(),
-            Settled::Kept | Settled::Group(_) | Settled::Beside(_) => self.in_vain = 0,
+            Settled::Kept | Settled::Group(_) | Settled::Beside(_) | Settled::Between(_, _) => {
+                self.in_vain = 0
+            }
         }
     }
 

@@ -7,9 +7,9 @@ ghost use Rattle.arena_model.specs.NamedTree.{IsOneTree, outline_at};
 ghost use Rattle.pq_arena.specs.RowNodes.{indices, column_leaves};
 ghost use Rattle.full_pass.specs.Answer.{IsSettled};
 ghost use Rattle.full_pass.specs.Entries.{AreReady};
-ghost use Rattle.full_pass.specs.Passing.{members_of, CanPass};
+ghost use Rattle.full_pass.specs.Passing.{members_of, second_members_of, CanPass};
 
-use crate::beside::find_beside;
+use crate::beside::{find_beside, find_between};
 use crate::count::{Counted, count};
 use crate::entries::Entries;
 use crate::joins::rise;
@@ -38,14 +38,17 @@ pub enum Settled {
     /// The row is what is below a run of children of a Q-node, and below some children of the P-node beside an end of
     /// that run, one or more and not all. The neighbour is that end.
     Beside(End),
+    /// The row is what is below a run of children of a Q-node, and below some children of the P-node beside each end of
+    /// that run, one or more and not all. Each neighbour is the end of the run that its P-node stands beside.
+    Between(End, End),
     /// Nothing is known.
     Open,
 }
 
 /// Looks at full nodes and at the P-nodes above them alone, and says whether every frontier of the tree keeps row
 /// `k` of the matrix, numbered from 1, or what has to be gathered: children of one P-node, or a run of children of a
-/// Q-node and children of the P-node beside it. After [`Settled::Group`] and [`Settled::Beside`],
-/// [`FullWork::members`] are the full children of the P-node.
+/// Q-node and children of the P-node beside it, or of the P-nodes beside both its ends. [`FullWork::members`] are the
+/// full children of the P-node that the answer names first, and [`FullWork::others`] those of the second.
 pub fn settle<L: Ledger>(
     arena: &Arena,
     m: &Matrix,
@@ -58,7 +61,7 @@ pub fn settle<L: Ledger>(
     requires room { work.old.size ≡ length arena.now.slots }
     requires row { (1 ≤ k) × (k ≤ length m.now.rows) }
     ensures room { work.new.size ≡ work.old.size }
-    ensures settled { IsSettled arena.now (column_leaves (row_at m.now.rows k)) (indices work.new.members) result }
+    ensures settled { IsSettled arena.now (column_leaves (row_at m.now.rows k)) (indices work.new.members) (indices work.new.others) result }
     ensures kept { result ≡ Settled.Kept → (o : List ℕ) → IsFrontier (outline_at arena.now) o →
         Keeps o (row_at m.now.rows k) }
     ensures steps { steps.new ≤ steps.old + 8 * length (row_at m.now.rows k) }
@@ -67,7 +70,8 @@ pub fn settle<L: Ledger>(
 }
 
 // A pass that counts over the row with these columns. Where that leaves the row open, and a Q-node may be full, a pass
-// that keeps runs goes on. Where no Q-node may be full, and two parts are left, one may be of a P-node beside the other.
+// that keeps runs goes on. Where no Q-node may be full, and two or three parts are left, one may be a run, and each
+// other of a P-node beside it.
 pub fn run_both<L: Ledger>(
     arena: &Arena,
     row: &[u32],
@@ -77,7 +81,7 @@ pub fn run_both<L: Ledger>(
 ) -> Settled
     requires { CanPass arena.now row.now entries.old }
     ensures ready { AreReady entries.new (length arena.now.slots) }
-    ensures settled { IsSettled arena.now (column_leaves row.now) (members_of entries.new result) result }
+    ensures settled { IsSettled arena.now (column_leaves row.now) (members_of entries.new result) (second_members_of entries.new result) result }
     ensures ticks { steps.new ≤ steps.old + 8 * length row.now }
 {
     entries.begin();
@@ -94,6 +98,9 @@ pub fn run_both<L: Ledger>(
         Counted::Open => Settled::Open,
         Counted::TwoParts => {
             find_beside(arena, row, &entries.labels, &entries.tallies, stamp, steps)
+        }
+        Counted::ThreeParts => {
+            find_between(arena, row, &entries.labels, &entries.tallies, stamp, steps)
         }
         Counted::MayFill => {
             if !pace.is_next() {
@@ -115,7 +122,7 @@ fn run<L: Ledger>(
 ) -> Settled
     requires { CanPass arena.now row.now entries.old }
     ensures ready { AreReady entries.new (length arena.now.slots) }
-    ensures settled { IsSettled arena.now (column_leaves row.now) (members_of entries.new result) result }
+    ensures settled { IsSettled arena.now (column_leaves row.now) (members_of entries.new result) (second_members_of entries.new result) result }
     ensures ticks { steps.new ≤ steps.old + 4 * length row.now }
 {
     arena.layout_law();

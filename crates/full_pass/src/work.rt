@@ -23,6 +23,8 @@ pub struct FullWork {
     pace: Pace,
     members: Vec<NodeId>,
     count: usize,
+    others: Vec<NodeId>,
+    other_count: usize,
 }
 
 impl Model for FullWork {
@@ -45,7 +47,7 @@ impl FullWork {
     /// `NoMemory` where memory is refused. No other call takes memory.
     pub fn new(alloc: Global, columns: u32) -> Result<Self, NoMemory>
         requires { (1 ≤ columns) × (columns ≤ COLUMN_BOUND) }
-        ensures { IfOk result (λ w. (w.size ≡ 2 * columns + 4) × (w.members ≡ [])) }
+        ensures { IfOk result (λ w. (w.size ≡ 2 * columns + 4) × (w.members ≡ []) × (w.others ≡ [])) }
     {
         let size = 2 * columns as usize + 4;
         Ok(FullWork {
@@ -53,6 +55,8 @@ impl FullWork {
             pace: Pace::new(),
             members: vec![in alloc; NodeId::default(); size]?,
             count: 0,
+            others: vec![in alloc; NodeId::default(); size]?,
+            other_count: 0,
         })
     }
 
@@ -64,11 +68,19 @@ impl FullWork {
         self.entries.tallies.len() == 2 * columns as usize + 4
     }
 
-    /// After [`Settled::Group`] and [`Settled::Beside`] the full children of the P-node, each once, in no stated order.
+    /// The full children of the P-node that [`Settled::Group`] or [`Settled::Beside`] names, or of the first that
+    /// [`Settled::Between`] names: each once, in no stated order.
     pub fn members(&self) -> &[NodeId]
         ensures { result.now ≡ self.now.members }
     {
         &self.members[..self.count]
+    }
+
+    /// The full children of the second P-node that [`Settled::Between`] names: each once, in no stated order.
+    pub fn others(&self) -> &[NodeId]
+        ensures { result.now ≡ self.now.others }
+    {
+        &self.others[..self.other_count]
     }
 
     // The passes over the row with these columns.
@@ -82,7 +94,7 @@ impl FullWork {
         requires row { IsRow arena.now.columns row.now }
         requires room { self.old.size ≡ length arena.now.slots }
         ensures room { self.new.size ≡ self.old.size }
-        ensures settled { IsSettled arena.now (column_leaves row.now) (indices self.new.members) result }
+        ensures settled { IsSettled arena.now (column_leaves row.now) (indices self.new.members) (indices self.new.others) result }
         ensures kept { result ≡ Settled.Kept → (o : List ℕ) → IsFrontier (outline_at arena.now) o → Keeps o row.now }
         ensures steps { steps.new ≤ steps.old + 8 * length row.now }
     {
@@ -96,6 +108,11 @@ impl FullWork {
             Settled::Beside(end) => {
                 self.count = self.entries.list(end.node, &mut self.members);
                 Settled::Beside(end)
+            }
+            Settled::Between(first, second) => {
+                self.count = self.entries.list(first.node, &mut self.members);
+                self.other_count = self.entries.list(second.node, &mut self.others);
+                Settled::Between(first, second)
             }
             Settled::Open => Settled::Open,
         }
