@@ -1,8 +1,8 @@
 -- A row whose leaves fill a run of children of a Q-node and some children of a P-node beside it: P3 at the P-node, and
 -- Q2 or Q3 at the Q-node, make the reduced tree.
-use Rattle.std.proofs.Common.{◌≡◌, ◌≢◌, inl, inr, ℕ, ◌+◌, ◌*◌, ◌≤◌, List, [], ◌∷◌, ◌++◌, length, Some, None, refl, sym, ap, subst, ◌∙◌, arith}
+use Rattle.std.proofs.Common.{◌≡◌, ◌≢◌, inl, inr, ℕ, ◌+◌, ◌*◌, ◌≤◌, List, [], ◌∷◌, ◌++◌, length, Some, None, sym, ap, subst, ◌∙◌, arith}
 use Rattle.std.proofs.lemmas.Bool.{cases_lt}
-use Rattle.std.proofs.lemmas.List.{append_assoc, length-map}
+use Rattle.std.proofs.lemmas.List.{length-map}
 use Rattle.column_order.specs.Orders.{occurs}
 use Rattle.column_order.proofs.Lists.{occurs-append}
 use Rattle.row_model.specs.Graph.{row_at}
@@ -16,8 +16,7 @@ use Rattle.template_theory.specs.Chosen.{IsRootOfQ}
 use Rattle.template_theory.specs.Reduced.{IsLabel, AreLabels, IsRootMade, IsReduced}
 use Rattle.template_theory.specs.declared.reducer.Step.TheVariants.{Taken}
 use Rattle.arena_model.specs.declared.Shape.TheVariants.{Q}
-use Rattle.arena_model.specs.ChildLists.{head_or, last_or, none}
-use Rattle.arena_model.specs.Layout.{Layout, shape_at, children_at, IsInUse, IsLayout, IsAtOrAbove, here, down}
+use Rattle.arena_model.specs.Layout.{Layout, children_at, IsInUse, IsLayout, IsAtOrAbove, here, down}
 use Rattle.arena_model.specs.NamedTree.{outline_below, outline_at, HasTwoEach}
 use Rattle.arena_model.specs.RowLeaves.{Holds}
 use Rattle.arena_model.proofs.Lists.{occurs_here}
@@ -36,27 +35,13 @@ use Rattle.templates_p.specs.Dividing.{AreSome, CanDivide, IsDivided}
 use Rattle.templates_p.specs.Members.{member_labels}
 use Rattle.row_reduce.specs.Outcome.{IsOutcome}
 use Rattle.row_reduce.proofs.Blocks.{trees_at, labels_for, labels_each, labels_then, front_labels, front_made, rear_labels, rear_made}
-use Rattle.row_reduce.proofs.Divided.{relisted, front_turned, rear_turned, sibling_kept, q_turned}
+use Rattle.row_reduce.proofs.Divided.{IsDone, can_before, can_behind, divided_before, divided_behind, front_turned, rear_turned, sibling_kept, q_turned}
 use Rattle.row_reduce.proofs.FilledPart.{PartsOf, part_meets, part_label, parts_of, few_members}
 use Rattle.row_reduce.proofs.GroupDone.{asked}
 use Rattle.row_reduce.proofs.Kept.{IsAsked, once, full_is, full_meets, both_above, two_meet, root_reduced}
 use Rattle.row_reduce.proofs.Labelling.{below_q}
 use Rattle.row_reduce.proofs.Leaves.{empty_is}
 use Rattle.row_reduce.proofs.RowDone.{MetLaw, IsRowOver, met_most, met_below, few_below}
-
--- a list by its first and by its last
-first_and : (ks : List ℕ) → 1 ≤ length ks → (ws : List ℕ) × (ks ≡ head_or ks none ∷ ws)
-first_and [] l = absurd (omega arith)
-first_and (k ∷ ks) l = (ks, refl)
-
-and_last : (ks : List ℕ) → 1 ≤ length ks → (ws : List ℕ) × (ks ≡ ws ++ (last_or ks none ∷ []))
-and_last [] l = absurd (omega arith)
-and_last (k ∷ []) l = ([], refl)
-and_last (k ∷ j ∷ ks) l = let r = and_last (j ∷ ks) (omega arith) in (k ∷ r.0, ap (λ w. k ∷ w) r.1)
-
--- the last of a run, before what is behind it
-last_before : (us ks ws : List ℕ) (t : ℕ) (ys : List ℕ) → ks ≡ ws ++ (t ∷ []) → us ++ (ks ++ ys) ≡ (us ++ ws) ++ (t ∷ ys)
-last_before us ks ws t ys e = ap (λ z. us ++ (z ++ ys)) e ∙ ap (λ z. us ++ z) (append_assoc ws (t ∷ []) ys) ∙ sym (append_assoc us ws (t ∷ ys))
 
 -- the full pass found some children of the P-node n
 pub beside_some : (f : Layout) (row : List ℕ) (n t : ℕ) (ms : List ℕ) → IsBesideRun f row n t ms → AreSome f n ms
@@ -65,24 +50,9 @@ beside_some f row n t ms b = record { is_p = b.part.is_p; once = b.part.once; ch
 -- and that n stands beside t
 pub beside_place : (f : Layout) (row : List ℕ) (n t : ℕ) (ms : List ℕ) → IsBesideRun f row n t ms → CanDivide f n t
 beside_place f row n t ms b = elim b.place [
-  | inl p ↦
-      let w = first_and b.ks b.some in
-      record { q = b.q; us = b.us; vs = w.0 ++ b.vs; is_q = b.is_q; place = inl (p.0 ∙ ap (λ z. b.us ++ (n ∷ (z ++ b.vs))) (w.1 ∙ ap (λ z. z ∷ w.0) (sym p.1))) }
-  | inr p ↦
-      let w = and_last b.ks b.some in
-      record {
-        q = b.q;
-        us = b.us ++ w.0;
-        vs = b.vs;
-        is_q = b.is_q;
-        place = inr (p.0 ∙ last_before b.us b.ks w.0 t (n ∷ b.vs) (w.1 ∙ ap (λ z. w.0 ++ (z ∷ [])) (sym p.1)));
-      }
+  | inl p ↦ can_before b.q b.us b.ks b.vs b.is_q b.some p.1 p.0
+  | inr p ↦ can_behind b.q b.us b.ks b.vs b.is_q b.some p.1 p.0
 ]
-
--- the P-node n was divided, beside t, wherever it stands
-pub record IsDone (f h : Layout) (n t : ℕ) (ms : List ℕ) : Type 0 where
-  pub before : (q : ℕ) (us vs : List ℕ) → shape_at f q ≡ Some Q → children_at f q ≡ us ++ (n ∷ (t ∷ vs)) → IsDivided f h q n ms (λ r g. us ++ (r ∷ (g ∷ (t ∷ vs))))
-  pub behind : (q : ℕ) (us vs : List ℕ) → shape_at f q ≡ Some Q → children_at f q ≡ us ++ (t ∷ (n ∷ vs)) → IsDivided f h q n ms (λ r g. us ++ (t ∷ (g ∷ (r ∷ vs))))
 
 module _ (f : Layout) (row : List ℕ) (n t : ℕ) (ms : List ℕ) (s : IsAsked f row) (b : IsBesideRun f (column_leaves row) n t ms) where
   used : IsInUse f b.q
@@ -187,16 +157,8 @@ module _ (f : Layout) (row : List ℕ) (n t : ℕ) (ms : List ℕ) (s : IsAsked 
 
     pub beside_reduced : IsDone f h n t ms → IsReduced row (outline_at f) (outline_at h) × IsReplacedAt f h b.q b.q
     beside_reduced done = elim b.place [
-      | inl e ↦
-          let w = first_and b.ks b.some in
-          let k : b.ks ≡ t ∷ w.0 = w.1 ∙ ap (λ z. z ∷ w.0) (sym e.1) in
-          let d = relisted (λ r g. ap (λ z. b.us ++ (r ∷ (g ∷ (z ++ b.vs)))) (sym k)) (done.before b.q b.us (w.0 ++ b.vs) b.is_q (e.0 ∙ ap (λ z. b.us ++ (n ∷ (z ++ b.vs))) k)) in
-          (front e.0 d, d.replaced)
-      | inr e ↦
-          let w = and_last b.ks b.some in
-          let k : b.ks ≡ w.0 ++ (t ∷ []) = w.1 ∙ ap (λ z. w.0 ++ (z ∷ [])) (sym e.1) in
-          let d = relisted (λ r g. sym (last_before b.us b.ks w.0 t (g ∷ (r ∷ b.vs)) k)) (done.behind b.q (b.us ++ w.0) b.vs b.is_q (e.0 ∙ last_before b.us b.ks w.0 t (n ∷ b.vs) k)) in
-          (rear e.0 d, d.replaced)
+      | inl e ↦ let d = divided_before done b.q b.us b.ks b.vs b.is_q b.some e.1 e.0 in (front e.0 d, d.replaced)
+      | inr e ↦ let d = divided_behind done b.q b.us b.ks b.vs b.is_q b.some e.1 e.0 in (rear e.0 d, d.replaced)
     ]
 
   -- no more members than nodes that meet the row

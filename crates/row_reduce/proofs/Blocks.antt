@@ -1,5 +1,5 @@
--- Trees of which each is empty or full, the full ones side by side, and maybe a partial one beside these: their labels,
--- and what Q1, Q2 or Q3 makes of a Q-node over them.
+-- Trees of which each is empty or full, the full ones side by side, and maybe a partial one at each end of these: their
+-- labels, and what Q1, Q2 or Q3 makes of a Q-node over them.
 use Rattle.std.proofs.Common.{ℕ, ◌≤◌, List, [], ◌∷◌, ◌++◌, map, length, Some, None, refl, arith}
 use Rattle.column_order.specs.Orders.{occurs}
 use Rattle.pq_tree.specs.Outline.{Outline, Forest, q_node}
@@ -89,3 +89,19 @@ rear_made F h us [] n vs l = absurd (omega arith)
 rear_made F h us (k ∷ ks) n vs l =
     root_q_is [] (h ∷ []) (trees_at F (k ∷ ks)) (trees_at F us) (trees_at F vs) (trees_at F (us ++ (k ∷ (ks ++ (n ∷ vs))))) (rear_labels h us (k ∷ ks) vs)
     (q_node (q3 (trees_at F us) None (trees_at F (k ∷ ks)) (Some h) (trees_at F vs))) (span_rear F h us (k ∷ ks) n vs) refl
+
+-- empty labels for us, a partial one, full ones for ks, a partial one, empty ones for vs
+abbrev pub both_labels : Partial → Partial → List ℕ → List ℕ → List ℕ → List Label
+both_labels h k us ks vs = labels_for empty_label us ++ (partial_label h ∷ (labels_for full_label ks ++ (partial_label k ∷ labels_for empty_label vs)))
+
+span_both : (F : ℕ → Outline) (h k : Partial) (us : List ℕ) (n : ℕ) (ks : List ℕ) (o : ℕ) (vs : List ℕ) →
+    IsTwoSidedRun (trees_at F (us ++ (n ∷ (ks ++ (o ∷ vs))))) (both_labels h k us ks vs) (trees_at F us) (Some h) (trees_at F ks) (Some k) (trees_at F vs)
+span_both F h k [] n ks o vs = span_partial (tail_rear F k ks o vs)
+span_both F h k (u ∷ us) n ks o vs = span_more (span_both F h k us n ks o vs)
+
+-- so two, one before them and one behind them
+pub both_made : (F : ℕ → Outline) (h k : Partial) (us : List ℕ) (n : ℕ) (ks : List ℕ) (o : ℕ) (vs : List ℕ) →
+    IsRootOfQ (trees_at F (us ++ (n ∷ (ks ++ (o ∷ vs))))) (both_labels h k us ks vs) (q_node (q3 (trees_at F us) (Some h) (trees_at F ks) (Some k) (trees_at F vs)))
+both_made F h k us n ks o vs =
+    root_q_is (h ∷ []) (k ∷ []) (trees_at F ks) (trees_at F us) (trees_at F vs) (trees_at F (us ++ (n ∷ (ks ++ (o ∷ vs))))) (both_labels h k us ks vs)
+    (q_node (q3 (trees_at F us) (Some h) (trees_at F ks) (Some k) (trees_at F vs))) (span_both F h k us n ks o vs) refl

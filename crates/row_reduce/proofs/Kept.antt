@@ -129,11 +129,14 @@ full_child : (f : Layout) (row : List ℕ) (n k : ℕ) → IsRight f (column_lea
 full_child f row n k right o = λ x a l e. right x a (down n k x o l) e
 
 -- where a node stands for what a template makes of the pertinent root, in its place, the tree is reduced
+pub root_exchanged : {f : Layout} {row : List ℕ} → IsAsked f row → (q : ℕ) → IsPertinentRoot row (outline_at f) (outline_below f q) → (h : Layout) → RootTurnedLaw → IsExchanged f h q q →
+    (y : Outline) → IsRootMade row (outline_below f q) y → StandsForTree h q y → IsReduced row (outline_at f) (outline_at h)
+root_exchanged {f = f} {row = row} s q root h law x y made stands =
+    law row (outline_at f) (outline_below f q) y (outline_below h q) (outline_at h) root made stands (replaced_whole x (s.one q x.used))
+
 pub root_reduced : {f : Layout} {row : List ℕ} → IsAsked f row → (q : ℕ) → IsInUse f q → IsPertinentRoot row (outline_at f) (outline_below f q) → (h : Layout) → RootTurnedLaw → IsLayout h → IsReplacedAt f h q q →
     (y : Outline) → IsRootMade row (outline_below f q) y → StandsForTree h q y → IsReduced row (outline_at f) (outline_at h)
-root_reduced {f = f} {row = row} s q used root h law hl r y made stands =
-    law row (outline_at f) (outline_below f q) y (outline_below h q) (outline_at h) root made stands
-    (replaced_whole (record { f_layout = s.layout; h_layout = hl; used = used; root = r.root; outside = r.outside }) (s.one q used))
+root_reduced s q used root h law hl r = root_exchanged s q root h law (record { f_layout = s.layout; h_layout = hl; used = used; root = r.root; outside = r.outside })
 
 -- where the pertinent root stays as it is, the tree does
 stays_whole : {f : Layout} {row : List ℕ} → IsAsked f row → (q : ℕ) → IsInUse f q → Holds f (column_leaves row) q → ((k : ℕ) → 1 ≤ occurs (children_at f q) k → Holds f (column_leaves row) k → ⊥) →
@@ -226,7 +229,7 @@ kept_by s (one_run q us ks vs is_q children below) = filled_block s q us ks vs (
 })
 
 -- where the full pass says that the tree keeps the row, the tree is its own reduction by the row
-pub kept_reduced : (f : Layout) (row ms : List ℕ) → IsLayout f → IsOneTree f → HasTwoEach f → IsRow f.columns row → IsSettled f (column_leaves row) ms Kept → IsReduced row (outline_at f) (outline_at f)
-kept_reduced f [] ms h one two r kept = no_column refl (equivalent_refl (outline_at f))
-kept_reduced f (a ∷ row) ms h one two r kept =
+pub kept_reduced : (f : Layout) (row ms os : List ℕ) → IsLayout f → IsOneTree f → HasTwoEach f → IsRow f.columns row → IsSettled f (column_leaves row) ms os Kept → IsReduced row (outline_at f) (outline_at f)
+kept_reduced f [] ms os h one two r kept = no_column refl (equivalent_refl (outline_at f))
+kept_reduced f (a ∷ row) ms os h one two r kept =
     kept_by {row = a ∷ row} (record { layout = h; one = one; two = two; is_row = r; leaf = a - 1; in_row = occurs_here (a - 1) (column_leaves row) }) kept

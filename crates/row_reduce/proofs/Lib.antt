@@ -26,6 +26,8 @@ pub mod Blocks
 pub mod FilledPart
 pub mod Divided
 pub mod BesideDone
+pub mod Twice
+pub mod BetweenDone
 pub mod RowLength
 pub mod Kept
 pub mod Staying

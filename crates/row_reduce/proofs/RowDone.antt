@@ -146,9 +146,9 @@ pub inside_total : {f : Layout} {v : Marks} {row : List ℕ} (a : ℕ) → AtFou
 inside_total {v = v} a s most s0 s1 s2 x y = let few : length v.nodes ≤ a = inside_few a s most in omega arith
 
 -- a row that the full pass says to keep leaves the tree as it is
-pub kept_taken : {f : Layout} {c : ℕ} {rows : List (List ℕ)} {k : ℕ} {row : List ℕ} → IsRowOver f c rows k row → HasTwoEach f → (members : List ℕ) → IsSettled f (column_leaves (row_at rows k)) members Kept →
+pub kept_taken : {f : Layout} {c : ℕ} {rows : List (List ℕ)} {k : ℕ} {row : List ℕ} → IsRowOver f c rows k row → HasTwoEach f → (members others : List ℕ) → IsSettled f (column_leaves (row_at rows k)) members others Kept →
     IsOutcome (row_at rows k) f f Taken
-kept_taken {f = f} {rows = rows} {k = k} s two members settled = (kept_reduced f (row_at rows k) members s.layout s.can.one two (row_over_arena s) settled, s.can.one, refl)
+kept_taken {f = f} {rows = rows} {k = k} s two members others settled = (kept_reduced f (row_at rows k) members others s.layout s.can.one two (row_over_arena s) settled, s.can.one, refl)
 
 -- a row has no more columns than nodes that meet it
 pub few_columns : {f : Layout} {c : ℕ} {rows : List (List ℕ)} {k : ℕ} {row : List ℕ} → MetLaw → IsRowOver f c rows k row → length (row_at rows k) ≤ nodes_met (row_at rows k) (outline_at f)

@@ -1,5 +1,6 @@
 -- What one row does to the arena.
 use Rattle.std.specs.Prelude.{◌≡◌, ◌≢◌, ℕ, ◌≤◌, List, [], length}
+use Rattle.row_model.specs.Rows.{IsRow}
 use Rattle.pq_tree.specs.Proper.{IsProper}
 use Rattle.tied_law.specs.Tied.{IsTied}
 use Rattle.template_theory.specs.Reduced.{IsReduced}
@@ -9,6 +10,8 @@ use Rattle.template_theory.specs.declared.reducer.Step.TheVariants.{Taken, Refus
 use Rattle.arena_model.specs.Layout.{Layout}
 use Rattle.arena_model.specs.NamedTree.{IsOneTree, outline_at}
 use Rattle.pq_arena.specs.RowNodes.{column_leaves}
+use Rattle.full_pass.specs.Answer.{IsBetween}
+use Rattle.full_pass.specs.declared.settled.End.{End}
 use Rattle.bubble_pass.specs.Marks.{Marks}
 use Rattle.bubble_pass.specs.Pass.{FoundRoot, FoundInside}
 use Rattle.row_reduce.specs.Ground.{IsGround}
@@ -38,3 +41,9 @@ pub record AtFoundInside (f : Layout) (v : Marks) (row : List ℕ) : Type 0 wher
   pub found : FoundInside f (column_leaves row) v
   pub ground : IsGround f v row found.run.q
   pub some : row ≢ []
+
+-- the full pass has found a run of children of a Q-node, and some children of the P-node beside each end of it
+pub record AtFoundBetween (f : Layout) (row : List ℕ) (d : End) (members : List ℕ) (e : End) (others : List ℕ) : Type 0 where
+  pub is_row : IsRow f.columns row
+  pub some : row ≢ []
+  pub found : IsBetween f (column_leaves row) d.node.index d.beside.index members e.node.index e.beside.index others

@@ -2,15 +2,16 @@
 ghost use Rattle.std.specs.Prelude.{◌≡◌, ◌≢◌, ℕ, ◌+◌, ◌*◌, ◌≤◌, List, [], length};
 ghost use Rattle.row_model.specs.Graph.{row_at};
 ghost use Rattle.pq_tree.specs.Amortised.{nodes_met, nodes_met_below_root};
-ghost use Rattle.arena_model.specs.NamedTree.{outline_at};
+ghost use Rattle.arena_model.specs.NamedTree.{IsOneTree, HasTwoEach, outline_at};
+ghost use Rattle.pq_arena.specs.RowNodes.{indices};
 ghost use Rattle.bubble_pass.specs.Marks.{size_of};
-ghost use Rattle.row_reduce.specs.Outcome.{CanTakeRow, IsOutcome, AtFoundRoot, AtFoundInside};
+ghost use Rattle.row_reduce.specs.Outcome.{CanTakeRow, IsOutcome, AtFoundBetween, AtFoundRoot, AtFoundInside};
 
 use crate::apply::{apply_chosen, apply_one};
 use crate::decide::decide;
 use crate::template::Template;
 use bubble_pass::{Found, Work, bubble, met_law};
-use full_pass::{FullWork, Settled, settle};
+use full_pass::{End, FullWork, Settled, settle};
 use pq_arena::{Arena, NodeId};
 use row_model::Matrix;
 use step_count::{Ledger, Steps};
@@ -19,7 +20,7 @@ use templates_p::{apply_p2_to, divide};
 use templates_q::{apply_q3, fits_q3};
 
 // Reduces the tree of the arena by row `k` of the matrix, numbered from 1, or leaves it as it is where
-// no template stands at some node. Most rows of a long list change nothing, or one P-node alone, and the
+// no template stands at some node. Most rows of a long list change nothing, or one or two P-nodes, and the
 // full pass sees that at less cost.
 pub fn reduce_arena<L: Ledger>(
     arena: &mut Arena,
@@ -62,8 +63,35 @@ pub fn reduce_arena<L: Ledger>(
             arena.layout_law();
             Step::Taken
         }
+        Settled::Between(first, second) => {
+            divide_both(arena, full, first, second, steps);
+            Step::Taken
+        }
         Settled::Open => reduce_by_templates(arena, work, chosen, m, k, steps),
     }
+}
+
+// Reduces the tree by a row that fills a run of children of a Q-node, and a part of the P-node beside each end of it.
+fn divide_both<L: Ledger>(
+    arena: &mut Arena,
+    full: &FullWork,
+    first: End,
+    second: End,
+    steps: &mut Steps<L>,
+)
+    requires one { IsOneTree arena.old }
+    requires two { HasTwoEach arena.old }
+    requires found { (row : List ℕ) × AtFoundBetween arena.old row first (indices full.now.members) second (indices full.now.others) }
+    ensures outcome { (row : List ℕ) → AtFoundBetween arena.old row first (indices full.now.members) second (indices full.now.others) →
+        IsOutcome row arena.old arena.new Step.Taken }
+    ensures ticks { steps.new ≤ steps.old + 2 * (length full.now.members + length full.now.others) + 24 }
+{
+    turned_law();
+    arena.layout_law();
+    divide(arena, first.node, full.members(), first.beside, steps);
+    arena.layout_law();
+    divide(arena, second.node, full.others(), second.beside, steps);
+    arena.layout_law();
 }
 
 // Reduces the tree by a row that has a column, by the templates at all nodes that the row meets.

@@ -3,7 +3,9 @@ use Rattle.pq_arena.specs.RowNodes.{indices}
 use Rattle.row_model.specs.Graph.{row_at}
 use Rattle.row_reduce.proofs.GroupDone.{group_named, group_taken, group_total, group_below}
 use Rattle.row_reduce.proofs.BesideDone.{beside_some, beside_place, beside_named, beside_taken, beside_total, beside_below}
-use Rattle.row_reduce.proofs.RowDone.{row_over, some_column, few_columns, empty_taken, kept_taken, kept_total, kept_below, open_total, open_below}
+use Rattle.row_reduce.specs.Outcome.{AtFoundBetween}
+use Rattle.row_reduce.proofs.BetweenDone.{between_total, between_below}
+use Rattle.row_reduce.proofs.RowDone.{row_over, row_over_arena, some_column, few_columns, empty_taken, kept_taken, kept_total, kept_below, open_total, open_below}
 use Rattle.row_reduce.proofs.rows.reduce_arena.Goals as goal
 
 pub returns-then-is_empty-clause-outcome : goal.returns-then-is_empty-clause-outcome
@@ -13,7 +15,7 @@ returns-then-is_empty-clause-outcome g c =
 
 pub returns-in-Kept-clause-outcome : goal.returns-in-Kept-clause-outcome
 returns-in-Kept-clause-outcome g c =
-    kept_taken (row_over c.layout_law.ensures c.requires.tree c.row.ensures.row c.row.ensures.ascending) c.arities_law.ensures [] c.in-Kept.ensures.settled
+    kept_taken (row_over c.layout_law.ensures c.requires.tree c.row.ensures.row c.row.ensures.ascending) c.arities_law.ensures [] [] c.in-Kept.ensures.settled
 
 pub returns-in-Kept-clause-ticks : goal.returns-in-Kept-clause-ticks
 returns-in-Kept-clause-ticks g c = kept_total c.met_law.ensures (row_over c.layout_law.ensures c.requires.tree c.row.ensures.row c.row.ensures.ascending) _ _ c.settle.ensures.steps
@@ -91,3 +93,34 @@ returns-in-Group-clause-empty g c = λ none. absurd (some_column (row_over c.lay
 
 pub returns-in-Beside-clause-empty : goal.returns-in-Beside-clause-empty
 returns-in-Beside-clause-empty g c = λ none. absurd (some_column (row_over c.layout_law.ensures c.requires.tree c.row.ensures.row c.row.ensures.ascending) (search rules) none)
+
+pub divide_both-requires-clause-found : goal.divide_both-requires-clause-found
+divide_both-requires-clause-found g c =
+    let s = (row_over c.layout_law.ensures c.requires.tree c.row.ensures.row c.row.ensures.ascending) in
+    let some : row_at c.args.m.now.rows c.args.k ≢ [] = some_column s (search rules) in
+    (row_at c.args.m.now.rows c.args.k, record { is_row = row_over_arena s; some = some; found = c.in-Between.ensures.settled })
+
+pub returns-in-Between-clause-outcome : goal.returns-in-Between-clause-outcome
+returns-in-Between-clause-outcome g c =
+    let s = (row_over c.layout_law.ensures c.requires.tree c.row.ensures.row c.row.ensures.ascending) in
+    let some : row_at c.args.m.now.rows c.args.k ≢ [] = some_column s (search rules) in
+    c.divide_both.ensures.outcome (row_at c.args.m.now.rows c.args.k) (record { is_row = row_over_arena s; some = some; found = c.in-Between.ensures.settled })
+
+pub returns-in-Between-clause-ticks : goal.returns-in-Between-clause-ticks
+returns-in-Between-clause-ticks g c =
+    let s = (row_over c.layout_law.ensures c.requires.tree c.row.ensures.row c.row.ensures.ascending) in
+    let some : row_at c.args.m.now.rows c.args.k ≢ [] = some_column s (search rules) in
+    let b : AtFoundBetween c.args.arena.now (row_at c.args.m.now.rows c.args.k) c.in-Between.first (indices c.settle.new.work.members) c.in-Between.second (indices c.settle.new.work.others) =
+    record { is_row = row_over_arena s; some = some; found = c.in-Between.ensures.settled } in
+    between_total c.met_law.ensures s c.arities_law.ensures c.settle.new.work.members c.settle.new.work.others b (few_columns c.met_law.ensures s) _ _ _ c.settle.ensures.steps c.divide_both.ensures.ticks
+
+pub returns-in-Between-clause-below : goal.returns-in-Between-clause-below
+returns-in-Between-clause-below g c = λ e.
+    let s = (row_over c.layout_law.ensures c.requires.tree c.row.ensures.row c.row.ensures.ascending) in
+    let some : row_at c.args.m.now.rows c.args.k ≢ [] = some_column s (search rules) in
+    let b : AtFoundBetween c.args.arena.now (row_at c.args.m.now.rows c.args.k) c.in-Between.first (indices c.settle.new.work.members) c.in-Between.second (indices c.settle.new.work.others) =
+    record { is_row = row_over_arena s; some = some; found = c.in-Between.ensures.settled } in
+    between_below c.met_law.ensures s c.arities_law.ensures c.settle.new.work.members c.settle.new.work.others b _ _ _ c.settle.ensures.steps c.divide_both.ensures.ticks
+
+pub returns-in-Between-clause-empty : goal.returns-in-Between-clause-empty
+returns-in-Between-clause-empty g c = λ none. absurd (some_column (row_over c.layout_law.ensures c.requires.tree c.row.ensures.row c.row.ensures.ascending) (search rules) none)
