@@ -21,14 +21,15 @@ Usage: scripts/walls.py
 8. A name has one meaning: no name of a crate's definitions stands twice in it, or in a crate that it stands on as well.
 9. A search reads what is counted: outside tests the crates that search name a matrix only in the functions that UNCOUNTED lists. All
    others are handed its rows as `CountedRows` of row_model, of which each look at a row is a step. Of the listed ones those that HANDING
-   lists do nothing with the matrix but hand it on as that, or ask how many columns it has.
+   lists do nothing with the matrix but hand it on as that, or ask how many columns it has. `CountedRows` reads its matrix in the
+   functions of VIEWS alone, and hands it out nowhere.
 10. A turn of a search costs a step: each loop of a function of these crates ticks, or makes a counted read, or calls a function of which
    a clause named `costs` says that it costs one, on every turn: neither behind a `continue` nor where a condition decides. UNTICKED lists
    the loops that need not, and with them the calls that go over a list. No function of these crates calls itself.
 11. Who may search: verdict_check names no search, and the crates of the replies and of the program stand on no crate that reduces or
    searches but c1p_solve.
 12. The solver reads no row: c1p_solve does nothing with a matrix but ask how many rows and columns it has, add and remove its last row,
-   and hand it to its own functions, to the reducer, which gets one row at a time, and to the search.
+   and hand it to its own functions, to the reducer, with the number of one row, and to the search.
 13. The reading of loops itself is tried: of the loops in SAMPLES each is found where a turn of it may cost no step, and no other.
 
 What stands behind `#[cfg(test)]` is a test, also in a file of its own; a file without that is none, whatever its name.
@@ -67,6 +68,9 @@ UNCOUNTED = {
 # Of these, those that hand the matrix on.
 HANDING = {"even_classes", "odd_walk", "odd_cycle_along", "simple_cycle"}
 HANDED = re.compile(r"\bCountedRows::new\(m\)|\bm\.columns\(\)")
+# The file of `CountedRows`, and the functions there that read its matrix, each by a clause for a step or for none.
+COUNTED_ROWS = os.path.join("row_model", "src", "counted.rt")
+VIEWS = {"columns", "rows", "len_counted", "has_counted", "member_counted", "next_counted", "ones_of_row", "span_counted", "ones_counted", "push_row", "ones", "counted"}
 # Their functions with a loop of which a turn may cost none, each loop of a function or the one over the name behind it: of a table that is
 # set up or handed out once; up a set of pairs; over rows of which some have no ones; of the judge; along the lines that are found; over the
 # few columns, rows, ways and pivots that an attempt takes.
@@ -98,8 +102,14 @@ SAMPLES = [
     ("let there = nodes.iter().position(is_there);", False),
     ("let there = columns.contains(&a);", False),
     ("let some = columns.iter().any(|a| m.has_counted(k, *a, steps));", False),
+    ("let last = front.positions.iter().last();", False),
+    ("let most = front.positions.iter().max();", False),
+    ("'rows: for a in columns {\n    for b in columns {\n        continue 'rows;\n    }\n    steps.tick();\n}", False),
+    ("let i = 0; while i < count {\n    i += 1;\n}", False),
+    ("if loop {\n    break true;\n} {}", False),
+    ("for a in columns {\n    other.steps.tick();\n}", False),
 ]
-SEARCHES = {"odd_walk", "odd_cycle_along", "shorter_cycle", "find_core", "walk_across"}
+SEARCHES = {"odd_walk", "odd_cycle_along", "shorter_cycle", "find_core", "walk_across", "walk_among", "simple_cycle"}
 JUDGE = "verdict_check"
 SOLVER = "c1p_solve"
 # The crates that reduce or search, and those that reach them by the solver alone.
@@ -119,26 +129,32 @@ FUNCTION = re.compile(r"\bfn (\w+)")
 WALK = re.compile(r"\b(to_tree|is_one_tree|has_two_each)\b")
 ALLOCATOR = re.compile(r"\ballocator\(")
 # what takes memory of a vector's own; the climber's call of this name puts a node into a queue that has room for all that comes to it
-TAKES = re.compile(r"(?:\.|Vec::)(?:push|insert|append|reserve|resize|resize_with|extend|extend_from_slice|extend_from_within|to_vec|to_owned|collect|clone)\b|\bvec!")
+TAKES = re.compile(r"(?:\.|Vec::)(?:push\w*|insert\w*|append|(?:try_)?reserve\w*|shrink_to\w*|resize|resize_with|extend|extend_from_slice|extend_from_within|to_vec|to_owned|collect|clone)\b|\bvec!")
 QUEUED = re.compile(r"bubble_pass/src/climber\.rt:\d+ .*\bself\.push\(|bubble_pass/src/\w+\.rt:\d+ .*\bclimber\.push\(")
 MATRIX = re.compile(r"\bMatrix\b")
+# the matrix behind the reads that are counted, in these functions alone, and the type of what hands it out
+VIEWED = re.compile(r"\bself\.matrix\b")
+HANDED_OUT = re.compile(r"->.*\bMatrix\b")
 # the matrix `m`, and how it is handed over
 OF_MATRIX = re.compile(r"\bm\b")
 PARAMETER = re.compile(r"\bm: &Matrix,")
 # a loop with a block of its own, and the name that goes over it; and a call that goes over a list
-BLOCK = re.compile(r"(?:^|[=(,{>|]|\breturn|\bbreak)\s*(?:'\w+: )?(?:for \(?(\w+)|while|loop)\b")
+BLOCK = re.compile(r"(?:^|[=(,{>|;]|\breturn|\bbreak|\bif|\bmatch)\s*(?:'\w+: )?(?:for \(?(\w+)|while|loop)\b")
 OVER_LIST = re.compile(
     r"\.(?:any|all|r?find\w*|filter\w*|flat_map|map_while|take_while|skip_while|try_for_each|for_each|(?:try_)?r?fold|scan|r?position|contains|nth|count|sum"
-    r"|product|(?:min|max)_by\w*|sort\w*|dedup\w*|reverse|retain\w*|fill\w*|rotate\w*|extend\w*|to_vec|to_owned|concat|copy_from_slice|clone_from\w*)\(|iter\(\).*\.map\(")
+    r"|product|(?:min|max)_by\w*|sort\w*|dedup\w*|reverse|retain\w*|fill\w*|rotate\w*|extend\w*|to_vec|to_owned|concat|copy_from_slice|clone_from\w*"
+    r"|is_sorted\w*|starts_with|ends_with|strip_(?:pre|suf)fix|select_nth\w*|swap_with_slice|drain|split_off|partial_cmp|partition|reduce|unzip|(?:try_)?collect"
+    r"|nth_back)\(|iter\(\).*\.(?:map|last|max|min|eq|ne|lt|le|gt|ge|cmp)\(")
 # what costs a step: a clause that says so, always or with a value; a tick or a counted read; and the name of what is called, in the head
 # of a loop that goes on as long as there is a value or anywhere
 COSTS = re.compile(r"^\s*ensures costs \{ (?:OnOk result \()?steps\.old \+ 1 ≤ steps\.new\)? \}$")
 SOME_COSTS = re.compile(r"^\s*ensures costs \{ IfSome result \(λ \w+\. steps\.old \+ 1 ≤ steps\.new\) \}$")
-TICKS = re.compile(r"\bsteps\.tick\(\)|\b(?:len|has|member|ones)_counted\(")
+TICKS = re.compile(r"(?<![\w.])steps\.tick\(\)|\b(?:len|has|member|ones)_counted\(")
 NEXT = re.compile(r"^\s*while let Some\(\w+\) = (?:m\.)?(\w+)\(")
 CALLED = re.compile(r"\b(\w+)\(")
 # where what a line always does ends: at a block or behind one, at a closure, or at a second condition
 SURE = re.compile(r"&&|\|\||=>|[{}]|\|[\w(&]")
+CONTINUES = re.compile(r"\bcontinue\b")
 # a call, and what it is a call of
 CALL = re.compile(r"(?:([\w.]*\w)(\.|::))?\b(\w+)\(")
 # what the solver does with a matrix: sizes, its last row, and the calls that it is handed to
@@ -306,8 +322,17 @@ def body(lines):
     return [] if lines[-1][1].endswith("{}") else lines
 
 
+def stray_views():
+    """Where a matrix whose reads are counted is read in a further way, or handed out."""
+    for name, lines in functions("row_model"):
+        for place, line in lines if COUNTED_ROWS in lines[0][0] else []:
+            if VIEWED.search(line) and name not in VIEWS or HANDED_OUT.search(line):
+                yield f"{place}: {name} reads the matrix in a further way, or hands it out: {line.strip()}"
+
+
 def uncounted_reads():
     """Where a search has a matrix in its hands, of which it could read rows without a step."""
+    yield from stray_views()
     for crate in SEARCHING:
         inside = set()
         for name, lines in functions(crate):
@@ -340,7 +365,7 @@ def is_paid(lines, number, sure, with_value):
     turn = [head] if head.lstrip().startswith("while") else []
     for _, line in lines[number + 1:]:
         inner = len(line) - len(line.lstrip())
-        if inner <= outer or "continue;" in line:
+        if inner <= outer or CONTINUES.search(line):
             break
         if inner == outer + 4:
             turn.append(line)
