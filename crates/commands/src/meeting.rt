@@ -16,8 +16,8 @@ use step_count::{Ledger, Steps};
 use tree_meet::{Met, meet, row_count};
 use verdict_text::{print_cycle, print_side};
 
-/// The reply with what two trees share, as a judge of matrices finds it. It is asked once, for the matrix of the rows of
-/// both trees, so the steps are those of that judgement.
+/// The reply with what two trees share, as a judge of matrices finds it. Where the judge tells its costs, the steps are
+/// at most those of one judgement of the matrix of the rows of both trees.
 ///
 /// # Errors
 ///

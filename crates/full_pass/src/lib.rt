@@ -7,8 +7,8 @@
 //! number of labelled children of a P-node. What the labels form is counted in parts: where one part is left, it is the
 //! row. The first pass only counts, and sees no full Q-node. Where it leaves the row open, and both end children of a
 //! Q-node showed that node, a second pass lets the two ends of each run name each other, and sees where one is full.
-//! Where it leaves two or three parts, and no Q-node showed that, the leaves are gone over once more for P-nodes that have
-//! all of them but one.
+//! Where it leaves two or three parts, and no Q-node showed that, the leaves are gone over once more, for the P-nodes to
+//! which all parts but one belong.
 #![tactic(auto)]
 
 mod added;

@@ -18,7 +18,7 @@ const FEW_LINES: usize = 128;
 /// columns, at most c(c - 1)/2 + 1 lines, so has that one.
 ///
 /// The rows and columns that a short cycle meets are searched once more by themselves, which mostly finds a cycle of a
-/// few lines. A cycle of more than 128 lines stays as it is, and so does one that `most` steps are too few for.
+/// few lines. This is tried for a cycle of at most 128 lines, where `most` steps are enough.
 ///
 /// # Errors
 ///

@@ -57,7 +57,8 @@ impl Classes {
 /// for each column that it lacks.
 ///
 /// With c columns and f ones in the first rows it counts at most 8c(f + 1) steps, where memory is refused too: a step
-/// for each look at a row and for each column that is read of it. It takes 4 bytes for each ordered pair of columns.
+/// for each look at a row and for each column that is read of it. That a row ends is seen without one. It takes 4 bytes
+/// for each ordered pair of columns.
 ///
 /// # Errors
 ///

@@ -21,8 +21,8 @@ use Rattle.pq_cli.specs.Runs.{OfTaken, taken_since}
 use Rattle.pq_cli.specs.Stops.{reply_status}
 use Rattle.pq_cli.specs.declared.stop.Stop.{Stop}
 
--- What the steps of a command over these files come to, by the status. No command takes a step before all its files are read, and `check`,
--- `check-core` and `check-unit`, which solve nothing, take none.
+-- What the steps of a command over these files come to, by the status, where none of them is refused. `check`, `check-core` and
+-- `check-unit`, which solve nothing, take none.
 abbrev pub StepsOn : Command → List (List ℕ) → ℕ → ℕ → ℕ → Type 0
 StepsOn (Solve kind _) (bytes ∷ []) status s n = (i : InstanceValue) → instance_of kind bytes ≡ read.Ok i → SolvesWithin i status s n
 StepsOn (UnitModel _) (bytes ∷ []) status s n = (i : InstanceValue) → instance_of Proper bytes ≡ read.Ok i → SolvesWithin i status s n

@@ -122,9 +122,9 @@ fn run_from<F: Shelf, O: Sink, E: Sink, L: Ledger>(
 
 /// What [`run`] does, on a counter of steps that is lent: [`run`] makes one and is this call.
 ///
-/// No step is taken before all files of the command are asked for. Then `solve` and `unit` take at most 1024 steps for
-/// each column, row and one of the derived matrices, and where a side has no order at most 8c(f + 1) more, c and f being
-/// the columns and ones of its matrix; so do `list` and `gen` of their matrix. `extend` takes such steps for the rows of
+/// No step is taken before all files of the command are asked for. Then, with status 0, `solve` and `unit` take at most
+/// 1024 steps for each column, row and one of the derived matrices. With any other status they take at most 8c(f + 1)
+/// more, c and f being the columns and ones of the matrix of a side; so do `list` and `gen` of their matrix. `extend` takes such steps for the rows of
 /// both files, 512c for each row that is refused, and 16 searches. `meet` takes those of its matrix, the rows of both
 /// trees. `core` takes those of two answers for each row of a core, and one; nothing is said of its steps where memory is
 /// refused. `check`, `check-core` and `check-unit` solve nothing, and take no step.

@@ -35,7 +35,8 @@ pub enum Cored {
 ///
 /// A judge that goes through the rows in turn is asked once where there is a valid order, and else at most twice for
 /// each row of the core and once more. Any other judge is asked at most (n + 1)(2n + 1) + 1 times, n being the number
-/// of rows. It is asked about no larger matrix than this one, so the steps are at most those of as many judgements of it.
+/// of rows. Where a judge that goes through the rows in turn tells its costs, and no larger matrix costs more, an answer
+/// takes at most the steps of as many judgements of this matrix.
 ///
 /// # Errors
 ///

@@ -117,8 +117,8 @@ impl<'a> CountedRows<'a> {
     }
 
     /// Whether the incompatibility graph of the matrix joins the two pairs for this reason, as
-    /// [`joined_by`](crate::joined_by). At most three steps are counted, one for each look at the row, and a yes for a row
-    /// costs all three, a flip none. An answer without a step does not depend on the rows.
+    /// [`joined_by`](crate::joined_by). At most three steps are counted: a yes for a row costs three, one for each look at
+    /// it, and a flip none. A no may count fewer looks, but an answer without a step does not depend on the rows.
     pub fn joined_counted<L: Ledger>(
         &self,
         v: Pair,

@@ -25,7 +25,7 @@ pub enum Met {
 
 /// All orders that both trees stand for: a tree of them, or why there is none.
 ///
-/// The judge is asked once, for the matrix of the rows of both trees, so the steps are those of that judgement.
+/// Where the judge tells its costs, the steps are at most those of one judgement of the matrix of the rows of both trees.
 ///
 /// # Errors
 ///

@@ -35,9 +35,9 @@ use step_count::{Ledger, Steps};
 ///
 /// With c columns and f ones in the first rows it counts at most 3c(f + 1) + 1 steps, and so at most 8c(f + 1), where
 /// memory is refused too; and at most c(2f + c + 3) + 1. Of an answer it counts at least c + f, and at least 2c + f + 1
-/// where there is none. Each look at a row is a step and each column that is read of
-/// it, each pair from which a tree is tried, each row that is met again, and each node that is taken for which no row is
-/// looked at. It takes 28 bytes for each ordered pair of columns, a bit for each row and column, and room for each one.
+/// where there is none. Each look at a row is a step and each column that is read of it, each pair from which a tree is
+/// tried, each row that is met again, and each node that is taken for which no row is looked at. That a row ends is seen
+/// without a step. It takes 28 bytes for each ordered pair of columns, a bit for each row and column, and room for each one.
 ///
 /// # Errors
 ///
