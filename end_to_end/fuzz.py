@@ -1,10 +1,11 @@
 #!/usr/bin/env python3
 """Draws runs of every command and kind, and compares what the program writes with plain programs of the same rules.
 
-Usage: end_to_end/fuzz.py SEED COUNT [PART ..]     after `rt ci` or `./pq`, which leave the program in crates/pq/out/pq
+Usage: end_to_end/fuzz.py [--library FILE] SEED COUNT [PART ..]     after `rt ci` or `./pq`, which leave the program in crates/pq/out/pq
 
 It draws COUNT runs for each PART. A PART is a command and a kind, such as `solve-matrix` or `list-table`, or a command that takes no kind:
 `unit`, `check-unit`, `gen` and `meet`. Without a PART it draws all. The same words draw the same runs, so a further SEED draws others.
+With `--library` the library that scripts/library.py built answers in the place of the program, without a process for each run.
 
 Every file is small, and about one in six is spoilt. What the program refuses, the plain readers refuse with the same code and line. An answer
 of `solve` is judged by the plain checker, which asks for every order; what `extend`, `core`, `list`, `unit` and `meet` answer is compared with
@@ -13,6 +14,7 @@ the plain checkers say.
 It prints how many runs of each part were drawn. The last line is `N passed, N failed`; the status is 0 where nothing failed.
 """
 
+import argparse
 import concurrent.futures
 import itertools
 import os
@@ -32,9 +34,13 @@ from core_checker import judged as core_judged
 from definitions import orders, valid_orders
 from file_readers import Limits, Refused
 from listing import listed
-from program import run
+from program import HOME, Answering, run
 from sessions import gen_problem, session_problem
 from trees import parsed
+
+sys.path.insert(0, os.path.join(HOME, "companion"))
+
+from pqparts.library import Library  # noqa: E402
 
 PIECE = 250
 # The plain programs try all orders of at most so many columns.
@@ -266,12 +272,25 @@ def problems(seed, count, parts=tuple(PARTS)):
             yield from found
 
 
-def main(words):
-    if len(words) < 2 or not (words[0].isdigit() and words[1].isdigit()) or not set(words[2:]) <= set(PARTS) or int(words[1]) == 0:
-        print(f"usage: fuzz.py SEED COUNT [PART ..]; the parts are {', '.join(PARTS)}")
-        return 2
+def words_of(given):
+    """What is asked for."""
+    parser = argparse.ArgumentParser(prog="fuzz.py", description=f"The parts are {', '.join(PARTS)}.")
+    parser.add_argument("--library", metavar="FILE", help="the library that answers in the place of the program")
+    parser.add_argument("seed", type=int)
+    parser.add_argument("count", type=int)
+    parser.add_argument("parts", nargs="*", metavar="PART")
+    asked = parser.parse_args(given)
+    if asked.count < 1 or not set(asked.parts) <= set(PARTS):
+        parser.error(f"COUNT is 1 or more, and the parts are {', '.join(PARTS)}")
+    return asked
+
+
+def main(given):
+    asked = words_of(given)
+    if asked.library:
+        Answering.library = Library(os.path.abspath(asked.library))
     passed = failed = 0
-    for name, problem in problems(int(words[0]), int(words[1]), words[2:] or list(PARTS)):
+    for name, problem in problems(asked.seed, asked.count, asked.parts or list(PARTS)):
         if problem is None:
             passed += 1
         else:
