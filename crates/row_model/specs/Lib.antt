@@ -6,3 +6,4 @@ pub mod Bounds
 pub mod Laws
 pub mod Positions
 pub mod Limits
+pub mod Counted

@@ -2,6 +2,7 @@
 ghost use Rattle.std.specs.Prelude.{◌≡◌, ◌≢◌, ◌⊎◌, ◌≤◌, ◌+◌, ◌-◌, ◌<◌, ℕ, List, [], ◌∷◌, ◌++◌, Some, length, take, sum_by, slice_get, IfOk, IfSome, OnOk, OnErr, IsTrue, MatchOption, ◌↔◌};
 ghost use Rattle.column_order.specs.Orders.{has, IsOrder};
 ghost use Rattle.row_model.specs.declared.graph.Why.TheVariants.{Flip, Row};
+ghost use Rattle.row_model.specs.Counted.{LeadsOn, looks, MayCross};
 ghost use Rattle.row_model.specs.Graph.{row_at, Crosses, JoinedBy};
 ghost use Rattle.row_model.specs.Positions.{ArePositions, IsSpan, IsSpanInOrder};
 ghost use Rattle.row_model.specs.Rows.{IsRow};
@@ -117,8 +118,10 @@ impl<'a> CountedRows<'a> {
     }
 
     /// Whether the incompatibility graph of the matrix joins the two pairs for this reason, as
-    /// [`joined_by`](crate::joined_by). At most three steps are counted: a yes for a row costs three, one for each look at
-    /// it, and a flip none. A no may count fewer looks, but an answer without a step does not depend on the rows.
+    /// [`joined_by`](crate::joined_by). Each look at the row is a step: the row is asked for the first column that it has to
+    /// have, for the second where it has that, and for the column that it has to lack where it has both. So a yes by a row
+    /// costs three steps, and a no by one costs one to three. A flip costs none, and nor do pairs that do not fit or a
+    /// number that no row has.
     pub fn joined_counted<L: Ledger>(
         &self,
         v: Pair,
@@ -132,6 +135,19 @@ impl<'a> CountedRows<'a> {
             length rows ≡ length self.now.rows →
             IsTrue result ↔ JoinedBy self.now.columns rows v w why }
         ensures looks { IsTrue result → (k : ℕ) → why ≡ Row k → steps.new ≡ steps.old + 3 }
+        ensures forth { (k : ℕ) →
+            why ≡ Row k →
+            MayCross self.now.columns self.now.rows v w k →
+            steps.new ≡ steps.old + looks (row_at self.now.rows k) v w }
+        ensures back { (k : ℕ) →
+            why ≡ Row k →
+            MayCross self.now.columns self.now.rows w v k →
+            steps.new ≡ steps.old + looks (row_at self.now.rows k) w v }
+        ensures none { ((k : ℕ) →
+            why ≡ Row k →
+            MayCross self.now.columns self.now.rows v w k ⊎ MayCross self.now.columns self.now.rows w v k →
+            ⊥) →
+            steps.new ≡ steps.old }
         ensures flip { why ≡ Flip → steps.new ≡ steps.old }
         ensures ticks { steps.new ≤ steps.old + 3 }
     {
@@ -152,6 +168,9 @@ impl<'a> CountedRows<'a> {
             (row : List ℕ) →
             IsTrue result ↔ (Crosses row v w ⊎ Crosses row w v) }
         ensures looks { IsTrue result → steps.new ≡ steps.old + 3 }
+        ensures forth { LeadsOn v w → steps.new ≡ steps.old + looks (row_at self.now.rows k) v w }
+        ensures back { LeadsOn w v → steps.new ≡ steps.old + looks (row_at self.now.rows k) w v }
+        ensures none { (LeadsOn v w → ⊥) → (LeadsOn w v → ⊥) → steps.new ≡ steps.old }
         ensures ticks { steps.new ≤ steps.old + 3 }
     {
         if v.b == w.a && v.a != w.b {
@@ -163,13 +182,14 @@ impl<'a> CountedRows<'a> {
         }
     }
 
-    // Whether row k has the first column of v and the second of w, and lacks the second of v.
+    // Whether row k has the first column of v and the second of w, and lacks the second of v. Each look is a step.
     fn crosses<L: Ledger>(&self, k: u32, v: Pair, w: Pair, steps: &mut Steps<L>) -> bool
         requires row { (1 ≤ k) × (k ≤ length self.now.rows) }
         requires pairs { (v.b ≡ w.a) × (v.a ≢ w.b) }
         ensures crosses { IsTrue result ↔ Crosses (row_at self.now.rows k) v w }
         ensures some { steps.old + 1 ≤ steps.new }
         ensures looks { IsTrue result → steps.new ≡ steps.old + 3 }
+        ensures exact { steps.new ≡ steps.old + looks (row_at self.now.rows k) v w }
         ensures ticks { steps.new ≤ steps.old + 3 }
     {
         self.has_counted(k, v.a, steps)
