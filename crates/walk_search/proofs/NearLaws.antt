@@ -1,8 +1,10 @@
 -- The two ways of a search: all rows one by one, or along an order that is valid for the rows before the last.
-use Rattle.std.proofs.Common.{◌≡◌, ℕ, ◌+◌, ◌-◌, ◌*◌, ◌≤◌, Vec, Global, List, Some, None, length, take, drop, sum_by, refl, sym, subst, arith}
+use Rattle.std.proofs.Common.{◌≡◌, ℕ, ◌+◌, ◌-◌, ◌*◌, ◌≤◌, Vec, Global, List, [], Some, None, length, take, drop, sum_by, refl, sym, subst, arith}
+use Rattle.std.proofs.lemmas.List.Sums.{sum_by_more}
 use Rattle.std.proofs.lemmas.Nat.{mul-le}
 use Rattle.std.proofs.lemmas.Option.{none-some, same_Some}
 use Rattle.column_order.specs.Orders.{IsValidOrder}
+use Rattle.row_model.specs.Graph.{row_at}
 use Rattle.row_model.specs.Rows.{RowList}
 use Rattle.open_gaps.specs.Gaps.{AreGaps}
 use Rattle.open_gaps.specs.Tables.{GapTable}
@@ -36,6 +38,11 @@ first_ones rows k from =
     let last = sum_by length (take 1 (drop (k - 1) rows)) in
     let up : k - 1 + 1 ≡ k = omega arith in
     subst (λ n. sum_by length (take (k - 1) rows) + last ≡ sum_by length (take n rows)) up (ones_split rows (k - 1) 1)
+
+-- the ones of row k
+pub last_ones : (rows : List (List ℕ)) (k : ℕ) → 1 ≤ k → k ≤ length rows → sum_by length (take 1 (drop (k - 1) rows)) ≡ length (row_at rows k)
+last_ones rows k from to =
+    omega (arith, ones_split rows (k - 1) 1, sum_by_more length rows (k - 1) [] (omega arith))
 
 -- a step for each column that has its turn and one, for each pair from which a tree is tried, for each marked one, and for each node
 -- as its first column weighs

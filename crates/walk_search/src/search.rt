@@ -1,5 +1,5 @@
 // The search for a closed walk of odd length.
-ghost use Rattle.std.specs.Prelude.{◌≡◌, ◌+◌, ◌*◌, ◌-◌, ◌<◌, ◌≤◌, ℕ, true, false, not, Some, None, length, map, take, drop, slice_get, sum_by, IsTrue, IsFalse, IfOk, OnOk, MatchOption};
+ghost use Rattle.std.specs.Prelude.{◌≡◌, ◌+◌, ◌*◌, ◌-◌, ◌<◌, ◌≤◌, ℕ, true, false, not, Some, None, length, map, take, drop, slice_get, sum_by, IsTrue, IsFalse, IfOk, IfSome, OnOk, MatchOption};
 ghost use Rattle.column_order.specs.Orders.{has, IsValidOrder};
 ghost use Rattle.row_model.specs.Graph.{row_at, turned, HasOddWalk, HasConflict};
 ghost use Rattle.row_model.specs.Cycles.{IsOddWalk};
@@ -98,7 +98,8 @@ pub fn walk_among<L: Ledger>(
 
 // A closed walk of odd length in the graph of the rows 1 to `k`, which have one, across the gaps that the rows before
 // row `k` leave open: only row `k` is looked at for each column that it lacks, so the time does not grow with the
-// number of rows once their gaps are known. It leaves room in its bound for a step for each one of these.
+// number of rows once their gaps are known. It leaves room in its bound for a step for each one of these. An answer costs
+// a step for each column and each one of row `k`, and two more: its first column is read again, and a pair is tried.
 pub fn walk_across<L: Ledger>(
     alloc: Global,
     m: &CountedRows,
@@ -113,6 +114,7 @@ pub fn walk_across<L: Ledger>(
     ensures walk { IfOk result (IsOddWalk m.now.columns (take k m.now.rows)) }
     ensures ticks { steps.new + sum_by length (take (k - 1) m.now.rows)
         ≤ steps.old + 2 * m.now.columns * (sum_by length (take k m.now.rows) + 1) + 1 }
+    ensures turns { OnOk result (steps.old + m.now.columns + length (row_at m.now.rows k) + 2 ≤ steps.new) }
 {
     let holders = rows_by_column(alloc, m, k - 1, 1, steps)?;
     let near = Neighbours {
@@ -189,6 +191,7 @@ fn search_along<L: Ledger>(
     ensures ticks { steps.new + sum_by length (take (near.now.first + 1) m.now.rows)
         ≤ steps.old + m.now.columns * sum_by length (take (near.now.first + 1) m.now.rows)
         + m.now.columns * sum_by length (take 1 (drop near.now.first m.now.rows)) + m.now.columns + 1 }
+    ensures turns { IfOk result (λ found. IfSome found (λ walk. steps.old + 2 ≤ steps.new)) }
 {
     gap_law();
     let columns = m.columns();

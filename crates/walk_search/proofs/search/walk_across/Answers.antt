@@ -1,8 +1,8 @@
-use Rattle.std.proofs.Common.{◌≡◌, ◌+◌, ◌-◌, take, drop, length, sum_by, refl, subst, arith}
+use Rattle.std.proofs.Common.{◌≡◌, ◌+◌, ◌-◌, ◌≤◌, take, drop, length, sum_by, refl, subst, arith}
 use Rattle.row_model.specs.Graph.{HasOddWalk}
 use Rattle.row_model.specs.Cycles.{IsOddWalk}
 use Rattle.row_model.proofs.Walks.{conflict_odd}
-use Rattle.walk_search.proofs.NearLaws.{near_along, first_ones, across_early, across_bound}
+use Rattle.walk_search.proofs.NearLaws.{near_along, first_ones, last_ones, across_early, across_bound}
 use Rattle.walk_search.proofs.search.walk_across.Goals as goal
 
 pub search_along-requires-clause-near : goal.search_along-requires-clause-near
@@ -37,3 +37,8 @@ pub returns-clause-ticks : goal.returns-clause-ticks
 returns-clause-ticks g c =
     let up : c.args.k - 1 + 1 ≡ c.args.k = omega (arith, c.requires.row.0) in
     across_bound c.args.m.now.rows c.args.m.now.columns c.args.k c.args.steps.now c.rows_by_column.new.steps c.search_along.new.steps c.requires.row.0 c.rows_by_column.ensures.ticks (rw up at c.search_along.ensures.ticks)
+
+pub returns-clause-turns : goal.returns-clause-turns
+returns-clause-turns g c =
+    let searched : c.rows_by_column.new.steps + 2 ≤ c.search_along.new.steps = rw c.in-Some.is at c.in_ok-walk.ensures.turns in
+    omega (arith, c.in_ok-holders.ensures.turns, searched, last_ones c.args.m.now.rows c.args.k c.requires.row.0 c.requires.row.1)
