@@ -1,5 +1,5 @@
 // The closed walk along the ways of a circle of links.
-ghost use Rattle.std.specs.Prelude.{◌≡◌, ◌+◌, ◌≤◌, length};
+ghost use Rattle.std.specs.Prelude.{◌≡◌, ◌+◌, ◌*◌, ◌≤◌, length, IfOk, OnOk};
 
 use crate::links::Link;
 use crate::ways::{Front, Halt, way_from};
@@ -23,6 +23,7 @@ pub fn walk_around<L: Ledger>(
 ) -> Result<Vec<Line>, NoMemory>
     requires { length front.now.gaps.now.order ≡ front.now.m.now.columns }
     ensures ticks { steps.new + left.new ≡ steps.old + left.old }
+    ensures turns { IfOk result (λ lines. steps.old + length lines.items ≤ steps.new + 2 * length links.now + 1) }
 {
     let mut lines = Vec::new(alloc);
     for link in links {
@@ -36,7 +37,9 @@ pub fn walk_around<L: Ledger>(
 }
 
 // Adds the lines along a way, but for the pair at which it ends.
-fn add_forth(way: &[Halt], lines: &mut Vec<Line>) -> Result<(), NoMemory> {
+fn add_forth(way: &[Halt], lines: &mut Vec<Line>) -> Result<(), NoMemory>
+    ensures few { OnOk result (length lines.new.items ≤ length lines.old.items + length way.now) }
+{
     let mut at: Option<Pair> = None;
     for halt in way {
         if let Some(pair) = at
@@ -51,7 +54,9 @@ fn add_forth(way: &[Halt], lines: &mut Vec<Line>) -> Result<(), NoMemory> {
 
 // Adds the lines back along a way, from the pair at which it ends to the one at which it begins, from where row `k`
 // leads on.
-fn add_back(way: &[Halt], k: u32, lines: &mut Vec<Line>) -> Result<(), NoMemory> {
+fn add_back(way: &[Halt], k: u32, lines: &mut Vec<Line>) -> Result<(), NoMemory>
+    ensures few { OnOk result (length lines.new.items ≤ length lines.old.items + length way.now) }
+{
     for halt in way.iter().rev() {
         add_line(lines, halt.pair, Why::Row(halt.row.unwrap_or(k)))?;
     }
@@ -60,7 +65,9 @@ fn add_back(way: &[Halt], k: u32, lines: &mut Vec<Line>) -> Result<(), NoMemory>
 
 // Adds a line with the pair or the pair turned, whichever fits behind the last line. Where that is the pair of the last
 // line itself, the new line takes its place.
-fn add_line(lines: &mut Vec<Line>, pair: Pair, why: Why) -> Result<(), NoMemory> {
+fn add_line(lines: &mut Vec<Line>, pair: Pair, why: Why) -> Result<(), NoMemory>
+    ensures few { OnOk result (length lines.new.items ≤ length lines.old.items + 1) }
+{
     let mut line = Line { pair, why };
     if let Some(last) = lines.last().copied() {
         line.pair = fitted(last.pair, pair);
@@ -73,7 +80,9 @@ fn add_line(lines: &mut Vec<Line>, pair: Pair, why: Why) -> Result<(), NoMemory>
 }
 
 // Closes the walk by a flip, unless it is closed: the last row led to the first pair, or to that pair turned.
-fn close(lines: &mut Vec<Line>) -> Result<(), NoMemory> {
+fn close(lines: &mut Vec<Line>) -> Result<(), NoMemory>
+    ensures few { OnOk result (length lines.new.items ≤ length lines.old.items + 1) }
+{
     let Some(first) = lines.first().copied() else {
         return Ok(());
     };

@@ -1,5 +1,5 @@
 // The part of a matrix at the borders of a row in an order.
-ghost use Rattle.std.specs.Prelude.{◌≡◌, length};
+ghost use Rattle.std.specs.Prelude.{◌≡◌, ◌*◌, ◌≤◌, length, IfOk};
 
 use crate::met::Met;
 use crate::ways::{Front, row_of};
@@ -23,6 +23,7 @@ pub fn met_at_borders(
     borders: &[usize],
 ) -> Result<Met, NoMemory>
     requires { length front.now.gaps.now.order ≡ front.now.m.now.columns }
+    ensures few { IfOk result (λ met. (length met.columns.items ≤ 64) × (length met.rows.items ≤ 4097)) }
 {
     let columns = columns_near(alloc, order, borders)?;
     let mut rows = openers(alloc, front, &columns)?;
@@ -32,22 +33,35 @@ pub fn met_at_borders(
     Ok(met)
 }
 
-// The columns near some borders.
-fn columns_near(alloc: Global, order: &[u32], borders: &[usize]) -> Result<Vec<u32>, NoMemory> {
+// The columns near up to 8 of the borders.
+fn columns_near(alloc: Global, order: &[u32], borders: &[usize]) -> Result<Vec<u32>, NoMemory>
+    ensures few { IfOk result (λ columns. length columns.items ≤ 64) }
+{
     let mut columns = Vec::new(alloc);
-    for border in borders.iter().step_by(borders.len() / MOST_BORDERS + 1) {
-        let from = (*border).saturating_sub(REACH);
-        let to = (*border).saturating_add(REACH).min(order.len());
-        for i in from..to {
-            columns.push(order[i])?;
-        }
+    for border in borders
+        .iter()
+        .step_by(borders.len() / MOST_BORDERS + 1)
+        .take(MOST_BORDERS)
+    {
+        columns.extend_from_slice(near(order, *border))?;
     }
     Ok(columns)
 }
 
+// The columns near a border.
+fn near(order: &[u32], border: usize) -> &[u32]
+    ensures few { length result.now ≤ 8 }
+{
+    let from = border.saturating_sub(REACH);
+    let to = border.saturating_add(REACH).min(order.len());
+    order.get(from..to).unwrap_or(&[])
+}
+
 // Rows that open the gap before one of the columns for another.
 fn openers(alloc: Global, front: &Front, columns: &[u32]) -> Result<Vec<u32>, NoMemory>
-    requires { length front.now.gaps.now.order ≡ front.now.m.now.columns }
+    requires order { length front.now.gaps.now.order ≡ front.now.m.now.columns }
+    requires few { length columns.now ≤ 64 }
+    ensures few { IfOk result (λ rows. length rows.items ≤ 64 * length columns.now) }
 {
     let mut rows = Vec::new(alloc);
     for a in columns {

@@ -1,11 +1,14 @@
 // Ways that end at one pair, and the odd circle that some of them close with a row.
-ghost use Rattle.std.specs.Prelude.{◌≡◌, ◌+◌, ◌≤◌, length};
+ghost use Rattle.std.specs.Prelude.{◌≡◌, ◌+◌, ◌<◌, ◌≤◌, length, IfOk, IfSome};
 
 use crate::sample::Sample;
 use crate::ways::{Front, end_of};
 use row_model::{NoMemory, Pair};
 use std::alloc::Global;
 use step_count::{Ledger, Steps};
+
+/// The most pivots of a sample.
+const MOST_PIVOTS: usize = 32;
 
 /// Two pairs from which the ways end at one pair.
 #[derive(Clone, Copy, Debug, PartialEq, Eq)]
@@ -66,8 +69,10 @@ pub fn odd_links<L: Ledger>(
     left: &mut u64,
     steps: &mut Steps<L>,
 ) -> Result<Vec<Link>, NoMemory>
-    requires { length front.now.gaps.now.order ≡ front.now.m.now.columns }
+    requires order { length front.now.gaps.now.order ≡ front.now.m.now.columns }
+    requires few { (length sample.now.members.items ≤ 32) × (length sample.now.pivots.items ≤ 32) }
     ensures ticks { steps.new + left.new ≡ steps.old + left.old }
+    ensures few { IfOk result (λ links. length links.items ≤ 63) }
 {
     let mut ways: Vec<Course> = Vec::new(alloc);
     for pivot in &sample.pivots {
@@ -117,7 +122,9 @@ fn way_of<L: Ledger>(
 }
 
 // The link with an earlier way of the same pivot that closes an odd circle.
-fn closed_at_once(ways: &[Course], way: Course) -> Option<Link> {
+fn closed_at_once(ways: &[Course], way: Course) -> Option<Link>
+    requires few { length ways.now ≤ 1024 }
+{
     for other in ways {
         if other.pivot == way.pivot && other.end == way.end && other.turned != way.turned {
             return Some(Link {
@@ -130,14 +137,19 @@ fn closed_at_once(ways: &[Course], way: Course) -> Option<Link> {
 }
 
 // Whether an earlier way of the same pivot ends at the same pair.
-fn is_known(ways: &[Course], way: Course) -> bool {
+fn is_known(ways: &[Course], way: Course) -> bool
+    requires few { length ways.now ≤ 1024 }
+{
     ways.iter()
         .any(|other| other.pivot == way.pivot && other.end == way.end)
 }
 
 // Reaches each pivot from another by links, as far as they go, and gives the links that close an odd circle if there is
 // one.
-fn odd_circle(alloc: Global, pivots: &[u32], ways: &[Course]) -> Result<Vec<Link>, NoMemory> {
+fn odd_circle(alloc: Global, pivots: &[u32], ways: &[Course]) -> Result<Vec<Link>, NoMemory>
+    requires few { (length pivots.now ≤ 32) × (length ways.now ≤ 1024) }
+    ensures few { IfOk result (λ links. length links.items ≤ 63) }
+{
     let mut reached: Vec<Reached> = Vec::new(alloc);
     for head in 0..pivots.len() {
         if head >= reached.len() {
@@ -155,7 +167,9 @@ fn odd_circle(alloc: Global, pivots: &[u32], ways: &[Course]) -> Result<Vec<Link
 
 // The links from the first pivot of a tree to one that is reached, by a link to another that is reached, and back to
 // the first.
-fn circle_by(alloc: Global, reached: &[Reached], odd: OddLink) -> Result<Vec<Link>, NoMemory> {
+fn circle_by(alloc: Global, reached: &[Reached], odd: OddLink) -> Result<Vec<Link>, NoMemory>
+    ensures few { IfOk result (λ links. length links.items ≤ odd.one + 1 + odd.other) }
+{
     let mut links = path_up(alloc, reached, odd.one)?;
     links.reverse();
     links.push(odd.link)?;
@@ -174,7 +188,9 @@ fn first_left(pivots: &[u32], reached: &[Reached]) -> Option<u32> {
 }
 
 // Where a pivot stands among those that are reached.
-fn place_among(reached: &[Reached], pivot: u32) -> Option<usize> {
+fn place_among(reached: &[Reached], pivot: u32) -> Option<usize>
+    ensures { IfSome result (λ place. place < length reached.now) }
+{
     reached.iter().position(|one| one.pivot == pivot)
 }
 
@@ -184,7 +200,11 @@ fn spread(
     ways: &[Course],
     head: usize,
     reached: &mut Vec<Reached>,
-) -> Result<Option<OddLink>, NoMemory> {
+) -> Result<Option<OddLink>, NoMemory>
+    requires few { (length ways.now ≤ 1024) × (length reached.old.items ≤ 32) }
+    ensures few { length reached.new.items ≤ 32 }
+    ensures within { IfOk result (λ odd. IfSome odd (λ link. (link.one < 32) × (link.other < 32))) }
+{
     let Some(here) = reached.get(head).copied() else {
         return Ok(None);
     };
@@ -200,7 +220,7 @@ fn spread(
                 },
             };
             match place_among(reached, next.pivot) {
-                None => reached.push(next)?,
+                None if reached.len() < MOST_PIVOTS => reached.push(next)?,
                 Some(there)
                     if reached
                         .get(there)
@@ -211,7 +231,7 @@ fn spread(
                         other: there,
                     }));
                 }
-                Some(_) => {}
+                _ => {}
             }
         }
     }
@@ -219,7 +239,9 @@ fn spread(
 }
 
 // The links by which a pivot was reached, from the last to the first.
-fn path_up(alloc: Global, reached: &[Reached], from: usize) -> Result<Vec<Link>, NoMemory> {
+fn path_up(alloc: Global, reached: &[Reached], from: usize) -> Result<Vec<Link>, NoMemory>
+    ensures few { IfOk result (λ links. length links.items ≤ from) }
+{
     let mut links = Vec::new(alloc);
     let mut at = from;
     while at < reached.len() && reached[at].parent < at {

@@ -1,4 +1,6 @@
 // The rows and columns of a part of a matrix.
+ghost use Rattle.std.specs.Prelude.{◌≤◌, length};
+
 use row_model::{Line, NoMemory, Why};
 use std::alloc::Global;
 
@@ -33,7 +35,10 @@ impl Met {
     }
 
     /// Sorts them, and leaves out what stands there twice.
-    pub fn settle(&mut self) {
+    pub fn settle(&mut self)
+        ensures rows { length self.new.rows.items ≤ length self.old.rows.items }
+        ensures columns { length self.new.columns.items ≤ length self.old.columns.items }
+    {
         self.rows.sort_unstable();
         self.rows.dedup();
         self.columns.sort_unstable();

@@ -184,6 +184,7 @@ fn far_cycle<L: Ledger>(
 ) -> Result<Option<Cycle>, NoMemory>
     requires row { k ≤ length front.now.m.now.rows }
     requires columns { length front.now.gaps.now.order ≡ front.now.m.now.columns }
+    requires few { (length sample.now.members.items ≤ 32) × (length sample.now.pivots.items ≤ 32) }
     ensures found { IfOk result (λ found. IfSome found (IsOddCycle front.now.m.now.columns (take k front.now.m.now.rows))) }
     ensures short { IfOk result (λ found. IfSome found (IsShort front.now.m.now.columns)) }
     ensures ticks { steps.new + left.new ≤ steps.old + left.old }

@@ -57,6 +57,7 @@ fn cycle_among<L: Ledger>(
     steps: &mut Steps<L>,
 ) -> Result<Option<Cycle>, NoMemory>
     requires rows { rows ≤ length m.now.rows }
+    requires few { length lines.now ≤ 128 }
     ensures cycle { IfOk result (λ found. IfSome found (IsOddCycle m.now.columns (take rows m.now.rows))) }
     ensures short { IfOk result (λ found. IfSome found (IsShort m.now.columns)) }
     ensures ticks { steps.new ≤ steps.old + most }
