@@ -22,15 +22,19 @@ Usage: scripts/walls.py
 9. A search reads what is counted: outside tests the crates that search name a matrix only in the functions that UNCOUNTED lists. All
    others are handed its rows as `CountedRows` of row_model, of which each look at a row is a step. Of the listed ones those that HANDING
    lists do nothing with the matrix but hand it on as that, or ask how many columns it has. `CountedRows` reads its matrix in the
-   functions of VIEWS alone, and hands it out nowhere.
+   functions of VIEWS alone, and hands it out nowhere. The names `m` and `steps` stand for counted rows and their counter alone.
 10. A turn of a search costs a step: each loop of a function of these crates ticks, or makes a counted read, or calls a function of which
    a clause named `costs` says that it costs one, on every turn: neither behind a `continue` nor where a condition decides. UNTICKED lists
-   the loops that need not, and with them the calls that go over a list. No function of these crates calls itself.
+   the loops that need not, and with them what else goes over a list: calls, a `vec!` of many items, two lists that are compared. It says
+   how many there are in each function, so one more is found too. No struct there can be compared or copied with all of
+   a list that it has. No function of these crates calls itself.
 11. Who may search: verdict_check names no search, and the crates of the replies and of the program stand on no crate that reduces or
    searches but c1p_solve.
 12. The solver reads no row: c1p_solve does nothing with a matrix but ask how many rows and columns it has, add and remove its last row,
    and hand it to its own functions, to the reducer, with the number of one row, and to the search.
 13. The reading of loops itself is tried: of the loops in SAMPLES each is found where a turn of it may cost no step, and no other.
+14. A name that a list here has is that of one function: in its crate, or in its file where the list is of a file, no other has it, and one
+   has it. Nor has another the name of one whose calls cost a step.
 
 What stands behind `#[cfg(test)]` is a test, also in a file of its own; a file without that is none, whatever its name.
 
@@ -58,9 +62,10 @@ WHOLE_TREE = ("crates/row_reduce/src/reducer.rt", "tree")
 PROMISED = {"row_model": {"pop_row", "row", "has", "joined_by"}, "pair_classes": {"same"}, "walk_search": {"joined"}, "verdict_check": {"tree_holds"}, "proper_interval": {"fits"}}
 # The crates that search, and their functions that may name a matrix: those with a signature of their own, which hand its rows on as
 # `CountedRows`; those of the judge, who counts no steps; and those of the small matrix that an attempt makes for itself.
-SEARCHING = ["pair_classes", "open_gaps", "walk_search", "incompat_graph"]
+SEARCHING = ["pair_classes", "odd_cycle", "open_gaps", "walk_search", "incompat_graph"]
 UNCOUNTED = {
     "pair_classes": {"even_classes"},
+    "odd_cycle": set(),
     "open_gaps": {"of_rows", "gaps_of_all"},
     "walk_search": {"odd_walk", "joined", "simple_cycle"},
     "incompat_graph": {"odd_cycle_along"},
@@ -71,19 +76,25 @@ HANDED = re.compile(r"\bCountedRows::new\(m\)|\bm\.columns\(\)")
 # The file of `CountedRows`, and the functions there that read its matrix, each by a clause for a step or for none.
 COUNTED_ROWS = os.path.join("row_model", "src", "counted.rt")
 VIEWS = {"columns", "rows", "len_counted", "has_counted", "member_counted", "next_counted", "ones_of_row", "span_counted", "ones_counted", "push_row", "ones", "counted"}
-# Their functions with a loop of which a turn may cost none, each loop of a function or the one over the name behind it: of a table that is
-# set up or handed out once; up a set of pairs; over rows of which some have no ones; of the judge; along the lines that are found; over the
-# few columns, rows, ways and pivots that an attempt takes.
+# Their functions with a loop of which a turn may cost none, and how many lines of each have such a loop or what goes over a list; behind a
+# name, the one over which the loops go that are meant. They go over a table that is set up or handed out once; up a set of pairs; over rows
+# of which some have no ones; over the lines of a walk that is found; over the few columns, rows, ways and pivots that an attempt takes. Or
+# they are the judge's.
 UNTICKED = {
-    "pair_classes": {"each_alone", "flatten", "root_of", "classes_of"},
-    "open_gaps": {"cover", "gaps_of", "gaps_of_all", "of_parts"},
-    "walk_search": {"way_down", "add_way_up", "joined", "rows_by_column k"},
+    "pair_classes": {"classes_of k": 1, "marks.rt/new": 1, "numbers.rt/new": 1, "each_alone": 1, "root_of": 1, "flatten": 1},
+    "odd_cycle": {"short_cycle": 4, "cut": 1, "has_flip": 1, "sorted_columns": 2, "is_rising": 1, "is_folded": 2},
+    "open_gaps": {"cover": 1, "of_parts": 1, "gaps_of_all": 3, "gaps_of": 2, "new": 1, "of_rows": 1, "span_in_order": 1},
+    "walk_search": {"way_down": 2, "add_way_up": 1, "rows_by_column k": 1, "joined": 1, "simple_cycle": 1, "new": 1, "search": 2, "search_along": 2},
     "incompat_graph": {
-        "add_forth", "add_back", "columns_near", "openers", "add_lines", "settle", "lines_of", "without_repeats", "is_odd_walk", "part_of",
-        "thinned", "closed_at_once", "is_known", "odd_circle", "circle_by", "first_left", "place_among", "spread", "path_up",
-        "odd_links", "walk_around",
+        "walk_around": 3, "add_forth": 1, "add_back": 1, "columns_near": 2, "openers": 2, "is_odd_walk": 1, "odd_links": 4, "closed_at_once": 1,
+        "is_known": 1, "odd_circle": 4, "circle_by": 2, "first_left": 1, "place_among": 1, "spread": 3, "path_up": 1, "add_lines": 1, "settle": 4,
+        "lines_of": 1, "part_of": 2, "without_repeats": 4, "add_spread": 1, "checked_cycle": 1, "lines_in": 1, "any_cycle": 1, "quick_cycle": 1,
     },
 }
+# Calls of the crates below that go over a list or make a table, and are handed no counter.
+WALKS = re.compile(
+    r"(?<![\w.:])(?:positions|span_of|is_order|is_kept|row_has|short_cycle|is_folded|sorted_columns|is_rising)\("
+    r"|\b(?:Marks|PairNumbers|Forest)::new\(|\bOpenGaps::of_rows\(|\.(?:push_row|keeps)\(")
 # Loops, and whether a turn of each costs a step.
 SAMPLES = [
     ("for a in columns {\n    steps.tick();\n}", True),
@@ -108,7 +119,37 @@ SAMPLES = [
     ("let i = 0; while i < count {\n    i += 1;\n}", False),
     ("if loop {\n    break true;\n} {}", False),
     ("for a in columns {\n    other.steps.tick();\n}", False),
+    ("for a in columns {\n    near.look(a);\n}", False),
+    ("for a in columns {\n    let had = near.has_counted(k, a, steps);\n}", False),
+    ("for a in columns {\n    let had = has_counted(k, a, steps);\n}", False),
+    ("for a in columns {\n    let had = m.has_counted(k, a, steps);\n}", True),
+    ("for a in columns {\n    let had = front.m.has_counted(k, a, steps);\n}", True),
+    ("while let Some(a) = near.next_counted(k, i, steps) {\n    i += 1;\n}", False),
+    ("while let Some(a) = near.next_halt(k, i, steps) {\n    i += 1;\n}", False),
+    ("while let Some(a) = next_counted(k, i, steps) {\n    i += 1;\n}", False),
+    ("let marks = vec![in alloc; 0; count]?;", False),
+    ("let marks = [0; COUNT];", False),
+    ("let marks = vec![in alloc; first]?;", True),
+    ("let same = order == before;", False),
+    ("if a > 1 && before != *order {\n    b += 1;\n}", False),
+    ("if met.columns == before {\n    b += 1;\n}", False),
+    ("if order[1..] < before[..a] {\n    b += 1;\n}", False),
+    ("if before.as_slice() == kept {\n    b += 1;\n}", False),
+    ("let before = order.clone()?;", False),
+    ("let same = order.len() == before.len();", True),
+    ("let same = order[a] == before[b];", True),
+    ("let same = columns == m.columns();", True),
+    ("order.insert(0, a)?;", False),
+    ("order.resize(count, 0)?;", False),
+    ("order.append(&mut before)?;", False),
+    ("let places = positions(alloc, order)?;", False),
+    ("let marks = Marks::new(alloc, further, columns)?;", False),
+    ("let way = way_down(alloc, forest, a)?;", True),
+    ("for a in columns {\n    steps.tick();\n    let way = way_down(alloc, forest, a)?;\n}", False),
+    ("for a in columns {\n    steps.tick();\n}\nlet way = way_down(alloc, forest, a)?;", True),
 ]
+# The lists of these, and the fields that are lists.
+SAMPLE_LISTS = ({"order", "before"}, {"columns"})
 SEARCHES = {"odd_walk", "odd_cycle_along", "shorter_cycle", "find_core", "walk_across", "walk_among", "simple_cycle"}
 JUDGE = "verdict_check"
 SOLVER = "c1p_solve"
@@ -133,7 +174,9 @@ TAKES = re.compile(r"(?:\.|Vec::)(?:push\w*|insert\w*|append|(?:try_)?reserve\w*
 QUEUED = re.compile(r"bubble_pass/src/climber\.rt:\d+ .*\bself\.push\(|bubble_pass/src/\w+\.rt:\d+ .*\bclimber\.push\(")
 MATRIX = re.compile(r"\bMatrix\b")
 # the matrix behind the reads that are counted, in these functions alone, and the type of what hands it out
-VIEWED = re.compile(r"\bself\.matrix\b")
+VIEWED = re.compile(r"\bmatrix\b")
+MAKES_VIEW = re.compile(r"^\s*(?:ensures \{ result ≡ matrix\.now \}|pub fn new\(matrix: &'a Matrix\) -> Self|CountedRows \{ matrix \}|matrix: Matrix::new\(alloc, columns\)\?,)$")
+OPEN_VIEW = re.compile(r"\bpub(?:\([^)]*\))? matrix:")
 HANDED_OUT = re.compile(r"->.*\bMatrix\b")
 # the matrix `m`, and how it is handed over
 OF_MATRIX = re.compile(r"\bm\b")
@@ -144,14 +187,28 @@ OVER_LIST = re.compile(
     r"\.(?:any|all|r?find\w*|filter\w*|flat_map|map_while|take_while|skip_while|try_for_each|for_each|(?:try_)?r?fold|scan|r?position|contains|nth|count|sum"
     r"|product|(?:min|max)_by\w*|sort\w*|dedup\w*|reverse|retain\w*|fill\w*|rotate\w*|extend\w*|to_vec|to_owned|concat|copy_from_slice|clone_from\w*"
     r"|is_sorted\w*|starts_with|ends_with|strip_(?:pre|suf)fix|select_nth\w*|swap_with_slice|drain|split_off|partial_cmp|partition|reduce|unzip|(?:try_)?collect"
-    r"|nth_back)\(|iter\(\).*\.(?:map|last|max|min|eq|ne|lt|le|gt|ge|cmp)\(")
+    r"|nth_back|append|insert|remove|resize\w*|splice|copy_within|repeat|join)\(|iter\(\).*\.(?:map|last|max|min|eq|ne|lt|le|gt|ge|cmp)\("
+    r"|(?:vec!|= )\[(?:in \w+; |(?!in ))[^;\]]*; ")
 # what costs a step: a clause that says so, always or with a value; a tick or a counted read; and the name of what is called, in the head
 # of a loop that goes on as long as there is a value or anywhere
 COSTS = re.compile(r"^\s*ensures costs \{ (?:OnOk result \()?steps\.old \+ 1 ≤ steps\.new\)? \}$")
 SOME_COSTS = re.compile(r"^\s*ensures costs \{ IfSome result \(λ \w+\. steps\.old \+ 1 ≤ steps\.new\) \}$")
-TICKS = re.compile(r"(?<![\w.])steps\.tick\(\)|\b(?:len|has|member|ones)_counted\(")
-NEXT = re.compile(r"^\s*while let Some\(\w+\) = (?:m\.)?(\w+)\(")
-CALLED = re.compile(r"\b(\w+)\(")
+TICKS = re.compile(r"(?<![\w.])(?:steps\.tick\(\)|(?:front\.)?m\.(?:len|has|member|ones)_counted\()")
+NEXT = re.compile(r"^\s*while let Some\(\w+\) = (m\.next_counted|\w+)\(")
+CALLED = re.compile(r"(?<![\w.:])(\w+)\(")
+# where a name that stands for counted rows or their counter is given to another value, in a body or in a head
+HIDDEN = re.compile(r"\b(?:let|let mut|for) (?:m|steps)\b|(?<![\w)])\((?:m|steps)\) =|\|(?:m|steps)[|,:]|\b(?:Some|Ok)\((?:m|steps)\) (?:=|if)")
+MEANS = re.compile(r"\bm: (?!&CountedRows,|&Matrix,|&'a CountedRows<'a>,)|\bsteps: (?!&mut Steps<L>[,)])")
+# the type of a list; a name that has it, and one that a call of a function or of a method gives it
+LIST = r"(?:&(?:'\w+ )?(?:mut )?)?(?:\[|Vec(?:Deque)?<)"
+OF_LIST = re.compile(r"\b(\w+): " + LIST)
+FIELD = re.compile(r"^\s+(?:pub(?:\([^)]*\))? )?(\w+): ")
+MADE_LIST = re.compile(r"\blet (?:mut )?(\w+)(?:: [^=]*)? = (?:(?:\w+::)*(\w+)\(|vec!|.*\.(?:collect|split_off|as_slice|lines)\()")
+NESTED = re.compile(r"\b(\w+): (?:&(?:'\w+ )?(?:mut )?)?(?:\[|Vec<)(?:&(?:'\w+ )?)?(?:\[|Vec<)")
+OF_NESTED = re.compile(r"\blet (?:mut )?(\w+)(?:: [^=]*)? = &(?:mut )?(?:\w+\.)*(\w+)\[[^.]")
+GIVES_LIST = re.compile(r"-> (?:Result<)?" + LIST)
+COMPARED = re.compile(r"^#\[derive\(.*\b(?:PartialEq|PartialOrd|Hash)\b")
+COPIED = re.compile(r"^#\[derive\(.*\bClone\b")
 # where what a line always does ends: at a block or behind one, at a closure, or at a second condition
 SURE = re.compile(r"&&|\|\||=>|[{}]|\|[\w(&]")
 CONTINUES = re.compile(r"\bcontinue\b")
@@ -326,8 +383,11 @@ def stray_views():
     """Where a matrix whose reads are counted is read in a further way, or handed out."""
     for name, lines in functions("row_model"):
         for place, line in lines if COUNTED_ROWS in lines[0][0] else []:
-            if VIEWED.search(line) and name not in VIEWS or HANDED_OUT.search(line):
+            if VIEWED.search(line) and name not in VIEWS and not MAKES_VIEW.match(line) or HANDED_OUT.search(line):
                 yield f"{place}: {name} reads the matrix in a further way, or hands it out: {line.strip()}"
+    for place, line in code("row_model"):
+        if COUNTED_ROWS in place and OPEN_VIEW.search(line):
+            yield f"{place}: the matrix behind counted rows is open to others: {line}"
 
 
 def uncounted_reads():
@@ -335,6 +395,9 @@ def uncounted_reads():
     yield from stray_views()
     for crate in SEARCHING:
         inside = set()
+        for place, line in code(crate):
+            if HIDDEN.search(line) or MEANS.search(line):
+                yield f"{place}: `m` or `steps` is another value here: {line}"
         for name, lines in functions(crate):
             inside.update(place for place, _ in lines)
             for place, line in lines:
@@ -355,6 +418,51 @@ def costing(crate, clause):
     return {name for name, lines in functions(crate) if any(clause.search(line) for _, line in lines)}
 
 
+def of_lists(lines, makers, nested):
+    """The names that are lists in a function, for all that its text shows: what it says, what makes one, and an item of a list of lists."""
+    names = {name for name, owner in (found for _, line in lines for found in OF_NESTED.findall(line)) if owner in nested}
+    names |= {found for _, line in lines for found in OF_LIST.findall(line)}
+    for name, maker in (found for _, line in lines for found in MADE_LIST.findall(line)):
+        if not maker or maker in makers:
+            names.add(name)
+    return names
+
+
+def list_fields(crate):
+    """The fields of a crate's structs that are lists, but for those of a name that another field has which is none."""
+    fields, others, is_inside = set(), set(), False
+    for path in sources(crate):
+        for _, line in outside_tests(path):
+            is_inside = re.match(r"(?:pub(?:\([^)]*\))? )?struct \w+.*\{$", line) is not None or is_inside and not line.startswith("}")
+            found = FIELD.match(line) if is_inside else None
+            if found:
+                (fields if OF_LIST.search(line) else others).add(found[1])
+    return fields - others
+
+
+def compares_lists(line, names, fields):
+    """Whether two lists are compared in a line, or one is copied, of these names and fields."""
+    owned = rf"|(?:\w+\.)+(?:{'|'.join(sorted(fields))})" if fields else ""
+    operand = rf"(?<![\w.])(?:{'|'.join(sorted(names)) or '(?!)'}{owned})\b(?:\.as_slice\(\)|\[[^\]]*\.\.[^\]]*\])?"
+    return re.search(rf"{operand} (?:[=!]=|[<>]=?) | (?:[=!]=|[<>]=?) [&*]*{operand}(?![\w.(\[])|{operand}\.(?:clone|eq|ne|cmp|lt|gt|le|ge)\(", line) is not None
+
+
+def whole_lists(crate):
+    """The structs of a crate that have a list, and can be compared or copied with all of it."""
+    for path in sources(crate):
+        derived, name = "", None
+        for place, line in outside_tests(path):
+            found = re.match(r"(?:pub(?:\([^)]*\))? )?(?:struct|enum) (\w+)", line)
+            if found:
+                name = found[1]
+            elif line.startswith("#[derive("):
+                derived = line
+            elif line.startswith("}"):
+                derived, name = "", None
+            elif name and OF_LIST.search(line) and (COMPARED.match(derived) or COPIED.match(derived) and "&" not in line):
+                yield f"{place}: {name} has a list, and can be compared or copied with all of it"
+
+
 def is_paid(lines, number, sure, with_value):
     """Whether each turn of the loop that begins at a line of a function costs a step, for all that the text shows."""
     head = lines[number][1]
@@ -373,19 +481,26 @@ def is_paid(lines, number, sure, with_value):
     return any(TICKS.search(line) or sure.intersection(CALLED.findall(line)) for line in always)
 
 
-def free_turns(lines, listed, sure, with_value):
-    """The loops of a function of which a turn may cost no step, but for those over the listed names."""
+def free_turns(lines, listed, sure, with_value, lists, unticked):
+    """The lines of a function with a loop of which a turn may cost no step, but for those over the listed names, or with what goes over a list.
+
+    In a loop that is also a call of a function with such a line."""
+    loops = []
     for number, (place, line) in enumerate(lines):
-        loop = BLOCK.search(line)
-        if OVER_LIST.search(line) or loop and loop[1] not in listed and not is_paid(lines, number, sure, with_value):
+        loop, inner = BLOCK.search(line), len(line) - len(line.lstrip())
+        loops = [outer for outer in loops if outer < inner or not line.strip()]
+        is_walk = OVER_LIST.search(line) or WALKS.search(line) or compares_lists(line, *lists)
+        is_walk = is_walk or loops and unticked.intersection(re.findall(r"\b(\w+)\(", line))
+        if is_walk or loop and loop[1] not in listed and not is_paid(lines, number, sure, with_value):
             yield place, line
+        loops += [inner] * bool(loop)
 
 
 def misread_loops():
     """The samples of loops that are not told as they are."""
     for sample, costs in SAMPLES:
         lines = [("sample", line) for line in sample.split("\n")]
-        if bool(list(free_turns(lines, set(), {"look"}, {"next_counted", "next_halt"}))) == costs:
+        if bool(list(free_turns(lines, set(), {"look"}, {"m.next_counted", "next_halt"}, SAMPLE_LISTS, {"way_down"}))) == costs:
             yield f"scripts/walls.py: misreads a loop: {sample!r}"
 
 
@@ -409,18 +524,48 @@ def calls_itself(crate):
             yield name
 
 
+def is_meant(entry, name, place):
+    """Whether an entry of a list, a name or a file and a name, means the function of this name that begins at this place."""
+    file, _, meant = entry.split()[0].rpartition("/")
+    return name == meant and (not file or place.partition(":")[0].endswith(f"/{file}"))
+
+
 def uncounted_loops():
     """Where a turn of a search may cost no step."""
     for crate in SEARCHING:
-        sure, with_value = costing(crate, COSTS), costing(crate, SOME_COSTS) | {"next_counted"}
+        sure, with_value = costing(crate, COSTS), costing(crate, SOME_COSTS) | {"m.next_counted"}
+        makers = {name for name, lines in functions(crate) if any(GIVES_LIST.search(line) for _, line in lines)}
+        fields, nested = list_fields(crate), {found for _, line in code(crate) for found in NESTED.findall(line)}
+        unticked = {entry.split()[0] for entry in UNTICKED[crate] if "/" not in entry} - {"new"}
         for name, lines in functions(crate):
-            if name in UNTICKED[crate]:
-                continue
-            listed = {entry.partition(" ")[2] for entry in UNTICKED[crate] if entry.startswith(name + " ")}
-            for place, line in free_turns(body(lines), listed, sure, with_value):
-                yield f"{place}: a turn of a loop of {name} may cost no step: {line.strip()}"
+            place = lines[0][0]
+            entry = next((entry for entry in UNTICKED[crate] if is_meant(entry, name, place)), name)
+            over, listed = entry.partition(" ")[2], UNTICKED[crate].get(entry, 0)
+            known = (sure, with_value, (of_lists(lines, makers, nested), fields), unticked)
+            turns = list(free_turns(body(lines), set(), *known))
+            others = list(free_turns(body(lines), {over}, *known)) if over else []
+            if others or len(turns) != listed:
+                yield f"{place}: of the lines of {name} that may cost no step {listed} are listed, and there are {len(turns)}: {[line.strip() for _, line in others or turns]}"
         for name in calls_itself(crate):
             yield f"crates/{crate}: {name} calls itself, and no loop shows what a turn costs"
+        yield from whole_lists(crate)
+
+
+def shared_names():
+    """The names of the lists of this script, and of functions whose calls cost a step, that no function has or more than one."""
+    for crate in SEARCHING:
+        found = [(name, lines[0][0]) for name, lines in functions(crate)]
+        for entry in sorted({*UNTICKED[crate], *UNCOUNTED[crate], *costing(crate, COSTS), *costing(crate, SOME_COSTS)}):
+            number = sum(is_meant(entry, name, place) for name, place in found)
+            if number != 1:
+                yield f"crates/{crate}: {number} functions are meant by {entry}, and not one"
+        for name, place in found:
+            if name == "tick" or name.endswith("_counted"):
+                yield f"{place}: {name} has the name of what counts a step"
+    named = [name for name, lines in functions("row_model") if COUNTED_ROWS in lines[0][0]]
+    for name in sorted(VIEWS):
+        if named.count(name) != 1:
+            yield f"crates/{COUNTED_ROWS}: {named.count(name)} functions are meant by {name}, and not one"
 
 
 def solver_reads():
@@ -551,7 +696,7 @@ def main():
     names = crates()
     failed = 0
     rules = [foreign_proofs(names), own_counters(names), uncounted_walks(), hidden_memory(), idle_functions(), itertools.chain(unknown_contracts(names), untold(names)),
-             upward_edges(), names_with_two_meanings(), uncounted_reads(), uncounted_loops(), stray_searches(), solver_reads(), misread_loops()]
+             upward_edges(), names_with_two_meanings(), uncounted_reads(), uncounted_loops(), stray_searches(), solver_reads(), misread_loops(), shared_names()]
     for broken in rules:
         found = list(broken)
         failed += bool(found)
