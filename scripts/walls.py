@@ -26,15 +26,14 @@ Usage: scripts/walls.py
 10. A turn of a search costs a step: each loop of a function of these crates ticks, or makes a counted read, or calls a function of which
    a clause named `costs` says that it costs one, on every turn: neither behind a `continue` nor where a condition decides. UNTICKED lists
    the loops that need not, and with them what else goes over a list: calls, a `vec!` of many items, two lists that are compared. It says
-   how many there are in each function, so one more is found too. No struct there can be compared or copied with all of
-   a list that it has. No function of these crates calls itself.
+   how many there are in each function, so one more is found too. A turn that calls one of these functions is one of them. No struct there
+   can be compared or copied with all of a list that it has. No function of these crates calls itself.
 11. Who may search: verdict_check names no search, and the crates of the replies and of the program stand on no crate that reduces or
    searches but c1p_solve.
 12. The solver reads no row: c1p_solve does nothing with a matrix but ask how many rows and columns it has, add and remove its last row,
    and hand it to its own functions, to the reducer, with the number of one row, and to the search.
 13. The reading of loops itself is tried: of the loops in SAMPLES each is found where a turn of it may cost no step, and no other.
-14. A name that a list here has is that of one function: in its crate, or in its file where the list is of a file, no other has it, and one
-   has it. Nor has another the name of one whose calls cost a step.
+14. A name of the lists of rules 9 and 10 is that of one function, and so is that of a function whose calls cost a step.
 
 What stands behind `#[cfg(test)]` is a test, also in a file of its own; a file without that is none, whatever its name.
 
@@ -173,7 +172,8 @@ ALLOCATOR = re.compile(r"\ballocator\(")
 TAKES = re.compile(r"(?:\.|Vec::)(?:push\w*|insert\w*|append|(?:try_)?reserve\w*|shrink_to\w*|resize|resize_with|extend|extend_from_slice|extend_from_within|to_vec|to_owned|collect|clone)\b|\bvec!")
 QUEUED = re.compile(r"bubble_pass/src/climber\.rt:\d+ .*\bself\.push\(|bubble_pass/src/\w+\.rt:\d+ .*\bclimber\.push\(")
 MATRIX = re.compile(r"\bMatrix\b")
-# the matrix behind the reads that are counted, in these functions alone, and the type of what hands it out
+# the matrix behind the reads that are counted, in these functions alone; where it comes in; its field, if that is open to others; and the
+# type of what hands it out
 VIEWED = re.compile(r"\bmatrix\b")
 MAKES_VIEW = re.compile(r"^\s*(?:ensures \{ result ≡ matrix\.now \}|pub fn new\(matrix: &'a Matrix\) -> Self|CountedRows \{ matrix \}|matrix: Matrix::new\(alloc, columns\)\?,)$")
 OPEN_VIEW = re.compile(r"\bpub(?:\([^)]*\))? matrix:")
@@ -198,6 +198,7 @@ NEXT = re.compile(r"^\s*while let Some\(\w+\) = (m\.next_counted|\w+)\(")
 CALLED = re.compile(r"(?<![\w.:])(\w+)\(")
 # where a name that stands for counted rows or their counter is given to another value, in a body or in a head
 HIDDEN = re.compile(r"\b(?:let|let mut|for) (?:m|steps)\b|(?<![\w)])\((?:m|steps)\) =|\|(?:m|steps)[|,:]|\b(?:Some|Ok)\((?:m|steps)\) (?:=|if)")
+GIVEN_NAME = re.compile(r"\b(?:let|let mut|as) (\w+)\b")
 MEANS = re.compile(r"\bm: (?!&CountedRows,|&Matrix,|&'a CountedRows<'a>,)|\bsteps: (?!&mut Steps<L>[,)])")
 # the type of a list; a name that has it, and one that a call of a function or of a method gives it
 LIST = r"(?:&(?:'\w+ )?(?:mut )?)?(?:\[|Vec(?:Deque)?<)"
@@ -562,6 +563,10 @@ def shared_names():
         for name, place in found:
             if name == "tick" or name.endswith("_counted"):
                 yield f"{place}: {name} has the name of what counts a step"
+        paying = costing(crate, COSTS) | costing(crate, SOME_COSTS)
+        for place, line in code(crate):
+            for name in paying.intersection(GIVEN_NAME.findall(line)):
+                yield f"{place}: gives another the name of {name}, whose calls cost a step: {line}"
     named = [name for name, lines in functions("row_model") if COUNTED_ROWS in lines[0][0]]
     for name in sorted(VIEWS):
         if named.count(name) != 1:
