@@ -35,6 +35,7 @@ pub fn meeting_reply<J: Judge, L: Ledger>(
         IsMeetingReply (column_count first.now) (outline first.now) (outline second.now)
         reply.status reply.text.items) }
     ensures status { IfOk result (λ reply. (reply.status ≡ 0) ⊎ (reply.status ≡ 1)) }
+    ensures asked { J.asked judge.new ≤ J.asked judge.old + 1 }
     ensures yes { IfSome J.costs (λ c. IfOk result (λ reply. reply.status ≡ 0
         → steps.new ≤ steps.old + c.yes (joint_matrix (column_count first.now) (outline first.now) (outline second.now)))) }
     ensures most { IfSome J.costs (λ c.

@@ -1,7 +1,7 @@
 -- A cycle of a part of a matrix as one of the whole matrix.
 use Rattle.std.proofs.Common.{◌≡◌, ◌≢◌, ◌∙◌, ℕ, zero, suc, ◌+◌, ◌-◌, ◌<◌, ◌≤◌, Bool, false, List, [], ◌∷◌, ◌++◌, length, take, drop, map, get_or, IsTrue, refl, sym, ap, subst, inl, inr, arith}
 use Rattle.std.proofs.lemmas.List.{length-map, get_or-map, get_or_default, length-append, length-take, length-take-le, length-drop, get_or-take, get_or-drop, take-append-drop, take-map}
-use Rattle.column_order.specs.Orders.{has, place}
+use Rattle.column_order.specs.Orders.{has, place, HasValidOrder}
 use Rattle.column_order.proofs.Lists.{has_append_cases, has_append_left, has_append_right, has_at, at_place}
 use Rattle.row_model.specs.declared.graph.Pair.{Pair}
 use Rattle.row_model.specs.declared.graph.Line.{Line}
@@ -191,6 +191,11 @@ pub some_blamed : BlameLaw → (m : RowList) (rows : List ℕ) (lines : List Lin
 some_blamed law m [] lines cycle among =
     absurd (law m [] lines (record { closed = cycle.closed; odd = cycle.simple.odd }) among (columns m.columns, record { order = columns_order m.columns; kept = λ i d l. absurd (omega (arith, l)) }))
 some_blamed law m (k ∷ rows) lines cycle among = omega arith
+
+-- and so is one of the rows that have no valid order
+pub some_row : (c : ℕ) (rows : List (List ℕ)) → (HasValidOrder c rows → ⊥) → 1 ≤ length rows
+some_row c [] none = absurd (none (columns c, record { order = columns_order c; kept = λ i d l. absurd (omega (arith, l)) }))
+some_row c (row ∷ rows) none = omega arith
 
 -- all rows make the whole matrix
 pub part_all : (m : RowList) → part_at m (range_with_len 1 (length m.rows)) ≡ m

@@ -36,7 +36,7 @@ pub enum Cored {
 /// A judge that goes through the rows in turn is asked once where there is a valid order, and else at most twice for
 /// each row of the core and once more. Any other judge is asked at most (n + 1)(2n + 1) + 1 times, n being the number
 /// of rows. Where a judge that goes through the rows in turn tells its costs, and no larger matrix costs more, an answer
-/// takes at most the steps of as many judgements of this matrix.
+/// takes at most the steps of as many judgements of this matrix. Where memory is refused, it takes at most those of 2n + 1.
 ///
 /// # Errors
 ///
@@ -55,6 +55,8 @@ pub fn find_core<J: Judge, L: Ledger>(
     ensures yes { IfSome J.costs (λ c. IfOk result (IsCoredWithin c m.now steps.old steps.new)) }
     ensures judgements { IsTrue J.in_turn
         → IfOk result (λ found. AreJudgements J.costs m.now (judgements_of found) steps.old steps.new) }
+    ensures any { IsTrue J.in_turn
+        → AreJudgements J.costs m.now (2 * length m.now.rows + 1) steps.old steps.new }
 {
     blame_law();
     match judged_short(alloc, judge, m, steps)? {
@@ -101,6 +103,8 @@ fn core_among<J: Judge, L: Ledger>(
         → IfOk result (λ core. (k : ℕ)
         × (k + (length blamed.rows.items - blamed.untried) ≤ 2 * length core.rows + 1)
         × AreJudgements J.costs m.now k steps.old steps.new) }
+    ensures any { IsTrue J.in_turn
+        → AreJudgements J.costs m.now (length blamed.rows.items + blamed.untried + 1) steps.old steps.new }
 {
     blame_law();
     let mut blamed = blamed;

@@ -47,6 +47,7 @@ pub fn all_tried<J: Judge, L: Ledger>(
     ensures judgements { IfOk result (λ found. (k : ℕ)
         × (k + (length blamed.rows.items - blamed.untried) ≤ length found.rows.items + 1)
         × AreJudgements J.costs m.now k steps.old steps.new) }
+    ensures any { AreJudgements J.costs m.now (blamed.untried + 1) steps.old steps.new }
 {
     let mut blamed = blamed;
     let mut told = 0;

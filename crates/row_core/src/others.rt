@@ -32,8 +32,7 @@ pub fn each_left_out<J: Judge, L: Ledger>(
     requires { IsNarrowed m.now set.now }
     ensures tried { IfOk result (IsTried m.now set.now.rows.items) }
     ensures asked { IfOk result (λ _. J.asked judge.new ≤ J.asked judge.old + length set.now.rows.items) }
-    ensures judgements { IfOk result (λ _.
-        AreJudgements J.costs m.now (length set.now.rows.items) steps.old steps.new) }
+    ensures judgements { AreJudgements J.costs m.now (length set.now.rows.items) steps.old steps.new }
 {
     let mut orders = Orders::new(alloc);
     for i in 0..set.rows.len() {

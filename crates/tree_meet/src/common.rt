@@ -25,7 +25,8 @@ pub enum Met {
 
 /// All orders that both trees stand for: a tree of them, or why there is none.
 ///
-/// Where the judge tells its costs, the steps are at most those of one judgement of the matrix of the rows of both trees.
+/// The judge is asked once at most. Where it tells its costs, the steps are at most those of one judgement of the matrix
+/// of the rows of both trees.
 ///
 /// # Errors
 ///
@@ -40,6 +41,7 @@ pub fn meet<J: Judge, L: Ledger>(
     requires same { column_count second.now ≡ column_count first.now }
     requires few { column_count first.now ≤ MAX_COLUMNS }
     ensures met { IfOk result (IsMet (column_count first.now) (outline first.now) (outline second.now)) }
+    ensures asked { J.asked judge.new ≤ J.asked judge.old + 1 }
     ensures yes { IfSome J.costs (λ c.
         IfOk result (IsMetWithin c (joint_matrix (column_count first.now) (outline first.now) (outline second.now)) steps.old steps.new)) }
     ensures most { IfSome J.costs (λ c.

@@ -9,7 +9,7 @@ use Rattle.row_judge.specs.Judges.{HasShortCycle, IsFirstConflict}
 use Rattle.core_text.specs.Cores.{AreRowNumbers, rows_at}
 use Rattle.row_core.specs.Blamed.{part_at, rotated}
 use Rattle.row_core.proofs.Numbers.{ascends_all, rows_at_all}
-use Rattle.row_core.proofs.Whole.{reasons_within, some_blamed, part_all, length-rotated}
+use Rattle.row_core.proofs.Whole.{reasons_within, some_blamed, some_row, part_all, length-rotated}
 use Rattle.row_core.proofs.find.find_core.Goals as goal
 
 pub blame-requires-clause-within : goal.blame-requires-clause-within
@@ -72,3 +72,26 @@ returns-in_ok-core-in-No-clause-most g c =
     let all : c.deref.result.now ≡ range_with_len 1 (length m.rows) = c.deref.ensures.value ∙ c.in_ok-all-in-No.ensures in
     let few : length c.in_ok-blamed-in-No.blamed.rows.items ≤ length m.rows = omega (arith, c.in_ok-blamed-in-No.ensures.few, ap length all, length-range_with_len 1 (length m.rows)) in
     all_rounds _ _ _ (length c.in_ok-blamed-in-No.blamed.rows.items) (length m.rows) few c.judged_short.ensures.asked c.in_ok-core-in-No.ensures.most
+
+-- with an error too
+pub returns-in_err-core-in-No-clause-any : goal.returns-in_err-core-in-No-clause-any
+returns-in_err-core-in-No-clause-any g c = λ turn.
+    let m = c.args.m.now in
+    let all : c.deref.result.now ≡ range_with_len 1 (length m.rows) = c.deref.ensures.value ∙ c.in_ok-all-in-No.ensures in
+    let many = length c.in_ok-blamed-in-No.blamed.rows.items + c.in_ok-blamed-in-No.blamed.untried + 1 in
+    let few : length c.in_ok-blamed-in-No.blamed.rows.items ≤ length m.rows = omega (arith, c.in_ok-blamed-in-No.ensures.few, ap length all, length-range_with_len 1 (length m.rows)) in
+    let judgement = rw c.in-No.is at c.in_ok-tree.ensures.judged in
+    let some : 1 ≤ length m.rows = some_row m.columns m.rows judgement.1 in
+    fewer_judged g.J.Judge.costs m (1 + many) (2 * length m.rows + 1) c.args.steps.now c.core_among.new.steps (omega (arith, few, some, c.in_ok-blamed-in-No.ensures.more.1))
+    (more_judged g.J.Judge.costs m 1 many c.args.steps.now c.judged_short.new.steps c.core_among.new.steps (whole_judged g.J.Judge.costs m c.args.steps.now c.judged_short.new.steps c.judged_short.ensures.most) (c.core_among.ensures.any turn))
+
+pub returns-in_ok-core-in-No-clause-any : goal.returns-in_ok-core-in-No-clause-any
+returns-in_ok-core-in-No-clause-any g c = λ turn.
+    let m = c.args.m.now in
+    let all : c.deref.result.now ≡ range_with_len 1 (length m.rows) = c.deref.ensures.value ∙ c.in_ok-all-in-No.ensures in
+    let many = length c.in_ok-blamed-in-No.blamed.rows.items + c.in_ok-blamed-in-No.blamed.untried + 1 in
+    let few : length c.in_ok-blamed-in-No.blamed.rows.items ≤ length m.rows = omega (arith, c.in_ok-blamed-in-No.ensures.few, ap length all, length-range_with_len 1 (length m.rows)) in
+    let judgement = rw c.in-No.is at c.in_ok-tree.ensures.judged in
+    let some : 1 ≤ length m.rows = some_row m.columns m.rows judgement.1 in
+    fewer_judged g.J.Judge.costs m (1 + many) (2 * length m.rows + 1) c.args.steps.now c.core_among.new.steps (omega (arith, few, some, c.in_ok-blamed-in-No.ensures.more.1))
+    (more_judged g.J.Judge.costs m 1 many c.args.steps.now c.judged_short.new.steps c.core_among.new.steps (whole_judged g.J.Judge.costs m c.args.steps.now c.judged_short.new.steps c.judged_short.ensures.most) (c.core_among.ensures.any turn))

@@ -63,3 +63,26 @@ returns-in-Refused-clause-judgements g c =
     let i = c.loop-i.i in
     fewer_judged g.J.Judge.costs m (i + 1) (length c.args.set.now.rows.items) c.args.steps.now c.judged.new.steps (omega arith)
     (more_judged g.J.Judge.costs m i 1 c.args.steps.now c.loop-i.steps c.judged.new.steps c.loop-i.invariant.judgements c.judged.ensures.judgements)
+
+-- an error comes after no more judgements than there are rows
+pub returns-in_err-push-clause-judgements : goal.returns-in_err-push-clause-judgements
+returns-in_err-push-clause-judgements g c =
+    fewer_judged g.J.Judge.costs c.args.m.now c.loop-i.i (length c.args.set.now.rows.items) c.args.steps.now c.loop-i.steps (omega arith) c.loop-i.invariant.judgements
+
+pub returns-in_err-others-clause-judgements : goal.returns-in_err-others-clause-judgements
+returns-in_err-others-clause-judgements g c =
+    fewer_judged g.J.Judge.costs c.args.m.now c.loop-i.i (length c.args.set.now.rows.items) c.args.steps.now c.loop-i.steps (omega arith) c.loop-i.invariant.judgements
+
+pub returns-in_err-tree-clause-judgements : goal.returns-in_err-tree-clause-judgements
+returns-in_err-tree-clause-judgements g c =
+    let m = c.args.m.now in
+    let i = c.loop-i.i in
+    fewer_judged g.J.Judge.costs m (i + 1) (length c.args.set.now.rows.items) c.args.steps.now c.judged.new.steps (omega arith)
+    (more_judged g.J.Judge.costs m i 1 c.args.steps.now c.loop-i.steps c.judged.new.steps c.loop-i.invariant.judgements c.judged.ensures.judgements)
+
+pub returns-in_err-push_leaves-in-Ordered-clause-judgements : goal.returns-in_err-push_leaves-in-Ordered-clause-judgements
+returns-in_err-push_leaves-in-Ordered-clause-judgements g c =
+    let m = c.args.m.now in
+    let i = c.loop-i.i in
+    fewer_judged g.J.Judge.costs m (i + 1) (length c.args.set.now.rows.items) c.args.steps.now c.judged.new.steps (omega arith)
+    (more_judged g.J.Judge.costs m i 1 c.args.steps.now c.loop-i.steps c.judged.new.steps c.loop-i.invariant.judgements c.judged.ensures.judgements)
