@@ -4,6 +4,7 @@ ghost use Rattle.row_model.specs.Graph.{row_at};
 ghost use Rattle.row_model.specs.Rows.{IsRow};
 ghost use Rattle.column_order.specs.Orders.{HasValidOrder};
 ghost use Rattle.pq_tree.specs.PqTree.{outline};
+ghost use Rattle.pq_tree.specs.Proper.{IsProper};
 ghost use Rattle.tied_law.specs.Tied.{IsTied};
 ghost use Rattle.arena_model.specs.NamedTree.{outline_at};
 ghost use Rattle.c1p_solve.specs.Answers.{HasAllOrders};
@@ -126,6 +127,7 @@ impl Session {
         ensures decision { IfOk result (IsDecision (with_row self.old.matrix row.now) explain) }
         ensures session { IfOk result (StandsAfter self.old row.now self.new) }
         ensures kept { IsSession self.new }
+        ensures proper { IfOk result (λ t. t ≢ Taken.Ok → IsProper self.old.matrix.columns self.old.tree) }
         ensures err { OnErr result (self.new ≡ self.old) }
         ensures total { IfOk result (IsRowTotal self.old.matrix.columns (with_row self.old.matrix row.now).rows row.now self.old.tree self.new.tree steps.old steps.new) }
         ensures most { steps.new ≤ steps.old + row_steps self.old.matrix.columns (with_row self.old.matrix row.now).rows row.now self.old.tree explain }
@@ -187,6 +189,7 @@ fn reduce_last<L: Ledger>(
     ensures tied { IfOk result (λ t. t ≡ Taken.Ok → IsTied m.now.columns m.now.rows (outline_at reducer.new)) }
     ensures columns { reducer.new.columns ≡ reducer.old.columns }
     ensures unchanged { IfOk result (λ t. t ≢ Taken.Ok → outline_at reducer.new ≡ outline_at reducer.old) }
+    ensures proper { IfOk result (λ t. t ≢ Taken.Ok → IsProper m.now.columns (outline_at reducer.old)) }
     ensures err { OnErr result (outline_at reducer.new ≡ outline_at reducer.old) }
     ensures total { IfOk result (IsRowTotal m.now.columns m.now.rows (row_at m.now.rows (length m.now.rows)) (outline_at reducer.old) (outline_at reducer.new) steps.old steps.new) }
     ensures most { steps.new ≤ steps.old + row_steps m.now.columns m.now.rows (row_at m.now.rows (length m.now.rows)) (outline_at reducer.old) explain }

@@ -66,6 +66,10 @@ fewer_judged (Some c) m j k s n l h = λ monotone.
     let times : j * c.any m ≤ k * c.any m = mul-le-mul_right (c.any m) l in
     omega (arith, times, h monotone)
 
+-- so many in all
+pub judged_within : (costs : Option Costs) (m : RowList) (j k most s n o : ℕ) → j + k ≤ most → AreJudgements costs m j s n → AreJudgements costs m k n o → AreJudgements costs m most s o
+judged_within costs m j k most s n o l first later = fewer_judged costs m (j + k) most s o l (more_judged costs m j k s n o first later)
+
 -- the judgement of a part, and of the whole
 pub part_judged : (costs : Option Costs) (part m : RowList) (needed : ℕ) (list : List ℕ) (s n : ℕ) → part ≡ part_at m list → AreRowNumbers (length m.rows) (rotated needed list) →
     IfSome costs (λ c. n ≤ s + c.any part) → AreJudgements costs m 1 s n

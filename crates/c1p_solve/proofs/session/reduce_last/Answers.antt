@@ -30,3 +30,13 @@ returns-in_err-cycle-in-Refused-clause-failed g c =
     on_err c.from_residual.result (refused_with_cycle (row_at c.args.m.now.rows c.rows.result) c.args.m.now.columns c.rows-in-Refused.result c.args.m.now.rows (outline_at c.args.reducer.now) c.args.explain c.args.steps.now
     c.reduce_row.new.steps c.conflict.new.steps (subst (λ (n : ℕ). IsProper n (outline_at c.args.reducer.now)) c.requires.columns before) c.if-explain.true c.rows-in-Refused.ensures
     c.reduce_row.ensures.ticks c.conflict.ensures.ticks)
+
+pub returns-in-Refused-2-clause-proper : goal.returns-in-Refused-2-clause-proper
+returns-in-Refused-2-clause-proper g c = λ refused.
+    let before = subst (λ (r : Layout). IsProper r.columns (outline_at r)) (c.reduce_row.ensures.unchanged c.in-Refused.is) c.reduce_row.ensures.proper in
+    subst (λ (n : ℕ). IsProper n (outline_at c.args.reducer.now)) c.requires.columns before
+
+pub returns-in_ok-cycle-in-Refused-clause-proper : goal.returns-in_ok-cycle-in-Refused-clause-proper
+returns-in_ok-cycle-in-Refused-clause-proper g c = λ refused.
+    let before = subst (λ (r : Layout). IsProper r.columns (outline_at r)) (c.reduce_row.ensures.unchanged c.in-Refused.is) c.reduce_row.ensures.proper in
+    subst (λ (n : ℕ). IsProper n (outline_at c.args.reducer.now)) c.requires.columns before

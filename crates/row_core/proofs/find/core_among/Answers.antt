@@ -1,8 +1,8 @@
 use Rattle.std.proofs.Common.{◌+◌, length, arith}
-use Rattle.row_core.proofs.Judgements.{none_judged, more_judged, fewer_judged}
+use Rattle.row_core.proofs.Judgements.{none_judged, more_judged, judged_within}
 use Rattle.row_core.proofs.Numbers.{increasing}
 use Rattle.row_core.proofs.Told.{tells_core}
-use Rattle.row_core.proofs.Rounds.{one_round, last_round}
+use Rattle.row_core.proofs.Rounds.{one_round, last_round, round_fails, round_ends}
 use Rattle.row_core.proofs.find.core_among.Goals as goal
 
 pub of-requires-clause-ascending : goal.of-requires-clause-ascending
@@ -59,34 +59,26 @@ returns-in-Orders-clause-judgements g c = λ turn.
 -- with an error too: no second round begins
 pub returns-in_err-set-clause-any : goal.returns-in_err-set-clause-any
 returns-in_err-set-clause-any g c = λ turn.
-    let m = c.args.m.now in
-    let costs = g.J.Judge.costs in
     let before = c.rounds.invariant.judgements turn in
-    let now = c.rounds.blamed.untried + 1 in
-    fewer_judged costs m (before.0 + now) (length c.args.blamed.rows.items + c.args.blamed.untried + 1) c.args.steps.now c.all_tried.new.steps
-    (omega (arith, before.1, c.rounds.invariant.few, c.rounds.invariant.blamed.few, c.requires.blamed.few))
-    (more_judged costs m before.0 now c.args.steps.now c.rounds.steps c.all_tried.new.steps before.2 c.all_tried.ensures.any)
+    judged_within g.J.Judge.costs c.args.m.now before.0 (c.rounds.blamed.untried + 1) (length c.args.blamed.rows.items + c.args.blamed.untried + 1) c.args.steps.now c.rounds.steps c.all_tried.new.steps
+    (round_fails before.0 _ _ _ _ before.1 c.rounds.invariant.blamed.few c.rounds.invariant.few c.requires.blamed.few) before.2 c.all_tried.ensures.any
 
 pub returns-in_err-orders-clause-any : goal.returns-in_err-orders-clause-any
 returns-in_err-orders-clause-any g c = λ turn.
     let m = c.args.m.now in
-    let costs = g.J.Judge.costs in
     let before = c.rounds.invariant.judgements turn in
     let set = c.in_ok-set.ensures.judgements in
     let many = length c.in_ok-set.set.rows.items in
-    fewer_judged costs m (before.0 + set.0 + many) (length c.args.blamed.rows.items + c.args.blamed.untried + 1) c.args.steps.now c.each_left_out.new.steps
-    (omega (arith, before.1, set.1, c.in_ok-set.ensures.few, c.rounds.invariant.few, c.rounds.invariant.blamed.few, c.requires.blamed.few))
-    (more_judged costs m (before.0 + set.0) many c.args.steps.now c.all_tried.new.steps c.each_left_out.new.steps
-    (more_judged costs m before.0 set.0 c.args.steps.now c.rounds.steps c.all_tried.new.steps before.2 set.2) c.each_left_out.ensures.judgements)
+    judged_within g.J.Judge.costs m (before.0 + set.0) many (length c.args.blamed.rows.items + c.args.blamed.untried + 1) c.args.steps.now c.all_tried.new.steps c.each_left_out.new.steps
+    (round_ends before.0 set.0 many _ _ _ _ before.1 set.1 c.in_ok-set.ensures.few c.rounds.invariant.blamed.few c.rounds.invariant.few c.requires.blamed.few)
+    (more_judged g.J.Judge.costs m before.0 set.0 c.args.steps.now c.rounds.steps c.all_tried.new.steps before.2 set.2) c.each_left_out.ensures.judgements
 
 pub returns-in-Orders-clause-any : goal.returns-in-Orders-clause-any
 returns-in-Orders-clause-any g c = λ turn.
     let m = c.args.m.now in
-    let costs = g.J.Judge.costs in
     let before = c.rounds.invariant.judgements turn in
     let set = c.in_ok-set.ensures.judgements in
     let many = length c.in_ok-set.set.rows.items in
-    fewer_judged costs m (before.0 + set.0 + many) (length c.args.blamed.rows.items + c.args.blamed.untried + 1) c.args.steps.now c.each_left_out.new.steps
-    (omega (arith, before.1, set.1, c.in_ok-set.ensures.few, c.rounds.invariant.few, c.rounds.invariant.blamed.few, c.requires.blamed.few))
-    (more_judged costs m (before.0 + set.0) many c.args.steps.now c.all_tried.new.steps c.each_left_out.new.steps
-    (more_judged costs m before.0 set.0 c.args.steps.now c.rounds.steps c.all_tried.new.steps before.2 set.2) c.each_left_out.ensures.judgements)
+    judged_within g.J.Judge.costs m (before.0 + set.0) many (length c.args.blamed.rows.items + c.args.blamed.untried + 1) c.args.steps.now c.all_tried.new.steps c.each_left_out.new.steps
+    (round_ends before.0 set.0 many _ _ _ _ before.1 set.1 c.in_ok-set.ensures.few c.rounds.invariant.blamed.few c.rounds.invariant.few c.requires.blamed.few)
+    (more_judged g.J.Judge.costs m before.0 set.0 c.args.steps.now c.rounds.steps c.all_tried.new.steps before.2 set.2) c.each_left_out.ensures.judgements

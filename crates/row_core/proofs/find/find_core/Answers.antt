@@ -2,8 +2,8 @@ use Rattle.std.proofs.Common.{◌≡◌, ◌∙◌, ◌+◌, ◌*◌, ◌≤◌,
 use Rattle.std.proofs.lemmas.List.{append-nil}
 use Rattle.std.proofs.lemmas.List.FromFn.{length-range_with_len}
 use Rattle.std.specs.List.{range_with_len}
-use Rattle.row_core.proofs.Judgements.{more_judged, fewer_judged, whole_judged}
-use Rattle.row_core.proofs.Rounds.{all_rounds}
+use Rattle.row_core.proofs.Judgements.{more_judged, fewer_judged, judged_within, whole_judged}
+use Rattle.row_core.proofs.Rounds.{all_rounds, rows_twice}
 use Rattle.row_model.specs.Cycles.{IsOddCycle}
 use Rattle.row_judge.specs.Judges.{HasShortCycle, IsFirstConflict}
 use Rattle.core_text.specs.Cores.{AreRowNumbers, rows_at}
@@ -77,21 +77,19 @@ returns-in_ok-core-in-No-clause-most g c =
 pub returns-in_err-core-in-No-clause-any : goal.returns-in_err-core-in-No-clause-any
 returns-in_err-core-in-No-clause-any g c = λ turn.
     let m = c.args.m.now in
-    let all : c.deref.result.now ≡ range_with_len 1 (length m.rows) = c.deref.ensures.value ∙ c.in_ok-all-in-No.ensures in
-    let many = length c.in_ok-blamed-in-No.blamed.rows.items + c.in_ok-blamed-in-No.blamed.untried + 1 in
-    let few : length c.in_ok-blamed-in-No.blamed.rows.items ≤ length m.rows = omega (arith, c.in_ok-blamed-in-No.ensures.few, ap length all, length-range_with_len 1 (length m.rows)) in
     let judgement = rw c.in-No.is at c.in_ok-tree.ensures.judged in
-    let some : 1 ≤ length m.rows = some_row m.columns m.rows judgement.1 in
-    fewer_judged g.J.Judge.costs m (1 + many) (2 * length m.rows + 1) c.args.steps.now c.core_among.new.steps (omega (arith, few, some, c.in_ok-blamed-in-No.ensures.more.1))
-    (more_judged g.J.Judge.costs m 1 many c.args.steps.now c.judged_short.new.steps c.core_among.new.steps (whole_judged g.J.Judge.costs m c.args.steps.now c.judged_short.new.steps c.judged_short.ensures.most) (c.core_among.ensures.any turn))
+    let all : c.deref.result.now ≡ range_with_len 1 (length m.rows) = c.deref.ensures.value ∙ c.in_ok-all-in-No.ensures in
+    let blamed = c.in_ok-blamed-in-No.blamed in
+    let few : length blamed.rows.items ≤ length m.rows = subst (λ k. length blamed.rows.items ≤ k) (ap length all ∙ length-range_with_len 1 (length m.rows)) c.in_ok-blamed-in-No.ensures.few in
+    judged_within g.J.Judge.costs m 1 (length blamed.rows.items + blamed.untried + 1) (2 * length m.rows + 1) c.args.steps.now c.judged_short.new.steps c.core_among.new.steps
+    (rows_twice _ _ _ (some_row m.columns m.rows judgement.1) few c.in_ok-blamed-in-No.ensures.more.1) (whole_judged g.J.Judge.costs m c.args.steps.now c.judged_short.new.steps c.judged_short.ensures.most) (c.core_among.ensures.any turn)
 
 pub returns-in_ok-core-in-No-clause-any : goal.returns-in_ok-core-in-No-clause-any
 returns-in_ok-core-in-No-clause-any g c = λ turn.
     let m = c.args.m.now in
-    let all : c.deref.result.now ≡ range_with_len 1 (length m.rows) = c.deref.ensures.value ∙ c.in_ok-all-in-No.ensures in
-    let many = length c.in_ok-blamed-in-No.blamed.rows.items + c.in_ok-blamed-in-No.blamed.untried + 1 in
-    let few : length c.in_ok-blamed-in-No.blamed.rows.items ≤ length m.rows = omega (arith, c.in_ok-blamed-in-No.ensures.few, ap length all, length-range_with_len 1 (length m.rows)) in
     let judgement = rw c.in-No.is at c.in_ok-tree.ensures.judged in
-    let some : 1 ≤ length m.rows = some_row m.columns m.rows judgement.1 in
-    fewer_judged g.J.Judge.costs m (1 + many) (2 * length m.rows + 1) c.args.steps.now c.core_among.new.steps (omega (arith, few, some, c.in_ok-blamed-in-No.ensures.more.1))
-    (more_judged g.J.Judge.costs m 1 many c.args.steps.now c.judged_short.new.steps c.core_among.new.steps (whole_judged g.J.Judge.costs m c.args.steps.now c.judged_short.new.steps c.judged_short.ensures.most) (c.core_among.ensures.any turn))
+    let all : c.deref.result.now ≡ range_with_len 1 (length m.rows) = c.deref.ensures.value ∙ c.in_ok-all-in-No.ensures in
+    let blamed = c.in_ok-blamed-in-No.blamed in
+    let few : length blamed.rows.items ≤ length m.rows = subst (λ k. length blamed.rows.items ≤ k) (ap length all ∙ length-range_with_len 1 (length m.rows)) c.in_ok-blamed-in-No.ensures.few in
+    judged_within g.J.Judge.costs m 1 (length blamed.rows.items + blamed.untried + 1) (2 * length m.rows + 1) c.args.steps.now c.judged_short.new.steps c.core_among.new.steps
+    (rows_twice _ _ _ (some_row m.columns m.rows judgement.1) few c.in_ok-blamed-in-No.ensures.more.1) (whole_judged g.J.Judge.costs m c.args.steps.now c.judged_short.new.steps c.judged_short.ensures.most) (c.core_among.ensures.any turn)

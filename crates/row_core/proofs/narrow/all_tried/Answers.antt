@@ -6,9 +6,10 @@ use Rattle.pq_tree.specs.Outline.{leaves}
 use Rattle.pq_tree.specs.PqTree.{outline}
 use Rattle.row_core.specs.Blamed.{IsBlamed, AreNeeded, AreTold}
 use Rattle.row_core.specs.declared.blamed.Blamed.{Blamed}
-use Rattle.row_core.proofs.Judgements.{none_judged, more_judged, fewer_judged}
+use Rattle.row_core.proofs.Judgements.{none_judged, more_judged, fewer_judged, judged_within}
 use Rattle.row_core.proofs.Needed.{needed_others, needed_more, rotated_others, length-others}
 use Rattle.row_core.proofs.Numbers.{ascends_without}
+use Rattle.row_core.proofs.Rounds.{tried_all, tried_one}
 use Rattle.row_core.proofs.Told.{order_without, told_more, none_told}
 use Rattle.row_core.proofs.narrow.all_tried.Goals.{in-Ordered+in_ok-push_leaves-in-Ordered, in-Refused}
 use Rattle.row_core.proofs.narrow.all_tried.Goals as goal
@@ -138,21 +139,21 @@ returns-clause-narrowed g c =
 pub returns-clause-any : goal.returns-clause-any
 returns-clause-any g c =
     let before = c.rounds.invariant.judgements in
-    fewer_judged g.J.Judge.costs c.args.m.now before.0 (c.args.blamed.untried + 1) c.args.steps.now c.rounds.steps (omega (arith, before.2, c.rounds.invariant.few, c.requires.few)) before.3
+    fewer_judged g.J.Judge.costs c.args.m.now before.0 (c.args.blamed.untried + 1) c.args.steps.now c.rounds.steps (tried_all before.0 _ _ _ _ before.2 c.rounds.invariant.few c.requires.few) before.3
 
 pub returns-in_err-others-clause-any : goal.returns-in_err-others-clause-any
 returns-in_err-others-clause-any g c =
     let before = c.rounds.invariant.judgements in
-    fewer_judged g.J.Judge.costs c.args.m.now before.0 (c.args.blamed.untried + 1) c.args.steps.now c.rounds.steps (omega (arith, before.2, c.rounds.invariant.few, c.requires.few)) before.3
+    fewer_judged g.J.Judge.costs c.args.m.now before.0 (c.args.blamed.untried + 1) c.args.steps.now c.rounds.steps (tried_all before.0 _ _ _ _ before.2 c.rounds.invariant.few c.requires.few) before.3
 
 pub returns-in_err-tree-clause-any : goal.returns-in_err-tree-clause-any
 returns-in_err-tree-clause-any g c =
     let before = c.rounds.invariant.judgements in
-    fewer_judged g.J.Judge.costs c.args.m.now (before.0 + 1) (c.args.blamed.untried + 1) c.args.steps.now c.judged.new.steps (omega (arith, before.1 c.rounds-test.true, c.rounds-test.true, c.rounds.invariant.few, c.requires.few))
-    (more_judged g.J.Judge.costs c.args.m.now before.0 1 c.args.steps.now c.rounds.steps c.judged.new.steps before.3 c.judged.ensures.judgements)
+    judged_within g.J.Judge.costs c.args.m.now before.0 1 (c.args.blamed.untried + 1) c.args.steps.now c.rounds.steps c.judged.new.steps
+    (tried_one before.0 _ _ _ _ (before.1 c.rounds-test.true) c.rounds-test.true c.rounds.invariant.few c.requires.few) before.3 c.judged.ensures.judgements
 
 pub returns-in_err-push_leaves-in-Ordered-clause-any : goal.returns-in_err-push_leaves-in-Ordered-clause-any
 returns-in_err-push_leaves-in-Ordered-clause-any g c =
     let before = c.rounds.invariant.judgements in
-    fewer_judged g.J.Judge.costs c.args.m.now (before.0 + 1) (c.args.blamed.untried + 1) c.args.steps.now c.judged.new.steps (omega (arith, before.1 c.rounds-test.true, c.rounds-test.true, c.rounds.invariant.few, c.requires.few))
-    (more_judged g.J.Judge.costs c.args.m.now before.0 1 c.args.steps.now c.rounds.steps c.judged.new.steps before.3 c.judged.ensures.judgements)
+    judged_within g.J.Judge.costs c.args.m.now before.0 1 (c.args.blamed.untried + 1) c.args.steps.now c.rounds.steps c.judged.new.steps
+    (tried_one before.0 _ _ _ _ (before.1 c.rounds-test.true) c.rounds-test.true c.rounds.invariant.few c.requires.few) before.3 c.judged.ensures.judgements
