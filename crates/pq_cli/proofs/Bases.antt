@@ -1,5 +1,5 @@
 -- A matrix and further rows over its columns, as their files are read.
-use Rattle.std.proofs.Common.{◌≡◌, ◌∙◌, ℕ, List, [], ◌∷◌, Some, ap, sym, subst}
+use Rattle.std.proofs.Common.{◌≡◌, ◌∙◌, ℕ, List, [], ◌∷◌, Some, None, ap, sym, subst}
 use Rattle.row_model.specs.Rows.{RowList}
 use Rattle.row_model.specs.declared.kind.Kind.{Kind}
 use Rattle.row_model.specs.declared.refusal.Refusal.{Refusal}
@@ -24,6 +24,11 @@ pub further_refused : (kind : Kind) (file rows bytes given : List ℕ) (m : RowL
     → read.Refused refusal ≡ further c given → refusal_of (Extend kind file rows) (bytes ∷ given ∷ []) ≡ Some (2, refusal)
 further_refused kind file rows bytes given m c refusal base over refused =
     ap (λ j. refused_of_two j (λ (i : InstanceValue). further (derived_matrix i 1).columns given)) base ∙ ap (λ n. refused_at 2 (further n given)) (sym over) ∙ ap (refused_at 2) (sym refused)
+
+pub further_accepted : (kind : Kind) (file rows bytes given : List ℕ) (m n : RowList) (c : ℕ) → instance_of kind bytes ≡ read.Ok (plain kind m)
+    → c ≡ m.columns → read.Ok n ≡ further c given → refusal_of (Extend kind file rows) (bytes ∷ given ∷ []) ≡ None
+further_accepted kind file rows bytes given m n c base over made =
+    ap (λ j. refused_of_two j (λ (i : InstanceValue). further (derived_matrix i 1).columns given)) base ∙ ap (λ k. refused_at 2 (further k given)) (sym over) ∙ ap (refused_at 2) (sym made)
 
 pub further_read : (given : List ℕ) (m n : RowList) (c : ℕ) → c ≡ m.columns → read.Ok n ≡ further c given → further m.columns given ≡ read.Ok n
 further_read given m n c over made = ap (λ k. further k given) (sym over) ∙ sym made

@@ -1,5 +1,5 @@
 -- What the steps of a command come to, by the steps of the call that makes its reply.
-use Rattle.std.proofs.Common.{◌≡◌, ◌⊎◌, ℕ, List, [], ◌∷◌, ◌++◌, inl, inr, arith, subst, sym, ◌∙◌, ap, append_assoc, append-nil, refl, Option, Some, IfSome}
+use Rattle.std.proofs.Common.{◌≡◌, ◌≢◌, ◌⊎◌, ℕ, List, [], ◌∷◌, ◌++◌, inl, inr, arith, subst, sym, ◌∙◌, ap, append_assoc, append-nil, refl, Option, Some, None, IfSome}
 use Rattle.std.specs.Prelude.{Result, Ok, Err, IsErrAnd}
 use Rattle.row_model.specs.Rows.{RowList}
 use Rattle.row_model.specs.declared.refusal.Read.{Read}
@@ -10,8 +10,9 @@ use Rattle.command_input.specs.Words.{Command, Solve, Check, Extend, Core, Check
 use Rattle.verdict_replies.specs.declared.reply.Reply.{Reply}
 use Rattle.solve_replies.specs.Steps.{SolvesMatrixWithin, SolvesWithin}
 use Rattle.solve_replies.specs.Charges.{ExtendsWithin}
+use Rattle.reply_laws.specs.Replies.{refusal_of}
 use Rattle.pq_cli.specs.Reading.{ReadsFile}
-use Rattle.pq_cli.specs.Runs.{OfTaken}
+use Rattle.pq_cli.specs.Runs.{OfTaken, taken_since}
 use Rattle.pq_cli.specs.Stops.{stop_status, reply_status}
 use Rattle.pq_cli.specs.Steps.{StepsOn, CountsSteps, CountsReply}
 use Rattle.pq_cli.specs.declared.stop.Stop.{Stop}
@@ -49,7 +50,7 @@ stands (Extend kind file more) (_ ∷ []) status s low = refl
 stands (Extend kind file more) (_ ∷ _ ∷ []) status s low = λ m rows made told. extension_stands m rows.rows status s low
 stands (Extend kind file more) (_ ∷ _ ∷ _ ∷ _) status s low = refl
 stands (Core kind file) [] status s low = refl
-stands (Core kind file) (_ ∷ []) status s low = λ m made. record { none = λ e. absurd (low (inr e)); core = λ e. absurd (low (inl e)) }
+stands (Core kind file) (_ ∷ []) status s low = λ m made. record { none = λ e. absurd (low (inr e)); core = λ e. absurd (low (inl e)); most = omega arith }
 stands (Core kind file) (_ ∷ _ ∷ _) status s low = refl
 stands (Meet columns first second) [] status s low = refl
 stands (Meet columns first second) (_ ∷ []) status s low = refl
@@ -78,7 +79,7 @@ cut_short (Extend kind file more) (_ ∷ _ ∷ []) status s n w =
     λ m rows made told. record { base = λ e. absurd (omega (arith, e)); session = λ e. absurd (omega (arith, e)); most = (w m rows made told).most }
 cut_short (Extend kind file more) (_ ∷ _ ∷ _ ∷ _) status s n w = w
 cut_short (Core kind file) [] status s n w = w
-cut_short (Core kind file) (_ ∷ []) status s n w = λ m made. record { none = λ e. absurd (omega (arith, e)); core = λ e. absurd (omega (arith, e)) }
+cut_short (Core kind file) (_ ∷ []) status s n w = λ m made. record { none = λ e. absurd (omega (arith, e)); core = λ e. absurd (omega (arith, e)); most = (w m made).most }
 cut_short (Core kind file) (_ ∷ _ ∷ _) status s n w = w
 cut_short (Meet columns first second) [] status s n w = w
 cut_short (Meet columns first second) (_ ∷ []) status s n w = w
@@ -97,7 +98,14 @@ no_reply_status (Err stop.NoMemory) P h e = elim e [ inl f ↦ omega (arith, f) 
 
 -- a file is read, or stands in the way, and no step is taken
 pub counts_none : {S : Type 0} (taken : S → List Taken) (old new : S) (c : Command) (r : Result Reply Stop) (P : Stop → Type 0) (s : ℕ) → IsErrAnd r P → CountsReply taken old new c r s s
-counts_none taken old new c r P s h = record { none = λ e. refl; steps = λ files f. stands c files (reply_status r) s (no_reply_status r P h) }
+counts_none taken old new c r P s h = record { none = λ e. refl; refused = λ files f d. refl; steps = λ files f. stands c files (reply_status r) s (no_reply_status r P h) }
+
+-- no step is taken for files of which none is refused, if one is
+abbrev WhereRefused : Command → ℕ → ℕ → List (List ℕ) → Type 0
+WhereRefused c s n files = refusal_of c files ≢ None → n ≡ s
+
+accepted : (c : Command) (s n : ℕ) (files : List (List ℕ)) → refusal_of c files ≡ None → WhereRefused c s n files
+accepted c s n files e d = absurd (d e)
 
 -- a status of a reply, or that of memory, is none of a file
 abbrev pub IsAfter : ℕ → Type 0
@@ -120,23 +128,28 @@ reply_after status low e = elim low [ inl z ↦ elim e [ inl f ↦ omega (arith,
 module _ {S : Type 0} (content : S → List ℕ → Option (List ℕ)) (taken : S → List Taken) (faults : S → ℕ) where
   -- no file is asked for
   pub counts_alone : (old : S) (c : Command) (r : Result Reply Stop) (s n : ℕ) → IsAfter (reply_status r) → StepsOn c [] (reply_status r) s n → CountsReply taken old old c r s n
-  counts_alone old c r s n after w = record {
-    none = λ e. absurd (after e);
-    steps = subst (λ ts. OfTaken ts (λ files. StepsOn c files (reply_status r) s n)) (sym (since (taken old) (taken old) [] (sym (append-nil (taken old))))) at;
-  }
+  counts_alone old c r s n after w =
+      let none_since : taken_since (taken old) (taken old) ≡ [] = since (taken old) (taken old) [] (sym (append-nil (taken old))) in
+      record {
+        none = λ e. absurd (after e);
+        refused = subst (λ ts. OfTaken ts (WhereRefused c s n)) (sym none_since) (alone (WhereRefused c s n) (accepted c s n [] refl));
+        steps = subst (λ ts. OfTaken ts (λ files. StepsOn c files (reply_status r) s n)) (sym none_since) (alone (λ files. StepsOn c files (reply_status r) s n) w);
+      }
     where
-      at : OfTaken [] (λ files. StepsOn c files (reply_status r) s n)
-      at [] f = w
-      at (bytes ∷ files) f = absurd f
+      alone : (P : List (List ℕ) → Type 0) → P [] → OfTaken [] P
+      alone P w [] f = w
+      alone P w (bytes ∷ files) f = absurd f
 
   -- one file was read
   pub counts_after_one : {V : Type 0} (old new : S) (c : Command) (r : Result Reply Stop) (name : List ℕ) (reads : List ℕ → Read V → Type 0) (holds : Read V → Type 0) (value : V) (s n : ℕ)
-      → ReadsFile content taken faults old new name 1 reads holds (Ok value) → IsAfter (reply_status r)
+      → ReadsFile content taken faults old new name 1 reads holds (Ok value) → IsAfter (reply_status r) → ((bytes : List ℕ) → reads bytes (read.Ok value) → refusal_of c (bytes ∷ []) ≡ None)
       → ((bytes : List ℕ) → reads bytes (read.Ok value) → StepsOn c (bytes ∷ []) (reply_status r) s n) → CountsReply taken old new c r s n
-  counts_after_one old new c r name reads holds value s n took after w =
+  counts_after_one old new c r name reads holds value s n took after fine w =
       let begun : taken new ≡ taken old ++ took.0 ∷ [] = elim took.1.asks [ inl one ↦ one | inr none ↦ absurd (omega (arith, none.1)) ] in
       record {
         none = λ e. absurd (after e);
+        refused = subst (λ ts. OfTaken ts (WhereRefused c s n)) (sym (since (taken old) (taken new) (took.0 ∷ []) begun))
+            (one_fits took.0 (WhereRefused c s n) (λ bytes f. accepted c s n (bytes ∷ []) (fine bytes (took.1.value bytes f))));
         steps = subst (λ ts. OfTaken ts (λ files. StepsOn c files (reply_status r) s n)) (sym (since (taken old) (taken new) (took.0 ∷ []) begun))
             (one_fits took.0 (λ files. StepsOn c files (reply_status r) s n) (λ bytes f. w bytes (took.1.value bytes f)));
       }
@@ -145,24 +158,27 @@ module _ {S : Type 0} (content : S → List ℕ → Option (List ℕ)) (taken : 
   pub counts_after_two : {V W : Type 0} (old mid new : S) (c : Command) (r : Result Reply Stop) (first second : List ℕ) (reads : List ℕ → Read V → Type 0) (holds : Read V → Type 0) (value : V)
       (reads_second : List ℕ → Read W → Type 0) (holds_second : Read W → Type 0) (other : W) (s n : ℕ)
       → ReadsFile content taken faults old mid first 1 reads holds (Ok value) → ReadsFile content taken faults mid new second 2 reads_second holds_second (Ok other) → IsAfter (reply_status r)
+      → ((bytes given : List ℕ) → reads bytes (read.Ok value) → reads_second given (read.Ok other) → refusal_of c (bytes ∷ given ∷ []) ≡ None)
       → ((bytes given : List ℕ) → reads bytes (read.Ok value) → reads_second given (read.Ok other) → StepsOn c (bytes ∷ given ∷ []) (reply_status r) s n) → CountsReply taken old new c r s n
-  counts_after_two old mid new c r first second reads holds value reads_second holds_second other s n took also after w =
+  counts_after_two old mid new c r first second reads holds value reads_second holds_second other s n took also after fine w =
       let begun : taken mid ≡ taken old ++ took.0 ∷ [] = elim took.1.asks [ inl one ↦ one | inr none ↦ absurd (omega (arith, none.1)) ] in
       let further : taken new ≡ taken mid ++ also.0 ∷ [] = elim also.1.asks [ inl two ↦ two | inr none ↦ absurd (omega (arith, none.1)) ] in
       let both : taken new ≡ taken old ++ took.0 ∷ also.0 ∷ [] = further ∙ ap (λ ts. ts ++ also.0 ∷ []) begun ∙ append_assoc (taken old) (took.0 ∷ []) (also.0 ∷ []) in
       record {
         none = λ e. absurd (after e);
+        refused = subst (λ ts. OfTaken ts (WhereRefused c s n)) (sym (since (taken old) (taken new) (took.0 ∷ also.0 ∷ []) both))
+            (two_fit took.0 also.0 (WhereRefused c s n) (λ bytes given f g. accepted c s n (bytes ∷ given ∷ []) (fine bytes given (took.1.value bytes f) (also.1.value given g))));
         steps = subst (λ ts. OfTaken ts (λ files. StepsOn c files (reply_status r) s n)) (sym (since (taken old) (taken new) (took.0 ∷ also.0 ∷ []) both))
             (two_fit took.0 also.0 (λ files. StepsOn c files (reply_status r) s n) (λ bytes given f g. w bytes given (took.1.value bytes f) (also.1.value given g)));
       }
 
   -- one file was read, and then memory was refused
   pub counts_after_memory : {V : Type 0} (old new : S) (c : Command) (r : Result Reply Stop) (name : List ℕ) (reads : List ℕ → Read V → Type 0) (holds : Read V → Type 0) (value : V) (s n : ℕ)
-      → ReadsFile content taken faults old new name 1 reads holds (Ok value) → IsErrAnd r (λ t. t ≡ stop.NoMemory)
+      → ReadsFile content taken faults old new name 1 reads holds (Ok value) → IsErrAnd r (λ t. t ≡ stop.NoMemory) → ((bytes : List ℕ) → reads bytes (read.Ok value) → refusal_of c (bytes ∷ []) ≡ None)
       → ((bytes : List ℕ) → reads bytes (read.Ok value) → StepsOn c (bytes ∷ []) 6 s n) → CountsReply taken old new c r s n
-  counts_after_memory old new c (Ok reply) name reads holds value s n took h w = absurd h
-  counts_after_memory old new c (Err t) name reads holds value s n took h w =
-      rw h (counts_after_one old new c (Err stop.NoMemory) name reads holds value s n took memory_after w)
+  counts_after_memory old new c (Ok reply) name reads holds value s n took h fine w = absurd h
+  counts_after_memory old new c (Err t) name reads holds value s n took h fine w =
+      rw h (counts_after_one old new c (Err stop.NoMemory) name reads holds value s n took memory_after fine w)
 
 -- the command that the words are
 pub of_words : (o : Option Command) (c : Command) (ts : List Taken) (status s n : ℕ) → o ≡ Some c → CountsSteps c ts status s n → IfSome o (λ k. CountsSteps k ts status s n)
@@ -172,5 +188,6 @@ of_words o c ts status s n e counts = subst (λ k. IfSome k (λ c. CountsSteps c
 pub counts_cut_short : (c : Command) (ts : List Taken) (status s n : ℕ) → CountsSteps c ts status s n → CountsSteps c ts 5 s n
 counts_cut_short c ts status s n counts = record {
   none = λ e. elim e [ inl f ↦ absurd (omega (arith, f)) | inr f ↦ absurd (omega (arith, f)) ];
+  refused = counts.refused;
   steps = λ files f. cut_short c files status s n (counts.steps files f);
 }

@@ -1,5 +1,5 @@
 -- What the steps of a run come to. The count goes from s to n.
-use Rattle.std.specs.Prelude.{◌≡◌, ◌⊎◌, ℕ, List, [], ◌∷◌, Result}
+use Rattle.std.specs.Prelude.{◌≡◌, ◌≢◌, ◌⊎◌, ℕ, List, [], ◌∷◌, None, Result}
 use Rattle.row_model.specs.Rows.{RowList}
 use Rattle.row_model.specs.declared.kind.Kind.{Kind}
 use Rattle.row_model.specs.declared.kind.Kind.TheVariants.{Proper}
@@ -17,6 +17,7 @@ use Rattle.verdict_replies.specs.declared.reply.Reply.{Reply}
 use Rattle.solve_replies.specs.Generated.{generated}
 use Rattle.solve_replies.specs.Steps.{made_status, SolvesMatrixWithin, SolvesWithin, FindsCoreWithin, MeetsWithin}
 use Rattle.solve_replies.specs.Charges.{ExtendsWithin}
+use Rattle.reply_laws.specs.Replies.{refusal_of}
 use Rattle.pq_cli.specs.Runs.{OfTaken, taken_since}
 use Rattle.pq_cli.specs.Stops.{reply_status}
 use Rattle.pq_cli.specs.declared.stop.Stop.{Stop}
@@ -35,10 +36,11 @@ StepsOn (Meet c _ _) (first ∷ second ∷ []) status s n =
     (t u : Outline) → tree_file c first ≡ read.Ok t → tree_file c second ≡ read.Ok u → MeetsWithin (joint_matrix c t u) status s n
 StepsOn command files status s n = n ≡ s
 
--- what the steps of a run of a command come to, of which these files were taken and this is the status: none is taken where a file is
--- refused or can't be read
+-- What the steps of a run of a command come to, of which these files were taken and this is the status. None is taken where a file can't be
+-- read, nor where a file is refused, whatever the status.
 pub record CountsSteps (command : Command) (ts : List Taken) (status s n : ℕ) : Type 0 where
   pub none : (status ≡ 3) ⊎ (status ≡ 4) → n ≡ s
+  pub refused : OfTaken ts (λ files. refusal_of command files ≢ None → n ≡ s)
   pub steps : OfTaken ts (λ files. StepsOn command files status s n)
 
 -- the same of a command that ran up to its reply

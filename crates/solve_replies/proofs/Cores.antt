@@ -1,5 +1,6 @@
 -- The reply with the rows of a matrix that are to blame.
-use Rattle.std.proofs.Common.{◌≡◌, ◌∙◌, ℕ, ◌≤◌, List, Some, refl, sym, ap, subst, arith}
+use Rattle.std.proofs.Common.{◌≡◌, ◌∙◌, ℕ, ◌+◌, ◌*◌, ◌≤◌, List, length, Some, refl, sym, ap, subst, arith}
+use Rattle.std.specs.Prelude.{Result, Ok, Err, IsErrAnd}
 use Rattle.std.proofs.Math.Nat.{mul-le-mul}
 use Rattle.column_order.specs.Orders.{HasValidOrder}
 use Rattle.row_model.specs.declared.kind.Kind.{Kind}
@@ -11,8 +12,9 @@ use Rattle.row_core.specs.Cored.{IsCoredWithin, judgements_of}
 use Rattle.row_core.specs.declared.find.Cored.{Cored}
 use Rattle.row_core.specs.declared.find.Cored.TheVariants as cored
 use Rattle.pq_tree.specs.declared.PqTree.{PqTree}
-use Rattle.c1p_solve.specs.Totals.{search_steps}
-use Rattle.solve_replies.specs.Steps.{solver_costs, FindsCoreWithin}
+use Rattle.verdict_replies.specs.declared.reply.Reply.{Reply}
+use Rattle.c1p_solve.specs.Totals.{search_steps, answer_steps}
+use Rattle.solve_replies.specs.Steps.{made_status, solver_costs, FindsCoreWithin}
 use Rattle.verdict_text.specs.Verdict.{Claim, yes_claim, no_claim}
 use Rattle.instance_model.specs.Instance.{InstanceValue, plain, instance_kind}
 use Rattle.verdict_replies.specs.Verdicts.{IsClaimOf, status_of, IsVerdictReply}
@@ -36,12 +38,23 @@ costs_monotone part m small =
     let search : search_steps part.columns part.rows ≤ search_steps m.columns m.rows = mul-le-mul (omega (arith, small.columns)) (omega (arith, small.ones)) in
     omega (arith, small.columns, small.rows, small.ones, search)
 
--- the steps of what was found
-pub core_within : (m : RowList) (found : Cored) (core : Core) (s n : ℕ) → found ≡ cored.Core core → TellsCore m core → AreJudgements (Some solver_costs) m (judgements_of found) s n → FindsCoreWithin m 0 s n
-core_within m found core s n e tells judged =
-    let steps = subst (λ f. AreJudgements (Some solver_costs) m (judgements_of f) s n) e judged in
-    record { none = λ f. absurd (omega (arith, f)); core = λ f. (core.rows, tells.core, steps costs_monotone) }
+-- so many judgements of the matrix, whatever comes of it
+pub judged_most : (m : RowList) (s n : ℕ) → AreJudgements (Some solver_costs) m (2 * length m.rows + 1) s n → n ≤ s + (2 * length m.rows + 1) * answer_steps m
+judged_most m s n any = any costs_monotone
 
-pub tree_within : (m : RowList) (found : Cored) (t : PqTree) (s n : ℕ) → found ≡ cored.Has t → IsCoredWithin solver_costs m s n found → FindsCoreWithin m 1 s n
-tree_within m found t s n e h =
-    record { none = λ f. subst (IsCoredWithin solver_costs m s n) e h; core = λ f. absurd (omega (arith, f)) }
+-- the steps of what was found, and of what failed
+pub core_within : (m : RowList) (found : Cored) (core : Core) (s n : ℕ) → found ≡ cored.Core core → TellsCore m core → AreJudgements (Some solver_costs) m (judgements_of found) s n
+    → AreJudgements (Some solver_costs) m (2 * length m.rows + 1) s n → FindsCoreWithin m 0 s n
+core_within m found core s n e tells judged any =
+    let steps = subst (λ f. AreJudgements (Some solver_costs) m (judgements_of f) s n) e judged in
+    record { none = λ f. absurd (omega (arith, f)); core = λ f. (core.rows, tells.core, steps costs_monotone); most = judged_most m s n any }
+
+pub tree_within : (m : RowList) (found : Cored) (t : PqTree) (s n : ℕ) → found ≡ cored.Has t → IsCoredWithin solver_costs m s n found
+    → AreJudgements (Some solver_costs) m (2 * length m.rows + 1) s n → FindsCoreWithin m 1 s n
+tree_within m found t s n e h any =
+    record { none = λ f. subst (IsCoredWithin solver_costs m s n) e h; core = λ f. absurd (omega (arith, f)); most = judged_most m s n any }
+
+pub failed_within : {E : Type 0} (m : RowList) (r : Result Reply E) (P : E → Type 0) (s n : ℕ) → IsErrAnd r P → AreJudgements (Some solver_costs) m (2 * length m.rows + 1) s n
+    → FindsCoreWithin m (made_status (λ reply. reply.status) r) s n
+failed_within m (Ok reply) P s n h any = absurd h
+failed_within m (Err e) P s n h any = record { none = λ f. absurd (omega (arith, f)); core = λ f. absurd (omega (arith, f)); most = judged_most m s n any }

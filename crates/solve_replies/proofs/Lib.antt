@@ -7,3 +7,4 @@ pub mod Cores
 pub mod Counted
 pub mod Drawn
 pub mod Grown
+mod MetNodes

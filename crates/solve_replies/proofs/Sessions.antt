@@ -3,7 +3,8 @@ use Rattle.std.proofs.Common.{◌≡◌, ◌∙◌, ℕ, ◌+◌, ◌≤◌, Lis
 use Rattle.std.proofs.lemmas.List.{append-nil, length-append}
 use Rattle.row_model.specs.Rows.{RowList}
 use Rattle.row_model.specs.declared.kind.Kind.{Kind}
-use Rattle.pq_tree.specs.Outline.{leaves}
+use Rattle.pq_tree.specs.Outline.{Outline, leaves}
+use Rattle.solve_replies.specs.MetNodes.{IsTreeNow}
 use Rattle.pq_tree.specs.PqTree.{outline}
 use Rattle.pq_tree.specs.Proper.{IsProper}
 use Rattle.pq_tree.specs.declared.PqTree.{PqTree}
@@ -12,6 +13,7 @@ use Rattle.text_parts.specs.Numbered.{numbered}
 use Rattle.verdict_text.specs.Text.{kind_line, columns_line, side_text}
 use Rattle.verdict_replies.specs.Verdicts.{ShowsAllOrders}
 use Rattle.solve_replies.specs.Sessions.{IsSessionText, Outcome, accepted, refused, IsOutcome, matrix_after, refusals_after, AreOutcomes, matrix_at_end, outcome_text, session_text}
+use Rattle.solve_replies.proofs.MetNodes.{met_after, all_met}
 use Rattle.solve_replies.specs.Taking.{refusals_at_end, HasTakenOne, HasTaken, HasEnded}
 
 -- a tree of all orders, with its leaves
@@ -51,12 +53,13 @@ numbered-push text i (y ∷ xs) x =
     ap (λ z. text i y ++ z) (numbered-push text (i + 1) xs x) ∙ sym (append_assoc (text i y) (numbered text (i + 1) xs) (text (i + 1 + length xs) x))
     ∙ ap (λ k. (text i y ++ numbered text (i + 1) xs) ++ text k x) (omega arith)
 
-pub taken_none : (m : RowList) (text : List ℕ) → HasTaken m [] m 0 text text
-taken_none m text = record { outcomes = []; in_turn = tt; matrix_is = refl; count_is = refl; text_is = sym (append-nil text) }
+pub taken_none : (m : RowList) (text : List ℕ) → HasTaken m [] m 0 0 text text
+taken_none m text = record { outcomes = []; in_turn = tt; matrix_is = refl; count_is = refl; are_met = refl; text_is = sym (append-nil text) }
 
-pub taken_more : (m : RowList) (done : List (List ℕ)) (now : RowList) (refusals : ℕ) (old text : List ℕ) (i : ℕ) (row : List ℕ) (after : RowList) (count : ℕ) (new : List ℕ)
-    → HasTaken m done now refusals old text → i ≡ length done + 1 → HasTakenOne now refusals i row after count text new → HasTaken m (done ++ row ∷ []) after count old new
-taken_more m done now refusals old text i row after count new all at one =
+pub taken_more : (m : RowList) (done : List (List ℕ)) (now : RowList) (refusals met : ℕ) (t : Outline) (old text : List ℕ) (i : ℕ) (row : List ℕ) (after : RowList) (count : ℕ) (new : List ℕ)
+    → HasTaken m done now refusals met old text → i ≡ length done + 1 → (one : HasTakenOne now refusals i row after count text new) → (count ≡ refusals + 1 → IsTreeNow now t)
+    → HasTaken m (done ++ row ∷ []) after count (met_after met row t one.outcome) old new
+taken_more m done now refusals met t old text i row after count new all at one tree =
     let outcomes = all.outcomes in
     let o = one.outcome in
     let holds : IsOutcome (matrix_at_end m done outcomes) (refusals_at_end 0 outcomes) row o = subst (λ n. IsOutcome (matrix_at_end m done outcomes) n row o) all.count_is (subst (λ k. IsOutcome k refusals row o) all.matrix_is one.holds) in
@@ -66,6 +69,7 @@ taken_more m done now refusals old text i row after count new all at one =
       in_turn = more_outcomes m 0 done outcomes row o all.in_turn holds;
       matrix_is = one.matrix_is ∙ ap (λ k. matrix_after k row o) all.matrix_is ∙ sym (more_rows m 0 done outcomes row o all.in_turn);
       count_is = one.count_is ∙ ap (λ n. refusals_after n o) all.count_is ∙ sym (more_refusals 0 outcomes o);
+      are_met = all_met m 0 done outcomes row o t met refusals all.in_turn (λ e. subst (λ (k : RowList). IsTreeNow k t) all.matrix_is (tree (one.count_is ∙ e))) all.are_met;
       text_is = one.text_is ∙ ap (λ t. t ++ outcome_text i o) all.text_is ∙ append_assoc old (numbered outcome_text 1 outcomes) (outcome_text i o)
           ∙ ap (λ t. old ++ t) (ap (λ n. numbered outcome_text 1 outcomes ++ outcome_text n o) number ∙ sym (numbered-push outcome_text 1 outcomes o));
     }
@@ -104,10 +108,10 @@ pieces : (start kind columns outcomes rest t0 t1 t2 t3 : List ℕ) → t0 ≡ []
 pieces start kind columns outcomes rest t0 t1 t2 t3 e f g h =
     h ∙ ap (λ t. t ++ rest) (g ∙ ap (λ t. t ++ outcomes) (f ∙ ap (λ t. t ++ (start ++ (kind ++ columns))) e)) ∙ simp append_assoc
 
-pub session_told : (kind : Kind) (c : ℕ) (m : RowList) (further : List (List ℕ)) (after : RowList) (count : ℕ) (t0 t1 t2 t3 : List ℕ) → t0 ≡ [] → c ≡ m.columns
-    → t1 ≡ t0 ++ (codes "pq-extend 1\n" ++ (kind_line kind ++ columns_line (c ∷ []))) → HasTaken m further after count t1 t2 → HasEnded after t2 t3 → IsSessionText kind m further t3
+pub session_told : (kind : Kind) (c : ℕ) (m : RowList) (further : List (List ℕ)) (after : RowList) (count met : ℕ) (t0 t1 t2 t3 : List ℕ) → t0 ≡ [] → c ≡ m.columns
+    → t1 ≡ t0 ++ (codes "pq-extend 1\n" ++ (kind_line kind ++ columns_line (c ∷ []))) → HasTaken m further after count met t1 t2 → HasEnded after t2 t3 → IsSessionText kind m further t3
 unfolding session_text
-session_told kind c m further after count t0 t1 t2 t3 e is f all ended =
+session_told kind c m further after count met t0 t1 t2 t3 e is f all ended =
     record {
       outcomes = all.outcomes;
       side = ended.side;

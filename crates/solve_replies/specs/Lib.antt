@@ -8,3 +8,4 @@ pub mod Drawing
 pub mod Summaries
 pub mod Steps
 pub mod Charges
+pub mod MetNodes

@@ -68,10 +68,12 @@ pub record SolvesWithin (i : InstanceValue) (status s n : ℕ) : Type 0 where
   pub most : n ≤ s + sides_steps i + side_search_steps i side
 
 -- A core of a matrix was asked for, with this status. With 1 it has none, and was solved within the steps in which all its rows are taken.
--- With 0 some core is found within the steps of two answers for each of its rows, and one more.
+-- With 0 some core is found within the steps of two answers for each of its rows, and one more. With any status the steps are at most those
+-- of two answers for each row of the matrix, and one more.
 pub record FindsCoreWithin (m : RowList) (status s n : ℕ) : Type 0 where
   pub none : status ≡ 1 → n ≤ s + taking_steps m
   pub core : status ≡ 0 → (core : List ℕ) × IsCore m core × (n ≤ s + (2 * length core + 1) * answer_steps m)
+  pub most : n ≤ s + (2 * length m.rows + 1) * answer_steps m
 
 -- The matrix of the rows of two trees was solved, with this status of `meet`: with 0 within the steps in which all its rows are taken, and
 -- else within these and those of a search.

@@ -7,6 +7,7 @@ use Rattle.text_parts.specs.Numbered.{numbered}
 use Rattle.verdict_text.specs.Text.{side_text}
 use Rattle.verdict_text.specs.Verdict.{SideValue}
 use Rattle.verdict_replies.specs.Verdicts.{ShowsAllOrders}
+use Rattle.solve_replies.specs.MetNodes.{AreMet}
 use Rattle.solve_replies.specs.Sessions.{Outcome, accepted, refused, IsOutcome, matrix_after, refusals_after, AreOutcomes, matrix_at_end, outcome_text}
 
 -- what became of a row
@@ -29,13 +30,14 @@ abbrev pub refusals_at_end : ℕ → List Outcome → ℕ
 refusals_at_end refusals [] = refusals
 refusals_at_end refusals (outcome ∷ outcomes) = refusals_at_end (refusals_after refusals outcome) outcomes
 
--- further rows were taken in turn: the matrix and the text are those after their outcomes, and so is the number of
--- refusals
-pub record HasTaken (m : RowList) (further : List (List ℕ)) (after : RowList) (count : ℕ) (old new : List ℕ) : Type 0 where
+-- further rows were taken in turn: the matrix and the text are those after their outcomes, and so are the number of
+-- refusals and that of the nodes that the refused rows met
+pub record HasTaken (m : RowList) (further : List (List ℕ)) (after : RowList) (count met : ℕ) (old new : List ℕ) : Type 0 where
   pub outcomes : List Outcome
   pub in_turn : AreOutcomes m 0 further outcomes
   pub matrix_is : after ≡ matrix_at_end m further outcomes
   pub count_is : count ≡ refusals_at_end 0 outcomes
+  pub are_met : AreMet m further outcomes met
   pub text_is : new ≡ old ++ numbered outcome_text 1 outcomes
 
 -- the tree of all orders of the matrix was told, and the text ended

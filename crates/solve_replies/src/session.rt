@@ -1,12 +1,14 @@
 // A session: what becomes of further rows, told row by row.
-ghost use Rattle.std.specs.Prelude.{◌≡◌, ◌+◌, ◌*◌, ◌<◌, ◌≤◌, ℕ, List, [], ◌∷◌, ◌++◌, length, IfOk, OnOk, codes};
+ghost use Rattle.std.specs.Prelude.{◌≡◌, ◌+◌, ◌*◌, ◌<◌, ◌≤◌, min, ℕ, List, [], ◌∷◌, ◌++◌, length, IfOk, OnOk, codes};
 ghost use Rattle.row_model.specs.Rows.{IsRow};
 ghost use Rattle.verdict_text.specs.Text.{kind_line, columns_line};
 ghost use Rattle.pq_tree.specs.Amortised.{weight};
 ghost use Rattle.c1p_solve.specs.Sessions.{with_row};
-ghost use Rattle.solve_replies.specs.Sessions.{Outcome, AreOutcomes, outcome_text, IsSessionText};
+ghost use Rattle.solve_replies.specs.Sessions.{Outcome, AreOutcomes, matrix_at_end, outcome_text, IsSessionText};
 ghost use Rattle.solve_replies.specs.Taking.{outcome_of, refusals_at_end, HasTakenOne, HasTaken, HasEnded};
-ghost use Rattle.solve_replies.specs.Charges.{further_steps, IsOneCharged, one_steps};
+ghost use Rattle.solve_replies.specs.Steps.{taking_steps};
+ghost use Rattle.solve_replies.specs.MetNodes.{AreMet, IsTreeNow};
+ghost use Rattle.solve_replies.specs.Charges.{refused_steps, further_steps, further_search, IsOneCharged, one_steps};
 
 use crate::{MAX_EXPLAINED, NoMemory};
 use c1p_solve::{Session, Taken};
@@ -32,10 +34,15 @@ pub fn session_reply<L: Ledger>(
     ensures status { IfOk result (λ reply. reply.status ≡ 0) }
     ensures steps { IfOk result (λ reply. (outcomes : List Outcome)
         × AreOutcomes session.matrix 0 further.now.rows outcomes
-        × (steps.new ≤ steps.old + 256 * weight session.tree
-        + further_steps session.matrix further.now.rows (refusals_at_end 0 outcomes))) }
+        × (steps.new + taking_steps session.matrix ≤ steps.old + 256 * weight session.tree
+        + taking_steps (matrix_at_end session.matrix further.now.rows outcomes)
+        + refused_steps session.matrix further.now.rows (refusals_at_end 0 outcomes))
+        × ((a : ℕ) × AreMet session.matrix further.now.rows outcomes a
+        × (steps.new + taking_steps session.matrix ≤ steps.old + 256 * weight session.tree
+        + taking_steps (matrix_at_end session.matrix further.now.rows outcomes) + 256 * a
+        + min (refusals_at_end 0 outcomes) MAX_EXPLAINED * further_search session.matrix further.now.rows))) }
     ensures most { steps.new ≤ steps.old + 256 * weight session.tree
-        + further_steps session.matrix further.now.rows (length further.now.rows) }
+        + further_steps session.matrix further.now.rows }
 {
     let mut text = Vec::with_capacity(alloc, room(further))?;
     print_start(kind, further.columns(), &mut text)?;
@@ -71,13 +78,16 @@ fn print_outcomes<L: Ledger>(
 ) -> Result<(), NoMemory>
     requires columns { further.now.columns ≡ session.old.matrix.columns }
     requires room { length session.old.matrix.rows + length further.now.rows ≤ ROW_BOUND }
-    ensures taken { OnOk result ((count : ℕ)
-        × HasTaken session.old.matrix further.now.rows session.new.matrix count text.old.items
+    ensures taken { OnOk result ((count : ℕ) × (met : ℕ)
+        × HasTaken session.old.matrix further.now.rows session.new.matrix count met text.old.items
         text.new.items
-        × (steps.new ≤ steps.old + 256 * weight session.old.tree
-        + further_steps session.old.matrix further.now.rows count)) }
+        × (steps.new + taking_steps session.old.matrix ≤ steps.old + 256 * weight session.old.tree
+        + taking_steps session.new.matrix + refused_steps session.old.matrix further.now.rows count)
+        × (steps.new + taking_steps session.old.matrix ≤ steps.old + 256 * weight session.old.tree
+        + taking_steps session.new.matrix + 256 * met
+        + min count MAX_EXPLAINED * further_search session.old.matrix further.now.rows)) }
     ensures most { steps.new ≤ steps.old + 256 * weight session.old.tree
-        + further_steps session.old.matrix further.now.rows (length further.now.rows) }
+        + further_steps session.old.matrix further.now.rows }
 {
     let mut refusals = 0;
     for taken in 0..further.rows() {
@@ -104,7 +114,8 @@ fn take_one<L: Ledger>(
         text.new.items) }
     ensures charged { IfOk result (λ count.
         IsOneCharged session.old.matrix.columns (with_row session.old.matrix row.now).rows row.now
-        refusals count (weight session.old.tree) (weight session.new.tree) steps.old steps.new) }
+        refusals count session.old.tree session.new.tree steps.old steps.new) }
+    ensures tree { IfOk result (λ count. count ≡ refusals + 1 → IsTreeNow session.old.matrix session.old.tree) }
     ensures most { steps.new ≤ steps.old
         + one_steps session.old.matrix.columns (with_row session.old.matrix row.now).rows row.now
         refusals (weight session.old.tree) }

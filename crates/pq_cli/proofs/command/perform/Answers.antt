@@ -84,7 +84,7 @@ returns-in-Check g c =
       runs = c.over_both.ensures command (record { files = refl; may = omega arith; first = λ bytes. refl }) (λ i w made held told.
           says_of_both command c.in-Check.kind i (λ reply. (bytes : List ℕ) → IsWhole MAX_VERDICT_BYTES bytes w → IsJudgementReply (instance_value i) bytes reply.status reply.text.items) MAX_VERDICT_BYTES w made (search rules)
           (search rules) (λ reply bytes text is read whole. (instance_value i, sym read, is text whole)));
-      steps = record { none = λ e. refl; steps = λ files f. refl };
+      steps = record { none = λ e. refl; refused = λ files f d. refl; steps = λ files f. refl };
     })
 
 pub returns-in-CheckCore : goal.returns-in-CheckCore
@@ -99,7 +99,7 @@ returns-in-CheckCore g c =
           (search rules) (search rules) (λ reply bytes text is read whole.
           let found = is text whole in
           (found.0, read_as kind bytes i (plain kind found.0) read found.1, found.2)));
-      steps = record { none = λ e. refl; steps = λ files f. refl };
+      steps = record { none = λ e. refl; refused = λ files f d. refl; steps = λ files f. refl };
     })
 
 pub returns-in-CheckUnit : goal.returns-in-CheckUnit
@@ -111,7 +111,7 @@ returns-in-CheckUnit g c =
           says_of_both command Proper i
           (λ reply. (g : _) × (instance_value i ≡ proper g) × ((bytes : List ℕ) → IsWhole MAX_VERDICT_BYTES bytes w → IsFindingReply g bytes reply.status reply.text.items)) MAX_VERDICT_BYTES w made
           (search rules) (search rules) (λ reply bytes text is read whole. (is.0, read_as Proper bytes i (proper is.0) read is.1, is.2 text whole)));
-      steps = record { none = λ e. refl; steps = λ files f. refl };
+      steps = record { none = λ e. refl; refused = λ files f d. refl; steps = λ files f. refl };
     })
 
 pub returns-in_ok-summary_reply-in-Gen : goal.returns-in_ok-summary_reply-in-Gen

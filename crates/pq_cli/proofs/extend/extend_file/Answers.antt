@@ -8,7 +8,7 @@ use Rattle.reply_laws.specs.Replies.{refused_at, Replies}
 use Rattle.pq_cli.proofs.Frame.{first_stops, second_stops, memory_after_two, reply_after_two}
 use Rattle.solve_replies.specs.Charges.{ExtendsWithin}
 use Rattle.pq_cli.specs.Stops.{reply_status}
-use Rattle.pq_cli.proofs.Bases.{base_read, further_refused, further_read, extends_it}
+use Rattle.pq_cli.proofs.Bases.{base_read, further_refused, further_accepted, further_read, extends_it}
 use Rattle.pq_cli.proofs.Counts.{reply_after, memory_status, memory_comes_after, counts_after_two}
 use Rattle.pq_cli.proofs.extend.extend_file.Goals as goal
 
@@ -64,6 +64,8 @@ returns-in_err-extension_reply-clause-steps g c =
     counts_after_two g.F.Shelf.content g.F.Shelf.taken g.F.Shelf.faults c.args.files.now c.read_file.new.files c.read_file-2.new.files (Extend c.args.kind c.args.file.now c.args.rows.now) c.from_residual-in_err-extension_reply.result
     c.args.file.now c.args.rows.now (ReadsInstance c.args.kind) (HoldsInstance c.args.kind) c.in_ok-base.field-0 (ReadsFurther c.columns-columns.result) (HoldsFurther c.columns-columns.result) c.in_ok-further.further c.args.steps.now c.extension_reply.new.steps c.in_ok-base.ensures c.in_ok-further.ensures
     (memory_comes_after c.from_residual-in_err-extension_reply.result c.from_residual-in_err-extension_reply.ensures.1)
+    (λ bytes given made over. further_accepted c.args.kind c.args.file.now c.args.rows.now bytes given c.in-Plain.base c.in_ok-further.further c.columns-columns.result
+    (base_read c.args.kind c.in-Plain.field-0 bytes (instance_value c.in_ok-base.field-0) c.in-Plain.base (ap instance_value c.in-Plain.is) c.in_ok-base.ensures.1.holds_of_value.1 made) c.columns-columns.ensures.columns over)
     (λ bytes given made over. λ m more is told.
     extends_it c.args.kind c.in-Plain.field-0 bytes given (instance_value c.in_ok-base.field-0) c.in-Plain.base m c.in_ok-further.further more c.columns-columns.result (reply_status c.from_residual-in_err-extension_reply.result) c.args.steps.now c.extension_reply.new.steps
     (ap instance_value c.in-Plain.is) made c.columns-columns.ensures.columns over is told (subst (λ k. ExtendsWithin c.in-Plain.base c.in_ok-further.further.rows k c.args.steps.now c.extension_reply.new.steps)
@@ -73,6 +75,8 @@ pub returns-clause-steps : goal.returns-clause-steps
 returns-clause-steps g c =
     counts_after_two g.F.Shelf.content g.F.Shelf.taken g.F.Shelf.faults c.args.files.now c.read_file.new.files c.read_file-2.new.files (Extend c.args.kind c.args.file.now c.args.rows.now) (Ok c.in_ok-extension_reply.field-0)
     c.args.file.now c.args.rows.now (ReadsInstance c.args.kind) (HoldsInstance c.args.kind) c.in_ok-base.field-0 (ReadsFurther c.columns-columns.result) (HoldsFurther c.columns-columns.result) c.in_ok-further.further c.args.steps.now c.extension_reply.new.steps c.in_ok-base.ensures c.in_ok-further.ensures (reply_after c.in_ok-extension_reply.field-0.status c.in_ok-extension_reply.ensures.status)
+    (λ bytes given made over. further_accepted c.args.kind c.args.file.now c.args.rows.now bytes given c.in-Plain.base c.in_ok-further.further c.columns-columns.result
+    (base_read c.args.kind c.in-Plain.field-0 bytes (instance_value c.in_ok-base.field-0) c.in-Plain.base (ap instance_value c.in-Plain.is) c.in_ok-base.ensures.1.holds_of_value.1 made) c.columns-columns.ensures.columns over)
     (λ bytes given made over. λ m more is told.
     extends_it c.args.kind c.in-Plain.field-0 bytes given (instance_value c.in_ok-base.field-0) c.in-Plain.base m c.in_ok-further.further more c.columns-columns.result c.in_ok-extension_reply.field-0.status c.args.steps.now c.extension_reply.new.steps
     (ap instance_value c.in-Plain.is) made c.columns-columns.ensures.columns over is told c.in_ok-extension_reply.ensures.steps)

@@ -74,6 +74,7 @@ returns-in_err-meeting_reply-clause-steps g c =
     counts_after_two g.F.Shelf.content g.F.Shelf.taken g.F.Shelf.faults c.args.files.now c.read_file.new.files c.read_file-2.new.files (Meet c.args.columns c.args.first.now c.args.second.now) c.from_residual-in_err-meeting_reply.result
     c.args.first.now c.args.second.now (ReadsTree c.args.columns) (HoldsTree c.args.columns) c.in_ok-one.one (ReadsTree c.args.columns) (HoldsTree c.args.columns) c.in_ok-other.other c.args.steps.now c.meeting_reply.new.steps c.in_ok-one.ensures c.in_ok-other.ensures
     (memory_comes_after c.from_residual-in_err-meeting_reply.result c.from_residual-in_err-meeting_reply.ensures.1)
+    (λ bytes given made over. ap (λ x. refused_of_two x (λ _. tree_file c.args.columns given)) (sym made) ∙ ap (refused_at 2) (sym over))
     (λ bytes given made over t u one other.
     let same = joint_of c.args.columns (outline c.in_ok-one.one) (outline c.in_ok-other.other) t u bytes given (column_count c.in_ok-one.one) c.in_ok-one.ensures.1.holds_of_value made one over other in
     subst (λ m. MeetsWithin m (reply_status c.from_residual-in_err-meeting_reply.result) c.args.steps.now c.meeting_reply.new.steps) same (record {
@@ -85,6 +86,7 @@ pub returns-clause-steps : goal.returns-clause-steps
 returns-clause-steps g c =
     counts_after_two g.F.Shelf.content g.F.Shelf.taken g.F.Shelf.faults c.args.files.now c.read_file.new.files c.read_file-2.new.files (Meet c.args.columns c.args.first.now c.args.second.now) (Ok c.in_ok-meeting_reply.field-0)
     c.args.first.now c.args.second.now (ReadsTree c.args.columns) (HoldsTree c.args.columns) c.in_ok-one.one (ReadsTree c.args.columns) (HoldsTree c.args.columns) c.in_ok-other.other c.args.steps.now c.meeting_reply.new.steps c.in_ok-one.ensures c.in_ok-other.ensures (reply_after c.in_ok-meeting_reply.field-0.status c.in_ok-meeting_reply.ensures.status)
+    (λ bytes given made over. ap (λ x. refused_of_two x (λ _. tree_file c.args.columns given)) (sym made) ∙ ap (refused_at 2) (sym over))
     (λ bytes given made over t u one other.
     let same = joint_of c.args.columns (outline c.in_ok-one.one) (outline c.in_ok-other.other) t u bytes given (column_count c.in_ok-one.one) c.in_ok-one.ensures.1.holds_of_value made one over other in
     subst (λ m. MeetsWithin m c.in_ok-meeting_reply.field-0.status c.args.steps.now c.meeting_reply.new.steps) same (record {

@@ -30,11 +30,11 @@ pub returns-in_err-reply-clause-steps : goal.returns-in_err-reply-clause-steps
 returns-in_err-reply-clause-steps g c = λ command over says counts.
     counts_after_memory g.F.Shelf.content g.F.Shelf.taken g.F.Shelf.faults c.args.files.now c.read_file.new.files command c.from_residual-in_err-reply.result c.args.file.now (ReadsInstance c.args.kind)
     (HoldsInstance c.args.kind) c.in_ok-instance.instance c.args.steps.now c.reply.new.steps c.in_ok-instance.ensures c.from_residual-in_err-reply.ensures.1
-    (λ bytes made. counts c.in_ok-instance.instance c.args.steps.now (Err c.in_err-reply.field-0.0) c.reply.new.steps c.in_ok-instance.ensures.1.holds_of_value c.in_err-reply.ensures bytes made)
+    (λ bytes made. over.first bytes ∙ ap (refused_at 1) (sym made)) (λ bytes made. counts c.in_ok-instance.instance c.args.steps.now (Err c.in_err-reply.field-0.0) c.reply.new.steps c.in_ok-instance.ensures.1.holds_of_value c.in_err-reply.ensures bytes made)
 
 pub returns-clause-steps : goal.returns-clause-steps
 returns-clause-steps g c = λ command over says counts.
     let reply = says c.in_ok-instance.instance c.args.steps.now (Ok c.in_ok-reply.field-0) c.reply.new.steps c.in_ok-instance.ensures.1.holds_of_value c.in_ok-reply.ensures in
     counts_after_one g.F.Shelf.content g.F.Shelf.taken g.F.Shelf.faults c.args.files.now c.read_file.new.files command (Ok c.in_ok-reply.field-0) c.args.file.now (ReadsInstance c.args.kind)
     (HoldsInstance c.args.kind) c.in_ok-instance.instance c.args.steps.now c.reply.new.steps c.in_ok-instance.ensures (reply_after c.in_ok-reply.field-0.status reply.status)
-    (λ bytes made. counts c.in_ok-instance.instance c.args.steps.now (Ok c.in_ok-reply.field-0) c.reply.new.steps c.in_ok-instance.ensures.1.holds_of_value c.in_ok-reply.ensures bytes made)
+    (λ bytes made. over.first bytes ∙ ap (refused_at 1) (sym made)) (λ bytes made. counts c.in_ok-instance.instance c.args.steps.now (Ok c.in_ok-reply.field-0) c.reply.new.steps c.in_ok-instance.ensures.1.holds_of_value c.in_ok-reply.ensures bytes made)

@@ -6,8 +6,8 @@ use Rattle.core_text.specs.Told.{TellsCore}
 use Rattle.row_core.specs.Cored.{IsCored}
 use Rattle.core_text.specs.Texts.{TextValue}
 use Rattle.verdict_replies.specs.Cores.{IsCoreText}
-use Rattle.solve_replies.specs.Steps.{FindsCoreWithin}
-use Rattle.solve_replies.proofs.Cores.{plain_of, core_within, tree_within}
+use Rattle.solve_replies.specs.Steps.{made_status, FindsCoreWithin}
+use Rattle.solve_replies.proofs.Cores.{plain_of, core_within, tree_within, failed_within}
 use Rattle.solve_replies.proofs.core_rows.blame_reply.Goals as goal
 
 pub core_text-requires-clause-columns : goal.core_text-requires-clause-columns
@@ -51,9 +51,19 @@ pub returns-in_ok-text-in-Core-clause-steps : goal.returns-in_ok-text-in-Core-cl
 returns-in_ok-text-in-Core-clause-steps g c = λ m is.
     let found = subst (IsCored c.in-Plain.m) c.in-Core.is c.in_ok-core.ensures.cored in
     subst (λ k. FindsCoreWithin k 0 c.args.steps.now c.find_core.new.steps) (ap (λ i. derived_matrix i 1) (sym (ap instance_value c.in-Plain.is) ∙ is))
-    (core_within c.in-Plain.m c.in_ok-core.field-0 c.in-Core.core c.args.steps.now c.find_core.new.steps c.in-Core.is found.0 (c.in_ok-core.ensures.judgements refl))
+    (core_within c.in-Plain.m c.in_ok-core.field-0 c.in-Core.core c.args.steps.now c.find_core.new.steps c.in-Core.is found.0 (c.in_ok-core.ensures.judgements refl) (c.find_core.ensures.any refl))
 
 pub returns-in_ok-text-in-Has-clause-steps : goal.returns-in_ok-text-in-Has-clause-steps
 returns-in_ok-text-in-Has-clause-steps g c = λ m is.
     subst (λ k. FindsCoreWithin k 1 c.args.steps.now c.find_core.new.steps) (ap (λ i. derived_matrix i 1) (sym (ap instance_value c.in-Plain.is) ∙ is))
-    (tree_within c.in-Plain.m c.in_ok-core.field-0 c.in-Has.tree c.args.steps.now c.find_core.new.steps c.in-Has.is c.in_ok-core.ensures.yes)
+    (tree_within c.in-Plain.m c.in_ok-core.field-0 c.in-Has.tree c.args.steps.now c.find_core.new.steps c.in-Has.is c.in_ok-core.ensures.yes (c.find_core.ensures.any refl))
+
+pub returns-in_err-core-clause-steps : goal.returns-in_err-core-clause-steps
+returns-in_err-core-clause-steps g c = λ m is.
+    subst (λ k. FindsCoreWithin k (made_status (λ reply. reply.status) c.from_residual.result) c.args.steps.now c.find_core.new.steps) (ap (λ i. derived_matrix i 1) (sym (ap instance_value c.in-Plain.is) ∙ is))
+    (failed_within c.in-Plain.m c.from_residual.result _ c.args.steps.now c.find_core.new.steps c.from_residual.ensures.1 (c.find_core.ensures.any refl))
+
+pub returns-in_err-text-in-Core-clause-steps : goal.returns-in_err-text-in-Core-clause-steps
+returns-in_err-text-in-Core-clause-steps g c = λ m is.
+    subst (λ k. FindsCoreWithin k (made_status (λ reply. reply.status) c.from_residual-in_err-text-in-Core.result) c.args.steps.now c.find_core.new.steps) (ap (λ i. derived_matrix i 1) (sym (ap instance_value c.in-Plain.is) ∙ is))
+    (failed_within c.in-Plain.m c.from_residual-in_err-text-in-Core.result _ c.args.steps.now c.find_core.new.steps c.from_residual-in_err-text-in-Core.ensures.1 (c.find_core.ensures.any refl))

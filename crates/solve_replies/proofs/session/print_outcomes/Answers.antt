@@ -4,8 +4,9 @@ use Rattle.std.proofs.lemmas.List.Sums.{sum_by_push, sum_by-take-le}
 use Rattle.pq_tree.specs.Amortised.{weight}
 use Rattle.row_model.proofs.Pushed.{take_next}
 use Rattle.solve_replies.specs.Taking.{HasTaken}
+use Rattle.solve_replies.proofs.MetNodes.{met_after}
 use Rattle.solve_replies.proofs.Sessions.{taken_more, on_the_way}
-use Rattle.solve_replies.proofs.Charges.{IsCharged, charged_more, charged_failed, charged_all, charged_most, taken_ones}
+use Rattle.solve_replies.proofs.Charges.{IsCharged, charged_more, charged_failed, charged_all, charged_most}
 use Rattle.solve_replies.proofs.session.print_outcomes.Goals as goal
 
 -- the ones of the rows so far and of the next are some of all
@@ -22,30 +23,36 @@ loop-taken-preserved g c =
     let count = c.in_ok-refusals.refusals in
     let text = c.take_one.new.text.items in
     let at : n + 1 ≡ length (take n rows) + 1 = omega (arith, length-take-le n rows (omega (arith, c.loop-taken-test.true, c.loop-taken.auto.taken-end, c.rows-taken-end.ensures))) in
+    let next = take_next rows n row c.row-row.ensures.row in
+    let one = c.in_ok-refusals.ensures.one in
+    let before = c.loop-taken.invariant.so_far in
+    let met = met_after before.0 row c.loop-taken.session.tree one.outcome in
     record {
-      way = on_the_way start c.loop-taken.session.matrix after c.loop-taken.refusals n (n + 1) row count c.loop-taken.text.items text c.loop-taken.invariant.way c.in_ok-refusals.ensures.one;
-      charged = subst (λ done. IsCharged start rows done after count (weight c.args.session.now.tree) (weight c.take_one.new.session.tree) c.args.steps.now c.take_one.new.steps) (take_next rows n row c.row-row.ensures.row)
-          (charged_more start rows (take n rows) c.loop-taken.session.matrix after row c.loop-taken.refusals (weight c.args.session.now.tree) (weight c.loop-taken.session.tree) (weight c.take_one.new.session.tree)
-          c.args.steps.now c.loop-taken.steps c.loop-taken.invariant.way.columns (room rows n row (take_next rows n row c.row-row.ensures.row)) c.loop-taken.invariant.charged count c.take_one.new.steps
-          c.in_ok-refusals.ensures.charged (taken_ones c.loop-taken.session.matrix after c.loop-taken.refusals (n + 1) row count c.loop-taken.text.items text c.in_ok-refusals.ensures.one));
-      told = subst (λ done. HasTaken start done after count c.args.text.now.items text) (take_next rows n row c.row-row.ensures.row)
-          (taken_more start (take n rows) c.loop-taken.session.matrix c.loop-taken.refusals c.args.text.now.items c.loop-taken.text.items (n + 1) row after count text c.loop-taken.invariant.told at c.in_ok-refusals.ensures.one);
+      way = on_the_way start c.loop-taken.session.matrix after c.loop-taken.refusals n (n + 1) row count c.loop-taken.text.items text c.loop-taken.invariant.way one;
+      so_far = (
+        met,
+        subst (λ done. HasTaken start done after count met c.args.text.now.items text) next
+            (taken_more start (take n rows) c.loop-taken.session.matrix c.loop-taken.refusals before.0 c.loop-taken.session.tree c.args.text.now.items c.loop-taken.text.items (n + 1) row after count text before.1 at one c.in_ok-refusals.ensures.tree),
+        subst (λ done. IsCharged start rows done after count met (weight c.args.session.now.tree) (weight c.take_one.new.session.tree) c.args.steps.now c.take_one.new.steps) next
+            (charged_more start rows (take n rows) c.loop-taken.session.matrix after row c.loop-taken.refusals before.0 (weight c.args.session.now.tree) c.args.steps.now c.loop-taken.steps c.loop-taken.session.tree
+            c.take_one.new.session.tree (room rows n row next) before.2 one.outcome count c.take_one.new.steps one.count_is one.matrix_is c.in_ok-refusals.ensures.charged),
+      );
     }
 
 pub returns-clause-taken : goal.returns-clause-taken
 returns-clause-taken g c =
-    let whole = take_all c.loop-taken.taken c.args.further.now.rows (omega arith) in (
-      c.loop-taken.refusals,
-      rw whole at c.loop-taken.invariant.told,
-      charged_all c.args.session.now.matrix c.args.further.now.rows c.loop-taken.session.matrix c.loop-taken.refusals
-          (weight c.args.session.now.tree) (weight c.loop-taken.session.tree) c.args.steps.now c.loop-taken.steps (rw whole at c.loop-taken.invariant.charged),
-    )
+    let whole = take_all c.loop-taken.taken c.args.further.now.rows (omega arith) in
+    let so_far = c.loop-taken.invariant.so_far in
+    let costs = charged_all c.args.session.now.matrix c.args.further.now.rows c.loop-taken.session.matrix c.loop-taken.refusals so_far.0
+    (weight c.args.session.now.tree) (weight c.loop-taken.session.tree) c.args.steps.now c.loop-taken.steps (rw whole at so_far.2) in
+    (c.loop-taken.refusals, so_far.0, rw whole at so_far.1, costs.0, costs.1)
 
 pub returns-clause-most : goal.returns-clause-most
 returns-clause-most g c =
     let whole = take_all c.loop-taken.taken c.args.further.now.rows (omega arith) in
-    charged_most c.args.session.now.matrix c.args.further.now.rows c.loop-taken.session.matrix c.loop-taken.refusals (weight c.args.session.now.tree) (weight c.loop-taken.session.tree) c.args.steps.now
-    c.loop-taken.steps (rw whole at c.loop-taken.invariant.charged)
+    let so_far = c.loop-taken.invariant.so_far in
+    charged_most c.args.session.now.matrix c.args.further.now.rows c.loop-taken.session.matrix c.loop-taken.refusals so_far.0 (weight c.args.session.now.tree) (weight c.loop-taken.session.tree) c.args.steps.now
+    c.loop-taken.steps (rw whole at so_far.2)
 
 pub returns-in_err-refusals-clause-most : goal.returns-in_err-refusals-clause-most
 returns-in_err-refusals-clause-most g c =
@@ -53,6 +60,6 @@ returns-in_err-refusals-clause-most g c =
     let n = c.loop-taken.taken in
     let row = c.row-row.result.now in
     let inside : n < length rows = omega (arith, c.loop-taken-test.true, c.loop-taken.auto.taken-end, c.rows-taken-end.ensures) in
-    charged_failed c.args.session.now.matrix rows (take n rows) c.loop-taken.session.matrix c.take_one.new.session.matrix row c.loop-taken.refusals (weight c.args.session.now.tree) (weight c.loop-taken.session.tree)
-    (weight c.take_one.new.session.tree) c.args.steps.now c.loop-taken.steps c.loop-taken.invariant.way.columns (room rows n row (take_next rows n row c.row-row.ensures.row)) c.loop-taken.invariant.charged
+    charged_failed c.args.session.now.matrix rows (take n rows) c.loop-taken.session.matrix c.take_one.new.session.matrix row c.loop-taken.refusals c.loop-taken.invariant.so_far.0 (weight c.args.session.now.tree)
+    c.args.steps.now c.loop-taken.steps c.loop-taken.session.tree c.take_one.new.session.tree (room rows n row (take_next rows n row c.row-row.ensures.row)) c.loop-taken.invariant.so_far.2
     c.take_one.new.steps (omega (arith, inside, length-take-le n rows (omega (arith, inside)))) c.take_one.ensures.most

@@ -1,4 +1,4 @@
-use Rattle.std.proofs.Common.{take}
+use Rattle.std.proofs.Common.{ℕ, take}
 use Rattle.pq_tree.specs.Amortised.{weight}
 use Rattle.solve_replies.proofs.Sessions.{IsOnTheWay}
 use Rattle.solve_replies.proofs.Charges.{IsCharged}
@@ -9,6 +9,7 @@ abbrev pub invariant-loop-taken : goal.invariant-loop-taken
 invariant-loop-taken g l =
     record {
       way : IsOnTheWay l.initial.session.matrix l.session.matrix l.refusals l.taken;
-      charged : IsCharged l.initial.session.matrix l.further.rows (take l.taken l.further.rows) l.session.matrix l.refusals (weight l.initial.session.tree) (weight l.session.tree) l.initial.steps l.steps;
-      told : HasTaken l.initial.session.matrix (take l.taken l.further.rows) l.session.matrix l.refusals l.initial.text.items l.text.items;
+      so_far : (met : ℕ)
+          × HasTaken l.initial.session.matrix (take l.taken l.further.rows) l.session.matrix l.refusals met l.initial.text.items l.text.items
+          × IsCharged l.initial.session.matrix l.further.rows (take l.taken l.further.rows) l.session.matrix l.refusals met (weight l.initial.session.tree) (weight l.session.tree) l.initial.steps l.steps;
     }

@@ -1,16 +1,29 @@
-use Rattle.std.proofs.Common.{◌∙◌, ◌+◌, ◌*◌, ◌≤◌, subst}
+use Rattle.std.proofs.Common.{◌∙◌, ℕ, ◌+◌, ◌*◌, ◌≤◌, min, subst}
 use Rattle.pq_tree.specs.Amortised.{weight}
-use Rattle.solve_replies.specs.Charges.{further_steps}
+use Rattle.row_model.specs.Rows.{RowList}
+use Rattle.solve_replies.specs.Charges.{refused_steps, further_search}
+use Rattle.solve_replies.specs.Steps.{taking_steps}
+use Rattle.solve_replies.specs.Taking.{refusals_at_end}
 use Rattle.solve_replies.proofs.Sessions.{session_told}
 use Rattle.solve_replies.proofs.session.session_reply.Goals as goal
 
 pub returns-clause-reply : goal.returns-clause-reply
 returns-clause-reply g c =
     let all = c.in_ok-print_outcomes.ensures.taken in
-    session_told c.args.kind c.columns.result c.args.session.matrix c.args.further.now.rows c.print_outcomes.new.session.matrix all.0 _ c.print_start.new.text.items c.print_outcomes.new.text.items c.print_end.new.text.items
-    c.in_ok-text.ensures.items (c.columns.ensures.columns ∙ c.requires.columns) c.in_ok-print_start.ensures all.1 c.in_ok-print_end.ensures
+    session_told c.args.kind c.columns.result c.args.session.matrix c.args.further.now.rows c.print_outcomes.new.session.matrix all.0 all.1 _ c.print_start.new.text.items c.print_outcomes.new.text.items c.print_end.new.text.items
+    c.in_ok-text.ensures.items (c.columns.ensures.columns ∙ c.requires.columns) c.in_ok-print_start.ensures all.2 c.in_ok-print_end.ensures
 
 pub returns-clause-steps : goal.returns-clause-steps
 returns-clause-steps g c =
     let all = c.in_ok-print_outcomes.ensures.taken in
-    (all.1.outcomes, all.1.in_turn, subst (λ k. c.print_outcomes.new.steps ≤ c.args.steps.now + 256 * weight c.args.session.tree + further_steps c.args.session.matrix c.args.further.now.rows k) all.1.count_is all.2)
+    let m = c.args.session.matrix in
+    let further = c.args.further.now.rows in
+    let told = all.2 in
+    let start = c.args.steps.now + 256 * weight c.args.session.tree in
+    let ends : RowList → ℕ → Type 0 = λ k refusals. c.print_outcomes.new.steps + taking_steps m ≤ start + taking_steps k + refused_steps m further refusals in
+    let exact : RowList → ℕ → Type 0 = λ k refusals. c.print_outcomes.new.steps + taking_steps m ≤ start + taking_steps k + 256 * all.1 + min refusals 16 * further_search m further in (
+      told.outcomes,
+      told.in_turn,
+      subst (λ k. ends k (refusals_at_end 0 told.outcomes)) told.matrix_is (subst (ends c.print_outcomes.new.session.matrix) told.count_is all.3),
+      (all.1, told.are_met, subst (λ k. exact k (refusals_at_end 0 told.outcomes)) told.matrix_is (subst (exact c.print_outcomes.new.session.matrix) told.count_is all.4)),
+    )
