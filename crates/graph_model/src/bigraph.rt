@@ -1,7 +1,8 @@
 // A bipartite graph by the lists of its left side.
 ghost use Rattle.std.specs.Prelude.{◌≡◌, ◌≤◌, ◌-◌, [], Some, length, replicate, slice_get, IfOk, OnOk, OnErr};
 ghost use Rattle.row_model.specs.Rows.{IsRow};
-ghost use Rattle.graph_model.specs.Graphs.{has_edge, HasOneMore, IsBigraph};
+ghost use Rattle.graph_model.specs.Graphs.{BigraphValue, has_edge, HasOneMore, IsBigraph};
+ghost use Rattle.graph_model.specs.Inside.{bigraph_of, BigraphIsKept};
 
 use crate::LEFT_BOUND;
 use crate::lists::{empty_lists, with_edge};
@@ -22,11 +23,7 @@ pub struct Bigraph {
 }
 
 impl Model for Bigraph {
-    ghost use Rattle.graph_model.specs.Graphs.{BigraphValue};
-
     ghost Value = { BigraphValue };
-
-    ghost use Rattle.graph_model.specs.Inside.{bigraph_of, BigraphIsKept};
 
     ghost view = { bigraph_of };
 

@@ -1,6 +1,7 @@
 // Distances between items.
 ghost use Rattle.std.specs.Prelude.{◌≡◌, ◌≤◌, ◌*◌, length, IfOk};
-ghost use Rattle.graph_model.specs.Distances.{distance, IsSymmetric, HasZeroDiagonal, IsDistances};
+ghost use Rattle.graph_model.specs.Distances.{DistancesValue, distance, IsSymmetric, HasZeroDiagonal, IsDistances};
+ghost use Rattle.graph_model.specs.Inside.{distances_of, DistancesAreKept};
 
 use crate::ITEM_BOUND;
 use row_model::NoMemory;
@@ -18,11 +19,7 @@ pub struct Distances {
 }
 
 impl Model for Distances {
-    ghost use Rattle.graph_model.specs.Distances.{DistancesValue};
-
     ghost Value = { DistancesValue };
-
-    ghost use Rattle.graph_model.specs.Inside.{distances_of, DistancesAreKept};
 
     ghost view = { distances_of };
 

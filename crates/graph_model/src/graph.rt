@@ -1,7 +1,8 @@
 // A graph by the neighbours of its vertices.
 ghost use Rattle.std.specs.Prelude.{◌≡◌, ◌≢◌, ◌≤◌, ◌-◌, [], Some, replicate, slice_get, IfOk, OnOk, OnErr};
 ghost use Rattle.row_model.specs.Rows.{IsRow};
-ghost use Rattle.graph_model.specs.Graphs.{has_edge, HasTwoMore, IsGraph};
+ghost use Rattle.graph_model.specs.Graphs.{GraphValue, has_edge, HasTwoMore, IsGraph};
+ghost use Rattle.graph_model.specs.Inside.{graph_of, GraphIsKept};
 
 use crate::lists::{empty_lists, with_edge};
 use row_model::{COLUMN_BOUND, Matrix, NoMemory};
@@ -20,11 +21,7 @@ pub struct Graph {
 }
 
 impl Model for Graph {
-    ghost use Rattle.graph_model.specs.Graphs.{GraphValue};
-
     ghost Value = { GraphValue };
-
-    ghost use Rattle.graph_model.specs.Inside.{graph_of, GraphIsKept};
 
     ghost view = { graph_of };
 

@@ -13,6 +13,7 @@ mod lists;
 pub use bigraph::Bigraph;
 pub use distances::Distances;
 pub use graph::Graph;
+pub use lists::count_below;
 pub use row_model::NoMemory;
 
 /// The greatest number of xs that a [`Bigraph`] allows.

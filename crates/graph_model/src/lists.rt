@@ -71,8 +71,8 @@ fn with_number(alloc: Global, row: &[u32], y: u32) -> Result<Vec<u32>, NoMemory>
     Ok(longer)
 }
 
-// How many numbers at the front lie below `y`.
-fn count_below(row: &[u32], y: u32) -> usize
+/// How many numbers at the front of the list lie below `y`.
+pub fn count_below(row: &[u32], y: u32) -> usize
     ensures count { result ≡ below y row.now }
     ensures within { result ≤ length row.now }
 {

@@ -40,8 +40,7 @@ module _ (g : GraphValue) (o : List ℕ) (h : IsGraph g) (order : IsOrder g.vert
       let m = get_or o j 0 in
       let b = get_or o k 0 in
       let li : i < length o = omega (arith, ij, jk, u) in
-      let lj : j < length o = omega (arith, jk, u) in
-      let rm = vertex j lj in
+      let rm = vertex j (omega (arith, jk, u)) in
       elim (cases_lt p j) [
         | inl before ↦ elim (closed_cases g v b hk) [
           | inr e ↦

@@ -1,9 +1,9 @@
 // The closed rows of a graph.
 ghost use Rattle.std.specs.Prelude.{◌≡◌, ◌≤◌, length, IfOk, OnOk};
-ghost use Rattle.graph_model.specs.Graphs.{below, IsGraph};
+ghost use Rattle.graph_model.specs.Graphs.{IsGraph};
 ghost use Rattle.proper_interval.specs.Umbrellas.{closed_row, closed_of};
 
-use graph_model::Graph;
+use graph_model::{Graph, count_below};
 use row_model::{Matrix, NoMemory};
 use std::alloc::Global;
 
@@ -37,19 +37,6 @@ fn list_closed(row: &mut Vec<u32>, g: &Graph, v: u32) -> Result<(), NoMemory>
     let neighbours = g.neighbours(v);
     row.clear();
     row.extend_from_slice(neighbours)?;
-    row.insert(place_among(neighbours, v), v)?;
+    row.insert(count_below(neighbours, v), v)?;
     Ok(())
-}
-
-// How many neighbours at the front lie below the vertex.
-fn place_among(neighbours: &[u32], v: u32) -> usize
-    ensures count { result ≡ below v neighbours.now }
-    ensures within { result ≤ length neighbours.now }
-{
-    for i in 0..neighbours.len() {
-        if neighbours[i] >= v {
-            return i;
-        }
-    }
-    neighbours.len()
 }
