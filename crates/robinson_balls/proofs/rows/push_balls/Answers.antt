@@ -15,18 +15,15 @@ insert-requires c = rises_steadily 0 c.loop-k.ball.items c.loop-k.invariant.grow
 
 pub push_row-requires-clause-row : goal.push_row-requires-clause-row
 push_row-requires-clause-row c =
-    let d = c.args.d.now in
-    let x = c.args.x in
     let near = c.list_neighbours.new.neighbours.items in
     let k = c.loop-k.k in
     let p = c.index.result.now in
     let l : k < length near = omega arith in
-    let is : p ≡ get_or near k p = c.index.ensures in
     let ends : EndsBall near k = rw c.deref.ensures.value at (c.ends_ball.ensures.ends c.if-ends_ball.true) in
-    let columns : c.loop-k.balls.columns ≡ d.items = c.loop-k.invariant.columns ∙ c.requires.columns in
-    let more : AreNearest near (k + 1) c.insert.new.list.items = grown near k p c.loop-k.ball.items c.insert.new.list.items l is c.loop-k.invariant.grown c.in_ok-insert.ensures in
-    rw (columns, c.deref-then-ends_ball.ensures.value, grown_ball d x near c.in_ok-list_neighbours.ensures k p c.insert.new.list.items l is ends more)
-    (filtered_row (λ y. leb (between d x y) p.distance) d.items)
+    let columns : c.loop-k.balls.columns ≡ c.args.d.now.items = c.loop-k.invariant.columns ∙ c.requires.columns in
+    let more = grown near k p c.loop-k.ball.items c.insert.new.list.items l c.index.ensures c.loop-k.invariant.grown c.in_ok-insert.ensures in
+    rw (columns, c.deref-then-ends_ball.ensures.value, grown_ball c.args.d.now c.args.x near c.in_ok-list_neighbours.ensures k p c.insert.new.list.items l c.index.ensures ends more)
+    (filtered_row (λ y. leb (between c.args.d.now c.args.x y) p.distance) c.args.d.now.items)
 
 pub push_row-requires-clause-room : goal.push_row-requires-clause-room
 push_row-requires-clause-room c =
