@@ -1,6 +1,6 @@
 -- Texts that are read or written piece by piece.
 use Rattle.std.proofs.Common.{◌≡◌, ℕ, ◌<◌, ◌+◌, ◌-◌, List, [], ◌∷◌, ◌++◌, take, drop, length, min, Option, subst, refl, sym, ap, ◌∙◌, arith, take-append-drop}
-use Rattle.std.proofs.lemmas.List.{length-drop, drop-drop}
+use Rattle.std.proofs.lemmas.List.{length-drop, drop-drop, nil_from_length}
 use Rattle.std.proofs.lemmas.Grind.{common_steps}
 use Rattle.std.proofs.Math.Seq.{take-add}
 use Rattle.std.proofs.KnownBytes.{Appends-trans, Consumes-trans}
@@ -28,12 +28,7 @@ pub rest_of : (bytes buffer : List ℕ) (at n : ℕ) → take n buffer ≡ take 
 rest_of bytes buffer at n copied =
     sym (take-append-drop n (drop at bytes)) ∙ ap (λ piece. piece ++ drop n (drop at bytes)) (sym copied) ∙ ap (λ rest. take n buffer ++ rest) (drop-drop n at bytes)
 
--- a list without an item is empty
-no_items : (xs : List ℕ) → length xs ≡ 0 → xs ≡ []
-no_items [] none = refl
-no_items (x ∷ xs) none = absurd (omega (arith, none))
-
 -- where there is room and a piece has bytes, an empty copy leaves nothing
 pub none_left : (bytes : List ℕ) (at n room piece : ℕ) → n ≡ min (length (drop at bytes)) (min room piece) → 0 < piece → n ≡ 0 → 0 < room → drop (at + n) bytes ≡ []
 none_left bytes at n room piece is some zero large =
-    no_items (drop (at + n) bytes) (omega (arith, length-drop (at + n) bytes, length-drop at bytes, is, some, zero, large))
+    nil_from_length (drop (at + n) bytes) (omega (arith, length-drop (at + n) bytes, length-drop at bytes, is, some, zero, large))

@@ -21,11 +21,9 @@ pub struct NeverShelf {
 }
 
 impl Model for NeverShelf {
-    ghost use Rattle.pq_io.specs.NeverShelf.{Kept};
+    ghost use Rattle.pq_io.specs.NeverShelf.{Kept, kept, NeverFails};
 
     ghost Value = { Kept };
-
-    ghost use Rattle.pq_io.specs.NeverShelf.{kept, NeverFails};
 
     ghost view = { kept };
 
