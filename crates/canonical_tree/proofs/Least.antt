@@ -1,34 +1,15 @@
 -- The least column of a tree is told by its columns.
-use Rattle.std.proofs.Common.{◌≡◌, ◌∙◌, ℕ, ◌≤◌, min, false, List, [], ◌∷◌, map, IsTrue, refl, sym, ap, inl, inr, arith}
-use Rattle.std.proofs.lemmas.Bool.{both_ways, cases_lt}
+use Rattle.std.proofs.Common.{◌≡◌, ◌∙◌, ℕ, ◌≤◌, false, List, [], ◌∷◌, map, IsTrue, refl, sym, ap, inl, inr, arith}
+use Rattle.std.proofs.lemmas.Bool.{both_ways}
 use Rattle.column_order.specs.Orders.{has}
-use Rattle.column_order.proofs.Lists.{has_cases, has_head, has_append_left, has_append_right, has_append_cases, has_same}
+use Rattle.column_order.proofs.Lists.{has_cases, has_append_cases, has_same}
 use Rattle.pq_tree.specs.Outline.{Outline, Forest, leaf, p_node, q_node, no_tree, tree_and, leaves, leaves_of}
-use Rattle.pq_tree.specs.Forests.{trees, count}
+use Rattle.pq_tree.specs.Forests.{trees}
 use Rattle.pq_tree.specs.Proper.{HasArities, HaveArities}
 use Rattle.pq_tree.specs.Equivalent.{IsEquivalent, AreEquivalent}
 use Rattle.pq_tree.specs.Canonical.{least, least_of}
+use Rattle.pq_tree.proofs.Canonical.{least_has}
 use Rattle.pq_tree.proofs.Equivalent.{equivalent_occurs, equivalent_arities}
-
-mutual
-  least_has : (t : Outline) → HasArities t → IsTrue (has (leaves t) (least t))
-  least_has (leaf a) h = has_head a []
-  least_has (p_node ts) h = least_have ts (omega (arith, h.0)) h.1
-  least_has (q_node ts) h = least_have ts (omega (arith, h.0)) h.1
-
-  least_have : (ts : Forest) → 1 ≤ count ts → HaveArities ts → IsTrue (has (leaves_of ts) (least_of ts))
-  least_have no_tree n h = absurd (omega arith)
-  least_have (tree_and t no_tree) n h = has_append_left (leaves t) [] (least t) (least_has t h.0)
-  least_have (tree_and t (tree_and u us)) n h =
-      let m : ℕ = least_of (tree_and u us) in
-      elim (cases_lt m (least t)) [
-        | inl k ↦
-            let e : min (least t) m ≡ m = omega arith in
-            rw e (has_append_right (leaves t) (leaves_of (tree_and u us)) m (least_have (tree_and u us) (omega arith) h.1))
-        | inr k ↦
-            let e : min (least t) m ≡ least t = omega arith in
-            rw e (has_append_left (leaves t) (leaves_of (tree_and u us)) (least t) (least_has t h.0))
-      ]
 
 mutual
   least_below : (t : Outline) (a : ℕ) → IsTrue (has (leaves t) a) → least t ≤ a

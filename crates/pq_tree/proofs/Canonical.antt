@@ -28,7 +28,7 @@ other_trees t ts h = (h.0.1, λ a. omega (arith, h.1 a, occurs-append (leaves t)
 
 -- the least column is a column
 mutual
-  least_has : (t : Outline) → HasArities t → IsTrue (has (leaves t) (least t))
+  pub least_has : (t : Outline) → HasArities t → IsTrue (has (leaves t) (least t))
   least_has (leaf a) h = has_head a []
   least_has (p_node ts) h = least_have ts (omega (arith, h.0)) h.1
   least_has (q_node ts) h = least_have ts (omega (arith, h.0)) h.1
@@ -202,19 +202,18 @@ turned_over xs new n first last e two r s h w =
     (ends_turned xs first last (omega arith) (subst (λ m. key (get_or xs (m - 1) last) < key (get_or xs 0 first)) e (rw (← r, ← s) h)))
 
 -- the walk
-equivalent_push : (ts us : List Outline) (t u : Outline) → AreEquivalent (forest ts) us → IsEquivalent t u → AreEquivalent (forest (ts ++ t ∷ [])) (us ++ u ∷ [])
+pub equivalent_push : (ts us : List Outline) (t u : Outline) → AreEquivalent (forest ts) us → IsEquivalent t u → AreEquivalent (forest (ts ++ t ∷ [])) (us ++ u ∷ [])
 equivalent_push [] [] t u h k = (k, tt)
 equivalent_push [] (v ∷ us) t u h k = absurd h
 equivalent_push (s ∷ ts) [] t u h k = absurd h
 equivalent_push (s ∷ ts) (v ∷ us) t u h k = (h.0, equivalent_push ts us t u h.1 k)
 
-pub equivalent_step : (ts : List Tree) (xs new : List Arranged) (i : ℕ) (t : Tree) (x : Arranged) → i < length ts → t ≡ get_or ts i t → new ≡ xs ++ x ∷ [] →
-    AreEquivalent (forest (map outline_of (take i ts))) (map outline_in xs) → IsEquivalent (outline_of t) (outline_of x.tree) →
-    AreEquivalent (forest (map outline_of (take (i + 1) ts))) (map outline_in new)
-equivalent_step ts xs new i t x h r e k m =
-    subst (λ ss. AreEquivalent (forest ss) (map outline_in new)) (sym (map_more outline_of ts i t h))
-    (subst (λ us. AreEquivalent (forest (map outline_of (take i ts) ++ outline_of (get_or ts i t) ∷ [])) us) (sym (ap (map outline_in) e ∙ map-append outline_in xs (x ∷ [])))
-    (equivalent_push (map outline_of (take i ts)) (map outline_in xs) (outline_of (get_or ts i t)) (outline_in x) k (subst (λ c. IsEquivalent (outline_of c) (outline_in x)) r m)))
+pub equivalent_step : {A : Type 0} (f : A → Outline) (ts : List Tree) (xs new : List A) (i : ℕ) (t : Tree) (x : A) → i < length ts → t ≡ get_or ts i t → new ≡ xs ++ x ∷ [] →
+    AreEquivalent (forest (map outline_of (take i ts))) (map f xs) → IsEquivalent (outline_of t) (f x) → AreEquivalent (forest (map outline_of (take (i + 1) ts))) (map f new)
+equivalent_step f ts xs new i t x h r e k m =
+    subst (λ ss. AreEquivalent (forest ss) (map f new)) (sym (map_more outline_of ts i t h))
+    (subst (λ us. AreEquivalent (forest (map outline_of (take i ts) ++ outline_of (get_or ts i t) ∷ [])) us) (sym (ap (map f) e ∙ map-append f xs (x ∷ [])))
+    (equivalent_push (map outline_of (take i ts)) (map f xs) (outline_of (get_or ts i t)) (f x) k (subst (λ c. IsEquivalent (outline_of c) (f x)) r m)))
 
 pub equivalent_leaf : (t : Tree) (u : Outline) (a : ℕ) → t ≡ Leaf a → u ≡ leaf a → IsEquivalent (outline_of t) u
 equivalent_leaf t u a e k = rw (e, outline_of-Leaf a) k

@@ -1,4 +1,5 @@
 use Rattle.std.proofs.lemmas.Result.{IfOk-weaker}
+use Rattle.pq_tree.specs.Arranged.{outline_in}
 use Rattle.pq_tree.proofs.Canonical.{equivalent_leaf, equivalent_P, equivalent_Q, equivalent_step}
 use Rattle.pq_tree.proofs.arrange.+arrange.Goals as goal
 
@@ -17,4 +18,4 @@ arranged_tree-returns-in_ok-children-in-Q t c =
 
 pub arranged_trees-loop-tree-preserved : goal.arranged_trees-loop-tree-preserved
 arranged_trees-loop-tree-preserved t c =
-    equivalent_step _ _ _ _ _ _ c.loop-tree-test.true c.tree-item.is c.in_ok-push.ensures.items c.loop-tree.invariant c.in_ok-arranged_tree.ensures
+    equivalent_step outline_in _ _ _ _ _ _ c.loop-tree-test.true c.tree-item.is c.in_ok-push.ensures.items c.loop-tree.invariant c.in_ok-arranged_tree.ensures
