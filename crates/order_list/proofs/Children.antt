@@ -38,6 +38,25 @@ pub child_weight : (u : Outline) (ts : List Tree) (i : ℕ) (t : Tree) → weigh
 child_weight u ts i t w l e =
     omega (arith, w, weight_at (map outline_of ts) i (omega (arith, length-map ts outline_of, l)), ap weight (outline_at ts i t l e))
 
+-- the last child of a Q-node
+pub record IsLastChild (ts : List Tree) (t : Tree) : Type 0 where
+  pub inside : length ts - 1 < length ts
+  pub place : (length ts - 1) + 1 ≡ length (map outline_of ts)
+  pub outline : tree_at (map outline_of ts) (length ts - 1) ≡ outline_of t
+  pub arities : HasArities (outline_of t)
+
+pub last_of_q : (u : Outline) (ts : List Tree) (t : Tree) → u ≡ q_node (forest (map outline_of ts)) → HasArities u → t ≡ get_or ts (length ts - 1) t → IsLastChild ts t
+last_of_q u ts t e h is =
+    let counts = q_counts u (map outline_of ts) e h in
+    let n : length (map outline_of ts) ≡ length ts = length-map ts outline_of in
+    let l : length ts - 1 < length ts = omega (arith, counts.0, n) in
+    record {
+      inside = l;
+      place = omega (arith, n, l);
+      outline = outline_at ts (length ts - 1) t l is;
+      arities = child_arities ts (length ts - 1) t counts.1 l is;
+    }
+
 pub outlines_length : (ts : List (Bor Tree)) → length (outlines ts) ≡ length ts
 outlines_length ts = length-map ts (λ (t : Bor Tree). outline_of t.now)
 

@@ -1,7 +1,7 @@
 -- The links of the walk, opened one by one: what is read, the trees, and the weight.
 use Rattle.std.proofs.Common.{◌≡◌, ◌∙◌, ◌+◌, ◌-◌, ◌*◌, ◌<◌, ◌≤◌, ◌⊎◌, ℕ, List, [], ◌∷◌, ◌++◌, map, reverse, length, get_or, remove, take, drop, Bor, refl, sym, ap, subst, inl, inr, arith}
 use Rattle.std.specs.List.{IsFirstAndRest, IsLastAndRest}
-use Rattle.std.proofs.lemmas.List.{length-map, length-reverse, map-append, reverse-append, take_all}
+use Rattle.std.proofs.lemmas.List.{length-map, length-reverse, map-append, nil_from_length, reverse-append, take_all}
 use Rattle.pq_tree.specs.Outline.{Outline, leaf, p_node, q_node, no_tree}
 use Rattle.pq_tree.specs.Proper.{outline_of, forest, AreTrees}
 use Rattle.pq_tree.specs.declared.Tree.{Tree}
@@ -13,13 +13,13 @@ use Rattle.order_list.specs.Ways.{Leads}
 use Rattle.order_list.specs.Weights.{weight, weights, weight_within}
 use Rattle.order_list.specs.declared.walk.Bag.{Bag}
 use Rattle.order_list.specs.declared.walk.Coming.{Coming, InAnyOrder, Forwards, Backwards}
-use Rattle.order_list.proofs.Begins.{outline_at}
+use Rattle.order_list.proofs.Begins.{outline_at, lent_at}
 use Rattle.order_list.proofs.Children.{q_counts, child_arities, outlines_length}
 use Rattle.order_list.proofs.Readings.{arities_at}
 use Rattle.order_list.proofs.Ways.{leads_begin, p_parted, q_parted}
 use Rattle.order_list.proofs.LeastFirst.{low_at, low_removed, low_joined, low_reversed, low_same}
 use Rattle.order_list.proofs.Links.{trees-InAnyOrder, within-InAnyOrder, weight-InAnyOrder, trees-Forwards, within-Forwards, weight-Forwards, trees-Backwards, within-Backwards, weight-Backwards}
-use Rattle.order_list.proofs.Steps.{SameSet, same_taken, same_q, same_q_turned, first_child, last_child, weights_taken, weights_reverse}
+use Rattle.order_list.proofs.Steps.{SameSet, outlines_remove, same_taken, same_q, same_q_turned, first_child, last_child, weights_taken, weights_reverse}
 use Rattle.order_list.proofs.Taking.{sound_left, sound_p, sound_q, sound_turned, sound_taken as sound_of_taken, sound_same}
 
 two : (u : Outline) → 2 ≤ weight u
@@ -53,6 +53,19 @@ module _ (ts : List Outline) (k : ℕ) (u : Outline) (bag : Bag) (rest : Bor Com
       (ap (λ v. v ∷ p_node (forest (remove ts k)) ∷ coming_trees rest.now) at ∙ ap (λ us. u ∷ p_node (forest us) ∷ coming_trees rest.now) (sym is) ∙ ap (λ us. u ∷ us) (sym (trees-InAnyOrder bag rest)))
       (low_at ts k low.0.1 l, (low_removed ts k l low.0, low.1))
 
+-- the trees behind the first
+outlines_behind : (ts : List (Bor Tree)) → 1 ≤ length ts → outlines (take (length ts - 1) (drop 1 ts)) ≡ remove (outlines ts) 0
+outlines_behind [] n = absurd (omega arith)
+outlines_behind (t ∷ ts) n = ap outlines (take_all (length (t ∷ ts) - 1) ts (omega arith))
+
+-- a tree u taken from the place k of a bag, and the others: a way down to it begins with the column x
+pub record IsOpened (ts : List Outline) (k x : ℕ) (ks : List ℕ) (u : Outline) (left : List Outline) : Type 0 where
+  pub at : tree_at ts k ≡ u
+  pub others : left ≡ remove ts k
+  pub inside : k < length ts
+  pub begins : CanBegin (tree_at ts k) x
+  pub leads : Leads ks u x
+
 -- the tree of a bag to which a way leads
 module _ (trees : List (Bor Tree)) (ps : List ℕ) (x : ℕ) (H : List Outline) (way : Leads (reverse ps) (p_node (forest (outlines trees))) x) (sound : AreTrees (forest (outlines trees ++ H))) where
   abbrev place : ℕ
@@ -61,22 +74,30 @@ module _ (trees : List (Bor Tree)) (ps : List ℕ) (x : ℕ) (H : List Outline) 
   step : (place < length (outlines trees)) × Leads (reverse (take (length ps - 1) ps)) (tree_at (outlines trees) place) x
   step = p_parted ps (outlines trees) x place (take (length ps - 1) ps) refl refl way
 
-  pub step_inside : place < length (outlines trees)
-  step_inside = step.0
-
   pub step_place : place < length trees
   step_place = omega (arith, step.0, outlines_length trees)
 
-  pub step_begins : CanBegin (tree_at (outlines trees) place) x
-  step_begins = leads_begin (reverse (take (length ps - 1) ps)) (tree_at (outlines trees) place) x (arities_at (outlines trees) place (sound_left (outlines trees) H sound).0 step.0) step.1
+  opened : (u : Outline) (left : List Outline) → tree_at (outlines trees) place ≡ u → left ≡ remove (outlines trees) place → IsOpened (outlines trees) place x (reverse (take (length ps - 1) ps)) u left
+  opened u left at others =
+      record {
+        at = at;
+        others = others;
+        inside = step.0;
+        begins = leads_begin (reverse (take (length ps - 1) ps)) (tree_at (outlines trees) place) x (arities_at (outlines trees) place (sound_left (outlines trees) H sound).0 step.0) step.1;
+        leads = subst (λ v. Leads (reverse (take (length ps - 1) ps)) v x) at step.1;
+      }
 
-  pub step_leads : (u : Outline) → tree_at (outlines trees) place ≡ u → Leads (reverse (take (length ps - 1) ps)) u x
-  step_leads u at = subst (λ v. Leads (reverse (take (length ps - 1) ps)) v x) at step.1
+  pub first_opened : (t : Bor Tree) → place ≡ 0 → t ≡ get_or trees 0 t →
+      IsOpened (outlines trees) place x (reverse (take (length ps - 1) ps)) (outline_of t.now) (outlines (take (length trees - 1) (drop 1 trees)))
+  first_opened t z is =
+      let some : 1 ≤ length trees = omega (arith, step_place) in
+      opened (outline_of t.now) (outlines (take (length trees - 1) (drop 1 trees))) (ap (tree_at (outlines trees)) z ∙ lent_at trees 0 t some is)
+      (outlines_behind trees some ∙ ap (remove (outlines trees)) (sym z))
 
--- the trees behind the first
-pub outlines_behind : (ts : List (Bor Tree)) → 1 ≤ length ts → outlines (take (length ts - 1) (drop 1 ts)) ≡ remove (outlines ts) 0
-outlines_behind [] n = absurd (omega arith)
-outlines_behind (t ∷ ts) n = ap outlines (take_all (length (t ∷ ts) - 1) ts (omega arith))
+  pub other_opened : (t : Bor Tree) (others : List (Bor Tree)) → t ≡ get_or trees place t → others ≡ remove trees place →
+      IsOpened (outlines trees) place x (reverse (take (length ps - 1) ps)) (outline_of t.now) (outlines others)
+  other_opened t others is cut =
+      opened (outline_of t.now) (outlines others) (lent_at trees place t step_place is) (ap outlines cut ∙ outlines_remove trees place step_place)
 
 -- the children of a P-node as a bag
 pub bag_sound : (u : Outline) (ts bag H : List Outline) → u ≡ p_node (forest ts) → bag ≡ ts → AreTrees (forest (u ∷ H)) → AreTrees (forest (bag ++ H))
@@ -97,6 +118,9 @@ module _ (u : Outline) (ts : List Tree) (rest : Bor Coming) (x : ℕ) (e : u ≡
   children_low : StandLow (forest (u ∷ coming_trees rest.now)) → StandLow (forest (map outline_of ts))
   children_low low = (subst StandsLow e low.0).1
 
+  child_begins : (i : ℕ) (t : Tree) (ks : List ℕ) → i < length ts → t ≡ get_or ts i t → Leads ks (outline_of t) x → CanBegin (outline_of t) x
+  child_begins i t ks l at w = leads_begin ks (outline_of t) x (child_arities ts i t (q_counts u (map outline_of ts) e sound.0.0).1 l at) w
+
   module _ (ps : List ℕ) (way : Leads (reverse ps) u x) where
     abbrev end : ℕ
     end = get_or ps (length ps - 1) 0
@@ -104,23 +128,16 @@ module _ (u : Outline) (ts : List Tree) (rest : Bor Coming) (x : ℕ) (e : u ≡
     down : ((end ≡ 0) ⊎ (end + 1 ≡ length (map outline_of ts))) × Leads (reverse (take (length ps - 1) ps)) (tree_at (map outline_of ts) end) x
     down = q_parted ps (map outline_of ts) x end (take (length ps - 1) ps) refl refl (subst (λ v. Leads (reverse ps) v x) e way)
 
-    pub forward_leads : (t : Tree) → t ≡ get_or ts 0 t → end ≡ 0 → Leads (reverse (take (length ps - 1) ps)) (outline_of t) x
-    forward_leads t at z =
-        subst (λ v. Leads (reverse (take (length ps - 1) ps)) v x) (ap (tree_at (map outline_of ts)) z ∙ outline_at ts 0 t (omega (arith, many)) at) down.1
+    pub forward_way : (t : Tree) → t ≡ get_or ts 0 t → end ≡ 0 → Leads (reverse (take (length ps - 1) ps)) (outline_of t) x × CanBegin (outline_of t) x
+    forward_way t at z =
+        let w = subst (λ v. Leads (reverse (take (length ps - 1) ps)) v x) (ap (tree_at (map outline_of ts)) z ∙ outline_at ts 0 t (omega (arith, many)) at) down.1 in
+        (w, child_begins 0 t (reverse (take (length ps - 1) ps)) (omega (arith, many)) at w)
 
-    pub backward_leads : (t : Tree) → t ≡ get_or ts (length ts - 1) t → (end ≡ 0 → ⊥) → Leads (reverse (take (length ps - 1) ps)) (outline_of t) x
-    backward_leads t at not =
+    pub backward_way : (t : Tree) → t ≡ get_or ts (length ts - 1) t → (end ≡ 0 → ⊥) → Leads (reverse (take (length ps - 1) ps)) (outline_of t) x × CanBegin (outline_of t) x
+    backward_way t at not =
         let last : end ≡ length ts - 1 = elim down.0 [ inl z ↦ absurd (not z) | inr z ↦ omega (arith, z, length-map ts outline_of) ] in
-        subst (λ v. Leads (reverse (take (length ps - 1) ps)) v x) (ap (tree_at (map outline_of ts)) last ∙ outline_at ts (length ts - 1) t (omega (arith, many)) at) down.1
-
-  pub child_begins : (i : ℕ) (t : Tree) (ks : List ℕ) → i < length ts → t ≡ get_or ts i t → Leads ks (outline_of t) x → CanBegin (outline_of t) x
-  child_begins i t ks l at w = leads_begin ks (outline_of t) x (child_arities ts i t (q_counts u (map outline_of ts) e sound.0.0).1 l at) w
-
-  pub some_child : 0 < length ts
-  some_child = omega (arith, many)
-
-  pub last_child_inside : length ts - 1 < length ts
-  last_child_inside = omega (arith, many)
+        let w = subst (λ v. Leads (reverse (take (length ps - 1) ps)) v x) (ap (tree_at (map outline_of ts)) last ∙ outline_at ts (length ts - 1) t (omega (arith, many)) at) down.1 in
+        (w, child_begins (length ts - 1) t (reverse (take (length ps - 1) ps)) (omega (arith, many)) at w)
 
   module _ (t : Tree) (part : Bor (List Tree)) (at : t ≡ get_or ts 0 t) (cut : part.now ≡ take (length ts - 1) (drop 1 ts)) (b : CanBegin (outline_of t) x) where
     forward_split : map outline_of ts ≡ outline_of t ∷ map outline_of part.now
@@ -183,52 +200,48 @@ module _ (u : Outline) (ts : List Tree) (rest : Bor Coming) (x : ℕ) (e : u ≡
         same_q_turned u (outline_of t) (map outline_of ts) (reverse (map outline_of part.now)) (coming_trees rest.now) (coming_trees (Backwards part rest)) x e backward_split (trees-Backwards part rest)
         children_sound (omega (arith, many, length-map ts outline_of, length-reverse {A = Outline}, ap (λ (us : List Outline). length us) backward_split)) b
 
+-- a link whose next tree is u, with the link after it
+pub record IsLink (coming : Coming) (u : Outline) (after : Coming) : Type 0 where
+  pub trees : coming_trees coming ≡ u ∷ coming_trees after
+  pub within : trees_within coming ≡ u ∷ trees_within after
+  pub weighs : weight_within coming ≡ weight u + weight_within after
+
 -- a link, read from its first tree on
-module _ (coming : Coming) (trees : Bor (List Tree)) (rest : Bor Coming) (tree : Tree) (others : Bor (List Tree)) (e : coming ≡ Forwards trees rest) (first : IsFirstAndRest trees.now tree others.now) where
-  pub first_trees : coming_trees coming ≡ outline_of tree ∷ coming_trees (Forwards others rest)
-  first_trees =
-      ap coming_trees e ∙ trees-Forwards trees rest ∙ ap (λ ts. map outline_of ts ++ coming_trees rest.now) first.0 ∙
-      ap (λ us. outline_of tree ∷ us) (sym (trees-Forwards others rest))
+pub first_link : (coming : Coming) (trees : Bor (List Tree)) (rest : Bor Coming) (tree : Tree) (others : Bor (List Tree)) → coming ≡ Forwards trees rest → IsFirstAndRest trees.now tree others.now →
+    IsLink coming (outline_of tree) (Forwards others rest)
+first_link coming trees rest tree others e first =
+    record {
+      trees =
+          ap coming_trees e ∙ trees-Forwards trees rest ∙ ap (λ ts. map outline_of ts ++ coming_trees rest.now) first.0 ∙
+          ap (λ us. outline_of tree ∷ us) (sym (trees-Forwards others rest));
+      within =
+          ap trees_within e ∙ within-Forwards trees rest ∙ ap (λ ts. map outline_of ts ++ trees_within rest.now) first.0 ∙
+          ap (λ us. outline_of tree ∷ us) (sym (within-Forwards others rest));
+      weighs = omega (arith, ap weight_within e, weight-Forwards trees rest, ap (λ ts. weights (forest (map outline_of ts))) first.0, weight-Forwards others rest);
+    }
 
-  pub first_within : trees_within coming ≡ outline_of tree ∷ trees_within (Forwards others rest)
-  first_within =
-      ap trees_within e ∙ within-Forwards trees rest ∙ ap (λ ts. map outline_of ts ++ trees_within rest.now) first.0 ∙
-      ap (λ us. outline_of tree ∷ us) (sym (within-Forwards others rest))
-
-  pub first_weight : weight_within coming ≡ weight (outline_of tree) + weight_within (Forwards others rest)
-  first_weight =
-      omega (arith, ap weight_within e, weight-Forwards trees rest, ap (λ ts. weights (forest (map outline_of ts))) first.0, weight-Forwards others rest)
-
-module _ (coming : Coming) (trees : Bor (List Tree)) (rest : Bor Coming) (tree : Tree) (others : Bor (List Tree)) (e : coming ≡ Backwards trees rest) (last : IsLastAndRest trees.now tree others.now) where
-  turned : reverse (map outline_of trees.now) ≡ outline_of tree ∷ reverse (map outline_of others.now)
-  turned =
-      ap (λ ts. reverse (map outline_of ts)) last.0 ∙ ap reverse (map-append outline_of others.now (tree ∷ [])) ∙
-      reverse-append (map outline_of others.now) (outline_of tree ∷ [])
-
-  pub last_trees : coming_trees coming ≡ outline_of tree ∷ coming_trees (Backwards others rest)
-  last_trees =
-      ap coming_trees e ∙ trees-Backwards trees rest ∙ ap (λ us. us ++ coming_trees rest.now) turned ∙ ap (λ us. outline_of tree ∷ us) (sym (trees-Backwards others rest))
-
-  pub last_within : trees_within coming ≡ outline_of tree ∷ trees_within (Backwards others rest)
-  last_within =
-      ap trees_within e ∙ within-Backwards trees rest ∙ ap (λ us. us ++ trees_within rest.now) turned ∙ ap (λ us. outline_of tree ∷ us) (sym (within-Backwards others rest))
-
-  pub last_weight : weight_within coming ≡ weight (outline_of tree) + weight_within (Backwards others rest)
-  last_weight =
-      omega (
-        arith,
-        ap weight_within e,
-        weight-Backwards trees rest,
-        ap (λ us. weights (forest us)) turned,
-        weights_reverse (map outline_of trees.now),
-        weights_reverse (map outline_of others.now),
-        weight-Backwards others rest,
-      )
+-- and from its last one
+pub last_link : (coming : Coming) (trees : Bor (List Tree)) (rest : Bor Coming) (tree : Tree) (others : Bor (List Tree)) → coming ≡ Backwards trees rest → IsLastAndRest trees.now tree others.now →
+    IsLink coming (outline_of tree) (Backwards others rest)
+last_link coming trees rest tree others e last =
+    let turned : reverse (map outline_of trees.now) ≡ outline_of tree ∷ reverse (map outline_of others.now) =
+    ap (λ ts. reverse (map outline_of ts)) last.0 ∙ ap reverse (map-append outline_of others.now (tree ∷ [])) ∙ reverse-append (map outline_of others.now) (outline_of tree ∷ []) in
+    record {
+      trees = ap coming_trees e ∙ trees-Backwards trees rest ∙ ap (λ us. us ++ coming_trees rest.now) turned ∙ ap (λ us. outline_of tree ∷ us) (sym (trees-Backwards others rest));
+      within = ap trees_within e ∙ within-Backwards trees rest ∙ ap (λ us. us ++ trees_within rest.now) turned ∙ ap (λ us. outline_of tree ∷ us) (sym (within-Backwards others rest));
+      weighs =
+          omega (
+            arith,
+            ap weight_within e,
+            weight-Backwards trees rest,
+            ap (λ us. weights (forest us)) turned,
+            weights_reverse (map outline_of trees.now),
+            weights_reverse (map outline_of others.now),
+            weight-Backwards others rest,
+          );
+    }
 
 -- a link that is used up
-pub empty : {A : Type 0} (ts : List A) → length ts ≡ 0 → ts ≡ []
-empty [] e = refl
-empty (t ∷ ts) e = absurd (omega arith)
 
 pub one_outline : (ts : List (Bor Tree)) (d : Bor Tree) → length ts ≡ 1 → outlines ts ≡ outline_of (get_or ts 0 d).now ∷ []
 one_outline [] d n = absurd (omega arith)
@@ -247,12 +260,12 @@ module _ (coming : Coming) (bag : Bag) (rest : Bor Coming) (u : Outline) (e : co
 
 pub none_trees : (coming : Coming) (bag : Bag) (rest : Bor Coming) → coming ≡ InAnyOrder bag rest → length bag.trees.now ≡ 0 → coming_trees coming ≡ p_node no_tree ∷ coming_trees rest.now
 none_trees coming bag rest e n =
-    ap coming_trees e ∙ trees-InAnyOrder bag rest ∙ ap (λ ts. p_node (forest (outlines ts)) ∷ coming_trees rest.now) (empty bag.trees.now n)
+    ap coming_trees e ∙ trees-InAnyOrder bag rest ∙ ap (λ ts. p_node (forest (outlines ts)) ∷ coming_trees rest.now) (nil_from_length bag.trees.now n)
 
 pub no_first : (coming : Coming) (trees : Bor (List Tree)) (rest : Bor Coming) → coming ≡ Forwards trees rest → length trees.now ≡ 0 → coming_trees rest.now ≡ coming_trees coming
 no_first coming trees rest e n =
-    sym (ap coming_trees e ∙ trees-Forwards trees rest ∙ ap (λ ts. map outline_of ts ++ coming_trees rest.now) (empty trees.now n))
+    sym (ap coming_trees e ∙ trees-Forwards trees rest ∙ ap (λ ts. map outline_of ts ++ coming_trees rest.now) (nil_from_length trees.now n))
 
 pub no_last : (coming : Coming) (trees : Bor (List Tree)) (rest : Bor Coming) → coming ≡ Backwards trees rest → length trees.now ≡ 0 → coming_trees rest.now ≡ coming_trees coming
 no_last coming trees rest e n =
-    sym (ap coming_trees e ∙ trees-Backwards trees rest ∙ ap (λ ts. reverse (map outline_of ts) ++ coming_trees rest.now) (empty trees.now n))
+    sym (ap coming_trees e ∙ trees-Backwards trees rest ∙ ap (λ ts. reverse (map outline_of ts) ++ coming_trees rest.now) (nil_from_length trees.now n))

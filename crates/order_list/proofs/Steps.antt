@@ -155,6 +155,10 @@ module _ (ts us : List Outline) (columns : List ℕ) (limit from : ℕ) (a b : O
       below [] r = absurd (p_some ts us (omega (arith, some, all)) sound.0 r)
       below (y ∷ f) r = h y (one_begins y f r)
 
+-- a list that is a column longer, where the list before it is as it was
+pub pushed_on : (xs ys zs : List ℕ) (x : ℕ) → ys ≡ xs → zs ≡ ys ++ x ∷ [] → zs ≡ xs ++ x ∷ []
+pushed_on xs ys zs x same is = is ∙ ap (λ l. l ++ x ∷ []) same
+
 -- the column that was pushed is taken away again
 pub popped : (xs ys zs : List ℕ) (x n : ℕ) → zs ≡ xs ++ x ∷ [] → n ≡ length zs → ys ≡ take (n - 1) zs → ys ≡ xs
 popped xs ys zs x n e l t =

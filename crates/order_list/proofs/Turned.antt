@@ -1,6 +1,6 @@
 -- How the trees are turned low: nodes over trees that stand low, by the sort and by the two ends.
-use Rattle.std.proofs.Common.{◌≡◌, ◌⊎◌, ◌∙◌, ◌+◌, ◌-◌, ◌<◌, ◌≤◌, ℕ, suc, List, [], ◌∷◌, ◌++◌, reverse, map, take, length, get_or, IsPermutation, sym, ap, subst, inl, inr, arith}
-use Rattle.std.proofs.lemmas.List.{map_more, map-append, length-map}
+use Rattle.std.proofs.Common.{◌≡◌, ◌⊎◌, ◌∙◌, ◌-◌, ◌<◌, ◌≤◌, ℕ, suc, List, [], ◌∷◌, reverse, map, length, get_or, IsPermutation, sym, ap, subst, inl, inr, arith}
+use Rattle.std.proofs.lemmas.List.{length-map}
 use Rattle.std.proofs.lemmas.List.Sorted.{IsPermutation-map}
 use Rattle.std.specs.List.Sorted.{IsNonDecreasingBy}
 use Rattle.std.specs.declared.vec.Vec.{Vec}
@@ -97,21 +97,6 @@ pub low_leaf : (t : Tree) (a : ℕ) → t ≡ Leaf a → StandsLow (outline_of t
 low_leaf t a e =
     let is : outline_of t ≡ leaf a = ap outline_of e ∙ outline_of-Leaf a in
     (subst StandsLow (sym is) tt, sym (ap first_column is))
-
--- the walk
-equivalent_pushed : (ts us : List Outline) (t u : Outline) → AreEquivalent (forest ts) us → IsEquivalent t u → AreEquivalent (forest (ts ++ t ∷ [])) (us ++ u ∷ [])
-equivalent_pushed [] [] t u h k = (k, tt)
-equivalent_pushed [] (v ∷ us) t u h k = absurd h
-equivalent_pushed (s ∷ ts) [] t u h k = absurd h
-equivalent_pushed (s ∷ ts) (v ∷ us) t u h k = (h.0, equivalent_pushed ts us t u h.1 k)
-
-pub equivalent_more : (ts : List Tree) (xs new : List Low) (i : ℕ) (t : Tree) (x : Low) → i < length ts → t ≡ get_or ts i t → new ≡ xs ++ x ∷ [] →
-    AreEquivalent (forest (map outline_of (take i ts))) (map outline_low xs) → IsEquivalent (outline_of t) (outline_low x) →
-    AreEquivalent (forest (map outline_of (take (i + 1) ts))) (map outline_low new)
-equivalent_more ts xs new i t x h r e k m =
-    subst (λ ss. AreEquivalent (forest ss) (map outline_low new)) (sym (map_more outline_of ts i t h))
-    (subst (λ us. AreEquivalent (forest (map outline_of (take i ts) ++ outline_of (get_or ts i t) ∷ [])) us) (sym (ap (map outline_low) e ∙ map-append outline_low xs (x ∷ [])))
-    (equivalent_pushed (map outline_of (take i ts)) (map outline_low xs) (outline_of (get_or ts i t)) (outline_low x) k (subst (λ c. IsEquivalent (outline_of c) (outline_low x)) r m)))
 
 pub equivalent_leaf : (u v : Outline) (a : ℕ) → u ≡ leaf a → v ≡ leaf a → IsEquivalent u v
 equivalent_leaf u v a e k = rw e k

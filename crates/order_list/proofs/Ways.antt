@@ -77,21 +77,18 @@ module _ (u v : Outline) (ts : List Outline) (k : ℕ) (ps new : List ℕ) (x : 
   pub q_pushed : u ≡ q_node (forest ts) → (k ≡ 0) ⊎ (k + 1 ≡ length ts) → Leads (reverse new) u x
   q_pushed e l = subst (λ t. Leads (reverse new) t x) (sym e) (subst (λ l. Leads l (q_node (forest ts)) x) (sym turned) (q_step ts k (reverse ps) x l there))
 
+-- a way to where no empty way leads has a step
+some_place : (u : Outline) (ps : List ℕ) (x : ℕ) → (Leads [] u x → ⊥) → Leads (reverse ps) u x → 1 ≤ length ps
+some_place u [] x none w = absurd (none w)
+some_place u (p ∷ ps) x none w = omega arith
+
 -- and the last place is the first step
 module _ (ps : List ℕ) (ts : List Outline) (x : ℕ) where
   pub p_some_place : Leads (reverse ps) (p_node (forest ts)) x → 1 ≤ length ps
-  p_some_place w = some ps w
-    where
-      some : (ps : List ℕ) → Leads (reverse ps) (p_node (forest ts)) x → 1 ≤ length ps
-      some [] w = absurd w
-      some (p ∷ ps) w = omega arith
+  p_some_place = some_place (p_node (forest ts)) ps x (λ w. w)
 
   pub q_some_place : Leads (reverse ps) (q_node (forest ts)) x → 1 ≤ length ps
-  q_some_place w = some ps w
-    where
-      some : (ps : List ℕ) → Leads (reverse ps) (q_node (forest ts)) x → 1 ≤ length ps
-      some [] w = absurd w
-      some (p ∷ ps) w = omega arith
+  q_some_place = some_place (q_node (forest ts)) ps x (λ w. w)
 
   module _ (k : ℕ) (front : List ℕ) (is : k ≡ get_or ps (length ps - 1) 0) (cut : front ≡ take (length ps - 1) ps) where
     parts : 1 ≤ length ps → reverse ps ≡ k ∷ reverse front

@@ -1,10 +1,10 @@
-use Rattle.std.proofs.Common.{◌-◌, ◌<◌, map, length, ap, subst, inr, arith}
+use Rattle.std.proofs.Common.{◌-◌, map, length, ap, subst, inr, arith}
 use Rattle.std.proofs.lemmas.List.{length-map}
 use Rattle.pq_tree.specs.Proper.{outline_of}
 use Rattle.order_list.specs.Ways.{IsWay}
 use Rattle.order_list.specs.Weights.{weight}
 use Rattle.order_list.proofs.Begins.{outline_at}
-use Rattle.order_list.proofs.Children.{p_counts, q_counts, child_arities, child_weight}
+use Rattle.order_list.proofs.Children.{p_counts, child_arities, child_weight, last_of_q}
 use Rattle.order_list.proofs.Ways.{none_more, none_p, none_q, p_pushed, q_pushed}
 use Rattle.order_list.proofs.search.+find_way.Goals as goal
 
@@ -51,27 +51,23 @@ pub find_way-requires-in-Q-2 : goal.find_way-requires-in-Q-2
 find_way-requires-in-Q-2 t c =
     let u = outline_of c.args.tree.now in
     let ts = c.in-Q.children.now in
-    let i = length ts - 1 in
     let child = c.index-children-last.result in
-    let counts = q_counts u (map outline_of ts) c.in-Q.ensures.outline c.requires.arities in
-    let inside : i < length ts = omega (arith, counts.0, length-map ts outline_of) in
+    let last = last_of_q u ts child c.in-Q.ensures.outline c.requires.arities c.index-children-last.is in
     let not = subst (λ b. IsWay (outline_of c.index-children-0.result) c.args.column b c.find_way-in-Q.new.way.items) c.if-branch-2.false c.in_ok-find_way-in-Q.ensures in (
-      omega (arith, child_weight u ts i child (ap weight c.in-Q.ensures.outline) inside c.index-children-last.is, c.decreases),
-      (child_arities ts i child counts.1 inside c.index-children-last.is, not.0),
+      omega (arith, child_weight u ts (length ts - 1) child (ap weight c.in-Q.ensures.outline) last.inside c.index-children-last.is, c.decreases),
+      (last.arities, not.0),
     )
 
 pub returns-then-branch-3 : goal.returns-then-branch-3
 returns-then-branch-3 t c =
     let u = outline_of c.args.tree.now in
     let ts = c.in-Q.children.now in
-    let i = length ts - 1 in
     let child = c.index-children-last.result in
-    let counts = q_counts u (map outline_of ts) c.in-Q.ensures.outline c.requires.arities in
-    let inside : i < length ts = omega (arith, counts.0, length-map ts outline_of) in
-    q_pushed u (outline_of child) (map outline_of ts) i c.find_way-in-Q-2.new.way.items c.push-then-branch-3.new.self.items c.args.column
-    (outline_at ts i child inside c.index-children-last.is) c.in_ok-push-in-Q-2.ensures.items
+    let last = last_of_q u ts child c.in-Q.ensures.outline c.requires.arities c.index-children-last.is in
+    q_pushed u (outline_of child) (map outline_of ts) (length ts - 1) c.find_way-in-Q-2.new.way.items c.push-then-branch-3.new.self.items c.args.column
+    last.outline c.in_ok-push-in-Q-2.ensures.items
     (subst (λ b. IsWay (outline_of child) c.args.column b c.find_way-in-Q-2.new.way.items) c.if-branch-3.true c.in_ok-find_way-in-Q-2.ensures)
-    c.in-Q.ensures.outline (inr (omega (arith, inside, length-map ts outline_of)))
+    c.in-Q.ensures.outline (inr last.place)
 
 pub returns-else-branch-3 : goal.returns-else-branch-3
 returns-else-branch-3 t c =

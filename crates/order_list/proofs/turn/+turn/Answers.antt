@@ -1,5 +1,7 @@
 use Rattle.std.proofs.lemmas.Result.{IfOk-weaker}
-use Rattle.order_list.proofs.Turned.{equivalent_leaf, equivalent_p, equivalent_q, equivalent_more}
+use Rattle.pq_tree.proofs.Canonical.{equivalent_step}
+use Rattle.order_list.specs.LowTrees.{outline_low}
+use Rattle.order_list.proofs.Turned.{equivalent_leaf, equivalent_p, equivalent_q}
 use Rattle.order_list.proofs.turn.+turn.Goals as goal
 
 pub low_tree-returns-in-Leaf : goal.low_tree-returns-in-Leaf
@@ -17,4 +19,4 @@ low_tree-returns-in_ok-children-in-Q t c =
 
 pub low_trees-loop-tree-preserved : goal.low_trees-loop-tree-preserved
 low_trees-loop-tree-preserved t c =
-    equivalent_more _ _ _ _ _ _ c.loop-tree-test.true c.tree-item.is c.in_ok-push.ensures.items c.loop-tree.invariant c.in_ok-low_tree.ensures
+    equivalent_step outline_low _ _ _ _ _ _ c.loop-tree-test.true c.tree-item.is c.in_ok-push.ensures.items c.loop-tree.invariant c.in_ok-low_tree.ensures

@@ -1,20 +1,19 @@
-use Rattle.std.proofs.Common.{rules, ◌≡◌, ◌≢◌, ◌∙◌, ◌+◌, ◌-◌, ◌<◌, ◌≤◌, [], ◌∷◌, ◌++◌, map, reverse, length, get_or, remove, take, drop, refl, sym, ap, subst, arith, vec_len, eqb-true}
+use Rattle.std.proofs.Common.{rules, ◌≡◌, ◌≢◌, ◌∙◌, ◌+◌, [], ◌∷◌, ◌++◌, map, reverse, length, get_or, refl, sym, ap, subst, arith, vec_len, eqb-true}
 use Rattle.pq_tree.specs.Outline.{leaf, p_node, no_tree}
 use Rattle.pq_tree.proofs.Shown.{outline_of-Leaf}
 use Rattle.pq_tree.specs.Proper.{outline_of, forest}
 use Rattle.order_list.specs.Coming.{outlines, coming_trees, trees_within}
 use Rattle.order_list.specs.Gains.{Gains, from_column}
 use Rattle.order_list.specs.Listed.{added}
-use Rattle.order_list.specs.Reading.{Reads, CanBegin, tree_at}
+use Rattle.order_list.specs.Reading.{Reads, CanBegin}
 use Rattle.order_list.specs.Ways.{Leads}
-use Rattle.order_list.proofs.Begins.{lent_at}
 use Rattle.order_list.proofs.Links.{trees-Nothing, trees-InAnyOrder, within-InAnyOrder, weight-InAnyOrder, within-Forwards, weight-Forwards, within-Backwards, weight-Backwards}
 use Rattle.order_list.specs.declared.walk.Coming.{Forwards, Backwards}
 use Rattle.std.proofs.lemmas.Result.{on_ok_weaker}
 use Rattle.order_list.specs.Weights.{weight, weights, weight_within}
 use Rattle.order_list.proofs.Gaining.{Below, gains_same, gains_only, gains_none, gains_one, ready_pushed}
-use Rattle.order_list.proofs.Steps.{popped, next_gains, last_gains, all_gains, ready_moved, gains_moved, same_trees, same_leaf, same_none, same_one, same_bag, leaf_first, same_p, outlines_remove}
-use Rattle.order_list.proofs.Openings.{one_outline, one_trees, one_within, one_weight, step_inside, step_place, step_begins, step_leads, outlines_behind, bag_sound, taken_falls, taken_sound, taken_low, taken_same, forward_leads, backward_leads, child_begins, some_child, last_child_inside, forward_falls, forward_sound, forward_low, forward_same, backward_falls, backward_sound, backward_low, backward_same, none_trees, no_first, no_last, first_trees, first_within, first_weight, last_trees, last_within, last_weight}
+use Rattle.order_list.proofs.Steps.{popped, pushed_on, next_gains, last_gains, all_gains, ready_moved, gains_moved, same_trees, same_leaf, same_none, same_one, same_bag, leaf_first, same_p}
+use Rattle.order_list.proofs.Openings.{one_outline, one_trees, one_within, one_weight, step_place, first_opened, other_opened, bag_sound, taken_falls, taken_sound, taken_low, taken_same, forward_way, forward_falls, forward_sound, forward_low, forward_same, backward_way, backward_falls, backward_sound, backward_low, backward_same, none_trees, no_first, no_last, first_link, last_link}
 use Rattle.order_list.proofs.Children.{outlines_length}
 use Rattle.order_list.proofs.LeastFirst.{low_same, one_low}
 use Rattle.std.proofs.lemmas.Bool.{eqb-false}
@@ -51,8 +50,7 @@ pub each_next-take-requires : goal.each_next-take-requires
 each_next-take-requires t c =
     let i = c.loop-next.invariant in
     let S = Reads (p_node (forest (outlines c.args.trees.now)) ∷ coming_trees c.args.rest.now) in
-    let pushed : c.push.new.self.items ≡ c.args.columns.now.items ++ c.in-Some.next.column ∷ [] =
-    c.in_ok-push.ensures.items ∙ ap (λ l. l ++ c.in-Some.next.column ∷ []) i.columns in (
+    let pushed = pushed_on c.args.columns.now.items c.loop-next.columns.items c.push.new.self.items c.in-Some.next.column i.columns c.in_ok-push.ensures.items in (
       omega (arith, c.decreases),
       (
         subst (λ ps. Leads (reverse ps) (p_node (forest (outlines c.args.trees.now))) c.in-Some.next.column) (sym c.deref.ensures.value) c.in_ok-places.ensures,
@@ -72,7 +70,7 @@ each_next-loop-next-preserved t c =
     let us = coming_trees c.args.rest.now in
     let i = c.loop-next.invariant in
     let x = c.in-Some.next.column in
-    let pushed : c.push.new.self.items ≡ c.args.columns.now.items ++ x ∷ [] = c.in_ok-push.ensures.items ∙ ap (λ l. l ++ x ∷ []) i.columns in
+    let pushed = pushed_on c.args.columns.now.items c.loop-next.columns.items c.push.new.self.items x i.columns c.in_ok-push.ensures.items in
     record {
       columns =
           popped c.args.columns.now.items c.pop.new.self.items c.take.new.columns.items x (vec_len c.take.new.columns) (c.in_ok-take.ensures.columns ∙ pushed)
@@ -91,7 +89,7 @@ each_next-returns-then-more-clause-found t c =
     let us = coming_trees c.args.rest.now in
     let i = c.loop-next.invariant in
     let x = c.in-Some.next.column in
-    let pushed : c.push.new.self.items ≡ c.args.columns.now.items ++ x ∷ [] = c.in_ok-push.ensures.items ∙ ap (λ l. l ++ x ∷ []) i.columns in
+    let pushed = pushed_on c.args.columns.now.items c.loop-next.columns.items c.push.new.self.items x i.columns c.in_ok-push.ensures.items in
     let sound = sound_left ts (trees_within c.args.rest.now) c.requires.trees in
     let n : length c.args.trees.now ≡ length ts = sym (outlines_length c.args.trees.now) in
     last_gains ts us c.args.columns.now.items c.args.limit (x + 1) c.args.found.now c.take.new.found (length c.args.trees.now) c.requires.some n sound
@@ -250,18 +248,14 @@ read_tree-returns-clause-found t c =
 pub read_on-read_tree-requires-in-Some : goal.read_on-read_tree-requires-in-Some
 read_on-read_tree-requires-in-Some t c =
     let coming = c.args.coming.now in
-    let trees = c.in-Forwards.trees in
-    let rest = c.in-Forwards.rest in
-    let tree = c.in-Some.tree.now in
-    let others = c.in-Some.others in
-    let us = coming_trees (Forwards others rest) in (
-      omega (arith, first_weight coming trees rest tree others c.in-Forwards.is c.in-Some.ensures.cases, c.decreases),
+    let us = outline_of c.in-Some.tree.now ∷ coming_trees (Forwards c.in-Some.others c.in-Forwards.rest) in
+    let link = first_link coming c.in-Forwards.trees c.in-Forwards.rest c.in-Some.tree.now c.in-Some.others c.in-Forwards.is c.in-Some.ensures.cases in (
+      omega (arith, link.weighs, c.decreases),
       (
-        sound_same (trees_within coming) (outline_of tree ∷ trees_within (Forwards others rest)) (first_within coming trees rest tree others c.in-Forwards.is c.in-Some.ensures.cases) c.requires.trees,
+        sound_same (trees_within coming) _ link.within c.requires.trees,
         (
-          low_same (coming_trees coming) (outline_of tree ∷ us) (first_trees coming trees rest tree others c.in-Forwards.is c.in-Some.ensures.cases) c.requires.low,
-          ready_moved (Reads (outline_of tree ∷ us)) (Reads (coming_trees coming)) c.args.columns.now.items c.args.limit c.args.found.now
-              (same_trees (outline_of tree ∷ us) (coming_trees coming) (sym (first_trees coming trees rest tree others c.in-Forwards.is c.in-Some.ensures.cases))) c.requires.ready,
+          low_same (coming_trees coming) us link.trees c.requires.low,
+          ready_moved (Reads us) (Reads (coming_trees coming)) c.args.columns.now.items c.args.limit c.args.found.now (same_trees us (coming_trees coming) (sym link.trees)) c.requires.ready,
         ),
       ),
     )
@@ -269,13 +263,10 @@ read_on-read_tree-requires-in-Some t c =
 pub read_on-returns-in-Some-clause-found : goal.read_on-returns-in-Some-clause-found
 read_on-returns-in-Some-clause-found t c =
     let coming = c.args.coming.now in
-    let trees = c.in-Forwards.trees in
-    let rest = c.in-Forwards.rest in
-    let tree = c.in-Some.tree.now in
-    let others = c.in-Some.others in
-    let us = coming_trees (Forwards others rest) in
-    gains_moved c.read_tree-in-Some.result (Reads (outline_of tree ∷ us)) (Reads (coming_trees coming)) c.args.columns.now.items c.args.limit c.args.found.now c.read_tree-in-Some.new.found
-    (same_trees (outline_of tree ∷ us) (coming_trees coming) (sym (first_trees coming trees rest tree others c.in-Forwards.is c.in-Some.ensures.cases))) c.read_tree-in-Some.ensures.found
+    let us = outline_of c.in-Some.tree.now ∷ coming_trees (Forwards c.in-Some.others c.in-Forwards.rest) in
+    let link = first_link coming c.in-Forwards.trees c.in-Forwards.rest c.in-Some.tree.now c.in-Some.others c.in-Forwards.is c.in-Some.ensures.cases in
+    gains_moved c.read_tree-in-Some.result (Reads us) (Reads (coming_trees coming)) c.args.columns.now.items c.args.limit c.args.found.now c.read_tree-in-Some.new.found
+    (same_trees us (coming_trees coming) (sym link.trees)) c.read_tree-in-Some.ensures.found
 
 pub read_on-returns-in-None-clause-found : goal.read_on-returns-in-None-clause-found
 read_on-returns-in-None-clause-found t c =
@@ -288,19 +279,15 @@ read_on-returns-in-None-clause-found t c =
 pub read_on-read_tree-requires-in-Some-split_last : goal.read_on-read_tree-requires-in-Some-split_last
 read_on-read_tree-requires-in-Some-split_last t c =
     let coming = c.args.coming.now in
-    let trees = c.in-Backwards.trees in
-    let rest = c.in-Backwards.rest in
     let found = c.in-Some-split_last in
-    let tree = found.tree.now in
-    let others = found.others in
-    let us = coming_trees (Backwards others rest) in (
-      omega (arith, last_weight coming trees rest tree others c.in-Backwards.is found.ensures.cases, c.decreases),
+    let us = outline_of found.tree.now ∷ coming_trees (Backwards found.others c.in-Backwards.rest) in
+    let link = last_link coming c.in-Backwards.trees c.in-Backwards.rest found.tree.now found.others c.in-Backwards.is found.ensures.cases in (
+      omega (arith, link.weighs, c.decreases),
       (
-        sound_same (trees_within coming) (outline_of tree ∷ trees_within (Backwards others rest)) (last_within coming trees rest tree others c.in-Backwards.is found.ensures.cases) c.requires.trees,
+        sound_same (trees_within coming) _ link.within c.requires.trees,
         (
-          low_same (coming_trees coming) (outline_of tree ∷ us) (last_trees coming trees rest tree others c.in-Backwards.is found.ensures.cases) c.requires.low,
-          ready_moved (Reads (outline_of tree ∷ us)) (Reads (coming_trees coming)) c.args.columns.now.items c.args.limit c.args.found.now
-              (same_trees (outline_of tree ∷ us) (coming_trees coming) (sym (last_trees coming trees rest tree others c.in-Backwards.is found.ensures.cases))) c.requires.ready,
+          low_same (coming_trees coming) us link.trees c.requires.low,
+          ready_moved (Reads us) (Reads (coming_trees coming)) c.args.columns.now.items c.args.limit c.args.found.now (same_trees us (coming_trees coming) (sym link.trees)) c.requires.ready,
         ),
       ),
     )
@@ -308,15 +295,11 @@ read_on-read_tree-requires-in-Some-split_last t c =
 pub read_on-returns-in-Some-split_last-clause-found : goal.read_on-returns-in-Some-split_last-clause-found
 read_on-returns-in-Some-split_last-clause-found t c =
     let coming = c.args.coming.now in
-    let trees = c.in-Backwards.trees in
-    let rest = c.in-Backwards.rest in
     let found = c.in-Some-split_last in
-    let tree = found.tree.now in
-    let others = found.others in
-    let us = coming_trees (Backwards others rest) in
-    gains_moved c.read_tree-in-Some-split_last.result (Reads (outline_of tree ∷ us)) (Reads (coming_trees coming)) c.args.columns.now.items c.args.limit c.args.found.now
-    c.read_tree-in-Some-split_last.new.found (same_trees (outline_of tree ∷ us) (coming_trees coming) (sym (last_trees coming trees rest tree others c.in-Backwards.is found.ensures.cases)))
-    c.read_tree-in-Some-split_last.ensures.found
+    let us = outline_of found.tree.now ∷ coming_trees (Backwards found.others c.in-Backwards.rest) in
+    let link = last_link coming c.in-Backwards.trees c.in-Backwards.rest found.tree.now found.others c.in-Backwards.is found.ensures.cases in
+    gains_moved c.read_tree-in-Some-split_last.result (Reads us) (Reads (coming_trees coming)) c.args.columns.now.items c.args.limit c.args.found.now c.read_tree-in-Some-split_last.new.found
+    (same_trees us (coming_trees coming) (sym link.trees)) c.read_tree-in-Some-split_last.ensures.found
 
 pub read_on-returns-in-None-split_last-clause-found : goal.read_on-returns-in-None-split_last-clause-found
 read_on-returns-in-None-split_last-clause-found t c =
@@ -337,27 +320,17 @@ read_on-returns-in-Nothing-clause-found t c =
 pub take-open-requires : goal.take-open-requires
 take-open-requires t c =
     let ts = outlines c.args.trees.now in
-    let ps = c.args.way.places.now in
     let x = c.args.way.column in
-    let H = trees_within c.args.rest.now in
-    let k = get_or ps (length ps - 1) 0 in
-    let u = outline_of c.index-trees-0.result.now in
-    let inside : k < length c.args.trees.now = step_place c.args.trees.now ps x H c.requires.way c.requires.trees in
-    let z : k ≡ 0 = c.if-place-eq0.true in
-    let some : 1 ≤ length c.args.trees.now = omega arith in
-    let at : tree_at ts k ≡ u = ap (tree_at ts) z ∙ lent_at c.args.trees.now 0 c.index-trees-0.result some c.index-trees-0.is in
-    let is : outlines (take (length c.args.trees.now - 1) (drop 1 c.args.trees.now)) ≡ remove ts k = outlines_behind c.args.trees.now some ∙ ap (remove ts) (sym z) in
-    let l : k < length ts = step_inside c.args.trees.now ps x H c.requires.way c.requires.trees in
-    let b : CanBegin (tree_at ts k) x = step_begins c.args.trees.now ps x H c.requires.way c.requires.trees in (
-      taken_falls ts k u _ c.args.rest l at is t (omega (arith, c.decreases)),
+    let s = first_opened c.args.trees.now c.args.way.places.now x (trees_within c.args.rest.now) c.requires.way c.requires.trees c.index-trees-0.result c.if-place-eq0.true c.index-trees-0.is in (
+      taken_falls ts _ _ _ c.args.rest s.inside s.at s.others t (omega (arith, c.decreases)),
       (
-        step_leads c.args.trees.now ps x H c.requires.way c.requires.trees u at,
+        s.leads,
         (
-          taken_sound ts k u _ c.args.rest l at is c.requires.trees,
+          taken_sound ts _ _ _ c.args.rest s.inside s.at s.others c.requires.trees,
           (
-            taken_low ts k u _ c.args.rest l at is c.requires.low,
+            taken_low ts _ _ _ c.args.rest s.inside s.at s.others c.requires.low,
             ready_moved _ (from_column x (Reads (p_node (forest ts) ∷ coming_trees c.args.rest.now))) c.args.columns.now.items c.args.limit c.args.found.now
-                (taken_same ts k u _ c.args.rest l at is c.requires.trees x b) c.requires.ready,
+                (taken_same ts _ _ _ c.args.rest s.inside s.at s.others c.requires.trees x s.begins) c.requires.ready,
           ),
         ),
       ),
@@ -366,20 +339,10 @@ take-open-requires t c =
 pub take-returns-then-place-eq0-clause-found : goal.take-returns-then-place-eq0-clause-found
 take-returns-then-place-eq0-clause-found t c =
     let ts = outlines c.args.trees.now in
-    let ps = c.args.way.places.now in
     let x = c.args.way.column in
-    let H = trees_within c.args.rest.now in
-    let k = get_or ps (length ps - 1) 0 in
-    let u = outline_of c.index-trees-0.result.now in
-    let inside : k < length c.args.trees.now = step_place c.args.trees.now ps x H c.requires.way c.requires.trees in
-    let z : k ≡ 0 = c.if-place-eq0.true in
-    let some : 1 ≤ length c.args.trees.now = omega arith in
-    let at : tree_at ts k ≡ u = ap (tree_at ts) z ∙ lent_at c.args.trees.now 0 c.index-trees-0.result some c.index-trees-0.is in
-    let is : outlines (take (length c.args.trees.now - 1) (drop 1 c.args.trees.now)) ≡ remove ts k = outlines_behind c.args.trees.now some ∙ ap (remove ts) (sym z) in
-    let l : k < length ts = step_inside c.args.trees.now ps x H c.requires.way c.requires.trees in
-    let b : CanBegin (tree_at ts k) x = step_begins c.args.trees.now ps x H c.requires.way c.requires.trees in
+    let s = first_opened c.args.trees.now c.args.way.places.now x (trees_within c.args.rest.now) c.requires.way c.requires.trees c.index-trees-0.result c.if-place-eq0.true c.index-trees-0.is in
     gains_moved c.open.result _ (from_column x (Reads (p_node (forest ts) ∷ coming_trees c.args.rest.now))) c.args.columns.now.items c.args.limit c.args.found.now c.open.new.found
-    (taken_same ts k u _ c.args.rest l at is c.requires.trees x b) c.open.ensures.found
+    (taken_same ts _ _ _ c.args.rest s.inside s.at s.others c.requires.trees x s.begins) c.open.ensures.found
 
 -- another tree of a bag
 pub take-without-requires : goal.take-without-requires
@@ -396,25 +359,17 @@ take-offset_bounds-trees-place t c =
 pub take-open-requires-else-place-eq0 : goal.take-open-requires-else-place-eq0
 take-open-requires-else-place-eq0 t c =
     let ts = outlines c.args.trees.now in
-    let ps = c.args.way.places.now in
     let x = c.args.way.column in
-    let H = trees_within c.args.rest.now in
-    let k = get_or ps (length ps - 1) 0 in
-    let u = outline_of c.index-trees-place.result.now in
-    let inside : k < length c.args.trees.now = step_place c.args.trees.now ps x H c.requires.way c.requires.trees in
-    let at : tree_at ts k ≡ u = lent_at c.args.trees.now k c.index-trees-place.result inside c.index-trees-place.is in
-    let is : outlines c.deref.result.now ≡ remove ts k = ap outlines (c.deref.ensures.value ∙ c.in_ok-others.ensures) ∙ outlines_remove c.args.trees.now k inside in
-    let l : k < length ts = step_inside c.args.trees.now ps x H c.requires.way c.requires.trees in
-    let b : CanBegin (tree_at ts k) x = step_begins c.args.trees.now ps x H c.requires.way c.requires.trees in (
-      taken_falls ts k u _ c.args.rest l at is t (omega (arith, c.decreases)),
+    let s = other_opened c.args.trees.now c.args.way.places.now x (trees_within c.args.rest.now) c.requires.way c.requires.trees c.index-trees-place.result c.deref.result.now c.index-trees-place.is (c.deref.ensures.value ∙ c.in_ok-others.ensures) in (
+      taken_falls ts _ _ _ c.args.rest s.inside s.at s.others t (omega (arith, c.decreases)),
       (
-        step_leads c.args.trees.now ps x H c.requires.way c.requires.trees u at,
+        s.leads,
         (
-          taken_sound ts k u _ c.args.rest l at is c.requires.trees,
+          taken_sound ts _ _ _ c.args.rest s.inside s.at s.others c.requires.trees,
           (
-            taken_low ts k u _ c.args.rest l at is c.requires.low,
+            taken_low ts _ _ _ c.args.rest s.inside s.at s.others c.requires.low,
             ready_moved _ (from_column x (Reads (p_node (forest ts) ∷ coming_trees c.args.rest.now))) c.args.columns.now.items c.args.limit c.args.found.now
-                (taken_same ts k u _ c.args.rest l at is c.requires.trees x b) c.requires.ready,
+                (taken_same ts _ _ _ c.args.rest s.inside s.at s.others c.requires.trees x s.begins) c.requires.ready,
           ),
         ),
       ),
@@ -423,18 +378,10 @@ take-open-requires-else-place-eq0 t c =
 pub take-returns-in_ok-others-clause-found : goal.take-returns-in_ok-others-clause-found
 take-returns-in_ok-others-clause-found t c =
     let ts = outlines c.args.trees.now in
-    let ps = c.args.way.places.now in
     let x = c.args.way.column in
-    let H = trees_within c.args.rest.now in
-    let k = get_or ps (length ps - 1) 0 in
-    let u = outline_of c.index-trees-place.result.now in
-    let inside : k < length c.args.trees.now = step_place c.args.trees.now ps x H c.requires.way c.requires.trees in
-    let at : tree_at ts k ≡ u = lent_at c.args.trees.now k c.index-trees-place.result inside c.index-trees-place.is in
-    let is : outlines c.deref.result.now ≡ remove ts k = ap outlines (c.deref.ensures.value ∙ c.in_ok-others.ensures) ∙ outlines_remove c.args.trees.now k inside in
-    let l : k < length ts = step_inside c.args.trees.now ps x H c.requires.way c.requires.trees in
-    let b : CanBegin (tree_at ts k) x = step_begins c.args.trees.now ps x H c.requires.way c.requires.trees in
+    let s = other_opened c.args.trees.now c.args.way.places.now x (trees_within c.args.rest.now) c.requires.way c.requires.trees c.index-trees-place.result c.deref.result.now c.index-trees-place.is (c.deref.ensures.value ∙ c.in_ok-others.ensures) in
     gains_moved c.open-else-place-eq0.result _ (from_column x (Reads (p_node (forest ts) ∷ coming_trees c.args.rest.now))) c.args.columns.now.items c.args.limit c.args.found.now c.open-else-place-eq0.new.found
-    (taken_same ts k u _ c.args.rest l at is c.requires.trees x b) c.open-else-place-eq0.ensures.found
+    (taken_same ts _ _ _ c.args.rest s.inside s.at s.others c.requires.trees x s.begins) c.open-else-place-eq0.ensures.found
 
 -- a P-node
 pub open-take-requires : goal.open-take-requires
@@ -476,21 +423,17 @@ pub open-open-requires : goal.open-open-requires
 open-open-requires t c =
     let u = outline_of c.args.tree.now in
     let ts = c.in-Q.children.now in
-    let ps = c.args.way.places.now in
     let x = c.args.way.column in
-    let child = c.index-children-0.result in
-    let e = c.in-Q.ensures.outline in
-    let w : Leads (reverse (take (length ps - 1) ps)) (outline_of child) x = forward_leads u ts c.args.rest x e c.requires.trees ps c.requires.way child c.index-children-0.is c.if-way-end-eq0.true in
-    let b : CanBegin (outline_of child) x = child_begins u ts c.args.rest x e c.requires.trees 0 child _ (some_child u ts c.args.rest x e c.requires.trees) c.index-children-0.is w in (
-      forward_falls u ts c.args.rest x e c.requires.trees child _ c.index-children-0.is refl b t (omega (arith, c.decreases)),
+    let w = forward_way u ts c.args.rest x c.in-Q.ensures.outline c.requires.trees c.args.way.places.now c.requires.way c.index-children-0.result c.index-children-0.is c.if-way-end-eq0.true in (
+      forward_falls u ts c.args.rest x c.in-Q.ensures.outline c.requires.trees c.index-children-0.result _ c.index-children-0.is refl w.1 t (omega (arith, c.decreases)),
       (
-        w,
+        w.0,
         (
-          forward_sound u ts c.args.rest x e c.requires.trees child _ c.index-children-0.is refl b,
+          forward_sound u ts c.args.rest x c.in-Q.ensures.outline c.requires.trees c.index-children-0.result _ c.index-children-0.is refl w.1,
           (
-            forward_low u ts c.args.rest x e c.requires.trees child _ c.index-children-0.is refl b c.requires.low,
+            forward_low u ts c.args.rest x c.in-Q.ensures.outline c.requires.trees c.index-children-0.result _ c.index-children-0.is refl w.1 c.requires.low,
             ready_moved _ (from_column x (Reads (u ∷ coming_trees c.args.rest.now))) c.args.columns.now.items c.args.limit c.args.found.now
-                (forward_same u ts c.args.rest x e c.requires.trees child _ c.index-children-0.is refl b) c.requires.ready,
+                (forward_same u ts c.args.rest x c.in-Q.ensures.outline c.requires.trees c.index-children-0.result _ c.index-children-0.is refl w.1) c.requires.ready,
           ),
         ),
       ),
@@ -500,35 +443,27 @@ pub open-returns-then-way-end-eq0-clause-found : goal.open-returns-then-way-end-
 open-returns-then-way-end-eq0-clause-found t c =
     let u = outline_of c.args.tree.now in
     let ts = c.in-Q.children.now in
-    let ps = c.args.way.places.now in
     let x = c.args.way.column in
-    let child = c.index-children-0.result in
-    let e = c.in-Q.ensures.outline in
-    let w : Leads (reverse (take (length ps - 1) ps)) (outline_of child) x = forward_leads u ts c.args.rest x e c.requires.trees ps c.requires.way child c.index-children-0.is c.if-way-end-eq0.true in
-    let b : CanBegin (outline_of child) x = child_begins u ts c.args.rest x e c.requires.trees 0 child _ (some_child u ts c.args.rest x e c.requires.trees) c.index-children-0.is w in
+    let w = forward_way u ts c.args.rest x c.in-Q.ensures.outline c.requires.trees c.args.way.places.now c.requires.way c.index-children-0.result c.index-children-0.is c.if-way-end-eq0.true in
     gains_moved c.open.result _ (from_column x (Reads (u ∷ coming_trees c.args.rest.now))) c.args.columns.now.items c.args.limit c.args.found.now c.open.new.found
-    (forward_same u ts c.args.rest x e c.requires.trees child _ c.index-children-0.is refl b) c.open.ensures.found
+    (forward_same u ts c.args.rest x c.in-Q.ensures.outline c.requires.trees c.index-children-0.result _ c.index-children-0.is refl w.1) c.open.ensures.found
 
 -- a Q-node, from the last child on
 pub open-open-requires-else-way-end-eq0 : goal.open-open-requires-else-way-end-eq0
 open-open-requires-else-way-end-eq0 t c =
     let u = outline_of c.args.tree.now in
     let ts = c.in-Q.children.now in
-    let ps = c.args.way.places.now in
     let x = c.args.way.column in
-    let child = c.index-children-last.result in
-    let e = c.in-Q.ensures.outline in
-    let w : Leads (reverse (take (length ps - 1) ps)) (outline_of child) x = backward_leads u ts c.args.rest x e c.requires.trees ps c.requires.way child c.index-children-last.is c.if-way-end-eq0.false in
-    let b : CanBegin (outline_of child) x = child_begins u ts c.args.rest x e c.requires.trees (length ts - 1) child _ (last_child_inside u ts c.args.rest x e c.requires.trees) c.index-children-last.is w in (
-      backward_falls u ts c.args.rest x e c.requires.trees child _ c.index-children-last.is refl b t (omega (arith, c.decreases)),
+    let w = backward_way u ts c.args.rest x c.in-Q.ensures.outline c.requires.trees c.args.way.places.now c.requires.way c.index-children-last.result c.index-children-last.is c.if-way-end-eq0.false in (
+      backward_falls u ts c.args.rest x c.in-Q.ensures.outline c.requires.trees c.index-children-last.result _ c.index-children-last.is refl w.1 t (omega (arith, c.decreases)),
       (
-        w,
+        w.0,
         (
-          backward_sound u ts c.args.rest x e c.requires.trees child _ c.index-children-last.is refl b,
+          backward_sound u ts c.args.rest x c.in-Q.ensures.outline c.requires.trees c.index-children-last.result _ c.index-children-last.is refl w.1,
           (
-            backward_low u ts c.args.rest x e c.requires.trees child _ c.index-children-last.is refl b c.requires.low,
+            backward_low u ts c.args.rest x c.in-Q.ensures.outline c.requires.trees c.index-children-last.result _ c.index-children-last.is refl w.1 c.requires.low,
             ready_moved _ (from_column x (Reads (u ∷ coming_trees c.args.rest.now))) c.args.columns.now.items c.args.limit c.args.found.now
-                (backward_same u ts c.args.rest x e c.requires.trees child _ c.index-children-last.is refl b) c.requires.ready,
+                (backward_same u ts c.args.rest x c.in-Q.ensures.outline c.requires.trees c.index-children-last.result _ c.index-children-last.is refl w.1) c.requires.ready,
           ),
         ),
       ),
@@ -538,14 +473,10 @@ pub open-returns-else-way-end-eq0-clause-found : goal.open-returns-else-way-end-
 open-returns-else-way-end-eq0-clause-found t c =
     let u = outline_of c.args.tree.now in
     let ts = c.in-Q.children.now in
-    let ps = c.args.way.places.now in
     let x = c.args.way.column in
-    let child = c.index-children-last.result in
-    let e = c.in-Q.ensures.outline in
-    let w : Leads (reverse (take (length ps - 1) ps)) (outline_of child) x = backward_leads u ts c.args.rest x e c.requires.trees ps c.requires.way child c.index-children-last.is c.if-way-end-eq0.false in
-    let b : CanBegin (outline_of child) x = child_begins u ts c.args.rest x e c.requires.trees (length ts - 1) child _ (last_child_inside u ts c.args.rest x e c.requires.trees) c.index-children-last.is w in
+    let w = backward_way u ts c.args.rest x c.in-Q.ensures.outline c.requires.trees c.args.way.places.now c.requires.way c.index-children-last.result c.index-children-last.is c.if-way-end-eq0.false in
     gains_moved c.open-else-way-end-eq0.result _ (from_column x (Reads (u ∷ coming_trees c.args.rest.now))) c.args.columns.now.items c.args.limit c.args.found.now c.open-else-way-end-eq0.new.found
-    (backward_same u ts c.args.rest x e c.requires.trees child _ c.index-children-last.is refl b) c.open-else-way-end-eq0.ensures.found
+    (backward_same u ts c.args.rest x c.in-Q.ensures.outline c.requires.trees c.index-children-last.result _ c.index-children-last.is refl w.1) c.open-else-way-end-eq0.ensures.found
 
 -- a bag of two trees or more
 pub read_on-each_next-requires : goal.read_on-each_next-requires
