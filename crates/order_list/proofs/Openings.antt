@@ -6,7 +6,8 @@ use Rattle.pq_tree.specs.Outline.{Outline, leaf, p_node, q_node, no_tree}
 use Rattle.pq_tree.specs.Proper.{outline_of, forest, AreTrees}
 use Rattle.pq_tree.specs.declared.Tree.{Tree}
 use Rattle.order_list.specs.Coming.{outlines, coming_trees, trees_within}
-use Rattle.order_list.specs.Gains.{from_column}
+use Rattle.order_list.specs.Gains.{IsReady, from_column}
+use Rattle.order_list.specs.Listed.{OrderList}
 use Rattle.order_list.specs.Reading.{Reads, CanBegin, tree_at}
 use Rattle.order_list.specs.Low.{StandsLow, StandLow}
 use Rattle.order_list.specs.Ways.{Leads}
@@ -19,7 +20,7 @@ use Rattle.order_list.proofs.Readings.{arities_at}
 use Rattle.order_list.proofs.Ways.{leads_begin, p_parted, q_parted}
 use Rattle.order_list.proofs.LeastFirst.{low_at, low_removed, low_joined, low_reversed, low_same}
 use Rattle.order_list.proofs.Links.{trees-InAnyOrder, within-InAnyOrder, weight-InAnyOrder, trees-Forwards, within-Forwards, weight-Forwards, trees-Backwards, within-Backwards, weight-Backwards}
-use Rattle.order_list.proofs.Steps.{SameSet, outlines_remove, same_taken, same_q, same_q_turned, first_child, last_child, weights_taken, weights_reverse}
+use Rattle.order_list.proofs.Steps.{SameSet, outlines_remove, ready_moved, same_taken, same_q, same_q_turned, first_child, last_child, weights_taken, weights_reverse}
 use Rattle.order_list.proofs.Taking.{sound_left, sound_p, sound_q, sound_turned, sound_taken as sound_of_taken, sound_same}
 
 two : (u : Outline) → 2 ≤ weight u
@@ -27,36 +28,11 @@ two (leaf a) = omega arith
 two (p_node ts) = omega arith
 two (q_node ts) = omega arith
 
--- a tree that is taken out of a bag
-module _ (ts : List Outline) (k : ℕ) (u : Outline) (bag : Bag) (rest : Bor Coming) (l : k < length ts) (at : tree_at ts k ≡ u) (is : outlines bag.trees.now ≡ remove ts k) where
-  taken_weight : weight u + weight_within (InAnyOrder bag rest) ≡ 1 + (weights (forest ts) + weight_within rest.now)
-  taken_weight = omega (arith, ap weight at, weights_taken ts k l, weight-InAnyOrder bag rest, ap (λ us. weights (forest us)) is)
-
-  pub taken_falls : (m : ℕ) → m ≡ 8 * (weights (forest ts) + weight_within rest.now) → 8 * (weight u + weight_within (InAnyOrder bag rest)) - 12 < m
-  taken_falls m same = omega (arith, taken_weight, weights_taken ts k l, two (tree_at ts k))
-
-  pub taken_sound : AreTrees (forest (ts ++ trees_within rest.now)) → AreTrees (forest (u ∷ trees_within (InAnyOrder bag rest)))
-  taken_sound sound =
-      sound_same (tree_at ts k ∷ (remove ts k ++ trees_within rest.now)) (u ∷ trees_within (InAnyOrder bag rest))
-      (ap (λ v. v ∷ (remove ts k ++ trees_within rest.now)) at ∙ ap (λ us. u ∷ (us ++ trees_within rest.now)) (sym is) ∙ ap (λ us. u ∷ us) (sym (within-InAnyOrder bag rest)))
-      (sound_of_taken ts (trees_within rest.now) k sound l)
-
-  pub taken_same : AreTrees (forest (ts ++ trees_within rest.now)) → (x : ℕ) → CanBegin (tree_at ts k) x →
-      SameSet (from_column x (Reads (u ∷ coming_trees (InAnyOrder bag rest)))) (from_column x (Reads (p_node (forest ts) ∷ coming_trees rest.now)))
-  taken_same sound x b =
-      same_taken ts (coming_trees rest.now) (coming_trees (InAnyOrder bag rest)) k x u (sound_left ts (trees_within rest.now) sound) l b at
-      (trees-InAnyOrder bag rest ∙ ap (λ us. p_node (forest us) ∷ coming_trees rest.now) is)
-
-  pub taken_low : StandLow (forest (p_node (forest ts) ∷ coming_trees rest.now)) → StandLow (forest (u ∷ coming_trees (InAnyOrder bag rest)))
-  taken_low low =
-      low_same (tree_at ts k ∷ p_node (forest (remove ts k)) ∷ coming_trees rest.now) (u ∷ coming_trees (InAnyOrder bag rest))
-      (ap (λ v. v ∷ p_node (forest (remove ts k)) ∷ coming_trees rest.now) at ∙ ap (λ us. u ∷ p_node (forest us) ∷ coming_trees rest.now) (sym is) ∙ ap (λ us. u ∷ us) (sym (trees-InAnyOrder bag rest)))
-      (low_at ts k low.0.1 l, (low_removed ts k l low.0, low.1))
-
--- the trees behind the first
-outlines_behind : (ts : List (Bor Tree)) → 1 ≤ length ts → outlines (take (length ts - 1) (drop 1 ts)) ≡ remove (outlines ts) 0
-outlines_behind [] n = absurd (omega arith)
-outlines_behind (t ∷ ts) n = ap outlines (take_all (length (t ∷ ts) - 1) ts (omega arith))
+-- what the walk needs to go on with the tree u, to which the way ks leads, before the link
+abbrev pub GoesOn : Outline → List ℕ → ℕ → Coming → ℕ → List ℕ → ℕ → OrderList → Type 0
+GoesOn u ks x after m columns limit found =
+    (8 * (weight u + weight_within after) - 12 < m) × (Leads ks u x × (AreTrees (forest (u ∷ trees_within after)) × (StandLow (forest (u ∷ coming_trees after))
+    × IsReady (from_column x (Reads (u ∷ coming_trees after))) columns limit found)))
 
 -- a tree u taken from the place k of a bag, and the others: a way down to it begins with the column x
 pub record IsOpened (ts : List Outline) (k x : ℕ) (ks : List ℕ) (u : Outline) (left : List Outline) : Type 0 where
@@ -65,6 +41,43 @@ pub record IsOpened (ts : List Outline) (k x : ℕ) (ks : List ℕ) (u : Outline
   pub inside : k < length ts
   pub begins : CanBegin (tree_at ts k) x
   pub leads : Leads ks u x
+
+module _ (ts : List Outline) (k x : ℕ) (ks : List ℕ) (u : Outline) (bag : Bag) (rest : Bor Coming) (s : IsOpened ts k x ks u (outlines bag.trees.now)) where
+  taken_falls : (m : ℕ) → m ≡ 8 * (weights (forest ts) + weight_within rest.now) → 8 * (weight u + weight_within (InAnyOrder bag rest)) - 12 < m
+  taken_falls m same =
+      let weighs : weight u + weight_within (InAnyOrder bag rest) ≡ 1 + (weights (forest ts) + weight_within rest.now) =
+      omega (arith, ap weight s.at, weights_taken ts k s.inside, weight-InAnyOrder bag rest, ap (λ us. weights (forest us)) s.others) in
+      omega (arith, weighs, weights_taken ts k s.inside, two (tree_at ts k))
+
+  taken_sound : AreTrees (forest (ts ++ trees_within rest.now)) → AreTrees (forest (u ∷ trees_within (InAnyOrder bag rest)))
+  taken_sound sound =
+      sound_same (tree_at ts k ∷ (remove ts k ++ trees_within rest.now)) (u ∷ trees_within (InAnyOrder bag rest))
+      (ap (λ v. v ∷ (remove ts k ++ trees_within rest.now)) s.at ∙ ap (λ us. u ∷ (us ++ trees_within rest.now)) (sym s.others) ∙ ap (λ us. u ∷ us) (sym (within-InAnyOrder bag rest)))
+      (sound_of_taken ts (trees_within rest.now) k sound s.inside)
+
+  pub taken_same : AreTrees (forest (ts ++ trees_within rest.now)) →
+      SameSet (from_column x (Reads (u ∷ coming_trees (InAnyOrder bag rest)))) (from_column x (Reads (p_node (forest ts) ∷ coming_trees rest.now)))
+  taken_same sound =
+      same_taken ts (coming_trees rest.now) (coming_trees (InAnyOrder bag rest)) k x u (sound_left ts (trees_within rest.now) sound) s.inside s.begins s.at
+      (trees-InAnyOrder bag rest ∙ ap (λ us. p_node (forest us) ∷ coming_trees rest.now) s.others)
+
+  taken_low : StandLow (forest (p_node (forest ts) ∷ coming_trees rest.now)) → StandLow (forest (u ∷ coming_trees (InAnyOrder bag rest)))
+  taken_low low =
+      low_same (tree_at ts k ∷ p_node (forest (remove ts k)) ∷ coming_trees rest.now) (u ∷ coming_trees (InAnyOrder bag rest))
+      (ap (λ v. v ∷ p_node (forest (remove ts k)) ∷ coming_trees rest.now) s.at ∙ ap (λ us. u ∷ p_node (forest us) ∷ coming_trees rest.now) (sym s.others) ∙ ap (λ us. u ∷ us) (sym (trees-InAnyOrder bag rest)))
+      (low_at ts k low.0.1 s.inside, (low_removed ts k s.inside low.0, low.1))
+
+  -- the walk goes on with the tree
+  pub taken_goes_on : (m : ℕ) → m ≡ 8 * (weights (forest ts) + weight_within rest.now) → AreTrees (forest (ts ++ trees_within rest.now)) → StandLow (forest (p_node (forest ts) ∷ coming_trees rest.now)) →
+      (columns : List ℕ) (limit : ℕ) (found : OrderList) → IsReady (from_column x (Reads (p_node (forest ts) ∷ coming_trees rest.now))) columns limit found →
+      GoesOn u ks x (InAnyOrder bag rest) m columns limit found
+  taken_goes_on m same sound low columns limit found ready =
+      (taken_falls m same, (s.leads, (taken_sound sound, (taken_low low, ready_moved _ (from_column x (Reads (p_node (forest ts) ∷ coming_trees rest.now))) columns limit found (taken_same sound) ready))))
+
+-- the trees behind the first
+outlines_behind : (ts : List (Bor Tree)) → 1 ≤ length ts → outlines (take (length ts - 1) (drop 1 ts)) ≡ remove (outlines ts) 0
+outlines_behind [] n = absurd (omega arith)
+outlines_behind (t ∷ ts) n = ap outlines (take_all (length (t ∷ ts) - 1) ts (omega arith))
 
 -- the tree of a bag to which a way leads
 module _ (trees : List (Bor Tree)) (ps : List ℕ) (x : ℕ) (H : List Outline) (way : Leads (reverse ps) (p_node (forest (outlines trees))) x) (sound : AreTrees (forest (outlines trees ++ H))) where
@@ -146,15 +159,15 @@ module _ (u : Outline) (ts : List Tree) (rest : Bor Coming) (x : ℕ) (e : u ≡
     forward_weight : weight (outline_of t) + weight_within (Forwards part rest) + 1 ≡ weight u + weight_within rest.now
     forward_weight = omega (arith, ap weight e, ap (λ us. weights (forest us)) forward_split, weight-Forwards part rest)
 
-    pub forward_falls : (m : ℕ) → m ≡ 8 * (weight u + weight_within rest.now) - 12 → 8 * (weight (outline_of t) + weight_within (Forwards part rest)) - 12 < m
+    forward_falls : (m : ℕ) → m ≡ 8 * (weight u + weight_within rest.now) - 12 → 8 * (weight (outline_of t) + weight_within (Forwards part rest)) - 12 < m
     forward_falls m is = omega (arith, forward_weight, ap weight e)
 
-    pub forward_sound : AreTrees (forest (outline_of t ∷ trees_within (Forwards part rest)))
+    forward_sound : AreTrees (forest (outline_of t ∷ trees_within (Forwards part rest)))
     forward_sound =
         sound_same (map outline_of ts ++ trees_within rest.now) (outline_of t ∷ trees_within (Forwards part rest))
         (ap (λ us. us ++ trees_within rest.now) forward_split ∙ ap (λ us. outline_of t ∷ us) (sym (within-Forwards part rest))) whole_sound
 
-    pub forward_low : StandLow (forest (u ∷ coming_trees rest.now)) → StandLow (forest (outline_of t ∷ coming_trees (Forwards part rest)))
+    forward_low : StandLow (forest (u ∷ coming_trees rest.now)) → StandLow (forest (outline_of t ∷ coming_trees (Forwards part rest)))
     forward_low low =
         low_same (map outline_of ts ++ coming_trees rest.now) (outline_of t ∷ coming_trees (Forwards part rest))
         (ap (λ us. us ++ coming_trees rest.now) forward_split ∙ ap (λ us. outline_of t ∷ us) (sym (trees-Forwards part rest)))
@@ -164,6 +177,12 @@ module _ (u : Outline) (ts : List Tree) (rest : Bor Coming) (x : ℕ) (e : u ≡
     forward_same =
         same_q u (outline_of t) (map outline_of ts) (map outline_of part.now) (coming_trees rest.now) (coming_trees (Forwards part rest)) x e forward_split (trees-Forwards part rest) children_sound
         (omega (arith, many, length-map ts outline_of, ap (λ (us : List Outline). length us) forward_split)) b
+
+    pub forward_goes_on : (ks : List ℕ) → Leads ks (outline_of t) x → (m : ℕ) → m ≡ 8 * (weight u + weight_within rest.now) - 12 → StandLow (forest (u ∷ coming_trees rest.now)) →
+        (columns : List ℕ) (limit : ℕ) (found : OrderList) → IsReady (from_column x (Reads (u ∷ coming_trees rest.now))) columns limit found →
+        GoesOn (outline_of t) ks x (Forwards part rest) m columns limit found
+    forward_goes_on ks way m is low columns limit found ready =
+        (forward_falls m is, (way, (forward_sound, (forward_low low, ready_moved _ (from_column x (Reads (u ∷ coming_trees rest.now))) columns limit found forward_same ready))))
 
   module _ (t : Tree) (part : Bor (List Tree)) (at : t ≡ get_or ts (length ts - 1) t) (cut : part.now ≡ take (length ts - 1) ts) (b : CanBegin (outline_of t) x) where
     backward_split : reverse (map outline_of ts) ≡ outline_of t ∷ reverse (map outline_of part.now)
@@ -180,16 +199,16 @@ module _ (u : Outline) (ts : List Tree) (rest : Bor Coming) (x : ℕ) (e : u ≡
           weight-Backwards part rest,
         )
 
-    pub backward_falls : (m : ℕ) → m ≡ 8 * (weight u + weight_within rest.now) - 12 → 8 * (weight (outline_of t) + weight_within (Backwards part rest)) - 12 < m
+    backward_falls : (m : ℕ) → m ≡ 8 * (weight u + weight_within rest.now) - 12 → 8 * (weight (outline_of t) + weight_within (Backwards part rest)) - 12 < m
     backward_falls m is = omega (arith, backward_weight, ap weight e)
 
-    pub backward_sound : AreTrees (forest (outline_of t ∷ trees_within (Backwards part rest)))
+    backward_sound : AreTrees (forest (outline_of t ∷ trees_within (Backwards part rest)))
     backward_sound =
         sound_same (reverse (map outline_of ts) ++ trees_within rest.now) (outline_of t ∷ trees_within (Backwards part rest))
         (ap (λ us. us ++ trees_within rest.now) backward_split ∙ ap (λ us. outline_of t ∷ us) (sym (within-Backwards part rest)))
         (sound_turned (map outline_of ts) (trees_within rest.now) whole_sound)
 
-    pub backward_low : StandLow (forest (u ∷ coming_trees rest.now)) → StandLow (forest (outline_of t ∷ coming_trees (Backwards part rest)))
+    backward_low : StandLow (forest (u ∷ coming_trees rest.now)) → StandLow (forest (outline_of t ∷ coming_trees (Backwards part rest)))
     backward_low low =
         low_same (reverse (map outline_of ts) ++ coming_trees rest.now) (outline_of t ∷ coming_trees (Backwards part rest))
         (ap (λ us. us ++ coming_trees rest.now) backward_split ∙ ap (λ us. outline_of t ∷ us) (sym (trees-Backwards part rest)))
@@ -199,6 +218,12 @@ module _ (u : Outline) (ts : List Tree) (rest : Bor Coming) (x : ℕ) (e : u ≡
     backward_same =
         same_q_turned u (outline_of t) (map outline_of ts) (reverse (map outline_of part.now)) (coming_trees rest.now) (coming_trees (Backwards part rest)) x e backward_split (trees-Backwards part rest)
         children_sound (omega (arith, many, length-map ts outline_of, length-reverse {A = Outline}, ap (λ (us : List Outline). length us) backward_split)) b
+
+    pub backward_goes_on : (ks : List ℕ) → Leads ks (outline_of t) x → (m : ℕ) → m ≡ 8 * (weight u + weight_within rest.now) - 12 → StandLow (forest (u ∷ coming_trees rest.now)) →
+        (columns : List ℕ) (limit : ℕ) (found : OrderList) → IsReady (from_column x (Reads (u ∷ coming_trees rest.now))) columns limit found →
+        GoesOn (outline_of t) ks x (Backwards part rest) m columns limit found
+    backward_goes_on ks way m is low columns limit found ready =
+        (backward_falls m is, (way, (backward_sound, (backward_low low, ready_moved _ (from_column x (Reads (u ∷ coming_trees rest.now))) columns limit found backward_same ready))))
 
 -- a link whose next tree is u, with the link after it
 pub record IsLink (coming : Coming) (u : Outline) (after : Coming) : Type 0 where

@@ -13,7 +13,7 @@ use Rattle.std.proofs.lemmas.Result.{on_ok_weaker}
 use Rattle.order_list.specs.Weights.{weight, weights, weight_within}
 use Rattle.order_list.proofs.Gaining.{Below, gains_same, gains_only, gains_none, gains_one, ready_pushed}
 use Rattle.order_list.proofs.Steps.{popped, pushed_on, next_gains, last_gains, all_gains, ready_moved, gains_moved, same_trees, same_leaf, same_none, same_one, same_bag, leaf_first, same_p}
-use Rattle.order_list.proofs.Openings.{one_outline, one_trees, one_within, one_weight, step_place, first_opened, other_opened, bag_sound, taken_falls, taken_sound, taken_low, taken_same, forward_way, forward_falls, forward_sound, forward_low, forward_same, backward_way, backward_falls, backward_sound, backward_low, backward_same, none_trees, no_first, no_last, first_link, last_link}
+use Rattle.order_list.proofs.Openings.{one_outline, one_trees, one_within, one_weight, step_place, first_opened, other_opened, bag_sound, taken_same, taken_goes_on, forward_way, forward_same, forward_goes_on, backward_way, backward_same, backward_goes_on, none_trees, no_first, no_last, first_link, last_link}
 use Rattle.order_list.proofs.Children.{outlines_length}
 use Rattle.order_list.proofs.LeastFirst.{low_same, one_low}
 use Rattle.std.proofs.lemmas.Bool.{eqb-false}
@@ -319,22 +319,9 @@ read_on-returns-in-Nothing-clause-found t c =
 -- the first tree of a bag
 pub take-open-requires : goal.take-open-requires
 take-open-requires t c =
-    let ts = outlines c.args.trees.now in
     let x = c.args.way.column in
-    let s = first_opened c.args.trees.now c.args.way.places.now x (trees_within c.args.rest.now) c.requires.way c.requires.trees c.index-trees-0.result c.if-place-eq0.true c.index-trees-0.is in (
-      taken_falls ts _ _ _ c.args.rest s.inside s.at s.others t (omega (arith, c.decreases)),
-      (
-        s.leads,
-        (
-          taken_sound ts _ _ _ c.args.rest s.inside s.at s.others c.requires.trees,
-          (
-            taken_low ts _ _ _ c.args.rest s.inside s.at s.others c.requires.low,
-            ready_moved _ (from_column x (Reads (p_node (forest ts) ∷ coming_trees c.args.rest.now))) c.args.columns.now.items c.args.limit c.args.found.now
-                (taken_same ts _ _ _ c.args.rest s.inside s.at s.others c.requires.trees x s.begins) c.requires.ready,
-          ),
-        ),
-      ),
-    )
+    let s = first_opened c.args.trees.now c.args.way.places.now x (trees_within c.args.rest.now) c.requires.way c.requires.trees c.index-trees-0.result c.if-place-eq0.true c.index-trees-0.is in
+    taken_goes_on (outlines c.args.trees.now) _ x _ _ _ c.args.rest s t (omega (arith, c.decreases)) c.requires.trees c.requires.low c.args.columns.now.items c.args.limit c.args.found.now c.requires.ready
 
 pub take-returns-then-place-eq0-clause-found : goal.take-returns-then-place-eq0-clause-found
 take-returns-then-place-eq0-clause-found t c =
@@ -342,7 +329,7 @@ take-returns-then-place-eq0-clause-found t c =
     let x = c.args.way.column in
     let s = first_opened c.args.trees.now c.args.way.places.now x (trees_within c.args.rest.now) c.requires.way c.requires.trees c.index-trees-0.result c.if-place-eq0.true c.index-trees-0.is in
     gains_moved c.open.result _ (from_column x (Reads (p_node (forest ts) ∷ coming_trees c.args.rest.now))) c.args.columns.now.items c.args.limit c.args.found.now c.open.new.found
-    (taken_same ts _ _ _ c.args.rest s.inside s.at s.others c.requires.trees x s.begins) c.open.ensures.found
+    (taken_same ts _ x _ _ _ c.args.rest s c.requires.trees) c.open.ensures.found
 
 -- another tree of a bag
 pub take-without-requires : goal.take-without-requires
@@ -358,22 +345,9 @@ take-offset_bounds-trees-place t c =
 
 pub take-open-requires-else-place-eq0 : goal.take-open-requires-else-place-eq0
 take-open-requires-else-place-eq0 t c =
-    let ts = outlines c.args.trees.now in
     let x = c.args.way.column in
-    let s = other_opened c.args.trees.now c.args.way.places.now x (trees_within c.args.rest.now) c.requires.way c.requires.trees c.index-trees-place.result c.deref.result.now c.index-trees-place.is (c.deref.ensures.value ∙ c.in_ok-others.ensures) in (
-      taken_falls ts _ _ _ c.args.rest s.inside s.at s.others t (omega (arith, c.decreases)),
-      (
-        s.leads,
-        (
-          taken_sound ts _ _ _ c.args.rest s.inside s.at s.others c.requires.trees,
-          (
-            taken_low ts _ _ _ c.args.rest s.inside s.at s.others c.requires.low,
-            ready_moved _ (from_column x (Reads (p_node (forest ts) ∷ coming_trees c.args.rest.now))) c.args.columns.now.items c.args.limit c.args.found.now
-                (taken_same ts _ _ _ c.args.rest s.inside s.at s.others c.requires.trees x s.begins) c.requires.ready,
-          ),
-        ),
-      ),
-    )
+    let s = other_opened c.args.trees.now c.args.way.places.now x (trees_within c.args.rest.now) c.requires.way c.requires.trees c.index-trees-place.result c.deref.result.now c.index-trees-place.is (c.deref.ensures.value ∙ c.in_ok-others.ensures) in
+    taken_goes_on (outlines c.args.trees.now) _ x _ _ _ c.args.rest s t (omega (arith, c.decreases)) c.requires.trees c.requires.low c.args.columns.now.items c.args.limit c.args.found.now c.requires.ready
 
 pub take-returns-in_ok-others-clause-found : goal.take-returns-in_ok-others-clause-found
 take-returns-in_ok-others-clause-found t c =
@@ -381,7 +355,7 @@ take-returns-in_ok-others-clause-found t c =
     let x = c.args.way.column in
     let s = other_opened c.args.trees.now c.args.way.places.now x (trees_within c.args.rest.now) c.requires.way c.requires.trees c.index-trees-place.result c.deref.result.now c.index-trees-place.is (c.deref.ensures.value ∙ c.in_ok-others.ensures) in
     gains_moved c.open-else-place-eq0.result _ (from_column x (Reads (p_node (forest ts) ∷ coming_trees c.args.rest.now))) c.args.columns.now.items c.args.limit c.args.found.now c.open-else-place-eq0.new.found
-    (taken_same ts _ _ _ c.args.rest s.inside s.at s.others c.requires.trees x s.begins) c.open-else-place-eq0.ensures.found
+    (taken_same ts _ x _ _ _ c.args.rest s c.requires.trees) c.open-else-place-eq0.ensures.found
 
 -- a P-node
 pub open-take-requires : goal.open-take-requires
@@ -410,13 +384,11 @@ open-take-requires t c =
 pub open-returns-in_ok-trees-in-P-clause-found : goal.open-returns-in_ok-trees-in-P-clause-found
 open-returns-in_ok-trees-in-P-clause-found t c =
     let u = outline_of c.args.tree.now in
-    let ts = map outline_of c.in-P.children.now in
     let bag = outlines c.as_slice.result.now in
     let us = coming_trees c.args.rest.now in
     let x = c.args.way.column in
-    let is : bag ≡ ts = ap outlines c.as_slice.ensures.value ∙ c.in_ok-trees-in-P.ensures in
     gains_moved c.take.result (from_column x (Reads (p_node (forest bag) ∷ us))) (from_column x (Reads (u ∷ us))) c.args.columns.now.items c.args.limit c.args.found.now c.take.new.found
-    (same_p u ts bag us x x c.in-P.ensures.outline is refl) c.take.ensures.found
+    (same_p u (map outline_of c.in-P.children.now) bag us x x c.in-P.ensures.outline (ap outlines c.as_slice.ensures.value ∙ c.in_ok-trees-in-P.ensures) refl) c.take.ensures.found
 
 -- a Q-node, from the first child on
 pub open-open-requires : goal.open-open-requires
@@ -424,29 +396,16 @@ open-open-requires t c =
     let u = outline_of c.args.tree.now in
     let ts = c.in-Q.children.now in
     let x = c.args.way.column in
-    let w = forward_way u ts c.args.rest x c.in-Q.ensures.outline c.requires.trees c.args.way.places.now c.requires.way c.index-children-0.result c.index-children-0.is c.if-way-end-eq0.true in (
-      forward_falls u ts c.args.rest x c.in-Q.ensures.outline c.requires.trees c.index-children-0.result _ c.index-children-0.is refl w.1 t (omega (arith, c.decreases)),
-      (
-        w.0,
-        (
-          forward_sound u ts c.args.rest x c.in-Q.ensures.outline c.requires.trees c.index-children-0.result _ c.index-children-0.is refl w.1,
-          (
-            forward_low u ts c.args.rest x c.in-Q.ensures.outline c.requires.trees c.index-children-0.result _ c.index-children-0.is refl w.1 c.requires.low,
-            ready_moved _ (from_column x (Reads (u ∷ coming_trees c.args.rest.now))) c.args.columns.now.items c.args.limit c.args.found.now
-                (forward_same u ts c.args.rest x c.in-Q.ensures.outline c.requires.trees c.index-children-0.result _ c.index-children-0.is refl w.1) c.requires.ready,
-          ),
-        ),
-      ),
-    )
+    let w = forward_way u ts c.args.rest x c.in-Q.ensures.outline c.requires.trees c.args.way.places.now c.requires.way c.index-children-0.result c.index-children-0.is c.if-way-end-eq0.true in
+    forward_goes_on u ts c.args.rest x c.in-Q.ensures.outline c.requires.trees c.index-children-0.result _ c.index-children-0.is refl w.1 _ w.0 t (omega (arith, c.decreases)) c.requires.low c.args.columns.now.items c.args.limit
+    c.args.found.now c.requires.ready
 
 pub open-returns-then-way-end-eq0-clause-found : goal.open-returns-then-way-end-eq0-clause-found
 open-returns-then-way-end-eq0-clause-found t c =
     let u = outline_of c.args.tree.now in
-    let ts = c.in-Q.children.now in
-    let x = c.args.way.column in
-    let w = forward_way u ts c.args.rest x c.in-Q.ensures.outline c.requires.trees c.args.way.places.now c.requires.way c.index-children-0.result c.index-children-0.is c.if-way-end-eq0.true in
-    gains_moved c.open.result _ (from_column x (Reads (u ∷ coming_trees c.args.rest.now))) c.args.columns.now.items c.args.limit c.args.found.now c.open.new.found
-    (forward_same u ts c.args.rest x c.in-Q.ensures.outline c.requires.trees c.index-children-0.result _ c.index-children-0.is refl w.1) c.open.ensures.found
+    let w = forward_way u c.in-Q.children.now c.args.rest c.args.way.column c.in-Q.ensures.outline c.requires.trees c.args.way.places.now c.requires.way c.index-children-0.result c.index-children-0.is c.if-way-end-eq0.true in
+    gains_moved c.open.result _ (from_column c.args.way.column (Reads (u ∷ coming_trees c.args.rest.now))) c.args.columns.now.items c.args.limit c.args.found.now c.open.new.found
+    (forward_same u c.in-Q.children.now c.args.rest c.args.way.column c.in-Q.ensures.outline c.requires.trees c.index-children-0.result _ c.index-children-0.is refl w.1) c.open.ensures.found
 
 -- a Q-node, from the last child on
 pub open-open-requires-else-way-end-eq0 : goal.open-open-requires-else-way-end-eq0
@@ -454,29 +413,16 @@ open-open-requires-else-way-end-eq0 t c =
     let u = outline_of c.args.tree.now in
     let ts = c.in-Q.children.now in
     let x = c.args.way.column in
-    let w = backward_way u ts c.args.rest x c.in-Q.ensures.outline c.requires.trees c.args.way.places.now c.requires.way c.index-children-last.result c.index-children-last.is c.if-way-end-eq0.false in (
-      backward_falls u ts c.args.rest x c.in-Q.ensures.outline c.requires.trees c.index-children-last.result _ c.index-children-last.is refl w.1 t (omega (arith, c.decreases)),
-      (
-        w.0,
-        (
-          backward_sound u ts c.args.rest x c.in-Q.ensures.outline c.requires.trees c.index-children-last.result _ c.index-children-last.is refl w.1,
-          (
-            backward_low u ts c.args.rest x c.in-Q.ensures.outline c.requires.trees c.index-children-last.result _ c.index-children-last.is refl w.1 c.requires.low,
-            ready_moved _ (from_column x (Reads (u ∷ coming_trees c.args.rest.now))) c.args.columns.now.items c.args.limit c.args.found.now
-                (backward_same u ts c.args.rest x c.in-Q.ensures.outline c.requires.trees c.index-children-last.result _ c.index-children-last.is refl w.1) c.requires.ready,
-          ),
-        ),
-      ),
-    )
+    let w = backward_way u ts c.args.rest x c.in-Q.ensures.outline c.requires.trees c.args.way.places.now c.requires.way c.index-children-last.result c.index-children-last.is c.if-way-end-eq0.false in
+    backward_goes_on u ts c.args.rest x c.in-Q.ensures.outline c.requires.trees c.index-children-last.result _ c.index-children-last.is refl w.1 _ w.0 t (omega (arith, c.decreases)) c.requires.low c.args.columns.now.items c.args.limit
+    c.args.found.now c.requires.ready
 
 pub open-returns-else-way-end-eq0-clause-found : goal.open-returns-else-way-end-eq0-clause-found
 open-returns-else-way-end-eq0-clause-found t c =
     let u = outline_of c.args.tree.now in
-    let ts = c.in-Q.children.now in
-    let x = c.args.way.column in
-    let w = backward_way u ts c.args.rest x c.in-Q.ensures.outline c.requires.trees c.args.way.places.now c.requires.way c.index-children-last.result c.index-children-last.is c.if-way-end-eq0.false in
-    gains_moved c.open-else-way-end-eq0.result _ (from_column x (Reads (u ∷ coming_trees c.args.rest.now))) c.args.columns.now.items c.args.limit c.args.found.now c.open-else-way-end-eq0.new.found
-    (backward_same u ts c.args.rest x c.in-Q.ensures.outline c.requires.trees c.index-children-last.result _ c.index-children-last.is refl w.1) c.open-else-way-end-eq0.ensures.found
+    let w = backward_way u c.in-Q.children.now c.args.rest c.args.way.column c.in-Q.ensures.outline c.requires.trees c.args.way.places.now c.requires.way c.index-children-last.result c.index-children-last.is c.if-way-end-eq0.false in
+    gains_moved c.open-else-way-end-eq0.result _ (from_column c.args.way.column (Reads (u ∷ coming_trees c.args.rest.now))) c.args.columns.now.items c.args.limit c.args.found.now c.open-else-way-end-eq0.new.found
+    (backward_same u c.in-Q.children.now c.args.rest c.args.way.column c.in-Q.ensures.outline c.requires.trees c.index-children-last.result _ c.index-children-last.is refl w.1) c.open-else-way-end-eq0.ensures.found
 
 -- a bag of two trees or more
 pub read_on-each_next-requires : goal.read_on-each_next-requires
