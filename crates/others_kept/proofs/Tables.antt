@@ -194,11 +194,10 @@ module _ (m : RowList) (numbers : List ℕ) (t : Table) (h : AreCounts m (drop 1
           (subst (Keeps o) (sym (later j)) (v.kept (suc j) (omega (arith, length-drop 1 numbers, l)) (λ e. n (omega (arith, e)))))
 
 -- an order is valid for the others exactly where both counts are right
-pub counts_exactly : (m : RowList) (numbers : List ℕ) (t : Table) → AreCounts m (drop 1 numbers) t → (c : ℕ) (o : List ℕ) → c ≡ m.columns → IsOrder c o → (i : ℕ) → 1 ≤ i → i < length numbers
+pub counts_exactly : (m : RowList) (numbers : List ℕ) (t : Table) → AreCounts m (drop 1 numbers) t → (o : List ℕ) → IsOrder m.columns o → (i : ℕ) → 1 ≤ i → i < length numbers
     → (first own : List ℕ) → slice_get m.rows (get_or numbers 0 0 - 1) ≡ Some first → slice_get m.rows (get_or numbers i 0 - 1) ≡ Some own → IsRow m.columns first
     → ((joins o first ≡ length first - 1) × (joins_of_all m.rows (drop 1 numbers) o + (length own - 1) ≡ t.wanted + joins o own)) ↔ IsValidForOthers m numbers i o
-counts_exactly m numbers t h c o columns order i from to first own at_first at_own row_first =
-    let is : IsOrder m.columns o = subst (λ n. IsOrder n o) columns order in
+counts_exactly m numbers t h o is i from to first own at_first at_own row_first =
     let is_first : numbered m.rows numbers 0 ≡ first = get_or_from_slice_get m.rows (get_or numbers 0 0 - 1) first [] at_first in
     let is_own : numbered m.rows numbers i ≡ own = get_or_from_slice_get m.rows (get_or numbers i 0 - 1) own [] at_own in (
       λ both. judged_valid m numbers t h o is i from to first own is_first is_own row_first both.0 both.1,

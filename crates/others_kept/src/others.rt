@@ -6,7 +6,7 @@ ghost use Rattle.others_kept.specs.Counts.{AreOthers};
 
 use crate::each::keeps_others;
 use crate::table::Table;
-use row_model::{MAX_COLUMNS, Matrix, NoMemory};
+use row_model::{MAX_COLUMNS, Matrix, NoMemory, is_order};
 use std::alloc::Global;
 
 /// What is known of several rows of a matrix, to judge orders that are to be valid for all of them but one.
@@ -55,7 +55,10 @@ impl Others {
         ensures { IfOk result (λ yes. IsTrue yes ↔ IsValidForOthers m.now rows.now i order.now) }
     {
         match &self.table {
-            Some(table) if i > 0 => table.keeps_others(alloc, m, rows, i, order),
+            Some(table) if i > 0 => {
+                let is_order = is_order(alloc, m.columns(), order)?;
+                Ok(is_order && table.keeps_others(m, rows, i, order))
+            }
             _ => keeps_others(alloc, m, rows, i, order),
         }
     }

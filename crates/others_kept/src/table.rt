@@ -8,7 +8,7 @@ ghost use Rattle.others_kept.specs.Counts.{rows_with, joins_of_all, AreCounts};
 use crate::joins::{joins, most, most_of_all};
 use crate::spans::spans;
 use crate::square::{add_up, beginnings};
-use row_model::{Matrix, NoMemory, is_order, positions};
+use row_model::{Matrix, NoMemory, positions};
 use std::alloc::Global;
 
 /// For each two columns the number of rows that have both, by the positions of the columns in an order that keeps these
@@ -45,29 +45,19 @@ impl Table {
         })
     }
 
-    // Whether the list is an order of the columns that keeps the numbered rows but the one at an index, which is not
-    // the first. The table is that of the rows behind the first.
-    pub(crate) fn keeps_others(
-        &self,
-        alloc: Global,
-        m: &Matrix,
-        rows: &[u32],
-        i: usize,
-        order: &[u32],
-    ) -> Result<bool, NoMemory>
+    // Whether the order keeps the numbered rows but the one at an index, which is not the first. The table is that of the
+    // rows behind the first.
+    pub(crate) fn keeps_others(&self, m: &Matrix, rows: &[u32], i: usize, order: &[u32]) -> bool
         requires counts { AreCounts m.now (drop 1 rows.now) self.now }
         requires rows { IsRow (length m.now.rows) rows.now }
         requires within { (1 ≤ i) × (i < length rows.now) }
-        ensures { IfOk result (λ yes. IsTrue yes ↔ IsValidForOthers m.now rows.now i order.now) }
+        requires order { IsOrder m.now.columns order.now }
+        ensures { IsTrue result ↔ IsValidForOthers m.now rows.now i order.now }
     {
-        let columns = m.columns();
-        if !is_order(alloc, columns, order)? {
-            return Ok(false);
-        }
         let first = m.row(rows[0]);
         let own = m.row(rows[i]);
         let found = self.joins_of_all(m, rows, order) + most(own);
-        Ok(joins(order, first) == most(first) && found == self.wanted + joins(order, own))
+        joins(order, first) == most(first) && found == self.wanted + joins(order, own)
     }
 
     // How many pairs of neighbours of the order these rows have together.

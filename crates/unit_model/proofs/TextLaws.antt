@@ -4,7 +4,7 @@ use Rattle.std.specs.Prelude.{option_and_then, IfSome, IfNone, ◌≢◌}
 use Rattle.std.specs.Fmt.{decimal}
 use Rattle.std.specs.List.{AllByRecursion}
 use Rattle.std.proofs.lemmas.Bool.{eqb-true, ne_eqb}
-use Rattle.std.proofs.lemmas.List.{append_assoc, append-nil, length-append}
+use Rattle.std.proofs.lemmas.List.{append_assoc, append-nil, length-append, nil_from_length}
 use Rattle.std.proofs.lemmas.Option.{none-some, same_Some, some_pair_parts, option_and_then_some}
 use Rattle.std.proofs.lemmas.Fmt.{length-decimal-le}
 use Rattle.plain_text.proofs.NumberLaws.{chosen}
@@ -154,10 +154,6 @@ head_again vertices size rest s l k =
     ∙ at_word _ (10 ∷ []) rest
     ∙ ap (λ b. cond b None (Some (vertices, size, rest))) (ne_eqb vertices 0 (λ e. absurd (omega (arith, e))))
 
-no_more : (xs : List ℕ) → length xs ≡ 0 → xs ≡ []
-no_more [] h = refl
-no_more (x ∷ xs) h = absurd (omega arith)
-
 -- what is read is a unit model of the grammar with this text
 pub unit_takes : (bytes : List ℕ) (t : UnitValue) → unit_of bytes ≡ Some t → IsUnit t × (bytes ≡ unit_text t)
 unfolding unit_of unit_text
@@ -170,7 +166,7 @@ unit_takes bytes t h =
     let made : UnitValue = record { vertices = x.0; size = x.1; lefts = y.0 } in
     elim (chosen (eqb (length d.0) 0) _ _ _ d.2) [
       | inl z ↦
-          let done : y.1 ≡ codes "end\n" = d.1 ∙ ap (λ w. codes "end\n" ++ w) (no_more d.0 (eqb-true (length d.0) 0 z.0)) in
+          let done : y.1 ≡ codes "end\n" = d.1 ∙ ap (λ w. codes "end\n" ++ w) (nil_from_length d.0 (eqb-true (length d.0) 0 z.0)) in
           let P : UnitValue → Type 0 = λ u. IsUnit u × (bytes ≡ unit_text u) in
           subst P (same_Some made t z.1) (
             record { vertices = a.vertices; size = a.size; count = b.all; each = b.each },

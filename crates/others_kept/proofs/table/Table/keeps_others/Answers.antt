@@ -16,7 +16,7 @@ joins-requires-then-joins-most c = record { row = λ i j d le lt. ascends_rises 
 
 pub returns-then-joins-most : goal.returns-then-joins-most
 returns-then-joins-most c =
-    let exactly = counts_exactly c.args.m.now c.args.rows.now c.args.self.now c.requires.counts _ c.args.order.now c.columns-columns.ensures.columns (c.in_ok-is_order.ensures.0 c.if-not-branch.false) c.args.i c.requires.within.0 c.requires.within.1
+    let exactly = counts_exactly c.args.m.now c.args.rows.now c.args.self.now c.requires.counts c.args.order.now c.requires.order c.args.i c.requires.within.0 c.requires.within.1
     c.row-first.result.now c.row-own.result.now c.row-first.ensures.row c.row-own.ensures.row c.row-first.ensures.ascending in (
       λ e. exactly.0 (
         omega (arith, c.if-joins-most.true, c.joins.ensures.joins, c.most-2.ensures),
@@ -28,7 +28,7 @@ returns-then-joins-most c =
 
 pub returns-else-joins-most : goal.returns-else-joins-most
 returns-else-joins-most c =
-    let exactly = counts_exactly c.args.m.now c.args.rows.now c.args.self.now c.requires.counts _ c.args.order.now c.columns-columns.ensures.columns (c.in_ok-is_order.ensures.0 c.if-not-branch.false) c.args.i c.requires.within.0 c.requires.within.1
+    let exactly = counts_exactly c.args.m.now c.args.rows.now c.args.self.now c.requires.counts c.args.order.now c.requires.order c.args.i c.requires.within.0 c.requires.within.1
     c.row-first.result.now c.row-own.result.now c.row-first.ensures.row c.row-own.ensures.row c.row-first.ensures.ascending in (
       λ e. absurd (c.if-joins-most.false (eqb-true c.joins.result c.most-2.result e)),
       λ v. eq-eqb c.joins.result c.most-2.result (let both = exactly.1 v in omega (arith, both.0, c.joins.ensures.joins, c.most-2.ensures)),
