@@ -33,11 +33,9 @@ pub struct Work {
 }
 
 impl Model for Work {
-    ghost use Rattle.bubble_pass.specs.Marks.{Marks};
+    ghost use Rattle.bubble_pass.specs.Marks.{Marks, marks_of, IsWorkKept};
 
     ghost Value = { Marks };
-
-    ghost use Rattle.bubble_pass.specs.Marks.{marks_of, IsWorkKept};
 
     ghost view = { marks_of };
 

@@ -28,11 +28,9 @@ pub struct FullWork {
 }
 
 impl Model for FullWork {
-    ghost use Rattle.full_pass.specs.View.{Room};
+    ghost use Rattle.full_pass.specs.View.{Room, room_of, IsFullWorkKept};
 
     ghost Value = { Room };
-
-    ghost use Rattle.full_pass.specs.View.{room_of, IsFullWorkKept};
 
     ghost view = { room_of };
 
