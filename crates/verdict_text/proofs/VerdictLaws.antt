@@ -11,10 +11,7 @@ use Rattle.verdict_text.specs.Reading.{head_at, claim_at, verdict_of}
 use Rattle.verdict_text.proofs.HeadLaws.{head_takes, head_again}
 use Rattle.verdict_text.proofs.ClaimLaws.{claim_takes, claim_again}
 use Rattle.text_parts.proofs.Chains.{after_word, at_word}
-
-no_more : (xs : List ℕ) → length xs ≡ 0 → xs ≡ []
-no_more [] h = refl
-no_more (x ∷ xs) h = absurd (omega arith)
+use Rattle.std.proofs.lemmas.List.{nil_from_length}
 
 -- what is read is a verdict of the grammar with this text
 pub verdict_takes : (bytes : List ℕ) (v : VerdictValue) → verdict_of bytes ≡ Some v → IsVerdict v × (bytes ≡ verdict_text v)
@@ -28,7 +25,7 @@ verdict_takes bytes v h =
     let made : VerdictValue = record { version = x.0.0; kind = x.0.1; columns = x.0.2; claim = y.0 } in
     elim (chosen (eqb (length d.0) 0) _ _ _ d.2) [
       | inl z ↦
-          let done : y.1 ≡ codes "end\n" = d.1 ∙ ap (λ w. codes "end\n" ++ w) (no_more d.0 (eqb-true (length d.0) 0 z.0)) in
+          let done : y.1 ≡ codes "end\n" = d.1 ∙ ap (λ w. codes "end\n" ++ w) (nil_from_length d.0 (eqb-true (length d.0) 0 z.0)) in
           let P : VerdictValue → Type 0 = λ v. IsVerdict v × (bytes ≡ verdict_text v) in
           subst P (same_Some made v z.1) (
             record { sides = a.sides; columns = a.columns; claim = b.fits },
