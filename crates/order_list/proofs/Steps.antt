@@ -160,7 +160,8 @@ pub pushed_on : (xs ys zs : List ℕ) (x : ℕ) → ys ≡ xs → zs ≡ ys ++ x
 pushed_on xs ys zs x same is = is ∙ ap (λ l. l ++ x ∷ []) same
 
 -- the column that was pushed is taken away again
-pub popped : (xs ys zs : List ℕ) (x n : ℕ) → zs ≡ xs ++ x ∷ [] → n ≡ length zs → ys ≡ take (n - 1) zs → ys ≡ xs
-popped xs ys zs x n e l t =
+pub popped : (xs ys zs ws : List ℕ) (x n : ℕ) → zs ≡ ws → ws ≡ xs ++ x ∷ [] → n ≡ length zs → ys ≡ take (n - 1) zs → ys ≡ xs
+popped xs ys zs ws x n same pushed l t =
+    let e : zs ≡ xs ++ x ∷ [] = same ∙ pushed in
     let m : n - 1 ≡ length xs = omega (arith, l, ap (λ (k : List ℕ). length k) e, length-append xs (x ∷ [])) in
     t ∙ ap (λ k. take k zs) m ∙ ap (take (length xs)) e ∙ take-append_seam xs (x ∷ [])

@@ -73,7 +73,7 @@ each_next-loop-next-preserved t c =
     let pushed = pushed_on c.args.columns.now.items c.loop-next.columns.items c.push.new.self.items x i.columns c.in_ok-push.ensures.items in
     record {
       columns =
-          popped c.args.columns.now.items c.pop.new.self.items c.take.new.columns.items x (vec_len c.take.new.columns) (c.in_ok-take.ensures.columns ∙ pushed)
+          popped c.args.columns.now.items c.pop.new.self.items c.take.new.columns.items c.push.new.self.items x (vec_len c.take.new.columns) c.in_ok-take.ensures.columns pushed
           (omega (arith, c.take.new.columns.ok.0)) c.pop.ensures.rest;
       small = omega arith;
       fresh = sym c.more.ensures ∙ c.if-more.false;
