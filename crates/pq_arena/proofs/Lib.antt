@@ -1,3 +1,4 @@
+pub mod Sizes
 pub mod Between
 pub mod Children
 pub mod Read

@@ -48,7 +48,26 @@ pub fn enter_ring(nodes: &mut Vec<Node>, p: u32, n: u32)
     ensures heads { heads nodes.new.items ≡ more (heads nodes.old.items) p n }
 {
     let head = head_at(nodes, p);
-    if head.count == 0 {
+    seat_first(nodes, head, p, n);
+    set_head(
+        nodes,
+        p,
+        Head {
+            first: n,
+            count: head.count + 1,
+            ..head
+        },
+    );
+}
+
+// `n` stands in front of the children of the P-node `p`, of which `over` is the head.
+fn seat_first(nodes: &mut Vec<Node>, over: Head, p: u32, n: u32)
+    requires over { over ≡ head (heads nodes.old.items) p }
+    requires can { CanEnter (links nodes.old.items) (heads nodes.old.items) p n }
+    ensures links { links nodes.new.items ≡ ringed (links nodes.old.items) over p n }
+    ensures heads { heads nodes.new.items ≡ heads nodes.old.items }
+{
+    if over.count == 0 {
         set_link(
             nodes,
             n,
@@ -59,26 +78,17 @@ pub fn enter_ring(nodes: &mut Vec<Node>, p: u32, n: u32)
             },
         );
     } else {
-        let back = link_at(nodes, head.first).near1;
+        let back = link_at(nodes, over.first).near1;
         set_near0(nodes, back, n);
-        set_near1(nodes, head.first, n);
+        set_near1(nodes, over.first, n);
         set_link(
             nodes,
             n,
             Link {
                 parent: p,
-                near0: head.first,
+                near0: over.first,
                 near1: back,
             },
         );
     }
-    set_head(
-        nodes,
-        p,
-        Head {
-            first: n,
-            count: head.count + 1,
-            ..head
-        },
-    );
 }

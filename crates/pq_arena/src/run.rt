@@ -1,6 +1,6 @@
 // The run of the children of a Q-node, which know no direction.
 ghost use Rattle.std.specs.Prelude.{◌≡◌, ◌<◌, length, set, cond, eqb};
-ghost use Rattle.arena_model.specs.ChildLists.{end_parent};
+ghost use Rattle.arena_model.specs.ChildLists.{end_parent, none};
 ghost use Rattle.pq_arena.specs.Wiring.{links, heads, link, head, redirected, relinked_if, joined, spliced_links, spliced_heads, IsNone, CanSplice, fore, aft, beside_end, extended, extended_ends, new_end, CanExtend};
 
 use crate::node::*;
@@ -50,24 +50,39 @@ pub fn splice_between(nodes: &mut Vec<Node>, child: u32, n: u32, far: u32, e: u3
     join(nodes, n, child, e, q);
     join(nodes, far, child, g, q);
     set_link(nodes, child, NO_LINK);
+    set_ends(nodes, q, child, n, e, g);
+}
+
+// The ends of `q`, if it is a node, once the children from `e` to `g` have come beside `n` in the place of `child`.
+fn set_ends(nodes: &mut Vec<Node>, q: u32, child: u32, n: u32, e: u32, g: u32)
+    requires { IsNone (length (heads nodes.old.items)) q }
+    ensures heads { heads nodes.new.items ≡ spliced_heads (heads nodes.old.items) q child n e g }
+    ensures links { links nodes.new.items ≡ links nodes.old.items }
+{
     if q != NONE {
         let head = head_at(nodes, q);
-        let outer = if n == NONE { e } else { g };
-        let first = if head.first == child {
-            outer
-        } else {
-            head.first
-        };
-        let last = new_last(head, child, outer, g);
-        set_head(
-            nodes,
-            q,
-            Head {
-                first,
-                last,
-                ..head
-            },
-        );
+        set_head(nodes, q, spliced_head(head, child, n, e, g));
+    }
+}
+
+// The head of a run after the children from `e` to `g` have come beside `n` in the place of `child`.
+fn spliced_head(head: Head, child: u32, n: u32, e: u32, g: u32) -> Head
+    ensures { result ≡ record head {
+      first = cond (eqb head.first child) (cond (eqb n none) e g) head.first;
+      last = cond (eqb head.last child) (cond (eqb head.first child) g (cond (eqb n none) e g)) head.last;
+    } }
+{
+    let outer = if n == NONE { e } else { g };
+    let first = if head.first == child {
+        outer
+    } else {
+        head.first
+    };
+    let last = new_last(head, child, outer, g);
+    Head {
+        first,
+        last,
+        ..head
     }
 }
 
