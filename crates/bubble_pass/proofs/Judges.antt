@@ -257,6 +257,18 @@ us_sum ls (u ∷ us) h =
 pub NotFull : Layout → Labels → ℕ → Type 0
 NotFull f ls x = (k : ℕ) × (1 ≤ occurs (children_at f x) k) × (label ls.labels.items k ≢ Full)
 
+pub judge_ticks : (f : Layout) (ls : Labels) (x left : ℕ) (before next : Option NodeId) (s0 s : ℕ) → Judging f ls x left before next s0 s → s ≤ s0 + number ls.full.items x + 2
+judge_ticks f ls x left before next s0 s j = let c : left + length j.us ≡ number ls.full.items x = j.count in let t : s ≡ s0 + 1 + length j.us = j.ticks in omega arith
+
+pub one_look : (s0 s k : ℕ) → s ≡ s0 + 1 → s ≤ s0 + k + 2
+one_look s0 s k t = omega arith
+
+pub full_some : Full ≢ Empty
+full_some e = absurd (cc)
+
+pub partial_some : Partial ≢ Empty
+partial_some e = absurd (cc)
+
 -- the walk met one that is not full
 pub judge_none : (f : Layout) (ls : Labels) (x left : ℕ) (before next : Option NodeId) (s0 s : ℕ) → IsLayout f → Judging f ls x left before next s0 s → 0 < left →
     number ls.full.items x ≡ sum_by (λ z. full_one (label ls.labels.items z)) (children_at f x) → full_in ls.labels.items next ≡ None → NotFull f ls x

@@ -2,13 +2,13 @@
 use Rattle.std.proofs.Common.{◌≡◌, ◌≢◌, ◌⊎◌, inl, inr, ℕ, ◌+◌, ◌≤◌, ◌<◌, List, [], ◌∷◌, ◌++◌, length, set, sum_by, Option, Some, None, refl, sym, ap, subst, ◌∙◌, arith}
 use Rattle.std.proofs.lemmas.Bool.{cases_eq}
 use Rattle.std.proofs.lemmas.List.{length-set, get_or_read}
-use Rattle.std.proofs.Common.{get_or}
+use Rattle.std.proofs.Common.{get_or, vec_len}
 use Rattle.std.proofs.lemmas.List.Sums.{sum_by-cons}
 use Rattle.pq_arena.specs.declared.node.NodeId.{NodeId}
 use Rattle.pq_arena.specs.declared.node.NodeView.{NodeView}
 use Rattle.arena_model.specs.ChildLists.{none}
 use Rattle.column_order.specs.Orders.{occurs}
-use Rattle.arena_model.specs.Layout.{Layout, children_at, IsLayout}
+use Rattle.arena_model.specs.Layout.{Layout, children_at, IsInUse, IsLayout}
 use Rattle.arena_model.specs.ChildLists.{last_or}
 use Rattle.pq_arena.specs.Looks.{ShowsNode, index_or_none, node_named}
 use Rattle.arena_model.proofs.Slots.{child_used, in_range, not_none, parent_used}
@@ -383,6 +383,15 @@ queue_read f row a i x k lt e =
     let long : length a.queue.items ≡ length a.stages.items = k.queue.long in
     ap (λ (n : NodeId). n.index) (get_or_read a.queue.items i x (omega arith) e no_id)
 
+pub head_in : (f : Layout) (row : List ℕ) (a : Climber) → Kept f row a → a.head < a.tail → a.head < vec_len a.queue
+head_in f row a k lt =
+    let room : a.tail + sum_by unseen_one a.stages.items ≡ length a.stages.items = k.queue.room in
+    let long : length a.queue.items ≡ length a.stages.items = k.queue.long in
+    omega (arith, a.queue.ok.0)
+
+pub queue_used : (f : Layout) (row : List ℕ) (a : Climber) (i : ℕ) (x : NodeId) → Kept f row a → i < a.tail → x ≡ get_or a.queue.items i x → IsInUse f x.index
+queue_used f row a i x k lt e = subst (λ z. IsInUse f z) (sym (queue_read f row a i x k lt e)) (k.climb.used (at a.queue.items i) (k.queue.seen i lt))
+
 pub queue_in : (f : Layout) (row : List ℕ) (a : Climber) (i : ℕ) (x : NodeId) → Kept f row a → i < a.tail → x ≡ get_or a.queue.items i x → x.index < length a.stages.items
 queue_in f row a i x k lt e = subst (λ z. z < length a.stages.items) (sym (queue_read f row a i x k lt e)) (seen_in a.stages.items (at a.queue.items i) (k.queue.seen i lt))
 
@@ -459,3 +468,10 @@ turned_parked f row a c x view k lt e t =
     subst (λ z. Turned a c z) e
     (turned_off (elim (parked_cases (near0 view.near)) [ inl p ↦ ap parked_one (is ∙ p.0) | inr p ↦ ap parked_one (is ∙ p.0) ])
     (λ y ne. ap (λ z. stage z y) t.stages ∙ set_there a.stages.items x.index y (parked_as view) ne) t.queue t.tail)
+
+-- the ticks of a turn
+pub risen_ticks : (s s1 s2 s3 p p1 p2 p3 : ℕ) → s1 ≡ s + 1 → p1 ≡ p → s2 + p2 ≡ s1 + p1 → s3 + p3 ≡ s2 + p2 → s3 + p3 ≤ s + p + 2
+risen_ticks s s1 s2 s3 p p1 p2 p3 look rose walked again = omega arith
+
+pub parked_ticks : (s s1 p p1 : ℕ) → s1 ≡ s + 1 → p1 ≡ p + 1 → s1 + p1 ≤ s + p + 2
+parked_ticks s s1 p p1 look one = omega arith

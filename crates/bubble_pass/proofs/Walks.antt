@@ -51,6 +51,25 @@ blocked_count st x e =
     let b : parked_one (stage st x) ≡ 1 = ap parked_one e in
     omega arith
 
+-- a blocked node is in use, and some node is parked
+pub record BlockedNode (f : Layout) (w : Climber) (x : ℕ) : Type 0 where
+  pub used : IsInUse f x
+  pub inside : x < length w.stages.items
+  pub parked : 1 ≤ w.parked
+
+pub blocked_node : (f : Layout) (row : List ℕ) (w : Climber) (next : Option NodeId) (x : NodeId) → Kept f row w → blocked_in w.stages.items next ≡ Some x → BlockedNode f w x.index
+blocked_node f row w next x k e =
+    let bl = blocked_is w.stages.items next x e in
+    let seen : IsSeen (stage w.stages.items x.index) = seen_by (stage w.stages.items x.index) Blocked bl.1 tt in
+    record {
+      used = k.climb.used x.index seen;
+      inside = seen_in w.stages.items x.index seen;
+      parked = subst (λ n. 1 ≤ n) (sym k.count) (blocked_count w.stages.items x.index bl.1);
+    }
+
+pub one_less : (a b : ℕ) → 1 ≤ a → b ≡ a → b - 1 < a
+one_less a b some same = omega arith
+
 abbrev pub less_parked : Climber → Climber
 less_parked b = record b { parked = b.parked - 1 }
 

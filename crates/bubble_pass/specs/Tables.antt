@@ -17,10 +17,6 @@ node_at nodes s = unwrap_or (entry nodes s.index) s
 abbrev pub seat_of : List (Option NodeId) → NodeId → NodeId
 seat_of seats x = unwrap_or (entry seats x.index) x
 
--- what fills room for nodes
-abbrev pub no_node : NodeId
-no_node = record { index = 0 }
-
 -- old and new exchange their places
 pub record Swapped (a b : Seats) (old new : NodeId) : Type 0 where
   pub nodes : b.nodes.items ≡ set (set a.nodes.items (seat_of a.seats.items old).index (Some new)) (seat_of a.seats.items new).index (Some old)

@@ -1,5 +1,5 @@
 // The chains of the nodes that were placed below each node.
-ghost use Rattle.std.specs.Prelude.{◌≡◌, List, ℕ, ◌<◌, length};
+ghost use Rattle.std.specs.Prelude.{◌≡◌, List, ℕ, ◌<◌, length, replicate, None, IfOk};
 ghost use Rattle.bubble_pass.specs.Ends.{AreLeaves};
 ghost use Rattle.bubble_pass.specs.Moves.{Kept};
 ghost use Rattle.bubble_pass.specs.Chains.{Linked, Hung, CanHang, Cut, CanCut, entry, number};
@@ -7,6 +7,8 @@ ghost use Rattle.bubble_pass.specs.Roots.{Descending, Descent, IsSmallest};
 
 use crate::climber::{Climber, Stage};
 use pq_arena::{Arena, NodeId};
+use row_model::NoMemory;
+use std::alloc::Global;
 
 // For each node the placed nodes right below it, as a chain, and their number.
 #[derive(Drop)]
@@ -17,6 +19,18 @@ pub struct Chains {
 }
 
 impl Chains {
+    // No node has a chain, of `n`.
+    pub fn new(alloc: Global, n: usize) -> Result<Self, NoMemory>
+        ensures first { IfOk result (λ c. c.first.items ≡ replicate n None) }
+        ensures next { IfOk result (λ c. c.next.items ≡ replicate n None) }
+        ensures count { IfOk result (λ c. c.count.items ≡ replicate n 0) }
+    {
+        let first = vec![in alloc; None; n]?;
+        let next = vec![in alloc; None; n]?;
+        let count = vec![in alloc; 0; n]?;
+        Ok(Chains { first, next, count })
+    }
+
     // `x` stands in front of the chain of `m`.
     pub fn hang(&mut self, x: NodeId, m: NodeId)
         requires { CanHang self.old x.index m.index }

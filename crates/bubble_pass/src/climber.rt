@@ -1,5 +1,6 @@
 // The climb from the leaves of a row.
-ghost use Rattle.std.specs.Prelude.{◌≡◌, List, ℕ, ◌+◌, ◌*◌, ◌≤◌, ◌<◌, length, true, false};
+ghost use Rattle.std.specs.Prelude.{◌≡◌, List, ℕ, ◌+◌, ◌*◌, ◌≤◌, ◌<◌, length, replicate, true, false, IfOk};
+ghost use Rattle.bubble_pass.specs.declared.climber.Stage.TheVariants.{Unseen};
 ghost use Rattle.bubble_pass.specs.Climb.{stage, at, parked_one};
 ghost use Rattle.bubble_pass.specs.Ends.{IsClear, AreLeaves, IsFull, IsQueueing, IsOver, GoesOn, Climbed, IsFlat, LeftOpen, IsFound, CanGrow, Grown, EndIs};
 ghost use Rattle.bubble_pass.specs.Moves.{above_in, blocked_in, InReach, CanRise, CanPush, Pushed, CanFind, found, parked_as, beyond_in, Rose, Staged, Kept, Ready, Walkable, Walked, Turned};
@@ -9,6 +10,8 @@ ghost use Rattle.pq_arena.specs.RowNodes.{column_leaves};
 ghost use Rattle.row_model.specs.Rows.{IsRow};
 
 use pq_arena::{Arena, NodeId, NodeView};
+use row_model::NoMemory;
+use std::alloc::Global;
 use step_count::{Ledger, Steps};
 
 // How far a node has come in the climb.
@@ -50,6 +53,23 @@ pub enum End {
 }
 
 impl Climber {
+    // A climb over `n` nodes that has not begun.
+    pub fn new(alloc: Global, n: usize) -> Result<Self, NoMemory>
+        ensures stages { IfOk result (λ c. c.stages.items ≡ replicate n Unseen) }
+        ensures queue { IfOk result (λ c. length c.queue.items ≡ n) }
+        ensures idle { IfOk result (λ c. (c.head ≡ 0) × (c.tail ≡ 0) × (c.parked ≡ 0)) }
+    {
+        let stages = vec![in alloc; Stage::Unseen; n]?;
+        let queue = vec![in alloc; NodeId::default(); n]?;
+        Ok(Climber {
+            stages,
+            queue,
+            head: 0,
+            tail: 0,
+            parked: 0,
+        })
+    }
+
     // How far `n` has come.
     pub fn stage_of(&self, n: NodeId) -> Stage
         requires { n.index < length self.now.stages.items }

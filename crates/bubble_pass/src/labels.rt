@@ -1,5 +1,5 @@
 // The labels, from the leaves of the row up.
-ghost use Rattle.std.specs.Prelude.{◌≡◌, List, ℕ, ◌+◌, ◌*◌, ◌≤◌, ◌<◌, ◌≢◌, length};
+ghost use Rattle.std.specs.Prelude.{◌≡◌, List, ℕ, ◌+◌, ◌*◌, ◌≤◌, ◌<◌, ◌≢◌, length, replicate, IfOk};
 ghost use Rattle.bubble_pass.specs.Ends.{AreLeaves, IsFull};
 ghost use Rattle.bubble_pass.specs.Chains.{number};
 ghost use Rattle.bubble_pass.specs.declared.labels.Label.TheVariants.{Empty};
@@ -10,6 +10,8 @@ ghost use Rattle.row_model.specs.Rows.{IsRow};
 use crate::chains::Chains;
 use crate::climber::{Climber, Stage};
 use pq_arena::{Arena, NodeId, Shape};
+use row_model::NoMemory;
+use std::alloc::Global;
 use step_count::{Ledger, Steps};
 
 /// How much of a node is in the row.
@@ -34,6 +36,27 @@ pub struct Labels {
 }
 
 impl Labels {
+    // No node has a label, of `n`.
+    pub fn new(alloc: Global, n: usize) -> Result<Self, NoMemory>
+        ensures labels { IfOk result (λ l. l.labels.items ≡ replicate n Empty) }
+        ensures full { IfOk result (λ l. l.full.items ≡ replicate n 0) }
+        ensures partial { IfOk result (λ l. l.partial.items ≡ replicate n 0) }
+        ensures nodes { IfOk result (λ l. length l.nodes.items ≡ n) }
+        ensures len { IfOk result (λ l. l.len ≡ 0) }
+    {
+        let labels = vec![in alloc; Label::Empty; n]?;
+        let full = vec![in alloc; 0; n]?;
+        let partial = vec![in alloc; 0; n]?;
+        let nodes = vec![in alloc; NodeId::default(); n]?;
+        Ok(Labels {
+            labels,
+            full,
+            partial,
+            nodes,
+            len: 0,
+        })
+    }
+
     // `x` has this label.
     pub fn note(&mut self, x: NodeId, label: Label)
         requires { x.index < length self.old.labels.items }

@@ -2,7 +2,6 @@
 ghost use Rattle.std.specs.Prelude.{◌≡◌, ℕ, ◌+◌, ◌*◌, ◌≤◌, ◌<◌, length, set, replicate, IfOk, List, None};
 ghost use Rattle.bubble_pass.specs.Tables.{node_at, seat_of, Swapped, CanExchange, AreKept, Forgot, CanForget, AreClear, TouchedAt};
 ghost use Rattle.bubble_pass.specs.Marks.{tables_marks, placed_node, IsPut};
-ghost use Rattle.bubble_pass.specs.Tables.{no_node};
 ghost use Rattle.bubble_pass.specs.Pass.{IsAnswer, IsHeld};
 ghost use Rattle.bubble_pass.specs.Fair.{AtMost};
 ghost use Rattle.arena_model.specs.RowLeaves.{Holds};
@@ -26,6 +25,16 @@ pub struct Seats {
 }
 
 impl Seats {
+    // Each node has its own place, of `n`.
+    pub fn new(alloc: Global, n: usize) -> Result<Self, NoMemory>
+        ensures nodes { IfOk result (λ s. s.nodes.items ≡ replicate n None) }
+        ensures seats { IfOk result (λ s. s.seats.items ≡ replicate n None) }
+    {
+        let nodes = vec![in alloc; None; n]?;
+        let seats = vec![in alloc; None; n]?;
+        Ok(Seats { nodes, seats })
+    }
+
     // The node that has the place `s`.
     pub fn node_at(&self, s: NodeId) -> NodeId
         ensures { result ≡ node_at self.now.nodes.items s }
@@ -202,26 +211,4 @@ impl Tables {
             }
         }
     }
-}
-
-// A table without an entry for any of `n` nodes.
-pub fn no_entries(alloc: Global, n: usize) -> Result<Vec<Option<NodeId>>, NoMemory>
-    ensures { IfOk result (λ v. v.items ≡ replicate n None) }
-{
-    let mut entries = Vec::with_capacity(alloc, n)?;
-    for _ in 0..n {
-        entries.push(None)?;
-    }
-    Ok(entries)
-}
-
-// Room for `n` nodes.
-pub fn node_room(alloc: Global, n: usize) -> Result<Vec<NodeId>, NoMemory>
-    ensures { IfOk result (λ v. v.items ≡ replicate n no_node) }
-{
-    let mut nodes = Vec::with_capacity(alloc, n)?;
-    for _ in 0..n {
-        nodes.push(NodeId::default())?;
-    }
-    Ok(nodes)
 }

@@ -10,9 +10,9 @@ ghost use Rattle.pq_arena.specs.RowNodes.{column_leaves};
 ghost use Rattle.row_model.specs.Rows.{IsRow};
 
 use crate::chains::Chains;
-use crate::climber::{Climber, Stage};
+use crate::climber::Climber;
 use crate::labels::{Label, Labels};
-use crate::tables::{Found, Seats, Tables, no_entries, node_room};
+use crate::tables::{Found, Seats, Tables};
 use pq_arena::{Arena, NodeId};
 use row_model::{COLUMN_BOUND, NoMemory};
 use std::alloc::Global;
@@ -49,31 +49,16 @@ impl Work {
         ensures { IfOk result (λ w. AreBlank w × (size_of w ≡ 2 * columns + 4)) }
     {
         let size = 2 * columns as usize + 4;
+        let climber = Climber::new(alloc, size)?;
+        let chains = Chains::new(alloc, size)?;
+        let labels = Labels::new(alloc, size)?;
+        let seats = Seats::new(alloc, size)?;
         Ok(Work {
             tables: Tables {
-                climber: Climber {
-                    stages: vec![in alloc; Stage::Unseen; size]?,
-                    queue: node_room(alloc, size)?,
-                    head: 0,
-                    tail: 0,
-                    parked: 0,
-                },
-                chains: Chains {
-                    first: no_entries(alloc, size)?,
-                    next: no_entries(alloc, size)?,
-                    count: vec![in alloc; 0; size]?,
-                },
-                labels: Labels {
-                    labels: vec![in alloc; Label::Empty; size]?,
-                    full: vec![in alloc; 0; size]?,
-                    partial: vec![in alloc; 0; size]?,
-                    nodes: node_room(alloc, size)?,
-                    len: 0,
-                },
-                seats: Seats {
-                    nodes: no_entries(alloc, size)?,
-                    seats: no_entries(alloc, size)?,
-                },
+                climber,
+                chains,
+                labels,
+                seats,
                 inside: false,
             },
         })

@@ -1,10 +1,15 @@
-use Rattle.std.proofs.Common.{sym, ◌∙◌, arith}
-use Rattle.bubble_pass.proofs.Turns.{queue_read}
+use Rattle.std.proofs.Common.{ℕ, ◌+◌, ◌≤◌, sym, subst, ◌∙◌, arith}
+use Rattle.bubble_pass.proofs.Turns.{queue_read, head_in}
 use Rattle.bubble_pass.proofs.Ending.{Whole, end_queued, end_one, end_some, run_begun, grow_first, grow_second, whole_begun, whole_inside, whole_left, whole_flat, queued_left, parked_left, flat_one, queued_only, parked_only}
 use Rattle.bubble_pass.proofs.Walks.{less_parked}
+use Rattle.bubble_pass.proofs.Opens.{parked_seen}
+use Rattle.bubble_pass.proofs.Marks.{seen_in}
 use Rattle.bubble_pass.proofs.Splits.{top_apart, whole_apart, blocked_of}
 use Rattle.bubble_pass.proofs.climber.Climber.end.Goals as goal
 use Rattle.bubble_pass.proofs.climber.Climber.end.Goals.{After-grow-2}
+
+no_less : (s n : ℕ) → s ≤ s + n
+no_less s n = omega arith
 
 pub returns-then-self-clause-end : goal.returns-then-self-clause-end
 returns-then-self-clause-end g c =
@@ -88,3 +93,43 @@ returns-then-self-clause-left g c =
 
 pub returns-then-self-eq1-clause-left : goal.returns-then-self-eq1-clause-left
 returns-then-self-eq1-clause-left g c = parked_left c.args.arena.now g.leaves c.args.self.now c.first_parked-y.result.index c.requires.1.1.1.0 c.if-self.false c.if-self-eq1.true c.first_parked-y.ensures
+
+pub index-requires : goal.index-requires
+index-requires g c = head_in c.args.arena.now g.leaves c.args.self.now c.requires.1.1.1.0.kept c.if-self.true
+
+pub stage_of-requires : goal.stage_of-requires
+stage_of-requires g c = seen_in c.args.self.now.stages.items c.first_parked-y.result.index (parked_seen _ c.first_parked-y.ensures)
+
+pub set_stage-requires : goal.set_stage-requires
+set_stage-requires g c = seen_in c.args.self.now.stages.items c.first_parked-y.result.index (parked_seen _ c.first_parked-y.ensures)
+
+pub look-view-requires : goal.look-view-requires
+look-view-requires g c = c.requires.1.1.1.0.kept.climb.used c.first_parked-y.result.index (parked_seen _ c.first_parked-y.ensures)
+
+pub overflow_sub-self : goal.overflow_sub-self
+overflow_sub-self g c =
+    subst (λ n. 1 ≤ n) (sym c.set_stage.ensures.parked) (end_some c.args.arena.now g.leaves c.args.self.now c.layout_law.ensures c.requires.1.0 c.requires.1.1.1.0 c.if-self.false)
+
+pub returns-then-self-clause-kept : goal.returns-then-self-clause-kept
+returns-then-self-clause-kept g c = c.requires.1.1.1.0.kept
+
+pub returns-then-self-clause-ticks : goal.returns-then-self-clause-ticks
+returns-then-self-clause-ticks g c = no_less _ _
+
+pub returns-then-self-eq1-clause-kept : goal.returns-then-self-eq1-clause-kept
+returns-then-self-eq1-clause-kept g c = c.requires.1.1.1.0.kept
+
+pub returns-then-self-eq1-clause-ticks : goal.returns-then-self-eq1-clause-ticks
+returns-then-self-eq1-clause-ticks g c = no_less _ _
+
+pub returns-in-Top-clause-kept : goal.returns-in-Top-clause-kept
+returns-in-Top-clause-kept g c = c.requires.1.1.1.0.kept
+
+pub returns-in-Top-clause-ticks : goal.returns-in-Top-clause-ticks
+returns-in-Top-clause-ticks g c = no_less _ _
+
+pub returns-in-Top-clause-flat : goal.returns-in-Top-clause-flat
+returns-in-Top-clause-flat g c = tt
+
+pub returns-in-Top-clause-left : goal.returns-in-Top-clause-left
+returns-in-Top-clause-left g c = tt

@@ -1,6 +1,25 @@
-use Rattle.std.proofs.Common.{sym}
+use Rattle.std.proofs.Common.{◌≤◌, sym, subst, ◌∙◌}
 use Rattle.bubble_pass.proofs.Grows.{grow_start, grow_step}
+use Rattle.bubble_pass.proofs.Walks.{blocked_node, one_less}
 use Rattle.bubble_pass.proofs.climber.Climber.grow.Goals as goal
+
+pub blocked_at-requires : goal.blocked_at-requires
+blocked_at-requires g c = c.loop-x.invariant.can.reach
+
+pub look-view-requires : goal.look-view-requires
+look-view-requires g c = (blocked_node c.args.arena.now g.leaves c.loop-x.self c.loop-x.next c.in-Some.x c.loop-x.invariant.can.kept (sym c.in-Some.ensures)).used
+
+pub set_stage-requires : goal.set_stage-requires
+set_stage-requires g c = (blocked_node c.args.arena.now g.leaves c.loop-x.self c.loop-x.next c.in-Some.x c.loop-x.invariant.can.kept (sym c.in-Some.ensures)).inside
+
+pub overflow_sub-self : goal.overflow_sub-self
+overflow_sub-self g c =
+    subst (λ n. 1 ≤ n) (sym c.set_stage.ensures.parked)
+    (blocked_node c.args.arena.now g.leaves c.loop-x.self c.loop-x.next c.in-Some.x c.loop-x.invariant.can.kept (sym c.in-Some.ensures)).parked
+
+pub loop-x-smaller : goal.loop-x-smaller
+loop-x-smaller g c =
+    one_less _ _ (blocked_node c.args.arena.now g.leaves c.loop-x.self c.loop-x.next c.in-Some.x c.loop-x.invariant.can.kept (sym c.in-Some.ensures)).parked c.set_stage.ensures.parked
 
 pub loop-x-init : goal.loop-x-init
 loop-x-init g c = grow_start c.args.arena.now g.leaves c.args.self.now c.args.from c.args.to c.args.steps.now c.requires.1
@@ -10,3 +29,8 @@ loop-x-preserved g c =
     grow_step c.args.arena.now g.leaves c.args.self.now c.loop-x.self c.set_stage.new.self c.args.from c.loop-x.before c.in-Some.x c.args.to c.loop-x.next c.beyond-next.result
     c.look-view.result c.args.steps.now c.loop-x.steps c.look-view.new.steps
     c.layout_law.ensures c.loop-x.invariant (sym c.in-Some.ensures) c.look-view.ensures.shows c.set_stage.ensures.staged c.set_stage.ensures.parked c.beyond-next.ensures c.look-view.ensures.ticks
+
+pub returns : goal.returns
+returns g c = record {
+  grown = record { before = c.loop-x.before; next = c.loop-x.next; stops = sym c.blocked_at.ensures ∙ c.in_default.is; growing = c.loop-x.invariant };
+}

@@ -1,8 +1,8 @@
-use Rattle.std.proofs.Common.{◌≡◌, ◌≤◌, length, sum_by, refl, sym, subst, arith}
+use Rattle.std.proofs.Common.{◌≡◌, ◌≤◌, length, sum_by, refl, sym, subst, ◌∙◌, arith}
 use Rattle.bubble_pass.specs.Climb.{most_nodes, parked_one}
 use Rattle.bubble_pass.specs.Moves.{near0, near1, Staged}
 use Rattle.bubble_pass.proofs.Seats.{first, second}
-use Rattle.bubble_pass.proofs.Turns.{can_find, can_rise, found_child, risen_found, walk_from, freed, parked_le, parked, more_parked, queue_read, turned_by, turned_parked}
+use Rattle.bubble_pass.proofs.Turns.{can_find, can_rise, found_child, risen_found, walk_from, freed, parked_le, parked, more_parked, queue_read, queue_in, queue_used, head_in, turned_by, turned_parked, risen_ticks, parked_ticks}
 use Rattle.bubble_pass.proofs.climber.Climber.turn.Goals as goal
 
 pub found-requires : goal.found-requires
@@ -68,3 +68,22 @@ returns-in-None-clause-turned g c =
     turned_parked c.args.arena.now g.leaves c.args.self.now c.set_stage.new.self c.index-x.result.now c.look-view.result c.requires.1.0.kept c.requires.1.1
     (queue_read c.args.arena.now g.leaves c.args.self.now c.args.self.now.head c.index-x.result.now c.requires.1.0.kept c.requires.1.1 c.index-x.ensures)
     (subst (λ z. Staged (more_parked c.args.self.now) c.set_stage.new.self c.index-x.result.now z) c.parked_stage.ensures c.set_stage.ensures.staged)
+
+pub index-x-requires : goal.index-x-requires
+index-x-requires g c = head_in c.args.arena.now g.leaves c.args.self.now c.requires.1.0.kept c.requires.1.1
+
+pub look-view-requires : goal.look-view-requires
+look-view-requires g c = queue_used c.args.arena.now g.leaves c.args.self.now c.args.self.now.head c.index-x.result.now c.requires.1.0.kept c.requires.1.1 c.index-x.ensures
+
+pub set_stage-requires : goal.set_stage-requires
+set_stage-requires g c = queue_in c.args.arena.now g.leaves c.args.self.now c.args.self.now.head c.index-x.result.now c.requires.1.0.kept c.requires.1.1 c.index-x.ensures
+
+pub returns-in-Some-clause-ticks : goal.returns-in-Some-clause-ticks
+returns-in-Some-clause-ticks g c =
+    risen_ticks _ _ _ _ _ _ _ _ c.look-view.ensures.ticks c.rise.ensures.parked c.walk.ensures.walked.along.ticks c.walk-in-Some.ensures.walked.along.ticks
+
+pub returns-in-Some-clause-head : goal.returns-in-Some-clause-head
+returns-in-Some-clause-head g c = c.walk-in-Some.ensures.walked.along.head ∙ c.walk.ensures.walked.along.head ∙ c.rise.ensures.head
+
+pub returns-in-None-clause-ticks : goal.returns-in-None-clause-ticks
+returns-in-None-clause-ticks g c = parked_ticks _ _ _ _ c.look-view.ensures.ticks c.set_stage.ensures.parked

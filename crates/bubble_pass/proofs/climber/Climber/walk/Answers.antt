@@ -1,6 +1,24 @@
-use Rattle.std.proofs.Common.{sym, ◌∙◌}
-use Rattle.bubble_pass.proofs.Walks.{walk_step, walk_end}
+use Rattle.std.proofs.Common.{◌≤◌, sym, subst, ◌∙◌}
+use Rattle.bubble_pass.proofs.Walks.{blocked_node, one_less, walk_step, walk_end}
 use Rattle.bubble_pass.proofs.climber.Climber.walk.Goals as goal
+
+pub blocked_at-requires : goal.blocked_at-requires
+blocked_at-requires g c = c.loop-x.invariant.can.reach
+
+pub look-view-requires : goal.look-view-requires
+look-view-requires g c = (blocked_node c.args.arena.now g.leaves c.loop-x.self c.loop-x.next c.in-Some.x c.loop-x.invariant.can.kept (sym c.in-Some.ensures)).used
+
+pub set_stage-requires : goal.set_stage-requires
+set_stage-requires g c = (blocked_node c.args.arena.now g.leaves c.loop-x.self c.loop-x.next c.in-Some.x c.loop-x.invariant.can.kept (sym c.in-Some.ensures)).inside
+
+pub overflow_sub-self : goal.overflow_sub-self
+overflow_sub-self g c =
+    subst (λ n. 1 ≤ n) (sym c.set_stage.ensures.parked)
+    (blocked_node c.args.arena.now g.leaves c.loop-x.self c.loop-x.next c.in-Some.x c.loop-x.invariant.can.kept (sym c.in-Some.ensures)).parked
+
+pub loop-x-smaller : goal.loop-x-smaller
+loop-x-smaller g c =
+    one_less _ _ (blocked_node c.args.arena.now g.leaves c.loop-x.self c.loop-x.next c.in-Some.x c.loop-x.invariant.can.kept (sym c.in-Some.ensures)).parked c.set_stage.ensures.parked
 
 pub loop-x-preserved : goal.loop-x-preserved
 loop-x-preserved g c =

@@ -3,7 +3,7 @@ use Rattle.pq_arena.specs.Looks.{shown_ends, shown_count}
 use Rattle.arena_model.specs.Layout.{children_at}
 use Rattle.bubble_pass.specs.Moves.{near0}
 use Rattle.bubble_pass.specs.Sweep.{Judging}
-use Rattle.bubble_pass.proofs.Judges.{judge_start, judge_step, next_in, next_used, judge_none, judge_more, judge_all, judge_in, count_kids, full_by, partial_from, p_full, p_partial, leaf_full}
+use Rattle.bubble_pass.proofs.Judges.{judge_start, judge_step, next_in, next_used, judge_none, judge_more, judge_all, judge_in, count_kids, full_by, partial_from, p_full, p_partial, leaf_full, judge_ticks, one_look, full_some, partial_some}
 use Rattle.bubble_pass.proofs.labels.Labels.judge.Goals as goal
 
 pub full_of-requires : goal.full_of-requires
@@ -52,3 +52,39 @@ returns-then-full_of-view-clause-right g c =
 pub returns-else-full_of-view-clause-right : goal.returns-else-full_of-view-clause-right
 returns-else-full_of-view-clause-right g c =
     p_partial c.args.arena.now g.leaves c.args.climber.now c.args.chains.now c.args.self.now c.args.x c.args.done c.layout_law.ensures c.requires.1 (λ e. c.if-full_of-view.false (c.full_of.ensures ∙ e ∙ sym (c.look-view.ensures.shows.children ∙ ap (λ s. shown_count s (children_at c.args.arena.now c.args.x.index)) c.in-P.is)))
+
+pub returns-in-None-clause-some : goal.returns-in-None-clause-some
+returns-in-None-clause-some g c = partial_some
+
+pub returns-in-None-clause-ticks : goal.returns-in-None-clause-ticks
+returns-in-None-clause-ticks g c = judge_ticks c.args.arena.now c.args.self.now c.args.x.index c.loop-left.left c.loop-left.before c.loop-left.next c.args.steps.now c.loop-left.steps c.loop-left.invariant
+
+pub returns-in-None-next-clause-some : goal.returns-in-None-next-clause-some
+returns-in-None-next-clause-some g c = full_some
+
+pub returns-in-None-next-clause-ticks : goal.returns-in-None-next-clause-ticks
+returns-in-None-next-clause-ticks g c = judge_ticks c.args.arena.now c.args.self.now c.args.x.index c.loop-left.left c.loop-left.before c.loop-left.next c.args.steps.now c.loop-left.steps c.loop-left.invariant
+
+pub returns-in-Some-next-clause-some : goal.returns-in-Some-next-clause-some
+returns-in-Some-next-clause-some g c = partial_some
+
+pub returns-in-Some-next-clause-ticks : goal.returns-in-Some-next-clause-ticks
+returns-in-Some-next-clause-ticks g c = judge_ticks c.args.arena.now c.args.self.now c.args.x.index c.loop-left.left c.loop-left.before c.loop-left.next c.args.steps.now c.loop-left.steps c.loop-left.invariant
+
+pub returns-in-Leaf-clause-some : goal.returns-in-Leaf-clause-some
+returns-in-Leaf-clause-some g c = full_some
+
+pub returns-in-Leaf-clause-ticks : goal.returns-in-Leaf-clause-ticks
+returns-in-Leaf-clause-ticks g c = one_look _ _ _ c.look-view.ensures.ticks
+
+pub returns-then-full_of-view-clause-some : goal.returns-then-full_of-view-clause-some
+returns-then-full_of-view-clause-some g c = full_some
+
+pub returns-then-full_of-view-clause-ticks : goal.returns-then-full_of-view-clause-ticks
+returns-then-full_of-view-clause-ticks g c = one_look _ _ _ c.look-view.ensures.ticks
+
+pub returns-else-full_of-view-clause-some : goal.returns-else-full_of-view-clause-some
+returns-else-full_of-view-clause-some g c = partial_some
+
+pub returns-else-full_of-view-clause-ticks : goal.returns-else-full_of-view-clause-ticks
+returns-else-full_of-view-clause-ticks g c = one_look _ _ _ c.look-view.ensures.ticks
