@@ -9,7 +9,7 @@ use Rattle.full_pass.specs.declared.settled.Settled.{Settled}
 use Rattle.full_pass.specs.declared.settled.Settled.TheVariants.{Beside, Between, Group, Kept, Open}
 use Rattle.arena_model.specs.RowLeaves.{column_leaves, IsLeafAt}
 use Rattle.full_pass.specs.Answer.{AreLeaves, IsFullNode, IsRowKept, IsSettled, one_node}
-use Rattle.full_pass.specs.Passing.{AreCounted, AreLinked, Chains, Counting, Going, IsLast, IsRisen, Pass, Runs, marks, members_in, runs, second_members_in, total}
+use Rattle.full_pass.specs.Passing.{AreCounted, AreLinked, ArePartsLeft, Chains, Counting, Going, IsLast, IsRisen, Pass, Runs, marks, members_in, runs, second_members_in, total}
 use Rattle.full_pass.specs.declared.tallies.Tally.{Tally}
 use Rattle.full_pass.specs.Tallies.{AreStamped, first_in, full_in, hits_in, next_in}
 use Rattle.full_pass.specs.declared.entries.Entries.{Entries}
@@ -99,6 +99,15 @@ pub settled_at_end : (f : Layout) (row : List ℕ) (l : ℕ → Bool) (tallies :
 settled_at_end f row l tallies stamp i n s layout one is_row over le chains last =
     settled f (column_leaves row) l tallies stamp n s layout (row_leaves f row layout one is_row) le chains
     (subst (λ z. IsLast f (column_leaves row) l (hits_in tallies stamp) z n s) (rest_none row i over) last)
+
+-- at the end of a pass that counts no full node waits
+pub parts_left : (f : Layout) (row labels : List ℕ) (tallies : List Tally) (stamp i n k : ℕ) (last : Settled) →
+    Counting f (column_leaves row) labels tallies stamp (column_leaves (drop i row)) n last → length row ≤ i → n ≡ k → ArePartsLeft f (column_leaves row) labels tallies stamp k
+parts_left f row labels tallies stamp i n k last w over e = record {
+  counted = w.counted;
+  pass = subst (λ m. Pass f (column_leaves row) (full_in labels stamp) (hits_in tallies stamp) [] m) e
+      (subst (λ z. Pass f (column_leaves row) (full_in labels stamp) (hits_in tallies stamp) z n) (rest_none row i over) w.pass);
+}
 
 -- where the root is full all leaves are in the row
 pub root_kept : (f : Layout) (row : List ℕ) → IsLayout f → IsOneTree f → IsRow f.columns row → IsFullNode f (column_leaves row) f.root → IsRowKept f (column_leaves row)

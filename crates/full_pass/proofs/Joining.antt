@@ -30,6 +30,9 @@ use Rattle.full_pass.proofs.Places.{Ringed, Running, Says, children_few, mark_na
 use Rattle.column_order.specs.Orders.{occurs}
 use Rattle.arena_model.specs.declared.TheConstants.{NODE_BOUND}
 
+pub one_look : (s t : ℕ) → t ≡ s + 1 → t ≤ s + 2
+one_look s t e = omega arith
+
 pub runs_at : (f : Layout) (x : ℕ) (view : NodeView) → IsLayout f → ShowsNode f x view → PlaceRun ≡ place_shown view.parent (side view 0) (side view 1) →
     Running f x (side view 0) (side view 1)
 runs_at f x view h shows e = subst (λ z. Says f x (side view 0) (side view 1) z) (sym e) (says f x view h shows)

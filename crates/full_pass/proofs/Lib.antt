@@ -17,3 +17,4 @@ pub mod RunEnds
 pub mod TwoParts
 pub mod ThreeParts
 pub mod Frontiers
+pub mod Rooms

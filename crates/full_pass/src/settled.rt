@@ -7,7 +7,7 @@ ghost use Rattle.arena_model.specs.NamedTree.{IsOneTree, outline_at};
 ghost use Rattle.pq_arena.specs.RowNodes.{indices, column_leaves};
 ghost use Rattle.full_pass.specs.Answer.{IsSettled};
 ghost use Rattle.full_pass.specs.Entries.{AreReady};
-ghost use Rattle.full_pass.specs.Passing.{members_of, second_members_of, CanPass};
+ghost use Rattle.full_pass.specs.Passing.{members_of, second_members_of, IsCounted, CanPass};
 
 use crate::beside::{find_beside, find_between};
 use crate::count::{Counted, count};
@@ -84,23 +84,28 @@ pub fn run_both<L: Ledger>(
     ensures settled { IsSettled arena.now (column_leaves row.now) (members_of entries.new result) (second_members_of entries.new result) result }
     ensures ticks { steps.new ≤ steps.old + 8 * length row.now }
 {
-    entries.begin();
-    let stamp = entries.stamp;
-    match count(
-        arena,
-        row,
-        &mut entries.labels,
-        &mut entries.tallies,
-        stamp,
-        steps,
-    ) {
+    match count_row(arena, row, entries, steps) {
         Counted::Answered(settled) => settled,
         Counted::Open => Settled::Open,
         Counted::TwoParts => {
-            find_beside(arena, row, &entries.labels, &entries.tallies, stamp, steps)
+            find_beside(
+                arena,
+                row,
+                &entries.labels,
+                &entries.tallies,
+                entries.stamp,
+                steps,
+            )
         }
         Counted::ThreeParts => {
-            find_between(arena, row, &entries.labels, &entries.tallies, stamp, steps)
+            find_between(
+                arena,
+                row,
+                &entries.labels,
+                &entries.tallies,
+                entries.stamp,
+                steps,
+            )
         }
         Counted::MayFill => {
             if !pace.is_next() {
@@ -111,6 +116,30 @@ pub fn run_both<L: Ledger>(
             settled
         }
     }
+}
+
+// A pass that counts over the row with these columns.
+fn count_row<L: Ledger>(
+    arena: &Arena,
+    row: &[u32],
+    entries: &mut Entries,
+    steps: &mut Steps<L>,
+) -> Counted
+    requires { CanPass arena.now row.now entries.old }
+    ensures ready { AreReady entries.new (length arena.now.slots) }
+    ensures counted { IsCounted arena.now (column_leaves row.now) entries.new.labels.items entries.new.tallies.items entries.new.stamp result }
+    ensures ticks { steps.new ≤ steps.old + 4 * length row.now }
+{
+    entries.begin();
+    let stamp = entries.stamp;
+    count(
+        arena,
+        row,
+        &mut entries.labels,
+        &mut entries.tallies,
+        stamp,
+        steps,
+    )
 }
 
 // The pass over the row with these columns that keeps runs.

@@ -4,7 +4,7 @@ use Rattle.arena_model.proofs.Lists.{occurs_here}
 use Rattle.arena_model.proofs.Slots.{in_range}
 use Rattle.full_pass.specs.Passing.{IsAdded}
 use Rattle.full_pass.specs.Tallies.{first_in, full_in, hits_in, next_in}
-use Rattle.full_pass.proofs.Joining.{CountedRing, CountedRun, counted_as, counted_chains, counted_run, hits_few, joined_ring, joined_top, ring_chains, ring_used, run_within}
+use Rattle.full_pass.proofs.Joining.{one_look, CountedRing, CountedRun, counted_as, counted_chains, counted_run, hits_few, joined_ring, joined_top, ring_chains, ring_used, run_within}
 use Rattle.full_pass.proofs.count.add.Goals as goal
 
 pub hit-hits-requires-clause-p : goal.hit-hits-requires-clause-p
@@ -105,3 +105,30 @@ returns-in-Ring g c =
       };
       ticks = omega (arith, c.look-view.ensures.ticks, c.look-children.ensures.ticks);
     }
+
+pub returns-in-Top-clause-counted : goal.returns-in-Top-clause-counted
+returns-in-Top-clause-counted g c = c.requires.counted
+
+pub returns-in-Top-clause-ticks : goal.returns-in-Top-clause-ticks
+returns-in-Top-clause-ticks g c = one_look _ _ c.look-view.ensures.ticks
+
+pub returns-in-None-clause-ticks : goal.returns-in-None-clause-ticks
+returns-in-None-clause-ticks g c = one_look _ _ c.look-view.ensures.ticks
+
+pub returns-in-Some-clause-ticks : goal.returns-in-Some-clause-ticks
+returns-in-Some-clause-ticks g c = one_look _ _ c.look-view.ensures.ticks
+
+pub fill-requires : goal.fill-requires
+fill-requires g c = subst (λ n. c.args.x.index < n) (sym c.requires.counted.ready.labels_size) (in_range c.args.arena.now c.args.x.index (c.requires.waits.pass.labels.used c.args.x.index (occurs_here c.args.x.index c.requires.waits.waiting)))
+
+pub fill_between-requires-clause-x : goal.fill_between-requires-clause-x
+fill_between-requires-clause-x g c = subst (λ n. c.args.x.index < n) (sym c.requires.counted.ready.labels_size) (in_range c.args.arena.now c.args.x.index (c.requires.waits.pass.labels.used c.args.x.index (occurs_here c.args.x.index c.requires.waits.waiting)))
+
+pub fill_between-requires-in-Some-clause-x : goal.fill_between-requires-in-Some-clause-x
+fill_between-requires-in-Some-clause-x g c = subst (λ n. c.args.x.index < n) (sym c.requires.counted.ready.labels_size) (in_range c.args.arena.now c.args.x.index (c.requires.waits.pass.labels.used c.args.x.index (occurs_here c.args.x.index c.requires.waits.waiting)))
+
+pub look-view-requires : goal.look-view-requires
+look-view-requires g c = c.requires.waits.pass.labels.used c.args.x.index (occurs_here c.args.x.index c.requires.waits.waiting)
+
+pub hit-hits-requires-clause-x : goal.hit-hits-requires-clause-x
+hit-hits-requires-clause-x g c = subst (λ n. c.args.x.index < n) (sym c.requires.counted.ready.size) (in_range c.args.arena.now c.args.x.index (c.requires.waits.pass.labels.used c.args.x.index (occurs_here c.args.x.index c.requires.waits.waiting)))

@@ -6,7 +6,7 @@ use Rattle.full_pass.specs.Entries.{is_full, hits, far, mark_of, AreReady}
 use Rattle.full_pass.specs.Passing.{run_as, IsAdded}
 use Rattle.full_pass.proofs.Places.{side}
 use Rattle.full_pass.proofs.Steps.{none_unlabelled}
-use Rattle.full_pass.proofs.Joining.{CountedRing, FilledRun, joined_run, joined_linked, joined_ring, joined_ring_linked, joined_top, end_few, tied_by, ring_used, hits_few, run_within}
+use Rattle.full_pass.proofs.Joining.{one_look, CountedRing, FilledRun, joined_run, joined_linked, joined_ring, joined_ring_linked, joined_top, end_few, tied_by, ring_used, hits_few, run_within}
 use Rattle.full_pass.proofs.joins.join.Goals as goal
 
 pub look-children-requires : goal.look-children-requires
@@ -127,3 +127,18 @@ returns-in-Ring g c =
           (c.hit-hits.ensures.ready (length c.args.arena.now.slots) (c.fill-in-Ring.ensures.ready (length c.args.arena.now.slots) c.requires.linked.ready));
       ticks = omega (arith, c.look-view.ensures.ticks, c.look-children.ensures.ticks);
     }
+
+pub returns-in-Top-clause-linked : goal.returns-in-Top-clause-linked
+returns-in-Top-clause-linked g c = c.requires.linked
+
+pub returns-in-Top-clause-ticks : goal.returns-in-Top-clause-ticks
+returns-in-Top-clause-ticks g c = one_look _ _ c.look-view.ensures.ticks
+
+pub fill-requires : goal.fill-requires
+fill-requires g c = subst (λ n. c.args.x.index < n) (sym c.requires.linked.ready.stamped.labels_size) (in_range c.args.arena.now c.args.x.index (c.requires.pass.labels.used c.args.x.index (occurs_here c.args.x.index c.requires.waiting)))
+
+pub fill-requires-in-Ring : goal.fill-requires-in-Ring
+fill-requires-in-Ring g c = subst (λ n. c.args.x.index < n) (sym c.requires.linked.ready.stamped.labels_size) (in_range c.args.arena.now c.args.x.index (c.requires.pass.labels.used c.args.x.index (occurs_here c.args.x.index c.requires.waiting)))
+
+pub look-view-requires : goal.look-view-requires
+look-view-requires g c = c.requires.pass.labels.used c.args.x.index (occurs_here c.args.x.index c.requires.waiting)
