@@ -125,11 +125,11 @@ fn run_from<F: Shelf, O: Sink, E: Sink, L: Ledger>(
 /// No step is taken before all files of the command are asked for, and none where a file is refused or can't be read.
 /// Else, with status 0, `solve` and `unit` take at most 1024 steps for each column, row and one of the derived matrices.
 /// With any other status they take at most 8c(f + 1) more, c and f being the columns and ones of the matrix of a side; so
-/// do `list` and `gen` of their matrix. `extend`, with status 0, takes such steps for the rows that it accepts, 512c for
-/// each row that is refused, and a search for each of the first 16 of these. `meet` takes those of its matrix, the rows of
-/// both trees. `core`, with status 0, takes those of two answers for each row of a core, and one more; where memory is
-/// refused or the reply can't be written, for each row of the matrix. `check`, `check-core` and `check-unit` solve nothing,
-/// and take no step.
+/// do `list` and `gen` of their matrix. `extend`, with status 0, takes such steps for its base and the rows that it
+/// accepts, 512c for each row that it refuses, and a search for each of the first 16 of these. `meet` takes those of its
+/// matrix, the rows of both trees. `core`, with status 0, takes those of two answers for each row of a core, and one more;
+/// where memory is refused or the reply can't be written, for each row of the matrix. `check`, `check-core` and
+/// `check-unit` solve nothing, and take no step.
 pub fn run_counted<F: Shelf, O: Sink, E: Sink, L: Ledger>(
     alloc: Global,
     words: &[String],
