@@ -3,7 +3,7 @@ use Rattle.std.proofs.Common.{◌≡◌, ◌∙◌, ◌+◌, ℕ, cond, None, tr
 use Rattle.std.specs.Prelude.{option_and_then}
 use Rattle.std.specs.List.{AllByRecursion, zip}
 use Rattle.std.proofs.lemmas.Bool.{eqb-true}
-use Rattle.std.proofs.lemmas.List.{length-map, length_push}
+use Rattle.std.proofs.lemmas.List.{length-map, length_push, nil_from_length}
 use Rattle.std.proofs.lemmas.Option.{none-some, same_Some, option_and_then_some}
 use Rattle.plain_text.specs.Words.{word_at}
 use Rattle.plain_text.proofs.NumberLaws.{chosen}
@@ -56,10 +56,6 @@ zipped kind columns rows orders lines e =
     ap (λ ks. record { kind = kind; columns = columns; parts = record { rows = ks; orders = map entry_order (zip rows orders); lines = lines } }) (rows_of_zip rows orders e)
     ∙ ap (λ (os : List (List ℕ)). record { kind = kind; columns = columns; parts = record { rows = rows; orders = os; lines = lines } }) (orders_of_zip rows orders e)
 
-no_more : (xs : List ℕ) → length xs ≡ 0 → xs ≡ []
-no_more [] h = refl
-no_more (x ∷ xs) h = absurd (omega arith)
-
 pub core_takes : (bytes : List ℕ) (t : TextValue) → core_of bytes ≡ Some t → IsInGrammar t × (bytes ≡ core_text t)
 unfolding core_of core_text kind_at
 core_takes bytes t h =
@@ -76,7 +72,7 @@ core_takes bytes t h =
     let made : TextValue = text_value x.0 y.0 z.0 w.0 in
     elim (chosen (eqb (length d.0) 0) _ _ _ d.2) [
       | inl q ↦
-          let done : w.1 ≡ codes "end\n" = d.1 ∙ ap (λ v. codes "end\n" ++ v) (no_more d.0 (eqb-true (length d.0) 0 q.0)) in
+          let done : w.1 ≡ codes "end\n" = d.1 ∙ ap (λ v. codes "end\n" ++ v) (nil_from_length d.0 (eqb-true (length d.0) 0 q.0)) in
           let pairs : zip (map entry_row z.0) (map entry_order z.0) ≡ z.0 = zip_parts z.0 in
           let P : TextValue → Type 0 = λ v. IsInGrammar v × (bytes ≡ core_text v) in
           subst P (same_Some made t q.1) (
