@@ -22,7 +22,7 @@ use Rattle.verdict_text.specs.Text.{ends_text, place_text, interval_line, contig
 use Rattle.text_parts.specs.Grammar.{max_number, Fits32}
 use Rattle.verdict_text.specs.Grammar.{max_end, IsInterval, IsPlace, HasFittingEnds, HasAdded}
 use Rattle.text_parts.specs.Numbered.{numbered, numbered_at}
-use Rattle.verdict_text.specs.Reading.{interval_at, ends_at, where_at, place_at, contig_at, placed_at, added_at, as_nowhere, as_place}
+use Rattle.verdict_text.specs.Reading.{two_at, interval_at, ends_at, where_at, place_at, contig_at, placed_at, added_at, as_nowhere, as_place}
 use Rattle.text_parts.specs.Reading.{counted_at, or_else}
 use Rattle.text_parts.proofs.Chains.{Takes, small, after_number, after_word, at_number, at_word}
 use Rattle.verdict_text.proofs.IndexLaws.{large, after_index, at_index}
@@ -32,63 +32,80 @@ use Rattle.text_parts.proofs.NumberedLaws.{numbered-flat_map, numbered_take, num
 abbrev pub span_text : Span → List ℕ
 span_text s = ends_text s.first s.last
 
-interval_regroup : (i : ℕ) (v : Interval) (rest : List ℕ) → interval_line i v ++ rest ≡ codes "interval " ++ (decimal i ++ (32 ∷ (decimal v.left ++ (32 ∷ (decimal v.right ++ (10 ∷ rest))))))
+-- the text of two numbers, each behind a space, and the end of the line
+abbrev two_text : ℕ → ℕ → List ℕ → List ℕ
+two_text m n rest = 32 ∷ (decimal m ++ (32 ∷ (decimal n ++ (10 ∷ rest))))
+
+-- two numbers up to a limit, and their text
+record IsTwo (limit : ℕ) (bytes : List ℕ) (two : ℕ × ℕ) (rest : List ℕ) : Type 0 where
+  first : two.0 ≤ limit
+  second : two.1 ≤ limit
+  front : bytes ≡ two_text two.0 two.1 rest
+
+two_takes : (limit : ℕ) (bytes : List ℕ) (two : ℕ × ℕ) (rest : List ℕ) → limit < 2 ^ 64 → two_at limit bytes ≡ Some (two, rest) → IsTwo limit bytes two rest
+unfolding two_at
+two_takes limit bytes two rest small h =
+    let b = after_word _ (32 ∷ []) bytes (two, rest) h in
+    let d = after_number _ limit b.0 (two, rest) small b.2 in
+    let e = after_word _ (32 ∷ []) d.1 (two, rest) d.4 in
+    let f = after_number _ limit e.0 (two, rest) small e.2 in
+    let g = after_word _ (10 ∷ []) f.1 (two, rest) f.4 in
+    let made : ℕ × ℕ = (d.0, f.0) in
+    let p = some_pair_parts made two g.0 rest g.2 in
+    let front : bytes ≡ two_text d.0 f.0 g.0 = b.1 ∙ ap (λ x. 32 ∷ x) (d.3 ∙ ap (λ x. decimal d.0 ++ x) (e.1 ∙ ap (λ x. 32 ∷ x) (f.3 ∙ ap (λ x. decimal f.0 ++ x) g.1))) in
+    let of_made : IsTwo limit bytes made rest = record { first = d.2; second = f.2; front = front ∙ ap (λ x. two_text d.0 f.0 x) p.1 } in
+    let P : (ℕ × ℕ) → Type 0 = λ t. IsTwo limit bytes t rest in
+    subst P p.0 of_made
+
+two_again : (limit m n : ℕ) (rest : List ℕ) → limit < 2 ^ 64 → m ≤ limit → n ≤ limit → two_at limit (two_text m n rest) ≡ Some ((m, n), rest)
+unfolding two_at
+two_again limit m n rest small l k =
+    at_word _ (32 ∷ []) (decimal m ++ (32 ∷ (decimal n ++ (10 ∷ rest))))
+    ∙ at_number _ limit m (32 ∷ (decimal n ++ (10 ∷ rest))) small l refl
+    ∙ at_word _ (32 ∷ []) (decimal n ++ (10 ∷ rest))
+    ∙ at_number _ limit n (10 ∷ rest) small k refl
+    ∙ at_word _ (10 ∷ []) rest
+
+interval_regroup : (i : ℕ) (v : Interval) (rest : List ℕ) → interval_line i v ++ rest ≡ codes "interval " ++ (decimal i ++ two_text v.left v.right rest)
 interval_regroup i v rest = simp append_assoc
 
 pub interval_takes : (i : ℕ) (bytes : List ℕ) (v : Interval) (rest : List ℕ) → interval_at i bytes ≡ Some (v, rest) → Takes (interval_line i) IsInterval bytes v rest
 unfolding interval_at
 interval_takes i bytes v rest h =
     let a = after_index _ (codes "interval ") i bytes (v, rest) h in
-    let b = after_word _ (32 ∷ []) a.0 (v, rest) a.2 in
-    let d = after_number _ max_end b.0 (v, rest) large b.2 in
-    let e = after_word _ (32 ∷ []) d.1 (v, rest) d.4 in
-    let f = after_number _ max_end e.0 (v, rest) large e.2 in
-    let g = after_word _ (10 ∷ []) f.1 (v, rest) f.4 in
-    let made : Interval = record { left = d.0; right = f.0 } in
-    let p = some_pair_parts made v g.0 rest g.2 in record {
-      good = subst IsInterval p.0 (d.2, f.2);
-      front = a.1 ∙ ap (λ x. codes "interval " ++ (decimal i ++ x)) (b.1 ∙ ap (λ x. 32 ∷ x) (d.3 ∙ ap (λ x. decimal d.0 ++ x) (e.1 ∙ ap (λ x. 32 ∷ x) (f.3 ∙ ap (λ x. decimal f.0 ++ x) (g.1 ∙ ap (λ x. 10 ∷ x) p.1)))))
+    option_and_then_some _ (two_at max_end a.0) (v, rest) a.2 (λ x e k.
+    let t = two_takes max_end a.0 x.0 x.1 large e in
+    let made : Interval = record { left = x.0.0; right = x.0.1 } in
+    let p = some_pair_parts made v x.1 rest k in record {
+      good = subst IsInterval p.0 (t.first, t.second);
+      front = a.1 ∙ ap (λ y. codes "interval " ++ (decimal i ++ y)) (t.front ∙ ap (λ y. two_text x.0.0 x.0.1 y) p.1)
           ∙ sym (interval_regroup i made rest) ∙ ap (λ w. interval_line i w ++ rest) p.0;
-    }
+    })
 
 pub interval_again : (i : ℕ) (v : Interval) (rest : List ℕ) → i ≤ max_number → IsInterval v → interval_at i (interval_line i v ++ rest) ≡ Some (v, rest)
 unfolding interval_at
 interval_again i v rest l h =
     ap (interval_at i) (interval_regroup i v rest)
-    ∙ at_index _ (codes "interval ") i (32 ∷ (decimal v.left ++ (32 ∷ (decimal v.right ++ (10 ∷ rest))))) l refl
-    ∙ at_word _ (32 ∷ []) (decimal v.left ++ (32 ∷ (decimal v.right ++ (10 ∷ rest))))
-    ∙ at_number _ max_end v.left (32 ∷ (decimal v.right ++ (10 ∷ rest))) large h.0 refl
-    ∙ at_word _ (32 ∷ []) (decimal v.right ++ (10 ∷ rest))
-    ∙ at_number _ max_end v.right (10 ∷ rest) large h.1 refl
-    ∙ at_word _ (10 ∷ []) rest
+    ∙ at_index _ (codes "interval ") i (two_text v.left v.right rest) l refl
+    ∙ ap (option_and_then _) (two_again max_end v.left v.right rest large h.0 h.1)
 
-ends_regroup : (s : Span) (rest : List ℕ) → span_text s ++ rest ≡ 32 ∷ (decimal s.first ++ (32 ∷ (decimal s.last ++ (10 ∷ rest))))
+ends_regroup : (s : Span) (rest : List ℕ) → span_text s ++ rest ≡ two_text s.first s.last rest
 ends_regroup s rest = simp append_assoc
 
 pub ends_takes : (bytes : List ℕ) (s : Span) (rest : List ℕ) → ends_at bytes ≡ Some (s, rest) → Takes span_text HasFittingEnds bytes s rest
 unfolding ends_at
 ends_takes bytes s rest h =
-    let b = after_word _ (32 ∷ []) bytes (s, rest) h in
-    let d = after_number _ max_number b.0 (s, rest) small b.2 in
-    let e = after_word _ (32 ∷ []) d.1 (s, rest) d.4 in
-    let f = after_number _ max_number e.0 (s, rest) small e.2 in
-    let g = after_word _ (10 ∷ []) f.1 (s, rest) f.4 in
-    let made : Span = record { first = d.0; last = f.0 } in
-    let p = some_pair_parts made s g.0 rest g.2 in record {
-      good = subst HasFittingEnds p.0 (d.2, f.2);
-      front = b.1 ∙ ap (λ x. 32 ∷ x) (d.3 ∙ ap (λ x. decimal d.0 ++ x) (e.1 ∙ ap (λ x. 32 ∷ x) (f.3 ∙ ap (λ x. decimal f.0 ++ x) (g.1 ∙ ap (λ x. 10 ∷ x) p.1))))
-          ∙ sym (ends_regroup made rest) ∙ ap (λ w. span_text w ++ rest) p.0;
-    }
+    option_and_then_some _ (two_at max_number bytes) (s, rest) h (λ x e k.
+    let t = two_takes max_number bytes x.0 x.1 small e in
+    let made : Span = record { first = x.0.0; last = x.0.1 } in
+    let p = some_pair_parts made s x.1 rest k in record {
+      good = subst HasFittingEnds p.0 (t.first, t.second);
+      front = t.front ∙ ap (λ y. two_text x.0.0 x.0.1 y) p.1 ∙ sym (ends_regroup made rest) ∙ ap (λ w. span_text w ++ rest) p.0;
+    })
 
 pub ends_again : (s : Span) (rest : List ℕ) → HasFittingEnds s → ends_at (span_text s ++ rest) ≡ Some (s, rest)
 unfolding ends_at
-ends_again s rest h =
-    ap ends_at (ends_regroup s rest)
-    ∙ at_word _ (32 ∷ []) (decimal s.first ++ (32 ∷ (decimal s.last ++ (10 ∷ rest))))
-    ∙ at_number _ max_number s.first (32 ∷ (decimal s.last ++ (10 ∷ rest))) small h.0 refl
-    ∙ at_word _ (32 ∷ []) (decimal s.last ++ (10 ∷ rest))
-    ∙ at_number _ max_number s.last (10 ∷ rest) small h.1 refl
-    ∙ at_word _ (10 ∷ []) rest
+ends_again s rest h = ap ends_at (ends_regroup s rest) ∙ ap (option_and_then _) (two_again max_number s.first s.last rest small h.0 h.1)
 
 pub contig_takes : (i : ℕ) (bytes : List ℕ) (s : Span) (rest : List ℕ) → contig_at i bytes ≡ Some (s, rest) → Takes contig_line HasFittingEnds bytes s rest
 unfolding contig_at

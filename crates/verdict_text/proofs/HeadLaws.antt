@@ -11,7 +11,7 @@ use Rattle.verdict_text.specs.Text.{version_line, kind_line, columns_line, head_
 use Rattle.text_parts.specs.Text.{kind_word, number_word}
 use Rattle.verdict_text.specs.Grammar.{side_count, AreColumnCounts}
 use Rattle.text_parts.specs.Numbered.{with_first}
-use Rattle.verdict_text.specs.Reading.{version_at, with_version, kind_columns_at, columns_at, head_at}
+use Rattle.verdict_text.specs.Reading.{version_at, with_version, columns_at, head_at}
 use Rattle.text_parts.specs.Reading.{or_else, kind_at, kind_from, all_kinds, column_count_at}
 use Rattle.verdict_text.specs.declared.verdict.Version.{Version}
 use Rattle.verdict_text.specs.declared.verdict.Version.TheVariants.{One, Two}
@@ -87,7 +87,7 @@ pub record IsHead (bytes : List ℕ) (version : Version) (kind : Kind) (cs rest 
   pub front : bytes ≡ head_text version kind cs ++ rest
 
 pub head_takes : (bytes : List ℕ) (version : Version) (kind : Kind) (cs rest : List ℕ) → head_at bytes ≡ Some ((version, kind, cs), rest) → IsHead bytes version kind cs rest
-unfolding head_at kind_at kind_columns_at
+unfolding head_at kind_at
 head_takes bytes version kind cs rest h =
     option_and_then_some _ (version_at bytes) ((version, kind, cs), rest) h (λ v g i.
     let a = after_word _ (codes "kind ") v.1 ((version, kind, cs), rest) i in
@@ -106,7 +106,7 @@ head_takes bytes version kind cs rest h =
     subst P p.0 made)))
 
 pub head_again : (version : Version) (kind : Kind) (cs rest : List ℕ) → AreColumnCounts cs → length cs ≡ side_count kind → head_at (head_text version kind cs ++ rest) ≡ Some ((version, kind, cs), rest)
-unfolding head_at kind_at kind_columns_at
+unfolding head_at kind_at
 head_again version kind cs rest h l =
     let words : List ℕ = flat_map number_word cs ++ (10 ∷ rest) in
     let columns : columns_at (side_count kind) words ≡ Some (cs, 10 ∷ rest) = ap (λ n. columns_at n words) (sym l) ∙ columns_again cs (10 ∷ rest) h refl in

@@ -32,10 +32,6 @@ unfoldable pub columns_at : ℕ → List ℕ → Option (List ℕ × List ℕ)
 columns_at zero bytes = Some ([], bytes)
 columns_at (suc n) bytes = column_count_at bytes >>= λ c. columns_at n c.1 >>= with_first c.0
 
--- the numbers of columns of a kind
-unfoldable pub kind_columns_at : Kind → List ℕ → Option (List ℕ × List ℕ)
-kind_columns_at kind bytes = columns_at (side_count kind) bytes
-
 -- the version, the kind and the columns
 unfoldable pub head_at : List ℕ → Option ((Version × Kind × List ℕ) × List ℕ)
 head_at bytes = do
@@ -43,7 +39,7 @@ head_at bytes = do
   first ← word_at (codes "kind ") version.1
   kind ← kind_at first
   next ← word_at (codes "\ncolumns") kind.1
-  columns ← kind_columns_at kind.0 next
+  columns ← columns_at (side_count kind.0) next
   rest ← word_at (10 ∷ []) columns.1
   Some ((version.0, kind.0, columns.0), rest)
 
@@ -77,26 +73,26 @@ index_at word i bytes = do
   n ← number_at max_number first
   if n.0 == i then Some n.1 else None
 
+-- two numbers up to a limit, each behind a space, and the end of the line
+unfoldable pub two_at : ℕ → List ℕ → Option ((ℕ × ℕ) × List ℕ)
+two_at limit bytes = do
+  space ← word_at (32 ∷ []) bytes
+  first ← number_at limit space
+  space ← word_at (32 ∷ []) first.1
+  second ← number_at limit space
+  rest ← word_at (10 ∷ []) second.1
+  Some ((first.0, second.0), rest)
+
 -- the line of the interval of this number
 unfoldable pub interval_at : ℕ → List ℕ → Option (Interval × List ℕ)
 interval_at i bytes = do
   index ← index_at (codes "interval ") i bytes
-  space ← word_at (32 ∷ []) index
-  left ← number_at max_end space
-  space ← word_at (32 ∷ []) left.1
-  right ← number_at max_end space
-  rest ← word_at (10 ∷ []) right.1
-  Some (record { left = left.0; right = right.0 }, rest)
+  ends ← two_at max_end index
+  Some (record { left = ends.0.0; right = ends.0.1 }, ends.1)
 
 -- the two ends of a span, and the end of the line
 unfoldable pub ends_at : List ℕ → Option (Span × List ℕ)
-ends_at bytes = do
-  space ← word_at (32 ∷ []) bytes
-  first ← number_at max_number space
-  space ← word_at (32 ∷ []) first.1
-  last ← number_at max_number space
-  rest ← word_at (10 ∷ []) last.1
-  Some (record { first = first.0; last = last.0 }, rest)
+ends_at bytes = two_at max_number bytes >>= λ ends. Some (record { first = ends.0.0; last = ends.0.1 }, ends.1)
 
 -- no place, and the bytes after it
 abbrev pub as_nowhere : List ℕ → Option (Place × List ℕ)

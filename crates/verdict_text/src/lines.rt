@@ -35,7 +35,7 @@ impl LineForm for IntervalLine {
         Ok(())
     }
 
-    #[tactic(auto, unfolding(crate::specs::Reading::interval_at))]
+    #[tactic(auto, unfolding(crate::specs::Reading::interval_at, crate::specs::Reading::two_at))]
     fn read(i: u32, bytes: &[u8]) -> Result<(Interval, &[u8]), Stop> {
         let rest = after_index(bytes, b"interval ", i)?;
         let rest = after(rest, b" ")?;
@@ -144,7 +144,7 @@ impl LineForm for ContigLine {
 }
 
 // The two ends of a span, and the end of the line.
-#[tactic(auto, unfolding(crate::specs::Reading::ends_at))]
+#[tactic(auto, unfolding(crate::specs::Reading::ends_at, crate::specs::Reading::two_at))]
 fn read_ends(bytes: &[u8]) -> Result<(Span, &[u8]), Stop>
     ensures { Gives with_rest result (ends_at bytes.now) }
 {

@@ -1,8 +1,8 @@
 // The first three lines of a verdict: its version, its kind and its columns.
-ghost use Rattle.std.specs.Prelude.{◌≡◌, IfOk};
+ghost use Rattle.std.specs.Prelude.{◌≡◌, ◌≤◌, IfOk};
 ghost use Rattle.plain_text.specs.Rest.{with_rest};
 ghost use Rattle.verdict_text.specs.Grammar.{side_count, AreColumnCounts};
-ghost use Rattle.verdict_text.specs.Reading.{version_at, kind_columns_at, head_at};
+ghost use Rattle.verdict_text.specs.Reading.{version_at, columns_at, head_at};
 ghost use Rattle.text_parts.specs.Seen.{Gives};
 ghost use Rattle.verdict_text.specs.Seen.{columns_seen, head_seen};
 ghost use Rattle.verdict_text.specs.Value.{column_counts};
@@ -22,7 +22,7 @@ pub fn read_head(bytes: &[u8]) -> Result<(Version, Kind, Columns, &[u8]), Stop>
     let rest = after(rest, b"kind ")?;
     let (kind, rest) = read_kind(rest)?;
     let rest = after(rest, b"\ncolumns")?;
-    let (columns, rest) = read_columns(kind, rest)?;
+    let (columns, rest) = read_columns(side_count(kind), rest)?;
     let rest = after(rest, b"\n")?;
     Ok((version, kind, columns, rest))
 }
@@ -40,29 +40,18 @@ fn read_version(bytes: &[u8]) -> Result<(Version, &[u8]), Stop>
     }
 }
 
-#[tactic(auto, unfolding(crate::specs::Reading::kind_columns_at, crate::specs::Reading::columns_at))]
-fn read_columns(kind: Kind, bytes: &[u8]) -> Result<(Columns, &[u8]), Stop>
-    ensures value { Gives columns_seen result (kind_columns_at kind bytes.now) }
+#[tactic(auto, unfolding(crate::specs::Reading::columns_at))]
+fn read_columns(sides: u8, bytes: &[u8]) -> Result<(Columns, &[u8]), Stop>
+    requires { (1 ≤ sides) × (sides ≤ 2) }
+    ensures value { Gives columns_seen result (columns_at sides bytes.now) }
     ensures columns { IfOk result (λ x. AreColumnCounts (column_counts x.0)) }
 {
-    match kind {
-        Kind::Doubly => {
-            let (c, rest) = read_column_count(bytes)?;
-            let (d, rest) = read_column_count(rest)?;
-            Ok((Columns::Two(c, d), rest))
-        }
-        Kind::Matrix
-        | Kind::Rows
-        | Kind::Table
-        | Kind::Circular
-        | Kind::Convex
-        | Kind::Proper
-        | Kind::Robinson
-        | Kind::Clones => {
-            let (c, rest) = read_column_count(bytes)?;
-            Ok((Columns::One(c), rest))
-        }
+    let (c, rest) = read_column_count(bytes)?;
+    if sides == 1 {
+        return Ok((Columns::One(c), rest));
     }
+    let (d, rest) = read_column_count(rest)?;
+    Ok((Columns::Two(c, d), rest))
 }
 
 // How many sides a kind has.
