@@ -9,7 +9,7 @@ use std::rt::Env;
 use std::{env, io};
 
 // The words of the command line behind the name of the program, which may be no text.
-#[derive(Clone, Copy)]
+#[derive(Drop)]
 struct BehindName<'a, R>(&'a R);
 
 impl<R: Env> Env for BehindName<'_, R> {
