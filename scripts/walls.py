@@ -75,6 +75,8 @@ HANDED = re.compile(r"\bCountedRows::new\(m\)|\bm\.columns\(\)")
 # The file of `CountedRows`, and the functions there that read its matrix, each by a clause for a step or for none.
 COUNTED_ROWS = os.path.join("row_model", "src", "counted.rt")
 VIEWS = {"columns", "rows", "len_counted", "has_counted", "member_counted", "next_counted", "ones_of_row", "span_counted", "ones_counted", "push_row", "ones", "counted"}
+# How many of their lines go over a list without a tick: a span is found along a row whose columns were counted, and a row is copied.
+VIEW_WALKS = {"span_counted": 1, "push_row": 1}
 # Their functions with a loop of which a turn may cost none, and how many lines of each have such a loop or what goes over a list; behind a
 # name, the one over which the loops go that are meant. They go over a table that is set up or handed out once; up a set of pairs; over rows
 # of which some have no ones; over the lines of a walk that is found; over the few columns, rows, ways and pivots that an attempt takes. Or
@@ -550,6 +552,16 @@ def uncounted_loops():
         for name in calls_itself(crate):
             yield f"crates/{crate}: {name} calls itself, and no loop shows what a turn costs"
         yield from whole_lists(crate)
+    yield from loops_of_views()
+
+
+def loops_of_views():
+    """Where a counted read goes over a list itself without a step."""
+    for name, lines in functions("row_model"):
+        if COUNTED_ROWS in lines[0][0] or name.endswith("_counted"):
+            turns = list(free_turns(body(lines), set(), set(), set(), (set(), set()), set()))
+            if len(turns) != VIEW_WALKS.get(name, 0):
+                yield f"{lines[0][0]}: {name} goes over a list without a step: {[line.strip() for _, line in turns]}"
 
 
 def shared_names():
