@@ -184,7 +184,7 @@ HANDED_OUT = re.compile(r"->.*\bMatrix\b")
 OF_MATRIX = re.compile(r"\bm\b")
 PARAMETER = re.compile(r"\bm: &Matrix,")
 # a loop with a block of its own, and the name that goes over it; and a call that goes over a list
-BLOCK = re.compile(r"(?:^|[=(,{>|;]|\breturn|\bbreak|\bif|\bmatch)\s*(?:'\w+: )?(?:for \(?(\w+)|while|loop)\b")
+BLOCK = re.compile(r"(?:^|[=(,{>|;]|\breturn|\bbreak|\bif|\bmatch)\s*(?:'\w+: )?(?:for \W*(\w+)|while|loop)\b")
 OVER_LIST = re.compile(
     r"\.(?:any|all|r?find\w*|filter\w*|flat_map|map_while|take_while|skip_while|try_for_each|for_each|(?:try_)?r?fold|scan|r?position|contains|nth|count|sum"
     r"|product|(?:min|max)_by\w*|sort\w*|dedup\w*|reverse|retain\w*|fill\w*|rotate\w*|extend\w*|to_vec|to_owned|concat|copy_from_slice|clone_from\w*"

@@ -56,9 +56,9 @@ impl Classes {
 /// and so are all pairs (d,a). The classes are the least that have these pairs together, so each row is read once
 /// for each column that it lacks.
 ///
-/// With c columns and f ones in the first rows it counts at most 8c(f + 1) steps, where memory is refused too: a step
-/// for each look at a row and for each column that is read of it. That a row ends is seen without one. It takes 4 bytes
-/// for each ordered pair of columns.
+/// With c columns and f ones in the first rows it counts at most 3cf steps, so at most 8c(f + 1), where memory is refused
+/// too: a step for each look at a row and for each column that is read of it. That a row ends is seen without one. It
+/// takes 4 bytes for each ordered pair of columns.
 ///
 /// # Errors
 ///
@@ -72,6 +72,7 @@ pub fn even_classes<L: Ledger>(
     requires { rows ≤ length m.now.rows }
     ensures classes { IfOk result (TellsClasses m.now.columns (take rows m.now.rows)) }
     ensures ticks { steps.new ≤ steps.old + 8 * m.now.columns * (sum_by length (take rows m.now.rows) + 1) }
+    ensures few { steps.new ≤ steps.old + 3 * m.now.columns * sum_by length (take rows m.now.rows) }
     ensures turns { OnOk result (steps.old + sum_by length (take rows m.now.rows) ≤ steps.new) }
 {
     classes_of(alloc, &CountedRows::new(m), rows, steps)
@@ -88,6 +89,7 @@ fn classes_of<L: Ledger>(
     requires { rows ≤ length m.now.rows }
     ensures classes { IfOk result (TellsClasses m.now.columns (take rows m.now.rows)) }
     ensures ticks { steps.new ≤ steps.old + 8 * m.now.columns * (sum_by length (take rows m.now.rows) + 1) }
+    ensures few { steps.new ≤ steps.old + 3 * m.now.columns * sum_by length (take rows m.now.rows) }
     ensures turns { OnOk result (steps.old + sum_by length (take rows m.now.rows) ≤ steps.new) }
 {
     let columns = m.columns();
