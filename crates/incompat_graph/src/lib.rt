@@ -14,9 +14,9 @@
 //!
 //! What a short cycle meets (`met`) is searched once more as a part of its own, for a still shorter one (`shorter`).
 //!
-//! Of how these look only this is proved: they go over few columns, rows, ways and links, as clauses named `few` say, and
-//! over no more steps than their own share. What they find is tested line by line before it is taken (`checked`); where
-//! they find nothing, the search finds a cycle.
+//! Of how these look only this is proved: the lists of columns, rows, ways and links that they choose are short, as
+//! clauses named `few` say, and they take no more steps than their own share. What they find is tested line by line
+//! before it is taken (`checked`); where they find nothing, the search finds a cycle.
 #![tactic(auto)]
 
 mod around;

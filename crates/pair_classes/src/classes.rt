@@ -53,8 +53,8 @@ impl Classes {
 /// class exactly where a walk of even length leads from the one to the other.
 ///
 /// For each row and each column d that it lacks, all pairs (a,d) of the columns a of the row are in one class,
-/// and so are all pairs (d,a). The classes are the least that have these pairs together, so each row is read once
-/// for each column that it lacks.
+/// and so are all pairs (d,a). The classes are the least that have these pairs together, so it does to read each
+/// row once for each column that it lacks.
 ///
 /// With c columns and f ones in the first rows it counts at most 3cf steps, so at most 8c(f + 1), where memory is refused
 /// too: a step for each look at a row and for each column that is read of it. That a row ends is seen without one. It

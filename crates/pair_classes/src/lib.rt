@@ -1,6 +1,6 @@
 //! Tables over the ordered pairs of columns, and the classes of pairs that walks of even length join in the
-//! incompatibility graph of some rows (McConnell, 2004). Nothing is searched for here: each row is read once for each
-//! column that it lacks.
+//! incompatibility graph of some rows (McConnell, 2004). Nothing is searched for here: the rows are read for the
+//! columns that they lack.
 #![tactic(auto)]
 
 mod classes;

@@ -29,7 +29,7 @@ use step_count::{Ledger, Steps};
 /// are none, the graph is bipartite.
 ///
 /// A pair (a,b) leads to (b,a), and by each row that has a and lacks b to the pairs (b,d) of the columns d of the row.
-/// They are the same for every a, so a row is read at most once for each column that it lacks. A row that has b and
+/// They are the same for every a, so it does to read a row once for each column that it lacks. A row that has b and
 /// lacks a joins (a,b) to the pairs (d,a), and is not read once more for these: it leads from (b,a) to (a,d), and those
 /// to (d,a), which are three steps in place of one and give (d,a) the same colour.
 ///
