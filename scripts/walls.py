@@ -77,18 +77,18 @@ COUNTED_ROWS = os.path.join("row_model", "src", "counted.rt")
 VIEWS = {"columns", "rows", "len_counted", "has_counted", "member_counted", "next_counted", "ones_of_row", "span_counted", "ones_counted", "push_row", "ones", "counted"}
 # How many of their lines go over a list without a tick: a span is found along a row whose columns were counted, and a row is copied.
 VIEW_WALKS = {"span_counted": 1, "push_row": 1}
-# Their functions with a loop of which a turn may cost none, and how many lines of each have such a loop or what goes over a list; behind a
-# name, the one over which the loops go that are meant. They go over a table that is set up or handed out once; up a set of pairs; over rows
+# Their functions with a loop of which a turn may cost none, and how many lines of each have such a loop or what goes over a list, or call one
+# of these functions where a loop leads there; behind a name, the one over which the only loop goes. They go over a table that is set up or handed out once; up a set of pairs; over rows
 # of which some have no ones; over the lines of a walk that is found; over the few columns, rows, ways and pivots that an attempt takes. Or
 # they are the judge's.
 UNTICKED = {
-    "pair_classes": {"classes_of k": 1, "marks.rt/new": 1, "numbers.rt/new": 1, "each_alone": 1, "root_of": 1, "flatten": 1},
+    "pair_classes": {"classes_of k": 2, "unite_along": 1, "unite_with": 2, "unite": 2, "marks.rt/new": 1, "numbers.rt/new": 1, "each_alone": 1, "root_of": 1, "flatten": 1},
     "odd_cycle": {"short_cycle": 4, "cut": 1, "has_flip": 1, "sorted_columns": 2, "is_rising": 1, "is_folded": 2},
-    "open_gaps": {"cover": 1, "of_parts": 1, "gaps_of_all": 3, "gaps_of": 2, "new": 1, "of_rows": 1, "span_in_order": 1},
-    "walk_search": {"way_down": 2, "add_way_up": 1, "rows_by_column k": 1, "joined": 1, "simple_cycle": 1, "new": 1, "search": 2, "search_along": 2},
+    "open_gaps": {"cover": 1, "of_parts": 1, "gaps_of_all": 3, "gaps_of": 3, "take_row": 1, "new": 1, "of_rows": 1, "span_in_order": 1},
+    "walk_search": {"way_down": 2, "add_way_up": 1, "closed_walk": 2, "rows_by_column k": 1, "joined": 1, "simple_cycle": 1, "new": 1, "search": 3, "search_along": 2},
     "incompat_graph": {
         "walk_around": 3, "add_forth": 1, "add_back": 1, "columns_near": 2, "openers": 2, "is_odd_walk": 1, "odd_links": 4, "closed_at_once": 1,
-        "is_known": 1, "odd_circle": 4, "circle_by": 2, "first_left": 1, "place_among": 1, "spread": 3, "path_up": 1, "add_lines": 1, "settle": 4,
+        "is_known": 1, "odd_circle": 4, "circle_by": 3, "first_left": 1, "place_among": 1, "spread": 3, "path_up": 1, "add_lines": 1, "settle": 4,
         "lines_of": 1, "part_of": 2, "without_repeats": 4, "add_spread": 1, "checked_cycle": 1, "lines_in": 1, "any_cycle": 1, "quick_cycle": 1,
     },
 }
@@ -148,6 +148,18 @@ SAMPLES = [
     ("let way = way_down(alloc, forest, a)?;", True),
     ("for a in columns {\n    steps.tick();\n    let way = way_down(alloc, forest, a)?;\n}", False),
     ("for a in columns {\n    steps.tick();\n}\nlet way = way_down(alloc, forest, a)?;", True),
+    ("for &a in columns {\n    b += 1;\n}", False),
+    ("for ((a, b), c) in columns {\n    d += 1;\n}", False),
+    ("let most = forest\n    .iter()\n    .map(f)\n    .max();", False),
+    ("let most = (0..count).map(f).max();", False),
+    ("let last = rows.windows(2).map(f).last();", False),
+    ("let most = nodes.iter_mut().map(f).max();", False),
+    ("let all = first.sum::<u32>();", False),
+    ("let has = <[u32]>::contains(rows, &a);", False),
+    ("let same = Some(order) == holders.first();", False),
+    ("for a in columns {\n    expand(a, steps)?;\n}", True),
+    ("for a in columns {\n    let found = expand(\n        a,\n        steps,\n    )?;\n}", True),
+    ("for a in columns {\n    let _found = expand(a, steps);\n}", False),
 ]
 # The lists of these, and the fields that are lists.
 SAMPLE_LISTS = ({"order", "before"}, {"columns"})
@@ -171,7 +183,7 @@ FUNCTION = re.compile(r"\bfn (\w+)")
 WALK = re.compile(r"\b(to_tree|is_one_tree|has_two_each)\b")
 ALLOCATOR = re.compile(r"\ballocator\(")
 # what takes memory of a vector's own; the climber's call of this name puts a node into a queue that has room for all that comes to it
-TAKES = re.compile(r"(?:\.|Vec::)(?:push\w*|insert\w*|append|(?:try_)?reserve\w*|shrink_to\w*|resize|resize_with|extend|extend_from_slice|extend_from_within|to_vec|to_owned|collect|clone)\b|\bvec!")
+TAKES = re.compile(r"(?:\.|Vec::)(?:push\w*|insert\w*|append|(?:try_)?reserve\w*|shrink_to\w*|resize|resize_with|extend|extend_from_slice|extend_from_within|split_off|to_vec|to_owned|collect|clone)\b|\bvec!")
 QUEUED = re.compile(r"bubble_pass/src/climber\.rt:\d+ .*\bself\.push\(|bubble_pass/src/\w+\.rt:\d+ .*\bclimber\.push\(")
 MATRIX = re.compile(r"\bMatrix\b")
 # the matrix behind the reads that are counted, in these functions alone; where it comes in; its field, if that is open to others; and the
@@ -189,11 +201,13 @@ OVER_LIST = re.compile(
     r"\.(?:any|all|r?find\w*|filter\w*|flat_map|map_while|take_while|skip_while|try_for_each|for_each|(?:try_)?r?fold|scan|r?position|contains|nth|count|sum"
     r"|product|(?:min|max)_by\w*|sort\w*|dedup\w*|reverse|retain\w*|fill\w*|rotate\w*|extend\w*|to_vec|to_owned|concat|copy_from_slice|clone_from\w*"
     r"|is_sorted\w*|starts_with|ends_with|strip_(?:pre|suf)fix|select_nth\w*|swap_with_slice|drain|split_off|partial_cmp|partition|reduce|unzip|(?:try_)?collect"
-    r"|nth_back|append|insert|remove|resize\w*|splice|copy_within|repeat|join)\(|iter\(\).*\.(?:map|last|max|min|eq|ne|lt|le|gt|ge|cmp)\("
+    r"|nth_back|append|insert|remove|resize\w*|splice|copy_within|repeat|join)(?:::<[^(]*>)?\(|(?:iter(?:_mut)?\(\)|windows\(|chunks\w*\(|\.\.).*"
+    r"\.(?:map|last|max|min|eq|ne|lt|le|gt|ge|cmp)(?:::<[^(]*>)?\(|<&?\[\w+\]>::"
     r"|(?:vec!|= )\[(?:in \w+; |(?!in ))[^;\]]*; ")
 # what costs a step: a clause that says so, always or with a value; a tick or a counted read; and the name of what is called, in the head
 # of a loop that goes on as long as there is a value or anywhere
 COSTS = re.compile(r"^\s*ensures costs \{ (?:OnOk result \()?steps\.old \+ 1 ≤ steps\.new\)? \}$")
+COSTS_IF_OK = re.compile(r"^\s*ensures costs \{ OnOk result ")
 SOME_COSTS = re.compile(r"^\s*ensures costs \{ IfSome result \(λ \w+\. steps\.old \+ 1 ≤ steps\.new\) \}$")
 TICKS = re.compile(r"(?<![\w.])(?:steps\.tick\(\)|(?:front\.)?m\.(?:len|has|member|ones)_counted\()")
 NEXT = re.compile(r"^\s*while let Some\(\w+\) = (m\.next_counted|\w+)\(")
@@ -447,7 +461,7 @@ def compares_lists(line, names, fields):
     """Whether two lists are compared in a line, or one is copied, of these names and fields."""
     owned = rf"|(?:\w+\.)+(?:{'|'.join(sorted(fields))})" if fields else ""
     operand = rf"(?<![\w.])(?:{'|'.join(sorted(names)) or '(?!)'}{owned})\b(?:\.as_slice\(\)|\[[^\]]*\.\.[^\]]*\])?"
-    return re.search(rf"{operand} (?:[=!]=|[<>]=?) | (?:[=!]=|[<>]=?) [&*]*{operand}(?![\w.(\[])|{operand}\.(?:clone|eq|ne|cmp|lt|gt|le|ge)\(", line) is not None
+    return re.search(rf"{operand}\)* (?:[=!]=|[<>]=?) | (?:[=!]=|[<>]=?) (?:Some\(|Ok\()?[&*]*{operand}(?![\w.(\[])|{operand}\.(?:clone|eq|ne|cmp|lt|gt|le|ge)\(", line) is not None
 
 
 def whole_lists(crate):
@@ -473,22 +487,41 @@ def is_paid(lines, number, sure, with_value):
     goes_on = NEXT.match(head)
     if goes_on and goes_on[1] in with_value:
         return True
-    turn = [head] if head.lstrip().startswith("while") else []
-    for _, line in lines[number + 1:]:
+    turn = [number] if head.lstrip().startswith("while") else []
+    for after, (_, line) in enumerate(lines[number + 1:], number + 1):
         inner = len(line) - len(line.lstrip())
         if inner <= outer or CONTINUES.search(line):
             break
         if inner == outer + 4:
-            turn.append(line)
-    always = [SURE.split(line)[0] for line in turn]
-    return any(TICKS.search(line) or sure.intersection(CALLED.findall(line)) for line in always)
+            turn.append(after)
+    always = [(after, SURE.split(lines[after][1])[0]) for after in turn]
+    return any(TICKS.search(line) or any(is_heeded(lines, after, sure[name]) for name in sure if name in CALLED.findall(line)) for after, line in always)
 
 
-def free_turns(lines, listed, sure, with_value, lists, unticked):
+def is_heeded(lines, number, may_fail):
+    """Whether a call that begins on a line costs a step: where it may fail, its error ends the function, and it alone may cost none."""
+    if not may_fail:
+        return True
+    end = next((after for after in range(number, len(lines)) if lines[after][1].endswith((";", "{"))), len(lines) - 1)
+    return "?" in lines[end][1]
+
+
+def joined(lines):
+    """The lines of a function, each with the calls that follow it behind a point on lines of their own."""
+    whole = []
+    for place, line in lines:
+        if whole and line.lstrip().startswith("."):
+            whole[-1] = whole[-1][0], whole[-1][1] + line.strip()
+        else:
+            whole.append((place, line))
+    return whole
+
+
+def free_turns(lines, listed, sure, with_value, lists, unticked, is_in_loop=False):
     """The lines of a function with a loop of which a turn may cost no step, but for those over the listed names, or with what goes over a list.
 
     In a loop that is also a call of a function with such a line."""
-    loops = []
+    loops, lines = [-1] * is_in_loop, joined(lines)
     for number, (place, line) in enumerate(lines):
         loop, inner = BLOCK.search(line), len(line) - len(line.lstrip())
         loops = [outer for outer in loops if outer < inner or not line.strip()]
@@ -503,7 +536,7 @@ def misread_loops():
     """The samples of loops that are not told as they are."""
     for sample, costs in SAMPLES:
         lines = [("sample", line) for line in sample.split("\n")]
-        if bool(list(free_turns(lines, set(), {"look"}, {"m.next_counted", "next_halt"}, SAMPLE_LISTS, {"way_down"}))) == costs:
+        if bool(list(free_turns(lines, set(), {"look": False, "expand": True}, {"m.next_counted", "next_halt"}, SAMPLE_LISTS, {"way_down"}))) == costs:
             yield f"scripts/walls.py: misreads a loop: {sample!r}"
 
 
@@ -536,18 +569,20 @@ def is_meant(entry, name, place):
 def uncounted_loops():
     """Where a turn of a search may cost no step."""
     for crate in SEARCHING:
-        sure, with_value = costing(crate, COSTS), costing(crate, SOME_COSTS) | {"m.next_counted"}
+        fails = costing(crate, COSTS_IF_OK)
+        sure, with_value = {name: name in fails for name in costing(crate, COSTS)}, costing(crate, SOME_COSTS) | {"m.next_counted"}
         makers = {name for name, lines in functions(crate) if any(GIVES_LIST.search(line) for _, line in lines)}
         fields, nested = list_fields(crate), {found for _, line in code(crate) for found in NESTED.findall(line)}
-        unticked = {entry.split()[0] for entry in UNTICKED[crate] if "/" not in entry} - {"new"}
+        looped = called_in_loops(crate)
+        unticked = with_callers(crate, {entry.split()[0] for entry in UNTICKED[crate] if "/" not in entry} - {"new"})
         for name, lines in functions(crate):
             place = lines[0][0]
             entry = next((entry for entry in UNTICKED[crate] if is_meant(entry, name, place)), name)
             over, listed = entry.partition(" ")[2], UNTICKED[crate].get(entry, 0)
-            known = (sure, with_value, (of_lists(lines, makers, nested), fields), unticked)
+            known = (sure, with_value, (of_lists(lines, makers, nested), fields), unticked, name in looped)
             turns = list(free_turns(body(lines), set(), *known))
             others = list(free_turns(body(lines), {over}, *known)) if over else []
-            if others or len(turns) != listed:
+            if len(others) != max(listed - 1, 0) * bool(over) or len(turns) != listed:
                 yield f"{place}: of the lines of {name} that may cost no step {listed} are listed, and there are {len(turns)}: {[line.strip() for _, line in others or turns]}"
         for name in calls_itself(crate):
             yield f"crates/{crate}: {name} calls itself, and no loop shows what a turn costs"
@@ -555,11 +590,39 @@ def uncounted_loops():
     yield from loops_of_views()
 
 
+def called_in_loops(crate):
+    """The functions of a crate that are called in a loop of one of them, by others too."""
+    calls, more = {}, set()
+    for name, lines in functions(crate):
+        loops = []
+        for _, line in body(lines):
+            inner, called = len(line) - len(line.lstrip()), set(re.findall(r"\b(\w+)\(", line))
+            loops = [outer for outer in loops if outer < inner or not line.strip()]
+            calls[name] = calls.get(name, set()) | called
+            more |= called if loops else set()
+            loops += [inner] * (BLOCK.search(line) is not None)
+    found = set()
+    while more:
+        found |= more
+        more = {called for name in more for called in calls.get(name, set())} - found
+    return found & set(calls)
+
+
+def with_callers(crate, names):
+    """These functions of a crate, and those that call one of them, by others too."""
+    calls = [(name, {called for _, line in body(lines) for called in re.findall(r"\b(\w+)\(", line)}) for name, lines in functions(crate)]
+    found, more = set(), set(names)
+    while more:
+        found |= more
+        more = {name for name, called in calls if called & found} - found
+    return found
+
+
 def loops_of_views():
     """Where a counted read goes over a list itself without a step."""
     for name, lines in functions("row_model"):
         if COUNTED_ROWS in lines[0][0] or name.endswith("_counted"):
-            turns = list(free_turns(body(lines), set(), set(), set(), (set(), set()), set()))
+            turns = list(free_turns(body(lines), set(), {}, set(), (set(), set()), set()))
             if len(turns) != VIEW_WALKS.get(name, 0):
                 yield f"{lines[0][0]}: {name} goes over a list without a step: {[line.strip() for _, line in turns]}"
 
