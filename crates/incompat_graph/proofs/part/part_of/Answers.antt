@@ -1,5 +1,6 @@
-use Rattle.std.proofs.Common.{◌≡◌, ◌+◌, ◌*◌, ◌≤◌, length, sym, subst, arith}
+use Rattle.std.proofs.Common.{◌≡◌, ◌+◌, ◌*◌, ◌≤◌, ℕ, List, length, ap, sym, subst, arith}
 use Rattle.std.proofs.lemmas.Grind.{common_steps}
+use Rattle.row_model.specs.Rows.{IsRow, RowList}
 use Rattle.incompat_graph.proofs.PartLaws.{row_paid}
 use Rattle.incompat_graph.proofs.part.part_of.Goals as goal
 use Rattle.incompat_graph.proofs.part.part_of.Goals.{then-k-ge1+then-k-rows+in-Some+in_ok-row+in_ok-push_row, else-k-ge1}
@@ -27,3 +28,36 @@ loop-k-preserved g c =
         turns = subst (λ p. c.args.steps.now + length p.rows * wide ≤ c.if-k-ge1.steps) (sym w.part-is) (omega (arith, w.steps-is, x.turns));
       }
     ]
+
+pub returns : goal.returns
+returns g c = record { ticks = c.loop-k.invariant.ticks; less = c.loop-k.invariant.less; turns = c.loop-k.invariant.turns }
+
+pub returns-in_err-row-clause-ticks : goal.returns-in_err-row-clause-ticks
+returns-in_err-row-clause-ticks g c = omega (arith, c.in-Some.ensures, c.row_of.ensures.ticks, c.loop-k.invariant.ticks)
+
+pub returns-in_err-row-clause-less : goal.returns-in_err-row-clause-less
+returns-in_err-row-clause-less g c = omega (arith, c.in-Some.ensures, c.loop-k.invariant.less)
+
+pub returns-in_err-push_row-clause-ticks : goal.returns-in_err-push_row-clause-ticks
+returns-in_err-push_row-clause-ticks g c = omega (arith, c.in-Some.ensures, c.row_of.ensures.ticks, c.loop-k.invariant.ticks)
+
+pub returns-in_err-push_row-clause-less : goal.returns-in_err-push_row-clause-less
+returns-in_err-push_row-clause-less g c = omega (arith, c.in-Some.ensures, c.loop-k.invariant.less)
+
+pub returns-in_default : goal.returns-in_default
+returns-in_default g c = record { ticks = c.loop-k.invariant.ticks; less = c.loop-k.invariant.less; turns = c.loop-k.invariant.turns }
+
+pub push_row-requires : goal.push_row-requires
+push_row-requires g c = record {
+  row = subst (λ (n : ℕ). IsRow n c.deref.result.now) (sym c.loop-k.invariant.columns) (subst (λ (row : List ℕ). IsRow (length c.args.columns.now) row) (sym c.deref.ensures.value) c.in_ok-row.ensures.row);
+  room = omega (arith, c.loop-k.invariant.rows, c.loop-k-test.true, c.requires.rows);
+}
+
+pub loop-k-init : goal.loop-k-init
+loop-k-init g c = record {
+  columns = ap (λ (p : RowList). p.columns) c.in_ok-part.ensures;
+  rows = omega (arith, ap (λ (p : RowList). length p.rows) c.in_ok-part.ensures);
+  less = omega arith;
+  ticks = omega arith;
+  turns = subst (λ (p : RowList). c.args.steps.now + length p.rows * length c.args.columns.now ≤ c.args.steps.now) (sym c.in_ok-part.ensures) (omega arith);
+}
