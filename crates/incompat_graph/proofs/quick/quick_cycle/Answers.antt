@@ -30,3 +30,21 @@ pub returns-clause-ticks : goal.returns-clause-ticks
 returns-clause-ticks g c =
     let long : length c.args.order.now ≡ c.args.m.now.columns = order_length c.args.m.now.columns c.args.order.now c.requires.order.order in
     omega (arith, long, c.columns.ensures.columns, c.in-Some.ensures, c.sample_of.ensures, c.near_cycle.ensures.ticks, c.far_cycle.ensures.ticks)
+
+pub sample_of-requires : goal.sample_of-requires
+sample_of-requires g c = c.requires.row
+
+pub near_cycle-requires : goal.near_cycle-requires
+near_cycle-requires g c = record { row = c.requires.row.1; columns = c.requires.columns }
+
+pub far_cycle-requires : goal.far_cycle-requires
+far_cycle-requires g c = record { row = c.requires.row.1; columns = c.requires.columns; few = c.in_ok-sample.ensures.few }
+
+pub returns-clause-found : goal.returns-clause-found
+returns-clause-found g c = c.far_cycle.ensures.found
+
+pub returns-clause-short : goal.returns-clause-short
+returns-clause-short g c = c.far_cycle.ensures.short
+
+pub returns-in_default : goal.returns-in_default
+returns-in_default g c = record { found = tt; short = tt; ticks = omega arith }
