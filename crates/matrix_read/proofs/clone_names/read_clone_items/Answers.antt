@@ -15,7 +15,7 @@ loop-alloc-init c = (no_items, none_read c.args.depth c.args.reader.now, ap clon
 pub returns-in_err-clone-clause-err : goal.returns-in_err-clone-clause-err
 returns-in_err-clone-clause-err c refused =
     let s = c.loop-alloc.invariant in
-    let going : (after_end_array c.loop-alloc.reader ≡ None) × (c.take_end_array.new.self ≡ c.loop-alloc.reader) = grind arith in
+    let going : (after_end_array c.loop-alloc.reader ≡ None) × (c.take_end_array.new.self ≡ c.loop-alloc.reader) = c.loop-alloc-test.ensures in
     no_item _ _ _ s.0 s.1 going.0 (ap (value_at c.args.depth) (sym going.1) ∙ c.read_clone.ensures.err (grind (arith, refused)))
 
 pub loop-alloc-preserved : goal.loop-alloc-preserved
@@ -25,7 +25,7 @@ loop-alloc-preserved c =
     let s = l.invariant in
     let rest = c.read_clone.new.reader in
     let clone = c.in_ok-clone.clone in
-    let going : (after_end_array l.reader ≡ None) × (c.take_end_array.new.self ≡ l.reader) = grind arith in
+    let going : (after_end_array l.reader ≡ None) × (c.take_end_array.new.self ≡ l.reader) = c.loop-alloc-test.ensures in
     let m = mapped_some probes_of (value_at d l.reader) (names_view clone) rest (ap (λ ts. parse_map probes_of (value_at d ts)) (sym going.1) ∙ c.in_ok-clone.ensures.ok) in (
       joined s.0 (item m.0 no_items),
       one_item _ _ _ s.0 s.1 rest m.0 going.0 m.1 (rw (← going.1) c.in_ok-clone.ensures.shorter),
@@ -36,4 +36,4 @@ pub returns-clause-ok : goal.returns-clause-ok
 returns-clause-ok c =
     let s = c.loop-alloc.invariant in
     let rest = c.take_end_array.new.self in
-    ap (parse_map clone_names) (all_items _ _ _ s.0 s.1 rest (grind arith)) ∙ ap (λ names. Some (names, rest)) s.2
+    ap (parse_map clone_names) (all_items _ _ _ s.0 s.1 rest c.loop-alloc-test.ensures) ∙ ap (λ names. Some (names, rest)) s.2

@@ -20,18 +20,18 @@ returns-in_err-key-clause-err c refused =
 pub returns-in_err-probes-clause-err : goal.returns-in_err-probes-clause-err
 returns-in_err-probes-clause-err c refused =
     let s = c.loop-clones.invariant in
-    no_value _ _ _ c.next_key.new.self s.0 s.1 c.in-Some.key.now (grind arith) (c.read_names.ensures.err (grind (arith, refused)))
+    no_value _ _ _ c.next_key.new.self s.0 s.1 c.in-Some.key.now (rw c.in-Some.is at c.in_ok-key.ensures.value) (c.read_names.ensures.err (grind (arith, refused)))
 
 pub returns-in_err-clones-clause-err : goal.returns-in_err-clones-clause-err
 returns-in_err-clones-clause-err c refused =
     let s = c.loop-clones.invariant in
-    no_value _ _ _ c.next_key.new.self s.0 s.1 c.in-Some.key.now (grind arith) (c.read_clones.ensures.err (grind (arith, refused)))
+    no_value _ _ _ c.next_key.new.self s.0 s.1 c.in-Some.key.now (rw c.in-Some.is at c.in_ok-key.ensures.value) (c.read_clones.ensures.err (grind (arith, refused)))
 
 pub returns-in_err-pass-clause-err : goal.returns-in_err-pass-clause-err
 returns-in_err-pass-clause-err c refused =
     let s = c.loop-clones.invariant in
     let next = c.next_key.new.self in
-    no_value _ _ _ next s.0 s.1 c.in-Some.key.now (grind arith) (left_none (value_at c.args.depth next) c.in_err-pass.ensures.value)
+    no_value _ _ _ next s.0 s.1 c.in-Some.key.now (rw c.in-Some.is at c.in_ok-key.ensures.value) (left_none (value_at c.args.depth next) c.in_err-pass.ensures.value)
 
 pub loop-clones-preserved-then-eq : goal.loop-clones-preserved-then-eq
 loop-clones-preserved-then-eq c =
@@ -40,7 +40,7 @@ loop-clones-preserved-then-eq c =
     let next = c.next_key.new.self in
     let named : bytes_eq k (codes "probes") ≡ true = sym c.if-eq.ensures in
     let m = mapped_some array_strings (value_at c.args.depth next) (names_view c.in_ok-probes.probes) _ c.in_ok-probes.ensures.ok in
-    let found = one_more _ _ _ next s.0 s.1 k _ m.0 (grind arith) m.1 c.in_ok-probes.ensures.shorter in
+    let found = one_more _ _ _ next s.0 s.1 k _ m.0 (rw c.in-Some.is at c.in_ok-key.ensures.value) m.1 c.in_ok-probes.ensures.shorter in
     (put k m.0 s.0, found, probes_put k m.0 s.0 named ∙ m.2, clones_kept k m.0 s.0 (not_clones k named) ∙ s.3)
 
 pub loop-clones-preserved-then-eq-2 : goal.loop-clones-preserved-then-eq-2
@@ -50,7 +50,7 @@ loop-clones-preserved-then-eq-2 c =
     let next = c.next_key.new.self in
     let named : bytes_eq k (codes "clones") ≡ true = sym c.if-eq-2.ensures in
     let m = mapped_some array_clones (value_at c.args.depth next) (list_view c.in_ok-clones.clones) _ c.in_ok-clones.ensures.ok in
-    let found = one_more _ _ _ next s.0 s.1 k _ m.0 (grind arith) m.1 c.in_ok-clones.ensures.shorter in
+    let found = one_more _ _ _ next s.0 s.1 k _ m.0 (rw c.in-Some.is at c.in_ok-key.ensures.value) m.1 c.in_ok-clones.ensures.shorter in
     (put k m.0 s.0, found, probes_kept k m.0 s.0 (not_probes k named) ∙ s.2, clones_put k m.0 s.0 named ∙ m.2)
 
 pub loop-clones-preserved : goal.loop-clones-preserved
@@ -59,11 +59,11 @@ loop-clones-preserved c =
     let k = c.in-Some.key.now in
     let next = c.next_key.new.self in
     let x = left_some (value_at c.args.depth next) _ c.in_ok-pass.ensures.value in
-    let found = one_more _ _ _ next s.0 s.1 k _ x.0 (grind arith) x.1 c.in_ok-pass.ensures.shorter in
+    let found = one_more _ _ _ next s.0 s.1 k _ x.0 (rw c.in-Some.is at c.in_ok-key.ensures.value) x.1 c.in_ok-pass.ensures.shorter in
     (put k x.0 s.0, found, probes_kept k x.0 s.0 (sym c.if-eq.ensures) ∙ s.2, clones_kept k x.0 s.0 (sym c.if-eq-2.ensures) ∙ s.3)
 
 pub returns-clause-ok : goal.returns-clause-ok
 returns-clause-ok c =
     let s = c.loop-clones.invariant in
     let rest = c.next_key.new.self in
-    ap (parse_map member_names) (no_more _ _ _ rest s.0 s.1 (grind arith)) ∙ ap₂ (λ probes clones. Some ((probes, clones), rest)) s.2 s.3
+    ap (parse_map member_names) (no_more _ _ _ rest s.0 s.1 (rw c.in_default.is at c.in_ok-key.ensures.value)) ∙ ap₂ (λ probes clones. Some ((probes, clones), rest)) s.2 s.3

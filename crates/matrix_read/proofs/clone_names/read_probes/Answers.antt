@@ -20,13 +20,13 @@ returns-in_err-key-clause-err c refused =
 pub returns-in_err-probes-clause-err : goal.returns-in_err-probes-clause-err
 returns-in_err-probes-clause-err c refused =
     let s = c.loop-probes.invariant in
-    no_value _ _ _ c.next_key.new.self s.0 s.1 c.in-Some.key.now (grind arith) (c.read_names.ensures.err (grind (arith, refused)))
+    no_value _ _ _ c.next_key.new.self s.0 s.1 c.in-Some.key.now (rw c.in-Some.is at c.in_ok-key.ensures.value) (c.read_names.ensures.err (grind (arith, refused)))
 
 pub returns-in_err-pass-clause-err : goal.returns-in_err-pass-clause-err
 returns-in_err-pass-clause-err c refused =
     let s = c.loop-probes.invariant in
     let next = c.next_key.new.self in
-    no_value _ _ _ next s.0 s.1 c.in-Some.key.now (grind arith) (left_none (value_at c.args.depth next) c.in_err-pass.ensures.value)
+    no_value _ _ _ next s.0 s.1 c.in-Some.key.now (rw c.in-Some.is at c.in_ok-key.ensures.value) (left_none (value_at c.args.depth next) c.in_err-pass.ensures.value)
 
 pub loop-probes-preserved-then-eq : goal.loop-probes-preserved-then-eq
 loop-probes-preserved-then-eq c =
@@ -35,7 +35,7 @@ loop-probes-preserved-then-eq c =
     let next = c.next_key.new.self in
     let named : bytes_eq k (codes "probes") ≡ true = sym c.if-eq.ensures in
     let m = mapped_some array_strings (value_at c.args.depth next) (names_view c.in_ok-probes.probes) _ c.in_ok-probes.ensures.ok in
-    (put k m.0 s.0, one_more _ _ _ next s.0 s.1 k _ m.0 (grind arith) m.1 c.in_ok-probes.ensures.shorter, probes_put k m.0 s.0 named ∙ m.2)
+    (put k m.0 s.0, one_more _ _ _ next s.0 s.1 k _ m.0 (rw c.in-Some.is at c.in_ok-key.ensures.value) m.1 c.in_ok-probes.ensures.shorter, probes_put k m.0 s.0 named ∙ m.2)
 
 pub loop-probes-preserved : goal.loop-probes-preserved
 loop-probes-preserved c =
@@ -43,10 +43,10 @@ loop-probes-preserved c =
     let k = c.in-Some.key.now in
     let next = c.next_key.new.self in
     let x = left_some (value_at c.args.depth next) _ c.in_ok-pass.ensures.value in
-    (put k x.0 s.0, one_more _ _ _ next s.0 s.1 k _ x.0 (grind arith) x.1 c.in_ok-pass.ensures.shorter, probes_kept k x.0 s.0 (sym c.if-eq.ensures) ∙ s.2)
+    (put k x.0 s.0, one_more _ _ _ next s.0 s.1 k _ x.0 (rw c.in-Some.is at c.in_ok-key.ensures.value) x.1 c.in_ok-pass.ensures.shorter, probes_kept k x.0 s.0 (sym c.if-eq.ensures) ∙ s.2)
 
 pub returns-clause-ok : goal.returns-clause-ok
 returns-clause-ok c =
     let s = c.loop-probes.invariant in
     let rest = c.next_key.new.self in
-    ap (parse_map member_probes) (no_more _ _ _ rest s.0 s.1 (grind arith)) ∙ ap (λ names. Some (names, rest)) s.2
+    ap (parse_map member_probes) (no_more _ _ _ rest s.0 s.1 (rw c.in_default.is at c.in_ok-key.ensures.value)) ∙ ap (λ names. Some (names, rest)) s.2

@@ -16,38 +16,38 @@ pass_items-loop-reader-init t c = (no_items, none_read c.args.depth c.args.reade
 pub pass_items-returns-in_err-token-clause-value : goal.pass_items-returns-in_err-token-clause-value
 pass_items-returns-in_err-token-clause-value t c =
     let s = c.loop-reader.invariant in
-    let going : (after_end_array c.loop-reader.reader ≡ None) × (c.take_end_array.new.self ≡ c.loop-reader.reader) = grind arith in
-    let empty : c.take_end_array.new.self ≡ [] = grind arith in
+    let going : (after_end_array c.loop-reader.reader ≡ None) × (c.take_end_array.new.self ≡ c.loop-reader.reader) = c.loop-reader-test.ensures in
+    let empty : c.take_end_array.new.self ≡ [] = (rw c.in_err-token.ensures.ok_part at c.next.ensures.value).0 in
     let none = ap behind (no_item _ _ _ s.0 s.1 going.0 (ap (value_at c.args.depth) (sym going.1 ∙ empty) ∙ nothing_at_front c.args.depth)) in
     grind (arith, none)
 
 pub pass_items-loop-reader-smaller : goal.pass_items-loop-reader-smaller
 pass_items-loop-reader-smaller t c =
-    let first : c.loop-reader.reader ≡ token_of c.in_ok-token.token ∷ c.next.new.self = grind arith in
+    let first : c.loop-reader.reader ≡ token_of c.in_ok-token.token ∷ c.next.new.self = sym c.loop-reader-test.ensures.1 ∙ (rw c.in_ok-token.ensures.ok_part at c.next.ensures.value) in
     omega (arith, ap length first, c.in_ok-pass_value.ensures.shorter)
 
 pub pass_items-loop-reader-preserved : goal.pass_items-loop-reader-preserved
 pass_items-loop-reader-preserved t c =
     let d = c.args.depth in
     let s = c.loop-reader.invariant in
-    let first : c.loop-reader.reader ≡ token_of c.in_ok-token.token ∷ c.next.new.self = grind arith in
+    let first : c.loop-reader.reader ≡ token_of c.in_ok-token.token ∷ c.next.new.self = sym c.loop-reader-test.ensures.1 ∙ (rw c.in_ok-token.ensures.ok_part at c.next.ensures.value) in
     let x = left_some (value_at d c.loop-reader.reader) _ (ap (λ ts. behind (value_at d ts)) first ∙ c.in_ok-pass_value.ensures.value) in
-    (joined s.0 (item x.0 no_items), one_item _ _ _ s.0 s.1 _ x.0 (grind arith) x.1 (omega (arith, ap length first, c.in_ok-pass_value.ensures.shorter)))
+    (joined s.0 (item x.0 no_items), one_item _ _ _ s.0 s.1 _ x.0 c.loop-reader-test.ensures.0 x.1 (omega (arith, ap length first, c.in_ok-pass_value.ensures.shorter)))
 
 pub pass_items-returns-in_err-pass_value-clause-value : goal.pass_items-returns-in_err-pass_value-clause-value
 pass_items-returns-in_err-pass_value-clause-value t c =
     let d = c.args.depth in
     let s = c.loop-reader.invariant in
-    let first : c.loop-reader.reader ≡ token_of c.in_ok-token.token ∷ c.next.new.self = grind arith in
-    let none = ap behind (no_item _ _ _ s.0 s.1 (grind arith) (left_none (value_at d c.loop-reader.reader) (ap (λ ts. behind (value_at d ts)) first ∙ c.in_err-pass_value.ensures.value))) in
+    let first : c.loop-reader.reader ≡ token_of c.in_ok-token.token ∷ c.next.new.self = sym c.loop-reader-test.ensures.1 ∙ (rw c.in_ok-token.ensures.ok_part at c.next.ensures.value) in
+    let none = ap behind (no_item _ _ _ s.0 s.1 c.loop-reader-test.ensures.0 (left_none (value_at d c.loop-reader.reader) (ap (λ ts. behind (value_at d ts)) first ∙ c.in_err-pass_value.ensures.value))) in
     grind (arith, none)
 
 pub pass_items-returns-clause-value : goal.pass_items-returns-clause-value
-pass_items-returns-clause-value t c = let s = c.loop-reader.invariant in ap behind (all_items _ _ _ s.0 s.1 c.take_end_array.new.self (grind arith))
+pass_items-returns-clause-value t c = let s = c.loop-reader.invariant in ap behind (all_items _ _ _ s.0 s.1 c.take_end_array.new.self c.loop-reader-test.ensures)
 
 pub pass_items-returns-clause-shorter : goal.pass_items-returns-clause-shorter
 pass_items-returns-clause-shorter t c =
-    omega (arith, after_end_array-shorter c.loop-reader.reader c.take_end_array.new.self (grind arith), c.loop-reader.invariant.1.shorter)
+    omega (arith, after_end_array-shorter c.loop-reader.reader c.take_end_array.new.self c.loop-reader-test.ensures, c.loop-reader.invariant.1.shorter)
 
 pub pass_members-loop-reader-init : goal.pass_members-loop-reader-init
 pass_members-loop-reader-init t c = (no_members, none_found c.args.depth c.args.reader.now)
@@ -62,16 +62,16 @@ pub pass_members-returns-in_err-token-clause-value : goal.pass_members-returns-i
 pass_members-returns-in_err-token-clause-value t c =
     let s = c.loop-reader.invariant in
     let next = c.next_key.new.self in
-    let empty : next ≡ [] = grind arith in
-    let none = ap behind (no_value _ _ _ next s.0 s.1 c.in-Some.field-0.now (grind arith) (ap (value_at c.args.depth) empty ∙ nothing_at_front c.args.depth)) in
+    let empty : next ≡ [] = (rw c.in_err-token.ensures.ok_part at c.next.ensures.value).0 in
+    let none = ap behind (no_value _ _ _ next s.0 s.1 c.in-Some.field-0.now (rw c.in-Some.is at c.in_ok-next_key.ensures.value) (ap (value_at c.args.depth) empty ∙ nothing_at_front c.args.depth)) in
     grind (arith, none)
 
 pub pass_members-loop-reader-smaller : goal.pass_members-loop-reader-smaller
 pass_members-loop-reader-smaller t c =
     let k = c.in-Some.field-0.now in
     let next = c.next_key.new.self in
-    let key : read_key c.loop-reader.reader ≡ Some (Some k, next) = grind arith in
-    let first : next ≡ token_of c.in_ok-token.token ∷ c.next.new.self = grind arith in
+    let key : read_key c.loop-reader.reader ≡ Some (Some k, next) = (rw c.in-Some.is at c.in_ok-next_key.ensures.value) in
+    let first : next ≡ token_of c.in_ok-token.token ∷ c.next.new.self = (rw c.in_ok-token.ensures.ok_part at c.next.ensures.value) in
     omega (arith, read_key-shorter c.loop-reader.reader (Some k) next key, ap length first, c.in_ok-pass_value.ensures.shorter)
 
 pub pass_members-loop-reader-preserved : goal.pass_members-loop-reader-preserved
@@ -80,26 +80,26 @@ pass_members-loop-reader-preserved t c =
     let s = c.loop-reader.invariant in
     let k = c.in-Some.field-0.now in
     let next = c.next_key.new.self in
-    let first : next ≡ token_of c.in_ok-token.token ∷ c.next.new.self = grind arith in
+    let first : next ≡ token_of c.in_ok-token.token ∷ c.next.new.self = (rw c.in_ok-token.ensures.ok_part at c.next.ensures.value) in
     let x = left_some (value_at d next) _ (ap (λ ts. behind (value_at d ts)) first ∙ c.in_ok-pass_value.ensures.value) in
-    (put k x.0 s.0, one_more _ _ _ next s.0 s.1 k _ x.0 (grind arith) x.1 (omega (arith, ap length first, c.in_ok-pass_value.ensures.shorter)))
+    (put k x.0 s.0, one_more _ _ _ next s.0 s.1 k _ x.0 (rw c.in-Some.is at c.in_ok-next_key.ensures.value) x.1 (omega (arith, ap length first, c.in_ok-pass_value.ensures.shorter)))
 
 pub pass_members-returns-in_err-pass_value-clause-value : goal.pass_members-returns-in_err-pass_value-clause-value
 pass_members-returns-in_err-pass_value-clause-value t c =
     let d = c.args.depth in
     let s = c.loop-reader.invariant in
     let next = c.next_key.new.self in
-    let first : next ≡ token_of c.in_ok-token.token ∷ c.next.new.self = grind arith in
+    let first : next ≡ token_of c.in_ok-token.token ∷ c.next.new.self = (rw c.in_ok-token.ensures.ok_part at c.next.ensures.value) in
     let nothing = left_none (value_at d next) (ap (λ ts. behind (value_at d ts)) first ∙ c.in_err-pass_value.ensures.value) in
-    let none = ap behind (no_value _ _ _ next s.0 s.1 c.in-Some.field-0.now (grind arith) nothing) in
+    let none = ap behind (no_value _ _ _ next s.0 s.1 c.in-Some.field-0.now (rw c.in-Some.is at c.in_ok-next_key.ensures.value) nothing) in
     grind (arith, none)
 
 pub pass_members-returns-clause-value : goal.pass_members-returns-clause-value
-pass_members-returns-clause-value t c = let s = c.loop-reader.invariant in ap behind (no_more _ _ _ c.next_key.new.self s.0 s.1 (grind arith))
+pass_members-returns-clause-value t c = let s = c.loop-reader.invariant in ap behind (no_more _ _ _ c.next_key.new.self s.0 s.1 (rw c.in_default.is at c.in_ok-next_key.ensures.value))
 
 pub pass_members-returns-clause-shorter : goal.pass_members-returns-clause-shorter
 pass_members-returns-clause-shorter t c =
-    omega (arith, read_key-shorter c.loop-reader.reader None c.next_key.new.self (grind arith), c.loop-reader.invariant.1.shorter)
+    omega (arith, read_key-shorter c.loop-reader.reader None c.next_key.new.self (rw c.in_default.is at c.in_ok-next_key.ensures.value), c.loop-reader.invariant.1.shorter)
 
 pub pass_value-returns-then-depth-eq0-clause-value : goal.pass_value-returns-then-depth-eq0-clause-value
 unfolding value
