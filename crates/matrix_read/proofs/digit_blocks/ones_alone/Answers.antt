@@ -1,6 +1,7 @@
 use Rattle.std.proofs.Common.{◌≡◌, ◌∙◌, ◌+◌, ◌++◌, ◌==◌, [], List, ℕ, drop, take, sym, ap, arith, append_assoc}
 use Rattle.std.proofs.Math.ListN.{drop_of_length-le}
 use Rattle.std.proofs.lemmas.List.{append-nil}
+use Rattle.std.proofs.lemmas.Grind.{common_steps}
 use Rattle.matrix_read.specs.BitPlaces.{bit_places}
 use Rattle.matrix_read.proofs.PlaceLemmas.{places_columns}
 use Rattle.matrix_read.proofs.DenseLemmas.{ones_from}
@@ -25,6 +26,12 @@ loop-at-preserved c =
           ∙ ap (λ l. written ++ l) (sym (ones_behind line at (omega arith)))
           ∙ before.so_far;
     }
+
+pub loop-j-init : goal.loop-j-init
+loop-j-init c = record { few = c.loop-at.invariant.few; digits = c.loop-at.invariant.digits; so_far = c.loop-at.invariant.so_far }
+
+pub loop-j-preserved : goal.loop-j-preserved
+loop-j-preserved c = record { few = omega arith; digits = grind (arith, common_steps); so_far = grind (arith, common_steps) }
 
 pub returns-clause-columns : goal.returns-clause-columns
 returns-clause-columns c =
