@@ -7,6 +7,10 @@ use Rattle.serde_json.specs.Data.{Data, Members, no_members, put}
 use Rattle.matrix_read.specs.JsonSteps.{value_at, members_at}
 use Rattle.matrix_read.proofs.JsonLemmas.{member_read, member_refused, key_refused, members_over}
 
+-- behind a key and what follows it fewer tokens are left
+pub fewer_left : (left next rest : List Token) (key : List ℕ) → read_key left ≡ Some (Some key, next) → length rest < length next → length rest < length left
+fewer_left left next rest key e less = let fewer : length next < length left = read_key-shorter left (Some key) next e in omega arith
+
 -- these members were found at the front of all the tokens, and so many are left to read from
 pub record AreFound (depth : ℕ) (all left : List Token) (found : Members) : Type 0 where
   pub turns : ℕ

@@ -5,7 +5,7 @@ use Rattle.json.proofs.Grammar.{left_some, left_none}
 use Rattle.serde_json.specs.Data.{no_members, put}
 use Rattle.matrix_read.specs.JsonSteps.{value_at}
 use Rattle.matrix_read.specs.CloneNames.{array_strings, array_clones, member_names, names_view, list_view}
-use Rattle.matrix_read.proofs.MemberLemmas.{none_found, no_key, no_value, one_more, no_more}
+use Rattle.matrix_read.proofs.MemberLemmas.{fewer_left, none_found, no_key, no_value, one_more, no_more}
 use Rattle.matrix_read.proofs.FileLemmas.{mapped_some, probes_put, probes_kept, clones_put, clones_kept, not_clones, not_probes}
 use Rattle.matrix_read.proofs.clone_names.read_members.Goals as goal
 
@@ -67,3 +67,15 @@ returns-clause-ok c =
     let s = c.loop-clones.invariant in
     let rest = c.next_key.new.self in
     ap (parse_map member_names) (no_more _ _ _ rest s.0 s.1 (rw c.in_default.is at c.in_ok-key.ensures.value)) ∙ ap₂ (λ probes clones. Some ((probes, clones), rest)) s.2 s.3
+
+pub loop-clones-smaller : goal.loop-clones-smaller
+loop-clones-smaller c =
+    fewer_left c.loop-clones.reader c.next_key.new.self c.pass.new.reader c.in-Some.key.now (rw c.in-Some.is at c.in_ok-key.ensures.value) c.in_ok-pass.ensures.shorter
+
+pub loop-clones-smaller-then-eq : goal.loop-clones-smaller-then-eq
+loop-clones-smaller-then-eq c =
+    fewer_left c.loop-clones.reader c.next_key.new.self c.read_names.new.reader c.in-Some.key.now (rw c.in-Some.is at c.in_ok-key.ensures.value) c.in_ok-probes.ensures.shorter
+
+pub loop-clones-smaller-then-eq-2 : goal.loop-clones-smaller-then-eq-2
+loop-clones-smaller-then-eq-2 c =
+    fewer_left c.loop-clones.reader c.next_key.new.self c.read_clones.new.reader c.in-Some.key.now (rw c.in-Some.is at c.in_ok-key.ensures.value) c.in_ok-clones.ensures.shorter

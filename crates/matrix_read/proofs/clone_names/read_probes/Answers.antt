@@ -5,7 +5,7 @@ use Rattle.json.proofs.Grammar.{left_some, left_none}
 use Rattle.serde_json.specs.Data.{no_members, put}
 use Rattle.matrix_read.specs.JsonSteps.{value_at}
 use Rattle.matrix_read.specs.CloneNames.{array_strings, member_probes, names_view}
-use Rattle.matrix_read.proofs.MemberLemmas.{none_found, no_key, no_value, one_more, no_more}
+use Rattle.matrix_read.proofs.MemberLemmas.{fewer_left, none_found, no_key, no_value, one_more, no_more}
 use Rattle.matrix_read.proofs.FileLemmas.{mapped_some, probes_put, probes_kept}
 use Rattle.matrix_read.proofs.clone_names.read_probes.Goals as goal
 
@@ -50,3 +50,11 @@ returns-clause-ok c =
     let s = c.loop-probes.invariant in
     let rest = c.next_key.new.self in
     ap (parse_map member_probes) (no_more _ _ _ rest s.0 s.1 (rw c.in_default.is at c.in_ok-key.ensures.value)) ∙ ap (λ names. Some (names, rest)) s.2
+
+pub loop-probes-smaller : goal.loop-probes-smaller
+loop-probes-smaller c =
+    fewer_left c.loop-probes.reader c.next_key.new.self c.pass.new.reader c.in-Some.key.now (rw c.in-Some.is at c.in_ok-key.ensures.value) c.in_ok-pass.ensures.shorter
+
+pub loop-probes-smaller-then-eq : goal.loop-probes-smaller-then-eq
+loop-probes-smaller-then-eq c =
+    fewer_left c.loop-probes.reader c.next_key.new.self c.read_names.new.reader c.in-Some.key.now (rw c.in-Some.is at c.in_ok-key.ensures.value) c.in_ok-probes.ensures.shorter

@@ -1,5 +1,6 @@
-use Rattle.std.proofs.Common.{◌≡◌, ◌∷◌, ◌++◌, [], length, slice_range, drop, ◌+◌, sym, ap, ◌∙◌, refl, Some, None, List, ℕ}
+use Rattle.std.proofs.Common.{◌≡◌, ◌≤◌, ◌∷◌, ◌++◌, [], length, slice_range, drop, ◌+◌, sym, ap, subst, arith, ◌∙◌, refl, Some, None, List, ℕ}
 use Rattle.row_model.specs.Rows.{RowList}
+use Rattle.row_model.specs.declared.TheConstants.{MAX_COLUMNS}
 use Rattle.text_lines.specs.Lines.{lines_of, filled_lines}
 use Rattle.matrix_read.specs.Dense.{digit_row}
 use Rattle.matrix_read.specs.DenseSteps.{row_code}
@@ -43,3 +44,14 @@ loop-line-preserved c =
 
 pub returns : goal.returns
 returns c = sym (answer_end (row_code c.loop-line.matrix.columns) digit_row c.loop-line.matrix.columns c.loop-line.matrix _ c.in_default.ensures.none refl) ∙ c.loop-line.invariant.so_far
+
+pub row_in-requires : goal.row_in-requires
+row_in-requires c = subst (λ n. n ≤ MAX_COLUMNS) (sym (c.loop-line.auto.columns ∙ c.requires.width)) c.requires.small
+
+pub loop-line-init : goal.loop-line-init
+loop-line-init c = record {
+  within = omega arith;
+  few = omega arith;
+  columns = refl;
+  so_far = ap (λ rows. answer_after (row_code c.args.matrix.columns) digit_row c.args.matrix.columns rows (filled_lines 1 (lines_of c.args.text.now))) c.requires.empty;
+}
