@@ -17,3 +17,9 @@ returns-clause-ok c = rw (made_of object probes_of _ _ (c.in_ok-enters_object.en
 
 pub returns-clause-err : goal.returns-clause-err
 returns-clause-err c refused = c.in_ok-enters_object.ensures.entered c.if-not-branch.false ∙ ap (parse_map object) (c.read_probes.ensures.err refused)
+
+pub returns-in_err-enters_object-clause-err : goal.returns-in_err-enters_object-clause-err
+returns-in_err-enters_object-clause-err c refused = c.in_err-enters_object.ensures.err
+
+pub returns-then-not-branch-clause-shorter : goal.returns-then-not-branch-clause-shorter
+returns-then-not-branch-clause-shorter c = c.in_ok-enters_object.ensures.shorter

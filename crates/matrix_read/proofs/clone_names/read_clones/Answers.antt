@@ -20,3 +20,12 @@ returns-clause-ok c =
     ∙ fused array array_clones _
     ∙ sym (fused clone_names (λ names. Some names) _)
     ∙ ap (parse_map (λ names. Some names)) c.in_ok-clones.ensures.ok
+
+pub returns-in_err-enters_array-clause-err : goal.returns-in_err-enters_array-clause-err
+returns-in_err-enters_array-clause-err c refused = c.in_err-enters_array.ensures.err
+
+pub returns-then-not-branch-clause-shorter : goal.returns-then-not-branch-clause-shorter
+returns-then-not-branch-clause-shorter c = c.in_ok-enters_array.ensures.shorter
+
+pub returns-clause-shorter : goal.returns-clause-shorter
+returns-clause-shorter c = omega (arith, c.in_ok-clones.ensures.shorter, c.in_ok-enters_array.ensures.shorter)

@@ -16,3 +16,9 @@ returns-clause-ok c = rw (made_of array array_strings _ _ (c.in_ok-enters_array.
 
 pub returns-clause-err : goal.returns-clause-err
 returns-clause-err c refused = c.in_ok-enters_array.ensures.entered c.if-not-branch.false ∙ ap (parse_map array) (c.read_strings.ensures.err refused)
+
+pub returns-in_err-enters_array-clause-err : goal.returns-in_err-enters_array-clause-err
+returns-in_err-enters_array-clause-err c refused = c.in_err-enters_array.ensures.err
+
+pub returns-then-not-branch-clause-shorter : goal.returns-then-not-branch-clause-shorter
+returns-then-not-branch-clause-shorter c = c.in_ok-enters_array.ensures.shorter
