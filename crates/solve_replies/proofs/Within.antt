@@ -1,7 +1,9 @@
 -- An instance of which both sides were solved.
-use Rattle.std.proofs.Common.{◌≡◌, ℕ, ◌+◌, ◌≤◌, length, refl, ap, arith}
+use Rattle.std.proofs.Common.{◌≡◌, ℕ, ◌+◌, ◌≤◌, length, Result, Ok, Err, refl, sym, ap, subst, arith}
+use Rattle.std.specs.Prelude.{IfOk}
 use Rattle.instance_model.specs.Instance.{InstanceValue, plain, circular, convex, doubly, proper, robinson, instance_columns, derived_matrix}
-use Rattle.solve_replies.specs.Steps.{taking_steps, taking_steps_to, sides_steps, SolvesMatrixWithin, SolvesWithin}
+use Rattle.row_model.specs.Rows.{RowList}
+use Rattle.solve_replies.specs.Steps.{made_status, taking_steps, taking_steps_to, sides_steps, SolvesMatrixWithin, SolvesWithin}
 
 -- an instance has one side or two
 pub two_sides : (i : InstanceValue) → (length (instance_columns i) ≡ 1 → ⊥) → length (instance_columns i) ≡ 2
@@ -25,3 +27,12 @@ second_solved i status s p n sides first w =
       no = w.no;
       most = omega (arith, w.most, steps, begun);
     }
+
+-- what was made of an answer has the status of the answer, or memory was refused
+pub made_of_matrix : {A E : Type 0} (status : A → ℕ) (made : Result A E) (m : RowList) (k s n : ℕ) → IfOk made (λ a. status a ≡ k) → SolvesMatrixWithin m k s n → SolvesMatrixWithin m (made_status status made) s n
+made_of_matrix status (Ok a) m k s n is w = subst (λ j. SolvesMatrixWithin m j s n) (sym is) w
+made_of_matrix status (Err e) m k s n is w = record { yes = λ none. absurd (omega (arith, none)); no = λ none. absurd (omega (arith, none)); most = w.most }
+
+pub made_of_sides : {A E : Type 0} (status : A → ℕ) (made : Result A E) (i : InstanceValue) (k s n : ℕ) → IfOk made (λ a. status a ≡ k) → SolvesWithin i k s n → SolvesWithin i (made_status status made) s n
+made_of_sides status (Ok a) i k s n is w = subst (λ j. SolvesWithin i j s n) (sym is) w
+made_of_sides status (Err e) i k s n is w = record { yes = λ none. absurd (omega (arith, none)); side = w.side; is_side = w.is_side; no = λ none. absurd (omega (arith, none)); most = w.most }

@@ -1,5 +1,6 @@
-use Rattle.std.proofs.Common.{◌∙◌, subst}
+use Rattle.std.proofs.Common.{◌∙◌, sym, subst}
 use Rattle.row_judge.specs.declared.Judged.{Judged}
+use Rattle.c1p_solve.specs.Answers.{IsAnswer}
 use Rattle.instance_model.specs.Instance.{derived_matrix}
 use Rattle.instance_model.specs.Value.{instance_value}
 use Rattle.solve_replies.specs.Steps.{made_status, part_status, answer_status, SolvesMatrixWithin}
@@ -12,3 +13,24 @@ returns-in-Yes-2-clause-steps g c =
     second_solved i (made_status part_status c.two_sided.result) c.args.steps.now c.solve_side.new.steps c.two_sided.new.steps
     (two_sides i (λ e. c.if-sides-eq1.false (c.sides.ensures ∙ e)))
     (subst (λ (a : Judged). SolvesMatrixWithin (derived_matrix i 1) (answer_status a) c.args.steps.now c.solve_side.new.steps) c.in-Yes-2.is c.in_ok-cycle.ensures.steps) c.two_sided.ensures.steps
+
+pub two_sided-requires : goal.two_sided-requires
+two_sided-requires g c =
+    let i = instance_value c.args.instance.now in
+    record {
+      judged = c.requires.judged;
+      sides = two_sides i (λ e. c.if-sides-eq1.false (c.sides.ensures ∙ e));
+      orders = subst (IsAnswer (derived_matrix i 1)) c.in-Yes.is c.in_ok-cycle.ensures.answer;
+    }
+
+pub one_sided-requires : goal.one_sided-requires
+one_sided-requires g c =
+    let i = instance_value c.args.instance.now in
+    record {
+      formed = c.requires.formed;
+      sides = sym c.sides.ensures ∙ c.if-sides-eq1.true;
+      orders = subst (IsAnswer (derived_matrix i 1)) c.in-Yes.is c.in_ok-cycle.ensures.answer;
+    }
+
+pub returns-in-Yes-2-clause-claim : goal.returns-in-Yes-2-clause-claim
+returns-in-Yes-2-clause-claim g c = c.two_sided.ensures.claim
