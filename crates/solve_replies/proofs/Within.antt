@@ -1,8 +1,14 @@
 -- An instance of which both sides were solved.
-use Rattle.std.proofs.Common.{◌≡◌, ℕ, ◌+◌, ◌≤◌, length, Result, Ok, Err, refl, sym, ap, subst, arith}
+use Rattle.std.proofs.Common.{◌≡◌, ℕ, ◌+◌, ◌≤◌, List, length, Result, Ok, Err, refl, sym, ap, subst, arith}
 use Rattle.std.specs.Prelude.{IfOk}
 use Rattle.instance_model.specs.Instance.{InstanceValue, plain, circular, convex, doubly, proper, robinson, instance_columns, derived_matrix}
 use Rattle.row_model.specs.Rows.{RowList}
+use Rattle.row_model.specs.declared.graph.Line.{Line}
+use Rattle.row_judge.specs.Judges.{IsFirstConflict}
+use Rattle.row_judge.specs.declared.Judged.TheVariants.{No}
+use Rattle.c1p_solve.specs.Answers.{IsAnswer}
+use Rattle.verdict_text.specs.Verdict.{no_claim}
+use Rattle.verdict_replies.specs.Verdicts.{IsFirstWithout, IsClaimOf}
 use Rattle.solve_replies.specs.Steps.{made_status, taking_steps, taking_steps_to, sides_steps, SolvesMatrixWithin, SolvesWithin}
 
 -- an instance has one side or two
@@ -36,3 +42,33 @@ made_of_matrix status (Err e) m k s n is w = record { yes = λ none. absurd (ome
 pub made_of_sides : {A E : Type 0} (status : A → ℕ) (made : Result A E) (i : InstanceValue) (k s n : ℕ) → IfOk made (λ a. status a ≡ k) → SolvesWithin i k s n → SolvesWithin i (made_status status made) s n
 made_of_sides status (Ok a) i k s n is w = subst (λ j. SolvesWithin i j s n) (sym is) w
 made_of_sides status (Err e) i k s n is w = record { yes = λ none. absurd (omega (arith, none)); side = w.side; is_side = w.is_side; no = λ none. absurd (omega (arith, none)); most = w.most }
+
+-- the rows of the first side are some of those of all sides
+first_side : (i : InstanceValue) → (1 ≤ length (instance_columns i)) × (taking_steps (derived_matrix i 1) ≤ sides_steps i)
+first_side (plain kind m) = (omega arith, omega arith)
+first_side (circular m) = (omega arith, omega arith)
+first_side (convex graph) = (omega arith, omega arith)
+first_side (doubly graph) = (omega arith, omega arith)
+first_side (proper graph) = (omega arith, omega arith)
+first_side (robinson distances) = (omega arith, omega arith)
+
+-- the first side has no order, or memory was refused as it was solved
+pub first_solved : (i : InstanceValue) (status s n : ℕ) → (status ≡ 0 → ⊥) → SolvesMatrixWithin (derived_matrix i 1) status s n → SolvesWithin i status s n
+first_solved i status s n some w =
+    record {
+      yes = λ none. absurd (some none);
+      side = 1;
+      is_side = (omega arith, (first_side i).0);
+      no = w.no;
+      most = omega (arith, w.most, (first_side i).1);
+    }
+
+-- a cycle of the first side
+pub first_no : (i : InstanceValue) (side : ℕ) (lines cycle : List Line) → side ≡ 1 → lines ≡ cycle → IsAnswer (derived_matrix i 1) (No cycle) → IsFirstConflict (derived_matrix i 1) cycle → IsClaimOf i (no_claim side lines)
+first_no i side lines cycle is same answer first =
+    let without : IsFirstWithout i 1 = record {
+      side = (omega arith, (first_side i).0);
+      before = λ earlier from to. absurd (omega (arith, from, to));
+      none = answer.1;
+    } in
+    subst (λ k. IsClaimOf i (no_claim k lines)) (sym is) (subst (λ ls. IsClaimOf i (no_claim 1 ls)) (sym same) (without, answer.0, answer.2, first))

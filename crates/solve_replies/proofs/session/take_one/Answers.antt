@@ -1,6 +1,5 @@
-use Rattle.std.proofs.Common.{◌≡◌, ◌∙◌, ℕ, ◌+◌, ◌*◌, ◌≤◌, ◌++◌, List, Bool, Option, Some, None, length, refl, ap, subst, inl, inr, arith}
+use Rattle.std.proofs.Common.{rules, ◌≡◌, ◌∙◌, ℕ, ◌+◌, ◌*◌, ◌≤◌, ◌++◌, List, Bool, Option, Some, None, length, refl, ap, subst, inl, inr, arith}
 use Rattle.std.specs.Prelude.{nat_lt}
-use Rattle.std.proofs.lemmas.Grind.{common_steps}
 use Rattle.pq_tree.specs.Amortised.{weight}
 use Rattle.pq_tree.specs.Outline.{Outline}
 use Rattle.row_model.specs.Rows.{RowList}
@@ -22,8 +21,8 @@ row_most c rows row t u s n explain (taken.No cycle) total within = omega (arith
 
 -- a refused row is explained exactly where an odd cycle was asked for
 row_refused : (m : RowList) (refusals : ℕ) (row : List ℕ) (cycle : Option (List Line)) → IsDecision (with_row m row) (nat_lt refusals 16) (taken.No cycle) → IsOutcome m refusals row (refused cycle)
-row_refused m refusals row None d = grind (arith, common_steps)
-row_refused m refusals row (Some cycle) d = grind (arith, common_steps)
+row_refused m refusals row None d = (d.0, search rules)
+row_refused m refusals row (Some cycle) d = (d.0, (search rules, (d.2, d.3, d.4)))
 
 outcome_no : (cycle : Option (List Line)) → outcome_of (taken.No cycle) ≡ refused cycle
 outcome_no None = refl

@@ -1,10 +1,10 @@
-use Rattle.std.proofs.Common.{◌∙◌, sym, subst}
+use Rattle.std.proofs.Common.{◌∙◌, sym, subst, arith}
 use Rattle.row_judge.specs.declared.Judged.{Judged}
-use Rattle.c1p_solve.specs.Answers.{IsAnswer}
+use Rattle.c1p_solve.specs.Answers.{IsAnswer, IsInTurn}
 use Rattle.instance_model.specs.Instance.{derived_matrix}
 use Rattle.instance_model.specs.Value.{instance_value}
 use Rattle.solve_replies.specs.Steps.{made_status, part_status, answer_status, SolvesMatrixWithin}
-use Rattle.solve_replies.proofs.Within.{two_sides, second_solved}
+use Rattle.solve_replies.proofs.Within.{two_sides, second_solved, first_solved, first_no}
 use Rattle.solve_replies.proofs.verdicts.part_on.Goals as goal
 
 pub returns-in-Yes-2-clause-steps : goal.returns-in-Yes-2-clause-steps
@@ -34,3 +34,15 @@ one_sided-requires g c =
 
 pub returns-in-Yes-2-clause-claim : goal.returns-in-Yes-2-clause-claim
 returns-in-Yes-2-clause-claim g c = c.two_sided.ensures.claim
+
+pub returns-in-No-clause-claim : goal.returns-in-No-clause-claim
+returns-in-No-clause-claim g c =
+    let i = instance_value c.args.instance.now in
+    first_no i c.no.result.side c.no.result.lines c.in-No.cycle c.no.ensures.side c.no.ensures.lines (subst (IsAnswer (derived_matrix i 1)) c.in-No.is c.in_ok-cycle.ensures.answer)
+    (subst (IsInTurn (derived_matrix i 1)) c.in-No.is c.in_ok-cycle.ensures.in_turn)
+
+pub returns-in-No-clause-steps : goal.returns-in-No-clause-steps
+returns-in-No-clause-steps g c =
+    let i = instance_value c.args.instance.now in
+    first_solved i 1 c.args.steps.now c.solve_side.new.steps (λ e. omega (arith, e))
+    (subst (λ (a : Judged). SolvesMatrixWithin (derived_matrix i 1) (answer_status a) c.args.steps.now c.solve_side.new.steps) c.in-No.is c.in_ok-cycle.ensures.steps)
