@@ -19,6 +19,12 @@ row_most : (c : ℕ) (rows : List (List ℕ)) (row : List ℕ) (t u : Outline) (
 row_most c rows row t u s n explain taken.Ok total within = omega (arith, total)
 row_most c rows row t u s n explain (taken.No cycle) total within = omega (arith, within)
 
+failed_most : (s n a b : ℕ) → n ≤ s + b → n ≤ s + (a + b)
+failed_most s n a b failed = omega arith
+
+not_more : (n : ℕ) → n ≡ n + 1 → ⊥
+not_more n e = omega arith
+
 -- a refused row is explained exactly where an odd cycle was asked for
 row_refused : (m : RowList) (refusals : ℕ) (row : List ℕ) (cycle : Option (List Line)) → IsDecision (with_row m row) (nat_lt refusals 16) (taken.No cycle) → IsOutcome m refusals row (refused cycle)
 row_refused m refusals row None d = (d.0, search rules)
@@ -48,7 +54,7 @@ returns-in-Ok-clause-charged g c =
     inl (refl, subst (IsRowTotal m.columns (with_row m c.args.row.now).rows c.args.row.now c.args.session.now.tree c.take_row.new.self.tree c.args.steps.now c.take_row.new.steps) c.in-Ok.is c.in_ok-taken.ensures.total)
 
 pub returns-in-Ok-clause-tree : goal.returns-in-Ok-clause-tree
-returns-in-Ok-clause-tree g c = λ e. absurd (omega (arith, e))
+returns-in-Ok-clause-tree g c = λ e. absurd (not_more c.args.refusals e)
 
 pub returns-in-Ok-clause-most : goal.returns-in-Ok-clause-most
 returns-in-Ok-clause-most g c =
@@ -61,7 +67,9 @@ returns-in_err-print_outcome-clause-most g c =
     c.in_ok-taken.ensures.total c.in_ok-taken.ensures.refused
 
 pub returns-in_err-taken-clause-most : goal.returns-in_err-taken-clause-most
-returns-in_err-taken-clause-most g c = omega (arith, c.in_err-taken.ensures.failed)
+returns-in_err-taken-clause-most g c =
+    failed_most c.args.steps.now c.take_row.new.steps (1024 * (1 + length c.args.row.now) + 256 * weight c.args.session.now.tree)
+    (refusal_steps c.args.session.now.matrix.columns (with_row c.args.session.now.matrix c.args.row.now).rows (nat_lt c.args.refusals 16)) c.in_err-taken.ensures.failed
 
 pub returns-clause-one : goal.returns-clause-one
 returns-clause-one g c =
