@@ -129,23 +129,19 @@ plain_most Proper m n few = omega arith
 plain_most Robinson m n few = omega arith
 plain_most Clones m n few = omega arith
 
-pub size_most : (i : InstanceValue) (n : ℕ) → IsInstance i → most_size i n ≤ 256 * n + 133120
-size_most (plain kind m) n within = omega (arith, plain_most kind m n within.1)
-size_most (circular m) n within = omega arith
-size_most (convex g) n within = omega (arith, within.0, within.1)
-size_most (doubly g) n within = omega (arith, within.0, within.1)
-size_most (proper g) n within = omega (arith, within)
-size_most (robinson d) n within =
+both_most : (i : InstanceValue) (n : ℕ) → IsInstance i → (most_size i n ≤ 256 * n + 133120) × (1024 * most_size i n + most_search i n ≤ 786432 * n + 136331264)
+both_most (plain kind m) n within = (omega (arith, plain_most kind m n within.1), omega (arith, plain_most kind m n within.1))
+both_most (circular m) n within = (omega arith, omega arith)
+both_most (convex g) n within = (omega (arith, within.0, within.1), omega (arith, within.0, within.1))
+both_most (doubly g) n within = (omega (arith, within.0, within.1), omega (arith, within.0, within.1))
+both_most (proper g) n within = (omega (arith, within), omega (arith, within))
+both_most (robinson d) n within =
     let items : d.items * n ≤ 256 * n = mul-le-mul_right n (omega (arith, within)) in
-    omega (arith, items)
+    let search : 8 * d.items * (d.items * n + 1) ≤ 2048 * (256 * n + 1) = mul-le-mul (omega (arith, within)) (omega (arith, items)) in
+    (omega (arith, items), omega (arith, items, search))
+
+pub size_most : (i : InstanceValue) (n : ℕ) → IsInstance i → most_size i n ≤ 256 * n + 133120
+size_most i n within = (both_most i n within).0
 
 pub all_most : (i : InstanceValue) (n : ℕ) → IsInstance i → 1024 * most_size i n + most_search i n ≤ 786432 * n + 136331264
-all_most (plain kind m) n within = omega (arith, plain_most kind m n within.1)
-all_most (circular m) n within = omega arith
-all_most (convex g) n within = omega (arith, within.0, within.1)
-all_most (doubly g) n within = omega (arith, within.0, within.1)
-all_most (proper g) n within = omega (arith, within)
-all_most (robinson d) n within =
-    let ones : d.items * n ≤ 256 * n = mul-le-mul_right n (omega (arith, within)) in
-    let search : 8 * d.items * (d.items * n + 1) ≤ 2048 * (256 * n + 1) = mul-le-mul (omega (arith, within)) (omega (arith, ones)) in
-    omega (arith, ones, search)
+all_most i n within = (both_most i n within).1

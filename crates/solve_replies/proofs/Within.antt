@@ -1,5 +1,6 @@
 -- An instance of which both sides were solved.
-use Rattle.std.proofs.Common.{◌≡◌, ℕ, ◌+◌, ◌≤◌, List, length, Result, Ok, Err, refl, sym, ap, subst, arith}
+use Rattle.std.proofs.Common.{◌≡◌, ℕ, ◌+◌, ◌≤◌, List, length, Result, Ok, Err, refl, sym, ap, subst, inl, inr, arith}
+use Rattle.std.proofs.lemmas.Bool.{cases_eq}
 use Rattle.std.specs.Prelude.{IfOk}
 use Rattle.instance_model.specs.Instance.{InstanceValue, plain, circular, convex, doubly, proper, robinson, instance_columns, derived_matrix}
 use Rattle.row_model.specs.Rows.{RowList}
@@ -43,14 +44,18 @@ pub made_of_sides : {A E : Type 0} (status : A → ℕ) (made : Result A E) (i :
 made_of_sides status (Ok a) i k s n is w = subst (λ j. SolvesWithin i j s n) (sym is) w
 made_of_sides status (Err e) i k s n is w = record { yes = λ none. absurd (omega (arith, none)); side = w.side; is_side = w.is_side; no = λ none. absurd (omega (arith, none)); most = w.most }
 
+-- an instance has a first side
+some_side : (i : InstanceValue) → 1 ≤ length (instance_columns i)
+some_side i = elim (cases_eq (length (instance_columns i)) 1) [ inl e ↦ omega (arith, e) | inr n ↦ omega (arith, two_sides i n) ]
+
 -- the rows of the first side are some of those of all sides
-first_side : (i : InstanceValue) → (1 ≤ length (instance_columns i)) × (taking_steps (derived_matrix i 1) ≤ sides_steps i)
-first_side (plain kind m) = (omega arith, omega arith)
-first_side (circular m) = (omega arith, omega arith)
-first_side (convex graph) = (omega arith, omega arith)
-first_side (doubly graph) = (omega arith, omega arith)
-first_side (proper graph) = (omega arith, omega arith)
-first_side (robinson distances) = (omega arith, omega arith)
+first_rows : (i : InstanceValue) → taking_steps (derived_matrix i 1) ≤ sides_steps i
+first_rows (plain kind m) = omega arith
+first_rows (circular m) = omega arith
+first_rows (convex graph) = omega arith
+first_rows (doubly graph) = omega arith
+first_rows (proper graph) = omega arith
+first_rows (robinson distances) = omega arith
 
 -- the first side has no order, or memory was refused as it was solved
 pub first_solved : (i : InstanceValue) (status s n : ℕ) → (status ≡ 0 → ⊥) → SolvesMatrixWithin (derived_matrix i 1) status s n → SolvesWithin i status s n
@@ -58,16 +63,16 @@ first_solved i status s n some w =
     record {
       yes = λ none. absurd (some none);
       side = 1;
-      is_side = (omega arith, (first_side i).0);
+      is_side = (omega arith, some_side i);
       no = w.no;
-      most = omega (arith, w.most, (first_side i).1);
+      most = omega (arith, w.most, first_rows i);
     }
 
 -- a cycle of the first side
 pub first_no : (i : InstanceValue) (side : ℕ) (lines cycle : List Line) → side ≡ 1 → lines ≡ cycle → IsAnswer (derived_matrix i 1) (No cycle) → IsFirstConflict (derived_matrix i 1) cycle → IsClaimOf i (no_claim side lines)
 first_no i side lines cycle is same answer first =
     let without : IsFirstWithout i 1 = record {
-      side = (omega arith, (first_side i).0);
+      side = (omega arith, some_side i);
       before = λ earlier from to. absurd (omega (arith, from, to));
       none = answer.1;
     } in

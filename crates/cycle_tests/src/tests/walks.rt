@@ -136,30 +136,40 @@ fn three_blocks_and_a_row_across(rt: HostRuntime) -> Result<(), Fail> {
     Ok(())
 }
 
-fn row_line(a: u32, b: u32, row: u32) -> Line {
+fn line(a: u32, b: u32, why: Why) -> Line {
     Line {
         pair: pair(a, b),
-        why: Why::Row(row),
-    }
-}
-
-fn flip(a: u32, b: u32) -> Line {
-    Line {
-        pair: pair(a, b),
-        why: Why::Flip,
+        why,
     }
 }
 
 // What is folded has no flip but a last one, and no two columns twice before it.
 #[test]
 fn lines_that_are_folded(rt: HostRuntime) -> Result<(), Fail> {
-    let folded = [row_line(1, 2, 3), row_line(2, 3, 1), flip(2, 1)];
+    let folded = [
+        line(1, 2, Why::Row(3)),
+        line(2, 3, Why::Row(1)),
+        line(2, 1, Why::Flip),
+    ];
     assert!(rt; is_folded(rt.alloc(), &folded)?);
-    let falling = [row_line(3, 2, 1), row_line(2, 1, 3), flip(1, 3)];
+    let falling = [
+        line(3, 2, Why::Row(1)),
+        line(2, 1, Why::Row(3)),
+        line(1, 3, Why::Flip),
+    ];
     assert!(rt; is_folded(rt.alloc(), &falling)?);
-    let turned = [row_line(1, 2, 3), row_line(2, 3, 1), row_line(3, 2, 1)];
+    let turned = [
+        line(1, 2, Why::Row(3)),
+        line(2, 3, Why::Row(1)),
+        line(3, 2, Why::Row(1)),
+    ];
     assert!(rt; !is_folded(rt.alloc(), &turned)?);
-    let flips = [row_line(1, 2, 3), flip(2, 3), row_line(3, 1, 1), flip(2, 1)];
+    let flips = [
+        line(1, 2, Why::Row(3)),
+        line(2, 3, Why::Flip),
+        line(3, 1, Why::Row(1)),
+        line(2, 1, Why::Flip),
+    ];
     assert!(rt; !is_folded(rt.alloc(), &flips)?);
     Ok(())
 }
