@@ -49,19 +49,19 @@ one_refused c files zero refusal from to some none = omega (arith, from)
 one_refused c [] (suc n) refusal from to some none = none_or_some some refl
 one_refused (Solve _ _) (b ∷ bs) (suc zero) refusal from to some none = none_or_some some none
 one_refused (Check _ _ _) (b ∷ bs) (suc zero) refusal from to some none = none_or_some some none
+one_refused (Core _ _) (b ∷ bs) (suc zero) refusal from to some none = none_or_some some none
+one_refused (CheckCore _ _ _) (b ∷ bs) (suc zero) refusal from to some none = none_or_some some none
+one_refused (ListOrders _ _ _) (b ∷ bs) (suc zero) refusal from to some none = none_or_some some none
+one_refused (UnitModel _) (b ∷ bs) (suc zero) refusal from to some none = none_or_some some none
+one_refused (CheckUnit _ _) (b ∷ bs) (suc zero) refusal from to some none = none_or_some some none
 one_refused (Extend _ _ _) (b ∷ []) (suc zero) refusal from to some none = none_or_some some none
 one_refused (Extend kind _ _) (b ∷ rows ∷ bs) (suc zero) refusal from to some none = first_of_two _ (instance_of kind b) refusal some none
 one_refused (Extend _ _ _) (b ∷ []) (suc (suc zero)) refusal from to some none = none_or_some some none
 one_refused (Extend _ _ _) (b ∷ rows ∷ bs) (suc (suc zero)) refusal from to some none = none_or_some some none
-one_refused (Core _ _) (b ∷ bs) (suc zero) refusal from to some none = none_or_some some none
-one_refused (CheckCore _ _ _) (b ∷ bs) (suc zero) refusal from to some none = none_or_some some none
 one_refused (Meet _ _ _) (b ∷ []) (suc zero) refusal from to some none = none_or_some some none
 one_refused (Meet c _ _) (b ∷ other ∷ bs) (suc zero) refusal from to some none = first_of_two _ (tree_file c b) refusal some none
 one_refused (Meet _ _ _) (b ∷ []) (suc (suc zero)) refusal from to some none = none_or_some some none
 one_refused (Meet _ _ _) (b ∷ other ∷ bs) (suc (suc zero)) refusal from to some none = none_or_some some none
-one_refused (ListOrders _ _ _) (b ∷ bs) (suc zero) refusal from to some none = none_or_some some none
-one_refused (UnitModel _) (b ∷ bs) (suc zero) refusal from to some none = none_or_some some none
-one_refused (CheckUnit _ _) (b ∷ bs) (suc zero) refusal from to some none = none_or_some some none
 one_refused c files (suc n) refusal from to some none = omega (arith, to)
 
 told_first : (told : List ℕ → Option (List ℕ)) (n : ℕ) (names files : List (List ℕ)) → AllTold told names files → AllTold told (take n names) (take n files)
