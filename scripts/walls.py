@@ -77,18 +77,18 @@ COUNTED_ROWS = os.path.join("row_model", "src", "counted.rt")
 VIEWS = {"columns", "rows", "len_counted", "has_counted", "member_counted", "next_counted", "ones_of_row", "span_counted", "ones_counted", "push_row", "ones", "counted"}
 # How many of their lines go over a list without a tick: a span is found along a row whose columns were counted, and a row is copied.
 VIEW_WALKS = {"span_counted": 1, "push_row": 1}
-# Their functions with a loop of which a turn may cost none, and how many lines of each have such a loop or what goes over a list, or call one
-# of these functions where a loop leads there; behind a name, the one over which the only loop goes. They go over a table that is set up or handed out once; up a set of pairs; over rows
-# of which some have no ones; over the lines of a walk that is found; over the few columns, rows, ways and pivots that an attempt takes. Or
-# they are the judge's.
+# Their functions with what may cost no step, and how often each has it: a loop of which a turn may cost none, a call that goes over a list,
+# or, where a loop leads there, a call of one of these functions. Behind a name, the one over which its only loop goes. They go over a
+# table that is set up or handed out once; up a set of pairs; over rows of which some have no ones; over the lines of a walk that is found;
+# over the few columns, rows, ways and pivots that an attempt takes. Or they are the judge's.
 UNTICKED = {
     "pair_classes": {"classes_of k": 2, "unite_along": 1, "unite_with": 2, "unite": 2, "marks.rt/new": 1, "numbers.rt/new": 1, "each_alone": 1, "root_of": 1, "flatten": 1},
     "odd_cycle": {"short_cycle": 4, "cut": 1, "has_flip": 1, "sorted_columns": 2, "is_rising": 1, "is_folded": 2},
-    "open_gaps": {"cover": 1, "of_parts": 1, "gaps_of_all": 3, "gaps_of": 3, "take_row": 1, "new": 1, "of_rows": 1, "span_in_order": 1},
+    "open_gaps": {"cover": 1, "of_parts": 1, "gaps_of_all": 4, "gaps_of": 3, "take_row": 1, "new": 1, "of_rows": 1, "span_in_order": 1},
     "walk_search": {"way_down": 2, "add_way_up": 1, "closed_walk": 2, "rows_by_column k": 1, "joined": 1, "simple_cycle": 1, "new": 1, "search": 3, "search_along": 2},
     "incompat_graph": {
         "walk_around": 3, "add_forth": 1, "add_back": 1, "columns_near": 2, "openers": 2, "is_odd_walk": 1, "odd_links": 4, "closed_at_once": 1,
-        "is_known": 1, "odd_circle": 4, "circle_by": 3, "first_left": 1, "place_among": 1, "spread": 3, "path_up": 1, "add_lines": 1, "settle": 4,
+        "is_known": 1, "odd_circle": 4, "circle_by": 4, "first_left": 2, "place_among": 1, "spread": 5, "path_up": 1, "add_lines": 1, "settle": 4,
         "lines_of": 1, "part_of": 2, "without_repeats": 4, "add_spread": 1, "checked_cycle": 1, "lines_in": 1, "any_cycle": 1, "quick_cycle": 1,
     },
 }
@@ -518,17 +518,16 @@ def joined(lines):
 
 
 def free_turns(lines, listed, sure, with_value, lists, unticked, is_in_loop=False):
-    """The lines of a function with a loop of which a turn may cost no step, but for those over the listed names, or with what goes over a list.
-
-    In a loop that is also a call of a function with such a line."""
+    """What may cost no step in a function: the line of each loop of which a turn may cost none, but for those over the listed names, and of each
+    call that goes over a list. In a loop, a call of a function with such a line is one too."""
     loops, lines = [-1] * is_in_loop, joined(lines)
     for number, (place, line) in enumerate(lines):
         loop, inner = BLOCK.search(line), len(line) - len(line.lstrip())
         loops = [outer for outer in loops if outer < inner or not line.strip()]
-        is_walk = OVER_LIST.search(line) or WALKS.search(line) or compares_lists(line, *lists)
-        is_walk = is_walk or loops and unticked.intersection(re.findall(r"\b(\w+)\(", line))
-        if is_walk or loop and loop[1] not in listed and not is_paid(lines, number, sure, with_value):
-            yield place, line
+        walks = len(OVER_LIST.findall(line)) + len(WALKS.findall(line)) + bool(compares_lists(line, *lists))
+        walks += sum(called in unticked for called in re.findall(r"\b(\w+)\(", line)) * bool(loops)
+        is_free = loop is not None and loop[1] not in listed and not is_paid(lines, number, sure, with_value)
+        yield from [(place, line)] * (walks + is_free)
         loops += [inner] * bool(loop)
 
 
@@ -583,7 +582,7 @@ def uncounted_loops():
             turns = list(free_turns(body(lines), set(), *known))
             others = list(free_turns(body(lines), {over}, *known)) if over else []
             if len(others) != max(listed - 1, 0) * bool(over) or len(turns) != listed:
-                yield f"{place}: of the lines of {name} that may cost no step {listed} are listed, and there are {len(turns)}: {[line.strip() for _, line in others or turns]}"
+                yield f"{place}: of what may cost no step in {name} {listed} are listed, and there are {len(turns)}: {[line.strip() for _, line in others or turns]}"
         for name in calls_itself(crate):
             yield f"crates/{crate}: {name} calls itself, and no loop shows what a turn costs"
         yield from whole_lists(crate)
