@@ -18,25 +18,25 @@ class Answering:
 
 
 def run(words, content=b""):
-    """A call of the program with these bytes on standard input."""
+    """A call of the program with these bytes on standard input, or of the library that was put in its place."""
     if Answering.library is not None:
         return run_by_library(Answering.library, words, content)
     return subprocess.run([PROGRAM, *words], input=content, capture_output=True, timeout=SECONDS, check=False)
 
 
 def run_by_library(library, words, content):
-    """The same call of the library. A word that is a whole path is the name of a file, and so is `-`."""
+    """The same call of the library. A word that is a whole path names a file, and `-` names these bytes."""
     asked, contents = [], []
     for word in words:
         if word == "-" or os.path.isabs(word):
-            contents.append(content if word == "-" else content_of(word))
+            contents.append(content if word == "-" else bytes_in(word))
             word = str(len(contents))
         asked.append(word)
     status, reply, line = library.ask(asked, *contents)
     return subprocess.CompletedProcess(words, status, reply, f"{line}\n".encode() if line else b"")
 
 
-def content_of(name):
+def bytes_in(name):
     """The bytes of a file."""
     with open(name, "rb") as stream:
         return stream.read()
