@@ -68,6 +68,9 @@ with open(made, "w") as program:
     program.write('#!/bin/sh\\nprintf "%s." "$@"; cat; echo to errors >&2; exit 7\\n')
 os.chmod(made, 0o755)
 """
+# Stand-ins for a C compiler: one by whose program `cc` is told, and one without the library that it needs.
+COMPILERS = {"linked": LINKER.replace("to errors", "by cc, to errors"),
+             "fails": "#!/bin/sh\necho cannot find -lc\nexit 1\n"}
 WAITS = "pq: another call is building the program; waiting for it\n"
 # What `./pq` runs besides the toolchain.
 TOOLS = ["sh", "cat", "dirname", "find", "python3", "readlink"]
@@ -289,6 +292,15 @@ def edited_meanwhile(copy):
     return answer_problem(given, "a") or told_problem(given[2], CRATES)
 
 
+def linked_by(compiler, copy):
+    """The program is linked by the C compiler where this can do it, and else by the toolchain."""
+    copy.write(os.path.join("bin", "cc"), COMPILERS[compiler])
+    os.chmod(copy.path("bin", "cc"), 0o755)
+    given = ended(copy.start("a"))
+    is_by_cc = given[2].endswith("by cc, to errors\n")
+    return answer_problem(given, "a") or (None if is_by_cc == (compiler == "linked") and "-lc" not in given[2] else given[2])
+
+
 def no_toolchain(copy):
     """Without the toolchain the status is 70, with one line."""
     os.remove(copy.path("bin", "rt"))
@@ -337,6 +349,8 @@ def checks():
         for is_whole_group in (False, True):
             name = f"{number.name} to {'the group of the call' if is_whole_group else 'the call alone'}"
             yield name, lambda copy, given=(number, is_whole_group): interrupted(*given, copy)
+    for compiler, name in [("linked", "a C compiler"), ("fails", "a C compiler without a static library")]:
+        yield f"linked with {name} at hand", lambda copy, compiler=compiler: linked_by(compiler, copy)
     for number, stream in enumerate(["standard input", "standard output", "standard error"]):
         yield f"{stream} is closed", lambda copy, number=number: closed(number, copy)
 

@@ -145,6 +145,18 @@ class Toolchain:
         """A path in its folder."""
         return os.path.join(self.kit, *names)
 
+    def linking(self, program, new):
+        """The command by which the toolchain links a program, which loads the C library at its start."""
+        return [self.linker, "--target", "x86_64-unknown-linux-gnu", "--toolchain", self.path("toolchain"), "-o", new, *self.parts(program)]
+
+    def linking_alone(self, program, new):
+        """The command by which a C compiler links a program that has the C library in it."""
+        return ["cc", "-static", "-no-pie", "-o", new, *self.parts(program)]
+
+    def parts(self, program):
+        """What is linked into a program besides the C library."""
+        return [program, self.path("c", "libos_c.a"), self.path("c", "liblibc_c.a")]
+
     def sum(self):
         """A sum that tells one toolchain from another."""
         what = self.path("WHAT")
@@ -235,16 +247,22 @@ class House:
         raise NotImplementedError
 
     def link(self):
-        """Links the program, which takes the place of an older one at once."""
-        kit, new = self.toolchain.path, made(f"{PROGRAM}.new")
-        words = ["--target", "x86_64-unknown-linux-gnu", "--toolchain", kit("toolchain"), "-o", new, made(f"{PROGRAM}.o")]
-        done = subprocess.run([self.toolchain.linker, *words, kit("c", "libos_c.a"), kit("c", "liblibc_c.a")], stdin=subprocess.DEVNULL,
-                              stdout=subprocess.PIPE, stderr=subprocess.STDOUT, check=False)
-        if done.returncode:
-            raise OSError(done.stdout.decode(errors="replace"))
+        """Links the program, which takes the place of an older one at once: with the C library in it, so that no loader runs at its start,
+        where a C compiler has that, and else as the toolchain does."""
+        program, new = made(f"{PROGRAM}.o"), made(f"{PROGRAM}.new")
+        alone, usual = self.toolchain.linking_alone(program, new), self.toolchain.linking(program, new)
+        why_not = shutil.which(alone[0]) is None or told_by(alone)
+        if why_not and (why_not := told_by(usual)):
+            raise OSError(why_not)
         # A source that changed since the call began is newer than the program.
         os.utime(new, (self.begun, self.begun))
         os.rename(new, program_file())
+
+
+def told_by(command):
+    """What a command told that failed, or None where it did not."""
+    done = subprocess.run(command, stdin=subprocess.DEVNULL, stdout=subprocess.PIPE, stderr=subprocess.STDOUT, check=False)
+    return done.stdout.decode(errors="replace") or f"{command[0]} ended with {done.returncode}" if done.returncode else None
 
 
 def ends_with_its_caller():

@@ -5,7 +5,8 @@ with ample memory.
 Usage: scripts/refuse_memory.py     after `rt ci` or `./pq`, which leave the program in crates/pq/out/pq; needs a C compiler, `cc`
 
 It is no part of the gate. The program is run over a library of a few lines of C that stands before the C library's own functions and
-refuses one request, the first, then the second, and so on, up to the one past the last. Then it refuses that one and all behind it.
+refuses one request, the first, then the second, and so on, up to the one past the last. Then it refuses that one and all behind it. Where
+the program has the C library in it, it is linked once more without.
 The last line is `N passed, N failed`; the status is 0 where nothing failed.
 """
 
@@ -13,6 +14,8 @@ import os
 import subprocess
 import sys
 import tempfile
+
+import build
 
 HOME = os.path.dirname(os.path.dirname(os.path.abspath(__file__)))
 PROGRAM = os.path.join(HOME, "crates", "pq", "out", "pq")
@@ -91,6 +94,12 @@ RUNS = [
 ]
 
 
+def has_loader(program):
+    """Whether a loader puts the C library's functions into a program at its start, so that others can stand before these."""
+    with open(program, "rb") as stream:
+        return b"/ld-linux-" in stream.read(4096)
+
+
 class Refusals:
     """Runs of the program over the library, in a folder that holds it."""
 
@@ -101,6 +110,9 @@ class Refusals:
         with open(source, "w", encoding="utf-8") as stream:
             stream.write(LIBRARY)
         subprocess.run(["cc", "-shared", "-fPIC", "-O1", "-o", self.library, source], check=True)
+        self.program = PROGRAM if has_loader(PROGRAM) else os.path.join(folder, "pq")
+        if self.program != PROGRAM:
+            subprocess.run(build.Toolchain().linking(f"{PROGRAM}.o", self.program), check=True, capture_output=True)
 
     def named(self, contents):
         """Files with these contents, by their names."""
@@ -113,7 +125,7 @@ class Refusals:
     def run(self, words, **how):
         """A run: its status, its output and its errors, and how many requests for memory it made."""
         told = os.path.join(self.folder, "told")
-        done = subprocess.run([PROGRAM, *words], env={"LD_PRELOAD": self.library, "TOLD": told, **how}, capture_output=True, timeout=SECONDS,
+        done = subprocess.run([self.program, *words], env={"LD_PRELOAD": self.library, "TOLD": told, **how}, capture_output=True, timeout=SECONDS,
                               check=False)
         with open(told, encoding="ascii") as stream:
             return (done.returncode, done.stdout, done.stderr), int(stream.read())

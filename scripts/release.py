@@ -19,7 +19,7 @@ import tarfile
 HOME = os.path.dirname(os.path.dirname(os.path.abspath(__file__)))
 DIST = os.path.join(HOME, "dist")
 COPIED = ["LICENSE-APACHE", "LICENSE-MIT", "VERSION", "CITATION.cff", "CHANGELOG.md", "docs/FORMATS.md", "docs/LIBRARY.md"]
-TOOLS = [["rt", "--version"], ["cc", "--version"], ["clang-16", "--version"], ["wasm-ld-16", "--version"], ["wasm-opt", "--version"]]
+TOOLS = [["rt", "--version"], ["cc", "--version"], ["ldd", "--version"], ["clang-16", "--version"], ["wasm-ld-16", "--version"], ["wasm-opt", "--version"]]
 SUMS = "SUMS"
 FAILED = 70
 
