@@ -1,7 +1,7 @@
 -- The ball that the nearest neighbours make.
-use Rattle.std.proofs.Common.{◌≡◌, ◌∙◌, ℕ, suc, ◌+◌, ◌<◌, ◌≤◌, leb, List, [], ◌∷◌, length, get_or, IsTrue, refl, sym, ap, subst, inl, inr, arith}
+use Rattle.std.proofs.Common.{◌≡◌, ◌∙◌, ℕ, zero, suc, ◌+◌, ◌<◌, ◌≤◌, leb, ◌-◌, List, [], ◌∷◌, length, get_or, take, drop, slice_range, IsTrue, refl, sym, ap, subst, inl, inr, arith}
 use Rattle.std.proofs.lemmas.Bool.{cases_lt, both_ways}
-use Rattle.std.proofs.lemmas.List.{get_or_default}
+use Rattle.std.proofs.lemmas.List.{get_or_default, drop_more}
 use Rattle.column_order.specs.Orders.{has}
 use Rattle.column_order.proofs.Lists.{has_cases}
 use Rattle.row_model.specs.Rows.{Ascends}
@@ -10,8 +10,7 @@ use Rattle.row_model.proofs.Filtered.{filtered_row}
 use Rattle.graph_model.specs.Distances.{DistancesValue}
 use Rattle.robinson_balls.specs.declared.neighbours.Neighbour.{Neighbour}
 use Rattle.robinson_balls.specs.Balls.{between, ball}
-use Rattle.robinson_balls.specs.Neighbours.{with_item}
-use Rattle.robinson_balls.specs.Neighbours.{neighbour, AreNeighbours, EndsBall}
+use Rattle.robinson_balls.specs.Neighbours.{with_item, with_items, neighbour, AreNeighbours, EndsBall}
 use Rattle.robinson_balls.proofs.BallLaws.{in_ball, near}
 use Rattle.robinson_balls.proofs.Rims.{told, listed}
 use Rattle.robinson_balls.proofs.Rising.{Rises, rises_lower, rises_with, rising_only, with_item_has, with_item_keeps, with_item_only}
@@ -50,12 +49,24 @@ nearest_more neighbours k e items l h = record { rises = rises_with 0 (item_at n
               subst (λ a. IsTrue (has (with_item (item_at neighbours k e) items) a)) is (with_item_has (item_at neighbours k e) items)
         ]
 
-pub grown : (neighbours : List Neighbour) (k : ℕ) (p : Neighbour) (before after : List ℕ) → k < length neighbours → p ≡ get_or neighbours k p → AreNearest neighbours k before →
-    after ≡ with_item p.item before → AreNearest neighbours (k + 1) after
-grown neighbours k p before after l is h e =
-    subst (AreNearest neighbours (k + 1)) (sym (e ∙ ap (λ (q : Neighbour). with_item q.item before) is)) (nearest_more neighbours k p before l h)
+-- the first s neighbours, and n more
+nearest_on : (near : List Neighbour) (e : Neighbour) (n s : ℕ) (items : List ℕ) → s + n ≤ length near → AreNearest near s items → AreNearest near (s + n) (with_items (take n (drop s near)) items)
+nearest_on near e zero s items l h = subst (λ m. AreNearest near m items) (omega arith) h
+nearest_on near e (suc n) s items l h =
+    let within : s < length near = omega (arith, l) in
+    let rest = nearest_on near e n (s + 1) (with_item (get_or near s e).item items) (omega (arith, l)) (nearest_more near s e items within h) in
+    let all : AreNearest near (s + 1 + n) (with_items (take (suc n) (drop s near)) items) =
+    subst (λ g. AreNearest near (s + 1 + n) (with_items (take (suc n) g) items)) (sym (drop_more near s e within)) rest in
+    subst (λ m. AreNearest near m (with_items (take (suc n) (drop s near)) items)) (omega arith) all
 
-row_rises : (c low : ℕ) (row : List ℕ) → Ascends c low row → Rises low row
+-- the first s neighbours, with those to place k
+pub nearest_to : (near : List Neighbour) (e : Neighbour) (s k : ℕ) (items : List ℕ) → s ≤ k → k < length near → AreNearest near s items →
+    AreNearest near (k + 1) (with_items (slice_range near s (k + 1)) items)
+nearest_to near e s k items u l h =
+    let sum : s + (k + 1 - s) ≡ k + 1 = omega (arith, u) in
+    subst (λ m. AreNearest near m (with_items (slice_range near s (k + 1)) items)) sum (nearest_on near e (k + 1 - s) s items (omega (arith, sum, l)) h)
+
+pub row_rises : (c low : ℕ) (row : List ℕ) → Ascends c low row → Rises low row
 row_rises c low [] h = tt
 row_rises c low (x ∷ row) h = (omega (arith, h.0), rises_lower (suc x) (suc x) row (omega arith) (above c x row h.2))
   where

@@ -3,9 +3,9 @@ use Rattle.std.proofs.Common.{◌≡◌, ◌∙◌, ℕ, zero, suc, ◌+◌, ◌
 use Rattle.std.proofs.lemmas.Bool.{cases_lt, lt-ltb, le-ltb, both_ways}
 use Rattle.std.proofs.lemmas.List.{get_or_default, map-append}
 use Rattle.std.proofs.lemmas.List.FromFn.{get_or-map-range_with_len, length-map-range_with_len}
-use Rattle.std.proofs.lemmas.List.Sorted.{Contains-permutation, IsPermutation-sym, length_permutation}
-use Rattle.std.specs.List.{range_with_len}
-use Rattle.std.specs.List.Sorted.{IsNonDecreasingBy}
+use Rattle.std.proofs.lemmas.List.Sorted.{Contains-permutation, IsPermutation-sym, IsPermutation-swap, length_permutation}
+use Rattle.std.specs.List.{range_with_len, swap}
+use Rattle.std.specs.List.Sorted.{IsPermutation, IsNonDecreasingBy}
 use Rattle.column_order.specs.Orders.{has}
 use Rattle.column_order.proofs.Lists.{has_cases, has_head, has_tail}
 use Rattle.row_model.proofs.Filtered.{range_more}
@@ -24,6 +24,13 @@ neighbours_more d x n before after h {s} e is =
     e ∙ ap (λ t. before ++ record { item = n + 1; distance = t } ∷ []) is ∙ ap (λ l. l ++ neighbour d x (n + 1) ∷ []) h ∙
     ap (λ m. map (neighbour d x) (range_with_len 1 n) ++ neighbour d x m ∷ []) (sym next) ∙
     sym (ap (map (neighbour d x)) (range_more n 1) ∙ map-append (neighbour d x) (range_with_len 1 n) ((1 + n) ∷ []))
+
+-- all items with their distances from x, of which the first and the x-th change places
+pub exchanged : (d : DistancesValue) (x n : ℕ) (before after : List Neighbour) → 1 ≤ x → x ≤ n → before ≡ map (neighbour d x) (range_with_len 1 n) → after ≡ swap before 0 (x - 1) →
+    IsPermutation (map (neighbour d x) (range_with_len 1 n)) after
+exchanged d x n before after l u h e =
+    let many : length before ≡ n = ap length h ∙ length-map-range_with_len (neighbour d x) 1 n in
+    rw (← h) (IsPermutation-swap before after 0 (x - 1) (omega (arith, many, l, u)) (omega (arith, many, l, u)) e)
 
 -- the distance of each neighbour that is nearer than the next, and of the last
 abbrev pub rims : List Neighbour → List ℕ

@@ -21,6 +21,11 @@ with_item item [] = item ∷ []
 with_item item (first ∷ rest) =
     if nat_lt first item then first ∷ with_item item rest else if first == item then first ∷ rest else item ∷ first ∷ rest
 
+-- a rising list of items with those of some neighbours, where the list lacks them
+abbrev pub with_items : List Neighbour → List ℕ → List ℕ
+with_items [] items = items
+with_items (first ∷ rest) items = with_items rest (with_item first.item items)
+
 -- the neighbour in place k, from 0, is nearer than the next, where there is one
 abbrev pub EndsBall : List Neighbour → ℕ → Type 0
 EndsBall neighbours k = (other : Neighbour) → k + 1 < length neighbours → (slice_index_or neighbours k other).distance < (slice_index_or neighbours (k + 1) other).distance

@@ -28,6 +28,8 @@ pub fn list_neighbours(
             distance: d.at(x, before + 1),
         })?;
     }
+    // The centre goes first, so that the list is in order where all others are at one distance.
+    neighbours.swap(0, x as usize - 1);
     neighbours.sort_unstable_by_key(|neighbour| neighbour.distance);
     Ok(())
 }

@@ -1,13 +1,20 @@
 // The matrix of all balls.
 ghost use Rattle.std.specs.Prelude.{◌≡◌, ◌≤◌, ◌+◌, ◌++◌, length, IfOk, OnOk};
 ghost use Rattle.std.specs.List.Sorted.{IsNonDecreasing};
-ghost use Rattle.robinson_balls.specs.Balls.{balls_of, balls_round};
-ghost use Rattle.robinson_balls.specs.Neighbours.{with_item};
+ghost use Rattle.row_model.specs.Rows.{IsRow};
+ghost use Rattle.robinson_balls.specs.Balls.{ball, balls_of, balls_round};
+ghost use Rattle.robinson_balls.specs.Neighbours.{with_item, with_items};
 
 use crate::neighbours::{Neighbour, ends_ball, list_neighbours};
 use graph_model::Distances;
 use row_model::{Matrix, NoMemory, ROW_BOUND};
 use std::alloc::Global;
+
+// A group of more than so many items is large: a pass over all items is quicker than to put each of it at its place.
+const LARGE: usize = 64;
+
+// So is a group of more than one in so many of all items.
+const LARGE_PART: usize = 16;
 
 /// The balls of a table of distances (Mirkin and Rodin, 1984), as a matrix whose columns are the items.
 ///
@@ -16,7 +23,8 @@ use std::alloc::Global;
 /// as [`robinson_law`](crate::robinson_law) says, and which ball is whose says [`balls_law`](crate::balls_law). With n
 /// items there are at most n rows for each.
 ///
-/// The items are sorted by distance once for each centre, and each ball is grown from the one before it.
+/// The items are sorted by distance once for each centre. Each ball is grown from the one before it, or, where many
+/// items are at the next distance, made by one pass over all items.
 ///
 /// # Errors
 ///
@@ -33,8 +41,8 @@ pub fn balls(alloc: Global, d: &Distances) -> Result<Matrix, NoMemory>
     Ok(balls)
 }
 
-// Adds the balls round `x`: each is the one before it with the items at the next distance. The
-// two lists are room to work in.
+// Adds the balls round `x`: each is the one before it with the group of items at the next distance. The two lists are
+// room to work in.
 fn push_balls(
     balls: &mut Matrix,
     neighbours: &mut Vec<Neighbour>,
@@ -49,11 +57,36 @@ fn push_balls(
 {
     list_neighbours(neighbours, d, x)?;
     ball.clear();
+    let mut first = 0;
     for k in 0..neighbours.len() {
-        insert(ball, neighbours[k].item)?;
         if ends_ball(neighbours, k) {
+            let group = &neighbours[first..k + 1];
+            grow(ball, group, d, x, neighbours[k].distance)?;
             balls.push_row(ball)?;
+            first = k + 1;
         }
+    }
+    Ok(())
+}
+
+// Makes the list the ball round `x` of this radius, of which it lacks at most the group.
+fn grow(
+    items: &mut Vec<u32>,
+    group: &[Neighbour],
+    d: &Distances,
+    x: u32,
+    radius: u64,
+) -> Result<(), NoMemory>
+    requires centre { (1 ≤ x) × (x ≤ d.now.items) }
+    requires row { IsRow d.now.items items.old.items }
+    requires lacks { with_items group.now items.old.items ≡ ball d.now x radius }
+    ensures { OnOk result (items.new.items ≡ ball d.now x radius) }
+{
+    if group.len() > LARGE.min(d.items() as usize / LARGE_PART) {
+        return make_ball(items, d, x, radius);
+    }
+    for neighbour in group {
+        insert(items, neighbour.item)?;
     }
     Ok(())
 }
@@ -65,6 +98,20 @@ fn insert(list: &mut Vec<u32>, number: u32) -> Result<(), NoMemory>
 {
     if let Err(place) = list.binary_search(&number) {
         list.insert(place, number)?;
+    }
+    Ok(())
+}
+
+// Makes the list the ball round `x` of this radius, by one pass over all items.
+fn make_ball(items: &mut Vec<u32>, d: &Distances, x: u32, radius: u64) -> Result<(), NoMemory>
+    requires { (1 ≤ x) × (x ≤ d.now.items) }
+    ensures { OnOk result (items.new.items ≡ ball d.now x radius) }
+{
+    items.clear();
+    for before in 0..d.items() {
+        if d.at(x, before + 1) <= radius {
+            items.push(before + 1)?;
+        }
     }
     Ok(())
 }
