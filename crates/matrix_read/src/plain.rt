@@ -6,7 +6,7 @@ ghost use Rattle.matrix_read.specs.Sparse.{words_code};
 ghost use Rattle.matrix_read.specs.SparseSteps.{row_named};
 
 use row_model::COLUMN_BOUND;
-use text_lines::digits_at;
+use text_lines::{DigitEnds, next_digits};
 
 /// The row of a line.
 #[derive(Clone, Copy)]
@@ -35,14 +35,17 @@ pub(crate) fn plain_row(text: &[u8], at: usize, c: usize, columns: &mut [u32]) -
     let mut ones = 0;
     let mut last = 0;
     let mut place = at;
+    let mut ends = DigitEnds::none();
     loop {
-        let column = digits_at(text, place);
+        let found = next_digits(text, place, ends);
+        let column = found.run;
         if column.value <= last || column.value > c as u64 || column.end == text.len() {
             return None;
         }
         columns[ones] = column.value as u32;
         ones += 1;
         last = column.value;
+        ends = found.ends;
         place = column.end + 1;
         match text[column.end] {
             b' ' => {}

@@ -6,3 +6,5 @@ pub mod FeedLemmas
 pub mod FewDigits
 pub mod PlainLemmas
 pub mod DigitWord
+pub mod FourDigits
+pub mod EndLemmas

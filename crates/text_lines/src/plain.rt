@@ -21,7 +21,7 @@ pub struct DigitRun {
 }
 
 /// The digits from a place on, at most nine. A further digit may follow.
-pub fn digits_at(text: &[u8], at: usize) -> DigitRun
+pub(crate) fn digits_at(text: &[u8], at: usize) -> DigitRun
     requires { at ≤ length text.now }
     ensures range { (at ≤ result.end) × (result.end ≤ length text.now) }
     ensures digits { list_all is_ascii_digit (slice_range text.now at result.end) ≡ true }

@@ -11,14 +11,28 @@ use Rattle.matrix_read.proofs.SparseLemmas.{code_behind, columns_behind, one_mor
 use Rattle.text_lines.proofs.PlainLemmas.{some_digits, space_len, space_return, space_number, feed_len, feed_return, feed_number, lines_behind}
 use Rattle.matrix_read.proofs.plain.plain_row.Goals as goal
 
+pub loop-last-init : goal.loop-last-init
+loop-last-init c = record {
+  from = omega arith;
+  within = c.requires.at;
+  ends = c.none-ends.ensures c.args.text.now c.args.at;
+  few = omega arith;
+  most = omega arith;
+  line = refl;
+  return_is = λ kept. kept;
+  code = refl;
+  named = refl;
+  ascends = λ row up. up;
+}
+
 pub loop-last-preserved : goal.loop-last-preserved
 loop-last-preserved c =
     let before = c.loop-last.invariant in
     let text : List ℕ = c.args.text.now in
     let place : ℕ = c.loop-last.place in
-    let found = c.digits_at-column.ensures in
-    let end : ℕ = c.digits_at-column.result.end in
-    let n : ℕ = c.digits_at-column.result.value in
+    let found = c.next_digits-found.ensures in
+    let end : ℕ = c.next_digits-found.result.run.end in
+    let n : ℕ = c.next_digits-found.result.run.value in
     let columns : List ℕ = c.loop-last.columns in
     let ones : ℕ = c.loop-last.ones in
     let later : List (List ℕ) = words_of (first_line (drop (end + 1) text)) in
@@ -30,6 +44,7 @@ loop-last-preserved c =
     record {
       from = omega arith;
       within = omega arith;
+      ends = found.ends;
       few = omega arith;
       most = omega arith;
       line = before.line ∙ space_len text place end found.range.0 within found.digits c.in-32.is;
@@ -44,19 +59,19 @@ loop-last-preserved c =
 pub returns-in-10-clause-line : goal.returns-in-10-clause-line
 returns-in-10-clause-line c =
     let text : List ℕ = c.args.text.now in
-    let found = c.digits_at-column.ensures in
-    let within : c.digits_at-column.result.end < length text = omega (arith, found.range, c.if-column-text.false) in
-    lines_behind text c.args.at (c.digits_at-column.result.end + 1)
-    (ap (λ n. n + 1) (c.loop-last.invariant.line ∙ feed_len text c.loop-last.place c.digits_at-column.result.end found.range.0 within found.digits c.in-10.is))
+    let found = c.next_digits-found.ensures in
+    let within : c.next_digits-found.result.run.end < length text = omega (arith, found.range, c.if-column-text.false) in
+    lines_behind text c.args.at (c.next_digits-found.result.run.end + 1)
+    (ap (λ n. n + 1) (c.loop-last.invariant.line ∙ feed_len text c.loop-last.place c.next_digits-found.result.run.end found.range.0 within found.digits c.in-10.is))
     (omega arith)
 
 pub returns-in-10-clause-named : goal.returns-in-10-clause-named
 returns-in-10-clause-named c =
     let text : List ℕ = c.args.text.now in
     let place : ℕ = c.loop-last.place in
-    let found = c.digits_at-column.ensures in
-    let end : ℕ = c.digits_at-column.result.end in
-    let n : ℕ = c.digits_at-column.result.value in
+    let found = c.next_digits-found.ensures in
+    let end : ℕ = c.next_digits-found.result.run.end in
+    let n : ℕ = c.next_digits-found.result.run.value in
     let within : end < length text = omega (arith, found.range, c.if-column-text.false) in
     let some : place < end = some_digits text place end n found.range.0 found.value (omega arith) in
     let first : IsFirstNumber (words_of (first_line (drop place text))) (Value n) (words_of []) =
@@ -72,9 +87,9 @@ returns-in-10-clause-row c =
     let before = c.loop-last.invariant in
     let text : List ℕ = c.args.text.now in
     let place : ℕ = c.loop-last.place in
-    let found = c.digits_at-column.ensures in
-    let end : ℕ = c.digits_at-column.result.end in
-    let n : ℕ = c.digits_at-column.result.value in
+    let found = c.next_digits-found.ensures in
+    let end : ℕ = c.next_digits-found.result.run.end in
+    let n : ℕ = c.next_digits-found.result.run.value in
     let columns : List ℕ = c.loop-last.columns in
     let ones : ℕ = c.loop-last.ones in
     let line : List ℕ = first_line (drop c.args.at text) in

@@ -1,5 +1,6 @@
 use Rattle.std.proofs.Common.{◌≡◌, ◌≤◌, ◌+◌, ◌-◌, ◌++◌, List, ℕ, drop, take, length}
 use Rattle.row_model.specs.Rows.{Ascends}
+use Rattle.text_lines.specs.DigitEnds.{AreDigitEnds}
 use Rattle.text_lines.specs.Lines.{line_len, first_line, without_return}
 use Rattle.text_lines.specs.Words.{words_of}
 use Rattle.matrix_read.specs.Sparse.{words_code}
@@ -10,6 +11,7 @@ abbrev pub invariant-loop-last : goal.invariant-loop-last
 invariant-loop-last l = record {
   from : l.at ≤ l.place;
   within : l.place ≤ length l.text;
+  ends : AreDigitEnds l.text l.place l.ends.block l.ends.marks;
   few : l.ones ≤ l.last;
   most : l.last ≤ l.c;
   line : l.at + line_len (drop l.at l.text) ≡ l.place + line_len (drop l.place l.text);

@@ -1,0 +1,44 @@
+use Rattle.std.proofs.Common.{◌<◌, ◌+◌, ◌^◌, arith, rules, w64}
+use Rattle.std.proofs.lemmas.Nat.Bits.{bit_at-trailing_zeros}
+use Rattle.std.specs.Int.{trailing_zeros}
+use Rattle.text_lines.proofs.EndLemmas.{IsLowest, end_room, ended_digits, ends_behind}
+use Rattle.text_lines.proofs.digit_ends.next_digits.Goals as goal
+
+pub overflow_add-end : goal.overflow_add-end
+overflow_add-end c =
+    let ends = c.ends_ahead-ends.result in
+    let fits : ends.marks < 2 ^ 64 = search rules in
+    let room = end_room c.args.text.now c.args.at ends.block ends.marks (trailing_zeros w64 ends.marks) c.ends_ahead-ends.ensures (bit_at-trailing_zeros w64 ends.marks (omega arith) fits) in
+    omega (arith, room)
+
+pub few_digits-requires-clause-room : goal.few_digits-requires-clause-room
+few_digits-requires-clause-room c =
+    let ends = c.ends_ahead-ends.result in
+    let fits : ends.marks < 2 ^ 64 = search rules in
+    let room = end_room c.args.text.now c.args.at ends.block ends.marks (trailing_zeros w64 ends.marks) c.ends_ahead-ends.ensures (bit_at-trailing_zeros w64 ends.marks (omega arith) fits) in
+    omega (arith, room)
+
+pub few_digits-requires-clause-digits : goal.few_digits-requires-clause-digits
+few_digits-requires-clause-digits c =
+    let ends = c.ends_ahead-ends.result in
+    let fits : ends.marks < 2 ^ 64 = search rules in
+    ended_digits c.args.text.now c.args.at ends.block ends.marks (trailing_zeros w64 ends.marks) c.ends_ahead-ends.ensures (bit_at-trailing_zeros w64 ends.marks (omega arith) fits)
+
+pub returns-then-end-at-le-FOUR : goal.returns-then-end-at-le-FOUR
+returns-then-end-at-le-FOUR c =
+    let ends = c.ends_ahead-ends.result in
+    let end = trailing_zeros w64 ends.marks in
+    let fits : ends.marks < 2 ^ 64 = search rules in
+    let lowest : IsLowest ends.marks end = bit_at-trailing_zeros w64 ends.marks (omega arith) fits in
+    let room = end_room c.args.text.now c.args.at ends.block ends.marks end c.ends_ahead-ends.ensures lowest in
+    record {
+      range = (room.0, omega (arith, room));
+      digits = ended_digits c.args.text.now c.args.at ends.block ends.marks end c.ends_ahead-ends.ensures lowest;
+      value = c.few_digits.ensures;
+      ends =
+          ends_behind c.args.text.now c.args.at ends.block ends.marks end c.ends_ahead-ends.ensures lowest
+          c.without_lowest.result c.without_lowest.ensures.lowest c.without_lowest.ensures.others;
+    }
+
+pub returns-clause-ends : goal.returns-clause-ends
+returns-clause-ends c = c.none.ensures c.args.text.now (c.digits_at.result.end + 1)

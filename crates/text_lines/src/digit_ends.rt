@@ -1,0 +1,131 @@
+// Digits whose ends are found in blocks of 64 bytes.
+ghost use Rattle.std.specs.Prelude.{◌≡◌, ◌≢◌, ◌+◌, ◌-◌, ◌%◌, ◌<◌, ◌≤◌, ℕ, List, true, length, map, nat_le, slice_index, slice_range};
+ghost use Rattle.std.specs.Char.{is_ascii_digit};
+ghost use Rattle.std.specs.Int.{bit_at, trailing_zeros, w64};
+ghost use Rattle.std.specs.List.{list_all};
+ghost use Rattle.std.specs.Simd.Lanes.{chunk, mask_l};
+ghost use Rattle.text_lines.specs.DigitEnds.{AreDigitEnds};
+ghost use Rattle.text_lines.specs.Words.{number_after};
+
+use crate::four_digits::{FOUR, few_digits};
+use crate::plain::{DigitRun, digits_at};
+use std::simd::prelude::*;
+
+// How many bytes a block has.
+const BLOCK: usize = 64;
+
+/// Marks in a block of 64 bytes of a text, which tell where digits end.
+#[derive(Clone, Copy)]
+pub struct DigitEnds {
+    /// The place where the block begins.
+    pub block: usize,
+    /// A bit for each byte of the block, the lowest for the first: 1 where the byte stands ahead and is no digit.
+    pub marks: u64,
+}
+
+impl DigitEnds {
+    /// No mark.
+    pub fn none() -> DigitEnds
+        ensures { (text : List ℕ) → (at : ℕ) → AreDigitEnds text at result.block result.marks }
+    {
+        DigitEnds { block: 0, marks: 0 }
+    }
+}
+
+/// Digits that stand in a text, and marks that tell where those behind them end.
+#[derive(Clone, Copy)]
+pub struct EndedRun {
+    /// The digits.
+    pub run: DigitRun,
+    /// The marks.
+    pub ends: DigitEnds,
+}
+
+/// The digits from a place on, at most nine. A further digit may follow.
+///
+/// The marks are none, or those that the call before gave, where this place is behind the byte at the end of its digits.
+#[inline(always)]
+pub fn next_digits(text: &[u8], at: usize, ends: DigitEnds) -> EndedRun
+    requires at { at ≤ length text.now }
+    requires ends { AreDigitEnds text.now at ends.block ends.marks }
+    ensures range { (at ≤ result.run.end) × (result.run.end ≤ length text.now) }
+    ensures digits { list_all is_ascii_digit (slice_range text.now at result.run.end) ≡ true }
+    ensures value { result.run.value ≡ number_after 0 (slice_range text.now at result.run.end) }
+    ensures ends { AreDigitEnds text.now (result.run.end + 1) result.ends.block result.ends.marks }
+{
+    let ends = ends_ahead(text, at, ends);
+    if ends.marks != 0 {
+        let end = ends.block + ends.marks.trailing_zeros() as usize;
+        if at < end && end - at <= FOUR {
+            return EndedRun {
+                run: DigitRun {
+                    value: few_digits(text, at, end),
+                    end,
+                },
+                ends: DigitEnds {
+                    block: ends.block,
+                    marks: without_lowest(ends.marks),
+                },
+            };
+        }
+    }
+    EndedRun {
+        run: digits_at(text, at),
+        ends: DigitEnds::none(),
+    }
+}
+
+// Marks from a place on: these, or if there are none, those of the block that begins there.
+#[inline(always)]
+fn ends_ahead(text: &[u8], at: usize, ends: DigitEnds) -> DigitEnds
+    requires at { at ≤ length text.now }
+    requires ends { AreDigitEnds text.now at ends.block ends.marks }
+    ensures { AreDigitEnds text.now at result.block result.marks }
+{
+    if ends.marks == 0 && text.len() - at >= BLOCK + FOUR {
+        DigitEnds {
+            block: at,
+            marks: other_marks(text, at),
+        }
+    } else {
+        ends
+    }
+}
+
+// A bit for each of the 64 bytes from a place on, which is 1 where the byte is no digit.
+#[inline(always)]
+fn other_marks(text: &[u8], at: usize) -> u64
+    requires { at + 64 ≤ length text.now }
+    ensures { result ≡ mask_l (map (λ byte. nat_le 10 ((byte + 208) % 256)) (chunk at 64 text.now)) }
+{
+    large_lanes(block_at(text, at))
+}
+
+// The 64 bytes from a place on, counted from the digit 0.
+#[inline(always)]
+fn block_at(text: &[u8], at: usize) -> u8x64
+    requires { at + 64 ≤ length text.now }
+    ensures lanes { result ≡ map (λ byte. (byte + 208) % 256) (chunk at 64 text.now) }
+    ensures len { length result ≡ 64 }
+{
+    u8x64::from_slice(&text[at..]) - u8x64::splat(b'0')
+}
+
+// A bit for each of 64 lanes, which is 1 where the lane is 10 or more.
+#[inline(always)]
+fn large_lanes(lanes: u8x64) -> u64
+    requires { length lanes ≡ 64 }
+    ensures { result ≡ mask_l (map (λ lane. nat_le 10 lane) lanes) }
+{
+    lanes.simd_ge(u8x64::splat(10)).to_bitmask()
+}
+
+// Marks without the lowest.
+#[inline(always)]
+fn without_lowest(marks: u64) -> u64
+    requires { 0 < marks }
+    ensures lowest { bit_at result (trailing_zeros w64 marks) ≡ 0 }
+    ensures others { (k : ℕ) → k ≢ trailing_zeros w64 marks → bit_at result k ≡ bit_at marks k }
+{
+    marks & (marks - 1)
+}
