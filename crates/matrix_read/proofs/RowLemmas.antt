@@ -4,25 +4,21 @@ use Rattle.std.proofs.lemmas.Bool.{cases_eq, ne_eqb, or_right}
 use Rattle.column_order.specs.Orders.{has}
 use Rattle.std.proofs.lemmas.List.{append-nil}
 use Rattle.row_model.specs.Rows.{RowList, columns_where}
-use Rattle.row_model.specs.declared.refusal.Read.{Read}
 use Rattle.row_model.specs.declared.refusal.Read.TheVariants as read
 use Rattle.text_lines.specs.Lines.{NumberedLine}
-use Rattle.text_lines.specs.Rows.{first_refusal, refused_or, columns_among, numbered_lines}
+use Rattle.text_lines.specs.Rows.{first_refusal, columns_among, numbered_lines}
+use Rattle.matrix_read.specs.RowsThen.{answer_after}
 use Rattle.row_model.proofs.Columns.{columns_same}
 use Rattle.matrix_read.proofs.PlaceLemmas.{places_from, places_columns}
 use Rattle.text_lines.proofs.FirstRefused.{first_refusal-here, first_refusal-later, numbered_step}
 
 module _ (code_of : ℕ → List ℕ → Option ℕ) (row_from : List ℕ → List ℕ) (c : ℕ) where
-  -- the answer, where these rows stand before the lines
-  abbrev pub answer_after : List (List ℕ) → List NumberedLine → Read RowList
-  answer_after rows lines = refused_or (first_refusal code_of (length rows) lines) (record { columns = c; rows = rows ++ map (λ line. row_from line.text) lines })
-
   -- one line less, which is refused or a row
   module _ (rows : List (List ℕ)) (line : NumberedLine) (lines rest : List NumberedLine) (is : lines ≡ line ∷ rest) where
-    pub answer_stop : (code : ℕ) → code_of (length rows) line.text ≡ Some code → answer_after rows lines ≡ read.Refused (record { code = code; line = line.number })
+    pub answer_stop : (code : ℕ) → code_of (length rows) line.text ≡ Some code → answer_after code_of row_from c rows lines ≡ read.Refused (record { code = code; line = line.number })
     answer_stop code h = rw (is, first_refusal-here code_of (length rows) line rest code h) refl
 
-    pub answer_step : code_of (length rows) line.text ≡ None → answer_after (rows ++ row_from line.text ∷ []) rest ≡ answer_after rows lines
+    pub answer_step : code_of (length rows) line.text ≡ None → answer_after code_of row_from c (rows ++ row_from line.text ∷ []) rest ≡ answer_after code_of row_from c rows lines
     answer_step h =
         let count : length (rows ++ row_from line.text ∷ []) ≡ length rows + 1 = length-append rows (row_from line.text ∷ []) in
         rw (is, first_refusal-later code_of (length rows) line rest h, count, append_assoc rows (row_from line.text ∷ []) (map (λ (line : NumberedLine). row_from line.text) rest)) refl
@@ -32,13 +28,13 @@ module _ (code_of : ℕ → List ℕ → Option ℕ) (row_from : List ℕ → Li
     numbered : numbered_lines number lines ≡ record { number = number; text = line } ∷ numbered_lines (number + 1) later
     numbered = ap (numbered_lines number) is ∙ numbered_step number line later
 
-    pub line_stop : (code : ℕ) → code_of (length rows) line ≡ Some code → answer_after rows (numbered_lines number lines) ≡ read.Refused (record { code = code; line = number })
+    pub line_stop : (code : ℕ) → code_of (length rows) line ≡ Some code → answer_after code_of row_from c rows (numbered_lines number lines) ≡ read.Refused (record { code = code; line = number })
     line_stop code h = answer_stop rows (record { number = number; text = line }) (numbered_lines number lines) (numbered_lines (number + 1) later) numbered code h
 
-    pub line_step : code_of (length rows) line ≡ None → answer_after (rows ++ row_from line ∷ []) (numbered_lines (number + 1) later) ≡ answer_after rows (numbered_lines number lines)
+    pub line_step : code_of (length rows) line ≡ None → answer_after code_of row_from c (rows ++ row_from line ∷ []) (numbered_lines (number + 1) later) ≡ answer_after code_of row_from c rows (numbered_lines number lines)
     line_step h = answer_step rows (record { number = number; text = line }) (numbered_lines number lines) (numbered_lines (number + 1) later) numbered h
 
-  pub answer_end : (m : RowList) (lines : List NumberedLine) → lines ≡ [] → m.columns ≡ c → answer_after m.rows lines ≡ read.Ok m
+  pub answer_end : (m : RowList) (lines : List NumberedLine) → lines ≡ [] → m.columns ≡ c → answer_after code_of row_from c m.rows lines ≡ read.Ok m
   unfolding first_refusal
   answer_end m lines is w = rw (is, append-nil m.rows, ← w) refl
 

@@ -1,11 +1,11 @@
 -- Rows that name their columns.
-use Rattle.std.proofs.Common.{◌≡◌, ℕ, arith, ◌<◌, ◌≤◌, ◌+◌, ◌||◌, List, [], ◌∷◌, ◌++◌, length, map, take, set, append_assoc, slice_range, refl, sym, ap, ◌∙◌, Bool, true, false, Option, None, Some, Result, Ok, Err}
+use Rattle.std.proofs.Common.{◌≡◌, ℕ, arith, ◌<◌, ◌≤◌, ◌+◌, ◌||◌, List, [], ◌∷◌, ◌++◌, length, map, take, set, append_assoc, length-append, slice_range, refl, sym, ap, ◌∙◌, Bool, true, false, Option, None, Some, Result, Ok, Err}
 use Rattle.std.proofs.lemmas.Bool.{lt-leb}
 use Rattle.std.proofs.lemmas.Bool.Decides.{nat_tests}
 use Rattle.std.proofs.lemmas.Grind.{common_steps}
 use Rattle.std.proofs.lemmas.List.{take_more_set}
 use Rattle.column_order.specs.Orders.{has}
-use Rattle.row_model.specs.Rows.{IsRow}
+use Rattle.row_model.specs.Rows.{RowList, IsRow}
 use Rattle.row_model.specs.declared.refusal.Read.TheVariants as read
 use Rattle.row_model.specs.declared.TheConstants.{MAX_COLUMNS, MAX_ROWS, MAX_FILE_BYTES}
 use Rattle.row_model.specs.declared.code.TheConstants.{GRAMMAR, LIMIT}
@@ -16,6 +16,9 @@ use Rattle.matrix_read.specs.SparseSteps.{only_word, width_of_number, width_give
 use Rattle.text_lines.specs.declared.words.Numeral.{Numeral}
 use Rattle.text_lines.specs.declared.words.Numeral.TheVariants.{Value}
 use Rattle.matrix_read.specs.Sparse.{column_code, words_code, line_code, named_rows, sparse, further}
+use Rattle.matrix_read.specs.RowsThen.{answer_after, rows_then}
+use Rattle.matrix_read.proofs.RowLemmas.{line_stop, line_step, answer_end}
+use Rattle.text_lines.proofs.FirstRefused.{numbered_none}
 use Rattle.text_lines.specs.Rows.{numbered_lines}
 use Rattle.text_lines.proofs.WordLemmas.{word_step, no_word, number_some, number_written}
 use Rattle.row_model.proofs.Filtered.{filtered_row}
@@ -126,12 +129,36 @@ module _ (bytes : List ℕ) where
 pub line_taken : (c before : ℕ) (line : List ℕ) → before < MAX_ROWS → words_code c (words_of line) ≡ None → line_code c before line ≡ None
 line_taken c before line few named = rw (lt-leb MAX_ROWS before few) named
 
+pub few_before : (c before : ℕ) (line : List ℕ) → line_code c before line ≡ None → before < MAX_ROWS
+few_before c before line h = grind (arith, common_steps, nat_tests)
+
+-- rows and the lines behind them, of which the first is refused or a row
+module _ (passed : ℕ) (m : RowList) (line : List ℕ) (lines later : List (List ℕ)) (is : lines ≡ line ∷ later) where
+  pub then_stop : (code : ℕ) → line_code m.columns (length m.rows) line ≡ Some code → rows_then passed m lines ≡ read.Refused (record { code = code; line = passed + length m.rows + 1 })
+  then_stop code h = line_stop (line_code m.columns) (row_named m.columns) m.columns m.rows (passed + length m.rows + 1) line lines later is code h
+
+  pub then_step : (pushed : RowList) → pushed ≡ record { columns = m.columns; rows = m.rows ++ row_named m.columns line ∷ [] } → line_code m.columns (length m.rows) line ≡ None
+      → rows_then passed pushed later ≡ rows_then passed m lines
+  then_step pushed row h =
+      let number : passed + length (m.rows ++ row_named m.columns line ∷ []) + 1 ≡ passed + length m.rows + 1 + 1 = omega (arith, length-append m.rows (row_named m.columns line ∷ [])) in
+      ap (λ (x : RowList). rows_then passed x later) row
+      ∙ ap (λ n. answer_after (line_code m.columns) (row_named m.columns) m.columns (m.rows ++ row_named m.columns line ∷ []) (numbered_lines n later)) number
+      ∙ line_step (line_code m.columns) (row_named m.columns) m.columns m.rows (passed + length m.rows + 1) line lines later is h
+
+pub then_end : (passed : ℕ) (m : RowList) → rows_then passed m [] ≡ read.Ok m
+then_end passed m = answer_end (line_code m.columns) (row_named m.columns) m.columns m _ (numbered_none (passed + length m.rows + 1) [] refl) refl
+
+pub then_none : (passed : ℕ) (m : RowList) (c : ℕ) (lines : List (List ℕ)) → m ≡ record { columns = c; rows = [] } → rows_then passed m lines ≡ named_rows c (numbered_lines (passed + 1) lines)
+then_none passed m c lines is =
+    let number : passed + 0 + 1 ≡ passed + 1 = omega arith in
+    ap (λ (x : RowList). rows_then passed x lines) is ∙ ap (λ n. named_rows c (numbered_lines n lines)) number
+
 -- the first line of all
-module _ (text line : List ℕ) (later : List (List ℕ)) (is : lines_of text ≡ line ∷ later) where
-  pub first_refused : (code : ℕ) → Err code ≡ width_given (only_word (words_of line)) → sparse_lines (numbered_lines 1 (lines_of text)) ≡ read.Refused (record { code = code; line = 1 })
+module _ (line : List ℕ) (lines later : List (List ℕ)) (is : lines ≡ line ∷ later) where
+  pub first_refused : (code : ℕ) → Err code ≡ width_given (only_word (words_of line)) → sparse_lines (numbered_lines 1 lines) ≡ read.Refused (record { code = code; line = 1 })
   unfolding numbered_lines
   first_refused code e = rw (is, ← e) refl
 
-  pub first_taken : (c : ℕ) → Ok c ≡ width_given (only_word (words_of line)) → sparse_lines (numbered_lines 1 (lines_of text)) ≡ named_rows c (numbered_lines 2 later)
+  pub first_taken : (c : ℕ) → Ok c ≡ width_given (only_word (words_of line)) → sparse_lines (numbered_lines 1 lines) ≡ named_rows c (numbered_lines 2 later)
   unfolding numbered_lines
   first_taken c e = rw (is, ← e) refl

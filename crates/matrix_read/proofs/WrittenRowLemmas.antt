@@ -246,5 +246,5 @@ sparse_law_holds c lists rows some narrow names few short =
     let width : Ok c ≡ width_given (only_word (words_of (decimal c))) = sym (ap (λ words. width_given (only_word words)) word ∙ ap width_of_number (decimal_value c fits) ∙ rw (ne_eqb c 0 (λ e. omega (arith, e)), le-ltb MAX_COLUMNS c narrow) refl) in
     sparse_short text short
     ∙ ap (λ bytes. sparse_lines (numbered_lines 1 (lines_of bytes))) (without_mark-ascii text ascii)
-    ∙ first_taken text (decimal c) (lines_of (named_text lists)) (first_line_written (decimal c) (named_text lists) (written_digits (decimal c) (decimal_digits c fits))) c width
+    ∙ first_taken (decimal c) (lines_of text) (lines_of (named_text lists)) (first_line_written (decimal c) (named_text lists) (written_digits (decimal c) (decimal_digits c fits))) c width
     ∙ named_rows-text c small 2 lists rows names few

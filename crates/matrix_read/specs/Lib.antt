@@ -4,6 +4,8 @@ pub mod BitPlaces
 pub mod Written
 pub mod Sparse
 pub mod SparseSteps
+pub mod RowsThen
+pub mod NamedRows
 pub mod Names
 pub mod JsonSteps
 pub mod Clones

@@ -11,10 +11,12 @@ mod clones;
 mod dense;
 mod digit_blocks;
 mod laws;
+mod named_rows;
 mod passing;
 mod plain;
 mod records;
 mod rows;
+mod rows_reader;
 mod sparse;
 mod table;
 
@@ -22,6 +24,7 @@ pub use clones::{clone_law, read_clones};
 pub use dense::{dense_law, read_dense};
 pub use laws::{limits_law, refusal_laws};
 pub use row_model::NoMemory;
+pub use rows_reader::RowsReader;
 pub use sparse::{named_laws, read_more, read_rows};
 pub use table::{read_table, table_laws};
 pub use text_lines::{

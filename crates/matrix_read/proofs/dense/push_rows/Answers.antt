@@ -4,7 +4,8 @@ use Rattle.row_model.specs.declared.TheConstants.{MAX_COLUMNS}
 use Rattle.text_lines.specs.Lines.{lines_of, filled_lines}
 use Rattle.matrix_read.specs.Dense.{digit_row}
 use Rattle.matrix_read.specs.DenseSteps.{row_code}
-use Rattle.matrix_read.proofs.RowLemmas.{answer_after, answer_stop, answer_step, answer_end}
+use Rattle.matrix_read.specs.RowsThen.{answer_after}
+use Rattle.matrix_read.proofs.RowLemmas.{answer_stop, answer_step, answer_end}
 use Rattle.matrix_read.proofs.DenseLemmas.{row_ascends, row_code-width}
 use Rattle.matrix_read.proofs.dense.push_rows.Goals as goal
 

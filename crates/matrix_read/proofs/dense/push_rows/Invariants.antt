@@ -2,7 +2,7 @@ use Rattle.std.proofs.Common.{◌≡◌, ◌≤◌, ◌+◌, ◌-◌, drop, leng
 use Rattle.text_lines.specs.Lines.{lines_of, filled_lines}
 use Rattle.matrix_read.specs.Dense.{digit_row}
 use Rattle.matrix_read.specs.DenseSteps.{row_code, rows_or_refusal}
-use Rattle.matrix_read.proofs.RowLemmas.{answer_after}
+use Rattle.matrix_read.specs.RowsThen.{answer_after}
 use Rattle.matrix_read.proofs.dense.push_rows.Given as goal
 
 abbrev pub invariant-loop-line : goal.invariant-loop-line
