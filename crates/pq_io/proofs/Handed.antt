@@ -39,7 +39,7 @@ goes_on a b c at n ended old new before front next =
     next ∙ ap (handed_out (take n (drop at new)) ended) (before ∙ ap (λ piece. handed_out piece false a) (sym front)) ∙ handed_out-more (take at new) (take n (drop at new)) ended a
     ∙ ap (λ piece. handed_out piece ended a) (sym (take-add at n new))
 
-not_zero : (n : ℕ) → n ≢ 0 → (n == 0) ≡ false
+pub not_zero : (n : ℕ) → n ≢ 0 → (n == 0) ≡ false
 not_zero zero more = absurd (more refl)
 not_zero (suc n) more = grind (arith, common_steps)
 

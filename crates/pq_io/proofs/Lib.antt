@@ -1,3 +1,4 @@
 pub mod Files
 pub mod Handed
 pub mod Pieces
+pub mod Through

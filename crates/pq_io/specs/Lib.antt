@@ -12,4 +12,5 @@ pub mod Shelf
 pub mod Sink
 pub mod Source
 pub mod Taken
+pub mod Through
 pub mod Whole

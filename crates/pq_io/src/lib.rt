@@ -1,8 +1,8 @@
 //! Where bytes come from, and where they go to.
 //!
 //! A [`Shelf`] holds files by name: one is chosen, and then it is read. A [`Sink`] takes bytes. Each counts its
-//! own failures, and may tell the bytes that it holds. [`read_all`] reads a file whole up to a limit, and
-//! [`write_all`] writes a text whole.
+//! own failures, and may tell the bytes that it holds. [`read_all`] reads a file whole up to a limit, [`read_through`]
+//! hands it to a [`Taker`] in pieces, and [`write_all`] writes a text whole.
 //!
 //! [`MemShelf`] and [`MemSink`] lie in memory and tell their bytes; their calls fail, and move few bytes at a time,
 //! where that is asked for. [`NeverShelf`] and [`NeverSink`] never fail. [`RealShelf`] and [`RealSink`] are the files
@@ -25,6 +25,7 @@ mod real_sink;
 mod retried;
 mod shelf;
 mod sink;
+mod taker;
 mod writing;
 
 pub use error::{ChooseError, Failed, ReadFail, WriteFault};
@@ -32,10 +33,11 @@ pub use mem_shelf::MemShelf;
 pub use mem_sink::MemSink;
 pub use never_shelf::NeverShelf;
 pub use never_sink::NeverSink;
-pub use reading::{Whole, read_all};
+pub use reading::{Whole, read_all, read_through};
 pub use real_shelf::RealShelf;
 pub use real_sink::RealSink;
 pub use shelf::Shelf;
 pub use sink::Sink;
 pub use std::alloc::AllocError as NoMemory;
+pub use taker::Taker;
 pub use writing::write_all;

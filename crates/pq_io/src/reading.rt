@@ -1,10 +1,11 @@
 // A file as a whole.
-ghost use Rattle.std.specs.Prelude.{◌≡◌, ◌≤◌, ◌+◌, ◌^◌, ℕ, List, take, drop, vec_len, IfOk, OnErr, IfSome, IsTrue};
+ghost use Rattle.std.specs.Prelude.{◌≡◌, ◌≤◌, ◌+◌, ◌^◌, ℕ, List, ◌++◌, take, drop, length, vec_len, IfOk, OnErr, IfSome, IsTrue};
 ghost use Rattle.std.specs.Io.KnownBytes.{Consumes, IsAtEnd, Keeps};
 ghost use Rattle.pq_io.specs.Whole.{IsWhole, IsAtMost, LeavesNone, HasReadCause, ChangedOnlyIfFault, HandsOutWhole};
 ghost use Rattle.pq_io.specs.Taken.{HandsOutPiece};
+ghost use Rattle.pq_io.specs.Through.{HandsOutThrough};
 
-use crate::{ReadFail, Shelf};
+use crate::{NoMemory, ReadFail, Shelf, Taker};
 use std::alloc::Global;
 
 /// What a file held.
@@ -20,6 +21,9 @@ pub enum Whole {
 const LEAST_PIECE: usize = 16 * 1024;
 
 const GREATEST_PIECE: usize = 64 * 1024;
+
+// How many bytes are gathered before a taker is asked, unless it left many.
+const WINDOW: usize = 128 * 1024;
 
 /// Reads what is left of the chosen file, unless it is more than `limit` bytes. The file stays chosen.
 ///
@@ -50,6 +54,67 @@ pub fn read_all<F: Shelf>(alloc: Global, shelf: &mut F, limit: u64) -> Result<Wh
         filled += n;
     }
     Ok(Whole::TooLong)
+}
+
+/// Hands what is left of the chosen file to a taker, piece by piece, unless it is more than `limit` bytes: what the taker
+/// makes of it, or none where it is more. The file stays chosen.
+///
+/// It keeps a window of the file alone. The window grows where the taker takes little of it.
+///
+/// # Errors
+///
+/// `Fault` where a read failed, and `NoMemory`. Some bytes may have been read then.
+pub fn read_through<F: Shelf, T: Taker>(
+    alloc: Global,
+    shelf: &mut F,
+    limit: u64,
+    taker: T,
+) -> Result<Option<T::Made>, ReadFail>
+    requires limit { limit ≤ 2 ^ 32 }
+    requires chosen { IsTrue (F.has_chosen shelf.old) }
+    ensures cause { HasReadCause (F.faults shelf.old) (F.faults shelf.new) result }
+    ensures told { ChangedOnlyIfFault (F.faults shelf.old) (F.faults shelf.new) result }
+    ensures chosen { IsTrue (F.has_chosen shelf.new) }
+    ensures taken { HandsOutThrough limit (T.makes taker) (F.left shelf.old) (F.left shelf.new) (F.taken shelf.old) (F.taken shelf.new) result }
+    ensures content { (other : List ℕ) → F.content shelf.new other ≡ F.content shelf.old other }
+{
+    let mut taker = taker;
+    let mut window = Vec::new(alloc);
+    let mut filled = 0;
+    let mut full = WINDOW;
+    let mut total = 0;
+    while total <= limit {
+        let n = read_on(shelf, &mut window, filled)?;
+        if n == 0 {
+            return Ok(Some(taker.finish(alloc, &window[..filled])?));
+        }
+        filled += n;
+        total += n as u64;
+        if filled >= full {
+            let (next, left) = hand_over(alloc, taker, &mut window, filled)?;
+            taker = next;
+            filled = left;
+            full = WINDOW.max(2 * filled);
+        }
+    }
+    Ok(None)
+}
+
+// The taker after it was offered the filled front of a window, and how many bytes it left. They stand at the front then.
+fn hand_over<T: Taker>(
+    alloc: Global,
+    taker: T,
+    window: &mut [u8],
+    filled: usize,
+) -> Result<(T, usize), NoMemory>
+    requires { filled ≤ length window.old }
+    ensures left { IfOk result (λ over. over.1 ≤ filled) }
+    ensures makes { IfOk result (λ over. (rest : List ℕ) (made : T.Made)
+        → T.makes over.0 (take over.1 window.new ++ rest) made → T.makes taker (take filled window.old ++ rest) made) }
+{
+    let (next, taken) = taker.take(alloc, &window[..filled])?;
+    window.copy_within(taken..filled, 0);
+    Ok((next, filled - taken))
 }
 
 // One read, to behind the filled front of `bytes`. What room an earlier read left serves again. Where it

@@ -1,0 +1,74 @@
+use Rattle.std.proofs.Common.{◌≡◌, ◌+◌, ◌≤◌, ◌++◌, [], length, true, false, ℕ, List, take, refl, ap, subst, arith, rules}
+use Rattle.std.proofs.lemmas.List.{with_items_is}
+use Rattle.std.proofs.lemmas.Result.{err_from_is_err_and}
+use Rattle.std.specs.Vec.{with_items}
+use Rattle.pq_io.proofs.Through.{begin_through, through_more, part_end, made_end, through_over}
+use Rattle.pq_io.proofs.reading.read_through.Goals as goal
+
+pub loop-total-init : goal.loop-total-init
+loop-total-init g c = record {
+  within = omega arith;
+  few = omega arith;
+  small = c.requires.limit;
+  told = refl;
+  chosen = c.requires.chosen;
+  content = λ other. refl;
+  through = ([], begin_through _ _ _);
+}
+
+pub returns-in_err-finish-clause-taken : goal.returns-in_err-finish-clause-taken
+returns-in_err-finish-clause-taken g c =
+    let before = c.loop-total.invariant.through in
+    let part = part_end _ _ _ _ _ _ _ before.0 _ _ _ _ before.1 c.read_on.ensures.front _ _ c.in_ok-n.ensures.read c.in_ok-n.ensures.taken c.if-n-eq0.true c.in_ok-n.ensures.end in
+    (before.0, true, part, let p = err_from_is_err_and c.from_residual-in_err-finish.result c.from_residual-in_err-finish.ensures.1 in rw p.1 tt)
+
+pub returns-then-n-eq0-clause-taken : goal.returns-then-n-eq0-clause-taken
+returns-then-n-eq0-clause-taken g c =
+    let before = c.loop-total.invariant.through in
+    let part = part_end _ _ _ _ _ _ _ before.0 _ _ _ _ before.1 c.read_on.ensures.front _ _ c.in_ok-n.ensures.read c.in_ok-n.ensures.taken c.if-n-eq0.true c.in_ok-n.ensures.end in
+    let finished : g.T.Taker.makes c.loop-total.taker (take c.loop-total.filled c.read_on.new.bytes.items) c.in_ok-finish.field-0 =
+    subst (λ text. g.T.Taker.makes c.loop-total.taker (take c.loop-total.filled text) c.in_ok-finish.field-0) c.deref.ensures.value c.in_ok-finish.ensures in
+    let made = made_end _ _ _ _ _ _ _ before.0 _ _ _ _ before.1 c.read_on.ensures.front _ _ c.in_ok-n.ensures.read c.in_ok-n.ensures.taken c.args.limit c.in_ok-finish.field-0 c.loop-total-test.true finished in
+    (before.0, true, part, made)
+
+pub returns-in_err-next-clause-taken : goal.returns-in_err-next-clause-taken
+returns-in_err-next-clause-taken g c =
+    let before = c.loop-total.invariant.through in
+    let room : c.loop-total.filled + c.in_ok-n.n ≤ length c.read_on.new.bytes.items = omega (arith, c.in_ok-n.ensures.room, c.read_on.new.bytes.ok) in
+    let more = through_more _ _ _ _ _ _ _ before.0 _ _ _ _ before.1 c.read_on.ensures.front _ _ c.in_ok-n.ensures.read c.in_ok-n.ensures.taken c.if-n-eq0.false room in
+    (_, false, more.part, let p = err_from_is_err_and c.from_residual-in_err-next.result c.from_residual-in_err-next.ensures.1 in rw p.1 tt)
+
+pub loop-total-preserved-then-filled-full : goal.loop-total-preserved-then-filled-full
+loop-total-preserved-then-filled-full g c =
+    let before = c.loop-total.invariant.through in
+    let room : c.loop-total.filled + c.in_ok-n.n ≤ length c.read_on.new.bytes.items = omega (arith, c.in_ok-n.ensures.room, c.read_on.new.bytes.ok) in
+    let more = through_more _ _ _ _ _ _ _ before.0 _ _ _ _ before.1 c.read_on.ensures.front _ _ c.in_ok-n.ensures.read c.in_ok-n.ensures.taken c.if-n-eq0.false room in
+    let kept : length c.hand_over.new.window ≡ c.read_on.new.bytes.len = omega (arith, c.hand_over.auto.window, c.read_on.new.bytes.ok, ap length c.deref_mut.ensures.value) in
+    let moved = with_items_is c.read_on.new.bytes c.hand_over.new.window kept in
+    let on = λ (rest : List ℕ) (made : g.row.T-Made.Denot)
+    (h : g.T.Taker.makes c.in_ok-next.next (take c.in_ok-next.left (with_items c.read_on.new.bytes c.hand_over.new.window).items ++ rest) made).
+    subst (λ text. g.T.Taker.makes c.loop-total.taker (take (c.loop-total.filled + c.in_ok-n.n) text ++ rest) made) c.deref_mut.ensures.value
+    (c.in_ok-next.ensures.makes rest made (subst (λ text. g.T.Taker.makes c.in_ok-next.next (take c.in_ok-next.left text ++ rest) made) moved h)) in
+    record {
+      within = omega (arith, c.in_ok-next.ensures.left, c.in_ok-n.ensures.room);
+      few = omega (arith, c.loop-total.invariant.few, c.in_ok-next.ensures.left);
+      small = c.loop-total.invariant.small;
+      told = search rules;
+      chosen = search rules;
+      content = search rules;
+      through = (_, through_over _ _ _ _ _ _ _ _ _ _ _ more on);
+    }
+
+pub loop-total-preserved : goal.loop-total-preserved
+loop-total-preserved g c =
+    let before = c.loop-total.invariant.through in
+    let room : c.loop-total.filled + c.in_ok-n.n ≤ length c.read_on.new.bytes.items = omega (arith, c.in_ok-n.ensures.room, c.read_on.new.bytes.ok) in
+    record {
+      within = c.in_ok-n.ensures.room;
+      few = omega (arith, c.loop-total.invariant.few);
+      small = c.loop-total.invariant.small;
+      told = search rules;
+      chosen = search rules;
+      content = search rules;
+      through = (_, through_more _ _ _ _ _ _ _ before.0 _ _ _ _ before.1 c.read_on.ensures.front _ _ c.in_ok-n.ensures.read c.in_ok-n.ensures.taken c.if-n-eq0.false room);
+    }
