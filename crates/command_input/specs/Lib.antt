@@ -1,5 +1,6 @@
 pub mod Words
 pub mod Task
 pub mod Instances
+pub mod InstancePieces
 pub mod TreeReading
 pub mod TreeFiles

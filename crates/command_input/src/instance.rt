@@ -40,8 +40,8 @@ fn parsed(alloc: Global, kind: Kind, bytes: &[u8]) -> Result<Read<Instance>, NoM
     })
 }
 
-// The instance of what was read, or the refusal.
-fn map_read<T, F: FnOnce(T) -> Instance>(read: Read<T>, instance: F) -> Read<Instance>
+/// The instance of what was read, or the refusal.
+pub(crate) fn map_read<T, F: FnOnce(T) -> Instance>(read: Read<T>, instance: F) -> Read<Instance>
     requires { IfRead read (λ value. F.pre instance value) }
     ensures { AreRead (F.post instance) read result }
 {

@@ -1,5 +1,6 @@
 // What is read of the file of an instance.
 ghost use Rattle.command_input.specs.Instances.{InstanceLaw, LongLaw, OnlyGraphLaw};
+ghost use Rattle.command_input.specs.InstancePieces.{HeldLaw};
 
 use graph_read::edge_laws;
 use matrix_read::limits_law;
@@ -10,6 +11,13 @@ pub fn instance_law()
 {
     limits_law();
     edge_laws();
+}
+
+/// So is whatever is read as the bytes of a file are.
+pub fn held_law()
+    ensures { HeldLaw }
+{
+    instance_law();
 }
 
 /// Bytes past the limit are refused, whatever the kind.
