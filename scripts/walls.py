@@ -11,7 +11,8 @@ Usage: scripts/walls.py
 3. Reducing a row looks at no more nodes than its steps count: outside tests no code of the crates that reduce a row in place names
    one of the calls that go over a whole arena without a step, but for the reducer's `tree`.
 4. Reducing a row takes no memory: outside tests no code of these crates or of the arena takes an allocator out of a vector, and a function
-   that is handed none calls nothing that takes memory of a vector's own. Nor do the other calls of which this is promised.
+   that is handed none calls nothing that takes memory of a vector's own. Nor do the other calls of which this is promised, and what they
+   call of their own crate.
 5. Every function of the end-to-end checks, the benches and the scripts is called: a check that does not run is none.
 6. The pages name what there is: each call, type and law in the second column of docs/CONTRACTS.md is one of the crate in the first;
    docs/HOUSE.md has each crate on its floor, as crates.txt has it; docs/PROMISES.md names each clause of the top call and of the one that counts; and README.md or a
@@ -24,8 +25,8 @@ Usage: scripts/walls.py
    lists do nothing with the matrix but hand it on as that, or ask how many columns it has. `CountedRows` reads its matrix in the
    functions of VIEWS alone, and hands it out nowhere. The names `m` and `steps` stand for counted rows and their counter alone.
 10. A turn of a search costs a step: each loop of a function of these crates ticks, or makes a counted read, or calls a function of which
-   a clause named `costs` says that it costs one, on every turn: neither behind a `continue` nor where a condition decides. UNTICKED lists
-   the loops that need not, and with them what else goes over a list: calls, a `vec!` of many items, two lists that are compared. It says
+   a clause named `costs` says that it costs one, on every turn: neither behind a `continue` nor where a condition decides. UNTICKED of
+   scripts/loops.py lists the loops that need not, and with them what else goes over a list: calls, a `vec!` of many items, two lists that are compared. It says
    how many there are in each function, so one more is found too. A turn that calls one of these functions is one of them. No struct there
    can be compared or copied with all of a list that it has. No function of these crates calls itself.
 11. Who may search: verdict_check names no search, and the crates of the replies and of the program stand on no crate that reduces or
@@ -33,7 +34,13 @@ Usage: scripts/walls.py
 12. The solver reads no row: c1p_solve does nothing with a matrix but ask how many rows and columns it has, add and remove its last row,
    and hand it to its own functions, to the reducer, with the number of one row, and to the search.
 13. The reading of loops itself is tried: of the loops in SAMPLES each is found where a turn of it may cost no step, and no other.
-14. A name of the lists of rules 9 and 10 is that of one function, and so is that of a function whose calls cost a step.
+14. A name of the lists of rules 9, 10 and 15 is that of one function, and so is that of a function whose calls cost a step.
+15. Reducing a row in place goes over a list only where IN_PLACE says so: outside tests the crates that do, and the arena, have only the loops
+   whose turns tick, and those that are listed, with their calls that go over a list and their `vec!` of many items. It says how many there
+   are in each function, so one more is found. A turn that calls one of these functions is one of them. Of these functions only the one that
+   gives a tree out calls itself.
+16. No status depends on the sink of errors: the functions of the top call name it in one line each, as TOLD has it. Three hand it on at their
+   end, and `tell` to `report`, which answers nothing.
 
 What stands behind `#[cfg(test)]` is a test, also in a file of its own; a file without that is none, whatever its name.
 
@@ -47,6 +54,7 @@ import re
 import sys
 
 import build
+from loops import IN_PLACE, RECALLED, SAMPLE_LISTS, SAMPLES, UNTICKED
 
 HOME = os.path.dirname(os.path.dirname(os.path.abspath(__file__)))
 # The crates whose definitions everything shares; docs/DECISIONS.md says why they offer their lemmas too.
@@ -58,7 +66,10 @@ STEPPED = ["bubble_pass", "full_pass", "templates_p", "templates_q", "row_reduce
 WITHOUT_MEMORY = ["pq_arena"] + STEPPED
 WHOLE_TREE = ("crates/row_reduce/src/reducer.rt", "tree")
 # Calls besides that are promised to take no memory, by their crates.
-PROMISED = {"row_model": {"pop_row", "row", "has", "joined_by"}, "pair_classes": {"same"}, "walk_search": {"joined"}, "verdict_check": {"tree_holds"}, "proper_interval": {"fits"}}
+PROMISED = {
+    "row_model": {"pop_row", "row", "has", "joined_by"}, "pair_classes": {"same"}, "walk_search": {"joined"}, "proper_interval": {"fits"},
+    "unit_model": {"unit_fits"}, "verdict_check": {"tree_holds", "check_unit"}, "command_input": {"task_of"},
+}
 # The crates that search, and their functions that may name a matrix: those with a signature of their own, which hand its rows on as
 # `CountedRows`; those of the judge, who counts no steps; and those of the small matrix that an attempt makes for itself.
 SEARCHING = ["pair_classes", "odd_cycle", "open_gaps", "walk_search", "incompat_graph"]
@@ -77,95 +88,20 @@ COUNTED_ROWS = os.path.join("row_model", "src", "counted.rt")
 VIEWS = {"columns", "rows", "len_counted", "has_counted", "member_counted", "next_counted", "ones_of_row", "span_counted", "ones_counted", "push_row", "ones", "counted"}
 # How many of their lines go over a list without a tick: a span is found along a row whose columns were counted, and a row is copied.
 VIEW_WALKS = {"span_counted": 1, "push_row": 1}
-# Their functions with what may cost no step, and how often each has it: a loop of which a turn may cost none, a call that goes over a list,
-# or, where a loop leads there, a call of one of these functions. Behind a name, the one over which its only loop goes. They go over a
-# table that is set up or handed out once; up a set of pairs; over rows of which some have no ones; over the lines of a walk that is found;
-# over the few columns, rows, ways and pivots that an attempt takes. Or they are the judge's.
-UNTICKED = {
-    "pair_classes": {"classes_of k": 2, "unite_along": 1, "unite_with": 2, "unite": 2, "marks.rt/new": 1, "numbers.rt/new": 1, "each_alone": 1, "root_of": 1, "flatten": 1},
-    "odd_cycle": {"short_cycle": 4, "cut": 1, "has_flip": 1, "sorted_columns": 2, "is_rising": 1, "is_folded": 2},
-    "open_gaps": {"cover": 1, "of_parts": 1, "gaps_of_all": 4, "gaps_of": 3, "take_row": 1, "new": 1, "of_rows": 1, "span_in_order": 1},
-    "walk_search": {"way_down": 2, "add_way_up": 1, "closed_walk": 2, "rows_by_column k": 1, "joined": 1, "simple_cycle": 1, "new": 1, "search": 3, "search_along": 2},
-    "incompat_graph": {
-        "walk_around": 3, "add_forth": 1, "add_back": 1, "columns_near": 2, "openers": 2, "is_odd_walk": 1, "odd_links": 4, "closed_at_once": 1,
-        "is_known": 1, "odd_circle": 4, "circle_by": 4, "first_left": 2, "place_among": 1, "spread": 5, "path_up": 1, "add_lines": 1, "settle": 4,
-        "lines_of": 1, "part_of": 2, "without_repeats": 4, "add_spread": 1, "checked_cycle": 1, "lines_in": 1, "any_cycle": 1, "quick_cycle": 1,
-    },
-}
 # Calls of the crates below that go over a list or make a table, and are handed no counter.
 WALKS = re.compile(
     r"(?<![\w.:])(?:positions|span_of|is_order|is_kept|row_has|short_cycle|is_folded|sorted_columns|is_rising)\("
     r"|\b(?:Marks|PairNumbers|Forest)::new\(|\bOpenGaps::of_rows\(|\.(?:push_row|keeps)\(")
-# Loops, and whether a turn of each costs a step.
-SAMPLES = [
-    ("for a in columns {\n    steps.tick();\n}", True),
-    ("for a in columns {\n    if a > 1 {\n        steps.tick();\n    }\n}", False),
-    ("for a in columns {\n    if a == b {\n        continue;\n    }\n    steps.tick();\n}", False),
-    ("for a in columns {\n    let had = a > 1 && m.has_counted(k, a, steps);\n}", False),
-    ("for a in columns {\n    let had = if a > 1 { m.has_counted(k, a, steps) } else { false };\n}", False),
-    ("for a in columns {\n    if a > 1 {\n        b += 1;\n    } else if m.has_counted(k, a, steps) {\n        b += 2;\n    }\n}", False),
-    ("for a in found(m.len_counted(k, steps)) {\n    sum += a;\n}", False),
-    ("while let Some(a) = m.next_counted(k, i, steps) {\n    i += 1;\n}", True),
-    ("while let Some(a) = next_halt(front, at, left, steps) {\n    at = a;\n}", True),
-    ("for a in columns {\n    let next = m.next_counted(k, i, steps);\n}", False),
-    ("for a in columns {\n    if look(m, a, steps)? {\n        return Ok(None);\n    }\n}", True),
-    ("let last = loop {\n    at += 1;\n};", False),
-    ("let last = nodes.iter().rposition(|node| node.pair == pair);", False),
-    ("let there = nodes.iter().position(is_there);", False),
-    ("let there = columns.contains(&a);", False),
-    ("let some = columns.iter().any(|a| m.has_counted(k, *a, steps));", False),
-    ("let last = front.positions.iter().last();", False),
-    ("let most = front.positions.iter().max();", False),
-    ("'rows: for a in columns {\n    for b in columns {\n        continue 'rows;\n    }\n    steps.tick();\n}", False),
-    ("let i = 0; while i < count {\n    i += 1;\n}", False),
-    ("if loop {\n    break true;\n} {}", False),
-    ("for a in columns {\n    other.steps.tick();\n}", False),
-    ("for a in columns {\n    near.look(a);\n}", False),
-    ("for a in columns {\n    let had = near.has_counted(k, a, steps);\n}", False),
-    ("for a in columns {\n    let had = has_counted(k, a, steps);\n}", False),
-    ("for a in columns {\n    let had = m.has_counted(k, a, steps);\n}", True),
-    ("for a in columns {\n    let had = front.m.has_counted(k, a, steps);\n}", True),
-    ("while let Some(a) = near.next_counted(k, i, steps) {\n    i += 1;\n}", False),
-    ("while let Some(a) = near.next_halt(k, i, steps) {\n    i += 1;\n}", False),
-    ("while let Some(a) = next_counted(k, i, steps) {\n    i += 1;\n}", False),
-    ("let marks = vec![in alloc; 0; count]?;", False),
-    ("let marks = [0; COUNT];", False),
-    ("let marks = vec![in alloc; first]?;", True),
-    ("let same = order == before;", False),
-    ("if a > 1 && before != *order {\n    b += 1;\n}", False),
-    ("if met.columns == before {\n    b += 1;\n}", False),
-    ("if order[1..] < before[..a] {\n    b += 1;\n}", False),
-    ("if before.as_slice() == kept {\n    b += 1;\n}", False),
-    ("let before = order.clone()?;", False),
-    ("let same = order.len() == before.len();", True),
-    ("let same = order[a] == before[b];", True),
-    ("let same = columns == m.columns();", True),
-    ("order.insert(0, a)?;", False),
-    ("order.resize(count, 0)?;", False),
-    ("order.append(&mut before)?;", False),
-    ("let places = positions(alloc, order)?;", False),
-    ("let marks = Marks::new(alloc, further, columns)?;", False),
-    ("let way = way_down(alloc, forest, a)?;", True),
-    ("for a in columns {\n    steps.tick();\n    let way = way_down(alloc, forest, a)?;\n}", False),
-    ("for a in columns {\n    steps.tick();\n}\nlet way = way_down(alloc, forest, a)?;", True),
-    ("for &a in columns {\n    b += 1;\n}", False),
-    ("for ((a, b), c) in columns {\n    d += 1;\n}", False),
-    ("let most = forest\n    .iter()\n    .map(f)\n    .max();", False),
-    ("let most = (0..count).map(f).max();", False),
-    ("let last = rows.windows(2).map(f).last();", False),
-    ("let most = nodes.iter_mut().map(f).max();", False),
-    ("let all = first.sum::<u32>();", False),
-    ("let has = <[u32]>::contains(rows, &a);", False),
-    ("let same = Some(order) == holders.first();", False),
-    ("for a in columns {\n    expand(a, steps)?;\n}", True),
-    ("for a in columns {\n    let found = expand(\n        a,\n        steps,\n    )?;\n}", True),
-    ("for a in columns {\n    let _found = expand(a, steps);\n}", False),
-]
-# The lists of these, and the fields that are lists.
-SAMPLE_LISTS = ({"order", "before"}, {"columns"})
 SEARCHES = {"odd_walk", "odd_cycle_along", "shorter_cycle", "find_core", "walk_across", "walk_among", "simple_cycle"}
 JUDGE = "verdict_check"
 SOLVER = "c1p_solve"
+# What each function of the top call does with the sink of errors.
+TOLD = {
+    "run": "run_from::<F, O, E, Brand>(alloc, words, files, out, err, Blank::new(1))",
+    "run_from": "run_counted(alloc, words, files, out, err, &mut steps)",
+    "run_counted": "tell(ended, err)",
+    "tell": "report(&failure, err);",
+}
 # The crates that reduce or search, and those that reach them by the solver alone.
 BEHIND_SOLVER = {"pq_arena", "bubble_pass", "templates_q", "full_pass", "templates_p", "row_reduce", "walk_search", "incompat_graph", "pq_plain"}
 BEFORE_SOLVER = ["solve_replies", "reply_laws", "pq_cli", "pq", "pq_gen", "pq_c"]
@@ -378,13 +314,26 @@ def hidden_memory():
         for place, line in code(crate):
             if ALLOCATOR.search(line):
                 yield f"{place}: takes an allocator out of a vector: {line}"
-    for crate in {*WITHOUT_MEMORY, *PROMISED}:
+    for crate in sorted({*WITHOUT_MEMORY, *PROMISED}):
+        without = with_callees(crate, PROMISED.get(crate, set()))
         for name, lines in functions(crate):
-            if "alloc" in WORD.findall(" ".join(line for _, line in lines)) or crate in PROMISED and name not in PROMISED[crate]:
+            if crate in PROMISED and name not in without or crate not in PROMISED and "alloc" in WORD.findall(" ".join(line for _, line in lines)):
                 continue
             for place, line in lines:
                 if TAKES.search(line) and not QUEUED.search(f"{place} {line}"):
                     yield f"{place}: {name} takes memory, and is handed no allocator: {line.strip()}"
+
+
+def with_callees(crate, names):
+    """These functions of a crate, and those of it that they call, by others too, as their text shows."""
+    calls = {}
+    for name, lines in functions(crate):
+        calls.setdefault(name, set()).update(called for _, line in body(lines) for called in re.findall(r"\b(\w+)\(", line))
+    found, more = set(), set(names)
+    while more:
+        found |= more
+        more = {called for name in more for called in calls.get(name, set()) if called in calls} - found
+    return found
 
 
 def body(lines):
@@ -565,28 +514,42 @@ def is_meant(entry, name, place):
     return name == meant and (not file or place.partition(":")[0].endswith(f"/{file}"))
 
 
+def unlisted_turns(crate, entries, sure, with_value):
+    """Where a turn of a crate may cost no step, and the entries do not say so."""
+    makers = {name for name, lines in functions(crate) if any(GIVES_LIST.search(line) for _, line in lines)}
+    fields, nested = list_fields(crate), {found for _, line in code(crate) for found in NESTED.findall(line)}
+    looped = called_in_loops(crate)
+    unticked = with_callers(crate, {entry.split()[0] for entry in entries if "/" not in entry} - {"new"})
+    for name, lines in functions(crate):
+        place = lines[0][0]
+        entry = next((entry for entry in entries if is_meant(entry, name, place)), name)
+        over, listed = entry.partition(" ")[2], entries.get(entry, 0)
+        known = (sure, with_value, (of_lists(lines, makers, nested), fields), unticked, name in looped)
+        turns = list(free_turns(body(lines), set(), *known))
+        others = list(free_turns(body(lines), {over}, *known)) if over else []
+        if len(others) != max(listed - 1, 0) * bool(over) or len(turns) != listed:
+            yield f"{place}: of what may cost no step in {name} {listed} are listed, and there are {len(turns)}: {[line.strip() for _, line in others or turns]}"
+
+
 def uncounted_loops():
     """Where a turn of a search may cost no step."""
     for crate in SEARCHING:
         fails = costing(crate, COSTS_IF_OK)
         sure, with_value = {name: name in fails for name in costing(crate, COSTS)}, costing(crate, SOME_COSTS) | {"m.next_counted"}
-        makers = {name for name, lines in functions(crate) if any(GIVES_LIST.search(line) for _, line in lines)}
-        fields, nested = list_fields(crate), {found for _, line in code(crate) for found in NESTED.findall(line)}
-        looped = called_in_loops(crate)
-        unticked = with_callers(crate, {entry.split()[0] for entry in UNTICKED[crate] if "/" not in entry} - {"new"})
-        for name, lines in functions(crate):
-            place = lines[0][0]
-            entry = next((entry for entry in UNTICKED[crate] if is_meant(entry, name, place)), name)
-            over, listed = entry.partition(" ")[2], UNTICKED[crate].get(entry, 0)
-            known = (sure, with_value, (of_lists(lines, makers, nested), fields), unticked, name in looped)
-            turns = list(free_turns(body(lines), set(), *known))
-            others = list(free_turns(body(lines), {over}, *known)) if over else []
-            if len(others) != max(listed - 1, 0) * bool(over) or len(turns) != listed:
-                yield f"{place}: of what may cost no step in {name} {listed} are listed, and there are {len(turns)}: {[line.strip() for _, line in others or turns]}"
+        yield from unlisted_turns(crate, UNTICKED[crate], sure, with_value)
         for name in calls_itself(crate):
             yield f"crates/{crate}: {name} calls itself, and no loop shows what a turn costs"
         yield from whole_lists(crate)
     yield from loops_of_views()
+
+
+def unlisted_walks():
+    """Where a row that is reduced in place goes over a list, and no list says so."""
+    for crate in WITHOUT_MEMORY:
+        yield from unlisted_turns(crate, IN_PLACE[crate], {}, set())
+        for name in calls_itself(crate):
+            if name not in RECALLED:
+                yield f"crates/{crate}: {name} calls itself, and no loop shows what it goes over"
 
 
 def called_in_loops(crate):
@@ -626,14 +589,22 @@ def loops_of_views():
                 yield f"{lines[0][0]}: {name} goes over a list without a step: {[line.strip() for _, line in turns]}"
 
 
+def shared_entries(crate, entries):
+    """The entries that no function of a crate has for its name, or more than one."""
+    found = [(name, lines[0][0]) for name, lines in functions(crate)]
+    for entry in sorted(entries):
+        number = sum(is_meant(entry, name, place) for name, place in found)
+        if number != 1:
+            yield f"crates/{crate}: {number} functions are meant by {entry}, and not one"
+
+
 def shared_names():
     """The names of the lists of this script, and of functions whose calls cost a step, that no function has or more than one."""
+    for crate in WITHOUT_MEMORY:
+        yield from shared_entries(crate, IN_PLACE[crate])
     for crate in SEARCHING:
         found = [(name, lines[0][0]) for name, lines in functions(crate)]
-        for entry in sorted({*UNTICKED[crate], *UNCOUNTED[crate], *costing(crate, COSTS), *costing(crate, SOME_COSTS)}):
-            number = sum(is_meant(entry, name, place) for name, place in found)
-            if number != 1:
-                yield f"crates/{crate}: {number} functions are meant by {entry}, and not one"
+        yield from shared_entries(crate, {*UNTICKED[crate], *UNCOUNTED[crate], *costing(crate, COSTS), *costing(crate, SOME_COSTS)})
         for name, place in found:
             if name == "tick" or name.endswith("_counted"):
                 yield f"{place}: {name} has the name of what counts a step"
@@ -664,6 +635,18 @@ def stray_searches():
     for crate in BEFORE_SOLVER:
         for one in sorted(BEHIND_SOLVER.intersection(below[crate])):
             yield f"crates.txt: {crate} stands on {one}, and not by {SOLVER}"
+
+
+def heard_sinks():
+    """Where the top call does more with the sink of errors than to offer the line of a failure to it."""
+    for name, lines in functions("pq_cli"):
+        inside = body(lines) if lines[0][0].startswith(f"{TOP}:") else []
+        for place, line in lines[:len(lines) - len(inside)] if inside else []:
+            if "&mut E" in line and "err: &mut E" not in line:
+                yield f"{place}: the sink of errors has another name here: {line.strip()}"
+        for place, line in inside:
+            if "err" in WORD.findall(line) and line.strip() != TOLD.get(name):
+                yield f"{place}: {name} does more with the sink of errors than to offer a line to it: {line.strip()}"
 
 
 def idle_functions():
@@ -775,7 +758,7 @@ def main():
     names = crates()
     failed = 0
     rules = [foreign_proofs(names), own_counters(names), uncounted_walks(), hidden_memory(), idle_functions(), itertools.chain(unknown_contracts(names), untold(names)),
-             upward_edges(), names_with_two_meanings(), uncounted_reads(), uncounted_loops(), stray_searches(), solver_reads(), misread_loops(), shared_names()]
+             upward_edges(), names_with_two_meanings(), uncounted_reads(), uncounted_loops(), stray_searches(), solver_reads(), misread_loops(), shared_names(), unlisted_walks(), heard_sinks()]
     for broken in rules:
         found = list(broken)
         failed += bool(found)
