@@ -38,20 +38,21 @@ abbrev ReadsFour : ℕ → ℕ → Type 0
 ReadsFour word value = (a b c d : ℕ) → a ≤ 9 → b ≤ 9 → c ≤ 9 → d ≤ 9 → word ≡ a + 256 * (b + 256 * (c + 256 * d)) → value ≡ ((a * 10 + b) * 10 + c) * 10 + d
 
 -- digits at the front of four bytes, moved to the end of the word
-moved_digits : (xs : List ℕ) (len value : ℕ) → 4 ≤ length xs → 1 ≤ len → len ≤ 4 → list_all is_ascii_digit (take len xs) ≡ true
-    → ReadsFour (number_l 256 (map (λ byte. (byte + 208) % 256) (take 4 xs)) * 2 ^ (32 - 8 * len) % 4294967296) value
+moved_digits : (xs : List ℕ) (len value : ℕ) → 4 ≤ length xs → len ≤ 4 → list_all is_ascii_digit (take len xs) ≡ true
+    → ReadsFour (number_l 256 (map (λ byte. (byte + 208) % 256) (take 4 xs)) * 2 ^ (32 - 8 * len) % 2 ^ 64 % 4294967296) value
     → value ≡ number_after 0 (take len xs)
-moved_digits (a ∷ b ∷ c ∷ d ∷ xs) (suc zero) value long some few digits reads =
+moved_digits (a ∷ b ∷ c ∷ d ∷ xs) zero value long few digits reads = reads 0 0 0 0 (omega arith) (omega arith) (omega arith) (omega arith) (omega arith)
+moved_digits (a ∷ b ∷ c ∷ d ∷ xs) (suc zero) value long few digits reads =
     let p1 = and_parts (is_ascii_digit a) _ digits in
     let a1 = digit_lane a p1.0 in
     reads 0 0 0 (a - 48) (omega arith) (omega arith) (omega arith) a1.1 (omega (arith, a1.0)) ∙ omega arith
-moved_digits (a ∷ b ∷ c ∷ d ∷ xs) (suc (suc zero)) value long some few digits reads =
+moved_digits (a ∷ b ∷ c ∷ d ∷ xs) (suc (suc zero)) value long few digits reads =
     let p1 = and_parts (is_ascii_digit a) _ digits in
     let p2 = and_parts (is_ascii_digit b) _ p1.1 in
     let a1 = digit_lane a p1.0 in
     let b1 = digit_lane b p2.0 in
     reads 0 0 (a - 48) (b - 48) (omega arith) (omega arith) a1.1 b1.1 (omega (arith, a1.0, b1.0)) ∙ omega arith
-moved_digits (a ∷ b ∷ c ∷ d ∷ xs) (suc (suc (suc zero))) value long some few digits reads =
+moved_digits (a ∷ b ∷ c ∷ d ∷ xs) (suc (suc (suc zero))) value long few digits reads =
     let p1 = and_parts (is_ascii_digit a) _ digits in
     let p2 = and_parts (is_ascii_digit b) _ p1.1 in
     let p3 = and_parts (is_ascii_digit c) _ p2.1 in
@@ -59,7 +60,7 @@ moved_digits (a ∷ b ∷ c ∷ d ∷ xs) (suc (suc (suc zero))) value long some
     let b1 = digit_lane b p2.0 in
     let c1 = digit_lane c p3.0 in
     reads 0 (a - 48) (b - 48) (c - 48) (omega arith) a1.1 b1.1 c1.1 (omega (arith, a1.0, b1.0, c1.0)) ∙ omega arith
-moved_digits (a ∷ b ∷ c ∷ d ∷ xs) (suc (suc (suc (suc zero)))) value long some few digits reads =
+moved_digits (a ∷ b ∷ c ∷ d ∷ xs) (suc (suc (suc (suc zero)))) value long few digits reads =
     let p1 = and_parts (is_ascii_digit a) _ digits in
     let p2 = and_parts (is_ascii_digit b) _ p1.1 in
     let p3 = and_parts (is_ascii_digit c) _ p2.1 in
@@ -69,16 +70,15 @@ moved_digits (a ∷ b ∷ c ∷ d ∷ xs) (suc (suc (suc (suc zero)))) value lon
     let c1 = digit_lane c p3.0 in
     let d1 = digit_lane d p4.0 in
     reads (a - 48) (b - 48) (c - 48) (d - 48) a1.1 b1.1 c1.1 d1.1 (omega (arith, a1.0, b1.0, c1.0, d1.0)) ∙ omega arith
-moved_digits xs zero value long some few digits reads = absurd (omega arith)
-moved_digits xs (suc (suc (suc (suc (suc n))))) value long some few digits reads = absurd (omega arith)
-moved_digits [] len value long some few digits reads = absurd (omega arith)
-moved_digits (a ∷ []) len value long some few digits reads = absurd (omega arith)
-moved_digits (a ∷ b ∷ []) len value long some few digits reads = absurd (omega arith)
-moved_digits (a ∷ b ∷ c ∷ []) len value long some few digits reads = absurd (omega arith)
+moved_digits xs (suc (suc (suc (suc (suc n))))) value long few digits reads = absurd (omega arith)
+moved_digits [] len value long few digits reads = absurd (omega arith)
+moved_digits (a ∷ []) len value long few digits reads = absurd (omega arith)
+moved_digits (a ∷ b ∷ []) len value long few digits reads = absurd (omega arith)
+moved_digits (a ∷ b ∷ c ∷ []) len value long few digits reads = absurd (omega arith)
 
 -- digits between two places
-pub few_read : (text : List ℕ) (at end value : ℕ) → at + 4 ≤ length text → at < end → end ≤ at + 4 → list_all is_ascii_digit (slice_range text at end) ≡ true
-    → ReadsFour (number_l 256 (map (λ byte. (byte + 208) % 256) (chunk at 4 text)) * 2 ^ (32 - 8 * (end - at)) % 4294967296) value
+pub few_read : (text : List ℕ) (at end value : ℕ) → at + 4 ≤ length text → at ≤ end → end ≤ at + 4 → list_all is_ascii_digit (slice_range text at end) ≡ true
+    → ReadsFour (number_l 256 (map (λ byte. (byte + 208) % 256) (chunk at 4 text)) * 2 ^ (32 - 8 * (end - at)) % 2 ^ 64 % 4294967296) value
     → value ≡ number_after 0 (slice_range text at end)
-few_read text at end value room some few digits reads =
-    moved_digits (drop at text) (end - at) value (omega (arith, length-drop at text)) (omega arith) (omega arith) digits reads
+few_read text at end value room order few digits reads =
+    moved_digits (drop at text) (end - at) value (omega (arith, length-drop at text)) (omega arith) digits reads

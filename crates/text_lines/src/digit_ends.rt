@@ -1,11 +1,8 @@
 // Digits whose ends are found in blocks of 64 bytes.
-ghost use Rattle.std.specs.Prelude.{◌≡◌, ◌≢◌, ◌+◌, ◌-◌, ◌%◌, ◌<◌, ◌≤◌, ℕ, List, true, length, map, nat_le, slice_index, slice_range};
-ghost use Rattle.std.specs.Char.{is_ascii_digit};
+ghost use Rattle.std.specs.Prelude.{◌≡◌, ◌≢◌, ◌+◌, ◌%◌, ◌<◌, ◌≤◌, ℕ, List, length, map, nat_le};
 ghost use Rattle.std.specs.Int.{bit_at, trailing_zeros, w64};
-ghost use Rattle.std.specs.List.{list_all};
 ghost use Rattle.std.specs.Simd.Lanes.{chunk, mask_l};
-ghost use Rattle.text_lines.specs.DigitEnds.{AreDigitEnds};
-ghost use Rattle.text_lines.specs.Words.{number_after};
+ghost use Rattle.text_lines.specs.DigitEnds.{AreDigitEnds, AreNextDigits};
 
 use crate::four_digits::{FOUR, few_digits};
 use crate::plain::{DigitRun, digits_at};
@@ -48,15 +45,27 @@ pub struct EndedRun {
 pub fn next_digits(text: &[u8], at: usize, ends: DigitEnds) -> EndedRun
     requires at { at ≤ length text.now }
     requires ends { AreDigitEnds text.now at ends.block ends.marks }
-    ensures range { (at ≤ result.run.end) × (result.run.end ≤ length text.now) }
-    ensures digits { list_all is_ascii_digit (slice_range text.now at result.run.end) ≡ true }
-    ensures value { result.run.value ≡ number_after 0 (slice_range text.now at result.run.end) }
-    ensures ends { AreDigitEnds text.now (result.run.end + 1) result.ends.block result.ends.marks }
+    ensures { AreNextDigits text.now at result.run.value result.run.end result.ends.block result.ends.marks }
 {
-    let ends = ends_ahead(text, at, ends);
+    if ends.marks != 0 {
+        return marked_digits(text, at, ends);
+    }
+    if text.len() - at < BLOCK + FOUR {
+        return unmarked_digits(text, at);
+    }
+    marked_digits(text, at, block_ends(text, at))
+}
+
+// The same. Where marks tell that the digits are few, these are read as one word.
+#[inline(always)]
+fn marked_digits(text: &[u8], at: usize, ends: DigitEnds) -> EndedRun
+    requires at { at ≤ length text.now }
+    requires ends { AreDigitEnds text.now at ends.block ends.marks }
+    ensures { AreNextDigits text.now at result.run.value result.run.end result.ends.block result.ends.marks }
+{
     if ends.marks != 0 {
         let end = ends.block + ends.marks.trailing_zeros() as usize;
-        if at < end && end - at <= FOUR {
+        if end - at <= FOUR {
             return EndedRun {
                 run: DigitRun {
                     value: few_digits(text, at, end),
@@ -69,26 +78,29 @@ pub fn next_digits(text: &[u8], at: usize, ends: DigitEnds) -> EndedRun
             };
         }
     }
+    unmarked_digits(text, at)
+}
+
+// The same, byte by byte, and no marks.
+fn unmarked_digits(text: &[u8], at: usize) -> EndedRun
+    requires { at ≤ length text.now }
+    ensures { AreNextDigits text.now at result.run.value result.run.end result.ends.block result.ends.marks }
+{
     EndedRun {
         run: digits_at(text, at),
         ends: DigitEnds::none(),
     }
 }
 
-// Marks from a place on: these, or if there are none, those of the block that begins there.
+// The marks of the block that begins at a place.
 #[inline(always)]
-fn ends_ahead(text: &[u8], at: usize, ends: DigitEnds) -> DigitEnds
-    requires at { at ≤ length text.now }
-    requires ends { AreDigitEnds text.now at ends.block ends.marks }
+fn block_ends(text: &[u8], at: usize) -> DigitEnds
+    requires { at + 68 ≤ length text.now }
     ensures { AreDigitEnds text.now at result.block result.marks }
 {
-    if ends.marks == 0 && text.len() - at >= BLOCK + FOUR {
-        DigitEnds {
-            block: at,
-            marks: other_marks(text, at),
-        }
-    } else {
-        ends
+    DigitEnds {
+        block: at,
+        marks: other_marks(text, at),
     }
 }
 

@@ -1,5 +1,5 @@
 // Digits that are read as one word of four bytes.
-ghost use Rattle.std.specs.Prelude.{◌≡◌, ◌+◌, ◌*◌, ◌%◌, ◌<◌, ◌≤◌, ℕ, true, length, map, slice_range};
+ghost use Rattle.std.specs.Prelude.{◌≡◌, ◌+◌, ◌*◌, ◌%◌, ◌≤◌, ℕ, true, length, map, slice_range};
 ghost use Rattle.std.specs.Char.{is_ascii_digit};
 ghost use Rattle.std.specs.List.{list_all};
 ghost use Rattle.std.specs.Simd.Lanes.{chunk, number_l};
@@ -10,16 +10,16 @@ use std::simd::prelude::*;
 /// How many bytes a word has.
 pub(crate) const FOUR: usize = 4;
 
-/// The number that the digits between two places write, which are one to four.
+/// The number that the digits between two places write, which are four at most.
 #[inline(always)]
 pub(crate) fn few_digits(text: &[u8], at: usize, end: usize) -> u64
     requires room { at + 4 ≤ length text.now }
-    requires few { (at < end) × (end ≤ at + 4) }
+    requires few { (at ≤ end) × (end ≤ at + 4) }
     requires digits { list_all is_ascii_digit (slice_range text.now at end) ≡ true }
     ensures { result ≡ number_after 0 (slice_range text.now at end) }
 {
-    let word = word_at(text, at) << (32 - 8 * (end - at) as u32);
-    u64::from(value_of_four(word))
+    let moved = u64::from(word_at(text, at)) << (32 - 8 * (end - at) as u32);
+    u64::from(value_of_four((moved % (1 << 32)) as u32))
 }
 
 // Four bytes as a word, the first as its lowest, each counted from the digit 0.
