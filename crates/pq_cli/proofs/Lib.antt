@@ -7,3 +7,4 @@ pub mod Takings
 pub mod Says
 mod RealLaws
 mod ToldFiles
+pub mod Pieces

@@ -5,11 +5,12 @@ use Rattle.std.proofs.lemmas.List.{length-append}
 use Rattle.std.specs.Io.KnownBytes.{Consumes, IsAtEnd}
 use Rattle.pq_io.specs.Taken.{Taken, asked_for, handed_out}
 use Rattle.pq_io.specs.Whole.{IsWhole, IsAtMost, IsHandedOut, HandsOutPart}
+use Rattle.pq_io.specs.Through.{IsMadeOf}
 use Rattle.pq_io.specs.declared.reading.Whole.{Whole}
 use Rattle.pq_io.specs.declared.reading.Whole.TheVariants as whole
 use Rattle.row_model.specs.declared.refusal.Read.{Read}
 use Rattle.row_model.specs.declared.refusal.Read.TheVariants as read
-use Rattle.pq_cli.specs.Reading.{FitsTaken, OnlyReads, ReadsAs, ReadsWhole, value_of}
+use Rattle.pq_cli.specs.Reading.{FitsTaken, OnlyReads, ReadsAs, ReadsWhole, IsMade, value_of}
 use Rattle.pq_cli.proofs.Frame.{reads_done}
 
 -- a file that was asked for, and then handed out a piece
@@ -47,13 +48,24 @@ handed_whole limit name piece ended (whole.Bytes items) h most bytes f =
     (sym same, omega (arith, most, ap length same))
 handed_whole limit name piece ended whole.TooLong h most bytes f = omega (arith, h, ap length f.begins.1, length-append piece f.begins.0)
 
+pub handed_through : {M : Type 0} (limit : ℕ) (makes : List ℕ → M → Type 0) (name piece : List ℕ) (ended : Bool) (made : Option M) → IsMadeOf limit makes piece ended made
+    → (bytes : List ℕ) → FitsTaken (took name piece ended) bytes → IsMade limit makes bytes made
+handed_through limit makes name piece ended (Some made) h bytes f =
+    let same : bytes ≡ piece = f.whole h.0 in
+    subst (λ b. IsMade limit makes b (Some made)) (sym same) (h.1, h.2)
+handed_through limit makes name piece ended None h bytes f = omega (arith, h, ap length f.begins.1, length-append piece f.begins.0)
+
+-- what was taken of a file may be all of it
+pub fits_itself : (t : Taken) → FitsTaken t t.bytes
+fits_itself t = record { begins = ([], sym (append-nil t.bytes)); whole = λ e. refl }
+
 -- a file that was read whole, and then by its form
-module _ {S V : Type 0} (content : S → List ℕ → Option (List ℕ)) (taken : S → List Taken) (faults : S → ℕ) (old new : S) (name : List ℕ) (limit which : ℕ) (reads : List ℕ → Read V → Type 0) (holds : Read V → Type 0)
-    (w : Whole) (t : Taken) (one : ReadsWhole content taken faults old new name limit (Ok w) t) (only : OnlyReads content faults old new 0) where
+module _ {S V W : Type 0} (content : S → List ℕ → Option (List ℕ)) (taken : S → List Taken) (faults : S → ℕ) (old new : S) (name : List ℕ) (is_of : List ℕ → W → Type 0) (which : ℕ) (reads : List ℕ → Read V → Type 0) (holds : Read V → Type 0)
+    (w : W) (t : Taken) (one : ReadsWhole content taken faults old new name is_of (Ok w) t) (only : OnlyReads content faults old new 0) where
   begun : taken new ≡ taken old ++ t ∷ []
   begun = elim one.asks [ inl first ↦ first | inr none ↦ absurd (omega (arith, none.1)) ]
 
-  pub read_by_form : (made : Read V) → ((bytes : List ℕ) → IsWhole limit bytes w → reads bytes made) → holds made → ReadsAs content taken faults old new name which reads holds (value_of which made) t
+  pub read_by_form : (made : Read V) → ((bytes : List ℕ) → is_of bytes w → reads bytes made) → holds made → ReadsAs content taken faults old new name which reads holds (value_of which made) t
   read_by_form (read.Ok value) judged held =
       record {
         asks = inl begun;

@@ -1,6 +1,6 @@
 -- What the reading of one file gives. A shelf is seen by what was taken of its files, the bytes that it tells of them, and
 -- its count of faults.
-use Rattle.std.specs.Prelude.{◌≡◌, ◌≢◌, ◌⊎◌, ⊤, ℕ, ◌<◌, ◌≤◌, true, List, [], ◌∷◌, ◌++◌, length, Option, IfSome, Result, Ok, Err, IfOk, IfErr}
+use Rattle.std.specs.Prelude.{◌≡◌, ◌≢◌, ◌⊎◌, ⊤, ℕ, ◌<◌, ◌≤◌, true, List, [], ◌∷◌, ◌++◌, length, Option, Some, None, IfSome, Result, Ok, Err, IfOk, IfErr}
 use Rattle.pq_io.specs.Faults.{Rose}
 use Rattle.pq_io.specs.Taken.{Taken}
 use Rattle.pq_io.specs.Whole.{IsWhole}
@@ -66,13 +66,18 @@ pub record RefusesLong {V : Type 0} (reads : List ℕ → Read V → Type 0) (ho
   pub long : (bytes : List ℕ) → MAX_FILE_BYTES < length bytes → reads bytes (read.Refused (record { code = LIMIT; line = 0 }))
   pub held : holds (read.Refused (record { code = LIMIT; line = 0 }))
 
--- the bytes of the file of a name were read, up to a limit
-pub record ReadsWhole {S : Type 0} (content : S → List ℕ → Option (List ℕ)) (taken : S → List Taken) (faults : S → ℕ) (old new : S) (name : List ℕ) (limit : ℕ)
-    (result : Result Whole Stop) (t : Taken) : Type 0 where
+-- the bytes of the file of a name were read, and `is_of` holds of them and of what was made of them
+pub record ReadsWhole {S W : Type 0} (content : S → List ℕ → Option (List ℕ)) (taken : S → List Taken) (faults : S → ℕ) (old new : S) (name : List ℕ) (is_of : List ℕ → W → Type 0)
+    (result : Result W Stop) (t : Taken) : Type 0 where
   pub asks : TakesOne (taken old) (taken new) t (read_status result)
   pub named : t.name ≡ name
   pub told : IfSome (content old name) (FitsTaken t)
-  pub whole : IfOk result (λ whole. (bytes : List ℕ) → FitsTaken t bytes → IsWhole limit bytes whole)
+  pub whole : IfOk result (λ whole. (bytes : List ℕ) → FitsTaken t bytes → is_of bytes whole)
+
+-- something was made of bytes within a limit, or nothing of more
+abbrev pub IsMade : {M : Type 0} → ℕ → (List ℕ → M → Type 0) → List ℕ → Option M → Type 0
+IsMade limit makes bytes (Some made) = (length bytes ≤ limit) × makes bytes made
+IsMade limit makes bytes None = limit < length bytes
 
 -- the value that was read of the file with this number, or its refusal
 abbrev pub value_of : {V : Type 0} → ℕ → Read V → Result V Stop

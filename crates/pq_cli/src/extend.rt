@@ -4,7 +4,7 @@ ghost use Rattle.pq_cli.specs.Runs.{RunsCommand};
 ghost use Rattle.pq_cli.specs.Steps.{CountsReply};
 
 use crate::extend::further_file::FurtherFile;
-use crate::input::instance_file::InstanceFile;
+use crate::input::instance_file::read_instance;
 use crate::input::read_file;
 use crate::stop::Stop;
 use commands::Reply;
@@ -37,7 +37,7 @@ pub fn extend_file<F: Shelf, L: Ledger>(
     ensures steps { CountsReply F.taken files.old files.new (Extend kind file.now rows.now)
         result steps.old steps.new }
 {
-    let Instance::Plain(_, base) = read_file(alloc, &InstanceFile { kind }, 1, file, files)? else {
+    let Instance::Plain(_, base) = read_instance(alloc, kind, file, files)? else {
         unreachable!()
     };
     let columns = base.columns();

@@ -4,12 +4,12 @@ ghost use Rattle.row_model.specs.declared.TheConstants.{MAX_FILE_BYTES};
 ghost use Rattle.row_model.specs.declared.code.TheConstants.{LIMIT};
 ghost use Rattle.pq_io.specs.Taken.{Taken};
 ghost use Rattle.pq_io.specs.Whole.{IsWhole};
-ghost use Rattle.pq_cli.specs.Reading.{OnlyReads, IsReadStop, RefusesLong, ReadsFile, ReadsWhole, ReadsBytes, IsRead, value_of};
+ghost use Rattle.pq_cli.specs.Reading.{OnlyReads, IsReadStop, RefusesLong, ReadsFile, ReadsWhole, ReadsBytes, IsMade, IsRead, value_of};
 ghost use Rattle.pq_cli.specs.Stops.{read_status};
 
 use crate::NoMemory;
 use crate::stop::Stop;
-use pq_io::{ChooseError, ReadFail, Shelf, Whole, read_all};
+use pq_io::{ChooseError, ReadFail, Shelf, Taker, Whole, read_all, read_through};
 use row_model::{MAX_FILE_BYTES, Read, Refusal, code};
 use std::alloc::Global;
 
@@ -101,8 +101,8 @@ fn read_whole<V: Drop, R: FileForm<Value = V>>(
     }
 }
 
-// The value that was read of the file with this number, or its refusal.
-fn value_of<V: Drop>(which: u8, read: Read<V>) -> Result<V, Stop>
+/// The value that was read of the file with this number, or its refusal.
+pub(crate) fn value_of<V: Drop>(which: u8, read: Read<V>) -> Result<V, Stop>
     ensures { result ≡ value_of which read }
 {
     match read {
@@ -111,8 +111,8 @@ fn value_of<V: Drop>(which: u8, read: Read<V>) -> Result<V, Stop>
     }
 }
 
-// The refusal of a file with more bytes than there may be.
-fn too_long() -> Refusal
+/// The refusal of a file with more bytes than there may be.
+pub(crate) fn too_long() -> Refusal
     ensures { result ≡ record { code = LIMIT; line = 0 } }
 {
     Refusal {
@@ -124,7 +124,7 @@ fn too_long() -> Refusal
 // The bytes of the file of this name, up to a limit.
 fn read_bytes<F: Shelf>(alloc: Global, name: &str, limit: u64, files: &mut F) -> Result<Whole, Stop>
     requires { limit ≤ 2 ^ 32 }
-    ensures whole { (t : Taken) × ReadsWhole F.content F.taken F.faults files.old files.new name.now limit result t }
+    ensures whole { (t : Taken) × ReadsWhole F.content F.taken F.faults files.old files.new name.now (IsWhole limit) result t }
     ensures shelf { OnlyReads F.content F.faults files.old files.new (read_status result) }
     ensures stop { IfErr result IsReadStop }
 {
@@ -135,6 +135,34 @@ fn read_bytes<F: Shelf>(alloc: Global, name: &str, limit: u64, files: &mut F) ->
             Err(ReadFail::Fault) => Err(Stop::ReadFault),
             Err(ReadFail::NoMemory) => Err(Stop::NoMemory),
             Ok(whole) => Ok(whole),
+        },
+    }
+}
+
+/// What a taker makes of the bytes of the file of this name, or none where they are more than a limit.
+///
+/// # Errors
+///
+/// The file can't be read, or memory is refused.
+pub(crate) fn pass_bytes<F: Shelf, T: Taker>(
+    alloc: Global,
+    name: &str,
+    limit: u64,
+    taker: T,
+    files: &mut F,
+) -> Result<Option<T::Made>, Stop>
+    requires { limit ≤ 2 ^ 32 }
+    ensures made { (t : Taken) × ReadsWhole F.content F.taken F.faults files.old files.new name.now (IsMade limit (T.makes taker)) result t }
+    ensures shelf { OnlyReads F.content F.faults files.old files.new (read_status result) }
+    ensures stop { IfErr result IsReadStop }
+{
+    match files.choose(alloc, name) {
+        Err(ChooseError::Failed) => Err(Stop::ReadFault),
+        Err(ChooseError::NoMemory) => Err(Stop::NoMemory),
+        Ok(()) => match read_through(alloc, files, limit, taker) {
+            Err(ReadFail::Fault) => Err(Stop::ReadFault),
+            Err(ReadFail::NoMemory) => Err(Stop::NoMemory),
+            Ok(made) => Ok(made),
         },
     }
 }

@@ -11,8 +11,8 @@ ghost use Rattle.pq_cli.specs.Runs.{RunsCommand};
 ghost use Rattle.pq_cli.specs.Steps.{CountsOnInstance, CountsReply};
 
 use crate::NoMemory;
-use crate::input::instance_file::InstanceFile;
-use crate::input::{read_file, read_text};
+use crate::input::instance_file::read_instance;
+use crate::input::read_text;
 use crate::stop::Stop;
 use commands::Reply;
 use instance_model::Instance;
@@ -64,7 +64,7 @@ pub fn over_instance<F: Shelf, R: InstanceReply, L: Ledger>(
         → CountsOnInstance command kind (R.makes reply.now)
         → CountsReply F.taken files.old files.new command result steps.old steps.new }
 {
-    let instance = read_file(alloc, &InstanceFile { kind }, 1, file, files)?;
+    let instance = read_instance(alloc, kind, file, files)?;
     Ok(reply.reply(alloc, &instance, steps)?)
 }
 
@@ -89,7 +89,7 @@ pub fn over_both<F: Shelf, R: FnOnce(Instance, Whole) -> Made>(
         → RepliesToBoth command kind limit (R.post reply)
         → RunsCommand F.content F.taken F.faults files.old files.new command result }
 {
-    let instance = read_file(alloc, &InstanceFile { kind }, 1, file, files)?;
+    let instance = read_instance(alloc, kind, file, files)?;
     let whole = read_text(alloc, limit, text, files)?;
     Ok(reply(instance, whole)?)
 }

@@ -14,7 +14,7 @@ use Rattle.pq_cli.proofs.extend.extend_file.Goals as goal
 
 pub returns-in_err-base-clause-runs : goal.returns-in_err-base-clause-runs
 returns-in_err-base-clause-runs g c =
-    first_stops g.F.Shelf.content g.F.Shelf.taken g.F.Shelf.faults c.args.files.now c.read_file.new.files (Extend c.args.kind c.args.file.now c.args.rows.now) c.args.file.now
+    first_stops g.F.Shelf.content g.F.Shelf.taken g.F.Shelf.faults c.args.files.now c.read_instance.new.files (Extend c.args.kind c.args.file.now c.args.rows.now) c.args.file.now
     (c.args.rows.now ∷ []) (ReadsInstance c.args.kind) (HoldsInstance c.args.kind) refl c.in_err-base.field-0.0 c.in_err-base.ensures
     (λ refusal held. (omega arith, λ bytes made. ap (refused_at 1) (sym made))) c.from_residual.result c.from_residual.ensures.1
 
@@ -23,7 +23,7 @@ returns-in_err-further-clause-runs g c =
     let kind = c.args.kind in
     let m = c.in-Plain.base in
     let n : ℕ = c.columns-columns.result in
-    second_stops g.F.Shelf.content g.F.Shelf.taken g.F.Shelf.faults c.args.files.now c.read_file.new.files c.read_file-2.new.files (Extend kind c.args.file.now c.args.rows.now)
+    second_stops g.F.Shelf.content g.F.Shelf.taken g.F.Shelf.faults c.args.files.now c.read_instance.new.files c.read_file.new.files (Extend kind c.args.file.now c.args.rows.now)
     c.args.file.now c.args.rows.now (ReadsInstance kind) (HoldsInstance kind) c.in_ok-base.field-0 (ReadsFurther n) (HoldsFurther n) refl c.in_ok-base.ensures
     (λ bytes made. ap (refused_at 1) (sym made)) c.in_err-further.field-0.0 c.in_err-further.ensures
     (λ refusal held. (
@@ -38,7 +38,7 @@ pub returns-in_err-extension_reply-clause-runs : goal.returns-in_err-extension_r
 returns-in_err-extension_reply-clause-runs g c =
     let kind = c.args.kind in
     let n : ℕ = c.columns-columns.result in
-    memory_after_two g.F.Shelf.content g.F.Shelf.taken g.F.Shelf.faults c.args.files.now c.read_file.new.files c.read_file-2.new.files (Extend kind c.args.file.now c.args.rows.now)
+    memory_after_two g.F.Shelf.content g.F.Shelf.taken g.F.Shelf.faults c.args.files.now c.read_instance.new.files c.read_file.new.files (Extend kind c.args.file.now c.args.rows.now)
     c.args.file.now c.args.rows.now (ReadsInstance kind) (HoldsInstance kind) c.in_ok-base.field-0 (ReadsFurther n) (HoldsFurther n) refl c.in_ok-base.ensures
     (λ bytes made. ap (refused_at 1) (sym made)) c.in_ok-further.further c.in_ok-further.ensures c.from_residual-in_err-extension_reply.result c.from_residual-in_err-extension_reply.ensures.1
 
@@ -48,7 +48,7 @@ returns-clause-runs g c =
     let kind = c.args.kind in
     let m = c.in-Plain.base in
     let n : ℕ = c.columns-columns.result in
-    reply_after_two g.F.Shelf.content g.F.Shelf.taken g.F.Shelf.faults c.args.files.now c.read_file.new.files c.read_file-2.new.files (Extend kind c.args.file.now c.args.rows.now)
+    reply_after_two g.F.Shelf.content g.F.Shelf.taken g.F.Shelf.faults c.args.files.now c.read_instance.new.files c.read_file.new.files (Extend kind c.args.file.now c.args.rows.now)
     c.args.file.now c.args.rows.now (ReadsInstance kind) (HoldsInstance kind) c.in_ok-base.field-0 (ReadsFurther n) (HoldsFurther n) refl c.in_ok-base.ensures
     (λ bytes made. ap (refused_at 1) (sym made)) c.in_ok-further.further c.in_ok-further.ensures c.in_ok-extension_reply.field-0 c.in_ok-extension_reply.ensures.status
     (λ bytes given made over. (
@@ -61,7 +61,7 @@ returns-clause-runs g c =
 
 pub returns-in_err-extension_reply-clause-steps : goal.returns-in_err-extension_reply-clause-steps
 returns-in_err-extension_reply-clause-steps g c =
-    counts_after_two g.F.Shelf.content g.F.Shelf.taken g.F.Shelf.faults c.args.files.now c.read_file.new.files c.read_file-2.new.files (Extend c.args.kind c.args.file.now c.args.rows.now) c.from_residual-in_err-extension_reply.result
+    counts_after_two g.F.Shelf.content g.F.Shelf.taken g.F.Shelf.faults c.args.files.now c.read_instance.new.files c.read_file.new.files (Extend c.args.kind c.args.file.now c.args.rows.now) c.from_residual-in_err-extension_reply.result
     c.args.file.now c.args.rows.now (ReadsInstance c.args.kind) (HoldsInstance c.args.kind) c.in_ok-base.field-0 (ReadsFurther c.columns-columns.result) (HoldsFurther c.columns-columns.result) c.in_ok-further.further c.args.steps.now c.extension_reply.new.steps c.in_ok-base.ensures c.in_ok-further.ensures
     (memory_comes_after c.from_residual-in_err-extension_reply.result c.from_residual-in_err-extension_reply.ensures.1)
     (λ bytes given made over. further_accepted c.args.kind c.args.file.now c.args.rows.now bytes given c.in-Plain.base c.in_ok-further.further c.columns-columns.result
@@ -73,7 +73,7 @@ returns-in_err-extension_reply-clause-steps g c =
 
 pub returns-clause-steps : goal.returns-clause-steps
 returns-clause-steps g c =
-    counts_after_two g.F.Shelf.content g.F.Shelf.taken g.F.Shelf.faults c.args.files.now c.read_file.new.files c.read_file-2.new.files (Extend c.args.kind c.args.file.now c.args.rows.now) (Ok c.in_ok-extension_reply.field-0)
+    counts_after_two g.F.Shelf.content g.F.Shelf.taken g.F.Shelf.faults c.args.files.now c.read_instance.new.files c.read_file.new.files (Extend c.args.kind c.args.file.now c.args.rows.now) (Ok c.in_ok-extension_reply.field-0)
     c.args.file.now c.args.rows.now (ReadsInstance c.args.kind) (HoldsInstance c.args.kind) c.in_ok-base.field-0 (ReadsFurther c.columns-columns.result) (HoldsFurther c.columns-columns.result) c.in_ok-further.further c.args.steps.now c.extension_reply.new.steps c.in_ok-base.ensures c.in_ok-further.ensures (reply_after c.in_ok-extension_reply.field-0.status c.in_ok-extension_reply.ensures.status)
     (λ bytes given made over. further_accepted c.args.kind c.args.file.now c.args.rows.now bytes given c.in-Plain.base c.in_ok-further.further c.columns-columns.result
     (base_read c.args.kind c.in-Plain.field-0 bytes (instance_value c.in_ok-base.field-0) c.in-Plain.base (ap instance_value c.in-Plain.is) c.in_ok-base.ensures.1.holds_of_value.1 made) c.columns-columns.ensures.columns over)
