@@ -54,12 +54,12 @@ smallest_found f leaves w Inside h l a held = record {
 smallest_found f leaves w Split h l a held = absurd held
 
 -- the bound by the nodes of the whole tree
-pub whole_bound : (f : Layout) (row : List ℕ) (s0 s : ℕ) → IsLayout f → IsRow f.columns row → ((a : ℕ) → AtMost f (column_leaves row) f.root a → s ≤ s0 + 5 * a) → s ≤ s0 + 24 * (nodes_met row (outline_at f) + 1)
-whole_bound f row s0 s h r t = let k : s ≤ s0 + 5 * nodes_met row (outline_at f) = t (nodes_met row (outline_at f)) (at_most_met f row f.root h h.root_used r) in omega arith
+pub whole_bound : (f : Layout) (row : List ℕ) (s0 s : ℕ) → IsLayout f → IsRow f.columns row → ((a : ℕ) → AtMost f (column_leaves row) f.root a → s ≤ s0 + 5 * a) → s ≤ s0 + 5 * nodes_met row (outline_at f)
+whole_bound f row s0 s h r t = t (nodes_met row (outline_at f)) (at_most_met f row f.root h h.root_used r)
 
 -- the bound by the nodes at and below the pertinent root
 pub root_bound : (f : Layout) (row : List ℕ) (w : Marks) (found : Found) (s0 s : ℕ) → IsLayout f → IsOneTree f → IsRow f.columns row → row ≢ [] → IsAnswer f (column_leaves row) w found →
-    ((q a : ℕ) → IsHeld found → Holds f (column_leaves row) q → AtMost f (column_leaves row) q a → s ≤ s0 + 7 * a + 2) → IsHeld found → s ≤ s0 + 24 * (2 * nodes_met_below_root row (outline_at f) + 1)
+    ((q a : ℕ) → IsHeld found → Holds f (column_leaves row) q → AtMost f (column_leaves row) q a → s ≤ s0 + 7 * a + 2) → IsHeld found → s ≤ s0 + 7 * nodes_met_below_root row (outline_at f) + 2
 root_bound f row w found s0 s h one r some a t held =
     let q : Smallest f (column_leaves row) = smallest_found f (column_leaves row) w found h (row_leaves f row h one r some) a held in
     let e : nodes_met_below_root row (outline_at f) ≡ nodes_met row (outline_below f q.q) = ap (nodes_met row) (root_outline f row q.q h one r some q.used q.holds q.least) in

@@ -43,6 +43,11 @@ pub fn bubble<L: Ledger>(
     ensures steps { steps.new ≤ steps.old + 24 * (nodes_met (row_at m.now.rows k) (outline_at arena.old) + 1) }
     ensures root_steps { IsHeld result →
         steps.new ≤ steps.old + 24 * (2 * nodes_met_below_root (row_at m.now.rows k) (outline_at arena.old) + 1) }
+
+    // Both bounds are wide: these are the narrow ones.
+    ensures few { steps.new ≤ steps.old + 5 * nodes_met (row_at m.now.rows k) (outline_at arena.old) }
+    ensures root_few { IsHeld result →
+        steps.new ≤ steps.old + 7 * nodes_met_below_root (row_at m.now.rows k) (outline_at arena.old) + 2 }
 {
     arena.layout_law();
     work.find(arena, m.row(k), steps)
