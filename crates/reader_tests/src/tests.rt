@@ -5,6 +5,7 @@ mod dense;
 mod graph_files;
 mod graphs;
 mod lines;
+mod pieces;
 mod plain;
 mod refusals;
 mod sparse;

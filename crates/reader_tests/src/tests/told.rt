@@ -64,7 +64,7 @@ fn text_told(alloc: Global, form: Form, text: &[u8]) -> Result<String, NoMemory>
     }
 }
 
-fn read_told<T: Told>(alloc: Global, read: &Read<T>) -> Result<String, NoMemory> {
+pub fn read_told<T: Told>(alloc: Global, read: &Read<T>) -> Result<String, NoMemory> {
     match read {
         Read::Refused(refusal) => {
             format!(in alloc; "refused {} in line {}", refusal.code, refusal.line)
@@ -74,7 +74,7 @@ fn read_told<T: Told>(alloc: Global, read: &Read<T>) -> Result<String, NoMemory>
 }
 
 // A value that is told by its sizes and its rows.
-trait Told {
+pub trait Told {
     fn told(&self, alloc: Global) -> Result<String, NoMemory>;
 }
 
