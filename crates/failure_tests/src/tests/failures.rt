@@ -234,3 +234,23 @@ fn devices_that_never_fail(rt: HostRuntime) -> Result<(), Fail> {
     assert!(rt; status == 3 && taken == 0);
     Ok(())
 }
+
+// The file of 300,004 bytes is read in pieces of 4,096: a choice, 74 reads, and one that gives nothing.
+#[test]
+fn reads_that_fail_behind_a_refused_line(rt: HostRuntime) -> Result<(), Fail> {
+    let alloc = rt.alloc();
+    let mut file = b"2\n3\n".to_vec(alloc)?;
+    for _ in 0..100_000 {
+        file.extend_from_slice(b"1 \n")?;
+    }
+    let refused = Case {
+        words: &["solve", "rows", "matrix"],
+        file: &file,
+        second: b"",
+        status: 3,
+    };
+    assert!(rt; are_unread(alloc, refused, 4096, 76, 76)?);
+    let outcome = outcome_over(alloc, refused, 4096, Device::Files, 77)?;
+    assert!(rt; is_left(&outcome, 3, b"", b"pq: refused 1 code 4 line 2\n"));
+    Ok(())
+}

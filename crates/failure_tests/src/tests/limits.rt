@@ -82,3 +82,48 @@ fn the_greatest_distance(rt: HostRuntime) -> Result<(), Fail> {
     assert!(rt; solves_to(rt.alloc(), "robinson", file, 0, out, b"")?);
     Ok(())
 }
+
+// A file of so many bytes, the first of which are these and the others spaces.
+fn spaced(alloc: Global, front: &[u8], size: usize) -> Result<Vec<u8>, NoMemory> {
+    let mut file = front.to_vec(alloc)?;
+    file.resize(size, b' ')?;
+    Ok(file)
+}
+
+#[test]
+fn too_many_bytes_behind_a_refused_line(rt: HostRuntime) -> Result<(), Fail> {
+    let alloc = rt.alloc();
+    let within = spaced(alloc, b"2\n3\n1\n", 16_777_216)?;
+    assert!(rt;
+        solves_to(
+            alloc,
+            "rows",
+            &within,
+            3,
+            b"",
+            b"pq: refused 1 code 4 line 2\n"
+        )?
+    );
+    let beyond = spaced(alloc, b"2\n3\n1\n", 16_777_217)?;
+    assert!(rt;
+        solves_to(
+            alloc,
+            "rows",
+            &beyond,
+            3,
+            b"",
+            b"pq: refused 1 code 7 line 0\n"
+        )?
+    );
+    Ok(())
+}
+
+#[test]
+fn a_line_of_many_bytes(rt: HostRuntime) -> Result<(), Fail> {
+    let alloc = rt.alloc();
+    let mut file = spaced(alloc, b"3\n1", 1_000_000)?;
+    file.extend_from_slice(b"2\n2 3\n")?;
+    let out = b"pq-verdict 2\nkind rows\ncolumns 3\nanswer yes\ntree [1 2 3]\norder 1 2 3\nend\n";
+    assert!(rt; solves_to(alloc, "rows", &file, 0, out, b"")?);
+    Ok(())
+}
