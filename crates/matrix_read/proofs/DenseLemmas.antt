@@ -1,9 +1,15 @@
 -- Rows as lines of digits.
-use Rattle.std.proofs.Common.{◌≡◌, ℕ, suc, ◌<◌, ◌≤◌, ◌+◌, ◌-◌, List, [], ◌∷◌, length, get_or, ap, sym, ◌∙◌, refl, arith, Option, Some, None, true, false, if◌then◌else◌, ◌==◌, ◌||◌, ◌&&◌, not, Bool, nat_lt, nat_le, eqb-true, eq-eqb}
+use Rattle.std.proofs.Common.{◌≡◌, ℕ, suc, ◌<◌, ◌≤◌, ◌+◌, ◌-◌, List, [], ◌∷◌, ◌++◌, length, get_or, ap, sym, ◌∙◌, refl, arith, Option, Some, None, true, false, if◌then◌else◌, ◌==◌, ◌||◌, ◌&&◌, not, Bool, nat_lt, nat_le, eqb-true, eq-eqb}
 use Rattle.std.specs.List.{list_any, list_all}
-use Rattle.std.proofs.lemmas.Bool.{and_parts}
+use Rattle.std.proofs.lemmas.Bool.{and_parts, lt-leb, le-leb, ne_eqb}
 use Rattle.row_model.proofs.Filtered.{filtered_row}
-use Rattle.row_model.specs.Rows.{IsRow, columns_where}
+use Rattle.row_model.specs.Rows.{RowList, IsRow, columns_where}
+use Rattle.row_model.specs.Limits.{within_length}
+use Rattle.matrix_read.specs.RowsThen.{answer_after}
+use Rattle.matrix_read.specs.DigitsThen.{digits_then}
+use Rattle.matrix_read.proofs.RowLemmas.{answer_stop, answer_step, answer_end}
+use Rattle.text_lines.proofs.LineLemmas.{filled_here, filled_blank, filled_none}
+use Rattle.row_model.specs.declared.refusal.Read.{Read}
 use Rattle.row_model.specs.declared.refusal.Read.TheVariants as read
 use Rattle.row_model.specs.declared.TheConstants.{MAX_COLUMNS, MAX_ROWS, MAX_FILE_BYTES}
 use Rattle.row_model.specs.declared.code.TheConstants.{GRAMMAR, COUNT, LIMIT}
@@ -130,6 +136,110 @@ dense_long bytes h = too_long bytes _ h
 pub dense_short : (bytes : List ℕ) → length bytes ≤ MAX_FILE_BYTES → dense bytes ≡ read_lines (filled_lines 1 (lines_of (without_mark bytes)))
 unfolding dense
 dense_short bytes h = short_enough bytes _ h ∙ dense_lines_same (filled_lines 1 (lines_of (without_mark bytes)))
+
+-- a blank line has no foreign byte and no digit, and a line without these is blank
+blank_not_digit : (b : ℕ) → is_blank_byte b ≡ true → is_digit b ≡ false
+blank_not_digit b h = by (b == 32) refl h
+  where
+    by : (space : Bool) → (b == 32) ≡ space → (space || (b == 9)) ≡ true → is_digit b ≡ false
+    by true e k = rw (eqb-true b 32 e) refl
+    by false e k = rw (eqb-true b 9 k) refl
+
+pub blank_nothing : (line : List ℕ) → is_blank line ≡ true → (list_any is_foreign_byte line ≡ false) × (width_of line ≡ 0)
+blank_nothing [] h = (refl, refl)
+blank_nothing (b ∷ line) h =
+    let parts = and_parts (is_blank_byte b) (is_blank line) h in
+    let later = blank_nothing line parts.1 in
+    let digit : is_digit b ≡ false = blank_not_digit b parts.0 in
+    (rw (digit, parts.0) later.0, rw digit later.1)
+
+pub blank_line : (line : List ℕ) → list_any is_foreign_byte line ≡ false → width_of line ≡ 0 → is_blank line ≡ true
+blank_line line clean none = by (is_blank line) refl
+  where
+    by : (blank : Bool) → is_blank line ≡ blank → blank ≡ true
+    by true e = refl
+    by false e = absurd (omega (arith, some_digit line e clean, none))
+
+pub filled_line : (line : List ℕ) → (is_blank line ≡ true → ⊥) → is_blank line ≡ false
+filled_line line not_blank = by (is_blank line) refl
+  where
+    by : (blank : Bool) → is_blank line ≡ blank → blank ≡ false
+    by true e = absurd (not_blank e)
+    by false e = refl
+
+-- the code of a line as a row, if it has one
+module _ (width before : ℕ) (line : List ℕ) where
+  pub code_full : MAX_ROWS ≤ before → row_code width before line ≡ Some LIMIT
+  code_full full = rw (le-leb MAX_ROWS before full) refl
+
+  pub code_foreign : before < MAX_ROWS → list_any is_foreign_byte line ≡ true → row_code width before line ≡ Some GRAMMAR
+  code_foreign few foreign = rw (lt-leb MAX_ROWS before few, foreign) refl
+
+  pub code_count : before < MAX_ROWS → list_any is_foreign_byte line ≡ false → (width_of line ≡ width → ⊥) → row_code width before line ≡ Some COUNT
+  code_count few clean other = rw (lt-leb MAX_ROWS before few, clean, ne_eqb (width_of line) width other) refl
+
+  pub code_none : before < MAX_ROWS → list_any is_foreign_byte line ≡ false → width_of line ≡ width → row_code width before line ≡ None
+  code_none few clean same = rw (lt-leb MAX_ROWS before few, clean, eq-eqb (width_of line) width same) refl
+
+-- a line with a foreign byte or a digit is not blank
+pub filled_foreign : (line : List ℕ) → list_any is_foreign_byte line ≡ true → is_blank line ≡ false
+filled_foreign line foreign = filled_line line (λ blank. let clean = (blank_nothing line blank).0 in absurd (cc))
+
+pub filled_digits : (line : List ℕ) → 1 ≤ width_of line → is_blank line ≡ false
+filled_digits line some = filled_line line (λ blank. omega (arith, (blank_nothing line blank).1, some))
+
+-- the first of some lines, before which so many stand
+module _ (passed : ℕ) (m : RowList) (line : List ℕ) (lines later : List (List ℕ)) (is : lines ≡ line ∷ later) where
+  pub filled_first_line : is_blank line ≡ false → filled_lines (passed + 1) lines ≡ record { number = passed + 1; text = line } ∷ filled_lines (passed + 1 + 1) later
+  filled_first_line h = ap (filled_lines (passed + 1)) is ∙ filled_here (passed + 1) line later h
+
+  pub blank_first_line : is_blank line ≡ true → filled_lines (passed + 1 + 1) later ≡ filled_lines (passed + 1) lines
+  blank_first_line h = sym (ap (filled_lines (passed + 1)) is ∙ filled_blank (passed + 1) line later h)
+
+  pub digits_stop : (code : ℕ) → is_blank line ≡ false → row_code m.columns (length m.rows) line ≡ Some code → digits_then passed m lines ≡ read.Refused (record { code = code; line = passed + 1 })
+  digits_stop code filled h = answer_stop (row_code m.columns) digit_row m.columns m.rows _ _ _ (filled_first_line filled) code h
+
+  pub digits_step : (pushed : RowList) → pushed ≡ record { columns = m.columns; rows = m.rows ++ digit_row line ∷ [] } → is_blank line ≡ false → row_code m.columns (length m.rows) line ≡ None
+      → digits_then (passed + 1) pushed later ≡ digits_then passed m lines
+  digits_step pushed row filled h =
+      ap (λ (x : RowList). digits_then (passed + 1) x later) row ∙ answer_step (row_code m.columns) digit_row m.columns m.rows _ _ _ (filled_first_line filled) h
+
+  pub digits_blank : is_blank line ≡ true → digits_then (passed + 1) m later ≡ digits_then passed m lines
+  digits_blank h = ap (answer_after (row_code m.columns) digit_row m.columns m.rows) (blank_first_line h)
+
+-- the first of some lines, before which no row stands
+module _ (passed : ℕ) (line : List ℕ) (lines later : List (List ℕ)) (is : lines ≡ line ∷ later) where
+  pub front_stop : (code : ℕ) → is_blank line ≡ false → first_code line ≡ Some code → read_lines (filled_lines (passed + 1) lines) ≡ read.Refused (record { code = code; line = passed + 1 })
+  front_stop code filled h =
+      first_line_refused (record { number = passed + 1; text = line }) (filled_lines (passed + 1) lines) (filled_lines (passed + 1 + 1) later) code
+      (ap (filled_lines (passed + 1)) is ∙ filled_here (passed + 1) line later filled) h
+
+  pub front_row : (width : ℕ) → width ≡ width_of line → is_blank line ≡ false → first_code line ≡ None
+      → digits_then passed (record { columns = width; rows = [] }) lines ≡ read_lines (filled_lines (passed + 1) lines)
+  front_row width same filled h =
+      ap (λ w. rows_or_refusal w (filled_lines (passed + 1) lines)) same
+      ∙ sym (first_line_taken (record { number = passed + 1; text = line }) (filled_lines (passed + 1) lines) (filled_lines (passed + 1 + 1) later)
+      (ap (filled_lines (passed + 1)) is ∙ filled_here (passed + 1) line later filled) h)
+
+  pub front_blank : is_blank line ≡ true → read_lines (filled_lines (passed + 1 + 1) later) ≡ read_lines (filled_lines (passed + 1) lines)
+  front_blank blank = sym (ap read_lines (ap (filled_lines (passed + 1)) is ∙ filled_blank (passed + 1) line later blank))
+
+pub digits_end : (passed : ℕ) (m : RowList) → digits_then passed m [] ≡ read.Ok m
+digits_end passed m = answer_end (row_code m.columns) digit_row m.columns m _ (filled_none (passed + 1) [] refl) refl
+
+-- what is within the limit of bytes by another count of them
+pub same_within : (n m : ℕ) → n ≡ m → (a b : Read RowList) → a ≡ b
+    → (if nat_lt MAX_FILE_BYTES n then read.Refused (record { code = LIMIT; line = 0 }) else a) ≡ (if nat_lt MAX_FILE_BYTES m then read.Refused (record { code = LIMIT; line = 0 }) else b)
+same_within n m size a b same = ap (λ k. if nat_lt MAX_FILE_BYTES k then read.Refused (record { code = LIMIT; line = 0 }) else a) size ∙ ap (λ r. if nat_lt MAX_FILE_BYTES m then read.Refused (record { code = LIMIT; line = 0 }) else r) same
+
+-- a whole text
+pub dense_whole : (bytes : List ℕ) →
+    (if nat_lt MAX_FILE_BYTES (0 + length bytes) then read.Refused (record { code = LIMIT; line = 0 }) else read_lines (filled_lines 1 (lines_of (without_mark bytes)))) ≡ dense bytes
+unfolding dense
+dense_whole bytes =
+    let none : 0 + length bytes ≡ length bytes = omega arith in
+    ap (λ n. if nat_lt MAX_FILE_BYTES n then read.Refused (record { code = LIMIT; line = 0 }) else read_lines (filled_lines 1 (lines_of (without_mark bytes)))) none
+    ∙ ap (within_length bytes) (sym (dense_lines_same (filled_lines 1 (lines_of (without_mark bytes)))))
 
 -- a line that is digits alone
 module _ (line : List ℕ) where

@@ -6,6 +6,8 @@ pub mod Sparse
 pub mod SparseSteps
 pub mod RowsThen
 pub mod NamedRows
+pub mod DigitsThen
+pub mod DigitRows
 pub mod Names
 pub mod JsonSteps
 pub mod Clones

@@ -1,16 +1,18 @@
 // A matrix as lines of digits.
-ghost use Rattle.std.specs.Prelude.{◌≡◌, ◌+◌, ◌-◌, ◌^◌, ◌<◌, ◌≤◌, ◌↔◌, ◌==◌, slice_set, [], length, take, Some, None, IsNone, IfOk, IfErr, IfSome, IsTrue};
+ghost use Rattle.std.specs.Prelude.{◌≡◌, ◌+◌, ◌-◌, ◌^◌, ◌<◌, ◌≤◌, ◌↔◌, ◌==◌, ℕ, List, ◌++◌, true, false, slice_set, [], length, take, Some, None, IsNone, IfNone, IfOk, IfErr, OnOk, IfSome, IsTrue};
 ghost use Rattle.std.specs.List.{list_any};
-ghost use Rattle.text_lines.specs.Lines.{lines_of, filled_lines};
+ghost use Rattle.text_lines.specs.Lines.{is_blank, lines_of, filled_lines};
 ghost use Rattle.matrix_read.specs.Dense.{width_of, digit_row, dense};
-ghost use Rattle.matrix_read.specs.DenseSteps.{is_foreign_byte, row_code, read_lines, rows_or_refusal};
+ghost use Rattle.matrix_read.specs.DenseSteps.{is_foreign_byte, row_code, read_lines};
+ghost use Rattle.matrix_read.specs.DigitsThen.{digits_then, pushed_then, front_then, IsDigitLine, IsFrontWithin};
 ghost use Rattle.matrix_read.specs.Written.{DenseLaw};
 
 use crate::bit_places::BitPlaces;
+use crate::dense_reader::DenseReader;
 use crate::digit_blocks::ones_alone;
-use row_model::{MAX_COLUMNS, MAX_FILE_BYTES, MAX_ROWS, Matrix, NoMemory, Read, Refusal, code};
+use row_model::{MAX_COLUMNS, MAX_ROWS, Matrix, NoMemory, Read, Refusal, code};
 use std::alloc::Global;
-use text_lines::{next_filled_line, without_mark};
+use text_lines::line_from;
 
 /// Reads a matrix from the bytes of a file: lines of the digits 0 and 1, between which spaces and tabs may stand.
 ///
@@ -30,104 +32,133 @@ use text_lines::{next_filled_line, without_mark};
 pub fn read_dense(alloc: Global, bytes: &[u8]) -> Result<Read<Matrix>, NoMemory>
     ensures { IfOk result (λ read. read ≡ dense bytes.now) }
 {
-    if bytes.len() as u64 > MAX_FILE_BYTES {
-        return Ok(Read::Refused(Refusal {
-            code: code::LIMIT,
-            line: 0,
-        }));
-    }
-    let text = without_mark(bytes);
-    match first_width(text) {
-        Err(refusal) => Ok(Read::Refused(refusal)),
-        Ok(width) => rows_or_refusal(alloc, text, width),
-    }
+    DenseReader::new().finish(alloc, bytes)
 }
 
-// The number of digits of the first row, or the first refusal.
-fn first_width(text: &[u8]) -> Result<u32, Refusal>
-    requires { length text.now ≤ MAX_FILE_BYTES }
-    ensures refused { IfErr result (λ refusal. read_lines (filled_lines 1 (lines_of text.now)) ≡ Read.Refused refusal) }
-    ensures width { IfOk result (λ width. read_lines (filled_lines 1 (lines_of text.now)) ≡ rows_or_refusal width (filled_lines 1 (lines_of text.now))) }
-    ensures range { IfOk result (λ width. (1 ≤ width) × (width ≤ MAX_COLUMNS)) }
-{
-    let Some(first) = next_filled_line(text, 0, 0) else {
-        return Err(Refusal {
-            code: code::EMPTY,
-            line: 0,
-        });
-    };
-    match scan_any(&text[first.span.start..first.span.end], &mut []) {
-        None => Err(Refusal {
-            code: code::GRAMMAR,
-            line: first.number,
-        }),
-        Some(digits) if digits.all > MAX_COLUMNS as usize => Err(Refusal {
-            code: code::LIMIT,
-            line: first.number,
-        }),
-        Some(digits) => Ok(digits.all as u32),
-    }
+/// The first line that is not blank.
+#[derive(Clone, Copy)]
+pub(crate) struct FirstRow {
+    /// How many digits it has.
+    pub width: u32,
+    /// The place where it begins.
+    pub start: usize,
+    /// How many lines stand before it.
+    pub passed: u32,
 }
 
-// The matrix of a text, the first row of which has so many digits.
-fn rows_or_refusal(alloc: Global, text: &[u8], width: u32) -> Result<Read<Matrix>, NoMemory>
-    requires short { length text.now ≤ MAX_FILE_BYTES }
-    requires range { (1 ≤ width) × (width ≤ MAX_COLUMNS) }
-    ensures { IfOk result (λ read. read ≡ rows_or_refusal width (filled_lines 1 (lines_of text.now))) }
-{
-    let matrix = Matrix::new(alloc, width)?;
-    let table = BitPlaces::new();
-    let mut columns = vec![in alloc; 0u32; width as usize]?;
-    push_rows(matrix, text, &table, &mut columns)
+/// What stands at the front of a text, where `passed` lines were before it.
+pub(crate) enum Front {
+    /// NoRow lines alone, and no other line: how many lines there were then.
+    NoRow(u32),
+    /// A row, behind blank lines or none.
+    Row(FirstRow),
 }
 
-// Fills a matrix with the rows of a text. Each row stands in `columns` until it is pushed.
-fn push_rows(
-    mut matrix: Matrix,
-    text: &[u8],
-    table: &BitPlaces,
-    columns: &mut [u32],
-) -> Result<Read<Matrix>, NoMemory>
-    requires empty { matrix.rows ≡ [] }
-    requires short { length text.now ≤ MAX_FILE_BYTES }
-    requires width { length columns.old ≡ matrix.columns }
-    requires small { matrix.columns ≤ MAX_COLUMNS }
-    ensures { IfOk result (λ read. read ≡ rows_or_refusal matrix.columns (filled_lines 1 (lines_of text.now))) }
+/// What stands at the front of a text, where `passed` lines were before it, or the first refusal.
+pub(crate) fn front_of(text: &[u8], passed: u32) -> Result<Front, Refusal>
+    requires few { passed + length text.now < 2 ^ 32 }
+    ensures refused { IfErr result (λ refusal. (later : List (List ℕ))
+        → read_lines (filled_lines (passed + 1) (lines_of text.now ++ later)) ≡ Read.Refused refusal) }
+    ensures front { IfOk result (λ front. (later : List (List ℕ)) → front_then text.now front later
+        ≡ read_lines (filled_lines (passed + 1) (lines_of text.now ++ later))) }
+    ensures within { IfOk result (IsFrontWithin passed text.now) }
 {
-    let mut passed = 0;
+    let mut before = passed;
     let mut at = 0;
-    while let Some(line) = next_filled_line(text, at, passed) {
-        passed = line.number;
-        at = line.span.next;
-        match row_in(
-            &text[line.span.start..line.span.end],
-            matrix.rows(),
-            table,
-            columns,
-        ) {
-            Err(code) => return Ok(Read::Refused(Refusal { code, line: passed })),
-            Ok(ones) => matrix.push_row(&columns[..ones])?,
+    while at < text.len() {
+        let line = line_from(text, at);
+        match scan_any(&text[line.start..line.end], &mut []) {
+            None => {
+                return Err(Refusal {
+                    code: code::GRAMMAR,
+                    line: before + 1,
+                });
+            }
+            Some(digits) if digits.all > MAX_COLUMNS as usize => {
+                return Err(Refusal {
+                    code: code::LIMIT,
+                    line: before + 1,
+                });
+            }
+            Some(digits) if digits.all > 0 => {
+                return Ok(Front::Row(FirstRow {
+                    width: digits.all as u32,
+                    start: at,
+                    passed: before,
+                }));
+            }
+            Some(_) => {}
+        }
+        before += 1;
+        at = line.next;
+    }
+    Ok(Front::NoRow(before))
+}
+
+/// Adds the rows of a text to a matrix, where `passed` lines stand before the text: how many lines stand before its end,
+/// or the first refusal. Each row stands in `columns` until it is pushed.
+pub(crate) fn push_rows(
+    matrix: &mut Matrix,
+    text: &[u8],
+    passed: u32,
+    columns: &mut [u32],
+) -> Result<Result<u32, Refusal>, NoMemory>
+    requires few { passed + length text.now < 2 ^ 32 }
+    requires width { length columns.old ≡ matrix.old.columns }
+    requires small { matrix.old.columns ≤ MAX_COLUMNS }
+    ensures rows { IfOk result (λ pushed. (later : List (List ℕ)) → pushed_then pushed matrix.new later
+        ≡ digits_then passed matrix.old (lines_of text.now ++ later)) }
+    ensures width { OnOk result (matrix.new.columns ≡ matrix.old.columns) }
+    ensures within { IfOk result (λ pushed. IfOk pushed (λ after. after ≤ passed + length text.now)) }
+{
+    let table = BitPlaces::new();
+    let mut line = passed;
+    let mut at = 0;
+    while at < text.len() {
+        let span = line_from(text, at);
+        line += 1;
+        at = span.next;
+        match row_in(&text[span.start..span.end], matrix.rows(), &table, columns) {
+            DigitLine::Refused(code) => return Ok(Err(Refusal { code, line })),
+            DigitLine::NoRow => {}
+            DigitLine::Row(ones) => matrix.push_row(&columns[..ones])?,
         }
     }
-    Ok(Read::Ok(matrix))
+    Ok(Ok(line))
 }
 
-// How many ones the row of a line has, whose columns stand at the front of `columns` then; or the code of its
-// refusal, where so many rows stand before it.
-fn row_in(line: &[u8], before: u32, table: &BitPlaces, columns: &mut [u32]) -> Result<usize, u8>
+/// A line of digits as a row.
+#[derive(Clone, Copy)]
+pub(crate) enum DigitLine {
+    /// It is blank, and no row.
+    NoRow,
+    /// A row with so many ones.
+    Row(usize),
+    /// It is refused with this code.
+    Refused(u8),
+}
+
+// A line as a row, where so many rows stand before it. Its columns stand at the front of `columns` then.
+fn row_in(line: &[u8], before: u32, table: &BitPlaces, columns: &mut [u32]) -> DigitLine
     requires { length columns.old ≤ MAX_COLUMNS }
-    ensures refused { IfErr result (λ code. row_code (length columns.old) before line.now ≡ Some code) }
-    ensures row { IfOk result (λ ones. (row_code (length columns.old) before line.now ≡ None) × (take ones columns.new ≡ digit_row line.now)) }
-    ensures within { IfOk result (λ ones. ones ≤ length columns.new) }
+    ensures { IsDigitLine (length columns.old) before line.now columns.new result }
 {
+    let Some(digits) = scan(line, table, columns) else {
+        if before >= MAX_ROWS {
+            return DigitLine::Refused(code::LIMIT);
+        }
+        return DigitLine::Refused(code::GRAMMAR);
+    };
+    if digits.all == 0 {
+        return DigitLine::NoRow;
+    }
     if before >= MAX_ROWS {
-        return Err(code::LIMIT);
+        return DigitLine::Refused(code::LIMIT);
     }
-    match scan(line, table, columns) {
-        None => Err(code::GRAMMAR),
-        Some(digits) if digits.all != columns.len() => Err(code::COUNT),
-        Some(digits) => Ok(digits.ones),
+    if digits.all != columns.len() {
+        return DigitLine::Refused(code::COUNT);
     }
+    DigitLine::Row(digits.ones)
 }
 
 // How many digits a line has, and how many columns were written for them.

@@ -9,7 +9,10 @@ mod cells;
 mod clone_names;
 mod clones;
 mod dense;
+mod dense_reader;
 mod digit_blocks;
+mod digit_lines;
+mod digit_rows;
 mod laws;
 mod named_rows;
 mod passing;
@@ -22,6 +25,7 @@ mod table;
 
 pub use clones::{clone_law, read_clones};
 pub use dense::{dense_law, read_dense};
+pub use dense_reader::DenseReader;
 pub use laws::{limits_law, refusal_laws};
 pub use row_model::NoMemory;
 pub use rows_reader::RowsReader;

@@ -72,9 +72,10 @@ impl RowsReader {
     }
 }
 
-// A text from its start on without its mark, and any later part of it as it is.
-fn unmarked(is_begun: bool, text: &[u8]) -> &[u8]
-    ensures { result.now ≡ marked_at_start is_begun text.now }
+/// A text from its start on without its mark, and any later part of it as it is.
+pub(crate) fn unmarked(is_begun: bool, text: &[u8]) -> &[u8]
+    ensures text { result.now ≡ marked_at_start is_begun text.now }
+    ensures within { length result.now ≤ length text.now }
 {
     if is_begun { text } else { without_mark(text) }
 }

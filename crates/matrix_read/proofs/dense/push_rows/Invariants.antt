@@ -1,17 +1,15 @@
-use Rattle.std.proofs.Common.{◌≡◌, ◌≤◌, ◌+◌, ◌-◌, drop, length}
-use Rattle.text_lines.specs.Lines.{lines_of, filled_lines}
-use Rattle.matrix_read.specs.Dense.{digit_row}
-use Rattle.matrix_read.specs.DenseSteps.{row_code, rows_or_refusal}
-use Rattle.matrix_read.specs.RowsThen.{answer_after}
+use Rattle.std.proofs.Common.{◌≡◌, ◌≤◌, ◌+◌, ◌-◌, ◌++◌, ℕ, List, drop, length}
+use Rattle.text_lines.specs.Lines.{lines_of}
+use Rattle.matrix_read.specs.DigitsThen.{digits_then}
 use Rattle.matrix_read.proofs.dense.push_rows.Given as goal
 
-abbrev pub invariant-loop-line : goal.invariant-loop-line
-invariant-loop-line l = record {
+abbrev pub invariant-loop-at : goal.invariant-loop-at
+invariant-loop-at l = record {
   within : l.at ≤ length l.text;
-  few : l.passed ≤ l.at;
+  few : l.line ≤ l.passed + l.at;
   columns : l.matrix.columns ≡ l.initial.matrix.columns;
-  so_far : answer_after (row_code l.matrix.columns) digit_row l.matrix.columns l.matrix.rows (filled_lines (l.passed + 1) (lines_of (drop l.at l.text))) ≡ rows_or_refusal l.initial.matrix.columns (filled_lines 1 (lines_of l.text));
+  so_far : (later : List (List ℕ)) → digits_then l.line l.matrix (lines_of (drop l.at l.text) ++ later) ≡ digits_then l.passed l.initial.matrix (lines_of l.text ++ later);
 }
 
-abbrev pub decreases-loop-line : goal.decreases-loop-line
-decreases-loop-line l = length l.text - l.at
+abbrev pub decreases-loop-at : goal.decreases-loop-at
+decreases-loop-at l = length l.text - l.at

@@ -11,5 +11,5 @@ returns-clause-rows c rest =
     let feed : get_or text last 0 ≡ 10 = eqb-true _ _ c.in-Some.ensures.1 in
     let later = lines_of (drop (last + 1) text ++ rest) in
     c.in_ok-rows.ensures later
-    ∙ ap (λ lines. begun_then c.args.self.rows (lines_of lines ++ later)) c.unmarked-lines.ensures
+    ∙ ap (λ lines. begun_then c.args.self.rows (lines_of lines ++ later)) c.unmarked-lines.ensures.text
     ∙ ap (begun_then c.args.self.rows) (sym (cut_at c.args.self.is_begun text rest last c.in-Some.ensures.0.high feed))

@@ -1,0 +1,85 @@
+// A matrix as lines of digits, read in pieces.
+ghost use Rattle.std.specs.Prelude.{◌≡◌, ◌+◌, ◌≤◌, ℕ, List, ◌++◌, drop, length, IfOk};
+ghost use Rattle.row_model.specs.declared.TheConstants.{MAX_FILE_BYTES};
+ghost use Rattle.matrix_read.specs.Dense.{dense};
+
+use crate::digit_lines::{further, matrix_read};
+use crate::digit_rows::DigitRows;
+use crate::rows::refused;
+use crate::rows_reader::unmarked;
+use memchr::memrchr;
+use row_model::{MAX_FILE_BYTES, Matrix, NoMemory, Read, code};
+use std::alloc::Global;
+
+/// The reader of [`read_dense`](crate::read_dense) over a text that comes in pieces.
+///
+/// The memory is that of the matrix and of one row.
+#[derive(Drop)]
+pub struct DenseReader {
+    is_begun: bool,
+    // How many bytes were taken, and how many lines these have.
+    taken: usize,
+    passed: u32,
+    rows: Option<Read<DigitRows>>,
+    ghost few: { passed ≤ taken },
+    ghost short: { taken ≤ MAX_FILE_BYTES },
+}
+
+impl DenseReader {
+    ghost use Rattle.matrix_read.specs.DigitRows.{dense_with};
+
+    /// A reader that has read nothing.
+    pub fn new() -> Self
+        ensures { (bytes : List ℕ) → dense_with result bytes ≡ dense bytes }
+    {
+        DenseReader {
+            is_begun: false,
+            taken: 0,
+            passed: 0,
+            rows: None,
+        }
+    }
+
+    /// Reads the whole lines at the front of what is left of the text, and tells how many bytes these have.
+    ///
+    /// # Errors
+    ///
+    /// [`NoMemory`] where memory is refused.
+    pub fn take(self, alloc: Global, text: &[u8]) -> Result<(Self, usize), NoMemory>
+        ensures within { IfOk result (λ taken. taken.1 ≤ length text.now) }
+        ensures rows { IfOk result (λ taken. (rest : List ℕ) → dense_with taken.0 (drop taken.1 text.now ++ rest) ≡ dense_with self (text.now ++ rest)) }
+    {
+        if text.len() > MAX_FILE_BYTES as usize - self.taken {
+            return Ok((self, 0));
+        }
+        let Some(last) = memrchr(b'\n', text) else {
+            return Ok((self, 0));
+        };
+        let lines = unmarked(self.is_begun, &text[..last + 1]);
+        let taken = self.taken + last + 1;
+        let read = further(alloc, self.rows, lines, self.passed)?;
+        let reader = DenseReader {
+            is_begun: true,
+            taken,
+            passed: read.passed,
+            rows: read.rows,
+        };
+        Ok((reader, last + 1))
+    }
+
+    /// The matrix of the text, or its first refusal, where these bytes are left of it.
+    ///
+    /// # Errors
+    ///
+    /// [`NoMemory`] where memory is refused.
+    pub fn finish(self, alloc: Global, text: &[u8]) -> Result<Read<Matrix>, NoMemory>
+        ensures { IfOk result (λ read. read ≡ dense_with self text.now) }
+    {
+        if text.len() > MAX_FILE_BYTES as usize - self.taken {
+            return Ok(refused(code::LIMIT, 0));
+        }
+        let lines = unmarked(self.is_begun, text);
+        let read = further(alloc, self.rows, lines, self.passed)?;
+        Ok(matrix_read(read.rows))
+    }
+}
