@@ -11,11 +11,10 @@ use Rattle.row_model.proofs.Limits.{too_long, short_enough}
 use Rattle.text_lines.specs.Lines.{NumberedLine, lines_of, filled_lines}
 use Rattle.text_lines.specs.FirstRefusal.{RefusesLong, HeadRefusals, IsOfFirstLine, filled_of}
 use Rattle.graph_read.specs.Heads.{IsHeadless, IsHead}
-use Rattle.graph_read.specs.GraphFiles.{bigraph_lines, bigraph_behind, graph_lines, graph_behind}
+use Rattle.graph_read.specs.GraphFiles.{bigraph_lines, graph_lines}
 use Rattle.graph_read.specs.Files.{bigraph, graph}
 use Rattle.graph_read.specs.DistanceFiles.{distances, distances_lines, distances_behind}
-use Rattle.graph_read.specs.RefusalLaws.{sides_head, vertices_head, items_head}
-use Rattle.graph_read.specs.declared.edges.Shape.{Shape}
+use Rattle.graph_read.specs.RefusalLaws.{items_head}
 use Rattle.graph_model.specs.declared.TheConstants.{LEFT_BOUND}
 use Rattle.graph_read.proofs.Same.{bigraph_same, graph_same, distances_same}
 
@@ -91,14 +90,6 @@ module _ {V H : Type 0} (file : List ℕ → Read V) (lines : List NumberedLine 
   -- a file with a first line
   at_head : (bytes text line : List ℕ) (number next : ℕ) (found : Result H ℕ) → IsHead bytes text line number next → found ≡ head_in line → file bytes ≡ behind number found (rest_of text number next)
   at_head bytes text line number next found h is = behind_head bytes (record { number = number; text = line }) (rest_of text number next) found h.short h.lines (sym is)
-
-pub bigraph_at : (limit : ℕ) → limit ≤ LEFT_BOUND → (bytes text line : List ℕ) (number next : ℕ) (sides : Result Shape ℕ) → IsHead bytes text line number next → sides ≡ sides_head limit line →
-    bigraph limit bytes ≡ bigraph_behind number sides (rest_of text number next)
-bigraph_at limit small = at_head (bigraph limit) (bigraph_lines limit) bigraph_behind (sides_head limit) (bigraph_reads limit small) (λ head later. refl)
-
-pub graph_at : (bytes text line : List ℕ) (number next : ℕ) (vertices : Result Shape ℕ) → IsHead bytes text line number next → vertices ≡ vertices_head line →
-    graph bytes ≡ graph_behind number vertices (rest_of text number next)
-graph_at = at_head graph graph_lines graph_behind vertices_head graph_reads (λ head later. refl)
 
 pub distances_at : (bytes text line : List ℕ) (number next : ℕ) (items : Result ℕ ℕ) → IsHead bytes text line number next → items ≡ items_head line →
     distances bytes ≡ distances_behind number items (rest_of text number next)

@@ -16,3 +16,7 @@ pub mod Named
 pub mod RefusalLaws
 pub mod TableRefusals
 pub mod Same
+mod PlainLines
+mod CutLemmas
+mod PlacedLemmas
+mod HeadedLemmas

@@ -9,3 +9,6 @@ pub mod DistanceFiles
 pub mod FileLaws
 pub mod RefusalLaws
 pub mod Heads
+pub mod Placed
+pub mod Headings
+pub mod Pieces

@@ -1,59 +1,95 @@
 // The lines of edges of a text, one after another.
-ghost use Rattle.std.specs.Prelude.{◌≡◌, ◌+◌, ◌<◌, ◌≤◌, ◌∷◌, [], length, drop, slice_range, IfOk, IfSome, IfNone};
-ghost use Rattle.text_lines.specs.Lines.{lines_of, filled_lines};
+ghost use Rattle.std.specs.Prelude.{◌≡◌, ◌-◌, ◌<◌, ◌≤◌, ◌∷◌, Some, true, false, length, drop, slice_range, IfOk, IfSome, IfNone};
+ghost use Rattle.text_lines.specs.Lines.{lines_of, is_blank};
 ghost use Rattle.text_lines.specs.Words.{words_of};
 ghost use Rattle.graph_read.specs.Numbers.{two_numbers};
 ghost use Rattle.graph_read.specs.Edges.{left_of, right_of, edge_named};
 
 use crate::edges::{Edge, Shape, edge_between, edge_in};
 use crate::numbers::NumberPair;
-use row_model::MAX_FILE_BYTES;
-use text_lines::{FilledLine, LineSpan, Numeral, next_filled_line, plain_pair};
+use text_lines::{LineSpan, Numeral, PlainPair, line_from, next_word, plain_pair};
 
-/// A line that is not blank, and the edge that it names.
+/// A line, and the edge that it names.
 #[derive(Clone, Copy)]
 pub struct EdgeLine {
-    /// The line.
-    pub line: FilledLine,
-    /// Its edge, or the code of its refusal.
-    pub edge: Result<Edge, u8>,
+    /// Where the line stands.
+    pub span: LineSpan,
+    /// Its edge, or the code of its refusal. A blank line has none.
+    pub edge: Option<Result<Edge, u8>>,
 }
 
-/// The first line from a place on that is not blank, where `passed` lines stand before the place, and its edge.
+/// The line that begins at a place before the end of the text, and its edge.
 ///
 /// A line in the plainest form is read at once, any other word for word.
-pub fn next_edge(shape: Shape, text: &[u8], at: usize, passed: u32) -> Option<EdgeLine>
-    requires short { length text.now ≤ MAX_FILE_BYTES }
-    requires at { at ≤ length text.now }
-    requires passed { passed ≤ at }
-    ensures none { IfNone result (filled_lines (passed + 1) (lines_of (drop at text.now)) ≡ []) }
-    ensures line { IfSome result (λ found. filled_lines (passed + 1) (lines_of (drop at text.now))
-        ≡ record { number = found.line.number; text = slice_range text.now found.line.span.start found.line.span.end }
-        ∷ filled_lines (found.line.number + 1) (lines_of (drop found.line.span.next text.now))) }
-    ensures further { IfSome result (λ found. (at < found.line.span.next) × (found.line.span.next ≤ length text.now)) }
-    ensures number { IfSome result (λ found. found.line.number ≤ found.line.span.next) }
-    ensures edge { IfSome result (λ found. found.edge
-        ≡ edge_named shape (two_numbers (words_of (slice_range text.now found.line.span.start found.line.span.end)))) }
-    ensures from { IfSome result (λ found. IfOk found.edge (λ edge. (1 ≤ edge.from) × (edge.from ≤ left_of shape))) }
-    ensures to { IfSome result (λ found. IfOk found.edge (λ edge. (1 ≤ edge.to) × (edge.to ≤ right_of shape))) }
+#[inline(always)]
+pub fn edge_line(shape: Shape, text: &[u8], at: usize) -> EdgeLine
+    requires { at < length text.now }
+    ensures lines { lines_of (drop at text.now)
+        ≡ slice_range text.now result.span.start result.span.end ∷ lines_of (drop result.span.next text.now) }
+    ensures further { (at < result.span.next) × (result.span.next ≤ length text.now) }
+    ensures blank { IfNone result.edge (is_blank (slice_range text.now result.span.start result.span.end) ≡ true) }
+    ensures filled { IfSome result.edge (λ edge. is_blank (slice_range text.now result.span.start result.span.end) ≡ false) }
+    ensures edge { IfSome result.edge (λ edge. edge
+        ≡ edge_named shape (two_numbers (words_of (slice_range text.now result.span.start result.span.end)))) }
+    ensures from { IfSome result.edge (λ edge. IfOk edge (λ edge. (1 ≤ edge.from) × (edge.from ≤ left_of shape))) }
+    ensures to { IfSome result.edge (λ edge. IfOk edge (λ edge. (1 ≤ edge.to) × (edge.to ≤ right_of shape))) }
 {
-    if let Some(pair) = plain_pair(text, at) {
-        let span = LineSpan {
-            start: at,
-            end: pair.next - 1,
-            next: pair.next,
-        };
-        let number = passed + 1;
-        let numbers = NumberPair {
-            first: Numeral::Value(pair.first),
-            second: Numeral::Value(pair.second),
-        };
-        return Some(EdgeLine {
-            line: FilledLine { number, span },
-            edge: edge_between(shape, numbers),
-        });
+    match plain_pair(text, at) {
+        Some(pair) if text[pair.next - 1] == b'\n' => plain_line(shape, at, pair),
+        _ => any_line(shape, text, at),
     }
-    let line = next_filled_line(text, at, passed)?;
-    let edge = edge_in(shape, &text[line.span.start..line.span.end]);
-    Some(EdgeLine { line, edge })
+}
+
+// The same of a line that is two numbers.
+#[inline(always)]
+fn plain_line(shape: Shape, at: usize, pair: PlainPair) -> EdgeLine
+    requires { at < pair.next }
+    ensures span { result.span ≡ record { start = at; end = pair.next - 1; next = pair.next } }
+    ensures edge { result.edge ≡ Some (edge_named shape (Some (record { first = Numeral.Value pair.first; second = Numeral.Value pair.second }))) }
+    ensures from { IfSome result.edge (λ edge. IfOk edge (λ edge. (1 ≤ edge.from) × (edge.from ≤ left_of shape))) }
+    ensures to { IfSome result.edge (λ edge. IfOk edge (λ edge. (1 ≤ edge.to) × (edge.to ≤ right_of shape))) }
+{
+    let span = LineSpan {
+        start: at,
+        end: pair.next - 1,
+        next: pair.next,
+    };
+    let numbers = NumberPair {
+        first: Numeral::Value(pair.first),
+        second: Numeral::Value(pair.second),
+    };
+    EdgeLine {
+        span,
+        edge: Some(edge_between(shape, numbers)),
+    }
+}
+
+// The same of any line.
+fn any_line(shape: Shape, text: &[u8], at: usize) -> EdgeLine
+    requires { at < length text.now }
+    ensures lines { lines_of (drop at text.now)
+        ≡ slice_range text.now result.span.start result.span.end ∷ lines_of (drop result.span.next text.now) }
+    ensures further { (at < result.span.next) × (result.span.next ≤ length text.now) }
+    ensures blank { IfNone result.edge (is_blank (slice_range text.now result.span.start result.span.end) ≡ true) }
+    ensures filled { IfSome result.edge (λ edge. is_blank (slice_range text.now result.span.start result.span.end) ≡ false) }
+    ensures edge { IfSome result.edge (λ edge. edge
+        ≡ edge_named shape (two_numbers (words_of (slice_range text.now result.span.start result.span.end)))) }
+    ensures from { IfSome result.edge (λ edge. IfOk edge (λ edge. (1 ≤ edge.from) × (edge.from ≤ left_of shape))) }
+    ensures to { IfSome result.edge (λ edge. IfOk edge (λ edge. (1 ≤ edge.to) × (edge.to ≤ right_of shape))) }
+{
+    let span = line_from(text, at);
+    let line = &text[span.start..span.end];
+    let edge = if is_blank(line) {
+        None
+    } else {
+        Some(edge_in(shape, line))
+    };
+    EdgeLine { span, edge }
+}
+
+/// Whether a line has no word.
+pub fn is_blank(line: &[u8]) -> bool
+    ensures { result ≡ is_blank line.now }
+{
+    next_word(line, 0, line.len()).is_none()
 }

@@ -2,9 +2,7 @@
 ghost use Rattle.std.specs.Prelude.{◌≡◌, ◌≤◌, IfOk};
 ghost use Rattle.graph_read.specs.Files.{bigraph, graph};
 
-use crate::edges::{sides_in, vertices_in};
-use crate::heads::{head_of, refusal};
-use crate::read_lists::read_lists;
+use crate::graph_readers::{BigraphReader, GraphReader};
 use graph_model::{Bigraph, Graph, LEFT_BOUND};
 use row_model::{NoMemory, Read};
 use std::alloc::Global;
@@ -33,17 +31,7 @@ pub fn read_bigraph(alloc: Global, bytes: &[u8], left_limit: u32) -> Result<Read
     requires { left_limit ≤ LEFT_BOUND }
     ensures { IfOk result (λ read. read ≡ bigraph left_limit bytes.now) }
 {
-    let head = match head_of(bytes) {
-        Err(refusal) => return Ok(Read::Refused(refusal)),
-        Ok(head) => head,
-    };
-    match sides_in(left_limit, head.line) {
-        Err(code) => Ok(Read::Refused(refusal(code, head.number))),
-        Ok(shape) => match read_lists(alloc, shape, head.text, head.next, head.number)? {
-            Read::Refused(refusal) => Ok(Read::Refused(refusal)),
-            Read::Ok(lists) => Ok(Read::Ok(Bigraph::of_lists(alloc, lists))),
-        },
-    }
+    BigraphReader::new(left_limit).finish(alloc, bytes)
 }
 
 /// Reads a graph from the bytes of a file: a line with the number of vertices, and a line for each edge.
@@ -67,15 +55,5 @@ pub fn read_bigraph(alloc: Global, bytes: &[u8], left_limit: u32) -> Result<Read
 pub fn read_graph(alloc: Global, bytes: &[u8]) -> Result<Read<Graph>, NoMemory>
     ensures { IfOk result (λ read. read ≡ graph bytes.now) }
 {
-    let head = match head_of(bytes) {
-        Err(refusal) => return Ok(Read::Refused(refusal)),
-        Ok(head) => head,
-    };
-    match vertices_in(head.line) {
-        Err(code) => Ok(Read::Refused(refusal(code, head.number))),
-        Ok(shape) => match read_lists(alloc, shape, head.text, head.next, head.number)? {
-            Read::Refused(refusal) => Ok(Read::Refused(refusal)),
-            Read::Ok(lists) => Ok(Read::Ok(Graph::of_lists(alloc, lists))),
-        },
-    }
+    GraphReader::new().finish(alloc, bytes)
 }
