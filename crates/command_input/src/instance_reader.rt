@@ -7,16 +7,24 @@ ghost use Rattle.command_input.specs.InstancePieces.{instance_with};
 
 use crate::NoMemory;
 use crate::instance::map_read;
+use graph_read::{BigraphReader, GraphReader};
 use instance_model::Instance;
 use matrix_read::RowsReader;
-use row_model::{Kind, Read};
+use row_model::{Kind, MAX_COLUMNS, MAX_ROWS, Read};
 use std::alloc::Global;
 
 /// The reader of an instance over a file of at most [`MAX_FILE_BYTES`](row_model::MAX_FILE_BYTES) bytes that come in
 /// pieces.
 #[derive(Drop)]
-pub struct InstanceReader {
-    rows: RowsReader,
+pub enum InstanceReader {
+    /// Of rows that name columns.
+    Rows(RowsReader),
+    /// Of a bipartite graph, whose left side are rows.
+    Convex(BigraphReader),
+    /// Of a bipartite graph, of which both sides are columns.
+    Doubly(BigraphReader),
+    /// Of a graph.
+    Proper(GraphReader),
 }
 
 impl InstanceReader {
@@ -26,9 +34,10 @@ impl InstanceReader {
             → instance_with reader bytes ≡ instance_of kind bytes) }
     {
         match kind {
-            Kind::Rows => Some(InstanceReader {
-                rows: RowsReader::new(),
-            }),
+            Kind::Rows => Some(InstanceReader::Rows(RowsReader::new())),
+            Kind::Convex => Some(InstanceReader::Convex(BigraphReader::new(MAX_ROWS))),
+            Kind::Doubly => Some(InstanceReader::Doubly(BigraphReader::new(MAX_COLUMNS))),
+            Kind::Proper => Some(InstanceReader::Proper(GraphReader::new())),
             _ => None,
         }
     }
@@ -43,8 +52,24 @@ impl InstanceReader {
         ensures value { IfOk result (λ taken. (rest : List ℕ)
             → instance_with taken.0 (drop taken.1 text.now ++ rest) ≡ instance_with self (text.now ++ rest)) }
     {
-        let (rows, taken) = self.rows.take(alloc, text)?;
-        Ok((InstanceReader { rows }, taken))
+        match self {
+            InstanceReader::Rows(rows) => {
+                let (rows, taken) = rows.take(alloc, text)?;
+                Ok((InstanceReader::Rows(rows), taken))
+            }
+            InstanceReader::Convex(graph) => {
+                let (graph, taken) = graph.take(alloc, text)?;
+                Ok((InstanceReader::Convex(graph), taken))
+            }
+            InstanceReader::Doubly(graph) => {
+                let (graph, taken) = graph.take(alloc, text)?;
+                Ok((InstanceReader::Doubly(graph), taken))
+            }
+            InstanceReader::Proper(graph) => {
+                let (graph, taken) = graph.take(alloc, text)?;
+                Ok((InstanceReader::Proper(graph), taken))
+            }
+        }
     }
 
     /// The instance of the file, or its first refusal, where these bytes are left of it.
@@ -55,7 +80,13 @@ impl InstanceReader {
     pub fn finish(self, alloc: Global, text: &[u8]) -> Result<Read<Instance>, NoMemory>
         ensures { IfOk result (λ made. map_read instance_value made ≡ instance_with self text.now) }
     {
-        let read = self.rows.finish(alloc, text)?;
-        Ok(map_read(read, |m| Instance::Plain(Kind::Rows, m)))
+        Ok(match self {
+            InstanceReader::Rows(rows) => {
+                map_read(rows.finish(alloc, text)?, |m| Instance::Plain(Kind::Rows, m))
+            }
+            InstanceReader::Convex(graph) => map_read(graph.finish(alloc, text)?, Instance::Convex),
+            InstanceReader::Doubly(graph) => map_read(graph.finish(alloc, text)?, Instance::Doubly),
+            InstanceReader::Proper(graph) => map_read(graph.finish(alloc, text)?, Instance::Proper),
+        })
     }
 }
