@@ -1,10 +1,11 @@
 -- The instance in the bytes of a file of which a part was read.
 use Rattle.std.specs.Prelude.{ℕ, List}
-use Rattle.row_model.specs.declared.kind.Kind.TheVariants.{Rows}
+use Rattle.row_model.specs.declared.kind.Kind.TheVariants.{Matrix, Rows}
 use Rattle.row_model.specs.declared.refusal.Read.{Read}
+use Rattle.matrix_read.specs.DigitRows.{dense_with}
 use Rattle.matrix_read.specs.NamedRows.{rows_with}
 use Rattle.graph_read.specs.Pieces.{bigraph_then, graph_then}
-use Rattle.instance_model.specs.Instance.{InstanceValue, plain, convex, doubly, proper}
+use Rattle.instance_model.specs.Instance.{InstanceValue, plain, circular, convex, doubly, proper}
 use Rattle.instance_model.specs.declared.instance.Instance.{Instance}
 use Rattle.command_input.specs.Instances.{map_read, ReadsInstance, HoldsInstance}
 use Rattle.command_input.specs.declared.instance_reader.InstanceReader.{InstanceReader}
@@ -13,6 +14,8 @@ use Rattle.row_model.specs.declared.kind.Kind.{Kind}
 
 -- the instance in the bytes of a file of which these are left, or their first refusal
 abbrev pub instance_with : InstanceReader → List ℕ → Read InstanceValue
+instance_with (reader.Matrix dense) text = map_read (plain Matrix) (dense_with dense text)
+instance_with (reader.Circular dense) text = map_read circular (dense_with dense text)
 instance_with (reader.Rows rows) text = map_read (plain Rows) (rows_with rows text)
 instance_with (reader.Convex graph) text = map_read convex (bigraph_then graph text)
 instance_with (reader.Doubly graph) text = map_read doubly (bigraph_then graph text)

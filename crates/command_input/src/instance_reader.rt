@@ -9,7 +9,7 @@ use crate::NoMemory;
 use crate::instance::map_read;
 use graph_read::{BigraphReader, GraphReader};
 use instance_model::Instance;
-use matrix_read::RowsReader;
+use matrix_read::{DenseReader, RowsReader};
 use row_model::{Kind, MAX_COLUMNS, MAX_ROWS, Read};
 use std::alloc::Global;
 
@@ -17,6 +17,10 @@ use std::alloc::Global;
 /// pieces.
 #[derive(Drop)]
 pub enum InstanceReader {
+    /// Of rows of digits.
+    Matrix(DenseReader),
+    /// Of rows of digits round a circle.
+    Circular(DenseReader),
     /// Of rows that name columns.
     Rows(RowsReader),
     /// Of a bipartite graph, whose left side are rows.
@@ -34,6 +38,8 @@ impl InstanceReader {
             → instance_with reader bytes ≡ instance_of kind bytes) }
     {
         match kind {
+            Kind::Matrix => Some(InstanceReader::Matrix(DenseReader::new())),
+            Kind::Circular => Some(InstanceReader::Circular(DenseReader::new())),
             Kind::Rows => Some(InstanceReader::Rows(RowsReader::new())),
             Kind::Convex => Some(InstanceReader::Convex(BigraphReader::new(MAX_ROWS))),
             Kind::Doubly => Some(InstanceReader::Doubly(BigraphReader::new(MAX_COLUMNS))),
@@ -53,6 +59,14 @@ impl InstanceReader {
             → instance_with taken.0 (drop taken.1 text.now ++ rest) ≡ instance_with self (text.now ++ rest)) }
     {
         match self {
+            InstanceReader::Matrix(dense) => {
+                let (dense, taken) = dense.take(alloc, text)?;
+                Ok((InstanceReader::Matrix(dense), taken))
+            }
+            InstanceReader::Circular(dense) => {
+                let (dense, taken) = dense.take(alloc, text)?;
+                Ok((InstanceReader::Circular(dense), taken))
+            }
             InstanceReader::Rows(rows) => {
                 let (rows, taken) = rows.take(alloc, text)?;
                 Ok((InstanceReader::Rows(rows), taken))
@@ -81,8 +95,17 @@ impl InstanceReader {
         ensures { IfOk result (λ made. map_read instance_value made ≡ instance_with self text.now) }
     {
         Ok(match self {
+            InstanceReader::Matrix(dense) => map_read(dense.finish(alloc, text)?, |m| {
+                Instance::Plain(Kind::Matrix, m)
+            }),
+            InstanceReader::Circular(dense) => {
+                map_read(dense.finish(alloc, text)?, Instance::Circular)
+            }
             InstanceReader::Rows(rows) => {
-                map_read(rows.finish(alloc, text)?, |m| Instance::Plain(Kind::Rows, m))
+                map_read(
+                    rows.finish(alloc, text)?,
+                    |m| Instance::Plain(Kind::Rows, m),
+                )
             }
             InstanceReader::Convex(graph) => map_read(graph.finish(alloc, text)?, Instance::Convex),
             InstanceReader::Doubly(graph) => map_read(graph.finish(alloc, text)?, Instance::Doubly),
