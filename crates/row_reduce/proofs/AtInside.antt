@@ -61,9 +61,16 @@ pub in_run : {f : Layout} {v : Marks} {row : List ℕ} (s : AtFoundInside f v ro
     occurs (children_at f s.found.run.q) k ≡ occurs s.found.run.us k + occurs s.found.run.ks k + occurs s.found.run.vs k
 in_run s k = ap (λ z. occurs z k) s.found.run.kids_are ∙ omega (arith, occurs-append s.found.run.us (s.found.run.ks ++ s.found.run.vs) k, occurs-append s.found.run.ks s.found.run.vs k)
 
--- the Q-node holds the row, and none of its children does
-pub inside_least : {f : Layout} {v : Marks} {row : List ℕ} (s : AtFoundInside f v row) → IsPertinentRoot row (outline_at f) (outline_below f s.found.run.q)
-inside_least {f = f} {row = row} s = root_is f row run.q s.ground.layout s.ground.one (row_within f.columns row s.ground.is_row) s.ground.used run.holds no_child
+-- no child of the Q-node holds the row
+pub inside_no_child : {f : Layout} {v : Marks} {row : List ℕ} (s : AtFoundInside f v row) → (k : ℕ) → 1 ≤ occurs (children_at f s.found.run.q) k → Holds f (column_leaves row) k → ⊥
+inside_no_child {f = f} {row = row} s k o holds =
+    let j = another run.ks k run.some run_once in
+    let m : Meets f (column_leaves row) j.0 = run.meet j.0 j.1 in
+    let oj : 1 ≤ occurs (children_at f run.q) j.0 = (let i : 1 ≤ occurs run.ks j.0 = j.1 in omega (arith, in_run s j.0)) in
+    elim (one_path f k j.0 m.0 s.ground.layout (holds m.0 m.1) m.2) [
+      | inl p ↦ apart_children f run.q k j.0 s.ground.layout o oj p (λ e. j.2 (sym e))
+      | inr p ↦ apart_children f run.q j.0 k s.ground.layout oj o p j.2
+    ]
   where
     run : Inside f (column_leaves row)
     run = s.found.run
@@ -71,15 +78,10 @@ inside_least {f = f} {row = row} s = root_is f row run.q s.ground.layout s.groun
     run_once : (x : ℕ) → occurs run.ks x ≤ 1
     run_once x = let o : occurs (children_at f run.q) x ≤ 1 = once f run.q x s.ground.layout in omega (arith, in_run s x)
 
-    no_child : (k : ℕ) → 1 ≤ occurs (children_at f run.q) k → Holds f (column_leaves row) k → ⊥
-    no_child k o holds =
-        let j = another run.ks k run.some run_once in
-        let m : Meets f (column_leaves row) j.0 = run.meet j.0 j.1 in
-        let oj : 1 ≤ occurs (children_at f run.q) j.0 = (let i : 1 ≤ occurs run.ks j.0 = j.1 in omega (arith, in_run s j.0)) in
-        elim (one_path f k j.0 m.0 s.ground.layout (holds m.0 m.1) m.2) [
-          | inl p ↦ apart_children f run.q k j.0 s.ground.layout o oj p (λ e. j.2 (sym e))
-          | inr p ↦ apart_children f run.q j.0 k s.ground.layout oj o p j.2
-        ]
+-- the Q-node holds it
+pub inside_least : {f : Layout} {v : Marks} {row : List ℕ} (s : AtFoundInside f v row) → IsPertinentRoot row (outline_at f) (outline_below f s.found.run.q)
+inside_least {f = f} {row = row} s =
+    root_is f row s.found.run.q s.ground.layout s.ground.one (row_within f.columns row s.ground.is_row) s.ground.used s.found.run.holds (inside_no_child s)
 
 -- it has no label, so it is none of the labelled nodes
 pub not_inside : {f : Layout} {v : Marks} {row : List ℕ} (s : AtFoundInside f v row) → (i : ℕ) → i < length v.nodes → node_in v i ≢ s.found.run.q

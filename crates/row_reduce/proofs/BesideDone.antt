@@ -27,7 +27,7 @@ use Rattle.pq_arena.specs.RowNodes.{column_leaves, indices}
 use Rattle.bubble_pass.specs.declared.labels.Label.TheVariants.{Full}
 use Rattle.bubble_pass.specs.Fair.{AtMost}
 use Rattle.bubble_pass.specs.Sweep.{IsRight}
-use Rattle.full_pass.specs.Answer.{IsBesideRun}
+use Rattle.full_pass.specs.Answer.{IsBesideRun, IsRowKept}
 use Rattle.template_model.specs.Standing.{child_trees}
 use Rattle.template_model.specs.Treated.{IsReplacedAt}
 use Rattle.template_model.proofs.Replaced.{join_paths}
@@ -36,11 +36,12 @@ use Rattle.templates_p.specs.Members.{member_labels}
 use Rattle.row_reduce.specs.Outcome.{IsOutcome}
 use Rattle.row_reduce.proofs.Blocks.{trees_at, labels_for, labels_each, labels_then, front_labels, front_made, rear_labels, rear_made}
 use Rattle.row_reduce.proofs.Divided.{IsDone, can_before, can_behind, divided_before, divided_behind, front_turned, rear_turned, sibling_kept, q_turned}
-use Rattle.row_reduce.proofs.FilledPart.{PartsOf, part_meets, part_label, parts_of, few_members}
+use Rattle.row_reduce.proofs.FilledPart.{PartsOf, some_member, part_meets, part_not_full, part_label, parts_of, few_members}
 use Rattle.row_reduce.proofs.GroupDone.{asked}
 use Rattle.row_reduce.proofs.Kept.{IsAsked, once, full_is, full_meets, both_above, two_meet, root_reduced}
 use Rattle.row_reduce.proofs.Labelling.{below_q}
 use Rattle.row_reduce.proofs.Leaves.{empty_is}
+use Rattle.row_reduce.proofs.Whole.{full_below}
 use Rattle.row_reduce.proofs.RowDone.{MetLaw, IsRowOver, met_most, met_below, few_below}
 
 -- the full pass found some children of the P-node n
@@ -99,15 +100,20 @@ module _ (f : Layout) (row : List ℕ) (n t : ℕ) (ms : List ℕ) (s : IsAsked 
   pub beside_root : IsPertinentRoot row (outline_at f) (outline_below f b.q)
   beside_root = root_is f row b.q s.layout s.one (row_within f.columns row s.is_row) used (λ x o. let k = holder x o in down b.q k.0 x (holder_in k.0 k.1) k.2) least
     where
-      some_in : (ks : List ℕ) → 1 ≤ length ks → (k : ℕ) × (1 ≤ occurs ks k)
-      some_in [] l = absurd (omega arith)
-      some_in (k ∷ ks) l = (k, occurs_here k ks)
-
       least : (k : ℕ) → 1 ≤ occurs (children_at f b.q) k → Holds f (column_leaves row) k → ⊥
       least =
-          let k = some_in b.ks b.some in
+          let k = some_member b.ks b.some in
           let o : 1 ≤ occurs b.ks k.0 = k.1 in
           two_meet s b.q k.0 n (run_in k.0 o) n_in (other k.0 (omega arith)) (full_meets s k.0 (child_used f b.q k.0 s.layout (run_in k.0 o)) (run_full k.0 o)) (part_meets f row n ms s b.part)
+
+  -- the tree doesn't keep the row
+  pub beside_moves : IsRowKept f (column_leaves row) → ⊥
+  beside_moves kept =
+      let k = some_member b.ks b.some in
+      let o : 1 ≤ occurs b.ks k.0 = k.1 in
+      let m = full_meets s k.0 (child_used f b.q k.0 s.layout (run_in k.0 o)) (run_full k.0 o) in
+      part_not_full f row n ms s b.part (full_below s.layout kept n (part_meets f row n ms s b.part)
+      (two_meet s b.q k.0 n (run_in k.0 o) n_in (other k.0 (omega arith)) m (part_meets f row n ms s b.part) n n_in))
 
   full : (k : ℕ) → 1 ≤ occurs b.ks k → IsLabel row (outline_below f k) full_label
   full k o = full_is f row k s.layout s.is_row (child_used f b.q k s.layout (run_in k o)) (run_full k o)

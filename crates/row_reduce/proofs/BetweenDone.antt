@@ -28,7 +28,7 @@ use Rattle.bubble_pass.specs.declared.labels.Label.TheVariants.{Full}
 use Rattle.bubble_pass.specs.Fair.{AtMost}
 use Rattle.bubble_pass.specs.Sweep.{IsRight}
 use Rattle.full_pass.specs.declared.settled.End.{End}
-use Rattle.full_pass.specs.Answer.{IsFullNode, IsFilledPart, IsBetween}
+use Rattle.full_pass.specs.Answer.{IsFullNode, IsFilledPart, IsBetween, IsRowKept}
 use Rattle.template_model.specs.Standing.{child_trees}
 use Rattle.template_model.specs.Treated.{IsReplacedAt}
 use Rattle.template_model.proofs.Replaced.{join_paths}
@@ -39,11 +39,12 @@ use Rattle.row_reduce.proofs.AtRoot.{first_leaf}
 use Rattle.row_reduce.proofs.Blocks.{trees_at, labels_for, labels_each, labels_then, both_labels, both_made}
 use Rattle.row_reduce.proofs.Divided.{IsDone, relisted, can_before, can_behind, divided_before, divided_behind, both_turned, sibling_kept, q_turned}
 use Rattle.row_reduce.proofs.Ending.{IsExchanged}
-use Rattle.row_reduce.proofs.FilledPart.{PartsOf, part_meets, part_label, parts_of, few_members}
+use Rattle.row_reduce.proofs.FilledPart.{PartsOf, part_meets, part_not_full, part_label, parts_of, few_members}
 use Rattle.row_reduce.proofs.GroupDone.{asked}
 use Rattle.row_reduce.proofs.Kept.{IsAsked, once, full_is, both_above, two_meet, root_exchanged}
 use Rattle.row_reduce.proofs.Labelling.{below_q}
 use Rattle.row_reduce.proofs.Leaves.{empty_is}
+use Rattle.row_reduce.proofs.Whole.{full_below}
 use Rattle.row_reduce.proofs.RowDone.{MetLaw, IsRowOver, met_most, met_below, few_below}
 use Rattle.row_reduce.proofs.Twice.{exchanged_twice, still_some, still_sorted, still_there}
 
@@ -122,6 +123,12 @@ module _ (f : Layout) (row : List ℕ) (a : ℕ) (xs : List ℕ) (b : ℕ) (ys :
   pub span_root : IsPertinentRoot row (outline_at f) (outline_below f q)
   span_root = root_is f row q s.layout s.one (row_within f.columns row s.is_row) used (λ x o. let k = p.covers x o in down q k.0 x (holder_in k.0 k.1) k.2)
       (two_meet s q a b front_in rear_in two_nodes (part_meets f row a xs s p.front) (part_meets f row b ys s p.rear))
+
+  -- the tree doesn't keep the row
+  pub span_moves : IsRowKept f (column_leaves row) → ⊥
+  span_moves kept =
+      let m = part_meets f row a xs s p.front in
+      part_not_full f row a xs s p.front (full_below s.layout kept a m (two_meet s q a b front_in rear_in two_nodes m (part_meets f row b ys s p.rear) a front_in))
 
   full : (k : ℕ) → 1 ≤ occurs ks k → IsLabel row (outline_below f k) full_label
   full k o = full_is f row k s.layout s.is_row (child_used f q k s.layout (run_in k o)) (run_full k o)
@@ -336,6 +343,13 @@ module _ {f : Layout} {row : List ℕ} {n t : ℕ} {ms : List ℕ} {o u : ℕ} {
   between_root = elim b.place [
     | inl e ↦ span_root f row n ms o os b.q b.us b.ks b.vs s (before_run b e.0)
     | inr e ↦ span_root f row o os n ms b.q b.us b.ks b.vs s (behind_run b e.0)
+  ]
+
+  -- the tree doesn't keep the row
+  pub between_moves : IsRowKept f (column_leaves row) → ⊥
+  between_moves kept = elim b.place [
+    | inl e ↦ span_moves f row n ms o os b.q b.us b.ks b.vs s (before_run b e.0) kept
+    | inr e ↦ span_moves f row o os n ms b.q b.us b.ks b.vs s (behind_run b e.0) kept
   ]
 
   both_in : (1 ≤ occurs (children_at f b.q) n) × (1 ≤ occurs (children_at f b.q) o)

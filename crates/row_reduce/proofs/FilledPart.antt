@@ -18,7 +18,7 @@ use Rattle.pq_arena.specs.RowNodes.{column_leaves}
 use Rattle.bubble_pass.specs.declared.labels.Label.TheVariants.{Full}
 use Rattle.bubble_pass.specs.Fair.{AtMost}
 use Rattle.bubble_pass.specs.Sweep.{IsRight}
-use Rattle.full_pass.specs.Answer.{IsFilledPart}
+use Rattle.full_pass.specs.Answer.{IsFilledPart, IsFullNode}
 use Rattle.template_model.specs.Standing.{child_trees}
 use Rattle.template_model.proofs.Replaced.{join_paths}
 use Rattle.templates_p.specs.Members.{member_labels}
@@ -87,7 +87,7 @@ two_parts ts no_tree fs ps s a b = absurd (omega arith)
 two_parts ts (tree_and e es) no_tree ps s a b = absurd (omega arith)
 two_parts ts (tree_and e es) (tree_and f fs) ps s a b = record { below = refl; e = e; es = es; f = f; fs = fs; pattern = s; becomes = refl }
 
-some_member : (ms : List ℕ) → 1 ≤ length ms → (k : ℕ) × (1 ≤ occurs ms k)
+pub some_member : (ms : List ℕ) → 1 ≤ length ms → (k : ℕ) × (1 ≤ occurs ms k)
 some_member [] l = absurd (omega arith)
 some_member (k ∷ ms) l = (k, occurs_here k ms)
 
@@ -137,6 +137,13 @@ module _ (f : Layout) (row : List ℕ) (n : ℕ) (ms : List ℕ) (s : IsAsked f 
         let m : length ms < length (children_at f n) = g.not_all in
         absurd (omega arith)
   ]
+
+  -- it isn't full
+  pub part_not_full : IsFullNode f (column_leaves row) n → ⊥
+  part_not_full full =
+      let k = other_child in
+      let below : Meets f (column_leaves row) k.0 = full_meets s k.0 (child_in k.0 k.1) (λ x a l e. full x (a, e) (down n k.0 x k.1 l)) in
+      let z : false ≡ true = sym k.2 ∙ has_from_occurs ms k.0 (g.others k.0 k.1 below) in cc
 
   pub parts_of : PartsOf (child_trees f n) (member_labels ms (children_at f n))
   parts_of =

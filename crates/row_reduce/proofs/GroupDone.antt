@@ -16,17 +16,18 @@ use Rattle.arena_model.specs.NamedTree.{outline_below, outline_at, HasTwoEach}
 use Rattle.arena_model.proofs.Slots.{used_by}
 use Rattle.pq_arena.specs.declared.node.NodeId.{NodeId}
 use Rattle.pq_arena.specs.RowNodes.{column_leaves, indices}
-use Rattle.full_pass.specs.Answer.{IsFilledPart, IsGroup}
+use Rattle.full_pass.specs.Answer.{IsFilledPart, IsGroup, IsRowKept}
 use Rattle.template_model.specs.Standing.{child_trees}
 use Rattle.template_model.specs.Treated.{IsReplacedAt, StandsForTree}
 use Rattle.templates_p.specs.Members.{AreMembers, member_labels}
 use Rattle.row_reduce.specs.Outcome.{IsOutcome}
 use Rattle.row_reduce.proofs.AtRoot.{first_leaf}
-use Rattle.row_reduce.proofs.FilledPart.{part_used, member_full, part_labels, few_members}
+use Rattle.row_reduce.proofs.FilledPart.{part_used, part_not_full, member_full, part_labels, few_members}
 use Rattle.row_reduce.proofs.Kept.{IsAsked, none_holds, root_reduced}
 use Rattle.row_reduce.proofs.Labelling.{below_p}
 use Rattle.arena_model.proofs.Nodes.{root_is}
 use Rattle.row_model.proofs.Ascending.{row_within}
+use Rattle.row_reduce.proofs.Whole.{whole_p}
 use Rattle.row_reduce.proofs.RowDone.{MetLaw, IsRowOver, row_over_arena, met_most, met_below, few_below}
 
 -- the full pass found a group of children of the P-node n
@@ -45,6 +46,12 @@ module _ (f : Layout) (row : List ℕ) (n : ℕ) (ms : List ℕ) (s : IsAsked f 
   is_root = root_is f row n s.layout s.one (row_within f.columns row s.is_row) (part_used f row n ms s part)
       (λ x o. let k = g.below.covers x o in down n k.0 x (g.child k.0 k.1) k.2)
       (none_holds s n ms g.two g.once (λ k o. (g.child k o, member_full f row n ms s part k o)))
+
+  -- the tree doesn't keep the row
+  pub group_moves : IsRowKept f (column_leaves row) → ⊥
+  group_moves kept =
+      part_not_full f row n ms s part (whole_p s.layout kept s.leaf s.in_row n g.is_p (λ x o. let k = g.below.covers x o in down n k.0 x (g.child k.0 k.1) k.2)
+      (none_holds s n ms g.two g.once (λ k o. (g.child k o, member_full f row n ms s part k o))))
 
   made : (u : Outline) → IsP2 true (child_trees f n) (member_labels ms (children_at f n)) u → IsRootMade row (outline_below f n) u
   made u is = subst (λ z. IsRootMade row z u) (sym (below_p f n s.layout g.is_p)) (member_labels ms (children_at f n), part_labels f row n ms s part, root_p2 u is)

@@ -25,7 +25,7 @@ use Rattle.row_reduce.specs.Becomes.{Becomes, Stands}
 use Rattle.row_reduce.specs.Applying.{AreApplied, placed}
 use Rattle.row_reduce.specs.Decided.{template_in, labelled_at, AreDecided, AreChosen}
 use Rattle.row_reduce.specs.Outcome.{IsOutcome, AtFoundInside}
-use Rattle.templates_q.specs.Span.{labelled_in, IsRunMeant, CanAskQ3, CanApplyQ3, AreKeptBelow, BecomesQ3}
+use Rattle.templates_q.specs.Span.{labelled_in, IsRunMeant, CanAskQ3, CanApplyQ3, HasNoPartial, AreKeptBelow, BecomesQ3}
 use Rattle.templates_q.specs.Fits.{FitsQ3}
 use Rattle.row_reduce.proofs.Answering.{ChildrenNow}
 use Rattle.row_reduce.proofs.Stepping.{placed_here}
@@ -200,6 +200,12 @@ pub run_taken : {f g h : Layout} {v w u : Marks} {row : List ℕ} {ts : List Tem
 run_taken {f = f} {h = h} {u = u} {a = a} s law k hk replaced becomes =
     let r : IsReplacedAt h k s.last.found.found.run.q s.last.found.found.run.q = replaced (is_meant s) s.last.found.found.run.q (run_in s) in
     (reduced_inside k law (run_step s) hk r (becomes (is_meant s) s.last.found.found.run.q (run_in s)), r.one, r.columns ∙ (run_step s).step.applied.columns)
+
+-- Q3 changes nothing where no child is partial
+pub run_unmoved : {f g h : Layout} {v w u : Marks} {row : List ℕ} {ts : List Template} {place : ℕ → ℕ} {t : Template} {n a : ℕ} (s : RunTurn f g h v w u row ts place t n a) →
+    (k : Layout) → (IsRunMeant u true → (q : ℕ) → IsInMarkedRun h u q a → HasNoPartial h u q → k ≡ h) →
+    ((r : AtFoundInside f v row) → HasNoPartial h u r.found.run.q) → k ≡ h
+run_unmoved s k same plain = same (is_meant s) s.last.found.found.run.q (run_in s) (plain s.last.found)
 
 pub run_room : {f g h : Layout} {v w u : Marks} {row : List ℕ} {ts : List Template} {place : ℕ → ℕ} {t : Template} {n a : ℕ} → RunTurn f g h v w u row ts place t n a →
     (k : Layout) (x : Marks) → (IsRunMeant u true → (q : ℕ) → IsInMarkedRun h u q a → AreKeptBelow h k u x q) → size_of x ≡ size_of v

@@ -33,3 +33,6 @@ pub mod Kept
 pub mod Staying
 pub mod Frugality
 pub mod Asking
+pub mod Whole
+pub mod Quiet
+pub mod Unmoved

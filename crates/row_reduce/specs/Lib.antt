@@ -7,3 +7,4 @@ pub mod Ground
 pub mod Decided
 pub mod Outcome
 pub mod Reducer
+pub mod Still

@@ -1,10 +1,12 @@
 // The chosen templates applied.
-ghost use Rattle.std.specs.Prelude.{ℕ, ◌+◌, ◌*◌, ◌≤◌, List, take, sum_by};
+ghost use Rattle.std.specs.Prelude.{◌≡◌, ℕ, ◌+◌, ◌*◌, ◌≤◌, ◌<◌, List, take, sum_by};
+ghost use Rattle.bubble_pass.specs.Pass.{node_in};
 ghost use Rattle.template_model.specs.Standing.{IsReady};
 ghost use Rattle.template_model.specs.Treated.{IsTreated};
 ghost use Rattle.row_reduce.specs.Applying.{AreApplied};
 ghost use Rattle.row_reduce.specs.Becomes.{CanApply, Becomes};
 ghost use Rattle.row_reduce.specs.Decided.{labelled_at, AreChosen};
+ghost use Rattle.row_reduce.specs.Still.{IsStill};
 
 use crate::template::Template;
 use bubble_pass::Work;
@@ -25,6 +27,7 @@ pub fn apply_one<L: Ledger>(
     requires stands { CanApply template arena.old work.old node.index }
     ensures treated { IsTreated arena.old arena.new work.old work.new node.index result.index }
     ensures becomes { Becomes template arena.old arena.new work.old work.new node.index result.index }
+    ensures still { IsStill arena.old work.old node.index → (arena.new ≡ arena.old) × (work.new ≡ work.old) }
     ensures ticks { steps.new ≤ steps.old + 64 * (labelled_at work.old node.index + 1) }
 {
     arena.layout_law();
@@ -54,6 +57,7 @@ fn apply_at<L: Ledger>(
     requires stands { CanApply template arena.old work.old node.index }
     ensures treated { IsTreated arena.old arena.new work.old work.new node.index result.index }
     ensures becomes { Becomes template arena.old arena.new work.old work.new node.index result.index }
+    ensures still { IsStill arena.old work.old node.index → (arena.new ≡ arena.old) × (work.new ≡ work.old) }
     ensures ticks { steps.new ≤ steps.old + 64 * (labelled_at work.old node.index + 1) }
 {
     arena.layout_law();
@@ -74,6 +78,7 @@ pub fn apply_chosen<L: Ledger>(
     requires chosen { (row : List ℕ) × (q : ℕ) × AreChosen arena.old work.old row q chosen.now count }
     ensures applied { (row : List ℕ) (q : ℕ) → AreChosen arena.old work.old row q chosen.now count →
         (place : ℕ → ℕ) × AreApplied arena.old work.old row (take count work.old.nodes) place arena.new work.new }
+    ensures still { ((i : ℕ) → i < count → IsStill arena.old work.old (node_in work.old i)) → (arena.new ≡ arena.old) × (work.new ≡ work.old) }
     ensures ticks { steps.new ≤ steps.old + sum_by (λ n. 64 * (labelled_at work.old n + 1)) (take count work.old.nodes) }
 {
     arena.layout_law();

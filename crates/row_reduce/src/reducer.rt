@@ -8,6 +8,8 @@ ghost use Rattle.tied_law.specs.Tied.{IsTied};
 ghost use Rattle.template_theory.specs.Reduced.{IsReduced};
 ghost use Rattle.template_theory.specs.Frugal.{IsFrugal};
 ghost use Rattle.arena_model.specs.NamedTree.{outline_at};
+ghost use Rattle.arena_model.specs.RowLeaves.{column_leaves};
+ghost use Rattle.full_pass.specs.Answer.{IsRowKept};
 
 use crate::rows::reduce_arena;
 use crate::template::Template;
@@ -105,6 +107,7 @@ impl ArenaReducer {
             steps.new ≤ steps.old + 4 * length (row_at m.now.rows k) + 252 * (nodes_met_below_root (row_at m.now.rows k) (outline_at self.old) + 1) }
         ensures amortised { IsFrugal (row_at m.now.rows k) (outline_at self.old) (outline_at self.new) steps.old steps.new result }
         ensures empty { row_at m.now.rows k ≡ [] → (self.new ≡ self.old) × (steps.new ≡ steps.old) }
+        ensures kept { IsRowKept self.old (column_leaves (row_at m.now.rows k)) → (result ≡ Step.Taken) × (self.new ≡ self.old) }
     {
         self.reduce_after(m, k, steps)
     }
@@ -115,7 +118,9 @@ impl ArenaReducer {
     /// After `Taken` it is tied to them and row `k` behind them. `Refused` comes exactly where these have no valid order,
     /// and the tree is as before then.
     ///
-    /// An empty row is taken at once: without a tick, and nothing changes.
+    /// An empty row is taken at once: without a tick, and nothing changes. Nor does anything change where the leaves
+    /// of the row are those at or below one node, or below neighbouring children of a Q-node, so that every order of the
+    /// tree keeps it already: it is taken, and the arena is the same, not only up to turning.
     ///
     /// It ticks at most 256 times for each node that the row meets, and 256 times more. Where the row is taken, it
     /// ticks at most 252 times for each of these nodes at or below the smallest that holds the row, 252 times more, and
@@ -150,6 +155,7 @@ impl ArenaReducer {
             steps.new ≤ steps.old + 4 * length (row_at m.now.rows k) + 252 * (nodes_met_below_root (row_at m.now.rows k) (outline_at self.old) + 1) }
         ensures amortised { IsFrugal (row_at m.now.rows k) (outline_at self.old) (outline_at self.new) steps.old steps.new result }
         ensures empty { row_at m.now.rows k ≡ [] → (self.new ≡ self.old) × (steps.new ≡ steps.old) }
+        ensures kept { IsRowKept self.old (column_leaves (row_at m.now.rows k)) → (result ≡ Step.Taken) × (self.new ≡ self.old) }
     {
         ticks_law();
         reduce_law();

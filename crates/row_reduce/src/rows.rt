@@ -3,7 +3,8 @@ ghost use Rattle.std.specs.Prelude.{◌≡◌, ◌≢◌, ℕ, ◌+◌, ◌*◌,
 ghost use Rattle.row_model.specs.Graph.{row_at};
 ghost use Rattle.pq_tree.specs.Amortised.{nodes_met, nodes_met_below_root};
 ghost use Rattle.arena_model.specs.NamedTree.{IsOneTree, HasTwoEach, outline_at};
-ghost use Rattle.pq_arena.specs.RowNodes.{indices};
+ghost use Rattle.pq_arena.specs.RowNodes.{column_leaves, indices};
+ghost use Rattle.full_pass.specs.Answer.{IsRowKept};
 ghost use Rattle.bubble_pass.specs.Marks.{size_of};
 ghost use Rattle.row_reduce.specs.Outcome.{CanTakeRow, IsOutcome, AtFoundBetween, AtFoundRoot, AtFoundInside};
 
@@ -42,6 +43,7 @@ pub fn reduce_arena<L: Ledger>(
     ensures below { result ≡ Step.Taken →
         steps.new ≤ steps.old + 4 * length (row_at m.now.rows k) + 252 * (nodes_met_below_root (row_at m.now.rows k) (outline_at arena.old) + 1) }
     ensures empty { row_at m.now.rows k ≡ [] → (arena.new ≡ arena.old) × (steps.new ≡ steps.old) }
+    ensures kept { IsRowKept arena.old (column_leaves (row_at m.now.rows k)) → (result ≡ Step.Taken) × (arena.new ≡ arena.old) }
 {
     arena.layout_law();
     arena.arities_law();
@@ -109,6 +111,7 @@ fn reduce_by_templates<L: Ledger>(
     requires some { row_at m.now.rows k ≢ [] }
     ensures outcome { IsOutcome (row_at m.now.rows k) arena.old arena.new result }
     ensures room { size_of work.new ≡ size_of work.old }
+    ensures kept { IsRowKept arena.old (column_leaves (row_at m.now.rows k)) → (result ≡ Step.Taken) × (arena.new ≡ arena.old) }
     ensures ticks { steps.new ≤ steps.old + 248 * (nodes_met (row_at m.now.rows k) (outline_at arena.old) + 1) }
     ensures below { result ≡ Step.Taken →
         steps.new ≤ steps.old + 248 * (nodes_met_below_root (row_at m.now.rows k) (outline_at arena.old) + 1) }
@@ -136,6 +139,7 @@ fn reduce_root<L: Ledger>(
     requires found { (row : List ℕ) × AtFoundRoot arena.old work.old row root.index }
     requires chosen { length work.old.nodes ≤ length chosen.old }
     ensures outcome { (row : List ℕ) → AtFoundRoot arena.old work.old row root.index → IsOutcome row arena.old arena.new result }
+    ensures kept { (row : List ℕ) → AtFoundRoot arena.old work.old row root.index → IsRowKept arena.old (column_leaves row) → arena.new ≡ arena.old }
     ensures room { size_of work.new ≡ size_of work.old }
     ensures ticks { steps.new ≤ steps.old + 178 * length work.old.nodes }
 {
@@ -161,6 +165,7 @@ fn reduce_inside<L: Ledger>(
     requires found { (row : List ℕ) × AtFoundInside arena.old work.old row }
     requires chosen { length work.old.nodes ≤ length chosen.old }
     ensures outcome { (row : List ℕ) → AtFoundInside arena.old work.old row → IsOutcome row arena.old arena.new result }
+    ensures kept { (row : List ℕ) → AtFoundInside arena.old work.old row → IsRowKept arena.old (column_leaves row) → arena.new ≡ arena.old }
     ensures room { size_of work.new ≡ size_of work.old }
     ensures ticks { steps.new ≤ steps.old + 178 * length work.old.nodes + 68 }
 {

@@ -14,3 +14,4 @@ pub mod Opening
 pub mod Twice
 pub mod Laying
 pub mod Done
+pub mod Plain

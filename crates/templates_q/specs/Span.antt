@@ -84,6 +84,10 @@ pub record IsStretch (f : Layout) (w : Marks) (q : ℕ) (s : PassedSpan) : Type 
 abbrev pub IsRunMeant : Marks → Bool → Type 0
 IsRunMeant w root = (w.inside ≡ true) × (root ≡ true)
 
+-- no child of n is partial
+abbrev pub HasNoPartial : Layout → Marks → ℕ → Type 0
+HasNoPartial f w n = (k : ℕ) → 1 ≤ occurs (children_at f n) k → label_at w k ≢ Partial
+
 -- what it asks of n to tell whether Q3 fits: as for any template, or that n is one of the run
 pub record CanAskQ3 (f : Layout) (w : Marks) (n : ℕ) (root : Bool) : Type 0 where
   pub at : (IsRunMeant w root → ⊥) → IsReady f w n

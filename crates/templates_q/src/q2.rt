@@ -7,6 +7,7 @@ ghost use Rattle.template_model.specs.Treated.{IsTreated, BecomesPartial};
 ghost use Rattle.templates_q.specs.Walk.{IsChildGap};
 ghost use Rattle.templates_q.specs.Lines.{AreCounted, IsRunFrom};
 ghost use Rattle.templates_q.specs.Fits.{FitsQ2, StandsQ2};
+ghost use Rattle.templates_q.specs.Span.{HasNoPartial};
 ghost use Rattle.templates_q.specs.Splicing.{IsPartialLine};
 ghost use Rattle.pq_arena.specs.Looks.{ShowsNode};
 ghost use Rattle.arena_model.specs.declared.Shape.TheVariants.{Q};
@@ -178,6 +179,8 @@ pub fn apply_q2<L: Ledger>(
     requires stands { StandsQ2 arena.old work.old node.index }
     ensures treated { IsTreated arena.old arena.new work.old work.new node.index result.index }
     ensures becomes { BecomesPartial arena.old arena.new work.old work.new node.index result.index (IsQ2 (child_trees arena.old node.index)) }
+    ensures unchanged { HasNoPartial arena.old work.old node.index → arena.new ≡ arena.old }
+    ensures work { work.new ≡ work.old }
     ensures ticks { steps.new ≤ steps.old + 64 * (fulls_at work.old node.index + partials_at work.old node.index + 1) }
 {
     arena.layout_law();

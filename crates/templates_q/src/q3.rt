@@ -11,7 +11,7 @@ ghost use Rattle.template_model.specs.Standing.{IsReady, IsReadyInside, IsInMark
 ghost use Rattle.template_model.specs.Treated.{IsTreated, IsReplacedAt};
 ghost use Rattle.templates_q.specs.Fits.{FitsQ3};
 ghost use Rattle.templates_q.specs.Opening.{AreOpened, AreShaped, CanOpen, CanOpenCounted, IsOpenedAt};
-ghost use Rattle.templates_q.specs.Span.{AreKeptBelow, BecomesQ3, CanApplyQ3, CanAskQ3, IsRunMeant, IsStretch, StandsQ3, labelled_in};
+ghost use Rattle.templates_q.specs.Span.{AreKeptBelow, BecomesQ3, CanApplyQ3, CanAskQ3, HasNoPartial, IsRunMeant, IsStretch, StandsQ3, labelled_in};
 ghost use Rattle.templates_q.specs.Splicing.{IsSplicedIn};
 ghost use Rattle.templates_q.specs.Walk.{IsFirst, IsChildGap};
 
@@ -156,6 +156,7 @@ fn apply_at<L: Ledger>(arena: &mut Arena, work: &Work, node: NodeId, steps: &mut
     requires stands { StandsQ3 arena.old work.now node.index }
     ensures treated { IsTreated arena.old arena.new work.now work.now node.index node.index }
     ensures becomes { BecomesQ3 arena.old arena.new work.now node.index node.index }
+    ensures unchanged { HasNoPartial arena.old work.now node.index → arena.new ≡ arena.old }
     ensures ticks { steps.new ≤ steps.old + 64 * (fulls_at work.now node.index + partials_at work.now node.index + 1) }
 {
     arena.layout_law();
@@ -179,6 +180,7 @@ fn apply_around<L: Ledger>(
     ensures kept { (q : ℕ) → IsInMarkedRun arena.old work.now q node.index → AreKeptBelow arena.old arena.new work.now work.now q }
     ensures child { (q : ℕ) → IsInMarkedRun arena.old work.now q node.index → 1 ≤ occurs (children_at arena.new q) result.index }
     ensures becomes { (q : ℕ) → IsInMarkedRun arena.old work.now q node.index → BecomesQ3 arena.old arena.new work.now q q }
+    ensures unchanged { (q : ℕ) → IsInMarkedRun arena.old work.now q node.index → HasNoPartial arena.old work.now q → arena.new ≡ arena.old }
     ensures ticks { (q : ℕ) → IsInMarkedRun arena.old work.now q node.index → steps.new ≤ steps.old + 64 * (labelled_in work.now (children_at arena.old q) + 1) }
 {
     arena.layout_law();
@@ -192,7 +194,7 @@ fn apply_around<L: Ledger>(
 }
 
 /// Applies Q3 at `node`, the pertinent root: the children of each partial child stand in its place, the full ones
-/// towards the middle. The answer is `node`.
+/// towards the middle. Where there is no partial child, nothing changes. The answer is `node`.
 ///
 /// Where the pass ended inside a Q-node, `node` is one of the run, and this is done at its Q-node, which need
 /// not be known. The answer is then a child of that Q-node. It ticks at most 64 times for each labelled child of
@@ -212,6 +214,8 @@ pub fn apply_q3<L: Ledger>(
     ensures kept { IsRunMeant work.old true → (q : ℕ) → IsInMarkedRun arena.old work.old q node.index → AreKeptBelow arena.old arena.new work.old work.new q }
     ensures child { IsRunMeant work.old true → (q : ℕ) → IsInMarkedRun arena.old work.old q node.index → 1 ≤ occurs (children_at arena.new q) result.index }
     ensures run_becomes { IsRunMeant work.old true → (q : ℕ) → IsInMarkedRun arena.old work.old q node.index → BecomesQ3 arena.old arena.new work.old q q }
+    ensures unchanged { (IsRunMeant work.old true → ⊥) → HasNoPartial arena.old work.old node.index → arena.new ≡ arena.old }
+    ensures run_unchanged { IsRunMeant work.old true → (q : ℕ) → IsInMarkedRun arena.old work.old q node.index → HasNoPartial arena.old work.old q → arena.new ≡ arena.old }
     ensures ticks { (IsRunMeant work.old true → ⊥) → steps.new ≤ steps.old + 64 * (fulls_at work.old node.index + partials_at work.old node.index + 1) }
     ensures run_ticks { IsRunMeant work.old true → (q : ℕ) → IsInMarkedRun arena.old work.old q node.index →
         steps.new ≤ steps.old + 64 * (labelled_in work.old (children_at arena.old q) + 1) }

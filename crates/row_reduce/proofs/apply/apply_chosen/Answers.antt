@@ -1,4 +1,4 @@
-use Rattle.std.proofs.Common.{◌≡◌, ◌∙◌, ℕ, List, ◌+◌, ◌*◌, ◌<◌, ◌≤◌, length, take, sum_by, sym, ap, subst, arith}
+use Rattle.std.proofs.Common.{◌≡◌, ◌∙◌, ℕ, List, ◌+◌, ◌*◌, ◌<◌, ◌≤◌, length, take, sum_by, refl, sym, ap, subst, arith}
 use Rattle.std.proofs.lemmas.List.{length-map}
 use Rattle.arena_model.specs.Layout.{Layout}
 use Rattle.pq_arena.specs.RowNodes.{indices}
@@ -8,12 +8,14 @@ use Rattle.row_reduce.specs.Applying.{AreApplied}
 use Rattle.row_reduce.specs.Decided.{labelled_at}
 use Rattle.row_reduce.proofs.Applying.{turn_of, turn_ready, turn_stands, turned, turn_ticks}
 use Rattle.row_reduce.proofs.Begin.{begin}
+use Rattle.row_reduce.proofs.Unmoved.{still_now}
 use Rattle.row_reduce.proofs.apply.apply_chosen.Goals as goal
 
 pub loop-i-init : goal.loop-i-init
 loop-i-init g c = record {
   applied = λ row q chosen. begin c.args.arena.now c.args.work.now row q chosen.ground;
   layout = c.layout_law.ensures;
+  still = λ all. (refl, refl);
   ticks = omega arith;
 }
 
@@ -59,6 +61,13 @@ loop-i-preserved g c = record {
       turned (turn_of _ _ _ _ row q _ _ c.loop-i.i a.0 c.nodes.result.now chosen c.loop-i-test.true c.loop-i.invariant.layout a.1 c.nodes.ensures)
       _ _ _ c.layout_law-in-loop-i.ensures c.apply_at.ensures.treated c.apply_at.ensures.becomes;
   layout = c.layout_law-in-loop-i.ensures;
+  still = λ all.
+      let r = c.requires.chosen in
+      let a = c.loop-i.invariant.applied r.0 r.1 r.2 in
+      let t = turn_of _ _ _ _ r.0 r.1 _ _ c.loop-i.i a.0 c.nodes.result.now r.2 c.loop-i-test.true c.loop-i.invariant.layout a.1 c.nodes.ensures in
+      let b = c.loop-i.invariant.still all in
+      let e = c.apply_at.ensures.still (still_now _ _ _ _ _ _ b.0 b.1 t.node (all c.loop-i.i c.loop-i-test.true)) in
+      (e.0 ∙ b.0, e.1 ∙ b.1);
   ticks =
       let r = c.requires.chosen in
       let a = c.loop-i.invariant.applied r.0 r.1 r.2 in

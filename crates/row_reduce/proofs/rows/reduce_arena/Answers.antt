@@ -1,10 +1,10 @@
 use Rattle.std.proofs.Common.{◌≡◌, ◌≢◌, [], length, rules}
 use Rattle.pq_arena.specs.RowNodes.{indices}
 use Rattle.row_model.specs.Graph.{row_at}
-use Rattle.row_reduce.proofs.GroupDone.{group_named, group_taken, group_total, group_below}
-use Rattle.row_reduce.proofs.BesideDone.{beside_some, beside_place, beside_named, beside_taken, beside_total, beside_below}
+use Rattle.row_reduce.proofs.GroupDone.{asked, group_moves, group_named, group_taken, group_total, group_below}
+use Rattle.row_reduce.proofs.BesideDone.{beside_moves, beside_some, beside_place, beside_named, beside_taken, beside_total, beside_below}
 use Rattle.row_reduce.specs.Outcome.{AtFoundBetween}
-use Rattle.row_reduce.proofs.BetweenDone.{between_total, between_below}
+use Rattle.row_reduce.proofs.BetweenDone.{between_moves, between_total, between_below}
 use Rattle.row_reduce.proofs.RowDone.{row_over, row_over_arena, some_column, few_columns, empty_taken, kept_taken, kept_total, kept_below, open_total, open_below}
 use Rattle.row_reduce.proofs.rows.reduce_arena.Goals as goal
 
@@ -29,6 +29,7 @@ returns-in-Open g c = record {
   room = c.reduce_by_templates.ensures.room;
   full = c.settle.ensures.room;
   ticks = open_total c.met_law.ensures (row_over c.layout_law.ensures c.requires.tree c.row.ensures.row c.row.ensures.ascending) _ _ _ c.settle.ensures.steps c.reduce_by_templates.ensures.ticks;
+  kept = c.reduce_by_templates.ensures.kept;
   below = λ e. open_below (row_over c.layout_law.ensures c.requires.tree c.row.ensures.row c.row.ensures.ascending) _ _ _ c.settle.ensures.steps (c.reduce_by_templates.ensures.below e);
   empty = λ none. absurd (some_column (row_over c.layout_law.ensures c.requires.tree c.row.ensures.row c.row.ensures.ascending) (search rules) none);
 }
@@ -124,3 +125,24 @@ returns-in-Between-clause-below g c = λ e.
 
 pub returns-in-Between-clause-empty : goal.returns-in-Between-clause-empty
 returns-in-Between-clause-empty g c = λ none. absurd (some_column (row_over c.layout_law.ensures c.requires.tree c.row.ensures.row c.row.ensures.ascending) (search rules) none)
+
+pub returns-in-Group-clause-kept : goal.returns-in-Group-clause-kept
+returns-in-Group-clause-kept g c = λ kept.
+    let s = (row_over c.layout_law.ensures c.requires.tree c.row.ensures.row c.row.ensures.ascending) in
+    let some : row_at c.args.m.now.rows c.args.k ≢ [] = some_column s (search rules) in
+    let a = asked s c.arities_law.ensures some in
+    absurd (group_moves c.args.arena.now (row_at c.args.m.now.rows c.args.k) c.in-Group.node.index (indices c.settle.new.work.members) a c.in-Group.ensures.settled kept)
+
+pub returns-in-Beside-clause-kept : goal.returns-in-Beside-clause-kept
+returns-in-Beside-clause-kept g c = λ kept.
+    let s = (row_over c.layout_law.ensures c.requires.tree c.row.ensures.row c.row.ensures.ascending) in
+    let some : row_at c.args.m.now.rows c.args.k ≢ [] = some_column s (search rules) in
+    let a = asked s c.arities_law.ensures some in
+    absurd (beside_moves c.args.arena.now (row_at c.args.m.now.rows c.args.k) c.in-Beside.end.node.index c.in-Beside.end.beside.index (indices c.settle.new.work.members) a c.in-Beside.ensures.settled kept)
+
+pub returns-in-Between-clause-kept : goal.returns-in-Between-clause-kept
+returns-in-Between-clause-kept g c = λ kept.
+    let s = (row_over c.layout_law.ensures c.requires.tree c.row.ensures.row c.row.ensures.ascending) in
+    let some : row_at c.args.m.now.rows c.args.k ≢ [] = some_column s (search rules) in
+    let a = asked s c.arities_law.ensures some in
+    absurd (between_moves a c.in-Between.ensures.settled kept)

@@ -1,7 +1,11 @@
-use Rattle.std.proofs.Common.{refl, subst, ◌∙◌, arith}
+use Rattle.std.proofs.Common.{refl, sym, subst, ◌∙◌, arith}
 use Rattle.arena_model.specs.Layout.{Layout}
 use Rattle.row_model.specs.Graph.{row_at}
+use Rattle.pq_arena.specs.RowNodes.{column_leaves}
+use Rattle.full_pass.specs.Answer.{IsRowKept}
+use Rattle.template_theory.specs.declared.reducer.Step.TheVariants.{Refused}
 use Rattle.row_reduce.specs.Outcome.{IsOutcome}
+use Rattle.row_reduce.proofs.Unmoved.{taken_kept}
 use Rattle.row_reduce.proofs.Taking.{split_refused}
 use Rattle.row_reduce.proofs.Finding.{at_found_root, at_found_inside}
 use Rattle.row_reduce.proofs.RowDone.{row_over, marked_row, nodes_room, at_row, met_most, root_found, inside_found, root_total, inside_total, root_below, inside_below}
@@ -57,3 +61,23 @@ pub returns-in-Inside-clause-below : goal.returns-in-Inside-clause-below
 returns-in-Inside-clause-below g c = λ e.
     inside_below c.met_law.ensures (row_over c.layout_law.ensures c.requires.tree c.row-row.ensures.row c.row-row.ensures.ascending) (at_found_inside (marked_row (row_over c.layout_law.ensures c.requires.tree c.row-row.ensures.row c.row-row.ensures.ascending) c.bubble.new.work c.arities_law.ensures c.requires.some (c.bubble.ensures.room ∙ c.requires.room)) c.in-Inside.ensures.answer) _ _ _ (c.in-Inside.ensures.root_steps tt)
     (let t = c.reduce_inside.ensures.ticks in omega (arith, t))
+
+pub returns-in-Root-clause-kept : goal.returns-in-Root-clause-kept
+returns-in-Root-clause-kept g c = λ kept.
+    let s = (row_over c.layout_law.ensures c.requires.tree c.row-row.ensures.row c.row-row.ensures.ascending) in
+    let row = row_at c.args.m.now.rows c.args.k in
+    let found = root_found _ (marked_row s c.bubble.new.work c.arities_law.ensures c.requires.some (c.bubble.ensures.room ∙ c.requires.room)) c.bubble.ensures.arena _ c.in-Root.ensures.answer in
+    let same = c.reduce_root.ensures.kept row found (subst (λ (z : Layout). IsRowKept z (column_leaves row)) (sym c.bubble.ensures.arena) kept) in
+    (taken_kept c.reduce_law.ensures.kept c.reduce_law.ensures.refused s c.arities_law.ensures kept c.reduce_root.new.arena c.reduce_root.result (returns-in-Root-clause-outcome g c), same ∙ c.bubble.ensures.arena)
+
+pub returns-in-Inside-clause-kept : goal.returns-in-Inside-clause-kept
+returns-in-Inside-clause-kept g c = λ kept.
+    let s = (row_over c.layout_law.ensures c.requires.tree c.row-row.ensures.row c.row-row.ensures.ascending) in
+    let row = row_at c.args.m.now.rows c.args.k in
+    let found = inside_found _ (marked_row s c.bubble.new.work c.arities_law.ensures c.requires.some (c.bubble.ensures.room ∙ c.requires.room)) c.bubble.ensures.arena c.in-Inside.ensures.answer in
+    let same = c.reduce_inside.ensures.kept row found (subst (λ (z : Layout). IsRowKept z (column_leaves row)) (sym c.bubble.ensures.arena) kept) in
+    (taken_kept c.reduce_law.ensures.kept c.reduce_law.ensures.refused s c.arities_law.ensures kept c.reduce_inside.new.arena c.reduce_inside.result (returns-in-Inside-clause-outcome g c), same ∙ c.bubble.ensures.arena)
+
+pub returns-in-Split-clause-kept : goal.returns-in-Split-clause-kept
+returns-in-Split-clause-kept g c = λ kept.
+    (taken_kept c.reduce_law.ensures.kept c.reduce_law.ensures.refused (row_over c.layout_law.ensures c.requires.tree c.row-row.ensures.row c.row-row.ensures.ascending) c.arities_law.ensures kept c.bubble.new.arena Refused (returns-in-Split-clause-outcome g c), c.bubble.ensures.arena)

@@ -3,8 +3,9 @@ use Rattle.std.proofs.lemmas.Bool.{false≢true}
 use Rattle.row_reduce.proofs.AtInside.{refused_below}
 use Rattle.row_reduce.proofs.Finding.{labelled_ready}
 use Rattle.row_reduce.proofs.Grounds.{node_labelled}
-use Rattle.row_reduce.proofs.InsideDone.{some_items, last_first, can_ask, refused_run, first_chosen, last_turn, done_at, run_ready, run_stands, run_taken, run_room, run_ticks}
+use Rattle.row_reduce.proofs.InsideDone.{some_items, last_first, can_ask, refused_run, first_chosen, last_turn, done_at, run_ready, run_stands, run_taken, run_unmoved, run_room, run_ticks}
 use Rattle.row_reduce.proofs.Applying.{turn_ready, turn_stands}
+use Rattle.row_reduce.proofs.Unmoved.{still_inside, run_still, still_now}
 use Rattle.row_reduce.proofs.Ticks.{decide_few, asked_few}
 use Rattle.row_reduce.proofs.Turning.{items_long, item_at}
 use Rattle.row_reduce.proofs.rows.reduce_inside.Goals as goal
@@ -93,3 +94,22 @@ returns-clause-ticks g c =
     run_ticks (done_at t.1 c.layout_law-2.ensures c.apply_one-child.ensures.treated c.apply_one-child.ensures.becomes) c.nodes-nodes.result.now _ c.nodes-nodes.ensures
     (item_at c.args.work.now c.nodes-nodes.result.now (length c.nodes-nodes.result.now - 1) c.nodes-nodes.ensures (let some = some_items c.nodes-nodes.result.now c.nodes-nodes.ensures s in omega (arith, some)))
     _ _ _ _ _ _ c.decide.ensures.ticks c.fits_q3.ensures.run_ticks c.apply_chosen.ensures.ticks c.apply_one-child.ensures.ticks c.apply_q3.ensures.run_ticks
+
+pub returns-then-not-decide-clause-kept : goal.returns-then-not-decide-clause-kept
+returns-then-not-decide-clause-kept g c = λ row s kept. refl
+
+pub returns-then-not-fits_q3-clause-kept : goal.returns-then-not-fits_q3-clause-kept
+returns-then-not-fits_q3-clause-kept g c = λ row s kept. refl
+
+pub returns-clause-kept : goal.returns-clause-kept
+returns-clause-kept g c = λ row s kept.
+    let items = c.nodes-nodes.result.now in
+    let some = some_items items c.nodes-nodes.ensures s in
+    let long = items_long c.args.work.now items c.nodes-nodes.ensures in
+    let is = item_at c.args.work.now items (length items - 1) c.nodes-nodes.ensures (omega (arith, some)) in
+    let t = (last_turn items _ c.nodes-nodes.ensures s (let room : length c.decide.new.chosen ≡ length c.args.chosen.now = c.decide.auto.chosen in omega (arith, c.requires.chosen)) (c.decide.ensures.decided c.if-not-decide.false)
+    (λ ps m. (c.fits_q3.ensures.run (s.found.inside, refl) s.found.run.q (last_first items c.nodes-nodes.ensures s _ is) ps m).0 c.if-not-fits_q3.false) c.layout_law.ensures c.apply_chosen.ensures.applied is) in
+    let a = c.apply_chosen.ensures.still (λ i l. still_inside s kept i (omega (arith, l, long, some))) in
+    let b = c.apply_one-child.ensures.still (still_now _ _ _ _ _ _ a.0 a.1 is (still_inside s kept (length items - 1) (omega (arith, long, some)))) in
+    run_unmoved (done_at t.1 c.layout_law-2.ensures c.apply_one-child.ensures.treated c.apply_one-child.ensures.becomes) _ c.apply_q3.ensures.run_unchanged
+    (λ r. (still_now _ _ _ _ _ _ (b.0 ∙ a.0) (b.1 ∙ a.1) refl (run_still r kept)).plain) ∙ b.0 ∙ a.0

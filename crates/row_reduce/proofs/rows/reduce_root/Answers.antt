@@ -3,6 +3,7 @@ use Rattle.row_reduce.proofs.AtRoot.{refused, root_ready}
 use Rattle.row_reduce.proofs.Finding.{labelled_ready}
 use Rattle.row_reduce.proofs.Grounds.{node_labelled}
 use Rattle.row_reduce.proofs.RootDone.{last_turn, last_now, last_stands, last_taken, last_ticks, first_chosen, some_items}
+use Rattle.row_reduce.proofs.Unmoved.{still_before, root_still, still_now}
 use Rattle.row_reduce.proofs.Ticks.{decide_few}
 use Rattle.row_reduce.proofs.Turning.{items_long}
 use Rattle.row_reduce.proofs.rows.reduce_root.Goals as goal
@@ -64,3 +65,11 @@ returns-clause-ticks g c =
     let t = last_turn c.nodes.result.now c.nodes.ensures c.requires.found.1 (let long : length c.decide.new.chosen ≡ length c.args.chosen.now = c.decide.auto.chosen in omega (arith, c.requires.chosen))
     (c.decide.ensures.decided c.if-not-decide.false) c.layout_law.ensures c.apply_chosen.ensures.applied in
     last_ticks t.1 c.nodes.result.now c.nodes.ensures _ _ _ _ c.decide.ensures.ticks c.apply_chosen.ensures.ticks c.apply_one.ensures.ticks
+
+pub returns-then-not-decide-clause-kept : goal.returns-then-not-decide-clause-kept
+returns-then-not-decide-clause-kept g c = λ row s kept. refl
+
+pub returns-clause-kept : goal.returns-clause-kept
+returns-clause-kept g c = λ row s kept.
+    let a = c.apply_chosen.ensures.still (still_before c.nodes.result.now c.nodes.ensures s kept) in
+    (c.apply_one.ensures.still (still_now _ _ _ _ _ _ a.0 a.1 refl (root_still s kept))).0 ∙ a.0

@@ -3,6 +3,7 @@ use Rattle.bubble_pass.specs.Marks.{partials_at}
 use Rattle.template_model.proofs.Unchanged.{unchanged}
 use Rattle.templates_q.proofs.Splicing.{spliced_treated}
 use Rattle.templates_q.proofs.Making.{line_shape, line_spliced, spliced_becomes, plain_becomes, stands_for}
+use Rattle.templates_q.proofs.Plain.{plain_count}
 use Rattle.templates_q.proofs.q2.apply_q2.Goals as goal
 
 pub splice_in-requires : goal.splice_in-requires
@@ -36,3 +37,8 @@ returns-then-counts-eq0-clause-becomes g c = λ ps x m s i.
     let f = c.args.arena.now in let w = c.args.work.now in let n = c.args.node.index in
     let none : partials_at w n ≡ 0 = sym c.counts.ensures.partial ∙ c.if-counts-eq0.true in
     stands_for f w n x (plain_becomes f w n ps x c.requires.stands.3.0 (sym c.requires.ready.right.partial ∙ none) m s i)
+
+pub returns-clause-unchanged : goal.returns-clause-unchanged
+returns-clause-unchanged g c = λ plain.
+    let none = plain_count c.args.arena.now c.args.work.now c.args.node.index c.requires.ready.right plain in
+    absurd (c.if-counts-eq0.false (c.counts.ensures.partial ∙ none))

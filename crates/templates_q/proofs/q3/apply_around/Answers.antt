@@ -4,7 +4,8 @@ use Rattle.templates_q.specs.Walk.{AreChildren}
 use Rattle.templates_q.specs.Span.{labelled_in}
 use Rattle.templates_q.proofs.Spanning.{run_marked, run_inner}
 use Rattle.templates_q.proofs.Laying.{named_last, unnamed_last}
-use Rattle.templates_q.proofs.Done.{all_shaped, done_around}
+use Rattle.templates_q.proofs.Done.{all_shaped, done_around, standing}
+use Rattle.templates_q.proofs.Plain.{plain_unopened}
 use Rattle.templates_q.proofs.q3.apply_around.Goals as goal
 
 pub stretch_around-seen-requires-clause-child : goal.stretch_around-seen-requires-clause-child
@@ -41,3 +42,10 @@ returns-clause-ticks g c = λ q run.
     let f = c.args.arena.now in let w = c.args.work.now in
     let t : c.stretch_around-seen.new.steps ≤ c.args.steps.now + 2 * labelled_in w (children_at f q) = c.stretch_around-seen.ensures.ticks q (run_marked f w q c.args.node.index run) in
     omega (arith, c.open_ends.ensures.ticks)
+
+pub returns-clause-unchanged : goal.returns-clause-unchanged
+returns-clause-unchanged g c = λ q run plain.
+    let f = c.args.arena.now in let w = c.args.work.now in
+    let r = c.stretch_around-seen.ensures.stretch q (run_marked f w q c.args.node.index run) in
+    plain_unopened f c.open_ends.new.arena w q c.stretch_around-seen.result r plain
+    (c.open_ends.ensures.opened q r (all_shaped f w q (standing f w c.args.node.index q c.layout_law.ensures c.requires.stands run)))

@@ -5,6 +5,7 @@ use Rattle.templates_q.specs.Span.{labelled_in}
 use Rattle.templates_q.proofs.Spanning.{first_marked, none_marked}
 use Rattle.templates_q.proofs.Laying.{none_becomes}
 use Rattle.templates_q.proofs.Done.{all_shaped, done_at}
+use Rattle.templates_q.proofs.Plain.{plain_unopened}
 use Rattle.templates_q.proofs.q3.apply_at.Goals as goal
 
 pub stretch_around-seen-requires-clause-child : goal.stretch_around-seen-requires-clause-child
@@ -42,3 +43,10 @@ pub returns-in_default-clause-becomes : goal.returns-in_default-clause-becomes
 returns-in_default-clause-becomes g c =
     let f = c.args.arena.now in let w = c.args.work.now in let n = c.args.node.index in
     none_becomes f w n c.layout_law.ensures c.requires.stands.fits.0 (none_marked f w n c.requires.ready.right (sym c.first_child.ensures ∙ c.in_default.is))
+
+pub returns-in-Some-clause-unchanged : goal.returns-in-Some-clause-unchanged
+returns-in-Some-clause-unchanged g c = λ plain.
+    let f = c.args.arena.now in let w = c.args.work.now in let n = c.args.node.index in
+    let x = first_marked f w n c.in-Some.x c.requires.stands.fits.0 c.requires.ready.right (sym c.first_child.ensures ∙ c.in-Some.is) in
+    let r = c.stretch_around-seen.ensures.stretch n x in
+    plain_unopened f c.open_ends.new.arena w n c.stretch_around-seen.result r plain (c.open_ends.ensures.opened n r (all_shaped f w n c.requires.stands))

@@ -8,6 +8,8 @@ use Rattle.arena_model.specs.Layout.{Layout}
 use Rattle.arena_model.specs.NamedTree.{outline_at}
 use Rattle.pq_tree.specs.Proper.{IsProper}
 use Rattle.pq_tree.proofs.Equivalent.{tree_from_proper}
+use Rattle.pq_arena.specs.RowNodes.{column_leaves}
+use Rattle.full_pass.specs.Answer.{IsRowKept}
 use Rattle.tied_law.specs.Tied.{IsTied}
 use Rattle.row_reduce.proofs.Frugality.{row_frugal}
 use Rattle.row_reduce.proofs.RowDone.{row_ascends}
@@ -105,3 +107,8 @@ returns-clause-amortised g c =
     (row_reduced row f h c.reduce_arena-step.result c.reduce_arena-step.ensures.outcome)
     c.reduce_arena-step.ensures.ticks c.reduce_arena-step.ensures.below in
     subst (λ (z : Layout). IsFrugal row (outline_at z) (outline_at h) c.args.steps.now c.reduce_arena-step.new.steps c.reduce_arena-step.result) e paid
+
+pub returns-clause-kept : goal.returns-clause-kept
+returns-clause-kept g c =
+    let e : c.self.inside.arena ≡ c.args.self.now = cc in
+    subst (λ (z : Layout). IsRowKept z (column_leaves (row_at c.args.m.now.rows c.args.k)) → (c.reduce_arena-step.result ≡ Taken) × (c.reduce_arena-step.new.arena ≡ z)) e c.reduce_arena-step.ensures.kept
