@@ -47,6 +47,8 @@ MOST_TIMES = 12
 BASE_BYTES = 16 << 20
 # What docs/EVIDENCE.md allows beside the bytes of files that are full of small values.
 CROWDED_BYTES = 256 << 20
+# What a run may take over a file that is read through a window and leaves next to nothing: less than the file.
+WINDOWED_BYTES = 12 << 20
 COST = os.path.join(HOME, "end_to_end", "cost.py")
 MATRIX = b"110\n011\n"
 HEAD = b"pq-verdict 1\nkind matrix\ncolumns 3\nanswer "
@@ -352,6 +354,23 @@ def difference(given, wanted):
     return None if all(want is None or want == one for want, one in zip(wanted, given)) else f"{given}, wanted {wanted}"
 
 
+def windowed_files():
+    """Each kind whose file is read through a window, with one near the limit of which little is kept."""
+    zeros = (b"0" * COLUMNS + b"\n") * ((LIMIT - 1) // (COLUMNS + 1))
+    yield "matrix", zeros
+    yield "circular", zeros
+    yield "rows", b"%d\n" % COLUMNS + (b" " * 120 + b"\n") * (MOST_ROWS - 1)
+    for kind, head in [("convex", b"3 3\n"), ("doubly", b"3 3\n"), ("proper", b"3\n")]:
+        yield kind, head + b"1 2\n" + b"\n" * (LIMIT - 16)
+
+
+def window_problem(kind, content):
+    """What is wrong with what a run keeps of such a file, or None."""
+    given, cost = measured(["solve", kind], content)
+    print(f"{kind} through a window: {cost.peak} bytes at the peak for {len(content)}", flush=True)
+    return difference(given, (0, None, b"")) or (None if cost.peak <= WINDOWED_BYTES else f"{cost.peak} bytes at the peak")
+
+
 def hostile_cores():
     """Each hostile text of a core, as the files of `hostile`."""
     unread = ((what, text, b"text") for what, text in full_cores())
@@ -388,6 +407,8 @@ def hostile_problems():
         times = f", {cost.peak / len(content):.2f} times" if len(content) > LIMIT // 2 else ""
         print(f"{name}: status {given[0]}, {cost.seconds:.2f} seconds, {cost.peak} bytes at the peak for {len(content)}{times}", flush=True)
         yield f"hostile: {name}", difference(given, wanted) or cost.problem(len(content), beside)
+    for kind, content in windowed_files():
+        yield f"hostile: {kind} through a window", window_problem(kind, content)
     yield "hostile: the orders of a core of the most rows", many_orders_problem()
     yield "hostile: the core of a ring", ring_problem()
     for what, content in late_contradictions():
