@@ -10,7 +10,7 @@ use Rattle.pq_io.specs.declared.reading.Whole.{Whole}
 use Rattle.pq_io.specs.declared.reading.Whole.TheVariants as whole
 use Rattle.row_model.specs.declared.refusal.Read.{Read}
 use Rattle.row_model.specs.declared.refusal.Read.TheVariants as read
-use Rattle.pq_cli.specs.Reading.{FitsTaken, OnlyReads, ReadsAs, ReadsWhole, IsMade, value_of}
+use Rattle.pq_cli.specs.Reading.{FitsTaken, OnlyReads, ReadsAs, ReadsWhole, IsMadeWithin, value_of}
 use Rattle.pq_cli.proofs.Frame.{reads_done}
 
 -- a file that was asked for, and then handed out a piece
@@ -49,10 +49,10 @@ handed_whole limit name piece ended (whole.Bytes items) h most bytes f =
 handed_whole limit name piece ended whole.TooLong h most bytes f = omega (arith, h, ap length f.begins.1, length-append piece f.begins.0)
 
 pub handed_through : {M : Type 0} (limit : ℕ) (makes : List ℕ → M → Type 0) (name piece : List ℕ) (ended : Bool) (made : Option M) → IsMadeOf limit makes piece ended made
-    → (bytes : List ℕ) → FitsTaken (took name piece ended) bytes → IsMade limit makes bytes made
+    → (bytes : List ℕ) → FitsTaken (took name piece ended) bytes → IsMadeWithin limit makes bytes made
 handed_through limit makes name piece ended (Some made) h bytes f =
     let same : bytes ≡ piece = f.whole h.0 in
-    subst (λ b. IsMade limit makes b (Some made)) (sym same) (h.1, h.2)
+    subst (λ b. IsMadeWithin limit makes b (Some made)) (sym same) (h.1, h.2)
 handed_through limit makes name piece ended None h bytes f = omega (arith, h, ap length f.begins.1, length-append piece f.begins.0)
 
 -- what was taken of a file may be all of it

@@ -75,9 +75,9 @@ pub record ReadsWhole {S W : Type 0} (content : S → List ℕ → Option (List 
   pub whole : IfOk result (λ whole. (bytes : List ℕ) → FitsTaken t bytes → is_of bytes whole)
 
 -- something was made of bytes within a limit, or nothing of more
-abbrev pub IsMade : {M : Type 0} → ℕ → (List ℕ → M → Type 0) → List ℕ → Option M → Type 0
-IsMade limit makes bytes (Some made) = (length bytes ≤ limit) × makes bytes made
-IsMade limit makes bytes None = limit < length bytes
+abbrev pub IsMadeWithin : {M : Type 0} → ℕ → (List ℕ → M → Type 0) → List ℕ → Option M → Type 0
+IsMadeWithin limit makes bytes (Some made) = (length bytes ≤ limit) × makes bytes made
+IsMadeWithin limit makes bytes None = limit < length bytes
 
 -- the value that was read of the file with this number, or its refusal
 abbrev pub value_of : {V : Type 0} → ℕ → Read V → Result V Stop

@@ -1,10 +1,10 @@
-// The files of a command: each is read whole, and its bytes by the form that it should have.
+// The files of a command: the bytes of each are read by the form that it should have, of the whole file or piece by piece.
 ghost use Rattle.std.specs.Prelude.{◌≡◌, ◌≤◌, ◌^◌, List, ℕ, length, IsOk, IfOk, IfErr};
 ghost use Rattle.row_model.specs.declared.TheConstants.{MAX_FILE_BYTES};
 ghost use Rattle.row_model.specs.declared.code.TheConstants.{LIMIT};
 ghost use Rattle.pq_io.specs.Taken.{Taken};
 ghost use Rattle.pq_io.specs.Whole.{IsWhole};
-ghost use Rattle.pq_cli.specs.Reading.{OnlyReads, IsReadStop, RefusesLong, ReadsFile, ReadsWhole, ReadsBytes, IsMade, IsRead, value_of};
+ghost use Rattle.pq_cli.specs.Reading.{OnlyReads, IsReadStop, RefusesLong, ReadsFile, ReadsWhole, ReadsBytes, IsMadeWithin, IsRead, value_of};
 ghost use Rattle.pq_cli.specs.Stops.{read_status};
 
 use crate::NoMemory;
@@ -152,7 +152,7 @@ pub(crate) fn pass_bytes<F: Shelf, T: Taker>(
     files: &mut F,
 ) -> Result<Option<T::Made>, Stop>
     requires { limit ≤ 2 ^ 32 }
-    ensures made { (t : Taken) × ReadsWhole F.content F.taken F.faults files.old files.new name.now (IsMade limit (T.makes taker)) result t }
+    ensures made { (t : Taken) × ReadsWhole F.content F.taken F.faults files.old files.new name.now (IsMadeWithin limit (T.makes taker)) result t }
     ensures shelf { OnlyReads F.content F.faults files.old files.new (read_status result) }
     ensures stop { IfErr result IsReadStop }
 {
