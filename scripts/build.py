@@ -251,8 +251,7 @@ class House:
         where a C compiler has that, and else as the toolchain does."""
         program, new = made(f"{PROGRAM}.o"), made(f"{PROGRAM}.new")
         alone, usual = self.toolchain.linking_alone(program, new), self.toolchain.linking(program, new)
-        why_not = shutil.which(alone[0]) is None or told_by(alone)
-        if why_not and (why_not := told_by(usual)):
+        if told_by(alone) and (why_not := told_by(usual)):
             raise OSError(why_not)
         # A source that changed since the call began is newer than the program.
         os.utime(new, (self.begun, self.begun))
@@ -260,8 +259,11 @@ class House:
 
 
 def told_by(command):
-    """What a command told that failed, or None where it did not."""
-    done = subprocess.run(command, stdin=subprocess.DEVNULL, stdout=subprocess.PIPE, stderr=subprocess.STDOUT, check=False)
+    """What a command told that failed, or why it could not be begun, or None where it did its work."""
+    try:
+        done = subprocess.run(command, stdin=subprocess.DEVNULL, stdout=subprocess.PIPE, stderr=subprocess.STDOUT, check=False)
+    except OSError as error:
+        return str(error)
     return done.stdout.decode(errors="replace") or f"{command[0]} ended with {done.returncode}" if done.returncode else None
 
 

@@ -34,8 +34,8 @@ IN_PLACE = {
     "templates_q": {"splice_in": 1, "pass": 1},
     "row_reduce": {"apply_chosen": 1, "decide": 1, "new": 1},
 }
-# Of their functions the one that calls itself, and those that call another of their name.
-RECALLED = {"tree_below", "new", "fill", "hits_at", "hit"}
+# Of their functions those that call themselves, or another of their name.
+RECALLED = {"pq_arena": {"tree_below"}, "bubble_pass": {"new"}, "full_pass": {"new", "fill", "hits_at", "hit"}}
 # Loops, and whether a turn of each costs a step.
 SAMPLES = [
     ("for a in columns {\n    steps.tick();\n}", True),
@@ -93,6 +93,9 @@ SAMPLES = [
     ("let most = forest\n    .iter()\n    .map(f)\n    .max();", False),
     ("let most = (0..count).map(f).max();", False),
     ("let last = rows.windows(2).map(f).last();", False),
+    ("let all = nodes.iter();\nlet last = all.last();", False),
+    ("let all = self.nodes.iter().rev();\nlet most = all.max();", False),
+    ("let parts = row.split(is_gap);\nlet last = parts.last();", False),
     ("let most = nodes.iter_mut().map(f).max();", False),
     ("let all = first.sum::<u32>();", False),
     ("let has = <[u32]>::contains(rows, &a);", False),

@@ -139,7 +139,9 @@ OVER_LIST = re.compile(
     r"|is_sorted\w*|starts_with|ends_with|strip_(?:pre|suf)fix|select_nth\w*|swap_with_slice|drain|split_off|partial_cmp|partition|reduce|unzip|(?:try_)?collect"
     r"|nth_back|append|insert|remove|resize\w*|splice|copy_within|repeat|join)(?:::<[^(]*>)?\(|(?:iter(?:_mut)?\(\)|windows\(|chunks\w*\(|\.\.).*"
     r"\.(?:map|last|max|min|eq|ne|lt|le|gt|ge|cmp)(?:::<[^(]*>)?\(|<&?\[\w+\]>::"
-    r"|(?:vec!|= )\[(?:in \w+; |(?!in ))[^;\]]*; ")
+    r"|(?:vec!|= )\[(?:in \w+; |(?!in ))[^;\]]*; "
+    # what goes over a list, kept under a name for a later line
+    r"|\blet (?:mut )?\w+(?:: [^=]*)? = .*(?:\biter(?:_mut)?\(\)|\b(?:windows|chunks\w*|r?split\w*)\([^()]*\))(?:\.(?:rev|enumerate|skip|take|zip|cloned|copied|peekable|step_by|chain)\([^()]*\))*\??;$")
 # what costs a step: a clause that says so, always or with a value; a tick or a counted read; and the name of what is called, in the head
 # of a loop that goes on as long as there is a value or anywhere
 COSTS = re.compile(r"^\s*ensures costs \{ (?:OnOk result \()?steps\.old \+ 1 ≤ steps\.new\)? \}$")
@@ -187,7 +189,7 @@ LAW = re.compile(r"\b(?<!mod )\w+_laws?\b(?!::)")
 FLOOR = re.compile(r"^#+ (\d+)\. \S")
 HOUSE_CRATE = re.compile(r"^\| `(\w+)` \|")
 LISTED_CRATE = re.compile(r"^(\w+)(?: staticlib)?:")
-DEFINED = re.compile(r"^(?:(?:pub|abbrev|unfoldable|record|data) +)+([^\s:(){}]+)\s*(?:\([^)]*\)\s*)*:")
+DEFINED = re.compile(r"^(?:(?:pub|abbrev|unfoldable|record|data) +)+([^\s:(){}]+)\s*(?:[({][^)}]*[)}]\s*)*:")
 
 
 def crates():
@@ -548,7 +550,7 @@ def unlisted_walks():
     for crate in WITHOUT_MEMORY:
         yield from unlisted_turns(crate, IN_PLACE[crate], {}, set())
         for name in calls_itself(crate):
-            if name not in RECALLED:
+            if name not in RECALLED.get(crate, set()):
                 yield f"crates/{crate}: {name} calls itself, and no loop shows what it goes over"
 
 
