@@ -34,6 +34,54 @@ IN_PLACE = {
     "templates_q": {"splice_in": 1, "pass": 1},
     "row_reduce": {"apply_chosen": 1, "decide": 1, "new": 1},
 }
+# The heads of the loops in these functions, so that none goes over more than it does.
+HEADS = {
+    "pq_arena": {
+        "arena.rt/new": ["for i in 0..c {"],
+        "tree_below": ["for number in &numbers {"],
+        "ring_children": ["for _ in 0..count {"],
+        "run_children": ["for _ in 0..nodes.len() {"],
+        "bare_nodes": ["for i in 0..count {"],
+        "is_one_tree": ["for n in 0..self.nodes.len() as u32 {"],
+        "has_two_each": ["for n in 0..self.nodes.len() as u32 {"],
+    },
+    "bubble_pass": {
+        "descend": ["while self.count_of(r) == 1 {"],
+        "link": ["while i < climber.tail {"],
+        "walk": ["while let Some(x) = self.blocked_at(next) {"],
+        "climb": ["while self.goes_on() {"],
+        "begin": ["for column in row {"],
+        "first_parked": ["while i < self.tail {"],
+        "grow": ["while let Some(x) = self.blocked_at(next) {"],
+        "judge": ["while left > 0 {"],
+        "start": ["while i < row.len() {"],
+        "sweep": ["while done < self.len {"],
+        "tables.rt/clear": ["while i < self.climber.tail {"],
+    },
+    "full_pass": {
+        "find_beside": ["for column in row {"],
+        "find_between": ["for column in row {"],
+        "climb": ["loop {"],
+        "count": ["for column in row {"],
+        "clear_labels": ["for label in self.labels.iter_mut() {"],
+        "clear_tallies": ["for tally in self.tallies.iter_mut() {"],
+        "list": ["for i in 0..count {"],
+        "rise": ["loop {"],
+        "run": ["for column in row {"],
+    },
+    "templates_p": {
+        "child_with": ["while left > 0 {"],
+        "group_full": ["while left > 0 {"],
+        "move_under": ["for member in members {"],
+    },
+    "templates_q": {
+        "pass": ["while let Some(x) = wanted_at(work, wanted, gap.next) {"],
+    },
+    "row_reduce": {
+        "apply_chosen": ["for i in 0..count {"],
+        "decide": ["for (i, node) in work.nodes().iter().enumerate() {"],
+    },
+}
 # Of their functions those that call themselves, or another of their name.
 RECALLED = {"pq_arena": {"tree_below"}, "bubble_pass": {"new"}, "full_pass": {"new", "fill", "hits_at", "hit"}}
 # Loops, and whether a turn of each costs a step.

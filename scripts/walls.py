@@ -37,7 +37,8 @@ Usage: scripts/walls.py
 14. A name of the lists of rules 9, 10 and 15 is that of one function, and so is that of a function whose calls cost a step.
 15. Reducing a row in place goes over a list only where IN_PLACE says so: outside tests the crates that do, and the arena, have only the loops
    whose turns tick, and those that are listed, with their calls that go over a list and their `vec!` of many items. It says how many there
-   are in each function, so one more is found. A turn that calls one of these functions is one of them. Of these functions only the one that
+   are in each function, and HEADS how its loops begin, so one more is found, and one that goes over more. A turn that calls one of these
+   functions is one of them. Of these functions only the one that
    gives a tree out calls itself.
 16. No status depends on the sink of errors: the functions of the top call name it in one line each, as TOLD has it. Three hand it on at their
    end, and `tell` to `report`, which answers nothing.
@@ -54,7 +55,7 @@ import re
 import sys
 
 import build
-from loops import IN_PLACE, RECALLED, SAMPLE_LISTS, SAMPLES, UNTICKED
+from loops import HEADS, IN_PLACE, RECALLED, SAMPLE_LISTS, SAMPLES, UNTICKED
 
 HOME = os.path.dirname(os.path.dirname(os.path.abspath(__file__)))
 # The crates whose definitions everything shares; docs/DECISIONS.md says why they offer their lemmas too.
@@ -549,9 +550,19 @@ def unlisted_walks():
     """Where a row that is reduced in place goes over a list, and no list says so."""
     for crate in WITHOUT_MEMORY:
         yield from unlisted_turns(crate, IN_PLACE[crate], {}, set())
+        yield from unlisted_heads(crate)
         for name in calls_itself(crate):
             if name not in RECALLED.get(crate, set()):
                 yield f"crates/{crate}: {name} calls itself, and no loop shows what it goes over"
+
+
+def unlisted_heads(crate):
+    """The functions of a crate whose loops do not have the heads that are listed."""
+    for name, lines in functions(crate):
+        heads = [line.strip() for _, line in joined(body(lines)) if BLOCK.search(line)]
+        listed = next((heads for entry, heads in HEADS[crate].items() if is_meant(entry, name, lines[0][0])), [])
+        if heads != listed:
+            yield f"{lines[0][0]}: the loops of {name} begin with {heads}, and {listed} are listed"
 
 
 def called_in_loops(crate):
