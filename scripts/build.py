@@ -151,7 +151,7 @@ class Toolchain:
 
     def linking_alone(self, program, new):
         """The command by which a C compiler links a program that has the C library in it."""
-        return ["cc", "-static", "-no-pie", "-o", new, *self.parts(program)]
+        return ["cc", "-static", "-no-pie", "-Wl,-z,noseparate-code", "-o", new, *self.parts(program)]
 
     def parts(self, program):
         """What is linked into a program besides the C library."""
