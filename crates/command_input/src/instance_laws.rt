@@ -13,7 +13,7 @@ pub fn instance_law()
     edge_laws();
 }
 
-/// So is whatever is read as the bytes of a file are.
+/// Each instance that is read of the bytes of a file is of the kind, within the limits of files.
 pub fn held_law()
     ensures { HeldLaw }
 {

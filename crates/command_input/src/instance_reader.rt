@@ -48,7 +48,7 @@ impl InstanceReader {
         }
     }
 
-    /// Reads the whole lines at the front of what is left of the file, and tells how many bytes these have.
+    /// Takes some bytes, or none, at the front of what is left of the file, and tells how many.
     ///
     /// # Errors
     ///

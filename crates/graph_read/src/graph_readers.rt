@@ -30,7 +30,7 @@ impl BigraphReader {
         }
     }
 
-    /// Reads the whole lines at the front of what is left of the text, and tells how many bytes these have.
+    /// Takes some bytes, or none, at the front of what is left of the text, and tells how many.
     ///
     /// # Errors
     ///
@@ -79,7 +79,7 @@ impl GraphReader {
         }
     }
 
-    /// Reads the whole lines at the front of what is left of the text, and tells how many bytes these have.
+    /// Takes some bytes, or none, at the front of what is left of the text, and tells how many.
     ///
     /// # Errors
     ///

@@ -48,7 +48,7 @@ pub(crate) struct FirstRow {
 
 /// What stands at the front of a text, where `passed` lines were before it.
 pub(crate) enum Front {
-    /// NoRow lines alone, and no other line: how many lines there were then.
+    /// Lines that are blank, and no other: how many lines there were then.
     NoRow(u32),
     /// A row, behind blank lines or none.
     Row(FirstRow),

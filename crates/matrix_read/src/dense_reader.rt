@@ -40,7 +40,7 @@ impl DenseReader {
         }
     }
 
-    /// Reads the whole lines at the front of what is left of the text, and tells how many bytes these have.
+    /// Takes some bytes, or none, at the front of what is left of the text, and tells how many.
     ///
     /// # Errors
     ///

@@ -35,7 +35,7 @@ impl RowsReader {
         }
     }
 
-    /// Reads the whole lines at the front of what is left of the text, and tells how many bytes these have.
+    /// Takes some bytes, or none, at the front of what is left of the text, and tells how many.
     ///
     /// # Errors
     ///

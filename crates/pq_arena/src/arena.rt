@@ -195,7 +195,7 @@ impl Arena {
     /// and gives `child` back. It is a Q-node with two children or more and a child of a Q-node; `near` is one of its
     /// neighbours, or none where it is an end child.
     ///
-    /// Only the neighbours of `child`, its two end children and, where it is an end child, the node above it are
+    /// Besides `child` only its neighbours, its two end children and, where it is an end child, the node above it are
     /// written.
     pub fn splice<L: Ledger>(
         &mut self,

@@ -1,4 +1,4 @@
-// A file as a whole.
+// A file whole, or handed on piece by piece.
 ghost use Rattle.std.specs.Prelude.{◌≡◌, ◌≤◌, ◌+◌, ◌^◌, ℕ, List, ◌++◌, take, drop, length, vec_len, IfOk, OnErr, IfSome, IsTrue};
 ghost use Rattle.std.specs.Io.KnownBytes.{Consumes, IsAtEnd, Keeps};
 ghost use Rattle.pq_io.specs.Whole.{IsWhole, IsAtMost, LeavesNone, HasReadCause, ChangedOnlyIfFault, HandsOutWhole};

@@ -16,7 +16,7 @@ const BLOCK: usize = 64;
 pub struct DigitEnds {
     /// The place where the block begins.
     pub block: usize,
-    /// A bit for each byte of the block, the lowest for the first: 1 where the byte stands ahead and is no digit.
+    /// A bit for each byte of the block, the lowest for the first. Before one that is 1, the bytes ahead with 0 are digits.
     pub marks: u64,
 }
 
@@ -38,7 +38,7 @@ pub struct EndedRun {
     pub ends: DigitEnds,
 }
 
-/// The digits from a place on, at most nine. A further digit may follow.
+/// Digits from a place on, or none. A further digit may follow.
 ///
 /// The marks are none, or those that the call before gave, where this place is behind the byte at the end of its digits.
 #[inline(always)]
