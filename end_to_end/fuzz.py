@@ -7,10 +7,11 @@ It draws COUNT runs for each PART. A PART is a command and a kind, such as `solv
 `unit`, `check-unit`, `gen` and `meet`. Without a PART it draws all. The same words draw the same runs, so a further SEED draws others.
 With `--library` the library that scripts/library.py built answers in the place of the program, without a process for each run.
 
-Every file is small, and about one in six is spoilt. What the program refuses, the plain readers refuse with the same code and line. An answer
-of `solve` is judged by the plain checker, which asks for every order; what `extend`, `core`, `list`, `unit` and `meet` answer is compared with
-all orders tried. `check`, `check-core` and `check-unit` get a text that is right and such a text with one or two changes, and have to say what
-the plain checkers say.
+About one file in six is spoilt. Every file is small, but for the parts `long-KIND`: these draw files that `solve` reads through several
+windows, of few rows whose lines are long, or of few edges that come often. What the program refuses, the plain readers refuse with the same
+code and line. An answer of `solve` is judged by the plain checker, which asks for every order; what `extend`, `core`, `list`, `unit` and
+`meet` answer is compared with all orders tried. `check`, `check-core` and `check-unit` get a text that is right and such a text with one or
+two changes, and have to say what the plain checkers say.
 It prints how many runs of each part were drawn. The last line is `N passed, N failed`; the status is 0 where nothing failed.
 """
 
@@ -49,6 +50,9 @@ CHANGES = 4
 BYTES = b"0123456789 \n\r\t,()[]xeflnop-"
 PLAIN = ("matrix", "rows", "table")
 KINDS = ("matrix", "rows", "table", "clones", "circular", "convex", "doubly", "proper", "robinson")
+# The kinds of files that are read through a window, and the bytes of a window.
+WINDOWED = ("matrix", "circular", "rows", "convex", "doubly", "proper")
+WINDOW = 128 * 1024
 
 
 def changed(draw, text):
@@ -111,6 +115,39 @@ def solve(draw, folder, kind):
     """One answer of `solve`."""
     content = drawn_runs.spoilt(draw, drawn_runs.file_of(draw, kind).encode())
     yield content, forgeries.answer_problem(folder, kind, content, Limits())
+
+
+def with_blanks(draw, line, most):
+    """A line of digits that are words of one byte each, with at most so many blanks among them."""
+    cuts = sorted(draw.randint(0, most) for _ in line)
+    blanks = [draw.choice([b" ", b"\t"]) * (end - begin) for begin, end in zip([0, *cuts], cuts)]
+    return b"".join(blank + bytes([digit]) for blank, digit in zip(blanks, line))
+
+
+def with_copies(draw, line, most):
+    """A line of columns in which some come again, of about so many bytes, or a blank line where it names none."""
+    words = line.split()
+    return b" ".join(words + draw.choices(words, k=most // 2)) if words else b" " * most
+
+
+def lengthened(draw, kind, content):
+    """A file of the same instance with about as many bytes as one window to three have."""
+    wanted = draw.randint(WINDOW, 3 * WINDOW)
+    head, *others = content.splitlines() or [b""]
+    if kind in ("matrix", "circular"):
+        found = [with_blanks(draw, line, 2 * wanted // (len(others) + 1)) for line in (head, *others)]
+    elif kind == "rows":
+        found = [head] + [with_copies(draw, line, draw.randint(1, 2 * wanted // len(others))) for line in others]
+    else:
+        found = [head] + draw.choices([*others, b""], k=wanted // 4)
+    end = draw.choice([b"\n", b"\r\n"])
+    return draw.choice([b"", b"\xef\xbb\xbf"]) + end.join(found) + draw.choice([b"", end])
+
+
+def solve_long(draw, folder, kind):
+    """One answer of `solve` on a file that is read through several windows."""
+    content = drawn_runs.spoilt(draw, lengthened(draw, kind, drawn_runs.file_of(draw, kind).encode()))
+    yield (len(content), content[:200]), forgeries.answer_problem(folder, kind, content, Limits())
 
 
 def check(draw, folder, kind):
@@ -240,8 +277,8 @@ def meet(draw, folder, _kind):
         yield name, meetings.meeting_problem(columns, *trees, given)
 
 
-WITH_KINDS = {"solve": (solve, KINDS), "check": (check, KINDS), "extend": (extend, PLAIN), "core": (core, PLAIN), "check-core": (check_core, PLAIN),
-              "list": (listing, PLAIN)}
+WITH_KINDS = {"solve": (solve, KINDS), "long": (solve_long, WINDOWED), "check": (check, KINDS), "extend": (extend, PLAIN), "core": (core, PLAIN),
+              "check-core": (check_core, PLAIN), "list": (listing, PLAIN)}
 PARTS = {f"{command}-{kind}": (draws, kind) for command, (draws, kinds) in WITH_KINDS.items() for kind in kinds}
 PARTS |= {"unit": (unit, None), "check-unit": (check_unit, None), "gen": (gen, None), "meet": (meet, None)}
 
