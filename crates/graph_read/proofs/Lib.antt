@@ -16,7 +16,6 @@ pub mod Named
 pub mod RefusalLaws
 pub mod TableRefusals
 pub mod Same
-mod PlainLines
-mod CutLemmas
+mod RoomLemmas
 mod PlacedLemmas
 mod HeadedLemmas

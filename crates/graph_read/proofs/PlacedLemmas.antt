@@ -135,6 +135,12 @@ ascends_prop : (c low : ℕ) (row : List ℕ) → IsProp (Ascends c low row)
 ascends_prop c low [] = hlevel props
 ascends_prop c low (x ∷ row) = hlevel (ascends_prop c x row, props)
 
+-- lists are those of the edges at places
+pub record AreOfPlaces (shape : Shape) (places : List ℕ) (m : RowList) : Type 0 where
+  pub lists : read.Ok m ≡ lists_then shape places []
+  pub sides : IsBigraph (record { left = length m.rows; right = m.columns; neighbours = m.rows })
+  pub vertices : shape ≡ Plain (left_of shape) → IsGraph (record { vertices = m.columns; neighbours = m.rows })
+
 -- the lists that are made of places in order
 module _ (shape : Shape) (places sorted : List ℕ) (left right : ℕ) (l : left ≡ left_of shape) (r : right ≡ right_of shape) (same : (place : ℕ) → has sorted place ≡ has places place)
     (m : RowList) (made : (edges : List Edge) → ArePlaces left right edges sorted → m ≡ record { columns = right; rows = lists_from 1 left right edges }) where
@@ -143,15 +149,11 @@ module _ (shape : Shape) (places sorted : List ℕ) (left right : ℕ) (l : left
       lists_read shape placed.lines left right sorted m l r placed.taken
       (same_places (left_of shape) (right_of shape) (ways shape (edges_of shape placed.lines)) places sorted same placed.are) made
 
-  pub made_lists : IsPlaced shape places → read.Ok m ≡ lists_then shape places []
-  made_lists placed = ∥∥₁_elim placed (hlevel props) (λ p. lists_of_placed p ∙ sym (placed_lists shape places p))
-
-  pub made_bigraph : IsPlaced shape places → 1 ≤ left_of shape → left_of shape ≤ LEFT_BOUND → 1 ≤ right_of shape → right_of shape ≤ COLUMN_BOUND
-      → IsBigraph (record { left = length m.rows; right = m.columns; neighbours = m.rows })
-  made_bigraph placed some few wide narrow =
-      ∥∥₁_elim placed (hlevel (ascends_prop, props)) (λ p. is_bigraph shape m (are_lists shape p.lines m (lists_of_placed p)) some few wide narrow)
-
-  pub made_graph : IsPlaced shape places → shape ≡ Plain (left_of shape) → 1 ≤ left_of shape → right_of shape ≤ COLUMN_BOUND → IsGraph (record { vertices = m.columns; neighbours = m.rows })
-  made_graph placed plain some few =
-      let square : right_of shape ≡ left_of shape = ap right_of plain in
-      ∥∥₁_elim placed (hlevel (ascends_prop, props)) (λ p. is_graph shape (left_of shape) p.lines m plain some (omega arith) (lists_of_placed p))
+  pub made_of_places : IsPlaced shape places → 1 ≤ left_of shape → left_of shape ≤ LEFT_BOUND → 1 ≤ right_of shape → right_of shape ≤ COLUMN_BOUND → AreOfPlaces shape places m
+  made_of_places placed some few wide narrow = record {
+    lists = ∥∥₁_elim placed (hlevel props) (λ p. lists_of_placed p ∙ sym (placed_lists shape places p));
+    sides = ∥∥₁_elim placed (hlevel (ascends_prop, props)) (λ p. is_bigraph shape m (are_lists shape p.lines m (lists_of_placed p)) some few wide narrow);
+    vertices = λ plain.
+        let square : right_of shape ≡ left_of shape = ap right_of plain in
+        ∥∥₁_elim placed (hlevel (ascends_prop, props)) (λ p. is_graph shape (left_of shape) p.lines m plain some (omega arith) (lists_of_placed p));
+  }

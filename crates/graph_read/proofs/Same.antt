@@ -380,13 +380,7 @@ graph_lines_same (first ∷ lines) =
 
 distances_lines_same : (lines : List NumberedLine) → from_head (λ line. size_given MAX_ITEMS (numbers_in line)) distances_sized lines ≡ distances_lines lines
 distances_lines_same [] = refl
-distances_lines_same (first ∷ lines) =
-    by (size_given MAX_ITEMS (numbers_in first.text))
-    ∙ ap (λ found. distances_behind first.number found lines) (sym (items_same (words_of first.text)))
-  where
-    by : (found : Result ℕ ℕ) → if_head first.number found (λ n. distances_sized n lines) ≡ distances_behind first.number found lines
-    by (Err code) = refl
-    by (Ok n) = refl
+distances_lines_same (first ∷ lines) = ap (λ found. distances_behind first.number found lines) (sym (items_same (words_of first.text)))
 
 pub bigraph_same : (limit : ℕ) → limit ≤ LEFT_BOUND → (bytes : List ℕ) → bigraph limit bytes ≡ within_length bytes (bigraph_lines limit (filled_of bytes))
 unfolding bigraph

@@ -1,15 +1,14 @@
 -- The tables of distances that files write.
-use Rattle.std.specs.Prelude.{ℕ, nat_le, List, [], ◌∷◌, length, take, if◌then◌else◌, Option, Some, None, Result, Ok, Err}
+use Rattle.std.specs.Prelude.{ℕ, nat_le, List, length, take, if◌then◌else◌, Option, Some, None, Result, Ok, Err}
 use Rattle.std.specs.List.{concat}
 use Rattle.row_model.specs.declared.refusal.Refusal.{Refusal}
 use Rattle.row_model.specs.declared.refusal.Read.{Read}
-use Rattle.row_model.specs.declared.refusal.Read.TheVariants as read
 use Rattle.row_model.specs.Limits.{within_length}
 use Rattle.row_model.specs.declared.TheConstants.{MAX_ITEMS}
-use Rattle.row_model.specs.declared.code.TheConstants.{EMPTY, GRAMMAR, COUNT, RANGE, LIMIT}
+use Rattle.row_model.specs.declared.code.TheConstants.{GRAMMAR, COUNT, RANGE, LIMIT}
 use Rattle.text_lines.specs.Lines.{NumberedLine}
 use Rattle.text_lines.specs.FirstRefusal.{filled_of}
-use Rattle.text_lines.specs.Heads.{size_given, from_head}
+use Rattle.text_lines.specs.Heads.{size_given, if_head, from_head}
 use Rattle.text_lines.specs.Rows.{first_refusal, refused_or}
 use Rattle.text_lines.specs.Words.{words_of, numbers_in}
 use Rattle.text_lines.specs.declared.words.Numeral.{Numeral}
@@ -54,13 +53,11 @@ distances_sized n lines = refused_or (table_refusal n lines) (table_written n li
 
 -- the distances of the lines behind a first one, which has this number, or the first refusal
 abbrev pub distances_behind : ℕ → Result ℕ ℕ → List NumberedLine → Read DistancesValue
-distances_behind number (Ok n) lines = distances_sized n lines
-distances_behind number (Err code) lines = read.Refused (record { code = code; line = number })
+distances_behind number found lines = if_head number found (λ n. distances_sized n lines)
 
 -- the distances of lines that are not blank, or their first refusal
 abbrev pub distances_lines : List NumberedLine → Read DistancesValue
-distances_lines [] = read.Refused (record { code = EMPTY; line = 0 })
-distances_lines (first ∷ lines) = distances_behind first.number (items_named (one_number (words_of first.text))) lines
+distances_lines = from_head (λ line. items_named (one_number (words_of line))) distances_sized
 
 -- the distances of the bytes of a file, or their first refusal
 unfoldable pub distances : List ℕ → Read DistancesValue

@@ -1,9 +1,9 @@
 -- The first line of a file.
-use Rattle.std.specs.Prelude.{◌≡◌, ◌⊎◌, ℕ, ◌+◌, ◌<◌, ◌≤◌, List, [], ◌∷◌, length, drop, Bool, if◌then◌else◌}
+use Rattle.std.specs.Prelude.{◌≡◌, ◌⊎◌, ℕ, ◌+◌, ◌<◌, ◌≤◌, List, [], ◌∷◌, length, drop}
 use Rattle.row_model.specs.declared.refusal.Refusal.{Refusal}
 use Rattle.row_model.specs.declared.TheConstants.{MAX_FILE_BYTES}
 use Rattle.row_model.specs.declared.code.TheConstants.{EMPTY, LIMIT}
-use Rattle.text_lines.specs.Lines.{without_mark, lines_of, filled_lines}
+use Rattle.text_lines.specs.Lines.{lines_of, filled_lines}
 use Rattle.text_lines.specs.FirstRefusal.{filled_of}
 
 -- the refusal of a file that is too long, or in which each line is blank
@@ -19,7 +19,3 @@ pub record IsHead (bytes text line : List ℕ) (number next : ℕ) : Type 0 wher
   pub small : length text ≤ MAX_FILE_BYTES
   pub within : next ≤ length text
   pub passed : number ≤ next
-
--- a text from its start on without its mark, and any later part of it as it is
-abbrev pub marked_at_start : Bool → List ℕ → List ℕ
-marked_at_start is_begun text = if is_begun then text else without_mark text

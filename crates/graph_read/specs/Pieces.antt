@@ -1,13 +1,13 @@
 -- What is read of a text of edges whose first lines were read.
-use Rattle.std.specs.Prelude.{ℕ, ◌+◌, List, [], ◌∷◌, length, Option, Some, None, Result, Ok, Err, if◌then◌else◌, nat_lt}
+use Rattle.std.specs.Prelude.{ℕ, ◌+◌, List, length, Option, Some, None, Result, if◌then◌else◌, nat_lt}
 use Rattle.row_model.specs.Rows.{RowList}
 use Rattle.row_model.specs.declared.refusal.Read.{Read}
 use Rattle.row_model.specs.declared.refusal.Read.TheVariants as read
-use Rattle.row_model.specs.declared.code.TheConstants.{EMPTY, LIMIT}
-use Rattle.text_lines.specs.Lines.{NumberedLine, lines_of, filled_lines}
+use Rattle.row_model.specs.declared.code.TheConstants.{LIMIT}
+use Rattle.text_lines.specs.Lines.{NumberedLine, lines_of, filled_lines, unmarked_part}
+use Rattle.text_lines.specs.Heads.{if_head, from_head}
 use Rattle.graph_model.specs.Graphs.{BigraphValue, GraphValue}
 use Rattle.graph_read.specs.Edges.{lists_of_lines}
-use Rattle.graph_read.specs.Heads.{marked_at_start}
 use Rattle.graph_read.specs.Headings.{shape_named}
 use Rattle.graph_read.specs.Placed.{lists_then}
 use Rattle.graph_read.specs.declared.edges.Shape.{Shape}
@@ -20,13 +20,11 @@ use Rattle.graph_read.specs.declared.graph_readers.GraphReader.{GraphReader}
 
 -- the lists of the lines behind a first one, which has this number, or the first refusal
 abbrev pub lists_behind : ℕ → Result Shape ℕ → List NumberedLine → Read RowList
-lists_behind number (Ok shape) lines = lists_of_lines shape lines
-lists_behind number (Err code) lines = read.Refused (record { code = code; line = number })
+lists_behind number found lines = if_head number found (λ shape. lists_of_lines shape lines)
 
 -- the lists of lines that are not blank, or their first refusal
 abbrev pub lists_headed : Heading → List NumberedLine → Read RowList
-lists_headed heading [] = read.Refused (record { code = EMPTY; line = 0 })
-lists_headed heading (first ∷ lines) = lists_behind first.number (shape_named heading first.text) lines
+lists_headed heading = from_head (shape_named heading) lists_of_lines
 
 -- the lists of edges that were read, and behind them those of lines, or the first refusal
 abbrev pub begun_then : Heading → Option (Read EdgePlaces) → List NumberedLine → Read RowList
@@ -42,7 +40,7 @@ lines_then read lines = begun_then read.heading read.edges (filled_lines (read.p
 abbrev pub lists_with : EdgesReader → List ℕ → Read RowList
 lists_with reader text =
     if nat_lt reader.room (length text) then read.Refused (record { code = LIMIT; line = 0 })
-    else lines_then reader.lines (lines_of (marked_at_start reader.is_begun text))
+    else lines_then reader.lines (lines_of (unmarked_part reader.is_begun text))
 
 -- the bipartite graph with these lists, or the refusal
 abbrev pub bigraph_of_lists : Read RowList → Read BigraphValue

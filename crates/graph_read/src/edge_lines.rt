@@ -34,9 +34,13 @@ pub fn edge_line(shape: Shape, text: &[u8], at: usize) -> EdgeLine
     ensures from { IfSome result.edge (λ edge. IfOk edge (λ edge. (1 ≤ edge.from) × (edge.from ≤ left_of shape))) }
     ensures to { IfSome result.edge (λ edge. IfOk edge (λ edge. (1 ≤ edge.to) × (edge.to ≤ right_of shape))) }
 {
-    match plain_pair(text, at) {
-        Some(pair) if text[pair.next - 1] == b'\n' => plain_line(shape, at, pair),
-        _ => any_line(shape, text, at),
+    if let Some(pair) = plain_pair(text, at) {
+        return plain_line(shape, at, pair);
+    }
+    let span = line_from(text, at);
+    EdgeLine {
+        span,
+        edge: edge_on(shape, &text[span.start..span.end]),
     }
 }
 
@@ -64,27 +68,19 @@ fn plain_line(shape: Shape, at: usize, pair: PlainPair) -> EdgeLine
     }
 }
 
-// The same of any line.
-fn any_line(shape: Shape, text: &[u8], at: usize) -> EdgeLine
-    requires { at < length text.now }
-    ensures lines { lines_of (drop at text.now)
-        ≡ slice_range text.now result.span.start result.span.end ∷ lines_of (drop result.span.next text.now) }
-    ensures further { (at < result.span.next) × (result.span.next ≤ length text.now) }
-    ensures blank { IfNone result.edge (is_blank (slice_range text.now result.span.start result.span.end) ≡ true) }
-    ensures filled { IfSome result.edge (λ edge. is_blank (slice_range text.now result.span.start result.span.end) ≡ false) }
-    ensures edge { IfSome result.edge (λ edge. edge
-        ≡ edge_named shape (two_numbers (words_of (slice_range text.now result.span.start result.span.end)))) }
-    ensures from { IfSome result.edge (λ edge. IfOk edge (λ edge. (1 ≤ edge.from) × (edge.from ≤ left_of shape))) }
-    ensures to { IfSome result.edge (λ edge. IfOk edge (λ edge. (1 ≤ edge.to) × (edge.to ≤ right_of shape))) }
+// The edge that a line names, or the code of its refusal. A blank line has none.
+fn edge_on(shape: Shape, line: &[u8]) -> Option<Result<Edge, u8>>
+    ensures blank { IfNone result (is_blank line.now ≡ true) }
+    ensures filled { IfSome result (λ edge. is_blank line.now ≡ false) }
+    ensures edge { IfSome result (λ edge. edge ≡ edge_named shape (two_numbers (words_of line.now))) }
+    ensures from { IfSome result (λ edge. IfOk edge (λ edge. (1 ≤ edge.from) × (edge.from ≤ left_of shape))) }
+    ensures to { IfSome result (λ edge. IfOk edge (λ edge. (1 ≤ edge.to) × (edge.to ≤ right_of shape))) }
 {
-    let span = line_from(text, at);
-    let line = &text[span.start..span.end];
-    let edge = if is_blank(line) {
+    if is_blank(line) {
         None
     } else {
         Some(edge_in(shape, line))
-    };
-    EdgeLine { span, edge }
+    }
 }
 
 /// Whether a line has no word.

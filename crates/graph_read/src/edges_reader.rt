@@ -7,16 +7,14 @@ ghost use Rattle.text_lines.specs.FirstRefusal.{filled_of};
 ghost use Rattle.graph_model.specs.declared.TheConstants.{LEFT_BOUND};
 ghost use Rattle.graph_model.specs.Graphs.{IsBigraph, IsGraph};
 ghost use Rattle.graph_read.specs.Headings.{left_limit};
-ghost use Rattle.graph_read.specs.Heads.{marked_at_start};
 
 use crate::headings::Heading;
 use crate::heads::refusal;
 use crate::lines_read::LinesRead;
 use graph_model::LEFT_BOUND;
-use memchr::memrchr;
 use row_model::{MAX_FILE_BYTES, Matrix, NoMemory, Read, code};
 use std::alloc::Global;
-use text_lines::without_mark;
+use text_lines::{unmarked_part, whole_len};
 
 /// The reader of the lists of neighbours of a text of at most [`MAX_FILE_BYTES`] bytes that comes in pieces.
 #[derive(Drop)]
@@ -57,17 +55,17 @@ impl EdgesReader {
         if text.len() as u64 > self.room {
             return Ok((self, 0));
         }
-        let Some(last) = memrchr(b'\n', text) else {
+        let Some(len) = whole_len(text) else {
             return Ok((self, 0));
         };
-        let whole = unmarked(self.is_begun, &text[..last + 1]);
+        let whole = unmarked_part(self.is_begun, &text[..len]);
         let lines = self.lines.with_lines(alloc, whole)?;
         let reader = EdgesReader {
             is_begun: true,
-            room: self.room - (last + 1) as u64,
+            room: self.room - len as u64,
             lines,
         };
-        Ok((reader, last + 1))
+        Ok((reader, len))
     }
 
     /// The lists of the text, or its first refusal, where these bytes are left of it.
@@ -85,15 +83,9 @@ impl EdgesReader {
         if text.len() as u64 > self.room {
             return Ok(Read::Refused(refusal(code::LIMIT, 0)));
         }
-        let lines = self.lines.with_lines(alloc, unmarked(self.is_begun, text))?;
+        let lines = self
+            .lines
+            .with_lines(alloc, unmarked_part(self.is_begun, text))?;
         lines.lists(alloc)
     }
-}
-
-// A text from its start on without its mark, and any later part of it as it is.
-fn unmarked(is_begun: bool, text: &[u8]) -> &[u8]
-    ensures text { result.now ≡ marked_at_start is_begun text.now }
-    ensures within { length result.now ≤ length text.now }
-{
-    if is_begun { text } else { without_mark(text) }
 }

@@ -4,7 +4,6 @@ pub mod DenseLemmas
 pub mod BitPlaceLemmas
 pub mod WrittenLemmas
 pub mod SparseLemmas
-pub mod CutLemmas
 pub mod NameLemmas
 pub mod CloneLemmas
 pub mod RecordLemmas

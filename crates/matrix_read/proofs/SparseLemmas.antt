@@ -1,5 +1,5 @@
 -- Rows that name their columns.
-use Rattle.std.proofs.Common.{◌≡◌, ℕ, arith, ◌<◌, ◌≤◌, ◌+◌, ◌||◌, List, [], ◌∷◌, ◌++◌, length, map, take, set, append_assoc, length-append, slice_range, refl, sym, ap, ◌∙◌, Bool, true, false, Option, None, Some, Result, Ok, Err}
+use Rattle.std.proofs.Common.{◌≡◌, ℕ, arith, ◌<◌, ◌≤◌, ◌+◌, ◌||◌, List, [], ◌∷◌, ◌++◌, length, map, take, set, append_assoc, length-append, slice_range, refl, sym, ap, ◌∙◌, Bool, true, false, Option, None, Some, Ok, Err}
 use Rattle.std.proofs.lemmas.Bool.{lt-leb}
 use Rattle.std.proofs.lemmas.Bool.Decides.{nat_tests}
 use Rattle.std.proofs.lemmas.Grind.{common_steps}
@@ -9,7 +9,7 @@ use Rattle.row_model.specs.Rows.{RowList, IsRow}
 use Rattle.row_model.specs.declared.refusal.Read.TheVariants as read
 use Rattle.row_model.specs.declared.TheConstants.{MAX_COLUMNS, MAX_ROWS, MAX_FILE_BYTES}
 use Rattle.row_model.specs.declared.code.TheConstants.{GRAMMAR, LIMIT}
-use Rattle.text_lines.specs.Heads.{size_given, if_head, from_head}
+use Rattle.text_lines.specs.Heads.{size_given, from_head}
 use Rattle.text_lines.specs.Lines.{is_blank, lines_of, without_mark, NumberedLine}
 use Rattle.text_lines.specs.Words.{words_of, blank_len, word_len, number_of, numbers_in, IsFirstNumber}
 use Rattle.matrix_read.specs.SparseSteps.{only_word, width_of_number, width_given, row_named, columns_named, rows_behind, sparse_lines}
@@ -98,11 +98,7 @@ width_same (word ∷ other ∷ words) = by (number_of word)
 
 pub sparse_lines_same : (lines : List NumberedLine) → from_head (λ line. size_given MAX_COLUMNS (numbers_in line)) named_rows lines ≡ sparse_lines lines
 sparse_lines_same [] = refl
-sparse_lines_same (first ∷ lines) = by (size_given MAX_COLUMNS (numbers_in first.text)) ∙ ap (λ width. rows_behind first.number width lines) (sym (width_same (words_of first.text)))
-  where
-    by : (width : Result ℕ ℕ) → if_head first.number width (λ c. named_rows c lines) ≡ rows_behind first.number width lines
-    by (Err code) = refl
-    by (Ok c) = refl
+sparse_lines_same (first ∷ lines) = ap (λ width. rows_behind first.number width lines) (sym (width_same (words_of first.text)))
 
 -- the length of the file comes first
 module _ (bytes : List ℕ) where

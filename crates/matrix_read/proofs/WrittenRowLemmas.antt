@@ -1,6 +1,6 @@
 -- The text of lines that name the columns of rows is read as these rows.
 use Rattle.std.proofs.Common.{◌≡◌, ◌⊎◌, ℕ, ◌<◌, ◌≤◌, ◌+◌, ◌^◌, List, [], ◌∷◌, ◌++◌, length, map, ap, sym, ◌∙◌, refl, arith, None, Some, Ok, true, false, ◌==◌, not, eq-eqb, inl, inr}
-use Rattle.std.proofs.lemmas.Bool.{cases_eq, ne_eqb, le-leb, le-ltb, leb-true, and_parts, or_right}
+use Rattle.std.proofs.lemmas.Bool.{ne_eqb, le-leb, le-ltb, leb-true, and_parts, or_right}
 use Rattle.std.proofs.lemmas.List.{append-nil}
 use Rattle.std.proofs.lemmas.Fmt.{digits_decimal, digits_value-decimal, decimal_nonempty, IsAscii-decimal}
 use Rattle.std.proofs.lemmas.Str.{IsAscii-append}
@@ -13,7 +13,7 @@ use Rattle.std.specs.Str.{IsAscii}
 use Rattle.std.proofs.Common.{rules}
 use Rattle.column_order.specs.Orders.{has}
 use Rattle.column_order.specs.declared.TheConstants.{COLUMN_BOUND}
-use Rattle.row_model.specs.Rows.{Ascends}
+use Rattle.row_model.proofs.Ascending.{row_within}
 use Rattle.row_model.specs.declared.refusal.Read.TheVariants as read
 use Rattle.row_model.specs.declared.TheConstants.{MAX_COLUMNS, MAX_ROWS}
 use Rattle.text_lines.specs.Lines.{NumberedLine, is_blank_byte, without_mark, without_return, line_parts, lines_of}
@@ -105,18 +105,6 @@ module _ (c : ℕ) (small : c ≤ COLUMN_BOUND) where
       let taken : column_code c (number_of (decimal column)) ≡ None = ap (column_code c) (decimal_value column (small_enough column within.0.1)) ∙ rw (le-leb 1 column within.0.0, le-leb column c within.0.1) refl in
       sym (words_next c (map decimal (column ∷ columns)) (map decimal columns) (decimal column) refl taken) ∙ words_code-decimals columns within.1
 
--- what a row has is within its columns
-has_within : (c low a : ℕ) (row : List ℕ) → Ascends c low row → has row a ≡ true → (low < a) × (a ≤ c)
-has_within c low a [] h found = absurd (cc)
-has_within c low a (x ∷ row) h found =
-    elim (cases_eq x a) [
-      | inl same ↦ (omega (arith, h.0, same), omega (arith, h.1, same))
-      | inr other ↦
-          let later : has row a ≡ true = rw (ne_eqb x a other) at found in
-          let rest = has_within c x a row h.2 later in
-          (omega (arith, h.0, rest.0), rest.1)
-    ]
-
 all_within : (c : ℕ) (columns : List ℕ) → ((a : ℕ) → has columns a ≡ true → (1 ≤ a) × (a ≤ c)) → AreWithin c columns
 all_within c [] h = tt
 all_within c (column ∷ columns) h =
@@ -125,7 +113,7 @@ all_within c (column ∷ columns) h =
 
 module _ (c : ℕ) (small : c ≤ COLUMN_BOUND) (columns row : List ℕ) (names : Names c columns row) where
   named_within : AreWithin c columns
-  named_within = all_within c columns (λ a found. let bounds = has_within c 0 a row names.is_row (sym (names.same a) ∙ found) in (omega (arith, bounds.0), bounds.1))
+  named_within = all_within c columns (λ a found. row_within c row names.is_row a (sym (names.same a) ∙ found))
 
   row_named-line : row_named c (named_line columns) ≡ row
   row_named-line =

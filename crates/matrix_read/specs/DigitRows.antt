@@ -5,10 +5,9 @@ use Rattle.row_model.specs.declared.TheConstants.{MAX_FILE_BYTES}
 use Rattle.row_model.specs.declared.code.TheConstants.{LIMIT}
 use Rattle.row_model.specs.declared.refusal.Read.{Read}
 use Rattle.row_model.specs.declared.refusal.Read.TheVariants as read
-use Rattle.text_lines.specs.Lines.{lines_of, filled_lines}
+use Rattle.text_lines.specs.Lines.{lines_of, filled_lines, unmarked_part}
 use Rattle.matrix_read.specs.DenseSteps.{read_lines}
 use Rattle.matrix_read.specs.DigitsThen.{digits_then}
-use Rattle.matrix_read.specs.NamedRows.{marked_at_start}
 use Rattle.matrix_read.specs.declared.digit_rows.DigitRows.{DigitRows}
 use Rattle.matrix_read.specs.declared.dense_reader.DenseReader.{DenseReader}
 
@@ -26,4 +25,4 @@ lines_then passed (Some rows) lines = read_digits_then passed rows lines
 abbrev pub dense_with : DenseReader → List ℕ → Read RowList
 dense_with reader text =
     if nat_lt MAX_FILE_BYTES (reader.taken + length text) then read.Refused (record { code = LIMIT; line = 0 })
-    else lines_then reader.passed reader.rows (lines_of (marked_at_start reader.is_begun text))
+    else lines_then reader.passed reader.rows (lines_of (unmarked_part reader.is_begun text))

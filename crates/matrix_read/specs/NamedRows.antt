@@ -1,9 +1,9 @@
 -- What is read of a text whose first lines were read.
-use Rattle.std.specs.Prelude.{ℕ, List, Option, Some, None, Bool, if◌then◌else◌}
+use Rattle.std.specs.Prelude.{ℕ, List, Option, Some, None}
 use Rattle.row_model.specs.Rows.{RowList}
 use Rattle.row_model.specs.declared.refusal.Read.{Read}
 use Rattle.row_model.specs.declared.refusal.Read.TheVariants as read
-use Rattle.text_lines.specs.Lines.{without_mark, lines_of}
+use Rattle.text_lines.specs.Lines.{lines_of, unmarked_part}
 use Rattle.text_lines.specs.Rows.{numbered_lines}
 use Rattle.matrix_read.specs.SparseSteps.{sparse_lines}
 use Rattle.matrix_read.specs.RowsThen.{rows_then}
@@ -24,10 +24,6 @@ abbrev pub begun_then : Option (Read NamedRows) → List (List ℕ) → Read Row
 begun_then (Some rows) lines = read_then rows lines
 begun_then None lines = sparse_lines (numbered_lines 1 lines)
 
--- a text from its start on without its mark, and any later part of it as it is
-abbrev pub marked_at_start : Bool → List ℕ → List ℕ
-marked_at_start is_begun text = if is_begun then text else without_mark text
-
 -- the matrix of a text of which these bytes are left, or its first refusal
 abbrev pub rows_with : RowsReader → List ℕ → Read RowList
-rows_with reader text = begun_then reader.rows (lines_of (marked_at_start reader.is_begun text))
+rows_with reader text = begun_then reader.rows (lines_of (unmarked_part reader.is_begun text))

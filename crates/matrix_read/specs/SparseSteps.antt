@@ -2,12 +2,12 @@
 use Rattle.std.specs.Prelude.{ℕ, ◌==◌, List, [], ◌∷◌, map, if◌then◌else◌, nat_lt, Option, Some, None, Result, Ok, Err}
 use Rattle.row_model.specs.Rows.{RowList}
 use Rattle.row_model.specs.declared.refusal.Read.{Read}
-use Rattle.row_model.specs.declared.refusal.Read.TheVariants as read
 use Rattle.row_model.specs.declared.TheConstants.{MAX_COLUMNS}
-use Rattle.row_model.specs.declared.code.TheConstants.{EMPTY, GRAMMAR, RANGE, LIMIT}
+use Rattle.row_model.specs.declared.code.TheConstants.{GRAMMAR, RANGE, LIMIT}
 use Rattle.text_lines.specs.Lines.{NumberedLine}
 use Rattle.text_lines.specs.Words.{words_of, number_after, number_of}
 use Rattle.text_lines.specs.Rows.{columns_among}
+use Rattle.text_lines.specs.Heads.{if_head, from_head}
 use Rattle.matrix_read.specs.Sparse.{named_rows}
 
 -- the numbers that words write
@@ -35,10 +35,8 @@ width_given (Some word) = width_of_number (number_of word)
 
 -- the rows of the lines behind a first one, which has this number, or the first refusal
 abbrev pub rows_behind : ℕ → Result ℕ ℕ → List NumberedLine → Read RowList
-rows_behind number (Ok c) lines = named_rows c lines
-rows_behind number (Err code) lines = read.Refused (record { code = code; line = number })
+rows_behind number width lines = if_head number width (λ c. named_rows c lines)
 
 -- the matrix of lines, or their first refusal
 abbrev pub sparse_lines : List NumberedLine → Read RowList
-sparse_lines [] = read.Refused (record { code = EMPTY; line = 0 })
-sparse_lines (first ∷ lines) = rows_behind first.number (width_given (only_word (words_of first.text))) lines
+sparse_lines = from_head (λ line. width_given (only_word (words_of line))) named_rows

@@ -6,10 +6,9 @@ ghost use Rattle.matrix_read.specs.Dense.{dense};
 use crate::digit_lines::{further, matrix_read};
 use crate::digit_rows::DigitRows;
 use crate::rows::refused;
-use crate::rows_reader::unmarked;
-use memchr::memrchr;
 use row_model::{MAX_FILE_BYTES, Matrix, NoMemory, Read, code};
 use std::alloc::Global;
+use text_lines::{unmarked_part, whole_len};
 
 /// The reader of [`read_dense`](crate::read_dense) over a text that comes in pieces.
 ///
@@ -52,19 +51,18 @@ impl DenseReader {
         if text.len() > MAX_FILE_BYTES as usize - self.taken {
             return Ok((self, 0));
         }
-        let Some(last) = memrchr(b'\n', text) else {
+        let Some(len) = whole_len(text) else {
             return Ok((self, 0));
         };
-        let lines = unmarked(self.is_begun, &text[..last + 1]);
-        let taken = self.taken + last + 1;
+        let lines = unmarked_part(self.is_begun, &text[..len]);
         let read = further(alloc, self.rows, lines, self.passed)?;
         let reader = DenseReader {
             is_begun: true,
-            taken,
+            taken: self.taken + len,
             passed: read.passed,
             rows: read.rows,
         };
-        Ok((reader, last + 1))
+        Ok((reader, len))
     }
 
     /// The matrix of the text, or its first refusal, where these bytes are left of it.
@@ -78,7 +76,7 @@ impl DenseReader {
         if text.len() > MAX_FILE_BYTES as usize - self.taken {
             return Ok(refused(code::LIMIT, 0));
         }
-        let lines = unmarked(self.is_begun, text);
+        let lines = unmarked_part(self.is_begun, text);
         let read = further(alloc, self.rows, lines, self.passed)?;
         Ok(matrix_read(read.rows))
     }

@@ -5,15 +5,14 @@ ghost use Rattle.text_lines.specs.Lines.{lines_of};
 ghost use Rattle.text_lines.specs.Rows.{numbered_lines};
 ghost use Rattle.matrix_read.specs.Sparse.{sparse};
 ghost use Rattle.matrix_read.specs.SparseSteps.{sparse_lines};
-ghost use Rattle.matrix_read.specs.NamedRows.{rows_with, begun_then, read_then, marked_at_start};
+ghost use Rattle.matrix_read.specs.NamedRows.{rows_with, begun_then, read_then};
 
 use crate::named_rows::NamedRows;
 use crate::rows::refused;
 use crate::sparse::width_given;
-use memchr::memrchr;
 use row_model::{MAX_FILE_BYTES, Matrix, NoMemory, Read, Refusal, code};
 use std::alloc::Global;
-use text_lines::{next_line, without_mark};
+use text_lines::{next_line, unmarked_part, whole_len};
 
 /// The reader of [`read_rows`](crate::read_rows) over a text of at most [`MAX_FILE_BYTES`] bytes that comes in pieces.
 ///
@@ -44,16 +43,16 @@ impl RowsReader {
         ensures within { IfOk result (λ taken. taken.1 ≤ length text.now) }
         ensures rows { IfOk result (λ taken. (rest : List ℕ) → rows_with taken.0 (drop taken.1 text.now ++ rest) ≡ rows_with self (text.now ++ rest)) }
     {
-        let Some(last) = memrchr(b'\n', text) else {
+        let Some(len) = whole_len(text) else {
             return Ok((self, 0));
         };
-        let lines = unmarked(self.is_begun, &text[..last + 1]);
+        let lines = unmarked_part(self.is_begun, &text[..len]);
         let rows = further(alloc, self.rows, lines)?;
         let reader = RowsReader {
             is_begun: true,
             rows,
         };
-        Ok((reader, last + 1))
+        Ok((reader, len))
     }
 
     /// The matrix of the text, or its first refusal, where these bytes are left of it.
@@ -64,20 +63,12 @@ impl RowsReader {
     pub fn finish(self, alloc: Global, text: &[u8]) -> Result<Read<Matrix>, NoMemory>
         ensures { IfOk result (λ read. read ≡ rows_with self text.now) }
     {
-        let lines = unmarked(self.is_begun, text);
+        let lines = unmarked_part(self.is_begun, text);
         match further(alloc, self.rows, lines)? {
             None => Ok(refused(code::EMPTY, 0)),
             Some(rows) => Ok(matrix_of(rows)),
         }
     }
-}
-
-/// A text from its start on without its mark, and any later part of it as it is.
-pub(crate) fn unmarked(is_begun: bool, text: &[u8]) -> &[u8]
-    ensures text { result.now ≡ marked_at_start is_begun text.now }
-    ensures within { length result.now ≤ length text.now }
-{
-    if is_begun { text } else { without_mark(text) }
 }
 
 // The rows that were read and behind them those of the lines of a text, or the first refusal.

@@ -1,5 +1,5 @@
 -- Ascending rows: each of their columns stands in them once, and they are in range.
-use Rattle.std.proofs.Common.{◌≡◌, ℕ, ◌<◌, ◌≤◌, false, eqb, List, [], ◌∷◌, length, ◌-◌, IsTrue, refl, inl, inr, arith, eq-eqb}
+use Rattle.std.proofs.Common.{◌≡◌, ℕ, ◌<◌, ◌≤◌, false, eqb, List, [], ◌∷◌, ◌++◌, length, ◌-◌, IsTrue, refl, inl, inr, arith, eq-eqb}
 use Rattle.std.proofs.lemmas.Bool.{cond-true, cond-false, cases_eq, ne_eqb, both_ways}
 use Rattle.column_order.specs.Orders.{has, occurs, IsWithin}
 use Rattle.column_order.proofs.Lists.{has_cases, lacks_from_occurs}
@@ -33,6 +33,16 @@ ascends_within c low a (x ∷ row) h k =
 pub ascends_lower : (c low high : ℕ) (row : List ℕ) → low ≤ high → Ascends c high row → Ascends c low row
 ascends_lower c low high [] l h = tt
 ascends_lower c low high (x ∷ row) l h = (omega (arith, l, h.0), h.1, h.2)
+
+-- a row is one over more columns
+pub ascends_wider : (c d low : ℕ) (row : List ℕ) → c ≤ d → Ascends c low row → Ascends d low row
+ascends_wider c d low [] l h = tt
+ascends_wider c d low (x ∷ row) l h = (h.0, omega (arith, l, h.1), ascends_wider c d x row l h.2)
+
+-- a column above all those of a row may stand after them
+pub ascends_longer : (c low column : ℕ) (row : List ℕ) → low ≤ c → c < column → Ascends c low row → Ascends column low (row ++ column ∷ [])
+ascends_longer c low column [] l lt h = (omega arith, omega arith, tt)
+ascends_longer c low column (x ∷ row) l lt h = (h.0, omega (arith, h.1), ascends_longer c x column row h.1 lt h.2)
 
 pub lacks_low : (c low a : ℕ) (row : List ℕ) → Ascends c low row → a ≤ low → has row a ≡ false
 lacks_low c low a row h l = lacks_from_occurs row a (none_below c low a row h l)

@@ -1,15 +1,15 @@
 -- Marks in a block of a text, which tell where digits end.
-use Rattle.std.proofs.Common.{◌≡◌, ◌≢◌, ◌∙◌, ℕ, ◌+◌, ◌-◌, ◌*◌, ◌/◌, ◌%◌, ◌^◌, ◌<◌, ◌≤◌, true, false, cond, leb, List, length, map, drop, get_or, slice_range, sym, ap, arith, inl, inr, pow-suc}
+use Rattle.std.proofs.Common.{◌≡◌, ◌≢◌, ◌∙◌, ℕ, ◌+◌, ◌-◌, ◌*◌, ◌/◌, ◌%◌, ◌^◌, ◌<◌, ◌≤◌, true, false, cond, leb, w64, List, length, map, drop, get_or, slice_range, sym, ap, arith, inl, inr, pow-suc}
 use Rattle.std.proofs.lemmas.Bool.{cases_eq, cases_lt}
 use Rattle.std.proofs.lemmas.Bool.Decides.{nat_tests}
 use Rattle.std.proofs.lemmas.Grind.{common_steps}
 use Rattle.std.proofs.lemmas.Nat.{div-add-mod', mod-pow-add, pow_pos}
 use Rattle.std.proofs.Math.Nat.{mod-lt}
-use Rattle.std.proofs.lemmas.Nat.Bits.{bit_at_and, bit_at_cat_low, bit_at_cat_high, bit_at_ones_above, same_from_bits_below, bit_at-zero}
+use Rattle.std.proofs.lemmas.Nat.Bits.{bit_at_and, bit_at_cat_low, bit_at_cat_high, bit_at_ones_above, same_from_bits_below, bit_at-zero, bit_at-trailing_zeros}
 use Rattle.std.proofs.lemmas.List.{get_or-drop, get_or-map, get_or_past, length-drop, length-map}
 use Rattle.std.proofs.lemmas.Simd.{bit_mask_l, length-chunk, get_or-chunk}
 use Rattle.std.specs.Char.{is_ascii_digit}
-use Rattle.std.specs.Int.{bit_at}
+use Rattle.std.specs.Int.{bit_at, trailing_zeros}
 use Rattle.std.specs.List.{list_all}
 use Rattle.std.specs.Prelude.{bit_and}
 use Rattle.std.specs.Simd.Lanes.{chunk, mask_l}
@@ -30,10 +30,10 @@ no_ends text at = record {
 
 -- the marks of the digits from a place on, and those behind the byte at their end
 module _ (text : List ℕ) (at block marks t : ℕ) (ends : AreDigitEnds text at block marks) (lowest : IsLowest marks t) where
-  pub end_room : (at ≤ block + t) × (block + t + 4 ≤ length text)
+  end_room : (at ≤ block + t) × (block + t + 4 ≤ length text)
   end_room = ends.ahead t lowest.1
 
-  pub ended_digits : list_all is_ascii_digit (slice_range text at (block + t)) ≡ true
+  ended_digits : list_all is_ascii_digit (slice_range text at (block + t)) ≡ true
   ended_digits = digits_front (drop at text) (block + t - at) (omega (arith, length-drop at text, end_room)) each
     where
       each : (k : ℕ) → k < block + t - at → is_ascii_digit (get_or (drop at text) k 0) ≡ true
@@ -43,7 +43,7 @@ module _ (text : List ℕ) (at block marks t : ℕ) (ends : AreDigitEnds text at
           let digit : is_ascii_digit (get_or text (block + i) 0) ≡ true = ends.digits i t (omega arith) lowest.1 (lowest.2 i (omega arith)) (omega arith) in
           ap is_ascii_digit (get_or-drop at text k 0 ∙ ap (λ n. get_or text n 0) (sym here)) ∙ digit
 
-  pub ends_behind : (rest : ℕ) → bit_at rest t ≡ 0 → ((k : ℕ) → k ≢ t → bit_at rest k ≡ bit_at marks k) → AreDigitEnds text (block + t + 1) block rest
+  ends_behind : (rest : ℕ) → bit_at rest t ≡ 0 → ((k : ℕ) → k ≢ t → bit_at rest k ≡ bit_at marks k) → AreDigitEnds text (block + t + 1) block rest
   ends_behind rest cleared others = record {
     begun = omega arith;
     ahead = λ k bit. let after : t < k = later k bit in (omega arith, (ends.ahead k (marked k bit)).1);
@@ -68,6 +68,23 @@ module _ (text : List ℕ) (at block marks t : ℕ) (ends : AreDigitEnds text at
           | inr other ↦ absurd (omega (arith, marked k bit, lowest.2 k (omega arith)))
         ]
       ]
+
+-- the same for the lowest mark, where there is one
+module _ (text : List ℕ) (at block marks : ℕ) (ends : AreDigitEnds text at block marks) (some : 0 < marks) (fits : marks < 2 ^ 64) where
+  abbrev lowest : ℕ
+  lowest = trailing_zeros w64 marks
+
+  is_lowest : IsLowest marks lowest
+  is_lowest = bit_at-trailing_zeros w64 marks some fits
+
+  pub lowest_room : (at ≤ block + lowest) × (block + lowest + 4 ≤ length text)
+  lowest_room = end_room text at block marks lowest ends is_lowest
+
+  pub lowest_digits : list_all is_ascii_digit (slice_range text at (block + lowest)) ≡ true
+  lowest_digits = ended_digits text at block marks lowest ends is_lowest
+
+  pub lowest_behind : (rest : ℕ) → bit_at rest lowest ≡ 0 → ((k : ℕ) → k ≢ lowest → bit_at rest k ≡ bit_at marks k) → AreDigitEnds text (block + lowest + 1) block rest
+  lowest_behind rest cleared others = ends_behind text at block marks lowest ends is_lowest rest cleared others
 
 -- the marks of a block
 module _ (text : List ℕ) (at : ℕ) (room : at + 68 ≤ length text) (bytes : (k : ℕ) → get_or text k 0 < 256) where

@@ -1,4 +1,5 @@
 pub mod LineLemmas
+pub mod CutLemmas
 pub mod WordLemmas
 pub mod TextLemmas
 pub mod FirstRefused

@@ -7,10 +7,10 @@ use Rattle.std.proofs.lemmas.List.{get_or-drop, drop_more, length-drop}
 use Rattle.std.proofs.lemmas.List.Folds.{drop_split}
 use Rattle.std.specs.Char.{is_ascii_digit}
 use Rattle.std.specs.List.{list_all}
-use Rattle.text_lines.specs.Lines.{line_len, first_line, without_return, lines_of, is_blank, filled_lines}
+use Rattle.text_lines.specs.Lines.{line_len, first_line, without_return, lines_of, is_blank}
 use Rattle.text_lines.specs.Words.{words_of, number_after, numeral_of, IsFirstNumber}
 use Rattle.text_lines.specs.declared.words.Numeral.TheVariants.{Value}
-use Rattle.text_lines.proofs.LineLemmas.{lines_split, rest_is, filled_here}
+use Rattle.text_lines.proofs.LineLemmas.{lines_split, rest_is}
 use Rattle.text_lines.proofs.WordLemmas.{length-slice_range, words_of_blank, words_of_blanks, numeral_small}
 use Rattle.text_lines.proofs.TextLemmas.{word_before, no_words}
 use Rattle.text_lines.proofs.FewDigits.{digits_filled, digit_more, value_more}
@@ -166,18 +166,28 @@ module _ (text : List ℕ) (at middle end : ℕ) (some : at < middle) (more : mi
   second_number : IsFirstNumber (words_of (first_line (drop (middle + 1) text))) (Value w) (words_of [])
   second_number = feed_number text (middle + 1) end (omega arith) lt further feed w second small2 more
 
-  pub pair_numbers : map numeral_of (words_of (slice_range text at (end + 1 - 1))) ≡ Value v ∷ Value w ∷ []
-  pair_numbers =
+  numbers : map numeral_of (words_of (slice_range text at (end + 1 - 1))) ≡ Value v ∷ Value w ∷ []
+  numbers =
       ap (λ line. map numeral_of (words_of line)) pair_text
       ∙ ap (map numeral_of) (first_number.is ∙ ap (λ words. first_number.word ∷ words) (second_number.is ∙ ap (λ words. second_number.word ∷ words) no_words))
       ∙ ap (λ number. number ∷ numeral_of second_number.word ∷ []) (sym first_number.writes)
       ∙ ap (λ number. Value v ∷ number ∷ []) (sym second_number.writes)
 
-  pub pair_line : (number : ℕ) → filled_lines number (lines_of (drop at text)) ≡ record { number = number; text = slice_range text at (end + 1 - 1) } ∷ filled_lines (number + 1) (lines_of (drop (end + 1) text))
-  pair_line number =
-      let later : List (List ℕ) = lines_of (drop (end + 1) text) in
+  lines : lines_of (drop at text) ≡ slice_range text at (end + 1 - 1) ∷ lines_of (drop (end + 1) text)
+  lines =
       let whole : without_return (first_line (drop at text)) ≡ slice_range text at (end + 1 - 1) =
       space_return text at middle (omega arith) (omega arith) digits space (feed_return text (middle + 1) end (omega arith) lt further feed) ∙ sym pair_text in
-      let filled : is_blank (slice_range text at (end + 1 - 1)) ≡ false = ap is_blank pair_text ∙ word_filled (first_line (drop at text)) first_number.word _ first_number.is in
-      ap (filled_lines number) (lines_behind text at (end + 1) (ap (λ n. n + 1) pair_len) (omega arith) ∙ ap (λ line. line ∷ later) whole)
-      ∙ filled_here number (slice_range text at (end + 1 - 1)) later filled
+      lines_behind text at (end + 1) (ap (λ n. n + 1) pair_len) (omega arith) ∙ ap (λ line. line ∷ lines_of (drop (end + 1) text)) whole
+
+  -- they are a line, and it has these two numbers
+  pub record IsPairLine : Type 0 where
+    pub lines : lines_of (drop at text) ≡ slice_range text at (end + 1 - 1) ∷ lines_of (drop (end + 1) text)
+    pub filled : is_blank (slice_range text at (end + 1 - 1)) ≡ false
+    pub numbers : map numeral_of (words_of (slice_range text at (end + 1 - 1))) ≡ Value v ∷ Value w ∷ []
+
+  pub pair_line : IsPairLine
+  pair_line = record {
+    lines = lines;
+    filled = ap is_blank pair_text ∙ word_filled (first_line (drop at text)) first_number.word _ first_number.is;
+    numbers = numbers;
+  }

@@ -8,6 +8,10 @@ abbrev pub without_mark : List ℕ → List ℕ
 without_mark (a ∷ b ∷ c ∷ bytes) = if (a == 239) && (b == 187) && (c == 191) then bytes else a ∷ b ∷ c ∷ bytes
 without_mark bytes = bytes
 
+-- a part of a text from its start on without its mark, and any later part as it is
+abbrev pub unmarked_part : Bool → List ℕ → List ℕ
+unmarked_part is_begun text = if is_begun then text else without_mark text
+
 -- how many bytes stand before the first line feed, or in all
 abbrev pub line_len : List ℕ → ℕ
 line_len [] = 0

@@ -8,12 +8,14 @@ mod digit_word;
 mod four_digits;
 mod laws;
 mod lines;
+mod pieces;
 mod plain;
 mod words;
 
 pub use digit_ends::{DigitEnds, EndedRun, next_digits};
 pub use laws::text_laws;
 pub use lines::{FilledLine, LineSpan, line_from, next_filled_line, next_line, without_mark};
+pub use pieces::{unmarked_part, whole_len};
 pub use plain::{DigitRun, PlainPair, plain_pair};
 pub use words::{
     NumberWord, Numeral, WordSpan, all_digits, count_blanks, next_number, next_word, number,

@@ -1,8 +1,8 @@
 // Lines in the plainest form: numbers with one space between two, and a line feed behind the last.
-ghost use Rattle.std.specs.Prelude.{◌≡◌, ◌+◌, ◌-◌, ◌<◌, ◌≤◌, ◌∷◌, [], ℕ, true, length, drop, map, slice_range, None, IfSome};
+ghost use Rattle.std.specs.Prelude.{◌≡◌, ◌-◌, ◌<◌, ◌≤◌, ◌∷◌, [], true, false, length, drop, map, slice_range, None, IfSome};
 ghost use Rattle.std.specs.Char.{is_ascii_digit};
 ghost use Rattle.std.specs.List.{list_all};
-ghost use Rattle.text_lines.specs.Lines.{lines_of, filled_lines};
+ghost use Rattle.text_lines.specs.Lines.{lines_of, is_blank};
 ghost use Rattle.text_lines.specs.Words.{words_of, number_after, numeral_of};
 
 use crate::digit_word::{WORD, few_digits_at};
@@ -80,9 +80,9 @@ pub struct PlainPair {
 pub fn plain_pair(text: &[u8], at: usize) -> Option<PlainPair>
     requires { at ≤ length text.now }
     ensures range { IfSome result (λ pair. (at < pair.next) × (pair.next ≤ length text.now)) }
-    ensures line { IfSome result (λ pair. (number : ℕ) → filled_lines number (lines_of (drop at text.now))
-        ≡ record { number = number; text = slice_range text.now at (pair.next - 1) }
-        ∷ filled_lines (number + 1) (lines_of (drop pair.next text.now))) }
+    ensures lines { IfSome result (λ pair. lines_of (drop at text.now)
+        ≡ slice_range text.now at (pair.next - 1) ∷ lines_of (drop pair.next text.now)) }
+    ensures filled { IfSome result (λ pair. is_blank (slice_range text.now at (pair.next - 1)) ≡ false) }
     ensures numbers { IfSome result (λ pair. map numeral_of (words_of (slice_range text.now at (pair.next - 1)))
         ≡ Numeral.Value pair.first ∷ Numeral.Value pair.second ∷ []) }
 {

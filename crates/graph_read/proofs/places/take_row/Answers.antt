@@ -1,6 +1,7 @@
 use Rattle.std.proofs.Common.{◌≡◌, ◌∙◌, ◌+◌, ◌-◌, ◌≤◌, ℕ, true, ap, sym, refl, arith, get_or}
 use Rattle.column_order.specs.Orders.{has}
-use Rattle.graph_read.proofs.PlaceLemmas.{row_more, row_wider, has_last, take_new, take_known}
+use Rattle.row_model.proofs.Ascending.{ascends_longer, ascends_wider}
+use Rattle.graph_read.proofs.PlaceLemmas.{has_last, take_new, take_known}
 use Rattle.graph_read.proofs.places.take_row.Goals as goal
 use Rattle.graph_read.proofs.places.take_row.Goals.{then-number-last+in_ok-push, else-number-last}
 
@@ -20,7 +21,7 @@ loop-at-preserved c =
           rw (w.list-is, w.last-is) (record {
             range = (omega (arith, was.range.0), omega (arith, c.loop-at-test.true));
             last = omega (arith, c.if-places-at.true);
-            row = rw more (row_more last 0 number list was.row (omega arith) w.if-number-last.true);
+            row = rw more (ascends_longer last 0 number list (omega arith) w.if-number-last.true was.row);
             known = λ some. rw more (has_last list number);
             later = λ k le lt. omega (arith, c.requires.ascending at k 0 (omega arith) lt);
             above = λ k le lt. was.above k (omega arith) lt;
@@ -42,7 +43,7 @@ loop-at-preserved c =
     ]
 
 pub returns-else-places-at-clause-row : goal.returns-else-places-at-clause-row
-returns-else-places-at-clause-row c = row_wider c.loop-at.last c.args.right 0 c.loop-at.list.items c.loop-at.invariant.row c.loop-at.invariant.last
+returns-else-places-at-clause-row c = ascends_wider c.loop-at.last c.args.right 0 c.loop-at.list.items c.loop-at.invariant.last c.loop-at.invariant.row
 
 pub returns-after-loop-at-clause-row : goal.returns-after-loop-at-clause-row
-returns-after-loop-at-clause-row c = row_wider c.loop-at.last c.args.right 0 c.loop-at.list.items c.loop-at.invariant.row c.loop-at.invariant.last
+returns-after-loop-at-clause-row c = ascends_wider c.loop-at.last c.args.right 0 c.loop-at.list.items c.loop-at.invariant.last c.loop-at.invariant.row

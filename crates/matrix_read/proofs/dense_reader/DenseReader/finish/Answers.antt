@@ -14,5 +14,5 @@ returns c =
     c.matrix_read.ensures c.in_ok-read.read.passed
     ∙ c.in_ok-read.ensures.rows []
     ∙ ap (lines_then self.passed self.rows) (append-nil _)
-    ∙ ap (λ text. lines_then self.passed self.rows (lines_of text)) c.unmarked-lines.ensures.text
+    ∙ ap (λ text. lines_then self.passed self.rows (lines_of text)) c.unmarked_part-lines.ensures.text
     )

@@ -13,7 +13,7 @@ returns-in-None c =
     ∙ ap (λ rows. begun_then rows []) (sym c.in-None.is)
     ∙ c.in_ok-further.ensures []
     ∙ ap (begun_then c.args.self.rows) (append-nil _)
-    ∙ ap (λ text. begun_then c.args.self.rows (lines_of text)) c.unmarked-lines.ensures.text
+    ∙ ap (λ text. begun_then c.args.self.rows (lines_of text)) c.unmarked_part-lines.ensures.text
 
 pub returns-in-Some : goal.returns-in-Some
 returns-in-Some c =
@@ -21,4 +21,4 @@ returns-in-Some c =
     ∙ ap (λ rows. begun_then rows []) (sym c.in-Some.is)
     ∙ c.in_ok-further.ensures []
     ∙ ap (begun_then c.args.self.rows) (append-nil _)
-    ∙ ap (λ text. begun_then c.args.self.rows (lines_of text)) c.unmarked-lines.ensures.text
+    ∙ ap (λ text. begun_then c.args.self.rows (lines_of text)) c.unmarked_part-lines.ensures.text

@@ -1,12 +1,10 @@
 -- Texts that are cut behind a line feed.
-use Rattle.std.proofs.Common.{◌-◌, ◌≤◌, nat_lt, length-drop, inl, inr, ◌≡◌, ℕ, ◌+◌, ◌<◌, ◌==◌, ◌&&◌, List, [], ◌∷◌, ◌++◌, length, take, drop, map, get_or, refl, sym, ap, ◌∙◌, arith, true, false, Bool, if◌then◌else◌, append_assoc, length-append, take-append-drop}
-use Rattle.std.proofs.lemmas.Bool.{cases_lt, lt-ltb, le-ltb}
+use Rattle.std.proofs.Common.{◌≡◌, ℕ, ◌+◌, ◌<◌, ◌==◌, ◌&&◌, List, [], ◌∷◌, ◌++◌, length, take, drop, map, get_or, refl, sym, ap, ◌∙◌, arith, true, false, Bool, if◌then◌else◌, append_assoc, length-append, take-append-drop}
 use Rattle.std.proofs.lemmas.List.{map-append, take_more}
 use Rattle.std.specs.List.{onto_first}
 use Rattle.std.specs.Str.Lines.{strip_carriage_return}
-use Rattle.text_lines.specs.Lines.{line_parts, lines_of, without_mark}
+use Rattle.text_lines.specs.Lines.{line_parts, lines_of, without_mark, unmarked_part}
 use Rattle.text_lines.proofs.LineLemmas.{line_parts_first}
-use Rattle.graph_read.specs.Heads.{marked_at_start}
 
 -- a byte before the first of some parts
 onto_cut : (b : ℕ) (parts later : List (List ℕ)) (part : List ℕ) (others : List (List ℕ)) → parts ≡ part ∷ others → onto_first b (parts ++ later) ≡ onto_first b parts ++ later
@@ -55,29 +53,17 @@ unmarked_cut (a ∷ b ∷ d ∷ front) rest = by (((a == 239) && (b == 187)) && 
     by true = lines_cut front rest
     by false = lines_cut (a ∷ b ∷ d ∷ front) rest
 
-front_cut : (is_begun : Bool) (front rest : List ℕ) → lines_of (marked_at_start is_begun ((front ++ 10 ∷ []) ++ rest)) ≡ lines_of (marked_at_start is_begun (front ++ 10 ∷ [])) ++ lines_of rest
+front_cut : (is_begun : Bool) (front rest : List ℕ) → lines_of (unmarked_part is_begun ((front ++ 10 ∷ []) ++ rest)) ≡ lines_of (unmarked_part is_begun (front ++ 10 ∷ [])) ++ lines_of rest
 front_cut true front rest = lines_cut front rest
 front_cut false front rest = unmarked_cut front rest
 
 -- the lines up to a line feed, and those behind it
 pub cut_at : (is_begun : Bool) (text rest : List ℕ) (last : ℕ) → last < length text → get_or text last 0 ≡ 10
-    → lines_of (marked_at_start is_begun (text ++ rest)) ≡ lines_of (marked_at_start is_begun (take (last + 1) text)) ++ lines_of (drop (last + 1) text ++ rest)
+    → lines_of (unmarked_part is_begun (text ++ rest)) ≡ lines_of (unmarked_part is_begun (take (last + 1) text)) ++ lines_of (drop (last + 1) text ++ rest)
 cut_at is_begun text rest last lt is =
     let front : take (last + 1) text ≡ take last text ++ 10 ∷ [] = take_more text last 0 lt ∙ ap (λ b. take last text ++ b ∷ []) is in
     let whole : text ++ rest ≡ (take last text ++ 10 ∷ []) ++ (drop (last + 1) text ++ rest) =
     ap (λ t. t ++ rest) (sym (take-append-drop (last + 1) text)) ∙ append_assoc (take (last + 1) text) (drop (last + 1) text) rest ∙ ap (λ t. t ++ (drop (last + 1) text ++ rest)) front in
-    ap (λ t. lines_of (marked_at_start is_begun t)) whole
+    ap (λ t. lines_of (unmarked_part is_begun t)) whole
     ∙ front_cut is_begun (take last text) (drop (last + 1) text ++ rest)
-    ∙ ap (λ t. lines_of (marked_at_start is_begun t) ++ lines_of (drop (last + 1) text ++ rest)) (sym front)
-
--- the bytes that are taken off the front are taken off the limit
-pub room_same : (room taken : ℕ) (text rest : List ℕ) → taken ≤ length text → length text ≤ room → nat_lt (room - taken) (length (drop taken text ++ rest)) ≡ nat_lt room (length (text ++ rest))
-room_same room taken text rest le few =
-    elim (cases_lt room (length (text ++ rest))) [
-      | inl long ↦
-          let rest_long : room - taken < length (drop taken text ++ rest) = omega (arith, long, length-append text rest, length-append (drop taken text) rest, length-drop taken text) in
-          lt-ltb _ _ rest_long ∙ sym (lt-ltb _ _ long)
-      | inr short ↦
-          let rest_short : length (drop taken text ++ rest) ≤ room - taken = omega (arith, short, length-append text rest, length-append (drop taken text) rest, length-drop taken text) in
-          le-ltb _ _ rest_short ∙ sym (le-ltb _ _ short)
-    ]
+    ∙ ap (λ t. lines_of (unmarked_part is_begun t) ++ lines_of (drop (last + 1) text ++ rest)) (sym front)
