@@ -9,8 +9,8 @@ use Rattle.row_model.proofs.CycleLaws.{joined_by_sym, first_pushed, first-append
 use Rattle.walk_search.specs.declared.forest.Node.{Node}
 use Rattle.walk_search.specs.declared.forest.Conflict.{Conflict}
 use Rattle.walk_search.specs.declared.forest.Forest.{Forest}
-use Rattle.walk_search.specs.Search.{IsTree, AreJoined, ShowsConflict}
-use Rattle.walk_search.specs.Closing.{IsParity, AreConflictEnds, IsWayDown, IsWayUp}
+use Rattle.walk_search.specs.Search.{IsTree, AreJoined, AreConflictEnds, ShowsConflict}
+use Rattle.walk_search.specs.Closing.{IsParity, IsWayDown, IsWayUp}
 
 -- a node above the root of the last tree that is read, and its parent
 pub record Above (forest : Forest) (at : ℕ) (node : Node) : Type 0 where
@@ -165,11 +165,11 @@ module _ (forest : Forest) (conflict : Conflict) (down up lines : List Line) (li
   -- and lead back to the root
   pub closing_walk : (c : ℕ) (rows : List (List ℕ)) (s : ShowsConflict c rows forest conflict) → line ≡ record { pair = d.node.pair; why = conflict.why } → length lines % 2 ≡ 1 → IsOddWalk c rows lines
   closing_walk c rows s is odd =
-      let x = s.is_conflict in
+      let x = s.is_conflict.ends in
       let root : u.root ≡ d.root = same_Some u.root d.root (sym u.root_there ∙ d.root_there) in
       let from : x.from ≡ d.node = same_Some x.from d.node (sym x.from_there ∙ d.node_there) in
       let to : x.to ≡ u.node = same_Some x.to u.node (sym x.to_there ∙ u.node_there) in
-      let over : JoinedBy c rows d.node.pair u.node.pair conflict.why = subst (λ (n : Node). JoinedBy c rows d.node.pair n.pair conflict.why) to (subst (λ (n : Node). JoinedBy c rows n.pair x.to.pair conflict.why) from x.joined) in
+      let over : JoinedBy c rows d.node.pair u.node.pair conflict.why = subst (λ (n : Node). JoinedBy c rows d.node.pair n.pair conflict.why) to (subst (λ (n : Node). JoinedBy c rows n.pair x.to.pair conflict.why) from s.is_conflict.joined) in
       let above = d.leads c rows s.is_forest.joined in
       let below = subst (λ (n : Node). LeadTo c rows up n.pair × (first_pair up n.pair ≡ u.node.pair)) root (u.leads c rows s.is_forest.joined) in
       let here : line.pair ≡ d.node.pair = ap (λ (l : Line). l.pair) is in

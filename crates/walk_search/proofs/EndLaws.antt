@@ -1,5 +1,5 @@
 -- The beginning and the end of the search.
-use Rattle.std.proofs.Common.{refl, drop, ◌<◌, ◌≢◌, cond, eqb, ltb, None, IsTrue, ◌≡◌, ◌∙◌, ℕ, ◌+◌, ◌≤◌, Bool, true, false, not, List, [], length, take, slice_get, Some, sym, ap, subst, inl, inr, arith}
+use Rattle.std.proofs.Common.{refl, drop, ◌<◌, ◌≢◌, cond, eqb, ltb, None, IsTrue, ◌≡◌, ◌∙◌, ℕ, ◌+◌, ◌≤◌, Bool, true, false, not, [], length, take, slice_get, Some, sym, ap, subst, inl, inr, arith}
 use Rattle.std.proofs.lemmas.Bool.{both_ways, cases_eq, ne_eqb, lt-ltb, ltb-true, eq-eqb}
 use Rattle.std.proofs.lemmas.Option.{none-some}
 use Rattle.row_model.specs.Graph.{pair, turned, row_at, IsPair, Crosses, HasOddWalk}
@@ -9,14 +9,12 @@ use Rattle.row_model.specs.declared.TheConstants.{ROW_BOUND}
 use Rattle.row_model.proofs.Pairs.{same_pair}
 use Rattle.open_gaps.specs.Labels.{GapLaw}
 use Rattle.walk_search.specs.declared.forest.Node.{Node}
-use Rattle.walk_search.specs.declared.forest.Conflict.{Conflict}
 use Rattle.walk_search.specs.declared.forest.Forest.{Forest}
 use Rattle.walk_search.specs.declared.neighbours.Neighbours.{Neighbours}
 use Rattle.pair_classes.specs.Numbers.{number_of, IsIndexed}
 use Rattle.pair_classes.specs.Marks.{Marking, is_marked}
-use Rattle.walk_search.specs.Closing.{AreConflictEnds}
 use Rattle.walk_search.specs.Neighbours.{AreNeighbours}
-use Rattle.walk_search.specs.Search.{pair_of_node, IsReached, IsSettled, IsSearch, Grows, AreTaken, AreReachedFrom, ShowsConflict}
+use Rattle.walk_search.specs.Search.{pair_of_node, IsReached, IsSettled, IsSearch, Grows, AreTaken, AreReachedFrom}
 use Rattle.walk_search.proofs.ForestLaws.{reached_grown}
 use Rattle.walk_search.specs.Weights.{held_for, IsJoining, TellsJoining}
 use Rattle.walk_search.proofs.AcrossLaws.{reached_by_number}
@@ -161,9 +159,3 @@ module _ (law : GapLaw) (m : RowList) (near : Neighbours) (marks : Marking) (for
               let next = forth law m near marks forest near_is h all (pair a v.b) (turned v) r.0 k q r.1 i j x in
               (not (not r.0), reached_turned law m near marks forest near_is h all (turned v) (not r.0) next)
         ])
-
--- the ends of a conflict
-pub ends_of : (c : ℕ) (rows : List (List ℕ)) (forest : Forest) (conflict : Conflict) → ShowsConflict c rows forest conflict → AreConflictEnds forest conflict
-ends_of c rows forest conflict s =
-    let x = s.is_conflict in
-    record { from = x.from; to = x.to; from_there = x.from_there; to_there = x.to_there; from_in = x.from_in; to_in = x.to_in; alike = x.alike }

@@ -125,14 +125,16 @@ module _ (c : ℕ) (rows : List (List ℕ)) (f g : Forest) (from : ℕ) (parent 
       let shows : ShowsConflict c rows f (record { from = from; to = to; why = node.why }) = record {
         is_forest = h;
         is_conflict = record {
-          from = parent;
-          to = other;
-          from_there = there;
-          to_there = a.2;
-          from_in = within;
-          to_in = in_last_tree c rows f from to parent other node.why h there a.2 within j;
+          ends = record {
+            from = parent;
+            to = other;
+            from_there = there;
+            to_there = a.2;
+            from_in = within;
+            to_in = in_last_tree c rows f from to parent other node.why h there a.2 within j;
+            alike = sym (not_not parent.odd) ∙ ap not (sym odd) ∙ sym a.4;
+          };
           joined = j;
-          alike = sym (not_not parent.odd) ∙ ap not (sym odd) ∙ sym a.4;
         };
       } in
       subst (λ (x : Forest). ShowsConflict c rows x (record { from = from; to = to; why = node.why })) (sym a.0) shows

@@ -1,25 +1,14 @@
 -- Ways through a search tree.
-use Rattle.std.specs.Prelude.{◌≡◌, ◌⊎◌, ℕ, ◌≤◌, ◌%◌, Bool, not, Some, List, length, slice_get}
+use Rattle.std.specs.Prelude.{◌≡◌, ◌⊎◌, ℕ, ◌%◌, Bool, not, Some, List, length, slice_get}
 use Rattle.row_model.specs.declared.graph.Line.{Line}
 use Rattle.row_model.specs.Cycles.{first_pair, LeadTo}
 use Rattle.walk_search.specs.declared.forest.Node.{Node}
-use Rattle.walk_search.specs.declared.forest.Conflict.{Conflict}
 use Rattle.walk_search.specs.declared.forest.Forest.{Forest}
 use Rattle.walk_search.specs.Search.{AreJoined}
 
 -- the number is even and the two are alike, or it is odd and they are not
 abbrev pub IsParity : ℕ → Bool → Bool → Type 0
 IsParity n a b = ((n % 2 ≡ 0) × (a ≡ b)) ⊎ ((n % 2 ≡ 1) × (a ≡ not b))
-
--- two nodes of the last tree, both or neither an odd number of steps from the root
-pub record AreConflictEnds (forest : Forest) (conflict : Conflict) : Type 0 where
-  pub from : Node
-  pub to : Node
-  pub from_there : slice_get forest.nodes.items conflict.from ≡ Some from
-  pub to_there : slice_get forest.nodes.items conflict.to ≡ Some to
-  pub from_in : forest.root ≤ conflict.from
-  pub to_in : forest.root ≤ conflict.to
-  pub alike : from.odd ≡ to.odd
 
 -- lines that lead from the root to a node, in any graph that joins each node to its parent
 pub record IsWayDown (forest : Forest) (to : ℕ) (lines : List Line) : Type 0 where

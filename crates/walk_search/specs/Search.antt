@@ -80,16 +80,20 @@ pub record IsForest (c : ℕ) (rows : List (List ℕ)) (forest : Forest) : Type 
   pub tree : IsTree forest.root forest.nodes.items
   pub joined : AreJoined c rows forest.root forest.nodes.items
 
--- the two nodes of the last tree are joined, and both or neither lies an odd number of steps from the root
-pub record IsConflict (c : ℕ) (rows : List (List ℕ)) (forest : Forest) (conflict : Conflict) : Type 0 where
+-- two nodes of the last tree, both or neither an odd number of steps from the root
+pub record AreConflictEnds (forest : Forest) (conflict : Conflict) : Type 0 where
   pub from : Node
   pub to : Node
   pub from_there : slice_get forest.nodes.items conflict.from ≡ Some from
   pub to_there : slice_get forest.nodes.items conflict.to ≡ Some to
   pub from_in : forest.root ≤ conflict.from
   pub to_in : forest.root ≤ conflict.to
-  pub joined : JoinedBy c rows from.pair to.pair conflict.why
   pub alike : from.odd ≡ to.odd
+
+-- two such nodes that are joined
+pub record IsConflict (c : ℕ) (rows : List (List ℕ)) (forest : Forest) (conflict : Conflict) : Type 0 where
+  pub ends : AreConflictEnds forest conflict
+  pub joined : JoinedBy c rows ends.from.pair ends.to.pair conflict.why
 
 -- the forest and the conflict in it
 pub record ShowsConflict (c : ℕ) (rows : List (List ℕ)) (forest : Forest) (conflict : Conflict) : Type 0 where

@@ -2,8 +2,8 @@
 ghost use Rattle.std.specs.Prelude.{◌≡◌, ◌<◌, ◌≤◌, ◌++◌, ℕ, List, length, IfOk, OnOk};
 ghost use Rattle.row_model.specs.declared.graph.Line.{Line};
 ghost use Rattle.row_model.specs.Cycles.{IsOddWalk};
-ghost use Rattle.walk_search.specs.Search.{IsTree, ShowsConflict};
-ghost use Rattle.walk_search.specs.Closing.{AreConflictEnds, IsWayDown, IsWayUp};
+ghost use Rattle.walk_search.specs.Search.{IsTree, AreConflictEnds, ShowsConflict};
+ghost use Rattle.walk_search.specs.Closing.{IsWayDown, IsWayUp};
 
 use crate::forest::{Conflict, Forest};
 use odd_cycle::Walk;
