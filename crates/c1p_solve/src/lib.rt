@@ -8,7 +8,7 @@ mod session;
 mod solver;
 
 pub use chosen::{Answered, Chosen, answer};
-pub use growing::{begin, take_next, tree_so_far};
+pub use growing::{begin, cycle_of_refused, take_next, take_rows, tree_so_far};
 pub use row_judge::Judged as Solved;
 pub use row_model::NoMemory;
 pub use session::{Session, Started, Taken};

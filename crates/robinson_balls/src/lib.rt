@@ -10,4 +10,4 @@ mod rows;
 
 pub use laws::{balls_law, robinson_law};
 pub use row_model::NoMemory;
-pub use rows::balls;
+pub use rows::{balls, balls_round};

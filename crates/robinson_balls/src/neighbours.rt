@@ -1,9 +1,10 @@
 // The items in the order of their distances from one of them.
-ghost use Rattle.std.specs.Prelude.{◌<◌, ◌≤◌, length, IsTrue, IsFalse, OnOk};
+ghost use Rattle.std.specs.Prelude.{◌<◌, ◌≤◌, length, IsTrue, IsFalse, IfOk};
 ghost use Rattle.robinson_balls.specs.Neighbours.{AreNeighbours, EndsBall, GoesOn};
 
 use graph_model::Distances;
 use row_model::NoMemory;
+use std::alloc::Global;
 
 // An item, and its distance from a centre.
 #[derive(Clone, Copy)]
@@ -12,16 +13,12 @@ pub struct Neighbour {
     pub distance: u64,
 }
 
-// Makes the list that of all items with their distances from `x`, itself included, in rising order of distance.
-pub fn list_neighbours(
-    neighbours: &mut Vec<Neighbour>,
-    d: &Distances,
-    x: u32,
-) -> Result<(), NoMemory>
+// All items with their distances from `x`, itself included, in rising order of distance.
+pub fn list_neighbours(alloc: Global, d: &Distances, x: u32) -> Result<Vec<Neighbour>, NoMemory>
     requires { (1 ≤ x) × (x ≤ d.now.items) }
-    ensures { OnOk result (AreNeighbours d.now x neighbours.new.items) }
+    ensures { IfOk result (λ neighbours. AreNeighbours d.now x neighbours.items) }
 {
-    neighbours.clear();
+    let mut neighbours = Vec::with_capacity(alloc, d.items() as usize)?;
     for before in 0..d.items() {
         neighbours.push(Neighbour {
             item: before + 1,
@@ -31,7 +28,7 @@ pub fn list_neighbours(
     // The centre goes first, so that the list is in order where all others are at one distance.
     neighbours.swap(0, x as usize - 1);
     neighbours.sort_unstable_by_key(|neighbour| neighbour.distance);
-    Ok(())
+    Ok(neighbours)
 }
 
 // Whether the neighbour in place `k`, from 0, is nearer than the next, or the last.

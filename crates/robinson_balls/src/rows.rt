@@ -1,5 +1,5 @@
 // The matrix of all balls.
-ghost use Rattle.std.specs.Prelude.{◌≡◌, ◌≤◌, ◌+◌, ◌++◌, length, IfOk, OnOk};
+ghost use Rattle.std.specs.Prelude.{◌≡◌, ◌≤◌, ◌+◌, ◌++◌, [], length, IfOk, OnOk};
 ghost use Rattle.std.specs.List.Sorted.{IsNonDecreasing};
 ghost use Rattle.row_model.specs.Rows.{IsRow};
 ghost use Rattle.robinson_balls.specs.Balls.{ball, balls_of, balls_round};
@@ -33,36 +33,58 @@ pub fn balls(alloc: Global, d: &Distances) -> Result<Matrix, NoMemory>
     ensures { IfOk result (λ m. m ≡ balls_of d.now) }
 {
     let mut balls = Matrix::new(alloc, d.items())?;
-    let mut neighbours = Vec::with_capacity(alloc, d.items() as usize)?;
-    let mut ball = Vec::with_capacity(alloc, d.items() as usize)?;
     for before in 0..d.items() {
-        push_balls(&mut balls, &mut neighbours, &mut ball, d, before + 1)?;
+        push_balls(alloc, &mut balls, d, before + 1)?;
     }
     Ok(balls)
 }
 
-// Adds the balls round `x`: each is the one before it with the group of items at the next distance. The two lists are
-// room to work in.
-fn push_balls(
-    balls: &mut Matrix,
-    neighbours: &mut Vec<Neighbour>,
-    ball: &mut Vec<u32>,
+/// Makes a matrix that of the balls round `x` alone, in rising order of their radii. Centre after centre these are the
+/// rows of [`balls`]. The rows that the matrix had are dropped, and their room stays for the balls.
+///
+/// # Errors
+///
+/// `NoMemory` where there is no memory for the balls and the lists that they are made by. Nothing is said of the matrix
+/// then.
+pub fn balls_round(
+    alloc: Global,
+    matrix: &mut Matrix,
     d: &Distances,
     x: u32,
 ) -> Result<(), NoMemory>
+    requires columns { matrix.old.columns ≡ d.now.items }
+    requires centre { (1 ≤ x) × (x ≤ d.now.items) }
+    ensures { OnOk result (matrix.new ≡ record { columns = d.now.items; rows = balls_round d.now x }) }
+{
+    let _items = d.items();
+    clear(matrix);
+    push_balls(alloc, matrix, d, x)
+}
+
+// Drops all rows. Their room stays.
+fn clear(matrix: &mut Matrix)
+    ensures { matrix.new ≡ record matrix.old { rows = [] } }
+{
+    for _k in 0..matrix.rows() {
+        matrix.pop_row();
+    }
+}
+
+// Adds the balls round `x`: each is the one before it with the group of items at the next distance.
+fn push_balls(alloc: Global, balls: &mut Matrix, d: &Distances, x: u32) -> Result<(), NoMemory>
     requires columns { balls.old.columns ≡ d.now.items }
     requires centre { (1 ≤ x) × (x ≤ d.now.items) }
     requires room { length balls.old.rows + d.now.items ≤ ROW_BOUND }
     ensures { OnOk result (balls.new ≡ record balls.old { rows = balls.old.rows ++ balls_round d.now x }) }
 {
-    list_neighbours(neighbours, d, x)?;
-    ball.clear();
+    let neighbours = list_neighbours(alloc, d, x)?;
+    let mut ball = Vec::with_capacity(alloc, neighbours.len())?;
     let mut first = 0;
     for k in 0..neighbours.len() {
-        if ends_ball(neighbours, k) {
+        if ends_ball(&neighbours, k) {
             let group = &neighbours[first..k + 1];
-            grow(ball, group, d, x, neighbours[k].distance)?;
-            balls.push_row(ball)?;
+            grow(&mut ball, group, d, x, neighbours[k].distance)?;
+            balls.push_row(&ball)?;
             first = k + 1;
         }
     }

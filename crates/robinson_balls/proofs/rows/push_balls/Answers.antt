@@ -11,14 +11,14 @@ use Rattle.robinson_balls.proofs.rows.push_balls.Goals.{then-ends_ball+in_ok-gro
 
 pub grow-requires-clause-lacks : goal.grow-requires-clause-lacks
 grow-requires-clause-lacks c =
-    let near = c.list_neighbours.new.neighbours.items in
+    let near = c.in_ok-neighbours.neighbours.items in
     let k = c.loop-k.k in
     let p = c.index.result.now in
     let l : k < length near = omega arith in
     let ends : EndsBall near k = rw c.deref.ensures.value at (c.ends_ball.ensures.ends c.if-ends_ball.true) in
     let grown = nearest_to near p c.loop-k.first k c.loop-k.ball.items c.loop-k.invariant.begun l c.loop-k.invariant.grown in
     rw c.deref-then-ends_ball.ensures.value
-    (grown_ball c.args.d.now c.args.x near c.in_ok-list_neighbours.ensures k p (with_items (slice_range near c.loop-k.first (k + 1)) c.loop-k.ball.items) l c.index.ensures ends grown)
+    (grown_ball c.args.d.now c.args.x near c.in_ok-neighbours.ensures k p (with_items (slice_range near c.loop-k.first (k + 1)) c.loop-k.ball.items) l c.index.ensures ends grown)
 
 pub push_row-requires-clause-row : goal.push_row-requires-clause-row
 push_row-requires-clause-row c =
@@ -27,15 +27,15 @@ push_row-requires-clause-row c =
 
 pub push_row-requires-clause-room : goal.push_row-requires-clause-room
 push_row-requires-clause-room c =
-    let near = c.list_neighbours.new.neighbours.items in
+    let near = c.in_ok-neighbours.neighbours.items in
     let l : c.loop-k.k < length near = omega arith in
-    omega (arith, l, c.loop-k.invariant.few, as_many c.args.d.now c.args.x near c.in_ok-list_neighbours.ensures)
+    omega (arith, l, c.loop-k.invariant.few, as_many c.args.d.now c.args.x near c.in_ok-neighbours.ensures)
 
 pub loop-k-preserved : goal.loop-k-preserved
 loop-k-preserved c =
     let d = c.args.d.now in
     let x = c.args.x in
-    let near = c.list_neighbours.new.neighbours.items in
+    let near = c.in_ok-neighbours.neighbours.items in
     let k = c.loop-k.k in
     let l : k < length near = omega arith in
     elim c.if-ends_ball.branch [
@@ -45,7 +45,7 @@ loop-k-preserved c =
           let ends : EndsBall near k = rw c.deref.ensures.value at (c.ends_ball.ensures.ends w.if-ends_ball.true) in
           let grown = nearest_to near p c.loop-k.first k c.loop-k.ball.items c.loop-k.invariant.begun l c.loop-k.invariant.grown in
           let whole : with_items (slice_range near c.loop-k.first (k + 1)) c.loop-k.ball.items ≡ ball d x p.distance =
-          grown_ball d x near c.in_ok-list_neighbours.ensures k p (with_items (slice_range near c.loop-k.first (k + 1)) c.loop-k.ball.items) l is ends grown in
+          grown_ball d x near c.in_ok-neighbours.ensures k p (with_items (slice_range near c.loop-k.first (k + 1)) c.loop-k.ball.items) l is ends grown in
           let items : c.if-ends_ball.ball.items ≡ ball d x p.distance = rw w.ball-is w.in_ok-grow.ensures in
           let row : w.deref-then-ends_ball-2.result.now ≡ ball d x p.distance = w.deref-then-ends_ball-2.ensures.value ∙ w.in_ok-grow.ensures in
           let after : c.if-ends_ball.balls ≡ record c.loop-k.balls { rows = c.loop-k.balls.rows ++ w.deref-then-ends_ball-2.result.now ∷ [] } = w.balls-is ∙ w.in_ok-push_row.ensures.ok in
@@ -74,9 +74,9 @@ pub returns : goal.returns
 returns c =
     let d = c.args.d.now in
     let x = c.args.x in
-    let near = c.list_neighbours.new.neighbours.items in
+    let near = c.in_ok-neighbours.neighbours.items in
     let end : length near ≤ c.loop-k.k = omega arith in
     let rows : c.loop-k.balls.rows ≡ c.args.balls.now.rows ++ map (ball d x) (rims near) =
     sym (append-nil c.loop-k.balls.rows) ∙ sym (ap (λ l. c.loop-k.balls.rows ++ map (ball d x) (rims l)) (behind near c.loop-k.k end)) ∙ c.loop-k.invariant.rest in
     same_matrix c.loop-k.balls c.args.balls.now.columns _ c.loop-k.invariant.columns
-    (rows ∙ ap (λ l. c.args.balls.now.rows ++ map (ball d x) l) (rims_are d x near c.in_ok-list_neighbours.ensures))
+    (rows ∙ ap (λ l. c.args.balls.now.rows ++ map (ball d x) l) (rims_are d x near c.in_ok-neighbours.ensures))
