@@ -57,7 +57,7 @@ next_order P c k left less all ones order state g e h =
     (subst (HasValidOrder c) (g.whole ∙ rows_next less order (drawn_row order state) state g.done left e refl) h)
 
 -- the first rows cost no more than all
-front_steps : (c : ℕ) (xs ys : List (List ℕ)) → reduction_steps c xs ≤ reduction_steps c (xs ++ ys)
+pub front_steps : (c : ℕ) (xs ys : List (List ℕ)) → reduction_steps c xs ≤ reduction_steps c (xs ++ ys)
 front_steps c xs ys = omega (arith, length-append xs ys, sum_by-append length xs ys)
 
 pub done_steps : (P : List (List ℕ) → Type 0) (c k left : ℕ) (all : List (List ℕ)) (ones : ℕ) (order : List ℕ) (state : ℕ) (g : IsGrown P k left all ones order state) → reduction_steps c g.done ≤ reduction_steps c all

@@ -8,3 +8,4 @@ pub mod Counted
 pub mod Drawn
 pub mod Grown
 mod MetNodes
+pub mod Centres

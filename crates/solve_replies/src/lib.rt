@@ -13,6 +13,7 @@ ghost use Rattle.std.specs.Prelude.{◌≡◌};
 ghost use Rattle.solve_replies.specs.Sessions.{OutcomesLaw};
 
 mod core_rows;
+mod distances;
 mod draws;
 mod extend;
 mod judge;

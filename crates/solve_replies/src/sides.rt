@@ -6,13 +6,15 @@ ghost use Rattle.instance_model.specs.Value.{instance_value};
 ghost use Rattle.solve_replies.specs.Steps.{made_status, answer_status, SolvesMatrixWithin};
 
 use crate::NoMemory;
+use crate::distances::solve_balls;
 use c1p_solve::{Answered, Solved, answer};
 use instance_model::{Derived, Instance};
 use row_model::Matrix;
 use std::alloc::Global;
 use step_count::{Ledger, Steps};
 
-/// The answer on the derived matrix of a side. A matrix that stands for itself is solved where it lies.
+/// The answer on the derived matrix of a side. A matrix that stands for itself is solved where it lies. Of a table of
+/// distances the balls are taken centre after centre, and none is kept; all are made only where there is no order.
 ///
 /// # Errors
 ///
@@ -30,8 +32,13 @@ pub fn solve_side<L: Ledger>(
     ensures steps { SolvesMatrixWithin (derived_matrix (instance_value instance.now) side)
         (made_status answer_status result) steps.old steps.new }
 {
-    let derived = Derived::of(alloc, instance, side)?;
-    solve_matrix(alloc, derived.matrix(), steps)
+    match instance {
+        Instance::Robinson(distances) => solve_balls(alloc, distances, steps),
+        _ => {
+            let derived = Derived::of(alloc, instance, side)?;
+            solve_matrix(alloc, derived.matrix(), steps)
+        }
+    }
 }
 
 /// The answer on a matrix.
