@@ -20,7 +20,7 @@ use bubble_pass::{Label, Work};
 use pq_arena::{Arena, NodeId};
 use step_count::{Ledger, Steps};
 
-/// Applies L1 at `node`, a full leaf: nothing changes, and the answer is `node`.
+/// Applies L1 at `node`, a full leaf: nothing changes, and the answer is `node`. It doesn't tick.
 pub fn apply_l1<L: Ledger>(
     arena: &mut Arena,
     work: &mut Work,
@@ -33,11 +33,13 @@ pub fn apply_l1<L: Ledger>(
     ensures work { work.new ≡ work.old }
     ensures answer { result ≡ node }
     ensures ticks { steps.new ≤ steps.old + 64 * (fulls_at work.old node.index + partials_at work.old node.index + 1) }
+    ensures few { steps.new ≡ steps.old }
 {
     node
 }
 
-/// Applies P1 at `node`, a P-node whose children are all full: nothing changes, and the answer is `node`.
+/// Applies P1 at `node`, a P-node whose children are all full: nothing changes, and the answer is `node`. It doesn't
+/// tick.
 pub fn apply_p1<L: Ledger>(
     arena: &mut Arena,
     work: &mut Work,
@@ -50,6 +52,7 @@ pub fn apply_p1<L: Ledger>(
     ensures work { work.new ≡ work.old }
     ensures answer { result ≡ node }
     ensures ticks { steps.new ≤ steps.old + 64 * (fulls_at work.old node.index + partials_at work.old node.index + 1) }
+    ensures few { steps.new ≡ steps.old }
 {
     node
 }
@@ -57,7 +60,8 @@ pub fn apply_p1<L: Ledger>(
 /// Applies P2 at `node`, the pertinent root: where two children or more are full, they become the children of a new
 /// P-node, a full child of `node`. The answer is `node`.
 ///
-/// It ticks at most 64 times for each labelled child, and 64 times more.
+/// It ticks at most 64 times for each labelled child, and 64 times more. That is wide: twice for each,
+/// and twice more, is the narrow bound.
 pub fn apply_p2<L: Ledger>(
     arena: &mut Arena,
     work: &mut Work,
@@ -69,6 +73,7 @@ pub fn apply_p2<L: Ledger>(
     ensures treated { IsTreated arena.old arena.new work.old work.new node.index result.index }
     ensures becomes { BecomesTree arena.old arena.new work.old node.index result.index (IsP2 true (child_trees arena.old node.index)) }
     ensures ticks { steps.new ≤ steps.old + 64 * (fulls_at work.old node.index + partials_at work.old node.index + 1) }
+    ensures few { steps.new ≤ steps.old + 2 * (fulls_at work.old node.index + partials_at work.old node.index) + 2 }
 {
     let _group = gather(arena, work, node, steps);
     arena.layout_law();
@@ -103,7 +108,8 @@ pub fn apply_p2_to<L: Ledger>(
 /// Applies P3 at `node`, which is not the pertinent root: the answer is a new Q-node in its place and with its label,
 /// over the empty children, as one node, at one end and the full children, as one node, at the other.
 ///
-/// It ticks at most 64 times for each labelled child, and 64 times more.
+/// It ticks at most 64 times for each labelled child, and 64 times more. That is wide: twice for each,
+/// and 11 times more, is the narrow bound.
 pub fn apply_p3<L: Ledger>(
     arena: &mut Arena,
     work: &mut Work,
@@ -115,6 +121,7 @@ pub fn apply_p3<L: Ledger>(
     ensures treated { IsTreated arena.old arena.new work.old work.new node.index result.index }
     ensures becomes { BecomesPartial arena.old arena.new work.old work.new node.index result.index (IsP3 false (child_trees arena.old node.index)) }
     ensures ticks { steps.new ≤ steps.old + 64 * (fulls_at work.old node.index + partials_at work.old node.index + 1) }
+    ensures few { steps.new ≤ steps.old + 2 * (fulls_at work.old node.index + partials_at work.old node.index) + 11 }
 {
     arena.layout_law();
     let Some(full) = gather(arena, work, node, steps) else {
@@ -131,7 +138,8 @@ pub fn apply_p3<L: Ledger>(
 /// Applies P4 at `node`, the pertinent root: the full children become one, at the full end of the partial child. Where
 /// there is no empty child, the partial child takes the place of `node`. The answer is what stands there.
 ///
-/// It ticks at most 64 times for each labelled child, and 64 times more.
+/// It ticks at most 64 times for each labelled child, and 64 times more. That is wide: twice for each,
+/// and 9 times more, is the narrow bound.
 pub fn apply_p4<L: Ledger>(
     arena: &mut Arena,
     work: &mut Work,
@@ -143,6 +151,7 @@ pub fn apply_p4<L: Ledger>(
     ensures treated { IsTreated arena.old arena.new work.old work.new node.index result.index }
     ensures becomes { BecomesTree arena.old arena.new work.old node.index result.index (IsP4 true (child_trees arena.old node.index)) }
     ensures ticks { steps.new ≤ steps.old + 64 * (fulls_at work.old node.index + partials_at work.old node.index + 1) }
+    ensures few { steps.new ≤ steps.old + 2 * (fulls_at work.old node.index + partials_at work.old node.index) + 9 }
 {
     arena.layout_law();
     let line = child_with(arena, work, node, Label::Partial, node);
@@ -162,7 +171,8 @@ pub fn apply_p4<L: Ledger>(
 /// children, as one node, at its empty end and the full children, as one node, at its full end. The answer is that
 /// child, with the label of `node`.
 ///
-/// It ticks at most 64 times for each labelled child, and 64 times more.
+/// It ticks at most 64 times for each labelled child, and 64 times more. That is wide: twice for each,
+/// and 15 times more, is the narrow bound.
 pub fn apply_p5<L: Ledger>(
     arena: &mut Arena,
     work: &mut Work,
@@ -174,6 +184,7 @@ pub fn apply_p5<L: Ledger>(
     ensures treated { IsTreated arena.old arena.new work.old work.new node.index result.index }
     ensures becomes { BecomesPartial arena.old arena.new work.old work.new node.index result.index (IsP5 false (child_trees arena.old node.index)) }
     ensures ticks { steps.new ≤ steps.old + 64 * (fulls_at work.old node.index + partials_at work.old node.index + 1) }
+    ensures few { steps.new ≤ steps.old + 2 * (fulls_at work.old node.index + partials_at work.old node.index) + 15 }
 {
     arena.layout_law();
     let line = child_with(arena, work, node, Label::Partial, node);
@@ -194,7 +205,8 @@ pub fn apply_p5<L: Ledger>(
 /// behind it come the children of the other, which is given back. Where there is no empty child, the Q-node that is
 /// left takes the place of `node`. The answer is what stands there.
 ///
-/// It ticks at most 64 times for each labelled child, and 64 times more.
+/// It ticks at most 64 times for each labelled child, and 64 times more. That is wide: twice for each,
+/// and 13 times more, is the narrow bound.
 pub fn apply_p6<L: Ledger>(
     arena: &mut Arena,
     work: &mut Work,
@@ -206,6 +218,7 @@ pub fn apply_p6<L: Ledger>(
     ensures treated { IsTreated arena.old arena.new work.old work.new node.index result.index }
     ensures becomes { BecomesTree arena.old arena.new work.old node.index result.index (IsP6 true (child_trees arena.old node.index)) }
     ensures ticks { steps.new ≤ steps.old + 64 * (fulls_at work.old node.index + partials_at work.old node.index + 1) }
+    ensures few { steps.new ≤ steps.old + 2 * (fulls_at work.old node.index + partials_at work.old node.index) + 13 }
 {
     arena.layout_law();
     let first = child_with(arena, work, node, Label::Partial, node);

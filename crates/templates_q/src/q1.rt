@@ -11,7 +11,8 @@ use step_count::{Ledger, Steps};
 
 /// Whether Q1 fits at `node`: it is a Q-node, and all its children are full.
 ///
-/// It ticks at most 4 times for each labelled child, and 4 times more.
+/// It ticks at most 4 times for each labelled child, and 4 times more. That is wide: once for each, and once more, is
+/// the narrow bound.
 pub fn fits_q1<L: Ledger>(
     arena: &Arena,
     work: &Work,
@@ -22,6 +23,7 @@ pub fn fits_q1<L: Ledger>(
     requires { IsReady arena.now work.now node.index }
     ensures fits { Tells arena.now work.now node.index (FitsQ1 arena.now node.index) result }
     ensures ticks { steps.new ≤ steps.old + 4 * (fulls_at work.now node.index + partials_at work.now node.index + 1) }
+    ensures few { steps.new ≤ steps.old + fulls_at work.now node.index + partials_at work.now node.index + 1 }
 {
     let _anywhere = root;
     arena.layout_law();

@@ -84,7 +84,8 @@ pub fn has_q2<L: Ledger>(
 /// Whether Q2 fits at `node`: it is a Q-node with, from one end, empty children, at most one partial child and full
 /// children, which are not all full, nor all empty.
 ///
-/// It ticks at most 4 times for each labelled child, and 4 times more.
+/// It ticks at most 4 times for each labelled child, and 4 times more. That is wide: twice for each, and once more, is
+/// the narrow bound.
 pub fn fits_q2<L: Ledger>(
     arena: &Arena,
     work: &Work,
@@ -95,6 +96,7 @@ pub fn fits_q2<L: Ledger>(
     requires { IsReady arena.now work.now node.index }
     ensures fits { Tells arena.now work.now node.index (FitsQ2 arena.now node.index) result }
     ensures ticks { steps.new ≤ steps.old + 4 * (fulls_at work.now node.index + partials_at work.now node.index + 1) }
+    ensures few { steps.new ≤ steps.old + 2 * (fulls_at work.now node.index + partials_at work.now node.index) + 1 }
 {
     let _anywhere = root;
     let view = arena.look(node, steps);
@@ -168,7 +170,8 @@ fn find_line<L: Ledger>(
 /// Applies Q2 at `node`: the children of its partial child stand in that child's place, the empty ones on the side of
 /// the empty children. Where there is no partial child, nothing changes. The answer is `node`.
 ///
-/// It ticks at most 64 times for each labelled child, and 64 times more.
+/// It ticks at most 64 times for each labelled child, and 64 times more. That is wide: twice for each, and 3 times more,
+/// is the narrow bound.
 pub fn apply_q2<L: Ledger>(
     arena: &mut Arena,
     work: &mut Work,
@@ -182,6 +185,7 @@ pub fn apply_q2<L: Ledger>(
     ensures unchanged { HasNoPartial arena.old work.old node.index → arena.new ≡ arena.old }
     ensures work { work.new ≡ work.old }
     ensures ticks { steps.new ≤ steps.old + 64 * (fulls_at work.old node.index + partials_at work.old node.index + 1) }
+    ensures few { steps.new ≤ steps.old + 2 * (fulls_at work.old node.index + partials_at work.old node.index) + 3 }
 {
     arena.layout_law();
     if work.counts(node).partial == 0 {

@@ -64,7 +64,8 @@ fn has_q3_around<L: Ledger>(arena: &Arena, work: &Work, node: NodeId, steps: &mu
 /// children, at most one partial child and empty children, where Q2 does not fit.
 ///
 /// Where the pass ended inside a Q-node and `root` is true, `node` is one of the run, and the answer is that for its
-/// Q-node, which need not be known. It ticks at most 4 times for each labelled child of that node, and 4 times more.
+/// Q-node, which need not be known. It ticks at most 4 times for each labelled child of that node, and 4 times more. The
+/// narrow bounds are 4 times for each and once more, and for a run twice for each.
 pub fn fits_q3<L: Ledger>(
     arena: &Arena,
     work: &Work,
@@ -78,6 +79,9 @@ pub fn fits_q3<L: Ledger>(
     ensures ticks { (IsRunMeant work.now root → ⊥) → steps.new ≤ steps.old + 4 * (fulls_at work.now node.index + partials_at work.now node.index + 1) }
     ensures run_ticks { IsRunMeant work.now root → (q : ℕ) → IsInMarkedRun arena.now work.now q node.index →
         steps.new ≤ steps.old + 4 * (labelled_in work.now (children_at arena.now q) + 1) }
+    ensures few { (IsRunMeant work.now root → ⊥) → steps.new ≤ steps.old + 4 * (fulls_at work.now node.index + partials_at work.now node.index) + 1 }
+    ensures run_few { IsRunMeant work.now root → (q : ℕ) → IsInMarkedRun arena.now work.now q node.index →
+        steps.new ≤ steps.old + 2 * labelled_in work.now (children_at arena.now q) }
 {
     if !root {
         return false;
@@ -157,7 +161,7 @@ fn apply_at<L: Ledger>(arena: &mut Arena, work: &Work, node: NodeId, steps: &mut
     ensures treated { IsTreated arena.old arena.new work.now work.now node.index node.index }
     ensures becomes { BecomesQ3 arena.old arena.new work.now node.index node.index }
     ensures unchanged { HasNoPartial arena.old work.now node.index → arena.new ≡ arena.old }
-    ensures ticks { steps.new ≤ steps.old + 64 * (fulls_at work.now node.index + partials_at work.now node.index + 1) }
+    ensures ticks { steps.new ≤ steps.old + 2 * (fulls_at work.now node.index + partials_at work.now node.index) + 6 }
 {
     arena.layout_law();
     if let Some(x) = work.first_child(node) {
@@ -181,7 +185,7 @@ fn apply_around<L: Ledger>(
     ensures child { (q : ℕ) → IsInMarkedRun arena.old work.now q node.index → 1 ≤ occurs (children_at arena.new q) result.index }
     ensures becomes { (q : ℕ) → IsInMarkedRun arena.old work.now q node.index → BecomesQ3 arena.old arena.new work.now q q }
     ensures unchanged { (q : ℕ) → IsInMarkedRun arena.old work.now q node.index → HasNoPartial arena.old work.now q → arena.new ≡ arena.old }
-    ensures ticks { (q : ℕ) → IsInMarkedRun arena.old work.now q node.index → steps.new ≤ steps.old + 64 * (labelled_in work.now (children_at arena.old q) + 1) }
+    ensures ticks { (q : ℕ) → IsInMarkedRun arena.old work.now q node.index → steps.new ≤ steps.old + 2 * labelled_in work.now (children_at arena.old q) + 6 }
 {
     arena.layout_law();
     let seen = stretch_around(arena, work, node, steps);
@@ -198,7 +202,7 @@ fn apply_around<L: Ledger>(
 ///
 /// Where the pass ended inside a Q-node, `node` is one of the run, and this is done at its Q-node, which need
 /// not be known. The answer is then a child of that Q-node. It ticks at most 64 times for each labelled child of
-/// that node, and 64 times more.
+/// that node, and 64 times more. That is wide: twice for each, and 6 times more, is the narrow bound.
 pub fn apply_q3<L: Ledger>(
     arena: &mut Arena,
     work: &mut Work,
@@ -219,6 +223,9 @@ pub fn apply_q3<L: Ledger>(
     ensures ticks { (IsRunMeant work.old true → ⊥) → steps.new ≤ steps.old + 64 * (fulls_at work.old node.index + partials_at work.old node.index + 1) }
     ensures run_ticks { IsRunMeant work.old true → (q : ℕ) → IsInMarkedRun arena.old work.old q node.index →
         steps.new ≤ steps.old + 64 * (labelled_in work.old (children_at arena.old q) + 1) }
+    ensures few { (IsRunMeant work.old true → ⊥) → steps.new ≤ steps.old + 2 * (fulls_at work.old node.index + partials_at work.old node.index) + 6 }
+    ensures run_few { IsRunMeant work.old true → (q : ℕ) → IsInMarkedRun arena.old work.old q node.index →
+        steps.new ≤ steps.old + 2 * labelled_in work.old (children_at arena.old q) + 6 }
 {
     if work.inside() {
         return apply_around(arena, work, node, steps);

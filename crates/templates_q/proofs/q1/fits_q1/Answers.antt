@@ -26,8 +26,8 @@ returns-in-Q-clause-fits g c =
           let z : c.pass.result.gap.next ≡ None = gap_none f n _ p.rest c.pass.result.gap p.gap e in tested_none c.pass.result.gap.next c.is_none.result c.is_none.ensures z),
     )
 
-pub returns-in-Q-clause-ticks : goal.returns-in-Q-clause-ticks
-returns-in-Q-clause-ticks g c =
+pub returns-in-Q-clause-few : goal.returns-in-Q-clause-few
+returns-in-Q-clause-few g c =
     let f = c.args.arena.now in let w = c.args.work.now in let n = c.args.node.index in
     let p = c.pass.ensures.passed n _ _ (front_gap f n c.look-view.result c.look-view.ensures.shows c.in-Q.is) in
     let x : fulls_in w p.ks ≡ length p.ks = (count_full w p.ks p.marked).0 in
@@ -36,3 +36,6 @@ returns-in-Q-clause-ticks g c =
     let t : c.pass.new.steps ≡ c.look-view.new.steps + c.pass.result.count = c.pass.ensures.ticks in
     let s : c.look-view.new.steps ≡ c.args.steps.now + 1 = c.look-view.ensures.ticks in
     omega (arith, fulls_append w p.ks p.rest)
+
+pub returns-in-Q-clause-ticks : goal.returns-in-Q-clause-ticks
+returns-in-Q-clause-ticks g c = let few = returns-in-Q-clause-few g c in omega (arith, few)
