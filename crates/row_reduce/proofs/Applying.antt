@@ -61,8 +61,8 @@ turned {g = g} {v = v} {w = w} {i = i} {place = place} {t = t} s h u a hl treate
 )
 
 pub turn_ticks : {f g : Layout} {v w : Marks} {row : List ℕ} {q : ℕ} {ts : List Template} {count i : ℕ} {place : ℕ → ℕ} {t : Template} {n : ℕ} → Turn f g v w row q ts count i place t n →
-    (s0 s1 s2 : ℕ) → s1 ≤ s0 + sum_by (λ k. 64 * (labelled_at v k + 1)) (take i v.nodes) → s2 ≤ s1 + 64 * (labelled_at w n + 1) → s2 ≤ s0 + sum_by (λ k. 64 * (labelled_at v k + 1)) (take (i + 1) v.nodes)
+    (s0 s1 s2 : ℕ) → s1 ≤ s0 + sum_by (λ k. 2 * labelled_at v k + 15) (take i v.nodes) → s2 ≤ s1 + 2 * labelled_at w n + 15 → s2 ≤ s0 + sum_by (λ k. 2 * labelled_at v k + 15) (take (i + 1) v.nodes)
 turn_ticks {v = v} {w = w} {count = count} {i = i} {n = n} s s0 s1 s2 a b =
     let some : i < count = s.some in let few : count ≤ length v.nodes = s.chosen.few in
     let same : labelled_at w n ≡ labelled_at v n = turn_counts s in
-    sum_step (λ k. 64 * (labelled_at v k + 1)) v.nodes i n s0 s1 s2 (omega arith) s.node a (omega arith)
+    sum_step (λ k. 2 * labelled_at v k + 15) v.nodes i n s0 s1 s2 (omega arith) s.node a (omega arith)

@@ -1,43 +1,13 @@
--- How many patterns are asked: at most six at a node.
-use Rattle.std.proofs.Common.{◌≡◌, zero, suc, ◌<◌, List, length, set, refl, sym, ap, subst, ◌∙◌, ℕ, ◌+◌, ◌*◌, ◌≤◌, Option, None, Some, arith}
-use Rattle.std.proofs.Math.Nat.{mul-le-mul_right}
+-- How many patterns are asked.
+use Rattle.std.proofs.Common.{◌≡◌, zero, suc, ◌<◌, List, length, set, refl, sym, ap, subst, ◌∙◌, ℕ, ◌+◌, ◌*◌, ◌≤◌, Option, Some, arith}
 use Rattle.std.proofs.lemmas.List.{get_or-set_same, get_or-set_other}
 use Rattle.arena_model.specs.Layout.{Layout, shape_at}
 use Rattle.bubble_pass.specs.Marks.{Marks}
 use Rattle.bubble_pass.specs.Pass.{node_in}
-use Rattle.arena_model.specs.declared.Shape.{Shape}
-use Rattle.arena_model.specs.declared.Shape.TheVariants.{Leaf, P, Q}
 use Rattle.row_reduce.specs.declared.template.Template.{Template}
-use Rattle.row_reduce.specs.declared.template.Template.TheVariants.{L1, P1, P2, P3, P4, P5, P6, Q1, Q2, Q3}
-use Rattle.row_reduce.specs.Asked.{asked, asked_p, asked_q}
+use Rattle.row_reduce.specs.declared.template.Template.TheVariants.{L1}
+use Rattle.row_reduce.specs.Asked.{asked}
 use Rattle.row_reduce.specs.Decided.{template_in, labelled_at, asking}
-
--- no more than six patterns are asked, whatever the answer
-few : (t : Option Template) → (asked_p t ≤ 6) × (asked_q t ≤ 6)
-few None = (omega arith, omega arith)
-few (Some L1) = (omega arith, omega arith)
-few (Some P1) = (omega arith, omega arith)
-few (Some P2) = (omega arith, omega arith)
-few (Some P3) = (omega arith, omega arith)
-few (Some P4) = (omega arith, omega arith)
-few (Some P5) = (omega arith, omega arith)
-few (Some P6) = (omega arith, omega arith)
-few (Some Q1) = (omega arith, omega arith)
-few (Some Q2) = (omega arith, omega arith)
-few (Some Q3) = (omega arith, omega arith)
-
-six_times : (k g : ℕ) → k ≤ 6 → 4 * k * g ≤ 24 * g
-six_times k g l = mul-le-mul_right g (omega (arith, l))
-
-pub few_asked : (s : Option Shape) (t : Option Template) (g : ℕ) → 4 * asked s t * g ≤ 24 * g
-few_asked None t g = omega arith
-few_asked (Some (Leaf a)) t g = omega arith
-few_asked (Some P) t g = six_times (asked_p t) g (few t).0
-few_asked (Some Q) t g = six_times (asked_q t) g (few t).1
-
--- the bound on a choice, with the look that told the shape
-pub choice_ticks : (s : Option Shape) (t : Option Template) (n before after : ℕ) → after ≤ before + 1 + 4 * asked s t * (n + 1) → after ≤ before + 25 * (n + 1)
-choice_ticks s t n before after b = omega (arith, few_asked s t (n + 1))
 
 -- a template written behind the first n nodes leaves what was asked there
 asking_kept : (f : Layout) (v : Marks) (ts : List Template) (i : ℕ) (t : Template) (n : ℕ) → n ≤ i → asking f v (set ts i t) n ≡ asking f v ts n

@@ -33,16 +33,18 @@ use Rattle.template_model.specs.Treated.{IsReplacedAt}
 use Rattle.template_model.proofs.Replaced.{join_paths}
 use Rattle.templates_p.specs.Dividing.{AreSome, CanDivide, IsDivided}
 use Rattle.templates_p.specs.Members.{member_labels}
+use Rattle.row_reduce.specs.InPlace.{IsInPlace}
 use Rattle.row_reduce.specs.Outcome.{IsOutcome}
 use Rattle.row_reduce.proofs.Blocks.{trees_at, labels_for, labels_each, labels_then, front_labels, front_made, rear_labels, rear_made}
 use Rattle.row_reduce.proofs.Divided.{IsDone, can_before, can_behind, divided_before, divided_behind, front_turned, rear_turned, sibling_kept, q_turned}
 use Rattle.row_reduce.proofs.FilledPart.{PartsOf, some_member, part_meets, part_not_full, part_label, parts_of, few_members}
 use Rattle.row_reduce.proofs.GroupDone.{asked}
+use Rattle.row_reduce.proofs.InPlace.{in_place, least_of}
 use Rattle.row_reduce.proofs.Kept.{IsAsked, once, full_is, full_meets, both_above, two_meet, root_reduced}
 use Rattle.row_reduce.proofs.Labelling.{below_q}
 use Rattle.row_reduce.proofs.Leaves.{empty_is}
 use Rattle.row_reduce.proofs.Whole.{full_below}
-use Rattle.row_reduce.proofs.RowDone.{MetLaw, IsRowOver, met_most, met_below, few_below}
+use Rattle.row_reduce.proofs.RowDone.{MetLaw, IsRowOver, Few, FewBelow, met_most, met_below}
 
 -- the full pass found some children of the P-node n
 pub beside_some : (f : Layout) (row : List ℕ) (n t : ℕ) (ms : List ℕ) → IsBesideRun f row n t ms → AreSome f n ms
@@ -97,14 +99,23 @@ module _ (f : Layout) (row : List ℕ) (n t : ℕ) (ms : List ℕ) (s : IsAsked 
   holder_in : (k : ℕ) → 1 ≤ occurs (n ∷ b.ks) k → 1 ≤ occurs (children_at f b.q) k
   holder_in k o = omega (arith, counted k)
 
+  holds : Holds f (column_leaves row) b.q
+  holds x o = let k = holder x o in down b.q k.0 x (holder_in k.0 k.1) k.2
+
+  no_child : (k : ℕ) → 1 ≤ occurs (children_at f b.q) k → Holds f (column_leaves row) k → ⊥
+  no_child =
+      let k = some_member b.ks b.some in
+      let o : 1 ≤ occurs b.ks k.0 = k.1 in
+      two_meet s b.q k.0 n (run_in k.0 o) n_in (other k.0 (omega arith)) (full_meets s k.0 (child_used f b.q k.0 s.layout (run_in k.0 o)) (run_full k.0 o)) (part_meets f row n ms s b.part)
+
   pub beside_root : IsPertinentRoot row (outline_at f) (outline_below f b.q)
-  beside_root = root_is f row b.q s.layout s.one (row_within f.columns row s.is_row) used (λ x o. let k = holder x o in down b.q k.0 x (holder_in k.0 k.1) k.2) least
-    where
-      least : (k : ℕ) → 1 ≤ occurs (children_at f b.q) k → Holds f (column_leaves row) k → ⊥
-      least =
-          let k = some_member b.ks b.some in
-          let o : 1 ≤ occurs b.ks k.0 = k.1 in
-          two_meet s b.q k.0 n (run_in k.0 o) n_in (other k.0 (omega arith)) (full_meets s k.0 (child_used f b.q k.0 s.layout (run_in k.0 o)) (run_full k.0 o)) (part_meets f row n ms s b.part)
+  beside_root = root_is f row b.q s.layout s.one (row_within f.columns row s.is_row) used holds no_child
+
+  -- the row is reduced in place where the Q-node stays one
+  pub beside_in_place : (h : Layout) → IsLayout h → IsReplacedAt f h b.q b.q → IsInPlace (column_leaves row) f h
+  beside_in_place h hl r =
+      in_place (column_leaves row) (record { f_layout = s.layout; h_layout = hl; used = used; root = r.root; outside = r.outside })
+      (least_of (column_leaves row) s.leaf s.layout s.in_row holds no_child)
 
   -- the tree doesn't keep the row
   pub beside_moves : IsRowKept f (column_leaves row) → ⊥
@@ -180,25 +191,25 @@ pub beside_taken : {f : Layout} {c : ℕ} {rows : List (List ℕ)} {k : ℕ} {ro
     IsBesideRun f (column_leaves (row_at rows k)) n t ms → (h : Layout) → IsLayout h → IsDone f h n t ms → IsOutcome (row_at rows k) f h Taken
 beside_taken {f = f} {rows = rows} {k = k} s two some law n t ms b h hl done =
     let r = beside_reduced f (row_at rows k) n t ms (asked s two some) b h law hl done in
-    (r.0, r.1.one, r.1.columns)
+    (r.0, r.1.one, r.1.columns, beside_in_place f (row_at rows k) n t ms (asked s two some) b h hl r.1)
 
 -- the steps of the full pass and of the division
 pub beside_total : {f : Layout} {c : ℕ} {rows : List (List ℕ)} {k : ℕ} {row : List ℕ} → MetLaw → IsRowOver f c rows k row → HasTwoEach f → row_at rows k ≢ [] → (n t : ℕ) (ms : List NodeId) →
-    IsBesideRun f (column_leaves (row_at rows k)) n t (indices ms) → (few : length (row_at rows k) ≤ nodes_met (row_at rows k) (outline_at f)) → (s0 s1 s2 : ℕ) →
-    s1 ≤ s0 + 8 * length (row_at rows k) → s2 ≤ s1 + 2 * length ms + 12 → s2 ≤ s0 + 256 * (nodes_met (row_at rows k) (outline_at f) + 1)
-beside_total {f = f} {rows = rows} {k = k} law s two some n t ms b few s0 s1 s2 x y =
+    IsBesideRun f (column_leaves (row_at rows k)) n t (indices ms) → (s0 s1 s2 : ℕ) →
+    s1 ≤ s0 + 8 * length (row_at rows k) → s2 ≤ s1 + 2 * length ms + 12 → Few f (row_at rows k) s0 s2
+beside_total {f = f} {rows = rows} {k = k} law s two some n t ms b s0 s1 s2 x y =
     let a : length (indices ms) ≤ nodes_met (row_at rows k) (outline_at f) =
     few_beside f (row_at rows k) n t (indices ms) (asked s two some) b f.root (nodes_met (row_at rows k) (outline_at f)) (s.can.one b.q (used_by f b.q Q b.is_q)) (met_most law s) in
     let e : length (indices ms) ≡ length ms = length-map ms (λ m. m.index) in
-    omega arith
+    omega (arith, b.part.some)
 
 -- and counted below the root
 pub beside_below : {f : Layout} {c : ℕ} {rows : List (List ℕ)} {k : ℕ} {row : List ℕ} → MetLaw → IsRowOver f c rows k row → HasTwoEach f → row_at rows k ≢ [] → (n t : ℕ) (ms : List NodeId) →
     IsBesideRun f (column_leaves (row_at rows k)) n t (indices ms) → (s0 s1 s2 : ℕ) →
-    s1 ≤ s0 + 8 * length (row_at rows k) → s2 ≤ s1 + 2 * length ms + 12 → s2 ≤ s0 + 4 * length (row_at rows k) + 252 * (nodes_met_below_root (row_at rows k) (outline_at f) + 1)
+    s1 ≤ s0 + 8 * length (row_at rows k) → s2 ≤ s1 + 2 * length ms + 12 → FewBelow f (row_at rows k) s0 s2
 beside_below {f = f} {rows = rows} {k = k} law s two some n t ms b s0 s1 s2 x y =
     let a : length (indices ms) ≤ nodes_met_below_root (row_at rows k) (outline_at f) =
     few_beside f (row_at rows k) n t (indices ms) (asked s two some) b b.q (nodes_met_below_root (row_at rows k) (outline_at f)) (here b.q)
     (met_below law s some b.q (used_by f b.q Q b.is_q) (beside_root f (row_at rows k) n t (indices ms) (asked s two some) b)) in
     let e : length (indices ms) ≡ length ms = length-map ms (λ m. m.index) in
-    omega (arith, few_below s)
+    omega (arith, b.part.some)

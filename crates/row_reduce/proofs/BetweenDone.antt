@@ -19,6 +19,7 @@ use Rattle.arena_model.specs.declared.Shape.TheVariants.{Q}
 use Rattle.arena_model.specs.ChildLists.{head_or, last_or, none}
 use Rattle.arena_model.specs.Layout.{Layout, shape_at, children_at, IsInUse, IsLayout, IsAtOrAbove, here, down}
 use Rattle.arena_model.specs.NamedTree.{outline_below, outline_at, IsOneTree, HasTwoEach}
+use Rattle.arena_model.specs.RowLeaves.{Holds}
 use Rattle.arena_model.proofs.Lists.{occurs_here}
 use Rattle.arena_model.proofs.Nodes.{root_is}
 use Rattle.arena_model.proofs.Slots.{child_used, used_by}
@@ -34,6 +35,7 @@ use Rattle.template_model.specs.Treated.{IsReplacedAt}
 use Rattle.template_model.proofs.Replaced.{join_paths}
 use Rattle.templates_p.specs.Dividing.{AreSome, CanDivide, IsDivided}
 use Rattle.templates_p.specs.Members.{member_labels}
+use Rattle.row_reduce.specs.InPlace.{IsInPlace}
 use Rattle.row_reduce.specs.Outcome.{IsOutcome, AtFoundBetween}
 use Rattle.row_reduce.proofs.AtRoot.{first_leaf}
 use Rattle.row_reduce.proofs.Blocks.{trees_at, labels_for, labels_each, labels_then, both_labels, both_made}
@@ -41,11 +43,12 @@ use Rattle.row_reduce.proofs.Divided.{IsDone, relisted, can_before, can_behind, 
 use Rattle.row_reduce.proofs.Ending.{IsExchanged}
 use Rattle.row_reduce.proofs.FilledPart.{PartsOf, part_meets, part_not_full, part_label, parts_of, few_members}
 use Rattle.row_reduce.proofs.GroupDone.{asked}
+use Rattle.row_reduce.proofs.InPlace.{in_place, least_of}
 use Rattle.row_reduce.proofs.Kept.{IsAsked, once, full_is, both_above, two_meet, root_exchanged}
 use Rattle.row_reduce.proofs.Labelling.{below_q}
 use Rattle.row_reduce.proofs.Leaves.{empty_is}
 use Rattle.row_reduce.proofs.Whole.{full_below}
-use Rattle.row_reduce.proofs.RowDone.{MetLaw, IsRowOver, met_most, met_below, few_below}
+use Rattle.row_reduce.proofs.RowDone.{MetLaw, IsRowOver, Few, FewBelow, met_most, met_below}
 use Rattle.row_reduce.proofs.Twice.{exchanged_twice, still_some, still_sorted, still_there}
 
 -- the P-nodes a and b stand before and behind the run ks of children of q; xs and ys are their children with leaves of the row
@@ -120,9 +123,18 @@ module _ (f : Layout) (row : List ℕ) (a : ℕ) (xs : List ℕ) (b : ℕ) (ys :
   holder_in : (k : ℕ) → 1 ≤ occurs (a ∷ (b ∷ ks)) k → 1 ≤ occurs (children_at f q) k
   holder_in k o = omega (arith, counted k)
 
+  holds : Holds f (column_leaves row) q
+  holds x o = let k = p.covers x o in down q k.0 x (holder_in k.0 k.1) k.2
+
+  no_child : (k : ℕ) → 1 ≤ occurs (children_at f q) k → Holds f (column_leaves row) k → ⊥
+  no_child = two_meet s q a b front_in rear_in two_nodes (part_meets f row a xs s p.front) (part_meets f row b ys s p.rear)
+
   pub span_root : IsPertinentRoot row (outline_at f) (outline_below f q)
-  span_root = root_is f row q s.layout s.one (row_within f.columns row s.is_row) used (λ x o. let k = p.covers x o in down q k.0 x (holder_in k.0 k.1) k.2)
-      (two_meet s q a b front_in rear_in two_nodes (part_meets f row a xs s p.front) (part_meets f row b ys s p.rear))
+  span_root = root_is f row q s.layout s.one (row_within f.columns row s.is_row) used holds no_child
+
+  -- the row is reduced in place where the Q-node stays one
+  pub span_in_place : (h : Layout) → IsExchanged f h q q → IsInPlace (column_leaves row) f h
+  span_in_place h x = in_place (column_leaves row) x (least_of (column_leaves row) s.leaf s.layout s.in_row holds no_child)
 
   -- the tree doesn't keep the row
   pub span_moves : IsRowKept f (column_leaves row) → ⊥
@@ -345,6 +357,12 @@ module _ {f : Layout} {row : List ℕ} {n t : ℕ} {ms : List ℕ} {o u : ℕ} {
     | inr e ↦ span_root f row o os n ms b.q b.us b.ks b.vs s (behind_run b e.0)
   ]
 
+  pub between_in_place : (h : Layout) → IsExchanged f h b.q b.q → IsInPlace (column_leaves row) f h
+  between_in_place h x = elim b.place [
+    | inl e ↦ span_in_place f row n ms o os b.q b.us b.ks b.vs s (before_run b e.0) h x
+    | inr e ↦ span_in_place f row o os n ms b.q b.us b.ks b.vs s (behind_run b e.0) h x
+  ]
+
   -- the tree doesn't keep the row
   pub between_moves : IsRowKept f (column_leaves row) → ⊥
   between_moves kept = elim b.place [
@@ -378,30 +396,31 @@ between_named {f = f} {row = row} {d = d} {e = e} {ms = ms} {js = js} x y b =
 -- such a row is taken
 pub between_taken : {f g h : Layout} {row : List ℕ} {d e : End} {ms os : List ℕ} → IsLayout f → IsOneTree f → HasTwoEach f → RootTurnedLaw → AtFoundBetween f row d ms e os → IsLayout g → IsLayout h →
     IsDone f g d.node.index d.beside.index ms → IsDone g h e.node.index e.beside.index os → IsOutcome row f h Taken
-between_taken layout one two law b gl hl first second =
+between_taken {f = f} {g = g} {h = h} layout one two law b gl hl first second =
     let s = asked_between layout one two b in
     let r = between_reduced s b.found law gl hl first second in
-    (r.0, r.1.one, r.1.columns ∙ (first_replaced s b.found first).columns)
+    let x = first_replaced s b.found first in
+    (r.0, r.1.one, r.1.columns ∙ x.columns, between_in_place s b.found h (exchanged_twice f g h b.found.q layout hl b.found.is_q x r.1))
 
 -- the steps of the full pass and of both divisions
 pub between_total : {f : Layout} {c : ℕ} {rows : List (List ℕ)} {k : ℕ} {row : List ℕ} {d e : End} → MetLaw → IsRowOver f c rows k row → HasTwoEach f → (ms os : List NodeId) →
-    AtFoundBetween f (row_at rows k) d (indices ms) e (indices os) → (few : length (row_at rows k) ≤ nodes_met (row_at rows k) (outline_at f)) → (s0 s1 s2 : ℕ) →
-    s1 ≤ s0 + 8 * length (row_at rows k) → s2 ≤ s1 + 2 * (length ms + length os) + 24 → s2 ≤ s0 + 256 * (nodes_met (row_at rows k) (outline_at f) + 1)
-between_total {f = f} {rows = rows} {k = k} law s two ms os b few s0 s1 s2 x y =
+    AtFoundBetween f (row_at rows k) d (indices ms) e (indices os) → (s0 s1 s2 : ℕ) →
+    s1 ≤ s0 + 8 * length (row_at rows k) → s2 ≤ s1 + 2 * (length ms + length os) + 24 → Few f (row_at rows k) s0 s2
+between_total {f = f} {rows = rows} {k = k} law s two ms os b s0 s1 s2 x y =
     let a : (length (indices ms) ≤ nodes_met (row_at rows k) (outline_at f)) × (length (indices os) ≤ nodes_met (row_at rows k) (outline_at f)) =
     few_between (asked s two b.some) b.found f.root (nodes_met (row_at rows k) (outline_at f)) (s.can.one b.found.q (used_by f b.found.q Q b.found.is_q)) (met_most law s) in
     let i : length (indices ms) ≡ length ms = length-map ms (λ m. m.index) in
     let j : length (indices os) ≡ length os = length-map os (λ m. m.index) in
-    omega (arith, a.0, a.1)
+    omega (arith, a.0, a.1, b.found.part.some)
 
 -- and counted below the root
 pub between_below : {f : Layout} {c : ℕ} {rows : List (List ℕ)} {k : ℕ} {row : List ℕ} {d e : End} → MetLaw → IsRowOver f c rows k row → HasTwoEach f → (ms os : List NodeId) →
     AtFoundBetween f (row_at rows k) d (indices ms) e (indices os) → (s0 s1 s2 : ℕ) →
-    s1 ≤ s0 + 8 * length (row_at rows k) → s2 ≤ s1 + 2 * (length ms + length os) + 24 → s2 ≤ s0 + 4 * length (row_at rows k) + 252 * (nodes_met_below_root (row_at rows k) (outline_at f) + 1)
+    s1 ≤ s0 + 8 * length (row_at rows k) → s2 ≤ s1 + 2 * (length ms + length os) + 24 → FewBelow f (row_at rows k) s0 s2
 between_below {f = f} {rows = rows} {k = k} law s two ms os b s0 s1 s2 x y =
     let a : (length (indices ms) ≤ nodes_met_below_root (row_at rows k) (outline_at f)) × (length (indices os) ≤ nodes_met_below_root (row_at rows k) (outline_at f)) =
     few_between (asked s two b.some) b.found b.found.q (nodes_met_below_root (row_at rows k) (outline_at f)) (here b.found.q)
     (met_below law s b.some b.found.q (used_by f b.found.q Q b.found.is_q) (between_root (asked s two b.some) b.found)) in
     let i : length (indices ms) ≡ length ms = length-map ms (λ m. m.index) in
     let j : length (indices os) ≡ length os = length-map os (λ m. m.index) in
-    omega (arith, few_below s, a.0, a.1)
+    omega (arith, a.0, a.1, b.found.part.some)

@@ -1,5 +1,5 @@
 -- The tree in which the pertinent root has been replaced.
-use Rattle.std.proofs.Common.{◌≡◌, ◌≢◌, inl, inr, ℕ, ◌+◌, ◌≤◌, cond, eqb, List, [], ◌∷◌, ◌++◌, map, Some, None, Option, refl, sym, ap, subst, ◌∙◌, arith, eq-eqb}
+use Rattle.std.proofs.Common.{◌≡◌, ◌≢◌, inl, inr, ℕ, ◌+◌, ◌≤◌, cond, eqb, true, false, Bool, List, [], ◌∷◌, ◌++◌, map, Some, None, Option, refl, sym, ap, subst, ◌∙◌, arith, eq-eqb, eqb-true}
 use Rattle.std.proofs.lemmas.Bool.{cases_eq, cases_lt, ne_eqb}
 use Rattle.std.proofs.lemmas.List.{map-append}
 use Rattle.column_order.specs.Orders.{occurs}
@@ -28,6 +28,11 @@ pub record IsExchanged (f h : Layout) (q a : ℕ) : Type 0 where
   pub used : IsInUse f q
   pub root : h.root ≡ cond (eqb f.root q) a f.root
   pub outside : (m : ℕ) → IsOutside f q m → (shape_at h m ≡ shape_at f m) × (children_at h m ≡ with_replaced (children_at f m) q a)
+
+-- q in the place of q
+pub same_root : (b : Bool) (a q : ℕ) → eqb a q ≡ b → cond b q a ≡ a
+same_root true a q e = sym (eqb-true a q e)
+same_root false a q e = refl
 
 slot_kept : {f h : Layout} {q a : ℕ} → IsExchanged f h q a → (m : ℕ) → IsOutside f q m → occurs (children_at f m) q ≡ 0 → slot h.slots m ≡ slot f.slots m
 slot_kept {f = f} {h = h} {q = q} {a = a} r m out lacks =

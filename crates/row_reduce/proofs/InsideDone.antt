@@ -34,7 +34,9 @@ use Rattle.row_reduce.proofs.Loops.{at_place, sum_step, sum_part, sum_marks}
 use Rattle.row_reduce.proofs.Applying.{Turn, turn_counts}
 use Rattle.row_reduce.proofs.Turning.{items_long}
 use Rattle.row_reduce.proofs.Ticks.{work_few_inside}
-use Rattle.row_reduce.proofs.AtInside.{outer_empty, run_labelled, not_inside, LastInRun, last_in_run, refused_inside, InsideNow, inside_children, inside_moved, inside_ready, inside_stands, run_now, reduced_inside}
+use Rattle.row_reduce.proofs.AtRoot.{exchanged, first_leaf}
+use Rattle.row_reduce.proofs.InPlace.{in_place, least_of}
+use Rattle.row_reduce.proofs.AtInside.{outer_empty, run_labelled, inside_no_child, not_inside, LastInRun, last_in_run, refused_inside, InsideNow, inside_children, inside_moved, inside_ready, inside_stands, run_now, reduced_inside}
 
 all_of : (P : ℕ → Type 0) (ks : List ℕ) → ((k : ℕ) → 1 ≤ occurs ks k → P k) → All P ks
 all_of P [] of = λ i d l. absurd (omega arith)
@@ -197,9 +199,15 @@ run_stands {f = f} {h = h} {v = v} {u = u} s = record {
 -- then the row is taken
 pub run_taken : {f g h : Layout} {v w u : Marks} {row : List ℕ} {ts : List Template} {place : ℕ → ℕ} {t : Template} {n a : ℕ} → RunTurn f g h v w u row ts place t n a → RootTurnedLaw →
     (k : Layout) → IsLayout k → (IsRunMeant u true → (q : ℕ) → IsInMarkedRun h u q a → IsReplacedAt h k q q) → (IsRunMeant u true → (q : ℕ) → IsInMarkedRun h u q a → BecomesQ3 h k u q q) → IsOutcome row f k Taken
-run_taken {f = f} {h = h} {u = u} {a = a} s law k hk replaced becomes =
+run_taken {f = f} {h = h} {u = u} {row = row} {a = a} s law k hk replaced becomes =
     let r : IsReplacedAt h k s.last.found.found.run.q s.last.found.found.run.q = replaced (is_meant s) s.last.found.found.run.q (run_in s) in
-    (reduced_inside k law (run_step s) hk r (becomes (is_meant s) s.last.found.found.run.q (run_in s)), r.one, r.columns ∙ (run_step s).step.applied.columns)
+    let x = first_leaf row s.last.found.some in (
+      reduced_inside k law (run_step s) hk r (becomes (is_meant s) s.last.found.found.run.q (run_in s)),
+      r.one,
+      r.columns ∙ (run_step s).step.applied.columns,
+      in_place (column_leaves row) (exchanged k s.last.found.found.run.q (run_step s).step hk r)
+          (least_of (column_leaves row) x.0 s.last.found.ground.layout x.1 s.last.found.found.run.holds (inside_no_child s.last.found)),
+    )
 
 -- Q3 changes nothing where no child is partial
 pub run_unmoved : {f g h : Layout} {v w u : Marks} {row : List ℕ} {ts : List Template} {place : ℕ → ℕ} {t : Template} {n a : ℕ} (s : RunTurn f g h v w u row ts place t n a) →
@@ -225,19 +233,19 @@ run_counts {f = f} {g = g} {h = h} {v = v} {w = w} {u = u} {row = row} {place = 
     omega arith
 
 pub run_ticks : {f g h : Layout} {v w u : Marks} {row : List ℕ} {ts : List Template} {place : ℕ → ℕ} {t : Template} {n a : ℕ} → RunTurn f g h v w u row ts place t n a → (xs : List NodeId) (x : ℕ) → indices xs ≡ v.nodes → x ≡ node_in v (length xs - 1) →
-    (s0 s1 s2 s3 s4 s5 : ℕ) → s1 ≤ s0 + sum_by (λ n. 25 * (labelled_at v n + 1)) v.nodes → (IsRunMeant v true → (q : ℕ) → IsInMarkedRun f v q x → s2 ≤ s1 + 4 * (labelled_in v (children_at f q) + 1)) →
-    s3 ≤ s2 + sum_by (λ n. 64 * (labelled_at v n + 1)) (take (length xs - 1) v.nodes) → s4 ≤ s3 + 64 * (labelled_at w n + 1) →
-    (IsRunMeant u true → (q : ℕ) → IsInMarkedRun h u q a → s5 ≤ s4 + 64 * (labelled_in u (children_at h q) + 1)) → s5 ≤ s0 + 178 * length v.nodes + 68
+    (s0 s1 s2 s3 s4 s5 : ℕ) → s1 ≤ s0 + sum_by (λ n. 7 * (labelled_at v n + 1)) v.nodes → (IsRunMeant v true → (q : ℕ) → IsInMarkedRun f v q x → s2 ≤ s1 + 2 * labelled_in v (children_at f q)) →
+    s3 ≤ s2 + sum_by (λ n. 2 * labelled_at v n + 15) (take (length xs - 1) v.nodes) → s4 ≤ s3 + 2 * labelled_at w n + 15 →
+    (IsRunMeant u true → (q : ℕ) → IsInMarkedRun h u q a → s5 ≤ s4 + 2 * labelled_in u (children_at h q) + 6) → s5 ≤ s0 + 31 * length v.nodes + 6
 run_ticks {f = f} {h = h} {v = v} {w = w} {u = u} {n = n} s xs x e is s0 s1 s2 s3 s4 s5 a b c d m =
     let q : ℕ = s.last.found.found.run.q in
-    let b' : s2 ≤ s1 + 4 * (labelled_in v (children_at f q) + 1) = b (s.last.found.found.inside, refl) q (last_first xs e s.last.found x is) in
+    let b' : s2 ≤ s1 + 2 * labelled_in v (children_at f q) = b (s.last.found.found.inside, refl) q (last_first xs e s.last.found x is) in
     let i : ℕ = length v.nodes - 1 in
     let lt : i < length v.nodes = s.last.turn.some in
     let same : labelled_at w n ≡ labelled_at v n = turn_counts s.last.turn in
-    let c' : s3 ≤ s2 + sum_by (λ n. 64 * (labelled_at v n + 1)) (take i v.nodes) = subst (λ j. s3 ≤ s2 + sum_by (λ n. 64 * (labelled_at v n + 1)) (take (j - 1) v.nodes)) (items_long v xs e) c in
-    let each : s4 ≤ s2 + sum_by (λ n. 64 * (labelled_at v n + 1)) (take (i + 1) v.nodes) = sum_step (λ n. 64 * (labelled_at v n + 1)) v.nodes i n s2 s3 s4 lt s.last.turn.node c' (omega arith) in
-    let part : sum_by (λ n. 64 * (labelled_at v n + 1)) (take (i + 1) v.nodes) ≤ sum_by (λ n. 64 * (labelled_at v n + 1)) v.nodes = sum_part (λ n. 64 * (labelled_at v n + 1)) v.nodes (i + 1) in
-    let few : sum_by (λ n. 25 * (labelled_at v n + 1)) v.nodes + sum_by (λ n. 64 * (labelled_at v n + 1)) v.nodes + 68 * labelled_in v (children_at f q) ≤ 178 * length v.nodes = work_few_inside s.last.found.ground s.last.found.found.top in
-    let m' : s5 ≤ s4 + 64 * (labelled_in u (children_at h q) + 1) = m (is_meant s) q (run_in s) in
+    let c' : s3 ≤ s2 + sum_by (λ n. 2 * labelled_at v n + 15) (take i v.nodes) = subst (λ j. s3 ≤ s2 + sum_by (λ n. 2 * labelled_at v n + 15) (take (j - 1) v.nodes)) (items_long v xs e) c in
+    let each : s4 ≤ s2 + sum_by (λ n. 2 * labelled_at v n + 15) (take (i + 1) v.nodes) = sum_step (λ n. 2 * labelled_at v n + 15) v.nodes i n s2 s3 s4 lt s.last.turn.node c' (omega arith) in
+    let part : sum_by (λ n. 2 * labelled_at v n + 15) (take (i + 1) v.nodes) ≤ sum_by (λ n. 2 * labelled_at v n + 15) v.nodes = sum_part (λ n. 2 * labelled_at v n + 15) v.nodes (i + 1) in
+    let few : sum_by (λ n. 7 * (labelled_at v n + 1)) v.nodes + sum_by (λ n. 2 * labelled_at v n + 15) v.nodes + 4 * labelled_in v (children_at f q) ≤ 31 * length v.nodes = work_few_inside s.last.found.ground s.last.found.found.top in
+    let m' : s5 ≤ s4 + 2 * labelled_in u (children_at h q) + 6 = m (is_meant s) q (run_in s) in
     let counts : labelled_in u (children_at h q) ≡ labelled_in v (children_at f q) = run_counts s in
     omega arith

@@ -8,6 +8,7 @@ pub mod Grounds
 pub mod Applied
 pub mod Rooting
 pub mod Ending
+pub mod InPlace
 pub mod Loops
 pub mod AtRoot
 pub mod Begin

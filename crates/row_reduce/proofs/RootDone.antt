@@ -4,7 +4,7 @@ use Rattle.template_theory.specs.Laws.{RootTurnedLaw}
 use Rattle.template_theory.specs.declared.reducer.Step.TheVariants.{Taken}
 use Rattle.arena_model.specs.Layout.{Layout, IsLayout}
 use Rattle.pq_arena.specs.declared.node.NodeId.{NodeId}
-use Rattle.pq_arena.specs.RowNodes.{indices}
+use Rattle.pq_arena.specs.RowNodes.{column_leaves, indices}
 use Rattle.bubble_pass.specs.Marks.{Marks}
 use Rattle.bubble_pass.specs.Pass.{node_in}
 use Rattle.template_model.specs.Treated.{IsTreated}
@@ -16,7 +16,8 @@ use Rattle.row_reduce.specs.Decided.{template_in, labelled_at, AreDecided, AreCh
 use Rattle.row_reduce.specs.Outcome.{IsOutcome, AtFoundRoot}
 use Rattle.row_reduce.proofs.Loops.{at_step, sum_step, sum_part}
 use Rattle.row_reduce.proofs.Turning.{items_long}
-use Rattle.row_reduce.proofs.AtRoot.{LastIs, root_last, top_is, chosen_below, RootNow, root_stands, root_counts, reduced}
+use Rattle.row_reduce.proofs.AtRoot.{LastIs, root_last, top_is, chosen_below, exchanged, RootNow, root_stands, root_counts, reduced}
+use Rattle.row_reduce.proofs.InPlace.{in_place}
 use Rattle.row_reduce.proofs.Ticks.{work_few}
 
 -- the templates below the root are applied, and t is the one that was chosen for it
@@ -80,21 +81,25 @@ some_items {v = v} xs e found = let r : LastIs v _ = root_last found in let some
 -- then the row is taken
 pub last_taken : {f g : Layout} {v w : Marks} {row : List ℕ} {root : NodeId} {ts : List Template} {place : ℕ → ℕ} {t : Template} → LastTurn f g v w row root ts place t → RootTurnedLaw →
     (h : Layout) (u : Marks) (a : ℕ) → IsLayout h → IsTreated g h w u root.index a → Becomes t g h w u root.index a → IsOutcome row f h Taken
-last_taken {t = t} s law h u a hl treated becomes =
-    (reduced t h u a law (last_now s) (last_fit s) hl treated becomes, treated.arena.one, treated.arena.columns ∙ s.applied.columns)
+last_taken {row = row} {t = t} s law h u a hl treated becomes = (
+  reduced t h u a law (last_now s) (last_fit s) hl treated becomes,
+  treated.arena.one,
+  treated.arena.columns ∙ s.applied.columns,
+  in_place (column_leaves row) (exchanged h a (last_now s).step hl treated.arena) s.found.found.root.least,
+)
 
 pub last_ticks : {f g : Layout} {v w : Marks} {row : List ℕ} {root : NodeId} {ts : List Template} {place : ℕ → ℕ} {t : Template} → LastTurn f g v w row root ts place t → (xs : List NodeId) → indices xs ≡ v.nodes →
-    (s0 s1 s2 s3 : ℕ) → s1 ≤ s0 + sum_by (λ n. 25 * (labelled_at v n + 1)) v.nodes → s2 ≤ s1 + sum_by (λ n. 64 * (labelled_at v n + 1)) (take (length xs - 1) v.nodes) →
-    s3 ≤ s2 + 64 * (labelled_at w root.index + 1) → s3 ≤ s0 + 178 * length v.nodes
+    (s0 s1 s2 s3 : ℕ) → s1 ≤ s0 + sum_by (λ n. 7 * (labelled_at v n + 1)) v.nodes → s2 ≤ s1 + sum_by (λ n. 2 * labelled_at v n + 15) (take (length xs - 1) v.nodes) →
+    s3 ≤ s2 + 2 * labelled_at w root.index + 15 → s3 ≤ s0 + 31 * length v.nodes
 last_ticks {v = v} {w = w} {root = root} s xs e s0 s1 s2 s3 a b c =
     let last : ℕ = length v.nodes - 1 in
     let r : LastIs v root.index = root_last s.found in
     let some : 1 ≤ length v.nodes = r.some in
     let same : labelled_at w root.index ≡ labelled_at v root.index = root_counts (last_now s) in
-    let b' : s2 ≤ s1 + sum_by (λ n. 64 * (labelled_at v n + 1)) (take last v.nodes) =
-    subst (λ n. s2 ≤ s1 + sum_by (λ n. 64 * (labelled_at v n + 1)) (take (n - 1) v.nodes)) (items_long v xs e) b in
-    let each : s3 ≤ s1 + sum_by (λ n. 64 * (labelled_at v n + 1)) (take (last + 1) v.nodes) =
-    sum_step (λ n. 64 * (labelled_at v n + 1)) v.nodes last root.index s1 s2 s3 (omega arith) (sym r.is) b' (omega arith) in
-    let part : sum_by (λ n. 64 * (labelled_at v n + 1)) (take (last + 1) v.nodes) ≤ sum_by (λ n. 64 * (labelled_at v n + 1)) v.nodes = sum_part (λ n. 64 * (labelled_at v n + 1)) v.nodes (last + 1) in
-    let few : sum_by (λ n. 25 * (labelled_at v n + 1)) v.nodes + sum_by (λ n. 64 * (labelled_at v n + 1)) v.nodes ≤ 178 * length v.nodes = work_few s.found.ground in
+    let b' : s2 ≤ s1 + sum_by (λ n. 2 * labelled_at v n + 15) (take last v.nodes) =
+    subst (λ n. s2 ≤ s1 + sum_by (λ n. 2 * labelled_at v n + 15) (take (n - 1) v.nodes)) (items_long v xs e) b in
+    let each : s3 ≤ s1 + sum_by (λ n. 2 * labelled_at v n + 15) (take (last + 1) v.nodes) =
+    sum_step (λ n. 2 * labelled_at v n + 15) v.nodes last root.index s1 s2 s3 (omega arith) (sym r.is) b' (omega arith) in
+    let part : sum_by (λ n. 2 * labelled_at v n + 15) (take (last + 1) v.nodes) ≤ sum_by (λ n. 2 * labelled_at v n + 15) v.nodes = sum_part (λ n. 2 * labelled_at v n + 15) v.nodes (last + 1) in
+    let few : sum_by (λ n. 7 * (labelled_at v n + 1)) v.nodes + sum_by (λ n. 2 * labelled_at v n + 15) v.nodes ≤ 31 * length v.nodes = work_few s.found.ground in
     omega arith

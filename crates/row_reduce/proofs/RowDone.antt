@@ -30,6 +30,7 @@ use Rattle.row_reduce.proofs.Finding.{IsMarkedRow, at_found_root, at_found_insid
 use Rattle.row_reduce.proofs.AtRoot.{least}
 use Rattle.row_reduce.proofs.AtInside.{inside_least}
 use Rattle.row_reduce.proofs.Grounds.{labelled_below}
+use Rattle.row_reduce.proofs.InPlace.{unmoved}
 use Rattle.row_reduce.proofs.Kept.{kept_reduced}
 use Rattle.row_reduce.proofs.RowLength.{row_few, row_few_below}
 use Rattle.full_pass.specs.Answer.{IsSettled}
@@ -65,7 +66,7 @@ no_elements (x ∷ xs) e = absurd (omega arith)
 
 -- an empty row leaves the tree as it is
 pub empty_taken : {f : Layout} {c : ℕ} {rows : List (List ℕ)} {k : ℕ} {row : List ℕ} → IsRowOver f c rows k row → length row ≡ 0 → IsOutcome (row_at rows k) f f Taken
-empty_taken {f = f} {row = row} s e = (no_column (row_is s ∙ no_elements row e) (equivalent_refl (outline_at f)), s.can.one, refl)
+empty_taken {f = f} {rows = rows} {k = k} {row = row} s e = (no_column (row_is s ∙ no_elements row e) (equivalent_refl (outline_at f)), s.can.one, refl, unmoved f (column_leaves (row_at rows k)))
 
 pub not_zero : (b : Bool) (n : ℕ) → b ≡ (n == 0) → b ≡ false → n ≡ 0 → ⊥
 not_zero b n e f z = let t : (n == 0) ≡ true = eq-eqb n 0 z in let w : false ≡ true = sym f ∙ e ∙ t in cc
@@ -117,14 +118,14 @@ met_below {f = f} {c = c} {rows = rows} {k = k} law s some q used r =
     (law f (row_at rows k) q s.layout used (row_over_arena s))
 
 pub root_below : {f : Layout} {v : Marks} {c : ℕ} {rows : List (List ℕ)} {k : ℕ} {row : List ℕ} {q : ℕ} → MetLaw → IsRowOver f c rows k row → AtFoundRoot f v (row_at rows k) q → (s0 s1 s2 : ℕ) →
-    s1 ≤ s0 + 24 * (2 * nodes_met_below_root (row_at rows k) (outline_at f) + 1) → s2 ≤ s1 + 178 * length v.nodes → s2 ≤ s0 + 248 * (nodes_met_below_root (row_at rows k) (outline_at f) + 1)
+    s1 ≤ s0 + 7 * nodes_met_below_root (row_at rows k) (outline_at f) + 2 → s2 ≤ s1 + 31 * length v.nodes → s2 ≤ s0 + 38 * nodes_met_below_root (row_at rows k) (outline_at f) + 8
 root_below {f = f} {v = v} {rows = rows} {k = k} {q = q} law s found s0 s1 s2 x y =
     let few : length v.nodes ≤ nodes_met_below_root (row_at rows k) (outline_at f) =
     root_few_below (nodes_met_below_root (row_at rows k) (outline_at f)) found (met_below law s found.some q found.ground.used (least found)) in
     omega arith
 
 pub inside_below : {f : Layout} {v : Marks} {c : ℕ} {rows : List (List ℕ)} {k : ℕ} {row : List ℕ} → MetLaw → IsRowOver f c rows k row → AtFoundInside f v (row_at rows k) → (s0 s1 s2 : ℕ) →
-    s1 ≤ s0 + 24 * (2 * nodes_met_below_root (row_at rows k) (outline_at f) + 1) → s2 ≤ s1 + (178 * length v.nodes + 68) → s2 ≤ s0 + 248 * (nodes_met_below_root (row_at rows k) (outline_at f) + 1)
+    s1 ≤ s0 + 7 * nodes_met_below_root (row_at rows k) (outline_at f) + 2 → s2 ≤ s1 + 31 * length v.nodes + 6 → s2 ≤ s0 + 38 * nodes_met_below_root (row_at rows k) (outline_at f) + 8
 inside_below {f = f} {v = v} {rows = rows} {k = k} law s found s0 s1 s2 x y =
     let few : length v.nodes ≤ nodes_met_below_root (row_at rows k) (outline_at f) =
     inside_few_below (nodes_met_below_root (row_at rows k) (outline_at f)) found (met_below law s found.some found.found.run.q found.ground.used (inside_least found)) in
@@ -137,42 +138,48 @@ root_found {v = v} {row = row} g s e q found = subst (λ z. AtFoundRoot z v row 
 pub inside_found : {f : Layout} {v : Marks} {row : List ℕ} (g : Layout) → IsMarkedRow f v row → g ≡ f → FoundInside f (column_leaves row) v → AtFoundInside g v row
 inside_found {v = v} {row = row} g s e found = subst (λ z. AtFoundInside z v row) (sym e) (at_found_inside s found)
 
-pub root_total : {f : Layout} {v : Marks} {row : List ℕ} {q : ℕ} (a : ℕ) → AtFoundRoot f v row q → AtMost f (column_leaves row) f.root a → (s0 s1 s2 : ℕ) → s1 ≤ s0 + 24 * (a + 1) → s2 ≤ s1 + 178 * length v.nodes →
-    s2 ≤ s0 + 248 * (a + 1)
+pub root_total : {f : Layout} {v : Marks} {row : List ℕ} {q : ℕ} (a : ℕ) → AtFoundRoot f v row q → AtMost f (column_leaves row) f.root a → (s0 s1 s2 : ℕ) → s1 ≤ s0 + 5 * a → s2 ≤ s1 + 31 * length v.nodes →
+    s2 ≤ s0 + 36 * a + 6
 root_total {v = v} a s most s0 s1 s2 x y = let few : length v.nodes ≤ a = root_few a s most in omega arith
 
-pub inside_total : {f : Layout} {v : Marks} {row : List ℕ} (a : ℕ) → AtFoundInside f v row → AtMost f (column_leaves row) f.root a → (s0 s1 s2 : ℕ) → s1 ≤ s0 + 24 * (a + 1) → s2 ≤ s1 + (178 * length v.nodes + 68) →
-    s2 ≤ s0 + 248 * (a + 1)
+pub inside_total : {f : Layout} {v : Marks} {row : List ℕ} (a : ℕ) → AtFoundInside f v row → AtMost f (column_leaves row) f.root a → (s0 s1 s2 : ℕ) → s1 ≤ s0 + 5 * a → s2 ≤ s1 + 31 * length v.nodes + 6 →
+    s2 ≤ s0 + 36 * a + 6
 inside_total {v = v} a s most s0 s1 s2 x y = let few : length v.nodes ≤ a = inside_few a s most in omega arith
 
 -- a row that the full pass says to keep leaves the tree as it is
 pub kept_taken : {f : Layout} {c : ℕ} {rows : List (List ℕ)} {k : ℕ} {row : List ℕ} → IsRowOver f c rows k row → HasTwoEach f → (members others : List ℕ) → IsSettled f (column_leaves (row_at rows k)) members others Kept →
     IsOutcome (row_at rows k) f f Taken
-kept_taken {f = f} {rows = rows} {k = k} s two members others settled = (kept_reduced f (row_at rows k) members others s.layout s.can.one two (row_over_arena s) settled, s.can.one, refl)
+kept_taken {f = f} {rows = rows} {k = k} s two members others settled =
+    (kept_reduced f (row_at rows k) members others s.layout s.can.one two (row_over_arena s) settled, s.can.one, refl, unmoved f (column_leaves (row_at rows k)))
 
 -- a row has no more columns than nodes that meet it
 pub few_columns : {f : Layout} {c : ℕ} {rows : List (List ℕ)} {k : ℕ} {row : List ℕ} → MetLaw → IsRowOver f c rows k row → length (row_at rows k) ≤ nodes_met (row_at rows k) (outline_at f)
 few_columns {f = f} {rows = rows} {k = k} law s = row_few f (row_at rows k) (nodes_met (row_at rows k) (outline_at f)) s.layout s.can.one (row_over_arena s) (met_most law s)
 
--- the steps of the full pass
-pub kept_total : {f : Layout} {c : ℕ} {rows : List (List ℕ)} {k : ℕ} {row : List ℕ} → MetLaw → IsRowOver f c rows k row → (s0 s1 : ℕ) → s1 ≤ s0 + 8 * length (row_at rows k) →
-    s1 ≤ s0 + 256 * (nodes_met (row_at rows k) (outline_at f) + 1)
-kept_total law s s0 s1 x = omega (arith, few_columns law s)
-
--- and of the templates behind it
-pub open_total : {f : Layout} {c : ℕ} {rows : List (List ℕ)} {k : ℕ} {row : List ℕ} → MetLaw → IsRowOver f c rows k row → (s0 s1 s2 : ℕ) → s1 ≤ s0 + 8 * length (row_at rows k) →
-    s2 ≤ s1 + 248 * (nodes_met (row_at rows k) (outline_at f) + 1) → s2 ≤ s0 + 256 * (nodes_met (row_at rows k) (outline_at f) + 1)
-open_total law s s0 s1 s2 x y = omega (arith, few_columns law s)
-
 -- counted at and below the pertinent root
 pub few_below : {f : Layout} {c : ℕ} {rows : List (List ℕ)} {k : ℕ} {row : List ℕ} → IsRowOver f c rows k row → length (row_at rows k) ≤ nodes_met_below_root (row_at rows k) (outline_at f)
 few_below {f = f} {c = c} {rows = rows} {k = k} s = row_few_below c (row_at rows k) (outline_at f) (is_row_at s) s.can.proper
 
-pub kept_below : {f : Layout} {c : ℕ} {rows : List (List ℕ)} {k : ℕ} {row : List ℕ} → IsRowOver f c rows k row → (s0 s1 : ℕ) → s1 ≤ s0 + 8 * length (row_at rows k) →
-    s1 ≤ s0 + 4 * length (row_at rows k) + 252 * (nodes_met_below_root (row_at rows k) (outline_at f) + 1)
-kept_below s s0 s1 x = omega (arith, few_below s)
+-- The steps of a row at most, by the nodes that it meets, and by those at or below the pertinent root. Where the full pass
+-- is all, they are fewer.
+abbrev pub Few : Layout → List ℕ → ℕ → ℕ → Type 0
+Few f row s0 s1 = s1 ≤ s0 + 8 * length row + 36 * nodes_met row (outline_at f) + 6
 
-pub open_below : {f : Layout} {c : ℕ} {rows : List (List ℕ)} {k : ℕ} {row : List ℕ} → IsRowOver f c rows k row → (s0 s1 s2 : ℕ) → s1 ≤ s0 + 8 * length (row_at rows k) →
-    s2 ≤ s1 + 248 * (nodes_met_below_root (row_at rows k) (outline_at f) + 1) →
-    s2 ≤ s0 + 4 * length (row_at rows k) + 252 * (nodes_met_below_root (row_at rows k) (outline_at f) + 1)
-open_below s s0 s1 s2 x y = omega (arith, few_below s)
+abbrev pub FewBelow : Layout → List ℕ → ℕ → ℕ → Type 0
+FewBelow f row s0 s1 = s1 ≤ s0 + 8 * length row + 38 * nodes_met_below_root row (outline_at f) + 8
+
+-- the steps of the full pass and of the templates behind it
+pub open_few : (f : Layout) (row : List ℕ) (s0 s1 s2 : ℕ) → s1 ≤ s0 + 8 * length row → s2 ≤ s1 + 36 * nodes_met row (outline_at f) + 6 → Few f row s0 s2
+open_few f row s0 s1 s2 x y = omega arith
+
+pub open_root_few : (f : Layout) (row : List ℕ) (s0 s1 s2 : ℕ) → s1 ≤ s0 + 8 * length row → s2 ≤ s1 + 38 * nodes_met_below_root row (outline_at f) + 8 → FewBelow f row s0 s2
+open_root_few f row s0 s1 s2 x y = omega arith
+
+-- the wide bounds
+pub wide_total : {f : Layout} {c : ℕ} {rows : List (List ℕ)} {k : ℕ} {row : List ℕ} → MetLaw → IsRowOver f c rows k row → (s0 s1 : ℕ) → Few f (row_at rows k) s0 s1 →
+    s1 ≤ s0 + 256 * (nodes_met (row_at rows k) (outline_at f) + 1)
+wide_total law s s0 s1 x = omega (arith, few_columns law s)
+
+pub wide_below : {f : Layout} {c : ℕ} {rows : List (List ℕ)} {k : ℕ} {row : List ℕ} → IsRowOver f c rows k row → (s0 s1 : ℕ) → FewBelow f (row_at rows k) s0 s1 →
+    s1 ≤ s0 + 4 * length (row_at rows k) + 252 * (nodes_met_below_root (row_at rows k) (outline_at f) + 1)
+wide_below s s0 s1 x = omega (arith, few_below s)

@@ -159,31 +159,31 @@ nodes_few {f = f} {v = v} {row = row} {q = q} a s right most = most v.nodes s.ma
     let m = meets_row f (column_leaves row) x (label_at v x) s.layout s.two (below_used f q x s.layout s.used l) (right x some) some in
     ((m.0, m.2, m.1), l))
 
-asked : (v : Marks) (ns : List ℕ) → sum_by (λ x. 25 * (labelled_at v x + 1)) ns ≡ 25 * (sum_by (λ n. labelled_at v n) ns + length ns)
+asked : (v : Marks) (ns : List ℕ) → sum_by (λ x. 7 * (labelled_at v x + 1)) ns ≡ 7 * (sum_by (λ n. labelled_at v n) ns + length ns)
 asked v [] = refl
-asked v (n ∷ ns) = omega (arith, asked v ns, sum_by-cons (λ x. 25 * (labelled_at v x + 1)) n ns, sum_by-cons (λ n. labelled_at v n) n ns)
+asked v (n ∷ ns) = omega (arith, asked v ns, sum_by-cons (λ x. 7 * (labelled_at v x + 1)) n ns, sum_by-cons (λ n. labelled_at v n) n ns)
 
-done : (v : Marks) (ns : List ℕ) → sum_by (λ x. 64 * (labelled_at v x + 1)) ns ≡ 64 * (sum_by (λ n. labelled_at v n) ns + length ns)
+done : (v : Marks) (ns : List ℕ) → sum_by (λ x. 2 * labelled_at v x + 15) ns ≡ 2 * sum_by (λ n. labelled_at v n) ns + 15 * length ns
 done v [] = refl
-done v (n ∷ ns) = omega (arith, done v ns, sum_by-cons (λ x. 64 * (labelled_at v x + 1)) n ns, sum_by-cons (λ n. labelled_at v n) n ns)
+done v (n ∷ ns) = omega (arith, done v ns, sum_by-cons (λ x. 2 * labelled_at v x + 15) n ns, sum_by-cons (λ n. labelled_at v n) n ns)
 
--- so is the work on them: a look and at most six patterns, and a template
+-- so is the work on them: a look, at most six patterns, and a template
 pub work_few : {f : Layout} {v : Marks} {row : List ℕ} {q : ℕ} → IsGround f v row q →
-    sum_by (λ x. 25 * (labelled_at v x + 1)) v.nodes + sum_by (λ x. 64 * (labelled_at v x + 1)) v.nodes ≤ 178 * length v.nodes
+    sum_by (λ x. 7 * (labelled_at v x + 1)) v.nodes + sum_by (λ x. 2 * labelled_at v x + 15) v.nodes ≤ 31 * length v.nodes
 work_few {v = v} s = omega (arith, asked v v.nodes, done v v.nodes, children_few s)
 
 -- where q has no label, with the work at q
 pub work_few_inside : {f : Layout} {v : Marks} {row : List ℕ} {q : ℕ} → IsGround f v row q → label_at v q ≡ Empty →
-    sum_by (λ x. 25 * (labelled_at v x + 1)) v.nodes + sum_by (λ x. 64 * (labelled_at v x + 1)) v.nodes + 68 * labelled_in v (children_at f q) ≤ 178 * length v.nodes
+    sum_by (λ x. 7 * (labelled_at v x + 1)) v.nodes + sum_by (λ x. 2 * labelled_at v x + 15) v.nodes + 4 * labelled_in v (children_at f q) ≤ 31 * length v.nodes
 work_few_inside {v = v} s e = omega (arith, asked v v.nodes, done v v.nodes, children_few_inside s e)
 
 -- so is the work of choosing alone
-pub decide_few : {f : Layout} {v : Marks} {row : List ℕ} {q : ℕ} → IsGround f v row q → (s0 s1 : ℕ) → s1 ≤ s0 + sum_by (λ x. 25 * (labelled_at v x + 1)) v.nodes → s1 ≤ s0 + 178 * length v.nodes
-decide_few {v = v} s s0 s1 a = let few : sum_by (λ x. 25 * (labelled_at v x + 1)) v.nodes + sum_by (λ x. 64 * (labelled_at v x + 1)) v.nodes ≤ 178 * length v.nodes = work_few s in omega arith
+pub decide_few : {f : Layout} {v : Marks} {row : List ℕ} {q : ℕ} → IsGround f v row q → (s0 s1 : ℕ) → s1 ≤ s0 + sum_by (λ x. 7 * (labelled_at v x + 1)) v.nodes → s1 ≤ s0 + 31 * length v.nodes
+decide_few {v = v} s s0 s1 a = let few : sum_by (λ x. 7 * (labelled_at v x + 1)) v.nodes + sum_by (λ x. 2 * labelled_at v x + 15) v.nodes ≤ 31 * length v.nodes = work_few s in omega arith
 
 -- with the question at q
-pub asked_few : {f : Layout} {v : Marks} {row : List ℕ} {q : ℕ} → IsGround f v row q → label_at v q ≡ Empty → (s0 s1 s2 : ℕ) → s1 ≤ s0 + sum_by (λ x. 25 * (labelled_at v x + 1)) v.nodes →
-    s2 ≤ s1 + 4 * (labelled_in v (children_at f q) + 1) → s2 ≤ s0 + 178 * length v.nodes + 68
+pub asked_few : {f : Layout} {v : Marks} {row : List ℕ} {q : ℕ} → IsGround f v row q → label_at v q ≡ Empty → (s0 s1 s2 : ℕ) → s1 ≤ s0 + sum_by (λ x. 7 * (labelled_at v x + 1)) v.nodes →
+    s2 ≤ s1 + 2 * labelled_in v (children_at f q) → s2 ≤ s0 + 31 * length v.nodes + 6
 asked_few {f = f} {v = v} {q = q} s e s0 s1 s2 a b =
-    let few : sum_by (λ x. 25 * (labelled_at v x + 1)) v.nodes + sum_by (λ x. 64 * (labelled_at v x + 1)) v.nodes + 68 * labelled_in v (children_at f q) ≤ 178 * length v.nodes = work_few_inside s e in
+    let few : sum_by (λ x. 7 * (labelled_at v x + 1)) v.nodes + sum_by (λ x. 2 * labelled_at v x + 15) v.nodes + 4 * labelled_in v (children_at f q) ≤ 31 * length v.nodes = work_few_inside s e in
     omega arith

@@ -1,5 +1,5 @@
 -- Two P-nodes, children of one Q-node, divided one after the other.
-use Rattle.std.proofs.Common.{◌≡◌, ◌≢◌, ℕ, ◌≤◌, ◌<◌, length, cond, eqb, true, false, Bool, List, [], ◌∷◌, Some, refl, sym, subst, ◌∙◌, eqb-true}
+use Rattle.std.proofs.Common.{◌≡◌, ◌≢◌, ℕ, ◌≤◌, ◌<◌, length, eqb, List, [], ◌∷◌, Some, refl, sym, subst, ◌∙◌}
 use Rattle.column_order.specs.Orders.{occurs}
 use Rattle.pq_tree.specs.Outline.{Forest, p_node}
 use Rattle.pq_tree.specs.Equivalent.{AreEquivalent}
@@ -14,12 +14,8 @@ use Rattle.template_model.proofs.Replaced.{replaced_self}
 use Rattle.templates_p.specs.Dividing.{AreSome, IsDivided}
 use Rattle.templates_p.specs.Members.{member_labels}
 use Rattle.row_reduce.proofs.Divided.{sibling_kept}
-use Rattle.row_reduce.proofs.Ending.{IsExchanged}
+use Rattle.row_reduce.proofs.Ending.{IsExchanged, same_root}
 use Rattle.row_reduce.proofs.Labelling.{below_p}
-
-same_root : (b : Bool) (a q : ℕ) → eqb a q ≡ b → cond b q a ≡ a
-same_root true a q e = sym (eqb-true a q e)
-same_root false a q e = refl
 
 -- what is outside of q stays, twice
 pub exchanged_twice : (f g h : Layout) (q : ℕ) → IsLayout f → IsLayout h → shape_at f q ≡ Some Q → IsReplacedAt f g q q → IsReplacedAt g h q q → IsExchanged f h q q

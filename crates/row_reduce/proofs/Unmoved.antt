@@ -1,5 +1,5 @@
 -- A row that the tree keeps: it is taken, and nothing changes.
-use Rattle.std.proofs.Common.{◌≡◌, ◌≢◌, ℕ, ◌-◌, ◌<◌, List, [], length, true, false, refl, sym, subst, ◌∙◌, arith}
+use Rattle.std.proofs.Common.{◌≡◌, ℕ, ◌-◌, ◌<◌, List, [], length, true, refl, sym, subst, ◌∙◌, arith}
 use Rattle.std.proofs.lemmas.Bool.{false≢true}
 use Rattle.row_model.specs.Graph.{row_at}
 use Rattle.template_theory.specs.Laws.{KeptLaw, RefusedLaw}

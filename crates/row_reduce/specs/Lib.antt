@@ -5,6 +5,7 @@ pub mod Deciding
 pub mod Becomes
 pub mod Ground
 pub mod Decided
+pub mod InPlace
 pub mod Outcome
 pub mod Reducer
 pub mod Still

@@ -15,10 +15,12 @@ use Rattle.full_pass.specs.declared.settled.End.{End}
 use Rattle.bubble_pass.specs.Marks.{Marks}
 use Rattle.bubble_pass.specs.Pass.{FoundRoot, FoundInside}
 use Rattle.row_reduce.specs.Ground.{IsGround}
+use Rattle.row_reduce.specs.InPlace.{IsInPlace}
 
--- the row is taken, and the tree is reduced; or it is refused, and the arena stays
+-- the row is taken, and the tree is reduced in place; or it is refused, and the arena stays
 abbrev pub IsOutcome : List ℕ → Layout → Layout → Step → Type 0
-IsOutcome row f g Taken = IsReduced row (outline_at f) (outline_at g) × IsOneTree g × (g.columns ≡ f.columns)
+IsOutcome row f g Taken =
+    IsReduced row (outline_at f) (outline_at g) × IsOneTree g × (g.columns ≡ f.columns) × IsInPlace (column_leaves row) f g
 IsOutcome row f g Refused = IsRefused row (outline_at f) × (g ≡ f)
 
 -- what row k of the rows over c columns asks of the arena: one tree over these columns, tied to some rows

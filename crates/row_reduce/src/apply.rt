@@ -28,7 +28,7 @@ pub fn apply_one<L: Ledger>(
     ensures treated { IsTreated arena.old arena.new work.old work.new node.index result.index }
     ensures becomes { Becomes template arena.old arena.new work.old work.new node.index result.index }
     ensures still { IsStill arena.old work.old node.index → (arena.new ≡ arena.old) × (work.new ≡ work.old) }
-    ensures ticks { steps.new ≤ steps.old + 64 * (labelled_at work.old node.index + 1) }
+    ensures ticks { steps.new ≤ steps.old + 2 * labelled_at work.old node.index + 15 }
 {
     arena.layout_law();
     match template {
@@ -58,7 +58,7 @@ fn apply_at<L: Ledger>(
     ensures treated { IsTreated arena.old arena.new work.old work.new node.index result.index }
     ensures becomes { Becomes template arena.old arena.new work.old work.new node.index result.index }
     ensures still { IsStill arena.old work.old node.index → (arena.new ≡ arena.old) × (work.new ≡ work.old) }
-    ensures ticks { steps.new ≤ steps.old + 64 * (labelled_at work.old node.index + 1) }
+    ensures ticks { steps.new ≤ steps.old + 2 * labelled_at work.old node.index + 15 }
 {
     arena.layout_law();
     match template {
@@ -79,7 +79,7 @@ pub fn apply_chosen<L: Ledger>(
     ensures applied { (row : List ℕ) (q : ℕ) → AreChosen arena.old work.old row q chosen.now count →
         (place : ℕ → ℕ) × AreApplied arena.old work.old row (take count work.old.nodes) place arena.new work.new }
     ensures still { ((i : ℕ) → i < count → IsStill arena.old work.old (node_in work.old i)) → (arena.new ≡ arena.old) × (work.new ≡ work.old) }
-    ensures ticks { steps.new ≤ steps.old + sum_by (λ n. 64 * (labelled_at work.old n + 1)) (take count work.old.nodes) }
+    ensures ticks { steps.new ≤ steps.old + sum_by (λ n. 2 * labelled_at work.old n + 15) (take count work.old.nodes) }
 {
     arena.layout_law();
     for i in 0..count {

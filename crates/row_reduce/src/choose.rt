@@ -26,6 +26,7 @@ pub fn choose<L: Ledger>(
     requires outside { root ≡ true → work.now.inside ≡ false }
     ensures choice { IsChoice arena.now work.now node.index root result }
     ensures ticks { steps.new ≤ steps.old + 1 + 4 * asked (shape_at arena.now node.index) result * (labelled_at work.now node.index + 1) }
+    ensures few { steps.new ≤ steps.old + 7 * (labelled_at work.now node.index + 1) }
 {
     match arena.look(node, steps).shape {
         Shape::Leaf(_) => choose_leaf(arena, work, node, root, steps),
@@ -66,6 +67,7 @@ fn choose_p<L: Ledger>(
     requires p { shape_at arena.now node.index ≡ Some P }
     ensures choice { IsChoice arena.now work.now node.index root result }
     ensures ticks { steps.new ≡ steps.old + asked_p result }
+    ensures few { steps.new ≤ steps.old + 6 }
 {
     if fits_p1(arena, work, node, root, steps) {
         return Some(Template::P1);
@@ -101,6 +103,7 @@ fn choose_q<L: Ledger>(
     requires outside { root ≡ true → work.now.inside ≡ false }
     ensures choice { IsChoice arena.now work.now node.index root result }
     ensures ticks { steps.new ≤ steps.old + 4 * asked_q result * (labelled_at work.now node.index + 1) }
+    ensures few { steps.new ≤ steps.old + 7 * labelled_at work.now node.index + 3 }
 {
     if fits_q1(arena, work, node, root, steps) {
         return Some(Template::Q1);

@@ -25,7 +25,7 @@ pub fn decide<L: Ledger>(
     ensures decided { result ≡ true → AreDecided arena.now work.now root chosen.new (length work.now.nodes) }
     ensures stopped { result ≡ false → IsStopped arena.now work.now root }
     ensures asking { result ≡ true → steps.new ≤ steps.old + asking arena.now work.now chosen.new (length work.now.nodes) }
-    ensures ticks { steps.new ≤ steps.old + sum_by (λ n. 25 * (labelled_at work.now n + 1)) work.now.nodes }
+    ensures ticks { steps.new ≤ steps.old + sum_by (λ n. 7 * (labelled_at work.now n + 1)) work.now.nodes }
 {
     for (i, node) in work.nodes().iter().enumerate() {
         match choose(arena, work, *node, is_top(root, *node), steps) {

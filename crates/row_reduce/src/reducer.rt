@@ -10,6 +10,7 @@ ghost use Rattle.template_theory.specs.Frugal.{IsFrugal};
 ghost use Rattle.arena_model.specs.NamedTree.{outline_at};
 ghost use Rattle.arena_model.specs.RowLeaves.{column_leaves};
 ghost use Rattle.full_pass.specs.Answer.{IsRowKept};
+ghost use Rattle.row_reduce.specs.InPlace.{IsInPlace};
 
 use crate::rows::reduce_arena;
 use crate::template::Template;
@@ -105,9 +106,13 @@ impl ArenaReducer {
         ensures ticks { steps.new ≤ steps.old + 256 * (nodes_met (row_at m.now.rows k) (outline_at self.old) + 1) }
         ensures below { result ≡ Step.Taken →
             steps.new ≤ steps.old + 4 * length (row_at m.now.rows k) + 252 * (nodes_met_below_root (row_at m.now.rows k) (outline_at self.old) + 1) }
+        ensures few { steps.new ≤ steps.old + 8 * length (row_at m.now.rows k) + 36 * nodes_met (row_at m.now.rows k) (outline_at self.old) + 6 }
+        ensures root_few { result ≡ Step.Taken →
+            steps.new ≤ steps.old + 8 * length (row_at m.now.rows k) + 38 * nodes_met_below_root (row_at m.now.rows k) (outline_at self.old) + 8 }
         ensures amortised { IsFrugal (row_at m.now.rows k) (outline_at self.old) (outline_at self.new) steps.old steps.new result }
         ensures empty { row_at m.now.rows k ≡ [] → (self.new ≡ self.old) × (steps.new ≡ steps.old) }
         ensures kept { IsRowKept self.old (column_leaves (row_at m.now.rows k)) → (result ≡ Step.Taken) × (self.new ≡ self.old) }
+        ensures in_place { IsInPlace (column_leaves (row_at m.now.rows k)) self.old self.new }
     {
         self.reduce_after(m, k, steps)
     }
@@ -122,9 +127,14 @@ impl ArenaReducer {
     /// of the row are those at or below one node, or below neighbouring children of a Q-node, so that every order of the
     /// tree keeps it already: it is taken, and the arena is the same, not only up to turning.
     ///
+    /// The row is reduced in place. Whatever node holds it, nodes that are not at or below that one keep their numbers,
+    /// their shapes and their children, in their order; but another node may stand in its place.
+    ///
     /// It ticks at most 256 times for each node that the row meets, and 256 times more. Where the row is taken, it
     /// ticks at most 252 times for each of these nodes at or below the smallest that holds the row, 252 times more, and
-    /// four times for each column of the row.
+    /// four times for each column of the row. Both bounds are wide. The narrow ones are 36 for each node that the row
+    /// meets, and 6 more, or 38 for each at or below the smallest that holds it, and 8 more; and in both, 8 for each
+    /// column of the row.
     ///
     /// All rows together are linear: 256 ticks are worth one unit of the tree's weight, the number of its Q-nodes and
     /// of the children of its P-nodes (Booth and Lueker, 1976). A row that is taken pays what it ticks beyond 1024
@@ -153,9 +163,13 @@ impl ArenaReducer {
         ensures ticks { steps.new ≤ steps.old + 256 * (nodes_met (row_at m.now.rows k) (outline_at self.old) + 1) }
         ensures below { result ≡ Step.Taken →
             steps.new ≤ steps.old + 4 * length (row_at m.now.rows k) + 252 * (nodes_met_below_root (row_at m.now.rows k) (outline_at self.old) + 1) }
+        ensures few { steps.new ≤ steps.old + 8 * length (row_at m.now.rows k) + 36 * nodes_met (row_at m.now.rows k) (outline_at self.old) + 6 }
+        ensures root_few { result ≡ Step.Taken →
+            steps.new ≤ steps.old + 8 * length (row_at m.now.rows k) + 38 * nodes_met_below_root (row_at m.now.rows k) (outline_at self.old) + 8 }
         ensures amortised { IsFrugal (row_at m.now.rows k) (outline_at self.old) (outline_at self.new) steps.old steps.new result }
         ensures empty { row_at m.now.rows k ≡ [] → (self.new ≡ self.old) × (steps.new ≡ steps.old) }
         ensures kept { IsRowKept self.old (column_leaves (row_at m.now.rows k)) → (result ≡ Step.Taken) × (self.new ≡ self.old) }
+        ensures in_place { IsInPlace (column_leaves (row_at m.now.rows k)) self.old self.new }
     {
         ticks_law();
         reduce_law();

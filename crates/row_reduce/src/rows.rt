@@ -42,6 +42,9 @@ pub fn reduce_arena<L: Ledger>(
     ensures ticks { steps.new ≤ steps.old + 256 * (nodes_met (row_at m.now.rows k) (outline_at arena.old) + 1) }
     ensures below { result ≡ Step.Taken →
         steps.new ≤ steps.old + 4 * length (row_at m.now.rows k) + 252 * (nodes_met_below_root (row_at m.now.rows k) (outline_at arena.old) + 1) }
+    ensures few { steps.new ≤ steps.old + 8 * length (row_at m.now.rows k) + 36 * nodes_met (row_at m.now.rows k) (outline_at arena.old) + 6 }
+    ensures root_few { result ≡ Step.Taken →
+        steps.new ≤ steps.old + 8 * length (row_at m.now.rows k) + 38 * nodes_met_below_root (row_at m.now.rows k) (outline_at arena.old) + 8 }
     ensures empty { row_at m.now.rows k ≡ [] → (arena.new ≡ arena.old) × (steps.new ≡ steps.old) }
     ensures kept { IsRowKept arena.old (column_leaves (row_at m.now.rows k)) → (result ≡ Step.Taken) × (arena.new ≡ arena.old) }
 {
@@ -112,9 +115,9 @@ fn reduce_by_templates<L: Ledger>(
     ensures outcome { IsOutcome (row_at m.now.rows k) arena.old arena.new result }
     ensures room { size_of work.new ≡ size_of work.old }
     ensures kept { IsRowKept arena.old (column_leaves (row_at m.now.rows k)) → (result ≡ Step.Taken) × (arena.new ≡ arena.old) }
-    ensures ticks { steps.new ≤ steps.old + 248 * (nodes_met (row_at m.now.rows k) (outline_at arena.old) + 1) }
+    ensures ticks { steps.new ≤ steps.old + 36 * nodes_met (row_at m.now.rows k) (outline_at arena.old) + 6 }
     ensures below { result ≡ Step.Taken →
-        steps.new ≤ steps.old + 248 * (nodes_met_below_root (row_at m.now.rows k) (outline_at arena.old) + 1) }
+        steps.new ≤ steps.old + 38 * nodes_met_below_root (row_at m.now.rows k) (outline_at arena.old) + 8 }
 {
     arena.layout_law();
     arena.arities_law();
@@ -141,7 +144,7 @@ fn reduce_root<L: Ledger>(
     ensures outcome { (row : List ℕ) → AtFoundRoot arena.old work.old row root.index → IsOutcome row arena.old arena.new result }
     ensures kept { (row : List ℕ) → AtFoundRoot arena.old work.old row root.index → IsRowKept arena.old (column_leaves row) → arena.new ≡ arena.old }
     ensures room { size_of work.new ≡ size_of work.old }
-    ensures ticks { steps.new ≤ steps.old + 178 * length work.old.nodes }
+    ensures ticks { steps.new ≤ steps.old + 31 * length work.old.nodes }
 {
     if !decide(arena, work, Some(root), chosen, steps) {
         return Step::Refused;
@@ -167,7 +170,7 @@ fn reduce_inside<L: Ledger>(
     ensures outcome { (row : List ℕ) → AtFoundInside arena.old work.old row → IsOutcome row arena.old arena.new result }
     ensures kept { (row : List ℕ) → AtFoundInside arena.old work.old row → IsRowKept arena.old (column_leaves row) → arena.new ≡ arena.old }
     ensures room { size_of work.new ≡ size_of work.old }
-    ensures ticks { steps.new ≤ steps.old + 178 * length work.old.nodes + 68 }
+    ensures ticks { steps.new ≤ steps.old + 31 * length work.old.nodes + 6 }
 {
     let nodes = work.nodes();
     let last = nodes.len() - 1;

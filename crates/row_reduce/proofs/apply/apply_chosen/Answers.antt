@@ -84,4 +84,4 @@ returns-clause-applied g c =
 pub returns-clause-ticks : goal.returns-clause-ticks
 returns-clause-ticks g c =
     let all : c.loop-i.i ≡ c.args.count = omega (arith, c.loop-i-test.false, c.loop-i.auto.i-end) in
-    subst (λ k. c.loop-i.steps ≤ c.args.steps.now + sum_by (λ n. 64 * (labelled_at c.args.work.now n + 1)) (take k c.args.work.now.nodes)) all c.loop-i.invariant.ticks
+    subst (λ k. c.loop-i.steps ≤ c.args.steps.now + sum_by (λ n. 2 * labelled_at c.args.work.now n + 15) (take k c.args.work.now.nodes)) all c.loop-i.invariant.ticks

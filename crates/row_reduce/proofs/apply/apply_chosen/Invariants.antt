@@ -12,5 +12,5 @@ invariant-loop-i g l = record {
       (place : ℕ → ℕ) × AreApplied l.fn.arena l.fn.work row (take l.i l.fn.work.nodes) place l.arena l.work;
   layout : IsLayout l.arena;
   still : ((i : ℕ) → i < l.fn.count → IsStill l.fn.arena l.fn.work (node_in l.fn.work i)) → (l.arena ≡ l.fn.arena) × (l.work ≡ l.fn.work);
-  ticks : l.steps ≤ l.initial.steps + sum_by (λ n. 64 * (labelled_at l.fn.work n + 1)) (take l.i l.fn.work.nodes);
+  ticks : l.steps ≤ l.initial.steps + sum_by (λ n. 2 * labelled_at l.fn.work n + 15) (take l.i l.fn.work.nodes);
 }

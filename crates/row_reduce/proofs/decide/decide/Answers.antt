@@ -1,6 +1,6 @@
 use Rattle.std.proofs.Common.{◌≡◌, ◌+◌, ◌*◌, length, arith}
 use Rattle.row_reduce.specs.Decided.{labelled_at}
-use Rattle.row_reduce.proofs.Asking.{choice_ticks, asking_more}
+use Rattle.row_reduce.proofs.Asking.{asking_more}
 use Rattle.row_reduce.proofs.Loops.{decided_more, stopped_at, sum_step, sum_stop}
 use Rattle.row_reduce.proofs.Turning.{few_items, item_at, item_ready}
 use Rattle.row_reduce.proofs.decide.decide.Goals as goal
@@ -18,8 +18,8 @@ returns-in-None-clause-stopped g c =
 pub returns-in-None-clause-ticks : goal.returns-in-None-clause-ticks
 returns-in-None-clause-ticks g c =
     let xs = c.nodes-node-items.result.now in let v = c.args.work.now in
-    sum_stop (λ n. 25 * (labelled_at v n + 1)) v.nodes c.loop-i.i _ _ _ _ (few_items v xs c.loop-i.i c.nodes-node-items.ensures c.loop-i-test.true)
-    (item_at v xs c.loop-i.i c.nodes-node-items.ensures c.loop-i-test.true) c.loop-i.invariant.ticks (choice_ticks _ c.choose.result _ _ _ c.choose.ensures.ticks)
+    sum_stop (λ n. 7 * (labelled_at v n + 1)) v.nodes c.loop-i.i _ _ _ _ (few_items v xs c.loop-i.i c.nodes-node-items.ensures c.loop-i-test.true)
+    (item_at v xs c.loop-i.i c.nodes-node-items.ensures c.loop-i-test.true) c.loop-i.invariant.ticks c.choose.ensures.few
 
 pub loop-i-preserved : goal.loop-i-preserved
 loop-i-preserved g c =
@@ -35,6 +35,6 @@ loop-i-preserved g c =
           let long : length c.loop-i.chosen ≡ length c.args.chosen.now = c.loop-i.auto.chosen in
           omega (arith, few, c.requires.room))
           c.in-Some.is (item_at v xs c.loop-i.i c.nodes-node-items.ensures c.loop-i-test.true) c.loop-i.invariant.asking c.choose.ensures.ticks;
-      ticks = sum_step (λ n. 25 * (labelled_at v n + 1)) v.nodes c.loop-i.i _ _ _ _ (few_items v xs c.loop-i.i c.nodes-node-items.ensures c.loop-i-test.true)
-          (item_at v xs c.loop-i.i c.nodes-node-items.ensures c.loop-i-test.true) c.loop-i.invariant.ticks (choice_ticks _ c.choose.result _ _ _ c.choose.ensures.ticks);
+      ticks = sum_step (λ n. 7 * (labelled_at v n + 1)) v.nodes c.loop-i.i _ _ _ _ (few_items v xs c.loop-i.i c.nodes-node-items.ensures c.loop-i-test.true)
+          (item_at v xs c.loop-i.i c.nodes-node-items.ensures c.loop-i-test.true) c.loop-i.invariant.ticks c.choose.ensures.few;
     }

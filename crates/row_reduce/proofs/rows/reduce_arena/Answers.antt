@@ -1,11 +1,11 @@
-use Rattle.std.proofs.Common.{◌≡◌, ◌≢◌, [], length, rules}
+use Rattle.std.proofs.Common.{◌≡◌, ◌≢◌, [], length, rules, arith}
 use Rattle.pq_arena.specs.RowNodes.{indices}
 use Rattle.row_model.specs.Graph.{row_at}
 use Rattle.row_reduce.proofs.GroupDone.{asked, group_moves, group_named, group_taken, group_total, group_below}
 use Rattle.row_reduce.proofs.BesideDone.{beside_moves, beside_some, beside_place, beside_named, beside_taken, beside_total, beside_below}
 use Rattle.row_reduce.specs.Outcome.{AtFoundBetween}
 use Rattle.row_reduce.proofs.BetweenDone.{between_moves, between_total, between_below}
-use Rattle.row_reduce.proofs.RowDone.{row_over, row_over_arena, some_column, few_columns, empty_taken, kept_taken, kept_total, kept_below, open_total, open_below}
+use Rattle.row_reduce.proofs.RowDone.{row_over, row_over_arena, some_column, empty_taken, kept_taken, open_few, open_root_few, wide_total, wide_below}
 use Rattle.row_reduce.proofs.rows.reduce_arena.Goals as goal
 
 pub returns-then-is_empty-clause-outcome : goal.returns-then-is_empty-clause-outcome
@@ -17,20 +17,22 @@ pub returns-in-Kept-clause-outcome : goal.returns-in-Kept-clause-outcome
 returns-in-Kept-clause-outcome g c =
     kept_taken (row_over c.layout_law.ensures c.requires.tree c.row.ensures.row c.row.ensures.ascending) c.arities_law.ensures [] [] c.in-Kept.ensures.settled
 
-pub returns-in-Kept-clause-ticks : goal.returns-in-Kept-clause-ticks
-returns-in-Kept-clause-ticks g c = kept_total c.met_law.ensures (row_over c.layout_law.ensures c.requires.tree c.row.ensures.row c.row.ensures.ascending) _ _ c.settle.ensures.steps
+pub returns-in-Kept-clause-few : goal.returns-in-Kept-clause-few
+returns-in-Kept-clause-few g c = let all = c.settle.ensures.steps in omega (arith, all)
 
-pub returns-in-Kept-clause-below : goal.returns-in-Kept-clause-below
-returns-in-Kept-clause-below g c = λ e. kept_below (row_over c.layout_law.ensures c.requires.tree c.row.ensures.row c.row.ensures.ascending) _ _ c.settle.ensures.steps
+pub returns-in-Kept-clause-root_few : goal.returns-in-Kept-clause-root_few
+returns-in-Kept-clause-root_few g c = λ e. let all = c.settle.ensures.steps in omega (arith, all)
 
 pub returns-in-Open : goal.returns-in-Open
 returns-in-Open g c = record {
   outcome = c.reduce_by_templates.ensures.outcome;
   room = c.reduce_by_templates.ensures.room;
   full = c.settle.ensures.room;
-  ticks = open_total c.met_law.ensures (row_over c.layout_law.ensures c.requires.tree c.row.ensures.row c.row.ensures.ascending) _ _ _ c.settle.ensures.steps c.reduce_by_templates.ensures.ticks;
   kept = c.reduce_by_templates.ensures.kept;
-  below = λ e. open_below (row_over c.layout_law.ensures c.requires.tree c.row.ensures.row c.row.ensures.ascending) _ _ _ c.settle.ensures.steps (c.reduce_by_templates.ensures.below e);
+  ticks = wide_total c.met_law.ensures (row_over c.layout_law.ensures c.requires.tree c.row.ensures.row c.row.ensures.ascending) _ _ (open_few c.args.arena.now (row_at c.args.m.now.rows c.args.k) _ _ _ c.settle.ensures.steps c.reduce_by_templates.ensures.ticks);
+  below = λ e. wide_below (row_over c.layout_law.ensures c.requires.tree c.row.ensures.row c.row.ensures.ascending) _ _ (open_root_few c.args.arena.now (row_at c.args.m.now.rows c.args.k) _ _ _ c.settle.ensures.steps (c.reduce_by_templates.ensures.below e));
+  few = open_few c.args.arena.now (row_at c.args.m.now.rows c.args.k) _ _ _ c.settle.ensures.steps c.reduce_by_templates.ensures.ticks;
+  root_few = λ e. open_root_few c.args.arena.now (row_at c.args.m.now.rows c.args.k) _ _ _ c.settle.ensures.steps (c.reduce_by_templates.ensures.below e);
   empty = λ none. absurd (some_column (row_over c.layout_law.ensures c.requires.tree c.row.ensures.row c.row.ensures.ascending) (search rules) none);
 }
 
@@ -41,15 +43,15 @@ returns-in-Group-clause-outcome g c =
     group_taken s c.arities_law.ensures some c.turned_law.ensures.root c.in-Group.node.index (indices c.members.result.now) (group_named c.members.ensures c.in-Group.ensures.settled)
     c.apply_p2_to.new.arena c.layout_law-in-Group.ensures c.apply_p2_to.ensures.replaced c.apply_p2_to.ensures.becomes
 
-pub returns-in-Group-clause-ticks : goal.returns-in-Group-clause-ticks
-returns-in-Group-clause-ticks g c =
+pub returns-in-Group-clause-few : goal.returns-in-Group-clause-few
+returns-in-Group-clause-few g c =
     let s = (row_over c.layout_law.ensures c.requires.tree c.row.ensures.row c.row.ensures.ascending) in
     let some : row_at c.args.m.now.rows c.args.k ≢ [] = some_column s (search rules) in
-    group_total c.met_law.ensures s c.arities_law.ensures some c.in-Group.node.index c.members.result.now (group_named c.members.ensures c.in-Group.ensures.settled) (few_columns c.met_law.ensures s) _ _ _
+    group_total c.met_law.ensures s c.arities_law.ensures some c.in-Group.node.index c.members.result.now (group_named c.members.ensures c.in-Group.ensures.settled) _ _ _
     c.settle.ensures.steps c.apply_p2_to.ensures.ticks
 
-pub returns-in-Group-clause-below : goal.returns-in-Group-clause-below
-returns-in-Group-clause-below g c = λ e.
+pub returns-in-Group-clause-root_few : goal.returns-in-Group-clause-root_few
+returns-in-Group-clause-root_few g c = λ e.
     let s = (row_over c.layout_law.ensures c.requires.tree c.row.ensures.row c.row.ensures.ascending) in
     let some : row_at c.args.m.now.rows c.args.k ≢ [] = some_column s (search rules) in
     group_below c.met_law.ensures s c.arities_law.ensures some c.in-Group.node.index c.members.result.now (group_named c.members.ensures c.in-Group.ensures.settled) _ _ _ c.settle.ensures.steps c.apply_p2_to.ensures.ticks
@@ -72,15 +74,15 @@ returns-in-Beside-clause-outcome g c =
     beside_taken s c.arities_law.ensures some c.turned_law-in-Beside.ensures.root c.in-Beside.end.node.index c.in-Beside.end.beside.index (indices c.members-in-Beside.result.now)
     (beside_named c.members-in-Beside.ensures c.in-Beside.ensures.settled) c.divide.new.arena c.layout_law-in-Beside.ensures (record { before = c.divide.ensures.before; behind = c.divide.ensures.behind })
 
-pub returns-in-Beside-clause-ticks : goal.returns-in-Beside-clause-ticks
-returns-in-Beside-clause-ticks g c =
+pub returns-in-Beside-clause-few : goal.returns-in-Beside-clause-few
+returns-in-Beside-clause-few g c =
     let s = (row_over c.layout_law.ensures c.requires.tree c.row.ensures.row c.row.ensures.ascending) in
     let some : row_at c.args.m.now.rows c.args.k ≢ [] = some_column s (search rules) in
     beside_total c.met_law.ensures s c.arities_law.ensures some c.in-Beside.end.node.index c.in-Beside.end.beside.index c.members-in-Beside.result.now (beside_named c.members-in-Beside.ensures c.in-Beside.ensures.settled)
-    (few_columns c.met_law.ensures s) _ _ _ c.settle.ensures.steps c.divide.ensures.ticks
+    _ _ _ c.settle.ensures.steps c.divide.ensures.ticks
 
-pub returns-in-Beside-clause-below : goal.returns-in-Beside-clause-below
-returns-in-Beside-clause-below g c = λ e.
+pub returns-in-Beside-clause-root_few : goal.returns-in-Beside-clause-root_few
+returns-in-Beside-clause-root_few g c = λ e.
     let s = (row_over c.layout_law.ensures c.requires.tree c.row.ensures.row c.row.ensures.ascending) in
     let some : row_at c.args.m.now.rows c.args.k ≢ [] = some_column s (search rules) in
     beside_below c.met_law.ensures s c.arities_law.ensures some c.in-Beside.end.node.index c.in-Beside.end.beside.index c.members-in-Beside.result.now (beside_named c.members-in-Beside.ensures c.in-Beside.ensures.settled)
@@ -107,16 +109,16 @@ returns-in-Between-clause-outcome g c =
     let some : row_at c.args.m.now.rows c.args.k ≢ [] = some_column s (search rules) in
     c.divide_both.ensures.outcome (row_at c.args.m.now.rows c.args.k) (record { is_row = row_over_arena s; some = some; found = c.in-Between.ensures.settled })
 
-pub returns-in-Between-clause-ticks : goal.returns-in-Between-clause-ticks
-returns-in-Between-clause-ticks g c =
+pub returns-in-Between-clause-few : goal.returns-in-Between-clause-few
+returns-in-Between-clause-few g c =
     let s = (row_over c.layout_law.ensures c.requires.tree c.row.ensures.row c.row.ensures.ascending) in
     let some : row_at c.args.m.now.rows c.args.k ≢ [] = some_column s (search rules) in
     let b : AtFoundBetween c.args.arena.now (row_at c.args.m.now.rows c.args.k) c.in-Between.first (indices c.settle.new.work.members) c.in-Between.second (indices c.settle.new.work.others) =
     record { is_row = row_over_arena s; some = some; found = c.in-Between.ensures.settled } in
-    between_total c.met_law.ensures s c.arities_law.ensures c.settle.new.work.members c.settle.new.work.others b (few_columns c.met_law.ensures s) _ _ _ c.settle.ensures.steps c.divide_both.ensures.ticks
+    between_total c.met_law.ensures s c.arities_law.ensures c.settle.new.work.members c.settle.new.work.others b _ _ _ c.settle.ensures.steps c.divide_both.ensures.ticks
 
-pub returns-in-Between-clause-below : goal.returns-in-Between-clause-below
-returns-in-Between-clause-below g c = λ e.
+pub returns-in-Between-clause-root_few : goal.returns-in-Between-clause-root_few
+returns-in-Between-clause-root_few g c = λ e.
     let s = (row_over c.layout_law.ensures c.requires.tree c.row.ensures.row c.row.ensures.ascending) in
     let some : row_at c.args.m.now.rows c.args.k ≢ [] = some_column s (search rules) in
     let b : AtFoundBetween c.args.arena.now (row_at c.args.m.now.rows c.args.k) c.in-Between.first (indices c.settle.new.work.members) c.in-Between.second (indices c.settle.new.work.others) =
@@ -146,3 +148,27 @@ returns-in-Between-clause-kept g c = λ kept.
     let some : row_at c.args.m.now.rows c.args.k ≢ [] = some_column s (search rules) in
     let a = asked s c.arities_law.ensures some in
     absurd (between_moves a c.in-Between.ensures.settled kept)
+
+pub returns-in-Kept-clause-ticks : goal.returns-in-Kept-clause-ticks
+returns-in-Kept-clause-ticks g c = wide_total c.met_law.ensures (row_over c.layout_law.ensures c.requires.tree c.row.ensures.row c.row.ensures.ascending) _ _ (returns-in-Kept-clause-few g c)
+
+pub returns-in-Kept-clause-below : goal.returns-in-Kept-clause-below
+returns-in-Kept-clause-below g c = λ e. wide_below (row_over c.layout_law.ensures c.requires.tree c.row.ensures.row c.row.ensures.ascending) _ _ (returns-in-Kept-clause-root_few g c e)
+
+pub returns-in-Group-clause-ticks : goal.returns-in-Group-clause-ticks
+returns-in-Group-clause-ticks g c = wide_total c.met_law.ensures (row_over c.layout_law.ensures c.requires.tree c.row.ensures.row c.row.ensures.ascending) _ _ (returns-in-Group-clause-few g c)
+
+pub returns-in-Group-clause-below : goal.returns-in-Group-clause-below
+returns-in-Group-clause-below g c = λ e. wide_below (row_over c.layout_law.ensures c.requires.tree c.row.ensures.row c.row.ensures.ascending) _ _ (returns-in-Group-clause-root_few g c e)
+
+pub returns-in-Beside-clause-ticks : goal.returns-in-Beside-clause-ticks
+returns-in-Beside-clause-ticks g c = wide_total c.met_law.ensures (row_over c.layout_law.ensures c.requires.tree c.row.ensures.row c.row.ensures.ascending) _ _ (returns-in-Beside-clause-few g c)
+
+pub returns-in-Beside-clause-below : goal.returns-in-Beside-clause-below
+returns-in-Beside-clause-below g c = λ e. wide_below (row_over c.layout_law.ensures c.requires.tree c.row.ensures.row c.row.ensures.ascending) _ _ (returns-in-Beside-clause-root_few g c e)
+
+pub returns-in-Between-clause-ticks : goal.returns-in-Between-clause-ticks
+returns-in-Between-clause-ticks g c = wide_total c.met_law.ensures (row_over c.layout_law.ensures c.requires.tree c.row.ensures.row c.row.ensures.ascending) _ _ (returns-in-Between-clause-few g c)
+
+pub returns-in-Between-clause-below : goal.returns-in-Between-clause-below
+returns-in-Between-clause-below g c = λ e. wide_below (row_over c.layout_law.ensures c.requires.tree c.row.ensures.row c.row.ensures.ascending) _ _ (returns-in-Between-clause-root_few g c e)

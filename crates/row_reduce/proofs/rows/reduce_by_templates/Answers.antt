@@ -37,7 +37,7 @@ returns-in-Root-clause-outcome g c =
 
 pub returns-in-Root-clause-ticks : goal.returns-in-Root-clause-ticks
 returns-in-Root-clause-ticks g c =
-    root_total _ (at_found_root (marked_row (row_over c.layout_law.ensures c.requires.tree c.row-row.ensures.row c.row-row.ensures.ascending) c.bubble.new.work c.arities_law.ensures c.requires.some (c.bubble.ensures.room ∙ c.requires.room)) _ c.in-Root.ensures.answer) (met_most c.met_law.ensures (row_over c.layout_law.ensures c.requires.tree c.row-row.ensures.row c.row-row.ensures.ascending)) _ _ _ c.bubble.ensures.steps c.reduce_root.ensures.ticks
+    root_total _ (at_found_root (marked_row (row_over c.layout_law.ensures c.requires.tree c.row-row.ensures.row c.row-row.ensures.ascending) c.bubble.new.work c.arities_law.ensures c.requires.some (c.bubble.ensures.room ∙ c.requires.room)) _ c.in-Root.ensures.answer) (met_most c.met_law.ensures (row_over c.layout_law.ensures c.requires.tree c.row-row.ensures.row c.row-row.ensures.ascending)) _ _ _ c.bubble.ensures.few c.reduce_root.ensures.ticks
 
 pub returns-in-Inside-clause-outcome : goal.returns-in-Inside-clause-outcome
 returns-in-Inside-clause-outcome g c =
@@ -47,7 +47,7 @@ returns-in-Inside-clause-outcome g c =
 
 pub returns-in-Inside-clause-ticks : goal.returns-in-Inside-clause-ticks
 returns-in-Inside-clause-ticks g c =
-    inside_total _ (at_found_inside (marked_row (row_over c.layout_law.ensures c.requires.tree c.row-row.ensures.row c.row-row.ensures.ascending) c.bubble.new.work c.arities_law.ensures c.requires.some (c.bubble.ensures.room ∙ c.requires.room)) c.in-Inside.ensures.answer) (met_most c.met_law.ensures (row_over c.layout_law.ensures c.requires.tree c.row-row.ensures.row c.row-row.ensures.ascending)) _ _ _ c.bubble.ensures.steps
+    inside_total _ (at_found_inside (marked_row (row_over c.layout_law.ensures c.requires.tree c.row-row.ensures.row c.row-row.ensures.ascending) c.bubble.new.work c.arities_law.ensures c.requires.some (c.bubble.ensures.room ∙ c.requires.room)) c.in-Inside.ensures.answer) (met_most c.met_law.ensures (row_over c.layout_law.ensures c.requires.tree c.row-row.ensures.row c.row-row.ensures.ascending)) _ _ _ c.bubble.ensures.few
     (let t = c.reduce_inside.ensures.ticks in omega (arith, t))
 
 pub returns-in-Split-clause-outcome : goal.returns-in-Split-clause-outcome
@@ -55,11 +55,11 @@ returns-in-Split-clause-outcome g c = (split_refused c.reduce_law.ensures.kept c
 
 pub returns-in-Root-clause-below : goal.returns-in-Root-clause-below
 returns-in-Root-clause-below g c = λ e.
-    root_below c.met_law.ensures (row_over c.layout_law.ensures c.requires.tree c.row-row.ensures.row c.row-row.ensures.ascending) (at_found_root (marked_row (row_over c.layout_law.ensures c.requires.tree c.row-row.ensures.row c.row-row.ensures.ascending) c.bubble.new.work c.arities_law.ensures c.requires.some (c.bubble.ensures.room ∙ c.requires.room)) _ c.in-Root.ensures.answer) _ _ _ (c.in-Root.ensures.root_steps tt) c.reduce_root.ensures.ticks
+    root_below c.met_law.ensures (row_over c.layout_law.ensures c.requires.tree c.row-row.ensures.row c.row-row.ensures.ascending) (at_found_root (marked_row (row_over c.layout_law.ensures c.requires.tree c.row-row.ensures.row c.row-row.ensures.ascending) c.bubble.new.work c.arities_law.ensures c.requires.some (c.bubble.ensures.room ∙ c.requires.room)) _ c.in-Root.ensures.answer) _ _ _ (c.in-Root.ensures.root_few tt) c.reduce_root.ensures.ticks
 
 pub returns-in-Inside-clause-below : goal.returns-in-Inside-clause-below
 returns-in-Inside-clause-below g c = λ e.
-    inside_below c.met_law.ensures (row_over c.layout_law.ensures c.requires.tree c.row-row.ensures.row c.row-row.ensures.ascending) (at_found_inside (marked_row (row_over c.layout_law.ensures c.requires.tree c.row-row.ensures.row c.row-row.ensures.ascending) c.bubble.new.work c.arities_law.ensures c.requires.some (c.bubble.ensures.room ∙ c.requires.room)) c.in-Inside.ensures.answer) _ _ _ (c.in-Inside.ensures.root_steps tt)
+    inside_below c.met_law.ensures (row_over c.layout_law.ensures c.requires.tree c.row-row.ensures.row c.row-row.ensures.ascending) (at_found_inside (marked_row (row_over c.layout_law.ensures c.requires.tree c.row-row.ensures.row c.row-row.ensures.ascending) c.bubble.new.work c.arities_law.ensures c.requires.some (c.bubble.ensures.room ∙ c.requires.room)) c.in-Inside.ensures.answer) _ _ _ (c.in-Inside.ensures.root_few tt)
     (let t = c.reduce_inside.ensures.ticks in omega (arith, t))
 
 pub returns-in-Root-clause-kept : goal.returns-in-Root-clause-kept

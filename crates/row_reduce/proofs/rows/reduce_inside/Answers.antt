@@ -36,7 +36,7 @@ returns-then-not-fits_q3-clause-outcome g c = λ row s. (
 
 pub returns-then-not-fits_q3-clause-ticks : goal.returns-then-not-fits_q3-clause-ticks
 returns-then-not-fits_q3-clause-ticks g c =
-    let s = c.requires.found.1 in asked_few s.ground s.found.top _ _ _ c.decide.ensures.ticks (c.fits_q3.ensures.run_ticks (s.found.inside, refl) s.found.run.q (last_first c.nodes-nodes.result.now c.nodes-nodes.ensures s _ (item_at c.args.work.now c.nodes-nodes.result.now (length c.nodes-nodes.result.now - 1) c.nodes-nodes.ensures (let some = some_items c.nodes-nodes.result.now c.nodes-nodes.ensures s in omega (arith, some)))))
+    let s = c.requires.found.1 in asked_few s.ground s.found.top _ _ _ c.decide.ensures.ticks (c.fits_q3.ensures.run_few (s.found.inside, refl) s.found.run.q (last_first c.nodes-nodes.result.now c.nodes-nodes.ensures s _ (item_at c.args.work.now c.nodes-nodes.result.now (length c.nodes-nodes.result.now - 1) c.nodes-nodes.ensures (let some = some_items c.nodes-nodes.result.now c.nodes-nodes.ensures s in omega (arith, some)))))
 
 pub apply_chosen-requires : goal.apply_chosen-requires
 apply_chosen-requires g c = let s = c.requires.found.1 in record {
@@ -93,7 +93,7 @@ returns-clause-ticks g c =
     (λ ps m. (c.fits_q3.ensures.run (s.found.inside, refl) s.found.run.q (last_first c.nodes-nodes.result.now c.nodes-nodes.ensures s _ (item_at c.args.work.now c.nodes-nodes.result.now (length c.nodes-nodes.result.now - 1) c.nodes-nodes.ensures (let some = some_items c.nodes-nodes.result.now c.nodes-nodes.ensures s in omega (arith, some)))) ps m).0 c.if-not-fits_q3.false) c.layout_law.ensures c.apply_chosen.ensures.applied (item_at c.args.work.now c.nodes-nodes.result.now (length c.nodes-nodes.result.now - 1) c.nodes-nodes.ensures (let some = some_items c.nodes-nodes.result.now c.nodes-nodes.ensures s in omega (arith, some)))) in
     run_ticks (done_at t.1 c.layout_law-2.ensures c.apply_one-child.ensures.treated c.apply_one-child.ensures.becomes) c.nodes-nodes.result.now _ c.nodes-nodes.ensures
     (item_at c.args.work.now c.nodes-nodes.result.now (length c.nodes-nodes.result.now - 1) c.nodes-nodes.ensures (let some = some_items c.nodes-nodes.result.now c.nodes-nodes.ensures s in omega (arith, some)))
-    _ _ _ _ _ _ c.decide.ensures.ticks c.fits_q3.ensures.run_ticks c.apply_chosen.ensures.ticks c.apply_one-child.ensures.ticks c.apply_q3.ensures.run_ticks
+    _ _ _ _ _ _ c.decide.ensures.ticks c.fits_q3.ensures.run_few c.apply_chosen.ensures.ticks c.apply_one-child.ensures.ticks c.apply_q3.ensures.run_few
 
 pub returns-then-not-decide-clause-kept : goal.returns-then-not-decide-clause-kept
 returns-then-not-decide-clause-kept g c = λ row s kept. refl

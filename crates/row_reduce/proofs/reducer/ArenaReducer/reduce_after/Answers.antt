@@ -11,7 +11,9 @@ use Rattle.pq_tree.proofs.Equivalent.{tree_from_proper}
 use Rattle.pq_arena.specs.RowNodes.{column_leaves}
 use Rattle.full_pass.specs.Answer.{IsRowKept}
 use Rattle.tied_law.specs.Tied.{IsTied}
+use Rattle.row_reduce.specs.InPlace.{IsInPlace}
 use Rattle.row_reduce.proofs.Frugality.{row_frugal}
+use Rattle.row_reduce.proofs.InPlace.{row_in_place}
 use Rattle.row_reduce.proofs.RowDone.{row_ascends}
 use Rattle.row_reduce.proofs.Staying.{StaysTree, row_reduced, row_refused, reducer_kept}
 use Rattle.row_reduce.proofs.Taking.{AtRow, row_kept, row_order, row_conflict, row_none}
@@ -112,3 +114,10 @@ pub returns-clause-kept : goal.returns-clause-kept
 returns-clause-kept g c =
     let e : c.self.inside.arena ≡ c.args.self.now = cc in
     subst (λ (z : Layout). IsRowKept z (column_leaves (row_at c.args.m.now.rows c.args.k)) → (c.reduce_arena-step.result ≡ Taken) × (c.reduce_arena-step.new.arena ≡ z)) e c.reduce_arena-step.ensures.kept
+
+pub returns-clause-in_place : goal.returns-clause-in_place
+returns-clause-in_place g c =
+    let e : c.self.inside.arena ≡ c.args.self.now = cc in
+    let row = row_at c.args.m.now.rows c.args.k in
+    subst (λ (z : Layout). IsInPlace (column_leaves row) z c.reduce_arena-step.new.arena) e
+    (row_in_place row c.self.inside.arena c.reduce_arena-step.new.arena c.reduce_arena-step.result c.reduce_arena-step.ensures.outcome)
