@@ -160,8 +160,7 @@ few_columns {f = f} {rows = rows} {k = k} law s = row_few f (row_at rows k) (nod
 pub few_below : {f : Layout} {c : ℕ} {rows : List (List ℕ)} {k : ℕ} {row : List ℕ} → IsRowOver f c rows k row → length (row_at rows k) ≤ nodes_met_below_root (row_at rows k) (outline_at f)
 few_below {f = f} {c = c} {rows = rows} {k = k} s = row_few_below c (row_at rows k) (outline_at f) (is_row_at s) s.can.proper
 
--- The steps of a row at most, by the nodes that it meets, and by those at or below the pertinent root. Where the full pass
--- is all, they are fewer.
+-- the steps of a row at most, by the nodes that it meets, and by those at or below the pertinent root
 abbrev pub Few : Layout → List ℕ → ℕ → ℕ → Type 0
 Few f row s0 s1 = s1 ≤ s0 + 8 * length row + 36 * nodes_met row (outline_at f) + 6
 
