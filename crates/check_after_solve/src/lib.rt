@@ -23,12 +23,12 @@ pub enum Ended {
     Checked(u8, u8),
 }
 
-/// Runs `solve KIND instance`, and then `check KIND instance verdict` over the same instance and what the first run wrote.
+/// Runs `solve KIND instance`, and then `check KIND instance verdict` over the same instance and what the first wrote.
 ///
-/// No read fails. The first run may write `room` bytes, and the second writes to `out`. With status 0 or 1 the first wrote
-/// a reply whole; then the second ends with 0 and wrote `valid`, unless `out` counts a fault or memory is refused. Else
-/// the first ended with 3 on an instance that is refused, with 5 where there is too little room, or with 6; and with 2
-/// where `kind` is no word of a kind.
+/// No read fails. The first run may write `room` bytes, and the second writes to `out`. With status 0 or 1 the first
+/// wrote a reply whole. Then the second ends with 0 and wrote `valid`, or with 5, where `out` counts a fault, or with 6
+/// where memory is refused. Else the first ended with 3 on an instance that is refused, with 5 where there is too
+/// little room, or with 6; and with 2 where `kind` is no word of a kind.
 ///
 /// # Errors
 ///
