@@ -40,6 +40,9 @@ MOST_GROWTH = 2.2
 RING_SECONDS = 2
 MOST_SOLVES = 3
 START_SECONDS = 0.02
+# How many times as long a file of one long line may take as one of short lines. It takes about three times as long, and would take eleven times
+# if each window were searched again from the start of the line.
+MOST_LONG = 5
 # Where two times are compared, each is the least of so many: what else the machine does makes a run dearer, and none cheaper.
 TRIES = 3
 MOST_TIMES = 12
@@ -364,6 +367,24 @@ def windowed_files():
         yield kind, head + b"1 2\n" + b"\n" * (LIMIT - 16)
 
 
+def long_lines():
+    """Each kind whose file is read through a window, with two files near the limit: one long line with blanks at its end, and the same with line
+    feeds among them."""
+    for kind, head in [("matrix", b"1"), ("circular", b"1"), ("rows", b"1\n1"), ("convex", b"1 1\n1 1"), ("doubly", b"1 1\n1 1"), ("proper", b"2\n1 2")]:
+        yield kind, filled(head, b" ", b"\n"), filled(head + b"\n", b" " * 159 + b"\n")
+
+
+def long_line_problem(kind, line, lines):
+    """What is wrong with how long a line is read, or None: it takes no more than some times what as many bytes in short lines take."""
+    given, cost = least_measured(["solve", kind], line)
+    wanted, short = least_measured(["solve", kind], lines)
+    print(f"{kind} of one long line: {cost.seconds:.3f} seconds, and {short.seconds:.3f} in short lines, {cost.peak} bytes at the peak for {len(line)}", flush=True)
+    problem = difference(given, (0, None, b"")) or difference(wanted, (0, None, b"")) or cost.problem(len(line), BASE_BYTES)
+    if problem is None and cost.seconds > MOST_LONG * short.seconds + START_SECONDS:
+        return f"{cost.seconds:.3f} seconds, and {short.seconds:.3f} in short lines"
+    return problem
+
+
 def window_problem(kind, content):
     """What is wrong with what a run keeps of such a file, or None."""
     given, cost = measured(["solve", kind], content)
@@ -409,6 +430,8 @@ def hostile_problems():
         yield f"hostile: {name}", difference(given, wanted) or cost.problem(len(content), beside)
     for kind, content in windowed_files():
         yield f"hostile: {kind} through a window", window_problem(kind, content)
+    for kind, line, lines in long_lines():
+        yield f"hostile: {kind} of one long line", long_line_problem(kind, line, lines)
     yield "hostile: the orders of a core of the most rows", many_orders_problem()
     yield "hostile: the core of a ring", ring_problem()
     for what, content in late_contradictions():
